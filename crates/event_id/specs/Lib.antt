@@ -1,0 +1,2 @@
+pub mod EventId
+pub mod Numeral

@@ -1,0 +1,8 @@
+-- Numbers in decimal.
+use Rattle.std.specs.Prelude.{ℕ, List, [], ◌∷◌, ◌≢◌}
+
+-- the text begins with no plus sign, and with a zero only if it is all
+abbrev pub HasPlainFront : List ℕ → Type 0
+HasPlainFront [] = Unit {0}
+HasPlainFront (b ∷ []) = b ≢ 43
+HasPlainFront (b ∷ c ∷ bs) = (b ≢ 43) × (b ≢ 48)
