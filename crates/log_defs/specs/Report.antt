@@ -7,13 +7,8 @@ use Rattle.event_id.specs.EventId.{spell, id_cmp}
 use Rattle.log_records.specs.declared.records.QueryRec.{QueryRec}
 use Rattle.log_records.specs.declared.records.ClickRec.{ClickRec}
 use Rattle.log_records.specs.Log.{line_feed, first}
-
--- what became of a click id: Joined with its query, Missing from the output, eXpired, or Unmatched
-pub data ReportLine : Type 0 where
-  J : ClickRec → QueryRec → ReportLine
-  M : EventId → ReportLine
-  X : EventId → ReportLine
-  U : EventId → ReportLine
+use Rattle.log_defs.specs.declared.ReportLine.{ReportLine}
+use Rattle.log_defs.specs.declared.ReportLine.TheVariants.{J, M, X, U}
 
 -- ---- bytes
 
