@@ -11,7 +11,9 @@ use Rattle.event_id.specs.EventId.{id_cmp, is_same}
 use Rattle.log_records.specs.declared.records.QueryRec.{QueryRec}
 use Rattle.log_records.specs.declared.records.ClickRec.{ClickRec}
 use Rattle.log_records.specs.Log.{first}
-use Rattle.log_defs.specs.Report.{ReportLine, J, U, line_text, totals, text_of, distinct, pair_or_none, report}
+use Rattle.log_defs.specs.declared.ReportLine.{ReportLine}
+use Rattle.log_defs.specs.declared.ReportLine.TheVariants.{J, U}
+use Rattle.log_defs.specs.Report.{line_text, totals, text_of, distinct, pair_or_none, report}
 
 ids_total : IsTotalOrder id_cmp
 ids_total = then_total (on_total (λ (x : EventId). x.ip) nat_cmp_total) (then_total (on_total (λ (x : EventId). x.pid) nat_cmp_total) (on_total (λ (x : EventId). x.micros) nat_cmp_total))
