@@ -10,11 +10,11 @@ use itoa::Buffer;
 use std::alloc::{AllocError, Global};
 use std::str;
 
-/// The length of the longest text.
+/// The length of the longest text, in bytes.
 pub const MAX_TEXT: usize = 47;
 
 impl EventId {
-    /// The text of the id.
+    /// The text of the id, in one allocation.
     pub fn to_text(self, alloc: Global) -> Result<Vec<u8>, AllocError>
         ensures { IfOk result (λ text. text.items ≡ spell self) }
     {
@@ -23,7 +23,7 @@ impl EventId {
         Vec::from_slice(alloc, &buf[..len])
     }
 
-    /// Writes the text of the id at the front of `buf`, and answers its length.
+    /// Writes the text of the id at the front of `buf`, and answers its length. Nothing is allocated.
     pub fn text_into(self, buf: &mut [u8; MAX_TEXT]) -> usize
         ensures len { result ≡ length (spell self) }
         ensures text { take result buf.new ≡ spell self }
@@ -42,7 +42,9 @@ impl EventId {
 #[derive(Clone, Copy, Debug, PartialEq, Eq)]
 pub struct BadId;
 
-/// Reads the text of an id, all of the bytes.
+/// Reads the text of an id, all of the bytes: `a.b.c.d:pid:micros`, in decimal without leading zeros.
+///
+/// Linear in the text, which is cut from the front to the end; nothing is allocated or copied.
 pub fn parse(text: &[u8]) -> Result<EventId, BadId>
     // What is read is spelled so.
     ensures found { IfOk result (λ id. IsId id × (text.now ≡ spell id)) }
