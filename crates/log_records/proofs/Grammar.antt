@@ -1,14 +1,10 @@
 -- Lines and their parts.
-use Rattle.std.proofs.Common.{◌≡◌, ℕ, ◌+◌, ◌≤◌, inl, inr, Bool, true, false, cond, eqb, List, [], ◌∷◌, ◌++◌, length, get_or, Some, None, Result, Ok, Err, Contains, position, refl, sym, ap, subst, ◌∙◌, append_assoc, arith}
-use Rattle.std.specs.List.{position_or_len}
+use Rattle.std.proofs.Common.{◌≡◌, ℕ, ◌+◌, ◌≤◌, inl, inr, List, [], ◌∷◌, ◌++◌, length, Result, Ok, Err, Contains, refl, sym, ap, subst, ◌∙◌, append_assoc, arith}
 use Rattle.std.specs.Result.{MatchResult, IfOk, IfErr}
-use Rattle.std.proofs.lemmas.Bool.Decides.{nat_tests}
-use Rattle.std.proofs.lemmas.Bool.{ltb-false}
 use Rattle.std.proofs.lemmas.List.{take_at, drop_at, get_or_at, length-append}
-use Rattle.std.proofs.lemmas.List.Sums.{fails_before_first}
 use Rattle.event_id.specs.declared.id.EventId.{EventId}
 use Rattle.byte_split.specs.Bytes.{Lacks}
-use Rattle.event_id.specs.EventId.{spell}
+use Rattle.event_id.specs.EventId.{spell, IsId}
 use Rattle.byte_split.proofs.Splits.{position_at, split_same}
 use Rattle.event_id.proofs.Spelling.{spell_same, spell_lacks, length-spell-le}
 use Rattle.log_records.specs.declared.records.QueryRec.{QueryRec}
@@ -16,7 +12,7 @@ use Rattle.log_records.specs.declared.records.ClickRec.{ClickRec}
 use Rattle.log_records.specs.declared.why.Why.{Why}
 use Rattle.log_records.specs.declared.why.Why.TheVariants as why
 use Rattle.log_records.specs.Text.{IsText}
-use Rattle.log_records.specs.Line.{space, query_line, click_line, IsQuery, IsClick, head, tail, IsIdText, TextWhy, QueryWhy, ClickWhy, OrMemory}
+use Rattle.log_records.specs.Line.{space, query_line, click_line, IsQuery, IsClick, head, tail, IsIdText, AreQueryParts, AreClickParts, TextWhy, QueryWhy, ClickWhy, OrMemory}
 
 pub head_is : (front rest : List ℕ) → Lacks space front → head (front ++ space ∷ rest) ≡ front
 head_is front rest h = rw (position_at space front rest h) (take_at front (space ∷ rest) (length front) refl)
@@ -90,25 +86,38 @@ only_click (Ok p) line found wrong q h e = click_same p q found.0 h (sym found.1
 only_click (Err w) line found (inl memory) q h e = memory
 only_click (Err w) line found (inr wrong) q h e = absurd (click_right line q w h e wrong)
 
+-- ---- the parts of a line
+
+pub query_parts_are : (line : List ℕ) (id : EventId) (front text : List ℕ) → line ≡ front ++ space ∷ text → IsId id × (front ≡ spell id) → IsText text → AreQueryParts id text line
+query_parts_are line id front text e is h = (record { id = id; text = text }, record { id = is.0; text = h }, e ∙ ap (λ (f : List ℕ). f ++ space ∷ text) is.1, refl, refl)
+
+pub click_parts_are : (line : List ℕ) (id query : EventId) (front rest middle text : List ℕ) → line ≡ front ++ space ∷ rest → rest ≡ middle ++ space ∷ text → IsId id × (front ≡ spell id) → IsId query × (middle ≡ spell query) → IsText text → AreClickParts id query text line
+click_parts_are line id query front rest middle text e f is is-query h = (
+  record { id = id; query = query; text = text },
+  record { id = is.0; query = is-query.0; text = h },
+  e ∙ ap (λ (x : List ℕ). x ++ space ∷ rest) is.1 ∙ ap (λ (x : List ℕ). spell id ++ space ∷ x) (f ∙ ap (λ (x : List ℕ). x ++ space ∷ text) is-query.1),
+  refl,
+  refl,
+  refl,
+)
+
 -- ---- the first that is wrong
 
 -- what is wrong with the text is wrong with the line, where all before it is right
-pub wrong_text : (line text : List ℕ) (w : Why) → length line ≤ 296 → Contains line space → IsIdText (head line) → text ≡ tail line → OrMemory (TextWhy text) w → OrMemory (QueryWhy line) w
-wrong_text line text w long some id e (inl memory) = inl memory
-wrong_text line text w long some id e (inr wrong) = inr (inr (long, inr (some, inr (id, subst (λ t. TextWhy t w) e wrong))))
+pub wrong_text : (line text : List ℕ) (w : Why) → length line ≤ 296 → Contains line space → IsIdText (head line) → text ≡ tail line → TextWhy text w → QueryWhy line w
+wrong_text line text w long some id e wrong = inr (long, inr (some, inr (id, subst (λ t. TextWhy t w) e wrong)))
 
-pub wrong_id : (line bytes : List ℕ) (w : Why) → length line ≤ 296 → Contains line space → bytes ≡ head line → (w ≡ why.Id) × (IsIdText bytes → ⊥) → OrMemory (QueryWhy line) w
-wrong_id line bytes w long some e wrong = inr (inr (long, inr (some, inl (subst (λ b. IsIdText b → ⊥) e wrong.1, wrong.0))))
+pub wrong_id : (line bytes : List ℕ) (w : Why) → length line ≤ 296 → Contains line space → bytes ≡ head line → (w ≡ why.Id) × (IsIdText bytes → ⊥) → QueryWhy line w
+wrong_id line bytes w long some e wrong = inr (long, inr (some, inl (subst (λ b. IsIdText b → ⊥) e wrong.1, wrong.0)))
 
 abbrev pub SpacedTwice : List ℕ → Type 0
 SpacedTwice line = Contains line space × Contains (tail line) space
 
-pub wrong_click_text : (line text : List ℕ) (w : Why) → length line ≤ 296 → SpacedTwice line → IsIdText (head line) → IsIdText (head (tail line)) → text ≡ tail (tail line) → OrMemory (TextWhy text) w → OrMemory (ClickWhy line) w
-wrong_click_text line text w long some id query e (inl memory) = inl memory
-wrong_click_text line text w long some id query e (inr wrong) = inr (inr (long, inr (some, inr (id, inr (query, subst (λ t. TextWhy t w) e wrong)))))
+pub wrong_click_text : (line text : List ℕ) (w : Why) → length line ≤ 296 → SpacedTwice line → IsIdText (head line) → IsIdText (head (tail line)) → text ≡ tail (tail line) → TextWhy text w → ClickWhy line w
+wrong_click_text line text w long some id query e wrong = inr (long, inr (some, inr (id, inr (query, subst (λ t. TextWhy t w) e wrong))))
 
-pub wrong_click_id : (line bytes : List ℕ) (w : Why) → length line ≤ 296 → SpacedTwice line → bytes ≡ head line → (w ≡ why.Id) × (IsIdText bytes → ⊥) → OrMemory (ClickWhy line) w
-wrong_click_id line bytes w long some e wrong = inr (inr (long, inr (some, inl (subst (λ b. IsIdText b → ⊥) e wrong.1, wrong.0))))
+pub wrong_click_id : (line bytes : List ℕ) (w : Why) → length line ≤ 296 → SpacedTwice line → bytes ≡ head line → (w ≡ why.Id) × (IsIdText bytes → ⊥) → ClickWhy line w
+wrong_click_id line bytes w long some e wrong = inr (long, inr (some, inl (subst (λ b. IsIdText b → ⊥) e wrong.1, wrong.0)))
 
-pub wrong_query_id : (line bytes : List ℕ) (w : Why) → length line ≤ 296 → SpacedTwice line → IsIdText (head line) → bytes ≡ head (tail line) → (w ≡ why.QueryId) × (IsIdText bytes → ⊥) → OrMemory (ClickWhy line) w
-wrong_query_id line bytes w long some id e wrong = inr (inr (long, inr (some, inr (id, inl (subst (λ b. IsIdText b → ⊥) e wrong.1, wrong.0)))))
+pub wrong_query_id : (line bytes : List ℕ) (w : Why) → length line ≤ 296 → SpacedTwice line → IsIdText (head line) → bytes ≡ head (tail line) → (w ≡ why.QueryId) × (IsIdText bytes → ⊥) → ClickWhy line w
+wrong_query_id line bytes w long some id e wrong = inr (long, inr (some, inr (id, inl (subst (λ b. IsIdText b → ⊥) e wrong.1, wrong.0))))

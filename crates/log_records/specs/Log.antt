@@ -19,16 +19,22 @@ whole lines = flat_map (λ line. line ++ line_feed ∷ []) lines
 abbrev pub HasLines : List ℕ → List (List ℕ) → Type 0
 HasLines log lines = (rest : List ℕ) × (log ≡ whole lines ++ rest) × Lacks line_feed rest
 
--- the log's lines are these queries; two of one id are equal
-pub record HoldsQueries (log : List ℕ) (qs : List QueryRec) : Type 0 where
-  pub lines : HasLines log (map query_line qs)
-  pub each : AllByRecursion IsQuery qs
-  pub one : (q r : QueryRec) → Contains qs q → Contains qs r → q.id ≡ r.id → q ≡ r
+-- records of a log, each in the grammar of its kind, and no two of one id with other lines
+pub record AreRecords {R : Type 0} (line : R → List ℕ) (IsRecord : R → Type 0) (id : R → EventId) (rs : List R) : Type 0 where
+  pub each : AllByRecursion IsRecord rs
+  pub one : (r s : R) → Contains rs r → Contains rs s → id r ≡ id s → line r ≡ line s
 
-pub record HoldsClicks (log : List ℕ) (cs : List ClickRec) : Type 0 where
-  pub lines : HasLines log (map click_line cs)
-  pub each : AllByRecursion IsClick cs
-  pub one : (c d : ClickRec) → Contains cs c → Contains cs d → c.id ≡ d.id → c ≡ d
+-- the log's lines are these records, of a kind with this line
+pub record Holds {R : Type 0} (line : R → List ℕ) (IsRecord : R → Type 0) (id : R → EventId) (log : List ℕ) (rs : List R) : Type 0 where
+  pub lines : HasLines log (map line rs)
+  pub each : AllByRecursion IsRecord rs
+  pub one : (r s : R) → Contains rs r → Contains rs s → id r ≡ id s → r ≡ s
+
+abbrev pub HoldsQueries : List ℕ → List QueryRec → Type 0
+HoldsQueries log qs = Holds query_line IsQuery (λ q. q.id) log qs
+
+abbrev pub HoldsClicks : List ℕ → List ClickRec → Type 0
+HoldsClicks log cs = Holds click_line IsClick (λ c. c.id) log cs
 
 -- the first query with the id
 abbrev pub first : List QueryRec → EventId → Option QueryRec

@@ -1,0 +1,97 @@
+-- The commands, as a parse finds them.
+use Rattle.std.proofs.Common.{◌≡◌, ◌∙◌, ◌&&◌, Bool, true, false, List, [], ◌∷◌, ◌++◌, append_assoc, arith, Option, Some, is_some, option_map, refl, sym, ap, ap₂, subst}
+use Rattle.std.specs.Prelude.{find, fold}
+use Rattle.std.specs.Option.{option_map_or}
+use Rattle.clap.specs.Walk.{Held, Row, Walk, answers_to, nothing_held, stop_after, walk, walk_from, walked}
+use Rattle.clap.specs.Simple.{Shape, built, built_leaf, entered, inherited, label_of, marked_built, names_of, rows_at, subcommand_of, with_leaf_noted}
+use Rattle.clap.specs.Takes.{entered_passes, level_passes, settle_passes, takes, turn_passes, walk_passes}
+use Rattle.std.proofs.lemmas.List.{append-nil}
+use Rattle.command_words.specs.Words.{Command, Pairs, Text, IsPlain, join, name_of, options_of, pair_words}
+use Rattle.command_words.specs.Clap.{photon_app, shape_of_command}
+use Rattle.command_words.proofs.Walks.{IsReady, Takes, level_takes, pair_rows}
+
+-- a command, built
+abbrev pub sub : Command → Shape
+sub c = built_leaf (inherited (with_leaf_noted (marked_built photon_app.top)) (shape_of_command c))
+
+subs_are : (built photon_app).subs ≡ sub join ∷ []
+subs_are = refl
+
+sub_found : (c : Command) → find (λ s. answers_to (name_of c) (label_of s)) (built photon_app).subs ≡ Some (sub c)
+sub_found join = refl
+
+pub ready : (c : Command) → IsReady (sub c) (options_of c)
+ready join =
+    record {
+      rules = refl;
+      known = (record { long = refl; not_end = refl; by_long = refl; by_id = refl; fits = tt }, (record { long = refl; not_end = refl; by_long = refl; by_id = refl; fits = tt }, (record { long = refl; not_end = refl; by_long = refl; by_id = refl; fits = tt }, (record { long = refl; not_end = refl; by_long = refl; by_id = refl; fits = omega arith }, tt))));
+      free = refl;
+      defaults = refl;
+      none = (refl, (refl, (refl, (refl, (refl, tt)))));
+      once = refl;
+      no_help = refl;
+      no_sub = refl;
+      negates = refl;
+    }
+
+-- ---- the words before the options
+
+-- the walk of the top after the command's name
+abbrev entered_at : Text → List Text → Walk
+entered_at name rest = record (walk_from nothing_held) { stopped = Some (name, rest) }
+
+abbrev top_walked : Walk → Text → Walk
+top_walked = walked (built photon_app).top.rules (names_of (built photon_app))
+
+name_enters : (c : Command) → top_walked (walk_from nothing_held) (name_of c) ≡ entered_at (name_of c) []
+unfolding walked
+name_enters join = refl
+
+name_passes : (c : Command) → turn_passes (built photon_app).top (names_of (built photon_app)) (walk_from nothing_held) (name_of c) ≡ true
+name_passes join = refl
+
+rest_goes : (name : Text) (before rest : List Text) → fold top_walked (entered_at name before) rest ≡ entered_at name (before ++ rest)
+unfolding walked
+rest_goes name before [] = ap (entered_at name) (sym (append-nil before))
+rest_goes name before (w ∷ ws) = rest_goes name (before ++ w ∷ []) ws ∙ ap (entered_at name) (append_assoc before (w ∷ []) ws)
+
+rest_passes : (name : Text) (before rest : List Text) → walk_passes (built photon_app).top (names_of (built photon_app)) (entered_at name before) rest ≡ true
+unfolding walked walk_passes
+rest_passes name before [] = refl
+rest_passes name before (w ∷ ws) = rest_passes name (before ++ w ∷ []) ws
+
+walk_is : (c : Command) (rest : List Text) → walk (built photon_app).top.rules (names_of (built photon_app)) nothing_held (name_of c ∷ rest) ≡ entered_at (name_of c) rest
+walk_is c rest = ap (λ (w : Walk). fold top_walked w rest) (name_enters c) ∙ rest_goes (name_of c) [] rest
+
+passes_is : (c : Command) (rest : List Text) → walk_passes (built photon_app).top (names_of (built photon_app)) (walk_from nothing_held) (name_of c ∷ rest) ≡ true
+unfolding walk_passes
+passes_is c rest = ap₂ (λ (a b : Bool). a && b) (name_passes c) (ap (λ (w : Walk). walk_passes (built photon_app).top (names_of (built photon_app)) w rest) (name_enters c) ∙ rest_passes (name_of c) [] rest)
+
+top_passes : (c : Command) (rest : List Text) → level_passes (built photon_app).top (names_of (built photon_app)) nothing_held (name_of c ∷ rest) true ≡ true
+top_passes c rest = ap₂ (λ (a b : Bool). a && b) (passes_is c rest)
+    (ap (λ (h : Held). settle_passes (built photon_app).top.rules false h && true) (ap (λ (w : Walk). w.held) (walk_is c rest)))
+
+-- what plain words give
+pub record Gives (words : List Text) (c : Command) (pairs : Pairs) : Type 0 where
+  pub taken : takes photon_app words ≡ true
+  pub found : subcommand_of photon_app words ≡ Some (name_of c, pair_rows pairs)
+
+gives : (program : Text) (c : Command) (pairs : Pairs) → Takes (sub c) pairs → Gives (program ∷ name_of c ∷ pair_words pairs) c pairs
+gives program c pairs level =
+    let rest : List Text = pair_words pairs in
+    let stop_is : stop_after (built photon_app).top.rules (names_of (built photon_app)) (name_of c ∷ rest) ≡ Some (name_of c, rest) = ap (λ (w : Walk). w.stopped) (walk_is c rest) in
+    let entered_is : entered (built photon_app) (Some (name_of c, rest)) ≡ Some (name_of c, pair_rows pairs)
+    = ap (option_map (λ (s : Shape). rows_at s rest)) (sub_found c) ∙ ap (λ (rows : List Row). Some ((sub c).name, rows)) level.rows in
+    let entered_ok : entered_passes (built photon_app) (Some (name_of c, rest)) ≡ true
+    = ap (λ (o : Option Shape). option_map_or (λ (s : Shape). level_passes s [] nothing_held rest false) o true) (sub_found c) ∙ level.passes in
+    record {
+      taken = ap (λ (stop : Option (Text × List Text)). entered_passes (built photon_app) stop
+          && level_passes (built photon_app).top (names_of (built photon_app)) nothing_held (name_of c ∷ rest) (is_some (entered (built photon_app) stop))) stop_is
+          ∙ ap₂ (λ (a b : Bool). a && b) entered_ok
+          (ap (λ (o : Option (Text × List Row)). level_passes (built photon_app).top (names_of (built photon_app)) nothing_held (name_of c ∷ rest) (is_some o)) entered_is ∙ top_passes c rest);
+      found = ap (entered (built photon_app)) stop_is ∙ entered_is;
+    }
+
+pub plain_gives : (words : List Text) (c : Command) (pairs : Pairs) → IsPlain words c pairs → Gives words c pairs
+plain_gives words c pairs plain =
+    subst (λ (ws : List Text). Gives ws c pairs) (sym plain.form.1) (gives plain.form.0 c pairs (level_takes (sub c) (options_of c) pairs (ready c) plain.options))

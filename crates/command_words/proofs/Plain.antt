@@ -1,0 +1,37 @@
+-- What plain words ask for, as the parse finds it.
+use Rattle.std.proofs.Common.{◌≡◌, inl, inr, Option, refl, sym, subst}
+use Rattle.clap.specs.Values.{kind_of}
+use Rattle.clap.specs.Kinds.{HasKind, IsAmong, Kinds}
+use Rattle.clap.specs.declared.error.Error.{Error}
+use Rattle.clap.specs.declared.error.kind.ErrorKind.TheVariants.{OutOfMemory}
+use Rattle.command_words.specs.Words.{AsksFor, Command, HasValues, IsFaultOf, IsRefusedBy, Pairs, Text, given, name_of}
+use Rattle.command_words.specs.Clap.{number_in, text_in}
+use Rattle.command_words.specs.declared.asked.Asked.{Asked}
+use Rattle.command_words.specs.declared.asked.WordsFault.{WordsFault}
+use Rattle.command_words.specs.declared.asked.WordsFault.TheVariants.{Memory, Refused}
+use Rattle.command_words.proofs.Walks.{first_given, one_given, pair_rows}
+
+-- ---- faults
+
+pub for_memory : (e : Error) (f : WordsFault) → IsFaultOf e f → kind_of e ≡ OutOfMemory → f ≡ Memory
+for_memory e Memory is memory = refl
+for_memory e (Refused x) is memory = absurd (is.1 memory)
+
+pub by_kinds : (kinds : Kinds) (e : Error) (f : WordsFault) → IsFaultOf e f → HasKind kinds e → IsRefusedBy kinds f
+by_kinds kinds e Memory is has = tt
+by_kinds kinds e (Refused x) is has = elim has [
+  | inl memory ↦ absurd (is.1 memory)
+  | inr among ↦ subst (λ (y : Error). IsAmong (kind_of y) kinds) (sym is.0) among
+]
+
+-- ---- values
+
+texts_are : (pairs : Pairs) → text_in (pair_rows pairs) ≡ given pairs
+texts_are pairs = λ i n. first_given pairs n i
+
+numbers_are : (pairs : Pairs) → number_in (pair_rows pairs) ≡ given pairs
+numbers_are pairs = λ i n. one_given pairs n i
+
+pub asks_for : (asked : Asked) (c : Command) (pairs : Pairs) → HasValues asked (name_of c) (text_in (pair_rows pairs)) (number_in (pair_rows pairs)) → AsksFor asked c pairs
+asks_for asked c pairs h = subst (λ (t : Text → Option Text). HasValues asked (name_of c) t (given pairs)) (texts_are pairs)
+    (subst (λ (t : Text → Option Text). HasValues asked (name_of c) (text_in (pair_rows pairs)) t) (numbers_are pairs) h)

@@ -1,0 +1,177 @@
+-- The values of a command that `clap` took.
+use Rattle.std.proofs.Common.{◌≡◌, ◌∙◌, ◌<◌, ◌++◌, ◌&&◌, ◌||◌, not, inl, inr, ℕ, Bool, true, false, cond, List, [], ◌∷◌, map, length, Option, Some, None, is_some, option_map, refl, true≢false, sym, ap, subst, arith}
+use Rattle.std.specs.Prelude.{IfSome, IsSome, find, option_and_then, slice_get, codes}
+use Rattle.std.specs.List.{AllByRecursion, list_any}
+use Rattle.std.specs.Option.{option_map_or}
+use Rattle.std.specs.Str.{bytes_eq}
+use Rattle.std.proofs.lemmas.Slice.Eq.{bytes_eq-Decides}
+use Rattle.clap.specs.Values.{IsUnsignedIn, read_as}
+use Rattle.clap.specs.Facts.{explicit_source, parser_of_value}
+use Rattle.clap.specs.ValueTests.{accepts}
+use Rattle.clap.specs.Kinds.{check_kinds}
+use Rattle.clap.specs.Walk.{Row, Rule, answers_to, arg_by_id, arg_by_index, finished, first_of, nothing_held, one_of, reading_by, row_text, rows_after, stop_after, walk, walk_from}
+use Rattle.clap.specs.Simple.{Shape, argument_words, built, entered, filled, help_rule, label_of, names_of, rows_at, subcommand_of}
+use Rattle.clap.specs.Takes.{is_given}
+use Rattle.clap.specs.Faults.{built_fault, check_fault, entered_fault, fault_of, level_fault, walk_fault}
+use Rattle.clap.specs.declared.builder.value_parser.ValueParser.TheVariants as vp
+use Rattle.clap.proofs.ValueTestLemmas.{accepts-Accepts}
+use Rattle.command_words.specs.Words.{Command, HasAll, Opt, Text, join, name_of, number, options_of}
+use Rattle.command_words.specs.Clap.{number_in, photon_app, text_in}
+use Rattle.command_words.proofs.Walks.{Known, full_rule, reads_as_written}
+use Rattle.command_words.proofs.Levels.{ready, sub}
+use Rattle.command_words.proofs.Taken.{AreGood, Holds, IsGood, IsOwn, level_holds, or_nil}
+use Rattle.clap.specs.declared.builder.value_parser.Reading.{Reading}
+use Rattle.clap.specs.declared.builder.value_parser.Reading.TheVariants.{AsWritten}
+
+-- ---- the rules of the commands
+
+find_own : (c xs : List Rule) (p : Rule → Bool) (a : Rule) → AllByRecursion (IsOwn c) xs → find p xs ≡ Some a → IsOwn c a
+find_own c [] p a owns e = cc
+find_own c (x ∷ xs) p a owns e = go (p x) e (find_own c xs p a owns.1)
+  where
+    go : (b : Bool) → cond b (Some x) (find p xs) ≡ Some a → (find p xs ≡ Some a → IsOwn c a) → IsOwn c a
+    go true f rest = let same : x ≡ a = cc in subst (IsOwn c) same owns.0
+    go false f rest = rest f
+
+owns : (c : Command) → AllByRecursion (IsOwn (sub c).rules) (sub c).rules
+owns join = (record { by_id = refl; action = inl (refl, refl, omega arith) }, (record { by_id = refl; action = inl (refl, refl, omega arith) }, (record { by_id = refl; action = inl (refl, refl, omega arith) }, (record { by_id = refl; action = inl (refl, refl, omega arith) }, (record { by_id = refl; action = inr refl }, tt)))))
+
+no_place : (c : Command) (i : ℕ) → arg_by_index (sub c).rules i ≡ None
+no_place join i = refl
+
+sub_holds : (c : Command) (words : List Text) → level_fault (sub c) [] nothing_held words false [] ≡ [] → Holds (sub c) words
+sub_holds c words e = level_holds (sub c) (λ p a f. find_own (sub c).rules (sub c).rules p a (owns c) f) (ready c).once (no_place c) words (ready c).negates (ready c).none e
+
+-- ---- which command was taken
+
+which : (p : Shape → Bool) (s : Shape) → find p (sub join ∷ []) ≡ Some s → (c : Command) × (s ≡ sub c)
+which p s e = go (p (sub join)) e
+  where
+    go : (a : Bool) → cond a (Some (sub join)) None ≡ Some s → (c : Command) × (s ≡ sub c)
+    go true e = let same : s ≡ sub join = cc in (join, same)
+    go false e = cc
+
+pub record IsTaken (words : List Text) : Type 0 where
+  pub command : Command
+  pub rest : List Text
+  pub found : subcommand_of photon_app words ≡ Some (name_of command, rows_after (sub command).rules [] rest)
+  pub holds : Holds (sub command) rest
+
+second_false : (a b d : Bool) → check_kinds a b d ≡ [] → b ≡ false
+second_false true b d e = cc
+second_false false true d e = cc
+second_false false false d e = refl
+
+-- a command that wants a subcommand was given one
+with_sub : (s : Shape) (rows : List Row) (has : Bool) → s.subcommand_required ≡ true → check_fault s rows has ≡ [] → has ≡ true
+with_sub s rows true wanted e = refl
+with_sub s rows false wanted e =
+    let none : s.subcommand_required ≡ false = second_false (s.arg_required_else_help && not (list_any (λ (r : Row). explicit_source r.source) rows)) s.subcommand_required
+    (not (s.subcommand_negates_reqs && false) && list_any (λ (a : Rule). a.required && not (is_given a.id rows)) s.rules) e in
+    absurd (true≢false (sym wanted ∙ none))
+
+-- the subcommand at which the walk of the top stopped
+stopped_at : (words : List Text) (stop : Option (Text × List Text)) → stop_after (built photon_app).top.rules (names_of (built photon_app)) words ≡ stop
+    → entered_fault (built photon_app) stop ≡ [] → is_some (entered (built photon_app) stop) ≡ true
+    → (c : Command) × (ws : List Text) × (entered (built photon_app) stop ≡ Some (name_of c, rows_after (sub c).rules [] ws)) × Holds (sub c) ws
+stopped_at words None is e has = absurd (true≢false (sym has))
+stopped_at words (Some p) is e has = go (find (λ s. answers_to p.0 (label_of s)) (built photon_app).subs) refl e has
+  where
+    go : (o : Option Shape) → find (λ s. answers_to p.0 (label_of s)) (built photon_app).subs ≡ o
+        → option_map_or (λ s. level_fault s [] nothing_held p.1 false []) o [] ≡ [] → is_some (option_map (λ s. rows_at s p.1) o) ≡ true
+        → (c : Command) × (ws : List Text) × (option_map (λ (s : Shape). rows_at s p.1) (find (λ s. answers_to p.0 (label_of s)) (built photon_app).subs) ≡ Some (name_of c, rows_after (sub c).rules [] ws)) × Holds (sub c) ws
+    go None found f some = absurd (true≢false (sym some))
+    go (Some s) found f some =
+        let own = which (λ s. answers_to p.0 (label_of s)) s found in
+        let fault : level_fault (sub own.0) [] nothing_held p.1 false [] ≡ [] = subst (λ (t : Shape). level_fault t [] nothing_held p.1 false [] ≡ []) own.1 f in
+        (own.0, p.1, ap (option_map (λ (s : Shape). rows_at s p.1)) (found ∙ ap (λ (t : Shape). Some t) own.1), sub_holds own.0 p.1 fault)
+
+taken_of : (words all : List Text) → argument_words photon_app all ≡ words → built_fault (built photon_app) nothing_held words ≡ []
+    → (c : Command) × (ws : List Text) × (entered (built photon_app) (stop_after (built photon_app).top.rules (names_of (built photon_app)) words) ≡ Some (name_of c, rows_after (sub c).rules [] ws)) × Holds (sub c) ws
+taken_of words all is e =
+    let a = built photon_app in
+    let stop = (walk a.top.rules (names_of a) nothing_held words).stopped in
+    let one = or_nil (walk_fault a.top (names_of a) (walk_from nothing_held) words) _ e in
+    let two = or_nil (entered_fault a stop) _ one.1 in
+    let three = or_nil _ _ two.1 in
+    let rows = finished a.top.rules (walk a.top.rules (names_of a) nothing_held words).held in
+    let four = or_nil _ (check_fault a.top rows (is_some (entered a stop))) three.1 in
+    let has : is_some (entered a stop) ≡ true = with_sub a.top rows (is_some (entered a stop)) refl four.1 in
+    stopped_at words stop refl two.0 has
+
+pub taken : (words : List Text) → fault_of photon_app words ≡ [] → IsTaken words
+taken words e =
+    let got = taken_of (argument_words photon_app words) words refl e in
+    record { command = got.0; rest = got.1; found = got.2; holds = got.3 }
+
+-- ---- its values
+
+row_at : (c : List Rule) (rows : List Row) (n : Text) → AreGood c rows → IfSome (find (λ (r : Row). bytes_eq r.id n) rows) (λ r. IsGood c r × (r.id ≡ n))
+row_at c [] n g = tt
+row_at c (r ∷ rs) n g = go (bytes_eq r.id n) refl (row_at c rs n g.1)
+  where
+    go : (b : Bool) → bytes_eq r.id n ≡ b → IfSome (find (λ (q : Row). bytes_eq q.id n) rs) (λ q. IsGood c q × (q.id ≡ n))
+        → IfSome (cond b (Some r) (find (λ (q : Row). bytes_eq q.id n) rs)) (λ q. IsGood c q × (q.id ≡ n))
+    go true e rest = (g.0, (bytes_eq-Decides r.id n).0 e)
+    go false e rest = rest
+
+text_is_given : (c : List Rule) (rows : List Row) (n : Text) → AreGood c rows → is_given n rows ≡ true → IsSome (first_of n rows)
+text_is_given c rows n g given = go (find (λ (r : Row). bytes_eq r.id n) rows) (row_at c rows n g) given
+  where
+    some : (vs : List Text) → 0 < length vs → IsSome (slice_get vs 0)
+    some [] lt = absurd (omega arith)
+    some (v ∷ vs) lt = refl
+
+    go : (o : Option Row) → IfSome o (λ r. IsGood c r × (r.id ≡ n)) → option_map_or (λ (r : Row). explicit_source r.source) o false ≡ true
+        → IsSome (option_and_then (λ (r : Row). slice_get r.values 0) o)
+    go None h e = absurd (true≢false (sym e))
+    go (Some r) h e = some r.values h.0.some
+
+rule_is : (c : List Rule) (o : Opt) (r : Row) → Known c o → (g : IsGood c r) → r.id ≡ o.name → g.rule ≡ full_rule o
+rule_is c o r k g e =
+    let same : Some g.rule ≡ Some (full_rule o) = sym g.by_id ∙ (ap (arg_by_id c) e ∙ k.by_id) in
+    cc
+
+number_reads : (c : List Rule) (rows : List Row) (n : Text) (low high : ℕ) (required : Bool)
+    → Known c (record { name = n; form = number low high; required = required }) → AreGood c rows → IfSome (one_of n rows) (IsUnsignedIn low high)
+number_reads c rows n low high required k g = go (find (λ (r : Row). bytes_eq r.id n) rows) (row_at c rows n g)
+  where
+    o : Opt
+    o = record { name = n; form = number low high; required = required }
+
+    values : (vs : List Text) (rule : Rule) (how : Reading) → rule ≡ full_rule o → how ≡ reading_by rule
+        → AllByRecursion (λ v. accepts rule.ignore_case (parser_of_value rule.parser) v ≡ true) vs → IfSome (option_map (read_as how) (slice_get vs 0)) (IsUnsignedIn low high)
+    values [] rule how is reads passed = tt
+    values (v ∷ vs) rule how is reads passed =
+        let plain : how ≡ AsWritten = reads ∙ (ap reading_by is ∙ reads_as_written (number low high)) in
+        let ok : accepts false (vp.Unsigned low high) v ≡ true = subst (λ (a : Rule). accepts a.ignore_case (parser_of_value a.parser) v ≡ true) is passed.0 in
+        subst (λ (h : Reading). IsUnsignedIn low high (read_as h v)) (sym plain) (accepts-Accepts false (vp.Unsigned low high) v ok)
+
+    go : (p : Option Row) → IfSome p (λ r. IsGood c r × (r.id ≡ n)) → IfSome (option_and_then row_text p) (IsUnsignedIn low high)
+    go None h = tt
+    go (Some r) h = values r.values h.0.rule r.reading (rule_is c o r k h.0 h.1) h.0.reading h.0.passed
+
+needed : (options : List Opt) (rows : List Row) → list_any (λ (a : Rule). a.required && not (is_given a.id rows)) (map full_rule options ++ filled help_rule ∷ []) ≡ false
+    → AllByRecursion (λ (o : Opt). o.required ≡ true → is_given o.name rows ≡ true) options
+needed [] rows e = tt
+needed (o ∷ os) rows e = go o.required (is_given o.name rows) refl refl e (needed os rows)
+  where
+    go : (b d : Bool) → o.required ≡ b → is_given o.name rows ≡ d → ((b && not d) || list_any (λ (a : Rule). a.required && not (is_given a.id rows)) (map full_rule os ++ filled help_rule ∷ [])) ≡ false
+        → (list_any (λ (a : Rule). a.required && not (is_given a.id rows)) (map full_rule os ++ filled help_rule ∷ []) ≡ false → AllByRecursion (λ (q : Opt). q.required ≡ true → is_given q.name rows ≡ true) os)
+        → (o.required ≡ true → is_given o.name rows ≡ true) × AllByRecursion (λ (q : Opt). q.required ≡ true → is_given q.name rows ≡ true) os
+    go true false r is f more = cc
+    go true true r is f more = (λ t. is, more f)
+    go false d r is f more = (λ t. absurd (true≢false (sym t ∙ r)), more f)
+
+needs : (c : Command) (words : List Text) → Holds (sub c) words → AllByRecursion (λ (o : Opt). o.required ≡ true → is_given o.name (rows_after (sub c).rules [] words) ≡ true) (options_of c)
+needs c words h =
+    needed (options_of c) (rows_after (sub c).rules [] words)
+    (subst (λ (rules : List Rule). list_any (λ (a : Rule). a.required && not (is_given a.id (rows_after (sub c).rules [] words))) rules ≡ false) (ready c).rules h.given)
+
+pub has_values : (c : Command) (words : List Text) → Holds (sub c) words → HasAll c (text_in (rows_after (sub c).rules [] words)) (number_in (rows_after (sub c).rules [] words))
+has_values join words h =
+    let c = join in
+    let rows = rows_after (sub c).rules [] words in
+    let k = (ready c).known in
+    let n = needs c words h in
+    (text_is_given (sub c).rules rows (codes "queries") h.good (n.0 refl), text_is_given (sub c).rules rows (codes "clicks") h.good (n.1.0 refl), text_is_given (sub c).rules rows (codes "state") h.good (n.1.1.0 refl), number_reads (sub c).rules rows (codes "horizon") 0 18446744073709551615 false (k.1.1.1.0) h.good)

@@ -1,0 +1,10 @@
+use Rattle.std.proofs.Common.{rules, ◌≡◌, ◌∙◌, [], ap₂}
+use Rattle.std.proofs.lemmas.Result.{IfOk-weaker}
+use Rattle.clap.specs.Simple.{app_of, with_subcommand}
+use Rattle.command_words.specs.Clap.{top_shape}
+use Rattle.command_words.proofs.commands.photon.Goals as goal
+
+pub returns : goal.returns
+returns c =
+    let top_is : app_of c.disable_help_subcommand.result ≡ record { top = top_shape; subs = [] } = search rules in
+    IfOk-weaker c.subcommand.result _ _ (λ r h. h.shape c.in_ok-join.ensures.own ∙ ap₂ with_subcommand top_is c.in_ok-join.ensures.shape) c.subcommand.ensures

@@ -1,0 +1,132 @@
+-- Which words are plain, and what plain words ask for.
+use Rattle.std.specs.Prelude.{◌≡◌, ◌≢◌, ◌<◌, ◌≤◌, ℕ, Bool, true, false, List, [], ◌∷◌, map, length, Option, Some, IsSome, IsSomeAnd, IfSome, option_map, find, codes, ⊤, String, string_bytes}
+use Rattle.std.specs.List.{All, IsDistinct}
+use Rattle.std.specs.Option.{option_map_or}
+use Rattle.std.specs.Str.{bytes_eq}
+use Rattle.std.specs.Str.Parse.{AllDigits, digits_value, without_leading_plus}
+use Rattle.std.specs.Global.{Global}
+use Rattle.clap.specs.Values.{IsUnsignedIn, kind_of}
+use Rattle.clap.specs.Kinds.{IsAmong, Kinds}
+use Rattle.clap.specs.declared.error.Error.{Error}
+use Rattle.clap.specs.declared.error.kind.ErrorKind.TheVariants.{OutOfMemory}
+use Rattle.command_words.specs.declared.asked.WordsFault.{WordsFault}
+use Rattle.command_words.specs.declared.asked.WordsFault.TheVariants.{Memory, Refused}
+use Rattle.command_words.specs.declared.asked.Asked.{Asked}
+use Rattle.command_words.specs.declared.asked.Asked.TheVariants.{Join}
+
+abbrev pub Text : Type 0
+Text = List ℕ
+
+-- the words as lists of bytes
+abbrev pub texts : List (String Global) → List Text
+texts words = map string_bytes words
+
+-- ---- the commands and their options
+
+-- a value is a number in a range, or a text
+pub data Form : Type 0 where
+  number : ℕ → ℕ → Form
+  text : Form
+
+-- an option, by its name without the two hyphens
+pub record Opt : Type 0 where
+  pub name : Text
+  pub form : Form
+  pub required : Bool
+
+abbrev pub must : Text → Form → Opt
+must name form = record { name = name; form = form; required = true }
+
+abbrev pub may : Text → Form → Opt
+may name form = record { name = name; form = form; required = false }
+
+abbrev pub horizon : Opt
+horizon = may (codes "horizon") (number 0 18446744073709551615)
+
+abbrev pub join_options : List Opt
+join_options = must (codes "queries") text ∷ must (codes "clicks") text ∷ must (codes "state") text ∷ horizon ∷ []
+
+pub data Command : Type 0 where
+  join : Command
+
+abbrev pub name_of : Command → Text
+name_of join = codes "join"
+
+abbrev pub options_of : Command → List Opt
+options_of join = join_options
+
+-- ---- plain words
+
+-- a value as it may be written: 1 to 20 digits within the range, or a text that is not empty and does not begin with a hyphen
+abbrev pub IsNumber : ℕ → ℕ → Text → Type 0
+IsNumber low high t = (0 < length t) × (length t ≤ 20) × AllDigits 10 t × (low ≤ digits_value 10 t) × (digits_value 10 t ≤ high)
+
+abbrev pub IsValueText : Text → Type 0
+IsValueText [] = ⊥
+IsValueText (b ∷ bs) = b ≢ 45
+
+abbrev pub IsValue : Form → Text → Type 0
+IsValue (number low high) t = IsNumber low high t
+IsValue text t = IsValueText t
+
+-- the option of that name
+abbrev pub option_named : Text → List Opt → Option Opt
+option_named name options = find (λ o. bytes_eq o.name name) options
+
+-- options with their values, as they stand in the words
+abbrev pub Pairs : Type 0
+Pairs = List (Text × Text)
+
+abbrev pub pair_words : Pairs → List Text
+pair_words [] = []
+pair_words (p ∷ ps) = (45 ∷ 45 ∷ p.0) ∷ p.1 ∷ pair_words ps
+
+-- the value that the pairs give the option of that name
+abbrev pub given : Pairs → Text → Option Text
+given pairs name = option_map (λ p. p.1) (find (λ p. bytes_eq p.0 name) pairs)
+
+-- each pair is an option of the command and its value, each option stands at most once, and each one that is required is there
+pub record ArePairsOf (options : List Opt) (pairs : Pairs) : Type 0 where
+  pub known : All (λ p. IsSomeAnd (option_named p.0 options) (λ o. IsValue o.form p.1)) pairs
+  pub once : IsDistinct bytes_eq (map (λ p. p.0) pairs)
+  pub complete : All (λ o. o.required ≡ true → IsSome (given pairs o.name)) options
+
+-- the words are the program's name, the command's name, and those pairs
+pub record IsPlain (words : List Text) (command : Command) (pairs : Pairs) : Type 0 where
+  pub form : (program : Text) × (words ≡ program ∷ name_of command ∷ pair_words pairs)
+  pub options : ArePairsOf (options_of command) pairs
+
+-- ---- what is asked for
+
+-- a number as written, which may have a plus before it, and the default of an option that is not there
+abbrev pub number_or : ℕ → Option Text → ℕ
+number_or n value = option_map_or (λ t. digits_value 10 (without_leading_plus t)) value n
+
+-- the command of that name, with the values that an option has as a text and as a number
+abbrev pub HasValues : Asked → Text → (Text → Option Text) → (Text → Option Text) → Type 0
+HasValues (Join queries clicks state floor) name text_at number_at =
+    (name ≡ codes "join") × (text_at (codes "queries") ≡ Some queries.now) × (text_at (codes "clicks") ≡ Some clicks.now)
+    × (text_at (codes "state") ≡ Some state.now) × (floor ≡ number_or 0 (number_at (codes "horizon")))
+
+-- a number that may be read: digits, which may have a plus before them, within the range
+abbrev pub IsReadable : ℕ → ℕ → Text → Type 0
+IsReadable low high t = IsUnsignedIn low high t
+
+-- each value that a command needs is there, and each number that is there may be read
+abbrev pub HasAll : Command → (Text → Option Text) → (Text → Option Text) → Type 0
+HasAll join text_at number_at = IsSome (text_at (codes "queries")) × IsSome (text_at (codes "clicks")) × IsSome (text_at (codes "state"))
+    × IfSome (number_at (codes "horizon")) (IsReadable 0 18446744073709551615)
+
+-- plain words ask for this
+abbrev pub AsksFor : Asked → Command → Pairs → Type 0
+AsksFor asked command pairs = HasValues asked (name_of command) (given pairs) (given pairs)
+
+-- memory ran out, or the error has one of the kinds
+abbrev pub IsRefusedBy : Kinds → WordsFault → Type 0
+IsRefusedBy kinds Memory = ⊤
+IsRefusedBy kinds (Refused error) = IsAmong (kind_of error) kinds
+
+-- the fault of a parse that gave this error
+abbrev pub IsFaultOf : Error → WordsFault → Type 0
+IsFaultOf error Memory = kind_of error ≡ OutOfMemory
+IsFaultOf error (Refused e) = (e ≡ error) × (kind_of error ≢ OutOfMemory)

@@ -1,0 +1,36 @@
+//! What the words ask for.
+ghost use Rattle.std.specs.Prelude.{◌≡◌};
+
+use std::alloc::AllocError;
+
+/// A command with the values of its options.
+#[derive(Clone, Copy, Debug)]
+pub enum Asked<'a> {
+    /// Join the logs of these names over the directory of that name. Ids whose microseconds lie below the
+    /// horizon are too old.
+    Join {
+        queries: &'a str,
+        clicks: &'a str,
+        state: &'a str,
+        horizon: u64,
+    },
+}
+
+/// Why the words were not read.
+#[derive(Debug, Drop)]
+pub enum WordsFault {
+    /// The words are refused, or ask for help. Its text is for the user, on standard error.
+    Refused(clap::Error),
+    /// There was no memory. No clause says when.
+    Memory,
+}
+
+impl From<AllocError> for WordsFault {
+    ghost use Rattle.command_words.specs.declared.asked.WordsFault.TheVariants.{Memory};
+
+    ghost from_gives = { λ _ f. f ≡ Memory };
+
+    fn from(_error: AllocError) -> WordsFault {
+        WordsFault::Memory
+    }
+}

@@ -1,0 +1,12 @@
+//! The words of the program: the command that they ask for, with the values of its options.
+#![tactic(auto)]
+
+mod asked;
+mod commands;
+mod parse;
+
+pub use asked::{Asked, WordsFault};
+pub use parse::parse_words;
+
+#[cfg(test)]
+mod examples;

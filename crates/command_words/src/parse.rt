@@ -1,0 +1,89 @@
+//! Reading the words.
+ghost use Rattle.std.specs.Prelude.{◌≡◌, ◌<◌, List, [], IfOk, IfSome, IfErr, IsSome, IsSomeAnd, MatchResult, Some, None, option_map, codes};
+ghost use Rattle.clap.specs.Matches.{found_of};
+ghost use Rattle.clap.specs.Walk.{Row, rows_of};
+ghost use Rattle.clap.specs.Simple.{subcommand_of, subcommand_rows_of};
+ghost use Rattle.clap.specs.Faults.{fault_of};
+ghost use Rattle.command_words.specs.Words.{Command, Pairs, IsPlain, IsFaultOf, IsRefusedBy, name_of, AsksFor, HasAll, HasValues, join, IsReadable, number_or, texts};
+ghost use Rattle.command_words.specs.Clap.{photon_app, text_in, number_in};
+ghost use Rattle.command_words.specs.declared.asked.WordsFault.TheVariants.{Memory, Refused};
+
+use crate::asked::{Asked, WordsFault};
+use crate::commands::photon;
+use clap::ArgMatches;
+use clap::error::ErrorKind;
+use std::alloc::Global;
+
+/// A text option.
+fn text<'a>(found: &ArgMatches<'a>, name: &str) -> Option<&'a str>
+    ensures { option_map (λ t. t.now) result ≡ text_in (rows_of (found_of found.now)) name.now }
+{
+    found.get_str(name)
+}
+
+/// A number option, `or` where it is not there.
+fn number(found: &ArgMatches<'_>, name: &str, or: u64) -> Option<u64>
+    ensures value { IfSome result (λ n. n ≡ number_or or (number_in (rows_of (found_of found.now)) name.now)) }
+    ensures reads { IfSome (number_in (rows_of (found_of found.now)) name.now) (IsReadable 0 18446744073709551615) → IsSome result }
+{
+    match found.try_get_one::<u64>(name) {
+        Ok(Some(n)) => Some(n),
+        Ok(None) => Some(or),
+        Err(_) => None,
+    }
+}
+
+fn join<'a>(found: &ArgMatches<'a>) -> Option<Asked<'a>>
+    ensures value { IfSome result (λ a. HasValues a (codes "join") (text_in (rows_of (found_of found.now))) (number_in (rows_of (found_of found.now)))) }
+    ensures reads { HasAll join (text_in (rows_of (found_of found.now))) (number_in (rows_of (found_of found.now))) → IsSome result }
+{
+    Some(Asked::Join {
+        queries: text(found, "queries")?,
+        clicks: text(found, "clicks")?,
+        state: text(found, "state")?,
+        horizon: number(found, "horizon", 0)?,
+    })
+}
+
+/// The command that the parse found.
+fn asked_of<'a>(matches: &ArgMatches<'a>) -> Option<Asked<'a>>
+    ensures value { IfSome result (λ a. IsSomeAnd (subcommand_rows_of matches.now) (λ p. HasValues a p.0 (text_in p.1) (number_in p.1))) }
+    ensures reads { (command : Command) (rows : List Row) → subcommand_rows_of matches.now ≡ Some (name_of command, rows) → HasAll command (text_in rows) (number_in rows) → IsSome result }
+{
+    let (name, found) = matches.subcommand()?;
+    match name {
+        "join" => join(found),
+        _ => None,
+    }
+}
+
+/// Reads the words, the first of which is the program's name.
+///
+/// In time linear in the words; it allocates what clap keeps of them, and the values are borrowed from them.
+pub fn parse_words<'a>(alloc: Global, words: &'a [String]) -> Result<Asked<'a>, WordsFault>
+    ensures plain { (command : Command) (pairs : Pairs) → IsPlain (texts words.entry.now) command pairs → MatchResult result (λ a. AsksFor a command pairs) (λ f. f ≡ Memory) }
+    ensures found { IfOk result (λ a. IsSomeAnd (subcommand_of photon_app (texts words.entry.now)) (λ p. HasValues a p.0 (text_in p.1) (number_in p.1))) }
+    ensures taken { IfOk result (λ _. fault_of photon_app (texts words.entry.now) ≡ []) }
+    ensures refused { IfErr result (IsRefusedBy (fault_of photon_app (texts words.entry.now))) }
+{
+    let mut command = photon(alloc)?;
+    let matches = match command.try_get_matches_from_mut(words) {
+        Ok(matches) => matches,
+        Err(error) => return Err(refused(error)),
+    };
+    match asked_of(&matches) {
+        Some(asked) => Ok(asked),
+        // The parse has checked each value, so this is never met.
+        None => Err(refused(command.error(ErrorKind::InvalidValue, "invalid value")?)),
+    }
+}
+
+/// The fault of a parse that gave no matches.
+fn refused(error: clap::Error) -> WordsFault
+    ensures { IsFaultOf error result }
+{
+    match error.kind() {
+        ErrorKind::OutOfMemory => WordsFault::Memory,
+        _ => WordsFault::Refused(error),
+    }
+}

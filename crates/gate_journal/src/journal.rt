@@ -1,0 +1,178 @@
+// The journal on its disk.
+ghost use Rattle.std.specs.Prelude.{◌≡◌, ◌≤◌, ◌^◌, true, false, IsTrue};
+ghost use Rattle.gate_journal.specs.declared.journal.JournalState.TheVariants.{Ready};
+ghost use Rattle.gate_journal.specs.Disk.{IsSettled};
+
+use crate::opening::{open_disk, records_of, reopen_disk};
+use crate::writing::append_record;
+use crate::{Frame, JournalFault};
+use outside::Disk;
+use std::alloc::{AllocError, Global};
+use wire_core::Bytes;
+
+/// Whether records can be appended.
+#[derive(Clone, Copy, Debug, PartialEq, Eq)]
+pub enum JournalState {
+    /// Records can be appended.
+    Ready,
+    /// An append met a fault, or the journal was given up.
+    Broken,
+}
+
+/// Why a record isn't appended.
+#[derive(Clone, Copy, Debug, PartialEq, Eq)]
+pub enum AppendFault {
+    /// The disk failed in this call. Each image has the old records, or those and the new one.
+    Disk,
+    /// The journal was broken before. Nothing has changed.
+    Broken,
+}
+
+/// A journal on a disk. While it is ready, the disk holds all that it reads: records, and then a closed gate.
+///
+/// Opening and reading take memory and time linear in the file. An append takes time linear in its record, four changing
+/// calls, and no memory.
+#[derive(Drop)]
+pub struct Journal<D: Disk> {
+    disk: D,
+    gate: u64,
+    state: JournalState,
+    ghost limit: { gate ≤ 2 ^ 63 },
+    ghost up: { IsTrue D.tells → state ≡ Ready → D.is_down disk ≡ false },
+    ghost settled: { IsTrue D.tells → state ≡ Ready → IsSettled (D.seen disk) (D.image disk) gate },
+}
+
+impl<D: Disk> Journal<D> {
+    ghost use Rattle.std.specs.Prelude.{◌≡◌, ◌≤◌, ◌+◌, ◌^◌, ◌++◌, [], ◌∷◌, ℕ, List, length, IsTrue, IfOk, IfErr, OnOk, OnErr, IsOk, IsErr, IsErrOf, Ok, Err};
+    ghost use Rattle.outside.specs.Disk.{Throughout, StopsAmong};
+    ghost use Rattle.outside.specs.Faults.{Rose, Counts};
+    ghost use Rattle.gate_journal.specs.declared.journal.JournalState.TheVariants.{Ready, Broken};
+    ghost use Rattle.gate_journal.specs.Disk.{HasRoom};
+    ghost use Rattle.gate_journal.specs.Gate.{gate_rule, records, StandsFor, IsOldOrNew, spans};
+    ghost use Rattle.gate_journal.specs.Opening.{IsOpened, IsRefused, IsRefusedAgain};
+
+    /// Opens what is on a disk, which is fresh or a journal. Hands the disk back where it is refused.
+    pub fn open(alloc: Global, disk: D) -> Result<(Journal<D>, Vec<Bytes>), (JournalFault, D)>
+        ensures ok { IfOk result (λ r. (r.0.state ≡ Ready) × (IsTrue D.tells → (StandsFor r.1.items (D.seen disk)) × StandsFor r.1.items (D.seen r.0.disk))) }
+        ensures reads { IsTrue D.tells → IfOk result (λ r. D.image r.0.disk (D.seen r.0.disk)) }
+        ensures place { IfOk result (λ r. r.0.gate ≡ spans r.1.items) }
+        ensures limit { IfOk result (λ r. spans r.1.items ≤ 2 ^ 63) }
+        ensures ok_any_moment { IsTrue D.tells → IfOk result (λ r. Throughout D.image D.since disk r.0.disk (IsOpened (D.image disk))) }
+        ensures err { IfErr result (λ e. IsRefused D.tells (D.seen disk) (D.faults disk) (D.faults e.1) e.0) }
+        ensures err_any_moment { IsTrue D.tells → IfErr result (λ e. Throughout D.image D.since disk e.1 (IsOpened (D.image disk))) }
+    {
+        let mut disk = disk;
+        match open_disk(alloc, &mut disk) {
+            Ok((payloads, gate)) => Ok((
+                Journal {
+                    disk,
+                    gate,
+                    state: JournalState::Ready,
+                },
+                payloads,
+            )),
+            Err(fault) => Err((fault, disk)),
+        }
+    }
+
+    /// Reopens the disk, which takes one image of it, and reads that. Where it is refused the journal stays broken.
+    pub fn reopen(&mut self, alloc: Global) -> Result<Vec<Bytes>, JournalFault>
+        ensures ready { OnOk result (self.new.state ≡ Ready) }
+        ensures place { IfOk result (λ records. spans records.items ≤ 2 ^ 63) }
+        ensures records { IsTrue D.tells → IfOk result (λ records. StandsFor records.items (D.seen self.new.disk)) }
+        ensures broken { OnErr result (self.new.state ≡ Broken) }
+        ensures err { IfErr result (λ e. IsRefusedAgain D.tells (D.image self.old.disk) (D.faults self.old.disk) (D.faults self.new.disk) e) }
+        ensures any_moment { IsTrue D.tells → Throughout D.image D.since self.old.disk self.new.disk (IsOpened (D.image self.old.disk)) }
+        ensures reads { IsTrue D.tells → OnOk result (D.image self.new.disk (D.seen self.new.disk)) }
+        ensures count { D.faults self.old.disk ≤ D.faults self.new.disk }
+    {
+        self.state = JournalState::Broken;
+        let (records, gate) = reopen_disk(alloc, &mut self.disk)?;
+        self.gate = gate;
+        self.state = JournalState::Ready;
+        Ok(records)
+    }
+
+    /// Appends nothing more until the disk is read again.
+    pub fn give_up(&mut self)
+        ensures state { self.new.state ≡ Broken }
+        ensures disk { self.new.disk ≡ self.old.disk }
+    {
+        self.state = JournalState::Broken;
+    }
+
+    /// The records of a disk's bytes as they read, with no changing call.
+    pub fn read_again(alloc: Global, disk: &mut D) -> Result<Vec<Bytes>, JournalFault>
+        ensures records { IsTrue D.tells → IfOk result (λ records. StandsFor records.items (D.seen disk.old)) }
+        ensures err { IfErr result (λ e. IsRefused D.tells (D.seen disk.old) (D.faults disk.old) (D.faults disk.new) e) }
+        ensures seen { IsTrue D.tells → D.seen disk.new ≡ D.seen disk.old }
+        ensures any_moment { IsTrue D.tells → Throughout D.image D.since disk.old disk.new (D.image disk.old) }
+        ensures count { D.faults disk.old ≤ D.faults disk.new }
+    {
+        records_of(alloc, disk)
+    }
+
+    /// Whether records can be appended.
+    pub fn state(&self) -> JournalState
+        ensures { result ≡ self.now.state }
+    {
+        self.state
+    }
+
+    /// Makes the disk's room for an append of a record up to this length.
+    pub fn make_room(&mut self, alloc: Global, len: u32) -> Result<(), AllocError>
+        requires { len ≤ 65535 }
+        ensures room { OnOk result (HasRoom (D.calls_left self.new.disk) (D.bytes_left self.new.disk) len) }
+        ensures state { self.new.state ≡ self.old.state }
+        ensures seen { IsTrue D.tells → D.seen self.new.disk ≡ D.seen self.old.disk }
+        ensures image { IsTrue D.tells → Throughout D.image D.since self.old.disk self.new.disk (D.image self.old.disk) }
+        ensures count { D.faults self.new.disk ≡ D.faults self.old.disk }
+    {
+        self.disk.make_room(alloc, 4, len + 6)
+    }
+
+    /// Appends a record. At `Ok` each image has it from now on.
+    pub fn append(&mut self, frame: &Frame) -> Result<(), AppendFault>
+        requires { HasRoom (D.calls_left self.old.disk) (D.bytes_left self.old.disk) (length frame.now) }
+
+        // At every moment since the call began, each image stands for the old records, or for them and the new one.
+        ensures any_moment { IsTrue D.tells → self.old.state ≡ Ready → Throughout D.image D.since self.old.disk self.new.disk (IsOldOrNew (records (D.seen self.old.disk)) frame.now) }
+
+        // At `Ok` each image stands for them and the new one.
+        ensures appended { IsTrue D.tells → OnOk result (records (D.seen self.new.disk) ≡ records (D.seen self.old.disk) ++ frame.now ∷ []) }
+        ensures durable { IsTrue D.tells → OnOk result ((c : List ℕ) → D.image self.new.disk c → StandsFor (records (D.seen self.old.disk) ++ frame.now ∷ []) c) }
+
+        // Where the disk tells its planned stops, only one of them among the four calls is a cause of the fault.
+        ensures plan { IsTrue D.tells → self.old.state ≡ Ready → IsErrOf result AppendFault.Disk → StopsAmong (D.stops self.old.disk) (D.made self.old.disk) (D.made self.old.disk + 4) }
+        ensures made { IsTrue D.tells → OnOk result (D.made self.new.disk ≡ D.made self.old.disk + 4) }
+        ensures stops { IsTrue D.tells → (n : ℕ) → D.stops self.new.disk n ≡ D.stops self.old.disk n }
+
+        ensures ready { OnOk result ((self.old.state ≡ Ready) × (self.new.state ≡ Ready)) }
+        ensures fault { IsErrOf result AppendFault.Disk → (self.new.state ≡ Broken) × Rose (D.faults self.old.disk) (D.faults self.new.disk) }
+        ensures broken { self.old.state ≡ Broken → (result ≡ Err AppendFault.Broken) × (self.new ≡ self.old) }
+        ensures only_broken { IsErrOf result AppendFault.Broken → self.old.state ≡ Broken }
+        ensures count { D.faults self.old.disk ≤ D.faults self.new.disk }
+    {
+        if self.state == JournalState::Broken {
+            return Err(AppendFault::Broken);
+        }
+        let gate = self.gate;
+        match append_record(&mut self.disk, gate, frame) {
+            Ok(()) => {
+                self.gate = gate + 5 + frame.len();
+                Ok(())
+            }
+            Err(_) => {
+                self.state = JournalState::Broken;
+                Err(AppendFault::Disk)
+            }
+        }
+    }
+
+    /// The disk, which holds the journal.
+    pub fn into_disk(self) -> D
+        ensures { result ≡ self.disk }
+    {
+        self.disk
+    }
+}

@@ -1,0 +1,4 @@
+pub mod ClaimAnswers
+pub mod Maps
+pub mod Pieces
+pub mod Refusals

@@ -1,0 +1,31 @@
+-- Bytes that are read piece by piece.
+use Rattle.std.proofs.Common.{◌≡◌, ℕ, ◌+◌, ◌-◌, ◌≤◌, List, [], ◌++◌, length, take, drop, refl, sym, ap, subst, ◌∙◌, append_assoc, arith}
+use Rattle.std.proofs.Math.Seq.{take-add}
+use Rattle.std.proofs.lemmas.List.{take_at, drop_at, take_all, take-take, take-append-le, length-append, length-take-le}
+
+-- what was read so far, and a piece of what follows
+pub piece_next : (bytes now read new : List ℕ) (n : ℕ) → now ≡ bytes → read ≡ take (length read) bytes → (n ≤ length (drop (length read) now)) × (new ≡ read ++ take n (drop (length read) now)) → new ≡ take (length new) bytes
+piece_next bytes now read new n same e piece =
+    let rest = drop (length read) bytes in
+    let is : new ≡ read ++ take n rest = piece.1 ∙ ap (λ (b : List ℕ). read ++ take n (drop (length read) b)) same in
+    let fits : n ≤ length rest = subst (λ (b : List ℕ). n ≤ length (drop (length read) b)) same piece.0 in
+    let size : length new ≡ length read + n = ap length is ∙ length-append read (take n rest) ∙ ap (λ (k : ℕ). length read + k) (length-take-le n rest fits) in
+    is ∙ ap (λ (front : List ℕ). front ++ take n rest) e ∙ sym (take-add (length read) n bytes) ∙ ap (λ (k : ℕ). take k bytes) (sym size)
+
+taken : (old buf rest : List ℕ) (n : ℕ) → n ≤ length buf → take (length old + n) (old ++ (buf ++ rest)) ≡ old ++ take n buf
+taken old buf rest n fits =
+    let here = take_at old (buf ++ rest) (length old) refl in
+    let there = drop_at old (buf ++ rest) (length old) refl in
+    let some = take-append-le n buf rest fits in
+    rw (take-add (length old) n (old ++ (buf ++ rest)), here, there, some) refl
+
+-- bytes that were made longer, read into behind the old ones, and cut behind what was read
+pub piece_read : (old zeros now buf post tail new : List ℕ) (len n cap more : ℕ) → len ≡ length old → now ≡ take (len + more) old ++ zeros → len + n ≤ cap → n ≤ length buf
+    → new ≡ take (len + n) (take cap ((take len now ++ (buf ++ post)) ++ tail)) → new ≡ old ++ take n buf
+piece_read old zeros now buf post tail new len n cap more size e le fits is =
+    let own : take (len + more) old ≡ old = take_all _ _ (omega arith) in
+    let front : take len now ≡ old = rw (e, own) (take_at old zeros len (sym size)) in
+    let whole : List ℕ = (take len now ++ (buf ++ post)) ++ tail in
+    let regrouped : whole ≡ old ++ (buf ++ (post ++ tail)) =
+    ap (λ (x : List ℕ). (x ++ (buf ++ post)) ++ tail) front ∙ append_assoc old (buf ++ post) tail ∙ ap (λ (x : List ℕ). old ++ x) (append_assoc buf post tail) in
+    is ∙ take-take (len + n) cap whole le ∙ ap (take (len + n)) regrouped ∙ ap (λ (k : ℕ). take (k + n) (old ++ (buf ++ (post ++ tail)))) size ∙ taken old buf (post ++ tail) n fits

@@ -1,0 +1,12 @@
+use Rattle.std.proofs.Common.{ap, length, ◌∙◌}
+use Rattle.std.proofs.lemmas.Result.{IfOk-weaker}
+use Rattle.log_records.proofs.Reading.{queries_same}
+use Rattle.log_records.proofs.WholeLogs.{queries_found, queries_right, only_answer}
+use Rattle.log_records.proofs.check.check_queries.Goals as goal
+
+pub returns-clause-found : goal.returns-clause-found
+returns-clause-found c = IfOk-weaker c.count.result _ _ (λ n h. (h.0, queries_found c.args.log.now h.0 h.1, h.2)) c.count.ensures.found
+
+pub returns-clause-only : goal.returns-clause-only
+returns-clause-only c = λ qs is.
+    only_answer c.count.result _ _ (IfOk-weaker c.count.result _ _ (λ n h. h.2 ∙ ap length (queries_same c.args.log.now h.0 qs (queries_found c.args.log.now h.0 h.1).0 is.0)) c.count.ensures.found) c.count.ensures.refused (λ bad. queries_right c.args.log.now qs bad is)

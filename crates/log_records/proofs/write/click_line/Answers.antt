@@ -1,0 +1,15 @@
+use Rattle.std.proofs.Common.{length, ap, arith}
+use Rattle.event_id.proofs.Spelling.{length-spell-le}
+use Rattle.log_records.proofs.write.click_line.Goals as goal
+
+pub put_id-at-requires : goal.put_id-at-requires
+put_id-at-requires c = omega (arith, length-spell-le c.args.rec.now.id c.requires.id)
+
+pub put_id-at-requires-2 : goal.put_id-at-requires-2
+put_id-at-requires-2 c =
+    omega (arith, length-spell-le c.args.rec.now.id c.requires.id, length-spell-le c.args.rec.now.query c.requires.query, c.put_id-at.auto.line, c.put_id-at.ensures.end)
+
+pub put-end-requires : goal.put-end-requires
+put-end-requires c =
+    let text = c.requires.text.len in
+    omega (arith, length-spell-le c.args.rec.now.id c.requires.id, length-spell-le c.args.rec.now.query c.requires.query, c.put_id-at.auto.line, c.put_id-at.ensures.end, c.put_id-at-2.auto.line, c.put_id-at-2.ensures.end, ap length c.as_bytes.ensures)

@@ -1,0 +1,11 @@
+//! A journal of offsets, each above the one before.
+#![tactic(auto)]
+
+mod journal;
+mod reading;
+pub mod rows;
+
+pub use journal::OffsetJournal;
+
+#[cfg(test)]
+mod tests;

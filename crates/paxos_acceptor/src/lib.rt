@@ -1,0 +1,10 @@
+//! The acceptor of Paxos: what a replica has promised and accepted in each place, and how it answers proposers.
+#![tactic(auto)]
+
+mod acceptor;
+mod notes;
+#[cfg(test)]
+mod tests;
+
+pub use acceptor::Acceptor;
+pub use notes::{Prepared, ReplicaNote, Taken};

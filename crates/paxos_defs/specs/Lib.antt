@@ -1,0 +1,10 @@
+pub mod Notes
+pub mod Agreement
+pub mod Turns
+pub mod Attempts
+pub mod Decided
+pub mod Facts
+pub mod Laws
+pub mod Rows
+pub use Rattle.ballot_core.specs.Ballots
+pub use Rattle.ballot_core.specs.Majority

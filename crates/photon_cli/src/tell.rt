@@ -1,0 +1,107 @@
+// What is told on standard error.
+ghost use Rattle.std.specs.Prelude.{◌≡◌, ◌++◌, OnOk, IsErr, IsTrue, List, codes};
+ghost use Rattle.std.specs.List.{flat_map};
+ghost use Rattle.outside.specs.Faults.{Counts, Rose};
+ghost use Rattle.photon_cli.specs.Faults.{status_of, log_text, why_text, message};
+
+use clap::Error;
+use itoa::Buffer;
+use join_engine::{Fault, LogName};
+use log_records::Why;
+use outside::{Sink, WriteFault};
+use report_text::write_all;
+use std::alloc::Global;
+
+/// The exit status of a fault.
+pub fn status(fault: Fault) -> u8
+    ensures { result ≡ status_of fault }
+{
+    match fault {
+        Fault::Refused { .. } => 3,
+        Fault::Read(_) => 4,
+        Fault::Write => 5,
+        Fault::Memory => 8,
+    }
+}
+
+/// Tells a fault. Where that fails, nothing more is done about it.
+pub fn tell<K: Sink>(err: &mut K, fault: Fault)
+    ensures { IsTrue K.tells → (Rose (K.faults err.old) (K.faults err.new) → ⊥) → K.held err.new ≡ K.held err.old ++ message fault }
+{
+    let _ = write_fault(err, fault);
+}
+
+/// Tells what the parser of words says. Where there is no memory for its text, nothing is told.
+pub fn tell_refusal<K: Sink>(alloc: Global, err: &mut K, error: &Error) {
+    if let Ok(text) = error.to_string(alloc) {
+        let _ = write_all(err, text.as_bytes());
+    }
+}
+
+fn write_fault<K: Sink>(err: &mut K, fault: Fault) -> Result<(), WriteFault>
+    ensures all { IsTrue K.tells → OnOk result (K.held err.new ≡ K.held err.old ++ message fault) }
+    ensures count { Counts (K.faults err.old) (K.faults err.new) (IsErr result) }
+{
+    match fault {
+        Fault::Refused { log, line, why } => {
+            let mut digits = Buffer::new();
+            let line = digits.format(line).as_bytes();
+            write_pieces(
+                err,
+                &[
+                    b"photon: ".as_slice(),
+                    log_name(log).as_bytes(),
+                    b":",
+                    line,
+                    b": ",
+                    why_name(why).as_bytes(),
+                    b"\n",
+                ],
+            )
+        }
+        Fault::Read(log) => write_pieces(
+            err,
+            &[
+                b"photon: read: ".as_slice(),
+                log_name(log).as_bytes(),
+                b"\n",
+            ],
+        ),
+        Fault::Write => write_all(err, b"photon: write\n"),
+        Fault::Memory => write_all(err, b"photon: memory\n"),
+    }
+}
+
+fn write_pieces<K: Sink>(sink: &mut K, pieces: &[&[u8]]) -> Result<(), WriteFault>
+    ensures all { IsTrue K.tells → OnOk result (K.held sink.new ≡ K.held sink.old ++ flat_map (λ piece. piece.now) pieces.now) }
+    ensures count { Counts (K.faults sink.old) (K.faults sink.new) (IsErr result) }
+{
+    for piece in pieces {
+        write_all(sink, piece)?;
+    }
+    Ok(())
+}
+
+fn log_name(log: LogName) -> &'static str
+    ensures { result.now ≡ log_text log }
+{
+    match log {
+        LogName::Queries => "queries",
+        LogName::Clicks => "clicks",
+    }
+}
+
+fn why_name(why: Why) -> &'static str
+    ensures { result.now ≡ why_text why }
+{
+    match why {
+        Why::TooLong => "TooLong",
+        Why::Space => "Space",
+        Why::Id => "Id",
+        Why::QueryId => "QueryId",
+        Why::Text => "Text",
+        Why::Conflict => "Conflict",
+        Why::TooBig => "TooBig",
+        Why::Memory => "Memory",
+    }
+}

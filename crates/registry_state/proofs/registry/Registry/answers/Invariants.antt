@@ -1,0 +1,14 @@
+use Rattle.std.proofs.Common.{◌≡◌, List, length, map, take, unwrap_or, vec_len}
+use Rattle.registry_state.specs.declared.Batch.{Batch}
+use Rattle.registry_state.specs.declared.Answer.TheVariants.{Granted}
+use Rattle.registry_state.specs.LookBack.{replay}
+use Rattle.registry_state.specs.Registry.{Knows}
+use Rattle.registry_state.proofs.registry.Registry.answers.Given as goal
+
+-- the inserts so far are answered
+abbrev pub invariant-loop-k : goal.invariant-loop-k
+invariant-loop-k l =
+    record {
+      size : vec_len l.blank ≡ length l.inserts;
+      done : (applied : List Batch) → Knows l.self applied → take l.k l.blank.items ≡ map (λ x. unwrap_or (replay applied x.id x.token) Granted) (take l.k l.inserts);
+    }

@@ -1,0 +1,5 @@
+pub mod Same
+pub mod LookBack
+pub mod Laws
+pub mod Registry
+pub mod Rows

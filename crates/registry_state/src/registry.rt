@@ -1,0 +1,134 @@
+ghost use Rattle.std.specs.Prelude.{◌≡◌, ◌++◌, ◌∷◌, [], ◌+◌, ◌≤◌, ◌<◌, length, map, vec_len, unwrap_or, IfOk, OnOk, OnErr, if◌then◌else◌};
+ghost use Rattle.std.specs.HashMap.{spare};
+ghost use Rattle.registry_state.specs.Same.{same_token};
+ghost use Rattle.registry_state.specs.LookBack.{bound_of, holder, replay};
+
+use crate::{Answer, Answers, Batch, Insert, Token};
+use event_id::EventId;
+use std::alloc::{AllocError, Global};
+use std::collections::HashMap;
+
+/// Which token holds each id, and the bound in microseconds below which ids are too old.
+///
+/// It answers by looking back over the batches that it applied, and keeps of them the bound and the holders
+/// of the ids that aren't below it.
+#[derive(Debug, Drop)]
+pub struct Registry {
+    bound: u64,
+    held: HashMap<EventId, Token>,
+    alloc: Global,
+}
+
+impl Registry {
+    ghost use Rattle.registry_state.specs.Registry.{Knows, IsUnchanged, answers_to, batch_of};
+
+    /// Without ids, the bound 0. It takes no memory.
+    pub fn new(alloc: Global) -> Registry
+        ensures { Knows result [] }
+    {
+        Registry {
+            bound: 0,
+            held: HashMap::new(alloc),
+            alloc,
+        }
+    }
+
+    /// Applies a batch, all of it or, where memory runs out, nothing: the bound rises to the batch's, ids below
+    /// it are dropped, and the inserts are answered in order.
+    ///
+    /// Constant expected time an insert, and one pass over the ids where the bound rises. It allocates the
+    /// answers, and room for ids where there is none.
+    pub fn apply(&mut self, batch: &Batch) -> Result<Answers, AllocError>
+        ensures answers { IfOk result (λ answers. (applied : _) → Knows self.old applied → answers ≡ answers_to applied batch.now) }
+        ensures known { OnOk result ((applied : _) → Knows self.old applied → Knows self.new (applied ++ batch.now ∷ [])) }
+        ensures err { OnErr result (IsUnchanged self.old self.new) }
+    {
+        let inserts = batch.inserts.as_slice();
+        let blank = vec![in self.alloc; Answer::Granted; inserts.len()]?;
+        self.held.reserve(inserts.len())?;
+        self.learn(batch);
+        Ok(self.answers(inserts, blank))
+    }
+
+    /// What the insert of the id by the token is answered now: none where the id is neither held nor below the
+    /// bound. Constant expected time.
+    pub fn replay(&self, id: EventId, token: Token) -> Option<Answer>
+        ensures { (applied : _) → Knows self.now applied → result ≡ replay applied id token }
+    {
+        if id.micros < self.bound {
+            return Some(Answer::TooOld(self.bound));
+        }
+        let holder = self.held.get(&id)?;
+        Some(against(token, *holder))
+    }
+
+    /// The token that holds the id, none where none does or the id is below the bound. Constant expected time.
+    pub fn holder(&self, id: EventId) -> Option<Token>
+        ensures { (applied : _) → Knows self.now applied → result ≡ holder applied id }
+    {
+        self.held.get(&id).copied()
+    }
+
+    /// The greatest bound of the batches applied, 0 where there was none.
+    pub fn bound(&self) -> u64
+        ensures { (applied : _) → Knows self.now applied → result ≡ bound_of applied }
+    {
+        self.bound
+    }
+
+    // Applies a batch for whose inserts there is room.
+    fn learn(&mut self, batch: &Batch)
+        requires { length batch.now.inserts ≤ spare self.old.held }
+        ensures { (applied : _) → Knows self.old applied → Knows self.new (applied ++ batch.now ∷ []) }
+    {
+        self.raise(batch.bound);
+        for insert in batch.inserts.as_slice() {
+            self.claim(*insert);
+        }
+    }
+
+    // The answer to each insert, once the batch that has them is applied, written over the blank answers.
+    fn answers(&self, inserts: &[Insert], mut blank: Vec<Answer>) -> Answers
+        requires { vec_len blank ≡ length inserts.now }
+        ensures { (applied : _) → Knows self.now applied → result ≡ map (λ x. unwrap_or (replay applied x.id x.token) Answer.Granted) inserts.now }
+    {
+        for (k, insert) in inserts.iter().enumerate() {
+            let answer = self.replay(insert.id, insert.token);
+            blank[k] = answer.unwrap_or(Answer::Granted);
+        }
+        Answers::from(blank)
+    }
+
+    // Raises the bound, and drops the ids below it.
+    fn raise(&mut self, bound: u64)
+        ensures known { (applied : _) → Knows self.old applied → Knows self.new (applied ++ batch_of bound [] ∷ []) }
+        ensures room { spare self.old.held ≤ spare self.new.held }
+    {
+        if bound > self.bound {
+            self.bound = bound;
+            self.held.retain(|id, _| id.micros >= bound);
+        }
+    }
+
+    // Gives the id to the token, unless another has it or it is below the bound.
+    fn claim(&mut self, insert: Insert)
+        requires { 0 < spare self.old.held }
+        ensures known { (applied : _) (bound : _) (inserts : _) → Knows self.old (applied ++ batch_of bound inserts ∷ []) → Knows self.new (applied ++ batch_of bound (inserts ++ insert ∷ []) ∷ []) }
+        ensures room { spare self.old.held ≤ spare self.new.held + 1 }
+    {
+        if insert.id.micros >= self.bound && !self.held.contains_key(&insert.id) {
+            let _ = self.held.insert(insert.id, insert.token);
+        }
+    }
+}
+
+// What a token is answered whose id that holder has.
+fn against(token: Token, holder: Token) -> Answer
+    ensures { result ≡ (if same_token holder token then Answer.Granted else Answer.Duplicate holder) }
+{
+    if holder == token {
+        Answer::Granted
+    } else {
+        Answer::Duplicate(holder)
+    }
+}

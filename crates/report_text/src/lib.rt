@@ -1,0 +1,14 @@
+//! The report's bytes, written to a sink without memory.
+#![tactic(auto)]
+
+mod buffer;
+mod report;
+mod stream;
+mod totals;
+
+pub use log_defs::ReportLine;
+pub use report::{write_report, write_totals};
+pub use stream::write_all;
+
+#[cfg(test)]
+mod examples;

@@ -1,0 +1,15 @@
+use Rattle.std.proofs.Common.{◌≡◌, ◌≤◌, ◌-◌, length, IsTrue}
+use Rattle.tail_reader.specs.Buffered.{Buffers}
+use Rattle.tail_reader.proofs.scan.settle.Given as goal
+
+-- what was read ahead begins at the place
+abbrev pub invariant-loop-window : goal.invariant-loop-window
+invariant-loop-window g l =
+    record {
+      ahead : IsTrue g.L.LogFile.tells → Buffers (g.L.LogFile.bytes l.log) l.place l.window.1;
+      same : IsTrue g.L.LogFile.tells → g.L.LogFile.bytes l.log ≡ g.L.LogFile.bytes l.fn.log;
+      later : g.L.LogFile.faults l.fn.log ≤ g.L.LogFile.faults l.log;
+    }
+
+abbrev pub decreases-loop-window : goal.decreases-loop-window
+decreases-loop-window g l = 297 - length l.window.1

@@ -1,0 +1,11 @@
+//! Reads a log line by line, from any place on.
+#![tactic(auto)]
+
+mod scan;
+mod tail;
+#[cfg(test)]
+mod tests;
+mod window;
+
+pub use scan::{LIMIT, MAX_LINE};
+pub use tail::{Next, Tail};
