@@ -1,18 +1,16 @@
 -- The answer to a claim by a batch of one insert.
-use Rattle.std.proofs.Common.{◌≡◌, ℕ, suc, Bool, true, false, cond, ltb, max, ◌<◌, ◌≤◌, List, [], ◌∷◌, ◌++◌, length, get_or, take, map, Option, Some, None, refl, sym, ap, ◌∙◌, subst, arith}
+use Rattle.std.proofs.Common.{◌≡◌, ℕ, suc, Bool, true, false, cond, ltb, ◌<◌, ◌≤◌, List, [], ◌∷◌, ◌++◌, length, get_or, take, map, Option, Some, None, refl, ap, ◌∙◌, arith}
 use Rattle.std.proofs.lemmas.List.{take_all, length-append}
-use Rattle.event_id.specs.declared.id.EventId.{EventId}
 use Rattle.registry_state.specs.declared.Token.{Token}
 use Rattle.registry_state.specs.declared.Insert.{Insert}
 use Rattle.registry_state.specs.declared.Batch.{Batch}
 use Rattle.registry_state.specs.declared.Answer.{Answer}
 use Rattle.registry_state.specs.declared.Answer.TheVariants.{Granted, Duplicate, TooOld}
-use Rattle.registry_state.specs.declared.registry.Registry.{Registry}
 use Rattle.registry_state.specs.Same.{same_token}
 use Rattle.registry_state.specs.LookBack.{bound_of, bound_at, answer_at, against}
-use Rattle.registry_state.specs.Registry.{Knows, answers_to}
+use Rattle.registry_state.specs.Registry.{answers_to}
 use Rattle.registry_state.proofs.Learning.{bound_of-push}
-use Rattle.join_engine.specs.Claims.{HasBound, is_too_old}
+use Rattle.join_engine.specs.Claims.{is_too_old}
 
 either_in_time : (b : Bool) (h : Token) → is_too_old (cond b Granted (Duplicate h)) ≡ false
 either_in_time true h = refl

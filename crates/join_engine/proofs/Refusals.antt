@@ -1,5 +1,5 @@
 -- Refused lines, as faults.
-use Rattle.std.proofs.Common.{◌≡◌, ◌⊎◌, inl, inr, ⊎_elim, ℕ, List, Option, Some, None, refl, sym, ap, subst, ◌∙◌}
+use Rattle.std.proofs.Common.{◌≡◌, ◌⊎◌, inl, inr, ⊎_elim, ℕ, Option, Some, None, refl, ap, subst, ◌∙◌}
 use Rattle.std.specs.Option.{IsSomeAnd}
 use Rattle.log_records.specs.declared.why.Why.{Why}
 use Rattle.log_records.specs.declared.why.Why.TheVariants as why

@@ -1,4 +1,4 @@
-use Rattle.std.proofs.Common.{[], max, arith, ◌∙◌}
+use Rattle.std.proofs.Common.{[], arith, ◌∙◌}
 use Rattle.registry_state.specs.declared.Batch.{Batch}
 use Rattle.registry_state.proofs.Learning.{bound_of-push}
 use Rattle.join_engine.proofs.claims.registry_at.Goals as goal

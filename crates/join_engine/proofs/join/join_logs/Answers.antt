@@ -1,10 +1,9 @@
-use Rattle.std.proofs.Common.{◌≡◌, ℕ, List, Option, Err, sym, ap, subst, ◌∙◌}
+use Rattle.std.proofs.Common.{◌≡◌, ℕ, List, Option, Err, ap, subst}
 use Rattle.std.specs.Option.{IsSomeAnd}
 use Rattle.std.proofs.lemmas.Result.{err_from_is_err_and}
 use Rattle.log_records.specs.declared.records.QueryRec.{QueryRec}
 use Rattle.log_records.specs.Check.{IsQueryLog, RefusesClick}
 use Rattle.log_records.specs.declared.check.BadLine.{BadLine}
-use Rattle.join_engine.specs.declared.fault.Fault.{Fault}
 use Rattle.join_engine.specs.declared.fault.Fault.TheVariants as fault
 use Rattle.join_engine.specs.declared.fault.LogName.{LogName}
 use Rattle.join_engine.specs.declared.fault.LogName.TheVariants.{Queries, Clicks}
@@ -33,7 +32,7 @@ returns-in_err-click_records-clause-refused g c tells log line w e =
     let told : f ≡ fault.Refused Clicks line w = cc in
     let named : List ℕ → Option (List ℕ) = g.F.Source.bytes c.args.files.now in
     let valid : IsSomeAnd (named c.args.queries.now) (λ b. (qs : List QueryRec) × IsQueryLog b qs) =
-        within _ _ (λ (b : List ℕ). (qs : List QueryRec) × IsQueryLog b qs) (λ b h. (_, h)) (c.in_ok-query_records.ensures.found tells) in
+    within _ _ (λ (b : List ℕ). (qs : List QueryRec) × IsQueryLog b qs) (λ b h. (_, h)) (c.in_ok-query_records.ensures.found tells) in
     let there : IsSomeAnd (named c.args.clicks.now) (λ b. RefusesClick b bad) =
-        subst (λ (o : Option (List ℕ)). IsSomeAnd o (λ b. RefusesClick b bad)) (c.in_ok-query_records.ensures.same tells c.args.clicks.now) (c.in_err-click_records.ensures.refused tells line w (ap Err told)) in
+    subst (λ (o : Option (List ℕ)). IsSomeAnd o (λ b. RefusesClick b bad)) (c.in_ok-query_records.ensures.same tells c.args.clicks.now) (c.in_err-click_records.ensures.refused tells line w (ap Err told)) in
     subst (λ (l : LogName). Refuses named c.args.queries.now c.args.clicks.now l bad) here (valid, there)

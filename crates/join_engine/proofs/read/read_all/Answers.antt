@@ -1,4 +1,4 @@
-use Rattle.std.proofs.Common.{◌≡◌, ◌+◌, ◌++◌, length, drop, take, vec_len, List, ℕ, sym, ap, ◌∙◌, arith}
+use Rattle.std.proofs.Common.{◌∙◌, arith}
 use Rattle.join_engine.proofs.Pieces.{piece_next}
 use Rattle.join_engine.proofs.read.read_all.Goals as goal
 

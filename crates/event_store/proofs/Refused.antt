@@ -1,0 +1,18 @@
+-- Lines that are no record's.
+use Rattle.std.proofs.Common.{◌≡◌, ◌≢◌, ◌⊎◌, ℕ, ◌+◌, ◌<◌, ◌≤◌, List, ◌∷◌, ◌++◌, length, ap, refl, sym, ◌∙◌, arith}
+use Rattle.std.specs.Prelude.{Option, Some, None}
+use Rattle.std.proofs.lemmas.List.{length-append}
+use Rattle.byte_split.specs.Bytes.{Lacks}
+use Rattle.event_id.specs.EventId.{spell}
+use Rattle.event_id.proofs.Spelling.{length-spell-le}
+use Rattle.log_records.specs.declared.records.QueryRec.{QueryRec}
+use Rattle.log_records.specs.Line.{space, query_line, IsQuery}
+use Rattle.tail_reader.specs.Buffered.{line_feed, behind}
+use Rattle.event_store.specs.Read.{ReadsAs, ReadsNext}
+
+-- a line that is too long is no record's
+pub too_long : (line : List ℕ) → 296 < length line → ReadsAs line None
+too_long line long q h e = omega (arith, ap length e, length-append (spell q.id) (space ∷ q.text), length-spell-le q.id h.id, h.text.len)
+
+pub long_line : (log : List ℕ) (place p e : ℕ) → (p ≡ place) × ((long rest : List ℕ) × (behind log place ≡ long ++ line_feed ∷ rest) × Lacks line_feed long × (296 < length long) × (e ≡ place + length long + 1)) → ReadsNext log place e None
+long_line log place p e told = let l = told.1 in (l.0, l.1, l.2, l.3, l.5, too_long l.0 l.4)

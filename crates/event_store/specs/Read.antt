@@ -1,0 +1,19 @@
+-- The next line of a query log.
+use Rattle.std.specs.Prelude.{ℕ, ◌≡◌, ◌≢◌, ◌+◌, List, ◌∷◌, ◌++◌, length, Option, Some, None}
+use Rattle.byte_split.specs.Bytes.{Lacks}
+use Rattle.log_records.specs.declared.records.QueryRec.{QueryRec}
+use Rattle.log_records.specs.Line.{query_line, IsQuery}
+use Rattle.tail_reader.specs.Buffered.{line_feed, behind}
+
+-- what a line counts as: its record, or none where it is refused
+abbrev pub ReadsAs : List ℕ → Option QueryRec → Type 0
+ReadsAs line (Some q) = IsQuery q × (line ≡ query_line q)
+ReadsAs line None = (q : QueryRec) → IsQuery q → line ≢ query_line q
+
+-- the next line of the log from a place on was read as this, and the next one begins at the end
+abbrev pub ReadsNext : List ℕ → ℕ → ℕ → Option QueryRec → Type 0
+ReadsNext log place end_ read = (line rest : List ℕ) × (behind log place ≡ line ++ line_feed ∷ rest) × Lacks line_feed line × (end_ ≡ place + length line + 1) × ReadsAs line read
+
+-- no line feed follows
+abbrev pub IsAtEnd : List ℕ → ℕ → Type 0
+IsAtEnd log place = Lacks line_feed (behind log place)

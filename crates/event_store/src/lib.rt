@@ -1,0 +1,10 @@
+//! The queries of a log that were read so far, by id.
+#![tactic(auto)]
+
+mod find;
+mod read;
+mod store;
+#[cfg(test)]
+mod tests;
+
+pub use store::{EventStore, LookFault, Lookup, Step};

@@ -1,0 +1,60 @@
+// The next line of the log.
+ghost use Rattle.std.specs.Prelude.{◌≡◌, ◌≢◌, IfOk, IfErr, IfSome, IfNone, OnErr, IsErrOf, IsTrue};
+ghost use Rattle.outside.specs.Faults.{Counts};
+ghost use Rattle.event_store.specs.declared.store.LookFault.TheVariants as fault;
+ghost use Rattle.event_store.specs.Read.{ReadsAs, ReadsNext, IsAtEnd};
+
+use crate::LookFault;
+use log_records::{QueryRec, Why, read_query};
+use outside::LogFile;
+use std::alloc::Global;
+use tail_reader::{Next, Tail};
+
+/// Reads the next line, if there is one: its record, or none where it is refused.
+pub fn next_record<L: LogFile>(
+    alloc: Global,
+    tail: &mut Tail<L>,
+) -> Result<Option<Option<QueryRec>>, LookFault>
+    ensures line { IsTrue L.tells → IfOk result (λ line. IfSome line (λ read. ReadsNext (L.bytes tail.old.log) tail.old.place tail.new.place read)) }
+    ensures end { IsTrue L.tells → IfOk result (λ line. IfNone line (IsAtEnd (L.bytes tail.old.log) tail.old.place)) }
+    ensures end_stays { IfOk result (λ line. IfNone line (tail.new.place ≡ tail.old.place)) }
+    ensures err { OnErr result (tail.new.place ≡ tail.old.place) }
+    ensures same { IsTrue L.tells → L.bytes tail.new.log ≡ L.bytes tail.old.log }
+    ensures count { Counts (L.faults tail.old.log) (L.faults tail.new.log) (IsErrOf result fault.Read) }
+{
+    let place = tail.place();
+    let next = match tail.next() {
+        Ok(next) => next,
+        Err(_) => return Err(LookFault::Read),
+    };
+    match next {
+        Next::End { .. } => {
+            tail.seek(place);
+            Ok(None)
+        }
+        Next::Long { .. } => Ok(Some(None)),
+        Next::Line { .. } => match read_line(alloc, tail.line()) {
+            Ok(read) => Ok(Some(read)),
+            Err(fault) => {
+                tail.seek(place);
+                Err(fault)
+            }
+        },
+    }
+}
+
+// The record that the line is, or none.
+fn read_line(alloc: Global, line: &[u8]) -> Result<Option<QueryRec>, LookFault>
+    ensures line { IfOk result (ReadsAs line.now) }
+    ensures err { IfErr result (λ e. e ≡ fault.Memory) }
+{
+    match read_query(alloc, line) {
+        Ok(query) => Ok(Some(query)),
+        Err(why) => {
+            if why == Why::Memory {
+                return Err(LookFault::Memory);
+            }
+            Ok(None)
+        }
+    }
+}
