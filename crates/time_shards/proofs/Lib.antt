@@ -1,0 +1,3 @@
+pub mod Spares
+pub mod Tables
+pub mod Texts

@@ -1,0 +1,48 @@
+-- Tables of shard counts over time, and the shard of an id.
+use Rattle.std.specs.Prelude.{ℕ, ◌≡◌, ◌≤◌, ◌<◌, ◌^◌, ◌+◌, ◌%◌, max, nat_le, ⊤, List, [], ◌∷◌, length, if◌then◌else◌}
+use Rattle.list_words.specs.Lists.{Each}
+use Rattle.event_id.specs.declared.id.EventId.{EventId}
+use Rattle.time_shards.specs.declared.ShardRow.{ShardRow}
+
+-- a row by itself: the start is a timestamp, and the count is 1 to 16
+pub record IsRow (row : ShardRow) : Type 0 where
+  pub start : row.start < 2 ^ 64
+  pub some : 1 ≤ row.count
+  pub few : row.count ≤ 16
+
+-- the first row, if any, starts at 0
+abbrev pub StartsAtZero : List ShardRow → Type 0
+StartsAtZero [] = ⊤
+StartsAtZero (r ∷ rs) = r.start ≡ 0
+
+-- each row starts later than the row before it
+abbrev pub Rises : List ShardRow → Type 0
+Rises [] = ⊤
+Rises (r ∷ []) = ⊤
+Rises (r ∷ s ∷ rs) = (r.start < s.start) × Rises (s ∷ rs)
+
+-- the rows are a table's first ones, or none
+pub record BeginsTable (rows : List ShardRow) : Type 0 where
+  pub few : length rows ≤ 4
+  pub zero : StartsAtZero rows
+  pub rising : Rises rows
+  pub each : Each IsRow rows
+
+-- the rows are a table: 1 to 4
+pub record IsTable (rows : List ShardRow) : Type 0 where
+  pub some : 1 ≤ length rows
+  pub begins : BeginsTable rows
+
+-- the count of the last row whose start is not above the timestamp
+abbrev pub count_at : ℕ → List ShardRow → ℕ → ℕ
+count_at count [] micros = count
+count_at count (r ∷ rs) micros = if nat_le r.start micros then count_at r.count rs micros else count
+
+-- the shard of an id: the sum of its three numbers, by the count at its timestamp
+abbrev pub shard_of : List ShardRow → EventId → ℕ
+shard_of table id = (id.ip + id.pid + id.micros) % count_at 1 table id.micros
+
+-- how many shards a table has: the greatest count
+abbrev pub shard_count : List ShardRow → ℕ
+shard_count [] = 0
+shard_count (r ∷ rs) = max r.count (shard_count rs)

@@ -1,0 +1,29 @@
+//! How many shards there are, by a table over time, and which of them an id is of.
+#![tactic(auto)]
+
+pub mod laws;
+mod table;
+#[cfg(test)]
+mod tests;
+mod text;
+
+pub use table::Table;
+
+/// The most rows of a table.
+pub const MAX_ROWS: usize = 4;
+
+/// The most shards of a row.
+pub const MAX_SHARDS: u8 = 16;
+
+/// A row of a table: for ids from this timestamp on, in microseconds, so many shards.
+#[derive(Clone, Copy, Debug, PartialEq, Eq)]
+pub struct ShardRow {
+    pub start: u64,
+    pub count: u8,
+}
+
+/// The text is no table's. Its rows are counted from 0.
+#[derive(Clone, Copy, Debug, PartialEq, Eq)]
+pub struct BadTable {
+    pub row: u8,
+}
