@@ -1,0 +1,4 @@
+pub mod Bad
+pub mod Cells
+pub mod Spellings
+pub mod Stops

@@ -1,0 +1,108 @@
+-- The one spelling of each kind of field, and which values have one. Numbers stand high byte first.
+use Rattle.std.specs.Prelude.{ℕ, ◌^◌, ◌<◌, ◌≤◌, List, [], ◌∷◌, ◌++◌, length}
+use Rattle.std.specs.Int.{w16, w32, w64, to_be_bytes}
+use Rattle.event_id.specs.EventId.{packed, IsId}
+use Rattle.registry_state.specs.declared.Token.{Token}
+use Rattle.registry_state.specs.declared.Insert.{Insert}
+use Rattle.registry_state.specs.declared.Batch.{Batch}
+use Rattle.ballot_core.specs.declared.Ballot.{Ballot}
+use Rattle.paxos_defs.specs.declared.Place.{Place}
+use Rattle.registry_state.specs.declared.Answer.{Answer}
+use Rattle.registry_state.specs.declared.Answer.TheVariants.{Granted, Duplicate, TooOld}
+use Rattle.paxos_acceptor.specs.declared.notes.ReplicaNote.{ReplicaNote}
+use Rattle.paxos_acceptor.specs.declared.notes.ReplicaNote.TheVariants.{Promised, Accepted}
+use Rattle.paxos_acceptor.specs.Cells.{place_of}
+use Rattle.log_records.specs.declared.records.QueryRec.{QueryRec}
+use Rattle.log_records.specs.declared.records.ClickRec.{ClickRec}
+use Rattle.list_words.specs.Lists.{Each}
+
+-- 14 bytes
+abbrev pub token : Token → List ℕ
+token t = to_be_bytes w16 t.joiner ++ to_be_bytes w32 t.epoch ++ to_be_bytes w64 t.number
+
+pub record IsToken (t : Token) : Type 0 where
+  pub joiner : t.joiner < 2 ^ 16
+  pub epoch : t.epoch < 2 ^ 32
+  pub number : t.number < 2 ^ 64
+
+-- 30 bytes
+abbrev pub insert : Insert → List ℕ
+insert x = packed x.id ++ token x.token
+
+pub record IsInsert (x : Insert) : Type 0 where
+  pub id : IsId x.id
+  pub token : IsToken x.token
+
+-- 13 bytes
+abbrev pub ballot : Ballot → List ℕ
+ballot b = to_be_bytes w64 b.round ++ to_be_bytes w32 b.epoch ++ b.site ∷ []
+
+pub record IsBallot (b : Ballot) : Type 0 where
+  pub round : b.round < 2 ^ 48
+  pub epoch : b.epoch < 2 ^ 32
+  pub site : b.site < 2
+
+-- 9 bytes
+abbrev pub place : Place → List ℕ
+place p = p.shard ∷ to_be_bytes w64 p.slot
+
+pub record IsPlace (p : Place) : Type 0 where
+  pub shard : p.shard < 16
+  pub slot : p.slot < 2 ^ 48
+
+-- the greatest byte at each place of a ballot's spelling, and of a place's
+abbrev pub ballot_limits : List ℕ
+ballot_limits = 0 ∷ 0 ∷ 255 ∷ 255 ∷ 255 ∷ 255 ∷ 255 ∷ 255 ∷ 255 ∷ 255 ∷ 255 ∷ 255 ∷ 1 ∷ []
+
+abbrev pub place_limits : List ℕ
+place_limits = 15 ∷ 0 ∷ 0 ∷ 255 ∷ 255 ∷ 255 ∷ 255 ∷ 255 ∷ 255 ∷ []
+
+-- one behind the other
+abbrev pub inserts : List Insert → List ℕ
+inserts [] = []
+inserts (x ∷ xs) = insert x ++ inserts xs
+
+-- 9 bytes, and 30 for each insert
+abbrev pub batch_head : ℕ → ℕ → List ℕ
+batch_head bound count = to_be_bytes w64 bound ++ count ∷ []
+
+abbrev pub batch : Batch → List ℕ
+batch b = batch_head b.bound (length b.inserts) ++ inserts b.inserts
+
+pub record IsBatch (b : Batch) : Type 0 where
+  pub bound : b.bound < 2 ^ 64
+  pub count : length b.inserts ≤ 64
+  pub inserts : Each IsInsert b.inserts
+
+abbrev pub batch_limits : List ℕ
+batch_limits = 255 ∷ 255 ∷ 255 ∷ 255 ∷ 255 ∷ 255 ∷ 255 ∷ 255 ∷ 64 ∷ []
+
+-- a tag, the place, the ballot, and of an accepted note the batch
+abbrev pub note : ReplicaNote → List ℕ
+note (Promised shard slot b) = 7 ∷ place (place_of shard slot) ++ ballot b
+note (Accepted shard slot b v) = 8 ∷ place (place_of shard slot) ++ ballot b ++ batch v
+
+abbrev pub IsNote : ReplicaNote → Type 0
+IsNote (Promised shard slot b) = IsPlace (place_of shard slot) × IsBallot b
+IsNote (Accepted shard slot b v) = IsPlace (place_of shard slot) × IsBallot b × IsBatch v
+
+-- a tag, and what the answer tells
+abbrev pub answer : Answer → List ℕ
+answer Granted = 0 ∷ []
+answer (Duplicate t) = 1 ∷ token t
+answer (TooOld bound) = 2 ∷ to_be_bytes w64 bound
+
+abbrev pub IsAnswer : Answer → Type 0
+IsAnswer Granted = Unit {0}
+IsAnswer (Duplicate t) = IsToken t
+IsAnswer (TooOld bound) = bound < 2 ^ 64
+
+-- the length in a byte, and the text
+abbrev pub text : List ℕ → List ℕ
+text t = length t ∷ t
+
+abbrev pub query : QueryRec → List ℕ
+query q = packed q.id ++ text q.text
+
+abbrev pub click : ClickRec → List ℕ
+click c = packed c.id ++ packed c.query ++ text c.text

@@ -1,0 +1,3 @@
+pub mod MemberLists
+pub mod EntryLists
+pub mod Outcomes

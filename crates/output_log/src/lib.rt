@@ -1,0 +1,14 @@
+//! A log of the pairs that were joined: each a click, its query, and the token under which they were joined.
+#![tactic(auto)]
+
+pub mod laws;
+mod log;
+mod pair;
+mod reading;
+pub mod rows;
+
+pub use log::OutputLog;
+pub use pair::{PairRec, pair_frame, read_pair};
+
+#[cfg(test)]
+mod tests;

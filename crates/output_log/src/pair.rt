@@ -1,0 +1,82 @@
+// A pair and its record.
+ghost use Rattle.std.specs.Prelude.{◌≡◌, ◌++◌, List, ℕ, Some, IfOk, IfSome, IfNone, MatchResult};
+ghost use Rattle.fields.specs.Stops.{IsMemory};
+ghost use Rattle.output_log.specs.Pairs.{pair_of, IsPair, fields_of, record_of, IsOther};
+
+use fields::{Field, FieldFault};
+use gate_journal::Frame;
+use log_records::{ClickRec, QueryRec};
+use registry_state::Token;
+use std::alloc::{AllocError, Global};
+use wire_core::{Bytes, Reader};
+
+/// The first byte of a record.
+const TAG: u8 = 6;
+
+/// The most bytes that a record has.
+pub(crate) const LONGEST: u32 = 465;
+
+/// A click, the query that it came from, and the token under which they were joined.
+#[derive(Debug, Drop)]
+pub struct PairRec {
+    pub click: ClickRec,
+    pub query: QueryRec,
+    pub token: Token,
+}
+
+/// The record of a pair as it is written to a log: the byte 06, the click, the query and the token. Two allocations.
+pub fn pair_frame(
+    alloc: Global,
+    click: &ClickRec,
+    query: &QueryRec,
+    token: Token,
+) -> Result<Frame, AllocError>
+    requires { IsPair (pair_of click.now query.now token) }
+    ensures { IfOk result (λ frame. frame ≡ record_of (pair_of click.now query.now token)) }
+{
+    let mut bytes = Bytes::with_capacity(alloc, LONGEST as usize)?;
+    bytes.put_u8(TAG)?;
+    click.put(&mut bytes)?;
+    query.put(&mut bytes)?;
+    token.put(&mut bytes)?;
+    Frame::new(alloc, bytes.as_slice())
+}
+
+/// The pair of a record, or None where it is no pair's. Linear in the record. It allocates the texts.
+pub fn read_pair(alloc: Global, payload: &[u8]) -> Result<Option<PairRec>, AllocError>
+    ensures found { IfOk result (λ read. IfSome read (λ pair. IsPair pair × (payload.now ≡ record_of pair))) }
+    ensures none { IfOk result (λ read. IfNone read (IsOther payload.now)) }
+    ensures only { (pair : PairRec) → IsPair pair → payload.now ≡ record_of pair → IfOk result (λ read. read ≡ Some pair) }
+{
+    let mut from = Reader::new(payload);
+    match from.take_u8() {
+        Ok(TAG) => {}
+        _ => return Ok(None),
+    }
+    match take_pair(alloc, &mut from) {
+        Ok(pair) => {
+            if from.rest().is_empty() {
+                Ok(Some(pair))
+            } else {
+                Ok(None)
+            }
+        }
+        Err(FieldFault::BadField { .. }) => Ok(None),
+        Err(FieldFault::Memory) => Err(AllocError),
+    }
+}
+
+// The pair whose fields what is left begins with.
+fn take_pair(alloc: Global, from: &mut Reader) -> Result<PairRec, FieldFault>
+    ensures found { IfOk result (λ pair. IsPair pair × (from.old ≡ fields_of pair ++ from.new)) }
+    ensures only { (pair : PairRec) (tail : List ℕ) → IsPair pair → from.old ≡ fields_of pair ++ tail → MatchResult result (λ read. (read ≡ pair) × (from.new ≡ tail)) IsMemory }
+{
+    let click = ClickRec::take(alloc, from)?;
+    let query = QueryRec::take(alloc, from)?;
+    let token = Token::take(alloc, from)?;
+    Ok(PairRec {
+        click,
+        query,
+        token,
+    })
+}
