@@ -1,5 +1,5 @@
 -- Exit statuses and the texts that go with them.
-use Rattle.std.specs.Prelude.{ℕ, ◌≡◌, List, ◌++◌, codes, decimal}
+use Rattle.std.specs.Prelude.{ℕ, List, ◌++◌, codes, decimal}
 use Rattle.log_records.specs.declared.why.Why.{Why}
 use Rattle.log_records.specs.declared.why.Why.TheVariants as why
 use Rattle.command_words.specs.declared.asked.WordsFault.{WordsFault}

@@ -1,5 +1,4 @@
-use Rattle.std.proofs.Common.{◌≡◌, inr, Err, sym, ap, subst, ◌∙◌}
-use Rattle.join_engine.specs.declared.fault.Fault.TheVariants as fault
+use Rattle.std.proofs.Common.{inr, Err, sym, ap, ◌∙◌}
 use Rattle.photon_cli.proofs.Ends.{line_of, names_line, memory_left, none_refused}
 use Rattle.photon_cli.proofs.command.join_command.Goals as goal
 

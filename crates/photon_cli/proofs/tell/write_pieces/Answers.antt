@@ -1,4 +1,4 @@
-use Rattle.std.proofs.Common.{◌≡◌, [], get_or, arith}
+use Rattle.std.proofs.Common.{[], get_or, arith}
 use Rattle.report_text.proofs.Streams.{get_or_itself}
 use Rattle.photon_cli.proofs.Pieces.{piece_written}
 use Rattle.photon_cli.proofs.tell.write_pieces.Goals as goal
