@@ -4,10 +4,10 @@ use Rattle.log_records.specs.declared.why.Why.{Why}
 use Rattle.log_records.specs.declared.why.Why.TheVariants as why
 use Rattle.command_words.specs.declared.asked.WordsFault.{WordsFault}
 use Rattle.command_words.specs.declared.asked.WordsFault.TheVariants as words_fault
-use Rattle.join_engine.specs.declared.fault.LogName.{LogName}
-use Rattle.join_engine.specs.declared.fault.LogName.TheVariants.{Queries, Clicks}
-use Rattle.join_engine.specs.declared.fault.Fault.{Fault}
-use Rattle.join_engine.specs.declared.fault.Fault.TheVariants as fault
+use Rattle.photon_cli.specs.declared.engine.fault.LogName.{LogName}
+use Rattle.photon_cli.specs.declared.engine.fault.LogName.TheVariants.{Queries, Clicks}
+use Rattle.photon_cli.specs.declared.engine.fault.Fault.{Fault}
+use Rattle.photon_cli.specs.declared.engine.fault.Fault.TheVariants as fault
 
 abbrev pub status_of : Fault → ℕ
 status_of (fault.Refused log line w) = 3

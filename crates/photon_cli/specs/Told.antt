@@ -2,10 +2,10 @@
 use Rattle.std.specs.Prelude.{ℕ, ◌≡◌, ◌⊎◌, List, ◌++◌, Option}
 use Rattle.command_words.specs.Words.{Text}
 use Rattle.log_records.specs.declared.check.BadLine.{BadLine}
-use Rattle.join_engine.specs.declared.fault.LogName.{LogName}
-use Rattle.join_engine.specs.declared.fault.Fault.{Fault}
-use Rattle.join_engine.specs.declared.fault.Fault.TheVariants as fault
-use Rattle.join_engine.specs.Join.{Prints, PrintsPrefix, Refuses, IsInvalid}
+use Rattle.photon_cli.specs.declared.engine.fault.LogName.{LogName}
+use Rattle.photon_cli.specs.declared.engine.fault.Fault.{Fault}
+use Rattle.photon_cli.specs.declared.engine.fault.Fault.TheVariants as fault
+use Rattle.photon_cli.specs.Join.{Prints, PrintsPrefix, Refuses, IsInvalid}
 use Rattle.photon_cli.specs.Words.{Reads}
 use Rattle.photon_cli.specs.Faults.{status_of, message}
 

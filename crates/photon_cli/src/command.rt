@@ -2,14 +2,14 @@
 ghost use Rattle.std.specs.Prelude.{◌≡◌, ◌≢◌, ◌⊎◌, ℕ, List, IsTrue};
 ghost use Rattle.outside.specs.Faults.{Counts, Rose};
 ghost use Rattle.log_records.specs.declared.check.BadLine.{BadLine as Bad};
-ghost use Rattle.join_engine.specs.declared.fault.LogName.{LogName as LogKind};
-ghost use Rattle.join_engine.specs.declared.fault.Fault.{Fault as Failure};
-ghost use Rattle.join_engine.specs.Join.{AreValid, Prints, PrintsPrefix, Refuses, IsInvalid};
+ghost use Rattle.photon_cli.specs.declared.engine.fault.LogName.{LogName as LogKind};
+ghost use Rattle.photon_cli.specs.declared.engine.fault.Fault.{Fault as Failure};
+ghost use Rattle.photon_cli.specs.Join.{AreValid, Prints, PrintsPrefix, Refuses, IsInvalid};
 ghost use Rattle.photon_cli.specs.Faults.{status_of};
 ghost use Rattle.photon_cli.specs.Told.{TellsOf};
 
+use crate::engine::join_logs;
 use crate::tell::{status, tell};
-use join_engine::join_logs;
 use outside::{Sink, Source};
 use std::alloc::Global;
 

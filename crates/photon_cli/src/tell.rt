@@ -4,9 +4,9 @@ ghost use Rattle.std.specs.List.{flat_map};
 ghost use Rattle.outside.specs.Faults.{Counts, Rose};
 ghost use Rattle.photon_cli.specs.Faults.{status_of, log_text, why_text, message};
 
+use crate::engine::{Fault, LogName};
 use clap::Error;
 use itoa::Buffer;
-use join_engine::{Fault, LogName};
 use log_records::Why;
 use outside::{Sink, WriteFault};
 use report_text::write_all;

@@ -1,8 +1,8 @@
 use Rattle.std.proofs.Common.{◌≡◌, ◌++◌, List, ℕ, codes, subst, sym, ap, ◌∙◌}
 use Rattle.std.specs.Result.{OnOk}
 use Rattle.std.proofs.lemmas.Result.{on_ok_weaker}
-use Rattle.join_engine.specs.declared.fault.Fault.{Fault}
-use Rattle.join_engine.specs.declared.fault.Fault.TheVariants as fault
+use Rattle.photon_cli.specs.declared.engine.fault.Fault.{Fault}
+use Rattle.photon_cli.specs.declared.engine.fault.Fault.TheVariants as fault
 use Rattle.photon_cli.specs.Faults.{message}
 use Rattle.photon_cli.proofs.tell.write_fault.Goals as goal
 

@@ -1,4 +1,0 @@
-pub mod ClaimAnswers
-pub mod Maps
-pub mod Pieces
-pub mod Refusals

@@ -1,0 +1,107 @@
+// The two logs, opened, read whole and checked.
+ghost use Rattle.std.specs.Prelude.{◌≡◌, ◌⊎◌, ℕ, List, IfOk, IfErr, IsSomeAnd, IsTrue, Err};
+ghost use Rattle.outside.specs.Faults.{Counts};
+ghost use Rattle.log_records.specs.declared.why.Why.{Why as Reason};
+ghost use Rattle.log_records.specs.Check.{IsQueryLog, IsClickLog, RefusesQuery, RefusesClick};
+ghost use Rattle.photon_cli.specs.declared.engine.fault.Fault.TheVariants as fault;
+ghost use Rattle.photon_cli.specs.declared.engine.fault.LogName.TheVariants.{Queries, Clicks};
+ghost use Rattle.photon_cli.specs.LogFaults.{IsLogFault, refusal_of};
+
+use super::fault::{Fault, LogName};
+use super::read::{ReadError, read_all};
+use log_records::{BadLine, ClickRec, QueryRec, Why, clicks_of, queries_of};
+use outside::{OpenFault, Source};
+use std::alloc::Global;
+
+/// Opens the log of that name.
+fn open_log<F: Source>(
+    alloc: Global,
+    files: &mut F,
+    name: &str,
+    log: LogName,
+) -> Result<F::Log, Fault>
+    ensures bytes { IsTrue F.Log.tells → IfOk result (λ file. IsSomeAnd (F.bytes files.old name.now) (λ bytes. F.Log.bytes file ≡ bytes)) }
+    ensures fresh { IfOk result (λ file. F.Log.faults file ≡ 0) }
+    ensures same { IsTrue F.Log.tells → (n : List ℕ) → F.bytes files.new n ≡ F.bytes files.old n }
+    ensures fault { IfErr result (λ f. (f ≡ fault.Read log) ⊎ (f ≡ fault.Memory)) }
+    ensures count { Counts (F.faults files.old) (F.faults files.new) (result ≡ Err (fault.Read log)) }
+{
+    match files.open(alloc, name) {
+        Ok(file) => Ok(file),
+        Err(OpenFault::Read) => Err(Fault::Read(log)),
+        Err(OpenFault::Memory) => Err(Fault::Memory),
+    }
+}
+
+/// All bytes of the log of that name.
+fn read_log<F: Source>(
+    alloc: Global,
+    files: &mut F,
+    name: &str,
+    log: LogName,
+) -> Result<Vec<u8>, Fault>
+    ensures bytes { IsTrue F.Log.tells → IfOk result (λ v. IsSomeAnd (F.bytes files.old name.now) (λ bytes. v.items ≡ bytes)) }
+    ensures same { IsTrue F.Log.tells → (n : List ℕ) → F.bytes files.new n ≡ F.bytes files.old n }
+    ensures fault { IfErr result (λ f. (f ≡ fault.Read log) ⊎ (f ≡ fault.Memory)) }
+    ensures count { Counts (F.faults files.old) (F.faults files.new) (result ≡ Err (fault.Read log)) }
+{
+    let mut file = open_log(alloc, files, name, log)?;
+    let read = read_all(alloc, &mut file);
+    files.shut(file);
+    match read {
+        Ok(bytes) => Ok(bytes),
+        Err(ReadError::Read) => Err(Fault::Read(log)),
+        Err(ReadError::Memory) => Err(Fault::Memory),
+    }
+}
+
+/// Checks the whole query log, and gives its queries in their order.
+pub fn queries_in_log<F: Source>(
+    alloc: Global,
+    files: &mut F,
+    name: &str,
+) -> Result<Vec<QueryRec>, Fault>
+    ensures found { IsTrue F.Log.tells → IfOk result (λ v. IsSomeAnd (F.bytes files.old name.now) (λ log. IsQueryLog log v.items)) }
+    ensures refused { IsTrue F.Log.tells → (line : ℕ) (w : Reason) → result ≡ Err (fault.Refused Queries line w) → IsSomeAnd (F.bytes files.old name.now) (λ log. RefusesQuery log (record { line = line; why = w })) }
+    ensures same { IsTrue F.Log.tells → (n : List ℕ) → F.bytes files.new n ≡ F.bytes files.old n }
+    ensures fault { IfErr result (IsLogFault Queries) }
+    ensures count { Counts (F.faults files.old) (F.faults files.new) (result ≡ Err (fault.Read Queries)) }
+{
+    let bytes = read_log(alloc, files, name, LogName::Queries)?;
+    match queries_of(alloc, &bytes) {
+        Ok(queries) => Ok(queries),
+        Err(bad) => Err(refused(LogName::Queries, bad)),
+    }
+}
+
+/// Checks the whole click log, and gives its clicks in their order.
+pub fn clicks_in_log<F: Source>(
+    alloc: Global,
+    files: &mut F,
+    name: &str,
+) -> Result<Vec<ClickRec>, Fault>
+    ensures found { IsTrue F.Log.tells → IfOk result (λ v. IsSomeAnd (F.bytes files.old name.now) (λ log. IsClickLog log v.items)) }
+    ensures refused { IsTrue F.Log.tells → (line : ℕ) (w : Reason) → result ≡ Err (fault.Refused Clicks line w) → IsSomeAnd (F.bytes files.old name.now) (λ log. RefusesClick log (record { line = line; why = w })) }
+    ensures same { IsTrue F.Log.tells → (n : List ℕ) → F.bytes files.new n ≡ F.bytes files.old n }
+    ensures fault { IfErr result (IsLogFault Clicks) }
+    ensures count { Counts (F.faults files.old) (F.faults files.new) (result ≡ Err (fault.Read Clicks)) }
+{
+    let bytes = read_log(alloc, files, name, LogName::Clicks)?;
+    match clicks_of(alloc, &bytes) {
+        Ok(clicks) => Ok(clicks),
+        Err(bad) => Err(refused(LogName::Clicks, bad)),
+    }
+}
+
+fn refused(log: LogName, bad: BadLine) -> Fault
+    ensures { result ≡ refusal_of log bad }
+{
+    match bad.why {
+        Why::Memory => Fault::Memory,
+        why => Fault::Refused {
+            log,
+            line: bad.line,
+            why,
+        },
+    }
+}
