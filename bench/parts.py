@@ -1,0 +1,137 @@
+#!/usr/bin/env python3
+"""Times parts of the pipeline, side by side with the same work in Rust over std, in one run, and prints ratios.
+
+usage: bench/parts.py [COUNT]      (default: 1000000)
+
+The program `bench_parts` does one part COUNT times: `apply` (inserts in batches of 64), `replay` (each insert asked once
+more, behind the applying), `encode` and `decode` (an Insert packet). Each is timed as a process, the best of three, less the same
+process with the part `none`. Where there is no rustc the Rust column is left out. Nothing is written outside a temporary folder.
+"""
+import os
+import shutil
+import subprocess
+import sys
+import tempfile
+import time
+
+TOP = os.path.dirname(os.path.dirname(os.path.abspath(__file__)))
+CRATE = os.path.join(TOP, "crates/bench_parts")
+PARTS = ["apply", "apply_timed", "replay", "encode", "decode"]
+
+RUST = r"""
+use std::collections::HashMap;
+type Id = (u32, u32, u64);
+type Token = (u16, u32, u64);
+fn insert(n: u32) -> (Id, Token) {
+    ((0x0A00_0101, n.wrapping_mul(2_654_435_761) >> 26, n as u64), (7, 1, n as u64))
+}
+fn batch(number: u32) -> Vec<(Id, Token)> {
+    (0..64).map(|k| insert(number * 64 + k)).collect()
+}
+fn apply_all(count: u32) -> (HashMap<Id, Token>, u64) {
+    let mut held = HashMap::new();
+    let mut granted = 0;
+    for number in 0..count / 64 {
+        let batch = batch(number);
+        let answers: Vec<bool> = batch.iter().map(|(id, token)| *held.entry(*id).or_insert(*token) == *token).collect();
+        granted += answers.iter().filter(|a| **a).count() as u64;
+    }
+    (held, granted)
+}
+fn encode(n: u32) -> Vec<u8> {
+    let (id, token) = insert(n);
+    let mut bytes = Vec::with_capacity(31);
+    bytes.push(0x13);
+    bytes.extend_from_slice(&id.0.to_be_bytes());
+    bytes.extend_from_slice(&id.1.to_be_bytes());
+    bytes.extend_from_slice(&id.2.to_be_bytes());
+    bytes.extend_from_slice(&token.0.to_be_bytes());
+    bytes.extend_from_slice(&token.1.to_be_bytes());
+    bytes.extend_from_slice(&token.2.to_be_bytes());
+    bytes
+}
+fn decode(b: &[u8]) -> Option<(Id, Token)> {
+    if b.len() != 31 || b[0] != 0x13 { return None; }
+    let u32_at = |at: usize| u32::from_be_bytes(b[at..at + 4].try_into().unwrap());
+    let u64_at = |at: usize| u64::from_be_bytes(b[at..at + 8].try_into().unwrap());
+    Some(((u32_at(1), u32_at(5), u64_at(9)), (u16::from_be_bytes(b[17..19].try_into().unwrap()), u32_at(19), u64_at(23))))
+}
+fn main() {
+    let words: Vec<String> = std::env::args().collect();
+    let count: u32 = words[2].parse().unwrap();
+    let done = match words[1].as_str() {
+        "apply" | "apply_timed" => apply_all(count).1,
+        "replay" => {
+            let (held, _) = apply_all(count);
+            (0..count / 64 * 64).filter(|n| { let (id, token) = insert(*n); held.get(&id) == Some(&token) }).count() as u64
+        }
+        "encode" => (0..count).map(|n| encode(n).len() as u64).sum(),
+        "decode" => {
+            let mut bytes = encode(0);
+            let mut sum = 0;
+            for n in 0..count {
+                let len = bytes.len();
+                bytes[len - 1] = n as u8;
+                sum += decode(&bytes).map_or(0, |i| i.1 .2);
+            }
+            sum
+        }
+        _ => 0,
+    };
+    println!("{done}");
+}
+"""
+
+
+def seconds(words):
+    """The best of three runs, and what was printed."""
+    best, printed = None, ""
+    for _ in range(3):
+        begin = time.perf_counter()
+        done = subprocess.run(words, capture_output=True, text=True, check=True)
+        spent = time.perf_counter() - begin
+        best, printed = (spent if best is None else min(best, spent)), done.stdout.strip()
+    return best, printed
+
+
+def rust_program(folder):
+    if shutil.which("rustc") is None:
+        print("no rustc: the Rust column is left out")
+        return None
+    source, program = os.path.join(folder, "parts.rs"), os.path.join(folder, "parts")
+    with open(source, "w", encoding="ascii") as file:
+        file.write(RUST)
+    subprocess.run(["rustc", "-O", "--edition", "2021", "-o", program, source], check=True)
+    return program
+
+
+def main():
+    count = sys.argv[1] if len(sys.argv) > 1 else "1000000"
+    ours = os.path.join(CRATE, "out/bench_parts")
+    if shutil.which("rt") is not None:
+        print("building bench_parts; from nothing this takes some minutes", file=sys.stderr)
+        subprocess.run(["rt", "run", "--", "none"], cwd=CRATE, stdout=subprocess.DEVNULL, stderr=subprocess.DEVNULL, check=False)
+    if not os.path.exists(ours):
+        print("bench_parts isn't built: nothing timed")
+        return 1
+    with tempfile.TemporaryDirectory() as folder:
+        rust = rust_program(folder)
+        programs = [("photon", ours)] + ([("rust", rust)] if rust else [])
+        idle = {name: seconds([path, "none", count])[0] for name, path in programs}
+        for part in PARTS:
+            spent, printed = {}, set()
+            for name, path in programs:
+                whole, text = seconds([path, part, count])
+                spent[name] = max(whole - idle[name], 1e-9)
+                printed.add(text)
+            line = f"{part:12} {int(count) / spent['photon'] / 1e6:8.2f} million a second"
+            if rust:
+                line += f"; time by Rust's over std: {spent['photon'] / spent['rust']:.2f}"
+            if len(printed) > 1:
+                line += f"; DIFFERENT ANSWERS {sorted(printed)}"
+            print(line)
+    return 0
+
+
+if __name__ == "__main__":
+    sys.exit(main())

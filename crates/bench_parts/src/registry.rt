@@ -1,0 +1,58 @@
+// Batches of 64 inserts, applied and asked again.
+use event_id::EventId;
+use registry_state::{Answer, Batch, Insert, Inserts, Registry, Token};
+use std::alloc::{AllocError, Global};
+
+/// How many inserts a batch has.
+const BATCH: u32 = 64;
+
+/// Applies batches with this many inserts in all, rounded down to whole batches, and answers how many were granted.
+pub fn apply(alloc: Global, count: u32) -> Result<u64, AllocError> {
+    let mut registry = Registry::new(alloc);
+    let mut granted = 0;
+    for number in 0..count / BATCH {
+        let answers = registry.apply(&batch(alloc, number)?)?;
+        granted += answers.as_slice().iter().filter(|a| **a == Answer::Granted).count() as u64;
+    }
+    Ok(granted)
+}
+
+/// The same, and then asks for each insert once more.
+pub fn replay(alloc: Global, count: u32) -> Result<u64, AllocError> {
+    let mut registry = Registry::new(alloc);
+    for number in 0..count / BATCH {
+        registry.apply(&batch(alloc, number)?)?;
+    }
+    let mut granted = 0;
+    for number in 0..count / BATCH * BATCH {
+        let insert = insert(number);
+        if registry.replay(insert.id, insert.token) == Some(Answer::Granted) {
+            granted += 1;
+        }
+    }
+    Ok(granted)
+}
+
+fn batch(alloc: Global, number: u32) -> Result<Batch, AllocError> {
+    let mut inserts = Inserts::new(alloc);
+    for k in 0..BATCH {
+        inserts.push(insert(number.wrapping_mul(BATCH).wrapping_add(k)))?;
+    }
+    Ok(Batch { bound: 0, inserts })
+}
+
+// Clicks of one server and 64 processes, under the tokens of one joiner.
+fn insert(number: u32) -> Insert {
+    Insert {
+        id: EventId {
+            ip: 0x0A00_0101,
+            pid: number.wrapping_mul(2_654_435_761) >> 26,
+            micros: u64::from(number),
+        },
+        token: Token {
+            joiner: 7,
+            epoch: 1,
+            number: u64::from(number),
+        },
+    }
+}
