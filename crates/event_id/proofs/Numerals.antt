@@ -1,14 +1,14 @@
 -- Numbers in decimal.
-use Rattle.std.proofs.Common.{◌≡◌, ◌≢◌, ℕ, ◌^◌, ◌<◌, ◌⊎◌, inl, inr, List, [], ◌∷◌, length, get_or, Option, Some, None, Result, Ok, Err, refl, sym, ap, subst, ◌∙◌, arith, decimal}
-use Rattle.std.specs.Option.{IsSomeAnd}
+use Rattle.std.proofs.Common.{◌≡◌, ◌≢◌, ℕ, ◌^◌, ◌+◌, ◌-◌, ◌*◌, ◌/◌, ◌%◌, ◌<◌, ◌≤◌, ◌++◌, append_assoc, ◌⊎◌, inl, inr, List, [], ◌∷◌, length, get_or, Option, Some, None, Result, Ok, Err, refl, sym, ap, subst, ◌∙◌, arith, rules, decimal}
 use Rattle.std.specs.Result.{MatchResult, result_ok}
+use Rattle.std.specs.Char.{IsAsciiDigit}
 use Rattle.std.specs.Str.Parse.{AllDigits, digits_value, ParsesUnsigned}
-use Rattle.std.proofs.lemmas.Str.Parse.{IsNumeralModel, numerals_by_value, tells_digits, parse_plain, digit_from_value}
-use Rattle.std.proofs.lemmas.Fmt.{digits_decimal, decimal-digits_value, first_decimal, decimal_digit}
+use Rattle.std.proofs.lemmas.Str.Parse.{IsNumeralModel, numerals_by_value, tells_digits, parse_plain, digit_from_value, numerals_by_fold}
+use Rattle.std.proofs.lemmas.Fmt.{digits_decimal, digits_value-decimal, decimal-digits_value, decimal_nonempty, first_decimal, decimal_digit, decimal_step, decimal_injective}
 use Rattle.std.proofs.lemmas.Bool.{cases_lt}
 use Rattle.std.proofs.lemmas.Result.{OkIff-at_ok}
 use Rattle.byte_split.specs.Bytes.{Lacks}
-use Rattle.event_id.specs.Numeral.{HasPlainFront}
+use Rattle.event_id.specs.Numeral.{HasPlainFront, BeginsWithNoDigit}
 
 own : IsNumeralModel (AllDigits 10) (digits_value 10)
 own = numerals_by_value (AllDigits 10) tells_digits
@@ -68,11 +68,89 @@ ok_kept (Err d) x e = absurd cc
 pub none_is_some : {A : Type 0} (x : A) → ◌≡◌ {A = Option A} None (Some x) → ⊥
 none_is_some x e = absurd cc
 
--- of an option that is known to have a value
-pub some_is : {A : Type 0} {o : Option A} {x : A} (P : A → Type 0) → IsSomeAnd o P → o ≡ Some x → P x
-some_is {o = None} P h e = absurd h
-some_is {o = Some y} {x} P h e = let same : y ≡ x = cc in subst P same h
+-- ---- a number that a text begins with
 
-pub some_there : {A : Type 0} {o : Option A} (P : A → Type 0) → IsSomeAnd o P → o ≡ None → ⊥
-some_there {o = None} P h e = h
-some_there {o = Some y} P h e = absurd cc
+-- what digits behind a number make of it
+abbrev read_on : ℕ → List ℕ → ℕ
+read_on n [] = n
+read_on n (d ∷ ds) = read_on (10 * n + (d - 48)) ds
+
+folded : IsNumeralModel (AllDigits 10) (read_on 0)
+folded = numerals_by_fold (AllDigits 10) tells_digits read_on (search rules)
+
+read_on_grows : (n : ℕ) (ds : List ℕ) → n ≤ read_on n ds
+read_on_grows n [] = omega arith
+read_on_grows n (d ∷ ds) = omega (arith, read_on_grows (10 * n + (d - 48)) ds)
+
+-- digits end at the first byte that is none
+digits_end : (xs ys rest rest' : List ℕ) → AllDigits 10 xs → AllDigits 10 ys → BeginsWithNoDigit rest → BeginsWithNoDigit rest' → xs ++ rest ≡ ys ++ rest' → (xs ≡ ys) × (rest ≡ rest')
+digits_end [] [] rest rest' h k p q e = (refl, e)
+digits_end [] (y ∷ ys) [] rest' h k p q e = absurd cc
+digits_end [] (y ∷ ys) (b ∷ rest) rest' h k p q e = let same : b ≡ y = cc in absurd (p (subst IsAsciiDigit (sym same) (digit_from_value y k.0)))
+digits_end (x ∷ xs) [] rest [] h k p q e = absurd cc
+digits_end (x ∷ xs) [] rest (b ∷ rest') h k p q e = let same : b ≡ x = cc in absurd (q (subst IsAsciiDigit (sym same) (digit_from_value x h.0)))
+digits_end (x ∷ xs) (y ∷ ys) rest rest' h k p q e =
+    let first : x ≡ y = cc in
+    let behind : xs ++ rest ≡ ys ++ rest' = cc in
+    let more = digits_end xs ys rest rest' h.1 k.1 p q behind in
+    (cc (more.0), more.1)
+
+-- a number that goes on with a digit is no smaller than the digit makes it
+digits_go_on : (n : ℕ) (xs ys : List ℕ) (d : ℕ) (behind rest : List ℕ) → AllDigits 10 xs → AllDigits 10 ys → d < 10 → BeginsWithNoDigit rest → xs ++ (48 + d) ∷ behind ≡ ys ++ rest → 10 * read_on n xs + d ≤ read_on n ys
+digits_go_on n [] [] d behind [] h k digit q e = absurd cc
+digits_go_on n [] [] d behind (b ∷ rest) h k digit q e = let same : 48 + d ≡ b = cc in absurd (q (omega arith, omega arith))
+digits_go_on n [] (y ∷ ys) d behind rest h k digit q e =
+    let first : 48 + d ≡ y = cc in
+    omega (arith, read_on_grows (10 * n + (y - 48)) ys)
+digits_go_on n (x ∷ xs) [] d behind [] h k digit q e = absurd cc
+digits_go_on n (x ∷ xs) [] d behind (b ∷ rest) h k digit q e = let same : b ≡ x = cc in absurd (q (subst IsAsciiDigit (sym same) (digit_from_value x h.0)))
+digits_go_on n (x ∷ xs) (y ∷ ys) d behind rest h k digit q e =
+    let first : x ≡ y = cc in
+    let more : xs ++ (48 + d) ∷ behind ≡ ys ++ rest = cc in
+    rw (← first) (digits_go_on (10 * n + (x - 48)) xs ys d behind rest h.1 k.1 digit q more)
+
+-- one more digit of the number that a text begins with
+pub number_more : (text text' behind : List ℕ) (n d : ℕ) → 0 < n → d < 10 → n * 10 + d < 2 ^ 64 → text ≡ decimal n ++ text' → text' ≡ (48 + d) ∷ behind → text ≡ decimal (n * 10 + d) ++ behind
+number_more text text' behind n d some digit lt e f =
+    let m : ℕ = n * 10 + d in
+    let front : m / 10 ≡ n = omega arith in
+    let last : m % 10 ≡ d = omega arith in
+    e ∙ rw (f, decimal_step m (omega arith) lt, front, last, append_assoc) refl
+
+-- a text begins with one number
+pub number_same : (text rest rest' : List ℕ) (m n : ℕ) → m < 2 ^ 64 → n < 2 ^ 64 → BeginsWithNoDigit rest → BeginsWithNoDigit rest' → text ≡ decimal m ++ rest → text ≡ decimal n ++ rest' → (m ≡ n) × (rest ≡ rest')
+number_same text rest rest' m n lt lt' p q e f =
+    let parts = digits_end (decimal m) (decimal n) rest rest' (digits_decimal own m lt) (digits_decimal own n lt') p q (sym e ∙ f) in
+    (decimal_injective m n lt lt' parts.0, parts.1)
+
+-- the number that a text begins with is no smaller than its first digits make it
+pub number_reaches : (text text' behind rest : List ℕ) (m d n : ℕ) → m < 2 ^ 64 → n < 2 ^ 64 → d < 10 → BeginsWithNoDigit rest → text ≡ decimal m ++ text' → text' ≡ (48 + d) ∷ behind → text ≡ decimal n ++ rest → m * 10 + d ≤ n
+number_reaches text text' behind rest m d n lt lt' digit q e f g =
+    let same : decimal m ++ (48 + d) ∷ behind ≡ decimal n ++ rest = rw (← f) (sym e ∙ g) in
+    let more = digits_go_on 0 (decimal m) (decimal n) d behind rest (digits_decimal own m lt) (digits_decimal own n lt') digit q same in
+    omega (arith, more, digits_value-decimal folded m lt, digits_value-decimal folded n lt')
+
+digits_begin : (ds rest : List ℕ) → AllDigits 10 ds → 0 < length ds → BeginsWithNoDigit (ds ++ rest) → ⊥
+digits_begin [] rest h some ends = omega arith
+digits_begin (d ∷ ds) rest h some ends = ends (digit_from_value d h.0)
+
+-- a number begins with a digit
+pub no_number : (text rest : List ℕ) (n : ℕ) → n < 2 ^ 64 → BeginsWithNoDigit text → text ≡ decimal n ++ rest → ⊥
+no_number text rest n lt ends e = digits_begin (decimal n) rest (digits_decimal own n lt) (decimal_nonempty n lt) (subst BeginsWithNoDigit e ends)
+
+-- a digit is a number
+pub number_begins : (text behind : List ℕ) (d : ℕ) → d < 10 → text ≡ (48 + d) ∷ behind → text ≡ decimal d ++ behind
+number_begins text behind d digit e = e ∙ rw (decimal_digit d digit) refl
+
+zero_first : (ds behind rest : List ℕ) → 48 < get_or ds 0 0 → 48 ∷ behind ≡ ds ++ rest → ⊥
+zero_first [] behind rest h e = omega arith
+zero_first (d ∷ ds) behind rest h e = let same : 48 ≡ d = cc in omega arith
+
+-- a number that begins with a zero is zero
+pub number_zero : (text behind rest : List ℕ) (d n : ℕ) → d ≡ 0 → n < 2 ^ 64 → text ≡ (48 + d) ∷ behind → text ≡ decimal n ++ rest → (0 ≡ n) × (behind ≡ rest)
+number_zero text behind rest d n zero lt e f =
+    let here : 48 ∷ behind ≡ decimal n ++ rest = sym (e ∙ ap (λ k. (48 + k) ∷ behind) zero) ∙ f in
+    elim (cases_lt 0 n) [
+      | inl some ↦ absurd (zero_first (decimal n) behind rest (first_decimal n some lt) here)
+      | inr none ↦ let is : 0 ≡ n = omega arith in let all : 48 ∷ behind ≡ 48 ∷ rest = here ∙ rw (← is, decimal_digit 0 (omega arith)) refl in (is, cc)
+    ]

@@ -49,21 +49,33 @@ dotted_is ip = refl
 pub octet_lacks : (n : ℕ) → n < 256 → Lacks dot (decimal n)
 octet_lacks n h = decimal_lacks dot n (inl (omega arith)) (omega arith)
 
--- the parts of a dotted text, joined
-pub dotted_joins : (text a rest b rest' c d : List ℕ) (k l m n : ℕ) → k < 256 → l < 256 → m < 256 → n < 256 → text ≡ a ++ dot ∷ rest → rest ≡ b ++ dot ∷ rest' → rest' ≡ c ++ dot ∷ d
-    → a ≡ decimal k → b ≡ decimal l → c ≡ decimal m → d ≡ decimal n → text ≡ dotted (from_be_bytes w32 (k ∷ l ∷ m ∷ n ∷ []))
-dotted_joins text a rest b rest' c d k l m n p q r s e f g h i j o =
-    let all : text ≡ decimal k ++ dot ∷ (decimal l ++ dot ∷ (decimal m ++ dot ∷ decimal n)) = rw (e, f, g, h, i, j, o) refl in
-    all ∙ sym (dotted_of k l m n p q r s)
+-- what follows each dot of an address with its colon
+abbrev pub behind_third : ℕ → List ℕ → List ℕ
+behind_third ip rest = decimal (ip % 256) ++ colon ∷ rest
+
+abbrev pub behind_second : ℕ → List ℕ → List ℕ
+behind_second ip rest = decimal (ip / 2 ^ 8 % 256) ++ dot ∷ behind_third ip rest
+
+abbrev pub behind_first : ℕ → List ℕ → List ℕ
+behind_first ip rest = decimal (ip / 2 ^ 16 % 256) ++ dot ∷ behind_second ip rest
+
+pub address_is : (ip : ℕ) (rest : List ℕ) → dotted ip ++ colon ∷ rest ≡ decimal (ip / 2 ^ 24) ++ dot ∷ behind_first ip rest
+unfolding dotted
+address_is ip rest = simp append_assoc
+
+-- the parts of an address with its colon, joined
+pub address_joins : (text behind-a behind-b behind-c rest : List ℕ) (a b c d : ℕ) → a < 256 → b < 256 → c < 256 → d < 256 → text ≡ decimal a ++ dot ∷ behind-a → behind-a ≡ decimal b ++ dot ∷ behind-b → behind-b ≡ decimal c ++ dot ∷ behind-c
+    → behind-c ≡ decimal d ++ colon ∷ rest → text ≡ dotted (from_be_bytes w32 (a ∷ b ∷ c ∷ d ∷ [])) ++ colon ∷ rest
+address_joins text behind-a behind-b behind-c rest a b c d p q r s e f g h = rw (e, f, g, h, dotted_of a b c d p q r s) (simp append_assoc)
 
 -- an address from its four bytes, known to be those of ip
 pub address_of : (k l m n ip : ℕ) → ip < 2 ^ 32 → k ≡ ip / 2 ^ 24 → l ≡ ip / 2 ^ 16 % 256 → m ≡ ip / 2 ^ 8 % 256 → n ≡ ip % 256 → from_be_bytes w32 (k ∷ l ∷ m ∷ n ∷ []) ≡ ip
 address_of k l m n ip lt p q r s = rw (p, q, r, s) (bytes_of ip lt)
 
 -- the parts of an id's text, joined
-pub spell_joins : (text a rest b c : List ℕ) (ip pid micros : ℕ) → text ≡ a ++ colon ∷ rest → rest ≡ b ++ colon ∷ c → a ≡ dotted ip → b ≡ decimal pid → c ≡ decimal micros → text ≡ spell (record { ip = ip; pid = pid; micros = micros })
+pub spell_joins : (text behind-ip behind-pid : List ℕ) (ip pid micros : ℕ) → text ≡ dotted ip ++ colon ∷ behind-ip → behind-ip ≡ decimal pid ++ colon ∷ behind-pid → behind-pid ≡ decimal micros → text ≡ spell (record { ip = ip; pid = pid; micros = micros })
 unfolding spell
-spell_joins text a rest b c ip pid micros e f g h i = rw (e, f, g, h, i) refl
+spell_joins text behind-ip behind-pid ip pid micros e f g = rw (e, f, g) refl
 
 -- what follows the first colon
 abbrev pub after_address : EventId → List ℕ

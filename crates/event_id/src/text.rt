@@ -1,14 +1,13 @@
 // The text of an id, `a.b.c.d:pid:micros`, in decimal without leading zeros.
-ghost use Rattle.std.specs.Prelude.{◌≡◌, ◌≢◌, ◌≤◌, ◌<◌, ◌^◌, ◌+◌, ℕ, List, [], length, take, ◌∷◌, ◌++◌, ◌==◌, IfSome, IfOk, IsSomeAnd, decimal, position};
-ghost use Rattle.std.specs.Bool.{OnTrue, OnFalse};
-ghost use Rattle.event_id.specs.Numeral.{HasPlainFront};
-ghost use Rattle.event_id.specs.EventId.{dotted, spell, IsId};
+ghost use Rattle.std.specs.Prelude.{◌≡◌, ◌≤◌, ◌<◌, ◌^◌, ◌+◌, ◌*◌, ℕ, List, [], length, take, ◌∷◌, ◌++◌, IfSome, IfNone, IfOk, IsSomeAnd, decimal};
+ghost use Rattle.std.specs.Char.{IsAsciiDigit};
+ghost use Rattle.std.specs.Option.{SomeIff};
+ghost use Rattle.event_id.specs.Numeral.{BeginsWithNoDigit};
+ghost use Rattle.event_id.specs.EventId.{colon, dotted, spell, IsId};
 
 use crate::EventId;
-use byte_split::split_once;
 use itoa::Buffer;
 use std::alloc::{AllocError, Global};
-use std::str;
 
 /// The length of the longest text, in bytes.
 pub const MAX_TEXT: usize = 47;
@@ -44,7 +43,8 @@ pub struct BadId;
 
 /// Reads the text of an id, all of the bytes: `a.b.c.d:pid:micros`, in decimal without leading zeros.
 ///
-/// Linear in the text, which is cut from the front to the end; nothing is allocated or copied.
+/// One pass: each byte of the text is looked at once, a separator where the digits before it stop; nothing is allocated.
+/// It stops at the first byte that is wrong, and where a number exceeds 64 bits.
 pub fn parse(text: &[u8]) -> Result<EventId, BadId>
     // What is read is spelled so.
     ensures found { IfOk result (λ id. IsId id × (text.now ≡ spell id)) }
@@ -58,50 +58,113 @@ fn fields(text: &[u8]) -> Option<EventId>
     ensures found { IfSome result (λ id. IsId id × (text.now ≡ spell id)) }
     ensures only { (id : _) → IsId id → text.now ≡ spell id → result ≡ Some id }
 {
-    let (ip, rest) = split_once(text, b':')?;
-    let (pid, micros) = split_once(rest, b':')?;
+    let (ip, rest) = take_address(text)?;
+    let (pid, rest) = take_part(rest, u64::from(u32::MAX), b':')?;
     Some(EventId {
-        ip: address(ip)?,
-        pid: number(pid, u64::from(u32::MAX))? as u32,
-        micros: number(micros, u64::MAX)?,
+        ip,
+        pid: pid as u32,
+        micros: last_number(rest, u64::MAX)?,
     })
 }
 
-fn address(text: &[u8]) -> Option<u32>
-    ensures found { IfSome result (λ ip. text.now ≡ dotted ip) }
-    ensures only { (ip : ℕ) → ip < 2 ^ 32 → text.now ≡ dotted ip → result ≡ Some ip }
+// The address that the text begins with, and what stands behind its colon.
+fn take_address(text: &[u8]) -> Option<(u32, &[u8])>
+    ensures found { IfSome result (λ taken. (taken.0 < 2 ^ 32) × (text.now ≡ dotted taken.0 ++ colon ∷ taken.1.now)) }
+    ensures only { (ip : ℕ) (rest : List ℕ) → ip < 2 ^ 32 → text.now ≡ dotted ip ++ colon ∷ rest
+        → IsSomeAnd result (λ taken. (taken.0 ≡ ip) × (taken.1.now ≡ rest)) }
 {
-    let (a, rest) = split_once(text, b'.')?;
-    let (b, rest) = split_once(rest, b'.')?;
-    let (c, d) = split_once(rest, b'.')?;
-    Some(u32::from_be_bytes([octet(a)?, octet(b)?, octet(c)?, octet(d)?]))
+    let (a, rest) = take_octet(text, b'.')?;
+    let (b, rest) = take_octet(rest, b'.')?;
+    let (c, rest) = take_octet(rest, b'.')?;
+    let (d, rest) = take_octet(rest, b':')?;
+    Some((u32::from_be_bytes([a, b, c, d]), rest))
 }
 
-fn octet(text: &[u8]) -> Option<u8>
-    ensures found { IfSome result (λ n. text.now ≡ decimal n) }
-    ensures only { (n : ℕ) → n < 256 → text.now ≡ decimal n → result ≡ Some n }
+fn take_octet(text: &[u8], after: u8) -> Option<(u8, &[u8])>
+    requires { IsAsciiDigit after → ⊥ }
+    ensures found { IfSome result (λ taken. (taken.0 < 256) × (text.now ≡ decimal taken.0 ++ after ∷ taken.1.now)) }
+    ensures only { (n : ℕ) (rest : List ℕ) → n < 256 → text.now ≡ decimal n ++ after ∷ rest
+        → IsSomeAnd result (λ taken. (taken.0 ≡ n) × (taken.1.now ≡ rest)) }
 {
-    Some(number(text, 255)? as u8)
+    let (octet, rest) = take_part(text, 255, after)?;
+    Some((octet as u8, rest))
 }
 
-// The number that the text is in decimal, without a sign or leading zeros.
-fn number(text: &[u8], limit: u64) -> Option<u64>
+// The number that the text begins with, and what stands behind the separator after it.
+fn take_part(text: &[u8], limit: u64, after: u8) -> Option<(u64, &[u8])>
+    requires { IsAsciiDigit after → ⊥ }
+    ensures found { IfSome result (λ taken. (taken.0 ≤ limit) × (text.now ≡ decimal taken.0 ++ after ∷ taken.1.now)) }
+    ensures only { (n : ℕ) (rest : List ℕ) → n ≤ limit → text.now ≡ decimal n ++ after ∷ rest
+        → IsSomeAnd result (λ taken. (taken.0 ≡ n) × (taken.1.now ≡ rest)) }
+{
+    let (number, rest) = take_number(text, limit)?;
+    match rest {
+        [byte, rest @ ..] if *byte == after => Some((number, rest)),
+        _ => None,
+    }
+}
+
+// The number that is all of the text.
+fn last_number(text: &[u8], limit: u64) -> Option<u64>
     ensures found { IfSome result (λ n. (n ≤ limit) × (text.now ≡ decimal n)) }
     ensures only { (n : ℕ) → n ≤ limit → text.now ≡ decimal n → result ≡ Some n }
 {
-    if !has_plain_front(text) {
-        return None;
+    match take_number(text, limit)? {
+        (number, []) => Some(number),
+        _ => None,
     }
-    let n: u64 = str::from_utf8(text).ok()?.parse().ok()?;
-    if n <= limit { Some(n) } else { None }
 }
 
-// Whether the text begins with neither a plus sign nor a leading zero, which `u64::parse` would take.
-fn has_plain_front(text: &[u8]) -> bool
-    ensures plain { OnTrue result (HasPlainFront text.now) }
-    ensures other { OnFalse result (HasPlainFront text.now → ⊥) }
+// The number that the text begins with, in decimal without a sign or leading zeros, and what stands behind it. Behind
+// a zero more digits may stand.
+fn take_number(text: &[u8], limit: u64) -> Option<(u64, &[u8])>
+    ensures found { IfSome result (λ taken. (taken.0 ≤ limit) × (text.now ≡ decimal taken.0 ++ taken.1.now)) }
+    ensures only { (n : ℕ) (rest : List ℕ) → n ≤ limit → BeginsWithNoDigit rest → text.now ≡ decimal n ++ rest
+        → IsSomeAnd result (λ taken. (taken.0 ≡ n) × (taken.1.now ≡ rest)) }
 {
-    !matches!(text, [b'+', ..] | [b'0', _, ..])
+    let (first, rest) = take_digit(text)?;
+    if first == 0 {
+        return Some((0, rest));
+    }
+    take_digits(first, rest, limit)
+}
+
+// The number that goes on from these first digits with those that the text begins with, and what stands behind them.
+fn take_digits(front: u64, text: &[u8], limit: u64) -> Option<(u64, &[u8])>
+    requires { 0 < front }
+    ensures found { IfSome result (λ taken. (taken.0 ≤ limit) × (decimal front ++ text.now ≡ decimal taken.0 ++ taken.1.now)) }
+    ensures only { (n : ℕ) (rest : List ℕ) → n ≤ limit → BeginsWithNoDigit rest → decimal front ++ text.now ≡ decimal n ++ rest
+        → IsSomeAnd result (λ taken. (taken.0 ≡ n) × (taken.1.now ≡ rest)) }
+{
+    let mut number = front;
+    let mut rest = text;
+    while let Some((digit, behind)) = take_digit(rest) {
+        number = with_digit(number, digit)?;
+        rest = behind;
+    }
+    if number <= limit {
+        Some((number, rest))
+    } else {
+        None
+    }
+}
+
+// The number with one more digit, unless it exceeds 64 bits.
+fn with_digit(number: u64, digit: u64) -> Option<u64>
+    ensures { SomeIff result (number * 10 + digit < 2 ^ 64) (number * 10 + digit) }
+{
+    number.checked_mul(10)?.checked_add(digit)
+}
+
+// The value of the digit that the text begins with, and what stands behind it.
+fn take_digit(text: &[u8]) -> Option<(u64, &[u8])>
+    ensures found { IfSome result (λ taken. (taken.0 < 10) × (text.now ≡ (48 + taken.0) ∷ taken.1.now)) }
+    ensures none { IfNone result (BeginsWithNoDigit text.now) }
+{
+    match text {
+        [byte @ b'0'..=b'9', rest @ ..] => Some((u64::from(byte - b'0'), rest)),
+        _ => None,
+    }
 }
 
 // Writes the number in decimal from `at` on, and the byte behind it. Answers the place after that.
