@@ -11,9 +11,9 @@ use Rattle.registry_state.specs.declared.Token.{Token}
 use Rattle.registry_state.specs.declared.Insert.{Insert}
 use Rattle.registry_state.specs.declared.Batch.{Batch}
 use Rattle.registry_state.specs.declared.Answer.TheVariants.{Granted, TooOld}
-use Rattle.registry_state.specs.declared.registry.Registry.{Registry}
 use Rattle.registry_state.specs.LookBack.{bound_of, bound_at, first_in, first_insert, or_else, against, answer_at, holder, replay, replay_held}
-use Rattle.registry_state.specs.Registry.{Knows, token_of, batch_of, answers_to}
+use Rattle.registry_state.specs.Registry.{batch_of, answers_to}
+use Rattle.registry_state.specs.Recalls.{Recalls, above}
 use Rattle.registry_state.proofs.Tests.{same_id-true, same_id-refl}
 
 -- ---- a list with one value more
@@ -48,12 +48,8 @@ first_in-push (y ∷ xs) x i = go (same_id y.id i) (first_in-push xs x i)
 
 -- ---- the bound is raised
 
--- an id's token under a bound
-abbrev pub above : ℕ → EventId → Option Token → Option Token
-above bound i o = cond (nat_lt i.micros bound) None o
-
-pub raises : (s : Registry) (vs : List Batch) (b : ℕ) → s.bound ≡ max (bound_of vs) b → ((i : EventId) → token_of s i ≡ above (max (bound_of vs) b) i (first_insert vs i)) → Knows s (vs ++ batch_of b [] ∷ [])
-raises s vs b e f =
+pub raises : (bound : ℕ) (held : EventId → Option Token) (vs : List Batch) (b : ℕ) → bound ≡ max (bound_of vs) b → ((i : EventId) → held i ≡ above (max (bound_of vs) b) i (first_insert vs i)) → Recalls bound held (vs ++ batch_of b [] ∷ [])
+raises bound held vs b e f =
     let same = bound_of-push vs (batch_of b []) in
     record {
       bound_is = e ∙ sym same;
@@ -68,17 +64,34 @@ above-above m n i o le = go (nat_lt i.micros n) refl
     go false e = cond-false (nat_lt i.micros m) None o (le-ltb i.micros m (let h = ltb-false i.micros n e in omega arith))
 
 -- ids below the new bound are dropped
-pub raises_above : (r s : Registry) (vs : List Batch) (b : ℕ) → Knows r vs → r.bound < b → s.bound ≡ b → ((i : EventId) → token_of s i ≡ above b i (token_of r i)) → Knows s (vs ++ batch_of b [] ∷ [])
-raises_above r s vs b k lt e f =
+pub raises_above : (old : ℕ) (was : EventId → Option Token) (held : EventId → Option Token) (vs : List Batch) (b : ℕ) → Recalls old was vs → old < b → ((i : EventId) → held i ≡ above b i (was i)) → Recalls b held (vs ++ batch_of b [] ∷ [])
+raises_above old was held vs b k lt f =
     let most : max (bound_of vs) b ≡ b = omega (arith, k.bound_is) in
-    raises s vs b (e ∙ sym most)
+    raises b held vs b (sym most)
     (λ i. f i ∙ ap (above b i) (k.tokens i) ∙ above-above (bound_of vs) b i (first_insert vs i) (omega (arith, k.bound_is)) ∙ ap (λ n. above n i (first_insert vs i)) (sym most))
 
 -- no bound is above the one that is there
-pub stays_above : (r : Registry) (vs : List Batch) (b : ℕ) → Knows r vs → b ≤ r.bound → Knows r (vs ++ batch_of b [] ∷ [])
-stays_above r vs b k le =
+pub stays_above : (bound : ℕ) (held : EventId → Option Token) (vs : List Batch) (b : ℕ) → Recalls bound held vs → b ≤ bound → Recalls bound held (vs ++ batch_of b [] ∷ [])
+stays_above bound held vs b k le =
     let most : max (bound_of vs) b ≡ bound_of vs = omega (arith, k.bound_is) in
-    raises r vs b (k.bound_is ∙ sym most) (λ i. k.tokens i ∙ ap (λ n. above n i (first_insert vs i)) (sym most))
+    raises bound held vs b (k.bound_is ∙ sym most) (λ i. k.tokens i ∙ ap (λ n. above n i (first_insert vs i)) (sym most))
+
+-- ---- looking ahead
+
+-- an id below the greater bound is too old once the batch is applied
+pub ahead_old : (bound : ℕ) (held : EventId → Option Token) (vs : List Batch) (v : Batch) (i : EventId) (t : Token) (b : ℕ) → Recalls bound held vs → b ≡ max bound v.bound → i.micros < b → Some (TooOld b) ≡ replay (vs ++ v ∷ []) i t
+ahead_old bound held vs v i t b k e lt =
+    let same : bound_of (vs ++ v ∷ []) ≡ b = bound_of-push vs v ∙ ap (λ n. max n v.bound) (sym k.bound_is) ∙ sym e in
+    sym (cond-true (nat_lt i.micros (bound_of (vs ++ v ∷ []))) (Some (TooOld (bound_of (vs ++ v ∷ [])))) (replay_held t (first_insert (vs ++ v ∷ []) i)) (subst (λ n. nat_lt i.micros n ≡ true) (sym same) (lt-ltb i.micros b lt))
+    ∙ ap (λ n. Some (TooOld n)) same)
+
+-- another one has the holder that it has, or else the token of the batch's earliest insert
+pub ahead_young : (bound : ℕ) (held : EventId → Option Token) (vs : List Batch) (v : Batch) (i : EventId) (t : Token) (b : ℕ) → Recalls bound held vs → b ≡ max bound v.bound → b ≤ i.micros → replay_held t (or_else (held i) (first_in v.inserts i)) ≡ replay (vs ++ v ∷ []) i t
+ahead_young bound held vs v i t b k e le =
+    let same : bound_of (vs ++ v ∷ []) ≡ b = bound_of-push vs v ∙ ap (λ n. max n v.bound) (sym k.bound_is) ∙ sym e in
+    let holds : held i ≡ first_insert vs i = k.tokens i ∙ cond-false (nat_lt i.micros (bound_of vs)) None (first_insert vs i) (le-ltb i.micros (bound_of vs) (omega (arith, k.bound_is, e))) in
+    ap (λ o. replay_held t (or_else o (first_in v.inserts i))) holds ∙ ap (replay_held t) (sym (first_insert-push vs v i))
+    ∙ sym (cond-false (nat_lt i.micros (bound_of (vs ++ v ∷ []))) (Some (TooOld (bound_of (vs ++ v ∷ [])))) (replay_held t (first_insert (vs ++ v ∷ []) i)) (subst (λ n. nat_lt i.micros n ≡ false) (sym same) (le-ltb i.micros b le)))
 
 -- ---- an id is claimed
 
@@ -92,13 +105,13 @@ more vs b xs x i =
     ap (λ n. above n i (first_insert (vs ++ batch_of b (xs ++ x ∷ []) ∷ []) i)) same ∙ ap (above (bound_of (vs ++ batch_of b xs ∷ [])) i) first
 
 -- what the token of the insert's own id is afterwards
-abbrev pub Claims : Registry → Registry → Insert → Type 0
-Claims r s x = (s.bound ≡ r.bound) × ((i : EventId) → token_of s i ≡ cond (same_id x.id i) (token_of s x.id) (token_of r i)) × (token_of s x.id ≡ above r.bound x.id (or_else (token_of r x.id) (Some x.token)))
+abbrev pub Claims : ℕ → (was held : EventId → Option Token) → Insert → Type 0
+Claims bound was held x = ((i : EventId) → held i ≡ cond (same_id x.id i) (held x.id) (was i)) × (held x.id ≡ above bound x.id (or_else (was x.id) (Some x.token)))
 
-pub claims : (r s : Registry) (vs : List Batch) (b : ℕ) (xs : List Insert) (x : Insert) → Claims r s x → Knows r (vs ++ batch_of b xs ∷ []) → Knows s (vs ++ batch_of b (xs ++ x ∷ []) ∷ [])
-claims r s vs b xs x c k = record {
-  bound_is = c.0 ∙ k.bound_is ∙ bound_of-push vs (batch_of b xs) ∙ sym (bound_of-push vs (batch_of b (xs ++ x ∷ [])));
-  tokens = λ i. c.1 i ∙ go i (same_id x.id i) refl ∙ sym (more vs b xs x i);
+pub claims : (bound : ℕ) (was held : EventId → Option Token) (vs : List Batch) (b : ℕ) (xs : List Insert) (x : Insert) → Claims bound was held x → Recalls bound was (vs ++ batch_of b xs ∷ []) → Recalls bound held (vs ++ batch_of b (xs ++ x ∷ []) ∷ [])
+claims bound was held vs b xs x c k = record {
+  bound_is = k.bound_is ∙ bound_of-push vs (batch_of b xs) ∙ sym (bound_of-push vs (batch_of b (xs ++ x ∷ [])));
+  tokens = λ i. c.0 i ∙ go i (same_id x.id i) refl ∙ sym (more vs b xs x i);
 }
   where
     first : EventId → Option Token
@@ -108,13 +121,13 @@ claims r s vs b xs x c k = record {
     inner i o true = refl
     inner i o false = refl
 
-    here : token_of s x.id ≡ above (bound_of (vs ++ batch_of b xs ∷ [])) x.id (or_else (first_insert (vs ++ batch_of b xs ∷ []) x.id) (Some x.token))
-    here = c.2 ∙ ap (λ n. above n x.id (or_else (token_of r x.id) (Some x.token))) k.bound_is
+    here : held x.id ≡ above (bound_of (vs ++ batch_of b xs ∷ [])) x.id (or_else (first_insert (vs ++ batch_of b xs ∷ []) x.id) (Some x.token))
+    here = c.1 ∙ ap (λ n. above n x.id (or_else (was x.id) (Some x.token))) k.bound_is
         ∙ ap (λ o. above (bound_of (vs ++ batch_of b xs ∷ [])) x.id (or_else o (Some x.token))) (k.tokens x.id)
         ∙ inner x.id (first_insert (vs ++ batch_of b xs ∷ []) x.id) (nat_lt x.id.micros (bound_of (vs ++ batch_of b xs ∷ [])))
 
-    go : (i : EventId) (t : Bool) → same_id x.id i ≡ t → cond t (token_of s x.id) (token_of r i) ≡ above (bound_of (vs ++ batch_of b xs ∷ [])) i (or_else (first_insert (vs ++ batch_of b xs ∷ []) i) (cond t (Some x.token) None))
-    go i true e = subst (λ (j : EventId). token_of s x.id ≡ above (bound_of (vs ++ batch_of b xs ∷ [])) j (or_else (first_insert (vs ++ batch_of b xs ∷ []) j) (Some x.token))) (same_id-true x.id i e) here
+    go : (i : EventId) (t : Bool) → same_id x.id i ≡ t → cond t (held x.id) (was i) ≡ above (bound_of (vs ++ batch_of b xs ∷ [])) i (or_else (first_insert (vs ++ batch_of b xs ∷ []) i) (cond t (Some x.token) None))
+    go i true e = subst (λ (j : EventId). held x.id ≡ above (bound_of (vs ++ batch_of b xs ∷ [])) j (or_else (first_insert (vs ++ batch_of b xs ∷ []) j) (Some x.token))) (same_id-true x.id i e) here
     go i false e = k.tokens i ∙ ap (above (bound_of (vs ++ batch_of b xs ∷ [])) i) (sym (or_else-none (first_insert (vs ++ batch_of b xs ∷ []) i)))
 
 -- ---- the answers
@@ -144,21 +157,20 @@ answers-are vs v = all_answers vs v v.inserts
 
 -- ---- the three ways of a claim
 
-self : (r : Registry) (x : Insert) (i : EventId) (t : Bool) → same_id x.id i ≡ t → token_of r i ≡ cond t (token_of r x.id) (token_of r i)
-self r x i true e = ap (token_of r) (sym (same_id-true x.id i e))
-self r x i false e = refl
+self : (was : EventId → Option Token) (x : Insert) (i : EventId) (t : Bool) → same_id x.id i ≡ t → was i ≡ cond t (was x.id) (was i)
+self was x i true e = ap was (sym (same_id-true x.id i e))
+self was x i false e = refl
 
-others : (r s : Registry) (x : Insert) (i : EventId) (t : Bool) → token_of s x.id ≡ Some x.token → token_of s i ≡ cond t (Some x.token) (token_of r i) → token_of s i ≡ cond t (token_of s x.id) (token_of r i)
-others r s x i true here e = e ∙ sym here
-others r s x i false here e = e
+others : (was held : EventId → Option Token) (x : Insert) (i : EventId) (t : Bool) → held x.id ≡ Some x.token → held i ≡ cond t (Some x.token) (was i) → held i ≡ cond t (held x.id) (was i)
+others was held x i true here e = e ∙ sym here
+others was held x i false here e = e
 
 -- nobody has the id
-pub claims_new : (r s : Registry) (x : Insert) → s.bound ≡ r.bound → r.bound ≤ x.id.micros → is_some (token_of r x.id) ≡ false → ((i : EventId) → token_of s i ≡ cond (same_id x.id i) (Some x.token) (token_of r i)) → Claims r s x
-claims_new r s x e le none f =
-    let here : token_of s x.id ≡ Some x.token = f x.id ∙ cond-true (same_id x.id x.id) (Some x.token) (token_of r x.id) (same_id-refl x.id) in (
-      e,
-      λ i. others r s x i (same_id x.id i) here (f i),
-      here ∙ sym (cond-false (nat_lt x.id.micros r.bound) None (or_else (token_of r x.id) (Some x.token)) (le-ltb x.id.micros r.bound le) ∙ ap (λ o. or_else o (Some x.token)) (nobody (token_of r x.id) none)),
+pub claims_new : (bound : ℕ) (was held : EventId → Option Token) (x : Insert) → bound ≤ x.id.micros → is_some (was x.id) ≡ false → ((i : EventId) → held i ≡ cond (same_id x.id i) (Some x.token) (was i)) → Claims bound was held x
+claims_new bound was held x le none f =
+    let here : held x.id ≡ Some x.token = f x.id ∙ cond-true (same_id x.id x.id) (Some x.token) (was x.id) (same_id-refl x.id) in (
+      λ i. others was held x i (same_id x.id i) here (f i),
+      here ∙ sym (cond-false (nat_lt x.id.micros bound) None (or_else (was x.id) (Some x.token)) (le-ltb x.id.micros bound le) ∙ ap (λ o. or_else o (Some x.token)) (nobody (was x.id) none)),
     )
   where
     nobody : (o : Option Token) → is_some o ≡ false → o ≡ None
@@ -166,26 +178,26 @@ claims_new r s x e le none f =
     nobody (Some h) e = absurd (true≢false e)
 
 -- the id is below the bound
-pub claims_old : (r : Registry) (vs : List Batch) (x : Insert) → Knows r vs → x.id.micros < r.bound → Claims r r x
-claims_old r vs x k lt =
-    let old : nat_lt x.id.micros r.bound ≡ true = lt-ltb x.id.micros r.bound lt in
-    let none : token_of r x.id ≡ None = k.tokens x.id ∙ cond-true (nat_lt x.id.micros (bound_of vs)) None (first_insert vs x.id) (subst (λ n. nat_lt x.id.micros n ≡ true) k.bound_is old) in
-    (refl, λ i. self r x i (same_id x.id i) refl, none ∙ sym (cond-true (nat_lt x.id.micros r.bound) None (or_else (token_of r x.id) (Some x.token)) old))
+pub claims_old : (bound : ℕ) (was : EventId → Option Token) (vs : List Batch) (x : Insert) → Recalls bound was vs → x.id.micros < bound → Claims bound was was x
+claims_old bound was vs x k lt =
+    let old : nat_lt x.id.micros bound ≡ true = lt-ltb x.id.micros bound lt in
+    let none : was x.id ≡ None = k.tokens x.id ∙ cond-true (nat_lt x.id.micros (bound_of vs)) None (first_insert vs x.id) (subst (λ n. nat_lt x.id.micros n ≡ true) k.bound_is old) in
+    (λ i. self was x i (same_id x.id i) refl, none ∙ sym (cond-true (nat_lt x.id.micros bound) None (or_else (was x.id) (Some x.token)) old))
 
 -- another token has it
-pub claims_held : (r : Registry) (vs : List Batch) (x : Insert) → Knows r vs → is_some (token_of r x.id) ≡ true → Claims r r x
-claims_held r vs x k some = (refl, λ i. self r x i (same_id x.id i) refl, go (token_of r x.id) refl some)
+pub claims_held : (bound : ℕ) (was : EventId → Option Token) (vs : List Batch) (x : Insert) → Recalls bound was vs → is_some (was x.id) ≡ true → Claims bound was was x
+claims_held bound was vs x k some = (λ i. self was x i (same_id x.id i) refl, go (was x.id) refl some)
   where
     -- so it is not below the bound
     young : (t : Bool) (o h : Option Token) → o ≡ cond t None h → is_some o ≡ true → t ≡ false
     young false o h e s = refl
     young true o h e s = absurd (true≢false (sym s ∙ ap is_some e))
 
-    go : (o : Option Token) → token_of r x.id ≡ o → is_some o ≡ true → o ≡ above r.bound x.id (or_else o (Some x.token))
+    go : (o : Option Token) → was x.id ≡ o → is_some o ≡ true → o ≡ above bound x.id (or_else o (Some x.token))
     go None e s = absurd (true≢false (sym s))
     go (Some h) e s =
-        let t : nat_lt x.id.micros (bound_of vs) ≡ false = young (nat_lt x.id.micros (bound_of vs)) (token_of r x.id) (first_insert vs x.id) (k.tokens x.id) some in
-        sym (cond-false (nat_lt x.id.micros r.bound) None (Some h) (subst (λ n. nat_lt x.id.micros n ≡ false) (sym k.bound_is) t))
+        let t : nat_lt x.id.micros (bound_of vs) ≡ false = young (nat_lt x.id.micros (bound_of vs)) (was x.id) (first_insert vs x.id) (k.tokens x.id) some in
+        sym (cond-false (nat_lt x.id.micros bound) None (Some h) (subst (λ n. nat_lt x.id.micros n ≡ false) (sym k.bound_is) t))
 
 -- a call that succeeds
 pub succeeded : {T E : Type 0} (r : Result T E) (P : Type 0) → IsOk r → OnOk r P → P

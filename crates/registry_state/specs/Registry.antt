@@ -1,6 +1,6 @@
 -- What a registry knows: by looking back over the batches that it applied, the bound and who holds each id.
 use Rattle.std.specs.Prelude.{◌≡◌, ℕ, List, [], ◌∷◌, ◌++◌, length, map, Option}
-use Rattle.std.specs.HashMap.{get}
+use Rattle.std.specs.HashMap.{get, spare}
 use Rattle.event_id.specs.declared.id.EventId.{EventId}
 use Rattle.event_id.specs.EventId.{is_same as same_id}
 use Rattle.registry_state.specs.declared.Token.{Token}
@@ -8,17 +8,20 @@ use Rattle.registry_state.specs.declared.Insert.{Insert}
 use Rattle.registry_state.specs.declared.Batch.{Batch}
 use Rattle.registry_state.specs.declared.Answer.{Answer}
 use Rattle.registry_state.specs.declared.registry.Registry.{Registry}
-use Rattle.registry_state.specs.LookBack.{bound_of, answer_at, holder}
+use Rattle.registry_state.specs.LookBack.{answer_at}
+use Rattle.registry_state.specs.Recalls.{Recalls}
 
 -- the token that the registry has for an id
 abbrev pub token_of : Registry → EventId → Option Token
 token_of registry id = get same_id registry.held id
 
--- The registry has the bound of these batches, and of each id its holder; so it has no token for an id that nobody
--- holds, or that is below the bound.
-pub record Knows (registry : Registry) (applied : List Batch) : Type 0 where
-  pub bound_is : registry.bound ≡ bound_of applied
-  pub tokens : (id : EventId) → token_of registry id ≡ holder applied id
+-- for how many ids more there is room
+abbrev pub room : Registry → ℕ
+room registry = spare registry.held
+
+-- the registry has the bound of these batches, and of each id its holder
+abbrev pub Knows : Registry → List Batch → Type 0
+Knows registry applied = Recalls registry.bound (token_of registry) applied
 
 -- the bound and each token stay
 pub record IsUnchanged (old new : Registry) : Type 0 where

@@ -3,15 +3,18 @@
 
 ghost use Rattle.std.specs.Prelude.{◌≡◌, ◌++◌, ◌∷◌, [], IfOk, OnOk, OnErr};
 ghost use Rattle.registry_state.specs.Same.{same_batch};
+ghost use Rattle.registry_state.specs.LookBack.{first_in};
 ghost use Rattle.registry_state.specs.Laws.{OneGranted, GrantedStays, SettledStays};
 ghost use Rattle.registry_state.specs.Rows.{ContestRow, ReplayRow, BoundRow, DroppedRow};
 
 mod answers;
 mod registry;
+mod replays;
 
 pub use answers::Answers;
 use event_id::EventId;
-pub use registry::Registry;
+pub use registry::{Registry, against};
+pub use replays::Replays;
 
 #[cfg(test)]
 mod examples;
@@ -20,7 +23,7 @@ use std::alloc::{AllocError, Global};
 use std::marker::Model;
 
 /// Drawn by a joiner (its node number) in one of its epochs, for one insert.
-#[derive(Clone, Copy, Debug, PartialEq, Eq)]
+#[derive(Clone, Copy, Debug, PartialEq, Eq, Hash)]
 pub struct Token {
     pub joiner: u16,
     pub epoch: u32,
@@ -70,6 +73,15 @@ impl Inserts {
         }
     }
 
+    /// None, with room for so many, by one allocation.
+    pub fn with_capacity(alloc: Global, count: usize) -> Result<Inserts, AllocError>
+        ensures { IfOk result (λ inserts. inserts ≡ []) }
+    {
+        Ok(Inserts {
+            items: Vec::with_capacity(alloc, count)?,
+        })
+    }
+
     /// Puts one more behind the others, in amortized constant time.
     pub fn push(&mut self, insert: Insert) -> Result<(), AllocError>
         ensures ok { OnOk result (self.new ≡ self.old ++ insert ∷ []) }
@@ -77,6 +89,18 @@ impl Inserts {
     {
         self.items.push(insert)?;
         Ok(())
+    }
+
+    /// The token of the earliest insert of the id, none where there is none. Linear.
+    pub fn claimant(&self, id: EventId) -> Option<Token>
+        ensures { result ≡ first_in self.now id }
+    {
+        for insert in self.items.as_slice() {
+            if insert.id == id {
+                return Some(insert.token);
+            }
+        }
+        None
     }
 
     /// The inserts, borrowed.

@@ -1,9 +1,8 @@
 ghost use Rattle.std.specs.Prelude.{◌≡◌, ◌++◌, ◌∷◌, [], ◌+◌, ◌≤◌, ◌<◌, length, map, vec_len, unwrap_or, IfOk, OnOk, OnErr, if◌then◌else◌};
-ghost use Rattle.std.specs.HashMap.{spare};
 ghost use Rattle.registry_state.specs.Same.{same_token};
-ghost use Rattle.registry_state.specs.LookBack.{bound_of, holder, replay};
+ghost use Rattle.registry_state.specs.LookBack.{bound_of, first_in, holder, or_else, replay};
 
-use crate::{Answer, Answers, Batch, Insert, Token};
+use crate::{Answer, Answers, Batch, Insert, Replays, Token};
 use event_id::EventId;
 use std::alloc::{AllocError, Global};
 use std::collections::HashMap;
@@ -20,7 +19,7 @@ pub struct Registry {
 }
 
 impl Registry {
-    ghost use Rattle.registry_state.specs.Registry.{Knows, IsUnchanged, answers_to, batch_of};
+    ghost use Rattle.registry_state.specs.Registry.{Knows, IsUnchanged, room, token_of, answers_to, batch_of};
 
     /// Without ids, the bound 0. It takes no memory.
     pub fn new(alloc: Global) -> Registry
@@ -45,9 +44,35 @@ impl Registry {
     {
         let inserts = batch.inserts.as_slice();
         let blank = vec![in self.alloc; Answer::Granted; inserts.len()]?;
-        self.held.reserve(inserts.len())?;
+        self.make_room(batch)?;
         self.learn(batch);
         Ok(self.answers(inserts, blank))
+    }
+
+    /// Makes room for the ids of a batch, so that it can be learned. It changes nothing else.
+    ///
+    /// It allocates where there isn't room for as many ids more as the batch has inserts.
+    pub fn make_room(&mut self, batch: &Batch) -> Result<(), AllocError>
+        ensures room { OnOk result (length batch.now.inserts ≤ room self.new) }
+        ensures kept { room self.old ≤ room self.new }
+        ensures known { (applied : _) → Knows self.old applied → Knows self.new applied }
+        ensures same { IsUnchanged self.old self.new }
+    {
+        self.held.reserve(batch.inserts.as_slice().len())
+    }
+
+    /// Applies a batch for whose inserts room was made. It takes no memory.
+    ///
+    /// Constant expected time an insert, and one pass over the ids where the bound rises.
+    pub fn learn(&mut self, batch: &Batch)
+        requires { length batch.now.inserts ≤ room self.old }
+        ensures known { (applied : _) → Knows self.old applied → Knows self.new (applied ++ batch.now ∷ []) }
+        ensures room { room self.old ≤ room self.new + length batch.now.inserts }
+    {
+        self.raise(batch.bound);
+        for insert in batch.inserts.as_slice() {
+            self.claim(*insert);
+        }
     }
 
     /// What the insert of the id by the token is answered now: none where the id is neither held nor below the
@@ -60,6 +85,18 @@ impl Registry {
         }
         let holder = self.held.get(&id)?;
         Some(against(token, *holder))
+    }
+
+    /// What it would be answered had the batch been applied. It takes no memory, and time linear in the batch.
+    pub fn replay_after(&self, batch: &Batch, id: EventId, token: Token) -> Option<Answer>
+        ensures { (applied : _) → Knows self.now applied → result ≡ replay (applied ++ batch.now ∷ []) id token }
+    {
+        let bound = self.bound.max(batch.bound);
+        if id.micros < bound {
+            return Some(Answer::TooOld(bound));
+        }
+        let holder = self.holder_after(batch, id)?;
+        Some(against(token, holder))
     }
 
     /// The token that holds the id, none where none does or the id is below the bound. Constant expected time.
@@ -76,17 +113,6 @@ impl Registry {
         self.bound
     }
 
-    // Applies a batch for whose inserts there is room.
-    fn learn(&mut self, batch: &Batch)
-        requires { length batch.now.inserts ≤ spare self.old.held }
-        ensures { (applied : _) → Knows self.old applied → Knows self.new (applied ++ batch.now ∷ []) }
-    {
-        self.raise(batch.bound);
-        for insert in batch.inserts.as_slice() {
-            self.claim(*insert);
-        }
-    }
-
     // The answer to each insert, once the batch that has them is applied, written over the blank answers.
     fn answers(&self, inserts: &[Insert], mut blank: Vec<Answer>) -> Answers
         requires { vec_len blank ≡ length inserts.now }
@@ -99,10 +125,20 @@ impl Registry {
         Answers::from(blank)
     }
 
+    // The token that has the id, or else that of the batch's earliest insert of it.
+    fn holder_after(&self, batch: &Batch, id: EventId) -> Option<Token>
+        ensures { result ≡ or_else (token_of self.now id) (first_in batch.now.inserts id) }
+    {
+        match self.held.get(&id) {
+            Some(holder) => Some(*holder),
+            None => batch.inserts.claimant(id),
+        }
+    }
+
     // Raises the bound, and drops the ids below it.
     fn raise(&mut self, bound: u64)
         ensures known { (applied : _) → Knows self.old applied → Knows self.new (applied ++ batch_of bound [] ∷ []) }
-        ensures room { spare self.old.held ≤ spare self.new.held }
+        ensures room { room self.old ≤ room self.new }
     {
         if bound > self.bound {
             self.bound = bound;
@@ -112,9 +148,9 @@ impl Registry {
 
     // Gives the id to the token, unless another has it or it is below the bound.
     fn claim(&mut self, insert: Insert)
-        requires { 0 < spare self.old.held }
+        requires { 0 < room self.old }
         ensures known { (applied : _) (bound : _) (inserts : _) → Knows self.old (applied ++ batch_of bound inserts ∷ []) → Knows self.new (applied ++ batch_of bound (inserts ++ insert ∷ []) ∷ []) }
-        ensures room { spare self.old.held ≤ spare self.new.held + 1 }
+        ensures room { room self.old ≤ room self.new + 1 }
     {
         if insert.id.micros >= self.bound && !self.held.contains_key(&insert.id) {
             let _ = self.held.insert(insert.id, insert.token);
@@ -122,8 +158,22 @@ impl Registry {
     }
 }
 
-// What a token is answered whose id that holder has.
-fn against(token: Token, holder: Token) -> Answer
+impl Replays for Registry {
+    ghost use Rattle.registry_state.specs.Registry.{Knows};
+
+    ghost knows = { Knows };
+
+    fn replay(&self, id: EventId, token: Token) -> Option<Answer> {
+        self.replay(id, token)
+    }
+
+    fn replay_after(&self, batch: &Batch, id: EventId, token: Token) -> Option<Answer> {
+        self.replay_after(batch, id, token)
+    }
+}
+
+/// What a token is answered whose id that holder has.
+pub fn against(token: Token, holder: Token) -> Answer
     ensures { result ≡ (if same_token holder token then Answer.Granted else Answer.Duplicate holder) }
 {
     if holder == token {

@@ -1,14 +1,11 @@
-use Rattle.std.proofs.Common.{[], ◌∷◌, ◌++◌, ◌∙◌}
+use Rattle.std.proofs.Common.{[], ◌∷◌, ◌++◌}
 use Rattle.registry_state.specs.Registry.{Knows}
 use Rattle.registry_state.proofs.Learning.{answers-are}
 use Rattle.registry_state.proofs.registry.Registry.apply.Goals as goal
 
-pub returns-clause-known : goal.returns-clause-known
-returns-clause-known c = λ applied k. c.learn.ensures applied (record { bound_is = k.bound_is; tokens = λ i. c.in_ok-reserve.ensures.entries.2 i ∙ k.tokens i })
-
 pub returns-clause-answers : goal.returns-clause-answers
 returns-clause-answers c = λ applied k.
-    let known : Knows c.learn.new.self (applied ++ c.args.batch.now ∷ []) = c.learn.ensures applied (record { bound_is = k.bound_is; tokens = λ i. c.in_ok-reserve.ensures.entries.2 i ∙ k.tokens i }) in
+    let known : Knows c.learn.new.self (applied ++ c.args.batch.now ∷ []) = c.learn.ensures.known applied (c.in_ok-make_room.ensures.known applied k) in
     let e = c.answers.ensures (applied ++ c.args.batch.now ∷ []) known in
     let f = answers-are applied c.args.batch.now in
     cc

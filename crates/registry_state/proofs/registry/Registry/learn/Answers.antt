@@ -10,6 +10,7 @@ loop-insert-preserved c =
     let items = c.as_slice-insert-items.result.now in
     let k = c.loop-insert.insert-index in
     record {
-      room = omega (arith, c.claim.ensures.room);
+      place = omega (arith, c.claim.ensures.room);
+      used = omega (arith, c.claim.ensures.room, c.loop-insert.invariant.used);
       known = λ applied known. subst (λ (xs : List Insert). Knows c.claim.new.self (applied ++ batch_of bound xs ∷ [])) (sym (take_more items k _ (omega arith))) (c.claim.ensures.known applied bound (take k items) (c.loop-insert.invariant.known applied known));
     }
