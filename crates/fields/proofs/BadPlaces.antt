@@ -180,6 +180,11 @@ pub stops_on : (S T : List ℕ → Type 0) (rest whole : List ℕ) (stop : Stop)
 stops_on S T rest whole (Bad left) on b = on left b
 stops_on S T rest whole Memory on b = tt
 
+-- in what is handed on as it is
+pub stops_through : {W : Type 0} (S T : List ℕ → Type 0) (rest whole : List ℕ) (r : Result W Stop) → ((left : ℕ) → IsBadBefore S rest left → IsBadBefore T whole left) → IfErr r (Stops S rest) → IfErr r (Stops T whole)
+stops_through S T rest whole (Ok x) on b = tt
+stops_through S T rest whole (Err d) on b = stops_on S T rest whole d on b
+
 -- at the exit of a `?`
 pub stops_out : {W : Type 0} (S T : List ℕ → Type 0) (rest whole : List ℕ) (stop : Stop) (r : Result W Stop) → IsErrAnd r (λ d. d ≡ stop) → ((left : ℕ) → IsBadBefore S rest left → IsBadBefore T whole left) → Stops S rest stop → IfErr r (Stops T whole)
 stops_out S T rest whole stop (Ok x) is on b = tt

@@ -25,6 +25,9 @@ number_spelled z h = number_8 z h.len (run_bytes 8 z h)
 pub number_bad : (rest : List ℕ) (left : ℕ) → IsBadBefore (Run 8 0 255) rest left → IsBadBefore (Spelled number IsNumber) rest left
 number_bad rest left = before_same (Run 8 0 255) (Spelled number IsNumber) rest left number_spelled number_run
 
+pub number_apart : (x y : ℕ) (s t : List ℕ) → IsNumber x → IsNumber y → number x ++ s ≡ number y ++ t → x ≡ y
+number_apart x y s t p q e = same_8 x y p q (front_same (number x) (number y) s t refl e).0
+
 -- ---- ids
 
 pub id_bytes : (x : EventId) → Bytes (packed x)

@@ -12,6 +12,12 @@ use Rattle.fields.proofs.Sequences.{run_one, one_of}
 abbrev pub IsApart : {V : Type 0} → (V → List ℕ) → (V → Type 0) → Type 0
 IsApart {V} spell Is = (v w : V) (s t : List ℕ) → Is v → Is w → spell v ++ s ≡ spell w ++ t → v ≡ w
 
+-- so the first values are the same, and what stands behind them
+pub same_first : {V : Type 0} (spell : V → List ℕ) (Is : V → Type 0) (v w : V) (s t : List ℕ) → IsApart spell Is → Is v → Is w → spell v ++ s ≡ spell w ++ t → (v ≡ w) × (s ≡ t)
+same_first {V} spell Is v w s t apart p q e =
+    let same : v ≡ w = apart v w s t p q e in
+    (same, (front_same (spell v) (spell w) s t (ap (λ (x : V). length (spell x)) same) e).1)
+
 pub followed : {V : Type 0} (spell : V → List ℕ) (Is : V → Type 0) (Next : List ℕ → Type 0) (v : V) (z : List ℕ) → Is v → Next z → Followed spell Is Next (spell v ++ z)
 followed spell Is Next v z is next = record { value = v; is = is; back = z; next = next; whole = refl }
 
