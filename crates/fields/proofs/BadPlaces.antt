@@ -57,16 +57,17 @@ bad_front S T rest n parts some bad = record {
         bad.furthest k (record { within = r.within; more = q.0; whole = subst S q.1 p.2 }))
         (cases_lt (length p.0) k)
 
--- Behind a front that the spellings of T with it have, and none is shorter, a first bad byte of what follows is one of the whole.
-pub bad_behind : (T S : List ℕ → Type 0) (front rest : List ℕ) (n : ℕ)
-    → ((z : List ℕ) → T z → length front ≤ length z)
+-- Where each spelling of T that agrees with the front has it whole, a first bad byte of what follows is one of the whole.
+pub bad_agreed : (T S : List ℕ → Type 0) (front rest : List ℕ) (n : ℕ)
+    → ((z s t : List ℕ) → T z → z ++ s ≡ front ++ t → (w : List ℕ) × (z ≡ front ++ w))
     → ((z : List ℕ) → T (front ++ z) → S z)
     → ((z : List ℕ) → S z → T (front ++ z))
     → IsBadAt S rest n → IsBadAt T (front ++ rest) (length front + n)
-bad_behind T S front rest n long back on bad = record {
+bad_agreed T S front rest n agreed back on bad = record {
   none = λ z tail t e.
-      let q = front_longer front z rest tail (long z t) e in
-      bad.none q.0 tail (back q.0 (subst T q.1 t)) q.2;
+      let q = agreed z tail rest t (sym e) in
+      let same = front_same front front rest (q.0 ++ tail) refl (e ∙ ap (λ (x : List ℕ). x ++ tail) q.1 ∙ append_assoc front q.0 tail) in
+      bad.none q.0 tail (back q.0 (subst T q.1 t)) same.1;
   reaches = record {
     within = let w = bad.reaches.within in omega (arith, length-append front rest);
     more = bad.reaches.more;
@@ -87,6 +88,14 @@ bad_behind T S front rest n long back on bad = record {
         let in_rest : j ≤ length rest = omega (arith, length-append front rest) in
         let le = bad.furthest j (record { within = in_rest; more = r.more; whole = back _ (subst T e r.whole) }) in
         omega arith
+
+-- Behind a front that the spellings of T with it have, and none is shorter, a first bad byte of what follows is one of the whole.
+pub bad_behind : (T S : List ℕ → Type 0) (front rest : List ℕ) (n : ℕ)
+    → ((z : List ℕ) → T z → length front ≤ length z)
+    → ((z : List ℕ) → T (front ++ z) → S z)
+    → ((z : List ℕ) → S z → T (front ++ z))
+    → IsBadAt S rest n → IsBadAt T (front ++ rest) (length front + n)
+bad_behind T S front rest n long = bad_agreed T S front rest n (λ z s t h e. let q = front_longer front z t s (long z h) (sym e) in (q.0, q.1))
 
 -- The first byte that does not fit, or the end where bytes are missing.
 pub bad_cell : (n : ℕ) (Fits : ℕ → ℕ → Type 0) (filler : ℕ) (rest : List ℕ) (i : ℕ)
@@ -133,6 +142,18 @@ pub before_front : (S T : List ℕ → Type 0) (rest : List ℕ) (left : ℕ)
     → IsBadBefore S rest left → IsBadBefore T rest left
 before_front S T rest left parts some b = record { at = b.at; place = b.place; bad = bad_front S T rest b.at parts some b.bad }
 
+pub before_agreed : (T S : List ℕ → Type 0) (whole front rest : List ℕ) (left : ℕ)
+    → whole ≡ front ++ rest
+    → ((z s t : List ℕ) → T z → z ++ s ≡ front ++ t → (w : List ℕ) × (z ≡ front ++ w))
+    → ((z : List ℕ) → T (front ++ z) → S z)
+    → ((z : List ℕ) → S z → T (front ++ z))
+    → IsBadBefore S rest left → IsBadBefore T whole left
+before_agreed T S whole front rest left e agreed back on b = record {
+  at = length front + b.at;
+  place = let p = b.place in omega (arith, ap length e, length-append front rest);
+  bad = subst (λ (w : List ℕ). IsBadAt T w (length front + b.at)) (sym e) (bad_agreed T S front rest b.at agreed back on b.bad);
+}
+
 pub before_behind : (T S : List ℕ → Type 0) (whole front rest : List ℕ) (left : ℕ)
     → whole ≡ front ++ rest
     → ((z : List ℕ) → T z → length front ≤ length z)
@@ -158,6 +179,11 @@ before_cell n Fits filler rest i fill lt le good wrong = record { at = i; place 
 pub stops_on : (S T : List ℕ → Type 0) (rest whole : List ℕ) (stop : Stop) → ((left : ℕ) → IsBadBefore S rest left → IsBadBefore T whole left) → Stops S rest stop → Stops T whole stop
 stops_on S T rest whole (Bad left) on b = on left b
 stops_on S T rest whole Memory on b = tt
+
+-- in what is handed on as it is
+pub stops_through : {W : Type 0} (S T : List ℕ → Type 0) (rest whole : List ℕ) (r : Result W Stop) → ((left : ℕ) → IsBadBefore S rest left → IsBadBefore T whole left) → IfErr r (Stops S rest) → IfErr r (Stops T whole)
+stops_through S T rest whole (Ok x) on b = tt
+stops_through S T rest whole (Err d) on b = stops_on S T rest whole d on b
 
 -- at the exit of a `?`
 pub stops_out : {W : Type 0} (S T : List ℕ → Type 0) (rest whole : List ℕ) (stop : Stop) (r : Result W Stop) → IsErrAnd r (λ d. d ≡ stop) → ((left : ℕ) → IsBadBefore S rest left → IsBadBefore T whole left) → Stops S rest stop → IfErr r (Stops T whole)

@@ -10,9 +10,23 @@ use Rattle.paxos_defs.specs.declared.Place.{Place}
 use Rattle.fields.specs.Bad.{Spelled}
 use Rattle.fields.specs.Cells.{Run, UpTo}
 use Rattle.fields.specs.Stops.{IsBadBefore}
-use Rattle.fields.specs.Spellings.{token, IsToken, insert, IsInsert, ballot, IsBallot, place, IsPlace, ballot_limits, place_limits}
+use Rattle.fields.specs.Spellings.{number, IsNumber, token, IsToken, insert, IsInsert, ballot, IsBallot, place, IsPlace, ballot_limits, place_limits}
 use Rattle.fields.proofs.BadPlaces.{front_same, before_same}
 use Rattle.fields.proofs.NumberBytes.{Bytes, bytes_none, bytes_cons, bytes_append, bytes_2, bytes_4, bytes_8, same_2, same_4, same_8, number_2, number_4, number_8, small_8, cut, run_bytes, run_any, EachUpTo, up_to_each, up_to_bytes}
+
+-- ---- numbers
+
+number_run : (z : List ℕ) → Spelled number IsNumber z → Run 8 0 255 z
+number_run z s = subst (Run 8 0 255) (sym s.2) (run_any 8 (number s.0) refl (bytes_8 s.0))
+
+number_spelled : (z : List ℕ) → Run 8 0 255 z → Spelled number IsNumber z
+number_spelled z h = number_8 z h.len (run_bytes 8 z h)
+
+pub number_bad : (rest : List ℕ) (left : ℕ) → IsBadBefore (Run 8 0 255) rest left → IsBadBefore (Spelled number IsNumber) rest left
+number_bad rest left = before_same (Run 8 0 255) (Spelled number IsNumber) rest left number_spelled number_run
+
+pub number_apart : (x y : ℕ) (s t : List ℕ) → IsNumber x → IsNumber y → number x ++ s ≡ number y ++ t → x ≡ y
+number_apart x y s t p q e = same_8 x y p q (front_same (number x) (number y) s t refl e).0
 
 -- ---- ids
 

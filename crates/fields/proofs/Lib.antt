@@ -3,6 +3,9 @@ pub mod NumberBytes
 pub mod Fixed
 pub mod BatchParts
 pub mod Sequences
+pub mod FollowedParts
+pub mod PriorParts
+pub mod SomeValues
 pub mod AnswerParts
 pub mod NoteParts
 pub mod TextParts

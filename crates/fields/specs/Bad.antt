@@ -1,5 +1,5 @@
 -- Where the bytes that are left stop being the front of a spelling, for a set of spellings.
-use Rattle.std.specs.Prelude.{◌≡◌, ℕ, ◌≤◌, List, ◌++◌, length, take}
+use Rattle.std.specs.Prelude.{◌≡◌, ℕ, ◌≤◌, List, ◌∷◌, ◌++◌, length, take}
 
 -- so many of the bytes left begin a spelling
 pub record Reaches (IsSpelling : List ℕ → Type 0) (rest : List ℕ) (n : ℕ) : Type 0 where
@@ -16,3 +16,15 @@ pub record IsBadAt (IsSpelling : List ℕ → Type 0) (rest : List ℕ) (at : �
 -- the spellings of the values that have one
 abbrev pub Spelled : {V : Type 0} → (V → List ℕ) → (V → Type 0) → List ℕ → Type 0
 Spelled {V} spell Is bytes = (v : V) × Is v × (bytes ≡ spell v)
+
+-- what may follow the tag in a spelling
+abbrev pub After : ℕ → (List ℕ → Type 0) → List ℕ → Type 0
+After tag IsSpelling bytes = IsSpelling (tag ∷ bytes)
+
+-- a spelling, followed by one of these
+pub record Followed {V : Type 0} (spell : V → List ℕ) (Is : V → Type 0) (IsNext : List ℕ → Type 0) (bytes : List ℕ) : Type 0 where
+  pub value : V
+  pub is : Is value
+  pub back : List ℕ
+  pub next : IsNext back
+  pub whole : bytes ≡ spell value ++ back

@@ -1,5 +1,5 @@
 -- The one spelling of each kind of field, and which values have one. Numbers stand high byte first.
-use Rattle.std.specs.Prelude.{ℕ, ◌^◌, ◌<◌, ◌≤◌, List, [], ◌∷◌, ◌++◌, length}
+use Rattle.std.specs.Prelude.{ℕ, ◌^◌, ◌<◌, ◌≤◌, List, [], ◌∷◌, ◌++◌, length, Option, Some, None}
 use Rattle.std.specs.Int.{w16, w32, w64, to_be_bytes}
 use Rattle.event_id.specs.EventId.{packed, IsId}
 use Rattle.registry_state.specs.declared.Token.{Token}
@@ -15,6 +15,13 @@ use Rattle.paxos_acceptor.specs.Cells.{place_of}
 use Rattle.log_records.specs.declared.records.QueryRec.{QueryRec}
 use Rattle.log_records.specs.declared.records.ClickRec.{ClickRec}
 use Rattle.list_words.specs.Lists.{Each}
+
+-- 8 bytes
+abbrev pub number : ℕ → List ℕ
+number n = to_be_bytes w64 n
+
+abbrev pub IsNumber : ℕ → Type 0
+IsNumber n = n < 2 ^ 64
 
 -- 14 bytes
 abbrev pub token : Token → List ℕ
@@ -76,6 +83,15 @@ pub record IsBatch (b : Batch) : Type 0 where
 
 abbrev pub batch_limits : List ℕ
 batch_limits = 255 ∷ 255 ∷ 255 ∷ 255 ∷ 255 ∷ 255 ∷ 255 ∷ 255 ∷ 64 ∷ []
+
+-- a flag, and of something accepted the ballot and the batch
+abbrev pub prior : Option (Ballot × Batch) → List ℕ
+prior None = 0 ∷ []
+prior (Some x) = 1 ∷ (ballot x.0 ++ batch x.1)
+
+abbrev pub IsPrior : Option (Ballot × Batch) → Type 0
+IsPrior None = Unit {0}
+IsPrior (Some x) = IsBallot x.0 × IsBatch x.1
 
 -- a tag, the place, the ballot, and of an accepted note the batch
 abbrev pub note : ReplicaNote → List ℕ

@@ -38,6 +38,8 @@ impl Field for Answer {
     }
 
     fn told_apart() {}
+
+    fn some_value() {}
 }
 
 // Writes the spelling to the front, and answers its length.

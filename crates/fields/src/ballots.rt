@@ -33,6 +33,8 @@ impl Field for Ballot {
     }
 
     fn told_apart() {}
+
+    fn some_value() {}
 }
 
 /// 9 bytes: the shard and the slot. The shard is below 16, the slot below 2^48. Reading takes no memory.
@@ -51,6 +53,8 @@ impl Field for Place {
     }
 
     fn told_apart() {}
+
+    fn some_value() {}
 }
 
 fn ballot_of(bytes: &[u8]) -> Ballot

@@ -43,6 +43,8 @@ impl Field for Batch {
     }
 
     fn told_apart() {}
+
+    fn some_value() {}
 }
 
 // The bound, and how many inserts follow.

@@ -30,6 +30,10 @@ pub trait Field: Drop {
     fn told_apart()
         ensures { (v w : Self) (s t : List ℕ) → has_spelling v → has_spelling w → spelled v ++ s ≡ spelled w ++ t → v ≡ w };
 
+    /// Some value has a spelling. It does nothing.
+    fn some_value()
+        ensures { (v : Self) × has_spelling v };
+
     /// Takes the value whose spelling what is left begins with. Linear in the spelling.
     final fn take(alloc: Global, from: &mut Reader) -> Result<Self, FieldFault>
         // The reader stands behind the spelling.

@@ -28,6 +28,8 @@ impl Field for EventId {
     }
 
     fn told_apart() {}
+
+    fn some_value() {}
 }
 
 /// 14 bytes: the joiner, the epoch and the number. Reading takes no memory.
@@ -46,6 +48,8 @@ impl Field for Token {
     }
 
     fn told_apart() {}
+
+    fn some_value() {}
 }
 
 /// 30 bytes: the id and the token. Reading takes no memory.
@@ -64,6 +68,8 @@ impl Field for Insert {
     }
 
     fn told_apart() {}
+
+    fn some_value() {}
 }
 
 pub(crate) fn id_of(bytes: &[u8]) -> EventId
@@ -106,7 +112,8 @@ pub(crate) fn insert_of(bytes: &[u8]) -> Insert
     }
 }
 
-pub(crate) fn token_bytes(t: &Token) -> [u8; 14]
+/// The spelling of a token.
+pub fn token_bytes(t: &Token) -> [u8; 14]
     ensures { result ≡ token t.now }
 {
     let mut bytes = [0; 14];

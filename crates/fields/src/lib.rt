@@ -9,11 +9,16 @@ mod ids;
 mod notes;
 mod numbers;
 mod parts;
+mod priors;
 mod records;
 pub mod rows;
+mod several;
 mod stop;
 #[cfg(test)]
 mod tests;
 
 pub use field::Field;
+pub use ids::token_bytes;
+pub use parts::write;
+pub use several::{put_three, put_two, read_tag, read_three, read_two};
 pub use stop::{FieldFault, Stop};

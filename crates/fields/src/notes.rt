@@ -59,6 +59,8 @@ impl Field for ReplicaNote {
     }
 
     fn told_apart() {}
+
+    fn some_value() {}
 }
 
 // Writes the spelling to the front, and answers its length.

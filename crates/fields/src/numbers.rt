@@ -1,6 +1,33 @@
 // Numbers from their bytes.
 ghost use Rattle.std.specs.Prelude.{◌≡◌, length};
 ghost use Rattle.std.specs.Int.{w16, w32, w64, to_be_bytes};
+ghost use Rattle.fields.specs.Spellings.{number, IsNumber};
+
+use crate::Stop;
+use crate::field::Field;
+use crate::parts::run;
+use std::alloc::{AllocError, Global};
+use wire_core::Bytes;
+
+/// 8 bytes. Reading takes no memory.
+impl Field for u64 {
+    ghost spelled = { number };
+
+    ghost has_spelling = { IsNumber };
+
+    fn put(&self, to: &mut Bytes) -> Result<(), AllocError> {
+        to.put_u64(*self)
+    }
+
+    fn read(_alloc: Global, bytes: &[u8]) -> Result<(u64, &[u8]), Stop> {
+        let (front, rest) = run(bytes, 8, 0, 255)?;
+        Ok((u64_of(front), rest))
+    }
+
+    fn told_apart() {}
+
+    fn some_value() {}
+}
 
 pub(crate) fn u16_of(bytes: &[u8]) -> u16
     requires { length bytes.now ≡ 2 }

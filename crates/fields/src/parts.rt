@@ -36,8 +36,8 @@ pub(crate) fn up_to<'a>(bytes: &'a [u8], limits: &[u8]) -> Result<(&'a [u8], &'a
     Ok(bytes.split_at(limits.len()))
 }
 
-// Writes the bytes from `at` on, and answers the place behind them.
-pub(crate) fn write(buf: &mut [u8], at: usize, bytes: &[u8]) -> usize
+/// Writes the bytes from `at` on, and answers the place behind them.
+pub fn write(buf: &mut [u8], at: usize, bytes: &[u8]) -> usize
     requires { at + length bytes.now ≤ length buf.old }
     ensures end { result ≡ at + length bytes.now }
     ensures text { take result buf.new ≡ take at buf.old ++ bytes.now }

@@ -35,6 +35,8 @@ impl Field for Text {
     }
 
     fn told_apart() {}
+
+    fn some_value() {}
 }
 
 /// The id and the text. Reading copies the text, in one allocation.
@@ -57,6 +59,8 @@ impl Field for QueryRec {
     }
 
     fn told_apart() {}
+
+    fn some_value() {}
 }
 
 /// The click's id, its query's, and the text. Reading copies the text, in one allocation.
@@ -79,6 +83,8 @@ impl Field for ClickRec {
     }
 
     fn told_apart() {}
+
+    fn some_value() {}
 }
 
 // Writes the spelling from `at` on, and answers the place behind it.

@@ -1,0 +1,4 @@
+pub mod OutcomeParts
+pub mod PacketParts
+pub mod PacketsApart
+pub mod BadPackets

@@ -1,0 +1,189 @@
+// Packets from bytes.
+ghost use Rattle.std.specs.Prelude.{◌≡◌, ◌≤◌, ◌∷◌, ◌++◌, ℕ, IfOk, IfErr, MatchResult};
+ghost use Rattle.fields.specs.Bad.{After};
+ghost use Rattle.fields.specs.Stops.{Stops};
+ghost use Rattle.packet_codec.specs.Packets.{packet, IsPacket, Packets};
+ghost use Rattle.packet_codec.specs.Refused.{IsBadPacket, IsFault, Tells, IsMemory};
+ghost use Rattle.packet_codec.specs.declared.packet.Packet.{Packet};
+
+use crate::tags::{ACCEPT, ACCEPTED, CHOSEN, INSERT, JOIN, JOINED, NACK, PREPARE, PROMISE, REPLY};
+use crate::{DecodeFault, Outcome, Packet};
+use ballot_core::Ballot;
+use fields::{Field, Stop, read_tag, read_three, read_two};
+use log_records::ClickRec;
+use paxos_defs::Place;
+use registry_state::{Answer, Batch, Insert};
+use std::alloc::Global;
+
+/// The packet that the bytes spell, all of them. Linear in the bytes. A text and a batch's list of inserts are allocated,
+/// and nothing else.
+pub fn decode(alloc: Global, bytes: &[u8]) -> Result<Packet, DecodeFault>
+    // What is decoded is spelled so.
+    ensures found { IfOk result (λ p. IsPacket p × (bytes.now ≡ packet p)) }
+    // What is spelled so is decoded, unless memory runs out: a packet that was encoded comes back.
+    ensures only { (p : Packet) → IsPacket p → bytes.now ≡ packet p → MatchResult result (λ q. q ≡ p) IsMemory }
+    // Where the bytes stop being the front of a packet's spelling.
+    ensures bad { IfErr result (IsFault bytes.now) }
+    // Bytes that spell no packet are refused there, unless memory runs out.
+    ensures refused { (at : ℕ) → IsBadPacket bytes.now at → MatchResult result (λ p. ⊥) (Tells at) }
+{
+    match read_packet(alloc, bytes) {
+        Ok((packet, rest)) => {
+            if rest.is_empty() {
+                return Ok(packet);
+            }
+            Err(DecodeFault::BadPacket {
+                at: (bytes.len() - rest.len()) as u64,
+            })
+        }
+        Err(Stop::Bad { left }) => Err(DecodeFault::BadPacket {
+            at: (bytes.len() - left) as u64,
+        }),
+        Err(Stop::Memory) => Err(DecodeFault::Memory),
+    }
+}
+
+// The packet whose spelling the bytes begin with, and the bytes behind it.
+fn read_packet(alloc: Global, bytes: &[u8]) -> Result<(Packet, &[u8]), Stop>
+    ensures is { IfOk result (λ p. IsPacket p.0) }
+    ensures found { IfOk result (λ p. bytes.now ≡ packet p.0 ++ p.1.now) }
+    ensures bad { IfErr result (Stops Packets bytes.now) }
+{
+    let (tag, rest) = read_tag(bytes, JOIN, CHOSEN)?;
+    read_fields(alloc, tag, rest)
+}
+
+// The packet of this tag whose fields the bytes begin with, and the bytes behind them.
+fn read_fields(alloc: Global, tag: u8, bytes: &[u8]) -> Result<(Packet, &[u8]), Stop>
+    requires low { 0x11 ≤ tag }
+    requires high { tag ≤ 0x1A }
+    ensures is { IfOk result (λ p. IsPacket p.0) }
+    ensures found { IfOk result (λ p. tag ∷ bytes.now ≡ packet p.0 ++ p.1.now) }
+    ensures bad { IfErr result (Stops (After tag Packets) bytes.now) }
+{
+    match tag {
+        JOIN => read_join(alloc, bytes),
+        JOINED => read_joined(alloc, bytes),
+        INSERT => read_insert(alloc, bytes),
+        REPLY => read_reply(alloc, bytes),
+        PREPARE => read_prepare(alloc, bytes),
+        PROMISE => read_promise(alloc, bytes),
+        NACK => read_nack(alloc, bytes),
+        ACCEPT => read_accept(alloc, bytes),
+        ACCEPTED => read_accepted(alloc, bytes),
+        _ => read_chosen(alloc, bytes),
+    }
+}
+
+fn read_join(alloc: Global, bytes: &[u8]) -> Result<(Packet, &[u8]), Stop>
+    ensures is { IfOk result (λ p. IsPacket p.0) }
+    ensures found { IfOk result (λ p. 0x11 ∷ bytes.now ≡ packet p.0 ++ p.1.now) }
+    ensures bad { IfErr result (Stops (After 0x11 Packets) bytes.now) }
+{
+    let (position, click, rest) = read_two::<u64, ClickRec>(alloc, bytes)?;
+    Ok((Packet::Join { position, click }, rest))
+}
+
+fn read_joined(alloc: Global, bytes: &[u8]) -> Result<(Packet, &[u8]), Stop>
+    ensures is { IfOk result (λ p. IsPacket p.0) }
+    ensures found { IfOk result (λ p. 0x12 ∷ bytes.now ≡ packet p.0 ++ p.1.now) }
+    ensures bad { IfErr result (Stops (After 0x12 Packets) bytes.now) }
+{
+    let (position, outcome, rest) = read_two::<u64, Outcome>(alloc, bytes)?;
+    Ok((Packet::Joined { position, outcome }, rest))
+}
+
+fn read_insert(alloc: Global, bytes: &[u8]) -> Result<(Packet, &[u8]), Stop>
+    ensures is { IfOk result (λ p. IsPacket p.0) }
+    ensures found { IfOk result (λ p. 0x13 ∷ bytes.now ≡ packet p.0 ++ p.1.now) }
+    ensures bad { IfErr result (Stops (After 0x13 Packets) bytes.now) }
+{
+    let (insert, rest) = Insert::read(alloc, bytes)?;
+    Ok((Packet::Insert(insert), rest))
+}
+
+fn read_reply(alloc: Global, bytes: &[u8]) -> Result<(Packet, &[u8]), Stop>
+    ensures is { IfOk result (λ p. IsPacket p.0) }
+    ensures found { IfOk result (λ p. 0x14 ∷ bytes.now ≡ packet p.0 ++ p.1.now) }
+    ensures bad { IfErr result (Stops (After 0x14 Packets) bytes.now) }
+{
+    let (insert, answer, rest) = read_two::<Insert, Answer>(alloc, bytes)?;
+    Ok((Packet::Reply { insert, answer }, rest))
+}
+
+fn read_prepare(alloc: Global, bytes: &[u8]) -> Result<(Packet, &[u8]), Stop>
+    ensures is { IfOk result (λ p. IsPacket p.0) }
+    ensures found { IfOk result (λ p. 0x15 ∷ bytes.now ≡ packet p.0 ++ p.1.now) }
+    ensures bad { IfErr result (Stops (After 0x15 Packets) bytes.now) }
+{
+    let (place, ballot, rest) = read_two::<Place, Ballot>(alloc, bytes)?;
+    Ok((Packet::Prepare { place, ballot }, rest))
+}
+
+fn read_promise(alloc: Global, bytes: &[u8]) -> Result<(Packet, &[u8]), Stop>
+    ensures is { IfOk result (λ p. IsPacket p.0) }
+    ensures found { IfOk result (λ p. 0x16 ∷ bytes.now ≡ packet p.0 ++ p.1.now) }
+    ensures bad { IfErr result (Stops (After 0x16 Packets) bytes.now) }
+{
+    let (place, ballot, prior, rest) = read_three::<Place, Ballot, Option<(Ballot, Batch)>>(
+        alloc, bytes,
+    )?;
+    Ok((
+        Packet::Promise {
+            place,
+            ballot,
+            prior,
+        },
+        rest,
+    ))
+}
+
+fn read_nack(alloc: Global, bytes: &[u8]) -> Result<(Packet, &[u8]), Stop>
+    ensures is { IfOk result (λ p. IsPacket p.0) }
+    ensures found { IfOk result (λ p. 0x17 ∷ bytes.now ≡ packet p.0 ++ p.1.now) }
+    ensures bad { IfErr result (Stops (After 0x17 Packets) bytes.now) }
+{
+    let (place, ballot, promised, rest) = read_three::<Place, Ballot, Ballot>(alloc, bytes)?;
+    Ok((
+        Packet::Nack {
+            place,
+            ballot,
+            promised,
+        },
+        rest,
+    ))
+}
+
+fn read_accept(alloc: Global, bytes: &[u8]) -> Result<(Packet, &[u8]), Stop>
+    ensures is { IfOk result (λ p. IsPacket p.0) }
+    ensures found { IfOk result (λ p. 0x18 ∷ bytes.now ≡ packet p.0 ++ p.1.now) }
+    ensures bad { IfErr result (Stops (After 0x18 Packets) bytes.now) }
+{
+    let (place, ballot, batch, rest) = read_three::<Place, Ballot, Batch>(alloc, bytes)?;
+    Ok((
+        Packet::Accept {
+            place,
+            ballot,
+            batch,
+        },
+        rest,
+    ))
+}
+
+fn read_accepted(alloc: Global, bytes: &[u8]) -> Result<(Packet, &[u8]), Stop>
+    ensures is { IfOk result (λ p. IsPacket p.0) }
+    ensures found { IfOk result (λ p. 0x19 ∷ bytes.now ≡ packet p.0 ++ p.1.now) }
+    ensures bad { IfErr result (Stops (After 0x19 Packets) bytes.now) }
+{
+    let (place, ballot, rest) = read_two::<Place, Ballot>(alloc, bytes)?;
+    Ok((Packet::Accepted { place, ballot }, rest))
+}
+
+fn read_chosen(alloc: Global, bytes: &[u8]) -> Result<(Packet, &[u8]), Stop>
+    ensures is { IfOk result (λ p. IsPacket p.0) }
+    ensures found { IfOk result (λ p. 0x1A ∷ bytes.now ≡ packet p.0 ++ p.1.now) }
+    ensures bad { IfErr result (Stops (After 0x1A Packets) bytes.now) }
+{
+    let (place, batch, rest) = read_two::<Place, Batch>(alloc, bytes)?;
+    Ok((Packet::Chosen { place, batch }, rest))
+}

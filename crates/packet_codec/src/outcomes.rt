@@ -1,0 +1,95 @@
+// Outcomes of joins.
+ghost use Rattle.std.specs.Prelude.{◌≡◌, ◌≤◌, length, take};
+ghost use Rattle.packet_codec.specs.Packets.{outcome, IsOutcome};
+
+use crate::Outcome;
+use fields::{Field, Stop, read_tag, token_bytes, write};
+use registry_state::Token;
+use std::alloc::{AllocError, Global};
+use wire_core::Bytes;
+
+const WRITTEN: u8 = 0;
+
+const ALREADY: u8 = 1;
+
+const TOO_OLD: u8 = 2;
+
+const NO_QUERY: u8 = 3;
+
+const BUSY: u8 = 4;
+
+// The longest spelling.
+const LONGEST: usize = 15;
+
+/// A tag, 0 for Written, 1 for Already with the token behind it, 2 for TooOld with the bound, 3 for NoQuery with the count
+/// of lines, 4 for Busy. Reading takes no memory.
+impl Field for Outcome {
+    ghost spelled = { outcome };
+
+    ghost has_spelling = { IsOutcome };
+
+    fn put(&self, to: &mut Bytes) -> Result<(), AllocError> {
+        let mut bytes = [0; LONGEST];
+        let end = write_outcome(self, &mut bytes);
+        to.put_bytes(&bytes[..end])
+    }
+
+    fn read(alloc: Global, bytes: &[u8]) -> Result<(Outcome, &[u8]), Stop> {
+        let (tag, rest) = read_tag(bytes, WRITTEN, BUSY)?;
+        match tag {
+            WRITTEN => Ok((Outcome::Written, rest)),
+            ALREADY => {
+                let (token, rest) = Token::read(alloc, rest)?;
+                Ok((Outcome::Already(token), rest))
+            }
+            TOO_OLD => {
+                let (bound, rest) = u64::read(alloc, rest)?;
+                Ok((Outcome::TooOld(bound), rest))
+            }
+            NO_QUERY => {
+                let (lines, rest) = u64::read(alloc, rest)?;
+                Ok((Outcome::NoQuery(lines), rest))
+            }
+            _ => Ok((Outcome::Busy, rest)),
+        }
+    }
+
+    fn told_apart() {}
+
+    fn some_value() {}
+}
+
+// How many bytes the spelling has.
+pub(crate) fn outcome_length(o: &Outcome) -> usize
+    ensures is { result ≡ length (outcome o.now) }
+    ensures few { result ≤ 15 }
+{
+    match o {
+        Outcome::Written | Outcome::Busy => 1,
+        Outcome::Already(_) => 15,
+        Outcome::TooOld(_) | Outcome::NoQuery(_) => 9,
+    }
+}
+
+// Writes the spelling to the front, and answers its length.
+fn write_outcome(o: &Outcome, buf: &mut [u8; LONGEST]) -> usize
+    ensures within { result ≤ 15 }
+    ensures text { take result buf.new ≡ outcome o.now }
+{
+    match o {
+        Outcome::Written => write(buf, 0, &[WRITTEN]),
+        Outcome::Already(token) => {
+            let at = write(buf, 0, &[ALREADY]);
+            write(buf, at, &token_bytes(token))
+        }
+        Outcome::TooOld(bound) => {
+            let at = write(buf, 0, &[TOO_OLD]);
+            write(buf, at, &bound.to_be_bytes())
+        }
+        Outcome::NoQuery(lines) => {
+            let at = write(buf, 0, &[NO_QUERY]);
+            write(buf, at, &lines.to_be_bytes())
+        }
+        Outcome::Busy => write(buf, 0, &[BUSY]),
+    }
+}

@@ -1,0 +1,1 @@
+// Packets and their bytes, from the layouts.
