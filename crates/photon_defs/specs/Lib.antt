@@ -1,0 +1,11 @@
+pub mod Journals
+pub mod Runs
+pub mod Local
+pub mod Agreement
+pub mod Sound
+pub mod Topology
+pub mod Facts
+pub mod Rows
+pub mod Bus
+pub mod Report
+pub mod Rest

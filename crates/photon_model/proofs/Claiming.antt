@@ -1,0 +1,132 @@
+-- Each join in flight has sent its insert.
+use Rattle.std.proofs.Common.{◌≡◌, ◌⊎◌, inl, inr, ⊎_elim, ℕ, Bool, true, false, cond, nat_lt, List, [], ◌∷◌, ◌++◌, length, Some, None, refl, sym, ap, ◌∙◌, subst}
+use Rattle.std.specs.Prelude.{Option, find}
+use Rattle.std.proofs.lemmas.Bool.{cond_both}
+use Rattle.registry_state.specs.declared.Insert.{Insert}
+use Rattle.log_records.specs.declared.records.ClickRec.{ClickRec as Click}
+use Rattle.log_records.specs.Log.{first}
+use Rattle.list_words.specs.Lists.{Mem, set_at}
+use Rattle.registry_state.specs.declared.Answer.{Answer}
+use Rattle.registry_state.specs.declared.Answer.TheVariants.{Granted, Duplicate, TooOld}
+use Rattle.turn_defs.specs.Setting.{Setting}
+use Rattle.packet_codec.specs.declared.packet.Packet.{Packet}
+use Rattle.packet_codec.specs.declared.packet.Packet.TheVariants.{Join, Insert as Claim, Reply}
+use Rattle.packet_codec.specs.declared.node.Node.{Node}
+use Rattle.packet_codec.specs.declared.node.Node.TheVariants.{Dispatcher, Server, Replica, Joiner}
+use Rattle.packet_codec.specs.declared.node.To.{To}
+use Rattle.packet_codec.specs.Nodes.{Sent}
+use Rattle.packet_codec.specs.declared.node.Input.{Input}
+use Rattle.packet_codec.specs.declared.node.Input.TheVariants.{Start, Own, Tick, Deliver}
+use Rattle.turn_defs.specs.Turns.{Out, idle}
+use Rattle.joiner_core.specs.Joiner.{JoinerKept, JoinerLive, Flight, insert_of, is_for, in_flight, landed, looks, joins, answers, replied, joiner_gets, joiner_turn, joiner_start}
+use Rattle.photon_defs.specs.Runs.{Cell, World, Entry, Begin, End, Stop, Disks, begun, stopped, joiner_row, sends, after, world_after, May, IsRun, opening}
+use Rattle.list_words.proofs.Lists.{option_both, mem_left, mem_right, mem_split, at_set, some_same, none_some}
+use Rattle.photon_model.specs.Claims.{HasSent, ClaimsSent}
+use Rattle.turn_defs.specs.Nodes.{Addressed}
+
+-- a packet of a row is among the packets sent
+pub addressed_sent : (g : Setting) (from : Node) (as_ : List (To × Packet)) (ps : List (Node × Packet)) → Addressed g as_ ps → (a : To × Packet) → Mem a as_ → HasSent (sends from ps) a.1
+addressed_sent g from [] ps h a m = absurd m
+addressed_sent g from (b ∷ as_) [] h a m = absurd h
+addressed_sent g from (b ∷ as_) (p ∷ ps) h a (inl e) = (record { from = from; to = p.0; packet = p.1 }, inl refl, sym h.0.1 ∙ ap (λ (z : To × Packet). z.1) e)
+addressed_sent g from (b ∷ as_) (p ∷ ps) h a (inr m) = let i = addressed_sent g from as_ ps h.1 a m in (i.0, inr i.1, i.2)
+
+-- what is in flight after a row was so before, or its insert is sent
+module _ (g : Setting) (j : ℕ) (k : JoinerKept) (l : JoinerLive) where
+  abbrev Claimed : Out JoinerLive → Type 0
+  Claimed o = (f : Flight) → Mem f o.live.flight → Mem f l.flight ⊎ ((a : To × Packet) × Mem a o.packets × (a.1 ≡ Claim (insert_of f)))
+
+  landed_before : (fs : List Flight) (x : Insert) (f : Flight) → Mem f (landed fs x) → Mem f fs
+  landed_before [] x f m = m
+  landed_before (y ∷ fs) x f m = go (landed_before fs x f) (is_for x y) m
+    where
+      go : (Mem f (landed fs x) → Mem f fs) → (t : Bool) → Mem f (cond t (landed fs x) (y ∷ landed fs x)) → (y ≡ f) ⊎ Mem f fs
+      go ih true q = inr (ih q)
+      go ih false (inl q) = inl q
+      go ih false (inr q) = inr (ih q)
+
+  answers_claimed : (x : Insert) (y : Flight) (a : Answer) → Claimed (answers g j k l x y a)
+  answers_claimed x y Granted f m = inl (landed_before l.flight x f m)
+  answers_claimed x y (Duplicate h) f m = inl (landed_before l.flight x f m)
+  answers_claimed x y (TooOld b) f m = inl (landed_before l.flight x f m)
+
+  joins_claimed : (p : ℕ) (c : Click) → Claimed (joins g j k l p c)
+  joins_claimed p c =
+      cond_both (in_flight l.flight c.id) (idle l) _ Claimed (λ _ f m. inl m)
+      (λ _. cond_both (nat_lt (length l.flight) 32) _ _ Claimed
+      (λ _. option_both (first g.queries c.query) (looks g j k l p c) Claimed
+      (λ q _. cond_both (nat_lt l.number _) _ (idle l) Claimed
+      (λ _ f m. ⊎_elim (λ r. inl r) (λ r. ⊎_elim (λ e. inr (_, inl refl, ap (λ (z : Flight). Claim (insert_of z)) e)) (λ e. absurd e) r) (mem_split f l.flight _ m))
+      (λ _ f m. inl m))
+      (λ _ f m. inl m))
+      (λ _ f m. inl m))
+
+  gets_claimed : (p : Packet) → Claimed (joiner_gets g j k l p)
+  gets_claimed (Join p c) = joins_claimed p c
+  gets_claimed (Reply x a) = option_both (find (is_for x) l.flight) (replied g j k l x a) Claimed (λ y _. answers_claimed x y a) (λ _ f m. inl m)
+  gets_claimed _ = λ f m. inl m
+
+  turn_claimed : (i : Input) → Claimed (joiner_turn g j k l i)
+  turn_claimed Tick = λ f m. inl m
+  turn_claimed (Deliver from p) = gets_claimed p
+  turn_claimed Own = λ f m. inl m
+  turn_claimed Start = λ f m. inl m
+
+-- before the row: nothing is in flight in a node that is down
+abbrev WasFlying : Option JoinerLive → Flight → Type 0
+WasFlying None f = ⊥
+WasFlying (Some l) f = Mem f l.flight
+
+row_claimed : (g : Setting) (j : ℕ) (c : Cell JoinerKept JoinerLive) (f : Flight) → Mem f (joiner_row g j c).live.flight → WasFlying c.live f ⊎ ((a : To × Packet) × Mem a (joiner_row g j c).packets × (a.1 ≡ Claim (insert_of f)))
+row_claimed g j c f m = go c.live c.opened m
+  where
+    go : (l : Option JoinerLive) (o : Option Input) → Mem f (joiner_row g j (record { kept = c.kept; live = l; opened = o })).live.flight → WasFlying l f ⊎ ((a : To × Packet) × Mem a (joiner_row g j (record { kept = c.kept; live = l; opened = o })).packets × (a.1 ≡ Claim (insert_of f)))
+    go None o m = absurd m
+    go (Some l) None m = turn_claimed g j c.kept l Own f m
+    go (Some l) (Some i) m = turn_claimed g j c.kept l i f m
+
+module _ (g : Setting) (w : World) (h : ClaimsSent w) where
+  abbrev Sends : List Sent → Option JoinerLive → Type 0
+  Sends sent o = (l : JoinerLive) → o ≡ Some l → (f : Flight) → Mem f l.flight → HasSent sent (Claim (insert_of f))
+
+  more : (new : List Sent) (p : Packet) → HasSent w.sent p → HasSent (new ++ w.sent) p
+  more new p x = (x.0, mem_right x.0 new w.sent x.1, x.2)
+
+  keeps : (new : List Sent) (j : ℕ) → Sends (new ++ w.sent) (w.joiners j).live
+  keeps new j l e f m = more new (Claim (insert_of f)) (h j l e f m)
+
+  was : (j : ℕ) (f : Flight) → WasFlying (w.joiners j).live f → HasSent w.sent (Claim (insert_of f))
+  was j f x = go (w.joiners j).live refl x
+    where
+      go : (o : Option JoinerLive) → (w.joiners j).live ≡ o → WasFlying o f → HasSent w.sent (Claim (insert_of f))
+      go None e x = absurd x
+      go (Some l) e x = h j l e f x
+
+  replaced : (j : ℕ) (c : Cell JoinerKept JoinerLive) (new : List Sent) → Sends (new ++ w.sent) c.live → (m : ℕ) → Sends (new ++ w.sent) (set_at w.joiners j c m).live
+  replaced j c new s = at_set (λ m (d : Cell JoinerKept JoinerLive). Sends (new ++ w.sent) d.live) w.joiners j c s (keeps new)
+
+  claims_kept : (e : Entry) → May g w e → ClaimsSent (after g w e)
+  claims_kept (Begin (Dispatcher s) i) m = h
+  claims_kept (Begin (Server s) i) m = h
+  claims_kept (Begin (Replica r) i) m = h
+  claims_kept (Begin (Joiner j) i) m = replaced j (begun (w.joiners j) i) [] (h j)
+  claims_kept (End (Dispatcher s) _ ps kept) m = keeps (sends (Dispatcher s) ps)
+  claims_kept (End (Server s) _ ps kept) m = keeps (sends (Server s) ps)
+  claims_kept (End (Replica r) _ ps kept) m = keeps (sends (Replica r) ps)
+  claims_kept (End (Joiner j) made ps kept) m =
+      replaced j _ (sends (Joiner j) ps)
+      (λ l e f q. ⊎_elim
+      (λ x. more (sends (Joiner j) ps) (Claim (insert_of f)) (was j f x))
+      (λ (x : (a : To × Packet) × Mem a (joiner_row g j (w.joiners j)).packets × (a.1 ≡ Claim (insert_of f))). let s = addressed_sent g (Joiner j) (joiner_row g j (w.joiners j)).packets ps m.1.2 x.0 x.1 in (s.0, mem_left s.0 (sends (Joiner j) ps) w.sent s.1, s.2 ∙ x.2))
+      (row_claimed g j (w.joiners j) f (subst (λ (z : JoinerLive). Mem f z.flight) (sym (some_same _ l e)) q)))
+  claims_kept (Stop (Dispatcher s) _) m = h
+  claims_kept (Stop (Server s) _) m = h
+  claims_kept (Stop (Replica r) _) m = h
+  claims_kept (Stop (Joiner j) o) m = replaced j (stopped Rattle.joiner_core.specs.Joiner.land_joiner (w.joiners j) o) [] (λ l e. none_some l e)
+
+claims_run : (g : Setting) (es : List Entry) (w : World) → ClaimsSent w → IsRun g w es → ClaimsSent (world_after g w es)
+claims_run g [] w h r = h
+claims_run g (e ∷ es) w h r = claims_run g es (after g w e) (claims_kept g w h e r.0) r.1
+
+pub every_claim_sent : (g : Setting) (d : Disks) (es : List Entry) → IsRun g (opening d) es → ClaimsSent (world_after g (opening d) es)
+every_claim_sent g d es r = claims_run g es (opening d) (λ j l e. none_some l e) r

@@ -1,0 +1,159 @@
+-- Facts that last where more is known: one lemma for each kind of fact.
+use Rattle.std.proofs.Common.{◌≡◌, ◌⊎◌, inl, inr, ⊎_elim, ℕ, ◌≤◌, Bool, true, false, List, [], ◌∷◌, ◌++◌, Some, None, refl, sym, ap, ◌∙◌, subst, arith}
+use Rattle.std.specs.Prelude.{Option, MatchBool, slice_get}
+use Rattle.event_id.specs.declared.id.EventId.{EventId}
+use Rattle.registry_state.specs.declared.Token.{Token}
+use Rattle.registry_state.specs.declared.Insert.{Insert}
+use Rattle.registry_state.specs.declared.Batch.{Batch}
+use Rattle.log_records.specs.Lines.{ClickLine}
+use Rattle.list_words.specs.Lists.{Mem, Each, Begins, has}
+use Rattle.registry_state.specs.declared.Answer.{Answer}
+use Rattle.registry_state.specs.declared.Answer.TheVariants.{Granted, Duplicate, TooOld}
+use Rattle.registry_state.specs.LookBack.{IsGranted}
+use Rattle.turn_defs.specs.Setting.{Setting}
+use Rattle.packet_codec.specs.declared.packet.Packet.{Packet}
+use Rattle.packet_codec.specs.declared.packet.Packet.TheVariants.{Join, Joined, Insert as Claim, Reply, Prepare, Promise, Nack, Accept, Accepted, Chosen}
+use Rattle.packet_codec.specs.declared.packet.Outcome.{Outcome}
+use Rattle.packet_codec.specs.declared.packet.Outcome.TheVariants.{Written, Already, TooOld as Late, NoQuery, Busy}
+use Rattle.output_log.specs.declared.pair.PairRec.{PairRec}
+use Rattle.turn_defs.specs.Turns.{BallotNote}
+use Rattle.paxos_defs.specs.Notes.Note.{Promised, Accepted as Took}
+use Rattle.paxos_defs.specs.Attempts.{Phase}
+use Rattle.paxos_defs.specs.Attempts.Phase.{Promising, Accepting, Ended}
+use Rattle.ballot_core.specs.declared.Ballot.{Ballot}
+use Rattle.dispatch_core.specs.Dispatcher.{DispatcherKept, DispatcherLive, Fresh}
+use Rattle.joiner_core.specs.Joiner.{JoinerKept, JoinerLive, Flight}
+use Rattle.registry_server.specs.Server.{ServerLive, ShardState, Proposal}
+use Rattle.photon_defs.specs.Sound.{Known, values_of, IsWritten, IsSettled, DispatcherSound, PairSound, JoinerSound, IsInsertOf, InsertsOf}
+use Rattle.photon_defs.specs.Facts.{IsTooOld, HoldsOfOutcome, HoldsOfReply, HoldsOfBest, HoldsOfPhase, HoldsOf, Covers, IsFreshSound, DispatcherHolds, FlightHolds, JoinerHolds, HoldsOfProposal, ShardHolds, ServerHolds}
+use Rattle.list_words.proofs.Lists.{each_more}
+use Rattle.registry_state.proofs.LookingBack.{granted_stays, settled_stays, bound_stays, get_front}
+use Rattle.photon_model.specs.Keeping.{Grows}
+
+pub begins_self : {A : Type 0} (xs : List A) → Begins xs xs
+begins_self xs = ([], go xs)
+  where
+    go : {A : Type 0} (ys : List A) → ys ≡ ys ++ []
+    go [] = refl
+    go (y ∷ ys) = ap (λ l. y ∷ l) (go ys)
+
+pub begins_again : {A : Type 0} (xs ys zs : List A) → Begins xs ys → Begins ys zs → Begins xs zs
+begins_again xs ys zs p q = (p.0 ++ q.0, q.1 ∙ ap (λ l. l ++ q.0) p.1 ∙ assoc xs p.0 q.0)
+  where
+    assoc : {A : Type 0} (as_ bs cs : List A) → (as_ ++ bs) ++ cs ≡ as_ ++ (bs ++ cs)
+    assoc [] bs cs = refl
+    assoc (x ∷ as_) bs cs = ap (λ l. x ∷ l) (assoc as_ bs cs)
+
+module _ (g : Setting) (a b : Known) (up : Grows a b) where
+  pub written_lasts : (i : EventId) → IsWritten g a i → IsWritten g b i
+  written_lasts i w = (w.0, w.1, w.2, up.pairs w.0 w.1 w.3, w.4)
+
+  pub granted_lasts : (i : EventId) (t : Token) → IsGranted (values_of g a i) i t → IsGranted (values_of g b i) i t
+  granted_lasts i t h = granted_stays (values_of g a i) (values_of g b i) i t (up.values _) h
+
+  pub settled_lasts : (i : EventId) → IsSettled g a i → IsSettled g b i
+  settled_lasts i (inl h) = inl (settled_stays (values_of g a i) (values_of g b i) i (up.values _) h)
+  settled_lasts i (inr w) = inr (written_lasts i w)
+
+  pub late_lasts : (i : EventId) (c : ℕ) → IsTooOld g a i c → IsTooOld g b i c
+  late_lasts i c h = (h.0, let p = h.1 in let q = bound_stays (values_of g a i) (values_of g b i) (up.values _) in omega arith)
+
+  outcome_lasts : (l : ClickLine) (o : Outcome) → HoldsOfOutcome g a l o → HoldsOfOutcome g b l o
+  outcome_lasts l Written h = written_lasts l.click.id h
+  outcome_lasts l (Already t) h = granted_lasts l.click.id t h
+  outcome_lasts l (Late c) h = late_lasts l.click.id c h
+  outcome_lasts l (NoQuery m) h = h
+  outcome_lasts l Busy h = h
+
+  reply_lasts : (x : Insert) (r : Answer) → HoldsOfReply g a x r → HoldsOfReply g b x r
+  reply_lasts x Granted h = granted_lasts x.id x.token h
+  reply_lasts x (Duplicate t) h = (h.0, granted_lasts x.id t h.1)
+  reply_lasts x (TooOld c) h = late_lasts x.id c h
+
+  inserts_last : (s : ℕ) (xs : List Insert) → Each (IsInsertOf g a s) xs → Each (IsInsertOf g b s) xs
+  inserts_last s xs h = each_more (IsInsertOf g a s) (IsInsertOf g b s) xs (λ x p. (p.0, up.drawn x p.1)) h
+
+  best_lasts : (s : ℕ) (o : Option (Ballot × Batch)) → HoldsOfBest g a s o → HoldsOfBest g b s o
+  best_lasts s None h = h
+  best_lasts s (Some x) h = inserts_last s x.1.inserts h
+
+  pub packet_lasts : (p : Packet) → HoldsOf g a p → HoldsOf g b p
+  packet_lasts (Join p c) h = h
+  packet_lasts (Joined p o) h = (h.0, h.1, outcome_lasts h.0 o h.2)
+  packet_lasts (Claim x) h = up.drawn x h
+  packet_lasts (Reply x r) h = reply_lasts x r h
+  packet_lasts (Prepare p c) h = h
+  packet_lasts (Promise p c o) h = best_lasts p.shard o h
+  packet_lasts (Nack p c d) h = h
+  packet_lasts (Accept p c v) h = inserts_last p.shard v.inserts h
+  packet_lasts (Accepted p c) h = h
+  packet_lasts (Chosen p v) h = subst (λ (l : List Batch). slice_get l p.slot ≡ Some v) (sym (up.values p.shard).1) (get_front (a.values p.shard) (up.values p.shard).0 p.slot v h)
+
+  pub dispatcher_kept_lasts : (k : DispatcherKept) → DispatcherSound g a k → DispatcherSound g b k
+  dispatcher_kept_lasts k s = record { boundary = s.boundary; starts = s.starts; once = s.once; passed = λ l m lt. ⊎_elim (λ h. inl h) (λ h. inr (settled_lasts l.click.id h)) (s.passed l m lt) }
+
+  fresh_lasts : (pending : List ℕ) (f : Fresh) → IsFreshSound g a pending f → IsFreshSound g b pending f
+  fresh_lasts pending f h = go f.done h
+    where
+      go : (d : Bool) → MatchBool d ((has pending f.position ≡ true) ⊎ IsSettled g a f.click.id) (has pending f.position ≡ false) → MatchBool d ((has pending f.position ≡ true) ⊎ IsSettled g b f.click.id) (has pending f.position ≡ false)
+      go true h = ⊎_elim (λ x. inl x) (λ x. inr (settled_lasts f.click.id x)) h
+      go false h = h
+
+  covers_last : (e : ℕ) (fs : List Fresh) (p : ℕ) → Covers g a e fs p → Covers g b e fs p
+  covers_last e [] p h = h
+  covers_last e (f ∷ fs) p h = (h.0, h.1, covers_last f.end_ fs p h.2)
+
+  pub dispatcher_live_lasts : (k : DispatcherKept) (l : DispatcherLive) → DispatcherHolds g a k l → DispatcherHolds g b k l
+  dispatcher_live_lasts k l h =
+      record {
+        covers = covers_last k.offset l.fresh l.place h.covers;
+        each = each_more (IsFreshSound g a k.pending) (IsFreshSound g b k.pending) l.fresh (fresh_lasts k.pending) h.each;
+        due_pending = h.due_pending;
+        trying_pending = h.trying_pending;
+        due_once = h.due_once;
+        trying_once = h.trying_once;
+        apart = h.apart;
+        others = h.others;
+        at_end = h.at_end;
+      }
+
+  pub pair_lasts : (j e d : ℕ) → e ≤ d → (p : PairRec) → PairSound g a j e p → PairSound g b j d p
+  pair_lasts j e d le p s = record { own_query = s.own_query; joiner = s.joiner; epoch = (let q = s.epoch in omega arith); granted = granted_lasts p.click.id p.token s.granted; drawn = up.drawn _ s.drawn }
+
+  pub joiner_kept_lasts : (j : ℕ) (k : JoinerKept) → JoinerSound g a j k → JoinerSound g b j k
+  joiner_kept_lasts j k s = record { pairs = each_more (PairSound g a j k.epoch) (PairSound g b j k.epoch) k.pairs (pair_lasts j k.epoch k.epoch (omega arith)) s.pairs; once = s.once }
+
+  pub flight_lasts : (j e m n : ℕ) → m ≤ n → (f : Flight) → FlightHolds g a j e m f → FlightHolds g b j e n f
+  flight_lasts j e m n le f h = record { own_query = h.own_query; line = h.line; claimed = up.drawn _ h.claimed; joiner = h.joiner; epoch = h.epoch; number = (let q = h.number in omega arith) }
+
+  -- a joiner's flights last where it has drawn nothing itself
+  pub joiner_live_lasts : (j : ℕ) (k : JoinerKept) (l : JoinerLive) → ((x : Insert) → Mem x b.drawn → x.token.joiner ≡ j → Mem x a.drawn) → JoinerHolds g a j k l → JoinerHolds g b j k l
+  joiner_live_lasts j k l same h =
+      record {
+        flights = each_more (FlightHolds g a j k.epoch l.number) (FlightHolds g b j k.epoch l.number) l.flight (flight_lasts j k.epoch l.number l.number (omega arith)) h.flights;
+        unused = λ x m i e. h.unused x (same x m i) i e;
+        ids_differ = h.ids_differ;
+        unwritten = h.unwritten;
+      }
+
+  phase_lasts : (s : ℕ) (p : Phase Batch) → HoldsOfPhase g a s p → HoldsOfPhase g b s p
+  phase_lasts s (Promising marks best) h = best_lasts s best h
+  phase_lasts s (Accepting v marks) h = inserts_last s v.inserts h
+  phase_lasts s Ended h = h
+
+  proposal_lasts : (s : ℕ) (o : Option Proposal) → HoldsOfProposal g a s o → HoldsOfProposal g b s o
+  proposal_lasts s None h = h
+  proposal_lasts s (Some p) h = (inserts_last s p.own.inserts h.0, phase_lasts s p.phase h.1)
+
+  pub shard_lasts : (s : ℕ) (st : ShardState) → ShardHolds g a s st → ShardHolds g b s st
+  shard_lasts s st h = record { learned = begins_again st.learned (a.values s) (b.values s) h.learned (up.values s); queue = inserts_last s st.queue h.queue; proposal = proposal_lasts s st.proposal h.proposal }
+
+  pub server_lasts : (l : ServerLive) → ServerHolds g a l → ServerHolds g b l
+  server_lasts l h s = shard_lasts s (l.shards s) (h s)
+
+  note_lasts : (x : BallotNote) → InsertsOf g a x → InsertsOf g b x
+  note_lasts (Took p c v) h = inserts_last p.shard v.inserts h
+  note_lasts (Promised p c) h = h
+
+  pub notes_last : (xs : List BallotNote) → Each (InsertsOf g a) xs → Each (InsertsOf g b) xs
+  notes_last xs h = each_more (InsertsOf g a) (InsertsOf g b) xs note_lasts h

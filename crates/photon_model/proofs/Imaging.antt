@@ -1,0 +1,215 @@
+-- Stops of all nodes after a run are a run, and leave what an image holds.
+use Rattle.std.proofs.Common.{◌≡◌, ◌⊎◌, inl, inr, ⊎_elim, ℕ, zero, suc, ◌+◌, ◌*◌, ◌<◌, ◌≤◌, Bool, true, false, cond, ◌&&◌, ◌==◌, List, [], ◌∷◌, ◌++◌, Some, None, refl, sym, ap, ◌∙◌, subst, arith, lit<}
+use Rattle.std.specs.Prelude.{Option, is_some}
+use Rattle.std.proofs.lemmas.Bool.{cond_both, eqb-true}
+use Rattle.registry_state.specs.declared.Insert.{Insert}
+use Rattle.list_words.specs.Lists.{Mem, Each, set_at}
+use Rattle.turn_defs.specs.Setting.{Setting, first_joiner, Checked}
+use Rattle.packet_codec.specs.declared.node.Node.{Node}
+use Rattle.packet_codec.specs.declared.node.Node.TheVariants.{Dispatcher, Server, Replica, Joiner}
+use Rattle.packet_codec.specs.declared.node.Input.{Input}
+use Rattle.turn_defs.specs.Turns.{Note, Out, land}
+use Rattle.dispatch_core.specs.Dispatcher.{DispatcherKept, DispatcherLive, land_dispatcher}
+use Rattle.joiner_core.specs.Joiner.{JoinerKept, JoinerLive, land_joiner}
+use Rattle.registry_server.specs.Server.{ServerKept, ServerLive, land_server}
+use Rattle.replica_node.specs.Replica.{ReplicaKept, land_replica}
+use Rattle.photon_defs.specs.Sound.{Sound}
+use Rattle.photon_defs.specs.Runs.{Cell, World, Entry, Stop, Disks, disks, stopped, dispatcher_row, server_row, replica_row, joiner_row, after, world_after, May, IsRun, opening}
+use Rattle.list_words.proofs.Lists.{at_set, none_some, each_append, mem_left, mem_right}
+use Rattle.photon_model.specs.Images.{left_by, IsImage}
+use Rattle.photon_model.proofs.Agreeing.{every_run_holds, closes}
+use Rattle.turn_defs.specs.Nodes.{IsNode}
+
+-- the note that has landed
+abbrev landed_of : {L : Type 0} → Bool → Out L → Option Note
+landed_of b o = cond b o.note None
+
+-- ---- one kind of node
+
+module _ (K L : Type 0) (f : Note → K → K) (row_of : ℕ → Cell K L → Out L) (landed : ℕ → Bool) where
+  -- each node is as it was, or has stopped
+  abbrev Stopped : (ℕ → Cell K L) → (ℕ → Cell K L) → Type 0
+  Stopped F V = (n : ℕ) → (V n ≡ F n) ⊎ (((V n).opened ≡ None) × ((V n).kept ≡ left_by f (row_of n (F n)) (landed n) (F n)))
+
+  stops_one : (F V : ℕ → Cell K L) (m : ℕ) (i : Input) → (V m).opened ≡ Some i → Stopped F V → Stopped F (set_at V m (stopped f (V m) (landed_of (landed m) (row_of m (V m)))))
+  stops_one F V m i open_ h =
+      at_set (λ n (c : Cell K L). (c ≡ F n) ⊎ ((c.opened ≡ None) × (c.kept ≡ left_by f (row_of n (F n)) (landed n) (F n)))) V m (stopped f (V m) (landed_of (landed m) (row_of m (V m))))
+      (inr (refl, ⊎_elim (λ e. here (V m) e open_) (λ x. none_some i (sym x.0 ∙ open_)) (h m))) h
+    where
+      here : (c : Cell K L) → c ≡ F m → c.opened ≡ Some i → land f (landed_of (landed m) (row_of m c)) c.kept ≡ left_by f (row_of m (F m)) (landed m) (F m)
+      here c e o = ap (λ (x : Cell K L). land f (landed_of (landed m) (row_of m x)) x.kept) e ∙ ap (λ b. land f (cond (b && landed m) (row_of m (F m)).note None) (F m).kept) (sym (ap (λ (x : Option Input). is_some x) (sym (ap (λ (x : Cell K L). x.opened) e) ∙ o)))
+
+  -- at the end, of a node that is closed
+  left_is : (F V : ℕ → Cell K L) (n : ℕ) → Stopped F V → (V n).opened ≡ None → (V n).kept ≡ left_by f (row_of n (F n)) (landed n) (F n)
+  left_is F V n h closed = ⊎_elim (λ e. same (V n) e closed) (λ x. x.1) (h n)
+    where
+      same : (c : Cell K L) → c ≡ F n → c.opened ≡ None → c.kept ≡ left_by f (row_of n (F n)) (landed n) (F n)
+      same c e o = ap (λ (x : Cell K L). x.kept) e ∙ ap (λ b. land f (cond (b && landed n) (row_of n (F n)).note None) (F n).kept) (sym (ap (λ (x : Option Input). is_some x) (sym (ap (λ (x : Cell K L). x.opened) e) ∙ o)))
+
+-- ---- all nodes
+
+module _ (g : Setting) (landed : Node → Bool) where
+  record AllStopped (w v : World) : Type 0 where
+    pub dispatchers : Stopped DispatcherKept DispatcherLive land_dispatcher (dispatcher_row g) (λ s. landed (Dispatcher s)) w.dispatchers v.dispatchers
+    pub servers : Stopped ServerKept ServerLive land_server (server_row g) (λ s. landed (Server s)) w.servers v.servers
+    pub replicas : Stopped ReplicaKept (Unit {0}) land_replica (λ r c. replica_row c) (λ r. landed (Replica r)) w.replicas v.replicas
+    pub joiners : Stopped JoinerKept JoinerLive land_joiner (joiner_row g) (λ j. landed (Joiner j)) w.joiners v.joiners
+
+  abbrev opened_of : World → Node → Option Input
+  opened_of w (Dispatcher s) = (w.dispatchers s).opened
+  opened_of w (Server s) = (w.servers s).opened
+  opened_of w (Replica r) = (w.replicas r).opened
+  opened_of w (Joiner j) = (w.joiners j).opened
+
+  abbrev note_of : World → Node → Option Note
+  note_of w (Dispatcher s) = landed_of (landed (Dispatcher s)) (dispatcher_row g s (w.dispatchers s))
+  note_of w (Server s) = landed_of (landed (Server s)) (server_row g s (w.servers s))
+  note_of w (Replica r) = landed_of (landed (Replica r)) (replica_row (w.replicas r))
+  note_of w (Joiner j) = landed_of (landed (Joiner j)) (joiner_row g j (w.joiners j))
+
+  abbrev stop_if : Node → Option Note → Option Input → List Entry
+  stop_if n o None = []
+  stop_if n o (Some i) = Stop n o ∷ []
+
+  abbrev stop_of : World → Node → List Entry
+  stop_of w n = stop_if n (note_of w n) (opened_of w n)
+
+  one_of : {L : Type 0} (b : Bool) (o : Out L) → (landed_of b o ≡ None) ⊎ (landed_of b o ≡ o.note)
+  one_of true o = inr refl
+  one_of false o = inl refl
+
+  may_stop : (w : World) (n : Node) (i : Input) → IsNode g n → opened_of w n ≡ Some i → May g w (Stop n (note_of w n))
+  may_stop w (Dispatcher s) i k e = (k, ((i, e), one_of (landed (Dispatcher s)) (dispatcher_row g s (w.dispatchers s))))
+  may_stop w (Server s) i k e = (k, ((i, e), one_of (landed (Server s)) (server_row g s (w.servers s))))
+  may_stop w (Replica r) i k e = (k, ((i, e), one_of (landed (Replica r)) (replica_row (w.replicas r))))
+  may_stop w (Joiner j) i k e = (k, ((i, e), one_of (landed (Joiner j)) (joiner_row g j (w.joiners j))))
+
+  stop_keeps : (w v : World) (n : Node) (i : Input) → opened_of v n ≡ Some i → AllStopped w v → AllStopped w (after g v (Stop n (note_of v n)))
+  stop_keeps w v (Dispatcher s) i e h = record { dispatchers = stops_one DispatcherKept DispatcherLive land_dispatcher (dispatcher_row g) (λ s. landed (Dispatcher s)) w.dispatchers v.dispatchers s i e h.dispatchers; servers = h.servers; replicas = h.replicas; joiners = h.joiners }
+  stop_keeps w v (Server s) i e h = record { dispatchers = h.dispatchers; servers = stops_one ServerKept ServerLive land_server (server_row g) (λ s. landed (Server s)) w.servers v.servers s i e h.servers; replicas = h.replicas; joiners = h.joiners }
+  stop_keeps w v (Replica r) i e h = record { dispatchers = h.dispatchers; servers = h.servers; replicas = stops_one ReplicaKept (Unit {0}) land_replica (λ r c. replica_row c) (λ r. landed (Replica r)) w.replicas v.replicas r i e h.replicas; joiners = h.joiners }
+  stop_keeps w v (Joiner j) i e h = record { dispatchers = h.dispatchers; servers = h.servers; replicas = h.replicas; joiners = stops_one JoinerKept JoinerLive land_joiner (joiner_row g) (λ j. landed (Joiner j)) w.joiners v.joiners j i e h.joiners }
+
+  -- a stopped node is closed, and the others stay closed
+  stop_closes : (v : World) (n : Node) (o : Option Note) → opened_of (after g v (Stop n o)) n ≡ None
+  stop_closes v (Dispatcher s) o = closed v.dispatchers s (stopped land_dispatcher (v.dispatchers s) o) refl
+    where
+      closed : {K L : Type 0} (F : ℕ → Cell K L) (n : ℕ) (c : Cell K L) → c.opened ≡ None → (set_at F n c n).opened ≡ None
+      closed F n c e = cond_both (n == n) c (F n) (λ d. d.opened ≡ None) (λ _. e) (λ t. absurd (Rattle.std.proofs.lemmas.Bool.eqb-false n n t refl))
+  stop_closes v (Server s) o = cond_both (s == s) (stopped land_server (v.servers s) o) (v.servers s) (λ (d : Cell ServerKept ServerLive). d.opened ≡ None) (λ _. refl) (λ t. absurd (Rattle.std.proofs.lemmas.Bool.eqb-false s s t refl))
+  stop_closes v (Replica r) o = cond_both (r == r) (stopped land_replica (v.replicas r) o) (v.replicas r) (λ (d : Cell ReplicaKept (Unit {0})). d.opened ≡ None) (λ _. refl) (λ t. absurd (Rattle.std.proofs.lemmas.Bool.eqb-false r r t refl))
+  stop_closes v (Joiner j) o = cond_both (j == j) (stopped land_joiner (v.joiners j) o) (v.joiners j) (λ (d : Cell JoinerKept JoinerLive). d.opened ≡ None) (λ _. refl) (λ t. absurd (Rattle.std.proofs.lemmas.Bool.eqb-false j j t refl))
+
+  stays_closed : (v : World) (n : Node) (o : Option Note) (m : Node) → opened_of v m ≡ None → opened_of (after g v (Stop n o)) m ≡ None
+  stays_closed v (Dispatcher s) o (Dispatcher t) e = cond_both (t == s) (stopped land_dispatcher (v.dispatchers s) o) (v.dispatchers t) (λ (d : Cell DispatcherKept DispatcherLive). d.opened ≡ None) (λ _. refl) (λ _. e)
+  stays_closed v (Server s) o (Server t) e = cond_both (t == s) (stopped land_server (v.servers s) o) (v.servers t) (λ (d : Cell ServerKept ServerLive). d.opened ≡ None) (λ _. refl) (λ _. e)
+  stays_closed v (Replica s) o (Replica t) e = cond_both (t == s) (stopped land_replica (v.replicas s) o) (v.replicas t) (λ (d : Cell ReplicaKept (Unit {0})). d.opened ≡ None) (λ _. refl) (λ _. e)
+  stays_closed v (Joiner s) o (Joiner t) e = cond_both (t == s) (stopped land_joiner (v.joiners s) o) (v.joiners t) (λ (d : Cell JoinerKept JoinerLive). d.opened ≡ None) (λ _. refl) (λ _. e)
+  stays_closed v (Dispatcher s) o (Server t) e = e
+  stays_closed v (Dispatcher s) o (Replica t) e = e
+  stays_closed v (Dispatcher s) o (Joiner t) e = e
+  stays_closed v (Server s) o (Dispatcher t) e = e
+  stays_closed v (Server s) o (Replica t) e = e
+  stays_closed v (Server s) o (Joiner t) e = e
+  stays_closed v (Replica s) o (Dispatcher t) e = e
+  stays_closed v (Replica s) o (Server t) e = e
+  stays_closed v (Replica s) o (Joiner t) e = e
+  stays_closed v (Joiner s) o (Dispatcher t) e = e
+  stays_closed v (Joiner s) o (Server t) e = e
+  stays_closed v (Joiner s) o (Replica t) e = e
+
+  -- stops of these nodes one after another
+  record Ends (w v : World) (ns : List Node) : Type 0 where
+    pub entries : List Entry
+    pub run : IsRun g v entries
+    pub stopped_all : AllStopped w (world_after g v entries)
+    pub closed : (m : Node) → Mem m ns ⊎ (opened_of v m ≡ None) → opened_of (world_after g v entries) m ≡ None
+
+  ends : (w v : World) (ns : List Node) → Each (IsNode g) ns → AllStopped w v → Ends w v ns
+  ends w v [] k h = record { entries = []; run = tt; stopped_all = h; closed = λ m x. ⊎_elim (λ q. absurd q) (λ q. q) x }
+  ends w v (n ∷ ns) k h = go (opened_of v n) refl (ends w v ns k.1 h) (λ i e. ends w (after g v (Stop n (note_of v n))) ns k.1 (stop_keeps w v n i e h))
+    where
+      go : (o : Option Input) → opened_of v n ≡ o → Ends w v ns → ((i : Input) → opened_of v n ≡ Some i → Ends w (after g v (Stop n (note_of v n))) ns) → Ends w v (n ∷ ns)
+      go None e here later = record { entries = here.entries; run = here.run; stopped_all = here.stopped_all; closed = λ m x. ⊎_elim (λ q. ⊎_elim (λ s. here.closed m (inr (subst (λ (z : Node). opened_of v z ≡ None) s e))) (λ s. here.closed m (inl s)) q) (λ q. here.closed m (inr q)) x }
+      go (Some i) e here later =
+          let z = later i e in
+          record {
+            entries = Stop n (note_of v n) ∷ z.entries;
+            run = (may_stop v n i k.0 e, z.run);
+            stopped_all = z.stopped_all;
+            closed = λ m x. ⊎_elim (λ q. ⊎_elim (λ s. z.closed m (inr (subst (λ (y : Node). opened_of (after g v (Stop n (note_of v n))) y ≡ None) s (stop_closes v n (note_of v n))))) (λ s. z.closed m (inl s)) q) (λ q. z.closed m (inr (stays_closed v n (note_of v n) m q))) x;
+          }
+
+-- ---- the nodes there are
+
+joiners_from : ℕ → ℕ → List Node
+joiners_from j zero = []
+joiners_from j (suc n) = Joiner j ∷ joiners_from (suc j) n
+
+joiner_in : (from n j : ℕ) → from ≤ j → j < from + n → Mem (Joiner j) (joiners_from from n)
+unfolding joiners_from
+joiner_in from zero j a b = absurd (omega arith)
+joiner_in from (suc n) j a b = ⊎_elim (λ lt. inr (joiner_in (suc from) n j lt (omega arith))) (λ ge. inl (ap (λ t. Joiner t) (let e : from ≡ j = omega arith in e))) (Rattle.std.proofs.lemmas.Bool.cases_lt from j)
+
+are_joiners : (g : Setting) (from n : ℕ) → first_joiner g ≤ from → from + n ≤ first_joiner g + 2 * g.joiners → Each (IsNode g) (joiners_from from n)
+unfolding joiners_from
+are_joiners g from zero a b = tt
+are_joiners g from (suc n) a b = ((a, omega arith), are_joiners g (suc from) n (omega arith) (omega arith))
+
+replicas_from : ℕ → ℕ → List Node
+replicas_from r zero = []
+replicas_from r (suc n) = Replica r ∷ replicas_from (suc r) n
+
+replica_in : (from n r : ℕ) → from ≤ r → r < from + n → Mem (Replica r) (replicas_from from n)
+unfolding replicas_from
+replica_in from zero r a b = absurd (omega arith)
+replica_in from (suc n) r a b = ⊎_elim (λ lt. inr (replica_in (suc from) n r lt (omega arith))) (λ ge. inl (ap (λ t. Replica t) (let e : from ≡ r = omega arith in e))) (Rattle.std.proofs.lemmas.Bool.cases_lt from r)
+
+are_replicas : (g : Setting) (from n : ℕ) → from + n ≤ g.replicas → Each (IsNode g) (replicas_from from n)
+unfolding replicas_from
+are_replicas g from zero b = tt
+are_replicas g from (suc n) b = (omega arith, are_replicas g (suc from) n (omega arith))
+
+all_nodes : Setting → List Node
+all_nodes g = Dispatcher 0 ∷ Dispatcher 1 ∷ Server 0 ∷ Server 1 ∷ (replicas_from 0 g.replicas ++ joiners_from (first_joiner g) (2 * g.joiners))
+
+are_nodes : (g : Setting) → Each (IsNode g) (all_nodes g)
+unfolding all_nodes
+are_nodes g = (lit< tt, (lit< tt, (lit< tt, (lit< tt, each_append (IsNode g) (replicas_from 0 g.replicas) (joiners_from (first_joiner g) (2 * g.joiners)) (are_replicas g 0 g.replicas (omega arith)) (are_joiners g (first_joiner g) (2 * g.joiners) (omega arith) (omega arith))))))
+
+node_in : (g : Setting) (n : Node) → IsNode g n → Mem n (all_nodes g)
+unfolding all_nodes
+node_in g (Dispatcher zero) k = inl refl
+node_in g (Dispatcher (suc zero)) k = inr (inl refl)
+node_in g (Dispatcher (suc (suc s))) k = absurd (omega arith)
+node_in g (Server zero) k = inr (inr (inl refl))
+node_in g (Server (suc zero)) k = inr (inr (inr (inl refl)))
+node_in g (Server (suc (suc s))) k = absurd (omega arith)
+node_in g (Replica r) k = inr (inr (inr (inr (mem_left (Replica r) (replicas_from 0 g.replicas) (joiners_from (first_joiner g) (2 * g.joiners)) (replica_in 0 g.replicas r (omega arith) (omega arith))))))
+node_in g (Joiner j) k = inr (inr (inr (inr (mem_right (Joiner j) (replicas_from 0 g.replicas) (joiners_from (first_joiner g) (2 * g.joiners)) (joiner_in (first_joiner g) (2 * g.joiners) j k.0 k.1)))))
+
+run_append : (g : Setting) (xs ys : List Entry) (w : World) → IsRun g w xs → IsRun g (world_after g w xs) ys → IsRun g w (xs ++ ys)
+run_append g [] ys w a b = b
+run_append g (x ∷ xs) ys w a b = (a.0, run_append g xs ys (after g w x) a.1 b)
+
+after_append : (g : Setting) (xs ys : List Entry) (w : World) → world_after g w (xs ++ ys) ≡ world_after g (world_after g w xs) ys
+after_append g [] ys w = refl
+after_append g (x ∷ xs) ys w = after_append g xs ys (after g w x)
+
+pub each_image_sound : (g : Setting) (d : Disks) (drawn : List Insert) (es : List Entry) (landed : Node → Bool) → Checked g → Sound g d drawn → IsRun g (opening d) es → (left : Disks) × (now : List Insert) × IsImage g (world_after g (opening d) es) landed left × Sound g left now
+each_image_sound g d drawn es landed c s r =
+    let w = world_after g (opening d) es in
+    let z = ends g landed w w (all_nodes g) (are_nodes g) (record { dispatchers = λ n. inl refl; servers = λ n. inl refl; replicas = λ n. inl refl; joiners = λ n. inl refl }) in
+    let v = world_after g w z.entries in
+    let h = every_run_holds g d drawn (es ++ z.entries) c s (run_append g es z.entries (opening d) r z.run) in
+    let t = closes g (world_after g (opening d) (es ++ z.entries)) h.0 h.1 h.2 h.3 in (
+      disks v,
+      h.0,
+      record {
+        dispatchers = λ n lt. left_is DispatcherKept DispatcherLive land_dispatcher (dispatcher_row g) (λ s. landed (Dispatcher s)) w.dispatchers v.dispatchers n z.stopped_all.dispatchers (z.closed (Dispatcher n) (inl (node_in g (Dispatcher n) lt)));
+        servers = λ n lt. left_is ServerKept ServerLive land_server (server_row g) (λ s. landed (Server s)) w.servers v.servers n z.stopped_all.servers (z.closed (Server n) (inl (node_in g (Server n) lt)));
+        replicas = λ n lt. left_is ReplicaKept (Unit {0}) land_replica (λ r c. replica_row c) (λ r. landed (Replica r)) w.replicas v.replicas n z.stopped_all.replicas (z.closed (Replica n) (inl (node_in g (Replica n) lt)));
+        joiners = λ n is. left_is JoinerKept JoinerLive land_joiner (joiner_row g) (λ j. landed (Joiner j)) w.joiners v.joiners n z.stopped_all.joiners (z.closed (Joiner n) (inl (node_in g (Joiner n) is)));
+      },
+      subst (λ (x : World). Sound g (disks x) h.0) (after_append g es z.entries (opening d)) t,
+    )

@@ -1,0 +1,222 @@
+-- From one node's row to the whole world: the other nodes' facts last.
+use Rattle.std.proofs.Common.{◌≡◌, ◌≢◌, inl, inr, ⊎_elim, ℕ, ◌<◌, ◌≤◌, Bool, true, false, cond, ◌==◌, List, [], ◌∷◌, ◌++◌, Some, None, refl, sym, ap, ◌∙◌, subst, arith}
+use Rattle.std.specs.Prelude.{Option}
+use Rattle.std.proofs.lemmas.Bool.{cond_both, eq-eqb}
+use Rattle.registry_state.specs.declared.Insert.{Insert}
+use Rattle.list_words.specs.Lists.{Mem, Each, Begins, set_at}
+use Rattle.turn_defs.specs.Setting.{Setting, Checked, IsJoiner}
+use Rattle.packet_codec.specs.declared.packet.Packet.{Packet}
+use Rattle.packet_codec.specs.declared.node.Node.{Node}
+use Rattle.packet_codec.specs.declared.node.Node.TheVariants.{Dispatcher, Server, Replica, Joiner}
+use Rattle.packet_codec.specs.declared.node.To.{To}
+use Rattle.packet_codec.specs.Nodes.{Sent}
+use Rattle.output_log.specs.declared.pair.PairRec.{PairRec}
+use Rattle.packet_codec.specs.declared.node.Input.{Input}
+use Rattle.packet_codec.specs.declared.node.Input.TheVariants.{Start, Own, Tick, Deliver}
+use Rattle.dispatch_core.specs.Dispatcher.{DispatcherKept, DispatcherLive}
+use Rattle.joiner_core.specs.Joiner.{JoinerKept, JoinerLive}
+use Rattle.registry_server.specs.Server.{ServerKept, ServerLive}
+use Rattle.replica_node.specs.Replica.{ReplicaKept}
+use Rattle.photon_defs.specs.Sound.{Known, JoinerSound}
+use Rattle.photon_defs.specs.Facts.{HoldsOf, HoldsOfInput, DispatcherHolds, JoinerHolds, ServerHolds, IfUp, IfOpen, known, DispatcherFacts, JoinerFacts, ServerFacts, ReplicaFacts, WorldHolds}
+use Rattle.photon_defs.specs.Runs.{Cell, World, dispatcher_row, server_row, replica_row, joiner_row, sends, WasSent}
+use Rattle.list_words.proofs.Lists.{mem_right, mem_split, each_at, at_set, at_set_if}
+use Rattle.photon_model.specs.Keeping.{Grows, PacketsHold, extended, IsDrawing, DispatcherKeeps, JoinerKeeps, ServerKeeps, ReplicaKeeps, IsChosenNow}
+use Rattle.photon_model.specs.EveryRun.{decided_in}
+use Rattle.photon_model.proofs.Growth.{begins_self, packet_lasts, dispatcher_kept_lasts, dispatcher_live_lasts, joiner_kept_lasts, joiner_live_lasts, server_lasts, notes_last}
+use Rattle.photon_model.proofs.Dispatching.{dispatcher_keeps, dispatcher_start_keeps}
+use Rattle.photon_model.proofs.Joining.{joiner_keeps, joiner_start_keeps}
+use Rattle.photon_model.proofs.Serving.{server_keeps, server_start_keeps}
+use Rattle.photon_model.proofs.Replicating.{replica_keeps}
+use Rattle.turn_defs.specs.Nodes.{Addressed}
+
+-- packets of a row, as they were sent
+pub addressed_hold : (g : Setting) (n : Known) (from : Node) (as_ : List (To × Packet)) (ps : List (Node × Packet)) → Addressed g as_ ps → PacketsHold g n as_ → (x : Sent) → Mem x (sends from ps) → HoldsOf g n x.packet
+addressed_hold g n from [] [] a h x m = absurd m
+addressed_hold g n from [] (p ∷ ps) a h x m = absurd a
+addressed_hold g n from (b ∷ as_) [] a h x m = absurd m
+addressed_hold g n from (b ∷ as_) (p ∷ ps) a h x (inl e) = subst (λ (y : Sent). HoldsOf g n y.packet) e (subst (HoldsOf g n) a.0.1 h.0)
+addressed_hold g n from (b ∷ as_) (p ∷ ps) a h x (inr m) = addressed_hold g n from as_ ps a.1 h.1 x m
+
+sent_lasts : (more sent : List Sent) (n : Node) (i : Input) → WasSent sent n i → WasSent (more ++ sent) n i
+sent_lasts more sent n (Deliver from p) h = mem_right _ more sent h
+sent_lasts more sent n Start h = h
+sent_lasts more sent n Own h = h
+sent_lasts more sent n Tick h = h
+
+open_lasts : (more sent : List Sent) (n : Node) (o : Option Input) → IfOpen sent n o → IfOpen (more ++ sent) n o
+open_lasts more sent n None h = h
+open_lasts more sent n (Some i) h = sent_lasts more sent n i h
+
+pub if_up : {L : Type 0} (P Q : L → Type 0) (o : Option L) → ((l : L) → P l → Q l) → IfUp P o → IfUp Q o
+if_up P Q None f h = h
+if_up P Q (Some l) f h = f l h
+
+module _ (g : Setting) (a b : Known) (up : Grows a b) (more sent : List Sent) where
+  dispatcher_lasts : (s : ℕ) (c : Cell DispatcherKept DispatcherLive) → DispatcherFacts g a sent s c → DispatcherFacts g b (more ++ sent) s c
+  dispatcher_lasts s c h = record { kept = dispatcher_kept_lasts g a b up c.kept h.kept; live = if_up (DispatcherHolds g a c.kept) (DispatcherHolds g b c.kept) c.live (dispatcher_live_lasts g a b up c.kept) h.live; opened = open_lasts more sent (Dispatcher s) c.opened h.opened }
+
+  joiner_lasts : (j : ℕ) (c : Cell JoinerKept JoinerLive) → ((x : Insert) → Mem x b.drawn → x.token.joiner ≡ j → Mem x a.drawn) → JoinerFacts g a sent j c → JoinerFacts g b (more ++ sent) j c
+  joiner_lasts j c same h = record { kept = joiner_kept_lasts g a b up j c.kept h.kept; live = if_up (JoinerHolds g a j c.kept) (JoinerHolds g b j c.kept) c.live (λ l x. joiner_live_lasts g a b up j c.kept l same x) h.live; opened = open_lasts more sent (Joiner j) c.opened h.opened }
+
+  server_facts_last : (s : ℕ) (c : Cell ServerKept ServerLive) → ServerFacts g a sent s c → ServerFacts g b (more ++ sent) s c
+  server_facts_last s c h = record { live = if_up (ServerHolds g a) (ServerHolds g b) c.live (server_lasts g a b up) h.live; opened = open_lasts more sent (Server s) c.opened h.opened }
+
+  replica_lasts : (r : ℕ) (c : Cell ReplicaKept (Unit {0})) → ReplicaFacts g a sent r c → ReplicaFacts g b (more ++ sent) r c
+  replica_lasts r c h = record { kept = notes_last g a b up c.kept.notes h.kept; opened = open_lasts more sent (Replica r) c.opened h.opened }
+
+grows_self : (n : Known) → Grows n n
+grows_self n = record { values = λ s. begins_self (n.values s); pairs = λ j p m. m; drawn = λ x m. m }
+
+module _ (g : Setting) (w : World) (drawn : List Insert) (holds : WorldHolds g w drawn) where
+  abbrev pub now : Known
+  now = known g w drawn
+
+  -- ---- one cell is replaced, and packets are sent
+
+  pub dispatcher_replaced : (s : ℕ) (c : Cell DispatcherKept DispatcherLive) (more : List Sent) → DispatcherFacts g now (more ++ w.sent) s c → ((x : Sent) → Mem x more → HoldsOf g now x.packet) → WorldHolds g (record w { dispatchers = set_at w.dispatchers s c; sent = more ++ w.sent }) drawn
+  dispatcher_replaced s c more h p =
+      let up = grows_self now in
+      record {
+        packets = λ x m. ⊎_elim (p x) (holds.packets x) (mem_split x more w.sent m);
+        dispatchers = at_set_if (λ t. t < 2) (DispatcherFacts g now (more ++ w.sent)) w.dispatchers s c h (λ t lt ne. dispatcher_lasts g now now up more w.sent t (w.dispatchers t) (holds.dispatchers t lt));
+        joiners = λ j i. joiner_lasts g now now up more w.sent j (w.joiners j) (λ x m e. m) (holds.joiners j i);
+        servers = λ t lt. server_facts_last g now now up more w.sent t (w.servers t) (holds.servers t lt);
+        replicas = λ t lt. replica_lasts g now now up more w.sent t (w.replicas t) (holds.replicas t lt);
+        drawing = holds.drawing;
+      }
+
+  pub server_replaced : (s : ℕ) (c : Cell ServerKept ServerLive) (more : List Sent) → ServerFacts g now (more ++ w.sent) s c → ((x : Sent) → Mem x more → HoldsOf g now x.packet) → WorldHolds g (record w { servers = set_at w.servers s c; sent = more ++ w.sent }) drawn
+  server_replaced s c more h p =
+      let up = grows_self now in
+      record {
+        packets = λ x m. ⊎_elim (p x) (holds.packets x) (mem_split x more w.sent m);
+        dispatchers = λ t lt. dispatcher_lasts g now now up more w.sent t (w.dispatchers t) (holds.dispatchers t lt);
+        joiners = λ j i. joiner_lasts g now now up more w.sent j (w.joiners j) (λ x m e. m) (holds.joiners j i);
+        servers = at_set_if (λ t. t < 2) (ServerFacts g now (more ++ w.sent)) w.servers s c h (λ t lt ne. server_facts_last g now now up more w.sent t (w.servers t) (holds.servers t lt));
+        replicas = λ t lt. replica_lasts g now now up more w.sent t (w.replicas t) (holds.replicas t lt);
+        drawing = holds.drawing;
+      }
+
+  -- the replicas' records have changed, and so what is decided
+  module _ (r : ℕ) (c : Cell ReplicaKept (Unit {0})) (more : List Sent) where
+    abbrev pub with_replica : World
+    with_replica = record w { replicas = set_at w.replicas r c; sent = more ++ w.sent }
+
+    pub replica_replaced : ((s : ℕ) → Begins (decided_in g w s) (decided_in g with_replica s)) → ReplicaFacts g now (more ++ w.sent) r c → ((x : Sent) → Mem x more → HoldsOf g now x.packet) → WorldHolds g with_replica drawn
+    replica_replaced grow h p =
+        let then_ : Known = known g with_replica drawn in
+        let up : Grows now then_ = record { values = grow; pairs = λ j q m. m; drawn = λ x m. m } in
+        record {
+          packets = λ x m. packet_lasts g now then_ up x.packet (⊎_elim (p x) (holds.packets x) (mem_split x more w.sent m));
+          dispatchers = λ t lt. dispatcher_lasts g now then_ up more w.sent t (w.dispatchers t) (holds.dispatchers t lt);
+          joiners = λ j i. joiner_lasts g now then_ up more w.sent j (w.joiners j) (λ x m e. m) (holds.joiners j i);
+          servers = λ t lt. server_facts_last g now then_ up more w.sent t (w.servers t) (holds.servers t lt);
+          replicas = at_set_if (λ t. t < g.replicas) (ReplicaFacts g then_ (more ++ w.sent)) w.replicas r c (record { kept = notes_last g now then_ up c.kept.notes h.kept; opened = h.opened }) (λ t lt ne. replica_lasts g now then_ up more w.sent t (w.replicas t) (holds.replicas t lt));
+          drawing = record { joinable = holds.drawing.joinable; joiner = holds.drawing.joiner; epoch = holds.drawing.epoch; one_id = holds.drawing.one_id };
+        }
+
+  module _ (j : ℕ) (is_joiner : IsJoiner g j) (c : Cell JoinerKept JoinerLive) (more : List Sent) (new : List Insert) where
+    abbrev pub with_joiner : World
+    with_joiner = record w { joiners = set_at w.joiners j c; sent = more ++ w.sent }
+
+    abbrev pub first_known : Known
+    first_known = extended now j c.kept.pairs new
+
+    pub joiner_replaced :
+        (w.joiners j).kept.epoch ≤ c.kept.epoch → ((p : PairRec) → Mem p (w.joiners j).kept.pairs → Mem p c.kept.pairs) → ((x y : Insert) → Mem x new → Mem y new → x ≡ y) → Each (IsDrawing g now j c.kept.epoch) new →
+        JoinerSound g first_known j c.kept → IfUp (JoinerHolds g first_known j c.kept) c.live → IfOpen (more ++ w.sent) (Joiner j) c.opened → ((x : Sent) → Mem x more → HoldsOf g first_known x.packet) →
+        WorldHolds g with_joiner (new ++ drawn)
+    joiner_replaced later has_all one draws kept live opened p =
+        record {
+          packets = λ x m. ⊎_elim (λ q. packet_lasts g first_known then_ same x.packet (p x q)) (λ q. packet_lasts g now then_ up x.packet (holds.packets x q)) (mem_split x more w.sent m);
+          dispatchers = λ t lt. dispatcher_lasts g now then_ up more w.sent t (w.dispatchers t) (holds.dispatchers t lt);
+          joiners = at_set_if (IsJoiner g) (JoinerFacts g then_ (more ++ w.sent)) w.joiners j c
+              (record { kept = joiner_kept_lasts g first_known then_ same j c.kept kept; live = if_up (JoinerHolds g first_known j c.kept) (JoinerHolds g then_ j c.kept) c.live (λ l h. joiner_live_lasts g first_known then_ same j c.kept l (λ x m e. m) h) live; opened = opened })
+              (λ i is ne. joiner_lasts g now then_ up more w.sent i (w.joiners i) (others i ne) (holds.joiners i is));
+          servers = λ t lt. server_facts_last g now then_ up more w.sent t (w.servers t) (holds.servers t lt);
+          replicas = λ t lt. replica_lasts g now then_ up more w.sent t (w.replicas t) (holds.replicas t lt);
+          drawing = record {
+            joinable = λ x m. ⊎_elim (λ q. (draw x q).joinable) (λ q. holds.drawing.joinable x q) (mem_split x new drawn m);
+            joiner = λ x m. ⊎_elim (λ q. subst (IsJoiner g) (sym (draw x q).joiner) is_joiner) (λ q. holds.drawing.joiner x q) (mem_split x new drawn m);
+            epoch = λ x m. ⊎_elim (λ q. new_epoch x q) (λ q. old_epoch x q) (mem_split x new drawn m);
+            one_id = λ x y m o e. ⊎_elim
+                (λ q. ⊎_elim (λ u. ap (λ (z : Insert). z.id) (one x y q u)) (λ u. absurd ((draw x q).unused y u (sym e))) (mem_split y new drawn o))
+                (λ q. ⊎_elim (λ u. absurd ((draw y u).unused x q e)) (λ u. holds.drawing.one_id x y q u e) (mem_split y new drawn o))
+                (mem_split x new drawn m);
+          };
+        }
+      where
+        then_ : Known
+        then_ = known g with_joiner (new ++ drawn)
+
+        up : Grows now then_
+        up = record { values = λ s. begins_self (now.values s); pairs = at_set (λ m (d : Cell JoinerKept JoinerLive). (q : PairRec) → Mem q (w.joiners m).kept.pairs → Mem q d.kept.pairs) w.joiners j c has_all (λ m q h. h); drawn = λ x m. mem_right x new drawn m }
+
+        same : Grows first_known then_
+        same = record { values = λ s. begins_self (now.values s); pairs = λ m q h. both m q h; drawn = λ x m. m }
+          where
+            both : (m : ℕ) (q : PairRec) → Mem q (set_at (λ i. (w.joiners i).kept.pairs) j c.kept.pairs m) → Mem q (set_at w.joiners j c m).kept.pairs
+            both m q h = go (m == j) h
+              where
+                go : (t : Bool) → Mem q (cond t c.kept.pairs (w.joiners m).kept.pairs) → Mem q (cond t c (w.joiners m)).kept.pairs
+                go true h = h
+                go false h = h
+
+        draw : (x : Insert) → Mem x new → IsDrawing g now j c.kept.epoch x
+        draw x m = each_at (IsDrawing g now j c.kept.epoch) new draws x m
+
+        others : (i : ℕ) → i ≢ j → (x : Insert) → Mem x (new ++ drawn) → x.token.joiner ≡ i → Mem x drawn
+        others i ne x m e = ⊎_elim (λ q. absurd (ne (sym e ∙ (draw x q).joiner))) (λ q. q) (mem_split x new drawn m)
+
+        new_epoch : (x : Insert) → Mem x new → x.token.epoch ≤ (set_at w.joiners j c x.token.joiner).kept.epoch
+        new_epoch x m = subst (λ i. x.token.epoch ≤ (set_at w.joiners j c i).kept.epoch) (sym (draw x m).joiner) (cond_both (j == j) c (w.joiners j) (λ (d : Cell JoinerKept JoinerLive). x.token.epoch ≤ d.kept.epoch) (λ _. let q = (draw x m).epoch in omega arith) (λ f. absurd (clash (j == j) (eq-eqb j j refl) f)))
+          where
+            clash : (t : Bool) → t ≡ true → t ≡ false → ⊥
+            clash t u v = let z = sym u ∙ v in cc
+
+        old_epoch : (x : Insert) → Mem x drawn → x.token.epoch ≤ (set_at w.joiners j c x.token.joiner).kept.epoch
+        old_epoch x m = let q = holds.drawing.epoch x m in at_set (λ i (d : Cell JoinerKept JoinerLive). x.token.joiner ≡ i → x.token.epoch ≤ d.kept.epoch) w.joiners j c (λ e. let r : (w.joiners x.token.joiner).kept.epoch ≤ c.kept.epoch = subst (λ i. (w.joiners i).kept.epoch ≤ c.kept.epoch) (sym e) later in omega arith) (λ i e. subst (λ t. x.token.epoch ≤ (w.joiners t).kept.epoch) e q) x.token.joiner refl
+
+  -- ---- what a node's open turn keeps
+
+  pub input_holds : (n : Node) (i : Input) → WasSent w.sent n i → HoldsOfInput g now i
+  input_holds n (Deliver from p) m = holds.packets _ m
+  input_holds n Start m = m
+  input_holds n Own m = m
+  input_holds n Tick m = m
+
+  pub dispatcher_row_keeps : Checked g → (s : ℕ) → s < 2 → DispatcherKeeps g now (w.dispatchers s).kept (dispatcher_row g s (w.dispatchers s))
+  dispatcher_row_keeps c s lt = go (w.dispatchers s) (holds.dispatchers s lt)
+    where
+      go : (d : Cell DispatcherKept DispatcherLive) → DispatcherFacts g now w.sent s d → DispatcherKeeps g now d.kept (dispatcher_row g s d)
+      go d f = up d.live f.live d.opened f.opened
+        where
+          up : (l : Option DispatcherLive) → IfUp (DispatcherHolds g now d.kept) l → (o : Option Input) → IfOpen w.sent (Dispatcher s) o → DispatcherKeeps g now d.kept (dispatcher_row g s (record { kept = d.kept; live = l; opened = o }))
+          up None h o i = dispatcher_start_keeps g now d.kept f.kept
+          up (Some l) h None i = dispatcher_keeps g now s d.kept l Own c f.kept h tt
+          up (Some l) h (Some x) i = dispatcher_keeps g now s d.kept l x c f.kept h (input_holds (Dispatcher s) x i)
+
+  pub joiner_row_keeps : Checked g → (j : ℕ) → IsJoiner g j → JoinerKeeps g now j (w.joiners j).kept (joiner_row g j (w.joiners j))
+  joiner_row_keeps c j is = up (w.joiners j).live (holds.joiners j is).live (w.joiners j).opened (holds.joiners j is).opened
+    where
+      up : (l : Option JoinerLive) → IfUp (JoinerHolds g now j (w.joiners j).kept) l → (o : Option Input) → IfOpen w.sent (Joiner j) o → JoinerKeeps g now j (w.joiners j).kept (joiner_row g j (record { kept = (w.joiners j).kept; live = l; opened = o }))
+      up None h o i = joiner_start_keeps g now (λ m. (w.joiners m).kept.epoch) j (w.joiners j).kept refl refl holds.drawing (holds.joiners j is).kept
+      up (Some l) h None i = joiner_keeps g now (λ m. (w.joiners m).kept.epoch) j (w.joiners j).kept l Own c is refl holds.drawing (holds.joiners j is).kept h tt
+      up (Some l) h (Some x) i = joiner_keeps g now (λ m. (w.joiners m).kept.epoch) j (w.joiners j).kept l x c is refl holds.drawing (holds.joiners j is).kept h (input_holds (Joiner j) x i)
+
+  pub server_row_keeps : ((l : ServerLive) (i : Input) → (s : ℕ) → s < 2 → (w.servers s).live ≡ Some l → (w.servers s).opened ≡ Some i → IsChosenNow g now l i) → (s : ℕ) → s < 2 → ServerKeeps g now (server_row g s (w.servers s))
+  server_row_keeps chosen s lt = up (w.servers s).live refl (holds.servers s lt).live (w.servers s).opened refl (holds.servers s lt).opened
+    where
+      up : (l : Option ServerLive) → (w.servers s).live ≡ l → IfUp (ServerHolds g now) l → (o : Option Input) → (w.servers s).opened ≡ o → IfOpen w.sent (Server s) o → ServerKeeps g now (server_row g s (record { kept = (w.servers s).kept; live = l; opened = o }))
+      up None e h o u i = server_start_keeps g now (w.servers s).kept
+      up (Some l) e h None u i = server_keeps g now s (w.servers s).kept l Own h tt (λ at b r p v x. absurd (cc))
+      up (Some l) e h (Some x) u i = server_keeps g now s (w.servers s).kept l x h (input_holds (Server s) x i) (chosen l x s lt e u)
+
+  pub replica_row_keeps : (r : ℕ) → r < g.replicas → ReplicaKeeps g now (w.replicas r).kept (replica_row (w.replicas r))
+  replica_row_keeps r lt = up (w.replicas r).live (w.replicas r).opened (holds.replicas r lt).opened
+    where
+      up : (l : Option (Unit {0})) → (o : Option Input) → IfOpen w.sent (Replica r) o → ReplicaKeeps g now (w.replicas r).kept (replica_row (record { kept = (w.replicas r).kept; live = l; opened = o }))
+      up None o i = record { kept = (holds.replicas r lt).kept; packets = tt }
+      up (Some l) None i = replica_keeps g now (w.replicas r).kept Own (holds.replicas r lt).kept tt
+      up (Some l) (Some x) i = replica_keeps g now (w.replicas r).kept x (holds.replicas r lt).kept (input_holds (Replica r) x i)

@@ -1,0 +1,179 @@
+-- The empty store, longer logs, records that stay.
+use Rattle.std.proofs.Common.{◌≡◌, inl, inr, ⊎_elim, ℕ, ◌≤◌, Bool, true, false, cond, List, [], ◌∷◌, ◌++◌, Some, None, refl, sym, ap, subst, arith}
+use Rattle.std.specs.Prelude.{Option, find}
+use Rattle.std.proofs.lemmas.Bool.{true≢false}
+use Rattle.registry_state.specs.declared.Insert.{Insert}
+use Rattle.log_records.specs.declared.records.QueryRec.{QueryRec as Query}
+use Rattle.log_records.specs.declared.records.ClickRec.{ClickRec as Click}
+use Rattle.log_records.specs.Lines.{ClickLine, end_from, Follow, IsBoundary}
+use Rattle.list_words.specs.Lists.{Mem, Begins, set_at}
+use Rattle.turn_defs.specs.Setting.{Setting, Checked, IsJoin}
+use Rattle.packet_codec.specs.declared.node.Node.TheVariants.{Dispatcher, Server, Replica, Joiner}
+use Rattle.output_log.specs.declared.pair.PairRec.{PairRec}
+use Rattle.turn_defs.specs.Turns.{BallotNote, Note, Advance, Park, Settle, Epoch, Output, Voted, land}
+use Rattle.paxos_defs.specs.declared.Place.{Place}
+use Rattle.paxos_defs.specs.Notes.{Vote, acceptance, votes_at, votes, Has}
+use Rattle.paxos_defs.specs.Notes.Note.{Promised, Accepted}
+use Rattle.paxos_defs.specs.Agreement.{NeverFall}
+use Rattle.registry_state.specs.declared.Batch.{Batch}
+use Rattle.photon_defs.specs.Journals.{journals}
+use Rattle.photon_defs.proofs.Journals.{journal_beyond, votes_of}
+use Rattle.joiner_core.specs.Joiner.{JoinerKept, JoinerLive, land_joiner}
+use Rattle.replica_node.specs.Replica.{ReplicaKept, land_replica}
+use Rattle.photon_defs.specs.Sound.{Known, known_of, DispatcherSound, PairSound, DrawnSound, InsertsOf, Sound, SoundStore, accepted_inserts}
+use Rattle.photon_defs.specs.Runs.{Cell, World, Entry, Begin, End, Stop, Disks, begun, after, world_after}
+use Rattle.list_words.proofs.Lists.{none_some, mem_left, mem_split, each_more, at_set}
+use Rattle.photon_model.specs.Stores.{empty_store, longer, ReadIsChecked, SoundOverBytes}
+use Rattle.log_records.proofs.Places.{queries_begin, lines_begin, lines_follow}
+use Rattle.photon_model.proofs.Growth.{begins_self, begins_again}
+
+pub empty_sound : (g : Setting) → Sound g empty_store []
+empty_sound g =
+    record {
+      replicas = record {
+        agree = λ p. record { rising = λ r. subst NeverFall (sym (none p r)) tt; one_value = λ r b v h. absurd (subst (λ (xs : List (Vote Batch)). Has xs (acceptance b v)) (none p r) h); safe = λ r b v h. absurd (subst (λ (xs : List (Vote Batch)). Has xs (acceptance b v)) (none p r) h) };
+        owned = λ p r x h. absurd (subst (λ (xs : List (Vote Batch)). Has xs x) (none p r) h);
+      };
+      joiners = λ j i. record { pairs = tt; once = tt };
+      dispatchers = λ s lt. record { boundary = inl refl; starts = λ p h. absurd (true≢false (sym h)); once = tt; passed = λ l m lt. absurd (omega arith) };
+      drawing = record { joinable = λ x m. absurd m; joiner = λ x m. absurd m; epoch = λ x m. absurd m; one_id = λ x y m. absurd m };
+      inserts = λ r lt. tt;
+    }
+  where
+    none : (p : Place) (r : ℕ) → votes (journals g.replicas (λ k. record { notes = [] })) p r ≡ []
+    none p r =
+        ⊎_elim
+        (λ lt. votes_of g.replicas (λ k. record { notes = [] }) p r lt)
+        (λ le. ap (votes_at p) (journal_beyond g.replicas (λ k. record { notes = [] }) r le))
+        (Rattle.std.proofs.lemmas.Bool.cases_lt r g.replicas)
+
+-- ---- longer logs
+
+find_front : {A : Type 0} (p : A → Bool) (xs ys : List A) (y : A) → find p xs ≡ Some y → find p (xs ++ ys) ≡ Some y
+find_front p [] ys y e = none_some y e
+find_front p (x ∷ xs) ys y e = go (λ q. find_front p xs ys y q) (p x) e
+  where
+    go : (find p xs ≡ Some y → find p (xs ++ ys) ≡ Some y) → (b : Bool) → cond b (Some x) (find p xs) ≡ Some y → cond b (Some x) (find p (xs ++ ys)) ≡ Some y
+    go ih true q = q
+    go ih false q = ih q
+
+end_of : (ls : List ClickLine) (p : ℕ) (l : ClickLine) → Follow p ls → Mem l ls → l.end_ ≤ end_from p ls
+end_of [] p l f m = absurd m
+end_of (x ∷ ls) p l f (inl e) = subst (λ (y : ClickLine). y.end_ ≤ end_from x.end_ ls) e (after_start ls x.end_ f.2)
+  where
+    after_start : (ks : List ClickLine) (q : ℕ) → Follow q ks → q ≤ end_from q ks
+    after_start [] q f = omega arith
+    after_start (k ∷ ks) q f = let h = after_start ks k.end_ f.2 in let r = f.1 in omega arith
+end_of (x ∷ ls) p l f (inr m) = end_of ls x.end_ l f.2 m
+
+follow_front : (xs ys : List ClickLine) (p : ℕ) → Follow p (xs ++ ys) → Follow p xs × Follow (end_from p xs) ys
+follow_front [] ys p f = (tt, f)
+follow_front (x ∷ xs) ys p f = let r = follow_front xs ys x.end_ f.2 in ((f.0, f.1, r.0), r.1)
+
+places_after : (ls : List ClickLine) (p : ℕ) (l : ClickLine) → Follow p ls → Mem l ls → p ≤ l.place
+places_after ls p l f m = Rattle.log_records.proofs.LineOrder.places_from ls p l f m
+
+module _ (g : Setting) (qs : List Query) (cs : List ClickLine) (horizon batch : ℕ) (c : Checked (longer g qs cs horizon batch)) (n : Known) where
+  join_lasts : (x : Click) (q : Query) → IsJoin g x q → IsJoin (longer g qs cs horizon batch) x q
+  join_lasts x q h = ((h.0.0, find_front _ g.clicks cs h.0.0 h.0.1, h.0.2), find_front _ g.queries qs q h.1)
+
+  offset_within : (p : ℕ) → IsBoundary g.clicks p → p ≤ end_from 0 g.clicks
+  offset_within p (inl e) = omega arith
+  offset_within p (inr h) = let q = end_of g.clicks 0 h.0 (follow_front g.clicks cs 0 c.follow).0 h.1 in let r = h.2 in omega arith
+
+  dispatcher_longer : (k : Rattle.dispatch_core.specs.Dispatcher.DispatcherKept) → DispatcherSound g n k → DispatcherSound (longer g qs cs horizon batch) n k
+  dispatcher_longer k s =
+      record {
+        boundary = ⊎_elim (λ e. inl e) (λ (h : (l : ClickLine) × Mem l g.clicks × (l.end_ ≡ k.offset)). inr (h.0, mem_left h.0 g.clicks cs h.1, h.2)) s.boundary;
+        starts = λ p h. let l = s.starts p h in (l.0, find_front _ g.clicks cs l.0 l.1);
+        once = s.once;
+        passed = λ l m lt. ⊎_elim (λ h. s.passed l h lt) (λ h. absurd (let q = offset_within k.offset s.boundary in let r = places_after cs (end_from 0 g.clicks) l (follow_front g.clicks cs 0 c.follow).1 h in omega arith)) (mem_split l g.clicks cs m);
+      }
+
+  pair_longer : (j e : ℕ) (p : PairRec) → PairSound g n j e p → PairSound (longer g qs cs horizon batch) n j e p
+  pair_longer j e p s = record { own_query = join_lasts p.click p.query s.own_query; joiner = s.joiner; epoch = s.epoch; granted = s.granted; drawn = s.drawn }
+
+  drawn_longer : (epochs : ℕ → ℕ) → DrawnSound g n epochs → DrawnSound (longer g qs cs horizon batch) n epochs
+  drawn_longer epochs s = record { joinable = λ x m. let h = s.joinable x m in (h.0, mem_left h.0 g.clicks cs h.1, h.2, (h.3.0, find_front _ g.queries qs h.3.0 h.3.1)); joiner = s.joiner; epoch = s.epoch; one_id = s.one_id }
+
+  note_longer : (x : BallotNote) → InsertsOf g n x → InsertsOf (longer g qs cs horizon batch) n x
+  note_longer (Accepted p b v) h = h
+  note_longer (Promised p b) h = h
+
+pub sound_lasts : (g : Setting) (qs : List Query) (cs : List ClickLine) (horizon batch : ℕ) (d : Disks) (drawn : List Insert) → Checked (longer g qs cs horizon batch) → Sound g d drawn → Sound (longer g qs cs horizon batch) d drawn
+sound_lasts g qs cs horizon batch d drawn c s =
+    record {
+      replicas = s.replicas;
+      joiners = λ j i. record { pairs = each_more (PairSound g (known_of g d drawn) j (d.joiners j).epoch) (PairSound (longer g qs cs horizon batch) (known_of g d drawn) j (d.joiners j).epoch) (d.joiners j).pairs (pair_longer g qs cs horizon batch c (known_of g d drawn) j (d.joiners j).epoch) (s.joiners j i).pairs; once = (s.joiners j i).once };
+      dispatchers = λ t lt. dispatcher_longer g qs cs horizon batch c (known_of g d drawn) (d.dispatchers t) (s.dispatchers t lt);
+      drawing = drawn_longer g qs cs horizon batch c (known_of g d drawn) (λ j. (d.joiners j).epoch) s.drawing;
+      inserts = λ r lt. each_more (InsertsOf g (known_of g d drawn)) (InsertsOf (longer g qs cs horizon batch) (known_of g d drawn)) (d.replicas r).notes (note_longer g qs cs horizon batch c (known_of g d drawn)) (s.inserts r lt);
+    }
+
+pub read_is_checked : ReadIsChecked
+read_is_checked g query_log click_log over = let h = lines_follow click_log g.clicks over.clicks in record { follow = h.0; no_conflict = h.1 }
+
+pub sound_over_bytes : SoundOverBytes
+sound_over_bytes g h query_log click_log more_queries more_clicks d before after joiners table replicas s =
+    let qs = queries_begin query_log more_queries g.queries h.queries before.queries after.queries in
+    let cs = lines_begin click_log more_clicks g.clicks h.clicks before.clicks after.clicks in
+    let same : longer g qs.0 cs.0 h.horizon h.batch ≡ h = λ i. record { queries = sym qs.1 i; clicks = sym cs.1 i; horizon = h.horizon; joiners = joiners i; table = table i; batch = h.batch; replicas = replicas i } in
+    let checked = read_is_checked h (query_log ++ more_queries) (click_log ++ more_clicks) after in
+    subst (λ (k : Setting). SoundStore k d) same (sound_lasts g qs.0 cs.0 h.horizon h.batch d (accepted_inserts g d) (subst Checked (sym same) checked) s)
+
+-- ---- records that stay
+
+pairs_land : (o : Option Note) (k : JoinerKept) → Begins k.pairs (land land_joiner o k).pairs
+pairs_land None k = begins_self k.pairs
+pairs_land (Some (Output p)) k = (p ∷ [], refl)
+pairs_land (Some (Advance e)) k = begins_self k.pairs
+pairs_land (Some (Park e)) k = begins_self k.pairs
+pairs_land (Some (Settle e)) k = begins_self k.pairs
+pairs_land (Some (Epoch e)) k = begins_self k.pairs
+pairs_land (Some (Voted x)) k = begins_self k.pairs
+
+notes_land : (o : Option Note) (k : ReplicaKept) → Begins k.notes (land land_replica o k).notes
+notes_land None k = begins_self k.notes
+notes_land (Some (Voted x)) k = (x ∷ [], refl)
+notes_land (Some (Advance e)) k = begins_self k.notes
+notes_land (Some (Park e)) k = begins_self k.notes
+notes_land (Some (Settle e)) k = begins_self k.notes
+notes_land (Some (Epoch e)) k = begins_self k.notes
+notes_land (Some (Output e)) k = begins_self k.notes
+
+abbrev Stay : World → World → Type 0
+Stay w v = ((j : ℕ) → Begins (w.joiners j).kept.pairs (v.joiners j).kept.pairs) × ((r : ℕ) → Begins (w.replicas r).kept.notes (v.replicas r).kept.notes)
+
+module _ (g : Setting) (w : World) where
+  same_pairs : (j : ℕ) → Begins (w.joiners j).kept.pairs (w.joiners j).kept.pairs
+  same_pairs j = begins_self (w.joiners j).kept.pairs
+
+  same_notes : (r : ℕ) → Begins (w.replicas r).kept.notes (w.replicas r).kept.notes
+  same_notes r = begins_self (w.replicas r).kept.notes
+
+  joiner_stays : (j : ℕ) (c : Cell JoinerKept JoinerLive) → Begins (w.joiners j).kept.pairs c.kept.pairs → (m : ℕ) → Begins (w.joiners m).kept.pairs (set_at w.joiners j c m).kept.pairs
+  joiner_stays j c b = at_set (λ m (d : Cell JoinerKept JoinerLive). Begins (w.joiners m).kept.pairs d.kept.pairs) w.joiners j c b same_pairs
+
+  replica_stays : (r : ℕ) (c : Cell ReplicaKept (Unit {0})) → Begins (w.replicas r).kept.notes c.kept.notes → (m : ℕ) → Begins (w.replicas m).kept.notes (set_at w.replicas r c m).kept.notes
+  replica_stays r c b = at_set (λ m (d : Cell ReplicaKept (Unit {0})). Begins (w.replicas m).kept.notes d.kept.notes) w.replicas r c b same_notes
+
+  one_stays : (e : Entry) → Stay w (after g w e)
+  one_stays (Begin (Dispatcher s) i) = (same_pairs, same_notes)
+  one_stays (Begin (Server s) i) = (same_pairs, same_notes)
+  one_stays (Begin (Replica r) i) = (same_pairs, replica_stays r (begun (w.replicas r) i) (same_notes r))
+  one_stays (Begin (Joiner j) i) = (joiner_stays j (begun (w.joiners j) i) (same_pairs j), same_notes)
+  one_stays (End (Dispatcher s) o ps kept) = (same_pairs, same_notes)
+  one_stays (End (Server s) o ps kept) = (same_pairs, same_notes)
+  one_stays (End (Replica r) o ps kept) = (same_pairs, replica_stays r _ (notes_land o (w.replicas r).kept))
+  one_stays (End (Joiner j) o ps kept) = (joiner_stays j _ (pairs_land o (w.joiners j).kept), same_notes)
+  one_stays (Stop (Dispatcher s) o) = (same_pairs, same_notes)
+  one_stays (Stop (Server s) o) = (same_pairs, same_notes)
+  one_stays (Stop (Replica r) o) = (same_pairs, replica_stays r _ (notes_land o (w.replicas r).kept))
+  one_stays (Stop (Joiner j) o) = (joiner_stays j _ (pairs_land o (w.joiners j).kept), same_notes)
+
+pub records_stay : (g : Setting) (w : World) (es : List Entry) → Stay w (world_after g w es)
+records_stay g w [] = (same_pairs g w, same_notes g w)
+records_stay g w (e ∷ es) =
+    let a = one_stays g w e in
+    let b = records_stay g (after g w e) es in
+    (λ j. begins_again _ _ _ (a.0 j) (b.0 j), λ r. begins_again _ _ _ (a.1 r) (b.1 r))

@@ -1,0 +1,18 @@
+-- Each join in flight has sent its insert.
+use Rattle.std.specs.Prelude.{◌≡◌, ℕ, List, Some}
+use Rattle.list_words.specs.Lists.{Mem}
+use Rattle.turn_defs.specs.Setting.{Setting}
+use Rattle.packet_codec.specs.declared.packet.Packet.{Packet}
+use Rattle.packet_codec.specs.declared.packet.Packet.TheVariants.{Insert}
+use Rattle.packet_codec.specs.Nodes.{Sent}
+use Rattle.joiner_core.specs.Joiner.{JoinerLive, Flight, insert_of}
+use Rattle.photon_defs.specs.Runs.{World, Entry, Disks, world_after, IsRun, opening}
+
+abbrev pub HasSent : List Sent → Packet → Type 0
+HasSent sent p = (x : Sent) × Mem x sent × (x.packet ≡ p)
+
+abbrev pub ClaimsSent : World → Type 0
+ClaimsSent w = (j : ℕ) (l : JoinerLive) → (w.joiners j).live ≡ Some l → (f : Flight) → Mem f l.flight → HasSent w.sent (Insert (insert_of f))
+
+abbrev pub EveryClaimSent : Type 0
+EveryClaimSent = (g : Setting) (d : Disks) (es : List Entry) → IsRun g (opening d) es → ClaimsSent (world_after g (opening d) es)

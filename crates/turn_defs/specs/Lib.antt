@@ -1,0 +1,4 @@
+pub mod Setting
+pub mod Nodes
+pub mod Turns
+pub mod Rows
