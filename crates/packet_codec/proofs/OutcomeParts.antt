@@ -24,6 +24,7 @@ outcomes_tagged = record { tag = λ z s. tag z s.0 s.2; some = some }
     tag z (TooOld b) e = (2, number b, omega arith, omega arith, e)
     tag z (NoQuery n) e = (3, number n, omega arith, omega arith, e)
     tag z Busy e = (4, [], omega arith, omega arith, e)
+
     some : (t : ℕ) → 0 ≤ t → t ≤ 4 → (back : List ℕ) × Outcomes (t ∷ back)
     some zero low high = ([], (Written, tt, refl))
     some (suc zero) low high = (token some_token.0, (Already some_token.0, some_token.1, refl))

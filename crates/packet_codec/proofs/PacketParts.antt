@@ -195,6 +195,7 @@ packets_tagged = record { tag = λ z s. tag z s.0 s.2; some = λ t low high. sub
     tag z (Accept p b v) e = (0x18, place p ++ (ballot b ++ batch v), omega arith, omega arith, e)
     tag z (Accepted p b) e = (0x19, place p ++ ballot b, omega arith, omega arith, e)
     tag z (Chosen p v) e = (0x1A, place p ++ batch v, omega arith, omega arith, e)
+
     some : (n : ℕ) → n ≤ 9 → (back : List ℕ) × Packets ((n + 0x11) ∷ back)
     some zero few = (number values.some_number.0 ++ click values.some_click.0, (Join values.some_number.0 values.some_click.0, (values.some_number.1, values.some_click.1), refl))
     some (suc zero) few = (number values.some_number.0 ++ outcome Busy, (Joined values.some_number.0 Busy, (values.some_number.1, tt), refl))
