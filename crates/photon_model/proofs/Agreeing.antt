@@ -47,9 +47,9 @@ use Rattle.photon_defs.specs.Runs.{Cell, World, Entry, Begin, End, Stop, Disks, 
 use Rattle.list_words.proofs.Lists.{option_both, each_at, each_append, mem_left, mem_right, mem_split, at_set, at_set_if, none_some}
 use Rattle.registry_state.proofs.LookingBack.{one_granted, holder_granted, holder_first, bound_stays}
 use Rattle.photon_defs.proofs.Journals.{journals_length, journal_of, journals_noted, journals_same, accepted_note, accepted_stands, exact, decided_accepted}
-use Rattle.photon_model.specs.EveryRun.{PaxosGives, decided_in, NoJoinerStops, IsBoundOk, HasBounds}
+use Rattle.photon_model.specs.EveryRun.{decided_in, NoJoinerStops, IsBoundOk, HasBounds}
 use Rattle.photon_model.specs.Voting.{votes, BallotsHold}
-use Rattle.photon_model.specs.Keeping.{IsFlying, IsResolved, IsChosenNow}
+use Rattle.photon_model.specs.Keeping.{IsFlying, IsResolved, IsChosenNow, PaxosGives}
 use Rattle.photon_model.proofs.Growth.{begins_self}
 use Rattle.photon_model.proofs.Voting.{with_note, MayNote, ReplicaVotes, offering, ServerVotes, sent, votes_sent, owned_sent, server_sent, votes_written, server_written, writes_note, agree_noted, idles, gets_votes}
 use Rattle.photon_model.proofs.Proposing.{chosen_now, turn_votes}

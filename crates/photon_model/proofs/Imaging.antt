@@ -1,10 +1,9 @@
 -- Stops of all nodes after a run are a run, and leave what an image holds.
 use Rattle.std.proofs.Common.{◌≡◌, ◌⊎◌, inl, inr, ⊎_elim, ℕ, zero, suc, ◌+◌, ◌*◌, ◌<◌, ◌≤◌, Bool, true, false, cond, ◌&&◌, ◌==◌, List, [], ◌∷◌, ◌++◌, Some, None, refl, sym, ap, ◌∙◌, subst, arith, lit<}
 use Rattle.std.specs.Prelude.{Option, is_some}
-use Rattle.std.proofs.lemmas.Bool.{cond_both, eqb-true}
-use Rattle.registry_state.specs.declared.Insert.{Insert}
+use Rattle.std.proofs.lemmas.Bool.{cases_lt, cond_both, eqb-true, eqb-false}
 use Rattle.list_words.specs.Lists.{Mem, Each, set_at}
-use Rattle.turn_defs.specs.Setting.{Setting, first_joiner, Checked}
+use Rattle.turn_defs.specs.Setting.{Setting, first_joiner, Checked, IsJoiner}
 use Rattle.packet_codec.specs.declared.node.Node.{Node}
 use Rattle.packet_codec.specs.declared.node.Node.TheVariants.{Dispatcher, Server, Replica, Joiner}
 use Rattle.packet_codec.specs.declared.node.Input.{Input}
@@ -13,11 +12,11 @@ use Rattle.dispatch_core.specs.Dispatcher.{DispatcherKept, DispatcherLive, land_
 use Rattle.joiner_core.specs.Joiner.{JoinerKept, JoinerLive, land_joiner}
 use Rattle.registry_server.specs.Server.{ServerKept, ServerLive, land_server}
 use Rattle.replica_node.specs.Replica.{ReplicaKept, land_replica}
-use Rattle.photon_defs.specs.Sound.{Sound}
-use Rattle.photon_defs.specs.Runs.{Cell, World, Entry, Stop, Disks, disks, stopped, dispatcher_row, server_row, replica_row, joiner_row, after, world_after, May, IsRun, opening}
+use Rattle.photon_defs.specs.Sound.{SoundStore}
+use Rattle.photon_defs.specs.Runs.{Cell, World, Entry, Begin, End, Stop, Disks, disks, begun, ended, stopped, dispatcher_row, server_row, replica_row, joiner_row, after, world_after, May, IsRun, opening}
 use Rattle.list_words.proofs.Lists.{at_set, none_some, each_append, mem_left, mem_right}
-use Rattle.photon_model.specs.Images.{left_by, IsImage}
-use Rattle.photon_model.proofs.Agreeing.{every_run_holds, closes}
+use Rattle.photon_model.specs.Images.{left_by, image}
+use Rattle.photon_model.proofs.Closing.{runs_keep_stores}
 use Rattle.turn_defs.specs.Nodes.{IsNode}
 
 -- the note that has landed
@@ -48,18 +47,19 @@ module _ (K L : Type 0) (f : Note → K → K) (row_of : ℕ → Cell K L → Ou
 
 -- ---- all nodes
 
+-- the input of a node's open turn
+abbrev opened_of : World → Node → Option Input
+opened_of w (Dispatcher s) = (w.dispatchers s).opened
+opened_of w (Server s) = (w.servers s).opened
+opened_of w (Replica r) = (w.replicas r).opened
+opened_of w (Joiner j) = (w.joiners j).opened
+
 module _ (g : Setting) (landed : Node → Bool) where
   record AllStopped (w v : World) : Type 0 where
     pub dispatchers : Stopped DispatcherKept DispatcherLive land_dispatcher (dispatcher_row g) (λ s. landed (Dispatcher s)) w.dispatchers v.dispatchers
     pub servers : Stopped ServerKept ServerLive land_server (server_row g) (λ s. landed (Server s)) w.servers v.servers
     pub replicas : Stopped ReplicaKept (Unit {0}) land_replica (λ r c. replica_row c) (λ r. landed (Replica r)) w.replicas v.replicas
     pub joiners : Stopped JoinerKept JoinerLive land_joiner (joiner_row g) (λ j. landed (Joiner j)) w.joiners v.joiners
-
-  abbrev opened_of : World → Node → Option Input
-  opened_of w (Dispatcher s) = (w.dispatchers s).opened
-  opened_of w (Server s) = (w.servers s).opened
-  opened_of w (Replica r) = (w.replicas r).opened
-  opened_of w (Joiner j) = (w.joiners j).opened
 
   abbrev note_of : World → Node → Option Note
   note_of w (Dispatcher s) = landed_of (landed (Dispatcher s)) (dispatcher_row g s (w.dispatchers s))
@@ -95,10 +95,10 @@ module _ (g : Setting) (landed : Node → Bool) where
   stop_closes v (Dispatcher s) o = closed v.dispatchers s (stopped land_dispatcher (v.dispatchers s) o) refl
     where
       closed : {K L : Type 0} (F : ℕ → Cell K L) (n : ℕ) (c : Cell K L) → c.opened ≡ None → (set_at F n c n).opened ≡ None
-      closed F n c e = cond_both (n == n) c (F n) (λ d. d.opened ≡ None) (λ _. e) (λ t. absurd (Rattle.std.proofs.lemmas.Bool.eqb-false n n t refl))
-  stop_closes v (Server s) o = cond_both (s == s) (stopped land_server (v.servers s) o) (v.servers s) (λ (d : Cell ServerKept ServerLive). d.opened ≡ None) (λ _. refl) (λ t. absurd (Rattle.std.proofs.lemmas.Bool.eqb-false s s t refl))
-  stop_closes v (Replica r) o = cond_both (r == r) (stopped land_replica (v.replicas r) o) (v.replicas r) (λ (d : Cell ReplicaKept (Unit {0})). d.opened ≡ None) (λ _. refl) (λ t. absurd (Rattle.std.proofs.lemmas.Bool.eqb-false r r t refl))
-  stop_closes v (Joiner j) o = cond_both (j == j) (stopped land_joiner (v.joiners j) o) (v.joiners j) (λ (d : Cell JoinerKept JoinerLive). d.opened ≡ None) (λ _. refl) (λ t. absurd (Rattle.std.proofs.lemmas.Bool.eqb-false j j t refl))
+      closed F n c e = cond_both (n == n) c (F n) (λ d. d.opened ≡ None) (λ _. e) (λ t. absurd (eqb-false n n t refl))
+  stop_closes v (Server s) o = cond_both (s == s) (stopped land_server (v.servers s) o) (v.servers s) (λ (d : Cell ServerKept ServerLive). d.opened ≡ None) (λ _. refl) (λ t. absurd (eqb-false s s t refl))
+  stop_closes v (Replica r) o = cond_both (r == r) (stopped land_replica (v.replicas r) o) (v.replicas r) (λ (d : Cell ReplicaKept (Unit {0})). d.opened ≡ None) (λ _. refl) (λ t. absurd (eqb-false r r t refl))
+  stop_closes v (Joiner j) o = cond_both (j == j) (stopped land_joiner (v.joiners j) o) (v.joiners j) (λ (d : Cell JoinerKept JoinerLive). d.opened ≡ None) (λ _. refl) (λ t. absurd (eqb-false j j t refl))
 
   stays_closed : (v : World) (n : Node) (o : Option Note) (m : Node) → opened_of v m ≡ None → opened_of (after g v (Stop n o)) m ≡ None
   stays_closed v (Dispatcher s) o (Dispatcher t) e = cond_both (t == s) (stopped land_dispatcher (v.dispatchers s) o) (v.dispatchers t) (λ (d : Cell DispatcherKept DispatcherLive). d.opened ≡ None) (λ _. refl) (λ _. e)
@@ -149,7 +149,7 @@ joiners_from j (suc n) = Joiner j ∷ joiners_from (suc j) n
 joiner_in : (from n j : ℕ) → from ≤ j → j < from + n → Mem (Joiner j) (joiners_from from n)
 unfolding joiners_from
 joiner_in from zero j a b = absurd (omega arith)
-joiner_in from (suc n) j a b = ⊎_elim (λ lt. inr (joiner_in (suc from) n j lt (omega arith))) (λ ge. inl (ap (λ t. Joiner t) (let e : from ≡ j = omega arith in e))) (Rattle.std.proofs.lemmas.Bool.cases_lt from j)
+joiner_in from (suc n) j a b = ⊎_elim (λ lt. inr (joiner_in (suc from) n j lt (omega arith))) (λ ge. inl (ap (λ t. Joiner t) (let e : from ≡ j = omega arith in e))) (cases_lt from j)
 
 are_joiners : (g : Setting) (from n : ℕ) → first_joiner g ≤ from → from + n ≤ first_joiner g + 2 * g.joiners → Each (IsNode g) (joiners_from from n)
 unfolding joiners_from
@@ -163,7 +163,7 @@ replicas_from r (suc n) = Replica r ∷ replicas_from (suc r) n
 replica_in : (from n r : ℕ) → from ≤ r → r < from + n → Mem (Replica r) (replicas_from from n)
 unfolding replicas_from
 replica_in from zero r a b = absurd (omega arith)
-replica_in from (suc n) r a b = ⊎_elim (λ lt. inr (replica_in (suc from) n r lt (omega arith))) (λ ge. inl (ap (λ t. Replica t) (let e : from ≡ r = omega arith in e))) (Rattle.std.proofs.lemmas.Bool.cases_lt from r)
+replica_in from (suc n) r a b = ⊎_elim (λ lt. inr (replica_in (suc from) n r lt (omega arith))) (λ ge. inl (ap (λ t. Replica t) (let e : from ≡ r = omega arith in e))) (cases_lt from r)
 
 are_replicas : (g : Setting) (from n : ℕ) → from + n ≤ g.replicas → Each (IsNode g) (replicas_from from n)
 unfolding replicas_from
@@ -196,20 +196,61 @@ after_append : (g : Setting) (xs ys : List Entry) (w : World) → world_after g 
 after_append g [] ys w = refl
 after_append g (x ∷ xs) ys w = after_append g xs ys (after g w x)
 
-pub each_image_sound : (g : Setting) (d : Disks) (drawn : List Insert) (es : List Entry) (landed : Node → Bool) → Checked g → Sound g d drawn → IsRun g (opening d) es → (left : Disks) × (now : List Insert) × IsImage g (world_after g (opening d) es) landed left × Sound g left now
-each_image_sound g d drawn es landed c s r =
-    let w = world_after g (opening d) es in
-    let z = ends g landed w w (all_nodes g) (are_nodes g) (record { dispatchers = λ n. inl refl; servers = λ n. inl refl; replicas = λ n. inl refl; joiners = λ n. inl refl }) in
-    let v = world_after g w z.entries in
-    let h = every_run_holds g d drawn (es ++ z.entries) c s (run_append g es z.entries (opening d) r z.run) in
-    let t = closes g (world_after g (opening d) (es ++ z.entries)) h.0 h.1 h.2 h.3 in (
-      disks v,
-      h.0,
-      record {
-        dispatchers = λ n lt. left_is DispatcherKept DispatcherLive land_dispatcher (dispatcher_row g) (λ s. landed (Dispatcher s)) w.dispatchers v.dispatchers n z.stopped_all.dispatchers (z.closed (Dispatcher n) (inl (node_in g (Dispatcher n) lt)));
-        servers = λ n lt. left_is ServerKept ServerLive land_server (server_row g) (λ s. landed (Server s)) w.servers v.servers n z.stopped_all.servers (z.closed (Server n) (inl (node_in g (Server n) lt)));
-        replicas = λ n lt. left_is ReplicaKept (Unit {0}) land_replica (λ r c. replica_row c) (λ r. landed (Replica r)) w.replicas v.replicas n z.stopped_all.replicas (z.closed (Replica n) (inl (node_in g (Replica n) lt)));
-        joiners = λ n is. left_is JoinerKept JoinerLive land_joiner (joiner_row g) (λ j. landed (Joiner j)) w.joiners v.joiners n z.stopped_all.joiners (z.closed (Joiner n) (inl (node_in g (Joiner n) is)));
-      },
-      subst (λ (x : World). Sound g (disks x) h.0) (after_append g es z.entries (opening d)) t,
-    )
+-- ---- nodes that the setting doesn't have stay closed
+
+stays_outside : (g : Setting) (w : World) (e : Entry) → May g w e → (n : Node) → (IsNode g n → ⊥) → opened_of w n ≡ None → opened_of (after g w e) n ≡ None
+stays_outside g w (Begin (Dispatcher s) i) m (Dispatcher t) no_ h = cond_both (t == s) (begun (w.dispatchers s) i) (w.dispatchers t) (λ (c : Cell DispatcherKept DispatcherLive). c.opened ≡ None) (λ e. absurd (no_ (subst (λ k. k < 2) (sym (eqb-true t s e)) m.0))) (λ _. h)
+stays_outside g w (Begin (Server s) i) m (Server t) no_ h = cond_both (t == s) (begun (w.servers s) i) (w.servers t) (λ (c : Cell ServerKept ServerLive). c.opened ≡ None) (λ e. absurd (no_ (subst (λ k. k < 2) (sym (eqb-true t s e)) m.0))) (λ _. h)
+stays_outside g w (Begin (Replica s) i) m (Replica t) no_ h = cond_both (t == s) (begun (w.replicas s) i) (w.replicas t) (λ (c : Cell ReplicaKept (Unit {0})). c.opened ≡ None) (λ e. absurd (no_ (subst (λ k. k < g.replicas) (sym (eqb-true t s e)) m.0))) (λ _. h)
+stays_outside g w (Begin (Joiner s) i) m (Joiner t) no_ h = cond_both (t == s) (begun (w.joiners s) i) (w.joiners t) (λ (c : Cell JoinerKept JoinerLive). c.opened ≡ None) (λ e. absurd (no_ (subst (IsJoiner g) (sym (eqb-true t s e)) m.0))) (λ _. h)
+stays_outside g w (End (Dispatcher s) o ps k) m (Dispatcher t) no_ h = cond_both (t == s) (ended land_dispatcher (w.dispatchers s) o (dispatcher_row g s (w.dispatchers s)).live) (w.dispatchers t) (λ (c : Cell DispatcherKept DispatcherLive). c.opened ≡ None) (λ _. refl) (λ _. h)
+stays_outside g w (End (Server s) o ps k) m (Server t) no_ h = cond_both (t == s) (ended land_server (w.servers s) o (server_row g s (w.servers s)).live) (w.servers t) (λ (c : Cell ServerKept ServerLive). c.opened ≡ None) (λ _. refl) (λ _. h)
+stays_outside g w (End (Replica s) o ps k) m (Replica t) no_ h = cond_both (t == s) (ended land_replica (w.replicas s) o (replica_row (w.replicas s)).live) (w.replicas t) (λ (c : Cell ReplicaKept (Unit {0})). c.opened ≡ None) (λ _. refl) (λ _. h)
+stays_outside g w (End (Joiner s) o ps k) m (Joiner t) no_ h = cond_both (t == s) (ended land_joiner (w.joiners s) o (joiner_row g s (w.joiners s)).live) (w.joiners t) (λ (c : Cell JoinerKept JoinerLive). c.opened ≡ None) (λ _. refl) (λ _. h)
+stays_outside g w (Stop n o) m t no_ h = stays_closed g (λ _. true) w n o t h
+stays_outside g w (Begin n i) m t no_ h = h
+stays_outside g w (End n o ps k) m t no_ h = h
+
+outside_closed : (g : Setting) (es : List Entry) (w : World) → IsRun g w es → (n : Node) → (IsNode g n → ⊥) → opened_of w n ≡ None → opened_of (world_after g w es) n ≡ None
+outside_closed g [] w r n no_ h = h
+outside_closed g (e ∷ es) w r n no_ h = outside_closed g es (after g w e) r.1 n no_ (stays_outside g w e r.0 n no_ h)
+
+opening_closed : (d : Disks) (n : Node) → opened_of (opening d) n ≡ None
+opening_closed d (Dispatcher s) = refl
+opening_closed d (Server s) = refl
+opening_closed d (Replica s) = refl
+opening_closed d (Joiner s) = refl
+
+is_node_or_not : (g : Setting) (n : Node) → IsNode g n ⊎ (IsNode g n → ⊥)
+is_node_or_not g (Dispatcher s) = ⊎_elim (λ a. inl a) (λ a. inr (λ b. absurd (omega arith))) (cases_lt s 2)
+is_node_or_not g (Server s) = ⊎_elim (λ a. inl a) (λ a. inr (λ b. absurd (omega arith))) (cases_lt s 2)
+is_node_or_not g (Replica s) = ⊎_elim (λ a. inl a) (λ a. inr (λ b. absurd (omega arith))) (cases_lt s g.replicas)
+is_node_or_not g (Joiner s) = ⊎_elim (λ lt. inr (λ b. let x = b.0 in absurd (omega arith))) (λ le. ⊎_elim (λ lt. inl (le, lt)) (λ ge. inr (λ b. let x = b.1 in absurd (omega arith))) (cases_lt s (first_joiner g + 2 * g.joiners))) (cases_lt s (first_joiner g))
+
+module _ (g : Setting) (d : Disks) (es : List Entry) (landed : Node → Bool) (c : Checked g) (s : SoundStore g d) (r : IsRun g (opening d) es) where
+  abbrev now : World
+  now = world_after g (opening d) es
+
+  -- the stops
+  stops : Ends g landed now now (all_nodes g)
+  stops = ends g landed now now (all_nodes g) (are_nodes g) (record { dispatchers = λ n. inl refl; servers = λ n. inl refl; replicas = λ n. inl refl; joiners = λ n. inl refl })
+
+  abbrev later : World
+  later = world_after g now stops.entries
+
+  closed : (n : Node) → opened_of later n ≡ None
+  closed n = ⊎_elim (λ is. stops.closed n (inl (node_in g n is))) (λ no_. stops.closed n (inr (outside_closed g es (opening d) r n no_ (opening_closed d n)))) (is_node_or_not g n)
+
+  -- what they leave is the image
+  is_image : disks later ≡ image g now landed
+  is_image =
+      let a : (n : ℕ) → (later.dispatchers n).kept ≡ (image g now landed).dispatchers n = λ n. left_is DispatcherKept DispatcherLive land_dispatcher (dispatcher_row g) (λ s. landed (Dispatcher s)) now.dispatchers later.dispatchers n stops.stopped_all.dispatchers (closed (Dispatcher n)) in
+      let b : (n : ℕ) → (later.servers n).kept ≡ (image g now landed).servers n = λ n. left_is ServerKept ServerLive land_server (server_row g) (λ s. landed (Server s)) now.servers later.servers n stops.stopped_all.servers (closed (Server n)) in
+      let u : (n : ℕ) → (later.replicas n).kept ≡ (image g now landed).replicas n = λ n. left_is ReplicaKept (Unit {0}) land_replica (λ r c. replica_row c) (λ r. landed (Replica r)) now.replicas later.replicas n stops.stopped_all.replicas (closed (Replica n)) in
+      let v : (n : ℕ) → (later.joiners n).kept ≡ (image g now landed).joiners n = λ n. left_is JoinerKept JoinerLive land_joiner (joiner_row g) (λ j. landed (Joiner j)) now.joiners later.joiners n stops.stopped_all.joiners (closed (Joiner n)) in
+      λ i. record { dispatchers = λ n. a n i; servers = λ n. b n i; replicas = λ n. u n i; joiners = λ n. v n i }
+
+  pub leaves_sound : SoundStore g (image g now landed)
+  leaves_sound =
+      subst (SoundStore g) is_image
+      (subst (λ (x : World). SoundStore g (disks x)) (after_append g es stops.entries (opening d)) (runs_keep_stores g d (es ++ stops.entries) c s (run_append g es stops.entries (opening d) r stops.run)))

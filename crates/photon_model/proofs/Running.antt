@@ -1,7 +1,7 @@
 -- Each entry of a run keeps all facts, and so they hold after every run.
 use Rattle.std.proofs.Common.{◌≡◌, ◌≢◌, ◌⊎◌, inl, inr, ⊎_elim, ℕ, zero, suc, ◌+◌, ◌*◌, ◌<◌, ◌≤◌, Bool, true, false, ◌==◌, List, [], ◌∷◌, ◌++◌, Some, None, refl, sym, ap, ◌∙◌, subst, arith}
 use Rattle.std.specs.Prelude.{Option, slice_get}
-use Rattle.std.proofs.lemmas.Bool.{cases_Bool, cases_lt, true≢false}
+use Rattle.std.proofs.lemmas.Bool.{cases_Bool, cases_lt, true≢false, and_parts}
 use Rattle.event_id.specs.declared.id.EventId.{EventId}
 use Rattle.registry_state.specs.declared.Token.{Token}
 use Rattle.registry_state.specs.declared.Insert.{Insert}
@@ -15,8 +15,9 @@ use Rattle.turn_defs.specs.Setting.{Setting, first_joiner, Checked, IsJoiner, Is
 use Rattle.packet_codec.specs.declared.node.Node.TheVariants.{Dispatcher, Server, Replica, Joiner}
 use Rattle.output_log.specs.declared.pair.PairRec.{PairRec}
 use Rattle.packet_codec.specs.declared.node.Input.{Input}
-use Rattle.turn_defs.specs.Turns.{Note, land}
-use Rattle.dispatch_core.specs.Dispatcher.{DispatcherKept, DispatcherLive, land_dispatcher}
+use Rattle.turn_defs.specs.Turns.{Note, land, is_empty}
+use Rattle.dispatch_core.specs.Dispatcher.{DispatcherKept, DispatcherLive, land_dispatcher, dispatcher_at_rest}
+use Rattle.photon_defs.specs.Rest.{UpWith}
 use Rattle.joiner_core.specs.Joiner.{JoinerLive, land_joiner}
 use Rattle.registry_server.specs.Server.{land_server}
 use Rattle.replica_node.specs.Replica.{land_replica}
@@ -27,12 +28,13 @@ use Rattle.list_words.proofs.Lists.{each_at, some_same, none_some}
 use Rattle.log_records.proofs.LineOrder.{at_own, within_end}
 use Rattle.registry_state.proofs.LookingBack.{one_granted}
 use Rattle.registry_state.proofs.Tests.{same_id-true, same_id-false}
-use Rattle.photon_model.specs.Keeping.{extended}
-use Rattle.photon_model.specs.EveryRun.{PaxosGives, PairAt, NoJoinerStops}
+use Rattle.photon_model.specs.Keeping.{extended, PaxosGives}
+use Rattle.photon_model.specs.EveryRun.{NoJoinerStops}
 use Rattle.photon_model.proofs.Growth.{joiner_kept_lasts, joiner_live_lasts}
 use Rattle.photon_model.proofs.Joining.{grows_extended}
 use Rattle.photon_model.proofs.Fates.{Fates, fates_decided, fates_begun, fates_ended}
 use Rattle.photon_model.proofs.Lifting.{addressed_hold, dispatcher_replaced, server_replaced, replica_replaced, joiner_replaced, dispatcher_row_keeps, joiner_row_keeps, server_row_keeps, replica_row_keeps}
+use Rattle.photon_model.specs.Headline.{PairAt}
 
 module _ (g : Setting) (c : Checked g) (old : List Insert) (w : World) (drawn : List Insert) (holds : WorldHolds g w drawn) where
   abbrev pub Kept : Entry → Type 0
@@ -230,3 +232,22 @@ written_once g w drawn h i j k m p q a b u v e =
 
 pub own_query : (g : Setting) (w : World) (drawn : List Insert) → WorldHolds g w drawn → (j k : ℕ) (p : PairRec) → IsJoiner g j → PairAt w j k p → IsJoin g p.click p.query
 own_query g w drawn h j k p a u = (each_at (PairSound g (known g w drawn) j (w.joiners j).kept.epoch) (w.joiners j).kept.pairs (h.joiners j a).kept.pairs p (at_place (w.joiners j).kept.pairs k p u)).own_query
+
+-- a dispatcher at rest has no line, due position or trial left
+rest_parts : (l : DispatcherLive) → dispatcher_at_rest l ≡ true → (l.ended ≡ true) × (l.fresh ≡ []) × (l.due ≡ []) × (l.trying ≡ [])
+rest_parts l e =
+    let a = and_parts l.ended _ e in
+    let b = and_parts (is_empty l.fresh) _ a.1 in
+    let c = and_parts (is_empty l.due) (is_empty l.trying) b.1 in
+    (a.0, empty_is l.fresh b.0, empty_is l.due c.0, empty_is l.trying c.1)
+  where
+    empty_is : {A : Type 0} (xs : List A) → is_empty xs ≡ true → xs ≡ []
+    empty_is [] e = refl
+    empty_is (x ∷ xs) e = absurd (true≢false (sym e))
+
+pub rest_drained : (g : Setting) (w : World) (drawn : List Insert) → Checked g → WorldHolds g w drawn → (s : ℕ) → s < 2 → UpWith (λ l. dispatcher_at_rest l ≡ true) (w.dispatchers s).live → IsDrained g (w.dispatchers s).kept
+rest_drained g w drawn c h s lt = go (w.dispatchers s).live refl
+  where
+    go : (o : Option DispatcherLive) → (w.dispatchers s).live ≡ o → UpWith (λ l. dispatcher_at_rest l ≡ true) o → IsDrained g (w.dispatchers s).kept
+    go None e u = absurd u
+    go (Some l) e u = let p = rest_parts l u in rest_is_drained g w drawn c h s l lt e p.0 p.1 p.2 p.3

@@ -23,11 +23,12 @@ use Rattle.replica_node.specs.Replica.{ReplicaKept, land_replica}
 use Rattle.photon_defs.specs.Sound.{Known, known_of, DispatcherSound, PairSound, DrawnSound, InsertsOf, Sound, SoundStore, accepted_inserts}
 use Rattle.photon_defs.specs.Runs.{Cell, World, Entry, Begin, End, Stop, Disks, begun, after, world_after}
 use Rattle.list_words.proofs.Lists.{none_some, mem_left, mem_split, each_more, at_set}
-use Rattle.photon_model.specs.Stores.{empty_store, longer, ReadIsChecked, SoundOverBytes}
+use Rattle.photon_defs.specs.Topology.{Store, WholeSound, topology_of}
+use Rattle.photon_model.specs.Stores.{empty_disks, ReadIsChecked, IsOneTopology, IsLonger}
 use Rattle.log_records.proofs.Places.{queries_begin, lines_begin, lines_follow}
 use Rattle.photon_model.proofs.Growth.{begins_self, begins_again}
 
-pub empty_sound : (g : Setting) → Sound g empty_store []
+pub empty_sound : (g : Setting) → Sound g empty_disks []
 empty_sound g =
     record {
       replicas = record {
@@ -48,6 +49,10 @@ empty_sound g =
         (Rattle.std.proofs.lemmas.Bool.cases_lt r g.replicas)
 
 -- ---- longer logs
+
+-- both logs with more lines at their ends; the horizon and the size of a batch may be others
+abbrev pub longer : Setting → List Query → List ClickLine → ℕ → ℕ → Setting
+longer g qs cs horizon batch = record { queries = g.queries ++ qs; clicks = g.clicks ++ cs; horizon = horizon; joiners = g.joiners; table = g.table; batch = batch; replicas = g.replicas }
 
 find_front : {A : Type 0} (p : A → Bool) (xs ys : List A) (y : A) → find p xs ≡ Some y → find p (xs ++ ys) ≡ Some y
 find_front p [] ys y e = none_some y e
@@ -113,13 +118,34 @@ sound_lasts g qs cs horizon batch d drawn c s =
 pub read_is_checked : ReadIsChecked
 read_is_checked g query_log click_log over = let h = lines_follow click_log g.clicks over.clicks in record { follow = h.0; no_conflict = h.1 }
 
-pub sound_over_bytes : SoundOverBytes
-sound_over_bytes g h query_log click_log more_queries more_clicks d before after joiners table replicas s =
-    let qs = queries_begin query_log more_queries g.queries h.queries before.queries after.queries in
-    let cs = lines_begin click_log more_clicks g.clicks h.clicks before.clicks after.clicks in
-    let same : longer g qs.0 cs.0 h.horizon h.batch ≡ h = λ i. record { queries = sym qs.1 i; clicks = sym cs.1 i; horizon = h.horizon; joiners = joiners i; table = table i; batch = h.batch; replicas = replicas i } in
-    let checked = read_is_checked h (query_log ++ more_queries) (click_log ++ more_clicks) after in
-    subst (λ (k : Setting). SoundStore k d) same (sound_lasts g qs.0 cs.0 h.horizon h.batch d (accepted_inserts g d) (subst Checked (sym same) checked) s)
+module _ (g h : Setting) (query_log click_log more_queries more_clicks : List ℕ) (l : IsLonger g h query_log click_log more_queries more_clicks) where
+  more_records : Begins g.queries h.queries
+  more_records = queries_begin query_log more_queries g.queries h.queries l.before.queries l.after.queries
+
+  more_lines : Begins g.clicks h.clicks
+  more_lines = lines_begin click_log more_clicks g.clicks h.clicks l.before.clicks l.after.clicks
+
+  abbrev grown : Setting
+  grown = longer g more_records.0 more_lines.0 h.horizon h.batch
+
+  is_grown : grown ≡ h
+  is_grown = λ i. record { queries = sym more_records.1 i; clicks = sym more_lines.1 i; horizon = h.horizon; joiners = l.topology.joiners i; table = l.topology.table i; batch = h.batch; replicas = l.topology.replicas i }
+
+  grown_checked : Checked grown
+  grown_checked = subst Checked (sym is_grown) (read_is_checked h (query_log ++ more_queries) (click_log ++ more_clicks) l.after)
+
+  grown_store : (d : Disks) → SoundStore g d → SoundStore grown d
+  grown_store d s = sound_lasts g more_records.0 more_lines.0 h.horizon h.batch d (accepted_inserts g d) grown_checked s
+
+  pub longer_keeps_store : (d : Disks) → SoundStore g d → SoundStore h d
+  longer_keeps_store d s = subst (λ (k : Setting). SoundStore k d) is_grown (grown_store d s)
+
+  pub longer_keeps_whole : (s : Store) → WholeSound g s → WholeSound h s
+  longer_keeps_whole s w = subst (λ (k : Setting). WholeSound k s) is_grown (record {
+    records = grown_store s.disks w.records;
+    topology = w.topology;
+    blank = λ e. let b = w.blank e in record { offset = b.offset; pending = b.pending; server_epoch = b.server_epoch; notes = b.notes; joiner_epoch = b.joiner_epoch; pairs = b.pairs };
+  })
 
 -- ---- records that stay
 

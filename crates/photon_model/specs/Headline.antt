@@ -1,24 +1,26 @@
--- What every run keeps, in plain words. A run begins with all nodes down and nothing sent, over checked logs and a sound
--- store; turns, losses, repeats, reorderings and stops follow in any order.
-use Rattle.std.specs.Prelude.{◌≡◌, ◌⊎◌, ℕ, ◌<◌, List, [], Some}
+-- What every run keeps, in plain words. Turns, losses, repeats, reorderings and stops follow one another in any order.
+use Rattle.std.specs.Prelude.{◌≡◌, ◌⊎◌, ℕ, ◌<◌, List, [], Some, slice_get}
+use Rattle.event_id.specs.declared.id.EventId.{EventId}
 use Rattle.list_words.specs.Lists.{Mem, Begins}
 use Rattle.log_records.specs.declared.records.QueryRec.{QueryRec as Query}
 use Rattle.log_records.specs.Lines.{ClickLine}
 use Rattle.log_records.specs.Log.{first}
+use Rattle.log_defs.specs.declared.ReportLine.TheVariants.{M}
 use Rattle.registry_state.specs.LookBack.{Expired}
 use Rattle.output_log.specs.declared.pair.PairRec.{PairRec}
 use Rattle.paxos_defs.specs.Agreement.{OneChosen}
-use Rattle.turn_defs.specs.Setting.{Setting, Checked, IsJoiner, IsJoin}
+use Rattle.turn_defs.specs.Setting.{Setting, IsJoiner, IsJoin}
 use Rattle.registry_server.specs.Server.{ServerLive}
 use Rattle.photon_defs.specs.Journals.{journals}
-use Rattle.photon_defs.specs.Sound.{SoundStore, values_of, IsWritten, IsMissing, IsDrained}
+use Rattle.photon_defs.specs.Sound.{values_of, IsWritten, IsMissing, IsDrained, known_of}
 use Rattle.photon_defs.specs.Facts.{known}
-use Rattle.photon_defs.specs.Runs.{World, Entry, Disks, world_after, IsRun, opening}
-use Rattle.photon_model.specs.EveryRun.{decided_in, PairAt}
+use Rattle.photon_defs.specs.Report.{line_of}
+use Rattle.photon_defs.specs.Runs.{World, Entry, Disks, world_after}
+use Rattle.photon_model.specs.EveryRun.{decided_in}
 
--- P holds of each setting and of the world after each run
-abbrev pub AfterEveryRun : (Setting → World → Type 0) → Type 0
-AfterEveryRun P = (g : Setting) (d : Disks) (es : List Entry) → Checked g → SoundStore g d → IsRun g (opening d) es → P g (world_after g (opening d) es)
+-- the pair stands at place k of joiner j's output log
+abbrev pub PairAt : World → ℕ → ℕ → PairRec → Type 0
+PairAt w j k p = slice_get (w.joiners j).kept.pairs k ≡ Some p
 
 -- a click is output at most once: two pairs with one click id, in whatever output logs, are one pair at one place
 abbrev pub IsOutputOnce : Setting → World → Type 0
@@ -46,3 +48,7 @@ ForgetsNothing g w =
 -- no pair that an output log has had is lost, whatever follows
 abbrev pub LosesNoPair : Type 0
 LosesNoPair = (g : Setting) (w : World) (es : List Entry) (j : ℕ) → Begins (w.joiners j).kept.pairs ((world_after g w es).joiners j).kept.pairs
+
+-- the report of a store tells that an id is missing exactly where it is
+abbrev pub TellsTheMissing : Type 0
+TellsTheMissing = (g : Setting) (d : Disks) (i : EventId) → (line_of g d i ≡ M i → IsMissing g (known_of g d []) i) × (IsMissing g (known_of g d []) i → line_of g d i ≡ M i)

@@ -1,5 +1,5 @@
 -- What one row of the turn table keeps, node kind by node kind.
-use Rattle.std.specs.Prelude.{◌≡◌, ◌≢◌, ◌⊎◌, ℕ, ◌≤◌, List, ◌++◌, Option, Some, None, true, length, slice_get}
+use Rattle.std.specs.Prelude.{◌≡◌, ◌≢◌, ◌⊎◌, ℕ, ◌<◌, ◌≤◌, List, [], ◌++◌, Option, Some, None, true, length, slice_get}
 use Rattle.registry_state.specs.declared.Insert.{Insert}
 use Rattle.registry_state.specs.declared.Token.{Token}
 use Rattle.ballot_core.specs.declared.Ballot.{Ballot}
@@ -22,7 +22,9 @@ use Rattle.joiner_core.specs.Joiner.{JoinerKept, JoinerLive, Flight, insert_of, 
 use Rattle.registry_server.specs.Server.{ServerKept, ServerLive, Proposal, server_turn, is_current}
 use Rattle.replica_node.specs.Replica.{ReplicaKept, land_replica, replica_turn}
 use Rattle.photon_defs.specs.Sound.{Known, values_of, IsWritten, DispatcherSound, JoinerSound, DrawnSound, InsertsOf}
-use Rattle.photon_defs.specs.Facts.{HoldsOf, HoldsOfInput, DispatcherHolds, JoinerHolds, ServerHolds}
+use Rattle.photon_defs.specs.Runs.{World, Entry, after}
+use Rattle.photon_model.specs.EveryRun.{decided_in}
+use Rattle.photon_defs.specs.Facts.{known, HoldsOf, HoldsOfInput, DispatcherHolds, JoinerHolds, ServerHolds}
 
 abbrev pub PacketsHold : Setting → Known → List (To × Packet) → Type 0
 PacketsHold g n ps = Each (λ (a : To × Packet). HoldsOf g n a.1) ps
@@ -114,3 +116,8 @@ ReplicaRowsKeep = (g : Setting) (n : Known) (k : ReplicaKept) (i : Input) → Ea
 -- the insert's join has ended: its id is written, granted to another token, or expired
 abbrev pub IsResolved : Setting → Known → Insert → Type 0
 IsResolved g n x = (IsWritten g n x.id ⊎ ((h : Token) × (h ≢ x.token) × IsGranted (values_of g n x.id) x.id h)) ⊎ Expired (values_of g n x.id) x.id
+
+-- What Paxos gives at one entry: decided values stay, and a server that counts its second Accepted has a chosen value.
+pub record PaxosGives (g : Setting) (w : World) (e : Entry) : Type 0 where
+  pub grows : (s : ℕ) → Begins (decided_in g w s) (decided_in g (after g w e) s)
+  pub chosen : (s : ℕ) (l : ServerLive) (i : Input) → s < 2 → (w.servers s).live ≡ Some l → (w.servers s).opened ≡ Some i → IsChosenNow g (known g w []) l i

@@ -2,16 +2,19 @@
 //! reordered or stopped, and what follows from it in plain words.
 #![tactic(auto)]
 
-ghost use Rattle.photon_model.specs.EveryRun.{BoundIsOk, DrainedShowsAll, EveryRunHolds, EveryRunSound, LearnedIsDecided, MissingIsOld, OneDecided, OwnQuery, RestIsDrained, WrittenOnce};
-ghost use Rattle.photon_model.specs.Headline.{AfterEveryRun, DecidesOnce, ForgetsNothing, HasOwnQueries, IsOutputOnce, LearnsTheDecided, LosesNoPair};
-ghost use Rattle.photon_model.specs.Stores.{EmptySound, RecordsStay, RunsKeepStores, SoundCloses, SoundLasts, ReadIsChecked, SoundOverBytes};
+ghost use Rattle.photon_model.specs.EveryRun.{AfterEveryRun, AllFactsHold, BoundIsOk, MissingIsOld, RestIsDrained};
+ghost use Rattle.photon_model.specs.Headline.{DecidesOnce, ForgetsNothing, HasOwnQueries, IsOutputOnce, LearnsTheDecided, LosesNoPair, TellsTheMissing};
+ghost use Rattle.turn_defs.specs.Setting.{Setting};
+ghost use Rattle.photon_defs.specs.Topology.{WholeSound};
+ghost use Rattle.photon_model.specs.Stores.{LongerKeepsStores, LongerKeepsWhole, ReadIsChecked, RecordsStay, RunsKeepStores, RunsKeepWhole, SoundCloses, TopologyComesFirst, empty_store};
 ghost use Rattle.photon_model.specs.Claims.{EveryClaimSent};
-ghost use Rattle.photon_model.specs.Images.{EachImageSound};
+ghost use Rattle.photon_model.specs.Images.{LeavesSound};
 ghost use Rattle.photon_model.specs.Alone.{EveryBallotAlone};
 ghost use Rattle.photon_model.specs.Keeping.{DispatcherRowsKeep, DispatcherStartKeeps, JoinerRowsKeep, JoinerStartKeeps, ReplicaRowsKeep, ServerRowsKeep};
 
-/// After every run from a sound store: a click is output at most once, each pair is a click with its own query, replicas
-/// never decide differently, and what a dispatcher has drained is not forgotten. No pair is ever lost.
+/// After every run from a sound store, with stops whose note landed or not: a click is output at most once, each pair is
+/// a click with its own query, replicas never decide differently, and what a dispatcher has drained is not forgotten. No
+/// pair is ever lost, and the report names exactly the missing ids.
 pub fn headline()
     ensures once { AfterEveryRun IsOutputOnce }
     ensures own_query { AfterEveryRun HasOwnQueries }
@@ -19,6 +22,18 @@ pub fn headline()
     ensures learned { AfterEveryRun LearnsTheDecided }
     ensures drained { AfterEveryRun ForgetsNothing }
     ensures kept { LosesNoPair }
+    ensures missing { TellsTheMissing }
+{}
+
+/// After every run from a sound store all facts hold, and whichever open turns' notes have landed, the disks that stops
+/// now leave are sound. A dispatcher at rest has drained, a missing id is held by a token of an earlier run where no
+/// joiner stopped, and the decided bound is the horizon or an earlier one.
+pub fn every_run()
+    ensures facts { AfterEveryRun AllFactsHold }
+    ensures left { AfterEveryRun LeavesSound }
+    ensures rest { AfterEveryRun RestIsDrained }
+    ensures missing { MissingIsOld }
+    ensures bound { BoundIsOk }
 {}
 
 /// Each row of the turn table keeps what holds of its node, and sends only packets whose facts hold.
@@ -31,42 +46,28 @@ pub fn rows_keep()
     ensures replica { ReplicaRowsKeep }
 {}
 
-/// After every run from sound records, with stops whose note landed or not: all facts hold, the disks are sound,
-/// at most one value is chosen at a place, a drained dispatcher leaves each unexpired click with a query written or
-/// missing, and each output pair is a click with its own query, at one place.
-pub fn every_run()
-    ensures holds { EveryRunHolds }
-    ensures sound { EveryRunSound }
-    ensures decided { OneDecided }
-    ensures drained { DrainedShowsAll }
-    ensures once { WrittenOnce }
-    ensures own_query { OwnQuery }
-    ensures rest { RestIsDrained }
-    ensures learned { LearnedIsDecided }
-    ensures missing { MissingIsOld }
-    ensures bound { BoundIsOk }
-{}
-
-/// The empty store is sound, a sound store stays so where the logs grow at their ends, and no pair and no replica's
-/// record is ever lost.
+/// A store whose records are sound is so after every run, and where both logs grow by bytes at their ends and stay valid;
+/// logs that were read have what the law asks of them; no pair and no replica's record is ever lost.
 pub fn stores()
-    ensures empty { EmptySound }
-    ensures longer { SoundLasts }
+    ensures runs { RunsKeepStores }
+    ensures longer { LongerKeepsStores }
+    ensures checked { ReadIsChecked }
     ensures stay { RecordsStay }
     ensures closes { SoundCloses }
-    ensures runs { RunsKeepStores }
-    ensures checked { ReadIsChecked }
-    ensures bytes { SoundOverBytes }
+{}
+
+/// The same of a whole store with its topology: the empty store is sound, its first record may be the topology's, and
+/// from then on it stays sound through runs that stop at any moment, and over longer logs.
+pub fn whole_stores()
+    ensures empty { (g : Setting) → WholeSound g empty_store }
+    ensures topology { TopologyComesFirst }
+    ensures runs { RunsKeepWhole }
+    ensures longer { LongerKeepsWhole }
 {}
 
 /// Each join in flight has sent its insert.
 pub fn claims()
     ensures { EveryClaimSent }
-{}
-
-/// At every moment of every run, whatever open turns' notes have landed, the disks that stops now leave are sound.
-pub fn images()
-    ensures { EachImageSound }
 {}
 
 /// A ballot is drawn for one place alone.

@@ -7,6 +7,7 @@ use Rattle.photon_defs.specs.Sound.{accepted_inserts, values_of}
 use Rattle.photon_model.proofs.Running.{drained, written_once, own_query}
 use Rattle.photon_model.proofs.Agreeing.{every_run_holds, one_decided}
 use Rattle.photon_model.proofs.Storing.{records_stay}
+use Rattle.photon_model.proofs.Showing.{tells_missing}
 use Rattle.photon_model.proofs.headline.Goals as goal
 
 pub returns-clause-once : goal.returns-clause-once
@@ -31,3 +32,6 @@ returns-clause-drained c g d es ok sound run s lt end l q m found =
 
 pub returns-clause-kept : goal.returns-clause-kept
 returns-clause-kept c g w es j = (records_stay g w es).0 j
+
+pub returns-clause-missing : goal.returns-clause-missing
+returns-clause-missing c g d i = tells_missing g d i
