@@ -1,6 +1,7 @@
 //! Does one piece of work many times, so that it can be timed from outside: see bench/parts.py.
 #![tactic(auto)]
 
+mod packets;
 mod registry;
 
 use std::alloc::{AllocError, Global};
@@ -46,6 +47,8 @@ fn work(alloc: Global, part: &str, count: u32) -> Result<Option<u64>, AllocError
         "none" => Some(0),
         "apply" => Some(registry::apply(alloc, count)?),
         "replay" => Some(registry::replay(alloc, count)?),
+        "encode" => Some(packets::encoded(alloc, count)?),
+        "decode" => Some(packets::decoded(alloc, count)?),
         _ => None,
     })
 }

@@ -42,7 +42,7 @@ fn batch(alloc: Global, number: u32) -> Result<Batch, AllocError> {
 }
 
 // Clicks of one server and 64 processes, under the tokens of one joiner.
-fn insert(number: u32) -> Insert {
+pub fn insert(number: u32) -> Insert {
     Insert {
         id: EventId {
             ip: 0x0A00_0101,

@@ -44,7 +44,8 @@ pub struct BadId;
 /// Reads the text of an id, all of the bytes: `a.b.c.d:pid:micros`, in decimal without leading zeros.
 ///
 /// One pass: each byte of the text is looked at once, a separator where the digits before it stop; nothing is allocated.
-/// It stops at the first byte that is wrong, and where a number exceeds 64 bits.
+/// It stops at the first byte that is neither a digit nor the separator due, at the end of a number beyond its range, and
+/// at the digit that takes a number beyond 64 bits.
 pub fn parse(text: &[u8]) -> Result<EventId, BadId>
     // What is read is spelled so.
     ensures found { IfOk result (λ id. IsId id × (text.now ≡ spell id)) }
