@@ -5,9 +5,8 @@ mod packets;
 mod registry;
 
 use std::alloc::{AllocError, Global};
-use std::env;
-use std::io;
 use std::process::ExitCode;
+use std::{env, io};
 
 /// How many inserts there are where the words name no number.
 const FEW: u32 = 1000;

@@ -1,8 +1,7 @@
 // Insert packets to bytes and back.
+use crate::registry::insert;
 use packet_codec::{DecodeFault, Packet, decode, encode};
 use std::alloc::{AllocError, Global};
-
-use crate::registry::insert;
 
 /// Encodes this many packets, and answers how many bytes that gave.
 pub fn encoded(alloc: Global, count: u32) -> Result<u64, AllocError> {

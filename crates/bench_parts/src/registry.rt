@@ -9,10 +9,14 @@ const BATCH: u32 = 64;
 /// Applies batches with this many inserts in all, rounded down to whole batches, and answers how many were granted.
 pub fn apply(alloc: Global, count: u32) -> Result<u64, AllocError> {
     let mut registry = Registry::new(alloc);
-    let mut granted = 0;
+    let mut granted: u64 = 0;
     for number in 0..count / BATCH {
         let answers = registry.apply(&batch(alloc, number)?)?;
-        granted += answers.as_slice().iter().filter(|a| **a == Answer::Granted).count() as u64;
+        for answer in answers.as_slice() {
+            if *answer == Answer::Granted {
+                granted = granted.wrapping_add(1);
+            }
+        }
     }
     Ok(granted)
 }
@@ -23,11 +27,11 @@ pub fn replay(alloc: Global, count: u32) -> Result<u64, AllocError> {
     for number in 0..count / BATCH {
         registry.apply(&batch(alloc, number)?)?;
     }
-    let mut granted = 0;
+    let mut granted: u64 = 0;
     for number in 0..count / BATCH * BATCH {
         let insert = insert(number);
         if registry.replay(insert.id, insert.token) == Some(Answer::Granted) {
-            granted += 1;
+            granted = granted.wrapping_add(1);
         }
     }
     Ok(granted)
