@@ -1,5 +1,5 @@
 -- What may follow each tag in a packet's spelling.
-use Rattle.std.proofs.Common.{◌≡◌, ℕ, zero, suc, ◌+◌, ◌-◌, ◌≤◌, List, [], ◌∷◌, ◌++◌, drop, get_or, refl, sym, ap, ◌∙◌, subst, arith}
+use Rattle.std.proofs.Common.{◌≡◌, ℕ, zero, suc, ◌+◌, ◌-◌, ◌≤◌, List, ◌∷◌, ◌++◌, drop, get_or, refl, ap, ◌∙◌, subst, arith}
 use Rattle.log_records.specs.Line.{IsClick}
 use Rattle.fields.specs.Bad.{Spelled, Followed, After}
 use Rattle.fields.specs.Cells.{Run}
