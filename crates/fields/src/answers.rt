@@ -6,7 +6,7 @@ use crate::Stop;
 use crate::field::Field;
 use crate::ids::token_bytes;
 use crate::numbers::u64_of;
-use crate::parts::{run, write};
+use crate::parts::{any, run, write};
 use registry_state::{Answer, Token};
 use std::alloc::{AllocError, Global};
 use wire_core::Bytes;
@@ -33,7 +33,7 @@ impl Field for Answer {
             let (token, rest) = Token::read(alloc, rest)?;
             return Ok((Answer::Duplicate(token), rest));
         }
-        let (bound, rest) = run(rest, 8, 0, 255)?;
+        let (bound, rest) = any(rest, 8)?;
         Ok((Answer::TooOld(u64_of(bound)), rest))
     }
 

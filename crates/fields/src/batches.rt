@@ -9,7 +9,7 @@ use crate::Stop;
 use crate::field::Field;
 use crate::ids::{insert_bytes, insert_of};
 use crate::numbers::u64_of;
-use crate::parts::{run, up_to, write};
+use crate::parts::{any, up_to, write};
 use registry_state::{Batch, Inserts};
 use std::alloc::{AllocError, Global};
 use wire_core::Bytes;
@@ -37,7 +37,7 @@ impl Field for Batch {
     fn read(alloc: Global, bytes: &[u8]) -> Result<(Batch, &[u8]), Stop> {
         let (head, rest) = up_to(bytes, &HEAD)?;
         let (bound, count) = head_of(head);
-        let (spelled, rest) = run(rest, INSERT * count, 0, 255)?;
+        let (spelled, rest) = any(rest, INSERT * count)?;
         let inserts = inserts_of(alloc, spelled, count)?;
         Ok((Batch { bound, inserts }, rest))
     }

@@ -6,7 +6,7 @@ ghost use Rattle.fields.specs.Spellings.{token, IsToken, insert, IsInsert};
 use crate::Stop;
 use crate::field::Field;
 use crate::numbers::{u16_of, u32_of, u64_of};
-use crate::parts::run;
+use crate::parts::any;
 use event_id::EventId;
 use registry_state::{Insert, Token};
 use std::alloc::{AllocError, Global};
@@ -23,7 +23,7 @@ impl Field for EventId {
     }
 
     fn read(_alloc: Global, bytes: &[u8]) -> Result<(EventId, &[u8]), Stop> {
-        let (front, rest) = run(bytes, 16, 0, 255)?;
+        let (front, rest) = any(bytes, 16)?;
         Ok((id_of(front), rest))
     }
 
@@ -43,7 +43,7 @@ impl Field for Token {
     }
 
     fn read(_alloc: Global, bytes: &[u8]) -> Result<(Token, &[u8]), Stop> {
-        let (front, rest) = run(bytes, 14, 0, 255)?;
+        let (front, rest) = any(bytes, 14)?;
         Ok((token_of(front), rest))
     }
 
@@ -63,7 +63,7 @@ impl Field for Insert {
     }
 
     fn read(_alloc: Global, bytes: &[u8]) -> Result<(Insert, &[u8]), Stop> {
-        let (front, rest) = run(bytes, 30, 0, 255)?;
+        let (front, rest) = any(bytes, 30)?;
         Ok((insert_of(front), rest))
     }
 

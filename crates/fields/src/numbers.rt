@@ -5,7 +5,7 @@ ghost use Rattle.fields.specs.Spellings.{number, IsNumber};
 
 use crate::Stop;
 use crate::field::Field;
-use crate::parts::run;
+use crate::parts::any;
 use std::alloc::{AllocError, Global};
 use wire_core::Bytes;
 
@@ -20,7 +20,7 @@ impl Field for u64 {
     }
 
     fn read(_alloc: Global, bytes: &[u8]) -> Result<(u64, &[u8]), Stop> {
-        let (front, rest) = run(bytes, 8, 0, 255)?;
+        let (front, rest) = any(bytes, 8)?;
         Ok((u64_of(front), rest))
     }
 

@@ -21,6 +21,17 @@ pub(crate) fn run(bytes: &[u8], n: usize, low: u8, high: u8) -> Result<(&[u8], &
     Ok(bytes.split_at(n))
 }
 
+// The next n bytes, whichever they are, and those behind them. No byte is looked at.
+pub(crate) fn any(bytes: &[u8], n: usize) -> Result<(&[u8], &[u8]), Stop>
+    ensures ok { IfOk result (λ p. Run n 0 255 p.0.now × (bytes.now ≡ p.0.now ++ p.1.now)) }
+    ensures bad { IfErr result (Stops (Run n 0 255) bytes.now) }
+{
+    if bytes.len() < n {
+        return Err(Stop::Bad { left: 0 });
+    }
+    Ok(bytes.split_at(n))
+}
+
 // The next bytes, each up to its limit, and those behind them.
 pub(crate) fn up_to<'a>(bytes: &'a [u8], limits: &[u8]) -> Result<(&'a [u8], &'a [u8]), Stop>
     ensures ok { IfOk result (λ p. UpTo limits.now p.0.now × (bytes.now ≡ p.0.now ++ p.1.now)) }

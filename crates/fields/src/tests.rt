@@ -1,5 +1,5 @@
 // Bytes and what is taken from them, from the layouts.
-use crate::{Field, FieldFault};
+use crate::{Field, FieldFault, Stop, put_three, put_two, read_tag, read_three, read_two};
 use ballot_core::Ballot;
 use event_id::EventId;
 use log_records::{ClickRec, QueryRec, Text};
@@ -45,6 +45,7 @@ const TOKEN: [u8; 14] = [0, 7, 0, 0, 0, 1, 255, 255, 255, 255, 255, 255, 255, 25
 #[test]
 fn numbers(rt: HostRuntime) -> Result<(), Fail> {
     let alloc = rt.alloc();
+    assert!(rt; is_spelling::<u64>(alloc, &[255, 0, 0, 0, 0, 0, 0, 1]));
     assert!(rt; is_spelling::<EventId>(alloc, &ID));
     assert!(rt; is_spelling::<Token>(alloc, &TOKEN));
     let mut insert = Bytes::from_slice(alloc, &ID)?;
@@ -72,6 +73,14 @@ fn batches_and_notes(rt: HostRuntime) -> Result<(), Fail> {
     }
     assert!(rt; is_spelling::<Batch>(alloc, batch.as_slice()));
     assert!(rt; is_bad::<Batch>(alloc, &[0, 0, 0, 0, 0, 0, 0, 5, 65, 1, 2, 3], 8));
+    assert!(rt; is_spelling::<Option<(Ballot, Batch)>>(alloc, &[0]));
+    let mut prior = Bytes::from_slice(alloc, &[1, 0, 0, 0, 0, 0, 0, 0, 3, 0, 0, 0, 4, 0])?;
+    prior.put_bytes(batch.as_slice())?;
+    assert!(rt; is_spelling::<Option<(Ballot, Batch)>>(alloc, prior.as_slice()));
+    assert!(rt; is_bad::<Option<(Ballot, Batch)>>(alloc, &[2, 0], 0));
+    assert!(rt;
+        is_bad::<Option<(Ballot, Batch)>>(alloc, &[1, 0, 0, 0, 0, 0, 0, 0, 3, 0, 0, 0, 4, 2], 13)
+    );
     let head = [
         1, 0, 0, 0, 0, 0, 0, 0, 2, 0, 0, 0, 0, 0, 0, 0, 3, 0, 0, 0, 4, 0,
     ];
@@ -109,5 +118,32 @@ fn answers_and_records(rt: HostRuntime) -> Result<(), Fail> {
     let mut click = Bytes::from_slice(alloc, &ID)?;
     click.put_bytes(query.as_slice())?;
     assert!(rt; is_spelling::<ClickRec>(alloc, click.as_slice()));
+    Ok(())
+}
+
+#[test]
+fn fields_in_a_row(rt: HostRuntime) -> Result<(), Fail> {
+    let alloc = rt.alloc();
+    let mut bytes = Bytes::from_slice(alloc, &[9])?;
+    put_two(&1, &2, &mut bytes)?;
+    put_three(&3, &4, &5, &mut bytes)?;
+    let Ok((tag, rest)) = read_tag(bytes.as_slice(), 8, 9) else {
+        return Err(Fail::from("no tag"));
+    };
+    let Ok((one, two, rest)) = read_two::<u64, u64>(alloc, rest) else {
+        return Err(Fail::from("no two fields"));
+    };
+    let Ok((three, four, five, rest)) = read_three::<u64, u64, u64>(alloc, rest) else {
+        return Err(Fail::from("no three fields"));
+    };
+    assert_eq!(rt;
+        [u64::from(tag), one, two, three, four, five],
+        [9, 1, 2, 3, 4, 5]
+    );
+    assert!(rt; rest.is_empty());
+    assert_eq!(rt;
+        read_tag(&[10, 1, 2], 8, 9).err(),
+        Some(Stop::Bad { left: 3 })
+    );
     Ok(())
 }

@@ -1,5 +1,5 @@
 -- Outcomes.
-use Rattle.std.proofs.Common.{◌≡◌, ℕ, zero, suc, ◌≤◌, List, [], ◌∷◌, ◌++◌, drop, get_or, refl, sym, ap, ◌∙◌, subst, arith}
+use Rattle.std.proofs.Common.{◌≡◌, ℕ, zero, suc, ◌≤◌, List, [], ◌∷◌, ◌++◌, drop, get_or, refl, ap, ◌∙◌, arith}
 use Rattle.fields.specs.Bad.{Spelled, After}
 use Rattle.fields.specs.Cells.{Run}
 use Rattle.fields.specs.Stops.{IsBadBefore}

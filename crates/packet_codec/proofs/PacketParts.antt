@@ -1,5 +1,5 @@
 -- What may follow each tag in a packet's spelling.
-use Rattle.std.proofs.Common.{◌≡◌, ℕ, zero, suc, ◌+◌, ◌-◌, ◌≤◌, List, [], ◌∷◌, ◌++◌, drop, get_or, None, refl, sym, ap, ◌∙◌, subst, arith}
+use Rattle.std.proofs.Common.{◌≡◌, ℕ, zero, suc, ◌+◌, ◌-◌, ◌≤◌, List, ◌∷◌, ◌++◌, drop, get_or, refl, ap, ◌∙◌, subst, arith}
 use Rattle.log_records.specs.Line.{IsClick}
 use Rattle.fields.specs.Bad.{Spelled, Followed, After}
 use Rattle.fields.specs.Cells.{Run}
@@ -7,7 +7,7 @@ use Rattle.fields.specs.Stops.{IsBadBefore}
 use Rattle.fields.specs.Spellings.{number, IsNumber, insert, IsInsert, answer, IsAnswer, ballot, IsBallot, place, IsPlace, batch, IsBatch, prior, IsPrior, click}
 use Rattle.fields.proofs.BadPlaces.{before_same}
 use Rattle.fields.proofs.FollowedParts.{IsTagged, tag_first, tag_next}
-use Rattle.fields.proofs.SomeValues as values
+use Rattle.fields.proofs.SomeValues.{some_number, some_insert, some_answer, some_ballot, some_place, some_batch, some_prior, some_click}
 use Rattle.packet_codec.specs.declared.packet.Outcome.TheVariants.{Busy}
 use Rattle.packet_codec.specs.declared.packet.Packet.{Packet}
 use Rattle.packet_codec.specs.declared.packet.Packet.TheVariants.{Join, Joined, Insert, Reply, Prepare, Promise, Nack, Accept, Accepted, Chosen}
@@ -42,7 +42,8 @@ AcceptFields = Followed place IsPlace (Followed ballot IsBallot (Spelled batch I
 abbrev pub ChosenFields : List ℕ → Type 0
 ChosenFields = Followed place IsPlace (Spelled batch IsBatch)
 
--- of this kind and no other: the tag tells
+-- ---- behind a tag stand the fields of its kind, and of no other
+
 join_from : (z : List ℕ) → JoinFields z → After 0x11 Packets z
 join_from z s = (Join s.value s.next.0, (s.is, s.next.1), ap (λ (x : List ℕ). 0x11 ∷ x) (s.whole ∙ ap (λ (x : List ℕ). number s.value ++ x) s.next.2))
 
@@ -182,7 +183,10 @@ chosen_bad rest left = before_same ChosenFields (After 0x1A Packets) rest left c
 -- ---- the tags
 
 packets_tagged : IsTagged 0x11 0x1A Packets
-packets_tagged = record { tag = λ z s. tag z s.0 s.2; some = λ t low high. subst (λ (x : ℕ). (back : List ℕ) × Packets (x ∷ back)) (omega arith) (some (t - 0x11) (omega arith)) }
+packets_tagged = record {
+  tag = λ z s. tag z s.0 s.2;
+  some = λ t low high. subst (λ (x : ℕ). (back : List ℕ) × Packets (x ∷ back)) (omega arith) (some (t - 0x11) (omega arith));
+}
   where
     tag : (z : List ℕ) (v : Packet) → z ≡ packet v → (t : ℕ) × (back : List ℕ) × (0x11 ≤ t) × (t ≤ 0x1A) × (z ≡ t ∷ back)
     tag z (Join position c) e = (0x11, number position ++ click c, omega arith, omega arith, e)
@@ -197,16 +201,16 @@ packets_tagged = record { tag = λ z s. tag z s.0 s.2; some = λ t low high. sub
     tag z (Chosen p v) e = (0x1A, place p ++ batch v, omega arith, omega arith, e)
 
     some : (n : ℕ) → n ≤ 9 → (back : List ℕ) × Packets ((n + 0x11) ∷ back)
-    some zero few = (number values.some_number.0 ++ click values.some_click.0, (Join values.some_number.0 values.some_click.0, (values.some_number.1, values.some_click.1), refl))
-    some (suc zero) few = (number values.some_number.0 ++ outcome Busy, (Joined values.some_number.0 Busy, (values.some_number.1, tt), refl))
-    some (suc (suc zero)) few = (insert values.some_insert.0, (Insert values.some_insert.0, values.some_insert.1, refl))
-    some (suc (suc (suc zero))) few = (insert values.some_insert.0 ++ answer values.some_answer.0, (Reply values.some_insert.0 values.some_answer.0, (values.some_insert.1, values.some_answer.1), refl))
-    some (suc (suc (suc (suc zero)))) few = (place values.some_place.0 ++ ballot values.some_ballot.0, (Prepare values.some_place.0 values.some_ballot.0, (values.some_place.1, values.some_ballot.1), refl))
-    some (suc (suc (suc (suc (suc zero))))) few = (place values.some_place.0 ++ (ballot values.some_ballot.0 ++ prior values.some_prior.0), (Promise values.some_place.0 values.some_ballot.0 values.some_prior.0, (values.some_place.1, values.some_ballot.1, values.some_prior.1), refl))
-    some (suc (suc (suc (suc (suc (suc zero)))))) few = (place values.some_place.0 ++ (ballot values.some_ballot.0 ++ ballot values.some_ballot.0), (Nack values.some_place.0 values.some_ballot.0 values.some_ballot.0, (values.some_place.1, values.some_ballot.1, values.some_ballot.1), refl))
-    some (suc (suc (suc (suc (suc (suc (suc zero))))))) few = (place values.some_place.0 ++ (ballot values.some_ballot.0 ++ batch values.some_batch.0), (Accept values.some_place.0 values.some_ballot.0 values.some_batch.0, (values.some_place.1, values.some_ballot.1, values.some_batch.1), refl))
-    some (suc (suc (suc (suc (suc (suc (suc (suc zero)))))))) few = (place values.some_place.0 ++ ballot values.some_ballot.0, (Accepted values.some_place.0 values.some_ballot.0, (values.some_place.1, values.some_ballot.1), refl))
-    some (suc (suc (suc (suc (suc (suc (suc (suc (suc zero))))))))) few = (place values.some_place.0 ++ batch values.some_batch.0, (Chosen values.some_place.0 values.some_batch.0, (values.some_place.1, values.some_batch.1), refl))
+    some zero few = (number some_number.0 ++ click some_click.0, (Join some_number.0 some_click.0, (some_number.1, some_click.1), refl))
+    some (suc zero) few = (number some_number.0 ++ outcome Busy, (Joined some_number.0 Busy, (some_number.1, tt), refl))
+    some (suc (suc zero)) few = (insert some_insert.0, (Insert some_insert.0, some_insert.1, refl))
+    some (suc (suc (suc zero))) few = (insert some_insert.0 ++ answer some_answer.0, (Reply some_insert.0 some_answer.0, (some_insert.1, some_answer.1), refl))
+    some (suc (suc (suc (suc zero)))) few = (place some_place.0 ++ ballot some_ballot.0, (Prepare some_place.0 some_ballot.0, (some_place.1, some_ballot.1), refl))
+    some (suc (suc (suc (suc (suc zero))))) few = (place some_place.0 ++ (ballot some_ballot.0 ++ prior some_prior.0), (Promise some_place.0 some_ballot.0 some_prior.0, (some_place.1, some_ballot.1, some_prior.1), refl))
+    some (suc (suc (suc (suc (suc (suc zero)))))) few = (place some_place.0 ++ (ballot some_ballot.0 ++ ballot some_ballot.0), (Nack some_place.0 some_ballot.0 some_ballot.0, (some_place.1, some_ballot.1, some_ballot.1), refl))
+    some (suc (suc (suc (suc (suc (suc (suc zero))))))) few = (place some_place.0 ++ (ballot some_ballot.0 ++ batch some_batch.0), (Accept some_place.0 some_ballot.0 some_batch.0, (some_place.1, some_ballot.1, some_batch.1), refl))
+    some (suc (suc (suc (suc (suc (suc (suc (suc zero)))))))) few = (place some_place.0 ++ ballot some_ballot.0, (Accepted some_place.0 some_ballot.0, (some_place.1, some_ballot.1), refl))
+    some (suc (suc (suc (suc (suc (suc (suc (suc (suc zero))))))))) few = (place some_place.0 ++ batch some_batch.0, (Chosen some_place.0 some_batch.0, (some_place.1, some_batch.1), refl))
     some (suc (suc (suc (suc (suc (suc (suc (suc (suc (suc n)))))))))) few = absurd (omega arith)
 
 pub packet_bad_tag : (rest : List ℕ) (left : ℕ) → IsBadBefore (Run 1 0x11 0x1A) rest left → IsBadBefore Packets rest left

@@ -1,5 +1,5 @@
 -- One packet for each spelling, and none begins another.
-use Rattle.std.proofs.Common.{◌≡◌, ℕ, List, [], ◌∷◌, ◌++◌, drop, get_or, refl, sym, ap, ◌∙◌, arith}
+use Rattle.std.proofs.Common.{◌≡◌, ℕ, List, [], ◌++◌, drop, get_or, ap, ◌∙◌, arith}
 use Rattle.log_records.specs.Line.{IsClick}
 use Rattle.fields.specs.Spellings.{number, IsNumber, insert, IsInsert, answer, IsAnswer, ballot, IsBallot, place, IsPlace, batch, IsBatch, prior, IsPrior, click}
 use Rattle.fields.proofs.Fixed.{number_apart, insert_apart, ballot_apart, place_apart}

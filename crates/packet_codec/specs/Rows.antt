@@ -1,10 +1,9 @@
 -- Worked rows of packets' spellings.
-use Rattle.std.specs.Prelude.{◌≡◌, ℕ, List, [], ◌∷◌, Some}
+use Rattle.std.specs.Prelude.{◌≡◌, ℕ, [], ◌∷◌, Some}
 use Rattle.event_id.specs.declared.id.EventId.{EventId}
 use Rattle.registry_state.specs.declared.Token.{Token}
 use Rattle.registry_state.specs.declared.Insert as inserts
 use Rattle.registry_state.specs.declared.Answer.TheVariants as answers
-use Rattle.registry_state.specs.declared.Batch.{Batch}
 use Rattle.ballot_core.specs.declared.Ballot.{Ballot}
 use Rattle.paxos_defs.specs.declared.Place.{Place}
 use Rattle.packet_codec.specs.declared.packet.Outcome.TheVariants.{NoQuery}

@@ -1,6 +1,5 @@
 use Rattle.std.proofs.Common.{◌-◌, ◌<◌, length, arith}
 use Rattle.std.proofs.lemmas.Grind.{common_steps}
-use Rattle.packet_codec.specs.Refused.{IsBadPacket}
 use Rattle.packet_codec.proofs.BadPackets.{bad_one, bad_whole, bad_behind, whole_one}
 use Rattle.packet_codec.proofs.decoding.decode.Goals as goal
 
