@@ -188,7 +188,7 @@ node_in g (Server (suc (suc s))) k = absurd (omega arith)
 node_in g (Replica r) k = inr (inr (inr (inr (mem_left (Replica r) (replicas_from 0 g.replicas) (joiners_from (first_joiner g) (2 * g.joiners)) (replica_in 0 g.replicas r (omega arith) (omega arith))))))
 node_in g (Joiner j) k = inr (inr (inr (inr (mem_right (Joiner j) (replicas_from 0 g.replicas) (joiners_from (first_joiner g) (2 * g.joiners)) (joiner_in (first_joiner g) (2 * g.joiners) j k.0 k.1)))))
 
-run_append : (g : Setting) (xs ys : List Entry) (w : World) → IsRun g w xs → IsRun g (world_after g w xs) ys → IsRun g w (xs ++ ys)
+pub run_append : (g : Setting) (xs ys : List Entry) (w : World) → IsRun g w xs → IsRun g (world_after g w xs) ys → IsRun g w (xs ++ ys)
 run_append g [] ys w a b = b
 run_append g (x ∷ xs) ys w a b = (a.0, run_append g xs ys (after g w x) a.1 b)
 

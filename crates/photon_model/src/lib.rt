@@ -7,6 +7,7 @@ ghost use Rattle.photon_model.specs.Headline.{DecidesOnce, ForgetsNothing, HasOw
 ghost use Rattle.turn_defs.specs.Setting.{Setting};
 ghost use Rattle.photon_defs.specs.Topology.{WholeSound};
 ghost use Rattle.photon_model.specs.Stores.{LongerKeepsStores, LongerKeepsWhole, ReadIsChecked, RecordsStay, RunsKeepStores, RunsKeepWhole, SoundCloses, TopologyComesFirst, empty_store};
+ghost use Rattle.photon_model.specs.Example.{ClickIsJoined, RunsAreStrict, StoresAreStrict};
 ghost use Rattle.photon_model.specs.Claims.{EveryClaimSent};
 ghost use Rattle.photon_model.specs.Images.{LeavesSound};
 ghost use Rattle.photon_model.specs.Alone.{EveryBallotAlone};
@@ -73,4 +74,11 @@ pub fn claims()
 /// A ballot is drawn for one place alone.
 pub fn ballots()
     ensures { EveryBallotAlone }
+{}
+
+/// A run that joins a click, from the empty store; and what is no run, and no sound store.
+pub fn examples()
+    ensures joined { ClickIsJoined }
+    ensures runs { RunsAreStrict }
+    ensures stores { StoresAreStrict }
 {}
