@@ -1,5 +1,5 @@
 -- What is no run, and no sound store.
-use Rattle.std.proofs.Common.{◌≡◌, ◌⊎◌, inl, inr, ⊎_elim, ℕ, zero, suc, ◌<◌, Bool, true, false, cond, ◌==◌, List, [], ◌∷◌, ◌++◌, Some, None, refl, sym, ap, ◌∙◌, subst, arith, lit<, lit≤}
+use Rattle.std.proofs.Common.{◌≡◌, inl, inr, ⊎_elim, ℕ, zero, suc, ◌<◌, ◌==◌, List, [], ◌∷◌, Some, refl, sym, ap, subst, arith, lit<, lit≤}
 use Rattle.std.specs.Prelude.{if◌then◌else◌}
 use Rattle.std.proofs.lemmas.Bool.{cond_both, true≢false}
 use Rattle.list_words.specs.Lists.{Mem}
@@ -18,7 +18,6 @@ use Rattle.output_log.specs.declared.pair.PairRec.{PairRec}
 use Rattle.log_records.specs.Lines.{ClickLine}
 use Rattle.log_records.specs.Rows.{one_click}
 use Rattle.paxos_defs.specs.Decided as paxos
-use Rattle.turn_defs.specs.Setting.{Setting, Checked}
 use Rattle.turn_defs.specs.Rows.{worked, one_line, one_batch, token, insert}
 use Rattle.photon_defs.specs.Rows.{store, one_pair, only_bound, accepted_by}
 use Rattle.photon_defs.specs.Journals.{journals, decided}

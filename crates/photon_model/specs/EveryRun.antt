@@ -8,7 +8,6 @@ use Rattle.registry_state.specs.declared.Batch.{Batch}
 use Rattle.registry_state.specs.LookBack.{holder, bound_of}
 use Rattle.list_words.specs.Lists.{Mem}
 use Rattle.turn_defs.specs.Setting.{Setting, Checked}
-use Rattle.packet_codec.specs.declared.node.Node.{Node}
 use Rattle.packet_codec.specs.declared.node.Node.TheVariants.{Dispatcher, Server, Replica, Joiner}
 use Rattle.paxos_defs.specs.declared.Place.{Place}
 use Rattle.paxos_defs.specs.Notes.Note.{Accepted}

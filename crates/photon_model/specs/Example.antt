@@ -1,5 +1,5 @@
 -- One click is joined, turn by turn; and what is no run, and no sound store.
-use Rattle.std.specs.Prelude.{◌≡◌, ℕ, List, [], ◌∷◌, ◌++◌, length, Option, Some, None}
+use Rattle.std.specs.Prelude.{ℕ, List, [], ◌∷◌, ◌++◌, length, Option, Some, None}
 use Rattle.ballot_core.specs.declared.Ballot.{Ballot}
 use Rattle.paxos_defs.specs.declared.Place.{Place}
 use Rattle.paxos_defs.specs.Notes.Note.{Promised, Accepted}
@@ -14,7 +14,7 @@ use Rattle.packet_codec.specs.declared.node.Node.TheVariants.{Dispatcher, Server
 use Rattle.packet_codec.specs.declared.node.Input.{Input}
 use Rattle.packet_codec.specs.declared.node.Input.TheVariants.{Start, Own, Deliver}
 use Rattle.turn_defs.specs.Turns.{Note, Advance, Epoch, Output, Voted}
-use Rattle.turn_defs.specs.Rows.{worked, worked_late, token, insert, one_batch}
+use Rattle.turn_defs.specs.Rows.{worked, token, insert, one_batch}
 use Rattle.photon_defs.specs.Rows.{store, one_pair, only_bound}
 use Rattle.photon_defs.specs.Sound.{SoundStore, IsDrained}
 use Rattle.photon_defs.specs.Runs.{World, Entry, Begin, End, Stop, Disks, world_after, IsRun, opening}
