@@ -15,7 +15,7 @@ use Rattle.list_words.specs.Lists.{Mem, Each, Begins, set_at, has}
 use Rattle.registry_state.specs.declared.Answer.{Answer}
 use Rattle.registry_state.specs.declared.Answer.TheVariants.{Granted, Duplicate, TooOld}
 use Rattle.registry_state.specs.LookBack.{IsGranted, bound_of, first_insert, holder}
-use Rattle.turn_defs.specs.Setting.{Setting, Checked, shard}
+use Rattle.turn_defs.specs.Setting.{Setting, Checked, shard, IsJoiner}
 use Rattle.packet_codec.specs.declared.packet.Packet.{Packet}
 use Rattle.packet_codec.specs.declared.packet.Packet.TheVariants.{Join, Joined, Insert as Claim, Reply, Prepare, Promise, Nack, Accept, Accepted, Chosen}
 use Rattle.packet_codec.specs.declared.packet.Outcome.{Outcome}
@@ -582,10 +582,10 @@ granted_drawn g w drawn offered h b i t x =
     (each_at (IsInsertOf g (known g w drawn) (shard g i)) at_.0.inserts (each_at (InsertsOf g (known g w drawn)) (w.replicas c.0).kept.notes (h.replicas c.0 a.0).kept (Took here c.1 at_.0) a.1) (record { id = i; token = t }) at_.2).1
 
 pub missing_is_old : (g : Setting) (d : Disks) (drawn : List Insert) (es : List Entry) → Checked g → Sound g d drawn → IsRun g (opening d) es → NoJoinerStops es →
-    ((j : ℕ) (l : JoinerLive) → ((world_after g (opening d) es).joiners j).live ≡ Some l → l.flight ≡ []) →
+    ((j : ℕ) (l : JoinerLive) → IsJoiner g j → ((world_after g (opening d) es).joiners j).live ≡ Some l → l.flight ≡ []) →
     (i : EventId) (t : Token) → holder (values_of g (known g (world_after g (opening d) es) []) i) i ≡ Some t → (IsWritten g (known g (world_after g (opening d) es) []) i → ⊥) → Mem (record { id = i; token = t }) drawn
 missing_is_old g d drawn es c s r calm landed_ i t held unwritten =
-    ⊎_elim (λ x. ⊎_elim (λ m. m) (λ x. absurd (no_flight (w.joiners t.joiner).live refl x)) x) (λ x. absurd (not_resolved x)) (fates (record { id = i; token = t }) (granted_drawn g w z.0 z.1 z.2 z.3 i t granted))
+    ⊎_elim (λ x. ⊎_elim (λ m. m) (λ x. absurd (no_flight (w.joiners t.joiner).live refl x)) x) (λ x. absurd (not_resolved x)) (fates (record { id = i; token = t }) was_drawn)
   where
     w : World
     w = world_after g (opening d) es
@@ -609,9 +609,12 @@ missing_is_old g d drawn es c s r calm landed_ i t held unwritten =
     granted : IsGranted (values_of g (known g w []) i) i t
     granted = holder_granted (values_of g (known g w []) i) i t bound (holder_first (values_of g (known g w []) i) i t held)
 
+    was_drawn : Mem (record { id = i; token = t }) z.0
+    was_drawn = granted_drawn g w z.0 z.1 z.2 z.3 i t granted
+
     no_flight : (l : Option JoinerLive) → (w.joiners t.joiner).live ≡ l → IsFlying l (record { id = i; token = t }) → ⊥
     no_flight None e x = x
-    no_flight (Some l) e x = subst (λ (fs : List Flight). Mem x.0 fs → ⊥) (sym (landed_ t.joiner l e)) (λ m. m) x.1
+    no_flight (Some l) e x = subst (λ (fs : List Flight). Mem x.0 fs → ⊥) (sym (landed_ t.joiner l (z.2.drawing.joiner (record { id = i; token = t }) was_drawn) e)) (λ m. m) x.1
 
     not_resolved : IsResolved g (known g w z.0) (record { id = i; token = t }) → ⊥
     not_resolved (inl (inl x)) = unwritten x

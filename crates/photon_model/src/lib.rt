@@ -2,14 +2,14 @@
 //! reordered or stopped, and what follows from it in plain words.
 #![tactic(auto)]
 
-ghost use Rattle.photon_model.specs.EveryRun.{AfterEveryRun, AllFactsHold, BoundIsOk, MissingIsOld, RestIsDrained};
+ghost use Rattle.photon_model.specs.EveryRun.{AfterEveryRun, AllFactsHold, RestIsDone};
 ghost use Rattle.photon_model.specs.Headline.{DecidesOnce, ForgetsNothing, HasOwnQueries, IsOutputOnce, LearnsTheDecided, LosesNoPair, TellsTheMissing};
 ghost use Rattle.turn_defs.specs.Setting.{Setting};
 ghost use Rattle.photon_defs.specs.Topology.{WholeSound};
 ghost use Rattle.photon_model.specs.Stores.{LongerKeepsStores, LongerKeepsWhole, ReadIsChecked, RecordsStay, RunsKeepStores, RunsKeepWhole, SoundCloses, TopologyComesFirst, empty_store};
 ghost use Rattle.photon_model.specs.Example.{ClickIsJoined, RunsAreStrict, StoresAreStrict};
 ghost use Rattle.photon_model.specs.Claims.{EveryClaimSent};
-ghost use Rattle.photon_model.specs.Images.{LeavesSound};
+ghost use Rattle.photon_model.specs.Images.{ImagesAreRuns, LeavesSound};
 ghost use Rattle.photon_model.specs.Alone.{EveryBallotAlone};
 ghost use Rattle.photon_model.specs.Keeping.{DispatcherRowsKeep, DispatcherStartKeeps, JoinerRowsKeep, JoinerStartKeeps, ReplicaRowsKeep, ServerRowsKeep};
 
@@ -27,14 +27,13 @@ pub fn headline()
 {}
 
 /// After every run from a sound store all facts hold, and whichever open turns' notes have landed, the disks that stops
-/// now leave are sound. A dispatcher at rest has drained, a missing id is held by a token of an earlier run where no
-/// joiner stopped, and the decided bound is the horizon or an earlier one.
+/// now leave are sound, and are those of a run with stops at its end. At rest both dispatchers have drained, each decided
+/// bound is the horizon or an earlier one, and where no joiner stopped each missing id is an earlier run's.
 pub fn every_run()
     ensures facts { AfterEveryRun AllFactsHold }
     ensures left { AfterEveryRun LeavesSound }
-    ensures rest { AfterEveryRun RestIsDrained }
-    ensures missing { MissingIsOld }
-    ensures bound { BoundIsOk }
+    ensures stops { ImagesAreRuns }
+    ensures rest { RestIsDone }
 {}
 
 /// Each row of the turn table keeps what holds of its node, and sends only packets whose facts hold.
