@@ -1,6 +1,7 @@
 pub mod Journals
 pub mod Runs
 pub mod Local
+pub mod Own
 pub mod Agreement
 pub mod Sound
 pub mod Topology

@@ -6,7 +6,7 @@ ghost use Rattle.photon_model.specs.EveryRun.{AfterEveryRun, AllFactsHold, RestI
 ghost use Rattle.photon_model.specs.Headline.{DecidesOnce, ForgetsNothing, HasOwnQueries, IsOutputOnce, LearnsTheDecided, LosesNoPair, TellsTheMissing};
 ghost use Rattle.turn_defs.specs.Setting.{Setting};
 ghost use Rattle.photon_defs.specs.Topology.{WholeSound};
-ghost use Rattle.photon_model.specs.Stores.{LongerKeepsStores, LongerKeepsWhole, ReadIsChecked, RecordsStay, RunsKeepStores, RunsKeepWhole, SoundCloses, TopologyComesFirst, empty_store};
+ghost use Rattle.photon_model.specs.Stores.{LongerKeepsStores, LongerKeepsWhole, ReadIsChecked, ReadIsOver, RecordsStay, RunsKeepStores, RunsKeepWhole, SoundCloses, TopologyComesFirst, empty_store};
 ghost use Rattle.photon_model.specs.Example.{ClickIsJoined, RunsAreStrict, StoresAreStrict};
 ghost use Rattle.photon_model.specs.Claims.{EveryClaimSent};
 ghost use Rattle.photon_model.specs.Images.{ImagesAreRuns, LeavesSound};
@@ -47,10 +47,11 @@ pub fn rows_keep()
 {}
 
 /// A store whose records are sound is so after every run, and where both logs grow by bytes at their ends and stay valid;
-/// logs that were read have what the law asks of them; no pair and no replica's record is ever lost.
+/// two valid logs make a setting that has what the law asks of it; no pair and no replica's record is ever lost.
 pub fn stores()
     ensures runs { RunsKeepStores }
     ensures longer { LongerKeepsStores }
+    ensures over { ReadIsOver }
     ensures checked { ReadIsChecked }
     ensures stay { RecordsStay }
     ensures closes { SoundCloses }
