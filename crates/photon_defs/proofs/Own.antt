@@ -25,10 +25,10 @@ may_come g w (Begin (Dispatcher s) i) p = let h = p.dispatchers s refl in (p.nod
 may_come g w (Begin (Server s) i) p = let h = p.servers s refl in (p.node, (h.0, h.1, p.delivers))
 may_come g w (Begin (Replica r) i) p = let h = p.replicas r refl in (p.node, (h.0, h.1, p.delivers))
 may_come g w (Begin (Joiner j) i) p = let h = p.joiners j refl in (p.node, (h.0, h.1, p.delivers))
-may_come g w (End (Dispatcher s) note ps kept) p = let h = p.dispatchers s refl in (p.node, h.0, h.1)
-may_come g w (End (Server s) note ps kept) p = let h = p.servers s refl in (p.node, h.0, h.1)
-may_come g w (End (Replica r) note ps kept) p = let h = p.replicas r refl in (p.node, h.0, h.1)
-may_come g w (End (Joiner j) note ps kept) p = let h = p.joiners j refl in (p.node, h.0, h.1)
+may_come g w (End (Dispatcher s) o ps kept) p = let h = p.dispatchers s refl in (p.node, h.0, h.1)
+may_come g w (End (Server s) o ps kept) p = let h = p.servers s refl in (p.node, h.0, h.1)
+may_come g w (End (Replica r) o ps kept) p = let h = p.replicas r refl in (p.node, h.0, h.1)
+may_come g w (End (Joiner j) o ps kept) p = let h = p.joiners j refl in (p.node, h.0, h.1)
 may_come g w (Stop (Dispatcher s) landed) p = (p.node, p.dispatchers s refl)
 may_come g w (Stop (Server s) landed) p = (p.node, p.servers s refl)
 may_come g w (Stop (Replica r) landed) p = (p.node, p.replicas r refl)
@@ -40,10 +40,10 @@ sent_after g w (Begin (Dispatcher s) i) = refl
 sent_after g w (Begin (Server s) i) = refl
 sent_after g w (Begin (Replica r) i) = refl
 sent_after g w (Begin (Joiner j) i) = refl
-sent_after g w (End (Dispatcher s) note ps kept) = refl
-sent_after g w (End (Server s) note ps kept) = refl
-sent_after g w (End (Replica r) note ps kept) = refl
-sent_after g w (End (Joiner j) note ps kept) = refl
+sent_after g w (End (Dispatcher s) o ps kept) = refl
+sent_after g w (End (Server s) o ps kept) = refl
+sent_after g w (End (Replica r) o ps kept) = refl
+sent_after g w (End (Joiner j) o ps kept) = refl
 sent_after g w (Stop (Dispatcher s) landed) = refl
 sent_after g w (Stop (Server s) landed) = refl
 sent_after g w (Stop (Replica r) landed) = refl

@@ -23,30 +23,30 @@ abbrev pub BeginsOwn : {K L : Type 0} → Cell K L → Input → Type 0
 BeginsOwn c i = (c.opened ≡ None) × Fits c.live i
 
 abbrev pub EndsOwn : {K L : Type 0} → Setting → Cell K L → Out L → Option Note → List (Node × Packet) → ℕ → Type 0
-EndsOwn g c out note ps kept = IsTurn g c out note ps × (kept ≤ length ps)
+EndsOwn g c out o ps kept = IsTurn g c out o ps × (kept ≤ length ps)
 
 -- the entry, if it is one of this node
 abbrev pub DispatcherDoes : Setting → ℕ → Cell DispatcherKept DispatcherLive → Entry → Type 0
 DispatcherDoes g n c (Begin (Dispatcher m) i) = m ≡ n → BeginsOwn c i
-DispatcherDoes g n c (End (Dispatcher m) note ps kept) = m ≡ n → EndsOwn g c (dispatcher_row g n c) note ps kept
+DispatcherDoes g n c (End (Dispatcher m) o ps kept) = m ≡ n → EndsOwn g c (dispatcher_row g n c) o ps kept
 DispatcherDoes g n c (Stop (Dispatcher m) landed) = m ≡ n → MayStop c (dispatcher_row g n c) landed
 DispatcherDoes g n c _ = ⊤
 
 abbrev pub ServerDoes : Setting → ℕ → Cell ServerKept ServerLive → Entry → Type 0
 ServerDoes g n c (Begin (Server m) i) = m ≡ n → BeginsOwn c i
-ServerDoes g n c (End (Server m) note ps kept) = m ≡ n → EndsOwn g c (server_row g n c) note ps kept
+ServerDoes g n c (End (Server m) o ps kept) = m ≡ n → EndsOwn g c (server_row g n c) o ps kept
 ServerDoes g n c (Stop (Server m) landed) = m ≡ n → MayStop c (server_row g n c) landed
 ServerDoes g n c _ = ⊤
 
 abbrev pub ReplicaDoes : Setting → ℕ → Cell ReplicaKept (Unit {0}) → Entry → Type 0
 ReplicaDoes g n c (Begin (Replica m) i) = m ≡ n → BeginsOwn c i
-ReplicaDoes g n c (End (Replica m) note ps kept) = m ≡ n → EndsOwn g c (replica_row c) note ps kept
+ReplicaDoes g n c (End (Replica m) o ps kept) = m ≡ n → EndsOwn g c (replica_row c) o ps kept
 ReplicaDoes g n c (Stop (Replica m) landed) = m ≡ n → MayStop c (replica_row c) landed
 ReplicaDoes g n c _ = ⊤
 
 abbrev pub JoinerDoes : Setting → ℕ → Cell JoinerKept JoinerLive → Entry → Type 0
 JoinerDoes g n c (Begin (Joiner m) i) = m ≡ n → BeginsOwn c i
-JoinerDoes g n c (End (Joiner m) note ps kept) = m ≡ n → EndsOwn g c (joiner_row g n c) note ps kept
+JoinerDoes g n c (End (Joiner m) o ps kept) = m ≡ n → EndsOwn g c (joiner_row g n c) o ps kept
 JoinerDoes g n c (Stop (Joiner m) landed) = m ≡ n → MayStop c (joiner_row g n c) landed
 JoinerDoes g n c _ = ⊤
 
@@ -71,14 +71,14 @@ JoinerTurns g n c (e ∷ es) = JoinerDoes g n c e × JoinerTurns g n (joiner_ent
 
 -- what an entry sends
 abbrev pub sent_by : Entry → List Sent
-sent_by (End n note ps kept) = sends n ps
+sent_by (End n o ps kept) = sends n ps
 sent_by (Begin n i) = []
 sent_by (Stop n landed) = []
 
 -- what an entry delivers was sent
 abbrev pub Delivers : List Sent → Entry → Type 0
 Delivers sent (Begin n i) = WasSent sent n i
-Delivers sent (End n note ps kept) = ⊤
+Delivers sent (End n o ps kept) = ⊤
 Delivers sent (Stop n landed) = ⊤
 
 abbrev pub IsAired : List Sent → List Entry → Type 0
@@ -88,7 +88,7 @@ IsAired sent (e ∷ es) = Delivers sent e × IsAired (sent_by e ++ sent) es
 -- the node of an entry
 abbrev pub node_in : Entry → Node
 node_in (Begin n i) = n
-node_in (End n note ps kept) = n
+node_in (End n o ps kept) = n
 node_in (Stop n landed) = n
 
 abbrev pub AreOfNodes : Setting → List Entry → Type 0

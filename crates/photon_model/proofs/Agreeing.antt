@@ -573,7 +573,7 @@ pub one_decided : (g : Setting) (w : World) (offered : List Offer) → BallotsHo
 one_decided g w offered h = agreed_one (journals g.replicas (λ r. (w.replicas r).kept)) h.agree.agree
 
 -- what was granted was drawn
-granted_drawn : (g : Setting) (w : World) (drawn : List Insert) (offered : List Offer) → WorldHolds g w drawn → BallotsHold g w offered → (i : EventId) (t : Token) → IsGranted (values_of g (known g w drawn) i) i t → Mem (record { id = i; token = t }) drawn
+pub granted_drawn : (g : Setting) (w : World) (drawn : List Insert) (offered : List Offer) → WorldHolds g w drawn → BallotsHold g w offered → (i : EventId) (t : Token) → IsGranted (values_of g (known g w drawn) i) i t → Mem (record { id = i; token = t }) drawn
 granted_drawn g w drawn offered h b i t x =
     let at_ = x.1 in
     let here : Place = record { shard = shard g i; slot = x.0 } in
@@ -634,15 +634,25 @@ bound_from g old (v ∷ vs) h =
     (Rattle.std.proofs.lemmas.Bool.cases_lt v.bound (bound_of vs)))
     (bound_from g old vs (λ k u e. h (suc k) u e))
 
-pub bound_is_ok : (g : Setting) (d : Disks) (drawn : List Insert) (old : List ℕ) (es : List Entry) → Checked g → Sound g d drawn → HasBounds g d old → IsRun g (opening d) es →
-    (s shard_ : ℕ) (l : ServerLive) → s < 2 → ((world_after g (opening d) es).servers s).live ≡ Some l → g.horizon ≤ bound_of (l.shards shard_).learned →
-    (g.horizon ≤ bound_of (decided_in g (world_after g (opening d) es) shard_)) × IsBoundOk g old (bound_of (decided_in g (world_after g (opening d) es) shard_))
+-- each decided value's bound is the horizon or an earlier one
+pub decided_bound : (g : Setting) (d : Disks) (drawn : List Insert) (old : List ℕ) (es : List Entry) → Checked g → Sound g d drawn → HasBounds g d old → IsRun g (opening d) es →
+    (shard_ k : ℕ) (v : Batch) → slice_get (decided_in g (world_after g (opening d) es) shard_) k ≡ Some v → IsBoundOk g old v.bound
 unfolding opens_ballots
-bound_is_ok g d drawn old es c s has_ r t shard_ l lt up le =
+decided_bound g d drawn old es c s has_ r shard_ k v e =
     let z = runs g c drawn old es (opening d) drawn (opens_ballots g d drawn s).0 (opens g d drawn s) (opens_ballots g d drawn s).1 r in
     let w = world_after g (opening d) es in
     let b = z.5 ((λ x m. let q = from_offers (journals g.replicas d.replicas) x m in let a = accepted_stands g.replicas d.replicas x.place q.0 x.ballot x.value q.1 in inr (has_ q.0 x.place x.ballot x.value a.0 a.1)), (λ x k. tt)) in
-    let known_ = (subst (IfUp (ServerHolds g (known g w z.0))) up (z.2.servers t lt).live) shard_ in
+    let here : Place = record { shard = shard_; slot = k } in
+    let q = decided_accepted (journals g.replicas (λ r. (w.replicas r).kept)) z.3.agree.agree shard_ k v e in
+    b.0 (offer here q.1 v) (z.3.agree.took here q.0 q.1 v q.2)
+
+pub bound_is_ok : (g : Setting) (d : Disks) (drawn : List Insert) (old : List ℕ) (es : List Entry) → Checked g → Sound g d drawn → HasBounds g d old → IsRun g (opening d) es →
+    (s shard_ : ℕ) (l : ServerLive) → s < 2 → ((world_after g (opening d) es).servers s).live ≡ Some l → g.horizon ≤ bound_of (l.shards shard_).learned →
+    (g.horizon ≤ bound_of (decided_in g (world_after g (opening d) es) shard_)) × IsBoundOk g old (bound_of (decided_in g (world_after g (opening d) es) shard_))
+bound_is_ok g d drawn old es c s has_ r t shard_ l lt up le =
+    let w = world_after g (opening d) es in
+    let h = every_run_holds g d drawn es c s r in
+    let known_ = (subst (IfUp (ServerHolds g (known g w h.0))) up (h.2.servers t lt).live) shard_ in
     let most = bound_stays (l.shards shard_).learned (decided_in g w shard_) known_.learned in
-    let each = bound_from g old (decided_in g w shard_) (λ k v e. let here : Place = record { shard = shard_; slot = k } in let q = decided_accepted (journals g.replicas (λ r. (w.replicas r).kept)) z.3.agree.agree shard_ k v e in b.0 (offer here q.1 v) (z.3.agree.took here q.0 q.1 v q.2)) in
+    let each = bound_from g old (decided_in g w shard_) (decided_bound g d drawn old es c s has_ r shard_) in
     (omega arith, ⊎_elim (λ e. inl (omega arith)) (λ o. o) each)

@@ -7,3 +7,4 @@ pub mod Claims
 pub mod Images
 pub mod Alone
 pub mod Example
+pub mod Exact

@@ -7,6 +7,7 @@ ghost use Rattle.photon_model.specs.Headline.{DecidesOnce, ForgetsNothing, HasOw
 ghost use Rattle.turn_defs.specs.Setting.{Setting};
 ghost use Rattle.photon_defs.specs.Topology.{WholeSound};
 ghost use Rattle.photon_model.specs.Stores.{LongerKeepsStores, LongerKeepsWhole, ReadIsChecked, ReadIsOver, RecordsStay, RunsKeepStores, RunsKeepWhole, SoundCloses, TopologyComesFirst, empty_store};
+ghost use Rattle.photon_model.specs.Exact.{AtRestFromEmpty, ClicksAreExact, ReportIsExact};
 ghost use Rattle.photon_model.specs.Example.{ClickIsJoined, RunsAreStrict, StoresAreStrict};
 ghost use Rattle.photon_model.specs.Claims.{EveryClaimSent};
 ghost use Rattle.photon_model.specs.Images.{ImagesAreRuns, LeavesSound};
@@ -34,6 +35,13 @@ pub fn every_run()
     ensures left { AfterEveryRun LeavesSound }
     ensures stops { ImagesAreRuns }
     ensures rest { RestIsDone }
+{}
+
+/// From the empty store, at rest: each click's line is that of the two logs, or the click is missing; and where none is
+/// missing, the report's bytes are those of the two logs.
+pub fn exact_report()
+    ensures clicks { AtRestFromEmpty ClicksAreExact }
+    ensures report { AtRestFromEmpty ReportIsExact }
 {}
 
 /// Each row of the turn table keeps what holds of its node, and sends only packets whose facts hold.
