@@ -1,6 +1,6 @@
 -- From the empty store, at rest, the report is that of the two logs, but for missing clicks.
-use Rattle.std.proofs.Common.{◌≡◌, ◌⊎◌, inl, inr, ⊎_elim, ℕ, zero, suc, ◌+◌, ◌*◌, ◌<◌, ◌≤◌, Bool, true, false, cond, List, [], ◌∷◌, map, Some, None, refl, sym, ap, ◌∙◌, subst, arith, lit<}
-use Rattle.std.specs.Prelude.{Option, slice_get, take, max, find, is_some, nat_lt}
+use Rattle.std.proofs.Common.{◌≡◌, ◌⊎◌, inl, inr, ⊎_elim, ℕ, zero, suc, ◌*◌, ◌<◌, ◌≤◌, Bool, true, false, cond, List, [], ◌∷◌, map, Some, None, refl, sym, ap, ◌∙◌, subst, arith, lit<}
+use Rattle.std.specs.Prelude.{Option, slice_get, find, is_some, nat_lt}
 use Rattle.std.specs.declared.cmp.Ordering.{Ordering}
 use Rattle.std.specs.declared.cmp.Ordering.TheVariants.{Less, Equal, Greater}
 use Rattle.std.specs.FinMap as finite
@@ -23,10 +23,9 @@ use Rattle.log_records.specs.declared.records.ClickRec.{ClickRec as Click}
 use Rattle.log_records.specs.Lines.{ClickLine}
 use Rattle.log_records.specs.Log.{first}
 use Rattle.log_defs.specs.Report as logs
-use Rattle.log_defs.specs.declared.ReportLine.{ReportLine}
 use Rattle.log_defs.specs.declared.ReportLine.TheVariants.{J, M, X, U}
 use Rattle.output_log.specs.declared.pair.PairRec.{PairRec}
-use Rattle.turn_defs.specs.Setting.{Setting, Checked, IsJoin, IsJoiner, first_joiner, shard}
+use Rattle.turn_defs.specs.Setting.{Setting, Checked, first_joiner, shard}
 use Rattle.turn_defs.proofs.ShardsBelow.{shard_below}
 use Rattle.photon_defs.specs.Sound.{SoundStore, PairSound, IsWritten, known_of, values_of}
 use Rattle.photon_defs.specs.Facts.{known}

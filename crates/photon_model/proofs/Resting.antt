@@ -3,7 +3,7 @@ use Rattle.std.proofs.Common.{◌≡◌, ⊎_elim, ℕ, zero, suc, ◌+◌, ◌<
 use Rattle.std.specs.Prelude.{Option, nat_lt, is_none}
 use Rattle.std.proofs.lemmas.Bool.{cases_lt, ltb-false, true≢false}
 use Rattle.registry_state.specs.LookBack.{holder, bound_of}
-use Rattle.turn_defs.specs.Setting.{Setting, Checked, IsJoiner, shards}
+use Rattle.turn_defs.specs.Setting.{Setting, Checked, shards}
 use Rattle.turn_defs.specs.Turns.{is_empty}
 use Rattle.joiner_core.specs.Joiner.{JoinerLive, joiner_at_rest}
 use Rattle.registry_server.specs.Server.{ServerLive, first_shard, server_at_rest}

@@ -1,5 +1,5 @@
 -- From the empty store: the report of what a run leaves at rest is that of the two logs, but for clicks that are missing.
-use Rattle.std.specs.Prelude.{◌≡◌, ◌⊎◌, ℕ, ◌≤◌, List, map, Some}
+use Rattle.std.specs.Prelude.{◌≡◌, ◌⊎◌, ◌≤◌, List, map, Some}
 use Rattle.list_words.specs.Lists.{Mem}
 use Rattle.time_shards.specs.Shards.{IsTable}
 use Rattle.log_records.specs.declared.records.QueryRec.{QueryRec as Query}

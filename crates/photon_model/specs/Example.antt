@@ -1,14 +1,14 @@
 -- One click is joined, turn by turn; and what is no run, and no sound store.
-use Rattle.std.specs.Prelude.{ℕ, List, [], ◌∷◌, ◌++◌, length, Option, Some, None}
+use Rattle.std.specs.Prelude.{◌≡◌, ℕ, List, [], ◌∷◌, ◌++◌, length, Option, Some, None}
 use Rattle.ballot_core.specs.declared.Ballot.{Ballot}
 use Rattle.paxos_defs.specs.declared.Place.{Place}
 use Rattle.paxos_defs.specs.Notes.Note.{Promised, Accepted}
-use Rattle.registry_state.specs.declared.Answer.TheVariants.{Granted}
+use Rattle.registry_state.specs.declared.Answer.TheVariants.{Granted, Duplicate}
 use Rattle.log_records.specs.Rows.{one_query, one_click}
 use Rattle.output_log.specs.declared.pair.PairRec.{PairRec}
 use Rattle.packet_codec.specs.declared.packet.Packet.{Packet}
 use Rattle.packet_codec.specs.declared.packet.Packet.TheVariants as packet
-use Rattle.packet_codec.specs.declared.packet.Outcome.TheVariants.{Written}
+use Rattle.packet_codec.specs.declared.packet.Outcome.TheVariants.{Written, Already}
 use Rattle.packet_codec.specs.declared.node.Node.{Node}
 use Rattle.packet_codec.specs.declared.node.Node.TheVariants.{Dispatcher, Server, Replica, Joiner}
 use Rattle.packet_codec.specs.declared.node.Input.{Input}
@@ -16,9 +16,10 @@ use Rattle.packet_codec.specs.declared.node.Input.TheVariants.{Start, Own, Deliv
 use Rattle.turn_defs.specs.Turns.{Note, Advance, Epoch, Output, Voted}
 use Rattle.turn_defs.specs.Rows.{worked, token, insert, one_batch}
 use Rattle.photon_defs.specs.Rows.{store, one_pair, only_bound}
-use Rattle.photon_defs.specs.Sound.{SoundStore, IsDrained}
+use Rattle.photon_defs.specs.Sound.{SoundStore}
 use Rattle.photon_defs.specs.Runs.{World, Entry, Begin, End, Stop, Disks, world_after, IsRun, opening}
-use Rattle.photon_model.specs.Headline.{PairAt}
+use Rattle.photon_defs.specs.Rest.{IsAtRest}
+use Rattle.registry_state.specs.declared.Insert.{Insert}
 use Rattle.photon_model.specs.Stores.{empty_disks}
 
 -- a turn that begins and ends before any other entry
@@ -50,7 +51,7 @@ prepare = packet.Prepare place ballot
 abbrev pub accept : Packet
 accept = packet.Accept place ballot one_batch
 
--- site 0 comes up with two replicas, and joins the click: the third replica and the other site take no turn
+-- site 0 comes up with two replicas; the third one takes no turn
 abbrev pub comes_up : List Turn
 comes_up =
     turn (Replica 0) Start None []
@@ -91,17 +92,39 @@ writes =
     ∷ turn (Dispatcher 0) Own None []
     ∷ []
 
+-- the insert of the other site's joiner
+abbrev pub other_insert : Insert
+other_insert = record { id = one_click.id; token = record { joiner = 8; epoch = 1; number = 0 } }
+
+-- the other site comes up, learns the value, and finds that the click's id is held
+abbrev pub other_site : List Turn
+other_site =
+    turn (Server 1) Start (Some (Epoch 1)) []
+    ∷ turn (Joiner 8) Start (Some (Epoch 1)) []
+    ∷ turn (Dispatcher 1) Start None []
+    ∷ turn (Server 1) (Deliver (Server 0) (packet.Chosen place one_batch)) None []
+    ∷ turn (Dispatcher 1) Own None ((Joiner 8, packet.Join 0 one_click) ∷ [])
+    ∷ turn (Joiner 8) (Deliver (Dispatcher 1) (packet.Join 0 one_click)) None ((Server 1, packet.Insert other_insert) ∷ [])
+    ∷ turn (Server 1) (Deliver (Joiner 8) (packet.Insert other_insert)) None ((Joiner 8, packet.Reply other_insert (Duplicate (token 0))) ∷ [])
+    ∷ turn (Joiner 8) (Deliver (Server 1) (packet.Reply other_insert (Duplicate (token 0)))) None ((Dispatcher 1, packet.Joined 0 (Already (token 0))) ∷ [])
+    ∷ turn (Dispatcher 1) (Deliver (Joiner 8) (packet.Joined 0 (Already (token 0)))) None []
+    ∷ turn (Dispatcher 1) Own (Some (Advance 36)) []
+    ∷ turn (Dispatcher 1) Own None []
+    ∷ []
+
 abbrev pub joins_the_click : List Entry
-joins_the_click = entries (comes_up ++ (asks ++ (registers ++ writes)))
+joins_the_click = entries (comes_up ++ (asks ++ (registers ++ (writes ++ other_site))))
 
 abbrev pub at_the_end : World
 at_the_end = world_after worked (opening empty_disks) joins_the_click
 
--- The law speaks of runs in which clicks are joined: this one writes the click's pair and drains the dispatcher.
+-- The law speaks of runs in which clicks are joined and rest is reached: in this one each site takes the click, one joiner
+-- writes its pair, the other writes none, and all come to rest.
 pub record ClickIsJoined : Type 0 where
   pub is_run : IsRun worked (opening empty_disks) joins_the_click
-  pub written : PairAt at_the_end 7 0 one_pair
-  pub drained : IsDrained worked (at_the_end.dispatchers 0).kept
+  pub written : (at_the_end.joiners 7).kept.pairs ≡ one_pair ∷ []
+  pub not_again : (at_the_end.joiners 8).kept.pairs ≡ []
+  pub at_rest : IsAtRest worked at_the_end
 
 -- ---- what is no run
 
