@@ -2,6 +2,7 @@
 ghost use Rattle.photon_defs.specs.Local.{LocalIsOwn};
 ghost use Rattle.photon_defs.specs.Own.{ApartIsRun};
 ghost use Rattle.photon_defs.specs.Rows.{StoreRows, WaitingRows};
+ghost use Rattle.photon_defs.specs.Wanting.{OwnIsWanted};
 
 /// What the definitions compute on one click.
 pub fn worked_rows()
@@ -18,4 +19,9 @@ pub fn local_states()
 /// the setting, the history is a run.
 pub fn runs_apart()
     ensures { ApartIsRun }
+{}
+
+/// A node that wants nothing does nothing by itself.
+pub fn own_is_wanted()
+    ensures { OwnIsWanted }
 {}
