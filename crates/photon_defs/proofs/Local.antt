@@ -19,7 +19,7 @@ set_own f change n m = go (m == n) refl
     go true e = ap (λ k. change (f k)) (sym (eqb-true m n e))
     go false e = refl
 
-dispatcher_one : (g : Setting) (w : World) (n : ℕ) (e : Entry) → (after g w e).dispatchers n ≡ dispatcher_entry g n (w.dispatchers n) e
+pub dispatcher_one : (g : Setting) (w : World) (n : ℕ) (e : Entry) → (after g w e).dispatchers n ≡ dispatcher_entry g n (w.dispatchers n) e
 dispatcher_one g w n (Begin (Dispatcher m) i) = set_own w.dispatchers (λ c. begun c i) m n
 dispatcher_one g w n (Begin (Server m) i) = refl
 dispatcher_one g w n (Begin (Replica m) i) = refl
@@ -41,7 +41,7 @@ pub dispatcher_is_own : (g : Setting) (w : World) (es : List Entry) (n : ℕ) �
 dispatcher_is_own g w [] n = refl
 dispatcher_is_own g w (e ∷ es) n = dispatcher_is_own g (after g w e) es n ∙ ap (λ (c : Cell DispatcherKept DispatcherLive). dispatcher_local g n c es) (dispatcher_one g w n e)
 
-server_one : (g : Setting) (w : World) (n : ℕ) (e : Entry) → (after g w e).servers n ≡ server_entry g n (w.servers n) e
+pub server_one : (g : Setting) (w : World) (n : ℕ) (e : Entry) → (after g w e).servers n ≡ server_entry g n (w.servers n) e
 server_one g w n (Begin (Dispatcher m) i) = refl
 server_one g w n (Begin (Server m) i) = set_own w.servers (λ c. begun c i) m n
 server_one g w n (Begin (Replica m) i) = refl
@@ -63,7 +63,7 @@ pub server_is_own : (g : Setting) (w : World) (es : List Entry) (n : ℕ) → (w
 server_is_own g w [] n = refl
 server_is_own g w (e ∷ es) n = server_is_own g (after g w e) es n ∙ ap (λ (c : Cell ServerKept ServerLive). server_local g n c es) (server_one g w n e)
 
-replica_one : (g : Setting) (w : World) (n : ℕ) (e : Entry) → (after g w e).replicas n ≡ replica_entry g n (w.replicas n) e
+pub replica_one : (g : Setting) (w : World) (n : ℕ) (e : Entry) → (after g w e).replicas n ≡ replica_entry g n (w.replicas n) e
 replica_one g w n (Begin (Dispatcher m) i) = refl
 replica_one g w n (Begin (Server m) i) = refl
 replica_one g w n (Begin (Replica m) i) = set_own w.replicas (λ c. begun c i) m n
@@ -85,7 +85,7 @@ pub replica_is_own : (g : Setting) (w : World) (es : List Entry) (n : ℕ) → (
 replica_is_own g w [] n = refl
 replica_is_own g w (e ∷ es) n = replica_is_own g (after g w e) es n ∙ ap (λ (c : Cell ReplicaKept (Unit {0})). replica_local g n c es) (replica_one g w n e)
 
-joiner_one : (g : Setting) (w : World) (n : ℕ) (e : Entry) → (after g w e).joiners n ≡ joiner_entry g n (w.joiners n) e
+pub joiner_one : (g : Setting) (w : World) (n : ℕ) (e : Entry) → (after g w e).joiners n ≡ joiner_entry g n (w.joiners n) e
 joiner_one g w n (Begin (Dispatcher m) i) = refl
 joiner_one g w n (Begin (Server m) i) = refl
 joiner_one g w n (Begin (Replica m) i) = refl

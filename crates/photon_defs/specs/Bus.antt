@@ -26,7 +26,7 @@ same_node (Replica a) (Replica b) = a == b
 same_node (Joiner a) (Joiner b) = a == b
 same_node _ _ = false
 
--- a copy in an inbox; it goes behind all of less delay
+-- a copy in an inbox; of those that wait the first of least delay is taken next
 pub record Copy : Type 0 where
   pub delay : ℕ
   pub from : Node

@@ -1,6 +1,8 @@
 pub mod Journals
 pub mod Runs
 pub mod Local
+pub mod Own
+pub mod Wanting
 pub mod Agreement
 pub mod Sound
 pub mod Topology

@@ -6,14 +6,14 @@ use Rattle.dispatch_core.specs.Dispatcher.{DispatcherKept, DispatcherLive, land_
 use Rattle.joiner_core.specs.Joiner.{JoinerKept, JoinerLive, land_joiner}
 use Rattle.registry_server.specs.Server.{ServerKept, ServerLive, land_server}
 use Rattle.replica_node.specs.Replica.{ReplicaKept, land_replica}
-use Rattle.photon_defs.specs.Runs.{Cell, World, Entry, Begin, End, Stop, begun, ended, stopped, dispatcher_row, server_row, replica_row, joiner_row, world_after}
+use Rattle.photon_defs.specs.Runs.{Cell, World, Entry, Begin, End, Stop, begun, stopped, dispatcher_ended, server_ended, replica_ended, joiner_ended, world_after}
 
 abbrev pub dispatcher_entry : Setting → ℕ → Cell DispatcherKept DispatcherLive → Entry → Cell DispatcherKept DispatcherLive
 dispatcher_entry g n c (Begin (Dispatcher m) i) = if n == m then begun c i else c
 dispatcher_entry g n c (Begin (Server m) i) = c
 dispatcher_entry g n c (Begin (Replica m) i) = c
 dispatcher_entry g n c (Begin (Joiner m) i) = c
-dispatcher_entry g n c (End (Dispatcher m) made ps kept) = if n == m then ended land_dispatcher c made (dispatcher_row g n c).live else c
+dispatcher_entry g n c (End (Dispatcher m) made ps kept) = if n == m then dispatcher_ended g n c made else c
 dispatcher_entry g n c (End (Server m) _ ps kept) = c
 dispatcher_entry g n c (End (Replica m) _ ps kept) = c
 dispatcher_entry g n c (End (Joiner m) _ ps kept) = c
@@ -32,7 +32,7 @@ server_entry g n c (Begin (Server m) i) = if n == m then begun c i else c
 server_entry g n c (Begin (Replica m) i) = c
 server_entry g n c (Begin (Joiner m) i) = c
 server_entry g n c (End (Dispatcher m) _ ps kept) = c
-server_entry g n c (End (Server m) made ps kept) = if n == m then ended land_server c made (server_row g n c).live else c
+server_entry g n c (End (Server m) made ps kept) = if n == m then server_ended g n c made else c
 server_entry g n c (End (Replica m) _ ps kept) = c
 server_entry g n c (End (Joiner m) _ ps kept) = c
 server_entry g n c (Stop (Dispatcher m) _) = c
@@ -51,7 +51,7 @@ replica_entry g n c (Begin (Replica m) i) = if n == m then begun c i else c
 replica_entry g n c (Begin (Joiner m) i) = c
 replica_entry g n c (End (Dispatcher m) _ ps kept) = c
 replica_entry g n c (End (Server m) _ ps kept) = c
-replica_entry g n c (End (Replica m) made ps kept) = if n == m then ended land_replica c made (replica_row c).live else c
+replica_entry g n c (End (Replica m) made ps kept) = if n == m then replica_ended c made else c
 replica_entry g n c (End (Joiner m) _ ps kept) = c
 replica_entry g n c (Stop (Dispatcher m) _) = c
 replica_entry g n c (Stop (Server m) _) = c
@@ -70,7 +70,7 @@ joiner_entry g n c (Begin (Joiner m) i) = if n == m then begun c i else c
 joiner_entry g n c (End (Dispatcher m) _ ps kept) = c
 joiner_entry g n c (End (Server m) _ ps kept) = c
 joiner_entry g n c (End (Replica m) _ ps kept) = c
-joiner_entry g n c (End (Joiner m) made ps kept) = if n == m then ended land_joiner c made (joiner_row g n c).live else c
+joiner_entry g n c (End (Joiner m) made ps kept) = if n == m then joiner_ended g n c made else c
 joiner_entry g n c (Stop (Dispatcher m) _) = c
 joiner_entry g n c (Stop (Server m) _) = c
 joiner_entry g n c (Stop (Replica m) _) = c

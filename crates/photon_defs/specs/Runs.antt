@@ -64,6 +64,19 @@ replica_row c = row replica_start (λ k l i. replica_turn k i) c.kept c.live c.o
 abbrev pub joiner_row : Setting → ℕ → Cell JoinerKept JoinerLive → Out JoinerLive
 joiner_row g n c = row joiner_start (joiner_turn g n) c.kept c.live c.opened
 
+-- a node once its turn ends with a note, and the row's next state
+abbrev pub dispatcher_ended : Setting → ℕ → Cell DispatcherKept DispatcherLive → Option Note → Cell DispatcherKept DispatcherLive
+dispatcher_ended g s c note = ended land_dispatcher c note (dispatcher_row g s c).live
+
+abbrev pub server_ended : Setting → ℕ → Cell ServerKept ServerLive → Option Note → Cell ServerKept ServerLive
+server_ended g s c note = ended land_server c note (server_row g s c).live
+
+abbrev pub replica_ended : Cell ReplicaKept (Unit {0}) → Option Note → Cell ReplicaKept (Unit {0})
+replica_ended c note = ended land_replica c note (replica_row c).live
+
+abbrev pub joiner_ended : Setting → ℕ → Cell JoinerKept JoinerLive → Option Note → Cell JoinerKept JoinerLive
+joiner_ended g n c note = ended land_joiner c note (joiner_row g n c).live
+
 -- the packets of a node's turn, with their sender
 abbrev pub sends : Node → List (Node × Packet) → List Sent
 sends n ps = map (λ (p : Node × Packet). record { from = n; to = p.0; packet = p.1 }) ps
@@ -74,10 +87,10 @@ after g w (Begin (Dispatcher s) i) = record w { dispatchers = set_at w.dispatche
 after g w (Begin (Server s) i) = record w { servers = set_at w.servers s (begun (w.servers s) i) }
 after g w (Begin (Replica r) i) = record w { replicas = set_at w.replicas r (begun (w.replicas r) i) }
 after g w (Begin (Joiner j) i) = record w { joiners = set_at w.joiners j (begun (w.joiners j) i) }
-after g w (End (Dispatcher s) note ps kept) = record w { dispatchers = set_at w.dispatchers s (ended land_dispatcher (w.dispatchers s) note (dispatcher_row g s (w.dispatchers s)).live); sent = sends (Dispatcher s) ps ++ w.sent }
-after g w (End (Server s) note ps kept) = record w { servers = set_at w.servers s (ended land_server (w.servers s) note (server_row g s (w.servers s)).live); sent = sends (Server s) ps ++ w.sent }
-after g w (End (Replica r) note ps kept) = record w { replicas = set_at w.replicas r (ended land_replica (w.replicas r) note (replica_row (w.replicas r)).live); sent = sends (Replica r) ps ++ w.sent }
-after g w (End (Joiner j) note ps kept) = record w { joiners = set_at w.joiners j (ended land_joiner (w.joiners j) note (joiner_row g j (w.joiners j)).live); sent = sends (Joiner j) ps ++ w.sent }
+after g w (End (Dispatcher s) note ps kept) = record w { dispatchers = set_at w.dispatchers s (dispatcher_ended g s (w.dispatchers s) note); sent = sends (Dispatcher s) ps ++ w.sent }
+after g w (End (Server s) note ps kept) = record w { servers = set_at w.servers s (server_ended g s (w.servers s) note); sent = sends (Server s) ps ++ w.sent }
+after g w (End (Replica r) note ps kept) = record w { replicas = set_at w.replicas r (replica_ended (w.replicas r) note); sent = sends (Replica r) ps ++ w.sent }
+after g w (End (Joiner j) note ps kept) = record w { joiners = set_at w.joiners j (joiner_ended g j (w.joiners j) note); sent = sends (Joiner j) ps ++ w.sent }
 after g w (Stop (Dispatcher s) landed) = record w { dispatchers = set_at w.dispatchers s (stopped land_dispatcher (w.dispatchers s) landed) }
 after g w (Stop (Server s) landed) = record w { servers = set_at w.servers s (stopped land_server (w.servers s) landed) }
 after g w (Stop (Replica r) landed) = record w { replicas = set_at w.replicas r (stopped land_replica (w.replicas r) landed) }

@@ -15,7 +15,7 @@ use Rattle.list_words.specs.Lists.{Mem, Each, Begins, set_at, has}
 use Rattle.registry_state.specs.declared.Answer.{Answer}
 use Rattle.registry_state.specs.declared.Answer.TheVariants.{Granted, Duplicate, TooOld}
 use Rattle.registry_state.specs.LookBack.{IsGranted, bound_of, first_insert, holder}
-use Rattle.turn_defs.specs.Setting.{Setting, Checked, shard}
+use Rattle.turn_defs.specs.Setting.{Setting, Checked, shard, IsJoiner}
 use Rattle.packet_codec.specs.declared.packet.Packet.{Packet}
 use Rattle.packet_codec.specs.declared.packet.Packet.TheVariants.{Join, Joined, Insert as Claim, Reply, Prepare, Promise, Nack, Accept, Accepted, Chosen}
 use Rattle.packet_codec.specs.declared.packet.Outcome.{Outcome}
@@ -573,7 +573,7 @@ pub one_decided : (g : Setting) (w : World) (offered : List Offer) → BallotsHo
 one_decided g w offered h = agreed_one (journals g.replicas (λ r. (w.replicas r).kept)) h.agree.agree
 
 -- what was granted was drawn
-granted_drawn : (g : Setting) (w : World) (drawn : List Insert) (offered : List Offer) → WorldHolds g w drawn → BallotsHold g w offered → (i : EventId) (t : Token) → IsGranted (values_of g (known g w drawn) i) i t → Mem (record { id = i; token = t }) drawn
+pub granted_drawn : (g : Setting) (w : World) (drawn : List Insert) (offered : List Offer) → WorldHolds g w drawn → BallotsHold g w offered → (i : EventId) (t : Token) → IsGranted (values_of g (known g w drawn) i) i t → Mem (record { id = i; token = t }) drawn
 granted_drawn g w drawn offered h b i t x =
     let at_ = x.1 in
     let here : Place = record { shard = shard g i; slot = x.0 } in
@@ -582,10 +582,10 @@ granted_drawn g w drawn offered h b i t x =
     (each_at (IsInsertOf g (known g w drawn) (shard g i)) at_.0.inserts (each_at (InsertsOf g (known g w drawn)) (w.replicas c.0).kept.notes (h.replicas c.0 a.0).kept (Took here c.1 at_.0) a.1) (record { id = i; token = t }) at_.2).1
 
 pub missing_is_old : (g : Setting) (d : Disks) (drawn : List Insert) (es : List Entry) → Checked g → Sound g d drawn → IsRun g (opening d) es → NoJoinerStops es →
-    ((j : ℕ) (l : JoinerLive) → ((world_after g (opening d) es).joiners j).live ≡ Some l → l.flight ≡ []) →
+    ((j : ℕ) (l : JoinerLive) → IsJoiner g j → ((world_after g (opening d) es).joiners j).live ≡ Some l → l.flight ≡ []) →
     (i : EventId) (t : Token) → holder (values_of g (known g (world_after g (opening d) es) []) i) i ≡ Some t → (IsWritten g (known g (world_after g (opening d) es) []) i → ⊥) → Mem (record { id = i; token = t }) drawn
 missing_is_old g d drawn es c s r calm landed_ i t held unwritten =
-    ⊎_elim (λ x. ⊎_elim (λ m. m) (λ x. absurd (no_flight (w.joiners t.joiner).live refl x)) x) (λ x. absurd (not_resolved x)) (fates (record { id = i; token = t }) (granted_drawn g w z.0 z.1 z.2 z.3 i t granted))
+    ⊎_elim (λ x. ⊎_elim (λ m. m) (λ x. absurd (no_flight (w.joiners t.joiner).live refl x)) x) (λ x. absurd (not_resolved x)) (fates (record { id = i; token = t }) was_drawn)
   where
     w : World
     w = world_after g (opening d) es
@@ -609,9 +609,12 @@ missing_is_old g d drawn es c s r calm landed_ i t held unwritten =
     granted : IsGranted (values_of g (known g w []) i) i t
     granted = holder_granted (values_of g (known g w []) i) i t bound (holder_first (values_of g (known g w []) i) i t held)
 
+    was_drawn : Mem (record { id = i; token = t }) z.0
+    was_drawn = granted_drawn g w z.0 z.1 z.2 z.3 i t granted
+
     no_flight : (l : Option JoinerLive) → (w.joiners t.joiner).live ≡ l → IsFlying l (record { id = i; token = t }) → ⊥
     no_flight None e x = x
-    no_flight (Some l) e x = subst (λ (fs : List Flight). Mem x.0 fs → ⊥) (sym (landed_ t.joiner l e)) (λ m. m) x.1
+    no_flight (Some l) e x = subst (λ (fs : List Flight). Mem x.0 fs → ⊥) (sym (landed_ t.joiner l (z.2.drawing.joiner (record { id = i; token = t }) was_drawn) e)) (λ m. m) x.1
 
     not_resolved : IsResolved g (known g w z.0) (record { id = i; token = t }) → ⊥
     not_resolved (inl (inl x)) = unwritten x
@@ -631,15 +634,25 @@ bound_from g old (v ∷ vs) h =
     (Rattle.std.proofs.lemmas.Bool.cases_lt v.bound (bound_of vs)))
     (bound_from g old vs (λ k u e. h (suc k) u e))
 
-pub bound_is_ok : (g : Setting) (d : Disks) (drawn : List Insert) (old : List ℕ) (es : List Entry) → Checked g → Sound g d drawn → HasBounds g d old → IsRun g (opening d) es →
-    (s shard_ : ℕ) (l : ServerLive) → s < 2 → ((world_after g (opening d) es).servers s).live ≡ Some l → g.horizon ≤ bound_of (l.shards shard_).learned →
-    (g.horizon ≤ bound_of (decided_in g (world_after g (opening d) es) shard_)) × IsBoundOk g old (bound_of (decided_in g (world_after g (opening d) es) shard_))
+-- each decided value's bound is the horizon or an earlier one
+pub decided_bound : (g : Setting) (d : Disks) (drawn : List Insert) (old : List ℕ) (es : List Entry) → Checked g → Sound g d drawn → HasBounds g d old → IsRun g (opening d) es →
+    (shard_ k : ℕ) (v : Batch) → slice_get (decided_in g (world_after g (opening d) es) shard_) k ≡ Some v → IsBoundOk g old v.bound
 unfolding opens_ballots
-bound_is_ok g d drawn old es c s has_ r t shard_ l lt up le =
+decided_bound g d drawn old es c s has_ r shard_ k v e =
     let z = runs g c drawn old es (opening d) drawn (opens_ballots g d drawn s).0 (opens g d drawn s) (opens_ballots g d drawn s).1 r in
     let w = world_after g (opening d) es in
     let b = z.5 ((λ x m. let q = from_offers (journals g.replicas d.replicas) x m in let a = accepted_stands g.replicas d.replicas x.place q.0 x.ballot x.value q.1 in inr (has_ q.0 x.place x.ballot x.value a.0 a.1)), (λ x k. tt)) in
-    let known_ = (subst (IfUp (ServerHolds g (known g w z.0))) up (z.2.servers t lt).live) shard_ in
+    let here : Place = record { shard = shard_; slot = k } in
+    let q = decided_accepted (journals g.replicas (λ r. (w.replicas r).kept)) z.3.agree.agree shard_ k v e in
+    b.0 (offer here q.1 v) (z.3.agree.took here q.0 q.1 v q.2)
+
+pub bound_is_ok : (g : Setting) (d : Disks) (drawn : List Insert) (old : List ℕ) (es : List Entry) → Checked g → Sound g d drawn → HasBounds g d old → IsRun g (opening d) es →
+    (s shard_ : ℕ) (l : ServerLive) → s < 2 → ((world_after g (opening d) es).servers s).live ≡ Some l → g.horizon ≤ bound_of (l.shards shard_).learned →
+    (g.horizon ≤ bound_of (decided_in g (world_after g (opening d) es) shard_)) × IsBoundOk g old (bound_of (decided_in g (world_after g (opening d) es) shard_))
+bound_is_ok g d drawn old es c s has_ r t shard_ l lt up le =
+    let w = world_after g (opening d) es in
+    let h = every_run_holds g d drawn es c s r in
+    let known_ = (subst (IfUp (ServerHolds g (known g w h.0))) up (h.2.servers t lt).live) shard_ in
     let most = bound_stays (l.shards shard_).learned (decided_in g w shard_) known_.learned in
-    let each = bound_from g old (decided_in g w shard_) (λ k v e. let here : Place = record { shard = shard_; slot = k } in let q = decided_accepted (journals g.replicas (λ r. (w.replicas r).kept)) z.3.agree.agree shard_ k v e in b.0 (offer here q.1 v) (z.3.agree.took here q.0 q.1 v q.2)) in
+    let each = bound_from g old (decided_in g w shard_) (decided_bound g d drawn old es c s has_ r shard_) in
     (omega arith, ⊎_elim (λ e. inl (omega arith)) (λ o. o) each)

@@ -1,5 +1,5 @@
 -- Each bound that is offered is the horizon, or stood in an accepted record before the run.
-use Rattle.std.proofs.Common.{◌≡◌, inl, ℕ, true, ◌||◌, ◌&&◌, ◌==◌, nat_lt, nat_le, List, length, set, Some, None, refl}
+use Rattle.std.proofs.Common.{◌≡◌, inl, ℕ, true, ◌||◌, ◌&&◌, nat_le, List, length, set, Some, None, refl}
 use Rattle.std.specs.Prelude.{Option}
 use Rattle.std.proofs.lemmas.Bool.{cond_both}
 use Rattle.ballot_core.specs.declared.Ballot.{Ballot}

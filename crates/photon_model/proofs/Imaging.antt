@@ -188,7 +188,7 @@ node_in g (Server (suc (suc s))) k = absurd (omega arith)
 node_in g (Replica r) k = inr (inr (inr (inr (mem_left (Replica r) (replicas_from 0 g.replicas) (joiners_from (first_joiner g) (2 * g.joiners)) (replica_in 0 g.replicas r (omega arith) (omega arith))))))
 node_in g (Joiner j) k = inr (inr (inr (inr (mem_right (Joiner j) (replicas_from 0 g.replicas) (joiners_from (first_joiner g) (2 * g.joiners)) (joiner_in (first_joiner g) (2 * g.joiners) j k.0 k.1)))))
 
-run_append : (g : Setting) (xs ys : List Entry) (w : World) → IsRun g w xs → IsRun g (world_after g w xs) ys → IsRun g w (xs ++ ys)
+pub run_append : (g : Setting) (xs ys : List Entry) (w : World) → IsRun g w xs → IsRun g (world_after g w xs) ys → IsRun g w (xs ++ ys)
 run_append g [] ys w a b = b
 run_append g (x ∷ xs) ys w a b = (a.0, run_append g xs ys (after g w x) a.1 b)
 
@@ -227,7 +227,7 @@ is_node_or_not g (Server s) = ⊎_elim (λ a. inl a) (λ a. inr (λ b. absurd (o
 is_node_or_not g (Replica s) = ⊎_elim (λ a. inl a) (λ a. inr (λ b. absurd (omega arith))) (cases_lt s g.replicas)
 is_node_or_not g (Joiner s) = ⊎_elim (λ lt. inr (λ b. let x = b.0 in absurd (omega arith))) (λ le. ⊎_elim (λ lt. inl (le, lt)) (λ ge. inr (λ b. let x = b.1 in absurd (omega arith))) (cases_lt s (first_joiner g + 2 * g.joiners))) (cases_lt s (first_joiner g))
 
-module _ (g : Setting) (d : Disks) (es : List Entry) (landed : Node → Bool) (c : Checked g) (s : SoundStore g d) (r : IsRun g (opening d) es) where
+module _ (g : Setting) (d : Disks) (es : List Entry) (landed : Node → Bool) (r : IsRun g (opening d) es) where
   abbrev now : World
   now = world_after g (opening d) es
 
@@ -250,7 +250,8 @@ module _ (g : Setting) (d : Disks) (es : List Entry) (landed : Node → Bool) (c
       let v : (n : ℕ) → (later.joiners n).kept ≡ (image g now landed).joiners n = λ n. left_is JoinerKept JoinerLive land_joiner (joiner_row g) (λ j. landed (Joiner j)) now.joiners later.joiners n stops.stopped_all.joiners (closed (Joiner n)) in
       λ i. record { dispatchers = λ n. a n i; servers = λ n. b n i; replicas = λ n. u n i; joiners = λ n. v n i }
 
-  pub leaves_sound : SoundStore g (image g now landed)
-  leaves_sound =
-      subst (SoundStore g) is_image
-      (subst (λ (x : World). SoundStore g (disks x)) (after_append g es stops.entries (opening d)) (runs_keep_stores g d (es ++ stops.entries) c s (run_append g es stops.entries (opening d) r stops.run)))
+  pub image_is_run : (all : List Entry) × IsRun g (opening d) (es ++ all) × (disks (world_after g (opening d) (es ++ all)) ≡ image g now landed)
+  image_is_run = (stops.entries, run_append g es stops.entries (opening d) r stops.run, ap (λ (x : World). disks x) (after_append g es stops.entries (opening d)) ∙ is_image)
+
+pub leaves_sound : (g : Setting) (d : Disks) (es : List Entry) (landed : Node → Bool) → Checked g → SoundStore g d → IsRun g (opening d) es → SoundStore g (image g (world_after g (opening d) es) landed)
+leaves_sound g d es landed c s r = let x = image_is_run g d es landed r in subst (SoundStore g) x.2 (runs_keep_stores g d (es ++ x.0) c s x.1)

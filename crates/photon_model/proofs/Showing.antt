@@ -1,29 +1,28 @@
 -- The report of a store names the missing ids, and no other.
-use Rattle.std.proofs.Common.{◌≡◌, ◌⊎◌, inl, inr, ⊎_elim, ℕ, zero, suc, ◌+◌, ◌*◌, ◌<◌, ◌≤◌, Bool, true, false, cond, List, [], ◌∷◌, ◌++◌, Some, None, refl, sym, ap, ◌∙◌, subst, arith}
+use Rattle.std.proofs.Common.{◌≡◌, inl, inr, ⊎_elim, ℕ, zero, suc, ◌+◌, ◌*◌, ◌<◌, ◌≤◌, Bool, true, false, cond, List, [], ◌∷◌, Some, None, refl, sym, ap, ◌∙◌, subst, arith}
 use Rattle.std.specs.Prelude.{Option, find, is_some, nat_lt}
 use Rattle.event_id.specs.declared.id.EventId.{EventId}
 use Rattle.event_id.specs.EventId.{is_same as same_id}
 use Rattle.registry_state.specs.declared.Token.{Token}
-use Rattle.registry_state.specs.LookBack.{Registered, holder, bound_of}
+use Rattle.registry_state.specs.LookBack.{holder, bound_of}
 use Rattle.registry_state.proofs.Tests.{same_id-true, same_id-false}
 use Rattle.list_words.specs.Lists.{Mem}
 use Rattle.list_words.proofs.Lists.{none_some, mem_left, mem_right, mem_split}
-use Rattle.log_defs.specs.declared.ReportLine.{ReportLine}
-use Rattle.log_defs.specs.declared.ReportLine.TheVariants.{J, M, X, U}
+use Rattle.log_defs.specs.declared.ReportLine.TheVariants.{M, X, U}
 use Rattle.output_log.specs.declared.pair.PairRec.{PairRec}
-use Rattle.turn_defs.specs.Setting.{Setting, first_joiner, IsJoiner}
+use Rattle.turn_defs.specs.Setting.{Setting, first_joiner}
 use Rattle.photon_defs.specs.Sound.{IsWritten, IsMissing, known_of}
-use Rattle.photon_defs.specs.Report.{pairs_from, all_pairs, decided_for, pair_of, unwritten_line, line_by, line_of}
+use Rattle.photon_defs.specs.Report.{pairs_from, all_pairs, decided_for, pair_of, line_by, line_of}
 use Rattle.photon_defs.specs.Runs.{Disks}
 
 -- a pair of so many joiners' logs stands in one of them
-from_log : (d : Disks) (from n : ℕ) (p : PairRec) → Mem p (pairs_from d from n) → (j : ℕ) × (from ≤ j) × (j < from + n) × Mem p (d.joiners j).pairs
+pub from_log : (d : Disks) (from n : ℕ) (p : PairRec) → Mem p (pairs_from d from n) → (j : ℕ) × (from ≤ j) × (j < from + n) × Mem p (d.joiners j).pairs
 from_log d from zero p m = absurd m
 from_log d from (suc n) p m =
     ⊎_elim (λ k. (from, omega arith, omega arith, k)) (λ k. let h = from_log d (suc from) n p k in let a = h.1 in let b = h.2 in (h.0, omega arith, omega arith, h.3))
     (mem_split p (d.joiners from).pairs (pairs_from d (suc from) n) m)
 
-to_log : (d : Disks) (from n j : ℕ) (p : PairRec) → from ≤ j → j < from + n → Mem p (d.joiners j).pairs → Mem p (pairs_from d from n)
+pub to_log : (d : Disks) (from n j : ℕ) (p : PairRec) → from ≤ j → j < from + n → Mem p (d.joiners j).pairs → Mem p (pairs_from d from n)
 to_log d from zero j p a b m = absurd (omega arith)
 to_log d from (suc n) j p a b m =
     ⊎_elim (λ lt. mem_right p (d.joiners from).pairs (pairs_from d (suc from) n) (to_log d (suc from) n j p lt (omega arith) m))
@@ -31,7 +30,7 @@ to_log d from (suc n) j p a b m =
     (Rattle.std.proofs.lemmas.Bool.cases_lt from j)
 
 -- the first pair of an id is one of it, and where there is none no pair is
-found : (ps : List PairRec) (i : EventId) (p : PairRec) → find (λ (q : PairRec). same_id q.click.id i) ps ≡ Some p → Mem p ps × (p.click.id ≡ i)
+pub found : (ps : List PairRec) (i : EventId) (p : PairRec) → find (λ (q : PairRec). same_id q.click.id i) ps ≡ Some p → Mem p ps × (p.click.id ≡ i)
 found [] i p e = none_some p e
 found (x ∷ ps) i p e = go (same_id x.click.id i) refl e (found ps i p)
   where
@@ -39,7 +38,7 @@ found (x ∷ ps) i p e = go (same_id x.click.id i) refl e (found ps i p)
     go true t e ih = let s : x ≡ p = cc in (inl s, ap (λ (q : PairRec). q.click.id) (sym s) ∙ same_id-true x.click.id i t)
     go false t e ih = let h = ih e in (inr h.0, h.1)
 
-not_found : (ps : List PairRec) (i : EventId) (p : PairRec) → find (λ (q : PairRec). same_id q.click.id i) ps ≡ None → Mem p ps → p.click.id ≡ i → ⊥
+pub not_found : (ps : List PairRec) (i : EventId) (p : PairRec) → find (λ (q : PairRec). same_id q.click.id i) ps ≡ None → Mem p ps → p.click.id ≡ i → ⊥
 not_found [] i p e m same = m
 not_found (x ∷ ps) i p e m same = go (same_id x.click.id i) refl e (λ f k. not_found ps i p f k same)
   where

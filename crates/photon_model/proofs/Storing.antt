@@ -23,8 +23,8 @@ use Rattle.replica_node.specs.Replica.{ReplicaKept, land_replica}
 use Rattle.photon_defs.specs.Sound.{Known, known_of, DispatcherSound, PairSound, DrawnSound, InsertsOf, Sound, SoundStore, accepted_inserts}
 use Rattle.photon_defs.specs.Runs.{Cell, World, Entry, Begin, End, Stop, Disks, begun, after, world_after}
 use Rattle.list_words.proofs.Lists.{none_some, mem_left, mem_split, each_more, at_set}
-use Rattle.photon_defs.specs.Topology.{Store, WholeSound, topology_of}
-use Rattle.photon_model.specs.Stores.{empty_disks, ReadIsChecked, IsOneTopology, IsLonger}
+use Rattle.photon_defs.specs.Topology.{Store, WholeSound}
+use Rattle.photon_model.specs.Stores.{empty_disks, ReadIsChecked, IsLonger}
 use Rattle.log_records.proofs.Places.{queries_begin, lines_begin, lines_follow}
 use Rattle.photon_model.proofs.Growth.{begins_self, begins_again}
 

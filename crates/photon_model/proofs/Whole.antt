@@ -1,5 +1,5 @@
 -- Whole stores: the topology is written first, and stays.
-use Rattle.std.proofs.Common.{◌≡◌, true, false, List, [], Some, refl, sym}
+use Rattle.std.proofs.Common.{◌≡◌, true, List, [], Some, refl, sym}
 use Rattle.std.proofs.lemmas.Bool.{true≢false}
 use Rattle.packet_codec.specs.declared.node.Node.{Node}
 use Rattle.std.specs.Prelude.{Bool}

@@ -1,5 +1,5 @@
 -- What holds after every run. A run begins with all nodes down and nothing sent, over checked logs and a sound store.
-use Rattle.std.specs.Prelude.{◌≡◌, ◌⊎◌, ℕ, ◌<◌, ◌≤◌, List, [], ◌∷◌, Some, ⊤, true}
+use Rattle.std.specs.Prelude.{◌≡◌, ◌⊎◌, ℕ, ◌<◌, ◌≤◌, List, [], ◌∷◌, Some, ⊤}
 use Rattle.event_id.specs.declared.id.EventId.{EventId}
 use Rattle.registry_state.specs.declared.Token.{Token}
 use Rattle.ballot_core.specs.declared.Ballot.{Ballot}
@@ -7,18 +7,14 @@ use Rattle.registry_state.specs.declared.Insert.{Insert}
 use Rattle.registry_state.specs.declared.Batch.{Batch}
 use Rattle.registry_state.specs.LookBack.{holder, bound_of}
 use Rattle.list_words.specs.Lists.{Mem}
-use Rattle.turn_defs.specs.Setting.{Setting, Checked}
-use Rattle.packet_codec.specs.declared.node.Node.{Node}
+use Rattle.turn_defs.specs.Setting.{Setting, Checked, shards}
 use Rattle.packet_codec.specs.declared.node.Node.TheVariants.{Dispatcher, Server, Replica, Joiner}
 use Rattle.paxos_defs.specs.declared.Place.{Place}
 use Rattle.paxos_defs.specs.Notes.Note.{Accepted}
-use Rattle.dispatch_core.specs.Dispatcher.{dispatcher_at_rest}
-use Rattle.joiner_core.specs.Joiner.{JoinerLive}
-use Rattle.registry_server.specs.Server.{ServerLive}
 use Rattle.photon_defs.specs.Journals.{journals, decided}
 use Rattle.photon_defs.specs.Sound.{values_of, IsWritten, IsDrained, accepted_inserts, SoundStore}
 use Rattle.photon_defs.specs.Facts.{known, WorldHolds}
-use Rattle.photon_defs.specs.Rest.{UpWith}
+use Rattle.photon_defs.specs.Rest.{IsAtRest}
 use Rattle.photon_defs.specs.Runs.{World, Entry, Begin, End, Stop, Disks, world_after, IsRun, opening}
 use Rattle.photon_defs.specs.Agreement.{Offer}
 use Rattle.photon_model.specs.Voting.{BallotsHold}
@@ -35,10 +31,6 @@ AllFactsHold g w = (drawn : List Insert) × (offered : List Offer) × WorldHolds
 abbrev pub decided_in : Setting → World → ℕ → List Batch
 decided_in g w = decided (journals g.replicas (λ r. (w.replicas r).kept))
 
--- a dispatcher that is at rest has drained
-abbrev pub RestIsDrained : Setting → World → Type 0
-RestIsDrained g w = (s : ℕ) → s < 2 → UpWith (λ l. dispatcher_at_rest l ≡ true) (w.dispatchers s).live → IsDrained g (w.dispatchers s).kept
-
 -- no joiner stops
 abbrev pub NoJoinerStops : List Entry → Type 0
 NoJoinerStops [] = ⊤
@@ -49,16 +41,6 @@ NoJoinerStops (Stop (Replica r) landed ∷ es) = NoJoinerStops es
 NoJoinerStops (Begin m i ∷ es) = NoJoinerStops es
 NoJoinerStops (End m o ps k ∷ es) = NoJoinerStops es
 
--- Where no joiner stopped and none has a join in flight, each missing id is held by a token that stood in an accepted
--- record before the run.
-abbrev pub MissingIsOld : Type 0
-MissingIsOld =
-    (g : Setting) (d : Disks) (es : List Entry) →
-    Checked g → SoundStore g d → IsRun g (opening d) es → NoJoinerStops es →
-    let w = world_after g (opening d) es in
-    ((j : ℕ) (l : JoinerLive) → (w.joiners j).live ≡ Some l → l.flight ≡ []) →
-    (i : EventId) (h : Token) → holder (values_of g (known g w []) i) i ≡ Some h → (IsWritten g (known g w []) i → ⊥) → Mem (record { id = i; token = h }) (accepted_inserts g d)
-
 -- the horizon, or a bound of the list
 abbrev pub IsBoundOk : Setting → List ℕ → ℕ → Type 0
 IsBoundOk g old b = (b ≡ g.horizon) ⊎ Mem b old
@@ -67,12 +49,15 @@ IsBoundOk g old b = (b ≡ g.horizon) ⊎ Mem b old
 abbrev pub HasBounds : Setting → Disks → List ℕ → Type 0
 HasBounds g d old = (r : ℕ) (at : Place) (b : Ballot) (v : Batch) → r < g.replicas → Mem (Accepted at b v) (d.replicas r).notes → Mem v.bound old
 
--- Where a server knows a bound not below the horizon, the decided bound is not below it, and is the horizon or one that
--- was accepted before the run.
-abbrev pub BoundIsOk : Type 0
-BoundIsOk =
-    (g : Setting) (d : Disks) (old : List ℕ) (es : List Entry) →
-    Checked g → SoundStore g d → HasBounds g d old → IsRun g (opening d) es →
-    let w = world_after g (opening d) es in
-    (s shard : ℕ) (l : ServerLive) → s < 2 → (w.servers s).live ≡ Some l → g.horizon ≤ bound_of (l.shards shard).learned →
-    (g.horizon ≤ bound_of (decided_in g w shard)) × IsBoundOk g old (bound_of (decided_in g w shard))
+-- What rest leaves after a run from a store: both dispatchers have drained; each shard's decided bound is not below the
+-- horizon, and is the horizon or one that was accepted before the run; and where no joiner stopped, each missing id is held
+-- by a token that stood in an accepted record before the run.
+pub record RestLeaves (g : Setting) (d : Disks) (es : List Entry) (old : List ℕ) (w : World) : Type 0 where
+  pub drained : (s : ℕ) → s < 2 → IsDrained g (w.dispatchers s).kept
+  pub bounds : (shard : ℕ) → shard < shards g → (g.horizon ≤ bound_of (decided_in g w shard)) × IsBoundOk g old (bound_of (decided_in g w shard))
+  pub missing : NoJoinerStops es → (i : EventId) (h : Token) → holder (values_of g (known g w []) i) i ≡ Some h → (IsWritten g (known g w []) i → ⊥) → Mem (record { id = i; token = h }) (accepted_inserts g d)
+
+abbrev pub RestIsDone : Type 0
+RestIsDone =
+    (g : Setting) (d : Disks) (es : List Entry) (old : List ℕ) →
+    Checked g → SoundStore g d → HasBounds g d old → IsRun g (opening d) es → IsAtRest g (world_after g (opening d) es) → RestLeaves g d es old (world_after g (opening d) es)

@@ -1,5 +1,5 @@
 -- While turns are open each disk may hold its node's records, or those and the open turn's note.
-use Rattle.std.specs.Prelude.{Bool, ◌&&◌, is_some, if◌then◌else◌, None}
+use Rattle.std.specs.Prelude.{◌≡◌, List, ◌++◌, Bool, ◌&&◌, is_some, if◌then◌else◌, None}
 use Rattle.turn_defs.specs.Setting.{Setting}
 use Rattle.turn_defs.specs.Turns.{Note, Out, land}
 use Rattle.packet_codec.specs.declared.node.Node.{Node}
@@ -9,7 +9,7 @@ use Rattle.joiner_core.specs.Joiner.{land_joiner}
 use Rattle.registry_server.specs.Server.{land_server}
 use Rattle.replica_node.specs.Replica.{land_replica}
 use Rattle.photon_defs.specs.Sound.{SoundStore}
-use Rattle.photon_defs.specs.Runs.{Cell, World, Disks, dispatcher_row, server_row, replica_row, joiner_row}
+use Rattle.photon_defs.specs.Runs.{Cell, World, Entry, Disks, disks, dispatcher_row, server_row, replica_row, joiner_row, world_after, IsRun, opening}
 
 -- what a stop now leaves of a node, the open turn's note having landed or not
 abbrev pub left_by : {K L : Type 0} → (Note → K → K) → Out L → Bool → Cell K L → K
@@ -28,3 +28,9 @@ image g w landed =
 -- whichever open turns' notes have landed, what is left is sound
 abbrev pub LeavesSound : Setting → World → Type 0
 LeavesSound g w = (landed : Node → Bool) → SoundStore g (image g w landed)
+
+-- and is what some run leaves: this one, with a stop of each node that has an open turn at its end
+abbrev pub ImagesAreRuns : Type 0
+ImagesAreRuns =
+    (g : Setting) (d : Disks) (es : List Entry) (landed : Node → Bool) → IsRun g (opening d) es →
+    (stops : List Entry) × IsRun g (opening d) (es ++ stops) × (disks (world_after g (opening d) (es ++ stops)) ≡ image g (world_after g (opening d) es) landed)

@@ -6,3 +6,5 @@ pub mod Stores
 pub mod Claims
 pub mod Images
 pub mod Alone
+pub mod Example
+pub mod Exact

@@ -2,6 +2,10 @@
 use Rattle.std.specs.Prelude.{◌≡◌, ℕ, Bool, true, false, List, [], ◌++◌, Some, None}
 use Rattle.registry_state.specs.declared.Insert.{Insert}
 use Rattle.list_words.specs.Lists.{Begins}
+use Rattle.log_records.specs.declared.records.QueryRec.{QueryRec}
+use Rattle.log_records.specs.declared.records.ClickRec.{ClickRec}
+use Rattle.log_records.specs.Log.{HoldsQueries, HoldsClicks}
+use Rattle.log_records.specs.Lines.{placed}
 use Rattle.packet_codec.specs.declared.node.Node.{Node}
 use Rattle.turn_defs.specs.Setting.{Setting, Checked, IsOver}
 use Rattle.photon_defs.specs.Sound.{Sound, SoundStore}
@@ -29,7 +33,16 @@ RunsKeepStores = (g : Setting) (d : Disks) (es : List Entry) → Checked g → S
 abbrev pub SoundCloses : Type 0
 SoundCloses = (g : Setting) (d : Disks) (drawn : List Insert) → Sound g d drawn → SoundStore g d
 
--- logs that were read are checked
+-- the setting with the records of two logs
+abbrev pub with_logs : Setting → List QueryRec → List ClickRec → Setting
+with_logs g qs cs = record g { queries = qs; clicks = placed 0 cs }
+
+-- two valid logs have a setting over them
+abbrev pub ReadIsOver : Type 0
+ReadIsOver =
+    (g : Setting) (query_log click_log : List ℕ) (qs : List QueryRec) (cs : List ClickRec) → HoldsQueries query_log qs → HoldsClicks click_log cs → IsOver (with_logs g qs cs) query_log click_log
+
+-- and logs that a setting is over have what the law asks of them
 abbrev pub ReadIsChecked : Type 0
 ReadIsChecked = (g : Setting) (query_log click_log : List ℕ) → IsOver g query_log click_log → Checked g
 

@@ -2,13 +2,15 @@
 //! reordered or stopped, and what follows from it in plain words.
 #![tactic(auto)]
 
-ghost use Rattle.photon_model.specs.EveryRun.{AfterEveryRun, AllFactsHold, BoundIsOk, MissingIsOld, RestIsDrained};
+ghost use Rattle.photon_model.specs.EveryRun.{AfterEveryRun, AllFactsHold, RestIsDone};
 ghost use Rattle.photon_model.specs.Headline.{DecidesOnce, ForgetsNothing, HasOwnQueries, IsOutputOnce, LearnsTheDecided, LosesNoPair, TellsTheMissing};
 ghost use Rattle.turn_defs.specs.Setting.{Setting};
 ghost use Rattle.photon_defs.specs.Topology.{WholeSound};
-ghost use Rattle.photon_model.specs.Stores.{LongerKeepsStores, LongerKeepsWhole, ReadIsChecked, RecordsStay, RunsKeepStores, RunsKeepWhole, SoundCloses, TopologyComesFirst, empty_store};
+ghost use Rattle.photon_model.specs.Stores.{LongerKeepsStores, LongerKeepsWhole, ReadIsChecked, ReadIsOver, RecordsStay, RunsKeepStores, RunsKeepWhole, SoundCloses, TopologyComesFirst, empty_store};
+ghost use Rattle.photon_model.specs.Exact.{AtRestFromEmpty, ClicksAreExact, ReportIsExact};
+ghost use Rattle.photon_model.specs.Example.{ClickIsJoined, RunsAreStrict, StoresAreStrict};
 ghost use Rattle.photon_model.specs.Claims.{EveryClaimSent};
-ghost use Rattle.photon_model.specs.Images.{LeavesSound};
+ghost use Rattle.photon_model.specs.Images.{ImagesAreRuns, LeavesSound};
 ghost use Rattle.photon_model.specs.Alone.{EveryBallotAlone};
 ghost use Rattle.photon_model.specs.Keeping.{DispatcherRowsKeep, DispatcherStartKeeps, JoinerRowsKeep, JoinerStartKeeps, ReplicaRowsKeep, ServerRowsKeep};
 
@@ -26,14 +28,20 @@ pub fn headline()
 {}
 
 /// After every run from a sound store all facts hold, and whichever open turns' notes have landed, the disks that stops
-/// now leave are sound. A dispatcher at rest has drained, a missing id is held by a token of an earlier run where no
-/// joiner stopped, and the decided bound is the horizon or an earlier one.
+/// now leave are sound, and are those of a run with stops at its end. At rest both dispatchers have drained, each decided
+/// bound is the horizon or an earlier one, and where no joiner stopped each missing id is an earlier run's.
 pub fn every_run()
     ensures facts { AfterEveryRun AllFactsHold }
     ensures left { AfterEveryRun LeavesSound }
-    ensures rest { AfterEveryRun RestIsDrained }
-    ensures missing { MissingIsOld }
-    ensures bound { BoundIsOk }
+    ensures stops { ImagesAreRuns }
+    ensures rest { RestIsDone }
+{}
+
+/// From the empty store, at rest: each click's line is that of the two logs, or the click is missing; and where none is
+/// missing, the report's bytes are those of the two logs.
+pub fn exact_report()
+    ensures clicks { AtRestFromEmpty ClicksAreExact }
+    ensures report { AtRestFromEmpty ReportIsExact }
 {}
 
 /// Each row of the turn table keeps what holds of its node, and sends only packets whose facts hold.
@@ -47,10 +55,11 @@ pub fn rows_keep()
 {}
 
 /// A store whose records are sound is so after every run, and where both logs grow by bytes at their ends and stay valid;
-/// logs that were read have what the law asks of them; no pair and no replica's record is ever lost.
+/// two valid logs make a setting that has what the law asks of it; no pair and no replica's record is ever lost.
 pub fn stores()
     ensures runs { RunsKeepStores }
     ensures longer { LongerKeepsStores }
+    ensures over { ReadIsOver }
     ensures checked { ReadIsChecked }
     ensures stay { RecordsStay }
     ensures closes { SoundCloses }
@@ -73,4 +82,11 @@ pub fn claims()
 /// A ballot is drawn for one place alone.
 pub fn ballots()
     ensures { EveryBallotAlone }
+{}
+
+/// A run that joins a click, from the empty store; and what is no run, and no sound store.
+pub fn examples()
+    ensures joined { ClickIsJoined }
+    ensures runs { RunsAreStrict }
+    ensures stores { StoresAreStrict }
 {}

@@ -1,1 +1,3 @@
 mod Numbers
+pub mod ShardsBelow
+mod WorkedLogs

@@ -1,11 +1,18 @@
 -- The setting of the worked turns: one query, and one click on it.
-use Rattle.std.specs.Prelude.{ℕ, [], ◌∷◌}
+use Rattle.std.specs.Prelude.{ℕ, List, [], ◌∷◌, codes}
 use Rattle.log_records.specs.Lines.{ClickLine}
 use Rattle.log_records.specs.Rows.{one_query, one_click}
 use Rattle.registry_state.specs.declared.Token.{Token}
 use Rattle.registry_state.specs.declared.Insert.{Insert}
 use Rattle.registry_state.specs.declared.Batch.{Batch}
 use Rattle.turn_defs.specs.Setting.{Setting}
+
+-- the two logs
+abbrev pub query_log : List ℕ
+query_log = codes "10.0.0.1:7:1000 shoes\n"
+
+abbrev pub click_log : List ℕ
+click_log = codes "10.0.0.2:9:2000 10.0.0.1:7:1000 buy\n"
 
 -- the click's line has 35 bytes and its line feed
 abbrev pub one_line : ClickLine

@@ -1,0 +1,222 @@
+-- From the empty store, at rest, the report is that of the two logs, but for missing clicks.
+use Rattle.std.proofs.Common.{◌≡◌, ◌⊎◌, inl, inr, ⊎_elim, ℕ, zero, suc, ◌*◌, ◌<◌, ◌≤◌, Bool, true, false, cond, List, [], ◌∷◌, map, Some, None, refl, sym, ap, ◌∙◌, subst, arith, lit<}
+use Rattle.std.specs.Prelude.{Option, slice_get, find, is_some, nat_lt}
+use Rattle.std.specs.declared.cmp.Ordering.{Ordering}
+use Rattle.std.specs.declared.cmp.Ordering.TheVariants.{Less, Equal, Greater}
+use Rattle.std.specs.FinMap as finite
+use Rattle.std.specs.FinMap.Entries.{by_order}
+use Rattle.std.specs.Cmp.{IsTotalOrder, nat_cmp_total}
+use Rattle.std.proofs.lemmas.Cmp.{on_total, then_total}
+use Rattle.std.proofs.lemmas.List.{nil_from_length}
+use Rattle.std.proofs.lemmas.Bool.{cond_both, cases_lt, ltb-true, ltb-false}
+use Rattle.event_id.specs.declared.id.EventId.{EventId}
+use Rattle.event_id.specs.EventId.{id_cmp}
+use Rattle.registry_state.specs.declared.Token.{Token}
+use Rattle.registry_state.specs.declared.Batch.{Batch}
+use Rattle.registry_state.specs.LookBack.{IsGranted, bound_of, bound_at, holder, first_insert}
+use Rattle.registry_state.proofs.LookingBack.{granted_means, holder_granted}
+use Rattle.list_words.specs.Lists.{Mem}
+use Rattle.list_words.proofs.Lists.{some_same, none_some, each_at}
+use Rattle.time_shards.specs.Shards.{IsTable}
+use Rattle.log_records.specs.declared.records.QueryRec.{QueryRec as Query}
+use Rattle.log_records.specs.declared.records.ClickRec.{ClickRec as Click}
+use Rattle.log_records.specs.Lines.{ClickLine}
+use Rattle.log_records.specs.Log.{first}
+use Rattle.log_defs.specs.Report as logs
+use Rattle.log_defs.specs.declared.ReportLine.TheVariants.{J, M, X, U}
+use Rattle.output_log.specs.declared.pair.PairRec.{PairRec}
+use Rattle.turn_defs.specs.Setting.{Setting, Checked, first_joiner, shard}
+use Rattle.turn_defs.proofs.ShardsBelow.{shard_below}
+use Rattle.photon_defs.specs.Sound.{SoundStore, PairSound, IsWritten, known_of, values_of}
+use Rattle.photon_defs.specs.Facts.{known}
+use Rattle.photon_defs.specs.Report.{all_pairs, pair_of, line_by, line_of, unwritten_line}
+use Rattle.photon_defs.specs.Rest.{IsAtRest}
+use Rattle.photon_defs.specs.Runs.{World, Entry, Disks, disks, world_after, IsRun, opening}
+use Rattle.photon_model.specs.Stores.{empty_disks}
+use Rattle.photon_model.specs.EveryRun.{AllFactsHold, HasBounds, RestLeaves, decided_in}
+use Rattle.photon_model.specs.Exact.{IsExact, AtRestFromEmpty, ClicksAreExact, ReportIsExact}
+use Rattle.photon_model.proofs.Storing.{empty_sound}
+use Rattle.photon_model.proofs.Closing.{sound_closes}
+use Rattle.photon_model.proofs.Running.{drained}
+use Rattle.photon_model.proofs.Agreeing.{every_run_holds, granted_drawn, decided_bound}
+use Rattle.photon_model.proofs.Resting.{rest_is_done}
+use Rattle.photon_model.proofs.Showing.{from_log, to_log, found, not_found}
+
+find_mem : {A : Type 0} (test : A → Bool) (xs : List A) (x : A) → find test xs ≡ Some x → Mem x xs
+find_mem test [] x e = none_some x e
+find_mem {A} test (y ∷ xs) x e = go (test y) e (find_mem test xs x)
+  where
+    go : (b : Bool) → cond b (Some y) (find test xs) ≡ Some x → (find test xs ≡ Some x → Mem x xs) → (y ≡ x) ⊎ Mem x xs
+    go true q ih = inl (some_same y x q)
+    go false q ih = inr (ih q)
+
+-- a value's bound is not above the bound up to it
+bound_within : (vs : List Batch) (k : ℕ) (v : Batch) → slice_get vs k ≡ Some v → v.bound ≤ bound_at vs k
+bound_within [] k v e = none_some v e
+bound_within (x ∷ vs) zero v e = let q : x.bound ≡ v.bound = ap (λ (y : Batch). y.bound) (some_same x v e) in omega arith
+bound_within (x ∷ vs) (suc k) v e = let q = bound_within vs k v e in omega arith
+
+module _ (g : Setting) (es : List Entry) (c : Checked g) (t : IsTable g.table) (r : IsRun g (opening empty_disks) es) (rest : IsAtRest g (world_after g (opening empty_disks) es)) where
+  abbrev w : World
+  w = world_after g (opening empty_disks) es
+
+  abbrev d : Disks
+  d = disks w
+
+  sound : SoundStore g empty_disks
+  sound = sound_closes g empty_disks [] (empty_sound g)
+
+  none_old : HasBounds g empty_disks []
+  none_old = λ r at b v lt m. m
+
+  facts : AllFactsHold g w
+  facts = every_run_holds g empty_disks _ es c sound r
+
+  leaves : RestLeaves g empty_disks es [] w
+  leaves = rest_is_done g empty_disks es [] c sound none_old r rest
+
+  module _ (l : ClickLine) (m : Mem l g.clicks) where
+    abbrev i : EventId
+    i = l.click.id
+
+    abbrev vs : List Batch
+    vs = decided_in g w (shard g i)
+
+    bound_is : bound_of vs ≡ g.horizon
+    bound_is = ⊎_elim (λ e. e) (λ x. absurd x) (leaves.bounds (shard g i) (shard_below g i t)).1
+
+    granted_young : (u : Token) → IsGranted vs i u → g.horizon ≤ i.micros
+    granted_young u (k, (v, e, n), a) =
+        let bound = ⊎_elim {C = v.bound ≡ g.horizon} (λ q. q) (λ x. absurd x) (decided_bound g empty_disks _ [] es c sound none_old r (shard g i) k v e) in
+        let low = (granted_means vs i u k (v, e, n) a).0 in
+        let within = bound_within vs k v e in
+        omega arith
+
+    -- a click of this id is this one
+    one_click : (x : Click) → ((y : ClickLine) × Mem y g.clicks × (y.click ≡ x)) → x.id ≡ i → x ≡ l.click
+    one_click x (y, n, e) same = sym e ∙ c.no_conflict y l n m (ap (λ (z : Click). z.id) e ∙ same)
+
+    -- the report of the logs
+    logs_old : i.micros < g.horizon → logs.line_of g.queries g.horizon l.click ≡ X i
+    logs_old lt = cond_both (nat_lt i.micros g.horizon) (X i) (logs.pair_or_none l.click (first g.queries l.click.query)) (λ x. x ≡ X i) (λ _. refl) (λ f. let ge = ltb-false i.micros g.horizon f in absurd (omega arith))
+
+    logs_young : g.horizon ≤ i.micros → (o : Option Query) → first g.queries l.click.query ≡ o → logs.line_of g.queries g.horizon l.click ≡ logs.pair_or_none l.click o
+    logs_young le o e =
+        cond_both (nat_lt i.micros g.horizon) (X i) (logs.pair_or_none l.click (first g.queries l.click.query)) (λ x. x ≡ logs.pair_or_none l.click o)
+        (λ q. let lt = ltb-true i.micros g.horizon q in absurd (omega arith))
+        (λ _. ap (logs.pair_or_none l.click) e)
+
+    -- a written click
+    with_pair : (p : PairRec) → pair_of g d i ≡ Some p → line_by g d i (Some p) ≡ logs.line_of g.queries g.horizon l.click
+    with_pair p e =
+        let f = found (all_pairs g d) i p e in
+        let x = from_log d (first_joiner g) (2 * g.joiners) p f.0 in
+        let s = each_at (PairSound g (known g w facts.0) x.0 (w.joiners x.0).kept.epoch) (w.joiners x.0).kept.pairs (facts.2.joiners x.0 (x.1, x.2)).kept.pairs p x.3 in
+        let granted = subst (λ (k : EventId). IsGranted (values_of g (known g w facts.0) k) k p.token) f.1 s.granted in
+        let line = s.own_query.0 in
+        let same = one_click p.click (line.0, find_mem _ g.clicks line.0 line.1, line.2) f.1 in
+        ap (λ (k : Click). J k p.query) same ∙ sym (logs_young (granted_young p.token granted) (Some p.query) (ap (λ (k : Click). first g.queries k.query) (sym same) ∙ s.own_query.1))
+
+    no_pair : pair_of g d i ≡ None → IsWritten g (known_of g d []) i → ⊥
+    no_pair e (j, p, is, n, same) = not_found (all_pairs g d) i p e (to_log d (first_joiner g) (2 * g.joiners) j p is.0 is.1 n) same
+
+    holder_old : i.micros < g.horizon → holder vs i ≡ None
+    holder_old lt = cond_both (nat_lt i.micros (bound_of vs)) None (first_insert vs i) (λ o. o ≡ None) (λ _. refl) (λ f. let ge = ltb-false i.micros (bound_of vs) f in let b = bound_is in absurd (omega arith))
+
+    holder_young : g.horizon ≤ i.micros → holder vs i ≡ first_insert vs i
+    holder_young le = cond_both (nat_lt i.micros (bound_of vs)) None (first_insert vs i) (λ o. o ≡ first_insert vs i) (λ q. let lt = ltb-true i.micros (bound_of vs) q in let b = bound_is in absurd (omega arith)) (λ _. refl)
+
+    line_with : (o : Option Token) → holder vs i ≡ o → unwritten_line g d i ≡ cond (is_some o) (M i) (cond (nat_lt i.micros (bound_of vs)) (X i) (U i))
+    line_with o e = ap (λ (k : Option Token). cond (is_some k) (M i) (cond (nat_lt i.micros (bound_of vs)) (X i) (U i))) e
+
+    line_old : i.micros < g.horizon → unwritten_line g d i ≡ X i
+    line_old lt = line_with None (holder_old lt) ∙ cond_both (nat_lt i.micros (bound_of vs)) (X i) (U i) (λ x. x ≡ X i) (λ _. refl) (λ f. let ge = ltb-false i.micros (bound_of vs) f in let b = bound_is in absurd (omega arith))
+
+    line_young : g.horizon ≤ i.micros → first_insert vs i ≡ None → unwritten_line g d i ≡ U i
+    line_young le e =
+        line_with None (holder_young le ∙ e) ∙ cond_both (nat_lt i.micros (bound_of vs)) (X i) (U i) (λ x. x ≡ U i) (λ q. let lt = ltb-true i.micros (bound_of vs) q in let b = bound_is in absurd (omega arith)) (λ _. refl)
+
+    -- a registered click has a query
+    has_query : (u : Token) → g.horizon ≤ i.micros → first_insert vs i ≡ Some u → (q : Query) × (first g.queries l.click.query ≡ Some q)
+    has_query u le e =
+        let b = bound_is in
+        let granted = holder_granted vs i u (omega arith) e in
+        let j = facts.2.drawing.joinable (record { id = i; token = u }) (granted_drawn g w facts.0 facts.1 facts.2 facts.3 i u granted) in
+        let same = c.no_conflict j.0 l j.1 m j.2 in
+        (j.3.0, ap (λ (k : Click). first g.queries k.query) (sym same) ∙ j.3.1)
+
+    -- a click with a query that is not written is registered
+    not_forgotten : pair_of g d i ≡ None → g.horizon ≤ i.micros → first_insert vs i ≡ None → (q : Query) → first g.queries l.click.query ≡ Some q → ⊥
+    not_forgotten e le none_ q f =
+        let b = bound_is in
+        ⊎_elim (λ x. no_pair e x) (λ x. none_some x.0.0 (sym (holder_young le ∙ none_) ∙ x.0.1))
+        (drained g w facts.0 c facts.2 0 (lit< tt) (leaves.drained 0 (lit< tt)) l q m f (λ lt. absurd (omega arith)))
+
+    young : pair_of g d i ≡ None → g.horizon ≤ i.micros → (o : Option Token) → first_insert vs i ≡ o → (f : Option Query) → first g.queries l.click.query ≡ f
+        → (unwritten_line g d i ≡ logs.line_of g.queries g.horizon l.click) ⊎ ((unwritten_line g d i ≡ M i) × (g.horizon ≤ i.micros) × ((q : Query) × (first g.queries l.click.query ≡ Some q)))
+    young e le (Some u) k f n = inr (line_with (Some u) (holder_young le ∙ k), le, has_query u le k)
+    young e le None k (Some q) n = absurd (not_forgotten e le k q n)
+    young e le None k None n = inl (line_young le k ∙ sym (logs_young le None n))
+
+    by_pair : (o : Option PairRec) → pair_of g d i ≡ o → (line_by g d i o ≡ logs.line_of g.queries g.horizon l.click) ⊎ ((line_by g d i o ≡ M i) × (g.horizon ≤ i.micros) × ((q : Query) × (first g.queries l.click.query ≡ Some q)))
+    by_pair (Some p) e = inl (with_pair p e)
+    by_pair None e = ⊎_elim (λ lt. inl (line_old lt ∙ sym (logs_old lt))) (λ le. young e le (first_insert vs i) refl (first g.queries l.click.query) refl) (cases_lt i.micros g.horizon)
+
+    pub click_is_exact : IsExact g d l.click
+    click_is_exact = by_pair (pair_of g d i) refl
+
+pub clicks_are_exact : AtRestFromEmpty ClicksAreExact
+clicks_are_exact g es c t r rest l m = click_is_exact g es c t r rest l m
+
+-- ---- the whole report
+
+-- the values of a map's entries after an insert
+put_value : {K V : Type 0} (R : K → K → Ordering) (es : List (K × V)) (k : K) (v x : V) → Mem x (map (λ e. e.1) (finite.put R k v es)) → (v ≡ x) ⊎ Mem x (map (λ e. e.1) es)
+put_value R [] k v x n = n
+put_value {K} {V} R (e ∷ es) k v x n = go (R k e.0) n (put_value R es k v x)
+  where
+    go : (o : Ordering) → Mem x (map (λ (p : K × V). p.1) (by_order o ((k, v) ∷ e ∷ es) ((e.0, v) ∷ es) (e ∷ finite.put R k v es))) → (Mem x (map (λ (p : K × V). p.1) (finite.put R k v es)) → (v ≡ x) ⊎ Mem x (map (λ (p : K × V). p.1) es)) → (v ≡ x) ⊎ ((e.1 ≡ x) ⊎ Mem x (map (λ (p : K × V). p.1) es))
+    go Less q ih = q
+    go Equal q ih = ⊎_elim (λ a. inl a) (λ a. inr (inr a)) q
+    go Greater q ih = ⊎_elim (λ a. inr (inl a)) (λ a. ⊎_elim (λ z. inl z) (λ z. inr (inr z)) (ih a)) q
+
+ids_total : IsTotalOrder id_cmp
+ids_total = then_total (on_total (λ (x : EventId). x.ip) nat_cmp_total) (then_total (on_total (λ (x : EventId). x.pid) nat_cmp_total) (on_total (λ (x : EventId). x.micros) nat_cmp_total))
+
+abbrev made : List Click → List (EventId × Click)
+made cs = finite.entries (finite.from_entries {R = id_cmp} (map (λ c. (c.id, c)) cs))
+
+made_nil : made [] ≡ []
+made_nil =
+    let none : finite.FinMap id_cmp Click = finite.empty in
+    nil_from_length (finite.entries none) (sym (finite.len-entries none) ∙ finite.len-empty id_cmp Click)
+
+-- a distinct click is one of the log
+distinct_mem : (cs : List Click) (x : Click) → Mem x (logs.distinct cs) → Mem x cs
+distinct_mem [] x n = subst (λ (es : List (EventId × Click)). Mem x (map (λ e. e.1) es)) made_nil n
+distinct_mem (c ∷ cs) x n =
+    ⊎_elim (λ a. inl a) (λ a. inr (distinct_mem cs x a))
+    (put_value id_cmp (made cs) c.id c x (subst (λ (es : List (EventId × Click)). Mem x (map (λ e. e.1) es)) (finite.entries-insert ids_total (finite.from_entries (map (λ (k : Click). (k.id, k)) cs)) c.id c) n))
+
+map_same : {A B : Type 0} (f h : A → B) (xs : List A) → ((x : A) → Mem x xs → f x ≡ h x) → map f xs ≡ map h xs
+map_same f h [] e = refl
+map_same {A} {B} f h (x ∷ xs) e = let a = e x (inl refl) in let rest = map_same f h xs (λ y n. e y (inr n)) in λ k. a k ∷ rest k
+
+line_from : (ls : List ClickLine) (x : Click) → Mem x (map (λ (l : ClickLine). l.click) ls) → (l : ClickLine) × Mem l ls × (l.click ≡ x)
+line_from [] x n = absurd n
+line_from (l ∷ ls) x (inl e) = (l, inl refl, e)
+line_from (l ∷ ls) x (inr n) = let h = line_from ls x n in (h.0, inr h.1, h.2)
+
+pub report_is_exact : AtRestFromEmpty ReportIsExact
+report_is_exact g es c t r rest none_missing =
+    let e = map_same (λ (x : Click). line_of g (disks (world_after g (opening empty_disks) es)) x.id) (logs.line_of g.queries g.horizon) (logs.distinct clicks) each in
+    ap logs.text_of e
+  where
+    clicks : List Click
+    clicks = map (λ (l : ClickLine). l.click) g.clicks
+
+    each : (x : Click) → Mem x (logs.distinct clicks) → line_of g (disks (world_after g (opening empty_disks) es)) x.id ≡ logs.line_of g.queries g.horizon x
+    each x n =
+        let h = line_from g.clicks x (distinct_mem clicks x n) in
+        subst (λ (y : Click). line_of g (disks (world_after g (opening empty_disks) es)) y.id ≡ logs.line_of g.queries g.horizon y) h.2
+        (⊎_elim (λ a. a) (λ a. absurd (none_missing h.0 h.1 a.0)) (clicks_are_exact g es c t r rest h.0 h.1))

@@ -1,0 +1,246 @@
+-- The worked run, entry by entry.
+use Rattle.std.proofs.Common.{◌≡◌, inl, inr, ⊎_elim, ℕ, zero, suc, ◌<◌, true, ◌++◌, refl, subst, arith, lit<, lit≤}
+use Rattle.std.proofs.lemmas.Bool.{cases_lt}
+use Rattle.turn_defs.specs.Setting.{IsJoiner}
+use Rattle.turn_defs.specs.Rows.{worked}
+use Rattle.dispatch_core.specs.Dispatcher.{dispatcher_at_rest}
+use Rattle.joiner_core.specs.Joiner.{joiner_at_rest}
+use Rattle.registry_server.specs.Server.{server_at_rest}
+use Rattle.photon_defs.specs.Rest.{UpWith}
+use Rattle.photon_defs.specs.Runs.{IsRun, world_after, opening}
+use Rattle.photon_model.specs.Stores.{empty_disks}
+use Rattle.photon_model.specs.Example.{entries, comes_up, asks, registers, writes, other_site, asked, at_the_end, ClickIsJoined}
+use Rattle.photon_model.proofs.Imaging.{run_append}
+
+pub joiner_7 : IsJoiner worked 7
+joiner_7 = (lit≤ tt, lit< tt)
+
+joiner_8 : IsJoiner worked 8
+joiner_8 = (lit≤ tt, lit< tt)
+
+pub asks_run : IsRun worked (opening empty_disks) (entries (comes_up ++ asks))
+asks_run = (
+  (lit< tt, (refl, tt, tt)),
+  (
+    (lit< tt, ((_, refl), refl, tt), lit≤ tt),
+    (
+      (lit< tt, (refl, tt, tt)),
+      (
+        (lit< tt, ((_, refl), refl, tt), lit≤ tt),
+        (
+          (lit< tt, (refl, tt, tt)),
+          (
+            (lit< tt, ((_, refl), refl, tt), lit≤ tt),
+            (
+              (joiner_7, (refl, tt, tt)),
+              (
+                (joiner_7, ((_, refl), refl, tt), lit≤ tt),
+                (
+                  (lit< tt, (refl, tt, tt)),
+                  (
+                    (lit< tt, ((_, refl), refl, tt), lit≤ tt),
+                    (
+                      (lit< tt, (refl, tt, tt)),
+                      (
+                        (lit< tt, ((_, refl), refl, (((joiner_7, refl), refl), tt)), lit≤ tt),
+                        (
+                          (joiner_7, (refl, tt, inl refl)),
+                          (
+                            (joiner_7, ((_, refl), refl, ((refl, refl), tt)), lit≤ tt),
+                            (
+                              (lit< tt, (refl, tt, inl refl)),
+                              (
+                                (lit< tt, ((_, refl), refl, tt), lit≤ tt),
+                                (
+                                  (lit< tt, (refl, tt, tt)),
+                                  (
+                                    (lit< tt, ((_, refl), refl, ((refl, refl), ((refl, refl), ((refl, refl), tt)))), lit≤ tt),
+                                    tt,
+                                  ),
+                                ),
+                              ),
+                            ),
+                          ),
+                        ),
+                      ),
+                    ),
+                  ),
+                ),
+              ),
+            ),
+          ),
+        ),
+      ),
+    ),
+  ),
+)
+
+joins_run : IsRun worked asked (entries (registers ++ writes))
+joins_run = (
+  (lit< tt, (refl, tt, inl refl)),
+  (
+    (lit< tt, ((_, refl), refl, ((refl, refl), tt)), lit≤ tt),
+    (
+      (lit< tt, (refl, tt, inr (inr (inl refl)))),
+      (
+        (lit< tt, ((_, refl), refl, ((refl, refl), tt)), lit≤ tt),
+        (
+          (lit< tt, (refl, tt, inr (inl refl))),
+          (
+            (lit< tt, ((_, refl), refl, tt), lit≤ tt),
+            (
+              (lit< tt, (refl, tt, inl refl)),
+              (
+                (lit< tt, ((_, refl), refl, ((refl, refl), ((refl, refl), ((refl, refl), tt)))), lit≤ tt),
+                (
+                  (lit< tt, (refl, tt, inl refl)),
+                  (
+                    (lit< tt, ((_, refl), refl, ((refl, refl), tt)), lit≤ tt),
+                    (
+                      (lit< tt, (refl, tt, inr (inr (inl refl)))),
+                      (
+                        (lit< tt, ((_, refl), refl, ((refl, refl), tt)), lit≤ tt),
+                        (
+                          (lit< tt, (refl, tt, inr (inl refl))),
+                          (
+                            (lit< tt, ((_, refl), refl, tt), lit≤ tt),
+                            (
+                              (lit< tt, (refl, tt, inl refl)),
+                              (
+                                (lit< tt, ((_, refl), refl, ((refl, refl), ((refl, refl), tt))), lit≤ tt),
+                                (
+                                  (joiner_7, (refl, tt, inr (inl refl))),
+                                  (
+                                    (joiner_7, ((_, refl), refl, ((refl, refl), tt)), lit≤ tt),
+                                    (
+                                      (lit< tt, (refl, tt, inl refl)),
+                                      (
+                                        (lit< tt, ((_, refl), refl, tt), lit≤ tt),
+                                        (
+                                          (lit< tt, (refl, tt, tt)),
+                                          (
+                                            (lit< tt, ((_, refl), refl, tt), lit≤ tt),
+                                            (
+                                              (lit< tt, (refl, tt, tt)),
+                                              (
+                                                (lit< tt, ((_, refl), refl, tt), lit≤ tt),
+                                                tt,
+                                              ),
+                                            ),
+                                          ),
+                                        ),
+                                      ),
+                                    ),
+                                  ),
+                                ),
+                              ),
+                            ),
+                          ),
+                        ),
+                      ),
+                    ),
+                  ),
+                ),
+              ),
+            ),
+          ),
+        ),
+      ),
+    ),
+  ),
+)
+
+other_run : IsRun worked (world_after worked asked (entries (registers ++ writes))) (entries other_site)
+other_run = (
+  (lit< tt, (refl, tt, tt)),
+  (
+    (lit< tt, ((_, refl), refl, tt), lit≤ tt),
+    (
+      (joiner_8, (refl, tt, tt)),
+      (
+        (joiner_8, ((_, refl), refl, tt), lit≤ tt),
+        (
+          (lit< tt, (refl, tt, tt)),
+          (
+            (lit< tt, ((_, refl), refl, tt), lit≤ tt),
+            (
+              (lit< tt, (refl, tt, inr (inl refl))),
+              (
+                (lit< tt, ((_, refl), refl, tt), lit≤ tt),
+                (
+                  (lit< tt, (refl, tt, tt)),
+                  (
+                    (lit< tt, ((_, refl), refl, (((joiner_8, refl), refl), tt)), lit≤ tt),
+                    (
+                      (joiner_8, (refl, tt, inl refl)),
+                      (
+                        (joiner_8, ((_, refl), refl, ((refl, refl), tt)), lit≤ tt),
+                        (
+                          (lit< tt, (refl, tt, inl refl)),
+                          (
+                            (lit< tt, ((_, refl), refl, ((refl, refl), tt)), lit≤ tt),
+                            (
+                              (joiner_8, (refl, tt, inl refl)),
+                              (
+                                (joiner_8, ((_, refl), refl, ((refl, refl), tt)), lit≤ tt),
+                                (
+                                  (lit< tt, (refl, tt, inl refl)),
+                                  (
+                                    (lit< tt, ((_, refl), refl, tt), lit≤ tt),
+                                    (
+                                      (lit< tt, (refl, tt, tt)),
+                                      (
+                                        (lit< tt, ((_, refl), refl, tt), lit≤ tt),
+                                        (
+                                          (lit< tt, (refl, tt, tt)),
+                                          (
+                                            (lit< tt, ((_, refl), refl, tt), lit≤ tt),
+                                            tt,
+                                          ),
+                                        ),
+                                      ),
+                                    ),
+                                  ),
+                                ),
+                              ),
+                            ),
+                          ),
+                        ),
+                      ),
+                    ),
+                  ),
+                ),
+              ),
+            ),
+          ),
+        ),
+      ),
+    ),
+  ),
+)
+
+-- there are two joiners
+joiner_is : (P : ℕ → Type 0) → P 7 → P 8 → (j : ℕ) → IsJoiner worked j → P j
+joiner_is P a b j is =
+    let low = is.0 in
+    let high = is.1 in
+    ⊎_elim (λ lt. subst P (let e : 7 ≡ j = omega arith in e) a) (λ ge. subst P (let e : 8 ≡ j = omega arith in e) b) (cases_lt j 8)
+
+-- and two sites
+site_is : (P : ℕ → Type 0) → P 0 → P 1 → (s : ℕ) → s < 2 → P s
+site_is P a b zero lt = a
+site_is P a b (suc zero) lt = b
+site_is P a b (suc (suc s)) lt = absurd (omega arith)
+
+pub click_is_joined : ClickIsJoined
+click_is_joined =
+    record {
+      is_run = run_append worked (entries (comes_up ++ asks)) (entries (registers ++ (writes ++ other_site))) (opening empty_disks) asks_run (run_append worked (entries (registers ++ writes)) (entries other_site) asked joins_run other_run);
+      written = refl;
+      not_again = refl;
+      at_rest = record {
+        dispatchers = site_is (λ s. UpWith (λ l. dispatcher_at_rest l ≡ true) (at_the_end.dispatchers s).live) refl refl;
+        joiners = joiner_is (λ j. UpWith (λ l. joiner_at_rest l ≡ true) (at_the_end.joiners j).live) refl refl;
+        servers = site_is (λ s. UpWith (λ l. server_at_rest worked l ≡ true) (at_the_end.servers s).live) refl refl;
+      };
+    }

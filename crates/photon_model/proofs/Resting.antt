@@ -1,0 +1,57 @@
+-- What rest leaves.
+use Rattle.std.proofs.Common.{◌≡◌, ⊎_elim, ℕ, zero, suc, ◌+◌, ◌<◌, ◌≤◌, Bool, true, false, cond, List, [], ◌∷◌, Some, None, refl, sym, ap, ◌∙◌, subst, arith, lit<}
+use Rattle.std.specs.Prelude.{Option, nat_lt, is_none}
+use Rattle.std.proofs.lemmas.Bool.{cases_lt, ltb-false, true≢false}
+use Rattle.registry_state.specs.LookBack.{holder, bound_of}
+use Rattle.turn_defs.specs.Setting.{Setting, Checked, shards}
+use Rattle.turn_defs.specs.Turns.{is_empty}
+use Rattle.joiner_core.specs.Joiner.{JoinerLive, joiner_at_rest}
+use Rattle.registry_server.specs.Server.{ServerLive, first_shard, server_at_rest}
+use Rattle.list_words.specs.Lists.{Mem}
+use Rattle.event_id.specs.declared.id.EventId.{EventId}
+use Rattle.registry_state.specs.declared.Token.{Token}
+use Rattle.photon_defs.specs.Facts.{known}
+use Rattle.photon_defs.specs.Sound.{SoundStore, accepted_inserts, values_of, IsWritten, IsDrained}
+use Rattle.photon_defs.specs.Rest.{UpWith, IsAtRest}
+use Rattle.photon_defs.specs.Runs.{World, Entry, Disks, world_after, IsRun, opening}
+use Rattle.photon_model.specs.EveryRun.{decided_in, HasBounds, IsBoundOk, NoJoinerStops, RestLeaves}
+use Rattle.photon_model.proofs.Running.{rest_drained}
+use Rattle.photon_model.proofs.Agreeing.{every_run_holds, missing_is_old, bound_is_ok}
+
+-- where no number is the first that passes a test, none passes it
+none_passes : (test : ℕ → Bool) (from n : ℕ) → is_none (first_shard test from n) ≡ true → (k : ℕ) → from ≤ k → k < from + n → test k ≡ false
+none_passes test from zero e k a b = absurd (omega arith)
+none_passes test from (suc n) e k a b = go (test from) refl e (none_passes test (suc from) n)
+  where
+    go : (b : Bool) → test from ≡ b → is_none (cond b (Some from) (first_shard test (suc from) n)) ≡ true → (is_none (first_shard test (suc from) n) ≡ true → (k : ℕ) → suc from ≤ k → k < suc from + n → test k ≡ false) → test k ≡ false
+    go true t q ih = absurd (true≢false (sym q))
+    go false t q ih = ⊎_elim (λ lt. ih q k lt (omega arith)) (λ ge. ap test (let same : k ≡ from = omega arith in same) ∙ t) (cases_lt from k)
+
+up_with : {L : Type 0} (P : L → Type 0) (o : Option L) → UpWith P o → (l : L) × (o ≡ Some l) × P l
+up_with P None u = absurd u
+up_with P (Some l) u = (l, refl, u)
+
+no_flights : (l : JoinerLive) → joiner_at_rest l ≡ true → l.flight ≡ []
+no_flights l = go l.flight
+  where
+    go : {A : Type 0} (xs : List A) → is_empty xs ≡ true → xs ≡ []
+    go [] e = refl
+    go (x ∷ xs) e = absurd (true≢false (sym e))
+
+pub rest_is_done : (g : Setting) (d : Disks) (es : List Entry) (old : List ℕ) → Checked g → SoundStore g d → HasBounds g d old → IsRun g (opening d) es → IsAtRest g (world_after g (opening d) es) → RestLeaves g d es old (world_after g (opening d) es)
+rest_is_done g d es old c s has_ r rest = record { drained = drained; bounds = bounds; missing = missing }
+  where
+    w : World
+    w = world_after g (opening d) es
+
+    drained : (k : ℕ) → k < 2 → IsDrained g (w.dispatchers k).kept
+    drained k lt = let h = every_run_holds g d (accepted_inserts g d) es c s r in rest_drained g w h.0 c h.2 k lt (rest.dispatchers k lt)
+
+    bounds : (shard : ℕ) → shard < shards g → (g.horizon ≤ bound_of (decided_in g w shard)) × IsBoundOk g old (bound_of (decided_in g w shard))
+    bounds shard lt =
+        let u = up_with (λ (l : ServerLive). server_at_rest g l ≡ true) (w.servers 0).live (rest.servers 0 (lit< tt)) in
+        let e = none_passes (λ k. nat_lt (bound_of (u.0.shards k).learned) g.horizon) 0 (shards g) u.2 shard (omega arith) (omega arith) in
+        bound_is_ok g d (accepted_inserts g d) old es c s has_ r 0 shard u.0 (lit< tt) u.1 (ltb-false (bound_of (u.0.shards shard).learned) g.horizon e)
+
+    missing : NoJoinerStops es → (i : EventId) (h : Token) → holder (values_of g (known g w []) i) i ≡ Some h → (IsWritten g (known g w []) i → ⊥) → Mem (record { id = i; token = h }) (accepted_inserts g d)
+    missing calm = missing_is_old g d (accepted_inserts g d) es c s r calm (λ j l is up. no_flights l (subst (UpWith (λ (k : JoinerLive). joiner_at_rest k ≡ true)) up (rest.joiners j is)))
