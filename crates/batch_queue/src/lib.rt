@@ -1,6 +1,8 @@
 //! The inserts that wait to be put into a batch of the registry.
 #![tactic(auto)]
 
+ghost use Rattle.batch_queue.specs.Rows.{LastRow, AnsweredRow, LeftRow};
+
 mod answered;
 mod queue;
 #[cfg(test)]
@@ -8,3 +10,10 @@ mod tests;
 
 pub use answered::Answered;
 pub use queue::{BatchQueue, Put};
+
+/// Worked rows: what waits once more, what is answered and what goes on waiting.
+pub fn worked_rows()
+    ensures last { LastRow }
+    ensures answered { AnsweredRow }
+    ensures left { LeftRow }
+{}

@@ -1,6 +1,6 @@
 -- Ids ordered by their times.
-use Rattle.std.specs.Prelude.{◌≡◌, Bool, true, List, Option, is_some}
-use Rattle.std.specs.List.{list_any}
+use Rattle.std.specs.Prelude.{◌≡◌, List, Option, is_some, if◌then◌else◌}
+use Rattle.std.specs.List.{count_by}
 use Rattle.std.specs.Ordering.{nat_cmp, ordering_then}
 use Rattle.std.specs.declared.cmp.Ordering.{Ordering}
 use Rattle.std.specs.declared.cmp.Reverse.{Reverse}
@@ -23,10 +23,6 @@ by_time a b = ordering_then (nat_cmp a.micros b.micros) (ordering_then (nat_cmp 
 abbrev pub later : Reverse ByTime → Reverse ByTime → Ordering
 later a b = by_time b.0 a.0
 
--- whether the id is among them
-abbrev pub has_id : List EventId → EventId → Bool
-has_id ids id = list_any (same_id id) ids
-
--- each id that has a token is among them
-abbrev pub Covers : List EventId → (EventId → Option Token) → Type 0
-Covers ids held = (id : EventId) → is_some (held id) ≡ true → has_id ids id ≡ true
+-- each id that has a token is among them once, and no other is
+abbrev pub Orders : List EventId → (EventId → Option Token) → Type 0
+Orders ids held = (id : EventId) → count_by (same_id id) ids ≡ (if is_some (held id) then 1 else 0)

@@ -3,7 +3,7 @@ ghost use Rattle.std.specs.HashMap.{get, spare};
 ghost use Rattle.event_id.specs.EventId.{is_same as same_id};
 ghost use Rattle.registry_state.specs.Recalls.{above};
 ghost use Rattle.id_expiry.specs.TimeOrder.{ids, room as places};
-ghost use Rattle.id_expiry.specs.Times.{Covers};
+ghost use Rattle.id_expiry.specs.Times.{Orders};
 
 use crate::time_order::TimeOrder;
 use event_id::EventId;
@@ -21,7 +21,8 @@ pub struct TimedRegistry {
     held: HashMap<EventId, Token>,
     times: TimeOrder,
     alloc: Global,
-    ghost covered: { Covers (ids times) (get same_id held) },
+    // So it has no id that was dropped.
+    ghost ordered: { Orders (ids times) (get same_id held) },
 }
 
 impl TimedRegistry {
@@ -178,9 +179,9 @@ impl Replays for TimedRegistry {
 
 // Drops the ids below the bound, the earliest first.
 fn drop_below(held: &mut HashMap<EventId, Token>, times: &mut TimeOrder, bound: u64)
-    requires { Covers (ids times.old) (get same_id held.old) }
+    requires { Orders (ids times.old) (get same_id held.old) }
     ensures kept { (id : _) → get same_id held.new id ≡ above bound id (get same_id held.old id) }
-    ensures covered { Covers (ids times.new) (get same_id held.new) }
+    ensures ordered { Orders (ids times.new) (get same_id held.new) }
     ensures spare { spare held.old ≤ spare held.new }
     ensures places { places times.old ≤ places times.new }
 {

@@ -4,7 +4,7 @@ use Rattle.event_id.specs.EventId.{is_same as same_id}
 use Rattle.registry_state.proofs.Learning.{claims, claims_new, claims_old, claims_held, succeeded}
 use Rattle.id_expiry.specs.TimeOrder.{ids}
 use Rattle.id_expiry.specs.Timed.{token_of}
-use Rattle.id_expiry.proofs.Covered.{covers_more}
+use Rattle.id_expiry.proofs.Ordered.{orders_more}
 use Rattle.id_expiry.proofs.timed.TimedRegistry.claim.Goals as goal
 use Rattle.id_expiry.proofs.timed.TimedRegistry.claim.Goals.{else-insert-self-via-then-insert-self+else-not-contains_key, else-insert-self-via-else-insert-self}
 
@@ -12,7 +12,7 @@ pub invariant_of-self : goal.invariant_of-self
 invariant_of-self c =
     let old = c.args.self.now in
     let put = succeeded c.insert.result _ (c.insert.ensures.succeeds (omega (arith, c.requires))) c.insert.ensures.updates in
-    record { covered = covers_more (ids old.times) (ids c.push.new.self) (get same_id old.held) (get same_id c.insert.new.self) c.args.insert.id c.args.insert.token c.push.ensures.ids put.0 old.covered }
+    record { ordered = orders_more (ids old.times) (ids c.push.new.self) (get same_id old.held) (get same_id c.insert.new.self) c.args.insert.id c.args.insert.token c.push.ensures.ids (search rules) put.0 old.ordered }
 
 pub returns-then-not-contains_key-clause-known : goal.returns-then-not-contains_key-clause-known
 returns-then-not-contains_key-clause-known c = λ applied bound inserts k.
