@@ -157,6 +157,10 @@ answers-are vs v = all_answers vs v v.inserts
 
 -- ---- the three ways of a claim
 
+pub nobody : {A : Type 0} (o : Option A) → is_some o ≡ false → o ≡ None
+nobody None h = refl
+nobody (Some h) e = absurd (true≢false e)
+
 self : (was : EventId → Option Token) (x : Insert) (i : EventId) (t : Bool) → same_id x.id i ≡ t → was i ≡ cond t (was x.id) (was i)
 self was x i true e = ap was (sym (same_id-true x.id i e))
 self was x i false e = refl
@@ -172,10 +176,6 @@ claims_new bound was held x le none f =
       λ i. others was held x i (same_id x.id i) here (f i),
       here ∙ sym (cond-false (nat_lt x.id.micros bound) None (or_else (was x.id) (Some x.token)) (le-ltb x.id.micros bound le) ∙ ap (λ o. or_else o (Some x.token)) (nobody (was x.id) none)),
     )
-  where
-    nobody : (o : Option Token) → is_some o ≡ false → o ≡ None
-    nobody None h = refl
-    nobody (Some h) e = absurd (true≢false e)
 
 -- the id is below the bound
 pub claims_old : (bound : ℕ) (was : EventId → Option Token) (vs : List Batch) (x : Insert) → Recalls bound was vs → x.id.micros < bound → Claims bound was was x

@@ -14,7 +14,7 @@ mod replays;
 pub use answers::Answers;
 use event_id::EventId;
 pub use registry::{Registry, against};
-pub use replays::Replays;
+pub use replays::{Replays, answer_each};
 
 #[cfg(test)]
 mod examples;

@@ -1,8 +1,8 @@
-ghost use Rattle.std.specs.Prelude.{◌≡◌, ◌++◌, ◌∷◌, [], ◌+◌, ◌≤◌, ◌<◌, length, map, vec_len, unwrap_or, IfOk, OnOk, OnErr, if◌then◌else◌};
+ghost use Rattle.std.specs.Prelude.{◌≡◌, ◌++◌, ◌∷◌, [], ◌+◌, ◌≤◌, ◌<◌, length, IfOk, OnOk, OnErr, if◌then◌else◌};
 ghost use Rattle.registry_state.specs.Same.{same_token};
 ghost use Rattle.registry_state.specs.LookBack.{bound_of, first_in, holder, or_else, replay};
 
-use crate::{Answer, Answers, Batch, Insert, Replays, Token};
+use crate::{Answer, Answers, Batch, Insert, Replays, Token, answer_each};
 use event_id::EventId;
 use std::alloc::{AllocError, Global};
 use std::collections::HashMap;
@@ -46,7 +46,7 @@ impl Registry {
         let blank = vec![in self.alloc; Answer::Granted; inserts.len()]?;
         self.make_room(batch)?;
         self.learn(batch);
-        Ok(self.answers(inserts, blank))
+        Ok(answer_each(self, inserts, blank))
     }
 
     /// Makes room for the ids of a batch, so that it can be learned. It changes nothing else.
@@ -111,18 +111,6 @@ impl Registry {
         ensures { (applied : _) → Knows self.now applied → result ≡ bound_of applied }
     {
         self.bound
-    }
-
-    // The answer to each insert, once the batch that has them is applied, written over the blank answers.
-    fn answers(&self, inserts: &[Insert], mut blank: Vec<Answer>) -> Answers
-        requires { vec_len blank ≡ length inserts.now }
-        ensures { (applied : _) → Knows self.now applied → result ≡ map (λ x. unwrap_or (replay applied x.id x.token) Answer.Granted) inserts.now }
-    {
-        for (k, insert) in inserts.iter().enumerate() {
-            let answer = self.replay(insert.id, insert.token);
-            blank[k] = answer.unwrap_or(Answer::Granted);
-        }
-        Answers::from(blank)
     }
 
     // The token that has the id, or else that of the batch's earliest insert of it.

@@ -6,6 +6,6 @@ use Rattle.registry_state.proofs.registry.Registry.apply.Goals as goal
 pub returns-clause-answers : goal.returns-clause-answers
 returns-clause-answers c = λ applied k.
     let known : Knows c.learn.new.self (applied ++ c.args.batch.now ∷ []) = c.learn.ensures.known applied (c.in_ok-make_room.ensures.known applied k) in
-    let e = c.answers.ensures (applied ++ c.args.batch.now ∷ []) known in
+    let e = c.answer_each.ensures (applied ++ c.args.batch.now ∷ []) known in
     let f = answers-are applied c.args.batch.now in
     cc

@@ -1,0 +1,3 @@
+pub mod Waiting
+pub mod Queue
+pub mod Rows

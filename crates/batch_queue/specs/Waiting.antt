@@ -1,0 +1,32 @@
+-- Inserts that wait, in the order in which they came.
+use Rattle.std.specs.Prelude.{◌≡◌, Bool, false, List, [], ◌∷◌, ◌++◌, length, map, filter, not, is_some, if◌then◌else◌, Option}
+use Rattle.std.specs.List.{IsDistinct, filter_map, list_any}
+use Rattle.std.specs.Option.{option_map}
+use Rattle.registry_state.specs.declared.Token.{Token}
+use Rattle.registry_state.specs.declared.Insert.{Insert}
+use Rattle.registry_state.specs.declared.Answer.{Answer}
+use Rattle.registry_state.specs.Same.{same_token}
+
+-- whether an insert of the token is among them
+abbrev pub has_token : List Insert → Token → Bool
+has_token xs t = list_any (λ x. same_token t x.token) xs
+
+-- no two of them have one token
+abbrev pub IsOnce : List Insert → Type 0
+IsOnce xs = IsDistinct same_token (map (λ x. x.token) xs)
+
+-- one more stands last, unless its token is there
+abbrev pub with_last : List Insert → Insert → List Insert
+with_last xs x = if has_token xs x.token then xs else xs ++ x ∷ []
+
+-- there are as many as may wait, and the token is not among them
+abbrev pub HasNoPlace : List Insert → Insert → Type 0
+HasNoPlace xs x = (length xs ≡ 4096) × (has_token xs x.token ≡ false)
+
+-- those that have an answer, each with it
+abbrev pub answered : (Insert → Option Answer) → List Insert → List (Insert × Answer)
+answered answer xs = filter_map (λ x. option_map (λ a. (x, a)) (answer x)) xs
+
+-- those that have none
+abbrev pub unanswered : (Insert → Option Answer) → List Insert → List Insert
+unanswered answer xs = filter (λ x. not (is_some (answer x))) xs

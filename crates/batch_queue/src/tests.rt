@@ -1,0 +1,69 @@
+use super::*;
+use event_id::EventId;
+use registry_state::{Answer, Insert, Registry, Token};
+use std::alloc::AllocError;
+use std::test::Fail;
+
+fn insert(micros: u64, number: u64) -> Insert {
+    Insert {
+        id: EventId {
+            ip: 0x0A00_0002,
+            pid: 9,
+            micros,
+        },
+        token: Token {
+            joiner: 7,
+            epoch: 1,
+            number,
+        },
+    }
+}
+
+// What putting an insert in answers, once there is room.
+fn put(queue: &mut BatchQueue, insert: Insert) -> Result<Result<(), Put>, AllocError> {
+    queue.make_room()?;
+    Ok(queue.put(insert))
+}
+
+#[test]
+fn the_4097th_finds_no_place(rt: HostRuntime) -> Result<(), Fail> {
+    let mut queue = BatchQueue::new(rt.alloc());
+    assert!(rt; queue.is_empty());
+    for number in 0..4096 {
+        assert_eq!(rt; put(&mut queue, insert(5, number))?, Ok(()));
+    }
+    assert_eq!(rt; queue.len(), 4096);
+    let late = insert(5, 4096);
+    assert_eq!(rt; put(&mut queue, late)?, Err(Put::Full(late)));
+    assert_eq!(rt; put(&mut queue, insert(5, 4095))?, Ok(()));
+    assert_eq!(rt; queue.len(), 4096);
+    Ok(())
+}
+
+#[test]
+fn three_wait(rt: HostRuntime) -> Result<(), Fail> {
+    let mut queue = BatchQueue::new(rt.alloc());
+    let all = [insert(5, 2), insert(5, 0), insert(6, 1)];
+    for next in all {
+        assert_eq!(rt; put(&mut queue, next)?, Ok(()));
+    }
+    assert_eq!(rt; put(&mut queue, all[1])?, Ok(()));
+    let whole = queue.front_batch(3, 64)?;
+    assert_eq!(rt; whole.bound, 3);
+    assert_eq!(rt; whole.inserts.as_slice(), all.as_slice());
+
+    let first = queue.front_batch(3, 1)?;
+    let mut registry = Registry::new(rt.alloc());
+    let answered = queue.answered(&registry, &first)?;
+    let wanted = [
+        (all[0], Answer::Granted),
+        (all[1], Answer::Duplicate(all[0].token)),
+    ];
+    assert_eq!(rt; answered.as_slice(), wanted.as_slice());
+
+    registry.apply(&first)?;
+    queue.drop_answered(&registry);
+    let left = queue.front_batch(0, 64)?;
+    assert_eq!(rt; left.inserts.as_slice(), [all[2]].as_slice());
+    Ok(())
+}

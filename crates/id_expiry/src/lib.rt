@@ -1,0 +1,10 @@
+//! A registry that keeps its ids by time too, so that those below a bound are found without a look at the others.
+#![tactic(auto)]
+
+mod by_time;
+#[cfg(test)]
+mod tests;
+mod time_order;
+mod timed;
+
+pub use timed::TimedRegistry;
