@@ -3,8 +3,9 @@
 
 usage: bench/parts.py [COUNT]      (default: 1000000)
 
-The program `bench_parts` does one part COUNT times: `apply` (inserts in batches of 64), `replay` (each insert asked once
-more, behind the applying), `encode` and `decode` (an Insert packet). Each is timed as a process, the best of three, less the same
+The program `bench_parts` does one part COUNT times: `apply` (inserts in batches of 64), `apply_timed` (the same where the ids
+are kept by time, under a bound that rises with each batch), `replay` (each insert asked once more, behind the applying),
+`encode` and `decode` (an Insert packet). Each is timed as a process, the best of three, less the same
 process with the part `none`. Where there is no rustc the Rust column is left out. Nothing is written outside a temporary folder.
 """
 import os
@@ -19,7 +20,8 @@ CRATE = os.path.join(TOP, "crates/bench_parts")
 PARTS = ["apply", "apply_timed", "replay", "encode", "decode"]
 
 RUST = r"""
-use std::collections::HashMap;
+use std::cmp::Reverse;
+use std::collections::{BinaryHeap, HashMap};
 type Id = (u32, u32, u64);
 type Token = (u16, u32, u64);
 fn insert(n: u32) -> (Id, Token) {
@@ -37,6 +39,26 @@ fn apply_all(count: u32) -> (HashMap<Id, Token>, u64) {
         granted += answers.iter().filter(|a| **a).count() as u64;
     }
     (held, granted)
+}
+fn apply_timed(count: u32) -> u64 {
+    let mut held: HashMap<Id, Token> = HashMap::new();
+    let mut times: BinaryHeap<Reverse<(u64, Id)>> = BinaryHeap::new();
+    let mut granted = 0;
+    for number in 0..count / 64 {
+        let bound = ((number * 64) as u64).saturating_sub(10_000);
+        while times.peek().is_some_and(|first| first.0 .0 < bound) {
+            let Reverse((_, id)) = times.pop().unwrap();
+            held.remove(&id);
+        }
+        let answers: Vec<bool> = batch(number).iter().map(|(id, token)| {
+            if id.2 < bound { return false; }
+            let new = !held.contains_key(id);
+            if new { held.insert(*id, *token); times.push(Reverse((id.2, *id))); }
+            held[id] == *token
+        }).collect();
+        granted += answers.iter().filter(|a| **a).count() as u64;
+    }
+    granted
 }
 fn encode(n: u32) -> Vec<u8> {
     let (id, token) = insert(n);
@@ -60,7 +82,8 @@ fn main() {
     let words: Vec<String> = std::env::args().collect();
     let count: u32 = words[2].parse().unwrap();
     let done = match words[1].as_str() {
-        "apply" | "apply_timed" => apply_all(count).1,
+        "apply" => apply_all(count).1,
+        "apply_timed" => apply_timed(count),
         "replay" => {
             let (held, _) = apply_all(count);
             (0..count / 64 * 64).filter(|n| { let (id, token) = insert(*n); held.get(&id) == Some(&token) }).count() as u64

@@ -45,6 +45,7 @@ fn work(alloc: Global, part: &str, count: u32) -> Result<Option<u64>, AllocError
     Ok(match part {
         "none" => Some(0),
         "apply" => Some(registry::apply(alloc, count)?),
+        "apply_timed" => Some(registry::apply_timed(alloc, count)?),
         "replay" => Some(registry::replay(alloc, count)?),
         "encode" => Some(packets::encoded(alloc, count)?),
         "decode" => Some(packets::decoded(alloc, count)?),

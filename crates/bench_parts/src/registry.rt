@@ -1,17 +1,21 @@
 // Batches of 64 inserts, applied and asked again.
 use event_id::EventId;
+use id_expiry::TimedRegistry;
 use registry_state::{Answer, Batch, Insert, Inserts, Registry, Token};
 use std::alloc::{AllocError, Global};
 
 /// How many inserts a batch has.
 const BATCH: u32 = 64;
 
+/// How far behind the newest id the bound lies where it rises, in microseconds.
+const KEPT: u64 = 10_000;
+
 /// Applies batches with this many inserts in all, rounded down to whole batches, and answers how many were granted.
 pub fn apply(alloc: Global, count: u32) -> Result<u64, AllocError> {
     let mut registry = Registry::new(alloc);
     let mut granted: u64 = 0;
     for number in 0..count / BATCH {
-        let answers = registry.apply(&batch(alloc, number)?)?;
+        let answers = registry.apply(&batch(alloc, number, 0)?)?;
         for answer in answers.as_slice() {
             if *answer == Answer::Granted {
                 granted = granted.wrapping_add(1);
@@ -21,11 +25,27 @@ pub fn apply(alloc: Global, count: u32) -> Result<u64, AllocError> {
     Ok(granted)
 }
 
-/// The same, and then asks for each insert once more.
+/// The same in a registry that keeps its ids by time, under a bound that rises with each batch.
+pub fn apply_timed(alloc: Global, count: u32) -> Result<u64, AllocError> {
+    let mut registry = TimedRegistry::new(alloc);
+    let mut granted: u64 = 0;
+    for number in 0..count / BATCH {
+        let bound = u64::from(number.wrapping_mul(BATCH)).saturating_sub(KEPT);
+        let answers = registry.apply(&batch(alloc, number, bound)?)?;
+        for answer in answers.as_slice() {
+            if *answer == Answer::Granted {
+                granted = granted.wrapping_add(1);
+            }
+        }
+    }
+    Ok(granted)
+}
+
+/// Applies them as at first, and then asks for each insert once more.
 pub fn replay(alloc: Global, count: u32) -> Result<u64, AllocError> {
     let mut registry = Registry::new(alloc);
     for number in 0..count / BATCH {
-        registry.apply(&batch(alloc, number)?)?;
+        registry.apply(&batch(alloc, number, 0)?)?;
     }
     let mut granted: u64 = 0;
     for number in 0..count / BATCH * BATCH {
@@ -37,12 +57,12 @@ pub fn replay(alloc: Global, count: u32) -> Result<u64, AllocError> {
     Ok(granted)
 }
 
-fn batch(alloc: Global, number: u32) -> Result<Batch, AllocError> {
+fn batch(alloc: Global, number: u32, bound: u64) -> Result<Batch, AllocError> {
     let mut inserts = Inserts::new(alloc);
     for k in 0..BATCH {
         inserts.push(insert(number.wrapping_mul(BATCH).wrapping_add(k)))?;
     }
-    Ok(Batch { bound: 0, inserts })
+    Ok(Batch { bound, inserts })
 }
 
 // Clicks of one server and 64 processes, under the tokens of one joiner.
