@@ -1,2 +1,4 @@
 pub mod Least
 pub mod Parcels
+pub mod Counts
+pub mod Sending

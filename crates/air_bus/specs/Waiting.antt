@@ -24,12 +24,12 @@ abbrev pub replica_number : List Kind → ℕ → ℕ
 replica_number kinds n = count_by is_replica (take n kinds)
 
 -- the plan has at most one dead replica, which takes no turn
-abbrev pub is_dead : PlanView → List Kind → ℕ → Bool
-is_dead plan kinds n = is_replica (kind_at kinds n) && option_map_or (λ d. replica_number kinds n == d) plan.dead false
+abbrev pub is_dead : Option ℕ → List Kind → ℕ → Bool
+is_dead dead kinds n = is_replica (kind_at kinds n) && option_map_or (λ d. replica_number kinds n == d) dead false
 
 -- what becomes of a link's packet of this ordinal: a dead replica gets none
 abbrev pub link_fate : PlanView → List Kind → ℕ → ℕ → ℕ → Fate
-link_fate plan kinds from to ordinal = if is_dead plan kinds to then Drop else fate_of plan.rules (kind_at kinds from) (kind_at kinds to) ordinal
+link_fate plan kinds from to ordinal = if is_dead plan.dead kinds to then Drop else fate_of plan.rules (kind_at kinds from) (kind_at kinds to) ordinal
 
 -- what a node was sent so far: the copies that wait, and the senders of all packets to it, lost ones too
 pub record Received : Type 0 where
@@ -43,6 +43,11 @@ nothing = record { copies = []; senders = [] }
 -- the number of packets that the link from this sender had so far
 abbrev pub ordinal : ℕ → Received → ℕ
 ordinal from r = count_by (λ s. s == from) r.senders
+
+-- a turn that begins with a packet takes the next copy
+abbrev pub taken_by : Input → Received → Received
+taken_by (Packet from bytes) r = record r { copies = left_by r.copies }
+taken_by _ r = r
 
 module _ (plan : PlanView) (kinds : List Kind) (n : ℕ) where
   -- the copies of the link's next packet: none of a packet that found no room
@@ -62,14 +67,10 @@ module _ (plan : PlanView) (kinds : List Kind) (n : ℕ) where
   puts from [] kept r = r
   puts from (p ∷ ps) kept r = puts from ps (kept - 1) (one_packet from (nat_lt 0 kept) r p)
 
-  abbrev pub taken_by : Input → Received → Received
-  taken_by (Packet from bytes) r = record r { copies = left_by r.copies }
-  taken_by _ r = r
-
   -- what the node was sent after one more entry
   abbrev pub after_entry : Received → Entry → Received
   after_entry r (Begin m i) = if m == n then taken_by i r else r
-  after_entry r (End m note ps kept) = puts m ps kept r
+  after_entry r (End m noted packets kept) = puts m packets kept r
   after_entry r (Stop m landed) = r
 
   abbrev pub received : List Entry → Received

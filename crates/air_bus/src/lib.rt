@@ -2,9 +2,15 @@
 //! faults says what becomes of each.
 #![tactic(auto)]
 
+mod air;
 mod entry;
+mod inbox;
+mod links;
+mod nodes;
 mod payload;
 mod queue;
+mod send;
 
+pub use air::Air;
 pub use entry::{Entry, Input, Phase};
 pub use payload::{Packets, Payload};
