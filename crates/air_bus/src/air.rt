@@ -98,8 +98,9 @@ impl Air {
         let at = usize::from(node);
         let phase = self.phases[at];
         let chosen = choose(&mut self.inboxes, at, phase, wants, tick)?;
-        let Some(input) = chosen else {
-            return Ok(None);
+        let input = match chosen {
+            Some(input) => input,
+            None => return Ok(None),
         };
         let noted = input.share()?;
         leave(&mut self.inboxes, at, &input);

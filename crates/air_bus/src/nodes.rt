@@ -1,11 +1,11 @@
 //! What the calls on the Air do at one node, or at all.
-ghost use Rattle.std.specs.Prelude.{◌≡◌, ◌<◌, ℕ, IfOk, IfErr, OnErr, length, slice_index_or, sum_by, vec_len, true, false, ◌≢◌, []};
+ghost use Rattle.std.specs.Prelude.{◌≡◌, ◌<◌, ℕ, IfOk, length, slice_index_or, sum_by, true, false, [], ◌==◌, if◌then◌else◌};
 ghost use Rattle.air_bus.specs.declared.entry.Phase.TheVariants.{Down, Idle};
 ghost use Rattle.air_bus.specs.declared.inbox.Inbox.{Inbox};
 ghost use Rattle.air_bus.specs.Airs.{open_of};
 ghost use Rattle.air_bus.specs.Copies.{next_copy};
 ghost use Rattle.air_bus.specs.History.{next_input};
-ghost use Rattle.air_bus.specs.Inboxes.{Keeps, Turns, AllTurn};
+ghost use Rattle.air_bus.specs.Inboxes.{Keeps, AllTurn};
 ghost use Rattle.air_bus.specs.Waiting.{Received, nothing, is_dead, taken_by};
 
 use crate::entry::{Input, Phase};
@@ -45,7 +45,7 @@ pub(crate) fn choose(
     tick: bool,
 ) -> Result<Option<Input>, AllocError>
     requires { at < length inboxes.old.items }
-    ensures answer { IfOk result (λ i. (nodes : ℕ) (d : Inbox) (r : Received) → Keeps nodes (slice_index_or inboxes.old.items at d) r → i ≡ next_input phase (next_copy r.copies) tick wants) }
+    ensures answer { IfOk result (λ i. (nodes : ℕ) (r : Received) → ((d : Inbox) → Keeps nodes (slice_index_or inboxes.old.items at d) r) → i ≡ next_input phase (next_copy r.copies) tick wants) }
     ensures same { AllTurn inboxes.old.items inboxes.new.items (λ n r. r) }
     ensures many { length inboxes.new.items ≡ length inboxes.old.items }
 {
@@ -56,8 +56,7 @@ pub(crate) fn choose(
 // Takes the packet out that the node's input is.
 pub(crate) fn leave(inboxes: &mut Vec<Inbox>, at: usize, input: &Input)
     requires { at < length inboxes.old.items }
-    ensures here { (d : Inbox) → Turns (slice_index_or inboxes.old.items at d) (slice_index_or inboxes.new.items at d) (taken_by input.now) }
-    ensures else_where { (n : ℕ) (d : Inbox) → n ≢ at → slice_index_or inboxes.new.items n d ≡ slice_index_or inboxes.old.items n d }
+    ensures taken { AllTurn inboxes.old.items inboxes.new.items (λ n r. if at == n then taken_by input.now r else r) }
     ensures many { length inboxes.new.items ≡ length inboxes.old.items }
 {
     let inbox = &mut inboxes[at];

@@ -41,5 +41,5 @@ returns-in-Err-clause-sent c =
     let below : p.0 < length mids = omega (arith, subst (λ (q : ℕ × List ℕ). q.0 < length c.args.links.now.kinds.items) (sym c.packet-item.is) (c.requires.to c.loop-packet.packet-index p c.loop-packet-test.true), nodes) in
     let at : c.from.result < length mids = omega (arith, below, c.from.ensures) in
     subst (λ k. AllTurn c.args.inboxes.now.items (set mids c.from.result c.receive.new.self) (λ n r. fold (one_packet c.args.links.now.plan c.args.links.now.kinds.items n c.args.from true) r (take k c.args.packets.now)))
-      (sym i.kept) (turn_back c.args.links.now.plan c.args.links.now.kinds.items c.args.inboxes.now.items mids c.from.result x c.receive.new.self
+      (sym i.kept) (turn_back c.args.inboxes.now.items mids c.from.result x c.receive.new.self
         (λ n r. fold (one_packet c.args.links.now.plan c.args.links.now.kinds.items n c.args.from true) r (take c.loop-packet.packet-index c.args.packets.now)) at i.nodes c.index_mut-inbox.ensures.value c.in-Err.ensures.err i.sent)
