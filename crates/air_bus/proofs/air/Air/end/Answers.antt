@@ -1,0 +1,31 @@
+use Rattle.std.proofs.Common.{◌≡◌, ◌+◌, ◌-◌, ◌<◌, ◌≤◌, length, get_or, refl, sym, ap, ◌∙◌, subst, arith}
+use Rattle.std.specs.Prelude.{vec_len, vec_capacity}
+use Rattle.air_bus.specs.declared.entry.Entry.TheVariants.{End}
+use Rattle.air_bus.specs.declared.entry.Phase.TheVariants.{Down, Idle, Busy}
+use Rattle.air_bus.specs.Airs.{open_of}
+use Rattle.air_bus.specs.Inboxes.{AllTurn}
+use Rattle.air_bus.specs.Waiting.{puts}
+use Rattle.air_bus.specs.History.{phase}
+use Rattle.air_bus.proofs.Phases.{busy_counts}
+use Rattle.air_bus.proofs.Agreeing.{agrees_more}
+use Rattle.air_bus.proofs.air.Air.end.Goals as goal
+
+pub invariant_of-self : goal.invariant_of-self
+invariant_of-self c =
+    let a = c.self.inside in
+    let h = a.history.items in
+    let plan = a.links.plan in
+    let kinds = a.links.kinds.items in
+    let ps = a.phases.items in
+    let kept = c.send-kept.result in
+    let may : phase c.args.node h ≡ Busy = ap (phase c.args.node) (ap (λ f. f.history) c.self.view_is) ∙ c.requires.busy in
+    let inside : c.args.node < length kinds = omega (arith, ap length (ap (λ f. f.kinds) c.self.view_is), c.requires.node) in
+    let below : c.args.node < length ps = omega (arith, inside, c.self.invariant.phase_many) in
+    let some = busy_counts ps c.args.node below (c.self.invariant.phase_each c.args.node ∙ may) in
+    let opened = ap open_of may in
+    let few : kept ≤ length c.args.packets = omega (arith, c.send-kept.ensures.kept, ap length c.as_slice.ensures) in
+    let sent = subst (λ packets. AllTurn a.inboxes.items c.send-kept.new.inboxes.items (λ n. puts plan kinds n c.args.node packets kept)) c.as_slice.ensures c.send-kept.ensures.sent in
+    agrees_more plan kinds ps a.busy a.inboxes.items h (vec_len a.history) (vec_capacity a.history) c.self.invariant
+      (End c.args.node c.args.note c.args.packets kept) c.from.result Idle (a.busy - 1) c.send-kept.new.inboxes.items c.push_reserved.new.self.items (vec_len c.push_reserved.new.self) (vec_capacity c.push_reserved.new.self)
+      c.from.ensures inside refl (omega (arith, opened, some, c.self.invariant.counted)) (omega (arith, some, c.self.invariant.counted, c.self.invariant.closes, c.push_reserved.ensures.len, c.push_reserved.ensures.capacity))
+      c.push_reserved.ensures.items (may, few) c.send-kept.ensures.nodes sent

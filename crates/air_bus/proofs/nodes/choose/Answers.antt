@@ -1,0 +1,21 @@
+use Rattle.std.proofs.Common.{◌≡◌, ℕ, Ok, Err, get_or, refl, sym, subst}
+use Rattle.std.specs.Prelude.{Result, IfOk}
+use Rattle.air_bus.specs.Inboxes.{Keeps}
+use Rattle.air_bus.specs.Copies.{next_copy}
+use Rattle.air_bus.specs.History.{next_input}
+use Rattle.air_bus.specs.Waiting.{Received}
+use Rattle.air_bus.proofs.Sending.{turn_back}
+use Rattle.air_bus.proofs.nodes.choose.Goals as goal
+
+if_ok_more : {T E : Type 0} (r : Result T E) (P Q : T → Type 0) → ((v : T) → P v → Q v) → IfOk r P → IfOk r Q
+if_ok_more (Ok v) P Q h p = h v p
+if_ok_more (Err e) P Q h p = p
+
+pub returns-clause-answer : goal.returns-clause-answer
+returns-clause-answer c = if_ok_more c.choose.result _ _
+    (λ i told nodes r keeps. told nodes r (subst (λ x. Keeps nodes x r) (sym c.index_mut-inbox.ensures.value) (keeps c.index_mut-inbox.result.now)))
+    c.choose.ensures.answer
+
+pub returns-clause-same : goal.returns-clause-same
+returns-clause-same c = turn_back c.args.inboxes.now.items c.args.inboxes.now.items c.args.at c.index_mut-inbox.result.now c.choose.new.self (λ n r. r) c.requires refl c.index_mut-inbox.ensures.value c.choose.ensures.same
+    (λ n d below nodes r k. k)

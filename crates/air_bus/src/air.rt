@@ -1,0 +1,158 @@
+//! The history of a run, and what waits between its nodes.
+ghost use Rattle.std.specs.Prelude.{◌≡◌, ◌≢◌, ℕ, ◌+◌, ◌<◌, ◌≤◌, ◌^◌, ◌↔◌, [], ◌∷◌, ◌++◌, length, IfOk, OnErr, IsTrue, MatchOption};
+ghost use Rattle.std.specs.List.{All};
+ghost use Rattle.air_bus.specs.declared.entry.Entry.TheVariants.{Begin, End, Stop};
+ghost use Rattle.air_bus.specs.declared.entry.Phase.TheVariants.{Busy};
+ghost use Rattle.air_bus.specs.History.{phase, input_of, adds, IsQuiet, IsAired};
+
+use crate::entry::{Entry, Input, Phase};
+use crate::inbox::Inbox;
+use crate::links::Links;
+use crate::nodes::{all_down, all_empty, all_idle, choose, empty_inboxes, leave};
+use crate::payload::{Packets, Payload};
+use crate::send::send;
+use lossy_link::{Kind, Plan};
+use std::alloc::{AllocError, Global};
+use std::marker::Model;
+
+/// What is between the nodes of a run: the history of their turns, and the packets that wait. Contracts see the kinds of
+/// the nodes, the plan and the history; the nodes have the numbers from 0 in the order of their kinds.
+///
+/// An entry takes less than 100 bytes beside its payloads and its list of packets, and a payload's bytes are stored once:
+/// history, inboxes and answers share them. Each link from a node to a node takes 8 bytes for its count of packets.
+#[derive(Drop)]
+pub struct Air {
+    links: Links,
+    phases: Vec<Phase>,
+    // How many turns are open. The history has room for an entry that closes each.
+    busy: usize,
+    inboxes: Vec<Inbox>,
+    history: Vec<Entry>,
+}
+
+impl Model for Air {
+    ghost use Rattle.std.specs.Prelude.{vec_len, vec_capacity};
+    ghost use Rattle.air_bus.specs.History.{Flight};
+    ghost use Rattle.air_bus.specs.Airs.{Agrees};
+
+    ghost Value = { Flight };
+
+    ghost view = { λ a. record { kinds = a.links.kinds.items; plan = a.links.plan; history = a.history.items } };
+
+    ghost invariant = { λ a. Agrees a.links.plan a.links.kinds.items a.phases.items a.busy a.inboxes.items a.history.items (vec_len a.history) (vec_capacity a.history) };
+}
+
+impl Air {
+    /// An Air of nodes of these kinds, all down, without a turn yet. It takes memory for each node and each link.
+    pub fn new(alloc: Global, nodes: &[Kind], plan: Plan) -> Result<Air, AllocError>
+        ensures { IfOk result (λ a. a ≡ record { kinds = nodes.now; plan = plan; history = [] }) }
+    {
+        let links = Links::new(alloc, nodes, plan)?;
+        let phases = all_down(alloc, nodes.len())?;
+        let inboxes = empty_inboxes(alloc, nodes.len())?;
+        Ok(Air {
+            links,
+            phases,
+            busy: 0,
+            inboxes,
+            history: Vec::new(alloc),
+        })
+    }
+
+    /// The entries so far, one of each call that opened or closed a turn, in constant time.
+    pub fn history(&self) -> &[Entry]
+        ensures { result.now ≡ self.now.history }
+    {
+        &self.history
+    }
+
+    /// Shows that each entry of the history may follow those before it.
+    pub fn law(&self)
+        ensures { IsAired self.now.plan self.now.kinds self.now.history }
+    {
+        let _ = &self.history;
+    }
+
+    /// Opens a turn of the node where it has something to take: a node that is down starts; else it gets the first of the
+    /// packets of least delay that wait for it; else a tick where `tick` is set; else its own work where it `wants`. Of
+    /// the packets that are left each positive delay is then one less. Where there is nothing no turn opens.
+    ///
+    /// It takes memory for this entry and for the one that closes the turn, and with an error nothing has changed. Of an
+    /// inbox of n packets it takes one in O(log n), and moves each whose delay is over to those without delay, once for
+    /// each packet, in O(log n).
+    pub fn begin(
+        &mut self,
+        node: u16,
+        wants: bool,
+        tick: bool,
+    ) -> Result<Option<Input>, AllocError>
+        requires node { node < length self.old.kinds }
+        requires closed { phase node self.old.history ≢ Busy }
+        ensures answer { IfOk result (λ input. input ≡ input_of self.old node tick wants) }
+        ensures entry { IfOk result (λ input. MatchOption input (self.new ≡ self.old) (λ i. self.new ≡ adds self.old (Begin node i))) }
+        ensures err { OnErr result (self.new ≡ self.old) }
+        ensures short { length self.new.history < 2 ^ 63 }
+    {
+        // One place is for this entry, and one for the entry that closes the turn.
+        self.history.reserve(self.busy + 2)?;
+        let at = usize::from(node);
+        let phase = self.phases[at];
+        let chosen = choose(&mut self.inboxes, at, phase, wants, tick)?;
+        let input = match chosen {
+            Some(input) => input,
+            None => return Ok(None),
+        };
+        let noted = input.share()?;
+        leave(&mut self.inboxes, at, &input);
+        self.history
+            .push_reserved(Entry::Begin { node, input: noted });
+        self.phases[at] = Phase::Busy;
+        self.busy += 1;
+        Ok(Some(input))
+    }
+
+    /// Closes the open turn of the node with the note that it wrote, and sends its packets, in order. What becomes of each
+    /// is the plan's fate of its number among the packets of its link; none goes to a dead replica. From the first packet
+    /// on for which an inbox can't grow they are lost, and the entry tells the number of those before it; they count in
+    /// their links all the same.
+    ///
+    /// The history needs no memory. A packet costs O(log n) in an inbox of n, and the bytes of none are copied.
+    pub fn end(&mut self, node: u16, note: Option<Payload>, packets: Packets)
+        requires node { node < length self.old.kinds }
+        requires busy { phase node self.old.history ≡ Busy }
+        requires receivers { All (λ p. p.0 < length self.old.kinds) packets }
+        ensures entry { (kept : ℕ) × (kept ≤ length packets) × (self.new ≡ adds self.old (End node note packets kept)) }
+        ensures short { length self.new.history < 2 ^ 63 }
+    {
+        let kept = send(&mut self.inboxes, &self.links, node, packets.as_slice());
+        self.history.push_reserved(Entry::End {
+            node,
+            note,
+            packets,
+            kept,
+        });
+        self.phases[usize::from(node)] = Phase::Idle;
+        self.busy -= 1;
+    }
+
+    /// Closes the open turn of the node, which went down within it. Its note may have landed. It takes no memory, and
+    /// constant time.
+    pub fn stop(&mut self, node: u16, landed: Option<Payload>)
+        requires node { node < length self.old.kinds }
+        requires busy { phase node self.old.history ≡ Busy }
+        ensures entry { self.new ≡ adds self.old (Stop node landed) }
+        ensures short { length self.new.history < 2 ^ 63 }
+    {
+        self.history.push_reserved(Entry::Stop { node, landed });
+        self.phases[usize::from(node)] = Phase::Down;
+        self.busy -= 1;
+    }
+
+    /// Whether each node but a dead replica is up with no open turn, and no packet waits for any node. It looks at each
+    /// node.
+    pub fn quiet(&self) -> bool
+        ensures { IsTrue result ↔ IsQuiet self.now }
+    {
+        all_idle(&self.phases, &self.links) && all_empty(&self.inboxes)
+    }
+}
