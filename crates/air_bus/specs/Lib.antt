@@ -5,3 +5,4 @@ pub mod Waiting
 pub mod Inboxes
 pub mod History
 pub mod Airs
+pub mod Rows

@@ -9,8 +9,12 @@ mod links;
 mod nodes;
 mod payload;
 mod queue;
+pub mod rows;
 mod send;
 
 pub use air::Air;
 pub use entry::{Entry, Input, Phase};
 pub use payload::{Packets, Payload};
+
+#[cfg(test)]
+mod tests;
