@@ -6,3 +6,4 @@ pub mod Inboxes
 pub mod History
 pub mod Airs
 pub mod Rows
+pub mod Laws

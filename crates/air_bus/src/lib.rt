@@ -5,6 +5,7 @@
 mod air;
 mod entry;
 mod inbox;
+pub mod laws;
 mod links;
 mod nodes;
 mod payload;
