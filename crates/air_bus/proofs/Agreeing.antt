@@ -23,14 +23,14 @@ module _ (plan : PlanView) (kinds : List Kind) (phases : List Phase) (turns : �
   pub agrees_same : (inboxes' : List Inbox) (h' : List Entry) (entries' room' : ℕ) → length inboxes' ≡ length inboxes → AllTurn inboxes inboxes' (λ n r. r) → h' ≡ h → entries' ≡ entries → room ≤ room'
       → Agrees plan kinds phases turns inboxes' h' entries' room'
   agrees_same inboxes' h' entries' room' many turn is count more = subst (λ hs. Agrees plan kinds phases turns inboxes' hs entries' room') (sym is) (record {
-      phase_each = was.phase_each;
-      phase_many = was.phase_many;
-      counted = was.counted;
-      closes = omega (arith, was.closes, count, more);
-      many = many ∙ was.many;
-      inbox_each = λ n d inside. turn n d (omega (arith, inside, was.many)) (length kinds) (received plan kinds n h) (was.inbox_each n d inside);
-      aired = was.aired;
-    })
+    phase_each = was.phase_each;
+    phase_many = was.phase_many;
+    counted = was.counted;
+    closes = omega (arith, was.closes, count, more);
+    many = many ∙ was.many;
+    inbox_each = λ n d inside. turn n d (omega (arith, inside, was.many)) (length kinds) (received plan kinds n h) (was.inbox_each n d inside);
+    aired = was.aired;
+  })
 
   pub wide_of : AreWide (length kinds) inboxes
   wide_of = λ k d below. (was.inbox_each k d (omega (arith, below, was.many))).width
@@ -51,7 +51,7 @@ module _ (plan : PlanView) (kinds : List Kind) (phases : List Phase) (turns : �
         closes = fits;
         many = many ∙ was.many;
         inbox_each = λ n d inside. subst (Keeps (length kinds) (get_or inboxes' n d)) (sym (fold_push (after_entry plan kinds n) nothing h l))
-          (turn n d (omega (arith, inside, was.many)) (length kinds) (received plan kinds n h) (was.inbox_each n d inside));
+            (turn n d (omega (arith, inside, was.many)) (length kinds) (received plan kinds n h) (was.inbox_each n d inside));
         aired = aired_more plan kinds h (h ++ l ∷ []) l was.aired may refl;
       })
 
@@ -70,5 +70,5 @@ pub begin_turn : (plan : PlanView) (kinds : List Kind) (olds mids news : List In
     → AllTurn mids news (λ n r. if at == n then taken_by input r else r) → AllTurn olds news (λ n r. after_entry plan kinds n r (Begin node noted))
 begin_turn plan kinds olds mids news at node input noted here same many one two = λ n d below nodes r k.
     let change : (if at == n then taken_by input r else r) ≡ (if node == n then taken_by noted r else r) =
-      ap (λ (m : ℕ). if m == n then taken_by input r else r) here ∙ ap (λ i. if node == n then taken_by i r else r) (sym same) in
+    ap (λ (m : ℕ). if m == n then taken_by input r else r) here ∙ ap (λ i. if node == n then taken_by i r else r) (sym same) in
     subst (Keeps nodes (get_or news n d)) change (two n d (omega (arith, below, many)) nodes r (one n d below nodes r k))

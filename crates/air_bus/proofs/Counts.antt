@@ -17,7 +17,7 @@ module _ (most : ℕ) where
       → (k : ℕ) → get_or sent k 0 ≡ min (count_by (λ (s : ℕ). s == k) senders) most → get_or (set sent at v) k 0 ≡ min (count_by (λ (s : ℕ). s == k) (from ∷ senders)) most
   counts_more sent senders at from v here inside is k was = subst (λ a. get_or (set sent a v) k 0 ≡ min (count_by (λ (s : ℕ). s == k) (from ∷ senders)) most) (sym here) (dite (ℕ_discrete k from)
       (λ same. subst (λ n. get_or (set sent from v) n 0 ≡ min (count_by (λ (s : ℕ). s == n) (from ∷ senders)) most) (sym same)
-        (get_or-set_same sent from v 0 inside ∙ is ∙ ap (λ n. min n most) (sym (count_here from senders))))
+      (get_or-set_same sent from v 0 inside ∙ is ∙ ap (λ n. min n most) (sym (count_here from senders))))
       (λ other. get_or-set_other sent from k v 0 other ∙ was ∙ ap (λ n. min n most) (sym (count_else k from senders (λ same. other (sym same))))))
 
   -- what was read there

@@ -230,8 +230,8 @@ around taken next ready late copies s x least =
     let before : Each (λ (p : Parcel). not_before taken x p ≡ true) (at.before ++ x ∷ at.after) = subst (Each (λ (p : Parcel). not_before taken x p ≡ true)) at.is (each_together (not_before taken x) ready late s.parcels s.together (not_before_all taken x ready least.ready_later) (not_before_all taken x late least.late_later)) in record {
       at = at;
       sooner_none = each_both (λ (p : Parcel). p.place < x.place) (λ (p : Parcel). not_before taken x p ≡ true) (λ (p : Parcel). x.due - taken < p.due - taken)
-        (λ p l b. ⊎_elim (λ t. absurd (omega (arith, l, leb-true x.place p.place t))) (λ t. ltb-true _ _ t) (or_cases _ _ b))
-        at.before (pairs_left (λ (a b : Parcel). a.place < b.place) at.before x at.after ascend) (each_left (λ (p : Parcel). not_before taken x p ≡ true) at.before x at.after before);
+          (λ p l b. ⊎_elim (λ t. absurd (omega (arith, l, leb-true x.place p.place t))) (λ t. ltb-true _ _ t) (or_cases _ _ b))
+          at.before (pairs_left (λ (a b : Parcel). a.place < b.place) at.before x at.after ascend) (each_left (λ (p : Parcel). not_before taken x p ≡ true) at.before x at.after before);
       later_all = each_more (λ (p : Parcel). not_less taken x p ≡ true) (λ (p : Parcel). x.due - taken ≤ p.due - taken) at.after (λ p t. leb-true _ _ t) (each_right (λ (p : Parcel). not_less taken x p ≡ true) at.before x at.after less).1;
     }
   where
@@ -253,8 +253,8 @@ pub next_stands : (taken next : ℕ) (ready late : List Parcel) (copies : List C
 next_stands taken next ready late copies x least s =
     let a = around taken next ready late copies s x least in
     ap next_copy (copies_around taken next ready late copies s x a) ∙ next_is (map (copy_at taken) a.at.before) (copy_at taken x) (map (copy_at taken) a.at.after)
-      (each_mapped (copy_at taken) (λ (c : Copy). x.due - taken < c.delay) a.at.before a.sooner_none)
-      (each_mapped (copy_at taken) (λ (c : Copy). x.due - taken ≤ c.delay) a.at.after a.later_all)
+    (each_mapped (copy_at taken) (λ (c : Copy). x.due - taken < c.delay) a.at.before a.sooner_none)
+    (each_mapped (copy_at taken) (λ (c : Copy). x.due - taken ≤ c.delay) a.at.after a.later_all)
 
 sooner_map : (taken : ℕ) (ps : List Parcel) → map sooner (map (copy_at taken) ps) ≡ map (copy_at (taken + 1)) ps
 sooner_map taken [] = refl
@@ -275,10 +275,10 @@ taken_stands taken next ready late ready' late' copies x least fell s =
       ascend = pairs_without (λ (a b : Parcel). a.place < b.place) a.at.before x a.at.after ascend;
       arrived = each_without (λ (p : Parcel). p.place < next) a.at.before x a.at.after arrived;
       copies_is =
-        ap left_by (copies_around taken next ready late copies s x a) ∙ left_is (map (copy_at taken) a.at.before) (copy_at taken x) (map (copy_at taken) a.at.after)
+          ap left_by (copies_around taken next ready late copies s x a) ∙ left_is (map (copy_at taken) a.at.before) (copy_at taken x) (map (copy_at taken) a.at.after)
           (each_mapped (copy_at taken) (λ (c : Copy). x.due - taken < c.delay) a.at.before a.sooner_none)
           (each_mapped (copy_at taken) (λ (c : Copy). x.due - taken ≤ c.delay) a.at.after a.later_all)
-        ∙ ap (map sooner) (sym (map-append (copy_at taken) a.at.before a.at.after)) ∙ sooner_map taken (a.at.before ++ a.at.after);
+          ∙ ap (map sooner) (sym (map-append (copy_at taken) a.at.before a.at.after)) ∙ sooner_map taken (a.at.before ++ a.at.after);
     }
 
 -- nothing is there to be taken

@@ -33,16 +33,16 @@ module _ (plan : PlanView) (kinds : List Kind) where
   turn_step from is_kept olds mids at to bytes x new f here same inside read turn all = λ n d below nodes r k.
       let before : Keeps nodes (get_or mids n d) (f n r) = all n d below nodes r k in
       subst (λ a. Keeps nodes (get_or (set mids a new) n d) (one_packet plan kinds n from is_kept (f n r) (to, bytes))) (sym here) (dite (ℕ_discrete n to)
-        (λ is.
-          let old : Keeps nodes x (f n r) = subst (λ i. Keeps nodes i (f n r)) (ap (λ m. get_or mids m d) is ∙ sym (get_or_read mids to x inside (subst (λ a. x ≡ get_or mids a x) here read) d)) before in
-          let news : get_or (set mids to new) n d ≡ new = ap (λ m. get_or (set mids to new) m d) is ∙ get_or-set_same mids to new d inside in
-          let change : puts_one plan kinds to from bytes is_kept (f n r) ≡ one_packet plan kinds n from is_kept (f n r) (to, bytes) =
-            ap (λ m. puts_one plan kinds m from bytes is_kept (f n r)) (sym is) ∙ ap (λ b. if b then puts_one plan kinds n from bytes is_kept (f n r) else f n r) (sym (eq-eqb to n (sym is))) in
-          subst (λ i. Keeps nodes i (one_packet plan kinds n from is_kept (f n r) (to, bytes))) (sym news) (subst (Keeps nodes new) change (turn nodes (f n r) old)))
-        (λ other.
-          let news : get_or (set mids to new) n d ≡ get_or mids n d = get_or-set_other mids to n new d other in
-          let change : f n r ≡ one_packet plan kinds n from is_kept (f n r) (to, bytes) = ap (λ b. if b then puts_one plan kinds n from bytes is_kept (f n r) else f n r) (sym (ne_eqb to n (λ e. other (sym e)))) in
-          subst (λ i. Keeps nodes i (one_packet plan kinds n from is_kept (f n r) (to, bytes))) (sym news) (subst (Keeps nodes (get_or mids n d)) change before)))
+      (λ is.
+      let old : Keeps nodes x (f n r) = subst (λ i. Keeps nodes i (f n r)) (ap (λ m. get_or mids m d) is ∙ sym (get_or_read mids to x inside (subst (λ a. x ≡ get_or mids a x) here read) d)) before in
+      let news : get_or (set mids to new) n d ≡ new = ap (λ m. get_or (set mids to new) m d) is ∙ get_or-set_same mids to new d inside in
+      let change : puts_one plan kinds to from bytes is_kept (f n r) ≡ one_packet plan kinds n from is_kept (f n r) (to, bytes) =
+      ap (λ m. puts_one plan kinds m from bytes is_kept (f n r)) (sym is) ∙ ap (λ b. if b then puts_one plan kinds n from bytes is_kept (f n r) else f n r) (sym (eq-eqb to n (sym is))) in
+      subst (λ i. Keeps nodes i (one_packet plan kinds n from is_kept (f n r) (to, bytes))) (sym news) (subst (Keeps nodes new) change (turn nodes (f n r) old)))
+      (λ other.
+      let news : get_or (set mids to new) n d ≡ get_or mids n d = get_or-set_other mids to n new d other in
+      let change : f n r ≡ one_packet plan kinds n from is_kept (f n r) (to, bytes) = ap (λ b. if b then puts_one plan kinds n from bytes is_kept (f n r) else f n r) (sym (ne_eqb to n (λ e. other (sym e)))) in
+      subst (λ i. Keeps nodes i (one_packet plan kinds n from is_kept (f n r) (to, bytes))) (sym news) (subst (Keeps nodes (get_or mids n d)) change before)))
 
   turn_same : (olds news : List Inbox) (f g : ℕ → Received → Received) → ((n : ℕ) (r : Received) → f n r ≡ g n r) → AllTurn olds news f → AllTurn olds news g
   turn_same olds news f g same all = λ n d below nodes r k. subst (Keeps nodes (get_or news n d)) (same n r) (all n d below nodes r k)
@@ -53,10 +53,10 @@ module _ (plan : PlanView) (kinds : List Kind) where
       → AllTurn olds mids (λ n r. fold (one_packet plan kinds n from is_kept) r (take i ps)) → AllTurn olds (set mids at new) (λ n r. fold (one_packet plan kinds n from is_kept) r (take (i + 1) ps))
   step_more from is_kept olds mids at p x new ps i inside is here same below read turn all =
       turn_same olds (set mids at new)
-        (λ n r. one_packet plan kinds n from is_kept (fold (one_packet plan kinds n from is_kept) r (take i ps)) p)
-        (λ n r. fold (one_packet plan kinds n from is_kept) r (take (i + 1) ps))
-        (λ n r. ap (one_packet plan kinds n from is_kept (fold (one_packet plan kinds n from is_kept) r (take i ps))) is ∙ sym (fold_more (one_packet plan kinds n from is_kept) r ps i p inside))
-        (turn_step from is_kept olds mids at p.0 p.1 x new (λ n r. fold (one_packet plan kinds n from is_kept) r (take i ps)) here same below read turn all)
+      (λ n r. one_packet plan kinds n from is_kept (fold (one_packet plan kinds n from is_kept) r (take i ps)) p)
+      (λ n r. fold (one_packet plan kinds n from is_kept) r (take (i + 1) ps))
+      (λ n r. ap (one_packet plan kinds n from is_kept (fold (one_packet plan kinds n from is_kept) r (take i ps))) is ∙ sym (fold_more (one_packet plan kinds n from is_kept) r ps i p inside))
+      (turn_step from is_kept olds mids at p.0 p.1 x new (λ n r. fold (one_packet plan kinds n from is_kept) r (take i ps)) here same below read turn all)
 
 -- a packet that found no room leaves all as it was
 pub turn_back : (olds mids : List Inbox) (at : ℕ) (x new : Inbox) (f : ℕ → Received → Received) → at < length mids → length mids ≡ length olds → x ≡ get_or mids at x → Turns x new (λ r. r)
@@ -64,30 +64,30 @@ pub turn_back : (olds mids : List Inbox) (at : ℕ) (x new : Inbox) (f : ℕ →
 turn_back olds mids at x new f inside same read turn all = λ n d below nodes r k.
     let before : Keeps nodes (get_or mids n d) (f n r) = all n d below nodes r k in
     dite (ℕ_discrete n at)
-      (λ is.
-        let old : Keeps nodes x (f n r) = subst (λ i. Keeps nodes i (f n r)) (ap (λ m. get_or mids m d) is ∙ sym (get_or_read mids at x inside read d)) before in
-        let news : get_or (set mids at new) n d ≡ new = ap (λ m. get_or (set mids at new) m d) is ∙ get_or-set_same mids at new d inside in
-        subst (λ i. Keeps nodes i (f n r)) (sym news) (turn nodes (f n r) old))
-      (λ other. subst (λ i. Keeps nodes i (f n r)) (sym (get_or-set_other mids at n new d other)) before)
+    (λ is.
+    let old : Keeps nodes x (f n r) = subst (λ i. Keeps nodes i (f n r)) (ap (λ m. get_or mids m d) is ∙ sym (get_or_read mids at x inside read d)) before in
+    let news : get_or (set mids at new) n d ≡ new = ap (λ m. get_or (set mids at new) m d) is ∙ get_or-set_same mids at new d inside in
+    subst (λ i. Keeps nodes i (f n r)) (sym news) (turn nodes (f n r) old))
+    (λ other. subst (λ i. Keeps nodes i (f n r)) (sym (get_or-set_other mids at n new d other)) before)
 
 -- one inbox turns
 pub turn_at : (olds : List Inbox) (at : ℕ) (x new : Inbox) (f : Received → Received) → at < length olds → x ≡ get_or olds at x → Turns x new f
     → AllTurn olds (set olds at new) (λ n r. if at == n then f r else r)
 turn_at olds at x new f inside read turn = λ n d below nodes r k.
     dite (ℕ_discrete n at)
-      (λ is.
-        let old : Keeps nodes x r = subst (λ i. Keeps nodes i r) (ap (λ m. get_or olds m d) is ∙ sym (get_or_read olds at x inside read d)) k in
-        let news : get_or (set olds at new) n d ≡ new = ap (λ m. get_or (set olds at new) m d) is ∙ get_or-set_same olds at new d inside in
-        let change : f r ≡ (if at == n then f r else r) = ap (λ b. if b then f r else r) (sym (eq-eqb at n (sym is))) in
-        subst (λ i. Keeps nodes i (if at == n then f r else r)) (sym news) (subst (Keeps nodes new) change (turn nodes r old)))
-      (λ other.
-        let change : r ≡ (if at == n then f r else r) = ap (λ b. if b then f r else r) (sym (ne_eqb at n (λ e. other (sym e)))) in
-        subst (λ i. Keeps nodes i (if at == n then f r else r)) (sym (get_or-set_other olds at n new d other)) (subst (Keeps nodes (get_or olds n d)) change k))
+    (λ is.
+    let old : Keeps nodes x r = subst (λ i. Keeps nodes i r) (ap (λ m. get_or olds m d) is ∙ sym (get_or_read olds at x inside read d)) k in
+    let news : get_or (set olds at new) n d ≡ new = ap (λ m. get_or (set olds at new) m d) is ∙ get_or-set_same olds at new d inside in
+    let change : f r ≡ (if at == n then f r else r) = ap (λ b. if b then f r else r) (sym (eq-eqb at n (sym is))) in
+    subst (λ i. Keeps nodes i (if at == n then f r else r)) (sym news) (subst (Keeps nodes new) change (turn nodes r old)))
+    (λ other.
+    let change : r ≡ (if at == n then f r else r) = ap (λ b. if b then f r else r) (sym (ne_eqb at n (λ e. other (sym e)))) in
+    subst (λ i. Keeps nodes i (if at == n then f r else r)) (sym (get_or-set_other olds at n new d other)) (subst (Keeps nodes (get_or olds n d)) change k))
 
 -- the counts stay as wide
 pub wide_set : (nodes : ℕ) (mids : List Inbox) (at : ℕ) (x new : Inbox) → at < length mids → x ≡ get_or mids at x → length new.sent.items ≡ length x.sent.items → AreWide nodes mids → AreWide nodes (set mids at new)
 wide_set nodes mids at x new inside read width wide = λ k d below. dite (ℕ_discrete k at)
     (λ is.
-      let old : length x.sent.items ≡ nodes = subst (λ (i : Inbox). length i.sent.items ≡ nodes) (sym read) (wide at x inside) in
-      subst (λ (i : Inbox). length i.sent.items ≡ nodes) (sym (ap (λ m. get_or (set mids at new) m d) is ∙ get_or-set_same mids at new d inside)) (width ∙ old))
+    let old : length x.sent.items ≡ nodes = subst (λ (i : Inbox). length i.sent.items ≡ nodes) (sym read) (wide at x inside) in
+    subst (λ (i : Inbox). length i.sent.items ≡ nodes) (sym (ap (λ m. get_or (set mids at new) m d) is ∙ get_or-set_same mids at new d inside)) (width ∙ old))
     (λ other. subst (λ (i : Inbox). length i.sent.items ≡ nodes) (sym (get_or-set_other mids at k new d other)) (wide k d (omega (arith, below, length-set mids at new))))

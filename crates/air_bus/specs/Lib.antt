@@ -5,3 +5,5 @@ pub mod Waiting
 pub mod Inboxes
 pub mod History
 pub mod Airs
+pub mod Rows
+pub mod Laws

@@ -59,6 +59,21 @@ impl Air {
         })
     }
 
+    /// How many nodes there are, in constant time.
+    pub fn nodes(&self) -> usize
+        ensures { result ≡ length self.now.kinds }
+    {
+        self.phases.len()
+    }
+
+    /// Where the node stands, in constant time. A turn is opened on a node that isn't `Busy`, and closed on one that is.
+    pub fn phase(&self, node: u16) -> Phase
+        requires { node < length self.now.kinds }
+        ensures { result ≡ phase node self.now.history }
+    {
+        self.phases[usize::from(node)]
+    }
+
     /// The entries so far, one of each call that opened or closed a turn, in constant time.
     pub fn history(&self) -> &[Entry]
         ensures { result.now ≡ self.now.history }
@@ -80,12 +95,7 @@ impl Air {
     /// It takes memory for this entry and for the one that closes the turn, and with an error nothing has changed. Of an
     /// inbox of n packets it takes one in O(log n), and moves each whose delay is over to those without delay, once for
     /// each packet, in O(log n).
-    pub fn begin(
-        &mut self,
-        node: u16,
-        wants: bool,
-        tick: bool,
-    ) -> Result<Option<Input>, AllocError>
+    pub fn begin(&mut self, node: u16, wants: bool, tick: bool) -> Result<Option<Input>, AllocError>
         requires node { node < length self.old.kinds }
         requires closed { phase node self.old.history ≢ Busy }
         ensures answer { IfOk result (λ input. input ≡ input_of self.old node tick wants) }

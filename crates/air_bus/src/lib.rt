@@ -5,12 +5,17 @@
 mod air;
 mod entry;
 mod inbox;
+pub mod laws;
 mod links;
 mod nodes;
 mod payload;
 mod queue;
+pub mod rows;
 mod send;
 
 pub use air::Air;
 pub use entry::{Entry, Input, Phase};
 pub use payload::{Packets, Payload};
+
+#[cfg(test)]
+mod tests;

@@ -42,10 +42,7 @@ impl Ord for Parcel {
     ghost matches_eq = { Prim.search (comparing, rules) };
 
     fn cmp(&self, other: &Parcel) -> Ordering {
-        other
-            .due
-            .cmp(&self.due)
-            .then(other.place.cmp(&self.place))
+        other.due.cmp(&self.due).then(other.place.cmp(&self.place))
     }
 }
 
@@ -100,7 +97,12 @@ impl Queue {
     }
 
     // The copies of one packet more, the last.
-    pub(crate) fn receive(&mut self, fate: Fate, from: u16, bytes: &Payload) -> Result<(), AllocError>
+    pub(crate) fn receive(
+        &mut self,
+        fate: Fate,
+        from: u16,
+        bytes: &Payload,
+    ) -> Result<(), AllocError>
         ensures ok { OnOk result ((copies : List Copy) → Holds self.old copies → Holds self.new (copies ++ copies_of fate from bytes.now)) }
         ensures err { OnErr result (HoldsOn self.old self.new) }
     {
@@ -218,7 +220,10 @@ impl Queue {
             return false;
         };
         let Parcel {
-            place, from, bytes, ..
+            place,
+            from,
+            bytes,
+            ..
         } = parcel;
         let parcel = Parcel {
             due: 0,

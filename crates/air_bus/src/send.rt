@@ -34,12 +34,7 @@ pub(crate) fn send(
     kept
 }
 
-fn put_first(
-    inboxes: &mut Vec<Inbox>,
-    links: &Links,
-    from: u16,
-    packets: &[(u16, Payload)],
-) -> u32
+fn put_first(inboxes: &mut Vec<Inbox>, links: &Links, from: u16, packets: &[(u16, Payload)]) -> u32
     requires from { from < length links.now.kinds.items }
     requires nodes { length inboxes.old.items ≡ length links.now.kinds.items }
     requires wide { AreWide (length links.now.kinds.items) inboxes.old.items }

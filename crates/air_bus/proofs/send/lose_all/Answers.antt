@@ -16,7 +16,7 @@ loop-packet-preserved c =
       nodes = length-set mids c.from.result c.lose.new.self ∙ i.nodes;
       wide = wide_set (length c.args.inboxes.now.items) mids c.from.result x c.lose.new.self at c.index_mut.ensures.value c.lose.ensures.width i.wide;
       lost = λ plan kinds. step_more plan kinds c.args.from false c.args.inboxes.now.items mids c.from.result p x c.lose.new.self c.args.packets.now c.loop-packet.packet-index
-        c.loop-packet-test.true c.packet-item.is c.from.ensures i.nodes below c.index_mut.ensures.value (c.lose.ensures.lost plan kinds p.0 p.1) (i.lost plan kinds);
+          c.loop-packet-test.true c.packet-item.is c.from.ensures i.nodes below c.index_mut.ensures.value (c.lose.ensures.lost plan kinds p.0 p.1) (i.lost plan kinds);
     }
 
 pub returns-clause-lost : goal.returns-clause-lost

@@ -13,5 +13,5 @@ returns-clause-sent c = λ n d below nodes r k.
     let first = c.put_first-kept.ensures.sent n d below nodes r k in
     let rest = c.lose_all.ensures.lost plan kinds n d (omega (arith, below, c.put_first-kept.ensures.nodes)) nodes (fold (one_packet plan kinds n c.args.from true) r (take kept c.args.packets.now)) first in
     subst (Keeps nodes (get_or c.lose_all.new.inboxes.items n d)) (sym (puts_split plan kinds n c.args.from c.args.packets.now kept r))
-      (subst (λ ps. Keeps nodes (get_or c.lose_all.new.inboxes.items n d) (fold (one_packet plan kinds n c.args.from false) (fold (one_packet plan kinds n c.args.from true) r (take kept c.args.packets.now)) ps))
-        (take_all (length c.args.packets.now - kept) (drop kept c.args.packets.now) (omega (arith, length-drop kept c.args.packets.now))) rest)
+    (subst (λ ps. Keeps nodes (get_or c.lose_all.new.inboxes.items n d) (fold (one_packet plan kinds n c.args.from false) (fold (one_packet plan kinds n c.args.from true) r (take kept c.args.packets.now)) ps))
+    (take_all (length c.args.packets.now - kept) (drop kept c.args.packets.now) (omega (arith, length-drop kept c.args.packets.now))) rest)

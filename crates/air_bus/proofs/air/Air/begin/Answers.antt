@@ -13,19 +13,19 @@ pub invariant_of-self-in_err-chosen : goal.invariant_of-self-in_err-chosen
 invariant_of-self-in_err-chosen c =
     let a = c.self.inside in
     agrees_same a.links.plan a.links.kinds.items a.phases.items a.busy a.inboxes.items a.history.items (vec_len a.history) (vec_capacity a.history) c.self.invariant
-      c.choose.new.inboxes.items c.reserve.new.self.items (vec_len c.reserve.new.self) (vec_capacity c.reserve.new.self) c.choose.ensures.many c.choose.ensures.same c.reserve.ensures.items c.reserve.ensures.len c.reserve.ensures.capacity
+    c.choose.new.inboxes.items c.reserve.new.self.items (vec_len c.reserve.new.self) (vec_capacity c.reserve.new.self) c.choose.ensures.many c.choose.ensures.same c.reserve.ensures.items c.reserve.ensures.len c.reserve.ensures.capacity
 
 pub invariant_of-self-in_err-noted : goal.invariant_of-self-in_err-noted
 invariant_of-self-in_err-noted c =
     let a = c.self.inside in
     agrees_same a.links.plan a.links.kinds.items a.phases.items a.busy a.inboxes.items a.history.items (vec_len a.history) (vec_capacity a.history) c.self.invariant
-      c.choose.new.inboxes.items c.reserve.new.self.items (vec_len c.reserve.new.self) (vec_capacity c.reserve.new.self) c.choose.ensures.many c.choose.ensures.same c.reserve.ensures.items c.reserve.ensures.len c.reserve.ensures.capacity
+    c.choose.new.inboxes.items c.reserve.new.self.items (vec_len c.reserve.new.self) (vec_capacity c.reserve.new.self) c.choose.ensures.many c.choose.ensures.same c.reserve.ensures.items c.reserve.ensures.len c.reserve.ensures.capacity
 
 pub invariant_of-self-in-None : goal.invariant_of-self-in-None
 invariant_of-self-in-None c =
     let a = c.self.inside in
     agrees_same a.links.plan a.links.kinds.items a.phases.items a.busy a.inboxes.items a.history.items (vec_len a.history) (vec_capacity a.history) c.self.invariant
-      c.choose.new.inboxes.items c.reserve.new.self.items (vec_len c.reserve.new.self) (vec_capacity c.reserve.new.self) c.choose.ensures.many c.choose.ensures.same c.reserve.ensures.items c.reserve.ensures.len c.reserve.ensures.capacity
+    c.choose.new.inboxes.items c.reserve.new.self.items (vec_len c.reserve.new.self) (vec_capacity c.reserve.new.self) c.choose.ensures.many c.choose.ensures.same c.reserve.ensures.items c.reserve.ensures.len c.reserve.ensures.capacity
 
 pub returns-in-None-clause-answer : goal.returns-in-None-clause-answer
 returns-in-None-clause-answer c =
@@ -33,7 +33,7 @@ returns-in-None-clause-answer c =
     let inside : c.args.node < length a.links.kinds.items = omega (arith, ap length (ap (λ f. f.kinds) c.self.view_is), c.requires.node) in
     sym c.in-None.is
     ∙ chosen_is a.links.plan a.links.kinds.items a.phases.items a.busy a.inboxes.items a.history.items (vec_len a.history) (vec_capacity a.history) c.self.invariant
-      c.from-at.result c.args.node c.index-phase.result.now c.args.tick c.args.wants c.in_ok-chosen.chosen c.from-at.ensures inside c.index-phase.ensures c.in_ok-chosen.ensures.answer
+    c.from-at.result c.args.node c.index-phase.result.now c.args.tick c.args.wants c.in_ok-chosen.chosen c.from-at.ensures inside c.index-phase.ensures c.in_ok-chosen.ensures.answer
     ∙ ap (λ f. input_of f c.args.node c.args.tick c.args.wants) c.self.view_is
 
 pub returns-clause-answer : goal.returns-clause-answer
@@ -42,7 +42,7 @@ returns-clause-answer c =
     let inside : c.args.node < length a.links.kinds.items = omega (arith, ap length (ap (λ f. f.kinds) c.self.view_is), c.requires.node) in
     sym c.in-Some.is
     ∙ chosen_is a.links.plan a.links.kinds.items a.phases.items a.busy a.inboxes.items a.history.items (vec_len a.history) (vec_capacity a.history) c.self.invariant
-      c.from-at.result c.args.node c.index-phase.result.now c.args.tick c.args.wants c.in_ok-chosen.chosen c.from-at.ensures inside c.index-phase.ensures c.in_ok-chosen.ensures.answer
+    c.from-at.result c.args.node c.index-phase.result.now c.args.tick c.args.wants c.in_ok-chosen.chosen c.from-at.ensures inside c.index-phase.ensures c.in_ok-chosen.ensures.answer
     ∙ ap (λ f. input_of f c.args.node c.args.tick c.args.wants) c.self.view_is
 
 pub invariant_of-self-2 : goal.invariant_of-self-2
@@ -56,14 +56,14 @@ invariant_of-self-2 c =
     let inside : c.args.node < length kinds = omega (arith, ap length (ap (λ f. f.kinds) c.self.view_is), c.requires.node) in
     let same : noted ≡ c.in-Some.input = c.in_ok-noted.ensures in
     let had : next_input (phase c.args.node h) (next_copy (waiting plan kinds c.args.node h)) c.args.tick c.args.wants ≡ Some noted =
-      sym (chosen_is plan kinds a.phases.items a.busy a.inboxes.items h (vec_len a.history) (vec_capacity a.history) c.self.invariant
-        c.from-at.result c.args.node c.index-phase.result.now c.args.tick c.args.wants c.in_ok-chosen.chosen c.from-at.ensures inside c.index-phase.ensures c.in_ok-chosen.ensures.answer)
-      ∙ c.in-Some.is ∙ ap Some (sym same) in
+    sym (chosen_is plan kinds a.phases.items a.busy a.inboxes.items h (vec_len a.history) (vec_capacity a.history) c.self.invariant
+    c.from-at.result c.args.node c.index-phase.result.now c.args.tick c.args.wants c.in_ok-chosen.chosen c.from-at.ensures inside c.index-phase.ensures c.in_ok-chosen.ensures.answer)
+    ∙ c.in-Some.is ∙ ap Some (sym same) in
     let none-open = not_open (phase c.args.node h) closed in
     agrees_more plan kinds a.phases.items a.busy a.inboxes.items h (vec_len a.history) (vec_capacity a.history) c.self.invariant
-      (Begin c.args.node noted) c.from-at.result Busy (a.busy + 1) c.leave.new.inboxes.items c.push_reserved.new.self.items (vec_len c.push_reserved.new.self) (vec_capacity c.push_reserved.new.self)
-      c.from-at.ensures inside refl (omega (arith, none-open))
-      (omega (arith, c.in_ok-reserve.ensures.ok, c.reserve.ensures.len, c.push_reserved.ensures.len, c.push_reserved.ensures.capacity))
-      (c.push_reserved.ensures.items ∙ ap (λ l. l ++ Begin c.args.node noted ∷ []) c.reserve.ensures.items)
-      (closed, (c.args.tick, c.args.wants, had)) (c.leave.ensures.many ∙ c.choose.ensures.many)
-      (begin_turn plan kinds a.inboxes.items c.choose.new.inboxes.items c.leave.new.inboxes.items c.from-at.result c.args.node c.in-Some.input noted c.from-at.ensures same c.choose.ensures.many c.choose.ensures.same c.leave.ensures.taken)
+    (Begin c.args.node noted) c.from-at.result Busy (a.busy + 1) c.leave.new.inboxes.items c.push_reserved.new.self.items (vec_len c.push_reserved.new.self) (vec_capacity c.push_reserved.new.self)
+    c.from-at.ensures inside refl (omega (arith, none-open))
+    (omega (arith, c.in_ok-reserve.ensures.ok, c.reserve.ensures.len, c.push_reserved.ensures.len, c.push_reserved.ensures.capacity))
+    (c.push_reserved.ensures.items ∙ ap (λ l. l ++ Begin c.args.node noted ∷ []) c.reserve.ensures.items)
+    (closed, (c.args.tick, c.args.wants, had)) (c.leave.ensures.many ∙ c.choose.ensures.many)
+    (begin_turn plan kinds a.inboxes.items c.choose.new.inboxes.items c.leave.new.inboxes.items c.from-at.result c.args.node c.in-Some.input noted c.from-at.ensures same c.choose.ensures.many c.choose.ensures.same c.leave.ensures.taken)

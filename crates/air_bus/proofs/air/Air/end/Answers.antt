@@ -26,6 +26,6 @@ invariant_of-self c =
     let few : kept ≤ length c.args.packets = omega (arith, c.send-kept.ensures.kept, ap length c.as_slice.ensures) in
     let sent = subst (λ packets. AllTurn a.inboxes.items c.send-kept.new.inboxes.items (λ n. puts plan kinds n c.args.node packets kept)) c.as_slice.ensures c.send-kept.ensures.sent in
     agrees_more plan kinds ps a.busy a.inboxes.items h (vec_len a.history) (vec_capacity a.history) c.self.invariant
-      (End c.args.node c.args.note c.args.packets kept) c.from.result Idle (a.busy - 1) c.send-kept.new.inboxes.items c.push_reserved.new.self.items (vec_len c.push_reserved.new.self) (vec_capacity c.push_reserved.new.self)
-      c.from.ensures inside refl (omega (arith, opened, some, c.self.invariant.counted)) (omega (arith, some, c.self.invariant.counted, c.self.invariant.closes, c.push_reserved.ensures.len, c.push_reserved.ensures.capacity))
-      c.push_reserved.ensures.items (may, few) c.send-kept.ensures.nodes sent
+    (End c.args.node c.args.note c.args.packets kept) c.from.result Idle (a.busy - 1) c.send-kept.new.inboxes.items c.push_reserved.new.self.items (vec_len c.push_reserved.new.self) (vec_capacity c.push_reserved.new.self)
+    c.from.ensures inside refl (omega (arith, opened, some, c.self.invariant.counted)) (omega (arith, some, c.self.invariant.counted, c.self.invariant.closes, c.push_reserved.ensures.len, c.push_reserved.ensures.capacity))
+    c.push_reserved.ensures.items (may, few) c.send-kept.ensures.nodes sent

@@ -15,7 +15,7 @@ returns-then-all_idle c =
     let inv = c.self.invariant in
     let idle = subst (λ ps. (n : ℕ) → n < length ps → is_dead plan.dead kinds n ≡ false → get_or ps n Down ≡ Idle) c.deref.ensures.value (c.all_idle.ensures.yes c.if-all_idle.true) in
     let keeps = subst (λ is. (n : ℕ) (d : Inbox) → n < length is → Keeps (length kinds) (get_or is n d) (received plan kinds n h)) (sym c.deref-then-all_idle.ensures.value)
-      (λ n d inside. inv.inbox_each n d (omega (arith, inside, inv.many))) in
+    (λ n d inside. inv.inbox_each n d (omega (arith, inside, inv.many))) in
     let many : length c.deref-then-all_idle.result.now ≡ length kinds = ap length c.deref-then-all_idle.ensures.value ∙ inv.many in
     let both = c.all_empty.ensures (length kinds) (λ n. received plan kinds n h) keeps in (
       λ t. subst IsQuiet c.self.view_is (record {

@@ -20,6 +20,6 @@ invariant_of-self c =
     let some = busy_counts ps c.args.node below (c.self.invariant.phase_each c.args.node ∙ may) in
     let opened = ap open_of may in
     agrees_more a.links.plan kinds ps a.busy a.inboxes.items h (vec_len a.history) (vec_capacity a.history) c.self.invariant
-      (Stop c.args.node c.args.landed) c.from.result Down (a.busy - 1) a.inboxes.items c.push_reserved.new.self.items (vec_len c.push_reserved.new.self) (vec_capacity c.push_reserved.new.self)
-      c.from.ensures inside refl (omega (arith, opened, some, c.self.invariant.counted)) (omega (arith, some, c.self.invariant.counted, c.self.invariant.closes, c.push_reserved.ensures.len, c.push_reserved.ensures.capacity))
-      c.push_reserved.ensures.items may refl (λ n d below nodes r k. k)
+    (Stop c.args.node c.args.landed) c.from.result Down (a.busy - 1) a.inboxes.items c.push_reserved.new.self.items (vec_len c.push_reserved.new.self) (vec_capacity c.push_reserved.new.self)
+    c.from.ensures inside refl (omega (arith, opened, some, c.self.invariant.counted)) (omega (arith, some, c.self.invariant.counted, c.self.invariant.closes, c.push_reserved.ensures.len, c.push_reserved.ensures.capacity))
+    c.push_reserved.ensures.items may refl (λ n d below nodes r k. k)

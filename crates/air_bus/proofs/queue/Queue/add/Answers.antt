@@ -23,8 +23,8 @@ returns-then-delay-eq0-clause-holds c = λ copies h.
     let p : Parcel = record { due = 0; place = q.next; from = c.args.from; bytes = c.args.bytes } in
     let none : 0 - q.taken ≡ c.args.delay = omega (arith, c.if-delay-eq0.true) in
     subst (λ d. Stands q.taken (q.next + 1) (heap_items c.put.new.heap) (heap_items q.late) (copies ++ copy d c.args.from c.args.bytes ∷ [])) none
-      (put_stands q.taken q.next (heap_items q.ready) (heap_items q.late) (heap_items c.put.new.heap) (heap_items q.late) p copies refl
-        (λ f. omega (arith, sum_by_pushed f p (heap_items q.ready) (heap_items c.put.new.heap) c.put.ensures.items)) h)
+    (put_stands q.taken q.next (heap_items q.ready) (heap_items q.late) (heap_items c.put.new.heap) (heap_items q.late) p copies refl
+    (λ f. omega (arith, sum_by_pushed f p (heap_items q.ready) (heap_items c.put.new.heap) c.put.ensures.items)) h)
 
 pub returns-else-delay-eq0-clause-holds : goal.returns-else-delay-eq0-clause-holds
 returns-else-delay-eq0-clause-holds c = λ copies h.
@@ -33,5 +33,5 @@ returns-else-delay-eq0-clause-holds c = λ copies h.
     let p : Parcel = record { due = due; place = q.next; from = c.args.from; bytes = c.args.bytes } in
     let after : due - q.taken ≡ c.args.delay = omega (arith, c.from.ensures) in
     subst (λ d. Stands q.taken (q.next + 1) (heap_items q.ready) (heap_items c.put-else-delay-eq0.new.heap) (copies ++ copy d c.args.from c.args.bytes ∷ [])) after
-      (put_stands q.taken q.next (heap_items q.ready) (heap_items q.late) (heap_items q.ready) (heap_items c.put-else-delay-eq0.new.heap) p copies refl
-        (λ f. omega (arith, sum_by_pushed f p (heap_items q.late) (heap_items c.put-else-delay-eq0.new.heap) c.put-else-delay-eq0.ensures.items)) h)
+    (put_stands q.taken q.next (heap_items q.ready) (heap_items q.late) (heap_items q.ready) (heap_items c.put-else-delay-eq0.new.heap) p copies refl
+    (λ f. omega (arith, sum_by_pushed f p (heap_items q.late) (heap_items c.put-else-delay-eq0.new.heap) c.put-else-delay-eq0.ensures.items)) h)

@@ -21,7 +21,7 @@ returns-in-Some c = λ copies h.
     let inside : 0 < length (heap_items q.ready) = omega (arith, c.in-Some.ensures.variant.0 refl, q.ready.data.ok.0) in
     let due : x.due ≡ 0 = first_each (λ (p : Parcel). p.due ≡ 0) (heap_items q.ready) x c.in-Some.ensures.lookup inside q.ready_due in
     sym (next_stands q.taken q.next (heap_items q.ready) (heap_items q.late) copies x
-      (ready_least q.taken (heap_items q.ready) (heap_items q.late) x q.ready_due c.requires due (c.in-Some.ensures.greatest q.ready_ordered) (first_among (heap_items q.ready) x c.in-Some.ensures.lookup inside)) h)
+    (ready_least q.taken (heap_items q.ready) (heap_items q.late) x q.ready_due c.requires due (c.in-Some.ensures.greatest q.ready_ordered) (first_among (heap_items q.ready) x c.in-Some.ensures.lookup inside)) h)
 
 pub returns-in-None : goal.returns-in-None
 returns-in-None c = λ copies h.
@@ -29,4 +29,4 @@ returns-in-None c = λ copies h.
     let none : length (heap_items q.ready) ≡ 0 = none_of (heap_len q.ready) (length (heap_items q.ready)) (omega (arith, q.ready.data.ok.0)) (λ l. true≢false (sym (c.in-None.ensures.variant.1 l))) in
     let some = c.peek-in-None.ensures.variant in
     late_next q.taken q.next (heap_items q.ready) (heap_items q.late) copies c.peek-in-None.result none c.requires
-      (λ s. omega (arith, some.0 s, q.late.data.ok.0), λ l. some.1 (omega (arith, l, q.late.data.ok.0))) c.peek-in-None.ensures.lookup (bound_of c.peek-in-None.result (heap_items q.late) q.late_ordered c.peek-in-None.ensures.greatest) h
+    (λ s. omega (arith, some.0 s, q.late.data.ok.0), λ l. some.1 (omega (arith, l, q.late.data.ok.0))) c.peek-in-None.ensures.lookup (bound_of c.peek-in-None.result (heap_items q.late) q.late_ordered c.peek-in-None.ensures.greatest) h

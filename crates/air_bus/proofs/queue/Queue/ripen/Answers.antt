@@ -22,5 +22,5 @@ returns-clause-same c = λ copies h.
     let y : Parcel = record x { due = 0 } in
     let due : x.due ≤ q.taken = subst (λ (p : Parcel). p.due ≤ q.taken) (sym c.in-Some.ensures.top) (c.has_due.ensures.due c.if-not-has_due.false x) in
     ripe_stands q.taken q.next (heap_items q.ready) (heap_items q.late) (heap_items c.put.new.heap) (heap_items c.pop.new.self) x y copies refl (ripe_copy q.taken x due)
-      (λ f. omega (arith, sum_by_popped f x (heap_items q.late) (heap_items c.pop.new.self) c.in-Some.ensures.permutation))
-      (λ f. sum_by_pushed f y (heap_items q.ready) (heap_items c.put.new.heap) c.put.ensures.items) h
+    (λ f. omega (arith, sum_by_popped f x (heap_items q.late) (heap_items c.pop.new.self) c.in-Some.ensures.permutation))
+    (λ f. sum_by_pushed f y (heap_items q.ready) (heap_items c.put.new.heap) c.put.ensures.items) h

@@ -15,9 +15,9 @@ returns c = λ copies h.
     let none : length (heap_items q.ready) ≡ 0 = omega (arith, c.requires.none, q.ready.data.ok.0) in
     let due : q.taken < x.due = All-head (λ (p : Parcel). q.taken < p.due) x (heap_items c.pop.new.self) (All-permutation (λ (p : Parcel). q.taken < p.due) _ _ c.in-Some.ensures.permutation c.requires.settled) in
     taken_stands q.taken q.next (heap_items q.ready) (heap_items q.late) (heap_items q.ready) (heap_items c.pop.new.self) copies x
-      (late_least q.taken (heap_items q.ready) (heap_items q.late) x none c.requires.settled due (c.in-Some.ensures.heap_order q.late_ordered).1
-        (λ f. omega (arith, sum_by_popped f x (heap_items q.late) (heap_items c.pop.new.self) c.in-Some.ensures.permutation)))
-      (λ f. omega (arith, sum_by_popped f x (heap_items q.late) (heap_items c.pop.new.self) c.in-Some.ensures.permutation)) h
+    (late_least q.taken (heap_items q.ready) (heap_items q.late) x none c.requires.settled due (c.in-Some.ensures.heap_order q.late_ordered).1
+    (λ f. omega (arith, sum_by_popped f x (heap_items q.late) (heap_items c.pop.new.self) c.in-Some.ensures.permutation)))
+    (λ f. omega (arith, sum_by_popped f x (heap_items q.late) (heap_items c.pop.new.self) c.in-Some.ensures.permutation)) h
 
 pub returns-in-None : goal.returns-in-None
 returns-in-None c = λ copies h.
@@ -25,4 +25,4 @@ returns-in-None c = λ copies h.
     let none : length (heap_items q.ready) ≡ 0 = omega (arith, c.requires.none, q.ready.data.ok.0) in
     let late : length (heap_items q.late) ≡ 0 = omega (arith, c.in-None.ensures.none, q.late.data.ok.0) in
     subst (λ ps. Stands q.taken q.next (heap_items q.ready) ps (left_by copies)) (sym c.in-None.ensures.unchanged.0)
-      (none_taken q.taken q.next (heap_items q.ready) (heap_items q.late) copies (omega (arith, none, late)) h).1
+    (none_taken q.taken q.next (heap_items q.ready) (heap_items q.late) copies (omega (arith, none, late)) h).1

@@ -21,6 +21,6 @@ returns-in-Some c = λ copies h.
     let x : Parcel = c.in-Some._parcel in
     let due : x.due ≡ 0 = All-head (λ (p : Parcel). p.due ≡ 0) x (heap_items c.pop.new.self) (All-permutation (λ (p : Parcel). p.due ≡ 0) _ _ c.in-Some.ensures.permutation q.ready_due) in
     taken_stands q.taken q.next (heap_items q.ready) (heap_items q.late) (heap_items c.pop.new.self) (heap_items q.late) copies x
-      (ready_least q.taken (heap_items q.ready) (heap_items q.late) x q.ready_due c.requires due (c.in-Some.ensures.heap_order q.ready_ordered).1
-        (λ f. omega (arith, sum_by_popped f x (heap_items q.ready) (heap_items c.pop.new.self) c.in-Some.ensures.permutation)))
-      (λ f. omega (arith, sum_by_popped f x (heap_items q.ready) (heap_items c.pop.new.self) c.in-Some.ensures.permutation)) h
+    (ready_least q.taken (heap_items q.ready) (heap_items q.late) x q.ready_due c.requires due (c.in-Some.ensures.heap_order q.ready_ordered).1
+    (λ f. omega (arith, sum_by_popped f x (heap_items q.ready) (heap_items c.pop.new.self) c.in-Some.ensures.permutation)))
+    (λ f. omega (arith, sum_by_popped f x (heap_items q.ready) (heap_items c.pop.new.self) c.in-Some.ensures.permutation)) h
