@@ -1,5 +1,5 @@
 -- What follows for an aired history.
-use Rattle.std.proofs.Common.{◌≡◌, ◌≢◌, inl, inr, ℕ, ◌+◌, ◌-◌, ◌==◌, ◌++◌, Bool, true, false, cond, if◌then◌else◌, List, [], ◌∷◌, map, Some, None, fold, refl, sym, ap, ◌∙◌, subst, append_assoc, append-nil}
+use Rattle.std.proofs.Common.{◌≡◌, ◌≢◌, inl, inr, ℕ, ◌-◌, ◌==◌, ◌++◌, Bool, true, false, List, [], ◌∷◌, map, Some, None, fold, refl, sym, ap, subst, append_assoc}
 use Rattle.std.specs.Prelude.{Option, option_map, find, nat_lt}
 use Rattle.std.proofs.lemmas.Bool.{cond_both, eqb-true}
 use Rattle.list_words.specs.Lists.{Mem, Each}
@@ -14,11 +14,11 @@ use Rattle.air_bus.specs.declared.entry.Entry.{Entry}
 use Rattle.air_bus.specs.declared.entry.Entry.TheVariants.{Begin, End, Stop}
 use Rattle.air_bus.specs.declared.entry.Phase.{Phase}
 use Rattle.air_bus.specs.declared.entry.Phase.TheVariants.{Down, Idle, Busy}
-use Rattle.air_bus.specs.Copies.{Copy, copies_of, take_out, sooner, least_of, next_copy, left_by}
+use Rattle.air_bus.specs.Copies.{Copy, copies_of, take_out, sooner, least_of, next_copy}
 use Rattle.air_bus.specs.Inputs.{packet_input, or_other}
-use Rattle.air_bus.specs.Waiting.{Received, nothing, link_fate, ordinal, arriving, puts_one, one_packet, puts, taken_by, after_entry, received, waiting}
-use Rattle.air_bus.specs.History.{IsAired, MayFollow, next_input, node_of, phase}
-use Rattle.air_bus.specs.Laws.{IsStart, Fits, Alternates, Sent, sent_to, sent_by, sent, DeliveredWasSent}
+use Rattle.air_bus.specs.Waiting.{Received, nothing, link_fate, ordinal, arriving, puts_one, one_packet, puts, taken_by, after_entry, waiting}
+use Rattle.air_bus.specs.History.{MayFollow, next_input, node_of, phase}
+use Rattle.air_bus.specs.Laws.{IsStart, Fits, Sent, sent_to, sent_by, sent}
 
 -- ---- turns alternate
 
@@ -95,9 +95,9 @@ module _ (plan : PlanView) (kinds : List Kind) (n : ℕ) where
   each_packet : (ss : List Sent) (from : ℕ) (is_kept : Bool) (r : Received) (p : ℕ × List ℕ) → Mem (sent_to from p) ss → Each (IsSent n ss) r.copies → Each (IsSent n ss) (one_packet plan kinds n from is_kept r p).copies
   each_packet ss from is_kept r p m e = cond_both (p.0 == n) (puts_one plan kinds n from p.1 is_kept r) r (λ (x : Received). Each (IsSent n ss) x.copies)
       (λ t.
-        let here : Mem (record { from = from; to = n; bytes = p.1 }) ss = subst (λ (k : ℕ). Mem (record { from = from; to = k; bytes = p.1 }) ss) (eqb-true p.0 n t) m in
-        each_append (IsSent n ss) r.copies (arriving plan kinds n from p.1 is_kept r) e
-          (cond_both is_kept (copies_of (link_fate plan kinds from n (ordinal from r)) from p.1) [] (Each (IsSent n ss)) (λ _. each_copies n ss (link_fate plan kinds from n (ordinal from r)) from p.1 here) (λ _. tt)))
+      let here : Mem (record { from = from; to = n; bytes = p.1 }) ss = subst (λ (k : ℕ). Mem (record { from = from; to = k; bytes = p.1 }) ss) (eqb-true p.0 n t) m in
+      each_append (IsSent n ss) r.copies (arriving plan kinds n from p.1 is_kept r) e
+      (cond_both is_kept (copies_of (link_fate plan kinds from n (ordinal from r)) from p.1) [] (Each (IsSent n ss)) (λ _. each_copies n ss (link_fate plan kinds from n (ordinal from r)) from p.1 here) (λ _. tt)))
       (λ _. e)
 
   each_puts : (ss : List Sent) (from : ℕ) (ps : List (ℕ × List ℕ)) (kept : ℕ) (r : Received) → Each (λ (p : ℕ × List ℕ). Mem (sent_to from p) ss) ps → Each (IsSent n ss) r.copies → Each (IsSent n ss) (puts plan kinds n from ps kept r).copies
