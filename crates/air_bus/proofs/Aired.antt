@@ -1,5 +1,5 @@
 -- What follows for an aired history.
-use Rattle.std.proofs.Common.{◌≡◌, ◌≢◌, inl, inr, ℕ, ◌+◌, ◌-◌, ◌==◌, ◌++◌, Bool, true, false, cond, if◌then◌else◌, List, [], ◌∷◌, map, Some, None, fold, refl, sym, ap, ◌∙◌, subst, append_assoc, append-nil}
+use Rattle.std.proofs.Common.{◌≡◌, ◌≢◌, inl, inr, ℕ, ◌-◌, ◌==◌, ◌++◌, Bool, true, false, List, [], ◌∷◌, map, Some, None, fold, refl, sym, ap, subst, append_assoc}
 use Rattle.std.specs.Prelude.{Option, option_map, find, nat_lt}
 use Rattle.std.proofs.lemmas.Bool.{cond_both, eqb-true}
 use Rattle.list_words.specs.Lists.{Mem, Each}
@@ -14,11 +14,11 @@ use Rattle.air_bus.specs.declared.entry.Entry.{Entry}
 use Rattle.air_bus.specs.declared.entry.Entry.TheVariants.{Begin, End, Stop}
 use Rattle.air_bus.specs.declared.entry.Phase.{Phase}
 use Rattle.air_bus.specs.declared.entry.Phase.TheVariants.{Down, Idle, Busy}
-use Rattle.air_bus.specs.Copies.{Copy, copies_of, take_out, sooner, least_of, next_copy, left_by}
+use Rattle.air_bus.specs.Copies.{Copy, copies_of, take_out, sooner, least_of, next_copy}
 use Rattle.air_bus.specs.Inputs.{packet_input, or_other}
-use Rattle.air_bus.specs.Waiting.{Received, nothing, link_fate, ordinal, arriving, puts_one, one_packet, puts, taken_by, after_entry, received, waiting}
-use Rattle.air_bus.specs.History.{IsAired, MayFollow, next_input, node_of, phase}
-use Rattle.air_bus.specs.Laws.{IsStart, Fits, Alternates, Sent, sent_to, sent_by, sent, DeliveredWasSent}
+use Rattle.air_bus.specs.Waiting.{Received, nothing, link_fate, ordinal, arriving, puts_one, one_packet, puts, taken_by, after_entry, waiting}
+use Rattle.air_bus.specs.History.{MayFollow, next_input, node_of, phase}
+use Rattle.air_bus.specs.Laws.{IsStart, Fits, Sent, sent_to, sent_by, sent}
 
 -- ---- turns alternate
 

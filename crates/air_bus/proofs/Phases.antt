@@ -1,5 +1,5 @@
 -- What one entry changes.
-use Rattle.std.proofs.Common.{◌⊎◌, inl, inr, ⊎_elim, length-append, arith, fold, Bool, true, false, refl, ◌≡◌, ◌≢◌, ℕ, ◌+◌, ◌<◌, ◌≤◌, List, [], ◌∷◌, ◌++◌, length, get_or, set, cond, if◌then◌else◌, sym, ap, ◌∙◌, subst, get_or-set_other, get_or-set_same, eq-eqb, ne_eqb, append-nil}
+use Rattle.std.proofs.Common.{◌⊎◌, inl, inr, ⊎_elim, length-append, arith, refl, ◌≡◌, ◌≢◌, ℕ, ◌+◌, ◌<◌, ◌≤◌, List, [], ◌∷◌, ◌++◌, length, get_or, set, if◌then◌else◌, sym, ap, ◌∙◌, subst, get_or-set_other, get_or-set_same, eq-eqb, ne_eqb}
 use mathlib.Core.Logic.{dite}
 use native.Mathlib.Decide.{ℕ_discrete}
 use Rattle.std.proofs.lemmas.List.Sums.{fold_push, sum_by-set, get_or-le-sum_by}

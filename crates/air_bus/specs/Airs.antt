@@ -4,7 +4,7 @@ use Rattle.lossy_link.specs.declared.plan.Kind.{Kind}
 use Rattle.lossy_link.specs.Fates.{PlanView}
 use Rattle.air_bus.specs.declared.entry.Entry.{Entry}
 use Rattle.air_bus.specs.declared.entry.Phase.{Phase}
-use Rattle.air_bus.specs.declared.entry.Phase.TheVariants.{Down, Idle, Busy}
+use Rattle.air_bus.specs.declared.entry.Phase.TheVariants.{Down, Busy}
 use Rattle.air_bus.specs.declared.inbox.Inbox.{Inbox}
 use Rattle.air_bus.specs.Inboxes.{Keeps}
 use Rattle.air_bus.specs.Waiting.{received}

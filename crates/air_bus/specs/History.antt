@@ -1,5 +1,5 @@
 -- Histories of turns, and what an Air may add to one.
-use Rattle.std.specs.Prelude.{◌≡◌, ◌≢◌, ℕ, ◌<◌, ◌≤◌, ◌==◌, Bool, false, List, [], ◌∷◌, ◌++◌, length, fold, filter, Option, Some, option_map, if◌then◌else◌}
+use Rattle.std.specs.Prelude.{◌≡◌, ◌≢◌, ℕ, ◌<◌, ◌≤◌, ◌==◌, Bool, false, List, [], ◌∷◌, ◌++◌, length, fold, Option, Some, option_map, if◌then◌else◌}
 use Rattle.lossy_link.specs.declared.plan.Kind.{Kind}
 use Rattle.lossy_link.specs.Fates.{PlanView}
 use Rattle.air_bus.specs.declared.entry.Input.{Input}

@@ -1,8 +1,6 @@
 -- What an inbox keeps of what a node was sent.
 use Rattle.std.specs.Prelude.{◌≡◌, ℕ, ◌<◌, ◌^◌, ◌-◌, min, List, length, slice_index, slice_index_or}
 use Rattle.std.specs.List.{All}
-use Rattle.lossy_link.specs.declared.plan.Kind.{Kind}
-use Rattle.lossy_link.specs.Fates.{PlanView}
 use Rattle.air_bus.specs.declared.inbox.Inbox.{Inbox}
 use Rattle.air_bus.specs.Queues.{Holds}
 use Rattle.air_bus.specs.Waiting.{Received, ordinal}

@@ -1,6 +1,5 @@
 -- What follows for a history that an Air made: a node's entries alternate, and what was delivered was sent.
 use Rattle.std.specs.Prelude.{◌≡◌, ℕ, List, [], ◌∷◌, ◌++◌, map, ⊤}
-use Rattle.std.specs.List.{flat_map}
 use Rattle.list_words.specs.Lists.{Mem}
 use Rattle.air_bus.specs.declared.entry.Input.{Input}
 use Rattle.air_bus.specs.declared.entry.Input.TheVariants.{Start, Tick, Own, Packet}

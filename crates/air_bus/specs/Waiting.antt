@@ -1,5 +1,5 @@
 -- The packets that wait for a node after a history, where a plan says what becomes of each packet. Nodes go by number.
-use Rattle.std.specs.Prelude.{ℕ, ◌-◌, Bool, false, not, ◌&&◌, ◌==◌, nat_lt, List, [], ◌∷◌, ◌++◌, take, slice_index_or, fold, count_by, if◌then◌else◌, Option}
+use Rattle.std.specs.Prelude.{ℕ, ◌-◌, Bool, false, ◌&&◌, ◌==◌, nat_lt, List, [], ◌∷◌, ◌++◌, take, slice_index_or, fold, count_by, if◌then◌else◌, Option}
 use Rattle.std.specs.Option.{option_map_or}
 use Rattle.lossy_link.specs.declared.plan.Kind.{Kind}
 use Rattle.lossy_link.specs.declared.plan.Kind.TheVariants.{Dispatcher, Replica}

@@ -1,4 +1,3 @@
-use Rattle.std.proofs.Common.{◌∷◌}
 use Rattle.air_bus.specs.declared.entry.Input.TheVariants.{Packet}
 use Rattle.air_bus.specs.declared.entry.Entry.TheVariants.{Begin}
 use Rattle.air_bus.proofs.Aired.{delivered}

@@ -1,9 +1,6 @@
-use Rattle.std.proofs.Common.{◌≡◌, ℕ, Ok, Err, get_or, refl, sym, subst}
+use Rattle.std.proofs.Common.{Ok, Err, refl, sym, subst}
 use Rattle.std.specs.Prelude.{Result, IfOk}
 use Rattle.air_bus.specs.Inboxes.{Keeps}
-use Rattle.air_bus.specs.Copies.{next_copy}
-use Rattle.air_bus.specs.History.{next_input}
-use Rattle.air_bus.specs.Waiting.{Received}
 use Rattle.air_bus.proofs.Sending.{turn_back}
 use Rattle.air_bus.proofs.nodes.choose.Goals as goal
 

@@ -1,4 +1,4 @@
-use Rattle.std.proofs.Common.{◌≡◌, ℕ, ◌-◌, ◌<◌, List, length, get_or, fold, take, drop, true, false, sym, ap, ◌∙◌, subst, arith, length-drop}
+use Rattle.std.proofs.Common.{◌-◌, length, get_or, fold, take, drop, true, false, sym, subst, arith, length-drop}
 use Rattle.std.proofs.lemmas.List.{take_all}
 use Rattle.air_bus.specs.Inboxes.{Keeps}
 use Rattle.air_bus.specs.Waiting.{one_packet}

@@ -1,7 +1,7 @@
-use Rattle.std.proofs.Common.{◌≡◌, ◌+◌, ◌-◌, ◌<◌, ◌≤◌, length, get_or, refl, sym, ap, ◌∙◌, subst, arith}
+use Rattle.std.proofs.Common.{◌≡◌, ◌-◌, ◌<◌, ◌≤◌, length, refl, ap, ◌∙◌, subst, arith}
 use Rattle.std.specs.Prelude.{vec_len, vec_capacity}
 use Rattle.air_bus.specs.declared.entry.Entry.TheVariants.{End}
-use Rattle.air_bus.specs.declared.entry.Phase.TheVariants.{Down, Idle, Busy}
+use Rattle.air_bus.specs.declared.entry.Phase.TheVariants.{Idle, Busy}
 use Rattle.air_bus.specs.Airs.{open_of}
 use Rattle.air_bus.specs.Inboxes.{AllTurn}
 use Rattle.air_bus.specs.Waiting.{puts}

@@ -1,4 +1,4 @@
-use Rattle.std.proofs.Common.{◌≡◌, ℕ, ◌<◌, length, get_or, true, false, sym, ap, ◌∙◌, subst, arith}
+use Rattle.std.proofs.Common.{◌≡◌, ℕ, ◌<◌, length, get_or, false, sym, ap, ◌∙◌, subst, arith}
 use Rattle.air_bus.specs.declared.entry.Phase.TheVariants.{Down, Idle}
 use Rattle.air_bus.specs.declared.inbox.Inbox.{Inbox}
 use Rattle.air_bus.specs.History.{IsQuiet}

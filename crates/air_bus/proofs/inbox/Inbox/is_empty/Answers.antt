@@ -1,4 +1,3 @@
-use Rattle.std.proofs.Common.{◌∙◌, sym}
 use Rattle.air_bus.proofs.inbox.Inbox.is_empty.Goals as goal
 
 pub returns : goal.returns

@@ -1,4 +1,4 @@
-use Rattle.std.proofs.Common.{◌≡◌, ℕ, ◌+◌, ◌-◌, ◌^◌, ◌<◌, ◌==◌, [], ◌++◌, length, sym, ap, ◌∙◌, subst, arith, append-nil}
+use Rattle.std.proofs.Common.{◌≡◌, ℕ, ◌+◌, ◌-◌, ◌^◌, ◌==◌, sym, ◌∙◌, subst, arith, append-nil}
 use Rattle.std.specs.Prelude.{min, count_by}
 use Rattle.std.proofs.lemmas.List.{length-set}
 use Rattle.air_bus.specs.Queues.{Holds}

@@ -1,4 +1,4 @@
-use Rattle.std.proofs.Common.{◌≡◌, ◌<◌, ◌+◌, length, refl, sym, subst, arith}
+use Rattle.std.proofs.Common.{◌≡◌, ◌<◌, length, sym, subst, arith}
 use Rattle.air_bus.specs.Copies.{left_by}
 use Rattle.air_bus.specs.Queues.{Stands}
 use Rattle.std.specs.BinaryHeap.{heap_items}
