@@ -230,7 +230,7 @@ around taken next ready late copies s x least =
     let before : Each (λ (p : Parcel). not_before taken x p ≡ true) (at.before ++ x ∷ at.after) = subst (Each (λ (p : Parcel). not_before taken x p ≡ true)) at.is (each_together (not_before taken x) ready late s.parcels s.together (not_before_all taken x ready least.ready_later) (not_before_all taken x late least.late_later)) in record {
       at = at;
       sooner_none = each_both (λ (p : Parcel). p.place < x.place) (λ (p : Parcel). not_before taken x p ≡ true) (λ (p : Parcel). x.due - taken < p.due - taken)
-          (λ p l b. ⊎_elim (λ t. absurd (omega (arith, l, leb-true x.place p.place t))) (λ t. ltb-true _ _ t) (or_cases _ _ b))
+          (λ p l b. ⊎_elim (λ (t : nat_le x.place p.place ≡ true). absurd (omega (arith, l, leb-true x.place p.place t))) (λ t. ltb-true _ _ t) (or_cases _ _ b))
           at.before (pairs_left (λ (a b : Parcel). a.place < b.place) at.before x at.after ascend) (each_left (λ (p : Parcel). not_before taken x p ≡ true) at.before x at.after before);
       later_all = each_more (λ (p : Parcel). not_less taken x p ≡ true) (λ (p : Parcel). x.due - taken ≤ p.due - taken) at.after (λ p t. leb-true _ _ t) (each_right (λ (p : Parcel). not_less taken x p ≡ true) at.before x at.after less).1;
     }
