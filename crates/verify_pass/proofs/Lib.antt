@@ -1,0 +1,4 @@
+pub mod Agreed
+pub mod Fronts
+pub mod Marks
+pub mod Pushes

@@ -1,0 +1,12 @@
+use Rattle.std.proofs.Common.{◌≡◌, List, take}
+use Rattle.std.specs.Prelude.{filter}
+use Rattle.event_id.specs.declared.id.EventId.{EventId}
+use Rattle.registry_state.specs.declared.Batch.{Batch}
+use Rattle.verify_pass.specs.Classes.{is_missing_by}
+use Rattle.verify_pass.specs.States.{KnowAll}
+use Rattle.verify_pass.specs.Written.{pair_at}
+use Rattle.verify_pass.proofs.unwritten.missing_among.Given as goal
+
+-- the missing ones of the ids so far
+abbrev pub invariant-loop-id : goal.invariant-loop-id
+invariant-loop-id l = (batches : EventId → List Batch) → KnowAll l.registries l.table batches → l.left.items ≡ filter (λ i. is_missing_by (batches i) (pair_at l.written i) i) (take l.id-index l.ids)
