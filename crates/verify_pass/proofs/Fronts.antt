@@ -1,6 +1,7 @@
 -- The values up to the first slot that has none.
 use Rattle.std.proofs.Common.{◌≡◌, ◌⊎◌, ℕ, zero, suc, ◌+◌, ◌<◌, ◌≤◌, ◌||◌, Bool, true, false, List, [], ◌∷◌, ◌++◌, length, Option, Some, None, inl, inr, ⊎_elim, refl, sym, ap, ◌∙◌, subst, arith, length-append}
 use Rattle.std.specs.Prelude.{slice_get, is_some}
+use Rattle.std.specs.Bool.{OnTrue, OnFalse}
 use Rattle.std.specs.BTreeSet.{contains}
 use Rattle.event_id.specs.declared.id.EventId.{EventId}
 use Rattle.event_id.specs.EventId.{id_cmp}
@@ -81,3 +82,17 @@ has_next f n first old new v e k h = record {
 
 pub has_whole : (f : ℕ → Option Batch) (n : ℕ) (first ids : Ids) → f n ≡ None → HasAt f n first ids → HasWhole f first ids
 has_whole f n first ids e h applied front = subst (λ (vs : List Batch). (i : EventId) → contains id_cmp ids i ≡ (contains id_cmp first i || is_some (first_insert vs i))) (one_front f h.applied applied (record { each = h.each; longest = ap f h.count ∙ e }) front) h.known
+
+-- ---- the last slot
+
+pub ended : (f : ℕ → Option Batch) (n : ℕ) (old new : Registry) (m : Bool) → OnTrue m (IsAt f n old → IsAt f (n + 1) new) → OnFalse m (IsAt f n old → IsWhole f new) → f (n + 1) ≡ None → IsAt f n old → IsWhole f new
+ended f n old new true next stop e h = whole f (n + 1) new e (next h)
+ended f n old new false next stop e h = stop h
+
+pub has_ended : (f : ℕ → Option Batch) (n : ℕ) (first old new : Ids) (m : Bool) → OnTrue m ((first : Ids) → HasAt f n first old → HasAt f (n + 1) first new) → OnFalse m ((first : Ids) → HasAt f n first old → HasWhole f first new) → f (n + 1) ≡ None → HasAt f n first old → HasWhole f first new
+has_ended f n first old new true next stop e h = has_whole f (n + 1) first new e (next first h)
+has_ended f n first old new false next stop e h = stop first h
+
+pub either_way : (new old more : Bool) → new ≡ (old || more) → old ≡ true → new ≡ true
+either_way new true more e h = e
+either_way new false more e h = absurd (cc)

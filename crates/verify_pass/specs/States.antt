@@ -1,5 +1,5 @@
 -- The registries of all shards.
-use Rattle.std.specs.Prelude.{◌≡◌, ℕ, ◌||◌, is_some, List, length, slice_get, Option, Some}
+use Rattle.std.specs.Prelude.{◌≡◌, ℕ, ◌||◌, true, is_some, List, length, slice_get, Option, Some}
 use Rattle.std.specs.BTreeSet.{BTreeSet, contains}
 use Rattle.event_id.specs.EventId.{id_cmp}
 use Rattle.registry_state.specs.LookBack.{first_insert}
@@ -28,6 +28,10 @@ IsWhole f state = (applied : List Batch) → IsFront f applied → Knows state a
 
 abbrev pub Ids : Type 0
 Ids = BTreeSet EventId
+
+-- no id is lost
+abbrev pub Grows : Ids → Ids → Type 0
+Grows old new = (i : EventId) → contains id_cmp old i ≡ true → contains id_cmp new i ≡ true
 
 -- the set has the ids that the first one had, and those of the inserts of these batches
 abbrev pub HasInserts : List Batch → Ids → Ids → Type 0

@@ -41,7 +41,8 @@ pub fn classify(
     let registries = registries(alloc, &chosen, table.shards())?;
     let written = Written::of(alloc, &journals.pairs)?;
     let ids = distinct_ids(alloc, clicks)?;
-    lines_of(alloc, &ids, &registries, &written, table)
+    let lines = lines_of(alloc, &ids, &registries, &written, table)?;
+    Ok(lines)
 }
 
 // The line of each id, in their order.

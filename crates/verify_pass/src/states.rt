@@ -10,7 +10,7 @@ ghost use Rattle.registry_state.specs.LookBack.{first_in, first_insert};
 ghost use Rattle.time_shards.specs.Shards.{shard_of, shard_count};
 ghost use Rattle.std.specs.Bool.{OnTrue, OnFalse};
 ghost use Rattle.verify_pass.specs.Chosen.{slots, EndsBy, IsFront};
-ghost use Rattle.verify_pass.specs.States.{Ids, IsAt, IsWhole, HasAt, HasWhole};
+ghost use Rattle.verify_pass.specs.States.{Ids, Grows, IsAt, IsWhole, HasAt, HasWhole};
 
 use crate::chosen::Chosen;
 use event_id::EventId;
@@ -45,6 +45,13 @@ pub fn registry_for<'r>(registries: &'r [Registry], table: &Table, id: EventId) 
     ensures { slice_get registries.now (shard_of table.now id) ≡ Some result.now }
 {
     &registries[usize::from(table.shard_of(id))]
+}
+
+/// The shard of each id is one of the table's.
+pub fn each_has_a_shard(table: &Table)
+    ensures { (i : Id) → shard_of table.now i < shard_count table.now }
+{
+    let _ = table.rows();
 }
 
 fn registry(alloc: Global, chosen: &Chosen, shard: u8) -> Result<Registry, AllocError>
@@ -85,8 +92,15 @@ pub fn inserted(alloc: Global, chosen: &Chosen, shards: u8) -> Result<Vec<EventI
     ensures rising { IfOk result (λ ids. IsStrictlySortedBy id_cmp ids.items) }
     ensures each { IfOk result (λ ids. EndsBy chosen.now → (s : ℕ) (applied : List Value) (i : Id) → s < shards → IsFront (slots chosen.now s) applied → is_some (first_insert applied i) ≡ true → Contains ids.items i) }
 {
-    let ids = inserted_set(alloc, chosen, shards)?;
-    ids.into_iter().collect(alloc)
+    let set = inserted_set(alloc, chosen, shards)?;
+    let ids = listed(alloc, set)?;
+    Ok(ids)
+}
+
+fn listed(alloc: Global, set: BTreeSet<EventId>) -> Result<Vec<EventId>, AllocError>
+    ensures { IfOk result (λ ids. ids.items ≡ set.keys) }
+{
+    set.into_iter().collect(alloc)
 }
 
 fn inserted_set(
@@ -106,6 +120,7 @@ fn inserted_set(
 
 fn add_shard(ids: &mut BTreeSet<EventId>, chosen: &Chosen, shard: u8) -> Result<(), AllocError>
     ensures rising { IsStrictlySortedBy id_cmp ids.old.keys → IsStrictlySortedBy id_cmp ids.new.keys }
+    ensures kept { OnOk result (Grows ids.old ids.new) }
     ensures each { OnOk result (EndsBy chosen.now → HasWhole (slots chosen.now shard) ids.old ids.new) }
 {
     let last = chosen.last();
@@ -126,6 +141,7 @@ fn add_slot(
     slot: u64,
 ) -> Result<bool, AllocError>
     ensures rising { IsStrictlySortedBy id_cmp ids.old.keys → IsStrictlySortedBy id_cmp ids.new.keys }
+    ensures kept { OnOk result (Grows ids.old ids.new) }
     ensures next { IfOk result (λ more. OnTrue more ((first : Ids) → HasAt (slots chosen.now shard) slot first ids.old → HasAt (slots chosen.now shard) (slot + 1) first ids.new)) }
     ensures whole { IfOk result (λ more. OnFalse more ((first : Ids) → HasAt (slots chosen.now shard) slot first ids.old → HasWhole (slots chosen.now shard) first ids.new)) }
 {

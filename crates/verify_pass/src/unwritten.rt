@@ -1,5 +1,5 @@
 // The ids that were registered and never written.
-ghost use Rattle.std.specs.Prelude.{◌≡◌, IfOk, true, List, length, filter, ◌↔◌, Contains};
+ghost use Rattle.std.specs.Prelude.{◌≡◌, ◌++◌, ◌∷◌, [], IfOk, OnOk, true, List, length, filter, if◌then◌else◌, ◌↔◌, Contains};
 ghost use Rattle.event_id.specs.declared.id.EventId.{EventId as Id};
 ghost use Rattle.event_id.specs.EventId.{id_cmp};
 ghost use Rattle.registry_state.specs.declared.Batch.{Batch as Value};
@@ -13,7 +13,7 @@ ghost use Rattle.verify_pass.specs.Written.{pair_at};
 
 use crate::Journals;
 use crate::chosen::Chosen;
-use crate::states::{inserted, registries, registry_for};
+use crate::states::{each_has_a_shard, inserted, registries, registry_for};
 use crate::written::Written;
 use event_id::EventId;
 use registry_state::Registry;
@@ -36,7 +36,9 @@ pub fn missing(
     let registries = registries(alloc, &chosen, table.shards())?;
     let written = Written::of(alloc, &journals.pairs)?;
     let ids = inserted(alloc, &chosen, table.shards())?;
-    missing_among(alloc, &ids, &registries, &written, table)
+    each_has_a_shard(table);
+    let left = missing_among(alloc, &ids, &registries, &written, table)?;
+    Ok(left)
 }
 
 fn missing_among(
@@ -52,11 +54,19 @@ fn missing_among(
 {
     let mut left = Vec::new(alloc);
     for id in ids {
-        if is_missing(registries, written, table, *id) {
-            left.push(*id)?;
-        }
+        let is_left = is_missing(registries, written, table, *id);
+        push_if(&mut left, *id, is_left)?;
     }
     Ok(left)
+}
+
+fn push_if(left: &mut Vec<EventId>, id: EventId, is_left: bool) -> Result<(), AllocError>
+    ensures { OnOk result (left.new.items ≡ left.old.items ++ (if is_left then id ∷ [] else [])) }
+{
+    if is_left {
+        left.push(id)?;
+    }
+    Ok(())
 }
 
 fn is_missing(registries: &[Registry], written: &Written, table: &Table, id: EventId) -> bool

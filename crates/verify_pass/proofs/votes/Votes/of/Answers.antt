@@ -1,5 +1,5 @@
 use Rattle.std.proofs.Common.{◌≡◌, ◌==◌, ◌&&◌, ◌||◌, ℕ, List, [], ◌∷◌, ◌++◌, take, length, get_or, ap, sym, ◌∙◌, arith}
-use Rattle.std.proofs.lemmas.List.{take_more}
+use Rattle.std.proofs.lemmas.List.{take_more, length-take-le}
 use Rattle.std.specs.List.{list_any}
 use Rattle.paxos_acceptor.specs.declared.notes.ReplicaNote.{ReplicaNote}
 use Rattle.verify_pass.specs.Votes.{accepts, accepted_by, did_accept}
@@ -11,7 +11,7 @@ loop-replica-preserved c = λ r p b.
     let js = c.args.journals.now in
     let k = c.loop-replica.replica in
     let x = c.index-journals-replica.result in
-    let size : length (take k js) ≡ k = search (arith, length-take) in
+    let size : length (take k js) ≡ k = length-take-le k js (omega arith) in
     c.in_ok-take_all.ensures r p b
     ∙ ap (λ t. ((k == r) && did_accept p b c.as_slice.result.now) || t) (c.loop-replica.invariant r p b)
     ∙ ap (λ (ns : List ReplicaNote). ((k == r) && did_accept p b ns) || accepted_by (take k js) r p b) c.as_slice.ensures
