@@ -67,7 +67,7 @@ struct Note {
     ids: [u64; 2],
 }
 
-fn note(alloc: Global, told: &Note) -> Result<ReplicaNote, AllocError> {
+fn accepted(alloc: Global, told: &Note) -> Result<ReplicaNote, AllocError> {
     let mut inserts = Inserts::new(alloc);
     for micros in told.ids {
         inserts.push(Insert {
@@ -97,26 +97,86 @@ fn note(alloc: Global, told: &Note) -> Result<ReplicaNote, AllocError> {
 fn notes(alloc: Global, told: &[Note]) -> Result<NoteList, AllocError> {
     let mut notes = Vec::new(alloc);
     for one in told {
-        notes.push(note(alloc, one)?)?;
+        notes.push(accepted(alloc, one)?)?;
     }
     Ok(NoteList::from(notes))
 }
 
 // Three replicas and two output logs. All shards but those of the table's greatest count are out of reach.
 fn journals(alloc: Global) -> Result<Journals, AllocError> {
-    let first = Note { shard: 0, slot: 0, round: 1, bound: 0, ids: [2, 4] };
-    let again = Note { shard: 0, slot: 0, round: 1, bound: 0, ids: [2, 4] };
+    let first = Note {
+        shard: 0,
+        slot: 0,
+        round: 1,
+        bound: 0,
+        ids: [2, 4],
+    };
+    let again = Note {
+        shard: 0,
+        slot: 0,
+        round: 1,
+        bound: 0,
+        ids: [2, 4],
+    };
     // Two replicas, but each at a ballot of its own.
-    let split = Note { shard: 0, slot: 1, round: 1, bound: 99, ids: [6, 8] };
-    let other = Note { shard: 0, slot: 1, round: 2, bound: 99, ids: [6, 8] };
+    let split = Note {
+        shard: 0,
+        slot: 1,
+        round: 1,
+        bound: 99,
+        ids: [6, 8],
+    };
+    let other = Note {
+        shard: 0,
+        slot: 1,
+        round: 2,
+        bound: 99,
+        ids: [6, 8],
+    };
     // Behind a slot without a chosen batch.
-    let behind = Note { shard: 0, slot: 2, round: 1, bound: 99, ids: [10, 12] };
-    let behind_again = Note { shard: 0, slot: 2, round: 1, bound: 99, ids: [10, 12] };
+    let behind = Note {
+        shard: 0,
+        slot: 2,
+        round: 1,
+        bound: 99,
+        ids: [10, 12],
+    };
+    let behind_again = Note {
+        shard: 0,
+        slot: 2,
+        round: 1,
+        bound: 99,
+        ids: [10, 12],
+    };
     // The other shard: two batches, of which the second raises the bound.
-    let low = Note { shard: 1, slot: 0, round: 3, bound: 0, ids: [3, 21] };
-    let low_again = Note { shard: 1, slot: 0, round: 3, bound: 0, ids: [3, 21] };
-    let high = Note { shard: 1, slot: 1, round: 3, bound: 20, ids: [23, 23] };
-    let high_again = Note { shard: 1, slot: 1, round: 3, bound: 20, ids: [23, 23] };
+    let low = Note {
+        shard: 1,
+        slot: 0,
+        round: 3,
+        bound: 0,
+        ids: [3, 21],
+    };
+    let low_again = Note {
+        shard: 1,
+        slot: 0,
+        round: 3,
+        bound: 0,
+        ids: [3, 21],
+    };
+    let high = Note {
+        shard: 1,
+        slot: 1,
+        round: 3,
+        bound: 20,
+        ids: [23, 23],
+    };
+    let high_again = Note {
+        shard: 1,
+        slot: 1,
+        round: 3,
+        bound: 20,
+        ids: [23, 23],
+    };
     let mut lists = Vec::new(alloc);
     lists.push(notes(alloc, &[first, split, behind, low])?)?;
     lists.push(notes(alloc, &[again, other, high])?)?;
@@ -207,6 +267,7 @@ fn fewer_shards(rt: HostRuntime) -> Result<(), Fail> {
     let left = missing(alloc, &journals, &table)?;
     assert_eq!(rt; left.as_slice(), [id(2)].as_slice());
     let lines = classify(alloc, &clicks(alloc, &[3])?, &journals, &table)?;
+    assert_eq!(rt; lines.len(), 1);
     assert_eq!(rt; letter(&lines[0]), (b'U', 3));
     Ok(())
 }
@@ -224,6 +285,7 @@ fn nothing_written_or_noted(rt: HostRuntime) -> Result<(), Fail> {
     assert_eq!(rt; missing(alloc, &journals, &table)?.len(), 0);
     assert_eq!(rt; classify(alloc, &[], &journals, &table)?.len(), 0);
     let lines = classify(alloc, &clicks(alloc, &[7])?, &journals, &table)?;
+    assert_eq!(rt; lines.len(), 1);
     assert_eq!(rt; letter(&lines[0]), (b'U', 7));
     Ok(())
 }

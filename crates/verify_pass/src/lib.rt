@@ -5,15 +5,14 @@
 mod chosen;
 mod classes;
 mod distinct;
+#[cfg(test)]
+mod examples;
 mod journals;
 mod lines;
 mod states;
 mod unwritten;
 mod votes;
 mod written;
-
-#[cfg(test)]
-mod examples;
 
 pub use classes::classify;
 pub use journals::{Journals, NoteList, PairList};

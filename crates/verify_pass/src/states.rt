@@ -23,11 +23,7 @@ use time_shards::Table;
 /// A registry for each shard, which has applied the batches that are decided in it.
 ///
 /// Constant expected time for each batch and insert, and one pass over a shard's ids where its bound rises.
-pub fn registries(
-    alloc: Global,
-    chosen: &Chosen,
-    shards: u8,
-) -> Result<Vec<Registry>, AllocError>
+pub fn registries(alloc: Global, chosen: &Chosen, shards: u8) -> Result<Vec<Registry>, AllocError>
     ensures count { IfOk result (λ v. length v.items ≡ shards) }
     ensures known { IfOk result (λ v. EndsBy chosen.now → (s : ℕ) (state : State) → slice_get v.items s ≡ Some state → IsWhole (slots chosen.now s) state) }
 {
@@ -103,11 +99,7 @@ fn listed(alloc: Global, set: BTreeSet<EventId>) -> Result<Vec<EventId>, AllocEr
     set.into_iter().collect(alloc)
 }
 
-fn inserted_set(
-    alloc: Global,
-    chosen: &Chosen,
-    shards: u8,
-) -> Result<BTreeSet<EventId>, AllocError>
+fn inserted_set(alloc: Global, chosen: &Chosen, shards: u8) -> Result<BTreeSet<EventId>, AllocError>
     ensures rising { IfOk result (λ ids. IsStrictlySortedBy id_cmp ids.keys) }
     ensures each { IfOk result (λ ids. EndsBy chosen.now → (s : ℕ) (applied : List Value) (i : Id) → s < shards → IsFront (slots chosen.now s) applied → is_some (first_insert applied i) ≡ true → contains id_cmp ids i ≡ true) }
 {

@@ -10,7 +10,6 @@ ghost use Rattle.verify_pass.specs.Classes.{is_missing as is_unwritten, is_missi
 ghost use Rattle.verify_pass.specs.States.{KnowAll};
 ghost use Rattle.verify_pass.specs.Written.{pair_at};
 
-
 use crate::Journals;
 use crate::chosen::Chosen;
 use crate::states::{each_has_a_shard, inserted, registries, registry_for};

@@ -29,7 +29,7 @@ returns c = λ agree.
     let batches : EventId → List Batch = λ i. decided_for js table i in
     let found : (p : Place) → batch_at chosen p ≡ first_chosen js.notes.items p = λ p. c.in_ok-chosen.ensures.batches p ∙ ap (λ (l : List (List ReplicaNote)). first_chosen l p) c.deref.ensures.value in
     let known : KnowAll c.deref-4.result.now table batches = λ i state at.
-        c.in_ok-registries.ensures.known c.in_ok-chosen.ensures.last (shard_of table i) state (subst (λ (rs : List Registry). slice_get rs (shard_of table i) ≡ Some state) c.deref-4.ensures.value at) (batches i) (decided_front js.notes.items chosen (shard_of table i) found agree) in
+    c.in_ok-registries.ensures.known c.in_ok-chosen.ensures.last (shard_of table i) state (subst (λ (rs : List Registry). slice_get rs (shard_of table i) ≡ Some state) c.deref-4.ensures.value at) (batches i) (decided_front js.notes.items chosen (shard_of table i) found agree) in
     let pairs : (i : EventId) → pair_at written i ≡ first_pair (all_pairs js) i = λ i. c.in_ok-written.ensures i ∙ ap (λ (l : List (List PairRec)). first_pair (flat_map (λ (ps : List PairRec). ps) l) i) c.deref-2.ensures.value in
     let g : EventId → ReportLine = λ i. line_by (batches i) i (pair_at written i) in
     c.in_ok-lines.ensures batches known

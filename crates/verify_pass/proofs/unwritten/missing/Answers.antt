@@ -35,7 +35,7 @@ returns-clause-exactly c = λ agree.
     let found : (p : Place) → batch_at chosen p ≡ first_chosen js.notes.items p = λ p. c.in_ok-chosen.ensures.batches p ∙ ap (λ (l : List (List ReplicaNote)). first_chosen l p) c.deref.ensures.value in
     let front : (i : EventId) → IsFront (slots chosen (shard_of table i)) (batches i) = λ i. decided_front js.notes.items chosen (shard_of table i) found agree in
     let known : KnowAll c.deref-4.result.now table batches = λ i state at.
-        c.in_ok-registries.ensures.known c.in_ok-chosen.ensures.last (shard_of table i) state (subst (λ (rs : List Registry). slice_get rs (shard_of table i) ≡ Some state) c.deref-4.ensures.value at) (batches i) (front i) in
+    c.in_ok-registries.ensures.known c.in_ok-chosen.ensures.last (shard_of table i) state (subst (λ (rs : List Registry). slice_get rs (shard_of table i) ≡ Some state) c.deref-4.ensures.value at) (batches i) (front i) in
     let pairs : (i : EventId) → pair_at written i ≡ first_pair (all_pairs js) i = λ i. c.in_ok-written.ensures i ∙ ap (λ (l : List (List PairRec)). first_pair (flat_map (λ (ps : List PairRec). ps) l) i) c.deref-2.ensures.value in
     let below : (i : EventId) → shard_of table i < c.shards-2.result = λ i. subst (λ (n : ℕ). shard_of table i < n) (sym c.shards-2.ensures.count) (c.each_has_a_shard.ensures i) in
     exactly c.in_ok-left.left.items ids (λ i. is_missing_by (batches i) (pair_at written i) i) (λ i. is_missing js table i) (c.in_ok-left.ensures.exactly batches known)
