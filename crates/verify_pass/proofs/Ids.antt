@@ -1,0 +1,162 @@
+-- The order of ids, and the ids of clicks.
+use Rattle.std.proofs.Common.{◌≡◌, ℕ, suc, ◌+◌, ◌-◌, List, [], ◌∷◌, ◌++◌, Bool, true, false, cond, ◌||◌, map, Option, Some, None, is_some, length, get_or, drop, drop-cons, refl, sym, ap, ◌∙◌, subst, arith}
+use Rattle.std.specs.declared.cmp.Ordering.{Ordering}
+use Rattle.std.specs.declared.cmp.Ordering.TheVariants.{Less, Equal, Greater}
+use Rattle.std.specs.BTreeSet.{insert_key}
+use Rattle.std.specs.Ordering.{nat_cmp, ordering_then, match_ordering, is_eq}
+use Rattle.std.specs.FinMap.Entries.{by_order}
+use Rattle.std.specs.FinMap as finite
+use Rattle.std.specs.Cmp.{IsTotalOrder, nat_cmp_total}
+use Rattle.std.proofs.lemmas.Cmp.{on_total, then_total, tied_itself}
+use Rattle.std.proofs.lemmas.Simd.{map-map}
+use Rattle.std.proofs.lemmas.Map.Lookups.{CmpEqualImpliesEq, exact_unsigned}
+use Rattle.std.proofs.lemmas.List.{nil_from_length}
+use Rattle.event_id.specs.declared.id.EventId.{EventId}
+use Rattle.event_id.specs.EventId.{id_cmp, is_same as same_id}
+use Rattle.registry_state.specs.declared.Insert.{Insert}
+use Rattle.registry_state.specs.declared.Token.{Token}
+use Rattle.registry_state.specs.LookBack.{or_else, first_in}
+use Rattle.registry_state.proofs.Tests.{same_id-true, same_id-false}
+use Rattle.log_records.specs.declared.records.ClickRec.{ClickRec}
+use Rattle.log_defs.specs.Report.{distinct}
+
+pub ids_total : IsTotalOrder id_cmp
+ids_total = then_total (on_total (λ (x : EventId). x.ip) nat_cmp_total) (then_total (on_total (λ (x : EventId). x.pid) nat_cmp_total) (on_total (λ (x : EventId). x.micros) nat_cmp_total))
+
+then_equal : (o p : Ordering) → ordering_then o p ≡ Equal → (o ≡ Equal) × (p ≡ Equal)
+then_equal Less p e = absurd (cc)
+then_equal Equal p e = (refl, e)
+then_equal Greater p e = absurd (cc)
+
+pub exact_ids : CmpEqualImpliesEq id_cmp
+exact_ids a b h =
+    let x = then_equal (nat_cmp a.ip b.ip) (ordering_then (nat_cmp a.pid b.pid) (nat_cmp a.micros b.micros)) h in
+    let y = then_equal (nat_cmp a.pid b.pid) (nat_cmp a.micros b.micros) x.1 in
+    let p = exact_unsigned a.ip b.ip x.0 in
+    let q = exact_unsigned a.pid b.pid y.0 in
+    let r = exact_unsigned a.micros b.micros y.1 in
+    λ i. record { ip = p i; pid = q i; micros = r i }
+
+abbrev Entry : Type 0
+Entry = EventId × ClickRec
+
+-- each click stands under its own id
+abbrev Own : List Entry → Type 0
+Own es = map (λ (e : Entry). e.1.id) es ≡ map (λ (e : Entry). e.0) es
+
+keys_put : (es : List Entry) (k : EventId) (v : ClickRec) → map (λ (e : Entry). e.0) (finite.put id_cmp k v es) ≡ insert_key id_cmp (map (λ (e : Entry). e.0) es) k
+keys_put [] k v = refl
+keys_put (e ∷ es) k v = go (id_cmp k e.0) (keys_put es k v)
+  where
+    go : (o : Ordering) → map (λ (d : Entry). d.0) (finite.put id_cmp k v es) ≡ insert_key id_cmp (map (λ (d : Entry). d.0) es) k → map (λ (d : Entry). d.0) (by_order o ((k, v) ∷ e ∷ es) ((e.0, v) ∷ es) (e ∷ finite.put id_cmp k v es)) ≡ match_ordering o (k ∷ e.0 ∷ map (λ (d : Entry). d.0) es) (e.0 ∷ map (λ (d : Entry). d.0) es) (e.0 ∷ insert_key id_cmp (map (λ (d : Entry). d.0) es) k)
+    go Less h = refl
+    go Equal h = refl
+    go Greater h = ap (λ l. e.0 ∷ l) h
+
+own_put : (es : List Entry) (c : ClickRec) → ((e : Entry) → id_cmp c.id e.0 ≡ Equal → c.id ≡ e.0) → Own es → Own (finite.put id_cmp c.id c es)
+own_put [] c exact h = refl
+own_put (e ∷ es) c exact h = go (id_cmp c.id e.0) refl (own_put es c exact tail_)
+  where
+    tail_ : Own es
+    tail_ = ap (λ (l : List EventId). rest l) h
+      where
+        rest : List EventId → List EventId
+        rest [] = []
+        rest (x ∷ xs) = xs
+
+    go : (o : Ordering) → id_cmp c.id e.0 ≡ o → Own (finite.put id_cmp c.id c es) → Own (by_order o ((c.id, c) ∷ e ∷ es) ((e.0, c) ∷ es) (e ∷ finite.put id_cmp c.id c es))
+    go Less is k = ap (λ (l : List EventId). c.id ∷ l) h
+    go Equal is k = λ i. exact e is i ∷ tail_ i
+    go Greater is k = λ i. head_ i ∷ k i
+      where
+        first : List EventId → EventId
+        first [] = e.1.id
+        first (x ∷ xs) = x
+
+        head_ : e.1.id ≡ e.0
+        head_ = ap first h
+
+-- the entries of the map that is made of these clicks
+abbrev made : List ClickRec → List Entry
+made cs = finite.entries (finite.from_entries {R = id_cmp} (map (λ c. (c.id, c)) cs))
+
+made_nil : made [] ≡ []
+made_nil =
+    let none : finite.FinMap id_cmp ClickRec = finite.empty in
+    nil_from_length (finite.entries none) (sym (finite.len-entries none) ∙ finite.len-empty id_cmp ClickRec)
+
+made_cons : (c : ClickRec) (cs : List ClickRec) → made (c ∷ cs) ≡ finite.put id_cmp c.id c (made cs)
+made_cons c cs = finite.entries-insert ids_total (finite.from_entries (map (λ (d : ClickRec). (d.id, d)) cs)) c.id c
+
+own_made : (cs : List ClickRec) → Own (made cs)
+own_made [] = subst Own (sym made_nil) refl
+own_made (c ∷ cs) = subst Own (sym (made_cons c cs)) (own_put (made cs) c (λ e is. exact_ids c.id e.0 is) (own_made cs))
+
+abbrev pub ids_of : List ClickRec → List EventId
+ids_of cs = map (λ (c : ClickRec). c.id) (distinct cs)
+
+ids_made : (cs : List ClickRec) → ids_of cs ≡ map (λ (e : Entry). e.1.id) (made cs)
+ids_made cs = map-map (λ (c : ClickRec). c.id) (λ (e : Entry). e.1) (made cs)
+
+pub ids_nil : [] ≡ ids_of []
+ids_nil = sym (ids_made [] ∙ ap (map (λ (e : Entry). e.1.id)) made_nil)
+
+pub ids_cons : (c : ClickRec) (cs : List ClickRec) → insert_key id_cmp (ids_of cs) c.id ≡ ids_of (c ∷ cs)
+ids_cons c cs =
+    ap (λ (l : List EventId). insert_key id_cmp l c.id) (ids_made cs ∙ own_made cs)
+    ∙ sym (keys_put (made cs) c.id c)
+    ∙ ap (map (λ (e : Entry). e.0)) (sym (made_cons c cs))
+    ∙ sym (own_made (c ∷ cs))
+    ∙ sym (ids_made (c ∷ cs))
+
+-- ---- ids of inserts
+
+tied : (a b : EventId) → same_id a b ≡ is_eq (id_cmp a b)
+tied a b = go (same_id a b) refl
+  where
+    apart : (o : Ordering) → id_cmp a b ≡ o → (a ≡ b → ⊥) → false ≡ is_eq o
+    apart Equal e k = absurd (k (exact_ids a b e))
+    apart Less e k = refl
+    apart Greater e k = refl
+
+    go : (t : Bool) → same_id a b ≡ t → t ≡ is_eq (id_cmp a b)
+    go true e = subst (λ (z : EventId). true ≡ is_eq (id_cmp a z)) (same_id-true a b e) (sym (ap is_eq (tied_itself ids_total a)))
+    go false e = apart (id_cmp a b) refl (same_id-false a b e)
+
+first_in_push : (xs : List Insert) (x : Insert) (i : EventId) → first_in (xs ++ x ∷ []) i ≡ or_else (first_in xs i) (cond (same_id x.id i) (Some x.token) None)
+first_in_push [] x i = refl
+first_in_push (y ∷ xs) x i = go (same_id y.id i) (first_in_push xs x i)
+  where
+    go : (t : Bool) → first_in (xs ++ x ∷ []) i ≡ or_else (first_in xs i) (cond (same_id x.id i) (Some x.token) None) → cond t (Some y.token) (first_in (xs ++ x ∷ []) i) ≡ or_else (cond t (Some y.token) (first_in xs i)) (cond (same_id x.id i) (Some x.token) None)
+    go true e = refl
+    go false e = e
+
+add_step : {A : Type 0} (t f : Bool) (l : Option A) (s : A) → cond t true (f || is_some l) ≡ (f || is_some (or_else l (cond t (Some s) None)))
+add_step true true l s = refl
+add_step true false None s = refl
+add_step true false (Some x) s = refl
+add_step false f None s = refl
+add_step false f (Some x) s = refl
+
+pub add_push : (had old new : Bool) (xs : List Insert) (x : Insert) (i : EventId) → old ≡ (had || is_some (first_in xs i)) → new ≡ cond (is_eq (id_cmp x.id i)) true old → new ≡ (had || is_some (first_in (xs ++ x ∷ []) i))
+add_push had old new xs x i e k =
+    k
+    ∙ ap (λ (t : Bool). cond (is_eq (id_cmp x.id i)) true t) e
+    ∙ ap (λ (t : Bool). cond t true (had || is_some (first_in xs i))) (sym (tied x.id i))
+    ∙ add_step (same_id x.id i) had (first_in xs i) x.token
+    ∙ ap (λ (o : Option Token). had || is_some o) (sym (first_in_push xs x i))
+
+-- ---- clicks from the end
+
+drop_all : {A : Type 0} (xs : List A) → drop (length xs) xs ≡ []
+drop_all [] = refl
+drop_all (x ∷ xs) = drop_all xs
+
+pub drop_end : {A : Type 0} (xs : List A) → drop (length xs - 0) xs ≡ []
+drop_end xs = let same : length xs - 0 ≡ length xs = omega arith in ap (λ (n : ℕ). drop n xs) same ∙ drop_all xs
+
+pub drop_next : {A : Type 0} (xs : List A) (k at : ℕ) (d : A) → at + (k + 1) ≡ length xs → drop (length xs - (k + 1)) xs ≡ get_or xs at d ∷ drop (length xs - k) xs
+drop_next xs k at d e =
+    let here : length xs - (k + 1) ≡ at = omega (arith, e) in
+    let next : suc at ≡ length xs - k = omega (arith, e) in
+    ap (λ (n : ℕ). drop n xs) here ∙ drop-cons xs at d (omega (arith, e)) ∙ ap (λ (n : ℕ). get_or xs at d ∷ drop n xs) next

@@ -1,0 +1,22 @@
+use Rattle.std.proofs.Common.{◌≡◌, ◌||◌, List, [], ◌∷◌, ◌++◌, true, cond, take, get_or, ap, sym, ◌∙◌, Bool, arith}
+use Rattle.std.specs.Prelude.{is_some}
+use Rattle.std.specs.BTreeSet.{contains}
+use Rattle.std.proofs.lemmas.List.{take_more}
+use Rattle.event_id.specs.EventId.{id_cmp}
+use Rattle.registry_state.specs.declared.Insert.{Insert}
+use Rattle.registry_state.specs.LookBack.{first_in}
+use Rattle.verify_pass.proofs.Ids.{add_push}
+use Rattle.verify_pass.proofs.states.add_all.Goals as goal
+
+pub loop-insert-preserved : goal.loop-insert-preserved
+loop-insert-preserved c =
+    let items = c.args.inserts.now in
+    let k = c.loop-insert.insert-index in
+    let none : Insert = record { id = record { ip = 0; pid = 0; micros = 0 }; token = record { joiner = 0; epoch = 0; number = 0 } } in
+    let x = get_or items k none in
+    record {
+      rising = λ h. c.in_ok-insert.ensures.ordered;
+      each = λ i.
+          add_push (contains id_cmp c.args.ids.now i) (contains id_cmp c.loop-insert.ids i) (contains id_cmp c.insert.new.self i) (take k items) x i (c.loop-insert.invariant.each i) (c.in_ok-insert.ensures.updates.0 i)
+          ∙ ap (λ (xs : List Insert). contains id_cmp c.args.ids.now i || is_some (first_in xs i)) (sym (take_more items k none (omega arith)));
+    }

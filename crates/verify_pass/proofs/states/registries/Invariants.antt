@@ -1,0 +1,13 @@
+use Rattle.std.proofs.Common.{◌≡◌, ℕ, length, Some}
+use Rattle.std.specs.Prelude.{slice_get}
+use Rattle.registry_state.specs.declared.registry.Registry.{Registry}
+use Rattle.verify_pass.specs.Chosen.{slots, EndsBy}
+use Rattle.verify_pass.specs.States.{IsWhole}
+use Rattle.verify_pass.proofs.states.registries.Given as goal
+
+-- the shards so far have their registries
+abbrev pub invariant-loop-shard : goal.invariant-loop-shard
+invariant-loop-shard l = record {
+  count : length l.registries.items ≡ l.shard;
+  known : EndsBy l.chosen → (s : ℕ) (state : Registry) → slice_get l.registries.items s ≡ Some state → IsWhole (slots l.chosen s) state;
+}

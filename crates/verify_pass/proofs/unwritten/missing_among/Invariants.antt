@@ -1,0 +1,17 @@
+use Rattle.std.proofs.Common.{◌≡◌, ◌++◌, List, take, drop}
+use Rattle.std.specs.Prelude.{filter}
+use Rattle.std.specs.List.Sorted.{IsStrictlySortedBy}
+use Rattle.event_id.specs.declared.id.EventId.{EventId}
+use Rattle.event_id.specs.EventId.{id_cmp}
+use Rattle.registry_state.specs.declared.Batch.{Batch}
+use Rattle.verify_pass.specs.Classes.{is_missing_by}
+use Rattle.verify_pass.specs.States.{KnowAll}
+use Rattle.verify_pass.specs.Written.{pair_at}
+use Rattle.verify_pass.proofs.unwritten.missing_among.Given as goal
+
+-- the missing ones of the ids so far; with the ids to come they rise
+abbrev pub invariant-loop-id : goal.invariant-loop-id
+invariant-loop-id l = record {
+  rising : IsStrictlySortedBy id_cmp l.ids → IsStrictlySortedBy id_cmp (l.left.items ++ drop l.id-index l.ids);
+  exactly : (batches : EventId → List Batch) → KnowAll l.registries l.table batches → l.left.items ≡ filter (λ i. is_missing_by (batches i) (pair_at l.written i) i) (take l.id-index l.ids);
+}

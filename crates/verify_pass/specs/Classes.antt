@@ -1,0 +1,53 @@
+-- What the records of all journals say of an id: registered, written, missing, and its line in the report.
+use Rattle.std.specs.Prelude.{◌≡◌, ℕ, Bool, true, false, not, ◌&&◌, is_some, nat_lt, List, [], ◌∷◌, ◌++◌, map, find, if◌then◌else◌, Option, Some, None}
+use Rattle.std.specs.List.{flat_map}
+use Rattle.event_id.specs.declared.id.EventId.{EventId}
+use Rattle.event_id.specs.EventId.{is_same as same_id, id_cmp}
+use Rattle.registry_state.specs.declared.Batch.{Batch}
+use Rattle.registry_state.specs.LookBack.{holder, bound_of}
+use Rattle.registry_state.specs.Same.{same_batch}
+use Rattle.log_records.specs.declared.records.ClickRec.{ClickRec}
+use Rattle.log_defs.specs.declared.ReportLine.{ReportLine}
+use Rattle.log_defs.specs.declared.ReportLine.TheVariants.{J, M, X, U}
+use Rattle.output_log.specs.declared.pair.PairRec.{PairRec}
+use Rattle.paxos_defs.specs.Notes.{Note}
+use Rattle.paxos_defs.specs.Decided as paxos
+use Rattle.paxos_acceptor.specs.Cells.{note_view}
+use Rattle.time_shards.specs.declared.ShardRow.{ShardRow}
+use Rattle.time_shards.specs.Shards.{shard_of}
+use Rattle.verify_pass.specs.declared.journals.Journals.{Journals}
+
+-- the replicas' notes in the terms of Paxos
+abbrev pub notes_of : Journals → List (List (Note Batch))
+notes_of journals = map (map note_view) journals.notes.items
+
+-- the pairs of all output logs, in the disks' order
+abbrev pub all_pairs : Journals → List PairRec
+all_pairs journals = flat_map (λ pairs. pairs) journals.pairs.items
+
+-- the batches decided in the shard of an id
+abbrev pub decided_for : Journals → List ShardRow → EventId → List Batch
+decided_for journals table i = paxos.decided same_batch (notes_of journals) (shard_of table i)
+
+-- the first pair of an id among these
+abbrev pub first_pair : List PairRec → EventId → Option PairRec
+first_pair pairs i = find (λ (p : PairRec). same_id p.click.id i) pairs
+
+abbrev pub unwritten_line : List Batch → EventId → ReportLine
+unwritten_line applied i = if is_some (holder applied i) then M i else if nat_lt i.micros (bound_of applied) then X i else U i
+
+abbrev pub line_by : List Batch → EventId → Option PairRec → ReportLine
+line_by applied i None = unwritten_line applied i
+line_by applied i (Some p) = J p.click p.query
+
+-- J where written, else M where registered, else X where expired, else U
+abbrev pub line_of : Journals → List ShardRow → EventId → ReportLine
+line_of journals table i = line_by (decided_for journals table i) i (first_pair (all_pairs journals) i)
+
+-- whether an id is registered by these batches and has no pair
+abbrev pub is_missing_by : List Batch → Option PairRec → EventId → Bool
+is_missing_by applied pair i = is_some (holder applied i) && not (is_some pair)
+
+-- whether it is registered in its shard and not written in any output log
+abbrev pub is_missing : Journals → List ShardRow → EventId → Bool
+is_missing journals table i = is_missing_by (decided_for journals table i) (first_pair (all_pairs journals) i) i

@@ -1,0 +1,5 @@
+pub mod Votes
+pub mod Chosen
+pub mod Classes
+pub mod Written
+pub mod States

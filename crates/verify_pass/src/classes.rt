@@ -1,0 +1,66 @@
+// The class of each click.
+ghost use Rattle.std.specs.Prelude.{◌≡◌, List, length, map, IfOk};
+ghost use Rattle.log_records.specs.declared.records.ClickRec.{ClickRec as Click};
+ghost use Rattle.log_defs.specs.Report.{distinct};
+ghost use Rattle.paxos_defs.specs.Agreement.{JournalsAgree};
+ghost use Rattle.event_id.specs.declared.id.EventId.{EventId as Id};
+ghost use Rattle.registry_state.specs.declared.Batch.{Batch as Value};
+ghost use Rattle.time_shards.specs.Shards.{shard_count};
+ghost use Rattle.verify_pass.specs.Classes.{line_by, line_of, notes_of};
+ghost use Rattle.verify_pass.specs.States.{KnowAll};
+ghost use Rattle.verify_pass.specs.Written.{pair_at};
+
+use crate::Journals;
+use crate::chosen::Chosen;
+use crate::distinct::distinct_ids;
+use crate::lines::line_for;
+use crate::states::{registries, registry_for};
+use crate::written::Written;
+use event_id::EventId;
+use log_defs::ReportLine;
+use log_records::ClickRec;
+use registry_state::Registry;
+use std::alloc::{AllocError, Global};
+use time_shards::Table;
+
+/// The report's line for each distinct click id, in the order of ids: joined where a pair with the id was written (the
+/// first one, in the order of the disks), else missing where the id is registered in its shard, else expired where it
+/// lies below its shard's bound, else unmatched.
+///
+/// O(n log n) for n clicks, and expected linear time in the records, twice over the notes: a note costs a look-up for
+/// each replica. It copies the texts of the pairs that are told, and no other record.
+pub fn classify(
+    alloc: Global,
+    clicks: &[ClickRec],
+    journals: &Journals,
+    table: &Table,
+) -> Result<Vec<ReportLine>, AllocError>
+    ensures { IfOk result (λ lines. JournalsAgree (notes_of journals.now) → lines.items ≡ map (λ (c : Click). line_of journals.now table.now c.id) (distinct clicks.now)) }
+{
+    let chosen = Chosen::of(alloc, &journals.notes)?;
+    let registries = registries(alloc, &chosen, table.shards())?;
+    let written = Written::of(alloc, &journals.pairs)?;
+    let ids = distinct_ids(alloc, clicks)?;
+    let lines = lines_of(alloc, &ids, &registries, &written, table)?;
+    Ok(lines)
+}
+
+// The line of each id, in their order.
+fn lines_of(
+    alloc: Global,
+    ids: &[EventId],
+    registries: &[Registry],
+    written: &Written,
+    table: &Table,
+) -> Result<Vec<ReportLine>, AllocError>
+    requires { length registries.now ≡ shard_count table.now }
+    ensures { IfOk result (λ lines. (batches : Id → List Value) → KnowAll registries.now table.now batches → lines.items ≡ map (λ i. line_by (batches i) i (pair_at written.now i)) ids.now) }
+{
+    let mut lines = Vec::new(alloc);
+    for id in ids {
+        let registry = registry_for(registries, table, *id);
+        let line = line_for(alloc, registry, written.get(*id), *id)?;
+        lines.push(line)?;
+    }
+    Ok(lines)
+}

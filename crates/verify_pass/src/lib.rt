@@ -1,0 +1,19 @@
+//! What the records of all journals say of each click id: which ids were registered and never written, and the line of
+//! each click in the report.
+#![tactic(auto)]
+
+mod chosen;
+mod classes;
+mod distinct;
+#[cfg(test)]
+mod examples;
+mod journals;
+mod lines;
+mod states;
+mod unwritten;
+mod votes;
+mod written;
+
+pub use classes::classify;
+pub use journals::{Journals, NoteList, PairList};
+pub use unwritten::missing;

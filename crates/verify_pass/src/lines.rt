@@ -1,0 +1,65 @@
+// The line of an id.
+ghost use Rattle.std.specs.Prelude.{◌≡◌, List, Option, IfOk, option_map};
+ghost use Rattle.log_defs.specs.declared.ReportLine.TheVariants.{J};
+ghost use Rattle.registry_state.specs.declared.Batch.{Batch as Value};
+ghost use Rattle.registry_state.specs.Registry.{Knows};
+ghost use Rattle.verify_pass.specs.Classes.{line_by, unwritten_line};
+
+use event_id::EventId;
+use log_defs::ReportLine;
+use log_records::{ClickRec, QueryRec, Text};
+use output_log::PairRec;
+use registry_state::Registry;
+use std::alloc::{AllocError, Global};
+
+/// The line of an id whose first pair is given. Only a pair's texts take memory.
+pub fn line_for(
+    alloc: Global,
+    registry: &Registry,
+    pair: Option<&PairRec>,
+    id: EventId,
+) -> Result<ReportLine, AllocError>
+    ensures { IfOk result (λ line. (applied : List Value) → Knows registry.now applied → line ≡ line_by applied id (option_map (λ p. p.now) pair.entry)) }
+{
+    match pair {
+        Some(pair) => joined(alloc, pair),
+        None => Ok(unwritten(registry, id)),
+    }
+}
+
+fn unwritten(registry: &Registry, id: EventId) -> ReportLine
+    ensures { (applied : List Value) → Knows registry.now applied → result ≡ unwritten_line applied id }
+{
+    if registry.holder(id).is_some() {
+        ReportLine::M(id)
+    } else if id.micros < registry.bound() {
+        ReportLine::X(id)
+    } else {
+        ReportLine::U(id)
+    }
+}
+
+fn joined(alloc: Global, pair: &PairRec) -> Result<ReportLine, AllocError>
+    ensures { IfOk result (λ line. line ≡ J pair.now.click pair.now.query) }
+{
+    let click = ClickRec {
+        id: pair.click.id,
+        query: pair.click.query,
+        text: copy(alloc, &pair.click.text)?,
+    };
+    let query = QueryRec {
+        id: pair.query.id,
+        text: copy(alloc, &pair.query.text)?,
+    };
+    Ok(ReportLine::J { click, query })
+}
+
+// A text that stands already is no other than a text, so only want of memory refuses its copy.
+fn copy(alloc: Global, text: &Text) -> Result<Text, AllocError>
+    ensures { IfOk result (λ copy. copy ≡ text.now) }
+{
+    match Text::read(alloc, text.as_bytes()) {
+        Ok(copy) => Ok(copy),
+        Err(_) => Err(AllocError),
+    }
+}
