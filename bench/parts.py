@@ -88,14 +88,14 @@ fn main() {
             let (held, _) = apply_all(count);
             (0..count / 64 * 64).filter(|n| { let (id, token) = insert(*n); held.get(&id) == Some(&token) }).count() as u64
         }
-        "encode" => (0..count).map(|n| encode(n).len() as u64).sum(),
+        "encode" => (0..count).map(|n| std::hint::black_box(encode(n)).len() as u64).sum(),
         "decode" => {
             let mut bytes = encode(0);
             let mut sum = 0;
             for n in 0..count {
                 let len = bytes.len();
                 bytes[len - 1] = n as u8;
-                sum += decode(&bytes).map_or(0, |i| i.1 .2);
+                sum += decode(std::hint::black_box(&bytes)).map_or(0, |i| i.1 .2);
             }
             sum
         }
