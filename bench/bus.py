@@ -1,0 +1,126 @@
+#!/usr/bin/env python3
+"""Times the turn lock, side by side with the same work under a std::sync::Mutex in Rust, in one run, and prints ratios.
+
+usage: bench/bus.py [TURNS]      (default: 200000)
+
+Each of 1, 4 and 8 threads takes TURNS turns of its node in all, a begin and an end each, without packets, so that what is timed is
+the lock and the one entry that each call adds. The Rust program keeps its history, the nodes' phases and the number of open
+turns under a Mutex, with the same entries. Each is timed as a process, the best of three, less the same process with no turn.
+Where there is no rustc the Rust column is left out. Nothing is written outside a temporary folder.
+"""
+import os
+import shutil
+import subprocess
+import sys
+import tempfile
+import time
+
+TOP = os.path.dirname(os.path.dirname(os.path.abspath(__file__)))
+CRATE = os.path.join(TOP, "crates/bench_bus")
+
+RUST = r"""
+use std::sync::{Arc, Mutex};
+#[derive(Clone, Copy, PartialEq)]
+enum Phase { Down, Idle, Busy }
+#[allow(dead_code)]
+enum Input { Start, Tick, Own, Packet { from: u16, bytes: Arc<[u8]> } }
+#[allow(dead_code)]
+enum Entry {
+    Begin { node: u16, input: Input },
+    End { node: u16, note: Option<Arc<[u8]>>, packets: Vec<(u16, Arc<[u8]>)>, kept: u32 },
+}
+struct Air { phases: Vec<Phase>, busy: usize, history: Vec<Entry> }
+impl Air {
+    fn begin(&mut self, node: u16) -> Option<Input> {
+        self.history.reserve(self.busy + 2);
+        let make = |phase| match phase { Phase::Down => Some(Input::Start), Phase::Idle => Some(Input::Own), Phase::Busy => None };
+        let phase = self.phases[node as usize];
+        let input = make(phase)?;
+        self.history.push(Entry::Begin { node, input: make(phase)? });
+        self.phases[node as usize] = Phase::Busy;
+        self.busy += 1;
+        Some(input)
+    }
+    fn end(&mut self, node: u16, packets: Vec<(u16, Arc<[u8]>)>) {
+        let kept = packets.len() as u32;
+        self.history.push(Entry::End { node, note: None, packets, kept });
+        self.phases[node as usize] = Phase::Idle;
+        self.busy -= 1;
+    }
+}
+fn main() {
+    let words: Vec<String> = std::env::args().collect();
+    let threads: usize = words[1].parse().unwrap();
+    let turns: u32 = words[2].parse().unwrap();
+    let air = Mutex::new(Air { phases: vec![Phase::Down; threads], busy: 0, history: Vec::new() });
+    for _round in 0..2 {
+        std::thread::scope(|scope| {
+            for node in 0..threads as u16 {
+                let air = &air;
+                scope.spawn(move || for _ in 0..turns {
+                    let begun = air.lock().unwrap().begin(node);
+                    if begun.is_none() { return; }
+                    air.lock().unwrap().end(node, Vec::new());
+                });
+            }
+        });
+    }
+    println!("{}", air.lock().unwrap().history.len());
+}
+"""
+
+
+def seconds(words):
+    """The best of three runs, and what was printed."""
+    best, printed = None, ""
+    for _ in range(3):
+        begin = time.perf_counter()
+        done = subprocess.run(words, capture_output=True, text=True, check=True)
+        spent = time.perf_counter() - begin
+        best, printed = (spent if best is None else min(best, spent)), done.stdout.strip()
+    return best, printed
+
+
+def rust_program(folder):
+    if shutil.which("rustc") is None:
+        print("no rustc: the Rust column is left out")
+        return None
+    source, program = os.path.join(folder, "bus.rs"), os.path.join(folder, "bus")
+    with open(source, "w", encoding="utf-8") as it:
+        it.write(RUST)
+    subprocess.run(["rustc", "-O", "--edition", "2021", "-o", program, source], check=True)
+    return program
+
+
+def main():
+    turns = int(sys.argv[1]) if len(sys.argv) > 1 else 200_000
+    ours = os.path.join(CRATE, "out/bench_bus")
+    if shutil.which("rt") is not None:
+        print("building bench_bus; from nothing this takes some minutes", file=sys.stderr)
+        subprocess.run(["rt", "run", "--", "1", "0"], cwd=CRATE, stdout=subprocess.DEVNULL, stderr=subprocess.DEVNULL, check=False)
+    if not os.path.exists(ours):
+        print("bench_bus isn't built: nothing timed")
+        return 1
+    with tempfile.TemporaryDirectory() as folder:
+        rust = rust_program(folder)
+        for threads in (1, 4, 8):
+            each = turns // 2 // threads
+            cost, printed = {}, set()
+            for name, program in (("here", ours), ("Rust", rust)):
+                if program is None:
+                    continue
+                start, _ = seconds([program, str(threads), "0"])
+                spent, said = seconds([program, str(threads), str(each)])
+                cost[name] = (spent - start) / (2 * each * threads)
+                printed.add(said)
+            line = f"{threads} threads: {cost['here'] * 1e9:8.0f} ns a turn"
+            if "Rust" in cost:
+                line += f", {cost['here'] / cost['Rust']:.2f} of the Mutex's {cost['Rust'] * 1e9:.0f}"
+            if len(printed) > 1:
+                line += f"; DIFFERENT ANSWERS {sorted(printed)}"
+            print(line)
+    return 0
+
+
+if __name__ == "__main__":
+    sys.exit(main())
