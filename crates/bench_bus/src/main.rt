@@ -3,8 +3,10 @@
 
 use bus_rounds::run;
 use lossy_link::Kind;
-use std::alloc::AllocError;
+use std::alloc::{AllocError, Global};
 use std::process::ExitCode;
+use std::sync::Wait;
+use std::thread::Threads;
 use std::{env, io};
 
 /// The most threads.
@@ -17,7 +19,7 @@ fn main(rt: HostRuntime) -> ExitCode {
     let Ok((threads, turns)) = words(&rt) else {
         return ExitCode::from(2);
     };
-    match entries(&rt, threads, turns) {
+    match entries(&rt, rt.alloc(), threads, turns) {
         Ok(entries) => {
             let _ = println!(rt; "{entries}");
             ExitCode::SUCCESS
@@ -42,8 +44,13 @@ fn words(rt: &HostRuntime) -> io::Result<(usize, u32)> {
 }
 
 // How many entries the history has in the end.
-fn entries(rt: &HostRuntime, threads: usize, turns: u32) -> Result<usize, AllocError> {
+fn entries<R: Threads + Wait + Sync>(
+    rt: &R,
+    alloc: Global,
+    threads: usize,
+    turns: u32,
+) -> Result<usize, AllocError> {
     let nodes = &NODES[..threads.min(NODES.len())];
-    let (air, _, _) = run(rt, rt.alloc(), nodes, turns, false)?;
+    let (air, _, _) = run(rt, alloc, nodes, turns, false)?;
     Ok(air.history().len())
 }
