@@ -1,12 +1,15 @@
 // A kind of node.
-ghost use Rattle.std.specs.Prelude.{IsTrue, ◌≡◌, ◌≢◌, ◌≤◌, ◌<◌, ◌^◌, length, IsErrOf, ℕ, Bool, true, false, Option, Some, IfOk, OnOk, OnErr};
+ghost use Rattle.std.specs.Prelude.{IsTrue, ◌≡◌, ◌≢◌, ◌≤◌, length, IsErrOf, ℕ, Bool, true, false, Option, Some, IfOk, OnOk, OnErr};
 ghost use Rattle.air_bus.specs.declared.entry.Entry.{Entry};
 ghost use Rattle.air_bus.specs.declared.entry.Entry.TheVariants.{Begin, End, Stop};
 ghost use Rattle.air_bus.specs.declared.entry.Phase.{Phase};
+ghost use Rattle.air_bus.specs.declared.entry.Phase.TheVariants.{Busy};
+ghost use Rattle.air_bus.specs.declared.entry.Input.{Input};
+ghost use Rattle.air_bus.specs.Copies.{Copy};
+ghost use Rattle.air_bus.specs.History.{next_input, phase_after};
 
 use air_bus::{Input, Packets, Payload};
 use outside::{DiskName, Gate};
-use std::alloc::Global;
 
 /// Why a turn isn't done, or a node isn't up again. After `Read`, `Spent` and `Memory` of a turn the node and its disks are
 /// as they were, and its turn is open still.
@@ -53,6 +56,12 @@ pub trait SiteNode {
 
     /// Whether the node and its disks stand at the state.
     ghost stands: { Self → State → Type 0 };
+
+    /// What the bus gives a node that has no open turn leads on.
+    ghost begins: { (s : State) (n : ℕ) (next : Option Copy) (tick wants : Bool) (i : Input) → phase_of s ≢ Busy → next_input (phase_of s) next tick wants ≡ Some i → (t : State) × leads s (Begin n i) t };
+
+    /// An entry leaves a state where the entry says.
+    ghost phases: { (s t : State) (e : Entry) → leads s e t → phase_of t ≡ phase_after e };
 
     /// Whether it has something to do by itself.
     fn wants(&self) -> bool;

@@ -1,5 +1,5 @@
 -- Laws of the states that a node's entries lead through.
-use Rattle.std.proofs.Common.{◌≡◌, ◌≢◌, ⊎_elim, Bool, true, false, List, [], ◌∷◌, ◌++◌, Option, Some, None, refl, sym, ap, subst}
+use Rattle.std.proofs.Common.{◌≡◌, ◌≢◌, ⊎_elim, ℕ, Bool, true, false, List, [], ◌∷◌, ◌++◌, Option, Some, None, refl, sym, ap, subst}
 use Rattle.std.specs.Bool.{⊤}
 use Rattle.air_bus.specs.declared.entry.Entry.{Entry}
 use Rattle.air_bus.specs.declared.entry.Entry.TheVariants.{Begin, End, Stop}
@@ -9,7 +9,7 @@ use Rattle.air_bus.specs.declared.entry.Phase.TheVariants.{Busy}
 use Rattle.air_bus.specs.Copies.{Copy}
 use Rattle.air_bus.specs.Inputs.{packet_input}
 use Rattle.air_bus.specs.History.{next_input, phase_after}
-use Rattle.site_node.specs.States.{State, Rows, Leads, Path, MayTake, up_phase, phase_by, state_phase}
+use Rattle.site_node.specs.States.{State, Rows, Leads, Path, MayTake, up_phase, phase_by, state_phase, opens}
 
 -- one more entry at the end of a path
 pub path_more : {K L : Type 0} (rows : Rows K L) (s t u : State K L) (es : List Entry) (e : Entry) → Path rows s es t → Leads rows t e u → Path rows s (es ++ e ∷ []) u
@@ -46,3 +46,7 @@ pub taken_fits : {K L : Type 0} (s : State K L) (next : Option Copy) (tick wants
 taken_fits s next tick wants i ne e =
     let closed = closed_by s.live s.opened ne in
     (closed, fits s.live next tick wants i (subst (λ o. next_input (phase_by s.live o) next tick wants ≡ Some i) closed e))
+
+-- so an entry of it leads on
+pub begins : {K L : Type 0} (rows : Rows K L) (s : State K L) (n : ℕ) (next : Option Copy) (tick wants : Bool) (i : Bytes) → state_phase s ≢ Busy → next_input (state_phase s) next tick wants ≡ Some i → (t : State K L) × Leads rows s (Begin n i) t
+begins rows s n next tick wants i ne e = let fit = taken_fits s next tick wants i ne e in (opens s i, (fit.0, fit.1, refl))
