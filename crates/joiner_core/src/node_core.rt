@@ -174,10 +174,7 @@ impl JoinerCore {
     {
         Ok(Turn {
             note: None,
-            packets: self.one(
-                Node::Dispatcher(self.site),
-                Packet::Joined { position, outcome },
-            )?,
+            packets: self.joined(position, outcome)?,
             change: Change::Stay,
         })
     }
@@ -297,12 +294,17 @@ impl JoinerCore {
     {
         Ok(Turn {
             note,
-            packets: self.one(
-                Node::Dispatcher(self.site),
-                Packet::Joined { position, outcome },
-            )?,
+            packets: self.joined(position, outcome)?,
             change: Change::Land(insert),
         })
+    }
+
+    // A Joined goes to the site's dispatcher.
+    fn joined(&self, position: u64, outcome: Outcome) -> Result<Vec<(Node, Packet)>, AllocError>
+        ensures { IfOk result (λ packets. packets.items ≡ (Dispatcher self.now.site, packet.Joined position outcome) ∷ []) }
+    {
+        let dispatcher = Node::Dispatcher(self.site);
+        self.one(dispatcher, Packet::Joined { position, outcome })
     }
 
     // One packet to one node.
@@ -335,5 +337,13 @@ impl JoinerCore {
             }
             Change::Land(insert) => self.flights.land(insert),
         }
+    }
+}
+
+#[cfg(test)]
+impl JoinerCore {
+    // The next token gets this number.
+    pub(crate) fn skip_to(&mut self, number: u64) {
+        self.number = number;
     }
 }
