@@ -1,2 +1,4 @@
 pub mod Joiner
 pub mod Rows
+pub mod Flying
+pub mod Standing

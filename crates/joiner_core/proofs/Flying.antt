@@ -1,0 +1,104 @@
+-- The joins in flight as a list, made of the entries of a map.
+use Rattle.std.proofs.Common.{◌≡◌, ℕ, Bool, true, false, cond, List, [], ◌∷◌, ◌++◌, ◌&&◌, ◌||◌, map, Option, Some, None, option_map, is_some, refl, sym, ap, subst, ◌∙◌}
+use Rattle.std.specs.List.{AllByRecursion, IsDistinct, find}
+use Rattle.std.specs.Map.{keys_of, lookup}
+use Rattle.indexmap.specs.IndexMap.{shift_remove_entry}
+use Rattle.event_id.specs.declared.id.EventId.{EventId}
+use Rattle.event_id.specs.EventId.{is_same as same_id}
+use Rattle.registry_state.specs.declared.Insert.{Insert}
+use Rattle.registry_state.specs.Same.{same_token}
+use Rattle.registry_state.proofs.Tests.{same_id-true, same_id-refl}
+use Rattle.std.proofs.lemmas.Bool.{true≢false}
+use Rattle.list_words.proofs.Lists.{none_some}
+use Rattle.joiner_core.specs.declared.flights.Waiting.{Waiting}
+use Rattle.joiner_core.specs.Joiner.{Flight, in_flight, is_for, landed}
+use Rattle.joiner_core.specs.Flying.{flight_of}
+
+abbrev pub flight_at : EventId × Waiting → Flight
+flight_at e = flight_of e.0 e.1
+
+same_id-sym : (a b : EventId) → same_id a b ≡ same_id b a
+same_id-sym a b = go (same_id a b) (same_id b a) refl refl
+  where
+    go : (x y : Bool) → same_id a b ≡ x → same_id b a ≡ y → same_id a b ≡ same_id b a
+    go true y p q = p ∙ sym (subst (λ (z : EventId). same_id z a ≡ true) (same_id-true a b p) (same_id-refl a))
+    go false true p q = subst (λ (z : EventId). same_id z b ≡ true) (same_id-true b a q) (same_id-refl b) ∙ sym q
+    go false false p q = p ∙ sym q
+
+-- an id is in flight where it has an entry
+pub in_flight-lookup : (es : List (EventId × Waiting)) (i : EventId) → in_flight (map flight_at es) i ≡ is_some (lookup (same_id i) es)
+in_flight-lookup [] i = refl
+in_flight-lookup (e ∷ es) i = ap (λ b. b || in_flight (map flight_at es) i) (same_id-sym e.0 i) ∙ go (same_id i e.0) (in_flight-lookup es i)
+  where
+    go : (b : Bool) → in_flight (map flight_at es) i ≡ is_some (lookup (same_id i) es) → (b || in_flight (map flight_at es) i) ≡ is_some (cond b (Some e.1) (lookup (same_id i) es))
+    go true h = refl
+    go false h = h
+
+pub flights-push : (es : List (EventId × Waiting)) (e : EventId × Waiting) → map flight_at (es ++ e ∷ []) ≡ map flight_at es ++ flight_at e ∷ []
+flights-push [] e = refl
+flights-push (x ∷ es) e = let h = flights-push es e in λ j. flight_at x ∷ h j
+
+-- the join of the entry's id, where it is under the token
+abbrev pub held : Insert → Option Waiting → Option Flight
+held x None = None
+held x (Some w) = cond (same_token w.token x.token) (Some (flight_of x.id w)) None
+
+-- no key is the id
+abbrev Lacks : EventId → List (EventId × Waiting) → Type 0
+Lacks i es = AllByRecursion (λ y. same_id i y ≡ false) (keys_of es)
+
+other : (i k : EventId) (b : Bool) → same_id i k ≡ b → same_id k i ≡ b
+other i k b h = same_id-sym k i ∙ h
+
+find-lacks : (es : List (EventId × Waiting)) (x : Insert) → Lacks x.id es → find (is_for x) (map flight_at es) ≡ None
+find-lacks [] x h = refl
+find-lacks (e ∷ es) x h = ap (λ b. cond (b && same_token e.1.token x.token) (Some (flight_at e)) (find (is_for x) (map flight_at es))) (other x.id e.0 false h.0) ∙ find-lacks es x h.1
+
+-- where no two keys are one, the join of an id and a token is that of the id's entry
+pub find-lookup : (es : List (EventId × Waiting)) (x : Insert) → IsDistinct same_id (keys_of es) → find (is_for x) (map flight_at es) ≡ held x (lookup (same_id x.id) es)
+unfolding IsDistinct
+find-lookup [] x d = refl
+find-lookup (e ∷ es) x d = go (same_id x.id e.0) refl (find-lookup es x d.1)
+  where
+    go : (b : Bool) → same_id x.id e.0 ≡ b → find (is_for x) (map flight_at es) ≡ held x (lookup (same_id x.id) es)
+        → cond (same_id e.0 x.id && same_token e.1.token x.token) (Some (flight_at e)) (find (is_for x) (map flight_at es)) ≡ held x (cond b (Some e.1) (lookup (same_id x.id) es))
+    go true p rec =
+        let one = same_id-true x.id e.0 p in
+        let lacks = subst (λ (i : EventId). Lacks i es) (sym one) d.0 in
+        let s = other x.id e.0 true p in
+        let none = find-lacks es x lacks in
+        λ j. cond (s j && same_token e.1.token x.token) (Some (flight_of (sym one j) e.1)) (none j)
+    go false p rec = ap (λ b. cond (b && same_token e.1.token x.token) (Some (flight_at e)) (find (is_for x) (map flight_at es))) (other x.id e.0 false p) ∙ rec
+
+-- what isn't in flight leaves nothing
+pub landed-none : (fs : List Flight) (x : Insert) → find (is_for x) fs ≡ None → landed fs x ≡ fs
+landed-none [] x h = refl
+landed-none (f ∷ fs) x h = go (is_for x f) h (landed-none fs x)
+  where
+    go : (b : Bool) → cond b (Some f) (find (is_for x) fs) ≡ None → (find (is_for x) fs ≡ None → landed fs x ≡ fs) → cond b (landed fs x) (f ∷ landed fs x) ≡ f ∷ fs
+    go true h rec = none_some f (sym h)
+    go false h rec = let r = rec h in λ j. f ∷ r j
+
+-- what is in flight leaves by its id
+pub landed-some : (es : List (EventId × Waiting)) (x : Insert) → IsDistinct same_id (keys_of es) → is_some (find (is_for x) (map flight_at es)) ≡ true → landed (map flight_at es) x ≡ map flight_at (shift_remove_entry (same_id x.id) es)
+unfolding IsDistinct
+landed-some [] x d h = refl
+landed-some (e ∷ es) x d h = by_id (same_id x.id e.0) refl h (landed-some es x d.1)
+  where
+    by_token : Lacks x.id es → (b c : Bool) → b ≡ true → is_some (cond (b && c) (Some (flight_at e)) (find (is_for x) (map flight_at es))) ≡ true → cond (b && c) (landed (map flight_at es) x) (flight_at e ∷ landed (map flight_at es) x) ≡ map flight_at es
+    by_token lacks true true p h = landed-none (map flight_at es) x (find-lacks es x lacks)
+    by_token lacks true false p h = absurd (true≢false (sym h ∙ ap is_some (find-lacks es x lacks)))
+    by_token lacks false c p h = absurd (true≢false (sym p))
+
+    by_id : (b : Bool) → same_id x.id e.0 ≡ b → is_some (cond (same_id e.0 x.id && same_token e.1.token x.token) (Some (flight_at e)) (find (is_for x) (map flight_at es))) ≡ true
+        → (is_some (find (is_for x) (map flight_at es)) ≡ true → landed (map flight_at es) x ≡ map flight_at (shift_remove_entry (same_id x.id) es))
+        → cond (same_id e.0 x.id && same_token e.1.token x.token) (landed (map flight_at es) x) (flight_at e ∷ landed (map flight_at es) x) ≡ map flight_at (cond b es (e ∷ shift_remove_entry (same_id x.id) es))
+    by_id true p h rec = by_token (subst (λ (i : EventId). Lacks i es) (sym (same_id-true x.id e.0 p)) d.0) (same_id e.0 x.id) (same_token e.1.token x.token) (other x.id e.0 true p) h
+    by_id false p h rec =
+        let s = other x.id e.0 false p in
+        let r = rec (sym (ap (λ b. is_some (cond (b && same_token e.1.token x.token) (Some (flight_at e)) (find (is_for x) (map flight_at es)))) s) ∙ h) in
+        ap (λ b. cond (b && same_token e.1.token x.token) (landed (map flight_at es) x) (flight_at e ∷ landed (map flight_at es) x)) s ∙ (λ j. flight_at e ∷ r j)
+
+pub is_some-mapped : {A B : Type 0} (f : A → B) (o : Option A) → is_some (option_map f o) ≡ is_some o
+is_some-mapped f None = refl
+is_some-mapped f (Some a) = refl

@@ -1,0 +1,16 @@
+use Rattle.std.proofs.Common.{◌≡◌, ◌++◌, ◌∷◌, [], map, None, sym, ap, ◌∙◌}
+use Rattle.indexmap.specs.IndexMap.{get}
+use Rattle.indexmap.proofs.CallerLemmas.{insert_entry-new}
+use Rattle.event_id.specs.EventId.{is_same as same_id}
+use Rattle.registry_state.proofs.Learning.{succeeded, nobody}
+use Rattle.joiner_core.proofs.Flying.{flight_at, in_flight-lookup, flights-push}
+use Rattle.joiner_core.proofs.flights.Flights.add.Goals as goal
+
+pub returns : goal.returns
+returns c =
+    let old = c.args.self.now in
+    let id = c.args.id in
+    let waiting = c.args.waiting in
+    let new : get same_id old.waiting id ≡ None = nobody (get same_id old.waiting id) (sym (in_flight-lookup old.waiting.entries id) ∙ c.requires.new) in
+    let entries : c.insert.new.self.entries ≡ old.waiting.entries ++ (id, waiting) ∷ [] = succeeded c.insert.result _ (c.insert.ensures.succeeds c.requires.room) c.insert.ensures.entries ∙ insert_entry-new same_id old.waiting id waiting new in
+    ap (map flight_at) entries ∙ flights-push old.waiting.entries (id, waiting)

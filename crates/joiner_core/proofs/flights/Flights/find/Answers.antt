@@ -1,0 +1,30 @@
+use Rattle.std.proofs.Common.{◌≡◌, true, false, Some, None, sym, ap, ◌∙◌, rules}
+use Rattle.std.specs.Map.{lookup}
+use Rattle.std.proofs.lemmas.Bool.{cond-true, cond-false}
+use Rattle.event_id.specs.EventId.{is_same as same_id}
+use Rattle.registry_state.specs.Same.{same_token}
+use Rattle.joiner_core.specs.Flying.{flight_of}
+use Rattle.joiner_core.proofs.Flying.{held, find-lookup}
+use Rattle.joiner_core.proofs.flights.Flights.find.Goals as goal
+
+pub returns-in_default : goal.returns-in_default
+returns-in_default c =
+    let map = c.args.self.now.waiting in
+    let x = c.args.insert in
+    sym (find-lookup map.entries x c.args.self.now.unique ∙ ap (held x) (sym c.in_default.ensures.value))
+
+pub returns-then-eq : goal.returns-then-eq
+returns-then-eq c =
+    let map = c.args.self.now.waiting in
+    let x = c.args.insert in
+    let w = c.in-Some.waiting.now in
+    let same : same_token w.token x.token ≡ true = search rules in
+    sym (find-lookup map.entries x c.args.self.now.unique ∙ ap (held x) (sym c.in-Some.ensures.value) ∙ cond-true (same_token w.token x.token) (Some (flight_of x.id w)) None same)
+
+pub returns-else-eq : goal.returns-else-eq
+returns-else-eq c =
+    let map = c.args.self.now.waiting in
+    let x = c.args.insert in
+    let w = c.in-Some.waiting.now in
+    let other : same_token w.token x.token ≡ false = search rules in
+    sym (find-lookup map.entries x c.args.self.now.unique ∙ ap (held x) (sym c.in-Some.ensures.value) ∙ cond-false (same_token w.token x.token) (Some (flight_of x.id w)) None other)

@@ -1,0 +1,129 @@
+// The joins in flight, by their clicks' ids.
+ghost use Rattle.std.specs.Prelude.{◌≤◌};
+ghost use Rattle.indexmap.specs.IndexMap.{IsUnique, index_map_len};
+ghost use Rattle.event_id.specs.EventId.{is_same as same_id};
+ghost use Rattle.std.proofs.Props.{props};
+
+use event_id::EventId;
+use indexmap::IndexMap;
+use log_records::{QueryRec, Text};
+use packet_codec::{Node, Packet};
+use registry_state::{Insert, Token};
+use std::alloc::{AllocError, Global};
+
+/// How many joins may be in flight.
+pub const MOST: usize = 32;
+
+/// A join that waits for the registry, but for its click's id.
+#[derive(Debug, Drop)]
+pub struct Waiting {
+    pub position: u64,
+    // the id of the click's query, and the click's text
+    pub asked: EventId,
+    pub text: Text,
+    pub query: QueryRec,
+    pub token: Token,
+}
+
+/// The joins in flight, in the order in which they began. No two have one click's id, and at most 32 are in flight.
+#[derive(Debug, Drop)]
+pub struct Flights {
+    waiting: IndexMap<EventId, Waiting>,
+    alloc: Global,
+    ghost unique: { IsUnique same_id waiting } by { Prim.hlevel props },
+    ghost few: { index_map_len waiting ≤ 32 } by { Prim.hlevel props },
+}
+
+impl Flights {
+    ghost use Rattle.std.specs.Prelude.{◌≡◌, ◌++◌, ◌∷◌, [], ◌<◌, ◌==◌, false, length, map, find, IfOk, OnOk};
+    ghost use Rattle.std.specs.Option.{option_map};
+    ghost use Rattle.joiner_core.specs.Joiner.{in_flight, landed, is_for};
+    ghost use Rattle.joiner_core.specs.Flying.{flights, flight_of, room, claim_to};
+
+    /// None. It takes no memory.
+    pub fn new(alloc: Global) -> Flights
+        ensures { flights result ≡ [] }
+    {
+        Flights {
+            waiting: IndexMap::new(alloc),
+            alloc,
+        }
+    }
+
+    pub fn len(&self) -> usize
+        ensures { result ≡ length (flights self.now) }
+    {
+        self.waiting.len()
+    }
+
+    /// Whether a join of the click is in flight, in constant expected time.
+    pub fn has(&self, id: EventId) -> bool
+        ensures { result ≡ in_flight (flights self.now) id }
+    {
+        self.waiting.contains_key(&id)
+    }
+
+    /// The join that registers this id under this token, in constant expected time.
+    pub fn find(&self, insert: Insert) -> Option<&Waiting>
+        ensures { option_map (λ w. flight_of insert.id w.now) result ≡ find (is_for insert) (flights self.now) }
+    {
+        let Some(waiting) = self.waiting.get(&insert.id) else {
+            return None;
+        };
+        if waiting.token == insert.token {
+            Some(waiting)
+        } else {
+            None
+        }
+    }
+
+    /// Makes room for one more.
+    pub fn make_room(&mut self) -> Result<(), AllocError>
+        ensures room { OnOk result (0 < room self.new) }
+        ensures same { flights self.new ≡ flights self.old }
+    {
+        self.waiting.reserve(1)
+    }
+
+    /// Adds one, last. It takes no memory, and constant expected time.
+    pub fn add(&mut self, id: EventId, waiting: Waiting)
+        requires room { 0 < room self.old }
+        requires few { length (flights self.old) < 32 }
+        requires new { in_flight (flights self.old) id ≡ false }
+        ensures { flights self.new ≡ flights self.old ++ flight_of id waiting ∷ [] }
+    {
+        let _ = self.waiting.insert(id, waiting);
+    }
+
+    /// Takes out the one that registers this id under this token, if any. It takes no memory, and moves up those behind
+    /// it, at most 31.
+    pub fn land(&mut self, insert: Insert)
+        ensures { flights self.new ≡ landed (flights self.old) insert }
+    {
+        if self.find(insert).is_some() {
+            let _ = self.waiting.shift_remove(&insert.id);
+        }
+    }
+
+    /// Takes all out, and takes no memory.
+    pub fn clear(&mut self)
+        ensures { flights self.new ≡ [] }
+    {
+        self.waiting.clear();
+    }
+
+    /// The insert of each, with its own token, to the server of the site. Linear in their number, with one allocation.
+    pub fn claims(&self, site: u8) -> Result<Vec<(Node, Packet)>, AllocError>
+        ensures { IfOk result (λ all. all.items ≡ map (claim_to site) (flights self.now)) }
+    {
+        let mut all = Vec::with_capacity(self.alloc, self.waiting.len())?;
+        for (id, waiting) in self.waiting.iter() {
+            let insert = Insert {
+                id: *id,
+                token: waiting.token,
+            };
+            all.push((Node::Server(site), Packet::Insert(insert)))?;
+        }
+        Ok(all)
+    }
+}

@@ -1,0 +1,349 @@
+// The joiner's core.
+use crate::copies::{copy_query, copy_text};
+use crate::flights::{Flights, MOST, Waiting};
+use crate::turn::Change;
+use crate::{JoinerInput, JoinerNote, Looked, Turn};
+use event_id::EventId;
+use log_records::{ClickRec, QueryRec};
+use output_log::PairRec;
+use packet_codec::{Node, Outcome, Packet};
+use registry_state::{Answer, Insert, Token};
+use std::alloc::{AllocError, Global};
+
+/// What a joiner knows while it is up: its epoch, the number of its next token, and at most 32 joins in flight.
+///
+/// A turn is decided, its note is written, then it is kept. No turn looks at all joins in flight, but for a Tick, which
+/// sends for each.
+#[derive(Debug, Drop)]
+pub struct JoinerCore {
+    node: u16,
+    site: u8,
+    epoch: u32,
+    number: u64,
+    flights: Flights,
+    alloc: Global,
+}
+
+impl JoinerCore {
+    ghost use Rattle.std.specs.Prelude.{◌≡◌, ◌∷◌, [], ◌+◌, ◌-◌, ◌^◌, ◌<◌, true, false, length, map, find, IfOk, Option, Some, None};
+    ghost use Rattle.packet_codec.specs.declared.node.Node.TheVariants.{Dispatcher, Server};
+    ghost use Rattle.packet_codec.specs.declared.packet.Packet.TheVariants as packet;
+    ghost use Rattle.turn_defs.specs.Setting.{site_of_joiner};
+    ghost use Rattle.joiner_core.specs.Joiner.{in_flight, is_for, joins, looks, replied, joiner_gets, joiner_wants, joiner_unfinished, joiner_at_rest};
+    ghost use Rattle.joiner_core.specs.declared.turn.JoinerNote.TheVariants.{Epoch, Pair};
+    ghost use Rattle.joiner_core.specs.declared.turn.Change.TheVariants.{Stay, Begin, Fly, Land};
+    ghost use Rattle.joiner_core.specs.Flying.{flights, flight_of, room, waiting_of, claim_to, pair_of};
+    ghost use Rattle.joiner_core.specs.Standing.{Serves, Stands, IsSame, IsReady, CanStart, Carries, Tells, needs_look_up, row, IsJoin, changed, epoch_after, known, CanChange, Fits, Leads, Answers, Does, own_token};
+
+    /// The joiner of this node number, which its tokens name, at this site. It takes no memory. Its first input is a Start.
+    pub fn new(alloc: Global, node: u16, site: u8) -> JoinerCore
+        ensures serves { (g : _) → site ≡ site_of_joiner g node → Serves result g node }
+        ensures blank { known result ≡ record { number = 0; flight = [] } }
+    {
+        JoinerCore {
+            node,
+            site,
+            epoch: 0,
+            number: 0,
+            flights: Flights::new(alloc),
+            alloc,
+        }
+    }
+
+    /// Whether a Join of a click with this id needs the click's query to be looked for, in constant expected time.
+    pub fn needs_look_up(&self, id: EventId) -> bool
+        ensures { (g n k l : _) → Stands self.now g n k l → result ≡ needs_look_up l id }
+    {
+        !self.flights.has(id) && self.flights.len() < MOST
+    }
+
+    /// Decides the turn on an input: its note and its packets, and room for what keeping it will change. Nothing else
+    /// changes, whatever it answers.
+    ///
+    /// Constant expected time and memory for the texts of one click and its query; on a Tick linear in the joins in flight.
+    pub fn decide(&mut self, input: &JoinerInput) -> Result<Turn, AllocError>
+        requires { CanStart input.now }
+        ensures turn { IfOk result (λ turn. (g n k l i : _) → IsReady self.old g n k l input.now → Carries g k l input.now i → Answers self.new g n k (row g n k l i) turn) }
+        ensures fits { IfOk result (λ turn. Fits self.new turn) }
+        ensures same { IsSame self.old self.new }
+    {
+        match input {
+            JoinerInput::Start { epoch } => Ok(self.start(*epoch)),
+            JoinerInput::Own => Ok(self.idle()),
+            JoinerInput::Tick => self.send_again(),
+            JoinerInput::Join {
+                position,
+                click,
+                looked,
+            } => {
+                self.flights.make_room()?;
+                self.join(*position, click, looked)
+            }
+            JoinerInput::Packet { packet, .. } => self.receive(packet),
+        }
+    }
+
+    /// Keeps a turn that was decided on what the core knows now, once its note is written. It takes no memory.
+    ///
+    /// Constant expected time, and where a join leaves the flight those behind it move up, at most 31.
+    pub fn keep(&mut self, turn: Turn)
+        requires { Fits self.old turn }
+        ensures { (g n k l : _) → Leads self.old turn g n k l → Stands self.new g n k l }
+    {
+        self.change(turn.change);
+    }
+
+    /// Whether it has something to do by itself, which a joiner never has.
+    pub fn wants(&self) -> bool
+        ensures { (g n k l : _) → Stands self.now g n k l → result ≡ joiner_wants l }
+    {
+        false
+    }
+
+    /// Whether it waits for an answer, so that it takes a Tick.
+    pub fn unfinished(&self) -> bool
+        ensures { (g n k l : _) → Stands self.now g n k l → result ≡ joiner_unfinished l }
+    {
+        self.flights.len() != 0
+    }
+
+    /// Whether nothing is in flight.
+    pub fn at_rest(&self) -> bool
+        ensures { (g n k l : _) → Stands self.now g n k l → result ≡ joiner_at_rest l }
+    {
+        self.flights.len() == 0
+    }
+
+    // No row applies: no note, no packets, and nothing changes.
+    fn idle(&self) -> Turn
+        ensures { Does result None [] Stay }
+    {
+        Turn {
+            note: None,
+            packets: Vec::new(self.alloc),
+            change: Change::Stay,
+        }
+    }
+
+    // Start: it notes the next epoch, in which it knows nothing yet.
+    fn start(&self, epoch: u32) -> Turn
+        requires { epoch < 4294967294 }
+        ensures { Does result (Some (Epoch (epoch + 1))) [] (Begin (epoch + 1)) }
+    {
+        let epoch = epoch + 1;
+        Turn {
+            note: Some(JoinerNote::Epoch(epoch)),
+            packets: Vec::new(self.alloc),
+            change: Change::Begin(epoch),
+        }
+    }
+
+    // Tick: each insert in flight goes to the server again, under its own token.
+    fn send_again(&self) -> Result<Turn, AllocError>
+        ensures { IfOk result (λ turn. Does turn None (map (claim_to self.now.site) (flights self.now.flights)) Stay) }
+    {
+        Ok(Turn {
+            note: None,
+            packets: self.flights.claims(self.site)?,
+            change: Change::Stay,
+        })
+    }
+
+    // Join: nothing where the click's id is in flight; else Busy where 32 joins are; else NoQuery with the log's lines
+    // where the log has no such query; else the id is registered.
+    fn join(&self, position: u64, click: &ClickRec, looked: &Looked) -> Result<Turn, AllocError>
+        requires { 0 < room self.now.flights }
+        ensures turn { IfOk result (λ turn. (g n k l : _) → Stands self.now g n k l → (needs_look_up l click.now.id ≡ true → Tells g click.now looked.now) → Answers self.now g n k (joins g n k l position click.now) turn) }
+        ensures fits { IfOk result (λ turn. Fits self.now turn) }
+    {
+        if self.flights.has(click.id) {
+            return Ok(self.idle());
+        }
+        if self.flights.len() >= MOST {
+            return self.tell(position, Outcome::Busy);
+        }
+        match looked {
+            Looked::Found(query) => self.register(position, click, query),
+            Looked::Lines(lines) => self.tell(position, Outcome::NoQuery(*lines)),
+        }
+    }
+
+    // The site's dispatcher hears of a join that isn't in flight.
+    fn tell(&self, position: u64, outcome: Outcome) -> Result<Turn, AllocError>
+        ensures { IfOk result (λ turn. Does turn None ((Dispatcher self.now.site, packet.Joined position outcome) ∷ []) Stay) }
+    {
+        Ok(Turn {
+            note: None,
+            packets: self.joined(position, outcome)?,
+            change: Change::Stay,
+        })
+    }
+
+    // The id goes to the site's server under a new token, and the join is in flight. No token has the number 2^64 - 1:
+    // then nothing.
+    fn register(
+        &self,
+        position: u64,
+        click: &ClickRec,
+        query: &QueryRec,
+    ) -> Result<Turn, AllocError>
+        requires room { 0 < room self.now.flights }
+        requires few { length (flights self.now.flights) < 32 }
+        requires new { in_flight (flights self.now.flights) click.now.id ≡ false }
+        ensures turn { IfOk result (λ turn. (g n k l : _) → Stands self.now g n k l → Answers self.now g n k (looks g n k l position click.now (Some query.now)) turn) }
+        ensures fits { IfOk result (λ turn. Fits self.now turn) }
+    {
+        if self.number == u64::MAX {
+            return Ok(self.idle());
+        }
+        self.claim(position, click, query)
+    }
+
+    // The insert of the id under the next token, and the join that will be in flight.
+    fn claim(&self, position: u64, click: &ClickRec, query: &QueryRec) -> Result<Turn, AllocError>
+        ensures { IfOk result (λ turn. Does turn None ((Server self.now.site, packet.Insert (record { id = click.now.id; token = own_token self.now })) ∷ []) (Fly click.now.id (waiting_of position click.now query.now (own_token self.now)))) }
+    {
+        let token = Token {
+            joiner: self.node,
+            epoch: self.epoch,
+            number: self.number,
+        };
+        let waiting = Waiting {
+            position,
+            asked: click.query,
+            text: copy_text(self.alloc, &click.text)?,
+            query: copy_query(self.alloc, query)?,
+            token,
+        };
+        let insert = Insert {
+            id: click.id,
+            token,
+        };
+        Ok(Turn {
+            note: None,
+            packets: self.one(Node::Server(self.site), Packet::Insert(insert))?,
+            change: Change::Fly(click.id, waiting),
+        })
+    }
+
+    // A packet that is no Join: no row but that of a Reply.
+    fn receive(&self, packet: &Packet) -> Result<Turn, AllocError>
+        ensures turn { IfOk result (λ turn. (g n k l : _) → Stands self.now g n k l → (IsJoin packet.now → ⊥) → Answers self.now g n k (joiner_gets g n k l packet.now) turn) }
+        ensures fits { IfOk result (λ turn. Fits self.now turn) }
+    {
+        match packet {
+            Packet::Reply { insert, answer } => self.answer(*insert, *answer),
+            _ => Ok(self.idle()),
+        }
+    }
+
+    // Reply: nothing where no join in flight registers this id under this token; else the dispatcher hears how it ended,
+    // and the join leaves the flight. Where it is granted the pair is noted first.
+    fn answer(&self, insert: Insert, answer: Answer) -> Result<Turn, AllocError>
+        ensures turn { IfOk result (λ turn. (g n k l : _) → Stands self.now g n k l → Answers self.now g n k (replied g n k l insert answer (find (is_for insert) l.flight)) turn) }
+        ensures fits { IfOk result (λ turn. Fits self.now turn) }
+    {
+        let Some(waiting) = self.flights.find(insert) else {
+            return Ok(self.idle());
+        };
+        let position = waiting.position;
+        match answer {
+            Answer::Granted => {
+                let pair = self.pair(insert.id, waiting)?;
+                self.land(
+                    insert,
+                    position,
+                    Outcome::Written,
+                    Some(JoinerNote::Pair(pair)),
+                )
+            }
+            Answer::Duplicate(holder) => self.land(
+                insert,
+                position,
+                Outcome::Already(holder),
+                None,
+            ),
+            Answer::TooOld(bound) => self.land(insert, position, Outcome::TooOld(bound), None),
+        }
+    }
+
+    // The pair of a join in flight: a copy, since the join stays in flight until the turn is kept.
+    fn pair(&self, id: EventId, waiting: &Waiting) -> Result<PairRec, AllocError>
+        ensures { IfOk result (λ pair. pair ≡ pair_of (flight_of id waiting.now)) }
+    {
+        Ok(PairRec {
+            click: ClickRec {
+                id,
+                query: waiting.asked,
+                text: copy_text(self.alloc, &waiting.text)?,
+            },
+            query: copy_query(self.alloc, &waiting.query)?,
+            token: waiting.token,
+        })
+    }
+
+    // The join that registers this leaves the flight, and the site's dispatcher hears how it ended.
+    fn land(
+        &self,
+        insert: Insert,
+        position: u64,
+        outcome: Outcome,
+        note: Option<JoinerNote>,
+    ) -> Result<Turn, AllocError>
+        ensures { IfOk result (λ turn. Does turn note ((Dispatcher self.now.site, packet.Joined position outcome) ∷ []) (Land insert)) }
+    {
+        Ok(Turn {
+            note,
+            packets: self.joined(position, outcome)?,
+            change: Change::Land(insert),
+        })
+    }
+
+    // A Joined goes to the site's dispatcher.
+    fn joined(&self, position: u64, outcome: Outcome) -> Result<Vec<(Node, Packet)>, AllocError>
+        ensures { IfOk result (λ packets. packets.items ≡ (Dispatcher self.now.site, packet.Joined position outcome) ∷ []) }
+    {
+        let dispatcher = Node::Dispatcher(self.site);
+        self.one(dispatcher, Packet::Joined { position, outcome })
+    }
+
+    // One packet to one node.
+    fn one(&self, to: Node, packet: Packet) -> Result<Vec<(Node, Packet)>, AllocError>
+        ensures { IfOk result (λ packets. packets.items ≡ (to, packet) ∷ []) }
+    {
+        let mut packets = Vec::with_capacity(self.alloc, 1)?;
+        packets.push((to, packet))?;
+        Ok(packets)
+    }
+
+    // Makes a change.
+    fn change(&mut self, change: Change)
+        requires { CanChange self.old change }
+        ensures node { self.new.node ≡ self.old.node }
+        ensures site { self.new.site ≡ self.old.site }
+        ensures epoch { self.new.epoch ≡ epoch_after change self.old.epoch }
+        ensures live { known self.new ≡ changed change (known self.old) }
+    {
+        match change {
+            Change::Stay => {}
+            Change::Begin(epoch) => {
+                self.epoch = epoch;
+                self.number = 0;
+                self.flights.clear();
+            }
+            Change::Fly(id, waiting) => {
+                self.number += 1;
+                self.flights.add(id, waiting);
+            }
+            Change::Land(insert) => self.flights.land(insert),
+        }
+    }
+}
+
+#[cfg(test)]
+impl JoinerCore {
+    // The next token gets this number.
+    pub(crate) fn skip_to(&mut self, number: u64) {
+        self.number = number;
+    }
+}
