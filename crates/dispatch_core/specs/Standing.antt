@@ -111,7 +111,7 @@ Fits g core k l (Park p) = Stands g core k l
 Fits g core k l (Settle p) = Stands g core k l
 Fits g core k l (Leave p) = Stands g core k l
 
--- the turn is the row's
+-- the turn is the row's, and may be kept
 pub record IsTurn (g : Setting) (core : DispatchCore) (k : DispatcherKept) (l : DispatcherLive) (turn : Turn) (out : Out DispatcherLive) : Type 0 where
   pub note : note_of turn.change ≡ out.note
   pub packets : Addressed g out.packets turn.packets.items

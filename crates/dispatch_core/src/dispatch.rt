@@ -4,7 +4,7 @@ ghost use Rattle.list_words.specs.Lists.{has};
 ghost use Rattle.std.specs.VecDeque.{deque_len, deque_capacity};
 ghost use Rattle.indexmap.specs.IndexSet.{contains, spare};
 ghost use Rattle.turn_defs.specs.Setting.{Setting};
-ghost use Rattle.turn_defs.specs.Turns.{land, idle};
+ghost use Rattle.turn_defs.specs.Turns.{Out, land, idle};
 ghost use Rattle.log_records.specs.Lines.{at};
 ghost use Rattle.packet_codec.specs.declared.node.Input.{Input};
 ghost use Rattle.dispatch_core.specs.Dispatcher.{DispatcherKept, DispatcherLive, land_dispatcher, has_room, dispatcher_start, dispatcher_own, retries, takes, dispatcher_tick, ends, parks, dispatcher_gets, dispatcher_wants, dispatcher_unfinished, dispatcher_at_rest};
@@ -129,8 +129,11 @@ impl DispatchCore {
         ensures numbers { HasSameNumbers self.old self.new }
         ensures next { self.new.dealer.next ≡ self.old.dealer.next }
         ensures ready { IfOk result (CanKeep self.new) }
-        ensures turn { (g : Setting) (k : DispatcherKept) (l : DispatcherLive) (i : Input) → Takes g self.old k l input.now → Carries g k l input.now i → IfOk result (λ turn. IsTurn g self.new k l turn (out_of g self.old.dealer.site k l i)) }
-        ensures joiners { IfOk result (λ turn. GoInTurn self.old.dealer.site self.old.dealer.joiners (first_next input.now self.old.dealer.next) turn.packets.items turn.next) }
+        ensures turn { (g : Setting) (k : DispatcherKept) (l : DispatcherLive) (i : Input) →
+            Takes g self.old k l input.now → Carries g k l input.now i →
+            IfOk result (λ turn. IsTurn g self.new k l turn (out_of g self.old.dealer.site k l i)) }
+        ensures joiners { IfOk result (λ turn. GoInTurn self.old.dealer.site self.old.dealer.joiners
+            (first_next input.now self.old.dealer.next) turn.packets.items turn.next) }
     {
         self.make_room()?;
         match input {
@@ -173,7 +176,8 @@ impl DispatchCore {
 
     // Start: the place is the offset, what is pending is due, and nothing is fresh or in trial. Linear in what is pending.
     fn start(&self, offset: u64, pending: &Vec<u64>) -> Result<Turn, AllocError>
-        ensures turn { (g : Setting) (k : DispatcherKept) (l : DispatcherLive) → IsOf g self.now → IsKept k offset pending.now.items → IfOk result (λ turn. IsTurn g self.now k l turn (dispatcher_start k)) }
+        ensures turn { (g : Setting) (k : DispatcherKept) (l : DispatcherLive) → IsOf g self.now → IsKept k offset pending.now.items →
+            IfOk result (λ turn. IsTurn g self.now k l turn (dispatcher_start k)) }
         ensures joiners { IfOk result (IsDealt self.now 0) }
     {
         let mut kept = IndexSet::with_capacity(self.alloc, pending.len())?;
@@ -195,7 +199,8 @@ impl DispatchCore {
     // Own, the first that applies: the offset passes the leading done lines; with room in the window a due position is
     // tried again, or else the line at the place is taken.
     fn own(&self, line: &Option<TakenLine>, due: &Option<ClickRec>) -> Result<Turn, AllocError>
-        ensures turn { (g : Setting) (k : DispatcherKept) (l : DispatcherLive) → Stands g self.now k l → IsLookedUp g l l.due line.now due.now → IfOk result (λ turn. IsTurn g self.now k l turn (dispatcher_own g self.now.dealer.site k l)) }
+        ensures turn { (g : Setting) (k : DispatcherKept) (l : DispatcherLive) → Stands g self.now k l → IsLookedUp g l l.due line.now due.now →
+            IfOk result (λ turn. IsTurn g self.now k l turn (dispatcher_own g self.now.dealer.site k l)) }
         ensures joiners { IfOk result (IsDealt self.now self.now.dealer.next) }
     {
         if is_first_done(&self.fresh) {
@@ -213,7 +218,9 @@ impl DispatchCore {
 
     // A due position: a Join of its click, and it is in trial. Without a click it stays due.
     fn retry(&self, position: u64, due: &Option<ClickRec>) -> Result<Turn, AllocError>
-        ensures turn { (rest : List ℕ) (g : Setting) (k : DispatcherKept) (l : DispatcherLive) → Stands g self.now k l → l.due ≡ position ∷ rest → click_at g position ≡ due.now → IfOk result (λ turn. IsTurn g self.now k l turn (retries g self.now.dealer.site k l position rest (at g.clicks position))) }
+        ensures turn { (rest : List ℕ) (g : Setting) (k : DispatcherKept) (l : DispatcherLive) → Stands g self.now k l →
+            l.due ≡ position ∷ rest → click_at g position ≡ due.now → IfOk result (λ turn. IsTurn g self.now k l turn
+            (retries g self.now.dealer.site k l position rest (at g.clicks position))) }
         ensures joiners { IfOk result (IsDealt self.now self.now.dealer.next) }
     {
         match due {
@@ -225,7 +232,9 @@ impl DispatchCore {
     // The line at the place enters the window, done where its position is pending, else with a Join. Where no whole line
     // follows the place, the log has ended.
     fn take(&self, line: &Option<TakenLine>) -> Result<Turn, AllocError>
-        ensures turn { (g : Setting) (k : DispatcherKept) (l : DispatcherLive) → Stands g self.now k l → IsLineAt g l.place line.now → IfOk result (λ turn. IsTurn g self.now k l turn (if l.ended then idle l else takes g self.now.dealer.site k l (at g.clicks l.place))) }
+        ensures turn { (g : Setting) (k : DispatcherKept) (l : DispatcherLive) → Stands g self.now k l →
+            IsLineAt g l.place line.now → IfOk result (λ turn. IsTurn g self.now k l turn
+            (if l.ended then idle l else takes g self.now.dealer.site k l (at g.clicks l.place))) }
         ensures joiners { IfOk result (IsDealt self.now self.now.dealer.next) }
     {
         if self.ended {
@@ -238,7 +247,9 @@ impl DispatchCore {
     }
 
     fn enter(&self, line: &TakenLine) -> Result<Turn, AllocError>
-        ensures turn { (g : Setting) (k : DispatcherKept) (l : DispatcherLive) → Stands g self.now k l → l.place ≡ line.now.position → line.now.position < line.now.end → IfOk result (λ turn. IsTurn g self.now k l turn (takes g self.now.dealer.site k l (Some (record { place = line.now.position; end_ = line.now.end; click = line.now.click })))) }
+        ensures turn { (g : Setting) (k : DispatcherKept) (l : DispatcherLive) → Stands g self.now k l →
+            l.place ≡ line.now.position → line.now.position < line.now.end → IfOk result (λ turn. IsTurn g self.now k l turn
+            (takes g self.now.dealer.site k l (Some (record { place = line.now.position; end_ = line.now.end; click = line.now.click })))) }
         ensures joiners { IfOk result (IsDealt self.now self.now.dealer.next) }
     {
         let done = self.pending.contains(&line.position);
@@ -256,7 +267,8 @@ impl DispatchCore {
 
     // Tick: a Join of each line that isn't done, and of each position in trial. Linear in the window.
     fn tick(&self, clicks: &Vec<ClickRec>) -> Result<Turn, AllocError>
-        ensures turn { (g : Setting) (k : DispatcherKept) (l : DispatcherLive) → Stands g self.now k l → AreClicksAt g l.trying clicks.now.items → IfOk result (λ turn. IsTurn g self.now k l turn (dispatcher_tick g self.now.dealer.site k l)) }
+        ensures turn { (g : Setting) (k : DispatcherKept) (l : DispatcherLive) → Stands g self.now k l →
+            AreClicksAt g l.trying clicks.now.items → IfOk result (λ turn. IsTurn g self.now k l turn (dispatcher_tick g self.now.dealer.site k l)) }
         ensures joiners { IfOk result (IsDealt self.now self.now.dealer.next) }
     {
         let mut outbox = Outbox::new(self.alloc, self.dealer);
@@ -267,7 +279,8 @@ impl DispatchCore {
 
     // A packet: only a Joined is answered. Written, Already and TooOld end a join, NoQuery parks a line, Busy does nothing.
     fn get(&self, packet: &Packet) -> Turn
-        ensures turn { (g : Setting) (k : DispatcherKept) (l : DispatcherLive) → Stands g self.now k l → IsTurn g self.now k l result (dispatcher_gets g self.now.dealer.site k l packet.now) }
+        ensures turn { (g : Setting) (k : DispatcherKept) (l : DispatcherLive) → Stands g self.now k l →
+            IsTurn g self.now k l result (dispatcher_gets g self.now.dealer.site k l packet.now) }
         ensures joiners { IsDealt self.now self.now.dealer.next result }
     {
         match packet {
@@ -284,7 +297,8 @@ impl DispatchCore {
 
     // The join ended: a line that isn't done is done; a position in trial is settled.
     fn end_join(&self, position: u64) -> Turn
-        ensures turn { (g : Setting) (k : DispatcherKept) (l : DispatcherLive) → Stands g self.now k l → IsTurn g self.now k l result (ends g self.now.dealer.site k l position) }
+        ensures turn { (g : Setting) (k : DispatcherKept) (l : DispatcherLive) → Stands g self.now k l →
+            IsTurn g self.now k l result (ends g self.now.dealer.site k l position) }
         ensures joiners { IsDealt self.now self.now.dealer.next result }
     {
         if is_waiting(&self.fresh, position) {
@@ -298,7 +312,8 @@ impl DispatchCore {
 
     // There is no query yet: a line that isn't done is done and parked; a position in trial stays pending and leaves the trial.
     fn park(&self, position: u64) -> Turn
-        ensures turn { (g : Setting) (k : DispatcherKept) (l : DispatcherLive) → Stands g self.now k l → IsTurn g self.now k l result (parks g self.now.dealer.site k l position) }
+        ensures turn { (g : Setting) (k : DispatcherKept) (l : DispatcherLive) → Stands g self.now k l →
+            IsTurn g self.now k l result (parks g self.now.dealer.site k l position) }
         ensures joiners { IsDealt self.now self.now.dealer.next result }
     {
         if is_waiting(&self.fresh, position) {
@@ -314,7 +329,8 @@ impl DispatchCore {
     /// positions in trial behind it move up by one, at most 63; at an Advance it is linear in the lines that leave.
     pub fn keep(&mut self, turn: Turn)
         requires { CanKeep self.old turn }
-        ensures stands { (g : Setting) (k : DispatcherKept) (l : DispatcherLive) → Fits g self.old k l turn.change → Stands g self.new (land land_dispatcher (note_of turn.change) k) (changed turn.change l) }
+        ensures stands { (g : Setting) (k : DispatcherKept) (l : DispatcherLive) (out : Out DispatcherLive) →
+            IsTurn g self.old k l turn out → Stands g self.new (land land_dispatcher out.note k) out.live }
         ensures numbers { HasSameNumbers self.old self.new }
         ensures next { self.new.dealer.next ≡ turn.next }
     {
@@ -330,7 +346,8 @@ impl DispatchCore {
     // The change is made.
     fn make(&mut self, change: Change)
         requires { HasRoom self.old }
-        ensures stands { (g : Setting) (k : DispatcherKept) (l : DispatcherLive) → Fits g self.old k l change → Stands g self.new (land land_dispatcher (note_of change) k) (changed change l) }
+        ensures stands { (g : Setting) (k : DispatcherKept) (l : DispatcherLive) →
+            Fits g self.old k l change → Stands g self.new (land land_dispatcher (note_of change) k) (changed change l) }
         ensures dealer { self.new.dealer ≡ self.old.dealer }
     {
         match change {

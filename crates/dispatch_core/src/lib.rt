@@ -8,8 +8,8 @@ mod dispatch;
 mod input;
 pub mod laws;
 mod outbox;
-//#[cfg(test)]
-//mod tests;
+#[cfg(test)]
+mod tests;
 mod turns;
 mod window;
 
