@@ -1,2 +1,7 @@
 pub mod Dispatcher
 pub mod Rows
+pub mod Windows
+pub mod Dealing
+pub mod Outboxes
+pub mod Changes
+pub mod Standing

@@ -1,5 +1,18 @@
 //! The dispatcher of a site: it has joiners join each click of the log, and moves its offset past the clicks that are
-//! settled or parked. The rows of its turns stand in `specs/Dispatcher.antt`.
+//! settled or parked. The rows of its turns stand in `specs/Dispatcher.antt`; `DispatchCore` carries them.
 #![tactic(auto)]
 
+mod clicks;
+mod dealer;
+mod dispatch;
+mod input;
 pub mod laws;
+mod outbox;
+#[cfg(test)]
+mod tests;
+mod turns;
+mod window;
+
+pub use dispatch::DispatchCore;
+pub use input::{DispatchInput, TakenLine};
+pub use turns::{DispatchNote, Turn};

@@ -1,0 +1,86 @@
+-- What the core stands for once a change is kept.
+use Rattle.std.proofs.Common.{◌≡◌, ℕ, ◌<◌, true, false, ◌==◌, List, [], ◌∷◌, ◌++◌, take, drop, nat_eq, refl, sym, ap, subst, ◌∙◌, arith}
+use Rattle.std.proofs.lemmas.Bool.{eq-eqb, or_left, or_right}
+use Rattle.std.proofs.lemmas.List.{append-nil}
+use Rattle.list_words.specs.Lists.{has, without, Distinct}
+use Rattle.list_words.proofs.Lists.{clash, has_push-false, has_without-false, distinct_push, distinct_without}
+use Rattle.indexmap.specs.IndexSet.{contains}
+use Rattle.turn_defs.specs.Setting.{Setting}
+use Rattle.turn_defs.specs.Turns.{land}
+use Rattle.dispatch_core.specs.Dispatcher.{DispatcherKept, DispatcherLive, land_dispatcher, mark}
+use Rattle.dispatch_core.specs.Windows.{fresh_of, IsRising, AreBefore}
+use Rattle.dispatch_core.specs.Changes.{note_of, changed}
+use Rattle.dispatch_core.specs.Standing.{live_of, IsOf, IsOrdered, Stands, Fits, IsAlike}
+use Rattle.dispatch_core.specs.declared.window.FreshLine.{FreshLine}
+use Rattle.dispatch_core.specs.declared.dispatch.DispatchCore.{DispatchCore}
+use Rattle.dispatch_core.specs.declared.dealer.Dealer.{Dealer}
+use Rattle.dispatch_core.specs.declared.turns.Change.{Change}
+use Rattle.dispatch_core.specs.declared.turns.Change.TheVariants.{Advance, Retry, Take, End}
+use Rattle.dispatch_core.proofs.Rising.{rising_after_done, before_after_done, rising_push, before_push, rising_mark, before_mark}
+
+-- ---- each change keeps the order
+
+pub start_ordered : (p : ℕ) (due : List ℕ) → Distinct due → IsOrdered (record { place = p; fresh = []; due = due; trying = []; ended = false })
+start_ordered p due once = record { rising = tt; before = tt; due_once = once; trying_once = tt; apart = λ q h. refl }
+
+pub advance_ordered : (e : ℕ) (l : DispatcherLive) → IsOrdered l → IsOrdered (changed (Advance e) l)
+advance_ordered e l o = record { rising = rising_after_done 0 l.fresh o.rising; before = before_after_done l.place l.fresh o.before; due_once = o.due_once; trying_once = o.trying_once; apart = o.apart }
+
+apart_tried : (p : ℕ) (ps ts : List ℕ) → has ps p ≡ false → has ts p ≡ false → ((q : ℕ) → has (p ∷ ps) q ≡ true → has ts q ≡ false) → (q : ℕ) → has ps q ≡ true → has (ts ++ p ∷ []) q ≡ false
+apart_tried p ps ts once new apart q h =
+    has_push-false ts p q (apart q (or_right (p == q) (has ps q) h)) (λ e. clash (has ps q) h (subst (λ (n : ℕ). has ps n ≡ false) e once))
+
+retry_from : (l : DispatcherLive) (due : List ℕ) → l.due ≡ due → IsRising l.fresh → AreBefore l.fresh l.place → Distinct due → Distinct l.trying → ((q : ℕ) → has due q ≡ true → has l.trying q ≡ false)
+    → IsOrdered (record l { due = drop 1 due; trying = l.trying ++ take 1 due })
+retry_from l [] is rising before due_once trying_once apart =
+    record { rising = rising; before = before; due_once = tt; trying_once = subst Distinct (sym (append-nil l.trying)) trying_once; apart = λ q h. absurd (clash false h refl) }
+retry_from l (p ∷ ps) is rising before due_once trying_once apart =
+    let new : has l.trying p ≡ false = apart p (or_left (p == p) (has ps p) (eq-eqb p p refl)) in
+    record { rising = rising; before = before; due_once = due_once.1; trying_once = distinct_push l.trying p trying_once new; apart = apart_tried p ps l.trying due_once.0 new apart }
+
+pub retry_ordered : (l : DispatcherLive) → IsOrdered l → IsOrdered (changed Retry l)
+retry_ordered l o = retry_from l l.due refl o.rising o.before o.due_once o.trying_once o.apart
+
+pub take_ordered : (f : FreshLine) (l : DispatcherLive) → f.position ≡ l.place → f.position < f.end → IsOrdered l → IsOrdered (changed (Take f) l)
+take_ordered f l here later o =
+    record { rising = rising_push 0 l.fresh (fresh_of f) (omega arith) o.rising (subst (λ (n : ℕ). AreBefore l.fresh n) (sym here) o.before); before = before_push l.fresh (fresh_of f) l.place f.end (omega arith) later o.before; due_once = o.due_once; trying_once = o.trying_once; apart = o.apart }
+
+pub end_ordered : (l : DispatcherLive) → IsOrdered l → IsOrdered (changed End l)
+end_ordered l o = record { rising = o.rising; before = o.before; due_once = o.due_once; trying_once = o.trying_once; apart = o.apart }
+
+pub mark_ordered : (p : ℕ) (l : DispatcherLive) → IsOrdered l → IsOrdered (record l { fresh = mark l.fresh p })
+mark_ordered p l o = record { rising = rising_mark 0 p l.fresh o.rising; before = before_mark p l.place l.fresh o.before; due_once = o.due_once; trying_once = o.trying_once; apart = o.apart }
+
+pub leave_ordered : (p : ℕ) (l : DispatcherLive) → IsOrdered l → IsOrdered (record l { trying = without l.trying p })
+leave_ordered p l o = record { rising = o.rising; before = o.before; due_once = o.due_once; trying_once = distinct_without l.trying p o.trying_once; apart = λ q h. has_without-false l.trying p q (o.apart q h) }
+
+-- ---- a changed core
+
+pub of_alike : (g : Setting) (old new : DispatchCore) → new.dealer ≡ old.dealer → IsOf g old → IsOf g new
+of_alike g old new same o = record { joiners = ap (λ (d : Dealer). d.joiners) same ∙ o.joiners; replicas = o.replicas }
+
+pub ordered_core : (g : Setting) (core : DispatchCore) (k : DispatcherKept) (l : DispatcherLive) → Stands g core k l → IsOrdered (live_of core)
+ordered_core g core k l s = subst (λ (m : DispatcherLive). IsOrdered m) (sym s.live) s.ordered
+
+-- the new core holds what the change makes of what the old one holds, and the pending positions are those kept now
+pub kept_as : (g : Setting) (old new : DispatchCore) (k now : DispatcherKept) (l : DispatcherLive) (f : DispatcherLive → DispatcherLive) → Stands g old k l → new.dealer ≡ old.dealer → live_of new ≡ f (live_of old)
+    → ((p : ℕ) → contains nat_eq new.pending p ≡ has now.pending p) → IsOrdered (f l) → Stands g new now (f l)
+kept_as g old new k now l f s same live pending ordered = record { of_setting = of_alike g old new same s.of_setting; live = live ∙ ap f s.live; pending = pending; ordered = ordered }
+
+pub same_pending : (g : Setting) (old new : DispatchCore) (k : DispatcherKept) (l : DispatcherLive) → Stands g old k l → new.pending ≡ old.pending → (p : ℕ) → contains nat_eq new.pending p ≡ has k.pending p
+same_pending g old new k l s e p = ap (λ set. contains nat_eq set p) e ∙ s.pending p
+
+-- ---- room
+
+pub alike_stands : (g : Setting) (old new : DispatchCore) (k : DispatcherKept) (l : DispatcherLive) → IsAlike old new → Stands g old k l → Stands g new k l
+alike_stands g old new k l a s = record { of_setting = of_alike g old new a.dealer s.of_setting; live = a.live ∙ s.live; pending = λ p. a.pending p ∙ s.pending p; ordered = s.ordered }
+
+-- only whose turn it is changes
+pub turned : (g : Setting) (old new : DispatchCore) (k : DispatcherKept) (l : DispatcherLive) → new.dealer.joiners ≡ old.dealer.joiners → live_of new ≡ live_of old → new.pending ≡ old.pending → Stands g old k l → Stands g new k l
+turned g old new k l joiners live pending s =
+    record { of_setting = record { joiners = joiners ∙ s.of_setting.joiners; replicas = s.of_setting.replicas }; live = live ∙ s.live; pending = same_pending g old new k l s pending; ordered = s.ordered }
+
+-- a change by its case
+pub makes : (g : Setting) (old new : DispatchCore) (k : DispatcherKept) (l : DispatcherLive) (change this : Change) → change ≡ this → (Fits g old k l this → Stands g new (land land_dispatcher (note_of this) k) (changed this l))
+    → Fits g old k l change → Stands g new (land land_dispatcher (note_of change) k) (changed change l)
+makes g old new k l change this e h = subst (λ (m : Change). Fits g old k l m → Stands g new (land land_dispatcher (note_of m) k) (changed m l)) (sym e) h

@@ -1,0 +1,6 @@
+pub mod Rising
+pub mod Found
+pub mod Sets
+pub mod Joins
+pub mod Rows
+pub mod Keeping

@@ -1,0 +1,70 @@
+-- From what the core's parts say to the rows of the turn table.
+use Rattle.std.proofs.Common.{◌≡◌, ℕ, ◌<◌, ◌%◌, Bool, true, false, cond, List, [], ◌++◌, map, nat_eq, sym, ap, subst, ◌∙◌, arith}
+use Rattle.std.specs.List.{list_any}
+use Rattle.std.proofs.lemmas.Bool.{cond-true, cond-false}
+use Rattle.log_records.specs.declared.records.ClickRec.{ClickRec as Click}
+use Rattle.packet_codec.specs.declared.packet.Packet.{Packet}
+use Rattle.packet_codec.specs.declared.node.Node.{Node}
+use Rattle.list_words.specs.Lists.{has}
+use Rattle.turn_defs.specs.Setting.{Setting}
+use Rattle.turn_defs.specs.Nodes.{Addressed}
+use Rattle.turn_defs.specs.Turns.{Out}
+use Rattle.dispatch_core.specs.Dispatcher.{DispatcherKept, DispatcherLive, waits}
+use Rattle.dispatch_core.specs.Windows.{fresh_of, IsRising}
+use Rattle.dispatch_core.specs.Dealing.{dealt, next_after, GoInTurn}
+use Rattle.dispatch_core.specs.Changes.{note_of, changed}
+use Rattle.dispatch_core.specs.Outboxes.{Puts}
+use Rattle.dispatch_core.specs.Standing.{IsOf, Stands, Fits, IsTurn, Sends, IsDealt}
+use Rattle.dispatch_core.specs.declared.dispatch.DispatchCore.{DispatchCore}
+use Rattle.dispatch_core.specs.declared.turns.Turn.{Turn}
+use Rattle.dispatch_core.specs.declared.turns.Change.{Change}
+use Rattle.dispatch_core.specs.declared.outbox.Outbox.{Outbox}
+use Rattle.dispatch_core.proofs.Joins.{joined, addressed, in_turn, next_below}
+use Rattle.dispatch_core.proofs.Sets.{any_has}
+use Rattle.dispatch_core.proofs.Keeping.{ordered_core}
+
+wraps : (n k : ℕ) → k < n → (m : ℕ) → m % n < n
+wraps n k below m = let some : 0 < n = omega arith in omega arith
+
+pub row_of : (g : Setting) (core : DispatchCore) (k : DispatcherKept) (l : DispatcherLive) (turn : Turn) (change : Change) (joins : List (ℕ × Click)) (out : Out DispatcherLive) → IsOf g core → Sends core turn change joins
+    → note_of change ≡ out.note → map (joined core.dealer.site) joins ≡ out.packets → changed change l ≡ out.live → Fits g core k l change → IsTurn g core k l turn out
+row_of g core k l turn change joins out o s note packets live fits = record {
+  note = ap note_of s.change_is ∙ note;
+  packets = subst (λ (ps : List (Node × Packet)). Addressed g out.packets ps) (sym s.packets)
+      (subst (λ ts. Addressed g ts (dealt core.dealer.site core.dealer.joiners core.dealer.next joins)) packets
+      (addressed g core.dealer.site core.dealer.joiners core.dealer.next o.replicas o.joiners core.dealer.two core.dealer.within (wraps core.dealer.joiners core.dealer.next core.dealer.within) joins));
+  live = ap (λ (c : Change). changed c l) s.change_is ∙ live;
+  fits = subst (λ (c : Change). Fits g core k l c) (sym s.change_is) fits;
+}
+
+pub dealt_of : (core : DispatchCore) (turn : Turn) (change : Change) (joins : List (ℕ × Click)) → Sends core turn change joins → IsDealt core core.dealer.next turn
+dealt_of core turn change joins s = record {
+  in_turn = subst (λ (ps : List (Node × Packet)). GoInTurn core.dealer.site core.dealer.joiners core.dealer.next ps turn.next) (sym s.packets) (in_turn core.dealer.site core.dealer.joiners core.dealer.next turn.next joins s.next);
+  below = subst (λ (n : ℕ). n < core.dealer.joiners) (sym s.next) (next_below core.dealer.joiners core.dealer.next joins core.dealer.within (wraps core.dealer.joiners core.dealer.next core.dealer.within));
+}
+
+pub as_out : (g : Setting) (core : DispatchCore) (k : DispatcherKept) (l : DispatcherLive) (turn : Turn) (out other : Out DispatcherLive) → other ≡ out → IsTurn g core k l turn out → IsTurn g core k l turn other
+as_out g core k l turn out other e t = subst (λ (o : Out DispatcherLive). IsTurn g core k l turn o) (sym e) t
+
+-- ---- which row applies
+
+pub second : {A : Type 0} (b c : Bool) (x y z : A) → b ≡ false → c ≡ true → cond b x (cond c y z) ≡ y
+second b c x y z h i = cond-false b x (cond c y z) h ∙ cond-true c y z i
+
+pub third : {A : Type 0} (b c : Bool) (x y z : A) → b ≡ false → c ≡ false → cond b x (cond c y z) ≡ z
+third b c x y z h i = cond-false b x (cond c y z) h ∙ cond-false c y z i
+
+pub sends_of : (core : DispatchCore) (a d : Outbox) (turn : Turn) (change : Change) (js : List (ℕ × Click)) → a.dealer ≡ core.dealer → a.packets.items ≡ [] → Puts a d js → turn.change ≡ change → turn.packets.items ≡ d.packets.items → turn.next ≡ d.dealer.next
+    → Sends core turn change js
+sends_of core a d turn change js same none p is packets next = record {
+  change_is = is;
+  packets = packets ∙ p.packets ∙ (λ i. none i ++ dealt (same i).site (same i).joiners (same i).next js);
+  next = next ∙ p.next ∙ (λ i. next_after (same i).joiners (same i).next js);
+}
+
+-- the sides of a row, at the state that a core holds
+pub waits_as : (g : Setting) (core : DispatchCore) (k : DispatcherKept) (l : DispatcherLive) (p : ℕ) (b : Bool) → Stands g core k l → (IsRising (map fresh_of core.fresh.items) → b ≡ waits (map fresh_of core.fresh.items) p) → waits l.fresh p ≡ b
+waits_as g core k l p b s h = ap (λ (m : DispatcherLive). waits m.fresh p) (sym s.live) ∙ sym (h (ordered_core g core k l s).rising)
+
+pub tried_as : (g : Setting) (core : DispatchCore) (k : DispatcherKept) (l : DispatcherLive) (p : ℕ) (b : Bool) → Stands g core k l → b ≡ list_any (nat_eq p) core.trying.keys → has l.trying p ≡ b
+tried_as g core k l p b s h = ap (λ (m : DispatcherLive). has m.trying p) (sym s.live) ∙ sym (any_has core.trying.keys p) ∙ sym h

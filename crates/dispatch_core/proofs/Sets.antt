@@ -1,0 +1,63 @@
+-- Sets of positions, and lists of them.
+use Rattle.std.proofs.Common.{◌≡◌, ℕ, Bool, true, false, cond, ◌||◌, ◌==◌, nat_eq, List, [], ◌∷◌, ◌++◌, take, refl, sym, ap, subst, ◌∙◌}
+use Rattle.std.specs.List.{list_any}
+use Rattle.std.specs.Set.{remove_key}
+use Rattle.std.proofs.lemmas.Cmp.{nat_eq_equiv}
+use Rattle.std.proofs.lemmas.Bool.{eqb-true, eqb-false, eq-eqb, or_parts, or_left, cond-false}
+use Rattle.indexmap.specs.IndexSet.{insert_key}
+use Rattle.list_words.specs.Lists.{has, without, Distinct}
+use Rattle.list_words.proofs.Lists.{has_push, has_without, has_without-false, has_without-self}
+
+pub any_has : (xs : List ℕ) (p : ℕ) → list_any (nat_eq p) xs ≡ has xs p
+any_has [] p = refl
+any_has (x ∷ xs) p = λ i. nat_eq_equiv.symm p x i || any_has xs p i
+
+pub without_absent : (xs : List ℕ) (p : ℕ) → has xs p ≡ false → without xs p ≡ xs
+without_absent [] p h = refl
+without_absent (x ∷ xs) p h =
+    let parts = or_parts (x == p) (has xs p) h in
+    let rest = without_absent xs p parts.1 in
+    cond-false (x == p) (without xs p) (x ∷ without xs p) parts.0 ∙ (λ i. x ∷ rest i)
+
+pub removed : (xs : List ℕ) (p : ℕ) → Distinct xs → remove_key (nat_eq p) xs ≡ without xs p
+removed [] p d = refl
+removed (x ∷ xs) p d =
+    subst (λ (t : Bool). cond t xs (x ∷ remove_key (nat_eq p) xs) ≡ cond (x == p) (without xs p) (x ∷ without xs p)) (nat_eq_equiv.symm x p) (go (x == p) refl (removed xs p d.1))
+  where
+    go : (b : Bool) → (x == p) ≡ b → remove_key (nat_eq p) xs ≡ without xs p → cond b xs (x ∷ remove_key (nat_eq p) xs) ≡ cond b (without xs p) (x ∷ without xs p)
+    go true e ih = sym (without_absent xs p (subst (λ (q : ℕ). has xs q ≡ false) (eqb-true x p e) d.0))
+    go false e ih = λ i. x ∷ ih i
+
+-- the first due position goes last in trial
+pub tried : (due rest trying keys : List ℕ) (p : ℕ) → due ≡ p ∷ rest → (has due p ≡ true → has trying p ≡ false) → keys ≡ insert_key nat_eq trying p → keys ≡ trying ++ take 1 due
+tried due rest trying keys p first apart is =
+    let there : has due p ≡ true = ap (λ (xs : List ℕ). has xs p) first ∙ or_left (p == p) (has rest p) (eq-eqb p p refl) in
+    let new : list_any (nat_eq p) trying ≡ false = any_has trying p ∙ apart there in
+    is ∙ cond-false (list_any (nat_eq p) trying) trying (trying ++ p ∷ []) new ∙ ap (λ (xs : List ℕ). trying ++ take 1 xs) (sym first)
+
+-- one position more, and one less
+pub one_more : (c : Bool) (xs : List ℕ) (p q : ℕ) → c ≡ has xs q → cond (nat_eq p q) true c ≡ has (xs ++ p ∷ []) q
+one_more c xs p q h = go (nat_eq p q) ∙ sym (has_push xs p q)
+  where
+    or_true : (b : Bool) → true ≡ (b || true)
+    or_true true = refl
+    or_true false = refl
+
+    or_false : (b : Bool) → b ≡ (b || false)
+    or_false true = refl
+    or_false false = refl
+
+    go : (b : Bool) → cond b true c ≡ (has xs q || b)
+    go true = or_true (has xs q)
+    go false = h ∙ or_false (has xs q)
+
+pub one_less : (c : Bool) (xs : List ℕ) (p q : ℕ) → c ≡ has xs q → cond (nat_eq p q) false c ≡ has (without xs p) q
+one_less c xs p q h = go (nat_eq p q) refl
+  where
+    stays : (b : Bool) → has xs q ≡ b → nat_eq p q ≡ false → c ≡ has (without xs p) q
+    stays true t e = h ∙ t ∙ sym (has_without xs p q t (λ s. eqb-false p q e (sym s)))
+    stays false t e = h ∙ t ∙ sym (has_without-false xs p q t)
+
+    go : (b : Bool) → nat_eq p q ≡ b → cond b false c ≡ has (without xs p) q
+    go true e = sym (subst (λ (n : ℕ). has (without xs p) n ≡ false) (eqb-true p q e) (has_without-self xs p))
+    go false e = stays (has xs q) refl e

@@ -1,0 +1,7 @@
+use Rattle.std.proofs.Common.{◌≡◌, ℕ, nat_eq, take}
+use Rattle.list_words.specs.Lists.{has}
+use Rattle.indexmap.specs.IndexSet.{contains}
+use Rattle.dispatch_core.proofs.dispatch.DispatchCore.start.Given as goal
+
+abbrev pub invariant-loop-position : goal.invariant-loop-position
+invariant-loop-position l = (p : ℕ) → contains nat_eq l.kept p ≡ has (take l.position-index l.position-items) p

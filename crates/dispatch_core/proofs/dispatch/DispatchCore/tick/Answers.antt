@@ -1,0 +1,28 @@
+use Rattle.std.proofs.Common.{List, ◌++◌, ap, refl, subst, ℕ}
+use Rattle.std.specs.List.{zip}
+use Rattle.log_records.specs.declared.records.ClickRec.{ClickRec as Click}
+use Rattle.dispatch_core.specs.Dispatcher.{DispatcherLive, dispatcher_tick}
+use Rattle.dispatch_core.specs.Outboxes.{Puts, waiting_joins}
+use Rattle.dispatch_core.specs.Standing.{Sends}
+use Rattle.dispatch_core.specs.declared.turns.Change.TheVariants.{Nothing}
+use Rattle.dispatch_core.proofs.Joins.{puts_more, tick_are}
+use Rattle.dispatch_core.proofs.Rows.{row_of, sends_of, dealt_of}
+use Rattle.dispatch_core.proofs.dispatch.DispatchCore.tick.Goals as goal
+use Rattle.dispatch_core.proofs.dispatch.DispatchCore.tick.Goals.{After-turn}
+
+sends : (c : After-turn) → Sends c.args.self.now c.turn.result Nothing (waiting_joins c.args.self.now.fresh.items ++ zip c.args.self.now.trying.keys c.args.clicks.now.items)
+sends c =
+    let core = c.args.self.now in
+    let js = waiting_joins core.fresh.items in
+    let ks = zip core.trying.keys c.args.clicks.now.items in
+    let trying : Puts c.put_waiting.new.self c.put_trying.new.self ks = subst (λ (xs : List (ℕ × Click)). Puts c.put_waiting.new.self c.put_trying.new.self xs) (λ i. zip (c.as_slice.ensures.keys i) (c.deref.ensures.value i)) c.in_ok-put_trying.ensures in
+    sends_of core c.new-outbox.result c.put_trying.new.self c.turn.result Nothing (js ++ ks) c.new-outbox.ensures.dealer c.new-outbox.ensures.packets (puts_more c.new-outbox.result c.put_waiting.new.self c.put_trying.new.self js ks c.in_ok-put_waiting.ensures trying) c.turn.ensures.change c.turn.ensures.packets c.turn.ensures.next
+
+pub returns-clause-turn : goal.returns-clause-turn
+returns-clause-turn c = λ g k l s clicks.
+    let core = c.args.self.now in
+    row_of g core k l c.turn.result Nothing (waiting_joins core.fresh.items ++ zip core.trying.keys c.args.clicks.now.items) (dispatcher_tick g core.dealer.site k l) s.of_setting (sends c) refl
+    (tick_are g core.dealer.site k l core.fresh.items l.fresh core.trying.keys l.trying c.args.clicks.now.items (ap (λ (m : DispatcherLive). m.fresh) s.live) (ap (λ (m : DispatcherLive). m.trying) s.live) clicks) refl s
+
+pub returns-clause-joiners : goal.returns-clause-joiners
+returns-clause-joiners c = dealt_of c.args.self.now c.turn.result Nothing (waiting_joins c.args.self.now.fresh.items ++ zip c.args.self.now.trying.keys c.args.clicks.now.items) (sends c)

@@ -1,0 +1,11 @@
+use Rattle.std.proofs.Common.{◌≡◌, map}
+use Rattle.std.specs.VecDeque.{deque_len}
+use Rattle.dispatch_core.specs.Dispatcher.{after_done}
+use Rattle.dispatch_core.specs.Windows.{fresh_of}
+use Rattle.dispatch_core.proofs.window.pass_done.Given as goal
+
+abbrev pub invariant-leaving : goal.invariant-leaving
+invariant-leaving l = after_done (map fresh_of l.fresh.items) ≡ after_done (map fresh_of l.initial.fresh.items)
+
+abbrev pub decreases-leaving : goal.decreases-leaving
+decreases-leaving l = deque_len l.fresh

@@ -1,0 +1,98 @@
+// Joins to send.
+ghost use Rattle.std.specs.Prelude.{◌≡◌, [], ◌∷◌, IfOk, OnOk};
+ghost use Rattle.std.specs.List.{zip};
+ghost use Rattle.dispatch_core.specs.Outboxes.{Puts, waiting_joins};
+
+use crate::Turn;
+use crate::clicks::copy_click;
+use crate::dealer::Dealer;
+use crate::turns::Change;
+use crate::window::FreshLine;
+use log_records::ClickRec;
+use packet_codec::{Node, Packet};
+use std::alloc::{AllocError, Global};
+use std::collections::VecDeque;
+
+// Joins, each to the joiner behind that of the one before, and the dealer that says whose turn is next.
+#[derive(Debug, Drop)]
+pub(crate) struct Outbox {
+    pub(crate) alloc: Global,
+    pub(crate) dealer: Dealer,
+    pub(crate) packets: Vec<(Node, Packet)>,
+}
+
+impl Outbox {
+    // No Joins.
+    pub(crate) fn new(alloc: Global, dealer: Dealer) -> Outbox
+        ensures dealer { result.dealer ≡ dealer }
+        ensures packets { result.packets.items ≡ [] }
+    {
+        Outbox {
+            alloc,
+            dealer,
+            packets: Vec::new(alloc),
+        }
+    }
+
+    // One Join more. It copies the click.
+    pub(crate) fn put(&mut self, position: u64, click: &ClickRec) -> Result<(), AllocError>
+        ensures { OnOk result (Puts self.old self.new ((position, click.now) ∷ [])) }
+    {
+        let click = copy_click(self.alloc, click)?;
+        let node = self.dealer.deal();
+        self.packets.push((node, Packet::Join { position, click }))?;
+        Ok(())
+    }
+
+    // One of each line that isn't done. Linear in the window.
+    pub(crate) fn put_waiting(&mut self, fresh: &VecDeque<FreshLine>) -> Result<(), AllocError>
+        ensures { OnOk result (Puts self.old self.new (waiting_joins fresh.now.items)) }
+    {
+        for line in fresh {
+            self.put_line(line)?;
+        }
+        Ok(())
+    }
+
+    // One of a line that isn't done.
+    fn put_line(&mut self, line: &FreshLine) -> Result<(), AllocError>
+        ensures { OnOk result (Puts self.old self.new (waiting_joins (line.now ∷ []))) }
+    {
+        if line.done {
+            return Ok(());
+        }
+        self.put(line.position, &line.click)
+    }
+
+    // One of each position with its click.
+    pub(crate) fn put_trying(
+        &mut self,
+        positions: &[u64],
+        clicks: &[ClickRec],
+    ) -> Result<(), AllocError>
+        ensures { OnOk result (Puts self.old self.new (zip positions.now clicks.now)) }
+    {
+        for (position, click) in positions.iter().zip(clicks) {
+            self.put(*position, click)?;
+        }
+        Ok(())
+    }
+
+    // The turn with this change that sends them.
+    pub(crate) fn turn(self, change: Change) -> Turn
+        ensures change { result.change ≡ change }
+        ensures packets { result.packets.items ≡ self.packets.items }
+        ensures next { result.next ≡ self.dealer.next }
+    {
+        let Outbox {
+            alloc: _,
+            dealer,
+            packets,
+        } = self;
+        Turn {
+            packets,
+            next: dealer.next,
+            change,
+        }
+    }
+}
