@@ -213,8 +213,36 @@ fn from_server(alloc: Global, asked: Asked) -> Result<ReplicaInput, AllocError> 
 // What one turn notes and says after these notes.
 fn turn_after(alloc: Global, before: &[Noted], asked: Asked) -> Result<(Noted, Said), AllocError> {
     let mut core = core_of(alloc, before)?;
-    let turn = core.decide(&from_server(alloc, asked)?)?;
+    foreseen(&mut core, &from_server(alloc, asked)?)
+}
+
+// What a turn notes and says. It isn't kept.
+fn foreseen(core: &mut ReplicaCore, input: &ReplicaInput) -> Result<(Noted, Said), AllocError> {
+    let turn = core.decide(input)?;
     Ok((notes_of(&turn), says_of(&turn)))
+}
+
+// What a turn notes and says. It is kept.
+fn kept(core: &mut ReplicaCore, input: &ReplicaInput) -> Result<(Noted, Said), AllocError> {
+    let turn = core.decide(input)?;
+    let told = (notes_of(&turn), says_of(&turn));
+    core.keep(turn);
+    Ok(told)
+}
+
+// What a turn on the server's packet notes and says.
+fn turn_of(
+    alloc: Global,
+    core: &mut ReplicaCore,
+    asked: Asked,
+    is_kept: bool,
+) -> Result<(Noted, Said), AllocError> {
+    let input = from_server(alloc, asked)?;
+    if is_kept {
+        kept(core, &input)
+    } else {
+        foreseen(core, &input)
+    }
 }
 
 const NOTHING: Noted = Noted::Nothing;
@@ -314,9 +342,7 @@ fn answers_nothing_else(rt: HostRuntime) -> Result<(), Fail> {
     assert_eq!(rt; turn, (NOTHING, Said::Nothing));
     let mut core = core_of(alloc, &[ACCEPTED_1])?;
     for input in [ReplicaInput::Own, ReplicaInput::Tick] {
-        let turn = core.decide(&input)?;
-        assert_eq!(rt; (notes_of(&turn), says_of(&turn)), (NOTHING, Said::Nothing));
-        core.keep(turn);
+        assert_eq!(rt; kept(&mut core, &input)?, (NOTHING, Said::Nothing));
     }
     assert!(rt; !core.wants() && !core.unfinished() && core.at_rest());
     Ok(())
@@ -324,27 +350,21 @@ fn answers_nothing_else(rt: HostRuntime) -> Result<(), Fail> {
 
 #[test]
 fn a_turn_counts_once_it_is_kept(rt: HostRuntime) -> Result<(), Fail> {
-    let alloc = rt.alloc();
-    let mut core = ReplicaCore::new(alloc);
-    let first = from_server(alloc, Asked::Prepare(PLACE, 2))?;
-    let second = from_server(alloc, Asked::Accept(PLACE, 2, 5))?;
-    let late = from_server(alloc, Asked::Prepare(PLACE, 1))?;
-    let promise = core.decide(&first)?;
-    assert_eq!(rt;
-        says_of(&core.decide(&late)?),
-        Said::Promise(PLACE, 1, None)
-    );
-    core.keep(promise);
-    assert_eq!(rt; says_of(&core.decide(&late)?), Said::Nack(PLACE, 1, 2));
-    let acceptance = core.decide(&second)?;
-    assert_eq!(rt; notes_of(&acceptance), ACCEPTED_2);
-    core.keep(acceptance);
-    let again = core.decide(&second)?;
-    assert_eq!(rt;
-        (notes_of(&again), says_of(&again)),
-        (NOTHING, Said::Accepted(PLACE, 2))
-    );
-    let told = core.decide(&first)?;
-    assert_eq!(rt; says_of(&told), Said::Promise(PLACE, 2, Some((2, 5))));
+    let (first, second) = (Asked::Prepare(PLACE, 2), Asked::Accept(PLACE, 2, 5));
+    let late = Asked::Prepare(PLACE, 1);
+    let steps = [
+        (first, false, PROMISED_2, Said::Promise(PLACE, 2, None)),
+        (late, false, PROMISED_1, Said::Promise(PLACE, 1, None)),
+        (first, true, PROMISED_2, Said::Promise(PLACE, 2, None)),
+        (late, false, NOTHING, Said::Nack(PLACE, 1, 2)),
+        (second, true, ACCEPTED_2, Said::Accepted(PLACE, 2)),
+        (second, false, NOTHING, Said::Accepted(PLACE, 2)),
+        (first, false, NOTHING, Said::Promise(PLACE, 2, Some((2, 5)))),
+    ];
+    let mut core = ReplicaCore::new(rt.alloc());
+    for (asked, is_kept, noted, said) in steps {
+        let told = turn_of(rt.alloc(), &mut core, asked, is_kept)?;
+        assert_eq!(rt; told, (noted, said));
+    }
     Ok(())
 }
