@@ -1,2 +1,3 @@
 pub mod Replica
+pub mod Core
 pub mod Rows

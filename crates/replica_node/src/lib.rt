@@ -2,4 +2,15 @@
 //! it answers. The rows of its turns stand in `specs/Replica.antt`.
 #![tactic(auto)]
 
+mod answers;
+mod input;
 pub mod laws;
+mod replay;
+mod replica_core;
+#[cfg(test)]
+mod tests;
+mod turn;
+
+pub use input::ReplicaInput;
+pub use replica_core::ReplicaCore;
+pub use turn::Turn;

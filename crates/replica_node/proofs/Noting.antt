@@ -1,0 +1,53 @@
+-- What an acceptor knows after a note more, and its turns as rows.
+use Rattle.std.proofs.Common.{◌≡◌, List, [], ◌∷◌, ◌++◌, Option, Some, None, refl, sym, ap, ◌∙◌, subst}
+use Rattle.std.specs.Prelude.{option_map}
+use Rattle.std.proofs.lemmas.List.{map-append}
+use Rattle.registry_state.specs.declared.Batch.{Batch}
+use Rattle.paxos_defs.specs.declared.Place.{Place}
+use Rattle.paxos_defs.specs.Notes.{Vote, promise, acceptance, note_from}
+use Rattle.paxos_defs.proofs.Places.{cell_noted}
+use Rattle.paxos_acceptor.specs.declared.notes.ReplicaNote.{ReplicaNote}
+use Rattle.paxos_acceptor.specs.declared.notes.ReplicaNote.TheVariants.{Promised, Accepted}
+use Rattle.paxos_acceptor.specs.declared.acceptor.Acceptor.{Acceptor}
+use Rattle.paxos_acceptor.specs.Cells as cells
+use Rattle.paxos_acceptor.specs.Cells.{place_of, note_view, note_for, note_by, cell_with}
+use Rattle.turn_defs.specs.Turns.{BallotNote, Voted}
+use Rattle.turn_defs.specs.Setting.{Setting}
+use Rattle.turn_defs.specs.Nodes.{Addressed}
+use Rattle.packet_codec.specs.declared.packet.Packet.{Packet}
+use Rattle.packet_codec.specs.declared.node.Node.{Node}
+use Rattle.packet_codec.specs.declared.node.To.TheVariants.{Only}
+use Rattle.replica_node.specs.declared.turn.Turn.{Turn}
+use Rattle.replica_node.specs.Replica.{ReplicaKept, cell_at, note_at, land_replica, says}
+use Rattle.replica_node.specs.Core.{IsRow, Knows, kept_of, noted}
+
+-- the kept notes, with one more behind them
+abbrev pub with_note : ReplicaKept → ReplicaNote → ReplicaKept
+with_note k note = land_replica (Voted (note_view note)) k
+
+cell_after_note : (k : ReplicaKept) (note : ReplicaNote) (p : Place) → cell_with note p (cell_at k p) ≡ cell_at (with_note k note) p
+cell_after_note k (Promised shard slot b) p = sym (cell_noted p k.notes (place_of shard slot) (promise b))
+cell_after_note k (Accepted shard slot b v) p = sym (cell_noted p k.notes (place_of shard slot) (acceptance b v))
+
+-- an acceptor that keeps a note knows what the notes with it say
+pub knows_note : (old new : Acceptor) (k : ReplicaKept) (note : ReplicaNote) → Knows old k → ((p : Place) → cells.cell_at new p ≡ cell_with note p (cells.cell_at old p)) → Knows new (with_note k note)
+knows_note old new k note before after p = after p ∙ ap (cell_with note p) (before p) ∙ cell_after_note k note p
+
+pub kept_push : (notes : List ReplicaNote) (note : ReplicaNote) → with_note (kept_of notes) note ≡ kept_of (notes ++ note ∷ [])
+kept_push notes note = ap (λ (ns : List BallotNote). record { notes = ns }) (sym (map-append note_view notes (note ∷ [])))
+
+-- the note of a vote, as the row has it
+pub vote_noted : (at : Place) (x : Option (Vote Batch)) → noted (option_map (note_for at.shard at.slot) x) ≡ note_at at x
+vote_noted at None = refl
+vote_noted at (Some x) = go x.value
+  where
+    go : (o : Option Batch) → noted (Some (note_by at.shard at.slot x.ballot o)) ≡ Some (Voted (note_from at x.ballot o))
+    go None = refl
+    go (Some v) = refl
+
+-- a turn with this vote's note and this packet has the row's
+pub says_row : (g : Setting) (to : Node) (at : Place) (x : Option (Vote Batch)) (p q : Packet) (turn : Turn) → turn.note ≡ option_map (note_for at.shard at.slot) x → turn.packets.items ≡ (to, q) ∷ [] → q ≡ p → IsRow g (says to p (note_at at x)) turn
+says_row g to at x p q turn note sent same = record {
+  note = ap noted note ∙ vote_noted at x;
+  packets = subst (λ (ps : List (Node × Packet)). Addressed g ((Only to, p) ∷ []) ps) (sym sent) ((refl, sym same), tt);
+}

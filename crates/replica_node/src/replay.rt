@@ -1,0 +1,51 @@
+// What the notes of a journal make, where the journal keeps its notes.
+ghost use Rattle.std.specs.Prelude.{◌≡◌, IfOk};
+ghost use Rattle.replica_node.specs.Core.{Knows, kept_of};
+
+use paxos_acceptor::{Acceptor, ReplicaNote};
+use std::alloc::{AllocError, Global};
+
+// What the notes make, in their order: linear in the notes and their batches, with memory for each place and a copy of
+// the batch accepted last there.
+pub(crate) fn replay(alloc: Global, notes: &[ReplicaNote]) -> Result<Acceptor, AllocError>
+    ensures { IfOk result (λ acceptor. Knows acceptor (kept_of notes.now)) }
+{
+    let mut acceptor = Acceptor::new(alloc);
+    for note in notes {
+        let copy = copy_of(note)?;
+        acceptor.make_room()?;
+        acceptor.keep(copy);
+    }
+    Ok(acceptor)
+}
+
+// The same note, by one allocation where it has a batch.
+fn copy_of(note: &ReplicaNote) -> Result<ReplicaNote, AllocError>
+    ensures { IfOk result (λ copy. copy ≡ note.now) }
+{
+    match note {
+        ReplicaNote::Promised {
+            shard,
+            slot,
+            ballot,
+        } => Ok(ReplicaNote::Promised {
+            shard: *shard,
+            slot: *slot,
+            ballot: *ballot,
+        }),
+        ReplicaNote::Accepted {
+            shard,
+            slot,
+            ballot,
+            batch,
+        } => {
+            let batch = batch.copy()?;
+            Ok(ReplicaNote::Accepted {
+                shard: *shard,
+                slot: *slot,
+                ballot: *ballot,
+                batch,
+            })
+        }
+    }
+}

@@ -1,0 +1,195 @@
+// The replica's core: an acceptor, and packets in place of answers.
+ghost use Rattle.std.specs.Prelude.{◌≡◌, ◌<◌, ◌∷◌, [], IfOk};
+ghost use Rattle.paxos_acceptor.specs.Cells.{room};
+ghost use Rattle.paxos_defs.specs.Turns.{on_accept, on_prepare};
+ghost use Rattle.registry_state.specs.Same.{same_batch};
+ghost use Rattle.turn_defs.specs.Setting.{Setting};
+ghost use Rattle.turn_defs.specs.Turns.{land};
+ghost use Rattle.replica_node.specs.Replica.{ReplicaKept, accepts, cell_at, land_replica, prepares, replica_at_rest, replica_gets, replica_start, replica_unfinished, replica_wants};
+ghost use Rattle.replica_node.specs.Core.{Carries, GoesOn, HasRoomFor, HasRoomIn, IsRow, Stands, asked, kept_of, noted, row_of};
+ghost use Rattle.replica_node.specs.declared.turn.Change.TheVariants.{Stays};
+
+use crate::answers::{prepared, taken};
+use crate::replay::replay;
+use crate::turn::Change;
+use crate::{ReplicaInput, Turn};
+use ballot_core::Ballot;
+use packet_codec::{Node, Packet};
+use paxos_acceptor::{Acceptor, ReplicaNote};
+use paxos_defs::Place;
+use registry_state::Batch;
+use std::alloc::{AllocError, Global};
+
+/// A replica while it is up: what its journal's notes say of each place.
+///
+/// A turn is decided, its note is written, then it is kept. A turn that isn't kept leaves no trace.
+#[derive(Drop)]
+pub struct ReplicaCore {
+    acceptor: Acceptor,
+    alloc: Global,
+}
+
+impl ReplicaCore {
+    /// Of an empty journal; `Start` gives it its notes. It takes no memory.
+    pub fn new(alloc: Global) -> ReplicaCore
+        ensures { Stands result (kept_of []) }
+    {
+        ReplicaCore {
+            acceptor: Acceptor::new(alloc),
+            alloc,
+        }
+    }
+
+    /// What a turn writes and sends. Nothing changes but the room for the note; so it is too where memory runs out, which
+    /// is the only error.
+    ///
+    /// Constant expected time for a packet, and linear in the batch that is copied into the note or the packet; linear in
+    /// the notes for `Start`.
+    pub fn decide(&mut self, input: &ReplicaInput) -> Result<Turn, AllocError>
+        ensures same { (k : ReplicaKept) → Stands self.old k → Stands self.new k }
+        ensures turn { IfOk result (λ turn. (g : Setting) (k : ReplicaKept) → Carries self.old k input.now → IsRow g (row_of k (asked input.now)) turn) }
+        ensures next { IfOk result (λ turn. (k : ReplicaKept) → Carries self.old k input.now → GoesOn self.new turn.change k) }
+        ensures room { IfOk result (λ turn. HasRoomFor self.new turn.change turn.note) }
+    {
+        match input {
+            ReplicaInput::Start { notes } => self.start(notes),
+            ReplicaInput::Packet { from, packet } => self.gets(*from, packet),
+            ReplicaInput::Own | ReplicaInput::Tick => Ok(Turn::idle(self.alloc, Change::Stays)),
+        }
+    }
+
+    /// Makes the turn's change, once its note is written, in constant expected time. It takes no memory.
+    pub fn keep(&mut self, turn: Turn)
+        requires { HasRoomFor self.old turn.change turn.note }
+        ensures { (k : ReplicaKept) → GoesOn self.old turn.change k → Stands self.new (land land_replica (noted turn.note) k) }
+    {
+        let Turn {
+            note,
+            packets: _,
+            change,
+        } = turn;
+        self.go_on(change);
+        if let Some(note) = note {
+            self.acceptor.keep(note);
+        }
+    }
+
+    /// Whether it has something to do by itself: never.
+    pub fn wants(&self) -> bool
+        ensures { (k : ReplicaKept) → result ≡ replica_wants k }
+    {
+        false
+    }
+
+    /// Whether it waits for somebody: never.
+    pub fn unfinished(&self) -> bool
+        ensures { (k : ReplicaKept) → result ≡ replica_unfinished k }
+    {
+        false
+    }
+
+    /// Whether all is done: always.
+    pub fn at_rest(&self) -> bool
+        ensures { (k : ReplicaKept) → result ≡ replica_at_rest k }
+    {
+        true
+    }
+
+    // What it knows, or what its journal says where it starts.
+    fn go_on(&mut self, change: Change)
+        ensures next { (k : ReplicaKept) → GoesOn self.old change k → Stands self.new k }
+        ensures room { HasRoomIn self.old change → 0 < room self.new.acceptor }
+    {
+        match change {
+            Change::Stays => {}
+            Change::Starts(acceptor) => self.acceptor = acceptor,
+        }
+    }
+
+    // It comes up with nothing to write or send.
+    fn start(&self, notes: &[ReplicaNote]) -> Result<Turn, AllocError>
+        ensures turn { IfOk result (λ turn. (g : Setting) (k : ReplicaKept) → IsRow g (replica_start k) turn) }
+        ensures next { IfOk result (λ turn. (k : ReplicaKept) → kept_of notes.now ≡ k → GoesOn self.now turn.change k) }
+        ensures room { IfOk result (λ turn. HasRoomFor self.now turn.change turn.note) }
+    {
+        let acceptor = replay(self.alloc, notes)?;
+        Ok(Turn::idle(self.alloc, Change::Starts(acceptor)))
+    }
+
+    // Prepare and Accept have rows; nothing else is answered.
+    fn gets(&mut self, from: Node, packet: &Packet) -> Result<Turn, AllocError>
+        ensures same { (k : ReplicaKept) → Stands self.old k → Stands self.new k }
+        ensures turn { IfOk result (λ turn. (g : Setting) (k : ReplicaKept) → Stands self.old k → IsRow g (replica_gets k from packet.now) turn) }
+        ensures change { IfOk result (λ turn. turn.change ≡ Stays) }
+        ensures room { IfOk result (λ turn. HasRoomFor self.new turn.change turn.note) }
+    {
+        match packet {
+            Packet::Prepare { place, ballot } => self.prepare(from, *place, *ballot),
+            Packet::Accept {
+                place,
+                ballot,
+                batch,
+            } => self.accept(from, *place, *ballot, batch),
+            _ => Ok(Turn::idle(self.alloc, Change::Stays)),
+        }
+    }
+
+    // Prepare b: promised above b: Nack, with that ballot. Promised b: Promise, with what was accepted, and no note.
+    // Else note "promised b", and Promise so.
+    fn prepare(&mut self, from: Node, place: Place, ballot: Ballot) -> Result<Turn, AllocError>
+        ensures same { (k : ReplicaKept) → Stands self.old k → Stands self.new k }
+        ensures turn { IfOk result (λ turn. (g : Setting) (k : ReplicaKept) → Stands self.old k → IsRow g (prepares from place ballot (on_prepare (cell_at k place) ballot)) turn) }
+        ensures change { IfOk result (λ turn. turn.change ≡ Stays) }
+        ensures room { IfOk result (λ turn. HasRoomFor self.new turn.change turn.note) }
+    {
+        let (note, answer) = self.acceptor.on_prepare(place.shard, place.slot, ballot)?;
+        let turn = self.say(from, prepared(place, ballot, answer), note)?;
+        Ok(turn)
+    }
+
+    // Accept b v: promised above b: Nack, with that ballot. Accepted v at b last: Accepted, and no note. Else note
+    // "accepted v at b", and Accepted.
+    fn accept(
+        &mut self,
+        from: Node,
+        place: Place,
+        ballot: Ballot,
+        batch: &Batch,
+    ) -> Result<Turn, AllocError>
+        ensures same { (k : ReplicaKept) → Stands self.old k → Stands self.new k }
+        ensures turn { IfOk result (λ turn. (g : Setting) (k : ReplicaKept) → Stands self.old k → IsRow g (accepts from place ballot (on_accept same_batch (cell_at k place) ballot batch.now)) turn) }
+        ensures change { IfOk result (λ turn. turn.change ≡ Stays) }
+        ensures room { IfOk result (λ turn. HasRoomFor self.new turn.change turn.note) }
+    {
+        let (note, answer) = self
+            .acceptor
+            .on_accept(place.shard, place.slot, ballot, batch)?;
+        let turn = self.say(from, taken(place, ballot, answer), note)?;
+        Ok(turn)
+    }
+
+    // A packet to the sender, and room for the note.
+    fn say(
+        &mut self,
+        to: Node,
+        packet: Packet,
+        note: Option<ReplicaNote>,
+    ) -> Result<Turn, AllocError>
+        ensures same { (k : ReplicaKept) → Stands self.old k → Stands self.new k }
+        ensures note { IfOk result (λ turn. turn.note ≡ note) }
+        ensures packets { IfOk result (λ turn. turn.packets.items ≡ (to, packet) ∷ []) }
+        ensures change { IfOk result (λ turn. turn.change ≡ Stays) }
+        ensures room { IfOk result (λ turn. HasRoomFor self.new turn.change turn.note) }
+    {
+        let mut packets = Vec::with_capacity(self.alloc, 1)?;
+        packets.push((to, packet))?;
+        if note.is_some() {
+            self.acceptor.make_room()?;
+        }
+        Ok(Turn {
+            note,
+            packets,
+            change: Change::Stays,
+        })
+    }
+}
