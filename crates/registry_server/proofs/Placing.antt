@@ -1,7 +1,7 @@
 -- Lists of shards that stand for the states of their numbers, changed in one place.
-use Rattle.std.proofs.Common.{◌≡◌, ℕ, ◌+◌, ◌<◌, ◌≤◌, ◌==◌, false, List, [], ◌∷◌, ◌++◌, length, get_or, set, refl, sym, ap, ◌∙◌, subst, ⊎_elim, arith}
+use Rattle.std.proofs.Common.{◌≡◌, ℕ, ◌+◌, ◌<◌, ◌≤◌, ◌==◌, false, List, [], ◌∷◌, ◌++◌, length, take, drop, get_or, set, refl, sym, ap, ◌∙◌, subst, ⊎_elim, arith}
 use Rattle.std.proofs.lemmas.Bool.{cond_both, cond-true, cond-false, cases_eq, eq-eqb, ne_eqb, eqb-true, cases_lt}
-use Rattle.std.proofs.lemmas.List.{get_or-set_same, get_or-set_other, length-set, length-append, get_or_append_left, get_or_at}
+use Rattle.std.proofs.lemmas.List.{get_or-set_same, get_or-set_other, length-set, length-append, get_or_append_left, get_or_at, append-nil, take_all, drop_all}
 use Rattle.list_words.specs.Lists.{set_at}
 use Rattle.registry_server.specs.Server.{ShardState}
 use Rattle.registry_server.specs.ShardStates.{IsShard, EachStands}
@@ -59,3 +59,9 @@ released_more start items i old new w is release r =
 
 pub released_all : (start items : List Shard) (i : ℕ) → length items ≤ i → Released start items i → (f : ℕ → ShardState) → EachStands start f → EachStands items (λ s. record (f s) { held = false })
 released_all start items i most r f h = λ s d lt. let n = r.many in r.below f h s d (omega arith) (omega arith)
+
+-- a slice that takes the whole of a list is the list
+pub written_back : (items start : List Shard) (n : ℕ) → length items ≡ length start → length items ≤ n → take n (items ++ drop (length items) start) ≡ items
+written_back items start n e most =
+    let none : drop (length items) start ≡ [] = drop_all (length items) start (omega arith) in
+    ap (λ (xs : List Shard). take n (items ++ xs)) none ∙ ap (take n) (append-nil items) ∙ take_all n items most

@@ -101,9 +101,7 @@ impl ServerCore {
             packets: _,
             change,
         } = turn;
-        if let Some(ServerNote::Epoch(epoch)) = note {
-            self.epoch = epoch;
-        }
+        self.keep_note(note);
         self.change(change);
     }
 
@@ -126,6 +124,18 @@ impl ServerCore {
         ensures { (g : Setting) (k : ServerKept) (l : ServerLive) → Stands self.now g k l → result ≡ server_at_rest g l }
     {
         self.first(Test::IsBelowHorizon).is_none()
+    }
+
+    // The epoch is that of the note, if there is one.
+    fn keep_note(&mut self, note: Option<ServerNote>)
+        ensures kept { (g : Setting) (k : ServerKept) (l : ServerLive) → Stands self.old g k l → Stands self.new g (land land_server (option_map note_of note) k) l }
+        ensures shards { self.new.shards ≡ self.old.shards }
+        ensures site { site_of self.new ≡ site_of self.old }
+    {
+        match note {
+            Some(ServerNote::Epoch(epoch)) => self.epoch = epoch,
+            None => {}
+        }
     }
 
     // Makes the change. The note is another matter.

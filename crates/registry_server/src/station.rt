@@ -34,7 +34,11 @@ impl Station {
         if number < FIRST_JOINER || number >= FIRST_JOINER + 2 * joiners {
             return false;
         }
-        let site = if number < FIRST_JOINER + joiners { 0 } else { 1 };
+        let site = if number < FIRST_JOINER + joiners {
+            0
+        } else {
+            1
+        };
         site == self.site
     }
 

@@ -191,10 +191,19 @@ fn an_insert_is_chosen(rt: HostRuntime) -> Result<(), Fail> {
     assert!(rt; core.wants() && core.unfinished());
     assert_eq!(rt; take(&mut core, alloc, claim(0))?.as_slice(), [].as_slice());
     let asks = [prepare(0, 1), prepare(1, 1), prepare(2, 1)];
-    assert_eq!(rt; take(&mut core, alloc, ServerInput::Own)?.as_slice(), asks.as_slice());
+    assert_eq!(rt;
+        take(&mut core, alloc, ServerInput::Own)?.as_slice(),
+        asks.as_slice()
+    );
     assert!(rt; !core.wants() && core.unfinished());
-    assert_eq!(rt; take(&mut core, alloc, ServerInput::Own)?.as_slice(), [].as_slice());
-    assert_eq!(rt; take(&mut core, alloc, ServerInput::Tick)?.as_slice(), asks.as_slice());
+    assert_eq!(rt;
+        take(&mut core, alloc, ServerInput::Own)?.as_slice(),
+        [].as_slice()
+    );
+    assert_eq!(rt;
+        take(&mut core, alloc, ServerInput::Tick)?.as_slice(),
+        asks.as_slice()
+    );
     for (from, slot, round) in [(0, 0, 1), (0, 0, 1), (1, 0, 2), (1, 1, 1)] {
         let none = take(&mut core, alloc, promise(from, slot, round, None))?;
         assert_eq!(rt; none.as_slice(), [].as_slice());
@@ -202,17 +211,32 @@ fn an_insert_is_chosen(rt: HostRuntime) -> Result<(), Fail> {
     let offers = [accept(0, 1, 1), accept(1, 1, 1), accept(2, 1, 1)];
     let sent = take(&mut core, alloc, promise(1, 0, 1, None))?;
     assert_eq!(rt; sent.as_slice(), offers.as_slice());
-    assert_eq!(rt; take(&mut core, alloc, ServerInput::Tick)?.as_slice(), offers.as_slice());
-    assert_eq!(rt; take(&mut core, alloc, accepted(0, 0, 1))?.as_slice(), [].as_slice());
+    assert_eq!(rt;
+        take(&mut core, alloc, ServerInput::Tick)?.as_slice(),
+        offers.as_slice()
+    );
+    assert_eq!(rt;
+        take(&mut core, alloc, accepted(0, 0, 1))?.as_slice(),
+        [].as_slice()
+    );
     let told = [
         Seen::Chosen(Node::Server(1), place(0), 0, 1),
         reply(0, Answer::Granted),
     ];
-    assert_eq!(rt; take(&mut core, alloc, accepted(2, 0, 1))?.as_slice(), told.as_slice());
+    assert_eq!(rt;
+        take(&mut core, alloc, accepted(2, 0, 1))?.as_slice(),
+        told.as_slice()
+    );
     let again = [reply(0, Answer::Granted)];
-    assert_eq!(rt; take(&mut core, alloc, claim(0))?.as_slice(), again.as_slice());
+    assert_eq!(rt;
+        take(&mut core, alloc, claim(0))?.as_slice(),
+        again.as_slice()
+    );
     let other = [reply(1, Answer::Duplicate(insert(0).token))];
-    assert_eq!(rt; take(&mut core, alloc, claim(1))?.as_slice(), other.as_slice());
+    assert_eq!(rt;
+        take(&mut core, alloc, claim(1))?.as_slice(),
+        other.as_slice()
+    );
     assert!(rt; core.at_rest() && !core.wants() && !core.unfinished());
     Ok(())
 }
@@ -223,12 +247,24 @@ fn a_refusal_holds_back(rt: HostRuntime) -> Result<(), Fail> {
     let mut core = started(alloc, 0, 0)?.expect(&rt, "a server");
     let _ = take(&mut core, alloc, claim(0))?;
     let _ = take(&mut core, alloc, ServerInput::Own)?;
-    assert_eq!(rt; take(&mut core, alloc, nack(2, 1, 5))?.as_slice(), [].as_slice());
+    assert_eq!(rt;
+        take(&mut core, alloc, nack(2, 1, 5))?.as_slice(),
+        [].as_slice()
+    );
     assert!(rt; !core.wants() && core.unfinished());
-    assert_eq!(rt; take(&mut core, alloc, ServerInput::Own)?.as_slice(), [].as_slice());
-    assert_eq!(rt; take(&mut core, alloc, ServerInput::Tick)?.as_slice(), [].as_slice());
+    assert_eq!(rt;
+        take(&mut core, alloc, ServerInput::Own)?.as_slice(),
+        [].as_slice()
+    );
+    assert_eq!(rt;
+        take(&mut core, alloc, ServerInput::Tick)?.as_slice(),
+        [].as_slice()
+    );
     let asks = [prepare(0, 6), prepare(1, 6), prepare(2, 6)];
-    assert_eq!(rt; take(&mut core, alloc, ServerInput::Own)?.as_slice(), asks.as_slice());
+    assert_eq!(rt;
+        take(&mut core, alloc, ServerInput::Own)?.as_slice(),
+        asks.as_slice()
+    );
     let mut prior = batch(alloc, 9)?;
     prior.inserts.push(insert(8))?;
     let _ = take(&mut core, alloc, promise(0, 0, 6, Some((ballot(2), prior))))?;
@@ -239,7 +275,10 @@ fn a_refusal_holds_back(rt: HostRuntime) -> Result<(), Fail> {
     assert_eq!(rt; take(&mut core, alloc, early)?.as_slice(), [].as_slice());
     let next = chosen(0, batch(alloc, 0)?);
     let answers = [reply(0, Answer::Granted)];
-    assert_eq!(rt; take(&mut core, alloc, next)?.as_slice(), answers.as_slice());
+    assert_eq!(rt;
+        take(&mut core, alloc, next)?.as_slice(),
+        answers.as_slice()
+    );
     assert!(rt; !core.wants() && !core.unfinished());
     Ok(())
 }

@@ -32,11 +32,7 @@ pub(crate) enum Change {
     /// No shard holds back any more.
     Tick,
     /// The greatest round is this, and the shard of this number makes a step.
-    One {
-        shard: u8,
-        round: u64,
-        step: Step,
-    },
+    One { shard: u8, round: u64, step: Step },
 }
 
 /// A decided turn: first the note is written, if there is one, then the packets are sent in their order, and the turn
