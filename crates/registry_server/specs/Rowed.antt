@@ -12,7 +12,11 @@ use Rattle.packet_codec.specs.declared.node.To.{To}
 use Rattle.turn_defs.specs.Setting.{Setting, shard, shards}
 use Rattle.turn_defs.specs.Turns.{Out, idle}
 use Rattle.registry_server.specs.Server.{ServerKept, ServerLive, ShardState, may_propose, proposes, replies, learns, to_replicas, with_shard}
+use Rattle.registry_server.specs.Stations.{setting}
 use Rattle.registry_server.specs.ShardStates.{IsShard, FitsStep}
+use Rattle.registry_server.specs.Cores.{Gives}
+use Rattle.registry_server.specs.declared.station.Station.{Station}
+use Rattle.registry_server.specs.declared.turn.Turn.{Turn}
 use Rattle.registry_server.specs.declared.shard.Shard.{Shard}
 use Rattle.registry_server.specs.declared.turn.Change.{Change}
 use Rattle.registry_server.specs.declared.turn.Change.TheVariants as change
@@ -69,3 +73,16 @@ current_of h slot b = current_in slot b h.next h.proposal
 abbrev pub accept_all : Place → Ballot → Option Batch → List (To × Packet)
 accept_all at b None = []
 accept_all at b (Some v) = to_replicas 3 (packet.Accept at b v)
+
+-- at the shard of this number, the turn is what the row makes of any setting with the server's numbers
+abbrev pub IsRow : Station → Shard → ℕ → ℕ → Turn → (Setting → ServerKept → ServerLive → Out ServerLive) → Type 0
+IsRow t h n r turn row = (g : Setting) (k : ServerKept) (l : ServerLive) → IsAt (setting t g) h n r l → Gives (setting t g) t.site l turn (row (setting t g) k l)
+
+-- the same, where it also has to be about this packet
+abbrev pub IsRowOf : Station → Shard → ℕ → ℕ → Packet → Turn → (Setting → ServerKept → ServerLive → Out ServerLive) → Type 0
+IsRowOf t h n r p turn row =
+    (g : Setting) (k : ServerKept) (l : ServerLive) → IsAt (setting t g) h n r l → number_of (setting t g) p ≡ Some n → Gives (setting t g) t.site l turn (row (setting t g) k l)
+
+-- whatever the shard stood for it stands for
+abbrev pub StaysShard : Shard → Shard → Type 0
+StaysShard old new = (st : ShardState) → IsShard old st → IsShard new st

@@ -10,7 +10,7 @@ ghost use Rattle.registry_server.specs.declared.station.Station.{Station as Fixe
 ghost use Rattle.registry_server.specs.Stations.{setting, sent};
 ghost use Rattle.registry_server.specs.ShardStates.{IsShard, FitsStep};
 ghost use Rattle.registry_server.specs.Cores.{Gives};
-ghost use Rattle.registry_server.specs.Rowed.{IsAt, FitsAt, accept_all, proposes_if, learns_behind, number_of, current_of};
+ghost use Rattle.registry_server.specs.Rowed.{IsAt, IsRow, IsRowOf, FitsAt, StaysShard, accept_all, proposes_if, learns_behind, number_of, current_of};
 
 use crate::packets::{ask_all, push_replies, push_reply};
 use crate::shard::{LIMIT, Shard, Step};
@@ -33,9 +33,10 @@ impl Shard {
         round: u64,
         insert: Insert,
     ) -> Result<Turn, AllocError>
-        ensures row { IfOk result (λ turn. (g : Setting) (k : ServerKept) (l : ServerLive) → IsAt (setting station.now g) self.old number round l → Gives (setting station.now g) station.now.site l turn (claimed (setting station.now g) station.now.site k l insert number (l.shards number) (replay (l.shards number).learned insert.id insert.token))) }
+        ensures row { IfOk result (λ turn. IsRow station.now self.old number round turn
+            (λ g k l. claimed g station.now.site k l insert number (l.shards number) (replay (l.shards number).learned insert.id insert.token))) }
         ensures fits { IfOk result (λ turn. FitsAt number turn.change self.new) }
-        ensures same { (st : ShardState) → IsShard self.old st → IsShard self.new st }
+        ensures same { StaysShard self.old self.new }
     {
         let mut packets = Vec::new(station.alloc);
         if let Some(answer) = self.registry.replay(insert.id, insert.token) {
@@ -60,7 +61,8 @@ impl Shard {
         epoch: u32,
     ) -> Result<Turn, AllocError>
         requires { round < 2 ^ 48 - 1 }
-        ensures row { IfOk result (λ turn. (g : Setting) (k : ServerKept) (l : ServerLive) → IsAt (setting station.now g) self.now number round l → epoch ≡ k.epoch → Gives (setting station.now g) station.now.site l turn (proposes_if (setting station.now g) station.now.site k l number)) }
+        ensures row { IfOk result (λ turn. (g : Setting) (k : ServerKept) (l : ServerLive) → IsAt (setting station.now g) self.now number round l
+            → epoch ≡ k.epoch → Gives (setting station.now g) station.now.site l turn (proposes_if (setting station.now g) station.now.site k l number)) }
         ensures fits { IfOk result (λ turn. FitsAt number turn.change self.now) }
     {
         if !self.may_propose(station) {
@@ -92,7 +94,8 @@ impl Shard {
         ballot: Ballot,
         prior: &Option<(Ballot, Batch)>,
     ) -> Result<Turn, AllocError>
-        ensures row { IfOk result (λ turn. (g : Setting) (k : ServerKept) (l : ServerLive) → IsAt (setting station.now g) self.now number round l → Gives (setting station.now g) station.now.site l turn (gets_promise (setting station.now g) station.now.site k l from (record { shard = number; slot = slot }) ballot prior.now (l.shards number) (l.shards number).proposal)) }
+        ensures row { IfOk result (λ turn. IsRow station.now self.now number round turn
+            (λ g k l. gets_promise g station.now.site k l from (record { shard = number; slot = slot }) ballot prior.now (l.shards number) (l.shards number).proposal)) }
         ensures fits { IfOk result (λ turn. FitsAt number turn.change self.now) }
     {
         let Some(proposal) = self.current(slot, ballot) else {
@@ -118,9 +121,10 @@ impl Shard {
         slot: u64,
         ballot: Ballot,
     ) -> Result<Turn, AllocError>
-        ensures row { IfOk result (λ turn. (g : Setting) (k : ServerKept) (l : ServerLive) → IsAt (setting station.now g) self.old number round l → Gives (setting station.now g) station.now.site l turn (gets_accepted (setting station.now g) station.now.site k l from (record { shard = number; slot = slot }) ballot (l.shards number) (l.shards number).proposal)) }
+        ensures row { IfOk result (λ turn. IsRow station.now self.old number round turn
+            (λ g k l. gets_accepted g station.now.site k l from (record { shard = number; slot = slot }) ballot (l.shards number) (l.shards number).proposal)) }
         ensures fits { IfOk result (λ turn. FitsAt number turn.change self.new) }
-        ensures same { (st : ShardState) → IsShard self.old st → IsShard self.new st }
+        ensures same { StaysShard self.old self.new }
     {
         let Some(proposal) = self.current(slot, ballot) else {
             return Ok(Turn::idle(station.alloc));
@@ -157,7 +161,8 @@ impl Shard {
         ballot: Ballot,
         promised: Ballot,
     ) -> Turn
-        ensures row { (g : Setting) (k : ServerKept) (l : ServerLive) → IsAt (setting station.now g) self.now number round l → Gives (setting station.now g) station.now.site l result (gets_nack (setting station.now g) station.now.site k l (record { shard = number; slot = slot }) ballot promised (l.shards number) (l.shards number).proposal) }
+        ensures row { IsRow station.now self.now number round result
+            (λ g k l. gets_nack g station.now.site k l (record { shard = number; slot = slot }) ballot promised (l.shards number) (l.shards number).proposal) }
         ensures fits { FitsAt number result.change self.now }
     {
         let Some(_) = self.current(slot, ballot) else {
@@ -177,9 +182,10 @@ impl Shard {
         slot: u64,
         batch: &Batch,
     ) -> Result<Turn, AllocError>
-        ensures row { IfOk result (λ turn. (g : Setting) (k : ServerKept) (l : ServerLive) → IsAt (setting station.now g) self.old number round l → Gives (setting station.now g) station.now.site l turn (gets_chosen (setting station.now g) station.now.site k l (record { shard = number; slot = slot }) batch.now (l.shards number))) }
+        ensures row { IfOk result (λ turn. IsRow station.now self.old number round turn
+            (λ g k l. gets_chosen g station.now.site k l (record { shard = number; slot = slot }) batch.now (l.shards number))) }
         ensures fits { IfOk result (λ turn. FitsAt number turn.change self.new) }
-        ensures same { (st : ShardState) → IsShard self.old st → IsShard self.new st }
+        ensures same { StaysShard self.old self.new }
     {
         if slot != self.next {
             return Ok(Turn::idle(station.alloc));
@@ -202,9 +208,10 @@ impl Shard {
         mut packets: Vec<(Node, Packet)>,
     ) -> Result<Turn, AllocError>
         requires { self.old.next < 2 ^ 48 - 1 }
-        ensures row { IfOk result (λ turn. (g : Setting) (k : ServerKept) (l : ServerLive) → IsAt (setting station.now g) self.old number round l → Gives (setting station.now g) station.now.site l turn (learns_behind (setting station.now g) station.now.site k l number value (sent packets.items))) }
+        ensures row { IfOk result (λ turn. IsRow station.now self.old number round turn
+            (λ g k l. learns_behind g station.now.site k l number value (sent packets.items))) }
         ensures fits { IfOk result (λ turn. FitsAt number turn.change self.new) }
-        ensures same { (st : ShardState) → IsShard self.old st → IsShard self.new st }
+        ensures same { StaysShard self.old self.new }
     {
         self.registry.make_room(&value)?;
         let answered = self.queue.answered(&self.registry, &value)?;
@@ -221,9 +228,10 @@ impl Shard {
         from: Node,
         packet: &Packet,
     ) -> Result<Turn, AllocError>
-        ensures row { IfOk result (λ turn. (g : Setting) (k : ServerKept) (l : ServerLive) → IsAt (setting station.now g) self.old number round l → number_of (setting station.now g) packet.now ≡ Some number → Gives (setting station.now g) station.now.site l turn (server_gets (setting station.now g) station.now.site k l from packet.now)) }
+        ensures row { IfOk result (λ turn. IsRowOf station.now self.old number round packet.now turn
+            (λ g k l. server_gets g station.now.site k l from packet.now)) }
         ensures fits { IfOk result (λ turn. FitsAt number turn.change self.new) }
-        ensures same { (st : ShardState) → IsShard self.old st → IsShard self.new st }
+        ensures same { StaysShard self.old self.new }
     {
         match packet {
             Packet::Insert(insert) => self.claimed(station, number, round, *insert),
@@ -246,9 +254,10 @@ impl Shard {
         from: u8,
         packet: &Packet,
     ) -> Result<Turn, AllocError>
-        ensures row { IfOk result (λ turn. (g : Setting) (k : ServerKept) (l : ServerLive) → IsAt (setting station.now g) self.old number round l → number_of (setting station.now g) packet.now ≡ Some number → Gives (setting station.now g) station.now.site l turn (from_replica (setting station.now g) station.now.site k l from packet.now)) }
+        ensures row { IfOk result (λ turn. IsRowOf station.now self.old number round packet.now turn
+            (λ g k l. from_replica g station.now.site k l from packet.now)) }
         ensures fits { IfOk result (λ turn. FitsAt number turn.change self.new) }
-        ensures same { (st : ShardState) → IsShard self.old st → IsShard self.new st }
+        ensures same { StaysShard self.old self.new }
     {
         match packet {
             Packet::Promise {
@@ -275,7 +284,8 @@ impl Shard {
         number: u8,
         packets: &mut Vec<(Node, Packet)>,
     ) -> Result<(), AllocError>
-        ensures { OnOk result ((t : Fixed) (g : Setting) (k : ServerKept) (l : ServerLive) → IsShard self.now (l.shards number) → sent packets.new.items ≡ sent packets.old.items ++ again (setting t g) t.site k l number (l.shards number) (l.shards number).proposal) }
+        ensures { OnOk result ((t : Fixed) (g : Setting) (k : ServerKept) (l : ServerLive) → IsShard self.now (l.shards number)
+            → sent packets.new.items ≡ sent packets.old.items ++ again (setting t g) t.site k l number (l.shards number) (l.shards number).proposal) }
     {
         let Some(proposal) = &self.proposal else {
             return Ok(());
@@ -314,7 +324,8 @@ fn promised(
     ballot: Ballot,
     prior: &Option<(Ballot, Batch)>,
 ) -> Result<Vec<(Node, Packet)>, AllocError>
-    ensures { IfOk result (λ packets. sent packets.items ≡ accept_all place ballot (promise_turn proposal.now from ballot prior.now).1) }
+    ensures { IfOk result (λ packets.
+        sent packets.items ≡ accept_all place ballot (promise_turn proposal.now from ballot prior.now).1) }
 {
     let mut packets = Vec::new(alloc);
     match proposal.on_promise(from, ballot, lent(prior)) {

@@ -75,8 +75,10 @@ impl ServerCore {
     /// answers. A tick takes time linear in the shards, at most 16. A start allocates the empty shards.
     pub fn decide(&mut self, input: &ServerInput) -> Result<Turn, AllocError>
         requires { MayStart input.now }
-        ensures start { IfOk result (λ turn. (g : Setting) (k : ServerKept) (l : ServerLive) → CarriesStart input.now k → IsTurn g (site_of self.old) l turn (server_start k)) }
-        ensures turn { IfOk result (λ turn. (g : Setting) (k : ServerKept) (l : ServerLive) (i : Input) → Stands self.old g k l → Carries input.now i → IsTurn g (site_of self.old) l turn (server_turn g (site_of self.old) k l i)) }
+        ensures start { IfOk result (λ turn. (g : Setting) (k : ServerKept) (l : ServerLive) → CarriesStart input.now k
+            → IsTurn g (site_of self.old) l turn (server_start k)) }
+        ensures turn { IfOk result (λ turn. (g : Setting) (k : ServerKept) (l : ServerLive) (i : Input) → Stands self.old g k l → Carries input.now i
+            → IsTurn g (site_of self.old) l turn (server_turn g (site_of self.old) k l i)) }
         ensures decided { IfOk result (λ turn. Decided self.new turn) }
         ensures same { (g : Setting) (k : ServerKept) (l : ServerLive) → Stands self.old g k l → Stands self.new g k l }
         ensures site { site_of self.new ≡ site_of self.old }
@@ -93,7 +95,8 @@ impl ServerCore {
     /// logarithmic time for each insert of a learned value and each id that expires.
     pub fn keep(&mut self, turn: Turn)
         requires { Decided self.old turn }
-        ensures kept { (g : Setting) (k : ServerKept) (l : ServerLive) → Stands self.old g k l → Stands self.new g (land land_server (option_map note_of turn.note) k) (changed g (site_of self.old) turn.change l) }
+        ensures kept { (g : Setting) (k : ServerKept) (l : ServerLive) → Stands self.old g k l
+            → Stands self.new g (land land_server (option_map note_of turn.note) k) (changed g (site_of self.old) turn.change l) }
         ensures site { site_of self.new ≡ site_of self.old }
     {
         let Turn {
@@ -128,7 +131,8 @@ impl ServerCore {
 
     // The epoch is that of the note, if there is one.
     fn keep_note(&mut self, note: Option<ServerNote>)
-        ensures kept { (g : Setting) (k : ServerKept) (l : ServerLive) → Stands self.old g k l → Stands self.new g (land land_server (option_map note_of note) k) l }
+        ensures kept { (g : Setting) (k : ServerKept) (l : ServerLive) → Stands self.old g k l
+            → Stands self.new g (land land_server (option_map note_of note) k) l }
         ensures shards { self.new.shards ≡ self.old.shards }
         ensures site { site_of self.new ≡ site_of self.old }
     {
@@ -141,7 +145,8 @@ impl ServerCore {
     // Makes the change. The note is another matter.
     fn change(&mut self, change: Change)
         requires { FitsChange change self.old.shards.items }
-        ensures kept { (g : Setting) (k : ServerKept) (l : ServerLive) → Stands self.old g k l → Stands self.new g k (changed g (site_of self.old) change l) }
+        ensures kept { (g : Setting) (k : ServerKept) (l : ServerLive) → Stands self.old g k l
+            → Stands self.new g k (changed g (site_of self.old) change l) }
         ensures site { site_of self.new ≡ site_of self.old }
     {
         match change {
@@ -161,7 +166,8 @@ impl ServerCore {
     // It comes up: the next epoch is written, and nothing is known.
     fn start(&self, epoch: u32) -> Result<Turn, AllocError>
         requires { epoch < 4294967294 }
-        ensures start { IfOk result (λ turn. (g : Setting) (k : ServerKept) (l : ServerLive) → epoch ≡ k.epoch → Gives g (site_of self.now) l turn (server_start k)) }
+        ensures start { IfOk result (λ turn. (g : Setting) (k : ServerKept) (l : ServerLive) → epoch ≡ k.epoch
+            → Gives g (site_of self.now) l turn (server_start k)) }
         ensures decided { IfOk result (λ turn. Decided self.now turn) }
     {
         let shards = empty_shards(self.station.alloc, self.station.table.shards())?;
@@ -174,7 +180,8 @@ impl ServerCore {
 
     // Its own work, at the first shard that has some, where a round is left.
     fn own(&self) -> Result<Turn, AllocError>
-        ensures row { IfOk result (λ turn. (g : Setting) (k : ServerKept) (l : ServerLive) → Stands self.now g k l → Gives g (site_of self.now) l turn (server_own g (site_of self.now) k l)) }
+        ensures row { IfOk result (λ turn. (g : Setting) (k : ServerKept) (l : ServerLive) → Stands self.now g k l
+            → Gives g (site_of self.now) l turn (server_own g (site_of self.now) k l)) }
         ensures decided { IfOk result (λ turn. Decided self.now turn) }
     {
         if self.round >= LIMIT {
@@ -188,7 +195,8 @@ impl ServerCore {
 
     // Each proposal's packets are sent again, in the order of shards, and no shard holds back any more.
     fn tick(&self) -> Result<Turn, AllocError>
-        ensures row { IfOk result (λ turn. (g : Setting) (k : ServerKept) (l : ServerLive) → Stands self.now g k l → Gives g (site_of self.now) l turn (server_tick g (site_of self.now) k l)) }
+        ensures row { IfOk result (λ turn. (g : Setting) (k : ServerKept) (l : ServerLive) → Stands self.now g k l
+            → Gives g (site_of self.now) l turn (server_tick g (site_of self.now) k l)) }
         ensures decided { IfOk result (λ turn. Decided self.now turn) }
     {
         let mut packets = Vec::new(self.station.alloc);
@@ -204,7 +212,8 @@ impl ServerCore {
 
     // A packet comes. It is handed to the shard that it is about.
     fn gets(&mut self, from: Node, packet: &Packet) -> Result<Turn, AllocError>
-        ensures row { IfOk result (λ turn. (g : Setting) (k : ServerKept) (l : ServerLive) → Stands self.old g k l → Gives g (site_of self.old) l turn (server_gets g (site_of self.old) k l from packet.now)) }
+        ensures row { IfOk result (λ turn. (g : Setting) (k : ServerKept) (l : ServerLive) → Stands self.old g k l
+            → Gives g (site_of self.old) l turn (server_gets g (site_of self.old) k l from packet.now)) }
         ensures decided { IfOk result (λ turn. Decided self.new turn) }
         ensures same { (g : Setting) (k : ServerKept) (l : ServerLive) → Stands self.old g k l → Stands self.new g k l }
         ensures site { site_of self.new ≡ site_of self.old }

@@ -21,7 +21,7 @@ enum Seen {
     Other,
 }
 
-fn seen(sent: &(Node, Packet)) -> Seen {
+fn summary(sent: &(Node, Packet)) -> Seen {
     let to = sent.0;
     match &sent.1 {
         Packet::Prepare { place, ballot } => Seen::Prepare(to, *place, *ballot),
@@ -45,10 +45,10 @@ fn seen(sent: &(Node, Packet)) -> Seen {
 }
 
 // What the turn sends.
-fn all_seen(alloc: Global, turn: &Turn) -> Result<Vec<Seen>, AllocError> {
+fn summaries(alloc: Global, turn: &Turn) -> Result<Vec<Seen>, AllocError> {
     let mut all = Vec::new(alloc);
     for sent in &turn.packets {
-        all.push(seen(sent))?;
+        all.push(summary(sent))?;
     }
     Ok(all)
 }
@@ -58,7 +58,7 @@ fn take(core: &mut ServerCore, alloc: Global, input: ServerInput) -> Result<Vec<
     requires { MayStart input }
 {
     let turn = core.decide(&input)?;
-    let all = all_seen(alloc, &turn)?;
+    let all = summaries(alloc, &turn)?;
     core.keep(turn);
     Ok(all)
 }
