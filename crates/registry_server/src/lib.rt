@@ -3,3 +3,15 @@
 #![tactic(auto)]
 
 pub mod laws;
+mod packets;
+mod rows;
+mod server_core;
+mod shard;
+mod shards;
+mod station;
+#[cfg(test)]
+mod tests;
+mod turn;
+
+pub use server_core::ServerCore;
+pub use turn::{ServerInput, ServerNote, Turn};

@@ -1,0 +1,146 @@
+-- The rows that look for the proposal at a place and ballot, and those that learn a value.
+use Rattle.std.proofs.Common.{◌≡◌, ℕ, ◌+◌, ◌-◌, ◌^◌, ◌<◌, ◌≤◌, ◌==◌, ◌&&◌, Bool, true, false, cond, is_some, List, [], ◌∷◌, ◌++◌, length, Some, None, refl, sym, ap, ◌∙◌, subst, arith}
+use Rattle.std.specs.Prelude.{Option, option_map, nat_lt}
+use Rattle.std.proofs.lemmas.Bool.{cond-true, cond-false, and_from, and_left, and_right, lt-ltb, le-ltb, eq-eqb, ne_eqb, ltb-true}
+use Rattle.list_words.specs.Lists.{set_at}
+use Rattle.ballot_core.specs.declared.Ballot.{Ballot}
+use Rattle.registry_state.specs.declared.Insert.{Insert}
+use Rattle.registry_state.specs.declared.Batch.{Batch}
+use Rattle.paxos_defs.specs.declared.Place.{Place}
+use Rattle.paxos_defs.specs.Attempts.{Phase, on_promise, on_accepted}
+use Rattle.paxos_proposer.specs.declared.proposer.Proposer.{Proposer}
+use Rattle.paxos_proposer.specs.Proposals.{ballot_of, own_of, phase_of, promise_turn, acceptance_turn}
+use Rattle.packet_codec.specs.declared.packet.Packet.{Packet}
+use Rattle.packet_codec.specs.declared.packet.Packet.TheVariants.{Accept as AcceptPacket, Chosen}
+use Rattle.packet_codec.specs.declared.node.Node.{Node}
+use Rattle.packet_codec.specs.declared.node.Node.TheVariants.{Server}
+use Rattle.packet_codec.specs.declared.node.To.{To}
+use Rattle.packet_codec.specs.declared.node.To.TheVariants.{Only}
+use Rattle.turn_defs.specs.Setting.{Setting, shards}
+use Rattle.turn_defs.specs.Turns.{Out, idle}
+use Rattle.registry_server.specs.Server.{ServerKept, ServerLive, ShardState, Proposal, is_below_limit, is_next, replies, learns, to_replicas, accept_if, promised, accepted, nacked, gets_promise, gets_accepted, gets_nack, gets_chosen}
+use Rattle.registry_server.specs.Stations.{setting, sent}
+use Rattle.registry_server.specs.ShardStates.{IsShard, Goes, NotLast, stepped, proposal_of, counts_promise, counts_accepted}
+use Rattle.registry_server.specs.Cores.{Gives, IsStep}
+use Rattle.registry_server.specs.Rowed.{IsAt, FitsAt, accept_all, current_of, learns_behind}
+use Rattle.registry_server.specs.declared.station.Station.{Station}
+use Rattle.registry_server.specs.declared.shard.Shard.{Shard}
+use Rattle.registry_server.specs.declared.shard.Step.{Step}
+use Rattle.registry_server.specs.declared.shard.Step.TheVariants.{Promise, Accept}
+use Rattle.registry_server.specs.declared.turn.Change.{Change}
+use Rattle.registry_server.specs.declared.turn.Change.TheVariants as change
+use Rattle.registry_server.specs.declared.turn.Turn.{Turn}
+use Rattle.registry_server.proofs.Going.{current_is, is_turn, is_acceptance, accepted_value, row_some, row_none}
+use Rattle.registry_server.proofs.Rowing.{proposal_is, one_gives, same_row}
+
+none_from : (o : Option Batch) → is_some o ≡ false → o ≡ None
+none_from None e = refl
+none_from (Some v) e = absurd (cc)
+
+abbrev at_slot : ℕ → ℕ → Place
+at_slot n slot = record { shard = n; slot = slot }
+
+-- an acceptance that isn't the last one fits
+pub accept_fits : (h : Shard) (n r from slot : ℕ) (b : Ballot) (p : Proposer) (ch : Change) → Some p ≡ current_of h slot b → is_some (acceptance_turn p from b).1 ≡ false → ch ≡ change.One n r (Accept from) → FitsAt n ch h
+accept_fits h n r from slot b p ch s e ec =
+    let c = current_is slot h.next b h.proposal p s in
+    let few : is_some (on_accepted (phase_of p) from).1 ≡ false = subst (λ (t : Phase Batch × Option Batch). is_some t.1 ≡ false) (is_acceptance p from b c.2) e in
+    subst (λ (z : Change). FitsAt n z h) (sym ec) (refl, subst (λ (o : Option Proposer). NotLast from (option_map proposal_of o)) (sym c.0) few)
+
+module _ (g : Setting) (site : ℕ) (k : ServerKept) (l : ServerLive) (n r : ℕ) (h : Shard) (at : IsAt g h n r l) (slot : ℕ) where
+  next_is : h.next ≡ length (l.shards n).learned
+  next_is = at.stands.learned.next
+
+  held_proposal : (l.shards n).proposal ≡ option_map proposal_of h.proposal
+  held_proposal = proposal_is h (l.shards n) at.stands
+
+  -- a slot with a proposal is below the limit
+  pub low_slot : (b : Ballot) (p : Proposer) → Some p ≡ current_of h slot b → h.next < 2 ^ 48 - 1
+  low_slot b p s =
+      let c = current_is slot h.next b h.proposal p s in
+      let goes : Goes (Some (proposal_of p)) (length (l.shards n).learned) = subst (λ (o : Option Proposer). Goes (option_map proposal_of o) (length (l.shards n).learned)) c.0 at.stands.learned.goes in
+      subst (λ m. m < 2 ^ 48 - 1) (sym next_is) (ltb-true (length (l.shards n).learned) (2 ^ 48 - 1) goes.0)
+
+  module _ (b : Ballot) where
+    pub promise_none : (from : ℕ) (prior : Option (Ballot × Batch)) → None ≡ current_of h slot b → gets_promise g site k l from (at_slot n slot) b prior (l.shards n) (l.shards n).proposal ≡ idle l
+    promise_none from prior s =
+        row_none g (at_slot n slot) b (l.shards n) l h (λ o. gets_promise g site k l from (at_slot n slot) b prior (l.shards n) o) (λ q. promised g site k l (at_slot n slot) (l.shards n) q (on_promise q.own q.phase from prior))
+        next_is held_proposal refl (λ q. refl) s
+
+    pub accepted_none : (from : ℕ) → None ≡ current_of h slot b → gets_accepted g site k l from (at_slot n slot) b (l.shards n) (l.shards n).proposal ≡ idle l
+    accepted_none from s =
+        row_none g (at_slot n slot) b (l.shards n) l h (λ o. gets_accepted g site k l from (at_slot n slot) b (l.shards n) o) (λ q. accepted g site k l (at_slot n slot) (l.shards n) q (on_accepted q.phase from).0 (on_accepted q.phase from).1)
+        next_is held_proposal refl (λ q. refl) s
+
+    pub nack_none : (above : Ballot) → None ≡ current_of h slot b → gets_nack g site k l (at_slot n slot) b above (l.shards n) (l.shards n).proposal ≡ idle l
+    nack_none above s =
+        row_none g (at_slot n slot) b (l.shards n) l h (λ o. gets_nack g site k l (at_slot n slot) b above (l.shards n) o) (λ q. nacked g site k l (at_slot n slot) (l.shards n) above)
+        next_is held_proposal refl (λ q. refl) s
+
+    module _ (p : Proposer) (s : Some p ≡ current_of h slot b) where
+      is_now : (l.shards n).proposal ≡ Some (proposal_of p)
+      is_now = held_proposal ∙ ap (option_map proposal_of) (current_is slot h.next b h.proposal p s).0
+
+      same_ballots : ballot_of p ≡ b
+      same_ballots = (current_is slot h.next b h.proposal p s).2
+
+      pub accepted_some : (from : ℕ) → gets_accepted g site k l from (at_slot n slot) b (l.shards n) (l.shards n).proposal
+          ≡ accepted g site k l (at_slot n slot) (l.shards n) (proposal_of p) (on_accepted (phase_of p) from).0 (on_accepted (phase_of p) from).1
+      accepted_some from =
+          row_some g (at_slot n slot) b (l.shards n) l h (λ o. gets_accepted g site k l from (at_slot n slot) b (l.shards n) o) (λ q. accepted g site k l (at_slot n slot) (l.shards n) q (on_accepted q.phase from).0 (on_accepted q.phase from).1)
+          at.within next_is held_proposal (λ q. refl) p s
+
+      pub nack_some : (above : Ballot) → gets_nack g site k l (at_slot n slot) b above (l.shards n) (l.shards n).proposal ≡ nacked g site k l (at_slot n slot) (l.shards n) above
+      nack_some above =
+          row_some g (at_slot n slot) b (l.shards n) l h (λ o. gets_nack g site k l (at_slot n slot) b above (l.shards n) o) (λ q. nacked g site k l (at_slot n slot) (l.shards n) above)
+          at.within next_is held_proposal (λ q. refl) p s
+
+      -- one acceptance more is counted
+      pub counted_gives : (from : ℕ) (turn : Turn) (items : List (Node × Packet)) → is_some (acceptance_turn p from b).1 ≡ false → IsStep turn n r items (Accept from) → sent items ≡ []
+          → Gives g site l turn (gets_accepted g site k l from (at_slot n slot) b (l.shards n) (l.shards n).proposal)
+      counted_gives from turn items e is es =
+          let few : (on_accepted (phase_of p) from).1 ≡ None = none_from _ (subst (λ (t : Phase Batch × Option Batch). is_some t.1 ≡ false) (is_acceptance p from b same_ballots) e) in
+          same_row g site l turn _ _ (accepted_some from ∙ ap (accepted g site k l (at_slot n slot) (l.shards n) (proposal_of p) (on_accepted (phase_of p) from).0) few)
+          (one_gives g site l turn n r l.round items (Accept from) [] _ is es (sym at.round) (λ i. record (l.shards n) { proposal = ap (option_map (counts_accepted from)) is_now i }))
+
+      -- the value is chosen
+      pub chosen_gives : (from : ℕ) (w : Batch) (turn : Turn) (items : List (Node × Packet)) → is_some (acceptance_turn p from b).1 ≡ true → ((marks : List Bool) (v : Batch) → phase_of p ≡ Phase.Accepting v marks → w ≡ v)
+          → sent items ≡ (Only (Server (1 - site)), Chosen (at_slot n slot) w) ∷ [] → Gives g site l turn (learns_behind g site k l n w (sent items))
+          → Gives g site l turn (gets_accepted g site k l from (at_slot n slot) b (l.shards n) (l.shards n).proposal)
+      chosen_gives from w turn items e value es gives =
+          let won : (on_accepted (phase_of p) from).1 ≡ Some w = accepted_value (phase_of p) from w (subst (λ (t : Phase Batch × Option Batch). is_some t.1 ≡ true) (is_acceptance p from b same_ballots) e) value in
+          same_row g site l turn _ _ (accepted_some from ∙ ap (accepted g site k l (at_slot n slot) (l.shards n) (proposal_of p) (on_accepted (phase_of p) from).0) won)
+          (subst (λ (ps : List (To × Packet)). Gives g site l turn (learns_behind g site k l n w ps)) es gives)
+
+  -- a value that the other server tells
+  pub told_other : (v : Batch) → (slot ≡ h.next → ⊥) → gets_chosen g site k l (at_slot n slot) v (l.shards n) ≡ idle l
+  told_other v ne = cond-false (is_next g (at_slot n slot) (l.shards n) && is_below_limit slot) _ (idle l) (and_left _ _ (and_right _ _ (ne_eqb slot (length (l.shards n).learned) (λ e. ne (e ∙ sym next_is)))))
+
+  pub told_high : (v : Batch) → 2 ^ 48 - 1 ≤ slot → gets_chosen g site k l (at_slot n slot) v (l.shards n) ≡ idle l
+  told_high v most = cond-false (is_next g (at_slot n slot) (l.shards n) && is_below_limit slot) _ (idle l) (and_right _ _ (le-ltb slot (2 ^ 48 - 1) most))
+
+  pub told_gives : (v w : Batch) (turn : Turn) (items : List (Node × Packet)) → slot ≡ h.next → slot < 2 ^ 48 - 1 → w ≡ v → items ≡ [] → Gives g site l turn (learns_behind g site k l n w (sent items))
+      → Gives g site l turn (gets_chosen g site k l (at_slot n slot) v (l.shards n))
+  told_gives v w turn items e low ev ei gives =
+      let test : (is_next g (at_slot n slot) (l.shards n) && is_below_limit slot) ≡ true = and_from _ _ (and_from _ _ (lt-ltb n (shards g) at.within) (eq-eqb slot (length (l.shards n).learned) (e ∙ next_is))) (lt-ltb slot (2 ^ 48 - 1) low) in
+      same_row g site l turn _ _ (cond-true _ _ (idle l) test)
+      (subst (λ (z : Batch). Gives g site l turn (learns_behind g site k l n z [])) ev (subst (λ (ps : List (Node × Packet)). Gives g site l turn (learns_behind g site k l n w (sent ps))) ei gives))
+
+-- one promise more is counted
+module _ (t : Station) (g : Setting) (k : ServerKept) (l : ServerLive) (n r : ℕ) (h : Shard) (at : IsAt (setting t g) h n r l) (slot : ℕ) (b : Ballot) where
+  accept_same : (p : Proposer) (o : Option Batch) → ballot_of p ≡ b → accept_all (at_slot n slot) b o ≡ accept_if (setting t g) t.site k l (at_slot n slot) (ballot_of p) o
+  accept_same p None e = refl
+  accept_same p (Some v) e = λ i. to_replicas 3 (AcceptPacket (at_slot n slot) (sym e i) v)
+
+  pub promise_gives : (p : Proposer) → Some p ≡ current_of h slot b → (from : ℕ) (prior : Option (Ballot × Batch)) (turn : Turn) (items : List (Node × Packet)) → IsStep turn n r items (Promise from prior)
+      → sent items ≡ accept_all (at_slot n slot) b (promise_turn p from b prior).1
+      → Gives (setting t g) t.site l turn (gets_promise (setting t g) t.site k l from (at_slot n slot) b prior (l.shards n) (l.shards n).proposal)
+  promise_gives p s from prior turn items is es =
+      let c = current_is slot h.next b h.proposal p s in
+      let now : (l.shards n).proposal ≡ Some (proposal_of p) = proposal_is h (l.shards n) at.stands ∙ ap (option_map proposal_of) c.0 in
+      let row = row_some (setting t g) (at_slot n slot) b (l.shards n) l h (λ o. gets_promise (setting t g) t.site k l from (at_slot n slot) b prior (l.shards n) o) (λ q. promised (setting t g) t.site k l (at_slot n slot) (l.shards n) q (on_promise q.own q.phase from prior))
+      at.within at.stands.learned.next (proposal_is h (l.shards n) at.stands) (λ q. refl) p s in
+      same_row (setting t g) t.site l turn _ _ row
+      (one_gives (setting t g) t.site l turn n r l.round items (Promise from prior) _ _ is
+      (es ∙ ap (λ (z : Phase Batch × Option Batch). accept_all (at_slot n slot) b z.1) (is_turn p from b prior c.2) ∙ accept_same p (on_promise (own_of p) (phase_of p) from prior).1 c.2)
+      (sym at.round) (λ i. record (l.shards n) { proposal = ap (option_map (counts_promise from prior)) now i }))

@@ -1,0 +1,104 @@
+-- A proposal goes on until a majority has accepted its value.
+use Rattle.std.proofs.Common.{◌≡◌, ℕ, ◌<◌, ◌==◌, ◌&&◌, true, false, cond, is_some, List, length, set, Some, None, refl, sym, ap, ◌∙◌, subst, ⊎_elim}
+use Rattle.std.specs.Prelude.{Option, option_map, Bool, nat_lt}
+use Rattle.std.proofs.lemmas.Bool.{cond_both, cond-true, cond-false, and_parts, and_from, and_left, and_right, lt-ltb, eq-eqb, eqb-true, and_cases, false_from_ne_true}
+use Rattle.std.proofs.lemmas.Option.{cond_some, none-some}
+use Rattle.std.proofs.lemmas.Cmp.{tied_itself}
+use Rattle.std.specs.Ordering.{is_eq}
+use Rattle.ballot_core.specs.declared.Ballot.{Ballot}
+use Rattle.ballot_core.specs.Ballots.{is_same}
+use Rattle.ballot_core.proofs.Order.{ballots_total, same_true}
+use Rattle.registry_state.specs.declared.Batch.{Batch}
+use Rattle.paxos_defs.specs.declared.Place.{Place}
+use Rattle.paxos_defs.specs.Turns.{higher, value_for}
+use Rattle.paxos_defs.specs.Attempts.{Phase, is_new, is_most, nobody, with_promise, on_promise, with_acceptance, on_accepted}
+use Rattle.paxos_defs.specs.Attempts.Phase.{Promising, Accepting, Ended}
+use Rattle.paxos_proposer.specs.declared.proposer.Proposer.{Proposer}
+use Rattle.paxos_proposer.specs.Proposals.{ballot_of, own_of, phase_of, promise_turn, acceptance_turn, IsSameProposal}
+use Rattle.turn_defs.specs.Setting.{Setting, shards}
+use Rattle.turn_defs.specs.Turns.{Out, idle}
+use Rattle.registry_server.specs.Server.{ServerLive, ShardState, Proposal, is_current}
+use Rattle.registry_server.specs.ShardStates.{proposal_of, is_going, counts_promise, counts_accepted}
+use Rattle.registry_server.specs.Rowed.{current_in, current_of}
+use Rattle.registry_server.specs.declared.shard.Shard.{Shard}
+
+pub same_itself : (b : Ballot) → is_same b b ≡ true
+same_itself b = ap is_eq (tied_itself ballots_total b)
+
+pub promise_goes : (own : Batch) (phase : Phase Batch) (r : ℕ) (prior : Option (Ballot × Batch)) → is_going phase ≡ true → is_going (on_promise own phase r prior).0 ≡ true
+promise_goes own (Promising marks best) r prior h =
+    cond_both (is_new marks r) (with_promise own (set marks r true) (higher best prior)) (Promising marks best, None) (λ (t : Phase Batch × Option Batch). is_going t.0 ≡ true)
+    (λ _. cond_both (is_most (set marks r true)) (Accepting (value_for own (higher best prior)) (nobody (length (set marks r true))), Some (value_for own (higher best prior))) (Promising (set marks r true) (higher best prior), None) (λ (t : Phase Batch × Option Batch). is_going t.0 ≡ true) (λ _. refl) (λ _. refl))
+    (λ _. refl)
+promise_goes own (Accepting v marks) r prior h = refl
+promise_goes own Ended r prior h = h
+
+pub accepted_goes : (phase : Phase Batch) (r : ℕ) → is_going phase ≡ true → is_some (on_accepted phase r).1 ≡ false → is_going (on_accepted phase r).0 ≡ true
+accepted_goes (Promising marks best) r h n = refl
+accepted_goes (Accepting v marks) r h n =
+    cond_both (is_new marks r) (with_acceptance v (set marks r true)) (Accepting v marks, None) (λ (t : Phase Batch × Option Batch). is_some t.1 ≡ false → is_going t.0 ≡ true)
+    (λ _. cond_both (is_most (set marks r true)) (Ended, Some v) (Accepting v (set marks r true), None) (λ (t : Phase Batch × Option Batch). is_some t.1 ≡ false → is_going t.0 ≡ true) (λ _ e. absurd (cc)) (λ _ e. refl))
+    (λ _ e. refl) n
+accepted_goes Ended r h n = h
+
+-- the value that a majority accepted
+pub accepted_value : (phase : Phase Batch) (r : ℕ) (w : Batch) → is_some (on_accepted phase r).1 ≡ true → ((marks : List Bool) (v : Batch) → phase ≡ Accepting v marks → w ≡ v) → (on_accepted phase r).1 ≡ Some w
+accepted_value (Promising marks best) r w h is = absurd (cc)
+accepted_value (Accepting v marks) r w h is =
+    cond_both (is_new marks r) (with_acceptance v (set marks r true)) (Accepting v marks, None) (λ (t : Phase Batch × Option Batch). is_some t.1 ≡ true → t.1 ≡ Some w)
+    (λ _. cond_both (is_most (set marks r true)) (Ended, Some v) (Accepting v (set marks r true), None) (λ (t : Phase Batch × Option Batch). is_some t.1 ≡ true → t.1 ≡ Some w) (λ _ e. ap (λ (z : Batch). Some z) (sym (is marks v refl))) (λ _ e. absurd (cc)))
+    (λ _ e. absurd (cc)) h
+accepted_value Ended r w h is = absurd (cc)
+
+-- one more answer is counted, at the proposal's own ballot
+pub counted_promise : (p q : Proposer) (r : ℕ) (prior : Option (Ballot × Batch)) → IsSameProposal p q → phase_of q ≡ (promise_turn p r (ballot_of p) prior).0 → proposal_of q ≡ counts_promise r prior (proposal_of p)
+counted_promise p q r prior same phase =
+    let turn : promise_turn p r (ballot_of p) prior ≡ on_promise (own_of p) (phase_of p) r prior = cond-true (is_same (ballot_of p) (ballot_of p)) _ _ (same_itself (ballot_of p)) in
+    let e : phase_of q ≡ (on_promise (own_of p) (phase_of p) r prior).0 = phase ∙ ap (λ (t : Phase Batch × Option Batch). t.0) turn in
+    λ i. record { ballot = same.ballot i; own = same.own i; phase = e i }
+
+pub counted_accepted : (p q : Proposer) (r : ℕ) → IsSameProposal p q → phase_of q ≡ (acceptance_turn p r (ballot_of p)).0 → proposal_of q ≡ counts_accepted r (proposal_of p)
+counted_accepted p q r same phase =
+    let turn : acceptance_turn p r (ballot_of p) ≡ on_accepted (phase_of p) r = cond-true (is_same (ballot_of p) (ballot_of p)) _ _ (same_itself (ballot_of p)) in
+    let e : phase_of q ≡ (on_accepted (phase_of p) r).0 = phase ∙ ap (λ (t : Phase Batch × Option Batch). t.0) turn in
+    λ i. record { ballot = same.ballot i; own = same.own i; phase = e i }
+
+-- the proposal at a slot and ballot
+pub current_is : (slot next : ℕ) (b : Ballot) (o : Option Proposer) (p : Proposer) → Some p ≡ current_in slot b next o → (o ≡ Some p) × (slot ≡ next) × (ballot_of p ≡ b)
+current_is slot next b None p e = absurd (cc)
+current_is slot next b (Some q) p e =
+    let c : (((slot == next) && is_same (ballot_of q) b) ≡ true) × (q ≡ p) = cond_some ((slot == next) && is_same (ballot_of q) b) q p (sym e) in
+    let t = and_parts (slot == next) (is_same (ballot_of q) b) c.0 in
+    (ap (λ (z : Proposer). Some z) c.1, eqb-true slot next t.0, subst (λ z. ballot_of z ≡ b) c.1 (same_true (ballot_of q) b t.1))
+
+pub is_turn : (p : Proposer) (r : ℕ) (b : Ballot) (prior : Option (Ballot × Batch)) → ballot_of p ≡ b → promise_turn p r b prior ≡ on_promise (own_of p) (phase_of p) r prior
+is_turn p r b prior e = cond-true (is_same b (ballot_of p)) _ _ (subst (λ z. is_same b z ≡ true) (sym e) (same_itself b))
+
+pub is_acceptance : (p : Proposer) (r : ℕ) (b : Ballot) → ballot_of p ≡ b → acceptance_turn p r b ≡ on_accepted (phase_of p) r
+is_acceptance p r b e = cond-true (is_same b (ballot_of p)) _ _ (subst (λ z. is_same b z ≡ true) (sym e) (same_itself b))
+
+-- A row that looks for the proposal at a place and ballot: F makes it of the shard's proposal.
+module _ (g : Setting) (at : Place) (b : Ballot) (st : ShardState) (l : ServerLive) (h : Shard) (F : Option Proposal → Out ServerLive) (G : Proposal → Out ServerLive) where
+  pub row_some : at.shard < shards g → h.next ≡ length st.learned → st.proposal ≡ option_map proposal_of h.proposal → ((q : Proposal) → F (Some q) ≡ cond (is_current g at b st q) (G q) (idle l))
+      → (p : Proposer) → Some p ≡ current_of h at.slot b → F st.proposal ≡ G (proposal_of p)
+  row_some w n e f p s =
+      let c = current_is at.slot h.next b h.proposal p s in
+      let q : st.proposal ≡ Some (proposal_of p) = e ∙ ap (option_map proposal_of) c.0 in
+      let same : is_same (ballot_of p) b ≡ true = subst (λ z. is_same (ballot_of p) z ≡ true) c.2 (same_itself (ballot_of p)) in
+      let test : is_current g at b st (proposal_of p) ≡ true = and_from _ _ (and_from _ _ (lt-ltb at.shard (shards g) w) (eq-eqb at.slot (length st.learned) (c.1 ∙ n))) same in
+      ap F q ∙ f (proposal_of p) ∙ cond-true (is_current g at b st (proposal_of p)) _ _ test
+
+  pub row_none : h.next ≡ length st.learned → st.proposal ≡ option_map proposal_of h.proposal → F None ≡ idle l → ((q : Proposal) → F (Some q) ≡ cond (is_current g at b st q) (G q) (idle l))
+      → None ≡ current_of h at.slot b → F st.proposal ≡ idle l
+  row_none n e z f s = ap F e ∙ go h.proposal s
+    where
+      go : (o : Option Proposer) → None ≡ current_in at.slot b h.next o → F (option_map proposal_of o) ≡ idle l
+      go None s = z
+      go (Some p) s =
+          let off : ((at.slot == h.next) && is_same (ballot_of p) b) ≡ false = false_from_ne_true _ (λ t. none-some p (s ∙ cond-true _ (Some p) None t)) in
+          let test : is_current g at b st (proposal_of p) ≡ false =
+          ⊎_elim
+          (λ (t : (at.slot == h.next) ≡ false). and_left _ _ (and_right _ _ (subst (λ m. (at.slot == m) ≡ false) n t)))
+          (λ (t : is_same (ballot_of p) b ≡ false). and_right _ _ t)
+          (and_cases (at.slot == h.next) (is_same (ballot_of p) b) off) in
+          f (proposal_of p) ∙ cond-false (is_current g at b st (proposal_of p)) _ _ test

@@ -1,0 +1,10 @@
+pub mod Placing
+pub mod Sending
+pub mod Queueing
+pub mod Going
+pub mod Rowing
+pub mod Keeping
+pub mod Testing
+pub mod Answering
+pub mod Hearing
+pub mod Standing

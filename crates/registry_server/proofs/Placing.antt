@@ -1,0 +1,67 @@
+-- Lists of shards that stand for the states of their numbers, changed in one place.
+use Rattle.std.proofs.Common.{◌≡◌, ℕ, ◌+◌, ◌<◌, ◌≤◌, ◌==◌, false, List, [], ◌∷◌, ◌++◌, length, take, drop, get_or, set, refl, sym, ap, ◌∙◌, subst, ⊎_elim, arith}
+use Rattle.std.proofs.lemmas.Bool.{cond_both, cond-true, cond-false, cases_eq, eq-eqb, ne_eqb, eqb-true, cases_lt}
+use Rattle.std.proofs.lemmas.List.{get_or-set_same, get_or-set_other, length-set, length-append, get_or_append_left, get_or_at, append-nil, take_all, drop_all}
+use Rattle.list_words.specs.Lists.{set_at}
+use Rattle.registry_server.specs.Server.{ShardState}
+use Rattle.registry_server.specs.ShardStates.{IsShard, EachStands}
+use Rattle.registry_server.specs.declared.shard.Shard.{Shard}
+
+-- a function with its own value put in one place is itself
+pub set_itself : {A : Type 0} (f : ℕ → A) (n : ℕ) → set_at f n (f n) ≡ f
+set_itself {A} f n = λ i m. at m i
+  where
+    at : (m : ℕ) → set_at f n (f n) m ≡ f m
+    at m = cond_both (m == n) (f n) (f m) (λ z. z ≡ f m) (λ e. ap f (sym (eqb-true m n e))) (λ _. refl)
+
+pub put_each : (xs : List Shard) (f : ℕ → ShardState) (i : ℕ) (v : Shard) (st : ShardState) → EachStands xs f → i < length xs → IsShard v st → EachStands (set xs i v) (set_at f i st)
+put_each xs f i v st h w k = λ s d lt. ⊎_elim (λ (e : s ≡ i). subst (λ n. IsShard (get_or (set xs i v) n d) (set_at f i st n)) (sym e) (here d)) (λ (ne : s ≡ i → ⊥). other s d (omega (arith, length-set xs i v)) ne) (cases_eq s i)
+  where
+    here : (d : Shard) → IsShard (get_or (set xs i v) i d) (set_at f i st i)
+    here d = subst (λ x. IsShard x (set_at f i st i)) (sym (get_or-set_same xs i v d w)) (subst (λ z. IsShard v z) (sym (cond-true (i == i) st (f i) (eq-eqb i i refl))) k)
+
+    other : (s : ℕ) (d : Shard) → s < length xs → (s ≡ i → ⊥) → IsShard (get_or (set xs i v) s d) (set_at f i st s)
+    other s d lt ne = subst (λ x. IsShard x (set_at f i st s)) (sym (get_or-set_other xs i s v d ne)) (subst (λ z. IsShard (get_or xs s d) z) (sym (cond-false (s == i) st (f s) (ne_eqb s i ne))) (h s d lt))
+
+-- a shard that stands for the same takes another's place
+pub keep_each : (xs : List Shard) (f : ℕ → ShardState) (i : ℕ) (v : Shard) → EachStands xs f → i < length xs → IsShard v (f i) → EachStands (set xs i v) f
+keep_each xs f i v h w k = subst (λ g. EachStands (set xs i v) g) (set_itself f i) (put_each xs f i v (f i) h w k)
+
+-- one shard more
+pub push_each : (xs : List Shard) (f : ℕ → ShardState) (v : Shard) → EachStands xs f → IsShard v (f (length xs)) → EachStands (xs ++ v ∷ []) f
+push_each xs f v h k = λ s d lt. ⊎_elim (λ (w : s < length xs). subst (λ x. IsShard x (f s)) (sym (get_or_append_left xs (v ∷ []) d s w)) (h s d w)) (λ (w : length xs ≤ s). last s d (let n = length-append xs (v ∷ []) in omega arith)) (cases_lt s (length xs))
+  where
+    last : (s : ℕ) (d : Shard) → length xs ≡ s → IsShard (get_or (xs ++ v ∷ []) s d) (f s)
+    last s d e = subst (λ x. IsShard x (f s)) (sym (get_or_at xs v [] d s e)) (subst (λ n. IsShard v (f n)) e k)
+
+-- Up to a place the shards were released, and from it on they are as at the start.
+pub record Released (start items : List Shard) (i : ℕ) : Type 0 where
+  pub many : length items ≡ length start
+  pub below : (f : ℕ → ShardState) → EachStands start f → (s : ℕ) (d : Shard) → s < i → s < length start → IsShard (get_or items s d) (record (f s) { held = false })
+  pub rest : (s : ℕ) (d : Shard) → i ≤ s → get_or items s d ≡ get_or start s d
+
+pub released_none : (xs : List Shard) → Released xs xs 0
+released_none xs = record { many = refl; below = λ f h s d w lt. absurd (omega arith); rest = λ s d w. refl }
+
+pub released_more : (start items : List Shard) (i : ℕ) (old new : Shard) → i < length items → old ≡ get_or items i old → ((st : ShardState) → IsShard old st → IsShard new (record st { held = false })) → Released start items i → Released start (set items i new) (i + 1)
+released_more start items i old new w is release r =
+    record {
+      many = length-set items i new ∙ r.many;
+      below = λ f h s d lt in_start. ⊎_elim (λ (e : s ≡ i). subst (λ n. IsShard (get_or (set items i new) n d) (record (f n) { held = false })) (sym e) (here f h d)) (λ (ne : s ≡ i → ⊥). subst (λ x. IsShard x (record (f s) { held = false })) (sym (get_or-set_other items i s new d ne)) (r.below f h s d (omega arith) in_start)) (cases_eq s i);
+      rest = λ s d lt. get_or-set_other items i s new d (λ e. omega arith) ∙ r.rest s d (omega arith);
+    }
+  where
+    here : (f : ℕ → ShardState) → EachStands start f → (d : Shard) → IsShard (get_or (set items i new) i d) (record (f i) { held = false })
+    here f h d =
+        let few : i < length start = (let n = r.many in omega arith) in
+        let was : IsShard old (f i) = subst (λ x. IsShard x (f i)) (sym (is ∙ r.rest i old (omega arith))) (h i old few) in
+        subst (λ x. IsShard x (record (f i) { held = false })) (sym (get_or-set_same items i new d w)) (release (f i) was)
+
+pub released_all : (start items : List Shard) (i : ℕ) → length items ≤ i → Released start items i → (f : ℕ → ShardState) → EachStands start f → EachStands items (λ s. record (f s) { held = false })
+released_all start items i most r f h = λ s d lt. let n = r.many in r.below f h s d (omega arith) (omega arith)
+
+-- a slice that takes the whole of a list is the list
+pub written_back : (items start : List Shard) (n : ℕ) → length items ≡ length start → length items ≤ n → take n (items ++ drop (length items) start) ≡ items
+written_back items start n e most =
+    let none : drop (length items) start ≡ [] = drop_all (length items) start (omega arith) in
+    ap (λ (xs : List Shard). take n (items ++ xs)) none ∙ ap (take n) (append-nil items) ∙ take_all n items most

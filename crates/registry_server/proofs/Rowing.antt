@@ -1,0 +1,110 @@
+-- A step of one shard as a row's turn.
+use Rattle.std.proofs.Common.{◌≡◌, ℕ, suc, ◌+◌, ◌<◌, ◌≤◌, true, false, cond, List, [], ◌∷◌, ◌++◌, length, take, Some, None, refl, sym, ap, ◌∙◌, subst, arith}
+use Rattle.std.specs.Prelude.{Option, Bool, option_map, min, nat_le, ◌||◌}
+use Rattle.std.proofs.lemmas.Bool.{cond-true, cond-false}
+use Rattle.list_words.specs.Lists.{set_at}
+use Rattle.ballot_core.specs.declared.Ballot.{Ballot}
+use Rattle.registry_state.specs.declared.Insert.{Insert}
+use Rattle.registry_state.specs.declared.Batch.{Batch}
+use Rattle.registry_state.specs.declared.Answer.{Answer}
+use Rattle.registry_state.specs.LookBack.{replay}
+use Rattle.registry_state.specs.Registry.{batch_of}
+use Rattle.batch_queue.specs.Queue.{waiting}
+use Rattle.batch_queue.specs.Waiting.{answered}
+use Rattle.paxos_defs.specs.declared.Place.{Place}
+use Rattle.paxos_defs.specs.Attempts.{nobody}
+use Rattle.paxos_defs.specs.Attempts.Phase.{Promising}
+use Rattle.paxos_proposer.specs.declared.proposer.Proposer.{Proposer}
+use Rattle.paxos_proposer.specs.Proposals.{ballot_of, own_of, phase_of}
+use Rattle.packet_codec.specs.declared.packet.Packet.{Packet}
+use Rattle.packet_codec.specs.declared.packet.Packet.TheVariants.{Prepare}
+use Rattle.packet_codec.specs.declared.node.Node.{Node}
+use Rattle.packet_codec.specs.declared.node.To.{To}
+use Rattle.turn_defs.specs.Setting.{Setting}
+use Rattle.turn_defs.specs.Turns.{Out, idle}
+use Rattle.registry_server.specs.Server.{ServerKept, ServerLive, ShardState, Proposal, queued, claimed, reply, replies, may_propose, proposes, to_replicas}
+use Rattle.registry_server.specs.Stations.{setting, sent}
+use Rattle.registry_server.specs.Replies.{each_reply}
+use Rattle.registry_server.specs.ShardStates.{IsShard, state_of, stepped, proposal_of}
+use Rattle.registry_server.specs.Cores.{Gives, IsStep, note_of, changed}
+use Rattle.registry_server.specs.Rowed.{IsAt, proposes_if, learns_behind}
+use Rattle.registry_server.specs.declared.station.Station.{Station}
+use Rattle.registry_server.specs.declared.shard.Shard.{Shard}
+use Rattle.registry_server.specs.declared.shard.Step.{Step}
+use Rattle.registry_server.specs.declared.shard.Step.TheVariants.{Queue, Propose, Learn}
+use Rattle.registry_server.specs.declared.turn.Change.TheVariants as change
+use Rattle.registry_server.specs.declared.turn.Turn.{Turn}
+use Rattle.registry_server.proofs.Placing.{set_itself}
+use Rattle.registry_server.proofs.Sending.{replies_each}
+
+pub queue_is : (h : Shard) (st : ShardState) → IsShard h st → st.queue ≡ waiting h.queue
+queue_is h st is = ap (λ (s : ShardState). s.queue) is.is
+
+pub proposal_is : (h : Shard) (st : ShardState) → IsShard h st → st.proposal ≡ option_map proposal_of h.proposal
+proposal_is h st is = ap (λ (s : ShardState). s.proposal) is.is
+
+pub one_gives : (g : Setting) (site : ℕ) (l : ServerLive) (turn : Turn) (n r round : ℕ) (items : List (Node × Packet)) (step : Step) (packets : List (To × Packet)) (st : ShardState)
+    → IsStep turn n r items step → sent items ≡ packets → r ≡ round → stepped g site step (l.shards n) ≡ st
+    → Gives g site l turn (record { note = None; packets = packets; live = record { round = round; shards = set_at l.shards n st } })
+one_gives g site l turn n r round items step packets st is es er est =
+    record {
+      note = ap (option_map note_of) is.note;
+      packets = ap sent is.packets ∙ es;
+      live = ap (λ ch. changed g site ch l) is.change ∙ (λ i. record { round = er i; shards = set_at l.shards n (est i) });
+    }
+
+pub same_row : (g : Setting) (site : ℕ) (l : ServerLive) (turn : Turn) (a b : Out ServerLive) → a ≡ b → Gives g site l turn b → Gives g site l turn a
+same_row g site l turn a b e h = subst (λ o. Gives g site l turn o) (sym e) h
+
+module _ (g : Setting) (site : ℕ) (k : ServerKept) (l : ServerLive) (n : ℕ) (turn : Turn) where
+  -- an insert that is answered
+  pub replayed_gives : (x : Insert) (a : Answer) → Some a ≡ replay (l.shards n).learned x.id x.token → turn.note ≡ None → turn.change ≡ change.Nothing → sent turn.packets.items ≡ reply g site x a
+      → Gives g site l turn (claimed g site k l x n (l.shards n) (replay (l.shards n).learned x.id x.token))
+  replayed_gives x a e en ec ep =
+      subst (λ (o : Option Answer). Gives g site l turn (claimed g site k l x n (l.shards n) o)) e
+      (record { note = ap (option_map note_of) en; packets = ep; live = ap (λ ch. changed g site ch l) ec })
+
+  -- one that isn't
+  pub queued_gives : (x : Insert) (r : ℕ) (items : List (Node × Packet)) → None ≡ replay (l.shards n).learned x.id x.token → IsStep turn n r items (Queue x) → sent items ≡ [] → l.round ≡ r
+      → Gives g site l turn (claimed g site k l x n (l.shards n) (replay (l.shards n).learned x.id x.token))
+  queued_gives x r items e is es er =
+      subst (λ (o : Option Answer). Gives g site l turn (claimed g site k l x n (l.shards n) o)) e
+      (go (queued (l.shards n).queue x.token || nat_le 4096 (length (l.shards n).queue)) (one_gives g site l turn n r l.round items (Queue x) [] _ is es (sym er) refl))
+    where
+      go : (b : Bool)
+          → Gives g site l turn (record { note = None; packets = []; live = record { round = l.round; shards = set_at l.shards n (record (l.shards n) { queue = cond b (l.shards n).queue ((l.shards n).queue ++ x ∷ []) }) } })
+          → Gives g site l turn (cond b (idle l) (record { note = None; packets = []; live = record { round = l.round; shards = set_at l.shards n (record (l.shards n) { queue = (l.shards n).queue ++ x ∷ [] }) } }))
+      go true h = subst (λ (f : ℕ → ShardState). Gives g site l turn (record { note = None; packets = []; live = record { round = l.round; shards = f } })) (set_itself l.shards n) h
+      go false h = h
+
+  -- a value that is learned
+  pub learned_gives : (h : Shard) (v : Batch) (r : ℕ) (items : List (Node × Packet)) (packets : List (To × Packet)) → IsAt g h n r l → IsStep turn n r items (Learn v)
+      → sent items ≡ packets ++ each_reply g site (answered (λ x. replay ((l.shards n).learned ++ v ∷ []) x.id x.token) (waiting h.queue))
+      → Gives g site l turn (learns_behind g site k l n v packets)
+  learned_gives h v r items packets at is es =
+      let q : waiting h.queue ≡ (l.shards n).queue = sym (queue_is h (l.shards n) at.stands) in
+      let vs : List Batch = (l.shards n).learned ++ v ∷ [] in
+      one_gives g site l turn n r l.round items (Learn v) _ _ is
+      (es ∙ ap (λ (ps : List (To × Packet)). packets ++ ps) (replies_each g site vs (waiting h.queue) ∙ ap (λ (xs : List Insert). replies g site vs xs) q))
+      (sym at.round) refl
+
+module _ (t : Station) (g : Setting) (k : ServerKept) (l : ServerLive) (n : ℕ) (turn : Turn) where
+  pub proposed_gives : (h : Shard) (r e : ℕ) (p : Proposer) (items : List (Node × Packet)) → t.batch ≤ 64 → IsAt (setting t g) h n r l → e ≡ k.epoch → true ≡ may_propose (setting t g) (l.shards n)
+      → IsStep turn n (r + 1) items (Propose p)
+      → sent items ≡ to_replicas 3 (Prepare (record { shard = n; slot = h.next }) (record { round = r + 1; epoch = e; site = t.site }))
+      → ballot_of p ≡ record { round = r + 1; epoch = e; site = t.site }
+      → own_of p ≡ batch_of t.horizon (take (min t.batch 64) (waiting h.queue))
+      → phase_of p ≡ Promising (nobody 3) None
+      → Gives (setting t g) t.site l turn (proposes_if (setting t g) t.site k l n)
+  proposed_gives h r e p items few at ee may is es eb eo ep =
+      let next : h.next ≡ length (l.shards n).learned = at.stands.learned.next in
+      let round : r + 1 ≡ suc l.round = (let q = at.round in omega arith) in
+      let ballot : ◌≡◌ {A = Ballot} (record { round = r + 1; epoch = e; site = t.site }) (record { round = suc l.round; epoch = k.epoch; site = t.site }) = λ i. record { round = round i; epoch = ee i; site = t.site } in
+      let size : min t.batch 64 ≡ t.batch = omega arith in
+      let own : own_of p ≡ batch_of t.horizon (take t.batch (l.shards n).queue) = eo ∙ (λ i. batch_of t.horizon (take (size i) (sym (queue_is h (l.shards n) at.stands) i))) in
+      let b = eb ∙ ballot in
+      same_row (setting t g) t.site l turn _ _ (cond-true (may_propose (setting t g) (l.shards n)) _ _ (sym may))
+      (one_gives (setting t g) t.site l turn n (r + 1) (suc l.round) items (Propose p) _ _ is
+      (es ∙ (λ i. to_replicas 3 (Prepare (record { shard = n; slot = next i }) (ballot i))))
+      round
+      (λ i. record (l.shards n) { proposal = Some (record { ballot = b i; own = own i; phase = ep i }) }))

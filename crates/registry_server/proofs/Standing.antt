@@ -1,0 +1,165 @@
+-- What a core stands for, shard by shard.
+use Rattle.std.proofs.Common.{◌≡◌, ℕ, zero, suc, ◌+◌, ◌-◌, ◌^◌, ◌<◌, ◌≤◌, ◌&&◌, Bool, true, false, cond, List, [], ◌∷◌, ◌++◌, length, get_or, set, Some, None, refl, sym, ap, ◌∙◌, subst, arith}
+use Rattle.std.specs.Prelude.{Option, nat_lt}
+use Rattle.std.proofs.lemmas.Bool.{cond-true, cond-false, cond_both, and_left, le-ltb, lt-ltb}
+use Rattle.std.proofs.lemmas.Option.{same_Some}
+use Rattle.std.proofs.lemmas.List.{append-nil, append_assoc, length-set, get_or-set_same}
+use Rattle.ballot_core.specs.declared.Ballot.{Ballot}
+use Rattle.registry_state.specs.declared.Insert.{Insert}
+use Rattle.registry_state.specs.declared.Batch.{Batch}
+use Rattle.time_shards.specs.Shards.{shard_count}
+use Rattle.paxos_defs.specs.declared.Place.{Place}
+use Rattle.packet_codec.specs.declared.packet.Packet.{Packet}
+use Rattle.packet_codec.specs.declared.packet.Packet.TheVariants as packet
+use Rattle.packet_codec.specs.declared.node.Node.{Node}
+use Rattle.packet_codec.specs.declared.node.Node.TheVariants.{Dispatcher, Server, Replica, Joiner}
+use Rattle.packet_codec.specs.declared.node.To.{To}
+use Rattle.turn_defs.specs.Setting.{Setting, shard, shards}
+use Rattle.turn_defs.specs.Turns.{Out, idle}
+use Rattle.turn_defs.specs.Nodes.{Addressed}
+use Rattle.registry_server.specs.Server.{ServerKept, ServerLive, ShardState, Proposal, first_shard, may_propose, owns, server_own, is_next, is_current, is_below_limit, gets_promise, gets_accepted, gets_nack, gets_chosen, server_gets, again, all_again}
+use Rattle.registry_server.specs.Stations.{setting, sent}
+use Rattle.registry_server.specs.ShardStates.{IsShard, EachStands, FitsStep, passes}
+use Rattle.registry_server.specs.Cores.{Stands, Gives, IsTurn, FitsChange, changed}
+use Rattle.registry_server.specs.Rowed.{IsAt, FitsAt, number_of, proposes_if}
+use Rattle.registry_server.specs.declared.shard.Shard.{Shard}
+use Rattle.registry_server.specs.declared.shard.Test.{Test}
+use Rattle.registry_server.specs.declared.turn.Change.{Change}
+use Rattle.registry_server.specs.declared.turn.Change.TheVariants as change
+use Rattle.registry_server.specs.declared.turn.Turn.{Turn}
+use Rattle.registry_server.specs.declared.server_core.ServerCore.{ServerCore}
+use Rattle.registry_server.proofs.Sending.{addressed}
+
+-- the first number that passes a test, one further
+pub first_more : (P : ℕ → Bool) (i n : ℕ) (whole : Option ℕ) → i < n → false ≡ P i → first_shard P i (n - i) ≡ whole → first_shard P (i + 1) (n - (i + 1)) ≡ whole
+first_more P i n whole lt off h =
+    let left : n - i ≡ suc (n - (i + 1)) = omega arith in
+    let next : i + 1 ≡ suc i = omega arith in
+    (λ j. first_shard P (next j) (n - (i + 1))) ∙ sym (cond-false (P i) (Some i) (first_shard P (suc i) (n - (i + 1))) (sym off)) ∙ (λ j. first_shard P i (sym left j)) ∙ h
+
+pub first_found : (P : ℕ → Bool) (i n : ℕ) (whole : Option ℕ) → i < n → true ≡ P i → first_shard P i (n - i) ≡ whole → Some i ≡ whole
+first_found P i n whole lt on h =
+    let left : n - i ≡ suc (n - (i + 1)) = omega arith in
+    sym (cond-true (P i) (Some i) (first_shard P (suc i) (n - (i + 1))) (sym on)) ∙ (λ j. first_shard P i (sym left j)) ∙ h
+
+pub first_none : (P : ℕ → Bool) (i n : ℕ) (whole : Option ℕ) → n ≤ i → first_shard P i (n - i) ≡ whole → None ≡ whole
+first_none P i n whole most h =
+    let left : n - i ≡ 0 = omega arith in
+    (λ j. first_shard P i (sym left j)) ∙ h
+
+module _ (g : Setting) (site : ℕ) (k : ServerKept) (l : ServerLive) where
+  pub again_more : (i n : ℕ) (before after whole : List (To × Packet)) → i < n → after ≡ before ++ again g site k l i (l.shards i) (l.shards i).proposal → before ++ all_again g site k l i (n - i) ≡ whole → after ++ all_again g site k l (i + 1) (n - (i + 1)) ≡ whole
+  again_more i n before after whole lt e h =
+      let left : n - i ≡ suc (n - (i + 1)) = omega arith in
+      let next : i + 1 ≡ suc i = omega arith in
+      (λ j. e j ++ all_again g site k l (next j) (n - (i + 1)))
+      ∙ append_assoc before (again g site k l i (l.shards i) (l.shards i).proposal) (all_again g site k l (suc i) (n - (i + 1)))
+      ∙ (λ j. before ++ all_again g site k l i (sym left j)) ∙ h
+
+  pub again_all : (i n : ℕ) (after whole : List (To × Packet)) → n ≤ i → after ++ all_again g site k l i (n - i) ≡ whole → after ≡ whole
+  again_all i n after whole most h =
+      let left : n - i ≡ 0 = omega arith in
+      sym (append-nil after) ∙ (λ j. after ++ all_again g site k l i (sym left j)) ∙ h
+
+  -- a packet about a shard that the table doesn't have
+  module _ (n : ℕ) (most : shards g ≤ n) where
+    off_next : (at : Place) (st : ShardState) → at.shard ≡ n → is_next g at st ≡ false
+    off_next at st e = and_left _ _ (le-ltb at.shard (shards g) (subst (λ m. shards g ≤ m) (sym e) most))
+
+    off_promise : (r : ℕ) (at : Place) (b : Ballot) (prior : Option (Ballot × Batch)) (st : ShardState) (o : Option Proposal) → at.shard ≡ n → gets_promise g site k l r at b prior st o ≡ idle l
+    off_promise r at b prior st None e = refl
+    off_promise r at b prior st (Some p) e = cond-false (is_current g at b st p) _ (idle l) (and_left _ _ (off_next at st e))
+
+    off_accepted : (r : ℕ) (at : Place) (b : Ballot) (st : ShardState) (o : Option Proposal) → at.shard ≡ n → gets_accepted g site k l r at b st o ≡ idle l
+    off_accepted r at b st None e = refl
+    off_accepted r at b st (Some p) e = cond-false (is_current g at b st p) _ (idle l) (and_left _ _ (off_next at st e))
+
+    off_nack : (at : Place) (b above : Ballot) (st : ShardState) (o : Option Proposal) → at.shard ≡ n → gets_nack g site k l at b above st o ≡ idle l
+    off_nack at b above st None e = refl
+    off_nack at b above st (Some p) e = cond-false (is_current g at b st p) _ (idle l) (and_left _ _ (off_next at st e))
+
+    off_chosen : (at : Place) (v : Batch) (st : ShardState) → at.shard ≡ n → gets_chosen g site k l at v st ≡ idle l
+    off_chosen at v st e = cond-false (is_next g at st && is_below_limit at.slot) _ (idle l) (and_left _ _ (off_next at st e))
+
+    pub beyond : (from : Node) (p : Packet) → number_of g p ≡ Some n → ((x : Insert) → p ≡ packet.Insert x → n < shards g) → server_gets g site k l from p ≡ idle l
+    beyond from (packet.Insert x) e in_table = let w = in_table x refl in absurd (omega arith)
+    beyond from (packet.Chosen at v) e in_table = off_chosen at v (l.shards at.shard) (same_Some _ _ e)
+    beyond (Replica r) (packet.Promise at b prior) e in_table = off_promise r at b prior (l.shards at.shard) (l.shards at.shard).proposal (same_Some _ _ e)
+    beyond (Dispatcher s) (packet.Promise at b prior) e in_table = refl
+    beyond (Server s) (packet.Promise at b prior) e in_table = refl
+    beyond (Joiner s) (packet.Promise at b prior) e in_table = refl
+    beyond (Replica r) (packet.Accepted at b) e in_table = off_accepted r at b (l.shards at.shard) (l.shards at.shard).proposal (same_Some _ _ e)
+    beyond (Dispatcher s) (packet.Accepted at b) e in_table = refl
+    beyond (Server s) (packet.Accepted at b) e in_table = refl
+    beyond (Joiner s) (packet.Accepted at b) e in_table = refl
+    beyond (Replica r) (packet.Nack at b above) e in_table = off_nack at b above (l.shards at.shard) (l.shards at.shard).proposal (same_Some _ _ e)
+    beyond (Dispatcher s) (packet.Nack at b above) e in_table = refl
+    beyond (Server s) (packet.Nack at b above) e in_table = refl
+    beyond (Joiner s) (packet.Nack at b above) e in_table = refl
+    beyond from (packet.Join position click) e in_table = absurd (cc)
+    beyond from (packet.Joined position outcome) e in_table = absurd (cc)
+    beyond from (packet.Reply x a) e in_table = absurd (cc)
+    beyond from (packet.Prepare at b) e in_table = absurd (cc)
+    beyond from (packet.Accept at b v) e in_table = absurd (cc)
+
+module _ (core : ServerCore) (g : Setting) (k : ServerKept) (l : ServerLive) (h : Stands core g k l) where
+  pub table_shards : shard_count core.station.table ≡ shards g
+  table_shards = ap (λ (z : Setting). shards z) (sym h.numbers)
+
+  -- a shard of the core stands for that of its number
+  pub stands_at : (n : ℕ) (item : Shard) → n < length core.shards.items → item ≡ get_or core.shards.items n item → IsShard item (l.shards n)
+  stands_at n item lt is = subst (λ x. IsShard x (l.shards n)) (sym is) (h.each n item lt)
+
+  pub test_at : (b : Bool) (test : Test) (n : ℕ) (item : Shard) → n < length core.shards.items → item ≡ get_or core.shards.items n item → ((z : Setting) (st : ShardState) → IsShard item st → b ≡ passes (setting core.station z) test st) → b ≡ passes g test (l.shards n)
+  test_at b test n item lt is tested = subst (λ z. b ≡ passes z test (l.shards n)) (sym h.numbers) (tested g (l.shards n) (stands_at n item lt is))
+
+  pub is_at : (n : ℕ) (item : Shard) → length core.shards.items ≡ shard_count core.station.table → n < length core.shards.items → item ≡ get_or core.shards.items n item → IsAt (setting core.station g) item n core.round l
+  is_at n item many lt is = record { within = subst (λ m. n < m) many lt; round = sym h.round; stands = stands_at n item lt is }
+
+  pub for_setting : (turn : Turn) (out : Setting → Out ServerLive) → Gives (setting core.station g) core.station.site l turn (out (setting core.station g)) → Gives g core.station.site l turn (out g)
+  for_setting turn out gives = subst (λ z. Gives z core.station.site l turn (out z)) (sym h.numbers) gives
+
+-- a change of one shard, which took its place
+pub fits_at : (n : ℕ) (ch : Change) (xs : List Shard) (v : Shard) → n < length xs → FitsAt n ch v → FitsChange ch (set xs n v)
+fits_at n change.Nothing xs v lt f = tt
+fits_at n (change.Start shards) xs v lt f = absurd f
+fits_at n change.Tick xs v lt f = absurd f
+fits_at n (change.One s r step) xs v lt f = (
+  subst (λ m. m < length (set xs n v)) (sym f.0) (let e = length-set xs n v in omega arith),
+  λ d. subst (λ m. FitsStep step (get_or (set xs n v) m d)) (sym f.0) (subst (FitsStep step) (sym (get_or-set_same xs n v d lt)) f.1),
+)
+
+-- the same, where nothing took its place
+pub fits_here : (n : ℕ) (ch : Change) (xs : List Shard) (v : Shard) → n < length xs → ((d : Shard) → get_or xs n d ≡ v) → FitsAt n ch v → FitsChange ch xs
+fits_here n change.Nothing xs v lt is f = tt
+fits_here n (change.Start shards) xs v lt is f = absurd f
+fits_here n change.Tick xs v lt is f = absurd f
+fits_here n (change.One s r step) xs v lt is f = (
+  subst (λ m. m < length xs) (sym f.0) lt,
+  λ d. subst (λ m. FitsStep step (get_or xs m d)) (sym f.0) (subst (FitsStep step) (sym (is d)) f.1),
+)
+
+-- what is sent is addressed
+pub turn_of : (g : Setting) (site : ℕ) (l : ServerLive) (turn : Turn) (out : Out ServerLive) → Gives g site l turn out → IsTurn g site l turn out
+turn_of g site l turn out h = record { note = h.note; packets = subst (λ ps. Addressed g ps turn.packets.items) h.packets (addressed g turn.packets.items); live = h.live }
+
+-- the server's own work, from the first shard that may propose
+pub first_passes : (P : ℕ → Bool) (from m n : ℕ) → Some n ≡ first_shard P from m → P n ≡ true
+first_passes P from zero n e = absurd (cc)
+first_passes P from (suc m) n e = go (P from) refl e (λ h. first_passes P (suc from) m n h)
+  where
+    go : (b : Bool) → P from ≡ b → Some n ≡ cond b (Some from) (first_shard P (suc from) m) → (Some n ≡ first_shard P (suc from) m → P n ≡ true) → P n ≡ true
+    go true on h later = subst (λ z. P z ≡ true) (sym (same_Some n from h)) on
+    go false off h later = later h
+
+module _ (g : Setting) (site : ℕ) (k : ServerKept) (l : ServerLive) where
+  pub own_spent : 2 ^ 48 - 1 ≤ l.round → server_own g site k l ≡ idle l
+  own_spent most = cond-false (is_below_limit l.round) _ (idle l) (le-ltb l.round (2 ^ 48 - 1) most)
+
+  pub own_none : None ≡ first_shard (λ s. may_propose g (l.shards s)) 0 (shards g) → server_own g site k l ≡ idle l
+  own_none e = cond_both (is_below_limit l.round) (owns g site k l (first_shard (λ s. may_propose g (l.shards s)) 0 (shards g))) (idle l) (λ o. o ≡ idle l) (λ _. ap (owns g site k l) (sym e)) (λ _. refl)
+
+  pub own_is : (n : ℕ) → l.round < 2 ^ 48 - 1 → Some n ≡ first_shard (λ s. may_propose g (l.shards s)) 0 (shards g) → server_own g site k l ≡ proposes_if g site k l n
+  own_is n low e =
+      cond-true (is_below_limit l.round) _ (idle l) (lt-ltb l.round (2 ^ 48 - 1) low) ∙ ap (owns g site k l) (sym e)
+      ∙ sym (cond-true (may_propose g (l.shards n)) _ (idle l) (first_passes (λ s. may_propose g (l.shards s)) 0 (shards g) n e))

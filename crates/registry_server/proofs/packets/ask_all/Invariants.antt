@@ -1,0 +1,8 @@
+use Rattle.std.proofs.Common.{◌≡◌, ◌++◌, ◌-◌}
+use Rattle.registry_server.specs.Server.{to_from, to_replicas}
+use Rattle.registry_server.specs.Stations.{sent, request}
+use Rattle.registry_server.proofs.packets.ask_all.Given as goal
+
+-- those asked so far, and those that are left
+abbrev pub invariant-loop-replica : goal.invariant-loop-replica
+invariant-loop-replica l = sent l.packets.items ++ to_from l.replica (3 - l.replica) (request l.place l.ballot l.value) ≡ sent l.initial.packets.items ++ to_replicas 3 (request l.place l.ballot l.value)

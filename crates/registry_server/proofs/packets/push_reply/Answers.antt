@@ -1,0 +1,21 @@
+use Rattle.std.proofs.Common.{◌≡◌, ◌++◌, true, false, List, ap, sym, ◌∙◌, rules}
+use Rattle.std.proofs.lemmas.Bool.{cond-true, cond-false}
+use Rattle.std.proofs.lemmas.List.{append-nil}
+use Rattle.packet_codec.specs.declared.packet.Packet.{Packet}
+use Rattle.packet_codec.specs.declared.node.To.{To}
+use Rattle.registry_server.specs.Stations.{setting, sent}
+use Rattle.registry_server.specs.Server.{is_own_joiner}
+use Rattle.registry_server.proofs.Sending.{sent_push}
+use Rattle.registry_server.proofs.packets.push_reply.Goals as goal
+
+pub returns-then-not-is_own_joiner : goal.returns-then-not-is_own_joiner
+returns-then-not-is_own_joiner c = λ g.
+    let off : c.is_own_joiner.result ≡ false = search rules in
+    let before = sent c.args.packets.now.items in
+    sym (append-nil before) ∙ ap (λ (ps : List (To × Packet)). before ++ ps) (sym (cond-false _ _ _ (sym (c.is_own_joiner.ensures g) ∙ off)))
+
+pub returns : goal.returns
+returns c = λ g.
+    let on : c.is_own_joiner.result ≡ true = search rules in
+    let before = c.args.packets.now.items in
+    ap sent c.in_ok-push.ensures.items ∙ sent_push before _ ∙ ap (λ (ps : List (To × Packet)). sent before ++ ps) (sym (cond-true _ _ _ (sym (c.is_own_joiner.ensures g) ∙ on)))

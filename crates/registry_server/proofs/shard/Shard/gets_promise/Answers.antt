@@ -1,0 +1,21 @@
+use Rattle.std.proofs.Common.{refl, ap, ◌∙◌, subst}
+use Rattle.std.specs.Prelude.{Option}
+use Rattle.ballot_core.specs.declared.Ballot.{Ballot}
+use Rattle.registry_state.specs.declared.Batch.{Batch}
+use Rattle.registry_server.specs.Cores.{IsStep}
+use Rattle.registry_server.specs.declared.shard.Step.TheVariants.{Promise}
+use Rattle.registry_server.specs.Stations.{setting, sent}
+use Rattle.registry_server.proofs.Rowing.{same_row}
+use Rattle.registry_server.proofs.Answering.{promise_none, promise_gives}
+use Rattle.registry_server.proofs.shard.Shard.gets_promise.Goals as goal
+
+pub returns-in_default-clause-row : goal.returns-in_default-clause-row
+returns-in_default-clause-row c = λ g k l at.
+    let t = c.args.station.now in
+    same_row (setting t g) t.site l c.idle.result _ _ (promise_none (setting t g) t.site k l c.args.number c.args.round c.args.self.now at c.args.slot c.args.ballot c.args.from c.args.prior.now c.in_default.ensures) (c.idle.ensures.gives (setting t g) t.site l)
+
+pub returns-clause-row : goal.returns-clause-row
+returns-clause-row c = λ g k l at.
+    let t = c.args.station.now in
+    let is = subst (λ (o : Option (Ballot × Batch)). IsStep c.one.result c.args.number c.args.round c.in_ok-packets.packets.items (Promise c.args.from o)) c.in_ok-kept.ensures c.one.ensures in
+    promise_gives t g k l c.args.number c.args.round c.args.self.now at c.args.slot c.args.ballot c.in-Some.proposal.now c.in-Some.ensures c.args.from c.args.prior.now c.one.result c.in_ok-packets.packets.items is c.in_ok-packets.ensures

@@ -1,0 +1,33 @@
+use Rattle.std.proofs.Common.{◌++◌, List, ap, sym, ◌∙◌, ◌≡◌, true, false, ◌+◌, ◌≤◌, take, rules, arith}
+use Rattle.std.specs.Prelude.{min}
+use Rattle.ballot_core.specs.declared.Ballot.{Ballot}
+use Rattle.paxos_defs.specs.declared.Place.{Place}
+use Rattle.registry_state.specs.Registry.{batch_of}
+use Rattle.batch_queue.specs.Queue.{waiting}
+use Rattle.packet_codec.specs.declared.packet.Packet.TheVariants.{Prepare}
+use Rattle.registry_server.specs.Server.{to_replicas}
+use Rattle.std.proofs.lemmas.Bool.{cond-false}
+use Rattle.packet_codec.specs.declared.packet.Packet.{Packet}
+use Rattle.packet_codec.specs.declared.node.Node.{Node}
+use Rattle.registry_server.specs.Stations.{setting, sent}
+use Rattle.registry_server.proofs.Rowing.{proposed_gives, same_row}
+use Rattle.registry_server.proofs.shard.Shard.propose.Goals as goal
+
+pub returns-then-not-may_propose-clause-row : goal.returns-then-not-may_propose-clause-row
+returns-then-not-may_propose-clause-row c = λ g k l at epoch.
+    let t = c.args.station.now in
+    let off : c.may_propose.result ≡ false = search rules in
+    same_row (setting t g) t.site l c.idle.result _ _ (cond-false _ _ _ (sym (c.may_propose.ensures.row g (l.shards c.args.number) at.stands) ∙ off)) (c.idle.ensures.gives (setting t g) t.site l)
+
+pub returns-clause-row : goal.returns-clause-row
+returns-clause-row c = λ g k l at epoch.
+    let t = c.args.station.now in
+    let h = c.args.self.now in
+    let on : c.may_propose.result ≡ true = search rules in
+    let few : t.batch ≤ 64 = first_of (omega arith, search rules) in
+    let ballot : Ballot = record { round = c.args.round + 1; epoch = c.args.epoch; site = t.site } in
+    proposed_gives t g k l c.args.number c.one.result h c.args.round c.args.epoch c.start-proposer.result _ few at epoch (sym on ∙ c.may_propose.ensures.row g (l.shards c.args.number) at.stands) c.one.ensures
+    (c.in_ok-ask_all.ensures ∙ ap (λ (ps : List (Node × Packet)). sent ps ++ to_replicas 3 (Prepare c.place.result ballot)) c.new-packets.ensures.items ∙ ap (λ (z : Place). to_replicas 3 (Prepare z ballot)) c.place.ensures)
+    c.start-proposer.ensures.ballot
+    (c.start-proposer.ensures.own ∙ c.in_ok-own.ensures ∙ ap (λ m. batch_of t.horizon (take (min m 64) (waiting h.queue))) c.from.ensures)
+    c.start-proposer.ensures.phase

@@ -1,0 +1,13 @@
+use Rattle.std.proofs.Common.{◌≡◌, ◌++◌, ◌∷◌, [], List, sym, subst, arith}
+use Rattle.std.proofs.lemmas.List.{length-append}
+use Rattle.registry_server.specs.Server.{empty_shard}
+use Rattle.registry_server.specs.ShardStates.{EachStands}
+use Rattle.registry_server.specs.declared.shard.Shard.{Shard}
+use Rattle.registry_server.proofs.Placing.{push_each}
+use Rattle.registry_server.proofs.shards.empty_shards.Goals as goal
+
+pub loop-preserved : goal.loop-preserved
+loop-preserved c = record {
+  many = (let e = c.in_ok-push.ensures.len in let m = c.loop.invariant.many in omega arith);
+  each = subst (λ (xs : List Shard). EachStands xs (λ s. empty_shard)) (sym c.in_ok-push.ensures.items) (push_each c.loop.shards.items (λ s. empty_shard) c.new.result c.loop.invariant.each c.new.ensures);
+}

@@ -1,0 +1,10 @@
+use Rattle.std.proofs.Common.{◌≡◌, length}
+use Rattle.registry_server.specs.Server.{empty_shard}
+use Rattle.registry_server.specs.ShardStates.{EachStands}
+use Rattle.registry_server.proofs.shards.empty_shards.Given as goal
+
+abbrev pub invariant-loop : goal.invariant-loop
+invariant-loop l = record {
+  many : length l.shards.items ≡ l.counter;
+  each : EachStands l.shards.items (λ s. empty_shard);
+}

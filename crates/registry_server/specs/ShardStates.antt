@@ -1,0 +1,91 @@
+-- A shard as the state that it stands for.
+use Rattle.std.specs.Prelude.{◌≡◌, ℕ, ◌<◌, ◌≤◌, ◌-◌, ◌^◌, ◌||◌, ◌++◌, ◌∷◌, [], Bool, true, false, List, length, get_or, nat_lt, nat_le, if◌then◌else◌, Option, Some, None, option_map, is_some, ⊤}
+use Rattle.ballot_core.specs.declared.Ballot.{Ballot}
+use Rattle.registry_state.specs.declared.Insert.{Insert}
+use Rattle.registry_state.specs.declared.Batch.{Batch}
+use Rattle.registry_state.specs.LookBack.{bound_of}
+use Rattle.id_expiry.specs.Timed.{Knows, room}
+use Rattle.batch_queue.specs.Queue.{waiting, room as places}
+use Rattle.paxos_defs.specs.Attempts.{Phase, on_promise, on_accepted}
+use Rattle.paxos_defs.specs.Attempts.Phase.{Promising, Accepting, Ended}
+use Rattle.paxos_proposer.specs.declared.proposer.Proposer.{Proposer}
+use Rattle.paxos_proposer.specs.Proposals.{ballot_of, own_of, phase_of}
+use Rattle.turn_defs.specs.Setting.{Setting}
+use Rattle.registry_server.specs.Server.{Proposal, ShardState, queued, learns, may_propose, shard_unfinished, is_below_limit}
+use Rattle.registry_server.specs.declared.shard.Shard.{Shard}
+use Rattle.registry_server.specs.declared.shard.Step.{Step}
+use Rattle.registry_server.specs.declared.shard.Step.TheVariants.{Queue, Propose, Promise, Accept, Learn, Hold}
+use Rattle.registry_server.specs.declared.shard.Test.{Test}
+use Rattle.registry_server.specs.declared.shard.Test.TheVariants.{MayPropose, IsUnfinished, IsBelowHorizon}
+
+abbrev pub proposal_of : Proposer → Proposal
+proposal_of p = record { ballot = ballot_of p; own = own_of p; phase = phase_of p }
+
+-- the state of a shard that learned these values
+abbrev pub state_of : Shard → List Batch → ShardState
+state_of h learned = record { learned = learned; queue = waiting h.queue; proposal = option_map proposal_of h.proposal; held = h.held }
+
+-- the phase isn't the end
+abbrev pub is_going : Phase Batch → Bool
+is_going (Promising marks best) = true
+is_going (Accepting v marks) = true
+is_going Ended = false
+
+-- a proposal is for a slot below the limit, and goes on
+abbrev pub Goes : Option Proposal → ℕ → Type 0
+Goes None next = ⊤
+Goes (Some p) next = (is_below_limit next ≡ true) × (is_going p.phase ≡ true)
+
+-- The shard learned these values: the registry knows them, and the next slot is their number.
+pub record HasLearned (h : Shard) (learned : List Batch) : Type 0 where
+  pub known : Knows h.registry learned
+  pub next : h.next ≡ length learned
+  pub goes : Goes (option_map proposal_of h.proposal) (length learned)
+
+-- the shard stands for the state
+pub record IsShard (h : Shard) (st : ShardState) : Type 0 where
+  pub learned : HasLearned h st.learned
+  pub is : st ≡ state_of h st.learned
+
+-- one insert more waits, unless its token waits or as many as may
+abbrev pub put_last : List Insert → Insert → List Insert
+put_last q x = if queued q x.token || nat_le 4096 (length q) then q else q ++ x ∷ []
+
+abbrev pub counts_promise : ℕ → Option (Ballot × Batch) → Proposal → Proposal
+counts_promise r prior p = record { ballot = p.ballot; own = p.own; phase = (on_promise p.own p.phase r prior).0 }
+
+abbrev pub counts_accepted : ℕ → Proposal → Proposal
+counts_accepted r p = record { ballot = p.ballot; own = p.own; phase = (on_accepted p.phase r).0 }
+
+-- the state of a shard after a step
+abbrev pub stepped : Setting → ℕ → Step → ShardState → ShardState
+stepped g site (Queue x) st = record st { queue = put_last st.queue x }
+stepped g site (Propose p) st = record st { proposal = Some (proposal_of p) }
+stepped g site (Promise r prior) st = record st { proposal = option_map (counts_promise r prior) st.proposal }
+stepped g site (Accept r) st = record st { proposal = option_map (counts_accepted r) st.proposal }
+stepped g site (Learn v) st = learns g site st v
+stepped g site Hold st = record st { proposal = None; held = true }
+
+-- an acceptance of the replica isn't the one that ends the proposal
+abbrev pub NotLast : ℕ → Option Proposal → Type 0
+NotLast r None = ⊤
+NotLast r (Some p) = is_some (on_accepted p.phase r).1 ≡ false
+
+-- the shard has what the step needs: room, and a slot below the limit
+abbrev pub FitsStep : Step → Shard → Type 0
+FitsStep (Queue x) h = 0 < places h.queue
+FitsStep (Propose p) h = (is_below_limit h.next ≡ true) × (is_going (phase_of p) ≡ true)
+FitsStep (Promise r prior) h = ⊤
+FitsStep (Accept r) h = NotLast r (option_map proposal_of h.proposal)
+FitsStep (Learn v) h = (length v.inserts ≤ room h.registry) × (h.next < 2 ^ 48 - 1)
+FitsStep Hold h = ⊤
+
+-- what a test of a shard says
+abbrev pub passes : Setting → Test → ShardState → Bool
+passes g MayPropose st = may_propose g st
+passes g IsUnfinished st = shard_unfinished g st
+passes g IsBelowHorizon st = nat_lt (bound_of st.learned) g.horizon
+
+-- each shard of the list stands for the state of its number
+abbrev pub EachStands : List Shard → (ℕ → ShardState) → Type 0
+EachStands xs f = (s : ℕ) (d : Shard) → s < length xs → IsShard (get_or xs s d) (f s)

@@ -1,0 +1,30 @@
+-- What is fixed for a server, as a setting; packets with their receivers.
+use Rattle.std.specs.Prelude.{ℕ, List, map, Option, Some, None}
+use Rattle.std.specs.Borrow.{Bor}
+use Rattle.ballot_core.specs.declared.Ballot.{Ballot}
+use Rattle.paxos_defs.specs.declared.Place.{Place}
+use Rattle.registry_state.specs.declared.Batch.{Batch}
+use Rattle.registry_state.specs.declared.Insert.{Insert}
+use Rattle.registry_state.specs.declared.Answer.{Answer}
+use Rattle.packet_codec.specs.declared.packet.Packet.{Packet}
+use Rattle.packet_codec.specs.declared.packet.Packet.TheVariants.{Prepare, Accept}
+use Rattle.packet_codec.specs.declared.node.Node.{Node}
+use Rattle.packet_codec.specs.declared.node.To.{To}
+use Rattle.packet_codec.specs.declared.node.To.TheVariants.{Only}
+use Rattle.turn_defs.specs.Setting.{Setting}
+use Rattle.list_words.specs.Lists.{Each}
+use Rattle.registry_server.specs.declared.station.Station.{Station}
+use Rattle.registry_server.specs.Server.{reply}
+
+-- the setting with the server's numbers, and three replicas
+abbrev pub setting : Station → Setting → Setting
+setting t g = record g { horizon = t.horizon; joiners = t.joiners; table = t.table; batch = t.batch; replicas = 3 }
+
+-- the packets as a row gives them, each to one node
+abbrev pub sent : List (Node × Packet) → List (To × Packet)
+sent ps = map (λ (p : Node × Packet). (Only p.0, p.1)) ps
+
+-- what a replica is asked: a promise, or to accept the value
+abbrev pub request : Place → Ballot → Option (Bor Batch) → Packet
+request at b None = Prepare at b
+request at b (Some v) = Accept at b v.now

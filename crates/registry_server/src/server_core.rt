@@ -1,0 +1,258 @@
+// The core: its shards, and which of them a turn is about.
+ghost use Rattle.std.specs.Prelude.{◌≡◌, length};
+ghost use Rattle.time_shards.specs.Shards.{shard_count};
+
+use crate::shard::{LIMIT, Shard, Test};
+use crate::shards::{empty_shards, release_all};
+use crate::station::Station;
+use crate::turn::{Change, ServerInput, ServerNote, Turn};
+use packet_codec::{Node, Packet};
+use std::alloc::{AllocError, Global};
+use time_shards::Table;
+
+/// The registry server of a site, between its turns. A turn is decided, its note written and its packets sent, and then
+/// it is kept.
+#[derive(Debug, Drop)]
+pub struct ServerCore {
+    station: Station,
+    epoch: u32,
+    // the greatest round used or told
+    round: u64,
+    // one for each shard of the table
+    shards: Vec<Shard>,
+    ghost many: { length shards.items ≡ shard_count station.table },
+}
+
+impl ServerCore {
+    ghost use Rattle.std.specs.Prelude.{◌≡◌, ◌<◌, ◌≤◌, ◌++◌, ◌∷◌, [], ℕ, List, length, get_or, IfOk, IfSome, Some, None, option_map};
+    ghost use Rattle.packet_codec.specs.declared.node.Input.{Input};
+    ghost use Rattle.time_shards.specs.declared.ShardRow.{ShardRow as Row};
+    ghost use Rattle.registry_state.specs.declared.Insert.{Insert as Claim};
+    ghost use Rattle.turn_defs.specs.Setting.{Setting, shards};
+    ghost use Rattle.turn_defs.specs.Turns.{land};
+    ghost use Rattle.registry_server.specs.Server.{ServerKept, ServerLive, empty_shard, first_shard, land_server, all_again, server_own, server_tick, server_gets, server_turn, server_start, server_wants, server_unfinished, server_at_rest};
+    ghost use Rattle.registry_server.specs.Stations.{setting, sent};
+    ghost use Rattle.registry_server.specs.ShardStates.{passes};
+    ghost use Rattle.registry_server.specs.Cores.{Stands, IsTurn, Gives, Decided, FitsChange, Carries, CarriesStart, MayStart, changed, note_of, site_of, IsNew};
+    ghost use Rattle.registry_server.specs.Rowed.{number_of};
+
+    /// A server before its first start. Three replicas are taken for granted; the horizon is in microseconds, and `batch`
+    /// is the most inserts of a batch. One allocation, for the table's shards.
+    pub fn new(
+        alloc: Global,
+        site: u8,
+        joiners: u8,
+        horizon: u64,
+        table: Table,
+        batch: u8,
+    ) -> Result<ServerCore, AllocError>
+        requires { batch ≤ 64 }
+        ensures stands { IfOk result (λ core. (g : Setting) → IsNew g joiners horizon table batch → Stands core g (record { epoch = 0 }) (record { round = 0; shards = λ s. empty_shard })) }
+        ensures site { IfOk result (λ core. site_of core ≡ site) }
+    {
+        let shards = empty_shards(alloc, table.shards())?;
+        let station = Station {
+            site,
+            joiners,
+            horizon,
+            table,
+            batch,
+            alloc,
+        };
+        Ok(ServerCore {
+            station,
+            epoch: 0,
+            round: 0,
+            shards,
+        })
+    }
+
+    /// The turn on an input. It makes room for what keeping the turn does, and changes nothing else, nor anything where
+    /// it is refused.
+    ///
+    /// An insert takes constant expected time, the server's own work time linear in a batch. A value that is learned takes
+    /// time linear in the inserts that wait, at most 4,096, and in the batch for each of them that no earlier value
+    /// answers. A tick takes time linear in the shards, at most 16. A start allocates the empty shards.
+    pub fn decide(&mut self, input: &ServerInput) -> Result<Turn, AllocError>
+        requires { MayStart input.now }
+        ensures start { IfOk result (λ turn. (g : Setting) (k : ServerKept) (l : ServerLive) → CarriesStart input.now k
+            → IsTurn g (site_of self.old) l turn (server_start k)) }
+        ensures turn { IfOk result (λ turn. (g : Setting) (k : ServerKept) (l : ServerLive) (i : Input) → Stands self.old g k l → Carries input.now i
+            → IsTurn g (site_of self.old) l turn (server_turn g (site_of self.old) k l i)) }
+        ensures decided { IfOk result (λ turn. Decided self.new turn) }
+        ensures same { (g : Setting) (k : ServerKept) (l : ServerLive) → Stands self.old g k l → Stands self.new g k l }
+        ensures site { site_of self.new ≡ site_of self.old }
+    {
+        match input {
+            ServerInput::Start { epoch } => self.start(*epoch),
+            ServerInput::Own => self.own(),
+            ServerInput::Tick => self.tick(),
+            ServerInput::Packet { from, packet } => self.gets(*from, packet),
+        }
+    }
+
+    /// Keeps a turn that was decided on the server as it is. It takes no memory. The costs are those of `decide`, with
+    /// logarithmic time for each insert of a learned value and each id that expires.
+    pub fn keep(&mut self, turn: Turn)
+        requires { Decided self.old turn }
+        ensures kept { (g : Setting) (k : ServerKept) (l : ServerLive) → Stands self.old g k l
+            → Stands self.new g (land land_server (option_map note_of turn.note) k) (changed g (site_of self.old) turn.change l) }
+        ensures site { site_of self.new ≡ site_of self.old }
+    {
+        let Turn {
+            note,
+            packets: _,
+            change,
+        } = turn;
+        self.keep_note(note);
+        self.change(change);
+    }
+
+    /// Whether it has work of its own to do: some shard may have a proposal. Linear in the shards, at most 16.
+    pub fn wants(&self) -> bool
+        ensures { (g : Setting) (k : ServerKept) (l : ServerLive) → Stands self.now g k l → result ≡ server_wants g l }
+    {
+        self.round < LIMIT && self.first(Test::MayPropose).is_some()
+    }
+
+    /// Whether something waits in some shard, so that it takes a tick. Linear in the shards, at most 16.
+    pub fn unfinished(&self) -> bool
+        ensures { (g : Setting) (k : ServerKept) (l : ServerLive) → Stands self.now g k l → result ≡ server_unfinished g l }
+    {
+        self.first(Test::IsUnfinished).is_some()
+    }
+
+    /// Whether it knows in each shard a bound not below the horizon. Linear in the shards, at most 16.
+    pub fn at_rest(&self) -> bool
+        ensures { (g : Setting) (k : ServerKept) (l : ServerLive) → Stands self.now g k l → result ≡ server_at_rest g l }
+    {
+        self.first(Test::IsBelowHorizon).is_none()
+    }
+
+    // The epoch is that of the note, if there is one.
+    fn keep_note(&mut self, note: Option<ServerNote>)
+        ensures kept { (g : Setting) (k : ServerKept) (l : ServerLive) → Stands self.old g k l
+            → Stands self.new g (land land_server (option_map note_of note) k) l }
+        ensures shards { self.new.shards ≡ self.old.shards }
+        ensures site { site_of self.new ≡ site_of self.old }
+    {
+        match note {
+            Some(ServerNote::Epoch(epoch)) => self.epoch = epoch,
+            None => {}
+        }
+    }
+
+    // Makes the change. The note is another matter.
+    fn change(&mut self, change: Change)
+        requires { FitsChange change self.old.shards.items }
+        ensures kept { (g : Setting) (k : ServerKept) (l : ServerLive) → Stands self.old g k l
+            → Stands self.new g k (changed g (site_of self.old) change l) }
+        ensures site { site_of self.new ≡ site_of self.old }
+    {
+        match change {
+            Change::Nothing => {}
+            Change::Start(shards) => {
+                self.round = 0;
+                self.shards = shards;
+            }
+            Change::Tick => release_all(&mut self.shards),
+            Change::One { shard, round, step } => {
+                self.round = round;
+                self.shards[usize::from(shard)].keep(step);
+            }
+        }
+    }
+
+    // It comes up: the next epoch is written, and nothing is known.
+    fn start(&self, epoch: u32) -> Result<Turn, AllocError>
+        requires { epoch < 4294967294 }
+        ensures start { IfOk result (λ turn. (g : Setting) (k : ServerKept) (l : ServerLive) → epoch ≡ k.epoch
+            → Gives g (site_of self.now) l turn (server_start k)) }
+        ensures decided { IfOk result (λ turn. Decided self.now turn) }
+    {
+        let shards = empty_shards(self.station.alloc, self.station.table.shards())?;
+        Ok(Turn {
+            note: Some(ServerNote::Epoch(epoch + 1)),
+            packets: Vec::new(self.station.alloc),
+            change: Change::Start(shards),
+        })
+    }
+
+    // Its own work, at the first shard that has some, where a round is left.
+    fn own(&self) -> Result<Turn, AllocError>
+        ensures row { IfOk result (λ turn. (g : Setting) (k : ServerKept) (l : ServerLive) → Stands self.now g k l
+            → Gives g (site_of self.now) l turn (server_own g (site_of self.now) k l)) }
+        ensures decided { IfOk result (λ turn. Decided self.now turn) }
+    {
+        if self.round >= LIMIT {
+            return Ok(Turn::idle(self.station.alloc));
+        }
+        let Some(number) = self.first(Test::MayPropose) else {
+            return Ok(Turn::idle(self.station.alloc));
+        };
+        self.shards[usize::from(number)].propose(&self.station, number, self.round, self.epoch)
+    }
+
+    // Each proposal's packets are sent again, in the order of shards, and no shard holds back any more.
+    fn tick(&self) -> Result<Turn, AllocError>
+        ensures row { IfOk result (λ turn. (g : Setting) (k : ServerKept) (l : ServerLive) → Stands self.now g k l
+            → Gives g (site_of self.now) l turn (server_tick g (site_of self.now) k l)) }
+        ensures decided { IfOk result (λ turn. Decided self.now turn) }
+    {
+        let mut packets = Vec::new(self.station.alloc);
+        for number in 0..self.station.table.shards() {
+            self.shards[usize::from(number)].again(number, &mut packets)?;
+        }
+        Ok(Turn {
+            note: None,
+            packets,
+            change: Change::Tick,
+        })
+    }
+
+    // A packet comes. It is handed to the shard that it is about.
+    fn gets(&mut self, from: Node, packet: &Packet) -> Result<Turn, AllocError>
+        ensures row { IfOk result (λ turn. (g : Setting) (k : ServerKept) (l : ServerLive) → Stands self.old g k l
+            → Gives g (site_of self.old) l turn (server_gets g (site_of self.old) k l from packet.now)) }
+        ensures decided { IfOk result (λ turn. Decided self.new turn) }
+        ensures same { (g : Setting) (k : ServerKept) (l : ServerLive) → Stands self.old g k l → Stands self.new g k l }
+        ensures site { site_of self.new ≡ site_of self.old }
+    {
+        let Some(number) = self.number_of(packet) else {
+            return Ok(Turn::idle(self.station.alloc));
+        };
+        if usize::from(number) >= self.shards.len() {
+            return Ok(Turn::idle(self.station.alloc));
+        }
+        let shard = &mut self.shards[usize::from(number)];
+        shard.gets(&self.station, number, self.round, from, packet)
+    }
+
+    // The shard that a packet is about, none where it is for no server.
+    fn number_of(&self, packet: &Packet) -> Option<u8>
+        ensures row { (g : Setting) → result ≡ number_of (setting self.now.station g) packet.now }
+        ensures within { (x : Claim) → packet.now ≡ Packet.Insert x → IfSome result (λ number. number < shard_count self.now.station.table) }
+    {
+        match packet {
+            Packet::Insert(insert) => Some(self.station.table.shard_of(insert.id)),
+            Packet::Chosen { place, .. }
+            | Packet::Promise { place, .. }
+            | Packet::Accepted { place, .. }
+            | Packet::Nack { place, .. } => Some(place.shard),
+            _ => None,
+        }
+    }
+
+    // The first shard that passes the test.
+    fn first(&self, test: Test) -> Option<u8>
+        ensures first { (g : Setting) (k : ServerKept) (l : ServerLive) → Stands self.now g k l → result ≡ first_shard (λ s. passes g test (l.shards s)) 0 (shards g) }
+        ensures within { IfSome result (λ number. number < length self.now.shards.items) }
+    {
+        for number in 0..self.station.table.shards() {
+            if self.shards[usize::from(number)].passes(&self.station, test) {
+                return Some(number);
+            }
+        }
+        None
+    }
+}

@@ -1,0 +1,193 @@
+// One shard of a server, and what a kept turn does to it.
+ghost use Rattle.std.specs.Prelude.{◌≡◌, ◌-◌, ◌<◌, ◌≤◌, ◌^◌, ◌++◌, ◌∷◌, [], List, length, true, false, not, ◌&&◌, ◌||◌};
+ghost use Rattle.registry_state.specs.declared.Batch.{Batch as Value};
+ghost use Rattle.id_expiry.specs.Timed.{room};
+ghost use Rattle.batch_queue.specs.Queue.{room as places};
+ghost use Rattle.turn_defs.specs.Setting.{Setting};
+ghost use Rattle.registry_server.specs.Server.{ShardState, empty_shard};
+ghost use Rattle.registry_server.specs.Stations.{setting};
+ghost use Rattle.registry_server.specs.ShardStates.{HasLearned, IsShard, FitsStep, NotLast, state_of, stepped, passes, put_last, proposal_of};
+
+use crate::station::Station;
+use ballot_core::Ballot;
+use batch_queue::BatchQueue;
+use id_expiry::TimedRegistry;
+use paxos_proposer::Proposer;
+use registry_state::{Batch, Insert};
+use std::alloc::Global;
+
+/// Rounds and slots stay below this.
+pub(crate) const LIMIT: u64 = 0xFFFF_FFFF_FFFF;
+
+/// What a turn does to a shard.
+#[derive(Debug, Drop)]
+pub(crate) enum Step {
+    /// An insert goes to the queue, where there is a place for it and its token doesn't wait.
+    Queue(Insert),
+    /// A proposal begins.
+    Propose(Proposer),
+    /// This replica has promised the proposal's ballot, and told a prior.
+    Promise(u8, Option<(Ballot, Batch)>),
+    /// This replica has accepted the proposal's value, and more are needed.
+    Accept(u8),
+    /// The value is chosen at the next slot.
+    Learn(Batch),
+    /// The proposal was refused.
+    Hold,
+}
+
+/// What is asked of a shard.
+#[derive(Clone, Copy, Debug, PartialEq, Eq)]
+pub(crate) enum Test {
+    /// A proposal may begin.
+    MayPropose,
+    /// Something waits.
+    IsUnfinished,
+    /// The bound is below the horizon.
+    IsBelowHorizon,
+}
+
+/// One shard. The values learned are never looked over: the registry has their meaning, and `next` is their number.
+#[derive(Debug, Drop)]
+pub(crate) struct Shard {
+    pub(crate) next: u64,
+    pub(crate) registry: TimedRegistry,
+    pub(crate) queue: BatchQueue,
+    pub(crate) proposal: Option<Proposer>,
+    pub(crate) held: bool,
+}
+
+impl Shard {
+    // Nothing is learned. It takes no memory.
+    pub(crate) fn new(alloc: Global) -> Shard
+        ensures { IsShard result empty_shard }
+    {
+        Shard {
+            next: 0,
+            registry: TimedRegistry::new(alloc),
+            queue: BatchQueue::new(alloc),
+            proposal: None,
+            held: false,
+        }
+    }
+
+    // In constant time.
+    pub(crate) fn passes(&self, station: &Station, test: Test) -> bool
+        ensures { (g : Setting) (st : ShardState) → IsShard self.now st → result ≡ passes (setting station.now g) test st }
+    {
+        match test {
+            Test::MayPropose => self.may_propose(station),
+            Test::IsUnfinished => self.is_unfinished(station),
+            Test::IsBelowHorizon => self.is_below_horizon(station),
+        }
+    }
+
+    // No proposal, not held back, below the limit, and an insert waits or the bound is below the horizon.
+    pub(crate) fn may_propose(&self, station: &Station) -> bool
+        ensures row { (g : Setting) (st : ShardState) → IsShard self.now st → result ≡ passes (setting station.now g) Test.MayPropose st }
+        ensures low { result ≡ true → self.now.next < 2 ^ 48 - 1 }
+    {
+        let free = self.proposal.is_none();
+        let empty = self.queue.is_empty();
+        let below = self.is_below_horizon(station);
+        let low = self.next < LIMIT;
+        may_begin(free, self.held, empty, below, low)
+    }
+
+    // A proposal, held back, an insert that waits, or a bound below the horizon.
+    fn is_unfinished(&self, station: &Station) -> bool
+        ensures { (g : Setting) (st : ShardState) → IsShard self.now st → result ≡ passes (setting station.now g) Test.IsUnfinished st }
+    {
+        let free = self.proposal.is_none();
+        let empty = self.queue.is_empty();
+        let below = self.is_below_horizon(station);
+        is_left(free, self.held, empty, below)
+    }
+
+    fn is_below_horizon(&self, station: &Station) -> bool
+        ensures { (g : Setting) (st : ShardState) → IsShard self.now st → result ≡ passes (setting station.now g) Test.IsBelowHorizon st }
+    {
+        self.registry.bound() < station.horizon
+    }
+
+    /// Makes the step that a turn decided on. It takes no memory. A learned value takes logarithmic time an insert of it
+    /// and an id that expires, and linear time in the inserts that wait; the others constant expected time.
+    pub(crate) fn keep(&mut self, step: Step)
+        requires { FitsStep step self.old }
+        ensures { (g : Setting) (site : _) (st : ShardState) → IsShard self.old st → IsShard self.new (stepped g site step st) }
+    {
+        match step {
+            Step::Queue(insert) => self.put_last(insert),
+            Step::Propose(proposer) => self.proposal = Some(proposer),
+            Step::Promise(from, prior) => self.keep_promise(from, prior),
+            Step::Accept(from) => self.keep_accepted(from),
+            Step::Learn(batch) => self.learn(&batch),
+            Step::Hold => {
+                self.proposal = None;
+                self.held = true;
+            }
+        }
+    }
+
+    fn put_last(&mut self, insert: Insert)
+        requires { 0 < places self.old.queue }
+        ensures { (g : Setting) (site : _) (st : ShardState) → IsShard self.old st → IsShard self.new (stepped g site (Step.Queue insert) st) }
+    {
+        let waiting = self.queue.len();
+        prove!(waiting <= 4096);
+        let _ = self.queue.put(insert);
+    }
+
+    fn keep_promise(&mut self, from: u8, prior: Option<(Ballot, Batch)>)
+        ensures { (g : Setting) (site : _) (st : ShardState) → IsShard self.old st → IsShard self.new (stepped g site (Step.Promise from prior) st) }
+    {
+        if let Some(proposal) = &mut self.proposal {
+            let ballot = proposal.ballot();
+            proposal.keep_promise(from, ballot, prior);
+        }
+    }
+
+    fn keep_accepted(&mut self, from: u8)
+        requires { FitsStep (Step.Accept from) self.old }
+        ensures { (g : Setting) (site : _) (st : ShardState) → IsShard self.old st → IsShard self.new (stepped g site (Step.Accept from) st) }
+    {
+        if let Some(proposal) = &mut self.proposal {
+            let ballot = proposal.ballot();
+            proposal.keep_accepted(from, ballot);
+        }
+    }
+
+    // The value is applied, its proposal and the holding back end, and inserts that have an answer now wait no more.
+    fn learn(&mut self, batch: &Batch)
+        requires room { length batch.now.inserts ≤ room self.old.registry }
+        requires low { self.old.next < 2 ^ 48 - 1 }
+        ensures { (g : Setting) (site : _) (st : ShardState) → IsShard self.old st → IsShard self.new (stepped g site (Step.Learn batch.now) st) }
+    {
+        self.registry.learn(batch);
+        self.next += 1;
+        self.queue.drop_answered(&self.registry);
+        self.proposal = None;
+        self.held = false;
+    }
+
+    /// Holds back no more.
+    pub(crate) fn release(&mut self)
+        ensures { (st : ShardState) → IsShard self.old st → IsShard self.new (record st { held = false }) }
+    {
+        self.held = false;
+    }
+}
+
+// Whether a proposal may begin.
+fn may_begin(free: bool, held: bool, empty: bool, below: bool, low: bool) -> bool
+    ensures { result ≡ ((free && not held) && ((not empty || below) && low)) }
+{
+    free && !held && (!empty || below) && low
+}
+
+// Whether something is left to do.
+fn is_left(free: bool, held: bool, empty: bool, below: bool) -> bool
+    ensures { result ≡ ((not free || held) || (not empty || below)) }
+{
+    !free || held || !empty || below
+}
