@@ -5,7 +5,9 @@ usage: bench/parts.py [COUNT]      (default: 1000000)
 
 The program `bench_parts` does one part COUNT times: `apply` (inserts in batches of 64), `apply_timed` (the same where the ids
 are kept by time, under a bound that rises with each batch), `replay` (each insert asked once more, behind the applying),
-`encode` and `decode` (an Insert packet). Each is timed as a process, the best of three, less the same
+`encode` and `decode` (an Insert packet). Of the air between nodes (`air`) it sends COUNT packets, a third of them late, to one inbox, and
+takes them when all wait; told are the time a packet for a tenth of COUNT and for COUNT, and the memory an entry of the history takes
+with all else that is kept (four entries and a payload of four bytes a packet). Each is timed as a process, the best of three, less the same
 process with the part `none`. Where there is no rustc the Rust column is left out. Nothing is written outside a temporary folder.
 """
 import os
@@ -117,6 +119,20 @@ def seconds(words):
     return best, printed
 
 
+def air(program, count):
+    """Prints what a packet through the air costs at a tenth of the count and at the count."""
+    spent, memory = {}, {}
+    for packets in (0, count // 10, count):
+        begin = time.perf_counter()
+        child = os.posix_spawn(program, [program, "air", str(packets)], os.environ, file_actions=[(os.POSIX_SPAWN_OPEN, 1, os.devnull, os.O_WRONLY, 0)])
+        usage = os.wait4(child, 0)[2]
+        spent[packets], memory[packets] = time.perf_counter() - begin, usage.ru_maxrss * 1024
+    few, many = count // 10, count
+    each = {packets: (spent[packets] - spent[0]) / packets for packets in (few, many)}
+    print(f"air          {each[many] * 1e6:8.2f} microseconds a packet with {many} in the inbox, {each[many] / each[few]:.2f} of that with {few}")
+    print(f"             {(memory[many] - memory[0]) / (4 * many):8.0f} bytes an entry in all")
+
+
 def rust_program(folder):
     if shutil.which("rustc") is None:
         print("no rustc: the Rust column is left out")
@@ -153,6 +169,7 @@ def main():
             if len(printed) > 1:
                 line += f"; DIFFERENT ANSWERS {sorted(printed)}"
             print(line)
+    air(ours, int(count))
     return 0
 
 

@@ -1,6 +1,7 @@
 //! Does one piece of work many times, so that it can be timed from outside: see bench/parts.py.
 #![tactic(auto)]
 
+mod air;
 mod packets;
 mod registry;
 
@@ -49,6 +50,7 @@ fn work(alloc: Global, part: &str, count: u32) -> Result<Option<u64>, AllocError
         "replay" => Some(registry::replay(alloc, count)?),
         "encode" => Some(packets::encoded(alloc, count)?),
         "decode" => Some(packets::decoded(alloc, count)?),
+        "air" => Some(air::carried(alloc, count)?),
         _ => None,
     })
 }
