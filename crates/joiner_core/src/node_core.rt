@@ -257,12 +257,7 @@ impl JoinerCore {
                     Some(JoinerNote::Pair(pair)),
                 )
             }
-            Answer::Duplicate(holder) => self.land(
-                insert,
-                position,
-                Outcome::Already(holder),
-                None,
-            ),
+            Answer::Duplicate(other) => self.land(insert, position, Outcome::Already(other), None),
             Answer::TooOld(bound) => self.land(insert, position, Outcome::TooOld(bound), None),
         }
     }
