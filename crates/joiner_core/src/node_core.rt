@@ -76,7 +76,8 @@ impl JoinerCore {
     pub fn decide(&mut self, input: &JoinerInput) -> Result<Turn, AllocError>
         requires start { CanStart input.now }
         requires spelled { IsTaken input.now }
-        ensures turn { IfOk result (λ turn. (g n k l i : _) → IsReady self.old g n k l input.now → Carries g k l input.now i → Answers self.new g n k (row g n k l i) turn) }
+        ensures turn { IfOk result (λ turn. (g n k l i : _) → IsReady self.old g n k l input.now →
+            Carries g k l input.now i → Answers self.new g n k (row g n k l i) turn) }
         ensures fits { IfOk result (λ turn. Fits self.new turn) }
         ensures spelled { IfOk result IsSpelled }
         ensures same { IsSame self.old self.new }
@@ -156,7 +157,8 @@ impl JoinerCore {
 
     // Tick: each insert in flight goes to the server again, under its own token.
     fn send_again(&self) -> Result<Turn, AllocError>
-        ensures does { IfOk result (λ turn. Does turn None (map (claim_to self.now.site) (flights self.now.flights)) Stay) }
+        ensures does { IfOk result (λ turn.
+            Does turn None (map (claim_to self.now.site) (flights self.now.flights)) Stay) }
         ensures spelled { IfOk result IsSpelled }
     {
         Ok(Turn {
@@ -171,7 +173,9 @@ impl JoinerCore {
     fn join(&self, position: u64, click: &ClickRec, looked: &Looked) -> Result<Turn, AllocError>
         requires room { 0 < room self.now.flights }
         requires spelled { IsNumber position × IsClick click.now × IsTold looked.now }
-        ensures turn { IfOk result (λ turn. (g n k l : _) → Stands self.now g n k l → (needs_look_up l click.now.id ≡ true → Tells g click.now looked.now) → Answers self.now g n k (joins g n k l position click.now) turn) }
+        ensures turn { IfOk result (λ turn. (g n k l : _) → Stands self.now g n k l →
+            (needs_look_up l click.now.id ≡ true → Tells g click.now looked.now) →
+            Answers self.now g n k (joins g n k l position click.now) turn) }
         ensures fits { IfOk result (λ turn. Fits self.now turn) }
         ensures spelled { IfOk result IsSpelled }
     {
@@ -190,7 +194,8 @@ impl JoinerCore {
     // The site's dispatcher hears of a join that isn't in flight.
     fn tell(&self, position: u64, outcome: Outcome) -> Result<Turn, AllocError>
         requires { IsNumber position × IsOutcome outcome }
-        ensures does { IfOk result (λ turn. Does turn None ((Dispatcher self.now.site, packet.Joined position outcome) ∷ []) Stay) }
+        ensures does { IfOk result (λ turn.
+            Does turn None ((Dispatcher self.now.site, packet.Joined position outcome) ∷ []) Stay) }
         ensures spelled { IfOk result IsSpelled }
     {
         Ok(Turn {
@@ -212,7 +217,8 @@ impl JoinerCore {
         requires few { length (flights self.now.flights) < 32 }
         requires new { in_flight (flights self.now.flights) click.now.id ≡ false }
         requires spelled { IsNumber position × IsClick click.now × IsQuery query.now }
-        ensures turn { IfOk result (λ turn. (g n k l : _) → Stands self.now g n k l → Answers self.now g n k (looks g n k l position click.now (Some query.now)) turn) }
+        ensures turn { IfOk result (λ turn. (g n k l : _) → Stands self.now g n k l →
+            Answers self.now g n k (looks g n k l position click.now (Some query.now)) turn) }
         ensures fits { IfOk result (λ turn. Fits self.now turn) }
         ensures spelled { IfOk result IsSpelled }
     {
@@ -226,8 +232,11 @@ impl JoinerCore {
     fn claim(&self, position: u64, click: &ClickRec, query: &QueryRec) -> Result<Turn, AllocError>
         requires { IsNumber position × IsClick click.now × IsQuery query.now }
         ensures spelled { IfOk result IsSpelled }
-        ensures held { IfOk result (λ turn. IsHeld (click.now.id, waiting_of position click.now query.now (own_token self.now))) }
-        ensures does { IfOk result (λ turn. Does turn None ((Server self.now.site, packet.Insert (record { id = click.now.id; token = own_token self.now })) ∷ []) (Fly click.now.id (waiting_of position click.now query.now (own_token self.now)))) }
+        ensures held { IfOk result (λ turn.
+            IsHeld (click.now.id, waiting_of position click.now query.now (own_token self.now))) }
+        ensures does { IfOk result (λ turn. Does turn None
+            ((Server self.now.site, packet.Insert (record { id = click.now.id; token = own_token self.now })) ∷ [])
+            (Fly click.now.id (waiting_of position click.now query.now (own_token self.now)))) }
     {
         let token = self.next_token();
         let waiting = Waiting {
@@ -263,7 +272,8 @@ impl JoinerCore {
     // A packet that is no Join: no row but that of a Reply.
     fn receive(&self, packet: &Packet) -> Result<Turn, AllocError>
         requires { IsPacket packet.now }
-        ensures turn { IfOk result (λ turn. (g n k l : _) → Stands self.now g n k l → (IsJoin packet.now → ⊥) → Answers self.now g n k (joiner_gets g n k l packet.now) turn) }
+        ensures turn { IfOk result (λ turn. (g n k l : _) → Stands self.now g n k l → (IsJoin packet.now → ⊥) →
+            Answers self.now g n k (joiner_gets g n k l packet.now) turn) }
         ensures fits { IfOk result (λ turn. Fits self.now turn) }
         ensures spelled { IfOk result IsSpelled }
     {
@@ -277,7 +287,8 @@ impl JoinerCore {
     // and the join leaves the flight. Where it is granted the pair is noted first.
     fn answer(&self, insert: Insert, answer: Answer) -> Result<Turn, AllocError>
         requires { IsAnswer answer }
-        ensures turn { IfOk result (λ turn. (g n k l : _) → Stands self.now g n k l → Answers self.now g n k (replied g n k l insert answer (find (is_for insert) l.flight)) turn) }
+        ensures turn { IfOk result (λ turn. (g n k l : _) → Stands self.now g n k l →
+            Answers self.now g n k (replied g n k l insert answer (find (is_for insert) l.flight)) turn) }
         ensures fits { IfOk result (λ turn. Fits self.now turn) }
         ensures spelled { IfOk result IsSpelled }
     {
@@ -326,7 +337,8 @@ impl JoinerCore {
         note: Option<JoinerNote>,
     ) -> Result<Turn, AllocError>
         requires { IsNumber position × IsOutcome outcome × IsWritten note }
-        ensures does { IfOk result (λ turn. Does turn note ((Dispatcher self.now.site, packet.Joined position outcome) ∷ []) (Land insert)) }
+        ensures does { IfOk result (λ turn.
+            Does turn note ((Dispatcher self.now.site, packet.Joined position outcome) ∷ []) (Land insert)) }
         ensures spelled { IfOk result IsSpelled }
     {
         Ok(Turn {
@@ -338,7 +350,8 @@ impl JoinerCore {
 
     // A Joined goes to the site's dispatcher.
     fn joined(&self, position: u64, outcome: Outcome) -> Result<Vec<(Node, Packet)>, AllocError>
-        ensures { IfOk result (λ packets. packets.items ≡ (Dispatcher self.now.site, packet.Joined position outcome) ∷ []) }
+        ensures { IfOk result (λ packets.
+            packets.items ≡ (Dispatcher self.now.site, packet.Joined position outcome) ∷ []) }
     {
         let dispatcher = Node::Dispatcher(self.site);
         self.one(dispatcher, Packet::Joined { position, outcome })
