@@ -4,6 +4,7 @@ use Rattle.packet_codec.specs.declared.packet.Packet.{Packet}
 use Rattle.packet_codec.specs.declared.node.Node.{Node}
 use Rattle.packet_codec.specs.declared.node.Node.TheVariants.{Server}
 use Rattle.packet_codec.specs.declared.node.To.{To}
+use Rattle.packet_codec.specs.declared.node.Input.{Input}
 use Rattle.turn_defs.specs.Setting.{Setting}
 use Rattle.turn_defs.specs.Nodes.{Addressed}
 use Rattle.joiner_core.specs.Joiner.{JoinerKept, JoinerLive, Flight, insert_of, claim, joiner_tick}
@@ -11,7 +12,7 @@ use Rattle.joiner_core.specs.declared.turn.Change.TheVariants.{Stay}
 use Rattle.joiner_core.specs.declared.turn.Turn.{Turn}
 use Rattle.joiner_core.specs.declared.node_core.JoinerCore.{JoinerCore}
 use Rattle.joiner_core.specs.Flying.{flights, claim_to}
-use Rattle.joiner_core.specs.Standing.{Stands, known, note_of, changed, epoch_after, Answers, Does}
+use Rattle.joiner_core.specs.Standing.{Stands, known, note_of, changed, epoch_after, Answers, Does, row}
 
 module _ (core : JoinerCore) (g : Setting) (n : ℕ) (k : JoinerKept) (l : JoinerLive) (s : Stands core g n k l) where
   -- the insert of each flight, to the server
@@ -31,6 +32,10 @@ module _ (core : JoinerCore) (g : Setting) (n : ℕ) (k : JoinerKept) (l : Joine
         subst (λ (m : JoinerLive). Addressed g (claims m.flight) t.packets.items) s.live own;
     next = record { serves = s.serves; epoch = ap (λ b. epoch_after b core.epoch) d.change ∙ s.epoch; live = ap (λ b. changed b (known core)) d.change ∙ s.live };
   }
+
+-- the answer to an input is that to what it stands for
+pub by_input : {core : JoinerCore} {t : Turn} (g : Setting) (n : ℕ) (k : JoinerKept) (l : JoinerLive) (i i' : Input) → i ≡ i' → Answers core g n k (row g n k l i') t → Answers core g n k (row g n k l i) t
+by_input {core} {t} g n k l i i' e h = subst (λ (x : Input). Answers core g n k (row g n k l x) t) (sym e) h
 
 -- what holds of the value in an Ok gives what else holds of it
 pub if_ok : {T E : Type 0} (r : Result T E) (P Q : T → Type 0) → ((t : T) → P t → Q t) → IfOk r P → IfOk r Q

@@ -9,10 +9,12 @@ use Rattle.registry_state.specs.declared.Insert.{Insert}
 use Rattle.registry_state.specs.Same.{same_token}
 use Rattle.registry_state.proofs.Tests.{same_id-true, same_id-refl}
 use Rattle.std.proofs.lemmas.Bool.{true≢false}
-use Rattle.list_words.proofs.Lists.{none_some}
+use Rattle.list_words.proofs.Lists.{none_some, some_same}
 use Rattle.joiner_core.specs.declared.flights.Waiting.{Waiting}
 use Rattle.joiner_core.specs.Joiner.{Flight, in_flight, is_for, landed}
-use Rattle.joiner_core.specs.Flying.{flight_of}
+use Rattle.joiner_core.specs.Flying.{flight_of, claim_to}
+use Rattle.joiner_core.specs.Held.{IsHeld}
+use Rattle.joiner_core.specs.Spelled.{ArePackets}
 
 abbrev pub flight_at : EventId × Waiting → Flight
 flight_at e = flight_of e.0 e.1
@@ -102,3 +104,33 @@ landed-some (e ∷ es) x d h = by_id (same_id x.id e.0) refl h (landed-some es x
 pub is_some-mapped : {A B : Type 0} (f : A → B) (o : Option A) → is_some (option_map f o) ≡ is_some o
 is_some-mapped f None = refl
 is_some-mapped f (Some a) = refl
+
+-- ---- what has spellings
+pub held-push : (es : List (EventId × Waiting)) (e : EventId × Waiting) → AllByRecursion IsHeld es → IsHeld e → AllByRecursion IsHeld (es ++ e ∷ [])
+held-push [] e all h = (h, tt)
+held-push (x ∷ es) e all h = (all.0, held-push es e all.1 h)
+
+pub held-removed : (test : EventId → Bool) (es : List (EventId × Waiting)) → AllByRecursion IsHeld es → AllByRecursion IsHeld (shift_remove_entry test es)
+held-removed test [] all = tt
+held-removed test (e ∷ es) all = go (test e.0) (held-removed test es all.1)
+  where
+    go : (b : Bool) → AllByRecursion IsHeld (shift_remove_entry test es) → AllByRecursion IsHeld (cond b es (e ∷ shift_remove_entry test es))
+    go true h = all.1
+    go false h = (all.0, h)
+
+-- the entry of an id that has one
+pub held-lookup : (es : List (EventId × Waiting)) (i : EventId) (w : Waiting) → AllByRecursion IsHeld es → lookup (same_id i) es ≡ Some w → IsHeld (i, w)
+held-lookup [] i w all h = none_some w h
+held-lookup (e ∷ es) i w all h = go (same_id i e.0) refl h (held-lookup es i w all.1)
+  where
+    go : (b : Bool) → same_id i e.0 ≡ b → cond b (Some e.1) (lookup (same_id i) es) ≡ Some w → (lookup (same_id i) es ≡ Some w → IsHeld (i, w)) → IsHeld (i, w)
+    go true p h rec =
+        let one = same_id-true i e.0 p in
+        let same = some_same e.1 w h in
+        subst (λ (x : EventId × Waiting). IsHeld x) (λ j. (sym one j, same j)) all.0
+    go false p h rec = rec h
+
+-- the inserts of what is in flight
+pub held-claims : (site : ℕ) (es : List (EventId × Waiting)) → AllByRecursion IsHeld es → ArePackets (map (claim_to site) (map flight_at es))
+held-claims site [] all = tt
+held-claims site (e ∷ es) all = (record { id = all.0.id; token = all.0.token }, held-claims site es all.1)

@@ -16,7 +16,12 @@ use Rattle.joiner_core.specs.declared.flights.Flights.{Flights}
 
 -- the join of the click with this id
 abbrev pub flight_of : EventId → Waiting → Flight
-flight_of id w = record { position = w.position; click = record { id = id; query = w.asked; text = w.text }; query = w.query; token = w.token }
+flight_of id w = record {
+  position = w.position;
+  click = record { id = id; query = w.asked; text = w.text };
+  query = w.query;
+  token = w.token;
+}
 
 -- the joins in flight, in order
 abbrev pub flights : Flights → List Flight

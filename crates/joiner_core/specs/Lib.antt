@@ -1,4 +1,6 @@
 pub mod Joiner
 pub mod Rows
 pub mod Flying
+pub mod Held
 pub mod Standing
+pub mod Spelled

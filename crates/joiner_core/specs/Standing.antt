@@ -14,6 +14,7 @@ use Rattle.turn_defs.specs.Nodes.{Addressed}
 use Rattle.turn_defs.specs.Turns.{Note, Epoch, Output, Out, land}
 use Rattle.joiner_core.specs.Joiner.{JoinerKept, JoinerLive, land_joiner, in_flight, landed, joiner_start, joiner_turn}
 use Rattle.joiner_core.specs.Flying.{flights, flight_of, room}
+use Rattle.joiner_core.specs.Held.{IsHeld}
 use Rattle.joiner_core.specs.declared.input.Looked.{Looked}
 use Rattle.joiner_core.specs.declared.input.Looked.TheVariants.{Found, Lines}
 use Rattle.joiner_core.specs.declared.input.JoinerInput.{JoinerInput}
@@ -70,7 +71,8 @@ abbrev pub Carries : Setting → JoinerKept → JoinerLive → JoinerInput → I
 Carries g k l (input.Start e) i = (i ≡ Start) × (k.epoch ≡ e)
 Carries g k l input.Own i = i ≡ Own
 Carries g k l input.Tick i = i ≡ Tick
-Carries g k l (input.Join p c looked) i = ((from : Node) × (i ≡ Deliver from (packet.Join p c))) × (needs_look_up l c.id ≡ true → Tells g c looked)
+Carries g k l (input.Join p c looked) i =
+    ((from : Node) × (i ≡ Deliver from (packet.Join p c))) × (needs_look_up l c.id ≡ true → Tells g c looked)
 Carries g k l (input.Packet from p) i = (i ≡ Deliver from p) × (IsJoin p → ⊥)
 
 -- a Start carries an epoch below the greatest that a disk may keep
@@ -103,11 +105,13 @@ epoch_after Stay old = old
 epoch_after (Fly id w) old = old
 epoch_after (Land x) old = old
 
--- the core can make the change: there are room, a place and a number for a new flight
+-- the core can make the change: there are room, a place and a number for a new flight, whose parts have spellings
 abbrev pub CanChange : JoinerCore → Change → Type 0
-CanChange core (Fly id w) = (0 < room core.flights) × (length (flights core.flights) < 32) × (in_flight (flights core.flights) id ≡ false) × (core.number < 2 ^ 64 - 1)
+CanChange core (Fly id w) =
+    (0 < room core.flights) × (length (flights core.flights) < 32) × (in_flight (flights core.flights) id ≡ false)
+    × (core.number < 2 ^ 64 - 1) × IsHeld (id, w)
 CanChange core Stay = Unit {0}
-CanChange core (Begin e) = Unit {0}
+CanChange core (Begin e) = e < 2 ^ 32
 CanChange core (Land x) = Unit {0}
 
 -- the core can keep the turn

@@ -3,6 +3,8 @@ ghost use Rattle.std.specs.Prelude.{◌≤◌};
 ghost use Rattle.indexmap.specs.IndexMap.{IsUnique, index_map_len};
 ghost use Rattle.event_id.specs.EventId.{is_same as same_id};
 ghost use Rattle.std.proofs.Props.{props};
+ghost use Rattle.std.specs.List.{AllByRecursion, AllByRecursion-prop};
+ghost use Rattle.joiner_core.specs.Held.{IsHeld};
 
 use event_id::EventId;
 use indexmap::IndexMap;
@@ -32,13 +34,16 @@ pub struct Flights {
     alloc: Global,
     ghost unique: { IsUnique same_id waiting } by { Prim.hlevel props },
     ghost few: { index_map_len waiting ≤ 32 } by { Prim.hlevel props },
+    // Their parts have spellings.
+    ghost held: { AllByRecursion IsHeld waiting.entries } by { AllByRecursion-prop IsHeld (λ e. Prim.hlevel props) waiting.entries },
 }
 
 impl Flights {
-    ghost use Rattle.std.specs.Prelude.{◌≡◌, ◌++◌, ◌∷◌, [], ◌<◌, ◌==◌, false, length, map, find, IfOk, OnOk};
+    ghost use Rattle.std.specs.Prelude.{◌≡◌, ◌++◌, ◌∷◌, [], ◌<◌, ◌==◌, false, length, map, find, IfOk, OnOk, IfSome};
     ghost use Rattle.std.specs.Option.{option_map};
     ghost use Rattle.joiner_core.specs.Joiner.{in_flight, landed, is_for};
     ghost use Rattle.joiner_core.specs.Flying.{flights, flight_of, room, claim_to};
+    ghost use Rattle.joiner_core.specs.Spelled.{ArePackets};
 
     /// None. It takes no memory.
     pub fn new(alloc: Global) -> Flights
@@ -65,7 +70,8 @@ impl Flights {
 
     /// The join that registers this id under this token, in constant expected time.
     pub fn find(&self, insert: Insert) -> Option<&Waiting>
-        ensures { option_map (λ w. flight_of insert.id w.now) result ≡ find (is_for insert) (flights self.now) }
+        ensures found { option_map (λ w. flight_of insert.id w.now) result ≡ find (is_for insert) (flights self.now) }
+        ensures held { IfSome result (λ w. IsHeld (insert.id, w.now)) }
     {
         let Some(waiting) = self.waiting.get(&insert.id) else {
             return None;
@@ -90,6 +96,7 @@ impl Flights {
         requires room { 0 < room self.old }
         requires few { length (flights self.old) < 32 }
         requires new { in_flight (flights self.old) id ≡ false }
+        requires held { IsHeld (id, waiting) }
         ensures { flights self.new ≡ flights self.old ++ flight_of id waiting ∷ [] }
     {
         let _ = self.waiting.insert(id, waiting);
@@ -114,7 +121,8 @@ impl Flights {
 
     /// The insert of each, with its own token, to the server of the site. Linear in their number, with one allocation.
     pub fn claims(&self, site: u8) -> Result<Vec<(Node, Packet)>, AllocError>
-        ensures { IfOk result (λ all. all.items ≡ map (claim_to site) (flights self.now)) }
+        ensures claims { IfOk result (λ all. all.items ≡ map (claim_to site) (flights self.now)) }
+        ensures spelled { IfOk result (λ all. ArePackets all.items) }
     {
         let mut all = Vec::with_capacity(self.alloc, self.waiting.len())?;
         for (id, waiting) in self.waiting.iter() {

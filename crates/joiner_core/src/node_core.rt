@@ -1,4 +1,6 @@
 // The joiner's core.
+ghost use Rattle.std.specs.Prelude.{◌<◌, ◌^◌};
+
 use crate::copies::{copy_query, copy_text};
 use crate::flights::{Flights, MOST, Waiting};
 use crate::turn::Change;
@@ -22,6 +24,10 @@ pub struct JoinerCore {
     number: u64,
     flights: Flights,
     alloc: Global,
+    // So its tokens have spellings.
+    ghost node_fits: { node < 2 ^ 16 },
+    ghost epoch_fits: { epoch < 2 ^ 32 },
+    ghost number_fits: { number < 2 ^ 64 },
 }
 
 impl JoinerCore {
@@ -33,6 +39,12 @@ impl JoinerCore {
     ghost use Rattle.joiner_core.specs.declared.turn.JoinerNote.TheVariants.{Epoch, Pair};
     ghost use Rattle.joiner_core.specs.declared.turn.Change.TheVariants.{Stay, Begin, Fly, Land};
     ghost use Rattle.joiner_core.specs.Flying.{flights, flight_of, room, waiting_of, claim_to, pair_of};
+    ghost use Rattle.log_records.specs.Line.{IsQuery, IsClick};
+    ghost use Rattle.fields.specs.Spellings.{IsNumber, IsToken, IsAnswer};
+    ghost use Rattle.packet_codec.specs.Packets.{IsPacket, IsOutcome};
+    ghost use Rattle.output_log.specs.Pairs.{IsPair};
+    ghost use Rattle.joiner_core.specs.Held.{IsHeld};
+    ghost use Rattle.joiner_core.specs.Spelled.{IsTold, IsTaken, IsWritten, IsSpelled};
     ghost use Rattle.joiner_core.specs.Standing.{Serves, Stands, IsSame, IsReady, CanStart, Carries, Tells, needs_look_up, row, IsJoin, changed, epoch_after, known, CanChange, Fits, Leads, Answers, Does, own_token};
 
     /// The joiner of this node number, which its tokens name, at this site. It takes no memory. Its first input is a Start.
@@ -62,9 +74,12 @@ impl JoinerCore {
     ///
     /// Constant expected time and memory for the texts of one click and its query; on a Tick linear in the joins in flight.
     pub fn decide(&mut self, input: &JoinerInput) -> Result<Turn, AllocError>
-        requires { CanStart input.now }
-        ensures turn { IfOk result (λ turn. (g n k l i : _) → IsReady self.old g n k l input.now → Carries g k l input.now i → Answers self.new g n k (row g n k l i) turn) }
+        requires start { CanStart input.now }
+        requires spelled { IsTaken input.now }
+        ensures turn { IfOk result (λ turn. (g n k l i : _) → IsReady self.old g n k l input.now →
+            Carries g k l input.now i → Answers self.new g n k (row g n k l i) turn) }
         ensures fits { IfOk result (λ turn. Fits self.new turn) }
+        ensures spelled { IfOk result IsSpelled }
         ensures same { IsSame self.old self.new }
     {
         match input {
@@ -116,7 +131,8 @@ impl JoinerCore {
 
     // No row applies: no note, no packets, and nothing changes.
     fn idle(&self) -> Turn
-        ensures { Does result None [] Stay }
+        ensures does { Does result None [] Stay }
+        ensures spelled { IsSpelled result }
     {
         Turn {
             note: None,
@@ -128,7 +144,8 @@ impl JoinerCore {
     // Start: it notes the next epoch, in which it knows nothing yet.
     fn start(&self, epoch: u32) -> Turn
         requires { epoch < 4294967294 }
-        ensures { Does result (Some (Epoch (epoch + 1))) [] (Begin (epoch + 1)) }
+        ensures does { Does result (Some (Epoch (epoch + 1))) [] (Begin (epoch + 1)) }
+        ensures spelled { IsSpelled result }
     {
         let epoch = epoch + 1;
         Turn {
@@ -140,7 +157,9 @@ impl JoinerCore {
 
     // Tick: each insert in flight goes to the server again, under its own token.
     fn send_again(&self) -> Result<Turn, AllocError>
-        ensures { IfOk result (λ turn. Does turn None (map (claim_to self.now.site) (flights self.now.flights)) Stay) }
+        ensures does { IfOk result (λ turn.
+            Does turn None (map (claim_to self.now.site) (flights self.now.flights)) Stay) }
+        ensures spelled { IfOk result IsSpelled }
     {
         Ok(Turn {
             note: None,
@@ -152,9 +171,13 @@ impl JoinerCore {
     // Join: nothing where the click's id is in flight; else Busy where 32 joins are; else NoQuery with the log's lines
     // where the log has no such query; else the id is registered.
     fn join(&self, position: u64, click: &ClickRec, looked: &Looked) -> Result<Turn, AllocError>
-        requires { 0 < room self.now.flights }
-        ensures turn { IfOk result (λ turn. (g n k l : _) → Stands self.now g n k l → (needs_look_up l click.now.id ≡ true → Tells g click.now looked.now) → Answers self.now g n k (joins g n k l position click.now) turn) }
+        requires room { 0 < room self.now.flights }
+        requires spelled { IsNumber position × IsClick click.now × IsTold looked.now }
+        ensures turn { IfOk result (λ turn. (g n k l : _) → Stands self.now g n k l →
+            (needs_look_up l click.now.id ≡ true → Tells g click.now looked.now) →
+            Answers self.now g n k (joins g n k l position click.now) turn) }
         ensures fits { IfOk result (λ turn. Fits self.now turn) }
+        ensures spelled { IfOk result IsSpelled }
     {
         if self.flights.has(click.id) {
             return Ok(self.idle());
@@ -170,7 +193,10 @@ impl JoinerCore {
 
     // The site's dispatcher hears of a join that isn't in flight.
     fn tell(&self, position: u64, outcome: Outcome) -> Result<Turn, AllocError>
-        ensures { IfOk result (λ turn. Does turn None ((Dispatcher self.now.site, packet.Joined position outcome) ∷ []) Stay) }
+        requires { IsNumber position × IsOutcome outcome }
+        ensures does { IfOk result (λ turn.
+            Does turn None ((Dispatcher self.now.site, packet.Joined position outcome) ∷ []) Stay) }
+        ensures spelled { IfOk result IsSpelled }
     {
         Ok(Turn {
             note: None,
@@ -190,8 +216,11 @@ impl JoinerCore {
         requires room { 0 < room self.now.flights }
         requires few { length (flights self.now.flights) < 32 }
         requires new { in_flight (flights self.now.flights) click.now.id ≡ false }
-        ensures turn { IfOk result (λ turn. (g n k l : _) → Stands self.now g n k l → Answers self.now g n k (looks g n k l position click.now (Some query.now)) turn) }
+        requires spelled { IsNumber position × IsClick click.now × IsQuery query.now }
+        ensures turn { IfOk result (λ turn. (g n k l : _) → Stands self.now g n k l →
+            Answers self.now g n k (looks g n k l position click.now (Some query.now)) turn) }
         ensures fits { IfOk result (λ turn. Fits self.now turn) }
+        ensures spelled { IfOk result IsSpelled }
     {
         if self.number == u64::MAX {
             return Ok(self.idle());
@@ -201,13 +230,15 @@ impl JoinerCore {
 
     // The insert of the id under the next token, and the join that will be in flight.
     fn claim(&self, position: u64, click: &ClickRec, query: &QueryRec) -> Result<Turn, AllocError>
-        ensures { IfOk result (λ turn. Does turn None ((Server self.now.site, packet.Insert (record { id = click.now.id; token = own_token self.now })) ∷ []) (Fly click.now.id (waiting_of position click.now query.now (own_token self.now)))) }
+        requires { IsNumber position × IsClick click.now × IsQuery query.now }
+        ensures spelled { IfOk result IsSpelled }
+        ensures held { IfOk result (λ turn.
+            IsHeld (click.now.id, waiting_of position click.now query.now (own_token self.now))) }
+        ensures does { IfOk result (λ turn. Does turn None
+            ((Server self.now.site, packet.Insert (record { id = click.now.id; token = own_token self.now })) ∷ [])
+            (Fly click.now.id (waiting_of position click.now query.now (own_token self.now)))) }
     {
-        let token = Token {
-            joiner: self.node,
-            epoch: self.epoch,
-            number: self.number,
-        };
+        let token = self.next_token();
         let waiting = Waiting {
             position,
             asked: click.query,
@@ -226,10 +257,25 @@ impl JoinerCore {
         })
     }
 
+    // The token of the next join.
+    fn next_token(&self) -> Token
+        ensures token { result ≡ own_token self.now }
+        ensures spelled { IsToken (own_token self.now) }
+    {
+        Token {
+            joiner: self.node,
+            epoch: self.epoch,
+            number: self.number,
+        }
+    }
+
     // A packet that is no Join: no row but that of a Reply.
     fn receive(&self, packet: &Packet) -> Result<Turn, AllocError>
-        ensures turn { IfOk result (λ turn. (g n k l : _) → Stands self.now g n k l → (IsJoin packet.now → ⊥) → Answers self.now g n k (joiner_gets g n k l packet.now) turn) }
+        requires { IsPacket packet.now }
+        ensures turn { IfOk result (λ turn. (g n k l : _) → Stands self.now g n k l → (IsJoin packet.now → ⊥) →
+            Answers self.now g n k (joiner_gets g n k l packet.now) turn) }
         ensures fits { IfOk result (λ turn. Fits self.now turn) }
+        ensures spelled { IfOk result IsSpelled }
     {
         match packet {
             Packet::Reply { insert, answer } => self.answer(*insert, *answer),
@@ -240,8 +286,11 @@ impl JoinerCore {
     // Reply: nothing where no join in flight registers this id under this token; else the dispatcher hears how it ended,
     // and the join leaves the flight. Where it is granted the pair is noted first.
     fn answer(&self, insert: Insert, answer: Answer) -> Result<Turn, AllocError>
-        ensures turn { IfOk result (λ turn. (g n k l : _) → Stands self.now g n k l → Answers self.now g n k (replied g n k l insert answer (find (is_for insert) l.flight)) turn) }
+        requires { IsAnswer answer }
+        ensures turn { IfOk result (λ turn. (g n k l : _) → Stands self.now g n k l →
+            Answers self.now g n k (replied g n k l insert answer (find (is_for insert) l.flight)) turn) }
         ensures fits { IfOk result (λ turn. Fits self.now turn) }
+        ensures spelled { IfOk result IsSpelled }
     {
         let Some(waiting) = self.flights.find(insert) else {
             return Ok(self.idle());
@@ -264,7 +313,9 @@ impl JoinerCore {
 
     // The pair of a join in flight: a copy, since the join stays in flight until the turn is kept.
     fn pair(&self, id: EventId, waiting: &Waiting) -> Result<PairRec, AllocError>
-        ensures { IfOk result (λ pair. pair ≡ pair_of (flight_of id waiting.now)) }
+        requires { IsHeld (id, waiting.now) }
+        ensures pair { IfOk result (λ pair. pair ≡ pair_of (flight_of id waiting.now)) }
+        ensures spelled { IfOk result IsPair }
     {
         Ok(PairRec {
             click: ClickRec {
@@ -285,7 +336,10 @@ impl JoinerCore {
         outcome: Outcome,
         note: Option<JoinerNote>,
     ) -> Result<Turn, AllocError>
-        ensures { IfOk result (λ turn. Does turn note ((Dispatcher self.now.site, packet.Joined position outcome) ∷ []) (Land insert)) }
+        requires { IsNumber position × IsOutcome outcome × IsWritten note }
+        ensures does { IfOk result (λ turn.
+            Does turn note ((Dispatcher self.now.site, packet.Joined position outcome) ∷ []) (Land insert)) }
+        ensures spelled { IfOk result IsSpelled }
     {
         Ok(Turn {
             note,
@@ -296,7 +350,8 @@ impl JoinerCore {
 
     // A Joined goes to the site's dispatcher.
     fn joined(&self, position: u64, outcome: Outcome) -> Result<Vec<(Node, Packet)>, AllocError>
-        ensures { IfOk result (λ packets. packets.items ≡ (Dispatcher self.now.site, packet.Joined position outcome) ∷ []) }
+        ensures { IfOk result (λ packets.
+            packets.items ≡ (Dispatcher self.now.site, packet.Joined position outcome) ∷ []) }
     {
         let dispatcher = Node::Dispatcher(self.site);
         self.one(dispatcher, Packet::Joined { position, outcome })

@@ -1,4 +1,10 @@
 // Worked turns: what each row of the table notes and sends.
+ghost use Rattle.std.specs.Prelude.{IfOk};
+ghost use Rattle.event_id.specs.EventId.{IsId};
+ghost use Rattle.log_records.specs.Text.{IsText};
+ghost use Rattle.fields.specs.Spellings.{IsToken, IsInsert, IsAnswer};
+ghost use Rattle.joiner_core.specs.Spelled.{IsTaken, IsTold};
+
 use super::*;
 use event_id::EventId;
 use log_records::{ClickRec, QueryRec, Text};
@@ -16,9 +22,12 @@ enum Step {
     // A Join from this position, whose query is found, or isn't in so many lines.
     Found(u64, u64),
     Lines(u64, u64, u64),
-    // A Reply to the insert under the token of this number.
-    Reply(u64, u64, Answer),
-    Nack,
+    // A Reply to the insert under the token of this number: granted, held by the token of another, too old.
+    Granted(u64, u64),
+    Duplicate(u64, u64, u64),
+    TooOld(u64, u64, u64),
+    // A packet that no row answers.
+    Stray,
 }
 
 // The note of a turn.
@@ -45,7 +54,9 @@ type Seen = (Noted, usize, Sent);
 
 const IDLE: Seen = (Noted::Nothing, 0, Sent::Nothing);
 
-fn id(micros: u64) -> EventId {
+fn id(micros: u64) -> EventId
+    ensures { IsId result }
+{
     EventId {
         ip: 0x0A00_0002,
         pid: 9,
@@ -53,14 +64,20 @@ fn id(micros: u64) -> EventId {
     }
 }
 
-const QUERY: EventId = EventId {
-    ip: 0x0A00_0001,
-    pid: 7,
-    micros: 1000,
-};
+fn query() -> EventId
+    ensures { IsId result }
+{
+    EventId {
+        ip: 0x0A00_0001,
+        pid: 7,
+        micros: 1000,
+    }
+}
 
 // The tokens of joiner 7 in its first epoch.
-fn token(number: u64) -> Token {
+fn token(number: u64) -> Token
+    ensures { IsToken result }
+{
     Token {
         joiner: 7,
         epoch: 1,
@@ -68,7 +85,9 @@ fn token(number: u64) -> Token {
     }
 }
 
-fn insert(micros: u64, number: u64) -> Insert {
+fn insert(micros: u64, number: u64) -> Insert
+    ensures { IsInsert result }
+{
     Insert {
         id: id(micros),
         token: token(number),
@@ -85,7 +104,9 @@ fn to_dispatcher(position: u64, outcome: Outcome) -> Seen {
     (Noted::Nothing, 1, sent)
 }
 
-fn text(alloc: Global, bytes: &[u8]) -> Result<Text, AllocError> {
+fn text(alloc: Global, bytes: &[u8]) -> Result<Text, AllocError>
+    ensures { IfOk result IsText }
+{
     match Text::read(alloc, bytes) {
         Ok(text) => Ok(text),
         Err(_) => Err(AllocError),
@@ -97,10 +118,13 @@ fn join(
     position: u64,
     micros: u64,
     looked: Looked,
-) -> Result<JoinerInput, AllocError> {
+) -> Result<JoinerInput, AllocError>
+    requires { IsTold looked }
+    ensures { IfOk result IsTaken }
+{
     let click = ClickRec {
         id: id(micros),
-        query: QUERY,
+        query: query(),
         text: text(alloc, b"buy")?,
     };
     Ok(JoinerInput::Join {
@@ -110,30 +134,68 @@ fn join(
     })
 }
 
-fn input_of(alloc: Global, step: Step) -> Result<JoinerInput, AllocError> {
+fn found(alloc: Global) -> Result<Looked, AllocError>
+    ensures { IfOk result IsTold }
+{
+    Ok(Looked::Found(QueryRec {
+        id: query(),
+        text: text(alloc, b"shoes")?,
+    }))
+}
+
+fn lines(count: u64) -> Looked
+    ensures { IsTold result }
+{
+    Looked::Lines(count)
+}
+
+fn duplicate(number: u64) -> Answer
+    ensures { IsAnswer result }
+{
+    Answer::Duplicate(token(number))
+}
+
+fn too_old(bound: u64) -> Answer
+    ensures { IsAnswer result }
+{
+    Answer::TooOld(bound)
+}
+
+fn reply(micros: u64, number: u64, answer: Answer) -> JoinerInput
+    requires { IsAnswer answer }
+    ensures { IsTaken result }
+{
+    JoinerInput::Packet {
+        from: Node::Server(0),
+        packet: Packet::Reply {
+            insert: insert(micros, number),
+            answer,
+        },
+    }
+}
+
+fn stray() -> JoinerInput
+    ensures { IsTaken result }
+{
+    JoinerInput::Packet {
+        from: Node::Dispatcher(0),
+        packet: Packet::Insert(insert(2000, 0)),
+    }
+}
+
+fn input_of(alloc: Global, step: Step) -> Result<JoinerInput, AllocError>
+    ensures { IfOk result IsTaken }
+{
     match step {
         Step::Start(epoch) => Ok(JoinerInput::Start { epoch }),
         Step::Own => Ok(JoinerInput::Own),
         Step::Tick => Ok(JoinerInput::Tick),
-        Step::Found(position, micros) => {
-            let query = QueryRec {
-                id: QUERY,
-                text: text(alloc, b"shoes")?,
-            };
-            join(alloc, position, micros, Looked::Found(query))
-        }
-        Step::Lines(position, micros, lines) => join(alloc, position, micros, Looked::Lines(lines)),
-        Step::Reply(micros, number, answer) => Ok(JoinerInput::Packet {
-            from: Node::Server(0),
-            packet: Packet::Reply {
-                insert: insert(micros, number),
-                answer,
-            },
-        }),
-        Step::Nack => Ok(JoinerInput::Packet {
-            from: Node::Dispatcher(0),
-            packet: Packet::Insert(insert(2000, 0)),
-        }),
+        Step::Found(position, micros) => join(alloc, position, micros, found(alloc)?),
+        Step::Lines(position, micros, count) => join(alloc, position, micros, lines(count)),
+        Step::Granted(micros, number) => Ok(reply(micros, number, Answer::Granted)),
+        Step::Duplicate(micros, number, other) => Ok(reply(micros, number, duplicate(other))),
+        Step::TooOld(micros, number, bound) => Ok(reply(micros, number, too_old(bound))),
+        Step::Stray => Ok(stray()),
     }
 }
 
@@ -146,8 +208,8 @@ fn note_of(note: &Option<JoinerNote>) -> Noted {
                 && pair.query.text.as_bytes() == b"shoes".as_slice();
             if texts
                 && pair.click.id == id(2000)
-                && pair.click.query == QUERY
-                && pair.query.id == QUERY
+                && pair.click.query == query()
+                && pair.query.id == query()
             {
                 Noted::Pair(pair.token)
             } else {
@@ -199,22 +261,19 @@ fn rows_of_one_click(rt: HostRuntime) -> Result<(), Fail> {
         (Step::Found(36, 2000), IDLE),
         (Step::Own, IDLE),
         (Step::Tick, to_server(2000, 0)),
-        (Step::Nack, IDLE),
-        (Step::Reply(2000, 1, Answer::Granted), IDLE),
-        (Step::Reply(2001, 0, Answer::Granted), IDLE),
-        (
-            Step::Reply(2000, 0, Answer::Granted),
-            (Noted::Pair(token(0)), 1, written),
-        ),
-        (Step::Reply(2000, 0, Answer::Granted), IDLE),
+        (Step::Stray, IDLE),
+        (Step::Granted(2000, 1), IDLE),
+        (Step::Granted(2001, 0), IDLE),
+        (Step::Granted(2000, 0), (Noted::Pair(token(0)), 1, written)),
+        (Step::Granted(2000, 0), IDLE),
         (Step::Found(36, 2000), to_server(2000, 1)),
         (
-            Step::Reply(2000, 1, Answer::Duplicate(token(9))),
+            Step::Duplicate(2000, 1, 9),
             to_dispatcher(36, Outcome::Already(token(9))),
         ),
         (Step::Found(36, 2000), to_server(2000, 2)),
         (
-            Step::Reply(2000, 2, Answer::TooOld(2001)),
+            Step::TooOld(2000, 2, 2001),
             to_dispatcher(36, Outcome::TooOld(2001)),
         ),
         (Step::Tick, IDLE),
@@ -250,7 +309,7 @@ fn the_33rd_is_told_to_come_again(rt: HostRuntime) -> Result<(), Fail> {
         (noted, count, first),
         (Noted::Nothing, 32, to_server(0, 0).2)
     );
-    turn(alloc, &mut core, Step::Reply(0, 0, Answer::TooOld(1)))?;
+    turn(alloc, &mut core, Step::TooOld(0, 0, 1))?;
     let (_, count, first) = turn(alloc, &mut core, Step::Tick)?;
     assert_eq!(rt; (count, first), (31, to_server(1, 1).2));
     assert!(rt; core.needs_look_up(id(32)));

@@ -1,0 +1,16 @@
+-- A join in flight whose parts have spellings.
+use Rattle.std.specs.Prelude.{ℕ}
+use Rattle.event_id.specs.declared.id.EventId.{EventId}
+use Rattle.event_id.specs.EventId.{IsId}
+use Rattle.log_records.specs.Line.{IsQuery}
+use Rattle.log_records.specs.Text.{IsText}
+use Rattle.fields.specs.Spellings.{IsNumber, IsToken}
+use Rattle.joiner_core.specs.declared.flights.Waiting.{Waiting}
+
+pub record IsHeld (e : EventId × Waiting) : Type 0 where
+  pub id : IsId e.0
+  pub position : IsNumber e.1.position
+  pub asked : IsId e.1.asked
+  pub text : IsText e.1.text
+  pub query : IsQuery e.1.query
+  pub token : IsToken e.1.token
