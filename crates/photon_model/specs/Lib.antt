@@ -8,3 +8,4 @@ pub mod Images
 pub mod Alone
 pub mod Example
 pub mod Exact
+pub mod Verification

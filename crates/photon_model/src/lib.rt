@@ -12,6 +12,7 @@ ghost use Rattle.photon_model.specs.Example.{ClickIsJoined, RunsAreStrict, Store
 ghost use Rattle.photon_model.specs.Claims.{EveryClaimSent};
 ghost use Rattle.photon_model.specs.Images.{ImagesAreRuns, LeavesSound};
 ghost use Rattle.photon_model.specs.Alone.{EveryBallotAlone};
+ghost use Rattle.photon_model.specs.Verification.{CountsTheMissing, FindsThePair, FindsTheWritten, SoundAgrees, TellsTheLine, TellsTheReport};
 ghost use Rattle.photon_model.specs.Keeping.{DispatcherRowsKeep, DispatcherStartKeeps, JoinerRowsKeep, JoinerStartKeeps, ReplicaRowsKeep, ServerRowsKeep};
 
 /// After every run from a sound store, with stops whose note landed or not: a click is output at most once, each pair is
@@ -82,6 +83,17 @@ pub fn claims()
 /// A ballot is drawn for one place alone.
 pub fn ballots()
     ensures { EveryBallotAlone }
+{}
+
+/// Of the records of one store verification says of each id what the report says: its line, whether it is written, whether
+/// it is missing. A sound store has what verification asks of the records.
+pub fn verification()
+    ensures pair { FindsThePair }
+    ensures written { FindsTheWritten }
+    ensures line { TellsTheLine }
+    ensures report { TellsTheReport }
+    ensures missing { CountsTheMissing }
+    ensures agrees { SoundAgrees }
 {}
 
 /// A run that joins a click, from the empty store; and what is no run, and no sound store.

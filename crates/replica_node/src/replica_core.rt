@@ -40,11 +40,11 @@ impl ReplicaCore {
         }
     }
 
-    /// What a turn writes and sends. Nothing changes but the room for the note; so it is too where memory runs out, which
-    /// is the only error.
+    /// What a turn writes and sends. Nothing changes but the room for the note, also where memory runs out, which is
+    /// the only error.
     ///
-    /// Constant expected time for a packet, and linear in the batch that is copied into the note or the packet; linear in
-    /// the notes for `Start`.
+    /// Constant expected time for a packet, and linear in the batch that is copied into the note or the packet; now and
+    /// then it makes room for as many places again. Linear in the notes and their batches for `Start`.
     pub fn decide(&mut self, input: &ReplicaInput) -> Result<Turn, AllocError>
         ensures same { (k : ReplicaKept) → Stands self.old k → Stands self.new k }
         ensures turn { IfOk result (λ turn. (g : Setting) (k : ReplicaKept) → Carries self.old k input.now → IsRow g (row_of k (asked input.now)) turn) }

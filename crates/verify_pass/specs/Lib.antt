@@ -3,3 +3,4 @@ pub mod Chosen
 pub mod Classes
 pub mod Written
 pub mod States
+pub mod Rows

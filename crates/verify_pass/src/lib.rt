@@ -8,6 +8,7 @@ mod distinct;
 #[cfg(test)]
 mod examples;
 mod journals;
+pub mod laws;
 mod lines;
 mod states;
 mod unwritten;

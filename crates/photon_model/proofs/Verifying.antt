@@ -1,0 +1,80 @@
+-- What verification says of a store's records is what the report says.
+use Rattle.std.proofs.Common.{◌≡◌, ℕ, zero, suc, ◌*◌, ◌&&◌, true, not, List, [], ◌++◌, map, Some, None, ◌↔◌, refl, sym, ap, ◌∙◌}
+use Rattle.std.specs.Prelude.{Option, IsSome, is_some}
+use Rattle.std.specs.List.{flat_map}
+use Rattle.event_id.specs.declared.id.EventId.{EventId}
+use Rattle.list_words.proofs.Lists.{none_some}
+use Rattle.registry_state.specs.declared.Token.{Token}
+use Rattle.registry_state.specs.declared.Batch.{Batch}
+use Rattle.registry_state.specs.Same.{same_batch}
+use Rattle.registry_state.specs.LookBack.{holder}
+use Rattle.paxos_defs.specs.Decided.{decided}
+use Rattle.output_log.specs.declared.pair.PairRec.{PairRec}
+use Rattle.turn_defs.specs.Setting.{Setting, first_joiner, shard}
+use Rattle.turn_defs.specs.Turns.{BallotNote}
+use Rattle.photon_defs.specs.Journals.{values_from}
+use Rattle.photon_defs.specs.Report as report
+use Rattle.photon_defs.specs.Report.{pairs_from, decided_for, pair_of}
+use Rattle.photon_defs.specs.Runs.{Disks}
+use Rattle.photon_defs.specs.Sound.{IsWritten, IsMissing, known_of}
+use Rattle.verify_pass.specs.declared.journals.Journals.{Journals}
+use Rattle.verify_pass.specs.Classes as classes
+use Rattle.photon_model.specs.Verification.{AreOf}
+use Rattle.photon_model.proofs.Showing.{written, unwritten}
+
+-- the pairs of the joiners' logs, one log behind the other
+logs : (d : Disks) (from n : ℕ) → flat_map (λ ps. ps) (values_from (λ j. (d.joiners j).pairs) from n) ≡ pairs_from d from n
+logs d from zero = refl
+logs d from (suc n) = ap (λ (ps : List PairRec). (d.joiners from).pairs ++ ps) (logs d (suc from) n)
+
+module _ (g : Setting) (d : Disks) (js : Journals) (own : AreOf g d js) (i : EventId) where
+  pairs : classes.all_pairs js ≡ report.all_pairs g d
+  pairs = ap (λ (ls : List (List PairRec)). flat_map (λ ps. ps) ls) own.pairs ∙ logs d (first_joiner g) (2 * g.joiners)
+
+  pub pair : classes.first_pair (classes.all_pairs js) i ≡ pair_of g d i
+  pair = ap (λ (ps : List PairRec). classes.first_pair ps i) pairs
+
+  values : classes.decided_for js g.table i ≡ decided_for g d i
+  values = ap (λ (ns : List (List BallotNote)). decided same_batch ns (shard g i)) own.notes
+
+  line_by : (o : Option PairRec) → classes.line_by (decided_for g d i) i o ≡ report.line_by g d i o
+  line_by None = refl
+  line_by (Some p) = refl
+
+  pub line : classes.line_of js g.table i ≡ report.line_of g d i
+  line =
+      ap (λ (vs : List Batch). classes.line_by vs i (classes.first_pair (classes.all_pairs js) i)) values
+      ∙ ap (λ (o : Option PairRec). classes.line_by (decided_for g d i) i o) pair
+      ∙ line_by (pair_of g d i)
+
+  -- where the report has a pair the id is written
+  is_written : (o : Option PairRec) → pair_of g d i ≡ o → IsSome o → IsWritten g (known_of g d []) i
+  is_written None e s = absurd cc
+  is_written (Some p) e s = written g d i p e
+
+  has_pair : (o : Option PairRec) → pair_of g d i ≡ o → IsWritten g (known_of g d []) i → IsSome o
+  has_pair None e w = absurd (unwritten g d i e w)
+  has_pair (Some p) e w = refl
+
+  pub found : IsSome (classes.first_pair (classes.all_pairs js) i) ↔ IsWritten g (known_of g d []) i
+  found = (is_written (classes.first_pair (classes.all_pairs js) i) (sym pair), has_pair (classes.first_pair (classes.all_pairs js) i) (sym pair))
+
+  -- an id with a holder and no pair is missing, and no other
+  shows : (t : Option Token) (o : Option PairRec) → holder (decided_for g d i) i ≡ t → pair_of g d i ≡ o → (is_some t && not (is_some o)) ≡ true → IsMissing g (known_of g d []) i
+  shows None o h e q = absurd cc
+  shows (Some t) None h e q = ((t, h), unwritten g d i e)
+  shows (Some t) (Some p) h e q = absurd cc
+
+  shown : (t : Option Token) (o : Option PairRec) → holder (decided_for g d i) i ≡ t → pair_of g d i ≡ o → IsMissing g (known_of g d []) i → (is_some t && not (is_some o)) ≡ true
+  shown None o h e m = none_some m.0.0 (sym h ∙ m.0.1)
+  shown (Some t) None h e m = refl
+  shown (Some t) (Some p) h e m = absurd (m.1 (written g d i p e))
+
+  pub missing : (classes.is_missing js g.table i ≡ true) ↔ IsMissing g (known_of g d []) i
+  missing = (
+    shows (holder (classes.decided_for js g.table i) i) (classes.first_pair (classes.all_pairs js) i) held (sym pair),
+    shown (holder (classes.decided_for js g.table i) i) (classes.first_pair (classes.all_pairs js) i) held (sym pair),
+  )
+    where
+      held : holder (decided_for g d i) i ≡ holder (classes.decided_for js g.table i) i
+      held = ap (λ (vs : List Batch). holder vs i) (sym values)
