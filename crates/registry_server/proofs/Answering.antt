@@ -1,10 +1,8 @@
 -- The rows that look for the proposal at a place and ballot, and those that learn a value.
-use Rattle.std.proofs.Common.{◌≡◌, ℕ, ◌+◌, ◌-◌, ◌^◌, ◌<◌, ◌≤◌, ◌==◌, ◌&&◌, Bool, true, false, cond, is_some, List, [], ◌∷◌, ◌++◌, length, Some, None, refl, sym, ap, ◌∙◌, subst, arith}
-use Rattle.std.specs.Prelude.{Option, option_map, nat_lt}
+use Rattle.std.proofs.Common.{◌≡◌, ℕ, ◌-◌, ◌^◌, ◌<◌, ◌≤◌, ◌&&◌, Bool, true, false, is_some, List, [], ◌∷◌, length, Some, None, refl, sym, ap, ◌∙◌, subst}
+use Rattle.std.specs.Prelude.{Option, option_map}
 use Rattle.std.proofs.lemmas.Bool.{cond-true, cond-false, and_from, and_left, and_right, lt-ltb, le-ltb, eq-eqb, ne_eqb, ltb-true}
-use Rattle.list_words.specs.Lists.{set_at}
 use Rattle.ballot_core.specs.declared.Ballot.{Ballot}
-use Rattle.registry_state.specs.declared.Insert.{Insert}
 use Rattle.registry_state.specs.declared.Batch.{Batch}
 use Rattle.paxos_defs.specs.declared.Place.{Place}
 use Rattle.paxos_defs.specs.Attempts.{Phase, on_promise, on_accepted}
@@ -17,15 +15,14 @@ use Rattle.packet_codec.specs.declared.node.Node.TheVariants.{Server}
 use Rattle.packet_codec.specs.declared.node.To.{To}
 use Rattle.packet_codec.specs.declared.node.To.TheVariants.{Only}
 use Rattle.turn_defs.specs.Setting.{Setting, shards}
-use Rattle.turn_defs.specs.Turns.{Out, idle}
-use Rattle.registry_server.specs.Server.{ServerKept, ServerLive, ShardState, Proposal, is_below_limit, is_next, replies, learns, to_replicas, accept_if, promised, accepted, nacked, gets_promise, gets_accepted, gets_nack, gets_chosen}
+use Rattle.turn_defs.specs.Turns.{idle}
+use Rattle.registry_server.specs.Server.{ServerKept, ServerLive, is_below_limit, is_next, to_replicas, accept_if, promised, accepted, nacked, gets_promise, gets_accepted, gets_nack, gets_chosen}
 use Rattle.registry_server.specs.Stations.{setting, sent}
-use Rattle.registry_server.specs.ShardStates.{IsShard, Goes, NotLast, stepped, proposal_of, counts_promise, counts_accepted}
+use Rattle.registry_server.specs.ShardStates.{Goes, NotLast, proposal_of, counts_promise, counts_accepted}
 use Rattle.registry_server.specs.Cores.{Gives, IsStep}
 use Rattle.registry_server.specs.Rowed.{IsAt, FitsAt, accept_all, current_of, learns_behind}
 use Rattle.registry_server.specs.declared.station.Station.{Station}
 use Rattle.registry_server.specs.declared.shard.Shard.{Shard}
-use Rattle.registry_server.specs.declared.shard.Step.{Step}
 use Rattle.registry_server.specs.declared.shard.Step.TheVariants.{Promise, Accept}
 use Rattle.registry_server.specs.declared.turn.Change.{Change}
 use Rattle.registry_server.specs.declared.turn.Change.TheVariants as change

@@ -1,6 +1,6 @@
 -- A proposal goes on until a majority has accepted its value.
 use Rattle.std.proofs.Common.{◌≡◌, ℕ, ◌<◌, ◌==◌, ◌&&◌, true, false, cond, is_some, List, length, set, Some, None, refl, sym, ap, ◌∙◌, subst, ⊎_elim}
-use Rattle.std.specs.Prelude.{Option, option_map, Bool, nat_lt}
+use Rattle.std.specs.Prelude.{Option, option_map, Bool}
 use Rattle.std.proofs.lemmas.Bool.{cond_both, cond-true, cond-false, and_parts, and_from, and_left, and_right, lt-ltb, eq-eqb, eqb-true, and_cases, false_from_ne_true}
 use Rattle.std.proofs.lemmas.Option.{cond_some, none-some}
 use Rattle.std.proofs.lemmas.Cmp.{tied_itself}

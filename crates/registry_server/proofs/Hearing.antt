@@ -10,7 +10,7 @@ use Rattle.packet_codec.specs.declared.packet.Packet.TheVariants as packet
 use Rattle.packet_codec.specs.declared.node.Node.{Node}
 use Rattle.packet_codec.specs.declared.node.Node.TheVariants.{Dispatcher, Server, Replica, Joiner}
 use Rattle.turn_defs.specs.Setting.{Setting, shard}
-use Rattle.turn_defs.specs.Turns.{Out, idle}
+use Rattle.turn_defs.specs.Turns.{idle}
 use Rattle.std.proofs.lemmas.Option.{same_Some}
 use Rattle.registry_state.specs.LookBack.{replay}
 use Rattle.registry_server.specs.Server.{ServerKept, ServerLive, claimed, gets_promise, gets_accepted, gets_nack, gets_chosen, from_replica, server_gets}

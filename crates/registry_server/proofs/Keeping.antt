@@ -1,5 +1,5 @@
 -- What each step leaves in a shard.
-use Rattle.std.proofs.Common.{◌≡◌, ℕ, ◌+◌, ◌<◌, true, false, List, [], ◌∷◌, ◌++◌, length, Some, None, refl, sym, ap, ◌∙◌, subst, arith}
+use Rattle.std.proofs.Common.{◌≡◌, ℕ, ◌+◌, true, false, List, [], ◌∷◌, ◌++◌, length, Some, None, sym, ap, ◌∙◌, subst, arith}
 use Rattle.std.specs.Prelude.{Option, option_map, is_some}
 use Rattle.std.proofs.lemmas.List.{length-append}
 use Rattle.ballot_core.specs.declared.Ballot.{Ballot}
@@ -11,12 +11,12 @@ use Rattle.id_expiry.specs.Timed.{Knows}
 use Rattle.batch_queue.specs.declared.queue.BatchQueue.{BatchQueue}
 use Rattle.batch_queue.specs.Queue.{waiting}
 use Rattle.batch_queue.specs.Waiting.{unanswered as left_of}
-use Rattle.paxos_defs.specs.Attempts.{Phase, on_accepted}
+use Rattle.paxos_defs.specs.Attempts.{on_accepted}
 use Rattle.paxos_proposer.specs.declared.proposer.Proposer.{Proposer}
 use Rattle.paxos_proposer.specs.Proposals.{ballot_of, own_of, phase_of, promise_turn, acceptance_turn, IsSameProposal}
 use Rattle.turn_defs.specs.Setting.{Setting}
-use Rattle.registry_server.specs.Server.{ShardState, Proposal, is_below_limit, learns, unanswered}
-use Rattle.registry_server.specs.ShardStates.{HasLearned, IsShard, Goes, NotLast, state_of, stepped, proposal_of, is_going, put_last, counts_promise, counts_accepted}
+use Rattle.registry_server.specs.Server.{ShardState, Proposal, is_below_limit, unanswered}
+use Rattle.registry_server.specs.ShardStates.{IsShard, Goes, NotLast, stepped, proposal_of, is_going, put_last, counts_promise, counts_accepted}
 use Rattle.registry_server.specs.declared.shard.Shard.{Shard}
 use Rattle.registry_server.specs.declared.shard.Step.TheVariants.{Queue, Propose, Promise, Accept, Learn, Hold}
 use Rattle.registry_server.proofs.Going.{promise_goes, accepted_goes, counted_promise, counted_accepted}

@@ -1,7 +1,7 @@
 -- A step of one shard as a row's turn.
-use Rattle.std.proofs.Common.{◌≡◌, ℕ, suc, ◌+◌, ◌<◌, ◌≤◌, true, false, cond, List, [], ◌∷◌, ◌++◌, length, take, Some, None, refl, sym, ap, ◌∙◌, subst, arith}
+use Rattle.std.proofs.Common.{◌≡◌, ℕ, suc, ◌+◌, ◌≤◌, true, false, cond, List, [], ◌∷◌, ◌++◌, length, take, Some, None, refl, sym, ap, ◌∙◌, subst, arith}
 use Rattle.std.specs.Prelude.{Option, Bool, option_map, min, nat_le, ◌||◌}
-use Rattle.std.proofs.lemmas.Bool.{cond-true, cond-false}
+use Rattle.std.proofs.lemmas.Bool.{cond-true}
 use Rattle.list_words.specs.Lists.{set_at}
 use Rattle.ballot_core.specs.declared.Ballot.{Ballot}
 use Rattle.registry_state.specs.declared.Insert.{Insert}
@@ -11,7 +11,6 @@ use Rattle.registry_state.specs.LookBack.{replay}
 use Rattle.registry_state.specs.Registry.{batch_of}
 use Rattle.batch_queue.specs.Queue.{waiting}
 use Rattle.batch_queue.specs.Waiting.{answered}
-use Rattle.paxos_defs.specs.declared.Place.{Place}
 use Rattle.paxos_defs.specs.Attempts.{nobody}
 use Rattle.paxos_defs.specs.Attempts.Phase.{Promising}
 use Rattle.paxos_proposer.specs.declared.proposer.Proposer.{Proposer}
@@ -22,10 +21,10 @@ use Rattle.packet_codec.specs.declared.node.Node.{Node}
 use Rattle.packet_codec.specs.declared.node.To.{To}
 use Rattle.turn_defs.specs.Setting.{Setting}
 use Rattle.turn_defs.specs.Turns.{Out, idle}
-use Rattle.registry_server.specs.Server.{ServerKept, ServerLive, ShardState, Proposal, queued, claimed, reply, replies, may_propose, proposes, to_replicas}
+use Rattle.registry_server.specs.Server.{ServerKept, ServerLive, ShardState, queued, claimed, reply, replies, may_propose, to_replicas}
 use Rattle.registry_server.specs.Stations.{setting, sent}
 use Rattle.registry_server.specs.Replies.{each_reply}
-use Rattle.registry_server.specs.ShardStates.{IsShard, state_of, stepped, proposal_of}
+use Rattle.registry_server.specs.ShardStates.{IsShard, stepped, proposal_of}
 use Rattle.registry_server.specs.Cores.{Gives, IsStep, note_of, changed}
 use Rattle.registry_server.specs.Rowed.{IsAt, proposes_if, learns_behind}
 use Rattle.registry_server.specs.declared.station.Station.{Station}

@@ -1,6 +1,6 @@
 -- What a core stands for, shard by shard.
-use Rattle.std.proofs.Common.{◌≡◌, ℕ, zero, suc, ◌+◌, ◌-◌, ◌^◌, ◌<◌, ◌≤◌, ◌&&◌, Bool, true, false, cond, List, [], ◌∷◌, ◌++◌, length, get_or, set, Some, None, refl, sym, ap, ◌∙◌, subst, arith}
-use Rattle.std.specs.Prelude.{Option, nat_lt}
+use Rattle.std.proofs.Common.{◌≡◌, ℕ, zero, suc, ◌+◌, ◌-◌, ◌^◌, ◌<◌, ◌≤◌, ◌&&◌, Bool, true, false, cond, List, ◌++◌, length, get_or, set, Some, None, refl, sym, ap, ◌∙◌, subst, arith}
+use Rattle.std.specs.Prelude.{Option}
 use Rattle.std.proofs.lemmas.Bool.{cond-true, cond-false, cond_both, and_left, le-ltb, lt-ltb}
 use Rattle.std.proofs.lemmas.Option.{same_Some}
 use Rattle.std.proofs.lemmas.List.{append-nil, append_assoc, length-set, get_or-set_same}
@@ -14,13 +14,13 @@ use Rattle.packet_codec.specs.declared.packet.Packet.TheVariants as packet
 use Rattle.packet_codec.specs.declared.node.Node.{Node}
 use Rattle.packet_codec.specs.declared.node.Node.TheVariants.{Dispatcher, Server, Replica, Joiner}
 use Rattle.packet_codec.specs.declared.node.To.{To}
-use Rattle.turn_defs.specs.Setting.{Setting, shard, shards}
+use Rattle.turn_defs.specs.Setting.{Setting, shards}
 use Rattle.turn_defs.specs.Turns.{Out, idle}
 use Rattle.turn_defs.specs.Nodes.{Addressed}
 use Rattle.registry_server.specs.Server.{ServerKept, ServerLive, ShardState, Proposal, first_shard, may_propose, owns, server_own, is_next, is_current, is_below_limit, gets_promise, gets_accepted, gets_nack, gets_chosen, server_gets, again, all_again}
-use Rattle.registry_server.specs.Stations.{setting, sent}
-use Rattle.registry_server.specs.ShardStates.{IsShard, EachStands, FitsStep, passes}
-use Rattle.registry_server.specs.Cores.{Stands, Gives, IsTurn, FitsChange, changed}
+use Rattle.registry_server.specs.Stations.{setting}
+use Rattle.registry_server.specs.ShardStates.{IsShard, FitsStep, passes}
+use Rattle.registry_server.specs.Cores.{Stands, Gives, IsTurn, FitsChange}
 use Rattle.registry_server.specs.Rowed.{IsAt, FitsAt, number_of, proposes_if}
 use Rattle.registry_server.specs.declared.shard.Shard.{Shard}
 use Rattle.registry_server.specs.declared.shard.Test.{Test}

@@ -1,5 +1,5 @@
 -- A server's core as what it stands for, and its turns as rows of the turn table.
-use Rattle.std.specs.Prelude.{◌≡◌, ℕ, ◌<◌, ◌+◌, List, length, get_or, false, Option, Some, None, option_map, ⊤}
+use Rattle.std.specs.Prelude.{◌≡◌, ℕ, ◌<◌, ◌+◌, List, length, get_or, false, Some, None, option_map, ⊤}
 use Rattle.list_words.specs.Lists.{set_at}
 use Rattle.time_shards.specs.declared.ShardRow.{ShardRow}
 use Rattle.turn_defs.specs.Setting.{Setting}
@@ -9,7 +9,7 @@ use Rattle.packet_codec.specs.declared.packet.Packet.{Packet as Message}
 use Rattle.packet_codec.specs.declared.node.Node.{Node}
 use Rattle.packet_codec.specs.declared.node.Input.{Input}
 use Rattle.packet_codec.specs.declared.node.Input.TheVariants as input
-use Rattle.registry_server.specs.Server.{ServerKept, ServerLive, ShardState, empty_shard}
+use Rattle.registry_server.specs.Server.{ServerKept, ServerLive, empty_shard}
 use Rattle.registry_server.specs.Stations.{setting, sent}
 use Rattle.registry_server.specs.ShardStates.{EachStands, FitsStep, stepped}
 use Rattle.registry_server.specs.declared.shard.Shard.{Shard}
@@ -64,6 +64,22 @@ changed g site change.Nothing l = l
 changed g site (change.Start shards) l = record { round = 0; shards = λ s. empty_shard }
 changed g site change.Tick l = record l { shards = λ s. record (l.shards s) { held = false } }
 changed g site (change.One s round step) l = record { round = round; shards = set_at l.shards s (stepped g site step (l.shards s)) }
+
+-- The core is a server of the setting, whatever it knows. A start needs no more: after a stop the disk may have an epoch that the
+-- core never kept.
+abbrev pub Serves : ServerCore → Setting → Type 0
+Serves core g = g ≡ setting core.station g
+
+abbrev pub IsStart : Change → Type 0
+IsStart change.Nothing = ⊥
+IsStart (change.Start shards) = ⊤
+IsStart change.Tick = ⊥
+IsStart (change.One s round step) = ⊥
+
+-- the turn notes the epoch above the one on the disk, and the server begins anew
+pub record Begins (turn : Turn) (k : ServerKept) : Type 0 where
+  pub noted : turn.note ≡ Some (note.Epoch (k.epoch + 1))
+  pub anew : IsStart turn.change
 
 -- the turn has no note, these packets, and a step of one shard
 pub record IsStep (turn : Turn) (n round : ℕ) (items : List (Node × Message)) (step : Step) : Type 0 where

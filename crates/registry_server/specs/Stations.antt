@@ -1,20 +1,16 @@
 -- What is fixed for a server, as a setting; packets with their receivers.
-use Rattle.std.specs.Prelude.{ℕ, List, map, Option, Some, None}
+use Rattle.std.specs.Prelude.{List, map, Option, Some, None}
 use Rattle.std.specs.Borrow.{Bor}
 use Rattle.ballot_core.specs.declared.Ballot.{Ballot}
 use Rattle.paxos_defs.specs.declared.Place.{Place}
 use Rattle.registry_state.specs.declared.Batch.{Batch}
-use Rattle.registry_state.specs.declared.Insert.{Insert}
-use Rattle.registry_state.specs.declared.Answer.{Answer}
 use Rattle.packet_codec.specs.declared.packet.Packet.{Packet}
 use Rattle.packet_codec.specs.declared.packet.Packet.TheVariants.{Prepare, Accept}
 use Rattle.packet_codec.specs.declared.node.Node.{Node}
 use Rattle.packet_codec.specs.declared.node.To.{To}
 use Rattle.packet_codec.specs.declared.node.To.TheVariants.{Only}
 use Rattle.turn_defs.specs.Setting.{Setting}
-use Rattle.list_words.specs.Lists.{Each}
 use Rattle.registry_server.specs.declared.station.Station.{Station}
-use Rattle.registry_server.specs.Server.{reply}
 
 -- the setting with the server's numbers, and three replicas
 abbrev pub setting : Station → Setting → Setting

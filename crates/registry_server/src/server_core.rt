@@ -33,7 +33,8 @@ impl ServerCore {
     ghost use Rattle.registry_server.specs.Server.{ServerKept, ServerLive, empty_shard, first_shard, land_server, all_again, server_own, server_tick, server_gets, server_turn, server_start, server_wants, server_unfinished, server_at_rest};
     ghost use Rattle.registry_server.specs.Stations.{setting, sent};
     ghost use Rattle.registry_server.specs.ShardStates.{passes};
-    ghost use Rattle.registry_server.specs.Cores.{Stands, IsTurn, Gives, Decided, FitsChange, Carries, CarriesStart, MayStart, changed, note_of, site_of, IsNew};
+    ghost use Rattle.registry_server.specs.Cores.{Stands, IsTurn, Gives, Decided, FitsChange, Carries, CarriesStart, MayStart, Serves, IsStart, Begins, changed, note_of, site_of, IsNew};
+    ghost use Rattle.registry_server.specs.declared.turn.ServerNote.TheVariants as written;
     ghost use Rattle.registry_server.specs.Rowed.{number_of};
 
     /// A server before its first start. Three replicas are taken for granted; the horizon is in microseconds, and `batch`
@@ -77,6 +78,7 @@ impl ServerCore {
         requires { MayStart input.now }
         ensures start { IfOk result (λ turn. (g : Setting) (k : ServerKept) (l : ServerLive) → CarriesStart input.now k
             → IsTurn g (site_of self.old) l turn (server_start k)) }
+        ensures begins { IfOk result (λ turn. (k : ServerKept) → CarriesStart input.now k → Begins turn k) }
         ensures turn { IfOk result (λ turn. (g : Setting) (k : ServerKept) (l : ServerLive) (i : Input) → Stands self.old g k l → Carries input.now i
             → IsTurn g (site_of self.old) l turn (server_turn g (site_of self.old) k l i)) }
         ensures decided { IfOk result (λ turn. Decided self.new turn) }
@@ -96,6 +98,9 @@ impl ServerCore {
     pub fn keep(&mut self, turn: Turn)
         requires { Decided self.old turn }
         ensures kept { (g : Setting) (k : ServerKept) (l : ServerLive) → Stands self.old g k l
+            → Stands self.new g (land land_server (option_map note_of turn.note) k) (changed g (site_of self.old) turn.change l) }
+        // A start asks nothing of what the server knew.
+        ensures begun { (g : Setting) (k : ServerKept) (l : ServerLive) → Serves self.old g → Begins turn k
             → Stands self.new g (land land_server (option_map note_of turn.note) k) (changed g (site_of self.old) turn.change l) }
         ensures site { site_of self.new ≡ site_of self.old }
     {
@@ -133,7 +138,9 @@ impl ServerCore {
     fn keep_note(&mut self, note: Option<ServerNote>)
         ensures kept { (g : Setting) (k : ServerKept) (l : ServerLive) → Stands self.old g k l
             → Stands self.new g (land land_server (option_map note_of note) k) l }
+        ensures epoch { (e : ℕ) → note ≡ Some (written.Epoch e) → self.new.epoch ≡ e }
         ensures shards { self.new.shards ≡ self.old.shards }
+        ensures station { self.new.station ≡ self.old.station }
         ensures site { site_of self.new ≡ site_of self.old }
     {
         match note {
@@ -146,6 +153,8 @@ impl ServerCore {
     fn change(&mut self, change: Change)
         requires { FitsChange change self.old.shards.items }
         ensures kept { (g : Setting) (k : ServerKept) (l : ServerLive) → Stands self.old g k l
+            → Stands self.new g k (changed g (site_of self.old) change l) }
+        ensures begun { (g : Setting) (k : ServerKept) (l : ServerLive) → Serves self.old g → self.old.epoch ≡ k.epoch → IsStart change
             → Stands self.new g k (changed g (site_of self.old) change l) }
         ensures site { site_of self.new ≡ site_of self.old }
     {
@@ -166,6 +175,7 @@ impl ServerCore {
     // It comes up: the next epoch is written, and nothing is known.
     fn start(&self, epoch: u32) -> Result<Turn, AllocError>
         requires { epoch < 4294967294 }
+        ensures begins { IfOk result (λ turn. (k : ServerKept) → epoch ≡ k.epoch → Begins turn k) }
         ensures start { IfOk result (λ turn. (g : Setting) (k : ServerKept) (l : ServerLive) → epoch ≡ k.epoch
             → Gives g (site_of self.now) l turn (server_start k)) }
         ensures decided { IfOk result (λ turn. Decided self.now turn) }

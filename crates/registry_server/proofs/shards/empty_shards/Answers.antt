@@ -1,5 +1,4 @@
-use Rattle.std.proofs.Common.{◌≡◌, ◌++◌, ◌∷◌, [], List, sym, subst, arith}
-use Rattle.std.proofs.lemmas.List.{length-append}
+use Rattle.std.proofs.Common.{List, sym, subst, arith}
 use Rattle.registry_server.specs.Server.{empty_shard}
 use Rattle.registry_server.specs.ShardStates.{EachStands}
 use Rattle.registry_server.specs.declared.shard.Shard.{Shard}

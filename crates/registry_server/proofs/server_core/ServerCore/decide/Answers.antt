@@ -12,6 +12,10 @@ returns-in-Start-clause-start c =
     let site = c.args.self.now.station.site in
     IfOk-weaker c.start.result _ _ (λ turn s g k l carries. turn_of g site l turn (server_start k) (s g k l (subst (λ (z : ServerInput). CarriesStart z k) c.in-Start.is carries))) c.start.ensures.start
 
+pub returns-in-Start-clause-begins : goal.returns-in-Start-clause-begins
+returns-in-Start-clause-begins c =
+    IfOk-weaker c.start.result _ _ (λ turn s k carries. s k (subst (λ (z : ServerInput). CarriesStart z k) c.in-Start.is carries)) c.start.ensures.begins
+
 pub returns-in-Tick-clause-turn : goal.returns-in-Tick-clause-turn
 returns-in-Tick-clause-turn c =
     let site = c.args.self.now.station.site in

@@ -1,7 +1,8 @@
-use Rattle.std.proofs.Common.{ℕ, subst}
+use Rattle.std.proofs.Common.{◌≡◌, ℕ, ◌+◌, sym, ap, ◌∙◌, subst}
 use Rattle.std.specs.Prelude.{option_map}
 use Rattle.turn_defs.specs.Turns.{land}
-use Rattle.registry_server.specs.Server.{land_server}
+use Rattle.registry_server.specs.Server.{ServerKept, land_server}
+use Rattle.registry_server.specs.Stations.{setting}
 use Rattle.registry_server.specs.Cores.{Stands, changed, note_of}
 use Rattle.registry_server.proofs.server_core.ServerCore.keep.Goals as goal
 
@@ -9,3 +10,11 @@ pub returns-clause-kept : goal.returns-clause-kept
 returns-clause-kept c = λ g k l h.
     let kept = land land_server (option_map note_of c.args.turn.note) k in
     subst (λ (site : ℕ). Stands c.change.new.self g kept (changed g site c.args.turn.change l)) c.keep_note.ensures.site (c.change.ensures.kept g kept l (c.keep_note.ensures.kept g k l h))
+
+pub returns-clause-begun : goal.returns-clause-begun
+returns-clause-begun c = λ g k l serves begins.
+    let kept : ServerKept = land land_server (option_map note_of c.args.turn.note) k in
+    let wrote : kept.epoch ≡ k.epoch + 1 = ap (λ n. (land land_server (option_map note_of n) k).epoch) begins.noted in
+    let epoch = c.keep_note.ensures.epoch (k.epoch + 1) begins.noted ∙ sym wrote in
+    let here : g ≡ setting c.keep_note.new.self.station g = serves ∙ ap (λ t. setting t g) (sym c.keep_note.ensures.station) in
+    subst (λ (site : ℕ). Stands c.change.new.self g kept (changed g site c.args.turn.change l)) c.keep_note.ensures.site (c.change.ensures.begun g kept l here epoch begins.anew)

@@ -1,4 +1,4 @@
-use Rattle.std.proofs.Common.{◌≡◌, ◌^◌, ◌-◌, ◌<◌, ◌≤◌, get_or, sym, subst, ap, ◌∙◌, arith}
+use Rattle.std.proofs.Common.{◌^◌, ◌-◌, ◌<◌, ◌≤◌, get_or, subst, ap, ◌∙◌}
 use Rattle.std.proofs.lemmas.Result.{IfOk-weaker}
 use Rattle.registry_server.specs.Rowed.{proposes_if}
 use Rattle.registry_server.proofs.Rowing.{same_row}

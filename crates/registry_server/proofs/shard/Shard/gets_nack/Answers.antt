@@ -1,7 +1,6 @@
-use Rattle.std.proofs.Common.{◌≡◌, ap, ◌∙◌}
-use Rattle.registry_server.specs.Stations.{setting, sent}
+use Rattle.registry_server.specs.Stations.{setting}
 use Rattle.registry_server.proofs.Rowing.{same_row}
-use Rattle.registry_server.proofs.Answering.{nack_none, nack_some}
+use Rattle.registry_server.proofs.Answering.{nack_none}
 use Rattle.registry_server.proofs.shard.Shard.gets_nack.Goals as goal
 
 pub returns-in_default-clause-row : goal.returns-in_default-clause-row

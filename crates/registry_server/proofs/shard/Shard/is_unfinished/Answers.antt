@@ -1,4 +1,4 @@
-use Rattle.std.proofs.Common.{sym, ◌∙◌, rules}
+use Rattle.std.proofs.Common.{◌∙◌, rules}
 use Rattle.registry_server.proofs.Testing.{left_is}
 use Rattle.registry_server.proofs.shard.Shard.is_unfinished.Goals as goal
 
