@@ -1,1 +1,4 @@
 pub mod Noting
+pub mod NoteBytes
+pub mod Spelled
+pub mod Voters
