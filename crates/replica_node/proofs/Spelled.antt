@@ -1,5 +1,5 @@
 -- Where the kept notes and the input have spellings, so have the row's note and packets.
-use Rattle.std.proofs.Common.{◌≡◌, Bool, true, false, List, [], ◌∷◌, ◌++◌, Option, Some, None, refl, sym, subst}
+use Rattle.std.proofs.Common.{◌≡◌, Bool, true, false, List, [], ◌∷◌, ◌++◌, Option, Some, None, sym, subst}
 use Rattle.std.specs.Prelude.{All, if◌then◌else◌, ⊤}
 use Rattle.std.proofs.lemmas.List.Elements.{All-nil, All-cons}
 use Rattle.list_words.specs.Lists.{Each}
@@ -15,7 +15,7 @@ use Rattle.paxos_defs.specs.Turns.Prepared.{Grant, Refuse}
 use Rattle.paxos_defs.specs.Turns.Taken.{Take, Decline}
 use Rattle.paxos_acceptor.specs.declared.notes.ReplicaNote.{ReplicaNote}
 use Rattle.paxos_acceptor.specs.declared.notes.ReplicaNote.TheVariants as replica
-use Rattle.fields.specs.Spellings.{IsPlace, IsBallot, IsBatch, IsPrior, IsNote}
+use Rattle.fields.specs.Spellings.{IsPlace, IsBallot, IsBatch, IsPrior}
 use Rattle.packet_codec.specs.declared.packet.Packet.{Packet}
 use Rattle.packet_codec.specs.declared.packet.Packet.TheVariants.{Prepare, Accept}
 use Rattle.packet_codec.specs.declared.node.Node.{Node}

@@ -1,6 +1,6 @@
 -- What a replica over its disk stands for.
 use Rattle.std.proofs.Common.{◌≡◌, ◌⊎◌, inl, inr, ⊎_elim, ℕ, ◌+◌, ◌-◌, ◌^◌, ◌≤◌, min, Bool, true, false, List, [], ◌∷◌, ◌++◌, length, Option, Some, None, refl, sym, ap, ◌∙◌, subst, arith, length-append}
-use Rattle.std.specs.Prelude.{All, map, is_some, option_map, Result, Ok, Err, IfOk, OnOk, OnErr}
+use Rattle.std.specs.Prelude.{All, map, is_some, option_map, Result, Ok}
 use Rattle.std.specs.Result.{result_unwrap_or}
 use Rattle.std.proofs.lemmas.List.{map-append}
 use Rattle.std.proofs.lemmas.List.Elements.{All-head, All-tail}
@@ -11,7 +11,7 @@ use Rattle.paxos_acceptor.specs.declared.notes.ReplicaNote.{ReplicaNote}
 use Rattle.paxos_acceptor.specs.declared.notes.ReplicaNote.TheVariants as replica
 use Rattle.paxos_acceptor.specs.Cells.{note_view}
 use Rattle.fields.specs.Spellings.{note, IsNote}
-use Rattle.gate_journal.specs.Gate.{gate_rule, records, StandsFor, IsOldOrNew}
+use Rattle.gate_journal.specs.Gate.{records, StandsFor, IsOldOrNew}
 use Rattle.gate_journal.specs.Opening.{IsOpened}
 use Rattle.gate_journal.specs.declared.journal.JournalState.{JournalState}
 use Rattle.gate_journal.specs.declared.journal.JournalState.TheVariants.{Ready}
@@ -22,12 +22,12 @@ use Rattle.packet_codec.specs.declared.node.Input.TheVariants.{Start, Own, Tick,
 use Rattle.turn_defs.specs.Setting.{Setting}
 use Rattle.turn_defs.specs.Turns.{BallotNote, Note, Advance, Park, Settle, Epoch, Output, Voted, land}
 use Rattle.site_node.specs.Bytes.{record_of, Reads, IsInput, IsJunk}
-use Rattle.site_node.specs.States.{MayTake, row, row_of}
+use Rattle.site_node.specs.States.{MayTake, row_of}
 use Rattle.site_node.specs.declared.roster.Roster.{Roster}
 use Rattle.site_node.specs.Rosters.{IsOf}
 use Rattle.replica_node.specs.Replica.{ReplicaKept, land_replica}
 use Rattle.replica_node.specs.Core.{kept_of, noted}
-use Rattle.replica_node.specs.Node.{ReplicaState, VoterView, Knows, KnowsAs, Fits, IsVoted, vote_record, records_of, counted, framed_note, replica_rows, Holds, HoldsOr, IsRecord, IsOpenAt, StandsAt, StandsBy}
+use Rattle.replica_node.specs.Node.{ReplicaState, VoterView, Knows, KnowsAs, Fits, IsVoted, vote_record, records_of, counted, framed_note, replica_rows, Holds, IsRecord, StandsAt}
 use Rattle.replica_node.proofs.Spelled.{IsRowNote, IsSpelledOut, idle_ok, gets_ok}
 use Rattle.replica_node.proofs.Voters.{views_ok}
 

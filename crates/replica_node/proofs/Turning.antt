@@ -1,5 +1,5 @@
 -- A turn of a replica over its disk, and its restart, as the states' entries.
-use Rattle.std.proofs.Common.{◌≡◌, ◌⊎◌, inl, inr, ⊎_elim, ℕ, ◌+◌, ◌-◌, ◌^◌, ◌≤◌, Bool, true, false, List, [], ◌∷◌, ◌++◌, length, Option, Some, None, refl, sym, ap, ◌∙◌, subst, arith}
+use Rattle.std.proofs.Common.{◌≡◌, inl, inr, ⊎_elim, ℕ, ◌-◌, ◌^◌, ◌≤◌, true, false, List, [], length, Option, Some, None, refl, sym, ap, ◌∙◌, subst, arith}
 use Rattle.std.specs.Prelude.{All, map, is_some, option_map, Result, Ok, Err, IfOk, OnOk, OnErr}
 use Rattle.list_words.specs.Lists.{Each}
 use Rattle.outside.specs.Disk.{Only}
@@ -13,14 +13,14 @@ use Rattle.air_bus.specs.declared.entry.Input.{Input as Bytes}
 use Rattle.air_bus.specs.declared.entry.Entry.TheVariants.{Begin, End, Stop}
 use Rattle.packet_codec.specs.declared.node.Input.{Input}
 use Rattle.turn_defs.specs.Turns.{land}
-use Rattle.site_node.specs.Bytes.{AreSpelled, Reads, IsInput, IsJunk}
-use Rattle.site_node.specs.States.{Leads, MayTake, Stops, row, row_of, written, closes, opens}
+use Rattle.site_node.specs.Bytes.{AreSpelled, Reads, IsJunk}
+use Rattle.site_node.specs.States.{Leads, row, written, closes}
 use Rattle.site_node.specs.declared.roster.Roster.{Roster}
 use Rattle.site_node.specs.Rosters.{IsOf}
 use Rattle.replica_node.specs.Replica.{ReplicaKept, land_replica}
 use Rattle.replica_node.specs.Core.{kept_of, noted, IsRow}
 use Rattle.replica_node.specs.declared.turn.Turn.{Turn}
-use Rattle.replica_node.specs.Node.{ReplicaState, VoterView, Knows, IsVoted, records_of, replica_rows, Holds, HoldsOr, StandsAt}
+use Rattle.replica_node.specs.Node.{ReplicaState, VoterView, Knows, IsVoted, replica_rows, Holds, HoldsOr, StandsAt}
 use Rattle.replica_node.proofs.Spelled.{row_landed_ok}
 use Rattle.replica_node.proofs.Standing.{Apart, down_stands, same_kept, landed_kept, left_of, old_count, new_count, input_ok, up_of, row_ok, noted_bytes, open_bytes, moved}
 

@@ -1,5 +1,5 @@
 -- What a voter knows, and the rows of its turns.
-use Rattle.std.proofs.Common.{◌≡◌, Bool, true, false, List, [], ◌∷◌, Option, Some, None, refl, sym, subst}
+use Rattle.std.proofs.Common.{◌≡◌, Bool, true, false, List, [], ◌∷◌, Option, Some, None, sym, subst}
 use Rattle.std.specs.Prelude.{All, map, IfOk, Result, Ok, Err}
 use Rattle.std.proofs.lemmas.List.Elements.{All-head, All-tail}
 use Rattle.list_words.specs.Lists.{Each}
@@ -10,7 +10,7 @@ use Rattle.fields.specs.Spellings.{IsNote}
 use Rattle.packet_codec.specs.declared.packet.Packet.{Packet}
 use Rattle.packet_codec.specs.declared.node.Node.{Node}
 use Rattle.packet_codec.specs.declared.node.Input.{Input}
-use Rattle.packet_codec.specs.declared.node.Input.TheVariants.{Start, Own, Tick, Deliver}
+use Rattle.packet_codec.specs.declared.node.Input.TheVariants.{Start, Deliver}
 use Rattle.packet_codec.specs.Packets.{IsPacket}
 use Rattle.turn_defs.specs.Setting.{Setting}
 use Rattle.site_node.specs.Bytes.{IsInput}

@@ -1,5 +1,5 @@
 -- A replica over its disk, beside the states that its entries lead through.
-use Rattle.std.specs.Prelude.{◌≡◌, ◌≤◌, ◌+◌, ◌-◌, ◌^◌, min, ℕ, List, [], ◌∷◌, ◌++◌, map, length, Bool, true, false, Option, Some, None}
+use Rattle.std.specs.Prelude.{◌≡◌, ◌≤◌, ◌-◌, ◌^◌, min, ℕ, List, map, length, Bool, true, false, Option, Some, None}
 use Rattle.list_words.specs.Lists.{Each}
 use Rattle.paxos_defs.specs.Notes.Note.{Promised, Accepted}
 use Rattle.paxos_acceptor.specs.declared.notes.ReplicaNote.{ReplicaNote}

@@ -1,4 +1,4 @@
-use Rattle.std.proofs.Common.{◌≡◌, ◌≤◌, ℕ, List, length, [], ◌++◌, sym, ◌∙◌, ap, subst, arith}
+use Rattle.std.proofs.Common.{◌≡◌, ◌≤◌, ℕ, List, length, ◌++◌, sym, ◌∙◌, ap, subst}
 use Rattle.replica_node.proofs.NoteBytes.{note_short}
 use Rattle.fields.specs.Spellings.{note as spelled}
 use Rattle.replica_node.proofs.votes.note_frame.Goals as goal

@@ -1,4 +1,4 @@
-use Rattle.std.proofs.Common.{◌≡◌, ℕ, List, Option, Some, None, sym, ◌∙◌, subst, arith}
+use Rattle.std.proofs.Common.{◌≡◌, ℕ, List, Option, Some, sym, ◌∙◌, subst, arith}
 use Rattle.air_bus.specs.declared.entry.Input.{Input as Bytes}
 use Rattle.site_node.specs.States.{Stops}
 use Rattle.replica_node.specs.Node.{StandsAt, replica_rows}

@@ -1,4 +1,4 @@
-use Rattle.std.proofs.Common.{[], Some, None, refl, ap, sym, subst}
+use Rattle.std.proofs.Common.{[], None, refl, ap, sym, subst}
 use Rattle.std.proofs.lemmas.Result.{IfOk-weaker}
 use Rattle.std.proofs.lemmas.List.Elements.{All-same}
 use Rattle.fields.specs.Spellings.{IsNote}
