@@ -1,1 +1,6 @@
 pub mod Noting
+pub mod NoteBytes
+pub mod Spelled
+pub mod Voters
+pub mod Standing
+pub mod Turning

@@ -5,12 +5,19 @@
 mod answers;
 mod input;
 pub mod laws;
+mod node;
+#[cfg(test)]
+mod node_tests;
 mod replay;
 mod replica_core;
 #[cfg(test)]
 mod tests;
 mod turn;
+mod voter;
+mod votes;
 
 pub use input::ReplicaInput;
+pub use node::ReplicaNode;
 pub use replica_core::ReplicaCore;
 pub use turn::Turn;
+pub use votes::read_votes;

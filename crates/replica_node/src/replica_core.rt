@@ -107,7 +107,7 @@ impl ReplicaCore {
     }
 
     // It comes up with nothing to write or send.
-    fn start(&self, notes: &[ReplicaNote]) -> Result<Turn, AllocError>
+    pub(crate) fn start(&self, notes: &[ReplicaNote]) -> Result<Turn, AllocError>
         ensures turn { IfOk result (λ turn. (g : Setting) (k : ReplicaKept) → IsRow g (replica_start k) turn) }
         ensures next { IfOk result (λ turn. (k : ReplicaKept) → kept_of notes.now ≡ k → GoesOn self.now turn.change k) }
         ensures room { IfOk result (λ turn. HasRoomFor self.now turn.change turn.note) }
@@ -117,7 +117,7 @@ impl ReplicaCore {
     }
 
     // Prepare and Accept have rows; nothing else is answered.
-    fn gets(&mut self, from: Node, packet: &Packet) -> Result<Turn, AllocError>
+    pub(crate) fn gets(&mut self, from: Node, packet: &Packet) -> Result<Turn, AllocError>
         ensures same { (k : ReplicaKept) → Stands self.old k → Stands self.new k }
         ensures turn { IfOk result (λ turn. (g : Setting) (k : ReplicaKept) → Stands self.old k → IsRow g (replica_gets k from packet.now) turn) }
         ensures change { IfOk result (λ turn. turn.change ≡ Stays) }

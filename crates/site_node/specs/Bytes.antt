@@ -53,3 +53,10 @@ Reads g (bytes.Packet from b) i = (n : Node) × (p : Packet) × (node_of g from 
 -- no input is spelled so, or no node has the sender's number
 abbrev pub IsJunk : Setting → Bytes → Type 0
 IsJunk g b = (i : Input) → Reads g b i → ⊥
+
+-- a delivered packet has a spelling
+abbrev pub IsInput : Input → Type 0
+IsInput Start = Unit {0}
+IsInput Own = Unit {0}
+IsInput Tick = Unit {0}
+IsInput (Deliver n p) = IsPacket p

@@ -1,3 +1,4 @@
 pub mod Bytes
 pub mod States
 pub mod Paths
+pub mod Rosters

@@ -10,6 +10,7 @@ ghost use Rattle.air_bus.specs.History.{next_input, phase_after};
 
 use air_bus::{Input, Packets, Payload};
 use outside::{DiskName, Gate};
+use std::alloc::AllocError;
 
 /// Why a turn isn't done, or a node isn't up again. After `Read`, `Spent` and `Memory` of a turn the node and its disks are
 /// as they were, and its turn is open still.
@@ -25,6 +26,17 @@ pub enum NodeFault {
     Spent(u32),
     /// There was no memory. No clause says when.
     Memory,
+}
+
+impl From<AllocError> for NodeFault {
+    ghost use Rattle.std.specs.Prelude.{◌≡◌};
+    ghost use Rattle.site_node.specs.declared.kind.NodeFault.TheVariants.{Memory};
+
+    ghost from_gives = { λ _ e. e ≡ Memory };
+
+    fn from(_: AllocError) -> NodeFault {
+        NodeFault::Memory
+    }
 }
 
 /// A turn that is done: the record that it wrote, which is on its disk, and the packets to send.

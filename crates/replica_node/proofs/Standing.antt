@@ -1,0 +1,232 @@
+-- What a replica over its disk stands for.
+use Rattle.std.proofs.Common.{◌≡◌, ◌⊎◌, inl, inr, ⊎_elim, ℕ, ◌+◌, ◌-◌, ◌^◌, ◌≤◌, min, Bool, true, false, List, [], ◌∷◌, ◌++◌, length, Option, Some, None, refl, sym, ap, ◌∙◌, subst, arith, length-append}
+use Rattle.std.specs.Prelude.{All, map, is_some, option_map, Result, Ok}
+use Rattle.std.specs.Result.{result_unwrap_or}
+use Rattle.std.proofs.lemmas.List.{map-append}
+use Rattle.std.proofs.lemmas.List.Elements.{All-head, All-tail}
+use Rattle.list_words.specs.Lists.{Each}
+use Rattle.outside.specs.Disk.{Only}
+use Rattle.paxos_defs.specs.Notes.Note.{Promised, Accepted}
+use Rattle.paxos_acceptor.specs.declared.notes.ReplicaNote.{ReplicaNote}
+use Rattle.paxos_acceptor.specs.declared.notes.ReplicaNote.TheVariants as replica
+use Rattle.paxos_acceptor.specs.Cells.{note_view}
+use Rattle.fields.specs.Spellings.{note, IsNote}
+use Rattle.gate_journal.specs.Gate.{records, StandsFor, IsOldOrNew}
+use Rattle.gate_journal.specs.Opening.{IsOpened}
+use Rattle.gate_journal.specs.declared.journal.JournalState.{JournalState}
+use Rattle.gate_journal.specs.declared.journal.JournalState.TheVariants.{Ready}
+use Rattle.air_bus.specs.declared.entry.Input.{Input as Bytes}
+use Rattle.air_bus.specs.declared.entry.Input.TheVariants as bytes
+use Rattle.packet_codec.specs.declared.node.Input.{Input}
+use Rattle.packet_codec.specs.declared.node.Input.TheVariants.{Start, Own, Tick, Deliver}
+use Rattle.turn_defs.specs.Setting.{Setting}
+use Rattle.turn_defs.specs.Turns.{BallotNote, Note, Advance, Park, Settle, Epoch, Output, Voted, land}
+use Rattle.site_node.specs.Bytes.{record_of, Reads, IsInput, IsJunk}
+use Rattle.site_node.specs.States.{MayTake, row_of}
+use Rattle.site_node.specs.declared.roster.Roster.{Roster}
+use Rattle.site_node.specs.Rosters.{IsOf}
+use Rattle.replica_node.specs.Replica.{ReplicaKept, land_replica}
+use Rattle.replica_node.specs.Core.{kept_of, noted}
+use Rattle.replica_node.specs.Node.{ReplicaState, VoterView, Knows, KnowsAs, Fits, IsVoted, vote_record, records_of, counted, framed_note, replica_rows, Holds, IsRecord, StandsAt}
+use Rattle.replica_node.proofs.Spelled.{IsRowNote, IsSpelledOut, idle_ok, gets_ok}
+use Rattle.replica_node.proofs.Voters.{views_ok}
+
+pub none_of : {A : Type 0} (o : Option A) → is_some o ≡ false → o ≡ None
+none_of None off = refl
+none_of (Some x) off = absurd (cc off)
+
+pub view_record : (n : ReplicaNote) → vote_record (note_view n) ≡ note n
+view_record (replica.Promised s l b) = refl
+view_record (replica.Accepted s l b v) = refl
+
+views_record : (ns : List ReplicaNote) → map note ns ≡ map vote_record (map note_view ns)
+views_record [] = refl
+views_record (n ∷ ns) = ap (λ (b : List ℕ). b ∷ map note ns) (sym (view_record n)) ∙ ap (λ (bs : List (List ℕ)). vote_record (note_view n) ∷ bs) (views_record ns)
+
+len_map : {A B : Type 0} (f : A → B) (xs : List A) → length (map f xs) ≡ length xs
+len_map f [] = refl
+len_map f (x ∷ xs) = let e = len_map f xs in omega (arith, len_map f xs)
+
+pub rule_records : (rs : List (List ℕ)) (c : List ℕ) → StandsFor rs c → records c ≡ rs
+rule_records rs c stands = ap (λ (r : Result (List (List ℕ)) ℕ). result_unwrap_or r []) stands
+
+abbrev ok_of : List (List ℕ) → Result (List (List ℕ)) ℕ
+ok_of rs = Ok rs
+
+ok_same : (rs ss : List (List ℕ)) → ok_of rs ≡ ok_of ss → rs ≡ ss
+ok_same rs ss e = ap (λ (r : Result (List (List ℕ)) ℕ). result_unwrap_or r []) e
+
+-- ---- one note more
+
+some_first : (f p : List ℕ) (n : ReplicaNote) → Some (f, p) ≡ framed_note (Some n) → f ≡ note n
+some_first f p n e = ap (λ (o : Option (List ℕ × List ℕ)). first_of_pair o) e
+  where
+    first_of_pair : Option (List ℕ × List ℕ) → List ℕ
+    first_of_pair None = []
+    first_of_pair (Some x) = x.0
+
+pub holds_more : (k : ReplicaKept) (n : Option ReplicaNote) (f p : List ℕ) (kept kept' : ℕ) (seen seen' : List ℕ) (image image' : List ℕ → Type 0) (state state' : JournalState) → Some (f, p) ≡ framed_note n → Holds kept seen image state k
+    → state' ≡ Ready → records seen' ≡ records seen ++ f ∷ [] → ((c : List ℕ) → image' c → StandsFor (records seen ++ f ∷ []) c) → kept' ≡ min (kept + 1) (2 ^ 64 - 1) → Holds kept' seen' image' state' (land land_replica (noted n) k)
+holds_more k None f p kept kept' seen seen' image image' state state' e holds ready reads durable count = absurd (cc e)
+holds_more k (Some n) f p kept kept' seen seen' image image' state state' e holds ready reads durable count =
+    let grown : records seen ++ f ∷ [] ≡ map vote_record (k.notes ++ note_view n ∷ []) =
+    ap (λ (rs : List (List ℕ)). rs ++ f ∷ []) holds.reads ∙ ap (λ (b : List ℕ). records_of k ++ b ∷ []) (some_first f p n e ∙ sym (view_record n)) ∙ sym (map-append vote_record k.notes (note_view n ∷ []))
+    in
+    record {
+      ready = ready;
+      reads = reads ∙ grown;
+      durable = λ c is. subst (λ (rs : List (List ℕ)). StandsFor rs c) grown (durable c is);
+      count = let more : length (k.notes ++ note_view n ∷ []) ≡ length k.notes + 1 = length-append k.notes (note_view n ∷ []) in omega (arith, count, holds.count, more);
+    }
+
+-- ---- a node that is down
+
+knows_by : (u : Bool) (v : VoterView) (k : ReplicaKept) → u ≡ false → kept_of v.notes ≡ k → KnowsAs u v.core v.notes k None
+knows_by true v k e is = absurd (cc e)
+knows_by false v k e is = is
+
+pub down_stands : (roster : Roster) (count : ℕ) (seen : List ℕ) (image : List ℕ → Type 0) (state : JournalState) (voter : VoterView) (notes : List ReplicaNote) (k : ReplicaKept) (g : Setting) → IsOf roster g → All IsNote notes → kept_of notes ≡ k → state ≡ Ready
+    → StandsFor (map note notes) seen → Only seen image → count ≡ length notes → count ≤ 2 ^ 64 - 1 → voter.up ≡ false → voter.notes ≡ notes → StandsAt roster None count seen image state voter (record { setting = g; kept = k; live = None; opened = None })
+down_stands roster count seen image state voter notes k g of_g all is ready reads only counts fits down has =
+    subst (λ (x : ReplicaKept). StandsAt roster None count seen image state voter (record { setting = g; kept = x; live = None; opened = None })) is
+    (record {
+      setting = of_g;
+      spelled = views_ok notes all;
+      by = (
+        record {
+          ready = ready;
+          reads = rule_records (map note notes) seen reads ∙ views_record notes;
+          durable = λ c here. subst (λ (rs : List (List ℕ)). StandsFor rs c) (views_record notes) (subst (λ (b : List ℕ). StandsFor (map note notes) b) (sym (only c here)) reads);
+          count = let e = len_map note_view notes in omega (arith, counts, fits, len_map note_view notes);
+        },
+        knows_by voter.up voter (kept_of notes) down (ap kept_of has),
+      );
+    })
+
+-- ---- which notes a disk holds after a stop
+
+abbrev un_view : BallotNote → ReplicaNote
+un_view (Promised at b) = replica.Promised at.shard at.slot b
+un_view (Accepted at b v) = replica.Accepted at.shard at.slot b v
+
+un_record : (x : BallotNote) → vote_record x ≡ note (un_view x)
+un_record (Promised at b) = refl
+un_record (Accepted at b v) = refl
+
+un_is : (x : BallotNote) → IsVoted x → IsNote (un_view x)
+un_is (Promised at b) is = is
+un_is (Accepted at b v) is = is
+
+un_back : (x : BallotNote) → note_view (un_view x) ≡ x
+un_back (Promised at b) = refl
+un_back (Accepted at b v) = refl
+
+abbrev pub Apart : Type 0
+Apart = (v w : ReplicaNote) (s t : List ℕ) → IsNote v → IsNote w → note v ++ s ≡ note w ++ t → v ≡ w
+
+abbrev head_of : List (List ℕ) → List ℕ
+head_of [] = []
+head_of (b ∷ bs) = b
+
+abbrev tail_of : List (List ℕ) → List (List ℕ)
+tail_of [] = []
+tail_of (b ∷ bs) = bs
+
+same_notes : Apart → (ns : List ReplicaNote) (xs : List BallotNote) → All IsNote ns → Each IsVoted xs → map note ns ≡ map vote_record xs → map note_view ns ≡ xs
+same_notes apart [] [] all each e = refl
+same_notes apart [] (x ∷ xs) all each e = absurd (cc e)
+same_notes apart (n ∷ ns) [] all each e = absurd (cc e)
+same_notes apart (n ∷ ns) (x ∷ xs) all each e =
+    let heads : note n ≡ note (un_view x) = ap head_of e ∙ un_record x in
+    let same : n ≡ un_view x = apart n (un_view x) [] [] (All-head IsNote n ns all) (un_is x each.0) (ap (λ (b : List ℕ). b ++ []) heads) in
+    ap (λ (m : ReplicaNote). note_view m ∷ map note_view ns) same ∙ ap (λ (y : BallotNote). y ∷ map note_view ns) (un_back x) ∙ ap (λ (ys : List BallotNote). x ∷ ys) (same_notes apart ns xs (All-tail IsNote n ns all) each.1 (ap tail_of e))
+
+pub same_kept : Apart → (ns : List ReplicaNote) (k : ReplicaKept) → All IsNote ns → Each IsVoted k.notes → map note ns ≡ records_of k → kept_of ns ≡ k
+same_kept apart ns k all each e = ap (λ (xs : List BallotNote). record { notes = xs }) (same_notes apart ns k.notes all each e)
+
+each_last : (xs : List BallotNote) (x : BallotNote) → Each IsVoted xs → IsVoted x → Each IsVoted (xs ++ x ∷ [])
+each_last [] x all is = (is, tt)
+each_last (y ∷ xs) x all is = (all.0, each_last xs x all.1 is)
+
+some_bytes : (r s : List ℕ) → Some r ≡ Some s → r ≡ s
+some_bytes r s e = ap (λ (o : Option (List ℕ)). bytes_in o) e
+  where
+    bytes_in : Option (List ℕ) → List ℕ
+    bytes_in None = []
+    bytes_in (Some b) = b
+
+pub landed_kept : Apart → (ns : List ReplicaNote) (k : ReplicaKept) (r : List ℕ) (o : Option Note) → All IsNote ns → Each IsVoted k.notes → IsRowNote o → Some r ≡ option_map record_of o → map note ns ≡ records_of k ++ r ∷ [] → kept_of ns ≡ land land_replica o k
+landed_kept apart ns k r None all each is e reads = absurd (cc e)
+landed_kept apart ns k r (Some (Voted x)) all each is e reads =
+    same_kept apart ns (record { notes = k.notes ++ x ∷ [] }) all (each_last k.notes x each is)
+    (reads ∙ ap (λ (b : List ℕ). records_of k ++ b ∷ []) (some_bytes r (vote_record x) e) ∙ sym (map-append vote_record k.notes (x ∷ [])))
+landed_kept apart ns k r (Some (Advance p)) all each is e reads = absurd is
+landed_kept apart ns k r (Some (Park p)) all each is e reads = absurd is
+landed_kept apart ns k r (Some (Settle p)) all each is e reads = absurd is
+landed_kept apart ns k r (Some (Epoch p)) all each is e reads = absurd is
+landed_kept apart ns k r (Some (Output p)) all each is e reads = absurd is
+
+-- the disk holds the kept notes, or those and the open one
+pub left_of : (ns : List ReplicaNote) (k : ReplicaKept) (r seen : List ℕ) (image : List ℕ → Type 0) → ((c : List ℕ) → image c → IsOldOrNew (records_of k) r c) → IsOpened image seen → StandsFor (map note ns) seen
+    → (map note ns ≡ records_of k) ⊎ (map note ns ≡ records_of k ++ r ∷ [])
+left_of ns k r seen image images opened reads =
+    ⊎_elim (λ old. inl (ok_same (map note ns) (records_of k) (sym reads ∙ opened.2 ∙ old))) (λ new. inr (ok_same (map note ns) (records_of k ++ r ∷ []) (sym reads ∙ opened.2 ∙ new))) (images opened.0 opened.1)
+
+pub old_count : (ns : List ReplicaNote) (k : ReplicaKept) (kept count : ℕ) → map note ns ≡ records_of k → kept ≡ counted k → count ≡ length ns → count ≤ 2 ^ 64 - 1 → count ≡ kept
+old_count ns k kept count e counts is fits =
+    let lens : length (map note ns) ≡ length (map vote_record k.notes) = ap length e in omega (arith, lens, len_map note ns, len_map vote_record k.notes, counts, is, fits)
+
+pub new_count : (ns : List ReplicaNote) (k : ReplicaKept) (r : List ℕ) (kept count : ℕ) → map note ns ≡ records_of k ++ r ∷ [] → kept ≡ counted k → count ≡ length ns → count ≤ 2 ^ 64 - 1 → count ≡ kept + 1
+new_count ns k r kept count e counts is fits =
+    let lens : length (map note ns) ≡ length (map vote_record k.notes) + 1 = ap length e ∙ length-append (map vote_record k.notes) (r ∷ []) in omega (arith, lens, len_map note ns, len_map vote_record k.notes, counts, is, fits)
+
+-- ---- inputs and rows
+
+pub input_ok : (g : Setting) (b : Bytes) (i : Input) → Reads g b i → IsInput i
+input_ok g bytes.Start i reads = subst IsInput (sym reads) tt
+input_ok g bytes.Own i reads = subst IsInput (sym reads) tt
+input_ok g bytes.Tick i reads = subst IsInput (sym reads) tt
+input_ok g (bytes.Packet from p) i reads = subst IsInput (sym reads.5) reads.3
+
+pub fits_of : (g : Setting) (live : Option (Unit {0})) (b : Bytes) (i : Input) → Reads g b i → MayTake live b → Fits live i
+fits_of g None bytes.Start i reads may = subst (Fits None) (sym reads) tt
+fits_of g None bytes.Own i reads may = absurd may
+fits_of g None bytes.Tick i reads may = absurd may
+fits_of g None (bytes.Packet from p) i reads may = absurd may
+fits_of g (Some l) bytes.Start i reads may = absurd may
+fits_of g (Some l) bytes.Own i reads may = subst (Fits (Some l)) (sym reads) tt
+fits_of g (Some l) bytes.Tick i reads may = subst (Fits (Some l)) (sym reads) tt
+fits_of g (Some l) (bytes.Packet from p) i reads may = subst (Fits (Some l)) (sym reads.5) tt
+
+pub up_of : (g : Setting) (live : Option (Unit {0})) (b : Bytes) → MayTake live b → IsJunk g b → live ≡ Some tt
+up_of g None bytes.Start may junk = absurd (junk Start refl)
+up_of g None bytes.Own may junk = absurd may
+up_of g None bytes.Tick may junk = absurd may
+up_of g None (bytes.Packet from p) may junk = absurd may
+up_of g (Some l) b may junk = refl
+
+pub row_ok : (g : Setting) (k : ReplicaKept) (live : Option (Unit {0})) (i : Input) → Each IsVoted k.notes → IsInput i → IsSpelledOut (row_of replica_rows g k live i)
+row_ok g k None i all is = idle_ok
+row_ok g k (Some l) Start all is = idle_ok
+row_ok g k (Some l) Own all is = idle_ok
+row_ok g k (Some l) Tick all is = idle_ok
+row_ok g k (Some l) (Deliver from p) all is = gets_ok k from p all is
+
+pub noted_bytes : (o : Option ReplicaNote) → option_map note o ≡ option_map record_of (noted o)
+noted_bytes None = refl
+noted_bytes (Some n) = ap (λ (b : List ℕ). Some b) (sym (view_record n))
+
+pub open_bytes : (o : Option ReplicaNote) (r : List ℕ) → IsRecord o r → Some r ≡ option_map record_of (noted o)
+open_bytes None r is = absurd is
+open_bytes (Some n) r is = ap (λ (b : List ℕ). Some b) (is ∙ sym (view_record n))
+
+-- a node with no note in doubt stands at each state of this setting, these notes and this knowledge
+pub moved : (roster : Roster) (doubt : Option (List ℕ)) (kept : ℕ) (seen : List ℕ) (image : List ℕ → Type 0) (state : JournalState) (voter : VoterView) (s : ReplicaState) (o : Option Bytes) → doubt ≡ None → StandsAt roster doubt kept seen image state voter s
+    → StandsAt roster doubt kept seen image state voter (record { setting = s.setting; kept = s.kept; live = s.live; opened = o })
+moved roster None kept seen image state voter s o none at = record { setting = at.setting; spelled = at.spelled; by = at.by }
+moved roster (Some r) kept seen image state voter s o none at = absurd (cc none)
+
+pub quiet : (roster : Roster) (doubt : Option (List ℕ)) (kept : ℕ) (seen : List ℕ) (image : List ℕ → Type 0) (state : JournalState) (voter : VoterView) (s : ReplicaState) → doubt ≡ None → StandsAt roster doubt kept seen image state voter s
+    → Holds kept seen image state s.kept × Knows voter s.kept s.live
+quiet roster None kept seen image state voter s none at = at.by
+quiet roster (Some r) kept seen image state voter s none at = absurd (cc none)

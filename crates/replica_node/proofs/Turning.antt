@@ -1,0 +1,137 @@
+-- A turn of a replica over its disk, and its restart, as the states' entries.
+use Rattle.std.proofs.Common.{◌≡◌, inl, inr, ⊎_elim, ℕ, ◌-◌, ◌^◌, ◌≤◌, true, false, List, [], length, Option, Some, None, refl, sym, ap, ◌∙◌, subst, arith}
+use Rattle.std.specs.Prelude.{All, map, is_some, option_map, Result, Ok, Err, IfOk, OnOk, OnErr}
+use Rattle.list_words.specs.Lists.{Each}
+use Rattle.outside.specs.Disk.{Only}
+use Rattle.paxos_acceptor.specs.declared.notes.ReplicaNote.{ReplicaNote}
+use Rattle.fields.specs.Spellings.{note, IsNote}
+use Rattle.gate_journal.specs.Gate.{StandsFor}
+use Rattle.gate_journal.specs.Opening.{IsOpened}
+use Rattle.gate_journal.specs.declared.journal.JournalState.{JournalState}
+use Rattle.gate_journal.specs.declared.journal.JournalState.TheVariants.{Ready}
+use Rattle.air_bus.specs.declared.entry.Input.{Input as Bytes}
+use Rattle.air_bus.specs.declared.entry.Entry.TheVariants.{Begin, End, Stop}
+use Rattle.packet_codec.specs.declared.node.Input.{Input}
+use Rattle.turn_defs.specs.Turns.{land}
+use Rattle.site_node.specs.Bytes.{AreSpelled, Reads, IsJunk}
+use Rattle.site_node.specs.States.{Leads, row, written, closes}
+use Rattle.site_node.specs.declared.roster.Roster.{Roster}
+use Rattle.site_node.specs.Rosters.{IsOf}
+use Rattle.replica_node.specs.Replica.{ReplicaKept, land_replica}
+use Rattle.replica_node.specs.Core.{kept_of, noted, IsRow}
+use Rattle.replica_node.specs.declared.turn.Turn.{Turn}
+use Rattle.replica_node.specs.Node.{ReplicaState, VoterView, Knows, IsVoted, replica_rows, Holds, HoldsOr, StandsAt}
+use Rattle.replica_node.proofs.Spelled.{row_landed_ok}
+use Rattle.replica_node.proofs.Standing.{Apart, down_stands, same_kept, landed_kept, left_of, old_count, new_count, input_ok, up_of, row_ok, noted_bytes, open_bytes, moved}
+
+pub all_five : {T E : Type 0} (r : Result T E) (A B Q : T → Type 0) (C D F : Type 0) → IfOk r A → IfOk r B → OnOk r C → OnOk r D → OnOk r F → ((x : T) → A x → B x → C → D → F → Q x) → IfOk r Q
+all_five (Ok x) A B Q C D F a b c d f go = go x a b c d f
+all_five (Err e) A B Q C D F a b c d f go = tt
+
+pub both_err : {T E : Type 0} (r : Result T E) (A B Q : Type 0) → OnErr r A → OnErr r B → (A → B → Q) → OnErr r Q
+both_err (Ok x) A B Q a b go = tt
+both_err (Err e) A B Q a b go = go a b
+
+-- what no packet spells changes nothing
+pub idles : (roster : Roster) (doubt : Option (List ℕ)) (kept : ℕ) (seen : List ℕ) (image : List ℕ → Type 0) (state : JournalState) (voter : VoterView) (s t : ReplicaState) (n : ℕ) (b : Bytes) (ps : List (ℕ × List ℕ)) (sent : ℕ) → doubt ≡ None → StandsAt roster doubt kept seen image state voter s
+    → Leads replica_rows s (Begin n b) t → IsJunk s.setting b → ps ≡ [] → sent ≤ length ps → (u : ReplicaState) × Leads replica_rows t (End n None ps sent) u × StandsAt roster doubt kept seen image state voter u
+idles roster doubt kept seen image state voter s t n b ps sent none at led junk empty le =
+    let up = up_of s.setting s.live b led.1 junk in (
+      record { setting = s.setting; kept = s.kept; live = s.live; opened = None },
+      subst (λ (x : ReplicaState). Leads replica_rows x (End n None ps sent) (record { setting = s.setting; kept = s.kept; live = s.live; opened = None })) (sym led.2)
+          (b, refl, le, inr (record { junk = junk; no_note = refl; no_packets = empty; knows = tt; up = up; state = ap (λ (l : Option (Unit {0})). record { setting = s.setting; kept = s.kept; live = l; opened = None }) up })),
+      moved roster doubt kept seen image state voter s None none at,
+    )
+
+-- a turn that is done
+pub ends : (roster roster' : Roster) (doubt doubt' : Option (List ℕ)) (kept kept' : ℕ) (seen seen' : List ℕ) (image image' : List ℕ → Type 0) (state state' : JournalState) (voter voter' : VoterView) (s t : ReplicaState) (n : ℕ) (b : Bytes) (i : Input) (turn : Turn) (said : Option (List ℕ)) (ps ready : List (ℕ × List ℕ)) (sent : ℕ)
+    → StandsAt roster doubt kept seen image state voter s → Leads replica_rows s (Begin n b) t → roster' ≡ roster → Reads s.setting b i → IsRow s.setting (row replica_rows s i) turn → AreSpelled turn.packets.items ready
+    → said ≡ option_map note turn.note → ps ≡ ready → doubt' ≡ None → Knows voter' (land land_replica (noted turn.note) s.kept) (Some tt) → Holds kept' seen' image' state' (land land_replica (noted turn.note) s.kept) → sent ≤ length ps
+    → (u : ReplicaState) × Leads replica_rows t (End n said ps sent) u × StandsAt roster' doubt' kept' seen' image' state' voter' u
+ends roster roster' doubt doubt' kept kept' seen seen' image image' state state' voter voter' s t n b i turn said ps ready sent at led same reads is spelled said_is ps_is none knows holds le =
+    let out = row replica_rows s i in
+    let k = land land_replica out.note s.kept in
+    let u : ReplicaState = record { setting = s.setting; kept = k; live = Some out.live; opened = None } in (
+      u,
+      subst (λ (x : ReplicaState). Leads replica_rows x (End n said ps sent) u) (sym led.2) (
+        b,
+        refl,
+        le,
+        inl (
+          i,
+          reads,
+          record {
+            noted = said_is ∙ noted_bytes turn.note ∙ ap (option_map _) is.note;
+            packets = turn.packets.items;
+            spelled = subst (AreSpelled turn.packets.items) (sym ps_is) spelled;
+            sent = is.packets;
+            state = refl;
+          },
+        ),
+      ),
+      subst (λ (d : Option (List ℕ)). StandsAt roster' d kept' seen' image' state' voter' u) (sym none)
+          (record {
+            setting = subst (λ (r : Roster). IsOf r s.setting) (sym same) at.setting;
+            spelled = row_landed_ok s.kept out.note at.spelled (row_ok s.setting s.kept s.live i at.spelled (input_ok s.setting b i reads)).note;
+            by = (
+              subst (λ (x : ReplicaKept). Holds kept' seen' image' state' x) (ap (λ o. land land_replica o s.kept) is.note) holds,
+              subst (λ (x : ReplicaKept). Knows voter' x (Some tt)) (ap (λ o. land land_replica o s.kept) is.note) knows,
+            );
+          }),
+    )
+
+-- a turn that isn't done is open still
+pub stays_open : (roster roster' : Roster) (doubt' : Option (List ℕ)) (kept kept' : ℕ) (seen' : List ℕ) (image' : List ℕ → Type 0) (state' : JournalState) (voter' : VoterView) (s t : ReplicaState) (n : ℕ) (b : Bytes) (i : Input) (turn : Turn)
+    → IsOf roster s.setting → Each IsVoted s.kept.notes → Leads replica_rows s (Begin n b) t → roster' ≡ roster → Reads s.setting b i → IsRow s.setting (row replica_rows s i) turn → Knows voter' s.kept s.live → HoldsOr doubt' turn.note kept' seen' image' state' s.kept
+    → StandsAt roster' doubt' kept' seen' image' state' voter' t
+stays_open roster roster' None kept kept' seen' image' state' voter' s t n b i turn of_s spelled led same reads is knows holds =
+    subst (λ (x : ReplicaState). StandsAt roster' None kept' seen' image' state' voter' x) (sym led.2)
+    (record { setting = subst (λ (r : Roster). IsOf r s.setting) (sym same) of_s; spelled = spelled; by = (holds, knows) })
+stays_open roster roster' (Some r) kept kept' seen' image' state' voter' s t n b i turn of_s spelled led same reads is knows holds =
+    subst (λ (x : ReplicaState). StandsAt roster' (Some r) kept' seen' image' state' voter' x) (sym led.2)
+    (record {
+      setting = subst (λ (x : Roster). IsOf x s.setting) (sym same) of_s;
+      spelled = spelled;
+      by = (holds.0, record { begun = b; opened = refl; input = i; reads = reads; noted = open_bytes turn.note r holds.1 ∙ ap (option_map _) is.note });
+    })
+
+-- what is found after a stop
+pub record Found (roster' : Roster) (count : ℕ) (seen' : List ℕ) (image image' : List ℕ → Type 0) (state' : JournalState) (voter' : VoterView) (notes : List ReplicaNote) : Type 0 where
+  pub apart : Apart
+  pub all : All IsNote notes
+  pub reads : StandsFor (map note notes) seen'
+  pub opened : IsOpened image seen'
+  pub ready : state' ≡ Ready
+  pub only : Only seen' image'
+  pub down : voter'.up ≡ false
+  pub has : voter'.notes ≡ notes
+  pub counts : count ≡ length notes
+  pub fits : count ≤ 2 ^ 64 - 1
+
+module _ (roster roster' : Roster) (kept count : ℕ) (seen seen' : List ℕ) (image image' : List ℕ → Type 0) (state state' : JournalState) (voter voter' : VoterView) (notes : List ReplicaNote) (s : ReplicaState) (found : Found roster' count seen' image image' state' voter' notes) (same : roster' ≡ roster) where
+  downs : (k : ReplicaKept) → IsOf roster s.setting → kept_of notes ≡ k → StandsAt roster' None count seen' image' state' voter' (closes s k None)
+  downs k of_s is = down_stands roster' count seen' image' state' voter' notes k s.setting (subst (λ (r : Roster). IsOf r s.setting) (sym same) of_s) found.all is found.ready found.reads found.only found.counts found.fits found.down found.has
+
+  pub nothing_landed : (doubt : Option (List ℕ)) (n : ℕ) → is_some doubt ≡ true → StandsAt roster doubt kept seen image state voter s → count ≡ kept → (u : ReplicaState) × Leads replica_rows s (Stop n None) u × StandsAt roster' None count seen' image' state' voter' u
+  nothing_landed None n waits at not_landed = absurd (cc waits)
+  nothing_landed (Some r) n waits at not_landed =
+      let open_at = at.by.1 in
+      let is : kept_of notes ≡ s.kept =
+      ⊎_elim (λ old. same_kept found.apart notes s.kept found.all at.spelled old)
+      (λ new. absurd (omega (arith, not_landed, new_count notes s.kept r kept count new at.by.0.count found.counts found.fits)))
+      (left_of notes s.kept r seen' image at.by.0.images found.opened found.reads)
+      in
+      (closes s s.kept None, (open_at.begun, open_at.opened, inl (refl, refl)), downs s.kept at.setting is)
+
+  pub note_landed : (doubt : Option (List ℕ)) (n : ℕ) → is_some doubt ≡ true → StandsAt roster doubt kept seen image state voter s → (count ≡ kept → ⊥) → (u : ReplicaState) × Leads replica_rows s (Stop n doubt) u × StandsAt roster' None count seen' image' state' voter' u
+  note_landed None n waits at landed = absurd (cc waits)
+  note_landed (Some r) n waits at landed =
+      let open_at = at.by.1 in
+      let i = open_at.input in
+      let k = written replica_rows s i in
+      let is : kept_of notes ≡ k =
+      ⊎_elim (λ old. absurd (landed (old_count notes s.kept kept count old at.by.0.count found.counts found.fits)))
+      (λ new. landed_kept found.apart notes s.kept r (row replica_rows s i).note found.all at.spelled (row_ok s.setting s.kept s.live i at.spelled (input_ok s.setting open_at.begun i open_at.reads)).note open_at.noted new)
+      (left_of notes s.kept r seen' image at.by.0.images found.opened found.reads)
+      in
+      (closes s k None, (open_at.begun, open_at.opened, inr (i, open_at.reads, open_at.noted, refl)), downs k at.setting is)

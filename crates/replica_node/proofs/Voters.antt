@@ -1,0 +1,63 @@
+-- What a voter knows, and the rows of its turns.
+use Rattle.std.proofs.Common.{◌≡◌, Bool, true, false, List, [], ◌∷◌, Option, Some, None, sym, subst}
+use Rattle.std.specs.Prelude.{All, map, IfOk, Result, Ok, Err}
+use Rattle.std.proofs.lemmas.List.Elements.{All-head, All-tail}
+use Rattle.list_words.specs.Lists.{Each}
+use Rattle.paxos_acceptor.specs.declared.notes.ReplicaNote.{ReplicaNote}
+use Rattle.paxos_acceptor.specs.declared.notes.ReplicaNote.TheVariants.{Promised, Accepted}
+use Rattle.paxos_acceptor.specs.Cells.{note_view}
+use Rattle.fields.specs.Spellings.{IsNote}
+use Rattle.packet_codec.specs.declared.packet.Packet.{Packet}
+use Rattle.packet_codec.specs.declared.node.Node.{Node}
+use Rattle.packet_codec.specs.declared.node.Input.{Input}
+use Rattle.packet_codec.specs.declared.node.Input.TheVariants.{Start, Deliver}
+use Rattle.packet_codec.specs.Packets.{IsPacket}
+use Rattle.turn_defs.specs.Setting.{Setting}
+use Rattle.site_node.specs.Bytes.{IsInput}
+use Rattle.site_node.specs.States.{row_of}
+use Rattle.replica_node.specs.Replica.{ReplicaKept, replica_start, replica_gets}
+use Rattle.replica_node.specs.Core.{IsRow, Stands}
+use Rattle.replica_node.specs.declared.replica_core.ReplicaCore.{ReplicaCore}
+use Rattle.replica_node.specs.declared.turn.Turn.{Turn}
+use Rattle.replica_node.specs.Node.{VoterView, Knows, KnowsAs, Fits, IsVoted, replica_rows}
+
+pub both : {T E : Type 0} (r : Result T E) (P Q : T → Type 0) → IfOk r P → IfOk r Q → IfOk r (λ x. P x × Q x)
+both (Ok x) P Q p q = (p, q)
+both (Err e) P Q p q = tt
+
+pub start_row : (i : Input) (g : Setting) (k : ReplicaKept) (live : Option (Unit {0})) (turn : Turn) → i ≡ Start → Fits live i → IsRow g (replica_start k) turn → IsRow g (row_of replica_rows g k live i) turn
+start_row i g k live turn e fits row = subst (λ (j : Input). Fits live j → IsRow g (row_of replica_rows g k live j) turn) (sym e) (go live) fits
+  where
+    go : (l : Option (Unit {0})) → Fits l Start → IsRow g (row_of replica_rows g k l Start) turn
+    go None f = row
+    go (Some l) f = absurd f
+
+up_by : (u : Bool) (core : ReplicaCore) (notes : List ReplicaNote) (k : ReplicaKept) (l : Unit {0}) → KnowsAs u core notes k (Some l) → Stands core k
+up_by true core notes k l knows = knows
+up_by false core notes k l knows = absurd knows
+
+-- a packet comes to a replica that is up
+pub up_at : (v : VoterView) (i : Input) (from : Node) (p : Packet) (k : ReplicaKept) (live : Option (Unit {0})) → i ≡ Deliver from p → Fits live i → Knows v k live → Stands v.core k
+up_at v i from p k live e fits knows = subst (λ (j : Input). Fits live j → Stands v.core k) (sym e) (go live knows) fits
+  where
+    go : (l : Option (Unit {0})) → Knows v k l → Fits l (Deliver from p) → Stands v.core k
+    go None kn f = absurd f
+    go (Some l) kn f = up_by v.up v.core v.notes k l kn
+
+pub gets_row : (i : Input) (from : Node) (p : Packet) (g : Setting) (k : ReplicaKept) (live : Option (Unit {0})) (turn : Turn) → i ≡ Deliver from p → Fits live i → IsRow g (replica_gets k from p) turn → IsRow g (row_of replica_rows g k live i) turn
+gets_row i from p g k live turn e fits row = subst (λ (j : Input). Fits live j → IsRow g (row_of replica_rows g k live j) turn) (sym e) (go live) fits
+  where
+    go : (l : Option (Unit {0})) → Fits l (Deliver from p) → IsRow g (row_of replica_rows g k l (Deliver from p)) turn
+    go None f = absurd f
+    go (Some l) f = row
+
+pub is_packet : (i : Input) (from : Node) (p : Packet) → i ≡ Deliver from p → IsInput i → IsPacket p
+is_packet i from p e is = subst IsInput e is
+
+view_ok : (n : ReplicaNote) → IsNote n → IsVoted (note_view n)
+view_ok (Promised s l b) is = is
+view_ok (Accepted s l b v) is = is
+
+pub views_ok : (ns : List ReplicaNote) → All IsNote ns → Each IsVoted (map note_view ns)
+views_ok [] all = tt
+views_ok (n ∷ ns) all = (view_ok n (All-head IsNote n ns all), views_ok ns (All-tail IsNote n ns all))

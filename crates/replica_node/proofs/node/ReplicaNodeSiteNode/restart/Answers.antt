@@ -1,0 +1,64 @@
+use Rattle.std.proofs.Common.{◌≡◌, ℕ, List, Option, Some, sym, ◌∙◌, subst, arith}
+use Rattle.air_bus.specs.declared.entry.Input.{Input as Bytes}
+use Rattle.site_node.specs.States.{Stops}
+use Rattle.replica_node.specs.Node.{StandsAt, replica_rows}
+use Rattle.replica_node.proofs.Turning.{Found, nothing_landed, note_landed}
+use Rattle.replica_node.proofs.node.ReplicaNodeSiteNode.restart.Goals as goal
+
+pub returns-then-landed-clause-stopped : goal.returns-then-landed-clause-stopped
+returns-then-landed-clause-stopped g c tells s at =
+    let old = c.args.self.now in
+    let new = c.reread.new.self in
+    let e = c.in_ok-notes.ensures in
+    let notes = c.in_ok-notes.notes in
+    let seen = g.D.Disk.seen new.journal.disk in
+    let image = g.D.Disk.image new.journal.disk in
+    let was = g.D.Disk.image old.journal.disk in
+    let found : Found new.roster c.len-count.result seen was image new.journal.state c.new.result notes.items =
+    record {
+      apart = c.told_apart.ensures;
+      all = e.notes;
+      reads = e.reads tells;
+      opened = e.images tells seen (e.seen tells);
+      ready = e.ready;
+      only = (new.journal.settled tells e.ready).durable;
+      down = c.new.ensures.down;
+      has = c.new.ensures.notes;
+      counts = omega (arith, c.len-count.ensures, notes.ok);
+      fits = omega (arith, c.len-count.ensures, notes.ok);
+    }
+    in
+    let done = note_landed old.roster new.roster old.kept c.len-count.result (g.D.Disk.seen old.journal.disk) seen was image old.journal.state new.journal.state old.voter c.new.result notes.items s found e.same.1 old.in_doubt 0 c.requires at (λ is. c.if-landed.true (is ∙ sym e.same.3)) in (
+      done.0,
+      subst (λ (d : Option (List ℕ)). (b : Bytes) × (s.opened ≡ Some b) × Stops replica_rows s b d done.0) (sym (c.take-landed_record.ensures.value ∙ e.same.4)) done.1,
+      subst (λ (d : Option (List ℕ)). StandsAt new.roster d c.len-count.result seen image new.journal.state c.new.result done.0) (sym c.take-landed_record.ensures.after) done.2,
+    )
+
+pub returns-else-landed-clause-stopped : goal.returns-else-landed-clause-stopped
+returns-else-landed-clause-stopped g c tells s at =
+    let old = c.args.self.now in
+    let new = c.reread.new.self in
+    let e = c.in_ok-notes.ensures in
+    let notes = c.in_ok-notes.notes in
+    let seen = g.D.Disk.seen new.journal.disk in
+    let image = g.D.Disk.image new.journal.disk in
+    let was = g.D.Disk.image old.journal.disk in
+    let found : Found new.roster c.len-count.result seen was image new.journal.state c.new.result notes.items =
+    record {
+      apart = c.told_apart.ensures;
+      all = e.notes;
+      reads = e.reads tells;
+      opened = e.images tells seen (e.seen tells);
+      ready = e.ready;
+      only = (new.journal.settled tells e.ready).durable;
+      down = c.new.ensures.down;
+      has = c.new.ensures.notes;
+      counts = omega (arith, c.len-count.ensures, notes.ok);
+      fits = omega (arith, c.len-count.ensures, notes.ok);
+    }
+    in
+    let done = nothing_landed old.roster new.roster old.kept c.len-count.result (g.D.Disk.seen old.journal.disk) seen was image old.journal.state new.journal.state old.voter c.new.result notes.items s found e.same.1 old.in_doubt 0 c.requires at (c.if-landed.false ∙ e.same.3) in (
+      done.0,
+      done.1,
+      subst (λ (d : Option (List ℕ)). StandsAt new.roster d c.len-count.result seen image new.journal.state c.new.result done.0) (sym c.take-landed_record.ensures.after) done.2,
+    )

@@ -1,0 +1,19 @@
+use Rattle.std.proofs.lemmas.List.Elements.{All-nil, All-same}
+use Rattle.std.proofs.Common.{[], ap, subst, sym}
+use Rattle.fields.specs.Spellings.{IsNote}
+use Rattle.turn_defs.specs.Turns.{land}
+use Rattle.replica_node.specs.Replica.{land_replica}
+use Rattle.replica_node.specs.Core.{noted, GoesOn}
+use Rattle.replica_node.specs.Node.{VoterView}
+use Rattle.replica_node.specs.declared.replica_core.ReplicaCore.{ReplicaCore}
+use Rattle.replica_node.proofs.Spelled.{landed_ok}
+use Rattle.replica_node.proofs.voter.Voter.keep.Goals as goal
+
+pub invariant_of-self : goal.invariant_of-self
+invariant_of-self c =
+    let so = c.requires.spelled in
+    let turn = c.args.turn in
+    let goes = subst (λ (core : ReplicaCore). GoesOn core turn.change so.kept) (ap (λ (v : VoterView). v.core) (sym c.self.view_is)) so.goes_on in (
+      record { kept = land land_replica (noted turn.note) so.kept; stands = c.keep.ensures so.kept goes; spelled = landed_ok so.kept turn.note so.spelled so.note },
+      All-same IsNote c.new.result.items [] c.new.ensures.items (All-nil IsNote),
+    )

@@ -1,0 +1,156 @@
+-- A replica over its disk, beside the states that its entries lead through.
+use Rattle.std.specs.Prelude.{◌≡◌, ◌≤◌, ◌-◌, ◌^◌, min, ℕ, List, map, length, Bool, true, false, Option, Some, None}
+use Rattle.list_words.specs.Lists.{Each}
+use Rattle.paxos_defs.specs.Notes.Note.{Promised, Accepted}
+use Rattle.paxos_acceptor.specs.declared.notes.ReplicaNote.{ReplicaNote}
+use Rattle.fields.specs.Spellings.{IsPlace, IsBallot, IsBatch, note, IsNote}
+use Rattle.gate_journal.specs.Gate.{records, StandsFor, IsOldOrNew}
+use Rattle.gate_journal.specs.Disk.{HasRoom}
+use Rattle.gate_journal.specs.declared.journal.JournalState.{JournalState}
+use Rattle.gate_journal.specs.declared.journal.JournalState.TheVariants.{Ready}
+use Rattle.air_bus.specs.declared.entry.Input.{Input as Bytes}
+use Rattle.packet_codec.specs.declared.node.Input.{Input}
+use Rattle.packet_codec.specs.declared.node.Input.TheVariants.{Start, Own, Tick, Deliver}
+use Rattle.turn_defs.specs.Setting.{Setting}
+use Rattle.turn_defs.specs.Turns.{BallotNote, Voted}
+use Rattle.site_node.specs.Bytes.{record_of, IsNoted, AreSpelled, Reads}
+use Rattle.site_node.specs.States.{State, Rows, row}
+use Rattle.site_node.specs.declared.roster.Roster.{Roster}
+use Rattle.site_node.specs.Rosters.{IsOf}
+use Rattle.replica_node.specs.Replica.{ReplicaKept, replica_start, replica_turn, land_replica}
+use Rattle.replica_node.specs.Core.{Stands, GoesOn, HasRoomFor, kept_of}
+use Rattle.replica_node.specs.declared.turn.Turn.{Turn}
+use Rattle.replica_node.specs.declared.turn.Change.{Change}
+use Rattle.replica_node.specs.declared.replica_core.ReplicaCore.{ReplicaCore}
+
+-- the rows of a replica as those of a kind of node
+abbrev pub replica_rows : Rows ReplicaKept (Unit {0})
+replica_rows = record { start = replica_start; turn = λ g k l i. replica_turn k i; lands = land_replica }
+
+abbrev pub ReplicaState : Type 0
+ReplicaState = State ReplicaKept (Unit {0})
+
+-- the parts of a note have spellings
+abbrev pub IsVoted : BallotNote → Type 0
+IsVoted (Promised at b) = IsPlace at × IsBallot b
+IsVoted (Accepted at b v) = IsPlace at × IsBallot b × IsBatch v
+
+abbrev pub IsNotedSo : Option ReplicaNote → Type 0
+IsNotedSo None = Unit {0}
+IsNotedSo (Some n) = IsNote n
+
+-- the records of the kept notes
+abbrev pub vote_record : BallotNote → List ℕ
+vote_record n = record_of (Voted n)
+
+abbrev pub records_of : ReplicaKept → List (List ℕ)
+records_of k = map vote_record k.notes
+
+-- what contracts see of a voter
+pub record VoterView : Type 0 where
+  pub core : ReplicaCore
+  pub notes : List ReplicaNote
+  pub up : Bool
+
+-- up, its core stands for what the disk holds; down, its notes are those
+abbrev pub KnowsAs : Bool → ReplicaCore → List ReplicaNote → ReplicaKept → Option (Unit {0}) → Type 0
+KnowsAs true core notes k (Some l) = Stands core k
+KnowsAs true core notes k None = ⊥
+KnowsAs false core notes k (Some l) = ⊥
+KnowsAs false core notes k None = kept_of notes ≡ k
+
+abbrev pub Knows : VoterView → ReplicaKept → Option (Unit {0}) → Type 0
+Knows v k live = KnowsAs v.up v.core v.notes k live
+
+-- a node that is down takes Start, and one that is up doesn't
+abbrev pub Fits : Option (Unit {0}) → Input → Type 0
+Fits None Start = Unit {0}
+Fits None Own = ⊥
+Fits None Tick = ⊥
+Fits None (Deliver n p) = ⊥
+Fits (Some l) Start = ⊥
+Fits (Some l) Own = Unit {0}
+Fits (Some l) Tick = Unit {0}
+Fits (Some l) (Deliver n p) = Unit {0}
+
+-- there are notes with spellings that the core stands for
+pub record IsSpelledCore (core : ReplicaCore) : Type 0 where
+  pub kept : ReplicaKept
+  pub stands : Stands core kept
+  pub spelled : Each IsVoted kept.notes
+
+-- there are such notes that the change goes on from, and the note has a spelling
+pub record IsSpelledTurn (core : ReplicaCore) (change : Change) (written_note : Option ReplicaNote) : Type 0 where
+  pub kept : ReplicaKept
+  pub goes_on : GoesOn core change kept
+  pub spelled : Each IsVoted kept.notes
+  pub note : IsNotedSo written_note
+
+-- how many notes are kept, as far as a word of 64 bits counts
+abbrev pub counted : ReplicaKept → ℕ
+counted k = min (length k.notes) (2 ^ 64 - 1)
+
+-- each image of the disk holds the kept notes
+pub record Holds (kept : ℕ) (seen : List ℕ) (image : List ℕ → Type 0) (state : JournalState) (k : ReplicaKept) : Type 0 where
+  pub ready : state ≡ Ready
+  pub reads : records seen ≡ records_of k
+  pub durable : (c : List ℕ) → image c → StandsFor (records_of k) c
+  pub count : kept ≡ counted k
+
+-- each image holds the kept notes, or those and this record
+pub record Doubts (kept : ℕ) (image : List ℕ → Type 0) (open_record : List ℕ) (k : ReplicaKept) : Type 0 where
+  pub images : (c : List ℕ) → image c → IsOldOrNew (records_of k) open_record c
+  pub count : kept ≡ counted k
+
+-- the record is that of the row of what the state's open turn began with
+pub record IsOpenAt (s : ReplicaState) (open_record : List ℕ) : Type 0 where
+  pub begun : Bytes
+  pub opened : s.opened ≡ Some begun
+  pub input : Input
+  pub reads : Reads s.setting begun input
+  pub noted : IsNoted (row replica_rows s input).note (Some open_record)
+
+abbrev pub IsRecord : Option ReplicaNote → List ℕ → Type 0
+IsRecord None r = ⊥
+IsRecord (Some n) r = r ≡ note n
+
+-- after an append that failed: nothing is in doubt, or the note is
+abbrev pub HoldsOr : Option (List ℕ) → Option ReplicaNote → ℕ → List ℕ → (List ℕ → Type 0) → JournalState → ReplicaKept → Type 0
+HoldsOr None n kept seen image state k = Holds kept seen image state k
+HoldsOr (Some r) n kept seen image state k = Doubts kept image r k × IsRecord n r
+
+-- without a record in doubt the node knows what it keeps; else it was stopped in its open turn
+abbrev pub StandsBy : Option (List ℕ) → ℕ → List ℕ → (List ℕ → Type 0) → JournalState → VoterView → ReplicaState → Type 0
+StandsBy None kept seen image state voter s = Holds kept seen image state s.kept × Knows voter s.kept s.live
+StandsBy (Some r) kept seen image state voter s = Doubts kept image r s.kept × IsOpenAt s r
+
+-- the node, of these parts, stands at the state
+pub record StandsAt (roster : Roster) (open_record : Option (List ℕ)) (kept : ℕ) (seen : List ℕ) (image : List ℕ → Type 0) (state : JournalState) (voter : VoterView) (s : ReplicaState) : Type 0 where
+  pub setting : IsOf roster s.setting
+  pub spelled : Each IsVoted s.kept.notes
+  pub by : StandsBy open_record kept seen image state voter s
+
+-- the state of a node that is down over these notes
+abbrev pub down_over : Setting → List ReplicaNote → ReplicaState
+down_over g notes = record { setting = g; kept = kept_of notes; live = None; opened = None }
+
+-- a note's record, once for the journal and once for the bus
+abbrev pub framed_note : Option ReplicaNote → Option (List ℕ × List ℕ)
+framed_note None = None
+framed_note (Some n) = Some (note n, note n)
+
+abbrev pub IsShort : Option (List ℕ × List ℕ) → Type 0
+IsShort None = Unit {0}
+IsShort (Some r) = length r.0 ≤ 65535
+
+-- what is left of the disk's room is enough to append the record
+abbrev pub IsRoomFor : Option (List ℕ × List ℕ) → ℕ → ℕ → Type 0
+IsRoomFor None calls_left bytes_left = Unit {0}
+IsRoomFor (Some r) calls_left bytes_left = HasRoom calls_left bytes_left (length r.0)
+
+-- the turn's packets and its note are spelled, and it can be kept
+pub record IsReady (core : ReplicaCore) (turn : Turn) (sent : List (ℕ × List ℕ)) (framed : Option (List ℕ × List ℕ)) : Type 0 where
+  pub room : HasRoomFor core turn.change turn.note
+  pub spelled : IsSpelledTurn core turn.change turn.note
+  pub packets : AreSpelled turn.packets.items sent
+  pub noted : framed ≡ framed_note turn.note

@@ -1,0 +1,266 @@
+// The replica over its disk.
+use crate::Turn;
+use crate::voter::Voter;
+use crate::votes::{read_votes, vote_frame};
+use air_bus::{Input as Begun, Packets, Payload};
+use fields::Field;
+use gate_journal::{Frame, Journal, JournalFault};
+use outside::{Disk, DiskName, Gate, Point};
+use packet_codec::Input;
+use paxos_acceptor::ReplicaNote;
+use site_node::{Done, NodeFault, Roster, SiteNode, read_input, spell};
+use std::alloc::{AllocError, Global};
+
+/// A replica over its journal: down, up, or stopped in an open turn.
+///
+/// While it is down it has the notes of its journal in memory, and while it is up what they say of each place. A turn
+/// costs what the core's decision costs, and is linear in the bytes of its packet, its note and its answer.
+#[derive(Drop)]
+pub struct ReplicaNode<D: Disk> {
+    replica: u8,
+    roster: Roster,
+    journal: Journal<D>,
+    voter: Voter,
+    // How many notes the journal holds.
+    kept: u64,
+    // While it waits for `restart`, the record that may have landed.
+    in_doubt: Option<Payload>,
+    alloc: Global,
+}
+
+// A turn that is decided and spelled, with its note's record.
+#[derive(Drop)]
+struct ReadyTurn {
+    turn: Turn,
+    packets: Packets,
+    framed: Option<(Frame, Payload)>,
+}
+
+impl<D: Disk> ReplicaNode<D> {
+    ghost use Rattle.std.specs.Prelude.{◌≡◌, ◌+◌, false, true, Some, None, Option, All, map, List, ℕ, is_some, option_map, length, IsTrue, IfOk, OnOk, OnErr, IsErrOf};
+    ghost use Rattle.gate_journal.specs.declared.journal.JournalState.TheVariants.{Ready};
+    ghost use Rattle.gate_journal.specs.Gate.{StandsFor};
+    ghost use Rattle.gate_journal.specs.Opening.{IsOpened};
+    ghost use Rattle.fields.specs.Spellings.{note as note_spelled, IsNote};
+    ghost use Rattle.turn_defs.specs.Setting.{Setting};
+    ghost use Rattle.turn_defs.specs.Turns.{land};
+    ghost use Rattle.site_node.specs.Bytes.{IsInput};
+    ghost use Rattle.site_node.specs.Rosters.{IsOf};
+    ghost use Rattle.site_node.specs.States.{row_of};
+    ghost use Rattle.replica_node.specs.Replica.{ReplicaKept, land_replica};
+    ghost use Rattle.replica_node.specs.Core.{noted, IsRow, GoesOn};
+    ghost use Rattle.paxos_acceptor.specs.declared.notes.ReplicaNote.{ReplicaNote};
+    ghost use Rattle.replica_node.specs.Node.{StandsAt, Holds, HoldsOr, Knows, Fits, framed_note, IsShort, IsReady, IsRoomFor, replica_rows, down_over};
+
+    /// A replica that is down, over a journal with these notes. It takes no memory.
+    pub fn new(
+        alloc: Global,
+        replica: u8,
+        roster: Roster,
+        journal: Journal<D>,
+        notes: Vec<ReplicaNote>,
+    ) -> ReplicaNode<D>
+        requires { All IsNote notes.items }
+        ensures number { result.replica ≡ replica }
+        ensures disk { result.journal.disk ≡ journal.disk }
+        ensures up { result.in_doubt ≡ None }
+        ensures stands { IsTrue D.tells → (g : Setting) → IsOf roster g → journal.state ≡ Ready → StandsFor (map note_spelled notes.items) (D.seen journal.disk) → StandsAt result.roster result.in_doubt result.kept (D.seen result.journal.disk) (D.image result.journal.disk) result.journal.state result.voter (down_over g notes.items) }
+    {
+        let kept = notes.len() as u64;
+        ReplicaNode {
+            replica,
+            roster,
+            journal,
+            voter: Voter::new(alloc, notes),
+            kept,
+            in_doubt: None,
+            alloc,
+        }
+    }
+
+    /// The disk, which holds the journal.
+    pub fn into_disk(self) -> D
+        ensures { result ≡ self.journal.disk }
+    {
+        self.journal.into_disk()
+    }
+
+    // Decides the turn, spells its packets and its note, and makes the disk's room. Nothing changes but that room.
+    fn prepare(&mut self, input: &Input) -> Result<ReadyTurn, AllocError>
+        requires { IsInput input.now }
+        ensures same { (self.new.replica ≡ self.old.replica) × (self.new.roster ≡ self.old.roster) × (self.new.in_doubt ≡ self.old.in_doubt) }
+        ensures knows { (k : ReplicaKept) (live : Option (Unit {0})) → Knows self.old.voter k live → Knows self.new.voter k live }
+        ensures holds { IsTrue D.tells → (k : ReplicaKept) → Holds self.old.kept (D.seen self.old.journal.disk) (D.image self.old.journal.disk) self.old.journal.state k → Holds self.new.kept (D.seen self.new.journal.disk) (D.image self.new.journal.disk) self.new.journal.state k }
+        ensures turn { IfOk result (λ r. (g : Setting) (k : ReplicaKept) (live : Option (Unit {0})) → Knows self.old.voter k live → Fits live input.now → IsRow g (row_of replica_rows g k live input.now) r.turn) }
+        ensures next { IfOk result (λ r. (k : ReplicaKept) (live : Option (Unit {0})) → Knows self.old.voter k live → Fits live input.now → GoesOn self.new.voter.core r.turn.change k) }
+        ensures ready { IfOk result (λ r. IsReady self.new.voter.core r.turn r.packets r.framed) }
+        ensures room { IfOk result (λ r. IsRoomFor r.framed (D.calls_left self.new.journal.disk) (D.bytes_left self.new.journal.disk)) }
+    {
+        let turn = self.voter.decide(input)?;
+        let packets = spell(self.alloc, &turn.packets)?;
+        let framed = vote_frame(self.alloc, &turn.note)?;
+        self.make_room(&framed)?;
+        Ok(ReadyTurn {
+            turn,
+            packets,
+            framed,
+        })
+    }
+
+    // The disk's room for the record, if there is one.
+    fn make_room(&mut self, framed: &Option<(Frame, Payload)>) -> Result<(), AllocError>
+        requires { IsShort framed.now }
+        ensures same { (self.new.replica ≡ self.old.replica) × (self.new.roster ≡ self.old.roster) × (self.new.in_doubt ≡ self.old.in_doubt) × (self.new.voter ≡ self.old.voter) }
+        ensures holds { IsTrue D.tells → (k : ReplicaKept) → Holds self.old.kept (D.seen self.old.journal.disk) (D.image self.old.journal.disk) self.old.journal.state k → Holds self.new.kept (D.seen self.new.journal.disk) (D.image self.new.journal.disk) self.new.journal.state k }
+        ensures room { OnOk result (IsRoomFor framed.now (D.calls_left self.new.journal.disk) (D.bytes_left self.new.journal.disk)) }
+    {
+        match framed {
+            None => Ok(()),
+            Some((frame, _)) => self.journal.make_room(self.alloc, frame.len() as u32),
+        }
+    }
+
+    // Appends the note, if there is one, and keeps the turn. Where the disk fails the note is in doubt.
+    fn finish(&mut self, ready: ReadyTurn) -> Result<Done, NodeFault>
+        requires up { self.old.in_doubt ≡ None }
+        requires ready { IsReady self.old.voter.core ready.turn ready.packets ready.framed }
+        requires room { IsRoomFor ready.framed (D.calls_left self.old.journal.disk) (D.bytes_left self.old.journal.disk) }
+        ensures same { (self.new.replica ≡ self.old.replica) × (self.new.roster ≡ self.old.roster) }
+        ensures up { OnOk result (self.new.in_doubt ≡ None) }
+        ensures stopped { IsErrOf result NodeFault.Stopped → is_some self.new.in_doubt ≡ true }
+        ensures note { IfOk result (λ d. d.note ≡ option_map note_spelled ready.turn.note) }
+        ensures packets { IfOk result (λ d. d.packets ≡ ready.packets) }
+        ensures knows { OnOk result ((k : ReplicaKept) → GoesOn self.old.voter.core ready.turn.change k → Knows self.new.voter (land land_replica (noted ready.turn.note) k) (Some tt)) }
+        ensures voter { OnErr result (self.new.voter ≡ self.old.voter) }
+        ensures holds { IsTrue D.tells → (k : ReplicaKept) → Holds self.old.kept (D.seen self.old.journal.disk) (D.image self.old.journal.disk) self.old.journal.state k → OnOk result (Holds self.new.kept (D.seen self.new.journal.disk) (D.image self.new.journal.disk) self.new.journal.state (land land_replica (noted ready.turn.note) k)) }
+        ensures undone { IsTrue D.tells → (k : ReplicaKept) → Holds self.old.kept (D.seen self.old.journal.disk) (D.image self.old.journal.disk) self.old.journal.state k → OnErr result (HoldsOr self.new.in_doubt ready.turn.note self.new.kept (D.seen self.new.journal.disk) (D.image self.new.journal.disk) self.new.journal.state k) }
+    {
+        let ReadyTurn {
+            turn,
+            packets,
+            framed,
+        } = ready;
+        let note = self.append(framed)?;
+        self.voter.keep(turn);
+        Ok(Done { note, packets })
+    }
+
+    fn append(&mut self, framed: Option<(Frame, Payload)>) -> Result<Option<Payload>, NodeFault>
+        requires up { self.old.in_doubt ≡ None }
+        requires room { IsRoomFor framed (D.calls_left self.old.journal.disk) (D.bytes_left self.old.journal.disk) }
+        ensures same { (self.new.replica ≡ self.old.replica) × (self.new.roster ≡ self.old.roster) × (self.new.voter ≡ self.old.voter) }
+        ensures up { OnOk result (self.new.in_doubt ≡ None) }
+        ensures stopped { IsErrOf result NodeFault.Stopped → is_some self.new.in_doubt ≡ true }
+        ensures note { (n : Option ReplicaNote) → framed ≡ framed_note n → IfOk result (λ r. r ≡ option_map note_spelled n) }
+        ensures holds { IsTrue D.tells → (k : ReplicaKept) (n : Option ReplicaNote) → framed ≡ framed_note n → Holds self.old.kept (D.seen self.old.journal.disk) (D.image self.old.journal.disk) self.old.journal.state k → OnOk result (Holds self.new.kept (D.seen self.new.journal.disk) (D.image self.new.journal.disk) self.new.journal.state (land land_replica (noted n) k)) }
+        ensures undone { IsTrue D.tells → (k : ReplicaKept) (n : Option ReplicaNote) → framed ≡ framed_note n → Holds self.old.kept (D.seen self.old.journal.disk) (D.image self.old.journal.disk) self.old.journal.state k → OnErr result (HoldsOr self.new.in_doubt n self.new.kept (D.seen self.new.journal.disk) (D.image self.new.journal.disk) self.new.journal.state k) }
+    {
+        match framed {
+            None => Ok(None),
+            Some((frame, payload)) => match self.journal.append(&frame) {
+                Ok(()) => {
+                    self.kept = self.kept.saturating_add(1);
+                    Ok(Some(payload))
+                }
+                Err(_) => {
+                    self.in_doubt = Some(payload);
+                    Err(NodeFault::Stopped)
+                }
+            },
+        }
+    }
+
+    // The notes that the disk holds, as the stop left it.
+    fn reread(&mut self) -> Result<Vec<ReplicaNote>, NodeFault>
+        ensures same { (self.new.replica ≡ self.old.replica) × (self.new.roster ≡ self.old.roster) × (self.new.voter ≡ self.old.voter) × (self.new.kept ≡ self.old.kept) × (self.new.in_doubt ≡ self.old.in_doubt) }
+        ensures notes { IfOk result (λ notes. All IsNote notes.items) }
+        ensures ready { OnOk result (self.new.journal.state ≡ Ready) }
+        ensures reads { IsTrue D.tells → IfOk result (λ notes. StandsFor (map note_spelled notes.items) (D.seen self.new.journal.disk)) }
+        ensures seen { IsTrue D.tells → OnOk result (D.image self.new.journal.disk (D.seen self.new.journal.disk)) }
+        ensures images { IsTrue D.tells → (c : List ℕ) → D.image self.new.journal.disk c → IsOpened (D.image self.old.journal.disk) c }
+    {
+        let refused = match self.journal.reopen(self.alloc) {
+            Ok(records) => match read_votes(self.alloc, &records) {
+                Ok(notes) => return Ok(notes),
+                Err(fault) => fault,
+            },
+            Err(fault) => fault,
+        };
+        Err(self.fault_of(refused))
+    }
+
+    fn fault_of(&self, fault: JournalFault) -> NodeFault {
+        match fault {
+            JournalFault::Damaged { at } => NodeFault::Damaged {
+                disk: DiskName::Replica(self.replica),
+                at,
+            },
+            JournalFault::Disk => NodeFault::Stopped,
+            JournalFault::Memory => NodeFault::Memory,
+        }
+    }
+}
+
+impl<D: Disk> SiteNode for ReplicaNode<D> {
+    ghost use Rattle.std.specs.Prelude.{◌+◌, is_some};
+    ghost use Rattle.site_node.specs.States.{Leads, state_phase};
+    ghost use Rattle.site_node.specs.Paths.{begins as begins_by, phase_led};
+    ghost use Rattle.replica_node.specs.Node.{ReplicaState, StandsAt, replica_rows};
+
+    ghost tells = { D.tells };
+
+    ghost State = { ReplicaState };
+
+    ghost leads = { Leads replica_rows };
+
+    ghost phase_of = { state_phase };
+
+    ghost number = { λ node. 4 + node.replica };
+
+    ghost waits = { λ node. is_some node.in_doubt };
+
+    ghost stands = { λ node s. StandsAt node.roster node.in_doubt node.kept (D.seen node.journal.disk) (D.image node.journal.disk) node.journal.state node.voter s };
+
+    ghost begins = { begins_by replica_rows };
+
+    ghost phases = { phase_led replica_rows };
+
+    fn wants(&self) -> bool {
+        false
+    }
+
+    fn unfinished(&self) -> bool {
+        false
+    }
+
+    fn at_rest(&self) -> bool {
+        true
+    }
+
+    fn turn<G: Gate>(&mut self, input: &Begun, gate: &G) -> Result<Done, NodeFault> {
+        match read_input(self.alloc, self.roster, input)? {
+            None => Ok(Done {
+                note: None,
+                packets: Packets::new(self.alloc),
+            }),
+            Some(input) => {
+                let ready = self.prepare(&input)?;
+                if ready.framed.is_some() {
+                    gate.pass(Point::BeforeAppend, 4 + u16::from(self.replica));
+                }
+                self.finish(ready)
+            }
+        }
+    }
+
+    fn restart(&mut self) -> Result<Option<Payload>, NodeFault> {
+        ReplicaNote::told_apart();
+        let notes = self.reread()?;
+        let count = notes.len() as u64;
+        let landed = count != self.kept;
+        self.kept = count;
+        self.voter = Voter::new(self.alloc, notes);
+        let landed_record = self.in_doubt.take();
+        if landed { Ok(landed_record) } else { Ok(None) }
+    }
+}

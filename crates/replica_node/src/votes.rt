@@ -1,0 +1,78 @@
+// Notes and their records.
+ghost use Rattle.std.specs.Prelude.{◌≡◌, ◌≤◌, ◌^◌, All, map, length, IfOk, IfSome};
+ghost use Rattle.gate_journal.specs.Gate.{spans};
+ghost use Rattle.fields.specs.Spellings.{note as note_spelled, IsNote};
+ghost use Rattle.replica_node.specs.Node.{framed_note, IsNotedSo, IsShort};
+
+use air_bus::Payload;
+use fields::{Field, FieldFault};
+use gate_journal::{Frame, JournalFault};
+use paxos_acceptor::ReplicaNote;
+use std::alloc::{AllocError, Global};
+use wire_core::{Bytes, Reader};
+
+/// The note of a record, or None where it is no note's. Linear in the record. It allocates the batch's inserts.
+pub(crate) fn read_vote(alloc: Global, payload: &[u8]) -> Result<Option<ReplicaNote>, AllocError>
+    ensures { IfOk result (λ read. IfSome read (λ note. IsNote note × (payload.now ≡ note_spelled note))) }
+{
+    let mut from = Reader::new(payload);
+    match ReplicaNote::take(alloc, &mut from) {
+        Ok(note) => {
+            if from.rest().is_empty() {
+                Ok(Some(note))
+            } else {
+                Ok(None)
+            }
+        }
+        Err(FieldFault::BadField { .. }) => Ok(None),
+        Err(FieldFault::Memory) => Err(AllocError),
+    }
+}
+
+/// The notes of a journal's records, or the place of the first record that is none.
+pub fn read_votes(alloc: Global, records: &[Bytes]) -> Result<Vec<ReplicaNote>, JournalFault>
+    requires { spans records.now ≤ 2 ^ 63 }
+    ensures notes { IfOk result (λ notes. All IsNote notes.items × (records.now ≡ map note_spelled notes.items)) }
+{
+    let mut notes = Vec::new(alloc);
+    let mut place = 1;
+    for record_bytes in records {
+        match read_vote(alloc, record_bytes.as_slice())? {
+            None => return Err(JournalFault::Damaged { at: place }),
+            Some(note) => notes.push(note)?,
+        }
+        place += 5 + record_bytes.as_slice().len() as u64;
+    }
+    Ok(notes)
+}
+
+/// The record of a note, if there is one, as it is written to a journal, and as the bus takes it. Linear in the note.
+pub(crate) fn vote_frame(
+    alloc: Global,
+    note: &Option<ReplicaNote>,
+) -> Result<Option<(Frame, Payload)>, AllocError>
+    requires { IsNotedSo note.now }
+    ensures framed { IfOk result (λ r. r ≡ framed_note note.now) }
+    ensures short { IfOk result IsShort }
+{
+    match note {
+        None => Ok(None),
+        Some(note) => {
+            let (frame, payload) = note_frame(alloc, note)?;
+            Ok(Some((frame, payload)))
+        }
+    }
+}
+
+fn note_frame(alloc: Global, note: &ReplicaNote) -> Result<(Frame, Payload), AllocError>
+    requires { IsNote note.now }
+    ensures frame { IfOk result (λ r. r.0 ≡ note_spelled note.now) }
+    ensures short { IfOk result (λ r. length r.0 ≤ 65535) }
+    ensures payload { IfOk result (λ r. r.1 ≡ note_spelled note.now) }
+{
+    let mut bytes = Bytes::new(alloc);
+    note.put(&mut bytes)?;
+    let frame = Frame::new(alloc, bytes.as_slice())?;
+    let payload = Payload::new(bytes.as_slice().to_vec(alloc)?)?;
+    Ok((frame, payload))
+}

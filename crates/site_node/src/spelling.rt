@@ -1,0 +1,44 @@
+// What a turn sends, as bytes.
+ghost use Rattle.std.specs.Prelude.{◌≡◌, All, IfOk};
+ghost use Rattle.turn_defs.specs.Nodes.{node_number};
+ghost use Rattle.packet_codec.specs.declared.packet.Packet.{Packet};
+ghost use Rattle.packet_codec.specs.declared.node.Node.{Node};
+ghost use Rattle.packet_codec.specs.Packets.{packet, IsPacket};
+ghost use Rattle.site_node.specs.Bytes.{AreSpelled};
+
+use air_bus::{Packets, Payload};
+use packet_codec::{Node, Packet, encode};
+use std::alloc::{AllocError, Global};
+
+/// The number of a node, by which the bus and packets name it.
+pub fn number_of(node: Node) -> u16
+    ensures { result ≡ node_number node }
+{
+    match node {
+        Node::Dispatcher(site) => u16::from(site),
+        Node::Server(site) => 2 + u16::from(site),
+        Node::Replica(replica) => 4 + u16::from(replica),
+        Node::Joiner(number) => number,
+    }
+}
+
+/// The packets as the bus takes them. Linear in their spellings, by three allocations for each.
+pub fn spell(alloc: Global, packets: &[(Node, Packet)]) -> Result<Packets, AllocError>
+    requires { All (λ (p : Node × Packet). IsPacket p.1) packets.now }
+    ensures { IfOk result (λ spelled. AreSpelled packets.now spelled) }
+{
+    let mut spelled = Packets::new(alloc);
+    for sent in packets {
+        let bytes = spelling(alloc, &sent.1)?;
+        spelled.push(number_of(sent.0), bytes)?;
+    }
+    Ok(spelled)
+}
+
+fn spelling(alloc: Global, sent: &Packet) -> Result<Payload, AllocError>
+    requires { IsPacket sent.now }
+    ensures { IfOk result (λ bytes. bytes ≡ packet sent.now) }
+{
+    let bytes = encode(alloc, sent)?;
+    Payload::new(bytes.as_slice().to_vec(alloc)?)
+}
