@@ -11,11 +11,7 @@ use std::alloc::{AllocError, Global};
 
 /// The input that the bytes spell, or None where no input is spelled so, or no node has the sender's number. Linear in
 /// the bytes.
-pub fn read_input(
-    alloc: Global,
-    roster: Roster,
-    begun: &Begun,
-) -> Result<Option<Input>, AllocError>
+pub fn read_input(alloc: Global, roster: Roster, begun: &Begun) -> Result<Option<Input>, AllocError>
     ensures reads { (g : Setting) → IsOf roster g → IfOk result (λ read. IfSome read (Reads g begun.now)) }
     ensures junk { (g : Setting) → IsOf roster g → IfOk result (λ read. IfNone read (IsJunk g begun.now)) }
     ensures spelled { IfOk result (λ read. IfSome read IsInput) }
