@@ -202,7 +202,8 @@ impl<D: Disk> ReplicaNode<D> {
 }
 
 impl<D: Disk> SiteNode for ReplicaNode<D> {
-    ghost use Rattle.std.specs.Prelude.{◌+◌, is_some};
+    ghost use Rattle.std.specs.Prelude.{◌≡◌, ◌+◌, is_some};
+    ghost use Rattle.replica_node.specs.Replica.{ReplicaKept, replica_at_rest, replica_unfinished, replica_wants};
     ghost use Rattle.site_node.specs.States.{Leads, state_phase};
     ghost use Rattle.site_node.specs.Paths.{begins as begins_by, phase_led};
     ghost use Rattle.replica_node.specs.Node.{ReplicaState, StandsAt, replica_rows};
@@ -225,15 +226,21 @@ impl<D: Disk> SiteNode for ReplicaNode<D> {
 
     ghost phases = { phase_led replica_rows };
 
-    fn wants(&self) -> bool {
+    fn wants(&self) -> bool
+        ensures { (k : ReplicaKept) → result ≡ replica_wants k }
+    {
         false
     }
 
-    fn unfinished(&self) -> bool {
+    fn unfinished(&self) -> bool
+        ensures { (k : ReplicaKept) → result ≡ replica_unfinished k }
+    {
         false
     }
 
-    fn at_rest(&self) -> bool {
+    fn at_rest(&self) -> bool
+        ensures { (k : ReplicaKept) → result ≡ replica_at_rest k }
+    {
         true
     }
 
