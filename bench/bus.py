@@ -13,7 +13,8 @@ import shutil
 import subprocess
 import sys
 import tempfile
-import time
+
+from timing import rust_program, seconds
 
 TOP = os.path.dirname(os.path.dirname(os.path.abspath(__file__)))
 CRATE = os.path.join(TOP, "crates/bench_bus")
@@ -70,28 +71,6 @@ fn main() {
 """
 
 
-def seconds(words):
-    """The best of three runs, and what was printed."""
-    best, printed = None, ""
-    for _ in range(3):
-        begin = time.perf_counter()
-        done = subprocess.run(words, capture_output=True, text=True, check=True)
-        spent = time.perf_counter() - begin
-        best, printed = (spent if best is None else min(best, spent)), done.stdout.strip()
-    return best, printed
-
-
-def rust_program(folder):
-    if shutil.which("rustc") is None:
-        print("no rustc: the Rust column is left out")
-        return None
-    source, program = os.path.join(folder, "bus.rs"), os.path.join(folder, "bus")
-    with open(source, "w", encoding="utf-8") as it:
-        it.write(RUST)
-    subprocess.run(["rustc", "-O", "--edition", "2021", "-o", program, source], check=True)
-    return program
-
-
 def main():
     turns = int(sys.argv[1]) if len(sys.argv) > 1 else 200_000
     ours = os.path.join(CRATE, "out/bench_bus")
@@ -102,7 +81,7 @@ def main():
         print("bench_bus isn't built: nothing timed")
         return 1
     with tempfile.TemporaryDirectory() as folder:
-        rust = rust_program(folder)
+        rust = rust_program(folder, RUST)
         for threads in (1, 4, 8):
             each = turns // 2 // threads
             cost, printed = {}, set()

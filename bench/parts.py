@@ -17,6 +17,8 @@ import sys
 import tempfile
 import time
 
+from timing import rust_program, seconds
+
 TOP = os.path.dirname(os.path.dirname(os.path.abspath(__file__)))
 CRATE = os.path.join(TOP, "crates/bench_parts")
 PARTS = ["apply", "apply_timed", "replay", "encode", "decode"]
@@ -108,17 +110,6 @@ fn main() {
 """
 
 
-def seconds(words):
-    """The best of three runs, and what was printed."""
-    best, printed = None, ""
-    for _ in range(3):
-        begin = time.perf_counter()
-        done = subprocess.run(words, capture_output=True, text=True, check=True)
-        spent = time.perf_counter() - begin
-        best, printed = (spent if best is None else min(best, spent)), done.stdout.strip()
-    return best, printed
-
-
 def air(program, count):
     """Prints what a packet through the air costs at a tenth of the count and at the count."""
     spent, memory = {}, {}
@@ -133,17 +124,6 @@ def air(program, count):
     print(f"             {(memory[many] - memory[0]) / (4 * many):8.0f} bytes an entry in all")
 
 
-def rust_program(folder):
-    if shutil.which("rustc") is None:
-        print("no rustc: the Rust column is left out")
-        return None
-    source, program = os.path.join(folder, "parts.rs"), os.path.join(folder, "parts")
-    with open(source, "w", encoding="ascii") as file:
-        file.write(RUST)
-    subprocess.run(["rustc", "-O", "--edition", "2021", "-o", program, source], check=True)
-    return program
-
-
 def main():
     count = sys.argv[1] if len(sys.argv) > 1 else "1000000"
     ours = os.path.join(CRATE, "out/bench_parts")
@@ -154,7 +134,7 @@ def main():
         print("bench_parts isn't built: nothing timed")
         return 1
     with tempfile.TemporaryDirectory() as folder:
-        rust = rust_program(folder)
+        rust = rust_program(folder, RUST)
         programs = [("photon", ours)] + ([("rust", rust)] if rust else [])
         idle = {name: seconds([path, "none", count])[0] for name, path in programs}
         for part in PARTS:
