@@ -1,10 +1,10 @@
 -- What a replica's disk may hold, whatever a stop leaves of it.
-use Rattle.std.proofs.Common.{◌≡◌, inl, inr, ⊎_elim, ℕ, List, ◌++◌, [], ◌∷◌, Option, Some, None, refl, sym, subst}
+use Rattle.std.proofs.Common.{inl, inr, ⊎_elim, ℕ, List, Option, Some, None, refl, sym, subst}
 use Rattle.gate_journal.specs.Gate.{StandsFor}
 use Rattle.gate_journal.specs.declared.journal.JournalState.{JournalState}
 use Rattle.site_node.specs.States.{written}
 use Rattle.site_node.specs.declared.roster.Roster.{Roster}
-use Rattle.replica_node.specs.Node.{ReplicaState, VoterView, StandsAt, KeptOn, OnDisk, records_of, replica_rows}
+use Rattle.replica_node.specs.Node.{ReplicaState, VoterView, StandsAt, KeptOn, OnDisk, replica_rows}
 
 -- what the state keeps, as it is
 pub kept_now : (s : ReplicaState) (c : List ℕ) → OnDisk s.kept c → KeptOn s c
