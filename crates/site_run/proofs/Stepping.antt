@@ -1,0 +1,121 @@
+-- One entry more of a worker, and what it leads on to.
+use Rattle.std.proofs.Common.{◌≡◌, ◌≢◌, ℕ, ◌≤◌, Bool, false, List, [], ◌∷◌, ◌++◌, length, Option, Some, None, is_some, refl, sym, ap, ◌∙◌, subst, arith, append_assoc}
+use Rattle.std.specs.Prelude.{IfSome}
+use mathlib.Core.List.{IsPrefix}
+use Rattle.std.proofs.lemmas.List.{append-nil}
+use Rattle.outside.specs.Faults.{Rose}
+use Rattle.air_bus.specs.declared.entry.Entry.{Entry}
+use Rattle.air_bus.specs.declared.entry.Entry.TheVariants.{Begin, End, Stop}
+use Rattle.air_bus.specs.declared.entry.Input.{Input}
+use Rattle.air_bus.specs.declared.entry.Phase.{Phase}
+use Rattle.air_bus.specs.declared.entry.Phase.TheVariants.{Down, Idle, Busy}
+use Rattle.air_bus.specs.Copies.{Copy}
+use Rattle.air_bus.specs.History.{phase, phase_after, node_of, next_input}
+use Rattle.air_bus.proofs.Phases.{phase_here}
+use Rattle.bus_seat.specs.Seats.{Sight, Begins, Adds, next_for}
+use Rattle.site_node.specs.declared.kind.NodeFault.{NodeFault}
+use Rattle.site_run.specs.Works.{Path, StandsAt, LeadsOn, Grew}
+
+pub none_of : {A : Type 0} (o : Option A) (b : Bool) → b ≡ is_some o → b ≡ false → o ≡ None
+none_of None b is off = refl
+none_of (Some x) b is off = absurd (cc (is, off))
+
+-- a count that rose isn't 0
+pub rose_some : (old new : ℕ) → Rose old new → 1 ≤ new
+rose_some old new rose = omega (arith, rose)
+
+-- one path after another
+path_on : {S : Type 0} (leads : S → Entry → S → Type 0) (s t u : S) (es fs : List Entry) → Path leads s es t → Path leads t fs u → Path leads s (es ++ fs) u
+path_on leads s t u [] fs p q = subst (λ x. Path leads x fs u) (sym p) q
+path_on leads s t u (e ∷ es) fs p q = (p.0, p.1, path_on leads p.0 t u es fs p.2 q)
+
+module _ {N S : Type 0} (leads : S → Entry → S → Type 0) (phase_of : S → Phase) (stands : N → S → Type 0) (number : N → ℕ) where
+  -- a turn that was opened, and is open
+  pub leads_one : (w : N) (after : Option NodeFault) (old new : List Entry) (s t : S) (e : Entry) → new ≡ old ++ e ∷ [] → leads s e t → StandsAt leads phase_of stands number w after new t
+      → (es : List Entry) × (u : S) × (new ≡ old ++ es) × Path leads s es u × StandsAt leads phase_of stands number w after new u
+  leads_one w after old new s t e is l at = (e ∷ [], t, is, (t, l, refl), at)
+
+  -- a turn that was opened and closed
+  pub leads_two : (w : N) (after : Option NodeFault) (old mid new : List Entry) (s t u : S) (e f : Entry) → mid ≡ old ++ e ∷ [] → leads s e t → new ≡ mid ++ f ∷ [] → leads t f u → StandsAt leads phase_of stands number w after new u
+      → (es : List Entry) × (v : S) × (new ≡ old ++ es) × Path leads s es v × StandsAt leads phase_of stands number w after new v
+  leads_two w after old mid new s t u e f is l are m at =
+      (e ∷ f ∷ [], u, are ∙ ap (λ (xs : List Entry). xs ++ f ∷ []) is ∙ append_assoc old (e ∷ []) (f ∷ []), (t, l, (u, m, refl)), at)
+
+  -- one after another
+  pub leads_on : (v x w : N) (before since after : Option NodeFault) (old mid new : List Entry) → LeadsOn leads phase_of stands number v before old x since mid → LeadsOn leads phase_of stands number x since mid w after new
+      → LeadsOn leads phase_of stands number v before old w after new
+  leads_on v x w before since after old mid new first next s at =
+      let a = first s at in
+      let b = next a.1 a.4 in
+      (a.0 ++ b.0, b.1, b.2 ∙ ap (λ (xs : List Entry). xs ++ b.0) a.2 ∙ append_assoc old a.0 b.0, path_on leads s a.1 b.1 a.0 b.0 a.3 b.3, b.4)
+
+  pub leads_nowhere : (v : N) (before : Option NodeFault) (old : List Entry) → LeadsOn leads phase_of stands number v before old v before old
+  leads_nowhere v before old s at = ([], s, sym (append-nil old), refl, at)
+
+-- a seat that grew twice
+pub grew_on : (u v w : Sight) → Grew u v → Grew v w → Grew u w
+grew_on u v w first next = record {
+  bus = next.bus ∙ first.bus;
+  number = next.number ∙ first.number;
+  seen = prefix_on u.seen v.seen w.seen first.seen next.seen;
+  mine = prefix_on u.mine v.mine w.mine first.mine next.mine;
+}
+  where
+    prefix_on : (a b c : List Entry) → IsPrefix a b → IsPrefix b c → IsPrefix a c
+    prefix_on a b c p q = (p.0 ++ q.0, sym (append_assoc a p.0 q.0) ∙ ap (λ (xs : List Entry). xs ++ q.0) p.1 ∙ q.1)
+
+module _ (n : ℕ) (v w : Sight) (i : Input) (wants tick : Bool) (whose : v.number ≡ Some n) (did : IfSome v.number (λ m. Begins m wants tick v (Some i) w)) where
+  begins : Begins n wants tick v (Some i) w
+  begins = subst (λ o. IfSome o (λ m. Begins m wants tick v (Some i) w)) whose did
+
+  pub next : Option Copy
+  next = next_for v.bus.base n (v.seen ++ begins.0)
+
+  pub grew : w.mine ≡ v.mine ++ Begin n i ∷ []
+  grew = begins.2
+
+  pub given : (p : Phase) → p ≡ phase n v.mine → next_input p next tick wants ≡ Some i
+  unfolding next
+  given p is = ap (λ q. next_input q next tick wants) is ∙ begins.3
+
+  pub has_opened : phase n w.mine ≡ Busy
+  has_opened = ap (phase n) grew ∙ phase_here v.mine (Begin n i) n refl
+
+  pub saw : IsPrefix v.seen w.seen
+  saw = (begins.0 ++ Begin n i ∷ [], sym (begins.1 ∙ append_assoc v.seen begins.0 (Begin n i ∷ [])))
+
+  pub made : IsPrefix v.mine w.mine
+  made = (Begin n i ∷ [], sym grew)
+
+-- what closes a turn
+pub record Closed (n : ℕ) (v w : Sight) (e : Entry) : Type 0 where
+  pub mine : w.mine ≡ v.mine ++ e ∷ []
+  pub phased : phase n w.mine ≡ phase_after e
+  pub saw : IsPrefix v.seen w.seen
+  pub made : IsPrefix v.mine w.mine
+
+pub adds_closes : (n : ℕ) (v w : Sight) (e : Entry) → node_of e ≡ n → Adds v e w → Closed n v w e
+adds_closes n v w e is adds = record {
+  mine = adds.2;
+  phased = ap (phase n) adds.2 ∙ phase_here v.mine e n is;
+  saw = (adds.0 ++ e ∷ [], sym (adds.1 ∙ append_assoc v.seen adds.0 (e ∷ [])));
+  made = (e ∷ [], sym adds.2);
+}
+
+pub ended_by : (n : ℕ) (v w : Sight) (noted : Option (List ℕ)) (packets : List (ℕ × List ℕ)) → v.number ≡ Some n → IfSome v.number (λ m. (kept : ℕ) × (kept ≤ length packets) × Adds v (End m noted packets kept) w)
+    → (kept : ℕ) × (kept ≤ length packets) × Closed n v w (End n noted packets kept)
+ended_by n v w noted packets is did =
+    let t = subst (λ o. IfSome o (λ m. (kept : ℕ) × (kept ≤ length packets) × Adds v (End m noted packets kept) w)) is did in
+    (t.0, t.1, adds_closes n v w (End n noted packets t.0) refl t.2)
+
+pub stopped_by : (n : ℕ) (v w : Sight) (landed : Option (List ℕ)) → v.number ≡ Some n → IfSome v.number (λ m. Adds v (Stop m landed) w) → Closed n v w (Stop n landed)
+stopped_by n v w landed is did = adds_closes n v w (Stop n landed) refl (subst (λ o. IfSome o (λ m. Adds v (Stop m landed) w)) is did)
+
+pub idle_up : Idle ≢ Busy
+idle_up e = absurd (cc e)
+
+pub idle_down : Down ≢ Busy
+idle_down e = absurd (cc e)
+
+pub not_open : (p q : Phase) → p ≡ q → q ≢ Busy → p ≢ Busy
+not_open p q is ne busy = ne (sym is ∙ busy)

@@ -1,0 +1,20 @@
+use Rattle.site_run.proofs.Stepping.{grew_on, leads_on}
+use Rattle.site_run.proofs.worker.Worker.work.Goals as goal
+
+pub returns-then-not-step-clause-leads : goal.returns-then-not-step-clause-leads
+returns-then-not-step-clause-leads g c tells =
+    let m = g.N.SiteNode in
+    let old = c.args.self.now in
+    let mid = c.loop.self in
+    let new = c.step.new.self in
+    leads_on m.leads m.phase_of m.stands m.number old.node mid.node new.node old.fault mid.fault new.fault old.seat.mine mid.seat.mine new.seat.mine (c.loop.invariant.1 tells) (c.step.ensures.leads tells)
+
+pub loop-preserved : goal.loop-preserved
+loop-preserved g c =
+    let m = g.N.SiteNode in
+    let old = c.args.self.now in
+    let mid = c.loop.self in
+    let new = c.step.new.self in (
+      grew_on old.seat mid.seat new.seat c.loop.invariant.0 c.step.ensures.grew,
+      λ tells. leads_on m.leads m.phase_of m.stands m.number old.node mid.node new.node old.fault mid.fault new.fault old.seat.mine mid.seat.mine new.seat.mine (c.loop.invariant.1 tells) (c.step.ensures.leads tells),
+    )

@@ -1,0 +1,40 @@
+-- What a worker does, by the entries that it adds.
+use Rattle.std.specs.Prelude.{◌≡◌, ◌≢◌, ℕ, Bool, false, List, [], ◌∷◌, ◌++◌, Option, None}
+use mathlib.Core.List.{IsPrefix}
+use Rattle.air_bus.specs.declared.entry.Entry.{Entry}
+use Rattle.air_bus.specs.declared.entry.Phase.{Phase}
+use Rattle.air_bus.specs.declared.entry.Phase.TheVariants.{Busy}
+use Rattle.air_bus.specs.History.{phase}
+use Rattle.bus_seat.specs.Seats.{Sight}
+use Rattle.site_node.specs.declared.kind.NodeFault.{NodeFault}
+
+-- the entries lead from one state to another
+abbrev pub Path : {S : Type 0} → (S → Entry → S → Type 0) → S → List Entry → S → Type 0
+Path leads s [] t = s ≡ t
+Path leads s (e ∷ es) t = (u : _) × leads s e u × Path leads u es t
+
+-- The seat is node n's, and the node has no open turn.
+pub record IsIdle (n : ℕ) (waits : Bool) (s : Sight) : Type 0 where
+  pub up : waits ≡ false
+  pub closed : phase n s.mine ≢ Busy
+
+module _ {N S : Type 0} (leads : S → Entry → S → Type 0) (phase_of : S → Phase) (stands : N → S → Type 0) (number : N → ℕ) where
+  -- the node stands at the state; between two turns its last entry left it there
+  pub record StandsAt (node : N) (fault : Option NodeFault) (mine : List Entry) (s : S) : Type 0 where
+    pub at : stands node s
+    pub phased : fault ≡ None → phase_of s ≡ phase (number node) mine
+
+  -- Wherever the node stood, the entries that were added lead on to where it stands.
+  abbrev pub LeadsOn : N → Option NodeFault → List Entry → N → Option NodeFault → List Entry → Type 0
+  LeadsOn v before old w after new = (s : S) → StandsAt v before old s → (es : List Entry) × (t : S) × (new ≡ old ++ es) × Path leads s es t × StandsAt w after new t
+
+  -- the turn that the node has opened is closed by an entry, which leads on
+  abbrev pub Closes : N → S → List Entry → List Entry → Type 0
+  Closes node t old new = (e : Entry) × (u : S) × (new ≡ old ++ e ∷ []) × (phase_of u ≡ phase (number node) new) × leads t e u × stands node u
+
+-- the seat is the same, and has seen and made no less
+pub record Grew (v w : Sight) : Type 0 where
+  pub bus : w.bus ≡ v.bus
+  pub number : w.number ≡ v.number
+  pub seen : IsPrefix v.seen w.seen
+  pub mine : IsPrefix v.mine w.mine
