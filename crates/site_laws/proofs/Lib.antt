@@ -1,0 +1,4 @@
+mod Addressing
+mod Stepping
+mod Lifting
+mod Following

@@ -1,0 +1,34 @@
+-- What the bus kept is a run.
+use Rattle.std.specs.Prelude.{◌≡◌, ℕ, List, [], filter, None}
+use Rattle.lossy_link.specs.declared.plan.Kind.{Kind}
+use Rattle.lossy_link.specs.Fates.{PlanView}
+use Rattle.air_bus.specs.declared.entry.Entry.{Entry as BusEntry}
+use Rattle.air_bus.specs.History.{is_of, IsAired}
+use Rattle.turn_defs.specs.Setting.{Setting}
+use Rattle.turn_defs.specs.Nodes.{IsNode, node_number, node_of}
+use Rattle.packet_codec.specs.declared.node.Node.{Node}
+use Rattle.site_node.specs.States.{Path}
+use Rattle.photon_defs.specs.Runs.{Entry, Disks, world_after, IsRun, opening}
+use Rattle.site_laws.specs.Kinds.{StateOf, rows_of, cell_of, down_over}
+use Rattle.site_laws.specs.Meaning.{AllMean, StandsFor}
+
+-- the entries of one number, in their order
+abbrev pub made_by : ℕ → List BusEntry → List BusEntry
+made_by n h = filter (is_of n) h
+
+-- Each node that there is was down over its records, and its own entries have led it to where it is; no other number has any.
+pub record EachWalked (g : Setting) (d : Disks) (h : List BusEntry) (at : (n : Node) → StateOf n) : Type 0 where
+  pub paths : (n : Node) → IsNode g n → Path (rows_of n) (down_over g d n) (made_by (node_number n) h) (at n)
+  pub no_others : (m : ℕ) → node_of g m ≡ None → made_by m h ≡ []
+
+-- The history is a run of the model, entry by entry, and each node stands where its own entries have led it.
+pub record IsRunOf (g : Setting) (d : Disks) (h : List BusEntry) (at : (n : Node) → StateOf n) (es : List Entry) : Type 0 where
+  pub means : AllMean g h es
+  pub run : IsRun g (opening d) es
+  pub stands : (n : Node) → IsNode g n → StandsFor g (cell_of (world_after g (opening d) es) n) (at n)
+
+-- what an Air's bus kept, where each node's own entries lead through its states, is a run
+abbrev pub AiredIsRun : Type 0
+AiredIsRun =
+    (g : Setting) (d : Disks) (plan : PlanView) (kinds : List Kind) (h : List BusEntry) (at : (n : Node) → StateOf n) →
+    IsAired plan kinds h → EachWalked g d h at → (es : List Entry) × IsRunOf g d h at es

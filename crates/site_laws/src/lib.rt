@@ -1,0 +1,15 @@
+//! From each node's own entries to the run of the whole system: what the bus kept is a history of the model.
+#![tactic(auto)]
+
+ghost use Rattle.site_laws.specs.Laws.{AiredIsRun};
+
+/// Where each entry of a history may follow on the bus, and each node's own entries lead through states of its own disks,
+/// the history is a run, whose packets and notes are those that the bytes spell, and each node stands where its own
+/// entries have led it.
+pub fn aired_is_run()
+    ensures { AiredIsRun }
+{
+    turn_defs::laws::node_numbers();
+    packet_codec::rows::one_spelling();
+    air_bus::laws::delivered_was_sent();
+}
