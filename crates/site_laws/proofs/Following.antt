@@ -82,7 +82,7 @@ module _ (g : Setting) (numbers : NumbersAreNodes g) where
   sent_now n (bus.Stop m landed) deed x old means right mem = absurd mem
   sent_now n (bus.End m noted ps kept) (Begins i) x old means right mem = absurd means
   sent_now n (bus.End m noted ps kept) (Stops landed) x old means right mem = absurd means
-  sent_now n (bus.End m noted ps kept) (Ends note qs taken) x old means right mem =
+  sent_now n (bus.End m noted ps kept) (Ends made qs taken) x old means right mem =
       let found = from_packets m qs x (subst (λ (l : List (ℕ × List ℕ)). Mem x (map (sent_to m) l)) means.2.bytes mem) in
       let q = found.0 in
       subst (IsSentAs g (sends n qs ++ old)) found.2 (record {
@@ -189,6 +189,7 @@ module _ (g : Setting) (one : OneSpelling) (numbers : NumbersAreNodes g) (h : Li
 
   stands_now : (n : Node) (c : CellOf n) → GoesFrom g n c [] (at n) → StandsFor g c (at n)
   stands_now n c goes = record {
+    setting = sym (ap (λ (t : StateOf n). t.setting) goes.2);
     kept = ap (λ (t : StateOf n). t.kept) goes.2;
     live = ap (λ (t : StateOf n). t.live) goes.2;
     opened = subst (λ (t : StateOf n). OpenedAs g t.opened c.opened) goes.2 goes.1;

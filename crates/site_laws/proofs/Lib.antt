@@ -2,3 +2,4 @@ mod Addressing
 mod Stepping
 mod Lifting
 mod Following
+mod Leaving

@@ -36,18 +36,18 @@ pub data Deed : Type 0 where
 
 abbrev pub entry_of : Node → Deed → Entry
 entry_of n (Begins i) = Begin n i
-entry_of n (Ends note ps kept) = End n note ps kept
+entry_of n (Ends made ps kept) = End n made ps kept
 entry_of n (Stops landed) = Stop n landed
 
 abbrev pub sent_of : Node → Deed → List Sent
 sent_of n (Begins i) = []
-sent_of n (Ends note ps kept) = sends n ps
+sent_of n (Ends made ps kept) = sends n ps
 sent_of n (Stops landed) = []
 
 -- all its packets go to nodes of the setting
 abbrev pub DoesRight : Setting → Deed → Type 0
 DoesRight g (Begins i) = ⊤
-DoesRight g (Ends note ps kept) = Each (λ (p : Node × Packet). IsNode g p.0) ps
+DoesRight g (Ends made ps kept) = Each (λ (p : Node × Packet). IsNode g p.0) ps
 DoesRight g (Stops landed) = ⊤
 
 -- ---- inputs
@@ -57,13 +57,13 @@ opened_none g None None a e = refl
 opened_none g None (Some i) a e = absurd a
 opened_none g (Some b) x a e = none_some b (sym e)
 
-opened_some : (g : Setting) (o : Option Bytes) (x : Option Input) (b : Bytes) → OpenedAs g o x → o ≡ Some b → (i : Input) × (x ≡ Some i) × Reads g b i
+pub opened_some : (g : Setting) (o : Option Bytes) (x : Option Input) (b : Bytes) → OpenedAs g o x → o ≡ Some b → (i : Input) × (x ≡ Some i) × Reads g b i
 opened_some g (Some d) (Some i) b a e = (i, refl, subst (λ y. Reads g y i) (some_same d b e) a)
 opened_some g (Some d) None b a e = absurd a
 opened_some g None x b a e = none_some b e
 
 -- bytes are read as one input
-one_reading : OneSpelling → (g : Setting) (b : Bytes) (i j : Input) → Reads g b i → Reads g b j → i ≡ j
+pub one_reading : OneSpelling → (g : Setting) (b : Bytes) (i j : Input) → Reads g b i → Reads g b j → i ≡ j
 one_reading one g bytes.Start i j p q = p ∙ sym q
 one_reading one g bytes.Own i j p q = p ∙ sym q
 one_reading one g bytes.Tick i j p q = p ∙ sym q
@@ -78,7 +78,7 @@ comes_right g numbers bytes.Tick i r = subst (ComesRight g) (sym r) tt
 comes_right g numbers (bytes.Packet from b) i r = subst (ComesRight g) (sym r.5) (numbers.back from r.0 r.2).1
 
 fits : {L : Type 0} (g : Setting) (live : Option L) (b : Bytes) (i : Input) → MayTake live b → Reads g b i → Fits live i
-fits g None bytes.Start i m r = subst (λ j. Fits None j) (sym r) tt
+fits {L} g None bytes.Start i m r = subst (λ j. Fits {L = L} None j) (sym r) tt
 fits g None bytes.Own i m r = absurd m
 fits g None bytes.Tick i m r = absurd m
 fits g None (bytes.Packet from b) i m r = absurd m
@@ -97,13 +97,13 @@ module _ {K L : Type 0} (rows : Rows K L) (g : Setting) where
   -- the deed may come next
   abbrev pub MayDo : Node → List Sent → Cell K L → Deed → Type 0
   MayDo n sent c (Begins i) = MayBegin c sent n i
-  MayDo n sent c (Ends note ps kept) = IsTurn g c (model_row c) note ps × (kept ≤ length ps)
+  MayDo n sent c (Ends made ps kept) = IsTurn g c (model_row c) made ps × (kept ≤ length ps)
   MayDo n sent c (Stops landed) = MayStop c (model_row c) landed
 
   -- the node once it is done
   abbrev pub done : Cell K L → Deed → Cell K L
   done c (Begins i) = begun c i
-  done c (Ends note ps kept) = ended rows.lands c note (model_row c).live
+  done c (Ends made ps kept) = ended rows.lands c made (model_row c).live
   done c (Stops landed) = stopped rows.lands c landed
 
   -- the state of the model's node, whose open turn began with this
@@ -120,7 +120,7 @@ module _ {K L : Type 0} (rows : Rows K L) (g : Setting) where
     pub opened : OpenedAs g begun_with (done c deed).opened
     pub state : state_at (done c deed) begun_with ≡ t
 
-  row_is : (c : Cell K L) (i : Input) → c.opened ≡ Some i → model_row c ≡ row_of rows g c.kept c.live i
+  pub row_is : (c : Cell K L) (i : Input) → c.opened ≡ Some i → model_row c ≡ row_of rows g c.kept c.live i
   row_is c i e = ap (λ o. row rows.start (rows.turn g) c.kept c.live o) e ∙ by c.live
     where
       by : (l : Option L) → row rows.start (rows.turn g) c.kept l (Some i) ≡ row_of rows g c.kept l i

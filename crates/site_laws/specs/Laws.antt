@@ -1,5 +1,5 @@
 -- What the bus kept is a run.
-use Rattle.std.specs.Prelude.{◌≡◌, ℕ, List, [], filter, None}
+use Rattle.std.specs.Prelude.{◌≡◌, ℕ, List, [], ◌++◌, filter, None}
 use Rattle.lossy_link.specs.declared.plan.Kind.{Kind}
 use Rattle.lossy_link.specs.Fates.{PlanView}
 use Rattle.air_bus.specs.declared.entry.Entry.{Entry as BusEntry}
@@ -7,9 +7,9 @@ use Rattle.air_bus.specs.History.{is_of, IsAired}
 use Rattle.turn_defs.specs.Setting.{Setting}
 use Rattle.turn_defs.specs.Nodes.{IsNode, node_number, node_of}
 use Rattle.packet_codec.specs.declared.node.Node.{Node}
-use Rattle.site_node.specs.States.{Path}
-use Rattle.photon_defs.specs.Runs.{Entry, Disks, world_after, IsRun, opening}
-use Rattle.site_laws.specs.Kinds.{StateOf, rows_of, cell_of, down_over}
+use Rattle.site_node.specs.States.{Path, MayHold}
+use Rattle.photon_defs.specs.Runs.{Entry, Disks, disks, world_after, IsRun, opening}
+use Rattle.site_laws.specs.Kinds.{StateOf, rows_of, cell_of, kept_of, down_over}
 use Rattle.site_laws.specs.Meaning.{AllMean, StandsFor}
 
 -- the entries of one number, in their order
@@ -32,3 +32,15 @@ abbrev pub AiredIsRun : Type 0
 AiredIsRun =
     (g : Setting) (d : Disks) (plan : PlanView) (kinds : List Kind) (h : List BusEntry) (at : (n : Node) → StateOf n) →
     IsAired plan kinds h → EachWalked g d h at → (es : List Entry) × IsRunOf g d h at es
+
+-- records that all disks may hold: of each node those of its state, or those and its open turn's note; of others what they held
+pub record MayLeave (g : Setting) (d : Disks) (at : (n : Node) → StateOf n) (left : Disks) : Type 0 where
+  pub nodes : (n : Node) → IsNode g n → MayHold (rows_of n) (at n) (kept_of left n)
+  pub others : (n : Node) → (IsNode g n → ⊥) → kept_of left n ≡ kept_of d n
+
+-- whatever the disks may hold is what some run leaves: this one, with a stop of each node that has an open turn at its end
+abbrev pub LeftIsRun : Type 0
+LeftIsRun =
+    (g : Setting) (d : Disks) (h : List BusEntry) (at : (n : Node) → StateOf n) (es : List Entry) (left : Disks) →
+    IsRunOf g d h at es → MayLeave g d at left →
+    (stops : List Entry) × IsRun g (opening d) (es ++ stops) × (disks (world_after g (opening d) (es ++ stops)) ≡ left)

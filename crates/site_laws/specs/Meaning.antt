@@ -13,14 +13,14 @@ use Rattle.photon_defs.specs.Runs.{Cell, Entry, Begin, End, Stop}
 -- the entry of the bus is that of the model, its node by number, its input, note and packets by their bytes
 abbrev pub Means : Setting → BusEntry → Entry → Type 0
 Means g (bus.Begin m b) (Begin n i) = (node_of g m ≡ Some n) × Reads g b i
-Means g (bus.Begin m b) (End n note ps kept) = ⊥
+Means g (bus.Begin m b) (End n made ps kept) = ⊥
 Means g (bus.Begin m b) (Stop n landed) = ⊥
-Means g (bus.End m noted sent taken) (End n note ps kept) = (node_of g m ≡ Some n) × IsNoted note noted × AreSpelled ps sent × (kept ≡ taken)
+Means g (bus.End m noted sent taken) (End n made ps kept) = (node_of g m ≡ Some n) × IsNoted made noted × AreSpelled ps sent × (kept ≡ taken)
 Means g (bus.End m noted sent taken) (Begin n i) = ⊥
 Means g (bus.End m noted sent taken) (Stop n landed) = ⊥
 Means g (bus.Stop m noted) (Stop n landed) = (node_of g m ≡ Some n) × IsNoted landed noted
 Means g (bus.Stop m noted) (Begin n i) = ⊥
-Means g (bus.Stop m noted) (End n note ps kept) = ⊥
+Means g (bus.Stop m noted) (End n made ps kept) = ⊥
 
 -- entry by entry
 abbrev pub AllMean : Setting → List BusEntry → List Entry → Type 0
@@ -38,6 +38,7 @@ OpenedAs g (Some b) (Some i) = Reads g b i
 
 -- a node of the model stands where its own entries have led it
 pub record StandsFor {K L : Type 0} (g : Setting) (c : Cell K L) (s : State K L) : Type 0 where
+  pub setting : s.setting ≡ g
   pub kept : c.kept ≡ s.kept
   pub live : c.live ≡ s.live
   pub opened : OpenedAs g s.opened c.opened
