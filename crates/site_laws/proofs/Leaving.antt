@@ -13,10 +13,12 @@ use Rattle.air_bus.specs.declared.entry.Entry.{Entry as BusEntry}
 use Rattle.site_node.specs.Bytes.{Reads}
 use Rattle.site_node.specs.States.{State, Rows, MayHold, row_of}
 use Rattle.photon_defs.specs.Runs.{Cell, World, Entry, Begin, End, Stop, Disks, disks, after, world_after, May, IsRun, down, opening}
+use Rattle.photon_defs.specs.Topology.{WholeSound}
+use Rattle.photon_model.specs.Stores.{RunsKeepWhole}
 use Rattle.photon_model.specs.Images.{left_by, image, ImagesAreRuns}
 use Rattle.site_laws.specs.Kinds.{KeptOf, StateOf, rows_of, cell_of, kept_of}
 use Rattle.site_laws.specs.Meaning.{StandsFor}
-use Rattle.site_laws.specs.Laws.{IsRunOf, MayLeave}
+use Rattle.site_laws.specs.Laws.{IsRunOf, MayLeave, LeftIsWhole}
 use Rattle.site_laws.proofs.Stepping.{OneSpelling, Begins, Ends, Stops, Deed, entry_of, sent_of, done, model_row, opened_some, one_reading, row_is}
 use Rattle.site_laws.proofs.Lifting.{CellOf, put_else, after_is, cell_opening}
 
@@ -106,13 +108,19 @@ module _ (one : OneSpelling) (g : Setting) (d : Disks) (h : List BusEntry) (at :
   landed_at : (n : Node) → LandedAt n
   landed_at n = ⊎_elim (λ k. held (rows_of n) g one (cell_at n) (at n) (is.stands n k) (kept_of left n) (leaves.nodes n k)) (other_at n) (is_node_or g n)
 
-  is_image : image g (world_after g (opening d) es) (λ n. (landed_at n).0) ≡ left
-  is_image = λ t. record {
+  pub left_image : (landed : Node → Bool) × (image g (world_after g (opening d) es) landed ≡ left)
+  left_image = (λ n. (landed_at n).0, λ t. record {
     dispatchers = λ s. (landed_at (Dispatcher s)).1 t;
     servers = λ s. (landed_at (Server s)).1 t;
     replicas = λ r. (landed_at (Replica r)).1 t;
     joiners = λ j. (landed_at (Joiner j)).1 t;
-  }
+  })
 
   pub left_run : ImagesAreRuns → (stops : List Entry) × IsRun g (opening d) (es ++ stops) × (disks (world_after g (opening d) (es ++ stops)) ≡ left)
-  left_run images = let x = images g d es (λ n. (landed_at n).0) is.run in (x.0, x.1, x.2 ∙ is_image)
+  left_run images = let x = images g d es left_image.0 is.run in (x.0, x.1, x.2 ∙ left_image.1)
+
+-- a sound store stays sound
+pub left_whole : OneSpelling → RunsKeepWhole → LeftIsWhole
+left_whole one keeps g s h at es left checked sound kept is leaves =
+    let x = left_image one g s.disks h at es left is leaves in
+    subst (λ (q : Disks). WholeSound g (record { topology = s.topology; disks = q; is_used = true })) x.1 (keeps g s es x.0 checked sound kept is.run)

@@ -3,3 +3,4 @@ mod Stepping
 mod Lifting
 mod Following
 mod Leaving
+mod Starting

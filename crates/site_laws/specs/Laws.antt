@@ -1,14 +1,16 @@
 -- What the bus kept is a run.
-use Rattle.std.specs.Prelude.{◌≡◌, ℕ, List, [], ◌++◌, filter, None}
+use Rattle.std.specs.Prelude.{◌≡◌, ℕ, Bool, true, List, [], ◌++◌, filter, Some, None}
 use Rattle.lossy_link.specs.declared.plan.Kind.{Kind}
 use Rattle.lossy_link.specs.Fates.{PlanView}
 use Rattle.air_bus.specs.declared.entry.Entry.{Entry as BusEntry}
 use Rattle.air_bus.specs.History.{is_of, IsAired}
-use Rattle.turn_defs.specs.Setting.{Setting}
+use Rattle.turn_defs.specs.Setting.{Setting, Checked}
 use Rattle.turn_defs.specs.Nodes.{IsNode, node_number, node_of}
 use Rattle.packet_codec.specs.declared.node.Node.{Node}
 use Rattle.site_node.specs.States.{Path, MayHold}
 use Rattle.photon_defs.specs.Runs.{Entry, Disks, disks, world_after, IsRun, opening}
+use Rattle.photon_defs.specs.Topology.{Store, WholeSound, topology_of}
+use Rattle.photon_model.specs.Images.{image}
 use Rattle.site_laws.specs.Kinds.{StateOf, rows_of, cell_of, kept_of, down_over}
 use Rattle.site_laws.specs.Meaning.{AllMean, StandsFor}
 
@@ -38,9 +40,22 @@ pub record MayLeave (g : Setting) (d : Disks) (at : (n : Node) → StateOf n) (l
   pub nodes : (n : Node) → IsNode g n → MayHold (rows_of n) (at n) (kept_of left n)
   pub others : (n : Node) → (IsNode g n → ⊥) → kept_of left n ≡ kept_of d n
 
--- whatever the disks may hold is what some run leaves: this one, with a stop of each node that has an open turn at its end
+-- whatever the disks may hold is what stops now leave, for some choice of the nodes whose notes have landed
+abbrev pub LeftIsImage : Type 0
+LeftIsImage =
+    (g : Setting) (d : Disks) (h : List BusEntry) (at : (n : Node) → StateOf n) (es : List Entry) (left : Disks) →
+    IsRunOf g d h at es → MayLeave g d at left → (landed : Node → Bool) × (image g (world_after g (opening d) es) landed ≡ left)
+
+-- so some run leaves it: this one, with a stop of each node that has an open turn at its end
 abbrev pub LeftIsRun : Type 0
 LeftIsRun =
     (g : Setting) (d : Disks) (h : List BusEntry) (at : (n : Node) → StateOf n) (es : List Entry) (left : Disks) →
     IsRunOf g d h at es → MayLeave g d at left →
     (stops : List Entry) × IsRun g (opening d) (es ++ stops) × (disks (world_after g (opening d) (es ++ stops)) ≡ left)
+
+-- and a sound store stays sound, whatever its disks may hold
+abbrev pub LeftIsWhole : Type 0
+LeftIsWhole =
+    (g : Setting) (s : Store) (h : List BusEntry) (at : (n : Node) → StateOf n) (es : List Entry) (left : Disks) →
+    Checked g → WholeSound g s → s.topology ≡ Some (topology_of g) → IsRunOf g s.disks h at es → MayLeave g s.disks at left →
+    WholeSound g (record { topology = s.topology; disks = left; is_used = true })

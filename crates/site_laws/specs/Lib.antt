@@ -1,3 +1,4 @@
 pub mod Kinds
 pub mod Meaning
 pub mod Laws
+pub mod Example
