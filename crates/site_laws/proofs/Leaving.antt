@@ -1,8 +1,7 @@
 -- What all disks may hold is an image of the model's world after the run.
-use Rattle.std.proofs.Common.{◌≡◌, ◌⊎◌, inl, inr, ⊎_elim, ℕ, ◌+◌, ◌*◌, ◌<◌, ◌≤◌, Bool, true, false, ◌&&◌, List, [], ◌∷◌, ◌++◌, Option, Some, None, refl, sym, ap, ◌∙◌, subst, arith}
+use Rattle.std.proofs.Common.{◌≡◌, ◌⊎◌, inl, inr, ⊎_elim, ℕ, Bool, true, false, ◌&&◌, List, [], ◌∷◌, ◌++◌, Option, Some, None, refl, sym, ap, ◌∙◌, subst}
 use Rattle.std.specs.Prelude.{is_some, if◌then◌else◌}
-use Rattle.std.proofs.lemmas.Bool.{cases_lt}
-use Rattle.turn_defs.specs.Setting.{Setting, first_joiner}
+use Rattle.turn_defs.specs.Setting.{Setting}
 use Rattle.turn_defs.specs.Nodes.{IsNode}
 use Rattle.turn_defs.specs.Turns.{Note, Out, land}
 use Rattle.packet_codec.specs.declared.node.Node.{Node}
@@ -18,6 +17,7 @@ use Rattle.photon_model.specs.Stores.{RunsKeepWhole}
 use Rattle.photon_model.specs.Images.{left_by, image, ImagesAreRuns}
 use Rattle.site_laws.specs.Kinds.{KeptOf, StateOf, rows_of, cell_of, kept_of}
 use Rattle.site_laws.specs.Meaning.{StandsFor}
+use Rattle.site_laws.specs.Choosing.{is_node_or}
 use Rattle.site_laws.specs.Laws.{IsRunOf, MayLeave, LeftIsWhole}
 use Rattle.site_laws.proofs.Stepping.{OneSpelling, Begins, Ends, Stops, Deed, entry_of, sent_of, done, model_row, opened_some, one_reading, row_is}
 use Rattle.site_laws.proofs.Lifting.{CellOf, put_else, after_is, cell_opening}
@@ -51,15 +51,6 @@ module _ {K L : Type 0} (rows : Rows K L) (g : Setting) (one : OneSpelling) (c :
   held m = ⊎_elim not_landed has_landed m
 
 -- ---- numbers that no node has
-
-is_node_or : (g : Setting) (n : Node) → IsNode g n ⊎ (IsNode g n → ⊥)
-is_node_or g (Dispatcher s) = ⊎_elim (λ l. inl l) (λ l. inr (λ k. absurd (omega (arith, k, l)))) (cases_lt s 2)
-is_node_or g (Server s) = ⊎_elim (λ l. inl l) (λ l. inr (λ k. absurd (omega (arith, k, l)))) (cases_lt s 2)
-is_node_or g (Replica r) = ⊎_elim (λ l. inl l) (λ l. inr (λ k. absurd (omega (arith, k, l)))) (cases_lt r g.replicas)
-is_node_or g (Joiner j) =
-    ⊎_elim (λ l. inr (λ k. absurd (omega (arith, k.0, l))))
-    (λ l. ⊎_elim (λ m. inl (l, m)) (λ m. inr (λ k. absurd (omega (arith, k.1, m)))) (cases_lt j (first_joiner g + 2 * g.joiners)))
-    (cases_lt j (first_joiner g))
 
 -- who may come next is a node of the setting
 may_be : (g : Setting) (w : World) (m : Node) (deed : Deed) → May g w (entry_of m deed) → IsNode g m

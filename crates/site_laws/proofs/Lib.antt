@@ -4,3 +4,4 @@ mod Lifting
 mod Following
 mod Leaving
 mod Starting
+mod Resting

@@ -1,8 +1,10 @@
 -- What one node does, in the world of all.
-use Rattle.std.proofs.Common.{◌≡◌, ◌≢◌, ℕ, Bool, cond, ◌==◌, List, ◌++◌, refl, sym, ap, eq-eqb, ne_eqb}
+use Rattle.std.proofs.Common.{◌≡◌, ◌≢◌, ⊎_elim, ℕ, ◌≤◌, cond, List, ◌++◌, None, refl, sym, ap, ◌∙◌, eq-eqb, ne_eqb}
+use Rattle.std.proofs.lemmas.Bool.{cases_lt}
 use Rattle.list_words.specs.Lists.{set_at}
 use Rattle.turn_defs.specs.Setting.{Setting}
-use Rattle.turn_defs.specs.Nodes.{IsNode}
+use Rattle.list_words.proofs.Lists.{none_some}
+use Rattle.turn_defs.specs.Nodes.{IsNode, node_of, node_count, NumbersAreNodes}
 use Rattle.packet_codec.specs.Nodes.{Sent}
 use Rattle.packet_codec.specs.declared.node.Node.{Node}
 use Rattle.packet_codec.specs.declared.node.Node.TheVariants.{Dispatcher, Server, Replica, Joiner}
@@ -92,3 +94,7 @@ cell_opening d (Dispatcher s) = refl
 cell_opening d (Server s) = refl
 cell_opening d (Replica r) = refl
 cell_opening d (Joiner j) = refl
+
+-- a number that no node has is none below their count
+pub beyond : (g : Setting) → NumbersAreNodes g → (m : ℕ) → node_of g m ≡ None → node_count g ≤ m
+beyond g numbers m none = ⊎_elim (λ l. let x = numbers.each m l in none_some x.0 (sym none ∙ x.1)) (λ l. l) (cases_lt m (node_count g))

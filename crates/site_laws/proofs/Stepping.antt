@@ -52,7 +52,7 @@ DoesRight g (Stops landed) = ⊤
 
 -- ---- inputs
 
-opened_none : (g : Setting) (o : Option Bytes) (x : Option Input) → OpenedAs g o x → o ≡ None → x ≡ None
+pub opened_none : (g : Setting) (o : Option Bytes) (x : Option Input) → OpenedAs g o x → o ≡ None → x ≡ None
 opened_none g None None a e = refl
 opened_none g None (Some i) a e = absurd a
 opened_none g (Some b) x a e = none_some b (sym e)
