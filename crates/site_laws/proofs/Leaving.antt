@@ -43,9 +43,11 @@ module _ {K L : Type 0} (rows : Rows K L) (g : Setting) (one : OneSpelling) (c :
       let open_turn = opened_some g s.opened c.opened b stands.opened x.2 in
       let same : open_turn.0 ≡ i = one_reading one g b open_turn.0 i open_turn.2 (subst (λ h. Reads h b i) stands.setting x.3) in
       let row_same : model_row rows g c ≡ row_of rows s.setting s.kept s.live i =
-          row_is rows g c open_turn.0 open_turn.1 ∙ ap (λ j. row_of rows g c.kept c.live j) same ∙ ap (λ (l : Option L). row_of rows g c.kept l i) stands.live ∙ ap (λ q. row_of rows g q s.live i) stands.kept ∙ ap (λ h. row_of rows h s.kept s.live i) (sym stands.setting) in
-      (true, ap (λ (o : Option Input). land rows.lands (if is_some o && true then (model_row rows g c).note else None) c.kept) open_turn.1
-          ∙ ap (λ (r : Out L). land rows.lands r.note c.kept) row_same ∙ ap (λ q. land rows.lands (row_of rows s.setting s.kept s.live i).note q) stands.kept ∙ sym x.4)
+      row_is rows g c open_turn.0 open_turn.1 ∙ ap (λ j. row_of rows g c.kept c.live j) same ∙ ap (λ (l : Option L). row_of rows g c.kept l i) stands.live ∙ ap (λ q. row_of rows g q s.live i) stands.kept ∙ ap (λ h. row_of rows h s.kept s.live i) (sym stands.setting) in (
+        true,
+        ap (λ (o : Option Input). land rows.lands (if is_some o && true then (model_row rows g c).note else None) c.kept) open_turn.1
+            ∙ ap (λ (r : Out L). land rows.lands r.note c.kept) row_same ∙ ap (λ q. land rows.lands (row_of rows s.setting s.kept s.live i).note q) stands.kept ∙ sym x.4,
+      )
 
   pub held : MayHold rows s k → Landed
   held m = ⊎_elim not_landed has_landed m
@@ -100,12 +102,15 @@ module _ (one : OneSpelling) (g : Setting) (d : Disks) (h : List BusEntry) (at :
   landed_at n = ⊎_elim (λ k. held (rows_of n) g one (cell_at n) (at n) (is.stands n k) (kept_of left n) (leaves.nodes n k)) (other_at n) (is_node_or g n)
 
   pub left_image : (landed : Node → Bool) × (image g (world_after g (opening d) es) landed ≡ left)
-  left_image = (λ n. (landed_at n).0, λ t. record {
-    dispatchers = λ s. (landed_at (Dispatcher s)).1 t;
-    servers = λ s. (landed_at (Server s)).1 t;
-    replicas = λ r. (landed_at (Replica r)).1 t;
-    joiners = λ j. (landed_at (Joiner j)).1 t;
-  })
+  left_image = (
+    λ n. (landed_at n).0,
+    λ t. record {
+      dispatchers = λ s. (landed_at (Dispatcher s)).1 t;
+      servers = λ s. (landed_at (Server s)).1 t;
+      replicas = λ r. (landed_at (Replica r)).1 t;
+      joiners = λ j. (landed_at (Joiner j)).1 t;
+    },
+  )
 
   pub left_run : ImagesAreRuns → (stops : List Entry) × IsRun g (opening d) (es ++ stops) × (disks (world_after g (opening d) (es ++ stops)) ≡ left)
   left_run images = let x = images g d es left_image.0 is.run in (x.0, x.1, x.2 ∙ left_image.1)

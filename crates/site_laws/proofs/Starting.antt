@@ -41,9 +41,7 @@ paths : (n : Node) → IsNode worked n → Path (rows_of n) (down_over worked em
 paths (Dispatcher zero) is = (
   _,
   (refl, tt, refl),
-  _,
-  (bytes.Start, refl, omega arith, inl (Start, refl, record { noted = refl; packets = []; spelled = none_spelled; sent = tt; state = refl })),
-  refl,
+  (_, (bytes.Start, refl, omega arith, inl (Start, refl, record { noted = refl; packets = []; spelled = none_spelled; sent = tt; state = refl })), refl),
 )
 paths (Dispatcher (suc s)) is = still (Dispatcher (suc s)) (λ e. absurd (omega (arith, e))) (ap (λ b. cond b up_dispatcher (down_over worked empty_disks (Dispatcher (suc s)))) (sym (ne_eqb (suc s) 0 (λ e. absurd (omega (arith, e))))))
 paths (Server s) is = still (Server s) (λ e. absurd (omega (arith, e))) refl
@@ -69,6 +67,6 @@ comes_up = record {
 
 pub strict : DownIsStrict
 strict = record {
-  no_end = λ n d m es t p. none_some p.1.0 p.1.1;
-  no_tick = λ n d m es t p. p.1.1;
+  no_end = λ m n d es t p. none_some p.1.0 p.1.1;
+  no_tick = λ m n d es t p. p.1.1;
 }

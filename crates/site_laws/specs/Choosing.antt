@@ -29,22 +29,31 @@ module _ (g : Setting) (A : Node → Type 0) (P : (n : Node) → A n → Type 0)
   module _ (each : (n : Node) → IsNode g n → (a : A n) × P n a) where
     abbrev pick : (n : Node) → IsNode g n ⊎ (IsNode g n → ⊥) → A n
     pick n (inl k) = (each n k).0
-    pick n (inr not) = other n
+    pick n (inr never) = other n
 
     holds_so : (n : Node) (o : IsNode g n ⊎ (IsNode g n → ⊥)) → IsNode g n → P n (pick n o)
     holds_so n (inl k) is = (each n k).1
-    holds_so n (inr not) is = absurd (not is)
+    holds_so n (inr never) is = absurd (never is)
 
     other_so : (n : Node) (o : IsNode g n ⊎ (IsNode g n → ⊥)) → (IsNode g n → ⊥) → pick n o ≡ other n
-    other_so n (inl k) no = absurd (no k)
-    other_so n (inr not) no = refl
+    other_so n (inl k) out = absurd (out k)
+    other_so n (inr never) out = refl
 
     pub choose : Chosen
-    choose = record { at = λ n. pick n (is_node_or g n); holds = λ n is. holds_so n (is_node_or g n) is; others = λ n no. other_so n (is_node_or g n) no }
+    choose = record {
+      at = λ n. pick n (is_node_or g n);
+      holds = λ n is. holds_so n (is_node_or g n) is;
+      others = λ n out. other_so n (is_node_or g n) out;
+    }
 
 -- the records of all disks, by the node
 abbrev pub disks_of : ((n : Node) → KeptOf n) → Disks
-disks_of f = record { dispatchers = λ s. f (Dispatcher s); servers = λ s. f (Server s); replicas = λ r. f (Replica r); joiners = λ j. f (Joiner j) }
+disks_of f = record {
+  dispatchers = λ s. f (Dispatcher s);
+  servers = λ s. f (Server s);
+  replicas = λ r. f (Replica r);
+  joiners = λ j. f (Joiner j);
+}
 
 pub kept_back : (f : (n : Node) → KeptOf n) (n : Node) → kept_of (disks_of f) n ≡ f n
 kept_back f (Dispatcher s) = refl
@@ -54,10 +63,14 @@ kept_back f (Joiner j) = refl
 
 -- where each node's disks may hold records of which something is known, all disks may hold such
 pub all_left : (g : Setting) (d : Disks) (at : (n : Node) → StateOf n) (Q : (n : Node) → KeptOf n → Type 0)
-    → ((n : Node) → IsNode g n → (k : KeptOf n) × (MayHold (rows_of n) (at n) k × Q n k)) → (left : Disks) × MayLeave g d at left × ((n : Node) → IsNode g n → Q n (kept_of left n))
+    → ((n : Node) → IsNode g n → (k : KeptOf n) × (MayHold (rows_of n) (at n) k × Q n k))
+    → (left : Disks) × MayLeave g d at left × ((n : Node) → IsNode g n → Q n (kept_of left n))
 all_left g d at Q each =
     let c = choose g KeptOf (λ n k. MayHold (rows_of n) (at n) k × Q n k) (kept_of d) each in (
       disks_of c.at,
-      record { nodes = λ n is. subst (MayHold (rows_of n) (at n)) (sym (kept_back c.at n)) (c.holds n is).0; others = λ n no. kept_back c.at n ∙ c.others n no },
+      record {
+        nodes = λ n is. subst (MayHold (rows_of n) (at n)) (sym (kept_back c.at n)) (c.holds n is).0;
+        others = λ n out. kept_back c.at n ∙ c.others n out;
+      },
       λ n is. subst (Q n) (sym (kept_back c.at n)) (c.holds n is).1,
     )

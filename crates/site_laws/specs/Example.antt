@@ -27,7 +27,12 @@ in_the_model = Begin (Dispatcher 0) Start ∷ End (Dispatcher 0) None [] 0 ∷ [
 
 -- dispatcher 0 is up, and all others are down
 abbrev pub up_dispatcher : State DispatcherKept DispatcherLive
-up_dispatcher = record { setting = worked; kept = empty_disks.dispatchers 0; live = Some (dispatcher_start (empty_disks.dispatchers 0)).live; opened = None }
+up_dispatcher = record {
+  setting = worked;
+  kept = empty_disks.dispatchers 0;
+  live = Some (dispatcher_start (empty_disks.dispatchers 0)).live;
+  opened = None;
+}
 
 abbrev pub stands_at : (n : Node) → StateOf n
 stands_at (Dispatcher s) = if s == 0 then up_dispatcher else down_over worked empty_disks (Dispatcher s)
@@ -42,7 +47,12 @@ pub record DispatcherComesUp : Type 0 where
   pub means : AllMean worked on_the_bus in_the_model
   pub run : IsRun worked (opening empty_disks) in_the_model
 
+-- no entries that begin so lead a node on that is down
+abbrev pub LeadsNowhere : BusEntry → Type 0
+LeadsNowhere e =
+    (n : Node) (d : Disks) (es : List BusEntry) (t : StateOf n) → Path (rows_of n) (down_over worked d n) (e ∷ es) t → ⊥
+
 -- A node that is down ends no turn, and begins none but by Start.
 pub record DownIsStrict : Type 0 where
-  pub no_end : (n : Node) (d : Disks) (m : ℕ) (es : List BusEntry) (t : StateOf n) → Path (rows_of n) (down_over worked d n) (bus.End m None [] 0 ∷ es) t → ⊥
-  pub no_tick : (n : Node) (d : Disks) (m : ℕ) (es : List BusEntry) (t : StateOf n) → Path (rows_of n) (down_over worked d n) (bus.Begin m bytes.Tick ∷ es) t → ⊥
+  pub no_end : (m : ℕ) → LeadsNowhere (bus.End m None [] 0)
+  pub no_tick : (m : ℕ) → LeadsNowhere (bus.Begin m bytes.Tick)

@@ -1,7 +1,8 @@
 -- What entries of the bus mean: those of the model that say the same of inputs, notes and packets.
-use Rattle.std.specs.Prelude.{◌≡◌, List, [], ◌∷◌, Option, Some, None, ⊤}
+use Rattle.std.specs.Prelude.{◌≡◌, ℕ, List, [], ◌∷◌, Option, Some, None, ⊤}
 use Rattle.turn_defs.specs.Setting.{Setting}
 use Rattle.turn_defs.specs.Nodes.{node_of}
+use Rattle.packet_codec.specs.declared.node.Node.{Node}
 use Rattle.packet_codec.specs.declared.node.Input.{Input}
 use Rattle.air_bus.specs.declared.entry.Input.{Input as Bytes}
 use Rattle.air_bus.specs.declared.entry.Entry.{Entry as BusEntry}
@@ -10,15 +11,19 @@ use Rattle.site_node.specs.Bytes.{IsNoted, AreSpelled, Reads}
 use Rattle.site_node.specs.States.{State}
 use Rattle.photon_defs.specs.Runs.{Cell, Entry, Begin, End, Stop}
 
+-- the number is this node's
+abbrev pub IsNumberOf : Setting → ℕ → Node → Type 0
+IsNumberOf g m n = node_of g m ≡ Some n
+
 -- the entry of the bus is that of the model, its node by number, its input, note and packets by their bytes
 abbrev pub Means : Setting → BusEntry → Entry → Type 0
-Means g (bus.Begin m b) (Begin n i) = (node_of g m ≡ Some n) × Reads g b i
+Means g (bus.Begin m b) (Begin n i) = IsNumberOf g m n × Reads g b i
 Means g (bus.Begin m b) (End n made ps kept) = ⊥
 Means g (bus.Begin m b) (Stop n landed) = ⊥
-Means g (bus.End m noted sent taken) (End n made ps kept) = (node_of g m ≡ Some n) × IsNoted made noted × AreSpelled ps sent × (kept ≡ taken)
-Means g (bus.End m noted sent taken) (Begin n i) = ⊥
-Means g (bus.End m noted sent taken) (Stop n landed) = ⊥
-Means g (bus.Stop m noted) (Stop n landed) = (node_of g m ≡ Some n) × IsNoted landed noted
+Means g (bus.End m noted sent fits) (End n made ps kept) = IsNumberOf g m n × IsNoted made noted × AreSpelled ps sent × (kept ≡ fits)
+Means g (bus.End m noted sent fits) (Begin n i) = ⊥
+Means g (bus.End m noted sent fits) (Stop n landed) = ⊥
+Means g (bus.Stop m noted) (Stop n landed) = IsNumberOf g m n × IsNoted landed noted
 Means g (bus.Stop m noted) (Begin n i) = ⊥
 Means g (bus.Stop m noted) (End n made ps kept) = ⊥
 

@@ -39,4 +39,5 @@ StatesRest =
 abbrev pub StatesAreQuiet : Type 0
 StatesAreQuiet =
     (g : Setting) (d : Disks) (h : List BusEntry) (at : (n : Node) → StateOf n) (es : List Entry) (plan : PlanView) →
-    IsRunOf g d h at es → ((n : Node) → IsNode g n → is_dead plan.dead n ≡ false → QuietAt g n (at n)) → IsQuietPoint g plan (world_after g (opening d) es)
+    IsRunOf g d h at es → ((n : Node) → IsNode g n → is_dead plan.dead n ≡ false → QuietAt g n (at n)) →
+    IsQuietPoint g plan (world_after g (opening d) es)
