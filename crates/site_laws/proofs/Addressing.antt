@@ -1,5 +1,5 @@
 -- Rows send to nodes of the setting alone.
-use Rattle.std.proofs.Common.{◌≡◌, ℕ, zero, suc, ◌+◌, ◌-◌, ◌<◌, ◌≤◌, Bool, true, false, List, [], ◌∷◌, ◌++◌, map, find, Option, Some, None, refl, sym, ap, subst, arith, ◌&&◌, ◌||◌, ◌==◌, ◌^◌, ◌*◌, length}
+use Rattle.std.proofs.Common.{◌≡◌, ℕ, zero, suc, ◌+◌, ◌-◌, ◌<◌, ◌≤◌, true, List, [], ◌∷◌, ◌++◌, map, find, Option, Some, None, subst, arith, ◌&&◌, ◌||◌, ◌==◌, ◌^◌, ◌*◌, length}
 use Rattle.std.specs.Prelude.{nat_lt, nat_le, ⊤}
 use Rattle.std.proofs.lemmas.Bool.{cond_both, ltb-true, leb-true, and_parts}
 use Rattle.list_words.specs.Lists.{Each, has}

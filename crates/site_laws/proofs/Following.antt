@@ -3,7 +3,7 @@ use Rattle.std.proofs.Common.{◌≡◌, ◌≢◌, ◌⊎◌, inl, inr, ⊎_eli
 use Rattle.std.specs.Prelude.{All}
 use Rattle.std.proofs.lemmas.Bool.{eqb-true, eqb-false}
 use Rattle.std.proofs.lemmas.List.Elements.{All-head, All-tail}
-use Rattle.list_words.specs.Lists.{Mem, Each}
+use Rattle.list_words.specs.Lists.{Mem}
 use Rattle.list_words.proofs.Lists.{mem_left, mem_right, mem_split, each_at, some_same, none_some}
 use Rattle.turn_defs.specs.Setting.{Setting}
 use Rattle.turn_defs.specs.Nodes.{IsNode, node_number, node_of, NumbersAreNodes}
@@ -19,14 +19,14 @@ use Rattle.air_bus.specs.declared.entry.Entry.{Entry as BusEntry}
 use Rattle.air_bus.specs.declared.entry.Entry.TheVariants as bus
 use Rattle.air_bus.specs.History.{node_of as number_in}
 use Rattle.air_bus.specs.Laws.{Sent as BusSent, sent, sent_by, sent_to, DeliveredWasSent}
-use Rattle.site_node.specs.Bytes.{AreSpelled, addressed, Reads}
-use Rattle.site_node.specs.States.{State, Path, Leads}
-use Rattle.photon_defs.specs.Runs.{Cell, World, Entry, Begin, End, Stop, Disks, after, world_after, sends, WasSent, May, IsRun, down, opening}
-use Rattle.site_laws.specs.Kinds.{StateOf, rows_of, cell_of, kept_of, down_over}
+use Rattle.site_node.specs.Bytes.{addressed, Reads}
+use Rattle.site_node.specs.States.{Path}
+use Rattle.photon_defs.specs.Runs.{World, Entry, Disks, after, world_after, sends, WasSent, May, IsRun, opening}
+use Rattle.site_laws.specs.Kinds.{StateOf, rows_of, cell_of}
 use Rattle.site_laws.specs.Meaning.{Means, AllMean, OpenedAs, StandsFor}
 use Rattle.site_laws.specs.Laws.{made_by, EachWalked, IsRunOf}
 use Rattle.site_laws.proofs.Addressing.{sends_right}
-use Rattle.site_laws.proofs.Stepping.{OneSpelling, Deed, Begins, Ends, Stops, entry_of, sent_of, DoesRight, done, state_at, Stepped, steps}
+use Rattle.site_laws.proofs.Stepping.{OneSpelling, Deed, Begins, Ends, Stops, entry_of, sent_of, DoesRight, done, state_at, steps}
 use Rattle.site_laws.proofs.Lifting.{CellOf, put, put_sent, put_here, put_else, may_come, after_is, cell_opening}
 
 -- ---- a node's own entries

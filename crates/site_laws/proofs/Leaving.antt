@@ -1,5 +1,5 @@
 -- What all disks may hold is an image of the model's world after the run.
-use Rattle.std.proofs.Common.{◌≡◌, ◌⊎◌, inl, inr, ⊎_elim, ℕ, Bool, true, false, ◌&&◌, List, [], ◌∷◌, ◌++◌, Option, Some, None, refl, sym, ap, ◌∙◌, subst}
+use Rattle.std.proofs.Common.{◌≡◌, ⊎_elim, Bool, true, false, ◌&&◌, List, [], ◌∷◌, ◌++◌, Option, Some, None, refl, sym, ap, ◌∙◌, subst}
 use Rattle.std.specs.Prelude.{is_some, if◌then◌else◌}
 use Rattle.turn_defs.specs.Setting.{Setting}
 use Rattle.turn_defs.specs.Nodes.{IsNode}
@@ -15,7 +15,7 @@ use Rattle.photon_defs.specs.Runs.{Cell, World, Entry, Begin, End, Stop, Disks, 
 use Rattle.photon_defs.specs.Topology.{WholeSound}
 use Rattle.photon_model.specs.Stores.{RunsKeepWhole}
 use Rattle.photon_model.specs.Images.{left_by, image, ImagesAreRuns}
-use Rattle.site_laws.specs.Kinds.{KeptOf, StateOf, rows_of, cell_of, kept_of}
+use Rattle.site_laws.specs.Kinds.{StateOf, rows_of, cell_of, kept_of}
 use Rattle.site_laws.specs.Meaning.{StandsFor}
 use Rattle.site_laws.specs.Choosing.{is_node_or}
 use Rattle.site_laws.specs.Laws.{IsRunOf, MayLeave, LeftIsWhole}

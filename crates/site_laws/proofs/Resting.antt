@@ -1,16 +1,12 @@
 -- Rest and quiet points, from the states that the world stands for.
-use Rattle.std.proofs.Common.{◌≡◌, ℕ, Bool, true, false, List, Option, Some, None, refl, sym, subst}
-use Rattle.lossy_link.specs.Fates.{PlanView}
-use Rattle.air_bus.specs.declared.entry.Input.{Input as Bytes}
+use Rattle.std.proofs.Common.{◌≡◌, ℕ, false, Option, Some, None, refl, sym, subst}
 use Rattle.turn_defs.specs.Setting.{Setting}
-use Rattle.packet_codec.specs.declared.node.Node.{Node}
 use Rattle.packet_codec.specs.declared.node.Node.TheVariants.{Dispatcher, Server, Replica, Joiner}
-use Rattle.packet_codec.specs.declared.node.Input.{Input}
 use Rattle.site_node.specs.States.{State}
 use Rattle.photon_defs.specs.Bus.{is_dead}
 use Rattle.photon_defs.specs.Rest.{UpWith}
 use Rattle.photon_defs.specs.Runs.{Cell}
-use Rattle.site_laws.specs.Meaning.{OpenedAs, StandsFor}
+use Rattle.site_laws.specs.Meaning.{StandsFor}
 use Rattle.site_laws.specs.Rest.{StatesRest, StatesAreQuiet}
 use Rattle.site_laws.proofs.Stepping.{opened_none}
 

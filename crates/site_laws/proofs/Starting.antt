@@ -1,5 +1,5 @@
 -- The worked history of a dispatcher that comes up.
-use Rattle.std.proofs.Common.{◌≡◌, ◌≢◌, inl, ℕ, zero, suc, Bool, true, false, cond, List, [], ◌∷◌, Some, None, refl, sym, ap, ◌∙◌, subst, arith, ne_eqb}
+use Rattle.std.proofs.Common.{◌≡◌, ◌≢◌, inl, ℕ, zero, suc, false, cond, List, [], ◌∷◌, None, refl, sym, ap, ◌∙◌, subst, arith, ne_eqb}
 use Rattle.std.proofs.lemmas.List.Elements.{All-nil}
 use Rattle.list_words.proofs.Lists.{none_some}
 use Rattle.lossy_link.specs.declared.plan.Kind.{Kind}
@@ -7,11 +7,9 @@ use Rattle.lossy_link.specs.Fates.{PlanView}
 use Rattle.air_bus.specs.declared.entry.Input.TheVariants as bytes
 use Rattle.air_bus.specs.declared.entry.Entry.{Entry as BusEntry}
 use Rattle.air_bus.specs.declared.entry.Entry.TheVariants as bus
-use Rattle.air_bus.specs.declared.entry.Phase.{Phase}
 use Rattle.air_bus.specs.declared.entry.Phase.TheVariants.{Down, Busy}
-use Rattle.air_bus.specs.History.{IsAired, MayFollow}
+use Rattle.air_bus.specs.History.{IsAired}
 use Rattle.air_bus.proofs.Phases.{aired_more, aired_none}
-use Rattle.turn_defs.specs.Setting.{first_joiner}
 use Rattle.turn_defs.specs.Nodes.{IsNode, node_number, node_of}
 use Rattle.turn_defs.specs.Rows.{worked}
 use Rattle.packet_codec.specs.declared.packet.Packet.{Packet}
@@ -20,9 +18,9 @@ use Rattle.packet_codec.specs.declared.node.Node.{Node}
 use Rattle.packet_codec.specs.declared.node.Node.TheVariants.{Dispatcher, Server, Replica, Joiner}
 use Rattle.packet_codec.specs.declared.node.Input.TheVariants.{Start}
 use Rattle.site_node.specs.Bytes.{AreSpelled}
-use Rattle.site_node.specs.States.{Path, Ends, IsDone}
+use Rattle.site_node.specs.States.{Path}
 use Rattle.photon_model.specs.Stores.{empty_disks}
-use Rattle.site_laws.specs.Kinds.{StateOf, rows_of, down_over}
+use Rattle.site_laws.specs.Kinds.{rows_of, down_over}
 use Rattle.site_laws.specs.Laws.{made_by}
 use Rattle.site_laws.specs.Example.{on_the_bus, up_dispatcher, stands_at, DispatcherComesUp, DownIsStrict}
 

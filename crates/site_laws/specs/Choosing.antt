@@ -1,5 +1,5 @@
 -- Where each node that there is has some state, or some records that are left, one function has all of them.
-use Rattle.std.proofs.Common.{◌≡◌, ◌⊎◌, inl, inr, ⊎_elim, ℕ, ◌+◌, ◌*◌, refl, sym, ◌∙◌, subst, arith}
+use Rattle.std.proofs.Common.{◌≡◌, ◌⊎◌, inl, inr, ⊎_elim, ◌+◌, ◌*◌, refl, sym, ◌∙◌, subst, arith}
 use Rattle.std.proofs.lemmas.Bool.{cases_lt}
 use Rattle.turn_defs.specs.Setting.{Setting, first_joiner}
 use Rattle.turn_defs.specs.Nodes.{IsNode}

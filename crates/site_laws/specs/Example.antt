@@ -1,5 +1,5 @@
 -- What the bus keeps where a dispatcher comes up.
-use Rattle.std.specs.Prelude.{◌≡◌, ℕ, ◌==◌, List, [], ◌∷◌, if◌then◌else◌, Some, None}
+use Rattle.std.specs.Prelude.{ℕ, ◌==◌, List, [], ◌∷◌, if◌then◌else◌, Some, None}
 use Rattle.lossy_link.specs.declared.plan.Kind.{Kind}
 use Rattle.lossy_link.specs.Fates.{PlanView}
 use Rattle.air_bus.specs.declared.entry.Input.TheVariants as bytes

@@ -1,5 +1,5 @@
 -- Rest and quiet points, by each node's own state.
-use Rattle.std.specs.Prelude.{◌≡◌, Bool, true, false, List, None, ⊤}
+use Rattle.std.specs.Prelude.{◌≡◌, true, false, List, None, ⊤}
 use Rattle.lossy_link.specs.Fates.{PlanView}
 use Rattle.air_bus.specs.declared.entry.Entry.{Entry as BusEntry}
 use Rattle.turn_defs.specs.Setting.{Setting}
