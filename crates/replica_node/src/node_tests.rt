@@ -32,6 +32,18 @@ const PROMISED: [u8; 23] = [
     7, 3, 0, 0, 0, 0, 0, 0, 0, 0, 0, 0, 0, 0, 0, 0, 0, 1, 0, 0, 0, 1, 0,
 ];
 
+// Packets of kinds that a replica gives no answer to: that a joiner is busy, an insert of the id 0.0.0.1:2:3, and that
+// another replica accepted.
+const JOINED: [u8; 10] = [0x12, 0, 0, 0, 0, 0, 0, 0, 36, 4];
+
+const INSERT: [u8; 31] = [
+    0x13, 0, 0, 0, 1, 0, 0, 0, 2, 0, 0, 0, 0, 0, 0, 0, 3, 0, 7, 0, 0, 0, 1, 0, 0, 0, 0, 0, 0, 0, 0,
+];
+
+const ACCEPTED: [u8; 23] = [
+    0x19, 3, 0, 0, 0, 0, 0, 0, 0, 0, 0, 0, 0, 0, 0, 0, 0, 1, 0, 0, 0, 1, 0,
+];
+
 // A replica that is down, over a fresh disk with these stops.
 fn opened(alloc: Global, fuses: Vec<Fuse>) -> Result<ReplicaNode<MemDisk>, Fail>
     ensures { IfOk result (λ node. node.in_doubt ≡ None) }
@@ -124,6 +136,16 @@ fn what_no_packet_spells_is_skipped(rt: HostRuntime) -> Result<(), Fail> {
     }
     // No node has this number: two dispatchers, two servers, three replicas, two joiners.
     assert!(rt; is_skipped(alloc, 9, &PREPARE)?);
+    Ok(())
+}
+
+#[test]
+fn packets_of_other_kinds_are_skipped(rt: HostRuntime) -> Result<(), Fail> {
+    let alloc = rt.alloc();
+    assert!(rt; is_skipped(alloc, SERVER, &JOINED)?);
+    assert!(rt; is_skipped(alloc, SERVER, &INSERT)?);
+    assert!(rt; is_skipped(alloc, SERVER, &ACCEPTED)?);
+    assert!(rt; is_skipped(alloc, SERVER, &PROMISE)?);
     Ok(())
 }
 
