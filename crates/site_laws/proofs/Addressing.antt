@@ -1,6 +1,6 @@
 -- Rows send to nodes of the setting alone.
-use Rattle.std.proofs.Common.{◌≡◌, ℕ, zero, suc, ◌+◌, ◌-◌, ◌<◌, ◌≤◌, true, List, [], ◌∷◌, ◌++◌, map, find, Option, Some, None, subst, arith, ◌&&◌, ◌||◌, ◌==◌, ◌^◌, ◌*◌, length}
-use Rattle.std.specs.Prelude.{nat_lt, nat_le, ⊤}
+use Rattle.std.proofs.Common.{◌≡◌, ℕ, zero, suc, ◌+◌, ◌-◌, ◌<◌, ◌≤◌, Bool, true, false, List, [], ◌∷◌, ◌++◌, map, find, Option, Some, None, subst, arith, ◌&&◌, ◌||◌, ◌==◌, ◌^◌, ◌*◌, length}
+use Rattle.std.specs.Prelude.{nat_lt, nat_le, if◌then◌else◌, ⊤}
 use Rattle.std.proofs.lemmas.Bool.{cond_both, ltb-true, leb-true, and_parts}
 use Rattle.list_words.specs.Lists.{Each, has}
 use Rattle.list_words.proofs.Lists.{each_append}
@@ -48,6 +48,11 @@ module _ (g : Setting) where
   abbrev pub SendsRight : {L : Type 0} → Out L → Type 0
   SendsRight o = Each GoesRight o.packets
 
+  -- whichever is chosen
+  either : {L : Type 0} (b : Bool) (x y : Out L) → SendsRight x → SendsRight y → SendsRight (if b then x else y)
+  either true x y p q = p
+  either false x y p q = q
+
   only : (n : Node) (p : Packet) → IsNode g n → GoesRight (Only n, p)
   only n p is m e = subst (IsNode g) e is
 
@@ -62,18 +67,18 @@ module _ (g : Setting) where
   module _ (site : ℕ) (k : DispatcherKept) (l : DispatcherLive) where
     takes_right : (o : Option ClickLine) → SendsRight (d.takes g site k l o)
     takes_right None = tt
-    takes_right (Some c) = cond_both (has k.pending c.place) _ _ (λ (o : Out DispatcherLive). SendsRight o) (λ _. tt) (λ _. (any site (packet.Join c.place c.click), tt))
+    takes_right (Some c) = either (has k.pending c.place) _ _ tt (any site (packet.Join c.place c.click), tt)
 
     retries_right : (p : ℕ) (ps : List ℕ) (o : Option ClickLine) → SendsRight (d.retries g site k l p ps o)
     retries_right p ps None = tt
     retries_right p ps (Some c) = (any site (packet.Join p c.click), tt)
 
     room_right : (ps : List ℕ) → SendsRight (d.with_room g site k l ps)
-    room_right [] = cond_both l.ended _ _ (λ (o : Out DispatcherLive). SendsRight o) (λ _. tt) (λ _. takes_right (at g.clicks l.place))
+    room_right [] = either l.ended _ _ tt (takes_right (at g.clicks l.place))
     room_right (p ∷ ps) = retries_right p ps (at g.clicks p)
 
     own_right : SendsRight (d.dispatcher_own g site k l)
-    own_right = cond_both (d.first_done l.fresh) _ _ (λ (o : Out DispatcherLive). SendsRight o) (λ _. tt) (λ _. cond_both (d.has_room l) _ _ (λ (o : Out DispatcherLive). SendsRight o) (λ _. room_right l.due) (λ _. tt))
+    own_right = either (d.first_done l.fresh) _ _ tt (either (d.has_room l) _ _ (room_right l.due) tt)
 
     fresh_right : (fs : List Fresh) → Each GoesRight (d.fresh_joins g site k l fs)
     fresh_right [] = tt
@@ -88,10 +93,10 @@ module _ (g : Setting) where
     trying_right (p ∷ ps) = join_right p (at g.clicks p) (d.trying_joins g site k l ps) (trying_right ps)
 
     ends_right : (p : ℕ) → SendsRight (d.ends g site k l p)
-    ends_right p = cond_both (d.waits l.fresh p) _ _ (λ (o : Out DispatcherLive). SendsRight o) (λ _. tt) (λ _. cond_both (has l.trying p) _ _ (λ (o : Out DispatcherLive). SendsRight o) (λ _. tt) (λ _. tt))
+    ends_right p = either (d.waits l.fresh p) _ _ tt (either (has l.trying p) _ _ tt tt)
 
     parks_right : (p : ℕ) → SendsRight (d.parks g site k l p)
-    parks_right p = cond_both (d.waits l.fresh p) _ _ (λ (o : Out DispatcherLive). SendsRight o) (λ _. tt) (λ _. cond_both (has l.trying p) _ _ (λ (o : Out DispatcherLive). SendsRight o) (λ _. tt) (λ _. tt))
+    parks_right p = either (d.waits l.fresh p) _ _ tt (either (has l.trying p) _ _ tt tt)
 
     joined_right : (p : ℕ) (o : Outcome) → SendsRight (d.dispatcher_joined g site k l p o)
     joined_right p outcome.Written = ends_right p
@@ -124,12 +129,11 @@ module _ (g : Setting) where
 
     looks_right : (p : ℕ) (c : Click) (o : Option Query) → SendsRight (j.looks g n k l p c o)
     looks_right p c None = told_right p (outcome.NoQuery (length g.queries))
-    looks_right p c (Some q) = cond_both (nat_lt l.number (2 ^ 64 - 1)) _ _ (λ (o : Out JoinerLive). SendsRight o) (λ _. (claim_right (record { id = c.id; token = j.next_token g n k l }), tt)) (λ _. tt)
+    looks_right p c (Some q) = either (nat_lt l.number (2 ^ 64 - 1)) _ _ (claim_right (record { id = c.id; token = j.next_token g n k l }), tt) tt
 
     joins_right : (p : ℕ) (c : Click) → SendsRight (j.joins g n k l p c)
     joins_right p c =
-        cond_both (j.in_flight l.flight c.id) _ _ (λ (o : Out JoinerLive). SendsRight o) (λ _. tt)
-        (λ _. cond_both (nat_lt (length l.flight) 32) _ _ (λ (o : Out JoinerLive). SendsRight o) (λ _. looks_right p c (first g.queries c.query)) (λ _. told_right p outcome.Busy))
+        either (j.in_flight l.flight c.id) _ _ tt (either (nat_lt (length l.flight) 32) _ _ (looks_right p c (first g.queries c.query)) (told_right p outcome.Busy))
 
     answers_right : (x : Insert) (f : Flight) (a : Answer) → SendsRight (j.answers g n k l x f a)
     answers_right x f Granted = told_right f.position outcome.Written
@@ -185,14 +189,14 @@ module _ (g : Setting) where
     module _ (k : ServerKept) (l : ServerLive) where
       claimed_right : (x : Insert) (h : ℕ) (st : ShardState) (o : Option Answer) → SendsRight (s.claimed g site k l x h st o)
       claimed_right x h st (Some a) = reply_right x a
-      claimed_right x h st None = cond_both (s.queued st.queue x.token || nat_le 4096 (length st.queue)) _ _ (λ (o : Out ServerLive). SendsRight o) (λ _. tt) (λ _. tt)
+      claimed_right x h st None = either (s.queued st.queue x.token || nat_le 4096 (length st.queue)) _ _ tt tt
 
       owns_right : (o : Option ℕ) → SendsRight (s.owns g site k l o)
       owns_right None = tt
       owns_right (Some h) = replicas_right (packet.Prepare (record { shard = h; slot = length (l.shards h).learned }) (record { round = suc l.round; epoch = k.epoch; site = site }))
 
       server_own_right : SendsRight (s.server_own g site k l)
-      server_own_right = cond_both (s.is_below_limit l.round) _ _ (λ (o : Out ServerLive). SendsRight o) (λ _. owns_right (s.first_shard (λ h. s.may_propose g (l.shards h)) 0 (shards g))) (λ _. tt)
+      server_own_right = either (s.is_below_limit l.round) _ _ (owns_right (s.first_shard (λ h. s.may_propose g (l.shards h)) 0 (shards g))) tt
 
       accept_right : (at : Place) (b : Ballot) (o : Option Batch) → Each GoesRight (s.accept_if g site k l at b o)
       accept_right at b None = tt
@@ -200,7 +204,7 @@ module _ (g : Setting) where
 
       promise_right : (r : ℕ) (at : Place) (b : Ballot) (prior : Option (Ballot × Batch)) (st : ShardState) (o : Option Proposal) → SendsRight (s.gets_promise g site k l r at b prior st o)
       promise_right r at b prior st None = tt
-      promise_right r at b prior st (Some p) = cond_both (s.is_current g at b st p) _ _ (λ (o : Out ServerLive). SendsRight o) (λ _. accept_right at p.ballot (on_promise p.own p.phase r prior).1) (λ _. tt)
+      promise_right r at b prior st (Some p) = either (s.is_current g at b st p) _ _ (accept_right at p.ballot (on_promise p.own p.phase r prior).1) tt
 
       module _ (site_is : site < 2) where
         chosen_right : (at : Place) (st : ShardState) (p : Proposal) (phase : Phase Batch) (o : Option Batch) → SendsRight (s.accepted g site k l at st p phase o)
@@ -209,14 +213,14 @@ module _ (g : Setting) where
 
         accepted_right : (r : ℕ) (at : Place) (b : Ballot) (st : ShardState) (o : Option Proposal) → SendsRight (s.gets_accepted g site k l r at b st o)
         accepted_right r at b st None = tt
-        accepted_right r at b st (Some p) = cond_both (s.is_current g at b st p) _ _ (λ (o : Out ServerLive). SendsRight o) (λ _. chosen_right at st p (on_accepted p.phase r).0 (on_accepted p.phase r).1) (λ _. tt)
+        accepted_right r at b st (Some p) = either (s.is_current g at b st p) _ _ (chosen_right at st p (on_accepted p.phase r).0 (on_accepted p.phase r).1) tt
 
         nack_right : (at : Place) (b above : Ballot) (st : ShardState) (o : Option Proposal) → SendsRight (s.gets_nack g site k l at b above st o)
         nack_right at b above st None = tt
-        nack_right at b above st (Some p) = cond_both (s.is_current g at b st p) _ _ (λ (o : Out ServerLive). SendsRight o) (λ _. tt) (λ _. tt)
+        nack_right at b above st (Some p) = either (s.is_current g at b st p) _ _ tt tt
 
         learned_right : (at : Place) (v : Batch) (st : ShardState) → SendsRight (s.gets_chosen g site k l at v st)
-        learned_right at v st = cond_both (s.is_next g at st && s.is_below_limit at.slot) _ _ (λ (o : Out ServerLive). SendsRight o) (λ _. replies_right (st.learned ++ v ∷ []) st.queue) (λ _. tt)
+        learned_right at v st = either (s.is_next g at st && s.is_below_limit at.slot) _ _ (replies_right (st.learned ++ v ∷ []) st.queue) tt
 
         phase_right : (at : Place) (b : Ballot) (phase : Phase Batch) → Each GoesRight (s.of_phase g site k l at b phase)
         phase_right at b (Promising marks best) = replicas_right (packet.Prepare at b)

@@ -77,7 +77,8 @@ module _ (g : Setting) (numbers : NumbersAreNodes g) where
   wider old more x s = record { from = s.from; to = s.to; what = s.what; from_is = s.from_is; to_is = s.to_is; spelled = s.spelled; bytes_are = s.bytes_are; was_sent = mem_right _ more old s.was_sent }
 
   -- what an entry sends is what its meaning sends
-  sent_now : (n : Node) (e : BusEntry) (deed : Deed) (x : BusSent) (old : List Sent) → Means g e (entry_of n deed) → DoesRight g deed → Mem x (sent_by e) → IsSentAs g (sent_of n deed ++ old) x
+  sent_now : (n : Node) (e : BusEntry) (deed : Deed) (x : BusSent) (old : List Sent)
+      → Means g e (entry_of n deed) → DoesRight g deed → Mem x (sent_by e) → IsSentAs g (sent_of n deed ++ old) x
   sent_now n (bus.Begin m b) deed x old means right mem = absurd mem
   sent_now n (bus.Stop m landed) deed x old means right mem = absurd mem
   sent_now n (bus.End m noted ps kept) (Begins i) x old means right mem = absurd means
@@ -134,17 +135,22 @@ module _ (g : Setting) (one : OneSpelling) (numbers : NumbersAreNodes g) (h : Li
           none a b = cc
 
   -- what a turn begins with can be read, and was sent
-  reads : (before : List BusEntry) (e : BusEntry) (rest : List BusEntry) (w : World) → Followed before (e ∷ rest) w → (n : Node) → node_of g (number_in e) ≡ Some n
+  reads : (before : List BusEntry) (e : BusEntry) (rest : List BusEntry) (w : World) → Followed before (e ∷ rest) w
+      → (n : Node) → node_of g (number_in e) ≡ Some n
       → (b : Bytes) → e ≡ bus.Begin (number_in e) b → (i : Input) × Reads g b i × WasSent w.sent n i
   reads before e rest w f n is bytes.Start eq = (Start, refl, tt)
   reads before e rest w f n is bytes.Own eq = (Own, refl, tt)
   reads before e rest w f n is bytes.Tick eq = (Tick, refl, tt)
   reads before e rest w f n is (bytes.Packet from b) eq =
-      let s = f.all_sent _ (delivered.each before rest (number_in e) from b (f.split ∙ ap (λ (d : BusEntry). before ++ d ∷ rest) eq)) in
-      (Deliver s.from s.what, (s.from, s.what, s.from_is, s.spelled, s.bytes_are, refl), subst (λ to. Mem (record { from = s.from; to = to; packet = s.what }) w.sent) (some_same s.to n (sym s.to_is ∙ is)) s.was_sent)
+      let s = f.all_sent _ (delivered.each before rest (number_in e) from b (f.split ∙ ap (λ (d : BusEntry). before ++ d ∷ rest) eq)) in (
+        Deliver s.from s.what,
+        (s.from, s.what, s.from_is, s.spelled, s.bytes_are, refl),
+        subst (λ to. Mem (record { from = s.from; to = to; packet = s.what }) w.sent) (some_same s.to n (sym s.to_is ∙ is)) s.was_sent,
+      )
 
   -- the rest of every node's entries, once one node has done its entry
-  nodes_after : (before : List BusEntry) (e : BusEntry) (rest : List BusEntry) (w : World) → Followed before (e ∷ rest) w → (n : Node) → node_of g (number_in e) ≡ Some n → (c : CellOf n) (more : List Sent)
+  nodes_after : (before : List BusEntry) (e : BusEntry) (rest : List BusEntry) (w : World) → Followed before (e ∷ rest) w
+      → (n : Node) → node_of g (number_in e) ≡ Some n → (c : CellOf n) (more : List Sent)
       → GoesFrom g n c rest (at n) → (m : Node) → IsNode g m → GoesFrom g m (cell_of (put w n c more) m) rest (at m)
   nodes_after before e rest w f n is c more goes m is_node = by (number_in e == node_number m) refl
     where
@@ -164,7 +170,8 @@ module _ (g : Setting) (one : OneSpelling) (numbers : NumbersAreNodes g) (h : Li
       by true t = here (eqb-true (number_in e) (node_number m) t)
       by false t = other (eqb-false (number_in e) (node_number m) t)
 
-  others_after : (before : List BusEntry) (e : BusEntry) (rest : List BusEntry) (w : World) → Followed before (e ∷ rest) w → (n : Node) → node_of g (number_in e) ≡ Some n → (m : ℕ) → node_of g m ≡ None → made_by m rest ≡ []
+  others_after : (before : List BusEntry) (e : BusEntry) (rest : List BusEntry) (w : World) → Followed before (e ∷ rest) w
+      → (n : Node) → node_of g (number_in e) ≡ Some n → (m : ℕ) → node_of g m ≡ None → made_by m rest ≡ []
   others_after before e rest w f n is m none = sym (made_else e rest m (λ same. none_some n (sym none ∙ ap (node_of g) (sym same) ∙ is))) ∙ f.no_others m none
 
   one_more : (before : List BusEntry) (e : BusEntry) (rest : List BusEntry) (w : World) → Followed before (e ∷ rest) w → OneMore before e rest w
@@ -175,17 +182,26 @@ module _ (g : Setting) (one : OneSpelling) (numbers : NumbersAreNodes g) (h : Li
       let back = numbers.back (number_in e) n is in
       let goes = f.nodes n back.1 in
       let path = subst (λ (l : List BusEntry). Path (rows_of n) (state_at (rows_of n) g (cell_of w n) goes.0) l (at n)) (made_here e rest (node_number n) (sym back.0)) goes.2 in
-      let s = steps (rows_of n) g n w.sent (cell_of w n) goes.0 goes.1 path.0 one (λ i. sends_right g n (cell_of w n).kept (cell_of w n).live i back.1) numbers e is (reads before e rest w f n is) path.1 in
+      let s =
+      steps (rows_of n) g n w.sent (cell_of w n) goes.0 goes.1 path.0 one (λ i. sends_right g n (cell_of w n).kept (cell_of w n).live i back.1)
+      numbers e is (reads before e rest w f n is) path.1 in
       let c = done (rows_of n) g (cell_of w n) s.deed in
       let more = sent_of n s.deed in
       let led : GoesFrom g n c rest (at n) = (s.begun_with, s.opened, subst (λ (t : StateOf n). Path (rows_of n) t (made_by (node_number n) rest) (at n)) (sym s.state) path.2) in
       let there : Followed (before ++ e ∷ []) rest (put w n c more) = record {
         split = f.split ∙ sym (append_assoc before (e ∷ []) rest);
-        all_sent = λ x m. subst (λ l. IsSentAs g l x) (sym (put_sent w n c more)) (⊎_elim (λ a. wider g numbers w.sent more x (f.all_sent x a)) (λ a. sent_now g numbers n e s.deed x w.sent s.means s.right a) (sent_push before e x m));
+        all_sent = λ x m. subst (λ l. IsSentAs g l x) (sym (put_sent w n c more))
+            (⊎_elim (λ a. wider g numbers w.sent more x (f.all_sent x a)) (λ a. sent_now g numbers n e s.deed x w.sent s.means s.right a)
+            (sent_push before e x m));
         nodes = nodes_after before e rest w f n is c more led;
         no_others = others_after before e rest w f n is;
       } in
-      record { entry = entry_of n s.deed; means = s.means; may = may_come g w n s.deed back.1 s.may; followed = subst (Followed (before ++ e ∷ []) rest) (sym (after_is g w n s.deed)) there }
+      record {
+        entry = entry_of n s.deed;
+        means = s.means;
+        may = may_come g w n s.deed back.1 s.may;
+        followed = subst (Followed (before ++ e ∷ []) rest) (sym (after_is g w n s.deed)) there;
+      }
 
   stands_now : (n : Node) (c : CellOf n) → GoesFrom g n c [] (at n) → StandsFor g c (at n)
   stands_now n c goes = record {
@@ -203,7 +219,8 @@ module _ (g : Setting) (one : OneSpelling) (numbers : NumbersAreNodes g) (h : Li
       record { entries = now.entry ∷ later.entries; means = (now.means, later.means); run = (now.may, later.run); stands = later.stands }
 
 -- the whole history, from the opening
-pub aired_run : OneSpelling → (g : Setting) → NumbersAreNodes g → (d : Disks) (h : List BusEntry) (at : (n : Node) → StateOf n) → DeliveredWasSent h → EachWalked g d h at → (es : List Entry) × IsRunOf g d h at es
+pub aired_run : OneSpelling → (g : Setting) → NumbersAreNodes g → (d : Disks) (h : List BusEntry) (at : (n : Node) → StateOf n)
+    → DeliveredWasSent h → EachWalked g d h at → (es : List Entry) × IsRunOf g d h at es
 aired_run one g numbers d h at delivered walked =
     let start : Followed g one numbers h delivered at [] h (opening d) = record {
       split = refl;

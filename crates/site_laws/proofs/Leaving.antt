@@ -43,7 +43,8 @@ module _ {K L : Type 0} (rows : Rows K L) (g : Setting) (one : OneSpelling) (c :
       let open_turn = opened_some g s.opened c.opened b stands.opened x.2 in
       let same : open_turn.0 ≡ i = one_reading one g b open_turn.0 i open_turn.2 (subst (λ h. Reads h b i) stands.setting x.3) in
       let row_same : model_row rows g c ≡ row_of rows s.setting s.kept s.live i =
-      row_is rows g c open_turn.0 open_turn.1 ∙ ap (λ j. row_of rows g c.kept c.live j) same ∙ ap (λ (l : Option L). row_of rows g c.kept l i) stands.live ∙ ap (λ q. row_of rows g q s.live i) stands.kept ∙ ap (λ h. row_of rows h s.kept s.live i) (sym stands.setting) in (
+      row_is rows g c open_turn.0 open_turn.1 ∙ ap (λ j. row_of rows g c.kept c.live j) same ∙ ap (λ (l : Option L). row_of rows g c.kept l i) stands.live
+      ∙ ap (λ q. row_of rows g q s.live i) stands.kept ∙ ap (λ h. row_of rows h s.kept s.live i) (sym stands.setting) in (
         true,
         ap (λ (o : Option Input). land rows.lands (if is_some o && true then (model_row rows g c).note else None) c.kept) open_turn.1
             ∙ ap (λ (r : Out L). land rows.lands r.note c.kept) row_same ∙ ap (λ q. land rows.lands (row_of rows s.setting s.kept s.live i).note q) stands.kept ∙ sym x.4,
