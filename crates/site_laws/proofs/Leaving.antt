@@ -1,0 +1,123 @@
+-- What all disks may hold is an image of the model's world after the run.
+use Rattle.std.proofs.Common.{◌≡◌, ⊎_elim, Bool, true, false, ◌&&◌, List, [], ◌∷◌, ◌++◌, Option, Some, None, refl, sym, ap, ◌∙◌, subst}
+use Rattle.std.specs.Prelude.{is_some, if◌then◌else◌}
+use Rattle.turn_defs.specs.Setting.{Setting}
+use Rattle.turn_defs.specs.Nodes.{IsNode}
+use Rattle.turn_defs.specs.Turns.{Note, Out, land}
+use Rattle.packet_codec.specs.declared.node.Node.{Node}
+use Rattle.packet_codec.specs.declared.node.Node.TheVariants.{Dispatcher, Server, Replica, Joiner}
+use Rattle.packet_codec.specs.declared.node.Input.{Input}
+use Rattle.air_bus.specs.declared.entry.Input.{Input as Bytes}
+use Rattle.air_bus.specs.declared.entry.Entry.{Entry as BusEntry}
+use Rattle.site_node.specs.Bytes.{Reads}
+use Rattle.site_node.specs.States.{State, Rows, MayHold, row_of}
+use Rattle.photon_defs.specs.Runs.{Cell, World, Entry, Begin, End, Stop, Disks, disks, after, world_after, May, IsRun, down, opening}
+use Rattle.photon_defs.specs.Topology.{WholeSound}
+use Rattle.photon_model.specs.Stores.{RunsKeepWhole}
+use Rattle.photon_model.specs.Images.{left_by, image, ImagesAreRuns}
+use Rattle.site_laws.specs.Kinds.{StateOf, rows_of, cell_of, kept_of}
+use Rattle.site_laws.specs.Meaning.{StandsFor}
+use Rattle.site_laws.specs.Choosing.{is_node_or}
+use Rattle.site_laws.specs.Laws.{IsRunOf, MayLeave, LeftIsWhole}
+use Rattle.site_laws.proofs.Stepping.{OneSpelling, Begins, Ends, Stops, Deed, entry_of, sent_of, done, model_row, opened_some, one_reading, row_is}
+use Rattle.site_laws.proofs.Lifting.{CellOf, put_else, after_is, cell_opening}
+
+-- ---- one kind of node
+
+module _ {K L : Type 0} (rows : Rows K L) (g : Setting) (one : OneSpelling) (c : Cell K L) (s : State K L) (stands : StandsFor g c s) (k : K) where
+  -- whether the open turn's note has landed in what is left
+  abbrev pub Landed : Type 0
+  Landed = (b : Bool) × (left_by rows.lands (model_row rows g c) b c ≡ k)
+
+  not_landed : k ≡ s.kept → Landed
+  not_landed e = (false, ap (λ (o : Option Note). land rows.lands o c.kept) (none (is_some c.opened)) ∙ stands.kept ∙ sym e)
+    where
+      none : (b : Bool) → (if b && false then (model_row rows g c).note else None) ≡ None
+      none true = refl
+      none false = refl
+
+  has_landed : (b : Bytes) × (i : Input) × (s.opened ≡ Some b) × Reads s.setting b i × (k ≡ land rows.lands (row_of rows s.setting s.kept s.live i).note s.kept) → Landed
+  has_landed x =
+      let b = x.0 in
+      let i = x.1 in
+      let open_turn = opened_some g s.opened c.opened b stands.opened x.2 in
+      let same : open_turn.0 ≡ i = one_reading one g b open_turn.0 i open_turn.2 (subst (λ h. Reads h b i) stands.setting x.3) in
+      let row_same : model_row rows g c ≡ row_of rows s.setting s.kept s.live i =
+      row_is rows g c open_turn.0 open_turn.1 ∙ ap (λ j. row_of rows g c.kept c.live j) same ∙ ap (λ (l : Option L). row_of rows g c.kept l i) stands.live
+      ∙ ap (λ q. row_of rows g q s.live i) stands.kept ∙ ap (λ h. row_of rows h s.kept s.live i) (sym stands.setting) in (
+        true,
+        ap (λ (o : Option Input). land rows.lands (if is_some o && true then (model_row rows g c).note else None) c.kept) open_turn.1
+            ∙ ap (λ (r : Out L). land rows.lands r.note c.kept) row_same ∙ ap (λ q. land rows.lands (row_of rows s.setting s.kept s.live i).note q) stands.kept ∙ sym x.4,
+      )
+
+  pub held : MayHold rows s k → Landed
+  held m = ⊎_elim not_landed has_landed m
+
+-- ---- numbers that no node has
+
+-- who may come next is a node of the setting
+may_be : (g : Setting) (w : World) (m : Node) (deed : Deed) → May g w (entry_of m deed) → IsNode g m
+may_be g w (Dispatcher s) (Begins i) may = may.0
+may_be g w (Server s) (Begins i) may = may.0
+may_be g w (Replica r) (Begins i) may = may.0
+may_be g w (Joiner j) (Begins i) may = may.0
+may_be g w (Dispatcher s) (Ends made ps kept) may = may.0
+may_be g w (Server s) (Ends made ps kept) may = may.0
+may_be g w (Replica r) (Ends made ps kept) may = may.0
+may_be g w (Joiner j) (Ends made ps kept) may = may.0
+may_be g w (Dispatcher s) (Stops landed) may = may.0
+may_be g w (Server s) (Stops landed) may = may.0
+may_be g w (Replica r) (Stops landed) may = may.0
+may_be g w (Joiner j) (Stops landed) may = may.0
+
+module _ (g : Setting) (n : Node) (none : IsNode g n → ⊥) where
+  deed_still : (w : World) (m : Node) (deed : Deed) → May g w (entry_of m deed) → cell_of (after g w (entry_of m deed)) n ≡ cell_of w n
+  deed_still w m deed may =
+      ap (λ v. cell_of v n) (after_is g w m deed) ∙ put_else w m n (done (rows_of m) g (cell_of w m) deed) (sent_of m deed) (λ same. none (subst (IsNode g) (sym same) (may_be g w m deed may)))
+
+  entry_still : (w : World) (e : Entry) → May g w e → cell_of (after g w e) n ≡ cell_of w n
+  entry_still w (Begin m i) may = deed_still w m (Begins i) may
+  entry_still w (End m made ps kept) may = deed_still w m (Ends made ps kept) may
+  entry_still w (Stop m landed) may = deed_still w m (Stops landed) may
+
+  run_still : (w : World) (es : List Entry) → IsRun g w es → cell_of (world_after g w es) n ≡ cell_of w n
+  run_still w [] run = refl
+  run_still w (e ∷ es) run = run_still (after g w e) es run.1 ∙ entry_still w e run.0
+
+-- ---- all nodes
+
+module _ (one : OneSpelling) (g : Setting) (d : Disks) (h : List BusEntry) (at : (n : Node) → StateOf n) (es : List Entry) (left : Disks) (is : IsRunOf g d h at es) (leaves : MayLeave g d at left) where
+  abbrev cell_at : (n : Node) → CellOf n
+  cell_at n = cell_of (world_after g (opening d) es) n
+
+  abbrev LandedAt : Node → Type 0
+  LandedAt n = (b : Bool) × (left_by (rows_of n).lands (model_row (rows_of n) g (cell_at n)) b (cell_at n) ≡ kept_of left n)
+
+  -- a number that no node has is down over what it held
+  other_at : (n : Node) → (IsNode g n → ⊥) → LandedAt n
+  other_at n none =
+      let still : cell_at n ≡ down (kept_of d n) = run_still g n none (opening d) es is.run ∙ cell_opening d n in
+      (false, ap (λ (c : CellOf n). left_by (rows_of n).lands (model_row (rows_of n) g c) false c) still ∙ sym (leaves.others n none))
+
+  landed_at : (n : Node) → LandedAt n
+  landed_at n = ⊎_elim (λ k. held (rows_of n) g one (cell_at n) (at n) (is.stands n k) (kept_of left n) (leaves.nodes n k)) (other_at n) (is_node_or g n)
+
+  pub left_image : (landed : Node → Bool) × (image g (world_after g (opening d) es) landed ≡ left)
+  left_image = (
+    λ n. (landed_at n).0,
+    λ t. record {
+      dispatchers = λ s. (landed_at (Dispatcher s)).1 t;
+      servers = λ s. (landed_at (Server s)).1 t;
+      replicas = λ r. (landed_at (Replica r)).1 t;
+      joiners = λ j. (landed_at (Joiner j)).1 t;
+    },
+  )
+
+  pub left_run : ImagesAreRuns → (stops : List Entry) × IsRun g (opening d) (es ++ stops) × (disks (world_after g (opening d) (es ++ stops)) ≡ left)
+  left_run images = let x = images g d es left_image.0 is.run in (x.0, x.1, x.2 ∙ left_image.1)
+
+-- a sound store stays sound
+pub left_whole : OneSpelling → RunsKeepWhole → LeftIsWhole
+left_whole one keeps g s h at es left checked sound kept is leaves =
+    let x = left_image one g s.disks h at es left is leaves in
+    subst (λ (q : Disks). WholeSound g (record { topology = s.topology; disks = q; is_used = true })) x.1 (keeps g s es x.0 checked sound kept is.run)

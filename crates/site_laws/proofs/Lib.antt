@@ -1,0 +1,7 @@
+mod Addressing
+mod Stepping
+mod Lifting
+mod Following
+mod Leaving
+mod Starting
+mod Resting

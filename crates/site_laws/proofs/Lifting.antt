@@ -1,0 +1,100 @@
+-- What one node does, in the world of all.
+use Rattle.std.proofs.Common.{◌≡◌, ◌≢◌, ⊎_elim, ℕ, ◌≤◌, cond, List, ◌++◌, None, refl, sym, ap, ◌∙◌, eq-eqb, ne_eqb}
+use Rattle.std.proofs.lemmas.Bool.{cases_lt}
+use Rattle.list_words.specs.Lists.{set_at}
+use Rattle.turn_defs.specs.Setting.{Setting}
+use Rattle.list_words.proofs.Lists.{none_some}
+use Rattle.turn_defs.specs.Nodes.{IsNode, node_of, node_count, NumbersAreNodes}
+use Rattle.packet_codec.specs.Nodes.{Sent}
+use Rattle.packet_codec.specs.declared.node.Node.{Node}
+use Rattle.packet_codec.specs.declared.node.Node.TheVariants.{Dispatcher, Server, Replica, Joiner}
+use Rattle.photon_defs.specs.Runs.{Cell, World, Disks, after, May, down, opening}
+use Rattle.site_laws.specs.Kinds.{KeptOf, LiveOf, rows_of, cell_of, kept_of}
+use Rattle.site_laws.proofs.Stepping.{Deed, Begins, Ends, Stops, entry_of, sent_of, MayDo, done}
+
+abbrev pub CellOf : Node → Type 0
+CellOf n = Cell (KeptOf n) (LiveOf n)
+
+-- the world with this cell and these packets more
+abbrev pub put : World → (n : Node) → CellOf n → List Sent → World
+put w (Dispatcher s) c more = record w { dispatchers = set_at w.dispatchers s c; sent = more ++ w.sent }
+put w (Server s) c more = record w { servers = set_at w.servers s c; sent = more ++ w.sent }
+put w (Replica r) c more = record w { replicas = set_at w.replicas r c; sent = more ++ w.sent }
+put w (Joiner j) c more = record w { joiners = set_at w.joiners j c; sent = more ++ w.sent }
+
+pub put_sent : (w : World) (n : Node) (c : CellOf n) (more : List Sent) → (put w n c more).sent ≡ more ++ w.sent
+put_sent w (Dispatcher s) c more = refl
+put_sent w (Server s) c more = refl
+put_sent w (Replica r) c more = refl
+put_sent w (Joiner j) c more = refl
+
+set_here : {A : Type 0} (f : ℕ → A) (n : ℕ) (v : A) → set_at f n v n ≡ v
+set_here f n v = ap (λ b. cond b v (f n)) (eq-eqb n n refl)
+
+set_else : {A : Type 0} (f : ℕ → A) (n m : ℕ) (v : A) → m ≢ n → set_at f n v m ≡ f m
+set_else f n m v ne = ap (λ b. cond b v (f m)) (ne_eqb m n ne)
+
+pub put_here : (w : World) (n : Node) (c : CellOf n) (more : List Sent) → cell_of (put w n c more) n ≡ c
+put_here w (Dispatcher s) c more = set_here w.dispatchers s c
+put_here w (Server s) c more = set_here w.servers s c
+put_here w (Replica r) c more = set_here w.replicas r c
+put_here w (Joiner j) c more = set_here w.joiners j c
+
+pub put_else : (w : World) (n m : Node) (c : CellOf n) (more : List Sent) → m ≢ n → cell_of (put w n c more) m ≡ cell_of w m
+put_else w (Dispatcher s) (Dispatcher t) c more ne = set_else w.dispatchers s t c (λ e. ne (ap (λ k. Dispatcher k) e))
+put_else w (Server s) (Server t) c more ne = set_else w.servers s t c (λ e. ne (ap (λ k. Server k) e))
+put_else w (Replica s) (Replica t) c more ne = set_else w.replicas s t c (λ e. ne (ap (λ k. Replica k) e))
+put_else w (Joiner s) (Joiner t) c more ne = set_else w.joiners s t c (λ e. ne (ap (λ k. Joiner k) e))
+put_else w (Dispatcher s) (Server t) c more ne = refl
+put_else w (Dispatcher s) (Replica t) c more ne = refl
+put_else w (Dispatcher s) (Joiner t) c more ne = refl
+put_else w (Server s) (Dispatcher t) c more ne = refl
+put_else w (Server s) (Replica t) c more ne = refl
+put_else w (Server s) (Joiner t) c more ne = refl
+put_else w (Replica s) (Dispatcher t) c more ne = refl
+put_else w (Replica s) (Server t) c more ne = refl
+put_else w (Replica s) (Joiner t) c more ne = refl
+put_else w (Joiner s) (Dispatcher t) c more ne = refl
+put_else w (Joiner s) (Server t) c more ne = refl
+put_else w (Joiner s) (Replica t) c more ne = refl
+
+-- what a node may do may come next
+pub may_come : (g : Setting) (w : World) (n : Node) (deed : Deed) → IsNode g n → MayDo (rows_of n) g n w.sent (cell_of w n) deed → May g w (entry_of n deed)
+may_come g w (Dispatcher s) (Begins i) is may = (is, may)
+may_come g w (Server s) (Begins i) is may = (is, may)
+may_come g w (Replica r) (Begins i) is may = (is, may)
+may_come g w (Joiner j) (Begins i) is may = (is, may)
+may_come g w (Dispatcher s) (Ends made ps kept) is may = (is, may.0, may.1)
+may_come g w (Server s) (Ends made ps kept) is may = (is, may.0, may.1)
+may_come g w (Replica r) (Ends made ps kept) is may = (is, may.0, may.1)
+may_come g w (Joiner j) (Ends made ps kept) is may = (is, may.0, may.1)
+may_come g w (Dispatcher s) (Stops landed) is may = (is, may)
+may_come g w (Server s) (Stops landed) is may = (is, may)
+may_come g w (Replica r) (Stops landed) is may = (is, may)
+may_come g w (Joiner j) (Stops landed) is may = (is, may)
+
+-- and it changes that node alone
+pub after_is : (g : Setting) (w : World) (n : Node) (deed : Deed) → after g w (entry_of n deed) ≡ put w n (done (rows_of n) g (cell_of w n) deed) (sent_of n deed)
+after_is g w (Dispatcher s) (Begins i) = refl
+after_is g w (Server s) (Begins i) = refl
+after_is g w (Replica r) (Begins i) = refl
+after_is g w (Joiner j) (Begins i) = refl
+after_is g w (Dispatcher s) (Ends made ps kept) = refl
+after_is g w (Server s) (Ends made ps kept) = refl
+after_is g w (Replica r) (Ends made ps kept) = refl
+after_is g w (Joiner j) (Ends made ps kept) = refl
+after_is g w (Dispatcher s) (Stops landed) = refl
+after_is g w (Server s) (Stops landed) = refl
+after_is g w (Replica r) (Stops landed) = refl
+after_is g w (Joiner j) (Stops landed) = refl
+
+-- at the opening each node is down over its records
+pub cell_opening : (d : Disks) (n : Node) → cell_of (opening d) n ≡ down (kept_of d n)
+cell_opening d (Dispatcher s) = refl
+cell_opening d (Server s) = refl
+cell_opening d (Replica r) = refl
+cell_opening d (Joiner j) = refl
+
+-- a number that no node has is none below their count
+pub beyond : (g : Setting) → NumbersAreNodes g → (m : ℕ) → node_of g m ≡ None → node_count g ≤ m
+beyond g numbers m none = ⊎_elim (λ l. let x = numbers.each m l in none_some x.0 (sym none ∙ x.1)) (λ l. l) (cases_lt m (node_count g))

@@ -1,0 +1,46 @@
+-- Rest and quiet points, from the states that the world stands for.
+use Rattle.std.proofs.Common.{◌≡◌, ℕ, false, Option, Some, None, refl, sym, subst}
+use Rattle.turn_defs.specs.Setting.{Setting}
+use Rattle.packet_codec.specs.declared.node.Node.TheVariants.{Dispatcher, Server, Replica, Joiner}
+use Rattle.site_node.specs.States.{State}
+use Rattle.photon_defs.specs.Bus.{is_dead}
+use Rattle.photon_defs.specs.Rest.{UpWith}
+use Rattle.photon_defs.specs.Runs.{Cell}
+use Rattle.site_laws.specs.Meaning.{StandsFor}
+use Rattle.site_laws.specs.Rest.{StatesRest, StatesAreQuiet}
+use Rattle.site_laws.proofs.Stepping.{opened_none}
+
+-- what holds of what a state knows holds of the model's node
+up_with : {K L : Type 0} (g : Setting) (P : L → Type 0) (c : Cell K L) (t : State K L) → StandsFor g c t → UpWith P t.live → UpWith P c.live
+up_with {L = L} g P c t s up = subst (λ (o : Option L). UpWith P o) (sym s.live) up
+
+quiet_with : {K L : Type 0} (g : Setting) (P : L → Type 0) (c : Cell K L) (t : State K L) → StandsFor g c t → (t.opened ≡ None) × UpWith P t.live → (c.opened ≡ None) × UpWith P c.live
+quiet_with g P c t s quiet = (opened_none g t.opened c.opened s.opened quiet.0, up_with g P c t s quiet.1)
+
+pub states_rest : StatesRest
+states_rest g d h at es is rests = record {
+  dispatchers = λ s lt. up_with g _ _ (at (Dispatcher s)) (is.stands (Dispatcher s) lt) (rests (Dispatcher s) lt);
+  joiners = λ j lt. up_with g _ _ (at (Joiner j)) (is.stands (Joiner j) lt) (rests (Joiner j) lt);
+  servers = λ s lt. up_with g _ _ (at (Server s)) (is.stands (Server s) lt) (rests (Server s) lt);
+}
+
+-- only a replica is dead
+no_dispatcher : (dead : Option ℕ) (s : ℕ) → is_dead dead (Dispatcher s) ≡ false
+no_dispatcher None s = refl
+no_dispatcher (Some r) s = refl
+
+no_server : (dead : Option ℕ) (s : ℕ) → is_dead dead (Server s) ≡ false
+no_server None s = refl
+no_server (Some r) s = refl
+
+no_joiner : (dead : Option ℕ) (j : ℕ) → is_dead dead (Joiner j) ≡ false
+no_joiner None j = refl
+no_joiner (Some r) j = refl
+
+pub states_are_quiet : StatesAreQuiet
+states_are_quiet g d h at es plan is quiet = record {
+  dispatchers = λ s lt. quiet_with g _ _ (at (Dispatcher s)) (is.stands (Dispatcher s) lt) (quiet (Dispatcher s) lt (no_dispatcher plan.dead s));
+  servers = λ s lt. quiet_with g _ _ (at (Server s)) (is.stands (Server s) lt) (quiet (Server s) lt (no_server plan.dead s));
+  joiners = λ j lt. quiet_with g _ _ (at (Joiner j)) (is.stands (Joiner j) lt) (quiet (Joiner j) lt (no_joiner plan.dead j));
+  replicas = λ r lt live. quiet_with g _ _ (at (Replica r)) (is.stands (Replica r) lt) (quiet (Replica r) lt live);
+}

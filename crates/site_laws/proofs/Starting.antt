@@ -1,0 +1,70 @@
+-- The worked history of a dispatcher that comes up.
+use Rattle.std.proofs.Common.{◌≡◌, ◌≢◌, inl, ℕ, zero, suc, false, cond, List, [], ◌∷◌, None, refl, sym, ap, ◌∙◌, subst, arith, ne_eqb}
+use Rattle.std.proofs.lemmas.List.Elements.{All-nil}
+use Rattle.list_words.proofs.Lists.{none_some}
+use Rattle.lossy_link.specs.declared.plan.Kind.{Kind}
+use Rattle.lossy_link.specs.Fates.{PlanView}
+use Rattle.air_bus.specs.declared.entry.Input.TheVariants as bytes
+use Rattle.air_bus.specs.declared.entry.Entry.{Entry as BusEntry}
+use Rattle.air_bus.specs.declared.entry.Entry.TheVariants as bus
+use Rattle.air_bus.specs.declared.entry.Phase.TheVariants.{Down, Busy}
+use Rattle.air_bus.specs.History.{IsAired}
+use Rattle.air_bus.proofs.Phases.{aired_more, aired_none}
+use Rattle.turn_defs.specs.Nodes.{IsNode, node_number, node_of}
+use Rattle.turn_defs.specs.Rows.{worked}
+use Rattle.packet_codec.specs.declared.packet.Packet.{Packet}
+use Rattle.packet_codec.specs.Packets.{IsPacket}
+use Rattle.packet_codec.specs.declared.node.Node.{Node}
+use Rattle.packet_codec.specs.declared.node.Node.TheVariants.{Dispatcher, Server, Replica, Joiner}
+use Rattle.packet_codec.specs.declared.node.Input.TheVariants.{Start}
+use Rattle.site_node.specs.Bytes.{AreSpelled}
+use Rattle.site_node.specs.States.{Path}
+use Rattle.photon_model.specs.Stores.{empty_disks}
+use Rattle.site_laws.specs.Kinds.{rows_of, down_over}
+use Rattle.site_laws.specs.Laws.{made_by}
+use Rattle.site_laws.specs.Example.{on_the_bus, up_dispatcher, stands_at, DispatcherComesUp, DownIsStrict}
+
+-- no packet is spelled by no bytes
+none_spelled : AreSpelled [] []
+none_spelled = record { packets = All-nil (λ (p : Node × Packet). IsPacket p.1); bytes = refl }
+
+-- no other number has an entry
+none_made : (m : ℕ) → 0 ≢ m → made_by m on_the_bus ≡ []
+none_made m ne = ap (λ b. cond b (bus.Begin 0 bytes.Start ∷ cond b (bus.End 0 None [] 0 ∷ []) []) (cond b (bus.End 0 None [] 0 ∷ []) [])) (ne_eqb 0 m ne)
+
+still : (n : Node) → 0 ≢ node_number n → down_over worked empty_disks n ≡ stands_at n → Path (rows_of n) (down_over worked empty_disks n) (made_by (node_number n) on_the_bus) (stands_at n)
+still n ne is = subst (λ (l : List BusEntry). Path (rows_of n) (down_over worked empty_disks n) l (stands_at n)) (sym (none_made (node_number n) ne)) is
+
+paths : (n : Node) → IsNode worked n → Path (rows_of n) (down_over worked empty_disks n) (made_by (node_number n) on_the_bus) (stands_at n)
+paths (Dispatcher zero) is = (
+  _,
+  (refl, tt, refl),
+  (_, (bytes.Start, refl, omega arith, inl (Start, refl, record { noted = refl; packets = []; spelled = none_spelled; sent = tt; state = refl })), refl),
+)
+paths (Dispatcher (suc s)) is = still (Dispatcher (suc s)) (λ e. absurd (omega (arith, e))) (ap (λ b. cond b up_dispatcher (down_over worked empty_disks (Dispatcher (suc s)))) (sym (ne_eqb (suc s) 0 (λ e. absurd (omega (arith, e))))))
+paths (Server s) is = still (Server s) (λ e. absurd (omega (arith, e))) refl
+paths (Replica r) is = still (Replica r) (λ e. absurd (omega (arith, e))) refl
+paths (Joiner j) is = still (Joiner j) (λ e. absurd (omega (arith, e, is.0))) refl
+
+not_busy : Down ≢ Busy
+not_busy e = cc
+
+begun_aired : (plan : PlanView) (kinds : List Kind) → IsAired plan kinds (bus.Begin 0 bytes.Start ∷ [])
+begun_aired plan kinds = aired_more plan kinds [] (bus.Begin 0 bytes.Start ∷ []) (bus.Begin 0 bytes.Start) (aired_none plan kinds [] refl) (not_busy, (false, false, refl)) refl
+
+zero_is : (m : ℕ) → node_of worked m ≡ None → 0 ≢ m
+zero_is m none e = none_some (Dispatcher 0) (sym none ∙ ap (node_of worked) (sym e))
+
+pub comes_up : DispatcherComesUp
+comes_up = record {
+  aired = λ plan kinds. aired_more plan kinds (bus.Begin 0 bytes.Start ∷ []) on_the_bus (bus.End 0 None [] 0) (begun_aired plan kinds) (refl, omega arith) refl;
+  walked = record { paths = paths; no_others = λ m none. none_made m (zero_is m none) };
+  means = ((refl, refl), ((refl, refl, none_spelled, refl), tt));
+  run = ((omega arith, (refl, tt, tt)), ((omega arith, ((Start, refl), refl, tt), omega arith), tt));
+}
+
+pub strict : DownIsStrict
+strict = record {
+  no_end = λ m n d es t p. none_some p.1.0 p.1.1;
+  no_tick = λ m n d es t p. p.1.1;
+}

@@ -1,0 +1,67 @@
+-- What the nodes of each kind keep and know, and their rows of the turn table, by the node.
+use Rattle.std.specs.Prelude.{ℕ, None}
+use Rattle.turn_defs.specs.Setting.{Setting}
+use Rattle.packet_codec.specs.declared.node.Node.{Node}
+use Rattle.packet_codec.specs.declared.node.Node.TheVariants.{Dispatcher, Server, Replica, Joiner}
+use Rattle.dispatch_core.specs.Dispatcher.{DispatcherKept, DispatcherLive, land_dispatcher, dispatcher_start, dispatcher_turn}
+use Rattle.joiner_core.specs.Joiner.{JoinerKept, JoinerLive, land_joiner, joiner_start, joiner_turn}
+use Rattle.registry_server.specs.Server.{ServerKept, ServerLive, land_server, server_start, server_turn}
+use Rattle.replica_node.specs.Replica.{ReplicaKept}
+use Rattle.replica_node.specs.Node.{replica_rows}
+use Rattle.site_node.specs.States.{Rows, State}
+use Rattle.photon_defs.specs.Runs.{Cell, World, Disks}
+
+-- ---- the rows of each kind, as those of a node over its disks
+
+abbrev pub dispatcher_rows : ℕ → Rows DispatcherKept DispatcherLive
+dispatcher_rows site = record { start = dispatcher_start; turn = λ g k l i. dispatcher_turn g site k l i; lands = land_dispatcher }
+
+abbrev pub server_rows : ℕ → Rows ServerKept ServerLive
+server_rows site = record { start = server_start; turn = λ g k l i. server_turn g site k l i; lands = land_server }
+
+abbrev pub joiner_rows : ℕ → Rows JoinerKept JoinerLive
+joiner_rows number = record { start = joiner_start; turn = λ g k l i. joiner_turn g number k l i; lands = land_joiner }
+
+-- ---- by the node
+
+-- what its disks hold
+abbrev pub KeptOf : Node → Type 0
+KeptOf (Dispatcher s) = DispatcherKept
+KeptOf (Server s) = ServerKept
+KeptOf (Replica r) = ReplicaKept
+KeptOf (Joiner j) = JoinerKept
+
+-- what it knows while it is up
+abbrev pub LiveOf : Node → Type 0
+LiveOf (Dispatcher s) = DispatcherLive
+LiveOf (Server s) = ServerLive
+LiveOf (Replica r) = Unit {0}
+LiveOf (Joiner j) = JoinerLive
+
+abbrev pub rows_of : (n : Node) → Rows (KeptOf n) (LiveOf n)
+rows_of (Dispatcher s) = dispatcher_rows s
+rows_of (Server s) = server_rows s
+rows_of (Replica r) = replica_rows
+rows_of (Joiner j) = joiner_rows j
+
+-- where the node stands in a world
+abbrev pub cell_of : World → (n : Node) → Cell (KeptOf n) (LiveOf n)
+cell_of w (Dispatcher s) = w.dispatchers s
+cell_of w (Server s) = w.servers s
+cell_of w (Replica r) = w.replicas r
+cell_of w (Joiner j) = w.joiners j
+
+-- its records among those of all disks
+abbrev pub kept_of : Disks → (n : Node) → KeptOf n
+kept_of d (Dispatcher s) = d.dispatchers s
+kept_of d (Server s) = d.servers s
+kept_of d (Replica r) = d.replicas r
+kept_of d (Joiner j) = d.joiners j
+
+-- where it stands by its own entries
+abbrev pub StateOf : Node → Type 0
+StateOf n = State (KeptOf n) (LiveOf n)
+
+-- down over its records
+abbrev pub down_over : Setting → Disks → (n : Node) → StateOf n
+down_over g d n = record { setting = g; kept = kept_of d n; live = None; opened = None }

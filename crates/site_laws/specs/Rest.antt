@@ -1,0 +1,43 @@
+-- Rest and quiet points, by each node's own state.
+use Rattle.std.specs.Prelude.{◌≡◌, true, false, List, None, ⊤}
+use Rattle.lossy_link.specs.Fates.{PlanView}
+use Rattle.air_bus.specs.declared.entry.Entry.{Entry as BusEntry}
+use Rattle.turn_defs.specs.Setting.{Setting}
+use Rattle.turn_defs.specs.Nodes.{IsNode}
+use Rattle.packet_codec.specs.declared.node.Node.{Node}
+use Rattle.packet_codec.specs.declared.node.Node.TheVariants.{Dispatcher, Server, Replica, Joiner}
+use Rattle.dispatch_core.specs.Dispatcher.{dispatcher_wants, dispatcher_at_rest}
+use Rattle.joiner_core.specs.Joiner.{joiner_at_rest}
+use Rattle.registry_server.specs.Server.{server_wants, server_at_rest}
+use Rattle.photon_defs.specs.Runs.{Entry, Disks, world_after, opening}
+use Rattle.photon_defs.specs.Bus.{is_dead}
+use Rattle.photon_defs.specs.Rest.{UpWith, IsAtRest, IsQuietPoint}
+use Rattle.site_laws.specs.Kinds.{StateOf}
+use Rattle.site_laws.specs.Laws.{IsRunOf}
+
+-- the node is up, and its work is done; a replica has none
+abbrev pub RestsAt : Setting → (n : Node) → StateOf n → Type 0
+RestsAt g (Dispatcher s) t = UpWith (λ l. dispatcher_at_rest l ≡ true) t.live
+RestsAt g (Server s) t = UpWith (λ l. server_at_rest g l ≡ true) t.live
+RestsAt g (Replica r) t = ⊤
+RestsAt g (Joiner j) t = UpWith (λ l. joiner_at_rest l ≡ true) t.live
+
+-- the node is up with no open turn, and has nothing to do by itself
+abbrev pub QuietAt : Setting → (n : Node) → StateOf n → Type 0
+QuietAt g (Dispatcher s) t = (t.opened ≡ None) × UpWith (λ l. dispatcher_wants l ≡ false) t.live
+QuietAt g (Server s) t = (t.opened ≡ None) × UpWith (λ l. server_wants g l ≡ false) t.live
+QuietAt g (Replica r) t = (t.opened ≡ None) × UpWith (λ l. ⊤) t.live
+QuietAt g (Joiner j) t = (t.opened ≡ None) × UpWith (λ l. ⊤) t.live
+
+-- where each node rests, the world does
+abbrev pub StatesRest : Type 0
+StatesRest =
+    (g : Setting) (d : Disks) (h : List BusEntry) (at : (n : Node) → StateOf n) (es : List Entry) →
+    IsRunOf g d h at es → ((n : Node) → IsNode g n → RestsAt g n (at n)) → IsAtRest g (world_after g (opening d) es)
+
+-- where each node that isn't dead is quiet, the world is
+abbrev pub StatesAreQuiet : Type 0
+StatesAreQuiet =
+    (g : Setting) (d : Disks) (h : List BusEntry) (at : (n : Node) → StateOf n) (es : List Entry) (plan : PlanView) →
+    IsRunOf g d h at es → ((n : Node) → IsNode g n → is_dead plan.dead n ≡ false → QuietAt g n (at n)) →
+    IsQuietPoint g plan (world_after g (opening d) es)
