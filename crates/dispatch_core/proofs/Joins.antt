@@ -18,7 +18,7 @@ use Rattle.dispatch_core.specs.Windows.{fresh_of}
 use Rattle.dispatch_core.specs.Dealing.{joiner_at, dealt, next_after, GoInTurn}
 use Rattle.dispatch_core.specs.Outboxes.{Puts, waiting_joins}
 use Rattle.dispatch_core.specs.Standing.{AreClicksAt}
-use Rattle.dispatch_core.specs.declared.window.FreshLine.{FreshLine}
+use Rattle.dispatch_core.specs.declared.line.FreshLine.{FreshLine}
 use Rattle.dispatch_core.specs.declared.outbox.Outbox.{Outbox}
 
 -- ---- one list behind another

@@ -11,7 +11,7 @@ use Rattle.dispatch_core.specs.Dispatcher.{DispatcherKept, DispatcherLive, land_
 use Rattle.dispatch_core.specs.Windows.{fresh_of, IsRising, AreBefore}
 use Rattle.dispatch_core.specs.Changes.{note_of, changed}
 use Rattle.dispatch_core.specs.Standing.{live_of, IsOf, IsOrdered, Stands, Fits, IsAlike}
-use Rattle.dispatch_core.specs.declared.window.FreshLine.{FreshLine}
+use Rattle.dispatch_core.specs.declared.line.FreshLine.{FreshLine}
 use Rattle.dispatch_core.specs.declared.dispatch.DispatchCore.{DispatchCore}
 use Rattle.dispatch_core.specs.declared.dealer.Dealer.{Dealer}
 use Rattle.dispatch_core.specs.declared.turns.Change.{Change}

@@ -2,5 +2,6 @@ pub mod Rising
 pub mod Found
 pub mod Sets
 pub mod Joins
+pub mod Spelled
 pub mod Rows
 pub mod Keeping

@@ -1,11 +1,11 @@
 -- From what the core's parts say to the rows of the turn table.
-use Rattle.std.proofs.Common.{◌≡◌, ℕ, ◌<◌, ◌%◌, Bool, true, false, cond, List, [], ◌++◌, map, nat_eq, sym, ap, subst, ◌∙◌, arith}
+use Rattle.std.proofs.Common.{◌≡◌, ℕ, ◌<◌, ◌%◌, Bool, true, false, cond, List, [], ◌∷◌, ◌++◌, map, nat_eq, sym, ap, subst, ◌∙◌, arith}
 use Rattle.std.specs.List.{list_any}
 use Rattle.std.proofs.lemmas.Bool.{cond-true, cond-false}
 use Rattle.log_records.specs.declared.records.ClickRec.{ClickRec as Click}
 use Rattle.packet_codec.specs.declared.packet.Packet.{Packet}
 use Rattle.packet_codec.specs.declared.node.Node.{Node}
-use Rattle.list_words.specs.Lists.{has}
+use Rattle.list_words.specs.Lists.{has, Each}
 use Rattle.turn_defs.specs.Setting.{Setting}
 use Rattle.turn_defs.specs.Nodes.{Addressed}
 use Rattle.turn_defs.specs.Turns.{Out}
@@ -14,13 +14,17 @@ use Rattle.dispatch_core.specs.Windows.{fresh_of, IsRising}
 use Rattle.dispatch_core.specs.Dealing.{dealt, next_after, GoInTurn}
 use Rattle.dispatch_core.specs.Changes.{note_of, changed}
 use Rattle.dispatch_core.specs.Outboxes.{Puts}
+use Rattle.dispatch_core.specs.Spelled.{IsJoin, ArePackets}
 use Rattle.dispatch_core.specs.Standing.{IsOf, Stands, Fits, IsTurn, Sends, IsDealt}
 use Rattle.dispatch_core.specs.declared.dispatch.DispatchCore.{DispatchCore}
 use Rattle.dispatch_core.specs.declared.turns.Turn.{Turn}
+use Rattle.dispatch_core.specs.declared.line.FreshLine.{FreshLine}
 use Rattle.dispatch_core.specs.declared.turns.Change.{Change}
+use Rattle.dispatch_core.specs.declared.turns.Change.TheVariants.{Take}
 use Rattle.dispatch_core.specs.declared.outbox.Outbox.{Outbox}
 use Rattle.dispatch_core.proofs.Joins.{joined, addressed, in_turn, next_below}
 use Rattle.dispatch_core.proofs.Sets.{any_has}
+use Rattle.dispatch_core.proofs.Spelled.{dealt_spelled}
 use Rattle.dispatch_core.proofs.Keeping.{ordered_core}
 
 wraps : (n k : ℕ) → k < n → (m : ℕ) → m % n < n
@@ -41,6 +45,7 @@ pub dealt_of : (core : DispatchCore) (turn : Turn) (change : Change) (joins : Li
 dealt_of core turn change joins s = record {
   in_turn = subst (λ (ps : List (Node × Packet)). GoInTurn core.dealer.site core.dealer.joiners core.dealer.next ps turn.next) (sym s.packets) (in_turn core.dealer.site core.dealer.joiners core.dealer.next turn.next joins s.next);
   below = subst (λ (n : ℕ). n < core.dealer.joiners) (sym s.next) (next_below core.dealer.joiners core.dealer.next joins core.dealer.within (wraps core.dealer.joiners core.dealer.next core.dealer.within));
+  spelled = subst (λ (ps : List (Node × Packet)). ArePackets ps) (sym s.packets) (dealt_spelled core.dealer.site core.dealer.joiners core.dealer.next joins s.spelled);
 }
 
 pub as_out : (g : Setting) (core : DispatchCore) (k : DispatcherKept) (l : DispatcherLive) (turn : Turn) (out other : Out DispatcherLive) → other ≡ out → IsTurn g core k l turn out → IsTurn g core k l turn other
@@ -55,11 +60,12 @@ pub third : {A : Type 0} (b c : Bool) (x y z : A) → b ≡ false → c ≡ fals
 third b c x y z h i = cond-false b x (cond c y z) h ∙ cond-false c y z i
 
 pub sends_of : (core : DispatchCore) (a d : Outbox) (turn : Turn) (change : Change) (js : List (ℕ × Click)) → a.dealer ≡ core.dealer → a.packets.items ≡ [] → Puts a d js → turn.change ≡ change → turn.packets.items ≡ d.packets.items → turn.next ≡ d.dealer.next
-    → Sends core turn change js
-sends_of core a d turn change js same none p is packets next = record {
+    → Each IsJoin js → Sends core turn change js
+sends_of core a d turn change js same none p is packets next spelled = record {
   change_is = is;
   packets = packets ∙ p.packets ∙ (λ i. none i ++ dealt (same i).site (same i).joiners (same i).next js);
   next = next ∙ p.next ∙ (λ i. next_after (same i).joiners (same i).next js);
+  spelled = spelled;
 }
 
 -- the sides of a row, at the state that a core holds
@@ -68,3 +74,8 @@ waits_as g core k l p b s h = ap (λ (m : DispatcherLive). waits m.fresh p) (sym
 
 pub tried_as : (g : Setting) (core : DispatchCore) (k : DispatcherKept) (l : DispatcherLive) (p : ℕ) (b : Bool) → Stands g core k l → b ≡ list_any (nat_eq p) core.trying.keys → has l.trying p ≡ b
 tried_as g core k l p b s h = ap (λ (m : DispatcherLive). has m.trying p) (sym s.live) ∙ sym (any_has core.trying.keys p) ∙ sym h
+
+-- a line that enters the window
+pub entered_live : (l : DispatcherLive) (f : FreshLine) (p e : ℕ) (click : Click) (d : Bool) → f.position ≡ p → f.end ≡ e → f.click ≡ click → f.done ≡ d
+    → changed (Take f) l ≡ record l { place = e; fresh = l.fresh ++ (record { position = p; end_ = e; click = click; done = d }) ∷ [] }
+entered_live l f p e click d position end_ same done = λ i. record l { place = end_ i; fresh = l.fresh ++ (record { position = position i; end_ = end_ i; click = same i; done = done i }) ∷ [] }

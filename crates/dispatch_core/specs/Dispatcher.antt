@@ -166,6 +166,10 @@ dispatcher_start k = record { note = None; packets = []; live = record { place =
 abbrev pub dispatcher_wants : DispatcherLive → Bool
 dispatcher_wants l = first_done l.fresh || (has_room l && (not (is_empty l.due) || not l.ended))
 
+-- an Own row looks in the log: at the first due position, or else at the place
+abbrev pub dispatcher_looks : DispatcherLive → Bool
+dispatcher_looks l = not (first_done l.fresh) && (has_room l && (not (is_empty l.due) || not l.ended))
+
 -- an entry is not done
 abbrev pub some_waits : List Fresh → Bool
 some_waits [] = false

@@ -4,4 +4,5 @@ pub mod Windows
 pub mod Dealing
 pub mod Outboxes
 pub mod Changes
+pub mod Spelled
 pub mod Standing

@@ -2,7 +2,7 @@
 use Rattle.std.specs.Prelude.{◌≡◌, ℕ, List, [], ◌∷◌, ◌++◌, if◌then◌else◌}
 use Rattle.log_records.specs.declared.records.ClickRec.{ClickRec as Click}
 use Rattle.dispatch_core.specs.Dealing.{dealt, next_after}
-use Rattle.dispatch_core.specs.declared.window.FreshLine.{FreshLine}
+use Rattle.dispatch_core.specs.declared.line.FreshLine.{FreshLine}
 use Rattle.dispatch_core.specs.declared.outbox.Outbox.{Outbox}
 
 -- the new one has these Joins behind those of the old one, dealt from where the old one stood

@@ -3,7 +3,7 @@ use Rattle.std.specs.Prelude.{◌≡◌, ℕ, ◌<◌, true, false, nat_eq, List
 use Rattle.std.specs.Option.{option_map}
 use Rattle.std.specs.VecDeque.{deque_len, deque_capacity}
 use Rattle.indexmap.specs.IndexSet.{contains, spare}
-use Rattle.list_words.specs.Lists.{has, Distinct}
+use Rattle.list_words.specs.Lists.{has, Distinct, Each}
 use Rattle.log_records.specs.declared.records.ClickRec.{ClickRec as Click}
 use Rattle.log_records.specs.Lines.{ClickLine, at}
 use Rattle.packet_codec.specs.declared.node.Input.{Input}
@@ -11,10 +11,11 @@ use Rattle.packet_codec.specs.declared.node.Input.TheVariants as model
 use Rattle.turn_defs.specs.Setting.{Setting}
 use Rattle.turn_defs.specs.Nodes.{Addressed}
 use Rattle.turn_defs.specs.Turns.{Out}
-use Rattle.dispatch_core.specs.Dispatcher.{DispatcherKept, DispatcherLive, dispatcher_turn, dispatcher_start}
+use Rattle.dispatch_core.specs.Dispatcher.{DispatcherKept, DispatcherLive, dispatcher_turn, dispatcher_start, dispatcher_looks}
 use Rattle.dispatch_core.specs.Windows.{fresh_of, IsRising, AreBefore}
 use Rattle.dispatch_core.specs.Dealing.{dealt, next_after, GoInTurn}
 use Rattle.dispatch_core.specs.Changes.{note_of, changed}
+use Rattle.dispatch_core.specs.Spelled.{IsJoin, ArePackets}
 use Rattle.dispatch_core.specs.declared.dispatch.DispatchCore.{DispatchCore}
 use Rattle.dispatch_core.specs.declared.input.DispatchInput.{DispatchInput}
 use Rattle.dispatch_core.specs.declared.input.DispatchInput.TheVariants as input
@@ -78,7 +79,7 @@ pub record IsKept (k : DispatcherKept) (offset : ℕ) (pending : List ℕ) : Typ
 -- the input stands for the model's, and carries what disks, logs and state say
 abbrev pub Carries : Setting → DispatcherKept → DispatcherLive → DispatchInput → Input → Type 0
 Carries g k l (input.Start offset pending) i = (i ≡ model.Start) × IsKept k offset pending.items
-Carries g k l (input.Own line due) i = (i ≡ model.Own) × IsLookedUp g l l.due line due
+Carries g k l (input.Own line due) i = (i ≡ model.Own) × (dispatcher_looks l ≡ true → IsLookedUp g l l.due line due)
 Carries g k l (input.Tick clicks) i = (i ≡ model.Tick) × AreClicksAt g l.trying clicks.items
 Carries g k l (input.Packet from packet) i = i ≡ model.Deliver from packet
 
@@ -146,16 +147,18 @@ first_next (input.Packet from packet) n = n
 
 -- ---- what the parts of a turn say
 
--- the turn has this change, and these Joins from the core's next joiner on
+-- the turn has this change, and these Joins, which have spellings, from the core's next joiner on
 pub record Sends (core : DispatchCore) (turn : Turn) (change : Change) (joins : List (ℕ × Click)) : Type 0 where
   pub change_is : turn.change ≡ change
   pub packets : turn.packets.items ≡ dealt core.dealer.site core.dealer.joiners core.dealer.next joins
   pub next : turn.next ≡ next_after core.dealer.joiners core.dealer.next joins
+  pub spelled : Each IsJoin joins
 
--- its packets go to the joiners in turn, from number n on
+-- its packets have spellings, and go to the joiners in turn, from number n on
 pub record IsDealt (core : DispatchCore) (n : ℕ) (turn : Turn) : Type 0 where
   pub in_turn : GoInTurn core.dealer.site core.dealer.joiners n turn.packets.items turn.next
   pub below : turn.next < core.dealer.joiners
+  pub spelled : ArePackets turn.packets.items
 
 -- the same state, whatever room there is
 pub record IsAlike (old new : DispatchCore) : Type 0 where

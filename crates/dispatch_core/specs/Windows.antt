@@ -1,6 +1,6 @@
 -- The window as the core holds it.
 use Rattle.std.specs.Prelude.{◌≡◌, ℕ, ◌+◌, ◌<◌, ◌≤◌, ◌==◌, false, List, [], ◌∷◌, length, map, slice_index_or, Result, Ok, Err, ⊤}
-use Rattle.dispatch_core.specs.declared.window.FreshLine.{FreshLine}
+use Rattle.dispatch_core.specs.declared.line.FreshLine.{FreshLine}
 use Rattle.dispatch_core.specs.Dispatcher.{Fresh}
 
 -- the entry that a line is

@@ -1,24 +1,29 @@
 // The dispatcher's core: the rows of its turns.
-ghost use Rattle.std.specs.Prelude.{◌≡◌, ℕ, ◌+◌, ◌<◌, ◌≤◌, ◌%◌, List, [], ◌∷◌, ◌++◌, Bool, true, false, map, nat_eq, Option, Some, None, IfOk, OnOk, IfSome, IfNone, cond, ◌==◌, if◌then◌else◌};
-ghost use Rattle.list_words.specs.Lists.{has};
+ghost use Rattle.std.specs.Prelude.{◌≡◌, ℕ, ◌<◌, ◌==◌, List, [], ◌∷◌, All, true, false, nat_eq, cond, if◌then◌else◌};
+ghost use Rattle.std.specs.Prelude.{IfOk, OnOk, IfSome, IfNone};
 ghost use Rattle.std.specs.VecDeque.{deque_len, deque_capacity};
 ghost use Rattle.indexmap.specs.IndexSet.{contains, spare};
+ghost use Rattle.log_records.specs.Line.{IsClick};
+ghost use Rattle.log_records.specs.Lines.{at};
 ghost use Rattle.turn_defs.specs.Setting.{Setting};
 ghost use Rattle.turn_defs.specs.Turns.{Out, land, idle};
-ghost use Rattle.log_records.specs.Lines.{at};
 ghost use Rattle.packet_codec.specs.declared.node.Input.{Input};
-ghost use Rattle.dispatch_core.specs.Dispatcher.{DispatcherKept, DispatcherLive, land_dispatcher, has_room, dispatcher_start, dispatcher_own, retries, takes, dispatcher_tick, ends, parks, dispatcher_gets, dispatcher_wants, dispatcher_unfinished, dispatcher_at_rest};
+ghost use Rattle.dispatch_core.specs.Dispatcher.{DispatcherKept, DispatcherLive, land_dispatcher, has_room, retries, takes, ends, parks};
+ghost use Rattle.dispatch_core.specs.Dispatcher.{dispatcher_start, dispatcher_own, dispatcher_tick, dispatcher_gets};
+ghost use Rattle.dispatch_core.specs.Dispatcher.{dispatcher_wants, dispatcher_looks, dispatcher_unfinished, dispatcher_at_rest};
 ghost use Rattle.dispatch_core.specs.Dealing.{GoInTurn};
 ghost use Rattle.dispatch_core.specs.Changes.{note_of, changed};
-ghost use Rattle.dispatch_core.specs.Standing.{live_of, IsOf, IsOrdered, Stands, IsKept, IsLineAt, click_at, IsLookedUp, AreClicksAt, Carries, Takes, out_of, Fits, IsTurn, HasRoom, CanKeep, HasSameNumbers, StandsAs, first_next, Sends, IsDealt, IsAlike};
+ghost use Rattle.dispatch_core.specs.Spelled.{IsTaken, ArePackets};
+ghost use Rattle.dispatch_core.specs.Standing.{live_of, IsOf, IsOrdered, Stands, StandsAs, HasSameNumbers, IsAlike};
+ghost use Rattle.dispatch_core.specs.Standing.{IsKept, IsLineAt, click_at, IsLookedUp, AreClicksAt, Carries, Takes};
+ghost use Rattle.dispatch_core.specs.Standing.{out_of, Fits, IsTurn, HasRoom, CanKeep, first_next, Sends, IsDealt};
 
 use crate::clicks::copy_click;
 use crate::dealer::Dealer;
+use crate::line::FreshLine;
 use crate::outbox::Outbox;
 use crate::turns::Change;
-use crate::window::{
-    FreshLine, end_of_done, finish, has_waiting, is_first_done, is_waiting, pass_done,
-};
+use crate::window::{end_of_done, finish, has_waiting, is_first_done, is_waiting, pass_done};
 use crate::{DispatchInput, TakenLine, Turn};
 use indexmap::IndexSet;
 use log_records::ClickRec;
@@ -115,6 +120,17 @@ impl DispatchCore {
         self.ended && self.fresh.is_empty() && self.due.is_empty() && self.trying.is_empty()
     }
 
+    /// Whether an Own looks in the log, for the click at the first due position, or else for the line at the place. Else
+    /// what it is given isn't looked at. Constant time.
+    pub fn looks(&self) -> bool
+        ensures { result ≡ dispatcher_looks (live_of self.now) }
+    {
+        if is_first_done(&self.fresh) || !self.has_room() {
+            return false;
+        }
+        !self.due.is_empty() || !self.ended
+    }
+
     // At most 64 lines and positions in trial may be in the window.
     fn has_room(&self) -> bool
         ensures { result ≡ has_room (live_of self.now) }
@@ -125,6 +141,7 @@ impl DispatchCore {
     /// What the input makes it do: at most one note, packets, and the change to keep once the note is written. It makes
     /// room for that change and changes nothing else. An error is want of memory.
     pub fn decide(&mut self, input: &DispatchInput) -> Result<Turn, AllocError>
+        requires { IsTaken input.now }
         ensures same { StandsAs self.old self.new }
         ensures numbers { HasSameNumbers self.old self.new }
         ensures next { self.new.dealer.next ≡ self.old.dealer.next }
@@ -134,6 +151,7 @@ impl DispatchCore {
             IfOk result (λ turn. IsTurn g self.new k l turn (out_of g self.old.dealer.site k l i)) }
         ensures joiners { IfOk result (λ turn. GoInTurn self.old.dealer.site self.old.dealer.joiners
             (first_next input.now self.old.dealer.next) turn.packets.items turn.next) }
+        ensures spelled { IfOk result (λ turn. ArePackets turn.packets.items) }
     {
         self.make_room()?;
         match input {
@@ -167,6 +185,7 @@ impl DispatchCore {
 
     // A turn with one Join.
     fn joining(&self, position: u64, click: &ClickRec, change: Change) -> Result<Turn, AllocError>
+        requires { IsClick click.now }
         ensures { IfOk result (λ turn. Sends self.now turn change ((position, click.now) ∷ [])) }
     {
         let mut outbox = Outbox::new(self.alloc, self.dealer);
@@ -199,7 +218,10 @@ impl DispatchCore {
     // Own, the first that applies: the offset passes the leading done lines; with room in the window a due position is
     // tried again, or else the line at the place is taken.
     fn own(&self, line: &Option<TakenLine>, due: &Option<ClickRec>) -> Result<Turn, AllocError>
-        ensures turn { (g : Setting) (k : DispatcherKept) (l : DispatcherLive) → Stands g self.now k l → IsLookedUp g l l.due line.now due.now →
+        requires line { IfSome line.now (λ t. IsClick t.click) }
+        requires due { IfSome due.now IsClick }
+        ensures turn { (g : Setting) (k : DispatcherKept) (l : DispatcherLive) → Stands g self.now k l →
+            (dispatcher_looks l ≡ true → IsLookedUp g l l.due line.now due.now) →
             IfOk result (λ turn. IsTurn g self.now k l turn (dispatcher_own g self.now.dealer.site k l)) }
         ensures joiners { IfOk result (IsDealt self.now self.now.dealer.next) }
     {
@@ -218,6 +240,7 @@ impl DispatchCore {
 
     // A due position: a Join of its click, and it is in trial. Without a click it stays due.
     fn retry(&self, position: u64, due: &Option<ClickRec>) -> Result<Turn, AllocError>
+        requires { IfSome due.now IsClick }
         ensures turn { (rest : List ℕ) (g : Setting) (k : DispatcherKept) (l : DispatcherLive) → Stands g self.now k l →
             l.due ≡ position ∷ rest → click_at g position ≡ due.now → IfOk result (λ turn. IsTurn g self.now k l turn
             (retries g self.now.dealer.site k l position rest (at g.clicks position))) }
@@ -232,8 +255,9 @@ impl DispatchCore {
     // The line at the place enters the window, done where its position is pending, else with a Join. Where no whole line
     // follows the place, the log has ended.
     fn take(&self, line: &Option<TakenLine>) -> Result<Turn, AllocError>
+        requires { IfSome line.now (λ t. IsClick t.click) }
         ensures turn { (g : Setting) (k : DispatcherKept) (l : DispatcherLive) → Stands g self.now k l →
-            IsLineAt g l.place line.now → IfOk result (λ turn. IsTurn g self.now k l turn
+            (l.ended ≡ false → IsLineAt g l.place line.now) → IfOk result (λ turn. IsTurn g self.now k l turn
             (if l.ended then idle l else takes g self.now.dealer.site k l (at g.clicks l.place))) }
         ensures joiners { IfOk result (IsDealt self.now self.now.dealer.next) }
     {
@@ -247,18 +271,15 @@ impl DispatchCore {
     }
 
     fn enter(&self, line: &TakenLine) -> Result<Turn, AllocError>
+        requires { IsClick line.now.click }
         ensures turn { (g : Setting) (k : DispatcherKept) (l : DispatcherLive) → Stands g self.now k l →
             l.place ≡ line.now.position → line.now.position < line.now.end → IfOk result (λ turn. IsTurn g self.now k l turn
             (takes g self.now.dealer.site k l (Some (record { place = line.now.position; end_ = line.now.end; click = line.now.click })))) }
         ensures joiners { IfOk result (IsDealt self.now self.now.dealer.next) }
     {
         let done = self.pending.contains(&line.position);
-        let fresh = FreshLine {
-            position: line.position,
-            end: line.end,
-            click: copy_click(self.alloc, &line.click)?,
-            done,
-        };
+        let click = copy_click(self.alloc, &line.click)?;
+        let fresh = FreshLine::new(line.position, line.end, click, done);
         if done {
             return Ok(self.quiet(Change::Take(fresh)));
         }
@@ -267,8 +288,10 @@ impl DispatchCore {
 
     // Tick: a Join of each line that isn't done, and of each position in trial. Linear in the window.
     fn tick(&self, clicks: &Vec<ClickRec>) -> Result<Turn, AllocError>
+        requires { All IsClick clicks.now.items }
         ensures turn { (g : Setting) (k : DispatcherKept) (l : DispatcherLive) → Stands g self.now k l →
-            AreClicksAt g l.trying clicks.now.items → IfOk result (λ turn. IsTurn g self.now k l turn (dispatcher_tick g self.now.dealer.site k l)) }
+            AreClicksAt g l.trying clicks.now.items →
+            IfOk result (λ turn. IsTurn g self.now k l turn (dispatcher_tick g self.now.dealer.site k l)) }
         ensures joiners { IfOk result (IsDealt self.now self.now.dealer.next) }
     {
         let mut outbox = Outbox::new(self.alloc, self.dealer);

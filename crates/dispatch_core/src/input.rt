@@ -18,8 +18,8 @@ pub enum DispatchInput {
         offset: u64,
         pending: Vec<u64>,
     },
-    /// The node does what it has to do by itself. `due` is the click at the first due position; where none is due `line` is
-    /// the whole line at the place, if there is one, and else it isn't looked at.
+    /// The node does what it has to do by itself. Where the core looks in the log, `due` is the click at the first due
+    /// position; where none is due `line` is the whole line at the place, if there is one. Else they aren't looked at.
     Own {
         line: Option<TakenLine>,
         due: Option<ClickRec>,

@@ -7,6 +7,7 @@ mod dealer;
 mod dispatch;
 mod input;
 pub mod laws;
+mod line;
 mod outbox;
 #[cfg(test)]
 mod tests;

@@ -1,13 +1,13 @@
 // Joins to send.
-ghost use Rattle.std.specs.Prelude.{◌≡◌, [], ◌∷◌, IfOk, OnOk};
+ghost use Rattle.std.specs.Prelude.{◌≡◌, ◌<◌, ◌^◌, [], ◌∷◌, All, OnOk};
 ghost use Rattle.std.specs.List.{zip};
 ghost use Rattle.dispatch_core.specs.Outboxes.{Puts, waiting_joins};
 
 use crate::Turn;
 use crate::clicks::copy_click;
 use crate::dealer::Dealer;
+use crate::line::FreshLine;
 use crate::turns::Change;
-use crate::window::FreshLine;
 use log_records::ClickRec;
 use packet_codec::{Node, Packet};
 use std::alloc::{AllocError, Global};
@@ -70,7 +70,8 @@ impl Outbox {
         positions: &[u64],
         clicks: &[ClickRec],
     ) -> Result<(), AllocError>
-        ensures { OnOk result (Puts self.old self.new (zip positions.now clicks.now)) }
+        ensures puts { OnOk result (Puts self.old self.new (zip positions.now clicks.now)) }
+        ensures numbers { All (λ p. p < 2 ^ 64) positions.now }
     {
         for (position, click) in positions.iter().zip(clicks) {
             self.put(*position, click)?;

@@ -1,6 +1,8 @@
 // Turns of a dispatcher, row by row, worked through by hand. The click at a position has that position as its time, and
 // each line has 36 bytes.
-ghost use Rattle.std.specs.Prelude.{◌<◌, ◌+◌, ◌^◌};
+ghost use Rattle.std.specs.Prelude.{◌<◌, ◌+◌, ◌^◌, All, IfOk};
+ghost use Rattle.log_records.specs.Line.{IsClick};
+ghost use Rattle.dispatch_core.specs.Spelled.{IsTaken};
 
 use super::*;
 use event_id::EventId;
@@ -30,7 +32,9 @@ enum Step {
 // A turn: what it takes, the note, and the Joins, each by the number of its joiner and its position.
 type Row<'a> = (Step, Option<DispatchNote>, &'a [(u16, u64)]);
 
-fn click(alloc: Global, micros: u64) -> Result<ClickRec, AllocError> {
+fn click(alloc: Global, micros: u64) -> Result<ClickRec, AllocError>
+    ensures { IfOk result IsClick }
+{
     let text = match Text::read(alloc, b"buy") {
         Ok(text) => text,
         Err(_) => return Err(AllocError),
@@ -43,7 +47,9 @@ fn click(alloc: Global, micros: u64) -> Result<ClickRec, AllocError> {
     })
 }
 
-fn clicks(alloc: Global, positions: &[u64]) -> Result<Vec<ClickRec>, AllocError> {
+fn clicks(alloc: Global, positions: &[u64]) -> Result<Vec<ClickRec>, AllocError>
+    ensures { IfOk result (λ clicks. All IsClick clicks.items) }
+{
     let mut clicks = Vec::new(alloc);
     for position in positions {
         clicks.push(click(alloc, *position)?)?;
@@ -53,6 +59,7 @@ fn clicks(alloc: Global, positions: &[u64]) -> Result<Vec<ClickRec>, AllocError>
 
 fn line(alloc: Global, position: u64) -> Result<TakenLine, AllocError>
     requires { position + 36 < 2 ^ 64 }
+    ensures { IfOk result (λ line. IsClick line.click) }
 {
     Ok(TakenLine {
         position,
@@ -68,7 +75,9 @@ fn pending(alloc: Global, positions: Option<(u64, u64)>) -> Result<Vec<u64>, All
     }
 }
 
-fn input(alloc: Global, step: Step, trying: &[u64]) -> Result<DispatchInput, AllocError> {
+fn input(alloc: Global, step: Step, trying: &[u64]) -> Result<DispatchInput, AllocError>
+    ensures { IfOk result IsTaken }
+{
     Ok(match step {
         Step::Start(offset, positions) => DispatchInput::Start {
             offset,
@@ -121,7 +130,9 @@ fn gives(
     input: &DispatchInput,
     note: Option<DispatchNote>,
     joins: &[(u16, u64)],
-) -> Result<bool, AllocError> {
+) -> Result<bool, AllocError>
+    requires { IsTaken input.now }
+{
     let turn = core.decide(input)?;
     let same = turn.note() == note && are_joins(turn.packets(), joins);
     core.keep(turn);

@@ -3,7 +3,7 @@ ghost use Rattle.std.specs.Prelude.{◌≡◌};
 ghost use Rattle.std.specs.Option.{option_map};
 ghost use Rattle.dispatch_core.specs.Changes.{note_of, told};
 
-use crate::window::FreshLine;
+use crate::line::FreshLine;
 use indexmap::IndexSet;
 use packet_codec::{Node, Packet};
 use std::collections::VecDeque;

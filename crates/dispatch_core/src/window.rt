@@ -1,19 +1,10 @@
 // The window of lines that were taken and are not behind the offset yet.
-ghost use Rattle.std.specs.Prelude.{◌≡◌, ℕ, map};
+ghost use Rattle.std.specs.Prelude.{◌≡◌, map};
 ghost use Rattle.dispatch_core.specs.Dispatcher.{first_done, done_end, after_done, waits, mark, some_waits};
 ghost use Rattle.dispatch_core.specs.Windows.{fresh_of, IsRising, IsFound};
 
-use log_records::ClickRec;
+use crate::line::FreshLine;
 use std::collections::VecDeque;
-
-// A line that was taken: its place, the place behind it, its click, and whether its join has ended.
-#[derive(Debug, Drop)]
-pub(crate) struct FreshLine {
-    pub(crate) position: u64,
-    pub(crate) end: u64,
-    pub(crate) click: ClickRec,
-    pub(crate) done: bool,
-}
 
 // Whether the first is done.
 pub(crate) fn is_first_done(fresh: &VecDeque<FreshLine>) -> bool

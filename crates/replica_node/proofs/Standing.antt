@@ -1,9 +1,9 @@
 -- What a replica over its disk stands for.
 use Rattle.std.proofs.Common.{◌≡◌, ◌⊎◌, inl, inr, ⊎_elim, ℕ, ◌+◌, ◌-◌, ◌^◌, ◌≤◌, min, Bool, true, false, List, [], ◌∷◌, ◌++◌, length, Option, Some, None, refl, sym, ap, ◌∙◌, subst, arith, length-append}
-use Rattle.std.specs.Prelude.{All, map, is_some, option_map, Result, Ok}
+use Rattle.std.specs.Prelude.{All, map, is_some, option_map, Result, Ok, Err, IfErr}
 use Rattle.std.specs.Result.{result_unwrap_or}
 use Rattle.std.proofs.lemmas.List.{map-append}
-use Rattle.std.proofs.lemmas.List.Elements.{All-head, All-tail}
+use Rattle.std.proofs.lemmas.List.Elements.{All-head, All-tail, All-nil, All-cons}
 use Rattle.list_words.specs.Lists.{Each}
 use Rattle.outside.specs.Disk.{Only}
 use Rattle.paxos_defs.specs.Notes.Note.{Promised, Accepted}
@@ -27,7 +27,11 @@ use Rattle.site_node.specs.declared.roster.Roster.{Roster}
 use Rattle.site_node.specs.Rosters.{IsOf}
 use Rattle.replica_node.specs.Replica.{ReplicaKept, land_replica}
 use Rattle.replica_node.specs.Core.{kept_of, noted}
-use Rattle.replica_node.specs.Node.{ReplicaState, VoterView, Knows, KnowsAs, Fits, IsVoted, vote_record, records_of, counted, framed_note, replica_rows, Holds, IsRecord, StandsAt}
+use Rattle.replica_node.specs.Node.{ReplicaState, VoterView, Knows, KnowsAs, Fits, IsVoted, vote_record, records_of, counted, framed_note, replica_rows, Holds, OnDiskOr, IsRecord, StandsAt}
+use Rattle.replica_node.specs.Votes.{IsOfNotes, IsBadVote, IsUndamaged}
+use Rattle.replica_node.proofs.NoteBytes.{none_bad}
+use Rattle.gate_journal.specs.declared.reading.JournalFault.{JournalFault}
+use Rattle.gate_journal.specs.declared.reading.JournalFault.TheVariants.{Damaged, Disk, Memory}
 use Rattle.replica_node.proofs.Spelled.{IsRowNote, IsSpelledOut, idle_ok, gets_ok}
 use Rattle.replica_node.proofs.Voters.{views_ok}
 
@@ -219,6 +223,39 @@ noted_bytes (Some n) = ap (λ (b : List ℕ). Some b) (sym (view_record n))
 pub open_bytes : (o : Option ReplicaNote) (r : List ℕ) → IsRecord o r → Some r ≡ option_map record_of (noted o)
 open_bytes None r is = absurd is
 open_bytes (Some n) r is = ap (λ (b : List ℕ). Some b) (is ∙ sym (view_record n))
+
+-- with the note landed, its record stands behind the others
+pub landed_records : (k : ReplicaKept) (o : Option ReplicaNote) (r : List ℕ) → IsRecord o r → records_of (land land_replica (noted o) k) ≡ records_of k ++ r ∷ []
+landed_records k None r is = absurd is
+landed_records k (Some n) r is = map-append vote_record k.notes (note_view n ∷ []) ∙ ap (λ (b : List ℕ). records_of k ++ b ∷ []) (view_record n ∙ sym is)
+
+-- an append leaves the kept notes, or those and the new one
+pub append_leaves : (k : ReplicaKept) (n : Option ReplicaNote) (f p : List ℕ) (seen c : List ℕ) → Some (f, p) ≡ framed_note n → records seen ≡ records_of k → IsOldOrNew (records seen) f c → OnDiskOr k n c
+append_leaves k None f p seen c e reads either = absurd (cc e)
+append_leaves k (Some n) f p seen c e reads either =
+    let more : records seen ++ f ∷ [] ≡ records_of (land land_replica (noted (Some n)) k) = ap (λ (rs : List (List ℕ)). rs ++ f ∷ []) reads ∙ sym (landed_records k (Some n) f (some_first f p n e)) in
+    ⊎_elim (λ old. inl (subst (λ (rs : List (List ℕ)). StandsFor rs c) reads old)) (λ new. inr (subst (λ (rs : List (List ℕ)). StandsFor rs c) more new)) either
+
+-- notes with spellings are notes
+un_all : (xs : List BallotNote) → Each IsVoted xs → All IsNote (map un_view xs)
+un_all [] each = All-nil IsNote
+un_all (x ∷ xs) each = All-cons IsNote (un_view x) (map un_view xs) (un_is x each.0) (un_all xs each.1)
+
+un_records : (xs : List BallotNote) → map vote_record xs ≡ map note (map un_view xs)
+un_records [] = refl
+un_records (x ∷ xs) = ap (λ (b : List ℕ). b ∷ map vote_record xs) (un_record x) ∙ ap (λ (bs : List (List ℕ)). note (un_view x) ∷ bs) (un_records xs)
+
+pub of_notes : (k : ReplicaKept) (c : List ℕ) → Each IsVoted k.notes → StandsFor (records_of k) c → IsOfNotes c
+of_notes k c each stands = (map un_view k.notes, un_all k.notes each, subst (λ (rs : List (List ℕ)). StandsFor rs c) (un_records k.notes) stands)
+
+-- of an image that holds notes each record is one
+pub reads_whole : {T : Type 0} (r : Result T JournalFault) (read rs : List (List ℕ)) (seen : List ℕ) (image : List ℕ → Type 0) → read ≡ rs → StandsFor rs seen → IsOpened image seen → ((c : List ℕ) → image c → IsOfNotes c) → IfErr r (IsBadVote read) → IfErr r IsUndamaged
+reads_whole (Ok x) read rs seen image same stands opened all bad = tt
+reads_whole (Err (Damaged at)) read rs seen image same stands opened all bad =
+    let held = all opened.0 opened.1 in
+    none_bad read at held.0 held.1 (same ∙ ok_same rs (map note held.0) (sym stands ∙ opened.2 ∙ held.2)) bad
+reads_whole (Err Disk) read rs seen image same stands opened all bad = tt
+reads_whole (Err Memory) read rs seen image same stands opened all bad = tt
 
 -- a node with no note in doubt stands at each state of this setting, these notes and this knowledge
 pub moved : (roster : Roster) (doubt : Option (List ℕ)) (kept : ℕ) (seen : List ℕ) (image : List ℕ → Type 0) (state : JournalState) (voter : VoterView) (s : ReplicaState) (o : Option Bytes) → doubt ≡ None → StandsAt roster doubt kept seen image state voter s

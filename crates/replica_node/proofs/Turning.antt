@@ -5,7 +5,7 @@ use Rattle.list_words.specs.Lists.{Each}
 use Rattle.outside.specs.Disk.{Only}
 use Rattle.paxos_acceptor.specs.declared.notes.ReplicaNote.{ReplicaNote}
 use Rattle.fields.specs.Spellings.{note, IsNote}
-use Rattle.gate_journal.specs.Gate.{StandsFor}
+use Rattle.gate_journal.specs.Gate.{StandsFor, IsOldOrNew}
 use Rattle.gate_journal.specs.Opening.{IsOpened}
 use Rattle.gate_journal.specs.declared.journal.JournalState.{JournalState}
 use Rattle.gate_journal.specs.declared.journal.JournalState.TheVariants.{Ready}
@@ -14,15 +14,16 @@ use Rattle.air_bus.specs.declared.entry.Entry.TheVariants.{Begin, End, Stop}
 use Rattle.packet_codec.specs.declared.node.Input.{Input}
 use Rattle.turn_defs.specs.Turns.{land}
 use Rattle.site_node.specs.Bytes.{AreSpelled, Reads, IsJunk}
-use Rattle.site_node.specs.States.{Leads, row, written, closes}
+use Rattle.site_node.specs.States.{Leads, row, written, opens, closes}
 use Rattle.site_node.specs.declared.roster.Roster.{Roster}
 use Rattle.site_node.specs.Rosters.{IsOf}
 use Rattle.replica_node.specs.Replica.{ReplicaKept, land_replica}
 use Rattle.replica_node.specs.Core.{kept_of, noted, IsRow}
 use Rattle.replica_node.specs.declared.turn.Turn.{Turn}
-use Rattle.replica_node.specs.Node.{ReplicaState, VoterView, Knows, IsVoted, replica_rows, Holds, HoldsOr, StandsAt}
+use Rattle.replica_node.specs.Node.{ReplicaState, VoterView, Knows, IsVoted, records_of, replica_rows, OnDisk, OnDiskOr, KeptOn, Holds, HoldsOr, StandsAt}
+use Rattle.replica_node.specs.Votes.{IsOfNotes}
 use Rattle.replica_node.proofs.Spelled.{row_landed_ok}
-use Rattle.replica_node.proofs.Standing.{Apart, down_stands, same_kept, landed_kept, left_of, old_count, new_count, input_ok, up_of, row_ok, noted_bytes, open_bytes, moved}
+use Rattle.replica_node.proofs.Standing.{of_notes, Apart, down_stands, same_kept, landed_kept, left_of, old_count, new_count, input_ok, up_of, row_ok, noted_bytes, open_bytes, landed_records, moved}
 
 pub all_five : {T E : Type 0} (r : Result T E) (A B Q : T → Type 0) (C D F : Type 0) → IfOk r A → IfOk r B → OnOk r C → OnOk r D → OnOk r F → ((x : T) → A x → B x → C → D → F → Q x) → IfOk r Q
 all_five (Ok x) A B Q C D F a b c d f go = go x a b c d f
@@ -92,8 +93,48 @@ stays_open roster roster' (Some r) kept kept' seen' image' state' voter' s t n b
     (record {
       setting = subst (λ (x : Roster). IsOf x s.setting) (sym same) of_s;
       spelled = spelled;
-      by = (holds.0, record { begun = b; opened = refl; input = i; reads = reads; noted = open_bytes turn.note r holds.1 ∙ ap (option_map _) is.note });
+      by = (holds.0, record { begun = b; opened = refl; input = i; reads = reads; noted = open_bytes turn.note r holds.1 ∙ ap (option_map _) is.note; landed = ap (λ o. records_of (land land_replica o s.kept)) (sym is.note) ∙ landed_records s.kept turn.note r holds.1 });
     })
+
+-- whatever is left while the turn goes on, the opened state keeps
+pub open_keeps : (s t : ReplicaState) (b : Bytes) (i : Input) (turn : Turn) → t ≡ opens s b → Reads s.setting b i → IsRow s.setting (row replica_rows s i) turn → (c : List ℕ) → OnDiskOr s.kept turn.note c → KeptOn t c
+open_keeps s t b i turn is reads of_row c left =
+    subst (λ (x : ReplicaState). KeptOn x c) (sym is)
+    (⊎_elim (λ old. (s.kept, inl refl, old)) (λ new. (written replica_rows s i, inr (b, i, refl, reads, refl), subst (λ o. OnDisk (land land_replica o s.kept) c) of_row.note new)) left)
+
+-- ---- after a stop
+
+opened_either : (rs : List (List ℕ)) (r c : List ℕ) (image : List ℕ → Type 0) → ((d : List ℕ) → image d → IsOldOrNew rs r d) → IsOpened image c → IsOldOrNew rs r c
+opened_either rs r c image images opened = ⊎_elim (λ old. inl (opened.2 ∙ old)) (λ new. inr (opened.2 ∙ new)) (images opened.0 opened.1)
+
+-- what was opened of a disk is kept as what the disk had
+pub kept_opened : (s : ReplicaState) (image : List ℕ → Type 0) → ((d : List ℕ) → image d → KeptOn s d) → (c : List ℕ) → IsOpened image c → KeptOn s c
+kept_opened s image images c opened = let held = images opened.0 opened.1 in (held.0, held.1, opened.2 ∙ held.2)
+
+-- a node that wasn't opened again stands where it stood
+pub still_down : (roster roster' : Roster) (doubt doubt' : Option (List ℕ)) (kept kept' : ℕ) (seen seen' : List ℕ) (image image' : List ℕ → Type 0) (state state' : JournalState) (voter voter' : VoterView) (s : ReplicaState)
+    → roster' ≡ roster → doubt' ≡ doubt → kept' ≡ kept → ((c : List ℕ) → image' c → IsOpened image c) → is_some doubt ≡ true → StandsAt roster doubt kept seen image state voter s → StandsAt roster' doubt' kept' seen' image' state' voter' s
+still_down roster roster' None doubt' kept kept' seen seen' image image' state state' voter voter' s same none counts opened waits at = absurd (cc waits)
+still_down roster roster' (Some r) doubt' kept kept' seen seen' image image' state state' voter voter' s same some counts opened waits at =
+    subst (λ (o : Option (List ℕ)). StandsAt roster' o kept' seen' image' state' voter' s) (sym some)
+    (record {
+      setting = subst (λ (x : Roster). IsOf x s.setting) (sym same) at.setting;
+      spelled = at.spelled;
+      by = (record { images = λ c here. opened_either (records_of s.kept) r c image at.by.0.images (opened c here); count = counts ∙ at.by.0.count }, at.by.1);
+    })
+
+-- what the state keeps is notes
+pub kept_notes : (s : ReplicaState) (c : List ℕ) → Each IsVoted s.kept.notes → KeptOn s c → IsOfNotes c
+kept_notes s c each held = of_notes held.0 c
+    (⊎_elim
+    (λ now. subst (λ (k : ReplicaKept). Each IsVoted k.notes) (sym now) each)
+    (λ more. subst (λ (k : ReplicaKept). Each IsVoted k.notes) (sym more.4) (row_landed_ok s.kept (row replica_rows s more.1).note each (row_ok s.setting s.kept s.live more.1 each (input_ok s.setting more.0 more.1 more.3)).note))
+    held.1)
+    held.2
+
+pub on_err : {T E : Type 0} (r : Result T E) (Q : Type 0) → Q → OnErr r Q
+on_err (Ok x) Q q = tt
+on_err (Err e) Q q = q
 
 -- what is found after a stop
 pub record Found (roster' : Roster) (count : ℕ) (seen' : List ℕ) (image image' : List ℕ → Type 0) (state' : JournalState) (voter' : VoterView) (notes : List ReplicaNote) : Type 0 where

@@ -2,3 +2,5 @@ pub mod Replica
 pub mod Core
 pub mod Rows
 pub mod Node
+pub mod Votes
+pub mod Kept

@@ -1,5 +1,5 @@
 -- A replica over its disk, beside the states that its entries lead through.
-use Rattle.std.specs.Prelude.{◌≡◌, ◌≤◌, ◌-◌, ◌^◌, min, ℕ, List, map, length, Bool, true, false, Option, Some, None}
+use Rattle.std.specs.Prelude.{◌≡◌, ◌⊎◌, ◌≤◌, ◌-◌, ◌^◌, min, ℕ, List, [], ◌∷◌, ◌++◌, map, length, Bool, true, false, Option, Some, None}
 use Rattle.list_words.specs.Lists.{Each}
 use Rattle.paxos_defs.specs.Notes.Note.{Promised, Accepted}
 use Rattle.paxos_acceptor.specs.declared.notes.ReplicaNote.{ReplicaNote}
@@ -12,13 +12,13 @@ use Rattle.air_bus.specs.declared.entry.Input.{Input as Bytes}
 use Rattle.packet_codec.specs.declared.node.Input.{Input}
 use Rattle.packet_codec.specs.declared.node.Input.TheVariants.{Start, Own, Tick, Deliver}
 use Rattle.turn_defs.specs.Setting.{Setting}
-use Rattle.turn_defs.specs.Turns.{BallotNote, Voted}
+use Rattle.turn_defs.specs.Turns.{BallotNote, Voted, land}
 use Rattle.site_node.specs.Bytes.{record_of, IsNoted, AreSpelled, Reads}
-use Rattle.site_node.specs.States.{State, Rows, row}
+use Rattle.site_node.specs.States.{State, Rows, row, written, MayHold}
 use Rattle.site_node.specs.declared.roster.Roster.{Roster}
 use Rattle.site_node.specs.Rosters.{IsOf}
 use Rattle.replica_node.specs.Replica.{ReplicaKept, replica_start, replica_turn, land_replica}
-use Rattle.replica_node.specs.Core.{Stands, GoesOn, HasRoomFor, kept_of}
+use Rattle.replica_node.specs.Core.{Stands, GoesOn, HasRoomFor, kept_of, noted}
 use Rattle.replica_node.specs.declared.turn.Turn.{Turn}
 use Rattle.replica_node.specs.declared.turn.Change.{Change}
 use Rattle.replica_node.specs.declared.replica_core.ReplicaCore.{ReplicaCore}
@@ -90,6 +90,22 @@ pub record IsSpelledTurn (core : ReplicaCore) (change : Change) (written_note : 
 abbrev pub counted : ReplicaKept → ℕ
 counted k = min (length k.notes) (2 ^ 64 - 1)
 
+-- the disk's bytes hold these notes
+abbrev pub OnDisk : ReplicaKept → List ℕ → Type 0
+OnDisk k bytes = StandsFor (records_of k) bytes
+
+-- these notes, or those and this one
+abbrev pub OnDiskOr : ReplicaKept → Option ReplicaNote → List ℕ → Type 0
+OnDiskOr k n bytes = OnDisk k bytes ⊎ OnDisk (land land_replica (noted n) k) bytes
+
+-- the disk's bytes hold what the state keeps, or that and the note of its open turn
+abbrev pub KeptOn : ReplicaState → List ℕ → Type 0
+KeptOn s bytes = (k : ReplicaKept) × MayHold replica_rows s k × OnDisk k bytes
+
+-- no disk of a replica is ever beyond its last epoch
+abbrev pub never_spent : ReplicaState → Bytes → Option ℕ
+never_spent s b = None
+
 -- each image of the disk holds the kept notes
 pub record Holds (kept : ℕ) (seen : List ℕ) (image : List ℕ → Type 0) (state : JournalState) (k : ReplicaKept) : Type 0 where
   pub ready : state ≡ Ready
@@ -109,6 +125,7 @@ pub record IsOpenAt (s : ReplicaState) (open_record : List ℕ) : Type 0 where
   pub input : Input
   pub reads : Reads s.setting begun input
   pub noted : IsNoted (row replica_rows s input).note (Some open_record)
+  pub landed : records_of (written replica_rows s input) ≡ records_of s.kept ++ open_record ∷ []
 
 abbrev pub IsRecord : Option ReplicaNote → List ℕ → Type 0
 IsRecord None r = ⊥

@@ -1,4 +1,14 @@
 // The replica over its disk.
+ghost use Rattle.std.specs.Prelude.{◌≡◌, ◌≤◌, None, List, ℕ, All, map, IsTrue, IfOk, IfErr, OnOk, IsErrOf};
+ghost use Rattle.outside.specs.Disk.{Throughout};
+ghost use Rattle.outside.specs.Faults.{Rose};
+ghost use Rattle.gate_journal.specs.declared.journal.JournalState.TheVariants.{Ready};
+ghost use Rattle.gate_journal.specs.Gate.{StandsFor};
+ghost use Rattle.gate_journal.specs.Opening.{IsOpened};
+ghost use Rattle.gate_journal.specs.Growth.{Continues};
+ghost use Rattle.fields.specs.Spellings.{note as note_spelled, IsNote};
+ghost use Rattle.replica_node.specs.Votes.{IsOfNotes, IsUndamaged};
+
 use crate::Turn;
 use crate::voter::Voter;
 use crate::votes::{read_votes, vote_frame};
@@ -26,6 +36,7 @@ pub struct ReplicaNode<D: Disk> {
     // While it waits for `restart`, the record that may have landed.
     in_doubt: Option<Payload>,
     alloc: Global,
+    ghost ready: { in_doubt ≡ None → journal.state ≡ Ready },
 }
 
 // A turn that is decided and spelled, with its note's record.
@@ -37,20 +48,25 @@ struct ReadyTurn {
 }
 
 impl<D: Disk> ReplicaNode<D> {
-    ghost use Rattle.std.specs.Prelude.{◌≡◌, ◌+◌, false, true, Some, None, Option, All, map, List, ℕ, is_some, option_map, length, IsTrue, IfOk, OnOk, OnErr, IsErrOf};
+    ghost use Rattle.std.specs.Prelude.{◌≡◌, ◌≤◌, ◌+◌, false, true, Some, None, Option, All, map, List, ℕ, is_some, option_map, length, IsTrue, IfOk, IfErr, OnOk, OnErr, IsErrOf, Err};
+    ghost use Rattle.outside.specs.Disk.{Throughout};
+    ghost use Rattle.outside.specs.Faults.{Rose};
     ghost use Rattle.gate_journal.specs.declared.journal.JournalState.TheVariants.{Ready};
     ghost use Rattle.gate_journal.specs.Gate.{StandsFor};
     ghost use Rattle.gate_journal.specs.Opening.{IsOpened};
+    ghost use Rattle.gate_journal.specs.Growth.{Continues};
     ghost use Rattle.fields.specs.Spellings.{note as note_spelled, IsNote};
     ghost use Rattle.turn_defs.specs.Setting.{Setting};
     ghost use Rattle.turn_defs.specs.Turns.{land};
     ghost use Rattle.site_node.specs.Bytes.{IsInput};
     ghost use Rattle.site_node.specs.Rosters.{IsOf};
     ghost use Rattle.site_node.specs.States.{row_of};
+    ghost use Rattle.site_node.specs.Faults.{IsOfRestart, IsWhole};
     ghost use Rattle.replica_node.specs.Replica.{ReplicaKept, land_replica};
     ghost use Rattle.replica_node.specs.Core.{noted, IsRow, GoesOn};
+    ghost use Rattle.replica_node.specs.Votes.{IsOfNotes};
     ghost use Rattle.paxos_acceptor.specs.declared.notes.ReplicaNote.{ReplicaNote};
-    ghost use Rattle.replica_node.specs.Node.{StandsAt, Holds, HoldsOr, Knows, Fits, framed_note, IsShort, IsReady, IsRoomFor, replica_rows, down_over};
+    ghost use Rattle.replica_node.specs.Node.{StandsAt, Holds, HoldsOr, OnDiskOr, Knows, Fits, framed_note, IsShort, IsReady, IsRoomFor, replica_rows, down_over};
 
     /// A replica that is down, over a journal with these notes. It takes no memory.
     pub fn new(
@@ -60,11 +76,12 @@ impl<D: Disk> ReplicaNode<D> {
         journal: Journal<D>,
         notes: Vec<ReplicaNote>,
     ) -> ReplicaNode<D>
-        requires { All IsNote notes.items }
+        requires notes { All IsNote notes.items }
+        requires ready { journal.state ≡ Ready }
         ensures number { result.replica ≡ replica }
         ensures disk { result.journal.disk ≡ journal.disk }
         ensures up { result.in_doubt ≡ None }
-        ensures stands { IsTrue D.tells → (g : Setting) → IsOf roster g → journal.state ≡ Ready → StandsFor (map note_spelled notes.items) (D.seen journal.disk) → StandsAt result.roster result.in_doubt result.kept (D.seen result.journal.disk) (D.image result.journal.disk) result.journal.state result.voter (down_over g notes.items) }
+        ensures stands { IsTrue D.tells → (g : Setting) → IsOf roster g → StandsFor (map note_spelled notes.items) (D.seen journal.disk) → StandsAt result.roster result.in_doubt result.kept (D.seen result.journal.disk) (D.image result.journal.disk) result.journal.state result.voter (down_over g notes.items) }
     {
         let kept = notes.len() as u64;
         ReplicaNode {
@@ -91,6 +108,8 @@ impl<D: Disk> ReplicaNode<D> {
         ensures same { (self.new.replica ≡ self.old.replica) × (self.new.roster ≡ self.old.roster) × (self.new.in_doubt ≡ self.old.in_doubt) }
         ensures knows { (k : ReplicaKept) (live : Option (Unit {0})) → Knows self.old.voter k live → Knows self.new.voter k live }
         ensures holds { IsTrue D.tells → (k : ReplicaKept) → Holds self.old.kept (D.seen self.old.journal.disk) (D.image self.old.journal.disk) self.old.journal.state k → Holds self.new.kept (D.seen self.new.journal.disk) (D.image self.new.journal.disk) self.new.journal.state k }
+        ensures moments { IsTrue D.tells → Throughout D.image D.since self.old.journal.disk self.new.journal.disk (D.image self.old.journal.disk) }
+        ensures count { D.faults self.new.journal.disk ≡ D.faults self.old.journal.disk }
         ensures turn { IfOk result (λ r. (g : Setting) (k : ReplicaKept) (live : Option (Unit {0})) → Knows self.old.voter k live → Fits live input.now → IsRow g (row_of replica_rows g k live input.now) r.turn) }
         ensures next { IfOk result (λ r. (k : ReplicaKept) (live : Option (Unit {0})) → Knows self.old.voter k live → Fits live input.now → GoesOn self.new.voter.core r.turn.change k) }
         ensures ready { IfOk result (λ r. IsReady self.new.voter.core r.turn r.packets r.framed) }
@@ -112,6 +131,8 @@ impl<D: Disk> ReplicaNode<D> {
         requires { IsShort framed.now }
         ensures same { (self.new.replica ≡ self.old.replica) × (self.new.roster ≡ self.old.roster) × (self.new.in_doubt ≡ self.old.in_doubt) × (self.new.voter ≡ self.old.voter) }
         ensures holds { IsTrue D.tells → (k : ReplicaKept) → Holds self.old.kept (D.seen self.old.journal.disk) (D.image self.old.journal.disk) self.old.journal.state k → Holds self.new.kept (D.seen self.new.journal.disk) (D.image self.new.journal.disk) self.new.journal.state k }
+        ensures moments { IsTrue D.tells → Throughout D.image D.since self.old.journal.disk self.new.journal.disk (D.image self.old.journal.disk) }
+        ensures count { D.faults self.new.journal.disk ≡ D.faults self.old.journal.disk }
         ensures room { OnOk result (IsRoomFor framed.now (D.calls_left self.new.journal.disk) (D.bytes_left self.new.journal.disk)) }
     {
         match framed {
@@ -128,6 +149,11 @@ impl<D: Disk> ReplicaNode<D> {
         ensures same { (self.new.replica ≡ self.old.replica) × (self.new.roster ≡ self.old.roster) }
         ensures up { OnOk result (self.new.in_doubt ≡ None) }
         ensures stopped { IsErrOf result NodeFault.Stopped → is_some self.new.in_doubt ≡ true }
+        ensures only_stopped { OnErr result (result ≡ Err NodeFault.Stopped) }
+        ensures fault { OnErr result (Rose (D.faults self.old.journal.disk) (D.faults self.new.journal.disk)) }
+        ensures count { D.faults self.old.journal.disk ≤ D.faults self.new.journal.disk }
+        ensures moments { IsTrue D.tells → (k : ReplicaKept) → Holds self.old.kept (D.seen self.old.journal.disk) (D.image self.old.journal.disk) self.old.journal.state k → Throughout D.image D.since self.old.journal.disk self.new.journal.disk (OnDiskOr k ready.turn.note) }
+        ensures grows { IsTrue D.tells → (k : ReplicaKept) → Holds self.old.kept (D.seen self.old.journal.disk) (D.image self.old.journal.disk) self.old.journal.state k → (c : List ℕ) → D.image self.new.journal.disk c → Continues (D.image self.old.journal.disk) c }
         ensures note { IfOk result (λ d. d.note ≡ option_map note_spelled ready.turn.note) }
         ensures packets { IfOk result (λ d. d.packets ≡ ready.packets) }
         ensures knows { OnOk result ((k : ReplicaKept) → GoesOn self.old.voter.core ready.turn.change k → Knows self.new.voter (land land_replica (noted ready.turn.note) k) (Some tt)) }
@@ -151,6 +177,11 @@ impl<D: Disk> ReplicaNode<D> {
         ensures same { (self.new.replica ≡ self.old.replica) × (self.new.roster ≡ self.old.roster) × (self.new.voter ≡ self.old.voter) }
         ensures up { OnOk result (self.new.in_doubt ≡ None) }
         ensures stopped { IsErrOf result NodeFault.Stopped → is_some self.new.in_doubt ≡ true }
+        ensures only_stopped { OnErr result (result ≡ Err NodeFault.Stopped) }
+        ensures fault { OnErr result (Rose (D.faults self.old.journal.disk) (D.faults self.new.journal.disk)) }
+        ensures count { D.faults self.old.journal.disk ≤ D.faults self.new.journal.disk }
+        ensures moments { IsTrue D.tells → (k : ReplicaKept) (n : Option ReplicaNote) → framed ≡ framed_note n → Holds self.old.kept (D.seen self.old.journal.disk) (D.image self.old.journal.disk) self.old.journal.state k → Throughout D.image D.since self.old.journal.disk self.new.journal.disk (OnDiskOr k n) }
+        ensures grows { IsTrue D.tells → (k : ReplicaKept) → Holds self.old.kept (D.seen self.old.journal.disk) (D.image self.old.journal.disk) self.old.journal.state k → (c : List ℕ) → D.image self.new.journal.disk c → Continues (D.image self.old.journal.disk) c }
         ensures note { (n : Option ReplicaNote) → framed ≡ framed_note n → IfOk result (λ r. r ≡ option_map note_spelled n) }
         ensures holds { IsTrue D.tells → (k : ReplicaKept) (n : Option ReplicaNote) → framed ≡ framed_note n → Holds self.old.kept (D.seen self.old.journal.disk) (D.image self.old.journal.disk) self.old.journal.state k → OnOk result (Holds self.new.kept (D.seen self.new.journal.disk) (D.image self.new.journal.disk) self.new.journal.state (land land_replica (noted n) k)) }
         ensures undone { IsTrue D.tells → (k : ReplicaKept) (n : Option ReplicaNote) → framed ≡ framed_note n → Holds self.old.kept (D.seen self.old.journal.disk) (D.image self.old.journal.disk) self.old.journal.state k → OnErr result (HoldsOr self.new.in_doubt n self.new.kept (D.seen self.new.journal.disk) (D.image self.new.journal.disk) self.new.journal.state k) }
@@ -172,41 +203,58 @@ impl<D: Disk> ReplicaNode<D> {
 
     // The notes that the disk holds, as the stop left it.
     fn reread(&mut self) -> Result<Vec<ReplicaNote>, NodeFault>
+        requires waits { is_some self.old.in_doubt ≡ true }
         ensures same { (self.new.replica ≡ self.old.replica) × (self.new.roster ≡ self.old.roster) × (self.new.voter ≡ self.old.voter) × (self.new.kept ≡ self.old.kept) × (self.new.in_doubt ≡ self.old.in_doubt) }
         ensures notes { IfOk result (λ notes. All IsNote notes.items) }
         ensures ready { OnOk result (self.new.journal.state ≡ Ready) }
         ensures reads { IsTrue D.tells → IfOk result (λ notes. StandsFor (map note_spelled notes.items) (D.seen self.new.journal.disk)) }
         ensures seen { IsTrue D.tells → OnOk result (D.image self.new.journal.disk (D.seen self.new.journal.disk)) }
-        ensures images { IsTrue D.tells → (c : List ℕ) → D.image self.new.journal.disk c → IsOpened (D.image self.old.journal.disk) c }
+        ensures moments { IsTrue D.tells → Throughout D.image D.since self.old.journal.disk self.new.journal.disk (IsOpened (D.image self.old.journal.disk)) }
+        ensures grows { IsTrue D.tells → Throughout D.image D.since self.old.journal.disk self.new.journal.disk (Continues (D.image self.old.journal.disk)) }
+        ensures kind { IfErr result IsOfRestart }
+        ensures fault { IsErrOf result NodeFault.Stopped → Rose (D.faults self.old.journal.disk) (D.faults self.new.journal.disk) }
+        ensures count { D.faults self.old.journal.disk ≤ D.faults self.new.journal.disk }
+        ensures whole { IsTrue D.tells → ((c : List ℕ) → D.image self.old.journal.disk c → IsOfNotes c) → IfErr result IsWhole }
     {
-        let refused = match self.journal.reopen(self.alloc) {
-            Ok(records) => match read_votes(self.alloc, &records) {
-                Ok(notes) => return Ok(notes),
-                Err(fault) => fault,
-            },
-            Err(fault) => fault,
-        };
-        Err(self.fault_of(refused))
-    }
-
-    fn fault_of(&self, fault: JournalFault) -> NodeFault {
-        match fault {
-            JournalFault::Damaged { at } => NodeFault::Damaged {
+        match reopen_notes(self.alloc, &mut self.journal) {
+            Ok(notes) => Ok(notes),
+            Err(JournalFault::Damaged { at }) => Err(NodeFault::Damaged {
                 disk: DiskName::Replica(self.replica),
                 at,
-            },
-            JournalFault::Disk => NodeFault::Stopped,
-            JournalFault::Memory => NodeFault::Memory,
+            }),
+            Err(JournalFault::Disk) => Err(NodeFault::Stopped),
+            Err(JournalFault::Memory) => Err(NodeFault::Memory),
         }
     }
 }
 
+// Reopens a journal as a stop left it, and reads its notes.
+fn reopen_notes<D: Disk>(
+    alloc: Global,
+    journal: &mut Journal<D>,
+) -> Result<Vec<ReplicaNote>, JournalFault>
+    ensures notes { IfOk result (λ notes. All IsNote notes.items) }
+    ensures ready { OnOk result (journal.new.state ≡ Ready) }
+    ensures reads { IsTrue D.tells → IfOk result (λ notes. StandsFor (map note_spelled notes.items) (D.seen journal.new.disk)) }
+    ensures seen { IsTrue D.tells → OnOk result (D.image journal.new.disk (D.seen journal.new.disk)) }
+    ensures moments { IsTrue D.tells → Throughout D.image D.since journal.old.disk journal.new.disk (IsOpened (D.image journal.old.disk)) }
+    ensures grows { IsTrue D.tells → Throughout D.image D.since journal.old.disk journal.new.disk (Continues (D.image journal.old.disk)) }
+    ensures fault { IsErrOf result JournalFault.Disk → Rose (D.faults journal.old.disk) (D.faults journal.new.disk) }
+    ensures count { D.faults journal.old.disk ≤ D.faults journal.new.disk }
+    ensures whole { IsTrue D.tells → ((c : List ℕ) → D.image journal.old.disk c → IsOfNotes c) → IfErr result IsUndamaged }
+{
+    let records = journal.reopen(alloc)?;
+    read_votes(alloc, &records)
+}
+
 impl<D: Disk> SiteNode for ReplicaNode<D> {
-    ghost use Rattle.std.specs.Prelude.{◌≡◌, ◌+◌, is_some};
-    ghost use Rattle.replica_node.specs.Replica.{ReplicaKept, replica_at_rest, replica_unfinished, replica_wants};
-    ghost use Rattle.site_node.specs.States.{Leads, state_phase};
+    ghost use Rattle.std.specs.Prelude.{◌≡◌, ◌+◌, is_some, List, ℕ};
+    ghost use Rattle.replica_node.specs.Replica.{replica_at_rest, replica_unfinished, replica_wants};
+    ghost use Rattle.site_node.specs.States.{Leads, state_phase, Says};
     ghost use Rattle.site_node.specs.Paths.{begins as begins_by, phase_led};
-    ghost use Rattle.replica_node.specs.Node.{ReplicaState, StandsAt, replica_rows};
+    ghost use Rattle.gate_journal.specs.Growth.{Continues};
+    ghost use Rattle.replica_node.specs.Node.{ReplicaState, StandsAt, KeptOn, never_spent, replica_rows};
+    ghost use Rattle.replica_node.specs.Kept.{kept_images};
 
     ghost tells = { D.tells };
 
@@ -216,31 +264,49 @@ impl<D: Disk> SiteNode for ReplicaNode<D> {
 
     ghost phase_of = { state_phase };
 
+    ghost wants_as = { Says (λ g k l. replica_wants k) };
+
+    ghost unfinished_as = { Says (λ g k l. replica_unfinished k) };
+
+    ghost at_rest_as = { Says (λ g k l. replica_at_rest k) };
+
+    ghost spends = { never_spent };
+
+    ghost Contents = { List ℕ };
+
+    ghost keeps = { KeptOn };
+
     ghost number = { λ node. 4 + node.replica };
 
     ghost waits = { λ node. is_some node.in_doubt };
 
     ghost stands = { λ node s. StandsAt node.roster node.in_doubt node.kept (D.seen node.journal.disk) (D.image node.journal.disk) node.journal.state node.voter s };
 
+    ghost image = { λ node. D.image node.journal.disk };
+
+    ghost since = { λ old new. D.since old.journal.disk new.journal.disk };
+
+    ghost grown = { λ old new. (c : List ℕ) → D.image new.journal.disk c → Continues (D.image old.journal.disk) c };
+
+    ghost faults = { λ node. D.faults node.journal.disk };
+
+    ghost log_faults = { λ node. 0 };
+
     ghost begins = { begins_by replica_rows };
 
     ghost phases = { phase_led replica_rows };
 
-    fn wants(&self) -> bool
-        ensures { (k : ReplicaKept) → result ≡ replica_wants k }
-    {
+    ghost images = { λ node s tells. kept_images node.roster node.in_doubt node.kept (D.seen node.journal.disk) (D.image node.journal.disk) node.journal.state node.voter s };
+
+    fn wants(&self) -> bool {
         false
     }
 
-    fn unfinished(&self) -> bool
-        ensures { (k : ReplicaKept) → result ≡ replica_unfinished k }
-    {
+    fn unfinished(&self) -> bool {
         false
     }
 
-    fn at_rest(&self) -> bool
-        ensures { (k : ReplicaKept) → result ≡ replica_at_rest k }
-    {
+    fn at_rest(&self) -> bool {
         true
     }
 

@@ -1,8 +1,9 @@
 // Notes and their records.
-ghost use Rattle.std.specs.Prelude.{◌≡◌, ◌≤◌, ◌^◌, All, map, length, IfOk, IfSome};
+ghost use Rattle.std.specs.Prelude.{◌≡◌, ◌≤◌, ◌^◌, All, map, length, IfOk, IfErr, IfSome, IfNone};
 ghost use Rattle.gate_journal.specs.Gate.{spans};
 ghost use Rattle.fields.specs.Spellings.{note as note_spelled, IsNote};
 ghost use Rattle.replica_node.specs.Node.{framed_note, IsNotedSo, IsShort};
+ghost use Rattle.replica_node.specs.Votes.{IsNoVote, IsBadVote};
 
 use air_bus::Payload;
 use fields::{Field, FieldFault};
@@ -13,7 +14,8 @@ use wire_core::{Bytes, Reader};
 
 /// The note of a record, or None where it is no note's. Linear in the record. It allocates the batch's inserts.
 pub(crate) fn read_vote(alloc: Global, payload: &[u8]) -> Result<Option<ReplicaNote>, AllocError>
-    ensures { IfOk result (λ read. IfSome read (λ note. IsNote note × (payload.now ≡ note_spelled note))) }
+    ensures some { IfOk result (λ read. IfSome read (λ note. IsNote note × (payload.now ≡ note_spelled note))) }
+    ensures none { IfOk result (λ read. IfNone read (IsNoVote payload.now)) }
 {
     let mut from = Reader::new(payload);
     match ReplicaNote::take(alloc, &mut from) {
@@ -33,6 +35,7 @@ pub(crate) fn read_vote(alloc: Global, payload: &[u8]) -> Result<Option<ReplicaN
 pub fn read_votes(alloc: Global, records: &[Bytes]) -> Result<Vec<ReplicaNote>, JournalFault>
     requires { spans records.now ≤ 2 ^ 63 }
     ensures notes { IfOk result (λ notes. All IsNote notes.items × (records.now ≡ map note_spelled notes.items)) }
+    ensures damaged { IfErr result (IsBadVote records.now) }
 {
     let mut notes = Vec::new(alloc);
     let mut place = 1;

@@ -66,7 +66,9 @@ pub trait SiteNode {
 
     /// What a node that is up and stands at the state answers to each of its three questions.
     ghost wants_as: { State → Bool → Type 0 };
+
     ghost unfinished_as: { State → Bool → Type 0 };
+
     ghost at_rest_as: { State → Bool → Type 0 };
 
     /// The kept epoch where the input would raise it past the last one.

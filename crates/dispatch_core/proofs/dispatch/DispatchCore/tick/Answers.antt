@@ -1,11 +1,15 @@
-use Rattle.std.proofs.Common.{List, ◌++◌, ap, refl, subst, ℕ}
+use Rattle.std.proofs.Common.{List, ◌++◌, ap, refl, sym, subst, ℕ, ◌<◌, ◌^◌}
 use Rattle.std.specs.List.{zip}
+use Rattle.std.proofs.lemmas.List.Elements.{All-same}
+use Rattle.list_words.proofs.Lists.{each_append}
 use Rattle.log_records.specs.declared.records.ClickRec.{ClickRec as Click}
 use Rattle.dispatch_core.specs.Dispatcher.{DispatcherLive, dispatcher_tick}
 use Rattle.dispatch_core.specs.Outboxes.{Puts, waiting_joins}
+use Rattle.dispatch_core.specs.Spelled.{IsJoin}
 use Rattle.dispatch_core.specs.Standing.{Sends}
 use Rattle.dispatch_core.specs.declared.turns.Change.TheVariants.{Nothing}
 use Rattle.dispatch_core.proofs.Joins.{puts_more, tick_are}
+use Rattle.dispatch_core.proofs.Spelled.{waiting_spelled, zip_spelled}
 use Rattle.dispatch_core.proofs.Rows.{row_of, sends_of, dealt_of}
 use Rattle.dispatch_core.proofs.dispatch.DispatchCore.tick.Goals as goal
 use Rattle.dispatch_core.proofs.dispatch.DispatchCore.tick.Goals.{After-turn}
@@ -15,8 +19,9 @@ sends c =
     let core = c.args.self.now in
     let js = waiting_joins core.fresh.items in
     let ks = zip core.trying.keys c.args.clicks.now.items in
-    let trying : Puts c.put_waiting.new.self c.put_trying.new.self ks = subst (λ (xs : List (ℕ × Click)). Puts c.put_waiting.new.self c.put_trying.new.self xs) (λ i. zip (c.as_slice.ensures.keys i) (c.deref.ensures.value i)) c.in_ok-put_trying.ensures in
+    let trying : Puts c.put_waiting.new.self c.put_trying.new.self ks = subst (λ (xs : List (ℕ × Click)). Puts c.put_waiting.new.self c.put_trying.new.self xs) (λ i. zip (c.as_slice.ensures.keys i) (c.deref.ensures.value i)) c.in_ok-put_trying.ensures.puts in
     sends_of core c.new-outbox.result c.put_trying.new.self c.turn.result Nothing (js ++ ks) c.new-outbox.ensures.dealer c.new-outbox.ensures.packets (puts_more c.new-outbox.result c.put_waiting.new.self c.put_trying.new.self js ks c.in_ok-put_waiting.ensures trying) c.turn.ensures.change c.turn.ensures.packets c.turn.ensures.next
+    (each_append IsJoin js ks (waiting_spelled core.fresh.items) (zip_spelled core.trying.keys c.args.clicks.now.items (All-same (λ n. n < 2 ^ 64) core.trying.keys c.as_slice.result.now (sym c.as_slice.ensures.keys) c.put_trying.ensures.numbers) c.requires))
 
 pub returns-clause-turn : goal.returns-clause-turn
 returns-clause-turn c = λ g k l s clicks.

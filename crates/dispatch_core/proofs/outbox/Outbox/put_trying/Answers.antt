@@ -21,8 +21,8 @@ loop-position-preserved c = λ last rest.
     let more = puts_more c.loop-position.self c.put.new.self last ((p, click) ∷ []) (zip (iter_rest after.a) (iter_rest after.b)) c.in_ok-put.ensures rest in
     c.loop-position.invariant last (subst (λ (js : List (ℕ × Click)). Puts c.loop-position.self last js) (λ i. zip (sym step.0 i) (sym step.1 i)) more)
 
-pub returns : goal.returns
-returns c =
+pub returns-clause-puts : goal.returns-clause-puts
+returns-clause-puts c =
     let here = c.loop-position.position-iterator in
     let none = zip_empty (iter_rest here.a) (iter_rest here.b) (⊎_elim (λ h. inl (nil_from_length (iter_rest here.a) h.1.0)) (λ h. inr (nil_from_length (iter_rest here.b) h.1.0)) c.in-None.ensures.steps) in
     c.loop-position.invariant c.loop-position.self (subst (λ (js : List (ℕ × Click)). Puts c.loop-position.self c.loop-position.self js) none (puts_none c.loop-position.self))

@@ -1,8 +1,9 @@
-use Rattle.std.proofs.Common.{◌≡◌, ℕ, List, Option, Some, sym, ◌∙◌, subst, arith}
+use Rattle.std.proofs.Common.{rules, ◌≡◌, ℕ, List, Option, Some, sym, ◌∙◌, subst, arith}
 use Rattle.air_bus.specs.declared.entry.Input.{Input as Bytes}
 use Rattle.site_node.specs.States.{Stops}
 use Rattle.replica_node.specs.Node.{StandsAt, replica_rows}
-use Rattle.replica_node.proofs.Turning.{Found, nothing_landed, note_landed}
+use Rattle.replica_node.specs.Kept.{kept_images}
+use Rattle.replica_node.proofs.Turning.{Found, nothing_landed, note_landed, kept_opened, kept_notes, still_down, on_err}
 use Rattle.replica_node.proofs.node.ReplicaNodeSiteNode.restart.Goals as goal
 
 pub returns-then-landed-clause-stopped : goal.returns-then-landed-clause-stopped
@@ -19,7 +20,7 @@ returns-then-landed-clause-stopped g c tells s at =
       apart = c.told_apart.ensures;
       all = e.notes;
       reads = e.reads tells;
-      opened = e.images tells seen (e.seen tells);
+      opened = (e.moments tells).now seen (e.seen tells);
       ready = e.ready;
       only = (new.journal.settled tells e.ready).durable;
       down = c.new.ensures.down;
@@ -48,7 +49,7 @@ returns-else-landed-clause-stopped g c tells s at =
       apart = c.told_apart.ensures;
       all = e.notes;
       reads = e.reads tells;
-      opened = e.images tells seen (e.seen tells);
+      opened = (e.moments tells).now seen (e.seen tells);
       ready = e.ready;
       only = (new.journal.settled tells e.ready).durable;
       down = c.new.ensures.down;
@@ -62,3 +63,38 @@ returns-else-landed-clause-stopped g c tells s at =
       done.1,
       subst (λ (d : Option (List ℕ)). StandsAt new.roster d c.len-count.result seen image new.journal.state c.new.result done.0) (sym c.take-landed_record.ensures.after) done.2,
     )
+
+pub returns-then-landed-clause-moments : goal.returns-then-landed-clause-moments
+returns-then-landed-clause-moments g c tells s at bytes left =
+    let old = c.args.self.now in
+    let was = g.D.Disk.image old.journal.disk in
+    kept_opened s was (kept_images old.roster old.in_doubt old.kept (g.D.Disk.seen old.journal.disk) was old.journal.state old.voter s at) bytes ((c.reread.ensures.moments tells).each bytes left)
+
+pub returns-else-landed-clause-moments : goal.returns-else-landed-clause-moments
+returns-else-landed-clause-moments g c tells s at bytes left =
+    let old = c.args.self.now in
+    let was = g.D.Disk.image old.journal.disk in
+    kept_opened s was (kept_images old.roster old.in_doubt old.kept (g.D.Disk.seen old.journal.disk) was old.journal.state old.voter s at) bytes ((c.reread.ensures.moments tells).each bytes left)
+
+pub returns-in_err-notes-clause-moments : goal.returns-in_err-notes-clause-moments
+returns-in_err-notes-clause-moments g c tells s at bytes left =
+    let old = c.args.self.now in
+    let was = g.D.Disk.image old.journal.disk in
+    kept_opened s was (kept_images old.roster old.in_doubt old.kept (g.D.Disk.seen old.journal.disk) was old.journal.state old.voter s at) bytes ((c.reread.ensures.moments tells).each bytes left)
+
+pub returns-in_err-notes-clause-open : goal.returns-in_err-notes-clause-open
+returns-in_err-notes-clause-open g c tells s at =
+    let old = c.args.self.now in
+    let new = c.reread.new.self in
+    let e = c.reread.ensures in
+    on_err c.from_residual.result _
+    (still_down old.roster new.roster old.in_doubt new.in_doubt old.kept new.kept (g.D.Disk.seen old.journal.disk) (g.D.Disk.seen new.journal.disk) (g.D.Disk.image old.journal.disk) (g.D.Disk.image new.journal.disk) old.journal.state new.journal.state old.voter new.voter s
+    e.same.1 e.same.4 e.same.3 ((e.moments tells).now) c.requires at)
+
+pub returns-in_err-notes-clause-whole : goal.returns-in_err-notes-clause-whole
+returns-in_err-notes-clause-whole g c tells s at =
+    let old = c.args.self.now in
+    let was = g.D.Disk.image old.journal.disk in
+    let images = kept_images old.roster old.in_doubt old.kept (g.D.Disk.seen old.journal.disk) was old.journal.state old.voter s at in
+    let whole = c.in_err-notes.ensures.whole tells (λ b here. kept_notes s b at.spelled (images b here)) in
+    search rules

@@ -1,7 +1,8 @@
-use Rattle.std.proofs.Common.{sym, ◌∙◌, subst}
+use Rattle.std.proofs.Common.{sym, ◌∙◌, subst, inl, ⊎_elim}
+use Rattle.gate_journal.proofs.Growth.{continues_same, continues_through}
 use Rattle.replica_node.specs.Node.{VoterView, Knows}
 use Rattle.replica_node.proofs.Standing.{none_of, quiet, fits_of}
-use Rattle.replica_node.proofs.Turning.{idles, ends, stays_open, all_five, both_err}
+use Rattle.replica_node.proofs.Turning.{idles, ends, stays_open, open_keeps, all_five, both_err}
 use Rattle.replica_node.proofs.node.ReplicaNodeSiteNode.turn.Goals as goal
 
 pub returns-in-None-clause-done : goal.returns-in-None-clause-done
@@ -50,3 +51,29 @@ returns-after-is_some-clause-open g c tells s t at led =
     (λ voter holds.
     stays_open old.roster new.roster new.in_doubt old.kept new.kept (g.D.Disk.seen new.journal.disk) (g.D.Disk.image new.journal.disk) new.journal.state new.voter s t 0 b i ready.turn at.setting at.spelled led (c.finish.ensures.same.1 ∙ e.same.1) reads row
     (subst (λ (v : VoterView). Knows v s.kept s.live) (sym voter) (e.knows s.kept s.live known.1)) holds)
+
+pub returns-after-is_some-clause-moments : goal.returns-after-is_some-clause-moments
+returns-after-is_some-clause-moments g c tells s t at led bytes left =
+    let old = c.args.self.now in
+    let mid = c.prepare.new.self in
+    let seen = g.D.Disk.seen old.journal.disk in
+    let image = g.D.Disk.image old.journal.disk in
+    let i = c.in-Some.input in
+    let known = quiet old.roster old.in_doubt old.kept seen image old.journal.state old.voter s (none_of old.in_doubt c.requires.up) at in
+    let reads = rw c.in-Some.is at (c.in_ok-read_input.ensures.reads s.setting at.setting) in
+    let fits = fits_of s.setting s.live c.args.input.now i reads led.1 in
+    let e = c.in_ok-ready-in-Some.ensures in
+    let row = e.turn s.setting s.kept s.live known.1 fits in
+    open_keeps s t c.args.input.now i c.in_ok-ready-in-Some.ready.turn led.2 reads row bytes
+    (⊎_elim (λ before. inl (known.0.durable bytes ((e.moments tells).each bytes before))) (λ now. now)
+    ((c.finish.ensures.moments tells s.kept (e.holds tells s.kept known.0)).before old.journal.disk bytes left))
+
+pub returns-after-is_some-clause-grown : goal.returns-after-is_some-clause-grown
+returns-after-is_some-clause-grown g c tells s at bytes now =
+    let old = c.args.self.now in
+    let mid = c.prepare.new.self in
+    let seen = g.D.Disk.seen old.journal.disk in
+    let image = g.D.Disk.image old.journal.disk in
+    let known = quiet old.roster old.in_doubt old.kept seen image old.journal.state old.voter s (none_of old.in_doubt c.requires.up) at in
+    let e = c.in_ok-ready-in-Some.ensures in
+    continues_through image (g.D.Disk.image mid.journal.disk) (λ b here. continues_same image b ((e.moments tells).now b here)) bytes (c.finish.ensures.grows tells s.kept (e.holds tells s.kept known.0) bytes now)

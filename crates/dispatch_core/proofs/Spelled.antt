@@ -1,0 +1,38 @@
+-- Joins that have spellings, and the packets that they are.
+use Rattle.std.proofs.Common.{ℕ, ◌+◌, ◌%◌, ◌^◌, ◌<◌, Bool, true, false, cond, List, [], ◌∷◌, All}
+use Rattle.std.specs.List.{zip}
+use Rattle.std.proofs.lemmas.List.Elements.{All-nil, All-cons, All-head, All-tail}
+use Rattle.list_words.specs.Lists.{Each}
+use Rattle.log_records.specs.declared.records.ClickRec.{ClickRec as Click}
+use Rattle.log_records.specs.Line.{IsClick}
+use Rattle.packet_codec.specs.declared.packet.Packet.{Packet}
+use Rattle.packet_codec.specs.declared.packet.Packet.TheVariants.{Join}
+use Rattle.packet_codec.specs.declared.node.Node.{Node}
+use Rattle.packet_codec.specs.Packets.{IsPacket}
+use Rattle.dispatch_core.specs.Dealing.{joiner_at, dealt}
+use Rattle.dispatch_core.specs.Outboxes.{waiting_joins}
+use Rattle.dispatch_core.specs.Spelled.{IsJoin, ArePackets}
+use Rattle.dispatch_core.specs.declared.line.FreshLine.{FreshLine}
+
+abbrev IsSpelled : Node × Packet → Type 0
+IsSpelled p = IsPacket p.1
+
+pub dealt_spelled : (site n k : ℕ) (js : List (ℕ × Click)) → Each IsJoin js → ArePackets (dealt site n k js)
+dealt_spelled site n k [] h = All-nil IsSpelled
+dealt_spelled site n k (j ∷ js) h =
+    let rest = dealt_spelled site n ((k + 1) % n) js h.1 in
+    All-cons IsSpelled (joiner_at site n k, Join j.0 j.1) (dealt site n ((k + 1) % n) js) h.0 rest
+
+pub waiting_spelled : (xs : List FreshLine) → Each IsJoin (waiting_joins xs)
+waiting_spelled [] = tt
+waiting_spelled (x ∷ xs) = go x.done (waiting_spelled xs)
+  where
+    go : (b : Bool) → Each IsJoin (waiting_joins xs) → Each IsJoin (cond b (waiting_joins xs) ((x.position, x.click) ∷ waiting_joins xs))
+    go true rest = rest
+    go false rest = (x.spelled, rest)
+
+pub zip_spelled : (ps : List ℕ) (cs : List Click) → All (λ n. n < 2 ^ 64) ps → All IsClick cs → Each IsJoin (zip ps cs)
+zip_spelled [] cs h k = tt
+zip_spelled (p ∷ ps) [] h k = tt
+zip_spelled (p ∷ ps) (c ∷ cs) h k =
+    ((All-head (λ n. n < 2 ^ 64) p ps h, All-head IsClick c cs k), zip_spelled ps cs (All-tail (λ n. n < 2 ^ 64) p ps h) (All-tail IsClick c cs k))
