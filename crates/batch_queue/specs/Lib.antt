@@ -1,3 +1,4 @@
 pub mod Waiting
 pub mod Queue
+pub mod Ahead
 pub mod Rows

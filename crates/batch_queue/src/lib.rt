@@ -3,6 +3,7 @@
 
 ghost use Rattle.batch_queue.specs.Rows.{LastRow, AnsweredRow, LeftRow};
 
+mod ahead;
 mod answered;
 mod queue;
 #[cfg(test)]

@@ -4,10 +4,12 @@ ghost use Rattle.registry_state.specs.Same.{same_token};
 ghost use Rattle.std.proofs.Props.{props};
 
 use crate::Answered;
+use crate::ahead::{answer_ahead, ids_of};
 use event_id::EventId;
 use indexmap::IndexMap;
 use registry_state::{Batch, Insert, Inserts, Replays, Token};
 use std::alloc::{AllocError, Global};
+use std::collections::HashSet;
 
 // How many inserts may wait.
 const WAITING: usize = 4096;
@@ -38,6 +40,7 @@ impl BatchQueue {
     ghost use Rattle.batch_queue.specs.declared.queue.Put.TheVariants.{Full};
     ghost use Rattle.batch_queue.specs.Waiting.{IsOnce, with_last, HasNoPlace, answered, unanswered};
     ghost use Rattle.batch_queue.specs.Queue.{waiting, room};
+    ghost use Rattle.batch_queue.specs.Ahead.{HasIds};
 
     /// Nothing waits. It takes no memory.
     pub fn new(alloc: Global) -> BatchQueue
@@ -119,13 +122,28 @@ impl BatchQueue {
 
     /// The inserts that the registry would answer had the batch been applied, with the answers.
     ///
-    /// Each insert that waits takes one look ahead, which is linear in the batch where the id isn't held.
+    /// Constant expected time for each insert that waits and each of the batch. One that is answered takes a look ahead as
+    /// well, which is linear in the batch.
     pub fn answered<R: Replays>(&self, registry: &R, batch: &Batch) -> Result<Answered, AllocError>
+        ensures { (applied : _) → R.knows registry.now applied → IfOk result (λ all. all ≡ answered (λ x. replay (applied ++ batch.now ∷ []) x.id x.token) (waiting self.now)) }
+    {
+        let ids = ids_of(self.alloc, batch)?;
+        self.answered_of(registry, batch, &ids)
+    }
+
+    // The same, where these are the batch's ids.
+    fn answered_of<R: Replays>(
+        &self,
+        registry: &R,
+        batch: &Batch,
+        ids: &HashSet<EventId>,
+    ) -> Result<Answered, AllocError>
+        requires { HasIds ids.now batch.now }
         ensures { (applied : _) → R.knows registry.now applied → IfOk result (λ all. all ≡ answered (λ x. replay (applied ++ batch.now ∷ []) x.id x.token) (waiting self.now)) }
     {
         let mut all = Vec::new(self.alloc);
         for (token, id) in self.ids.iter() {
-            if let Some(answer) = registry.replay_after(batch, *id, *token) {
+            if let Some(answer) = answer_ahead(registry, batch, ids, *id, *token) {
                 let insert = Insert {
                     id: *id,
                     token: *token,

@@ -8,3 +8,7 @@ pub mod Testing
 pub mod Answering
 pub mod Hearing
 pub mod Standing
+pub mod Spelling
+pub mod Registering
+pub mod Landing
+pub mod Ending

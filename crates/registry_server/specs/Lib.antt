@@ -5,3 +5,7 @@ pub mod Replies
 pub mod ShardStates
 pub mod Cores
 pub mod Rowed
+pub mod Spelled
+pub mod Registrars
+pub mod Node
+pub mod Kept

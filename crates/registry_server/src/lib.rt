@@ -3,7 +3,12 @@
 #![tactic(auto)]
 
 pub mod laws;
+mod node;
+#[cfg(test)]
+mod node_tests;
+mod notes;
 mod packets;
+mod registrar;
 mod rows;
 mod server_core;
 mod shard;
@@ -13,5 +18,6 @@ mod station;
 mod tests;
 mod turn;
 
+pub use node::ServerNode;
 pub use server_core::ServerCore;
 pub use turn::{ServerInput, ServerNote, Turn};

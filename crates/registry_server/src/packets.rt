@@ -1,5 +1,5 @@
 // What a server sends, behind what it sends already.
-ghost use Rattle.std.specs.Prelude.{◌≡◌, ◌++◌, ◌∷◌, [], IfOk, OnOk, if◌then◌else◌};
+ghost use Rattle.std.specs.Prelude.{◌≡◌, ◌++◌, ◌∷◌, [], IfOk, OnOk};
 ghost use Rattle.turn_defs.specs.Setting.{Setting};
 ghost use Rattle.packet_codec.specs.declared.packet.Packet.TheVariants as packet;
 ghost use Rattle.registry_server.specs.Server.{to_replicas, reply};

@@ -1,16 +1,14 @@
 // The rows of a server's turns that look at one shard. Each gives the turn of the row, and says where none applies.
-ghost use Rattle.std.specs.Prelude.{◌≡◌, ◌++◌, ◌-◌, ◌<◌, ◌^◌, ℕ, List, length, IfOk, OnOk, Some, option_map};
-ghost use Rattle.registry_state.specs.declared.Batch.{Batch as Value};
+ghost use Rattle.std.specs.Prelude.{◌≡◌, ◌++◌, ◌-◌, ◌<◌, ◌^◌, IfOk, OnOk, Some, option_map};
 ghost use Rattle.registry_state.specs.LookBack.{replay};
 ghost use Rattle.turn_defs.specs.Setting.{Setting};
-ghost use Rattle.turn_defs.specs.Turns.{idle as no_row};
 ghost use Rattle.paxos_proposer.specs.Proposals.{prior_of, promise_turn};
-ghost use Rattle.registry_server.specs.Server.{ServerKept, ServerLive, ShardState, Proposal, may_propose, proposes, claimed, gets_promise, gets_accepted, gets_nack, gets_chosen, server_gets, from_replica, again};
+ghost use Rattle.registry_server.specs.Server.{ServerKept, ServerLive, may_propose, claimed, gets_promise, gets_accepted, gets_nack, gets_chosen, server_gets, from_replica, again};
 ghost use Rattle.registry_server.specs.declared.station.Station.{Station as Fixed};
 ghost use Rattle.registry_server.specs.Stations.{setting, sent};
-ghost use Rattle.registry_server.specs.ShardStates.{IsShard, FitsStep};
+ghost use Rattle.registry_server.specs.ShardStates.{IsShard};
 ghost use Rattle.registry_server.specs.Cores.{Gives};
-ghost use Rattle.registry_server.specs.Rowed.{IsAt, IsRow, IsRowOf, FitsAt, StaysShard, accept_all, proposes_if, learns_behind, number_of, current_of};
+ghost use Rattle.registry_server.specs.Rowed.{IsAt, IsRow, IsRowOf, FitsAt, StaysShard, accept_all, proposes_if, learns_behind, current_of};
 
 use crate::packets::{ask_all, push_replies, push_reply};
 use crate::shard::{LIMIT, Shard, Step};

@@ -24,13 +24,12 @@ pub struct ServerCore {
 }
 
 impl ServerCore {
-    ghost use Rattle.std.specs.Prelude.{◌≡◌, ◌<◌, ◌≤◌, ◌++◌, ◌∷◌, [], ℕ, List, length, get_or, IfOk, IfSome, Some, None, option_map};
+    ghost use Rattle.std.specs.Prelude.{◌≡◌, ◌<◌, ◌≤◌, ◌++◌, ◌∷◌, [], ℕ, length, IfOk, IfSome, Some, None, option_map};
     ghost use Rattle.packet_codec.specs.declared.node.Input.{Input};
-    ghost use Rattle.time_shards.specs.declared.ShardRow.{ShardRow as Row};
     ghost use Rattle.registry_state.specs.declared.Insert.{Insert as Claim};
     ghost use Rattle.turn_defs.specs.Setting.{Setting, shards};
     ghost use Rattle.turn_defs.specs.Turns.{land};
-    ghost use Rattle.registry_server.specs.Server.{ServerKept, ServerLive, empty_shard, first_shard, land_server, all_again, server_own, server_tick, server_gets, server_turn, server_start, server_wants, server_unfinished, server_at_rest};
+    ghost use Rattle.registry_server.specs.Server.{ServerKept, ServerLive, empty_shard, first_shard, land_server, server_own, server_tick, server_gets, server_turn, server_start, server_wants, server_unfinished, server_at_rest};
     ghost use Rattle.registry_server.specs.Stations.{setting, sent};
     ghost use Rattle.registry_server.specs.ShardStates.{passes};
     ghost use Rattle.registry_server.specs.Cores.{Stands, IsTurn, Gives, Decided, FitsChange, Carries, CarriesStart, MayStart, Serves, IsStart, Begins, changed, note_of, site_of, IsNew};
@@ -72,8 +71,8 @@ impl ServerCore {
     /// it is refused.
     ///
     /// An insert takes constant expected time, the server's own work time linear in a batch. A value that is learned takes
-    /// time linear in the inserts that wait, at most 4,096, and in the batch for each of them that no earlier value
-    /// answers. A tick takes time linear in the shards, at most 16. A start allocates the empty shards.
+    /// expected time linear in the inserts that wait, at most 4,096, and in the batch, once more for each of them that is
+    /// answered. A tick takes time linear in the shards, at most 16. A start allocates the empty shards.
     pub fn decide(&mut self, input: &ServerInput) -> Result<Turn, AllocError>
         requires { MayStart input.now }
         ensures start { IfOk result (λ turn. (g : Setting) (k : ServerKept) (l : ServerLive) → CarriesStart input.now k
@@ -83,6 +82,7 @@ impl ServerCore {
             → IsTurn g (site_of self.old) l turn (server_turn g (site_of self.old) k l i)) }
         ensures decided { IfOk result (λ turn. Decided self.new turn) }
         ensures same { (g : Setting) (k : ServerKept) (l : ServerLive) → Stands self.old g k l → Stands self.new g k l }
+        ensures serves { (g : Setting) → Serves self.old g → Serves self.new g }
         ensures site { site_of self.new ≡ site_of self.old }
     {
         match input {
@@ -226,6 +226,7 @@ impl ServerCore {
             → Gives g (site_of self.old) l turn (server_gets g (site_of self.old) k l from packet.now)) }
         ensures decided { IfOk result (λ turn. Decided self.new turn) }
         ensures same { (g : Setting) (k : ServerKept) (l : ServerLive) → Stands self.old g k l → Stands self.new g k l }
+        ensures serves { (g : Setting) → Serves self.old g → Serves self.new g }
         ensures site { site_of self.new ≡ site_of self.old }
     {
         let Some(number) = self.number_of(packet) else {

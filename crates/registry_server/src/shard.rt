@@ -1,12 +1,11 @@
 // One shard of a server, and what a kept turn does to it.
-ghost use Rattle.std.specs.Prelude.{◌≡◌, ◌-◌, ◌<◌, ◌≤◌, ◌^◌, ◌++◌, ◌∷◌, [], List, length, true, false, not, ◌&&◌, ◌||◌};
-ghost use Rattle.registry_state.specs.declared.Batch.{Batch as Value};
+ghost use Rattle.std.specs.Prelude.{◌≡◌, ◌-◌, ◌<◌, ◌≤◌, ◌^◌, ◌++◌, ◌∷◌, [], length, true, false, not, ◌&&◌, ◌||◌};
 ghost use Rattle.id_expiry.specs.Timed.{room};
 ghost use Rattle.batch_queue.specs.Queue.{room as places};
 ghost use Rattle.turn_defs.specs.Setting.{Setting};
 ghost use Rattle.registry_server.specs.Server.{ShardState, empty_shard};
 ghost use Rattle.registry_server.specs.Stations.{setting};
-ghost use Rattle.registry_server.specs.ShardStates.{HasLearned, IsShard, FitsStep, NotLast, state_of, stepped, passes, put_last, proposal_of};
+ghost use Rattle.registry_server.specs.ShardStates.{IsShard, FitsStep, stepped, passes, put_last};
 
 use crate::station::Station;
 use ballot_core::Ballot;

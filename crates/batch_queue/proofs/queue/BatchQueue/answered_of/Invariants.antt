@@ -3,7 +3,7 @@ use Rattle.registry_state.specs.declared.Batch.{Batch}
 use Rattle.registry_state.specs.LookBack.{replay}
 use Rattle.batch_queue.specs.Waiting.{answered}
 use Rattle.batch_queue.specs.Queue.{insert_of, waiting}
-use Rattle.batch_queue.proofs.queue.BatchQueue.answered.Given as goal
+use Rattle.batch_queue.proofs.queue.BatchQueue.answered_of.Given as goal
 
 -- those so far, and those that are left
 abbrev pub invariant-loop-token : goal.invariant-loop-token

@@ -1,0 +1,195 @@
+-- A turn of a server over its disk, and its restart, as the states' entries.
+use Rattle.std.proofs.Common.{◌≡◌, inl, inr, ⊎_elim, ℕ, ◌+◌, ◌≤◌, true, false, List, [], length, Option, Some, None, refl, sym, ap, ◌∙◌, subst, arith}
+use Rattle.std.specs.Prelude.{is_some, option_map, Result, Ok, Err, IfOk, OnOk, OnErr}
+use Rattle.outside.specs.Disk.{Throughout}
+use Rattle.outside.proofs.Moments.{joins, weaker}
+use Rattle.gate_journal.specs.Growth.{Continues}
+use Rattle.gate_journal.proofs.Growth.{continues_same, continues_through}
+use Rattle.epoch_journal.specs.Epochs.{Keeps, IsLeft, KeepsAsLeft}
+use Rattle.gate_journal.specs.declared.journal.JournalState.{JournalState}
+use Rattle.gate_journal.specs.declared.journal.JournalState.TheVariants.{Ready}
+use Rattle.air_bus.specs.declared.entry.Input.{Input as Bytes}
+use Rattle.air_bus.specs.declared.entry.Entry.TheVariants.{Begin, End, Stop}
+use Rattle.packet_codec.specs.declared.node.Input.{Input}
+use Rattle.turn_defs.specs.Setting.{Setting}
+use Rattle.turn_defs.specs.Turns.{Note, Epoch, land}
+use Rattle.site_node.specs.Bytes.{AreSpelled, Reads, IsJunk, record_of}
+use Rattle.site_node.specs.States.{Leads, row, written, closes}
+use Rattle.site_node.specs.declared.roster.Roster.{Roster}
+use Rattle.site_node.specs.Rosters.{IsOf}
+use Rattle.registry_server.specs.Server.{ServerKept, ServerLive, land_server}
+use Rattle.registry_server.specs.Cores.{Serves, note_of, site_of}
+use Rattle.registry_server.specs.Registrars.{SiteKept, RegistrarView, ServesSite, Knows, IsRow, landed, server_rows}
+use Rattle.registry_server.specs.declared.server_core.ServerCore.{ServerCore}
+use Rattle.registry_server.specs.declared.turn.ServerNote.{ServerNote}
+use Rattle.registry_server.specs.declared.turn.Turn.{Turn}
+use Rattle.registry_server.specs.Node.{ServerState, recorded, next_record, Holds, HoldsOr, OnDisk, OnDiskOr, KeptOn, StandsAt}
+use Rattle.registry_server.proofs.Landing.{down_stands, left_of, up_of, noted_bytes, moved}
+
+pub all_five : {T E : Type 0} (r : Result T E) (A B Q : T → Type 0) (C D F : Type 0) → IfOk r A → IfOk r B → OnOk r C → OnOk r D → OnOk r F → ((x : T) → A x → B x → C → D → F → Q x) → IfOk r Q
+all_five (Ok x) A B Q C D F a b c d f go = go x a b c d f
+all_five (Err e) A B Q C D F a b c d f go = tt
+
+pub both_err : {T E : Type 0} (r : Result T E) (A B Q : Type 0) → OnErr r A → OnErr r B → (A → B → Q) → OnErr r Q
+both_err (Ok x) A B Q a b go = tt
+both_err (Err e) A B Q a b go = go a b
+
+-- what is kept once the row's note is written
+landed_is : (k : SiteKept) (o : Option ServerNote) (n : Option Note) → option_map note_of o ≡ n → record { site = k.site; disk = land land_server (option_map note_of o) k.disk } ≡ land server_rows.lands n k
+landed_is k o None e = λ j. record { site = k.site; disk = land land_server (e j) k.disk }
+landed_is k o (Some m) e = λ j. record { site = k.site; disk = land land_server (e j) k.disk }
+
+site_stays : (k : SiteKept) (n : Option Note) → (land server_rows.lands n k).site ≡ k.site
+site_stays k None = refl
+site_stays k (Some m) = refl
+
+-- what an open turn may have left, at any moment of it
+pub kept_or : (s t : ServerState) (n : ℕ) (b : Bytes) (i : Input) (turn : Turn) (c : List ℕ) → Leads server_rows s (Begin n b) t → Reads s.setting b i → IsRow s.setting (row server_rows s i) turn → OnDiskOr s.kept.disk turn.note c → KeptOn t c
+kept_or s t n b i turn c led reads is holds =
+    subst (λ (x : ServerState). KeptOn x c) (sym led.2)
+    (⊎_elim (λ old. (s.kept, inl refl, old))
+    (λ new. (written server_rows s i, inr (b, i, refl, reads, refl), subst (λ (k : SiteKept). OnDisk k.disk c) (landed_is s.kept turn.note (row server_rows s i).note is.note) new))
+    holds)
+
+pub kept_still : (s t : ServerState) (n : ℕ) (b : Bytes) (c : List ℕ) → Leads server_rows s (Begin n b) t → OnDisk s.kept.disk c → KeptOn t c
+kept_still s t n b c led holds = subst (λ (x : ServerState). KeptOn x c) (sym led.2) (s.kept, inl refl, holds)
+
+-- what no packet spells changes nothing
+pub idles : (site : ℕ) (roster : Roster) (doubt : Option (List ℕ)) (epoch : ℕ) (image : List ℕ → Type 0) (state : JournalState) (v : RegistrarView) (s t : ServerState) (n : ℕ) (b : Bytes) (ps : List (ℕ × List ℕ)) (sent : ℕ) → doubt ≡ None → StandsAt site roster doubt epoch image state v s
+    → Leads server_rows s (Begin n b) t → IsJunk s.setting b → ps ≡ [] → sent ≤ length ps → (u : ServerState) × Leads server_rows t (End n None ps sent) u × StandsAt site roster doubt epoch image state v u
+idles site roster doubt epoch image state v s t n b ps sent none at led junk empty le =
+    let up = up_of s.setting s.live b led.1 junk in (
+      record { setting = s.setting; kept = s.kept; live = s.live; opened = None },
+      subst (λ (x : ServerState). Leads server_rows x (End n None ps sent) (record { setting = s.setting; kept = s.kept; live = s.live; opened = None })) (sym led.2)
+          (b, refl, le, inr (record { junk = junk; no_note = refl; no_packets = empty; knows = up.0; up = up.1; state = ap (λ (l : Option ServerLive). record { setting = s.setting; kept = s.kept; live = l; opened = None }) up.1 })),
+      moved site roster doubt epoch image state v s None none at,
+    )
+
+-- a turn that is done
+pub ends : (site site' : ℕ) (roster roster' : Roster) (doubt doubt' : Option (List ℕ)) (epoch epoch' : ℕ) (image image' : List ℕ → Type 0) (state state' : JournalState) (v v' : RegistrarView) (s t : ServerState) (n : ℕ) (b : Bytes) (i : Input) (turn : Turn) (said : Option (List ℕ)) (ps ready : List (ℕ × List ℕ)) (sent : ℕ)
+    → StandsAt site roster doubt epoch image state v s → Leads server_rows s (Begin n b) t → site' ≡ site → roster' ≡ roster → Reads s.setting b i → IsRow s.setting (row server_rows s i) turn → AreSpelled turn.packets.items ready
+    → said ≡ recorded turn.note → ps ≡ ready → doubt' ≡ None → Knows v' s.setting (record { site = s.kept.site; disk = landed turn s.kept.disk }) (Some (row server_rows s i).live) → Holds epoch' image' state' (landed turn s.kept.disk) → sent ≤ length ps
+    → (u : ServerState) × Leads server_rows t (End n said ps sent) u × StandsAt site' roster' doubt' epoch' image' state' v' u
+ends site site' roster roster' doubt doubt' epoch epoch' image image' state state' v v' s t n b i turn said ps ready sent at led here same reads is spelled said_is ps_is none knows holds le =
+    let out = row server_rows s i in
+    let k = land server_rows.lands out.note s.kept in
+    let u : ServerState = record { setting = s.setting; kept = k; live = Some out.live; opened = None } in
+    let kept : record { site = s.kept.site; disk = landed turn s.kept.disk } ≡ k = landed_is s.kept turn.note out.note is.note in (
+      u,
+      subst (λ (x : ServerState). Leads server_rows x (End n said ps sent) u) (sym led.2) (
+        b,
+        refl,
+        le,
+        inl (
+          i,
+          reads,
+          record {
+            noted = said_is ∙ noted_bytes turn.note ∙ ap (option_map record_of) is.note;
+            packets = turn.packets.items;
+            spelled = subst (AreSpelled turn.packets.items) (sym ps_is) spelled;
+            sent = is.packets;
+            state = refl;
+          },
+        ),
+      ),
+      subst (λ (d : Option (List ℕ)). StandsAt site' roster' d epoch' image' state' v' u) (sym none)
+          (record {
+            setting = subst (λ (r : Roster). IsOf r s.setting) (sym same) at.setting;
+            site = site_stays s.kept out.note ∙ at.site ∙ sym here;
+            by = (
+              subst (λ (x : SiteKept). Holds epoch' image' state' x.disk) kept holds,
+              subst (λ (x : SiteKept). Knows v' s.setting x (Some out.live)) kept knows,
+            );
+          }),
+    )
+
+-- a turn that isn't done is open still
+pub stays_open : (site site' : ℕ) (roster roster' : Roster) (doubt' : Option (List ℕ)) (epoch' : ℕ) (image' : List ℕ → Type 0) (state' : JournalState) (v' : RegistrarView) (s t : ServerState) (n : ℕ) (b : Bytes) (i : Input) (turn : Turn)
+    → IsOf roster s.setting → s.kept.site ≡ site → Leads server_rows s (Begin n b) t → site' ≡ site → roster' ≡ roster → Reads s.setting b i → IsRow s.setting (row server_rows s i) turn → Knows v' s.setting s.kept s.live → HoldsOr doubt' turn.note epoch' image' state' s.kept.disk
+    → StandsAt site' roster' doubt' epoch' image' state' v' t
+stays_open site site' roster roster' None epoch' image' state' v' s t n b i turn of_s at_site led here same reads is knows holds =
+    subst (λ (x : ServerState). StandsAt site' roster' None epoch' image' state' v' x) (sym led.2)
+    (record { setting = subst (λ (r : Roster). IsOf r s.setting) (sym same) of_s; site = at_site ∙ sym here; by = (holds, knows) })
+stays_open site site' roster roster' (Some r) epoch' image' state' v' s t n b i turn of_s at_site led here same reads is knows holds =
+    subst (λ (x : ServerState). StandsAt site' roster' (Some r) epoch' image' state' v' x) (sym led.2)
+    (record {
+      setting = subst (λ (x : Roster). IsOf x s.setting) (sym same) of_s;
+      site = at_site ∙ sym here;
+      by = (holds.0, record { begun = b; opened = refl; input = i; reads = reads; noted = sym is.note ∙ ap (option_map note_of) holds.1; is = holds.2 }, knows.serves);
+    })
+
+-- what is found after a stop
+pub record Found (site' : ℕ) (roster' : Roster) (epoch' : ℕ) (image image' : List ℕ → Type 0) (state' : JournalState) (v' : RegistrarView) : Type 0 where
+  pub left : IsLeft image epoch'
+  pub ready : state' ≡ Ready
+  pub durable : (c : List ℕ) → image' c → Keeps epoch' c
+  pub down : v'.up ≡ false
+
+module _ (site site' : ℕ) (roster roster' : Roster) (epoch epoch' : ℕ) (image image' : List ℕ → Type 0) (state state' : JournalState) (v v' : RegistrarView) (s : ServerState) (found : Found site' roster' epoch' image image' state' v') (here : site' ≡ site) (same : roster' ≡ roster) (core : v'.core ≡ v.core) where
+  serves_as : (k : SiteKept) → k.site ≡ s.kept.site → ServesSite v s.setting s.kept → ServesSite v' s.setting k
+  serves_as k at_site serves = record {
+    site = ap site_of core ∙ serves.site ∙ sym at_site;
+    setting = subst (λ (c : ServerCore). Serves c s.setting) (sym core) serves.setting;
+  }
+
+  downs : (k : SiteKept) → IsOf roster s.setting → k.site ≡ site → epoch' ≡ k.disk.epoch → ServesSite v' s.setting k → StandsAt site' roster' None epoch' image' state' v' (closes s k None)
+  downs k of_s at_site is serves =
+      down_stands site' roster' epoch' image' state' v' s.setting k (subst (λ (r : Roster). IsOf r s.setting) (sym same) of_s) (at_site ∙ sym here)
+      (record { ready = found.ready; epoch = is; durable = λ c now. subst (λ (e : ℕ). Keeps e c) is (found.durable c now) }) serves found.down
+
+  pub nothing_landed : (doubt : Option (List ℕ)) (n : ℕ) → is_some doubt ≡ true → StandsAt site roster doubt epoch image state v s → epoch' ≡ epoch → (u : ServerState) × Leads server_rows s (Stop n None) u × StandsAt site' roster' None epoch' image' state' v' u
+  nothing_landed None n waits at stayed = absurd (cc waits)
+  nothing_landed (Some r) n waits at stayed =
+      let open_at = at.by.1 in (
+        closes s s.kept None,
+        (open_at.begun, open_at.opened, inl (refl, refl)),
+        downs s.kept at.setting at.site (stayed ∙ at.by.0.epoch) (serves_as s.kept refl at.by.2),
+      )
+
+  pub note_landed : (doubt : Option (List ℕ)) (n : ℕ) → is_some doubt ≡ true → StandsAt site roster doubt epoch image state v s → (epoch' ≡ epoch → ⊥) → (u : ServerState) × Leads server_rows s (Stop n doubt) u × StandsAt site' roster' None epoch' image' state' v' u
+  note_landed None n waits at moved_on = absurd (cc waits)
+  note_landed (Some r) n waits at moved_on =
+      let open_at = at.by.1 in
+      let i = open_at.input in
+      let k = written server_rows s i in
+      let kept : record { site = s.kept.site; disk = record { epoch = s.kept.disk.epoch + 1 } } ≡ k = ap (λ (o : Option Note). land server_rows.lands o s.kept) (sym open_at.noted) in
+      let next : epoch' ≡ s.kept.disk.epoch + 1 =
+      ⊎_elim (λ old. absurd (moved_on (old ∙ sym at.by.0.epoch))) (λ new. new) (left_of s.kept.disk image epoch' at.by.0.images found.left)
+      in
+      let at_site : k.site ≡ s.kept.site = ap (λ (x : SiteKept). x.site) (sym kept) in (
+        closes s k None,
+        (open_at.begun, open_at.opened, inr (i, open_at.reads, ap (λ (b : List ℕ). Some b) open_at.is ∙ ap (option_map record_of) (sym open_at.noted), refl)),
+        downs k at.setting (at_site ∙ at.site) (next ∙ ap (λ (x : SiteKept). x.disk.epoch) kept) (serves_as k at_site at.by.2),
+      )
+
+-- the moments of a turn: first room is made, then the note is appended
+module _ {D : Type 0} (image : D → List ℕ → Type 0) (since : D → D → List ℕ → Type 0) where
+  pub turn_moments : (old mid new : D) (s t : ServerState) (n : ℕ) (b : Bytes) (i : Input) (turn : Turn) → Leads server_rows s (Begin n b) t → Reads s.setting b i → IsRow s.setting (row server_rows s i) turn → ((c : List ℕ) → image old c → OnDisk s.kept.disk c)
+      → Throughout image since old mid (image old) → Throughout image since mid new (OnDiskOr s.kept.disk turn.note) → Throughout image since old new (KeptOn t)
+  turn_moments old mid new s t n b i turn led reads is durable first next =
+      joins image since old mid new (KeptOn t) (weaker image since old mid (image old) (KeptOn t) (λ c here. kept_still s t n b c led (durable c here)) first)
+      (weaker image since mid new (OnDiskOr s.kept.disk turn.note) (KeptOn t) (λ c holds. kept_or s t n b i turn c led reads is holds) next)
+
+  -- only room was made
+  pub room_moments : (old new : D) (s t : ServerState) (n : ℕ) (b : Bytes) → Leads server_rows s (Begin n b) t → ((c : List ℕ) → image old c → OnDisk s.kept.disk c) → Throughout image since old new (image old) → Throughout image since old new (KeptOn t)
+  room_moments old new s t n b led durable all = weaker image since old new (image old) (KeptOn t) (λ c here. kept_still s t n b c led (durable c here)) all
+
+  pub turn_grown : (old mid new : D) → Throughout image since old mid (image old) → ((c : List ℕ) → image new c → Continues (image mid) c) → (c : List ℕ) → image new c → Continues (image old) c
+  turn_grown old mid new first next c here = continues_through (image old) (image mid) (λ d now. continues_same (image old) d (first.now d now)) c (next c here)
+
+  -- a disk that is read again keeps what its images keep
+  pub left_moments : (old new : D) (s : ServerState) → ((c : List ℕ) → image old c → KeptOn s c) → Throughout image since old new (KeepsAsLeft (image old)) → Throughout image since old new (KeptOn s)
+  left_moments old new s kept all = weaker image since old new (KeepsAsLeft (image old)) (KeptOn s) (λ c left. let from = kept left.0 left.1 in (from.0, from.1, left.2 ∙ from.2)) all
+
+-- a turn that is refused before it writes is open still
+pub still_open : (site site' : ℕ) (roster roster' : Roster) (doubt doubt' : Option (List ℕ)) (epoch epoch' : ℕ) (image image' : List ℕ → Type 0) (state state' : JournalState) (v v' : RegistrarView) (s t : ServerState) (n : ℕ) (b : Bytes) → StandsAt site roster doubt epoch image state v s → Leads server_rows s (Begin n b) t
+    → site' ≡ site → roster' ≡ roster → doubt' ≡ doubt → doubt ≡ None → Holds epoch' image' state' s.kept.disk → Knows v' s.setting s.kept s.live → StandsAt site' roster' doubt' epoch' image' state' v' t
+still_open site site' roster roster' doubt doubt' epoch epoch' image image' state state' v v' s t n b at led here same doubts none holds knows =
+    let now : StandsAt site' roster' None epoch' image' state' v' (record { setting = s.setting; kept = s.kept; live = s.live; opened = Some b }) =
+    record { setting = subst (λ (r : Roster). IsOf r s.setting) (sym same) at.setting; site = at.site ∙ sym here; by = (holds, knows) }
+    in
+    subst (λ (d : Option (List ℕ)). StandsAt site' roster' d epoch' image' state' v' t) (sym (doubts ∙ none)) (subst (λ (x : ServerState). StandsAt site' roster' None epoch' image' state' v' x) (sym led.2) now)
+
+pub on_err : {T E : Type 0} (r : Result T E) (Q : Type 0) → Q → OnErr r Q
+on_err (Ok x) Q q = tt
+on_err (Err e) Q q = q

@@ -1,0 +1,181 @@
+-- What a server over its disk stands for.
+use Rattle.std.proofs.Common.{◌≡◌, ◌⊎◌, inl, inr, ⊎_elim, ℕ, ◌+◌, ◌==◌, Bool, true, false, cond, List, [], ◌∷◌, Option, Some, None, refl, sym, ap, ◌∙◌, subst}
+use Rattle.std.specs.Prelude.{is_some, option_map, Result, Ok, Err}
+use Rattle.std.specs.Result.{result_unwrap_or}
+use Rattle.std.proofs.lemmas.Bool.{cond-true, true≢false}
+use Rattle.epoch_journal.specs.Epochs.{epoch_record, epoch_of, Keeps, KeepsOr, IsLeft}
+use Rattle.gate_journal.specs.declared.journal.JournalState.{JournalState}
+use Rattle.gate_journal.specs.declared.journal.JournalState.TheVariants.{Ready}
+use Rattle.air_bus.specs.declared.entry.Input.{Input as Bytes}
+use Rattle.air_bus.specs.declared.entry.Input.TheVariants as bytes
+use Rattle.packet_codec.specs.declared.node.Input.{Input}
+use Rattle.packet_codec.specs.declared.node.Input.TheVariants.{Start, Own, Tick, Deliver}
+use Rattle.turn_defs.specs.Setting.{Setting}
+use Rattle.turn_defs.specs.Turns.{Note, Epoch, land}
+use Rattle.site_node.specs.Bytes.{record_of, Reads, IsInput, IsJunk}
+use Rattle.site_node.specs.States.{MayTake}
+use Rattle.site_node.specs.declared.kind.NodeFault.{NodeFault}
+use Rattle.site_node.specs.declared.kind.NodeFault.TheVariants as fault
+use Rattle.site_node.specs.declared.roster.Roster.{Roster}
+use Rattle.site_node.specs.Rosters.{IsOf}
+use Rattle.registry_server.specs.Server.{ServerKept, ServerLive, land_server}
+use Rattle.registry_server.specs.Cores.{Stands, note_of}
+use Rattle.registry_server.specs.Registrars.{SiteKept, RegistrarView, ServesSite, Knows, KnowsAs, Fits, IsNextNote}
+use Rattle.registry_server.specs.declared.server_core.ServerCore.{ServerCore}
+use Rattle.registry_server.specs.declared.turn.ServerNote.{ServerNote}
+use Rattle.registry_server.specs.declared.turn.ServerNote.TheVariants as notes
+use Rattle.registry_server.specs.Node.{ServerState, recorded, next_record, Holds, HoldsOr, StandsAt, is_spent_at, spent_at, IsNotPrepared}
+
+pub none_of : {A : Type 0} (o : Option A) → is_some o ≡ false → o ≡ None
+none_of None off = refl
+none_of (Some x) off = absurd (cc off)
+
+-- ---- one epoch more
+
+-- the note of the next epoch, once it is on the disk
+pub holds_next : (k : ServerKept) (n : Option ServerNote) (p : List ℕ) (epoch epoch' : ℕ) (image image' : List ℕ → Type 0) (state state' : JournalState) → Some p ≡ recorded n → IsNextNote epoch n → Holds epoch image state k
+    → state' ≡ Ready → epoch' ≡ epoch + 1 → ((c : List ℕ) → image' c → Keeps epoch' c) → Holds epoch' image' state' (land land_server (option_map note_of n) k)
+holds_next k None p epoch epoch' image image' state state' e next holds ready raised durable = absurd (cc e)
+holds_next k (Some (notes.Epoch m)) p epoch epoch' image image' state state' e next holds ready raised durable =
+    let is : epoch' ≡ m = raised ∙ sym next.0 in
+    record { ready = ready; epoch = is; durable = λ c here. subst (λ (x : ℕ). Keeps x c) is (durable c here) }
+
+pub holds_none : (k : ServerKept) (n : Option ServerNote) (epoch : ℕ) (image : List ℕ → Type 0) (state : JournalState) → None ≡ recorded n → Holds epoch image state k → Holds epoch image state (land land_server (option_map note_of n) k)
+holds_none k None epoch image state e holds = holds
+holds_none k (Some (notes.Epoch m)) epoch image state e holds = absurd (cc e)
+
+some_bytes : (r s : List ℕ) → Some r ≡ Some s → r ≡ s
+some_bytes r s e = ap (λ (o : Option (List ℕ)). bytes_in o) e
+  where
+    bytes_in : Option (List ℕ) → List ℕ
+    bytes_in None = []
+    bytes_in (Some b) = b
+
+-- the same, where the disk failed
+pub doubts_next : (k : ServerKept) (n : Option ServerNote) (p : List ℕ) (epoch epoch' : ℕ) (image image' : List ℕ → Type 0) (state state' : JournalState) → Some p ≡ recorded n → IsNextNote epoch n → Holds epoch image state k
+    → epoch' ≡ epoch → ((c : List ℕ) → image' c → KeepsOr epoch (epoch + 1) c) → HoldsOr (Some p) n epoch' image' state' k
+doubts_next k None p epoch epoch' image image' state state' e next holds same images = absurd (cc e)
+doubts_next k (Some (notes.Epoch m)) p epoch epoch' image image' state state' e next holds same images =
+    let is : m ≡ k.epoch + 1 = next.0 ∙ ap (λ (x : ℕ). x + 1) holds.epoch in (
+      record { images = λ c here. subst (λ (x : ℕ). KeepsOr x (x + 1) c) holds.epoch (images c here); epoch = same ∙ holds.epoch },
+      ap (λ (x : ℕ). Some (notes.Epoch x)) is,
+      some_bytes p (epoch_record m) e ∙ ap epoch_record is,
+    )
+
+-- ---- which epoch a disk keeps after a stop
+
+abbrev kept_as : ℕ → Result ℕ ℕ
+kept_as e = Ok e
+
+same_epoch : (m n : ℕ) → kept_as m ≡ kept_as n → m ≡ n
+same_epoch m n e = ap (λ (r : Result ℕ ℕ). result_unwrap_or r 0) e
+
+pub left_of : (k : ServerKept) (image : List ℕ → Type 0) (epoch : ℕ) → ((c : List ℕ) → image c → KeepsOr k.epoch (k.epoch + 1) c) → IsLeft image epoch → (epoch ≡ k.epoch) ⊎ (epoch ≡ k.epoch + 1)
+left_of k image epoch images left =
+    ⊎_elim (λ old. inl (same_epoch epoch k.epoch (sym left.2 ∙ old))) (λ new. inr (same_epoch epoch (k.epoch + 1) (sym left.2 ∙ new))) (images left.0 left.1)
+
+-- ---- inputs
+
+pub input_ok : (g : Setting) (b : Bytes) (i : Input) → Reads g b i → IsInput i
+input_ok g bytes.Start i reads = subst IsInput (sym reads) tt
+input_ok g bytes.Own i reads = subst IsInput (sym reads) tt
+input_ok g bytes.Tick i reads = subst IsInput (sym reads) tt
+input_ok g (bytes.Packet from p) i reads = subst IsInput (sym reads.5) reads.3
+
+pub fits_of : (g : Setting) (live : Option ServerLive) (b : Bytes) (i : Input) → Reads g b i → MayTake live b → Fits live i
+fits_of g None bytes.Start i reads may = subst (Fits None) (sym reads) tt
+fits_of g None bytes.Own i reads may = absurd may
+fits_of g None bytes.Tick i reads may = absurd may
+fits_of g None (bytes.Packet from p) i reads may = absurd may
+fits_of g (Some l) bytes.Start i reads may = absurd may
+fits_of g (Some l) bytes.Own i reads may = subst (Fits (Some l)) (sym reads) tt
+fits_of g (Some l) bytes.Tick i reads may = subst (Fits (Some l)) (sym reads) tt
+fits_of g (Some l) (bytes.Packet from p) i reads may = subst (Fits (Some l)) (sym reads.5) tt
+
+pub up_of : (g : Setting) (live : Option ServerLive) (b : Bytes) → MayTake live b → IsJunk g b → (l : ServerLive) × (live ≡ Some l)
+up_of g None bytes.Start may junk = absurd (junk Start refl)
+up_of g None bytes.Own may junk = absurd may
+up_of g None bytes.Tick may junk = absurd may
+up_of g None (bytes.Packet from p) may junk = absurd may
+up_of g (Some l) b may junk = (l, refl)
+
+pub noted_bytes : (o : Option ServerNote) → recorded o ≡ option_map record_of (option_map note_of o)
+noted_bytes None = refl
+noted_bytes (Some (notes.Epoch e)) = refl
+
+-- ---- where it stands
+
+-- a node with no note in doubt stands at each state of this setting, these records and this knowledge
+pub moved : (site : ℕ) (roster : Roster) (doubt : Option (List ℕ)) (epoch : ℕ) (image : List ℕ → Type 0) (state : JournalState) (v : RegistrarView) (s : ServerState) (o : Option Bytes) → doubt ≡ None → StandsAt site roster doubt epoch image state v s
+    → StandsAt site roster doubt epoch image state v (record { setting = s.setting; kept = s.kept; live = s.live; opened = o })
+moved site roster None epoch image state v s o none at = record { setting = at.setting; site = at.site; by = at.by }
+moved site roster (Some r) epoch image state v s o none at = absurd (cc none)
+
+pub quiet : (site : ℕ) (roster : Roster) (doubt : Option (List ℕ)) (epoch : ℕ) (image : List ℕ → Type 0) (state : JournalState) (v : RegistrarView) (s : ServerState) → doubt ≡ None → StandsAt site roster doubt epoch image state v s
+    → Holds epoch image state s.kept.disk × Knows v s.setting s.kept s.live
+quiet site roster None epoch image state v s none at = at.by
+quiet site roster (Some r) epoch image state v s none at = absurd (cc none)
+
+knows_down : (u : Bool) (v : RegistrarView) (g : Setting) (k : SiteKept) → u ≡ false → KnowsAs u v.core g k.disk None
+knows_down true v g k e = absurd (cc e)
+knows_down false v g k e = tt
+
+-- a node that is down
+pub down_stands : (site : ℕ) (roster : Roster) (epoch : ℕ) (image : List ℕ → Type 0) (state : JournalState) (v : RegistrarView) (g : Setting) (k : SiteKept) → IsOf roster g → k.site ≡ site → Holds epoch image state k.disk → ServesSite v g k → v.up ≡ false
+    → StandsAt site roster None epoch image state v (record { setting = g; kept = k; live = None; opened = None })
+down_stands site roster epoch image state v g k of_g here holds serves down = record {
+  setting = of_g;
+  site = here;
+  by = (holds, record { serves = serves; by = knows_down v.up v g k down });
+}
+
+pub knows_up : (u : Bool) (core : ServerCore) (g : Setting) (k : ServerKept) (l : ServerLive) → u ≡ true → Stands core g k l → KnowsAs u core g k (Some l)
+knows_up true core g k l e stands = stands
+knows_up false core g k l e stands = absurd (cc e)
+
+-- what a node that is up knows
+pub stands_up : (v : RegistrarView) (g : Setting) (k : SiteKept) (live : Option ServerLive) (l : ServerLive) → Knows v g k live → live ≡ Some l → Stands v.core g k.disk l
+stands_up v g k live l knows up = go v.up (subst (λ (o : Option ServerLive). KnowsAs v.up v.core g k.disk o) up knows.by)
+  where
+    go : (u : Bool) → KnowsAs u v.core g k.disk (Some l) → Stands v.core g k.disk l
+    go true by = by
+    go false by = absurd by
+
+-- ---- spent epochs
+
+spent_start : (k : ServerKept) (epoch e : ℕ) → epoch ≡ k.epoch → e ≡ epoch → (epoch == 4294967294) ≡ true → cond (k.epoch == 4294967294) (Some k.epoch) None ≡ Some e
+spent_start k epoch e same told is =
+    cond-true (k.epoch == 4294967294) (Some k.epoch) None (ap (λ n. n == 4294967294) (sym same) ∙ is) ∙ ap (λ n. Some n) (sym (told ∙ same))
+
+not_spent : {P : Type 0} (epoch : ℕ) (i j : Input) → i ≡ j → is_spent_at epoch j ≡ false → is_spent_at epoch i ≡ true → P
+not_spent epoch i j is off on = absurd (true≢false (sym on ∙ ap (is_spent_at epoch) is ∙ off))
+
+-- a turn that is refused since the epoch is spent
+pub spent_told : (s : ServerState) (b : Bytes) (i : Input) (f : NodeFault) (e epoch : ℕ) → Reads s.setting b i → epoch ≡ s.kept.disk.epoch → IsNotPrepared epoch i f → f ≡ fault.Spent e → spent_at s b ≡ Some e
+spent_told s b i f e epoch reads same why is = go b reads (subst (IsNotPrepared epoch i) is why)
+  where
+    go : (b : Bytes) → Reads s.setting b i → (e ≡ epoch) × (is_spent_at epoch i ≡ true) → spent_at s b ≡ Some e
+    go bytes.Start reads told = spent_start s.kept.disk epoch e same told.0 (ap (is_spent_at epoch) (sym reads) ∙ told.1)
+    go bytes.Own reads told = not_spent epoch i Own reads refl told.1
+    go bytes.Tick reads told = not_spent epoch i Tick reads refl told.1
+    go (bytes.Packet from p) reads told = not_spent epoch i (Deliver reads.0 reads.1) reads.5 refl told.1
+
+-- where the kept epoch is the last one, a start is refused
+pub spent_input : (s : ServerState) (b : Bytes) (i : Input) (e epoch : ℕ) → Reads s.setting b i → epoch ≡ s.kept.disk.epoch → spent_at s b ≡ Some e → is_spent_at epoch i ≡ true
+spent_input s bytes.Start i e epoch reads same is =
+    let last : (s.kept.disk.epoch == 4294967294) ≡ true = go (s.kept.disk.epoch == 4294967294) is in
+    ap (is_spent_at epoch) reads ∙ ap (λ n. n == 4294967294) same ∙ last
+  where
+    go : (t : Bool) → cond t (Some s.kept.disk.epoch) None ≡ Some e → t ≡ true
+    go true h = refl
+    go false h = absurd (cc h)
+spent_input s bytes.Own i e epoch reads same is = absurd (cc is)
+spent_input s bytes.Tick i e epoch reads same is = absurd (cc is)
+spent_input s (bytes.Packet from p) i e epoch reads same is = absurd (cc is)
+
+-- what no packet spells is no start
+pub junk_unspent : (s : ServerState) (b : Bytes) (e : ℕ) → IsJunk s.setting b → spent_at s b ≡ Some e → ⊥
+junk_unspent s bytes.Start e junk is = junk Start refl
+junk_unspent s bytes.Own e junk is = absurd (cc is)
+junk_unspent s bytes.Tick e junk is = absurd (cc is)
+junk_unspent s (bytes.Packet from p) e junk is = absurd (cc is)

@@ -1,0 +1,28 @@
+use Rattle.std.proofs.Common.{◌≡◌, ℕ, ◌<◌, ◌≤◌, ◌^◌, refl, sym, subst, arith, rules}
+use Rattle.turn_defs.specs.Setting.{Setting}
+use Rattle.turn_defs.specs.Rows.{worked}
+use Rattle.registry_server.proofs.Spelling.{empty_ok}
+use Rattle.registry_server.proofs.registrar.Registrar.new.Goals as goal
+
+pub invariant_of-result : goal.invariant_of-result
+invariant_of-result c =
+    let g : Setting = record worked { horizon = c.args.horizon; joiners = c.args.joiners; table = c.args.table; batch = c.args.batch; replicas = 3 } in
+    let e = c.in_ok-core.ensures in
+    let horizon : c.args.horizon < 2 ^ 64 = search rules in
+    record {
+      setting = g;
+      kept = _;
+      live = _;
+      stands = e.stands g (record { joiners = refl; horizon = refl; table = refl; batch = refl; replicas = refl });
+      plan =
+          record {
+            site = subst (λ (n : ℕ). n < 2) (sym e.site) c.requires.site;
+            horizon = horizon;
+            batch = c.requires.batch;
+            shards = subst (λ (n : ℕ). n ≤ 16) c.shards-count.ensures.count c.shards-count.ensures.few;
+          };
+      spelled = record { epoch = omega arith; round = omega arith; each = λ s. empty_ok };
+    }
+
+pub returns-clause-serves : goal.returns-clause-serves
+returns-clause-serves c = λ g new. (c.in_ok-core.ensures.stands g new).numbers

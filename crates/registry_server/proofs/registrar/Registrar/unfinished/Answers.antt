@@ -1,0 +1,8 @@
+use Rattle.std.proofs.Common.{ap, sym, subst}
+use Rattle.registry_server.specs.Cores.{Stands}
+use Rattle.registry_server.specs.Registrars.{RegistrarView}
+use Rattle.registry_server.specs.declared.server_core.ServerCore.{ServerCore}
+use Rattle.registry_server.proofs.registrar.Registrar.unfinished.Goals as goal
+
+pub returns : goal.returns
+returns c = λ g k l stands. c.unfinished.ensures g k l (subst (λ (x : ServerCore). Stands x g k l) (sym (ap (λ (v : RegistrarView). v.core) c.self.view_is)) stands)

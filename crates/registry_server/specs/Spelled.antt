@@ -1,0 +1,43 @@
+-- What a server knows has spellings, so what it sends has them.
+use Rattle.std.specs.Prelude.{ℕ, ◌^◌, ◌<◌, ◌≤◌, length, Option, Some, None}
+use Rattle.list_words.specs.Lists.{Each}
+use Rattle.registry_state.specs.declared.Batch.{Batch}
+use Rattle.fields.specs.Spellings.{IsInsert, IsBallot, IsBatch, IsPrior}
+use Rattle.paxos_defs.specs.Attempts.{Phase}
+use Rattle.paxos_defs.specs.Attempts.Phase.{Promising, Accepting, Ended}
+use Rattle.turn_defs.specs.Setting.{Setting, shards}
+use Rattle.registry_server.specs.Server.{ServerKept, ServerLive, ShardState, Proposal}
+
+abbrev pub IsSpelledPhase : Phase Batch → Type 0
+IsSpelledPhase (Promising marks best) = IsPrior best
+IsSpelledPhase (Accepting v marks) = IsBatch v
+IsSpelledPhase Ended = Unit {0}
+
+-- a proposal is for a slot with a spelling
+pub record IsSpelledProposal (at : ℕ) (p : Proposal) : Type 0 where
+  pub slot : at < 2 ^ 48
+  pub ballot : IsBallot p.ballot
+  pub own : IsBatch p.own
+  pub phase : IsSpelledPhase p.phase
+
+abbrev pub IsSpelledIf : ℕ → Option Proposal → Type 0
+IsSpelledIf slot None = Unit {0}
+IsSpelledIf slot (Some p) = IsSpelledProposal slot p
+
+pub record IsSpelledShard (st : ShardState) : Type 0 where
+  pub learned : Each IsBatch st.learned
+  pub queue : Each IsInsert st.queue
+  pub proposal : IsSpelledIf (length st.learned) st.proposal
+
+-- the numbers of the server and of its setting are in their ranges
+pub record IsSpelledPlan (g : Setting) (n : ℕ) : Type 0 where
+  pub site : n < 2
+  pub horizon : g.horizon < 2 ^ 64
+  pub batch : g.batch ≤ 64
+  pub shards : shards g ≤ 16
+
+-- so is all that it keeps and knows
+pub record IsSpelledLive (k : ServerKept) (l : ServerLive) : Type 0 where
+  pub epoch : k.epoch < 2 ^ 32
+  pub round : l.round < 2 ^ 48
+  pub each : (s : ℕ) → IsSpelledShard (l.shards s)

@@ -1,0 +1,345 @@
+// The registry server over its disk.
+ghost use Rattle.std.specs.Prelude.{◌≡◌, ◌≤◌, true, false, None};
+ghost use Rattle.gate_journal.specs.declared.journal.JournalState.TheVariants.{Ready};
+ghost use Rattle.registry_server.specs.Registrars.{MayRaise};
+ghost use Rattle.registry_server.specs.Node.{is_spent_at};
+
+use crate::notes::note_record;
+use crate::registrar::Registrar;
+use crate::turn::Turn;
+use air_bus::{Input as Begun, Packets, Payload};
+use epoch_journal::{EpochJournal, RaiseFault};
+use gate_journal::JournalFault;
+use outside::{Disk, DiskName, Gate, Point};
+use packet_codec::Input;
+use site_node::{Done, NodeFault, Roster, SiteNode, read_input, spell};
+use std::alloc::{AllocError, Global};
+use time_shards::Table;
+
+// No epoch follows this one.
+const LAST: u32 = u32::MAX - 1;
+
+/// A registry server over its epochs: down, up, or stopped in an open turn.
+///
+/// The disk holds nothing but how often the server has started; what it learned it is told again. A turn costs what the
+/// core's decision costs, and is linear in the bytes of its packet and of its answers. A start writes one record.
+#[derive(Drop)]
+pub struct ServerNode<D: Disk> {
+    site: u8,
+    roster: Roster,
+    journal: EpochJournal<D>,
+    registrar: Registrar,
+    // While it waits for `restart`, the record that may have landed.
+    in_doubt: Option<Payload>,
+    alloc: Global,
+    ghost ready: { in_doubt ≡ None → journal.journal.state ≡ Ready },
+}
+
+// A turn that is decided and spelled, with its note's record.
+#[derive(Drop)]
+struct ReadyTurn {
+    turn: Turn,
+    packets: Packets,
+    noted: Option<Payload>,
+}
+
+impl<D: Disk> ServerNode<D> {
+    ghost use Rattle.std.specs.Prelude.{◌≡◌, ◌≤◌, ◌<◌, None, Some, Option, option_map, List, ℕ, is_some, IsTrue, IfOk, IfErr, OnOk, OnErr, IsErrOf, Err};
+    ghost use Rattle.outside.specs.Disk.{Throughout};
+    ghost use Rattle.outside.specs.Faults.{Rose};
+    ghost use Rattle.gate_journal.specs.declared.journal.JournalState.TheVariants.{Ready};
+    ghost use Rattle.gate_journal.specs.Growth.{Continues};
+    ghost use Rattle.epoch_journal.specs.Epochs.{IsLeft, Keeps, KeepsAsLeft};
+    ghost use Rattle.turn_defs.specs.Setting.{Setting};
+    ghost use Rattle.turn_defs.specs.Turns.{land};
+    ghost use Rattle.packet_codec.specs.declared.node.Input.TheVariants as given;
+    ghost use Rattle.site_node.specs.Bytes.{IsInput};
+    ghost use Rattle.site_node.specs.Rosters.{IsOf};
+    ghost use Rattle.site_node.specs.States.{row_of};
+    ghost use Rattle.site_node.specs.Faults.{IsOfRestart, IsWhole};
+    ghost use Rattle.registry_server.specs.Server.{ServerKept, ServerLive, land_server};
+    ghost use Rattle.registry_server.specs.Cores.{IsNew, note_of, site_of};
+    ghost use Rattle.registry_server.specs.Registrars.{SiteKept, Knows, Fits, IsNextNote, IsRow, Makes, landed, server_rows};
+    ghost use Rattle.registry_server.specs.declared.turn.ServerNote.{ServerNote};
+    ghost use Rattle.registry_server.specs.Node.{StandsAt, Holds, HoldsOr, OnDiskOr, recorded, IsReady, IsRoomFor, IsBelowLast, IsNotPrepared, down_over};
+
+    /// A server of a site that is down, over its journal; three replicas are taken for granted, the horizon is in
+    /// microseconds, and `batch` is the most inserts of a batch. It takes memory for the table's shards, and hands the
+    /// journal back where there is none.
+    pub fn new(
+        alloc: Global,
+        site: u8,
+        roster: Roster,
+        horizon: u64,
+        table: Table,
+        batch: u8,
+        journal: EpochJournal<D>,
+    ) -> Result<ServerNode<D>, EpochJournal<D>>
+        requires site { site < 2 }
+        requires batch { batch ≤ 64 }
+        requires ready { journal.journal.state ≡ Ready }
+        ensures site { IfOk result (λ n. n.site ≡ site) }
+        ensures journal { IfOk result (λ n. n.journal ≡ journal) }
+        ensures up { IfOk result (λ n. n.in_doubt ≡ None) }
+        ensures stands { IsTrue D.tells → (g : Setting) → IsOf roster g → IsNew g roster.joiners horizon table batch
+            → IfOk result (λ n. StandsAt n.site n.roster n.in_doubt n.journal.epoch (D.image n.journal.journal.disk) n.journal.journal.state n.registrar (down_over g site journal.epoch)) }
+        ensures refused { IfErr result (λ j. j ≡ journal) }
+    {
+        match Registrar::new(alloc, site, roster.joiners, horizon, table, batch) {
+            Ok(registrar) => Ok(ServerNode {
+                site,
+                roster,
+                journal,
+                registrar,
+                in_doubt: None,
+                alloc,
+            }),
+            Err(_) => Err(journal),
+        }
+    }
+
+    /// The disk, which holds the journal.
+    pub fn into_disk(self) -> D
+        ensures { result ≡ self.journal.journal.disk }
+    {
+        self.journal.into_disk()
+    }
+
+    // Decides the turn, spells its packets and its note, and makes the disk's room. Nothing changes but that room.
+    fn prepare(&mut self, input: Input) -> Result<ReadyTurn, NodeFault>
+        requires { IsInput input }
+        ensures same { (self.new.site ≡ self.old.site) × (self.new.roster ≡ self.old.roster) × (self.new.in_doubt ≡ self.old.in_doubt) }
+        ensures knows { (g : Setting) (k : SiteKept) (live : Option ServerLive) → Knows self.old.registrar g k live → Knows self.new.registrar g k live }
+        ensures holds { IsTrue D.tells → (k : ServerKept) → Holds self.old.journal.epoch (D.image self.old.journal.journal.disk) self.old.journal.journal.state k → Holds self.new.journal.epoch (D.image self.new.journal.journal.disk) self.new.journal.journal.state k }
+        ensures moments { IsTrue D.tells → Throughout D.image D.since self.old.journal.journal.disk self.new.journal.journal.disk (D.image self.old.journal.journal.disk) }
+        ensures count { D.faults self.new.journal.journal.disk ≡ D.faults self.old.journal.journal.disk }
+        ensures refused { IfErr result (IsNotPrepared self.old.journal.epoch input) }
+        ensures spent { is_spent_at self.old.journal.epoch input ≡ true → OnOk result ⊥ }
+        ensures turn { IfOk result (λ r. (g : Setting) (k : SiteKept) (live : Option ServerLive) → Knows self.old.registrar g k live → self.old.journal.epoch ≡ k.disk.epoch → Fits live input → IsRow g (row_of server_rows g k live input) r.turn) }
+        ensures next { IfOk result (λ r. (g : Setting) (k : SiteKept) (live : Option ServerLive) → Knows self.old.registrar g k live → self.old.journal.epoch ≡ k.disk.epoch → Fits live input
+            → Makes self.new.registrar.core r.turn g k.disk (row_of server_rows g k live input).live) }
+        ensures ready { IfOk result (λ r. IsReady self.new.registrar.core self.new.journal.epoch r.turn r.packets r.noted) }
+        ensures room { IfOk result (λ r. IsRoomFor r.noted (D.calls_left self.new.journal.journal.disk) (D.bytes_left self.new.journal.journal.disk)) }
+    {
+        let epoch = self.journal.epoch();
+        if is_spent(epoch, &input) {
+            return Err(NodeFault::Spent(epoch));
+        }
+        let turn = self.registrar.decide(epoch, input)?;
+        let packets = spell(self.alloc, &turn.packets)?;
+        let noted = note_record(self.alloc, &turn.note)?;
+        self.make_room(&noted)?;
+        Ok(ReadyTurn {
+            turn,
+            packets,
+            noted,
+        })
+    }
+
+    // The disk's room for the record, if there is one.
+    fn make_room(&mut self, noted: &Option<Payload>) -> Result<(), AllocError>
+        ensures same { (self.new.site ≡ self.old.site) × (self.new.roster ≡ self.old.roster) × (self.new.in_doubt ≡ self.old.in_doubt) × (self.new.registrar ≡ self.old.registrar) }
+        ensures epoch { self.new.journal.epoch ≡ self.old.journal.epoch }
+        ensures holds { IsTrue D.tells → (k : ServerKept) → Holds self.old.journal.epoch (D.image self.old.journal.journal.disk) self.old.journal.journal.state k → Holds self.new.journal.epoch (D.image self.new.journal.journal.disk) self.new.journal.journal.state k }
+        ensures moments { IsTrue D.tells → Throughout D.image D.since self.old.journal.journal.disk self.new.journal.journal.disk (D.image self.old.journal.journal.disk) }
+        ensures count { D.faults self.new.journal.journal.disk ≡ D.faults self.old.journal.journal.disk }
+        ensures room { OnOk result (IsRoomFor noted.now (D.calls_left self.new.journal.journal.disk) (D.bytes_left self.new.journal.journal.disk)) }
+    {
+        match noted {
+            None => Ok(()),
+            Some(_) => self.journal.make_room(self.alloc),
+        }
+    }
+
+    // Appends the note, if there is one, and keeps the turn. Where the disk fails the note is in doubt.
+    fn finish(&mut self, ready: ReadyTurn) -> Result<Done, NodeFault>
+        requires up { self.old.in_doubt ≡ None }
+        requires ready { IsReady self.old.registrar.core self.old.journal.epoch ready.turn ready.packets ready.noted }
+        requires room { IsRoomFor ready.noted (D.calls_left self.old.journal.journal.disk) (D.bytes_left self.old.journal.journal.disk) }
+        ensures same { (self.new.site ≡ self.old.site) × (self.new.roster ≡ self.old.roster) }
+        ensures up { OnOk result (self.new.in_doubt ≡ None) }
+        ensures stopped { IsErrOf result NodeFault.Stopped → is_some self.new.in_doubt ≡ true }
+        ensures only_stopped { OnErr result (result ≡ Err NodeFault.Stopped) }
+        ensures fault { OnErr result (Rose (D.faults self.old.journal.journal.disk) (D.faults self.new.journal.journal.disk)) }
+        ensures count { D.faults self.old.journal.journal.disk ≤ D.faults self.new.journal.journal.disk }
+        ensures moments { IsTrue D.tells → (k : ServerKept) → Holds self.old.journal.epoch (D.image self.old.journal.journal.disk) self.old.journal.journal.state k → Throughout D.image D.since self.old.journal.journal.disk self.new.journal.journal.disk (OnDiskOr k ready.turn.note) }
+        ensures grows { IsTrue D.tells → (c : List ℕ) → D.image self.new.journal.journal.disk c → Continues (D.image self.old.journal.journal.disk) c }
+        ensures note { IfOk result (λ d. d.note ≡ recorded ready.turn.note) }
+        ensures packets { IfOk result (λ d. d.packets ≡ ready.packets) }
+        ensures knows { OnOk result ((g : Setting) (k : SiteKept) (next : ServerLive) → Makes self.old.registrar.core ready.turn g k.disk next → site_of self.old.registrar.core ≡ k.site
+            → Knows self.new.registrar g (record { site = k.site; disk = landed ready.turn k.disk }) (Some next)) }
+        ensures registrar { OnErr result (self.new.registrar ≡ self.old.registrar) }
+        ensures holds { IsTrue D.tells → (k : ServerKept) → Holds self.old.journal.epoch (D.image self.old.journal.journal.disk) self.old.journal.journal.state k → OnOk result (Holds self.new.journal.epoch (D.image self.new.journal.journal.disk) self.new.journal.journal.state (landed ready.turn k)) }
+        ensures undone { IsTrue D.tells → (k : ServerKept) → Holds self.old.journal.epoch (D.image self.old.journal.journal.disk) self.old.journal.journal.state k → OnErr result (HoldsOr self.new.in_doubt ready.turn.note self.new.journal.epoch (D.image self.new.journal.journal.disk) self.new.journal.journal.state k) }
+    {
+        let ReadyTurn {
+            turn,
+            packets,
+            noted,
+        } = ready;
+        let note = self.append(noted)?;
+        self.registrar.keep(turn);
+        Ok(Done { note, packets })
+    }
+
+    fn append(&mut self, noted: Option<Payload>) -> Result<Option<Payload>, NodeFault>
+        requires up { self.old.in_doubt ≡ None }
+        requires room { IsRoomFor noted (D.calls_left self.old.journal.journal.disk) (D.bytes_left self.old.journal.journal.disk) }
+        requires low { IsBelowLast noted self.old.journal.epoch }
+        ensures same { (self.new.site ≡ self.old.site) × (self.new.roster ≡ self.old.roster) × (self.new.registrar ≡ self.old.registrar) }
+        ensures up { OnOk result (self.new.in_doubt ≡ None) }
+        ensures stopped { IsErrOf result NodeFault.Stopped → is_some self.new.in_doubt ≡ true }
+        ensures only_stopped { OnErr result (result ≡ Err NodeFault.Stopped) }
+        ensures fault { OnErr result (Rose (D.faults self.old.journal.journal.disk) (D.faults self.new.journal.journal.disk)) }
+        ensures count { D.faults self.old.journal.journal.disk ≤ D.faults self.new.journal.journal.disk }
+        ensures moments { IsTrue D.tells → (k : ServerKept) (n : Option ServerNote) → noted ≡ recorded n → IsNextNote self.old.journal.epoch n → Holds self.old.journal.epoch (D.image self.old.journal.journal.disk) self.old.journal.journal.state k → Throughout D.image D.since self.old.journal.journal.disk self.new.journal.journal.disk (OnDiskOr k n) }
+        ensures grows { IsTrue D.tells → (c : List ℕ) → D.image self.new.journal.journal.disk c → Continues (D.image self.old.journal.journal.disk) c }
+        ensures note { IfOk result (λ r. r ≡ noted) }
+        ensures holds { IsTrue D.tells → (k : ServerKept) (n : Option ServerNote) → noted ≡ recorded n → IsNextNote self.old.journal.epoch n → Holds self.old.journal.epoch (D.image self.old.journal.journal.disk) self.old.journal.journal.state k
+            → OnOk result (Holds self.new.journal.epoch (D.image self.new.journal.journal.disk) self.new.journal.journal.state (land land_server (option_map note_of n) k)) }
+        ensures undone { IsTrue D.tells → (k : ServerKept) (n : Option ServerNote) → noted ≡ recorded n → IsNextNote self.old.journal.epoch n → Holds self.old.journal.epoch (D.image self.old.journal.journal.disk) self.old.journal.journal.state k
+            → OnErr result (HoldsOr self.new.in_doubt n self.new.journal.epoch (D.image self.new.journal.journal.disk) self.new.journal.journal.state k) }
+    {
+        match noted {
+            None => Ok(None),
+            Some(payload) => match self.journal.raise() {
+                Ok(_) => Ok(Some(payload)),
+                Err(RaiseFault::Disk) => {
+                    self.in_doubt = Some(payload);
+                    Err(NodeFault::Stopped)
+                }
+                // Neither comes: the epoch isn't the last one, and the journal is ready.
+                Err(RaiseFault::EpochSpent | RaiseFault::Broken) => {
+                    self.in_doubt = Some(payload);
+                    Err(NodeFault::Stopped)
+                }
+            },
+        }
+    }
+
+    // The epoch that the disk holds, as the stop left it.
+    fn reread(&mut self) -> Result<(), NodeFault>
+        requires waits { is_some self.old.in_doubt ≡ true }
+        ensures same { (self.new.site ≡ self.old.site) × (self.new.roster ≡ self.old.roster) × (self.new.registrar ≡ self.old.registrar) × (self.new.in_doubt ≡ self.old.in_doubt) }
+        ensures ready { OnOk result (self.new.journal.journal.state ≡ Ready) }
+        ensures left { IsTrue D.tells → OnOk result (IsLeft (D.image self.old.journal.journal.disk) self.new.journal.epoch) }
+        ensures epoch { OnErr result (self.new.journal.epoch ≡ self.old.journal.epoch) }
+        ensures moments { IsTrue D.tells → Throughout D.image D.since self.old.journal.journal.disk self.new.journal.journal.disk (KeepsAsLeft (D.image self.old.journal.journal.disk)) }
+        ensures grows { IsTrue D.tells → Throughout D.image D.since self.old.journal.journal.disk self.new.journal.journal.disk (Continues (D.image self.old.journal.journal.disk)) }
+        ensures kind { IfErr result IsOfRestart }
+        ensures fault { IsErrOf result NodeFault.Stopped → Rose (D.faults self.old.journal.journal.disk) (D.faults self.new.journal.journal.disk) }
+        ensures count { D.faults self.old.journal.journal.disk ≤ D.faults self.new.journal.journal.disk }
+        ensures whole { IsTrue D.tells → ((c : List ℕ) → D.image self.old.journal.journal.disk c → (e : ℕ) × Keeps e c) → IfErr result IsWhole }
+    {
+        match self.journal.reopen(self.alloc) {
+            Ok(()) => Ok(()),
+            Err(JournalFault::Damaged { at }) => Err(NodeFault::Damaged {
+                disk: DiskName::Server(self.site),
+                at,
+            }),
+            Err(JournalFault::Disk) => Err(NodeFault::Stopped),
+            Err(JournalFault::Memory) => Err(NodeFault::Memory),
+        }
+    }
+}
+
+impl<D: Disk> SiteNode for ServerNode<D> {
+    ghost use Rattle.std.specs.Prelude.{◌≡◌, ◌+◌, is_some, List, ℕ};
+    ghost use Rattle.gate_journal.specs.Growth.{Continues};
+    ghost use Rattle.site_node.specs.States.{Leads, state_phase, Says};
+    ghost use Rattle.site_node.specs.Paths.{begins as begins_by, phase_led};
+    ghost use Rattle.registry_server.specs.Server.{server_at_rest, server_unfinished, server_wants};
+    ghost use Rattle.registry_server.specs.Registrars.{server_rows};
+    ghost use Rattle.registry_server.specs.Node.{ServerState, StandsAt, KeptOn, spent_at};
+    ghost use Rattle.registry_server.specs.Kept.{kept_images};
+
+    ghost tells = { D.tells };
+
+    ghost State = { ServerState };
+
+    ghost leads = { Leads server_rows };
+
+    ghost phase_of = { state_phase };
+
+    ghost wants_as = { Says (λ g k l. server_wants g l) };
+
+    ghost unfinished_as = { Says (λ g k l. server_unfinished g l) };
+
+    ghost at_rest_as = { Says (λ g k l. server_at_rest g l) };
+
+    ghost spends = { spent_at };
+
+    ghost Contents = { List ℕ };
+
+    ghost keeps = { KeptOn };
+
+    ghost number = { λ node. 2 + node.site };
+
+    ghost waits = { λ node. is_some node.in_doubt };
+
+    ghost stands = { λ node s. StandsAt node.site node.roster node.in_doubt node.journal.epoch (D.image node.journal.journal.disk) node.journal.journal.state node.registrar s };
+
+    ghost image = { λ node. D.image node.journal.journal.disk };
+
+    ghost since = { λ old new. D.since old.journal.journal.disk new.journal.journal.disk };
+
+    ghost grown = { λ old new. (c : List ℕ) → D.image new.journal.journal.disk c → Continues (D.image old.journal.journal.disk) c };
+
+    ghost faults = { λ node. D.faults node.journal.journal.disk };
+
+    ghost log_faults = { λ node. 0 };
+
+    ghost begins = { begins_by server_rows };
+
+    ghost phases = { phase_led server_rows };
+
+    ghost images = { λ node s tells. kept_images node.site node.roster node.in_doubt node.journal.epoch (D.image node.journal.journal.disk) node.journal.journal.state node.registrar s };
+
+    fn wants(&self) -> bool {
+        self.registrar.wants()
+    }
+
+    fn unfinished(&self) -> bool {
+        self.registrar.unfinished()
+    }
+
+    fn at_rest(&self) -> bool {
+        self.registrar.at_rest()
+    }
+
+    fn turn<G: Gate>(&mut self, input: &Begun, gate: &G) -> Result<Done, NodeFault> {
+        match read_input(self.alloc, self.roster, input)? {
+            None => Ok(Done {
+                note: None,
+                packets: Packets::new(self.alloc),
+            }),
+            Some(input) => {
+                let ready = self.prepare(input)?;
+                if ready.noted.is_some() {
+                    gate.pass(Point::BeforeAppend, 2 + u16::from(self.site));
+                }
+                self.finish(ready)
+            }
+        }
+    }
+
+    fn restart(&mut self) -> Result<Option<Payload>, NodeFault> {
+        let before = self.journal.epoch();
+        self.reread()?;
+        let landed = self.journal.epoch() != before;
+        self.registrar.put_down();
+        let noted = self.in_doubt.take();
+        if landed { Ok(noted) } else { Ok(None) }
+    }
+}
+
+// A start has no epoch left.
+fn is_spent(epoch: u32, input: &Input) -> bool
+    ensures is { result ≡ is_spent_at epoch input.now }
+    ensures low { epoch ≤ 4294967294 → result ≡ false → MayRaise epoch input.now }
+{
+    match input {
+        Input::Start => epoch == LAST,
+        Input::Own | Input::Tick | Input::Deliver { .. } => false,
+    }
+}

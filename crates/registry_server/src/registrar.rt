@@ -1,0 +1,141 @@
+// A server that is up or down, and what it knows has spellings.
+ghost use Rattle.std.specs.Prelude.{◌≡◌};
+ghost use Rattle.registry_server.specs.Server.{ServerKept};
+ghost use Rattle.registry_server.specs.Registrars.{MayRaise};
+ghost use Rattle.registry_server.specs.Cores.{Carries, CarriesStart, MayStart};
+ghost use Rattle.packet_codec.specs.declared.node.Input.{Input as Given};
+ghost use Rattle.packet_codec.specs.declared.node.Input.TheVariants as given;
+
+use crate::ServerCore;
+use crate::turn::{ServerInput, Turn};
+use packet_codec::Input;
+use std::alloc::{AllocError, Global};
+use std::marker::Model;
+use time_shards::Table;
+
+// The core, while the server is up and while it is down. What it knows has spellings, so what it sends has them.
+#[derive(Drop)]
+pub(crate) struct Registrar {
+    core: ServerCore,
+    up: bool,
+}
+
+impl Model for Registrar {
+    ghost use Rattle.std.specs.Coded.{codes};
+    ghost use Rattle.registry_server.specs.Registrars.{RegistrarView, IsSpelledCore};
+    ghost use Rattle.registry_server.specs.contracts.server_core.ServerCore as core_row;
+
+    ghost Value = { RegistrarView };
+
+    ghost coded = { Prim.hlevel (codes, core_row.the_row.coded) };
+
+    ghost view = { λ v. record { core = v.core; up = v.up } };
+
+    ghost invariant = { λ v. IsSpelledCore v.core };
+}
+
+impl Registrar {
+    ghost use Rattle.std.specs.Prelude.{◌≡◌, ◌<◌, ◌≤◌, Option, All, IfOk, true, false};
+    ghost use Rattle.packet_codec.specs.Packets.{IsPacket};
+    ghost use Rattle.packet_codec.specs.declared.packet.Packet.{Packet};
+    ghost use Rattle.packet_codec.specs.declared.node.Node.{Node};
+    ghost use Rattle.site_node.specs.Bytes.{IsInput};
+    ghost use Rattle.site_node.specs.States.{row_of};
+    ghost use Rattle.turn_defs.specs.Setting.{Setting};
+    ghost use Rattle.registry_server.specs.Server.{ServerKept, ServerLive, server_at_rest, server_unfinished, server_wants};
+    ghost use Rattle.registry_server.specs.Cores.{Stands, Serves, Decided, IsNew, site_of};
+    ghost use Rattle.registry_server.specs.Registrars.{SiteKept, Knows, Fits, MayRaise, IsNextNote, IsRow, Makes, IsSpelledTurn, landed, server_rows};
+
+    // A server of a site that is down. One allocation, for the table's shards.
+    pub(crate) fn new(
+        alloc: Global,
+        site: u8,
+        joiners: u8,
+        horizon: u64,
+        table: Table,
+        batch: u8,
+    ) -> Result<Registrar, AllocError>
+        requires site { site < 2 }
+        requires batch { batch ≤ 64 }
+        ensures serves { IfOk result (λ r. (g : Setting) → IsNew g joiners horizon table batch → Serves r.core g) }
+        ensures site { IfOk result (λ r. site_of r.core ≡ site) }
+        ensures down { IfOk result (λ r. r.up ≡ false) }
+    {
+        let count = table.shards();
+        prove!(count <= 16);
+        let core = ServerCore::new(alloc, site, joiners, horizon, table, batch)?;
+        Ok(Registrar { core, up: false })
+    }
+
+    // What the turn writes and sends, as the core decides. The epoch is that on the disk.
+    pub(crate) fn decide(&mut self, epoch: u32, input: Input) -> Result<Turn, AllocError>
+        requires spelled { IsInput input }
+        requires low { MayRaise epoch input }
+        ensures same { (g : Setting) (k : SiteKept) (live : Option ServerLive) → Knows self.old g k live → Knows self.new g k live }
+        ensures turn { IfOk result (λ turn. (g : Setting) (k : SiteKept) (live : Option ServerLive) → Knows self.old g k live → epoch ≡ k.disk.epoch → Fits live input → IsRow g (row_of server_rows g k live input) turn) }
+        ensures next { IfOk result (λ turn. (g : Setting) (k : SiteKept) (live : Option ServerLive) → Knows self.old g k live → epoch ≡ k.disk.epoch → Fits live input
+            → Makes self.new.core turn g k.disk (row_of server_rows g k live input).live) }
+        ensures packets { IfOk result (λ turn. All (λ (p : Node × Packet). IsPacket p.1) turn.packets.items) }
+        ensures spelled { IfOk result (λ turn. IsSpelledTurn self.new.core turn) }
+        ensures noted { IfOk result (λ turn. IsNextNote epoch turn.note) }
+        ensures decided { IfOk result (λ turn. Decided self.new.core turn) }
+    {
+        let taken = taken_as(epoch, input);
+        self.core.decide(&taken)
+    }
+
+    // Makes the turn's change, once its note is written. It is up then.
+    pub(crate) fn keep(&mut self, turn: Turn)
+        requires decided { Decided self.old.core turn }
+        requires spelled { IsSpelledTurn self.old.core turn }
+        ensures up { self.new.up ≡ true }
+        ensures stands { (g : Setting) (k : ServerKept) (next : ServerLive) → Makes self.old.core turn g k next → Stands self.new.core g (landed turn k) next }
+        ensures site { site_of self.new.core ≡ site_of self.old.core }
+    {
+        self.core.keep(turn);
+        self.up = true;
+    }
+
+    // What its core says.
+    pub(crate) fn wants(&self) -> bool
+        ensures { (g : Setting) (k : ServerKept) (l : ServerLive) → Stands self.now.core g k l → result ≡ server_wants g l }
+    {
+        self.core.wants()
+    }
+
+    // The same.
+    pub(crate) fn unfinished(&self) -> bool
+        ensures { (g : Setting) (k : ServerKept) (l : ServerLive) → Stands self.now.core g k l → result ≡ server_unfinished g l }
+    {
+        self.core.unfinished()
+    }
+
+    // The same.
+    pub(crate) fn at_rest(&self) -> bool
+        ensures { (g : Setting) (k : ServerKept) (l : ServerLive) → Stands self.now.core g k l → result ≡ server_at_rest g l }
+    {
+        self.core.at_rest()
+    }
+
+    // It is down until its next start.
+    pub(crate) fn put_down(&mut self)
+        ensures down { self.new.up ≡ false }
+        ensures core { self.new.core ≡ self.old.core }
+    {
+        self.up = false;
+    }
+}
+
+// What the core takes.
+fn taken_as(epoch: u32, input: Input) -> ServerInput
+    ensures other { (i : Given) → input ≡ i → (i ≡ given.Start → ⊥) → Carries result i }
+    ensures start { (k : ServerKept) → input ≡ given.Start → epoch ≡ k.epoch → CarriesStart result k }
+    ensures low { MayRaise epoch input → MayStart result }
+{
+    match input {
+        Input::Start => ServerInput::Start { epoch },
+        Input::Own => ServerInput::Own,
+        Input::Tick => ServerInput::Tick,
+        Input::Deliver { from, packet } => ServerInput::Packet { from, packet },
+    }
+}
