@@ -51,7 +51,7 @@ impl<L: LogFile> EventStore<L> {
     ghost use Rattle.event_store.specs.declared.store.Step.TheVariants as step;
     ghost use Rattle.event_store.specs.declared.store.LookFault.TheVariants as fault;
     ghost use Rattle.event_store.specs.Read.{ReadsNext, IsAtEnd};
-    ghost use Rattle.event_store.specs.Found.{IsLookup};
+    ghost use Rattle.event_store.specs.Found.{IsLookup, IsSpelled};
 
     /// A store of the log's queries, of which nothing is read yet. `cache` is how many records are to be kept at
     /// hand; it is kept, and changes nothing yet.
@@ -109,6 +109,7 @@ impl<L: LogFile> EventStore<L> {
     /// The first record with the id among the lines read. Looks at each of them, in time linear in their number.
     pub fn lookup(&mut self, id: EventId) -> Result<Lookup, LookFault>
         ensures found { IfOk result (IsLookup self.old.lines.items id) }
+        ensures spelled { IfOk result IsSpelled }
         ensures memory { IfErr result (λ e. e ≡ fault.Memory) }
         ensures stays { self.new ≡ self.old }
     {
