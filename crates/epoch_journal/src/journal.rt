@@ -45,6 +45,7 @@ impl<D: Disk> EpochJournal<D> {
     ghost use Rattle.gate_journal.specs.Disk.{HasRoom};
     ghost use Rattle.gate_journal.specs.Gate.{records, gate_rule, StandsFor, IsOldOrNew};
     ghost use Rattle.gate_journal.specs.Opening.{IsOpened};
+    ghost use Rattle.gate_journal.specs.Growth.{Continues};
     ghost use Rattle.epoch_journal.specs.Epochs.{epoch_record, kept_epoch, Keeps, KeepsOr, KeepsAsLeft, IsLeft, IsRefused, IsRefusedAgain};
 
     /// Opens what is on a disk, which is fresh or a journal of epochs. Hands the disk back where it is refused.
@@ -54,6 +55,10 @@ impl<D: Disk> EpochJournal<D> {
         ensures ok_any_moment { IsTrue D.tells → IfOk result (λ e. Throughout D.image D.since disk e.journal.disk (IsOpened (D.image disk))) }
         ensures err { IfErr result (λ e. IsRefused D.tells (D.seen disk) (D.faults disk) (D.faults e.1) e.0) }
         ensures err_any_moment { IsTrue D.tells → IfErr result (λ e. Throughout D.image D.since disk e.1 (IsOpened (D.image disk))) }
+        ensures ok_grows { IsTrue D.tells → IfOk result (λ e. Throughout D.image D.since disk e.journal.disk (Continues (D.image disk))) }
+        ensures err_grows { IsTrue D.tells → IfErr result (λ e. Throughout D.image D.since disk e.1 (Continues (D.image disk))) }
+        ensures ok_count { IfOk result (λ e. D.faults disk ≤ D.faults e.journal.disk) }
+        ensures err_count { IfErr result (λ e. D.faults disk ≤ D.faults e.1) }
     {
         let frame = match Frame::new(alloc, &[TAG, 0, 0, 0, 0]) {
             Ok(frame) => frame,
@@ -86,6 +91,7 @@ impl<D: Disk> EpochJournal<D> {
         ensures state { self.new.journal.state ≡ self.old.journal.state }
         ensures seen { IsTrue D.tells → D.seen self.new.journal.disk ≡ D.seen self.old.journal.disk }
         ensures any_moment { IsTrue D.tells → Throughout D.image D.since self.old.journal.disk self.new.journal.disk (D.image self.old.journal.disk) }
+        ensures grows { IsTrue D.tells → Throughout D.image D.since self.old.journal.disk self.new.journal.disk (Continues (D.image self.old.journal.disk)) }
         ensures count { D.faults self.new.journal.disk ≡ D.faults self.old.journal.disk }
     {
         self.journal.make_room(alloc, 5)
@@ -100,12 +106,14 @@ impl<D: Disk> EpochJournal<D> {
         // At every moment since the call began, each image stands for the old records, or for them and the next epoch's.
         ensures any_moment { IsTrue D.tells → self.old.journal.state ≡ Ready → Throughout D.image D.since self.old.journal.disk self.new.journal.disk (IsOldOrNew (records (D.seen self.old.journal.disk)) (epoch_record (self.old.epoch + 1))) }
         ensures keeps { IsTrue D.tells → self.old.journal.state ≡ Ready → Throughout D.image D.since self.old.journal.disk self.new.journal.disk (KeepsOr self.old.epoch (self.old.epoch + 1)) }
+        ensures grows { IsTrue D.tells → self.old.journal.state ≡ Ready → Throughout D.image D.since self.old.journal.disk self.new.journal.disk (Continues (D.image self.old.journal.disk)) }
         ensures ready { OnOk result (self.new.journal.state ≡ Ready) }
         ensures appended { IsTrue D.tells → OnOk result (records (D.seen self.new.journal.disk) ≡ records (D.seen self.old.journal.disk) ++ epoch_record (self.old.epoch + 1) ∷ []) }
         ensures durable { IsTrue D.tells → OnOk result ((c : List ℕ) → D.image self.new.journal.disk c → StandsFor (records (D.seen self.old.journal.disk) ++ epoch_record (self.old.epoch + 1) ∷ []) c) }
 
         ensures unspent { IsErrOf result RaiseFault.EpochSpent → self.new ≡ self.old }
         ensures spent { IsErrOf result RaiseFault.EpochSpent ↔ (self.old.epoch ≡ 4294967294) }
+        ensures count { D.faults self.old.journal.disk ≤ D.faults self.new.journal.disk }
         ensures fault { IsErrOf result RaiseFault.Disk → (self.new.journal.state ≡ Broken) × Rose (D.faults self.old.journal.disk) (D.faults self.new.journal.disk) }
         ensures when_broken { self.old.journal.state ≡ Broken → self.old.epoch < 4294967294 → result ≡ Err RaiseFault.Broken }
         ensures broken { IsErrOf result RaiseFault.Broken → (self.old.journal.state ≡ Broken) × (self.new.journal ≡ self.old.journal) }
@@ -134,6 +142,8 @@ impl<D: Disk> EpochJournal<D> {
         ensures same { OnErr result (self.new.epoch ≡ self.old.epoch) }
         ensures err { IfErr result (λ e. IsRefusedAgain D.tells (D.image self.old.journal.disk) (D.faults self.old.journal.disk) (D.faults self.new.journal.disk) e) }
         ensures any_moment { IsTrue D.tells → Throughout D.image D.since self.old.journal.disk self.new.journal.disk (KeepsAsLeft (D.image self.old.journal.disk)) }
+        ensures grows { IsTrue D.tells → Throughout D.image D.since self.old.journal.disk self.new.journal.disk (Continues (D.image self.old.journal.disk)) }
+        ensures count { D.faults self.old.journal.disk ≤ D.faults self.new.journal.disk }
     {
         let records = self.journal.reopen(alloc)?;
         match read_epochs(&records) {

@@ -50,6 +50,7 @@ impl<D: Disk> Journal<D> {
     ghost use Rattle.gate_journal.specs.Disk.{HasRoom};
     ghost use Rattle.gate_journal.specs.Gate.{gate_rule, records, StandsFor, IsOldOrNew, spans};
     ghost use Rattle.gate_journal.specs.Opening.{IsOpened, IsRefused, IsRefusedAgain};
+    ghost use Rattle.gate_journal.specs.Growth.{Continues};
 
     /// Opens what is on a disk, which is fresh or a journal. Hands the disk back where it is refused.
     pub fn open(alloc: Global, disk: D) -> Result<(Journal<D>, Vec<Bytes>), (JournalFault, D)>
@@ -60,6 +61,10 @@ impl<D: Disk> Journal<D> {
         ensures ok_any_moment { IsTrue D.tells → IfOk result (λ r. Throughout D.image D.since disk r.0.disk (IsOpened (D.image disk))) }
         ensures err { IfErr result (λ e. IsRefused D.tells (D.seen disk) (D.faults disk) (D.faults e.1) e.0) }
         ensures err_any_moment { IsTrue D.tells → IfErr result (λ e. Throughout D.image D.since disk e.1 (IsOpened (D.image disk))) }
+        ensures ok_grows { IsTrue D.tells → IfOk result (λ r. Throughout D.image D.since disk r.0.disk (Continues (D.image disk))) }
+        ensures err_grows { IsTrue D.tells → IfErr result (λ e. Throughout D.image D.since disk e.1 (Continues (D.image disk))) }
+        ensures ok_count { IfOk result (λ r. D.faults disk ≤ D.faults r.0.disk) }
+        ensures err_count { IfErr result (λ e. D.faults disk ≤ D.faults e.1) }
     {
         let mut disk = disk;
         match open_disk(alloc, &mut disk) {
@@ -83,6 +88,7 @@ impl<D: Disk> Journal<D> {
         ensures broken { OnErr result (self.new.state ≡ Broken) }
         ensures err { IfErr result (λ e. IsRefusedAgain D.tells (D.image self.old.disk) (D.faults self.old.disk) (D.faults self.new.disk) e) }
         ensures any_moment { IsTrue D.tells → Throughout D.image D.since self.old.disk self.new.disk (IsOpened (D.image self.old.disk)) }
+        ensures grows { IsTrue D.tells → Throughout D.image D.since self.old.disk self.new.disk (Continues (D.image self.old.disk)) }
         ensures reads { IsTrue D.tells → OnOk result (D.image self.new.disk (D.seen self.new.disk)) }
         ensures count { D.faults self.old.disk ≤ D.faults self.new.disk }
     {
@@ -126,6 +132,8 @@ impl<D: Disk> Journal<D> {
         ensures state { self.new.state ≡ self.old.state }
         ensures seen { IsTrue D.tells → D.seen self.new.disk ≡ D.seen self.old.disk }
         ensures image { IsTrue D.tells → Throughout D.image D.since self.old.disk self.new.disk (D.image self.old.disk) }
+        ensures reads { IsTrue D.tells → D.image self.new.disk (D.seen self.new.disk) }
+        ensures grows { IsTrue D.tells → Throughout D.image D.since self.old.disk self.new.disk (Continues (D.image self.old.disk)) }
         ensures count { D.faults self.new.disk ≡ D.faults self.old.disk }
     {
         self.disk.make_room(alloc, 4, len + 6)
@@ -137,6 +145,7 @@ impl<D: Disk> Journal<D> {
 
         // At every moment since the call began, each image stands for the old records, or for them and the new one.
         ensures any_moment { IsTrue D.tells → self.old.state ≡ Ready → Throughout D.image D.since self.old.disk self.new.disk (IsOldOrNew (records (D.seen self.old.disk)) frame.now) }
+        ensures grows { IsTrue D.tells → self.old.state ≡ Ready → Throughout D.image D.since self.old.disk self.new.disk (Continues (D.image self.old.disk)) }
 
         // At `Ok` each image stands for them and the new one.
         ensures appended { IsTrue D.tells → OnOk result (records (D.seen self.new.disk) ≡ records (D.seen self.old.disk) ++ frame.now ∷ []) }
@@ -147,6 +156,7 @@ impl<D: Disk> Journal<D> {
         ensures made { IsTrue D.tells → OnOk result (D.made self.new.disk ≡ D.made self.old.disk + 4) }
         ensures stops { IsTrue D.tells → (n : ℕ) → D.stops self.new.disk n ≡ D.stops self.old.disk n }
 
+        ensures reads { IsTrue D.tells → OnOk result (D.image self.new.disk (D.seen self.new.disk)) }
         ensures ready { OnOk result ((self.old.state ≡ Ready) × (self.new.state ≡ Ready)) }
         ensures fault { IsErrOf result AppendFault.Disk → (self.new.state ≡ Broken) × Rose (D.faults self.old.disk) (D.faults self.new.disk) }
         ensures broken { self.old.state ≡ Broken → (result ≡ Err AppendFault.Broken) × (self.new ≡ self.old) }

@@ -4,6 +4,7 @@ ghost use Rattle.outside.specs.Disk.{Holds, Torn, Only, Throughout, StopsAmong};
 ghost use Rattle.outside.specs.Faults.{Counts};
 ghost use Rattle.gate_journal.specs.Disk.{IsSettled, HasRoom};
 ghost use Rattle.gate_journal.specs.Gate.{records, IsOldOrNew};
+ghost use Rattle.gate_journal.specs.Growth.{HasImage};
 
 use crate::Frame;
 use outside::{Disk, DiskFault};
@@ -19,6 +20,7 @@ pub fn write_and_sync<D: Disk>(disk: &mut D, at: u64, bytes: &[u8]) -> Result<()
     ensures written { IsTrue D.tells → OnOk result (Holds (D.seen disk.old) at bytes.now (D.seen disk.new)) }
     ensures durable { IsTrue D.tells → OnOk result (Only (D.seen disk.new) (D.image disk.new)) }
     ensures any_moment { IsTrue D.tells → Throughout D.image D.since disk.old disk.new (Torn at (length bytes.now) (D.seen disk.old)) }
+    ensures begins { IsTrue D.tells → Throughout D.image D.since disk.old disk.new (HasImage (D.image disk.old)) }
     ensures up { IsTrue D.tells → D.is_down disk.old ≡ false → OnOk result (D.is_down disk.new ≡ false) }
     ensures made { IsTrue D.tells → D.is_down disk.old ≡ false → OnOk result (D.made disk.new ≡ D.made disk.old + 2) }
     ensures plan { IsTrue D.tells → D.is_down disk.old ≡ false → IsErr result → StopsAmong (D.stops disk.old) (D.made disk.old) (D.made disk.old + 2) }
@@ -38,8 +40,10 @@ pub fn append_record<D: Disk>(disk: &mut D, gate: u64, frame: &Frame) -> Result<
     requires room { HasRoom (D.calls_left disk.old) (D.bytes_left disk.old) (length frame.now) }
     ensures limit { OnOk result (gate + 5 + length frame.now ≤ 2 ^ 63) }
     ensures settled { IsTrue D.tells → OnOk result (IsSettled (D.seen disk.new) (D.image disk.new) (gate + 5 + length frame.now)) }
+    ensures reads { IsTrue D.tells → OnOk result (D.image disk.new (D.seen disk.new)) }
     ensures records { IsTrue D.tells → OnOk result (records (D.seen disk.new) ≡ records (D.seen disk.old) ++ frame.now ∷ []) }
     ensures any_moment { IsTrue D.tells → Throughout D.image D.since disk.old disk.new (IsOldOrNew (records (D.seen disk.old)) frame.now) }
+    ensures begins { IsTrue D.tells → Throughout D.image D.since disk.old disk.new (HasImage (D.image disk.old)) }
     ensures up { IsTrue D.tells → D.is_down disk.old ≡ false → OnOk result (D.is_down disk.new ≡ false) }
     ensures made { IsTrue D.tells → D.is_down disk.old ≡ false → OnOk result (D.made disk.new ≡ D.made disk.old + 4) }
     ensures plan { IsTrue D.tells → D.is_down disk.old ≡ false → IsErr result → StopsAmong (D.stops disk.old) (D.made disk.old) (D.made disk.old + 4) }

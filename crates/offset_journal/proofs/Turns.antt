@@ -3,7 +3,8 @@ use Rattle.std.proofs.Common.{◌≡◌, ℕ, ◌+◌, ◌<◌, ◌≤◌, List,
 use Rattle.std.proofs.lemmas.Bool.Decides.{nat_tests}
 use Rattle.std.proofs.lemmas.Nat.{from_be_bytes-to_be_bytes_8}
 use Rattle.gate_journal.specs.Gate.{spans, StandsFor, IsOldOrNew}
-use Rattle.offset_journal.specs.Offsets.{offset_record, offset_in, is_next, last_offset, kept_offset, of_records, Keeps, KeepsOr}
+use Rattle.gate_journal.specs.Opening.{IsOpened}
+use Rattle.offset_journal.specs.Offsets.{offset_record, offset_in, is_next, last_offset, kept_offset, of_records, Keeps, KeepsOr, KeepsAsLeft}
 
 pub record Next (rs : List (List ℕ)) (last place i : ℕ) : Type 0 where
   pub so_far : kept_offset rs ≡ last_offset last place (drop i rs)
@@ -55,3 +56,7 @@ keeps_of rs o c stands is = ap of_records stands ∙ is
 pub keeps_or : (rs : List (List ℕ)) (frame : List ℕ) (o to : ℕ) (c : List ℕ) → kept_offset rs ≡ Ok o → kept_offset (rs ++ frame ∷ []) ≡ Ok to → IsOldOrNew rs frame c → KeepsOr o to c
 keeps_or rs frame o to c old new (inl stands) = inl (keeps_of rs o c stands old)
 keeps_or rs frame o to c old new (inr stands) = inr (keeps_of (rs ++ frame ∷ []) to c stands new)
+
+-- and an opening
+pub keeps_as_left : (image : List ℕ → Type 0) (c : List ℕ) → IsOpened image c → KeepsAsLeft image c
+keeps_as_left image c opened = (opened.0, opened.1, ap of_records opened.2)
