@@ -1,0 +1,4 @@
+pub mod Read
+pub mod Records
+pub mod Disks
+pub mod Joining
