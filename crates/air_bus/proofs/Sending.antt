@@ -1,5 +1,5 @@
 -- What the packets of an end do to the inboxes.
-use Rattle.std.proofs.Common.{◌≡◌, ℕ, suc, zero, ◌+◌, ◌-◌, ◌<◌, ◌==◌, Bool, true, false, if◌then◌else◌, List, [], ◌∷◌, length, get_or, set, take, drop, fold, refl, sym, ap, ◌∙◌, subst, arith, get_or-set_other, get_or-set_same, eq-eqb, ne_eqb}
+use Rattle.std.proofs.Common.{◌≡◌, ℕ, suc, zero, ◌+◌, ◌-◌, ◌<◌, ◌≤◌, ◌==◌, Bool, true, false, if◌then◌else◌, List, [], ◌∷◌, length, get_or, set, take, drop, fold, refl, sym, ap, ◌∙◌, subst, arith, get_or-set_other, get_or-set_same, eq-eqb, ne_eqb}
 use Rattle.std.specs.Prelude.{nat_lt}
 use Rattle.std.proofs.lemmas.Bool.{lt-ltb}
 use Rattle.std.proofs.lemmas.List.{get_or_read, length-set}
@@ -47,28 +47,40 @@ module _ (plan : PlanView) (kinds : List Kind) where
   turn_same : (olds news : List Inbox) (f g : ℕ → Received → Received) → ((n : ℕ) (r : Received) → f n r ≡ g n r) → AllTurn olds news f → AllTurn olds news g
   turn_same olds news f g same all = λ n d below nodes r k. subst (Keeps nodes (get_or news n d)) (same n r) (all n d below nodes r k)
 
-  -- a loop's step: the packet at i goes to its receiver's inbox
-  pub step_more : (from : ℕ) (is_kept : Bool) (olds mids : List Inbox) (at : ℕ) (p : ℕ × List ℕ) (x new : Inbox) (ps : List (ℕ × List ℕ)) (i : ℕ)
-      → i < length ps → p ≡ get_or ps i p → at ≡ p.0 → length mids ≡ length olds → p.0 < length mids → x ≡ get_or mids at x → Turns x new (puts_one plan kinds p.0 from p.1 is_kept)
-      → AllTurn olds mids (λ n r. fold (one_packet plan kinds n from is_kept) r (take i ps)) → AllTurn olds (set mids at new) (λ n r. fold (one_packet plan kinds n from is_kept) r (take (i + 1) ps))
-  step_more from is_kept olds mids at p x new ps i inside is here same below read turn all =
-      turn_same olds (set mids at new)
+  -- one packet to a node's inbox
+  pub turn_one : (from : ℕ) (is_kept : Bool) (olds : List Inbox) (at : ℕ) (p : ℕ × List ℕ) (x new : Inbox) → at ≡ p.0 → at < length olds → x ≡ get_or olds at x → Turns x new (puts_one plan kinds p.0 from p.1 is_kept)
+      → AllTurn olds (set olds at new) (λ n r. one_packet plan kinds n from is_kept r p)
+  turn_one from is_kept olds at p x new here below read turn = turn_step from is_kept olds olds at p.0 p.1 x new (λ n r. r) here refl (omega (arith, below, here)) read turn (λ n d inside nodes r k. k)
+
+  -- and one to a number that no node has
+  pub turn_none : (from : ℕ) (is_kept : Bool) (olds : List Inbox) (p : ℕ × List ℕ) → length olds ≤ p.0 → AllTurn olds olds (λ n r. one_packet plan kinds n from is_kept r p)
+  turn_none from is_kept olds p past = λ n d below nodes r k.
+      subst (Keeps nodes (get_or olds n d)) (ap (λ b. if b then puts_one plan kinds n from p.1 is_kept r else r) (sym (ne_eqb p.0 n (λ e. omega (arith, past, below, e))))) k
+
+  -- a loop's step: the packet at i goes where it goes
+  pub step_more : (from : ℕ) (is_kept : Bool) (olds mids news : List Inbox) (p : ℕ × List ℕ) (ps : List (ℕ × List ℕ)) (i : ℕ)
+      → i < length ps → p ≡ get_or ps i p → length mids ≡ length olds → AllTurn mids news (λ n r. one_packet plan kinds n from is_kept r p)
+      → AllTurn olds mids (λ n r. fold (one_packet plan kinds n from is_kept) r (take i ps)) → AllTurn olds news (λ n r. fold (one_packet plan kinds n from is_kept) r (take (i + 1) ps))
+  step_more from is_kept olds mids news p ps i inside is same step all =
+      turn_same olds news
       (λ n r. one_packet plan kinds n from is_kept (fold (one_packet plan kinds n from is_kept) r (take i ps)) p)
       (λ n r. fold (one_packet plan kinds n from is_kept) r (take (i + 1) ps))
       (λ n r. ap (one_packet plan kinds n from is_kept (fold (one_packet plan kinds n from is_kept) r (take i ps))) is ∙ sym (fold_more (one_packet plan kinds n from is_kept) r ps i p inside))
-      (turn_step from is_kept olds mids at p.0 p.1 x new (λ n r. fold (one_packet plan kinds n from is_kept) r (take i ps)) here same below read turn all)
+      (λ n d below nodes r k. step n d (omega (arith, below, same)) nodes (fold (one_packet plan kinds n from is_kept) r (take i ps)) (all n d below nodes r k))
 
 -- a packet that found no room leaves all as it was
-pub turn_back : (olds mids : List Inbox) (at : ℕ) (x new : Inbox) (f : ℕ → Received → Received) → at < length mids → length mids ≡ length olds → x ≡ get_or mids at x → Turns x new (λ r. r)
-    → AllTurn olds mids f → AllTurn olds (set mids at new) f
-turn_back olds mids at x new f inside same read turn all = λ n d below nodes r k.
-    let before : Keeps nodes (get_or mids n d) (f n r) = all n d below nodes r k in
+pub turn_back : (olds mids news : List Inbox) (f : ℕ → Received → Received) → length mids ≡ length olds → AllTurn mids news (λ n r. r) → AllTurn olds mids f → AllTurn olds news f
+turn_back olds mids news f same back all = λ n d below nodes r k. back n d (omega (arith, below, same)) nodes (f n r) (all n d below nodes r k)
+
+-- one inbox that turned into itself
+pub turn_still : (olds : List Inbox) (at : ℕ) (x new : Inbox) → at < length olds → x ≡ get_or olds at x → Turns x new (λ r. r) → AllTurn olds (set olds at new) (λ n r. r)
+turn_still olds at x new inside read turn = λ n d below nodes r k.
     dite (ℕ_discrete n at)
     (λ is.
-    let old : Keeps nodes x (f n r) = subst (λ i. Keeps nodes i (f n r)) (ap (λ m. get_or mids m d) is ∙ sym (get_or_read mids at x inside read d)) before in
-    let news : get_or (set mids at new) n d ≡ new = ap (λ m. get_or (set mids at new) m d) is ∙ get_or-set_same mids at new d inside in
-    subst (λ i. Keeps nodes i (f n r)) (sym news) (turn nodes (f n r) old))
-    (λ other. subst (λ i. Keeps nodes i (f n r)) (sym (get_or-set_other mids at n new d other)) before)
+    let old : Keeps nodes x r = subst (λ i. Keeps nodes i r) (ap (λ m. get_or olds m d) is ∙ sym (get_or_read olds at x inside read d)) k in
+    let news : get_or (set olds at new) n d ≡ new = ap (λ m. get_or (set olds at new) m d) is ∙ get_or-set_same olds at new d inside in
+    subst (λ i. Keeps nodes i r) (sym news) (turn nodes r old))
+    (λ other. subst (λ i. Keeps nodes i r) (sym (get_or-set_other olds at n new d other)) k)
 
 -- one inbox turns
 pub turn_at : (olds : List Inbox) (at : ℕ) (x new : Inbox) (f : Received → Received) → at < length olds → x ≡ get_or olds at x → Turns x new f

@@ -1,6 +1,5 @@
 //! The history of a run, and what waits between its nodes.
 ghost use Rattle.std.specs.Prelude.{◌≡◌, ◌≢◌, ℕ, ◌+◌, ◌<◌, ◌≤◌, ◌^◌, ◌↔◌, [], ◌∷◌, ◌++◌, length, IfOk, OnErr, IsTrue, MatchOption};
-ghost use Rattle.std.specs.List.{All};
 ghost use Rattle.air_bus.specs.declared.entry.Entry.TheVariants.{Begin, End, Stop};
 ghost use Rattle.air_bus.specs.declared.entry.Phase.TheVariants.{Busy};
 ghost use Rattle.air_bus.specs.History.{phase, input_of, adds, IsQuiet, IsAired};
@@ -122,15 +121,14 @@ impl Air {
     }
 
     /// Closes the open turn of the node with the note that it wrote, and sends its packets, in order. What becomes of each
-    /// is the plan's fate of its number among the packets of its link; none goes to a dead replica. From the first packet
-    /// on for which an inbox can't grow they are lost, and the entry tells the number of those before it; they count in
-    /// their links all the same.
+    /// is the plan's fate of its number among the packets of its link; none goes to a dead replica, or to a number that no
+    /// node has. From the first packet on for which an inbox can't grow they are lost, and the entry tells the number of
+    /// those before it; they count in their links all the same.
     ///
     /// The history needs no memory. A packet costs O(log n) in an inbox of n, and the bytes of none are copied.
     pub fn end(&mut self, node: u16, note: Option<Payload>, packets: Packets)
         requires node { node < length self.old.kinds }
         requires busy { phase node self.old.history ≡ Busy }
-        requires receivers { All (λ p. p.0 < length self.old.kinds) packets }
         ensures entry { (kept : ℕ) × (kept ≤ length packets) × (self.new ≡ adds self.old (End node note packets kept)) }
         ensures short { length self.new.history < 2 ^ 63 }
     {

@@ -161,7 +161,6 @@ impl Bus {
     pub fn end<R: Wait>(&self, rt: &R, seat: &mut Seat, note: Option<Payload>, packets: Packets)
         requires bus { seat.old.bus ≡ self.now }
         requires busy { MatchOption seat.old.number ⊥ (λ n. phase n seat.old.mine ≡ Busy) }
-        requires receivers { All (λ p. p.0 < count seat.old.bus.base) packets }
         ensures kept { (seat.new.bus ≡ seat.old.bus) × (seat.new.number ≡ seat.old.number) }
         ensures adds { IfSome seat.old.number (λ n. (kept : ℕ) × (kept ≤ length packets) × Adds seat.old (End n note packets kept) seat.new) }
     {
@@ -306,7 +305,6 @@ impl Bus {
         requires table { place.old.table_id ≡ self.now.table }
         requires hand { place.old.me.1 ≡ (0, flown place.old.me.0.base place.old.me.0.seen) ∷ [] }
         requires node { (node < count place.old.me.0.base) × (phase node place.old.me.0.seen ≡ Busy) }
-        requires receivers { All (λ p. p.0 < count place.old.me.0.base) packets }
         ensures table { place.new.table_id ≡ place.old.table_id }
         ensures view { place.new.me.0 ≡ place.old.me.0 }
         ensures hand { place.new.me.1 ≡ (0, flown place.old.me.0.base (in_hand place.new.me.1)) ∷ [] }

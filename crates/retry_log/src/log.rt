@@ -39,6 +39,7 @@ impl<D: Disk> RetryLog<D> {
     ghost use Rattle.gate_journal.specs.Disk.{HasRoom};
     ghost use Rattle.gate_journal.specs.Gate.{records, gate_rule, StandsFor, IsOldOrNew};
     ghost use Rattle.gate_journal.specs.Opening.{IsOpened};
+    ghost use Rattle.gate_journal.specs.Growth.{Continues};
     ghost use Rattle.indexmap.specs.IndexSet.{spare, IsUnique};
     ghost use Rattle.retry_log.specs.declared.changing.Change.TheVariants.{Park, Settle};
     ghost use Rattle.retry_log.specs.Pending.{record_of, is_among, Keeps, KeepsOr, KeepsAsLeft, IsLeft, IsRefused, IsRefusedAgain};
@@ -51,6 +52,10 @@ impl<D: Disk> RetryLog<D> {
         ensures ok_any_moment { IsTrue D.tells → IfOk result (λ e. Throughout D.image D.since disk e.journal.disk (IsOpened (D.image disk))) }
         ensures err { IfErr result (λ e. IsRefused D.tells (D.seen disk) (D.faults disk) (D.faults e.1) e.0) }
         ensures err_any_moment { IsTrue D.tells → IfErr result (λ e. Throughout D.image D.since disk e.1 (IsOpened (D.image disk))) }
+        ensures ok_grows { IsTrue D.tells → IfOk result (λ e. Throughout D.image D.since disk e.journal.disk (Continues (D.image disk))) }
+        ensures err_grows { IsTrue D.tells → IfErr result (λ e. Throughout D.image D.since disk e.1 (Continues (D.image disk))) }
+        ensures ok_count { IfOk result (λ e. D.faults disk ≤ D.faults e.journal.disk) }
+        ensures err_count { IfErr result (λ e. D.faults disk ≤ D.faults e.1) }
     {
         let frame = match Frame::new(alloc, &record_bytes_of(Change::Park(0))) {
             Ok(frame) => frame,
@@ -85,6 +90,7 @@ impl<D: Disk> RetryLog<D> {
         ensures state { self.new.journal.state ≡ self.old.journal.state }
         ensures seen { IsTrue D.tells → D.seen self.new.journal.disk ≡ D.seen self.old.journal.disk }
         ensures any_moment { IsTrue D.tells → Throughout D.image D.since self.old.journal.disk self.new.journal.disk (D.image self.old.journal.disk) }
+        ensures grows { IsTrue D.tells → Throughout D.image D.since self.old.journal.disk self.new.journal.disk (Continues (D.image self.old.journal.disk)) }
         ensures count { D.faults self.new.journal.disk ≡ D.faults self.old.journal.disk }
     {
         self.pending.reserve(1)?;
@@ -102,6 +108,7 @@ impl<D: Disk> RetryLog<D> {
         // At every moment since the call began, each image stands for the old records, or for them and the new one.
         ensures any_moment { IsTrue D.tells → self.old.journal.state ≡ Ready → Throughout D.image D.since self.old.journal.disk self.new.journal.disk (IsOldOrNew (records (D.seen self.old.journal.disk)) (record_of (Park position))) }
         ensures keeps { IsTrue D.tells → self.old.journal.state ≡ Ready → Throughout D.image D.since self.old.journal.disk self.new.journal.disk (KeepsOr self.old.pending.keys (self.old.pending.keys ++ position ∷ [])) }
+        ensures grows { IsTrue D.tells → self.old.journal.state ≡ Ready → Throughout D.image D.since self.old.journal.disk self.new.journal.disk (Continues (D.image self.old.journal.disk)) }
         ensures ready { OnOk result ((self.old.journal.state ≡ Ready) × (self.new.journal.state ≡ Ready)) }
         ensures appended { IsTrue D.tells → OnOk result (records (D.seen self.new.journal.disk) ≡ records (D.seen self.old.journal.disk) ++ record_of (Park position) ∷ []) }
         ensures durable { IsTrue D.tells → OnOk result ((c : List ℕ) → D.image self.new.journal.disk c → StandsFor (records (D.seen self.old.journal.disk) ++ record_of (Park position) ∷ []) c) }
@@ -138,6 +145,7 @@ impl<D: Disk> RetryLog<D> {
         // At every moment since the call began, each image stands for the old records, or for them and the new one.
         ensures any_moment { IsTrue D.tells → self.old.journal.state ≡ Ready → Throughout D.image D.since self.old.journal.disk self.new.journal.disk (IsOldOrNew (records (D.seen self.old.journal.disk)) (record_of (Settle position))) }
         ensures keeps { IsTrue D.tells → self.old.journal.state ≡ Ready → Throughout D.image D.since self.old.journal.disk self.new.journal.disk (KeepsOr self.old.pending.keys (remove_key (nat_eq position) self.old.pending.keys)) }
+        ensures grows { IsTrue D.tells → self.old.journal.state ≡ Ready → Throughout D.image D.since self.old.journal.disk self.new.journal.disk (Continues (D.image self.old.journal.disk)) }
         ensures ready { OnOk result ((self.old.journal.state ≡ Ready) × (self.new.journal.state ≡ Ready)) }
         ensures appended { IsTrue D.tells → OnOk result (records (D.seen self.new.journal.disk) ≡ records (D.seen self.old.journal.disk) ++ record_of (Settle position) ∷ []) }
         ensures durable { IsTrue D.tells → OnOk result ((c : List ℕ) → D.image self.new.journal.disk c → StandsFor (records (D.seen self.old.journal.disk) ++ record_of (Settle position) ∷ []) c) }
@@ -172,6 +180,7 @@ impl<D: Disk> RetryLog<D> {
         ensures broken { OnErr result (self.new.journal.state ≡ Broken) }
         ensures err { IfErr result (λ e. IsRefusedAgain D.tells (D.image self.old.journal.disk) (D.faults self.old.journal.disk) (D.faults self.new.journal.disk) e) }
         ensures any_moment { IsTrue D.tells → Throughout D.image D.since self.old.journal.disk self.new.journal.disk (KeepsAsLeft (D.image self.old.journal.disk)) }
+        ensures grows { IsTrue D.tells → Throughout D.image D.since self.old.journal.disk self.new.journal.disk (Continues (D.image self.old.journal.disk)) }
         ensures count { D.faults self.old.journal.disk ≤ D.faults self.new.journal.disk }
     {
         let records = self.journal.reopen(alloc)?;

@@ -1,7 +1,7 @@
-use Rattle.std.proofs.Common.{Ok, Err, refl, sym, subst}
+use Rattle.std.proofs.Common.{Ok, Err, sym, subst}
 use Rattle.std.specs.Prelude.{Result, IfOk}
 use Rattle.air_bus.specs.Inboxes.{Keeps}
-use Rattle.air_bus.proofs.Sending.{turn_back}
+use Rattle.air_bus.proofs.Sending.{turn_still}
 use Rattle.air_bus.proofs.nodes.choose.Goals as goal
 
 if_ok_more : {T E : Type 0} (r : Result T E) (P Q : T → Type 0) → ((v : T) → P v → Q v) → IfOk r P → IfOk r Q
@@ -14,5 +14,4 @@ returns-clause-answer c = if_ok_more c.choose.result _ _
     c.choose.ensures.answer
 
 pub returns-clause-same : goal.returns-clause-same
-returns-clause-same c = turn_back c.args.inboxes.now.items c.args.inboxes.now.items c.args.at c.index_mut-inbox.result.now c.choose.new.self (λ n r. r) c.requires refl c.index_mut-inbox.ensures.value c.choose.ensures.same
-    (λ n d below nodes r k. k)
+returns-clause-same c = turn_still c.args.inboxes.now.items c.args.at c.index_mut-inbox.result.now c.choose.new.self c.requires c.index_mut-inbox.ensures.value c.choose.ensures.same
