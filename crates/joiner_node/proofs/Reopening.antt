@@ -1,10 +1,12 @@
 -- What a joiner's disks hold after a stop.
 use Rattle.std.proofs.Common.{◌≡◌, ◌⊎◌, inl, inr, ⊎_elim, ℕ, suc, ◌+◌, Bool, true, false, not, ◌&&◌, ◌==◌, List, [], ◌∷◌, ◌++◌, length, map, Option, Some, None, refl, sym, ap, ◌∙◌, subst, arith, length-append}
-use Rattle.std.specs.Prelude.{All, Result, Ok, Err, IfOk, OnOk}
+use Rattle.std.specs.Prelude.{All, IsTrue, Result, Ok, Err, IfOk, OnOk}
 use Rattle.std.proofs.lemmas.Bool.Decides.{nat_tests}
 use Rattle.std.proofs.lemmas.List.Elements.{All-head, All-tail}
 use Rattle.gate_journal.specs.Gate.{gate_rule, StandsFor}
 use Rattle.gate_journal.specs.Opening.{IsOpened}
+use Rattle.gate_journal.specs.declared.reading.JournalFault.{JournalFault}
+use Rattle.gate_journal.specs.declared.reading.JournalFault.TheVariants.{Damaged, Disk, Memory}
 use Rattle.epoch_journal.specs.Epochs.{epoch_of}
 use Rattle.epoch_journal.specs.Epochs as epochs
 use Rattle.output_log.specs.declared.pair.PairRec.{PairRec}
@@ -13,7 +15,7 @@ use Rattle.output_log.specs.Pairs as pairs
 use Rattle.joiner_core.specs.Joiner.{JoinerKept}
 use Rattle.joiner_core.specs.declared.turn.JoinerNote.{JoinerNote}
 use Rattle.joiner_core.specs.declared.turn.JoinerNote.TheVariants as notes
-use Rattle.joiner_node.specs.Disks.{EpochOr, PairsOr, MayHave, Holds, IsNext, with_note, bytes_of, InDoubt, has_more}
+use Rattle.joiner_node.specs.Disks.{EpochOr, PairsOr, MayHave, Holds, IsNext, with_note, bytes_of, InDoubt, has_more, IsUndamaged}
 use Rattle.joiner_node.specs.declared.disks.Doubt.{Doubt}
 
 -- ---- the images of a disk that is read again
@@ -111,3 +113,38 @@ holds_read e ps epoch_image pairs_image k epoch_is pairs_are epoch_durable pairs
     pairs_or = λ c here. inl (subst (λ (xs : List PairRec). pairs.Keeps xs c) pairs_are (pairs_durable c here));
   };
 }
+
+-- ---- a disk of which each image has such records isn't damaged
+
+no_epoch : (e at : ℕ) → epoch_ok e ≡ Err at → ⊥
+no_epoch e at is = (cc)
+
+pub epochs_undamaged : (k m : JoinerKept) (image : List ℕ → Type 0) (tells : Bool) (old new : ℕ) (fault : JournalFault) → IsTrue tells → ((c : List ℕ) → image c → EpochOr k m c) → epochs.IsRefusedAgain tells image old new fault → IsUndamaged fault
+epochs_undamaged k m image tells old new (Damaged at) told or err =
+    let bad = err told in
+    ⊎_elim (λ keeps. no_epoch k.epoch at (sym keeps ∙ bad.2)) (λ keeps. no_epoch m.epoch at (sym keeps ∙ bad.2)) (or bad.0 bad.1)
+epochs_undamaged k m image tells old new Disk told or err = tt
+epochs_undamaged k m image tells old new Memory told or err = tt
+
+no_records : (rs : List (List ℕ)) (at : ℕ) → ok_of rs ≡ Err at → ⊥
+no_records rs at is = (cc)
+
+-- each record of pairs is a pair's
+not_other : (ps qs : List PairRec) (other : List ℕ) (rest : List (List ℕ)) → All IsPair ps → pairs.IsOther other → map record_of ps ≡ map record_of qs ++ other ∷ rest → ⊥
+not_other [] [] other rest all is e = absurd (cc e)
+not_other (p ∷ ps) [] other rest all is e = is p (All-head IsPair p ps all) (sym (ap head_of e))
+not_other [] (q ∷ qs) other rest all is e = absurd (cc e)
+not_other (p ∷ ps) (q ∷ qs) other rest all is e = not_other ps qs other rest (All-tail IsPair p ps all) is (ap tail_of e)
+
+no_damage : (ps : List PairRec) (c : List ℕ) (at : ℕ) → pairs.Keeps ps c → pairs.IsDamagedAt c at → ⊥
+no_damage ps c at keeps damaged =
+    ⊎_elim (λ bad. no_records (map record_of ps) at (sym keeps.1 ∙ bad))
+    (λ other. let at_ = other.2 in not_other ps at_.pairs at_.other at_.rest keeps.0 at_.is_other (same_records (map record_of ps) other.0 (sym keeps.1 ∙ other.1) ∙ at_.parts))
+    damaged
+
+pub pairs_undamaged : (k m : JoinerKept) (image : List ℕ → Type 0) (tells : Bool) (old new : ℕ) (fault : JournalFault) → IsTrue tells → ((c : List ℕ) → image c → PairsOr k m c) → pairs.IsRefusedAgain tells image old new fault → IsUndamaged fault
+pairs_undamaged k m image tells old new (Damaged at) told or err =
+    let bad = err told in
+    ⊎_elim (λ keeps. no_damage k.pairs bad.0 at keeps bad.2) (λ keeps. no_damage m.pairs bad.0 at keeps bad.2) (or bad.0 bad.1)
+pairs_undamaged k m image tells old new Disk told or err = tt
+pairs_undamaged k m image tells old new Memory told or err = tt

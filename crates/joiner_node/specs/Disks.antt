@@ -1,6 +1,8 @@
 -- A joiner's two disks: its epochs are on one of them, and the pairs that it wrote on the other.
 use Rattle.std.specs.Prelude.{◌≡◌, ◌⊎◌, ℕ, suc, ◌<◌, Bool, not, ◌&&◌, ◌==◌, List, length, Option, Some, None, option_map, ⊤}
 use Rattle.gate_journal.specs.Disk.{HasRoom}
+use Rattle.gate_journal.specs.declared.reading.JournalFault.{JournalFault}
+use Rattle.gate_journal.specs.declared.reading.JournalFault.TheVariants.{Damaged, Disk, Memory}
 use Rattle.epoch_journal.specs.Epochs.{KeepsOr}
 use Rattle.epoch_journal.specs.Epochs as epochs
 use Rattle.output_log.specs.declared.pair.PairRec.{PairRec}
@@ -92,3 +94,9 @@ abbrev pub IsRoomFor : Option Record → Room → ℕ → Type 0
 IsRoomFor None r used = ⊤
 IsRoomFor (Some (written.Epoch b)) r used = HasRoom r.epoch_calls r.epoch_bytes 5
 IsRoomFor (Some (written.Pair f p b)) r used = HasRoom r.pair_calls r.pair_bytes longest × (used < r.places)
+
+-- no damage was found
+abbrev pub IsUndamaged : JournalFault → Type 0
+IsUndamaged (Damaged at) = ⊥
+IsUndamaged Disk = ⊤
+IsUndamaged Memory = ⊤

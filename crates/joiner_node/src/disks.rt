@@ -1,6 +1,8 @@
 // A joiner's two disks.
 ghost use Rattle.std.specs.Prelude.{◌≡◌, None};
 ghost use Rattle.gate_journal.specs.declared.journal.JournalState.TheVariants.{Ready};
+ghost use Rattle.site_node.specs.Faults.{IsOfRestart, IsWhole};
+ghost use Rattle.joiner_node.specs.Disks.{IsUndamaged};
 
 use crate::records::Record;
 use air_bus::Payload;
@@ -34,12 +36,14 @@ pub(crate) struct Disks<D: Disk> {
 }
 
 impl<D: Disk> Disks<D> {
-    ghost use Rattle.std.specs.Prelude.{◌≡◌, ◌+◌, ◌<◌, ◌≤◌, ◌⊎◌, ◌++◌, [], ◌∷◌, true, false, None, Some, Option, is_some, option_map, vec_len, vec_capacity, length, IsTrue, IfOk, IfErr, OnOk, OnErr, IsErrOf};
+    ghost use Rattle.std.specs.Prelude.{◌≡◌, ℕ, List, ◌+◌, ◌<◌, ◌≤◌, ◌⊎◌, ◌++◌, [], ◌∷◌, true, false, None, Some, Option, is_some, option_map, vec_len, vec_capacity, length, IsTrue, IfOk, IfErr, OnOk, OnErr, IsErrOf};
     ghost use Rattle.outside.specs.Disk.{Throughout};
     ghost use Rattle.outside.specs.Faults.{Rose};
     ghost use Rattle.gate_journal.specs.declared.journal.JournalState.TheVariants.{Ready};
     ghost use Rattle.gate_journal.specs.Disk.{HasRoom};
     ghost use Rattle.gate_journal.specs.Opening.{IsOpened};
+    ghost use Rattle.gate_journal.specs.Growth.{Continues};
+    ghost use Rattle.site_node.specs.Faults.{IsOfRestart, IsWhole};
     ghost use Rattle.epoch_journal.specs.Epochs as epochs;
     ghost use Rattle.epoch_journal.specs.Epochs.{KeepsOr};
     ghost use Rattle.output_log.specs.Pairs as pairs;
@@ -122,6 +126,10 @@ impl<D: Disk> Disks<D> {
         ensures doubts { (k : JoinerKept) (n : Option JoinerNote) → writes ≡ recorded_as n → IsNext n k → self.old.epochs.epoch ≡ k.epoch → self.old.log.pairs.items ≡ k.pairs → OnErr result (AreInDoubt self.new.in_doubt n k) }
         ensures epoch_moments { IsTrue D.tells → (k : JoinerKept) (n : Option JoinerNote) → writes ≡ recorded_as n → IsNext n k → Holds self.old.epochs.epoch self.old.log.pairs.items (D.image self.old.epochs.journal.disk) (D.image self.old.log.journal.disk) k → Throughout D.image D.since self.old.epochs.journal.disk self.new.epochs.journal.disk (EpochOr k (with_note n k)) }
         ensures pair_moments { IsTrue D.tells → (k : JoinerKept) (n : Option JoinerNote) → writes ≡ recorded_as n → IsNext n k → Holds self.old.epochs.epoch self.old.log.pairs.items (D.image self.old.epochs.journal.disk) (D.image self.old.log.journal.disk) k → Throughout D.image D.since self.old.log.journal.disk self.new.log.journal.disk (PairsOr k (with_note n k)) }
+        ensures grows { IsTrue D.tells → ((c : List ℕ) → D.image self.new.epochs.journal.disk c → Continues (D.image self.old.epochs.journal.disk) c) × ((c : List ℕ) → D.image self.new.log.journal.disk c → Continues (D.image self.old.log.journal.disk) c) }
+        ensures fault { OnErr result (Rose (D.faults self.old.epochs.journal.disk + D.faults self.old.log.journal.disk) (D.faults self.new.epochs.journal.disk + D.faults self.new.log.journal.disk)) }
+        ensures epoch_count { D.faults self.old.epochs.journal.disk ≤ D.faults self.new.epochs.journal.disk }
+        ensures pair_count { D.faults self.old.log.journal.disk ≤ D.faults self.new.log.journal.disk }
     {
         match writes {
             None => Ok(None),
@@ -162,6 +170,8 @@ impl<D: Disk> Disks<D> {
         ensures ready { OnOk result (self.new.epochs.journal.state ≡ Ready) }
         ensures moments { IsTrue D.tells → Throughout D.image D.since self.old.epochs.journal.disk self.new.epochs.journal.disk (KeepsOr self.old.epochs.epoch (self.old.epochs.epoch + 1)) }
         ensures fault { OnErr result (Rose (D.faults self.old.epochs.journal.disk) (D.faults self.new.epochs.journal.disk)) }
+        ensures grows { IsTrue D.tells → (c : List ℕ) → D.image self.new.epochs.journal.disk c → Continues (D.image self.old.epochs.journal.disk) c }
+        ensures count { D.faults self.old.epochs.journal.disk ≤ D.faults self.new.epochs.journal.disk }
     {
         let doubt = self.doubt(payload);
         match self.epochs.raise() {
@@ -188,6 +198,8 @@ impl<D: Disk> Disks<D> {
         ensures ready { OnOk result (self.new.log.journal.state ≡ Ready) }
         ensures moments { IsTrue D.tells → Throughout D.image D.since self.old.log.journal.disk self.new.log.journal.disk (pairs.KeepsOr self.old.log.pairs.items pair) }
         ensures fault { OnErr result (Rose (D.faults self.old.log.journal.disk) (D.faults self.new.log.journal.disk)) }
+        ensures grows { IsTrue D.tells → (c : List ℕ) → D.image self.new.log.journal.disk c → Continues (D.image self.old.log.journal.disk) c }
+        ensures count { D.faults self.old.log.journal.disk ≤ D.faults self.new.log.journal.disk }
     {
         let doubt = self.doubt(payload);
         match self.log.write(frame, pair) {
@@ -208,6 +220,12 @@ impl<D: Disk> Disks<D> {
         ensures found { IsTrue D.tells → (k : JoinerKept) (n : JoinerNote) → AreInDoubt self.old.in_doubt (Some n) k → MayHave k (with_note (Some n) k) (D.image self.old.epochs.journal.disk) (D.image self.old.log.journal.disk) → IfOk result (λ landed. IsFound landed n k self.new.epochs.epoch self.new.log.pairs.items (D.image self.new.epochs.journal.disk) (D.image self.new.log.journal.disk)) }
         ensures epoch_moments { IsTrue D.tells → (k m : JoinerKept) → MayHave k m (D.image self.old.epochs.journal.disk) (D.image self.old.log.journal.disk) → Throughout D.image D.since self.old.epochs.journal.disk self.new.epochs.journal.disk (EpochOr k m) }
         ensures pair_moments { IsTrue D.tells → (k m : JoinerKept) → MayHave k m (D.image self.old.epochs.journal.disk) (D.image self.old.log.journal.disk) → Throughout D.image D.since self.old.log.journal.disk self.new.log.journal.disk (PairsOr k m) }
+        ensures grows { IsTrue D.tells → ((c : List ℕ) → D.image self.new.epochs.journal.disk c → Continues (D.image self.old.epochs.journal.disk) c) × ((c : List ℕ) → D.image self.new.log.journal.disk c → Continues (D.image self.old.log.journal.disk) c) }
+        ensures kind { IfErr result IsOfRestart }
+        ensures whole { IsTrue D.tells → (k m : JoinerKept) → MayHave k m (D.image self.old.epochs.journal.disk) (D.image self.old.log.journal.disk) → IfErr result IsWhole }
+        ensures fault { IsErrOf result NodeFault.Stopped → Rose (D.faults self.old.epochs.journal.disk + D.faults self.old.log.journal.disk) (D.faults self.new.epochs.journal.disk + D.faults self.new.log.journal.disk) }
+        ensures epoch_count { D.faults self.old.epochs.journal.disk ≤ D.faults self.new.epochs.journal.disk }
+        ensures pair_count { D.faults self.old.log.journal.disk ≤ D.faults self.new.log.journal.disk }
     {
         laws::told_apart();
         self.reopen_epochs()?;
@@ -236,6 +254,11 @@ impl<D: Disk> Disks<D> {
         ensures ready { OnOk result (self.new.epochs.journal.state ≡ Ready) }
         ensures left { IsTrue D.tells → OnOk result (epochs.IsLeft (D.image self.old.epochs.journal.disk) self.new.epochs.epoch) }
         ensures moments { IsTrue D.tells → Throughout D.image D.since self.old.epochs.journal.disk self.new.epochs.journal.disk (epochs.KeepsAsLeft (D.image self.old.epochs.journal.disk)) }
+        ensures grows { IsTrue D.tells → (c : List ℕ) → D.image self.new.epochs.journal.disk c → Continues (D.image self.old.epochs.journal.disk) c }
+        ensures kind { IfErr result IsOfRestart }
+        ensures whole { IsTrue D.tells → (k m : JoinerKept) → ((c : List ℕ) → D.image self.old.epochs.journal.disk c → EpochOr k m c) → IfErr result IsWhole }
+        ensures fault { IsErrOf result NodeFault.Stopped → Rose (D.faults self.old.epochs.journal.disk) (D.faults self.new.epochs.journal.disk) }
+        ensures count { D.faults self.old.epochs.journal.disk ≤ D.faults self.new.epochs.journal.disk }
     {
         match self.epochs.reopen(self.alloc) {
             Ok(()) => Ok(()),
@@ -249,6 +272,11 @@ impl<D: Disk> Disks<D> {
         ensures ready { OnOk result (self.new.log.journal.state ≡ Ready) }
         ensures left { IsTrue D.tells → OnOk result (pairs.IsLeft (D.image self.old.log.journal.disk) self.new.log.pairs.items) }
         ensures moments { IsTrue D.tells → Throughout D.image D.since self.old.log.journal.disk self.new.log.journal.disk (IsOpened (D.image self.old.log.journal.disk)) }
+        ensures grows { IsTrue D.tells → (c : List ℕ) → D.image self.new.log.journal.disk c → Continues (D.image self.old.log.journal.disk) c }
+        ensures kind { IfErr result IsOfRestart }
+        ensures whole { IsTrue D.tells → (k m : JoinerKept) → ((c : List ℕ) → D.image self.old.log.journal.disk c → PairsOr k m c) → IfErr result IsWhole }
+        ensures fault { IsErrOf result NodeFault.Stopped → Rose (D.faults self.old.log.journal.disk) (D.faults self.new.log.journal.disk) }
+        ensures count { D.faults self.old.log.journal.disk ≤ D.faults self.new.log.journal.disk }
     {
         match self.log.reopen(self.alloc) {
             Ok(()) => Ok(()),
@@ -257,7 +285,12 @@ impl<D: Disk> Disks<D> {
     }
 }
 
-fn fault_of(disk: DiskName, fault: JournalFault) -> NodeFault {
+// The same for the joiner.
+fn fault_of(disk: DiskName, fault: JournalFault) -> NodeFault
+    ensures kind { IsOfRestart result }
+    ensures whole { IsUndamaged fault → IsWhole result }
+    ensures stopped { result ≡ NodeFault.Stopped → fault ≡ JournalFault.Disk }
+{
     match fault {
         JournalFault::Damaged { at } => NodeFault::Damaged { disk, at },
         JournalFault::Disk => NodeFault::Stopped,
