@@ -106,7 +106,7 @@ impl<D: Disk> EpochJournal<D> {
         // At every moment since the call began, each image stands for the old records, or for them and the next epoch's.
         ensures any_moment { IsTrue D.tells → self.old.journal.state ≡ Ready → Throughout D.image D.since self.old.journal.disk self.new.journal.disk (IsOldOrNew (records (D.seen self.old.journal.disk)) (epoch_record (self.old.epoch + 1))) }
         ensures keeps { IsTrue D.tells → self.old.journal.state ≡ Ready → Throughout D.image D.since self.old.journal.disk self.new.journal.disk (KeepsOr self.old.epoch (self.old.epoch + 1)) }
-        ensures grows { IsTrue D.tells → self.old.journal.state ≡ Ready → Throughout D.image D.since self.old.journal.disk self.new.journal.disk (Continues (D.image self.old.journal.disk)) }
+        ensures grows { IsTrue D.tells → Throughout D.image D.since self.old.journal.disk self.new.journal.disk (Continues (D.image self.old.journal.disk)) }
         ensures ready { OnOk result (self.new.journal.state ≡ Ready) }
         ensures appended { IsTrue D.tells → OnOk result (records (D.seen self.new.journal.disk) ≡ records (D.seen self.old.journal.disk) ++ epoch_record (self.old.epoch + 1) ∷ []) }
         ensures durable { IsTrue D.tells → OnOk result ((c : List ℕ) → D.image self.new.journal.disk c → StandsFor (records (D.seen self.old.journal.disk) ++ epoch_record (self.old.epoch + 1) ∷ []) c) }

@@ -145,7 +145,7 @@ impl<D: Disk> Journal<D> {
 
         // At every moment since the call began, each image stands for the old records, or for them and the new one.
         ensures any_moment { IsTrue D.tells → self.old.state ≡ Ready → Throughout D.image D.since self.old.disk self.new.disk (IsOldOrNew (records (D.seen self.old.disk)) frame.now) }
-        ensures grows { IsTrue D.tells → self.old.state ≡ Ready → Throughout D.image D.since self.old.disk self.new.disk (Continues (D.image self.old.disk)) }
+        ensures grows { IsTrue D.tells → Throughout D.image D.since self.old.disk self.new.disk (Continues (D.image self.old.disk)) }
 
         // At `Ok` each image stands for them and the new one.
         ensures appended { IsTrue D.tells → OnOk result (records (D.seen self.new.disk) ≡ records (D.seen self.old.disk) ++ frame.now ∷ []) }

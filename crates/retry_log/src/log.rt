@@ -108,7 +108,7 @@ impl<D: Disk> RetryLog<D> {
         // At every moment since the call began, each image stands for the old records, or for them and the new one.
         ensures any_moment { IsTrue D.tells → self.old.journal.state ≡ Ready → Throughout D.image D.since self.old.journal.disk self.new.journal.disk (IsOldOrNew (records (D.seen self.old.journal.disk)) (record_of (Park position))) }
         ensures keeps { IsTrue D.tells → self.old.journal.state ≡ Ready → Throughout D.image D.since self.old.journal.disk self.new.journal.disk (KeepsOr self.old.pending.keys (self.old.pending.keys ++ position ∷ [])) }
-        ensures grows { IsTrue D.tells → self.old.journal.state ≡ Ready → Throughout D.image D.since self.old.journal.disk self.new.journal.disk (Continues (D.image self.old.journal.disk)) }
+        ensures grows { IsTrue D.tells → Throughout D.image D.since self.old.journal.disk self.new.journal.disk (Continues (D.image self.old.journal.disk)) }
         ensures ready { OnOk result ((self.old.journal.state ≡ Ready) × (self.new.journal.state ≡ Ready)) }
         ensures appended { IsTrue D.tells → OnOk result (records (D.seen self.new.journal.disk) ≡ records (D.seen self.old.journal.disk) ++ record_of (Park position) ∷ []) }
         ensures durable { IsTrue D.tells → OnOk result ((c : List ℕ) → D.image self.new.journal.disk c → StandsFor (records (D.seen self.old.journal.disk) ++ record_of (Park position) ∷ []) c) }
@@ -145,7 +145,7 @@ impl<D: Disk> RetryLog<D> {
         // At every moment since the call began, each image stands for the old records, or for them and the new one.
         ensures any_moment { IsTrue D.tells → self.old.journal.state ≡ Ready → Throughout D.image D.since self.old.journal.disk self.new.journal.disk (IsOldOrNew (records (D.seen self.old.journal.disk)) (record_of (Settle position))) }
         ensures keeps { IsTrue D.tells → self.old.journal.state ≡ Ready → Throughout D.image D.since self.old.journal.disk self.new.journal.disk (KeepsOr self.old.pending.keys (remove_key (nat_eq position) self.old.pending.keys)) }
-        ensures grows { IsTrue D.tells → self.old.journal.state ≡ Ready → Throughout D.image D.since self.old.journal.disk self.new.journal.disk (Continues (D.image self.old.journal.disk)) }
+        ensures grows { IsTrue D.tells → Throughout D.image D.since self.old.journal.disk self.new.journal.disk (Continues (D.image self.old.journal.disk)) }
         ensures ready { OnOk result ((self.old.journal.state ≡ Ready) × (self.new.journal.state ≡ Ready)) }
         ensures appended { IsTrue D.tells → OnOk result (records (D.seen self.new.journal.disk) ≡ records (D.seen self.old.journal.disk) ++ record_of (Settle position) ∷ []) }
         ensures durable { IsTrue D.tells → OnOk result ((c : List ℕ) → D.image self.new.journal.disk c → StandsFor (records (D.seen self.old.journal.disk) ++ record_of (Settle position) ∷ []) c) }

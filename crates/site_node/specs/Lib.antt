@@ -2,3 +2,4 @@ pub mod Bytes
 pub mod States
 pub mod Paths
 pub mod Rosters
+pub mod Faults

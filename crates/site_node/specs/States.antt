@@ -1,5 +1,5 @@
 -- Where a node stands, by its own entries alone. Which bytes it was given stays open until its turn ends.
-use Rattle.std.specs.Prelude.{◌≡◌, ◌⊎◌, ℕ, ◌≤◌, List, [], ◌∷◌, length, Option, Some, None, ⊤}
+use Rattle.std.specs.Prelude.{◌≡◌, ◌⊎◌, ℕ, ◌≤◌, List, [], ◌∷◌, length, Bool, Option, Some, None, ⊤}
 use Rattle.packet_codec.specs.declared.packet.Packet.{Packet}
 use Rattle.packet_codec.specs.declared.node.Node.{Node}
 use Rattle.packet_codec.specs.declared.node.Input.{Input}
@@ -57,6 +57,10 @@ opens s b = record s { opened = Some b }
 abbrev pub closes : {K L : Type 0} → State K L → K → Option L → State K L
 closes s k live = record { setting = s.setting; kept = k; live = live; opened = None }
 
+-- what a node that is up answers: what f says of what it keeps and knows
+abbrev pub Says : {K L : Type 0} → (Setting → K → L → Bool) → State K L → Bool → Type 0
+Says f s b = (l : _) → s.live ≡ Some l → b ≡ f s.setting s.kept l
+
 module _ {K L : Type 0} (rows : Rows K L) where
   -- the row that applies; a node that is down starts
   abbrev pub row_of : Setting → K → Option L → Input → Out L
@@ -69,6 +73,10 @@ module _ {K L : Type 0} (rows : Rows K L) where
   -- what the records are once the row's note is written
   abbrev pub written : State K L → Input → K
   written s i = land rows.lands (row s i).note s.kept
+
+  -- what the disks may hold: the kept records, or those and the open turn's note
+  abbrev pub MayHold : State K L → K → Type 0
+  MayHold s k = (k ≡ s.kept) ⊎ ((b : Bytes) × (i : Input) × (s.opened ≡ Some b) × Reads s.setting b i × (k ≡ written s i))
 
   -- The turn is done: its note and its packets are the row's, and the node stands where the row says.
   pub record IsDone (s : State K L) (i : Input) (note : Option (List ℕ)) (ps : List (ℕ × List ℕ)) (t : State K L) : Type 0 where
