@@ -33,6 +33,7 @@ impl<D: Disk> OutputLog<D> {
     ghost use Rattle.gate_journal.specs.Disk.{HasRoom};
     ghost use Rattle.gate_journal.specs.Gate.{records, gate_rule, StandsFor, IsOldOrNew};
     ghost use Rattle.gate_journal.specs.Opening.{IsOpened};
+    ghost use Rattle.gate_journal.specs.Growth.{Continues};
     ghost use Rattle.output_log.specs.Pairs.{IsPair, record_of, longest, Keeps, KeepsOr, IsLeft, IsRefused, IsRefusedAgain};
 
     /// Opens what is on a disk, which is fresh or a log of pairs. Hands the disk back where it is refused.
@@ -43,6 +44,10 @@ impl<D: Disk> OutputLog<D> {
         ensures ok_any_moment { IsTrue D.tells → IfOk result (λ e. Throughout D.image D.since disk e.journal.disk (IsOpened (D.image disk))) }
         ensures err { IfErr result (λ e. IsRefused D.tells (D.seen disk) (D.faults disk) (D.faults e.1) e.0) }
         ensures err_any_moment { IsTrue D.tells → IfErr result (λ e. Throughout D.image D.since disk e.1 (IsOpened (D.image disk))) }
+        ensures ok_grows { IsTrue D.tells → IfOk result (λ e. Throughout D.image D.since disk e.journal.disk (Continues (D.image disk))) }
+        ensures err_grows { IsTrue D.tells → IfErr result (λ e. Throughout D.image D.since disk e.1 (Continues (D.image disk))) }
+        ensures ok_count { IfOk result (λ e. D.faults disk ≤ D.faults e.journal.disk) }
+        ensures err_count { IfErr result (λ e. D.faults disk ≤ D.faults e.1) }
     {
         match Journal::open(alloc, disk) {
             Ok((journal, records)) => match read_pairs(alloc, &records) {
@@ -69,6 +74,7 @@ impl<D: Disk> OutputLog<D> {
         ensures state { self.new.journal.state ≡ self.old.journal.state }
         ensures seen { IsTrue D.tells → D.seen self.new.journal.disk ≡ D.seen self.old.journal.disk }
         ensures any_moment { IsTrue D.tells → Throughout D.image D.since self.old.journal.disk self.new.journal.disk (D.image self.old.journal.disk) }
+        ensures grows { IsTrue D.tells → Throughout D.image D.since self.old.journal.disk self.new.journal.disk (Continues (D.image self.old.journal.disk)) }
         ensures count { D.faults self.new.journal.disk ≡ D.faults self.old.journal.disk }
     {
         self.pairs.reserve(1)?;
@@ -87,6 +93,7 @@ impl<D: Disk> OutputLog<D> {
         // At every moment since the call began, each image stands for the old records, or for them and the new one.
         ensures any_moment { IsTrue D.tells → self.old.journal.state ≡ Ready → Throughout D.image D.since self.old.journal.disk self.new.journal.disk (IsOldOrNew (records (D.seen self.old.journal.disk)) (record_of pair)) }
         ensures keeps { IsTrue D.tells → self.old.journal.state ≡ Ready → Throughout D.image D.since self.old.journal.disk self.new.journal.disk (KeepsOr self.old.pairs.items pair) }
+        ensures grows { IsTrue D.tells → Throughout D.image D.since self.old.journal.disk self.new.journal.disk (Continues (D.image self.old.journal.disk)) }
         ensures ready { OnOk result ((self.old.journal.state ≡ Ready) × (self.new.journal.state ≡ Ready)) }
         ensures appended { IsTrue D.tells → OnOk result (records (D.seen self.new.journal.disk) ≡ records (D.seen self.old.journal.disk) ++ record_of pair ∷ []) }
         ensures durable { IsTrue D.tells → OnOk result ((c : List ℕ) → D.image self.new.journal.disk c → StandsFor (records (D.seen self.old.journal.disk) ++ record_of pair ∷ []) c) }
@@ -119,6 +126,7 @@ impl<D: Disk> OutputLog<D> {
         ensures broken { OnErr result (self.new.journal.state ≡ Broken) }
         ensures err { IfErr result (λ e. IsRefusedAgain D.tells (D.image self.old.journal.disk) (D.faults self.old.journal.disk) (D.faults self.new.journal.disk) e) }
         ensures any_moment { IsTrue D.tells → Throughout D.image D.since self.old.journal.disk self.new.journal.disk (IsOpened (D.image self.old.journal.disk)) }
+        ensures grows { IsTrue D.tells → Throughout D.image D.since self.old.journal.disk self.new.journal.disk (Continues (D.image self.old.journal.disk)) }
         ensures count { D.faults self.old.journal.disk ≤ D.faults self.new.journal.disk }
     {
         let records = self.journal.reopen(alloc)?;
