@@ -2,3 +2,6 @@ pub mod Reading
 pub mod Disking
 pub mod Reopening
 pub mod Deciding
+pub mod Turning
+pub mod Spending
+pub mod Growing

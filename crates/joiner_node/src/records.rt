@@ -29,7 +29,7 @@ pub(crate) fn recorded(
     note: Option<JoinerNote>,
 ) -> Result<Option<Record>, AllocError>
     requires { IsWritten note }
-    ensures record { IsAbove note kept → IfOk result (λ writes. writes ≡ recorded_as note) }
+    ensures framed { IsAbove note kept → IfOk result (λ writes. writes ≡ recorded_as note) }
     ensures own { IfOk result IsOwn }
     ensures unspent { IfOk result (λ writes. IsUnspent writes kept) }
 {
@@ -43,8 +43,8 @@ pub(crate) fn recorded(
             Ok(Some(Record::Epoch(payload)))
         }
         Some(JoinerNote::Pair(pair)) => {
-            let record = with_frame(alloc, pair)?;
-            Ok(Some(record))
+            let framed = with_frame(alloc, pair)?;
+            Ok(Some(framed))
         }
     }
 }
@@ -53,13 +53,13 @@ fn epoch_payload(alloc: Global, epoch: u32) -> Result<Payload, AllocError>
     ensures { IfOk result (λ payload. payload ≡ epoch_record epoch) }
 {
     let bytes = epoch.to_be_bytes();
-    let record = [2, bytes[0], bytes[1], bytes[2], bytes[3]];
-    Payload::new(Vec::from_slice(alloc, &record)?)
+    let spelled = [2, bytes[0], bytes[1], bytes[2], bytes[3]];
+    Payload::new(Vec::from_slice(alloc, &spelled)?)
 }
 
 fn with_frame(alloc: Global, pair: PairRec) -> Result<Record, AllocError>
     requires { IsPair pair }
-    ensures { IfOk result (λ record. record ≡ pair_record pair) }
+    ensures { IfOk result (λ writes. writes ≡ pair_record pair) }
 {
     let frame = pair_frame(alloc, &pair.click, &pair.query, pair.token)?;
     let payload = frame_payload(alloc, &frame)?;
