@@ -10,7 +10,7 @@ use Rattle.packet_codec.specs.declared.node.Input.TheVariants.{Start, Own, Tick,
 use Rattle.turn_defs.specs.Setting.{Setting}
 use Rattle.turn_defs.specs.Turns.{Out}
 use Rattle.joiner_core.specs.Joiner.{JoinerKept, JoinerLive}
-use Rattle.joiner_core.specs.Standing.{Serves, Stands, Carries, Tells, IsReady, IsJoin, Answers, row}
+use Rattle.joiner_core.specs.Standing.{Serves, Stands, Carries, Tells, IsReady, Answers, row}
 use Rattle.joiner_core.specs.declared.input.Looked.{Looked}
 use Rattle.joiner_core.specs.declared.input.Looked.TheVariants.{Found, Lines}
 use Rattle.joiner_core.specs.declared.input.JoinerInput.{JoinerInput}
@@ -24,19 +24,6 @@ use Rattle.joiner_node.specs.Joining.{joiner_row, Knows, MayGet, GoesOn}
 pub tells_of : (g : Setting) (c : Click) (looked : Looked) → IsFirst g.queries c.query looked → Tells g c looked
 tells_of g c (Found q) is = is
 tells_of g c (Lines n) is = is
-
--- a packet that is taken apart no further is no Join
-pub not_join : (p : Packet) → ((position : ℕ) (c : Click) → p ≡ packet.Join position c → ⊥) → IsJoin p → ⊥
-not_join (packet.Join position c) other is = other position c refl
-not_join (packet.Joined position o) other is = is
-not_join (packet.Insert x) other is = is
-not_join (packet.Reply x a) other is = is
-not_join (packet.Prepare p b) other is = is
-not_join (packet.Promise p b prior) other is = is
-not_join (packet.Nack p b promised) other is = is
-not_join (packet.Accept p b v) other is = is
-not_join (packet.Accepted p b) other is = is
-not_join (packet.Chosen p v) other is = is
 
 module _ (core : JoinerCore) (g : Setting) (n : ℕ) (k : JoinerKept) where
   goes_on : (l : JoinerLive) (i j : Input) → i ≡ j → GoesOn core g n k l i → GoesOn core g n k l j

@@ -1,5 +1,4 @@
 pub mod Reading
-pub mod Disking
 pub mod Reopening
 pub mod Deciding
 pub mod Turning

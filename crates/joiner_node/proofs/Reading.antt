@@ -1,6 +1,6 @@
 -- Reading a log of queries line by line.
 use Rattle.std.proofs.Common.{◌≡◌, ◌≢◌, ℕ, ◌+◌, ◌≤◌, List, [], ◌∷◌, ◌++◌, length, map, take, drop, Option, Some, None, refl, sym, ap, ◌∙◌, subst, arith, append_assoc, length-append}
-use Rattle.std.specs.Prelude.{option_or}
+use Rattle.std.specs.Option.{option_or}
 use Rattle.std.specs.List.{AllByRecursion, filter_map, find}
 use Rattle.std.proofs.lemmas.List.{map-append, drop-drop, drop_at, take_all}
 use Rattle.std.proofs.lemmas.List.Folds.{find-append}
@@ -39,7 +39,7 @@ first_is log place lines qs id has =
     ∙ ap (λ (o : Option Query). option_or o (first has.others id)) (sym (found_is log place lines qs id has))
 
 -- nothing is read of a log of these queries
-pub starts : (log : List ℕ) (qs : List Query) → IsQueryLog log qs → HasRead log 0 [] qs
+starts : (log : List ℕ) (qs : List Query) → IsQueryLog log qs → HasRead log 0 [] qs
 starts log qs is = record {
   read = [];
   others = qs;
@@ -48,6 +48,10 @@ starts log qs is = record {
   each = is.0.each;
   behind_them = subst (λ (b : List ℕ). HasLines b (map query_line qs)) (sym (take_all limit log is.1)) is.0.lines;
 }
+
+pub starts_at : (log log' : List ℕ) (place : ℕ) (lines : List (Option Query)) (qs : List Query) → log' ≡ log → place ≡ 0 → lines ≡ [] → IsQueryLog log qs → HasRead log' place lines qs
+starts_at log log' place lines qs same at none is =
+    subst (λ (x : List ℕ). HasRead x place lines qs) (sym same) (subst (λ (n : ℕ). HasRead log n lines qs) (sym at) (subst (λ (ls : List (Option Query)). HasRead log 0 ls qs) (sym none) (starts log qs is)))
 
 -- what is found among the lines read is the first of all
 pub finds : (log : List ℕ) (place : ℕ) (lines : List (Option Query)) (qs : List Query) (id : EventId) (q : Query) → HasRead log place lines qs → found lines id ≡ Some q → first qs id ≡ Some q

@@ -15,7 +15,7 @@ use Rattle.output_log.specs.Pairs as pairs
 use Rattle.joiner_core.specs.Joiner.{JoinerKept}
 use Rattle.joiner_core.specs.declared.turn.JoinerNote.{JoinerNote}
 use Rattle.joiner_core.specs.declared.turn.JoinerNote.TheVariants as notes
-use Rattle.joiner_node.specs.Disks.{EpochOr, PairsOr, MayHave, Holds, IsNext, with_note, bytes_of, InDoubt, has_more, IsUndamaged}
+use Rattle.joiner_node.specs.Disks.{EpochOr, PairsOr, MayHave, Holds, IsNext, with_note, bytes_of, InDoubt, IsFound, has_more, IsUndamaged}
 use Rattle.joiner_node.specs.declared.disks.Doubt.{Doubt}
 
 -- ---- the images of a disk that is read again
@@ -113,6 +113,25 @@ holds_read e ps epoch_image pairs_image k epoch_is pairs_are epoch_durable pairs
     pairs_or = λ c here. inl (subst (λ (xs : List PairRec). pairs.Keeps xs c) pairs_are (pairs_durable c here));
   };
 }
+
+module _ (e : ℕ) (ps : List PairRec) (d : Doubt) (n : JoinerNote) (k : JoinerKept) (epoch_image pairs_image : List ℕ → Type 0) (told : Bool) (doubt : InDoubt d n k) (epoch : (e ≡ k.epoch) ⊎ (e ≡ (with_note (Some n) k).epoch)) (pair : (ps ≡ k.pairs) ⊎ (ps ≡ (with_note (Some n) k).pairs)) (more : told ≡ has_more e ps d)
+    (epoch_durable : (c : List ℕ) → epoch_image c → epochs.Keeps e c) (pairs_durable : (c : List ℕ) → pairs_image c → pairs.Keeps ps c) where
+  abbrev some_bytes : List ℕ → Option (List ℕ)
+  some_bytes b = Some b
+
+  -- the note landed
+  pub landed : told ≡ true → IsFound (Some d.payload) n k e ps epoch_image pairs_image
+  landed is_told =
+      ⊎_elim (λ old. let is = old.told in absurd (cc (is_told, more, is)))
+      (λ new. inr (ap some_bytes doubt.record_is, holds_read e ps epoch_image pairs_image (with_note (Some n) k) new.epoch_is new.pairs_are epoch_durable pairs_durable))
+      (reads_either e ps d n k doubt epoch pair)
+
+  -- nothing did
+  pub not_landed : told ≡ false → IsFound None n k e ps epoch_image pairs_image
+  not_landed not_told =
+      ⊎_elim (λ old. inl (refl, holds_read e ps epoch_image pairs_image k old.epoch_is old.pairs_are epoch_durable pairs_durable))
+      (λ new. let is = new.told in absurd (cc (not_told, more, is)))
+      (reads_either e ps d n k doubt epoch pair)
 
 -- ---- a disk of which each image has such records isn't damaged
 

@@ -25,12 +25,15 @@ use Rattle.site_node.specs.declared.kind.NodeFault.TheVariants as fault
 use Rattle.site_node.specs.declared.roster.Roster.{Roster}
 use Rattle.site_node.specs.Rosters.{IsOf}
 use Rattle.joiner_core.specs.Joiner.{JoinerKept, JoinerLive, Flight, land_joiner, in_flight, is_for, looks, joins, replied, joiner_gets}
-use Rattle.joiner_core.specs.Standing.{Serves, Stands, IsSame, note_of}
+use Rattle.joiner_core.specs.Standing.{Serves, Stands, IsSame, Answers, note_of}
+use Rattle.joiner_core.specs.declared.turn.Turn.{Turn}
 use Rattle.joiner_core.specs.declared.turn.JoinerNote.{JoinerNote}
 use Rattle.joiner_core.specs.declared.turn.JoinerNote.TheVariants as notes
 use Rattle.joiner_core.specs.declared.node_core.JoinerCore.{JoinerCore}
 use Rattle.joiner_node.specs.Read.{HasRead}
 use Rattle.joiner_node.specs.Disks.{MayHave, Holds, IsNext, with_note, bytes_of, InDoubt, AreInDoubt, IsFound}
+use Rattle.joiner_node.specs.Records.{recorded_as, IsAbove}
+use Rattle.joiner_node.specs.declared.records.Record.{Record}
 use Rattle.joiner_node.specs.Joining.{joiner_rows, joiner_row, Knows, MayGet, IsOfDecision}
 use Rattle.joiner_node.specs.declared.disks.Doubt.{Doubt}
 use Rattle.joiner_node.specs.declared.node.ReadyTurn.{ReadyTurn}
@@ -247,6 +250,32 @@ row_next g n k (Some l) (Deliver from p) = gets_next g n k l p
 
 pub next_of : (g : Setting) (n : ℕ) (k : JoinerKept) (live : Option JoinerLive) (i : Input) (o : Option JoinerNote) → option_map note_of o ≡ (joiner_row g n k live i).note → IsNext o k
 next_of g n k live i o e = next_by k o (joiner_row g n k live i).note e (row_next g n k live i)
+
+above_by : (k : JoinerKept) (kept : ℕ) (o : Option JoinerNote) → kept ≡ k.epoch → IsNext o k → IsAbove o kept
+above_by k kept None same next = tt
+above_by k kept (Some (notes.Epoch x)) same next = omega (arith, same, next)
+above_by k kept (Some (notes.Pair p)) same next = tt
+
+pub above_of : (g : Setting) (n : ℕ) (k : JoinerKept) (live : Option JoinerLive) (i : Input) (kept : ℕ) (o : Option JoinerNote) → kept ≡ k.epoch → option_map note_of o ≡ (joiner_row g n k live i).note → IsAbove o kept
+above_of g n k live i kept o same e = above_by k kept o same (next_of g n k live i o e)
+
+-- the note is taken out of the turn
+pub row_is : (core : JoinerCore) (g : Setting) (n : ℕ) (k : JoinerKept) (out : Out JoinerLive) (turn : Turn) (taken : Option JoinerNote) (sent : List (ℕ × List ℕ)) (writes : Option Record) → Answers core g n k out turn → AreSpelled turn.packets.items sent → writes ≡ recorded_as turn.note
+    → IsRow core g n k out (record { turn = record { note = taken; packets = turn.packets; change = turn.change }; packets = sent; writes = writes })
+row_is core g n k out turn taken sent writes answers spelled is = record {
+  note = turn.note;
+  is_note = answers.note;
+  is_record = is;
+  sent = answers.packets;
+  spelled = spelled;
+  next = record { serves = answers.next.serves; epoch = answers.next.epoch ∙ ap (λ (o : Option Note). (land land_joiner o k).epoch) (sym answers.note); live = answers.next.live };
+}
+
+pub knows_up : (up : Bool) (core : JoinerCore) (g : Setting) (n : ℕ) (k : JoinerKept) (l : JoinerLive) → up ≡ true → Stands core g n k l → Knows up core g n k (Some l)
+knows_up up core g n k l is stands = subst (λ (u : Bool). Knows u core g n k (Some l)) (sym is) stands
+
+pub knows_down : (up : Bool) (core : JoinerCore) (g : Setting) (n : ℕ) (k : JoinerKept) → up ≡ false → Knows up core g n k None
+knows_down up core g n k is = subst (λ (u : Bool). Knows u core g n k None) (sym is) tt
 
 -- ---- why a turn isn't done
 

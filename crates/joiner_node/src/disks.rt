@@ -126,7 +126,8 @@ impl<D: Disk> Disks<D> {
         ensures doubts { (k : JoinerKept) (n : Option JoinerNote) → writes ≡ recorded_as n → IsNext n k → self.old.epochs.epoch ≡ k.epoch → self.old.log.pairs.items ≡ k.pairs → OnErr result (AreInDoubt self.new.in_doubt n k) }
         ensures epoch_moments { IsTrue D.tells → (k : JoinerKept) (n : Option JoinerNote) → writes ≡ recorded_as n → IsNext n k → Holds self.old.epochs.epoch self.old.log.pairs.items (D.image self.old.epochs.journal.disk) (D.image self.old.log.journal.disk) k → Throughout D.image D.since self.old.epochs.journal.disk self.new.epochs.journal.disk (EpochOr k (with_note n k)) }
         ensures pair_moments { IsTrue D.tells → (k : JoinerKept) (n : Option JoinerNote) → writes ≡ recorded_as n → IsNext n k → Holds self.old.epochs.epoch self.old.log.pairs.items (D.image self.old.epochs.journal.disk) (D.image self.old.log.journal.disk) k → Throughout D.image D.since self.old.log.journal.disk self.new.log.journal.disk (PairsOr k (with_note n k)) }
-        ensures grows { IsTrue D.tells → ((c : List ℕ) → D.image self.new.epochs.journal.disk c → Continues (D.image self.old.epochs.journal.disk) c) × ((c : List ℕ) → D.image self.new.log.journal.disk c → Continues (D.image self.old.log.journal.disk) c) }
+        ensures epoch_grows { IsTrue D.tells → (c : List ℕ) → D.image self.new.epochs.journal.disk c → Continues (D.image self.old.epochs.journal.disk) c }
+        ensures pair_grows { IsTrue D.tells → (c : List ℕ) → D.image self.new.log.journal.disk c → Continues (D.image self.old.log.journal.disk) c }
         ensures fault { OnErr result (Rose (D.faults self.old.epochs.journal.disk + D.faults self.old.log.journal.disk) (D.faults self.new.epochs.journal.disk + D.faults self.new.log.journal.disk)) }
         ensures epoch_count { D.faults self.old.epochs.journal.disk ≤ D.faults self.new.epochs.journal.disk }
         ensures pair_count { D.faults self.old.log.journal.disk ≤ D.faults self.new.log.journal.disk }
@@ -220,7 +221,8 @@ impl<D: Disk> Disks<D> {
         ensures found { IsTrue D.tells → (k : JoinerKept) (n : JoinerNote) → AreInDoubt self.old.in_doubt (Some n) k → MayHave k (with_note (Some n) k) (D.image self.old.epochs.journal.disk) (D.image self.old.log.journal.disk) → IfOk result (λ landed. IsFound landed n k self.new.epochs.epoch self.new.log.pairs.items (D.image self.new.epochs.journal.disk) (D.image self.new.log.journal.disk)) }
         ensures epoch_moments { IsTrue D.tells → (k m : JoinerKept) → MayHave k m (D.image self.old.epochs.journal.disk) (D.image self.old.log.journal.disk) → Throughout D.image D.since self.old.epochs.journal.disk self.new.epochs.journal.disk (EpochOr k m) }
         ensures pair_moments { IsTrue D.tells → (k m : JoinerKept) → MayHave k m (D.image self.old.epochs.journal.disk) (D.image self.old.log.journal.disk) → Throughout D.image D.since self.old.log.journal.disk self.new.log.journal.disk (PairsOr k m) }
-        ensures grows { IsTrue D.tells → ((c : List ℕ) → D.image self.new.epochs.journal.disk c → Continues (D.image self.old.epochs.journal.disk) c) × ((c : List ℕ) → D.image self.new.log.journal.disk c → Continues (D.image self.old.log.journal.disk) c) }
+        ensures epoch_grows { IsTrue D.tells → (c : List ℕ) → D.image self.new.epochs.journal.disk c → Continues (D.image self.old.epochs.journal.disk) c }
+        ensures pair_grows { IsTrue D.tells → (c : List ℕ) → D.image self.new.log.journal.disk c → Continues (D.image self.old.log.journal.disk) c }
         ensures kind { IfErr result IsOfRestart }
         ensures whole { IsTrue D.tells → (k m : JoinerKept) → MayHave k m (D.image self.old.epochs.journal.disk) (D.image self.old.log.journal.disk) → IfErr result IsWhole }
         ensures fault { IsErrOf result NodeFault.Stopped → Rose (D.faults self.old.epochs.journal.disk + D.faults self.old.log.journal.disk) (D.faults self.new.epochs.journal.disk + D.faults self.new.log.journal.disk) }
