@@ -7,7 +7,7 @@ use Rattle.air_bus.specs.declared.entry.Input.TheVariants as bytes
 use Rattle.packet_codec.specs.declared.node.Input.{Input}
 use Rattle.packet_codec.specs.declared.node.Input.TheVariants.{Start}
 use Rattle.turn_defs.specs.Setting.{Setting}
-use Rattle.site_node.specs.Bytes.{Reads}
+use Rattle.site_node.specs.Bytes.{Reads, IsJunk}
 use Rattle.joiner_node.specs.Node.{JoinerState, spends_of}
 
 start_bytes : (g : Setting) (b : Bytes) (i : Input) → Reads g b i → i ≡ Start → b ≡ bytes.Start
@@ -36,3 +36,10 @@ starts s bytes.Start i epoch reads is = (reads, last_of s.node.kept.epoch epoch 
 starts s bytes.Own i epoch reads is = absurd (cc is)
 starts s bytes.Tick i epoch reads is = absurd (cc is)
 starts s (bytes.Packet from p) i epoch reads is = absurd (cc is)
+
+-- what no packet spells is no Start
+pub spent_junk : (s : JoinerState) (b : Bytes) (epoch : ℕ) → IsJunk s.node.setting b → spends_of s b ≡ Some epoch → ⊥
+spent_junk s bytes.Start epoch junk is = junk Start refl
+spent_junk s bytes.Own epoch junk is = absurd (cc is)
+spent_junk s bytes.Tick epoch junk is = absurd (cc is)
+spent_junk s (bytes.Packet from p) epoch junk is = absurd (cc is)

@@ -1,6 +1,6 @@
 -- A turn of a joiner over its disks, and its restart, as the states' entries.
 use Rattle.std.proofs.Common.{◌≡◌, ◌⊎◌, inl, inr, ⊎_elim, ℕ, suc, ◌+◌, ◌-◌, ◌^◌, ◌≤◌, nat_lt, Bool, true, false, ◌&&◌, List, [], ◌∷◌, ◌++◌, length, Option, Some, None, refl, sym, ap, ◌∙◌, subst, arith}
-use Rattle.std.specs.Prelude.{is_some, option_map, find, if◌then◌else◌, IsTrue, Result, Ok, Err, IfOk, IfErr, OnOk, OnErr, ⊤}
+use Rattle.std.specs.Prelude.{is_some, option_map, find, if◌then◌else◌, IsTrue, Result, Ok, Err, IfOk, IfErr, OnOk, OnErr, IsErrAnd, ⊤}
 use Rattle.log_records.specs.declared.records.QueryRec.{QueryRec as Query}
 use Rattle.log_records.specs.declared.records.ClickRec.{ClickRec as Click}
 use Rattle.log_records.specs.Log.{first}
@@ -19,9 +19,6 @@ use Rattle.turn_defs.specs.Setting.{Setting}
 use Rattle.turn_defs.specs.Turns.{Note, Advance, Park, Settle, Epoch, Output, Voted, Out, land, idle}
 use Rattle.site_node.specs.Bytes.{record_of, AreSpelled, Reads, IsJunk}
 use Rattle.site_node.specs.States.{State, Leads, Ends, Stops, MayTake, row, written, closes, opens}
-use Rattle.site_node.specs.Faults.{was_stopped, IsOfTurn}
-use Rattle.site_node.specs.declared.kind.NodeFault.{NodeFault}
-use Rattle.site_node.specs.declared.kind.NodeFault.TheVariants as fault
 use Rattle.site_node.specs.declared.roster.Roster.{Roster}
 use Rattle.site_node.specs.Rosters.{IsOf}
 use Rattle.joiner_core.specs.Joiner.{JoinerKept, JoinerLive, Flight, land_joiner, in_flight, is_for, looks, joins, replied, joiner_gets}
@@ -34,7 +31,7 @@ use Rattle.joiner_node.specs.Read.{HasRead}
 use Rattle.joiner_node.specs.Disks.{MayHave, Holds, IsNext, with_note, bytes_of, InDoubt, AreInDoubt, IsFound}
 use Rattle.joiner_node.specs.Records.{recorded_as, IsAbove}
 use Rattle.joiner_node.specs.declared.records.Record.{Record}
-use Rattle.joiner_node.specs.Joining.{joiner_rows, joiner_row, Knows, MayGet, IsOfDecision}
+use Rattle.joiner_node.specs.Joining.{joiner_rows, joiner_row, Knows, MayGet}
 use Rattle.joiner_node.specs.declared.disks.Doubt.{Doubt}
 use Rattle.joiner_node.specs.declared.node.ReadyTurn.{ReadyTurn}
 use Rattle.joiner_node.specs.Node.{JoinerState, LeadsTo, row_at, IsOpenAt, Parts, StandsBy, StandsAt, IsRow}
@@ -86,7 +83,9 @@ stands_none p epoch_image pairs_image s none of_g number serves reads holds know
 
 -- an entry led to this state
 pub led_to : (s t : JoinerState) (n : ℕ) (b : Bytes) → LeadsTo s (Begin n b) t → record { number = s.number; node = opens s.node b } ≡ t
-led_to s t n b led = let number = led.number in let node = led.leads.2 in (cc)
+led_to s t n b led =
+    let of : (x : ℕ) (y : State JoinerKept JoinerLive) → JoinerState = λ x y. record { number = x; node = y } in
+    ap (λ (x : ℕ). of x (opens s.node b)) (sym led.number) ∙ ap (λ (y : State JoinerKept JoinerLive). of t.number y) (sym led.leads.2)
 
 -- what no packet spells changes nothing
 pub idles : (p : Parts) (epoch_image pairs_image : List ℕ → Type 0) (s t : JoinerState) (n : ℕ) (b : Bytes) (ps : List (ℕ × List ℕ)) (sent : ℕ) → p.in_doubt ≡ None → StandsAt p epoch_image pairs_image s
@@ -219,8 +218,8 @@ next_by k (Some (notes.Epoch x)) out e is = subst (λ (n : Option Note). IsNextN
 next_by k (Some (notes.Pair p)) out e is = tt
 
 note_if : (k : JoinerKept) (b : Bool) (x y : Out JoinerLive) → IsNextNote x.note k → IsNextNote y.note k → IsNextNote (if b then x else y).note k
-note_if k true x y yes no = yes
-note_if k false x y yes no = no
+note_if k true x y this other = this
+note_if k false x y this other = other
 
 module _ (g : Setting) (n : ℕ) (k : JoinerKept) (l : JoinerLive) where
   looks_next : (p : ℕ) (c : Click) (o : Option Query) → IsNextNote (looks g n k l p c o).note k
@@ -277,25 +276,22 @@ knows_up up core g n k l is stands = subst (λ (u : Bool). Knows u core g n k (S
 pub knows_down : (up : Bool) (core : JoinerCore) (g : Setting) (n : ℕ) (k : JoinerKept) → up ≡ false → Knows up core g n k None
 knows_down up core g n k is = subst (λ (u : Bool). Knows u core g n k None) (sym is) tt
 
--- ---- why a turn isn't done
+pub stands_up : (up : Bool) (core : JoinerCore) (g : Setting) (n : ℕ) (k : JoinerKept) (live : Option JoinerLive) (l : JoinerLive) → live ≡ Some l → Knows up core g n k live → Stands core g n k l
+stands_up up core g n k live l is knows = go up (subst (λ (x : Option JoinerLive). Knows up core g n k x) is knows)
+  where
+    go : (u : Bool) → Knows u core g n k (Some l) → Stands core g n k l
+    go true stands = stands
+    go false stands = absurd stands
 
-pub not_stopped : {T : Type 0} (f : NodeFault) → IsOfDecision f → was_stopped (Err {T} f) ≡ false
-not_stopped fault.Stopped is = absurd is
-not_stopped (fault.Damaged d at) is = absurd is
-not_stopped fault.Read is = refl
-not_stopped (fault.Spent e) is = refl
-not_stopped fault.Memory is = refl
+-- ---- a fault that is handed on
 
-pub of_turn : (f : NodeFault) → IsOfDecision f → IsOfTurn f
-of_turn fault.Stopped is = absurd is
-of_turn (fault.Damaged d at) is = absurd is
-of_turn fault.Read is = tt
-of_turn (fault.Spent e) is = tt
-of_turn fault.Memory is = tt
+pub on_err : {T E P : Type 0} (r : Result T E) → P → OnErr r P
+on_err (Ok x) p = tt
+on_err (Err e) p = p
 
-pub waits_after : {T : Type 0} (r : Result T NodeFault) (d : Option Doubt) → OnOk r (d ≡ None) → OnErr r (is_some d ≡ true) → IfErr r (λ e. e ≡ fault.Stopped) → is_some d ≡ was_stopped r
-waits_after (Ok x) d up stopped kind = ap (λ (o : Option Doubt). is_some o) up
-waits_after {T} (Err e) d up stopped kind = subst (λ (f : NodeFault). is_some d ≡ was_stopped (Err {T} f)) (sym kind) stopped
+pub if_err : {T E : Type 0} (r : Result T E) (f : E) (P : E → Type 0) → IsErrAnd r (λ e. e ≡ f) → P f → IfErr r P
+if_err (Ok x) f P is p = absurd is
+if_err (Err e) f P is p = subst P (sym is) p
 
 -- ---- a restart
 

@@ -1,8 +1,11 @@
-use Rattle.std.proofs.Common.{sym, ◌∙◌, subst, refl, ⊎_elim, inl, inr}
+use Rattle.std.proofs.Common.{◌≡◌, Err, sym, ap, ◌∙◌, subst, refl, ⊎_elim, inl, inr}
+use Rattle.site_node.specs.declared.kind.NodeFault.TheVariants as fault
 use Rattle.joiner_node.specs.Node.{Parts, JoinerState, KeepsOf}
 use Rattle.joiner_node.specs.Disks.{with_note}
 use Rattle.joiner_node.specs.States.{keeps_open}
-use Rattle.joiner_node.proofs.Growing.{then_grows}
+use Rattle.std.proofs.lemmas.Result.{err_from_is_err_and}
+use Rattle.joiner_node.proofs.Growing.{same_grows, then_grows}
+use Rattle.joiner_node.proofs.Spending.{spends, starts, spent_junk}
 use Rattle.joiner_node.proofs.Turning.{none_of, gets_of, quiet, idles, ends, stays_open, all_five, both_err, both_tell, serves_of, serves_same, roster_same, holds_within, next_of, led_to}
 use Rattle.joiner_node.proofs.node.JoinerNodeSiteNode.turn.Goals as goal
 
@@ -92,3 +95,29 @@ returns-after-is_some-clause-grown g c tells s at =
       then_grows _ _ _ (e.epoch_moments told.0).now (c.finish.ensures.epoch_grows told.0),
       then_grows _ _ _ (e.pair_moments told.0).now (c.finish.ensures.pair_grows told.0),
     )
+
+pub returns-in_err-ready-in-Some-clause-grown : goal.returns-in_err-ready-in-Some-clause-grown
+returns-in_err-ready-in-Some-clause-grown g c tells s at =
+    let told = both_tell _ _ tells in
+    let e = c.in_err-ready-in-Some.ensures in
+    (same_grows _ _ (e.epoch_moments told.0).now, same_grows _ _ (e.pair_moments told.0).now)
+
+pub returns-in_err-ready-in-Some-clause-spent : goal.returns-in_err-ready-in-Some-clause-spent
+returns-in_err-ready-in-Some-clause-spent g c s at epoch is =
+    let old = c.args.self.now in
+    let known = quiet old.disks.in_doubt _ _ _ s (none_of old.disks.in_doubt c.requires.up) at.by in
+    let reads = rw c.in-Some.is at (c.in_ok-read_input.ensures.reads s.node.setting at.setting) in
+    let p = err_from_is_err_and c.from_residual-in_err-ready-in-Some.result c.from_residual-in_err-ready-in-Some.ensures.1 in
+    let same : c.in_err-ready-in-Some.field-0.0 ≡ fault.Spent epoch = let said = rw (p.1, p.2) at is in cc said in
+    spends s c.args.input.now c.in-Some.input old.disks.epochs.epoch epoch reads known.0.epoch_is (c.in_err-ready-in-Some.ensures.spent epoch (ap Err same))
+
+pub returns-in-None-clause-spends : goal.returns-in-None-clause-spends
+returns-in-None-clause-spends g c s at epoch is = spent_junk s c.args.input.now epoch (rw c.in-None.is at (c.in_ok-read_input.ensures.junk s.node.setting at.setting)) is
+
+pub returns-after-is_some-clause-spends : goal.returns-after-is_some-clause-spends
+returns-after-is_some-clause-spends g c s at epoch is =
+    let old = c.args.self.now in
+    let known = quiet old.disks.in_doubt _ _ _ s (none_of old.disks.in_doubt c.requires.up) at.by in
+    let reads = rw c.in-Some.is at (c.in_ok-read_input.ensures.reads s.node.setting at.setting) in
+    let start = starts s c.args.input.now c.in-Some.input epoch reads is in
+    absurd (c.in_ok-ready-in-Some.ensures.spends start.0 (known.0.epoch_is ∙ start.1))
