@@ -1,5 +1,5 @@
 -- Records that are only added, and faults of two disks.
-use Rattle.std.proofs.Common.{◌≡◌, ℕ, ◌+◌, ◌-◌, ◌^◌, ◌≤◌, min, List, arith}
+use Rattle.std.proofs.Common.{ℕ, ◌+◌, ◌≤◌, List, arith}
 use Rattle.outside.specs.Faults.{Rose}
 use Rattle.gate_journal.specs.Growth.{Continues}
 use Rattle.gate_journal.proofs.Growth.{continues_same}

@@ -1,7 +1,7 @@
 -- Reading a log of queries line by line.
-use Rattle.std.proofs.Common.{◌≡◌, ◌≢◌, ℕ, ◌+◌, ◌≤◌, List, [], ◌∷◌, ◌++◌, length, map, take, drop, Option, Some, None, refl, sym, ap, ◌∙◌, subst, arith, append_assoc, length-append}
+use Rattle.std.proofs.Common.{◌≡◌, ℕ, ◌+◌, List, [], ◌∷◌, ◌++◌, length, map, take, drop, Option, Some, None, refl, sym, ap, ◌∙◌, subst, arith, append_assoc, length-append}
 use Rattle.std.specs.Option.{option_or}
-use Rattle.std.specs.List.{AllByRecursion, filter_map, find}
+use Rattle.std.specs.List.{AllByRecursion}
 use Rattle.std.proofs.lemmas.List.{map-append, drop-drop, drop_at, take_all}
 use Rattle.std.proofs.lemmas.List.Folds.{find-append}
 use Rattle.byte_split.specs.Bytes.{Lacks}
@@ -68,9 +68,9 @@ ends log place lines qs id n has at_end none counts =
     let empty : has.others ≡ [] = no_more (behind log place) has.others has.behind_them at_end in (
       first_is log place lines qs id has ∙ ap (λ (o : Option Query). option_or o (first has.others id)) none ∙ ap (λ (rs : List Query). first rs id) empty,
       let whole_is : length qs ≡ length has.read + length has.others = ap length has.all ∙ length-append has.read has.others in
-      let none_left : length has.others ≡ 0 = ap length empty in
-      let lens : length lines ≡ length has.read = ap length has.so_far ∙ len_given has.read in
-      omega (arith, counts, whole_is, none_left, lens),
+          let none_left : length has.others ≡ 0 = ap length empty in
+          let lens : length lines ≡ length has.read = ap length has.so_far ∙ len_given has.read in
+          omega (arith, counts, whole_is, none_left, lens),
     )
 
 read_is : (line : List ℕ) (q : Query) (r : Option Query) → IsQuery q → line ≡ query_line q → ReadsAs line r → r ≡ Some q

@@ -1,5 +1,5 @@
 -- A turn of a joiner over its disks, and its restart, as the states' entries.
-use Rattle.std.proofs.Common.{◌≡◌, ◌⊎◌, inl, inr, ⊎_elim, ℕ, suc, ◌+◌, ◌-◌, ◌^◌, ◌≤◌, nat_lt, Bool, true, false, ◌&&◌, List, [], ◌∷◌, ◌++◌, length, Option, Some, None, refl, sym, ap, ◌∙◌, subst, arith}
+use Rattle.std.proofs.Common.{◌≡◌, inl, inr, ⊎_elim, ℕ, suc, ◌-◌, ◌^◌, ◌≤◌, nat_lt, Bool, true, false, ◌&&◌, List, [], length, Option, Some, None, refl, sym, ap, ◌∙◌, subst, arith}
 use Rattle.std.specs.Prelude.{is_some, option_map, find, if◌then◌else◌, IsTrue, Result, Ok, Err, IfOk, IfErr, OnOk, OnErr, IsErrAnd, ⊤}
 use Rattle.log_records.specs.declared.records.QueryRec.{QueryRec as Query}
 use Rattle.log_records.specs.declared.records.ClickRec.{ClickRec as Click}
@@ -16,9 +16,9 @@ use Rattle.packet_codec.specs.declared.packet.Packet.TheVariants as packet
 use Rattle.packet_codec.specs.declared.node.Input.{Input}
 use Rattle.packet_codec.specs.declared.node.Input.TheVariants.{Start, Own, Tick, Deliver}
 use Rattle.turn_defs.specs.Setting.{Setting}
-use Rattle.turn_defs.specs.Turns.{Note, Advance, Park, Settle, Epoch, Output, Voted, Out, land, idle}
+use Rattle.turn_defs.specs.Turns.{Note, Advance, Park, Settle, Epoch, Output, Voted, Out, land}
 use Rattle.site_node.specs.Bytes.{record_of, AreSpelled, Reads, IsJunk}
-use Rattle.site_node.specs.States.{State, Leads, Ends, Stops, MayTake, row, written, closes, opens}
+use Rattle.site_node.specs.States.{State, MayTake, row, written, closes, opens}
 use Rattle.site_node.specs.declared.roster.Roster.{Roster}
 use Rattle.site_node.specs.Rosters.{IsOf}
 use Rattle.joiner_core.specs.Joiner.{JoinerKept, JoinerLive, Flight, land_joiner, in_flight, is_for, looks, joins, replied, joiner_gets}
@@ -28,13 +28,13 @@ use Rattle.joiner_core.specs.declared.turn.JoinerNote.{JoinerNote}
 use Rattle.joiner_core.specs.declared.turn.JoinerNote.TheVariants as notes
 use Rattle.joiner_core.specs.declared.node_core.JoinerCore.{JoinerCore}
 use Rattle.joiner_node.specs.Read.{HasRead}
-use Rattle.joiner_node.specs.Disks.{MayHave, Holds, IsNext, with_note, bytes_of, InDoubt, AreInDoubt, IsFound}
+use Rattle.joiner_node.specs.Disks.{MayHave, Holds, IsNext, with_note, bytes_of, AreInDoubt, IsFound}
 use Rattle.joiner_node.specs.Records.{recorded_as, IsAbove}
 use Rattle.joiner_node.specs.declared.records.Record.{Record}
 use Rattle.joiner_node.specs.Joining.{joiner_rows, joiner_row, Knows, MayGet}
 use Rattle.joiner_node.specs.declared.disks.Doubt.{Doubt}
 use Rattle.joiner_node.specs.declared.node.ReadyTurn.{ReadyTurn}
-use Rattle.joiner_node.specs.Node.{JoinerState, LeadsTo, row_at, IsOpenAt, Parts, StandsBy, StandsAt, IsRow}
+use Rattle.joiner_node.specs.Node.{JoinerState, LeadsTo, row_at, Parts, StandsBy, StandsAt, IsRow}
 
 pub none_of : {A : Type 0} (o : Option A) → is_some o ≡ false → o ≡ None
 none_of None off = refl

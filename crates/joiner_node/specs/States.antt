@@ -1,5 +1,5 @@
 -- Laws of the states that a joiner's entries lead through, and what its disks may hold there.
-use Rattle.std.proofs.Common.{◌≡◌, ◌≢◌, ◌⊎◌, inl, inr, ⊎_elim, ℕ, Bool, List, Option, Some, None, refl, sym, ap, ◌∙◌, subst}
+use Rattle.std.proofs.Common.{◌≡◌, ◌≢◌, ◌⊎◌, inl, inr, ⊎_elim, ℕ, Bool, List, Option, Some, None, refl, sym, ap}
 use Rattle.std.specs.Prelude.{option_map}
 use Rattle.air_bus.specs.declared.entry.Entry.{Entry}
 use Rattle.air_bus.specs.declared.entry.Entry.TheVariants.{Begin}
@@ -12,7 +12,7 @@ use Rattle.turn_defs.specs.Turns.{Note, land}
 use Rattle.epoch_journal.specs.Epochs as epochs
 use Rattle.output_log.specs.Pairs as pairs
 use Rattle.site_node.specs.Bytes.{Reads}
-use Rattle.site_node.specs.States.{written, MayHold}
+use Rattle.site_node.specs.States.{written}
 use Rattle.site_node.specs.Paths.{begins, phase_led}
 use Rattle.joiner_core.specs.Joiner.{JoinerKept, land_joiner}
 use Rattle.joiner_core.specs.Standing.{note_of}

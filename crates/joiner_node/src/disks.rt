@@ -135,11 +135,13 @@ impl<D: Disk> Disks<D> {
         match writes {
             None => Ok(None),
             Some(Record::Epoch(payload)) => self.raise(payload),
-            Some(Record::Pair {
-                frame,
-                pair,
-                payload,
-            }) => self.write(&frame, pair, payload),
+            Some(
+                Record::Pair {
+                    frame,
+                    pair,
+                    payload,
+                },
+            ) => self.write(&frame, pair, payload),
         }
     }
 
@@ -185,7 +187,12 @@ impl<D: Disk> Disks<D> {
     }
 
     // Writes a pair, with its record for the disk and for the bus.
-    fn write(&mut self, frame: &Frame, pair: PairRec, payload: Payload) -> Result<Option<Payload>, NodeFault>
+    fn write(
+        &mut self,
+        frame: &Frame,
+        pair: PairRec,
+        payload: Payload,
+    ) -> Result<Option<Payload>, NodeFault>
         requires up { self.old.in_doubt ≡ None }
         requires whole { IsPair pair × (frame.now ≡ record_of pair) }
         requires room { HasRoom (D.calls_left self.old.log.journal.disk) (D.bytes_left self.old.log.journal.disk) longest }

@@ -1,4 +1,4 @@
-use Rattle.std.proofs.Common.{refl, ◌∙◌}
+use Rattle.std.proofs.Common.{refl}
 use Rattle.joiner_node.specs.Node.{down_over}
 use Rattle.joiner_node.proofs.Reopening.{holds_read}
 use Rattle.joiner_node.proofs.Turning.{stands_none, knows_down}

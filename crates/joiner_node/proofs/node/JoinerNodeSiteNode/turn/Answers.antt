@@ -1,4 +1,4 @@
-use Rattle.std.proofs.Common.{◌≡◌, Err, sym, ap, ◌∙◌, subst, refl, ⊎_elim, inl, inr}
+use Rattle.std.proofs.Common.{◌≡◌, Err, sym, ap, ◌∙◌, subst, refl, ⊎_elim, inl}
 use Rattle.site_node.specs.declared.kind.NodeFault.TheVariants as fault
 use Rattle.joiner_node.specs.Node.{Parts, JoinerState, KeepsOf}
 use Rattle.joiner_node.specs.Disks.{with_note}
