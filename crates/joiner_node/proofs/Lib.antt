@@ -1,0 +1,6 @@
+pub mod Reading
+pub mod Reopening
+pub mod Deciding
+pub mod Turning
+pub mod Spending
+pub mod Growing

@@ -1,0 +1,168 @@
+-- What a joiner's disks hold after a stop.
+use Rattle.std.proofs.Common.{◌≡◌, ◌⊎◌, inl, inr, ⊎_elim, ℕ, ◌+◌, Bool, true, false, List, [], ◌∷◌, ◌++◌, length, map, Option, Some, None, refl, sym, ap, ◌∙◌, subst, arith, length-append}
+use Rattle.std.specs.Prelude.{All, IsTrue, Result, Ok, Err}
+use Rattle.std.proofs.lemmas.Bool.Decides.{nat_tests}
+use Rattle.std.proofs.lemmas.List.Elements.{All-head, All-tail}
+use Rattle.gate_journal.specs.Opening.{IsOpened}
+use Rattle.gate_journal.specs.declared.reading.JournalFault.{JournalFault}
+use Rattle.gate_journal.specs.declared.reading.JournalFault.TheVariants.{Damaged, Disk, Memory}
+use Rattle.epoch_journal.specs.Epochs.{epoch_of}
+use Rattle.epoch_journal.specs.Epochs as epochs
+use Rattle.output_log.specs.declared.pair.PairRec.{PairRec}
+use Rattle.output_log.specs.Pairs.{IsPair, record_of}
+use Rattle.output_log.specs.Pairs as pairs
+use Rattle.joiner_core.specs.Joiner.{JoinerKept}
+use Rattle.joiner_core.specs.declared.turn.JoinerNote.{JoinerNote}
+use Rattle.joiner_core.specs.declared.turn.JoinerNote.TheVariants as notes
+use Rattle.joiner_node.specs.Disks.{EpochOr, PairsOr, Holds, with_note, InDoubt, IsFound, has_more, IsUndamaged}
+use Rattle.joiner_node.specs.declared.disks.Doubt.{Doubt}
+
+-- ---- the images of a disk that is read again
+
+pub epoch_again : (k m : JoinerKept) (image : List ℕ → Type 0) → ((c : List ℕ) → image c → EpochOr k m c) → (c : List ℕ) → epochs.KeepsAsLeft image c → EpochOr k m c
+epoch_again k m image or c (d, here, same) = ⊎_elim (λ old. inl (same ∙ old)) (λ new. inr (same ∙ new)) (or d here)
+
+pub pairs_again : (k m : JoinerKept) (image : List ℕ → Type 0) → ((c : List ℕ) → image c → PairsOr k m c) → (c : List ℕ) → IsOpened image c → PairsOr k m c
+pairs_again k m image or c (d, here, same) = ⊎_elim (λ old. inl (old.0, same ∙ old.1)) (λ new. inr (new.0, same ∙ new.1)) (or d here)
+
+-- ---- what is read
+
+abbrev epoch_ok : ℕ → Result ℕ ℕ
+epoch_ok e = Ok e
+
+same_epoch : (d e : ℕ) → epoch_ok d ≡ epoch_ok e → d ≡ e
+same_epoch d e is = (cc)
+
+pub epoch_left : (k m : JoinerKept) (image : List ℕ → Type 0) (e : ℕ) → ((c : List ℕ) → image c → EpochOr k m c) → epochs.IsLeft image e → (e ≡ k.epoch) ⊎ (e ≡ m.epoch)
+epoch_left k m image e or (c, here, keeps) = ⊎_elim (λ old. inl (same_epoch e k.epoch (sym keeps ∙ old))) (λ new. inr (same_epoch e m.epoch (sym keeps ∙ new))) (or c here)
+
+abbrev pub Apart : Type 0
+Apart = (p q : PairRec) → IsPair p → IsPair q → record_of p ≡ record_of q → p ≡ q
+
+abbrev head_of : List (List ℕ) → List ℕ
+head_of [] = []
+head_of (b ∷ bs) = b
+
+abbrev tail_of : List (List ℕ) → List (List ℕ)
+tail_of [] = []
+tail_of (b ∷ bs) = bs
+
+same_pairs : Apart → (ps qs : List PairRec) → All IsPair ps → All IsPair qs → map record_of ps ≡ map record_of qs → ps ≡ qs
+same_pairs apart [] [] all each e = refl
+same_pairs apart [] (q ∷ qs) all each e = absurd (cc e)
+same_pairs apart (p ∷ ps) [] all each e = absurd (cc e)
+same_pairs apart (p ∷ ps) (q ∷ qs) all each e =
+    ap (λ (x : PairRec). x ∷ ps) (apart p q (All-head IsPair p ps all) (All-head IsPair q qs each) (ap head_of e))
+    ∙ ap (λ (xs : List PairRec). q ∷ xs) (same_pairs apart ps qs (All-tail IsPair p ps all) (All-tail IsPair q qs each) (ap tail_of e))
+
+abbrev ok_of : List (List ℕ) → Result (List (List ℕ)) ℕ
+ok_of rs = Ok rs
+
+same_records : (rs ss : List (List ℕ)) → ok_of rs ≡ ok_of ss → rs ≡ ss
+same_records rs ss is = (cc)
+
+one_list : Apart → (ps qs : List PairRec) (c : List ℕ) → pairs.Keeps ps c → pairs.Keeps qs c → ps ≡ qs
+one_list apart ps qs c p q = same_pairs apart ps qs p.0 q.0 (same_records (map record_of ps) (map record_of qs) (sym p.1 ∙ q.1))
+
+pub pairs_left : Apart → (k m : JoinerKept) (image : List ℕ → Type 0) (ps : List PairRec) → ((c : List ℕ) → image c → PairsOr k m c) → pairs.IsLeft image ps → (ps ≡ k.pairs) ⊎ (ps ≡ m.pairs)
+pairs_left apart k m image ps or (c, here, keeps) = ⊎_elim (λ old. inl (one_list apart ps k.pairs c keeps old)) (λ new. inr (one_list apart ps m.pairs c keeps new)) (or c here)
+
+-- ---- whether the note landed
+
+nothing_more : (e : ℕ) (ps : List PairRec) (d : Doubt) → e ≡ d.epoch → length ps ≡ d.pairs → has_more e ps d ≡ false
+nothing_more e ps d same count = grind (arith, nat_tests)
+
+later_epoch : (e : ℕ) (ps : List PairRec) (d : Doubt) → (e ≡ d.epoch → ⊥) → has_more e ps d ≡ true
+later_epoch e ps d more = grind (arith, nat_tests)
+
+longer_list : (e : ℕ) (ps : List PairRec) (d : Doubt) → (length ps ≡ d.pairs → ⊥) → has_more e ps d ≡ true
+longer_list e ps d more = grind (arith, nat_tests)
+
+-- the disks have what was kept, or that with the note, and the journals tell which
+pub record Reads (e : ℕ) (ps : List PairRec) (d : Doubt) (landed : Bool) (k : JoinerKept) : Type 0 where
+  pub epoch_is : e ≡ k.epoch
+  pub pairs_are : ps ≡ k.pairs
+  pub told : has_more e ps d ≡ landed
+
+old_reads : (e : ℕ) (ps : List PairRec) (d : Doubt) (k : JoinerKept) → d.epoch ≡ k.epoch → d.pairs ≡ length k.pairs → e ≡ k.epoch → ps ≡ k.pairs → Reads e ps d false k
+old_reads e ps d k epoch count e_is ps_are = record { epoch_is = e_is; pairs_are = ps_are; told = nothing_more e ps d (e_is ∙ sym epoch) (ap length ps_are ∙ sym count) }
+
+pub reads_either : (e : ℕ) (ps : List PairRec) (d : Doubt) (n : JoinerNote) (k : JoinerKept) → InDoubt d n k → (e ≡ k.epoch) ⊎ (e ≡ (with_note (Some n) k).epoch) → (ps ≡ k.pairs) ⊎ (ps ≡ (with_note (Some n) k).pairs)
+    → Reads e ps d false k ⊎ Reads e ps d true (with_note (Some n) k)
+reads_either e ps d (notes.Epoch x) k doubt epoch pair =
+    let same : ps ≡ k.pairs = ⊎_elim (λ h. h) (λ h. h) pair in
+    ⊎_elim (λ old. inl (old_reads e ps d k doubt.epoch_is doubt.pairs_are old same))
+    (λ new. inr (record { epoch_is = new; pairs_are = same; told = later_epoch e ps d (λ is. omega (arith, is, new, doubt.epoch_is, doubt.next)) }))
+    epoch
+reads_either e ps d (notes.Pair p) k doubt epoch pair =
+    let same : e ≡ k.epoch = ⊎_elim (λ h. h) (λ h. h) epoch in
+    ⊎_elim (λ old. inl (old_reads e ps d k doubt.epoch_is doubt.pairs_are same old))
+    (λ new.
+    let more : length ps ≡ length k.pairs + 1 = ap length new ∙ length-append k.pairs (p ∷ []) in
+    inr (record { epoch_is = same; pairs_are = new; told = longer_list e ps d (λ is. omega (arith, is, more, doubt.pairs_are)) }))
+    pair
+
+-- both journals are read, and each image has what they have
+pub holds_read : (e : ℕ) (ps : List PairRec) (epoch_image pairs_image : List ℕ → Type 0) (k : JoinerKept) → e ≡ k.epoch → ps ≡ k.pairs → ((c : List ℕ) → epoch_image c → epochs.Keeps e c) → ((c : List ℕ) → pairs_image c → pairs.Keeps ps c) → Holds e ps epoch_image pairs_image k
+holds_read e ps epoch_image pairs_image k epoch_is pairs_are epoch_durable pairs_durable = record {
+  epoch_is = epoch_is;
+  pairs_are = pairs_are;
+  images = record {
+    epochs_or = λ c here. inl (subst (λ (x : ℕ). epochs.Keeps x c) epoch_is (epoch_durable c here));
+    pairs_or = λ c here. inl (subst (λ (xs : List PairRec). pairs.Keeps xs c) pairs_are (pairs_durable c here));
+  };
+}
+
+module _ (e : ℕ) (ps : List PairRec) (d : Doubt) (n : JoinerNote) (k : JoinerKept) (epoch_image pairs_image : List ℕ → Type 0) (told : Bool) (doubt : InDoubt d n k) (epoch : (e ≡ k.epoch) ⊎ (e ≡ (with_note (Some n) k).epoch)) (pair : (ps ≡ k.pairs) ⊎ (ps ≡ (with_note (Some n) k).pairs)) (more : told ≡ has_more e ps d)
+    (epoch_durable : (c : List ℕ) → epoch_image c → epochs.Keeps e c) (pairs_durable : (c : List ℕ) → pairs_image c → pairs.Keeps ps c) where
+  abbrev some_bytes : List ℕ → Option (List ℕ)
+  some_bytes b = Some b
+
+  -- the note landed
+  pub landed : told ≡ true → IsFound (Some d.payload) n k e ps epoch_image pairs_image
+  landed is_told =
+      ⊎_elim (λ old. let is = old.told in absurd (cc (is_told, more, is)))
+      (λ new. inr (ap some_bytes doubt.record_is, holds_read e ps epoch_image pairs_image (with_note (Some n) k) new.epoch_is new.pairs_are epoch_durable pairs_durable))
+      (reads_either e ps d n k doubt epoch pair)
+
+  -- nothing did
+  pub not_landed : told ≡ false → IsFound None n k e ps epoch_image pairs_image
+  not_landed not_told =
+      ⊎_elim (λ old. inl (refl, holds_read e ps epoch_image pairs_image k old.epoch_is old.pairs_are epoch_durable pairs_durable))
+      (λ new. let is = new.told in absurd (cc (not_told, more, is)))
+      (reads_either e ps d n k doubt epoch pair)
+
+-- ---- a disk of which each image has such records isn't damaged
+
+no_epoch : (e at : ℕ) → epoch_ok e ≡ Err at → ⊥
+no_epoch e at is = (cc)
+
+pub epochs_undamaged : (k m : JoinerKept) (image : List ℕ → Type 0) (tells : Bool) (old new : ℕ) (fault : JournalFault) → IsTrue tells → ((c : List ℕ) → image c → EpochOr k m c) → epochs.IsRefusedAgain tells image old new fault → IsUndamaged fault
+epochs_undamaged k m image tells old new (Damaged at) told or err =
+    let bad = err told in
+    ⊎_elim (λ keeps. no_epoch k.epoch at (sym keeps ∙ bad.2)) (λ keeps. no_epoch m.epoch at (sym keeps ∙ bad.2)) (or bad.0 bad.1)
+epochs_undamaged k m image tells old new Disk told or err = tt
+epochs_undamaged k m image tells old new Memory told or err = tt
+
+no_records : (rs : List (List ℕ)) (at : ℕ) → ok_of rs ≡ Err at → ⊥
+no_records rs at is = (cc)
+
+-- each record of pairs is a pair's
+not_other : (ps qs : List PairRec) (other : List ℕ) (rest : List (List ℕ)) → All IsPair ps → pairs.IsOther other → map record_of ps ≡ map record_of qs ++ other ∷ rest → ⊥
+not_other [] [] other rest all is e = absurd (cc e)
+not_other (p ∷ ps) [] other rest all is e = is p (All-head IsPair p ps all) (sym (ap head_of e))
+not_other [] (q ∷ qs) other rest all is e = absurd (cc e)
+not_other (p ∷ ps) (q ∷ qs) other rest all is e = not_other ps qs other rest (All-tail IsPair p ps all) is (ap tail_of e)
+
+no_damage : (ps : List PairRec) (c : List ℕ) (at : ℕ) → pairs.Keeps ps c → pairs.IsDamagedAt c at → ⊥
+no_damage ps c at keeps damaged =
+    ⊎_elim (λ bad. no_records (map record_of ps) at (sym keeps.1 ∙ bad))
+    (λ other. let at_ = other.2 in not_other ps at_.pairs at_.other at_.rest keeps.0 at_.is_other (same_records (map record_of ps) other.0 (sym keeps.1 ∙ other.1) ∙ at_.parts))
+    damaged
+
+pub pairs_undamaged : (k m : JoinerKept) (image : List ℕ → Type 0) (tells : Bool) (old new : ℕ) (fault : JournalFault) → IsTrue tells → ((c : List ℕ) → image c → PairsOr k m c) → pairs.IsRefusedAgain tells image old new fault → IsUndamaged fault
+pairs_undamaged k m image tells old new (Damaged at) told or err =
+    let bad = err told in
+    ⊎_elim (λ keeps. no_damage k.pairs bad.0 at keeps bad.2) (λ keeps. no_damage m.pairs bad.0 at keeps bad.2) (or bad.0 bad.1)
+pairs_undamaged k m image tells old new Disk told or err = tt
+pairs_undamaged k m image tells old new Memory told or err = tt

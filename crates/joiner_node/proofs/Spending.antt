@@ -1,0 +1,45 @@
+-- A joiner in its last epoch.
+use Rattle.std.proofs.Common.{◌≡◌, ℕ, ◌==◌, Option, Some, None, refl, sym, ap, ◌∙◌, arith}
+use Rattle.std.specs.Prelude.{if◌then◌else◌}
+use Rattle.std.proofs.lemmas.Bool.Decides.{nat_tests}
+use Rattle.air_bus.specs.declared.entry.Input.{Input as Bytes}
+use Rattle.air_bus.specs.declared.entry.Input.TheVariants as bytes
+use Rattle.packet_codec.specs.declared.node.Input.{Input}
+use Rattle.packet_codec.specs.declared.node.Input.TheVariants.{Start}
+use Rattle.turn_defs.specs.Setting.{Setting}
+use Rattle.site_node.specs.Bytes.{Reads, IsJunk}
+use Rattle.joiner_node.specs.Node.{JoinerState, spends_of}
+
+start_bytes : (g : Setting) (b : Bytes) (i : Input) → Reads g b i → i ≡ Start → b ≡ bytes.Start
+start_bytes g bytes.Start i reads is = refl
+start_bytes g bytes.Own i reads is = absurd (cc (reads, is))
+start_bytes g bytes.Tick i reads is = absurd (cc (reads, is))
+start_bytes g (bytes.Packet from p) i reads is = let delivered = reads.5 in absurd (cc (delivered, is))
+
+abbrev spent_by : ℕ → Option ℕ
+spent_by e = if e == 4294967294 then Some e else None
+
+is_spent : (e : ℕ) → e ≡ 4294967294 → spent_by e ≡ Some e
+is_spent e is = grind (arith, nat_tests)
+
+last_of : (e epoch : ℕ) → spent_by e ≡ Some epoch → e ≡ 4294967294
+last_of e epoch is = grind (arith, nat_tests)
+
+-- a Start in the last epoch is refused with it
+pub spends : (s : JoinerState) (b : Bytes) (i : Input) (kept last : ℕ) → Reads s.node.setting b i → kept ≡ s.node.kept.epoch → (i ≡ Start) × (kept ≡ 4294967294) × (last ≡ kept) → spends_of s b ≡ Some last
+spends s b i kept last reads same (start, is, told) =
+    ap (spends_of s) (start_bytes s.node.setting b i reads start) ∙ is_spent s.node.kept.epoch (sym same ∙ is) ∙ ap (λ (e : ℕ). Some e) (sym same ∙ sym told)
+
+-- and nothing else is
+pub starts : (s : JoinerState) (b : Bytes) (i : Input) (epoch : ℕ) → Reads s.node.setting b i → spends_of s b ≡ Some epoch → (i ≡ Start) × (s.node.kept.epoch ≡ 4294967294)
+starts s bytes.Start i epoch reads is = (reads, last_of s.node.kept.epoch epoch is)
+starts s bytes.Own i epoch reads is = absurd (cc is)
+starts s bytes.Tick i epoch reads is = absurd (cc is)
+starts s (bytes.Packet from p) i epoch reads is = absurd (cc is)
+
+-- what no packet spells is no Start
+pub spent_junk : (s : JoinerState) (b : Bytes) (epoch : ℕ) → IsJunk s.node.setting b → spends_of s b ≡ Some epoch → ⊥
+spent_junk s bytes.Start epoch junk is = junk Start refl
+spent_junk s bytes.Own epoch junk is = absurd (cc is)
+spent_junk s bytes.Tick epoch junk is = absurd (cc is)
+spent_junk s (bytes.Packet from p) epoch junk is = absurd (cc is)

@@ -1,0 +1,344 @@
+-- A turn of a joiner over its disks, and its restart, as the states' entries.
+use Rattle.std.proofs.Common.{◌≡◌, inl, inr, ⊎_elim, ℕ, suc, ◌-◌, ◌^◌, ◌≤◌, nat_lt, Bool, true, false, ◌&&◌, List, [], length, Option, Some, None, refl, sym, ap, ◌∙◌, subst, arith}
+use Rattle.std.specs.Prelude.{is_some, option_map, find, if◌then◌else◌, IsTrue, Result, Ok, Err, IfOk, IfErr, OnOk, OnErr, IsErrAnd, ⊤}
+use Rattle.log_records.specs.declared.records.QueryRec.{QueryRec as Query}
+use Rattle.log_records.specs.declared.records.ClickRec.{ClickRec as Click}
+use Rattle.log_records.specs.Log.{first}
+use Rattle.registry_state.specs.declared.Insert.{Insert}
+use Rattle.registry_state.specs.declared.Answer.{Answer}
+use Rattle.registry_state.specs.declared.Answer.TheVariants.{Granted, Duplicate, TooOld}
+use Rattle.output_log.specs.declared.pair.PairRec.{PairRec}
+use Rattle.air_bus.specs.declared.entry.Input.{Input as Bytes}
+use Rattle.air_bus.specs.declared.entry.Input.TheVariants as bytes
+use Rattle.air_bus.specs.declared.entry.Entry.TheVariants.{Begin, End, Stop}
+use Rattle.packet_codec.specs.declared.packet.Packet.{Packet}
+use Rattle.packet_codec.specs.declared.packet.Packet.TheVariants as packet
+use Rattle.packet_codec.specs.declared.node.Input.{Input}
+use Rattle.packet_codec.specs.declared.node.Input.TheVariants.{Start, Own, Tick, Deliver}
+use Rattle.turn_defs.specs.Setting.{Setting}
+use Rattle.turn_defs.specs.Turns.{Note, Advance, Park, Settle, Epoch, Output, Voted, Out, land}
+use Rattle.site_node.specs.Bytes.{record_of, AreSpelled, Reads, IsJunk}
+use Rattle.site_node.specs.States.{State, MayTake, row, written, closes, opens}
+use Rattle.site_node.specs.declared.roster.Roster.{Roster}
+use Rattle.site_node.specs.Rosters.{IsOf}
+use Rattle.joiner_core.specs.Joiner.{JoinerKept, JoinerLive, Flight, land_joiner, in_flight, is_for, looks, joins, replied, joiner_gets}
+use Rattle.joiner_core.specs.Standing.{Serves, Stands, IsSame, Answers, note_of}
+use Rattle.joiner_core.specs.declared.turn.Turn.{Turn}
+use Rattle.joiner_core.specs.declared.turn.JoinerNote.{JoinerNote}
+use Rattle.joiner_core.specs.declared.turn.JoinerNote.TheVariants as notes
+use Rattle.joiner_core.specs.declared.node_core.JoinerCore.{JoinerCore}
+use Rattle.joiner_node.specs.Read.{HasRead}
+use Rattle.joiner_node.specs.Disks.{MayHave, Holds, IsNext, with_note, bytes_of, AreInDoubt, IsFound}
+use Rattle.joiner_node.specs.Records.{recorded_as, IsAbove}
+use Rattle.joiner_node.specs.declared.records.Record.{Record}
+use Rattle.joiner_node.specs.Joining.{joiner_rows, joiner_row, Knows, MayGet}
+use Rattle.joiner_node.specs.declared.disks.Doubt.{Doubt}
+use Rattle.joiner_node.specs.declared.node.ReadyTurn.{ReadyTurn}
+use Rattle.joiner_node.specs.Node.{JoinerState, LeadsTo, row_at, Parts, StandsBy, StandsAt, IsRow}
+
+pub none_of : {A : Type 0} (o : Option A) → is_some o ≡ false → o ≡ None
+none_of None off = refl
+none_of (Some x) off = absurd (cc off)
+
+-- ---- what a turn begins with
+
+pub gets_of : (g : Setting) (live : Option JoinerLive) (b : Bytes) (i : Input) → Reads g b i → MayTake live b → MayGet live i
+gets_of g None bytes.Start i reads may = subst (MayGet None) (sym reads) tt
+gets_of g None bytes.Own i reads may = absurd may
+gets_of g None bytes.Tick i reads may = absurd may
+gets_of g None (bytes.Packet from p) i reads may = absurd may
+gets_of g (Some l) bytes.Start i reads may = absurd may
+gets_of g (Some l) bytes.Own i reads may = subst (MayGet (Some l)) (sym reads) tt
+gets_of g (Some l) bytes.Tick i reads may = subst (MayGet (Some l)) (sym reads) tt
+gets_of g (Some l) (bytes.Packet from p) i reads may = subst (MayGet (Some l)) (sym reads.5) tt
+
+pub record IsUp (live : Option JoinerLive) : Type 0 where
+  pub knows : JoinerLive
+  pub is : live ≡ Some knows
+
+pub up_of : (g : Setting) (live : Option JoinerLive) (b : Bytes) → MayTake live b → IsJunk g b → IsUp live
+up_of g None bytes.Start may junk = absurd (junk Start refl)
+up_of g None bytes.Own may junk = absurd may
+up_of g None bytes.Tick may junk = absurd may
+up_of g None (bytes.Packet from p) may junk = absurd may
+up_of g (Some l) b may junk = record { knows = l; is = refl }
+
+-- ---- a joiner with no record in doubt
+
+pub quiet : (d : Option Doubt) (p : Parts) (epoch_image pairs_image : List ℕ → Type 0) (s : JoinerState) → d ≡ None → StandsBy d p epoch_image pairs_image s
+    → Holds p.epoch p.written epoch_image pairs_image s.node.kept × Knows p.up p.core s.node.setting s.number s.node.kept s.node.live
+quiet None p epoch_image pairs_image s none by = by
+quiet (Some d) p epoch_image pairs_image s none by = absurd (cc none)
+
+-- it stands at each state of this number and setting, these records and this knowledge
+pub stands_none : (p : Parts) (epoch_image pairs_image : List ℕ → Type 0) (s : JoinerState) → p.in_doubt ≡ None → IsOf p.roster s.node.setting → s.number ≡ p.number → Serves p.core s.node.setting s.number → HasRead p.log p.place p.lines s.node.setting.queries
+    → Holds p.epoch p.written epoch_image pairs_image s.node.kept → Knows p.up p.core s.node.setting s.number s.node.kept s.node.live → StandsAt p epoch_image pairs_image s
+stands_none p epoch_image pairs_image s none of_g number serves reads holds knows = record {
+  setting = of_g;
+  number_is = number;
+  serves = serves;
+  reads = reads;
+  by = subst (λ (d : Option Doubt). StandsBy d p epoch_image pairs_image s) (sym none) (holds, knows);
+}
+
+-- an entry led to this state
+pub led_to : (s t : JoinerState) (n : ℕ) (b : Bytes) → LeadsTo s (Begin n b) t → record { number = s.number; node = opens s.node b } ≡ t
+led_to s t n b led =
+    let of : (x : ℕ) (y : State JoinerKept JoinerLive) → JoinerState = λ x y. record { number = x; node = y } in
+    ap (λ (x : ℕ). of x (opens s.node b)) (sym led.number) ∙ ap (λ (y : State JoinerKept JoinerLive). of t.number y) (sym led.leads.2)
+
+-- what no packet spells changes nothing
+pub idles : (p : Parts) (epoch_image pairs_image : List ℕ → Type 0) (s t : JoinerState) (n : ℕ) (b : Bytes) (ps : List (ℕ × List ℕ)) (sent : ℕ) → p.in_doubt ≡ None → StandsAt p epoch_image pairs_image s
+    → LeadsTo s (Begin n b) t → IsJunk s.node.setting b → ps ≡ [] → sent ≤ length ps → (u : JoinerState) × LeadsTo t (End n None ps sent) u × StandsAt p epoch_image pairs_image u
+idles p epoch_image pairs_image s t n b ps sent none at led junk empty le =
+    let up = up_of s.node.setting s.node.live b led.leads.1 junk in
+    let known = quiet p.in_doubt p epoch_image pairs_image s none at.by in
+    let after : State JoinerKept JoinerLive = closes s.node s.node.kept (Some up.knows) in
+    let u : JoinerState = record { number = s.number; node = after } in (
+      u,
+      subst (λ (x : JoinerState). LeadsTo x (End n None ps sent) u) (led_to s t n b led)
+          (record { number = refl; leads = (b, refl, le, inr (record { junk = junk; no_note = refl; no_packets = empty; knows = up.knows; up = up.is; state = refl })) }),
+      stands_none p epoch_image pairs_image u none at.setting at.number_is at.serves at.reads known.0 (subst (λ (live : Option JoinerLive). Knows p.up p.core s.node.setting s.number s.node.kept live) up.is known.1),
+    )
+
+-- a turn that is done
+pub ends : (p : Parts) (epoch_image pairs_image : List ℕ → Type 0) (core : JoinerCore) (s t : JoinerState) (n : ℕ) (b : Bytes) (i : Input) (ready : ReadyTurn) (said : Option (List ℕ)) (ps : List (ℕ × List ℕ)) (sent : ℕ)
+    → LeadsTo s (Begin n b) t → Reads s.node.setting b i → (row : IsRow core s.node.setting s.number s.node.kept (row_at s i) ready) → said ≡ option_map bytes_of row.note → ps ≡ ready.packets → sent ≤ length ps
+    → p.in_doubt ≡ None → IsOf p.roster s.node.setting → s.number ≡ p.number → HasRead p.log p.place p.lines s.node.setting.queries
+    → Holds p.epoch p.written epoch_image pairs_image (with_note row.note s.node.kept) → Knows p.up p.core s.node.setting s.number (with_note row.note s.node.kept) (Some (row_at s i).live) → Serves p.core s.node.setting s.number
+    → (u : JoinerState) × LeadsTo t (End n said ps sent) u × StandsAt p epoch_image pairs_image u
+ends p epoch_image pairs_image core s t n b i ready said ps sent led reads row said_is ps_is le none of_g number read holds knows serves =
+    let out = row_at s i in
+    let k = written (joiner_rows s.number) s.node i in
+    let is : with_note row.note s.node.kept ≡ k = ap (λ (o : Option Note). land land_joiner o s.node.kept) row.is_note in
+    let u : JoinerState = record { number = s.number; node = closes s.node k (Some out.live) } in (
+      u,
+      subst (λ (x : JoinerState). LeadsTo x (End n said ps sent) u) (led_to s t n b led)
+          (record {
+            number = refl;
+            leads = (
+              b,
+              refl,
+              le,
+              inl (
+                i,
+                reads,
+                record {
+                  noted = said_is ∙ noted_bytes row.note ∙ ap (option_map record_of) row.is_note;
+                  packets = ready.turn.packets.items;
+                  spelled = subst (AreSpelled ready.turn.packets.items) (sym ps_is) row.spelled;
+                  sent = row.sent;
+                  state = refl;
+                },
+              ),
+            );
+          }),
+      stands_none p epoch_image pairs_image u none of_g number serves read (subst (λ (x : JoinerKept). Holds p.epoch p.written epoch_image pairs_image x) is holds)
+          (subst (λ (x : JoinerKept). Knows p.up p.core s.node.setting s.number x (Some out.live)) is knows),
+    )
+  where
+    noted_bytes : (o : Option JoinerNote) → option_map bytes_of o ≡ option_map record_of (option_map note_of o)
+    noted_bytes None = refl
+    noted_bytes (Some x) = refl
+
+-- a turn that couldn't be decided is open still
+pub waits_open : (p : Parts) (epoch_image pairs_image : List ℕ → Type 0) (s t : JoinerState) (n : ℕ) (b : Bytes) → LeadsTo s (Begin n b) t → p.in_doubt ≡ None → IsOf p.roster s.node.setting → s.number ≡ p.number → Serves p.core s.node.setting s.number
+    → HasRead p.log p.place p.lines s.node.setting.queries → Holds p.epoch p.written epoch_image pairs_image s.node.kept → Knows p.up p.core s.node.setting s.number s.node.kept s.node.live → StandsAt p epoch_image pairs_image t
+waits_open p epoch_image pairs_image s t n b led none of_g number serves reads holds knows =
+    subst (λ (x : JoinerState). StandsAt p epoch_image pairs_image x) (led_to s t n b led) (stands_none p epoch_image pairs_image (record { number = s.number; node = opens s.node b }) none of_g number serves reads holds knows)
+
+by_doubt : (d : Option Doubt) (o : Option JoinerNote) (p : Parts) (epoch_image pairs_image : List ℕ → Type 0) (s : JoinerState) (b : Bytes) (i : Input) → Reads s.node.setting b i → option_map note_of o ≡ (row_at s i).note → AreInDoubt d o s.node.kept
+    → MayHave s.node.kept (with_note o s.node.kept) epoch_image pairs_image → StandsBy d p epoch_image pairs_image (record { number = s.number; node = opens s.node b })
+by_doubt None o p epoch_image pairs_image s b i reads noted are images = absurd are
+by_doubt (Some d) None p epoch_image pairs_image s b i reads noted are images = absurd are
+by_doubt (Some d) (Some x) p epoch_image pairs_image s b i reads noted are images = record { begun = b; opened = refl; input = i; reads = reads; note = x; noted = sym noted; in_doubt = are; images = images }
+
+-- a turn that was stopped is open still, and its note may have landed
+pub stays_open : (p : Parts) (epoch_image pairs_image : List ℕ → Type 0) (s t : JoinerState) (n : ℕ) (b : Bytes) (i : Input) (o : Option JoinerNote) → LeadsTo s (Begin n b) t → Reads s.node.setting b i → option_map note_of o ≡ (row_at s i).note
+    → IsOf p.roster s.node.setting → s.number ≡ p.number → Serves p.core s.node.setting s.number → HasRead p.log p.place p.lines s.node.setting.queries → AreInDoubt p.in_doubt o s.node.kept → MayHave s.node.kept (with_note o s.node.kept) epoch_image pairs_image
+    → StandsAt p epoch_image pairs_image t
+stays_open p epoch_image pairs_image s t n b i o led reads noted of_g number serves read are images =
+    subst (λ (x : JoinerState). StandsAt p epoch_image pairs_image x) (led_to s t n b led)
+    (record { setting = of_g; number_is = number; serves = serves; reads = read; by = by_doubt p.in_doubt o p epoch_image pairs_image s b i reads noted are images })
+
+-- ---- what a turn's steps say, together
+
+pub all_five : {T E : Type 0} (r : Result T E) (A B Q : T → Type 0) (C D F : Type 0) → IfOk r A → IfOk r B → OnOk r C → OnOk r D → OnOk r F → ((x : T) → A x → B x → C → D → F → Q x) → IfOk r Q
+all_five (Ok x) A B Q C D F a b c d f go = go x a b c d f
+all_five (Err e) A B Q C D F a b c d f go = tt
+
+pub both_err : {T E : Type 0} (r : Result T E) (A B Q : Type 0) → OnErr r A → OnErr r B → (A → B → Q) → OnErr r Q
+both_err (Ok x) A B Q a b go = tt
+both_err (Err e) A B Q a b go = go a b
+
+pub both_tell : (a b : Bool) → IsTrue (a && b) → IsTrue a × IsTrue b
+both_tell true b h = (refl, h)
+both_tell false b h = absurd (cc h)
+
+pub serves_same : (old new : JoinerCore) (g : Setting) (n : ℕ) → IsSame old new → Serves old g n → Serves new g n
+serves_same old new g n same serves = record { node = same.node ∙ serves.node; site = same.site ∙ serves.site }
+
+pub knows_same : (up up' : Bool) (old new : JoinerCore) (g : Setting) (n : ℕ) (k : JoinerKept) (live : Option JoinerLive) → up' ≡ up → IsSame old new → Knows up old g n k live → Knows up' new g n k live
+knows_same up up' old new g n k live e same knows = subst (λ (x : Bool). Knows x new g n k live) (sym e) (go up live knows)
+  where
+    go : (u : Bool) (l : Option JoinerLive) → Knows u old g n k l → Knows u new g n k l
+    go true (Some l) stands = record { serves = serves_same old new g n same stands.serves; epoch = same.epoch ∙ stands.epoch; live = same.live ∙ stands.live }
+    go true None stands = absurd stands
+    go false (Some l) stands = absurd stands
+    go false None stands = tt
+
+pub serves_of : (up : Bool) (core : JoinerCore) (g : Setting) (n : ℕ) (k : JoinerKept) (l : JoinerLive) → Knows up core g n k (Some l) → Serves core g n
+serves_of true core g n k l knows = knows.serves
+serves_of false core g n k l knows = absurd knows
+
+pub roster_same : (old new : Roster) (g : Setting) → new ≡ old → IsOf old g → IsOf new g
+roster_same old new g e of_g = subst (λ (r : Roster). IsOf r g) (sym e) of_g
+
+-- room was made
+pub holds_within : (epoch epoch' : ℕ) (ps ps' : List PairRec) (ei pi ei' pi' : List ℕ → Type 0) (k : JoinerKept) → epoch' ≡ epoch → ps' ≡ ps → ((c : List ℕ) → ei' c → ei c) → ((c : List ℕ) → pi' c → pi c) → Holds epoch ps ei pi k → Holds epoch' ps' ei' pi' k
+holds_within epoch epoch' ps ps' ei pi ei' pi' k e p ein pin holds = record {
+  epoch_is = e ∙ holds.epoch_is;
+  pairs_are = p ∙ holds.pairs_are;
+  images = record { epochs_or = λ c here. holds.images.epochs_or c (ein c here); pairs_or = λ c here. holds.images.pairs_or c (pin c here) };
+}
+
+-- a row's note is of the next epoch, or a pair
+abbrev IsNextNote : Option Note → JoinerKept → Type 0
+IsNextNote None k = ⊤
+IsNextNote (Some (Epoch e)) k = e ≡ suc k.epoch
+IsNextNote (Some (Output p)) k = ⊤
+IsNextNote (Some (Advance p)) k = ⊤
+IsNextNote (Some (Park p)) k = ⊤
+IsNextNote (Some (Settle p)) k = ⊤
+IsNextNote (Some (Voted p)) k = ⊤
+
+next_by : (k : JoinerKept) (o : Option JoinerNote) (out : Option Note) → option_map note_of o ≡ out → IsNextNote out k → IsNext o k
+next_by k None out e is = tt
+next_by k (Some (notes.Epoch x)) out e is = subst (λ (n : Option Note). IsNextNote n k) (sym e) is
+next_by k (Some (notes.Pair p)) out e is = tt
+
+note_if : (k : JoinerKept) (b : Bool) (x y : Out JoinerLive) → IsNextNote x.note k → IsNextNote y.note k → IsNextNote (if b then x else y).note k
+note_if k true x y this other = this
+note_if k false x y this other = other
+
+module _ (g : Setting) (n : ℕ) (k : JoinerKept) (l : JoinerLive) where
+  looks_next : (p : ℕ) (c : Click) (o : Option Query) → IsNextNote (looks g n k l p c o).note k
+  looks_next p c None = tt
+  looks_next p c (Some q) = note_if k (nat_lt l.number (2 ^ 64 - 1)) _ _ tt tt
+
+  joins_next : (p : ℕ) (c : Click) → IsNextNote (joins g n k l p c).note k
+  joins_next p c = note_if k (in_flight l.flight c.id) _ _ tt (note_if k (nat_lt (length l.flight) 32) _ _ (looks_next p c (first g.queries c.query)) tt)
+
+  replied_next : (x : Insert) (a : Answer) (o : Option Flight) → IsNextNote (replied g n k l x a o).note k
+  replied_next x a None = tt
+  replied_next x Granted (Some f) = tt
+  replied_next x (Duplicate h) (Some f) = tt
+  replied_next x (TooOld b) (Some f) = tt
+
+  gets_next : (p : Packet) → IsNextNote (joiner_gets g n k l p).note k
+  gets_next (packet.Join p c) = joins_next p c
+  gets_next (packet.Reply x a) = replied_next x a (find (is_for x) l.flight)
+  gets_next _ = tt
+
+row_next : (g : Setting) (n : ℕ) (k : JoinerKept) (live : Option JoinerLive) (i : Input) → IsNextNote (joiner_row g n k live i).note k
+row_next g n k None i = refl
+row_next g n k (Some l) Start = tt
+row_next g n k (Some l) Own = tt
+row_next g n k (Some l) Tick = tt
+row_next g n k (Some l) (Deliver from p) = gets_next g n k l p
+
+pub next_of : (g : Setting) (n : ℕ) (k : JoinerKept) (live : Option JoinerLive) (i : Input) (o : Option JoinerNote) → option_map note_of o ≡ (joiner_row g n k live i).note → IsNext o k
+next_of g n k live i o e = next_by k o (joiner_row g n k live i).note e (row_next g n k live i)
+
+above_by : (k : JoinerKept) (kept : ℕ) (o : Option JoinerNote) → kept ≡ k.epoch → IsNext o k → IsAbove o kept
+above_by k kept None same next = tt
+above_by k kept (Some (notes.Epoch x)) same next = omega (arith, same, next)
+above_by k kept (Some (notes.Pair p)) same next = tt
+
+pub above_of : (g : Setting) (n : ℕ) (k : JoinerKept) (live : Option JoinerLive) (i : Input) (kept : ℕ) (o : Option JoinerNote) → kept ≡ k.epoch → option_map note_of o ≡ (joiner_row g n k live i).note → IsAbove o kept
+above_of g n k live i kept o same e = above_by k kept o same (next_of g n k live i o e)
+
+-- the note is taken out of the turn
+pub row_is : (core : JoinerCore) (g : Setting) (n : ℕ) (k : JoinerKept) (out : Out JoinerLive) (turn : Turn) (taken : Option JoinerNote) (sent : List (ℕ × List ℕ)) (writes : Option Record) → Answers core g n k out turn → AreSpelled turn.packets.items sent → writes ≡ recorded_as turn.note
+    → IsRow core g n k out (record { turn = record { note = taken; packets = turn.packets; change = turn.change }; packets = sent; writes = writes })
+row_is core g n k out turn taken sent writes answers spelled is = record {
+  note = turn.note;
+  is_note = answers.note;
+  is_record = is;
+  sent = answers.packets;
+  spelled = spelled;
+  next = record { serves = answers.next.serves; epoch = answers.next.epoch ∙ ap (λ (o : Option Note). (land land_joiner o k).epoch) (sym answers.note); live = answers.next.live };
+}
+
+pub knows_up : (up : Bool) (core : JoinerCore) (g : Setting) (n : ℕ) (k : JoinerKept) (l : JoinerLive) → up ≡ true → Stands core g n k l → Knows up core g n k (Some l)
+knows_up up core g n k l is stands = subst (λ (u : Bool). Knows u core g n k (Some l)) (sym is) stands
+
+pub knows_down : (up : Bool) (core : JoinerCore) (g : Setting) (n : ℕ) (k : JoinerKept) → up ≡ false → Knows up core g n k None
+knows_down up core g n k is = subst (λ (u : Bool). Knows u core g n k None) (sym is) tt
+
+pub stands_up : (up : Bool) (core : JoinerCore) (g : Setting) (n : ℕ) (k : JoinerKept) (live : Option JoinerLive) (l : JoinerLive) → live ≡ Some l → Knows up core g n k live → Stands core g n k l
+stands_up up core g n k live l is knows = go up (subst (λ (x : Option JoinerLive). Knows up core g n k x) is knows)
+  where
+    go : (u : Bool) → Knows u core g n k (Some l) → Stands core g n k l
+    go true stands = stands
+    go false stands = absurd stands
+
+-- ---- a fault that is handed on
+
+pub on_err : {T E P : Type 0} (r : Result T E) → P → OnErr r P
+on_err (Ok x) p = tt
+on_err (Err e) p = p
+
+pub if_err : {T E : Type 0} (r : Result T E) (f : E) (P : E → Type 0) → IsErrAnd r (λ e. e ≡ f) → P f → IfErr r P
+if_err (Ok x) f P is p = absurd is
+if_err (Err e) f P is p = subst P (sym is) p
+
+-- ---- a restart
+
+-- the joiner is down over what was found
+pub restarts : (d : Option Doubt) (p : Parts) (old_epoch old_pairs : List ℕ → Type 0) (q : Parts) (epoch_image pairs_image : List ℕ → Type 0) (s : JoinerState) (n : ℕ) (landed : Option (List ℕ)) → StandsBy d p old_epoch old_pairs s → is_some d ≡ true
+    → ((note : JoinerNote) → AreInDoubt d (Some note) s.node.kept → MayHave s.node.kept (with_note (Some note) s.node.kept) old_epoch old_pairs → IsFound landed note s.node.kept q.epoch q.written epoch_image pairs_image)
+    → q.in_doubt ≡ None → q.up ≡ false → IsOf q.roster s.node.setting → s.number ≡ q.number → Serves q.core s.node.setting s.number → HasRead q.log q.place q.lines s.node.setting.queries
+    → (t : JoinerState) × LeadsTo s (Stop n landed) t × StandsAt q epoch_image pairs_image t
+restarts None p oe op q ei pi s n landed by waits found none down of_g number serves reads = absurd (cc waits)
+restarts (Some d) p oe op q ei pi s n landed by waits found none down of_g number serves reads =
+    let k = s.node.kept in
+    let m = written (joiner_rows s.number) s.node by.input in
+    let same : with_note (Some by.note) k ≡ m = ap (λ (o : Option Note). land land_joiner o k) (sym by.noted) in
+    let falls : (x : JoinerKept) → Holds q.epoch q.written ei pi x → StandsAt q ei pi (record { number = s.number; node = closes s.node x None }) =
+    λ x holds. stands_none q ei pi (record { number = s.number; node = closes s.node x None }) none of_g number serves reads holds (subst (λ (u : Bool). Knows u q.core s.node.setting s.number x None) (sym down) tt)
+    in
+    ⊎_elim
+    (λ old. (
+      record { number = s.number; node = closes s.node k None },
+      record { number = refl; leads = (by.begun, by.opened, inl (old.0, refl)) },
+      falls k old.1,
+    ))
+    (λ new. (
+      record { number = s.number; node = closes s.node m None },
+      record { number = refl; leads = (by.begun, by.opened, inr (by.input, by.reads, new.0 ∙ ap (option_map record_of) (sym by.noted), refl)) },
+      falls m (subst (λ (x : JoinerKept). Holds q.epoch q.written ei pi x) same new.1),
+    ))
+    (found by.note by.in_doubt by.images)
+
+-- it was refused, and each disk is as it may have been
+pub waits_still : (d : Option Doubt) (p : Parts) (old_epoch old_pairs : List ℕ → Type 0) (d' : Option Doubt) (q : Parts) (epoch_image pairs_image : List ℕ → Type 0) (s : JoinerState) → StandsBy d p old_epoch old_pairs s → is_some d ≡ true → d' ≡ d
+    → ((m : JoinerKept) → MayHave s.node.kept m old_epoch old_pairs → MayHave s.node.kept m epoch_image pairs_image) → StandsBy d' q epoch_image pairs_image s
+waits_still None p oe op d' q ei pi s by waits same images = absurd (cc waits)
+waits_still (Some d) p oe op d' q ei pi s by waits same images =
+    subst (λ (x : Option Doubt). StandsBy x q ei pi s) (sym same)
+    (record { begun = by.begun; opened = by.opened; input = by.input; reads = by.reads; note = by.note; noted = by.noted; in_doubt = by.in_doubt; images = images (with_note (Some by.note) s.node.kept) by.images })
+
+-- what a joiner that waits may have on its disks
+pub record IsBetween (s : JoinerState) (epoch_image pairs_image : List ℕ → Type 0) : Type 0 where
+  pub begun : Bytes
+  pub input : Input
+  pub note : JoinerNote
+  pub opened : s.node.opened ≡ Some begun
+  pub reads : Reads s.node.setting begun input
+  pub noted : option_map note_of (Some note) ≡ (row_at s input).note
+  pub images : MayHave s.node.kept (with_note (Some note) s.node.kept) epoch_image pairs_image
+
+pub between : (d : Option Doubt) (p : Parts) (epoch_image pairs_image : List ℕ → Type 0) (s : JoinerState) → StandsBy d p epoch_image pairs_image s → is_some d ≡ true → IsBetween s epoch_image pairs_image
+between None p ei pi s by waits = absurd (cc waits)
+between (Some d) p ei pi s by waits = record { begun = by.begun; input = by.input; note = by.note; opened = by.opened; reads = by.reads; noted = sym by.noted; images = by.images }

@@ -1,0 +1,24 @@
+-- Which queries of a log were read, and what a look-up answers.
+use Rattle.std.specs.Prelude.{◌≡◌, ℕ, List, ◌++◌, map, length, Option, Some, None}
+use Rattle.std.specs.List.{AllByRecursion}
+use Rattle.event_id.specs.declared.id.EventId.{EventId}
+use Rattle.log_records.specs.declared.records.QueryRec.{QueryRec as Query}
+use Rattle.log_records.specs.Line.{query_line, IsQuery}
+use Rattle.log_records.specs.Log.{first, HasLines}
+use Rattle.tail_reader.specs.Buffered.{behind}
+use Rattle.joiner_core.specs.declared.input.Looked.{Looked}
+use Rattle.joiner_core.specs.declared.input.Looked.TheVariants.{Found, Lines}
+
+-- The lines read are the log's first queries, and from the place on it has the others.
+pub record HasRead (log : List ℕ) (place : ℕ) (lines : List (Option Query)) (qs : List Query) : Type 0 where
+  pub read : List Query
+  pub others : List Query
+  pub all : qs ≡ read ++ others
+  pub so_far : lines ≡ map (λ q. Some q) read
+  pub each : AllByRecursion IsQuery others
+  pub behind_them : HasLines (behind log place) (map query_line others)
+
+-- the first of all the queries with the id, or that none of so many has it
+abbrev pub IsFirst : List Query → EventId → Looked → Type 0
+IsFirst qs id (Found q) = first qs id ≡ Some q
+IsFirst qs id (Lines n) = (first qs id ≡ None) × (length qs ≡ n)

@@ -1,0 +1,308 @@
+// A joiner's two disks.
+ghost use Rattle.std.specs.Prelude.{◌≡◌, None};
+ghost use Rattle.gate_journal.specs.declared.journal.JournalState.TheVariants.{Ready};
+ghost use Rattle.site_node.specs.Faults.{IsOfRestart, IsWhole};
+ghost use Rattle.joiner_node.specs.Disks.{IsUndamaged};
+
+use crate::records::Record;
+use air_bus::Payload;
+use epoch_journal::EpochJournal;
+use gate_journal::{Frame, JournalFault};
+use output_log::{OutputLog, PairRec, laws};
+use outside::{Disk, DiskName};
+use site_node::NodeFault;
+use std::alloc::{AllocError, Global};
+
+// A record that may have landed, and what was kept before it.
+#[derive(Drop)]
+pub(crate) struct Doubt {
+    payload: Payload,
+    epoch: u32,
+    pairs: u64,
+}
+
+// The journals of a joiner: its epochs, and the pairs that it wrote.
+#[derive(Drop)]
+pub(crate) struct Disks<D: Disk> {
+    // The place of the joiner: its site, and its number there.
+    site: u8,
+    joiner: u8,
+    epochs: EpochJournal<D>,
+    log: OutputLog<D>,
+    // After a disk failed, the record that may have landed.
+    in_doubt: Option<Doubt>,
+    alloc: Global,
+    ghost ready: { in_doubt ≡ None → (epochs.journal.state ≡ Ready) × (log.journal.state ≡ Ready) },
+}
+
+impl<D: Disk> Disks<D> {
+    ghost use Rattle.std.specs.Prelude.{◌≡◌, ℕ, List, ◌+◌, ◌<◌, ◌≤◌, ◌⊎◌, ◌++◌, [], ◌∷◌, true, false, None, Some, Option, is_some, option_map, vec_len, vec_capacity, length, IsTrue, IfOk, IfErr, OnOk, OnErr, IsErrOf};
+    ghost use Rattle.outside.specs.Disk.{Throughout};
+    ghost use Rattle.outside.specs.Faults.{Rose};
+    ghost use Rattle.gate_journal.specs.declared.journal.JournalState.TheVariants.{Ready};
+    ghost use Rattle.gate_journal.specs.Disk.{HasRoom};
+    ghost use Rattle.gate_journal.specs.Opening.{IsOpened};
+    ghost use Rattle.gate_journal.specs.Growth.{Continues};
+    ghost use Rattle.site_node.specs.Faults.{IsOfRestart, IsWhole};
+    ghost use Rattle.epoch_journal.specs.Epochs as epochs;
+    ghost use Rattle.epoch_journal.specs.Epochs.{KeepsOr};
+    ghost use Rattle.output_log.specs.Pairs as pairs;
+    ghost use Rattle.output_log.specs.Pairs.{IsPair, record_of, longest};
+    ghost use Rattle.joiner_core.specs.Joiner.{JoinerKept};
+    ghost use Rattle.joiner_core.specs.declared.turn.JoinerNote.{JoinerNote};
+    ghost use Rattle.joiner_node.specs.Records.{recorded_as, IsOwn, IsUnspent};
+    ghost use Rattle.joiner_node.specs.Disks.{EpochOr, PairsOr, MayHave, Holds, IsNext, with_note, bytes_of, InDoubt, AreInDoubt, IsLeftBehind, IsFound, has_more, IsRoomFor};
+
+    // Of journals that are ready.
+    pub(crate) fn new(
+        alloc: Global,
+        site: u8,
+        joiner: u8,
+        epochs: EpochJournal<D>,
+        log: OutputLog<D>,
+    ) -> Disks<D>
+        requires { (epochs.journal.state ≡ Ready) × (log.journal.state ≡ Ready) }
+        ensures epochs { result.epochs ≡ epochs }
+        ensures log { result.log ≡ log }
+        ensures up { result.in_doubt ≡ None }
+    {
+        Disks {
+            site,
+            joiner,
+            epochs,
+            log,
+            in_doubt: None,
+            alloc,
+        }
+    }
+
+    // The kept epoch.
+    pub(crate) fn epoch(&self) -> u32
+        ensures epoch { result ≡ self.now.epochs.epoch }
+        ensures limit { self.now.epochs.epoch ≤ 4294967294 }
+    {
+        self.epochs.epoch()
+    }
+
+    // The disks, which hold the journals.
+    pub(crate) fn into_disks(self) -> (D, D)
+        ensures epochs { result.0 ≡ self.epochs.journal.disk }
+        ensures log { result.1 ≡ self.log.journal.disk }
+    {
+        (self.epochs.into_disk(), self.log.into_disk())
+    }
+
+    // Room for the record, if there is one.
+    pub(crate) fn make_room(&mut self, writes: &Option<Record>) -> Result<(), AllocError>
+        ensures same { (self.new.site ≡ self.old.site) × (self.new.joiner ≡ self.old.joiner) × (self.new.in_doubt ≡ self.old.in_doubt) }
+        ensures epoch { self.new.epochs.epoch ≡ self.old.epochs.epoch }
+        ensures pairs { self.new.log.pairs.items ≡ self.old.log.pairs.items }
+        ensures room { OnOk result (IsRoomFor writes.now (record { epoch_calls = D.calls_left self.new.epochs.journal.disk; epoch_bytes = D.bytes_left self.new.epochs.journal.disk; pair_calls = D.calls_left self.new.log.journal.disk; pair_bytes = D.bytes_left self.new.log.journal.disk; places = vec_capacity self.new.log.pairs }) (vec_len self.new.log.pairs)) }
+        ensures epoch_moments { IsTrue D.tells → Throughout D.image D.since self.old.epochs.journal.disk self.new.epochs.journal.disk (D.image self.old.epochs.journal.disk) }
+        ensures pair_moments { IsTrue D.tells → Throughout D.image D.since self.old.log.journal.disk self.new.log.journal.disk (D.image self.old.log.journal.disk) }
+        ensures epoch_count { D.faults self.new.epochs.journal.disk ≡ D.faults self.old.epochs.journal.disk }
+        ensures pair_count { D.faults self.new.log.journal.disk ≡ D.faults self.old.log.journal.disk }
+    {
+        match writes {
+            None => Ok(()),
+            Some(Record::Epoch(_)) => self.epochs.make_room(self.alloc),
+            Some(Record::Pair { .. }) => self.log.make_room(self.alloc),
+        }
+    }
+
+    // Writes the record, if there is one, and gives it back for the bus. Where its disk fails it is in doubt.
+    pub(crate) fn append(&mut self, writes: Option<Record>) -> Result<Option<Payload>, NodeFault>
+        requires up { self.old.in_doubt ≡ None }
+        requires whole { IsOwn writes }
+        requires unspent { IsUnspent writes self.old.epochs.epoch }
+        requires room { IsRoomFor writes (record { epoch_calls = D.calls_left self.old.epochs.journal.disk; epoch_bytes = D.bytes_left self.old.epochs.journal.disk; pair_calls = D.calls_left self.old.log.journal.disk; pair_bytes = D.bytes_left self.old.log.journal.disk; places = vec_capacity self.old.log.pairs }) (vec_len self.old.log.pairs) }
+        ensures same { (self.new.site ≡ self.old.site) × (self.new.joiner ≡ self.old.joiner) }
+        ensures up { OnOk result (self.new.in_doubt ≡ None) }
+        ensures stopped { OnErr result (is_some self.new.in_doubt ≡ true) }
+        ensures kind { IfErr result (λ e. e ≡ NodeFault.Stopped) }
+        ensures note { (n : Option JoinerNote) → writes ≡ recorded_as n → IfOk result (λ payload. payload ≡ option_map bytes_of n) }
+        ensures epoch { OnErr result (self.new.epochs.epoch ≡ self.old.epochs.epoch) }
+        ensures holds { IsTrue D.tells → (k : JoinerKept) (n : Option JoinerNote) → writes ≡ recorded_as n → IsNext n k → Holds self.old.epochs.epoch self.old.log.pairs.items (D.image self.old.epochs.journal.disk) (D.image self.old.log.journal.disk) k → OnOk result (Holds self.new.epochs.epoch self.new.log.pairs.items (D.image self.new.epochs.journal.disk) (D.image self.new.log.journal.disk) (with_note n k)) }
+        ensures doubts { (k : JoinerKept) (n : Option JoinerNote) → writes ≡ recorded_as n → IsNext n k → self.old.epochs.epoch ≡ k.epoch → self.old.log.pairs.items ≡ k.pairs → OnErr result (AreInDoubt self.new.in_doubt n k) }
+        ensures epoch_moments { IsTrue D.tells → (k : JoinerKept) (n : Option JoinerNote) → writes ≡ recorded_as n → IsNext n k → Holds self.old.epochs.epoch self.old.log.pairs.items (D.image self.old.epochs.journal.disk) (D.image self.old.log.journal.disk) k → Throughout D.image D.since self.old.epochs.journal.disk self.new.epochs.journal.disk (EpochOr k (with_note n k)) }
+        ensures pair_moments { IsTrue D.tells → (k : JoinerKept) (n : Option JoinerNote) → writes ≡ recorded_as n → IsNext n k → Holds self.old.epochs.epoch self.old.log.pairs.items (D.image self.old.epochs.journal.disk) (D.image self.old.log.journal.disk) k → Throughout D.image D.since self.old.log.journal.disk self.new.log.journal.disk (PairsOr k (with_note n k)) }
+        ensures epoch_grows { IsTrue D.tells → (c : List ℕ) → D.image self.new.epochs.journal.disk c → Continues (D.image self.old.epochs.journal.disk) c }
+        ensures pair_grows { IsTrue D.tells → (c : List ℕ) → D.image self.new.log.journal.disk c → Continues (D.image self.old.log.journal.disk) c }
+        ensures fault { OnErr result (Rose (D.faults self.old.epochs.journal.disk + D.faults self.old.log.journal.disk) (D.faults self.new.epochs.journal.disk + D.faults self.new.log.journal.disk)) }
+        ensures epoch_count { D.faults self.old.epochs.journal.disk ≤ D.faults self.new.epochs.journal.disk }
+        ensures pair_count { D.faults self.old.log.journal.disk ≤ D.faults self.new.log.journal.disk }
+    {
+        match writes {
+            None => Ok(None),
+            Some(Record::Epoch(payload)) => self.raise(payload),
+            Some(
+                Record::Pair {
+                    frame,
+                    pair,
+                    payload,
+                },
+            ) => self.write(&frame, pair, payload),
+        }
+    }
+
+    // What may have landed of a record, and what is kept before it.
+    fn doubt(&self, payload: Payload) -> Doubt
+        ensures payload { result.payload ≡ payload }
+        ensures epoch { result.epoch ≡ self.now.epochs.epoch }
+        ensures pairs { result.pairs ≡ length self.now.log.pairs.items }
+    {
+        Doubt {
+            payload,
+            epoch: self.epochs.epoch(),
+            pairs: self.log.pairs().len() as u64,
+        }
+    }
+
+    // Raises the epoch, of which this is the record.
+    fn raise(&mut self, payload: Payload) -> Result<Option<Payload>, NodeFault>
+        requires up { self.old.in_doubt ≡ None }
+        requires unspent { self.old.epochs.epoch < 4294967294 }
+        requires room { HasRoom (D.calls_left self.old.epochs.journal.disk) (D.bytes_left self.old.epochs.journal.disk) 5 }
+        ensures same { (self.new.site ≡ self.old.site) × (self.new.joiner ≡ self.old.joiner) × (self.new.log ≡ self.old.log) }
+        ensures up { OnOk result (self.new.in_doubt ≡ None) }
+        ensures kind { IfErr result (λ e. e ≡ NodeFault.Stopped) }
+        ensures payload { IfOk result (λ written. written ≡ Some payload) }
+        ensures doubt { OnErr result (IsLeftBehind self.new.in_doubt payload self.old.epochs.epoch self.old.log.pairs.items) }
+        ensures raised { OnOk result (self.new.epochs.epoch ≡ self.old.epochs.epoch + 1) }
+        ensures err { OnErr result (self.new.epochs.epoch ≡ self.old.epochs.epoch) }
+        ensures ready { OnOk result (self.new.epochs.journal.state ≡ Ready) }
+        ensures moments { IsTrue D.tells → Throughout D.image D.since self.old.epochs.journal.disk self.new.epochs.journal.disk (KeepsOr self.old.epochs.epoch (self.old.epochs.epoch + 1)) }
+        ensures fault { OnErr result (Rose (D.faults self.old.epochs.journal.disk) (D.faults self.new.epochs.journal.disk)) }
+        ensures grows { IsTrue D.tells → (c : List ℕ) → D.image self.new.epochs.journal.disk c → Continues (D.image self.old.epochs.journal.disk) c }
+        ensures count { D.faults self.old.epochs.journal.disk ≤ D.faults self.new.epochs.journal.disk }
+    {
+        let doubt = self.doubt(payload);
+        match self.epochs.raise() {
+            Ok(_) => Ok(Some(doubt.payload)),
+            Err(_) => {
+                self.in_doubt = Some(doubt);
+                Err(NodeFault::Stopped)
+            }
+        }
+    }
+
+    // Writes a pair, with its record for the disk and for the bus.
+    fn write(
+        &mut self,
+        frame: &Frame,
+        pair: PairRec,
+        payload: Payload,
+    ) -> Result<Option<Payload>, NodeFault>
+        requires up { self.old.in_doubt ≡ None }
+        requires whole { IsPair pair × (frame.now ≡ record_of pair) }
+        requires room { HasRoom (D.calls_left self.old.log.journal.disk) (D.bytes_left self.old.log.journal.disk) longest }
+        requires place { vec_len self.old.log.pairs < vec_capacity self.old.log.pairs }
+        ensures same { (self.new.site ≡ self.old.site) × (self.new.joiner ≡ self.old.joiner) × (self.new.epochs ≡ self.old.epochs) }
+        ensures up { OnOk result (self.new.in_doubt ≡ None) }
+        ensures kind { IfErr result (λ e. e ≡ NodeFault.Stopped) }
+        ensures payload { IfOk result (λ written. written ≡ Some payload) }
+        ensures doubt { OnErr result (IsLeftBehind self.new.in_doubt payload self.old.epochs.epoch self.old.log.pairs.items) }
+        ensures written { OnOk result (self.new.log.pairs.items ≡ self.old.log.pairs.items ++ pair ∷ []) }
+        ensures ready { OnOk result (self.new.log.journal.state ≡ Ready) }
+        ensures moments { IsTrue D.tells → Throughout D.image D.since self.old.log.journal.disk self.new.log.journal.disk (pairs.KeepsOr self.old.log.pairs.items pair) }
+        ensures fault { OnErr result (Rose (D.faults self.old.log.journal.disk) (D.faults self.new.log.journal.disk)) }
+        ensures grows { IsTrue D.tells → (c : List ℕ) → D.image self.new.log.journal.disk c → Continues (D.image self.old.log.journal.disk) c }
+        ensures count { D.faults self.old.log.journal.disk ≤ D.faults self.new.log.journal.disk }
+    {
+        let doubt = self.doubt(payload);
+        match self.log.write(frame, pair) {
+            Ok(()) => Ok(Some(doubt.payload)),
+            Err(_) => {
+                self.in_doubt = Some(doubt);
+                Err(NodeFault::Stopped)
+            }
+        }
+    }
+
+    // Reopens both disks as the stop left them, and gives the record in doubt where it landed.
+    pub(crate) fn reopen(&mut self) -> Result<Option<Payload>, NodeFault>
+        requires waits { is_some self.old.in_doubt ≡ true }
+        ensures same { (self.new.site ≡ self.old.site) × (self.new.joiner ≡ self.old.joiner) }
+        ensures up { OnOk result (self.new.in_doubt ≡ None) }
+        ensures refused { OnErr result (self.new.in_doubt ≡ self.old.in_doubt) }
+        ensures found { IsTrue D.tells → (k : JoinerKept) (n : JoinerNote) → AreInDoubt self.old.in_doubt (Some n) k → MayHave k (with_note (Some n) k) (D.image self.old.epochs.journal.disk) (D.image self.old.log.journal.disk) → IfOk result (λ landed. IsFound landed n k self.new.epochs.epoch self.new.log.pairs.items (D.image self.new.epochs.journal.disk) (D.image self.new.log.journal.disk)) }
+        ensures epoch_moments { IsTrue D.tells → (k m : JoinerKept) → MayHave k m (D.image self.old.epochs.journal.disk) (D.image self.old.log.journal.disk) → Throughout D.image D.since self.old.epochs.journal.disk self.new.epochs.journal.disk (EpochOr k m) }
+        ensures pair_moments { IsTrue D.tells → (k m : JoinerKept) → MayHave k m (D.image self.old.epochs.journal.disk) (D.image self.old.log.journal.disk) → Throughout D.image D.since self.old.log.journal.disk self.new.log.journal.disk (PairsOr k m) }
+        ensures epoch_grows { IsTrue D.tells → (c : List ℕ) → D.image self.new.epochs.journal.disk c → Continues (D.image self.old.epochs.journal.disk) c }
+        ensures pair_grows { IsTrue D.tells → (c : List ℕ) → D.image self.new.log.journal.disk c → Continues (D.image self.old.log.journal.disk) c }
+        ensures kind { IfErr result IsOfRestart }
+        ensures whole { IsTrue D.tells → (k m : JoinerKept) → MayHave k m (D.image self.old.epochs.journal.disk) (D.image self.old.log.journal.disk) → IfErr result IsWhole }
+        ensures fault { IsErrOf result NodeFault.Stopped → Rose (D.faults self.old.epochs.journal.disk + D.faults self.old.log.journal.disk) (D.faults self.new.epochs.journal.disk + D.faults self.new.log.journal.disk) }
+        ensures epoch_count { D.faults self.old.epochs.journal.disk ≤ D.faults self.new.epochs.journal.disk }
+        ensures pair_count { D.faults self.old.log.journal.disk ≤ D.faults self.new.log.journal.disk }
+    {
+        laws::told_apart();
+        self.reopen_epochs()?;
+        self.reopen_log()?;
+        let Some(doubt) = self.in_doubt.take() else {
+            return Ok(None);
+        };
+        if self.has_more(&doubt) {
+            Ok(Some(doubt.payload))
+        } else {
+            Ok(None)
+        }
+    }
+
+    // Whether the journals have more than was kept before the record in doubt.
+    fn has_more(&self, doubt: &Doubt) -> bool
+        ensures { result ≡ has_more self.now.epochs.epoch self.now.log.pairs.items doubt.now }
+    {
+        let is_raised = self.epochs.epoch() != doubt.epoch;
+        is_raised || self.log.pairs().len() as u64 != doubt.pairs
+    }
+
+    fn reopen_epochs(&mut self) -> Result<(), NodeFault>
+        requires waits { is_some self.old.in_doubt ≡ true }
+        ensures same { (self.new.site ≡ self.old.site) × (self.new.joiner ≡ self.old.joiner) × (self.new.in_doubt ≡ self.old.in_doubt) × (self.new.log ≡ self.old.log) }
+        ensures ready { OnOk result (self.new.epochs.journal.state ≡ Ready) }
+        ensures left { IsTrue D.tells → OnOk result (epochs.IsLeft (D.image self.old.epochs.journal.disk) self.new.epochs.epoch) }
+        ensures moments { IsTrue D.tells → Throughout D.image D.since self.old.epochs.journal.disk self.new.epochs.journal.disk (epochs.KeepsAsLeft (D.image self.old.epochs.journal.disk)) }
+        ensures grows { IsTrue D.tells → (c : List ℕ) → D.image self.new.epochs.journal.disk c → Continues (D.image self.old.epochs.journal.disk) c }
+        ensures kind { IfErr result IsOfRestart }
+        ensures whole { IsTrue D.tells → (k m : JoinerKept) → ((c : List ℕ) → D.image self.old.epochs.journal.disk c → EpochOr k m c) → IfErr result IsWhole }
+        ensures fault { IsErrOf result NodeFault.Stopped → Rose (D.faults self.old.epochs.journal.disk) (D.faults self.new.epochs.journal.disk) }
+        ensures count { D.faults self.old.epochs.journal.disk ≤ D.faults self.new.epochs.journal.disk }
+    {
+        match self.epochs.reopen(self.alloc) {
+            Ok(()) => Ok(()),
+            Err(fault) => Err(fault_of(DiskName::Epoch(self.site, self.joiner), fault)),
+        }
+    }
+
+    fn reopen_log(&mut self) -> Result<(), NodeFault>
+        requires waits { is_some self.old.in_doubt ≡ true }
+        ensures same { (self.new.site ≡ self.old.site) × (self.new.joiner ≡ self.old.joiner) × (self.new.in_doubt ≡ self.old.in_doubt) × (self.new.epochs ≡ self.old.epochs) }
+        ensures ready { OnOk result (self.new.log.journal.state ≡ Ready) }
+        ensures left { IsTrue D.tells → OnOk result (pairs.IsLeft (D.image self.old.log.journal.disk) self.new.log.pairs.items) }
+        ensures moments { IsTrue D.tells → Throughout D.image D.since self.old.log.journal.disk self.new.log.journal.disk (IsOpened (D.image self.old.log.journal.disk)) }
+        ensures grows { IsTrue D.tells → (c : List ℕ) → D.image self.new.log.journal.disk c → Continues (D.image self.old.log.journal.disk) c }
+        ensures kind { IfErr result IsOfRestart }
+        ensures whole { IsTrue D.tells → (k m : JoinerKept) → ((c : List ℕ) → D.image self.old.log.journal.disk c → PairsOr k m c) → IfErr result IsWhole }
+        ensures fault { IsErrOf result NodeFault.Stopped → Rose (D.faults self.old.log.journal.disk) (D.faults self.new.log.journal.disk) }
+        ensures count { D.faults self.old.log.journal.disk ≤ D.faults self.new.log.journal.disk }
+    {
+        match self.log.reopen(self.alloc) {
+            Ok(()) => Ok(()),
+            Err(fault) => Err(fault_of(DiskName::Output(self.site, self.joiner), fault)),
+        }
+    }
+}
+
+// The same for the joiner.
+fn fault_of(disk: DiskName, fault: JournalFault) -> NodeFault
+    ensures kind { IsOfRestart result }
+    ensures whole { IsUndamaged fault → IsWhole result }
+    ensures stopped { result ≡ NodeFault.Stopped → fault ≡ JournalFault.Disk }
+{
+    match fault {
+        JournalFault::Damaged { at } => NodeFault::Damaged { disk, at },
+        JournalFault::Disk => NodeFault::Stopped,
+        JournalFault::Memory => NodeFault::Memory,
+    }
+}

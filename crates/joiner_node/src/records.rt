@@ -1,0 +1,80 @@
+// Notes and their records.
+ghost use Rattle.std.specs.Prelude.{◌≡◌, IfOk};
+ghost use Rattle.epoch_journal.specs.Epochs.{epoch_record};
+ghost use Rattle.output_log.specs.Pairs.{IsPair, record_of};
+ghost use Rattle.joiner_core.specs.Spelled.{IsWritten};
+ghost use Rattle.joiner_node.specs.Records.{recorded_as, pair_record, IsAbove, IsOwn, IsUnspent};
+
+use air_bus::Payload;
+use gate_journal::Frame;
+use joiner_core::JoinerNote;
+use output_log::{PairRec, pair_frame};
+use std::alloc::{AllocError, Global};
+
+// What a note's disk takes, and the record as the bus takes it. The epoch journal makes its record itself.
+#[derive(Drop)]
+pub(crate) enum Record {
+    Epoch(Payload),
+    Pair {
+        frame: Frame,
+        pair: PairRec,
+        payload: Payload,
+    },
+}
+
+// A note with its record, if there is one. An epoch that isn't above the kept one needs none. Linear in the note.
+pub(crate) fn recorded(
+    alloc: Global,
+    kept: u32,
+    note: Option<JoinerNote>,
+) -> Result<Option<Record>, AllocError>
+    requires { IsWritten note }
+    ensures framed { IsAbove note kept → IfOk result (λ writes. writes ≡ recorded_as note) }
+    ensures own { IfOk result IsOwn }
+    ensures unspent { IfOk result (λ writes. IsUnspent writes kept) }
+{
+    match note {
+        None => Ok(None),
+        Some(JoinerNote::Epoch(epoch)) => {
+            if epoch <= kept {
+                return Ok(None);
+            }
+            let payload = epoch_payload(alloc, epoch)?;
+            Ok(Some(Record::Epoch(payload)))
+        }
+        Some(JoinerNote::Pair(pair)) => {
+            let framed = with_frame(alloc, pair)?;
+            Ok(Some(framed))
+        }
+    }
+}
+
+fn epoch_payload(alloc: Global, epoch: u32) -> Result<Payload, AllocError>
+    ensures { IfOk result (λ payload. payload ≡ epoch_record epoch) }
+{
+    let bytes = epoch.to_be_bytes();
+    let spelled = [2, bytes[0], bytes[1], bytes[2], bytes[3]];
+    Payload::new(Vec::from_slice(alloc, &spelled)?)
+}
+
+fn with_frame(alloc: Global, pair: PairRec) -> Result<Record, AllocError>
+    requires { IsPair pair }
+    ensures { IfOk result (λ writes. writes ≡ pair_record pair) }
+{
+    let frame = pair_frame(alloc, &pair.click, &pair.query, pair.token)?;
+    let payload = frame_payload(alloc, &frame)?;
+    Ok(Record::Pair {
+        frame,
+        pair,
+        payload,
+    })
+}
+
+// The record that the frame is round.
+fn frame_payload(alloc: Global, frame: &Frame) -> Result<Payload, AllocError>
+    ensures { IfOk result (λ payload. payload ≡ frame.now) }
+{
+    let body = frame.body();
+    let end = body.len() - 1;
+    Payload::new(Vec::from_slice(alloc, &body[4..end])?)
+}
