@@ -1,9 +1,9 @@
 -- What a server over its disk stands for.
-use Rattle.std.proofs.Common.{◌≡◌, ◌⊎◌, inl, inr, ⊎_elim, ℕ, ◌+◌, ◌==◌, Bool, true, false, cond, List, [], ◌∷◌, Option, Some, None, refl, sym, ap, ◌∙◌, subst}
-use Rattle.std.specs.Prelude.{is_some, option_map, Result, Ok, Err}
+use Rattle.std.proofs.Common.{◌≡◌, ◌⊎◌, inl, inr, ⊎_elim, ℕ, ◌+◌, ◌==◌, Bool, true, false, cond, List, [], Option, Some, None, refl, sym, ap, ◌∙◌, subst}
+use Rattle.std.specs.Prelude.{is_some, option_map, Result, Ok}
 use Rattle.std.specs.Result.{result_unwrap_or}
 use Rattle.std.proofs.lemmas.Bool.{cond-true, true≢false}
-use Rattle.epoch_journal.specs.Epochs.{epoch_record, epoch_of, Keeps, KeepsOr, IsLeft}
+use Rattle.epoch_journal.specs.Epochs.{epoch_record, Keeps, KeepsOr, IsLeft}
 use Rattle.gate_journal.specs.declared.journal.JournalState.{JournalState}
 use Rattle.gate_journal.specs.declared.journal.JournalState.TheVariants.{Ready}
 use Rattle.air_bus.specs.declared.entry.Input.{Input as Bytes}
@@ -11,7 +11,7 @@ use Rattle.air_bus.specs.declared.entry.Input.TheVariants as bytes
 use Rattle.packet_codec.specs.declared.node.Input.{Input}
 use Rattle.packet_codec.specs.declared.node.Input.TheVariants.{Start, Own, Tick, Deliver}
 use Rattle.turn_defs.specs.Setting.{Setting}
-use Rattle.turn_defs.specs.Turns.{Note, Epoch, land}
+use Rattle.turn_defs.specs.Turns.{land}
 use Rattle.site_node.specs.Bytes.{record_of, Reads, IsInput, IsJunk}
 use Rattle.site_node.specs.States.{MayTake}
 use Rattle.site_node.specs.declared.kind.NodeFault.{NodeFault}
@@ -24,7 +24,7 @@ use Rattle.registry_server.specs.Registrars.{SiteKept, RegistrarView, ServesSite
 use Rattle.registry_server.specs.declared.server_core.ServerCore.{ServerCore}
 use Rattle.registry_server.specs.declared.turn.ServerNote.{ServerNote}
 use Rattle.registry_server.specs.declared.turn.ServerNote.TheVariants as notes
-use Rattle.registry_server.specs.Node.{ServerState, recorded, next_record, Holds, HoldsOr, StandsAt, is_spent_at, spent_at, IsNotPrepared}
+use Rattle.registry_server.specs.Node.{ServerState, recorded, Holds, HoldsOr, StandsAt, is_spent_at, spent_at, IsNotPrepared}
 
 pub none_of : {A : Type 0} (o : Option A) → is_some o ≡ false → o ≡ None
 none_of None off = refl

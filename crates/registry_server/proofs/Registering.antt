@@ -1,5 +1,5 @@
 -- What a registrar decides and keeps.
-use Rattle.std.proofs.Common.{◌≡◌, ◌⊎◌, inl, inr, ⊎_elim, ℕ, ◌<◌, ◌≤◌, Bool, true, false, Option, Some, None, refl, sym, ap, ◌∙◌, subst}
+use Rattle.std.proofs.Common.{◌≡◌, inl, inr, ⊎_elim, ℕ, Bool, true, false, Option, Some, None, refl, sym, ap, ◌∙◌, subst}
 use Rattle.std.specs.Prelude.{All, option_map, Result, Ok, Err, IfOk}
 use Rattle.packet_codec.specs.declared.packet.Packet.{Packet}
 use Rattle.packet_codec.specs.declared.node.Node.{Node}
@@ -13,7 +13,7 @@ use Rattle.site_node.specs.States.{row_of}
 use Rattle.registry_server.specs.Server.{ServerKept, ServerLive, land_server, server_start, server_turn}
 use Rattle.registry_server.specs.Cores.{Stands, Serves, Begins, IsTurn, Carries, CarriesStart, changed, note_of, site_of}
 use Rattle.registry_server.specs.Spelled.{IsSpelledPlan, IsSpelledLive}
-use Rattle.registry_server.specs.Registrars.{SiteKept, RegistrarView, KnowsAs, Knows, Fits, MayRaise, IsNextNote, IsRow, Makes, IsSpelledCore, IsSpelledTurn, landed, server_rows}
+use Rattle.registry_server.specs.Registrars.{SiteKept, KnowsAs, Knows, Fits, MayRaise, IsNextNote, IsRow, Makes, IsSpelledCore, IsSpelledTurn, landed, server_rows}
 use Rattle.registry_server.specs.declared.server_core.ServerCore.{ServerCore}
 use Rattle.registry_server.specs.declared.turn.ServerInput.{ServerInput}
 use Rattle.registry_server.specs.declared.turn.ServerNote.{ServerNote}

@@ -1,11 +1,11 @@
 -- Where the server's numbers, what it knows and the input have spellings, so have the row's packets and what it knows next.
-use Rattle.std.proofs.Common.{◌≡◌, ℕ, suc, ◌+◌, ◌-◌, ◌^◌, ◌<◌, ◌≤◌, ◌&&◌, ◌||◌, Bool, true, false, cond, is_some, List, [], ◌∷◌, ◌++◌, length, take, set, max, Option, Some, None, refl, sym, ap, subst, arith}
+use Rattle.std.proofs.Common.{◌≡◌, ℕ, suc, ◌+◌, ◌-◌, ◌^◌, ◌<◌, ◌≤◌, ◌&&◌, ◌||◌, Bool, true, false, cond, List, [], ◌∷◌, ◌++◌, length, take, set, Option, Some, None, refl, subst, arith}
 use Rattle.std.specs.Prelude.{nat_lt, nat_le, All}
 use Rattle.std.proofs.lemmas.Bool.{cond_both, ltb-true, and_parts}
 use Rattle.std.proofs.lemmas.List.{length-take}
 use Rattle.std.proofs.lemmas.List.Elements.{All-nil, All-cons}
 use Rattle.std.proofs.lemmas.Option.{same_Some}
-use Rattle.list_words.specs.Lists.{Each, set_at}
+use Rattle.list_words.specs.Lists.{Each}
 use Rattle.list_words.proofs.Lists.{each_append, at_set}
 use Rattle.event_id.specs.declared.id.EventId.{EventId}
 use Rattle.event_id.specs.EventId.{is_same as same_id}
@@ -35,7 +35,7 @@ use Rattle.packet_codec.specs.Packets.{IsPacket}
 use Rattle.turn_defs.specs.Setting.{Setting, shard, shards}
 use Rattle.turn_defs.specs.Nodes.{Addressed}
 use Rattle.turn_defs.specs.Turns.{Out, idle}
-use Rattle.registry_server.specs.Server.{ServerKept, ServerLive, ShardState, Proposal, empty_shard, queued, to_from, to_replicas, is_below_limit, may_propose, first_shard, is_next, is_current, is_own_joiner, reply, reply_if, replies, keep_if, unanswered, learns, with_shard, claimed, proposes, owns, server_own, goes_on, accept_if, promised, accepted, nacked, gets_promise, gets_accepted, gets_nack, gets_chosen, of_phase, again, all_again, server_tick, from_replica, server_gets, server_turn, server_start}
+use Rattle.registry_server.specs.Server.{ServerKept, ServerLive, ShardState, Proposal, empty_shard, queued, to_from, is_below_limit, may_propose, first_shard, is_next, is_current, is_own_joiner, reply, reply_if, replies, keep_if, unanswered, learns, with_shard, claimed, proposes, owns, server_own, goes_on, accept_if, promised, accepted, nacked, gets_promise, gets_accepted, gets_nack, gets_chosen, of_phase, again, all_again, server_tick, server_gets, server_turn, server_start}
 use Rattle.registry_server.specs.Spelled.{IsSpelledPhase, IsSpelledProposal, IsSpelledIf, IsSpelledShard, IsSpelledPlan, IsSpelledLive}
 use Rattle.site_node.specs.Bytes.{IsInput}
 

@@ -4,7 +4,7 @@ use Rattle.packet_codec.specs.declared.node.Input.{Input}
 use Rattle.packet_codec.specs.declared.node.Input.TheVariants.{Start, Own, Tick, Deliver}
 use Rattle.turn_defs.specs.Setting.{Setting}
 use Rattle.turn_defs.specs.Nodes.{Addressed}
-use Rattle.turn_defs.specs.Turns.{Note, Out, land}
+use Rattle.turn_defs.specs.Turns.{Out, land}
 use Rattle.site_node.specs.States.{Rows}
 use Rattle.registry_server.specs.Server.{ServerKept, ServerLive, land_server, server_start, server_turn}
 use Rattle.registry_server.specs.Cores.{Stands, Serves, Begins, changed, note_of, site_of}

@@ -90,10 +90,7 @@ fn is_idle(done: &Done) -> bool {
 fn asks(done: &Done) -> bool {
     match done.packets.as_slice() {
         [first, second, third] => {
-            done.note.is_none()
-                && is_asked(first, 4)
-                && is_asked(second, 5)
-                && is_asked(third, 6)
+            done.note.is_none() && is_asked(first, 4) && is_asked(second, 5) && is_asked(third, 6)
         }
         _ => false,
     }

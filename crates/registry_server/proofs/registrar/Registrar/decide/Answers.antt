@@ -1,4 +1,4 @@
-use Rattle.std.proofs.Common.{ap, sym, subst}
+use Rattle.std.proofs.Common.{sym, subst}
 use Rattle.std.proofs.lemmas.Result.{IfOk-weaker}
 use Rattle.registry_server.specs.Spelled.{IsSpelledPlan}
 use Rattle.registry_server.specs.Registrars.{RegistrarView, Knows}
