@@ -1,0 +1,98 @@
+-- What a turn takes carries what the disks, the log and the core say.
+use Rattle.std.proofs.Common.{◌≡◌, inl, ◌<◌, ℕ, zero, suc, length, get_or, arith, Bool, true, false, ◌==◌, List, [], ◌∷◌, ◌++◌, Option, Some, None, refl, sym, ap, ◌∙◌, subst}
+use Rattle.std.specs.Prelude.{cond, is_ok, is_err, Result, Ok, Err}
+use Rattle.std.specs.Option.{option_map}
+use Rattle.log_records.specs.Lines.{ClickLine}
+use Rattle.std.proofs.lemmas.Bool.{eq-eqb, or_left, or_right}
+use Rattle.list_words.specs.Lists.{has, Distinct}
+use Rattle.list_words.proofs.Lists.{clash}
+use Rattle.log_records.specs.declared.records.ClickRec.{ClickRec as Click}
+use Rattle.packet_codec.specs.declared.node.Input.{Input}
+use Rattle.packet_codec.specs.declared.node.Input.TheVariants.{Start, Own, Tick, Deliver}
+use Rattle.turn_defs.specs.Setting.{Setting}
+use Rattle.dispatch_core.specs.Dispatcher.{DispatcherKept, DispatcherLive, dispatcher_looks}
+use Rattle.dispatch_core.specs.Standing.{live_of, Stands, IsKept, IsLineAt, click_at, IsLookedUp, AreClicksAt}
+use Rattle.dispatch_core.specs.declared.dispatch.DispatchCore.{DispatchCore}
+use Rattle.dispatch_core.specs.declared.input.TakenLine.{TakenLine}
+use Rattle.dispatch_node.specs.Kept.{kept_as}
+use Rattle.dispatch_node.specs.Node.{IsAsked, Knows}
+use Rattle.dispatch_node.specs.Places.{IsReadable, StartsAt, AreLivePlaces}
+
+-- any input but a Start
+abbrev pub IsUp : Input → Type 0
+IsUp Start = ⊥
+IsUp Own = Unit {0}
+IsUp Tick = Unit {0}
+IsUp (Deliver from p) = Unit {0}
+
+pub knows_up : (g : Setting) (core : DispatchCore) (k : DispatcherKept) (live : Option DispatcherLive) (l : DispatcherLive) (i : Input) → IsUp i → IsAsked live i l → Knows g core k live → Stands g core k l × AreLivePlaces g l
+knows_up g core k None l Start up is knows = absurd up
+knows_up g core k None l Own up is knows = absurd is
+knows_up g core k None l Tick up is knows = absurd is
+knows_up g core k None l (Deliver from p) up is knows = absurd is
+knows_up g core k (Some m) l Start up is knows = absurd up
+knows_up g core k (Some m) l Own up is knows = subst (λ (x : DispatcherLive). Stands g core k x × AreLivePlaces g x) is knows
+knows_up g core k (Some m) l Tick up is knows = subst (λ (x : DispatcherLive). Stands g core k x × AreLivePlaces g x) is knows
+knows_up g core k (Some m) l (Deliver from p) up is knows = subst (λ (x : DispatcherLive). Stands g core k x × AreLivePlaces g x) is knows
+
+pub kept_start : (o : ℕ) (ps qs : List ℕ) (k : DispatcherKept) → kept_as o ps ≡ k → qs ≡ ps → Distinct ps → IsKept k o qs
+kept_start o ps qs k is same once = record {
+  offset_is = ap (λ (x : DispatcherKept). x.offset) is;
+  pending_is = same ∙ ap (λ (x : DispatcherKept). x.pending) is;
+  once = subst (λ (x : DispatcherKept). Distinct x.pending) is once;
+}
+
+module _ (g : Setting) (core : DispatchCore) (k : DispatcherKept) (l : DispatcherLive) (stands : Stands g core k l) (places : AreLivePlaces g l) where
+  -- nothing is looked for
+  pub looks_not : (b : Bool) (line : Option TakenLine) (due : Option Click) → b ≡ dispatcher_looks (live_of core) → b ≡ false → dispatcher_looks l ≡ true → IsLookedUp g l l.due line due
+  looks_not b line due is off looks = clash b (is ∙ ap dispatcher_looks stands.live ∙ looks) off
+
+  first_has : (p : ℕ) (rest : List ℕ) → l.due ≡ p ∷ rest → has l.due p ≡ true
+  first_has p rest e = ap (λ (ds : List ℕ). has ds p) e ∙ or_left (p == p) (has rest p) (eq-eqb p p refl)
+
+  due_is : (p : ℕ) → (rest : List ℕ) × ((live_of core).due ≡ p ∷ rest) → (rest : List ℕ) × (l.due ≡ p ∷ rest)
+  due_is p d = (d.0, sym (ap (λ (x : DispatcherLive). x.due) stands.live) ∙ d.1)
+
+  -- a line starts at the first due position, and its click is looked up
+  pub due_starts : (p : ℕ) → (rest : List ℕ) × ((live_of core).due ≡ p ∷ rest) → StartsAt g p
+  due_starts p d = let e = due_is p d in places.due p (first_has p e.0 e.1)
+
+  pub due_found : (p : ℕ) (line : Option TakenLine) (due : Option Click) → (rest : List ℕ) × ((live_of core).due ≡ p ∷ rest) → click_at g p ≡ due → dispatcher_looks l ≡ true → IsLookedUp g l l.due line due
+  due_found p line due d found looks = let e = due_is p d in subst (λ (ds : List ℕ). IsLookedUp g l ds line due) (sym e.1) found
+
+  pub place_readable : (p : ℕ) → p ≡ (live_of core).place → IsReadable g p
+  place_readable p is = subst (λ (q : ℕ). IsReadable g q) (sym (is ∙ ap (λ (x : DispatcherLive). x.place) stands.live)) (inl places.place)
+
+  -- none is due, and the line at the place is looked up
+  pub line_found_at : (p : ℕ) (line : Option TakenLine) (due : Option Click) → (live_of core).due ≡ [] → p ≡ (live_of core).place → IsLineAt g p line → dispatcher_looks l ≡ true → IsLookedUp g l l.due line due
+  line_found_at p line due none at found looks =
+      subst (λ (ds : List ℕ). IsLookedUp g l ds line due) (sym none ∙ ap (λ (x : DispatcherLive). x.due) stands.live)
+      (subst (λ (q : ℕ). IsLineAt g q line) (at ∙ ap (λ (x : DispatcherLive). x.place) stands.live) found)
+
+  pub trying_start : (ps : List ℕ) → ps ≡ (live_of core).trying → (p : ℕ) → has ps p ≡ true → StartsAt g p
+  trying_start ps is p h = places.trying p (subst (λ (qs : List ℕ). has qs p ≡ true) (is ∙ ap (λ (x : DispatcherLive). x.trying) stands.live) h)
+
+  pub trying_found : (ps : List ℕ) (cs : List Click) → ps ≡ (live_of core).trying → AreClicksAt g ps cs → AreClicksAt g l.trying cs
+  trying_found ps cs is found = subst (λ (qs : List ℕ). AreClicksAt g qs cs) (is ∙ ap (λ (x : DispatcherLive). x.trying) stands.live) found
+
+-- one position more with its click
+pub clicks_more : (g : Setting) (ps : List ℕ) (cs : List Click) (p : ℕ) (c : Click) → AreClicksAt g ps cs → click_at g p ≡ Some c → AreClicksAt g (ps ++ p ∷ []) (cs ++ c ∷ [])
+clicks_more g [] [] p c are is = (is, tt)
+clicks_more g [] (d ∷ cs) p c are is = absurd are
+clicks_more g (q ∷ ps) [] p c are is = absurd are
+clicks_more g (q ∷ ps) (d ∷ cs) p c are is = (are.0, clicks_more g ps cs p c are.1 is)
+
+pub has_at : (xs : List ℕ) (i d : ℕ) → i < length xs → has xs (get_or xs i d) ≡ true
+has_at [] i d lt = absurd (omega (arith, lt))
+has_at (x ∷ xs) zero d lt = or_left (x == x) (has xs x) (eq-eqb x x refl)
+has_at (x ∷ xs) (suc i) d lt = or_right (x == get_or xs i d) (has xs (get_or xs i d)) (has_at xs i d (omega (arith, lt)))
+
+pub click_of_line : (g : Setting) (p : ℕ) (t : TakenLine) → IsLineAt g p (Some t) → click_at g p ≡ Some t.click
+click_of_line g p t line = ap (option_map (λ (l : ClickLine). l.click)) line.0
+
+pub click_of_none : (g : Setting) (p : ℕ) → IsLineAt g p None → click_at g p ≡ None
+click_of_none g p line = ap (option_map (λ (l : ClickLine). l.click)) line
+
+pub pushed_items : {T E X : Type 0} (r : Result T E) (xs ys : List X) → is_err r ≡ false → cond (is_ok r) xs ys ≡ xs
+pushed_items (Ok x) xs ys e = refl
+pushed_items (Err x) xs ys e = clash true refl e

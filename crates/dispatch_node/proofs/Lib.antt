@@ -1,0 +1,7 @@
+pub mod Places
+pub mod Reading
+pub mod Standing
+pub mod Turning
+pub mod Restarting
+pub mod Disks
+pub mod Carried

@@ -1,0 +1,135 @@
+-- What a stop leaves of a dispatcher's disks, and its restart as an entry.
+use Rattle.std.proofs.Common.{◌≡◌, ◌⊎◌, inl, inr, ⊎_elim, ℕ, true, false, not, List, [], Option, Some, None, Result, Ok, refl, sym, ap, ◌∙◌, subst, arith}
+use Rattle.std.specs.Prelude.{option_map}
+use Rattle.std.specs.Result.{result_unwrap_or}
+use Rattle.std.proofs.lemmas.Bool.{le-ltb}
+use Rattle.list_words.proofs.Lists.{clash, has_push-right, has_without-self}
+use Rattle.air_bus.specs.declared.entry.Entry.TheVariants.{Stop}
+use Rattle.offset_journal.specs.Offsets as offsets
+use Rattle.retry_log.specs.Pending as pending
+use Rattle.turn_defs.specs.Turns.{Note, land}
+use Rattle.site_node.specs.Bytes.{record_of}
+use Rattle.site_node.specs.States.{row, written, closes}
+use Rattle.dispatch_core.specs.Dispatcher.{DispatcherKept, land_dispatcher}
+use Rattle.dispatch_core.specs.declared.turns.DispatchNote.{DispatchNote}
+use Rattle.dispatch_core.specs.declared.turns.DispatchNote.TheVariants.{Advance, Park, Settle}
+use Rattle.dispatch_node.specs.Kept.{landed, kept_as, takes_note, Holds, MayKeep}
+use Rattle.dispatch_node.specs.Node.{DispatcherState, SiteLeads, Parts, IsOpenAt, Doubts, StandsAt, StandsBy, dispatcher_rows}
+use Rattle.dispatch_node.specs.Places.{AreKeptPlaces}
+use Rattle.dispatch_node.specs.Images.{KeptOn, kept_or}
+use Rattle.dispatch_node.proofs.Turning.{IsSame, stands_again}
+
+-- a note that was written isn't taken again
+pub taken_once : (n : DispatchNote) (k : DispatcherKept) → takes_note (landed n k) n ≡ false
+taken_once (Advance e) k = le-ltb e e (omega arith)
+taken_once (Park p) k = ap not (has_push-right k.pending p)
+taken_once (Settle p) k = has_without-self k.pending p
+
+-- bytes keep one offset, and one list of positions
+ok_of : {A : Type 0} (d a b : A) (r : Result A ℕ) → r ≡ Ok a → r ≡ Ok b → a ≡ b
+ok_of {A} d a b r e f = ap (λ (x : Result A ℕ). result_unwrap_or x d) (sym e ∙ f)
+
+-- what was read again is what the disk kept, or that with the note
+offset_left : (oi : List ℕ → Type 0) (old new now : ℕ) → ((c : List ℕ) → oi c → offsets.KeepsOr old new c) → offsets.IsLeft oi now → (now ≡ old) ⊎ (now ≡ new)
+offset_left oi old new now images left =
+    ⊎_elim (λ e. inl (ok_of 0 now old (offsets.offset_of left.0) left.2 e)) (λ e. inr (ok_of 0 now new (offsets.offset_of left.0) left.2 e)) (images left.0 left.1)
+
+pending_left : (ri : List ℕ → Type 0) (old new now : List ℕ) → ((c : List ℕ) → ri c → pending.KeepsOr old new c) → pending.IsLeft ri now → (now ≡ old) ⊎ (now ≡ new)
+pending_left ri old new now images left =
+    ⊎_elim (λ e. inl (ok_of [] now old (pending.pending_of left.0) left.2 e)) (λ e. inr (ok_of [] now new (pending.pending_of left.0) left.2 e)) (images left.0 left.1)
+
+left_kept : (n : DispatchNote) (k : DispatcherKept) (o : ℕ) (ps : List ℕ) → (o ≡ k.offset) ⊎ (o ≡ (landed n k).offset) → (ps ≡ k.pending) ⊎ (ps ≡ (landed n k).pending) → (kept_as o ps ≡ k) ⊎ (kept_as o ps ≡ landed n k)
+left_kept (Advance e) k o ps a b =
+    let same : ps ≡ k.pending = ⊎_elim (λ h. h) (λ h. h) b in
+    ⊎_elim (λ old. inl (λ i. kept_as (old i) (same i))) (λ new. inr (λ i. kept_as (new i) (same i))) a
+left_kept (Park p) k o ps a b =
+    let same : o ≡ k.offset = ⊎_elim (λ h. h) (λ h. h) a in
+    ⊎_elim (λ old. inl (λ i. kept_as (same i) (old i))) (λ new. inr (λ i. kept_as (same i) (new i))) b
+left_kept (Settle p) k o ps a b =
+    let same : o ≡ k.offset = ⊎_elim (λ h. h) (λ h. h) a in
+    ⊎_elim (λ old. inl (λ i. kept_as (same i) (old i))) (λ new. inr (λ i. kept_as (same i) (new i))) b
+
+pub found : (oi ri : List ℕ → Type 0) (n : DispatchNote) (k : DispatcherKept) (o : ℕ) (ps : List ℕ) → MayKeep oi ri n k → offsets.IsLeft oi o → pending.IsLeft ri ps → (kept_as o ps ≡ k) ⊎ (kept_as o ps ≡ landed n k)
+found oi ri n k o ps images a b = left_kept n k o ps (offset_left oi k.offset (landed n k).offset o images.offset a) (pending_left ri k.pending (landed n k).pending ps images.pending b)
+
+-- the disk takes the note still: it isn't there
+pub not_landed : (n : DispatchNote) (k found_kept : DispatcherKept) → (found_kept ≡ k) ⊎ (found_kept ≡ landed n k) → takes_note found_kept n ≡ true → found_kept ≡ k
+not_landed n k x (inl e) takes = e
+not_landed n k x (inr e) takes = clash (takes_note (landed n k) n) (subst (λ (y : DispatcherKept). takes_note y n ≡ true) e takes) (taken_once n k)
+
+pub has_landed : (n : DispatchNote) (k found_kept : DispatcherKept) → (found_kept ≡ k) ⊎ (found_kept ≡ landed n k) → takes_note k n ≡ true → takes_note found_kept n ≡ false → found_kept ≡ landed n k
+has_landed n k x (inl e) takes off = clash (takes_note k n) takes (subst (λ (y : DispatcherKept). takes_note y n ≡ false) e off)
+has_landed n k x (inr e) takes off = e
+
+-- ---- images
+
+-- what was left of what was left
+pub kept_again : (oi ri oj rj : List ℕ → Type 0) (n : DispatchNote) (k : DispatcherKept) → MayKeep oi ri n k → ((c : List ℕ) → oj c → offsets.KeepsAsLeft oi c) → ((c : List ℕ) → rj c → pending.KeepsAsLeft ri c) → MayKeep oj rj n k
+kept_again oi ri oj rj n k images a b = record {
+  offset = λ c here. let left = a c here in ⊎_elim (λ e. inl (left.2 ∙ e)) (λ e. inr (left.2 ∙ e)) (images.offset left.0 left.1);
+  pending = λ c here. let left = b c here in ⊎_elim (λ e. inl (left.2 ∙ e)) (λ e. inr (left.2 ∙ e)) (images.pending left.0 left.1);
+}
+
+doubt_of : (p : Parts) (oi ri : List ℕ → Type 0) (s : DispatcherState) (x : DispatchNote × List ℕ) → p.in_doubt ≡ Some x → StandsAt p oi ri s → Doubts oi ri x.0 s.node.kept s.node.setting × IsOpenAt s x.0 x.1
+doubt_of p oi ri s x some at = subst (λ (d : Option (DispatchNote × List ℕ)). StandsBy d p oi ri s) some at.by
+
+-- at each moment of a restart
+pub restart_moment : (p : Parts) (oi ri oj rj : List ℕ → Type 0) (s : DispatcherState) (x : DispatchNote × List ℕ) → p.in_doubt ≡ Some x → StandsAt p oi ri s → ((c : List ℕ) → oj c → offsets.KeepsAsLeft oi c) → ((c : List ℕ) → rj c → pending.KeepsAsLeft ri c)
+    → (c : List ℕ × List ℕ) → oj c.0 × rj c.1 → KeptOn s c
+restart_moment p oi ri oj rj s x some at a b c here =
+    let by = doubt_of p oi ri s x some at in
+    let images = kept_again oi ri oj rj x.0 s.node.kept by.0.images a b in
+    let is : written (dispatcher_rows s.site) s.node by.1.input ≡ landed x.0 s.node.kept = ap (λ (n : Option Note). land land_dispatcher n s.node.kept) by.1.noted in
+    ⊎_elim (λ old. (s.node.kept, inl refl, old))
+    (λ new. (landed x.0 s.node.kept, inr (by.1.begun, by.1.input, by.1.opened, by.1.reads, sym is), new))
+    (kept_or x.0 s.node.kept c (images.offset c.0 here.0) (images.pending c.1 here.1))
+
+-- where it is refused the note is in doubt still
+pub still_doubted : (p q : Parts) (oi ri oj rj : List ℕ → Type 0) (s : DispatcherState) (x : DispatchNote × List ℕ) → p.in_doubt ≡ Some x → q.in_doubt ≡ Some x → IsSame p q → StandsAt p oi ri s → ((c : List ℕ) → oj c → offsets.KeepsAsLeft oi c) → ((c : List ℕ) → rj c → pending.KeepsAsLeft ri c)
+    → StandsAt q oj rj s
+still_doubted p q oi ri oj rj s x some some' same at a b =
+    let by = doubt_of p oi ri s x some at in
+    let now : StandsBy (Some x) q oj rj s = (record { images = kept_again oi ri oj rj x.0 s.node.kept by.0.images a b; takes = by.0.takes; places = by.0.places }, by.1) in
+    stands_again p q oi ri oj rj s s.node at same refl at.places (subst (λ (d : Option (DispatchNote × List ℕ)). StandsBy d q oj rj s) (sym some') now)
+
+-- ---- the entry
+
+module _ (p q : Parts) (oi ri oj rj : List ℕ → Type 0) (s : DispatcherState) (x : DispatchNote × List ℕ) (n : ℕ) (some : p.in_doubt ≡ Some x) (none : q.in_doubt ≡ None) (same : IsSame p q) (at : StandsAt p oi ri s) where
+  downs : (k : DispatcherKept) → AreKeptPlaces s.node.setting k → Holds q.offset_state q.retry_state q.offset q.pending k → StandsAt q oj rj (record { site = s.site; node = closes s.node k None })
+  downs k places holds =
+      let u : DispatcherState = record { site = s.site; node = closes s.node k None } in
+      stands_again p q oi ri oj rj s (closes s.node k None) at same refl places (subst (λ (d : Option (DispatchNote × List ℕ)). StandsBy d q oj rj u) (sym none) (holds, tt))
+
+  pub nothing_landed : Holds q.offset_state q.retry_state q.offset q.pending (kept_as q.offset q.pending) → offsets.IsLeft oi q.offset → pending.IsLeft ri q.pending → takes_note (kept_as q.offset q.pending) x.0 ≡ true
+      → (u : DispatcherState) × SiteLeads s (Stop n None) u × StandsAt q oj rj u
+  nothing_landed holds a b takes =
+      let by = doubt_of p oi ri s x some at in
+      let k = s.node.kept in
+      let is = not_landed x.0 k (kept_as q.offset q.pending) (found oi ri x.0 k q.offset q.pending by.0.images a b) takes in (
+        record { site = s.site; node = closes s.node k None },
+        record { site = refl; leads = (by.1.begun, by.1.opened, inl (refl, refl)) },
+        downs k at.places (subst (λ (y : DispatcherKept). Holds q.offset_state q.retry_state q.offset q.pending y) is holds),
+      )
+
+  pub note_landed : Holds q.offset_state q.retry_state q.offset q.pending (kept_as q.offset q.pending) → offsets.IsLeft oi q.offset → pending.IsLeft ri q.pending → takes_note (kept_as q.offset q.pending) x.0 ≡ false
+      → (u : DispatcherState) × SiteLeads s (Stop n (Some x.1)) u × StandsAt q oj rj u
+  note_landed holds a b takes =
+      let by = doubt_of p oi ri s x some at in
+      let k = s.node.kept in
+      let is = has_landed x.0 k (kept_as q.offset q.pending) (found oi ri x.0 k q.offset q.pending by.0.images a b) by.0.takes takes in
+      let lands : written (dispatcher_rows s.site) s.node by.1.input ≡ landed x.0 k = ap (λ (m : Option Note). land land_dispatcher m k) by.1.noted in
+      let noted : Some x.1 ≡ option_map record_of (row (dispatcher_rows s.site) s.node by.1.input).note = ap (λ (r : List ℕ). Some r) by.1.bytes_are ∙ ap (option_map record_of) (sym by.1.noted) in (
+        record { site = s.site; node = closes s.node (landed x.0 k) None },
+        record { site = refl; leads = (by.1.begun, by.1.opened, inr (by.1.input, by.1.reads, noted, ap (λ (y : DispatcherKept). closes s.node y None) (sym lands))) },
+        downs (landed x.0 k) by.0.places (subst (λ (y : DispatcherKept). Holds q.offset_state q.retry_state q.offset q.pending y) is holds),
+      )
+
+-- each image keeps something
+pub doubt_kept : (p : Parts) (oi ri : List ℕ → Type 0) (s : DispatcherState) (x : DispatchNote × List ℕ) → p.in_doubt ≡ Some x → StandsAt p oi ri s
+    → ((c : List ℕ) → oi c → (o : ℕ) × offsets.Keeps o c) × ((c : List ℕ) → ri c → (ps : List ℕ) × pending.Keeps ps c)
+doubt_kept p oi ri s x some at =
+    let by = (doubt_of p oi ri s x some at).0 in
+    let k = s.node.kept in (
+      λ c here. ⊎_elim (λ old. (k.offset, old)) (λ new. ((landed x.0 k).offset, new)) (by.images.offset c here),
+      λ c here. ⊎_elim (λ old. (k.pending, old)) (λ new. ((landed x.0 k).pending, new)) (by.images.pending c here),
+    )

@@ -1,0 +1,240 @@
+-- A turn of a dispatcher over its disks, and its restart, as the states' entries.
+use Rattle.std.proofs.Common.{◌≡◌, ◌⊎◌, inl, inr, ⊎_elim, ℕ, ◌≤◌, true, List, [], length, Option, Some, None, refl, sym, ap, ◌∙◌, subst}
+use Rattle.std.specs.Prelude.{is_some, option_map, Result, Ok, Err, IfOk, OnOk, OnErr}
+use Rattle.air_bus.specs.declared.entry.Input.{Input as Bytes}
+use Rattle.air_bus.specs.declared.entry.Entry.TheVariants.{Begin, End}
+use Rattle.packet_codec.specs.declared.node.Input.{Input}
+use Rattle.gate_journal.specs.declared.journal.JournalState.TheVariants.{Ready}
+use Rattle.offset_journal.specs.Offsets as offsets
+use Rattle.retry_log.specs.Pending as pending
+use Rattle.turn_defs.specs.Setting.{Setting}
+use Rattle.turn_defs.specs.Turns.{Note, Out, land}
+use Rattle.site_node.specs.Bytes.{record_of, AreSpelled, Reads, IsJunk}
+use Rattle.site_node.specs.States.{State, Leads, row, written, closes}
+use Rattle.site_node.specs.Rosters as rosters
+use Rattle.dispatch_core.specs.Dispatcher.{DispatcherKept, DispatcherLive, land_dispatcher}
+use Rattle.dispatch_core.specs.Changes.{told, note_of}
+use Rattle.dispatch_core.specs.Standing.{IsTurn, Stands, out_of}
+use Rattle.dispatch_core.specs.declared.dispatch.DispatchCore.{DispatchCore}
+use Rattle.dispatch_core.specs.declared.turns.Turn.{Turn}
+use Rattle.dispatch_core.specs.declared.turns.DispatchNote.{DispatchNote}
+use Rattle.dispatch_node.specs.Kept.{kept_as, takes_note, Holds, MayKeep}
+use Rattle.dispatch_node.specs.Node.{DispatcherState, SiteLeads, Knows, IsAsked, Parts, StandsAt, StandsBy, IsRecorded, IsTakenBy, landed_by, dispatcher_rows}
+use Rattle.dispatch_node.specs.Places.{IsLogOf, AreKeptPlaces}
+use Rattle.dispatch_node.specs.Images.{KeptOn, OnDisks, kept_or}
+use Rattle.dispatch_node.proofs.Standing.{up_of, row_is, row_places, landed_is}
+
+-- the same node, whatever its core, its disks and its journals are
+pub record IsSame (p q : Parts) : Type 0 where
+  pub site : q.site ≡ p.site
+  pub roster : q.roster ≡ p.roster
+  pub own_core : q.core.dealer.site ≡ p.core.dealer.site
+  pub joiners : q.core.dealer.joiners ≡ p.core.dealer.joiners
+  pub log : q.log ≡ p.log
+
+-- such a node stands at a state of this site and setting, if it holds and knows what the state says
+pub stands_again : (p q : Parts) (oi ri oj rj : List ℕ → Type 0) (s : DispatcherState) (node : State DispatcherKept DispatcherLive) → StandsAt p oi ri s → IsSame p q → node.setting ≡ s.node.setting → AreKeptPlaces s.node.setting node.kept
+    → StandsBy q.in_doubt q oj rj (record { site = s.site; node = node }) → StandsAt q oj rj (record { site = s.site; node = node })
+stands_again p q oi ri oj rj s node at same setting places by = record {
+  site = same.site ∙ at.site;
+  own_core = same.own_core ∙ at.own_core ∙ sym same.site;
+  core = record { joiners = same.joiners ∙ at.core.joiners ∙ sym (ap (λ (g : Setting). g.joiners) setting); replicas = ap (λ (g : Setting). g.replicas) setting ∙ at.core.replicas };
+  setting = subst (λ (g : Setting). rosters.IsOf q.roster g) (sym setting) (subst (λ r. rosters.IsOf r s.node.setting) (sym same.roster) at.setting);
+  log = subst (λ (g : Setting). IsLogOf q.log g) (sym setting) (subst (λ (l : List ℕ). IsLogOf l s.node.setting) (sym same.log) at.log);
+  places = subst (λ (g : Setting). AreKeptPlaces g node.kept) (sym setting) places;
+  by = by;
+}
+
+-- with nothing in doubt
+pub quiet : (p : Parts) (oi ri : List ℕ → Type 0) (s : DispatcherState) → p.in_doubt ≡ None → StandsAt p oi ri s → Holds p.offset_state p.retry_state p.offset p.pending s.node.kept × Knows s.node.setting p.core s.node.kept s.node.live
+quiet p oi ri s none at = subst (λ (d : Option (DispatchNote × List ℕ)). StandsBy d p oi ri s) none at.by
+
+by_none : (p : Parts) (oi ri : List ℕ → Type 0) (s : DispatcherState) → p.in_doubt ≡ None → Holds p.offset_state p.retry_state p.offset p.pending s.node.kept × Knows s.node.setting p.core s.node.kept s.node.live → StandsBy p.in_doubt p oi ri s
+by_none p oi ri s none by = subst (λ (d : Option (DispatchNote × List ℕ)). StandsBy d p oi ri s) (sym none) by
+
+-- what no packet spells changes nothing
+pub idles : (p : Parts) (oi ri : List ℕ → Type 0) (s t : DispatcherState) (n : ℕ) (b : Bytes) (ps : List (ℕ × List ℕ)) (sent : ℕ) → p.in_doubt ≡ None → StandsAt p oi ri s → SiteLeads s (Begin n b) t → IsJunk s.node.setting b → ps ≡ [] → sent ≤ length ps
+    → (u : DispatcherState) × SiteLeads t (End n None ps sent) u × StandsAt p oi ri u
+idles p oi ri s t n b ps sent none at led junk empty le =
+    let g = s.node.setting in
+    let up = up_of g s.node.live b led.leads.1 junk in
+    let node : State DispatcherKept DispatcherLive = record { setting = g; kept = s.node.kept; live = s.node.live; opened = None } in
+    let u : DispatcherState = record { site = s.site; node = node } in (
+      u,
+      record {
+        site = sym led.site;
+        leads = subst (λ (x : State DispatcherKept DispatcherLive). Leads (dispatcher_rows t.site) x (End n None ps sent) node) (sym led.leads.2)
+            (b, refl, le, inr (record { junk = junk; no_note = refl; no_packets = empty; knows = up.0; up = up.1; state = ap (λ (l : Option DispatcherLive). record { setting = g; kept = s.node.kept; live = l; opened = None }) up.1 }));
+      },
+      stands_again p p oi ri oi ri s node at (record { site = refl; roster = refl; own_core = refl; joiners = refl; log = refl }) refl at.places (by_none p oi ri u none (quiet p oi ri s none at)),
+    )
+
+-- the state with this turn opened
+abbrev pub opened : DispatcherState → Bytes → DispatcherState
+opened s b = record { site = s.site; node = record { setting = s.node.setting; kept = s.node.kept; live = s.node.live; opened = Some b } }
+
+pub opened_is : (s t : DispatcherState) (n : ℕ) (b : Bytes) → SiteLeads s (Begin n b) t → opened s b ≡ t
+opened_is s t n b led = λ j. record { site = sym led.site j; node = sym led.leads.2 j }
+
+-- while nothing is written
+pub quiet_moment : (p : Parts) (oi ri : List ℕ → Type 0) (s t : DispatcherState) (n : ℕ) (b : Bytes) → p.in_doubt ≡ None → StandsAt p oi ri s → SiteLeads s (Begin n b) t
+    → (p.offset_state ≡ Ready → (c : List ℕ) → oi c → offsets.Keeps p.offset c) → (p.retry_state ≡ Ready → (c : List ℕ) → ri c → pending.Keeps p.pending c) → (c : List ℕ × List ℕ) → oi c.0 × ri c.1 → KeptOn t c
+quiet_moment p oi ri s t n b none at led o r c here =
+    let holds = (quiet p oi ri s none at).0 in
+    subst (λ (x : DispatcherState). KeptOn x c) (opened_is s t n b led)
+    (s.node.kept, inl refl, subst (λ (k : DispatcherKept). OnDisks k c) holds.kept (o holds.offset_ready c.0 here.0, r holds.retry_ready c.1 here.1))
+
+-- ---- a turn that has a row
+
+-- what a turn was decided and written down as
+pub record IsDecided (s : DispatcherState) (site : ℕ) (b : Bytes) (i : Input) (l : DispatcherLive) (core : DispatchCore) (turn : Turn) (written_note : Option (DispatchNote × List ℕ)) : Type 0 where
+  pub site_is : site ≡ s.site
+  pub reads : Reads s.node.setting b i
+  pub asked : IsAsked s.node.live i l
+  pub turn_is : IsTurn s.node.setting core s.node.kept l turn (out_of s.node.setting site s.node.kept l i)
+  pub recorded : IsRecorded (note_of turn.change) written_note
+
+module _ (s : DispatcherState) (site : ℕ) (b : Bytes) (i : Input) (l : DispatcherLive) (core : DispatchCore) (turn : Turn) (w : Option (DispatchNote × List ℕ)) (d : IsDecided s site b i l core turn w) where
+  abbrev here : Out DispatcherLive
+  here = row (dispatcher_rows s.site) s.node i
+
+  out_is : out_of s.node.setting site s.node.kept l i ≡ here
+  out_is = ap (λ (n : ℕ). out_of s.node.setting n s.node.kept l i) d.site_is ∙ row_is s.node.setting s.site s.node.kept s.node.live l i d.asked
+
+  pub row_turn : IsTurn s.node.setting core s.node.kept l turn here
+  row_turn = subst (λ (o : Out DispatcherLive). IsTurn s.node.setting core s.node.kept l turn o) out_is d.turn_is
+
+  pub row_note : IsRecorded here.note w
+  row_note = subst (λ (n : Option Note). IsRecorded n w) row_turn.note d.recorded
+
+  pub row_lands : landed_by w s.node.kept ≡ written (dispatcher_rows s.site) s.node i
+  row_lands = landed_is here.note w s.node.kept row_note
+
+  -- at any moment of the turn the disks keep what they kept, or that with its note
+  pub row_moment : (c : List ℕ × List ℕ) → offsets.KeepsOr s.node.kept.offset (landed_by w s.node.kept).offset c.0 → pending.KeepsOr s.node.kept.pending (landed_by w s.node.kept).pending c.1
+      → KeptOn (opened s b) c
+  row_moment c o p = ⊎_elim (λ old. (s.node.kept, inl refl, old)) (λ new. (landed_by w s.node.kept, inr (b, i, refl, d.reads, row_lands), new)) (go w o p)
+    where
+      go : (x : Option (DispatchNote × List ℕ)) → offsets.KeepsOr s.node.kept.offset (landed_by x s.node.kept).offset c.0 → pending.KeepsOr s.node.kept.pending (landed_by x s.node.kept).pending c.1 → OnDisks s.node.kept c ⊎ OnDisks (landed_by x s.node.kept) c
+      go None o' p' = inl (⊎_elim (λ h. h) (λ h. h) o', ⊎_elim (λ h. h) (λ h. h) p')
+      go (Some x) o' p' = kept_or x.0 s.node.kept c o' p'
+
+-- the turn is done
+pub ends : (p q : Parts) (oi ri oj rj : List ℕ → Type 0) (s t : DispatcherState) (n site : ℕ) (b : Bytes) (i : Input) (l : DispatcherLive) (core : DispatchCore) (turn : Turn) (w : Option (DispatchNote × List ℕ)) (said : Option (List ℕ)) (ps ready : List (ℕ × List ℕ)) (sent : ℕ)
+    → StandsAt p oi ri s → SiteLeads s (Begin n b) t → IsSame p q → p.in_doubt ≡ None → q.in_doubt ≡ None → IsDecided s site b i l core turn w → AreSpelled turn.packets.items ready
+    → said ≡ option_map (λ (d : DispatchNote × List ℕ). d.1) w → ps ≡ ready
+    → ((out : Out DispatcherLive) → IsTurn s.node.setting core s.node.kept l turn out → Stands s.node.setting q.core (land land_dispatcher out.note s.node.kept) out.live)
+    → Holds q.offset_state q.retry_state q.offset q.pending (landed_by w s.node.kept) → sent ≤ length ps
+    → (u : DispatcherState) × SiteLeads t (End n said ps sent) u × StandsAt q oj rj u
+ends p q oi ri oj rj s t n site b i l core turn w said ps ready sent at led same none none' d spelled said_is ps_is stands holds le =
+    let g = s.node.setting in
+    let out = row (dispatcher_rows s.site) s.node i in
+    let k = written (dispatcher_rows s.site) s.node i in
+    let is = row_turn s site b i l core turn w d in
+    let node : State DispatcherKept DispatcherLive = closes s.node k (Some out.live) in
+    let u : DispatcherState = record { site = s.site; node = node } in
+    let places = row_places g s.site p.core s.node.kept s.node.live l i d.asked at.places (quiet p oi ri s none at).1 in (
+      u,
+      record {
+        site = sym led.site;
+        leads = subst (λ (m : ℕ). Leads (dispatcher_rows m) t.node (End n said ps sent) node) (sym led.site)
+            (subst (λ (x : State DispatcherKept DispatcherLive). Leads (dispatcher_rows s.site) x (End n said ps sent) node) (sym led.leads.2) (
+              b,
+              refl,
+              le,
+              inl (
+                i,
+                d.reads,
+                record {
+                  noted = said_is ∙ (row_note s site b i l core turn w d).bytes;
+                  packets = turn.packets.items;
+                  spelled = subst (AreSpelled turn.packets.items) (sym ps_is) spelled;
+                  sent = is.packets;
+                  state = refl;
+                },
+              ),
+            ));
+      },
+      stands_again p q oi ri oj rj s node at same refl places.kept
+          (by_none q oj rj u none' (subst (λ (x : DispatcherKept). Holds q.offset_state q.retry_state q.offset q.pending x) (row_lands s site b i l core turn w d) holds, (stands out is, places.live))),
+    )
+
+-- the turn isn't done, and nothing but room has changed
+pub stays_open : (p q : Parts) (oi ri oj rj : List ℕ → Type 0) (s t : DispatcherState) (n : ℕ) (b : Bytes) → StandsAt p oi ri s → SiteLeads s (Begin n b) t → IsSame p q → p.in_doubt ≡ None → q.in_doubt ≡ None
+    → ((live : DispatcherLive) → Stands s.node.setting p.core s.node.kept live → Stands s.node.setting q.core s.node.kept live) → Holds q.offset_state q.retry_state q.offset q.pending s.node.kept → StandsAt q oj rj t
+stays_open p q oi ri oj rj s t n b at led same none none' stands holds =
+    let g = s.node.setting in
+    let k = s.node.kept in
+    let u = opened s b in
+    subst (λ (x : DispatcherState). StandsAt q oj rj x) (opened_is s t n b led)
+    (stands_again p q oi ri oj rj s u.node at same refl at.places (by_none q oj rj u none' (holds, go s.node.live (quiet p oi ri s none at).1)))
+  where
+    go : (live : Option DispatcherLive) → Knows s.node.setting p.core s.node.kept live → Knows s.node.setting q.core s.node.kept live
+    go None knows = tt
+    go (Some m) knows = (stands m knows.0, knows.1)
+
+-- the turn was stopped, and its note is in doubt
+pub doubted : (p q : Parts) (oi ri oj rj : List ℕ → Type 0) (s t : DispatcherState) (n site : ℕ) (b : Bytes) (i : Input) (l : DispatcherLive) (core : DispatchCore) (turn : Turn) (x : DispatchNote × List ℕ)
+    → StandsAt p oi ri s → SiteLeads s (Begin n b) t → IsSame p q → p.in_doubt ≡ None → q.in_doubt ≡ Some x → IsDecided s site b i l core turn (Some x) → takes_note s.node.kept x.0 ≡ true → MayKeep oj rj x.0 s.node.kept → StandsAt q oj rj t
+doubted p q oi ri oj rj s t n site b i l core turn x at led same none some d takes images =
+    let g = s.node.setting in
+    let k = s.node.kept in
+    let u = opened s b in
+    let note = row_note s site b i l core turn (Some x) d in
+    let places = (row_places g s.site p.core k s.node.live l i d.asked at.places (quiet p oi ri s none at).1).kept in
+    let by : StandsBy (Some x) q oj rj u = (
+      record { images = images; takes = takes; places = subst (λ (m : Option Note). AreKeptPlaces g (land land_dispatcher m k)) (sym note.note_is) places },
+      record { begun = b; opened = refl; input = i; reads = d.reads; noted = sym note.note_is; bytes_are = some_bytes x.1 (record_of (told x.0)) (note.bytes ∙ ap (option_map record_of) (sym note.note_is)) },
+    ) in
+    subst (λ (y : DispatcherState). StandsAt q oj rj y) (opened_is s t n b led) (stands_again p q oi ri oj rj s u.node at same refl at.places (subst (λ (o : Option (DispatchNote × List ℕ)). StandsBy o q oj rj u) (sym some) by))
+  where
+    bytes_in : Option (List ℕ) → List ℕ
+    bytes_in None = []
+    bytes_in (Some r) = r
+
+    some_bytes : (r r' : List ℕ) → Some r ≡ Some r' → r ≡ r'
+    some_bytes r r' e = ap bytes_in e
+
+-- ---- results
+
+pub all_five : {T E : Type 0} (r : Result T E) (A B Q : T → Type 0) (C D F : Type 0) → IfOk r A → IfOk r B → OnOk r C → OnOk r D → OnOk r F → ((x : T) → A x → B x → C → D → F → Q x) → IfOk r Q
+all_five (Ok x) A B Q C D F a b c d f go = go x a b c d f
+all_five (Err e) A B Q C D F a b c d f go = tt
+
+pub on_err : {T E : Type 0} (r : Result T E) (A Q : Type 0) → OnErr r A → (A → Q) → OnErr r Q
+on_err (Ok x) A Q a go = tt
+on_err (Err e) A Q a go = go a
+
+-- ---- what a written note makes
+
+pub some_of : {A : Type 0} (o : Option A) → is_some o ≡ true → (x : A) × (o ≡ Some x)
+some_of None on = absurd (cc on)
+some_of (Some x) on = (x, refl)
+
+pub decided_at : (s : DispatcherState) (site : ℕ) (b : Bytes) (i : Input) (l : DispatcherLive) (core : DispatchCore) (turn : Turn) (w v : Option (DispatchNote × List ℕ)) → w ≡ v → IsDecided s site b i l core turn w → IsDecided s site b i l core turn v
+decided_at s site b i l core turn w v e d = subst (λ (x : Option (DispatchNote × List ℕ)). IsDecided s site b i l core turn x) e d
+
+pub taken_at : (w : Option (DispatchNote × List ℕ)) (x : DispatchNote × List ℕ) (k k' : DispatcherKept) → w ≡ Some x → k ≡ k' → IsTakenBy k w → takes_note k' x.0 ≡ true
+taken_at w x k k' e same takes = subst (λ (m : DispatcherKept). IsTakenBy m (Some x)) same (subst (λ (o : Option (DispatchNote × List ℕ)). IsTakenBy k o) e takes)
+
+pub images_at : (w : Option (DispatchNote × List ℕ)) (x : DispatchNote × List ℕ) (o : ℕ) (ps : List ℕ) (oj rj : List ℕ → Type 0) (k : DispatcherKept) → w ≡ Some x → kept_as o ps ≡ k
+    → ((c : List ℕ) → oj c → offsets.KeepsOr o (landed_by w (kept_as o ps)).offset c) → ((c : List ℕ) → rj c → pending.KeepsOr ps (landed_by w (kept_as o ps)).pending c) → MayKeep oj rj x.0 k
+images_at w x o ps oj rj k e same a b =
+    subst (λ (m : DispatcherKept). MayKeep oj rj x.0 m) same
+    (record {
+      offset = λ c here. subst (λ (v : Option (DispatchNote × List ℕ)). offsets.KeepsOr o (landed_by v (kept_as o ps)).offset c) e (a c here);
+      pending = λ c here. subst (λ (v : Option (DispatchNote × List ℕ)). pending.KeepsOr ps (landed_by v (kept_as o ps)).pending c) e (b c here);
+    })
+
+-- at a moment before the append the disk keeps what it kept; from then on that, or that with the note
+pub offset_at : {B : Type 0} (w : Option (DispatchNote × List ℕ)) (old mid : DispatcherKept) (k : DispatcherKept) (c : List ℕ) → old ≡ k → mid ≡ old → (B → offsets.Keeps old.offset c) → B ⊎ offsets.KeepsOr mid.offset (landed_by w mid).offset c → offsets.KeepsOr k.offset (landed_by w k).offset c
+offset_at w old mid k c is same before both =
+    ⊎_elim (λ b. inl (subst (λ (x : DispatcherKept). offsets.Keeps x.offset c) is (before b))) (λ now. subst (λ (x : DispatcherKept). offsets.KeepsOr x.offset (landed_by w x).offset c) (same ∙ is) now) both
+
+pub pending_at : {B : Type 0} (w : Option (DispatchNote × List ℕ)) (old mid : DispatcherKept) (k : DispatcherKept) (c : List ℕ) → old ≡ k → mid ≡ old → (B → pending.Keeps old.pending c) → B ⊎ pending.KeepsOr mid.pending (landed_by w mid).pending c → pending.KeepsOr k.pending (landed_by w k).pending c
+pending_at w old mid k c is same before both =
+    ⊎_elim (λ b. inl (subst (λ (x : DispatcherKept). pending.Keeps x.pending c) is (before b))) (λ now. subst (λ (x : DispatcherKept). pending.KeepsOr x.pending (landed_by w x).pending c) (same ∙ is) now) both
+
+pub if_err : {T E : Type 0} (r : Result T E) (Q : Type 0) → Q → OnErr r Q
+if_err (Ok x) Q q = tt
+if_err (Err e) Q q = q

@@ -1,0 +1,18 @@
+use Rattle.std.proofs.Common.{◌≡◌, ◌≤◌, ℕ, true, take}
+use Rattle.std.specs.Prelude.{All, IsTrue}
+use Rattle.list_words.specs.Lists.{has}
+use Rattle.log_records.specs.Line.{IsClick}
+use Rattle.turn_defs.specs.Setting.{Setting}
+use Rattle.dispatch_core.specs.Standing.{AreClicksAt}
+use Rattle.dispatch_node.specs.Places.{IsLogOf, StartsAt}
+use Rattle.dispatch_node.proofs.clicks.Clicks.clicks_at.Given as goal
+
+-- the clicks of the first positions
+abbrev pub invariant-loop-position : goal.invariant-loop-position
+invariant-loop-position g l =
+    record {
+      same : IsTrue g.L.LogFile.tells → g.L.LogFile.bytes l.self.tail.log ≡ g.L.LogFile.bytes l.initial.self.tail.log;
+      clicks : IsTrue g.L.LogFile.tells → (s : Setting) → IsLogOf (g.L.LogFile.bytes l.initial.self.tail.log) s → ((p : ℕ) → has l.positions p ≡ true → StartsAt s p) → AreClicksAt s (take l.position-index l.positions) l.clicks.items;
+      spelled : All IsClick l.clicks.items;
+      count : g.L.LogFile.faults l.initial.self.tail.log ≤ g.L.LogFile.faults l.self.tail.log;
+    }

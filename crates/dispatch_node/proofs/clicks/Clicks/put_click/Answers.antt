@@ -1,0 +1,11 @@
+use Rattle.std.proofs.Common.{◌≡◌, List, ◌++◌, ◌∷◌, [], Option, sym, ◌∙◌, subst}
+use Rattle.log_records.specs.declared.records.ClickRec.{ClickRec as Click}
+use Rattle.dispatch_core.specs.Standing.{AreClicksAt, click_at}
+use Rattle.dispatch_node.proofs.Carried.{clicks_more, pushed_items}
+use Rattle.dispatch_node.proofs.clicks.Clicks.put_click.Goals as goal
+
+pub returns-clause-click : goal.returns-clause-click
+returns-clause-click g c tells s before is starts are =
+    let found = subst (λ (o : Option Click). click_at s c.args.position ≡ o) c.in-Some.is (c.in_ok-click.ensures.click tells s is starts) in
+    let all = c.push.ensures.items ∙ pushed_items c.push.result _ _ (sym c.is_err.ensures.value ∙ c.if-is_err.false) in
+    subst (λ (cs : List Click). AreClicksAt s (before ++ c.args.position ∷ []) cs) (sym all) (clicks_more s before c.args.clicks.now.items c.args.position c.in-Some.click are found)

@@ -1,0 +1,17 @@
+use Rattle.std.proofs.Common.{not, nat_eq, sym, ap, ◌∙◌}
+use Rattle.indexmap.specs.IndexSet.{contains}
+use Rattle.dispatch_core.proofs.Sets.{any_has}
+use Rattle.dispatch_node.specs.Kept.{kept_as, takes_note}
+use Rattle.dispatch_node.proofs.journals.Journals.takes.Goals as goal
+
+pub returns-in-Park : goal.returns-in-Park
+returns-in-Park g c =
+    let j = c.args.self.now in
+    let p = c.in-Park.position in
+    ap not (c.contains.ensures ∙ ap (λ set. contains nat_eq set p) c.pending.ensures.pending ∙ any_has j.retry.pending.keys p) ∙ ap (takes_note (kept_as j.offset.offset j.retry.pending.keys)) (sym c.in-Park.is)
+
+pub returns-in-Settle : goal.returns-in-Settle
+returns-in-Settle g c =
+    let j = c.args.self.now in
+    let p = c.in-Settle.position in
+    c.contains-in-Settle.ensures ∙ ap (λ set. contains nat_eq set p) c.pending-in-Settle.ensures.pending ∙ any_has j.retry.pending.keys p ∙ ap (takes_note (kept_as j.offset.offset j.retry.pending.keys)) (sym c.in-Settle.is)

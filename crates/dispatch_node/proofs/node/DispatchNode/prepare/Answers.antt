@@ -1,0 +1,18 @@
+use Rattle.std.proofs.Common.{List, subst}
+use Rattle.packet_codec.specs.declared.packet.Packet.{Packet}
+use Rattle.packet_codec.specs.declared.node.Node.{Node}
+use Rattle.site_node.specs.Bytes.{AreSpelled}
+use Rattle.dispatch_core.specs.Changes.{note_of}
+use Rattle.dispatch_node.proofs.node.DispatchNode.prepare.Goals as goal
+
+pub returns-clause-ready : goal.returns-clause-ready
+returns-clause-ready g c = record {
+  keeps = c.in_ok-turn.ensures.ready;
+  packets = subst (λ (ps : List (Node × Packet)). AreSpelled ps c.in_ok-packets.packets) c.packets.ensures c.in_ok-packets.ensures;
+  recorded = c.in_ok-written.ensures.recorded (note_of c.in_ok-turn.turn.change) c.note.ensures;
+}
+
+pub returns-clause-turn : goal.returns-clause-turn
+returns-clause-turn g c tells s k live l is kept of_g knows asked =
+    let both = c.in_ok-taken.ensures.carries tells s k live l is kept of_g knows asked in
+    c.in_ok-turn.ensures.turn s k l c.args.input both.0 both.1

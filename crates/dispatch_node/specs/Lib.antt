@@ -1,0 +1,6 @@
+pub mod Places
+pub mod Faults
+pub mod Kept
+pub mod Node
+pub mod Images
+pub mod Paths

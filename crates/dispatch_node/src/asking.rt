@@ -1,0 +1,86 @@
+// What a turn takes, with what its node looks up for it.
+ghost use Rattle.std.specs.Prelude.{◌≡◌, ◌≤◌, Option, true, IfOk, IfErr, IsErrOf, IsTrue};
+ghost use Rattle.outside.specs.Faults.{Rose};
+ghost use Rattle.packet_codec.specs.declared.node.Input.TheVariants as asked;
+ghost use Rattle.turn_defs.specs.Setting.{Setting};
+ghost use Rattle.dispatch_core.specs.Dispatcher.{DispatcherKept, DispatcherLive, dispatcher_looks};
+ghost use Rattle.dispatch_core.specs.Spelled.{IsTaken};
+ghost use Rattle.dispatch_core.specs.Standing.{Carries, IsOf, Stands, Takes};
+ghost use Rattle.dispatch_node.specs.Faults.{IsReadFault};
+ghost use Rattle.dispatch_node.specs.Kept.{kept_as};
+ghost use Rattle.dispatch_node.specs.Node.{IsAsked, Knows};
+ghost use Rattle.dispatch_node.specs.Places.{AreLivePlaces, IsLogOf};
+
+use crate::clicks::Clicks;
+use crate::journals::Journals;
+use dispatch_core::{DispatchCore, DispatchInput};
+use outside::{Disk, LogFile};
+use packet_codec::Input;
+use site_node::NodeFault;
+
+// A Start takes what the journals keep; an Own the click or the line that its row needs, if any; a Tick the clicks of the
+// positions in trial.
+pub(crate) fn look_up<D: Disk, L: LogFile>(
+    core: &DispatchCore,
+    journals: &Journals<D>,
+    clicks: &mut Clicks<L>,
+    input: Input,
+) -> Result<DispatchInput, NodeFault>
+    ensures taken { IfOk result IsTaken }
+    ensures carries { IsTrue L.tells → (g : Setting) (k : DispatcherKept) (live : Option DispatcherLive) (l : DispatcherLive) →
+        IsLogOf (L.bytes clicks.old.tail.log) g → kept_as journals.now.offset.offset journals.now.retry.pending.keys ≡ k →
+        IsOf g core.now → Knows g core.now k live → IsAsked live input l →
+        IfOk result (λ taken. Takes g core.now k l taken × Carries g k l taken input) }
+    ensures same { IsTrue L.tells → L.bytes clicks.new.tail.log ≡ L.bytes clicks.old.tail.log }
+    ensures fault { IfErr result IsReadFault }
+    ensures count { L.faults clicks.old.tail.log ≤ L.faults clicks.new.tail.log }
+    ensures read { IsErrOf result NodeFault.Read → Rose (L.faults clicks.old.tail.log) (L.faults clicks.new.tail.log) }
+{
+    match input {
+        Input::Start => {
+            let pending = journals.pending()?;
+            Ok(DispatchInput::Start {
+                offset: journals.offset(),
+                pending,
+            })
+        }
+        Input::Own => look_in_log(core, clicks),
+        Input::Tick => {
+            let trying = clicks.clicks_at(core.trying())?;
+            Ok(DispatchInput::Tick { trying })
+        }
+        Input::Deliver { from, packet } => Ok(DispatchInput::Packet { from, packet }),
+    }
+}
+
+// The click at the first due position, or else the line at the place, where an Own takes either.
+fn look_in_log<L: LogFile>(
+    core: &DispatchCore,
+    clicks: &mut Clicks<L>,
+) -> Result<DispatchInput, NodeFault>
+    ensures taken { IfOk result IsTaken }
+    ensures carries { IsTrue L.tells → (g : Setting) (k : DispatcherKept) (l : DispatcherLive) →
+        IsLogOf (L.bytes clicks.old.tail.log) g → Stands g core.now k l → AreLivePlaces g l →
+        IfOk result (λ taken. Takes g core.now k l taken × Carries g k l taken asked.Own) }
+    ensures same { IsTrue L.tells → L.bytes clicks.new.tail.log ≡ L.bytes clicks.old.tail.log }
+    ensures fault { IfErr result IsReadFault }
+    ensures count { L.faults clicks.old.tail.log ≤ L.faults clicks.new.tail.log }
+    ensures read { IsErrOf result NodeFault.Read → Rose (L.faults clicks.old.tail.log) (L.faults clicks.new.tail.log) }
+{
+    if !core.looks() {
+        return Ok(DispatchInput::Own {
+            line: None,
+            due: None,
+        });
+    }
+    match core.first_due() {
+        Some(position) => {
+            let due = clicks.click_at(position)?;
+            Ok(DispatchInput::Own { line: None, due })
+        }
+        None => {
+            let line = clicks.line_at(core.place())?;
+            Ok(DispatchInput::Own { line, due: None })
+        }
+    }
+}

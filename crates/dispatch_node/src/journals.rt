@@ -1,0 +1,205 @@
+// The records of a dispatcher on its two disks.
+ghost use Rattle.std.specs.Prelude.{◌≡◌, ◌⊎◌, ◌≤◌, ℕ, List, Option, true, option_map, IfOk, IfErr, OnOk, OnErr, IsErrOf, IsTrue};
+ghost use Rattle.outside.specs.Disk.{Throughout};
+ghost use Rattle.outside.specs.Faults.{Rose};
+ghost use Rattle.gate_journal.specs.declared.journal.JournalState.TheVariants.{Ready};
+ghost use Rattle.gate_journal.specs.Growth.{Continues};
+ghost use Rattle.indexmap.specs.IndexSet.{spare};
+ghost use Rattle.offset_journal.specs.Offsets as offsets;
+ghost use Rattle.retry_log.specs.Pending as pending;
+ghost use Rattle.turn_defs.specs.Turns.{Note};
+ghost use Rattle.site_node.specs.Faults.{IsOfRestart, IsWhole};
+ghost use Rattle.dispatch_core.specs.Changes.{told};
+ghost use Rattle.dispatch_node.specs.Faults.{fault_told};
+ghost use Rattle.dispatch_node.specs.Kept.{kept_as, landed, takes_note, HasRoomFor};
+ghost use Rattle.dispatch_node.specs.Node.{IsRecorded, IsTakenBy, IsRoomFor};
+
+use crate::notes::payload_of;
+use air_bus::Payload;
+use dispatch_core::DispatchNote;
+use gate_journal::{AppendFault, JournalFault};
+use offset_journal::OffsetJournal;
+use outside::{Disk, DiskName};
+use retry_log::RetryLog;
+use site_node::NodeFault;
+use std::alloc::{AllocError, Global};
+
+// The offset on one disk, and the pending positions on another. A note is written to one of them alone.
+#[derive(Drop)]
+pub(crate) struct Journals<D: Disk> {
+    pub(crate) offset: OffsetJournal<D>,
+    pub(crate) retry: RetryLog<D>,
+    pub(crate) alloc: Global,
+}
+
+impl<D: Disk> Journals<D> {
+    pub(crate) fn offset(&self) -> u64
+        ensures { result ≡ self.now.offset.offset }
+    {
+        self.offset.offset()
+    }
+
+    // A copy of the pending positions, in the order of parking.
+    pub(crate) fn pending(&self) -> Result<Vec<u64>, AllocError>
+        ensures { IfOk result (λ positions. positions.items ≡ self.now.retry.pending.keys) }
+    {
+        Vec::from_slice(self.alloc, self.retry.pending().as_slice())
+    }
+
+    // The disks, that of the offset first.
+    pub(crate) fn into_disks(self) -> (D, D)
+        ensures offset { result.0 ≡ self.offset.journal.disk }
+        ensures retry { result.1 ≡ self.retry.journal.disk }
+    {
+        let Journals {
+            offset,
+            retry,
+            alloc: _,
+        } = self;
+        (offset.into_disk(), retry.into_disk())
+    }
+
+    // Whether the note can be written: an offset above the kept one, a position that isn't pending to be parked, one that
+    // is to be settled. Constant expected time.
+    pub(crate) fn takes(&self, note: DispatchNote) -> bool
+        ensures { result ≡ takes_note (kept_as self.now.offset.offset self.now.retry.pending.keys) note }
+    {
+        match note {
+            DispatchNote::Advance(end) => self.offset.offset() < end,
+            DispatchNote::Park(position) => !self.retry.pending().contains(&position),
+            DispatchNote::Settle(position) => self.retry.pending().contains(&position),
+        }
+    }
+
+    // Room for the note, on its disk.
+    pub(crate) fn make_room(&mut self, note: DispatchNote) -> Result<(), AllocError>
+        ensures room { OnOk result (HasRoomFor note (D.calls_left self.new.offset.journal.disk) (D.bytes_left self.new.offset.journal.disk)
+            (D.calls_left self.new.retry.journal.disk) (D.bytes_left self.new.retry.journal.disk) (spare self.new.retry.pending)) }
+        ensures kept { kept_as self.new.offset.offset self.new.retry.pending.keys
+            ≡ kept_as self.old.offset.offset self.old.retry.pending.keys }
+        ensures states { (self.new.offset.journal.state ≡ self.old.offset.journal.state)
+            × (self.new.retry.journal.state ≡ self.old.retry.journal.state) }
+        ensures offset_at_any_moment { IsTrue D.tells → Throughout D.image D.since self.old.offset.journal.disk self.new.offset.journal.disk
+            (D.image self.old.offset.journal.disk) }
+        ensures retry_at_any_moment { IsTrue D.tells → Throughout D.image D.since self.old.retry.journal.disk self.new.retry.journal.disk
+            (D.image self.old.retry.journal.disk) }
+        ensures counts { (D.faults self.new.offset.journal.disk ≡ D.faults self.old.offset.journal.disk)
+            × (D.faults self.new.retry.journal.disk ≡ D.faults self.old.retry.journal.disk) }
+    {
+        match note {
+            DispatchNote::Advance(_) => self.offset.make_room(self.alloc),
+            DispatchNote::Park(_) | DispatchNote::Settle(_) => self.retry.make_room(self.alloc),
+        }
+    }
+
+    // The note with its record, and room for it on its disk. A note that its disk doesn't take never comes where the log and
+    // the disks are sound.
+    pub(crate) fn write_down(
+        &mut self,
+        note: Option<DispatchNote>,
+    ) -> Result<Option<(DispatchNote, Payload)>, AllocError>
+        ensures recorded { (n : Option Note) → option_map told note ≡ n → IfOk result (IsRecorded n) }
+        ensures takes { IfOk result (IsTakenBy (kept_as self.new.offset.offset self.new.retry.pending.keys)) }
+        ensures room { IfOk result (λ written. IsRoomFor written
+            (D.calls_left self.new.offset.journal.disk) (D.bytes_left self.new.offset.journal.disk)
+            (D.calls_left self.new.retry.journal.disk) (D.bytes_left self.new.retry.journal.disk) (spare self.new.retry.pending)) }
+        ensures kept { kept_as self.new.offset.offset self.new.retry.pending.keys
+            ≡ kept_as self.old.offset.offset self.old.retry.pending.keys }
+        ensures states { (self.new.offset.journal.state ≡ self.old.offset.journal.state)
+            × (self.new.retry.journal.state ≡ self.old.retry.journal.state) }
+        ensures offset_at_any_moment { IsTrue D.tells → Throughout D.image D.since self.old.offset.journal.disk self.new.offset.journal.disk
+            (D.image self.old.offset.journal.disk) }
+        ensures retry_at_any_moment { IsTrue D.tells → Throughout D.image D.since self.old.retry.journal.disk self.new.retry.journal.disk
+            (D.image self.old.retry.journal.disk) }
+        ensures counts { (D.faults self.new.offset.journal.disk ≡ D.faults self.old.offset.journal.disk)
+            × (D.faults self.new.retry.journal.disk ≡ D.faults self.old.retry.journal.disk) }
+    {
+        let Some(note) = note else {
+            return Ok(None);
+        };
+        if !self.takes(note) {
+            return Err(AllocError);
+        }
+        let record = payload_of(self.alloc, note)?;
+        self.make_room(note)?;
+        Ok(Some((note, record)))
+    }
+
+    // Writes the note to its disk. It takes no memory.
+    pub(crate) fn append(&mut self, note: DispatchNote) -> Result<(), AppendFault>
+        requires takes { takes_note (kept_as self.old.offset.offset self.old.retry.pending.keys) note ≡ true }
+        requires room { HasRoomFor note (D.calls_left self.old.offset.journal.disk) (D.bytes_left self.old.offset.journal.disk)
+            (D.calls_left self.old.retry.journal.disk) (D.bytes_left self.old.retry.journal.disk) (spare self.old.retry.pending) }
+        ensures kept { OnOk result (kept_as self.new.offset.offset self.new.retry.pending.keys
+            ≡ landed note (kept_as self.old.offset.offset self.old.retry.pending.keys)) }
+        ensures ready { self.old.offset.journal.state ≡ Ready → self.old.retry.journal.state ≡ Ready →
+            OnOk result ((self.new.offset.journal.state ≡ Ready) × (self.new.retry.journal.state ≡ Ready)) }
+        ensures offset_at_any_moment { IsTrue D.tells → self.old.offset.journal.state ≡ Ready →
+            Throughout D.image D.since self.old.offset.journal.disk self.new.offset.journal.disk
+            (offsets.KeepsOr self.old.offset.offset (landed note (kept_as self.old.offset.offset self.old.retry.pending.keys)).offset) }
+        ensures retry_at_any_moment { IsTrue D.tells → self.old.retry.journal.state ≡ Ready →
+            Throughout D.image D.since self.old.retry.journal.disk self.new.retry.journal.disk
+            (pending.KeepsOr self.old.retry.pending.keys
+            (landed note (kept_as self.old.offset.offset self.old.retry.pending.keys)).pending) }
+        ensures offset_grows { IsTrue D.tells → self.old.offset.journal.state ≡ Ready →
+            (c : List ℕ) → D.image self.new.offset.journal.disk c → Continues (D.image self.old.offset.journal.disk) c }
+        ensures retry_grows { IsTrue D.tells → self.old.retry.journal.state ≡ Ready → (c : List ℕ) → D.image self.new.retry.journal.disk c →
+            Continues (D.image self.old.retry.journal.disk) c }
+        ensures ready_before { self.old.offset.journal.state ≡ Ready → self.old.retry.journal.state ≡ Ready →
+            IfErr result (λ e. e ≡ AppendFault.Disk) }
+        ensures fault { IsErrOf result AppendFault.Disk →
+            Rose (D.faults self.old.offset.journal.disk) (D.faults self.new.offset.journal.disk)
+            ⊎ Rose (D.faults self.old.retry.journal.disk) (D.faults self.new.retry.journal.disk) }
+        ensures counts { (D.faults self.old.offset.journal.disk ≤ D.faults self.new.offset.journal.disk)
+            × (D.faults self.old.retry.journal.disk ≤ D.faults self.new.retry.journal.disk) }
+    {
+        match note {
+            DispatchNote::Advance(end) => self.offset.advance(end),
+            DispatchNote::Park(position) => self.retry.park(position),
+            DispatchNote::Settle(position) => self.retry.settle(position),
+        }
+    }
+
+    // Reads both disks as a stop left them. Linear in the files.
+    pub(crate) fn reopen(&mut self, site: u8) -> Result<(), NodeFault>
+        ensures ready { OnOk result ((self.new.offset.journal.state ≡ Ready) × (self.new.retry.journal.state ≡ Ready)) }
+        ensures left { IsTrue D.tells → OnOk result (offsets.IsLeft (D.image self.old.offset.journal.disk) self.new.offset.offset
+            × pending.IsLeft (D.image self.old.retry.journal.disk) self.new.retry.pending.keys) }
+        ensures offset_at_any_moment { IsTrue D.tells → Throughout D.image D.since self.old.offset.journal.disk self.new.offset.journal.disk
+            (offsets.KeepsAsLeft (D.image self.old.offset.journal.disk)) }
+        ensures retry_at_any_moment { IsTrue D.tells → Throughout D.image D.since self.old.retry.journal.disk self.new.retry.journal.disk
+            (pending.KeepsAsLeft (D.image self.old.retry.journal.disk)) }
+        ensures offset_grows { IsTrue D.tells → (c : List ℕ) → D.image self.new.offset.journal.disk c →
+            Continues (D.image self.old.offset.journal.disk) c }
+        ensures retry_grows { IsTrue D.tells → (c : List ℕ) → D.image self.new.retry.journal.disk c →
+            Continues (D.image self.old.retry.journal.disk) c }
+        ensures kind { IfErr result IsOfRestart }
+        ensures stopped { IsErrOf result NodeFault.Stopped →
+            Rose (D.faults self.old.offset.journal.disk) (D.faults self.new.offset.journal.disk)
+            ⊎ Rose (D.faults self.old.retry.journal.disk) (D.faults self.new.retry.journal.disk) }
+        ensures counts { (D.faults self.old.offset.journal.disk ≤ D.faults self.new.offset.journal.disk)
+            × (D.faults self.old.retry.journal.disk ≤ D.faults self.new.retry.journal.disk) }
+        // Where each image keeps something, nothing is damaged.
+        ensures whole { IsTrue D.tells → ((c : List ℕ) → D.image self.old.offset.journal.disk c → (o : ℕ) × offsets.Keeps o c) →
+            ((c : List ℕ) → D.image self.old.retry.journal.disk c → (ps : List ℕ) × pending.Keeps ps c) → IfErr result IsWhole }
+    {
+        if let Err(fault) = self.offset.reopen(self.alloc) {
+            return Err(fault_of(DiskName::Offset(site), fault));
+        }
+        match self.retry.reopen(self.alloc) {
+            Ok(()) => Ok(()),
+            Err(fault) => Err(fault_of(DiskName::Retry(site), fault)),
+        }
+    }
+}
+
+// Why a journal of this disk isn't opened.
+fn fault_of(disk: DiskName, fault: JournalFault) -> NodeFault
+    ensures { result ≡ fault_told disk fault }
+{
+    match fault {
+        JournalFault::Damaged { at } => NodeFault::Damaged { disk, at },
+        JournalFault::Disk => NodeFault::Stopped,
+        JournalFault::Memory => NodeFault::Memory,
+    }
+}

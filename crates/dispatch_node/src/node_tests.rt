@@ -1,0 +1,349 @@
+// A dispatcher over disks and a log in memory: what it writes and sends, and what a stop leaves.
+ghost use Rattle.std.specs.Prelude.{◌≡◌, false, is_some, IfOk};
+ghost use Rattle.site_node.specs.Faults.{was_stopped};
+
+use crate::DispatchNode;
+use air_bus::{Input, Payload};
+use mem_outside::{Fuse, Image, MemDisk, MemLog};
+use offset_journal::OffsetJournal;
+use outside::OpenGate;
+use retry_log::RetryLog;
+use site_node::{Done, NodeFault, Roster, SiteNode};
+use std::alloc::{AllocError, Global};
+use std::test::Fail;
+
+type Node = DispatchNode<MemDisk, MemLog>;
+
+const ROSTER: Roster = Roster {
+    replicas: 3,
+    joiners: 1,
+};
+
+const JOINER: u16 = 7;
+
+// Two lines, of 30 bytes each.
+const LOG: &[u8] = b"10.0.0.2:9:5 10.0.0.2:7:5 buy\n10.0.0.2:9:6 10.0.0.2:7:6 see\n";
+
+// The Joins of the lines at 0 and at 30: the tag, the position, both ids, and the text behind its length.
+const JOIN_FIRST: &[u8] = &[
+    0x11, 0, 0, 0, 0, 0, 0, 0, 0, 10, 0, 0, 2, 0, 0, 0, 9, 0, 0, 0, 0, 0, 0, 0, 5, 10, 0, 0, 2, 0,
+    0, 0, 7, 0, 0, 0, 0, 0, 0, 0, 5, 3, 98, 117, 121,
+];
+
+const JOIN_SECOND: &[u8] = &[
+    0x11, 0, 0, 0, 0, 0, 0, 0, 30, 10, 0, 0, 2, 0, 0, 0, 9, 0, 0, 0, 0, 0, 0, 0, 6, 10, 0, 0, 2, 0,
+    0, 0, 7, 0, 0, 0, 0, 0, 0, 0, 6, 3, 115, 101, 101,
+];
+
+// Answers: the pair of the first is written, the query of the second isn't among one line; then its pair is written.
+const WRITTEN_FIRST: &[u8] = &[0x12, 0, 0, 0, 0, 0, 0, 0, 0, 0];
+
+const NO_QUERY_SECOND: &[u8] = &[0x12, 0, 0, 0, 0, 0, 0, 0, 30, 3, 0, 0, 0, 0, 0, 0, 0, 1];
+
+const WRITTEN_SECOND: &[u8] = &[0x12, 0, 0, 0, 0, 0, 0, 0, 30, 0];
+
+// A packet that a dispatcher has no row for: the tag of a Prepare, the place and the ballot.
+const PREPARE: &[u8] = &[
+    0x15, 3, 0, 0, 0, 0, 0, 0, 0, 0, 0, 0, 0, 0, 0, 0, 0, 1, 0, 0, 0, 1, 0,
+];
+
+// Records: the offset is 30, it is 60, the second line is pending, it isn't any more.
+const TO_30: &[u8] = &[3, 0, 0, 0, 0, 0, 0, 0, 30];
+
+const TO_60: &[u8] = &[3, 0, 0, 0, 0, 0, 0, 0, 60];
+
+const PARKED: &[u8] = &[4, 0, 0, 0, 0, 0, 0, 0, 30];
+
+const SETTLED: &[u8] = &[5, 0, 0, 0, 0, 0, 0, 0, 30];
+
+// Disks that hold the offset 60, and that the second line is pending.
+const OFFSET_60: &[u8] = &[0xA5, 0, 0, 0, 9, 3, 0, 0, 0, 0, 0, 0, 0, 60, 0];
+
+const PENDING_30: &[u8] = &[0xA5, 0, 0, 0, 9, 4, 0, 0, 0, 0, 0, 0, 0, 30, 0];
+
+// What a turn begins with.
+#[derive(Clone, Copy)]
+enum Given<'a> {
+    Start,
+    Own,
+    Tick,
+    Packet(&'a [u8]),
+}
+
+// A turn: what it begins with, its note and its packet, or no bytes where there is none.
+type Row<'a> = (Given<'a>, &'a [u8], &'a [u8]);
+
+// A line is taken, then the next, then the log has ended. The first is done, and the offset passes it; the second is
+// parked, and the offset passes it too.
+const FIRST_RUN: [Row; 8] = [
+    (Given::Start, &[], &[]),
+    (Given::Own, &[], JOIN_FIRST),
+    (Given::Own, &[], JOIN_SECOND),
+    (Given::Own, &[], &[]),
+    (Given::Packet(WRITTEN_FIRST), &[], &[]),
+    (Given::Own, TO_30, &[]),
+    (Given::Packet(NO_QUERY_SECOND), PARKED, &[]),
+    (Given::Own, TO_60, &[]),
+];
+
+// The pending line is tried again, sent again, and settled.
+const SECOND_RUN: [Row; 5] = [
+    (Given::Start, &[], &[]),
+    (Given::Own, &[], JOIN_SECOND),
+    (Given::Own, &[], &[]),
+    (Given::Tick, &[], JOIN_SECOND),
+    (Given::Packet(WRITTEN_SECOND), SETTLED, &[]),
+];
+
+// A dispatcher that is down, over these disks and the two lines.
+fn over(alloc: Global, offset: MemDisk, retry: MemDisk) -> Result<Node, Fail>
+    ensures { IfOk result (λ node. is_some node.in_doubt ≡ false) }
+{
+    let log = MemLog::new(LOG.to_vec(alloc)?, Vec::new(alloc));
+    with_log(alloc, offset, retry, log)
+}
+
+fn with_log(alloc: Global, offset: MemDisk, retry: MemDisk, log: MemLog) -> Result<Node, Fail>
+    ensures { IfOk result (λ node. is_some node.in_doubt ≡ false) }
+{
+    let offset = match OffsetJournal::open(alloc, offset) {
+        Ok(offset) => offset,
+        Err((fault, _)) => return Err(fault.into()),
+    };
+    let retry = match RetryLog::open(alloc, retry) {
+        Ok(retry) => retry,
+        Err((fault, _)) => return Err(fault.into()),
+    };
+    Ok(DispatchNode::new(alloc, 0, ROSTER, offset, retry, log))
+}
+
+fn begun(alloc: Global, given: Given) -> Result<Input, AllocError> {
+    match given {
+        Given::Start => Ok(Input::Start),
+        Given::Own => Ok(Input::Own),
+        Given::Tick => Ok(Input::Tick),
+        Given::Packet(bytes) => Ok(Input::Packet {
+            from: JOINER,
+            bytes: Payload::new(bytes.to_vec(alloc)?)?,
+        }),
+    }
+}
+
+// Whether the turn noted this and sent this to the joiner.
+fn says(done: &Done, note: &[u8], sent: &[u8]) -> bool {
+    let noted = match &done.note {
+        Some(bytes) => bytes.as_slice() == note,
+        None => note.is_empty(),
+    };
+    match done.packets.as_slice() {
+        [] => noted && sent.is_empty(),
+        [(to, bytes)] => noted && *to == JOINER && bytes.as_slice() == sent,
+        _ => false,
+    }
+}
+
+// Whether a turn of the node is the row's. An error is a turn that isn't done.
+fn takes(node: &mut Node, alloc: Global, row: Row) -> Result<bool, NodeFault>
+    requires { is_some node.old.in_doubt ≡ false }
+    ensures { is_some node.new.in_doubt ≡ was_stopped result }
+{
+    let input = begun(alloc, row.0)?;
+    let done = node.turn(&input, &OpenGate)?;
+    Ok(says(&done, row.1, row.2))
+}
+
+// The number of the first row that isn't as it says, or how many rows there are.
+fn first_wrong(node: &mut Node, alloc: Global, rows: &[Row]) -> Result<usize, NodeFault>
+    requires { is_some node.old.in_doubt ≡ false }
+    ensures { is_some node.new.in_doubt ≡ was_stopped result }
+{
+    for (number, row) in rows.iter().enumerate() {
+        if !takes(node, alloc, *row)? {
+            return Ok(number);
+        }
+    }
+    Ok(rows.len())
+}
+
+fn done(wrong: Result<usize, NodeFault>) -> Result<usize, Fail> {
+    match wrong {
+        Ok(number) => Ok(number),
+        Err(_) => Err("turn".into()),
+    }
+}
+
+#[test]
+fn lines_are_joined_and_what_was_parked_is_tried_again(rt: HostRuntime) -> Result<(), Fail> {
+    let alloc = rt.alloc();
+    let none = Vec::new(alloc);
+    let mut node = over(
+        alloc,
+        MemDisk::new(alloc, Vec::new(alloc)),
+        MemDisk::new(alloc, none),
+    )?;
+    assert_eq!(rt; done(first_wrong(&mut node, alloc, &FIRST_RUN))?, 8);
+    assert!(rt; node.at_rest() && !node.wants() && !node.unfinished());
+    let (offset, retry, _) = node.into_disks();
+    assert!(rt;
+        offset.bytes().len() == 29
+            && offset
+                .bytes()
+                .ends_with(&[30, 0xA5, 0, 0, 0, 9, 3, 0, 0, 0, 0, 0, 0, 0, 60, 0])
+    );
+    assert!(rt; retry.bytes() == PENDING_30);
+    let mut node = over(alloc, offset, retry)?;
+    assert_eq!(rt; done(first_wrong(&mut node, alloc, &SECOND_RUN))?, 5);
+    assert!(rt; node.at_rest() && !node.wants() && !node.unfinished());
+    Ok(())
+}
+
+// What is stopped: the turns before, the turn, whether its note is on the retry log's disk, and whether that disk holds the
+// parked second line from the first.
+#[derive(Clone, Copy)]
+struct Stop<'a> {
+    before: &'a [Row<'a>],
+    row: Row<'a>,
+    is_retry: bool,
+    is_parked: bool,
+}
+
+// A dispatcher that is down, whose disk with the note fails so.
+fn failing(alloc: Global, stop: Stop, fuse: Fuse) -> Result<Node, Fail>
+    ensures { IfOk result (λ node. is_some node.in_doubt ≡ false) }
+{
+    let fuses = vec![in alloc; fuse]?;
+    if stop.is_parked {
+        let offset = MemDisk::holding(alloc, OFFSET_60, Vec::new(alloc))?;
+        let retry = MemDisk::holding(alloc, PENDING_30, fuses)?;
+        return over(alloc, offset, retry);
+    }
+    let sound = MemDisk::new(alloc, Vec::new(alloc));
+    let stopped = MemDisk::new(alloc, fuses);
+    if stop.is_retry {
+        over(alloc, sound, stopped)
+    } else {
+        over(alloc, stopped, sound)
+    }
+}
+
+// Whether the bytes of a disk end with an open gate and this record.
+fn holds(bytes: &[u8], record: &[u8]) -> bool {
+    if bytes.len() < 15 {
+        return false;
+    }
+    let start = bytes.len() - 15;
+    bytes[start] == 0xA5 && bytes[start + 5..].starts_with(record)
+}
+
+// Whether the note landed where this call of its disk is stopped. The restart and the disk say the same, and the node
+// starts.
+fn lands(alloc: Global, stop: Stop, call: u64, image: Image) -> Result<bool, Fail> {
+    let mut node = failing(alloc, stop, Fuse { call, image })?;
+    if done(first_wrong(&mut node, alloc, stop.before))? != stop.before.len() {
+        return Err("before".into());
+    }
+    match takes(&mut node, alloc, stop.row) {
+        Err(NodeFault::Stopped) => {}
+        _ => return Err("stopped".into()),
+    }
+    let landed = match node.restart() {
+        Ok(Some(note)) => note.as_slice() == stop.row.1,
+        Ok(None) => false,
+        Err(_) => return Err("restart".into()),
+    };
+    if done(first_wrong(&mut node, alloc, &[(Given::Start, &[], &[])]))? != 1 {
+        return Err("start".into());
+    }
+    let (offset, retry, _) = node.into_disks();
+    let disk = if stop.is_retry { retry } else { offset };
+    if holds(disk.bytes(), stop.row.1) == landed {
+        Ok(landed)
+    } else {
+        Err("disk".into())
+    }
+}
+
+#[test]
+fn a_note_lands_once_its_gate_is_open(rt: HostRuntime) -> Result<(), Fail> {
+    let alloc = rt.alloc();
+    let advance = Stop {
+        before: &FIRST_RUN[..5],
+        row: FIRST_RUN[5],
+        is_retry: false,
+        is_parked: false,
+    };
+    let park = Stop {
+        before: &FIRST_RUN[..6],
+        row: FIRST_RUN[6],
+        is_retry: true,
+        is_parked: false,
+    };
+    let settle = Stop {
+        before: &SECOND_RUN[..4],
+        row: SECOND_RUN[4],
+        is_retry: true,
+        is_parked: true,
+    };
+    // The body of a note is written by the first of four calls and synced by the second; the gate before it is opened by the
+    // third and synced by the fourth. Opening makes three calls on a fresh disk, and one on another.
+    for (stop, first) in [(advance, 3), (park, 3), (settle, 1)] {
+        for later in 0..4 {
+            let call = first + later;
+            assert!(rt; !lands(alloc, stop, call, Image::Old)?);
+            assert!(rt; !lands(alloc, stop, call, Image::Noise)?);
+            assert!(rt; lands(alloc, stop, call, Image::New)? == (later >= 2));
+        }
+    }
+    Ok(())
+}
+
+// Whether the packet does nothing: no note and no packet, and then the answer to the first Join counts.
+fn is_skipped(alloc: Global, bytes: &[u8]) -> Result<bool, Fail> {
+    let mut node = over(
+        alloc,
+        MemDisk::new(alloc, Vec::new(alloc)),
+        MemDisk::new(alloc, Vec::new(alloc)),
+    )?;
+    if done(first_wrong(&mut node, alloc, &FIRST_RUN[..2]))? != 2 {
+        return Err("before".into());
+    }
+    let rows = [
+        (Given::Packet(bytes), [].as_slice(), [].as_slice()),
+        (Given::Packet(WRITTEN_FIRST), &[], &[]),
+        (Given::Own, TO_30, &[]),
+    ];
+    Ok(done(first_wrong(&mut node, alloc, &rows))? == 3)
+}
+
+#[test]
+fn what_has_no_row_is_skipped(rt: HostRuntime) -> Result<(), Fail> {
+    let alloc = rt.alloc();
+    for len in 0..NO_QUERY_SECOND.len() {
+        assert!(rt; is_skipped(alloc, &NO_QUERY_SECOND[..len])?);
+    }
+    assert!(rt; is_skipped(alloc, PREPARE)?);
+    assert!(rt; is_skipped(alloc, JOIN_FIRST)?);
+    // The second line waits for no answer yet.
+    assert!(rt; is_skipped(alloc, WRITTEN_SECOND)?);
+    Ok(())
+}
+
+#[test]
+fn a_turn_is_open_still_after_a_fault_of_the_log(rt: HostRuntime) -> Result<(), Fail> {
+    let alloc = rt.alloc();
+    let log = MemLog::new(LOG.to_vec(alloc)?, vec![in alloc; 0]?);
+    let mut node = with_log(
+        alloc,
+        MemDisk::new(alloc, Vec::new(alloc)),
+        MemDisk::new(alloc, Vec::new(alloc)),
+        log,
+    )?;
+    assert_eq!(rt; done(first_wrong(&mut node, alloc, &FIRST_RUN[..1]))?, 1);
+    let own = (Given::Own, [].as_slice(), JOIN_FIRST);
+    assert!(rt; takes(&mut node, alloc, own) == Err(NodeFault::Read));
+    match takes(&mut node, alloc, own) {
+        Ok(same) => assert!(rt; same),
+        Err(_) => return Err("again".into()),
+    }
+    Ok(())
+}
