@@ -1,5 +1,5 @@
 // A dispatcher over disks and a log in memory: what it writes and sends, and what a stop leaves.
-ghost use Rattle.std.specs.Prelude.{◌≡◌, false, is_some, IfOk};
+ghost use Rattle.std.specs.Prelude.{◌≡◌, ◌<◌, false, true, is_some, IfOk};
 ghost use Rattle.site_node.specs.Faults.{was_stopped};
 
 use crate::DispatchNode;
@@ -235,65 +235,107 @@ fn holds(bytes: &[u8], record: &[u8]) -> bool {
     bytes[start] == 0xA5 && bytes[start + 5..].starts_with(record)
 }
 
-// Whether the note landed where this call of its disk is stopped. The restart and the disk say the same, and the node
-// starts.
-fn lands(alloc: Global, stop: Stop, call: u64, image: Image) -> Result<bool, Fail> {
-    let mut node = failing(alloc, stop, Fuse { call, image })?;
+// The node of a stop, stopped by this call of its disk.
+fn stopped(alloc: Global, stop: Stop, fuse: Fuse) -> Result<Node, Fail>
+    ensures { IfOk result (λ node. is_some node.in_doubt ≡ true) }
+{
+    let mut node = failing(alloc, stop, fuse)?;
     if done(first_wrong(&mut node, alloc, stop.before))? != stop.before.len() {
         return Err("before".into());
     }
     match takes(&mut node, alloc, stop.row) {
-        Err(NodeFault::Stopped) => {}
-        _ => return Err("stopped".into()),
+        Err(NodeFault::Stopped) => Ok(node),
+        _ => Err("stopped".into()),
     }
+}
+
+// Whether the note landed, as the restart tells. Then the node starts.
+fn restarts(node: &mut Node, alloc: Global, note: &[u8]) -> Result<bool, Fail>
+    requires { is_some node.old.in_doubt ≡ true }
+{
     let landed = match node.restart() {
-        Ok(Some(note)) => note.as_slice() == stop.row.1,
+        Ok(Some(record)) => record.as_slice() == note,
         Ok(None) => false,
         Err(_) => return Err("restart".into()),
     };
-    if done(first_wrong(&mut node, alloc, &[(Given::Start, &[], &[])]))? != 1 {
-        return Err("start".into());
+    match takes(node, alloc, (Given::Start, &[], &[])) {
+        Ok(true) => Ok(landed),
+        _ => Err("start".into()),
     }
+}
+
+// Whether the disk of a stop holds the note.
+fn disk_holds(node: Node, stop: Stop) -> bool {
     let (offset, retry, _) = node.into_disks();
-    let disk = if stop.is_retry { retry } else { offset };
-    if holds(disk.bytes(), stop.row.1) == landed {
+    if stop.is_retry {
+        holds(retry.bytes(), stop.row.1)
+    } else {
+        holds(offset.bytes(), stop.row.1)
+    }
+}
+
+// Whether the note landed where this call of its disk is stopped. The disk has to say the same as the restart.
+fn lands(alloc: Global, stop: Stop, call: u64, image: Image) -> Result<bool, Fail> {
+    let mut node = stopped(alloc, stop, Fuse { call, image })?;
+    let landed = restarts(&mut node, alloc, stop.row.1)?;
+    if disk_holds(node, stop) == landed {
         Ok(landed)
     } else {
         Err("disk".into())
     }
 }
 
+// The body of a note is written by the first of four calls and synced by the second; the gate before it is opened by the
+// third and synced by the fourth. `first` is the number of the first.
+fn lands_once_its_gate_is_open(alloc: Global, stop: Stop, first: u64) -> Result<bool, Fail>
+    requires { first < 100 }
+{
+    for later in 0..4 {
+        let call = first + later;
+        if lands(alloc, stop, call, Image::Old)? || lands(alloc, stop, call, Image::Noise)? {
+            return Ok(false);
+        }
+        if lands(alloc, stop, call, Image::New)? != (later >= 2) {
+            return Ok(false);
+        }
+    }
+    Ok(true)
+}
+
+// Opening makes three calls on a fresh disk, and one on another.
 #[test]
-fn a_note_lands_once_its_gate_is_open(rt: HostRuntime) -> Result<(), Fail> {
-    let alloc = rt.alloc();
+fn an_advance_lands_once_its_gate_is_open(rt: HostRuntime) -> Result<(), Fail> {
     let advance = Stop {
         before: &FIRST_RUN[..5],
-        row: FIRST_RUN[5],
+        row: (Given::Own, TO_30, &[]),
         is_retry: false,
         is_parked: false,
     };
+    assert!(rt; lands_once_its_gate_is_open(rt.alloc(), advance, 3)?);
+    Ok(())
+}
+
+#[test]
+fn a_parked_line_lands_once_its_gate_is_open(rt: HostRuntime) -> Result<(), Fail> {
     let park = Stop {
         before: &FIRST_RUN[..6],
-        row: FIRST_RUN[6],
+        row: (Given::Packet(NO_QUERY_SECOND), PARKED, &[]),
         is_retry: true,
         is_parked: false,
     };
+    assert!(rt; lands_once_its_gate_is_open(rt.alloc(), park, 3)?);
+    Ok(())
+}
+
+#[test]
+fn a_settled_line_lands_once_its_gate_is_open(rt: HostRuntime) -> Result<(), Fail> {
     let settle = Stop {
         before: &SECOND_RUN[..4],
-        row: SECOND_RUN[4],
+        row: (Given::Packet(WRITTEN_SECOND), SETTLED, &[]),
         is_retry: true,
         is_parked: true,
     };
-    // The body of a note is written by the first of four calls and synced by the second; the gate before it is opened by the
-    // third and synced by the fourth. Opening makes three calls on a fresh disk, and one on another.
-    for (stop, first) in [(advance, 3), (park, 3), (settle, 1)] {
-        for later in 0..4 {
-            let call = first + later;
-            assert!(rt; !lands(alloc, stop, call, Image::Old)?);
-            assert!(rt; !lands(alloc, stop, call, Image::Noise)?);
-            assert!(rt; lands(alloc, stop, call, Image::New)? == (later >= 2));
-        }
-    }
+    assert!(rt; lands_once_its_gate_is_open(rt.alloc(), settle, 1)?);
     Ok(())
 }
 
