@@ -103,6 +103,13 @@ fn over(alloc: Global, offset: MemDisk, retry: MemDisk) -> Result<Node, Fail>
     with_log(alloc, offset, retry, log)
 }
 
+fn over_fresh(alloc: Global) -> Result<Node, Fail>
+    ensures { IfOk result (λ node. is_some node.in_doubt ≡ false) }
+{
+    let offset = MemDisk::new(alloc, Vec::new(alloc));
+    over(alloc, offset, MemDisk::new(alloc, Vec::new(alloc)))
+}
+
 fn with_log(alloc: Global, offset: MemDisk, retry: MemDisk, log: MemLog) -> Result<Node, Fail>
     ensures { IfOk result (λ node. is_some node.in_doubt ≡ false) }
 {
@@ -152,48 +159,43 @@ fn takes(node: &mut Node, alloc: Global, row: Row) -> Result<bool, NodeFault>
     Ok(says(&done, row.1, row.2))
 }
 
-// The number of the first row that isn't as it says, or how many rows there are.
-fn first_wrong(node: &mut Node, alloc: Global, rows: &[Row]) -> Result<usize, NodeFault>
+// Whether the node goes on row by row. Its turn may be open where it doesn't.
+fn goes(node: &mut Node, alloc: Global, rows: &[Row]) -> Result<bool, NodeFault>
     requires { is_some node.old.in_doubt ≡ false }
     ensures { is_some node.new.in_doubt ≡ was_stopped result }
 {
-    for (number, row) in rows.iter().enumerate() {
+    for row in rows {
         if !takes(node, alloc, *row)? {
-            return Ok(number);
+            return Ok(false);
         }
     }
-    Ok(rows.len())
+    Ok(true)
 }
 
-fn done(wrong: Result<usize, NodeFault>) -> Result<usize, Fail> {
-    match wrong {
-        Ok(number) => Ok(number),
-        Err(_) => Err("turn".into()),
+// Whether it does, and is at rest then.
+fn comes_to_rest(node: &mut Node, alloc: Global, rows: &[Row]) -> bool
+    requires { is_some node.old.in_doubt ≡ false }
+{
+    match goes(node, alloc, rows) {
+        Ok(true) => node.at_rest() && !node.wants() && !node.unfinished(),
+        _ => false,
     }
+}
+
+// Whether both runs go so, one after the other over the same disks.
+fn is_joined(alloc: Global) -> Result<bool, Fail> {
+    let mut node = over_fresh(alloc)?;
+    let is_first = comes_to_rest(&mut node, alloc, &FIRST_RUN);
+    let (offset, retry, _) = node.into_disks();
+    let is_kept = holds(offset.bytes(), TO_60) && retry.bytes() == PENDING_30;
+    let mut node = over(alloc, offset, retry)?;
+    let is_second = comes_to_rest(&mut node, alloc, &SECOND_RUN);
+    Ok(is_first && is_kept && is_second)
 }
 
 #[test]
 fn lines_are_joined_and_what_was_parked_is_tried_again(rt: HostRuntime) -> Result<(), Fail> {
-    let alloc = rt.alloc();
-    let none = Vec::new(alloc);
-    let mut node = over(
-        alloc,
-        MemDisk::new(alloc, Vec::new(alloc)),
-        MemDisk::new(alloc, none),
-    )?;
-    assert_eq!(rt; done(first_wrong(&mut node, alloc, &FIRST_RUN))?, 8);
-    assert!(rt; node.at_rest() && !node.wants() && !node.unfinished());
-    let (offset, retry, _) = node.into_disks();
-    assert!(rt;
-        offset.bytes().len() == 29
-            && offset
-                .bytes()
-                .ends_with(&[30, 0xA5, 0, 0, 0, 9, 3, 0, 0, 0, 0, 0, 0, 0, 60, 0])
-    );
-    assert!(rt; retry.bytes() == PENDING_30);
-    let mut node = over(alloc, offset, retry)?;
-    assert_eq!(rt; done(first_wrong(&mut node, alloc, &SECOND_RUN))?, 5);
-    assert!(rt; node.at_rest() && !node.wants() && !node.unfinished());
+    assert!(rt; is_joined(rt.alloc())?);
     Ok(())
 }
 
@@ -235,32 +237,32 @@ fn holds(bytes: &[u8], record: &[u8]) -> bool {
     bytes[start] == 0xA5 && bytes[start + 5..].starts_with(record)
 }
 
-// The node of a stop, stopped by this call of its disk.
-fn stopped(alloc: Global, stop: Stop, fuse: Fuse) -> Result<Node, Fail>
-    ensures { IfOk result (λ node. is_some node.in_doubt ≡ true) }
+// Whether the note landed, as the restart tells, after the turns before and the stopped one. Then the node starts. None
+// where it goes otherwise.
+fn is_landed(node: &mut Node, alloc: Global, stop: Stop) -> Option<bool>
+    requires { is_some node.old.in_doubt ≡ false }
 {
-    let mut node = failing(alloc, stop, fuse)?;
-    if done(first_wrong(&mut node, alloc, stop.before))? != stop.before.len() {
-        return Err("before".into());
+    match goes(node, alloc, stop.before) {
+        Ok(true) => {}
+        _ => return None,
     }
-    match takes(&mut node, alloc, stop.row) {
-        Err(NodeFault::Stopped) => Ok(node),
-        _ => Err("stopped".into()),
+    match takes(node, alloc, stop.row) {
+        Err(NodeFault::Stopped) => restarts(node, alloc, stop.row.1),
+        _ => None,
     }
 }
 
-// Whether the note landed, as the restart tells. Then the node starts.
-fn restarts(node: &mut Node, alloc: Global, note: &[u8]) -> Result<bool, Fail>
+fn restarts(node: &mut Node, alloc: Global, note: &[u8]) -> Option<bool>
     requires { is_some node.old.in_doubt ≡ true }
 {
     let landed = match node.restart() {
         Ok(Some(record)) => record.as_slice() == note,
         Ok(None) => false,
-        Err(_) => return Err("restart".into()),
+        Err(_) => return None,
     };
     match takes(node, alloc, (Given::Start, &[], &[])) {
-        Ok(true) => Ok(landed),
-        _ => Err("start".into()),
+        Ok(true) => Some(landed),
+        _ => None,
     }
 }
 
@@ -276,12 +278,13 @@ fn disk_holds(node: Node, stop: Stop) -> bool {
 
 // Whether the note landed where this call of its disk is stopped. The disk has to say the same as the restart.
 fn lands(alloc: Global, stop: Stop, call: u64, image: Image) -> Result<bool, Fail> {
-    let mut node = stopped(alloc, stop, Fuse { call, image })?;
-    let landed = restarts(&mut node, alloc, stop.row.1)?;
-    if disk_holds(node, stop) == landed {
-        Ok(landed)
+    let mut node = failing(alloc, stop, Fuse { call, image })?;
+    let landed = is_landed(&mut node, alloc, stop);
+    let held = disk_holds(node, stop);
+    if landed == Some(held) {
+        Ok(held)
     } else {
-        Err("disk".into())
+        Err("turn".into())
     }
 }
 
@@ -340,21 +343,25 @@ fn a_settled_line_lands_once_its_gate_is_open(rt: HostRuntime) -> Result<(), Fai
 }
 
 // Whether the packet does nothing: no note and no packet, and then the answer to the first Join counts.
-fn is_skipped(alloc: Global, bytes: &[u8]) -> Result<bool, Fail> {
-    let mut node = over(
-        alloc,
-        MemDisk::new(alloc, Vec::new(alloc)),
-        MemDisk::new(alloc, Vec::new(alloc)),
-    )?;
-    if done(first_wrong(&mut node, alloc, &FIRST_RUN[..2]))? != 2 {
-        return Err("before".into());
-    }
+fn skips(node: &mut Node, alloc: Global, bytes: &[u8]) -> bool
+    requires { is_some node.old.in_doubt ≡ false }
+{
     let rows = [
-        (Given::Packet(bytes), [].as_slice(), [].as_slice()),
+        (Given::Start, [].as_slice(), [].as_slice()),
+        (Given::Own, &[], JOIN_FIRST),
+        (Given::Packet(bytes), &[], &[]),
         (Given::Packet(WRITTEN_FIRST), &[], &[]),
         (Given::Own, TO_30, &[]),
     ];
-    Ok(done(first_wrong(&mut node, alloc, &rows))? == 3)
+    match goes(node, alloc, &rows) {
+        Ok(same) => same,
+        Err(_) => false,
+    }
+}
+
+fn is_skipped(alloc: Global, bytes: &[u8]) -> Result<bool, Fail> {
+    let mut node = over_fresh(alloc)?;
+    Ok(skips(&mut node, alloc, bytes))
 }
 
 #[test]
@@ -363,29 +370,42 @@ fn what_has_no_row_is_skipped(rt: HostRuntime) -> Result<(), Fail> {
     for len in 0..NO_QUERY_SECOND.len() {
         assert!(rt; is_skipped(alloc, &NO_QUERY_SECOND[..len])?);
     }
-    assert!(rt; is_skipped(alloc, PREPARE)?);
-    assert!(rt; is_skipped(alloc, JOIN_FIRST)?);
     // The second line waits for no answer yet.
-    assert!(rt; is_skipped(alloc, WRITTEN_SECOND)?);
+    for bytes in [PREPARE, JOIN_FIRST, WRITTEN_SECOND] {
+        assert!(rt; is_skipped(alloc, bytes)?);
+    }
     Ok(())
+}
+
+// Whether the first read of the log fails, and the turn is taken once more then.
+fn reads_again(node: &mut Node, alloc: Global) -> bool
+    requires { is_some node.old.in_doubt ≡ false }
+{
+    match takes(node, alloc, (Given::Start, &[], &[])) {
+        Ok(true) => {}
+        _ => return false,
+    }
+    match takes(node, alloc, (Given::Own, &[], JOIN_FIRST)) {
+        Err(NodeFault::Read) => {}
+        _ => return false,
+    }
+    match takes(node, alloc, (Given::Own, &[], JOIN_FIRST)) {
+        Ok(same) => same,
+        Err(_) => false,
+    }
+}
+
+// The same over fresh disks and a log whose first read fails.
+fn is_open_still(alloc: Global) -> Result<bool, Fail> {
+    let log = MemLog::new(LOG.to_vec(alloc)?, vec![in alloc; 0]?);
+    let offset = MemDisk::new(alloc, Vec::new(alloc));
+    let retry = MemDisk::new(alloc, Vec::new(alloc));
+    let mut node = with_log(alloc, offset, retry, log)?;
+    Ok(reads_again(&mut node, alloc))
 }
 
 #[test]
 fn a_turn_is_open_still_after_a_fault_of_the_log(rt: HostRuntime) -> Result<(), Fail> {
-    let alloc = rt.alloc();
-    let log = MemLog::new(LOG.to_vec(alloc)?, vec![in alloc; 0]?);
-    let mut node = with_log(
-        alloc,
-        MemDisk::new(alloc, Vec::new(alloc)),
-        MemDisk::new(alloc, Vec::new(alloc)),
-        log,
-    )?;
-    assert_eq!(rt; done(first_wrong(&mut node, alloc, &FIRST_RUN[..1]))?, 1);
-    let own = (Given::Own, [].as_slice(), JOIN_FIRST);
-    assert!(rt; takes(&mut node, alloc, own) == Err(NodeFault::Read));
-    match takes(&mut node, alloc, own) {
-        Ok(same) => assert!(rt; same),
-        Err(_) => return Err("again".into()),
-    }
+    assert!(rt; is_open_still(rt.alloc())?);
     Ok(())
 }
