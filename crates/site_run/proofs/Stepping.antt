@@ -14,7 +14,7 @@ use Rattle.air_bus.specs.History.{phase, phase_after, node_of, next_input}
 use Rattle.air_bus.proofs.Phases.{phase_here}
 use Rattle.bus_seat.specs.Seats.{Sight, Begins, Adds, next_for}
 use Rattle.site_node.specs.declared.kind.NodeFault.{NodeFault}
-use Rattle.site_run.specs.Works.{Path, StandsAt, LeadsOn, Grew}
+use Rattle.site_run.specs.Works.{WorkerView, Path, StandsAt, LeadsOn, Grew}
 
 pub none_of : {A : Type 0} (o : Option A) (b : Bool) → b ≡ is_some o → b ≡ false → o ≡ None
 none_of None b is off = refl
@@ -48,6 +48,11 @@ module _ {N S : Type 0} (leads : S → Entry → S → Type 0) (phase_of : S →
       let a = first s at in
       let b = next a.1 a.4 in
       (a.0 ++ b.0, b.1, b.2 ∙ ap (λ (xs : List Entry). xs ++ b.0) a.2 ∙ append_assoc old a.0 b.0, path_on leads s a.1 b.1 a.0 b.0 a.3 b.3, b.4)
+
+  -- of the same worker, seen by its parts
+  pub leads_from : (v u : WorkerView N) (w : N) (after : Option NodeFault) (new : List Entry) → v ≡ u → LeadsOn leads phase_of stands number v.node v.fault v.seat.mine w after new
+      → LeadsOn leads phase_of stands number u.node u.fault u.seat.mine w after new
+  leads_from v u w after new is led = subst (λ (x : WorkerView N). LeadsOn leads phase_of stands number x.node x.fault x.seat.mine w after new) is led
 
   pub leads_nowhere : (v : N) (before : Option NodeFault) (old : List Entry) → LeadsOn leads phase_of stands number v before old v before old
   leads_nowhere v before old s at = ([], s, sym (append-nil old), refl, at)

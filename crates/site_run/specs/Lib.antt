@@ -1,2 +1,4 @@
 pub mod Works
 pub mod Puppets
+pub mod Eithers
+pub mod Rounds

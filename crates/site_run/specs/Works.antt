@@ -13,6 +13,12 @@ abbrev pub Path : {S : Type 0} → (S → Entry → S → Type 0) → S → List
 Path leads s [] t = s ≡ t
 Path leads s (e ∷ es) t = (u : _) × leads s e u × Path leads u es t
 
+-- what a contract sees of a worker
+pub record WorkerView (N : Type 0) : Type 0 where
+  pub node : N
+  pub seat : Sight
+  pub fault : Option NodeFault
+
 -- The seat is node n's, and the node has no open turn.
 pub record IsIdle (n : ℕ) (waits : Bool) (s : Sight) : Type 0 where
   pub up : waits ≡ false

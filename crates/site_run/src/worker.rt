@@ -1,7 +1,7 @@
 // A node with its seat.
 ghost use Rattle.std.specs.Prelude.{◌≡◌, ◌≢◌, ◌≤◌, ℕ, true, false, nat_lt, if◌then◌else◌, Some, None, IsTrue, Ok, OnOk, OnErr, IsErrOf};
 ghost use Rattle.air_bus.specs.declared.entry.Entry.TheVariants.{Begin};
-ghost use Rattle.air_bus.specs.declared.entry.Phase.TheVariants.{Busy};
+ghost use Rattle.air_bus.specs.declared.entry.Phase.TheVariants.{Idle, Busy};
 ghost use Rattle.air_bus.specs.History.{phase};
 ghost use Rattle.site_node.specs.declared.kind.NodeFault.TheVariants as node_fault;
 ghost use Rattle.site_run.specs.Works.{IsIdle, Closes, Grew};
@@ -11,12 +11,14 @@ use bus_seat::{Bus, Seat};
 use outside::{Gate, Point};
 use site_node::{Done, NodeFault, SiteNode};
 use std::alloc::AllocError;
+use std::marker::Model;
 use std::sync::Wait;
 
 // How often a node may stop in one run. The last of these stops ends its work.
 const STOPS: u32 = 8;
 
-/// A node with its seat. It takes the node's turns until it has a fault, and then no more.
+/// A node with its seat. It takes the node's turns until it has a fault, and then no more. Contracts see the node, what was seen
+/// and made with the seat, and the fault.
 #[derive(Drop)]
 pub struct Worker<N: SiteNode> {
     node: N,
@@ -26,11 +28,22 @@ pub struct Worker<N: SiteNode> {
     tick: bool,
     // How often the node has stopped.
     stops: u32,
+    // Whether its node is up.
+    up: bool,
     fault: Option<NodeFault>,
     ghost whose: { seat.number ≡ Some (N.number node) },
     ghost idle: { fault ≡ None → IsIdle (N.number node) (N.waits node) seat },
+    ghost is_up: { fault ≡ None → up ≡ true → phase (N.number node) seat.mine ≡ Idle },
     ghost stopped: { fault ≡ Some node_fault.Stopped → 1 ≤ N.faults node },
     ghost read: { fault ≡ Some node_fault.Read → 1 ≤ N.log_faults node },
+}
+
+impl<N: SiteNode> Model for Worker<N> {
+    ghost use Rattle.site_run.specs.Works.{WorkerView};
+
+    ghost Value = { WorkerView N };
+
+    ghost view = { λ w. record { node = w.node; seat = w.seat; fault = w.fault } };
 }
 
 // How a turn was closed.
@@ -60,6 +73,7 @@ impl<N: SiteNode> Worker<N> {
             seat,
             tick: false,
             stops: 0,
+            up: false,
             fault: None,
         }
     }
@@ -86,16 +100,18 @@ impl<N: SiteNode> Worker<N> {
         self.fault
     }
 
-    /// Whether its node has nothing left to do.
+    /// Whether its node is up and has nothing left to do.
     pub fn at_rest(&self) -> bool
-        ensures { self.now.fault ≡ None → IsTrue N.tells → (s : N.State) → N.stands self.now.node s → N.at_rest_as s result }
+        requires { self.now.fault ≡ None }
+        ensures up { IsTrue result → phase (N.number self.now.node) self.now.seat.mine ≡ Idle }
+        ensures rests { IsTrue result → (s : N.State) → N.stands self.now.node s → N.at_rest_as s true }
     {
-        self.node.at_rest()
+        self.up && self.node.at_rest()
     }
 
     /// Asks for a Tick, if the node waits for answers: it gets one where no packet waits.
     pub fn ask_tick(&mut self)
-        ensures same { (self.new.node ≡ self.old.node) × (self.new.seat ≡ self.old.seat) × (self.new.fault ≡ self.old.fault) }
+        ensures same { self.new ≡ self.old }
     {
         self.tick = self.node.unfinished();
     }
@@ -137,10 +153,12 @@ impl<N: SiteNode> Worker<N> {
         }
         match close(rt, bus, &mut self.node, &mut self.seat, &input, gate) {
             Ok(Closed::Ended) => {
+                self.up = true;
                 gate.pass(Point::AfterEnd, self.number);
                 true
             }
             Ok(Closed::Stopped) => {
+                self.up = false;
                 self.stops = self.stops.saturating_add(1);
                 self.fault = too_often(self.stops);
                 true
@@ -182,6 +200,7 @@ fn close<N: SiteNode, R: Wait, G: Gate>(
     ensures grew { Grew seat.old seat.new }
     ensures idle { OnOk result (IsIdle (N.number node.new) (N.waits node.new) seat.new) }
     ensures same { OnErr result (seat.new ≡ seat.old) }
+    ensures ended { result ≡ Ok Closed.Ended → phase (N.number node.new) seat.new.mine ≡ Idle }
     ensures met { result ≡ Ok Closed.Stopped → 1 ≤ N.faults node.new }
     ensures stopped { IsErrOf result NodeFault.Stopped → 1 ≤ N.faults node.new }
     ensures read { IsErrOf result NodeFault.Read → 1 ≤ N.log_faults node.new }

@@ -1,0 +1,44 @@
+-- Nodes of all four kinds as one kind, and where they stand.
+use Rattle.std.proofs.Common.{◌⊎◌, inl, inr, ℕ, Bool}
+use Rattle.air_bus.specs.declared.entry.Entry.{Entry}
+use Rattle.packet_codec.specs.declared.node.Node.{Node}
+use Rattle.packet_codec.specs.declared.node.Node.TheVariants.{Dispatcher, Server, Replica, Joiner}
+use Rattle.air_bus.specs.declared.entry.Phase.{Phase}
+use Rattle.site_node.specs.States.{State, Leads, Says, state_phase}
+use Rattle.dispatch_core.specs.Dispatcher.{dispatcher_at_rest}
+use Rattle.joiner_core.specs.Joiner.{joiner_at_rest}
+use Rattle.dispatch_node.specs.Node.{DispatcherState, SiteLeads, says}
+use Rattle.registry_server.specs.Server.{ServerKept, ServerLive, server_at_rest}
+use Rattle.registry_server.specs.Node.{ServerState}
+use Rattle.registry_server.specs.Registrars.{server_rows}
+use Rattle.replica_node.specs.Replica.{replica_at_rest}
+use Rattle.replica_node.specs.Node.{ReplicaState, replica_rows}
+use Rattle.joiner_node.specs.Node.{JoinerState, LeadsTo, joiner_phase}
+use Rattle.site_laws.specs.Kinds.{StateOf}
+use Rattle.site_run.specs.Eithers as either
+
+abbrev pub AnyState : Type 0
+AnyState = (DispatcherState ⊎ ServerState) ⊎ (ReplicaState ⊎ JoinerState)
+
+-- an entry leads a node of its kind on
+abbrev pub AnyLeads : AnyState → Entry → AnyState → Type 0
+AnyLeads = either.leads (either.leads SiteLeads (Leads server_rows)) (either.leads (Leads replica_rows) LeadsTo)
+
+-- where a state stands on the bus
+abbrev pub any_phase : AnyState → Phase
+any_phase = either.of (either.of (λ s. state_phase s.node) state_phase) (either.of state_phase joiner_phase)
+
+-- what a node says of its rest
+abbrev pub any_rests : AnyState → Bool → Type 0
+any_rests = either.says (either.says (says dispatcher_at_rest) (Says (λ g k l. server_at_rest g l))) (either.says (Says (λ g k l. replica_at_rest k)) (λ s. Says (λ g k l. joiner_at_rest l) s.node))
+
+-- a server's state, with its site
+abbrev pub with_site : ℕ → State ServerKept ServerLive → ServerState
+with_site s t = record { setting = t.setting; kept = record { site = s; disk = t.kept }; live = t.live; opened = t.opened }
+
+-- where a node of the system stands, as a state of a node of any kind
+abbrev pub any_of : (n : Node) → StateOf n → AnyState
+any_of (Dispatcher s) t = inl (inl (record { site = s; node = t }))
+any_of (Server s) t = inl (inr (with_site s t))
+any_of (Replica r) t = inr (inl t)
+any_of (Joiner j) t = inr (inr (record { number = j; node = t }))

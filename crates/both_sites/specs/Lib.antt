@@ -1,0 +1,2 @@
+pub mod AnyNodes
+pub mod Running

@@ -1,0 +1,26 @@
+-- What a run of both sites' nodes is from, and what it leaves.
+use Rattle.std.specs.Prelude.{Bool, List, slice_index_or, Option, IsTrue}
+use Rattle.air_bus.specs.declared.entry.Entry.{Entry as BusEntry}
+use Rattle.turn_defs.specs.Setting.{Setting}
+use Rattle.turn_defs.specs.Nodes.{IsNode, node_number}
+use Rattle.packet_codec.specs.declared.node.Node.{Node}
+use Rattle.site_node.specs.declared.kind.NodeFault.{NodeFault}
+use Rattle.photon_defs.specs.Runs.{Entry, Disks, world_after, opening}
+use Rattle.photon_defs.specs.Rest.{IsAtRest}
+use Rattle.site_laws.specs.Kinds.{StateOf, down_over}
+use Rattle.site_laws.specs.Laws.{IsRunOf}
+use Rattle.both_sites.specs.AnyNodes.{AnyState, any_of}
+
+module _ {N : Type 0} (stands : N → AnyState → Type 0) where
+  -- each node of the setting is the one of its number, and is down over its own records
+  abbrev pub AreDownOver : Setting → Disks → List N → Type 0
+  AreDownOver g d nodes = (n : Node) → IsNode g n → (a : N) → stands (slice_index_or nodes (node_number n) a) (any_of n (down_over g d n))
+
+  -- The history is a run of the whole system from these records, and each node stands where it says. Where all nodes rest the
+  -- system does.
+  pub record IsRunFrom (g : Setting) (d : Disks) (h : List BusEntry) (nodes : List (N × Option NodeFault)) (rest : Bool) : Type 0 where
+    pub at : (n : Node) → StateOf n
+    pub entries : List Entry
+    pub run : IsRunOf g d h at entries
+    pub stand : (n : Node) → IsNode g n → (a : N × Option NodeFault) → stands (slice_index_or nodes (node_number n) a).0 (any_of n (at n))
+    pub at_rest : IsTrue rest → IsAtRest g (world_after g (opening d) entries)

@@ -1,0 +1,126 @@
+// Each kind of node, opened, as a node of any kind.
+ghost use Rattle.std.specs.Prelude.{◌≡◌, ◌×◌, ◌<◌, ◌≤◌, ◌+◌, ◌*◌, All, map, false, None, IsTrue, IfOk, IfErr};
+ghost use Rattle.gate_journal.specs.declared.journal.JournalState.TheVariants.{Ready};
+ghost use Rattle.gate_journal.specs.Gate.{StandsFor};
+ghost use Rattle.fields.specs.Spellings.{IsNote, note as note_spelled};
+ghost use Rattle.log_records.specs.Check.{IsQueryLog};
+ghost use Rattle.turn_defs.specs.Setting.{Setting};
+ghost use Rattle.packet_codec.specs.declared.node.Node.TheVariants as node;
+ghost use Rattle.photon_defs.specs.Runs.{Disks};
+ghost use Rattle.site_node.specs.Rosters.{IsOf};
+ghost use Rattle.dispatch_node.specs.Kept.{kept_as};
+ghost use Rattle.dispatch_node.specs.Places.{IsLogOf, AreKeptPlaces};
+ghost use Rattle.registry_server.specs.Cores.{IsNew};
+ghost use Rattle.replica_node.specs.Core.{kept_of};
+ghost use Rattle.site_laws.specs.Kinds.{down_over};
+ghost use Rattle.both_sites.specs.AnyNodes.{any_of};
+
+use crate::AnyNode;
+use dispatch_node::DispatchNode;
+use epoch_journal::EpochJournal;
+use gate_journal::Journal;
+use joiner_node::JoinerNode;
+use offset_journal::OffsetJournal;
+use outside::{Disk, LogFile};
+use output_log::OutputLog;
+use paxos_acceptor::ReplicaNote;
+use registry_server::ServerNode;
+use replica_node::ReplicaNode;
+use retry_log::RetryLog;
+use site_node::{Roster, SiteNode};
+use site_run::Either;
+use std::alloc::{AllocError, Global};
+use time_shards::Table;
+
+/// The dispatcher of a site, down, over its journals and the click log. It takes no memory.
+pub fn dispatcher<D: Disk, L: LogFile>(
+    alloc: Global,
+    site: u8,
+    roster: Roster,
+    offset: OffsetJournal<D>,
+    retry: RetryLog<D>,
+    log: L,
+) -> AnyNode<D, L>
+    requires site { site < 2 }
+    requires joiners { 0 < roster.joiners }
+    requires ready { (offset.journal.state ≡ Ready) × (retry.journal.state ≡ Ready) }
+    ensures number { ⟦<AnyNode<D, L> as SiteNode>⟧.number result ≡ site }
+    ensures up { ⟦<AnyNode<D, L> as SiteNode>⟧.waits result ≡ false }
+    ensures stands { (g : Setting) (d : Disks) → IsOf roster g → g.replicas ≡ 3 → IsLogOf (L.bytes log) g → AreKeptPlaces g (d.dispatchers site)
+        → d.dispatchers site ≡ kept_as offset.offset retry.pending.keys
+        → ⟦<AnyNode<D, L> as SiteNode>⟧.stands result (any_of (node.Dispatcher site) (down_over g d (node.Dispatcher site))) }
+{
+    Either::First(Either::First(DispatchNode::new(alloc, site, roster, offset, retry, log)))
+}
+
+/// The server of a site, down, over its journal. It hands the journal back where memory is wanting.
+pub fn server<D: Disk, L: LogFile>(
+    alloc: Global,
+    site: u8,
+    roster: Roster,
+    horizon: u64,
+    table: Table,
+    batch: u8,
+    journal: EpochJournal<D>,
+) -> Result<AnyNode<D, L>, EpochJournal<D>>
+    requires site { site < 2 }
+    requires batch { batch ≤ 64 }
+    requires ready { journal.journal.state ≡ Ready }
+    ensures number { IfOk result (λ n. ⟦<AnyNode<D, L> as SiteNode>⟧.number n ≡ 2 + site) }
+    ensures up { IfOk result (λ n. ⟦<AnyNode<D, L> as SiteNode>⟧.waits n ≡ false) }
+    ensures stands { IsTrue D.tells → (g : Setting) (d : Disks) → IsOf roster g → IsNew g roster.joiners horizon table batch
+        → d.servers site ≡ record { epoch = journal.epoch }
+        → IfOk result (λ n. ⟦<AnyNode<D, L> as SiteNode>⟧.stands n (any_of (node.Server site) (down_over g d (node.Server site)))) }
+    ensures refused { IfErr result (λ j. j ≡ journal) }
+{
+    match ServerNode::new(alloc, site, roster, horizon, table, batch, journal) {
+        Ok(made) => Ok(Either::First(Either::Second(made))),
+        Err(journal) => Err(journal),
+    }
+}
+
+/// A replica, down, over its journal, which holds these notes. It takes no memory.
+pub fn replica<D: Disk, L: LogFile>(
+    alloc: Global,
+    replica: u8,
+    roster: Roster,
+    journal: Journal<D>,
+    notes: Vec<ReplicaNote>,
+) -> AnyNode<D, L>
+    requires notes { All IsNote notes.items }
+    requires ready { journal.state ≡ Ready }
+    ensures number { ⟦<AnyNode<D, L> as SiteNode>⟧.number result ≡ 4 + replica }
+    ensures up { ⟦<AnyNode<D, L> as SiteNode>⟧.waits result ≡ false }
+    ensures stands { IsTrue D.tells → (g : Setting) (d : Disks) → IsOf roster g → StandsFor (map note_spelled notes.items) (D.seen journal.disk)
+        → d.replicas replica ≡ kept_of notes.items
+        → ⟦<AnyNode<D, L> as SiteNode>⟧.stands result (any_of (node.Replica replica) (down_over g d (node.Replica replica))) }
+{
+    Either::Second(Either::First(ReplicaNode::new(alloc, replica, roster, journal, notes)))
+}
+
+/// The joiner of this place at this site, down, over its journals and the query log. It hands them back where memory is wanting.
+pub fn joiner<D: Disk, L: LogFile>(
+    alloc: Global,
+    site: u8,
+    joiner: u8,
+    roster: Roster,
+    epochs: EpochJournal<D>,
+    pairs: OutputLog<D>,
+    log: L,
+) -> Result<AnyNode<D, L>, (AllocError, EpochJournal<D>, OutputLog<D>, L)>
+    requires site { site < 2 }
+    requires joiner { joiner < roster.joiners }
+    requires ready { (epochs.journal.state ≡ Ready) × (pairs.journal.state ≡ Ready) }
+    ensures number { IfOk result (λ n. ⟦<AnyNode<D, L> as SiteNode>⟧.number n ≡ 4 + roster.replicas + site * roster.joiners + joiner) }
+    ensures up { IfOk result (λ n. ⟦<AnyNode<D, L> as SiteNode>⟧.waits n ≡ false) }
+    ensures stands { IsTrue D.tells → (g : Setting) (d : Disks) → IsOf roster g → IsQueryLog (L.bytes log) g.queries
+        → d.joiners (4 + roster.replicas + site * roster.joiners + joiner) ≡ record { epoch = epochs.epoch; pairs = pairs.pairs.items }
+        → IfOk result (λ n. ⟦<AnyNode<D, L> as SiteNode>⟧.stands n (any_of (node.Joiner (4 + roster.replicas + site * roster.joiners + joiner))
+            (down_over g d (node.Joiner (4 + roster.replicas + site * roster.joiners + joiner))))) }
+    ensures back { IfErr result (λ e. (e.1 ≡ epochs) × (e.2 ≡ pairs) × (e.3 ≡ log)) }
+{
+    match JoinerNode::new(alloc, site, joiner, roster, epochs, pairs, log) {
+        Ok(made) => Ok(Either::Second(Either::Second(made))),
+        Err(refused) => Err(refused),
+    }
+}
