@@ -1,8 +1,8 @@
 -- Rounds of workers, one after another, and what they leave.
-use Rattle.std.proofs.Common.{◌≡◌, ◌≢◌, ℕ, zero, suc, ◌+◌, ◌<◌, ◌≤◌, Bool, true, false, List, [], ◌∷◌, ◌++◌, length, map, get_or, slice_index_or, Option, Some, None, IfSome, refl, sym, ap, ◌∙◌, subst, arith}
+use Rattle.std.proofs.Common.{◌≡◌, ℕ, zero, suc, ◌<◌, Bool, List, [], ◌∷◌, ◌++◌, length, map, get_or, slice_index_or, Option, Some, None, IfSome, refl, sym, ap, ◌∙◌, subst, arith}
 use Rattle.std.specs.Prelude.{All, IsTrue}
 use mathlib.Core.Logic.{dite}
-use mathlib.Core.List.{IsPrefix, map-append}
+use mathlib.Core.List.{map-append}
 use native.Mathlib.Decide.{ℕ_discrete}
 use Rattle.std.proofs.lemmas.List.{append-nil, length-map, get_or-map, get_or_append_left, get_or_push, ext_get_or}
 use Rattle.std.proofs.Common.{length-append}
@@ -12,7 +12,7 @@ use Rattle.bus_seat.specs.Views.{count, made_by}
 use Rattle.bus_seat.specs.Seats.{BusId, Sight, fresh, fresh_to, fresh_seats, tag, AreSeatsOf, IsIn}
 use Rattle.bus_seat.proofs.Closing.{snoc_injective, fresh_count}
 use Rattle.site_node.specs.declared.kind.NodeFault.{NodeFault}
-use Rattle.site_run.specs.Works.{WorkerView, StandsAt, LeadsOn, Grew}
+use Rattle.site_run.specs.Works.{WorkerView, LeadsOn, Grew}
 use Rattle.site_run.specs.Rounds.{WentOn, AllWentOn, Walked, Rests}
 use Rattle.site_run.proofs.Stepping.{leads_on, leads_nowhere, grew_on}
 

@@ -1,9 +1,10 @@
 // A worker whose node does what a test tells it.
-ghost use Rattle.std.specs.Prelude.{◌≡◌, false, Some, IfSome};
+ghost use Rattle.std.specs.Prelude.{◌≡◌, ◌<◌, ℕ, false, Some, IfSome, IfOk, length, slice_index_or, All};
+ghost use Rattle.site_run.specs.Eithers.{by};
 ghost use Rattle.bus_seat.specs.Views.{count};
 ghost use Rattle.bus_seat.specs.Seats.{BusId, fresh, fresh_seats};
 
-use crate::Worker;
+use crate::{Either, Ran, Worker, run};
 use air_bus::{Air, Input, Packets, Payload};
 use bus_seat::{Bus, Seat};
 use lossy_link::{Kind, Plan};
@@ -24,6 +25,7 @@ enum Stops {
 // A node that wants some turns, and stops in some.
 #[derive(Drop)]
 struct Puppet {
+    number: u16,
     wanted: u32,
     stops: Stops,
     has_memory: bool,
@@ -35,10 +37,12 @@ struct Puppet {
 }
 
 impl Puppet {
-    fn new(alloc: Global, wanted: u32, stops: Stops, has_memory: bool) -> Puppet
-        ensures { result.waits ≡ false }
+    fn new(alloc: Global, number: u16, wanted: u32, stops: Stops, has_memory: bool) -> Puppet
+        ensures number { result.number ≡ number }
+        ensures up { result.waits ≡ false }
     {
         Puppet {
+            number,
             wanted,
             stops,
             has_memory,
@@ -76,7 +80,7 @@ impl SiteNode for Puppet {
 
     ghost keeps = { λ s c. Unit {0} };
 
-    ghost number = { λ node. 0 };
+    ghost number = { λ node. node.number };
 
     ghost waits = { λ node. node.waits };
 
@@ -157,7 +161,7 @@ fn worked<R: Wait>(
     let Some(seat) = only_seat(seats) else {
         return Err("seat".into());
     };
-    let mut worker = Worker::new(Puppet::new(alloc, 3, stops, has_memory), 0, seat);
+    let mut worker = Worker::new(Puppet::new(alloc, 0, 3, stops, has_memory), 0, seat);
     worker.ask_tick();
     worker.work(rt, &bus, &OpenGate);
     let (node, _, fault) = worker.into_parts();
@@ -174,5 +178,75 @@ fn a_worker_takes_turns_until_there_is_none(rt: HostRuntime) -> Result<(), Fail>
     // The eighth stop is one too many.
     assert!(rt; worked(&rt, alloc, Stops::Always, true)? == (8, 0, Some(NodeFault::Stopped)));
     assert!(rt; worked(&rt, alloc, Stops::Never, false)? == (0, 0, Some(NodeFault::Memory)));
+    Ok(())
+}
+
+type Node = Either<Puppet, Puppet>;
+
+// Two nodes, of the first kind and of the second.
+fn two(alloc: Global, first: Puppet, second: Puppet) -> Result<Vec<Node>, Fail>
+    requires numbers { (first.number ≡ 0) × (second.number ≡ 1) }
+    requires up { (first.waits ≡ false) × (second.waits ≡ false) }
+    ensures count { IfOk result (λ nodes. length nodes.items ≡ 2) }
+    ensures numbers { IfOk result (λ nodes. (i : ℕ) (d : _) → i < length nodes.items → by (λ (n : _). n.number) (λ (n : _). n.number) (slice_index_or nodes.items i d) ≡ i) }
+    ensures up { IfOk result (λ nodes. All (λ n. by (λ (m : _). m.waits) (λ (m : _). m.waits) n ≡ false) nodes.items) }
+{
+    let mut nodes = Vec::with_capacity(alloc, 2)?;
+    nodes.push_reserved(Either::First(first));
+    nodes.push_reserved(Either::Second(second));
+    Ok(nodes)
+}
+
+// How many turns and starts the nodes of a run took, whether all came to rest, and each one's fault.
+fn told(ran: &Ran<Node>) -> [(u32, u32, Option<NodeFault>); 2] {
+    let mut told = [(0, 0, None); 2];
+    let mut at = 0;
+    for (node, fault) in &ran.nodes {
+        let puppet = match node {
+            Either::First(puppet) => puppet,
+            Either::Second(puppet) => puppet,
+        };
+        if at < 2 {
+            told[at] = (puppet.turns, puppet.starts, *fault);
+            at += 1;
+        }
+    }
+    told
+}
+
+#[test]
+fn nodes_run_on_threads_until_all_rest(rt: HostRuntime) -> Result<(), Fail> {
+    let alloc = rt.alloc();
+    let kinds = [Kind::Joiner, Kind::Server];
+    let plan = Plan::empty(alloc);
+    let nodes = two(
+        alloc,
+        Puppet::new(alloc, 0, 3, Stops::Never, true),
+        Puppet::new(alloc, 1, 5, Stops::At(3), true),
+    )?;
+    let Ok(ran) = run(&rt, alloc, &kinds, plan, nodes, &OpenGate) else {
+        return Err("memory".into());
+    };
+    assert!(rt; ran.rest);
+    assert!(rt; told(&ran) == [(4, 1, None), (8, 2, None)]);
+    assert_eq!(rt; ran.seen.len(), 3);
+    Ok(())
+}
+
+#[test]
+fn a_fault_ends_the_rounds(rt: HostRuntime) -> Result<(), Fail> {
+    let alloc = rt.alloc();
+    let kinds = [Kind::Joiner, Kind::Server];
+    let plan = Plan::empty(alloc);
+    let nodes = two(
+        alloc,
+        Puppet::new(alloc, 0, 3, Stops::Never, true),
+        Puppet::new(alloc, 1, 5, Stops::Never, false),
+    )?;
+    let Ok(ran) = run(&rt, alloc, &kinds, plan, nodes, &OpenGate) else {
+        return Err("memory".into());
+    };
+    assert!(rt; !ran.rest);
+    assert!(rt; told(&ran) == [(4, 1, None), (0, 0, Some(NodeFault::Memory))]);
     Ok(())
 }

@@ -1,4 +1,4 @@
-use Rattle.std.proofs.Common.{◌≡◌, ℕ, ◌<◌, slice_index_or}
+use Rattle.std.proofs.Common.{ℕ, ◌<◌, slice_index_or}
 use Rattle.site_run.specs.Works.{WorkerView}
 use Rattle.site_run.specs.Rounds.{Rests}
 use Rattle.site_run.proofs.rounds.all_rest.Given as goal

@@ -1,7 +1,7 @@
-use Rattle.std.proofs.Common.{rules, ◌≡◌, ℕ, ◌<◌, ◌∙◌, ap, sym, length, slice_index_or, subst, arith}
+use Rattle.std.proofs.Common.{rules, ◌∙◌, ap, slice_index_or, subst}
 use denote.Exit.{no as leaves_none}
 use denote.Param.{param}
-use denote.Param.Send.{sendable, param_send, param_sync, arg_send, arg_sync, given_send, given_sync}
+use denote.Param.Send.{param_send, param_sync, arg_send, arg_sync}
 use Rattle.site_run.specs.Works.{WorkerView}
 use Rattle.site_run.specs.Rounds.{WentOn}
 use Rattle.site_run.proofs.rounds.round.Goals as goal
