@@ -1,6 +1,6 @@
 -- From what a run leaves of each node to the run of the whole system.
-use Rattle.std.specs.Prelude.{IsTrue}
-use Rattle.std.proofs.Common.{◌≡◌, ℕ, ◌≤◌, ◌<◌, List, [], ◌∷◌, ◌++◌, length, slice_index_or, Bool, true, Option, Some, None, refl, sym, ap, ◌∙◌, subst, arith}
+use Rattle.std.specs.Prelude.{IsTrue, Result, Ok, Err, IfOk}
+use Rattle.std.proofs.Common.{◌≡◌, ℕ, ◌≤◌, ◌<◌, List, [], ◌∷◌, ◌++◌, length, slice_index_or, Bool, true, false, ◌&&◌, Option, Some, None, refl, sym, ap, ◌∙◌, subst, arith}
 use Rattle.std.proofs.lemmas.List.{get_or_default}
 use Rattle.air_bus.specs.declared.entry.Entry.{Entry}
 use Rattle.air_bus.specs.declared.entry.Phase.TheVariants.{Idle}
@@ -31,6 +31,17 @@ use Rattle.site_run.specs.Rounds.{Rests}
 use Rattle.both_sites.specs.AnyNodes.{AnyState, AnyLeads, any_of, any_phase, any_rests}
 use Rattle.both_sites.specs.Running.{AreDownOver, IsRunFrom}
 use Rattle.both_sites.proofs.Walking.{walked}
+
+-- what is known of a result that came
+pub with_ok : {T E : Type 0} (A B C F G Q : T → Type 0) (r : Result T E) → IfOk r A → IfOk r B → IfOk r C → IfOk r F → IfOk r G → ((t : T) → A t → B t → C t → F t → G t → Q t) → IfOk r Q
+with_ok A B C F G Q (Ok t) a b c f g h = h t a b c f g
+with_ok A B C F G Q (Err e) a b c f g h = tt
+
+-- where the disks and the logs tell, all nodes do
+pub all_tell : (d l : Bool) → IsTrue d → IsTrue l → IsTrue (((d && l) && d) && (d && (d && l)))
+all_tell true true p q = refl
+all_tell true false p q = q
+all_tell false l p q = p
 
 down_phase : (g : Setting) (d : Disks) (n : Node) (m : ℕ) → any_phase (any_of n (down_over g d n)) ≡ phase m []
 down_phase g d (Dispatcher s) m = refl

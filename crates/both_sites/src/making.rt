@@ -1,5 +1,5 @@
 // Each kind of node, opened, as a node of any kind.
-ghost use Rattle.std.specs.Prelude.{◌≡◌, ◌×◌, ◌<◌, ◌≤◌, ◌+◌, ◌*◌, All, map, false, None, IsTrue, IfOk, IfErr};
+ghost use Rattle.std.specs.Prelude.{◌≡◌, ◌<◌, ◌≤◌, ◌+◌, ◌*◌, All, map, false, None, IsTrue, IfOk, IfErr};
 ghost use Rattle.gate_journal.specs.declared.journal.JournalState.TheVariants.{Ready};
 ghost use Rattle.gate_journal.specs.Gate.{StandsFor};
 ghost use Rattle.fields.specs.Spellings.{IsNote, note as note_spelled};

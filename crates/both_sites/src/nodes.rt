@@ -1,5 +1,5 @@
 // The nodes of both sites as one kind, and their run.
-ghost use Rattle.std.specs.Prelude.{◌≡◌, ◌<◌, ◌≤◌, ◌^◌, ◌+◌, ◌*◌, ℕ, length, slice_index_or, None, IsTrue, IfOk, IfErr};
+ghost use Rattle.std.specs.Prelude.{◌≡◌, ◌<◌, ◌≤◌, ◌^◌, ◌+◌, ◌*◌, ℕ, length, slice_index_or, false, IsTrue, IfOk, IfErr};
 ghost use Rattle.std.specs.List.{All};
 ghost use Rattle.air_bus.specs.History.{IsAired};
 ghost use Rattle.bus_seat.specs.Seats.{IsIn};
