@@ -1,5 +1,5 @@
 -- The files of the disks.
-use Rattle.std.specs.Prelude.{ℕ, ◌<◌, ◌^◌, List, [], ◌++◌, ◌==◌, codes, decimal, if◌then◌else◌, ⊤}
+use Rattle.std.specs.Prelude.{ℕ, ◌<◌, ◌^◌, List, [], ◌∷◌, ◌++◌, Option, Some, None, ◌==◌, codes, decimal, if◌then◌else◌, ⊤}
 use Rattle.outside.specs.declared.store.DiskName.{DiskName}
 use Rattle.outside.specs.declared.store.DiskName.TheVariants.{Topology, Offset, Retry, Server, Replica, Epoch, Output}
 
@@ -32,6 +32,12 @@ name_text name = word name ++ numbers name
 -- the file of a disk in this directory
 abbrev pub path_text : List ℕ → DiskName → List ℕ
 path_text dir name = dir ++ codes "/" ++ name_text name
+
+-- the directory in which the one of this path has its name, by the path's parent
+abbrev pub above : List ℕ → Option (List ℕ) → List ℕ
+above path None = path
+above path (Some []) = codes "."
+above path (Some (b ∷ bs)) = b ∷ bs
 
 -- the numbers of a disk's name are bytes
 abbrev pub IsOfBytes : DiskName → Type 0

@@ -1,8 +1,11 @@
 // A state directory.
-ghost use Rattle.std.specs.Prelude.{◌≡◌, ◌≤◌, ◌+◌, Some, None, false, ⊤, IsSome, IsErr, IfOk, IfSome, OnOk, OnErr, string_bytes};
+ghost use Rattle.std.specs.Prelude.{◌≡◌, ◌≢◌, ◌≤◌, ◌+◌, Some, None, false, ⊤, IsSome, IsErrOf, IfOk, IfSome, OnOk, OnErr, string_bytes};
 ghost use Rattle.outside.specs.Faults.{added, tallied};
+ghost use Rattle.std.specs.Path.{path_parent};
+ghost use Rattle.std.specs.IoError.{error_kind};
+ghost use Rattle.outside.specs.declared.faults.StoreFault.TheVariants.{Disk, Memory};
 ghost use Rattle.directory_store.specs.Kept.{is_disk, is_disk_fault, dir_of};
-ghost use Rattle.directory_store.specs.Names.{path_text};
+ghost use Rattle.directory_store.specs.Names.{path_text, above};
 
 use crate::DirectoryDisk;
 use crate::disk::open_settled;
@@ -14,10 +17,10 @@ use std::io;
 use std::io::ErrorKind;
 use std::path::Path;
 
-/// The disks of a directory, each of them a file of it. It holds an exclusive lock on the directory while it lives, which
-/// goes with the process: whoever else places a store there meets a fault, also in the same process.
+/// The disks of a directory, each of them a file of it. It holds an exclusive lock on the directory while it or a disk of
+/// it lives, and the lock goes with the process: whoever else places a store there meets a fault, also in the same process.
 ///
-/// The lock is one that processes must ask for: a program that doesn't isn't kept from the files.
+/// A program that doesn't ask for the lock isn't kept from the files.
 #[derive(Drop)]
 pub struct Directory<'a, R> {
     rt: &'a R,
@@ -60,15 +63,19 @@ impl<'a, R> Directory<'a, R> {
 impl<'a, R: Files<File = File>> Directory<'a, R> {
     /// A failure as a fault, which is counted. Want of memory isn't.
     fn fault(&mut self, failure: io::Error) -> StoreFault
+        ensures wanting { error_kind failure ≡ ErrorKind.OutOfMemory → result ≡ Memory }
+        ensures others { error_kind failure ≢ ErrorKind.OutOfMemory → result ≡ Disk }
         ensures tally { self.new.faults ≡ tallied self.old.faults (is_disk result) }
         ensures place { self.new.place ≡ self.old.place }
         ensures out { self.new.out ≡ self.old.out }
     {
-        if failure.kind() == ErrorKind::OutOfMemory {
-            return StoreFault::Memory;
+        match failure.kind() {
+            ErrorKind::OutOfMemory => StoreFault::Memory,
+            _ => {
+                self.faults = self.faults.saturating_add(1);
+                StoreFault::Disk
+            }
         }
-        self.faults = self.faults.saturating_add(1);
-        StoreFault::Disk
     }
 
     /// Locks a directory, and stands there.
@@ -95,7 +102,7 @@ impl<'a, R: Files<File = File>> Directory<'a, R> {
         name: DiskName,
     ) -> Result<DirectoryDisk<'a, R>, StoreFault>
         ensures placed { IfOk result (λ disk. IfSome (dir_of self.old.place) (λ dir. string_bytes disk.path ≡ path_text dir name)) }
-        ensures nowhere { self.old.place ≡ None → IsErr result }
+        ensures nowhere { self.old.place ≡ None → IsErrOf result Disk }
         ensures kept { self.new.place ≡ self.old.place }
         ensures up { IfOk result (λ disk. IsSome disk.file) }
         ensures fresh { IfOk result (λ disk. disk.faults ≡ 0) }
@@ -110,10 +117,10 @@ impl<'a, R: Files<File = File>> Directory<'a, R> {
             return Err(self.fault(ErrorKind::NotFound.into()));
         };
         let path = file_path(alloc, place.path.as_str(), name)?;
-        match place.open_file(self.rt, path.as_str()) {
-            Ok(file) => {
+        match place.open_disk(self.rt, path) {
+            Ok(disk) => {
                 self.out = out;
-                Ok(DirectoryDisk::new(self.rt, path, file))
+                Ok(disk)
             }
             Err(failure) => Err(self.fault(failure)),
         }
@@ -132,11 +139,20 @@ impl<'a, R: Files<File = File>> Directory<'a, R> {
 }
 
 impl Place {
-    /// The file of a disk, made where it is missing. Its name outlives a stop.
-    fn open_file<R: Files<File = File>>(&self, rt: &R, path: &str) -> io::Result<File> {
-        let file = open_settled(rt, path, true)?;
+    /// A disk whose file is there, or is made. The file's name outlives a stop.
+    fn open_disk<'a, R: Files<File = File>>(
+        &self,
+        rt: &'a R,
+        path: String,
+    ) -> io::Result<DirectoryDisk<'a, R>>
+        ensures path { IfOk result (λ disk. disk.path ≡ path) }
+        ensures up { IfOk result (λ disk. IsSome disk.file) }
+        ensures fresh { IfOk result (λ disk. disk.faults ≡ 0) }
+    {
+        let file = open_settled(rt, path.as_str(), true)?;
         self.dir.sync_all()?;
-        Ok(file)
+        let dir = self.dir.try_clone()?;
+        Ok(DirectoryDisk::new(rt, path, file, dir))
     }
 }
 
@@ -162,7 +178,9 @@ fn open_or_make<R: Files<File = File>>(rt: &R, path: &str) -> io::Result<File> {
 }
 
 /// The directory in which this one has its name.
-fn parent_of(path: &str) -> &str {
+fn parent_of(path: &str) -> &str
+    ensures { result.now ≡ above path.now (path_parent path.now) }
+{
     match Path::new(path).parent() {
         Some(parent) if !parent.as_str().is_empty() => parent.as_str(),
         Some(_) => ".",

@@ -23,12 +23,14 @@ pub struct DirectoryDisk<'a, R> {
     rt: &'a R,
     path: String,
     file: Option<File>,
+    /// The directory, whose lock stays while this is open.
+    dir: File,
     faults: u64,
 }
 
 impl<'a, R> DirectoryDisk<'a, R> {
     /// A disk that has met no fault, of a file that is open.
-    pub(crate) fn new(rt: &'a R, path: String, file: File) -> Self
+    pub(crate) fn new(rt: &'a R, path: String, file: File, dir: File) -> Self
         ensures path { result.path ≡ path }
         ensures up { IsSome result.file }
         ensures faults { result.faults ≡ 0 }
@@ -37,6 +39,7 @@ impl<'a, R> DirectoryDisk<'a, R> {
             rt,
             path,
             file: Some(file),
+            dir,
             faults: 0,
         }
     }
@@ -50,6 +53,7 @@ impl<'a, R> DirectoryDisk<'a, R> {
 
     /// Ends a call of an open file: a failure shuts it.
     fn end_call<T: Drop>(&mut self, answer: io::Result<T>) -> Result<T, DiskFault>
+        ensures same { is_err result ≡ is_err answer }
         ensures value { IfOk result (λ value. answer ≡ Ok value) }
         ensures up { OnOk result (self.new.file ≡ self.old.file) }
         ensures down { OnErr result (self.new.file ≡ None) }
@@ -117,6 +121,7 @@ impl<R: Files<File = File>> DirectoryDisk<'_, R> {
         ensures limit { IfOk result (λ n. n ≤ 2 ^ 63) }
         ensures falls { Falls (is_none self.old.file) (is_none self.new.file) result }
         ensures tally { self.new.faults ≡ tallied self.old.faults (is_err result) }
+        ensures path { self.new.path ≡ self.old.path }
     {
         let Some(file) = &self.file else {
             return Err(self.fault());
@@ -129,6 +134,7 @@ impl<R: Files<File = File>> DirectoryDisk<'_, R> {
     fn fill(&mut self, at: u64, buf: &mut [u8]) -> Result<(), DiskFault>
         ensures falls { Falls (is_none self.old.file) (is_none self.new.file) result }
         ensures tally { self.new.faults ≡ tallied self.old.faults (is_err result) }
+        ensures path { self.new.path ≡ self.old.path }
     {
         let Some(file) = &self.file else {
             return Err(self.fault());
@@ -142,6 +148,7 @@ impl<R: Files<File = File>> DirectoryDisk<'_, R> {
         ensures limit { OnOk result (at + length bytes.now ≤ 2 ^ 63) }
         ensures falls { Falls (is_none self.old.file) (is_none self.new.file) result }
         ensures tally { self.new.faults ≡ tallied self.old.faults (is_err result) }
+        ensures path { self.new.path ≡ self.old.path }
     {
         let Some(file) = &self.file else {
             return Err(self.fault());
@@ -154,6 +161,7 @@ impl<R: Files<File = File>> DirectoryDisk<'_, R> {
     fn settle(&mut self) -> Result<(), DiskFault>
         ensures falls { Falls (is_none self.old.file) (is_none self.new.file) result }
         ensures tally { self.new.faults ≡ tallied self.old.faults (is_err result) }
+        ensures path { self.new.path ≡ self.old.path }
     {
         let Some(file) = &self.file else {
             return Err(self.fault());
@@ -166,6 +174,7 @@ impl<R: Files<File = File>> DirectoryDisk<'_, R> {
     fn open_anew(&mut self) -> Result<(), DiskFault>
         ensures up { OnOk result (IsSome self.new.file) }
         ensures tally { self.new.faults ≡ tallied self.old.faults (is_err result) }
+        ensures path { self.new.path ≡ self.old.path }
     {
         match open_settled(self.rt, self.path.as_str(), false) {
             Ok(file) => {

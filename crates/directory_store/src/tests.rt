@@ -22,7 +22,10 @@ fn keeps_what_was_synced(rt: HostRuntime) -> Result<(), Fail> {
     assert_eq!(rt; back, *b"bxy");
     store.give(name, disk);
     drop(store);
-    assert_eq!(rt; fs::read(&rt, "kept/offset-A")?.as_slice(), b"abxyz");
+    assert_eq!(rt;
+        fs::read(&rt, "kept/offset-A")?.as_slice(),
+        b"abxyz".as_slice()
+    );
     let mut later = Directory::new(&rt);
     later.place(alloc, "kept")?;
     let mut again = later.take(alloc, name)?;
@@ -33,7 +36,7 @@ fn keeps_what_was_synced(rt: HostRuntime) -> Result<(), Fail> {
     Ok(())
 }
 
-// Two stores can't stand in one directory, and the lock goes with the first.
+// Two stores can't stand in one directory. The lock goes with the first and its disks.
 #[test]
 fn a_second_store_is_refused(rt: HostRuntime) -> Result<(), Fail> {
     let alloc = rt.alloc();
@@ -49,9 +52,10 @@ fn a_second_store_is_refused(rt: HostRuntime) -> Result<(), Fail> {
     );
     assert_eq!(rt; second.faults(), 2);
     let disk = first.take(alloc, DiskName::Topology)?;
-    first.give(DiskName::Topology, disk);
     assert_eq!(rt; first.faults(), 1);
     drop(first);
+    assert_eq!(rt; second.place(alloc, "held"), Err(StoreFault::Disk));
+    drop(disk);
     second.place(alloc, "held")?;
     fs::remove_dir_all(&rt, "held")?;
     Ok(())
