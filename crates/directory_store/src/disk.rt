@@ -1,7 +1,7 @@
 // A disk that is a file. What it holds isn't told.
-ghost use Rattle.std.specs.Prelude.{◌≡◌, ◌≤◌, ◌+◌, ◌^◌, [], length, true, false, ⊤, None, Ok, is_none, is_err, IsErr, IsSome, IfOk, OnOk, OnErr};
+ghost use Rattle.std.specs.Prelude.{◌≡◌, ◌≤◌, ◌+◌, ◌^◌, [], length, true, false, ⊤, None, Ok, is_none, is_err, IsSome, IfOk, OnOk, OnErr};
 ghost use Rattle.outside.specs.Disk.{Falls};
-ghost use Rattle.outside.specs.Faults.{Counts, tallied};
+ghost use Rattle.outside.specs.Faults.{tallied};
 
 use outside::{Disk, DiskFault};
 use std::alloc::{AllocError, Global};
