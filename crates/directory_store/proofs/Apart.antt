@@ -1,0 +1,182 @@
+-- No two disks have one name.
+use Rattle.std.proofs.Common.{◌≡◌, ℕ, ◌^◌, ◌<◌, ◌≤◌, ◌++◌, ◌==◌, List, [], ◌∷◌, length, drop, get_or, false, if◌then◌else◌, codes, decimal, refl, sym, ap, ◌∙◌, arith, rules, append_assoc, lit<, zero, suc}
+use Rattle.std.specs.Str.Parse.{AllDigits, digits_value}
+use Rattle.std.proofs.lemmas.Str.Parse.{IsNumeralModel, numerals_by_value, tells_digits, digit_from_value}
+use Rattle.std.proofs.lemmas.Fmt.{digits_decimal, decimal_injective}
+use Rattle.outside.specs.declared.store.DiskName.{DiskName}
+use Rattle.outside.specs.declared.store.DiskName.TheVariants.{Topology, Offset, Retry, Server, Replica, Epoch, Output}
+use Rattle.directory_store.specs.Names.{word, site_text, numbers, name_text, IsOfBytes}
+
+own : IsNumeralModel (AllDigits 10) (digits_value 10)
+own = numerals_by_value (AllDigits 10) tells_digits
+
+all_digits : (n : ℕ) → n < 2 ^ 8 → AllDigits 10 (decimal n)
+all_digits n lt = digits_decimal own n (omega (arith, lt))
+
+same_number : (m n : ℕ) → m < 2 ^ 8 → n < 2 ^ 8 → decimal m ≡ decimal n → m ≡ n
+same_number m n lt lt' e = decimal_injective m n (omega (arith, lt)) (omega (arith, lt')) e
+
+-- digits end at the dash
+dash_ends : (xs ys rest rest' : List ℕ) → AllDigits 10 xs → AllDigits 10 ys → xs ++ 45 ∷ rest ≡ ys ++ 45 ∷ rest' → (xs ≡ ys) × (rest ≡ rest')
+dash_ends [] [] rest rest' h k e = (refl, cc)
+dash_ends [] (y ∷ ys) rest rest' h k e =
+    let same : 45 ≡ y = cc in
+    let range = digit_from_value y k.0 in
+    absurd (omega (arith, range.0, range.1, same))
+dash_ends (x ∷ xs) [] rest rest' h k e =
+    let same : x ≡ 45 = cc in
+    let range = digit_from_value x h.0 in
+    absurd (omega (arith, range.0, range.1, same))
+dash_ends (x ∷ xs) (y ∷ ys) rest rest' h k e =
+    let first : x ≡ y = cc in
+    let behind : xs ++ 45 ∷ rest ≡ ys ++ 45 ∷ rest' = cc in
+    let more = dash_ends xs ys rest rest' h.1 k.1 behind in
+    (cc (more.0), more.1)
+
+-- digits don't begin with a letter
+no_letter : (letter : ℕ) (xs behind rest : List ℕ) → 57 < letter → AllDigits 10 xs → letter ∷ rest ≡ xs ++ 45 ∷ behind → ⊥
+no_letter letter [] behind rest high h e = let same : letter ≡ 45 = cc in omega (arith, high, same)
+no_letter letter (x ∷ xs) behind rest high h e =
+    let same : letter ≡ x = cc in
+    let range = digit_from_value x h.0 in
+    omega (arith, high, range.0, range.1, same)
+
+-- a site beyond the two
+is_far : (n : ℕ) → 2 ≤ n → ((n == 0) ≡ false) × ((n == 1) ≡ false)
+is_far n le = (search (rules, le), search (rules, le))
+
+far : (n : ℕ) (rest : List ℕ) → 2 ≤ n → site_text n ++ rest ≡ decimal n ++ 45 ∷ rest
+far n rest le = rw ((is_far n le).0, (is_far n le).1) (append_assoc (decimal n) (codes "-") rest)
+
+not_far : (letter n : ℕ) (rest rest' : List ℕ) → 57 < letter → 2 ≤ n → n < 2 ^ 8 → letter ∷ rest ≡ site_text n ++ rest' → ⊥
+not_far letter n rest rest' high le lt e = no_letter letter (decimal n) rest' rest high (all_digits n lt) (e ∙ far n rest' le)
+
+-- what begins with a site's text is of that site alone
+same_site : (m n : ℕ) (rest rest' : List ℕ) → m < 2 ^ 8 → n < 2 ^ 8 → site_text m ++ rest ≡ site_text n ++ rest' → (m ≡ n) × (rest ≡ rest')
+same_site zero zero rest rest' lt lt' e = (refl, cc)
+same_site zero (suc zero) rest rest' lt lt' e = let heads : 65 ≡ 66 = ap (λ t. get_or t 0 0) e in absurd (omega (arith, heads))
+same_site (suc zero) zero rest rest' lt lt' e = let heads : 66 ≡ 65 = ap (λ t. get_or t 0 0) e in absurd (omega (arith, heads))
+same_site (suc zero) (suc zero) rest rest' lt lt' e = (refl, cc)
+same_site zero (suc (suc n)) rest rest' lt lt' e = absurd (not_far 65 (suc (suc n)) rest rest' (lit< tt) (omega arith) lt' e)
+same_site (suc zero) (suc (suc n)) rest rest' lt lt' e = absurd (not_far 66 (suc (suc n)) rest rest' (lit< tt) (omega arith) lt' e)
+same_site (suc (suc m)) zero rest rest' lt lt' e = absurd (not_far 65 (suc (suc m)) rest' rest (lit< tt) (omega arith) lt (sym e))
+same_site (suc (suc m)) (suc zero) rest rest' lt lt' e = absurd (not_far 66 (suc (suc m)) rest' rest (lit< tt) (omega arith) lt (sym e))
+same_site (suc (suc m)) (suc (suc n)) rest rest' lt lt' e =
+    let parts = dash_ends (decimal (suc (suc m))) (decimal (suc (suc n))) rest rest' (all_digits (suc (suc m)) lt) (all_digits (suc (suc n)) lt') (sym (far (suc (suc m)) rest (omega arith)) ∙ e ∙ far (suc (suc n)) rest' (omega arith)) in
+    (same_number (suc (suc m)) (suc (suc n)) lt lt' parts.0, parts.1)
+
+one_site : (m n : ℕ) → m < 2 ^ 8 → n < 2 ^ 8 → site_text m ≡ site_text n → m ≡ n
+one_site m n lt lt' e = (same_site m n [] [] lt lt' (ap (λ t. t ++ []) e)).0
+
+-- ---- a name by its kind and its numbers
+
+-- the same with no numbers
+abbrev kind : DiskName → DiskName
+kind Topology = Topology
+kind (Offset site) = Offset 0
+kind (Retry site) = Retry 0
+kind (Server site) = Server 0
+kind (Replica number) = Replica 0
+kind (Epoch site joiner) = Epoch 0 0
+kind (Output site joiner) = Output 0 0
+
+abbrev site_of : DiskName → ℕ
+site_of Topology = 0
+site_of (Offset site) = site
+site_of (Retry site) = site
+site_of (Server site) = site
+site_of (Replica number) = 0
+site_of (Epoch site joiner) = site
+site_of (Output site joiner) = site
+
+abbrev number_of : DiskName → ℕ
+number_of Topology = 0
+number_of (Offset site) = 0
+number_of (Retry site) = 0
+number_of (Server site) = 0
+number_of (Replica number) = number
+number_of (Epoch site joiner) = joiner
+number_of (Output site joiner) = joiner
+
+-- of this kind, with these numbers
+abbrev built : DiskName → ℕ → ℕ → DiskName
+built Topology s j = Topology
+built (Offset site) s j = Offset s
+built (Retry site) s j = Retry s
+built (Server site) s j = Server s
+built (Replica number) s j = Replica j
+built (Epoch site joiner) s j = Epoch s j
+built (Output site joiner) s j = Output s j
+
+rebuilt : (d : DiskName) → built (kind d) (site_of d) (number_of d) ≡ d
+rebuilt Topology = refl
+rebuilt (Offset site) = refl
+rebuilt (Retry site) = refl
+rebuilt (Server site) = refl
+rebuilt (Replica number) = refl
+rebuilt (Epoch site joiner) = refl
+rebuilt (Output site joiner) = refl
+
+site_is_byte : (d : DiskName) → IsOfBytes d → site_of d < 2 ^ 8
+site_is_byte Topology h = omega arith
+site_is_byte (Offset site) h = h
+site_is_byte (Retry site) h = h
+site_is_byte (Server site) h = h
+site_is_byte (Replica number) h = omega arith
+site_is_byte (Epoch site joiner) h = h.0
+site_is_byte (Output site joiner) h = h.0
+
+number_is_byte : (d : DiskName) → IsOfBytes d → number_of d < 2 ^ 8
+number_is_byte Topology h = omega arith
+number_is_byte (Offset site) h = omega arith
+number_is_byte (Retry site) h = omega arith
+number_is_byte (Server site) h = omega arith
+number_is_byte (Replica number) h = h
+number_is_byte (Epoch site joiner) h = h.1
+number_is_byte (Output site joiner) h = h.1
+
+-- ---- what the text tells
+
+-- the kind, by a text's first byte and its third
+abbrev kind_by : ℕ → ℕ → DiskName
+kind_by a c = if a == 116 then Topology else if a == 115 then Server 0 else if a == 101 then Epoch 0 0 else if a == 111 then (if c == 102 then Offset 0 else Output 0 0) else if c == 116 then Retry 0 else Replica 0
+
+tells_kind : (d : DiskName) → kind_by (get_or (name_text d) 0 0) (get_or (name_text d) 2 0) ≡ kind d
+tells_kind Topology = refl
+tells_kind (Offset site) = refl
+tells_kind (Retry site) = refl
+tells_kind (Server site) = refl
+tells_kind (Replica number) = refl
+tells_kind (Epoch site joiner) = refl
+tells_kind (Output site joiner) = refl
+
+tells_numbers : (d : DiskName) → drop (length (word (kind d))) (name_text d) ≡ numbers d
+tells_numbers Topology = refl
+tells_numbers (Offset site) = refl
+tells_numbers (Retry site) = refl
+tells_numbers (Server site) = refl
+tells_numbers (Replica number) = refl
+tells_numbers (Epoch site joiner) = refl
+tells_numbers (Output site joiner) = refl
+
+both : (F : ℕ → ℕ → DiskName) (s j s' j' : ℕ) → s < 2 ^ 8 → j < 2 ^ 8 → s' < 2 ^ 8 → j' < 2 ^ 8 → site_text s ++ decimal j ≡ site_text s' ++ decimal j' → F s j ≡ F s' j'
+both F s j s' j' ls lj ls' lj' e =
+    let parts = same_site s s' (decimal j) (decimal j') ls ls' e in
+    ap (λ x. F x j) parts.0 ∙ ap (F s') (same_number j j' lj lj' parts.1)
+
+same_numbers : (k : DiskName) (s j s' j' : ℕ) → s < 2 ^ 8 → j < 2 ^ 8 → s' < 2 ^ 8 → j' < 2 ^ 8 → numbers (built k s j) ≡ numbers (built k s' j') → built k s j ≡ built k s' j'
+same_numbers Topology s j s' j' ls lj ls' lj' e = refl
+same_numbers (Offset site) s j s' j' ls lj ls' lj' e = ap (λ x. Offset x) (one_site s s' ls ls' e)
+same_numbers (Retry site) s j s' j' ls lj ls' lj' e = ap (λ x. Retry x) (one_site s s' ls ls' e)
+same_numbers (Server site) s j s' j' ls lj ls' lj' e = ap (λ x. Server x) (one_site s s' ls ls' e)
+same_numbers (Replica number) s j s' j' ls lj ls' lj' e = ap (λ x. Replica x) (same_number j j' lj lj' e)
+same_numbers (Epoch site joiner) s j s' j' ls lj ls' lj' e = both (λ x y. Epoch x y) s j s' j' ls lj ls' lj' e
+same_numbers (Output site joiner) s j s' j' ls lj ls' lj' e = both (λ x y. Output x y) s j s' j' ls lj ls' lj' e
+
+pub names_apart : (a b : DiskName) → IsOfBytes a → IsOfBytes b → name_text a ≡ name_text b → a ≡ b
+names_apart a b ha hb e =
+    let kinds : kind a ≡ kind b = sym (tells_kind a) ∙ ap (λ t. kind_by (get_or t 0 0) (get_or t 2 0)) e ∙ tells_kind b in
+    let told : numbers a ≡ numbers b = sym (tells_numbers a) ∙ ap (λ t. drop (length (word (kind a))) t) e ∙ ap (λ k. drop (length (word k)) (name_text b)) kinds ∙ tells_numbers b in
+    let there : numbers (built (kind a) (site_of b) (number_of b)) ≡ numbers b = ap (λ k. numbers (built k (site_of b) (number_of b))) kinds ∙ ap numbers (rebuilt b) in
+    let same = same_numbers (kind a) (site_of a) (number_of a) (site_of b) (number_of b) (site_is_byte a ha) (number_is_byte a ha) (site_is_byte b hb) (number_is_byte b hb) (ap numbers (rebuilt a) ∙ told ∙ sym there) in
+    sym (rebuilt a) ∙ same ∙ ap (λ k. built k (site_of b) (number_of b)) kinds ∙ rebuilt b

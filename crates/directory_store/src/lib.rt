@@ -1,0 +1,13 @@
+//! The disks of a state directory, over real files. What a file holds isn't told.
+#![tactic(auto)]
+
+mod directory;
+mod disk;
+mod name;
+pub mod rows;
+#[cfg(test)]
+mod tests;
+
+pub use directory::Directory;
+pub use disk::DirectoryDisk;
+pub use name::disk_name;
