@@ -1,8 +1,9 @@
 -- From what a run leaves of each node to the run of the whole system.
 use Rattle.std.specs.Prelude.{IsTrue, Result, Ok, Err, IfOk}
-use Rattle.std.proofs.Common.{◌≡◌, ℕ, ◌≤◌, ◌<◌, List, [], ◌∷◌, ◌++◌, length, slice_index_or, Bool, true, false, ◌&&◌, Option, Some, None, refl, sym, ap, ◌∙◌, subst, arith}
+use Rattle.std.proofs.Common.{◌≡◌, ℕ, ◌≤◌, ◌<◌, List, [], ◌∷◌, ◌++◌, length, slice_index_or, Bool, true, Option, Some, None, refl, sym, ap, ◌∙◌, subst, arith}
 use Rattle.std.proofs.lemmas.List.{get_or_default}
 use Rattle.air_bus.specs.declared.entry.Entry.{Entry}
+use Rattle.air_bus.specs.declared.entry.Phase.{Phase}
 use Rattle.air_bus.specs.declared.entry.Phase.TheVariants.{Idle}
 use Rattle.air_bus.specs.declared.entry.Input.{Input as Bytes}
 use Rattle.lossy_link.specs.declared.plan.Kind.{Kind}
@@ -28,7 +29,7 @@ use Rattle.site_laws.specs.Laws.{made_by, EachWalked, IsRunOf, AiredIsRun}
 use Rattle.site_laws.specs.Choosing.{Chosen, choose}
 use Rattle.site_run.specs.Works.{LeadsOn}
 use Rattle.site_run.specs.Rounds.{Rests}
-use Rattle.both_sites.specs.AnyNodes.{AnyState, AnyLeads, any_of, any_phase, any_rests}
+use Rattle.both_sites.specs.AnyNodes.{AnyState, any_of, any_phase, any_rests, IsMeant, GoesOn}
 use Rattle.both_sites.specs.Running.{AreDownOver, IsRunFrom}
 use Rattle.both_sites.proofs.Walking.{walked}
 
@@ -37,12 +38,6 @@ pub with_ok : {T E : Type 0} (A B C F G Q : T → Type 0) (r : Result T E) → I
 with_ok A B C F G Q (Ok t) a b c f g h = h t a b c f g
 with_ok A B C F G Q (Err e) a b c f g h = tt
 
--- where the disks and the logs tell, all nodes do
-pub all_tell : (d l : Bool) → IsTrue d → IsTrue l → IsTrue (((d && l) && d) && (d && (d && l)))
-all_tell true true p q = refl
-all_tell true false p q = q
-all_tell false l p q = p
-
 down_phase : (g : Setting) (d : Disks) (n : Node) (m : ℕ) → any_phase (any_of n (down_over g d n)) ≡ phase m []
 down_phase g d (Dispatcher s) m = refl
 down_phase g d (Server s) m = refl
@@ -50,16 +45,16 @@ down_phase g d (Replica r) m = refl
 down_phase g d (Joiner j) m = refl
 
 -- a node whose own entries leave it up with no open turn knows something
-up_live : {K L : Type 0} (s : State K L) → state_phase s ≡ Idle → (l : L) × (s.live ≡ Some l)
-up_live s is = by s.live s.opened refl is
-  where
-    by : {K L : Type 0} (live : Option L) (o : Option Bytes) → s.live ≡ live → phase_by live o ≡ Idle → (l : L) × (s.live ≡ Some l)
-    by None None e is = absurd (cc is)
-    by None (Some b) e is = absurd (cc is)
-    by (Some l) None e is = (l, e)
-    by (Some l) (Some b) e is = absurd (cc is)
+live_by : {L : Type 0} (live : Option L) (o : Option Bytes) → phase_by live o ≡ Idle → (l : L) × (live ≡ Some l)
+live_by None None is = absurd (cc is)
+live_by None (Some b) is = absurd (cc is)
+live_by (Some l) None is = (l, refl)
+live_by (Some l) (Some b) is = absurd (cc is)
 
-setting_of : (n : Node) → StateOf n → Setting
+up_live : {K L : Type 0} (s : State K L) → state_phase s ≡ Idle → (l : L) × (s.live ≡ Some l)
+up_live s is = live_by s.live s.opened is
+
+abbrev setting_of : (n : Node) → StateOf n → Setting
 setting_of (Dispatcher s) u = u.setting
 setting_of (Server s) u = u.setting
 setting_of (Replica r) u = u.setting
@@ -71,83 +66,97 @@ settings_so g w (Server s) u f = f.setting
 settings_so g w (Replica r) u f = f.setting
 settings_so g w (Joiner j) u f = f.setting
 
-module _ {N : Type 0} (stands : N → AnyState → Type 0) (number : N → ℕ) where
-  -- where a node that was down over its records stands at the end of its own entries
-  pub record Ended (g : Setting) (d : Disks) (h : List Entry) (w : N × Option NodeFault) (n : Node) (u : StateOf n) : Type 0 where
-    pub path : states.Path (rows_of n) (down_over g d n) (made_by (node_number n) h) u
-    pub at : stands w.0 (any_of n u)
-    pub phased : w.1 ≡ None → any_phase (any_of n u) ≡ phase (number w.0) (made_by (node_number n) h)
-
-  ended : (g : Setting) (d : Disks) (h : List Entry) (n : Node) (v : N) (w : N × Option NodeFault) → stands v (any_of n (down_over g d n))
-      → LeadsOn AnyLeads any_phase stands number v None [] w.0 w.1 (made_by (node_number n) h) → (u : StateOf n) × Ended g d h w n u
-  ended g d h n v w at led =
-      let from = led (any_of n (down_over g d n)) (record { at = at; phased = λ t. down_phase g d n (number v) }) in
-      let to = walked n (down_over g d n) from.0 from.1 from.3 in (
-        to.0,
-        record {
-          path = subst (λ es. states.Path (rows_of n) (down_over g d n) es to.0) (sym from.2) to.2;
-          at = subst (stands w.0) to.1 from.4.at;
-          phased = λ none. ap any_phase (sym to.1) ∙ from.4.phased none;
-        },
-      )
-
 some_of : {A : Type 0} (xs : List A) → 0 < length xs → A
 some_of [] l = absurd (omega (arith, l))
 some_of (x ∷ xs) l = x
 
-module _ {N : Type 0} (stands : N → AnyState → Type 0) (number : N → ℕ) (law : AiredIsRun) (rest_law : StatesRest) (numbers : (g : Setting) → NumbersAreNodes g) (ends : (g : Setting) (m : ℕ) → node_of g m ≡ None → node_count g ≤ m)
-    (g : Setting) (d : Disks) (plan : PlanView) (kinds : List Kind) (h : List Entry) (vs : List N) (ws : List (N × Option NodeFault)) (rest : Bool)
-    (count : length vs ≡ node_count g) (len : length ws ≡ length vs) (aired : IsAired plan kinds h) (others : (m : ℕ) → length vs ≤ m → made_by m h ≡ []) (down : AreDownOver stands g d vs)
-    (went : (i : ℕ) (a : N) (b : N × Option NodeFault) → i < length vs → LeadsOn AnyLeads any_phase stands number (slice_index_or vs i a) None [] (slice_index_or ws i b).0 (slice_index_or ws i b).1 (made_by i h))
-    (rested : IsTrue rest → (i : ℕ) (b : N × Option NodeFault) → i < length vs → Rests number stands any_rests (slice_index_or ws i b) (made_by i h)) where
-  some : 0 < length vs
-  some = omega (arith, count)
+module _ {N S : Type 0} (leads : S → Entry → S → Type 0) (phase_of : S → Phase) (stands : N → S → Type 0) (number : N → ℕ) (at_rest_as : S → Bool → Type 0) (places : N → AnyState → Type 0)
+    (walks : (v : N) (u : AnyState) → places v u → GoesOn leads phase_of stands at_rest_as places v u) where
+  -- where a node that was down over its records stands at the end of its own entries
+  pub record Ended (g : Setting) (d : Disks) (h : List Entry) (w : N × Option NodeFault) (n : Node) (u : StateOf n) : Type 0 where
+    pub path : states.Path (rows_of n) (down_over g d n) (made_by (node_number n) h) u
+    pub here : S
+    pub at : stands w.0 here
+    pub meant : IsMeant leads phase_of stands at_rest_as places here (any_of n u)
+    pub phased : w.1 ≡ None → phase_of here ≡ phase (number w.0) (made_by (node_number n) h)
 
-  one_left : N × Option NodeFault
-  one_left = some_of ws (omega (arith, some, len))
+  ended : (g : Setting) (d : Disks) (h : List Entry) (n : Node) (v : N) (w : N × Option NodeFault) → places v (any_of n (down_over g d n))
+      → LeadsOn leads phase_of stands number v None [] w.0 w.1 (made_by (node_number n) h) → (u : StateOf n) × Ended g d h w n u
+  ended g d h n v w at led =
+      let go = walks v (any_of n (down_over g d n)) at in
+      let from = led go.from (record { at = go.at; phased = λ t. sym go.led.phased ∙ down_phase g d n (number v) }) in
+      let on = go.on from.0 from.1 from.3 in
+      let to = walked n (down_over g d n) from.0 on.0 on.1 in (
+        to.0,
+        record {
+          path = subst (λ es. states.Path (rows_of n) (down_over g d n) es to.0) (sym from.2) to.2;
+          here = from.1;
+          at = from.4.at;
+          meant = subst (IsMeant leads phase_of stands at_rest_as places from.1) to.1 on.2;
+          phased = from.4.phased;
+        },
+      )
 
-  inside : (n : Node) → IsNode g n → node_number n < length vs
-  inside n is = omega (arith, (numbers g).below n is, count)
+  module _ (law : AiredIsRun) (rest_law : StatesRest) (numbers : (g : Setting) → NumbersAreNodes g) (ends : (g : Setting) (m : ℕ) → node_of g m ≡ None → node_count g ≤ m)
+      (g : Setting) (d : Disks) (plan : PlanView) (kinds : List Kind) (h : List Entry) (vs : List N) (ws : List (N × Option NodeFault)) (rest : Bool)
+      (count : length vs ≡ node_count g) (len : length ws ≡ length vs) (aired : IsAired plan kinds h) (others : (m : ℕ) → length vs ≤ m → made_by m h ≡ []) (down : AreDownOver places g d vs)
+      (went : (i : ℕ) (a : N) (b : N × Option NodeFault) → i < length vs → LeadsOn leads phase_of stands number (slice_index_or vs i a) None [] (slice_index_or ws i b).0 (slice_index_or ws i b).1 (made_by i h))
+      (rested : IsTrue rest → (i : ℕ) (b : N × Option NodeFault) → i < length vs → Rests number stands at_rest_as (slice_index_or ws i b) (made_by i h)) where
+    some : 0 < length vs
+    some = omega (arith, count)
 
-  left_at : Node → N × Option NodeFault
-  left_at n = slice_index_or ws (node_number n) one_left
+    abbrev one_left : N × Option NodeFault
+    one_left = some_of ws (omega (arith, some, len))
 
-  each : (n : Node) → IsNode g n → (u : StateOf n) × Ended stands number g d h (left_at n) n u
-  each n is = ended stands number g d h n (slice_index_or vs (node_number n) (some_of vs some)) (left_at n) (down n is (some_of vs some)) (went (node_number n) (some_of vs some) one_left (inside n is))
+    inside : (n : Node) → IsNode g n → node_number n < length vs
+    inside n is = omega (arith, (numbers g).below n is, count)
 
-  chosen : Chosen g StateOf (λ n u. Ended stands number g d h (left_at n) n u) (down_over g d)
-  chosen = choose g StateOf (λ n u. Ended stands number g d h (left_at n) n u) (down_over g d) each
+    abbrev left_at : Node → N × Option NodeFault
+    left_at n = slice_index_or ws (node_number n) one_left
 
-  walks : EachWalked g d h chosen.at
-  walks = record {
-    paths = λ n is. (chosen.holds n is).path;
-    no_others = λ m none. others m (omega (arith, ends g m none, count));
-  }
+    each : (n : Node) → IsNode g n → (u : StateOf n) × Ended g d h (left_at n) n u
+    each n is = ended g d h n (slice_index_or vs (node_number n) (some_of vs some)) (left_at n) (down n is (some_of vs some)) (went (node_number n) (some_of vs some) one_left (inside n is))
 
-  whole : (es : List model.Entry) × IsRunOf g d h chosen.at es
-  whole = law g d plan kinds h chosen.at aired walks
+    chosen : Chosen g StateOf (λ n u. Ended g d h (left_at n) n u) (down_over g d)
+    chosen = choose g StateOf (λ n u. Ended g d h (left_at n) n u) (down_over g d) each
 
-  -- a node that rests by its own state
-  rests_at : (n : Node) (u : StateOf n) (w : N × Option NodeFault) → setting_of n u ≡ g → Ended stands number g d h w n u → Rests number stands any_rests w (made_by (node_number n) h) → RestsAt g n u
-  rests_at (Dispatcher s) u w of_g e r =
-      let l = up_live u (e.phased r.whole ∙ r.up) in
-      subst (UpWith (λ l. dispatcher_at_rest l ≡ true)) (sym l.1) (sym (r.rests (any_of (Dispatcher s) u) e.at l.0 l.1))
-  rests_at (Server s) u w of_g e r =
-      let l = up_live u (e.phased r.whole ∙ r.up) in
-      subst (UpWith (λ l. server_at_rest g l ≡ true)) (sym l.1) (ap (λ x. server_at_rest x l.0) (sym of_g) ∙ sym (r.rests (any_of (Server s) u) e.at l.0 l.1))
-  rests_at (Replica k) u w of_g e r = tt
-  rests_at (Joiner j) u w of_g e r =
-      let l = up_live u (e.phased r.whole ∙ r.up) in
-      subst (UpWith (λ l. joiner_at_rest l ≡ true)) (sym l.1) (sym (r.rests (any_of (Joiner j) u) e.at l.0 l.1))
+    all_walked : EachWalked g d h chosen.at
+    all_walked = record {
+      paths = λ n is. (chosen.holds n is).path;
+      no_others = λ m none. others m (omega (arith, ends g m none, count));
+    }
 
-  -- what a run leaves of all nodes is a run from what they were opened over
-  pub runs_from : IsRunFrom stands g d h ws rest
-  runs_from =
-      record {
-        at = chosen.at;
-        entries = whole.0;
-        run = whole.1;
-        stand = λ n is c. subst (λ (x : N × Option NodeFault). stands x.0 (any_of n (chosen.at n))) (get_or_default ws (node_number n) one_left c (omega (arith, inside n is, len))) (chosen.holds n is).at;
-        at_rest = λ r. rest_law g d h chosen.at whole.0 whole.1
-            (λ n is. rests_at n (chosen.at n) (left_at n) (settings_so g (world_after g (opening d) whole.0) n (chosen.at n) (whole.1.stands n is)) (chosen.holds n is) (rested r (node_number n) one_left (inside n is)));
-      }
+    whole : (es : List model.Entry) × IsRunOf g d h chosen.at es
+    whole = law g d plan kinds h chosen.at aired all_walked
+
+    -- a node that rests says so of its state in the system
+    rests_here : (n : Node) (u : StateOf n) (w : N × Option NodeFault) → Ended g d h w n u → Rests number stands at_rest_as w (made_by (node_number n) h) → (any_phase (any_of n u) ≡ Idle) × any_rests (any_of n u) true
+    rests_here n u w e r = (e.meant.phased ∙ e.phased r.whole ∙ r.up, e.meant.rested true (r.rests e.here e.at))
+
+    rests_at : (n : Node) (u : StateOf n) → setting_of n u ≡ g → any_phase (any_of n u) ≡ Idle → any_rests (any_of n u) true → RestsAt g n u
+    rests_at (Dispatcher s) u of_g up says =
+        let l = up_live u up in
+        subst (UpWith (λ x. dispatcher_at_rest x ≡ true)) (sym l.1) (sym (says l.0 l.1))
+    rests_at (Server s) u of_g up says =
+        let l = up_live u up in
+        subst (UpWith (λ x. server_at_rest g x ≡ true)) (sym l.1) (ap (λ x. server_at_rest x l.0) (sym of_g) ∙ sym (says l.0 l.1))
+    rests_at (Replica k) u of_g up says = tt
+    rests_at (Joiner j) u of_g up says =
+        let l = up_live u up in
+        subst (UpWith (λ x. joiner_at_rest x ≡ true)) (sym l.1) (sym (says l.0 l.1))
+
+    -- what a run leaves of all nodes is a run from what they were opened over
+    pub runs_from : IsRunFrom places g d h ws rest
+    runs_from =
+        record {
+          at = chosen.at;
+          entries = whole.0;
+          run = whole.1;
+          stand = λ n is c.
+              let e = chosen.holds n is in
+              subst (λ (x : N × Option NodeFault). places x.0 (any_of n (chosen.at n))) (get_or_default ws (node_number n) one_left c (omega (arith, inside n is, len))) (e.meant.placed (left_at n).0 e.at);
+          at_rest = λ r. rest_law g d h chosen.at whole.0 whole.1
+              (λ n is.
+              let rests = rests_here n (chosen.at n) (left_at n) (chosen.holds n is) (rested r (node_number n) one_left (inside n is)) in
+              rests_at n (chosen.at n) (settings_so g (world_after g (opening d) whole.0) n (chosen.at n) (whole.1.stands n is)) rests.0 rests.1);
+        }

@@ -1,9 +1,10 @@
 -- Nodes of all four kinds as one kind, and where they stand.
-use Rattle.std.proofs.Common.{◌⊎◌, inl, inr, ℕ, Bool}
+use Rattle.std.proofs.Common.{◌≡◌, ◌⊎◌, inl, inr, ℕ, Bool, List, None}
 use Rattle.air_bus.specs.declared.entry.Entry.{Entry}
 use Rattle.packet_codec.specs.declared.node.Node.{Node}
 use Rattle.packet_codec.specs.declared.node.Node.TheVariants.{Dispatcher, Server, Replica, Joiner}
 use Rattle.air_bus.specs.declared.entry.Phase.{Phase}
+use Rattle.turn_defs.specs.Setting.{Setting}
 use Rattle.site_node.specs.States.{State, Leads, Says, state_phase}
 use Rattle.dispatch_core.specs.Dispatcher.{dispatcher_at_rest}
 use Rattle.joiner_core.specs.Joiner.{joiner_at_rest}
@@ -16,6 +17,7 @@ use Rattle.replica_node.specs.Node.{ReplicaState, replica_rows}
 use Rattle.joiner_node.specs.Node.{JoinerState, LeadsTo, joiner_phase}
 use Rattle.site_laws.specs.Kinds.{StateOf}
 use Rattle.site_run.specs.Eithers as either
+use Rattle.site_run.specs.Works.{Path}
 
 abbrev pub AnyState : Type 0
 AnyState = (DispatcherState ⊎ ServerState) ⊎ (ReplicaState ⊎ JoinerState)
@@ -42,3 +44,23 @@ any_of (Dispatcher s) t = inl (inl (record { site = s; node = t }))
 any_of (Server s) t = inl (inr (with_site s t))
 any_of (Replica r) t = inr (inl t)
 any_of (Joiner j) t = inr (inr (record { number = j; node = t }))
+
+-- down, over these records
+abbrev pub down_with : {K L : Type 0} → Setting → K → State K L
+down_with g k = record { setting = g; kept = k; live = None; opened = None }
+
+-- ---- a kind of node that stands at such states
+
+module _ {N S : Type 0} (leads : S → Entry → S → Type 0) (phase_of : S → Phase) (stands : N → S → Type 0) (at_rest_as : S → Bool → Type 0) (places : N → AnyState → Type 0) where
+  -- its own state t means u: it stands on the bus as there, a node at t is at u, and what is said of rest at t is said at u
+  pub record IsMeant (t : S) (u : AnyState) : Type 0 where
+    pub phased : any_phase u ≡ phase_of t
+    pub placed : (w : N) → stands w t → places w u
+    pub rested : (b : Bool) → at_rest_as t b → any_rests u b
+
+  -- the node is at u by a state of its own, and what leads on from there leads on from u
+  pub record GoesOn (v : N) (u : AnyState) : Type 0 where
+    pub from : S
+    pub at : stands v from
+    pub led : IsMeant from u
+    pub on : (es : List Entry) (t : S) → Path leads from es t → (x : AnyState) × Path AnyLeads u es x × IsMeant t x

@@ -11,10 +11,10 @@ use Rattle.site_laws.specs.Kinds.{StateOf, down_over}
 use Rattle.site_laws.specs.Laws.{IsRunOf}
 use Rattle.both_sites.specs.AnyNodes.{AnyState, any_of}
 
-module _ {N : Type 0} (stands : N → AnyState → Type 0) where
+module _ {N : Type 0} (places : N → AnyState → Type 0) where
   -- each node of the setting is the one of its number, and is down over its own records
   abbrev pub AreDownOver : Setting → Disks → List N → Type 0
-  AreDownOver g d nodes = (n : Node) → IsNode g n → (a : N) → stands (slice_index_or nodes (node_number n) a) (any_of n (down_over g d n))
+  AreDownOver g d nodes = (n : Node) → IsNode g n → (a : N) → places (slice_index_or nodes (node_number n) a) (any_of n (down_over g d n))
 
   -- The history is a run of the whole system from these records, and each node stands where it says. Where all nodes rest the
   -- system does.
@@ -22,5 +22,5 @@ module _ {N : Type 0} (stands : N → AnyState → Type 0) where
     pub at : (n : Node) → StateOf n
     pub entries : List Entry
     pub run : IsRunOf g d h at entries
-    pub stand : (n : Node) → IsNode g n → (a : N × Option NodeFault) → stands (slice_index_or nodes (node_number n) a).0 (any_of n (at n))
+    pub stand : (n : Node) → IsNode g n → (a : N × Option NodeFault) → places (slice_index_or nodes (node_number n) a).0 (any_of n (at n))
     pub at_rest : IsTrue rest → IsAtRest g (world_after g (opening d) entries)

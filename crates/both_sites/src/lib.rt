@@ -1,8 +1,10 @@
-//! Both sites: their nodes over disks, run on threads.
+//! Both sites: their nodes over disks as one kind, and their run on threads.
 #![tactic(auto)]
 
+mod any_node;
 mod making;
 mod nodes;
 
+pub use any_node::{AnyNode, SystemNode};
 pub use making::{dispatcher, joiner, replica, server};
-pub use nodes::{AnyNode, run_nodes};
+pub use nodes::run_nodes;

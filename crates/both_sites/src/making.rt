@@ -6,16 +6,14 @@ ghost use Rattle.fields.specs.Spellings.{IsNote, note as note_spelled};
 ghost use Rattle.log_records.specs.Check.{IsQueryLog};
 ghost use Rattle.turn_defs.specs.Setting.{Setting};
 ghost use Rattle.packet_codec.specs.declared.node.Node.TheVariants as node;
-ghost use Rattle.photon_defs.specs.Runs.{Disks};
 ghost use Rattle.site_node.specs.Rosters.{IsOf};
 ghost use Rattle.dispatch_node.specs.Kept.{kept_as};
 ghost use Rattle.dispatch_node.specs.Places.{IsLogOf, AreKeptPlaces};
 ghost use Rattle.registry_server.specs.Cores.{IsNew};
 ghost use Rattle.replica_node.specs.Core.{kept_of};
-ghost use Rattle.site_laws.specs.Kinds.{down_over};
-ghost use Rattle.both_sites.specs.AnyNodes.{any_of};
+ghost use Rattle.both_sites.specs.AnyNodes.{any_of, down_with};
 
-use crate::AnyNode;
+use crate::{AnyNode, SystemNode};
 use dispatch_node::DispatchNode;
 use epoch_journal::EpochJournal;
 use gate_journal::Journal;
@@ -46,9 +44,8 @@ pub fn dispatcher<D: Disk, L: LogFile>(
     requires ready { (offset.journal.state ≡ Ready) × (retry.journal.state ≡ Ready) }
     ensures number { ⟦<AnyNode<D, L> as SiteNode>⟧.number result ≡ site }
     ensures up { ⟦<AnyNode<D, L> as SiteNode>⟧.waits result ≡ false }
-    ensures stands { (g : Setting) (d : Disks) → IsOf roster g → g.replicas ≡ 3 → IsLogOf (L.bytes log) g → AreKeptPlaces g (d.dispatchers site)
-        → d.dispatchers site ≡ kept_as offset.offset retry.pending.keys
-        → ⟦<AnyNode<D, L> as SiteNode>⟧.stands result (any_of (node.Dispatcher site) (down_over g d (node.Dispatcher site))) }
+    ensures places { (g : Setting) → IsOf roster g → g.replicas ≡ 3 → IsLogOf (L.bytes log) g → AreKeptPlaces g (kept_as offset.offset retry.pending.keys)
+        → ⟦<AnyNode<D, L> as SystemNode>⟧.places result (any_of (node.Dispatcher site) (down_with g (kept_as offset.offset retry.pending.keys))) }
 {
     Either::First(Either::First(DispatchNode::new(alloc, site, roster, offset, retry, log)))
 }
@@ -68,9 +65,8 @@ pub fn server<D: Disk, L: LogFile>(
     requires ready { journal.journal.state ≡ Ready }
     ensures number { IfOk result (λ n. ⟦<AnyNode<D, L> as SiteNode>⟧.number n ≡ 2 + site) }
     ensures up { IfOk result (λ n. ⟦<AnyNode<D, L> as SiteNode>⟧.waits n ≡ false) }
-    ensures stands { IsTrue D.tells → (g : Setting) (d : Disks) → IsOf roster g → IsNew g roster.joiners horizon table batch
-        → d.servers site ≡ record { epoch = journal.epoch }
-        → IfOk result (λ n. ⟦<AnyNode<D, L> as SiteNode>⟧.stands n (any_of (node.Server site) (down_over g d (node.Server site)))) }
+    ensures places { IsTrue D.tells → (g : Setting) → IsOf roster g → IsNew g roster.joiners horizon table batch
+        → IfOk result (λ n. ⟦<AnyNode<D, L> as SystemNode>⟧.places n (any_of (node.Server site) (down_with g (record { epoch = journal.epoch })))) }
     ensures refused { IfErr result (λ j. j ≡ journal) }
 {
     match ServerNode::new(alloc, site, roster, horizon, table, batch, journal) {
@@ -91,9 +87,8 @@ pub fn replica<D: Disk, L: LogFile>(
     requires ready { journal.state ≡ Ready }
     ensures number { ⟦<AnyNode<D, L> as SiteNode>⟧.number result ≡ 4 + replica }
     ensures up { ⟦<AnyNode<D, L> as SiteNode>⟧.waits result ≡ false }
-    ensures stands { IsTrue D.tells → (g : Setting) (d : Disks) → IsOf roster g → StandsFor (map note_spelled notes.items) (D.seen journal.disk)
-        → d.replicas replica ≡ kept_of notes.items
-        → ⟦<AnyNode<D, L> as SiteNode>⟧.stands result (any_of (node.Replica replica) (down_over g d (node.Replica replica))) }
+    ensures places { IsTrue D.tells → (g : Setting) → IsOf roster g → StandsFor (map note_spelled notes.items) (D.seen journal.disk)
+        → ⟦<AnyNode<D, L> as SystemNode>⟧.places result (any_of (node.Replica replica) (down_with g (kept_of notes.items))) }
 {
     Either::Second(Either::First(ReplicaNode::new(alloc, replica, roster, journal, notes)))
 }
@@ -113,10 +108,9 @@ pub fn joiner<D: Disk, L: LogFile>(
     requires ready { (epochs.journal.state ≡ Ready) × (pairs.journal.state ≡ Ready) }
     ensures number { IfOk result (λ n. ⟦<AnyNode<D, L> as SiteNode>⟧.number n ≡ 4 + roster.replicas + site * roster.joiners + joiner) }
     ensures up { IfOk result (λ n. ⟦<AnyNode<D, L> as SiteNode>⟧.waits n ≡ false) }
-    ensures stands { IsTrue D.tells → (g : Setting) (d : Disks) → IsOf roster g → IsQueryLog (L.bytes log) g.queries
-        → d.joiners (4 + roster.replicas + site * roster.joiners + joiner) ≡ record { epoch = epochs.epoch; pairs = pairs.pairs.items }
-        → IfOk result (λ n. ⟦<AnyNode<D, L> as SiteNode>⟧.stands n (any_of (node.Joiner (4 + roster.replicas + site * roster.joiners + joiner))
-            (down_over g d (node.Joiner (4 + roster.replicas + site * roster.joiners + joiner))))) }
+    ensures places { IsTrue D.tells → (g : Setting) → IsOf roster g → IsQueryLog (L.bytes log) g.queries
+        → IfOk result (λ n. ⟦<AnyNode<D, L> as SystemNode>⟧.places n
+            (any_of (node.Joiner (⟦<AnyNode<D, L> as SiteNode>⟧.number n)) (down_with g (record { epoch = epochs.epoch; pairs = pairs.pairs.items })))) }
     ensures back { IfErr result (λ e. (e.1 ≡ epochs) × (e.2 ≡ pairs) × (e.3 ≡ log)) }
 {
     match JoinerNode::new(alloc, site, joiner, roster, epochs, pairs, log) {

@@ -1,33 +1,13 @@
 use Rattle.std.proofs.Common.{sym, ◌∙◌, arith}
-use Rattle.both_sites.proofs.Standing.{with_ok, all_tell, runs_from}
+use Rattle.both_sites.proofs.Standing.{with_ok, runs_from}
 use Rattle.both_sites.proofs.nodes.run_nodes.Goals as goal
 
 pub returns-clause-run : goal.returns-clause-run
-returns-clause-run g c = ?
-
-pub returns-clause-plan : goal.returns-clause-plan
-returns-clause-plan g c = c.run.ensures.plan
-
-pub returns-clause-aired : goal.returns-clause-aired
-returns-clause-aired g c = c.run.ensures.aired
-
-pub returns-clause-lists : goal.returns-clause-lists
-returns-clause-lists g c = c.run.ensures.lists
-
-pub returns-clause-count : goal.returns-clause-count
-returns-clause-count g c = c.run.ensures.count
-
-pub returns-clause-back : goal.returns-clause-back
-returns-clause-back g c = c.run.ensures.back
-
-pub run-requires-clause-count : goal.run-requires-clause-count
-run-requires-clause-count g c = c.requires.count
-
-pub run-requires-clause-few : goal.run-requires-clause-few
-run-requires-clause-few g c = c.requires.few
-
-pub run-requires-clause-numbers : goal.run-requires-clause-numbers
-run-requires-clause-numbers g c = c.requires.numbers
-
-pub run-requires-clause-up : goal.run-requires-clause-up
-run-requires-clause-up g c = c.requires.up
+returns-clause-run g c tells gg d count down =
+    let m = g.N.SiteNode in
+    let w = g.N.SystemNode in
+    let laws = g.met.N.SystemNode g.world.𝓛 g.world.𝓜 g.world.𝓡 ((λ s x. x), (λ x. x), (λ x. x), λ x. x) in
+    with_ok _ _ _ _ _ _ c.run.result c.run.ensures.aired c.run.ensures.others c.run.ensures.count (c.run.ensures.walked tells) c.run.ensures.rest
+    (λ r aired others len walked rest.
+    runs_from m.leads m.phase_of m.stands m.number m.at_rest_as w.places laws.walks c.aired_is_run.ensures c.rest_of_states.ensures.rest c.node_numbers.ensures c.numbers_end.ensures gg d c.args.plan c.args.kinds.now
+    r.air.history c.args.nodes.items r.nodes.items r.rest (c.requires.count ∙ sym count) len aired (λ k le. others k (omega (arith, le, c.requires.count))) down walked rest)
