@@ -1,2 +1,4 @@
+pub mod Numbered
+pub mod Groups
 pub mod Waiting
 pub mod Claims

@@ -54,7 +54,7 @@ fn three_wait(rt: HostRuntime) -> Result<(), Fail> {
 
     let first = queue.front_batch(3, 1)?;
     let mut registry = Registry::new(rt.alloc());
-    let answered = queue.answered(&registry, &first)?;
+    let answered = queue.answered(&registry, registry.bound(), &first)?;
     let wanted = [
         (all[0], Answer::Granted),
         (all[1], Answer::Duplicate(all[0].token)),
@@ -62,7 +62,7 @@ fn three_wait(rt: HostRuntime) -> Result<(), Fail> {
     assert_eq!(rt; answered.as_slice(), wanted.as_slice());
 
     registry.apply(&first)?;
-    queue.drop_answered(&registry);
+    queue.drop_answered(&answered);
     let left = queue.front_batch(0, 64)?;
     assert_eq!(rt; left.inserts.as_slice(), [all[2]].as_slice());
     Ok(())
