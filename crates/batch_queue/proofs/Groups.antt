@@ -6,7 +6,7 @@ use Rattle.std.proofs.lemmas.List.{append-nil}
 use Rattle.event_id.specs.declared.id.EventId.{EventId}
 use Rattle.event_id.specs.EventId.{is_same as same_id}
 use Rattle.registry_state.specs.declared.Insert.{Insert}
-use Rattle.registry_state.proofs.Tests.{same_id-true, same_id-refl}
+use Rattle.registry_state.proofs.Tests.{same_id-true}
 use Rattle.batch_queue.specs.Numbered.{with_id}
 use Rattle.batch_queue.proofs.Numbered.{same_id-flip}
 

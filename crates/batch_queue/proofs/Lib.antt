@@ -2,3 +2,4 @@ pub mod Numbered
 pub mod Groups
 pub mod Waiting
 pub mod Claims
+pub mod Answering

@@ -182,11 +182,11 @@ impl BatchQueue {
 
     /// Takes those out that have an answer, told which these are. The others keep their order. It takes no memory, and
     /// logarithmic expected time for each that is told.
-    pub fn drop_answered(&mut self, answered: &Answered)
-        ensures left { (vs : _) → answered.now ≡ answered (replays vs) (waiting self.old) → waiting self.new ≡ unanswered (replays vs) (waiting self.old) }
+    pub fn drop_answered(&mut self, all: &Answered)
+        ensures left { (vs : _) → all.now ≡ answered (replays vs) (waiting self.old) → waiting self.new ≡ unanswered (replays vs) (waiting self.old) }
         ensures room { room self.old ≤ room self.new }
     {
-        for (insert, _) in answered.as_slice() {
+        for (insert, _) in all.as_slice() {
             self.drop_id(insert.id);
         }
     }

@@ -144,11 +144,7 @@ fn join(
 }
 
 // Takes these out of the order, and their tokens out of the set.
-fn forget(
-    in_order: &mut BTreeMap<u64, Insert>,
-    tokens: &mut HashSet<Token>,
-    gone: &[(u64, Insert)],
-)
+fn forget(in_order: &mut BTreeMap<u64, Insert>, tokens: &mut HashSet<Token>, gone: &[(u64, Insert)])
     ensures order { in_order.new.entries ≡ without gone.now in_order.old.entries }
     ensures tokens { (t : Mark) → contains same_token tokens.new t ≡ (contains same_token tokens.old t && not (has_token (values_of gone.now) t)) }
 {

@@ -1,0 +1,23 @@
+use Rattle.std.proofs.Common.{◌≡◌, ◌∷◌, [], false, rules, arith}
+use Rattle.std.specs.Prelude.{option_to_list}
+use Rattle.std.proofs.lemmas.List.{length-append}
+use Rattle.batch_queue.specs.Queue.{settled}
+use Rattle.batch_queue.specs.Waiting.{has_token}
+use Rattle.batch_queue.proofs.Waiting.{once_push}
+use Rattle.batch_queue.proofs.queue.BatchQueue.put.Goals as goal
+
+pub invariant_of-self-clause-once : goal.invariant_of-self-clause-once
+invariant_of-self-clause-once c =
+    let old = c.args.self.now.settled in
+    let new : has_token (settled old) c.args.insert.token ≡ false = search rules in
+    once_push (settled old) c.args.insert old.once new
+
+pub invariant_of-self-clause-few : goal.invariant_of-self-clause-few
+invariant_of-self-clause-few c =
+    let old = c.args.self.now in
+    let xs = settled old.settled in
+    let few = old.few in
+    let before = length-append xs (option_to_list old.newest) in
+    let after = length-append xs (c.args.insert ∷ []) in
+    let many = c.len.ensures in
+    omega (arith, c.if-len-eq-WAITING.false)
