@@ -1,6 +1,6 @@
 -- What is answered, among all that wait or among a part, and what is left.
 use Rattle.std.proofs.Common.{◌≡◌, ◌≤◌, ◌||◌, ◌&&◌, Bool, true, false, not, cond, nat_lt, filter, List, [], ◌∷◌, ◌++◌, Some, None, refl, sym, ap, ◌∙◌, subst, arith}
-use Rattle.std.specs.Prelude.{Option, is_some}
+use Rattle.std.specs.Prelude.{Option, is_some, option_to_list}
 use Rattle.std.specs.Option.{option_map}
 use Rattle.std.specs.List.{AllByRecursion, list_any, cons_option}
 use Rattle.std.proofs.lemmas.Bool.{ltb-false, true≢false}
@@ -27,6 +27,12 @@ answered-append f (x ∷ xs) ys = ap (cons_option (paired f x)) (answered-append
     go : (o : Option (Insert × Answer)) → cons_option o (answered f xs ++ answered f ys) ≡ cons_option o (answered f xs) ++ answered f ys
     go None = refl
     go (Some a) = refl
+
+-- the newest behind the others
+pub and_newest : (f : Insert → Option Answer) (xs : List Insert) (x : Insert) (newest : Option Insert) (before all : List (Insert × Answer)) → newest ≡ Some x → before ≡ answered f xs → all ≡ before ++ answered f (x ∷ [])
+    → all ≡ answered f (xs ++ option_to_list newest)
+and_newest f xs x newest before all is e h =
+    h ∙ ap (λ (b : List (Insert × Answer)). b ++ answered f (x ∷ [])) e ∙ sym (answered-append f xs (x ∷ [])) ∙ ap (λ (o : Option Insert). answered f (xs ++ option_to_list o)) (sym is)
 
 -- ---- among a part
 

@@ -1,4 +1,4 @@
-use Rattle.std.proofs.Common.{◌≡◌, ◌∷◌, [], false, rules, arith}
+use Rattle.std.proofs.Common.{◌≡◌, ◌∷◌, [], length, false, rules, arith}
 use Rattle.std.specs.Prelude.{option_to_list}
 use Rattle.std.proofs.lemmas.List.{length-append}
 use Rattle.batch_queue.specs.Queue.{settled}
@@ -19,5 +19,5 @@ invariant_of-self-clause-few c =
     let few = old.few in
     let before = length-append xs (option_to_list old.newest) in
     let after = length-append xs (c.args.insert ∷ []) in
-    let many = c.len.ensures in
-    omega (arith, c.if-len-eq-WAITING.false)
+    let apart : length xs ≡ 4096 → ⊥ = search rules in
+    omega (arith, apart)
