@@ -61,11 +61,11 @@ impl Settled {
         self.tokens.contains(&token)
     }
 
-    // The first of them. Linear in them, with one allocation.
+    // The first of them, with room for one more. Linear in them, with one allocation.
     pub(crate) fn front(&self, count: usize) -> Result<Inserts, AllocError>
         ensures { IfOk result (λ inserts. inserts ≡ take count (settled self.now)) }
     {
-        let mut inserts = Inserts::with_capacity(self.alloc, count.min(self.in_order.len()))?;
+        let mut inserts = Inserts::with_capacity(self.alloc, count.min(self.in_order.len() + 1))?;
         for (_, insert) in self.in_order.iter().take(count) {
             inserts.push(*insert)?;
         }
