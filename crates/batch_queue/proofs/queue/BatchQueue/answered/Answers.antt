@@ -1,4 +1,4 @@
-use Rattle.std.proofs.Common.{◌≤◌, ◌++◌, ◌∷◌, [], List, arith, ap, ◌∙◌}
+use Rattle.std.proofs.Common.{◌≤◌, ◌++◌, ◌∷◌, [], List, arith, rules, ap, ◌∙◌}
 use Rattle.std.specs.Prelude.{option_to_list}
 use Rattle.std.specs.HashSet.{contains}
 use Rattle.std.proofs.lemmas.Result.{IfOk-weaker}
@@ -16,7 +16,8 @@ returns g c = λ applied known bound none.
     let v = c.args.batch.now in
     let f = replays (applied ++ v ∷ []) in
     let newest = option_to_list self.newest in
-    let stays : v.bound ≤ bound_of applied = omega (arith, c.if-batch-bound.false, bound) in
+    let low : v.bound ≤ c.args.bound = search rules in
+    let stays : v.bound ≤ bound_of applied = omega (arith, low, bound) in
     IfOk-weaker c.answered_among-2.result _ _
     (λ all h. h ∙ ap (λ (xs : List Insert). answered f (xs ++ newest)) c.in_ok-picked.ensures ∙ among_ids applied v (contains same_id c.in_ok-ids.ids) (settled self.settled) newest stays c.in_ok-ids.ensures none)
     (c.answered_among-2.ensures applied known)
