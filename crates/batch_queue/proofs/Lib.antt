@@ -1,2 +1,5 @@
+pub mod Numbered
+pub mod Groups
 pub mod Waiting
 pub mod Claims
+pub mod Answering

@@ -1,51 +1,143 @@
--- Lists of waiting inserts, made of the entries of a map.
-use Rattle.std.proofs.Common.{◌≡◌, ℕ, Bool, true, false, cond, filter, List, [], ◌∷◌, ◌++◌, ◌||◌, suc, ◌+◌, map, take, arith, is_some, refl, sym, ap, ◌∙◌}
-use Rattle.std.specs.List.{list_any}
-use Rattle.std.specs.Map.{keys_of, lookup}
-use Rattle.std.proofs.lemmas.Bool.{cond-true, cond-false}
-use Rattle.std.proofs.lemmas.List.{append_assoc}
-use Rattle.std.proofs.lemmas.Map.Made.{is_some-lookup}
-use Rattle.event_id.specs.declared.id.EventId.{EventId}
+-- Lists of waiting inserts: tokens, one more, fewer.
+use Rattle.std.proofs.Common.{◌≡◌, ◌<◌, Bool, true, false, not, cond, filter, List, [], ◌∷◌, ◌++◌, ◌||◌, ◌&&◌, map, arith, refl, sym, ap, ◌∙◌, subst}
+use Rattle.std.specs.Prelude.{Option, Some, None}
+use Rattle.std.specs.List.{AllByRecursion}
+use Rattle.std.proofs.lemmas.Bool.{cond-true, cond-false, true≢false}
+use Rattle.std.proofs.lemmas.Map.Keys.{IsDistinct-head, IsDistinct-tail, IsDistinct-cons}
 use Rattle.registry_state.specs.declared.Token.{Token}
 use Rattle.registry_state.specs.declared.Insert.{Insert}
 use Rattle.registry_state.specs.Same.{same_token}
-use Rattle.batch_queue.specs.Waiting.{has_token, with_last}
-use Rattle.batch_queue.specs.Queue.{insert_of}
-
-pub tokens-keys : (es : List (Token × EventId)) → map (λ (x : Insert). x.token) (map insert_of es) ≡ keys_of es
-tokens-keys [] = refl
-tokens-keys (e ∷ es) = let h = tokens-keys es in λ j. e.0 ∷ h j
-
--- a token is among them where its key has an entry
-pub has_token-lookup : (es : List (Token × EventId)) (t : Token) → has_token (map insert_of es) t ≡ is_some (lookup (same_token t) es)
-has_token-lookup es t = keys es ∙ sym (is_some-lookup (same_token t) es)
-  where
-    keys : (es : List (Token × EventId)) → list_any (λ (x : Insert). same_token t x.token) (map insert_of es) ≡ list_any (same_token t) (keys_of es)
-    keys [] = refl
-    keys (e ∷ es) = ap (λ b. same_token t e.0 || b) (keys es)
-
-pub map-push : (es : List (Token × EventId)) (e : Token × EventId) → map insert_of (es ++ e ∷ []) ≡ map insert_of es ++ insert_of e ∷ []
-map-push [] e = refl
-map-push (x ∷ es) e = let h = map-push es e in λ j. insert_of x ∷ h j
-
--- those that pass a test, before or after
-pub filter-made : (test : Insert → Bool) (es : List (Token × EventId)) → map insert_of (filter (λ e. test (insert_of e)) es) ≡ filter test (map insert_of es)
-filter-made test [] = refl
-filter-made test (e ∷ es) = go (test (insert_of e)) (filter-made test es)
-  where
-    go : (b : Bool) → map insert_of (filter (λ e. test (insert_of e)) es) ≡ filter test (map insert_of es) → map insert_of (cond b (e ∷ filter (λ e. test (insert_of e)) es) (filter (λ e. test (insert_of e)) es)) ≡ cond b (insert_of e ∷ filter test (map insert_of es)) (filter test (map insert_of es))
-    go true h = λ j. insert_of e ∷ h j
-    go false h = h
-
--- one more of the first is copied
-pub front_turn : (xs whole : List Insert) (n left : ℕ) (es rest : List (Token × EventId)) (e : Token × EventId) → es ≡ e ∷ rest → left + 1 ≡ n → xs ++ take n (map insert_of es) ≡ whole
-    → (xs ++ insert_of e ∷ []) ++ take left (map insert_of rest) ≡ whole
-front_turn xs whole n left es rest e first count h =
-    let more : suc left ≡ n = omega (arith, count) in
-    append_assoc xs (insert_of e ∷ []) (take left (map insert_of rest)) ∙ ap (λ k. xs ++ take k (insert_of e ∷ map insert_of rest)) more ∙ ap (λ l. xs ++ take n (map insert_of l)) (sym first) ∙ h
+use Rattle.registry_state.proofs.Tests.{same_token-true, same_token-refl}
+use Rattle.batch_queue.specs.Waiting.{has_token, with_last, IsOnce, room_beside}
 
 pub put-there : (xs : List Insert) (x : Insert) → has_token xs x.token ≡ true → with_last xs x ≡ xs
 put-there xs x there = cond-true (has_token xs x.token) xs (xs ++ x ∷ []) there
 
 pub put-new : (xs : List Insert) (x : Insert) → has_token xs x.token ≡ false → with_last xs x ≡ xs ++ x ∷ []
 put-new xs x new = cond-false (has_token xs x.token) xs (xs ++ x ∷ []) new
+
+-- where there is room none stands apart
+pub none_apart : (newest : Option Insert) → 0 < room_beside newest → newest ≡ None
+none_apart None h = refl
+none_apart (Some x) h = absurd (omega arith)
+
+-- ---- tokens
+
+pub same_token-flip : (a b : Token) → same_token a b ≡ same_token b a
+same_token-flip a b = go (same_token a b) (same_token b a) refl refl
+  where
+    go : (s t : Bool) → same_token a b ≡ s → same_token b a ≡ t → s ≡ t
+    go true true e f = refl
+    go false false e f = refl
+    go true false e f = sym (subst (λ (c : Token). same_token c a ≡ true) (same_token-true a b e) (same_token-refl a)) ∙ f
+    go false true e f = sym e ∙ subst (λ (c : Token). same_token c b ≡ true) (same_token-true b a f) (same_token-refl b)
+
+pub tokens_push : (xs : List Insert) (x : Insert) (t : Token) → has_token (xs ++ x ∷ []) t ≡ cond (same_token x.token t) true (has_token xs t)
+tokens_push [] x t = go (same_token t x.token) ∙ ap (λ b. cond b true false) (same_token-flip t x.token)
+  where
+    go : (b : Bool) → (b || false) ≡ cond b true false
+    go true = refl
+    go false = refl
+tokens_push (y ∷ xs) x t = ap (λ b. same_token t y.token || b) (tokens_push xs x t) ∙ go (same_token t y.token) (same_token x.token t)
+  where
+    go : (a b : Bool) → (a || cond b true (has_token xs t)) ≡ cond b true (a || has_token xs t)
+    go true true = refl
+    go true false = refl
+    go false b = refl
+
+-- without a token in all there is none in a part
+part_none : (p : Insert → Bool) (xs : List Insert) (t : Token) → has_token xs t ≡ false → has_token (filter p xs) t ≡ false
+part_none p [] t h = refl
+part_none p (x ∷ xs) t h = go (p x) (same_token t x.token) refl h (part_none p xs t)
+  where
+    go : (b s : Bool) → same_token t x.token ≡ s → (s || has_token xs t) ≡ false → (has_token xs t ≡ false → has_token (filter p xs) t ≡ false) → has_token (cond b (x ∷ filter p xs) (filter p xs)) t ≡ false
+    go b true e k r = absurd (true≢false k)
+    go true false e k r = ap (λ s. s || has_token (filter p xs) t) e ∙ r k
+    go false false e k r = r k
+
+none_from_apart : (xs : List Insert) (t : Token) → AllByRecursion (λ u. same_token t u ≡ false) (map (λ (x : Insert). x.token) xs) → has_token xs t ≡ false
+none_from_apart [] t h = refl
+none_from_apart (x ∷ xs) t h = λ i. h.0 i || none_from_apart xs t h.1 i
+
+-- no other has the token of the first
+rest_none : (x : Insert) (xs : List Insert) (t : Token) → IsOnce (x ∷ xs) → same_token t x.token ≡ true → has_token xs t ≡ false
+rest_none x xs t once e =
+    subst (λ (u : Token). has_token xs u ≡ false) (sym (same_token-true t x.token e)) (none_from_apart xs x.token (IsDistinct-head same_token x.token (map (λ (y : Insert). y.token) xs) once))
+
+-- the tokens of those left are those that are in none of those gone
+pub tokens_left : (p : Insert → Bool) (xs : List Insert) (t : Token) → IsOnce xs → (has_token xs t && not (has_token (filter p xs) t)) ≡ has_token (filter (λ x. not (p x)) xs) t
+tokens_left p [] t once = refl
+tokens_left p (x ∷ xs) t once = go (p x) (same_token t x.token) refl (tokens_left p xs t (IsDistinct-tail same_token x.token (map (λ (y : Insert). y.token) xs) once))
+  where
+    all : Bool
+    all = has_token xs t
+
+    gone : Bool
+    gone = has_token (filter p xs) t
+
+    left : Bool
+    left = has_token (filter (λ x. not (p x)) xs) t
+
+    go : (b s : Bool) → same_token t x.token ≡ s → (all && not gone) ≡ left
+        → ((same_token t x.token || all) && not (has_token (cond b (x ∷ filter p xs) (filter p xs)) t)) ≡ has_token (cond (not b) (x ∷ filter (λ x. not (p x)) xs) (filter (λ x. not (p x)) xs)) t
+    go true true e r = ap (λ s. (s || all) && not (s || gone)) e ∙ sym (part_none (λ x. not (p x)) xs t (rest_none x xs t once e))
+    go true false e r = ap (λ s. (s || all) && not (s || gone)) e ∙ r
+    go false true e r = ap (λ s. (s || all) && not gone) e ∙ ap (λ g. not g) (part_none p xs t (rest_none x xs t once e)) ∙ sym (ap (λ s. s || left) e)
+    go false false e r = ap (λ s. (s || all) && not gone) e ∙ r ∙ sym (ap (λ s. s || left) e)
+
+-- one more of those gone
+pub tokens_gone : (old now gone rest : Bool) (s : Bool) → now ≡ cond s false old → ((now && not rest) ≡ gone) → gone ≡ gone → ((old && not (s || rest)) ≡ gone)
+tokens_gone old now gone rest true e r k = go old ∙ sym (ap (λ n. n && not rest) e) ∙ r
+  where
+    go : (b : Bool) → (b && false) ≡ (false && not rest)
+    go true = refl
+    go false = refl
+tokens_gone old now gone rest false e r k = sym (ap (λ n. n && not rest) e) ∙ r
+
+-- ---- no token twice
+
+part_apart : (p : Insert → Bool) (xs : List Insert) (t : Token) → AllByRecursion (λ u. same_token t u ≡ false) (map (λ (x : Insert). x.token) xs) → AllByRecursion (λ u. same_token t u ≡ false) (map (λ (x : Insert). x.token) (filter p xs))
+part_apart p [] t h = h
+part_apart p (x ∷ xs) t h = go (p x) (part_apart p xs t h.1)
+  where
+    go : (b : Bool) → AllByRecursion (λ u. same_token t u ≡ false) (map (λ (x : Insert). x.token) (filter p xs)) → AllByRecursion (λ u. same_token t u ≡ false) (map (λ (x : Insert). x.token) (cond b (x ∷ filter p xs) (filter p xs)))
+    go true r = (h.0, r)
+    go false r = r
+
+pub once_part : (p : Insert → Bool) (xs : List Insert) → IsOnce xs → IsOnce (filter p xs)
+once_part p [] once = once
+once_part p (x ∷ xs) once = go (p x) (once_part p xs (IsDistinct-tail same_token x.token (map (λ (y : Insert). y.token) xs) once))
+  where
+    go : (b : Bool) → IsOnce (filter p xs) → IsOnce (cond b (x ∷ filter p xs) (filter p xs))
+    go true r = IsDistinct-cons same_token x.token (map (λ (y : Insert). y.token) (filter p xs)) (part_apart p xs x.token (IsDistinct-head same_token x.token (map (λ (y : Insert). y.token) xs) once)) r
+    go false r = r
+
+-- the parts of a test
+neither : (a b : Bool) → (a || b) ≡ false → (a ≡ false) × (b ≡ false)
+neither true b h = absurd (true≢false h)
+neither false b h = (refl, h)
+
+apart_push : (xs : List Insert) (x : Insert) (t : Token) → AllByRecursion (λ u. same_token t u ≡ false) (map (λ (y : Insert). y.token) xs) → same_token t x.token ≡ false
+    → AllByRecursion (λ u. same_token t u ≡ false) (map (λ (y : Insert). y.token) (xs ++ x ∷ []))
+apart_push [] x t h e = (e, tt)
+apart_push (y ∷ xs) x t h e = (h.0, apart_push xs x t h.1 e)
+
+pub once_push : (xs : List Insert) (x : Insert) → IsOnce xs → has_token xs x.token ≡ false → IsOnce (xs ++ x ∷ [])
+once_push [] x once new = IsDistinct-cons same_token x.token [] tt once
+once_push (y ∷ xs) x once new =
+    let parts = neither (same_token x.token y.token) (has_token xs x.token) new in
+    let ys = map (λ (y : Insert). y.token) xs in
+    IsDistinct-cons same_token y.token (map (λ (y : Insert). y.token) (xs ++ x ∷ [])) (apart_push xs x y.token (IsDistinct-head same_token y.token ys once) (same_token-flip y.token x.token ∙ parts.0))
+    (once_push xs x (IsDistinct-tail same_token y.token ys once) parts.1)
+
+last_apart : (xs : List Insert) (x : Insert) (t : Token) → AllByRecursion (λ u. same_token t u ≡ false) (map (λ (y : Insert). y.token) (xs ++ x ∷ [])) → same_token t x.token ≡ false
+last_apart [] x t h = h.0
+last_apart (y ∷ xs) x t h = last_apart xs x t h.1
+
+-- the last one's token is none of the others'
+pub once_last : (xs : List Insert) (x : Insert) → IsOnce (xs ++ x ∷ []) → has_token xs x.token ≡ false
+once_last [] x once = refl
+once_last (y ∷ xs) x once =
+    let ys = map (λ (y : Insert). y.token) (xs ++ x ∷ []) in
+    let first : same_token x.token y.token ≡ false = same_token-flip x.token y.token ∙ last_apart xs x y.token (IsDistinct-head same_token y.token ys once) in
+    λ i. first i || once_last xs x (IsDistinct-tail same_token y.token ys once) i

@@ -1,4 +1,5 @@
 pub mod Waiting
+pub mod Numbered
 pub mod Queue
 pub mod Ahead
 pub mod Rows

@@ -5,7 +5,9 @@ ghost use Rattle.batch_queue.specs.Rows.{LastRow, AnsweredRow, LeftRow};
 
 mod ahead;
 mod answered;
+mod group;
 mod queue;
+mod settled;
 #[cfg(test)]
 mod tests;
 

@@ -1,15 +1,18 @@
-ghost use Rattle.std.specs.Prelude.{◌≤◌};
-ghost use Rattle.indexmap.specs.IndexMap.{IsUnique, index_map_len};
-ghost use Rattle.registry_state.specs.Same.{same_token};
+ghost use Rattle.std.specs.Prelude.{◌≡◌, ◌≤◌, ◌++◌, length, filter, not, option_to_list};
+ghost use Rattle.std.specs.Map.{values_of};
+ghost use Rattle.std.specs.List.{IsDistinct-prop};
 ghost use Rattle.std.proofs.Props.{props};
+ghost use Rattle.event_id.specs.EventId.{is_same as same_id};
+ghost use Rattle.registry_state.specs.Same.{same_token};
+ghost use Rattle.batch_queue.specs.Waiting.{IsOnce, room_beside};
 
 use crate::Answered;
-use crate::ahead::{answer_ahead, ids_of};
+use crate::ahead::{answered_in, ids_of, push_answered};
+use crate::settled::Settled;
 use event_id::EventId;
-use indexmap::IndexMap;
-use registry_state::{Batch, Insert, Inserts, Replays, Token};
+use registry_state::{Batch, Insert, Inserts, Replays};
 use std::alloc::{AllocError, Global};
-use std::collections::HashSet;
+use std::collections::{BTreeMap, HashSet};
 
 // How many inserts may wait.
 const WAITING: usize = 4096;
@@ -25,20 +28,23 @@ pub enum Put {
 }
 
 /// The inserts that wait, in the order in which they came. No two have one token, and at most 4,096 wait.
+///
+/// The newest stands apart until room is made for the next one, so that taking an insert in needs no memory.
 #[derive(Debug, Drop)]
 pub struct BatchQueue {
-    ids: IndexMap<Token, EventId>,
+    settled: Settled,
+    newest: Option<Insert>,
     alloc: Global,
-    ghost unique: { IsUnique same_token ids } by { Prim.hlevel props },
-    ghost few: { index_map_len ids ≤ 4096 } by { Prim.hlevel props },
+    ghost once: { IsOnce (values_of settled.in_order.entries ++ option_to_list newest) } by { IsDistinct-prop same_token _ },
+    ghost few: { length (values_of settled.in_order.entries ++ option_to_list newest) ≤ 4096 } by { Prim.hlevel props },
 }
 
 impl BatchQueue {
-    ghost use Rattle.std.specs.Prelude.{◌≡◌, ◌++◌, ◌∷◌, [], ◌+◌, ◌<◌, min, take, length, IfOk, IfErr, OnOk, OnErr, IsErr, ◌==◌};
+    ghost use Rattle.std.specs.Prelude.{◌∷◌, [], ◌+◌, ◌<◌, min, take, IfOk, IfErr, OnOk, OnErr, IsErr, ◌==◌};
     ghost use Rattle.registry_state.specs.Registry.{batch_of};
-    ghost use Rattle.registry_state.specs.LookBack.{replay};
+    ghost use Rattle.registry_state.specs.LookBack.{bound_of};
     ghost use Rattle.batch_queue.specs.declared.queue.Put.TheVariants.{Full};
-    ghost use Rattle.batch_queue.specs.Waiting.{IsOnce, with_last, HasNoPlace, answered, unanswered};
+    ghost use Rattle.batch_queue.specs.Waiting.{with_last, HasNoPlace, replays, answered, unanswered, IsUnanswered};
     ghost use Rattle.batch_queue.specs.Queue.{waiting, room};
     ghost use Rattle.batch_queue.specs.Ahead.{HasIds};
 
@@ -47,7 +53,8 @@ impl BatchQueue {
         ensures { waiting result ≡ [] }
     {
         BatchQueue {
-            ids: IndexMap::new(alloc),
+            settled: Settled::new(alloc),
+            newest: None,
             alloc,
         }
     }
@@ -58,23 +65,32 @@ impl BatchQueue {
         ensures most { result ≤ 4096 }
         ensures once { IsOnce (waiting self.now) }
     {
-        self.ids.len()
+        match self.newest {
+            Some(_) => self.settled.len() + 1,
+            None => self.settled.len(),
+        }
     }
 
     /// Whether nothing waits.
     pub fn is_empty(&self) -> bool
         ensures { result ≡ (length (waiting self.now) == 0) }
     {
-        self.ids.len() == 0
+        self.len() == 0
     }
 
-    /// Makes room for one insert more. It allocates where there is none, and then for twice as many.
+    /// Makes room for one insert more. It takes logarithmic expected time, and allocates for the newest insert's place in
+    /// the order. It is refused for want of memory alone, or when 2^64 - 1 inserts have come.
     pub fn make_room(&mut self) -> Result<(), AllocError>
         ensures room { OnOk result (0 < room self.new) }
         ensures kept { room self.old ≤ room self.new }
         ensures same { waiting self.new ≡ waiting self.old }
     {
-        self.ids.reserve(1)
+        let Some(newest) = self.newest else {
+            return Ok(());
+        };
+        self.settled.push(newest)?;
+        self.newest = None;
+        Ok(())
     }
 
     /// Takes an insert in, last, unless its token waits already. It takes no memory, and constant expected time.
@@ -86,13 +102,13 @@ impl BatchQueue {
         ensures err { OnErr result (waiting self.new ≡ waiting self.old) }
         ensures room { room self.old ≤ room self.new + 1 }
     {
-        if self.ids.contains_key(&insert.token) {
+        if self.settled.has(insert.token) {
             return Ok(());
         }
-        if self.ids.len() == WAITING {
+        if self.settled.len() == WAITING {
             return Err(Put::Full(insert));
         }
-        let _ = self.ids.insert(insert.token, insert.id);
+        self.newest = Some(insert);
         Ok(())
     }
 
@@ -110,56 +126,88 @@ impl BatchQueue {
     fn front(&self, count: usize) -> Result<Inserts, AllocError>
         ensures { IfOk result (λ inserts. inserts ≡ take count (waiting self.now)) }
     {
-        let mut inserts = Inserts::with_capacity(self.alloc, count.min(self.ids.len()))?;
-        for (token, id) in self.ids.iter().take(count) {
-            inserts.push(Insert {
-                id: *id,
-                token: *token,
-            })?;
+        let mut inserts = self.settled.front(count)?;
+        let Some(newest) = self.newest else {
+            return Ok(inserts);
+        };
+        if count <= self.settled.len() {
+            return Ok(inserts);
         }
+        inserts.push(newest)?;
         Ok(inserts)
     }
 
-    /// The inserts that the registry would answer had the batch been applied, with the answers.
+    /// The inserts that the registry would answer had the batch been applied, with the answers, where it answers none of
+    /// those that wait as it is. `bound` is the registry's, in microseconds.
     ///
-    /// Constant expected time for each insert that waits and each of the batch. One that is answered takes a look ahead as
-    /// well, which is linear in the batch.
-    pub fn answered<R: Replays>(&self, registry: &R, batch: &Batch) -> Result<Answered, AllocError>
-        ensures { (applied : _) → R.knows registry.now applied → IfOk result (λ all. all ≡ answered (λ x. replay (applied ++ batch.now ∷ []) x.id x.token) (waiting self.now)) }
+    /// Logarithmic expected time for each insert of the batch and each that is answered, and for each of the latter a
+    /// look ahead as well, which is linear in the batch. Where the batch raises the bound, which happens once for each
+    /// bound that the batches come with, it looks at each insert that waits, in constant expected time.
+    pub fn answered<R: Replays>(
+        &self,
+        registry: &R,
+        bound: u64,
+        batch: &Batch,
+    ) -> Result<Answered, AllocError>
+        ensures { (applied : _) → R.knows registry.now applied → bound ≡ bound_of applied → IsUnanswered applied (waiting self.now)
+            → IfOk result (λ all. all ≡ answered (replays (applied ++ batch.now ∷ [])) (waiting self.now)) }
     {
         let ids = ids_of(self.alloc, batch)?;
-        self.answered_of(registry, batch, &ids)
+        if batch.bound > bound {
+            return self.answered_among(registry, batch, &ids, &self.settled.in_order);
+        }
+        let picked = self.settled.of_ids(&ids)?;
+        self.answered_among(registry, batch, &ids, &picked)
     }
 
-    // The same, where these are the batch's ids.
-    fn answered_of<R: Replays>(
+    // The same among these and the newest, where these are the batch's ids.
+    fn answered_among<R: Replays>(
         &self,
         registry: &R,
         batch: &Batch,
         ids: &HashSet<EventId>,
+        among: &BTreeMap<u64, Insert>,
     ) -> Result<Answered, AllocError>
         requires { HasIds ids.now batch.now }
-        ensures { (applied : _) → R.knows registry.now applied → IfOk result (λ all. all ≡ answered (λ x. replay (applied ++ batch.now ∷ []) x.id x.token) (waiting self.now)) }
+        ensures { (applied : _) → R.knows registry.now applied
+            → IfOk result (λ all. all ≡ answered (replays (applied ++ batch.now ∷ [])) (values_of among.now.entries ++ option_to_list self.now.newest)) }
     {
-        let mut all = Vec::new(self.alloc);
-        for (token, id) in self.ids.iter() {
-            if let Some(answer) = answer_ahead(registry, batch, ids, *id, *token) {
-                let insert = Insert {
-                    id: *id,
-                    token: *token,
-                };
-                all.push((insert, answer))?;
-            }
-        }
+        let mut all = answered_in(self.alloc, registry, batch, ids, among)?;
+        let Some(newest) = self.newest else {
+            return Ok(Answered::from(all));
+        };
+        push_answered(&mut all, registry, batch, ids, newest)?;
         Ok(Answered::from(all))
     }
 
-    /// Takes those out that the registry answers. The others keep their order. It takes no memory, and linear time.
-    pub fn drop_answered<R: Replays>(&mut self, registry: &R)
-        ensures left { (applied : _) → R.knows registry.now applied → waiting self.new ≡ unanswered (λ x. replay applied x.id x.token) (waiting self.old) }
+    /// Takes those out that have an answer, told which these are. The others keep their order. It takes no memory, and
+    /// logarithmic expected time for each that is told.
+    pub fn drop_answered(&mut self, all: &Answered)
+        ensures left { (vs : _) → all.now ≡ answered (replays vs) (waiting self.old) → waiting self.new ≡ unanswered (replays vs) (waiting self.old) }
         ensures room { room self.old ≤ room self.new }
     {
-        self.ids
-            .retain(|token, id| registry.replay(*id, *token).is_none());
+        for (insert, _) in all.as_slice() {
+            self.drop_id(insert.id);
+        }
+    }
+
+    // Takes those of the id out.
+    fn drop_id(&mut self, id: EventId)
+        ensures left { waiting self.new ≡ filter (λ x. not (same_id id x.id)) (waiting self.old) }
+        ensures room { room self.old ≤ room self.new }
+    {
+        self.settled.drop_id(id);
+        self.newest = other_than(id, self.newest);
+    }
+}
+
+// The insert, unless it is of the id.
+fn other_than(id: EventId, insert: Option<Insert>) -> Option<Insert>
+    ensures left { option_to_list result ≡ filter (λ x. not (same_id id x.id)) (option_to_list insert) }
+    ensures room { room_beside insert ≤ room_beside result }
+{
+    match insert {
+        Some(insert) if insert.id != id => Some(insert),
+        _ => None,
     }
 }

@@ -1,6 +1,6 @@
 use super::*;
 use event_id::EventId;
-use registry_state::{Answer, Insert, Registry, Token};
+use registry_state::{Answer, Batch, Insert, Inserts, Registry, Token};
 use std::alloc::AllocError;
 use std::test::Fail;
 
@@ -54,7 +54,7 @@ fn three_wait(rt: HostRuntime) -> Result<(), Fail> {
 
     let first = queue.front_batch(3, 1)?;
     let mut registry = Registry::new(rt.alloc());
-    let answered = queue.answered(&registry, &first)?;
+    let answered = queue.answered(&registry, registry.bound(), &first)?;
     let wanted = [
         (all[0], Answer::Granted),
         (all[1], Answer::Duplicate(all[0].token)),
@@ -62,8 +62,64 @@ fn three_wait(rt: HostRuntime) -> Result<(), Fail> {
     assert_eq!(rt; answered.as_slice(), wanted.as_slice());
 
     registry.apply(&first)?;
-    queue.drop_answered(&registry);
+    queue.drop_answered(&answered);
     let left = queue.front_batch(0, 64)?;
     assert_eq!(rt; left.inserts.as_slice(), [all[2]].as_slice());
+    Ok(())
+}
+
+// The answers come in the order of waiting, whichever the batch's; what isn't answered goes on waiting in its order.
+#[test]
+fn answers_in_the_order_of_waiting(rt: HostRuntime) -> Result<(), Fail> {
+    let mut queue = BatchQueue::new(rt.alloc());
+    let all = [
+        insert(6, 0),
+        insert(5, 1),
+        insert(7, 2),
+        insert(6, 3),
+        insert(5, 4),
+    ];
+    for next in all {
+        assert_eq!(rt; put(&mut queue, next)?, Ok(()));
+    }
+    let mut inserts = Inserts::new(rt.alloc());
+    inserts.push(all[4])?;
+    inserts.push(all[3])?;
+    let batch = Batch { bound: 0, inserts };
+    let registry = Registry::new(rt.alloc());
+    let answered = queue.answered(&registry, registry.bound(), &batch)?;
+    let wanted = [
+        (all[0], Answer::Duplicate(all[3].token)),
+        (all[1], Answer::Duplicate(all[4].token)),
+        (all[3], Answer::Granted),
+        (all[4], Answer::Granted),
+    ];
+    assert_eq!(rt; answered.as_slice(), wanted.as_slice());
+    queue.drop_answered(&answered);
+    let left = queue.front_batch(0, 64)?;
+    assert_eq!(rt; left.inserts.as_slice(), [all[2]].as_slice());
+    assert_eq!(rt; put(&mut queue, all[1])?, Ok(()));
+    assert_eq!(rt; queue.len(), 2);
+    Ok(())
+}
+
+// Where the batch raises the bound each insert below it is too old.
+#[test]
+fn a_raised_bound_answers_those_below(rt: HostRuntime) -> Result<(), Fail> {
+    let mut queue = BatchQueue::new(rt.alloc());
+    let all = [insert(6, 0), insert(5, 1), insert(7, 2)];
+    for next in all {
+        assert_eq!(rt; put(&mut queue, next)?, Ok(()));
+    }
+    let batch = Batch {
+        bound: 7,
+        inserts: Inserts::new(rt.alloc()),
+    };
+    let registry = Registry::new(rt.alloc());
+    let answered = queue.answered(&registry, registry.bound(), &batch)?;
+    let wanted = [(all[0], Answer::TooOld(7)), (all[1], Answer::TooOld(7))];
+    assert_eq!(rt; answered.as_slice(), wanted.as_slice());
+    queue.drop_answered(&answered);
+    assert_eq!(rt; queue.len(), 1);
     Ok(())
 }

@@ -3,6 +3,7 @@ pub mod Sending
 pub mod Queueing
 pub mod Going
 pub mod Rowing
+pub mod Unanswered
 pub mod Keeping
 pub mod Testing
 pub mod Answering

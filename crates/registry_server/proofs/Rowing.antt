@@ -77,13 +77,13 @@ module _ (g : Setting) (site : ℕ) (k : ServerKept) (l : ServerLive) (n : ℕ) 
       go false h = h
 
   -- a value that is learned
-  pub learned_gives : (h : Shard) (v : Batch) (r : ℕ) (items : List (Node × Packet)) (packets : List (To × Packet)) → IsAt g h n r l → IsStep turn n r items (Learn v)
+  pub learned_gives : (h : Shard) (v : Batch) (r : ℕ) (items : List (Node × Packet)) (packets : List (To × Packet)) (told : List (Insert × Answer)) → IsAt g h n r l → IsStep turn n r items (Learn v told)
       → sent items ≡ packets ++ each_reply g site (answered (λ x. replay ((l.shards n).learned ++ v ∷ []) x.id x.token) (waiting h.queue))
       → Gives g site l turn (learns_behind g site k l n v packets)
-  learned_gives h v r items packets at is es =
+  learned_gives h v r items packets told at is es =
       let q : waiting h.queue ≡ (l.shards n).queue = sym (queue_is h (l.shards n) at.stands) in
       let vs : List Batch = (l.shards n).learned ++ v ∷ [] in
-      one_gives g site l turn n r l.round items (Learn v) _ _ is
+      one_gives g site l turn n r l.round items (Learn v told) _ _ is
       (es ∙ ap (λ (ps : List (To × Packet)). packets ++ ps) (replies_each g site vs (waiting h.queue) ∙ ap (λ (xs : List Insert). replies g site vs xs) q))
       (sym at.round) refl
 

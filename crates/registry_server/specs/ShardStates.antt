@@ -3,9 +3,11 @@ use Rattle.std.specs.Prelude.{◌≡◌, ℕ, ◌<◌, ◌≤◌, ◌-◌, ◌^�
 use Rattle.ballot_core.specs.declared.Ballot.{Ballot}
 use Rattle.registry_state.specs.declared.Insert.{Insert}
 use Rattle.registry_state.specs.declared.Batch.{Batch}
+use Rattle.registry_state.specs.declared.Answer.{Answer}
 use Rattle.registry_state.specs.LookBack.{bound_of}
 use Rattle.id_expiry.specs.Timed.{Knows, room}
 use Rattle.batch_queue.specs.Queue.{waiting, room as places}
+use Rattle.batch_queue.specs.Waiting.{answered, replays, IsUnanswered}
 use Rattle.paxos_defs.specs.Attempts.{Phase, on_promise, on_accepted}
 use Rattle.paxos_defs.specs.Attempts.Phase.{Promising, Accepting, Ended}
 use Rattle.paxos_proposer.specs.declared.proposer.Proposer.{Proposer}
@@ -36,11 +38,13 @@ abbrev pub Goes : Option Proposal → ℕ → Type 0
 Goes None next = ⊤
 Goes (Some p) next = (is_below_limit next ≡ true) × (is_going p.phase ≡ true)
 
--- The shard learned these values: the registry knows them, and the next slot is their number.
+-- The shard learned these values: the registry knows them, the next slot is their number, and they answer none of the
+-- inserts that wait.
 pub record HasLearned (h : Shard) (learned : List Batch) : Type 0 where
   pub known : Knows h.registry learned
   pub next : h.next ≡ length learned
   pub goes : Goes (option_map proposal_of h.proposal) (length learned)
+  pub waits : IsUnanswered learned (waiting h.queue)
 
 -- the shard stands for the state
 pub record IsShard (h : Shard) (st : ShardState) : Type 0 where
@@ -63,7 +67,7 @@ stepped g site (Queue x) st = record st { queue = put_last st.queue x }
 stepped g site (Propose p) st = record st { proposal = Some (proposal_of p) }
 stepped g site (Promise r prior) st = record st { proposal = option_map (counts_promise r prior) st.proposal }
 stepped g site (Accept r) st = record st { proposal = option_map (counts_accepted r) st.proposal }
-stepped g site (Learn v) st = learns g site st v
+stepped g site (Learn v told) st = learns g site st v
 stepped g site Hold st = record st { proposal = None; held = true }
 
 -- an acceptance of the replica isn't the one that ends the proposal
@@ -71,13 +75,21 @@ abbrev pub NotLast : ℕ → Option Proposal → Type 0
 NotLast r None = ⊤
 NotLast r (Some p) = is_some (on_accepted p.phase r).1 ≡ false
 
--- the shard has what the step needs: room, and a slot below the limit
+-- whatever the registry knows doesn't answer the insert
+abbrev pub IsUnknown : Shard → Insert → Type 0
+IsUnknown h x = (vs : List Batch) → Knows h.registry vs → replays vs x ≡ None
+
+-- these are what waits and what the value answers, where nothing else answers any
+abbrev pub TellsAnswered : Shard → Batch → List (Insert × Answer) → Type 0
+TellsAnswered h v told = (vs : List Batch) → Knows h.registry vs → IsUnanswered vs (waiting h.queue) → told ≡ answered (replays (vs ++ v ∷ [])) (waiting h.queue)
+
+-- the shard has what the step needs: room, a slot below the limit, and the right answers
 abbrev pub FitsStep : Step → Shard → Type 0
-FitsStep (Queue x) h = 0 < places h.queue
+FitsStep (Queue x) h = (0 < places h.queue) × IsUnknown h x
 FitsStep (Propose p) h = (is_below_limit h.next ≡ true) × (is_going (phase_of p) ≡ true)
 FitsStep (Promise r prior) h = ⊤
 FitsStep (Accept r) h = NotLast r (option_map proposal_of h.proposal)
-FitsStep (Learn v) h = (length v.inserts ≤ room h.registry) × (h.next < 2 ^ 48 - 1)
+FitsStep (Learn v told) h = (length v.inserts ≤ room h.registry) × (h.next < 2 ^ 48 - 1) × TellsAnswered h v told
 FitsStep Hold h = ⊤
 
 -- what a test of a shard says

@@ -212,9 +212,10 @@ impl Shard {
         ensures same { StaysShard self.old self.new }
     {
         self.registry.make_room(&value)?;
-        let answered = self.queue.answered(&self.registry, &value)?;
+        let bound = self.registry.bound();
+        let answered = self.queue.answered(&self.registry, bound, &value)?;
         push_replies(station, &mut packets, answered.as_slice())?;
-        Ok(Turn::one(number, round, packets, Step::Learn(value)))
+        Ok(Turn::one(number, round, packets, Step::Learn(value, answered)))
     }
 
     // A packet that is about this shard.

@@ -70,9 +70,10 @@ impl ServerCore {
     /// The turn on an input. It makes room for what keeping the turn does, and changes nothing else, nor anything where
     /// it is refused.
     ///
-    /// An insert takes constant expected time, the server's own work time linear in a batch. A value that is learned takes
-    /// expected time linear in the inserts that wait, at most 4,096, and in the batch, once more for each of them that is
-    /// answered. A tick takes time linear in the shards, at most 16. A start allocates the empty shards.
+    /// An insert takes expected time logarithmic in the inserts that wait, the server's own work time linear in a batch. A
+    /// value that is learned takes logarithmic expected time for each insert of it, and for each that waits and is answered
+    /// time linear in the batch as well. Where it raises the bound, which is rare, it looks at each insert that waits, at
+    /// most 4,096. A tick takes time linear in the shards, at most 16. A start allocates the empty shards.
     pub fn decide(&mut self, input: &ServerInput) -> Result<Turn, AllocError>
         requires { MayStart input.now }
         ensures start { IfOk result (λ turn. (g : Setting) (k : ServerKept) (l : ServerLive) → CarriesStart input.now k
@@ -93,8 +94,9 @@ impl ServerCore {
         }
     }
 
-    /// Keeps a turn that was decided on the server as it is. It takes no memory. The costs are those of `decide`, with
-    /// logarithmic time for each insert of a learned value and each id that expires.
+    /// Keeps a turn that was decided on the server as it is. It takes no memory. A value that is learned takes logarithmic
+    /// expected time for each insert of it, each that waits and is answered, and each id that expires, a tick time linear in
+    /// the shards, and all else constant expected time.
     pub fn keep(&mut self, turn: Turn)
         requires { Decided self.old turn }
         ensures kept { (g : Setting) (k : ServerKept) (l : ServerLive) → Stands self.old g k l

@@ -5,11 +5,11 @@ ghost use Rattle.batch_queue.specs.Queue.{room as places};
 ghost use Rattle.turn_defs.specs.Setting.{Setting};
 ghost use Rattle.registry_server.specs.Server.{ShardState, empty_shard};
 ghost use Rattle.registry_server.specs.Stations.{setting};
-ghost use Rattle.registry_server.specs.ShardStates.{IsShard, FitsStep, stepped, passes, put_last};
+ghost use Rattle.registry_server.specs.ShardStates.{IsShard, FitsStep, IsUnknown, TellsAnswered, stepped, passes, put_last};
 
 use crate::station::Station;
 use ballot_core::Ballot;
-use batch_queue::BatchQueue;
+use batch_queue::{Answered, BatchQueue};
 use id_expiry::TimedRegistry;
 use paxos_proposer::Proposer;
 use registry_state::{Batch, Insert};
@@ -29,8 +29,8 @@ pub(crate) enum Step {
     Promise(u8, Option<(Ballot, Batch)>),
     /// This replica has accepted the proposal's value, and more are needed.
     Accept(u8),
-    /// The value is chosen at the next slot.
-    Learn(Batch),
+    /// The value is chosen at the next slot, and answers these of the inserts that wait.
+    Learn(Batch, Answered),
     /// The proposal was refused.
     Hold,
 }
@@ -109,8 +109,8 @@ impl Shard {
         self.registry.bound() < station.horizon
     }
 
-    /// Makes the step that a turn decided on. It takes no memory. A learned value takes logarithmic time an insert of it
-    /// and an id that expires, and linear time in the inserts that wait; the others constant expected time.
+    /// Makes the step that a turn decided on. It takes no memory. A learned value takes logarithmic expected time for each
+    /// insert of it, each that waits and is answered, and each id that expires; the others take constant expected time.
     pub(crate) fn keep(&mut self, step: Step)
         requires { FitsStep step self.old }
         ensures { (g : Setting) (site : _) (st : ShardState) → IsShard self.old st → IsShard self.new (stepped g site step st) }
@@ -120,7 +120,7 @@ impl Shard {
             Step::Propose(proposer) => self.proposal = Some(proposer),
             Step::Promise(from, prior) => self.keep_promise(from, prior),
             Step::Accept(from) => self.keep_accepted(from),
-            Step::Learn(batch) => self.learn(&batch),
+            Step::Learn(batch, answered) => self.learn(&batch, &answered),
             Step::Hold => {
                 self.proposal = None;
                 self.held = true;
@@ -129,7 +129,8 @@ impl Shard {
     }
 
     fn put_last(&mut self, insert: Insert)
-        requires { 0 < places self.old.queue }
+        requires room { 0 < places self.old.queue }
+        requires unknown { IsUnknown self.old insert }
         ensures { (g : Setting) (site : _) (st : ShardState) → IsShard self.old st → IsShard self.new (stepped g site (Step.Queue insert) st) }
     {
         let waiting = self.queue.len();
@@ -157,14 +158,15 @@ impl Shard {
     }
 
     // The value is applied, its proposal and the holding back end, and inserts that have an answer now wait no more.
-    fn learn(&mut self, batch: &Batch)
+    fn learn(&mut self, batch: &Batch, answered: &Answered)
         requires room { length batch.now.inserts ≤ room self.old.registry }
         requires low { self.old.next < 2 ^ 48 - 1 }
-        ensures { (g : Setting) (site : _) (st : ShardState) → IsShard self.old st → IsShard self.new (stepped g site (Step.Learn batch.now) st) }
+        requires told { TellsAnswered self.old batch.now answered.now }
+        ensures { (g : Setting) (site : _) (st : ShardState) → IsShard self.old st → IsShard self.new (stepped g site (Step.Learn batch.now answered.now) st) }
     {
         self.registry.learn(batch);
         self.next += 1;
-        self.queue.drop_answered(&self.registry);
+        self.queue.drop_answered(answered);
         self.proposal = None;
         self.held = false;
     }

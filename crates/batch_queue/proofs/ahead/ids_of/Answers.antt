@@ -1,10 +1,10 @@
-use Rattle.std.proofs.Common.{◌≡◌, ◌||◌, ◌∷◌, List, drop, is_some, true, false, cond, sym, ap, ◌∙◌, arith, rules}
-use Rattle.std.proofs.lemmas.List.{drop_more, drop_all}
+use Rattle.std.proofs.Common.{◌||◌, List, is_some, sym, ap, ◌∙◌, arith}
+use Rattle.std.proofs.lemmas.List.{drop_more}
 use Rattle.std.specs.HashSet.{contains}
 use Rattle.event_id.specs.EventId.{is_same as same_id}
 use Rattle.registry_state.specs.declared.Insert.{Insert}
 use Rattle.registry_state.specs.LookBack.{first_in}
-use Rattle.batch_queue.proofs.Claims.{one_more, none_behind}
+use Rattle.batch_queue.proofs.Claims.{one_more}
 use Rattle.batch_queue.proofs.ahead.ids_of.Goals as goal
 
 pub loop-insert-preserved : goal.loop-insert-preserved

@@ -1,12 +1,13 @@
-use Rattle.std.proofs.Common.{rules, not, is_some, ap, map, ◌∙◌}
-use Rattle.indexmap.proofs.CallerLemmas.{filter-RetainsPairs}
-use Rattle.registry_state.specs.LookBack.{replay}
-use Rattle.batch_queue.specs.Queue.{insert_of}
-use Rattle.batch_queue.proofs.Waiting.{filter-made}
+use Rattle.std.proofs.Common.{List, sym, ap, ◌∙◌}
+use Rattle.std.proofs.lemmas.List.{drop_all}
+use Rattle.registry_state.specs.declared.Insert.{Insert}
+use Rattle.registry_state.specs.declared.Answer.{Answer}
+use Rattle.batch_queue.specs.Queue.{waiting}
+use Rattle.batch_queue.proofs.Answering.{dropped, dropped_answered}
 use Rattle.batch_queue.proofs.queue.BatchQueue.drop_answered.Goals as goal
 
 pub returns-clause-left : goal.returns-clause-left
-returns-clause-left g c = λ applied known.
-    let old = c.args.self.now in
-    ap (map insert_of) (filter-RetainsPairs _ (λ e. not (is_some (replay applied e.1 e.0))) _ (λ token id b w f' t. search rules) old.ids.entries _ c.retain.ensures.filtered)
-    ∙ filter-made (λ x. not (is_some (replay applied x.id x.token))) old.ids.entries
+returns-clause-left c = λ vs e.
+    let now = c.loop-insert.self in
+    sym (ap (λ (left : List (Insert × Answer)). dropped left (waiting now)) (drop_all c.loop-insert.insert-index c.as_slice-insert-items.result.now c.loop-insert-test.false))
+    ∙ c.loop-insert.invariant.left ∙ dropped_answered vs c.args.all.now (waiting c.args.self.now) e

@@ -1,0 +1,8 @@
+use Rattle.std.proofs.Common.{◌≡◌, ◌++◌, take}
+use Rattle.std.specs.Map.{values_of}
+use Rattle.batch_queue.specs.Queue.{settled}
+use Rattle.batch_queue.proofs.settled.Settled.front.Given as goal
+
+-- those so far, and those that are left
+abbrev pub invariant-loop-insert : goal.invariant-loop-insert
+invariant-loop-insert l = l.inserts ++ take l.insert-iterator.n (values_of l.insert-iterator.iter) ≡ take l.count (settled l.self)

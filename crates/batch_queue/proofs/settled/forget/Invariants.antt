@@ -1,0 +1,16 @@
+use Rattle.std.proofs.Common.{◌≡◌, ◌&&◌, drop, not}
+use Rattle.std.specs.Map.{values_of}
+use Rattle.std.specs.HashSet.{contains}
+use Rattle.registry_state.specs.declared.Token.{Token}
+use Rattle.registry_state.specs.Same.{same_token}
+use Rattle.batch_queue.specs.Waiting.{has_token}
+use Rattle.batch_queue.specs.Numbered.{without}
+use Rattle.batch_queue.proofs.settled.forget.Given as goal
+
+-- what is out, and what is left to take out
+abbrev pub invariant-loop-number : goal.invariant-loop-number
+invariant-loop-number l =
+    record {
+      order : without (drop l.number-index l.gone) l.in_order.entries ≡ without l.gone l.initial.in_order.entries;
+      tokens : (t : Token) → (contains same_token l.tokens t && not (has_token (values_of (drop l.number-index l.gone)) t)) ≡ (contains same_token l.initial.tokens t && not (has_token (values_of l.gone) t));
+    }
