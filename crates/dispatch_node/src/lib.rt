@@ -5,6 +5,8 @@ mod asking;
 mod clicks;
 mod journals;
 mod node;
+#[cfg(test)]
+mod node_tests;
 mod notes;
 
 pub use node::DispatchNode;
