@@ -1,5 +1,5 @@
 -- What leads a node of any kind on leads the node of the system on.
-use Rattle.std.proofs.Common.{◌≡◌, ◌⊎◌, inl, inr, ⊎_elim, ℕ, ◌≤◌, List, [], ◌∷◌, length, Option, Some, None, refl, sym, ap, ◌∙◌, subst}
+use Rattle.std.proofs.Common.{◌≡◌, inl, inr, ⊎_elim, ℕ, List, [], ◌∷◌, Option, Some, None, refl, sym, ap, ◌∙◌, subst}
 use Rattle.air_bus.specs.declared.entry.Entry.{Entry}
 use Rattle.air_bus.specs.declared.entry.Entry.TheVariants.{Begin, End, Stop}
 use Rattle.air_bus.specs.declared.entry.Input.{Input as Bytes}
@@ -9,7 +9,7 @@ use Rattle.packet_codec.specs.declared.node.Input.{Input}
 use Rattle.turn_defs.specs.Setting.{Setting}
 use Rattle.turn_defs.specs.Nodes.{Addressed}
 use Rattle.turn_defs.specs.Turns.{Note, Out, land}
-use Rattle.site_node.specs.Bytes.{IsNoted, Reads}
+use Rattle.site_node.specs.Bytes.{IsNoted}
 use Rattle.site_node.specs.States.{State, Leads, IsDone, IsIdle, Ends, row, row_of, written, closes, opens}
 use Rattle.site_node.specs.States as states
 use Rattle.dispatch_node.specs.Node.{DispatcherState, SiteLeads}
@@ -20,7 +20,7 @@ use Rattle.registry_server.specs.Node.{ServerState}
 use Rattle.joiner_node.specs.Node.{JoinerState, LeadsTo}
 use Rattle.joiner_core.specs.Joiner.{JoinerKept, JoinerLive}
 use Rattle.dispatch_core.specs.Dispatcher.{DispatcherKept, DispatcherLive}
-use Rattle.site_laws.specs.Kinds.{StateOf, rows_of, dispatcher_rows, server_rows, joiner_rows}
+use Rattle.site_laws.specs.Kinds.{StateOf, rows_of, server_rows}
 use Rattle.site_run.specs.Works.{Path}
 use Rattle.both_sites.specs.AnyNodes.{AnyState, AnyLeads, any_of, with_site}
 
@@ -52,8 +52,8 @@ module _ (s : ℕ) (t : State ServerKept ServerLive) where
       let o = row (server_rows s) t i in (
         closes t (written (server_rows s) t i) (Some o.live),
         d.state
-        ∙ ap (λ (k : SiteKept). closes there k (Some (row registrars.server_rows there i).live)) (same_written i)
-        ∙ ap (λ (x : Out ServerLive). closes there (record { site = s; disk = written (server_rows s) t i }) (Some x.live)) (same_row i),
+            ∙ ap (λ (k : SiteKept). closes there k (Some (row registrars.server_rows there i).live)) (same_written i)
+            ∙ ap (λ (x : Out ServerLive). closes there (record { site = s; disk = written (server_rows s) t i }) (Some x.live)) (same_row i),
         record {
           noted = subst (λ (x : Out ServerLive). IsNoted x.note note) (same_row i) d.noted;
           packets = d.packets;

@@ -11,7 +11,10 @@ use site_node::SiteNode;
 use site_run::Either;
 
 /// A node of any of the four kinds.
-pub type AnyNode<D, L> = Either<Either<DispatchNode<D, L>, ServerNode<D>>, Either<ReplicaNode<D>, JoinerNode<L, D>>>;
+pub type AnyNode<D, L> = Either<
+    Either<DispatchNode<D, L>, ServerNode<D>>,
+    Either<ReplicaNode<D>, JoinerNode<L, D>>,
+>;
 
 /// A kind of node that stands at states of nodes of the system.
 pub trait SystemNode: SiteNode {

@@ -19,8 +19,8 @@ use epoch_journal::EpochJournal;
 use gate_journal::Journal;
 use joiner_node::JoinerNode;
 use offset_journal::OffsetJournal;
-use outside::{Disk, LogFile};
 use output_log::OutputLog;
+use outside::{Disk, LogFile};
 use paxos_acceptor::ReplicaNote;
 use registry_server::ServerNode;
 use replica_node::ReplicaNode;
@@ -110,7 +110,7 @@ pub fn joiner<D: Disk, L: LogFile>(
     ensures up { IfOk result (λ n. ⟦<AnyNode<D, L> as SiteNode>⟧.waits n ≡ false) }
     ensures places { IsTrue D.tells → (g : Setting) → IsOf roster g → IsQueryLog (L.bytes log) g.queries
         → IfOk result (λ n. ⟦<AnyNode<D, L> as SystemNode>⟧.places n
-            (any_of (node.Joiner (⟦<AnyNode<D, L> as SiteNode>⟧.number n)) (down_with g (record { epoch = epochs.epoch; pairs = pairs.pairs.items })))) }
+        (any_of (node.Joiner (⟦<AnyNode<D, L> as SiteNode>⟧.number n)) (down_with g (record { epoch = epochs.epoch; pairs = pairs.pairs.items })))) }
     ensures back { IfErr result (λ e. (e.1 ≡ epochs) × (e.2 ≡ pairs) × (e.3 ≡ log)) }
 {
     match JoinerNode::new(alloc, site, joiner, roster, epochs, pairs, log) {
