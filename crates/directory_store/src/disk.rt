@@ -8,7 +8,6 @@ use std::alloc::{AllocError, Global};
 use std::fs::{File, Files, OpenOptions};
 use std::io;
 use std::io::ErrorKind;
-use std::os::fd::AsRawFd;
 use std::os::unix::fs::FileExt;
 
 /// Where the last byte of a file ends at most.
@@ -78,7 +77,7 @@ impl<'a, R> DirectoryDisk<'a, R> {
     }
 }
 
-/// Opens a file. All that it holds is on the disk then, and is read from there, also where an earlier sync had failed.
+/// Opens a file, and syncs it.
 pub(crate) fn open_settled<R: Files<File = File>>(
     rt: &R,
     path: &str,
@@ -90,10 +89,7 @@ pub(crate) fn open_settled<R: Files<File = File>>(
         .create(create)
         .open(rt, path)?;
     file.sync_all()?;
-    match libc::posix_fadvise(file.as_raw_fd(), 0, 0, libc::POSIX_FADV_DONTNEED) {
-        0 => Ok(file),
-        code => Err(io::Error::from_raw_os_error(code)),
-    }
+    Ok(file)
 }
 
 fn file_len(file: &File) -> io::Result<u64>
