@@ -1,9 +1,8 @@
 -- Why a journal isn't opened, as the fault of its disk.
-use Rattle.std.proofs.Common.{◌≡◌, ◌+◌, ◌-◌, ◌^◌, ◌≤◌, ℕ, List, Bool, IsTrue, refl, arith}
-use Rattle.std.specs.Prelude.{min}
+use Rattle.std.proofs.Common.{◌≡◌, ◌≤◌, ℕ, List, Bool, IsTrue, refl, arith}
 use Rattle.outside.specs.declared.store.DiskName.{DiskName}
 use Rattle.outside.specs.Disk.{Within}
-use Rattle.outside.specs.Faults.{Rose, Counts, added}
+use Rattle.outside.specs.Faults.{Rose, added}
 use Rattle.gate_journal.specs.declared.reading.JournalFault.{JournalFault}
 use Rattle.gate_journal.specs.declared.reading.JournalFault.TheVariants.{Damaged, Disk, Memory}
 use Rattle.site_disks.specs.Kinds.{damaged_by}

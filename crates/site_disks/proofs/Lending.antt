@@ -1,14 +1,14 @@
 -- Disks that are lent and given back, one by one.
-use Rattle.std.proofs.Common.{◌≡◌, ◌≢◌, ◌⊎◌, inl, inr, ℕ, ◌+◌, ◌<◌, List, [], ◌∷◌, ◌++◌, length, take, drop, get_or, refl, sym, ◌∙◌, ap, subst, append_assoc, arith, zero, suc, Result, Ok, Err}
+use Rattle.std.proofs.Common.{◌≡◌, ◌≢◌, inl, inr, ℕ, ◌+◌, ◌<◌, List, [], ◌∷◌, ◌++◌, length, take, get_or, refl, sym, ◌∙◌, ap, subst, append_assoc, arith, zero, suc, Result, Ok, Err}
 use Rattle.std.specs.Prelude.{map, IsErrAnd, IfErr}
 use Rattle.std.proofs.lemmas.List.{map-append, append-nil, take_more, length-append}
 use Rattle.list_words.specs.Lists.{Each, EachPair, Mem}
 use Rattle.outside.specs.declared.store.DiskName.{DiskName}
 use Rattle.outside.specs.Disk.{Within}
 use Rattle.gate_journal.specs.Growth.{Continues}
-use Rattle.gate_journal.proofs.Growth.{continues_same, continues_through}
+use Rattle.gate_journal.proofs.Growth.{continues_same}
 use Rattle.site_disks.specs.declared.opened.Opened.{Opened}
-use Rattle.site_disks.specs.Lent.{Lent, lend, lend_all, GoesOn, Lacks, AreNew, IsLent, IsCut, IsOfOne, MayBeLeft, Stage}
+use Rattle.site_disks.specs.Lent.{Lent, lend, lend_all, GoesOn, Lacks, AreNew, IsLent, IsCut, MayBeLeft, Stage}
 use Rattle.site_disks.specs.declared.fault.DisksFault.{DisksFault}
 use Rattle.site_disks.specs.declared.fault.DisksFault.TheVariants.{Store, Damaged, Memory}
 use Rattle.site_disks.specs.Kinds.{kind_of}
@@ -80,10 +80,10 @@ module _ {D : Type 0} (left : D → List ℕ → Type 0) where
   one_lent before mid after lent one so lacks grows others = record {
     out = each_push (λ (l : Lent D). GoesOn (before l.name) (left l.disk)) lent one so.out (λ c now. (let from = grows c now in (from.0, so.others one.name lacks from.0 from.1, from.2)));
     others = λ name away c now. (
-      let front : Lacks lent name = each_front (λ (l : Lent D). l.name ≢ name) lent (one ∷ []) away in
-      let last = each_back (λ (l : Lent D). l.name ≢ name) lent (one ∷ []) away in
-      so.others name front c (others name (λ e. last.0 (sym e)) c now)
-    );
+        let front : Lacks lent name = each_front (λ (l : Lent D). l.name ≢ name) lent (one ∷ []) away in
+        let last = each_back (λ (l : Lent D). l.name ≢ name) lent (one ∷ []) away in
+        so.others name front c (others name (λ e. last.0 (sym e)) c now)
+        );
   }
 
   -- a refusal
@@ -163,7 +163,7 @@ next_stage {J} {D} left before after disk_of kind names lent all is below kinds 
       each_both (λ (l : Lent D). kind_of l.name < kind + 1) lent (lend_all disk_of all)
       (each_weaker (λ (l : Lent D). kind_of l.name < kind) (λ (l : Lent D). kind_of l.name < kind + 1) (λ l h. omega (arith, h)) lent below)
       (each_map (λ (l : Lent D). kind_of l.name < kind + 1) (lend disk_of) all
-          (each_weaker (λ (o : Opened J). kind_of o.name ≡ kind) (λ (o : Opened J). kind_of o.name < kind + 1) (λ o h. omega (arith, h)) all (each_unmap (λ n. kind_of n ≡ kind) (λ (o : Opened J). o.name) all of_all)));
+      (each_weaker (λ (o : Opened J). kind_of o.name ≡ kind) (λ (o : Opened J). kind_of o.name < kind + 1) (λ o h. omega (arith, h)) all (each_unmap (λ n. kind_of n ≡ kind) (λ (o : Opened J). o.name) all of_all)));
 }
 
 pub nothing_more : {J D : Type 0} (disk_of : J → D) (lent : List (Lent D)) (all : List (Opened J)) → all ≡ [] → lent ++ lend_all disk_of all ≡ lent
@@ -187,8 +187,8 @@ opened_more {J} {D} left before mid after disk_of name lent all now one so lacks
     let whole : lent ++ lend_all disk_of now ≡ (lent ++ lend_all disk_of all) ++ lend disk_of one ∷ [] = ap (λ (xs : List (Opened J)). lent ++ lend_all disk_of xs) is ∙ lend_more disk_of lent all one in
     subst (IsLent left before after) (sym whole)
     (one_lent left before mid after (lent ++ lend_all disk_of all) (lend disk_of one) so (subst (Lacks (lent ++ lend_all disk_of all)) (sym named) lacks)
-        (subst (λ (n : DiskName). GoesOn (mid n) (left (disk_of one.journal))) (sym named) grows)
-        (λ other not. others other (λ e. not (e ∙ sym named))))
+    (subst (λ (n : DiskName). GoesOn (mid n) (left (disk_of one.journal))) (sym named) grows)
+    (λ other not. others other (λ e. not (e ∙ sym named))))
 
 -- and keeps what might have been left of it at first
 pub keeps_first : {J D : Type 0} (left : D → List ℕ → Type 0) (before mid : DiskName → List ℕ → Type 0) (keeps : J → List ℕ → Type 0) (lent : List (Lent D)) (one : Opened J) (name : DiskName)

@@ -2,7 +2,7 @@
 use Rattle.std.specs.Prelude.{◌≡◌, ℕ, List, [], ◌∷◌, Err, ◌==◌, if◌then◌else◌, Option, None, Some}
 use Rattle.outside.specs.declared.store.DiskName.{DiskName}
 use Rattle.outside.specs.declared.store.DiskName.TheVariants as name
-use Rattle.gate_journal.specs.Gate.{gate_rule}
+use Rattle.site_disks.specs.Votes.{IsVotesDamaged}
 use Rattle.topology_journal.specs.declared.topology.Topology.{Topology}
 use Rattle.topology_journal.specs.Topologies.{IsDamagedAt as IsTopologyDamaged}
 use Rattle.epoch_journal.specs.Epochs.{epoch_of}
@@ -16,7 +16,7 @@ damaged_by name.Topology bytes at = IsTopologyDamaged bytes at
 damaged_by (name.Offset site) bytes at = offset_of bytes ≡ Err at
 damaged_by (name.Retry site) bytes at = pending_of bytes ≡ Err at
 damaged_by (name.Server site) bytes at = epoch_of bytes ≡ Err at
-damaged_by (name.Replica replica) bytes at = gate_rule bytes ≡ Err at
+damaged_by (name.Replica replica) bytes at = IsVotesDamaged bytes at
 damaged_by (name.Epoch site joiner) bytes at = epoch_of bytes ≡ Err at
 damaged_by (name.Output site joiner) bytes at = IsOutputDamaged bytes at
 

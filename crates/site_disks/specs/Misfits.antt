@@ -1,5 +1,8 @@
 -- Why opened disks can't be run as asked.
-use Rattle.std.specs.Prelude.{◌≡◌, ◌≢◌, ◌⊎◌, ℕ, List, [], ◌∷◌, ◌==◌, if◌then◌else◌, Option, None, Some}
+use Rattle.std.specs.Prelude.{◌≡◌, ◌≢◌, ◌⊎◌, ℕ, List, [], ◌∷◌, ◌==◌, Bool, ◌||◌, if◌then◌else◌, Option, None, Some}
+use Rattle.std.specs.List.{list_any}
+use Rattle.paxos_acceptor.specs.declared.notes.ReplicaNote.{ReplicaNote}
+use Rattle.paxos_acceptor.specs.declared.notes.ReplicaNote.TheVariants.{Promised, Accepted}
 use Rattle.topology_journal.specs.declared.topology.Topology.{Topology}
 use Rattle.site_disks.specs.declared.opened.Opened.{Opened}
 use Rattle.site_disks.specs.declared.checks.Misfit.{Misfit}
@@ -19,6 +22,16 @@ IsMisfit kept asked (Spent disk value) = ⊥
 abbrev pub first_spent : {J : Type 0} → (J → ℕ) → List (Opened J) → Option Misfit
 first_spent epoch [] = None
 first_spent epoch (o ∷ os) = if epoch o.journal == 4294967294 then Some (Spent o.name 4294967294) else first_spent epoch os
+
+-- a note of the last slot or the last round
+abbrev pub is_full_note : ReplicaNote → Bool
+is_full_note (Promised shard slot b) = (slot == 281474976710655) || (b.round == 281474976710655)
+is_full_note (Accepted shard slot b v) = (slot == 281474976710655) || (b.round == 281474976710655)
+
+-- the first of these that has such a note
+abbrev pub first_full : {J : Type 0} → (J → List ReplicaNote) → List (Opened J) → Option Misfit
+first_full notes [] = None
+first_full notes (o ∷ os) = if list_any is_full_note (notes o.journal) then Some (Spent o.name 281474976710655) else first_full notes os
 
 -- the first that is there
 abbrev pub first_some : List (Option Misfit) → Option Misfit

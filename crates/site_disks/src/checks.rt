@@ -1,14 +1,19 @@
 // Whether opened disks fit what was asked.
 ghost use Rattle.std.specs.Prelude.{◌≡◌, [], ◌∷◌, MatchOption};
-ghost use Rattle.site_disks.specs.Misfits.{IsFit, IsMisfit, first_spent, first_some, IsFirstMisfit};
+ghost use Rattle.std.specs.List.{list_any};
+ghost use Rattle.site_disks.specs.Misfits.{IsFit, IsMisfit, is_full_note, first_spent, first_full, IsFirstMisfit};
 
-use crate::{Opened, SiteDisks};
+use crate::{Opened, SiteDisks, VoteJournal};
 use epoch_journal::EpochJournal;
 use outside::{Disk, DiskName};
+use paxos_acceptor::ReplicaNote;
 use topology_journal::{Topology, TopologyJournal};
 
 /// The last epoch: no run can begin behind it.
 const LAST: u32 = u32::MAX - 1;
+
+/// The last round of a ballot, and the last slot of a shard.
+const LAST_PLACE: u64 = (1 << 48) - 1;
 
 /// Why opened disks can't be run as asked.
 #[derive(Clone, Copy, Debug, PartialEq, Eq)]
@@ -17,7 +22,7 @@ pub enum Misfit {
     Joiners { kept: u8, asked: u8 },
     /// The kept table isn't the asked one.
     Table,
-    /// The epoch that this disk keeps is the last one.
+    /// The epoch that this disk keeps is the last one, or a round or a slot that it notes is.
     Spent { disk: DiskName, value: u64 },
 }
 
@@ -53,16 +58,51 @@ fn spent<D: Disk>(opened: &[Opened<EpochJournal<D>>]) -> Option<Misfit>
     None
 }
 
+fn is_full(note: &ReplicaNote) -> bool
+    ensures { result ≡ is_full_note note.now }
+{
+    match note {
+        ReplicaNote::Promised { slot, ballot, .. } => *slot == LAST_PLACE
+            || ballot.round == LAST_PLACE,
+        ReplicaNote::Accepted { slot, ballot, .. } => *slot == LAST_PLACE
+            || ballot.round == LAST_PLACE,
+    }
+}
+
+fn are_full(notes: &[ReplicaNote]) -> bool
+    ensures { result ≡ list_any is_full_note notes.now }
+{
+    notes.iter().any(|note| is_full(note))
+}
+
+/// The first of these disks that notes the last round or the last slot.
+fn full<D: Disk>(opened: &[Opened<VoteJournal<D>>]) -> Option<Misfit>
+    ensures { result ≡ first_full (λ v. v.notes.items) opened.now }
+{
+    for one in opened {
+        if are_full(&one.journal.notes) {
+            return Some(Misfit::Spent {
+                disk: one.name,
+                value: LAST_PLACE,
+            });
+        }
+    }
+    None
+}
+
 /// The first reason, if there is one, why opened disks can't be run as asked: the kept joiners, the kept table, and then the
-/// epochs of the servers and of the joiners of site A and of site B. Linear in the number of disks.
+/// servers' epochs, the replicas' notes, and the epochs of the joiners of site A and of site B. Linear in disks and notes.
 pub fn first_misfit<D: Disk>(disks: &SiteDisks<D>, asked: &Topology) -> Option<Misfit>
     ensures { IsFirstMisfit disks.now.topology.journal.kept asked.now
-        (first_spent (λ e. e.epoch) disks.now.servers.items ∷ first_spent (λ e. e.epoch) disks.now.epochs_a.items ∷ first_spent (λ e. e.epoch) disks.now.epochs_b.items ∷ []) result }
+        (first_spent (λ e. e.epoch) disks.now.servers.items ∷ first_full (λ v. v.notes.items) disks.now.replicas.items ∷ first_spent (λ e. e.epoch) disks.now.epochs_a.items ∷ first_spent (λ e. e.epoch) disks.now.epochs_b.items ∷ []) result }
 {
     if let Some(misfit) = topology_misfit(&disks.topology.journal, asked) {
         return Some(misfit);
     }
     if let Some(misfit) = spent(&disks.servers) {
+        return Some(misfit);
+    }
+    if let Some(misfit) = full(&disks.replicas) {
         return Some(misfit);
     }
     if let Some(misfit) = spent(&disks.epochs_a) {

@@ -8,20 +8,20 @@ ghost use Rattle.epoch_journal.specs.Epochs.{Keeps as KeepsEpoch};
 ghost use Rattle.offset_journal.specs.Offsets.{Keeps as KeepsOffset};
 ghost use Rattle.retry_log.specs.Pending.{Keeps as KeepsPending};
 ghost use Rattle.output_log.specs.Pairs.{Keeps as KeepsPairs};
-ghost use Rattle.gate_journal.specs.Gate.{StandsFor};
+ghost use Rattle.site_disks.specs.Votes.{KeepsNotes, IsReadyVotes};
 ghost use Rattle.site_disks.specs.Kinds.{joiners_kept, offset_names, retry_names, server_names, replica_names, epoch_names_a, epoch_names_b, output_names_a, output_names_b};
 ghost use Rattle.site_disks.specs.Lent.{Lent, lend, lend_all, joined, GoesOn, IsLent, IsCut, Stage, MayBeLeft};
 ghost use Rattle.site_disks.specs.Opening.{AreOpened, IsKeptIn, RoseBy, WasDamaged};
 
 use crate::joiners::open_joiners;
 use crate::names::REPLICAS;
-use crate::opening::{open_each, give_each, open_one};
+use crate::opening::{give_each, open_each, open_one};
 use crate::sites::open_sites;
 use crate::{DisksFault, Opened, VoteJournal};
 use epoch_journal::EpochJournal;
 use offset_journal::OffsetJournal;
-use outside::{Disk, DiskName, Store};
 use output_log::OutputLog;
+use outside::{Disk, DiskName, Store};
 use retry_log::RetryLog;
 use std::alloc::Global;
 use topology_journal::TopologyJournal;
@@ -77,7 +77,7 @@ fn open_rest<S: Store>(
     ensures servers { (s : S) → (IsTrue S.Disk.tells → Stage S.Disk.image (S.image s) (S.image store.old) 1 (lend (λ t. t.journal.disk) disks.old.topology ∷ []))
         → OnOk result (AreOpened S.Disk.tells (S.image s) (λ e. e.journal.state ≡ Ready) (λ e. KeepsEpoch e.epoch) server_names disks.new.servers.items) }
     ensures replicas { (s : S) → (IsTrue S.Disk.tells → Stage S.Disk.image (S.image s) (S.image store.old) 1 (lend (λ t. t.journal.disk) disks.old.topology ∷ []))
-        → OnOk result (AreOpened S.Disk.tells (S.image s) (λ v. (v.journal.state ≡ Ready) × (IsTrue S.Disk.tells → StandsFor v.records.items (S.Disk.seen v.journal.disk))) (λ v. StandsFor v.records.items) replica_names disks.new.replicas.items) }
+        → OnOk result (AreOpened S.Disk.tells (S.image s) (λ v. IsReadyVotes S.Disk.tells (S.Disk.seen v.journal.disk) v.journal.state v.notes.items) (λ v. KeepsNotes v.notes.items) replica_names disks.new.replicas.items) }
     ensures epochs_a { (s : S) → (IsTrue S.Disk.tells → Stage S.Disk.image (S.image s) (S.image store.old) 1 (lend (λ t. t.journal.disk) disks.old.topology ∷ []))
         → OnOk result (AreOpened S.Disk.tells (S.image s) (λ e. e.journal.state ≡ Ready) (λ e. KeepsEpoch e.epoch) (take joiners epoch_names_a) disks.new.epochs_a.items) }
     ensures epochs_b { (s : S) → (IsTrue S.Disk.tells → Stage S.Disk.image (S.image s) (S.image store.old) 1 (lend (λ t. t.journal.disk) disks.old.topology ∷ []))
@@ -88,24 +88,24 @@ fn open_rest<S: Store>(
         → OnOk result (AreOpened S.Disk.tells (S.image s) (λ o. o.journal.state ≡ Ready) (λ o. KeepsPairs o.pairs.items) (take joiners output_names_b) disks.new.outputs_b.items) }
     ensures lent { IsTrue S.Disk.tells → (s : S) → Stage S.Disk.image (S.image s) (S.image store.old) 1 (lend (λ t. t.journal.disk) disks.old.topology ∷ [])
         → OnOk result (IsLent S.Disk.image (S.image s) (S.image store.new) (joined (lend (λ t. t.journal.disk) disks.new.topology)
-            (lend_all (λ o. o.journal.disk) disks.new.offsets.items)
-            (lend_all (λ r. r.journal.disk) disks.new.retries.items)
-            (lend_all (λ e. e.journal.disk) disks.new.servers.items)
-            (lend_all (λ v. v.journal.disk) disks.new.replicas.items)
-            (lend_all (λ e. e.journal.disk) disks.new.epochs_a.items)
-            (lend_all (λ e. e.journal.disk) disks.new.epochs_b.items)
-            (lend_all (λ o. o.journal.disk) disks.new.outputs_a.items)
-            (lend_all (λ o. o.journal.disk) disks.new.outputs_b.items))) }
+        (lend_all (λ o. o.journal.disk) disks.new.offsets.items)
+        (lend_all (λ r. r.journal.disk) disks.new.retries.items)
+        (lend_all (λ e. e.journal.disk) disks.new.servers.items)
+        (lend_all (λ v. v.journal.disk) disks.new.replicas.items)
+        (lend_all (λ e. e.journal.disk) disks.new.epochs_a.items)
+        (lend_all (λ e. e.journal.disk) disks.new.epochs_b.items)
+        (lend_all (λ o. o.journal.disk) disks.new.outputs_a.items)
+        (lend_all (λ o. o.journal.disk) disks.new.outputs_b.items))) }
     ensures cut { IsTrue S.Disk.tells → (s : S) → Stage S.Disk.image (S.image s) (S.image store.old) 1 (lend (λ t. t.journal.disk) disks.old.topology ∷ [])
         → OnErr result (IsCut S.Disk.image (S.image s) (S.image store.new) (joined (lend (λ t. t.journal.disk) disks.new.topology)
-            (lend_all (λ o. o.journal.disk) disks.new.offsets.items)
-            (lend_all (λ r. r.journal.disk) disks.new.retries.items)
-            (lend_all (λ e. e.journal.disk) disks.new.servers.items)
-            (lend_all (λ v. v.journal.disk) disks.new.replicas.items)
-            (lend_all (λ e. e.journal.disk) disks.new.epochs_a.items)
-            (lend_all (λ e. e.journal.disk) disks.new.epochs_b.items)
-            (lend_all (λ o. o.journal.disk) disks.new.outputs_a.items)
-            (lend_all (λ o. o.journal.disk) disks.new.outputs_b.items))) }
+        (lend_all (λ o. o.journal.disk) disks.new.offsets.items)
+        (lend_all (λ r. r.journal.disk) disks.new.retries.items)
+        (lend_all (λ e. e.journal.disk) disks.new.servers.items)
+        (lend_all (λ v. v.journal.disk) disks.new.replicas.items)
+        (lend_all (λ e. e.journal.disk) disks.new.epochs_a.items)
+        (lend_all (λ e. e.journal.disk) disks.new.epochs_b.items)
+        (lend_all (λ o. o.journal.disk) disks.new.outputs_a.items)
+        (lend_all (λ o. o.journal.disk) disks.new.outputs_b.items))) }
     ensures damaged { IsTrue S.Disk.tells → (s : S) → Stage S.Disk.image (S.image s) (S.image store.old) 1 (lend (λ t. t.journal.disk) disks.old.topology ∷ [])
         → IfErr result (WasDamaged S.Disk.seen S.Disk.image (S.image s)) }
     ensures places { S.places_left store.old + (length disks.new.offsets.items + length disks.new.retries.items + length disks.new.servers.items + length disks.new.replicas.items + length disks.new.epochs_a.items + length disks.new.epochs_b.items + length disks.new.outputs_a.items + length disks.new.outputs_b.items) ≤ S.places_left store.new }
@@ -147,7 +147,7 @@ pub fn open_disks<S: Store>(
     ensures offsets { IfOk result (λ d. AreOpened S.Disk.tells (S.image store.old) (λ o. o.journal.state ≡ Ready) (λ o. KeepsOffset o.offset) offset_names d.offsets.items) }
     ensures retries { IfOk result (λ d. AreOpened S.Disk.tells (S.image store.old) (λ r. r.journal.state ≡ Ready) (λ r. KeepsPending r.pending.keys) retry_names d.retries.items) }
     ensures servers { IfOk result (λ d. AreOpened S.Disk.tells (S.image store.old) (λ e. e.journal.state ≡ Ready) (λ e. KeepsEpoch e.epoch) server_names d.servers.items) }
-    ensures replicas { IfOk result (λ d. AreOpened S.Disk.tells (S.image store.old) (λ v. (v.journal.state ≡ Ready) × (IsTrue S.Disk.tells → StandsFor v.records.items (S.Disk.seen v.journal.disk))) (λ v. StandsFor v.records.items) replica_names d.replicas.items) }
+    ensures replicas { IfOk result (λ d. AreOpened S.Disk.tells (S.image store.old) (λ v. IsReadyVotes S.Disk.tells (S.Disk.seen v.journal.disk) v.journal.state v.notes.items) (λ v. KeepsNotes v.notes.items) replica_names d.replicas.items) }
     ensures epochs_a { IfOk result (λ d. AreOpened S.Disk.tells (S.image store.old) (λ e. e.journal.state ≡ Ready) (λ e. KeepsEpoch e.epoch) (take (joiners_kept d.topology.journal.kept asked) epoch_names_a) d.epochs_a.items) }
     ensures epochs_b { IfOk result (λ d. AreOpened S.Disk.tells (S.image store.old) (λ e. e.journal.state ≡ Ready) (λ e. KeepsEpoch e.epoch) (take (joiners_kept d.topology.journal.kept asked) epoch_names_b) d.epochs_b.items) }
     ensures outputs_a { IfOk result (λ d. AreOpened S.Disk.tells (S.image store.old) (λ o. o.journal.state ≡ Ready) (λ o. KeepsPairs o.pairs.items) (take (joiners_kept d.topology.journal.kept asked) output_names_a) d.outputs_a.items) }
@@ -155,14 +155,14 @@ pub fn open_disks<S: Store>(
 
     // What a stop may leave now, of the disks and in the store.
     ensures lent { IsTrue S.Disk.tells → IfOk result (λ d. IsLent S.Disk.image (S.image store.old) (S.image store.new) (joined (lend (λ t. t.journal.disk) d.topology)
-            (lend_all (λ o. o.journal.disk) d.offsets.items)
-            (lend_all (λ r. r.journal.disk) d.retries.items)
-            (lend_all (λ e. e.journal.disk) d.servers.items)
-            (lend_all (λ v. v.journal.disk) d.replicas.items)
-            (lend_all (λ e. e.journal.disk) d.epochs_a.items)
-            (lend_all (λ e. e.journal.disk) d.epochs_b.items)
-            (lend_all (λ o. o.journal.disk) d.outputs_a.items)
-            (lend_all (λ o. o.journal.disk) d.outputs_b.items))) }
+        (lend_all (λ o. o.journal.disk) d.offsets.items)
+        (lend_all (λ r. r.journal.disk) d.retries.items)
+        (lend_all (λ e. e.journal.disk) d.servers.items)
+        (lend_all (λ v. v.journal.disk) d.replicas.items)
+        (lend_all (λ e. e.journal.disk) d.epochs_a.items)
+        (lend_all (λ e. e.journal.disk) d.epochs_b.items)
+        (lend_all (λ o. o.journal.disk) d.outputs_a.items)
+        (lend_all (λ o. o.journal.disk) d.outputs_b.items))) }
     ensures back { IsTrue S.Disk.tells → OnErr result ((name : DiskName) → GoesOn (S.image store.old name) (S.image store.new name)) }
     ensures places { IfOk result (λ d. S.places_left store.old + (1 + (length d.offsets.items + length d.retries.items + length d.servers.items + length d.replicas.items + length d.epochs_a.items + length d.epochs_b.items + length d.outputs_a.items + length d.outputs_b.items)) ≤ S.places_left store.new) }
 
@@ -198,14 +198,14 @@ pub fn give_back<S: Store>(store: &mut S, disks: SiteDisks<S::Disk>)
     // What a stop may leave of a disk is what it might have left of it before it was given back, or of what stood in the store.
     ensures left { IsTrue S.Disk.tells → (name : DiskName) (c : List ℕ) → S.image store.new name c
         → MayBeLeft S.Disk.image (S.image store.old) (joined (lend (λ t. t.journal.disk) disks.topology)
-            (lend_all (λ o. o.journal.disk) disks.offsets.items)
-            (lend_all (λ r. r.journal.disk) disks.retries.items)
-            (lend_all (λ e. e.journal.disk) disks.servers.items)
-            (lend_all (λ v. v.journal.disk) disks.replicas.items)
-            (lend_all (λ e. e.journal.disk) disks.epochs_a.items)
-            (lend_all (λ e. e.journal.disk) disks.epochs_b.items)
-            (lend_all (λ o. o.journal.disk) disks.outputs_a.items)
-            (lend_all (λ o. o.journal.disk) disks.outputs_b.items)) name c }
+        (lend_all (λ o. o.journal.disk) disks.offsets.items)
+        (lend_all (λ r. r.journal.disk) disks.retries.items)
+        (lend_all (λ e. e.journal.disk) disks.servers.items)
+        (lend_all (λ v. v.journal.disk) disks.replicas.items)
+        (lend_all (λ e. e.journal.disk) disks.epochs_a.items)
+        (lend_all (λ e. e.journal.disk) disks.epochs_b.items)
+        (lend_all (λ o. o.journal.disk) disks.outputs_a.items)
+        (lend_all (λ o. o.journal.disk) disks.outputs_b.items)) name c }
     ensures places { S.places_left store.old ≤ S.places_left store.new + (1 + (length disks.offsets.items + length disks.retries.items + length disks.servers.items + length disks.replicas.items + length disks.epochs_a.items + length disks.epochs_b.items + length disks.outputs_a.items + length disks.outputs_b.items)) }
     ensures count { S.faults store.old ≤ S.faults store.new }
 {

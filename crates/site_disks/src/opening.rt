@@ -94,10 +94,7 @@ pub(crate) fn open_each<S: Store, J: RecordJournal<S::Disk>>(
 }
 
 /// Gives the disks of these journals back to the store, under their names. It takes no memory.
-pub(crate) fn give_each<S: Store, J: RecordJournal<S::Disk>>(
-    store: &mut S,
-    opened: Vec<Opened<J>>,
-)
+pub(crate) fn give_each<S: Store, J: RecordJournal<S::Disk>>(store: &mut S, opened: Vec<Opened<J>>)
     requires { length opened.items ≤ S.places_left store.old }
     ensures left { IsTrue S.Disk.tells → (front : List (Lent S.Disk)) (name : DiskName) (c : List ℕ) → MayBeLeft S.Disk.image (S.image store.new) front name c → MayBeLeft S.Disk.image (S.image store.old) (front ++ lend_all J.disk_of opened.items) name c }
     ensures places { S.places_left store.old ≤ S.places_left store.new + length opened.items }

@@ -1,33 +1,35 @@
 // The journal of a replica.
-ghost use Rattle.std.specs.Prelude.{◌≡◌, IsTrue, Err};
-ghost use Rattle.gate_journal.specs.declared.journal.JournalState.TheVariants.{Ready};
-ghost use Rattle.gate_journal.specs.Gate.{gate_rule, StandsFor};
+ghost use Rattle.site_disks.specs.Votes.{KeepsNotes, IsVotesDamaged, IsReadyVotes};
 
 use crate::RecordJournal;
 use gate_journal::{Journal, JournalFault};
 use outside::Disk;
+use paxos_acceptor::ReplicaNote;
+use replica_node::read_votes;
 use std::alloc::Global;
-use wire_core::Bytes;
 
-/// A replica's journal, with the records that it held when it was opened. What notes they are is not looked at here.
+/// A replica's journal, with the notes that it held when it was opened.
 #[derive(Drop)]
 pub struct VoteJournal<D: Disk> {
     pub journal: Journal<D>,
-    pub records: Vec<Bytes>,
+    pub notes: Vec<ReplicaNote>,
 }
 
 impl<D: Disk> RecordJournal<D> for VoteJournal<D> {
     ghost disk_of = { λ v. v.journal.disk };
 
-    ghost is_ready = { λ v. (v.journal.state ≡ Ready) × (IsTrue D.tells → StandsFor v.records.items (D.seen v.journal.disk)) };
+    ghost is_ready = { λ v. IsReadyVotes D.tells (D.seen v.journal.disk) v.journal.state v.notes.items };
 
-    ghost keeps = { λ v. StandsFor v.records.items };
+    ghost keeps = { λ v. KeepsNotes v.notes.items };
 
-    ghost is_damaged = { λ bytes at. gate_rule bytes ≡ Err at };
+    ghost is_damaged = { IsVotesDamaged };
 
     fn open_on(alloc: Global, disk: D) -> Result<VoteJournal<D>, (JournalFault, D)> {
         match Journal::open(alloc, disk) {
-            Ok((journal, records)) => Ok(VoteJournal { journal, records }),
+            Ok((journal, records)) => match read_votes(alloc, &records) {
+                Ok(notes) => Ok(VoteJournal { journal, notes }),
+                Err(fault) => Err((fault, journal.into_disk())),
+            },
             Err(refused) => Err(refused),
         }
     }

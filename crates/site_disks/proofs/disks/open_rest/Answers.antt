@@ -41,8 +41,8 @@ returns-in_err-open_sites-clause-cut g c tells s stage =
     let old = c.args.disks.now in
     handed_on c.from_residual.result c.in_err-open_sites.field-0.0 _ c.from_residual.ensures.1
     (cut_five g.S.Disk.Disk.image (image s) (image c.open_sites.new.store) _ (lend_all {D = g.row.S-Disk.Denot} (λ v. v.journal.disk) old.replicas.items) (lend_all {D = g.row.S-Disk.Denot} (λ e. e.journal.disk) old.epochs_a.items) (lend_all {D = g.row.S-Disk.Denot} (λ e. e.journal.disk) old.epochs_b.items) (lend_all {D = g.row.S-Disk.Denot} (λ o. o.journal.disk) old.outputs_a.items) (lend_all {D = g.row.S-Disk.Denot} (λ o. o.journal.disk) old.outputs_b.items)
-        (lends_none {D = g.row.S-Disk.Denot} (λ v. v.journal.disk) old.replicas.items c.requires.no_replicas) (lends_none {D = g.row.S-Disk.Denot} (λ e. e.journal.disk) old.epochs_a.items c.requires.no_epochs_a) (lends_none {D = g.row.S-Disk.Denot} (λ e. e.journal.disk) old.epochs_b.items c.requires.no_epochs_b) (lends_none {D = g.row.S-Disk.Denot} (λ o. o.journal.disk) old.outputs_a.items c.requires.no_outputs_a) (lends_none {D = g.row.S-Disk.Denot} (λ o. o.journal.disk) old.outputs_b.items c.requires.no_outputs_b)
-        (c.in_err-open_sites.ensures.cut tells s _ stage))
+    (lends_none {D = g.row.S-Disk.Denot} (λ v. v.journal.disk) old.replicas.items c.requires.no_replicas) (lends_none {D = g.row.S-Disk.Denot} (λ e. e.journal.disk) old.epochs_a.items c.requires.no_epochs_a) (lends_none {D = g.row.S-Disk.Denot} (λ e. e.journal.disk) old.epochs_b.items c.requires.no_epochs_b) (lends_none {D = g.row.S-Disk.Denot} (λ o. o.journal.disk) old.outputs_a.items c.requires.no_outputs_a) (lends_none {D = g.row.S-Disk.Denot} (λ o. o.journal.disk) old.outputs_b.items c.requires.no_outputs_b)
+    (c.in_err-open_sites.ensures.cut tells s _ stage))
 
 pub returns-in_err-open_sites-clause-damaged : goal.returns-in_err-open_sites-clause-damaged
 returns-in_err-open_sites-clause-damaged g c tells s stage =
@@ -54,8 +54,8 @@ returns-in_err-open_each-clause-cut g c tells s stage =
     let old = c.args.disks.now in
     handed_on c.from_residual-in_err-open_each.result c.in_err-open_each.field-0.0 _ c.from_residual-in_err-open_each.ensures.1
     (cut_four g.S.Disk.Disk.image (image s) (image c.open_each.new.store) _ (lend_all {D = g.row.S-Disk.Denot} (λ e. e.journal.disk) old.epochs_a.items) (lend_all {D = g.row.S-Disk.Denot} (λ e. e.journal.disk) old.epochs_b.items) (lend_all {D = g.row.S-Disk.Denot} (λ o. o.journal.disk) old.outputs_a.items) (lend_all {D = g.row.S-Disk.Denot} (λ o. o.journal.disk) old.outputs_b.items)
-        (lends_none {D = g.row.S-Disk.Denot} (λ e. e.journal.disk) old.epochs_a.items c.requires.no_epochs_a) (lends_none {D = g.row.S-Disk.Denot} (λ e. e.journal.disk) old.epochs_b.items c.requires.no_epochs_b) (lends_none {D = g.row.S-Disk.Denot} (λ o. o.journal.disk) old.outputs_a.items c.requires.no_outputs_a) (lends_none {D = g.row.S-Disk.Denot} (λ o. o.journal.disk) old.outputs_b.items c.requires.no_outputs_b)
-        (c.in_err-open_each.ensures.cut tells s 4 _ (refl, (refl, (refl, tt))) (c.in_ok-open_sites.ensures.lent tells s _ stage)))
+    (lends_none {D = g.row.S-Disk.Denot} (λ e. e.journal.disk) old.epochs_a.items c.requires.no_epochs_a) (lends_none {D = g.row.S-Disk.Denot} (λ e. e.journal.disk) old.epochs_b.items c.requires.no_epochs_b) (lends_none {D = g.row.S-Disk.Denot} (λ o. o.journal.disk) old.outputs_a.items c.requires.no_outputs_a) (lends_none {D = g.row.S-Disk.Denot} (λ o. o.journal.disk) old.outputs_b.items c.requires.no_outputs_b)
+    (c.in_err-open_each.ensures.cut tells s 4 _ (refl, (refl, (refl, tt))) (c.in_ok-open_sites.ensures.lent tells s _ stage)))
 
 pub returns-in_err-open_each-clause-damaged : goal.returns-in_err-open_each-clause-damaged
 returns-in_err-open_each-clause-damaged g c tells s stage =

@@ -17,4 +17,4 @@ pub returns-clause-outputs_b : goal.returns-clause-outputs_b
 returns-clause-outputs_b g c s lent stage =
     c.in_ok-open_each-4.ensures.opened s 8 _ (refl, (refl, (refl, (refl, tt))))
     (λ tells. c.in_ok-open_each-3.ensures.lent tells s 7 _ (refl, (refl, (refl, (refl, tt))))
-        (c.in_ok-open_each-2.ensures.lent tells s 6 _ (refl, (refl, (refl, (refl, tt)))) (c.in_ok-open_each.ensures.lent tells s 5 lent (refl, (refl, (refl, (refl, tt)))) (stage tells))))
+    (c.in_ok-open_each-2.ensures.lent tells s 6 _ (refl, (refl, (refl, (refl, tt)))) (c.in_ok-open_each.ensures.lent tells s 5 lent (refl, (refl, (refl, (refl, tt)))) (stage tells))))

@@ -1,4 +1,4 @@
-use Rattle.std.proofs.Common.{◌≡◌, ◌++◌, ◌∷◌, [], ◌∙◌, List, ℕ, sym, ap, subst, arith}
+use Rattle.std.proofs.Common.{◌≡◌, ◌++◌, ◌∷◌, [], ◌∙◌, List, sym, ap, subst, arith}
 use Rattle.outside.specs.Disk.{Within}
 use Rattle.site_disks.specs.declared.opened.Opened.{Opened}
 use Rattle.site_disks.specs.Lent.{Lent, lend, lend_all, MayBeLeft}
@@ -20,13 +20,13 @@ loop-one-preserved g c =
     let size = length_more rest items one cut in
     record {
       left = λ tells front name bytes now. (
-        let images = subst (λ (d : g.row.S-Disk.Denot). Within (left d) (after one.name)) c.close.ensures (c.give.ensures.images tells) in
-        let whole : (front ++ lend_all disk_of rest) ++ lend disk_of one ∷ [] ≡ front ++ lend_all disk_of items =
-            sym (lend_more disk_of front rest one) ∙ ap (λ (xs : List (Opened g.row.J.Denot)). front ++ lend_all disk_of xs) (sym cut) in
-        inv.left tells front name bytes
-        (subst (λ (l : List (Lent g.row.S-Disk.Denot)). MayBeLeft left mid l name bytes) whole
-            (given left mid after (front ++ lend_all disk_of rest) (lend disk_of one) images (c.give.ensures.others tells) name bytes now))
-      );
+          let images = subst (λ (d : g.row.S-Disk.Denot). Within (left d) (after one.name)) c.close.ensures (c.give.ensures.images tells) in
+          let whole : (front ++ lend_all disk_of rest) ++ lend disk_of one ∷ [] ≡ front ++ lend_all disk_of items =
+          sym (lend_more disk_of front rest one) ∙ ap (λ (xs : List (Opened g.row.J.Denot)). front ++ lend_all disk_of xs) (sym cut) in
+          inv.left tells front name bytes
+          (subst (λ (l : List (Lent g.row.S-Disk.Denot)). MayBeLeft left mid l name bytes) whole
+          (given left mid after (front ++ lend_all disk_of rest) (lend disk_of one) images (c.give.ensures.others tells) name bytes now))
+          );
       room = omega (arith, size, inv.room, c.give.ensures.places);
       places = omega (arith, size, inv.places, c.give.ensures.places);
       count = omega (arith, inv.count, c.give.ensures.count);

@@ -1,4 +1,4 @@
-use Rattle.std.proofs.Common.{◌≡◌, ◌+◌, ◌≤◌, ◌++◌, ℕ, List, length, IsTrue}
+use Rattle.std.proofs.Common.{◌+◌, ◌≤◌, ◌++◌, ℕ, List, length, IsTrue}
 use Rattle.std.specs.Prelude.{vec_len}
 use Rattle.outside.specs.declared.store.DiskName.{DiskName}
 use Rattle.site_disks.specs.Lent.{Lent, lend_all, MayBeLeft}

@@ -1,10 +1,8 @@
-use Rattle.std.proofs.Common.{◌≡◌, ◌<◌, ◌++◌, ◌∙◌, List, ℕ, length, take, sym, ap, subst, arith}
-use Rattle.std.specs.Prelude.{map}
+use Rattle.std.proofs.Common.{◌≡◌, ◌<◌, ◌++◌, ◌∙◌, length, take, ap, arith}
 use Rattle.site_disks.specs.Kinds.{kind_of}
-use Rattle.site_disks.specs.declared.opened.Opened.{Opened}
-use Rattle.site_disks.specs.Lent.{lend_all, IsCut}
+use Rattle.site_disks.specs.Lent.{lend_all}
 use Rattle.site_disks.specs.Opening.{KeepsLeft}
-use Rattle.site_disks.proofs.Lending.{are_new, next_stage, cut_off, cut_here, nothing_more, names_more, ready_more, opened_more, keeps_first, damaged_first, lacks_next, length_more, each_take}
+use Rattle.site_disks.proofs.Lending.{are_new, next_stage, cut_off, names_more, ready_more, opened_more, keeps_first, damaged_first, lacks_next, length_more, each_take}
 use Rattle.site_disks.proofs.opening.open_each.Goals as goal
 
 pub returns-in-Err-clause-cut : goal.returns-in-Err-clause-cut
@@ -43,14 +41,14 @@ loop-i-preserved g c =
       room = omega (arith, inv.room, c.push_reserved.ensures.capacity);
       ready = ready_more (λ o. j.is_ready o.journal) items now one inv.ready e.ready more;
       lent = λ tells s lent is new. (
-        opened_more left (image s) (image c.loop-i.store) (image c.open_one.new.store) j.disk_of _ lent items now one (inv.lent tells s lent is new)
-        (lacks_next j.disk_of names i _ lent items new c.requires.apart inv.names lt) e.name (e.grows tells) (e.others tells) more
-      );
+          opened_more left (image s) (image c.loop-i.store) (image c.open_one.new.store) j.disk_of _ lent items now one (inv.lent tells s lent is new)
+          (lacks_next j.disk_of names i _ lent items new c.requires.apart inv.names lt) e.name (e.grows tells) (e.others tells) more
+          );
       kept = λ tells s lent is new. (
-        ready_more (KeepsLeft (image s) j.keeps) items now one (inv.kept tells s lent is new)
-        (keeps_first left (image s) (image c.loop-i.store) j.keeps (lent ++ lend_all j.disk_of items) one _ (inv.lent tells s lent is new)
-            (lacks_next j.disk_of names i _ lent items new c.requires.apart inv.names lt) e.name (e.kept tells)) more
-      );
+          ready_more (KeepsLeft (image s) j.keeps) items now one (inv.kept tells s lent is new)
+          (keeps_first left (image s) (image c.loop-i.store) j.keeps (lent ++ lend_all j.disk_of items) one _ (inv.lent tells s lent is new)
+          (lacks_next j.disk_of names i _ lent items new c.requires.apart inv.names lt) e.name (e.kept tells)) more
+          );
       places = omega (arith, inv.places, e.place, length_more items now one more);
       count = omega (arith, inv.count, c.open_one.ensures.count);
     }

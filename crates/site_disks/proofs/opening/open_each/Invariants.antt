@@ -1,4 +1,4 @@
-use Rattle.std.proofs.Common.{◌≡◌, ◌+◌, ◌≤◌, ◌++◌, ℕ, List, length, take, IsTrue}
+use Rattle.std.proofs.Common.{◌≡◌, ◌+◌, ◌≤◌, ◌++◌, List, length, take, IsTrue}
 use Rattle.std.specs.Prelude.{map, vec_len, vec_capacity}
 use Rattle.list_words.specs.Lists.{Each}
 use Rattle.site_disks.specs.Lent.{Lent, lend_all, AreNew, IsLent}

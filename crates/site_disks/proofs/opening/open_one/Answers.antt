@@ -17,7 +17,7 @@ returns-in-Err-clause-rose g c =
     let of_disk = g.S.Disk.Disk.faults in
     subst (RoseBy (faults c.args.store.now) (faults c.give.new.self)) (sym c.told.ensures)
     (told_rose c.args.name c.in-Err.fault g.J.RecordJournal.is_damaged g.S.Disk.Disk.tells (g.S.Disk.Disk.seen c.in-Ok.disk) (of_disk c.in-Ok.disk) (of_disk c.in-Err.disk) (faults c.args.store.now) (faults c.take.new.self) (faults c.give.new.self)
-        c.in-Err.ensures.err c.in-Ok.ensures.fresh c.in-Ok.ensures.count.later c.give.ensures.count)
+    c.in-Err.ensures.err c.in-Ok.ensures.fresh c.in-Ok.ensures.count.later c.give.ensures.count)
 
 pub returns-in-Err-clause-of : goal.returns-in-Err-clause-of
 returns-in-Err-clause-of g c = subst (IsOf c.args.name) (sym c.told.ensures) (told_of c.args.name c.in-Err.fault)
