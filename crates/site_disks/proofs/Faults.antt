@@ -2,15 +2,11 @@
 use Rattle.std.proofs.Common.{◌≡◌, ◌≤◌, ℕ, List, Bool, IsTrue, refl, arith}
 use Rattle.outside.specs.declared.store.DiskName.{DiskName}
 use Rattle.outside.specs.Disk.{Within}
-use Rattle.outside.specs.Faults.{Rose, added}
+use Rattle.outside.specs.Faults.{added}
 use Rattle.gate_journal.specs.declared.reading.JournalFault.{JournalFault}
 use Rattle.gate_journal.specs.declared.reading.JournalFault.TheVariants.{Damaged, Disk, Memory}
 use Rattle.site_disks.specs.Kinds.{damaged_by}
 use Rattle.site_disks.specs.Opening.{IsRefusedBy, told_by, RoseBy, IsOf, WasDamaged}
-
--- a disk's count that rose from 0 lets the store's rise
-rose_on : (old mid new n : ℕ) → old ≤ mid → Rose 0 n → new ≡ added mid n → Rose old new
-rose_on old mid new n le rose is = omega arith
 
 pub told_rose : (name : DiskName) (fault : JournalFault) (is_damaged : List ℕ → ℕ → Type 0) (tells : Bool) (seen : List ℕ) (fresh n old mid new : ℕ)
     → IsRefusedBy is_damaged tells seen fresh n fault → fresh ≡ 0 → old ≤ mid → new ≡ added mid n → RoseBy old new (told_by name fault)

@@ -70,10 +70,6 @@ lend_more disk_of front all one =
     ap (λ (l : List (Lent _)). front ++ l) (map-append (lend disk_of) all (one ∷ [])) ∙ sym (append_assoc front (lend_all disk_of all) (lend disk_of one ∷ []))
 
 module _ {D : Type 0} (left : D → List ℕ → Type 0) where
-  -- nothing was lent
-  pub none_lent : (image : DiskName → List ℕ → Type 0) → IsLent left image image []
-  none_lent image = record { out = tt; others = λ name lacks c now. now }
-
   -- one disk more
   pub one_lent : (before mid after : DiskName → List ℕ → Type 0) (lent : List (Lent D)) (one : Lent D) → IsLent left before mid lent → Lacks lent one.name
       → GoesOn (mid one.name) (left one.disk) → ((other : DiskName) → other ≢ one.name → Within (mid other) (after other)) → IsLent left before after (lent ++ one ∷ [])
@@ -92,10 +88,6 @@ module _ {D : Type 0} (left : D → List ℕ → Type 0) where
     out = so.out;
     others = λ name lacks c now. (let from = back name c now in (from.0, so.others name lacks from.0 from.1, from.2));
   }
-
-  -- a refusal that has changed nothing
-  pub cut_here : (before after : DiskName → List ℕ → Type 0) (lent : List (Lent D)) → IsLent left before after lent → IsCut left before after lent
-  cut_here before after lent so = record { out = so.out; others = λ name lacks c now. continues_same (before name) c (so.others name lacks c now) }
 
   -- one disk is given back
   pub given : (before after : DiskName → List ℕ → Type 0) (front : List (Lent D)) (one : Lent D) → Within (left one.disk) (after one.name)
@@ -166,9 +158,6 @@ next_stage {J} {D} left before after disk_of kind names lent all is below kinds 
       (each_weaker (λ (o : Opened J). kind_of o.name ≡ kind) (λ (o : Opened J). kind_of o.name < kind + 1) (λ o h. omega (arith, h)) all (each_unmap (λ n. kind_of n ≡ kind) (λ (o : Opened J). o.name) all of_all)));
 }
 
-pub nothing_more : {J D : Type 0} (disk_of : J → D) (lent : List (Lent D)) (all : List (Opened J)) → all ≡ [] → lent ++ lend_all disk_of all ≡ lent
-nothing_more disk_of lent all none = ap (λ (xs : List (Opened _)). lent ++ lend_all disk_of xs) none ∙ append-nil lent
-
 pub names_more : {J : Type 0} (names : List DiskName) (i : ℕ) (d : DiskName) (all now : List (Opened J)) (one : Opened J) → map (λ o. o.name) all ≡ take i names → i < length names → one.name ≡ get_or names i d
     → now ≡ all ++ one ∷ [] → map (λ o. o.name) now ≡ take (i + 1) names
 names_more {J} names i d all now one so lt named is =
@@ -206,11 +195,6 @@ damaged_first seen left before mid name Memory is within was = tt
 
 pub length_more : {A : Type 0} (all now : List A) (one : A) → now ≡ all ++ one ∷ [] → length now ≡ length all + 1
 length_more all now one is = ap length is ∙ length-append all (one ∷ [])
-
--- no disk of the next kind is opened
-pub skip_stage : {D : Type 0} (left : D → List ℕ → Type 0) (before after : DiskName → List ℕ → Type 0) (kind : ℕ) (lent : List (Lent D)) → Stage left before after kind lent → Stage left before after (kind + 1) lent
-skip_stage {D} left before after kind lent stage =
-    record { taken = stage.taken; below = each_weaker (λ (l : Lent D). kind_of l.name < kind) (λ (l : Lent D). kind_of l.name < kind + 1) (λ l h. omega (arith, h)) lent stage.below }
 
 -- the first disk is opened
 pub first_stage : {D : Type 0} (left : D → List ℕ → Type 0) (before after : DiskName → List ℕ → Type 0) (one : Lent D) (name : DiskName) → one.name ≡ name → kind_of name ≡ 0

@@ -27,7 +27,7 @@ use std::alloc::Global;
 use topology_journal::TopologyJournal;
 
 /// The opened journals of a state directory, each with the name of its disk: the topology's, and by kind one of each site,
-/// of each replica, /// and of each joiner of site A and of site B.
+/// of each replica, and of each joiner of site A and of site B.
 #[derive(Drop)]
 pub struct SiteDisks<D: Disk> {
     pub topology: Opened<TopologyJournal<D>>,

@@ -1,9 +1,6 @@
 // The names of the disks, in the order in which they are opened.
 use outside::DiskName;
 
-/// The most joiners of a site.
-pub(crate) const MAX_JOINERS: u8 = 4;
-
 pub(crate) const OFFSETS: [DiskName; 2] = [DiskName::Offset(0), DiskName::Offset(1)];
 
 pub(crate) const RETRIES: [DiskName; 2] = [DiskName::Retry(0), DiskName::Retry(1)];

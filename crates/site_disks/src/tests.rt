@@ -1,3 +1,5 @@
+ghost use Rattle.std.specs.Prelude.{◌≤◌, length};
+
 use super::*;
 use mem_outside::{Fuse, Image, MemDisk, MemStore, Stop};
 use outside::{DiskName, Store};
@@ -5,7 +7,9 @@ use std::alloc::Global;
 use std::test::Fail;
 
 // A store whose disk of this name holds these bytes.
-fn store_with(alloc: Global, name: DiskName, bytes: &[u8]) -> Result<MemStore, Fail> {
+fn store_with(alloc: Global, name: DiskName, bytes: &[u8]) -> Result<MemStore, Fail>
+    requires { length bytes.now ≤ 100 }
+{
     let mut store = MemStore::new(alloc, Vec::new(alloc));
     match store.take(alloc, name) {
         Ok(_) => {

@@ -1,4 +1,4 @@
-ghost use Rattle.std.specs.Prelude.{IfOk};
+ghost use Rattle.std.specs.Prelude.{◌≤◌, length, IfOk};
 ghost use Rattle.topology_journal.specs.Topologies.{IsTopology};
 
 use super::*;
@@ -33,7 +33,9 @@ fn is_kept(journal: &TopologyJournal<MemDisk>) -> Result<bool, Fail> {
 }
 
 // What is told of a disk with these bytes, or 0 where it is opened.
-fn damage(alloc: Global, bytes: &[u8]) -> Result<u64, Fail> {
+fn damage(alloc: Global, bytes: &[u8]) -> Result<u64, Fail>
+    requires { length bytes.now ≤ 100 }
+{
     let disk = MemDisk::holding(alloc, bytes, Vec::new(alloc))?;
     match TopologyJournal::open(alloc, disk) {
         Ok(_) => Ok(0),
