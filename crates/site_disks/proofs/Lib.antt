@@ -1,0 +1,3 @@
+pub mod SameNames
+pub mod Lending
+pub mod Faults

@@ -1,0 +1,63 @@
+-- What opening the disks of a store does.
+use Rattle.std.specs.Prelude.{◌≡◌, ℕ, List, map, Bool, IsTrue}
+use Rattle.list_words.specs.Lists.{Each}
+use Rattle.outside.specs.declared.store.DiskName.{DiskName}
+use Rattle.outside.specs.Disk.{Within}
+use Rattle.outside.specs.Faults.{Rose}
+use Rattle.gate_journal.specs.declared.reading.JournalFault.{JournalFault}
+use Rattle.gate_journal.specs.declared.reading.JournalFault.TheVariants as journal
+use Rattle.site_disks.specs.Kinds.{damaged_by}
+use Rattle.site_disks.specs.declared.fault.DisksFault.{DisksFault}
+use Rattle.site_disks.specs.declared.fault.DisksFault.TheVariants as disks
+use Rattle.site_disks.specs.declared.opened.Opened.{Opened}
+
+-- A file is damaged as its kind reads it. A fault of the disk raised its count. Want of memory is free.
+abbrev pub IsRefusedBy : (List ℕ → ℕ → Type 0) → Bool → List ℕ → (old new : ℕ) → JournalFault → Type 0
+IsRefusedBy is_damaged tells seen old new (journal.Damaged at) = IsTrue tells → is_damaged seen at
+IsRefusedBy is_damaged tells seen old new journal.Disk = Rose old new
+IsRefusedBy is_damaged tells seen old new journal.Memory = Unit {0}
+
+-- the fault of a disk whose journal isn't opened
+abbrev pub told_by : DiskName → JournalFault → DisksFault
+told_by name (journal.Damaged at) = disks.Damaged name at
+told_by name journal.Disk = disks.Store name
+told_by name journal.Memory = disks.Memory
+
+-- one of the images has bytes that keep what the journal keeps
+abbrev pub IsKeptIn : (List ℕ → Type 0) → (List ℕ → Type 0) → Type 0
+IsKeptIn image keeps = (c : List ℕ) × image c × keeps c
+
+-- it keeps what might have been left of its disk before
+abbrev pub KeepsLeft : {J : Type 0} → (DiskName → List ℕ → Type 0) → (J → List ℕ → Type 0) → Opened J → Type 0
+KeepsLeft before keeps o = IsKeptIn (before o.name) (keeps o.journal)
+
+-- Journals that were opened from the disks of these names, in order. Each is ready, and keeps what might have been left of
+-- its disk before.
+pub record AreOpened {J : Type 0} (tells : Bool) (before : DiskName → List ℕ → Type 0) (is_ready : J → Type 0) (keeps : J → List ℕ → Type 0) (names : List DiskName) (opened : List (Opened J)) : Type 0 where
+  pub named : map (λ o. o.name) opened ≡ names
+  pub ready : Each (λ o. is_ready o.journal) opened
+  pub kept : IsTrue tells → Each (KeepsLeft before keeps) opened
+
+-- a fault of the store raised its count
+abbrev pub RoseBy : (old new : ℕ) → DisksFault → Type 0
+RoseBy old new (disks.Store name) = Rose old new
+RoseBy old new (disks.Damaged name at) = Unit {0}
+RoseBy old new disks.Memory = Unit {0}
+
+-- the fault is of the disk of this name
+abbrev pub IsOf : DiskName → DisksFault → Type 0
+IsOf name (disks.Store of) = of ≡ name
+IsOf name (disks.Damaged of at) = of ≡ name
+IsOf name disks.Memory = Unit {0}
+
+-- a disk with nothing but what might have been left of this name, which reads as damaged at this place
+pub record IsDamagedDisk {D : Type 0} (seen : D → List ℕ) (left : D → List ℕ → Type 0) (before : DiskName → List ℕ → Type 0) (name : DiskName) (at : ℕ) : Type 0 where
+  pub disk : D
+  pub within : Within (before name) (left disk)
+  pub damaged : damaged_by name (seen disk) at
+
+-- a disk that is told as damaged was so when it was taken
+abbrev pub WasDamaged : {D : Type 0} → (D → List ℕ) → (D → List ℕ → Type 0) → (DiskName → List ℕ → Type 0) → DisksFault → Type 0
+WasDamaged seen left before (disks.Store name) = Unit {0}
+WasDamaged seen left before (disks.Damaged name at) = IsDamagedDisk seen left before name at
+WasDamaged seen left before disks.Memory = Unit {0}

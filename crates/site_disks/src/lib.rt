@@ -1,0 +1,26 @@
+//! The disks of a state directory, opened together and given back together.
+#![tactic(auto)]
+
+mod checks;
+mod disks;
+mod fault;
+mod joiners;
+mod kinds;
+mod names;
+mod opened;
+mod opening;
+mod record;
+mod record_journal;
+mod sites;
+mod votes;
+
+pub use checks::{Misfit, first_misfit};
+pub use disks::{SiteDisks, give_back, open_disks};
+pub use fault::DisksFault;
+pub use opened::Opened;
+pub use record::write_topology;
+pub use record_journal::RecordJournal;
+pub use votes::VoteJournal;
+
+#[cfg(test)]
+mod tests;

@@ -1,0 +1,43 @@
+// The topology of a new store.
+ghost use Rattle.std.specs.Prelude.{◌≡◌, ◌≤◌, None, Some, IsTrue, OnOk, OnErr, IfErr};
+ghost use Rattle.outside.specs.Faults.{Rose};
+ghost use Rattle.gate_journal.specs.declared.journal.JournalState.TheVariants.{Ready};
+ghost use Rattle.topology_journal.specs.Topologies.{IsTopology};
+ghost use Rattle.site_disks.specs.Lent.{GoesOn};
+ghost use Rattle.site_disks.specs.Opening.{RoseBy, IsOf};
+
+use crate::{DisksFault, Opened};
+use outside::Disk;
+use std::alloc::Global;
+use topology_journal::{Topology, TopologyJournal, topology_frame};
+
+/// Writes what was asked to the topology's disk, which keeps none yet. Constant time; it allocates the record.
+pub fn write_topology<D: Disk>(
+    alloc: Global,
+    topology: &mut Opened<TopologyJournal<D>>,
+    asked: Topology,
+) -> Result<(), DisksFault>
+    requires is_topology { IsTopology asked }
+    requires ready { topology.old.journal.journal.state ≡ Ready }
+    requires none { topology.old.journal.kept ≡ None }
+    ensures name { topology.new.name ≡ topology.old.name }
+    ensures kept { OnOk result (topology.new.journal.kept ≡ Some asked) }
+    ensures none { OnErr result (topology.new.journal.kept ≡ None) }
+    ensures ready { OnOk result (topology.new.journal.journal.state ≡ Ready) }
+    ensures grows { IsTrue D.tells → GoesOn (D.image topology.old.journal.journal.disk) (D.image topology.new.journal.journal.disk) }
+    ensures count { D.faults topology.old.journal.journal.disk ≤ D.faults topology.new.journal.journal.disk }
+    ensures rose { IfErr result (RoseBy (D.faults topology.old.journal.journal.disk) (D.faults topology.new.journal.journal.disk)) }
+    ensures of { IfErr result (IsOf topology.old.name) }
+{
+    let name = topology.name;
+    let Ok(frame) = topology_frame(alloc, &asked) else {
+        return Err(DisksFault::Memory);
+    };
+    let Ok(()) = topology.journal.make_room(alloc) else {
+        return Err(DisksFault::Memory);
+    };
+    match topology.journal.write(&frame, asked) {
+        Ok(()) => Ok(()),
+        Err(_) => Err(DisksFault::Store(name)),
+    }
+}

@@ -1,0 +1,2 @@
+pub mod Topologies
+pub mod Rows
