@@ -31,9 +31,9 @@ knows_up g core k None l Own up is knows = absurd is
 knows_up g core k None l Tick up is knows = absurd is
 knows_up g core k None l (Deliver from p) up is knows = absurd is
 knows_up g core k (Some m) l Start up is knows = absurd up
-knows_up g core k (Some m) l Own up is knows = subst (λ (x : DispatcherLive). Stands g core k x × AreLivePlaces g x) is knows
-knows_up g core k (Some m) l Tick up is knows = subst (λ (x : DispatcherLive). Stands g core k x × AreLivePlaces g x) is knows
-knows_up g core k (Some m) l (Deliver from p) up is knows = subst (λ (x : DispatcherLive). Stands g core k x × AreLivePlaces g x) is knows
+knows_up g core k (Some m) l Own up is knows = subst (λ (x : DispatcherLive). Stands g core k x × AreLivePlaces g x) is (knows.0, knows.1)
+knows_up g core k (Some m) l Tick up is knows = subst (λ (x : DispatcherLive). Stands g core k x × AreLivePlaces g x) is (knows.0, knows.1)
+knows_up g core k (Some m) l (Deliver from p) up is knows = subst (λ (x : DispatcherLive). Stands g core k x × AreLivePlaces g x) is (knows.0, knows.1)
 
 pub kept_start : (o : ℕ) (ps qs : List ℕ) (k : DispatcherKept) → kept_as o ps ≡ k → qs ≡ ps → Distinct ps → IsKept k o qs
 kept_start o ps qs k is same once = record {

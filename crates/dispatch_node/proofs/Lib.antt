@@ -1,4 +1,5 @@
 pub mod Places
+pub mod Following
 pub mod Reading
 pub mod Standing
 pub mod Turning

@@ -1,21 +1,26 @@
 -- Inputs and rows of a dispatcher over its disks.
-use Rattle.std.proofs.Common.{◌≡◌, ℕ, false, List, Option, Some, None, refl, sym, ap, subst}
-use Rattle.std.specs.Prelude.{is_some}
+use Rattle.std.proofs.Common.{◌≡◌, ℕ, true, false, List, Option, Some, None, refl, sym, ap, subst}
+use Rattle.std.specs.Prelude.{is_some, option_map}
+use Rattle.log_records.proofs.Places.{lines_follow}
 use Rattle.air_bus.specs.declared.entry.Input.{Input as Bytes}
 use Rattle.air_bus.specs.declared.entry.Input.TheVariants as bytes
 use Rattle.packet_codec.specs.declared.node.Input.{Input}
 use Rattle.packet_codec.specs.declared.node.Input.TheVariants.{Start, Own, Tick, Deliver}
 use Rattle.turn_defs.specs.Setting.{Setting}
-use Rattle.turn_defs.specs.Turns.{Note, land}
+use Rattle.turn_defs.specs.Turns.{Note, Out, land}
 use Rattle.site_node.specs.Bytes.{Reads, IsJunk}
 use Rattle.site_node.specs.States.{MayTake, row_of}
 use Rattle.dispatch_core.specs.Dispatcher.{DispatcherKept, DispatcherLive, land_dispatcher, dispatcher_turn}
+use Rattle.dispatch_core.specs.Changes.{told}
 use Rattle.dispatch_core.specs.Standing.{out_of}
 use Rattle.dispatch_core.specs.declared.dispatch.DispatchCore.{DispatchCore}
 use Rattle.dispatch_core.specs.declared.turns.DispatchNote.{DispatchNote}
+use Rattle.dispatch_node.specs.Kept.{takes_or_none}
+use Rattle.dispatch_node.specs.Follows.{IsRowTaken}
 use Rattle.dispatch_node.specs.Node.{IsAsked, IsRecorded, Knows, landed_by, dispatcher_rows}
-use Rattle.dispatch_node.specs.Places.{AreKeptPlaces}
+use Rattle.dispatch_node.specs.Places.{IsLogOf, AreKeptPlaces}
 use Rattle.dispatch_node.proofs.Places.{AreOutPlaces, turn_places, start_places}
+use Rattle.dispatch_node.proofs.Following.{FollowsOn, turn_follows, start_follows, taken_row}
 
 pub none_of : {A : Type 0} (o : Option A) → is_some o ≡ false → o ≡ None
 none_of None off = refl
@@ -61,6 +66,20 @@ row_places g site core k None l Own is kept knows = absurd is
 row_places g site core k None l Tick is kept knows = absurd is
 row_places g site core k None l (Deliver from p) is kept knows = absurd is
 row_places g site core k (Some m) l i is kept knows = turn_places g site k m kept knows.1 i
+
+-- the disks take its note, and what is known then fits what they keep then
+pub row_follows : (g : Setting) (site : ℕ) (log : List ℕ) (core : DispatchCore) (k : DispatcherKept) (live : Option DispatcherLive) (l : DispatcherLive) (i : Input) → IsLogOf log g → IsAsked live i l → Knows g core k live → FollowsOn k (row_of (dispatcher_rows site) g k live i)
+row_follows g site log core k None l Start of_log is knows = start_follows k
+row_follows g site log core k None l Own of_log is knows = absurd is
+row_follows g site log core k None l Tick of_log is knows = absurd is
+row_follows g site log core k None l (Deliver from p) of_log is knows = absurd is
+row_follows g site log core k (Some m) l i of_log is knows = turn_follows g site k m (lines_follow log g.clicks of_log.lines).0 knows.0.ordered.apart knows.2 i
+
+pub row_taken : (g : Setting) (site : ℕ) (log : List ℕ) (core : DispatchCore) (k : DispatcherKept) (live : Option DispatcherLive) (l : DispatcherLive) (i : Input) (n : Option DispatchNote)
+    → IsLogOf log g → IsAsked live i l → Knows g core k live → option_map told n ≡ (out_of g site k l i).note → takes_or_none k n ≡ true
+row_taken g site log core k live l i n of_log is knows e =
+    taken_row k n (out_of g site k l i).note e
+    (subst (λ (o : Out DispatcherLive). IsRowTaken k o.note) (sym (row_is g site k live l i is)) (row_follows g site log core k live l i of_log is knows).taken)
 
 -- what the disks keep once the row's note is written
 pub landed_is : (note : Option Note) (written : Option (DispatchNote × List ℕ)) (k : DispatcherKept) → IsRecorded note written → landed_by written k ≡ land land_dispatcher note k

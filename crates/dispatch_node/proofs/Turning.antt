@@ -22,7 +22,7 @@ use Rattle.dispatch_node.specs.Kept.{kept_as, takes_note, Holds, MayKeep}
 use Rattle.dispatch_node.specs.Node.{DispatcherState, SiteLeads, Knows, IsAsked, Parts, StandsAt, StandsBy, IsRecorded, IsTakenBy, landed_by, dispatcher_rows}
 use Rattle.dispatch_node.specs.Places.{IsLogOf, AreKeptPlaces}
 use Rattle.dispatch_node.specs.Images.{KeptOn, OnDisks, kept_or}
-use Rattle.dispatch_node.proofs.Standing.{up_of, row_is, row_places, landed_is}
+use Rattle.dispatch_node.proofs.Standing.{up_of, row_is, row_places, row_follows, landed_is}
 
 -- the same node, whatever its core, its disks and its journals are
 pub record IsSame (p q : Parts) : Type 0 where
@@ -133,7 +133,9 @@ ends p q oi ri oj rj s t n site b i l core turn w said ps ready sent at led same
     let is = row_turn s site b i l core turn w d in
     let node : State DispatcherKept DispatcherLive = closes s.node k (Some out.live) in
     let u : DispatcherState = record { site = s.site; node = node } in
-    let places = row_places g s.site p.core s.node.kept s.node.live l i d.asked at.places (quiet p oi ri s none at).1 in (
+    let knows = (quiet p oi ri s none at).1 in
+    let places = row_places g s.site p.core s.node.kept s.node.live l i d.asked at.places knows in
+    let follows = row_follows g s.site p.log p.core s.node.kept s.node.live l i at.log d.asked knows in (
       u,
       record {
         site = sym led.site;
@@ -156,7 +158,7 @@ ends p q oi ri oj rj s t n site b i l core turn w said ps ready sent at led same
             ));
       },
       stands_again p q oi ri oj rj s node at same refl places.kept
-          (by_none q oj rj u none' (subst (λ (x : DispatcherKept). Holds q.offset_state q.retry_state q.offset q.pending x) (row_lands s site b i l core turn w d) holds, (stands out is, places.live))),
+          (by_none q oj rj u none' (subst (λ (x : DispatcherKept). Holds q.offset_state q.retry_state q.offset q.pending x) (row_lands s site b i l core turn w d) holds, (stands out is, places.live, follows.live))),
     )
 
 -- the turn isn't done, and nothing but room has changed
@@ -171,7 +173,7 @@ stays_open p q oi ri oj rj s t n b at led same none none' stands holds =
   where
     go : (live : Option DispatcherLive) → Knows s.node.setting p.core s.node.kept live → Knows s.node.setting q.core s.node.kept live
     go None knows = tt
-    go (Some m) knows = (stands m knows.0, knows.1)
+    go (Some m) knows = (stands m knows.0, knows.1, knows.2)
 
 -- the turn was stopped, and its note is in doubt
 pub doubted : (p q : Parts) (oi ri oj rj : List ℕ → Type 0) (s t : DispatcherState) (n site : ℕ) (b : Bytes) (i : Input) (l : DispatcherLive) (core : DispatchCore) (turn : Turn) (x : DispatchNote × List ℕ)

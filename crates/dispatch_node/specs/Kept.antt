@@ -1,5 +1,5 @@
 -- What the two disks of a dispatcher keep, before and after a note.
-use Rattle.std.specs.Prelude.{◌≡◌, ◌<◌, ℕ, List, Bool, not, nat_lt}
+use Rattle.std.specs.Prelude.{◌≡◌, ◌<◌, ℕ, List, Bool, true, not, nat_lt, Option, Some, None}
 use Rattle.list_words.specs.Lists.{has}
 use Rattle.gate_journal.specs.Disk.{HasRoom}
 use Rattle.gate_journal.specs.declared.journal.JournalState.{JournalState}
@@ -23,6 +23,11 @@ abbrev pub takes_note : DispatcherKept → DispatchNote → Bool
 takes_note k (Advance e) = nat_lt k.offset e
 takes_note k (Park p) = not (has k.pending p)
 takes_note k (Settle p) = has k.pending p
+
+-- so are none
+abbrev pub takes_or_none : DispatcherKept → Option DispatchNote → Bool
+takes_or_none k None = true
+takes_or_none k (Some n) = takes_note k n
 
 -- both journals are ready, and keep this
 pub record Holds (offset_state retry_state : JournalState) (offset : ℕ) (pending : List ℕ) (k : DispatcherKept) : Type 0 where

@@ -19,6 +19,7 @@ use Rattle.dispatch_core.specs.declared.turns.DispatchNote.{DispatchNote}
 use Rattle.dispatch_core.specs.declared.turns.Turn.{Turn}
 use Rattle.dispatch_node.specs.Kept.{landed, takes_note, Holds, HasRoomFor, MayKeep}
 use Rattle.dispatch_node.specs.Places.{IsLogOf, AreKeptPlaces, AreLivePlaces}
+use Rattle.dispatch_node.specs.Follows.{Follows}
 
 -- the rows of a dispatcher as those of a kind of node
 abbrev pub dispatcher_rows : ℕ → Rows DispatcherKept DispatcherLive
@@ -42,10 +43,11 @@ says f s b = (l : DispatcherLive) → s.node.live ≡ Some l → b ≡ f l
 abbrev pub never_spent : DispatcherState → Bytes → Option ℕ
 never_spent s b = None
 
--- Up, its core stands for what the disks hold and what it knows. Down, the core holds nothing that counts.
+-- Up, its core stands for what the disks hold and what it knows, which fits what they hold. Down, the core holds nothing
+-- that counts.
 abbrev pub Knows : Setting → DispatchCore → DispatcherKept → Option DispatcherLive → Type 0
 Knows g core k None = Unit {0}
-Knows g core k (Some l) = Stands g core k l × AreLivePlaces g l
+Knows g core k (Some l) = Stands g core k l × AreLivePlaces g l × Follows k l
 
 -- a node that is down takes Start, whatever its core holds, and one that is up doesn't
 abbrev pub IsAsked : Option DispatcherLive → Input → DispatcherLive → Type 0

@@ -11,7 +11,7 @@ ghost use Rattle.turn_defs.specs.Turns.{Note};
 ghost use Rattle.site_node.specs.Faults.{IsOfRestart, IsWhole};
 ghost use Rattle.dispatch_core.specs.Changes.{told};
 ghost use Rattle.dispatch_node.specs.Faults.{fault_told};
-ghost use Rattle.dispatch_node.specs.Kept.{kept_as, landed, takes_note, HasRoomFor};
+ghost use Rattle.dispatch_node.specs.Kept.{kept_as, landed, takes_note, takes_or_none, HasRoomFor};
 ghost use Rattle.dispatch_node.specs.Node.{IsRecorded, IsTakenBy, IsRoomFor};
 
 use crate::notes::payload_of;
@@ -71,6 +71,16 @@ impl<D: Disk> Journals<D> {
         }
     }
 
+    // The same where there may be no note, which is taken.
+    pub(crate) fn takes_any(&self, note: Option<DispatchNote>) -> bool
+        ensures { result ≡ takes_or_none (kept_as self.now.offset.offset self.now.retry.pending.keys) note }
+    {
+        match note {
+            None => true,
+            Some(note) => self.takes(note),
+        }
+    }
+
     // Room for the note, on its disk.
     pub(crate) fn make_room(&mut self, note: DispatchNote) -> Result<(), AllocError>
         ensures room { OnOk result (HasRoomFor note (D.calls_left self.new.offset.journal.disk) (D.bytes_left self.new.offset.journal.disk)
@@ -92,12 +102,12 @@ impl<D: Disk> Journals<D> {
         }
     }
 
-    // The note with its record, and room for it on its disk. A note that its disk doesn't take never comes where the log and
-    // the disks are sound.
+    // The note with its record, and room for it on its disk.
     pub(crate) fn write_down(
         &mut self,
         note: Option<DispatchNote>,
     ) -> Result<Option<(DispatchNote, Payload)>, AllocError>
+        requires { takes_or_none (kept_as self.old.offset.offset self.old.retry.pending.keys) note ≡ true }
         ensures recorded { (n : Option Note) → option_map told note ≡ n → IfOk result (IsRecorded n) }
         ensures takes { IfOk result (IsTakenBy (kept_as self.new.offset.offset self.new.retry.pending.keys)) }
         ensures room { IfOk result (λ written. IsRoomFor written
@@ -117,9 +127,6 @@ impl<D: Disk> Journals<D> {
         let Some(note) = note else {
             return Ok(None);
         };
-        if !self.takes(note) {
-            return Err(AllocError);
-        }
         let record = payload_of(self.alloc, note)?;
         self.make_room(note)?;
         Ok(Some((note, record)))

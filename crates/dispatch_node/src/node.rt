@@ -53,10 +53,11 @@ impl<D: Disk, L: LogFile> DispatchNode<D, L> {
     ghost use Rattle.turn_defs.specs.Setting.{Setting};
     ghost use Rattle.turn_defs.specs.Turns.{Out, land};
     ghost use Rattle.site_node.specs.Rosters as rosters;
+    ghost use Rattle.dispatch_core.specs.Changes.{told};
     ghost use Rattle.dispatch_core.specs.Dispatcher.{DispatcherKept, DispatcherLive, land_dispatcher};
     ghost use Rattle.dispatch_core.specs.Standing.{HasSameNumbers, IsOf, IsTurn, Stands, StandsAs, out_of};
     ghost use Rattle.dispatch_node.specs.Faults.{IsReadFault};
-    ghost use Rattle.dispatch_node.specs.Kept.{kept_as};
+    ghost use Rattle.dispatch_node.specs.Kept.{kept_as, takes_or_none};
     ghost use Rattle.dispatch_node.specs.Places.{AreKeptPlaces, IsLogOf};
     ghost use Rattle.dispatch_node.specs.Node.{IsAsked, IsReady, IsRecorded, IsRoomFor, IsTakenBy, Knows, StandsAt, down_over, landed_by};
 
@@ -160,12 +161,33 @@ impl<D: Disk, L: LogFile> DispatchNode<D, L> {
         let taken = look_up(&self.core, &self.journals, &mut self.clicks, input)?;
         let turn = self.core.decide(&taken)?;
         let packets = spell(self.alloc, turn.packets())?;
-        let written = self.journals.write_down(turn.note())?;
+        let note = turn.note();
+        self.expect_taken(note)?;
+        let written = self.journals.write_down(note)?;
         Ok(ReadyTurn {
             turn,
             packets,
             written,
         })
+    }
+
+    // Refuses a note that its disk doesn't take, as if there were no memory. The note of a row is never refused: what a node
+    // knows fits what its disks keep.
+    fn expect_taken(&self, note: Option<DispatchNote>) -> Result<(), NodeFault>
+        ensures taken { OnOk result (takes_or_none
+            (kept_as self.now.journals.offset.offset self.now.journals.retry.pending.keys) note ≡ true) }
+        ensures never { (g : Setting) (k : DispatcherKept) (live : Option DispatcherLive) (l : DispatcherLive) (input : Input) →
+            IsLogOf (L.bytes self.now.clicks.tail.log) g →
+            kept_as self.now.journals.offset.offset self.now.journals.retry.pending.keys ≡ k →
+            Knows g self.now.core k live → IsAsked live input l →
+            option_map told note ≡ (out_of g self.now.core.dealer.site k l input).note → OnErr result ⊥ }
+        ensures fault { IfErr result (λ e. e ≡ NodeFault.Memory) }
+    {
+        if self.journals.takes_any(note) {
+            Ok(())
+        } else {
+            Err(NodeFault::Memory)
+        }
     }
 
     // Appends the note, if there is one, and keeps the turn. Where the disk fails the note is in doubt.

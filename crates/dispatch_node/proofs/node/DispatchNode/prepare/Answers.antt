@@ -9,7 +9,7 @@ pub returns-clause-ready : goal.returns-clause-ready
 returns-clause-ready g c = record {
   keeps = c.in_ok-turn.ensures.ready;
   packets = subst (λ (ps : List (Node × Packet)). AreSpelled ps c.in_ok-packets.packets) c.packets.ensures c.in_ok-packets.ensures;
-  recorded = c.in_ok-written.ensures.recorded (note_of c.in_ok-turn.turn.change) c.note.ensures;
+  recorded = c.in_ok-written.ensures.recorded (note_of c.in_ok-turn.turn.change) c.note-note.ensures;
 }
 
 pub returns-clause-turn : goal.returns-clause-turn
