@@ -1,0 +1,4 @@
+mod Stretches
+mod Boundaries
+mod Telling
+mod Worked
