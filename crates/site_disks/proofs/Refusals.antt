@@ -7,7 +7,7 @@ use Rattle.site_disks.specs.declared.fault.DisksFault.{DisksFault}
 use Rattle.site_disks.specs.declared.fault.DisksFault.TheVariants.{Store, Damaged, Memory}
 use Rattle.site_disks.specs.Opening.{IsOf, IsKeptIn, KeepsLeft}
 use Rattle.site_disks.specs.Refusals.{IsJournalOf, WereJournals, IsFirst, IsOfFirst}
-use Rattle.site_disks.proofs.Lending.{each_both, each_take}
+use Rattle.site_disks.proofs.Lending.{each_both}
 
 -- what a kind of journal keeps is a journal under each of these names
 abbrev pub KeepsAs : {J : Type 0} → (J → List ℕ → Type 0) → List DiskName → Type 0
