@@ -185,6 +185,32 @@ fn a_damaged_disk_is_told(rt: HostRuntime) -> Result<(), Fail> {
 }
 
 #[test]
+fn the_first_damaged_disk_is_told(rt: HostRuntime) -> Result<(), Fail> {
+    let alloc = rt.alloc();
+    // A record of another kind, on one disk more each time, which is opened before those with it.
+    let bytes = [0xA5, 0, 0, 0, 5, 9, 0, 0, 0, 1, 0];
+    let mut store = MemStore::new(alloc, Vec::new(alloc));
+    let names = [
+        DiskName::Output(1, 0),
+        DiskName::Output(0, 1),
+        DiskName::Epoch(1, 1),
+        DiskName::Epoch(0, 0),
+        DiskName::Replica(2),
+        DiskName::Replica(1),
+        DiskName::Server(1),
+        DiskName::Retry(0),
+        DiskName::Offset(1),
+        DiskName::Topology,
+    ];
+    for disk in names {
+        put(alloc, &mut store, disk, &bytes)?;
+        let want = Some(DisksFault::Damaged { disk, at: 1 });
+        assert_eq!(rt; counts(alloc, &mut store, 2).err(), want);
+    }
+    Ok(())
+}
+
+#[test]
 fn a_stop_in_the_opening_is_told(rt: HostRuntime) -> Result<(), Fail> {
     let alloc = rt.alloc();
     let name = DiskName::Replica(2);
