@@ -5,15 +5,15 @@ use Rattle.std.proofs.lemmas.List.{map-append, append-nil, take_more, length-app
 use Rattle.list_words.specs.Lists.{Each, EachPair, Mem}
 use Rattle.outside.specs.declared.store.DiskName.{DiskName}
 use Rattle.outside.specs.Disk.{Within}
-use Rattle.gate_journal.specs.Growth.{Continues}
-use Rattle.gate_journal.proofs.Growth.{continues_same}
+use Rattle.gate_journal.specs.Opening.{IsOpened}
 use Rattle.site_disks.specs.declared.opened.Opened.{Opened}
-use Rattle.site_disks.specs.Lent.{Lent, lend, lend_all, GoesOn, Lacks, AreNew, IsLent, IsCut, MayBeLeft, Stage}
+use Rattle.site_disks.specs.Lent.{Lent, lend, lend_all, StaysAs, Lacks, AreNew, IsLent, IsCut, MayBeLeft, Stage}
 use Rattle.site_disks.specs.declared.fault.DisksFault.{DisksFault}
 use Rattle.site_disks.specs.declared.fault.DisksFault.TheVariants.{Store, Damaged, Memory}
 use Rattle.site_disks.specs.Kinds.{kind_of}
 use Rattle.site_disks.specs.Opening.{KeepsLeft, IsKeptIn, IsOf, WasDamaged}
 use Rattle.site_disks.proofs.SameNames.{same_or_not}
+use Rattle.site_disks.proofs.Stays.{opened_same}
 
 pub each_push : {A : Type 0} (P : A → Type 0) (xs : List A) (y : A) → Each P xs → P y → Each P (xs ++ y ∷ [])
 each_push P [] y h p = (p, tt)
@@ -55,12 +55,12 @@ mem_last x [] = inl refl
 mem_last x (y ∷ xs) = inr (mem_last x xs)
 
 -- a disk that was taken, and given back where its journal was refused
-pub given_back : (before mid after : DiskName → List ℕ → Type 0) (name : DiskName) (first back : List ℕ → Type 0) → Within (before name) first → GoesOn first back
+pub given_back : (before mid after : DiskName → List ℕ → Type 0) (name : DiskName) (first back : List ℕ → Type 0) → Within (before name) first → StaysAs first back
     → ((other : DiskName) → other ≢ name → Within (before other) (mid other)) → Within back (after name) → ((other : DiskName) → other ≢ name → Within (mid other) (after other))
-    → (other : DiskName) → GoesOn (before other) (after other)
-given_back before mid after name first back images grows others give stay other c now = elim (same_or_not other name) [
-  | inl same ↦ subst (λ (n : DiskName). Continues (before n) c) (sym same) (let from = grows c (give c (subst (λ (n : DiskName). after n c) same now)) in (from.0, images from.0 from.1, from.2))
-  | inr not ↦ continues_same (before other) c (others other not c (stay other not c now))
+    → (other : DiskName) → StaysAs (before other) (after other)
+given_back before mid after name first back images stays others give stay other c now = elim (same_or_not other name) [
+  | inl same ↦ subst (λ (n : DiskName). IsOpened (before n) c) (sym same) (let from = stays c (give c (subst (λ (n : DiskName). after n c) same now)) in (from.0, images from.0 from.1, from.2))
+  | inr not ↦ opened_same (before other) c (others other not c (stay other not c now))
 ]
 
 -- the disks of one journal more
@@ -72,9 +72,9 @@ lend_more disk_of front all one =
 module _ {D : Type 0} (left : D → List ℕ → Type 0) where
   -- one disk more
   pub one_lent : (before mid after : DiskName → List ℕ → Type 0) (lent : List (Lent D)) (one : Lent D) → IsLent left before mid lent → Lacks lent one.name
-      → GoesOn (mid one.name) (left one.disk) → ((other : DiskName) → other ≢ one.name → Within (mid other) (after other)) → IsLent left before after (lent ++ one ∷ [])
-  one_lent before mid after lent one so lacks grows others = record {
-    out = each_push (λ (l : Lent D). GoesOn (before l.name) (left l.disk)) lent one so.out (λ c now. (let from = grows c now in (from.0, so.others one.name lacks from.0 from.1, from.2)));
+      → StaysAs (mid one.name) (left one.disk) → ((other : DiskName) → other ≢ one.name → Within (mid other) (after other)) → IsLent left before after (lent ++ one ∷ [])
+  one_lent before mid after lent one so lacks stays others = record {
+    out = each_push (λ (l : Lent D). StaysAs (before l.name) (left l.disk)) lent one so.out (λ c now. (let from = stays c now in (from.0, so.others one.name lacks from.0 from.1, from.2)));
     others = λ name away c now. (
         let front : Lacks lent name = each_front (λ (l : Lent D). l.name ≢ name) lent (one ∷ []) away in
         let last = each_back (λ (l : Lent D). l.name ≢ name) lent (one ∷ []) away in
@@ -83,7 +83,7 @@ module _ {D : Type 0} (left : D → List ℕ → Type 0) where
   }
 
   -- a refusal
-  pub cut_off : (before mid after : DiskName → List ℕ → Type 0) (lent : List (Lent D)) → IsLent left before mid lent → ((other : DiskName) → GoesOn (mid other) (after other)) → IsCut left before after lent
+  pub cut_off : (before mid after : DiskName → List ℕ → Type 0) (lent : List (Lent D)) → IsLent left before mid lent → ((other : DiskName) → StaysAs (mid other) (after other)) → IsCut left before after lent
   cut_off before mid after lent so back = record {
     out = so.out;
     others = λ name lacks c now. (let from = back name c now in (from.0, so.others name lacks from.0 from.1, from.2));
@@ -99,12 +99,12 @@ module _ {D : Type 0} (left : D → List ℕ → Type 0) where
     | inr not ↦ inl (each_push (λ (l : Lent D). l.name ≢ name) front one stays.0 (λ e. not (sym e)), others name not c stays.1)
   ]
 
-  -- what may be left once all were given back goes on from what might have been left before they were taken
-  pub goes_on : (before mid after : DiskName → List ℕ → Type 0) (lent : List (Lent D)) → IsCut left before mid lent
-      → ((name : DiskName) (c : List ℕ) → after name c → MayBeLeft left mid lent name c) → (name : DiskName) → GoesOn (before name) (after name)
-  goes_on before mid after lent so give name c now = elim (give name c now) [
+  -- what may be left once all were given back stands for what might have been left before they were taken
+  pub stays_as : (before mid after : DiskName → List ℕ → Type 0) (lent : List (Lent D)) → IsCut left before mid lent
+      → ((name : DiskName) (c : List ℕ) → after name c → MayBeLeft left mid lent name c) → (name : DiskName) → StaysAs (before name) (after name)
+  stays_as before mid after lent so give name c now = elim (give name c now) [
     | inl stays ↦ so.others name stays.0 c stays.1
-    | inr of ↦ subst (λ (n : DiskName). Continues (before n) c) of.named (each_mem (λ (l : Lent D). GoesOn (before l.name) (left l.disk)) of.one lent so.out of.among c of.may)
+    | inr of ↦ subst (λ (n : DiskName). IsOpened (before n) c) of.named (each_mem (λ (l : Lent D). StaysAs (before l.name) (left l.disk)) of.one lent so.out of.among c of.may)
   ]
 
 pub each_at : {A : Type 0} (P : A → Type 0) (xs : List A) (i : ℕ) (d : A) → Each P xs → i < length xs → P (get_or xs i d)
@@ -170,13 +170,13 @@ ready_more {J} P all now one so here is = subst (Each P) (sym is) (each_push P a
 -- the disk of the next name is opened
 pub opened_more : {J D : Type 0} (left : D → List ℕ → Type 0) (before mid after : DiskName → List ℕ → Type 0) (disk_of : J → D) (name : DiskName)
     (lent : List (Lent D)) (all now : List (Opened J)) (one : Opened J) → IsLent left before mid (lent ++ lend_all disk_of all) → Lacks (lent ++ lend_all disk_of all) name → one.name ≡ name
-    → GoesOn (mid name) (left (disk_of one.journal)) → ((other : DiskName) → other ≢ name → Within (mid other) (after other)) → now ≡ all ++ one ∷ []
+    → StaysAs (mid name) (left (disk_of one.journal)) → ((other : DiskName) → other ≢ name → Within (mid other) (after other)) → now ≡ all ++ one ∷ []
     → IsLent left before after (lent ++ lend_all disk_of now)
-opened_more {J} {D} left before mid after disk_of name lent all now one so lacks named grows others is =
+opened_more {J} {D} left before mid after disk_of name lent all now one so lacks named stays others is =
     let whole : lent ++ lend_all disk_of now ≡ (lent ++ lend_all disk_of all) ++ lend disk_of one ∷ [] = ap (λ (xs : List (Opened J)). lent ++ lend_all disk_of xs) is ∙ lend_more disk_of lent all one in
     subst (IsLent left before after) (sym whole)
     (one_lent left before mid after (lent ++ lend_all disk_of all) (lend disk_of one) so (subst (Lacks (lent ++ lend_all disk_of all)) (sym named) lacks)
-    (subst (λ (n : DiskName). GoesOn (mid n) (left (disk_of one.journal))) (sym named) grows)
+    (subst (λ (n : DiskName). StaysAs (mid n) (left (disk_of one.journal))) (sym named) stays)
     (λ other not. others other (λ e. not (e ∙ sym named))))
 
 -- and keeps what might have been left of it at first
@@ -198,10 +198,10 @@ length_more all now one is = ap length is ∙ length-append all (one ∷ [])
 
 -- the first disk is opened
 pub first_stage : {D : Type 0} (left : D → List ℕ → Type 0) (before after : DiskName → List ℕ → Type 0) (one : Lent D) (name : DiskName) → one.name ≡ name → kind_of name ≡ 0
-    → GoesOn (before name) (left one.disk) → ((other : DiskName) → other ≢ name → Within (before other) (after other)) → Stage left before after 1 (one ∷ [])
-first_stage left before after one name named kind grows others = record {
+    → StaysAs (before name) (left one.disk) → ((other : DiskName) → other ≢ name → Within (before other) (after other)) → Stage left before after 1 (one ∷ [])
+first_stage left before after one name named kind stays others = record {
   taken = record {
-    out = (subst (λ (n : DiskName). GoesOn (before n) (left one.disk)) (sym named) grows, tt);
+    out = (subst (λ (n : DiskName). StaysAs (before n) (left one.disk)) (sym named) stays, tt);
     others = λ other away. others other (λ e. away.0 (named ∙ sym e));
   };
   below = (omega (arith, ap kind_of named, kind), tt);

@@ -1,3 +1,5 @@
 pub mod SameNames
+pub mod Stays
 pub mod Lending
 pub mod Faults
+pub mod Refusals

@@ -3,6 +3,7 @@ use Rattle.std.specs.Prelude.{◌≡◌, ◌≢◌, ◌⊎◌, ◌<◌, ℕ, Lis
 use Rattle.outside.specs.declared.store.DiskName.{DiskName}
 use Rattle.outside.specs.Disk.{Within}
 use Rattle.gate_journal.specs.Growth.{Continues}
+use Rattle.gate_journal.specs.Opening.{IsOpened}
 use Rattle.list_words.specs.Lists.{Each, Mem}
 use Rattle.site_disks.specs.Kinds.{kind_of}
 use Rattle.site_disks.specs.declared.opened.Opened.{Opened}
@@ -20,7 +21,11 @@ lend disk_of o = record { name = o.name; disk = disk_of o.journal }
 abbrev pub lend_all : {J D : Type 0} → (J → D) → List (Opened J) → List (Lent D)
 lend_all disk_of all = map (lend disk_of) all
 
--- what may be left now continues what might have been left before
+-- each image stands for what one of the images before stood for
+abbrev pub StaysAs : (List ℕ → Type 0) → (List ℕ → Type 0) → Type 0
+StaysAs old new = (c : List ℕ) → new c → IsOpened old c
+
+-- each image continues one of the images before
 abbrev pub GoesOn : (List ℕ → Type 0) → (List ℕ → Type 0) → Type 0
 GoesOn old new = (c : List ℕ) → new c → Continues old c
 
@@ -32,16 +37,16 @@ Lacks lent name = Each (λ l. l.name ≢ name) lent
 abbrev pub AreNew : {D : Type 0} → List DiskName → List (Lent D) → Type 0
 AreNew names lent = Each (λ name. Lacks lent name) names
 
--- What a stop may leave of each of these disks goes on from what it might have left of it in the store before. Of each other
+-- What a stop may leave of each of these disks stands for what it might have left of it in the store before. Of each other
 -- disk it leaves nothing new.
 pub record IsLent {D : Type 0} (left : D → List ℕ → Type 0) (before after : DiskName → List ℕ → Type 0) (lent : List (Lent D)) : Type 0 where
-  pub out : Each (λ l. GoesOn (before l.name) (left l.disk)) lent
+  pub out : Each (λ l. StaysAs (before l.name) (left l.disk)) lent
   pub others : (name : DiskName) → Lacks lent name → Within (before name) (after name)
 
--- The same after a refusal: one of the other disks was taken and given back, and goes on too.
+-- The same after a refusal: one of the other disks was taken and given back, and stands for the same too.
 pub record IsCut {D : Type 0} (left : D → List ℕ → Type 0) (before after : DiskName → List ℕ → Type 0) (lent : List (Lent D)) : Type 0 where
-  pub out : Each (λ l. GoesOn (before l.name) (left l.disk)) lent
-  pub others : (name : DiskName) → Lacks lent name → GoesOn (before name) (after name)
+  pub out : Each (λ l. StaysAs (before l.name) (left l.disk)) lent
+  pub others : (name : DiskName) → Lacks lent name → StaysAs (before name) (after name)
 
 -- the disks of the kinds before this one were taken, and nothing else has changed
 pub record Stage {D : Type 0} (left : D → List ℕ → Type 0) (before after : DiskName → List ℕ → Type 0) (kind : ℕ) (lent : List (Lent D)) : Type 0 where

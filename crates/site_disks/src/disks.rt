@@ -10,7 +10,8 @@ ghost use Rattle.retry_log.specs.Pending.{Keeps as KeepsPending};
 ghost use Rattle.output_log.specs.Pairs.{Keeps as KeepsPairs};
 ghost use Rattle.site_disks.specs.Votes.{KeepsNotes, IsReadyVotes};
 ghost use Rattle.site_disks.specs.Kinds.{joiners_kept, offset_names, retry_names, server_names, replica_names, epoch_names_a, epoch_names_b, output_names_a, output_names_b};
-ghost use Rattle.site_disks.specs.Lent.{Lent, lend, lend_all, joined, GoesOn, IsLent, IsCut, Stage, MayBeLeft};
+ghost use Rattle.site_disks.specs.Lent.{Lent, lend, lend_all, joined, StaysAs, IsLent, IsCut, Stage, MayBeLeft};
+ghost use Rattle.site_disks.specs.Refusals.{IsOfFirst, IsOfFirstDisk, other_names};
 ghost use Rattle.site_disks.specs.Opening.{AreOpened, IsKeptIn, RoseBy, WasDamaged};
 
 use crate::joiners::open_joiners;
@@ -108,6 +109,8 @@ fn open_rest<S: Store>(
         (lend_all (λ o. o.journal.disk) disks.new.outputs_b.items))) }
     ensures damaged { IsTrue S.Disk.tells → (s : S) → Stage S.Disk.image (S.image s) (S.image store.old) 1 (lend (λ t. t.journal.disk) disks.old.topology ∷ [])
         → IfErr result (WasDamaged S.Disk.seen S.Disk.image (S.image s)) }
+    ensures first { (s : S) → (IsTrue S.Disk.tells → Stage S.Disk.image (S.image s) (S.image store.old) 1 (lend (λ t. t.journal.disk) disks.old.topology ∷ []))
+        → IfErr result (IsOfFirst S.Disk.tells (S.image s) (other_names joiners)) }
     ensures places { S.places_left store.old + (length disks.new.offsets.items + length disks.new.retries.items + length disks.new.servers.items + length disks.new.replicas.items + length disks.new.epochs_a.items + length disks.new.epochs_b.items + length disks.new.outputs_a.items + length disks.new.outputs_b.items) ≤ S.places_left store.new }
     ensures count { S.faults store.old ≤ S.faults store.new }
     ensures rose { IfErr result (RoseBy (S.faults store.old) (S.faults store.new)) }
@@ -163,9 +166,10 @@ pub fn open_disks<S: Store>(
         (lend_all (λ e. e.journal.disk) d.epochs_b.items)
         (lend_all (λ o. o.journal.disk) d.outputs_a.items)
         (lend_all (λ o. o.journal.disk) d.outputs_b.items))) }
-    ensures back { IsTrue S.Disk.tells → OnErr result ((name : DiskName) → GoesOn (S.image store.old name) (S.image store.new name)) }
+    ensures back { IsTrue S.Disk.tells → OnErr result ((name : DiskName) → StaysAs (S.image store.old name) (S.image store.new name)) }
     ensures places { IfOk result (λ d. S.places_left store.old + (1 + (length d.offsets.items + length d.retries.items + length d.servers.items + length d.replicas.items + length d.epochs_a.items + length d.epochs_b.items + length d.outputs_a.items + length d.outputs_b.items)) ≤ S.places_left store.new) }
 
+    ensures first { IfErr result (IsOfFirstDisk S.Disk.tells (S.image store.old) asked) }
     ensures rose { IfErr result (RoseBy (S.faults store.old) (S.faults store.new)) }
     ensures damaged { IsTrue S.Disk.tells → IfErr result (WasDamaged S.Disk.seen S.Disk.image (S.image store.old)) }
     ensures count { S.faults store.old ≤ S.faults store.new }

@@ -5,6 +5,7 @@ ghost use Rattle.epoch_journal.specs.Epochs.{Keeps as KeepsEpoch};
 ghost use Rattle.output_log.specs.Pairs.{Keeps as KeepsPairs};
 ghost use Rattle.site_disks.specs.Kinds.{epoch_names_a, epoch_names_b, output_names_a, output_names_b};
 ghost use Rattle.site_disks.specs.Lent.{Lent, lend_all, IsCut, Stage};
+ghost use Rattle.site_disks.specs.Refusals.{IsOfFirst, joiner_names};
 ghost use Rattle.site_disks.specs.Opening.{AreOpened, RoseBy, WasDamaged};
 
 use crate::names::{EPOCHS_A, EPOCHS_B, OUTPUTS_A, OUTPUTS_B};
@@ -45,6 +46,8 @@ pub(crate) fn open_joiners<S: Store>(
         → OnErr result (IsCut S.Disk.image (S.image s) (S.image store.new) ((((lent ++ lend_all (λ e. e.journal.disk) epochs_a.new.items) ++ lend_all (λ e. e.journal.disk) epochs_b.new.items) ++ lend_all (λ o. o.journal.disk) outputs_a.new.items) ++ lend_all (λ o. o.journal.disk) outputs_b.new.items)) }
     ensures damaged { IsTrue S.Disk.tells → (s : S) (lent : List (Lent S.Disk)) → Stage S.Disk.image (S.image s) (S.image store.old) 5 lent
         → IfErr result (WasDamaged S.Disk.seen S.Disk.image (S.image s)) }
+    ensures first { (s : S) (lent : List (Lent S.Disk)) → (IsTrue S.Disk.tells → Stage S.Disk.image (S.image s) (S.image store.old) 5 lent)
+        → IfErr result (IsOfFirst S.Disk.tells (S.image s) (joiner_names joiners)) }
     ensures places { S.places_left store.old + (length epochs_a.new.items + length epochs_b.new.items + length outputs_a.new.items + length outputs_b.new.items) ≤ S.places_left store.new }
     ensures count { S.faults store.old ≤ S.faults store.new }
     ensures rose { IfErr result (RoseBy (S.faults store.old) (S.faults store.new)) }

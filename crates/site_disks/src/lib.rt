@@ -6,6 +6,7 @@ mod disks;
 mod fault;
 mod joiners;
 mod kinds;
+pub mod laws;
 mod names;
 mod opened;
 mod opening;

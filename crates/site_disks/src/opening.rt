@@ -4,7 +4,8 @@ ghost use Rattle.list_words.specs.Lists.{Each, EachPair};
 ghost use Rattle.outside.specs.declared.store.DiskName.{DiskName};
 ghost use Rattle.outside.specs.Disk.{Within};
 ghost use Rattle.site_disks.specs.Kinds.{damaged_by, kind_of};
-ghost use Rattle.site_disks.specs.Lent.{Lent, lend_all, GoesOn, IsCut, MayBeLeft, Stage};
+ghost use Rattle.site_disks.specs.Lent.{Lent, lend_all, StaysAs, IsCut, MayBeLeft, Stage};
+ghost use Rattle.site_disks.specs.Refusals.{IsJournalOf, WereJournals, IsOfFirst};
 ghost use Rattle.site_disks.specs.Opening.{told_by, IsKeptIn, AreOpened, RoseBy, IsOf, WasDamaged};
 
 use crate::{DisksFault, Opened, RecordJournal};
@@ -33,9 +34,9 @@ pub(crate) fn open_one<S: Store, J: RecordJournal<S::Disk>>(
     ensures name { IfOk result (λ o. o.name ≡ name) }
     ensures ready { IfOk result (λ o. J.is_ready o.journal) }
     ensures kept { IsTrue S.Disk.tells → IfOk result (λ o. IsKeptIn (S.image store.old name) (J.keeps o.journal)) }
-    ensures grows { IsTrue S.Disk.tells → IfOk result (λ o. GoesOn (S.image store.old name) (S.Disk.image (J.disk_of o.journal))) }
+    ensures stays { IsTrue S.Disk.tells → IfOk result (λ o. StaysAs (S.image store.old name) (S.Disk.image (J.disk_of o.journal))) }
     ensures others { IsTrue S.Disk.tells → OnOk result ((other : DiskName) → other ≢ name → Within (S.image store.old other) (S.image store.new other)) }
-    ensures back { IsTrue S.Disk.tells → OnErr result ((other : DiskName) → GoesOn (S.image store.old other) (S.image store.new other)) }
+    ensures back { IsTrue S.Disk.tells → OnErr result ((other : DiskName) → StaysAs (S.image store.old other) (S.image store.new other)) }
     ensures place { OnOk result (S.places_left store.old + 1 ≤ S.places_left store.new) }
     ensures no_place { OnErr result (S.places_left store.old ≤ S.places_left store.new) }
     ensures count { S.faults store.old ≤ S.faults store.new }
@@ -66,6 +67,7 @@ pub(crate) fn open_each<S: Store, J: RecordJournal<S::Disk>>(
     opened: &mut Vec<Opened<J>>,
 ) -> Result<(), DisksFault>
     requires agree { Each (λ name. (bytes : List ℕ) (at : ℕ) → J.is_damaged bytes at → damaged_by name bytes at) names.now }
+    requires kinds { Each (λ name. (j : J) (bytes : List ℕ) → J.keeps j bytes → IsJournalOf name bytes) names.now }
     requires apart { EachPair (λ one other. one ≢ other) names.now }
     requires many { count ≤ length names.now }
     requires none { opened.old.items ≡ [] }
@@ -77,6 +79,10 @@ pub(crate) fn open_each<S: Store, J: RecordJournal<S::Disk>>(
         → OnErr result (IsCut S.Disk.image (S.image s) (S.image store.new) (lent ++ lend_all J.disk_of opened.new.items)) }
     ensures damaged { IsTrue S.Disk.tells → (s : S) (kind : ℕ) (lent : List (Lent S.Disk)) → Each (λ name. kind_of name ≡ kind) names.now → Stage S.Disk.image (S.image s) (S.image store.old) kind lent
         → IfErr result (WasDamaged S.Disk.seen S.Disk.image (S.image s)) }
+    ensures all { (s : S) (kind : ℕ) (lent : List (Lent S.Disk)) → Each (λ name. kind_of name ≡ kind) names.now → (IsTrue S.Disk.tells → Stage S.Disk.image (S.image s) (S.image store.old) kind lent)
+        → OnOk result (IsTrue S.Disk.tells → WereJournals (S.image s) (take count names.now)) }
+    ensures first { (s : S) (kind : ℕ) (lent : List (Lent S.Disk)) → Each (λ name. kind_of name ≡ kind) names.now → (IsTrue S.Disk.tells → Stage S.Disk.image (S.image s) (S.image store.old) kind lent)
+        → IfErr result (IsOfFirst S.Disk.tells (S.image s) (take count names.now)) }
     ensures places { S.places_left store.old + length opened.new.items ≤ S.places_left store.new }
     ensures count { S.faults store.old ≤ S.faults store.new }
     ensures rose { IfErr result (RoseBy (S.faults store.old) (S.faults store.new)) }

@@ -1,9 +1,11 @@
 // The topology of a new store.
-ghost use Rattle.std.specs.Prelude.{◌≡◌, ◌≤◌, None, Some, IsTrue, OnOk, OnErr, IfErr};
+ghost use Rattle.std.specs.Prelude.{◌≡◌, ◌≤◌, None, Some, IsTrue, OnOk, OnErr, IfErr, IsErrOf};
 ghost use Rattle.outside.specs.Faults.{Rose};
 ghost use Rattle.gate_journal.specs.declared.journal.JournalState.TheVariants.{Ready};
 ghost use Rattle.topology_journal.specs.Topologies.{IsTopology};
-ghost use Rattle.site_disks.specs.Lent.{GoesOn};
+ghost use Rattle.site_disks.specs.Lent.{StaysAs, GoesOn};
+ghost use Rattle.site_disks.specs.declared.fault.DisksFault.TheVariants.{Memory};
+ghost use Rattle.site_disks.specs.Written.{AllKeep, StaysOrKeeps};
 ghost use Rattle.site_disks.specs.Opening.{RoseBy, IsOf};
 
 use crate::{DisksFault, Opened};
@@ -24,6 +26,15 @@ pub fn write_topology<D: Disk>(
     ensures kept { OnOk result (topology.new.journal.kept ≡ Some asked) }
     ensures none { OnErr result (topology.new.journal.kept ≡ None) }
     ensures ready { OnOk result (topology.new.journal.journal.state ≡ Ready) }
+    ensures durable { IsTrue D.tells → OnOk result (AllKeep asked (D.image topology.new.journal.journal.disk)) }
+    ensures old_or_new { IsTrue D.tells → OnErr result (StaysOrKeeps (D.image topology.old.journal.journal.disk) asked (D.image topology.new.journal.journal.disk)) }
+
+    // Where memory was wanting nothing but the disk's room has changed.
+    ensures stays { IsTrue D.tells → IsErrOf result Memory → StaysAs (D.image topology.old.journal.journal.disk) (D.image topology.new.journal.journal.disk) }
+    ensures seen { IsTrue D.tells → IsErrOf result Memory → D.seen topology.new.journal.journal.disk ≡ D.seen topology.old.journal.journal.disk }
+    ensures no_fault { IsErrOf result Memory → D.faults topology.new.journal.journal.disk ≡ D.faults topology.old.journal.journal.disk }
+    ensures still_ready { IsErrOf result Memory → topology.new.journal.journal.state ≡ Ready }
+
     ensures grows { IsTrue D.tells → GoesOn (D.image topology.old.journal.journal.disk) (D.image topology.new.journal.journal.disk) }
     ensures count { D.faults topology.old.journal.journal.disk ≤ D.faults topology.new.journal.journal.disk }
     ensures rose { IfErr result (RoseBy (D.faults topology.old.journal.journal.disk) (D.faults topology.new.journal.journal.disk)) }

@@ -1,6 +1,6 @@
 // What the kinds of record journal have in common.
 ghost use Rattle.std.specs.Prelude.{◌≡◌, ◌≤◌, ℕ, List, IsTrue, IfOk, IfErr};
-ghost use Rattle.site_disks.specs.Lent.{GoesOn};
+ghost use Rattle.site_disks.specs.Lent.{StaysAs};
 ghost use Rattle.site_disks.specs.Opening.{IsRefusedBy, IsKeptIn};
 
 use gate_journal::JournalFault;
@@ -25,9 +25,9 @@ pub trait RecordJournal<D: Disk> {
     fn open_on(alloc: Global, disk: D) -> Result<Self, (JournalFault, D)>
         ensures ready { IfOk result is_ready }
         ensures left { IsTrue D.tells → IfOk result (λ j. IsKeptIn (D.image disk) (keeps j)) }
-        ensures grows { IsTrue D.tells → IfOk result (λ j. GoesOn (D.image disk) (D.image (disk_of j))) }
+        ensures stays { IsTrue D.tells → IfOk result (λ j. StaysAs (D.image disk) (D.image (disk_of j))) }
         ensures err { IfErr result (λ e. IsRefusedBy is_damaged D.tells (D.seen disk) (D.faults disk) (D.faults e.1) e.0) }
-        ensures err_grows { IsTrue D.tells → IfErr result (λ e. GoesOn (D.image disk) (D.image e.1)) };
+        ensures err_stays { IsTrue D.tells → IfErr result (λ e. StaysAs (D.image disk) (D.image e.1)) };
 
     /// The disk, which holds the journal.
     fn close(self) -> D

@@ -6,6 +6,7 @@ ghost use Rattle.offset_journal.specs.Offsets.{Keeps as KeepsOffset};
 ghost use Rattle.retry_log.specs.Pending.{Keeps as KeepsPending};
 ghost use Rattle.site_disks.specs.Kinds.{offset_names, retry_names, server_names};
 ghost use Rattle.site_disks.specs.Lent.{Lent, lend_all, IsCut, Stage};
+ghost use Rattle.site_disks.specs.Refusals.{WereJournals, IsOfFirst, site_names};
 ghost use Rattle.site_disks.specs.Opening.{AreOpened, RoseBy, WasDamaged};
 
 use crate::names::{OFFSETS, RETRIES, SERVERS};
@@ -41,6 +42,10 @@ pub(crate) fn open_sites<S: Store>(
         → OnErr result (IsCut S.Disk.image (S.image s) (S.image store.new) (((lent ++ lend_all (λ o. o.journal.disk) offsets.new.items) ++ lend_all (λ r. r.journal.disk) retries.new.items) ++ lend_all (λ e. e.journal.disk) servers.new.items)) }
     ensures damaged { IsTrue S.Disk.tells → (s : S) (lent : List (Lent S.Disk)) → Stage S.Disk.image (S.image s) (S.image store.old) 1 lent
         → IfErr result (WasDamaged S.Disk.seen S.Disk.image (S.image s)) }
+    ensures all { (s : S) (lent : List (Lent S.Disk)) → (IsTrue S.Disk.tells → Stage S.Disk.image (S.image s) (S.image store.old) 1 lent)
+        → OnOk result (IsTrue S.Disk.tells → WereJournals (S.image s) site_names) }
+    ensures first { (s : S) (lent : List (Lent S.Disk)) → (IsTrue S.Disk.tells → Stage S.Disk.image (S.image s) (S.image store.old) 1 lent)
+        → IfErr result (IsOfFirst S.Disk.tells (S.image s) site_names) }
     ensures places { S.places_left store.old + (length offsets.new.items + length retries.new.items + length servers.new.items) ≤ S.places_left store.new }
     ensures count { S.faults store.old ≤ S.faults store.new }
     ensures rose { IfErr result (RoseBy (S.faults store.old) (S.faults store.new)) }

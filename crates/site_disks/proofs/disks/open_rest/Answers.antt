@@ -1,6 +1,9 @@
-use Rattle.std.proofs.Common.{refl}
+use Rattle.std.proofs.Common.{◌++◌, refl}
 use Rattle.site_disks.specs.Lent.{lend_all}
 use Rattle.site_disks.proofs.Lending.{lends_none, cut_four, cut_five, handed_on}
+use Rattle.site_disks.specs.Kinds.{replica_names}
+use Rattle.site_disks.specs.Refusals.{site_names, joiner_names}
+use Rattle.site_disks.proofs.Refusals.{in_front, behind, both_were}
 use Rattle.site_disks.proofs.disks.open_rest.Goals as goal
 
 pub returns-clause-offsets : goal.returns-clause-offsets
@@ -71,3 +74,29 @@ pub returns-in_err-open_joiners-clause-damaged : goal.returns-in_err-open_joiner
 returns-in_err-open_joiners-clause-damaged g c tells s stage =
     handed_on c.from_residual-in_err-open_joiners.result c.in_err-open_joiners.field-0.0 _ c.from_residual-in_err-open_joiners.ensures.1
     (c.in_err-open_joiners.ensures.damaged tells s _ (c.in_ok-open_each.ensures.lent tells s 4 _ (refl, (refl, (refl, tt))) (c.in_ok-open_sites.ensures.lent tells s _ stage)))
+
+pub returns-in_err-open_sites-clause-first : goal.returns-in_err-open_sites-clause-first
+returns-in_err-open_sites-clause-first g c s stage =
+    let tells = g.S.Disk.Disk.tells in
+    let before = g.S.Store.image s in
+    let joiners = joiner_names c.args.joiners in
+    handed_on c.from_residual.result c.in_err-open_sites.field-0.0 _ c.from_residual.ensures.1
+    (in_front tells before (site_names ++ replica_names) joiners _ (in_front tells before site_names replica_names _ (c.in_err-open_sites.ensures.first s _ stage)))
+
+pub returns-in_err-open_each-clause-first : goal.returns-in_err-open_each-clause-first
+returns-in_err-open_each-clause-first g c s stage =
+    let tells = g.S.Disk.Disk.tells in
+    let before = g.S.Store.image s in
+    let joiners = joiner_names c.args.joiners in
+    let first = c.in_err-open_each.ensures.first s 4 _ (refl, (refl, (refl, tt))) (λ sure. c.in_ok-open_sites.ensures.lent sure s _ (stage sure)) in
+    handed_on c.from_residual-in_err-open_each.result c.in_err-open_each.field-0.0 _ c.from_residual-in_err-open_each.ensures.1
+    (in_front tells before (site_names ++ replica_names) joiners _ (behind tells before site_names replica_names _ (λ sure. c.in_ok-open_sites.ensures.all s _ stage sure) first))
+
+pub returns-in_err-open_joiners-clause-first : goal.returns-in_err-open_joiners-clause-first
+returns-in_err-open_joiners-clause-first g c s stage =
+    let tells = g.S.Disk.Disk.tells in
+    let before = g.S.Store.image s in
+    let joiners = joiner_names c.args.joiners in
+    let first = c.in_err-open_joiners.ensures.first s _ (λ sure. c.in_ok-open_each.ensures.lent sure s 4 _ (refl, (refl, (refl, tt))) (c.in_ok-open_sites.ensures.lent sure s _ (stage sure))) in
+    handed_on c.from_residual-in_err-open_joiners.result c.in_err-open_joiners.field-0.0 _ c.from_residual-in_err-open_joiners.ensures.1
+    (behind tells before (site_names ++ replica_names) joiners _ (λ sure. both_were before site_names replica_names (c.in_ok-open_sites.ensures.all s _ stage sure) (c.in_ok-open_each.ensures.all s 4 _ (refl, (refl, (refl, tt))) (λ sure. c.in_ok-open_sites.ensures.lent sure s _ (stage sure)) sure)) first)

@@ -9,7 +9,7 @@ returns-in-Err-clause-back g c tells =
     let image = g.S.Store.image in
     let left = g.S.Disk.Disk.image in
     given_back (image c.args.store.now) (image c.take.new.self) (image c.give.new.self) c.args.name (left c.in-Ok.disk) (left c.in-Err.disk)
-    (c.in-Ok.ensures.images tells) (c.in-Err.ensures.err_grows tells) (c.in-Ok.ensures.others tells) (c.give.ensures.images tells) (c.give.ensures.others tells)
+    (c.in-Ok.ensures.images tells) (c.in-Err.ensures.err_stays tells) (c.in-Ok.ensures.others tells) (c.give.ensures.images tells) (c.give.ensures.others tells)
 
 pub returns-in-Err-clause-rose : goal.returns-in-Err-clause-rose
 returns-in-Err-clause-rose g c =
