@@ -9,6 +9,9 @@ ghost use Rattle.store_laws.specs.Stores.{IsSoundStore, StaysAs};
 ghost use Rattle.store_laws.specs.Laws.{HoldSameRecords, KeepOneTopology, LeavesNothing, LeftIsHeld, LongerStaysSound, OpenedIsWhole, ReadNotesAreKept, ReadTopologyIsKept, RunStaysSound, SameIsSound, SameIsWhole, StatesKeepVotes, StaysSound, TopologyFits, TopologyIsFirst, WrittenIsSound};
 ghost use Rattle.store_laws.specs.Example.{SoundBytes};
 
+#[cfg(test)]
+mod tests;
+
 use fields::Field;
 use outside::Store;
 use paxos_acceptor::ReplicaNote;
