@@ -81,8 +81,8 @@ OpenedIsWhole g image = (s : Store) → IsSoundStore g image → AreLeft g image
 abbrev pub StaysSound : Setting → Images → Images → Type 0
 StaysSound g before after = IsSoundStore g before → ((disk : DiskName) → IsDisk g disk → StaysAs (before disk) (after disk)) → IsSoundStore g after
 
--- Each disk but the topology's stands for nothing new, and the topology's for nothing but the setting's. A stop might have left
--- something of that disk before.
+-- Each disk but the topology's stands for nothing new, and the topology's for nothing new but the setting's record. A stop
+-- might have left something of that disk before.
 pub record IsTopologyWritten (g : Setting) (before after : Images) : Type 0 where
   pub was : (c : List ℕ) × before name.Topology c
   pub topology : (c : List ℕ) → after name.Topology c → IsOpened (before name.Topology) c ⊎ KeepsTopology (Some (topology_of g)) c
