@@ -12,11 +12,14 @@ opened_same image c now = (c, now, refl)
 pub stays_same : (x : List ℕ → Type 0) → StaysAs x x
 stays_same x = opened_same x
 
-pub stays_through : (x y z : List ℕ → Type 0) → StaysAs x y → StaysAs y z → StaysAs x z
-stays_through x y z first next c now =
-    let mid = next c now in
+-- what stands for an image that stays stands for one before
+pub opened_through : (x y : List ℕ → Type 0) → StaysAs x y → (c : List ℕ) → IsOpened y c → IsOpened x c
+opened_through x y first c mid =
     let from = first mid.0 mid.1 in
     (from.0, from.1, mid.2 ∙ from.2)
+
+pub stays_through : (x y z : List ℕ → Type 0) → StaysAs x y → StaysAs y z → StaysAs x z
+stays_through x y z first next c now = opened_through x y first c (next c now)
 
 pub goes_same : (x : List ℕ → Type 0) → GoesOn x x
 goes_same x = continues_same x

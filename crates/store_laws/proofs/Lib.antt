@@ -4,5 +4,4 @@ pub mod Nodes
 pub mod Opening
 pub mod LongerLogs
 pub mod Running
-pub mod Steps
 pub mod Working

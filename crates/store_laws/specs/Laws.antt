@@ -15,6 +15,7 @@ use Rattle.site_node.specs.States.{MayHold}
 use Rattle.replica_node.specs.Replica.{ReplicaKept}
 use Rattle.replica_node.specs.Core.{kept_of as notes_kept}
 use Rattle.replica_node.specs.Node.{ReplicaState, IsVoted, KeptOn, replica_rows}
+use Rattle.site_disks.specs.Lent.{StaysAs}
 use Rattle.site_disks.specs.Votes.{KeepsNotes}
 use Rattle.photon_defs.specs.Sound.{SoundStore}
 use Rattle.photon_defs.specs.Runs.{Entry, Disks}
@@ -22,7 +23,7 @@ use Rattle.photon_defs.specs.Topology.{Topology, topology_of, Store, WholeSound}
 use Rattle.photon_model.specs.Stores.{IsLonger}
 use Rattle.site_laws.specs.Kinds.{StateOf}
 use Rattle.site_laws.specs.Laws.{IsRunOf, MayLeave}
-use Rattle.store_laws.specs.Stores.{Bytes, Images, IsDisk, IsChoice, KeepsTopology, KeepsVotes, HoldsRecords, IsFit, KeepSound, IsSoundStore, AreLeft, StaysAs, SameRecords, AreKept}
+use Rattle.store_laws.specs.Stores.{Bytes, Images, IsDisk, IsChoice, KeepsTopology, KeepsVotes, HoldsRecords, IsFit, KeepSound, IsSoundStore, AreLeft, SameRecords, AreKept}
 
 -- ---- bytes keep one store
 

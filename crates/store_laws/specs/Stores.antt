@@ -4,7 +4,6 @@ use Rattle.list_words.specs.Lists.{Each}
 use Rattle.outside.specs.declared.store.DiskName.{DiskName}
 use Rattle.outside.specs.declared.store.DiskName.TheVariants as name
 use Rattle.gate_journal.specs.Gate as gate
-use Rattle.gate_journal.specs.Opening.{IsOpened}
 use Rattle.topology_journal.specs.Topologies as journal
 use Rattle.offset_journal.specs.Offsets.{Keeps as KeepsOffset}
 use Rattle.retry_log.specs.Pending.{Keeps as KeepsPending}
@@ -101,10 +100,6 @@ IsSoundStore g image = (b : Bytes) → IsChoice g image b → KeepSound g b
 pub record AreLeft (g : Setting) (image : Images) (s : Store) : Type 0 where
   pub topology : IsKeptIn (image name.Topology) (KeepsTopology s.topology)
   pub records : (disk : DiskName) → IsDisk g disk → IsKeptIn (image disk) (KeepsOf g s.disks disk)
-
--- each image of a disk stands for what one before stood for
-abbrev pub StaysAs : (List ℕ → Type 0) → (List ℕ → Type 0) → Type 0
-StaysAs old new = (c : List ℕ) → new c → IsOpened old c
 
 -- the same records of each node of the setting
 abbrev pub SameRecords : Setting → Disks → Disks → Type 0

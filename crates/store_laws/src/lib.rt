@@ -4,8 +4,7 @@
 
 ghost use Rattle.outside.specs.declared.store.DiskName.{DiskName};
 ghost use Rattle.turn_defs.specs.Setting.{Setting};
-ghost use Rattle.site_disks.specs.Lent.{GoesOn};
-ghost use Rattle.store_laws.specs.Stores.{IsSoundStore, StaysAs};
+ghost use Rattle.store_laws.specs.Stores.{IsSoundStore};
 ghost use Rattle.store_laws.specs.Laws.{HoldSameRecords, KeepOneTopology, LeavesNothing, LeftIsHeld, LongerStaysSound, OpenedIsWhole, ReadNotesAreKept, ReadTopologyIsKept, RunStaysSound, SameIsSound, SameIsWhole, StatesKeepVotes, StaysSound, TopologyFits, TopologyIsFirst, WrittenIsSound};
 ghost use Rattle.store_laws.specs.Example.{SoundBytes};
 
@@ -92,15 +91,6 @@ pub fn run<S: Store>()
 /// Whatever a stop leaves of such disks keeps records that the nodes may leave.
 pub fn left<S: Store>()
     ensures { (g : Setting) (s : S) → LeftIsHeld g (S.image s) }
-{}
-
-/// Of each disk: standing for nothing new, and going on from what was there, hold of any store and itself, and lead on.
-pub fn grown<S: Store>()
-    ensures stays_same { (s : S) (disk : DiskName) → StaysAs (S.image s disk) (S.image s disk) }
-    ensures stays_through { (a b c : S) (disk : DiskName) → StaysAs (S.image a disk) (S.image b disk) → StaysAs (S.image b disk) (S.image c disk) → StaysAs (S.image a disk) (S.image c disk) }
-    ensures stays_goes_on { (a b : S) (disk : DiskName) → StaysAs (S.image a disk) (S.image b disk) → GoesOn (S.image a disk) (S.image b disk) }
-    ensures goes_on_same { (s : S) (disk : DiskName) → GoesOn (S.image s disk) (S.image s disk) }
-    ensures goes_on_through { (a b c : S) (disk : DiskName) → GoesOn (S.image a disk) (S.image b disk) → GoesOn (S.image b disk) (S.image c disk) → GoesOn (S.image a disk) (S.image c disk) }
 {}
 
 /// A store of the topology's record alone is sound; one of another topology's isn't, nor one of a pair alone.

@@ -11,5 +11,4 @@ fn a_store_in_memory_has_the_laws(rt: HostRuntime) {
     longer::<MemStore>();
     run::<MemStore>();
     left::<MemStore>();
-    grown::<MemStore>();
 }
