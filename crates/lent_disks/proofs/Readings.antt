@@ -1,13 +1,11 @@
 -- What disks are read as, one more at a time.
-use Rattle.std.proofs.Common.{◌≡◌, ◌<◌, ◌≤◌, ◌⊎◌, inl, inr, ℕ, ◌+◌, List, [], ◌∷◌, ◌++◌, length, take, drop, get_or, Bool, true, false, IsTrue, refl, sym, ◌∙◌, ap, subst, arith, add-one, if◌then◌else◌}
+use Rattle.std.proofs.Common.{◌≡◌, ◌<◌, inl, inr, ℕ, ◌+◌, List, [], ◌∷◌, ◌++◌, length, take, drop, get_or, Bool, false, IsTrue, refl, sym, ◌∙◌, ap, subst, arith, add-one, if◌then◌else◌}
 use Rattle.std.specs.List.{filter}
 use Rattle.std.specs.Prelude.{Result, Ok, Err, IsErrAnd, IfErr}
-use Rattle.std.proofs.lemmas.List.{take_more, take_all}
+use Rattle.std.proofs.lemmas.List.{take_more}
 use Rattle.std.proofs.lemmas.List.Elements.{filter-append}
 use Rattle.std.proofs.Math.Seq.{drop-cons}
 use Rattle.outside.specs.declared.store.DiskName.{DiskName}
-use Rattle.outside.specs.declared.store.DiskName.TheVariants as name
-use Rattle.outside.specs.Disk.{Throughout}
 use Rattle.gate_journal.specs.Gate.{gate_rule, StandsFor, spans}
 use Rattle.gate_journal.specs.Opening.{IsRefused}
 use Rattle.gate_journal.specs.declared.reading.JournalFault.{JournalFault}
@@ -22,7 +20,7 @@ use Rattle.site_disks.specs.Votes.{KeepsNotes, IsVotesDamaged}
 use Rattle.lent_disks.specs.declared.lent.LentDisk.{LentDisk}
 use Rattle.lent_disks.specs.declared.reading.ReadAs.{ReadAs}
 use Rattle.lent_disks.specs.declared.reading.ReadAs.TheVariants.{Notes, Pairs, Neither}
-use Rattle.lent_disks.specs.ReadBack.{EachWith, is_replica, is_output, replicas, outputs, notes_in, pairs_in, AreReadFrom, IsReadAs, IsOnlyRead, IsToldBy}
+use Rattle.lent_disks.specs.ReadBack.{is_replica, is_output, replicas, outputs, notes_in, pairs_in, AreReadFrom, IsReadAs, IsOnlyRead, IsToldBy}
 use Rattle.lent_disks.proofs.Walking.{FirstWith, first_at, each_with_append}
 
 -- one record more of a span
@@ -30,25 +28,6 @@ pub span_more : (rs : List (List ℕ)) (i : ℕ) (d : List ℕ) (span : ℕ) →
 span_more rs i d span lt so =
     let cut : spans (drop i rs) ≡ spans (get_or rs i d ∷ drop (i + 1) rs) = rw (add-one, drop-cons rs i d) refl in
     omega (arith, so, cut)
-
--- a name of neither kind
-pub no_replica : (n : DiskName) → ((r : ℕ) → n ≡ name.Replica r → ⊥) → is_replica n ≡ false
-no_replica name.Topology not = refl
-no_replica (name.Offset s) not = refl
-no_replica (name.Retry s) not = refl
-no_replica (name.Server s) not = refl
-no_replica (name.Replica r) not = absurd (not r refl)
-no_replica (name.Epoch s j) not = refl
-no_replica (name.Output s j) not = refl
-
-pub no_output : (n : DiskName) → ((s j : ℕ) → n ≡ name.Output s j → ⊥) → is_output n ≡ false
-no_output name.Topology not = refl
-no_output (name.Offset s) not = refl
-no_output (name.Retry s) not = refl
-no_output (name.Server s) not = refl
-no_output (name.Replica r) not = refl
-no_output (name.Epoch s j) not = refl
-no_output (name.Output s j) not = absurd (not s j refl)
 
 -- a fault that is handed on
 pub handed_on : {T E : Type 0} (r : Result T E) (fault : E) (P : E → Type 0) → IsErrAnd r (λ e. e ≡ fault) → P fault → IfErr r P

@@ -1,5 +1,5 @@
 -- Two lists of which one is changed from its front on.
-use Rattle.std.proofs.Common.{◌≡◌, ◌<◌, inl, inr, ℕ, zero, suc, ◌+◌, List, [], ◌∷◌, ◌++◌, length, get_or, refl, sym, ◌∙◌, ap, subst, arith, add-one}
+use Rattle.std.proofs.Common.{◌≡◌, ◌<◌, inl, inr, ℕ, zero, suc, ◌+◌, List, [], ◌∷◌, ◌++◌, length, get_or, refl, sym, ap, subst, arith, add-one}
 use Rattle.std.proofs.Math.ListN.{set}
 use Rattle.lent_disks.specs.ReadBack.{EachWith, OneWith}
 
