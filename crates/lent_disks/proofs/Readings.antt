@@ -1,12 +1,10 @@
 -- What disks are read as, one more at a time.
-use Rattle.std.proofs.Common.{◌≡◌, ◌<◌, inl, inr, ℕ, ◌+◌, List, [], ◌∷◌, ◌++◌, length, take, drop, get_or, Bool, false, IsTrue, refl, sym, ◌∙◌, ap, subst, arith, add-one, if◌then◌else◌}
+use Rattle.std.proofs.Common.{◌≡◌, ◌<◌, inl, inr, ℕ, ◌+◌, List, [], ◌∷◌, ◌++◌, length, take, get_or, Bool, IsTrue, refl, sym, ◌∙◌, ap, subst, arith, if◌then◌else◌}
 use Rattle.std.specs.List.{filter}
 use Rattle.std.specs.Prelude.{Result, Ok, Err, IsErrAnd, IfErr}
 use Rattle.std.proofs.lemmas.List.{take_more}
 use Rattle.std.proofs.lemmas.List.Elements.{filter-append}
-use Rattle.std.proofs.Math.Seq.{drop-cons}
-use Rattle.outside.specs.declared.store.DiskName.{DiskName}
-use Rattle.gate_journal.specs.Gate.{gate_rule, StandsFor, spans}
+use Rattle.gate_journal.specs.Gate.{gate_rule, StandsFor}
 use Rattle.gate_journal.specs.Opening.{IsRefused}
 use Rattle.gate_journal.specs.declared.reading.JournalFault.{JournalFault}
 use Rattle.gate_journal.specs.declared.reading.JournalFault.TheVariants as journal
@@ -14,20 +12,13 @@ use Rattle.paxos_acceptor.specs.declared.notes.ReplicaNote.{ReplicaNote}
 use Rattle.output_log.specs.declared.pair.PairRec.{PairRec}
 use Rattle.replica_node.specs.Votes.{IsBadVote}
 use Rattle.output_log.specs.Pairs.{FailsAt, Keeps as KeepsPairs, IsDamagedAt as IsOutputDamaged}
-use Rattle.site_disks.specs.Kinds.{damaged_by}
-use Rattle.site_disks.specs.Opening.{IsRefusedBy, told_by}
+use Rattle.site_disks.specs.Opening.{IsRefusedBy}
 use Rattle.site_disks.specs.Votes.{KeepsNotes, IsVotesDamaged}
 use Rattle.lent_disks.specs.declared.lent.LentDisk.{LentDisk}
 use Rattle.lent_disks.specs.declared.reading.ReadAs.{ReadAs}
 use Rattle.lent_disks.specs.declared.reading.ReadAs.TheVariants.{Notes, Pairs, Neither}
-use Rattle.lent_disks.specs.ReadBack.{is_replica, is_output, replicas, outputs, notes_in, pairs_in, AreReadFrom, IsReadAs, IsOnlyRead, IsToldBy}
+use Rattle.lent_disks.specs.ReadBack.{is_replica, is_output, replicas, outputs, notes_in, pairs_in, AreReadFrom, IsReadAs, IsOnlyRead}
 use Rattle.lent_disks.proofs.Walking.{FirstWith, first_at, each_with_append}
-
--- one record more of a span
-pub span_more : (rs : List (List ℕ)) (i : ℕ) (d : List ℕ) (span : ℕ) → i < length rs → span + spans (drop i rs) ≡ spans rs → ((span + 5) + length (get_or rs i d)) + spans (drop (i + 1) rs) ≡ spans rs
-span_more rs i d span lt so =
-    let cut : spans (drop i rs) ≡ spans (get_or rs i d ∷ drop (i + 1) rs) = rw (add-one, drop-cons rs i d) refl in
-    omega (arith, so, cut)
 
 -- a fault that is handed on
 pub handed_on : {T E : Type 0} (r : Result T E) (fault : E) (P : E → Type 0) → IsErrAnd r (λ e. e ≡ fault) → P fault → IfErr r P
@@ -54,14 +45,6 @@ pub refused_by_pairs : (tells : Bool) (seen : List ℕ) (records : List (List �
 refused_by_pairs tells seen records old new (journal.Damaged at) stands bad = λ sure. inr (records, stands sure, bad)
 refused_by_pairs tells seen records old new journal.Disk stands bad = absurd bad
 refused_by_pairs tells seen records old new journal.Memory stands bad = tt
-
--- the fault of a journal is told of its disk
-pub told_is_by : {D : Type 0} (seen : D → List ℕ) (faults : D → ℕ) (is_damaged : List ℕ → ℕ → Type 0) (tells : Bool) (old new : LentDisk D) (n : DiskName) (fault : JournalFault)
-    → old.name ≡ n → ((bytes : List ℕ) (at : ℕ) → is_damaged bytes at → damaged_by n bytes at)
-    → IsRefusedBy is_damaged tells (seen old.disk) (faults old.disk) (faults new.disk) fault → IsToldBy tells seen faults old new (told_by n fault)
-told_is_by seen faults is_damaged tells old new n (journal.Damaged at) named agrees refused = (named, λ sure. agrees (seen old.disk) at (refused sure))
-told_is_by seen faults is_damaged tells old new n journal.Disk named agrees refused = (named, refused)
-told_is_by seen faults is_damaged tells old new n journal.Memory named agrees refused = tt
 
 -- a disk that nothing was done to
 pub untouched : {D : Type 0} (tells : Bool) (seen : D → List ℕ) (image : D → List ℕ → Type 0) (since : D → D → List ℕ → Type 0) (faults : D → ℕ)

@@ -10,12 +10,6 @@ FirstWith R (suc i) [] ys = ys ≡ []
 FirstWith R (suc i) (x ∷ xs) [] = ⊥
 FirstWith R (suc i) (x ∷ xs) (y ∷ ys) = R x y × FirstWith R i xs ys
 
-pub first_length : {A : Type 0} (R : A → A → Type 0) (i : ℕ) (xs ys : List A) → FirstWith R i xs ys → length ys ≡ length xs
-first_length R zero xs ys so = ap length so
-first_length R (suc i) [] ys so = ap length so
-first_length R (suc i) (x ∷ xs) [] so = absurd so
-first_length R (suc i) (x ∷ xs) (y ∷ ys) so = ap suc (first_length R i xs ys so.1)
-
 -- the next element is unchanged
 pub first_at : {A : Type 0} (R : A → A → Type 0) (i : ℕ) (xs ys : List A) (d : A) → FirstWith R i xs ys → get_or ys i d ≡ get_or xs i d
 first_at R zero xs ys d so = ap (λ l. get_or l zero d) so
