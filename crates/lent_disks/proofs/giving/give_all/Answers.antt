@@ -1,0 +1,30 @@
+use Rattle.std.proofs.Common.{rules, ◌≡◌, ◌++◌, ◌∷◌, [], arith}
+use Rattle.site_disks.proofs.Lending.{length_more}
+use Rattle.lent_disks.specs.Lent.{all_lent}
+use Rattle.lent_disks.proofs.Handing.{given_last, none_left, others_stay}
+use Rattle.lent_disks.proofs.giving.give_all.Goals as goal
+
+pub loop-one-preserved : goal.loop-one-preserved
+loop-one-preserved g c =
+    let one = c.in-Some.one in
+    let items = c.loop-one.disks.items in
+    let rest = c.pop.new.self.items in
+    let inv = c.loop-one.invariant in
+    let cut : items ≡ rest ++ one ∷ [] = c.in-Some.ensures.items in
+    let size = length_more rest items one cut in
+    record {
+      left = λ tells name bytes now. (
+          inv.left tells name bytes
+          (given_last g.S.Disk.Disk.image (g.S.Store.image c.loop-one.store) (g.S.Store.image c.give.new.self) items rest one cut (c.give.ensures.images tells) (c.give.ensures.others tells) name bytes now)
+          );
+      room = omega (arith, size, inv.room, c.give.ensures.places);
+      places = omega (arith, size, inv.places, c.give.ensures.places);
+      count = omega (arith, inv.count, c.give.ensures.count);
+    }
+
+pub returns-clause-others : goal.returns-clause-others
+returns-clause-others g c tells name lacks =
+    let left = g.S.Disk.Disk.image in
+    let after = g.S.Store.image c.loop-one.store in
+    others_stay left (g.S.Store.image c.args.store.now) after (all_lent c.args.disks.items) name lacks
+    (λ bytes now. c.loop-one.invariant.left tells name bytes (none_left left after c.loop-one.disks.items name bytes (search rules) now))
