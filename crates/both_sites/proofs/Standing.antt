@@ -27,16 +27,20 @@ use Rattle.site_laws.specs.Meaning.{StandsFor}
 use Rattle.site_laws.specs.Rest.{RestsAt, StatesRest}
 use Rattle.site_laws.specs.Laws.{made_by, EachWalked, IsRunOf, AiredIsRun}
 use Rattle.site_laws.specs.Choosing.{Chosen, choose}
-use Rattle.site_run.specs.Works.{LeadsOn}
+use Rattle.site_run.specs.Works.{LeadsOn, GrowsOn, Reached}
 use Rattle.site_run.specs.Rounds.{Rests}
 use Rattle.both_sites.specs.AnyNodes.{AnyState, any_of, any_phase, any_rests, IsMeant, GoesOn}
-use Rattle.both_sites.specs.Running.{AreDownOver, IsRunFrom}
+use Rattle.both_sites.specs.Running.{AreDownOver, IsRunFrom, HaveGrown}
 use Rattle.both_sites.proofs.Walking.{walked}
 
 -- what is known of a result that came
 pub with_ok : {T E : Type 0} (A B C F G Q : T → Type 0) (r : Result T E) → IfOk r A → IfOk r B → IfOk r C → IfOk r F → IfOk r G → ((t : T) → A t → B t → C t → F t → G t → Q t) → IfOk r Q
 with_ok A B C F G Q (Ok t) a b c f g h = h t a b c f g
 with_ok A B C F G Q (Err e) a b c f g h = tt
+
+pub with_grown : {T E : Type 0} (A Q : T → Type 0) (r : Result T E) → IfOk r A → ((t : T) → A t → Q t) → IfOk r Q
+with_grown A Q (Ok t) a h = h t a
+with_grown A Q (Err e) a h = tt
 
 down_phase : (g : Setting) (d : Disks) (n : Node) (m : ℕ) → any_phase (any_of n (down_over g d n)) ≡ phase m []
 down_phase g d (Dispatcher s) m = refl
@@ -96,6 +100,17 @@ module _ {N S : Type 0} (leads : S → Entry → S → Type 0) (phase_of : S →
           phased = from.4.phased;
         },
       )
+
+  -- a node that was down over its records has grown from there
+  pub grown_from : (grown : N → N → Type 0) (g : Setting) (d : Disks) (n : Node) (v : N) (w : N) → places v (any_of n (down_over g d n))
+      → GrowsOn leads phase_of stands number grown v None [] w → (k : ℕ) × Reached grown k v w
+  grown_from grown g d n v w at grows =
+      let go = walks v (any_of n (down_over g d n)) at in
+      grows go.from (record { at = go.at; phased = λ t. sym go.led.phased ∙ down_phase g d n (number v) })
+
+  pub have_grown : (grown : N → N → Type 0) (g : Setting) (d : Disks) (vs : List N) (ws : List (N × Option NodeFault)) → ((n : Node) → IsNode g n → node_number n < length vs) → AreDownOver places g d vs
+      → ((i : ℕ) (a : N) (b : N × Option NodeFault) → i < length vs → GrowsOn leads phase_of stands number grown (slice_index_or vs i a) None [] (slice_index_or ws i b).0) → HaveGrown grown g vs ws
+  have_grown grown g d vs ws inside down grows n is a b = grown_from grown g d n (slice_index_or vs (node_number n) a) (slice_index_or ws (node_number n) b).0 (down n is a) (grows (node_number n) a b (inside n is))
 
   module _ (law : AiredIsRun) (rest_law : StatesRest) (numbers : (g : Setting) → NumbersAreNodes g) (ends : (g : Setting) (m : ℕ) → node_of g m ≡ None → node_count g ≤ m)
       (g : Setting) (d : Disks) (plan : PlanView) (kinds : List Kind) (h : List Entry) (vs : List N) (ws : List (N × Option NodeFault)) (rest : Bool)

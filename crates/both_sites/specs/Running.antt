@@ -1,10 +1,11 @@
 -- What a run of both sites' nodes is from, and what it leaves.
-use Rattle.std.specs.Prelude.{Bool, List, slice_index_or, Option, IsTrue}
+use Rattle.std.specs.Prelude.{ℕ, Bool, List, slice_index_or, Option, IsTrue}
 use Rattle.air_bus.specs.declared.entry.Entry.{Entry as BusEntry}
 use Rattle.turn_defs.specs.Setting.{Setting}
 use Rattle.turn_defs.specs.Nodes.{IsNode, node_number}
 use Rattle.packet_codec.specs.declared.node.Node.{Node}
 use Rattle.site_node.specs.declared.kind.NodeFault.{NodeFault}
+use Rattle.site_run.specs.Works.{Reached}
 use Rattle.photon_defs.specs.Runs.{Entry, Disks, world_after, opening}
 use Rattle.photon_defs.specs.Rest.{IsAtRest}
 use Rattle.site_laws.specs.Kinds.{StateOf, down_over}
@@ -24,3 +25,7 @@ module _ {N : Type 0} (places : N → AnyState → Type 0) where
     pub run : IsRunOf g d h at entries
     pub stand : (n : Node) → IsNode g n → (a : N × Option NodeFault) → places (slice_index_or nodes (node_number n) a).0 (any_of n (at n))
     pub at_rest : IsTrue rest → IsAtRest g (world_after g (opening d) entries)
+
+-- each node's disks went on from where they were when it was opened
+abbrev pub HaveGrown : {N : Type 0} → (N → N → Type 0) → Setting → List N → List (N × Option NodeFault) → Type 0
+HaveGrown grown g vs ws = (n : Node) → IsNode g n → (a : _) (b : _) → (k : ℕ) × Reached grown k (slice_index_or vs (node_number n) a) (slice_index_or ws (node_number n) b).0

@@ -47,7 +47,10 @@ pub fn dispatcher<D: Disk, L: LogFile>(
     ensures places { (g : Setting) → IsOf roster g → g.replicas ≡ 3 → IsLogOf (L.bytes log) g → AreKeptPlaces g (kept_as offset.offset retry.pending.keys)
         → ⟦<AnyNode<D, L> as SystemNode>⟧.places result (any_of (node.Dispatcher site) (down_with g (kept_as offset.offset retry.pending.keys))) }
 {
-    Either::First(Either::First(DispatchNode::new(alloc, site, roster, offset, retry, log)))
+    let made = DispatchNode::new(alloc, site, roster, offset, retry, log);
+    AnyNode {
+        node: Either::First(Either::First(made)),
+    }
 }
 
 /// The server of a site, down, over its journal. It hands the journal back where memory is wanting.
@@ -70,7 +73,9 @@ pub fn server<D: Disk, L: LogFile>(
     ensures refused { IfErr result (λ j. j ≡ journal) }
 {
     match ServerNode::new(alloc, site, roster, horizon, table, batch, journal) {
-        Ok(made) => Ok(Either::First(Either::Second(made))),
+        Ok(made) => Ok(AnyNode {
+            node: Either::First(Either::Second(made)),
+        }),
         Err(journal) => Err(journal),
     }
 }
@@ -90,7 +95,10 @@ pub fn replica<D: Disk, L: LogFile>(
     ensures places { IsTrue D.tells → (g : Setting) → IsOf roster g → StandsFor (map note_spelled notes.items) (D.seen journal.disk)
         → ⟦<AnyNode<D, L> as SystemNode>⟧.places result (any_of (node.Replica replica) (down_with g (kept_of notes.items))) }
 {
-    Either::Second(Either::First(ReplicaNode::new(alloc, replica, roster, journal, notes)))
+    let made = ReplicaNode::new(alloc, replica, roster, journal, notes);
+    AnyNode {
+        node: Either::Second(Either::First(made)),
+    }
 }
 
 /// The joiner of this place at this site, down, over its journals and the query log. It hands them back where memory is wanting.
@@ -114,7 +122,9 @@ pub fn joiner<D: Disk, L: LogFile>(
     ensures back { IfErr result (λ e. (e.1 ≡ epochs) × (e.2 ≡ pairs) × (e.3 ≡ log)) }
 {
     match JoinerNode::new(alloc, site, joiner, roster, epochs, pairs, log) {
-        Ok(made) => Ok(Either::Second(Either::Second(made))),
+        Ok(made) => Ok(AnyNode {
+            node: Either::Second(Either::Second(made)),
+        }),
         Err(refused) => Err(refused),
     }
 }

@@ -6,7 +6,8 @@ ghost use Rattle.bus_seat.specs.Seats.{IsIn};
 ghost use Rattle.turn_defs.specs.Setting.{Setting};
 ghost use Rattle.turn_defs.specs.Nodes.{node_count};
 ghost use Rattle.photon_defs.specs.Runs.{Disks};
-ghost use Rattle.both_sites.specs.Running.{AreDownOver, IsRunFrom};
+ghost use Rattle.site_run.specs.Rounds.{HasFault, AreCaused};
+ghost use Rattle.both_sites.specs.Running.{AreDownOver, IsRunFrom, HaveGrown};
 
 use crate::SystemNode;
 use lossy_link::{Kind, Plan};
@@ -41,6 +42,12 @@ pub fn run_nodes<R: Threads + Wait + Sync, N: SystemNode + Send + Drop, G: Gate>
     // The history is a run of the whole system, from whatever records its nodes were opened over.
     ensures run { IsTrue N.tells → (g : Setting) (d : Disks) → node_count g ≡ length kinds.now → AreDownOver N.places g d nodes.items
         → IfOk result (λ r. IsRunFrom N.places g d r.air.history r.nodes.items r.rest) }
+    // And the disks of each node, whatever a stop leaves of them, have gone on from where they were, step by step.
+    ensures grown { IsTrue N.tells → (g : Setting) (d : Disks) → node_count g ≡ length kinds.now → AreDownOver N.places g d nodes.items
+        → IfOk result (λ r. HaveGrown N.grown g nodes.items r.nodes.items) }
+    // A node has a fault where the run is not at rest. Its cause is met where it is one of disks or of a log.
+    ensures fault { IfOk result (λ r. r.rest ≡ false → HasFault r.nodes.items) }
+    ensures caused { IfOk result (λ r. AreCaused N.faults N.log_faults r.nodes.items) }
     ensures back { IfErr result (λ e. e.1 ≡ nodes) }
 {
     turn_defs::laws::node_numbers();

@@ -1,6 +1,6 @@
 -- Rounds of workers, one after another, and what they leave.
 use Rattle.std.proofs.Common.{◌≡◌, ℕ, zero, suc, ◌<◌, Bool, List, [], ◌∷◌, ◌++◌, length, map, get_or, slice_index_or, Option, Some, None, IfSome, refl, sym, ap, ◌∙◌, subst, arith}
-use Rattle.std.specs.Prelude.{All, IsTrue}
+use Rattle.std.specs.Prelude.{All, IsTrue, IsSome}
 use mathlib.Core.Logic.{dite}
 use mathlib.Core.List.{map-append}
 use native.Mathlib.Decide.{ℕ_discrete}
@@ -12,27 +12,28 @@ use Rattle.bus_seat.specs.Views.{count, made_by}
 use Rattle.bus_seat.specs.Seats.{BusId, Sight, fresh, fresh_to, fresh_seats, tag, AreSeatsOf, IsIn}
 use Rattle.bus_seat.proofs.Closing.{snoc_injective, fresh_count}
 use Rattle.site_node.specs.declared.kind.NodeFault.{NodeFault}
-use Rattle.site_run.specs.Works.{WorkerView, LeadsOn, Grew}
-use Rattle.site_run.specs.Rounds.{WentOn, AllWentOn, Walked, Rests}
-use Rattle.site_run.proofs.Stepping.{leads_on, leads_nowhere, grew_on}
+use Rattle.site_run.specs.Works.{WorkerView, LeadsOn, GrowsOn, Grew}
+use Rattle.site_run.specs.Rounds.{WentOn, AllWentOn, Walked, WentFar, Rests, OneHasFault, HasFault}
+use Rattle.site_run.proofs.Stepping.{leads_on, leads_nowhere, grows_on, grows_nowhere, grew_on}
 
 grew_nowhere : (s : Sight) → Grew s s
 grew_nowhere s = record { bus = refl; number = refl; seen = ([], append-nil s.seen); mine = ([], append-nil s.mine) }
 
-module _ {N S : Type 0} (tells : Bool) (leads : S → Entry → S → Type 0) (phase_of : S → Phase) (stands : N → S → Type 0) (number : N → ℕ) where
+module _ {N S : Type 0} (tells : Bool) (leads : S → Entry → S → Type 0) (phase_of : S → Phase) (stands : N → S → Type 0) (number : N → ℕ) (grown : N → N → Type 0) where
   abbrev Went : WorkerView N → WorkerView N → Type 0
-  Went = WentOn tells leads phase_of stands number
+  Went = WentOn tells leads phase_of stands number grown
 
   abbrev AllWent : List (WorkerView N) → List (WorkerView N) → Type 0
-  AllWent = AllWentOn tells leads phase_of stands number
+  AllWent = AllWentOn tells leads phase_of stands number grown
 
   pub went_nowhere : (v : WorkerView N) → Went v v
-  went_nowhere v = record { grew = grew_nowhere v.seat; leads_on = λ t. leads_nowhere leads phase_of stands number v.node v.fault v.seat.mine }
+  went_nowhere v = record { grew = grew_nowhere v.seat; leads_on = λ t. leads_nowhere leads phase_of stands number v.node v.fault v.seat.mine; grows_on = λ t. grows_nowhere leads phase_of stands number grown v.node v.fault v.seat.mine }
 
   pub went_on : (u v w : WorkerView N) → Went u v → Went v w → Went u w
   went_on u v w a b = record {
     grew = grew_on u.seat v.seat w.seat a.grew b.grew;
     leads_on = λ t. leads_on leads phase_of stands number u.node v.node w.node u.fault v.fault w.fault u.seat.mine v.seat.mine w.seat.mine (a.leads_on t) (b.leads_on t);
+    grows_on = λ t. grows_on leads phase_of stands number grown u.node v.node w.node u.fault v.fault u.seat.mine v.seat.mine (a.leads_on t) (a.grows_on t) (b.grows_on t);
   }
 
   pub all_nowhere : (vs : List (WorkerView N)) → AllWent vs vs
@@ -77,7 +78,7 @@ front_count bus front is = ap length is ∙ fresh_count bus (count bus.base)
 pub front_at : (bus : BusId) (front : List Sight) (i : ℕ) (d : Sight) → front ≡ fresh_to bus (count bus.base) → i < (count bus.base) → get_or front i d ≡ fresh bus (Some i)
 front_at bus front i d is l = ap (λ (xs : List Sight). get_or xs i d) is ∙ fresh_at bus (count bus.base) i d l
 
-module _ {N S : Type 0} (tells : Bool) (leads : S → Entry → S → Type 0) (phase_of : S → Phase) (stands : N → S → Type 0) (number : N → ℕ)
+module _ {N S : Type 0} (tells : Bool) (leads : S → Entry → S → Type 0) (phase_of : S → Phase) (stands : N → S → Type 0) (number : N → ℕ) (grown : N → N → Type 0)
     (bus : BusId) (nodes : List N) (front : List Sight) (ws us : List (WorkerView N))
     (nodes_are : map (λ (w : WorkerView N). w.node) ws ≡ nodes) (seats_are : map (λ (w : WorkerView N). w.seat) ws ≡ front) (front_is : front ≡ fresh_to bus (count bus.base)) where
   hired_count : length ws ≡ (count bus.base)
@@ -95,7 +96,7 @@ module _ {N S : Type 0} (tells : Bool) (leads : S → Entry → S → Type 0) (p
   pub hired_buses : (i : ℕ) (d : WorkerView N) → i < length ws → (get_or ws i d).seat.bus ≡ bus
   hired_buses i d l = ap (λ (s : Sight). s.bus) (hired_seat i d l)
 
-  module _ (went : AllWentOn tells leads phase_of stands number ws us) where
+  module _ (went : AllWentOn tells leads phase_of stands number grown ws us) where
     ended_tag : (i : ℕ) (d : WorkerView N) → i < length us → tag (get_or us i d).seat ≡ (bus, Some i)
     ended_tag i d l =
         let inside : i < length ws = omega (arith, l, went.count) in
@@ -146,7 +147,7 @@ module _ {N S : Type 0} (tells : Bool) (leads : S → Entry → S → Type 0) (p
         left_at i d b l = ap (λ (xs : List (N × Option NodeFault)). get_or xs i b) left_is ∙ get_or-map (λ (w : WorkerView N). (w.node, w.fault)) us i d b l
 
         -- each node's entries in the history have led it from where it stood to where it stands
-        pub all_walked : IsTrue tells → (i : ℕ) (a : N) (b : N × Option NodeFault) → i < length ws → Walked tells leads phase_of stands number (get_or nodes i a) (get_or left i b) i h
+        pub all_walked : IsTrue tells → (i : ℕ) (a : N) (b : N × Option NodeFault) → i < length ws → Walked leads phase_of stands number (get_or nodes i a) (get_or left i b) i h
         all_walked t i a b l =
             let inside : i < length us = omega (arith, l, went.count) in
             let d = some_of ws i l in
@@ -162,6 +163,37 @@ module _ {N S : Type 0} (tells : Bool) (leads : S → Entry → S → Type 0) (p
             (subst (λ (m : List Entry). LeadsOn leads phase_of stands number v.node None [] w.node w.fault m) (sym (own_entries i d inside)) from)
             in
             subst (λ (x : N × Option NodeFault). LeadsOn leads phase_of stands number (get_or nodes i a) None [] x.0 x.1 (made_by i h)) (sym (left_at i d b inside)) at
+
+        -- and each node's disks have gone on
+        pub all_grown : IsTrue tells → (i : ℕ) (a : N) (b : N × Option NodeFault) → i < length ws → WentFar leads phase_of stands number grown (get_or nodes i a) (get_or left i b)
+        all_grown t i a b l =
+            let inside : i < length us = omega (arith, l, went.count) in
+            let d = some_of ws i l in
+            let v = get_or ws i d in
+            let w = get_or us i d in
+            let grew : GrowsOn leads phase_of stands number grown v.node v.fault v.seat.mine w.node = (went.each i d l).grows_on t in
+            let from : GrowsOn leads phase_of stands number grown v.node None [] w.node =
+            subst (λ (m : List Entry). GrowsOn leads phase_of stands number grown v.node None m w.node) (ap (λ (s : Sight). s.mine) (hired_seat i d l))
+            (subst (λ (o : Option NodeFault). GrowsOn leads phase_of stands number grown v.node o v.seat.mine w.node) (faults i d l) grew)
+            in
+            let at : GrowsOn leads phase_of stands number grown (get_or nodes i a) None [] w.node =
+            subst (λ (n : N). GrowsOn leads phase_of stands number grown n None [] w.node) (hired_node i d a l) from
+            in
+            subst (λ (x : N × Option NodeFault). GrowsOn leads phase_of stands number grown (get_or nodes i a) None [] x.0) (sym (left_at i d b inside)) at
+
+        abbrev parted : WorkerView N → N × Option NodeFault
+        parted w = (w.node, w.fault)
+
+        left_count : length left ≡ length us
+        left_count = ap length left_is ∙ length-map us parted
+
+        -- where a worker has a fault its node has it
+        pub has_fault : OneHasFault us → HasFault left
+        has_fault one = (
+          one.0,
+          omega (arith, one.1, left_count),
+          λ b. let d = some_of us one.0 one.1 in subst (λ (x : N × Option NodeFault). IsSome x.1) (sym (left_at one.0 d b one.1)) (one.2 d),
+        )
 
         -- where each worker's node rests by its own entries, it does by the history
         pub all_rested : (at_rest_as : S → Bool → Type 0) → All (λ (w : WorkerView N). Rests number stands at_rest_as (w.node, w.fault) w.seat.mine) us

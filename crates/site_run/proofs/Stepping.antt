@@ -1,5 +1,5 @@
 -- One entry more of a worker, and what it leads on to.
-use Rattle.std.proofs.Common.{◌≡◌, ◌≢◌, ℕ, ◌≤◌, Bool, false, List, [], ◌∷◌, ◌++◌, length, Option, Some, None, is_some, refl, sym, ap, ◌∙◌, subst, arith, append_assoc}
+use Rattle.std.proofs.Common.{◌≡◌, ◌≢◌, ℕ, zero, suc, ◌≤◌, Bool, false, List, [], ◌∷◌, ◌++◌, length, Option, Some, None, is_some, refl, sym, ap, ◌∙◌, subst, arith, append_assoc}
 use Rattle.std.specs.Prelude.{IfSome}
 use mathlib.Core.List.{IsPrefix}
 use Rattle.std.proofs.lemmas.List.{append-nil}
@@ -14,7 +14,7 @@ use Rattle.air_bus.specs.History.{phase, phase_after, node_of, next_input}
 use Rattle.air_bus.proofs.Phases.{phase_here}
 use Rattle.bus_seat.specs.Seats.{Sight, Begins, Adds, next_for}
 use Rattle.site_node.specs.declared.kind.NodeFault.{NodeFault}
-use Rattle.site_run.specs.Works.{WorkerView, Path, StandsAt, LeadsOn, Grew}
+use Rattle.site_run.specs.Works.{WorkerView, Path, StandsAt, LeadsOn, Reached, GrowsOn, Grew}
 
 pub none_of : {A : Type 0} (o : Option A) (b : Bool) → b ≡ is_some o → b ≡ false → o ≡ None
 none_of None b is off = refl
@@ -56,6 +56,34 @@ module _ {N S : Type 0} (leads : S → Entry → S → Type 0) (phase_of : S →
 
   pub leads_nowhere : (v : N) (before : Option NodeFault) (old : List Entry) → LeadsOn leads phase_of stands number v before old v before old
   leads_nowhere v before old s at = ([], s, sym (append-nil old), refl, at)
+
+-- some steps after some others
+pub reached_on : {N : Type 0} (grown : N → N → Type 0) (u v w : N) (k n : ℕ) → Reached grown k u v → Reached grown n v w → (m : ℕ) × Reached grown m u w
+reached_on grown u v w k zero first next = (k, subst (Reached grown k u) next first)
+reached_on grown u v w k (suc n) first next = let before = reached_on grown u v next.0 k n first next.1 in (suc before.0, (next.0, before.1, next.2))
+
+-- one step, and two
+pub reached_one : {N : Type 0} (grown : N → N → Type 0) (v w : N) → grown v w → (k : ℕ) × Reached grown k v w
+reached_one grown v w g = (1, (v, refl, g))
+
+pub reached_two : {N : Type 0} (grown : N → N → Type 0) (u v w : N) → grown u v → grown v w → (k : ℕ) × Reached grown k u w
+reached_two grown u v w g h = (2, (v, (u, refl, g), h))
+
+module _ {N S : Type 0} (leads : S → Entry → S → Type 0) (phase_of : S → Phase) (stands : N → S → Type 0) (number : N → ℕ) (grown : N → N → Type 0) where
+  pub grows_on : (v x w : N) (before since : Option NodeFault) (old mid : List Entry) → LeadsOn leads phase_of stands number v before old x since mid → GrowsOn leads phase_of stands number grown v before old x → GrowsOn leads phase_of stands number grown x since mid w
+      → GrowsOn leads phase_of stands number grown v before old w
+  grows_on v x w before since old mid led first next s at =
+      let there = led s at in
+      let a = first s at in
+      let b = next there.1 there.4 in
+      reached_on grown v x w a.0 b.0 a.1 b.1
+
+  pub grows_nowhere : (v : N) (before : Option NodeFault) (old : List Entry) → GrowsOn leads phase_of stands number grown v before old v
+  grows_nowhere v before old s at = (0, refl)
+
+  -- of the same worker, seen by its parts
+  pub grows_from : (v u : WorkerView N) (w : N) → v ≡ u → GrowsOn leads phase_of stands number grown v.node v.fault v.seat.mine w → GrowsOn leads phase_of stands number grown u.node u.fault u.seat.mine w
+  grows_from v u w is grows = subst (λ (x : WorkerView N). GrowsOn leads phase_of stands number grown x.node x.fault x.seat.mine w) is grows
 
 -- a seat that grew twice
 pub grew_on : (u v w : Sight) → Grew u v → Grew v w → Grew u w

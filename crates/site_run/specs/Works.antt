@@ -1,5 +1,5 @@
 -- What a worker does, by the entries that it adds.
-use Rattle.std.specs.Prelude.{◌≡◌, ◌≢◌, ℕ, Bool, false, List, [], ◌∷◌, ◌++◌, Option, None}
+use Rattle.std.specs.Prelude.{◌≡◌, ◌≢◌, ℕ, zero, suc, ◌≤◌, Bool, false, List, [], ◌∷◌, ◌++◌, Option, None, Some}
 use mathlib.Core.List.{IsPrefix}
 use Rattle.air_bus.specs.declared.entry.Entry.{Entry}
 use Rattle.air_bus.specs.declared.entry.Phase.{Phase}
@@ -7,11 +7,22 @@ use Rattle.air_bus.specs.declared.entry.Phase.TheVariants.{Busy}
 use Rattle.air_bus.specs.History.{phase}
 use Rattle.bus_seat.specs.Seats.{Sight}
 use Rattle.site_node.specs.declared.kind.NodeFault.{NodeFault}
+use Rattle.site_node.specs.declared.kind.NodeFault.TheVariants.{Stopped, Read}
 
 -- the entries lead from one state to another
 abbrev pub Path : {S : Type 0} → (S → Entry → S → Type 0) → S → List Entry → S → Type 0
 Path leads s [] t = s ≡ t
 Path leads s (e ∷ es) t = (u : _) × leads s e u × Path leads u es t
+
+-- in so many steps, each of which goes on from the one before
+abbrev pub Reached : {N : Type 0} → (N → N → Type 0) → ℕ → N → N → Type 0
+Reached grown zero v w = v ≡ w
+Reached grown (suc k) v w = (u : _) × Reached grown k v u × grown u w
+
+-- a node that stopped too often, or couldn't be reopened, has met a fault of its disks, and one that couldn't read one of its log
+pub record IsCaused {N : Type 0} (faults log_faults : N → ℕ) (node : N) (fault : Option NodeFault) : Type 0 where
+  pub stopped : fault ≡ Some Stopped → 1 ≤ faults node
+  pub read : fault ≡ Some Read → 1 ≤ log_faults node
 
 -- what a contract sees of a worker
 pub record WorkerView (N : Type 0) : Type 0 where
@@ -33,6 +44,10 @@ module _ {N S : Type 0} (leads : S → Entry → S → Type 0) (phase_of : S →
   -- Wherever the node stood, the entries that were added lead on to where it stands.
   abbrev pub LeadsOn : N → Option NodeFault → List Entry → N → Option NodeFault → List Entry → Type 0
   LeadsOn v before old w after new = (s : S) → StandsAt v before old s → (es : List Entry) × (t : S) × (new ≡ old ++ es) × Path leads s es t × StandsAt w after new t
+
+  -- wherever the node stood, its disks went on from where they were, step by step
+  abbrev pub GrowsOn : (N → N → Type 0) → N → Option NodeFault → List Entry → N → Type 0
+  GrowsOn grown v before old w = (s : S) → StandsAt v before old s → (k : ℕ) × Reached grown k v w
 
   -- the turn that the node has opened is closed by an entry, which leads on
   abbrev pub Closes : N → S → List Entry → List Entry → Type 0

@@ -1,11 +1,11 @@
 // Rounds of workers over one bus, a thread each.
-ghost use Rattle.std.specs.Prelude.{◌≡◌, ◌≢◌, ◌<◌, ◌≤◌, ◌+◌, ◌^◌, ℕ, true, false, None, Some, [], ◌∷◌, ◌++◌, map, length, slice_index_or, vec_capacity, IsTrue, IfOk, IfErr};
+ghost use Rattle.std.specs.Prelude.{◌≡◌, ◌≢◌, ◌<◌, ◌≤◌, ◌+◌, ◌^◌, ℕ, true, false, None, Some, [], ◌∷◌, ◌++◌, map, length, slice_index_or, vec_capacity, vec_len, IsTrue, IfOk, IfErr};
 ghost use Rattle.std.specs.List.{All};
 ghost use Rattle.air_bus.specs.History.{IsAired};
 ghost use Rattle.bus_seat.specs.Views.{count, made_by};
 ghost use Rattle.bus_seat.specs.Seats.{fresh, fresh_to, fresh_seats, IsIn};
 ghost use Rattle.site_run.specs.Works.{WorkerView};
-ghost use Rattle.site_run.specs.Rounds.{WentOn, AllWentOn, Walked, Rests};
+ghost use Rattle.site_run.specs.Rounds.{WentOn, AllWentOn, Walked, WentFar, Rests, AreCaused, OneHasFault, HasFault};
 
 use crate::Worker;
 use air_bus::Air;
@@ -67,7 +67,13 @@ pub fn run<R: Threads + Wait + Sync, N: SiteNode + Send + Drop, G: Gate>(
     ensures count { IfOk result (λ r. length r.nodes.items ≡ length nodes.items) }
     // Each node's entries have led it from where it stood to where it stands.
     ensures walked { IsTrue N.tells → IfOk result (λ r. (i : ℕ) (a : N) (b : _) → i < length nodes.items →
-        Walked N.tells N.leads N.phase_of N.stands N.number (slice_index_or nodes.items i a) (slice_index_or r.nodes.items i b) i r.air.history) }
+        Walked N.leads N.phase_of N.stands N.number (slice_index_or nodes.items i a) (slice_index_or r.nodes.items i b) i r.air.history) }
+    // And its disks, whatever a stop leaves of them, have gone on from where they were.
+    ensures grown { IsTrue N.tells → IfOk result (λ r. (i : ℕ) (a : N) (b : _) → i < length nodes.items →
+        WentFar N.leads N.phase_of N.stands N.number N.grown (slice_index_or nodes.items i a) (slice_index_or r.nodes.items i b)) }
+    // A node has a fault where not all are at rest. Its cause is met where it is one of disks or of a log.
+    ensures fault { IfOk result (λ r. r.rest ≡ false → HasFault r.nodes.items) }
+    ensures caused { IfOk result (λ r. AreCaused N.faults N.log_faults r.nodes.items) }
     ensures rest { IfOk result (λ r. IsTrue r.rest → (i : ℕ) (b : _) → i < length nodes.items →
         Rests N.number N.stands N.at_rest_as (slice_index_or r.nodes.items i b) (made_by i r.air.history)) }
     ensures back { IfErr result (λ e. e.1 ≡ nodes) }
@@ -128,7 +134,11 @@ fn run_on<R: Threads + Wait + Sync, N: SiteNode + Send + Drop, G: Gate>(
     ensures others { (n : ℕ) → count bus.base ≤ n → made_by n result.air.history ≡ [] }
     ensures count { length result.nodes.items ≡ length nodes.items }
     ensures walked { IsTrue N.tells → (i : ℕ) (a : N) (b : _) → i < length nodes.items →
-        Walked N.tells N.leads N.phase_of N.stands N.number (slice_index_or nodes.items i a) (slice_index_or result.nodes.items i b) i result.air.history }
+        Walked N.leads N.phase_of N.stands N.number (slice_index_or nodes.items i a) (slice_index_or result.nodes.items i b) i result.air.history }
+    ensures grown { IsTrue N.tells → (i : ℕ) (a : N) (b : _) → i < length nodes.items →
+        WentFar N.leads N.phase_of N.stands N.number N.grown (slice_index_or nodes.items i a) (slice_index_or result.nodes.items i b) }
+    ensures fault { result.rest ≡ false → HasFault result.nodes.items }
+    ensures caused { AreCaused N.faults N.log_faults result.nodes.items }
     ensures rest { IsTrue result.rest → (i : ℕ) (b : _) → i < length nodes.items →
         Rests N.number N.stands N.at_rest_as (slice_index_or result.nodes.items i b) (made_by i result.air.history) }
 {
@@ -191,12 +201,29 @@ fn dismiss<N: SiteNode + Drop>(
     requires nodes { (nodes.old.items ≡ []) × (length workers.items ≤ vec_capacity nodes.old) }
     ensures seats { (seats.new.items ≡ map (λ (w : WorkerView N). w.seat) workers.items) × (length workers.items < vec_capacity seats.new) }
     ensures nodes { nodes.new.items ≡ map (λ (w : WorkerView N). (w.node, w.fault)) workers.items }
+    ensures caused { AreCaused N.faults N.log_faults nodes.new.items }
 {
     for worker in workers {
-        let (node, seat, fault) = worker.into_parts();
-        seats.push_reserved(seat);
-        nodes.push_reserved((node, fault));
+        dismiss_one(worker, seats, nodes);
     }
+}
+
+fn dismiss_one<N: SiteNode + Drop>(
+    worker: Worker<N>,
+    seats: &mut Vec<Seat>,
+    nodes: &mut Vec<(N, Option<NodeFault>)>,
+)
+    requires seats { vec_len seats.old < vec_capacity seats.old }
+    requires nodes { vec_len nodes.old < vec_capacity nodes.old }
+    ensures seats { seats.new.items ≡ seats.old.items ++ worker.seat ∷ [] }
+    ensures nodes { nodes.new.items ≡ nodes.old.items ++ (worker.node, worker.fault) ∷ [] }
+    ensures room { (vec_capacity seats.new ≡ vec_capacity seats.old) × (vec_capacity nodes.new ≡ vec_capacity nodes.old) }
+    ensures lens { (vec_len seats.new ≡ vec_len seats.old + 1) × (vec_len nodes.new ≡ vec_len nodes.old + 1) }
+    ensures caused { AreCaused N.faults N.log_faults nodes.old.items → AreCaused N.faults N.log_faults nodes.new.items }
+{
+    let (node, seat, fault) = worker.into_parts();
+    seats.push_reserved(seat);
+    nodes.push_reserved((node, fault));
 }
 
 // Rounds until all are at rest, which it tells, or one has a fault.
@@ -210,8 +237,9 @@ fn rounds_of<R: Threads + Wait + Sync, N: SiteNode + Send + Drop, G: Gate>(
     requires buses { All (λ (w : WorkerView N). w.seat.bus ≡ bus.now) workers.items }
     requires last { last.old.bus ≡ bus.now }
     ensures last { (last.new.bus ≡ last.old.bus) × (last.new.number ≡ last.old.number) }
-    ensures went { AllWentOn N.tells N.leads N.phase_of N.stands N.number workers.items result.0.items }
+    ensures went { AllWentOn N.tells N.leads N.phase_of N.stands N.number N.grown workers.items result.0.items }
     ensures rest { IsTrue result.1 → All (λ (w : WorkerView N). Rests N.number N.stands N.at_rest_as (w.node, w.fault) w.seat.mine) result.0.items }
+    ensures fault { result.1 ≡ false → OneHasFault result.0.items }
 {
     let rest = rounds(rt, bus, last, gate, workers.as_mut_slice());
     (workers, rest)
@@ -227,8 +255,9 @@ fn rounds<R: Threads + Wait + Sync, N: SiteNode + Send, G: Gate>(
     requires buses { All (λ (w : WorkerView N). w.seat.bus ≡ bus.now) workers.old }
     requires last { last.old.bus ≡ bus.now }
     ensures last { (last.new.bus ≡ last.old.bus) × (last.new.number ≡ last.old.number) }
-    ensures went { AllWentOn N.tells N.leads N.phase_of N.stands N.number workers.old workers.new }
+    ensures went { AllWentOn N.tells N.leads N.phase_of N.stands N.number N.grown workers.old workers.new }
     ensures rest { IsTrue result → All (λ (w : WorkerView N). Rests N.number N.stands N.at_rest_as (w.node, w.fault) w.seat.mine) workers.new }
+    ensures fault { result ≡ false → OneHasFault workers.new }
 {
     let mut tick = false;
     for _ in rt.forever() {
@@ -253,7 +282,7 @@ fn round<R: Threads + Wait + Sync, N: SiteNode + Send, G: Gate>(
     tick: bool,
 )
     requires { All (λ (w : WorkerView N). w.seat.bus ≡ bus.now) workers.old }
-    ensures { AllWentOn N.tells N.leads N.phase_of N.stands N.number workers.old workers.new }
+    ensures { AllWentOn N.tells N.leads N.phase_of N.stands N.number N.grown workers.old workers.new }
 {
     let threads = workers.len().max(1);
     thread::for_each_mut(
@@ -262,7 +291,7 @@ fn round<R: Threads + Wait + Sync, N: SiteNode + Send, G: Gate>(
         threads,
         &|_, worker: &mut Worker<N>|
             requires { worker.old.seat.bus ≡ bus.now }
-            ensures { WentOn N.tells N.leads N.phase_of N.stands N.number worker.old worker.new }
+            ensures { WentOn N.tells N.leads N.phase_of N.stands N.number N.grown worker.old worker.new }
         { take_part(rt, bus, gate, worker, tick) },
     );
 }
@@ -276,7 +305,7 @@ fn take_part<R: Wait, N: SiteNode, G: Gate>(
     tick: bool,
 )
     requires { worker.old.seat.bus ≡ bus.now }
-    ensures { WentOn N.tells N.leads N.phase_of N.stands N.number worker.old worker.new }
+    ensures { WentOn N.tells N.leads N.phase_of N.stands N.number N.grown worker.old worker.new }
 {
     if tick {
         worker.ask_tick();
@@ -286,7 +315,8 @@ fn take_part<R: Wait, N: SiteNode, G: Gate>(
 
 // Whether a worker has a fault.
 fn has_fault<N: SiteNode>(workers: &[Worker<N>]) -> bool
-    ensures { result ≡ false → All (λ (w : WorkerView N). w.fault ≡ None) workers.now }
+    ensures none { result ≡ false → All (λ (w : WorkerView N). w.fault ≡ None) workers.now }
+    ensures one { result ≡ true → OneHasFault workers.now }
 {
     for worker in workers {
         if worker.fault().is_some() {

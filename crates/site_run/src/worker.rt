@@ -1,10 +1,10 @@
 // A node with its seat.
-ghost use Rattle.std.specs.Prelude.{◌≡◌, ◌≢◌, ◌≤◌, ℕ, true, false, nat_lt, if◌then◌else◌, Some, None, IsTrue, Ok, OnOk, OnErr, IsErrOf};
+ghost use Rattle.std.specs.Prelude.{◌≡◌, ◌≢◌, ◌≤◌, ℕ, true, false, nat_lt, if◌then◌else◌, Some, None, IsTrue, Ok, OnOk, OnErr, IfErr};
 ghost use Rattle.air_bus.specs.declared.entry.Entry.TheVariants.{Begin};
 ghost use Rattle.air_bus.specs.declared.entry.Phase.TheVariants.{Idle, Busy};
 ghost use Rattle.air_bus.specs.History.{phase};
 ghost use Rattle.site_node.specs.declared.kind.NodeFault.TheVariants as node_fault;
-ghost use Rattle.site_run.specs.Works.{IsIdle, Closes, Grew};
+ghost use Rattle.site_run.specs.Works.{IsIdle, Closes, Grew, Reached, IsCaused};
 
 use air_bus::Input;
 use bus_seat::{Bus, Seat};
@@ -34,8 +34,7 @@ pub struct Worker<N: SiteNode> {
     ghost whose: { seat.number ≡ Some (N.number node) },
     ghost idle: { fault ≡ None → IsIdle (N.number node) (N.waits node) seat },
     ghost is_up: { fault ≡ None → up ≡ true → phase (N.number node) seat.mine ≡ Idle },
-    ghost stopped: { fault ≡ Some node_fault.Stopped → 1 ≤ N.faults node },
-    ghost read: { fault ≡ Some node_fault.Read → 1 ≤ N.log_faults node },
+    ghost caused: { IsCaused N.faults N.log_faults node fault },
 }
 
 impl<N: SiteNode> Model for Worker<N> {
@@ -55,7 +54,7 @@ enum Closed {
 
 impl<N: SiteNode> Worker<N> {
     ghost use Rattle.std.specs.Prelude.{◌≡◌, [], None, Some, IsTrue};
-    ghost use Rattle.site_run.specs.Works.{LeadsOn, Grew};
+    ghost use Rattle.site_run.specs.Works.{LeadsOn, GrowsOn, Grew, IsCaused};
 
     /// A worker of a node that was just opened.
     pub fn new(node: N, number: u16, seat: Seat) -> Worker<N>
@@ -83,6 +82,7 @@ impl<N: SiteNode> Worker<N> {
         ensures node { result.0 ≡ self.node }
         ensures seat { result.1 ≡ self.seat }
         ensures fault { result.2 ≡ self.fault }
+        ensures caused { IsCaused N.faults N.log_faults result.0 result.2 }
     {
         let Worker {
             node,
@@ -121,6 +121,7 @@ impl<N: SiteNode> Worker<N> {
         requires { self.old.seat.bus ≡ bus.now }
         ensures grew { Grew self.old.seat self.new.seat }
         ensures leads { IsTrue N.tells → LeadsOn N.leads N.phase_of N.stands N.number self.old.node self.old.fault self.old.seat.mine self.new.node self.new.fault self.new.seat.mine }
+        ensures grows { IsTrue N.tells → GrowsOn N.leads N.phase_of N.stands N.number N.grown self.old.node self.old.fault self.old.seat.mine self.new.node }
     {
         for _ in 0..u64::MAX {
             if !self.step(rt, bus, gate) {
@@ -135,6 +136,7 @@ impl<N: SiteNode> Worker<N> {
         requires { self.old.seat.bus ≡ bus.now }
         ensures grew { Grew self.old.seat self.new.seat }
         ensures leads { IsTrue N.tells → LeadsOn N.leads N.phase_of N.stands N.number self.old.node self.old.fault self.old.seat.mine self.new.node self.new.fault self.new.seat.mine }
+        ensures grows { IsTrue N.tells → GrowsOn N.leads N.phase_of N.stands N.number N.grown self.old.node self.old.fault self.old.seat.mine self.new.node }
     {
         if self.fault.is_some() {
             return false;
@@ -202,10 +204,10 @@ fn close<N: SiteNode, R: Wait, G: Gate>(
     ensures same { OnErr result (seat.new ≡ seat.old) }
     ensures ended { result ≡ Ok Closed.Ended → phase (N.number node.new) seat.new.mine ≡ Idle }
     ensures met { result ≡ Ok Closed.Stopped → 1 ≤ N.faults node.new }
-    ensures stopped { IsErrOf result NodeFault.Stopped → 1 ≤ N.faults node.new }
-    ensures read { IsErrOf result NodeFault.Read → 1 ≤ N.log_faults node.new }
+    ensures caused { IfErr result (λ fault. IsCaused N.faults N.log_faults node.new (Some fault)) }
     ensures closes { IsTrue N.tells → (s t : N.State) → N.stands node.old s → N.leads s (Begin (N.number node.old) input.now) t → OnOk result (Closes N.leads N.phase_of N.stands N.number node.new t seat.old.mine seat.new.mine) }
     ensures open { IsTrue N.tells → (s t : N.State) → N.stands node.old s → N.leads s (Begin (N.number node.old) input.now) t → OnErr result (N.stands node.new t) }
+    ensures grows { IsTrue N.tells → (s t : N.State) → N.stands node.old s → N.leads s (Begin (N.number node.old) input.now) t → (k : ℕ) × Reached N.grown k node.old node.new }
 {
     match node.turn(input, gate) {
         Ok(Done { note, packets }) => {

@@ -1,6 +1,7 @@
 use Rattle.std.proofs.Common.{◌≡◌, ◌+◌, ◌<◌, ◌≤◌, ◌++◌, map, length, vec_len}
 use Rattle.std.specs.Prelude.{vec_capacity}
 use Rattle.site_run.specs.Works.{WorkerView}
+use Rattle.site_run.specs.Rounds.{AreCaused}
 use Rattle.site_run.proofs.rounds.dismiss.Given as goal
 
 abbrev pub invariant-loop-worker : goal.invariant-loop-worker
@@ -11,3 +12,4 @@ invariant-loop-worker g l =
     × (vec_len l.nodes + length l.worker-iterator.rest.items ≤ vec_capacity l.nodes)
     × (vec_len l.seats ≡ length l.yielded)
     × (l.yielded ++ l.worker-iterator.rest.items ≡ l.fn.workers.items)
+    × AreCaused g.N.SiteNode.faults g.N.SiteNode.log_faults l.nodes.items
