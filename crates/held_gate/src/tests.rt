@@ -89,7 +89,7 @@ fn cross<R: Threads + Sync, G: Gate>(rt: &R, gate: &G, threads: usize) -> bool
 
 #[test]
 fn nodes_on_two_threads_meet(rt: HostRuntime) -> Result<(), Fail> {
-    for _ in 0..1000 {
+    for _ in 0..20 {
         let gate = HeldGate::new(CROSSING, LOOKS);
         assert!(rt; cross(&rt, &gate, 2));
         assert!(rt; !gate.reached_limit());
@@ -102,6 +102,17 @@ fn nodes_on_one_thread_reach_the_limit(rt: HostRuntime) -> Result<(), Fail> {
     let gate = HeldGate::new(CROSSING, 1000);
     assert!(rt; !gate.reached_limit());
     assert!(rt; !cross(&rt, &gate, 1));
+    assert!(rt; gate.reached_limit());
+    Ok(())
+}
+
+#[test]
+fn each_hold_tells_its_limit(rt: HostRuntime) -> Result<(), Fail> {
+    let gate = HeldGate::new(CROSSING, 1000);
+    gate.pass(BeforeAppend, 8);
+    assert!(rt; gate.reached_limit());
+    let gate = HeldGate::new(CROSSING, 1000);
+    gate.pass(BeforeAppend, 7);
     assert!(rt; gate.reached_limit());
     Ok(())
 }
