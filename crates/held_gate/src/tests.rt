@@ -118,9 +118,9 @@ fn each_hold_tells_its_limit(rt: HostRuntime) -> Result<(), Fail> {
 }
 
 #[test]
-fn who_comes_later_is_not_held(rt: HostRuntime) -> Result<(), Fail> {
+fn others_are_not_held(rt: HostRuntime) -> Result<(), Fail> {
     let gate = HeldGate::new([CROSSING[0]], 0);
-    // Neither another node nor another point is held.
+    // Another node comes there, and the node comes elsewhere.
     gate.pass(BeforeAppend, 9);
     gate.pass(AfterEnd, 8);
     gate.pass(AfterEnd, 7);
