@@ -30,7 +30,7 @@ store_message store.Directory = codes "photon: store: directory\n"
 store_message (store.Disk disk) = codes "photon: store: " ++ name_text disk ++ codes "\n"
 store_message (store.Node number) = codes "photon: store: node " ++ decimal number ++ codes " stopped 8 times\n"
 
--- of what two values do not fit, and the two
+-- the line of what doesn't fit: what it is, and its two values
 abbrev pub topology_line : List ℕ → List ℕ → List ℕ → List ℕ
 topology_line what one other = codes "photon: topology: " ++ what ++ codes " " ++ one ++ codes " " ++ other ++ codes "\n"
 

@@ -115,7 +115,7 @@ fn tell_mismatch<K: Sink>(err: &mut K, mismatch: &Mismatch) -> Result<(), WriteF
     }
 }
 
-// Writes of what two values don't fit, and the two.
+// Writes the line of what doesn't fit: what it is, and its two values.
 fn write_topology<K: Sink>(
     err: &mut K,
     what: &str,

@@ -193,3 +193,16 @@ fn failing_sinks(rt: HostRuntime) -> Result<(), Fail> {
     assert!(rt; is_told(alloc, &whole, 31, &[5])?);
     Ok(())
 }
+
+// Want of memory is a fault by `?`, of a call that hands nothing back and of one that hands its value back.
+fn some_bytes(alloc: Global) -> Result<Vec<u8>, RunFault> {
+    let mut bytes = Vec::with_capacity(alloc, 1)?;
+    bytes.push(7)?;
+    bytes.extend_from_slice(b"abc")?;
+    Ok(bytes)
+}
+
+#[test]
+fn memory_by_a_question_mark(rt: HostRuntime) {
+    assert!(rt; some_bytes(rt.alloc()).is_ok());
+}
