@@ -6,11 +6,12 @@ use crate::{AnyNode, SystemNode, dispatcher, joiner, replica, run_nodes, server}
 use air_bus::Entry;
 use epoch_journal::EpochJournal;
 use gate_journal::Journal;
+use held_gate::{HeldGate, Hold, LOOKS};
 use lossy_link::{Kind, Plan};
 use mem_outside::{Fuse, Image, MemDisk, MemLog};
 use offset_journal::OffsetJournal;
 use output_log::OutputLog;
-use outside::OpenGate;
+use outside::{OpenGate, Point};
 use retry_log::RetryLog;
 use site_node::{NodeFault, Roster, SiteNode};
 use site_run::{Either, Ran};
@@ -21,6 +22,12 @@ use std::thread::Threads;
 use time_shards::Table;
 
 type Node = AnyNode<MemDisk, MemLog>;
+
+// One joiner a site, and two.
+const SMALL: Roster = Roster {
+    replicas: 3,
+    joiners: 1,
+};
 
 const ROSTER: Roster = Roster {
     replicas: 3,
@@ -37,6 +44,18 @@ const KINDS: [Kind; 11] = [
     Kind::Replica,
     Kind::Joiner,
     Kind::Joiner,
+    Kind::Joiner,
+    Kind::Joiner,
+];
+
+const SMALL_KINDS: [Kind; 9] = [
+    Kind::Dispatcher,
+    Kind::Dispatcher,
+    Kind::Server,
+    Kind::Server,
+    Kind::Replica,
+    Kind::Replica,
+    Kind::Replica,
     Kind::Joiner,
     Kind::Joiner,
 ];
@@ -125,8 +144,15 @@ fn add(nodes: &mut Vec<Node>, node: Node) -> Result<(), Fail>
     Ok(())
 }
 
-fn add_dispatcher(alloc: Global, nodes: &mut Vec<Node>, case: &Case, site: u8) -> Result<(), Fail>
+fn add_dispatcher(
+    alloc: Global,
+    nodes: &mut Vec<Node>,
+    case: &Case,
+    roster: Roster,
+    site: u8,
+) -> Result<(), Fail>
     requires site { site < 2 }
+    requires joiners { 0 < roster.joiners }
     requires place { length nodes.old.items ≡ site }
     requires ready { AreReady ⟦<AnyNode<MemDisk, MemLog> as SiteNode>⟧.number ⟦<AnyNode<MemDisk, MemLog> as SiteNode>⟧.waits nodes.old.items }
     ensures ready { OnOk result (AreReady ⟦<AnyNode<MemDisk, MemLog> as SiteNode>⟧.number ⟦<AnyNode<MemDisk, MemLog> as SiteNode>⟧.waits nodes.new.items) }
@@ -139,10 +165,16 @@ fn add_dispatcher(alloc: Global, nodes: &mut Vec<Node>, case: &Case, site: u8) -
         return Err("retry".into());
     };
     let log = clicks(alloc, case.clicks)?;
-    add(nodes, dispatcher(alloc, site, ROSTER, offset, retry, log))
+    add(nodes, dispatcher(alloc, site, roster, offset, retry, log))
 }
 
-fn add_server(alloc: Global, nodes: &mut Vec<Node>, case: &Case, site: u8) -> Result<(), Fail>
+fn add_server(
+    alloc: Global,
+    nodes: &mut Vec<Node>,
+    case: &Case,
+    roster: Roster,
+    site: u8,
+) -> Result<(), Fail>
     requires site { site < 2 }
     requires place { length nodes.old.items ≡ 2 + site }
     requires ready { AreReady ⟦<AnyNode<MemDisk, MemLog> as SiteNode>⟧.number ⟦<AnyNode<MemDisk, MemLog> as SiteNode>⟧.waits nodes.old.items }
@@ -155,13 +187,19 @@ fn add_server(alloc: Global, nodes: &mut Vec<Node>, case: &Case, site: u8) -> Re
     let Ok(epochs) = EpochJournal::open(alloc, disk(alloc, case, DiskKind::Server)?) else {
         return Err("epochs".into());
     };
-    let Ok(node) = server(alloc, site, ROSTER, case.horizon, table, 64, epochs) else {
+    let Ok(node) = server(alloc, site, roster, case.horizon, table, 64, epochs) else {
         return Err("server".into());
     };
     add(nodes, node)
 }
 
-fn add_replica(alloc: Global, nodes: &mut Vec<Node>, case: &Case, number: u8) -> Result<(), Fail>
+fn add_replica(
+    alloc: Global,
+    nodes: &mut Vec<Node>,
+    case: &Case,
+    roster: Roster,
+    number: u8,
+) -> Result<(), Fail>
     requires few { number < 3 }
     requires place { length nodes.old.items ≡ 4 + number }
     requires ready { AreReady ⟦<AnyNode<MemDisk, MemLog> as SiteNode>⟧.number ⟦<AnyNode<MemDisk, MemLog> as SiteNode>⟧.waits nodes.old.items }
@@ -173,7 +211,7 @@ fn add_replica(alloc: Global, nodes: &mut Vec<Node>, case: &Case, number: u8) ->
     };
     add(
         nodes,
-        replica(alloc, number, ROSTER, journal, Vec::new(alloc)),
+        replica(alloc, number, roster, journal, Vec::new(alloc)),
     )
 }
 
@@ -181,15 +219,16 @@ fn add_joiner(
     alloc: Global,
     nodes: &mut Vec<Node>,
     case: &Case,
+    roster: Roster,
     site: u8,
     number: u8,
 ) -> Result<(), Fail>
     requires site { site < 2 }
-    requires few { number < 2 }
-    requires place { length nodes.old.items ≡ 7 + site * 2 + number }
+    requires few { number < roster.joiners }
+    requires place { length nodes.old.items ≡ 4 + roster.replicas + site * roster.joiners + number }
     requires ready { AreReady ⟦<AnyNode<MemDisk, MemLog> as SiteNode>⟧.number ⟦<AnyNode<MemDisk, MemLog> as SiteNode>⟧.waits nodes.old.items }
     ensures ready { OnOk result (AreReady ⟦<AnyNode<MemDisk, MemLog> as SiteNode>⟧.number ⟦<AnyNode<MemDisk, MemLog> as SiteNode>⟧.waits nodes.new.items) }
-    ensures count { OnOk result (length nodes.new.items ≡ 8 + site * 2 + number) }
+    ensures count { OnOk result (length nodes.new.items ≡ length nodes.old.items + 1) }
 {
     let Ok(epochs) = EpochJournal::open(alloc, disk(alloc, case, DiskKind::Epoch)?) else {
         return Err("epochs".into());
@@ -198,30 +237,55 @@ fn add_joiner(
         return Err("pairs".into());
     };
     let log = queries(alloc, case.clicks)?;
-    let Ok(node) = joiner(alloc, site, number, ROSTER, epochs, pairs, log) else {
+    let Ok(node) = joiner(alloc, site, number, roster, epochs, pairs, log) else {
         return Err("joiner".into());
     };
     add(nodes, node)
 }
 
-// The eleven nodes, in the order of their numbers.
+// All nodes but the joiners, in the order of their numbers.
+fn fill_front(alloc: Global, nodes: &mut Vec<Node>, case: &Case, roster: Roster) -> Result<(), Fail>
+    requires none { length nodes.old.items ≡ 0 }
+    requires joiners { 0 < roster.joiners }
+    requires ready { AreReady ⟦<AnyNode<MemDisk, MemLog> as SiteNode>⟧.number ⟦<AnyNode<MemDisk, MemLog> as SiteNode>⟧.waits nodes.old.items }
+    ensures ready { OnOk result (AreReady ⟦<AnyNode<MemDisk, MemLog> as SiteNode>⟧.number ⟦<AnyNode<MemDisk, MemLog> as SiteNode>⟧.waits nodes.new.items) }
+    ensures count { OnOk result (length nodes.new.items ≡ 7) }
+{
+    add_dispatcher(alloc, nodes, case, roster, 0)?;
+    add_dispatcher(alloc, nodes, case, roster, 1)?;
+    add_server(alloc, nodes, case, roster, 0)?;
+    add_server(alloc, nodes, case, roster, 1)?;
+    add_replica(alloc, nodes, case, roster, 0)?;
+    add_replica(alloc, nodes, case, roster, 1)?;
+    add_replica(alloc, nodes, case, roster, 2)?;
+    Ok(())
+}
+
+// The eleven nodes with two joiners a site.
 fn fill(alloc: Global, nodes: &mut Vec<Node>, case: &Case) -> Result<(), Fail>
     requires none { length nodes.old.items ≡ 0 }
     requires ready { AreReady ⟦<AnyNode<MemDisk, MemLog> as SiteNode>⟧.number ⟦<AnyNode<MemDisk, MemLog> as SiteNode>⟧.waits nodes.old.items }
     ensures ready { OnOk result (AreReady ⟦<AnyNode<MemDisk, MemLog> as SiteNode>⟧.number ⟦<AnyNode<MemDisk, MemLog> as SiteNode>⟧.waits nodes.new.items) }
     ensures count { OnOk result (length nodes.new.items ≡ 11) }
 {
-    add_dispatcher(alloc, nodes, case, 0)?;
-    add_dispatcher(alloc, nodes, case, 1)?;
-    add_server(alloc, nodes, case, 0)?;
-    add_server(alloc, nodes, case, 1)?;
-    add_replica(alloc, nodes, case, 0)?;
-    add_replica(alloc, nodes, case, 1)?;
-    add_replica(alloc, nodes, case, 2)?;
-    add_joiner(alloc, nodes, case, 0, 0)?;
-    add_joiner(alloc, nodes, case, 0, 1)?;
-    add_joiner(alloc, nodes, case, 1, 0)?;
-    add_joiner(alloc, nodes, case, 1, 1)?;
+    fill_front(alloc, nodes, case, ROSTER)?;
+    add_joiner(alloc, nodes, case, ROSTER, 0, 0)?;
+    add_joiner(alloc, nodes, case, ROSTER, 0, 1)?;
+    add_joiner(alloc, nodes, case, ROSTER, 1, 0)?;
+    add_joiner(alloc, nodes, case, ROSTER, 1, 1)?;
+    Ok(())
+}
+
+// The nine nodes with one joiner a site.
+fn fill_small(alloc: Global, nodes: &mut Vec<Node>, case: &Case) -> Result<(), Fail>
+    requires none { length nodes.old.items ≡ 0 }
+    requires ready { AreReady ⟦<AnyNode<MemDisk, MemLog> as SiteNode>⟧.number ⟦<AnyNode<MemDisk, MemLog> as SiteNode>⟧.waits nodes.old.items }
+    ensures ready { OnOk result (AreReady ⟦<AnyNode<MemDisk, MemLog> as SiteNode>⟧.number ⟦<AnyNode<MemDisk, MemLog> as SiteNode>⟧.waits nodes.new.items) }
+    ensures count { OnOk result (length nodes.new.items ≡ 9) }
+{
+    fill_front(alloc, nodes, case, SMALL)?;
+    add_joiner(alloc, nodes, case, SMALL, 0, 0)?;
+    add_joiner(alloc, nodes, case, SMALL, 1, 0)?;
     Ok(())
 }
 
@@ -378,4 +442,56 @@ fn is_right_after_stops(kind: DiskKind, left: Option<Left>) -> bool {
     };
     let least = if kind == DiskKind::Output { 0 } else { 16 };
     left.rest && left.fault.is_none() && left.stops >= 1 && left.pairs <= 16 && left.pairs >= least
+}
+
+// The number of site A's joiner, where a site has one, and of site B's.
+const JOINER_A: u16 = 7;
+
+const JOINER_B: u16 = 8;
+
+// Runs the small sites with a gate that holds each joiner before its first append until the other has come on: B's until A's
+// has come to its own, and A's there until B's turn has ended.
+fn run_held<R: Threads + Wait + Sync>(
+    rt: &R,
+    alloc: Global,
+    gate: &HeldGate<2>,
+) -> Result<Option<Left>, Fail> {
+    let mut nodes = no_nodes(alloc);
+    fill_small(alloc, &mut nodes, &PLAIN)?;
+    match run_nodes(rt, alloc, &SMALL_KINDS, Plan::empty(alloc), nodes, gate) {
+        Ok(ran) => Ok(told(alloc, ran)),
+        Err(_) => Err("memory".into()),
+    }
+}
+
+// The nodes run at the same time, and none holds the bus while it writes: else the gate would look in vain.
+#[test]
+fn nodes_run_at_the_same_time(rt: HostRuntime) -> Result<(), Fail> {
+    let gate = HeldGate::new(
+        [
+            Hold {
+                node: JOINER_B,
+                point: Point::BeforeAppend,
+                until_node: JOINER_A,
+                until_point: Point::BeforeAppend,
+            },
+            Hold {
+                node: JOINER_A,
+                point: Point::BeforeAppend,
+                until_node: JOINER_B,
+                until_point: Point::AfterEnd,
+            },
+        ],
+        LOOKS,
+    );
+    let left = run_held(&rt, rt.alloc(), &gate)?;
+    let whole = Left {
+        pairs: 16,
+        stops: 0,
+        fault: None,
+        rest: true,
+    };
+    assert!(rt; left == Some(whole));
+    assert!(rt; !gate.reached_limit());
+    Ok(())
 }
