@@ -1,14 +1,11 @@
 -- One node more.
-use Rattle.std.proofs.Common.{◌≡◌, ◌<◌, ℕ, List, [], ◌∷◌, ◌++◌, length, get_or, Bool, false, sym, ap, ◌∙◌, subst, absurd, arith}
+use Rattle.std.proofs.Common.{◌≡◌, ◌<◌, ℕ, List, [], ◌∷◌, ◌++◌, length, Bool, false, ap, ◌∙◌, arith}
 use Rattle.std.proofs.Common.{length-append}
 use mathlib.Core.Logic.{dite}
 use native.Mathlib.Decide.{ℕ_discrete}
 use Rattle.std.proofs.lemmas.List.{get_or_append_left, get_or_push}
 use Rattle.std.proofs.lemmas.List.Elements.{All-push}
 use Rattle.both_sites.specs.Numbers.{AreReady}
-
-pub none_yet : {N : Type 0} (number : N → ℕ) (waits : N → Bool) → AreReady number waits []
-none_yet number waits = record { numbers = λ i d l. absurd (omega (arith, l)); up = λ k d l. absurd (omega (arith, l)) }
 
 pub one_more : {N : Type 0} (number : N → ℕ) (waits : N → Bool) (nodes : List N) (n : N) → AreReady number waits nodes → number n ≡ length nodes → waits n ≡ false → AreReady number waits (nodes ++ n ∷ [])
 one_more {N} number waits nodes n ready at up = record {

@@ -306,30 +306,58 @@ fn records_on(alloc: Global, disk: MemDisk) -> Option<usize> {
     }
 }
 
+// A joiner's output.
+fn output_of(any: Node) -> Option<MemDisk> {
+    match any.node {
+        Either::First(_node) => None,
+        Either::Second(Either::First(_node)) => None,
+        Either::Second(Either::Second(node)) => {
+            let (_epochs, output, _log) = node.into_disks();
+            Some(output)
+        }
+    }
+}
+
+// How many pairs the nodes wrote, all in all.
+fn pairs_of(alloc: Global, nodes: Vec<(Node, Option<NodeFault>)>) -> Option<usize> {
+    let mut pairs = 0usize;
+    for (any, _fault) in nodes {
+        if let Some(output) = output_of(any) {
+            pairs = pairs.saturating_add(records_on(alloc, output)?);
+        }
+    }
+    Some(pairs)
+}
+
+// The last fault that a node met.
+fn fault_of(nodes: &[(Node, Option<NodeFault>)]) -> Option<NodeFault> {
+    let mut fault = None;
+    for (_node, met) in nodes {
+        if met.is_some() {
+            fault = *met;
+        }
+    }
+    fault
+}
+
+fn stops_of(history: &[Entry]) -> usize {
+    history
+        .iter()
+        .filter(|entry| matches!(entry, Entry::Stop { .. }))
+        .count()
+}
+
 // What the nodes of a run left.
 fn told(alloc: Global, ran: Ran<Node>) -> Option<Left> {
     let Ran {
         air,
+        seen: _seen,
         nodes,
         rest,
-        ..
     } = ran;
-    let stops = air
-        .history()
-        .iter()
-        .filter(|entry| matches!(entry, Entry::Stop { .. }))
-        .count();
-    let mut pairs = 0usize;
-    let mut fault = None;
-    for (any, met) in nodes {
-        if met.is_some() {
-            fault = met;
-        }
-        if let Either::Second(Either::Second(node)) = any.node {
-            let (_, disk, _) = node.into_disks();
-            pairs = pairs.saturating_add(records_on(alloc, disk)?);
-        }
-    }
+    let stops = stops_of(air.history());
+    let fault = fault_of(&nodes);
+    let pairs = pairs_of(alloc, nodes)?;
     Some(Left {
         pairs,
         stops,
