@@ -1,2 +1,3 @@
 pub mod AnyNodes
 pub mod Running
+pub mod Numbers

@@ -1,9 +1,9 @@
 // A node of the system, whatever its kind.
 ghost use Rattle.both_sites.specs.AnyNodes.{AnyState, GoesOn};
 
+use air_bus::{Input, Payload};
 use dispatch_node::DispatchNode;
 use joiner_node::JoinerNode;
-use air_bus::{Input, Payload};
 use lossy_link::Kind;
 use outside::{Disk, Gate, LogFile};
 use registry_server::ServerNode;
