@@ -42,15 +42,27 @@ pub(crate) fn judge<D: Disk, L: LogFile>(
     requires offsets { length disks.now.offsets.items ≡ 2 }
     requires retries { length disks.now.retries.items ≡ 2 }
     ensures passed { IfNone result (ArePassed L.tells (L.bytes clicks.old) end asked.now (record {
-        topology = disks.now.topology.journal.kept; offsets = keep_all (λ o. o.offset) disks.now.offsets.items; pending = keep_all (λ r. r.pending.keys) disks.now.retries.items;
-        servers = keep_all (λ e. e.epoch) disks.now.servers.items; notes = keep_all (λ v. v.notes.items) disks.now.replicas.items;
-        epochs_a = keep_all (λ e. e.epoch) disks.now.epochs_a.items; epochs_b = keep_all (λ e. e.epoch) disks.now.epochs_b.items;
-        pairs_a = keep_all (λ o. o.pairs.items) disks.now.outputs_a.items; pairs_b = keep_all (λ o. o.pairs.items) disks.now.outputs_b.items })) }
+      topology = disks.now.topology.journal.kept;
+      offsets = keep_all (λ o. o.offset) disks.now.offsets.items;
+      pending = keep_all (λ r. r.pending.keys) disks.now.retries.items;
+      servers = keep_all (λ e. e.epoch) disks.now.servers.items;
+      notes = keep_all (λ v. v.notes.items) disks.now.replicas.items;
+      epochs_a = keep_all (λ e. e.epoch) disks.now.epochs_a.items;
+      epochs_b = keep_all (λ e. e.epoch) disks.now.epochs_b.items;
+      pairs_a = keep_all (λ o. o.pairs.items) disks.now.outputs_a.items;
+      pairs_b = keep_all (λ o. o.pairs.items) disks.now.outputs_b.items;
+    })) }
     ensures cause { IfSome result (IsCause L.tells (L.bytes clicks.old) end (L.faults clicks.old) (L.faults clicks.new) asked.now (record {
-        topology = disks.now.topology.journal.kept; offsets = keep_all (λ o. o.offset) disks.now.offsets.items; pending = keep_all (λ r. r.pending.keys) disks.now.retries.items;
-        servers = keep_all (λ e. e.epoch) disks.now.servers.items; notes = keep_all (λ v. v.notes.items) disks.now.replicas.items;
-        epochs_a = keep_all (λ e. e.epoch) disks.now.epochs_a.items; epochs_b = keep_all (λ e. e.epoch) disks.now.epochs_b.items;
-        pairs_a = keep_all (λ o. o.pairs.items) disks.now.outputs_a.items; pairs_b = keep_all (λ o. o.pairs.items) disks.now.outputs_b.items })) }
+      topology = disks.now.topology.journal.kept;
+      offsets = keep_all (λ o. o.offset) disks.now.offsets.items;
+      pending = keep_all (λ r. r.pending.keys) disks.now.retries.items;
+      servers = keep_all (λ e. e.epoch) disks.now.servers.items;
+      notes = keep_all (λ v. v.notes.items) disks.now.replicas.items;
+      epochs_a = keep_all (λ e. e.epoch) disks.now.epochs_a.items;
+      epochs_b = keep_all (λ e. e.epoch) disks.now.epochs_b.items;
+      pairs_a = keep_all (λ o. o.pairs.items) disks.now.outputs_a.items;
+      pairs_b = keep_all (λ o. o.pairs.items) disks.now.outputs_b.items;
+    })) }
     ensures same { IsTrue L.tells → L.bytes clicks.new ≡ L.bytes clicks.old }
     ensures count { L.faults clicks.old ≤ L.faults clicks.new }
 {

@@ -69,16 +69,28 @@ pub fn open_store<S: Store, L: LogFile>(
 
     // What the disks keep fits what was asked.
     ensures passed { IfOk result (λ d. ArePassed L.tells (L.bytes clicks.old) end asked (record {
-        topology = d.topology.journal.kept; offsets = keep_all (λ o. o.offset) d.offsets.items; pending = keep_all (λ r. r.pending.keys) d.retries.items;
-        servers = keep_all (λ e. e.epoch) d.servers.items; notes = keep_all (λ v. v.notes.items) d.replicas.items;
-        epochs_a = keep_all (λ e. e.epoch) d.epochs_a.items; epochs_b = keep_all (λ e. e.epoch) d.epochs_b.items;
-        pairs_a = keep_all (λ o. o.pairs.items) d.outputs_a.items; pairs_b = keep_all (λ o. o.pairs.items) d.outputs_b.items })) }
+      topology = d.topology.journal.kept;
+      offsets = keep_all (λ o. o.offset) d.offsets.items;
+      pending = keep_all (λ r. r.pending.keys) d.retries.items;
+      servers = keep_all (λ e. e.epoch) d.servers.items;
+      notes = keep_all (λ v. v.notes.items) d.replicas.items;
+      epochs_a = keep_all (λ e. e.epoch) d.epochs_a.items;
+      epochs_b = keep_all (λ e. e.epoch) d.epochs_b.items;
+      pairs_a = keep_all (λ o. o.pairs.items) d.outputs_a.items;
+      pairs_b = keep_all (λ o. o.pairs.items) d.outputs_b.items;
+    })) }
     // Of a sound store, the records that they keep are a whole store, with the topology that was asked.
     ensures whole { IsTrue S.Disk.tells → IfOk result (λ d. (g : Setting) (records : Disks) → IsAsked asked g → g.replicas ≡ 3 → IsSoundStore g (S.image store.old) → AreRecordsOf g (record {
-        topology = d.topology.journal.kept; offsets = keep_all (λ o. o.offset) d.offsets.items; pending = keep_all (λ r. r.pending.keys) d.retries.items;
-        servers = keep_all (λ e. e.epoch) d.servers.items; notes = keep_all (λ v. v.notes.items) d.replicas.items;
-        epochs_a = keep_all (λ e. e.epoch) d.epochs_a.items; epochs_b = keep_all (λ e. e.epoch) d.epochs_b.items;
-        pairs_a = keep_all (λ o. o.pairs.items) d.outputs_a.items; pairs_b = keep_all (λ o. o.pairs.items) d.outputs_b.items }) records
+      topology = d.topology.journal.kept;
+      offsets = keep_all (λ o. o.offset) d.offsets.items;
+      pending = keep_all (λ r. r.pending.keys) d.retries.items;
+      servers = keep_all (λ e. e.epoch) d.servers.items;
+      notes = keep_all (λ v. v.notes.items) d.replicas.items;
+      epochs_a = keep_all (λ e. e.epoch) d.epochs_a.items;
+      epochs_b = keep_all (λ e. e.epoch) d.epochs_b.items;
+      pairs_a = keep_all (λ o. o.pairs.items) d.outputs_a.items;
+      pairs_b = keep_all (λ o. o.pairs.items) d.outputs_b.items;
+    }) records
         → (used : Bool) × WholeSound g (record { topology = Some (topology_of g); disks = records; is_used = used })) }
 
     // After a refusal.
