@@ -1,12 +1,12 @@
 -- Why a store isn't opened: faults of its disks, and the first of the topology, the places and the limits that is wrong.
-use Rattle.std.proofs.Common.{◌≡◌, ◌≢◌, ◌⊎◌, inl, inr, ⊎_elim, ℕ, ◌≤◌, List, Bool, IsTrue, true, false, [], ◌∷◌, ◌==◌, if◌then◌else◌, Option, Some, None, refl, sym, ◌∙◌, ap, subst, arith}
+use Rattle.std.proofs.Common.{◌≡◌, ◌≢◌, inl, inr, ℕ, ◌≤◌, List, Bool, true, false, [], ◌∷◌, ◌==◌, if◌then◌else◌, Option, Some, None, refl, sym, ◌∙◌, ap, subst, arith}
 use Rattle.std.specs.Prelude.{IfSome, IfNone}
 use Rattle.std.specs.Bool.{⊤}
 use Rattle.std.specs.List.{list_any}
 use Rattle.list_words.proofs.Lists.{some_same, none_some}
 use Rattle.outside.specs.declared.store.DiskName.{DiskName}
 use Rattle.outside.specs.declared.store.DiskName.TheVariants as name
-use Rattle.outside.specs.Faults.{added, Rose}
+use Rattle.outside.specs.Faults.{added}
 use Rattle.topology_journal.specs.declared.topology.Topology.{Topology}
 use Rattle.site_disks.specs.declared.checks.Misfit.{Misfit}
 use Rattle.site_disks.specs.declared.checks.Misfit.TheVariants as misfit

@@ -1,5 +1,5 @@
 -- What disks that were opened leave in their store, once they are given back.
-use Rattle.std.proofs.Common.{◌≡◌, ◌≢◌, ◌⊎◌, inl, inr, ⊎_elim, ℕ, List, ◌∷◌, Option, Some, None, refl, sym, ◌∙◌, ap, subst}
+use Rattle.std.proofs.Common.{◌≡◌, ◌⊎◌, inl, inr, ⊎_elim, ℕ, List, ◌∷◌, Option, Some, None, refl, sym, ◌∙◌, ap, subst}
 use Rattle.list_words.specs.Lists.{Each}
 use Rattle.outside.specs.declared.store.DiskName.{DiskName}
 use Rattle.outside.specs.declared.store.DiskName.TheVariants as name
@@ -11,13 +11,10 @@ use Rattle.topology_journal.specs.Topologies.{Keeps}
 use Rattle.site_disks.specs.Kinds.{joiners_kept}
 use Rattle.site_disks.specs.Lent.{Lent, StaysAs, GoesOn, Lacks, IsLent, MayBeLeft}
 use Rattle.site_disks.specs.Misfits.{IsFit}
-use Rattle.site_disks.specs.Opening.{IsKeptIn}
 use Rattle.site_disks.specs.Written.{AllKeep, StaysOrKeeps}
 use Rattle.site_disks.proofs.Lending.{each_mem, each_weaker}
 use Rattle.site_disks.proofs.Stays.{opened_same, opened_through, goes_through, stays_grows}
 use Rattle.turn_defs.specs.Setting.{Setting}
-use Rattle.photon_defs.specs.Topology.{topology_of}
-use Rattle.store_laws.specs.Stores.{IsSoundStore, KeepsTopology}
 use Rattle.store_laws.specs.Laws.{IsTopologyWritten}
 use Rattle.store_opening.specs.Leaving.{IsOut, StayOrAsked, IsAsked}
 

@@ -18,7 +18,7 @@ use Rattle.kept_places.specs.Kept.{KeptPlace, all_kept, IsTold}
 use Rattle.store_opening.specs.Causes.{AreTold, PlacesFit}
 use Rattle.site_disks.specs.Misfits.{first_spent, first_full, is_full_note}
 use Rattle.site_disks.specs.Opening.{AreOpened, KeepsLeft}
-use Rattle.store_opening.specs.Records.{keep, keep_all, AreIn, value_at}
+use Rattle.store_opening.specs.Records.{keep_all, AreIn, value_at}
 
 pub names_same : {J X : Type 0} (what : J → X) (all : List (Opened J)) → map (λ o. o.name) (keep_all what all) ≡ map (λ o. o.name) all
 names_same what [] = refl

@@ -1,5 +1,5 @@
 -- What was read of a sound store's disks is a whole store.
-use Rattle.std.proofs.Common.{◌≡◌, ℕ, zero, suc, ◌<◌, ◌≤◌, List, [], ◌∷◌, map, length, take, get_or, Bool, IsTrue, true, false, Some, refl, sym, ◌∙◌, ap, subst, arith}
+use Rattle.std.proofs.Common.{◌≡◌, ℕ, zero, suc, ◌<◌, ◌≤◌, List, [], ◌∷◌, map, length, take, get_or, Bool, IsTrue, false, Some, refl, sym, ◌∙◌, subst, arith}
 use Rattle.std.proofs.lemmas.List.{get_or-take, length-take}
 use Rattle.list_words.specs.Lists.{Each}
 use Rattle.outside.specs.declared.store.DiskName.{DiskName}
@@ -22,7 +22,7 @@ use Rattle.site_disks.specs.Votes.{KeepsNotes}
 use Rattle.photon_defs.specs.Runs.{Disks}
 use Rattle.photon_defs.specs.Topology.{Store, WholeSound, topology_of}
 use Rattle.photon_model.specs.Stores.{TopologyComesFirst}
-use Rattle.store_laws.specs.Stores.{IsDisk, KeepsVotes, KeepsOf, IsSoundStore, AreLeft, joiner_of}
+use Rattle.store_laws.specs.Stores.{IsDisk, KeepsVotes, KeepsOf, IsSoundStore, AreLeft}
 use Rattle.store_laws.specs.Laws.{topology_read, ReadTopologyIsKept, ReadNotesAreKept, OpenedIsWhole}
 use Rattle.store_opening.specs.Records.{KeptValues, AreIn, AreKept, AreRecordsOf, value_at, of_site}
 use Rattle.store_opening.specs.Leaving.{IsAsked}

@@ -1,6 +1,5 @@
 -- Why a store isn't opened for a run.
-use Rattle.std.specs.Prelude.{◌≡◌, ◌≢◌, ℕ, List, [], ◌∷◌, Bool, IsTrue, Option, None, Some, ⊤}
-use Rattle.outside.specs.declared.store.DiskName.{DiskName}
+use Rattle.std.specs.Prelude.{◌≡◌, ℕ, List, [], ◌∷◌, Bool, IsTrue, Option, None, Some, ⊤}
 use Rattle.outside.specs.Faults.{Rose}
 use Rattle.log_records.specs.Lines.{end_from}
 use Rattle.topology_journal.specs.declared.topology.Topology.{Topology}
@@ -16,7 +15,7 @@ use Rattle.kept_places.specs.declared.misplaced.Misplaced.{Misplaced}
 use Rattle.kept_places.specs.Kept.{all_kept, IsTold}
 use Rattle.store_opening.specs.declared.refusal.Refusal.{Refusal}
 use Rattle.store_opening.specs.declared.refusal.Refusal.TheVariants.{Disks, Joiners, Table, Place, Limit, Read}
-use Rattle.store_opening.specs.Records.{KeptValues, AreKept, value_at}
+use Rattle.store_opening.specs.Records.{KeptValues, value_at}
 
 -- ---- what is told first, as a refusal
 

@@ -1,10 +1,9 @@
 -- What opening a store for a run leaves of its disks.
-use Rattle.std.specs.Prelude.{◌≡◌, ◌≢◌, ◌⊎◌, ℕ, List, ◌∷◌, ◌++◌, Some}
+use Rattle.std.specs.Prelude.{◌≡◌, ◌≢◌, ℕ, List, ◌∷◌, ◌++◌}
 use Rattle.list_words.specs.Lists.{Each}
 use Rattle.outside.specs.declared.store.DiskName.{DiskName}
 use Rattle.outside.specs.declared.store.DiskName.TheVariants as name
 use Rattle.outside.specs.Disk.{Within}
-use Rattle.gate_journal.specs.Opening.{IsOpened}
 use Rattle.topology_journal.specs.declared.topology.Topology.{Topology}
 use Rattle.site_disks.specs.Lent.{Lent, StaysAs, GoesOn, Lacks}
 use Rattle.site_disks.specs.Written.{AllKeep, StaysOrKeeps}

@@ -1,5 +1,5 @@
 // A store opened for a run of both sites.
-ghost use Rattle.std.specs.Prelude.{◌≡◌, ◌≢◌, ◌≤◌, ◌+◌, Bool, List, ℕ, length, take, Some, IsTrue, IfOk, IfErr, OnErr};
+ghost use Rattle.std.specs.Prelude.{◌≡◌, ◌≢◌, ◌≤◌, ◌+◌, Bool, length, take, Some, IsTrue, IfOk, IfErr, OnErr};
 ghost use Rattle.outside.specs.declared.store.DiskName.{DiskName};
 ghost use Rattle.outside.specs.declared.store.DiskName.TheVariants as name;
 ghost use Rattle.gate_journal.specs.declared.journal.JournalState.TheVariants.{Ready};

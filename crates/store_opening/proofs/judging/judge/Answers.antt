@@ -1,4 +1,4 @@
-use Rattle.std.proofs.Common.{◌≡◌, Some, Option, None, refl, sym, ◌∙◌, ap, subst, arith, []}
+use Rattle.std.proofs.Common.{◌≡◌, Some, refl, sym, ◌∙◌, ap, subst, arith, []}
 use Rattle.store_opening.specs.Records.{keep_all, KeptValues}
 use Rattle.store_opening.specs.Causes.{topology_refusal, AreTold}
 use Rattle.store_opening.specs.declared.refusal.Refusal.{Refusal}

@@ -1,17 +1,15 @@
-use Rattle.std.proofs.Common.{◌≡◌, Err, Some, ℕ, refl, sym, ◌∙◌, ap, subst}
-use Rattle.outside.specs.declared.store.DiskName.{DiskName}
-use Rattle.outside.specs.declared.store.DiskName.TheVariants as name
+use Rattle.std.proofs.Common.{Err, refl, ap}
 use Rattle.epoch_journal.specs.Epochs.{Keeps as KeepsEpoch}
 use Rattle.offset_journal.specs.Offsets.{Keeps as KeepsOffset}
 use Rattle.retry_log.specs.Pending.{Keeps as KeepsPending}
 use Rattle.output_log.specs.Pairs.{Keeps as KeepsPairs}
 use Rattle.site_disks.specs.Votes.{KeepsNotes}
-use Rattle.site_disks.specs.Lent.{lend, StaysAs}
+use Rattle.site_disks.specs.Lent.{lend}
 use Rattle.site_disks.proofs.Stays.{stays_same}
 use Rattle.store_opening.specs.Records.{keep_all, KeptValues, AreKept}
 use Rattle.store_opening.specs.Causes.{IsCause}
 use Rattle.store_opening.proofs.Causes.{judged, none_here, unwritten_rose, unwritten_damaged, unwritten_first, unwritten_memory}
-use Rattle.store_opening.proofs.Leaving.{back_stays, back_grown, back_written, out_for, all_stay, all_grow, topology_written, joiners_same}
+use Rattle.store_opening.proofs.Leaving.{back_stays, back_grown, back_written, out_for, all_stay, all_grow, topology_written}
 use Rattle.store_opening.proofs.Values.{values_in}
 use Rattle.store_opening.proofs.Whole.{whole_with}
 use Rattle.store_opening.proofs.opening.open_store.Goals as goal
