@@ -2,6 +2,7 @@
 ghost use Rattle.std.specs.Prelude.{◌≡◌, ◌≤◌, ◌+◌, [], ◌∷◌, ℕ, List, length, take, IsTrue, IfOk, IfErr, OnOk, OnErr};
 ghost use Rattle.outside.specs.declared.store.DiskName.{DiskName};
 ghost use Rattle.outside.specs.declared.store.DiskName.TheVariants as name;
+ghost use Rattle.outside.specs.Faults.{added};
 ghost use Rattle.gate_journal.specs.declared.journal.JournalState.TheVariants.{Ready};
 ghost use Rattle.topology_journal.specs.Topologies.{Keeps as KeepsTopology};
 ghost use Rattle.epoch_journal.specs.Epochs.{Keeps as KeepsEpoch};
@@ -212,6 +213,8 @@ pub fn give_back<S: Store>(store: &mut S, disks: SiteDisks<S::Disk>)
         (lend_all (λ o. o.journal.disk) disks.outputs_b.items)) name c }
     ensures places { S.places_left store.old ≤ S.places_left store.new + (1 + (length disks.offsets.items + length disks.retries.items + length disks.servers.items + length disks.replicas.items + length disks.epochs_a.items + length disks.epochs_b.items + length disks.outputs_a.items + length disks.outputs_b.items)) }
     ensures count { S.faults store.old ≤ S.faults store.new }
+    // The faults that the topology's disk has met are among the store's then.
+    ensures counted { added (S.faults store.old) (S.Disk.faults disks.topology.journal.journal.disk) ≤ S.faults store.new }
 {
     let SiteDisks {
         topology,

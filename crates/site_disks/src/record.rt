@@ -5,7 +5,7 @@ ghost use Rattle.gate_journal.specs.declared.journal.JournalState.TheVariants.{R
 ghost use Rattle.topology_journal.specs.Topologies.{IsTopology};
 ghost use Rattle.site_disks.specs.Lent.{StaysAs, GoesOn};
 ghost use Rattle.site_disks.specs.declared.fault.DisksFault.TheVariants.{Memory};
-ghost use Rattle.site_disks.specs.Written.{AllKeep, StaysOrKeeps};
+ghost use Rattle.site_disks.specs.Written.{AllKeep, StaysOrKeeps, IsUnwritten};
 ghost use Rattle.site_disks.specs.Opening.{RoseBy, IsOf};
 
 use crate::{DisksFault, Opened};
@@ -39,6 +39,7 @@ pub fn write_topology<D: Disk>(
     ensures count { D.faults topology.old.journal.journal.disk ≤ D.faults topology.new.journal.journal.disk }
     ensures rose { IfErr result (RoseBy (D.faults topology.old.journal.journal.disk) (D.faults topology.new.journal.journal.disk)) }
     ensures of { IfErr result (IsOf topology.old.name) }
+    ensures unwritten { IfErr result (IsUnwritten topology.old.name) }
 {
     let name = topology.name;
     let Ok(frame) = topology_frame(alloc, &asked) else {

@@ -1,0 +1,4 @@
+mod Leaving
+mod Values
+mod Causes
+mod Whole
