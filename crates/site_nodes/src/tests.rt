@@ -1,12 +1,16 @@
 // The nodes of both sites over a new store in memory, built and taken apart.
-ghost use Rattle.std.specs.Prelude.{◌≡◌, ◌<◌, ◌≤◌, ◌+◌, ◌*◌, [], length, vec_capacity, IfOk};
+ghost use Rattle.std.specs.Prelude.{◌≡◌, ◌<◌, ◌≤◌, ◌+◌, ◌*◌, [], length, map, take, vec_capacity, IfOk};
+ghost use Rattle.list_words.specs.Lists.{Each};
+ghost use Rattle.gate_journal.specs.declared.journal.JournalState.TheVariants.{Ready};
+ghost use Rattle.site_disks.specs.Kinds.{offset_names, retry_names, server_names, replica_names, epoch_names_a, epoch_names_b, output_names_a, output_names_b};
+ghost use Rattle.site_disks.specs.Votes.{IsReadyVotes};
 
 use crate::{Built, Config, Logs, NamedDisk, Room, apart, build};
 use both_sites::{AnyNode, SystemNode};
 use lossy_link::Kind;
 use mem_outside::{MemDisk, MemLog, MemStore};
-use outside::DiskName;
-use site_disks::open_disks;
+use outside::{Disk, DiskName};
+use site_disks::{SiteDisks, open_disks};
 use std::alloc::{AllocError, Global};
 use std::test::Fail;
 use time_shards::Table;
@@ -72,6 +76,28 @@ fn logs(alloc: Global, count: usize) -> Result<Vec<MemLog>, AllocError>
     Ok(logs)
 }
 
+// The disks of a new store.
+fn opened(alloc: Global, joiners: u8) -> Result<SiteDisks<MemDisk>, Fail>
+    requires { joiners ≤ 4 }
+    ensures offsets { IfOk result (λ d. (map (λ o. o.name) d.offsets.items ≡ offset_names) × Each (λ o. o.journal.journal.state ≡ Ready) d.offsets.items) }
+    ensures retries { IfOk result (λ d. (map (λ r. r.name) d.retries.items ≡ retry_names) × Each (λ r. r.journal.journal.state ≡ Ready) d.retries.items) }
+    ensures servers { IfOk result (λ d. (map (λ e. e.name) d.servers.items ≡ server_names) × Each (λ e. e.journal.journal.state ≡ Ready) d.servers.items) }
+    ensures replicas { IfOk result (λ d. (map (λ v. v.name) d.replicas.items ≡ replica_names) × Each (λ v. IsReadyVotes ⟦<MemDisk as Disk>⟧.tells (⟦<MemDisk as Disk>⟧.seen v.journal.journal.disk) v.journal.journal.state v.journal.notes.items) d.replicas.items) }
+    ensures epochs_a { IfOk result (λ d. (map (λ e. e.name) d.epochs_a.items ≡ take joiners epoch_names_a) × Each (λ e. e.journal.journal.state ≡ Ready) d.epochs_a.items) }
+    ensures epochs_b { IfOk result (λ d. (map (λ e. e.name) d.epochs_b.items ≡ take joiners epoch_names_b) × Each (λ e. e.journal.journal.state ≡ Ready) d.epochs_b.items) }
+    ensures outputs_a { IfOk result (λ d. (map (λ o. o.name) d.outputs_a.items ≡ take joiners output_names_a) × Each (λ o. o.journal.journal.state ≡ Ready) d.outputs_a.items) }
+    ensures outputs_b { IfOk result (λ d. (map (λ o. o.name) d.outputs_b.items ≡ take joiners output_names_b) × Each (λ o. o.journal.journal.state ≡ Ready) d.outputs_b.items) }
+{
+    let mut store = MemStore::new(alloc, Vec::new(alloc));
+    let Ok(disks) = open_disks(alloc, &mut store, joiners) else {
+        return Err("disks".into());
+    };
+    let None = disks.topology.journal.kept() else {
+        return Err("topology".into());
+    };
+    Ok(disks)
+}
+
 // The nodes over a new store.
 fn built(alloc: Global, joiners: u8) -> Result<Built<MemDisk, MemLog>, Fail>
     requires { (0 < joiners) × (joiners ≤ 4) }
@@ -94,13 +120,7 @@ fn built(alloc: Global, joiners: u8) -> Result<Built<MemDisk, MemLog>, Fail>
         queries_b: logs(alloc, usize::from(joiners))?,
     };
     let room = Room::new(alloc, joiners)?;
-    let mut store = MemStore::new(alloc, Vec::new(alloc));
-    let Ok(disks) = open_disks(alloc, &mut store, joiners) else {
-        return Err("disks".into());
-    };
-    if disks.topology.journal.kept().is_some() {
-        return Err("topology".into());
-    }
+    let disks = opened(alloc, joiners)?;
     match build(alloc, &config, disks, logs, room) {
         Ok(built) => Ok(built),
         Err(_) => Err("nodes".into()),
