@@ -64,7 +64,7 @@ left_two parts mid new x y all first second = left_more parts new (x ∷ y ∷ [
 pub pair_taken : {X : Type 0} (held held' : List X) (x y : X) (xs ys : List X) → IsPermutation (held ++ x ∷ y ∷ []) held' → IsPermutation (held ++ (x ∷ xs ++ y ∷ ys)) (held' ++ (xs ++ ys))
 pair_taken held held' x y xs ys moved =
     let apart : IsPermutation (xs ++ y ∷ ys) ((y ∷ []) ++ (xs ++ ys)) =
-        subst (λ l. IsPermutation l ((y ∷ []) ++ (xs ++ ys))) (append_assoc xs (y ∷ []) ys) (IsPermutation-append_left ys (xs ++ y ∷ []) ((y ∷ []) ++ xs) (IsPermutation-append_comm xs (y ∷ [])))
+    subst (λ l. IsPermutation l ((y ∷ []) ++ (xs ++ ys))) (append_assoc xs (y ∷ []) ys) (IsPermutation-append_left ys (xs ++ y ∷ []) ((y ∷ []) ++ xs) (IsPermutation-append_comm xs (y ∷ [])))
     in
     let front : IsPermutation (held ++ (x ∷ xs ++ y ∷ ys)) (held ++ (x ∷ [] ++ ((y ∷ []) ++ (xs ++ ys)))) = IsPermutation-append_right held (x ∷ xs ++ y ∷ ys) (x ∷ [] ++ ((y ∷ []) ++ (xs ++ ys))) (IsPermutation-append_right (x ∷ []) (xs ++ y ∷ ys) ((y ∷ []) ++ (xs ++ ys)) apart) in
     let so : IsPermutation ((held ++ x ∷ y ∷ []) ++ (xs ++ ys)) (held' ++ (xs ++ ys)) = IsPermutation-append_left (xs ++ ys) (held ++ x ∷ y ∷ []) held' moved in
@@ -198,8 +198,8 @@ three_at f record_of os a b c z at is kept =
 
 pub pairs_at : {O R X Y K : Type 0} (f : O → X) (h : R → Y) (record_of : X → Y → K) (os : List O) (rs : List R) (a b : O) (x y : R) (z : X) (w : Y) (at : ℕ → K) → os ≡ a ∷ b ∷ [] → rs ≡ x ∷ y ∷ [] → ((s : ℕ) → at s ≡ record_of (slice_index_or (map f os) s z) (slice_index_or (map h rs) s w)) → (at 0 ≡ record_of (f a) (h x)) × (at 1 ≡ record_of (f b) (h y))
 pairs_at f h record_of os rs a b x y z w at os_is rs_is kept = (
-    subst (λ l. at 0 ≡ record_of (f a) (slice_index_or (map h l) 0 w)) rs_is (subst (λ l. at 0 ≡ record_of (slice_index_or (map f l) 0 z) (slice_index_or (map h rs) 0 w)) os_is (kept 0)),
-    subst (λ l. at 1 ≡ record_of (f b) (slice_index_or (map h l) 1 w)) rs_is (subst (λ l. at 1 ≡ record_of (slice_index_or (map f l) 1 z) (slice_index_or (map h rs) 1 w)) os_is (kept 1)),
+  subst (λ l. at 0 ≡ record_of (f a) (slice_index_or (map h l) 0 w)) rs_is (subst (λ l. at 0 ≡ record_of (slice_index_or (map f l) 0 z) (slice_index_or (map h rs) 0 w)) os_is (kept 0)),
+  subst (λ l. at 1 ≡ record_of (f b) (slice_index_or (map h l) 1 w)) rs_is (subst (λ l. at 1 ≡ record_of (slice_index_or (map f l) 1 z) (slice_index_or (map h rs) 1 w)) os_is (kept 1)),
 )
 
 -- ---- lists that are worked off from their front

@@ -214,20 +214,22 @@ impl<D: Disk, L: LogFile> Made<D, L> {
             return Err(journal);
         }
         let (horizon, batch) = (config.horizon, config.batch);
-        match ServerNode::new(self.alloc, site, self.roster, horizon, config.table, batch, journal)
-        {
+        match ServerNode::new(
+            self.alloc,
+            site,
+            self.roster,
+            horizon,
+            config.table,
+            batch,
+            journal,
+        ) {
             Ok(made) => Ok(Either::First(Either::Second(made))),
             Err(journal) => Err(journal),
         }
     }
 
     // Makes the server of a site over its journal, or leaves its disk.
-    pub(crate) fn add_server(
-        &mut self,
-        site: u8,
-        config: &Config,
-        epochs: Opened<EpochJournal<D>>,
-    )
+    pub(crate) fn add_server(&mut self, site: u8, config: &Config, epochs: Opened<EpochJournal<D>>)
         requires site { site < 2 }
         requires next { self.old.next ≡ 2 + site }
         requires batch { config.now.batch ≤ 64 }

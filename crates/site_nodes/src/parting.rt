@@ -56,8 +56,14 @@ impl<D: Disk, L: LogFile> Parting<D, L> for AnyNode<D, L> {
                 parts.put(DiskName::Retry(number), retry);
                 parts.logs.push_reserved(log);
             }
-            Either::First(Either::Second(node)) => parts.put(DiskName::Server(number.saturating_sub(2)), node.into_disk()),
-            Either::Second(Either::First(node)) => parts.put(DiskName::Replica(number.saturating_sub(4)), node.into_disk()),
+            Either::First(Either::Second(node)) => parts.put(
+                DiskName::Server(number.saturating_sub(2)),
+                node.into_disk(),
+            ),
+            Either::Second(Either::First(node)) => parts.put(
+                DiskName::Replica(number.saturating_sub(4)),
+                node.into_disk(),
+            ),
             Either::Second(Either::Second(node)) => {
                 let (epochs, outputs, log) = node.into_disks();
                 let (site, joiner) = joiner_place(joiners, number);
@@ -71,11 +77,7 @@ impl<D: Disk, L: LogFile> Parting<D, L> for AnyNode<D, L> {
 
 /// Takes nodes apart, each under the names that its kind has at its place in the list, and puts all to the parts. It takes no
 /// memory: the parts have room for two disks and a log a node.
-pub fn apart<D, L, N: Parting<D, L>>(
-    nodes: Vec<N>,
-    joiners: u8,
-    parts: Parts<D, L>,
-) -> Parts<D, L>
+pub fn apart<D, L, N: Parting<D, L>>(nodes: Vec<N>, joiners: u8, parts: Parts<D, L>) -> Parts<D, L>
     requires few { length nodes.items ≤ 255 }
     requires disk_room { length parts.disks.items + 2 * length nodes.items ≤ vec_capacity parts.disks }
     requires log_room { length parts.logs.items + length nodes.items ≤ vec_capacity parts.logs }

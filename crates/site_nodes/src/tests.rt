@@ -137,7 +137,11 @@ fn kinds_are(nodes: &[AnyNode<MemDisk, MemLog>], kinds: &[Kind]) -> bool {
 
 // Whether the disks have just these names.
 fn names_are(disks: &[NamedDisk<MemDisk>], names: &[DiskName]) -> bool {
-    disks.len() == names.len() && disks.iter().zip(names).all(|(disk, name)| disk.name == *name)
+    disks.len() == names.len()
+        && disks
+            .iter()
+            .zip(names)
+            .all(|(disk, name)| disk.name == *name)
 }
 
 // Whether the nodes are of their kinds, and each disk and so many logs come back.

@@ -14,9 +14,9 @@ use Rattle.site_nodes.proofs.building.build.Goals as goal
 pub add_joiners-requires-clause-counts : goal.add_joiners-requires-clause-counts
 add_joiners-requires-clause-counts g c =
     let j3 = joiners_of _ _ _ (c.add_replicas.ensures.roster ∙ c.add_servers.ensures.roster ∙ c.add_dispatchers.ensures.roster) c.new-made.ensures.roster.1 in (
-    taken_length _ _ _ _ c.requires.epochs_a.0 c.requires.joiners.1 ∙ sym j3,
-    taken_length _ _ _ _ c.requires.outputs_a.0 c.requires.joiners.1 ∙ sym j3,
-    c.requires.queries.0 ∙ sym j3,
+      taken_length _ _ _ _ c.requires.epochs_a.0 c.requires.joiners.1 ∙ sym j3,
+      taken_length _ _ _ _ c.requires.outputs_a.0 c.requires.joiners.1 ∙ sym j3,
+      c.requires.queries.0 ∙ sym j3,
     )
 
 pub add_joiners-requires-clause-epochs : goal.add_joiners-requires-clause-epochs
@@ -28,9 +28,9 @@ add_joiners-requires-clause-outputs g c = named_of (name.Output 0) _ _ _ c.requi
 pub add_joiners-requires-2-clause-counts : goal.add_joiners-requires-2-clause-counts
 add_joiners-requires-2-clause-counts g c =
     let j4 = joiners_of _ _ _ (c.add_joiners.ensures.roster ∙ c.add_replicas.ensures.roster ∙ c.add_servers.ensures.roster ∙ c.add_dispatchers.ensures.roster) c.new-made.ensures.roster.1 in (
-    taken_length _ _ _ _ c.requires.epochs_b.0 c.requires.joiners.1 ∙ sym j4,
-    taken_length _ _ _ _ c.requires.outputs_b.0 c.requires.joiners.1 ∙ sym j4,
-    c.requires.queries.1 ∙ sym j4,
+      taken_length _ _ _ _ c.requires.epochs_b.0 c.requires.joiners.1 ∙ sym j4,
+      taken_length _ _ _ _ c.requires.outputs_b.0 c.requires.joiners.1 ∙ sym j4,
+      c.requires.queries.1 ∙ sym j4,
     )
 
 pub add_joiners-requires-2-clause-epochs : goal.add_joiners-requires-2-clause-epochs
