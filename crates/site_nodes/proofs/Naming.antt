@@ -1,5 +1,5 @@
 -- The names of joiners' disks, and what disks keep by the lists of what journals keep.
-use Rattle.std.proofs.Common.{◌≡◌, ℕ, suc, zero, ◌+◌, ◌-◌, ◌*◌, ◌<◌, ◌≤◌, nat_lt, Bool, true, false, cond, List, [], ◌∷◌, ◌++◌, length, map, take, drop, slice_index_or, refl, sym, ap, ◌∙◌, subst, arith, length-append}
+use Rattle.std.proofs.Common.{◌≡◌, ℕ, suc, zero, ◌+◌, ◌-◌, ◌*◌, ◌<◌, nat_lt, true, false, cond, List, [], ◌∷◌, take, sym, ap, ◌∙◌, subst, arith}
 use Rattle.std.proofs.lemmas.Bool.{lt-ltb, le-ltb}
 use Rattle.site_nodes.specs.Naming.{place_of, site_of, joiner_of}
 use Rattle.site_nodes.specs.Placed.{AreNamed}

@@ -1,6 +1,5 @@
 -- The disks of nodes, under their names.
-use Rattle.std.specs.Prelude.{ℕ, suc, ◌+◌, ◌-◌, nat_lt, if◌then◌else◌, List, [], ◌∷◌, ◌++◌, map}
-use Rattle.outside.specs.declared.store.DiskName.{DiskName}
+use Rattle.std.specs.Prelude.{ℕ, suc, ◌-◌, nat_lt, if◌then◌else◌, List, [], ◌∷◌, ◌++◌, map}
 use Rattle.outside.specs.declared.store.DiskName.TheVariants as name
 use Rattle.site_disks.specs.Lent.{Lent}
 use Rattle.site_nodes.specs.declared.named.NamedDisk.{NamedDisk}

@@ -1,5 +1,4 @@
-use Rattle.std.proofs.Common.{◌≡◌, ◌+◌, ◌∷◌, suc, ◌∙◌, length, ap, arith}
-use Rattle.std.specs.Vec.Iter.{into_iter_items}
+use Rattle.std.proofs.Common.{◌≡◌, suc, ◌∙◌, length, ap, arith}
 use Rattle.site_nodes.proofs.Lists.{parted}
 use Rattle.site_nodes.proofs.parting.apart.Goals as goal
 

@@ -1,4 +1,4 @@
-use Rattle.std.proofs.Common.{◌≡◌, ◌++◌, ◌∷◌, [], ◌∙◌, ap}
+use Rattle.std.proofs.Common.{◌++◌, ◌∷◌, [], ◌∙◌, ap}
 use Rattle.site_nodes.proofs.Lists.{left_more, left_two}
 use Rattle.site_nodes.proofs.made.Made.leave_joiner.Goals as goal
 
