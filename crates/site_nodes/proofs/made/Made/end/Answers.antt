@@ -1,0 +1,8 @@
+use Rattle.std.proofs.Common.{arith}
+use Rattle.site_nodes.proofs.Lists.{no_items}
+use Rattle.site_nodes.proofs.made.Made.end.Goals as goal
+
+pub returns-then-len-from-clause-none : goal.returns-then-len-from-clause-none
+returns-then-len-from-clause-none g c =
+    let none = c.args.self.whole (omega (arith, c.if-len-from.true, c.len.ensures, c.from.ensures)) in
+    (no_items _ none.0, no_items _ none.1)
