@@ -1,1 +1,4 @@
 pub mod Growing
+pub mod Valid
+pub mod Counting
+pub mod ReportLines

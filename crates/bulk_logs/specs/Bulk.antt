@@ -1,11 +1,11 @@
 -- Logs made from two numbers: a seed, and how many clicks.
-use Rattle.std.specs.Prelude.{ℕ, zero, suc, ◌+◌, ◌*◌, ◌-◌, ◌/◌, ◌%◌, ◌^◌, ◌==◌, List, [], ◌∷◌, map, decimal, if◌then◌else◌}
+use Rattle.std.specs.Prelude.{ℕ, zero, suc, ◌+◌, ◌*◌, ◌-◌, ◌/◌, ◌%◌, ◌^◌, ◌==◌, List, [], ◌∷◌, ◌++◌, map, codes, decimal, if◌then◌else◌}
 use Rattle.std.specs.List.{range_with_len, count_by}
 use Rattle.event_id.specs.declared.id.EventId.{EventId}
 use Rattle.log_records.specs.declared.records.QueryRec.{QueryRec}
 use Rattle.log_records.specs.declared.records.ClickRec.{ClickRec}
 use Rattle.log_records.specs.Line.{query_line, click_line}
-use Rattle.log_records.specs.Log.{whole}
+use Rattle.log_records.specs.Log.{line_feed, whole}
 use Rattle.log_defs.specs.declared.ReportLine.{ReportLine}
 use Rattle.log_defs.specs.Report.{is_joined, is_missing, is_expired, is_unmatched, distinct, line_of}
 
@@ -26,15 +26,25 @@ drawn seed i = x_after seed (suc i) / 2 ^ 33
 
 -- ---- line k, from its two numbers
 
+-- at one of 16 addresses from 10.0.0.0 on
 abbrev pub query_id : ℕ → ℕ → ℕ → EventId
 query_id k one other = record { ip = 167772160 + one % 16; pid = other % 64; micros = 1000000 + 10 * k }
 
-abbrev pub click_id : ℕ → ℕ → ℕ → EventId
-click_id k one other = record { ip = 167772416 + other % 16; pid = one % 64; micros = if k % 10 == 4 then 500000 + k else 2000000 + 10 * k }
+-- one click in ten is older than the others
+abbrev pub click_micros : ℕ → ℕ
+click_micros k = if k % 10 == 4 then 500000 + k else 2000000 + 10 * k
 
--- the query that click k tells: that of its line, or one that isn't there, at 9.9.9.9
+-- at one of 16 addresses from 10.0.1.0 on
+abbrev pub click_id : ℕ → ℕ → ℕ → EventId
+click_id k one other = record { ip = 167772416 + other % 16; pid = one % 64; micros = click_micros k }
+
+-- an id that no query has, at 9.9.9.9
+abbrev pub nowhere : ℕ → EventId
+nowhere k = record { ip = 151587081; pid = 9; micros = k }
+
+-- the query that click k tells: that of its line, but for one click in ten
 abbrev pub told_id : ℕ → ℕ → ℕ → EventId
-told_id k one other = if k % 10 == 9 then record { ip = 151587081; pid = 9; micros = k } else query_id k one other
+told_id k one other = if k % 10 == 9 then nowhere k else query_id k one other
 
 -- the text is `q` and a number
 abbrev pub query_made : ℕ → ℕ → ℕ → QueryRec
@@ -84,6 +94,14 @@ expired n = (n + 5) / 10
 abbrev pub unmatched : ℕ → ℕ
 unmatched n = n / 10
 
+-- the others
+abbrev pub joined : ℕ → ℕ
+joined n = n - expired n - unmatched n
+
 -- how many of n clicks are of each kind
 abbrev pub kinds_made : ℕ → List ℕ
-kinds_made n = (n - expired n - unmatched n) ∷ 0 ∷ expired n ∷ unmatched n ∷ []
+kinds_made n = joined n ∷ 0 ∷ expired n ∷ unmatched n ∷ []
+
+-- the totals line of n clicks
+abbrev pub totals_made : ℕ → List ℕ
+totals_made n = codes "= " ++ decimal (joined n) ++ codes " " ++ decimal 0 ++ codes " " ++ decimal (expired n) ++ codes " " ++ decimal (unmatched n) ++ line_feed ∷ []

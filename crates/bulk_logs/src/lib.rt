@@ -2,6 +2,7 @@
 #![tactic(auto)]
 
 mod generator;
+pub mod laws;
 mod lines;
 mod logs;
 pub mod rows;

@@ -1,6 +1,6 @@
 //! Worked rows of the definitions.
 ghost use Rattle.std.specs.Prelude.{◌≡◌, [], ◌∷◌, codes};
-ghost use Rattle.bulk_logs.specs.Bulk.{drawn, query_log, click_log, kinds_made};
+ghost use Rattle.bulk_logs.specs.Bulk.{drawn, query_log, click_log, kinds_made, totals_made};
 
 /// The two logs of one click from seed 1.
 pub fn one_line()
@@ -14,4 +14,5 @@ pub fn kinds()
     ensures none { kinds_made 0 ≡ 0 ∷ 0 ∷ 0 ∷ 0 ∷ [] }
     ensures ten { kinds_made 10 ≡ 8 ∷ 0 ∷ 1 ∷ 1 ∷ [] }
     ensures many { kinds_made 5000 ≡ 4000 ∷ 0 ∷ 500 ∷ 500 ∷ [] }
+    ensures totals { totals_made 5000 ≡ codes "= 4000 0 500 500\n" }
 {}

@@ -1,5 +1,6 @@
 // Both logs' bytes, from another program.
 use crate::make_logs;
+use log_records::{check_clicks, check_queries};
 use std::alloc::{AllocError, Global};
 use std::test::Fail;
 
@@ -63,10 +64,12 @@ fn bytes(rt: HostRuntime) -> Result<(), Fail> {
     Ok(())
 }
 
-// The sizes of two long logs.
+// The sizes of two long logs, and how many lines their checks count.
 #[test]
 fn long_logs(rt: HostRuntime) -> Result<(), Fail> {
     let (query_log, click_log) = make_logs(rt.alloc(), 7, 100_000)?;
     assert_eq!(rt; (query_log.len(), click_log.len()), (3_169_861, 5_138_589));
+    assert_eq!(rt; check_queries(rt.alloc(), &query_log), Ok(100_000));
+    assert_eq!(rt; check_clicks(rt.alloc(), &click_log), Ok(100_000));
     Ok(())
 }
