@@ -1,5 +1,5 @@
 //! Laws over these logs.
-ghost use Rattle.std.specs.Prelude.{◌≡◌, ◌≤◌, ℕ};
+ghost use Rattle.std.specs.Prelude.{◌≡◌, ◌≤◌, ◌*◌, ◌^◌, ℕ, length};
 ghost use Rattle.log_defs.specs.Report.{totals};
 ghost use Rattle.log_records.specs.Log.{HoldsQueries, HoldsClicks};
 ghost use Rattle.bulk_logs.specs.Bulk.{queries, clicks, query_log, click_log, lines, kinds, kinds_made, totals_made};
@@ -8,6 +8,12 @@ ghost use Rattle.bulk_logs.specs.Bulk.{queries, clicks, query_log, click_log, li
 pub fn valid_logs()
     ensures queries { (seed n : ℕ) → n ≤ 100000 → HoldsQueries (query_log seed n) (queries seed n) }
     ensures clicks { (seed n : ℕ) → n ≤ 100000 → HoldsClicks (click_log seed n) (clicks seed n) }
+{}
+
+/// What a log needs at most: 37 bytes a query, 62 a click.
+pub fn sizes()
+    ensures queries { (seed n : ℕ) → n ≤ 2 ^ 32 → length (query_log seed n) ≤ 37 * n }
+    ensures clicks { (seed n : ℕ) → n ≤ 2 ^ 32 → length (click_log seed n) ≤ 62 * n }
 {}
 
 /// Up to 100,000 clicks, how many lines of each kind their report has doesn't depend on the seed.

@@ -64,12 +64,19 @@ fn bytes(rt: HostRuntime) -> Result<(), Fail> {
     Ok(())
 }
 
-// The sizes of two long logs, and how many lines their checks count.
+// The sizes of two long logs.
 #[test]
 fn long_logs(rt: HostRuntime) -> Result<(), Fail> {
     let (query_log, click_log) = make_logs(rt.alloc(), 7, 100_000)?;
     assert_eq!(rt; (query_log.len(), click_log.len()), (3_169_861, 5_138_589));
-    assert_eq!(rt; check_queries(rt.alloc(), &query_log), Ok(100_000));
-    assert_eq!(rt; check_clicks(rt.alloc(), &click_log), Ok(100_000));
+    Ok(())
+}
+
+// How many lines the checks of both logs count.
+#[test]
+fn checks(rt: HostRuntime) -> Result<(), Fail> {
+    let (query_log, click_log) = make_logs(rt.alloc(), 7, 100)?;
+    assert_eq!(rt; check_queries(rt.alloc(), &query_log), Ok(100));
+    assert_eq!(rt; check_clicks(rt.alloc(), &click_log), Ok(100));
     Ok(())
 }
