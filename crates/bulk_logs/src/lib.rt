@@ -1,0 +1,12 @@
+//! Logs made from two numbers: a seed, and how many clicks.
+#![tactic(auto)]
+
+mod generator;
+pub mod laws;
+mod lines;
+mod logs;
+pub mod rows;
+#[cfg(test)]
+mod tests;
+
+pub use logs::make_logs;
