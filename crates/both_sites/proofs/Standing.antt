@@ -174,4 +174,5 @@ module _ {N S : Type 0} (leads : S → Entry → S → Type 0) (phase_of : S →
               (λ n is.
               let rests = rests_here n (chosen.at n) (left_at n) (chosen.holds n is) (rested r (node_number n) one_left (inside n is)) in
               rests_at n (chosen.at n) (settings_so g (world_after g (opening d) whole.0) n (chosen.at n) (whole.1.stands n is)) rests.0 rests.1);
+          idle = λ r n is. (rests_here n (chosen.at n) (left_at n) (chosen.holds n is) (rested r (node_number n) one_left (inside n is))).0;
         }

@@ -1,6 +1,7 @@
 -- What a run of both sites' nodes is from, and what it leaves.
-use Rattle.std.specs.Prelude.{ℕ, Bool, List, slice_index_or, Option, IsTrue}
+use Rattle.std.specs.Prelude.{◌≡◌, ℕ, Bool, List, slice_index_or, Option, IsTrue}
 use Rattle.air_bus.specs.declared.entry.Entry.{Entry as BusEntry}
+use Rattle.air_bus.specs.declared.entry.Phase.TheVariants.{Idle}
 use Rattle.turn_defs.specs.Setting.{Setting}
 use Rattle.turn_defs.specs.Nodes.{IsNode, node_number}
 use Rattle.packet_codec.specs.declared.node.Node.{Node}
@@ -10,7 +11,7 @@ use Rattle.photon_defs.specs.Runs.{Entry, Disks, world_after, opening}
 use Rattle.photon_defs.specs.Rest.{IsAtRest}
 use Rattle.site_laws.specs.Kinds.{StateOf, down_over}
 use Rattle.site_laws.specs.Laws.{IsRunOf}
-use Rattle.both_sites.specs.AnyNodes.{AnyState, any_of}
+use Rattle.both_sites.specs.AnyNodes.{AnyState, any_of, any_phase}
 
 module _ {N : Type 0} (places : N → AnyState → Type 0) where
   -- each node of the setting is the one of its number, and is down over its own records
@@ -18,13 +19,14 @@ module _ {N : Type 0} (places : N → AnyState → Type 0) where
   AreDownOver g d nodes = (n : Node) → IsNode g n → (a : N) → places (slice_index_or nodes (node_number n) a) (any_of n (down_over g d n))
 
   -- The history is a run of the whole system from these records, and each node stands where it says. Where all nodes rest the
-  -- system does.
+  -- system does, and each node is up with no open turn.
   pub record IsRunFrom (g : Setting) (d : Disks) (h : List BusEntry) (nodes : List (N × Option NodeFault)) (rest : Bool) : Type 0 where
     pub at : (n : Node) → StateOf n
     pub entries : List Entry
     pub run : IsRunOf g d h at entries
     pub stand : (n : Node) → IsNode g n → (a : N × Option NodeFault) → places (slice_index_or nodes (node_number n) a).0 (any_of n (at n))
     pub at_rest : IsTrue rest → IsAtRest g (world_after g (opening d) entries)
+    pub idle : IsTrue rest → (n : Node) → IsNode g n → any_phase (any_of n (at n)) ≡ Idle
 
 -- each node's disks went on from where they were when it was opened
 abbrev pub HaveGrown : {N : Type 0} → (N → N → Type 0) → Setting → List N → List (N × Option NodeFault) → Type 0

@@ -2,10 +2,12 @@
 ghost use Rattle.std.specs.Prelude.{◌≡◌, ◌<◌, ◌^◌, ℕ, length, slice_index_or, false, IsTrue, IfOk, IfErr};
 ghost use Rattle.std.specs.List.{All};
 ghost use Rattle.air_bus.specs.History.{IsAired};
+ghost use Rattle.bus_seat.specs.Views.{made_by};
 ghost use Rattle.bus_seat.specs.Seats.{IsIn};
 ghost use Rattle.turn_defs.specs.Setting.{Setting};
 ghost use Rattle.turn_defs.specs.Nodes.{node_count};
 ghost use Rattle.photon_defs.specs.Runs.{Disks};
+ghost use Rattle.site_run.specs.Works.{HasMet};
 ghost use Rattle.site_run.specs.Rounds.{HasFault, AreCaused};
 ghost use Rattle.both_sites.specs.Running.{AreDownOver, IsRunFrom, HaveGrown};
 
@@ -48,6 +50,8 @@ pub fn run_nodes<R: Threads + Wait + Sync, N: SystemNode + Send + Drop, G: Gate>
     // A node has a fault where the run is not at rest. Its cause is met where it is one of disks or of a log.
     ensures fault { IfOk result (λ r. r.rest ≡ false → HasFault r.nodes.items) }
     ensures caused { IfOk result (λ r. AreCaused N.faults N.log_faults r.nodes.items) }
+    // A node that stopped within a turn has met a fault of its disks.
+    ensures met { IfOk result (λ r. (i : ℕ) (b : _) → i < length nodes.items → HasMet N.faults (slice_index_or r.nodes.items i b).0 (made_by i r.air.history)) }
     ensures back { IfErr result (λ e. e.1 ≡ nodes) }
 {
     turn_defs::laws::node_numbers();

@@ -4,6 +4,7 @@ use Rattle.std.specs.List.{filter}
 use Rattle.std.specs.Prelude.{Result, Ok, Err, IsErrAnd, IfErr}
 use Rattle.std.proofs.lemmas.List.{take_more}
 use Rattle.std.proofs.lemmas.List.Elements.{filter-append}
+use Rattle.list_words.proofs.Lists.{each_append}
 use Rattle.gate_journal.specs.Gate.{gate_rule, StandsFor}
 use Rattle.gate_journal.specs.Opening.{IsRefused}
 use Rattle.gate_journal.specs.declared.reading.JournalFault.{JournalFault}
@@ -17,7 +18,7 @@ use Rattle.site_disks.specs.Votes.{KeepsNotes, IsVotesDamaged}
 use Rattle.lent_disks.specs.declared.lent.LentDisk.{LentDisk}
 use Rattle.lent_disks.specs.declared.reading.ReadAs.{ReadAs}
 use Rattle.lent_disks.specs.declared.reading.ReadAs.TheVariants.{Notes, Pairs, Neither}
-use Rattle.lent_disks.specs.ReadBack.{is_replica, is_output, replicas, outputs, notes_in, pairs_in, AreReadFrom, IsReadAs, IsOnlyRead}
+use Rattle.lent_disks.specs.ReadBack.{is_replica, is_output, replicas, outputs, notes_in, pairs_in, AreReadFrom, AreAmongImages, IsReadAs, IsAnImage, IsOnlyRead}
 use Rattle.lent_disks.proofs.Walking.{FirstWith, first_at, each_with_append}
 
 -- a fault that is handed on
@@ -60,6 +61,10 @@ untouched tells seen image since faults starts lent = record {
   count = omega arith;
 }
 
+-- one element more, of those that a test picks
+filter_more : {A : Type 0} (p : A → Bool) (xs : List A) (i : ℕ) (d : A) → i < length xs → filter p (take i xs) ++ filter p (get_or xs i d ∷ []) ≡ filter p (take (i + 1) xs)
+filter_more p xs i d lt = sym (filter-append p (take i xs) (get_or xs i d ∷ [])) ∙ ap (filter p) (sym (take_more xs i d lt))
+
 module _ {D : Type 0} (tells : Bool) (seen : D → List ℕ) where
   -- what one disk is read as, as a list of lists
   notes_of_one : (d : LentDisk D) (read : ReadAs) → IsReadAs tells seen d read → AreReadFrom tells seen KeepsNotes (replicas (d ∷ [])) (notes_in read)
@@ -79,9 +84,7 @@ module _ {D : Type 0} (tells : Bool) (seen : D → List ℕ) where
       → AreReadFrom tells seen keeps (filter p (take i disks)) lists → AreReadFrom tells seen keeps (filter p (get_or disks i d ∷ [])) extra → now ≡ lists ++ extra
       → AreReadFrom tells seen keeps (filter p (take (i + 1) disks)) now
   read_more {V} keeps p disks i d lists extra now lt so one is =
-      let whole : filter p (take i disks) ++ filter p (get_or disks i d ∷ []) ≡ filter p (take (i + 1) disks) =
-      sym (filter-append p (take i disks) (get_or disks i d ∷ [])) ∙ ap (filter p) (sym (take_more disks i d lt)) in
-      subst (λ (xs : List (LentDisk D)). AreReadFrom tells seen keeps xs now) whole
+      subst (λ (xs : List (LentDisk D)). AreReadFrom tells seen keeps xs now) (filter_more p disks i d lt)
       (subst (AreReadFrom tells seen keeps (filter p (take i disks) ++ filter p (get_or disks i d ∷ []))) (sym is)
       (each_with_append (λ (x : LentDisk D) (items : List V). IsTrue tells → keeps items (seen x.disk)) (filter p (take i disks)) (filter p (get_or disks i d ∷ [])) lists extra so one))
 
@@ -97,3 +100,37 @@ module _ {D : Type 0} (tells : Bool) (seen : D → List ℕ) where
   pairs_more R disks now i d read lists more so lt is before next =
       read_more KeepsPairs (λ (x : LentDisk D). is_output x.name) disks i d lists (pairs_in read) more lt before
       (pairs_of_one (get_or disks i d) read (subst (λ (x : LentDisk D). IsReadAs tells seen x read) (first_at R i disks now d so) is)) next
+
+module _ {D : Type 0} (tells : Bool) (seen : D → List ℕ) (image : D → List ℕ → Type 0) where
+  -- what one disk is read from
+  notes_image : (d : LentDisk D) (read : ReadAs) → IsReadAs tells seen d read → IsAnImage tells seen image d read → AreAmongImages tells seen image (replicas (d ∷ []))
+  notes_image d (Notes notes) is left = subst (λ (b : Bool). AreAmongImages tells seen image (if b then d ∷ [] else [])) (sym is.0) (left, tt)
+  notes_image d (Pairs pairs) is left = subst (λ (b : Bool). AreAmongImages tells seen image (if b then d ∷ [] else [])) (sym is.0) tt
+  notes_image d Neither is left = subst (λ (b : Bool). AreAmongImages tells seen image (if b then d ∷ [] else [])) (sym is.0) tt
+
+  pairs_image : (d : LentDisk D) (read : ReadAs) → IsReadAs tells seen d read → IsAnImage tells seen image d read → AreAmongImages tells seen image (outputs (d ∷ []))
+  pairs_image d (Notes notes) is left = subst (λ (b : Bool). AreAmongImages tells seen image (if b then d ∷ [] else [])) (sym is.1) tt
+  pairs_image d (Pairs pairs) is left = subst (λ (b : Bool). AreAmongImages tells seen image (if b then d ∷ [] else [])) (sym is.1) (left, tt)
+  pairs_image d Neither is left = subst (λ (b : Bool). AreAmongImages tells seen image (if b then d ∷ [] else [])) (sym is.1) tt
+
+  -- one disk more
+  left_more : (p : LentDisk D → Bool) (disks : List (LentDisk D)) (i : ℕ) (d : LentDisk D) → i < length disks → AreAmongImages tells seen image (filter p (take i disks))
+      → AreAmongImages tells seen image (filter p (get_or disks i d ∷ [])) → AreAmongImages tells seen image (filter p (take (i + 1) disks))
+  left_more p disks i d lt so one =
+      subst (AreAmongImages tells seen image) (filter_more p disks i d lt)
+      (each_append (λ (x : LentDisk D). IsTrue tells → image x.disk (seen x.disk)) (filter p (take i disks)) (filter p (get_or disks i d ∷ [])) so one)
+
+  -- the next disk is read
+  pub notes_left_more : (R : LentDisk D → LentDisk D → Type 0) (disks now : List (LentDisk D)) (i : ℕ) (d : LentDisk D) (read : ReadAs) → FirstWith R i disks now → i < length disks
+      → IsReadAs tells seen (get_or now i d) read → IsAnImage tells seen image (get_or now i d) read → AreAmongImages tells seen image (replicas (take i disks)) → AreAmongImages tells seen image (replicas (take (i + 1) disks))
+  notes_left_more R disks now i d read so lt is left before =
+      let same = first_at R i disks now d so in
+      left_more (λ (x : LentDisk D). is_replica x.name) disks i d lt before
+      (notes_image (get_or disks i d) read (subst (λ (x : LentDisk D). IsReadAs tells seen x read) same is) (subst (λ (x : LentDisk D). IsAnImage tells seen image x read) same left))
+
+  pub pairs_left_more : (R : LentDisk D → LentDisk D → Type 0) (disks now : List (LentDisk D)) (i : ℕ) (d : LentDisk D) (read : ReadAs) → FirstWith R i disks now → i < length disks
+      → IsReadAs tells seen (get_or now i d) read → IsAnImage tells seen image (get_or now i d) read → AreAmongImages tells seen image (outputs (take i disks)) → AreAmongImages tells seen image (outputs (take (i + 1) disks))
+  pairs_left_more R disks now i d read so lt is left before =
+      let same = first_at R i disks now d so in
+      left_more (λ (x : LentDisk D). is_output x.name) disks i d lt before
+      (pairs_image (get_or disks i d) read (subst (λ (x : LentDisk D). IsReadAs tells seen x read) same is) (subst (λ (x : LentDisk D). IsAnImage tells seen image x read) same left))

@@ -1,5 +1,6 @@
 -- What reading disks back gives.
 use Rattle.std.specs.Prelude.{◌≡◌, ◌≤◌, ◌⊎◌, ⊤, ℕ, List, [], ◌∷◌, Bool, true, false, filter, IsTrue}
+use Rattle.list_words.specs.Lists.{Each}
 use Rattle.outside.specs.declared.store.DiskName.{DiskName}
 use Rattle.outside.specs.declared.store.DiskName.TheVariants as name
 use Rattle.outside.specs.Disk.{Throughout}
@@ -48,6 +49,10 @@ outputs disks = filter (λ d. is_output d.name) disks
 abbrev pub AreReadFrom : {D V : Type 0} → Bool → (D → List ℕ) → (List V → List ℕ → Type 0) → List (LentDisk D) → List (List V) → Type 0
 AreReadFrom tells seen keeps disks lists = EachWith (λ d items. IsTrue tells → keeps items (seen d.disk)) disks lists
 
+-- each of these disks as it reads is one of the images that a stop may leave of it
+abbrev pub AreAmongImages : {D : Type 0} → Bool → (D → List ℕ) → (D → List ℕ → Type 0) → List (LentDisk D) → Type 0
+AreAmongImages tells seen image disks = Each (λ d. IsTrue tells → image d.disk (seen d.disk)) disks
+
 -- A disk that was read at most: it has its name and its bytes, and no moment left anything else than might have been left.
 pub record IsOnlyRead {D : Type 0} (tells : Bool) (seen : D → List ℕ) (image : D → List ℕ → Type 0) (since : D → D → List ℕ → Type 0) (faults : D → ℕ) (old new : LentDisk D) : Type 0 where
   pub named : new.name ≡ old.name
@@ -66,6 +71,12 @@ abbrev pub IsReadAs : {D : Type 0} → Bool → (D → List ℕ) → LentDisk D 
 IsReadAs tells seen d (Notes notes) = (is_replica d.name ≡ true) × (is_output d.name ≡ false) × (IsTrue tells → KeepsNotes notes (seen d.disk))
 IsReadAs tells seen d (Pairs pairs) = (is_replica d.name ≡ false) × (is_output d.name ≡ true) × (IsTrue tells → KeepsPairs pairs (seen d.disk))
 IsReadAs tells seen d Neither = (is_replica d.name ≡ false) × (is_output d.name ≡ false)
+
+-- what was read, if anything was, is one of the images of the disk
+abbrev pub IsAnImage : {D : Type 0} → Bool → (D → List ℕ) → (D → List ℕ → Type 0) → LentDisk D → ReadAs → Type 0
+IsAnImage tells seen image d (Notes notes) = IsTrue tells → image d.disk (seen d.disk)
+IsAnImage tells seen image d (Pairs pairs) = IsTrue tells → image d.disk (seen d.disk)
+IsAnImage tells seen image d Neither = Unit {0}
 
 -- the list of notes that was read, if one was, and the list of pairs
 abbrev pub notes_in : ReadAs → List (List ReplicaNote)

@@ -1,8 +1,10 @@
 // Giving disks back.
 ghost use Rattle.std.specs.Prelude.{◌≤◌, ◌+◌, ℕ, List, length, IsTrue};
+ghost use Rattle.list_words.specs.Lists.{Mem};
 ghost use Rattle.outside.specs.declared.store.DiskName.{DiskName};
 ghost use Rattle.outside.specs.Disk.{Within};
-ghost use Rattle.site_disks.specs.Lent.{Lacks, MayBeLeft};
+ghost use Rattle.outside.specs.Faults.{Rose};
+ghost use Rattle.site_disks.specs.Lent.{Lent, Lacks, MayBeLeft};
 ghost use Rattle.lent_disks.specs.Lent.{all_lent};
 
 use crate::LentDisk;
@@ -16,6 +18,8 @@ pub fn give_all<S: Store>(store: &mut S, disks: Vec<LentDisk<S::Disk>>)
     ensures others { IsTrue S.Disk.tells → (name : DiskName) → Lacks (all_lent disks.items) name → Within (S.image store.old name) (S.image store.new name) }
     ensures places { S.places_left store.old ≤ S.places_left store.new + length disks.items }
     ensures count { S.faults store.old ≤ S.faults store.new }
+    // What a disk met while it was out counts, also where nothing is told of what it holds.
+    ensures rose { (d : Lent S.Disk) → Mem d (all_lent disks.items) → 1 ≤ S.Disk.faults d.disk → Rose (S.faults store.old) (S.faults store.new) }
 {
     let mut disks = disks;
     while let Some(one) = disks.pop() {

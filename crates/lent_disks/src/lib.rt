@@ -9,6 +9,3 @@ mod records;
 pub use giving::give_all;
 pub use lent::LentDisk;
 pub use reading::read_back;
-
-#[cfg(test)]
-mod tests;

@@ -3,7 +3,7 @@ ghost use Rattle.std.specs.Prelude.{◌≡◌, ◌++◌, IsTrue, IfOk, IfErr, On
 ghost use Rattle.output_log.specs.Pairs.{Keeps as KeepsPairs};
 ghost use Rattle.site_disks.specs.Opening.{told_by};
 ghost use Rattle.site_disks.specs.Votes.{KeepsNotes};
-ghost use Rattle.lent_disks.specs.ReadBack.{EachWith, OneWith, replicas, outputs, notes_in, pairs_in, AreReadFrom, IsReadAs, IsOnlyRead, IsToldBy};
+ghost use Rattle.lent_disks.specs.ReadBack.{EachWith, OneWith, replicas, outputs, notes_in, pairs_in, AreReadFrom, AreAmongImages, IsReadAs, IsAnImage, IsOnlyRead, IsToldBy};
 
 use crate::LentDisk;
 use crate::records::{notes_again, pairs_again};
@@ -36,6 +36,7 @@ fn told(name: DiskName, fault: JournalFault) -> DisksFault
 /// Reads a replica's disk or an output's again, and no other.
 fn read_one<D: Disk>(alloc: Global, lent: &mut LentDisk<D>) -> Result<ReadAs, DisksFault>
     ensures read { IfOk result (IsReadAs D.tells D.seen lent.old) }
+    ensures left { IfOk result (IsAnImage D.tells D.seen D.image lent.old) }
     ensures same { IsOnlyRead D.tells D.seen D.image D.since D.faults lent.old lent.new }
     ensures err { IfErr result (IsToldBy D.tells D.seen D.faults lent.old lent.new) }
 {
@@ -70,6 +71,9 @@ fn put(journals: &mut Journals, read: ReadAs) -> Result<(), AllocError>
 pub fn read_back<D: Disk>(alloc: Global, disks: &mut [LentDisk<D>]) -> Result<Journals, DisksFault>
     ensures notes { IfOk result (λ journals. AreReadFrom D.tells D.seen KeepsNotes (replicas disks.old) journals.notes.items) }
     ensures pairs { IfOk result (λ journals. AreReadFrom D.tells D.seen KeepsPairs (outputs disks.old) journals.pairs.items) }
+    // What they are read from is what a stop may leave of them.
+    ensures notes_left { OnOk result (AreAmongImages D.tells D.seen D.image (replicas disks.old)) }
+    ensures pairs_left { OnOk result (AreAmongImages D.tells D.seen D.image (outputs disks.old)) }
     ensures same { EachWith (IsOnlyRead D.tells D.seen D.image D.since D.faults) disks.old disks.new }
     ensures err { IfErr result (λ fault. OneWith (λ old new. IsToldBy D.tells D.seen D.faults old new fault) disks.old disks.new) }
 {

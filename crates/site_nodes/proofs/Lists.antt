@@ -106,23 +106,34 @@ two_ones h0 h1 h2 a b first second = IsPermutation-trans _ _ _ (one_taken h0 h1 
 pub three_ones : {X : Type 0} (h0 h1 h2 h3 : List X) (a b c : X) → IsPermutation (h0 ++ a ∷ []) h1 → IsPermutation (h1 ++ b ∷ []) h2 → IsPermutation (h2 ++ c ∷ []) h3 → IsPermutation (h0 ++ a ∷ b ∷ c ∷ []) h3
 three_ones h0 h1 h2 h3 a b c first second third = IsPermutation-trans _ _ _ (one_taken h0 h1 a (b ∷ c ∷ []) first) (two_ones h1 h2 h3 b c second third)
 
--- all lists, one kind behind the other, with what is put last
+-- The lists behind the first two, one kind behind the other. The joiners' lists come in pairs by their site.
+kinds_given : {X : Type 0} (m c d e f g h h1 h2 h3 h4 h5 : List X) → IsPermutation m h1 → IsPermutation (h1 ++ c) h2 → IsPermutation (h2 ++ d) h3 → IsPermutation (h3 ++ (e ++ g)) h4 → IsPermutation (h4 ++ (f ++ h)) h5
+    → IsPermutation ((((((m ++ c) ++ d) ++ e) ++ f) ++ g) ++ h) h5
+kinds_given {X} m c d e f g h h1 h2 h3 h4 h5 s1 s2 s3 s4 s5 =
+    let step : (l k n o : List X) → IsPermutation l k → IsPermutation (k ++ n) o → IsPermutation (l ++ n) o = λ l k n o at on. IsPermutation-trans _ _ _ (IsPermutation-append_left n l k at) on in
+    let all = (m ++ c) ++ d in
+    let to3 = step (m ++ c) h2 d h3 (step m h1 c h2 s1 s2) s3 in
+    let to5 = step (all ++ (e ++ g)) h4 (f ++ h) h5 (step all h3 (e ++ g) h4 to3 s4) s5 in
+    let turned : IsPermutation ((((all ++ e) ++ f) ++ g) ++ h) ((((all ++ e) ++ g) ++ f) ++ h) = IsPermutation-append_left h (((all ++ e) ++ f) ++ g) (((all ++ e) ++ g) ++ f) (swapped (all ++ e) f g) in
+    let grouped : (((all ++ e) ++ g) ++ f) ++ h ≡ (all ++ (e ++ g)) ++ (f ++ h) = append_assoc ((all ++ e) ++ g) f h ∙ ap (λ l. l ++ (f ++ h)) (append_assoc all e g) in
+    IsPermutation-trans _ _ _ turned (subst (λ l. IsPermutation l h5) (sym grouped) to5)
+
+-- all lists, where what was made of them is all that there is
+pub all_made : {X : Type 0} (a b c d e f g h h1 h2 h3 h4 h5 last : List X) → IsPermutation (a ++ b) h1 → IsPermutation (h1 ++ c) h2 → IsPermutation (h2 ++ d) h3 → IsPermutation (h3 ++ (e ++ g)) h4 → IsPermutation (h4 ++ (f ++ h)) h5 → h5 ≡ last
+    → IsPermutation (((((((a ++ b) ++ c) ++ d) ++ e) ++ f) ++ g) ++ h) last
+all_made a b c d e f g h h1 h2 h3 h4 h5 last s1 s2 s3 s4 s5 is =
+    subst (IsPermutation (((((((a ++ b) ++ c) ++ d) ++ e) ++ f) ++ g) ++ h)) is (kinds_given (a ++ b) c d e f g h h1 h2 h3 h4 h5 s1 s2 s3 s4 s5)
+
+-- all lists behind one element, with what is put last
 pub all_given : {X : Type 0} (t : X) (a b c d e f g h h1 h2 h3 h4 h5 last : List X) → IsPermutation (a ++ b) h1 → IsPermutation (h1 ++ c) h2 → IsPermutation (h2 ++ d) h3 → IsPermutation (h3 ++ (e ++ g)) h4 → IsPermutation (h4 ++ (f ++ h)) h5 → last ≡ h5 ++ t ∷ []
     → IsPermutation ((((((((t ∷ [] ++ a) ++ b) ++ c) ++ d) ++ e) ++ f) ++ g) ++ h) last
 all_given {X} t a b c d e f g h h1 h2 h3 h4 h5 last s1 s2 s3 s4 s5 is =
     let T : List X = t ∷ [] in
-    let step : (m k n : List X) → IsPermutation m (T ++ k) → (o : List X) → IsPermutation (k ++ n) o → IsPermutation (m ++ n) (T ++ o) = λ m k n at o on. IsPermutation-trans _ _ _ (IsPermutation-append_left n m (T ++ k) at) (subst (λ l. IsPermutation l (T ++ o)) (sym (append_assoc T k n)) (IsPermutation-append_right T (k ++ n) o on)) in
-    let j1 : IsPermutation (T ++ a) (T ++ a) = IsPermutation-refl (T ++ a) in
-    let j2 = step (T ++ a) a b j1 h1 s1 in
-    let j3 = step ((T ++ a) ++ b) h1 c j2 h2 s2 in
-    let j4 = step (((T ++ a) ++ b) ++ c) h2 d j3 h3 s3 in
-    let all = (((T ++ a) ++ b) ++ c) ++ d in
-    let j5 = step all h3 (e ++ g) j4 h4 s4 in
-    let j6 = step (all ++ (e ++ g)) h4 (f ++ h) j5 h5 s5 in
-    let turned : IsPermutation ((((all ++ e) ++ f) ++ g) ++ h) ((((all ++ e) ++ g) ++ f) ++ h) = IsPermutation-append_left h (((all ++ e) ++ f) ++ g) (((all ++ e) ++ g) ++ f) (swapped (all ++ e) f g) in
-    let grouped : (((all ++ e) ++ g) ++ f) ++ h ≡ (all ++ (e ++ g)) ++ (f ++ h) = append_assoc ((all ++ e) ++ g) f h ∙ ap (λ l. l ++ (f ++ h)) (append_assoc all e g) in
+    let behind : (k n o : List X) → IsPermutation (k ++ n) o → IsPermutation ((T ++ k) ++ n) (T ++ o) = λ k n o on. subst (λ l. IsPermutation l (T ++ o)) (sym (append_assoc T k n)) (IsPermutation-append_right T (k ++ n) o on) in
     let ends : IsPermutation (T ++ h5) last = subst (IsPermutation (T ++ h5)) (sym is) (IsPermutation-append_comm T h5) in
-    IsPermutation-trans _ _ _ turned (IsPermutation-trans _ _ _ (subst (λ l. IsPermutation l (T ++ h5)) (sym grouped) j6) ends)
+    IsPermutation-trans _ _ _
+    (kinds_given ((T ++ a) ++ b) c d e f g h (T ++ h1) (T ++ h2) (T ++ h3) (T ++ h4) (T ++ h5) (behind a b h1 s1) (behind h1 c h2 s2) (behind h2 d h3 s3) (behind h3 (e ++ g) h4 s4) (behind h4 (f ++ h) h5 s5))
+    ends
 
 -- the logs, one kind behind the other
 pub logs_given : {X : Type 0} (a b c h1 h2 h3 h4 h5 last : List X) → IsPermutation a h1 → IsPermutation h1 h2 → IsPermutation h2 h3 → IsPermutation (h3 ++ b) h4 → IsPermutation (h4 ++ c) h5 → last ≡ h5 → IsPermutation ((a ++ b) ++ c) last

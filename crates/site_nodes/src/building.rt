@@ -12,11 +12,11 @@ ghost use Rattle.site_disks.specs.Kinds.{offset_names, retry_names, server_names
 ghost use Rattle.site_disks.specs.Lent.{lend, lend_all, joined};
 ghost use Rattle.site_disks.specs.Votes.{IsReadyVotes};
 ghost use Rattle.both_sites.specs.Running.{AreDownOver};
-ghost use Rattle.site_nodes.specs.Naming.{as_lent};
+ghost use Rattle.site_nodes.specs.Naming.{as_lent, all_from};
 ghost use Rattle.site_nodes.specs.Placed.{disks_over};
 
 use crate::made::Made;
-use crate::{Config, Logs, Parts, Room};
+use crate::{Config, Logs, Parting, Parts, Room};
 use both_sites::{AnyNode, SystemNode};
 use outside::{Disk, LogFile};
 use site_disks::{Opened, SiteDisks};
@@ -72,6 +72,16 @@ pub fn build<D: Disk, L: LogFile>(
           joiner_epochs = map (λ e. e.journal.epoch) disks.epochs_a.items ++ map (λ e. e.journal.epoch) disks.epochs_b.items;
           joiner_pairs = map (λ o. o.journal.pairs.items) disks.outputs_a.items ++ map (λ o. o.journal.pairs.items) disks.outputs_b.items;
         }) in ((s : ℕ) → s < 2 → AreKeptPlaces g (d.dispatchers s)) → IfOk result (λ b. AreDownOver ⟦<AnyNode<D, L> as SystemNode>⟧.places g d b.nodes.items) }
+    // Under the names of their places they have the disks that were opened.
+    ensures held { IfOk result (λ b. IsPermutation (((((((lend_all (λ o. o.journal.disk) disks.offsets.items
+        ++ lend_all (λ r. r.journal.disk) disks.retries.items)
+        ++ lend_all (λ e. e.journal.disk) disks.servers.items)
+        ++ lend_all (λ v. v.journal.disk) disks.replicas.items)
+        ++ lend_all (λ e. e.journal.disk) disks.epochs_a.items)
+        ++ lend_all (λ e. e.journal.disk) disks.epochs_b.items)
+        ++ lend_all (λ o. o.journal.disk) disks.outputs_a.items)
+        ++ lend_all (λ o. o.journal.disk) disks.outputs_b.items)
+        (all_from (⟦<AnyNode<D, L> as Parting<D, L>>⟧.disks_of config.now.joiners) 0 b.nodes.items)) }
     ensures topology { IfOk result (λ b. b.topology ≡ disks.topology) }
     ensures none { IfOk result (λ b. (b.parts.disks.items ≡ []) × (b.parts.logs.items ≡ [])) }
     ensures room { IfOk result (λ b. (15 + 4 * config.now.joiners ≤ vec_capacity b.parts.disks) × (7 + 2 * config.now.joiners ≤ vec_capacity b.parts.logs)) }

@@ -11,6 +11,3 @@ pub use building::{Built, build};
 pub use config::{Config, Logs};
 pub use parting::{Parting, apart};
 pub use parts::{Parts, Room};
-
-#[cfg(test)]
-mod tests;

@@ -18,7 +18,7 @@ ghost use Rattle.both_sites.specs.AnyNodes.{any_of, down_with};
 ghost use Rattle.site_disks.specs.Lent.{lend, lend_all};
 ghost use Rattle.site_disks.specs.Kinds.{offset_names, retry_names, server_names, replica_names};
 ghost use Rattle.site_disks.specs.Votes.{IsReadyVotes};
-ghost use Rattle.site_nodes.specs.Naming.{as_lent, held, held_logs, of_server, of_joiner};
+ghost use Rattle.site_nodes.specs.Naming.{as_lent, all_from, held, held_logs, of_server, of_joiner};
 ghost use Rattle.list_words.specs.Lists.{Each};
 ghost use Rattle.std.specs.Vec.Iter.{into_iter_items};
 ghost use Rattle.site_nodes.specs.Placed.{AllAt, AreKept, AreNamed, IsDownAt, IsUpAt};
@@ -543,6 +543,7 @@ impl<D: Disk, L: LogFile> Made<D, L> {
         ensures topology { IfOk result (λ b. b.topology ≡ topology) }
         ensures none { IfOk result (λ b. (b.parts.disks.items ≡ []) × (b.parts.logs.items ≡ [])) }
         ensures room { IfOk result (λ b. (15 + 4 * self.roster.joiners ≤ vec_capacity b.parts.disks) × (7 + 2 * self.roster.joiners ≤ vec_capacity b.parts.logs)) }
+        ensures whole { IfOk result (λ b. held (⟦<AnyNode<D, L> as Parting<D, L>>⟧.disks_of self.roster.joiners) self.parts.disks.items self.nodes.items ≡ all_from (⟦<AnyNode<D, L> as Parting<D, L>>⟧.disks_of self.roster.joiners) 0 b.nodes.items) }
         ensures disks { IfErr result (λ p. map as_lent p.disks.items ≡ held (⟦<AnyNode<D, L> as Parting<D, L>>⟧.disks_of self.roster.joiners) self.parts.disks.items self.nodes.items ++ lend (λ t. t.journal.disk) topology ∷ []) }
         ensures logs { IfErr result (λ p. p.logs.items ≡ held_logs ⟦<AnyNode<D, L> as Parting<D, L>>⟧.logs_of self.parts.logs.items self.nodes.items) }
     {

@@ -12,7 +12,7 @@ use Rattle.bus_seat.specs.Views.{count, made_by}
 use Rattle.bus_seat.specs.Seats.{BusId, Sight, fresh, fresh_to, fresh_seats, tag, AreSeatsOf, IsIn}
 use Rattle.bus_seat.proofs.Closing.{snoc_injective, fresh_count}
 use Rattle.site_node.specs.declared.kind.NodeFault.{NodeFault}
-use Rattle.site_run.specs.Works.{WorkerView, LeadsOn, GrowsOn, Grew}
+use Rattle.site_run.specs.Works.{WorkerView, LeadsOn, GrowsOn, Grew, HasMet}
 use Rattle.site_run.specs.Rounds.{WentOn, AllWentOn, Walked, WentFar, Rests, OneHasFault, HasFault}
 use Rattle.site_run.proofs.Stepping.{leads_on, leads_nowhere, grows_on, grows_nowhere, grew_on}
 
@@ -203,3 +203,11 @@ module _ {N S : Type 0} (tells : Bool) (leads : S → Entry → S → Type 0) (p
             let d = some_of us i inside in
             subst (λ (x : N × Option NodeFault). Rests number stands at_rest_as x (made_by i h)) (sym (left_at i d b inside))
             (subst (λ (m : List Entry). Rests number stands at_rest_as ((get_or us i d).node, (get_or us i d).fault) m) (sym (own_entries i d inside)) (rest i d inside))
+
+        -- what is known of each worker's own entries and its faults is known by the history
+        pub all_met : (tally : N → ℕ) → All (λ (w : WorkerView N). HasMet tally w.node w.seat.mine) us → (i : ℕ) (b : N × Option NodeFault) → i < length ws → HasMet tally (get_or left i b).0 (made_by i h)
+        all_met tally have i b l =
+            let inside : i < length us = omega (arith, l, went.count) in
+            let d = some_of us i inside in
+            subst (λ (x : N × Option NodeFault). HasMet tally x.0 (made_by i h)) (sym (left_at i d b inside))
+            (subst (λ (m : List Entry). HasMet tally (get_or us i d).node m) (sym (own_entries i d inside)) (have i d inside))

@@ -1,7 +1,9 @@
 -- What a worker does, by the entries that it adds.
-use Rattle.std.specs.Prelude.{◌≡◌, ◌≢◌, ℕ, zero, suc, ◌≤◌, Bool, false, List, [], ◌∷◌, ◌++◌, Option, None, Some}
+use Rattle.std.specs.Prelude.{◌≡◌, ◌≢◌, ℕ, zero, suc, ◌≤◌, Bool, true, false, List, [], ◌∷◌, ◌++◌, Option, None, Some}
+use Rattle.std.specs.List.{list_any}
 use mathlib.Core.List.{IsPrefix}
 use Rattle.air_bus.specs.declared.entry.Entry.{Entry}
+use Rattle.air_bus.specs.declared.entry.Entry.TheVariants.{Begin, End, Stop}
 use Rattle.air_bus.specs.declared.entry.Phase.{Phase}
 use Rattle.air_bus.specs.declared.entry.Phase.TheVariants.{Busy}
 use Rattle.air_bus.specs.History.{phase}
@@ -23,6 +25,16 @@ Reached grown (suc k) v w = (u : _) × Reached grown k v u × grown u w
 pub record IsCaused {N : Type 0} (faults log_faults : N → ℕ) (node : N) (fault : Option NodeFault) : Type 0 where
   pub stopped : fault ≡ Some Stopped → 1 ≤ faults node
   pub read : fault ≡ Some Read → 1 ≤ log_faults node
+
+-- the node went down within its turn
+abbrev pub is_stop : Entry → Bool
+is_stop (Begin node input) = false
+is_stop (End node noted packets kept) = false
+is_stop (Stop node landed) = true
+
+-- a node whose entries have a stop has met a fault of its disks
+pub record HasMet {N : Type 0} (faults : N → ℕ) (node : N) (mine : List Entry) : Type 0 where
+  pub stops : list_any is_stop mine ≡ true → 1 ≤ faults node
 
 -- what a contract sees of a worker
 pub record WorkerView (N : Type 0) : Type 0 where

@@ -4,7 +4,7 @@ ghost use Rattle.std.specs.List.{All};
 ghost use Rattle.air_bus.specs.History.{IsAired};
 ghost use Rattle.bus_seat.specs.Views.{count, made_by};
 ghost use Rattle.bus_seat.specs.Seats.{fresh, fresh_to, fresh_seats, IsIn};
-ghost use Rattle.site_run.specs.Works.{WorkerView};
+ghost use Rattle.site_run.specs.Works.{WorkerView, HasMet};
 ghost use Rattle.site_run.specs.Rounds.{WentOn, AllWentOn, Walked, WentFar, Rests, AreCaused, OneHasFault, HasFault};
 
 use crate::Worker;
@@ -74,6 +74,9 @@ pub fn run<R: Threads + Wait + Sync, N: SiteNode + Send + Drop, G: Gate>(
     // A node has a fault where not all are at rest. Its cause is met where it is one of disks or of a log.
     ensures fault { IfOk result (λ r. r.rest ≡ false → HasFault r.nodes.items) }
     ensures caused { IfOk result (λ r. AreCaused N.faults N.log_faults r.nodes.items) }
+    // A node that stopped within a turn has met a fault of its disks.
+    ensures met { IfOk result (λ r. (i : ℕ) (b : _) → i < length nodes.items →
+        HasMet N.faults (slice_index_or r.nodes.items i b).0 (made_by i r.air.history)) }
     ensures rest { IfOk result (λ r. IsTrue r.rest → (i : ℕ) (b : _) → i < length nodes.items →
         Rests N.number N.stands N.at_rest_as (slice_index_or r.nodes.items i b) (made_by i r.air.history)) }
     ensures back { IfErr result (λ e. e.1 ≡ nodes) }
@@ -139,6 +142,7 @@ fn run_on<R: Threads + Wait + Sync, N: SiteNode + Send + Drop, G: Gate>(
         WentFar N.leads N.phase_of N.stands N.number N.grown (slice_index_or nodes.items i a) (slice_index_or result.nodes.items i b) }
     ensures fault { result.rest ≡ false → HasFault result.nodes.items }
     ensures caused { AreCaused N.faults N.log_faults result.nodes.items }
+    ensures met { (i : ℕ) (b : _) → i < length nodes.items → HasMet N.faults (slice_index_or result.nodes.items i b).0 (made_by i result.air.history) }
     ensures rest { IsTrue result.rest → (i : ℕ) (b : _) → i < length nodes.items →
         Rests N.number N.stands N.at_rest_as (slice_index_or result.nodes.items i b) (made_by i result.air.history) }
 {
@@ -202,6 +206,7 @@ fn dismiss<N: SiteNode + Drop>(
     ensures seats { (seats.new.items ≡ map (λ (w : WorkerView N). w.seat) workers.items) × (length workers.items < vec_capacity seats.new) }
     ensures nodes { nodes.new.items ≡ map (λ (w : WorkerView N). (w.node, w.fault)) workers.items }
     ensures caused { AreCaused N.faults N.log_faults nodes.new.items }
+    ensures met { All (λ (w : WorkerView N). HasMet N.faults w.node w.seat.mine) workers.items }
 {
     for worker in workers {
         dismiss_one(worker, seats, nodes);
@@ -220,6 +225,7 @@ fn dismiss_one<N: SiteNode + Drop>(
     ensures room { (vec_capacity seats.new ≡ vec_capacity seats.old) × (vec_capacity nodes.new ≡ vec_capacity nodes.old) }
     ensures lens { (vec_len seats.new ≡ vec_len seats.old + 1) × (vec_len nodes.new ≡ vec_len nodes.old + 1) }
     ensures caused { AreCaused N.faults N.log_faults nodes.old.items → AreCaused N.faults N.log_faults nodes.new.items }
+    ensures met { HasMet N.faults worker.node worker.seat.mine }
 {
     let (node, seat, fault) = worker.into_parts();
     seats.push_reserved(seat);

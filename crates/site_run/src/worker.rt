@@ -4,7 +4,7 @@ ghost use Rattle.air_bus.specs.declared.entry.Entry.TheVariants.{Begin};
 ghost use Rattle.air_bus.specs.declared.entry.Phase.TheVariants.{Idle, Busy};
 ghost use Rattle.air_bus.specs.History.{phase};
 ghost use Rattle.site_node.specs.declared.kind.NodeFault.TheVariants as node_fault;
-ghost use Rattle.site_run.specs.Works.{IsIdle, Closes, Grew, Reached, IsCaused};
+ghost use Rattle.site_run.specs.Works.{IsIdle, Closes, Grew, Reached, IsCaused, HasMet};
 
 use air_bus::Input;
 use bus_seat::{Bus, Seat};
@@ -35,6 +35,7 @@ pub struct Worker<N: SiteNode> {
     ghost idle: { fault ≡ None → IsIdle (N.number node) (N.waits node) seat },
     ghost is_up: { fault ≡ None → up ≡ true → phase (N.number node) seat.mine ≡ Idle },
     ghost caused: { IsCaused N.faults N.log_faults node fault },
+    ghost met: { HasMet N.faults node seat.mine },
 }
 
 impl<N: SiteNode> Model for Worker<N> {
@@ -54,7 +55,7 @@ enum Closed {
 
 impl<N: SiteNode> Worker<N> {
     ghost use Rattle.std.specs.Prelude.{◌≡◌, [], None, Some, IsTrue};
-    ghost use Rattle.site_run.specs.Works.{LeadsOn, GrowsOn, Grew, IsCaused};
+    ghost use Rattle.site_run.specs.Works.{LeadsOn, GrowsOn, Grew, IsCaused, HasMet};
 
     /// A worker of a node that was just opened.
     pub fn new(node: N, number: u16, seat: Seat) -> Worker<N>
@@ -83,6 +84,7 @@ impl<N: SiteNode> Worker<N> {
         ensures seat { result.1 ≡ self.seat }
         ensures fault { result.2 ≡ self.fault }
         ensures caused { IsCaused N.faults N.log_faults result.0 result.2 }
+        ensures met { HasMet N.faults result.0 result.1.mine }
     {
         let Worker {
             node,
@@ -205,6 +207,7 @@ fn close<N: SiteNode, R: Wait, G: Gate>(
     ensures ended { result ≡ Ok Closed.Ended → phase (N.number node.new) seat.new.mine ≡ Idle }
     ensures met { result ≡ Ok Closed.Stopped → 1 ≤ N.faults node.new }
     ensures caused { IfErr result (λ fault. IsCaused N.faults N.log_faults node.new (Some fault)) }
+    ensures stops { HasMet N.faults node.old seat.old.mine → HasMet N.faults node.new seat.new.mine }
     ensures closes { IsTrue N.tells → (s t : N.State) → N.stands node.old s → N.leads s (Begin (N.number node.old) input.now) t → OnOk result (Closes N.leads N.phase_of N.stands N.number node.new t seat.old.mine seat.new.mine) }
     ensures open { IsTrue N.tells → (s t : N.State) → N.stands node.old s → N.leads s (Begin (N.number node.old) input.now) t → OnErr result (N.stands node.new t) }
     ensures grows { IsTrue N.tells → (s t : N.State) → N.stands node.old s → N.leads s (Begin (N.number node.old) input.now) t → (k : ℕ) × Reached N.grown k node.old node.new }

@@ -21,7 +21,7 @@ use Rattle.site_disks.specs.Written.{IsUnwritten}
 use Rattle.store_opening.specs.declared.refusal.Refusal.{Refusal}
 use Rattle.store_opening.specs.declared.refusal.Refusal.TheVariants.{Disks, Joiners, Table, Place, Limit, Read}
 use Rattle.store_opening.specs.Records.{KeptValues}
-use Rattle.store_opening.specs.Causes.{IfJudged, IsCause, PlacesFit, ArePassed, first_limit, topology_refusal, limit_refusal}
+use Rattle.store_opening.specs.Causes.{IfJudged, IsCause, PlacesFit, ArePassed, first_limit, told_tables, topology_refusal, limit_refusal}
 
 -- ---- a record that isn't written
 
@@ -51,7 +51,7 @@ unwritten_memory P disk Memory named is other from = from refl
 pub judged : (kept : KeptValues → Type 0) (cause : KeptValues → Refusal → Type 0) (k : KeptValues) (r : Refusal) → kept k → cause k r → IfJudged kept cause r
 judged kept cause k (Disks fault) is why = tt
 judged kept cause k (Joiners old new) is why = (k, is, why)
-judged kept cause k Table is why = (k, is, why)
+judged kept cause k (Table old new) is why = (k, is, why)
 judged kept cause k (Place told) is why = (k, is, why)
 judged kept cause k (Limit disk value) is why = (k, is, why)
 judged kept cause k Read is why = (k, is, why)
@@ -105,29 +105,33 @@ none_of (Some r) not = absurd (not r refl)
 
 -- another topology is told
 module _ (tells : Bool) (log : List ℕ) (end_ old new : ℕ) (asked : Topology) (k : KeptValues) where
-  of_misfit : (m : Misfit) (r : Refusal) → IsMisfit k.topology asked m → topology_refusal (Some m) ≡ Some r → IsCause tells log end_ old new asked k r
+  -- a kept topology's table is told
+  tables_told : (t : Topology) → k.topology ≡ Some t → told_tables k.topology asked ≡ Some (Table t.table asked.table)
+  tables_told t is = ap (λ (kept : Option Topology). told_tables kept asked) is
+
+  of_misfit : (m : Misfit) (r : Refusal) → IsMisfit k.topology asked m → topology_refusal k.topology asked (Some m) ≡ Some r → IsCause tells log end_ old new asked k r
   of_misfit (misfit.Joiners kept wanted) r is e = subst (IsCause tells log end_ old new asked k) (some_same (Joiners kept wanted) r e) is
-  of_misfit misfit.Table r is e = subst (IsCause tells log end_ old new asked k) (some_same Table r e) is
+  of_misfit misfit.Table r (t, is, joiners, other) e = subst (IsCause tells log end_ old new asked k) (some_same (Table t.table asked.table) r (sym (tables_told t is) ∙ e)) (t, is, joiners, refl, refl, other)
   of_misfit (misfit.Spent disk value) r is e = absurd is
 
-  no_topology : (told : Option Misfit) (r : Refusal) → IsLimit told → topology_refusal told ≡ Some r → ⊥
+  no_topology : (told : Option Misfit) (r : Refusal) → IsLimit told → topology_refusal k.topology asked told ≡ Some r → ⊥
   no_topology None r is e = none_some r e
   no_topology (Some (misfit.Joiners kept wanted)) r is e = is
   no_topology (Some misfit.Table) r is e = is
   no_topology (Some (misfit.Spent disk value)) r is e = none_some r e
 
-  pub topology_cause : (told : Option Misfit) (r : Refusal) → IsToldFirst asked k told → topology_refusal told ≡ Some r → IsCause tells log end_ old new asked k r
-  topology_cause told r (inl (m, is, misfit_is)) e = of_misfit m r misfit_is (sym (ap topology_refusal is) ∙ e)
+  pub topology_cause : (told : Option Misfit) (r : Refusal) → IsToldFirst asked k told → topology_refusal k.topology asked told ≡ Some r → IsCause tells log end_ old new asked k r
+  topology_cause told r (inl (m, is, misfit_is)) e = of_misfit m r misfit_is (sym (ap (topology_refusal k.topology asked) is) ∙ e)
   topology_cause told r (inr (fit, is)) e = absurd (no_topology told r (subst IsLimit (sym is) (limit_is k)) e)
 
   -- or none is, and then the limits are told
-  other_fits : (m : Misfit) → IsMisfit k.topology asked m → topology_refusal (Some m) ≡ None → ⊥
+  other_fits : (m : Misfit) → IsMisfit k.topology asked m → topology_refusal k.topology asked (Some m) ≡ None → ⊥
   other_fits (misfit.Joiners kept wanted) is e = none_some (Joiners kept wanted) (sym e)
-  other_fits misfit.Table is e = none_some Table (sym e)
+  other_fits misfit.Table (t, is, joiners, other) e = none_some (Table t.table asked.table) (sym e ∙ tables_told t is)
   other_fits (misfit.Spent disk value) is e = is
 
-  pub topology_fits : (told : Option Misfit) → IsToldFirst asked k told → topology_refusal told ≡ None → IsFit k.topology asked × (told ≡ first_limit k)
-  topology_fits told (inl (m, is, misfit_is)) e = absurd (other_fits m misfit_is (sym (ap topology_refusal is) ∙ e))
+  pub topology_fits : (told : Option Misfit) → IsToldFirst asked k told → topology_refusal k.topology asked told ≡ None → IsFit k.topology asked × (told ≡ first_limit k)
+  topology_fits told (inl (m, is, misfit_is)) e = absurd (other_fits m misfit_is (sym (ap (topology_refusal k.topology asked) is) ∙ e))
   topology_fits told (inr both) e = both
 
   limit_none : (told : Option Misfit) → IsLimit told → limit_refusal told ≡ None → told ≡ None
@@ -142,20 +146,20 @@ module _ (tells : Bool) (log : List ℕ) (end_ old new : ℕ) (asked : Topology)
   limit_cause (Some misfit.Table) r is fit places e = absurd (none_some r e)
   limit_cause (Some (misfit.Spent disk value)) r is fit places e = subst (IsCause tells log end_ old new asked k) (some_same (Limit disk value) r e) (fit, places, sym is)
 
-  pub some_limit_told : (told : Option Misfit) (result : Option Refusal) → result ≡ limit_refusal told → IsToldFirst asked k told → ((r : Refusal) → topology_refusal told ≡ Some r → ⊥) → PlacesFit tells log end_ k.offsets k.pending
+  pub some_limit_told : (told : Option Misfit) (result : Option Refusal) → result ≡ limit_refusal told → IsToldFirst asked k told → ((r : Refusal) → topology_refusal k.topology asked told ≡ Some r → ⊥) → PlacesFit tells log end_ k.offsets k.pending
       → IfSome result (IsCause tells log end_ old new asked k)
   some_limit_told told None is first not places = tt
-  some_limit_told told (Some r) is first not places = let x = topology_fits told first (none_of (topology_refusal told) not) in limit_cause told r x.1 x.0 places (sym is)
+  some_limit_told told (Some r) is first not places = let x = topology_fits told first (none_of (topology_refusal k.topology asked told) not) in limit_cause told r x.1 x.0 places (sym is)
 
-  pub none_told : (told : Option Misfit) (result : Option Refusal) → result ≡ limit_refusal told → IsToldFirst asked k told → ((r : Refusal) → topology_refusal told ≡ Some r → ⊥) → PlacesFit tells log end_ k.offsets k.pending
+  pub none_told : (told : Option Misfit) (result : Option Refusal) → result ≡ limit_refusal told → IsToldFirst asked k told → ((r : Refusal) → topology_refusal k.topology asked told ≡ Some r → ⊥) → PlacesFit tells log end_ k.offsets k.pending
       → IfNone result (ArePassed tells log end_ asked k)
   none_told told None is first not places =
-      let x = topology_fits told first (none_of (topology_refusal told) not) in
+      let x = topology_fits told first (none_of (topology_refusal k.topology asked told) not) in
       record { topology = x.0; places = places; limits = sym x.1 ∙ limit_none told (subst IsLimit (sym x.1) (limit_is k)) (sym is) }
   none_told told (Some r) is first not places = tt
 
-  pub fits : (told : Option Misfit) → IsToldFirst asked k told → ((r : Refusal) → topology_refusal told ≡ Some r → ⊥) → IsFit k.topology asked
-  fits told first not = (topology_fits told first (none_of (topology_refusal told) not)).0
+  pub fits : (told : Option Misfit) → IsToldFirst asked k told → ((r : Refusal) → topology_refusal k.topology asked told ≡ Some r → ⊥) → IsFit k.topology asked
+  fits told first not = (topology_fits told first (none_of (topology_refusal k.topology asked told) not)).0
 
 -- nothing is told
 pub none_here : (told : Option Refusal) (P : Type 0) → ((r : Refusal) → told ≡ Some r → ⊥) → IfNone told P → P

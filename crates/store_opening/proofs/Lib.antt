@@ -1,4 +1,6 @@
 mod Leaving
 mod Values
 mod Causes
+mod Images
 mod Whole
+mod Welcome

@@ -1,7 +1,5 @@
--- What was read of a sound store's disks is a whole store.
-use Rattle.std.proofs.Common.{◌≡◌, ℕ, zero, suc, ◌<◌, ◌≤◌, List, [], ◌∷◌, map, length, take, get_or, Bool, IsTrue, false, Some, refl, sym, ◌∙◌, subst, arith}
-use Rattle.std.proofs.lemmas.List.{get_or-take, length-take}
-use Rattle.list_words.specs.Lists.{Each}
+-- What was read of a store's disks was kept by images of them, and of a sound store's it is a whole store.
+use Rattle.std.proofs.Common.{◌≡◌, ℕ, ◌<◌, ◌≤◌, List, [], Bool, IsTrue, true, Option, Some, sym, ◌∙◌, subst, arith}
 use Rattle.outside.specs.declared.store.DiskName.{DiskName}
 use Rattle.outside.specs.declared.store.DiskName.TheVariants as name
 use Rattle.epoch_journal.specs.Epochs.{Keeps as KeepsEpoch}
@@ -14,57 +12,22 @@ use Rattle.dispatch_core.specs.Dispatcher.{DispatcherKept}
 use Rattle.joiner_core.specs.Joiner.{JoinerKept}
 use Rattle.registry_server.specs.Server.{ServerKept}
 use Rattle.replica_node.specs.Replica.{ReplicaKept}
-use Rattle.site_disks.specs.declared.opened.Opened.{Opened}
-use Rattle.site_disks.specs.Kinds.{joiners_kept, offset_names, retry_names, server_names, replica_names, epoch_names_a, epoch_names_b, output_names_a, output_names_b}
+use Rattle.site_disks.specs.Kinds.{joiners_kept}
 use Rattle.site_disks.specs.Misfits.{IsFit}
-use Rattle.site_disks.specs.Opening.{IsKeptIn, KeepsLeft}
-use Rattle.site_disks.specs.Votes.{KeepsNotes}
+use Rattle.site_disks.specs.Opening.{IsKeptIn}
 use Rattle.photon_defs.specs.Runs.{Disks}
-use Rattle.photon_defs.specs.Topology.{Store, WholeSound, topology_of}
+use Rattle.photon_defs.specs.Topology.{Topology as StoreTopology, WholeSound, topology_of}
 use Rattle.photon_model.specs.Stores.{TopologyComesFirst}
 use Rattle.store_laws.specs.Stores.{IsDisk, KeepsVotes, KeepsOf, IsSoundStore, AreLeft}
 use Rattle.store_laws.specs.Laws.{topology_read, ReadTopologyIsKept, ReadNotesAreKept, OpenedIsWhole}
-use Rattle.store_opening.specs.Records.{KeptValues, AreIn, AreKept, AreRecordsOf, value_at, of_site}
+use Rattle.store_opening.specs.Records.{KeptValues, AreKept, AreRecordsOf, value_at}
 use Rattle.store_opening.specs.Leaving.{IsAsked}
 use Rattle.store_opening.proofs.Leaving.{joiners_same}
+use Rattle.store_opening.proofs.Images.{offset_kept, pending_kept, server_kept, notes_kept, epoch_kept, pairs_kept}
 
-two : (P : ℕ → Type 0) → P 0 → P 1 → (s : ℕ) → s < 2 → P s
-two P a b zero lt = a
-two P a b (suc zero) lt = b
-two P a b (suc (suc s)) lt = absurd (omega (arith, lt))
-
-three : (P : ℕ → Type 0) → P 0 → P 1 → P 2 → (s : ℕ) → s < 3 → P s
-three P a b c zero lt = a
-three P a b c (suc zero) lt = b
-three P a b c (suc (suc zero)) lt = c
-three P a b c (suc (suc (suc s))) lt = absurd (omega (arith, lt))
-
-four : (P : ℕ → Type 0) → P 0 → P 1 → P 2 → P 3 → (s : ℕ) → s < 4 → P s
-four P a b c d zero lt = a
-four P a b c d (suc zero) lt = b
-four P a b c d (suc (suc zero)) lt = c
-four P a b c d (suc (suc (suc zero))) lt = d
-four P a b c d (suc (suc (suc (suc s)))) lt = absurd (omega (arith, lt))
-
--- the disk at a place keeps the value there
-at_value : {X : Type 0} (before : DiskName → List ℕ → Type 0) (keeps : X → List ℕ → Type 0) (values : List (Opened X)) (i : ℕ) (n : DiskName) (or : X)
-    → Each (KeepsLeft before keeps) values → i < length (map (λ o. o.name) values) → IsKeptIn (before (get_or (map (λ o. o.name) values) i n)) (keeps (value_at values i or))
-at_value before keeps [] i n or h lt = absurd (omega (arith, lt))
-at_value before keeps (v ∷ vs) zero n or h lt = h.0
-at_value before keeps (v ∷ vs) (suc i) n or h lt = at_value before keeps vs i n or h.1 (omega (arith, lt))
-
-at_name : {X : Type 0} (tells : Bool) (before : DiskName → List ℕ → Type 0) (keeps : X → List ℕ → Type 0) (names : List DiskName) (values : List (Opened X)) (i : ℕ) (n : DiskName) (or : X)
-    → IsTrue tells → AreIn tells before keeps names values → i < length names → IsKeptIn (before (get_or names i n)) (keeps (value_at values i or))
-at_name tells before keeps names values i n or sure are lt =
-    subst (λ (ns : List DiskName). i < length ns → IsKeptIn (before (get_or ns i n)) (keeps (value_at values i or))) are.named (at_value before keeps values i n or (are.kept sure)) lt
-
--- the same of the first names of four
-at_joiner : {X : Type 0} (tells : Bool) (before : DiskName → List ℕ → Type 0) (keeps : X → List ℕ → Type 0) (names : List DiskName) (named : ℕ → DiskName) (many : ℕ) (values : List (Opened X)) (or : X)
-    → IsTrue tells → AreIn tells before keeps (take many names) values → ((j : ℕ) → j < 4 → get_or names j name.Topology ≡ named j) → length names ≡ 4 → many ≤ 4
-    → (j : ℕ) → j < many → IsKeptIn (before (named j)) (keeps (value_at values j or))
-at_joiner tells before keeps names named many values or sure are is size few j lt =
-    subst (λ (n : DiskName). IsKeptIn (before n) (keeps (value_at values j or))) (get_or-take many names j name.Topology lt ∙ is j (omega (arith, lt, few)))
-    (at_name tells before keeps (take many names) values j name.Topology or sure are (omega (arith, lt, few, size, length-take many names)))
+-- the records were left with a topology, or with none
+abbrev IsLeftWith : Setting → (DiskName → List ℕ → Type 0) → Disks → Type 0
+IsLeftWith g image d = (t : Option StoreTopology) × AreLeft g image (record { topology = t; disks = d; is_used = true })
 
 module _ (tells : Bool) (sure : IsTrue tells) (image : DiskName → List ℕ → Type 0) (asked : Topology) (k : KeptValues) (kept : AreKept tells image asked.joiners k) (fit : IsFit k.topology asked) (few : asked.joiners ≤ 4)
     (g : Setting) (is : IsAsked asked g) (replicas : g.replicas ≡ 3) (d : Disks) (of : AreRecordsOf g k d) where
@@ -77,61 +40,33 @@ module _ (tells : Bool) (sure : IsTrue tells) (image : DiskName → List ℕ →
   many_few : many ≤ 4
   many_few = omega (arith, few, joiners_same k.topology asked fit)
 
-  abbrev Epochs : ℕ → ℕ → Type 0
-  Epochs j s = IsKeptIn (image (name.Epoch s j)) (KeepsEpoch (value_at (of_site s k.epochs_a k.epochs_b) j 0))
-
-  abbrev Outputs : ℕ → ℕ → Type 0
-  Outputs j s = IsKeptIn (image (name.Output s j)) (KeepsPairs (value_at (of_site s k.pairs_a k.pairs_b) j []))
-
   records_left : ReadNotesAreKept → (disk : DiskName) → IsDisk g disk → IsKeptIn (image disk) (KeepsOf g d disk)
   records_left read name.Topology here = let x = kept.topology sure in (x.0, x.1, tt)
   records_left read (name.Offset s) here =
-      subst (λ (x : DispatcherKept). IsKeptIn (image (name.Offset s)) (KeepsOffset x.offset)) (sym (of.dispatchers s here))
-      (two (λ s. IsKeptIn (image (name.Offset s)) (KeepsOffset (value_at k.offsets s 0)))
-      (at_name tells image (λ o. KeepsOffset o) offset_names k.offsets 0 name.Topology 0 sure kept.offsets (omega arith))
-      (at_name tells image (λ o. KeepsOffset o) offset_names k.offsets 1 name.Topology 0 sure kept.offsets (omega arith)) s here)
+      subst (λ (x : DispatcherKept). IsKeptIn (image (name.Offset s)) (KeepsOffset x.offset)) (sym (of.dispatchers s here)) (offset_kept tells sure image asked.joiners k kept s here)
   records_left read (name.Retry s) here =
-      subst (λ (x : DispatcherKept). IsKeptIn (image (name.Retry s)) (KeepsPending x.pending)) (sym (of.dispatchers s here))
-      (two (λ s. IsKeptIn (image (name.Retry s)) (KeepsPending (value_at k.pending s [])))
-      (at_name tells image (λ p. KeepsPending p) retry_names k.pending 0 name.Topology [] sure kept.pending (omega arith))
-      (at_name tells image (λ p. KeepsPending p) retry_names k.pending 1 name.Topology [] sure kept.pending (omega arith)) s here)
+      subst (λ (x : DispatcherKept). IsKeptIn (image (name.Retry s)) (KeepsPending x.pending)) (sym (of.dispatchers s here)) (pending_kept tells sure image asked.joiners k kept s here)
   records_left read (name.Server s) here =
-      subst (λ (x : ServerKept). IsKeptIn (image (name.Server s)) (KeepsEpoch x.epoch)) (sym (of.servers s here))
-      (two (λ s. IsKeptIn (image (name.Server s)) (KeepsEpoch (value_at k.servers s 0)))
-      (at_name tells image (λ e. KeepsEpoch e) server_names k.servers 0 name.Topology 0 sure kept.servers (omega arith))
-      (at_name tells image (λ e. KeepsEpoch e) server_names k.servers 1 name.Topology 0 sure kept.servers (omega arith)) s here)
+      subst (λ (x : ServerKept). IsKeptIn (image (name.Server s)) (KeepsEpoch x.epoch)) (sym (of.servers s here)) (server_kept tells sure image asked.joiners k kept s here)
   records_left read (name.Replica r) here =
       let below : r < 3 = omega (arith, here, replicas) in
-      let at : (i : ℕ) → i < 3 → IsKeptIn (image (get_or replica_names i name.Topology)) (KeepsNotes (value_at k.notes i [])) =
-      λ i lt. at_name tells image (λ n. KeepsNotes n) replica_names k.notes i name.Topology [] sure kept.notes (omega (arith, lt)) in
-      let x = three (λ r. IsKeptIn (image (name.Replica r)) (KeepsNotes (value_at k.notes r []))) (at 0 (omega arith)) (at 1 (omega arith)) (at 2 (omega arith)) r below in
+      let x = notes_kept tells sure image asked.joiners k kept r below in
       (x.0, x.1, subst (λ (v : ReplicaKept). KeepsVotes v x.0) (sym (of.replicas r below)) (read (value_at k.notes r []) x.0 x.2))
   records_left read (name.Epoch s j) here =
       let lt : j < many = omega (arith, here.1, many_are) in
-      subst (λ (x : JoinerKept). IsKeptIn (image (name.Epoch s j)) (KeepsEpoch x.epoch)) (sym (of.joiners s j here.0 here.1))
-      (two (Epochs j)
-      (at_joiner tells image (λ e. KeepsEpoch e) epoch_names_a (λ j. name.Epoch 0 j) many k.epochs_a 0 sure kept.epochs_a (four (λ j. get_or epoch_names_a j name.Topology ≡ name.Epoch 0 j) refl refl refl refl) refl many_few j lt)
-      (at_joiner tells image (λ e. KeepsEpoch e) epoch_names_b (λ j. name.Epoch 1 j) many k.epochs_b 0 sure kept.epochs_b (four (λ j. get_or epoch_names_b j name.Topology ≡ name.Epoch 1 j) refl refl refl refl) refl many_few j lt)
-      s here.0)
+      subst (λ (x : JoinerKept). IsKeptIn (image (name.Epoch s j)) (KeepsEpoch x.epoch)) (sym (of.joiners s j here.0 here.1)) (epoch_kept tells sure image asked.joiners k kept many_few s j here.0 lt)
   records_left read (name.Output s j) here =
       let lt : j < many = omega (arith, here.1, many_are) in
-      subst (λ (x : JoinerKept). IsKeptIn (image (name.Output s j)) (KeepsPairs x.pairs)) (sym (of.joiners s j here.0 here.1))
-      (two (Outputs j)
-      (at_joiner tells image (λ p. KeepsPairs p) output_names_a (λ j. name.Output 0 j) many k.pairs_a [] sure kept.pairs_a (four (λ j. get_or output_names_a j name.Topology ≡ name.Output 0 j) refl refl refl refl) refl many_few j lt)
-      (at_joiner tells image (λ p. KeepsPairs p) output_names_b (λ j. name.Output 1 j) many k.pairs_b [] sure kept.pairs_b (four (λ j. get_or output_names_b j name.Topology ≡ name.Output 1 j) refl refl refl refl) refl many_few j lt)
-      s here.0)
+      subst (λ (x : JoinerKept). IsKeptIn (image (name.Output s j)) (KeepsPairs x.pairs)) (sym (of.joiners s j here.0 here.1)) (pairs_kept tells sure image asked.joiners k kept many_few s j here.0 lt)
 
-  abbrev as_read : Store
-  as_read = record { topology = topology_read k.topology; disks = d; is_used = false }
+  pub left_with : ReadTopologyIsKept → ReadNotesAreKept → IsLeftWith g image d
+  left_with topology read =
+      let x = kept.topology sure in
+      (topology_read k.topology, record { topology = (x.0, x.1, topology k.topology x.0 x.2); records = records_left read })
 
-  are_left : ReadTopologyIsKept → ReadNotesAreKept → AreLeft g image as_read
-  are_left topology read = record {
-    topology = let x = kept.topology sure in (x.0, x.1, topology k.topology x.0 x.2);
-    records = records_left read;
-  }
-
-  pub whole_with : ReadTopologyIsKept → ReadNotesAreKept → OpenedIsWhole g image → TopologyComesFirst → IsSoundStore g image
-      → (used : Bool) × WholeSound g (record { topology = Some (topology_of g); disks = d; is_used = used })
-  whole_with topology read opened first sound =
-      let x = opened as_read sound (are_left topology read) in
-      (x.0, first g (record { topology = topology_read k.topology; disks = d; is_used = x.0 }) x.1)
+-- of a sound store they are a whole store
+pub whole_with : (g : Setting) (image : DiskName → List ℕ → Type 0) (d : Disks) → IsLeftWith g image d → OpenedIsWhole g image → TopologyComesFirst → IsSoundStore g image
+    → (used : Bool) × WholeSound g (record { topology = Some (topology_of g); disks = d; is_used = used })
+whole_with g image d left opened first sound =
+    let x = opened (record { topology = left.0; disks = d; is_used = true }) sound left.1 in
+    (x.0, first g (record { topology = left.0; disks = d; is_used = x.0 }) x.1)

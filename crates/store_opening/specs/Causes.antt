@@ -1,6 +1,8 @@
 -- Why a store isn't opened for a run.
-use Rattle.std.specs.Prelude.{◌≡◌, ℕ, List, [], ◌∷◌, Bool, IsTrue, Option, None, Some, ⊤}
+use Rattle.std.specs.Prelude.{◌≡◌, ◌≢◌, ℕ, List, [], ◌∷◌, Bool, IsTrue, Option, None, Some, option_map, ⊤}
+use Rattle.outside.specs.declared.store.DiskName.{DiskName}
 use Rattle.outside.specs.Faults.{Rose}
+use Rattle.time_shards.specs.declared.ShardRow.{ShardRow}
 use Rattle.log_records.specs.Lines.{end_from}
 use Rattle.topology_journal.specs.declared.topology.Topology.{Topology}
 use Rattle.turn_defs.specs.Setting.{Setting}
@@ -13,17 +15,22 @@ use Rattle.site_disks.specs.declared.opened.Opened.{Opened}
 use Rattle.site_disks.specs.Misfits.{IsFit, IsMisfit, first_spent, first_full, first_some}
 use Rattle.kept_places.specs.declared.misplaced.Misplaced.{Misplaced}
 use Rattle.kept_places.specs.Kept.{all_kept, IsTold}
+use Rattle.store_laws.specs.Stores.{IsDisk}
 use Rattle.store_opening.specs.declared.refusal.Refusal.{Refusal}
 use Rattle.store_opening.specs.declared.refusal.Refusal.TheVariants.{Disks, Joiners, Table, Place, Limit, Read}
 use Rattle.store_opening.specs.Records.{KeptValues, value_at}
 
 -- ---- what is told first, as a refusal
 
-abbrev pub topology_refusal : Option Misfit → Option Refusal
-topology_refusal None = None
-topology_refusal (Some (misfit.Joiners kept asked)) = Some (Joiners kept asked)
-topology_refusal (Some misfit.Table) = Some Table
-topology_refusal (Some (misfit.Spent disk value)) = None
+-- the table of the kept topology, if one is kept, and the asked one
+abbrev pub told_tables : Option Topology → Topology → Option Refusal
+told_tables kept asked = option_map (λ (t : Topology). Table t.table asked.table) kept
+
+abbrev pub topology_refusal : Option Topology → Topology → Option Misfit → Option Refusal
+topology_refusal kept asked None = None
+topology_refusal kept asked (Some (misfit.Joiners old new)) = Some (Joiners old new)
+topology_refusal kept asked (Some misfit.Table) = told_tables kept asked
+topology_refusal kept asked (Some (misfit.Spent disk value)) = None
 
 abbrev pub limit_refusal : Option Misfit → Option Refusal
 limit_refusal None = None
@@ -55,11 +62,15 @@ pub record ArePassed (tells : Bool) (log : List ℕ) (end_ : ℕ) (asked : Topol
   pub places : PlacesFit tells log end_ k.offsets k.pending
   pub limits : first_limit k ≡ None
 
+-- a topology is kept with the asked number of joiners and another table, and both tables are told
+abbrev pub IsOtherTable : Option Topology → Topology → (kept wanted : List ShardRow) → Type 0
+IsOtherTable topology asked kept wanted = (t : Topology) × (topology ≡ Some t) × (t.joiners ≡ asked.joiners) × (kept ≡ t.table) × (wanted ≡ asked.table) × (t.table ≢ asked.table)
+
 -- Why kept values aren't run: the first of the topology, the places and the limits that is wrong, or the log met a fault.
 abbrev pub IsCause : Bool → List ℕ → ℕ → (old new : ℕ) → Topology → KeptValues → Refusal → Type 0
 IsCause tells log end_ old new asked k (Disks fault) = ⊥
 IsCause tells log end_ old new asked k (Joiners kept wanted) = IsMisfit k.topology asked (misfit.Joiners kept wanted)
-IsCause tells log end_ old new asked k Table = IsMisfit k.topology asked misfit.Table
+IsCause tells log end_ old new asked k (Table kept wanted) = IsOtherTable k.topology asked kept wanted
 IsCause tells log end_ old new asked k (Place told) = IsFit k.topology asked × AreTold tells log end_ k.offsets k.pending (Some told)
 IsCause tells log end_ old new asked k (Limit disk value) = IsFit k.topology asked × PlacesFit tells log end_ k.offsets k.pending × (first_limit k ≡ Some (misfit.Spent disk value))
 IsCause tells log end_ old new asked k Read = IsFit k.topology asked × Rose old new
@@ -75,3 +86,19 @@ IfJudged kept cause refusal = (k : KeptValues) × kept k × cause k refusal
 abbrev pub IfDisks : (DisksFault → Type 0) → Refusal → Type 0
 IfDisks P (Disks fault) = P fault
 IfDisks P refusal = ⊤
+
+-- ---- of a sound store
+
+-- a stop leaves something of each disk of the setting, be it no bytes
+abbrev pub LeavesSomething : Setting → (DiskName → List ℕ → Type 0) → Type 0
+LeavesSomething g image = (disk : DiskName) → IsDisk g disk → (c : List ℕ) × image disk c
+
+-- The refusal isn't for what the store keeps: neither for a table nor for a place, nor for a number of joiners if a stop leaves
+-- something of each disk. Of the joiners that are asked for and not kept, no disk was opened.
+abbrev pub IsWelcome : Setting → (DiskName → List ℕ → Type 0) → Refusal → Type 0
+IsWelcome g image (Disks fault) = ⊤
+IsWelcome g image (Joiners kept wanted) = LeavesSomething g image → ⊥
+IsWelcome g image (Table kept wanted) = ⊥
+IsWelcome g image (Place told) = ⊥
+IsWelcome g image (Limit disk value) = ⊤
+IsWelcome g image Read = ⊤

@@ -1,20 +1,35 @@
 // Whether opened disks can be run as asked.
 ghost use Rattle.std.specs.Prelude.{◌≡◌, ◌≤◌, length, IsTrue, IfSome, IfNone};
 ghost use Rattle.store_opening.specs.Records.{keep_all};
-ghost use Rattle.store_opening.specs.Causes.{topology_refusal, limit_refusal, ArePassed, IsCause};
+ghost use Rattle.store_opening.specs.Causes.{told_tables, topology_refusal, limit_refusal, ArePassed, IsCause};
 
 use crate::Refusal;
 use kept_places::first_misplaced;
 use outside::{Disk, LogFile};
 use site_disks::{Misfit, SiteDisks, first_misfit};
-use topology_journal::Topology;
+use topology_journal::{Topology, TopologyJournal};
 
-fn of_topology(misfit: Option<Misfit>) -> Option<Refusal>
-    ensures { result ≡ topology_refusal misfit }
+// The table of the kept topology, if one is kept, and the asked one.
+fn both_tables<D: Disk>(topology: &TopologyJournal<D>, asked: &Topology) -> Option<Refusal>
+    ensures { result ≡ told_tables topology.now.kept asked.now }
+{
+    let kept = topology.kept()?;
+    Some(Refusal::Table {
+        kept: kept.table,
+        asked: asked.table,
+    })
+}
+
+fn of_topology<D: Disk>(
+    topology: &TopologyJournal<D>,
+    asked: &Topology,
+    misfit: Option<Misfit>,
+) -> Option<Refusal>
+    ensures { result ≡ topology_refusal topology.now.kept asked.now misfit }
 {
     match misfit {
         Some(Misfit::Joiners { kept, asked }) => Some(Refusal::Joiners { kept, asked }),
-        Some(Misfit::Table) => Some(Refusal::Table),
+        Some(Misfit::Table) => both_tables(topology, asked),
         Some(Misfit::Spent { .. }) => None,
         None => None,
     }
@@ -67,7 +82,7 @@ pub(crate) fn judge<D: Disk, L: LogFile>(
     ensures count { L.faults clicks.old ≤ L.faults clicks.new }
 {
     let misfit = first_misfit(disks, asked);
-    if let Some(refusal) = of_topology(misfit) {
+    if let Some(refusal) = of_topology(&disks.topology.journal, asked, misfit) {
         return Some(refusal);
     }
     match first_misplaced(

@@ -8,6 +8,3 @@ mod topology;
 
 pub use opening::open_store;
 pub use refusal::Refusal;
-
-#[cfg(test)]
-mod tests;

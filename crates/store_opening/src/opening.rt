@@ -1,5 +1,5 @@
 // A store opened for a run of both sites.
-ghost use Rattle.std.specs.Prelude.{◌≡◌, ◌≢◌, ◌≤◌, ◌+◌, Bool, length, take, Some, IsTrue, IfOk, IfErr, OnErr};
+ghost use Rattle.std.specs.Prelude.{◌≡◌, ◌≢◌, ◌≤◌, ◌+◌, Bool, length, take, Some, Option, IsTrue, true, IfOk, IfErr, OnErr};
 ghost use Rattle.outside.specs.declared.store.DiskName.{DiskName};
 ghost use Rattle.outside.specs.declared.store.DiskName.TheVariants as name;
 ghost use Rattle.gate_journal.specs.declared.journal.JournalState.TheVariants.{Ready};
@@ -8,20 +8,22 @@ ghost use Rattle.epoch_journal.specs.Epochs.{Keeps as KeepsEpoch};
 ghost use Rattle.offset_journal.specs.Offsets.{Keeps as KeepsOffset};
 ghost use Rattle.retry_log.specs.Pending.{Keeps as KeepsPending};
 ghost use Rattle.output_log.specs.Pairs.{Keeps as KeepsPairs};
+ghost use Rattle.log_records.specs.Lines.{end_from};
 ghost use Rattle.turn_defs.specs.Setting.{Setting};
+ghost use Rattle.dispatch_node.specs.Places.{IsLogOf};
 ghost use Rattle.site_disks.specs.Votes.{KeepsNotes, IsReadyVotes};
 ghost use Rattle.site_disks.specs.Kinds.{offset_names, retry_names, server_names, replica_names, epoch_names_a, epoch_names_b, output_names_a, output_names_b};
 ghost use Rattle.site_disks.specs.Lent.{lend, lend_all, StaysAs, GoesOn};
 ghost use Rattle.site_disks.specs.Refusals.{IsOfFirstDisk};
 ghost use Rattle.site_disks.specs.Opening.{AreOpened, RoseBy, WasDamaged};
 ghost use Rattle.photon_defs.specs.Runs.{Disks};
-ghost use Rattle.photon_defs.specs.Topology.{topology_of, WholeSound};
-ghost use Rattle.store_laws.specs.Stores.{IsSoundStore};
+ghost use Rattle.photon_defs.specs.Topology.{Topology as StoreTopology, topology_of, WholeSound};
+ghost use Rattle.store_laws.specs.Stores.{IsSoundStore, AreLeft};
 ghost use Rattle.site_disks.specs.declared.fault.DisksFault.TheVariants.{Store as StoreFailed};
 ghost use Rattle.store_opening.specs.declared.refusal.Refusal.TheVariants.{Disks as OfDisks};
 ghost use Rattle.store_opening.specs.Records.{keep_all, AreKept, AreRecordsOf};
 ghost use Rattle.store_opening.specs.Leaving.{behind, IsOut, StayOrAsked, IsAsked};
-ghost use Rattle.store_opening.specs.Causes.{ArePassed, IsCause, IfDisks, IfJudged};
+ghost use Rattle.store_opening.specs.Causes.{ArePassed, IsCause, IfDisks, IfJudged, IsWelcome};
 
 use crate::Refusal;
 use crate::judging::judge;
@@ -30,7 +32,7 @@ use outside::{LogFile, Store};
 use photon_model::whole_stores;
 use site_disks::{SiteDisks, give_back, open_disks};
 use std::alloc::Global;
-use store_laws::{opened, read, stays, topology_first};
+use store_laws::{fits, opened, read, stays, topology_first};
 use topology_journal::Topology;
 
 /// Opens all disks of a store for a run of both sites with this topology, over a click log whose last whole line ends at
@@ -79,6 +81,19 @@ pub fn open_store<S: Store, L: LogFile>(
       pairs_a = keep_all (λ o. o.pairs.items) d.outputs_a.items;
       pairs_b = keep_all (λ o. o.pairs.items) d.outputs_b.items;
     })) }
+    // Each record was kept by an image of its disk, and the topology or none by one of its own.
+    ensures were_left { IsTrue S.Disk.tells → IfOk result (λ d. (g : Setting) (records : Disks) → IsAsked asked g → g.replicas ≡ 3 → AreRecordsOf g (record {
+      topology = d.topology.journal.kept;
+      offsets = keep_all (λ o. o.offset) d.offsets.items;
+      pending = keep_all (λ r. r.pending.keys) d.retries.items;
+      servers = keep_all (λ e. e.epoch) d.servers.items;
+      notes = keep_all (λ v. v.notes.items) d.replicas.items;
+      epochs_a = keep_all (λ e. e.epoch) d.epochs_a.items;
+      epochs_b = keep_all (λ e. e.epoch) d.epochs_b.items;
+      pairs_a = keep_all (λ o. o.pairs.items) d.outputs_a.items;
+      pairs_b = keep_all (λ o. o.pairs.items) d.outputs_b.items;
+    }) records
+        → (t : Option StoreTopology) × AreLeft g (S.image store.old) (record { topology = t; disks = records; is_used = true })) }
     // Of a sound store, the records that they keep are a whole store, with the topology that was asked.
     ensures whole { IsTrue S.Disk.tells → IfOk result (λ d. (g : Setting) (records : Disks) → IsAsked asked g → g.replicas ≡ 3 → IsSoundStore g (S.image store.old) → AreRecordsOf g (record {
       topology = d.topology.journal.kept;
@@ -102,6 +117,9 @@ pub fn open_store<S: Store, L: LogFile>(
     ensures rose { IfErr result (IfDisks (RoseBy (S.faults store.old) (S.faults store.new))) }
     ensures damaged { IsTrue S.Disk.tells → IfErr result (IfDisks (WasDamaged S.Disk.seen S.Disk.image (S.image store.old))) }
     ensures cause { IfErr result (IfJudged (AreKept S.Disk.tells (S.image store.old) asked.joiners) (IsCause L.tells (L.bytes clicks.old) end (L.faults clicks.old) (L.faults clicks.new) asked)) }
+    // Of a sound store nothing that it keeps is refused.
+    ensures welcome { IsTrue S.Disk.tells → IsTrue L.tells → IfErr result (λ r. (g : Setting) → IsAsked asked g → g.replicas ≡ 3 → IsLogOf (L.bytes clicks.old) g → end ≡ end_from 0 g.clicks
+        → IsSoundStore g (S.image store.old) → IsWelcome g (S.image store.old) r) }
 
     ensures same { IsTrue L.tells → L.bytes clicks.new ≡ L.bytes clicks.old }
     ensures count { S.faults store.old ≤ S.faults store.new }
@@ -111,6 +129,7 @@ pub fn open_store<S: Store, L: LogFile>(
     topology_first::<S>();
     opened::<S>();
     read();
+    fits();
     whole_stores();
     let mut disks = match open_disks(alloc, store, asked.joiners) {
         Ok(disks) => disks,

@@ -1,7 +1,7 @@
 use Rattle.std.proofs.Common.{rules, ◌≡◌, ◌++◌, ◌∷◌, [], arith}
 use Rattle.site_disks.proofs.Lending.{length_more}
 use Rattle.lent_disks.specs.Lent.{all_lent}
-use Rattle.lent_disks.proofs.Handing.{given_last, none_left, others_stay}
+use Rattle.lent_disks.proofs.Handing.{given_last, none_left, others_stay, last_counts, none_out}
 use Rattle.lent_disks.proofs.giving.give_all.Goals as goal
 
 pub loop-one-preserved : goal.loop-one-preserved
@@ -20,6 +20,7 @@ loop-one-preserved g c =
       room = omega (arith, size, inv.room, c.give.ensures.places);
       places = omega (arith, size, inv.places, c.give.ensures.places);
       count = omega (arith, inv.count, c.give.ensures.count);
+      rose = last_counts g.S.Disk.Disk.faults c.args.disks.items items rest one (g.S.Store.faults c.args.store.now) (g.S.Store.faults c.loop-one.store) (g.S.Store.faults c.give.new.self) cut inv.count c.give.ensures.count inv.rose;
     }
 
 pub returns-clause-others : goal.returns-clause-others
@@ -28,3 +29,7 @@ returns-clause-others g c tells name lacks =
     let after = g.S.Store.image c.loop-one.store in
     others_stay left (g.S.Store.image c.args.store.now) after (all_lent c.args.disks.items) name lacks
     (λ bytes now. c.loop-one.invariant.left tells name bytes (none_left left after c.loop-one.disks.items name bytes (search rules) now))
+
+pub returns-clause-rose : goal.returns-clause-rose
+returns-clause-rose g c d among met =
+    none_out g.S.Disk.Disk.faults c.args.disks.items c.loop-one.disks.items (g.S.Store.faults c.args.store.now) (g.S.Store.faults c.loop-one.store) (search rules) c.loop-one.invariant.rose d among met

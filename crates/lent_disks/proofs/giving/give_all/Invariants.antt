@@ -3,6 +3,7 @@ use Rattle.std.specs.Prelude.{vec_len}
 use Rattle.outside.specs.declared.store.DiskName.{DiskName}
 use Rattle.site_disks.specs.Lent.{MayBeLeft}
 use Rattle.lent_disks.specs.Lent.{all_lent}
+use Rattle.lent_disks.proofs.Handing.{OutOrRose}
 use Rattle.lent_disks.proofs.giving.give_all.Given as goal
 
 abbrev pub invariant-loop-one : goal.invariant-loop-one
@@ -14,6 +15,7 @@ invariant-loop-one g l =
       room : length l.disks.items ≤ g.S.Store.places_left l.store;
       places : g.S.Store.places_left l.fn.store + length l.disks.items ≤ g.S.Store.places_left l.store + length l.fn.disks.items;
       count : g.S.Store.faults l.fn.store ≤ g.S.Store.faults l.store;
+      rose : OutOrRose g.S.Disk.Disk.faults l.fn.disks.items l.disks.items (g.S.Store.faults l.fn.store) (g.S.Store.faults l.store);
     }
 
 abbrev pub decreases-loop-one : goal.decreases-loop-one

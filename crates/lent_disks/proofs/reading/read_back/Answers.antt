@@ -1,7 +1,7 @@
 use Rattle.lent_disks.specs.ReadBack.{IsOnlyRead, IsToldBy}
 use Rattle.lent_disks.specs.declared.lent.LentDisk.{LentDisk}
 use Rattle.lent_disks.proofs.Walking.{first_next, first_all, next_all, next_one}
-use Rattle.lent_disks.proofs.Readings.{untouched, notes_more, pairs_more}
+use Rattle.lent_disks.proofs.Readings.{untouched, notes_more, pairs_more, notes_left_more, pairs_left_more}
 use Rattle.lent_disks.proofs.reading.read_back.Goals as goal
 
 pub returns-in-Err-clause-same : goal.returns-in-Err-clause-same
@@ -33,6 +33,8 @@ loop-i-preserved g c =
       walked = first_next R at.i disks at.disks c.index-disks-i.result c.read_one.new.lent at.invariant.walked c.loop-i-test.true c.read_one.ensures.same;
       notes = notes_more d.tells d.seen R disks at.disks at.i c.index-disks-i.result read at.journals.notes.items _ at.invariant.walked c.loop-i-test.true c.in-Ok.ensures.read at.invariant.notes c.in-Ok-put.ensures.notes;
       pairs = pairs_more d.tells d.seen R disks at.disks at.i c.index-disks-i.result read at.journals.pairs.items _ at.invariant.walked c.loop-i-test.true c.in-Ok.ensures.read at.invariant.pairs c.in-Ok-put.ensures.pairs;
+      notes_left = notes_left_more d.tells d.seen d.image R disks at.disks at.i c.index-disks-i.result read at.invariant.walked c.loop-i-test.true c.in-Ok.ensures.read c.in-Ok.ensures.left at.invariant.notes_left;
+      pairs_left = pairs_left_more d.tells d.seen d.image R disks at.disks at.i c.index-disks-i.result read at.invariant.walked c.loop-i-test.true c.in-Ok.ensures.read c.in-Ok.ensures.left at.invariant.pairs_left;
     }
 
 pub returns-clause-same : goal.returns-clause-same

@@ -1,7 +1,7 @@
 use Rattle.std.proofs.Common.{take}
 use Rattle.output_log.specs.Pairs.{Keeps}
 use Rattle.site_disks.specs.Votes.{KeepsNotes}
-use Rattle.lent_disks.specs.ReadBack.{replicas, outputs, AreReadFrom, IsOnlyRead}
+use Rattle.lent_disks.specs.ReadBack.{replicas, outputs, AreReadFrom, AreAmongImages, IsOnlyRead}
 use Rattle.lent_disks.proofs.Walking.{FirstWith}
 use Rattle.lent_disks.proofs.reading.read_back.Given as goal
 
@@ -12,4 +12,6 @@ invariant-loop-i g l =
       walked : FirstWith (IsOnlyRead d.tells d.seen d.image d.since d.faults) l.i l.fn.disks l.disks;
       notes : AreReadFrom d.tells d.seen KeepsNotes (replicas (take l.i l.fn.disks)) l.journals.notes.items;
       pairs : AreReadFrom d.tells d.seen Keeps (outputs (take l.i l.fn.disks)) l.journals.pairs.items;
+      notes_left : AreAmongImages d.tells d.seen d.image (replicas (take l.i l.fn.disks));
+      pairs_left : AreAmongImages d.tells d.seen d.image (outputs (take l.i l.fn.disks));
     }

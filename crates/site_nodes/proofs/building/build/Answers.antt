@@ -5,7 +5,7 @@ use Rattle.site_node.specs.Rosters.{IsOf}
 use Rattle.registry_server.specs.Cores.{IsNew}
 use Rattle.site_disks.specs.Lent.{lend, lend_all}
 use Rattle.site_nodes.specs.Placed.{AllAt}
-use Rattle.site_nodes.proofs.Lists.{all_none, none_held, none_held_logs, ok_both, all_given, logs_given, taken_length, mapped_count}
+use Rattle.site_nodes.proofs.Lists.{all_none, none_held, none_held_logs, ok_both, all_given, all_made, logs_given, taken_length, mapped_count}
 use Rattle.site_nodes.proofs.Keeping.{kept_a, kept_b}
 use Rattle.site_nodes.proofs.Naming.{named_of}
 use Rattle.site_nodes.proofs.Placing.{is_down_over, joiners_of}
@@ -82,6 +82,22 @@ returns-clause-places g c tells gg new clicks qa qb places =
     (c.add_joiners.ensures.places tells gg _ of3 qa (kept_a _ _ _ _ _ n3)
     (c.add_replicas.ensures.places tells gg _ of2 (λ k. refl)
     (c.add_servers.ensures.places tells gg _ of1 new1 (λ s. refl) (c.add_dispatchers.ensures.places tells gg _ of0 new.replicas clicks places (λ s. refl) (all_none _ _ c.new-made.ensures.none.0))))))))
+
+pub returns-clause-held : goal.returns-clause-held
+returns-clause-held g c =
+    let disks = c.args.disks in
+    let offsets = lend_all {D = g.row.D.Denot} (λ o. o.journal.disk) disks.offsets.items in
+    let retries = lend_all {D = g.row.D.Denot} (λ r. r.journal.disk) disks.retries.items in
+    let servers = lend_all {D = g.row.D.Denot} (λ e. e.journal.disk) disks.servers.items in
+    let replicas = lend_all {D = g.row.D.Denot} (λ v. v.journal.disk) disks.replicas.items in
+    let epochs_a = lend_all {D = g.row.D.Denot} (λ e. e.journal.disk) disks.epochs_a.items in
+    let epochs_b = lend_all {D = g.row.D.Denot} (λ e. e.journal.disk) disks.epochs_b.items in
+    let outputs_a = lend_all {D = g.row.D.Denot} (λ o. o.journal.disk) disks.outputs_a.items in
+    let outputs_b = lend_all {D = g.row.D.Denot} (λ o. o.journal.disk) disks.outputs_b.items in
+    let j5 = joiners_of _ _ _ (c.add_joiners-2.ensures.roster ∙ c.add_joiners.ensures.roster ∙ c.add_replicas.ensures.roster ∙ c.add_servers.ensures.roster ∙ c.add_dispatchers.ensures.roster) c.new-made.ensures.roster.1 in
+    IfOk-weaker c.end.result _ _
+    (λ b is. rw (← j5) (all_made offsets retries servers replicas epochs_a epochs_b outputs_a outputs_b _ _ _ _ _ _ (none_held _ _ _ _ _ _ c.new-made.ensures.none.1 c.new-made.ensures.none.0 c.add_dispatchers.ensures.disks) c.add_servers.ensures.disks c.add_replicas.ensures.disks c.add_joiners.ensures.disks c.add_joiners-2.ensures.disks is))
+    c.end.ensures.whole
 
 pub returns-clause-disks : goal.returns-clause-disks
 returns-clause-disks g c =

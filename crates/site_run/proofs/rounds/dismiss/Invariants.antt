@@ -1,6 +1,6 @@
 use Rattle.std.proofs.Common.{◌≡◌, ◌+◌, ◌<◌, ◌≤◌, ◌++◌, map, length, vec_len}
-use Rattle.std.specs.Prelude.{vec_capacity}
-use Rattle.site_run.specs.Works.{WorkerView}
+use Rattle.std.specs.Prelude.{All, vec_capacity}
+use Rattle.site_run.specs.Works.{WorkerView, HasMet}
 use Rattle.site_run.specs.Rounds.{AreCaused}
 use Rattle.site_run.proofs.rounds.dismiss.Given as goal
 
@@ -13,3 +13,4 @@ invariant-loop-worker g l =
     × (vec_len l.seats ≡ length l.yielded)
     × (l.yielded ++ l.worker-iterator.rest.items ≡ l.fn.workers.items)
     × AreCaused g.N.SiteNode.faults g.N.SiteNode.log_faults l.nodes.items
+    × All (λ (w : WorkerView g.row.N.Denot). HasMet g.N.SiteNode.faults w.node w.seat.mine) l.yielded

@@ -3,7 +3,7 @@ use Rattle.std.specs.Prelude.{All}
 use Rattle.std.proofs.lemmas.List.{length-map}
 use Rattle.bus_seat.specs.Seats.{Sight, IsIn}
 use Rattle.site_run.specs.Works.{WorkerView}
-use Rattle.site_run.proofs.Going.{front_of, front_count, front_at, hired_buses, all_seats, all_walked, all_grown, has_fault, all_rested}
+use Rattle.site_run.proofs.Going.{front_of, front_count, front_at, hired_buses, all_seats, all_walked, all_grown, has_fault, all_rested, all_met}
 use Rattle.site_run.proofs.rounds.run_on.Goals as goal
 
 pub hire-workers-requires-clause-count : goal.hire-workers-requires-clause-count
@@ -83,4 +83,16 @@ returns-clause-rest g c rests i b l =
     all_rested m.tells m.leads m.phase_of m.stands m.number m.grown c.args.bus c.args.nodes.items c.pop.new.self.items ws us c.hire-workers.ensures.nodes c.hire-workers.ensures.seats front.0 c.rounds_of-workers.ensures.went
     last c.push_reserved.new.self.items c.close-air.result.0.history (c.push_reserved.ensures.items ∙ ap (λ l. l ++ last ∷ []) c.dismiss.ensures.seats.0) c.close-air.ensures.history
     c.hire-workers.ensures.faults c.dismiss.new.nodes.items c.dismiss.ensures.nodes m.at_rest_as (c.rounds_of-workers.ensures.rest rests) i b
+    (omega (arith, l, ap length c.hire-workers.ensures.nodes, length-map ws (λ (w : WorkerView g.row.N.Denot). w.node)))
+
+pub returns-clause-met : goal.returns-clause-met
+returns-clause-met g c i b l =
+    let m = g.N.SiteNode in
+    let front = front_of c.args.bus c.args.seats.items c.pop.new.self.items c.in-Some.last c.requires.seats c.in-Some.ensures.items in
+    let ws = c.hire-workers.result.items in
+    let us = c.rounds_of-workers.result.0.items in
+    let last = c.rounds_of-workers.new.last in
+    all_met m.tells m.leads m.phase_of m.stands m.number m.grown c.args.bus c.args.nodes.items c.pop.new.self.items ws us c.hire-workers.ensures.nodes c.hire-workers.ensures.seats front.0 c.rounds_of-workers.ensures.went
+    last c.push_reserved.new.self.items c.close-air.result.0.history (c.push_reserved.ensures.items ∙ ap (λ l. l ++ last ∷ []) c.dismiss.ensures.seats.0) c.close-air.ensures.history
+    c.hire-workers.ensures.faults c.dismiss.new.nodes.items c.dismiss.ensures.nodes m.faults c.dismiss.ensures.met i b
     (omega (arith, l, ap length c.hire-workers.ensures.nodes, length-map ws (λ (w : WorkerView g.row.N.Denot). w.node)))

@@ -44,7 +44,7 @@ returns-in-Ok-None-clause-passed g c =
     let first : IsToldFirst c.args.asked.now k told =
     told_same d.topology.journal.kept c.args.asked.now told _ _ _ _ _ _ _ _ (spent_same (λ e. e.epoch) d.servers.items) (full_same (λ v. v.notes.items) d.replicas.items) (spent_same (λ e. e.epoch) d.epochs_a.items) (spent_same (λ e. e.epoch) d.epochs_b.items)
     c.first_misfit-misfit.ensures in
-    let not : (r : Refusal) → topology_refusal told ≡ Some r → ⊥ = λ r e. c.in_default.not-Some r (c.of_topology.ensures ∙ e) in
+    let not : (r : Refusal) → topology_refusal d.topology.journal.kept c.args.asked.now told ≡ Some r → ⊥ = λ r e. c.in_default.not-Some r (c.of_topology.ensures ∙ e) in
     none_told g.L.LogFile.tells (g.L.LogFile.bytes c.args.clicks.now) c.args.end 0 0 c.args.asked.now k told _ c.of_limit.ensures first not (places_fit g.L.LogFile.tells (g.L.LogFile.bytes c.args.clicks.now) c.args.end c.offset.result c.offset-2.result c.as_slice.result.now c.as_slice-2.result.now k.offsets k.pending
     (value_here (λ o. o.offset) d.offsets.items 0 c.index.result.now 0 (omega (arith, c.requires.offsets)) c.index.ensures ∙ sym c.offset.ensures)
     (value_here (λ o. o.offset) d.offsets.items 1 c.index-2.result.now 0 (omega (arith, c.requires.offsets)) c.index-2.ensures ∙ sym c.offset-2.ensures)
@@ -70,7 +70,7 @@ returns-in-Ok-None-clause-cause g c =
     let first : IsToldFirst c.args.asked.now k told =
     told_same d.topology.journal.kept c.args.asked.now told _ _ _ _ _ _ _ _ (spent_same (λ e. e.epoch) d.servers.items) (full_same (λ v. v.notes.items) d.replicas.items) (spent_same (λ e. e.epoch) d.epochs_a.items) (spent_same (λ e. e.epoch) d.epochs_b.items)
     c.first_misfit-misfit.ensures in
-    let not : (r : Refusal) → topology_refusal told ≡ Some r → ⊥ = λ r e. c.in_default.not-Some r (c.of_topology.ensures ∙ e) in
+    let not : (r : Refusal) → topology_refusal d.topology.journal.kept c.args.asked.now told ≡ Some r → ⊥ = λ r e. c.in_default.not-Some r (c.of_topology.ensures ∙ e) in
     some_limit_told g.L.LogFile.tells (g.L.LogFile.bytes c.args.clicks.now) c.args.end (g.L.LogFile.faults c.args.clicks.now) (g.L.LogFile.faults c.first_misplaced.new.log) c.args.asked.now k told _ c.of_limit.ensures first not (places_fit g.L.LogFile.tells (g.L.LogFile.bytes c.args.clicks.now) c.args.end c.offset.result c.offset-2.result c.as_slice.result.now c.as_slice-2.result.now k.offsets k.pending
     (value_here (λ o. o.offset) d.offsets.items 0 c.index.result.now 0 (omega (arith, c.requires.offsets)) c.index.ensures ∙ sym c.offset.ensures)
     (value_here (λ o. o.offset) d.offsets.items 1 c.index-2.result.now 0 (omega (arith, c.requires.offsets)) c.index-2.ensures ∙ sym c.offset-2.ensures)
@@ -96,7 +96,7 @@ returns-in-Ok-Some-clause-cause g c =
     let first : IsToldFirst c.args.asked.now k told =
     told_same d.topology.journal.kept c.args.asked.now told _ _ _ _ _ _ _ _ (spent_same (λ e. e.epoch) d.servers.items) (full_same (λ v. v.notes.items) d.replicas.items) (spent_same (λ e. e.epoch) d.epochs_a.items) (spent_same (λ e. e.epoch) d.epochs_b.items)
     c.first_misfit-misfit.ensures in
-    let not : (r : Refusal) → topology_refusal told ≡ Some r → ⊥ = λ r e. c.in_default.not-Some r (c.of_topology.ensures ∙ e) in (
+    let not : (r : Refusal) → topology_refusal d.topology.journal.kept c.args.asked.now told ≡ Some r → ⊥ = λ r e. c.in_default.not-Some r (c.of_topology.ensures ∙ e) in (
       fits g.L.LogFile.tells (g.L.LogFile.bytes c.args.clicks.now) c.args.end (g.L.LogFile.faults c.args.clicks.now) (g.L.LogFile.faults c.first_misplaced.new.log) c.args.asked.now k told first not,
       subst (AreTold g.L.LogFile.tells (g.L.LogFile.bytes c.args.clicks.now) c.args.end k.offsets k.pending) c.in-Ok-Some.field-0-is
           (are_told g.L.LogFile.tells (g.L.LogFile.bytes c.args.clicks.now) c.args.end c.offset.result c.offset-2.result c.as_slice.result.now c.as_slice-2.result.now k.offsets k.pending
@@ -125,5 +125,5 @@ returns-in-Err-clause-cause g c =
     let first : IsToldFirst c.args.asked.now k told =
     told_same d.topology.journal.kept c.args.asked.now told _ _ _ _ _ _ _ _ (spent_same (λ e. e.epoch) d.servers.items) (full_same (λ v. v.notes.items) d.replicas.items) (spent_same (λ e. e.epoch) d.epochs_a.items) (spent_same (λ e. e.epoch) d.epochs_b.items)
     c.first_misfit-misfit.ensures in
-    let not : (r : Refusal) → topology_refusal told ≡ Some r → ⊥ = λ r e. c.in_default.not-Some r (c.of_topology.ensures ∙ e) in
+    let not : (r : Refusal) → topology_refusal d.topology.journal.kept c.args.asked.now told ≡ Some r → ⊥ = λ r e. c.in_default.not-Some r (c.of_topology.ensures ∙ e) in
     (fits g.L.LogFile.tells (g.L.LogFile.bytes c.args.clicks.now) c.args.end (g.L.LogFile.faults c.args.clicks.now) (g.L.LogFile.faults c.first_misplaced.new.log) c.args.asked.now k told first not, c.in-Err.ensures.count.rose refl)

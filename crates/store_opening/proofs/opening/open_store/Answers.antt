@@ -11,7 +11,8 @@ use Rattle.store_opening.specs.Causes.{IsCause}
 use Rattle.store_opening.proofs.Causes.{judged, none_here, unwritten_rose, unwritten_damaged, unwritten_first, unwritten_memory}
 use Rattle.store_opening.proofs.Leaving.{back_stays, back_grown, back_written, out_for, all_stay, all_grow, topology_written}
 use Rattle.store_opening.proofs.Values.{values_in}
-use Rattle.store_opening.proofs.Whole.{whole_with}
+use Rattle.store_opening.proofs.Whole.{left_with, whole_with}
+use Rattle.store_opening.proofs.Welcome.{welcome}
 use Rattle.store_opening.proofs.opening.open_store.Goals as goal
 
 pub returns-in-Err-clause-sound : goal.returns-in-Err-clause-sound
@@ -78,6 +79,11 @@ returns-in-Some-clause-cause g c =
     } in
     judged (AreKept tells before c.args.asked.joiners) (IsCause g.L.LogFile.tells (g.L.LogFile.bytes c.args.clicks.now) c.args.end (g.L.LogFile.faults c.args.clicks.now) (g.L.LogFile.faults c.judge.new.clicks) c.args.asked) k c.in-Some.refusal kept c.in-Some.ensures.cause
 
+pub returns-in-Some-clause-welcome : goal.returns-in-Some-clause-welcome
+returns-in-Some-clause-welcome g c sure log_sure = λ s asked replicas log_is end_is sound.
+    welcome g.S.Disk.Disk.tells sure g.L.LogFile.tells log_sure (g.S.Store.image c.args.store.now) c.args.asked c.requires.joiners.few (g.L.LogFile.bytes c.args.clicks.now) c.args.end (g.L.LogFile.faults c.args.clicks.now) (g.L.LogFile.faults c.judge.new.clicks)
+    c.read.ensures.topology c.fits.ensures.only s asked replicas log_is end_is sound c.in-Some.refusal (returns-in-Some-clause-cause g c)
+
 pub returns-in-Ok-keep_topology-clause-lent : goal.returns-in-Ok-keep_topology-clause-lent
 returns-in-Ok-keep_topology-clause-lent g c tells =
     let image = g.S.Store.image in
@@ -86,8 +92,8 @@ returns-in-Ok-keep_topology-clause-lent g c tells =
     let new = lend {D = g.row.S-Disk.Denot} (λ t. t.journal.disk) c.keep_topology.new.topology in
     out_for left (image c.args.store.now) (image c.open_disks.new.store) old new _ (c.in-Ok.ensures.lent tells) c.in-Ok-keep_topology.ensures.name c.args.asked (c.in-Ok-keep_topology.ensures.durable tells) (c.in-Ok-keep_topology.ensures.grows tells)
 
-pub returns-in-Ok-keep_topology-clause-whole : goal.returns-in-Ok-keep_topology-clause-whole
-returns-in-Ok-keep_topology-clause-whole g c sure s records asked replicas sound of =
+pub returns-in-Ok-keep_topology-clause-were_left : goal.returns-in-Ok-keep_topology-clause-were_left
+returns-in-Ok-keep_topology-clause-were_left g c sure s records asked replicas of =
     let d = c.in-Ok.disks in
     let k : KeptValues = record {
       topology = d.topology.journal.kept;
@@ -113,7 +119,11 @@ returns-in-Ok-keep_topology-clause-whole g c sure s records asked replicas sound
       pairs_a = values_in tells before _ (λ o. o.pairs.items) (λ p. KeepsPairs p) _ d.outputs_a.items c.in-Ok.ensures.outputs_a;
       pairs_b = values_in tells before _ (λ o. o.pairs.items) (λ p. KeepsPairs p) _ d.outputs_b.items c.in-Ok.ensures.outputs_b;
     } in
-    whole_with tells sure before c.args.asked k kept (none_here c.judge.result _ c.in_default.not-Some c.judge.ensures.passed).topology c.requires.joiners.few s asked replicas records (record { dispatchers = of.dispatchers; servers = of.servers; replicas = of.replicas; joiners = of.joiners }) c.read.ensures.topology c.read.ensures.notes (c.opened.ensures s c.args.store.now) c.whole_stores.ensures.topology sound
+    left_with tells sure before c.args.asked k kept (none_here c.judge.result _ c.in_default.not-Some c.judge.ensures.passed).topology c.requires.joiners.few s asked replicas records (record { dispatchers = of.dispatchers; servers = of.servers; replicas = of.replicas; joiners = of.joiners }) c.read.ensures.topology c.read.ensures.notes
+
+pub returns-in-Ok-keep_topology-clause-whole : goal.returns-in-Ok-keep_topology-clause-whole
+returns-in-Ok-keep_topology-clause-whole g c sure s records asked replicas sound of =
+    whole_with s (g.S.Store.image c.args.store.now) records (returns-in-Ok-keep_topology-clause-were_left g c sure s records asked replicas of) (c.opened.ensures s c.args.store.now) c.whole_stores.ensures.topology sound
 
 pub returns-in-Err-keep_topology-clause-left : goal.returns-in-Err-keep_topology-clause-left
 returns-in-Err-keep_topology-clause-left g c tells =
