@@ -1,0 +1,11 @@
+pub mod Asked
+pub mod Logs
+pub mod Causes
+pub mod Settled
+pub mod Out
+pub mod Held
+pub mod Laws
+pub mod Resting
+pub mod Left
+pub mod Joined
+pub mod Meaning

@@ -1,0 +1,37 @@
+-- What a run that has come to rest means for the report, by what a stop might have left of the disks before it and may leave of
+-- them afterwards.
+use Rattle.std.specs.Prelude.{◌≡◌, List, map}
+use Rattle.time_shards.specs.Shards.{IsTable}
+use Rattle.log_records.specs.declared.records.ClickRec.{ClickRec as Click}
+use Rattle.log_records.specs.Lines.{ClickLine}
+use Rattle.log_defs.specs.Report.{distinct}
+use Rattle.log_defs.specs.declared.ReportLine.{ReportLine}
+use Rattle.air_bus.specs.declared.entry.Entry.{Entry as BusEntry}
+use Rattle.paxos_defs.specs.Agreement.{JournalsAgree}
+use Rattle.turn_defs.specs.Setting.{Setting, Checked}
+use Rattle.verify_pass.specs.declared.journals.Journals.{Journals}
+use Rattle.verify_pass.specs.Classes.{line_of, notes_of}
+use Rattle.store_laws.specs.Stores.{Images, IsSoundStore}
+use Rattle.store_laws.specs.Laws.{LeavesNothing}
+use Rattle.store_run.specs.Left.{RestLeft}
+use Rattle.store_run.specs.Joined.{Joins, JoinsAfresh}
+
+-- what verification makes of the journals: a line for each click id
+abbrev pub lines_by : Setting → Journals → List ReportLine
+lines_by g js = map (λ (c : Click). line_of js g.table c.id) (distinct (map (λ (l : ClickLine). l.click) g.clicks))
+
+-- these are the lines, where the journals agree
+abbrev pub AreLinesBy : Setting → Journals → List ReportLine → Type 0
+AreLinesBy g js lines = JournalsAgree (notes_of js) → lines ≡ lines_by g js
+
+-- after a run from a sound store they are the report of the records that the disks keep
+abbrev pub RestJoins : Setting → (before after : Images) → (faulted : Type 0) → Type 0
+RestJoins g before after faulted =
+    (h : List BusEntry) (js : Journals) (lines : List ReportLine) →
+    Checked g → IsSoundStore g before → RestLeft g before after h faulted js → AreLinesBy g js lines → Joins g before after faulted lines
+
+-- and after a run from an empty store, that of the two logs
+abbrev pub RestJoinsAfresh : Setting → (before after : Images) → (faulted : Type 0) → Type 0
+RestJoinsAfresh g before after faulted =
+    (h : List BusEntry) (js : Journals) (lines : List ReportLine) →
+    Checked g → IsTable g.table → LeavesNothing g before → RestLeft g before after h faulted js → AreLinesBy g js lines → JoinsAfresh g faulted lines
