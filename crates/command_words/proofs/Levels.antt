@@ -24,10 +24,10 @@ pub ready : (c : Command) → IsReady (sub c) (options_of c)
 ready join =
     record {
       rules = refl;
-      known = (record { long = refl; not_end = refl; by_long = refl; by_id = refl; fits = tt }, (record { long = refl; not_end = refl; by_long = refl; by_id = refl; fits = tt }, (record { long = refl; not_end = refl; by_long = refl; by_id = refl; fits = tt }, (record { long = refl; not_end = refl; by_long = refl; by_id = refl; fits = omega arith }, tt))));
+      known = (record { long = refl; not_end = refl; by_long = refl; by_id = refl; fits = tt }, (record { long = refl; not_end = refl; by_long = refl; by_id = refl; fits = tt }, (record { long = refl; not_end = refl; by_long = refl; by_id = refl; fits = tt }, (record { long = refl; not_end = refl; by_long = refl; by_id = refl; fits = omega arith }, (record { long = refl; not_end = refl; by_long = refl; by_id = refl; fits = omega arith }, (record { long = refl; not_end = refl; by_long = refl; by_id = refl; fits = tt }, (record { long = refl; not_end = refl; by_long = refl; by_id = refl; fits = omega arith }, tt)))))));
       free = refl;
       defaults = refl;
-      none = (refl, (refl, (refl, (refl, (refl, tt)))));
+      none = (refl, (refl, (refl, (refl, (refl, (refl, (refl, (refl, tt))))))));
       once = refl;
       no_help = refl;
       no_sub = refl;

@@ -24,7 +24,7 @@ as_readable low high t fits n =
     let below : digits_value 10 t < 2 ^ 64 = omega arith in
     rw own ((n.0, n.2), below, n.3, n.4)
 
-module _ {E : Type 0} (G : Text → Result ℕ E → Type 0) (only : (t : Text) (x : Result ℕ E) → G t x → ParsesUnsigned 64 10 t x) where
+module _ {E : Type 0} (bits : ℕ) (G : Text → Result ℕ E → Type 0) (only : (t : Text) (x : Result ℕ E) → G t x → ParsesUnsigned bits 10 t x) where
   read_some : (o : Option Text) (or n : ℕ) (r : Result (Option ℕ) E) → r ≡ Ok (Some n) → (o ≡ None → r ≡ Ok None) → ((t : Text) → o ≡ Some t → TriesOne G t r) → n ≡ number_or or o
   read_some None or n r is none some = let bad = none refl in cc
   read_some (Some t) or n r is none some = (only t (Ok n) (subst (TriesOne G t) is (some t refl))).1
@@ -33,9 +33,12 @@ module _ {E : Type 0} (G : Text → Result ℕ E → Type 0) (only : (t : Text) 
   read_none None or r is some = refl
   read_none (Some t) or r is some = absurd (subst (TriesOne G t) is (some t refl))
 
-  read_err : (o : Option Text) (e : E) (r : Result (Option ℕ) E) → r ≡ Err e → (o ≡ None → r ≡ Ok None) → ((t : Text) → o ≡ Some t → TriesOne G t r) → IfSome o (IsReadable 0 18446744073709551615) → false ≡ true
-  read_err None e r is none some h = let bad = none refl in cc
-  read_err (Some t) e r is none some h = absurd (only t (Err e) (subst (TriesOne G t) is (some t refl)) (h.0, h.1))
+  read_err : (o : Option Text) (low high : ℕ) (e : E) (r : Result (Option ℕ) E) → high < 2 ^ bits → r ≡ Err e → (o ≡ None → r ≡ Ok None) → ((t : Text) → o ≡ Some t → TriesOne G t r)
+      → IfSome o (IsReadable low high) → false ≡ true
+  read_err None low high e r fits is none some h = let bad = none refl in cc
+  read_err (Some t) low high e r fits is none some h =
+      let below : digits_value 10 (without_leading_plus t) < 2 ^ bits = omega (arith, h.3, fits) in
+      absurd (only t (Err e) (subst (TriesOne G t) is (some t refl)) (h.0, below))
 
   -- the same of what the matches have under an id
   pub read_some_in : (f : Found) (id : Text) (or n : ℕ) (r : Result (Option ℕ) E) → r ≡ Ok (Some n) → (one_text f id ≡ None → r ≡ Ok None)
@@ -46,6 +49,7 @@ module _ {E : Type 0} (G : Text → Result ℕ E → Type 0) (only : (t : Text) 
       → ((t : Text) → one_text f id ≡ Some t → TriesOne G t r) → or ≡ number_or or (one_of id (rows_of f))
   read_none_in f id or r is some = read_none (one_text f id) or r is some ∙ ap (number_or or) (one_text-rows f id)
 
-  pub read_err_in : (f : Found) (id : Text) (e : E) (r : Result (Option ℕ) E) → r ≡ Err e → (one_text f id ≡ None → r ≡ Ok None)
-      → ((t : Text) → one_text f id ≡ Some t → TriesOne G t r) → IfSome (one_of id (rows_of f)) (IsReadable 0 18446744073709551615) → false ≡ true
-  read_err_in f id e r is none some h = read_err (one_text f id) e r is none some (subst (λ (o : Option Text). IfSome o (IsReadable 0 18446744073709551615)) (sym (one_text-rows f id)) h)
+  pub read_err_in : (f : Found) (id : Text) (low high : ℕ) (e : E) (r : Result (Option ℕ) E) → high < 2 ^ bits → r ≡ Err e → (one_text f id ≡ None → r ≡ Ok None)
+      → ((t : Text) → one_text f id ≡ Some t → TriesOne G t r) → IfSome (one_of id (rows_of f)) (IsReadable low high) → false ≡ true
+  read_err_in f id low high e r fits is none some h =
+      read_err (one_text f id) low high e r fits is none some (subst (λ (o : Option Text). IfSome o (IsReadable low high)) (sym (one_text-rows f id)) h)

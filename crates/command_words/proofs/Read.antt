@@ -1,5 +1,5 @@
 -- The values of a command that `clap` took.
-use Rattle.std.proofs.Common.{◌≡◌, ◌∙◌, ◌<◌, ◌++◌, ◌&&◌, ◌||◌, not, inl, inr, ℕ, Bool, true, false, cond, List, [], ◌∷◌, map, length, Option, Some, None, is_some, option_map, refl, true≢false, sym, ap, subst, arith}
+use Rattle.std.proofs.Common.{◌≡◌, ◌∙◌, ◌<◌, ◌≤◌, ◌++◌, ◌&&◌, ◌||◌, not, inl, inr, ℕ, Bool, true, false, cond, List, [], ◌∷◌, map, length, Option, Some, None, is_some, option_map, refl, true≢false, sym, ap, subst, arith}
 use Rattle.std.specs.Prelude.{IfSome, IsSome, find, option_and_then, slice_get, codes}
 use Rattle.std.specs.List.{AllByRecursion, list_any}
 use Rattle.std.specs.Option.{option_map_or}
@@ -15,7 +15,9 @@ use Rattle.clap.specs.Takes.{is_given}
 use Rattle.clap.specs.Faults.{built_fault, check_fault, entered_fault, fault_of, level_fault, walk_fault}
 use Rattle.clap.specs.declared.builder.value_parser.ValueParser.TheVariants as vp
 use Rattle.clap.proofs.ValueTestLemmas.{accepts-Accepts}
-use Rattle.command_words.specs.Words.{Command, HasAll, Opt, Text, join, name_of, number, options_of}
+use Rattle.command_words.specs.Words.{Command, HasAll, HasValues, IsInRanges, Opt, Text, join, name_of, number, number_or, options_of, some_text, text_or}
+use Rattle.command_words.specs.declared.asked.Asked.{Asked}
+use Rattle.command_words.specs.declared.asked.Asked.TheVariants.{Join}
 use Rattle.command_words.specs.Clap.{number_in, photon_app, text_in}
 use Rattle.command_words.proofs.Walks.{Known, full_rule, reads_as_written}
 use Rattle.command_words.proofs.Levels.{ready, sub}
@@ -34,7 +36,7 @@ find_own c (x ∷ xs) p a owns e = go (p x) e (find_own c xs p a owns.1)
     go false f rest = rest f
 
 owns : (c : Command) → AllByRecursion (IsOwn (sub c).rules) (sub c).rules
-owns join = (record { by_id = refl; action = inl (refl, refl, omega arith) }, (record { by_id = refl; action = inl (refl, refl, omega arith) }, (record { by_id = refl; action = inl (refl, refl, omega arith) }, (record { by_id = refl; action = inl (refl, refl, omega arith) }, (record { by_id = refl; action = inr refl }, tt)))))
+owns join = (record { by_id = refl; action = inl (refl, refl, omega arith) }, (record { by_id = refl; action = inl (refl, refl, omega arith) }, (record { by_id = refl; action = inl (refl, refl, omega arith) }, (record { by_id = refl; action = inl (refl, refl, omega arith) }, (record { by_id = refl; action = inl (refl, refl, omega arith) }, (record { by_id = refl; action = inl (refl, refl, omega arith) }, (record { by_id = refl; action = inl (refl, refl, omega arith) }, (record { by_id = refl; action = inr refl }, tt))))))))
 
 no_place : (c : Command) (i : ℕ) → arg_by_index (sub c).rules i ≡ None
 no_place join i = refl
@@ -151,6 +153,24 @@ number_reads c rows n low high required k g = go (find (λ (r : Row). bytes_eq r
     go None h = tt
     go (Some r) h = values r.values h.0.rule r.reading (rule_is c o r k h.0 h.1) h.0.reading h.0.passed
 
+text_has_some : (c : List Rule) (rows : List Row) (n : Text) (required : Bool)
+    → Known c (record { name = n; form = some_text; required = required }) → AreGood c rows → IfSome (first_of n rows) (λ t. 0 < length t)
+text_has_some c rows n required k g = go (find (λ (r : Row). bytes_eq r.id n) rows) (row_at c rows n g)
+  where
+    o : Opt
+    o = record { name = n; form = some_text; required = required }
+
+    values : (vs : List Text) (rule : Rule) → rule ≡ full_rule o → AllByRecursion (λ v. accepts rule.ignore_case (parser_of_value rule.parser) v ≡ true) vs
+        → IfSome (slice_get vs 0) (λ t. 0 < length t)
+    values [] rule is passed = tt
+    values (v ∷ vs) rule is passed =
+        let ok : accepts false vp.NonEmptyString v ≡ true = subst (λ (a : Rule). accepts a.ignore_case (parser_of_value a.parser) v ≡ true) is passed.0 in
+        accepts-Accepts false vp.NonEmptyString v ok
+
+    go : (p : Option Row) → IfSome p (λ r. IsGood c r × (r.id ≡ n)) → IfSome (option_and_then (λ (r : Row). slice_get r.values 0) p) (λ t. 0 < length t)
+    go None h = tt
+    go (Some r) h = values r.values h.0.rule (rule_is c o r k h.0 h.1) h.0.passed
+
 needed : (options : List Opt) (rows : List Row) → list_any (λ (a : Rule). a.required && not (is_given a.id rows)) (map full_rule options ++ filled help_rule ∷ []) ≡ false
     → AllByRecursion (λ (o : Opt). o.required ≡ true → is_given o.name rows ≡ true) options
 needed [] rows e = tt
@@ -174,4 +194,20 @@ has_values join words h =
     let rows = rows_after (sub c).rules [] words in
     let k = (ready c).known in
     let n = needs c words h in
-    (text_is_given (sub c).rules rows (codes "queries") h.good (n.0 refl), text_is_given (sub c).rules rows (codes "clicks") h.good (n.1.0 refl), text_is_given (sub c).rules rows (codes "state") h.good (n.1.1.0 refl), number_reads (sub c).rules rows (codes "horizon") 0 18446744073709551615 false (k.1.1.1.0) h.good)
+    (text_is_given (sub c).rules rows (codes "queries") h.good (n.0 refl), text_is_given (sub c).rules rows (codes "clicks") h.good (n.1.0 refl), text_is_given (sub c).rules rows (codes "state") h.good (n.1.1.0 refl), number_reads (sub c).rules rows (codes "horizon") 0 18446744073709551615 false (k.1.1.1.0) h.good, number_reads (sub c).rules rows (codes "joiners") 1 4 false (k.1.1.1.1.0) h.good, text_has_some (sub c).rules rows (codes "shards") false (k.1.1.1.1.1.0) h.good, number_reads (sub c).rules rows (codes "batch") 1 64 false (k.1.1.1.1.1.1.0) h.good)
+
+number_within : (low high or : ℕ) (o : Option Text) → low ≤ or → or ≤ high → IfSome o (IsUnsignedIn low high) → (low ≤ number_or or o) × (number_or or o ≤ high)
+number_within low high or None least most h = (least, most)
+number_within low high or (Some t) least most h = (h.2, h.3)
+
+text_within : (or : Text) (o : Option Text) → 0 < length or → IfSome o (λ t. 0 < length t) → 0 < length (text_or or o)
+text_within or None some h = some
+text_within or (Some t) some h = h
+
+-- what is asked for by values that may be read
+pub in_range : (asked : Asked) (name : Text) (c : Command) (text_at number_at : Text → Option Text) → HasValues asked name text_at number_at → HasAll c text_at number_at → IsInRanges asked
+in_range (Join queries clicks state floor workers table most) name join text_at number_at v h =
+    let w = number_within 1 4 1 (number_at (codes "joiners")) (omega arith) (omega arith) h.4 in
+    let t = text_within (codes "0:4") (text_at (codes "shards")) (omega arith) h.5 in
+    let m = number_within 1 64 64 (number_at (codes "batch")) (omega arith) (omega arith) h.6 in
+    (rw v.5 w.0, rw v.5 w.1, rw v.6 t, rw v.7 m.0, rw v.7 m.1)

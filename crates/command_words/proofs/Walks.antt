@@ -22,7 +22,7 @@ use Rattle.clap.specs.Simple.{Shape, help_rule, filled, with_index}
 use Rattle.clap.specs.Takes.{default_passes, is_given, is_valid, level_passes, settle_passes, use_passes, walk_passes, turn_passes}
 use Rattle.clap.specs.declared.parser.matches.ValueSource.TheVariants.{CommandLine}
 use Rattle.clap.specs.declared.builder.value_parser.Reading.TheVariants.{AsWritten}
-use Rattle.command_words.specs.Words.{ArePairsOf, Form, IsValue, Opt, Pairs, Text, given, number, option_named, pair_words, text}
+use Rattle.command_words.specs.Words.{ArePairsOf, Form, IsValue, Opt, Pairs, Text, given, number, option_named, pair_words, some_text, text}
 use Rattle.command_words.specs.Clap.{parser_of, rule_of_option}
 use Rattle.command_words.proofs.Numbers.{no_plus}
 
@@ -33,6 +33,7 @@ full_rule o = with_index 1 (filled (rule_of_option o))
 abbrev pub FitsNumber : Form → Type 0
 FitsNumber (number low high) = high < 2 ^ 64
 FitsNumber text = ⊤
+FitsNumber some_text = ⊤
 
 -- an option of the rules c
 pub record Known (c : List Rule) (o : Opt) : Type 0 where
@@ -102,6 +103,7 @@ at_none id change missing (r ∷ rs) none = go (bytes_eq r.id id) refl none (at_
 pub reads_as_written : (f : Form) → reading_of (parser_of_value (Some (unwrap_or (parser_of f) vp.String))) ≡ AsWritten
 reads_as_written (number low high) = refl
 reads_as_written text = refl
+reads_as_written some_text = refl
 
 -- a use of an option that has no row yet adds its row
 used_once : (o : Opt) (v : Text) (rows : List Row) → has_row o.name rows ≡ false → used (full_rule o) (v ∷ []) rows ≡ rows ++ pair_row (o.name, v) ∷ []
@@ -120,6 +122,8 @@ value_word (number low high) [] h = let bad : 0 < 0 = h.0 in absurd (omega arith
 value_word (number low high) (x ∷ xs) h = (x, xs, refl, first_digit x h.2.0)
 value_word text [] h = absurd h
 value_word text (x ∷ xs) h = (x, xs, refl, ne_eqb _ _ h)
+value_word some_text [] h = absurd h
+value_word some_text (x ∷ xs) h = (x, xs, refl, ne_eqb _ _ h)
 
 value_accepted : (f : Form) (v : Text) → FitsNumber f → IsValue f v → accepts false (parser_of_value (Some (unwrap_or (parser_of f) vp.String))) v ≡ true
 value_accepted (number low high) v fits h =
@@ -128,6 +132,8 @@ value_accepted (number low high) v fits h =
     let all : Accepts false (vp.Unsigned low high) v = rw own ((h.0, h.2), below, h.3, h.4) in
     Accepts-accepts false (vp.Unsigned low high) v all
 value_accepted text v fits h = refl
+value_accepted some_text [] fits h = absurd h
+value_accepted some_text (x ∷ xs) fits h = Accepts-accepts false vp.NonEmptyString (x ∷ xs) (omega arith)
 
 use_accepted : (o : Opt) (v : Text) (rows : List Row) → FitsNumber o.form → IsValue o.form v → has_row o.name rows ≡ false → use_passes false (full_rule o) (v ∷ []) rows ≡ true
 use_accepted o v rows fits h none = rw (none, value_accepted o.form v fits h) refl

@@ -4,11 +4,12 @@ use Rattle.clap.specs.Walk.{Row, Rule, first_of, one_of}
 use Rattle.clap.specs.Simple.{App, Shape, new_rule, new_shape, with_subcommand}
 use Rattle.clap.specs.declared.builder.value_parser.ValueParser.{ValueParser}
 use Rattle.clap.specs.declared.builder.value_parser.ValueParser.TheVariants as vp
-use Rattle.command_words.specs.Words.{Command, Form, Opt, Text, join, name_of, number, options_of, text}
+use Rattle.command_words.specs.Words.{Command, Form, Opt, Text, join, name_of, number, options_of, some_text, text}
 
 abbrev pub parser_of : Form → Option ValueParser
 parser_of (number low high) = Some (vp.Unsigned low high)
 parser_of text = None
+parser_of some_text = Some vp.NonEmptyString
 
 abbrev pub rule_of_option : Opt → Rule
 rule_of_option o = record (new_rule o.name) { long = Some o.name; required = o.required; parser = parser_of o.form }

@@ -1,5 +1,5 @@
 -- Which words are plain, and what plain words ask for.
-use Rattle.std.specs.Prelude.{◌≡◌, ◌≢◌, ◌<◌, ◌≤◌, ℕ, Bool, true, false, List, [], ◌∷◌, map, length, Option, Some, IsSome, IsSomeAnd, IfSome, option_map, find, codes, ⊤, String, string_bytes}
+use Rattle.std.specs.Prelude.{◌≡◌, ◌≢◌, ◌<◌, ◌≤◌, ℕ, Bool, true, false, List, [], ◌∷◌, map, length, Option, Some, IsSome, IsSomeAnd, IfSome, option_map, unwrap_or, find, codes, ⊤, String, string_bytes}
 use Rattle.std.specs.List.{All, IsDistinct}
 use Rattle.std.specs.Option.{option_map_or}
 use Rattle.std.specs.Str.{bytes_eq}
@@ -23,10 +23,11 @@ texts words = map string_bytes words
 
 -- ---- the commands and their options
 
--- a value is a number in a range, or a text
+-- a value is a number in a range, a text, or a text that is refused where it is empty
 pub data Form : Type 0 where
   number : ℕ → ℕ → Form
   text : Form
+  some_text : Form
 
 -- an option, by its name without the two hyphens
 pub record Opt : Type 0 where
@@ -43,8 +44,17 @@ may name form = record { name = name; form = form; required = false }
 abbrev pub horizon : Opt
 horizon = may (codes "horizon") (number 0 18446744073709551615)
 
+abbrev pub joiners : Opt
+joiners = may (codes "joiners") (number 1 4)
+
+abbrev pub shards : Opt
+shards = may (codes "shards") some_text
+
+abbrev pub batch : Opt
+batch = may (codes "batch") (number 1 64)
+
 abbrev pub join_options : List Opt
-join_options = must (codes "queries") text ∷ must (codes "clicks") text ∷ must (codes "state") text ∷ horizon ∷ []
+join_options = must (codes "queries") text ∷ must (codes "clicks") text ∷ must (codes "state") text ∷ horizon ∷ joiners ∷ shards ∷ batch ∷ []
 
 pub data Command : Type 0 where
   join : Command
@@ -68,6 +78,7 @@ IsValueText (b ∷ bs) = b ≢ 45
 abbrev pub IsValue : Form → Text → Type 0
 IsValue (number low high) t = IsNumber low high t
 IsValue text t = IsValueText t
+IsValue some_text t = IsValueText t
 
 -- the option of that name
 abbrev pub option_named : Text → List Opt → Option Opt
@@ -102,20 +113,31 @@ pub record IsPlain (words : List Text) (command : Command) (pairs : Pairs) : Typ
 abbrev pub number_or : ℕ → Option Text → ℕ
 number_or n value = option_map_or (λ t. digits_value 10 (without_leading_plus t)) value n
 
+-- a text as written, and the default of an option that is not there
+abbrev pub text_or : Text → Option Text → Text
+text_or t value = unwrap_or value t
+
 -- the command of that name, with the values that an option has as a text and as a number
 abbrev pub HasValues : Asked → Text → (Text → Option Text) → (Text → Option Text) → Type 0
-HasValues (Join queries clicks state floor) name text_at number_at =
+HasValues (Join queries clicks state floor workers table most) name text_at number_at =
     (name ≡ codes "join") × (text_at (codes "queries") ≡ Some queries.now) × (text_at (codes "clicks") ≡ Some clicks.now)
     × (text_at (codes "state") ≡ Some state.now) × (floor ≡ number_or 0 (number_at (codes "horizon")))
+    × (workers ≡ number_or 1 (number_at (codes "joiners"))) × (table.now ≡ text_or (codes "0:4") (text_at (codes "shards")))
+    × (most ≡ number_or 64 (number_at (codes "batch")))
+
+-- what is asked for lies in the ranges of its options
+abbrev pub IsInRanges : Asked → Type 0
+IsInRanges (Join queries clicks state floor workers table most) = (1 ≤ workers) × (workers ≤ 4) × (0 < length table.now) × (1 ≤ most) × (most ≤ 64)
 
 -- a number that may be read: digits, which may have a plus before them, within the range
 abbrev pub IsReadable : ℕ → ℕ → Text → Type 0
 IsReadable low high t = IsUnsignedIn low high t
 
--- each value that a command needs is there, and each number that is there may be read
+-- each value that a command needs is there, each number that is there may be read, and the table is not empty
 abbrev pub HasAll : Command → (Text → Option Text) → (Text → Option Text) → Type 0
 HasAll join text_at number_at = IsSome (text_at (codes "queries")) × IsSome (text_at (codes "clicks")) × IsSome (text_at (codes "state"))
-    × IfSome (number_at (codes "horizon")) (IsReadable 0 18446744073709551615)
+    × IfSome (number_at (codes "horizon")) (IsReadable 0 18446744073709551615) × IfSome (number_at (codes "joiners")) (IsReadable 1 4)
+    × IfSome (text_at (codes "shards")) (λ t. 0 < length t) × IfSome (number_at (codes "batch")) (IsReadable 1 64)
 
 -- plain words ask for this
 abbrev pub AsksFor : Asked → Command → Pairs → Type 0

@@ -7,12 +7,16 @@ use std::alloc::AllocError;
 #[derive(Clone, Copy, Debug)]
 pub enum Asked<'a> {
     /// Join the logs of these names over the directory of that name. Ids whose microseconds lie below the
-    /// horizon are too old.
+    /// horizon are too old. A site has so many joiners, and a batch so many inserts at most. The shards are the
+    /// text of a table as it was written, which is not read here.
     Join {
         queries: &'a str,
         clicks: &'a str,
         state: &'a str,
         horizon: u64,
+        joiners: u8,
+        shards: &'a str,
+        batch: u8,
     },
 }
 

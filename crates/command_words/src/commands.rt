@@ -4,10 +4,11 @@ ghost use Rattle.clap.specs.Walk.{rule_of};
 ghost use Rattle.clap.specs.Simple.{app_of, shape_of};
 ghost use Rattle.clap.specs.declared.builder.command.Command.TheViews.{out-Command as fields_of};
 ghost use Rattle.clap.specs.declared.builder.value_parser.ValueParser.TheVariants as vp;
-ghost use Rattle.command_words.specs.Words.{join, number, text, must, may};
+ghost use Rattle.command_words.specs.Words.{join, number, some_text, text, must, may};
 ghost use Rattle.command_words.specs.Clap.{rule_of_option, shape_of_command, photon_app};
 
-use clap::{Arg, Command, value_parser};
+use clap::builder::ValueParser;
+use clap::{Arg, Command};
 use std::alloc::{AllocError, Global};
 
 /// A text option.
@@ -25,12 +26,20 @@ fn required<'a>(alloc: Global, name: &'a str) -> Arg<'a>
     option(alloc, name).required(true)
 }
 
-/// A number option of the whole range of u64.
-fn number<'a>(alloc: Global, name: &'a str) -> Arg<'a>
-    ensures rule { rule_of result ≡ rule_of_option (may name.entry.now (number 0 18446744073709551615)) }
+/// A text option that is not empty.
+fn some_text<'a>(alloc: Global, name: &'a str) -> Arg<'a>
+    ensures rule { rule_of result ≡ rule_of_option (may name.entry.now some_text) }
     ensures own { result.global ≡ false }
 {
-    option(alloc, name).value_parser(value_parser!(u64))
+    option(alloc, name).value_parser(ValueParser::NonEmptyString)
+}
+
+/// A number option, from `low` to `high`.
+fn number<'a>(alloc: Global, name: &'a str, low: u64, high: u64) -> Arg<'a>
+    ensures rule { rule_of result ≡ rule_of_option (may name.entry.now (number low high)) }
+    ensures own { result.global ≡ false }
+{
+    option(alloc, name).value_parser(ValueParser::unsigned(low, high))
 }
 
 fn join<'a>(alloc: Global) -> Result<Command<'a>, AllocError>
@@ -41,7 +50,10 @@ fn join<'a>(alloc: Global) -> Result<Command<'a>, AllocError>
         .arg(required(alloc, "queries"))?
         .arg(required(alloc, "clicks"))?
         .arg(required(alloc, "state"))?
-        .arg(number(alloc, "horizon"))
+        .arg(number(alloc, "horizon", 0, u64::MAX))?
+        .arg(number(alloc, "joiners", 1, 4))?
+        .arg(some_text(alloc, "shards"))?
+        .arg(number(alloc, "batch", 1, 64))
 }
 
 /// The whole command line.

@@ -1,10 +1,10 @@
 //! Reading the words.
-ghost use Rattle.std.specs.Prelude.{◌≡◌, ◌<◌, List, [], IfOk, IfSome, IfErr, IsSome, IsSomeAnd, MatchResult, Some, None, option_map, codes};
+ghost use Rattle.std.specs.Prelude.{◌≡◌, ◌<◌, ◌^◌, ℕ, List, [], IfOk, IfSome, IfErr, IsSome, IsSomeAnd, MatchResult, Some, None, option_map, codes};
 ghost use Rattle.clap.specs.Matches.{found_of};
 ghost use Rattle.clap.specs.Walk.{Row, rows_of};
 ghost use Rattle.clap.specs.Simple.{subcommand_of, subcommand_rows_of};
 ghost use Rattle.clap.specs.Faults.{fault_of};
-ghost use Rattle.command_words.specs.Words.{Command, Pairs, IsPlain, IsFaultOf, IsRefusedBy, name_of, AsksFor, HasAll, HasValues, join, IsReadable, number_or, texts};
+ghost use Rattle.command_words.specs.Words.{Command, Pairs, IsPlain, IsFaultOf, IsRefusedBy, name_of, AsksFor, HasAll, HasValues, IsInRanges, join, IsReadable, number_or, text_or, texts};
 ghost use Rattle.command_words.specs.Clap.{photon_app, text_in, number_in};
 ghost use Rattle.command_words.specs.declared.asked.WordsFault.TheVariants.{Memory, Refused};
 
@@ -21,6 +21,13 @@ fn text<'a>(found: &ArgMatches<'a>, name: &str) -> Option<&'a str>
     found.get_str(name)
 }
 
+/// A text option, `or` where it is not there.
+fn text_with_default<'a>(found: &ArgMatches<'a>, name: &str, or: &'a str) -> &'a str
+    ensures { result.now ≡ text_or or.entry.now (text_in (rows_of (found_of found.now)) name.now) }
+{
+    text(found, name).unwrap_or(or)
+}
+
 /// A number option, `or` where it is not there.
 fn number(found: &ArgMatches<'_>, name: &str, or: u64) -> Option<u64>
     ensures value { IfSome result (λ n. n ≡ number_or or (number_in (rows_of (found_of found.now)) name.now)) }
@@ -28,6 +35,18 @@ fn number(found: &ArgMatches<'_>, name: &str, or: u64) -> Option<u64>
 {
     match found.try_get_one::<u64>(name) {
         Ok(Some(n)) => Some(n),
+        Ok(None) => Some(or),
+        Err(_) => None,
+    }
+}
+
+/// A number option of at most 255, `or` where it is not there.
+fn small(found: &ArgMatches<'_>, name: &str, or: u8) -> Option<u8>
+    ensures value { IfSome result (λ n. n ≡ number_or or (number_in (rows_of (found_of found.now)) name.now)) }
+    ensures reads { (low high : ℕ) → high < 2 ^ 8 → IfSome (number_in (rows_of (found_of found.now)) name.now) (IsReadable low high) → IsSome result }
+{
+    match found.try_get_one::<u8>(name) {
+        Ok(Some(few)) => Some(few),
         Ok(None) => Some(or),
         Err(_) => None,
     }
@@ -42,6 +61,9 @@ fn join<'a>(found: &ArgMatches<'a>) -> Option<Asked<'a>>
         clicks: text(found, "clicks")?,
         state: text(found, "state")?,
         horizon: number(found, "horizon", 0)?,
+        joiners: small(found, "joiners", 1)?,
+        shards: text_with_default(found, "shards", "0:4"),
+        batch: small(found, "batch", 64)?,
     })
 }
 
@@ -63,6 +85,7 @@ fn asked_of<'a>(matches: &ArgMatches<'a>) -> Option<Asked<'a>>
 pub fn parse_words<'a>(alloc: Global, words: &'a [String]) -> Result<Asked<'a>, WordsFault>
     ensures plain { (command : Command) (pairs : Pairs) → IsPlain (texts words.entry.now) command pairs → MatchResult result (λ a. AsksFor a command pairs) (λ f. f ≡ Memory) }
     ensures found { IfOk result (λ a. IsSomeAnd (subcommand_of photon_app (texts words.entry.now)) (λ p. HasValues a p.0 (text_in p.1) (number_in p.1))) }
+    ensures ranges { IfOk result IsInRanges }
     ensures taken { IfOk result (λ _. fault_of photon_app (texts words.entry.now) ≡ []) }
     ensures refused { IfErr result (IsRefusedBy (fault_of photon_app (texts words.entry.now))) }
 {

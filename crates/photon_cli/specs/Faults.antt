@@ -4,20 +4,16 @@ use Rattle.log_records.specs.declared.why.Why.{Why}
 use Rattle.log_records.specs.declared.why.Why.TheVariants as why
 use Rattle.command_words.specs.declared.asked.WordsFault.{WordsFault}
 use Rattle.command_words.specs.declared.asked.WordsFault.TheVariants as words_fault
-use Rattle.photon_cli.specs.declared.engine.fault.LogName.{LogName}
-use Rattle.photon_cli.specs.declared.engine.fault.LogName.TheVariants.{Queries, Clicks}
+use Rattle.run_faults.specs.Faults as run
 use Rattle.photon_cli.specs.declared.engine.fault.Fault.{Fault}
 use Rattle.photon_cli.specs.declared.engine.fault.Fault.TheVariants as fault
 
 abbrev pub status_of : Fault → ℕ
+status_of (fault.Table row) = 2
 status_of (fault.Refused log line w) = 3
-status_of (fault.Read log) = 4
+status_of (fault.Run cause) = run.status_of cause
 status_of fault.Write = 5
 status_of fault.Memory = 8
-
-abbrev pub log_text : LogName → List ℕ
-log_text Queries = codes "queries"
-log_text Clicks = codes "clicks"
 
 abbrev pub why_text : Why → List ℕ
 why_text why.TooLong = codes "TooLong"
@@ -30,8 +26,9 @@ why_text why.TooBig = codes "TooBig"
 why_text why.Memory = codes "Memory"
 
 abbrev pub message : Fault → List ℕ
-message (fault.Refused log line w) = codes "photon: " ++ log_text log ++ codes ":" ++ decimal line ++ codes ": " ++ why_text w ++ codes "\n"
-message (fault.Read log) = codes "photon: read: " ++ log_text log ++ codes "\n"
+message (fault.Table row) = codes "photon: table: row " ++ decimal row ++ codes "\n"
+message (fault.Refused log line w) = codes "photon: " ++ run.log_text log ++ codes ":" ++ decimal line ++ codes ": " ++ why_text w ++ codes "\n"
+message (fault.Run cause) = run.message cause
 message fault.Write = codes "photon: write\n"
 message fault.Memory = codes "photon: memory\n"
 

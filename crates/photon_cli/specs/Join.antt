@@ -1,13 +1,23 @@
--- What a join of two logs does.
+-- What a join of two logs over a store does.
 use Rattle.std.specs.Prelude.{ℕ, ◌≡◌, List, ◌++◌, Option, IsSomeAnd}
+use Rattle.time_shards.specs.declared.ShardRow.{ShardRow}
 use Rattle.log_records.specs.declared.records.QueryRec.{QueryRec}
 use Rattle.log_records.specs.declared.records.ClickRec.{ClickRec}
 use Rattle.log_records.specs.declared.check.BadLine.{BadLine}
 use Rattle.log_records.specs.Check.{IsQueryLog, IsClickLog, RefusesQuery, RefusesClick}
-use Rattle.log_defs.specs.Report.{report}
+use Rattle.log_records.specs.Lines.{HoldsLines, ClickLine, end_from}
+use Rattle.log_defs.specs.declared.ReportLine.{ReportLine}
+use Rattle.log_defs.specs.Report.{text_of}
 use Rattle.report_text.specs.Stream.{TookPrefix}
-use Rattle.photon_cli.specs.declared.engine.fault.LogName.{LogName}
-use Rattle.photon_cli.specs.declared.engine.fault.LogName.TheVariants.{Queries, Clicks}
+use Rattle.run_faults.specs.declared.fault.LogName.{LogName}
+use Rattle.run_faults.specs.declared.fault.LogName.TheVariants.{Queries, Clicks}
+use Rattle.turn_defs.specs.Setting.{Setting}
+use Rattle.site_nodes.specs.declared.config.Config.{Config}
+use Rattle.store_laws.specs.Stores.{Images, IsSoundStore}
+use Rattle.store_laws.specs.Laws.{LeavesNothing}
+use Rattle.store_run.specs.Asked.{IsSettingOf}
+use Rattle.store_run.specs.Joined.{Joins, JoinsAfresh}
+use Rattle.photon_cli.specs.Words.{Values, IsTextOf}
 
 -- Here told says what bytes are under a name.
 module _ (told : List ℕ → Option (List ℕ)) (queries clicks : List ℕ) where
@@ -19,13 +29,6 @@ module _ (told : List ℕ → Option (List ℕ)) (queries clicks : List ℕ) whe
   abbrev pub AreValid : Type 0
   AreValid = (qs : List QueryRec) × (cs : List ClickRec) × AreLogs qs cs
 
-  -- the report on the two logs was written behind what was there: whole, or a prefix of it
-  abbrev pub Prints : ℕ → List ℕ → List ℕ → Type 0
-  Prints horizon old new = (qs : List QueryRec) × (cs : List ClickRec) × AreLogs qs cs × (new ≡ old ++ report qs cs horizon)
-
-  abbrev pub PrintsPrefix : ℕ → List ℕ → List ℕ → Type 0
-  PrintsPrefix horizon old new = (qs : List QueryRec) × (cs : List ClickRec) × AreLogs qs cs × TookPrefix old (report qs cs horizon) new
-
   -- the log's first line that is refused; where it is one of the clicks, the queries are valid
   abbrev pub Refuses : LogName → BadLine → Type 0
   Refuses Queries bad = IsSomeAnd (told queries) (λ log. RefusesQuery log bad)
@@ -35,3 +38,29 @@ module _ (told : List ℕ → Option (List ℕ)) (queries clicks : List ℕ) whe
   abbrev pub IsInvalid : LogName → Type 0
   IsInvalid Queries = IsSomeAnd (told queries) (λ log. (qs : List QueryRec) → IsQueryLog log qs → ⊥)
   IsInvalid Clicks = IsSomeAnd (told queries) (λ log. (qs : List QueryRec) × IsQueryLog log qs) × IsSomeAnd (told clicks) (λ log. (cs : List ClickRec) → IsClickLog log cs → ⊥)
+
+-- the place is the end of the log's last whole line, where it holds click lines
+abbrev pub EndsAt : List ℕ → ℕ → Type 0
+EndsAt log end_ = (ls : List ClickLine) → HoldsLines log ls → end_ ≡ end_from 0 ls
+
+-- what all nodes are built for
+abbrev pub config_of : Values → List ShardRow → Config
+config_of v table = record { horizon = v.horizon; joiners = v.joiners; table = table; batch = v.batch }
+
+-- The setting is what was asked: it has these numbers, the table of that text, and the records of the two logs, which are valid.
+pub record IsAsked (told : List ℕ → Option (List ℕ)) (v : Values) (g : Setting) : Type 0 where
+  pub table : IsTextOf v.shards g.table
+  pub setting : IsSettingOf told v.queries v.clicks (config_of v g.table) (end_from 0 g.clicks) g
+
+-- Before and after say what a stop might have left of the disks and may leave of them now; faulted is that a disk met a fault.
+module _ (told : List ℕ → Option (List ℕ)) (v : Values) (before after : Images) (faulted : Type 0) (old new : List ℕ) where
+  -- where the store was sound, the report of what its disks now keep was written behind what was there: whole, or a prefix of it
+  abbrev pub Prints : Type 0
+  Prints = (g : Setting) × IsAsked told v g × (IsSoundStore g before → (lines : List ReportLine) × Joins g before after faulted lines × (new ≡ old ++ text_of lines))
+
+  abbrev pub PrintsPrefix : Type 0
+  PrintsPrefix = (g : Setting) × IsAsked told v g × (IsSoundStore g before → (lines : List ReportLine) × Joins g before after faulted lines × TookPrefix old (text_of lines) new)
+
+  -- where the store was empty, it is that of the two logs, but for missing clicks
+  abbrev pub PrintsAfresh : Type 0
+  PrintsAfresh = (g : Setting) × IsAsked told v g × (LeavesNothing g before → (lines : List ReportLine) × JoinsAfresh g faulted lines × (new ≡ old ++ text_of lines))

@@ -1,12 +1,10 @@
-// The join of two logs of any length, on one thread, with the claimed ids in memory.
+// The join of two logs over a store: both are checked whole, then both sites run until they rest, and what the disks keep then is
+// reported.
 mod checked;
-mod claims;
-mod distinct;
 mod fault;
 mod join;
-mod lines;
-mod queries;
 mod read;
+mod run;
 
-pub use fault::{Fault, LogName};
+pub use fault::Fault;
 pub use join::join_logs;

@@ -2,31 +2,34 @@
 ghost use Rattle.std.specs.Prelude.{◌≡◌, ◌++◌, OnOk, IsErr, IsTrue, List, codes};
 ghost use Rattle.std.specs.List.{flat_map};
 ghost use Rattle.outside.specs.Faults.{Counts, Rose};
-ghost use Rattle.photon_cli.specs.Faults.{status_of, log_text, why_text, message};
+ghost use Rattle.run_faults.specs.Faults.{log_text};
+ghost use Rattle.photon_cli.specs.Faults.{status_of, why_text, message};
 
-use crate::engine::{Fault, LogName};
+use crate::engine::Fault;
 use clap::Error;
 use itoa::Buffer;
 use log_records::Why;
 use outside::{Sink, WriteFault};
 use report_text::write_all;
+use run_faults::LogName;
 use std::alloc::Global;
 
 /// The exit status of a fault.
-pub fn status(fault: Fault) -> u8
-    ensures { result ≡ status_of fault }
+pub fn status(fault: &Fault) -> u8
+    ensures { result ≡ status_of fault.now }
 {
     match fault {
+        Fault::Table { .. } => 2,
         Fault::Refused { .. } => 3,
-        Fault::Read(_) => 4,
+        Fault::Run(cause) => run_faults::status(cause),
         Fault::Write => 5,
         Fault::Memory => 8,
     }
 }
 
 /// Tells a fault. Where that fails, nothing more is done about it.
-pub fn tell<K: Sink>(err: &mut K, fault: Fault)
-    ensures { IsTrue K.tells → (Rose (K.faults err.old) (K.faults err.new) → ⊥) → K.held err.new ≡ K.held err.old ++ message fault }
+pub fn tell<K: Sink>(err: &mut K, fault: &Fault)
+    ensures { IsTrue K.tells → (Rose (K.faults err.old) (K.faults err.new) → ⊥) → K.held err.new ≡ K.held err.old ++ message fault.now }
 {
     let _ = write_fault(err, fault);
 }
@@ -38,35 +41,33 @@ pub fn tell_refusal<K: Sink>(alloc: Global, err: &mut K, error: &Error) {
     }
 }
 
-fn write_fault<K: Sink>(err: &mut K, fault: Fault) -> Result<(), WriteFault>
-    ensures all { IsTrue K.tells → OnOk result (K.held err.new ≡ K.held err.old ++ message fault) }
+fn write_fault<K: Sink>(err: &mut K, fault: &Fault) -> Result<(), WriteFault>
+    ensures all { IsTrue K.tells → OnOk result (K.held err.new ≡ K.held err.old ++ message fault.now) }
     ensures count { Counts (K.faults err.old) (K.faults err.new) (IsErr result) }
 {
     match fault {
+        Fault::Table { row } => {
+            let mut digits = Buffer::new();
+            let row = digits.format(*row).as_bytes();
+            write_pieces(err, &[b"photon: table: row ".as_slice(), row, b"\n"])
+        }
         Fault::Refused { log, line, why } => {
             let mut digits = Buffer::new();
-            let line = digits.format(line).as_bytes();
+            let line = digits.format(*line).as_bytes();
             write_pieces(
                 err,
                 &[
                     b"photon: ".as_slice(),
-                    log_name(log).as_bytes(),
+                    log_name(*log).as_bytes(),
                     b":",
                     line,
                     b": ",
-                    why_name(why).as_bytes(),
+                    why_name(*why).as_bytes(),
                     b"\n",
                 ],
             )
         }
-        Fault::Read(log) => write_pieces(
-            err,
-            &[
-                b"photon: read: ".as_slice(),
-                log_name(log).as_bytes(),
-                b"\n",
-            ],
-        ),
+        Fault::Run(cause) => run_faults::tell(err, cause),
         Fault::Write => write_all(err, b"photon: write\n"),
         Fault::Memory => write_all(err, b"photon: memory\n"),
     }

@@ -1,16 +1,21 @@
 // The two logs, opened, read whole and checked.
 ghost use Rattle.std.specs.Prelude.{◌≡◌, ◌⊎◌, ℕ, List, IfOk, IfErr, IsSomeAnd, IsTrue, Err};
 ghost use Rattle.outside.specs.Faults.{Counts};
+ghost use Rattle.log_records.specs.declared.records.QueryRec.{QueryRec as Query};
 ghost use Rattle.log_records.specs.declared.why.Why.{Why as Reason};
 ghost use Rattle.log_records.specs.Check.{IsQueryLog, IsClickLog, RefusesQuery, RefusesClick};
+ghost use Rattle.run_faults.specs.declared.fault.LogName.{LogName as LogKind};
+ghost use Rattle.run_faults.specs.declared.fault.LogName.TheVariants.{Queries, Clicks};
 ghost use Rattle.photon_cli.specs.declared.engine.fault.Fault.TheVariants as fault;
-ghost use Rattle.photon_cli.specs.declared.engine.fault.LogName.TheVariants.{Queries, Clicks};
-ghost use Rattle.photon_cli.specs.LogFaults.{IsLogFault, refusal_of};
+ghost use Rattle.photon_cli.specs.Join.{AreLogs, Refuses, EndsAt};
+ghost use Rattle.photon_cli.specs.LogFaults.{IsLogFault, failed_read, refusal_of};
 
-use super::fault::{Fault, LogName};
+use super::fault::Fault;
 use super::read::{ReadError, read_all};
+use kept_places::lines_end;
 use log_records::{BadLine, ClickRec, QueryRec, Why, clicks_of, queries_of};
 use outside::{OpenFault, Source};
+use run_faults::{LogName, RunFault};
 use std::alloc::Global;
 
 /// Opens the log of that name.
@@ -23,12 +28,12 @@ fn open_log<F: Source>(
     ensures bytes { IsTrue F.Log.tells → IfOk result (λ file. IsSomeAnd (F.bytes files.old name.now) (λ bytes. F.Log.bytes file ≡ bytes)) }
     ensures fresh { IfOk result (λ file. F.Log.faults file ≡ 0) }
     ensures same { IsTrue F.Log.tells → (n : List ℕ) → F.bytes files.new n ≡ F.bytes files.old n }
-    ensures fault { IfErr result (λ f. (f ≡ fault.Read log) ⊎ (f ≡ fault.Memory)) }
-    ensures count { Counts (F.faults files.old) (F.faults files.new) (result ≡ Err (fault.Read log)) }
+    ensures fault { IfErr result (λ f. (f ≡ failed_read log) ⊎ (f ≡ fault.Memory)) }
+    ensures count { Counts (F.faults files.old) (F.faults files.new) (result ≡ Err (failed_read log)) }
 {
     match files.open(alloc, name) {
         Ok(file) => Ok(file),
-        Err(OpenFault::Read) => Err(Fault::Read(log)),
+        Err(OpenFault::Read) => Err(Fault::Run(RunFault::Read(log))),
         Err(OpenFault::Memory) => Err(Fault::Memory),
     }
 }
@@ -42,15 +47,15 @@ fn read_log<F: Source>(
 ) -> Result<Vec<u8>, Fault>
     ensures bytes { IsTrue F.Log.tells → IfOk result (λ v. IsSomeAnd (F.bytes files.old name.now) (λ bytes. v.items ≡ bytes)) }
     ensures same { IsTrue F.Log.tells → (n : List ℕ) → F.bytes files.new n ≡ F.bytes files.old n }
-    ensures fault { IfErr result (λ f. (f ≡ fault.Read log) ⊎ (f ≡ fault.Memory)) }
-    ensures count { Counts (F.faults files.old) (F.faults files.new) (result ≡ Err (fault.Read log)) }
+    ensures fault { IfErr result (λ f. (f ≡ failed_read log) ⊎ (f ≡ fault.Memory)) }
+    ensures count { Counts (F.faults files.old) (F.faults files.new) (result ≡ Err (failed_read log)) }
 {
     let mut file = open_log(alloc, files, name, log)?;
     let read = read_all(alloc, &mut file);
     files.shut(file);
     match read {
         Ok(bytes) => Ok(bytes),
-        Err(ReadError::Read) => Err(Fault::Read(log)),
+        Err(ReadError::Read) => Err(Fault::Run(RunFault::Read(log))),
         Err(ReadError::Memory) => Err(Fault::Memory),
     }
 }
@@ -65,7 +70,7 @@ pub fn queries_in_log<F: Source>(
     ensures refused { IsTrue F.Log.tells → (line : ℕ) (w : Reason) → result ≡ Err (fault.Refused Queries line w) → IsSomeAnd (F.bytes files.old name.now) (λ log. RefusesQuery log (record { line = line; why = w })) }
     ensures same { IsTrue F.Log.tells → (n : List ℕ) → F.bytes files.new n ≡ F.bytes files.old n }
     ensures fault { IfErr result (IsLogFault Queries) }
-    ensures count { Counts (F.faults files.old) (F.faults files.new) (result ≡ Err (fault.Read Queries)) }
+    ensures count { Counts (F.faults files.old) (F.faults files.new) (result ≡ Err (failed_read Queries)) }
 {
     let bytes = read_log(alloc, files, name, LogName::Queries)?;
     match queries_of(alloc, &bytes) {
@@ -74,23 +79,56 @@ pub fn queries_in_log<F: Source>(
     }
 }
 
+/// The clicks of a log, and the end of its last whole line.
+#[derive(Drop)]
+pub struct CheckedClicks {
+    pub records: Vec<ClickRec>,
+    pub lines_end: u64,
+}
+
 /// Checks the whole click log, and gives its clicks in their order.
 pub fn clicks_in_log<F: Source>(
     alloc: Global,
     files: &mut F,
     name: &str,
-) -> Result<Vec<ClickRec>, Fault>
-    ensures found { IsTrue F.Log.tells → IfOk result (λ v. IsSomeAnd (F.bytes files.old name.now) (λ log. IsClickLog log v.items)) }
+) -> Result<CheckedClicks, Fault>
+    ensures found { IsTrue F.Log.tells → IfOk result (λ c. IsSomeAnd (F.bytes files.old name.now) (λ log. IsClickLog log c.records.items)) }
+    ensures end { IsTrue F.Log.tells → IfOk result (λ c. IsSomeAnd (F.bytes files.old name.now) (λ log. EndsAt log c.lines_end)) }
     ensures refused { IsTrue F.Log.tells → (line : ℕ) (w : Reason) → result ≡ Err (fault.Refused Clicks line w) → IsSomeAnd (F.bytes files.old name.now) (λ log. RefusesClick log (record { line = line; why = w })) }
     ensures same { IsTrue F.Log.tells → (n : List ℕ) → F.bytes files.new n ≡ F.bytes files.old n }
     ensures fault { IfErr result (IsLogFault Clicks) }
-    ensures count { Counts (F.faults files.old) (F.faults files.new) (result ≡ Err (fault.Read Clicks)) }
+    ensures count { Counts (F.faults files.old) (F.faults files.new) (result ≡ Err (failed_read Clicks)) }
 {
     let bytes = read_log(alloc, files, name, LogName::Clicks)?;
+    let end = lines_end(&bytes);
     match clicks_of(alloc, &bytes) {
-        Ok(clicks) => Ok(clicks),
+        Ok(records) => Ok(CheckedClicks {
+            records,
+            lines_end: end,
+        }),
         Err(bad) => Err(refused(LogName::Clicks, bad)),
     }
+}
+
+/// Checks both logs whole, the queries first, and gives the clicks.
+pub fn checked_logs<F: Source>(
+    alloc: Global,
+    files: &mut F,
+    queries: &str,
+    clicks: &str,
+) -> Result<CheckedClicks, Fault>
+    ensures valid { IsTrue F.Log.tells → IfOk result (λ c. (qs : List Query) × AreLogs (F.bytes files.old) queries.now clicks.now qs c.records.items) }
+    ensures end { IsTrue F.Log.tells → IfOk result (λ c. IsSomeAnd (F.bytes files.old clicks.now) (λ log. EndsAt log c.lines_end)) }
+    ensures refused { IsTrue F.Log.tells → (log : LogKind) (line : ℕ) (w : Reason) → result ≡ Err (fault.Refused log line w)
+        → Refuses (F.bytes files.old) queries.now clicks.now log (record { line = line; why = w }) }
+    ensures same { IsTrue F.Log.tells → (n : List ℕ) → F.bytes files.new n ≡ F.bytes files.old n }
+    ensures fault { IfErr result (λ f. (log : LogKind) × IsLogFault log f) }
+    ensures count { Counts (F.faults files.old) (F.faults files.new) ((log : LogKind) × (result ≡ Err (failed_read log))) }
+{
+    let query_records = queries_in_log(alloc, files, queries)?;
+    let click_records = clicks_in_log(alloc, files, clicks)?;
+    drop(query_records);
+    Ok(click_records)
 }
 
 fn refused(log: LogName, bad: BadLine) -> Fault

@@ -1,21 +1,17 @@
 // Why a join gives up.
 
 use log_records::Why;
+use run_faults::{LogName, RunFault};
 
-/// Which of the two logs.
-#[derive(Clone, Copy, Debug, PartialEq, Eq)]
-pub enum LogName {
-    Queries,
-    Clicks,
-}
-
-/// Why a join gives up.
-#[derive(Clone, Copy, Debug, PartialEq, Eq)]
+/// Why a join gives up. It holds no memory of the heap.
+#[derive(Clone, Copy, Debug)]
 pub enum Fault {
+    /// The text of the shards is no table: its first bad row, from 0.
+    Table { row: u8 },
     /// The log's first line that is refused, from 1, and the first why that applies.
     Refused { log: LogName, line: u64, why: Why },
-    /// The log couldn't be read.
-    Read(LogName),
+    /// A log couldn't be read, or the run of both sites gave up.
+    Run(RunFault),
     /// The output took no more bytes.
     Write,
     /// There was no memory. No clause says when.

@@ -1,50 +1,101 @@
 // The whole join.
-ghost use Rattle.std.specs.Prelude.{◌≡◌, ◌⊎◌, ℕ, List, IfErr, OnOk, MatchResult, IsTrue, Err};
-ghost use Rattle.outside.specs.Faults.{Counts};
+ghost use Rattle.std.specs.Prelude.{◌≡◌, ◌⊎◌, ℕ, List, IfErr, IsErrAnd, OnOk, IsTrue, Err};
+ghost use Rattle.outside.specs.declared.store.DiskName.{DiskName};
+ghost use Rattle.outside.specs.Faults.{Counts, Rose};
+ghost use Rattle.time_shards.specs.Text.{IsFirstBad};
 ghost use Rattle.log_records.specs.declared.why.Why.{Why as Reason};
-ghost use Rattle.photon_cli.specs.declared.engine.fault.LogName.{LogName as LogKind};
+ghost use Rattle.run_faults.specs.declared.fault.LogName.{LogName as LogKind};
+ghost use Rattle.run_faults.specs.declared.fault.StorePlace.{StorePlace};
+ghost use Rattle.run_faults.specs.declared.fault.RunFault.TheVariants as cause;
+ghost use Rattle.turn_defs.specs.Setting.{Setting};
+ghost use Rattle.site_disks.specs.Lent.{GoesOn};
+ghost use Rattle.store_laws.specs.Stores.{IsSoundStore};
+ghost use Rattle.store_opening.specs.Causes.{LeavesSomething};
 ghost use Rattle.photon_cli.specs.declared.engine.fault.Fault.TheVariants as fault;
-ghost use Rattle.photon_cli.specs.Join.{AreValid, Prints, PrintsPrefix, Refuses};
+ghost use Rattle.photon_cli.specs.LogFaults.{IsEarly, IsFair, failed_read};
+ghost use Rattle.photon_cli.specs.Join.{AreValid, IsAsked, Prints, PrintsAfresh, PrintsPrefix, Refuses};
+ghost use Rattle.photon_cli.specs.Words.{AreInRanges, values_in};
 
-use super::checked::{clicks_in_log, queries_in_log};
+use super::checked::checked_logs;
 use super::fault::Fault;
-use super::lines::report_lines;
-use outside::{Sink, Source};
+use super::run::run_lines;
+use crate::wanted::Wanted;
+use outside::{Gate, Sink, Source, Store};
 use report_text::write_report;
+use site_nodes::Config;
 use std::alloc::Global;
+use std::sync::Wait;
+use std::thread::Threads;
+use store_run::Ran;
+use time_shards::Table;
 
-/// Joins the clicks under one name with the queries under another, and writes the report.
+/// Joins the clicks under one name with the queries under another over a store, and writes the report.
 ///
-/// O(n log n) for logs of n lines, which it reads whole, in pieces of 64 KiB, and keeps in memory.
-pub fn join_logs<F: Source, K: Sink>(
+/// It reads both logs whole first, in pieces of 64 KiB, and keeps the clicks in memory.
+pub fn join_logs<R, F, S, K, G>(
+    rt: &R,
     alloc: Global,
+    wanted: &Wanted<'_>,
     files: &mut F,
-    queries: &str,
-    clicks: &str,
-    horizon: u64,
+    store: &mut S,
     out: &mut K,
+    gate: &G,
+    ran: &mut Ran,
 ) -> Result<(), Fault>
-    // Where it ends well, the logs are valid, and the report on them was written whole.
-    ensures done { IsTrue F.Log.tells → IsTrue K.tells → OnOk result (Prints (F.bytes files.old) queries.now clicks.now horizon (K.held out.old) (K.held out.new)) }
-    ensures valid { IsTrue F.Log.tells → MatchResult result (λ _. AreValid (F.bytes files.old) queries.now clicks.now) (λ f. f ≡ fault.Write → AreValid (F.bytes files.old) queries.now clicks.now) }
+where
+    R: Threads + Wait + Sync,
+    F: Source,
+    S: Store,
+    K: Sink,
+    G: Gate,
+    F::Log: Drop,
+    S::Disk: Drop,
+    requires ranges { AreInRanges (values_in wanted.now) }
 
-    // A refusal names the first refused line, of the queries before the clicks.
+    // Where it ends well, the report of what the disks keep was written whole; at a failed write a prefix of it went out, at any
+    // other fault nothing.
+    ensures done { IsTrue F.Log.tells → IsTrue K.tells → IsTrue S.Disk.tells → OnOk result (Prints (F.bytes files.old) (values_in wanted.now) (S.image store.old) (S.image store.new) (Rose (S.faults store.old) (S.faults store.new)) (K.held out.old) (K.held out.new)) }
+    ensures afresh { IsTrue F.Log.tells → IsTrue K.tells → IsTrue S.Disk.tells → OnOk result (PrintsAfresh (F.bytes files.old) (values_in wanted.now) (S.image store.old) (S.image store.new) (Rose (S.faults store.old) (S.faults store.new)) (K.held out.old) (K.held out.new)) }
+    ensures prefix { IsTrue F.Log.tells → IsTrue K.tells → IsTrue S.Disk.tells → result ≡ Err fault.Write
+        → PrintsPrefix (F.bytes files.old) (values_in wanted.now) (S.image store.old) (S.image store.new) (Rose (S.faults store.old) (S.faults store.new)) (K.held out.old) (K.held out.new) }
+    ensures quiet { IsTrue K.tells → IfErr result (λ f. (f ≡ fault.Write) ⊎ (K.held out.new ≡ K.held out.old)) }
+
+    // A refusal names the first bad row of the table, or the first refused line, of the queries before the clicks.
+    ensures row { (n : ℕ) → result ≡ Err (fault.Table n) → IsFirstBad (values_in wanted.now).shards n }
+    ensures bad_row { (n : ℕ) → IsFirstBad (values_in wanted.now).shards n → result ≡ Err (fault.Table n) }
     ensures refused { IsTrue F.Log.tells → (log : LogKind) (line : ℕ) (w : Reason) → result ≡ Err (fault.Refused log line w)
-        → Refuses (F.bytes files.old) queries.now clicks.now log (record { line = line; why = w }) }
+        → Refuses (F.bytes files.old) (values_in wanted.now).queries (values_in wanted.now).clicks log (record { line = line; why = w }) }
+    ensures valid { IsTrue F.Log.tells → AreValid (F.bytes files.old) (values_in wanted.now).queries (values_in wanted.now).clicks ⊎ IsErrAnd result IsEarly }
 
-    // The other faults come only where a count rose, but for want of memory.
-    ensures read { Counts (F.faults files.old) (F.faults files.new) ((log : LogKind) × (result ≡ Err (fault.Read log))) }
+    // The other faults come only where a count rose, but for want of memory and what the disks keep.
+    ensures read { Counts (F.faults files.old) (F.faults files.new) ((log : LogKind) × (result ≡ Err (failed_read log))) }
+    ensures disks { Counts (S.faults store.old) (S.faults store.new) ((place : StorePlace) × (result ≡ Err (fault.Run (cause.Store place)))) }
     ensures write { Counts (K.faults out.old) (K.faults out.new) (result ≡ Err fault.Write) }
 
-    // At a failed write a prefix of the report went out, at any other fault nothing.
-    ensures prefix { IsTrue F.Log.tells → IsTrue K.tells → result ≡ Err fault.Write
-        → PrintsPrefix (F.bytes files.old) queries.now clicks.now horizon (K.held out.old) (K.held out.new) }
-    ensures quiet { IsTrue K.tells → IfErr result (λ f. (f ≡ fault.Write) ⊎ (K.held out.new ≡ K.held out.old)) }
+    // A sound store stays sound, loses no records, and is welcome where
+    // a stop leaves something of each disk.
+    ensures sound { IsTrue S.Disk.tells → IsTrue F.Log.tells → (g : Setting) → IsAsked (F.bytes files.old) (values_in wanted.now) g → IsSoundStore g (S.image store.old) → IsSoundStore g (S.image store.new) }
+    ensures grown { IsTrue S.Disk.tells → IsTrue F.Log.tells → (g : Setting) → IsAsked (F.bytes files.old) (values_in wanted.now) g → (disk : DiskName) → GoesOn (S.image store.old disk) (S.image store.new disk) }
+    ensures welcome { IsTrue S.Disk.tells → IsTrue F.Log.tells → (g : Setting) → IsAsked (F.bytes files.old) (values_in wanted.now) g → IsSoundStore g (S.image store.old) → IfErr result (IsFair ((s : S) → LeavesSomething g (S.image s))) }
 {
-    let query_records = queries_in_log(alloc, files, queries)?;
-    let click_records = clicks_in_log(alloc, files, clicks)?;
-    let Ok(lines) = report_lines(alloc, query_records, click_records, horizon) else {
-        return Err(Fault::Memory);
+    let table = match Table::read(wanted.shards.as_bytes()) {
+        Ok(table) => table,
+        Err(bad) => return Err(Fault::Table { row: bad.row }),
+    };
+    let names = wanted.names;
+    let clicks = match checked_logs(alloc, files, names.queries, names.clicks) {
+        Ok(clicks) => clicks,
+        Err(fault) => return Err(fault),
+    };
+    let config = Config {
+        horizon: wanted.horizon,
+        joiners: wanted.joiners,
+        table,
+        batch: wanted.batch,
+    };
+    let lines = match run_lines(rt, alloc, &config, &names, &clicks, files, store, gate, ran) {
+        Ok(lines) => lines,
+        Err(fault) => return Err(fault),
     };
     match write_report(out, &lines) {
         Ok(()) => Ok(()),

@@ -2,7 +2,7 @@ use Rattle.std.proofs.Common.{◌≡◌, List, ℕ, subst, sym, ◌∙◌}
 use Rattle.log_records.specs.declared.check.BadLine.{BadLine}
 use Rattle.log_records.specs.Check.{RefusesQuery}
 use Rattle.photon_cli.specs.declared.engine.fault.Fault.TheVariants as fault
-use Rattle.photon_cli.specs.declared.engine.fault.LogName.TheVariants.{Queries}
+use Rattle.run_faults.specs.declared.fault.LogName.TheVariants.{Queries}
 use Rattle.photon_cli.specs.LogFaults.{IsLogFault}
 use Rattle.photon_cli.proofs.Refusals.{within, refusal_kind, told_line}
 use Rattle.photon_cli.proofs.engine.checked.queries_in_log.Goals as goal

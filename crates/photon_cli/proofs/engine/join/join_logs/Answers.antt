@@ -1,38 +1,144 @@
-use Rattle.std.proofs.Common.{◌≡◌, ℕ, List, Option, Err, ap, subst}
-use Rattle.std.specs.Option.{IsSomeAnd}
-use Rattle.std.proofs.lemmas.Result.{err_from_is_err_and}
-use Rattle.log_records.specs.declared.records.QueryRec.{QueryRec}
-use Rattle.log_records.specs.Check.{IsQueryLog, RefusesClick}
-use Rattle.log_records.specs.declared.check.BadLine.{BadLine}
+use Rattle.std.proofs.Common.{◌≡◌, ◌++◌, ℕ, List, Option, inl, Err, refl, sym, ap, subst, ◌∙◌}
+use Rattle.time_shards.specs.declared.BadTable.{BadTable}
+use Rattle.time_shards.specs.Text.{IsFirstBad}
+use Rattle.time_shards.proofs.Texts.{only_table}
+use Rattle.log_defs.specs.declared.ReportLine.{ReportLine}
+use Rattle.log_defs.specs.Report.{text_of}
+use Rattle.report_text.specs.Stream.{TookPrefix}
 use Rattle.photon_cli.specs.declared.engine.fault.Fault.TheVariants as fault
-use Rattle.photon_cli.specs.declared.engine.fault.LogName.{LogName}
-use Rattle.photon_cli.specs.declared.engine.fault.LogName.TheVariants.{Queries, Clicks}
-use Rattle.photon_cli.specs.Join.{Refuses}
-use Rattle.photon_cli.proofs.Refusals.{same_log, within}
+use Rattle.photon_cli.specs.Words.{values_in}
+use Rattle.photon_cli.proofs.Runs.{clicks_back, is_asked, run_setting, setting_of}
 use Rattle.photon_cli.proofs.engine.join.join_logs.Goals as goal
 
-pub returns-in_err-query_records-clause-refused : goal.returns-in_err-query_records-clause-refused
-returns-in_err-query_records-clause-refused g c tells log line w e =
-    let p = err_from_is_err_and c.from_residual.result c.from_residual.ensures.1 in
-    let bad : BadLine = record { line = line; why = w } in
-    let f = c.in_err-query_records.field-0.0 in
-    let own : f ≡ fault.Refused log line w = cc in
-    let here : Queries ≡ log = same_log Queries log f line w c.in_err-query_records.ensures.fault own in
-    let told : f ≡ fault.Refused Queries line w = cc in
-    subst (λ (l : LogName). Refuses (g.F.Source.bytes c.args.files.now) c.args.queries.now c.args.clicks.now l bad) here
-    (c.in_err-query_records.ensures.refused tells line w (ap Err told))
+pub returns-in-Err-clause-bad_row : goal.returns-in-Err-clause-bad_row
+returns-in-Err-clause-bad_row g c n first =
+    let is = c.read.ensures.told n (subst (λ (t : List ℕ). IsFirstBad t n) (sym c.as_bytes.ensures.value) first) in
+    let own = c.in-Err.is in
+    let told : BadTable = record { row = n } in
+    let same : c.in-Err.bad ≡ told = cc in
+    ap (λ (b : BadTable). Err (fault.Table b.row)) same
 
-pub returns-in_err-click_records-clause-refused : goal.returns-in_err-click_records-clause-refused
-returns-in_err-click_records-clause-refused g c tells log line w e =
-    let p = err_from_is_err_and c.from_residual-in_err-click_records.result c.from_residual-in_err-click_records.ensures.1 in
-    let bad : BadLine = record { line = line; why = w } in
-    let f = c.in_err-click_records.field-0.0 in
-    let own : f ≡ fault.Refused log line w = cc in
-    let here : Clicks ≡ log = same_log Clicks log f line w c.in_err-click_records.ensures.fault own in
-    let told : f ≡ fault.Refused Clicks line w = cc in
-    let named : List ℕ → Option (List ℕ) = g.F.Source.bytes c.args.files.now in
-    let valid : IsSomeAnd (named c.args.queries.now) (λ b. (qs : List QueryRec) × IsQueryLog b qs) =
-    within _ _ (λ (b : List ℕ). (qs : List QueryRec) × IsQueryLog b qs) (λ b h. (_, h)) (c.in_ok-query_records.ensures.found tells) in
-    let there : IsSomeAnd (named c.args.clicks.now) (λ b. RefusesClick b bad) =
-    subst (λ (o : Option (List ℕ)). IsSomeAnd o (λ b. RefusesClick b bad)) (c.in_ok-query_records.ensures.same tells c.args.clicks.now) (c.in_err-click_records.ensures.refused tells line w (ap Err told)) in
-    subst (λ (l : LogName). Refuses named c.args.queries.now c.args.clicks.now l bad) here (valid, there)
+pub returns-in-Err-checked_logs-clause-bad_row : goal.returns-in-Err-checked_logs-clause-bad_row
+returns-in-Err-checked_logs-clause-bad_row g c n first =
+    let is = c.read.ensures.told n (subst (λ (t : List ℕ). IsFirstBad t n) (sym c.as_bytes.ensures.value) first) in
+    let own = c.in-Ok.is in
+    absurd cc
+
+pub returns-in-Err-run_lines-clause-bad_row : goal.returns-in-Err-run_lines-clause-bad_row
+returns-in-Err-run_lines-clause-bad_row g c n first =
+    let is = c.read.ensures.told n (subst (λ (t : List ℕ). IsFirstBad t n) (sym c.as_bytes.ensures.value) first) in
+    let own = c.in-Ok.is in
+    absurd cc
+
+pub returns-in-Err-run_lines-clause-valid : goal.returns-in-Err-run_lines-clause-valid
+returns-in-Err-run_lines-clause-valid g c logs = let x = c.in-Ok-checked_logs.ensures.valid logs in inl (x.0, _, x.1)
+
+pub returns-in-Err-run_lines-clause-sound : goal.returns-in-Err-run_lines-clause-sound
+returns-in-Err-run_lines-clause-sound g c disks logs s asked =
+    let told : List ℕ → Option (List ℕ) = g.F.Source.bytes c.args.files.now in
+    let v = values_in c.args.wanted.now in
+    let table = only_table v.shards c.in-Ok.table s.table c.in-Ok.ensures.found.0 asked.table.0 (sym c.as_bytes.ensures.value ∙ c.in-Ok.ensures.found.1) asked.table.1 in
+    let setting = run_setting told (g.F.Source.bytes c.checked_logs.new.files) v c.in-Ok.table c.in-Ok-checked_logs.clicks.lines_end s asked (c.in-Ok-checked_logs.ensures.same logs) table (c.in-Ok-checked_logs.ensures.end logs) in
+    c.run_lines.ensures.sound disks logs s setting
+
+pub returns-in-Err-run_lines-clause-grown : goal.returns-in-Err-run_lines-clause-grown
+returns-in-Err-run_lines-clause-grown g c disks logs s asked =
+    let told : List ℕ → Option (List ℕ) = g.F.Source.bytes c.args.files.now in
+    let v = values_in c.args.wanted.now in
+    let table = only_table v.shards c.in-Ok.table s.table c.in-Ok.ensures.found.0 asked.table.0 (sym c.as_bytes.ensures.value ∙ c.in-Ok.ensures.found.1) asked.table.1 in
+    let setting = run_setting told (g.F.Source.bytes c.checked_logs.new.files) v c.in-Ok.table c.in-Ok-checked_logs.clicks.lines_end s asked (c.in-Ok-checked_logs.ensures.same logs) table (c.in-Ok-checked_logs.ensures.end logs) in
+    c.run_lines.ensures.grown disks logs s setting
+
+pub returns-in-Err-run_lines-clause-welcome : goal.returns-in-Err-run_lines-clause-welcome
+returns-in-Err-run_lines-clause-welcome g c disks logs s asked =
+    let told : List ℕ → Option (List ℕ) = g.F.Source.bytes c.args.files.now in
+    let v = values_in c.args.wanted.now in
+    let table = only_table v.shards c.in-Ok.table s.table c.in-Ok.ensures.found.0 asked.table.0 (sym c.as_bytes.ensures.value ∙ c.in-Ok.ensures.found.1) asked.table.1 in
+    let setting = run_setting told (g.F.Source.bytes c.checked_logs.new.files) v c.in-Ok.table c.in-Ok-checked_logs.clicks.lines_end s asked (c.in-Ok-checked_logs.ensures.same logs) table (c.in-Ok-checked_logs.ensures.end logs) in
+    c.in-Err-run_lines.ensures.welcome disks logs s setting
+
+pub returns-in-Ok-write_report-clause-done : goal.returns-in-Ok-write_report-clause-done
+returns-in-Ok-write_report-clause-done g c logs sinks disks =
+    let told : List ℕ → Option (List ℕ) = g.F.Source.bytes c.args.files.now in
+    let v = values_in c.args.wanted.now in
+    let x = c.in-Ok-checked_logs.ensures.valid logs in
+    let cs = c.in-Ok-checked_logs.clicks.records.items in
+    let s = setting_of v c.in-Ok.table x.0 cs in
+    let asked = is_asked told v c.in-Ok.table x.0 cs (c.in-Ok.ensures.found.0, sym c.as_bytes.ensures.value ∙ c.in-Ok.ensures.found.1) x.1 in
+    let setting = run_setting told (g.F.Source.bytes c.checked_logs.new.files) v c.in-Ok.table c.in-Ok-checked_logs.clicks.lines_end s asked (c.in-Ok-checked_logs.ensures.same logs) refl (c.in-Ok-checked_logs.ensures.end logs) in
+    let written = c.in-Ok-write_report.ensures.all sinks ∙ ap (λ (ls : List ReportLine). g.K.Sink.held c.args.out.now ++ text_of ls) c.deref.ensures.value in
+    (s, asked, λ was. (c.in-Ok-run_lines.lines.items, c.in-Ok-run_lines.ensures.joined disks logs s setting (clicks_back 0 cs) was, written))
+
+pub returns-in-Ok-write_report-clause-afresh : goal.returns-in-Ok-write_report-clause-afresh
+returns-in-Ok-write_report-clause-afresh g c logs sinks disks =
+    let told : List ℕ → Option (List ℕ) = g.F.Source.bytes c.args.files.now in
+    let v = values_in c.args.wanted.now in
+    let x = c.in-Ok-checked_logs.ensures.valid logs in
+    let cs = c.in-Ok-checked_logs.clicks.records.items in
+    let s = setting_of v c.in-Ok.table x.0 cs in
+    let asked = is_asked told v c.in-Ok.table x.0 cs (c.in-Ok.ensures.found.0, sym c.as_bytes.ensures.value ∙ c.in-Ok.ensures.found.1) x.1 in
+    let setting = run_setting told (g.F.Source.bytes c.checked_logs.new.files) v c.in-Ok.table c.in-Ok-checked_logs.clicks.lines_end s asked (c.in-Ok-checked_logs.ensures.same logs) refl (c.in-Ok-checked_logs.ensures.end logs) in
+    let written = c.in-Ok-write_report.ensures.all sinks ∙ ap (λ (ls : List ReportLine). g.K.Sink.held c.args.out.now ++ text_of ls) c.deref.ensures.value in
+    (s, asked, λ was. (c.in-Ok-run_lines.lines.items, c.in-Ok-run_lines.ensures.afresh disks logs s setting (clicks_back 0 cs) was, written))
+
+pub returns-in-Ok-write_report-clause-bad_row : goal.returns-in-Ok-write_report-clause-bad_row
+returns-in-Ok-write_report-clause-bad_row g c n first =
+    let is = c.read.ensures.told n (subst (λ (t : List ℕ). IsFirstBad t n) (sym c.as_bytes.ensures.value) first) in
+    let own = c.in-Ok.is in
+    absurd cc
+
+pub returns-in-Ok-write_report-clause-valid : goal.returns-in-Ok-write_report-clause-valid
+returns-in-Ok-write_report-clause-valid g c logs = let x = c.in-Ok-checked_logs.ensures.valid logs in inl (x.0, _, x.1)
+
+pub returns-in-Ok-write_report-clause-sound : goal.returns-in-Ok-write_report-clause-sound
+returns-in-Ok-write_report-clause-sound g c disks logs s asked =
+    let told : List ℕ → Option (List ℕ) = g.F.Source.bytes c.args.files.now in
+    let v = values_in c.args.wanted.now in
+    let table = only_table v.shards c.in-Ok.table s.table c.in-Ok.ensures.found.0 asked.table.0 (sym c.as_bytes.ensures.value ∙ c.in-Ok.ensures.found.1) asked.table.1 in
+    let setting = run_setting told (g.F.Source.bytes c.checked_logs.new.files) v c.in-Ok.table c.in-Ok-checked_logs.clicks.lines_end s asked (c.in-Ok-checked_logs.ensures.same logs) table (c.in-Ok-checked_logs.ensures.end logs) in
+    c.run_lines.ensures.sound disks logs s setting
+
+pub returns-in-Ok-write_report-clause-grown : goal.returns-in-Ok-write_report-clause-grown
+returns-in-Ok-write_report-clause-grown g c disks logs s asked =
+    let told : List ℕ → Option (List ℕ) = g.F.Source.bytes c.args.files.now in
+    let v = values_in c.args.wanted.now in
+    let table = only_table v.shards c.in-Ok.table s.table c.in-Ok.ensures.found.0 asked.table.0 (sym c.as_bytes.ensures.value ∙ c.in-Ok.ensures.found.1) asked.table.1 in
+    let setting = run_setting told (g.F.Source.bytes c.checked_logs.new.files) v c.in-Ok.table c.in-Ok-checked_logs.clicks.lines_end s asked (c.in-Ok-checked_logs.ensures.same logs) table (c.in-Ok-checked_logs.ensures.end logs) in
+    c.run_lines.ensures.grown disks logs s setting
+
+pub returns-clause-prefix : goal.returns-clause-prefix
+returns-clause-prefix g c logs sinks disks e =
+    let told : List ℕ → Option (List ℕ) = g.F.Source.bytes c.args.files.now in
+    let v = values_in c.args.wanted.now in
+    let x = c.in-Ok-checked_logs.ensures.valid logs in
+    let cs = c.in-Ok-checked_logs.clicks.records.items in
+    let s = setting_of v c.in-Ok.table x.0 cs in
+    let asked = is_asked told v c.in-Ok.table x.0 cs (c.in-Ok.ensures.found.0, sym c.as_bytes.ensures.value ∙ c.in-Ok.ensures.found.1) x.1 in
+    let setting = run_setting told (g.F.Source.bytes c.checked_logs.new.files) v c.in-Ok.table c.in-Ok-checked_logs.clicks.lines_end s asked (c.in-Ok-checked_logs.ensures.same logs) refl (c.in-Ok-checked_logs.ensures.end logs) in
+    let took = subst (λ (ls : List ReportLine). TookPrefix (g.K.Sink.held c.args.out.now) (text_of ls) (g.K.Sink.held c.write_report.new.sink)) c.deref.ensures.value (c.in-Err-write_report.ensures.prefix sinks) in
+    (s, asked, λ was. (c.in-Ok-run_lines.lines.items, c.in-Ok-run_lines.ensures.joined disks logs s setting (clicks_back 0 cs) was, took))
+
+pub returns-clause-bad_row : goal.returns-clause-bad_row
+returns-clause-bad_row g c n first =
+    let is = c.read.ensures.told n (subst (λ (t : List ℕ). IsFirstBad t n) (sym c.as_bytes.ensures.value) first) in
+    let own = c.in-Ok.is in
+    absurd cc
+
+pub returns-clause-valid : goal.returns-clause-valid
+returns-clause-valid g c logs = let x = c.in-Ok-checked_logs.ensures.valid logs in inl (x.0, _, x.1)
+
+pub returns-clause-sound : goal.returns-clause-sound
+returns-clause-sound g c disks logs s asked =
+    let told : List ℕ → Option (List ℕ) = g.F.Source.bytes c.args.files.now in
+    let v = values_in c.args.wanted.now in
+    let table = only_table v.shards c.in-Ok.table s.table c.in-Ok.ensures.found.0 asked.table.0 (sym c.as_bytes.ensures.value ∙ c.in-Ok.ensures.found.1) asked.table.1 in
+    let setting = run_setting told (g.F.Source.bytes c.checked_logs.new.files) v c.in-Ok.table c.in-Ok-checked_logs.clicks.lines_end s asked (c.in-Ok-checked_logs.ensures.same logs) table (c.in-Ok-checked_logs.ensures.end logs) in
+    c.run_lines.ensures.sound disks logs s setting
+
+pub returns-clause-grown : goal.returns-clause-grown
+returns-clause-grown g c disks logs s asked =
+    let told : List ℕ → Option (List ℕ) = g.F.Source.bytes c.args.files.now in
+    let v = values_in c.args.wanted.now in
+    let table = only_table v.shards c.in-Ok.table s.table c.in-Ok.ensures.found.0 asked.table.0 (sym c.as_bytes.ensures.value ∙ c.in-Ok.ensures.found.1) asked.table.1 in
+    let setting = run_setting told (g.F.Source.bytes c.checked_logs.new.files) v c.in-Ok.table c.in-Ok-checked_logs.clicks.lines_end s asked (c.in-Ok-checked_logs.ensures.same logs) table (c.in-Ok-checked_logs.ensures.end logs) in
+    c.run_lines.ensures.grown disks logs s setting

@@ -1,0 +1,63 @@
+-- What a run that has come to rest gives the report, and the setting that it is of.
+use Rattle.std.proofs.Common.{◌≡◌, ℕ, suc, ◌+◌, List, [], ◌∷◌, map, Option, Some, None, refl, sym, ap, length, subst}
+use Rattle.std.specs.Option.{IsSomeAnd}
+use Rattle.time_shards.specs.declared.ShardRow.{ShardRow}
+use Rattle.log_records.specs.declared.records.QueryRec.{QueryRec}
+use Rattle.log_records.specs.declared.records.ClickRec.{ClickRec}
+use Rattle.log_records.specs.Check.{IsQueryLog, IsClickLog}
+use Rattle.log_records.specs.Line.{click_line}
+use Rattle.log_records.specs.Lines.{ClickLine, placed, end_from}
+use Rattle.log_records.proofs.Places.{lines_follow}
+use Rattle.turn_defs.specs.Setting.{Setting, Checked}
+use Rattle.dispatch_node.specs.Places.{IsLogOf}
+use Rattle.store_run.specs.Asked.{IsSettingOf}
+use Rattle.photon_cli.specs.Join.{AreLogs, EndsAt, IsAsked, config_of}
+use Rattle.photon_cli.specs.Words.{IsTextOf, Values}
+use Rattle.photon_cli.proofs.Refusals.{within}
+
+pub taken : {A : Type 0} (o : Option A) (P : A → Type 0) → IsSomeAnd o P → (x : A) × P x
+taken None P h = absurd h
+taken (Some x) P h = (x, h)
+
+-- the setting of a log that was checked has what the law asks of it
+pub log_checked : (o : Option (List ℕ)) (g : Setting) → IsSomeAnd o (λ log. IsLogOf log g) → Checked g
+log_checked None g h = absurd h
+log_checked (Some log) g h = let x = lines_follow log g.clicks h.lines in record { follow = x.0; no_conflict = x.1 }
+
+-- the clicks of lines that were placed
+pub clicks_back : (p : ℕ) (cs : List ClickRec) → map (λ (l : ClickLine). l.click) (placed p cs) ≡ cs
+clicks_back p [] = refl
+clicks_back p (c ∷ cs) = ap (λ (ds : List ClickRec). c ∷ ds) (clicks_back (suc (p + length (click_line c))) cs)
+
+-- ---- the setting
+
+-- the setting of these values and records
+abbrev pub setting_of : Values → List ShardRow → List QueryRec → List ClickRec → Setting
+setting_of v table qs cs = record { queries = qs; clicks = placed 0 cs; horizon = v.horizon; joiners = v.joiners; table = table; batch = v.batch; replicas = 3 }
+
+pub is_asked : (told : List ℕ → Option (List ℕ)) (v : Values) (table : List ShardRow) (qs : List QueryRec) (cs : List ClickRec) → IsTextOf v.shards table → AreLogs told v.queries v.clicks qs cs → IsAsked told v (setting_of v table qs cs)
+is_asked told v table qs cs text logs = record {
+  table = text;
+  setting = record {
+    numbers = record { joiners = refl; horizon = refl; table = refl; batch = refl; replicas = refl };
+    queries_are = logs.query;
+    clicks_are = within (told v.clicks) (λ log. IsClickLog log cs) (λ log. IsLogOf log (setting_of v table qs cs)) (λ log h. record { lines = record { clicks = cs; holds = h.0; lines = refl }; short = h.1 }) logs.click;
+    ends = refl;
+  };
+}
+
+ends_there : (o : Option (List ℕ)) (g : Setting) (end_ : ℕ) → IsSomeAnd o (λ log. IsLogOf log g) → IsSomeAnd o (λ log. EndsAt log end_) → end_ ≡ end_from 0 g.clicks
+ends_there None g end_ h k = absurd h
+ends_there (Some log) g end_ h k = k g.clicks h.lines
+
+-- the setting that is asked for is that of the run: of the table that was read, and of the click log's end
+pub run_setting : (told now : List ℕ → Option (List ℕ)) (v : Values) (table : List ShardRow) (end_ : ℕ) (g : Setting)
+    → IsAsked told v g → ((n : List ℕ) → now n ≡ told n) → table ≡ g.table → IsSomeAnd (told v.clicks) (λ log. EndsAt log end_) → IsSettingOf now v.queries v.clicks (config_of v table) end_ g
+run_setting told now v table end_ g asked same is ends =
+    let n = asked.setting.numbers in
+    record {
+      numbers = record { joiners = n.joiners; horizon = n.horizon; table = sym is; batch = n.batch; replicas = n.replicas };
+      queries_are = subst (λ (o : Option (List ℕ)). IsSomeAnd o (λ log. IsQueryLog log g.queries)) (sym (same v.queries)) asked.setting.queries_are;
+      clicks_are = subst (λ (o : Option (List ℕ)). IsSomeAnd o (λ log. IsLogOf log g)) (sym (same v.clicks)) asked.setting.clicks_are;
+      ends = ends_there (told v.clicks) g end_ asked.setting.clicks_are ends;
+    }

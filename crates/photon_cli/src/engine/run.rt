@@ -1,0 +1,86 @@
+// The run of both sites, and what becomes of each click by what it leaves.
+ghost use Rattle.std.specs.Prelude.{◌≡◌, ◌<◌, ◌≤◌, List, map, IfOk, IfErr, IsTrue};
+ghost use Rattle.outside.specs.declared.store.DiskName.{DiskName};
+ghost use Rattle.outside.specs.Faults.{Rose};
+ghost use Rattle.time_shards.specs.Shards.{IsTable};
+ghost use Rattle.log_records.specs.Lines.{ClickLine};
+ghost use Rattle.site_disks.specs.Lent.{GoesOn};
+ghost use Rattle.store_laws.specs.Stores.{IsSoundStore};
+ghost use Rattle.store_laws.specs.Laws.{LeavesNothing};
+ghost use Rattle.store_opening.specs.Causes.{LeavesSomething};
+ghost use Rattle.store_run.specs.Asked.{OfSetting};
+ghost use Rattle.store_run.specs.Joined.{Joins, JoinsAfresh};
+ghost use Rattle.photon_cli.specs.LogFaults.{IsLate, IsFair};
+
+use super::checked::CheckedClicks;
+use super::fault::Fault;
+use log_defs::ReportLine;
+use lossy_link::Plan;
+use outside::{Gate, Source, Store};
+use site_nodes::Config;
+use std::alloc::Global;
+use std::sync::Wait;
+use std::thread::Threads;
+use store_run::meaning::means;
+use store_run::{Names, Ran, run_sites};
+use verify_pass::classify;
+
+/// Runs both sites over the store until all nodes are at rest, and gives the report's line for each distinct click id, by what the
+/// disks keep then. No packet is lost on purpose.
+pub fn run_lines<R, F, S, G>(
+    rt: &R,
+    alloc: Global,
+    config: &Config,
+    names: &Names<'_>,
+    clicks: &CheckedClicks,
+    files: &mut F,
+    store: &mut S,
+    gate: &G,
+    ran: &mut Ran,
+) -> Result<Vec<ReportLine>, Fault>
+where
+    R: Threads + Wait + Sync,
+    F: Source,
+    S: Store,
+    G: Gate,
+    F::Log: Drop,
+    S::Disk: Drop,
+    requires joiners { (0 < config.now.joiners) × (config.now.joiners ≤ 4) }
+    requires table { IsTable config.now.table }
+    requires batch { config.now.batch ≤ 64 }
+    ensures sound { IsTrue S.Disk.tells → IsTrue F.Log.tells → OfSetting (F.bytes files.old) names.now.queries.now names.now.clicks.now config.now clicks.now.lines_end (λ g. IsSoundStore g (S.image store.old) → IsSoundStore g (S.image store.new)) }
+    ensures grown { IsTrue S.Disk.tells → IsTrue F.Log.tells → OfSetting (F.bytes files.old) names.now.queries.now names.now.clicks.now config.now clicks.now.lines_end (λ g. (disk : DiskName) → GoesOn (S.image store.old disk) (S.image store.new disk)) }
+
+    // The lines are the report of what the disks keep at the end, and from an empty store that of the two logs.
+    ensures joined { IsTrue S.Disk.tells → IsTrue F.Log.tells → OfSetting (F.bytes files.old) names.now.queries.now names.now.clicks.now config.now clicks.now.lines_end (λ g. map (λ (l : ClickLine). l.click) g.clicks ≡ clicks.now.records.items → IsSoundStore g (S.image store.old)
+        → IfOk result (λ lines. Joins g (S.image store.old) (S.image store.new) (Rose (S.faults store.old) (S.faults store.new)) lines.items)) }
+    ensures afresh { IsTrue S.Disk.tells → IsTrue F.Log.tells → OfSetting (F.bytes files.old) names.now.queries.now names.now.clicks.now config.now clicks.now.lines_end (λ g. map (λ (l : ClickLine). l.click) g.clicks ≡ clicks.now.records.items → LeavesNothing g (S.image store.old)
+        → IfOk result (λ lines. JoinsAfresh g (Rose (S.faults store.old) (S.faults store.new)) lines.items)) }
+
+    ensures cause { IfErr result (IsLate (Rose (F.faults files.old) (F.faults files.new)) (Rose (S.faults store.old) (S.faults store.new))) }
+    ensures welcome { IsTrue S.Disk.tells → IsTrue F.Log.tells → OfSetting (F.bytes files.old) names.now.queries.now names.now.clicks.now config.now clicks.now.lines_end (λ g. IsSoundStore g (S.image store.old) → IfErr result (IsFair ((s : S) → LeavesSomething g (S.image s)))) }
+    ensures file_count { F.faults files.old ≤ F.faults files.new }
+    ensures store_count { S.faults store.old ≤ S.faults store.new }
+{
+    means::<S>();
+    let plan = Plan::empty(alloc);
+    let journals = match run_sites(
+        rt,
+        alloc,
+        config,
+        names,
+        clicks.lines_end,
+        files,
+        store,
+        plan,
+        gate,
+        ran,
+    ) {
+        Ok(journals) => journals,
+        Err(cause) => return Err(Fault::Run(cause)),
+    };
+    match classify(alloc, &clicks.records, &journals, &config.table) {
+        Ok(lines) => Ok(lines),
+        Err(_) => Err(Fault::Memory),
+    }
+}
