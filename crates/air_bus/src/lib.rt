@@ -16,6 +16,3 @@ mod send;
 pub use air::Air;
 pub use entry::{Entry, Input, Phase};
 pub use payload::{Packets, Payload};
-
-#[cfg(test)]
-mod tests;

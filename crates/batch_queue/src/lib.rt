@@ -8,8 +8,6 @@ mod answered;
 mod group;
 mod queue;
 mod settled;
-#[cfg(test)]
-mod tests;
 
 pub use answered::Answered;
 pub use queue::{BatchQueue, Put};

@@ -9,8 +9,6 @@ mod input;
 pub mod laws;
 mod line;
 mod outbox;
-#[cfg(test)]
-mod tests;
 mod turns;
 mod window;
 

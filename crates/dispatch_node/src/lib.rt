@@ -5,8 +5,6 @@ mod asking;
 mod clicks;
 mod journals;
 mod node;
-#[cfg(test)]
-mod node_tests;
 mod notes;
 
 pub use node::DispatchNode;

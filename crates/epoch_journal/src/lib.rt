@@ -6,6 +6,3 @@ mod reading;
 pub mod rows;
 
 pub use journal::{EpochJournal, RaiseFault};
-
-#[cfg(test)]
-mod tests;

@@ -4,7 +4,5 @@
 mod find;
 mod read;
 mod store;
-#[cfg(test)]
-mod tests;
 
 pub use store::{EventStore, LookFault, Lookup, Step};

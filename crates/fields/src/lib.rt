@@ -14,8 +14,6 @@ mod records;
 pub mod rows;
 mod several;
 mod stop;
-#[cfg(test)]
-mod tests;
 
 pub use field::Field;
 pub use ids::token_bytes;

@@ -18,6 +18,3 @@ pub use frame::Frame;
 pub use journal::{AppendFault, Journal, JournalState};
 pub use reading::JournalFault;
 pub use wire_core::Bytes as Payload;
-
-#[cfg(test)]
-mod tests;

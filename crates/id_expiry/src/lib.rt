@@ -2,8 +2,6 @@
 #![tactic(auto)]
 
 mod by_time;
-#[cfg(test)]
-mod tests;
 mod time_order;
 mod timed;
 

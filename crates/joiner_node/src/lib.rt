@@ -7,7 +7,5 @@ mod joining;
 mod node;
 mod queries;
 mod records;
-#[cfg(test)]
-mod tests;
 
 pub use node::JoinerNode;

@@ -9,6 +9,3 @@ pub mod rows;
 pub use feeds::lines_end;
 pub use misplaced::Misplaced;
 pub use places::first_misplaced;
-
-#[cfg(test)]
-mod tests;

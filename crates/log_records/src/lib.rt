@@ -8,8 +8,6 @@ mod lines;
 mod records;
 pub mod rows;
 mod seen;
-#[cfg(test)]
-mod tests;
 mod text;
 mod why;
 mod write;

@@ -12,6 +12,3 @@ mod words;
 
 pub use bad_plan::{BadPlan, Field};
 pub use plan::{DiskKind, Fate, Image, Kind, Plan, PlanStop, Rule};
-
-#[cfg(test)]
-mod tests;

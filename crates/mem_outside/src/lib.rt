@@ -18,6 +18,3 @@ pub use log::{MemFile, MemLog, MemSource};
 pub use mem_store::MemStore;
 pub use sink::MemSink;
 pub use store::Stop;
-
-#[cfg(test)]
-mod tests;

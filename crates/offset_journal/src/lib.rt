@@ -6,6 +6,3 @@ mod reading;
 pub mod rows;
 
 pub use journal::OffsetJournal;
-
-#[cfg(test)]
-mod tests;

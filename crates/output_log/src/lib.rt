@@ -9,6 +9,3 @@ pub mod rows;
 
 pub use log::OutputLog;
 pub use pair::{PairRec, pair_frame, read_pair};
-
-#[cfg(test)]
-mod tests;

@@ -10,8 +10,6 @@ mod outcomes;
 mod packet;
 pub mod rows;
 mod tags;
-#[cfg(test)]
-mod tests;
 
 pub use decoding::decode;
 pub use encoding::encode;

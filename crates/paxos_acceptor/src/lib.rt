@@ -3,8 +3,6 @@
 
 mod acceptor;
 mod notes;
-#[cfg(test)]
-mod tests;
 
 pub use acceptor::Acceptor;
 pub use notes::{Prepared, ReplicaNote, Taken};

@@ -3,7 +3,5 @@
 
 mod proposer;
 mod tally;
-#[cfg(test)]
-mod tests;
 
 pub use proposer::{Proposer, REPLICAS};

@@ -4,8 +4,6 @@
 
 pub mod laws;
 mod node;
-#[cfg(test)]
-mod node_tests;
 mod notes;
 mod packets;
 mod registrar;
@@ -14,8 +12,6 @@ mod server_core;
 mod shard;
 mod shards;
 mod station;
-#[cfg(test)]
-mod tests;
 mod turn;
 
 pub use node::ServerNode;

@@ -6,12 +6,8 @@ mod answers;
 mod input;
 pub mod laws;
 mod node;
-#[cfg(test)]
-mod node_tests;
 mod replay;
 mod replica_core;
-#[cfg(test)]
-mod tests;
 mod turn;
 mod voter;
 mod votes;

@@ -7,6 +7,3 @@ mod reading;
 pub mod rows;
 
 pub use log::RetryLog;
-
-#[cfg(test)]
-mod tests;

@@ -22,6 +22,3 @@ pub use opened::Opened;
 pub use record::write_topology;
 pub use record_journal::RecordJournal;
 pub use votes::VoteJournal;
-
-#[cfg(test)]
-mod tests;

@@ -3,8 +3,6 @@
 
 mod scan;
 mod tail;
-#[cfg(test)]
-mod tests;
 mod window;
 
 pub use scan::{LIMIT, MAX_LINE};

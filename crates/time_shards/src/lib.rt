@@ -3,8 +3,6 @@
 
 pub mod laws;
 mod table;
-#[cfg(test)]
-mod tests;
 mod text;
 
 pub use table::Table;

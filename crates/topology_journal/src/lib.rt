@@ -10,6 +10,3 @@ mod topology;
 
 pub use journal::TopologyJournal;
 pub use topology::{Topology, topology_frame};
-
-#[cfg(test)]
-mod tests;

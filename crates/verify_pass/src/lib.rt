@@ -5,8 +5,6 @@
 mod chosen;
 mod classes;
 mod distinct;
-#[cfg(test)]
-mod examples;
 mod journals;
 pub mod laws;
 mod lines;
