@@ -1,13 +1,17 @@
 #!/usr/bin/env python3
-"""Times `photon join` beside sqlite3 and awk on the same join, in one run, and prints ratios.
+"""Times `photon join` beside sqlite3 on the same clicks, in one run, and prints ratios.
 
-usage: bench/join.py [LINES ..]      (default: 1000 10000 100000)
+usage: bench/join.py [LINES ..]      (default: 2000 20000)
 
-Each size makes a query log and a click log of that many lines in a temporary folder. Each program writes the same report
-to a file, and the reports are compared. Figures are seconds of wall time and the largest resident set. A tool that is
-missing is left out with a message. Nothing is written outside the temporary folder.
+Each size makes a query log and a click log of that many lines in a temporary folder. `photon` joins them over a new state directory
+with 1, 2 and 4 joiners a site, then once more over what that left, and then over logs of twice as many lines. Beside it sqlite3 puts
+the same clicks into a table on disk, a transaction a click with the query looked up in it, as one site alone would do (WAL,
+synchronous=FULL). Both wait for the disk. The pairs are counted and compared. Printed are seconds of wall time, clicks a second, the
+largest resident set, the bytes of the state, and, where strace is here, syncs a click, counted in a run of its own of at most 1000
+clicks. Where a tool is missing its part is left out with a message. Nothing is written outside the temporary folder.
 """
 import os
+import re
 import shutil
 import subprocess
 import sys
@@ -15,45 +19,18 @@ import tempfile
 import time
 
 TOP = os.path.dirname(os.path.dirname(os.path.abspath(__file__)))
+PHOTON = os.path.join(TOP, "bin", "photon")
 
-AWK = r"""
-function key(id,   p, o) { split(id, p, ":"); split(p[1], o, "."); return sprintf("%03d%03d%03d%03d:%010d:%020d", o[1], o[2], o[3], o[4], p[2], p[3]) }
-NR == FNR { if (!($1 in query)) query[$1] = substr($0, length($1) + 2); next }
-{
-    if ($1 in seen) next
-    seen[$1]
-    if ($2 in query) { j++; print key($1) "\tJ " $0 "\t" query[$2] } else { u++; print key($1) "\tU " $1 }
-}
-END { printf "~\t= %d 0 0 %d\n", j, u }
-"""
-
-SQL = r"""
-CREATE TABLE q (id TEXT PRIMARY KEY, text TEXT) WITHOUT ROWID;
-CREATE TABLE c (ip INTEGER, pid INTEGER, micros INTEGER, id TEXT, query TEXT, line TEXT, PRIMARY KEY (ip, pid, micros)) WITHOUT ROWID;
-CREATE TABLE raw_q (line TEXT);
-CREATE TABLE raw_c (line TEXT);
-.mode ascii
-.separator "\037" "\n"
-.import {queries} raw_q
-.import {clicks} raw_c
-INSERT OR IGNORE INTO q SELECT substr(line, 1, instr(line, ' ') - 1), substr(line, instr(line, ' ') + 1) FROM raw_q;
-WITH s AS (SELECT line, substr(line, 1, instr(line, ' ') - 1) AS id, substr(line, instr(line, ' ') + 1) AS rest FROM raw_c),
-     t AS (SELECT line, id, substr(rest, 1, instr(rest, ' ') - 1) AS query, substr(id, 1, instr(id, ':') - 1) AS ip, substr(id, instr(id, ':') + 1) AS tail FROM s),
-     o AS (SELECT *, substr(ip, instr(ip, '.') + 1) AS i2 FROM t),
-     p AS (SELECT *, substr(i2, instr(i2, '.') + 1) AS i3 FROM o)
-INSERT OR IGNORE INTO c
-SELECT ((CAST(ip AS INTEGER) * 256 + CAST(i2 AS INTEGER)) * 256 + CAST(i3 AS INTEGER)) * 256 + CAST(substr(i3, instr(i3, '.') + 1) AS INTEGER),
-       CAST(tail AS INTEGER), CAST(substr(tail, instr(tail, ':') + 1) AS INTEGER), id, query, line FROM p;
-.mode list
-SELECT CASE WHEN q.id IS NULL THEN 'U ' || c.id ELSE 'J ' || c.line || char(9) || q.text END
-FROM c LEFT JOIN q ON q.id = c.query ORDER BY c.ip, c.pid, c.micros;
-SELECT '= ' || count(q.id) || ' 0 0 ' || (count(*) - count(q.id)) FROM c LEFT JOIN q ON q.id = c.query;
+TABLES = """PRAGMA journal_mode=WAL;
+PRAGMA synchronous=FULL;
+CREATE TABLE query (id TEXT PRIMARY KEY, text TEXT) WITHOUT ROWID;
+CREATE TABLE pair (click TEXT PRIMARY KEY, query TEXT, text TEXT, words TEXT) WITHOUT ROWID;
 """
 
 
 def make_logs(folder, lines):
     """Queries by 3 servers and 64 processes; of the clicks each tenth has no query."""
-    queries, clicks = os.path.join(folder, "queries"), os.path.join(folder, "clicks")
+    queries, clicks = os.path.join(folder, f"queries{lines}"), os.path.join(folder, f"clicks{lines}")
     with open(queries, "w") as q, open(clicks, "w") as c:
         for k in range(lines):
             mixed = (k * 2654435761) % 2**32
@@ -79,51 +56,83 @@ def run(words, report, stdin=None):
     return took, used.ru_maxrss
 
 
-def photon(folder, queries, clicks):
-    words = [os.path.join(TOP, "bin", "photon"), "join", "--queries", queries, "--clicks", clicks, "--state", os.path.join(folder, "state")]
-    report = os.path.join(folder, "photon.out")
-    return (*run(words, report), report)
+def photon_words(logs, state, joiners):
+    return [PHOTON, "join", "--queries", logs[0], "--clicks", logs[1], "--state", state, "--joiners", str(joiners)]
 
 
-def awk(folder, queries, clicks):
-    report = os.path.join(folder, "awk.out")
-    script = os.path.join(folder, "join.awk")
-    with open(script, "w") as f:
-        f.write(AWK)
-    line = 'awk -f "$1" "$2" "$3" | LC_ALL=C sort -k 1,1 | cut -f 2-'
-    return (*run(["sh", "-c", line, "sh", script, queries, clicks], report), report)
+def photon(folder, logs, state, joiners):
+    """Seconds, kilobytes, and the pairs that the report counts."""
+    report = os.path.join(folder, "report")
+    took, used = run(photon_words(logs, state, joiners), report)
+    with open(report, encoding="ascii") as file:
+        last = file.read().splitlines()[-1]
+    return took, used, int(last.split()[1])
 
 
-def sqlite(folder, queries, clicks):
-    report = os.path.join(folder, "sqlite.out")
-    script = SQL.replace("{queries}", queries).replace("{clicks}", clicks)
-    return (*run(["sqlite3", ":memory:"], report, stdin=script), report)
+def sqlite(folder, logs):
+    """The same of one site in sqlite3."""
+    base, report = os.path.join(folder, "pairs.db"), os.path.join(folder, "sqlite.out")
+    script = [TABLES, "BEGIN;\n"]
+    with open(logs[0], encoding="ascii") as file:
+        for line in file:
+            query, _, text = line.rstrip("\n").partition(" ")
+            script.append(f"INSERT OR IGNORE INTO query VALUES ('{query}', '{text}');\n")
+    script.append("COMMIT;\n")
+    with open(logs[1], encoding="ascii") as file:
+        for line in file:
+            click, query, text = line.rstrip("\n").split(" ", 2)
+            script.append(f"INSERT OR IGNORE INTO pair SELECT '{click}', id, '{text}', text FROM query WHERE id = '{query}';\n")
+    script.append("SELECT count(*) FROM pair;\n")
+    took, used = run(["sqlite3", base], report, stdin="".join(script))
+    with open(report, encoding="ascii") as file:
+        return took, used, int(file.read().split()[-1])
+
+
+def syncs(words):
+    """How often a run syncs a file, or None where strace isn't here."""
+    if shutil.which("strace") is None:
+        return None
+    done = subprocess.run(["strace", "-f", "-c", "-e", "trace=fsync,fdatasync", *words], capture_output=True, text=True, check=False)
+    return sum(int(found) for found in re.findall(r"^\s*[\d.]+\s+[\d.]+\s+\d+\s+(\d+)(?:\s+\d+)?\s+f(?:data)?sync$", done.stderr, re.M))
+
+
+def size(folder):
+    return sum(os.path.getsize(os.path.join(folder, name)) for name in os.listdir(folder))
 
 
 def main():
-    sizes = [int(word) for word in sys.argv[1:]] or [1000, 10000, 100000]
-    others = []
-    for name, tool in (("sqlite3", sqlite), ("awk", awk)):
-        if shutil.which(name):
-            others.append((name, tool))
-        else:
-            print(f"bench: {name} is not here, left out")
+    sizes = [int(word) for word in sys.argv[1:]] or [2000, 20000]
+    has_sqlite = shutil.which("sqlite3") is not None
+    if not has_sqlite:
+        print("bench: sqlite3 is not here, left out")
     # Builds the program where need be, so that no build is timed.
-    subprocess.run([os.path.join(TOP, "bin", "photon")], stderr=subprocess.DEVNULL, stdout=subprocess.DEVNULL)
-    print(f"{'lines':>8}  {'program':<8} {'seconds':>9} {'MB':>7}  photon's time by its")
+    subprocess.run([PHOTON], stderr=subprocess.DEVNULL, stdout=subprocess.DEVNULL, check=False)
+    print(f"{'lines':>7}  {'program':<24} {'seconds':>8} {'clicks/s':>9} {'MB':>6} {'state MB':>9}  beside sqlite3's clicks/s")
     for lines in sizes:
         with tempfile.TemporaryDirectory() as folder:
-            queries, clicks = make_logs(folder, lines)
-            took, used, report = photon(folder, queries, clicks)
-            print(f"{lines:>8}  {'photon':<8} {took:>9.3f} {used / 1024:>7.1f}")
-            with open(report, "rb") as f:
-                wanted = f.read()
-            for name, tool in others:
-                other, memory, report = tool(folder, queries, clicks)
-                with open(report, "rb") as f:
-                    same = f.read() == wanted
-                print(f"{lines:>8}  {name:<8} {other:>9.3f} {memory / 1024:>7.1f}  {took / other:.2f}" + ("" if same else "  (another report)"))
+            logs, more = make_logs(folder, lines), make_logs(folder, 2 * lines)
+            pace, wanted = None, None
+            if has_sqlite:
+                took, used, wanted = sqlite(folder, logs)
+                pace = lines / took
+                print(f"{lines:>7}  {'sqlite3, one site':<24} {took:>8.2f} {pace:>9.0f} {used / 1024:>6.0f}")
+            for joiners in (1, 2, 4):
+                state = os.path.join(folder, f"state{joiners}")
+                for name, over, count in (("new", logs, lines), ("again", logs, lines), ("grown", more, lines)):
+                    took, used, pairs = photon(folder, over, state, joiners)
+                    line = f"{lines:>7}  {f'photon, {joiners} joiners, {name}':<24} {took:>8.2f} {count / took:>9.0f} {used / 1024:>6.0f} {size(state) / 1e6:>9.2f}"
+                    if name == "new" and pace:
+                        line += f"  {count / took / pace:.2f}" + ("" if pairs == wanted else "  (OTHER PAIRS)")
+                    print(line)
+    with tempfile.TemporaryDirectory() as folder:
+        few = min(1000, *sizes)
+        logs = make_logs(folder, few)
+        for joiners in (1, 2, 4):
+            count = syncs(photon_words(logs, os.path.join(folder, f"state{joiners}"), joiners))
+            if count is not None:
+                print(f"{few:>7}  photon, {joiners} joiners: {count / few:.2f} syncs a click")
+    return 0
 
 
 if __name__ == "__main__":
-    main()
+    sys.exit(main())
