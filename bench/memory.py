@@ -23,10 +23,20 @@ SHIM = r"""
 #define _GNU_SOURCE
 #include <dlfcn.h>
 #include <errno.h>
+#include <fcntl.h>
 #include <stdlib.h>
 #include <unistd.h>
 
 static long calls;
+
+/* A file says that the allocation that was to fail has come. */
+static void tell(void)
+{
+    const char *mark = getenv("FAILING_MARK");
+    int file = mark ? open(mark, O_CREAT | O_WRONLY, 0600) : -1;
+    if (file >= 0)
+        close(file);
+}
 
 static int fails(void)
 {
@@ -35,8 +45,9 @@ static int fails(void)
         const char *text = getenv("FAILING_ALLOCATION");
         wanted = text ? atol(text) : 0;
     }
-    if (++calls != wanted)
+    if (__sync_add_and_fetch(&calls, 1) != wanted)
         return 0;
+    tell();
     errno = ENOMEM;
     return 1;
 }
@@ -56,15 +67,6 @@ void *realloc(void *old, size_t size)
         real = (void *(*)(void *, size_t))dlsym(RTLD_NEXT, "realloc");
     return fails() ? NULL : real(old, size);
 }
-
-/* Where all allocations were fewer than the one that was to fail, the run wasn't touched: a last line says so. */
-__attribute__((destructor)) static void tell(void)
-{
-    const char *text = getenv("FAILING_ALLOCATION");
-    const char *mark = getenv("FAILING_MARK");
-    if (text && mark && calls < atol(text))
-        unlink(mark);
-}
 """
 
 # How a test ends that compares two values which differ.
@@ -76,8 +78,8 @@ JOINED = "J 10.0.0.2:9:2000 10.0.0.1:7:1000 buy\tshoes\n"
 
 
 def many_lines():
-    queries = "".join(f"10.0.0.1:{k % 5}:{1000 + k} q{k}\n" for k in range(40))
-    clicks = "".join(f"10.0.0.2:{k % 7}:{2000 + k} 10.0.0.1:{k % 5}:{1000 + k + k % 2 * 500} c{k}\n" for k in range(40))
+    queries = "".join(f"10.0.0.1:{k % 5}:{1000 + k} q{k}\n" for k in range(10))
+    clicks = "".join(f"10.0.0.2:{k % 7}:{2000 + k} 10.0.0.1:{k % 5}:{1000 + k + k % 2 * 500} c{k}\n" for k in range(10))
     return queries, clicks
 
 
@@ -99,9 +101,11 @@ def cases():
 
 
 def run(words, folder, failing):
-    """The status, the output, the errors, and whether there was such an allocation."""
+    """The status, the output, the errors, and whether there was such an allocation. Each run has a new state directory."""
+    shutil.rmtree(os.path.join(folder, "state"), ignore_errors=True)
     mark = os.path.join(folder, "mark")
-    open(mark, "w").close()
+    if os.path.exists(mark):
+        os.remove(mark)
     env = dict(os.environ, LD_PRELOAD=os.path.join(folder, "failing.so"), FAILING_ALLOCATION=str(failing), FAILING_MARK=mark)
     done = subprocess.run(words, cwd=folder, env=env, stdin=subprocess.DEVNULL, capture_output=True, timeout=60, check=False)
     return done.returncode, done.stdout.decode(), done.stderr.decode(), os.path.exists(mark)
@@ -130,7 +134,7 @@ def try_program(folder):
             if got[:3] not in ((8, "", "photon: memory\n"), whole) and not refused:
                 faults.append(f"{name}: allocation {failing}: {got[:3]}")
             failing += 1
-        print(f"program: {name}: {failing - 1} allocations, each failed once")
+        print(f"program: {name}: {failing - 1} allocations, each failed once", flush=True)
         tried += failing - 1
     return tried, faults
 
