@@ -4,7 +4,8 @@
 #[cfg(test)]
 mod dispatch_core_tests;
 #[cfg(test)]
-mod dispatch_node_tests;#[cfg(test)]
+mod dispatch_node_tests;
+#[cfg(test)]
 mod joiner_node_tests;
 #[cfg(test)]
 mod registry_server_core_tests;
