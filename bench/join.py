@@ -1,7 +1,7 @@
 #!/usr/bin/env python3
 """Times `photon join` beside sqlite3 on the same clicks, in one run, and prints ratios.
 
-usage: bench/join.py [LINES ..]      (default: 2000 20000)
+usage: bench/join.py [LINES ..]      (default: 1000 10000)
 
 Each size makes a query log and a click log of that many lines in a temporary folder. `photon` joins them over a new state directory
 with 1, 2 and 4 joiners a site, then once more over what that left, and then over logs of twice as many lines. Beside it sqlite3 puts
@@ -101,7 +101,7 @@ def size(folder):
 
 
 def main():
-    sizes = [int(word) for word in sys.argv[1:]] or [2000, 20000]
+    sizes = [int(word) for word in sys.argv[1:]] or [1000, 10000]
     has_sqlite = shutil.which("sqlite3") is not None
     if not has_sqlite:
         print("bench: sqlite3 is not here, left out")
@@ -123,7 +123,7 @@ def main():
                     line = f"{lines:>7}  {f'photon, {joiners} joiners, {name}':<24} {took:>8.2f} {count / took:>9.0f} {used / 1024:>6.0f} {size(state) / 1e6:>9.2f}"
                     if name == "new" and pace:
                         line += f"  {count / took / pace:.2f}" + ("" if pairs == wanted else "  (OTHER PAIRS)")
-                    print(line)
+                    print(line, flush=True)
     with tempfile.TemporaryDirectory() as folder:
         few = min(1000, *sizes)
         logs = make_logs(folder, few)
