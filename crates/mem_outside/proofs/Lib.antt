@@ -5,3 +5,4 @@ pub mod Unwritten
 pub mod Tied
 pub mod Steps
 pub mod Keeping
+pub mod Calming

@@ -1,5 +1,5 @@
 -- The disks that a store has.
-use Rattle.std.specs.Prelude.{◌≡◌, ℕ, List, [], ◌∷◌, Bool, true, false, ◌&&◌, ◌==◌, if◌then◌else◌, Option, Some, None}
+use Rattle.std.specs.Prelude.{◌≡◌, ⊤, ℕ, List, [], ◌∷◌, Bool, true, false, ◌&&◌, ◌==◌, if◌then◌else◌, Option, Some, None}
 use Rattle.outside.specs.declared.store.DiskName.{DiskName}
 use Rattle.outside.specs.declared.store.DiskName.TheVariants.{Topology, Offset, Retry, Server, Replica, Epoch, Output}
 use Rattle.mem_outside.specs.declared.disk.MemDisk.{MemDisk}
@@ -43,3 +43,17 @@ stops_in stops name (Some disk) call = is_planned disk.fuses.items call
 abbrev pub made_in : Option MemDisk → ℕ
 made_in None = 0
 made_in (Some disk) = disk.made
+
+-- the disk under the same name with no stops
+pub record IsCalmed (old new : Kept) : Type 0 where
+  pub name : new.name ≡ old.name
+  pub fuses : new.disk.fuses.items ≡ []
+  pub contents : new.disk.contents ≡ old.disk.contents
+  pub made : new.disk.made ≡ old.disk.made
+
+-- each disk of the list is so, in its place
+abbrev pub AreCalmed : List Kept → List Kept → Type 0
+AreCalmed [] [] = ⊤
+AreCalmed [] (new ∷ news) = ⊥
+AreCalmed (old ∷ olds) [] = ⊥
+AreCalmed (old ∷ olds) (new ∷ news) = IsCalmed old new × AreCalmed olds news

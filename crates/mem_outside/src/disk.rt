@@ -98,6 +98,17 @@ impl MemDisk {
         Ok(())
     }
 
+    /// Takes its stops out: no later call of it fails.
+    pub(crate) fn calm(&mut self)
+        ensures fuses { self.new.fuses.items ≡ [] }
+        ensures contents { self.new.contents ≡ self.old.contents }
+        ensures made { self.new.made ≡ self.old.made }
+        ensures fallen { self.new.fallen ≡ self.old.fallen }
+        ensures faults { self.new.faults ≡ self.old.faults }
+    {
+        self.fuses.clear();
+    }
+
     /// What a read gives.
     pub fn bytes(&self) -> &[u8]
         ensures { result.now ≡ self.now.contents.written.items }

@@ -1,7 +1,7 @@
 // A store of disks in memory.
-ghost use Rattle.std.specs.Prelude.{◌≡◌, ◌≢◌, ◌≤◌, ◌+◌, ◌++◌, ◌∷◌, [], IsSome, IfNone, IfOk, OnOk, if◌then◌else◌};
+ghost use Rattle.std.specs.Prelude.{◌≡◌, ◌≢◌, ◌≤◌, ◌+◌, ◌++◌, ◌∷◌, [], ℕ, List, false, IsSome, IfNone, IfOk, OnOk, if◌then◌else◌};
 ghost use Rattle.outside.specs.declared.store.DiskName.{DiskName};
-ghost use Rattle.mem_outside.specs.Kept.{same_name, disk_of, ImageIn, fuses_for, stops_in, made_in};
+ghost use Rattle.mem_outside.specs.Kept.{AreCalmed, same_name, disk_of, ImageIn, fuses_for, stops_in, made_in};
 ghost use Rattle.mem_outside.specs.Room.{spare};
 
 use crate::store::{Kept, Stop};
@@ -32,6 +32,19 @@ impl MemStore {
         }
     }
 
+    /// Takes out the stops that are still planned: no later call of a disk that it keeps or makes anew fails. Linear in the disks
+    /// that it keeps; it allocates nothing.
+    pub fn calm(&mut self)
+        ensures stops { (name : DiskName) (call : ℕ) → stops_in self.new.stops.items name (disk_of self.new.kept.items name) call ≡ false }
+        ensures images { (name : DiskName) (c : List ℕ) → ImageIn (disk_of self.new.kept.items name) c → ImageIn (disk_of self.old.kept.items name) c }
+        ensures made { (name : DiskName) → made_in (disk_of self.new.kept.items name) ≡ made_in (disk_of self.old.kept.items name) }
+        ensures places { spare self.old.kept ≤ spare self.new.kept }
+        ensures faults { self.new.faults ≡ self.old.faults }
+    {
+        self.stops.clear();
+        calm_all(&mut self.kept);
+    }
+
     /// How many faults it has met, those of the disks given back included.
     pub fn faults(&self) -> u64
         ensures { result ≡ self.now.faults }
@@ -44,6 +57,16 @@ fn is_same(a: DiskName, b: DiskName) -> bool
     ensures { result ≡ same_name a b }
 {
     a == b
+}
+
+// Takes the stops of each disk out.
+fn calm_all(kept: &mut Vec<Kept>)
+    ensures calmed { AreCalmed kept.old.items kept.new.items }
+    ensures room { spare kept.old ≤ spare kept.new }
+{
+    for i in 0..kept.len() {
+        kept[i].disk.calm();
+    }
 }
 
 /// Takes the first disk of this name out of the list.
