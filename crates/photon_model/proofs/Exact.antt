@@ -209,8 +209,7 @@ line_from (l ∷ ls) x (inr n) = let h = line_from ls x n in (h.0, inr h.1, h.2)
 
 pub report_is_exact : AtRestFromEmpty ReportIsExact
 report_is_exact g es c t r rest none_missing =
-    let e = map_same (λ (x : Click). line_of g (disks (world_after g (opening empty_disks) es)) x.id) (logs.line_of g.queries g.horizon) (logs.distinct clicks) each in
-    ap logs.text_of e
+    map_same (λ (x : Click). line_of g (disks (world_after g (opening empty_disks) es)) x.id) (logs.line_of g.queries g.horizon) (logs.distinct clicks) each
   where
     clicks : List Click
     clicks = map (λ (l : ClickLine). l.click) g.clicks

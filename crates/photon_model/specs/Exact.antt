@@ -9,7 +9,7 @@ use Rattle.log_records.specs.Log.{first}
 use Rattle.log_defs.specs.Report as logs
 use Rattle.log_defs.specs.declared.ReportLine.TheVariants.{M}
 use Rattle.turn_defs.specs.Setting.{Setting, Checked}
-use Rattle.photon_defs.specs.Report.{line_of, report_text}
+use Rattle.photon_defs.specs.Report.{line_of, report}
 use Rattle.photon_defs.specs.Rest.{IsAtRest}
 use Rattle.photon_defs.specs.Runs.{Entry, Disks, disks, world_after, IsRun, opening}
 use Rattle.photon_model.specs.Stores.{empty_disks}
@@ -29,6 +29,6 @@ AtRestFromEmpty P =
 abbrev pub ClicksAreExact : Setting → Disks → Type 0
 ClicksAreExact g d = (l : ClickLine) → Mem l g.clicks → IsExact g d l.click
 
--- where no click is missing, the report's bytes are one function of the two logs and the horizon
+-- where no click is missing, the report is one function of the two logs and the horizon
 abbrev pub ReportIsExact : Setting → Disks → Type 0
-ReportIsExact g d = ((l : ClickLine) → Mem l g.clicks → line_of g d l.click.id ≡ M l.click.id → ⊥) → report_text g d ≡ logs.report g.queries (map (λ (l : ClickLine). l.click) g.clicks) g.horizon
+ReportIsExact g d = ((l : ClickLine) → Mem l g.clicks → line_of g d l.click.id ≡ M l.click.id → ⊥) → report g d ≡ map (logs.line_of g.queries g.horizon) (logs.distinct (map (λ (l : ClickLine). l.click) g.clicks))

@@ -39,7 +39,7 @@ pub fn every_run()
 {}
 
 /// From the empty store, at rest: each click's line is that of the two logs, or the click is missing; and where none is
-/// missing, the report's bytes are those of the two logs.
+/// missing, the report is that of the two logs.
 pub fn exact_report()
     ensures clicks { AtRestFromEmpty ClicksAreExact }
     ensures report { AtRestFromEmpty ReportIsExact }
