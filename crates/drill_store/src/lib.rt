@@ -1,0 +1,12 @@
+//! The store in memory that a drill runs over: its disks stop at the calls that the drill's plan names.
+#![tactic(auto)]
+
+mod build;
+mod kinds;
+mod names;
+pub mod rows;
+#[cfg(test)]
+mod tests;
+
+pub use build::store_for;
+pub use kinds::stops_a_joiner;
