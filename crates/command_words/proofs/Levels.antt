@@ -1,4 +1,4 @@
--- The commands, as a parse finds them.
+-- The four commands, as a parse finds them.
 use Rattle.std.proofs.Common.{◌≡◌, ◌∙◌, ◌&&◌, Bool, true, false, List, [], ◌∷◌, ◌++◌, append_assoc, arith, Option, Some, is_some, option_map, refl, sym, ap, ap₂, subst}
 use Rattle.std.specs.Prelude.{find, fold}
 use Rattle.std.specs.Option.{option_map_or}
@@ -6,7 +6,7 @@ use Rattle.clap.specs.Walk.{Held, Row, Walk, answers_to, nothing_held, stop_afte
 use Rattle.clap.specs.Simple.{Shape, built, built_leaf, entered, inherited, label_of, marked_built, names_of, rows_at, subcommand_of, with_leaf_noted}
 use Rattle.clap.specs.Takes.{entered_passes, level_passes, settle_passes, takes, turn_passes, walk_passes}
 use Rattle.std.proofs.lemmas.List.{append-nil}
-use Rattle.command_words.specs.Words.{Command, Pairs, Text, IsPlain, join, name_of, options_of, pair_words}
+use Rattle.command_words.specs.Words.{Command, Pairs, Text, IsPlain, bulk, drill, join, name_of, options_of, pair_words, verify}
 use Rattle.command_words.specs.Clap.{photon_app, shape_of_command}
 use Rattle.command_words.proofs.Walks.{IsReady, Takes, level_takes, pair_rows}
 
@@ -14,11 +14,14 @@ use Rattle.command_words.proofs.Walks.{IsReady, Takes, level_takes, pair_rows}
 abbrev pub sub : Command → Shape
 sub c = built_leaf (inherited (with_leaf_noted (marked_built photon_app.top)) (shape_of_command c))
 
-subs_are : (built photon_app).subs ≡ sub join ∷ []
+subs_are : (built photon_app).subs ≡ sub join ∷ sub drill ∷ sub verify ∷ sub bulk ∷ []
 subs_are = refl
 
 sub_found : (c : Command) → find (λ s. answers_to (name_of c) (label_of s)) (built photon_app).subs ≡ Some (sub c)
 sub_found join = refl
+sub_found drill = refl
+sub_found verify = refl
+sub_found bulk = refl
 
 pub ready : (c : Command) → IsReady (sub c) (options_of c)
 ready join =
@@ -28,6 +31,42 @@ ready join =
       free = refl;
       defaults = refl;
       none = (refl, (refl, (refl, (refl, (refl, (refl, (refl, (refl, tt))))))));
+      once = refl;
+      no_help = refl;
+      no_sub = refl;
+      negates = refl;
+    }
+ready drill =
+    record {
+      rules = refl;
+      known = (record { long = refl; not_end = refl; by_long = refl; by_id = refl; fits = tt }, (record { long = refl; not_end = refl; by_long = refl; by_id = refl; fits = tt }, (record { long = refl; not_end = refl; by_long = refl; by_id = refl; fits = tt }, (record { long = refl; not_end = refl; by_long = refl; by_id = refl; fits = omega arith }, (record { long = refl; not_end = refl; by_long = refl; by_id = refl; fits = omega arith }, (record { long = refl; not_end = refl; by_long = refl; by_id = refl; fits = tt }, (record { long = refl; not_end = refl; by_long = refl; by_id = refl; fits = omega arith }, tt)))))));
+      free = refl;
+      defaults = refl;
+      none = (refl, (refl, (refl, (refl, (refl, (refl, (refl, (refl, tt))))))));
+      once = refl;
+      no_help = refl;
+      no_sub = refl;
+      negates = refl;
+    }
+ready verify =
+    record {
+      rules = refl;
+      known = (record { long = refl; not_end = refl; by_long = refl; by_id = refl; fits = tt }, (record { long = refl; not_end = refl; by_long = refl; by_id = refl; fits = tt }, tt));
+      free = refl;
+      defaults = refl;
+      none = (refl, (refl, (refl, tt)));
+      once = refl;
+      no_help = refl;
+      no_sub = refl;
+      negates = refl;
+    }
+ready bulk =
+    record {
+      rules = refl;
+      known = (record { long = refl; not_end = refl; by_long = refl; by_id = refl; fits = omega arith }, (record { long = refl; not_end = refl; by_long = refl; by_id = refl; fits = omega arith }, (record { long = refl; not_end = refl; by_long = refl; by_id = refl; fits = omega arith }, (record { long = refl; not_end = refl; by_long = refl; by_id = refl; fits = tt }, (record { long = refl; not_end = refl; by_long = refl; by_id = refl; fits = omega arith }, tt)))));
+      free = refl;
+      defaults = refl;
+      none = (refl, (refl, (refl, (refl, (refl, (refl, tt))))));
       once = refl;
       no_help = refl;
       no_sub = refl;
@@ -46,9 +85,15 @@ top_walked = walked (built photon_app).top.rules (names_of (built photon_app))
 name_enters : (c : Command) → top_walked (walk_from nothing_held) (name_of c) ≡ entered_at (name_of c) []
 unfolding walked
 name_enters join = refl
+name_enters drill = refl
+name_enters verify = refl
+name_enters bulk = refl
 
 name_passes : (c : Command) → turn_passes (built photon_app).top (names_of (built photon_app)) (walk_from nothing_held) (name_of c) ≡ true
 name_passes join = refl
+name_passes drill = refl
+name_passes verify = refl
+name_passes bulk = refl
 
 rest_goes : (name : Text) (before rest : List Text) → fold top_walked (entered_at name before) rest ≡ entered_at name (before ++ rest)
 unfolding walked

@@ -1,6 +1,6 @@
 -- The values of a command that `clap` took.
-use Rattle.std.proofs.Common.{◌≡◌, ◌∙◌, ◌<◌, ◌≤◌, ◌++◌, ◌&&◌, ◌||◌, not, inl, inr, ℕ, Bool, true, false, cond, List, [], ◌∷◌, map, length, Option, Some, None, is_some, option_map, refl, true≢false, sym, ap, subst, arith}
-use Rattle.std.specs.Prelude.{IfSome, IsSome, find, option_and_then, slice_get, codes}
+use Rattle.std.proofs.Common.{◌≡◌, ◌∙◌, ◌<◌, ◌≤◌, ◌==◌, ◌++◌, ◌&&◌, ◌||◌, not, inl, inr, ℕ, Bool, true, false, cond, List, [], ◌∷◌, map, length, Option, Some, None, is_some, option_map, refl, true≢false, sym, ap, subst, arith}
+use Rattle.std.specs.Prelude.{IfSome, IsSome, IsSomeAnd, find, option_and_then, slice_get, codes}
 use Rattle.std.specs.List.{AllByRecursion, list_any}
 use Rattle.std.specs.Option.{option_map_or}
 use Rattle.std.specs.Str.{bytes_eq}
@@ -15,9 +15,9 @@ use Rattle.clap.specs.Takes.{is_given}
 use Rattle.clap.specs.Faults.{built_fault, check_fault, entered_fault, fault_of, level_fault, walk_fault}
 use Rattle.clap.specs.declared.builder.value_parser.ValueParser.TheVariants as vp
 use Rattle.clap.proofs.ValueTestLemmas.{accepts-Accepts}
-use Rattle.command_words.specs.Words.{Command, HasAll, HasValues, IsInRanges, Opt, Text, join, name_of, number, number_or, options_of, some_text, text_or}
+use Rattle.command_words.specs.Words.{Command, HasAll, HasValues, IsInRanges, Opt, Text, bulk, drill, join, name_of, number, number_of, number_or, options_of, some_text, text_or, verify}
 use Rattle.command_words.specs.declared.asked.Asked.{Asked}
-use Rattle.command_words.specs.declared.asked.Asked.TheVariants.{Join}
+use Rattle.command_words.specs.declared.asked.Asked.TheVariants.{Bulk, Drill, Join, Verify}
 use Rattle.command_words.specs.Clap.{number_in, photon_app, text_in}
 use Rattle.command_words.proofs.Walks.{Known, full_rule, reads_as_written}
 use Rattle.command_words.proofs.Levels.{ready, sub}
@@ -37,21 +37,30 @@ find_own c (x ∷ xs) p a owns e = go (p x) e (find_own c xs p a owns.1)
 
 owns : (c : Command) → AllByRecursion (IsOwn (sub c).rules) (sub c).rules
 owns join = (record { by_id = refl; action = inl (refl, refl, omega arith) }, (record { by_id = refl; action = inl (refl, refl, omega arith) }, (record { by_id = refl; action = inl (refl, refl, omega arith) }, (record { by_id = refl; action = inl (refl, refl, omega arith) }, (record { by_id = refl; action = inl (refl, refl, omega arith) }, (record { by_id = refl; action = inl (refl, refl, omega arith) }, (record { by_id = refl; action = inl (refl, refl, omega arith) }, (record { by_id = refl; action = inr refl }, tt))))))))
+owns drill = (record { by_id = refl; action = inl (refl, refl, omega arith) }, (record { by_id = refl; action = inl (refl, refl, omega arith) }, (record { by_id = refl; action = inl (refl, refl, omega arith) }, (record { by_id = refl; action = inl (refl, refl, omega arith) }, (record { by_id = refl; action = inl (refl, refl, omega arith) }, (record { by_id = refl; action = inl (refl, refl, omega arith) }, (record { by_id = refl; action = inl (refl, refl, omega arith) }, (record { by_id = refl; action = inr refl }, tt))))))))
+owns verify = (record { by_id = refl; action = inl (refl, refl, omega arith) }, (record { by_id = refl; action = inl (refl, refl, omega arith) }, (record { by_id = refl; action = inr refl }, tt)))
+owns bulk = (record { by_id = refl; action = inl (refl, refl, omega arith) }, (record { by_id = refl; action = inl (refl, refl, omega arith) }, (record { by_id = refl; action = inl (refl, refl, omega arith) }, (record { by_id = refl; action = inl (refl, refl, omega arith) }, (record { by_id = refl; action = inl (refl, refl, omega arith) }, (record { by_id = refl; action = inr refl }, tt))))))
 
 no_place : (c : Command) (i : ℕ) → arg_by_index (sub c).rules i ≡ None
 no_place join i = refl
+no_place drill i = refl
+no_place verify i = refl
+no_place bulk i = refl
 
 sub_holds : (c : Command) (words : List Text) → level_fault (sub c) [] nothing_held words false [] ≡ [] → Holds (sub c) words
 sub_holds c words e = level_holds (sub c) (λ p a f. find_own (sub c).rules (sub c).rules p a (owns c) f) (ready c).once (no_place c) words (ready c).negates (ready c).none e
 
 -- ---- which command was taken
 
-which : (p : Shape → Bool) (s : Shape) → find p (sub join ∷ []) ≡ Some s → (c : Command) × (s ≡ sub c)
-which p s e = go (p (sub join)) e
+which : (p : Shape → Bool) (s : Shape) → find p (sub join ∷ sub drill ∷ sub verify ∷ sub bulk ∷ []) ≡ Some s → (c : Command) × (s ≡ sub c)
+which p s e = go (p (sub join)) (p (sub drill)) (p (sub verify)) (p (sub bulk)) e
   where
-    go : (a : Bool) → cond a (Some (sub join)) None ≡ Some s → (c : Command) × (s ≡ sub c)
-    go true e = let same : s ≡ sub join = cc in (join, same)
-    go false e = cc
+    go : (a b d f : Bool) → cond a (Some (sub join)) (cond b (Some (sub drill)) (cond d (Some (sub verify)) (cond f (Some (sub bulk)) None))) ≡ Some s → (c : Command) × (s ≡ sub c)
+    go true b d f e = let same : s ≡ sub join = cc in (join, same)
+    go false true d f e = let same : s ≡ sub drill = cc in (drill, same)
+    go false false true f e = let same : s ≡ sub verify = cc in (verify, same)
+    go false false false true e = let same : s ≡ sub bulk = cc in (bulk, same)
+    go false false false false e = cc
 
 pub record IsTaken (words : List Text) : Type 0 where
   pub command : Command
@@ -188,6 +197,22 @@ needs c words h =
     needed (options_of c) (rows_after (sub c).rules [] words)
     (subst (λ (rules : List Rule). list_any (λ (a : Rule). a.required && not (is_given a.id (rows_after (sub c).rules [] words))) rules ≡ false) (ready c).rules h.given)
 
+number_is_given : (c : List Rule) (rows : List Row) (n : Text) → AreGood c rows → is_given n rows ≡ true → IsSome (one_of n rows)
+number_is_given c rows n g given = go (find (λ (r : Row). bytes_eq r.id n) rows) (row_at c rows n g) given
+  where
+    some : (how : Reading) (vs : List Text) → 0 < length vs → IsSome (option_map (read_as how) (slice_get vs 0))
+    some how [] lt = absurd (omega arith)
+    some how (v ∷ vs) lt = refl
+
+    go : (o : Option Row) → IfSome o (λ r. IsGood c r × (r.id ≡ n)) → option_map_or (λ (r : Row). explicit_source r.source) o false ≡ true
+        → IsSome (option_and_then row_text o)
+    go None h e = absurd (true≢false (sym e))
+    go (Some r) h e = some r.reading r.values h.0.some
+
+there : (o : Option Text) (P : Text → Type 0) → IsSome o → IfSome o P → IsSomeAnd o P
+there None P some h = absurd (true≢false (sym some))
+there (Some t) P some h = h
+
 pub has_values : (c : Command) (words : List Text) → Holds (sub c) words → HasAll c (text_in (rows_after (sub c).rules [] words)) (number_in (rows_after (sub c).rules [] words))
 has_values join words h =
     let c = join in
@@ -195,6 +220,25 @@ has_values join words h =
     let k = (ready c).known in
     let n = needs c words h in
     (text_is_given (sub c).rules rows (codes "queries") h.good (n.0 refl), text_is_given (sub c).rules rows (codes "clicks") h.good (n.1.0 refl), text_is_given (sub c).rules rows (codes "state") h.good (n.1.1.0 refl), number_reads (sub c).rules rows (codes "horizon") 0 18446744073709551615 false (k.1.1.1.0) h.good, number_reads (sub c).rules rows (codes "joiners") 1 4 false (k.1.1.1.1.0) h.good, text_has_some (sub c).rules rows (codes "shards") false (k.1.1.1.1.1.0) h.good, number_reads (sub c).rules rows (codes "batch") 1 64 false (k.1.1.1.1.1.1.0) h.good)
+has_values drill words h =
+    let c = drill in
+    let rows = rows_after (sub c).rules [] words in
+    let k = (ready c).known in
+    let n = needs c words h in
+    (text_is_given (sub c).rules rows (codes "queries") h.good (n.0 refl), text_is_given (sub c).rules rows (codes "clicks") h.good (n.1.0 refl), text_is_given (sub c).rules rows (codes "plan") h.good (n.1.1.0 refl), number_reads (sub c).rules rows (codes "horizon") 0 18446744073709551615 false (k.1.1.1.0) h.good, number_reads (sub c).rules rows (codes "joiners") 1 4 false (k.1.1.1.1.0) h.good, text_has_some (sub c).rules rows (codes "shards") false (k.1.1.1.1.1.0) h.good, number_reads (sub c).rules rows (codes "batch") 1 64 false (k.1.1.1.1.1.1.0) h.good)
+has_values verify words h =
+    let c = verify in
+    let rows = rows_after (sub c).rules [] words in
+    let n = needs c words h in
+    (text_is_given (sub c).rules rows (codes "clicks") h.good (n.0 refl), text_is_given (sub c).rules rows (codes "state") h.good (n.1.0 refl))
+has_values bulk words h =
+    let c = bulk in
+    let rows = rows_after (sub c).rules [] words in
+    let k = (ready c).known in
+    let n = needs c words h in
+    let seed = there (number_in rows (codes "seed")) (IsUnsignedIn 0 18446744073709551615) (number_is_given (sub c).rules rows (codes "seed") h.good (n.0 refl)) (number_reads (sub c).rules rows (codes "seed") 0 18446744073709551615 true (k.0) h.good) in
+    let clicks = there (number_in rows (codes "clicks")) (IsUnsignedIn 0 100000) (number_is_given (sub c).rules rows (codes "clicks") h.good (n.1.0 refl)) (number_reads (sub c).rules rows (codes "clicks") 0 100000 true (k.1.0) h.good) in
+    (seed, clicks, number_reads (sub c).rules rows (codes "joiners") 1 4 false (k.1.1.0) h.good, text_has_some (sub c).rules rows (codes "shards") false (k.1.1.1.0) h.good, number_reads (sub c).rules rows (codes "batch") 1 64 false (k.1.1.1.1.0) h.good)
 
 number_within : (low high or : ℕ) (o : Option Text) → low ≤ or → or ≤ high → IfSome o (IsUnsignedIn low high) → (low ≤ number_or or o) × (number_or or o ≤ high)
 number_within low high or None least most h = (least, most)
@@ -204,10 +248,60 @@ text_within : (or : Text) (o : Option Text) → 0 < length or → IfSome o (λ t
 text_within or None some h = some
 text_within or (Some t) some h = h
 
--- what is asked for by values that may be read
-pub in_range : (asked : Asked) (name : Text) (c : Command) (text_at number_at : Text → Option Text) → HasValues asked name text_at number_at → HasAll c text_at number_at → IsInRanges asked
-in_range (Join queries clicks state floor workers table most) name join text_at number_at v h =
+needed_within : (low high n : ℕ) (o : Option Text) → number_of o ≡ Some n → IsSomeAnd o (IsUnsignedIn low high) → n ≤ high
+needed_within low high n None is h = absurd h
+needed_within low high n (Some t) is h =
+    let same : n ≡ number_or 0 (Some t) = cc in
+    rw same h.3
+
+-- the command that is asked for
+abbrev pub command_of : Asked → Command
+command_of (Join queries clicks state floor workers table most) = join
+command_of (Drill queries clicks plan floor workers table most) = drill
+command_of (Verify clicks state) = verify
+command_of (Bulk seed clicks workers table most) = bulk
+
+name_is : (asked : Asked) (name : Text) (text_at number_at : Text → Option Text) → HasValues asked name text_at number_at → name ≡ name_of (command_of asked)
+name_is (Join queries clicks state floor workers table most) name text_at number_at v = v.0
+name_is (Drill queries clicks plan floor workers table most) name text_at number_at v = v.0
+name_is (Verify clicks state) name text_at number_at v = v.0
+name_is (Bulk seed clicks workers table most) name text_at number_at v = v.0
+
+-- a name has one command: its first letter tells
+abbrev by_letter : Text → Command
+by_letter [] = join
+by_letter (x ∷ xs) = cond (x == 106) join (cond (x == 100) drill (cond (x == 118) verify bulk))
+
+letter_tells : (c : Command) → by_letter (name_of c) ≡ c
+letter_tells join = refl
+letter_tells drill = refl
+letter_tells verify = refl
+letter_tells bulk = refl
+
+own_within : (asked : Asked) (name : Text) (text_at number_at : Text → Option Text) → HasValues asked name text_at number_at → HasAll (command_of asked) text_at number_at → IsInRanges asked
+own_within (Join queries clicks state floor workers table most) name text_at number_at v h =
     let w = number_within 1 4 1 (number_at (codes "joiners")) (omega arith) (omega arith) h.4 in
     let t = text_within (codes "0:4") (text_at (codes "shards")) (omega arith) h.5 in
     let m = number_within 1 64 64 (number_at (codes "batch")) (omega arith) (omega arith) h.6 in
     (rw v.5 w.0, rw v.5 w.1, rw v.6 t, rw v.7 m.0, rw v.7 m.1)
+own_within (Drill queries clicks plan floor workers table most) name text_at number_at v h =
+    let w = number_within 1 4 1 (number_at (codes "joiners")) (omega arith) (omega arith) h.4 in
+    let t = text_within (codes "0:4") (text_at (codes "shards")) (omega arith) h.5 in
+    let m = number_within 1 64 64 (number_at (codes "batch")) (omega arith) (omega arith) h.6 in
+    (rw v.5 w.0, rw v.5 w.1, rw v.6 t, rw v.7 m.0, rw v.7 m.1)
+own_within (Verify clicks state) name text_at number_at v h = tt
+own_within (Bulk seed clicks workers table most) name text_at number_at v h =
+    let c = needed_within 0 100000 clicks (number_at (codes "clicks")) v.2 h.1 in
+    let w = number_within 1 4 1 (number_at (codes "joiners")) (omega arith) (omega arith) h.2 in
+    let t = text_within (codes "0:4") (text_at (codes "shards")) (omega arith) h.3 in
+    let m = number_within 1 64 64 (number_at (codes "batch")) (omega arith) (omega arith) h.4 in
+    (c, rw v.3 w.0, rw v.3 w.1, rw v.4 t, rw v.5 m.0, rw v.5 m.1)
+
+-- values under a command's name are asked for by that command
+pub command_is : (asked : Asked) (c : Command) (text_at number_at : Text → Option Text) → HasValues asked (name_of c) text_at number_at → c ≡ command_of asked
+command_is asked c text_at number_at v = sym (letter_tells c) ∙ (ap by_letter (name_is asked (name_of c) text_at number_at v) ∙ letter_tells (command_of asked))
+
+-- what is asked for by values that may be read
+pub in_range : (asked : Asked) (c : Command) (text_at number_at : Text → Option Text) → HasValues asked (name_of c) text_at number_at → HasAll c text_at number_at → IsInRanges asked
+in_range asked c text_at number_at v h =
+    own_within asked (name_of c) text_at number_at v (subst (λ (d : Command). HasAll d text_at number_at) (command_is asked c text_at number_at v) h)

@@ -12,7 +12,7 @@ use Rattle.clap.specs.declared.error.kind.ErrorKind.TheVariants.{OutOfMemory}
 use Rattle.command_words.specs.declared.asked.WordsFault.{WordsFault}
 use Rattle.command_words.specs.declared.asked.WordsFault.TheVariants.{Memory, Refused}
 use Rattle.command_words.specs.declared.asked.Asked.{Asked}
-use Rattle.command_words.specs.declared.asked.Asked.TheVariants.{Join}
+use Rattle.command_words.specs.declared.asked.Asked.TheVariants.{Join, Drill, Verify, Bulk}
 
 abbrev pub Text : Type 0
 Text = List ℕ
@@ -56,14 +56,32 @@ batch = may (codes "batch") (number 1 64)
 abbrev pub join_options : List Opt
 join_options = must (codes "queries") text ∷ must (codes "clicks") text ∷ must (codes "state") text ∷ horizon ∷ joiners ∷ shards ∷ batch ∷ []
 
+abbrev pub drill_options : List Opt
+drill_options = must (codes "queries") text ∷ must (codes "clicks") text ∷ must (codes "plan") text ∷ horizon ∷ joiners ∷ shards ∷ batch ∷ []
+
+abbrev pub verify_options : List Opt
+verify_options = must (codes "clicks") text ∷ must (codes "state") text ∷ []
+
+abbrev pub bulk_options : List Opt
+bulk_options = must (codes "seed") (number 0 18446744073709551615) ∷ must (codes "clicks") (number 0 100000) ∷ joiners ∷ shards ∷ batch ∷ []
+
 pub data Command : Type 0 where
   join : Command
+  drill : Command
+  verify : Command
+  bulk : Command
 
 abbrev pub name_of : Command → Text
 name_of join = codes "join"
+name_of drill = codes "drill"
+name_of verify = codes "verify"
+name_of bulk = codes "bulk"
 
 abbrev pub options_of : Command → List Opt
 options_of join = join_options
+options_of drill = drill_options
+options_of verify = verify_options
+options_of bulk = bulk_options
 
 -- ---- plain words
 
@@ -113,6 +131,10 @@ pub record IsPlain (words : List Text) (command : Command) (pairs : Pairs) : Typ
 abbrev pub number_or : ℕ → Option Text → ℕ
 number_or n value = option_map_or (λ t. digits_value 10 (without_leading_plus t)) value n
 
+-- a number as written, of an option that has to be there
+abbrev pub number_of : Option Text → Option ℕ
+number_of value = option_map (λ t. digits_value 10 (without_leading_plus t)) value
+
 -- a text as written, and the default of an option that is not there
 abbrev pub text_or : Text → Option Text → Text
 text_or t value = unwrap_or value t
@@ -124,10 +146,24 @@ HasValues (Join queries clicks state floor workers table most) name text_at numb
     × (text_at (codes "state") ≡ Some state.now) × (floor ≡ number_or 0 (number_at (codes "horizon")))
     × (workers ≡ number_or 1 (number_at (codes "joiners"))) × (table.now ≡ text_or (codes "0:4") (text_at (codes "shards")))
     × (most ≡ number_or 64 (number_at (codes "batch")))
+HasValues (Drill queries clicks plan floor workers table most) name text_at number_at =
+    (name ≡ codes "drill") × (text_at (codes "queries") ≡ Some queries.now) × (text_at (codes "clicks") ≡ Some clicks.now)
+    × (text_at (codes "plan") ≡ Some plan.now) × (floor ≡ number_or 0 (number_at (codes "horizon")))
+    × (workers ≡ number_or 1 (number_at (codes "joiners"))) × (table.now ≡ text_or (codes "0:4") (text_at (codes "shards")))
+    × (most ≡ number_or 64 (number_at (codes "batch")))
+HasValues (Verify clicks state) name text_at number_at =
+    (name ≡ codes "verify") × (text_at (codes "clicks") ≡ Some clicks.now) × (text_at (codes "state") ≡ Some state.now)
+HasValues (Bulk seed clicks workers table most) name text_at number_at =
+    (name ≡ codes "bulk") × (number_of (number_at (codes "seed")) ≡ Some seed) × (number_of (number_at (codes "clicks")) ≡ Some clicks)
+    × (workers ≡ number_or 1 (number_at (codes "joiners"))) × (table.now ≡ text_or (codes "0:4") (text_at (codes "shards")))
+    × (most ≡ number_or 64 (number_at (codes "batch")))
 
 -- what is asked for lies in the ranges of its options
 abbrev pub IsInRanges : Asked → Type 0
 IsInRanges (Join queries clicks state floor workers table most) = (1 ≤ workers) × (workers ≤ 4) × (0 < length table.now) × (1 ≤ most) × (most ≤ 64)
+IsInRanges (Drill queries clicks plan floor workers table most) = (1 ≤ workers) × (workers ≤ 4) × (0 < length table.now) × (1 ≤ most) × (most ≤ 64)
+IsInRanges (Verify clicks state) = ⊤
+IsInRanges (Bulk seed clicks workers table most) = (clicks ≤ 100000) × (1 ≤ workers) × (workers ≤ 4) × (0 < length table.now) × (1 ≤ most) × (most ≤ 64)
 
 -- a number that may be read: digits, which may have a plus before them, within the range
 abbrev pub IsReadable : ℕ → ℕ → Text → Type 0
@@ -138,6 +174,13 @@ abbrev pub HasAll : Command → (Text → Option Text) → (Text → Option Text
 HasAll join text_at number_at = IsSome (text_at (codes "queries")) × IsSome (text_at (codes "clicks")) × IsSome (text_at (codes "state"))
     × IfSome (number_at (codes "horizon")) (IsReadable 0 18446744073709551615) × IfSome (number_at (codes "joiners")) (IsReadable 1 4)
     × IfSome (text_at (codes "shards")) (λ t. 0 < length t) × IfSome (number_at (codes "batch")) (IsReadable 1 64)
+HasAll drill text_at number_at = IsSome (text_at (codes "queries")) × IsSome (text_at (codes "clicks")) × IsSome (text_at (codes "plan"))
+    × IfSome (number_at (codes "horizon")) (IsReadable 0 18446744073709551615) × IfSome (number_at (codes "joiners")) (IsReadable 1 4)
+    × IfSome (text_at (codes "shards")) (λ t. 0 < length t) × IfSome (number_at (codes "batch")) (IsReadable 1 64)
+HasAll verify text_at number_at = IsSome (text_at (codes "clicks")) × IsSome (text_at (codes "state"))
+HasAll bulk text_at number_at = IsSomeAnd (number_at (codes "seed")) (IsReadable 0 18446744073709551615) × IsSomeAnd (number_at (codes "clicks")) (IsReadable 0 100000)
+    × IfSome (number_at (codes "joiners")) (IsReadable 1 4) × IfSome (text_at (codes "shards")) (λ t. 0 < length t)
+    × IfSome (number_at (codes "batch")) (IsReadable 1 64)
 
 -- plain words ask for this
 abbrev pub AsksFor : Asked → Command → Pairs → Type 0

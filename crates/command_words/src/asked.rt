@@ -18,6 +18,30 @@ pub enum Asked<'a> {
         shards: &'a str,
         batch: u8,
     },
+    /// Join the logs of these names in a run with the losses and stops of the plan of that name. The rest is as in
+    /// a join.
+    Drill {
+        queries: &'a str,
+        clicks: &'a str,
+        plan: &'a str,
+        horizon: u64,
+        joiners: u8,
+        shards: &'a str,
+        batch: u8,
+    },
+    /// Check what the directory of that name keeps against the log of clicks.
+    Verify {
+        clicks: &'a str,
+        state: &'a str,
+    },
+    /// Join logs with so many clicks, at most 100,000, that the program makes from the seed. The rest is as in a join.
+    Bulk {
+        seed: u64,
+        clicks: u32,
+        joiners: u8,
+        shards: &'a str,
+        batch: u8,
+    },
 }
 
 /// Why the words were not read.

@@ -4,7 +4,7 @@ ghost use Rattle.clap.specs.Matches.{found_of};
 ghost use Rattle.clap.specs.Walk.{Row, rows_of};
 ghost use Rattle.clap.specs.Simple.{subcommand_of, subcommand_rows_of};
 ghost use Rattle.clap.specs.Faults.{fault_of};
-ghost use Rattle.command_words.specs.Words.{Command, Pairs, IsPlain, IsFaultOf, IsRefusedBy, name_of, AsksFor, HasAll, HasValues, IsInRanges, join, IsReadable, number_or, text_or, texts};
+ghost use Rattle.command_words.specs.Words.{Command, Pairs, IsPlain, IsFaultOf, IsRefusedBy, name_of, AsksFor, HasAll, HasValues, IsInRanges, join, drill, verify, bulk, IsReadable, number_of, number_or, text_or, texts};
 ghost use Rattle.command_words.specs.Clap.{photon_app, text_in, number_in};
 ghost use Rattle.command_words.specs.declared.asked.WordsFault.TheVariants.{Memory, Refused};
 
@@ -52,6 +52,53 @@ fn small(found: &ArgMatches<'_>, name: &str, or: u8) -> Option<u8>
     }
 }
 
+/// A number option that has to be there.
+fn needed(found: &ArgMatches<'_>, name: &str) -> Option<u64>
+    ensures value { IfSome result (λ n. number_of (number_in (rows_of (found_of found.now)) name.now) ≡ Some n) }
+    ensures reads { IsSomeAnd (number_in (rows_of (found_of found.now)) name.now) (IsReadable 0 18446744073709551615) → IsSome result }
+{
+    match found.try_get_one::<u64>(name) {
+        Ok(Some(value)) => Some(value),
+        Ok(None) => None,
+        Err(_) => None,
+    }
+}
+
+/// A number option of at most 32 bits that has to be there.
+fn needed_count(found: &ArgMatches<'_>, name: &str) -> Option<u32>
+    ensures value { IfSome result (λ n. number_of (number_in (rows_of (found_of found.now)) name.now) ≡ Some n) }
+    ensures reads { (low high : ℕ) → high < 2 ^ 32 → IsSomeAnd (number_in (rows_of (found_of found.now)) name.now) (IsReadable low high) → IsSome result }
+{
+    match found.try_get_one::<u32>(name) {
+        Ok(Some(count)) => Some(count),
+        Ok(None) => None,
+        Err(_) => None,
+    }
+}
+
+/// How many joiners a site has.
+fn joiners(found: &ArgMatches<'_>) -> Option<u8>
+    ensures value { IfSome result (λ n. n ≡ number_or 1 (number_in (rows_of (found_of found.now)) (codes "joiners"))) }
+    ensures reads { IfSome (number_in (rows_of (found_of found.now)) (codes "joiners")) (IsReadable 1 4) → IsSome result }
+{
+    small(found, "joiners", 1)
+}
+
+/// The text of the table of shards.
+fn shards<'a>(found: &ArgMatches<'a>) -> &'a str
+    ensures { result.now ≡ text_or (codes "0:4") (text_in (rows_of (found_of found.now)) (codes "shards")) }
+{
+    text_with_default(found, "shards", "0:4")
+}
+
+/// How many inserts a batch has at most.
+fn batch(found: &ArgMatches<'_>) -> Option<u8>
+    ensures value { IfSome result (λ n. n ≡ number_or 64 (number_in (rows_of (found_of found.now)) (codes "batch"))) }
+    ensures reads { IfSome (number_in (rows_of (found_of found.now)) (codes "batch")) (IsReadable 1 64) → IsSome result }
+{
+    small(found, "batch", 64)
+}
+
 fn join<'a>(found: &ArgMatches<'a>) -> Option<Asked<'a>>
     ensures value { IfSome result (λ a. HasValues a (codes "join") (text_in (rows_of (found_of found.now))) (number_in (rows_of (found_of found.now)))) }
     ensures reads { HasAll join (text_in (rows_of (found_of found.now))) (number_in (rows_of (found_of found.now))) → IsSome result }
@@ -61,9 +108,46 @@ fn join<'a>(found: &ArgMatches<'a>) -> Option<Asked<'a>>
         clicks: text(found, "clicks")?,
         state: text(found, "state")?,
         horizon: number(found, "horizon", 0)?,
-        joiners: small(found, "joiners", 1)?,
-        shards: text_with_default(found, "shards", "0:4"),
-        batch: small(found, "batch", 64)?,
+        joiners: joiners(found)?,
+        shards: shards(found),
+        batch: batch(found)?,
+    })
+}
+
+fn drill<'a>(found: &ArgMatches<'a>) -> Option<Asked<'a>>
+    ensures value { IfSome result (λ a. HasValues a (codes "drill") (text_in (rows_of (found_of found.now))) (number_in (rows_of (found_of found.now)))) }
+    ensures reads { HasAll drill (text_in (rows_of (found_of found.now))) (number_in (rows_of (found_of found.now))) → IsSome result }
+{
+    Some(Asked::Drill {
+        queries: text(found, "queries")?,
+        clicks: text(found, "clicks")?,
+        plan: text(found, "plan")?,
+        horizon: number(found, "horizon", 0)?,
+        joiners: joiners(found)?,
+        shards: shards(found),
+        batch: batch(found)?,
+    })
+}
+
+fn verify<'a>(found: &ArgMatches<'a>) -> Option<Asked<'a>>
+    ensures value { IfSome result (λ a. HasValues a (codes "verify") (text_in (rows_of (found_of found.now))) (number_in (rows_of (found_of found.now)))) }
+    ensures reads { HasAll verify (text_in (rows_of (found_of found.now))) (number_in (rows_of (found_of found.now))) → IsSome result }
+{
+    let clicks = text(found, "clicks")?;
+    let state = text(found, "state")?;
+    Some(Asked::Verify { clicks, state })
+}
+
+fn bulk<'a>(found: &ArgMatches<'a>) -> Option<Asked<'a>>
+    ensures value { IfSome result (λ a. HasValues a (codes "bulk") (text_in (rows_of (found_of found.now))) (number_in (rows_of (found_of found.now)))) }
+    ensures reads { HasAll bulk (text_in (rows_of (found_of found.now))) (number_in (rows_of (found_of found.now))) → IsSome result }
+{
+    Some(Asked::Bulk {
+        seed: needed(found, "seed")?,
+        clicks: needed_count(found, "clicks")?,
+        joiners: joiners(found)?,
+        shards: shards(found),
+        batch: batch(found)?,
     })
 }
 
@@ -75,6 +159,9 @@ fn asked_of<'a>(matches: &ArgMatches<'a>) -> Option<Asked<'a>>
     let (name, found) = matches.subcommand()?;
     match name {
         "join" => join(found),
+        "drill" => drill(found),
+        "verify" => verify(found),
+        "bulk" => bulk(found),
         _ => None,
     }
 }

@@ -5,7 +5,7 @@ use Rattle.clap.specs.Simple.{App, is_simple, subcommand_of, subcommand_rows_of}
 use Rattle.clap.specs.Takes.{takes}
 use Rattle.clap.specs.Faults.{fault_of, is_simple_and_free}
 use Rattle.clap.specs.Kinds.{HasKind}
-use Rattle.command_words.specs.Words.{Text, HasValues, name_of, texts}
+use Rattle.command_words.specs.Words.{Text, HasValues, texts}
 use Rattle.command_words.specs.Clap.{photon_app, text_in, number_in}
 use Rattle.command_words.proofs.Levels.{plain_gives}
 use Rattle.command_words.proofs.Plain.{asks_for, by_kinds, for_memory}
@@ -43,7 +43,7 @@ returns-in-Some-clause-ranges c =
     let none : fault_of photon_app (texts c.args.words.now) ≡ []
     = ap (λ (a : App). fault_of a (texts c.args.words.now)) (sym c.in_ok-command.ensures) ∙ c.in-Ok.ensures.kinds (ap is_simple_and_free c.in_ok-command.ensures) in
     let got = taken (texts c.args.words.now) none in
-    in_range c.in-Some.asked (name_of got.command) got.command _ _
+    in_range c.in-Some.asked got.command _ _
     (subst (λ (o : Option (Text × List Row)). IsSomeAnd o (λ p. HasValues c.in-Some.asked p.0 (text_in p.1) (number_in p.1))) (sub_is ∙ got.found) c.in-Some.ensures.value)
     (has_values got.command got.rest got.holds)
 
