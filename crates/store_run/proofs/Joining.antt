@@ -35,7 +35,8 @@ use Rattle.store_laws.proofs.Nodes.{same_is_whole}
 use Rattle.store_laws.proofs.Opening.{opened_whole}
 use Rattle.store_run.specs.Left.{HasRested, RestLeft}
 use Rattle.store_run.specs.Meaning.{lines_by, AreLinesBy}
-use Rattle.store_run.specs.Joined.{IsAcceptedBound, WasHeld, Joins, JoinsAfresh, decided_by}
+use Rattle.store_run.specs.Joined.{IsAcceptedBound, WasHeld, Joins, JoinsAfresh, RanAfresh, decided_by}
+use Rattle.store_run.specs.Laws.{JoinerStopped, NoneStops}
 use Rattle.store_run.proofs.Bounds.{bounds_from, to_bounds, from_bounds}
 
 -- the laws that this stands on
@@ -124,7 +125,7 @@ afresh laws g before after h faulted js lines checked table nothing rest are = r
   left = now;
   are = same;
   exact = laws.clicks g rested.entries checked table rested.run.run rested.rest;
-  whole = λ calm. ap logs.text_of same ∙ laws.report g rested.entries checked table rested.run.run rested.rest (none_missing calm);
+  whole = λ calm. ap logs.text_of (same ∙ laws.report g rested.entries checked table rested.run.run rested.rest (none_missing calm));
 }
   where
     keeps : (disk : DiskName) → IsDisk g disk → KeepsOf g rest.store.disks disk []
@@ -149,3 +150,62 @@ afresh laws g before after h faulted js lines checked table nothing rest are = r
     none_missing calm l m e =
         let held = missing laws g empty_disks h after faulted js checked was rested calm l.click.id ((laws.missing g now l.click.id).0 e) in
         none_accepted 0 g.replicas _ held.2
+
+-- ---- by the run's own history
+
+stopped : (g : Setting) (d : Disks) (h : List BusEntry) (after : Images) (faulted : Type 0) (js : Journals) → NoneStops → HasRested g d h after faulted js → HasRested g d h after (JoinerStopped g h) js
+stopped g d h after faulted js none rested = record {
+  at = rested.at;
+  entries = rested.entries;
+  run = rested.run;
+  rest = rested.rest;
+  keeps = rested.keeps;
+  holds = rested.holds;
+  read = rested.read;
+  stops = λ calm. none g d h rested.at rested.entries rested.run (λ j is e. calm (j, is, e));
+}
+
+by_stops : (g : Setting) (before after : Images) (h : List BusEntry) (faulted : Type 0) (js : Journals) → NoneStops → RestLeft g before after h faulted js → RestLeft g before after h (JoinerStopped g h) js
+by_stops g before after h faulted js none rest = record { store = rest.store; kept = rest.kept; ran = λ d same. stopped g d h after faulted js none (rest.ran d same) }
+
+pub joins_by_stops : Laws → NoneStops → (g : Setting) (before after : Images) (h : List BusEntry) (faulted : Type 0) (js : Journals) (lines : List ReportLine)
+    → Checked g → IsSoundStore g before → RestLeft g before after h faulted js → AreLinesBy g js lines → Joins g before after (JoinerStopped g h) lines
+joins_by_stops laws none g before after h faulted js lines checked sound rest are =
+    joins laws g before after h (JoinerStopped g h) js lines checked sound (by_stops g before after h faulted js none rest) are
+
+-- a run over records that are none, and the lines that were told
+module _ (laws : Laws) (g : Setting) (h : List BusEntry) (after : Images) (js : Journals) (lines : List ReportLine) (checked : Checked g) (table : IsTable g.table) (are : AreLinesBy g js lines) (rested : HasRested g empty_disks h after (JoinerStopped g h) js) where
+  was : SoundStore g empty_disks
+  was = (laws.empty g).records
+
+  abbrev now : Disks
+  now = left laws g empty_disks h after (JoinerStopped g h) js checked was rested
+
+  same : lines ≡ kept.report g now
+  same = are (agree laws g empty_disks h after (JoinerStopped g h) js checked was rested) ∙ told laws g empty_disks h after (JoinerStopped g h) js checked was rested
+
+  none_missing : (JoinerStopped g h → ⊥) → (l : ClickLine) → Mem l g.clicks → kept.line_of g now l.click.id ≡ M l.click.id → ⊥
+  none_missing calm l m e =
+      let held = missing laws g empty_disks h after (JoinerStopped g h) js checked was rested calm l.click.id ((laws.missing g now l.click.id).0 e) in
+      none_accepted 0 g.replicas _ held.2
+
+  ran_afresh : RanAfresh g h lines
+  ran_afresh = record {
+    at = rested.at;
+    entries = rested.entries;
+    run = rested.run;
+    rest = rested.rest;
+    are = same;
+    exact = laws.clicks g rested.entries checked table rested.run.run rested.rest;
+    whole = λ calm. same ∙ laws.report g rested.entries checked table rested.run.run rested.rest (none_missing calm);
+  }
+
+blank : (laws : Laws) (g : Setting) (before after : Images) (h : List BusEntry) (faulted : Type 0) (js : Journals) → LeavesNothing g before → (rest : RestLeft g before after h faulted js) → SameRecords g rest.store.disks empty_disks
+blank laws g before after h faulted js nothing rest = laws.one_records g (λ disk. []) rest.store.disks empty_disks
+    (λ disk is. let x = rest.kept.records disk is in subst (λ (c : List ℕ). KeepsOf g rest.store.disks disk c) (nothing disk is x.0 x.1) x.2)
+    (λ disk is. empty_keeps g disk)
+
+pub ran : Laws → NoneStops → (g : Setting) (before after : Images) (h : List BusEntry) (faulted : Type 0) (js : Journals) (lines : List ReportLine)
+    → Checked g → IsTable g.table → LeavesNothing g before → RestLeft g before after h faulted js → AreLinesBy g js lines → RanAfresh g h lines
+ran laws none g before after h faulted js lines checked table nothing rest are =
+    ran_afresh laws g h after js lines checked table are (stopped g empty_disks h after faulted js none (rest.ran empty_disks (blank laws g before after h faulted js nothing rest)))

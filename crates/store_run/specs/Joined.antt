@@ -15,11 +15,18 @@ use Rattle.paxos_defs.specs.Notes.Note.{Accepted}
 use Rattle.turn_defs.specs.Setting.{Setting, shard, shards}
 use Rattle.photon_defs.specs.Journals.{journals, decided}
 use Rattle.photon_defs.specs.Report.{report}
-use Rattle.photon_defs.specs.Runs.{Disks}
+use Rattle.photon_defs.specs.Rest.{IsAtRest}
+use Rattle.photon_defs.specs.Runs.{Disks, Entry, disks, opening, world_after}
 use Rattle.photon_defs.specs.Sound.{IsDrained, IsMissing, accepted_inserts, known_of}
 use Rattle.photon_defs.specs.Topology.{Store}
 use Rattle.photon_model.specs.Exact.{IsExact}
+use Rattle.photon_model.specs.Stores.{empty_disks}
+use Rattle.packet_codec.specs.declared.node.Node.{Node}
+use Rattle.air_bus.specs.declared.entry.Entry.{Entry as BusEntry}
+use Rattle.site_laws.specs.Kinds.{StateOf}
+use Rattle.site_laws.specs.Laws.{IsRunOf}
 use Rattle.store_laws.specs.Stores.{Images, IsDisk, KeepsOf, AreLeft}
+use Rattle.store_run.specs.Laws.{JoinerStopped}
 
 -- the batches that the replicas' records decide in a shard
 abbrev pub decided_by : Setting → Disks → ℕ → List Batch
@@ -57,3 +64,14 @@ pub record JoinsAfresh (g : Setting) (faulted : Type 0) (lines : List ReportLine
   pub are : lines ≡ report g left
   pub exact : (l : ClickLine) → Mem l g.clicks → IsExact g left l.click
   pub whole : (faulted → ⊥) → logs.text_of lines ≡ logs.report g.queries (map (λ (l : ClickLine). l.click) g.clicks) g.horizon
+
+-- This history is a run from nothing that has come to rest, and these are the lines of the report of the records at its end. Each
+-- click's line is that of the two logs, or the click is missing; unless a joiner stopped all are those of the two logs.
+pub record RanAfresh (g : Setting) (h : List BusEntry) (lines : List ReportLine) : Type 0 where
+  pub at : (n : Node) → StateOf n
+  pub entries : List Entry
+  pub run : IsRunOf g empty_disks h at entries
+  pub rest : IsAtRest g (world_after g (opening empty_disks) entries)
+  pub are : lines ≡ report g (disks (world_after g (opening empty_disks) entries))
+  pub exact : (l : ClickLine) → Mem l g.clicks → IsExact g (disks (world_after g (opening empty_disks) entries)) l.click
+  pub whole : (JoinerStopped g h → ⊥) → lines ≡ map (logs.line_of g.queries g.horizon) (logs.distinct (map (λ (l : ClickLine). l.click) g.clicks))

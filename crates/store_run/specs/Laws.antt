@@ -40,6 +40,10 @@ pub record KeepsItsRecord {D : Type 0} (image : D → List ℕ → Type 0) (g : 
 abbrev pub NoJoinerStopped : Setting → List BusEntry → Type 0
 NoJoinerStopped g h = (j : ℕ) → IsJoiner g j → list_any is_stop (made_by j h) ≡ true → ⊥
 
+-- a joiner's entries have one
+abbrev pub JoinerStopped : Setting → List BusEntry → Type 0
+JoinerStopped g h = (j : ℕ) × IsJoiner g j × (list_any is_stop (made_by j h) ≡ true)
+
 -- then no joiner stops in the run
 abbrev pub NoneStops : Type 0
 NoneStops =

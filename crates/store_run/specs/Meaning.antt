@@ -14,7 +14,8 @@ use Rattle.verify_pass.specs.Classes.{line_of, notes_of}
 use Rattle.store_laws.specs.Stores.{Images, IsSoundStore}
 use Rattle.store_laws.specs.Laws.{LeavesNothing}
 use Rattle.store_run.specs.Left.{RestLeft}
-use Rattle.store_run.specs.Joined.{Joins, JoinsAfresh}
+use Rattle.store_run.specs.Joined.{Joins, JoinsAfresh, RanAfresh}
+use Rattle.store_run.specs.Laws.{JoinerStopped}
 
 -- what verification makes of the journals: a line for each click id
 abbrev pub lines_by : Setting → Journals → List ReportLine
@@ -35,3 +36,14 @@ abbrev pub RestJoinsAfresh : Setting → (before after : Images) → (faulted : 
 RestJoinsAfresh g before after faulted =
     (h : List BusEntry) (js : Journals) (lines : List ReportLine) →
     Checked g → IsTable g.table → LeavesNothing g before → RestLeft g before after h faulted js → AreLinesBy g js lines → JoinsAfresh g faulted lines
+
+-- what is missing by the run's own history: it is so unless a joiner stopped in it
+abbrev pub RestJoinsByStops : Setting → (before after : Images) → (faulted : Type 0) → Type 0
+RestJoinsByStops g before after faulted =
+    (h : List BusEntry) (js : Journals) (lines : List ReportLine) →
+    Checked g → IsSoundStore g before → RestLeft g before after h faulted js → AreLinesBy g js lines → Joins g before after (JoinerStopped g h) lines
+
+abbrev pub RestRanAfresh : Setting → (before after : Images) → (faulted : Type 0) → Type 0
+RestRanAfresh g before after faulted =
+    (h : List BusEntry) (js : Journals) (lines : List ReportLine) →
+    Checked g → IsTable g.table → LeavesNothing g before → RestLeft g before after h faulted js → AreLinesBy g js lines → RanAfresh g h lines

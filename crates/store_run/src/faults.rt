@@ -18,7 +18,8 @@ pub(crate) fn fault_of_disks(fault: DisksFault) -> RunFault
     }
 }
 
-pub(crate) fn fault_of_refusal(refusal: Refusal) -> RunFault
+/// What is told of a store that is refused.
+pub fn fault_of_refusal(refusal: Refusal) -> RunFault
     ensures { result ≡ of_refusal refusal }
 {
     match refusal {

@@ -13,5 +13,6 @@ mod sources;
 mod system;
 
 pub use asked::Names;
+pub use faults::fault_of_refusal;
 pub use ran::{Ran, RunLog};
 pub use run::run_sites;
