@@ -1,6 +1,13 @@
 -- What a run that has come to rest gives the report, and the setting that it is of.
 use Rattle.std.proofs.Common.{◌≡◌, ℕ, suc, ◌+◌, List, [], ◌∷◌, map, Option, Some, None, refl, sym, ap, length, subst}
-use Rattle.std.specs.Option.{IsSomeAnd}
+use Rattle.std.specs.List.{All}
+use Rattle.std.specs.Option.{IfSome, IsSomeAnd}
+use Rattle.lossy_link.specs.Fates.{PlanView}
+use Rattle.air_bus.specs.History.{IsAired}
+use Rattle.bus_seat.specs.Seats.{IsIn}
+use Rattle.store_laws.specs.Stores.{Images}
+use Rattle.store_run.specs.Left.{RunLeft}
+use Rattle.store_run.specs.declared.ran.RunLog.{RunLog}
 use Rattle.time_shards.specs.declared.ShardRow.{ShardRow}
 use Rattle.log_records.specs.declared.records.QueryRec.{QueryRec}
 use Rattle.log_records.specs.declared.records.ClickRec.{ClickRec}
@@ -11,13 +18,24 @@ use Rattle.log_records.proofs.Places.{lines_follow}
 use Rattle.turn_defs.specs.Setting.{Setting, Checked}
 use Rattle.dispatch_node.specs.Places.{IsLogOf}
 use Rattle.store_run.specs.Asked.{IsSettingOf}
-use Rattle.photon_cli.specs.Join.{AreLogs, EndsAt, IsAsked, config_of}
+use Rattle.photon_cli.specs.Join.{AreLogs, EndsAt, IsAsked, IsHistory, config_of}
 use Rattle.photon_cli.specs.Words.{IsTextOf, Values}
 use Rattle.photon_cli.proofs.Refusals.{within}
 
 pub taken : {A : Type 0} (o : Option A) (P : A → Type 0) → IsSomeAnd o P → (x : A) × P x
 taken None P h = absurd h
 taken (Some x) P h = (x, h)
+
+-- what is known of a thing that is there
+pub known : {A : Type 0} (o : Option A) (P Q : A → Type 0) → IsSomeAnd o P → IfSome o Q → IsSomeAnd o Q
+known None P Q h k = absurd h
+known (Some x) P Q h k = k
+
+-- what is left of a run
+pub history : (o : Option RunLog) (g : Setting) (before after : Images) (plan : PlanView) → IsSomeAnd o (λ l. RunLeft g before after l.air.history) → IfSome o (λ l. All (IsIn l.air.history) l.seen.items) → IfSome o (λ l. IsAired plan l.air.kinds l.air.history)
+    → IsSomeAnd o (IsHistory g before after plan)
+history None g before after plan left lists aired = absurd left
+history (Some log) g before after plan left lists aired = record { left = left; lists = lists; aired = aired }
 
 -- the setting of a log that was checked has what the law asks of it
 pub log_checked : (o : Option (List ℕ)) (g : Setting) → IsSomeAnd o (λ log. IsLogOf log g) → Checked g

@@ -1,5 +1,9 @@
 -- What a join of two logs over a store does.
-use Rattle.std.specs.Prelude.{ℕ, ◌≡◌, List, ◌++◌, Option, IsSomeAnd}
+use Rattle.std.specs.Prelude.{ℕ, ◌≡◌, List, [], ◌++◌, Option, None, IsSomeAnd}
+use Rattle.std.specs.List.{All}
+use Rattle.lossy_link.specs.Fates.{PlanView}
+use Rattle.air_bus.specs.History.{IsAired}
+use Rattle.bus_seat.specs.Seats.{IsIn}
 use Rattle.time_shards.specs.declared.ShardRow.{ShardRow}
 use Rattle.log_records.specs.declared.records.QueryRec.{QueryRec}
 use Rattle.log_records.specs.declared.records.ClickRec.{ClickRec}
@@ -17,6 +21,8 @@ use Rattle.store_laws.specs.Stores.{Images, IsSoundStore}
 use Rattle.store_laws.specs.Laws.{LeavesNothing}
 use Rattle.store_run.specs.Asked.{IsSettingOf}
 use Rattle.store_run.specs.Joined.{Joins, JoinsAfresh}
+use Rattle.store_run.specs.Left.{RunLeft}
+use Rattle.store_run.specs.declared.ran.RunLog.{RunLog}
 use Rattle.photon_cli.specs.Words.{Values, IsTextOf}
 
 -- Here told says what bytes are under a name.
@@ -64,3 +70,19 @@ module _ (told : List ℕ → Option (List ℕ)) (v : Values) (before after : Im
   -- where the store was empty, it is that of the two logs, but for missing clicks
   abbrev pub PrintsAfresh : Type 0
   PrintsAfresh = (g : Setting) × IsAsked told v g × (LeavesNothing g before → (lines : List ReportLine) × JoinsAfresh g faulted lines × (new ≡ old ++ text_of lines))
+
+-- The history is a run of the whole system, from records that the disks kept at entry. It begins with all that was seen with each
+-- seat, and has of the seat's number just what was made with it; each packet that a node took is the next of those that the plan
+-- leaves of what was sent.
+pub record IsHistory (g : Setting) (before after : Images) (plan : PlanView) (log : RunLog) : Type 0 where
+  pub left : RunLeft g before after log.air.history
+  pub lists : All (IsIn log.air.history) log.seen.items
+  pub aired : IsAired plan log.air.kinds log.air.history
+
+-- the plan that leaves all packets, disks and replicas alone
+abbrev pub no_plan : PlanView
+no_plan = record { rules = []; stops = []; dead = None }
+
+-- what was asked for was run, and this is left of the run
+abbrev pub HasRun : (told : List ℕ → Option (List ℕ)) → Values → (before after : Images) → Option RunLog → Type 0
+HasRun told v before after ran = (g : Setting) × IsAsked told v g × IsSomeAnd ran (IsHistory g before after no_plan)

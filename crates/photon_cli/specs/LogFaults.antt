@@ -1,9 +1,12 @@
--- Why a join gives up.
+-- Why a command gives up.
 use Rattle.std.specs.Prelude.{ℕ, ◌≡◌, ◌⊎◌, ⊤}
 use Rattle.log_records.specs.declared.why.Why.{Why}
 use Rattle.log_records.specs.declared.why.Why.TheVariants as why
 use Rattle.log_records.specs.declared.check.BadLine.{BadLine}
+use Rattle.lossy_link.specs.declared.bad_plan.Field.{Field}
 use Rattle.run_faults.specs.declared.fault.LogName.{LogName}
+use Rattle.run_faults.specs.declared.fault.LogName.TheVariants.{Queries, Clicks}
+use Rattle.run_faults.specs.declared.fault.RunFault.{RunFault}
 use Rattle.run_faults.specs.declared.fault.RunFault.TheVariants as cause
 use Rattle.store_run.specs.Causes.{IsCounted, IsWelcomeWhere}
 use Rattle.photon_cli.specs.declared.engine.fault.Fault.{Fault}
@@ -24,7 +27,9 @@ IsEarly f = ((row : ℕ) × (f ≡ fault.Table row)) ⊎ ((log : LogName) × IsL
 -- Why the run gives up. A log's fault or a disk's comes only where the count of its source or its store has risen.
 abbrev pub IsLate : (logs disks : Type 0) → Fault → Type 0
 IsLate logs disks (fault.Table row) = ⊥
+IsLate logs disks (fault.Plan place) = ⊥
 IsLate logs disks (fault.Refused log line w) = ⊥
+IsLate logs disks fault.PlanRead = ⊥
 IsLate logs disks (fault.Run f) = IsCounted logs disks f
 IsLate logs disks fault.Write = ⊥
 IsLate logs disks fault.Memory = ⊤
@@ -32,7 +37,9 @@ IsLate logs disks fault.Memory = ⊤
 -- it isn't what is told of a store that keeps another table or other places, nor of one for other joiners where this holds
 abbrev pub IsFair : Type 0 → Fault → Type 0
 IsFair holds (fault.Table row) = ⊤
+IsFair holds (fault.Plan place) = ⊤
 IsFair holds (fault.Refused log line w) = ⊤
+IsFair holds fault.PlanRead = ⊤
 IsFair holds (fault.Run f) = IsWelcomeWhere holds f
 IsFair holds fault.Write = ⊤
 IsFair holds fault.Memory = ⊤
@@ -44,3 +51,62 @@ refusal log line w = fault.Refused log line w
 
 abbrev pub refusal_of : LogName → BadLine → Fault
 refusal_of log bad = refusal log bad.line bad.why
+
+-- ---- of a drill
+
+-- what may be wrong with a plan
+abbrev pub IsPlanFault : Fault → Type 0
+IsPlanFault f = ((place : Field) × (f ≡ fault.Plan place)) ⊎ ((f ≡ fault.PlanRead) ⊎ (f ≡ fault.Memory))
+
+-- the plan is bad at this place: that is told, or its file couldn't be read, or memory was wanting
+abbrev pub IsToldOfPlan : Field → Fault → Type 0
+IsToldOfPlan place f = (f ≡ fault.Plan place) ⊎ ((f ≡ fault.PlanRead) ⊎ (f ≡ fault.Memory))
+
+-- the same where the table is read before
+abbrev pub IsBeforeLogs : Field → Fault → Type 0
+IsBeforeLogs place f = ((row : ℕ) × (f ≡ fault.Table row)) ⊎ IsToldOfPlan place f
+
+-- what may be wrong before the run: the table, the plan, or a log
+abbrev pub IsEarlyInDrill : Fault → Type 0
+IsEarlyInDrill f = ((row : ℕ) × (f ≡ fault.Table row)) ⊎ (IsPlanFault f ⊎ ((log : LogName) × IsLogFault log f))
+
+-- a file couldn't be read
+abbrev pub IsFailedRead : Fault → Type 0
+IsFailedRead f = (f ≡ fault.PlanRead) ⊎ ((log : LogName) × (f ≡ failed_read log))
+
+-- why a drill's run gives up, or a store isn't read: for a fault of the run, of the disks or of a log, or for want of memory
+abbrev pub IsOfRun : Fault → Type 0
+IsOfRun f = ((c : RunFault) × (f ≡ fault.Run c)) ⊎ (f ≡ fault.Memory)
+
+-- a join has no plan
+abbrev pub IsOfJoin : Fault → Type 0
+IsOfJoin (fault.Table row) = ⊤
+IsOfJoin (fault.Plan place) = ⊥
+IsOfJoin (fault.Refused log line w) = ⊤
+IsOfJoin fault.PlanRead = ⊥
+IsOfJoin (fault.Run f) = ⊤
+IsOfJoin fault.Write = ⊤
+IsOfJoin fault.Memory = ⊤
+
+-- ---- of a bulk run: its logs are valid, and it has no plan of a file
+
+abbrev pub IsOfBulk : Fault → Type 0
+IsOfBulk (fault.Table row) = ⊤
+IsOfBulk (fault.Plan place) = ⊥
+IsOfBulk (fault.Refused log line w) = ⊥
+IsOfBulk fault.PlanRead = ⊥
+IsOfBulk (fault.Run f) = ⊤
+IsOfBulk fault.Write = ⊤
+IsOfBulk fault.Memory = ⊤
+
+-- ---- of a verification: it has neither a table, nor a plan, nor queries
+
+abbrev pub IsOfVerify : Fault → Type 0
+IsOfVerify (fault.Table row) = ⊥
+IsOfVerify (fault.Plan place) = ⊥
+IsOfVerify (fault.Refused Queries line w) = ⊥
+IsOfVerify (fault.Refused Clicks line w) = ⊤
+IsOfVerify fault.PlanRead = ⊥
+IsOfVerify (fault.Run f) = ⊤
+IsOfVerify fault.Write = ⊤
+IsOfVerify fault.Memory = ⊤

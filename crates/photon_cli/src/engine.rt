@@ -1,10 +1,18 @@
-// The join of two logs over a store: both are checked whole, then both sites run until they rest, and what the disks keep then is
-// reported.
+// What the commands do. A log is checked whole before it is used. A join runs both sites over a store until they rest, and what the
+// disks keep then is reported; a drill does so over a store in memory, with a plan
+// of what goes wrong, and a bulk run over logs of its own besides. A verification reports what the disks of a store keep.
+mod bulk;
 mod checked;
+mod drill;
 mod fault;
 mod join;
+mod plan;
 mod read;
 mod run;
+mod verify;
 
+pub use bulk::bulk_totals;
+pub use drill::drill_logs;
 pub use fault::Fault;
 pub use join::join_logs;
+pub use verify::verify_store;

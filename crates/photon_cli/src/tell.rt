@@ -1,14 +1,15 @@
 // What is told on standard error.
-ghost use Rattle.std.specs.Prelude.{◌≡◌, ◌++◌, OnOk, IsErr, IsTrue, List, codes};
+ghost use Rattle.std.specs.Prelude.{◌≡◌, ◌++◌, OnOk, IsErr, IsTrue, List, codes, decimal};
 ghost use Rattle.std.specs.List.{flat_map};
 ghost use Rattle.outside.specs.Faults.{Counts, Rose};
 ghost use Rattle.run_faults.specs.Faults.{log_text};
-ghost use Rattle.photon_cli.specs.Faults.{status_of, why_text, message};
+ghost use Rattle.photon_cli.specs.Faults.{status_of, why_text, plan_message, message};
 
 use crate::engine::Fault;
 use clap::Error;
 use itoa::Buffer;
 use log_records::Why;
+use lossy_link::Field;
 use outside::{Sink, WriteFault};
 use report_text::write_all;
 use run_faults::LogName;
@@ -20,7 +21,9 @@ pub fn status(fault: &Fault) -> u8
 {
     match fault {
         Fault::Table { .. } => 2,
+        Fault::Plan(_) => 2,
         Fault::Refused { .. } => 3,
+        Fault::PlanRead => 4,
         Fault::Run(cause) => run_faults::status(cause),
         Fault::Write => 5,
         Fault::Memory => 8,
@@ -51,6 +54,7 @@ fn write_fault<K: Sink>(err: &mut K, fault: &Fault) -> Result<(), WriteFault>
             let row = digits.format(*row).as_bytes();
             write_pieces(err, &[b"photon: table: row ".as_slice(), row, b"\n"])
         }
+        Fault::Plan(place) => write_place(err, *place),
         Fault::Refused { log, line, why } => {
             let mut digits = Buffer::new();
             let line = digits.format(*line).as_bytes();
@@ -67,10 +71,35 @@ fn write_fault<K: Sink>(err: &mut K, fault: &Fault) -> Result<(), WriteFault>
                 ],
             )
         }
+        Fault::PlanRead => write_all(err, b"photon: read: plan\n"),
         Fault::Run(cause) => run_faults::tell(err, cause),
         Fault::Write => write_all(err, b"photon: write\n"),
         Fault::Memory => write_all(err, b"photon: memory\n"),
     }
+}
+
+// The first bad place of a plan.
+fn write_place<K: Sink>(err: &mut K, place: Field) -> Result<(), WriteFault>
+    ensures all { IsTrue K.tells → OnOk result (K.held err.new ≡ K.held err.old ++ plan_message place) }
+    ensures count { Counts (K.faults err.old) (K.faults err.new) (IsErr result) }
+{
+    match place {
+        Field::Size => write_all(err, b"photon: plan: size\n"),
+        Field::Json => write_all(err, b"photon: plan: json\n"),
+        Field::Top => write_all(err, b"photon: plan: top\n"),
+        Field::Rules(number) => write_numbered(err, b"photon: plan: rules ", number),
+        Field::Stops(number) => write_numbered(err, b"photon: plan: stops ", number),
+        Field::Dead => write_all(err, b"photon: plan: dead\n"),
+    }
+}
+
+fn write_numbered<K: Sink>(err: &mut K, front: &[u8], number: u32) -> Result<(), WriteFault>
+    ensures all { IsTrue K.tells → OnOk result (K.held err.new ≡ K.held err.old ++ (front.now ++ (decimal number ++ codes "\n"))) }
+    ensures count { Counts (K.faults err.old) (K.faults err.new) (IsErr result) }
+{
+    let mut digits = Buffer::new();
+    let number = digits.format(number).as_bytes();
+    write_pieces(err, &[front, number, b"\n"])
 }
 
 fn write_pieces<K: Sink>(sink: &mut K, pieces: &[&[u8]]) -> Result<(), WriteFault>

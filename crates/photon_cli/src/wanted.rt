@@ -1,12 +1,8 @@
-// What the words ask for, with names.
-ghost use Rattle.std.specs.Prelude.{◌≡◌};
-ghost use Rattle.command_words.specs.Words.{IsInRanges};
-ghost use Rattle.photon_cli.specs.Words.{AreInRanges, values_in, values_of};
+// What is asked for, with names.
 
-use command_words::Asked;
 use store_run::Names;
 
-/// What a join is asked for. The shards are the text of a table, which isn't read yet.
+/// What both sites are run for. The shards are the text of a table, which isn't read yet.
 #[derive(Clone, Copy)]
 pub struct Wanted<'a> {
     pub names: Names<'a>,
@@ -16,29 +12,12 @@ pub struct Wanted<'a> {
     pub batch: u8,
 }
 
-/// What was asked, as one struct.
-pub fn wanted_of(asked: Asked<'_>) -> Wanted<'_>
-    ensures values { values_in result ≡ values_of asked.entry }
-    ensures ranges { IsInRanges asked.entry → AreInRanges (values_in result) }
-{
-    let Asked::Join {
-        queries,
-        clicks,
-        state,
-        horizon,
-        joiners,
-        shards,
-        batch,
-    } = asked;
-    Wanted {
-        names: Names {
-            queries,
-            clicks,
-            state,
-        },
-        horizon,
-        joiners,
-        shards,
-        batch,
-    }
+/// What a bulk run is made from, and run for.
+#[derive(Clone, Copy)]
+pub struct BulkWanted<'a> {
+    pub seed: u64,
+    pub clicks: u32,
+    pub joiners: u8,
+    pub shards: &'a str,
+    pub batch: u8,
 }

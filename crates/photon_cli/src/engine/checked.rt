@@ -19,7 +19,7 @@ use run_faults::{LogName, RunFault};
 use std::alloc::Global;
 
 /// Opens the log of that name.
-fn open_log<F: Source>(
+pub fn open_log<F: Source>(
     alloc: Global,
     files: &mut F,
     name: &str,

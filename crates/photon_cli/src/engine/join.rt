@@ -12,14 +12,15 @@ ghost use Rattle.site_disks.specs.Lent.{GoesOn};
 ghost use Rattle.store_laws.specs.Stores.{IsSoundStore};
 ghost use Rattle.store_opening.specs.Causes.{LeavesSomething};
 ghost use Rattle.photon_cli.specs.declared.engine.fault.Fault.TheVariants as fault;
-ghost use Rattle.photon_cli.specs.LogFaults.{IsEarly, IsFair, failed_read};
-ghost use Rattle.photon_cli.specs.Join.{AreValid, IsAsked, Prints, PrintsAfresh, PrintsPrefix, Refuses};
+ghost use Rattle.photon_cli.specs.LogFaults.{IsEarly, IsFair, IsOfJoin, failed_read};
+ghost use Rattle.photon_cli.specs.Join.{AreValid, HasRun, IsAsked, Prints, PrintsAfresh, PrintsPrefix, Refuses};
 ghost use Rattle.photon_cli.specs.Words.{AreInRanges, values_in};
 
 use super::checked::checked_logs;
 use super::fault::Fault;
 use super::run::run_lines;
 use crate::wanted::Wanted;
+use lossy_link::Plan;
 use outside::{Gate, Sink, Source, Store};
 use report_text::write_report;
 use site_nodes::Config;
@@ -56,6 +57,8 @@ where
     // other fault nothing.
     ensures done { IsTrue F.Log.tells → IsTrue K.tells → IsTrue S.Disk.tells → OnOk result (Prints (F.bytes files.old) (values_in wanted.now) (S.image store.old) (S.image store.new) (Rose (S.faults store.old) (S.faults store.new)) (K.held out.old) (K.held out.new)) }
     ensures afresh { IsTrue F.Log.tells → IsTrue K.tells → IsTrue S.Disk.tells → OnOk result (PrintsAfresh (F.bytes files.old) (values_in wanted.now) (S.image store.old) (S.image store.new) (Rose (S.faults store.old) (S.faults store.new)) (K.held out.old) (K.held out.new)) }
+    // Then the run's history is one of the whole system from what the disks kept, with no packet lost on purpose.
+    ensures ran { IsTrue F.Log.tells → IsTrue S.Disk.tells → OnOk result (HasRun (F.bytes files.old) (values_in wanted.now) (S.image store.old) (S.image store.new) ran.new.log) }
     ensures prefix { IsTrue F.Log.tells → IsTrue K.tells → IsTrue S.Disk.tells → result ≡ Err fault.Write
         → PrintsPrefix (F.bytes files.old) (values_in wanted.now) (S.image store.old) (S.image store.new) (Rose (S.faults store.old) (S.faults store.new)) (K.held out.old) (K.held out.new) }
     ensures quiet { IsTrue K.tells → IfErr result (λ f. (f ≡ fault.Write) ⊎ (K.held out.new ≡ K.held out.old)) }
@@ -67,7 +70,8 @@ where
         → Refuses (F.bytes files.old) (values_in wanted.now).queries (values_in wanted.now).clicks log (record { line = line; why = w }) }
     ensures valid { IsTrue F.Log.tells → AreValid (F.bytes files.old) (values_in wanted.now).queries (values_in wanted.now).clicks ⊎ IsErrAnd result IsEarly }
 
-    // The other faults come only where a count rose, but for want of memory and what the disks keep.
+    // The other faults come only where a count rose, but for want of memory and what the disks keep. There is no plan.
+    ensures own { IfErr result IsOfJoin }
     ensures read { Counts (F.faults files.old) (F.faults files.new) ((log : LogKind) × (result ≡ Err (failed_read log))) }
     ensures disks { Counts (S.faults store.old) (S.faults store.new) ((place : StorePlace) × (result ≡ Err (fault.Run (cause.Store place)))) }
     ensures write { Counts (K.faults out.old) (K.faults out.new) (result ≡ Err fault.Write) }
@@ -93,7 +97,10 @@ where
         table,
         batch: wanted.batch,
     };
-    let lines = match run_lines(rt, alloc, &config, &names, &clicks, files, store, gate, ran) {
+    let plan = Plan::empty(alloc);
+    let lines = match run_lines(
+        rt, alloc, &config, &names, &clicks, plan, files, store, gate, ran,
+    ) {
         Ok(lines) => lines,
         Err(fault) => return Err(fault),
     };

@@ -1,5 +1,5 @@
 // The run of both sites, and what becomes of each click by what it leaves.
-ghost use Rattle.std.specs.Prelude.{◌≡◌, ◌<◌, ◌≤◌, List, map, IfOk, IfErr, IsTrue};
+ghost use Rattle.std.specs.Prelude.{◌≡◌, ◌<◌, ◌≤◌, List, map, IfOk, IfErr, IfSome, IsSomeAnd, OnOk, IsTrue};
 ghost use Rattle.outside.specs.declared.store.DiskName.{DiskName};
 ghost use Rattle.outside.specs.Faults.{Rose};
 ghost use Rattle.time_shards.specs.Shards.{IsTable};
@@ -9,7 +9,11 @@ ghost use Rattle.store_laws.specs.Stores.{IsSoundStore};
 ghost use Rattle.store_laws.specs.Laws.{LeavesNothing};
 ghost use Rattle.store_opening.specs.Causes.{LeavesSomething};
 ghost use Rattle.store_run.specs.Asked.{OfSetting};
-ghost use Rattle.store_run.specs.Joined.{Joins, JoinsAfresh};
+ghost use Rattle.store_run.specs.Joined.{Joins, JoinsAfresh, RanAfresh};
+ghost use Rattle.store_run.specs.Left.{RunLeft};
+ghost use Rattle.air_bus.specs.History.{IsAired};
+ghost use Rattle.bus_seat.specs.Seats.{IsIn};
+ghost use Rattle.std.specs.List.{All};
 ghost use Rattle.photon_cli.specs.LogFaults.{IsLate, IsFair};
 
 use super::checked::CheckedClicks;
@@ -26,13 +30,14 @@ use store_run::{Names, Ran, run_sites};
 use verify_pass::classify;
 
 /// Runs both sites over the store until all nodes are at rest, and gives the report's line for each distinct click id, by what the
-/// disks keep then. No packet is lost on purpose.
+/// disks keep then. Packets go as the plan says; `ran` gets what the run leaves.
 pub fn run_lines<R, F, S, G>(
     rt: &R,
     alloc: Global,
     config: &Config,
     names: &Names<'_>,
     clicks: &CheckedClicks,
+    plan: Plan,
     files: &mut F,
     store: &mut S,
     gate: &G,
@@ -57,13 +62,19 @@ where
     ensures afresh { IsTrue S.Disk.tells → IsTrue F.Log.tells → OfSetting (F.bytes files.old) names.now.queries.now names.now.clicks.now config.now clicks.now.lines_end (λ g. map (λ (l : ClickLine). l.click) g.clicks ≡ clicks.now.records.items → LeavesNothing g (S.image store.old)
         → IfOk result (λ lines. JoinsAfresh g (Rose (S.faults store.old) (S.faults store.new)) lines.items)) }
 
+    // The run's history, and from an empty store what it means for the lines.
+    ensures began { IsTrue S.Disk.tells → IsTrue F.Log.tells → OfSetting (F.bytes files.old) names.now.queries.now names.now.clicks.now config.now clicks.now.lines_end (λ g. OnOk result (IsSomeAnd ran.new.log (λ l. RunLeft g (S.image store.old) (S.image store.new) l.air.history))) }
+    ensures ran { IsTrue S.Disk.tells → IsTrue F.Log.tells → OfSetting (F.bytes files.old) names.now.queries.now names.now.clicks.now config.now clicks.now.lines_end (λ g. map (λ (l : ClickLine). l.click) g.clicks ≡ clicks.now.records.items → LeavesNothing g (S.image store.old)
+        → IfOk result (λ lines. IsSomeAnd ran.new.log (λ l. RanAfresh g l.air.history lines.items))) }
+    ensures lists { IfSome ran.new.log (λ l. All (IsIn l.air.history) l.seen.items) }
+    ensures aired { IfSome ran.new.log (λ l. IsAired plan l.air.kinds l.air.history) }
+
     ensures cause { IfErr result (IsLate (Rose (F.faults files.old) (F.faults files.new)) (Rose (S.faults store.old) (S.faults store.new))) }
     ensures welcome { IsTrue S.Disk.tells → IsTrue F.Log.tells → OfSetting (F.bytes files.old) names.now.queries.now names.now.clicks.now config.now clicks.now.lines_end (λ g. IsSoundStore g (S.image store.old) → IfErr result (IsFair ((s : S) → LeavesSomething g (S.image s)))) }
     ensures file_count { F.faults files.old ≤ F.faults files.new }
     ensures store_count { S.faults store.old ≤ S.faults store.new }
 {
     means::<S>();
-    let plan = Plan::empty(alloc);
     let journals = match run_sites(
         rt,
         alloc,

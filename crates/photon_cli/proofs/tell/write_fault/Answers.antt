@@ -17,4 +17,4 @@ returns-in-Table-clause-all g c tells =
 
 pub returns-in-Write-clause-all : goal.returns-in-Write-clause-all
 returns-in-Write-clause-all g c tells =
-    subst (λ (f : Fault). OnOk c.write_all.result (g.K.Sink.held c.write_all.new.sink ≡ g.K.Sink.held c.args.err.now ++ message f)) (sym c.in-Write.is) (c.write_all.ensures.all tells)
+    subst (λ (f : Fault). OnOk c.write_all-in-Write.result (g.K.Sink.held c.write_all-in-Write.new.sink ≡ g.K.Sink.held c.args.err.now ++ message f)) (sym c.in-Write.is) (c.write_all-in-Write.ensures.all tells)

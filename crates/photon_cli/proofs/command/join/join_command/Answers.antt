@@ -5,7 +5,7 @@ use Rattle.photon_cli.specs.Faults.{status_of}
 use Rattle.photon_cli.specs.LogFaults.{IsEarly}
 use Rattle.photon_cli.specs.Words.{values_in}
 use Rattle.photon_cli.proofs.Ends.{asked_valid, early_left, fair_status, left_over, line_of, named, no_zero, none_refused, not_invalid, place_of, read_of, row_of, write_of}
-use Rattle.photon_cli.proofs.command.join_command.Goals as goal
+use Rattle.photon_cli.proofs.command.join.join_command.Goals as goal
 
 pub returns-in-Ok-clause-bad_row : goal.returns-in-Ok-clause-bad_row
 returns-in-Ok-clause-bad_row g c n first = let e = c.in-Ok.ensures.bad_row n first in absurd cc
@@ -22,7 +22,7 @@ pub returns-in-Err-clause-afresh : goal.returns-in-Err-clause-afresh
 returns-in-Err-clause-afresh g c logs sinks disks zero = absurd (no_zero c.in-Err.fault (sym c.status.ensures ∙ zero))
 
 pub returns-in-Err-clause-row : goal.returns-in-Err-clause-row
-returns-in-Err-clause-row g c two = let r = row_of c.in-Err.fault (sym c.status.ensures ∙ two) in (r.0, c.in-Err.ensures.row r.0 (ap Err r.1))
+returns-in-Err-clause-row g c two = let r = row_of c.in-Err.fault c.in-Err.ensures.own (sym c.status.ensures ∙ two) in (r.0, c.in-Err.ensures.row r.0 (ap Err r.1))
 
 pub returns-in-Err-clause-bad_row : goal.returns-in-Err-clause-bad_row
 returns-in-Err-clause-bad_row g c n first =
@@ -45,7 +45,7 @@ returns-in-Err-clause-invalid g c logs log table text invalid calm =
     (c.in-Err.ensures.valid logs)
 
 pub returns-in-Err-clause-read : goal.returns-in-Err-clause-read
-returns-in-Err-clause-read g c = record { later = c.in-Err.ensures.read.later; rose = λ four. let r = read_of c.in-Err.fault (sym c.status.ensures ∙ four) in c.in-Err.ensures.read.rose (r.0, ap Err r.1) }
+returns-in-Err-clause-read g c = record { later = c.in-Err.ensures.read.later; rose = λ four. let r = read_of c.in-Err.fault c.in-Err.ensures.own (sym c.status.ensures ∙ four) in c.in-Err.ensures.read.rose (r.0, ap Err r.1) }
 
 pub returns-in-Err-clause-write : goal.returns-in-Err-clause-write
 returns-in-Err-clause-write g c = record { later = c.in-Err.ensures.write.later; rose = λ five. c.in-Err.ensures.write.rose (ap Err (write_of c.in-Err.fault (sym c.status.ensures ∙ five))) }
@@ -62,7 +62,7 @@ returns-in-Err-clause-quiet g c here some other = ⊎_elim (λ is. absurd (other
 pub returns-in-Err-clause-told : goal.returns-in-Err-clause-told
 returns-in-Err-clause-told g c logs here calm =
     let f = c.in-Err.fault in
-    let names = named (g.F.Source.bytes c.args.files.now) (values_in c.args.wanted.now) f (λ n e. c.in-Err.ensures.row n (ap Err e)) (λ log line w e. c.in-Err.ensures.refused logs log line w (ap Err e)) in
+    let names = named (g.F.Source.bytes c.args.files.now) (values_in c.args.wanted.now) f c.in-Err.ensures.own (λ n e. c.in-Err.ensures.row n (ap Err e)) (λ log line w e. c.in-Err.ensures.refused logs log line w (ap Err e)) in
     inr (f, c.status.ensures, names, c.tell.ensures here calm)
 
 pub returns-in-Err-clause-welcome : goal.returns-in-Err-clause-welcome
@@ -73,10 +73,13 @@ returns-in-Err-clause-complete g c disks logs s asked sound leaves calm still qu
     let v = values_in c.args.wanted.now in
     let f = c.in-Err.fault in
     let told = g.F.Source.bytes c.args.files.now in
-    let left = left_over f (λ n is. none_bad v.shards n s.table (c.in-Err.ensures.row n (ap Err is)) asked.table.0 asked.table.1)
+    let left = left_over f c.in-Err.ensures.own (λ n is. none_bad v.shards n s.table (c.in-Err.ensures.row n (ap Err is)) asked.table.0 asked.table.1)
     (λ log line w is. none_refused told v.queries v.clicks log (record { line = line; why = w }) (asked_valid told v s asked) (c.in-Err.ensures.refused logs log line w (ap Err is)))
     (λ log is. calm (c.in-Err.ensures.read.rose (log, ap Err is)))
     (λ place is. still (c.in-Err.ensures.disks.rose (place, ap Err is)))
     (λ is. quiet (c.in-Err.ensures.write.rose (ap Err is)))
     _ leaves (c.in-Err.ensures.welcome disks logs s asked sound) in
     inr (⊎_elim (λ a. inl (c.status.ensures ∙ a)) (λ b. inr (⊎_elim (λ a. inl (c.status.ensures ∙ a)) (λ a. inr (c.status.ensures ∙ a)) b)) left)
+
+pub returns-in-Err-clause-ran : goal.returns-in-Err-clause-ran
+returns-in-Err-clause-ran g c logs disks zero = absurd (no_zero c.in-Err.fault (sym c.status.ensures ∙ zero))

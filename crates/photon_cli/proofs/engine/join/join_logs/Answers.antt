@@ -7,7 +7,13 @@ use Rattle.log_defs.specs.Report.{text_of}
 use Rattle.report_text.specs.Stream.{TookPrefix}
 use Rattle.photon_cli.specs.declared.engine.fault.Fault.TheVariants as fault
 use Rattle.photon_cli.specs.Words.{values_in}
-use Rattle.photon_cli.proofs.Runs.{clicks_back, is_asked, run_setting, setting_of}
+use Rattle.std.specs.Option.{IfSome}
+use Rattle.lossy_link.specs.Fates.{PlanView}
+use Rattle.air_bus.specs.History.{IsAired}
+use Rattle.store_run.specs.declared.ran.RunLog.{RunLog}
+use Rattle.photon_cli.specs.Join.{no_plan}
+use Rattle.photon_cli.proofs.Ends.{late_own, log_own}
+use Rattle.photon_cli.proofs.Runs.{clicks_back, history, is_asked, run_setting, setting_of}
 use Rattle.photon_cli.proofs.engine.join.join_logs.Goals as goal
 
 pub returns-in-Err-clause-bad_row : goal.returns-in-Err-clause-bad_row
@@ -142,3 +148,21 @@ returns-clause-grown g c disks logs s asked =
     let table = only_table v.shards c.in-Ok.table s.table c.in-Ok.ensures.found.0 asked.table.0 (sym c.as_bytes.ensures.value ∙ c.in-Ok.ensures.found.1) asked.table.1 in
     let setting = run_setting told (g.F.Source.bytes c.checked_logs.new.files) v c.in-Ok.table c.in-Ok-checked_logs.clicks.lines_end s asked (c.in-Ok-checked_logs.ensures.same logs) table (c.in-Ok-checked_logs.ensures.end logs) in
     c.run_lines.ensures.grown disks logs s setting
+
+pub returns-in-Ok-write_report-clause-ran : goal.returns-in-Ok-write_report-clause-ran
+returns-in-Ok-write_report-clause-ran g c logs disks =
+    let told : List ℕ → Option (List ℕ) = g.F.Source.bytes c.args.files.now in
+    let v = values_in c.args.wanted.now in
+    let x = c.in-Ok-checked_logs.ensures.valid logs in
+    let cs = c.in-Ok-checked_logs.clicks.records.items in
+    let s = setting_of v c.in-Ok.table x.0 cs in
+    let asked = is_asked told v c.in-Ok.table x.0 cs (c.in-Ok.ensures.found.0, sym c.as_bytes.ensures.value ∙ c.in-Ok.ensures.found.1) x.1 in
+    let setting = run_setting told (g.F.Source.bytes c.checked_logs.new.files) v c.in-Ok.table c.in-Ok-checked_logs.clicks.lines_end s asked (c.in-Ok-checked_logs.ensures.same logs) refl (c.in-Ok-checked_logs.ensures.end logs) in
+    let aired = subst (λ (p : PlanView). IfSome c.run_lines.new.ran.log (λ (l : RunLog). IsAired p l.air.kinds l.air.history)) c.empty-plan.ensures c.run_lines.ensures.aired in
+    (s, asked, history c.run_lines.new.ran.log s (g.S.Store.image c.args.store.now) (g.S.Store.image c.run_lines.new.store) no_plan (c.in-Ok-run_lines.ensures.began disks logs s setting) c.run_lines.ensures.lists aired)
+
+pub returns-in-Err-checked_logs-clause-own : goal.returns-in-Err-checked_logs-clause-own
+returns-in-Err-checked_logs-clause-own g c = let x = c.in-Err-checked_logs.ensures.fault in log_own c.in-Err-checked_logs.fault x.0 x.1
+
+pub returns-in-Err-run_lines-clause-own : goal.returns-in-Err-run_lines-clause-own
+returns-in-Err-run_lines-clause-own g c = late_own c.in-Err-run_lines.fault _ _ c.in-Err-run_lines.ensures.cause

@@ -1,0 +1,91 @@
+-- A bulk run: the setting that its two logs make, and the totals of its report.
+use Rattle.std.proofs.Common.{◌≡◌, ◌⊎◌, ◌≤◌, ◌*◌, ◌^◌, inl, inr, ℕ, List, Option, Some, None, codes, length, map, false, sym, ap, subst, ◌∙◌, arith}
+use Rattle.std.specs.List.{list_any}
+use Rattle.std.specs.Option.{IsSomeAnd}
+use Rattle.lossy_link.specs.Fates.{PlanView}
+use Rattle.lossy_link.specs.Plans.{IsPlanOf}
+use Rattle.log_records.specs.declared.why.Why.{Why}
+use Rattle.log_records.specs.Check.{IsQueryLog, IsClickLog}
+use Rattle.log_records.specs.Log.{HoldsQueries, HoldsClicks}
+use Rattle.log_records.specs.Lines.{ClickLine, placed}
+use Rattle.log_records.proofs.Reading.{clicks_same, queries_same}
+use Rattle.log_defs.specs.declared.ReportLine.{ReportLine}
+use Rattle.log_defs.specs.Report.{distinct, line_of, totals}
+use Rattle.run_faults.specs.declared.fault.LogName.{LogName}
+use Rattle.turn_defs.specs.Setting.{Setting}
+use Rattle.dispatch_node.specs.Places.{IsLogOf}
+use Rattle.drill_store.specs.Planned.{is_joiners}
+use Rattle.bulk_logs.specs.Bulk as logs
+use Rattle.store_run.specs.declared.ran.RunLog.{RunLog}
+use Rattle.photon_cli.specs.declared.engine.fault.Fault.{Fault}
+use Rattle.photon_cli.specs.declared.engine.fault.Fault.TheVariants as fault
+use Rattle.photon_cli.specs.Bulk.{IsBulkRun, IsBulkSetting, plan_text}
+use Rattle.photon_cli.specs.Drill.{Drills, IsDrilled}
+use Rattle.photon_cli.specs.Join.{AreValid, IsAsked, Refuses}
+use Rattle.photon_cli.specs.LogFaults.{IsLogFault, IsOfBulk, IsOfRun}
+use Rattle.photon_cli.specs.Words.{BulkValues, Values}
+use Rattle.photon_cli.proofs.Ends.{none_refused}
+use Rattle.photon_cli.proofs.Refusals.{within}
+use Rattle.photon_cli.proofs.Runs.{clicks_back}
+
+-- what both sites of a bulk run are run for
+abbrev pub values_of : BulkValues → Values
+values_of v = record { queries = codes "queries"; clicks = codes "clicks"; horizon = 1000000; joiners = v.joiners; shards = v.shards; batch = v.batch }
+
+under : (o : Option (List ℕ)) (log : List ℕ) (P : List ℕ → Type 0) → o ≡ Some log → IsSomeAnd o P → P log
+under o log P is = subst (λ (x : Option (List ℕ)). IsSomeAnd x P) is
+
+there : (o : Option (List ℕ)) (log : List ℕ) (P : List ℕ → Type 0) → o ≡ Some log → P log → IsSomeAnd o P
+there o log P is p = subst (λ (x : Option (List ℕ)). IsSomeAnd x P) (sym is) p
+
+module _ (told : List ℕ → Option (List ℕ)) (v : BulkValues) (few : v.count ≤ 100000)
+    (query_log : told (codes "queries") ≡ Some (logs.query_log v.seed v.count)) (click_log : told (codes "clicks") ≡ Some (logs.click_log v.seed v.count))
+    (of_queries : (seed n : ℕ) → n ≤ 100000 → HoldsQueries (logs.query_log seed n) (logs.queries seed n)) (of_clicks : (seed n : ℕ) → n ≤ 100000 → HoldsClicks (logs.click_log seed n) (logs.clicks seed n)) where
+  pub made : (g : Setting) → IsAsked told (values_of v) g → IsBulkSetting v g
+  made g asked =
+      let log : IsLogOf (logs.click_log v.seed v.count) g = under (told (codes "clicks")) (logs.click_log v.seed v.count) (λ l. IsLogOf l g) click_log asked.setting.clicks_are in
+      let clicks : log.lines.clicks ≡ logs.clicks v.seed v.count = clicks_same (logs.click_log v.seed v.count) log.lines.clicks (logs.clicks v.seed v.count) log.lines.holds (of_clicks v.seed v.count few) in
+      record {
+        queries = queries_same (logs.query_log v.seed v.count) g.queries (logs.queries v.seed v.count) (under (told (codes "queries")) (logs.query_log v.seed v.count) (λ l. IsQueryLog l g.queries) query_log asked.setting.queries_are).0 (of_queries v.seed v.count few);
+        clicks = log.lines.lines ∙ ap (placed 0) clicks;
+        horizon = asked.setting.numbers.horizon;
+        joiners = asked.setting.numbers.joiners;
+        table = asked.table;
+        batch = asked.setting.numbers.batch;
+      }
+
+  pub made_valid : ((seed n : ℕ) → n ≤ 2 ^ 32 → length (logs.query_log seed n) ≤ 37 * n) → ((seed n : ℕ) → n ≤ 2 ^ 32 → length (logs.click_log seed n) ≤ 62 * n) → AreValid told (codes "queries") (codes "clicks")
+  made_valid query_size click_size =
+      let q = query_size v.seed v.count (omega (arith, few)) in
+      let c = click_size v.seed v.count (omega (arith, few)) in (
+        logs.queries v.seed v.count,
+        logs.clicks v.seed v.count,
+        record {
+          query = there (told (codes "queries")) (logs.query_log v.seed v.count) (λ l. IsQueryLog l (logs.queries v.seed v.count)) query_log (of_queries v.seed v.count few, omega (arith, few, q));
+          click = there (told (codes "clicks")) (logs.click_log v.seed v.count) (λ l. IsClickLog l (logs.clicks v.seed v.count)) click_log (of_clicks v.seed v.count few, omega (arith, few, c));
+        },
+      )
+
+  -- why such a run gives up
+  pub bulk_cause : AreValid told (codes "queries") (codes "clicks") → (f : Fault) → ((log : LogName) (line : ℕ) (w : Why) → f ≡ fault.Refused log line w → Refuses told (codes "queries") (codes "clicks") log (record { line = line; why = w }))
+      → ((log : LogName) × IsLogFault log f) ⊎ IsOfRun f → IsOfBulk f
+  bulk_cause valid f refuses (inl (log, inl (line, w, e))) = absurd (none_refused told (codes "queries") (codes "clicks") log (record { line = line; why = w }) valid (refuses log line w e))
+  bulk_cause valid f refuses (inl (log, inr (inl e))) = subst IsOfBulk (sym e) tt
+  bulk_cause valid f refuses (inl (log, inr (inr e))) = subst IsOfBulk (sym e) tt
+  bulk_cause valid f refuses (inr (inl (c, e))) = subst IsOfBulk (sym e) tt
+  bulk_cause valid f refuses (inr (inr e)) = subst IsOfBulk (sym e) tt
+
+  -- the run, and the totals of its lines
+  pub bulk_run : (plan : PlanView) (ran : Option RunLog) (lines : List ReportLine) → IsPlanOf plan_text plan → Drills told (values_of v) plan ran lines → IsSomeAnd ran (IsBulkRun v)
+  bulk_run plan ran lines is (g, asked, run) = within ran (IsDrilled g plan lines) (IsBulkRun v) (λ log drilled. record { setting = g; made = made g asked; plan = plan; planned = is; lines = lines; run = drilled }) run
+
+  lines_made : (plan : PlanView) (ran : Option RunLog) (lines : List ReportLine) (g : Setting) → list_any is_joiners plan.stops ≡ false → IsAsked told (values_of v) g → IsSomeAnd ran (IsDrilled g plan lines) → lines ≡ logs.lines v.seed v.count
+  lines_made plan None lines g calm asked run = absurd run
+  lines_made plan (Some log) lines g calm asked run =
+      let m = made g asked in
+      let clicks : map (λ (l : ClickLine). l.click) g.clicks ≡ logs.clicks v.seed v.count = ap (map (λ (l : ClickLine). l.click)) m.clicks ∙ clicks_back 0 (logs.clicks v.seed v.count) in
+      run.whole calm ∙ (λ k. map (line_of (m.queries k) (m.horizon k)) (distinct (clicks k)))
+
+  pub bulk_totals : (plan : PlanView) (ran : Option RunLog) (lines : List ReportLine) → list_any is_joiners plan.stops ≡ false → ((seed n : ℕ) → n ≤ 100000 → totals (logs.lines seed n) ≡ logs.totals_made n) → Drills told (values_of v) plan ran lines
+      → totals lines ≡ logs.totals_made v.count
+  bulk_totals plan ran lines calm law (g, asked, run) = ap totals (lines_made plan ran lines g calm asked run) ∙ law v.seed v.count few

@@ -1,0 +1,51 @@
+-- A drill's history, and where a joiner has stopped in it.
+use Rattle.std.proofs.Common.{◌≡◌, ◌≤◌, ℕ, ◌==◌, Bool, true, false, ◌||◌, nat_le, List, [], ◌∷◌, Option, Some, None, refl, arith}
+use Rattle.std.specs.List.{All, list_any}
+use Rattle.std.specs.Option.{IfSome, IsSomeAnd}
+use Rattle.std.proofs.lemmas.Bool.Decides.{nat_tests}
+use Rattle.lossy_link.specs.Fates.{PlanView}
+use Rattle.air_bus.specs.declared.entry.Entry.{Entry}
+use Rattle.air_bus.specs.declared.entry.Entry.TheVariants.{Begin, End, Stop}
+use Rattle.air_bus.specs.History.{is_of, IsAired}
+use Rattle.bus_seat.specs.Seats.{IsIn}
+use Rattle.log_defs.specs.declared.ReportLine.{ReportLine}
+use Rattle.turn_defs.specs.Setting.{Setting}
+use Rattle.drill_store.specs.Planned.{is_joiners}
+use Rattle.site_laws.specs.Laws.{made_by}
+use Rattle.site_run.specs.Works.{is_stop}
+use Rattle.store_run.specs.Joined.{RanAfresh}
+use Rattle.store_run.specs.declared.ran.RunLog.{RunLog}
+use Rattle.photon_cli.specs.Drill.{IsDrilled, is_late_stop}
+
+-- an entry that may be the node's, before others: if it is, it is no stop
+one_more : (own stops rest : Bool) (e : Entry) (j : ℕ) (h : List Entry) → is_of j e ≡ own → is_stop e ≡ stops → (own ≡ true → stops ≡ false) → list_any is_stop (made_by j h) ≡ false → list_any is_stop (made_by j (e ∷ h)) ≡ false
+one_more true stops rest e j h is stop calm so = rw (is, stop, calm refl) so
+one_more false stops rest e j h is stop calm so = rw is so
+
+-- a stop of a node below the seventh is none of a later one's
+not_own : (node j : ℕ) → 7 ≤ j → nat_le 7 node ≡ false → (node == j) ≡ true → true ≡ false
+not_own node j late early same = grind (arith, nat_tests)
+
+either : (a b : Bool) → (a || b) ≡ false → (a ≡ false) × (b ≡ false)
+either true b e = absurd cc
+either false b e = (refl, e)
+
+-- where no node from the seventh on has stopped, none of these has
+pub none_late : (h : List Entry) (j : ℕ) → 7 ≤ j → list_any is_late_stop h ≡ false → list_any is_stop (made_by j h) ≡ false
+none_late [] j late none = refl
+none_late (Begin node input ∷ h) j late none = one_more (node == j) false false (Begin node input) j h refl refl (λ own. refl) (none_late h j late none)
+none_late (End node noted packets kept ∷ h) j late none = one_more (node == j) false false (End node noted packets kept) j h refl refl (λ own. refl) (none_late h j late none)
+none_late (Stop node landed ∷ h) j late none =
+    let both = either (nat_le 7 node) (list_any is_late_stop h) none in
+    one_more (node == j) true false (Stop node landed) j h refl refl (not_own node j late both.0) (none_late h j late both.1)
+
+-- what is known of a run's history
+pub drilled : (o : Option RunLog) (g : Setting) (plan : PlanView) (lines : List ReportLine) → g.replicas ≡ 3 → IsSomeAnd o (λ l. RanAfresh g l.air.history lines) → IfSome o (λ l. All (IsIn l.air.history) l.seen.items) → IfSome o (λ l. IsAired plan l.air.kinds l.air.history)
+    → (list_any is_joiners plan.stops ≡ false → IfSome o (λ l. (j : ℕ) → 7 ≤ j → list_any is_stop (made_by j l.air.history) ≡ false)) → IsSomeAnd o (IsDrilled g plan lines)
+drilled None g plan lines three ran lists aired spared = absurd ran
+drilled (Some log) g plan lines three ran lists aired spared = record {
+  ran = ran;
+  lists = lists;
+  aired = aired;
+  whole = λ none. ran.whole (λ stopped. let calm = spared none stopped.0 (omega (arith, three, stopped.1.0)) in absurd cc);
+}

@@ -1,0 +1,72 @@
+-- Commands whose words were taken for none, for want of memory: nothing was done.
+use Rattle.std.proofs.Common.{inl, inr, ◌≡◌, ◌++◌, ℕ, List, Bool, Option, IsTrue, arith}
+use Rattle.gate_journal.proofs.Growth.{continues_same}
+use Rattle.turn_defs.specs.Setting.{Setting}
+use Rattle.outside.specs.declared.store.DiskName.{DiskName}
+use Rattle.site_disks.specs.Lent.{StaysAs}
+use Rattle.store_laws.specs.Stores.{Images}
+use Rattle.store_run.specs.declared.ran.RunLog.{RunLog}
+use Rattle.command_words.specs.Words.{Text}
+use Rattle.photon_cli.specs.declared.engine.fault.Fault.TheVariants as fault
+use Rattle.photon_cli.specs.Ends.{BulkEnds, DrillEnds, JoinEnds, VerifyEnds}
+use Rattle.photon_cli.specs.Faults.{message}
+use Rattle.photon_cli.specs.Words.{BulkValues, Values}
+
+module _ (logs sinks : Bool) (told : List ℕ → Option (List ℕ)) (files output errors : Type 0) (ran : Option RunLog) (old err_old err_new : List ℕ) (status : ℕ)
+    (eight : status ≡ 8) (tells : IsTrue sinks → (errors → ⊥) → err_new ≡ err_old ++ message fault.Memory) where
+  pub join_forgotten : (v : Values) (disks : Bool) (before : Images) (faulted : Type 0) (leaves : Setting → Type 0)
+      → JoinEnds logs sinks told files output errors ran old old err_old err_new status v disks before before faulted leaves
+  join_forgotten v disks before faulted leaves = record {
+    joined = λ l s d e. absurd (omega (arith, eight, e));
+    afresh = λ l s d e. absurd (omega (arith, eight, e));
+    ran_on = λ l d e. absurd (omega (arith, eight, e));
+    row = λ e. absurd (omega (arith, eight, e));
+    bad_row = λ n first. inr eight;
+    lines = λ l e. absurd (omega (arith, eight, e));
+    invalid = λ l log table text h calm. inr eight;
+    stopped = λ e. absurd (omega (arith, eight, e));
+    welcome = λ d l g asked sound leaves nine. omega (arith, eight, nine);
+    prefix = λ l s d e. absurd (omega (arith, eight, e));
+    tells = λ l s calm. inr (fault.Memory, eight, tt, tells s calm);
+    sound = λ d l g asked sound. sound;
+    grown = λ d l g asked disk bytes now. continues_same (before disk) bytes now;
+    complete = λ d l g asked sound leaves calm still quiet. inr (inr (inl eight));
+  }
+
+  pub drill_forgotten : (v : Values) (file : Text) → DrillEnds logs sinks told files output errors ran old old err_old err_new status v file
+  drill_forgotten v file = record {
+    drilled = λ l s e. absurd (omega (arith, eight, e));
+    refused = λ l e. absurd (omega (arith, eight, e));
+    bad_row = λ n first. inr eight;
+    bad_place = λ l place bad calm. inr eight;
+    lines = λ l e. absurd (omega (arith, eight, e));
+    invalid = λ l log table text h calm. inr (inr eight);
+    prefix = λ l s e. absurd (omega (arith, eight, e));
+    tells = λ l s calm. inr (fault.Memory, eight, tt, tells s calm);
+    complete = λ l g asked plan is calm quiet. inr (inr (inr (inl eight)));
+  }
+
+  pub verify_forgotten : (clicks : Text) (disks : Bool) (before : Images) (faulted : Type 0) → ((disk : DiskName) → StaysAs (before disk) (before disk))
+      → VerifyEnds logs sinks told files output errors ran old old err_old err_new status clicks disks before before faulted
+  verify_forgotten clicks disks before faulted stays = record {
+    whole = λ l s d e. absurd (omega (arith, eight, e));
+    missing = λ l s d e. absurd (omega (arith, eight, e));
+    lines = λ l e. absurd (omega (arith, eight, e));
+    invalid = λ l bad calm. inr eight;
+    words = λ e. omega (arith, eight, e);
+    stopped = λ e. absurd (omega (arith, eight, e));
+    prefix = λ l s d e. absurd (omega (arith, eight, e));
+    tells = λ l s calm. inr (inr (fault.Memory, eight, tt, tells s calm));
+    stays = λ d disk. stays disk;
+    sound = λ d g sound. sound;
+  }
+
+  pub bulk_forgotten : (v : BulkValues) → BulkEnds logs sinks told files output errors ran old old err_old err_new status v
+  bulk_forgotten v = record {
+    totals = λ s e. absurd (omega (arith, eight, e));
+    row = λ e. absurd (omega (arith, eight, e));
+    bad_row = λ n first. inr eight;
+    lines = λ e. omega (arith, eight, e);
+    prefix = λ s e. absurd (omega (arith, eight, e));
+    tells = λ s calm. inr (fault.Memory, eight, tt, tells s calm);
+  }

@@ -1,0 +1,220 @@
+-- How a verification ends at each fault.
+use Rattle.std.proofs.Common.{◌⊎◌, inl, inr, ◌≡◌, ◌≢◌, ℕ, List, [], map, nat_lt, Option, None, Some, Bool, false, IsTrue, refl, sym, ap, subst, ◌∙◌, arith}
+use Rattle.std.specs.Option.{IsSomeAnd}
+use Rattle.std.specs.List.{flat_map}
+use Rattle.std.proofs.lemmas.Bool.Decides.{nat_tests}
+use Rattle.event_id.specs.declared.id.EventId.{EventId}
+use Rattle.registry_state.specs.declared.Batch.{Batch}
+use Rattle.registry_state.specs.Same.{same_batch}
+use Rattle.log_defs.specs.declared.ReportLine.TheVariants.{U}
+use Rattle.output_log.specs.declared.pair.PairRec.{PairRec}
+use Rattle.paxos_defs.specs.Agreement.{JournalsAgree}
+use Rattle.paxos_defs.specs.Decided.{decided}
+use Rattle.paxos_defs.specs.Notes.{Note}
+use Rattle.paxos_acceptor.specs.Cells.{note_view}
+use Rattle.time_shards.specs.declared.ShardRow.{ShardRow}
+use Rattle.time_shards.specs.Shards.{shard_of}
+use Rattle.verify_pass.specs.Classes.{first_pair, line_by, line_of, notes_of}
+use Rattle.log_records.specs.declared.why.Why.{Why}
+use Rattle.log_records.specs.Check.{RefusesClick}
+use Rattle.run_faults.specs.declared.fault.LogName.TheVariants.{Queries, Clicks}
+use Rattle.run_faults.specs.declared.fault.RunFault.TheVariants as cause
+use Rattle.command_words.specs.Words.{Text}
+use Rattle.outside.specs.declared.store.DiskName.{DiskName}
+use Rattle.outside.specs.declared.store.DiskName.TheVariants as name
+use Rattle.topology_journal.specs.Topologies.{Keeps as KeepsTopology}
+use Rattle.turn_defs.specs.Setting.{Setting}
+use Rattle.photon_defs.specs.Topology.{Store}
+use Rattle.site_disks.specs.declared.fault.DisksFault.TheVariants as disks
+use Rattle.store_laws.specs.Stores.{AreLeft, Images, IsSoundStore}
+use Rattle.store_opening.specs.declared.refusal.Refusal.{Refusal}
+use Rattle.store_opening.specs.declared.refusal.Refusal.TheVariants.{Disks as OfDisks, Joiners, Table, Place, Limit, Read}
+use Rattle.store_opening.specs.Leaving.{IsAsked as HasTopology}
+use Rattle.store_reading.specs.declared.kept.KeptStore.{KeptStore}
+use Rattle.store_reading.specs.Reading.{IsRead}
+use Rattle.store_reading.specs.Telling.{Tells}
+use Rattle.store_run.specs.Causes.{of_refusal}
+use Rattle.verify_pass.specs.declared.journals.Journals.{Journals}
+use Rattle.topology_journal.specs.declared.topology.Topology.{Topology as KeptTopology}
+use Rattle.log_records.specs.declared.records.ClickRec.{ClickRec}
+use Rattle.log_records.specs.Check.{IsClickLog}
+use Rattle.log_records.specs.Lines.{ClickLine}
+use Rattle.log_records.proofs.Reading.{clicks_same}
+use Rattle.log_defs.specs.declared.ReportLine.{ReportLine}
+use Rattle.log_defs.specs.Report.{distinct}
+use Rattle.dispatch_node.specs.Places.{IsLogOf}
+use Rattle.photon_cli.specs.Verify.{IsReadFrom, IsTold}
+use Rattle.photon_cli.proofs.Runs.{clicks_back}
+use Rattle.photon_cli.specs.declared.engine.fault.Fault.{Fault}
+use Rattle.photon_cli.specs.declared.engine.fault.Fault.TheVariants as fault
+use Rattle.photon_cli.specs.Faults.{status_of}
+use Rattle.photon_cli.specs.LogFaults.{IsFailedRead, IsLogFault, IsOfRun, IsOfVerify}
+use Rattle.photon_cli.specs.Told.{IsNamedInVerify}
+
+pub no_one : (f : Fault) → status_of f ≢ 1
+no_one (fault.Table n) e = omega arith
+no_one (fault.Plan place) e = omega arith
+no_one (fault.Refused Queries line w) e = omega arith
+no_one (fault.Refused Clicks line w) e = omega arith
+no_one fault.PlanRead e = omega arith
+no_one (fault.Run (cause.Read log)) e = omega arith
+no_one (fault.Run (cause.Store place)) e = omega arith
+no_one (fault.Run (cause.Damaged disk at)) e = omega arith
+no_one (fault.Run (cause.Topology what)) e = omega arith
+no_one (fault.Run (cause.Limit disk value)) e = omega arith
+no_one (fault.Run cause.Memory) e = omega arith
+no_one fault.Write e = omega arith
+no_one fault.Memory e = omega arith
+
+pub never_two : (f : Fault) → IsOfVerify f → status_of f ≢ 2
+never_two (fault.Table n) own e = own
+never_two (fault.Plan place) own e = own
+never_two (fault.Refused Queries line w) own e = omega arith
+never_two (fault.Refused Clicks line w) own e = omega arith
+never_two fault.PlanRead own e = omega arith
+never_two (fault.Run (cause.Read log)) own e = omega arith
+never_two (fault.Run (cause.Store place)) own e = omega arith
+never_two (fault.Run (cause.Damaged disk at)) own e = omega arith
+never_two (fault.Run (cause.Topology what)) own e = omega arith
+never_two (fault.Run (cause.Limit disk value)) own e = omega arith
+never_two (fault.Run cause.Memory) own e = omega arith
+never_two fault.Write own e = omega arith
+never_two fault.Memory own e = omega arith
+
+pub click_line : (f : Fault) → IsOfVerify f → status_of f ≡ 3 → (line : ℕ) × (w : Why) × (f ≡ fault.Refused Clicks line w)
+click_line (fault.Table n) own e = absurd own
+click_line (fault.Plan place) own e = absurd (omega arith)
+click_line (fault.Refused Queries line w) own e = absurd own
+click_line (fault.Refused Clicks line w) own e = (line, w, refl)
+click_line fault.PlanRead own e = absurd (omega arith)
+click_line (fault.Run (cause.Read log)) own e = absurd (omega arith)
+click_line (fault.Run (cause.Store place)) own e = absurd (omega arith)
+click_line (fault.Run (cause.Damaged disk at)) own e = absurd (omega arith)
+click_line (fault.Run (cause.Topology what)) own e = absurd (omega arith)
+click_line (fault.Run (cause.Limit disk value)) own e = absurd (omega arith)
+click_line (fault.Run cause.Memory) own e = absurd (omega arith)
+click_line fault.Write own e = absurd (omega arith)
+click_line fault.Memory own e = absurd (omega arith)
+
+pub named_in_verify : (told : List ℕ → Option (List ℕ)) (clicks : Text) (f : Fault) → IsOfVerify f → ((line : ℕ) (w : Why) → f ≡ fault.Refused Clicks line w → IsSomeAnd (told clicks) (λ log. RefusesClick log (record { line = line; why = w }))) → IsNamedInVerify told clicks f
+named_in_verify told clicks (fault.Table n) own line = own
+named_in_verify told clicks (fault.Plan place) own line = own
+named_in_verify told clicks (fault.Refused Queries n w) own line = own
+named_in_verify told clicks (fault.Refused Clicks n w) own line = line n w refl
+named_in_verify told clicks fault.PlanRead own line = own
+named_in_verify told clicks (fault.Run f) own line = tt
+named_in_verify told clicks fault.Write own line = tt
+named_in_verify told clicks fault.Memory own line = tt
+
+-- the faults of the click log's check and of a store are those of a verification
+pub log_verify : (f : Fault) → IsLogFault Clicks f → IsOfVerify f
+log_verify f (inl (line, w, e)) = subst IsOfVerify (sym e) tt
+log_verify f (inr (inl e)) = subst IsOfVerify (sym e) tt
+log_verify f (inr (inr e)) = subst IsOfVerify (sym e) tt
+
+pub run_verify : (f : Fault) → IsOfRun f → IsOfVerify f
+run_verify f (inl (c, e)) = subst IsOfVerify (sym e) tt
+run_verify f (inr e) = subst IsOfVerify (sym e) tt
+
+-- what is told of a log that isn't valid
+pub unreadable : (f : Fault) → IsLogFault Clicks f → (IsFailedRead f → ⊥) → (status_of f ≡ 3) ⊎ (status_of f ≡ 8)
+unreadable f (inl (line, w, e)) read = inl (ap status_of e)
+unreadable f (inr (inl e)) read = absurd (read (inr (Clicks, e)))
+unreadable f (inr (inr e)) read = inr (ap status_of e)
+
+-- ---- a store that isn't read
+
+-- of a store's refusals one alone is of the log
+pub refused_read : (r : Refusal) → IsFailedRead (fault.Run (of_refusal r)) → r ≡ Read
+refused_read (OfDisks (disks.Store disk)) (inl e) = absurd cc
+refused_read (OfDisks (disks.Store disk)) (inr (log, e)) = absurd cc
+refused_read (OfDisks (disks.Damaged disk at)) (inl e) = absurd cc
+refused_read (OfDisks (disks.Damaged disk at)) (inr (log, e)) = absurd cc
+refused_read (OfDisks disks.Memory) (inl e) = absurd cc
+refused_read (OfDisks disks.Memory) (inr (log, e)) = absurd cc
+refused_read (Joiners a b) (inl e) = absurd cc
+refused_read (Joiners a b) (inr (log, e)) = absurd cc
+refused_read (Table a b) (inl e) = absurd cc
+refused_read (Table a b) (inr (log, e)) = absurd cc
+refused_read (Place p) (inl e) = absurd cc
+refused_read (Place p) (inr (log, e)) = absurd cc
+refused_read (Limit disk value) (inl e) = absurd cc
+refused_read (Limit disk value) (inr (log, e)) = absurd cc
+refused_read Read e = refl
+
+-- ---- a store that is read, by what a stop might have left of it before its directory was chosen
+
+module _ (before placed : Images) (within : (disk : DiskName) (c : List ℕ) → placed disk c → before disk c) where
+  pub sound_before : (g : Setting) → IsSoundStore g before → IsSoundStore g placed
+  sound_before g sound b choice = sound b (λ disk is. within disk (b disk) (choice disk is))
+
+  left_before : (g : Setting) (s : Store) → AreLeft g placed s → AreLeft g before s
+  left_before g s left = record {
+    topology = let x = left.topology in (x.0, within name.Topology x.0 x.1, x.2);
+    records = λ disk is. let x = left.records disk is in (x.0, within disk x.0 x.1, x.2);
+  }
+
+  tells_before : (g : Setting) (js : Journals) → Tells g placed js → Tells g before js
+  tells_before g js t = record {
+    store = t.store;
+    left = left_before g t.store t.left;
+    are = t.are;
+    lines = t.lines;
+    whole = λ sound. t.whole (sound_before g sound);
+    agree = λ sound. t.agree (sound_before g sound);
+  }
+
+  pub read_before : (tells log_tells : Bool) (log : List ℕ) (end_ : ℕ) (k : KeptStore) → IsTrue tells → IsRead tells placed log_tells log end_ k
+      → ((t : KeptTopology) (g : Setting) → k.topology ≡ Some t → HasTopology t g → g.replicas ≡ 3 → Tells g placed k.journals) → IsReadFrom before log k
+  read_before own log_tells log end_ k here read tells = record {
+    topology = let x = read.kept.topology here in (x.0, within name.Topology x.0 x.1, subst (λ o. KeepsTopology o x.0) read.told.topology x.2);
+    records = λ t is g over. tells_before g k.journals (tells t g is (record { joiners = over.joiners; table = over.table }) over.replicas);
+  }
+
+-- ---- where nothing is kept
+
+nothing_agrees : (let none : List (List (Note Batch)) = [] in JournalsAgree none)
+nothing_agrees p = record { rising = λ r. tt; one_value = λ r b v h. absurd h; safe = λ r b v h. absurd h }
+
+unmatched : (i : EventId) → line_by [] i None ≡ U i
+unmatched i = let old : nat_lt i.micros 0 ≡ false = grind (arith, nat_tests) in rw old refl
+
+-- journals without records
+module _ (js : Journals) (notes : js.notes.items ≡ []) (pairs : js.pairs.items ≡ []) where
+  pub agree_none : JournalsAgree (notes_of js)
+  agree_none = subst (λ ns. JournalsAgree (map (map note_view) ns)) (sym notes) nothing_agrees
+
+  pub line_none : (table : List ShardRow) (i : EventId) → line_of js table i ≡ U i
+  unfolding decided
+  line_none table i =
+      (λ k. line_by (decided same_batch (map (map note_view) (notes k)) (shard_of table i)) i (first_pair (flat_map (λ (ps : List PairRec). ps) (pairs k)) i)) ∙ unmatched i
+
+-- ---- the lines that are told of what was read
+
+-- the clicks of a log are those of a setting over it
+clicks_are : (log : List ℕ) (cs : List ClickRec) (g : Setting) → IsClickLog log cs → IsLogOf log g → cs ≡ map (λ (l : ClickLine). l.click) g.clicks
+clicks_are log cs g own over =
+    let same : cs ≡ over.lines.clicks = clicks_same log cs over.lines.clicks own.0 over.lines.holds in
+    same ∙ sym (ap (map (λ (l : ClickLine). l.click)) over.lines.lines ∙ clicks_back 0 over.lines.clicks)
+
+module _ (before : Images) (kept : KeptStore) (cs : List ClickRec) (lines : List ReportLine)
+    (some : (t : KeptTopology) → kept.topology ≡ Some t → JournalsAgree (notes_of kept.journals) → lines ≡ map (λ (c : ClickRec). line_of kept.journals t.table c.id) (distinct cs))
+    (none : kept.topology ≡ None → lines ≡ map (λ (c : ClickRec). U c.id) (distinct cs)) where
+  told_over : (log : List ℕ) → IsClickLog log cs → IsReadFrom before log kept → IsTold before log kept lines
+  told_over log own read = record {
+    topology = read.topology;
+    nothing = λ is ds others. none is ∙ ap (λ (xs : List ClickRec). map (λ (c : ClickRec). U c.id) (distinct xs)) (clicks_same log cs ds own.0 others.0);
+    something = λ t is g over.
+        let tells = read.records t is g over in
+        record {
+          store = tells.store;
+          left = tells.left;
+          are = tells.are;
+          told = λ agree. let table : t.table ≡ g.table = sym over.table in some t is agree ∙ (λ k. map (λ (c : ClickRec). line_of kept.journals (table k) c.id) (distinct (clicks_are log cs g own over.clicks k))) ∙ tells.lines;
+          agree = tells.agree;
+        };
+  }
+
+  pub told_of : (o : Option (List ℕ)) → IsSomeAnd o (λ log. IsClickLog log cs) → IsSomeAnd o (λ log. IsReadFrom before log kept) → IsSomeAnd o (λ log. IsTold before log kept lines)
+  told_of None own read = absurd own
+  told_of (Some log) own read = told_over log own read

@@ -1,0 +1,49 @@
+use Rattle.std.proofs.Common.{◌++◌, ℕ, List, map, Option, ap, subst, ◌∙◌}
+use Rattle.std.specs.List.{list_any}
+use Rattle.std.specs.Option.{IsSomeAnd}
+use Rattle.log_records.specs.declared.records.ClickRec.{ClickRec}
+use Rattle.log_defs.specs.declared.ReportLine.{ReportLine}
+use Rattle.log_defs.specs.declared.ReportLine.TheVariants.{U}
+use Rattle.log_defs.specs.Report.{distinct, is_missing, text_of}
+use Rattle.report_text.specs.Stream.{TookPrefix}
+use Rattle.verify_pass.specs.Classes.{line_of}
+use Rattle.photon_cli.specs.Verify.{IsReadFrom}
+use Rattle.photon_cli.proofs.Verifying.{told_of}
+use Rattle.photon_cli.proofs.engine.verify.verify_store.Goals as goal
+
+pub returns-in-Ok-write_report-clause-done : goal.returns-in-Ok-write_report-clause-done
+returns-in-Ok-write_report-clause-done g c logs sinks disks =
+    let clicks = c.args.clicks.now in
+    let kept = c.in-Ok-kept_store.kept in
+    let lines = c.in-Ok-kept_lines.lines.items in
+    let before = g.S.Store.image c.args.store.now in
+    let own = c.in-Ok.ensures.found logs in
+    let read = subst (λ (o : Option (List ℕ)). IsSomeAnd o (λ log. IsReadFrom before log kept)) (c.in-Ok.ensures.same logs clicks) (c.in-Ok-kept_store.ensures.read disks logs) in
+    let told = told_of before kept c.in-Ok.checked.records.items lines
+    (λ t is agree. c.in-Ok-kept_lines.ensures.some t is agree ∙ ap (λ (xs : List ClickRec). map (λ (x : ClickRec). line_of kept.journals t.table x.id) (distinct xs)) c.deref.ensures.value)
+    (λ is. c.in-Ok-kept_lines.ensures.none is ∙ ap (λ (xs : List ClickRec). map (λ (x : ClickRec). U x.id) (distinct xs)) c.deref.ensures.value)
+    (g.F.Source.bytes c.args.files.now clicks) own read in (
+      kept,
+      lines,
+      told,
+      c.has_missing.ensures ∙ ap (list_any is_missing) c.deref-in-Ok-write_report.ensures.value,
+      c.in-Ok-write_report.ensures.all sinks ∙ ap (λ (ls : List ReportLine). g.K.Sink.held c.args.out.now ++ text_of ls) c.deref-2.ensures.value,
+    )
+
+pub returns-clause-prefix : goal.returns-clause-prefix
+returns-clause-prefix g c logs sinks disks e =
+    let clicks = c.args.clicks.now in
+    let kept = c.in-Ok-kept_store.kept in
+    let lines = c.in-Ok-kept_lines.lines.items in
+    let before = g.S.Store.image c.args.store.now in
+    let own = c.in-Ok.ensures.found logs in
+    let read = subst (λ (o : Option (List ℕ)). IsSomeAnd o (λ log. IsReadFrom before log kept)) (c.in-Ok.ensures.same logs clicks) (c.in-Ok-kept_store.ensures.read disks logs) in
+    let told = told_of before kept c.in-Ok.checked.records.items lines
+    (λ t is agree. c.in-Ok-kept_lines.ensures.some t is agree ∙ ap (λ (xs : List ClickRec). map (λ (x : ClickRec). line_of kept.journals t.table x.id) (distinct xs)) c.deref.ensures.value)
+    (λ is. c.in-Ok-kept_lines.ensures.none is ∙ ap (λ (xs : List ClickRec). map (λ (x : ClickRec). U x.id) (distinct xs)) c.deref.ensures.value)
+    (g.F.Source.bytes c.args.files.now clicks) own read in (
+      kept,
+      lines,
+      told,
+      subst (λ (t : List ℕ). TookPrefix (g.K.Sink.held c.args.out.now) t (g.K.Sink.held c.write_report.new.sink)) (ap text_of c.deref-2.ensures.value) (c.in-Err-write_report.ensures.prefix sinks),
+    )

@@ -1,0 +1,56 @@
+-- What a drill does: both sites run over disks in memory that hold nothing at first, and a plan says what goes wrong.
+use Rattle.std.specs.Prelude.{ℕ, ◌≡◌, Bool, false, nat_le, List, ◌++◌, map, Option, IsSomeAnd}
+use Rattle.std.specs.List.{All, list_any}
+use Rattle.lossy_link.specs.Fates.{PlanView}
+use Rattle.lossy_link.specs.Plans.{IsPlanOf, IsFirstBad}
+use Rattle.lossy_link.specs.declared.bad_plan.Field.{Field}
+use Rattle.air_bus.specs.declared.entry.Entry.{Entry}
+use Rattle.air_bus.specs.declared.entry.Entry.TheVariants.{Begin, End, Stop}
+use Rattle.air_bus.specs.History.{IsAired}
+use Rattle.bus_seat.specs.Seats.{IsIn}
+use Rattle.log_records.specs.Lines.{ClickLine}
+use Rattle.log_defs.specs.declared.ReportLine.{ReportLine}
+use Rattle.log_defs.specs.Report as logs
+use Rattle.report_text.specs.Stream.{TookPrefix}
+use Rattle.turn_defs.specs.Setting.{Setting}
+use Rattle.drill_store.specs.Planned.{is_joiners}
+use Rattle.store_run.specs.Joined.{RanAfresh}
+use Rattle.store_run.specs.declared.ran.RunLog.{RunLog}
+use Rattle.photon_cli.specs.Join.{IsAsked}
+use Rattle.command_words.specs.Words.{Text}
+use Rattle.photon_cli.specs.Words.{Values}
+
+-- These are the lines of the report of a run from nothing under this plan, and that is its history. Where no stop of the plan is of
+-- a joiner's disk all lines are those of the two logs.
+pub record IsDrilled (g : Setting) (plan : PlanView) (lines : List ReportLine) (log : RunLog) : Type 0 where
+  pub ran : RanAfresh g log.air.history lines
+  pub lists : All (IsIn log.air.history) log.seen.items
+  pub aired : IsAired plan log.air.kinds log.air.history
+  pub whole : list_any is_joiners plan.stops ≡ false → lines ≡ map (logs.line_of g.queries g.horizon) (logs.distinct (map (λ (l : ClickLine). l.click) g.clicks))
+
+-- a node from the first joiner's number on has stopped
+abbrev pub is_late_stop : Entry → Bool
+is_late_stop (Begin node input) = false
+is_late_stop (End node noted packets kept) = false
+is_late_stop (Stop node landed) = nat_le 7 node
+
+-- Here told says what bytes are under a name.
+module _ (told : List ℕ → Option (List ℕ)) where
+  -- what was asked for was run under this plan, and the lines are that run's
+  abbrev pub Drills : Values → PlanView → Option RunLog → List ReportLine → Type 0
+  Drills v plan ran lines = (g : Setting) × IsAsked told v g × IsSomeAnd ran (IsDrilled g plan lines)
+
+  -- the file's bytes are this plan
+  abbrev pub IsPlanIn : Text → PlanView → Type 0
+  IsPlanIn file plan = IsSomeAnd (told file) (λ bytes. IsPlanOf bytes plan)
+
+  -- they are none, for this place before all others
+  abbrev pub IsBadIn : Text → Field → Type 0
+  IsBadIn file place = IsSomeAnd (told file) (λ bytes. IsFirstBad bytes place)
+
+  -- the lines of a drill by the plan of a file were written behind what was there: whole, or a prefix of them
+  abbrev pub PrintsDrill : Values → Text → Option RunLog → (old new : List ℕ) → Type 0
+  PrintsDrill v file ran old new = (plan : PlanView) × (lines : List ReportLine) × IsPlanIn file plan × Drills v plan ran lines × (new ≡ old ++ logs.text_of lines)
+
+  abbrev pub PrintsDrillPrefix : Values → Text → Option RunLog → (old new : List ℕ) → Type 0
+  PrintsDrillPrefix v file ran old new = (plan : PlanView) × (lines : List ReportLine) × IsPlanIn file plan × Drills v plan ran lines × TookPrefix old (logs.text_of lines) new

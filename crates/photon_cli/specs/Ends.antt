@@ -1,0 +1,104 @@
+-- How each command ends, by its exit status.
+use Rattle.std.specs.Prelude.{ℕ, ◌≡◌, ◌≢◌, ◌⊎◌, List, Bool, true, false, Option, IsSomeAnd, IsTrue}
+use Rattle.outside.specs.declared.store.DiskName.{DiskName}
+use Rattle.time_shards.specs.declared.ShardRow.{ShardRow}
+use Rattle.time_shards.specs.Text.{IsFirstBad}
+use Rattle.lossy_link.specs.Fates.{PlanView}
+use Rattle.lossy_link.specs.declared.bad_plan.Field.{Field}
+use Rattle.command_words.specs.Words.{Text}
+use Rattle.log_records.specs.declared.check.BadLine.{BadLine}
+use Rattle.run_faults.specs.declared.fault.LogName.{LogName}
+use Rattle.turn_defs.specs.Setting.{Setting}
+use Rattle.log_records.specs.Check.{RefusesClick}
+use Rattle.site_disks.specs.Lent.{GoesOn, StaysAs}
+use Rattle.store_laws.specs.Stores.{Images, IsSoundStore}
+use Rattle.store_run.specs.declared.ran.RunLog.{RunLog}
+use Rattle.photon_cli.specs.Bulk.{PrintsTotals, PrintsTotalsPrefix}
+use Rattle.photon_cli.specs.Drill.{IsBadIn, IsPlanIn, PrintsDrill, PrintsDrillPrefix}
+use Rattle.photon_cli.specs.Join.{HasRun, IsAsked, IsInvalid, Prints, PrintsAfresh, PrintsPrefix, Refuses}
+use Rattle.photon_cli.specs.Told.{IsNamed, IsNamedInBulk, IsNamedInDrill, IsNamedInVerify, TellsBy}
+use Rattle.photon_cli.specs.Verify.{IsUnreadable, PrintsKept, PrintsKeptPrefix}
+use Rattle.photon_cli.specs.Words.{BulkValues, IsTextOf, Values}
+
+-- What is said of bytes is said where the logs, the sinks and the disks tell what they hold. Told says what bytes are under a name;
+-- files, output, errors and faulted say that the count of faults rose of the source of logs, of the output, of the standard error
+-- and of the store.
+module _ (logs sinks : Bool) (told : List ℕ → Option (List ℕ)) (files output errors : Type 0) (ran : Option RunLog) (old new err_old err_new : List ℕ) (status : ℕ) where
+  -- Of a join for these values over the store. Before and after say what a stop might have left of its disks and may leave of them
+  -- now; leaves says that a stop leaves something of each disk of a setting, whatever happens to the store.
+  pub record JoinEnds (v : Values) (disks : Bool) (before after : Images) (faulted : Type 0) (leaves : Setting → Type 0) : Type 0 where
+    -- 0: both logs are valid, and where the store was sound the report of what its disks now keep was written, whole; where it was
+    -- empty it is the report on the two logs, but for clicks that are missing; unless a disk met a fault none is
+    pub joined : IsTrue logs → IsTrue sinks → IsTrue disks → status ≡ 0 → Prints told v before after faulted old new
+    pub afresh : IsTrue logs → IsTrue sinks → IsTrue disks → status ≡ 0 → PrintsAfresh told v before after faulted old new
+    -- both sites have run, and this is what is left of the run
+    pub ran_on : IsTrue logs → IsTrue disks → status ≡ 0 → HasRun told v before after ran
+    -- 2: only where the shards' text is no table, and there always, but for want of memory
+    pub row : status ≡ 2 → (n : ℕ) × IsFirstBad v.shards n
+    pub bad_row : (n : ℕ) → IsFirstBad v.shards n → (status ≡ 2) ⊎ (status ≡ 8)
+    -- 3: only where a log has a refused line, and where one isn't valid always, but for a fault of the logs or want of memory
+    pub lines : IsTrue logs → status ≡ 3 → (log : LogName) × (bad : BadLine) × Refuses told v.queries v.clicks log bad
+    pub invalid : IsTrue logs → (log : LogName) (table : List ShardRow) → IsTextOf v.shards table → IsInvalid told v.queries v.clicks log → (files → ⊥) → (status ≡ 3) ⊎ (status ≡ 8)
+    -- 6 only where the store's count rose; 9 never over a sound store where a stop leaves something of each disk
+    pub stopped : status ≡ 6 → faulted
+    pub welcome : IsTrue disks → IsTrue logs → (g : Setting) → IsAsked told v g → IsSoundStore g before → leaves g → status ≢ 9
+    -- what went out before a fault of the output is a prefix of the report
+    pub prefix : IsTrue logs → IsTrue sinks → IsTrue disks → status ≡ 5 → PrintsPrefix told v before after faulted old new
+    -- what is told, unless the standard error has a fault
+    pub tells : IsTrue logs → IsTrue sinks → (errors → ⊥) → TellsBy (IsNamed told v) status err_old err_new
+    -- at every status a sound store stays sound, and no disk's records are lost
+    pub sound : IsTrue disks → IsTrue logs → (g : Setting) → IsAsked told v g → IsSoundStore g before → IsSoundStore g after
+    pub grown : IsTrue disks → IsTrue logs → (g : Setting) → IsAsked told v g → (disk : DiskName) → GoesOn (before disk) (after disk)
+    -- Over a sound store, and with no fault, it ends well, unless memory runs out, a disk's bytes are damaged or a number that a
+    -- disk keeps is the last of its kind.
+    pub complete : IsTrue disks → IsTrue logs → (g : Setting) → IsAsked told v g → IsSoundStore g before → leaves g → (files → ⊥) → (faulted → ⊥) → (output → ⊥)
+        → (status ≡ 0) ⊎ ((status ≡ 7) ⊎ ((status ≡ 8) ⊎ (status ≡ 10)))
+
+  -- Of a drill for these values with the plan of a file.
+  pub record DrillEnds (v : Values) (file : Text) : Type 0 where
+    -- 0: the logs are valid, the file's bytes are a plan, both sites have run under it from nothing, and the report of that run was
+    -- written, whole; no click is missing unless a joiner's node stopped, nor where no stop of the plan is of a joiner's disk
+    pub drilled : IsTrue logs → IsTrue sinks → status ≡ 0 → PrintsDrill told v file ran old new
+    -- 2: only where the shards' text is no table or the file's bytes are no plan, and there always, but for a fault of the file or
+    -- want of memory
+    pub refused : IsTrue logs → status ≡ 2 → ((n : ℕ) × IsFirstBad v.shards n) ⊎ ((place : Field) × IsBadIn told file place)
+    pub bad_row : (n : ℕ) → IsFirstBad v.shards n → (status ≡ 2) ⊎ (status ≡ 8)
+    pub bad_place : IsTrue logs → (place : Field) → IsBadIn told file place → (files → ⊥) → (status ≡ 2) ⊎ (status ≡ 8)
+    -- 3: only where a log has a refused line, and where one isn't valid always, but for a bad plan, a fault of the files or want of
+    -- memory
+    pub lines : IsTrue logs → status ≡ 3 → (log : LogName) × (bad : BadLine) × Refuses told v.queries v.clicks log bad
+    pub invalid : IsTrue logs → (log : LogName) (table : List ShardRow) → IsTextOf v.shards table → IsInvalid told v.queries v.clicks log → (files → ⊥) → (status ≡ 2) ⊎ ((status ≡ 3) ⊎ (status ≡ 8))
+    pub prefix : IsTrue logs → IsTrue sinks → status ≡ 5 → PrintsDrillPrefix told v file ran old new
+    pub tells : IsTrue logs → IsTrue sinks → (errors → ⊥) → TellsBy (IsNamedInDrill told v file) status err_old err_new
+    -- with a table, a plan, two valid logs and no fault of the files or the output it ends with 0, or for a fault of the run's own
+    -- disks, or for want of memory
+    pub complete : IsTrue logs → (g : Setting) → IsAsked told v g → (plan : PlanView) → IsPlanIn told file plan → (files → ⊥) → (output → ⊥)
+        → (status ≡ 0) ⊎ ((status ≡ 6) ⊎ ((status ≡ 7) ⊎ ((status ≡ 8) ⊎ ((status ≡ 9) ⊎ (status ≡ 10)))))
+
+  -- Of a verification over a click log and the store in a directory.
+  pub record VerifyEnds (clicks : Text) (disks : Bool) (before after : Images) (faulted : Type 0) : Type 0 where
+    -- 0 and 1: the report of what the disks keep was written, whole; 1 exactly where a line tells a missing click
+    pub whole : IsTrue logs → IsTrue sinks → IsTrue disks → status ≡ 0 → PrintsKept told clicks before false old new
+    pub missing : IsTrue logs → IsTrue sinks → IsTrue disks → status ≡ 1 → PrintsKept told clicks before true old new
+    -- 3: only where the log has a refused line, and where it isn't valid always, but for a fault of it or want of memory
+    pub lines : IsTrue logs → status ≡ 3 → (bad : BadLine) × IsSomeAnd (told clicks) (λ log. RefusesClick log bad)
+    pub invalid : IsTrue logs → IsUnreadable told clicks → (files → ⊥) → (status ≡ 3) ⊎ (status ≡ 8)
+    -- 2 never; 6 only where the store's count rose
+    pub words : status ≢ 2
+    pub stopped : status ≡ 6 → faulted
+    pub prefix : IsTrue logs → IsTrue sinks → IsTrue disks → status ≡ 5 → PrintsKeptPrefix told clicks before old new
+    pub tells : IsTrue logs → IsTrue sinks → (errors → ⊥) → ((status ≡ 1) × (err_new ≡ err_old)) ⊎ TellsBy (IsNamedInVerify told clicks) status err_old err_new
+    -- at every status each disk stands for what it stood for, and a sound store stays sound
+    pub stays : IsTrue disks → (disk : DiskName) → StaysAs (before disk) (after disk)
+    pub sound : IsTrue disks → (g : Setting) → IsSoundStore g before → IsSoundStore g after
+
+  -- Of a bulk run.
+  pub record BulkEnds (v : BulkValues) : Type 0 where
+    -- 0: both sites have run from nothing over the logs that are made of the numbers, and the totals line of their report was written
+    pub totals : IsTrue sinks → status ≡ 0 → PrintsTotals v ran old new
+    -- 2: only where the shards' text is no table, and there always, but for want of memory; 3 never
+    pub row : status ≡ 2 → (n : ℕ) × IsFirstBad v.shards n
+    pub bad_row : (n : ℕ) → IsFirstBad v.shards n → (status ≡ 2) ⊎ (status ≡ 8)
+    pub lines : status ≢ 3
+    pub prefix : IsTrue sinks → status ≡ 5 → PrintsTotalsPrefix v ran old new
+    pub tells : IsTrue sinks → (errors → ⊥) → TellsBy (IsNamedInBulk v) status err_old err_new

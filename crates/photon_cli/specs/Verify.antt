@@ -1,0 +1,65 @@
+-- What a verification does: what a store keeps is reported over a click log, and no journal changes.
+use Rattle.std.specs.Prelude.{ℕ, ◌≡◌, List, ◌++◌, map, Bool, None, Some, Option, IsSomeAnd}
+use Rattle.std.specs.List.{list_any}
+use Rattle.outside.specs.declared.store.DiskName.TheVariants as name
+use Rattle.log_records.specs.declared.records.ClickRec.{ClickRec}
+use Rattle.log_records.specs.Check.{IsClickLog}
+use Rattle.log_defs.specs.declared.ReportLine.{ReportLine}
+use Rattle.log_defs.specs.declared.ReportLine.TheVariants.{U}
+use Rattle.log_defs.specs.Report.{distinct, is_missing, text_of}
+use Rattle.report_text.specs.Stream.{TookPrefix}
+use Rattle.topology_journal.specs.declared.topology.Topology.{Topology}
+use Rattle.topology_journal.specs.Topologies.{Keeps as KeepsTopology}
+use Rattle.paxos_defs.specs.Agreement.{JournalsAgree}
+use Rattle.turn_defs.specs.Setting.{Setting}
+use Rattle.dispatch_node.specs.Places.{IsLogOf}
+use Rattle.photon_defs.specs.Report.{report}
+use Rattle.site_disks.specs.Opening.{IsKeptIn}
+use Rattle.photon_defs.specs.Topology.{Store}
+use Rattle.photon_model.specs.Verification.{AreOf}
+use Rattle.store_laws.specs.Stores.{AreLeft, Images, IsSoundStore}
+use Rattle.store_reading.specs.declared.kept.KeptStore.{KeptStore}
+use Rattle.store_reading.specs.Telling.{Tells}
+use Rattle.verify_pass.specs.Classes.{notes_of}
+use Rattle.verify_pass.specs.declared.journals.Journals.{Journals}
+use Rattle.command_words.specs.Words.{Text}
+
+-- the setting is over the clicks of this log, and has the topology that the store keeps
+pub record IsOver (log : List ℕ) (topology : Topology) (g : Setting) : Type 0 where
+  pub clicks : IsLogOf log g
+  pub joiners : g.joiners ≡ topology.joiners
+  pub table : g.table ≡ topology.table
+  pub replicas : g.replicas ≡ 3
+
+-- The store is read as what its disks keep, each in what a stop might have left of it: the topology, and, where one is kept, the
+-- records of the replicas and the outputs.
+pub record IsReadFrom (before : Images) (log : List ℕ) (kept : KeptStore) : Type 0 where
+  pub topology : IsKeptIn (before name.Topology) (KeepsTopology kept.topology)
+  pub records : (t : Topology) → kept.topology ≡ Some t → (g : Setting) → IsOver log t g → Tells g before kept.journals
+
+-- These lines are the report of records that the disks keep, where the replicas' notes agree, as those of a sound store do.
+pub record Reports (g : Setting) (before : Images) (journals : Journals) (lines : List ReportLine) : Type 0 where
+  pub store : Store
+  pub left : AreLeft g before store
+  pub are : AreOf g store.disks journals
+  pub told : JournalsAgree (notes_of journals) → lines ≡ report g store.disks
+  pub agree : IsSoundStore g before → JournalsAgree (notes_of journals)
+
+-- these lines are told of what a store keeps, over the clicks of a log: where no topology is kept every click is unmatched
+pub record IsTold (before : Images) (log : List ℕ) (kept : KeptStore) (lines : List ReportLine) : Type 0 where
+  pub topology : IsKeptIn (before name.Topology) (KeepsTopology kept.topology)
+  pub nothing : kept.topology ≡ None → (cs : List ClickRec) → IsClickLog log cs → lines ≡ map (λ (c : ClickRec). U c.id) (distinct cs)
+  pub something : (t : Topology) → kept.topology ≡ Some t → (g : Setting) → IsOver log t g → Reports g before kept.journals lines
+
+-- the log is there and isn't valid
+abbrev pub IsUnreadable : (told : List ℕ → Option (List ℕ)) → (clicks : Text) → Type 0
+IsUnreadable told clicks = IsSomeAnd (told clicks) (λ log. (cs : List ClickRec) → IsClickLog log cs → ⊥)
+
+-- Here told says what bytes are under a name.
+module _ (told : List ℕ → Option (List ℕ)) (clicks : Text) (before : Images) where
+  -- they were written behind what was there: whole, or a prefix of them
+  abbrev pub PrintsKept : (missing : Bool) → (old new : List ℕ) → Type 0
+  PrintsKept missing old new = (kept : KeptStore) × (lines : List ReportLine) × IsSomeAnd (told clicks) (λ log. IsTold before log kept lines) × (missing ≡ list_any is_missing lines) × (new ≡ old ++ text_of lines)
+
+  abbrev pub PrintsKeptPrefix : (old new : List ℕ) → Type 0
+  PrintsKeptPrefix old new = (kept : KeptStore) × (lines : List ReportLine) × IsSomeAnd (told clicks) (λ log. IsTold before log kept lines) × TookPrefix old (text_of lines) new

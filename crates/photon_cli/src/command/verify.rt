@@ -1,0 +1,56 @@
+// The command `verify`, with its exit status.
+ghost use Rattle.std.specs.Prelude.{◌≡◌, ◌≢◌, ◌⊎◌, ℕ, List, true, false, IsSomeAnd, IsTrue};
+ghost use Rattle.outside.specs.declared.store.DiskName.{DiskName};
+ghost use Rattle.outside.specs.Faults.{Counts, Rose};
+ghost use Rattle.log_records.specs.declared.records.ClickRec.{ClickRec as Click};
+ghost use Rattle.log_records.specs.declared.check.BadLine.{BadLine as Bad};
+ghost use Rattle.log_records.specs.Check.{IsClickLog, RefusesClick};
+ghost use Rattle.turn_defs.specs.Setting.{Setting};
+ghost use Rattle.site_disks.specs.Lent.{StaysAs};
+ghost use Rattle.store_laws.specs.Stores.{IsSoundStore};
+ghost use Rattle.photon_cli.specs.declared.engine.fault.Fault.{Fault as Failure};
+ghost use Rattle.photon_cli.specs.Faults.{status_of};
+ghost use Rattle.photon_cli.specs.Told.{IsNamedInVerify, TellsBy};
+ghost use Rattle.photon_cli.specs.Verify.{IsUnreadable, PrintsKept, PrintsKeptPrefix};
+
+use crate::engine::verify_store;
+use crate::tell::{status, tell};
+use outside::{Sink, Source, Store};
+use std::alloc::Global;
+
+/// Reports what the store in a directory keeps of the clicks of a log, and answers the exit status: 1 where a click is missing.
+pub fn verify_command<F: Source, S: Store, K: Sink>(
+    alloc: Global,
+    clicks: &str,
+    state: &str,
+    files: &mut F,
+    store: &mut S,
+    out: &mut K,
+    err: &mut K,
+) -> u8
+    ensures statuses { (result ≡ 0) ⊎ ((result ≡ 1) ⊎ ((f : Failure) × (result ≡ status_of f))) }
+    ensures whole { IsTrue F.Log.tells → IsTrue K.tells → IsTrue S.Disk.tells → result ≡ 0 → PrintsKept (F.bytes files.old) clicks.now (S.image store.old) false (K.held out.old) (K.held out.new) }
+    ensures missing { IsTrue F.Log.tells → IsTrue K.tells → IsTrue S.Disk.tells → result ≡ 1 → PrintsKept (F.bytes files.old) clicks.now (S.image store.old) true (K.held out.old) (K.held out.new) }
+    ensures words { result ≢ 2 }
+    ensures lines { IsTrue F.Log.tells → result ≡ 3 → (bad : Bad) × IsSomeAnd (F.bytes files.old clicks.now) (λ log. RefusesClick log bad) }
+    ensures invalid { IsTrue F.Log.tells → IsUnreadable (F.bytes files.old) clicks.now → (Rose (F.faults files.old) (F.faults files.new) → ⊥) → (result ≡ 3) ⊎ (result ≡ 8) }
+    ensures read { Counts (F.faults files.old) (F.faults files.new) (result ≡ 4) }
+    ensures write { Counts (K.faults out.old) (K.faults out.new) (result ≡ 5) }
+    ensures disks { Counts (S.faults store.old) (S.faults store.new) (result ≡ 6) }
+    ensures prefix { IsTrue F.Log.tells → IsTrue K.tells → IsTrue S.Disk.tells → result ≡ 5 → PrintsKeptPrefix (F.bytes files.old) clicks.now (S.image store.old) (K.held out.old) (K.held out.new) }
+    ensures quiet { IsTrue K.tells → result ≢ 0 → result ≢ 1 → result ≢ 5 → K.held out.new ≡ K.held out.old }
+    ensures told { IsTrue F.Log.tells → IsTrue K.tells → (Rose (K.faults err.old) (K.faults err.new) → ⊥)
+        → (result ≡ 1) ⊎ TellsBy (IsNamedInVerify (F.bytes files.old) clicks.now) result (K.held err.old) (K.held err.new) }
+    ensures silent { IsTrue K.tells → result ≡ 1 → K.held err.new ≡ K.held err.old }
+    ensures stays { IsTrue S.Disk.tells → (disk : DiskName) → StaysAs (S.image store.old disk) (S.image store.new disk) }
+    ensures sound { IsTrue S.Disk.tells → (g : Setting) → IsSoundStore g (S.image store.old) → IsSoundStore g (S.image store.new) }
+{
+    match verify_store(alloc, files, store, clicks, state, out) {
+        Ok(true) => 1,
+        Ok(false) => 0,
+        Err(fault) => {
+            tell(err, &fault);
+            status(&fault)
+        }
+    }
+}

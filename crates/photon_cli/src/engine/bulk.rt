@@ -1,0 +1,128 @@
+// A bulk run: both logs are made from a seed, both sites run over them as in a drill, and the totals line is told.
+ghost use Rattle.std.specs.Prelude.{◌≡◌, ◌⊎◌, ℕ, List, IfErr, IfOk, OnOk, Some, codes, string_bytes, false, IsTrue, Err};
+ghost use Rattle.std.specs.List.{list_any};
+ghost use Rattle.outside.specs.Faults.{Counts};
+ghost use Rattle.time_shards.specs.Text.{IsFirstBad};
+ghost use Rattle.lossy_link.specs.Plans.{IsPlanOf};
+ghost use Rattle.drill_store.specs.Planned.{is_joiners};
+ghost use Rattle.mem_outside.specs.Files.{bytes_under};
+ghost use Rattle.bulk_logs.specs.Bulk.{query_log, click_log};
+ghost use Rattle.photon_cli.specs.declared.engine.fault.Fault.TheVariants as fault;
+ghost use Rattle.photon_cli.specs.Bulk.{AreBulkRanges, PrintsTotals, PrintsTotalsPrefix, bulk_values, plan_text};
+ghost use Rattle.photon_cli.specs.LogFaults.{IsOfBulk};
+
+use super::drill::drilled_lines;
+use super::fault::Fault;
+use crate::wanted::{BulkWanted, Wanted};
+use bulk_logs::laws::{report_kinds, sizes, valid_logs};
+use bulk_logs::make_logs;
+use drill_store::stops_a_joiner;
+use lossy_link::Plan;
+use mem_outside::{MemFile, MemSource};
+use outside::{Gate, Sink};
+use report_text::write_totals;
+use std::alloc::{AllocError, Global};
+use std::sync::Wait;
+use std::thread::Threads;
+use store_run::{Names, Ran};
+use time_shards::Table;
+
+// One click in ten has a timestamp below it.
+const HORIZON: u64 = 1_000_000;
+
+const PLAN: &str =
+    "{\"rules\":[{\"from\":\"any\",\"to\":\"any\",\"first\":3,\"count\":1000,\"every\":7,\"fate\":\"drop\"},{\"from\":\"any\",\"to\":\"any\",\"first\":5,\"count\":1000,\"every\":11,\"fate\":\"twice\",\"by\":4}]}";
+
+// The plan. It has no stops.
+fn bulk_plan(alloc: Global) -> Result<Plan, Fault>
+    ensures plan { IfOk result (λ p. IsPlanOf plan_text p) }
+    ensures calm { IfOk result (λ p. list_any is_joiners p.stops ≡ false) }
+    ensures memory { IfErr result (λ f. f ≡ fault.Memory) }
+{
+    match Plan::read(alloc, PLAN.as_bytes()) {
+        Ok(plan) if !stops_a_joiner(&plan) => Ok(plan),
+        _ => Err(Fault::Memory),
+    }
+}
+
+fn file_of(alloc: Global, name: &str, bytes: Vec<u8>) -> Result<MemFile, AllocError>
+    ensures name { IfOk result (λ f. string_bytes f.name ≡ name.now) }
+    ensures bytes { IfOk result (λ f. f.bytes.items ≡ bytes.items) }
+{
+    Ok(MemFile {
+        name: name.to_string(alloc)?,
+        bytes,
+        failing: Vec::new(alloc),
+    })
+}
+
+// Both logs, in memory.
+fn bulk_files(alloc: Global, seed: u64, clicks: u32) -> Result<MemSource, AllocError>
+    ensures queries { IfOk result (λ s. bytes_under s.files.items (codes "queries") ≡ Some (query_log seed clicks)) }
+    ensures clicks { IfOk result (λ s. bytes_under s.files.items (codes "clicks") ≡ Some (click_log seed clicks)) }
+{
+    let (query_log, click_log) = make_logs(alloc, seed, clicks)?;
+    let mut files = Vec::with_capacity(alloc, 2)?;
+    files.push_reserved(file_of(alloc, "queries", query_log)?);
+    files.push_reserved(file_of(alloc, "clicks", click_log)?);
+    Ok(MemSource::new(files))
+}
+
+/// Makes both logs from the seed, runs both sites over them as in a drill, and writes the totals line.
+///
+/// It keeps both logs in memory, once for each node that reads one.
+pub fn bulk_totals<R, K, G>(
+    rt: &R,
+    alloc: Global,
+    wanted: &BulkWanted<'_>,
+    out: &mut K,
+    gate: &G,
+    ran: &mut Ran,
+) -> Result<(), Fault>
+where
+    R: Threads + Wait + Sync,
+    K: Sink,
+    G: Gate,
+    requires ranges { AreBulkRanges (bulk_values wanted.now) }
+    ensures done { IsTrue K.tells → OnOk result (PrintsTotals (bulk_values wanted.now) ran.new.log (K.held out.old) (K.held out.new)) }
+    ensures prefix { IsTrue K.tells → result ≡ Err fault.Write → PrintsTotalsPrefix (bulk_values wanted.now) ran.new.log (K.held out.old) (K.held out.new) }
+    ensures quiet { IsTrue K.tells → IfErr result (λ f. (f ≡ fault.Write) ⊎ (K.held out.new ≡ K.held out.old)) }
+    ensures row { (n : ℕ) → result ≡ Err (fault.Table n) → IsFirstBad (bulk_values wanted.now).shards n }
+    ensures bad_row { (n : ℕ) → IsFirstBad (bulk_values wanted.now).shards n → result ≡ Err (fault.Table n) }
+    ensures cause { IfErr result IsOfBulk }
+    ensures write { Counts (K.faults out.old) (K.faults out.new) (result ≡ Err fault.Write) }
+{
+    valid_logs();
+    sizes();
+    report_kinds();
+    let table = match Table::read(wanted.shards.as_bytes()) {
+        Ok(table) => table,
+        Err(bad) => return Err(Fault::Table { row: bad.row }),
+    };
+    let Ok(mut files) = bulk_files(alloc, wanted.seed, wanted.clicks) else {
+        return Err(Fault::Memory);
+    };
+    let plan = match bulk_plan(alloc) {
+        Ok(plan) => plan,
+        Err(fault) => return Err(fault),
+    };
+    let asked = Wanted {
+        names: Names {
+            queries: "queries",
+            clicks: "clicks",
+            state: "",
+        },
+        horizon: HORIZON,
+        joiners: wanted.joiners,
+        shards: wanted.shards,
+        batch: wanted.batch,
+    };
+    let lines = match drilled_lines(rt, alloc, &asked, table, plan, &mut files, gate, ran) {
+        Ok(lines) => lines,
+        Err(fault) => return Err(fault),
+    };
+    match write_totals(out, &lines) {
+        Ok(()) => Ok(()),
+        Err(_) => Err(Fault::Write),
+    }
+}

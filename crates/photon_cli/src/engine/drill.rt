@@ -1,0 +1,215 @@
+// A drill: both sites run over a store in memory that is empty at first, and a plan says what goes wrong.
+ghost use Rattle.std.specs.Prelude.{◌≡◌, ◌<◌, ◌≤◌, ◌⊎◌, ℕ, List, map, false, IfErr, IfOk, IfSome, IsErrAnd, IsSomeAnd, IsTrue, OnOk, Err};
+ghost use Rattle.std.specs.List.{list_any};
+ghost use Rattle.outside.specs.Faults.{Counts};
+ghost use Rattle.time_shards.specs.Shards.{IsTable};
+ghost use Rattle.time_shards.specs.Text.{IsFirstBad};
+ghost use Rattle.lossy_link.specs.Fates.{PlanView};
+ghost use Rattle.lossy_link.specs.declared.bad_plan.Field.{Field as Place};
+ghost use Rattle.log_records.specs.Lines.{ClickLine};
+ghost use Rattle.log_records.specs.declared.why.Why.{Why as Reason};
+ghost use Rattle.run_faults.specs.declared.fault.LogName.{LogName as LogKind};
+ghost use Rattle.site_laws.specs.Laws.{made_by};
+ghost use Rattle.site_run.specs.Works.{is_stop};
+ghost use Rattle.store_run.specs.Asked.{OfSetting};
+ghost use Rattle.photon_cli.specs.declared.engine.fault.Fault.TheVariants as fault;
+ghost use Rattle.photon_cli.specs.Drill.{is_late_stop, Drills, IsBadIn, IsDrilled, IsPlanIn, PrintsDrill, PrintsDrillPrefix};
+ghost use Rattle.photon_cli.specs.Join.{AreValid, Refuses};
+ghost use Rattle.photon_cli.specs.LogFaults.{IsBeforeLogs, IsEarlyInDrill, IsFailedRead, IsLogFault, IsOfRun, failed_read};
+ghost use Rattle.photon_cli.specs.Words.{AreInRanges, IsTextOf, values_in};
+
+use super::checked::{CheckedClicks, checked_logs};
+use super::fault::Fault;
+use super::plan::plan_in_file;
+use super::run::run_lines;
+use crate::wanted::Wanted;
+use air_bus::Entry;
+use drill_store::{stops_a_joiner, store_for};
+use log_defs::ReportLine;
+use lossy_link::Plan;
+use outside::{Gate, Sink, Source};
+use report_text::write_report;
+use site_nodes::Config;
+use std::alloc::Global;
+use std::sync::Wait;
+use std::thread::Threads;
+use store_run::{Names, Ran};
+use time_shards::Table;
+
+// The number of the first joiner's node.
+const FIRST_JOINER: u16 = 7;
+
+fn is_late_stop(entry: &Entry) -> bool
+    ensures { result ≡ is_late_stop entry.now }
+{
+    match entry {
+        Entry::Stop { node, .. } => *node >= FIRST_JOINER,
+        Entry::Begin { .. } => false,
+        Entry::End { .. } => false,
+    }
+}
+
+// Whether a node from the first joiner's number on has stopped.
+fn has_late_stop(history: &[Entry]) -> bool
+    ensures { result ≡ list_any is_late_stop history.now }
+{
+    history.iter().any(is_late_stop)
+}
+
+// Whether a joiner has stopped in the run, if there was one.
+fn joiner_stopped(ran: &Ran) -> bool
+    ensures { result ≡ false → IfSome ran.now.log (λ l. (j : ℕ) → 7 ≤ j → list_any is_stop (made_by j l.air.history) ≡ false) }
+{
+    match &ran.log {
+        Some(log) => has_late_stop(log.air.history()),
+        None => false,
+    }
+}
+
+// Whether a joiner has stopped in the run though no stop of the plan is of a joiner's disk.
+fn is_unplanned(spared: bool, ran: &Ran) -> bool
+    ensures { result ≡ false → IsTrue spared → IfSome ran.now.log (λ l. (j : ℕ) → 7 ≤ j → list_any is_stop (made_by j l.air.history) ≡ false) }
+{
+    spared && joiner_stopped(ran)
+}
+
+// Runs both sites over a store in memory, and gives the report's line for each distinct click id.
+//
+// A joiner's node stops only where one of its disks does, so that it has stopped with no such stop in the plan is never met.
+fn drill_lines<R, F, G>(
+    rt: &R,
+    alloc: Global,
+    config: &Config,
+    names: &Names<'_>,
+    clicks: &CheckedClicks,
+    plan: Plan,
+    files: &mut F,
+    gate: &G,
+    ran: &mut Ran,
+) -> Result<Vec<ReportLine>, Fault>
+where
+    R: Threads + Wait + Sync,
+    F: Source,
+    G: Gate,
+    F::Log: Drop,
+    requires joiners { (0 < config.now.joiners) × (config.now.joiners ≤ 4) }
+    requires table { IsTable config.now.table }
+    requires batch { config.now.batch ≤ 64 }
+    ensures drilled { IsTrue F.Log.tells → OfSetting (F.bytes files.old) names.now.queries.now names.now.clicks.now config.now clicks.now.lines_end (λ g. map (λ (l : ClickLine). l.click) g.clicks ≡ clicks.now.records.items
+        → IfOk result (λ lines. IsSomeAnd ran.new.log (IsDrilled g plan lines.items))) }
+    ensures cause { IfErr result IsOfRun }
+    ensures count { Counts (F.faults files.old) (F.faults files.new) ((log : LogKind) × (result ≡ Err (failed_read log))) }
+{
+    let spared = !stops_a_joiner(&plan);
+    let Ok(mut store) = store_for(alloc, &plan, config.joiners) else {
+        return Err(Fault::Memory);
+    };
+    let lines = match run_lines(
+        rt, alloc, config, names, clicks, plan, files, &mut store, gate, ran,
+    ) {
+        Ok(lines) => lines,
+        Err(fault) => return Err(fault),
+    };
+    if is_unplanned(spared, ran) {
+        return Err(Fault::Memory);
+    }
+    Ok(lines)
+}
+
+/// Checks both logs, runs both sites over a store in memory that is empty at first, and gives the report's line for each distinct
+/// click id. The plan says which packets are lost, repeated or late, which replica is dead and at which calls a disk stops.
+pub fn drilled_lines<R, F, G>(
+    rt: &R,
+    alloc: Global,
+    wanted: &Wanted<'_>,
+    table: Table,
+    plan: Plan,
+    files: &mut F,
+    gate: &G,
+    ran: &mut Ran,
+) -> Result<Vec<ReportLine>, Fault>
+where
+    R: Threads + Wait + Sync,
+    F: Source,
+    G: Gate,
+    F::Log: Drop,
+    requires ranges { AreInRanges (values_in wanted.now) }
+    requires table { IsTextOf (values_in wanted.now).shards table }
+    ensures done { IsTrue F.Log.tells → IfOk result (λ lines. Drills (F.bytes files.old) (values_in wanted.now) plan ran.new.log lines.items) }
+    ensures refused { IsTrue F.Log.tells → (log : LogKind) (line : ℕ) (w : Reason) → result ≡ Err (fault.Refused log line w)
+        → Refuses (F.bytes files.old) (values_in wanted.now).queries (values_in wanted.now).clicks log (record { line = line; why = w }) }
+    ensures valid { IsTrue F.Log.tells → AreValid (F.bytes files.old) (values_in wanted.now).queries (values_in wanted.now).clicks ⊎ IsErrAnd result (λ f. (log : LogKind) × IsLogFault log f) }
+    ensures cause { IfErr result (λ f. ((log : LogKind) × IsLogFault log f) ⊎ IsOfRun f) }
+    ensures count { Counts (F.faults files.old) (F.faults files.new) ((log : LogKind) × (result ≡ Err (failed_read log))) }
+{
+    let names = wanted.names;
+    let clicks = match checked_logs(alloc, files, names.queries, names.clicks) {
+        Ok(clicks) => clicks,
+        Err(fault) => return Err(fault),
+    };
+    let config = Config {
+        horizon: wanted.horizon,
+        joiners: wanted.joiners,
+        table,
+        batch: wanted.batch,
+    };
+    drill_lines(rt, alloc, &config, &names, &clicks, plan, files, gate, ran)
+}
+
+/// Drills with the plan of a file, and writes the report.
+pub fn drill_logs<R, F, K, G>(
+    rt: &R,
+    alloc: Global,
+    wanted: &Wanted<'_>,
+    plan: &str,
+    files: &mut F,
+    out: &mut K,
+    gate: &G,
+    ran: &mut Ran,
+) -> Result<(), Fault>
+where
+    R: Threads + Wait + Sync,
+    F: Source,
+    K: Sink,
+    G: Gate,
+    F::Log: Drop,
+    requires ranges { AreInRanges (values_in wanted.now) }
+
+    // Where it ends well, the report of the run was written whole; at a failed write a prefix of it went out, at any other fault
+    // nothing.
+    ensures done { IsTrue F.Log.tells → IsTrue K.tells → OnOk result (PrintsDrill (F.bytes files.old) (values_in wanted.now) plan.now ran.new.log (K.held out.old) (K.held out.new)) }
+    ensures prefix { IsTrue F.Log.tells → IsTrue K.tells → result ≡ Err fault.Write → PrintsDrillPrefix (F.bytes files.old) (values_in wanted.now) plan.now ran.new.log (K.held out.old) (K.held out.new) }
+    ensures quiet { IsTrue K.tells → IfErr result (λ f. (f ≡ fault.Write) ⊎ (K.held out.new ≡ K.held out.old)) }
+
+    // A refusal names the first bad row of the table, the plan's first bad place, or the first refused line.
+    ensures row { (n : ℕ) → result ≡ Err (fault.Table n) → IsFirstBad (values_in wanted.now).shards n }
+    ensures bad_row { (n : ℕ) → IsFirstBad (values_in wanted.now).shards n → result ≡ Err (fault.Table n) }
+    ensures place { IsTrue F.Log.tells → (at : Place) → result ≡ Err (fault.Plan at) → IsBadIn (F.bytes files.old) plan.now at }
+    ensures bad_place { IsTrue F.Log.tells → (at : Place) → IsBadIn (F.bytes files.old) plan.now at → IsErrAnd result (IsBeforeLogs at) }
+    ensures good_plan { IsTrue F.Log.tells → (p : PlanView) → IsPlanIn (F.bytes files.old) plan.now p → (at : Place) → result ≡ Err (fault.Plan at) → ⊥ }
+    ensures refused { IsTrue F.Log.tells → (log : LogKind) (line : ℕ) (w : Reason) → result ≡ Err (fault.Refused log line w)
+        → Refuses (F.bytes files.old) (values_in wanted.now).queries (values_in wanted.now).clicks log (record { line = line; why = w }) }
+    ensures valid { IsTrue F.Log.tells → AreValid (F.bytes files.old) (values_in wanted.now).queries (values_in wanted.now).clicks ⊎ IsErrAnd result IsEarlyInDrill }
+
+    // The other faults come only where a count rose, but for want of memory and what goes wrong by the plan.
+    ensures cause { IfErr result (λ f. IsEarlyInDrill f ⊎ ((f ≡ fault.Write) ⊎ IsOfRun f)) }
+    ensures read { Counts (F.faults files.old) (F.faults files.new) (IsErrAnd result IsFailedRead) }
+    ensures write { Counts (K.faults out.old) (K.faults out.new) (result ≡ Err fault.Write) }
+{
+    let table = match Table::read(wanted.shards.as_bytes()) {
+        Ok(table) => table,
+        Err(bad) => return Err(Fault::Table { row: bad.row }),
+    };
+    let plan = match plan_in_file(alloc, files, plan) {
+        Ok(plan) => plan,
+        Err(fault) => return Err(fault),
+    };
+    let lines = match drilled_lines(rt, alloc, wanted, table, plan, files, gate, ran) {
+        Ok(lines) => lines,
+        Err(fault) => return Err(fault),
+    };
+    match write_report(out, &lines) {
+        Ok(()) => Ok(()),
+        Err(_) => Err(Fault::Write),
+    }
+}

@@ -1,0 +1,53 @@
+// The plan of a drill, read from its file.
+ghost use Rattle.std.specs.Prelude.{◌≡◌, ◌⊎◌, ℕ, List, IfErr, IfOk, IsErrAnd, IsSomeAnd, IsTrue, Err};
+ghost use Rattle.outside.specs.Faults.{Counts};
+ghost use Rattle.lossy_link.specs.Fates.{PlanView};
+ghost use Rattle.lossy_link.specs.declared.bad_plan.Field.{Field as Place};
+ghost use Rattle.photon_cli.specs.declared.engine.fault.Fault.TheVariants as fault;
+ghost use Rattle.photon_cli.specs.declared.engine.read.ReadError.TheVariants.{Read};
+ghost use Rattle.photon_cli.specs.Drill.{IsBadIn, IsPlanIn};
+ghost use Rattle.photon_cli.specs.LogFaults.{IsPlanFault, IsToldOfPlan};
+
+use super::fault::Fault;
+use super::read::{ReadError, read_all};
+use lossy_link::{BadPlan, Plan};
+use outside::{OpenFault, Source};
+use std::alloc::Global;
+
+// All bytes of the file of that name.
+fn read_file<F: Source>(alloc: Global, files: &mut F, name: &str) -> Result<Vec<u8>, ReadError>
+    ensures bytes { IsTrue F.Log.tells → IfOk result (λ v. IsSomeAnd (F.bytes files.old name.now) (λ bytes. v.items ≡ bytes)) }
+    ensures same { IsTrue F.Log.tells → (n : List ℕ) → F.bytes files.new n ≡ F.bytes files.old n }
+    ensures count { Counts (F.faults files.old) (F.faults files.new) (result ≡ Err Read) }
+{
+    let mut file = match files.open(alloc, name) {
+        Ok(file) => file,
+        Err(OpenFault::Read) => return Err(ReadError::Read),
+        Err(OpenFault::Memory) => return Err(ReadError::Memory),
+    };
+    let read = read_all(alloc, &mut file);
+    files.shut(file);
+    read
+}
+
+/// The plan that the file of that name holds. It reads the whole file, in pieces of 64 KiB.
+pub fn plan_in_file<F: Source>(alloc: Global, files: &mut F, name: &str) -> Result<Plan, Fault>
+    ensures plan { IsTrue F.Log.tells → IfOk result (λ p. IsPlanIn (F.bytes files.old) name.now p) }
+    ensures place { IsTrue F.Log.tells → (at : Place) → result ≡ Err (fault.Plan at) → IsBadIn (F.bytes files.old) name.now at }
+    ensures refused { IsTrue F.Log.tells → (at : Place) → IsBadIn (F.bytes files.old) name.now at → IsErrAnd result (IsToldOfPlan at) }
+    ensures only { IsTrue F.Log.tells → (p : PlanView) → IsPlanIn (F.bytes files.old) name.now p → (at : Place) → result ≡ Err (fault.Plan at) → ⊥ }
+    ensures same { IsTrue F.Log.tells → (n : List ℕ) → F.bytes files.new n ≡ F.bytes files.old n }
+    ensures cause { IfErr result IsPlanFault }
+    ensures count { Counts (F.faults files.old) (F.faults files.new) (result ≡ Err fault.PlanRead) }
+{
+    let bytes = match read_file(alloc, files, name) {
+        Ok(bytes) => bytes,
+        Err(ReadError::Read) => return Err(Fault::PlanRead),
+        Err(ReadError::Memory) => return Err(Fault::Memory),
+    };
+    match Plan::read(alloc, &bytes) {
+        Ok(plan) => Ok(plan),
+        Err(BadPlan::At(place)) => Err(Fault::Plan(place)),
+        Err(BadPlan::Memory) => Err(Fault::Memory),
+    }
+}

@@ -1,0 +1,170 @@
+// A verification: no node runs, and what the disks keep is reported.
+ghost use Rattle.std.specs.Prelude.{◌≡◌, ◌≤◌, ◌⊎◌, ℕ, List, map, None, Some, IfErr, IfOk, IsErrAnd, IsSomeAnd, IsTrue, Err};
+ghost use Rattle.std.specs.List.{list_any};
+ghost use Rattle.outside.specs.declared.store.DiskName.{DiskName};
+ghost use Rattle.outside.specs.Faults.{Counts, Rose};
+ghost use Rattle.time_shards.specs.declared.ShardRow.{ShardRow};
+ghost use Rattle.log_records.specs.declared.records.ClickRec.{ClickRec as Click};
+ghost use Rattle.log_records.specs.declared.why.Why.{Why as Reason};
+ghost use Rattle.log_records.specs.Check.{IsClickLog, RefusesClick};
+ghost use Rattle.log_defs.specs.Report.{distinct, is_missing};
+ghost use Rattle.log_defs.specs.declared.ReportLine.TheVariants.{U};
+ghost use Rattle.paxos_defs.specs.Agreement.{JournalsAgree};
+ghost use Rattle.run_faults.specs.declared.fault.LogName.TheVariants.{Clicks};
+ghost use Rattle.run_faults.specs.declared.fault.StorePlace.{StorePlace as Place};
+ghost use Rattle.run_faults.specs.declared.fault.RunFault.TheVariants as cause;
+ghost use Rattle.topology_journal.specs.declared.topology.Topology.{Topology as KeptTopology};
+ghost use Rattle.turn_defs.specs.Setting.{Setting};
+ghost use Rattle.site_disks.specs.Lent.{StaysAs};
+ghost use Rattle.store_laws.specs.Stores.{IsSoundStore};
+ghost use Rattle.store_run.specs.Causes.{of_place};
+ghost use Rattle.verify_pass.specs.Classes.{line_of, notes_of};
+ghost use Rattle.photon_cli.specs.declared.engine.fault.Fault.TheVariants as fault;
+ghost use Rattle.photon_cli.specs.LogFaults.{IsFailedRead, IsLogFault, IsOfRun, IsOfVerify};
+ghost use Rattle.photon_cli.specs.Verify.{IsReadFrom, PrintsKept, PrintsKeptPrefix};
+
+use super::checked::{clicks_in_log, open_log};
+use super::fault::Fault;
+use log_defs::ReportLine;
+use log_records::ClickRec;
+use outside::{Sink, Source, Store, StoreFault};
+use report_text::write_report;
+use run_faults::{LogName, RunFault, StorePlace};
+use std::alloc::{AllocError, Global};
+use store_reading::{KeptStore, read_store};
+use store_run::fault_of_refusal;
+use time_shards::Table;
+use verify_pass::{Journals, classify};
+
+// Whether one of the lines is of a missing click.
+fn has_missing(lines: &[ReportLine]) -> bool
+    ensures { result ≡ list_any is_missing lines.now }
+{
+    lines.iter().any(is_missing)
+}
+
+fn is_missing(line: &ReportLine) -> bool
+    ensures { result ≡ is_missing line.now }
+{
+    match line {
+        ReportLine::J { .. } => false,
+        ReportLine::M(_) => true,
+        ReportLine::X(_) => false,
+        ReportLine::U(_) => false,
+    }
+}
+
+// One shard.
+fn one_shard() -> Table {
+    match Table::read(b"0:1") {
+        Ok(table) => table,
+        Err(_) => unreachable!(),
+    }
+}
+
+// The report's lines where nothing is kept: every click is unmatched.
+fn unmatched_lines(alloc: Global, clicks: &[ClickRec]) -> Result<Vec<ReportLine>, AllocError>
+    ensures { IfOk result (λ lines. lines.items ≡ map (λ (c : Click). U c.id) (distinct clicks.now)) }
+{
+    let nothing = Journals {
+        notes: Vec::new(alloc),
+        pairs: Vec::new(alloc),
+    };
+    classify(alloc, clicks, &nothing, &one_shard())
+}
+
+// The report's lines of what a store keeps, where no topology is kept those of nothing.
+fn kept_lines(
+    alloc: Global,
+    clicks: &[ClickRec],
+    kept: &KeptStore,
+) -> Result<Vec<ReportLine>, AllocError>
+    ensures some { IfOk result (λ lines. (t : KeptTopology) → kept.now.topology ≡ Some t → JournalsAgree (notes_of kept.now.journals) → lines.items ≡ map (λ (c : Click). line_of kept.now.journals t.table c.id) (distinct clicks.now)) }
+    ensures none { IfOk result (λ lines. kept.now.topology ≡ None → lines.items ≡ map (λ (c : Click). U c.id) (distinct clicks.now)) }
+{
+    match &kept.topology {
+        Some(topology) => classify(alloc, clicks, &kept.journals, &topology.table),
+        None => unmatched_lines(alloc, clicks),
+    }
+}
+
+fn fault_of_place(cause: StoreFault) -> Fault
+    ensures { result ≡ fault.Run (of_place cause) }
+{
+    match cause {
+        StoreFault::Disk => Fault::Run(RunFault::Store(StorePlace::Directory)),
+        StoreFault::Memory => Fault::Run(RunFault::Memory),
+    }
+}
+
+// Reads what the store in this directory keeps, over the click log of that name, whose last whole line ends at `end`.
+fn kept_store<F: Source, S: Store>(
+    alloc: Global,
+    files: &mut F,
+    store: &mut S,
+    clicks: &str,
+    state: &str,
+    end: u64,
+) -> Result<KeptStore, Fault>
+    ensures read { IsTrue S.Disk.tells → IsTrue F.Log.tells → IfOk result (λ k. IsSomeAnd (F.bytes files.old clicks.now) (λ log. IsReadFrom (S.image store.old) log k)) }
+    ensures stays { IsTrue S.Disk.tells → (disk : DiskName) → StaysAs (S.image store.old disk) (S.image store.new disk) }
+    ensures sound { IsTrue S.Disk.tells → (g : Setting) → IsSoundStore g (S.image store.old) → IsSoundStore g (S.image store.new) }
+    ensures cause { IfErr result IsOfRun }
+    ensures log_count { Counts (F.faults files.old) (F.faults files.new) (IsErrAnd result IsFailedRead) }
+    ensures count { Counts (S.faults store.old) (S.faults store.new) ((place : Place) × (result ≡ Err (fault.Run (cause.Store place)))) }
+{
+    let mut log = match open_log(alloc, files, clicks, LogName::Clicks) {
+        Ok(log) => log,
+        Err(fault) => return Err(fault),
+    };
+    if let Err(fault) = store.place(alloc, state) {
+        files.shut(log);
+        return Err(fault_of_place(fault));
+    }
+    let read = read_store(alloc, store, &mut log, end);
+    files.shut(log);
+    match read {
+        Ok(kept) => Ok(kept),
+        Err(refusal) => Err(Fault::Run(fault_of_refusal(refusal))),
+    }
+}
+
+/// Reports what the store in a directory keeps of the clicks of a log, and answers whether a line is of a missing click.
+///
+/// It reads the log whole, in pieces of 64 KiB, and keeps the clicks and the kept records in memory.
+pub fn verify_store<F: Source, S: Store, K: Sink>(
+    alloc: Global,
+    files: &mut F,
+    store: &mut S,
+    clicks: &str,
+    state: &str,
+    out: &mut K,
+) -> Result<bool, Fault>
+    ensures done { IsTrue F.Log.tells → IsTrue K.tells → IsTrue S.Disk.tells → IfOk result (λ missing. PrintsKept (F.bytes files.old) clicks.now (S.image store.old) missing (K.held out.old) (K.held out.new)) }
+    ensures prefix { IsTrue F.Log.tells → IsTrue K.tells → IsTrue S.Disk.tells → result ≡ Err fault.Write → PrintsKeptPrefix (F.bytes files.old) clicks.now (S.image store.old) (K.held out.old) (K.held out.new) }
+    ensures quiet { IsTrue K.tells → IfErr result (λ f. (f ≡ fault.Write) ⊎ (K.held out.new ≡ K.held out.old)) }
+    ensures refused { IsTrue F.Log.tells → (line : ℕ) (w : Reason) → result ≡ Err (fault.Refused Clicks line w) → IsSomeAnd (F.bytes files.old clicks.now) (λ log. RefusesClick log (record { line = line; why = w })) }
+    ensures valid { IsTrue F.Log.tells → ((cs : List Click) × IsSomeAnd (F.bytes files.old clicks.now) (λ log. IsClickLog log cs)) ⊎ IsErrAnd result (IsLogFault Clicks) }
+    ensures stays { IsTrue S.Disk.tells → (disk : DiskName) → StaysAs (S.image store.old disk) (S.image store.new disk) }
+    ensures sound { IsTrue S.Disk.tells → (g : Setting) → IsSoundStore g (S.image store.old) → IsSoundStore g (S.image store.new) }
+    ensures own { IfErr result IsOfVerify }
+    ensures read { Counts (F.faults files.old) (F.faults files.new) (IsErrAnd result IsFailedRead) }
+    ensures write { Counts (K.faults out.old) (K.faults out.new) (result ≡ Err fault.Write) }
+    ensures disks { Counts (S.faults store.old) (S.faults store.new) ((place : Place) × (result ≡ Err (fault.Run (cause.Store place)))) }
+{
+    let checked = match clicks_in_log(alloc, files, clicks) {
+        Ok(checked) => checked,
+        Err(fault) => return Err(fault),
+    };
+    let kept = match kept_store(alloc, files, store, clicks, state, checked.lines_end) {
+        Ok(kept) => kept,
+        Err(fault) => return Err(fault),
+    };
+    let Ok(lines) = kept_lines(alloc, &checked.records, &kept) else {
+        return Err(Fault::Memory);
+    };
+    match write_report(out, &lines) {
+        Ok(()) => Ok(has_missing(&lines)),
+        Err(_) => Err(Fault::Write),
+    }
+}

@@ -1,0 +1,6 @@
+mod Values
+mod Reasons
+mod Images
+mod Telling
+mod Welcome
+mod Blank
