@@ -17,7 +17,7 @@ import sys
 import tempfile
 
 TOP = os.path.dirname(os.path.dirname(os.path.abspath(__file__)))
-PROGRAM = os.path.join(TOP, "crates/photon/out/photon")
+PROGRAM = os.environ.get("PHOTON", os.path.join(TOP, "crates/photon/out/photon"))
 
 SHIM = r"""
 #define _GNU_SOURCE
@@ -83,20 +83,34 @@ def many_lines():
     return queries, clicks
 
 
-# Each case: its name, the query log, the click log, words behind the two logs, then what is wanted with all memory:
-# the status, the output (None: any), the errors (None: any).
+JOIN = ["join", "--queries", "queries", "--clicks", "clicks", "--state", "state"]
+DRILL = ["drill", "--queries", "queries", "--clicks", "clicks", "--plan", "plan"]
+VERIFY = ["verify", "--clicks", "clicks", "--state", "state"]
+
+# Packets come twice, and both outputs stop within their first record.
+PLAN = """{"rules":[{"from":"any","to":"any","first":0,"count":9,"fate":"twice","by":2}],
+"stops":[{"disk":"output","which":"all","call":3,"image":"noise"}]}
+"""
+
+
+# Each case: its name, the query log, the click log, the words, then what is wanted with all memory: the status, the
+# output (None: any), the errors (None: any).
 def cases():
     queries, clicks = many_lines()
     return [
-        ("both empty", "", "", [], 0, "= 0 0 0 0\n", ""),
-        ("one pair", QUERY, CLICK, [], 0, JOINED + "= 1 0 0 0\n", ""),
-        ("expired", QUERY, CLICK, ["--horizon", "2001"], 0, "X 10.0.0.2:9:2000\n= 0 0 1 0\n", ""),
-        ("many lines", queries, clicks, ["--horizon", "2003"], 0, None, ""),
-        ("a line twice", QUERY + QUERY, CLICK + CLICK, [], 0, JOINED + "= 1 0 0 0\n", ""),
-        ("a bad query", "10.0.0.01:7:1000 shoes\n", CLICK, [], 3, "", "photon: queries:1: Id\n"),
-        ("a conflict", QUERY, CLICK + CLICK.replace("buy", "sell"), [], 3, "", "photon: clicks:2: Conflict\n"),
-        ("a log that isn't there", None, CLICK, [], 4, "", "photon: read: queries\n"),
-        ("an unknown word", QUERY, CLICK, ["--joyners", "2"], 2, "", None),
+        ("both empty", "", "", JOIN, 0, "= 0 0 0 0\n", ""),
+        ("one pair", QUERY, CLICK, JOIN, 0, JOINED + "= 1 0 0 0\n", ""),
+        ("expired", QUERY, CLICK, JOIN + ["--horizon", "2001"], 0, "X 10.0.0.2:9:2000\n= 0 0 1 0\n", ""),
+        ("many lines", queries, clicks, JOIN + ["--horizon", "2003"], 0, None, ""),
+        ("a line twice", QUERY + QUERY, CLICK + CLICK, JOIN, 0, JOINED + "= 1 0 0 0\n", ""),
+        ("a bad query", "10.0.0.01:7:1000 shoes\n", CLICK, JOIN, 3, "", "photon: queries:1: Id\n"),
+        ("a conflict", QUERY, CLICK + CLICK.replace("buy", "sell"), JOIN, 3, "", "photon: clicks:2: Conflict\n"),
+        ("a log that isn't there", None, CLICK, JOIN, 4, "", "photon: read: queries\n"),
+        ("an unknown word", QUERY, CLICK, JOIN + ["--joyners", "2"], 2, "", None),
+        ("a drill with a stop", QUERY, CLICK, DRILL, 0, "M 10.0.0.2:9:2000\n= 0 1 0 0\n", ""),
+        ("a bad table of a drill", QUERY, CLICK, DRILL + ["--shards", "1:1"], 2, "", "photon: table: row 0\n"),
+        ("a verification of nothing", None, CLICK, VERIFY, 0, "U 10.0.0.2:9:2000\n= 0 0 0 1\n", ""),
+        ("made logs", None, None, ["bulk", "--seed", "1", "--clicks", "5"], 0, "= 4 0 1 0\n", ""),
     ]
 
 
@@ -113,8 +127,10 @@ def run(words, folder, failing):
 
 def try_program(folder):
     tried, faults = 0, []
-    for name, queries, clicks, more, status, output, errors in cases():
-        words = [PROGRAM, "join", "--queries", "queries", "--clicks", "clicks", "--state", "state"] + more
+    with open(os.path.join(folder, "plan"), "w", encoding="ascii") as plan:
+        plan.write(PLAN)
+    for name, queries, clicks, asked, status, output, errors in cases():
+        words = [PROGRAM] + asked
         for file, text in (("queries", queries), ("clicks", clicks)):
             path = os.path.join(folder, file)
             if os.path.exists(path):
