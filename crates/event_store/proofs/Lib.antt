@@ -1,1 +1,14 @@
 pub mod Refused
+pub mod Orders
+pub mod Marking
+pub mod Ranges
+pub mod Changes
+pub mod Segments
+pub mod Walks
+pub mod Looking
+pub mod Firsts
+pub mod Recents
+pub mod Taking
+pub mod Holding
+pub mod Keeping
+pub mod Counting

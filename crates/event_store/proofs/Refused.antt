@@ -1,12 +1,11 @@
 -- Lines that are no record's.
-use Rattle.std.proofs.Common.{◌≡◌, ◌≢◌, ◌⊎◌, ℕ, ◌+◌, ◌<◌, ◌≤◌, List, ◌∷◌, ◌++◌, length, ap, refl, sym, ◌∙◌, arith}
-use Rattle.std.specs.Prelude.{Option, Some, None}
+use Rattle.std.proofs.Common.{◌≡◌, ℕ, ◌+◌, ◌<◌, List, ◌∷◌, ◌++◌, length, ap, arith}
+use Rattle.std.specs.Prelude.{None}
 use Rattle.std.proofs.lemmas.List.{length-append}
 use Rattle.byte_split.specs.Bytes.{Lacks}
 use Rattle.event_id.specs.EventId.{spell}
 use Rattle.event_id.proofs.Spelling.{length-spell-le}
-use Rattle.log_records.specs.declared.records.QueryRec.{QueryRec}
-use Rattle.log_records.specs.Line.{space, query_line, IsQuery}
+use Rattle.log_records.specs.Line.{space}
 use Rattle.tail_reader.specs.Buffered.{line_feed, behind}
 use Rattle.event_store.specs.Read.{ReadsAs, ReadsNext}
 

@@ -1,2 +1,5 @@
 pub mod Read
 pub mod Found
+pub mod Order
+pub mod Marks
+pub mod Held

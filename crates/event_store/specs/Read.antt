@@ -1,5 +1,5 @@
--- The next line of a query log.
-use Rattle.std.specs.Prelude.{ℕ, ◌≡◌, ◌≢◌, ◌+◌, List, ◌∷◌, ◌++◌, length, Option, Some, None}
+-- The lines of a query log.
+use Rattle.std.specs.Prelude.{ℕ, ◌≡◌, ◌≢◌, ◌+◌, List, [], ◌∷◌, ◌++◌, length, Option, Some, None}
 use Rattle.byte_split.specs.Bytes.{Lacks}
 use Rattle.log_records.specs.declared.records.QueryRec.{QueryRec}
 use Rattle.log_records.specs.Line.{query_line, IsQuery}
@@ -17,3 +17,12 @@ ReadsNext log place end_ read = (line rest : List ℕ) × (behind log place ≡ 
 -- no line feed follows
 abbrev pub IsAtEnd : List ℕ → ℕ → Type 0
 IsAtEnd log place = Lacks line_feed (behind log place)
+
+-- the lines from a place of the log up to another were read as these
+abbrev pub ReadsLines : List ℕ → ℕ → ℕ → List (Option QueryRec) → Type 0
+ReadsLines log place end_ [] = end_ ≡ place
+ReadsLines log place end_ (read ∷ lines) = (next : ℕ) × ReadsNext log place next read × ReadsLines log next end_ lines
+
+-- these are all lines that end at or before the place
+abbrev pub AreRead : List ℕ → ℕ → List (Option QueryRec) → Type 0
+AreRead log place lines = ReadsLines log 0 place lines

@@ -1,8 +1,13 @@
 //! The queries of a log that were read so far, by id.
 #![tactic(auto)]
 
-mod find;
+mod index;
+mod puts;
 mod read;
+mod recent;
+mod scan;
+mod search;
 mod store;
+mod take;
 
 pub use store::{EventStore, LookFault, Lookup, Step};

@@ -1,5 +1,6 @@
 // The next line of the log.
 ghost use Rattle.std.specs.Prelude.{◌≡◌, ◌≢◌, IfOk, IfErr, IfSome, IfNone, OnErr, IsErrOf, IsTrue};
+ghost use Rattle.log_records.specs.Line.{IsQuery};
 ghost use Rattle.outside.specs.Faults.{Counts};
 ghost use Rattle.event_store.specs.declared.store.LookFault.TheVariants as fault;
 ghost use Rattle.event_store.specs.Read.{ReadsAs, ReadsNext, IsAtEnd};
@@ -17,6 +18,7 @@ pub fn next_record<L: LogFile>(
 ) -> Result<Option<Option<QueryRec>>, LookFault>
     ensures line { IsTrue L.tells → IfOk result (λ line. IfSome line (λ read. ReadsNext (L.bytes tail.old.log) tail.old.place tail.new.place read)) }
     ensures end { IsTrue L.tells → IfOk result (λ line. IfNone line (IsAtEnd (L.bytes tail.old.log) tail.old.place)) }
+    ensures spelled { IfOk result (λ line. IfSome line (λ read. IfSome read IsQuery)) }
     ensures end_stays { IfOk result (λ line. IfNone line (tail.new.place ≡ tail.old.place)) }
     ensures err { OnErr result (tail.new.place ≡ tail.old.place) }
     ensures same { IsTrue L.tells → L.bytes tail.new.log ≡ L.bytes tail.old.log }

@@ -1,11 +1,18 @@
-// The store, which keeps each record that it has read.
+// The store, which keeps a sparse index of the lines that it has read, and a few records.
+ghost use Rattle.std.specs.Prelude.{◌<◌, ◌^◌, IsTrue};
+ghost use Rattle.event_store.specs.Held.{Holds};
 
-use crate::find::first_with;
+use crate::index::Index;
 use crate::read::next_record;
+use crate::recent::{Recent, recall};
+use crate::search::look;
+use crate::take::take_in;
 use event_id::EventId;
 use log_records::QueryRec;
+use lru::LruCache;
 use outside::LogFile;
 use std::alloc::{AllocError, Global};
+use std::num::NonZeroUsize;
 use tail_reader::Tail;
 
 /// What `advance` came to.
@@ -36,38 +43,53 @@ pub enum LookFault {
 }
 
 /// The queries of a log that were read so far. A refused line counts as one without an id.
+///
+/// An id is of a process, by its address and process id. A line is in order where its micros are above those of each
+/// earlier line of its process. Of each process every 16th in-order line is indexed, by its id and its place; of each id
+/// that other lines have, the first of them. So an in-order log takes a few bytes a line, and no record but those of the
+/// cache.
 #[derive(Drop)]
 pub struct EventStore<L: LogFile> {
     tail: Tail<L>,
-    lines: Vec<Option<QueryRec>>,
+    read: u64,
+    index: Index,
+    recent: Recent,
     alloc: Global,
-    cache: u32,
+    ghost small: { read < 2 ^ 64 },
+    ghost held: { ∥ (IsTrue L.tells → Holds (L.bytes tail.log) tail.place read index recent.entries) ∥₁ },
 }
 
 impl<L: LogFile> EventStore<L> {
     ghost use Rattle.log_records.specs.declared.records.QueryRec.{QueryRec as Query};
-    ghost use Rattle.std.specs.Prelude.{◌≡◌, ◌≤◌, Option, ◌++◌, [], ◌∷◌, IfOk, IfErr, OnErr, IsErr, IsErrOf, IsTrue, Ok};
+    ghost use Rattle.std.specs.Prelude.{◌≡◌, ◌≤◌, Option, List, IfOk, IfErr, OnErr, IsErr, IsErrOf, Ok};
     ghost use Rattle.outside.specs.Faults.{Counts};
     ghost use Rattle.event_store.specs.declared.store.Step.TheVariants as step;
     ghost use Rattle.event_store.specs.declared.store.LookFault.TheVariants as fault;
-    ghost use Rattle.event_store.specs.Read.{ReadsNext, IsAtEnd};
+    ghost use Rattle.event_store.specs.Read.{ReadsNext, AreRead, IsAtEnd};
     ghost use Rattle.event_store.specs.Found.{IsLookup, IsSpelled};
+    ghost use Rattle.event_store.specs.Order.{entries_of};
 
-    /// A store of the log's queries, of which nothing is read yet. `cache` is how many records are to be kept at
-    /// hand; it is kept, and changes nothing yet.
+    /// A store of the log's queries, of which nothing is read yet. `cache` is how many records are kept at hand at most;
+    /// their memory is taken as they come.
     pub fn new(alloc: Global, log: L, cache: u32) -> Result<EventStore<L>, (AllocError, L)>
         requires { 1 ≤ cache }
         ensures log { IfOk result (λ store. store.tail.log ≡ log) }
         ensures place { IfOk result (λ store. store.tail.place ≡ 0) }
-        ensures none { IfOk result (λ store. store.lines.items ≡ []) }
         ensures err { IfErr result (λ e. e.1 ≡ log) }
     {
-        Ok(EventStore {
-            tail: Tail::new(log, 0),
-            lines: Vec::new(alloc),
-            alloc,
-            cache,
-        })
+        let Some(most) = NonZeroUsize::new(cache as usize) else {
+            return Err((AllocError, log));
+        };
+        match LruCache::sparse(alloc, most) {
+            Ok(recent) => Ok(EventStore {
+                tail: Tail::new(log, 0),
+                read: 0,
+                index: Index::new(alloc),
+                recent,
+                alloc,
+            }),
+            Err(fault) => Err((fault, log)),
+        }
     }
 
     /// Gives the log back.
@@ -76,43 +98,70 @@ impl<L: LogFile> EventStore<L> {
     {
         let EventStore {
             tail,
-            lines: _,
+            read: _,
+            index: _,
+            recent: _,
             alloc: _,
-            cache: _,
         } = self;
         tail.into_log()
     }
 
-    /// Reads the next line, and keeps its record.
+    /// How many entries the index has: of each process one for every 16 in-order lines, and one for each id of the other
+    /// lines.
+    pub fn entries(&self) -> u64
+        ensures entries { IsTrue L.tells → (lines : List (Option Query)) → AreRead (L.bytes self.now.tail.log) self.now.tail.place lines → result ≡ entries_of lines }
+    {
+        self.index.len()
+    }
+
+    /// Reads the next line. A block of 4 KiB is read at a time. Logarithmic expected time beside that, and memory for an
+    /// entry at every 16th in-order line of a process and at each line that is out of order.
+    ///
+    /// A record that is in order is kept at hand, so a look-up of its id that follows reads nothing.
     pub fn advance(&mut self) -> Result<Step, LookFault>
-        ensures line { IsTrue L.tells → result ≡ Ok step.Line → (read : Option Query) × (self.new.lines.items ≡ self.old.lines.items ++ read ∷ []) × ReadsNext (L.bytes self.old.tail.log) self.old.tail.place self.new.tail.place read }
+        ensures line { IsTrue L.tells → result ≡ Ok step.Line → (read : Option Query) × ReadsNext (L.bytes self.old.tail.log) self.old.tail.place self.new.tail.place read }
         ensures end { IsTrue L.tells → result ≡ Ok step.End → IsAtEnd (L.bytes self.old.tail.log) self.old.tail.place }
-        ensures end_stays { result ≡ Ok step.End → (self.new.lines.items ≡ self.old.lines.items) × (self.new.tail.place ≡ self.old.tail.place) }
-        ensures err { OnErr result ((self.new.lines.items ≡ self.old.lines.items) × (self.new.tail.place ≡ self.old.tail.place)) }
+        ensures end_stays { result ≡ Ok step.End → self.new.tail.place ≡ self.old.tail.place }
+        ensures err { OnErr result (self.new.tail.place ≡ self.old.tail.place) }
         ensures same { IsTrue L.tells → L.bytes self.new.tail.log ≡ L.bytes self.old.tail.log }
         ensures count { Counts (L.faults self.old.tail.log) (L.faults self.new.tail.log) (IsErrOf result fault.Read) }
     {
         let place = self.tail.place();
         let line = next_record(self.alloc, &mut self.tail)?;
-        match line {
-            None => Ok(Step::End),
-            Some(read) => {
-                if self.lines.push(read).is_err() {
-                    self.tail.seek(place);
-                    return Err(LookFault::Memory);
-                }
-                Ok(Step::Line)
-            }
+        let read = match line {
+            Some(read) => read,
+            None => return Ok(Step::End),
+        };
+        if take_in(&mut self.index, &mut self.recent, place, read).is_err() {
+            self.tail.seek(place);
+            return Err(LookFault::Memory);
         }
+        self.read = self.read.saturating_add(1);
+        Ok(Step::Line)
     }
 
-    /// The first record with the id among the lines read. Looks at each of them, in time linear in their number.
+    /// The first record with the id among the lines read.
+    ///
+    /// Constant expected time, and nothing is read, where the id's micros are above those of all lines of its process, or
+    /// its process has none, or the record is at hand. Else it reads again the lines between two entries of the process,
+    /// found in logarithmic time, and perhaps one line more.
     pub fn lookup(&mut self, id: EventId) -> Result<Lookup, LookFault>
-        ensures found { IfOk result (IsLookup self.old.lines.items id) }
+        ensures found { IsTrue L.tells → (lines : List (Option Query)) → AreRead (L.bytes self.old.tail.log) self.old.tail.place lines → IfOk result (IsLookup lines id) }
         ensures spelled { IfOk result IsSpelled }
-        ensures memory { IfErr result (λ e. e ≡ fault.Memory) }
-        ensures stays { self.new ≡ self.old }
+        ensures place { self.new.tail.place ≡ self.old.tail.place }
+        ensures same { IsTrue L.tells → L.bytes self.new.tail.log ≡ L.bytes self.old.tail.log }
+        ensures count { Counts (L.faults self.old.tail.log) (L.faults self.new.tail.log) (IsErrOf result fault.Read) }
     {
-        first_with(self.alloc, &self.lines, id)
+        let read = self.read;
+        if self.index.is_next(id) {
+            return Ok(Lookup::NotYet { read });
+        }
+        if let Some(query) = recall(self.alloc, &mut self.recent, id)? {
+            return Ok(Lookup::Found(query));
+        }
+        match look(self.alloc, &mut self.tail, &self.index, id)? {
+            Some(query) => Ok(Lookup::Found(query)),
+            None => Ok(Lookup::NotYet { read }),
+        }
     }
 }

@@ -16,10 +16,10 @@ use Rattle.log_records.proofs.Grammar.{query_same}
 use Rattle.log_records.proofs.Reading.{one_more, query_lacks}
 use Rattle.tail_reader.specs.Buffered.{line_feed, limit, behind}
 use Rattle.event_store.specs.Found.{records, found}
-use Rattle.event_store.specs.Read.{ReadsAs, ReadsNext, IsAtEnd}
+use Rattle.event_store.specs.Read.{ReadsAs, ReadsNext, ReadsLines, AreRead, IsAtEnd}
 use Rattle.joiner_node.specs.Read.{HasRead}
 
-abbrev given : List Query → List (Option Query)
+abbrev pub given : List Query → List (Option Query)
 given qs = map (λ q. Some q) qs
 
 records_given : (qs : List Query) → records (given qs) ≡ qs
@@ -30,16 +30,16 @@ len_given : (qs : List Query) → length (given qs) ≡ length qs
 len_given [] = refl
 len_given (q ∷ qs) = let e = len_given qs in omega (arith, len_given qs)
 
-found_is : (log : List ℕ) (place : ℕ) (lines : List (Option Query)) (qs : List Query) (id : EventId) (has : HasRead log place lines qs) → found lines id ≡ first has.read id
-found_is log place lines qs id has = ap (λ (ls : List (Option Query)). found ls id) has.so_far ∙ ap (λ (rs : List Query). first rs id) (records_given has.read)
+found_is : (log : List ℕ) (place : ℕ) (qs : List Query) (id : EventId) (has : HasRead log place qs) → found (given has.read) id ≡ first has.read id
+found_is log place qs id has = ap (λ (rs : List Query). first rs id) (records_given has.read)
 
-first_is : (log : List ℕ) (place : ℕ) (lines : List (Option Query)) (qs : List Query) (id : EventId) (has : HasRead log place lines qs) → first qs id ≡ option_or (found lines id) (first has.others id)
-first_is log place lines qs id has =
+first_is : (log : List ℕ) (place : ℕ) (qs : List Query) (id : EventId) (has : HasRead log place qs) → first qs id ≡ option_or (found (given has.read) id) (first has.others id)
+first_is log place qs id has =
     ap (λ (rs : List Query). first rs id) has.all ∙ find-append (λ (q : Query). is_same id q.id) has.read has.others
-    ∙ ap (λ (o : Option Query). option_or o (first has.others id)) (sym (found_is log place lines qs id has))
+    ∙ ap (λ (o : Option Query). option_or o (first has.others id)) (sym (found_is log place qs id has))
 
 -- nothing is read of a log of these queries
-starts : (log : List ℕ) (qs : List Query) → IsQueryLog log qs → HasRead log 0 [] qs
+starts : (log : List ℕ) (qs : List Query) → IsQueryLog log qs → HasRead log 0 qs
 starts log qs is = record {
   read = [];
   others = qs;
@@ -49,13 +49,16 @@ starts log qs is = record {
   behind_them = subst (λ (b : List ℕ). HasLines b (map query_line qs)) (sym (take_all limit log is.1)) is.0.lines;
 }
 
-pub starts_at : (log log' : List ℕ) (place : ℕ) (lines : List (Option Query)) (qs : List Query) → log' ≡ log → place ≡ 0 → lines ≡ [] → IsQueryLog log qs → HasRead log' place lines qs
-starts_at log log' place lines qs same at none is =
-    subst (λ (x : List ℕ). HasRead x place lines qs) (sym same) (subst (λ (n : ℕ). HasRead log n lines qs) (sym at) (subst (λ (ls : List (Option Query)). HasRead log 0 ls qs) (sym none) (starts log qs is)))
+-- a log of the same bytes, read up to the same place
+pub keeps : (log log' : List ℕ) (place place' : ℕ) (qs : List Query) → log' ≡ log → place' ≡ place → HasRead log place qs → HasRead log' place' qs
+keeps log log' place place' qs same at has = subst (λ (x : List ℕ). HasRead x place' qs) (sym same) (subst (λ (n : ℕ). HasRead log n qs) (sym at) has)
+
+pub starts_at : (log log' : List ℕ) (place : ℕ) (qs : List Query) → log' ≡ log → place ≡ 0 → IsQueryLog log qs → HasRead log' place qs
+starts_at log log' place qs same at is = keeps log log' 0 place qs same at (starts log qs is)
 
 -- what is found among the lines read is the first of all
-pub finds : (log : List ℕ) (place : ℕ) (lines : List (Option Query)) (qs : List Query) (id : EventId) (q : Query) → HasRead log place lines qs → found lines id ≡ Some q → first qs id ≡ Some q
-finds log place lines qs id q has is = first_is log place lines qs id has ∙ ap (λ (o : Option Query). option_or o (first has.others id)) is
+pub finds : (log : List ℕ) (place : ℕ) (qs : List Query) (id : EventId) (q : Query) (has : HasRead log place qs) → found (given has.read) id ≡ Some q → first qs id ≡ Some q
+finds log place qs id q has is = first_is log place qs id has ∙ ap (λ (o : Option Query). option_or o (first has.others id)) is
 
 no_more : (at : List ℕ) (others : List Query) → HasLines at (map query_line others) → Lacks line_feed at → others ≡ []
 no_more at [] has lacks = refl
@@ -63,13 +66,13 @@ no_more at (q ∷ qs) has lacks =
     absurd (lacks_none line_feed (query_line q) (whole (map query_line qs) ++ has.0) (subst (Lacks line_feed) (has.1 ∙ one_more (query_line q) (map query_line qs) has.0) lacks))
 
 -- at the log's end the lines read are all
-pub ends : (log : List ℕ) (place : ℕ) (lines : List (Option Query)) (qs : List Query) (id : EventId) (n : ℕ) → HasRead log place lines qs → IsAtEnd log place → found lines id ≡ None → n ≡ length lines → (first qs id ≡ None) × (length qs ≡ n)
-ends log place lines qs id n has at_end none counts =
+pub ends : (log : List ℕ) (place : ℕ) (qs : List Query) (id : EventId) (n : ℕ) (has : HasRead log place qs) → IsAtEnd log place → found (given has.read) id ≡ None → n ≡ length (given has.read) → (first qs id ≡ None) × (length qs ≡ n)
+ends log place qs id n has at_end none counts =
     let empty : has.others ≡ [] = no_more (behind log place) has.others has.behind_them at_end in (
-      first_is log place lines qs id has ∙ ap (λ (o : Option Query). option_or o (first has.others id)) none ∙ ap (λ (rs : List Query). first rs id) empty,
+      first_is log place qs id has ∙ ap (λ (o : Option Query). option_or o (first has.others id)) none ∙ ap (λ (rs : List Query). first rs id) empty,
       let whole_is : length qs ≡ length has.read + length has.others = ap length has.all ∙ length-append has.read has.others in
           let none_left : length has.others ≡ 0 = ap length empty in
-          let lens : length lines ≡ length has.read = ap length has.so_far ∙ len_given has.read in
+          let lens : length (given has.read) ≡ length has.read = len_given has.read in
           omega (arith, counts, whole_is, none_left, lens),
     )
 
@@ -83,22 +86,28 @@ behind_more log line rest place end_ is counts =
     let front : length (line ++ line_feed ∷ []) ≡ length line + 1 = length-append line (line_feed ∷ []) in
     ap (λ (n : ℕ). drop n (take limit log)) at ∙ sym (drop-drop (length line + 1) place (take limit log)) ∙ ap (drop (length line + 1)) (is ∙ sym (append_assoc line (line_feed ∷ []) rest)) ∙ drop_at (line ++ line_feed ∷ []) rest (length line + 1) front
 
-more_by : (log : List ℕ) (place end_ : ℕ) (lines now : List (Option Query)) (qs read others : List Query) (r : Option Query) → qs ≡ read ++ others → lines ≡ given read → AllByRecursion IsQuery others → HasLines (behind log place) (map query_line others)
-    → ReadsNext log place end_ r → now ≡ lines ++ r ∷ [] → HasRead log end_ now qs
-more_by log place end_ lines now qs read [] r all so_far each has (line, rest, is, lacks, counts, reads) now_is =
+-- one line more behind those read
+reads_more : (log : List ℕ) (from place end_ : ℕ) (lines : List (Option Query)) (r : Option Query) → ReadsLines log from place lines → ReadsNext log place end_ r → ReadsLines log from end_ (lines ++ r ∷ [])
+reads_more log from place end_ [] r at next = (end_, subst (λ (n : ℕ). ReadsNext log n end_ r) at next, refl)
+reads_more log from place end_ (line ∷ lines) r (mid, first_, others) next = (mid, first_, reads_more log mid place end_ lines r others next)
+
+more_by : (log : List ℕ) (place end_ : ℕ) (qs read others : List Query) (r : Option Query) → qs ≡ read ++ others → AreRead log place (given read) → AllByRecursion IsQuery others → HasLines (behind log place) (map query_line others)
+    → ReadsNext log place end_ r → HasRead log end_ qs
+more_by log place end_ qs read [] r all so_far each has (line, rest, is, lacks, counts, reads) =
     absurd (lacks_none line_feed line rest (subst (Lacks line_feed) (sym has.1 ∙ is) has.2))
-more_by log place end_ lines now qs read (q ∷ others) r all so_far each has (line, rest, is, lacks, counts, reads) now_is =
+more_by log place end_ qs read (q ∷ others) r all so_far each has (line, rest, is, lacks, counts, reads) =
     let parts = split_same line_feed line rest (query_line q) (whole (map query_line others) ++ has.0) lacks (query_lacks q each.0) (sym is ∙ has.1 ∙ one_more (query_line q) (map query_line others) has.0) in
     record {
       read = read ++ q ∷ [];
       others = others;
       all = all ∙ sym (append_assoc read (q ∷ []) others);
       so_far =
-          now_is ∙ ap (λ (o : Option Query). lines ++ o ∷ []) (read_is line q r each.0 parts.0 reads) ∙ ap (λ (ls : List (Option Query)). ls ++ Some q ∷ []) so_far ∙ sym (map-append (λ (x : Query). Some x) read (q ∷ []));
+          subst (AreRead log end_) (sym (map-append (λ (x : Query). Some x) read (q ∷ [])))
+            (subst (λ (o : Option Query). AreRead log end_ (given read ++ o ∷ [])) (read_is line q r each.0 parts.0 reads) (reads_more log 0 place end_ (given read) r so_far (line, rest, is, lacks, counts, reads)));
       each = each.1;
       behind_them = (has.0, behind_more log line rest place end_ is counts ∙ parts.1, has.2);
     }
 
 -- one line more is the next query
-pub more : (log : List ℕ) (place end_ : ℕ) (lines now : List (Option Query)) (qs : List Query) (r : Option Query) → HasRead log place lines qs → ReadsNext log place end_ r → now ≡ lines ++ r ∷ [] → HasRead log end_ now qs
-more log place end_ lines now qs r has next now_is = more_by log place end_ lines now qs has.read has.others r has.all has.so_far has.each has.behind_them next now_is
+pub more : (log : List ℕ) (place end_ : ℕ) (qs : List Query) (r : Option Query) → HasRead log place qs → ReadsNext log place end_ r → HasRead log end_ qs
+more log place end_ qs r has next = more_by log place end_ qs has.read has.others r has.all has.so_far has.each has.behind_them next

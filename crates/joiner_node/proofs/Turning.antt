@@ -71,7 +71,7 @@ quiet None p epoch_image pairs_image s none by = by
 quiet (Some d) p epoch_image pairs_image s none by = absurd (cc none)
 
 -- it stands at each state of this number and setting, these records and this knowledge
-pub stands_none : (p : Parts) (epoch_image pairs_image : List ℕ → Type 0) (s : JoinerState) → p.in_doubt ≡ None → IsOf p.roster s.node.setting → s.number ≡ p.number → Serves p.core s.node.setting s.number → HasRead p.log p.place p.lines s.node.setting.queries
+pub stands_none : (p : Parts) (epoch_image pairs_image : List ℕ → Type 0) (s : JoinerState) → p.in_doubt ≡ None → IsOf p.roster s.node.setting → s.number ≡ p.number → Serves p.core s.node.setting s.number → HasRead p.log p.place s.node.setting.queries
     → Holds p.epoch p.written epoch_image pairs_image s.node.kept → Knows p.up p.core s.node.setting s.number s.node.kept s.node.live → StandsAt p epoch_image pairs_image s
 stands_none p epoch_image pairs_image s none of_g number serves reads holds knows = record {
   setting = of_g;
@@ -104,7 +104,7 @@ idles p epoch_image pairs_image s t n b ps sent none at led junk empty le =
 -- a turn that is done
 pub ends : (p : Parts) (epoch_image pairs_image : List ℕ → Type 0) (core : JoinerCore) (s t : JoinerState) (n : ℕ) (b : Bytes) (i : Input) (ready : ReadyTurn) (said : Option (List ℕ)) (ps : List (ℕ × List ℕ)) (sent : ℕ)
     → LeadsTo s (Begin n b) t → Reads s.node.setting b i → (row : IsRow core s.node.setting s.number s.node.kept (row_at s i) ready) → said ≡ option_map bytes_of row.note → ps ≡ ready.packets → sent ≤ length ps
-    → p.in_doubt ≡ None → IsOf p.roster s.node.setting → s.number ≡ p.number → HasRead p.log p.place p.lines s.node.setting.queries
+    → p.in_doubt ≡ None → IsOf p.roster s.node.setting → s.number ≡ p.number → HasRead p.log p.place s.node.setting.queries
     → Holds p.epoch p.written epoch_image pairs_image (with_note row.note s.node.kept) → Knows p.up p.core s.node.setting s.number (with_note row.note s.node.kept) (Some (row_at s i).live) → Serves p.core s.node.setting s.number
     → (u : JoinerState) × LeadsTo t (End n said ps sent) u × StandsAt p epoch_image pairs_image u
 ends p epoch_image pairs_image core s t n b i ready said ps sent led reads row said_is ps_is le none of_g number read holds knows serves =
@@ -143,7 +143,7 @@ ends p epoch_image pairs_image core s t n b i ready said ps sent led reads row s
 
 -- a turn that couldn't be decided is open still
 pub waits_open : (p : Parts) (epoch_image pairs_image : List ℕ → Type 0) (s t : JoinerState) (n : ℕ) (b : Bytes) → LeadsTo s (Begin n b) t → p.in_doubt ≡ None → IsOf p.roster s.node.setting → s.number ≡ p.number → Serves p.core s.node.setting s.number
-    → HasRead p.log p.place p.lines s.node.setting.queries → Holds p.epoch p.written epoch_image pairs_image s.node.kept → Knows p.up p.core s.node.setting s.number s.node.kept s.node.live → StandsAt p epoch_image pairs_image t
+    → HasRead p.log p.place s.node.setting.queries → Holds p.epoch p.written epoch_image pairs_image s.node.kept → Knows p.up p.core s.node.setting s.number s.node.kept s.node.live → StandsAt p epoch_image pairs_image t
 waits_open p epoch_image pairs_image s t n b led none of_g number serves reads holds knows =
     subst (λ (x : JoinerState). StandsAt p epoch_image pairs_image x) (led_to s t n b led) (stands_none p epoch_image pairs_image (record { number = s.number; node = opens s.node b }) none of_g number serves reads holds knows)
 
@@ -155,7 +155,7 @@ by_doubt (Some d) (Some x) p epoch_image pairs_image s b i reads noted are image
 
 -- a turn that was stopped is open still, and its note may have landed
 pub stays_open : (p : Parts) (epoch_image pairs_image : List ℕ → Type 0) (s t : JoinerState) (n : ℕ) (b : Bytes) (i : Input) (o : Option JoinerNote) → LeadsTo s (Begin n b) t → Reads s.node.setting b i → option_map note_of o ≡ (row_at s i).note
-    → IsOf p.roster s.node.setting → s.number ≡ p.number → Serves p.core s.node.setting s.number → HasRead p.log p.place p.lines s.node.setting.queries → AreInDoubt p.in_doubt o s.node.kept → MayHave s.node.kept (with_note o s.node.kept) epoch_image pairs_image
+    → IsOf p.roster s.node.setting → s.number ≡ p.number → Serves p.core s.node.setting s.number → HasRead p.log p.place s.node.setting.queries → AreInDoubt p.in_doubt o s.node.kept → MayHave s.node.kept (with_note o s.node.kept) epoch_image pairs_image
     → StandsAt p epoch_image pairs_image t
 stays_open p epoch_image pairs_image s t n b i o led reads noted of_g number serves read are images =
     subst (λ (x : JoinerState). StandsAt p epoch_image pairs_image x) (led_to s t n b led)
@@ -298,7 +298,7 @@ if_err (Err e) f P is p = subst P (sym is) p
 -- the joiner is down over what was found
 pub restarts : (d : Option Doubt) (p : Parts) (old_epoch old_pairs : List ℕ → Type 0) (q : Parts) (epoch_image pairs_image : List ℕ → Type 0) (s : JoinerState) (n : ℕ) (landed : Option (List ℕ)) → StandsBy d p old_epoch old_pairs s → is_some d ≡ true
     → ((note : JoinerNote) → AreInDoubt d (Some note) s.node.kept → MayHave s.node.kept (with_note (Some note) s.node.kept) old_epoch old_pairs → IsFound landed note s.node.kept q.epoch q.written epoch_image pairs_image)
-    → q.in_doubt ≡ None → q.up ≡ false → IsOf q.roster s.node.setting → s.number ≡ q.number → Serves q.core s.node.setting s.number → HasRead q.log q.place q.lines s.node.setting.queries
+    → q.in_doubt ≡ None → q.up ≡ false → IsOf q.roster s.node.setting → s.number ≡ q.number → Serves q.core s.node.setting s.number → HasRead q.log q.place s.node.setting.queries
     → (t : JoinerState) × LeadsTo s (Stop n landed) t × StandsAt q epoch_image pairs_image t
 restarts None p oe op q ei pi s n landed by waits found none down of_g number serves reads = absurd (cc waits)
 restarts (Some d) p oe op q ei pi s n landed by waits found none down of_g number serves reads =

@@ -1,6 +1,5 @@
 -- A joiner over its disks, beside the states that its entries lead through.
 use Rattle.std.specs.Prelude.{◌≡◌, ℕ, ◌==◌, List, Bool, if◌then◌else◌, Option, Some, None, option_map}
-use Rattle.log_records.specs.declared.records.QueryRec.{QueryRec as Query}
 use Rattle.output_log.specs.declared.pair.PairRec.{PairRec}
 use Rattle.air_bus.specs.declared.entry.Entry.{Entry}
 use Rattle.air_bus.specs.declared.entry.Input.{Input as Bytes}
@@ -72,7 +71,6 @@ pub record Parts : Type 0 where
   pub up : Bool
   pub log : List ℕ
   pub place : ℕ
-  pub lines : List (Option Query)
   pub in_doubt : Option Doubt
   pub epoch : ℕ
   pub written : List PairRec
@@ -87,7 +85,7 @@ pub record StandsAt (p : Parts) (epoch_image pairs_image : List ℕ → Type 0) 
   pub setting : IsOf p.roster s.node.setting
   pub number_is : s.number ≡ p.number
   pub serves : Serves p.core s.node.setting s.number
-  pub reads : HasRead p.log p.place p.lines s.node.setting.queries
+  pub reads : HasRead p.log p.place s.node.setting.queries
   pub by : StandsBy p.in_doubt p epoch_image pairs_image s
 
 -- the state of a joiner that is down

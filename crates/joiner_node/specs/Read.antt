@@ -6,15 +6,16 @@ use Rattle.log_records.specs.declared.records.QueryRec.{QueryRec as Query}
 use Rattle.log_records.specs.Line.{query_line, IsQuery}
 use Rattle.log_records.specs.Log.{first, HasLines}
 use Rattle.tail_reader.specs.Buffered.{behind}
+use Rattle.event_store.specs.Read.{AreRead}
 use Rattle.joiner_core.specs.declared.input.Looked.{Looked}
 use Rattle.joiner_core.specs.declared.input.Looked.TheVariants.{Found, Lines}
 
--- The lines read are the log's first queries, and from the place on it has the others.
-pub record HasRead (log : List ℕ) (place : ℕ) (lines : List (Option Query)) (qs : List Query) : Type 0 where
+-- The lines up to the place are the log's first queries, and from there on it has the others.
+pub record HasRead (log : List ℕ) (place : ℕ) (qs : List Query) : Type 0 where
   pub read : List Query
   pub others : List Query
   pub all : qs ≡ read ++ others
-  pub so_far : lines ≡ map (λ q. Some q) read
+  pub so_far : AreRead log place (map (λ q. Some q) read)
   pub each : AllByRecursion IsQuery others
   pub behind_them : HasLines (behind log place) (map query_line others)
 

@@ -49,7 +49,7 @@ impl<L: LogFile> Joining<L> {
         ensures down { IfOk result (λ joining. joining.up ≡ false) }
         ensures serves { IfOk result (λ joining. (g : Setting) → site ≡ site_of_joiner g number → Serves joining.core g number) }
         ensures log { IfOk result (λ joining. joining.queries.store.tail.log ≡ log) }
-        ensures reads { IfOk result (λ joining. (qs : List Query) → IsQueryLog (L.bytes log) qs → HasRead (L.bytes joining.queries.store.tail.log) joining.queries.store.tail.place joining.queries.store.lines.items qs) }
+        ensures reads { IfOk result (λ joining. (qs : List Query) → IsQueryLog (L.bytes log) qs → HasRead (L.bytes joining.queries.store.tail.log) joining.queries.store.tail.place qs) }
         ensures err { IfErr result (λ e. e.1 ≡ log) }
     {
         match Queries::new(alloc, log) {
@@ -81,9 +81,9 @@ impl<L: LogFile> Joining<L> {
         requires input { IsInput input }
         ensures up { self.new.up ≡ self.old.up }
         ensures same { IsSame self.old.core self.new.core }
-        ensures reads { IsTrue L.tells → (qs : List Query) → HasRead (L.bytes self.old.queries.store.tail.log) self.old.queries.store.tail.place self.old.queries.store.lines.items qs → HasRead (L.bytes self.new.queries.store.tail.log) self.new.queries.store.tail.place self.new.queries.store.lines.items qs }
+        ensures reads { IsTrue L.tells → (qs : List Query) → HasRead (L.bytes self.old.queries.store.tail.log) self.old.queries.store.tail.place qs → HasRead (L.bytes self.new.queries.store.tail.log) self.new.queries.store.tail.place qs }
         ensures turn { IsTrue L.tells → IfOk result (λ turn. (g : Setting) (n : ℕ) (k : JoinerKept) (live : Option JoinerLive) →
-            HasRead (L.bytes self.old.queries.store.tail.log) self.old.queries.store.tail.place self.old.queries.store.lines.items g.queries →
+            HasRead (L.bytes self.old.queries.store.tail.log) self.old.queries.store.tail.place g.queries →
             Serves self.old.core g n → Knows self.old.up self.old.core g n k live → epoch ≡ k.epoch → MayGet live input →
             Answers self.new.core g n k (joiner_row g n k live input) turn) }
         ensures fits { IfOk result (λ turn. Fits self.new.core turn) }
@@ -127,11 +127,11 @@ impl<L: LogFile> Joining<L> {
         requires input { IsInput input }
         ensures up { self.new.up ≡ self.old.up }
         ensures same { self.new.core ≡ self.old.core }
-        ensures reads { IsTrue L.tells → (qs : List Query) → HasRead (L.bytes self.old.queries.store.tail.log) self.old.queries.store.tail.place self.old.queries.store.lines.items qs → HasRead (L.bytes self.new.queries.store.tail.log) self.new.queries.store.tail.place self.new.queries.store.lines.items qs }
+        ensures reads { IsTrue L.tells → (qs : List Query) → HasRead (L.bytes self.old.queries.store.tail.log) self.old.queries.store.tail.place qs → HasRead (L.bytes self.new.queries.store.tail.log) self.new.queries.store.tail.place qs }
         ensures start { IfOk result CanStart }
         ensures spelled { IfOk result IsTaken }
         ensures carries { IsTrue L.tells → IfOk result (λ asked. (g : Setting) (n : ℕ) (k : JoinerKept) (l : JoinerLive) →
-            HasRead (L.bytes self.old.queries.store.tail.log) self.old.queries.store.tail.place self.old.queries.store.lines.items g.queries →
+            HasRead (L.bytes self.old.queries.store.tail.log) self.old.queries.store.tail.place g.queries →
             epoch ≡ k.epoch → GoesOn self.old.core g n k l input → Carries g k l asked input) }
         ensures spent { (last : ℕ) → IsErrOf result (NodeFault.Spent last) → (input ≡ Start) × (epoch ≡ 4294967294) × (last ≡ epoch) }
         ensures spends { input ≡ Start → epoch ≡ 4294967294 → OnOk result ⊥ }
@@ -152,11 +152,11 @@ impl<L: LogFile> Joining<L> {
         requires { IsPacket packet }
         ensures up { self.new.up ≡ self.old.up }
         ensures same { self.new.core ≡ self.old.core }
-        ensures reads { IsTrue L.tells → (qs : List Query) → HasRead (L.bytes self.old.queries.store.tail.log) self.old.queries.store.tail.place self.old.queries.store.lines.items qs → HasRead (L.bytes self.new.queries.store.tail.log) self.new.queries.store.tail.place self.new.queries.store.lines.items qs }
+        ensures reads { IsTrue L.tells → (qs : List Query) → HasRead (L.bytes self.old.queries.store.tail.log) self.old.queries.store.tail.place qs → HasRead (L.bytes self.new.queries.store.tail.log) self.new.queries.store.tail.place qs }
         ensures start { IfOk result CanStart }
         ensures spelled { IfOk result IsTaken }
         ensures carries { IsTrue L.tells → IfOk result (λ asked. (g : Setting) (n : ℕ) (k : JoinerKept) (l : JoinerLive) →
-            HasRead (L.bytes self.old.queries.store.tail.log) self.old.queries.store.tail.place self.old.queries.store.lines.items g.queries →
+            HasRead (L.bytes self.old.queries.store.tail.log) self.old.queries.store.tail.place g.queries →
             Stands self.old.core g n k l → Carries g k l asked (Deliver from packet)) }
         ensures kind { IfErr result IsLookFault }
         ensures fault { IsErrOf result NodeFault.Read → Rose (L.faults self.old.queries.store.tail.log) (L.faults self.new.queries.store.tail.log) }
@@ -179,10 +179,10 @@ impl<L: LogFile> Joining<L> {
     fn looked(&mut self, click: &ClickRec) -> Result<Looked, NodeFault>
         ensures up { self.new.up ≡ self.old.up }
         ensures same { self.new.core ≡ self.old.core }
-        ensures reads { IsTrue L.tells → (qs : List Query) → HasRead (L.bytes self.old.queries.store.tail.log) self.old.queries.store.tail.place self.old.queries.store.lines.items qs → HasRead (L.bytes self.new.queries.store.tail.log) self.new.queries.store.tail.place self.new.queries.store.lines.items qs }
+        ensures reads { IsTrue L.tells → (qs : List Query) → HasRead (L.bytes self.old.queries.store.tail.log) self.old.queries.store.tail.place qs → HasRead (L.bytes self.new.queries.store.tail.log) self.new.queries.store.tail.place qs }
         ensures spelled { IfOk result IsTold }
         ensures tells { IsTrue L.tells → IfOk result (λ looked. (g : Setting) (n : ℕ) (k : JoinerKept) (l : JoinerLive) →
-            HasRead (L.bytes self.old.queries.store.tail.log) self.old.queries.store.tail.place self.old.queries.store.lines.items g.queries →
+            HasRead (L.bytes self.old.queries.store.tail.log) self.old.queries.store.tail.place g.queries →
             Stands self.old.core g n k l → needs_look_up l click.now.id ≡ true → Tells g click.now looked) }
         ensures kind { IfErr result IsLookFault }
         ensures fault { IsErrOf result NodeFault.Read → Rose (L.faults self.old.queries.store.tail.log) (L.faults self.new.queries.store.tail.log) }

@@ -78,7 +78,7 @@ impl<L: LogFile, D: Disk> JoinerNode<L, D> {
         ensures log { IfOk result (λ node. node.joining.queries.store.tail.log ≡ queries) }
         ensures up { IfOk result (λ node. node.disks.in_doubt ≡ None) }
         ensures stands { IsTrue D.tells → (g : Setting) (k : JoinerKept) → IsOf roster g → IsQueryLog (L.bytes queries) g.queries → epochs.epoch ≡ k.epoch → log.pairs.items ≡ k.pairs →
-            IfOk result (λ node. StandsAt (record { number = node.number; roster = node.roster; core = node.joining.core; up = node.joining.up; log = L.bytes node.joining.queries.store.tail.log; place = node.joining.queries.store.tail.place; lines = node.joining.queries.store.lines.items; in_doubt = node.disks.in_doubt; epoch = node.disks.epochs.epoch; written = node.disks.log.pairs.items }) (D.image node.disks.epochs.journal.disk) (D.image node.disks.log.journal.disk) (down_over node.number g k)) }
+            IfOk result (λ node. StandsAt (record { number = node.number; roster = node.roster; core = node.joining.core; up = node.joining.up; log = L.bytes node.joining.queries.store.tail.log; place = node.joining.queries.store.tail.place; in_doubt = node.disks.in_doubt; epoch = node.disks.epochs.epoch; written = node.disks.log.pairs.items }) (D.image node.disks.epochs.journal.disk) (D.image node.disks.log.journal.disk) (down_over node.number g k)) }
         ensures err { IfErr result (λ e. (e.1 ≡ epochs) × (e.2 ≡ log) × (e.3 ≡ queries)) }
     {
         let number = joiner_number(roster, site, joiner);
@@ -117,13 +117,13 @@ impl<L: LogFile, D: Disk> JoinerNode<L, D> {
         requires { IsInput input }
         ensures same { (self.new.number ≡ self.old.number) × (self.new.roster ≡ self.old.roster) × (self.new.joining.up ≡ self.old.joining.up) × (self.new.disks.in_doubt ≡ self.old.disks.in_doubt) }
         ensures core { IsSame self.old.joining.core self.new.joining.core }
-        ensures reads { IsTrue L.tells → (qs : List Query) → HasRead (L.bytes self.old.joining.queries.store.tail.log) self.old.joining.queries.store.tail.place self.old.joining.queries.store.lines.items qs → HasRead (L.bytes self.new.joining.queries.store.tail.log) self.new.joining.queries.store.tail.place self.new.joining.queries.store.lines.items qs }
+        ensures reads { IsTrue L.tells → (qs : List Query) → HasRead (L.bytes self.old.joining.queries.store.tail.log) self.old.joining.queries.store.tail.place qs → HasRead (L.bytes self.new.joining.queries.store.tail.log) self.new.joining.queries.store.tail.place qs }
         ensures epoch { self.new.disks.epochs.epoch ≡ self.old.disks.epochs.epoch }
         ensures pairs { self.new.disks.log.pairs.items ≡ self.old.disks.log.pairs.items }
         ensures epoch_moments { IsTrue D.tells → Throughout D.image D.since self.old.disks.epochs.journal.disk self.new.disks.epochs.journal.disk (D.image self.old.disks.epochs.journal.disk) }
         ensures pair_moments { IsTrue D.tells → Throughout D.image D.since self.old.disks.log.journal.disk self.new.disks.log.journal.disk (D.image self.old.disks.log.journal.disk) }
         ensures row { IsTrue L.tells → IfOk result (λ ready. (g : Setting) (n : ℕ) (k : JoinerKept) (live : Option JoinerLive) →
-            HasRead (L.bytes self.old.joining.queries.store.tail.log) self.old.joining.queries.store.tail.place self.old.joining.queries.store.lines.items g.queries →
+            HasRead (L.bytes self.old.joining.queries.store.tail.log) self.old.joining.queries.store.tail.place g.queries →
             Serves self.old.joining.core g n → Knows self.old.joining.up self.old.joining.core g n k live → self.old.disks.epochs.epoch ≡ k.epoch → MayGet live input →
             IsRow self.new.joining.core g n k (joiner_row g n k live input) ready) }
         ensures fits { IfOk result (λ ready. Fits self.new.joining.core ready.turn) }
@@ -230,7 +230,7 @@ impl<L: LogFile, D: Disk> SiteNode for JoinerNode<L, D> {
 
     ghost waits = { λ node. is_some node.disks.in_doubt };
 
-    ghost stands = { λ node s. StandsAt (record { number = node.number; roster = node.roster; core = node.joining.core; up = node.joining.up; log = L.bytes node.joining.queries.store.tail.log; place = node.joining.queries.store.tail.place; lines = node.joining.queries.store.lines.items; in_doubt = node.disks.in_doubt; epoch = node.disks.epochs.epoch; written = node.disks.log.pairs.items }) (D.image node.disks.epochs.journal.disk) (D.image node.disks.log.journal.disk) s };
+    ghost stands = { λ node s. StandsAt (record { number = node.number; roster = node.roster; core = node.joining.core; up = node.joining.up; log = L.bytes node.joining.queries.store.tail.log; place = node.joining.queries.store.tail.place; in_doubt = node.disks.in_doubt; epoch = node.disks.epochs.epoch; written = node.disks.log.pairs.items }) (D.image node.disks.epochs.journal.disk) (D.image node.disks.log.journal.disk) s };
 
     ghost image = { λ node c. D.image node.disks.epochs.journal.disk c.0 × D.image node.disks.log.journal.disk c.1 };
 

@@ -6,6 +6,10 @@ use joiner_core::Looked;
 use outside::LogFile;
 use std::alloc::{AllocError, Global};
 
+// How many queries are kept at hand, some 15 MB of short ones. Where many processes write one log a look-up by the index passes over
+// the others' lines, so what was read lately is worth its memory.
+const CACHE: u32 = 1 << 17;
+
 // The queries of a log, of which those at its front were read.
 #[derive(Drop)]
 pub(crate) struct Queries<L: LogFile> {
@@ -24,10 +28,10 @@ impl<L: LogFile> Queries<L> {
     // Nothing is read yet.
     pub(crate) fn new(alloc: Global, log: L) -> Result<Queries<L>, (AllocError, L)>
         ensures log { IfOk result (λ queries. queries.store.tail.log ≡ log) }
-        ensures reads { IfOk result (λ queries. (qs : List Query) → IsQueryLog (L.bytes log) qs → HasRead (L.bytes queries.store.tail.log) queries.store.tail.place queries.store.lines.items qs) }
+        ensures reads { IfOk result (λ queries. (qs : List Query) → IsQueryLog (L.bytes log) qs → HasRead (L.bytes queries.store.tail.log) queries.store.tail.place qs) }
         ensures err { IfErr result (λ e. e.1 ≡ log) }
     {
-        match EventStore::new(alloc, log, 1) {
+        match EventStore::new(alloc, log, CACHE) {
             Ok(store) => Ok(Queries { store }),
             Err(refused) => Err(refused),
         }
@@ -41,10 +45,10 @@ impl<L: LogFile> Queries<L> {
     }
 
     // The first query of the log with the id, or how many lines the log has where there is none. Lines are read only until
-    // it is found, and each look passes over the lines read.
+    // it is found. A look between two lines takes constant time while the id is above all that were read of its process.
     pub(crate) fn look_up(&mut self, id: EventId) -> Result<Looked, LookFault>
-        ensures reads { IsTrue L.tells → (qs : List Query) → HasRead (L.bytes self.old.store.tail.log) self.old.store.tail.place self.old.store.lines.items qs → HasRead (L.bytes self.new.store.tail.log) self.new.store.tail.place self.new.store.lines.items qs }
-        ensures found { IsTrue L.tells → (qs : List Query) → HasRead (L.bytes self.old.store.tail.log) self.old.store.tail.place self.old.store.lines.items qs → IfOk result (IsFirst qs id) }
+        ensures reads { IsTrue L.tells → (qs : List Query) → HasRead (L.bytes self.old.store.tail.log) self.old.store.tail.place qs → HasRead (L.bytes self.new.store.tail.log) self.new.store.tail.place qs }
+        ensures found { IsTrue L.tells → (qs : List Query) → HasRead (L.bytes self.old.store.tail.log) self.old.store.tail.place qs → IfOk result (IsFirst qs id) }
         ensures spelled { IfOk result IsTold }
         ensures count { Counts (L.faults self.old.store.tail.log) (L.faults self.new.store.tail.log) (IsErrOf result fault.Read) }
     {
@@ -60,8 +64,8 @@ impl<L: LogFile> Queries<L> {
 
     // Looks among the lines read, and reads one line more where none of them has the id.
     fn step(&mut self, id: EventId) -> Result<Option<Looked>, LookFault>
-        ensures reads { IsTrue L.tells → (qs : List Query) → HasRead (L.bytes self.old.store.tail.log) self.old.store.tail.place self.old.store.lines.items qs → HasRead (L.bytes self.new.store.tail.log) self.new.store.tail.place self.new.store.lines.items qs }
-        ensures found { IsTrue L.tells → (qs : List Query) → HasRead (L.bytes self.old.store.tail.log) self.old.store.tail.place self.old.store.lines.items qs → IfOk result (λ looked. IfSome looked (IsFirst qs id)) }
+        ensures reads { IsTrue L.tells → (qs : List Query) → HasRead (L.bytes self.old.store.tail.log) self.old.store.tail.place qs → HasRead (L.bytes self.new.store.tail.log) self.new.store.tail.place qs }
+        ensures found { IsTrue L.tells → (qs : List Query) → HasRead (L.bytes self.old.store.tail.log) self.old.store.tail.place qs → IfOk result (λ looked. IfSome looked (IsFirst qs id)) }
         ensures spelled { IfOk result (λ looked. IfSome looked IsTold) }
         ensures count { Counts (L.faults self.old.store.tail.log) (L.faults self.new.store.tail.log) (IsErrOf result fault.Read) }
     {

@@ -29,6 +29,7 @@ mod paxos_acceptor_tests;
 mod paxos_proposer_tests;
 #[cfg(test)]
 mod retry_log_tests;
+pub mod store_rows;
 #[cfg(test)]
 mod tail_reader_tests;
 #[cfg(test)]

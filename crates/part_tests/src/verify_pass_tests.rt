@@ -196,6 +196,35 @@ fn journals(alloc: Global) -> Result<Journals, AllocError> {
     })
 }
 
+// What a replica accepted in slot 0: rounds, and the times of the ids; round 0 is for nothing.
+fn slot_notes(alloc: Global, told: &[(u64, u64)]) -> Result<NoteList, AllocError> {
+    let mut notes = Vec::new(alloc);
+    for (round, micros) in told {
+        if *round > 0 {
+            let note = Note {
+                shard: 0,
+                slot: 0,
+                round: *round,
+                bound: 0,
+                ids: [*micros, *micros],
+            };
+            notes.push(accepted(alloc, &note)?)?;
+        }
+    }
+    Ok(NoteList::from(notes))
+}
+
+fn slot_journals(alloc: Global, told: &[[(u64, u64); 2]]) -> Result<Journals, AllocError> {
+    let mut lists = Vec::new(alloc);
+    for replica in told {
+        lists.push(slot_notes(alloc, replica)?)?;
+    }
+    Ok(Journals {
+        notes: lists,
+        pairs: Vec::new(alloc),
+    })
+}
+
 // A line's letter, and the time of its id.
 fn letter(line: &ReportLine) -> (u8, u64) {
     match line {
@@ -254,6 +283,51 @@ fn classes_of_clicks(rt: HostRuntime) -> Result<(), Fail> {
     assert!(rt; is_pair(&lines[8], b"late", b"shoes"));
     let left = missing(alloc, &journals, &table)?;
     assert_eq!(rt; left.as_slice(), [id(2), id(21)].as_slice());
+    Ok(())
+}
+
+// The letters of the ids 5 and 7, and the time of the one that is missing; 0 for none.
+fn told(alloc: Global, journals: &Journals, table: &Table) -> Result<(u8, u8, u64), AllocError> {
+    let lines = classify(alloc, &clicks(alloc, &[5, 7])?, journals, table)?;
+    let left = missing(alloc, journals, table)?;
+    match (lines.as_slice(), left.as_slice()) {
+        ([five, seven], []) => Ok((letter(five).0, letter(seven).0, 0)),
+        ([five, seven], [id]) => Ok((letter(five).0, letter(seven).0, id.micros)),
+        _ => Ok((0, 0, 0)),
+    }
+}
+
+#[test]
+fn journals_that_disagree(rt: HostRuntime) -> Result<(), Fail> {
+    let alloc = rt.alloc();
+    let Ok(table) = Table::read(b"0:1") else {
+        panic!(rt; "a table");
+    };
+    let none = (0, 0);
+    let neither = (b'U', b'U', 0);
+    let five = (b'M', b'U', 5);
+    let seven = (b'U', b'M', 7);
+    let rows = [
+        // Two batches at one ballot, and no majority for either.
+        ([[(1, 5), none], [(1, 7), none], [none, none]], neither),
+        // A majority for one batch, and another one at the same ballot.
+        ([[(1, 7), none], [(1, 5), none], [(1, 5), none]], five),
+        ([[(1, 5), none], [(1, 5), none], [(1, 7), none]], five),
+        // A majority at two ballots: the lower one, whichever is written first.
+        ([[(1, 5), (2, 7)], [(1, 5), (2, 7)], [none, none]], five),
+        ([[(2, 7), (1, 5)], [(2, 7), (1, 5)], [none, none]], five),
+        ([[(2, 7), none], [(2, 7), (1, 5)], [(1, 5), none]], five),
+        // The same majority for two batches at one ballot: the first one.
+        ([[(1, 5), (1, 7)], [(1, 7), (1, 5)], [none, none]], five),
+        ([[(1, 7), (1, 5)], [(1, 5), (1, 7)], [none, none]], seven),
+        // One replica twice, and two at two ballots.
+        ([[(1, 5), (1, 5)], [none, none], [none, none]], neither),
+        ([[(1, 5), none], [(2, 5), none], [none, none]], neither),
+    ];
+    for (notes, want) in &rows {
+        let journals = slot_journals(alloc, notes)?;
+        assert_eq!(rt; told(alloc, &journals, &table)?, *want);
+    }
     Ok(())
 }
 

@@ -2,6 +2,10 @@
 use Rattle.std.proofs.Common.{◌≡◌, ◌≤◌, ℕ, ◌==◌, Bool, true, false, ◌||◌, nat_le, List, [], ◌∷◌, Option, Some, None, refl, arith}
 use Rattle.std.specs.List.{All, list_any}
 use Rattle.std.specs.Option.{IfSome, IsSomeAnd}
+use Rattle.outside.specs.Disk.{Torn}
+use Rattle.mem_outside.specs.declared.disk.MemDisk.{MemDisk}
+use Rattle.mem_outside.specs.Kept.{ImageIn}
+use Rattle.mem_outside.specs.Past.{IsImage}
 use Rattle.std.proofs.lemmas.Bool.Decides.{nat_tests}
 use Rattle.lossy_link.specs.Fates.{PlanView}
 use Rattle.air_bus.specs.declared.entry.Entry.{Entry}
@@ -38,6 +42,22 @@ none_late (End node noted packets kept ∷ h) j late none = one_more (node == j)
 none_late (Stop node landed ∷ h) j late none =
     let both = either (nat_le 7 node) (list_any is_late_stop h) none in
     one_more (node == j) true false (Stop node landed) j h refl refl (not_own node j late both.0) (none_late h j late both.1)
+
+-- ---- disks in memory
+
+-- a write may leave all as it was
+untorn : (at n : ℕ) (bytes : List ℕ) → Torn at n bytes bytes
+untorn at n bytes = record { before = refl; after = refl; no_shorter = omega arith; no_longer = omega arith }
+
+-- so a stop may leave the synced bytes
+synced_left : (synced : List ℕ) (ranges : List (ℕ × ℕ)) → (c : List ℕ) × IsImage synced ranges c
+synced_left synced [] = (synced, refl)
+synced_left synced (range ∷ ranges) = let rest = synced_left synced ranges in (rest.0, (rest.0, rest.1, untorn range.0 range.1 rest.0))
+
+-- a stop leaves something of each disk, be it no bytes
+pub something_left : (disk : Option MemDisk) → (c : List ℕ) × ImageIn disk c
+something_left None = ([], refl)
+something_left (Some disk) = synced_left _ _
 
 -- what is known of a run's history
 pub drilled : (o : Option RunLog) (g : Setting) (plan : PlanView) (lines : List ReportLine) → g.replicas ≡ 3 → IsSomeAnd o (λ l. RanAfresh g l.air.history lines) → IfSome o (λ l. All (IsIn l.air.history) l.seen.items) → IfSome o (λ l. IsAired plan l.air.kinds l.air.history)

@@ -33,8 +33,8 @@ module _ (logs sinks : Bool) (told : List ℕ → Option (List ℕ)) (files outp
     complete = λ d l g asked sound leaves calm still quiet. inr (inr (inl eight));
   }
 
-  pub drill_forgotten : (v : Values) (file : Text) → DrillEnds logs sinks told files output errors ran old old err_old err_new status v file
-  drill_forgotten v file = record {
+  pub drill_forgotten : (v : Values) (file : Text) (untouched : Type 0) → untouched → DrillEnds logs sinks told files output errors ran old old err_old err_new status v file untouched
+  drill_forgotten v file untouched stays = record {
     drilled = λ l s e. absurd (omega (arith, eight, e));
     refused = λ l e. absurd (omega (arith, eight, e));
     bad_row = λ n first. inr eight;
@@ -43,7 +43,9 @@ module _ (logs sinks : Bool) (told : List ℕ → Option (List ℕ)) (files outp
     invalid = λ l log table text h calm. inr (inr eight);
     prefix = λ l s e. absurd (omega (arith, eight, e));
     tells = λ l s calm. inr (fault.Memory, eight, tt, tells s calm);
+    welcome = λ l nine. omega (arith, eight, nine);
     complete = λ l g asked plan is calm quiet. inr (inr (inr (inl eight)));
+    store = stays;
   }
 
   pub verify_forgotten : (clicks : Text) (disks : Bool) (before : Images) (faulted : Type 0) → ((disk : DiskName) → StaysAs (before disk) (before disk))
@@ -61,12 +63,13 @@ module _ (logs sinks : Bool) (told : List ℕ → Option (List ℕ)) (files outp
     sound = λ d g sound. sound;
   }
 
-  pub bulk_forgotten : (v : BulkValues) → BulkEnds logs sinks told files output errors ran old old err_old err_new status v
-  bulk_forgotten v = record {
+  pub bulk_forgotten : (v : BulkValues) (untouched : Type 0) → untouched → BulkEnds logs sinks told files output errors ran old old err_old err_new status v untouched
+  bulk_forgotten v untouched stays = record {
     totals = λ s e. absurd (omega (arith, eight, e));
     row = λ e. absurd (omega (arith, eight, e));
     bad_row = λ n first. inr eight;
     lines = λ e. omega (arith, eight, e);
     prefix = λ s e. absurd (omega (arith, eight, e));
     tells = λ s calm. inr (fault.Memory, eight, tt, tells s calm);
+    store = stays;
   }

@@ -8,13 +8,11 @@ use Rattle.registry_state.specs.declared.Batch.{Batch}
 use Rattle.registry_state.specs.Same.{same_batch}
 use Rattle.log_defs.specs.declared.ReportLine.TheVariants.{U}
 use Rattle.output_log.specs.declared.pair.PairRec.{PairRec}
-use Rattle.paxos_defs.specs.Agreement.{JournalsAgree}
 use Rattle.paxos_defs.specs.Decided.{decided}
-use Rattle.paxos_defs.specs.Notes.{Note}
 use Rattle.paxos_acceptor.specs.Cells.{note_view}
 use Rattle.time_shards.specs.declared.ShardRow.{ShardRow}
 use Rattle.time_shards.specs.Shards.{shard_of}
-use Rattle.verify_pass.specs.Classes.{first_pair, line_by, line_of, notes_of}
+use Rattle.verify_pass.specs.Classes.{first_pair, line_by, line_of}
 use Rattle.log_records.specs.declared.why.Why.{Why}
 use Rattle.log_records.specs.Check.{RefusesClick}
 use Rattle.run_faults.specs.declared.fault.LogName.TheVariants.{Queries, Clicks}
@@ -161,7 +159,6 @@ module _ (before placed : Images) (within : (disk : DiskName) (c : List ℕ) →
     are = t.are;
     lines = t.lines;
     whole = λ sound. t.whole (sound_before g sound);
-    agree = λ sound. t.agree (sound_before g sound);
   }
 
   pub read_before : (tells log_tells : Bool) (log : List ℕ) (end_ : ℕ) (k : KeptStore) → IsTrue tells → IsRead tells placed log_tells log end_ k
@@ -173,17 +170,11 @@ module _ (before placed : Images) (within : (disk : DiskName) (c : List ℕ) →
 
 -- ---- where nothing is kept
 
-nothing_agrees : (let none : List (List (Note Batch)) = [] in JournalsAgree none)
-nothing_agrees p = record { rising = λ r. tt; one_value = λ r b v h. absurd h; safe = λ r b v h. absurd h }
-
 unmatched : (i : EventId) → line_by [] i None ≡ U i
 unmatched i = let old : nat_lt i.micros 0 ≡ false = grind (arith, nat_tests) in rw old refl
 
 -- journals without records
 module _ (js : Journals) (notes : js.notes.items ≡ []) (pairs : js.pairs.items ≡ []) where
-  pub agree_none : JournalsAgree (notes_of js)
-  agree_none = subst (λ ns. JournalsAgree (map (map note_view) ns)) (sym notes) nothing_agrees
-
   pub line_none : (table : List ShardRow) (i : EventId) → line_of js table i ≡ U i
   unfolding decided
   line_none table i =
@@ -198,7 +189,7 @@ clicks_are log cs g own over =
     same ∙ sym (ap (map (λ (l : ClickLine). l.click)) over.lines.lines ∙ clicks_back 0 over.lines.clicks)
 
 module _ (before : Images) (kept : KeptStore) (cs : List ClickRec) (lines : List ReportLine)
-    (some : (t : KeptTopology) → kept.topology ≡ Some t → JournalsAgree (notes_of kept.journals) → lines ≡ map (λ (c : ClickRec). line_of kept.journals t.table c.id) (distinct cs))
+    (some : (t : KeptTopology) → kept.topology ≡ Some t → lines ≡ map (λ (c : ClickRec). line_of kept.journals t.table c.id) (distinct cs))
     (none : kept.topology ≡ None → lines ≡ map (λ (c : ClickRec). U c.id) (distinct cs)) where
   told_over : (log : List ℕ) → IsClickLog log cs → IsReadFrom before log kept → IsTold before log kept lines
   told_over log own read = record {
@@ -210,8 +201,7 @@ module _ (before : Images) (kept : KeptStore) (cs : List ClickRec) (lines : List
           store = tells.store;
           left = tells.left;
           are = tells.are;
-          told = λ agree. let table : t.table ≡ g.table = sym over.table in some t is agree ∙ (λ k. map (λ (c : ClickRec). line_of kept.journals (table k) c.id) (distinct (clicks_are log cs g own over.clicks k))) ∙ tells.lines;
-          agree = tells.agree;
+          told = let table : t.table ≡ g.table = sym over.table in some t is ∙ (λ k. map (λ (c : ClickRec). line_of kept.journals (table k) c.id) (distinct (clicks_are log cs g own over.clicks k))) ∙ tells.lines;
         };
   }
 

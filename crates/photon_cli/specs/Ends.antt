@@ -54,8 +54,8 @@ module _ (logs sinks : Bool) (told : List ℕ → Option (List ℕ)) (files outp
     pub complete : IsTrue disks → IsTrue logs → (g : Setting) → IsAsked told v g → IsSoundStore g before → leaves g → (files → ⊥) → (faulted → ⊥) → (output → ⊥)
         → (status ≡ 0) ⊎ ((status ≡ 7) ⊎ ((status ≡ 8) ⊎ (status ≡ 10)))
 
-  -- Of a drill for these values with the plan of a file.
-  pub record DrillEnds (v : Values) (file : Text) : Type 0 where
+  -- Of a drill for these values with the plan of a file; untouched says that the store which is handed in is as it was.
+  pub record DrillEnds (v : Values) (file : Text) (untouched : Type 0) : Type 0 where
     -- 0: the logs are valid, the file's bytes are a plan, both sites have run under it from nothing, and the report of that run was
     -- written, whole; no click is missing unless a joiner's node stopped, nor where no stop of the plan is of a joiner's disk
     pub drilled : IsTrue logs → IsTrue sinks → status ≡ 0 → PrintsDrill told v file ran old new
@@ -70,10 +70,14 @@ module _ (logs sinks : Bool) (told : List ℕ → Option (List ℕ)) (files outp
     pub invalid : IsTrue logs → (log : LogName) (table : List ShardRow) → IsTextOf v.shards table → IsInvalid told v.queries v.clicks log → (files → ⊥) → (status ≡ 2) ⊎ ((status ≡ 3) ⊎ (status ≡ 8))
     pub prefix : IsTrue logs → IsTrue sinks → status ≡ 5 → PrintsDrillPrefix told v file ran old new
     pub tells : IsTrue logs → IsTrue sinks → (errors → ⊥) → TellsBy (IsNamedInDrill told v file) status err_old err_new
+    -- 9 never: its store is empty at first
+    pub welcome : IsTrue logs → status ≢ 9
     -- with a table, a plan, two valid logs and no fault of the files or the output it ends with 0, or for a fault of the run's own
     -- disks, or for want of memory
     pub complete : IsTrue logs → (g : Setting) → IsAsked told v g → (plan : PlanView) → IsPlanIn told file plan → (files → ⊥) → (output → ⊥)
-        → (status ≡ 0) ⊎ ((status ≡ 6) ⊎ ((status ≡ 7) ⊎ ((status ≡ 8) ⊎ ((status ≡ 9) ⊎ (status ≡ 10)))))
+        → (status ≡ 0) ⊎ ((status ≡ 6) ⊎ ((status ≡ 7) ⊎ ((status ≡ 8) ⊎ (status ≡ 10))))
+    -- at every status: it runs over disks of its own
+    pub store : untouched
 
   -- Of a verification over a click log and the store in a directory.
   pub record VerifyEnds (clicks : Text) (disks : Bool) (before after : Images) (faulted : Type 0) : Type 0 where
@@ -92,8 +96,8 @@ module _ (logs sinks : Bool) (told : List ℕ → Option (List ℕ)) (files outp
     pub stays : IsTrue disks → (disk : DiskName) → StaysAs (before disk) (after disk)
     pub sound : IsTrue disks → (g : Setting) → IsSoundStore g before → IsSoundStore g after
 
-  -- Of a bulk run.
-  pub record BulkEnds (v : BulkValues) : Type 0 where
+  -- Of a bulk run; untouched as for a drill.
+  pub record BulkEnds (v : BulkValues) (untouched : Type 0) : Type 0 where
     -- 0: both sites have run from nothing over the logs that are made of the numbers, and the totals line of their report was written
     pub totals : IsTrue sinks → status ≡ 0 → PrintsTotals v ran old new
     -- 2: only where the shards' text is no table, and there always, but for want of memory; 3 never
@@ -102,3 +106,4 @@ module _ (logs sinks : Bool) (told : List ℕ → Option (List ℕ)) (files outp
     pub lines : status ≢ 3
     pub prefix : IsTrue sinks → status ≡ 5 → PrintsTotalsPrefix v ran old new
     pub tells : IsTrue sinks → (errors → ⊥) → TellsBy (IsNamedInBulk v) status err_old err_new
+    pub store : untouched

@@ -10,17 +10,15 @@ use Rattle.log_defs.specs.Report.{distinct, is_missing, text_of}
 use Rattle.report_text.specs.Stream.{TookPrefix}
 use Rattle.topology_journal.specs.declared.topology.Topology.{Topology}
 use Rattle.topology_journal.specs.Topologies.{Keeps as KeepsTopology}
-use Rattle.paxos_defs.specs.Agreement.{JournalsAgree}
 use Rattle.turn_defs.specs.Setting.{Setting}
 use Rattle.dispatch_node.specs.Places.{IsLogOf}
 use Rattle.photon_defs.specs.Report.{report}
 use Rattle.site_disks.specs.Opening.{IsKeptIn}
 use Rattle.photon_defs.specs.Topology.{Store}
 use Rattle.photon_model.specs.Verification.{AreOf}
-use Rattle.store_laws.specs.Stores.{AreLeft, Images, IsSoundStore}
+use Rattle.store_laws.specs.Stores.{AreLeft, Images}
 use Rattle.store_reading.specs.declared.kept.KeptStore.{KeptStore}
 use Rattle.store_reading.specs.Telling.{Tells}
-use Rattle.verify_pass.specs.Classes.{notes_of}
 use Rattle.verify_pass.specs.declared.journals.Journals.{Journals}
 use Rattle.command_words.specs.Words.{Text}
 
@@ -37,13 +35,12 @@ pub record IsReadFrom (before : Images) (log : List ℕ) (kept : KeptStore) : Ty
   pub topology : IsKeptIn (before name.Topology) (KeepsTopology kept.topology)
   pub records : (t : Topology) → kept.topology ≡ Some t → (g : Setting) → IsOver log t g → Tells g before kept.journals
 
--- These lines are the report of records that the disks keep, where the replicas' notes agree, as those of a sound store do.
+-- these lines are the report of records that the disks keep, whatever these are
 pub record Reports (g : Setting) (before : Images) (journals : Journals) (lines : List ReportLine) : Type 0 where
   pub store : Store
   pub left : AreLeft g before store
   pub are : AreOf g store.disks journals
-  pub told : JournalsAgree (notes_of journals) → lines ≡ report g store.disks
-  pub agree : IsSoundStore g before → JournalsAgree (notes_of journals)
+  pub told : lines ≡ report g store.disks
 
 -- these lines are told of what a store keeps, over the clicks of a log: where no topology is kept every click is unmatched
 pub record IsTold (before : Images) (log : List ℕ) (kept : KeptStore) (lines : List ReportLine) : Type 0 where

@@ -22,7 +22,7 @@ use Rattle.site_disks.specs.Votes.{KeepsNotes}
 use Rattle.photon_defs.specs.Journals.{journals, values_from}
 use Rattle.photon_defs.specs.Runs.{Disks}
 use Rattle.photon_defs.specs.Topology.{Store}
-use Rattle.photon_model.specs.Verification.{AreOf, TellsTheReport, SoundAgrees}
+use Rattle.photon_model.specs.Verification.{AreOf, TellsTheReport}
 use Rattle.store_laws.specs.Stores.{IsDisk, KeepsOf, AreLeft}
 use Rattle.store_laws.specs.Laws.{topology_read, ReadTopologyIsKept, ReadNotesAreKept, OpenedIsWhole}
 use Rattle.store_opening.specs.Records.{KeptValues, AreKept, AreIn, value_at}
@@ -115,8 +115,8 @@ module _ (tells : Bool) (sure : IsTrue tells) (image : DiskName → List ℕ →
         let count : length xs ≡ 2 * g.joiners = length-map (v.pairs_a ++ v.pairs_b) (λ (o : Opened (List PairRec)). o.journal) ∙ count_named (v.pairs_a ++ v.pairs_b) _ pairs.named ∙ both_size (λ s j. name.Output s j) g.joiners few in
         told.pairs ∙ values_are xs at (first_joiner g) [] (λ i lt. ap (λ n. get_or xs n []) (omega arith)) ∙ ap (values_from at (first_joiner g)) count
 
-    pub tells_of : ReadTopologyIsKept → ReadNotesAreKept → OpenedIsWhole g image → TellsTheReport → SoundAgrees → Tells g image k.journals
-    tells_of topology read whole report agrees =
+    pub tells_of : ReadTopologyIsKept → ReadNotesAreKept → OpenedIsWhole g image → TellsTheReport → Tells g image k.journals
+    tells_of topology read whole report =
         let are : AreOf g (records_of g v) k.journals = record { notes = notes_are; pairs = pairs_are } in
         record {
           store = store_of;
@@ -124,7 +124,6 @@ module _ (tells : Bool) (sure : IsTrue tells) (image : DiskName → List ℕ →
           are = are;
           lines = report g (records_of g v) k.journals are;
           whole = λ sound. let x = whole store_of sound (left topology read) in (x.0, x.1);
-          agree = λ sound. agrees g (records_of g v) k.journals are (whole store_of sound (left topology read)).1.records;
         }
 
 -- what was read, of what the disks keep
@@ -134,8 +133,8 @@ ok_read tells before log_tells log end_ v kept (Ok k) told fine = record { value
 ok_read tells before log_tells log end_ v kept (Err e) told fine = tt
 
 pub ok_tells : (tells : Bool) → IsTrue tells → (before : DiskName → List ℕ → Type 0) (log_tells : Bool) (log : List ℕ) (end_ : ℕ)
-    → ReadTopologyIsKept → ReadNotesAreKept → ((g : Setting) → OpenedIsWhole g before) → TellsTheReport → SoundAgrees → (r : Result KeptStore Refusal) → IfOk r (IsRead tells before log_tells log end_)
+    → ReadTopologyIsKept → ReadNotesAreKept → ((g : Setting) → OpenedIsWhole g before) → TellsTheReport → (r : Result KeptStore Refusal) → IfOk r (IsRead tells before log_tells log end_)
     → IfOk r (λ k. (t : Topology) (g : Setting) → k.topology ≡ Some t → IsAsked t g → g.replicas ≡ 3 → Tells g before k.journals)
-ok_tells tells sure before log_tells log end_ topology read whole report agrees (Ok k) is = λ t g kept asked replicas.
-    tells_of tells sure before is.values is.kept t (is.told.topology ∙ kept) g asked replicas k is.told topology read (whole g) report agrees
-ok_tells tells sure before log_tells log end_ topology read whole report agrees (Err e) is = tt
+ok_tells tells sure before log_tells log end_ topology read whole report (Ok k) is = λ t g kept asked replicas.
+    tells_of tells sure before is.values is.kept t (is.told.topology ∙ kept) g asked replicas k is.told topology read (whole g) report
+ok_tells tells sure before log_tells log end_ topology read whole report (Err e) is = tt

@@ -14,7 +14,6 @@ use Rattle.log_defs.specs.declared.ReportLine.{ReportLine}
 use Rattle.log_defs.specs.declared.ReportLine.TheVariants.{M}
 use Rattle.air_bus.specs.declared.entry.Entry.{Entry as BusEntry}
 use Rattle.output_log.specs.Pairs as pairs
-use Rattle.paxos_defs.specs.Agreement.{JournalsAgree}
 use Rattle.turn_defs.specs.Setting.{Setting, Checked}
 use Rattle.photon_defs.specs.Journals.{values_from}
 use Rattle.photon_defs.specs.Report as kept
@@ -26,9 +25,8 @@ use Rattle.photon_model.specs.EveryRun.{RestIsDone}
 use Rattle.photon_model.specs.Exact.{AtRestFromEmpty, ClicksAreExact, ReportIsExact}
 use Rattle.photon_model.specs.Headline.{TellsTheMissing}
 use Rattle.photon_model.specs.Stores.{RunsKeepStores, empty_disks, empty_store}
-use Rattle.photon_model.specs.Verification.{TellsTheReport, SoundAgrees}
+use Rattle.photon_model.specs.Verification.{TellsTheReport}
 use Rattle.verify_pass.specs.declared.journals.Journals.{Journals}
-use Rattle.verify_pass.specs.Classes.{notes_of}
 use Rattle.store_laws.specs.Stores.{Images, IsDisk, KeepsOf, IsSoundStore, SameRecords}
 use Rattle.store_laws.specs.Laws.{KeepOneTopology, HoldSameRecords, LeavesNothing}
 use Rattle.store_laws.proofs.Nodes.{same_is_whole}
@@ -50,7 +48,6 @@ pub record Laws : Type 0 where
   pub report : AtRestFromEmpty ReportIsExact
   pub missing : TellsTheMissing
   pub tells : TellsTheReport
-  pub agrees : SoundAgrees
 
 module _ (laws : Laws) (g : Setting) (d : Disks) (h : List BusEntry) (after : Images) (faulted : Type 0) (js : Journals) (checked : Checked g) (sound : SoundStore g d) (rested : HasRested g d h after faulted js) where
   abbrev w : World
@@ -76,9 +73,6 @@ module _ (laws : Laws) (g : Setting) (d : Disks) (h : List BusEntry) (after : Im
   missing : (faulted → ⊥) → (i : EventId) → IsMissing g (known_of g left []) i → WasHeld g d left i
   missing calm i m = (m.0.0, m.0.1, leaves.missing (rested.stops calm) i m.0.0 m.0.1 m.1)
 
-  agree : JournalsAgree (notes_of js)
-  agree = laws.agrees g left js rested.read (laws.runs g d rested.entries checked sound rested.run.run)
-
   told : lines_by g js ≡ kept.report g left
   told = laws.tells g left js rested.read
 
@@ -100,7 +94,7 @@ joins laws g before after h faulted js lines checked sound rest are =
         no_others = λ s lt. was_accepted laws g d h after faulted js checked was rested (bound_of (decided_by g (left laws g d h after faulted js checked was rested) s)) (done.bounds s lt).1;
         missing = missing laws g d h after faulted js checked was rested;
       };
-      are = are (agree laws g d h after faulted js checked was rested) ∙ told laws g d h after faulted js checked was rested;
+      are = are ∙ told laws g d h after faulted js checked was rested;
     }
 
 -- ---- from an empty store
@@ -144,7 +138,7 @@ afresh laws g before after h faulted js lines checked table nothing rest are = r
     now = left laws g empty_disks h after faulted js checked was rested
 
     same : lines ≡ kept.report g now
-    same = are (agree laws g empty_disks h after faulted js checked was rested) ∙ told laws g empty_disks h after faulted js checked was rested
+    same = are ∙ told laws g empty_disks h after faulted js checked was rested
 
     none_missing : (faulted → ⊥) → (l : ClickLine) → Mem l g.clicks → kept.line_of g now l.click.id ≡ M l.click.id → ⊥
     none_missing calm l m e =
@@ -182,7 +176,7 @@ module _ (laws : Laws) (g : Setting) (h : List BusEntry) (after : Images) (js : 
   now = left laws g empty_disks h after (JoinerStopped g h) js checked was rested
 
   same : lines ≡ kept.report g now
-  same = are (agree laws g empty_disks h after (JoinerStopped g h) js checked was rested) ∙ told laws g empty_disks h after (JoinerStopped g h) js checked was rested
+  same = are ∙ told laws g empty_disks h after (JoinerStopped g h) js checked was rested
 
   none_missing : (JoinerStopped g h → ⊥) → (l : ClickLine) → Mem l g.clicks → kept.line_of g now l.click.id ≡ M l.click.id → ⊥
   none_missing calm l m e =

@@ -7,10 +7,9 @@ use Rattle.log_records.specs.Lines.{ClickLine}
 use Rattle.log_defs.specs.Report.{distinct}
 use Rattle.log_defs.specs.declared.ReportLine.{ReportLine}
 use Rattle.air_bus.specs.declared.entry.Entry.{Entry as BusEntry}
-use Rattle.paxos_defs.specs.Agreement.{JournalsAgree}
 use Rattle.turn_defs.specs.Setting.{Setting, Checked}
 use Rattle.verify_pass.specs.declared.journals.Journals.{Journals}
-use Rattle.verify_pass.specs.Classes.{line_of, notes_of}
+use Rattle.verify_pass.specs.Classes.{line_of}
 use Rattle.store_laws.specs.Stores.{Images, IsSoundStore}
 use Rattle.store_laws.specs.Laws.{LeavesNothing}
 use Rattle.store_run.specs.Left.{RestLeft}
@@ -21,9 +20,9 @@ use Rattle.store_run.specs.Laws.{JoinerStopped}
 abbrev pub lines_by : Setting → Journals → List ReportLine
 lines_by g js = map (λ (c : Click). line_of js g.table c.id) (distinct (map (λ (l : ClickLine). l.click) g.clicks))
 
--- these are the lines, where the journals agree
+-- these are the lines
 abbrev pub AreLinesBy : Setting → Journals → List ReportLine → Type 0
-AreLinesBy g js lines = JournalsAgree (notes_of js) → lines ≡ lines_by g js
+AreLinesBy g js lines = lines ≡ lines_by g js
 
 -- after a run from a sound store they are the report of the records that the disks keep
 abbrev pub RestJoins : Setting → (before after : Images) → (faulted : Type 0) → Type 0

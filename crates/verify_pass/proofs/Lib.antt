@@ -1,5 +1,5 @@
-pub mod Agreed
 pub mod Fronts
+pub mod Groups
 pub mod Ids
 pub mod Kept
 pub mod Marks

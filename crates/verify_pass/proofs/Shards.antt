@@ -1,5 +1,5 @@
 -- The shard of an id is one of its table's; who is held was inserted.
-use Rattle.std.proofs.Common.{◌≡◌, ◌<◌, ◌≤◌, ◌+◌, ◌%◌, ℕ, max, nat_le, nat_lt, List, [], ◌∷◌, Bool, true, false, cond, Option, Some, None, is_some, refl, sym, arith}
+use Rattle.std.proofs.Common.{◌≡◌, ◌<◌, ◌≤◌, ◌+◌, ℕ, nat_le, nat_lt, List, [], ◌∷◌, Bool, true, false, cond, None, is_some, sym, arith}
 use Rattle.std.proofs.Math.Nat.{mod-lt}
 use Rattle.std.proofs.lemmas.Bool.{true≢false}
 use Rattle.list_words.specs.Lists.{Each}

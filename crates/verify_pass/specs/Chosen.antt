@@ -1,46 +1,43 @@
--- The batch that is chosen in each place, as it is found in one pass, and the run of slots that have one.
-use Rattle.std.specs.Prelude.{◌≡◌, ℕ, ◌<◌, ◌&&◌, Bool, List, [], ◌∷◌, length, slice_get, if◌then◌else◌, Option, Some, None}
+-- What is found of each place, and the run of slots that have a batch.
+use Rattle.std.specs.Prelude.{◌≡◌, ℕ, ◌<◌, List, [], length, map, slice_get, Option, Some, None, Vec}
 use Rattle.std.specs.Option.{option_map}
-use Rattle.std.specs.HashMap.{get}
+use Rattle.std.specs.HashMap.{HashMap, get}
 use Rattle.ballot_core.specs.declared.Ballot.{Ballot}
 use Rattle.paxos_defs.specs.declared.Place.{Place}
 use Rattle.paxos_defs.specs.Notes.{is_place}
 use Rattle.registry_state.specs.declared.Batch.{Batch}
-use Rattle.registry_state.specs.LookBack.{or_else}
 use Rattle.paxos_acceptor.specs.Cells.{place_of}
-use Rattle.paxos_acceptor.specs.declared.notes.ReplicaNote.{ReplicaNote}
-use Rattle.paxos_acceptor.specs.declared.notes.ReplicaNote.TheVariants.{Promised, Accepted}
-use Rattle.verify_pass.specs.Votes.{is_ballot_chosen}
+use Rattle.verify_pass.specs.Groups.{cast_of, picked}
+use Rattle.verify_pass.specs.declared.group.Acceptance.{Acceptance}
 use Rattle.verify_pass.specs.declared.chosen.Chosen.{Chosen}
 
--- the batch that the note accepts in the place, if its ballot passes the test
-abbrev pub choice : (Place → Ballot → Bool) → Place → ReplicaNote → Option Batch
-choice test p (Promised shard slot b) = None
-choice test p (Accepted shard slot b v) = if test (place_of shard slot) b && is_place (place_of shard slot) p then Some v else None
+-- what was accepted in the place
+abbrev pub items_of : {Z : Type 0} → Option (Vec Acceptance Z) → List Acceptance
+items_of None = []
+items_of (Some v) = v.items
 
--- the first such batch
-abbrev pub first_of : (Place → Ballot → Bool) → Place → List ReplicaNote → Option Batch
-first_of test p [] = None
-first_of test p (note ∷ notes) = or_else (choice test p note) (first_of test p notes)
+abbrev pub group_in : {S Z : Type 0} → HashMap Place (Vec Acceptance Z) S → Place → List Acceptance
+group_in groups p = items_of (get is_place groups p)
 
-abbrev pub first_in_any : (Place → Ballot → Bool) → Place → List (List ReplicaNote) → Option Batch
-first_in_any test p [] = None
-first_in_any test p (notes ∷ journals) = or_else (first_of test p notes) (first_in_any test p journals)
+abbrev pub group_at : Chosen → Place → List Acceptance
+group_at chosen p = group_in chosen.groups p
 
--- the first batch in the place at a ballot at which a majority accepted
-abbrev pub first_chosen : List (List ReplicaNote) → Place → Option Batch
-first_chosen journals p = first_in_any (is_ballot_chosen journals) p journals
+abbrev pub casts_at : Chosen → Place → List (ℕ × (Ballot × Batch))
+casts_at chosen p = map cast_of (group_at chosen p)
 
--- the batch that was found for the place
+-- the batch that is chosen by it
+abbrev pub batch_in : ℕ → List Acceptance → Option Batch
+batch_in n group = option_map (λ a. a.1) (picked n group)
+
 abbrev pub batch_at : Chosen → Place → Option Batch
-batch_at chosen p = option_map (λ b. b.now) (get is_place chosen.batches p)
+batch_at chosen p = batch_in chosen.replicas (group_at chosen p)
 
 abbrev pub slots : Chosen → ℕ → ℕ → Option Batch
 slots chosen shard slot = batch_at chosen (place_of shard slot)
 
--- nothing was found behind the last slot
+-- nothing was accepted behind the last slot
 abbrev pub EndsBy : Chosen → Type 0
-EndsBy chosen = (p : Place) → chosen.last < p.slot → batch_at chosen p ≡ None
+EndsBy chosen = (p : Place) → chosen.last < p.slot → group_at chosen p ≡ []
 
 -- each is the value of its place
 abbrev pub AreAt : {V : Type 0} → (ℕ → Option V) → List V → Type 0

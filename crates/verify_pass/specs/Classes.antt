@@ -1,12 +1,11 @@
 -- What the records of all journals say of an id: registered, written, missing, and its line in the report.
-use Rattle.std.specs.Prelude.{◌≡◌, ℕ, Bool, true, false, not, ◌&&◌, is_some, nat_lt, List, [], ◌∷◌, ◌++◌, map, find, if◌then◌else◌, Option, Some, None}
+use Rattle.std.specs.Prelude.{Bool, not, ◌&&◌, is_some, nat_lt, List, map, find, if◌then◌else◌, Option, Some, None}
 use Rattle.std.specs.List.{flat_map}
 use Rattle.event_id.specs.declared.id.EventId.{EventId}
-use Rattle.event_id.specs.EventId.{is_same as same_id, id_cmp}
+use Rattle.event_id.specs.EventId.{is_same as same_id}
 use Rattle.registry_state.specs.declared.Batch.{Batch}
 use Rattle.registry_state.specs.LookBack.{holder, bound_of}
 use Rattle.registry_state.specs.Same.{same_batch}
-use Rattle.log_records.specs.declared.records.ClickRec.{ClickRec}
 use Rattle.log_defs.specs.declared.ReportLine.{ReportLine}
 use Rattle.log_defs.specs.declared.ReportLine.TheVariants.{J, M, X, U}
 use Rattle.output_log.specs.declared.pair.PairRec.{PairRec}

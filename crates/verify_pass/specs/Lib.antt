@@ -1,4 +1,4 @@
-pub mod Votes
+pub mod Groups
 pub mod Chosen
 pub mod Classes
 pub mod Written

@@ -1,20 +1,21 @@
 -- Worked rows: what small journals say of one id, whose shard is 3 of 4.
-use Rattle.std.specs.Prelude.{◌≡◌, ℕ, Bool, true, false, List, [], ◌∷◌, ◌++◌, Some, None}
+use Rattle.std.specs.Prelude.{◌≡◌, ℕ, Bool, true, false, List, [], ◌∷◌, ◌++◌, map, Option, Some, None}
 use Rattle.ballot_core.specs.declared.Ballot.{Ballot}
 use Rattle.paxos_defs.specs.declared.Place.{Place}
 use Rattle.registry_state.specs.declared.Token.{Token}
+use Rattle.paxos_defs.specs.Decided as paxos
 use Rattle.registry_state.specs.declared.Batch.{Batch}
+use Rattle.registry_state.specs.Same.{same_batch}
 use Rattle.log_records.specs.declared.records.ClickRec.{ClickRec}
 use Rattle.log_records.specs.Rows.{one_click, one_query}
 use Rattle.log_defs.specs.declared.ReportLine.{ReportLine}
 use Rattle.log_defs.specs.declared.ReportLine.TheVariants.{J, M, X, U}
 use Rattle.output_log.specs.declared.pair.PairRec.{PairRec}
+use Rattle.paxos_acceptor.specs.Cells.{note_view}
 use Rattle.paxos_acceptor.specs.declared.notes.ReplicaNote.{ReplicaNote}
 use Rattle.paxos_acceptor.specs.declared.notes.ReplicaNote.TheVariants.{Promised, Accepted}
 use Rattle.time_shards.specs.declared.ShardRow.{ShardRow}
 use Rattle.verify_pass.specs.declared.journals.Journals.{Journals}
-use Rattle.verify_pass.specs.Votes.{is_ballot_chosen}
-use Rattle.verify_pass.specs.Chosen.{first_chosen}
 use Rattle.verify_pass.specs.Classes.{line_of, is_missing}
 
 -- the journals hold these notes and pairs
@@ -46,9 +47,12 @@ only_bound bound = record { bound = bound; inserts = [] }
 abbrev pub took : ℕ → ℕ → Batch → ReplicaNote
 took slot round v = Accepted 3 slot (ballot round) v
 
--- two of three replicas wrote this note
+-- two of three replicas wrote these notes, or this one
+abbrev pub two_replicas : List ReplicaNote → List (List ReplicaNote)
+two_replicas notes = notes ∷ notes ∷ [] ∷ []
+
 abbrev pub two_wrote : ReplicaNote → List (List ReplicaNote)
-two_wrote note = (note ∷ []) ∷ (note ∷ []) ∷ [] ∷ []
+two_wrote note = two_replicas (note ∷ [])
 
 -- two replicas accepted the batch, each at a ballot of its own
 abbrev pub split : List (List ReplicaNote)
@@ -87,19 +91,43 @@ pub record ClassRows : Type 0 where
   -- one of three is no majority, nor are two at two ballots
   pub one_of_three : Says ((took 0 1 one_batch ∷ []) ∷ [] ∷ [] ∷ []) [] (U one_click.id) false
   pub two_ballots : Says split [] (U one_click.id) false
+  -- two batches at one ballot, each by one of three
+  pub two_batches : Says ((took 0 1 one_batch ∷ []) ∷ (took 0 1 (only_bound 2001) ∷ []) ∷ [] ∷ []) [] (U one_click.id) false
+  -- a majority raised the bound, and then another one registered the id at a higher ballot
+  pub two_majorities : Says (two_replicas (took 0 2 one_batch ∷ took 0 1 (only_bound 2001) ∷ [])) [] (X one_click.id) false
   -- nothing counts behind a slot in which nothing is chosen, nor in another shard
   pub behind_a_gap : Says (two_wrote (took 1 1 one_batch)) [] (U one_click.id) false
   pub other_shard : Says (two_wrote (Accepted 2 0 (ballot 1) one_batch)) [] (U one_click.id) false
   -- a promise is no acceptance
   pub promised : Says (two_wrote (Promised 3 0 (ballot 1))) [] (U one_click.id) false
 
+-- the batch that is chosen in a slot
+abbrev pub chosen_in : List (List ReplicaNote) → ℕ → Option Batch
+chosen_in notes slot = paxos.chosen same_batch (map (map note_view) notes) (place slot)
+
 pub record ChosenRows : Type 0 where
-  pub two_of_three : first_chosen (two_wrote (took 0 1 one_batch)) (place 0) ≡ Some one_batch
-  pub other_slot : first_chosen (two_wrote (took 0 1 one_batch)) (place 1) ≡ None
-  pub one_of_three : first_chosen ((took 0 1 one_batch ∷ []) ∷ [] ∷ [] ∷ []) (place 0) ≡ None
-  pub two_of_four : first_chosen (two_wrote (took 0 1 one_batch) ++ [] ∷ []) (place 0) ≡ None
-  pub two_ballots : first_chosen split (place 0) ≡ None
+  pub two_of_three : chosen_in (two_wrote (took 0 1 one_batch)) 0 ≡ Some one_batch
+  pub other_slot : chosen_in (two_wrote (took 0 1 one_batch)) 1 ≡ None
+  pub one_of_three : chosen_in ((took 0 1 one_batch ∷ []) ∷ [] ∷ [] ∷ []) 0 ≡ None
+  pub two_of_four : chosen_in (two_wrote (took 0 1 one_batch) ++ [] ∷ []) 0 ≡ None
+  pub two_ballots : chosen_in split 0 ≡ None
   -- accepted twice by one replica counts once
-  pub twice : first_chosen ((took 0 1 one_batch ∷ took 0 1 one_batch ∷ []) ∷ [] ∷ [] ∷ []) (place 0) ≡ None
-  pub at_its_ballot : is_ballot_chosen (two_wrote (took 0 1 one_batch)) (place 0) (ballot 1) ≡ true
-  pub at_another : is_ballot_chosen (two_wrote (took 0 1 one_batch)) (place 0) (ballot 2) ≡ false
+  pub twice : chosen_in ((took 0 1 one_batch ∷ took 0 1 one_batch ∷ []) ∷ [] ∷ [] ∷ []) 0 ≡ None
+
+abbrev pub other_batch : Batch
+other_batch = only_bound 7
+
+-- journals that disagree
+pub record ApartRows : Type 0 where
+  -- two batches at one ballot, and no majority for either
+  pub two_values : chosen_in ((took 0 1 one_batch ∷ []) ∷ (took 0 1 other_batch ∷ []) ∷ [] ∷ []) 0 ≡ None
+  -- a majority for one batch, and another one beside it at the same ballot
+  pub stray_first : chosen_in ((took 0 1 other_batch ∷ []) ∷ (took 0 1 one_batch ∷ []) ∷ (took 0 1 one_batch ∷ []) ∷ []) 0 ≡ Some one_batch
+  pub stray_last : chosen_in ((took 0 1 one_batch ∷ []) ∷ (took 0 1 one_batch ∷ []) ∷ (took 0 1 other_batch ∷ []) ∷ []) 0 ≡ Some one_batch
+  -- a majority at two ballots: the batch at the lower one, whichever is written first
+  pub lower_first : chosen_in (two_replicas (took 0 1 one_batch ∷ took 0 2 other_batch ∷ [])) 0 ≡ Some one_batch
+  pub lower_last : chosen_in (two_replicas (took 0 2 other_batch ∷ took 0 1 one_batch ∷ [])) 0 ≡ Some one_batch
+  pub lower_behind : chosen_in ((took 0 2 other_batch ∷ []) ∷ (took 0 2 other_batch ∷ took 0 1 one_batch ∷ []) ∷ (took 0 1 one_batch ∷ []) ∷ []) 0 ≡ Some one_batch
+  -- two batches at one ballot, and the same majority for both: the first one
+  pub both : chosen_in (two_replicas (took 0 1 one_batch ∷ took 0 1 other_batch ∷ [])) 0 ≡ Some one_batch
+  pub both_turned : chosen_in (two_replicas (took 0 1 other_batch ∷ took 0 1 one_batch ∷ [])) 0 ≡ Some other_batch

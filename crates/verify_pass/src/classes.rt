@@ -2,11 +2,10 @@
 ghost use Rattle.std.specs.Prelude.{◌≡◌, List, length, map, IfOk};
 ghost use Rattle.log_records.specs.declared.records.ClickRec.{ClickRec as Click};
 ghost use Rattle.log_defs.specs.Report.{distinct};
-ghost use Rattle.paxos_defs.specs.Agreement.{JournalsAgree};
 ghost use Rattle.event_id.specs.declared.id.EventId.{EventId as Id};
 ghost use Rattle.registry_state.specs.declared.Batch.{Batch as Value};
 ghost use Rattle.time_shards.specs.Shards.{shard_count};
-ghost use Rattle.verify_pass.specs.Classes.{line_by, line_of, notes_of};
+ghost use Rattle.verify_pass.specs.Classes.{line_by, line_of};
 ghost use Rattle.verify_pass.specs.States.{KnowAll};
 ghost use Rattle.verify_pass.specs.Written.{pair_at};
 
@@ -27,15 +26,16 @@ use time_shards::Table;
 /// first one, in the order of the disks), else missing where the id is registered in its shard, else expired where it
 /// lies below its shard's bound, else unmatched.
 ///
-/// O(n log n) for n clicks, and expected linear time in the records, twice over the notes: a note costs a look-up for
-/// each replica. It copies the texts of the pairs that are told, and no other record.
+/// O(n log n) for n clicks, and expected linear time in the records where a place has few acceptances: those of one place
+/// are compared each with each, with a test for each replica. It takes memory for each acceptance, and copies the texts
+/// of the pairs that are told, and no other record.
 pub fn classify(
     alloc: Global,
     clicks: &[ClickRec],
     journals: &Journals,
     table: &Table,
 ) -> Result<Vec<ReportLine>, AllocError>
-    ensures { IfOk result (λ lines. JournalsAgree (notes_of journals.now) → lines.items ≡ map (λ (c : Click). line_of journals.now table.now c.id) (distinct clicks.now)) }
+    ensures { IfOk result (λ lines. lines.items ≡ map (λ (c : Click). line_of journals.now table.now c.id) (distinct clicks.now)) }
 {
     let chosen = Chosen::of(alloc, &journals.notes)?;
     let registries = registries(alloc, &chosen, table.shards())?;

@@ -5,12 +5,12 @@
 mod chosen;
 mod classes;
 mod distinct;
+mod group;
 mod journals;
 pub mod laws;
 mod lines;
 mod states;
 mod unwritten;
-mod votes;
 mod written;
 
 pub use classes::classify;

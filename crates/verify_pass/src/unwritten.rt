@@ -3,10 +3,9 @@ ghost use Rattle.std.specs.Prelude.{◌≡◌, ◌++◌, ◌∷◌, [], IfOk, On
 ghost use Rattle.event_id.specs.declared.id.EventId.{EventId as Id};
 ghost use Rattle.event_id.specs.EventId.{id_cmp};
 ghost use Rattle.registry_state.specs.declared.Batch.{Batch as Value};
-ghost use Rattle.paxos_defs.specs.Agreement.{JournalsAgree};
 ghost use Rattle.std.specs.List.Sorted.{IsStrictlySortedBy};
 ghost use Rattle.time_shards.specs.Shards.{shard_count};
-ghost use Rattle.verify_pass.specs.Classes.{is_missing as is_unwritten, is_missing_by, notes_of};
+ghost use Rattle.verify_pass.specs.Classes.{is_missing as is_unwritten, is_missing_by};
 ghost use Rattle.verify_pass.specs.States.{KnowAll};
 ghost use Rattle.verify_pass.specs.Written.{pair_at};
 
@@ -21,15 +20,16 @@ use time_shards::Table;
 
 /// The ids that are registered in their shard and that no pair has in any output log: each once, in their order.
 ///
-/// O(n log n) for n decided inserts, and expected linear time in the records, twice over the notes: a note costs a
-/// look-up for each replica. It copies no record.
+/// O(n log n) for n decided inserts, and expected linear time in the records where a place has few acceptances: those of
+/// one place are compared each with each, twice, with a test for each replica. It takes memory for each acceptance, and
+/// copies no record.
 pub fn missing(
     alloc: Global,
     journals: &Journals,
     table: &Table,
 ) -> Result<Vec<EventId>, AllocError>
     ensures rising { IfOk result (λ ids. IsStrictlySortedBy id_cmp ids.items) }
-    ensures exactly { IfOk result (λ ids. JournalsAgree (notes_of journals.now) → (i : Id) → Contains ids.items i ↔ (is_unwritten journals.now table.now i ≡ true)) }
+    ensures exactly { IfOk result (λ ids. (i : Id) → Contains ids.items i ↔ (is_unwritten journals.now table.now i ≡ true)) }
 {
     let chosen = Chosen::of(alloc, &journals.notes)?;
     let registries = registries(alloc, &chosen, table.shards())?;

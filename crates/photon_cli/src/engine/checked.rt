@@ -1,9 +1,11 @@
-// The two logs, opened, read whole and checked.
-ghost use Rattle.std.specs.Prelude.{◌≡◌, ◌⊎◌, ℕ, List, IfOk, IfErr, IsSomeAnd, IsTrue, Err};
+// The two logs, opened and checked whole.
+ghost use Rattle.std.specs.Prelude.{◌≡◌, ◌⊎◌, ℕ, List, length, IfOk, IfErr, IsSomeAnd, IsTrue, OnOk, Err};
 ghost use Rattle.outside.specs.Faults.{Counts};
 ghost use Rattle.log_records.specs.declared.records.QueryRec.{QueryRec as Query};
 ghost use Rattle.log_records.specs.declared.why.Why.{Why as Reason};
 ghost use Rattle.log_records.specs.Check.{IsQueryLog, IsClickLog, RefusesQuery, RefusesClick};
+ghost use Rattle.log_records.specs.declared.check.BadLine.{BadLine as Bad};
+ghost use Rattle.log_check.specs.declared.check.CheckFault.TheVariants as check_fault;
 ghost use Rattle.run_faults.specs.declared.fault.LogName.{LogName as LogKind};
 ghost use Rattle.run_faults.specs.declared.fault.LogName.TheVariants.{Queries, Clicks};
 ghost use Rattle.photon_cli.specs.declared.engine.fault.Fault.TheVariants as fault;
@@ -13,7 +15,8 @@ ghost use Rattle.photon_cli.specs.LogFaults.{IsLogFault, failed_read, refusal_of
 use super::fault::Fault;
 use super::read::{ReadError, read_all};
 use kept_places::lines_end;
-use log_records::{BadLine, ClickRec, QueryRec, Why, clicks_of, queries_of};
+use log_check::{CheckFault, check_query_log};
+use log_records::{BadLine, ClickRec, Why, clicks_of};
 use outside::{OpenFault, Source};
 use run_faults::{LogName, RunFault};
 use std::alloc::Global;
@@ -60,22 +63,36 @@ fn read_log<F: Source>(
     }
 }
 
-/// Checks the whole query log, and gives its queries in their order.
-pub fn queries_in_log<F: Source>(
+// Checks an open query log, line by line, and shuts it.
+fn checked_file<F: Source>(
     alloc: Global,
     files: &mut F,
-    name: &str,
-) -> Result<Vec<QueryRec>, Fault>
-    ensures found { IsTrue F.Log.tells → IfOk result (λ v. IsSomeAnd (F.bytes files.old name.now) (λ log. IsQueryLog log v.items)) }
+    file: F::Log,
+) -> Result<u64, CheckFault>
+    ensures found { IsTrue F.Log.tells → IfOk result (λ n. (qs : List Query) × IsQueryLog (F.Log.bytes file) qs × (n ≡ length qs)) }
+    ensures refused { IsTrue F.Log.tells → (bad : Bad) → result ≡ Err (check_fault.Refused bad) → RefusesQuery (F.Log.bytes file) bad }
+    ensures same { IsTrue F.Log.tells → (n : List ℕ) → F.bytes files.new n ≡ F.bytes files.old n }
+    ensures count { Counts (F.faults files.old) (F.faults files.new) (result ≡ Err check_fault.Read) }
+{
+    let (file, checked) = check_query_log(alloc, file);
+    files.shut(file);
+    checked
+}
+
+/// Checks the whole query log, line by line. No more than a line of it is held in memory.
+pub fn check_queries_in<F: Source>(alloc: Global, files: &mut F, name: &str) -> Result<(), Fault>
+    ensures found { IsTrue F.Log.tells → OnOk result (IsSomeAnd (F.bytes files.old name.now) (λ log. (qs : List Query) × IsQueryLog log qs)) }
     ensures refused { IsTrue F.Log.tells → (line : ℕ) (w : Reason) → result ≡ Err (fault.Refused Queries line w) → IsSomeAnd (F.bytes files.old name.now) (λ log. RefusesQuery log (record { line = line; why = w })) }
     ensures same { IsTrue F.Log.tells → (n : List ℕ) → F.bytes files.new n ≡ F.bytes files.old n }
     ensures fault { IfErr result (IsLogFault Queries) }
     ensures count { Counts (F.faults files.old) (F.faults files.new) (result ≡ Err (failed_read Queries)) }
 {
-    let bytes = read_log(alloc, files, name, LogName::Queries)?;
-    match queries_of(alloc, &bytes) {
-        Ok(queries) => Ok(queries),
-        Err(bad) => Err(refused(LogName::Queries, bad)),
+    let file = open_log(alloc, files, name, LogName::Queries)?;
+    match checked_file(alloc, files, file) {
+        Ok(_) => Ok(()),
+        Err(CheckFault::Refused(bad)) => Err(refused(LogName::Queries, bad)),
+        Err(CheckFault::Read) => Err(Fault::Run(RunFault::Read(LogName::Queries))),
+        Err(CheckFault::Memory) => Err(Fault::Memory),
     }
 }
 
@@ -125,9 +142,8 @@ pub fn checked_logs<F: Source>(
     ensures fault { IfErr result (λ f. (log : LogKind) × IsLogFault log f) }
     ensures count { Counts (F.faults files.old) (F.faults files.new) ((log : LogKind) × (result ≡ Err (failed_read log))) }
 {
-    let query_records = queries_in_log(alloc, files, queries)?;
+    check_queries_in(alloc, files, queries)?;
     let click_records = clicks_in_log(alloc, files, clicks)?;
-    drop(query_records);
     Ok(click_records)
 }
 

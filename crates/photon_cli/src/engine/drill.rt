@@ -1,7 +1,10 @@
 // A drill: both sites run over a store in memory that is empty at first, and a plan says what goes wrong.
-ghost use Rattle.std.specs.Prelude.{◌≡◌, ◌<◌, ◌≤◌, ◌⊎◌, ℕ, List, map, false, IfErr, IfOk, IfSome, IsErrAnd, IsSomeAnd, IsTrue, OnOk, Err};
+ghost use Rattle.std.specs.Prelude.{◌≡◌, ◌<◌, ◌≤◌, ◌⊎◌, ⊤, [], ℕ, List, map, false, IfErr, IfOk, IfSome, IsErrAnd, IsSomeAnd, IsTrue, OnOk, Err};
 ghost use Rattle.std.specs.List.{list_any};
+ghost use Rattle.outside.specs.declared.store.DiskName.{DiskName};
 ghost use Rattle.outside.specs.Faults.{Counts};
+ghost use Rattle.mem_outside.specs.Plan.{is_planned};
+ghost use Rattle.drill_store.specs.Planned.{planned_for};
 ghost use Rattle.time_shards.specs.Shards.{IsTable};
 ghost use Rattle.time_shards.specs.Text.{IsFirstBad};
 ghost use Rattle.lossy_link.specs.Fates.{PlanView};
@@ -15,7 +18,7 @@ ghost use Rattle.store_run.specs.Asked.{OfSetting};
 ghost use Rattle.photon_cli.specs.declared.engine.fault.Fault.TheVariants as fault;
 ghost use Rattle.photon_cli.specs.Drill.{is_late_stop, Drills, IsBadIn, IsDrilled, IsPlanIn, PrintsDrill, PrintsDrillPrefix};
 ghost use Rattle.photon_cli.specs.Join.{AreValid, Refuses};
-ghost use Rattle.photon_cli.specs.LogFaults.{IsBeforeLogs, IsEarlyInDrill, IsFailedRead, IsLogFault, IsOfRun, failed_read};
+ghost use Rattle.photon_cli.specs.LogFaults.{IsBeforeLogs, IsEarlyInDrill, IsFailedRead, IsFair, IsLogFault, IsOfRun, failed_read};
 ghost use Rattle.photon_cli.specs.Words.{AreInRanges, IsTextOf, values_in};
 
 use super::checked::{CheckedClicks, checked_logs};
@@ -27,12 +30,14 @@ use air_bus::Entry;
 use drill_store::{stops_a_joiner, store_for};
 use log_defs::ReportLine;
 use lossy_link::Plan;
-use outside::{Gate, Sink, Source};
+use mem_outside::MemStore;
+use outside::{Gate, Sink, Source, Store};
 use report_text::write_report;
 use site_nodes::Config;
 use std::alloc::Global;
 use std::sync::Wait;
 use std::thread::Threads;
+use store_laws::empty_store;
 use store_run::{Names, Ran};
 use time_shards::Table;
 
@@ -73,7 +78,8 @@ fn is_unplanned(spared: bool, ran: &Ran) -> bool
     spared && joiner_stopped(ran)
 }
 
-// Runs both sites over a store in memory, and gives the report's line for each distinct click id.
+// Runs both sites over a store in memory that holds nothing and whose disks stop as the plan says, and gives the report's line for
+// each distinct click id.
 //
 // A joiner's node stops only where one of its disks does, so that it has stopped with no such stop in the plan is never met.
 fn drill_lines<R, F, G>(
@@ -84,6 +90,7 @@ fn drill_lines<R, F, G>(
     clicks: &CheckedClicks,
     plan: Plan,
     files: &mut F,
+    store: &mut MemStore,
     gate: &G,
     ran: &mut Ran,
 ) -> Result<Vec<ReportLine>, Fault>
@@ -92,20 +99,21 @@ where
     F: Source,
     G: Gate,
     F::Log: Drop,
+    requires empty { (disk : DiskName) (c : List ℕ) → ⟦<MemStore as Store>⟧.image store.old disk c → c ≡ [] }
+    requires planned { (disk : DiskName) (call : ℕ) → ⟦<MemStore as Store>⟧.stops store.old disk call ≡ is_planned (planned_for config.now.joiners plan.stops disk) call }
     requires joiners { (0 < config.now.joiners) × (config.now.joiners ≤ 4) }
     requires table { IsTable config.now.table }
     requires batch { config.now.batch ≤ 64 }
     ensures drilled { IsTrue F.Log.tells → OfSetting (F.bytes files.old) names.now.queries.now names.now.clicks.now config.now clicks.now.lines_end (λ g. map (λ (l : ClickLine). l.click) g.clicks ≡ clicks.now.records.items
         → IfOk result (λ lines. IsSomeAnd ran.new.log (IsDrilled g plan lines.items))) }
+    ensures fair { IsTrue F.Log.tells → OfSetting (F.bytes files.old) names.now.queries.now names.now.clicks.now config.now clicks.now.lines_end (λ g. IfErr result (IsFair ⊤)) }
     ensures cause { IfErr result IsOfRun }
     ensures count { Counts (F.faults files.old) (F.faults files.new) ((log : LogKind) × (result ≡ Err (failed_read log))) }
 {
+    empty_store::<MemStore>();
     let spared = !stops_a_joiner(&plan);
-    let Ok(mut store) = store_for(alloc, &plan, config.joiners) else {
-        return Err(Fault::Memory);
-    };
     let lines = match run_lines(
-        rt, alloc, config, names, clicks, plan, files, &mut store, gate, ran,
+        rt, alloc, config, names, clicks, plan, files, store, gate, ran,
     ) {
         Ok(lines) => lines,
         Err(fault) => return Err(fault),
@@ -139,6 +147,7 @@ where
     ensures refused { IsTrue F.Log.tells → (log : LogKind) (line : ℕ) (w : Reason) → result ≡ Err (fault.Refused log line w)
         → Refuses (F.bytes files.old) (values_in wanted.now).queries (values_in wanted.now).clicks log (record { line = line; why = w }) }
     ensures valid { IsTrue F.Log.tells → AreValid (F.bytes files.old) (values_in wanted.now).queries (values_in wanted.now).clicks ⊎ IsErrAnd result (λ f. (log : LogKind) × IsLogFault log f) }
+    ensures fair { IsTrue F.Log.tells → IfErr result (IsFair ⊤) }
     ensures cause { IfErr result (λ f. ((log : LogKind) × IsLogFault log f) ⊎ IsOfRun f) }
     ensures count { Counts (F.faults files.old) (F.faults files.new) ((log : LogKind) × (result ≡ Err (failed_read log))) }
 {
@@ -147,13 +156,18 @@ where
         Ok(clicks) => clicks,
         Err(fault) => return Err(fault),
     };
+    let Ok(mut store) = store_for(alloc, &plan, wanted.joiners) else {
+        return Err(Fault::Memory);
+    };
     let config = Config {
         horizon: wanted.horizon,
         joiners: wanted.joiners,
         table,
         batch: wanted.batch,
     };
-    drill_lines(rt, alloc, &config, &names, &clicks, plan, files, gate, ran)
+    drill_lines(
+        rt, alloc, &config, &names, &clicks, plan, files, &mut store, gate, ran,
+    )
 }
 
 /// Drills with the plan of a file, and writes the report.
@@ -191,7 +205,9 @@ where
         → Refuses (F.bytes files.old) (values_in wanted.now).queries (values_in wanted.now).clicks log (record { line = line; why = w }) }
     ensures valid { IsTrue F.Log.tells → AreValid (F.bytes files.old) (values_in wanted.now).queries (values_in wanted.now).clicks ⊎ IsErrAnd result IsEarlyInDrill }
 
-    // The other faults come only where a count rose, but for want of memory and what goes wrong by the plan.
+    // The other faults come only where a count rose, but for want of memory and what goes wrong by the plan. The store that it
+    // makes is never one for another table, other places or other joiners.
+    ensures fair { IsTrue F.Log.tells → IfErr result (IsFair ⊤) }
     ensures cause { IfErr result (λ f. IsEarlyInDrill f ⊎ ((f ≡ fault.Write) ⊎ IsOfRun f)) }
     ensures read { Counts (F.faults files.old) (F.faults files.new) (IsErrAnd result IsFailedRead) }
     ensures write { Counts (K.faults out.old) (K.faults out.new) (result ≡ Err fault.Write) }

@@ -9,7 +9,6 @@ ghost use Rattle.log_records.specs.declared.why.Why.{Why as Reason};
 ghost use Rattle.log_records.specs.Check.{IsClickLog, RefusesClick};
 ghost use Rattle.log_defs.specs.Report.{distinct, is_missing};
 ghost use Rattle.log_defs.specs.declared.ReportLine.TheVariants.{U};
-ghost use Rattle.paxos_defs.specs.Agreement.{JournalsAgree};
 ghost use Rattle.run_faults.specs.declared.fault.LogName.TheVariants.{Clicks};
 ghost use Rattle.run_faults.specs.declared.fault.StorePlace.{StorePlace as Place};
 ghost use Rattle.run_faults.specs.declared.fault.RunFault.TheVariants as cause;
@@ -18,7 +17,7 @@ ghost use Rattle.turn_defs.specs.Setting.{Setting};
 ghost use Rattle.site_disks.specs.Lent.{StaysAs};
 ghost use Rattle.store_laws.specs.Stores.{IsSoundStore};
 ghost use Rattle.store_run.specs.Causes.{of_place};
-ghost use Rattle.verify_pass.specs.Classes.{line_of, notes_of};
+ghost use Rattle.verify_pass.specs.Classes.{line_of};
 ghost use Rattle.photon_cli.specs.declared.engine.fault.Fault.TheVariants as fault;
 ghost use Rattle.photon_cli.specs.LogFaults.{IsFailedRead, IsLogFault, IsOfRun, IsOfVerify};
 ghost use Rattle.photon_cli.specs.Verify.{IsReadFrom, PrintsKept, PrintsKeptPrefix};
@@ -79,7 +78,7 @@ fn kept_lines(
     clicks: &[ClickRec],
     kept: &KeptStore,
 ) -> Result<Vec<ReportLine>, AllocError>
-    ensures some { IfOk result (λ lines. (t : KeptTopology) → kept.now.topology ≡ Some t → JournalsAgree (notes_of kept.now.journals) → lines.items ≡ map (λ (c : Click). line_of kept.now.journals t.table c.id) (distinct clicks.now)) }
+    ensures some { IfOk result (λ lines. (t : KeptTopology) → kept.now.topology ≡ Some t → lines.items ≡ map (λ (c : Click). line_of kept.now.journals t.table c.id) (distinct clicks.now)) }
     ensures none { IfOk result (λ lines. kept.now.topology ≡ None → lines.items ≡ map (λ (c : Click). U c.id) (distinct clicks.now)) }
 {
     match &kept.topology {

@@ -1,4 +1,4 @@
-use Rattle.std.proofs.Common.{inl, inr, ⊎_elim, subst, arith}
+use Rattle.std.proofs.Common.{inl, inr, ⊎_elim, refl, subst, arith}
 use Rattle.command_words.specs.declared.asked.Asked.{Asked}
 use Rattle.photon_cli.specs.Words.{AsksBulk, AsksDrill, AsksJoin, AsksVerify}
 use Rattle.photon_cli.proofs.top.obey.Goals as goal
@@ -35,7 +35,9 @@ returns-in-Drill-clause-drill g c v plan asks =
       invalid = c.drill_command.ensures.invalid;
       prefix = c.drill_command.ensures.prefix;
       tells = c.drill_command.ensures.told;
+      welcome = c.drill_command.ensures.welcome;
       complete = c.drill_command.ensures.complete;
+      store = refl;
     })
 
 pub returns-in-Verify-clause-verify : goal.returns-in-Verify-clause-verify
@@ -64,6 +66,7 @@ returns-in-Bulk-clause-bulk g c v asks =
       lines = c.bulk_command.ensures.lines;
       prefix = c.bulk_command.ensures.prefix;
       tells = c.bulk_command.ensures.told;
+      store = refl;
     })
 
 pub returns-in-Bulk-clause-read : goal.returns-in-Bulk-clause-read

@@ -86,7 +86,7 @@ returns-clause-kept g c =
 pub returns-clause-report : goal.returns-clause-report
 returns-clause-report g c sure =
     ok_tells g.S.Disk.Disk.tells sure (g.S.Store.image c.args.store.now) g.L.LogFile.tells (g.L.LogFile.bytes c.args.clicks.now) c.args.end
-    c.read.ensures.topology c.read.ensures.notes (λ s. c.opened.ensures s c.args.store.now) c.verification.ensures.report c.verification.ensures.agrees c.read_disks-read.result (returns-clause-kept g c)
+    c.read.ensures.topology c.read.ensures.notes (λ s. c.opened.ensures s c.args.store.now) c.verification.ensures.report c.read_disks-read.result (returns-clause-kept g c)
 
 pub returns-clause-blank : goal.returns-clause-blank
 returns-clause-blank g c sure =

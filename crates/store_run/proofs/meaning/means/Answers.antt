@@ -14,7 +14,6 @@ returns-clause-joins g c h before after hist js lines =
       report = c.exact_report.ensures.report;
       missing = c.headline.ensures.missing;
       tells = c.verification.ensures.report;
-      agrees = c.verification.ensures.agrees;
     } in
     joins laws h (g.S.Store.image before) (g.S.Store.image after) hist (Rose (g.S.Store.faults before) (g.S.Store.faults after)) js lines
 
@@ -30,7 +29,6 @@ returns-clause-afresh g c h before after hist js lines =
       report = c.exact_report.ensures.report;
       missing = c.headline.ensures.missing;
       tells = c.verification.ensures.report;
-      agrees = c.verification.ensures.agrees;
     } in
     afresh laws h (g.S.Store.image before) (g.S.Store.image after) hist (Rose (g.S.Store.faults before) (g.S.Store.faults after)) js lines
 
@@ -46,7 +44,6 @@ returns-clause-by_stops g c h before after hist js lines =
       report = c.exact_report.ensures.report;
       missing = c.headline.ensures.missing;
       tells = c.verification.ensures.report;
-      agrees = c.verification.ensures.agrees;
     } in
     joins_by_stops laws c.none_stops.ensures h (g.S.Store.image before) (g.S.Store.image after) hist (Rose (g.S.Store.faults before) (g.S.Store.faults after)) js lines
 
@@ -62,6 +59,5 @@ returns-clause-ran g c h before after hist js lines =
       report = c.exact_report.ensures.report;
       missing = c.headline.ensures.missing;
       tells = c.verification.ensures.report;
-      agrees = c.verification.ensures.agrees;
     } in
     ran laws c.none_stops.ensures h (g.S.Store.image before) (g.S.Store.image after) hist (Rose (g.S.Store.faults before) (g.S.Store.faults after)) js lines

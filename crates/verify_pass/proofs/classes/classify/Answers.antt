@@ -1,4 +1,4 @@
-use Rattle.std.proofs.Common.{◌≡◌, ℕ, List, map, Some, ap, sym, ◌∙◌, subst}
+use Rattle.std.proofs.Common.{◌≡◌, List, map, Some, ap, ◌∙◌, subst}
 use Rattle.std.specs.Prelude.{slice_get}
 use Rattle.std.specs.List.{flat_map}
 use Rattle.std.proofs.lemmas.Simd.{map-map}
@@ -8,11 +8,14 @@ use Rattle.log_defs.specs.declared.ReportLine.{ReportLine}
 use Rattle.log_defs.specs.Report.{distinct}
 use Rattle.output_log.specs.declared.pair.PairRec.{PairRec}
 use Rattle.paxos_defs.specs.declared.Place.{Place}
+use Rattle.paxos_defs.specs.Decided as paxos
+use Rattle.registry_state.specs.Same.{same_batch}
+use Rattle.paxos_acceptor.specs.Cells.{note_view}
 use Rattle.paxos_acceptor.specs.declared.notes.ReplicaNote.{ReplicaNote}
 use Rattle.registry_state.specs.declared.Batch.{Batch}
 use Rattle.registry_state.specs.declared.registry.Registry.{Registry}
 use Rattle.time_shards.specs.Shards.{shard_of}
-use Rattle.verify_pass.specs.Chosen.{batch_at, first_chosen}
+use Rattle.verify_pass.specs.Chosen.{batch_at}
 use Rattle.verify_pass.specs.Classes.{all_pairs, decided_for, first_pair, line_by}
 use Rattle.verify_pass.specs.States.{KnowAll}
 use Rattle.verify_pass.specs.Written.{pair_at}
@@ -20,16 +23,16 @@ use Rattle.verify_pass.proofs.Whole.{decided_front}
 use Rattle.verify_pass.proofs.classes.classify.Goals as goal
 
 pub returns : goal.returns
-returns c = λ agree.
+returns c =
     let js = c.args.journals.now in
     let table = c.args.table.now in
     let chosen = c.in_ok-chosen.chosen in
     let written = c.in_ok-written.written in
     let clicks = distinct c.args.clicks.now in
     let batches : EventId → List Batch = λ i. decided_for js table i in
-    let found : (p : Place) → batch_at chosen p ≡ first_chosen js.notes.items p = λ p. c.in_ok-chosen.ensures.batches p ∙ ap (λ (l : List (List ReplicaNote)). first_chosen l p) c.deref.ensures.value in
+    let found : (p : Place) → batch_at chosen p ≡ paxos.chosen same_batch (map (map note_view) js.notes.items) p = λ p. c.in_ok-chosen.ensures.batches p ∙ ap (λ (l : List (List ReplicaNote)). paxos.chosen same_batch (map (map note_view) l) p) c.deref.ensures.value in
     let known : KnowAll c.deref-4.result.now table batches = λ i state at.
-    c.in_ok-registries.ensures.known c.in_ok-chosen.ensures.last (shard_of table i) state (subst (λ (rs : List Registry). slice_get rs (shard_of table i) ≡ Some state) c.deref-4.ensures.value at) (batches i) (decided_front js.notes.items chosen (shard_of table i) found agree) in
+    c.in_ok-registries.ensures.known c.in_ok-chosen.ensures.last (shard_of table i) state (subst (λ (rs : List Registry). slice_get rs (shard_of table i) ≡ Some state) c.deref-4.ensures.value at) (batches i) (decided_front js.notes.items chosen (shard_of table i) found) in
     let pairs : (i : EventId) → pair_at written i ≡ first_pair (all_pairs js) i = λ i. c.in_ok-written.ensures i ∙ ap (λ (l : List (List PairRec)). first_pair (flat_map (λ (ps : List PairRec). ps) l) i) c.deref-2.ensures.value in
     let g : EventId → ReportLine = λ i. line_by (batches i) i (pair_at written i) in
     c.in_ok-lines.ensures batches known

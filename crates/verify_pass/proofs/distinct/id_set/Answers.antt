@@ -1,4 +1,4 @@
-use Rattle.std.proofs.Common.{◌≡◌, ◌-◌, List, length, get_or, drop, ap, sym, ◌∙◌, arith}
+use Rattle.std.proofs.Common.{◌-◌, List, length, get_or, drop, ap, sym, ◌∙◌, arith}
 use Rattle.std.specs.BTreeSet.{insert_key}
 use Rattle.event_id.specs.declared.id.EventId.{EventId}
 use Rattle.event_id.specs.EventId.{id_cmp}

@@ -1,7 +1,6 @@
 use Rattle.std.proofs.Common.{◌≡◌, Bool, List, map, refl, ap, ◌∙◌}
 use Rattle.std.specs.List.{flat_map}
 use Rattle.paxos_defs.specs.Decided.{decided}
-use Rattle.registry_state.specs.declared.Batch.{Batch}
 use Rattle.registry_state.specs.Same.{same_batch}
 use Rattle.paxos_acceptor.specs.Cells.{note_view}
 use Rattle.paxos_acceptor.specs.declared.notes.ReplicaNote.{ReplicaNote}
@@ -37,10 +36,15 @@ returns-clause-classes c = record {
   dropped = says _ _ _ _ (unfold decided in refl) (unfold decided in refl);
   one_of_three = says _ _ _ _ (unfold decided in refl) (unfold decided in refl);
   two_ballots = says _ _ _ _ (unfold decided in refl) (unfold decided in refl);
+  two_batches = says _ _ _ _ (unfold decided in refl) (unfold decided in refl);
+  two_majorities = says _ _ _ _ (unfold decided in refl) (unfold decided in refl);
   behind_a_gap = says _ _ _ _ (unfold decided in refl) (unfold decided in refl);
   other_shard = says _ _ _ _ (unfold decided in refl) (unfold decided in refl);
   promised = says _ _ _ _ (unfold decided in refl) (unfold decided in refl);
 }
 
 pub returns-clause-chosen : goal.returns-clause-chosen
-returns-clause-chosen c = record { two_of_three = refl; other_slot = refl; one_of_three = refl; two_of_four = refl; two_ballots = refl; twice = refl; at_its_ballot = refl; at_another = refl }
+returns-clause-chosen c = record { two_of_three = refl; other_slot = refl; one_of_three = refl; two_of_four = refl; two_ballots = refl; twice = refl }
+
+pub returns-clause-apart : goal.returns-clause-apart
+returns-clause-apart c = record { two_values = refl; stray_first = refl; stray_last = refl; lower_first = refl; lower_last = refl; lower_behind = refl; both = refl; both_turned = refl }

@@ -1,6 +1,6 @@
-use Rattle.std.proofs.Common.{◌≡◌, ℕ, ◌+◌, subst, arith}
+use Rattle.std.proofs.Common.{◌≡◌, ℕ, ◌+◌, ap, subst, arith}
 use Rattle.paxos_acceptor.specs.Cells.{place_of}
-use Rattle.verify_pass.specs.Chosen.{slots}
+use Rattle.verify_pass.specs.Chosen.{batch_in, slots}
 use Rattle.verify_pass.specs.States.{HasAt}
 use Rattle.verify_pass.proofs.Fronts.{has_start, has_ended}
 use Rattle.verify_pass.proofs.states.add_shard.Goals as goal
@@ -13,4 +13,4 @@ returns-clause-each c = λ ends.
     let f = slots c.args.chosen.now c.args.shard in
     let last = c.last-last.result in
     let here : c.loop-slot.slot ≡ last = omega (arith, c.loop-slot.auto.slot-end, c.loop-slot-test.false) in
-    has_ended f last c.args.ids.now c.loop-slot.ids c.add_slot-2.new.ids c.in_ok-add_slot-2.field-0 c.in_ok-add_slot-2.ensures.next c.in_ok-add_slot-2.ensures.whole (ends (place_of c.args.shard (last + 1)) (omega (arith, c.last-last.ensures))) (subst (λ (n : ℕ). HasAt f n c.args.ids.now c.loop-slot.ids) here c.loop-slot.invariant.each)
+    has_ended f last c.args.ids.now c.loop-slot.ids c.add_slot-2.new.ids c.in_ok-add_slot-2.field-0 c.in_ok-add_slot-2.ensures.next c.in_ok-add_slot-2.ensures.whole (ap (batch_in c.args.chosen.now.replicas) (ends (place_of c.args.shard (last + 1)) (omega (arith, c.last-last.ensures)))) (subst (λ (n : ℕ). HasAt f n c.args.ids.now c.loop-slot.ids) here c.loop-slot.invariant.each)

@@ -1,5 +1,5 @@
-use Rattle.std.proofs.Common.{◌≡◌, ◌<◌, ℕ, Bool, true, not, List, Some, is_some, ap, sym, ◌∙◌, subst}
-use Rattle.std.specs.Prelude.{slice_get, filter, Option, Contains}
+use Rattle.std.proofs.Common.{◌≡◌, ◌<◌, ℕ, not, List, map, Some, is_some, ap, sym, ◌∙◌, subst}
+use Rattle.std.specs.Prelude.{slice_get, Option, Contains}
 use Rattle.std.specs.List.{flat_map}
 use Rattle.std.specs.List.Sorted.{IsStrictlySortedBy}
 use Rattle.std.proofs.lemmas.Bool.{and_parts}
@@ -7,12 +7,15 @@ use Rattle.event_id.specs.declared.id.EventId.{EventId}
 use Rattle.event_id.specs.EventId.{id_cmp}
 use Rattle.output_log.specs.declared.pair.PairRec.{PairRec}
 use Rattle.paxos_defs.specs.declared.Place.{Place}
+use Rattle.paxos_defs.specs.Decided as paxos
+use Rattle.registry_state.specs.Same.{same_batch}
+use Rattle.paxos_acceptor.specs.Cells.{note_view}
 use Rattle.paxos_acceptor.specs.declared.notes.ReplicaNote.{ReplicaNote}
 use Rattle.registry_state.specs.declared.Batch.{Batch}
 use Rattle.registry_state.specs.declared.registry.Registry.{Registry}
 use Rattle.registry_state.specs.LookBack.{holder}
 use Rattle.time_shards.specs.Shards.{shard_of}
-use Rattle.verify_pass.specs.Chosen.{batch_at, first_chosen, slots, IsFront}
+use Rattle.verify_pass.specs.Chosen.{batch_at, slots, IsFront}
 use Rattle.verify_pass.specs.Classes.{all_pairs, decided_for, first_pair, is_missing, is_missing_by}
 use Rattle.verify_pass.specs.States.{KnowAll}
 use Rattle.verify_pass.specs.Written.{pair_at}
@@ -25,15 +28,15 @@ pub returns-clause-rising : goal.returns-clause-rising
 returns-clause-rising c = c.in_ok-left.ensures.rising (subst (IsStrictlySortedBy id_cmp) (sym c.deref-3.ensures.value) c.in_ok-ids.ensures.rising)
 
 pub returns-clause-exactly : goal.returns-clause-exactly
-returns-clause-exactly c = λ agree.
+returns-clause-exactly c =
     let js = c.args.journals.now in
     let table = c.args.table.now in
     let chosen = c.in_ok-chosen.chosen in
     let written = c.in_ok-written.written in
     let ids = c.deref-3.result.now in
     let batches : EventId → List Batch = λ i. decided_for js table i in
-    let found : (p : Place) → batch_at chosen p ≡ first_chosen js.notes.items p = λ p. c.in_ok-chosen.ensures.batches p ∙ ap (λ (l : List (List ReplicaNote)). first_chosen l p) c.deref.ensures.value in
-    let front : (i : EventId) → IsFront (slots chosen (shard_of table i)) (batches i) = λ i. decided_front js.notes.items chosen (shard_of table i) found agree in
+    let found : (p : Place) → batch_at chosen p ≡ paxos.chosen same_batch (map (map note_view) js.notes.items) p = λ p. c.in_ok-chosen.ensures.batches p ∙ ap (λ (l : List (List ReplicaNote)). paxos.chosen same_batch (map (map note_view) l) p) c.deref.ensures.value in
+    let front : (i : EventId) → IsFront (slots chosen (shard_of table i)) (batches i) = λ i. decided_front js.notes.items chosen (shard_of table i) found in
     let known : KnowAll c.deref-4.result.now table batches = λ i state at.
     c.in_ok-registries.ensures.known c.in_ok-chosen.ensures.last (shard_of table i) state (subst (λ (rs : List Registry). slice_get rs (shard_of table i) ≡ Some state) c.deref-4.ensures.value at) (batches i) (front i) in
     let pairs : (i : EventId) → pair_at written i ≡ first_pair (all_pairs js) i = λ i. c.in_ok-written.ensures i ∙ ap (λ (l : List (List PairRec)). first_pair (flat_map (λ (ps : List PairRec). ps) l) i) c.deref-2.ensures.value in

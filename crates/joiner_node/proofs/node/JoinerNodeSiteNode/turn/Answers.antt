@@ -34,7 +34,7 @@ returns-after-is_some-clause-done g c tells s t at led =
     let row = e.row told.1 set s.number k s.node.live at.reads at.serves known.1 known.0.epoch_is gets in
     let next = next_of set s.number k s.node.live i row.note row.is_note in
     let holds = holds_within _ mid.disks.epochs.epoch _ mid.disks.log.pairs.items _ _ (g.D.Disk.image mid.disks.epochs.journal.disk) (g.D.Disk.image mid.disks.log.journal.disk) k e.epoch e.pairs (e.epoch_moments told.0).now (e.pair_moments told.0).now known.0 in
-    let p : Parts = record { number = new.number; roster = new.roster; core = new.joining.core; up = new.joining.up; log = g.L.LogFile.bytes new.joining.queries.store.tail.log; place = new.joining.queries.store.tail.place; lines = new.joining.queries.store.lines.items; in_doubt = new.disks.in_doubt; epoch = new.disks.epochs.epoch; written = new.disks.log.pairs.items } in
+    let p : Parts = record { number = new.number; roster = new.roster; core = new.joining.core; up = new.joining.up; log = g.L.LogFile.bytes new.joining.queries.store.tail.log; place = new.joining.queries.store.tail.place; in_doubt = new.disks.in_doubt; epoch = new.disks.epochs.epoch; written = new.disks.log.pairs.items } in
     all_five c.finish.result _ _ _ _ _ _ (f.note row.note row.is_record) f.packets f.knows (f.holds told.0 k row.note row.is_record next holds) f.up
     (λ d note packets knows holds up sent le.
     let stands = knows set s.number (with_note row.note k) _ row.next in
@@ -59,7 +59,7 @@ returns-after-is_some-clause-open g c tells s t at led =
     let row = e.row told.1 set s.number k s.node.live at.reads at.serves known.1 known.0.epoch_is gets in
     let next = next_of set s.number k s.node.live i row.note row.is_note in
     let holds = holds_within _ mid.disks.epochs.epoch _ mid.disks.log.pairs.items _ _ (g.D.Disk.image mid.disks.epochs.journal.disk) (g.D.Disk.image mid.disks.log.journal.disk) k e.epoch e.pairs (e.epoch_moments told.0).now (e.pair_moments told.0).now known.0 in
-    let p : Parts = record { number = new.number; roster = new.roster; core = new.joining.core; up = new.joining.up; log = g.L.LogFile.bytes new.joining.queries.store.tail.log; place = new.joining.queries.store.tail.place; lines = new.joining.queries.store.lines.items; in_doubt = new.disks.in_doubt; epoch = new.disks.epochs.epoch; written = new.disks.log.pairs.items } in
+    let p : Parts = record { number = new.number; roster = new.roster; core = new.joining.core; up = new.joining.up; log = g.L.LogFile.bytes new.joining.queries.store.tail.log; place = new.joining.queries.store.tail.place; in_doubt = new.disks.in_doubt; epoch = new.disks.epochs.epoch; written = new.disks.log.pairs.items } in
     both_err c.finish.result _ _ _ f.core (f.doubts k row.note row.is_record next holds.epoch_is holds.pairs_are)
     (λ same doubts.
     stays_open p (g.D.Disk.image new.disks.epochs.journal.disk) (g.D.Disk.image new.disks.log.journal.disk) s t _ b i row.note led reads row.is_note (roster_same old.roster new.roster set (f.same.1 ∙ e.same.1) at.setting) (at.number_is ∙ sym (f.same.0 ∙ e.same.0))

@@ -6,6 +6,6 @@ use Rattle.joiner_node.proofs.queries.Queries.look_up.Given as goal
 -- whatever queries the log holds, some of them were read
 abbrev pub invariant-lines : goal.invariant-lines
 invariant-lines g l = record {
-  reads : IsTrue g.L.LogFile.tells → (qs : List Query) → HasRead (g.L.LogFile.bytes l.fn.self.store.tail.log) l.fn.self.store.tail.place l.fn.self.store.lines.items qs → HasRead (g.L.LogFile.bytes l.self.store.tail.log) l.self.store.tail.place l.self.store.lines.items qs;
+  reads : IsTrue g.L.LogFile.tells → (qs : List Query) → HasRead (g.L.LogFile.bytes l.fn.self.store.tail.log) l.fn.self.store.tail.place qs → HasRead (g.L.LogFile.bytes l.self.store.tail.log) l.self.store.tail.place qs;
   later : g.L.LogFile.faults l.fn.self.store.tail.log ≤ g.L.LogFile.faults l.self.store.tail.log;
 }

@@ -1,9 +1,10 @@
 use Rattle.std.proofs.Common.{◌≡◌, ℕ, inl, inr, ⊎_elim, Err, sym, ap, ◌∙◌}
+use Rattle.std.specs.Prelude.{⊤}
 use Rattle.time_shards.proofs.Texts.{none_bad}
 use Rattle.photon_cli.specs.declared.engine.fault.Fault.TheVariants as fault
 use Rattle.photon_cli.specs.Faults.{status_of}
 use Rattle.photon_cli.specs.Words.{values_in}
-use Rattle.photon_cli.proofs.Ends.{asked_valid, drill_early, drill_left, failed_of, line_of, named_in_drill, no_zero, none_refused, not_invalid, plan_left, two_of, write_of}
+use Rattle.photon_cli.proofs.Ends.{asked_valid, drill_early, drill_left, failed_of, fair_status, line_of, named_in_drill, no_zero, none_refused, not_invalid, plan_left, two_of, write_of}
 use Rattle.photon_cli.proofs.command.drill.drill_command.Goals as goal
 
 pub returns-in-Ok-clause-bad_row : goal.returns-in-Ok-clause-bad_row
@@ -76,6 +77,10 @@ returns-in-Err-clause-complete g c logs s asked p is calm quiet =
     (λ place e. c.in-Err.ensures.good_plan logs p is place (ap Err e))
     (λ log line w e. none_refused told v.queries v.clicks log (record { line = line; why = w }) (asked_valid told v s asked) (c.in-Err.ensures.refused logs log line w (ap Err e)))
     (λ failed. calm (c.in-Err.ensures.read.rose failed))
-    (λ e. quiet (c.in-Err.ensures.write.rose (ap Err e))) in
+    (λ e. quiet (c.in-Err.ensures.write.rose (ap Err e)))
+    (c.in-Err.ensures.fair logs) in
     let on = λ (n : ℕ) (e : status_of f ≡ n). c.status.ensures ∙ e in
-    inr (⊎_elim (λ a. inl (on _ a)) (λ b. inr (⊎_elim (λ a. inl (on _ a)) (λ d. inr (⊎_elim (λ a. inl (on _ a)) (λ e. inr (⊎_elim (λ a. inl (on _ a)) (λ a. inr (on _ a)) e)) d)) b)) left)
+    inr (⊎_elim (λ a. inl (on _ a)) (λ b. inr (⊎_elim (λ a. inl (on _ a)) (λ d. inr (⊎_elim (λ a. inl (on _ a)) (λ a. inr (on _ a)) d)) b)) left)
+
+pub returns-in-Err-clause-welcome : goal.returns-in-Err-clause-welcome
+returns-in-Err-clause-welcome g c logs nine = fair_status c.in-Err.fault ⊤ tt (c.in-Err.ensures.fair logs) (sym c.status.ensures ∙ nine)

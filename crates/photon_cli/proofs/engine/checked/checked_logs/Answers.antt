@@ -8,19 +8,19 @@ use Rattle.run_faults.specs.declared.fault.LogName.{LogName}
 use Rattle.run_faults.specs.declared.fault.LogName.TheVariants.{Queries, Clicks}
 use Rattle.photon_cli.specs.declared.engine.fault.Fault.TheVariants as fault
 use Rattle.photon_cli.specs.Join.{Refuses}
-use Rattle.photon_cli.proofs.Refusals.{same_log, within}
+use Rattle.photon_cli.proofs.Refusals.{same_log}
 use Rattle.photon_cli.proofs.engine.checked.checked_logs.Goals as goal
 
-pub returns-in_err-query_records-clause-refused : goal.returns-in_err-query_records-clause-refused
-returns-in_err-query_records-clause-refused g c tells log line w e =
+pub returns-in_err-check_queries_in-clause-refused : goal.returns-in_err-check_queries_in-clause-refused
+returns-in_err-check_queries_in-clause-refused g c tells log line w e =
     let p = err_from_is_err_and c.from_residual.result c.from_residual.ensures.1 in
     let bad : BadLine = record { line = line; why = w } in
-    let f = c.in_err-query_records.field-0.0 in
+    let f = c.in_err-check_queries_in.field-0.0 in
     let own : f ≡ fault.Refused log line w = cc in
-    let here : Queries ≡ log = same_log Queries log f line w c.in_err-query_records.ensures.fault own in
+    let here : Queries ≡ log = same_log Queries log f line w c.in_err-check_queries_in.ensures.fault own in
     let told : f ≡ fault.Refused Queries line w = cc in
     subst (λ (l : LogName). Refuses (g.F.Source.bytes c.args.files.now) c.args.queries.now c.args.clicks.now l bad) here
-    (c.in_err-query_records.ensures.refused tells line w (ap Err told))
+    (c.in_err-check_queries_in.ensures.refused tells line w (ap Err told))
 
 pub returns-in_err-click_records-clause-refused : goal.returns-in_err-click_records-clause-refused
 returns-in_err-click_records-clause-refused g c tells log line w e =
@@ -31,8 +31,7 @@ returns-in_err-click_records-clause-refused g c tells log line w e =
     let here : Clicks ≡ log = same_log Clicks log f line w c.in_err-click_records.ensures.fault own in
     let told : f ≡ fault.Refused Clicks line w = cc in
     let named : List ℕ → Option (List ℕ) = g.F.Source.bytes c.args.files.now in
-    let valid : IsSomeAnd (named c.args.queries.now) (λ b. (qs : List QueryRec) × IsQueryLog b qs) =
-    within _ _ (λ (b : List ℕ). (qs : List QueryRec) × IsQueryLog b qs) (λ b h. (_, h)) (c.in_ok-query_records.ensures.found tells) in
+    let valid : IsSomeAnd (named c.args.queries.now) (λ b. (qs : List QueryRec) × IsQueryLog b qs) = c.in_ok-check_queries_in.ensures.found tells in
     let there : IsSomeAnd (named c.args.clicks.now) (λ b. RefusesClick b bad) =
-    subst (λ (o : Option (List ℕ)). IsSomeAnd o (λ b. RefusesClick b bad)) (c.in_ok-query_records.ensures.same tells c.args.clicks.now) (c.in_err-click_records.ensures.refused tells line w (ap Err told)) in
+    subst (λ (o : Option (List ℕ)). IsSomeAnd o (λ b. RefusesClick b bad)) (c.in_ok-check_queries_in.ensures.same tells c.args.clicks.now) (c.in_err-click_records.ensures.refused tells line w (ap Err told)) in
     subst (λ (l : LogName). Refuses named c.args.queries.now c.args.clicks.now l bad) here (valid, there)

@@ -4,6 +4,7 @@ use Rattle.time_shards.specs.Text.{IsFirstBad}
 use Rattle.photon_cli.specs.declared.engine.fault.Fault.TheVariants as fault
 use Rattle.photon_cli.specs.Join.{AreValid, Refuses}
 use Rattle.photon_cli.specs.Words.{values_in}
+use Rattle.photon_cli.proofs.Ends.{plan_fair}
 use Rattle.photon_cli.proofs.engine.drill.drill_logs.Goals as goal
 
 pub returns-in-Err-clause-bad_row : goal.returns-in-Err-clause-bad_row
@@ -60,3 +61,6 @@ pub returns-clause-valid : goal.returns-clause-valid
 returns-clause-valid g c logs =
     let v = values_in c.args.wanted.now in
     ⊎_elim (λ valid. inl (subst (λ (t : List ℕ → Option (List ℕ)). AreValid t v.queries v.clicks) (λ k n. c.plan_in_file.ensures.same logs n k) valid)) (λ e. absurd e) (c.in-Ok-drilled_lines.ensures.valid logs)
+
+pub returns-in-Err-plan_in_file-clause-fair : goal.returns-in-Err-plan_in_file-clause-fair
+returns-in-Err-plan_in_file-clause-fair g c logs = plan_fair c.in-Err-plan_in_file.fault c.in-Err-plan_in_file.ensures.cause

@@ -1,6 +1,7 @@
 use Rattle.std.proofs.Common.{List, ℕ, Option, inl, refl}
 use Rattle.std.proofs.lemmas.Result.{IfOk-weaker}
 use Rattle.photon_cli.specs.Words.{values_in}
+use Rattle.photon_cli.proofs.Ends.{log_fair}
 use Rattle.photon_cli.proofs.Runs.{clicks_back, is_asked, run_setting, setting_of}
 use Rattle.photon_cli.proofs.engine.drill.drilled_lines.Goals as goal
 
@@ -17,3 +18,17 @@ returns-clause-done g c logs =
 
 pub returns-clause-valid : goal.returns-clause-valid
 returns-clause-valid g c logs = let x = c.in-Ok.ensures.valid logs in inl (x.0, _, x.1)
+
+pub returns-in-Err-clause-fair : goal.returns-in-Err-clause-fair
+returns-in-Err-clause-fair g c logs = let x = c.in-Err.ensures.fault in log_fair c.in-Err.fault x.0 x.1
+
+pub returns-clause-fair : goal.returns-clause-fair
+returns-clause-fair g c logs =
+    let told : List ℕ → Option (List ℕ) = g.F.Source.bytes c.args.files.now in
+    let v = values_in c.args.wanted.now in
+    let x = c.in-Ok.ensures.valid logs in
+    let cs = c.in-Ok.clicks.records.items in
+    let s = setting_of v c.args.table x.0 cs in
+    let asked = is_asked told v c.args.table x.0 cs c.requires.table x.1 in
+    let setting = run_setting told (g.F.Source.bytes c.checked_logs.new.files) v c.args.table c.in-Ok.clicks.lines_end s asked (c.in-Ok.ensures.same logs) refl (c.in-Ok.ensures.end logs) in
+    c.drill_lines.ensures.fair logs s setting

@@ -3,7 +3,7 @@ use Rattle.std.proofs.lemmas.Result.{IfOk-weaker}
 use Rattle.log_records.specs.declared.records.ClickRec.{ClickRec}
 use Rattle.log_defs.specs.Report.{distinct}
 use Rattle.verify_pass.specs.declared.journals.Journals.{Journals}
-use Rattle.photon_cli.proofs.Verifying.{agree_none, line_none}
+use Rattle.photon_cli.proofs.Verifying.{line_none}
 use Rattle.photon_cli.proofs.engine.verify.unmatched_lines.Goals as goal
 
 pub returns : goal.returns
@@ -11,4 +11,4 @@ returns c =
     let js : Journals = record { notes = c.new.result; pairs = c.new-2.result } in
     let notes = c.new.ensures.items in
     let pairs = c.new-2.ensures.items in
-    IfOk-weaker c.classify.result _ _ (λ lines told. told (agree_none js notes pairs) ∙ (λ k. map (λ (x : ClickRec). line_none js notes pairs c.one_shard.result x.id k) (distinct c.args.clicks.now))) c.classify.ensures
+    IfOk-weaker c.classify.result _ _ (λ lines told. told ∙ (λ k. map (λ (x : ClickRec). line_none js notes pairs c.one_shard.result x.id k) (distinct c.args.clicks.now))) c.classify.ensures

@@ -20,7 +20,7 @@ returns-in-Ok-write_report-clause-done g c logs sinks disks =
     let own = c.in-Ok.ensures.found logs in
     let read = subst (λ (o : Option (List ℕ)). IsSomeAnd o (λ log. IsReadFrom before log kept)) (c.in-Ok.ensures.same logs clicks) (c.in-Ok-kept_store.ensures.read disks logs) in
     let told = told_of before kept c.in-Ok.checked.records.items lines
-    (λ t is agree. c.in-Ok-kept_lines.ensures.some t is agree ∙ ap (λ (xs : List ClickRec). map (λ (x : ClickRec). line_of kept.journals t.table x.id) (distinct xs)) c.deref.ensures.value)
+    (λ t is. c.in-Ok-kept_lines.ensures.some t is ∙ ap (λ (xs : List ClickRec). map (λ (x : ClickRec). line_of kept.journals t.table x.id) (distinct xs)) c.deref.ensures.value)
     (λ is. c.in-Ok-kept_lines.ensures.none is ∙ ap (λ (xs : List ClickRec). map (λ (x : ClickRec). U x.id) (distinct xs)) c.deref.ensures.value)
     (g.F.Source.bytes c.args.files.now clicks) own read in (
       kept,
@@ -39,7 +39,7 @@ returns-clause-prefix g c logs sinks disks e =
     let own = c.in-Ok.ensures.found logs in
     let read = subst (λ (o : Option (List ℕ)). IsSomeAnd o (λ log. IsReadFrom before log kept)) (c.in-Ok.ensures.same logs clicks) (c.in-Ok-kept_store.ensures.read disks logs) in
     let told = told_of before kept c.in-Ok.checked.records.items lines
-    (λ t is agree. c.in-Ok-kept_lines.ensures.some t is agree ∙ ap (λ (xs : List ClickRec). map (λ (x : ClickRec). line_of kept.journals t.table x.id) (distinct xs)) c.deref.ensures.value)
+    (λ t is. c.in-Ok-kept_lines.ensures.some t is ∙ ap (λ (xs : List ClickRec). map (λ (x : ClickRec). line_of kept.journals t.table x.id) (distinct xs)) c.deref.ensures.value)
     (λ is. c.in-Ok-kept_lines.ensures.none is ∙ ap (λ (xs : List ClickRec). map (λ (x : ClickRec). U x.id) (distinct xs)) c.deref.ensures.value)
     (g.F.Source.bytes c.args.files.now clicks) own read in (
       kept,

@@ -1,0 +1,67 @@
+-- Lines read one after another, of which there is one way.
+use Rattle.std.proofs.Common.{◌≡◌, ℕ, ◌+◌, ◌<◌, ◌≤◌, List, [], ◌∷◌, ◌++◌, length, Option, Some, None, refl, sym, ap, ◌∙◌, subst, arith, append-nil}
+use Rattle.std.specs.Option.{option_or}
+use Rattle.std.proofs.lemmas.List.Folds.{find-append}
+use Rattle.std.proofs.lemmas.List.Elements.{filter_map-append}
+use Rattle.byte_split.specs.Bytes.{Lacks}
+use Rattle.byte_split.proofs.Splits.{split_same, lacks_none}
+use Rattle.event_id.specs.declared.id.EventId.{EventId}
+use Rattle.event_id.specs.EventId.{is_same}
+use Rattle.log_records.specs.declared.records.QueryRec.{QueryRec}
+use Rattle.log_records.proofs.Grammar.{query_same}
+use Rattle.log_records.specs.Log.{first}
+use Rattle.tail_reader.specs.Buffered.{line_feed}
+use Rattle.event_store.specs.Read.{ReadsAs, ReadsNext, ReadsLines, IsAtEnd}
+use Rattle.event_store.specs.Found.{records, found}
+
+read_same : (line : List ℕ) (r s : Option QueryRec) → ReadsAs line r → ReadsAs line s → r ≡ s
+read_same line None None a b = refl
+read_same line None (Some q) a b = absurd (a q b.0 b.1)
+read_same line (Some q) None a b = absurd (b q a.0 a.1)
+read_same line (Some p) (Some q) a b = ap (λ (x : QueryRec). Some x) (query_same p q a.0 b.0 (sym a.1 ∙ b.1))
+
+-- the next line is one
+pub next_same : (log : List ℕ) (place e f : ℕ) (r s : Option QueryRec) → ReadsNext log place e r → ReadsNext log place f s → (e ≡ f) × (r ≡ s)
+next_same log place e f r s (line, rest, is, lacks, ends, reads) (line', rest', is', lacks', ends', reads') =
+    let parts = split_same line_feed line rest line' rest' lacks lacks' (sym is ∙ is') in
+    (omega (arith, ends, ends', ap length parts.0), read_same line' r s (subst (λ (l : List ℕ). ReadsAs l r) parts.0 reads) reads')
+
+pub next_not_end : (log : List ℕ) (place e : ℕ) (r : Option QueryRec) → ReadsNext log place e r → IsAtEnd log place → ⊥
+next_not_end log place e r (line, rest, is, lacks, ends, reads) none = lacks_none line_feed line rest (subst (Lacks line_feed) is none)
+
+pub next_beyond : (log : List ℕ) (place e : ℕ) (r : Option QueryRec) → ReadsNext log place e r → place < e
+next_beyond log place e r (line, rest, is, lacks, ends, reads) = omega (arith, ends)
+
+pub walk_beyond : (log : List ℕ) (a b : ℕ) (xs : List (Option QueryRec)) → ReadsLines log a b xs → a + length xs ≤ b
+walk_beyond log a b [] walk = omega (arith, walk)
+walk_beyond log a b (x ∷ xs) (next, step, walk) = let l = next_beyond log a next x step in let m = walk_beyond log next b xs walk in omega (arith, l, m)
+
+pub walk_done : (log : List ℕ) (a b : ℕ) (xs : List (Option QueryRec)) → ReadsLines log a b xs → b ≤ a → xs ≡ []
+walk_done log a b [] walk le = refl
+walk_done log a b (x ∷ xs) walk le = absurd (let l = walk_beyond log a b (x ∷ xs) walk in omega (arith, l, le))
+
+pub walk_push : (log : List ℕ) (a b c : ℕ) (xs : List (Option QueryRec)) (r : Option QueryRec) → ReadsLines log a b xs → ReadsNext log b c r → ReadsLines log a c (xs ++ r ∷ [])
+walk_push log a b c [] r walk step = (c, subst (λ (n : ℕ). ReadsNext log n c r) walk step, refl)
+walk_push log a b c (x ∷ xs) r (next, first, walk) step = (next, first, walk_push log next b c xs r walk step)
+
+-- a walk that goes no less far goes on from where the other ends
+pub walk_on : (log : List ℕ) (a s m : ℕ) (xs ys : List (Option QueryRec)) → ReadsLines log a s xs → ReadsLines log a m ys → s ≤ m → (mid : List (Option QueryRec)) × (ys ≡ xs ++ mid) × ReadsLines log s m mid
+walk_on log a s m [] ys xw yw le = (ys, refl, subst (λ (n : ℕ). ReadsLines log n m ys) (sym xw) yw)
+walk_on log a s m (x ∷ xs) [] xw yw le = absurd (let l = walk_beyond log a s (x ∷ xs) xw in omega (arith, l, le, yw))
+walk_on log a s m (x ∷ xs) (y ∷ ys) (n, xn, xw) (n', yn, yw) le =
+    let one = next_same log a n n' x y xn yn in
+    let on = walk_on log n s m xs ys xw (subst (λ (k : ℕ). ReadsLines log k m ys) (sym one.0) yw) le in
+    (on.0, ap (λ (z : Option QueryRec). z ∷ ys) (sym one.1) ∙ ap (λ (zs : List (Option QueryRec)). x ∷ zs) on.1, on.2)
+
+-- the lines up to a place are one list
+pub walk_same : (log : List ℕ) (a m : ℕ) (xs ys : List (Option QueryRec)) → ReadsLines log a m xs → ReadsLines log a m ys → xs ≡ ys
+walk_same log a m xs ys xw yw =
+    let on = walk_on log a m m xs ys xw yw (omega arith) in
+    sym (on.1 ∙ ap (λ (zs : List (Option QueryRec)). xs ++ zs) (walk_done log m m on.0 on.2 (omega arith)) ∙ append-nil xs)
+
+pub found_append : (xs ys : List (Option QueryRec)) (id : EventId) → found (xs ++ ys) id ≡ option_or (found xs id) (found ys id)
+found_append xs ys id = ap (λ (qs : List QueryRec). first qs id) (filter_map-append (λ (line : Option QueryRec). line) xs ys) ∙ find-append (λ (q : QueryRec). is_same id q.id) (records xs) (records ys)
+
+-- the first line, and those behind it
+pub found_cons : (x : Option QueryRec) (xs : List (Option QueryRec)) (id : EventId) → found (x ∷ xs) id ≡ option_or (found (x ∷ []) id) (found xs id)
+found_cons x xs id = found_append (x ∷ []) xs id

@@ -1,0 +1,13 @@
+use Rattle.std.proofs.Common.{◌∙◌, sym}
+use Rattle.std.proofs.lemmas.Option.{IfSome_then}
+use Rattle.event_store.proofs.Segments.{segment_some, segment_none}
+use Rattle.event_store.proofs.index.Index.segment.Goals as goal
+
+pub returns-in_err-start-clause-none : goal.returns-in_err-start-clause-none
+returns-in_err-start-clause-none c = λ marks keeps.
+    rw c.from_residual.ensures (segment_none marks c.args.id (λ k one le. sym (keeps.entries k) ∙ c.in_err-start.ensures.none k one le))
+
+pub returns-clause-some : goal.returns-clause-some
+returns-clause-some c = λ marks place keeps falls.
+    let lo = c.in_ok-start.ensures.some in
+    segment_some marks place c.args.id c.in_ok-start.start c.ceiling.result falls (lo.0, lo.1, lo.2, sym (keeps.entries lo.0) ∙ lo.3) (IfSome_then c.ceiling.result c.ceiling.ensures (λ e h. (h.0, h.1, h.2, sym (keeps.entries h.0) ∙ h.3)))

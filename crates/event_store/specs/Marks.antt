@@ -1,0 +1,86 @@
+-- What an index knows of the lines with a record. In each list the last line comes first.
+use Rattle.std.specs.Prelude.{ℕ, ◌≡◌, ◌+◌, ◌%◌, ◌<◌, ◌≤◌, ◌==◌, ◌&&◌, not, Bool, true, false, List, [], ◌∷◌, if◌then◌else◌, Option, Some, None, IfSome, unwrap_or}
+use Rattle.std.specs.Option.{option_or}
+use Rattle.std.specs.HashMap as hash
+use Rattle.std.specs.BTreeMap as tree
+use Rattle.event_id.specs.declared.id.EventId.{EventId}
+use Rattle.event_id.specs.EventId.{is_same, id_cmp}
+use Rattle.event_store.specs.declared.index.Process.{Process}
+use Rattle.event_store.specs.declared.index.Progress.{Progress}
+use Rattle.event_store.specs.declared.index.Index.{Index}
+use Rattle.event_store.specs.Order.{is_in_order, entries_among}
+
+-- a line with a record: where its first byte stands, and its id
+pub record Mark : Type 0 where
+  pub place : ℕ
+  pub id : EventId
+
+abbrev pub ids_of : List Mark → List EventId
+ids_of [] = []
+ids_of (m ∷ earlier) = m.id ∷ ids_of earlier
+
+-- whether two processes are one
+abbrev pub same_key : Process → Process → Bool
+same_key a b = (a.ip == b.ip) && (a.pid == b.pid)
+
+abbrev pub key_of : EventId → Process
+key_of id = record { ip = id.ip; pid = id.pid }
+
+-- how many in-order lines a process has, and the micros of the last of them
+abbrev pub progress : List EventId → Process → Progress
+progress [] p = record { lines = 0; last = 0 }
+progress (id ∷ earlier) p = if same_key p (key_of id) && is_in_order earlier id then record { lines = (progress earlier p).lines + 1; last = id.micros } else progress earlier p
+
+-- whether the line is the first of sixteen in-order lines of its process
+abbrev pub begins : List EventId → EventId → Bool
+begins earlier id = is_in_order earlier id && ((progress earlier (key_of id)).lines % 16 == 0)
+
+-- the place of the entry that an id has
+abbrev pub entry_of : List Mark → EventId → Option ℕ
+entry_of [] k = None
+entry_of (m ∷ earlier) k = if is_same k m.id && begins (ids_of earlier) m.id then Some m.place else entry_of earlier k
+
+-- the place of the first stray line with the id
+abbrev pub stray_of : List Mark → EventId → Option ℕ
+stray_of [] k = None
+stray_of (m ∷ earlier) k = option_or (stray_of earlier k) (if is_same k m.id && not (is_in_order (ids_of earlier) m.id) then Some m.place else None)
+
+-- how far a process has come
+abbrev pub progress_at : {S : Type 0} → hash.HashMap Process Progress S → Process → Progress
+progress_at processes p = unwrap_or (hash.get same_key processes p) (record { lines = 0; last = 0 })
+
+-- the index of these lines
+pub record Keeps (index : Index) (marks : List Mark) : Type 0 where
+  pub progress : (p : Process) → progress_at index.processes p ≡ progress (ids_of marks) p
+  pub entries : (k : EventId) → tree.get id_cmp index.entries k ≡ entry_of marks k
+  pub strays : (k : EventId) → hash.get is_same index.strays k ≡ stray_of marks k
+  pub count : tree.btree_map_len index.entries + hash.hash_map_len index.strays ≡ entries_among (ids_of marks)
+
+-- the first line with an id: its place, and whether it is in order
+pub record First : Type 0 where
+  pub place : ℕ
+  pub ordered : Bool
+
+abbrev pub as_first : Mark → List Mark → First
+as_first m earlier = record { place = m.place; ordered = is_in_order (ids_of earlier) m.id }
+
+abbrev pub first_of : List Mark → EventId → Option First
+first_of [] k = None
+first_of (m ∷ earlier) k = option_or (first_of earlier k) (if is_same k m.id then Some (as_first m earlier) else None)
+
+-- the places fall, from below this one
+abbrev pub Falls : ℕ → List Mark → Type 0
+Falls place [] = Unit {0}
+Falls place (m ∷ earlier) = (m.place < place) × Falls m.place earlier
+
+-- a line with a record begins at the place
+abbrev pub Begins : List Mark → ℕ → Type 0
+Begins marks s = (k : EventId) × (f : First) × (first_of marks k ≡ Some f) × (f.place ≡ s)
+
+-- the first line with the id, if there is one, isn't in order
+abbrev pub IsStray : List Mark → EventId → Type 0
+IsStray marks id = (f : First) → first_of marks id ≡ Some f → f.ordered ≡ false
+
+-- no line with the id stands before the start, and no in-order one at or behind the end
+abbrev pub IsSegment : List Mark → EventId → ℕ → Option ℕ → Type 0
+IsSegment marks id start end_ = Begins marks start × ((f : First) → first_of marks id ≡ Some f → start ≤ f.place) × IfSome end_ (λ e. Begins marks e × (start < e) × ((f : First) → first_of marks id ≡ Some f → f.ordered ≡ true → f.place < e))

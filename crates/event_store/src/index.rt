@@ -1,0 +1,195 @@
+// A sparse index of the lines with a record, which knows no log.
+ghost use Rattle.std.specs.Prelude.{◌≡◌, ◌≤◌, ◌<◌, ◌≢◌, ◌+◌, ◌∷◌, [], ℕ, List, true, false, IsTrue, Option, Some, None, is_some, IfSome, IfNone, OnOk, OnErr, IfOk};
+ghost use Rattle.event_id.specs.declared.id.EventId.{EventId as Id};
+
+use crate::puts::{make_room, put_entry, put_progress, put_stray};
+use event_id::EventId;
+use std::alloc::{AllocError, Global};
+use std::collections::{BTreeMap, HashMap};
+
+/// Every so many in-order lines of a process one is indexed.
+pub(crate) const STRIDE: u64 = 16;
+
+/// The part of an id that is the same for all lines of a process.
+#[derive(Clone, Copy, Debug, PartialEq, Eq, Hash)]
+pub struct Process {
+    pub ip: u32,
+    pub pid: u32,
+}
+
+/// How many in-order lines a process has, and the micros of the last of them, which are above those of all the others.
+#[derive(Clone, Copy, Debug)]
+pub struct Progress {
+    pub lines: u64,
+    pub last: u64,
+}
+
+/// Of each process every 16th in-order line, the first included, by its id; of each id of a line that isn't in order the
+/// first such line.
+#[derive(Drop)]
+pub struct Index {
+    processes: HashMap<Process, Progress>,
+    entries: BTreeMap<EventId, u64>,
+    strays: HashMap<EventId, u64>,
+}
+
+/// Where to look for an in-order line: from an entry up to the next one of its process, if there is one.
+#[derive(Clone, Copy, Debug)]
+pub struct Segment {
+    pub start: u64,
+    pub end: Option<u64>,
+}
+
+impl Process {
+    ghost use Rattle.event_store.specs.Marks.{key_of};
+
+    fn of(id: EventId) -> Process
+        ensures { result ≡ key_of id }
+    {
+        Process {
+            ip: id.ip,
+            pid: id.pid,
+        }
+    }
+}
+
+impl Progress {
+    ghost use Rattle.std.specs.Prelude.{◌||◌, ◌==◌, nat_lt};
+
+    // Whether a line with these micros would be in order.
+    fn admits(self, micros: u64) -> bool
+        ensures { result ≡ ((self.lines == 0) || nat_lt self.last micros) }
+    {
+        self.lines == 0 || self.last < micros
+    }
+}
+
+impl Index {
+    ghost use Rattle.std.specs.Prelude.{unwrap_or, if◌then◌else◌, ◌&&◌};
+    ghost use Rattle.event_store.specs.declared.index.Process.{Process as Key};
+    ghost use Rattle.std.specs.HashMap as hash;
+    ghost use Rattle.std.specs.BTreeMap as tree;
+    ghost use Rattle.event_id.specs.EventId.{id_cmp};
+    ghost use Rattle.event_store.specs.Order.{is_in_order, same_process, entries_among};
+    ghost use Rattle.event_store.specs.Marks.{Mark as Seen, Keeps, First, first_of, stray_of, ids_of, progress_at, same_key, key_of, Falls, IsStray, IsSegment};
+
+    /// Of no lines. It takes no memory.
+    pub(crate) fn new(alloc: Global) -> Index
+        ensures { Keeps result [] }
+    {
+        Index {
+            processes: HashMap::new(alloc),
+            entries: BTreeMap::new(alloc),
+            strays: HashMap::new(alloc),
+        }
+    }
+
+    fn progress(&self, process: Process) -> Progress
+        ensures { result ≡ progress_at self.now.processes process }
+    {
+        match self.processes.get(&process) {
+            Some(progress) => *progress,
+            None => Progress { lines: 0, last: 0 },
+        }
+    }
+
+    /// Whether a line with the id would be in order; then no line has the id. Constant expected time.
+    pub(crate) fn is_next(&self, id: EventId) -> bool
+        ensures order { (marks : List Seen) → Keeps self.now marks → result ≡ is_in_order (ids_of marks) id }
+        ensures none { (marks : List Seen) → Keeps self.now marks → IsTrue result → first_of marks id ≡ None }
+    {
+        self.progress(Process::of(id)).admits(id.micros)
+    }
+
+    // The last entry of the id's process that isn't above the id. Logarithmic time.
+    fn floor(&self, id: EventId) -> Option<u64>
+        ensures some { IfSome result (λ s. (k : Id) × (same_process k id ≡ true) × (k.micros ≤ id.micros) × (tree.get id_cmp self.now.entries k ≡ Some s)) }
+        ensures none { IfNone result ((k : Id) → same_process k id ≡ true → k.micros ≤ id.micros → tree.get id_cmp self.now.entries k ≡ None) }
+    {
+        let first = EventId { micros: 0, ..id };
+        let (_, place) = self.entries.range(first..=id).next_back()?;
+        Some(*place)
+    }
+
+    // The first entry of the id's process that is above the id. Logarithmic time.
+    fn ceiling(&self, id: EventId) -> Option<u64>
+        ensures { IfSome result (λ s. (k : Id) × (same_process k id ≡ true) × (id.micros < k.micros) × (tree.get id_cmp self.now.entries k ≡ Some s)) }
+    {
+        let first = EventId {
+            micros: id.micros.checked_add(1)?,
+            ..id
+        };
+        let last = EventId {
+            micros: u64::MAX,
+            ..id
+        };
+        let (_, place) = self.entries.range(first..=last).next()?;
+        Some(*place)
+    }
+
+    /// Where an in-order line with the id is to be looked for, if there may be one. Logarithmic time.
+    pub(crate) fn segment(&self, id: EventId) -> Option<Segment>
+        ensures some { (marks : List Seen) (place : ℕ) → Keeps self.now marks → Falls place marks → IfSome result (λ s. IsSegment marks id s.start s.end) }
+        ensures none { (marks : List Seen) → Keeps self.now marks → IfNone result (IsStray marks id) }
+    {
+        let start = self.floor(id)?;
+        Some(Segment {
+            start,
+            end: self.ceiling(id),
+        })
+    }
+
+    /// Where the first stray line with the id begins. Constant expected time.
+    pub(crate) fn stray(&self, id: EventId) -> Option<u64>
+        ensures { (marks : List Seen) → Keeps self.now marks → result ≡ stray_of marks id }
+    {
+        self.strays.get(&id).copied()
+    }
+
+    /// One line with a record more. Logarithmic expected time.
+    pub(crate) fn see(&mut self, id: EventId, place: u64) -> Result<(), AllocError>
+        ensures ok { OnOk result ((marks : List Seen) → Keeps self.old marks → Keeps self.new (record { place = place; id = id } ∷ marks)) }
+        ensures err { OnErr result ((marks : List Seen) → Keeps self.old marks → Keeps self.new marks) }
+    {
+        if self.is_next(id) {
+            self.see_ordered(id, place)
+        } else {
+            self.see_stray(id, place)
+        }
+    }
+
+    // The map is changed last, by a call that takes no memory.
+    fn see_ordered(&mut self, id: EventId, place: u64) -> Result<(), AllocError>
+        ensures ok { OnOk result ((marks : List Seen) → Keeps self.old marks → is_in_order (ids_of marks) id ≡ true → Keeps self.new (record { place = place; id = id } ∷ marks)) }
+        ensures err { OnErr result ((marks : List Seen) → Keeps self.old marks → Keeps self.new marks) }
+    {
+        let process = Process::of(id);
+        make_room(&mut self.processes, process)?;
+        let progress = self.progress(process);
+        let lines = progress.lines.checked_add(1).ok_or(AllocError)?;
+        put_entry(&mut self.entries, progress.lines % STRIDE == 0, id, place)?;
+        put_progress(
+            &mut self.processes,
+            process,
+            Progress {
+                lines,
+                last: id.micros,
+            },
+        );
+        Ok(())
+    }
+
+    fn see_stray(&mut self, id: EventId, place: u64) -> Result<(), AllocError>
+        ensures ok { OnOk result ((marks : List Seen) → Keeps self.old marks → is_in_order (ids_of marks) id ≡ false → Keeps self.new (record { place = place; id = id } ∷ marks)) }
+        ensures err { OnErr result ((marks : List Seen) → Keeps self.old marks → Keeps self.new marks) }
+    {
+        put_stray(&mut self.strays, id, place)
+    }
+
+    /// How many entries it has.
+    pub(crate) fn len(&self) -> u64
+        ensures { (marks : List Seen) → Keeps self.now marks → result ≡ entries_among (ids_of marks) }
+    {
+        self.entries.len() as u64 + self.strays.len() as u64
+    }
+}

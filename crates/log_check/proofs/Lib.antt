@@ -1,0 +1,4 @@
+pub mod Cuts
+pub mod FirstPlaces
+pub mod Walk
+pub mod Logs

@@ -1,0 +1,4 @@
+pub mod Places
+pub mod Read
+pub mod Check
+pub mod Rows

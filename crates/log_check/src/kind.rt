@@ -1,0 +1,67 @@
+// The two kinds of record, as the check of a log sees them.
+ghost use Rattle.std.specs.Prelude.{◌≡◌, ◌<◌, ℕ, List, length, IfOk, IfErr};
+ghost use Rattle.event_id.specs.declared.id.EventId.{EventId as Id};
+ghost use Rattle.log_records.specs.declared.why.Why.{Why as WhyOf};
+ghost use Rattle.log_records.specs.declared.why.Why.TheVariants as why;
+ghost use Rattle.log_records.specs.Line.{query_line, click_line, IsQuery, IsClick, QueryWhy, ClickWhy, OrMemory};
+
+use event_id::EventId;
+use log_records::{ClickRec, QueryRec, Why, read_click, read_query};
+use std::alloc::Global;
+
+/// A kind of record, which has a line of its own in a log.
+pub trait Kind: Drop {
+    /// The line, without its line feed.
+    ghost spelled: { Self → List ℕ };
+
+    /// Whether it is in the grammar.
+    ghost is_record: { Self → Type 0 };
+
+    ghost own_id: { Self → Id };
+
+    /// What is wrong with a line that isn't in the grammar.
+    ghost whys: { List ℕ → WhyOf → Type 0 };
+
+    /// The id of the line's record. Its text is copied for the while, in one allocation.
+    fn id_in(alloc: Global, line: &[u8]) -> Result<EventId, Why>
+        ensures found { IfOk result (λ id. (r : Self) × is_record r × (line.now ≡ spelled r) × (own_id r ≡ id)) }
+        ensures why { IfErr result (OrMemory (whys line.now)) };
+
+    /// Of a line of over 296 bytes that is the first that is wrong.
+    fn long_lines()
+        ensures { (line : List ℕ) → 296 < length line → whys line why.TooLong };
+}
+
+impl Kind for QueryRec {
+    ghost spelled = { query_line };
+
+    ghost is_record = { IsQuery };
+
+    ghost own_id = { λ q. q.id };
+
+    ghost whys = { QueryWhy };
+
+    fn id_in(alloc: Global, line: &[u8]) -> Result<EventId, Why> {
+        let query = read_query(alloc, line)?;
+        Ok(query.id)
+    }
+
+    fn long_lines() {}
+}
+
+impl Kind for ClickRec {
+    ghost spelled = { click_line };
+
+    ghost is_record = { IsClick };
+
+    ghost own_id = { λ c. c.id };
+
+    ghost whys = { ClickWhy };
+
+    fn id_in(alloc: Global, line: &[u8]) -> Result<EventId, Why> {
+        let click = read_click(alloc, line)?;
+        Ok(click.id)
+    }
+
+    fn long_lines() {}
+}
