@@ -3,7 +3,7 @@ use Rattle.std.proofs.Common.{◌≡◌, ◌≢◌, ◌⊎◌, inl, inr, ⊎_eli
 use Rattle.std.specs.List.{AllByRecursion}
 use Rattle.std.proofs.Math.ListN.{get_or-append}
 use Rattle.std.proofs.lemmas.Bool.{cases_lt}
-use Rattle.std.proofs.lemmas.List.{get_or-append-add, get_or_past, length-append}
+use Rattle.std.proofs.lemmas.List.{get_or-append-add}
 use Rattle.byte_split.specs.Bytes.{Lacks}
 use Rattle.list_words.specs.Lists.{Mem}
 use Rattle.log_records.specs.declared.records.ClickRec.{ClickRec}
@@ -11,7 +11,7 @@ use Rattle.log_records.specs.Line.{click_line, IsClick}
 use Rattle.log_records.specs.Log.{line_feed}
 use Rattle.log_records.specs.Lines.{ClickLine, placed, at, end_from, Follow, IsBoundary, HoldsLines}
 use Rattle.log_records.proofs.Reading.{click_lacks}
-use Rattle.log_records.proofs.Places.{lines_follow, lines_stand, lines_end}
+use Rattle.log_records.proofs.Places.{lines_follow, lines_stand}
 use Rattle.log_records.proofs.LineOrder.{at_mem, at_own, end_after, within_end}
 use Rattle.kept_places.specs.Floors.{IsFloorOf, IsBehindFeed}
 use Rattle.kept_places.specs.Kept.{IsStart}
@@ -54,13 +54,6 @@ next_start (x ∷ ls) p q f (inr (l, inl s, e)) low =
     (later.0, inr later.1, later.2)
 next_start (x ∷ ls) p q f (inr (l, inr m, e)) low = let later = next_start ls x.end_ q f.2 (inr (l, m, e)) low in (later.0, inr later.1, later.2)
 
-end_boundary : (ls : List ClickLine) → IsBoundary ls (end_from 0 ls)
-end_boundary ls = last ls 0
-  where
-    last : (ls : List ClickLine) (p : ℕ) → (end_from p ls ≡ p) ⊎ ((l : ClickLine) × Mem l ls × (l.end_ ≡ end_from p ls))
-    last [] p = inl refl
-    last (x ∷ ls) p = ⊎_elim (λ same. inr (x, inl refl, sym same)) (λ later. inr (later.0, inr later.1, later.2)) (last ls x.end_)
-
 -- ---- lines in their log
 
 placed_is : (p : ℕ) (cs : List ClickRec) (l : ClickLine) → AllByRecursion IsClick cs → Mem l (placed p cs) → IsClick l.click
@@ -72,24 +65,6 @@ lacks_at : (byte : ℕ) (xs : List ℕ) (i : ℕ) → Lacks byte xs → i < leng
 lacks_at byte [] i h lt = absurd (omega arith)
 lacks_at byte (x ∷ xs) zero h lt = h.0
 lacks_at byte (x ∷ xs) (suc i) h lt = lacks_at byte xs i h.1 (omega arith)
-
--- behind a part without line feeds none is found
-feed_within : (log front rest : List ℕ) (q : ℕ) → log ≡ front ++ rest → Lacks line_feed rest → IsBehindFeed log q → q ≤ length front
-feed_within log front rest q is lacks (i, q_is, feed) =
-    ⊎_elim
-    (λ within. omega arith)
-    (λ past. let j = i - length front in
-    let place : i ≡ length front + j = omega arith in
-    let here : get_or log i 0 ≡ get_or rest j 0 = ap (λ k. get_or log k 0) place ∙ ap (λ (x : List ℕ). get_or x (length front + j) 0) is ∙ get_or-append-add front rest j 0 in
-    absurd (lacks_any rest j lacks (sym here ∙ feed)))
-    (cases_lt i (length front))
-  where
-    lacks_any : (xs : List ℕ) (j : ℕ) → Lacks line_feed xs → get_or xs j 0 ≢ line_feed
-    lacks_any xs j h feed =
-        ⊎_elim
-        (λ within. lacks_at line_feed xs j h within feed)
-        (λ past. let zero : get_or xs j 0 ≡ 0 = get_or_past xs j 0 past in absurd (omega arith))
-        (cases_lt j (length xs))
 
 module _ (log : List ℕ) (ls : List ClickLine) (h : HoldsLines log ls) where
   follow : Follow 0 ls
@@ -140,17 +115,6 @@ module _ (log : List ℕ) (ls : List ClickLine) (h : HoldsLines log ls) where
 
   start_of : (q : ℕ) → IsBoundary ls q → q < end_from 0 ls → IsStart ls q
   start_of q b low = let (l, m, e) = next_start ls 0 q follow b low in (l, subst (λ p. at ls p ≡ Some l) e (at_own ls 0 l follow m))
-
-  -- the lines end behind the last line feed
-  pub end_of_feeds : (last : ℕ) → IsFloorOf (IsBehindFeed log) (length log) last → last ≡ end_from 0 ls
-  end_of_feeds last f =
-      let (front, rest, is, len, lacks) = lines_end log ls h in
-      let within : end_from 0 ls ≤ length log = omega (arith, ap length is, length-append front rest) in
-      let no_later : last ≤ end_from 0 ls = ⊎_elim (λ none. omega arith) (λ feed. let w = feed_within log front rest last is lacks feed in omega arith) f.is in
-      ⊎_elim
-      (λ below. absurd (f.none (end_from 0 ls) below within (feed_of (end_from 0 ls) (omega arith) (end_boundary ls))))
-      (λ above. omega arith)
-      (cases_lt last (end_from 0 ls))
 
   -- ---- floors
 

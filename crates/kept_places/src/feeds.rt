@@ -1,7 +1,6 @@
 // The last line feed before a place of a log.
 ghost use Rattle.std.specs.Prelude.{◌≡◌, ◌≤◌, ◌<◌, ◌+◌, ◌^◌, ℕ, List, length, drop, take, IfOk, IsErr, IsTrue};
 ghost use Rattle.outside.specs.Faults.{Counts};
-ghost use Rattle.log_records.specs.Lines.{ClickLine, HoldsLines, end_from};
 ghost use Rattle.kept_places.specs.Floors.{IsFloorOf, IsFloorFrom, IsBehindFeed};
 
 use outside::{LogFile, ReadFault};
@@ -18,14 +17,6 @@ fn behind_last(bytes: &[u8]) -> usize
         place -= 1;
     }
     place
-}
-
-/// The end of the last whole line of a log that was checked, or 0 where there is none. Only the bytes behind that line are
-/// looked at.
-pub fn lines_end(log: &[u8]) -> u64
-    ensures { (ls : List ClickLine) → HoldsLines log.now ls → result ≡ end_from 0 ls }
-{
-    behind_last(log) as u64
 }
 
 // The floor of the place behind some bytes, from that of the place before them.

@@ -6,6 +6,5 @@ mod misplaced;
 mod places;
 pub mod rows;
 
-pub use feeds::lines_end;
 pub use misplaced::Misplaced;
 pub use places::first_misplaced;

@@ -34,12 +34,12 @@ fn click(alloc: Global, micros: u64, said: &[u8]) -> Result<ClickRec, AllocError
     })
 }
 
-fn clicks(alloc: Global, times: &[u64]) -> Result<Vec<ClickRec>, AllocError> {
-    let mut clicks = Vec::new(alloc);
+fn ids(alloc: Global, times: &[u64]) -> Result<Vec<EventId>, AllocError> {
+    let mut ids = Vec::new(alloc);
     for micros in times {
-        clicks.push(click(alloc, *micros, b"buy")?)?;
+        ids.push(id(*micros))?;
     }
-    Ok(clicks)
+    Ok(ids)
 }
 
 fn pair(alloc: Global, micros: u64, said: &[u8]) -> Result<PairRec, AllocError> {
@@ -253,7 +253,7 @@ fn classes_of_clicks(rt: HostRuntime) -> Result<(), Fail> {
         panic!(rt; "a table");
     };
     let times = [25, 4, 2, 6, 10, 3, 21, 23, 4, 19, 20];
-    let lines = classify(alloc, &clicks(alloc, &times)?, &journals, &table)?;
+    let lines = classify(alloc, &ids(alloc, &times)?, &journals, &table)?;
     let wanted = [
         // Registered in shard 0 and not written.
         (b'M', 2),
@@ -288,7 +288,7 @@ fn classes_of_clicks(rt: HostRuntime) -> Result<(), Fail> {
 
 // The letters of the ids 5 and 7, and the time of the one that is missing; 0 for none.
 fn told(alloc: Global, journals: &Journals, table: &Table) -> Result<(u8, u8, u64), AllocError> {
-    let lines = classify(alloc, &clicks(alloc, &[5, 7])?, journals, table)?;
+    let lines = classify(alloc, &ids(alloc, &[5, 7])?, journals, table)?;
     let left = missing(alloc, journals, table)?;
     match (lines.as_slice(), left.as_slice()) {
         ([five, seven], []) => Ok((letter(five).0, letter(seven).0, 0)),
@@ -340,7 +340,7 @@ fn fewer_shards(rt: HostRuntime) -> Result<(), Fail> {
     };
     let left = missing(alloc, &journals, &table)?;
     assert_eq!(rt; left.as_slice(), [id(2)].as_slice());
-    let lines = classify(alloc, &clicks(alloc, &[3])?, &journals, &table)?;
+    let lines = classify(alloc, &ids(alloc, &[3])?, &journals, &table)?;
     assert_eq!(rt; lines.len(), 1);
     assert_eq!(rt; letter(&lines[0]), (b'U', 3));
     Ok(())
@@ -358,7 +358,7 @@ fn nothing_written_or_noted(rt: HostRuntime) -> Result<(), Fail> {
     };
     assert_eq!(rt; missing(alloc, &journals, &table)?.len(), 0);
     assert_eq!(rt; classify(alloc, &[], &journals, &table)?.len(), 0);
-    let lines = classify(alloc, &clicks(alloc, &[7])?, &journals, &table)?;
+    let lines = classify(alloc, &ids(alloc, &[7])?, &journals, &table)?;
     assert_eq!(rt; lines.len(), 1);
     assert_eq!(rt; letter(&lines[0]), (b'U', 7));
     Ok(())

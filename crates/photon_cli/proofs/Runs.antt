@@ -1,5 +1,5 @@
 -- What a run that has come to rest gives the report, and the setting that it is of.
-use Rattle.std.proofs.Common.{◌≡◌, ℕ, suc, ◌+◌, List, [], ◌∷◌, map, Option, Some, None, refl, sym, ap, length, subst}
+use Rattle.std.proofs.Common.{◌≡◌, ℕ, suc, ◌+◌, List, [], ◌∷◌, map, Option, Some, None, refl, sym, ap, ◌∙◌, length, subst}
 use Rattle.std.specs.List.{All}
 use Rattle.std.specs.Option.{IfSome, IsSomeAnd}
 use Rattle.lossy_link.specs.Fates.{PlanView}
@@ -9,6 +9,7 @@ use Rattle.store_laws.specs.Stores.{Images}
 use Rattle.store_run.specs.Left.{RunLeft}
 use Rattle.store_run.specs.declared.ran.RunLog.{RunLog}
 use Rattle.time_shards.specs.declared.ShardRow.{ShardRow}
+use Rattle.event_id.specs.declared.id.EventId.{EventId}
 use Rattle.log_records.specs.declared.records.QueryRec.{QueryRec}
 use Rattle.log_records.specs.declared.records.ClickRec.{ClickRec}
 use Rattle.log_records.specs.Check.{IsQueryLog, IsClickLog}
@@ -18,7 +19,8 @@ use Rattle.log_records.proofs.Places.{lines_follow}
 use Rattle.turn_defs.specs.Setting.{Setting, Checked}
 use Rattle.dispatch_node.specs.Places.{IsLogOf}
 use Rattle.store_run.specs.Asked.{IsSettingOf}
-use Rattle.photon_cli.specs.Join.{AreLogs, EndsAt, IsAsked, IsHistory, config_of}
+use Rattle.log_check.specs.Check.{EndsAt}
+use Rattle.photon_cli.specs.Join.{AreLogs, HasIds, IsAsked, IsHistory, config_of}
 use Rattle.photon_cli.specs.Words.{IsTextOf, Values}
 use Rattle.photon_cli.proofs.Refusals.{within}
 
@@ -46,6 +48,27 @@ log_checked (Some log) g h = let x = lines_follow log g.clicks h.lines in record
 pub clicks_back : (p : ℕ) (cs : List ClickRec) → map (λ (l : ClickLine). l.click) (placed p cs) ≡ cs
 clicks_back p [] = refl
 clicks_back p (c ∷ cs) = ap (λ (ds : List ClickRec). c ∷ ds) (clicks_back (suc (p + length (click_line c))) cs)
+
+-- ---- two logs that were checked
+
+some_queries : (o : Option (List ℕ)) → IsSomeAnd o (λ log. (qs : List QueryRec) × IsQueryLog log qs) → (qs : List QueryRec) × IsSomeAnd o (λ log. IsQueryLog log qs)
+some_queries None h = absurd h
+some_queries (Some log) h = h
+
+some_clicks : (ids : List EventId) (o : Option (List ℕ)) → IsSomeAnd o (λ log. HasIds log ids) → (cs : List ClickRec) × IsSomeAnd o (λ log. IsClickLog log cs) × (ids ≡ map (λ (c : ClickRec). c.id) cs)
+some_clicks ids None h = absurd h
+some_clicks ids (Some log) h = (h.clicks, h.holds, h.are)
+
+pub both_logs : (told : List ℕ → Option (List ℕ)) (queries clicks : List ℕ) (ids : List EventId) → IsSomeAnd (told queries) (λ log. (qs : List QueryRec) × IsQueryLog log qs) → IsSomeAnd (told clicks) (λ log. HasIds log ids)
+    → (qs : List QueryRec) × (cs : List ClickRec) × AreLogs told queries clicks qs cs × (ids ≡ map (λ (c : ClickRec). c.id) cs)
+both_logs told queries clicks ids q k =
+    let a = some_queries (told queries) q in
+    let b = some_clicks ids (told clicks) k in
+    (a.0, b.0, record { query = a.1; click = b.1 }, b.2)
+
+-- the clicks of lines that were placed have the ids that were read
+pub placed_ids : (ids : List EventId) (cs : List ClickRec) → ids ≡ map (λ (c : ClickRec). c.id) cs → map (λ (c : ClickRec). c.id) (map (λ (l : ClickLine). l.click) (placed 0 cs)) ≡ ids
+placed_ids ids cs are = ap (map (λ (c : ClickRec). c.id)) (clicks_back 0 cs) ∙ sym are
 
 -- ---- the setting
 

@@ -1,15 +1,16 @@
 -- What a join of two logs over a store does.
-use Rattle.std.specs.Prelude.{ℕ, ◌≡◌, List, [], ◌++◌, Option, None, IsSomeAnd}
+use Rattle.std.specs.Prelude.{ℕ, ◌≡◌, List, [], ◌++◌, map, Option, None, IsSomeAnd}
 use Rattle.std.specs.List.{All}
 use Rattle.lossy_link.specs.Fates.{PlanView}
 use Rattle.air_bus.specs.History.{IsAired}
 use Rattle.bus_seat.specs.Seats.{IsIn}
 use Rattle.time_shards.specs.declared.ShardRow.{ShardRow}
+use Rattle.event_id.specs.declared.id.EventId.{EventId}
 use Rattle.log_records.specs.declared.records.QueryRec.{QueryRec}
 use Rattle.log_records.specs.declared.records.ClickRec.{ClickRec}
 use Rattle.log_records.specs.declared.check.BadLine.{BadLine}
 use Rattle.log_records.specs.Check.{IsQueryLog, IsClickLog, RefusesQuery, RefusesClick}
-use Rattle.log_records.specs.Lines.{HoldsLines, ClickLine, end_from}
+use Rattle.log_records.specs.Lines.{ClickLine, end_from}
 use Rattle.log_defs.specs.declared.ReportLine.{ReportLine}
 use Rattle.log_defs.specs.Report.{text_of}
 use Rattle.report_text.specs.Stream.{TookPrefix}
@@ -45,9 +46,15 @@ module _ (told : List ℕ → Option (List ℕ)) (queries clicks : List ℕ) whe
   IsInvalid Queries = IsSomeAnd (told queries) (λ log. (qs : List QueryRec) → IsQueryLog log qs → ⊥)
   IsInvalid Clicks = IsSomeAnd (told queries) (λ log. (qs : List QueryRec) × IsQueryLog log qs) × IsSomeAnd (told clicks) (λ log. (cs : List ClickRec) → IsClickLog log cs → ⊥)
 
--- the place is the end of the log's last whole line, where it holds click lines
-abbrev pub EndsAt : List ℕ → ℕ → Type 0
-EndsAt log end_ = (ls : List ClickLine) → HoldsLines log ls → end_ ≡ end_from 0 ls
+-- the log holds clicks, which have these ids
+pub record HasIds (log : List ℕ) (ids : List EventId) : Type 0 where
+  pub clicks : List ClickRec
+  pub holds : IsClickLog log clicks
+  pub are : ids ≡ map (λ (c : ClickRec). c.id) clicks
+
+-- the setting's clicks have these ids
+abbrev pub HaveIds : Setting → List EventId → Type 0
+HaveIds g ids = map (λ (c : ClickRec). c.id) (map (λ (l : ClickLine). l.click) g.clicks) ≡ ids
 
 -- what all nodes are built for
 abbrev pub config_of : Values → List ShardRow → Config

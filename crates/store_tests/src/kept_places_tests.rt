@@ -235,11 +235,3 @@ fn a_read_that_fails(rt: HostRuntime) -> Result<(), Fail> {
     }
     Ok(())
 }
-
-#[test]
-fn the_end_of_the_lines(rt: HostRuntime) {
-    assert_eq!(rt; lines_end(b""), 0);
-    assert_eq!(rt; lines_end(b"10.0"), 0);
-    assert_eq!(rt; lines_end(LINE), 36);
-    assert_eq!(rt; lines_end(b"a\nbc\nd"), 5);
-}

@@ -19,6 +19,7 @@ use Rattle.registry_state.specs.LookBack.{or_else, first_in}
 use Rattle.registry_state.proofs.Tests.{same_id-true, same_id-false}
 use Rattle.log_records.specs.declared.records.ClickRec.{ClickRec}
 use Rattle.log_defs.specs.Report.{distinct}
+use Rattle.verify_pass.specs.Classes.{in_order}
 
 pub ids_total : IsTotalOrder id_cmp
 ids_total = then_total (on_total (λ (x : EventId). x.ip) nat_cmp_total) (then_total (on_total (λ (x : EventId). x.pid) nat_cmp_total) (on_total (λ (x : EventId). x.micros) nat_cmp_total))
@@ -92,22 +93,27 @@ own_made : (cs : List ClickRec) → Own (made cs)
 own_made [] = subst Own (sym made_nil) refl
 own_made (c ∷ cs) = subst Own (sym (made_cons c cs)) (own_put (made cs) c (λ e is. exact_ids c.id e.0 is) (own_made cs))
 
-abbrev pub ids_of : List ClickRec → List EventId
+abbrev ids_of : List ClickRec → List EventId
 ids_of cs = map (λ (c : ClickRec). c.id) (distinct cs)
 
 ids_made : (cs : List ClickRec) → ids_of cs ≡ map (λ (e : Entry). e.1.id) (made cs)
 ids_made cs = map-map (λ (c : ClickRec). c.id) (λ (e : Entry). e.1) (made cs)
 
-pub ids_nil : [] ≡ ids_of []
+ids_nil : [] ≡ ids_of []
 ids_nil = sym (ids_made [] ∙ ap (map (λ (e : Entry). e.1.id)) made_nil)
 
-pub ids_cons : (c : ClickRec) (cs : List ClickRec) → insert_key id_cmp (ids_of cs) c.id ≡ ids_of (c ∷ cs)
+ids_cons : (c : ClickRec) (cs : List ClickRec) → insert_key id_cmp (ids_of cs) c.id ≡ ids_of (c ∷ cs)
 ids_cons c cs =
     ap (λ (l : List EventId). insert_key id_cmp l c.id) (ids_made cs ∙ own_made cs)
     ∙ sym (keys_put (made cs) c.id c)
     ∙ ap (map (λ (e : Entry). e.0)) (sym (made_cons c cs))
     ∙ sym (own_made (c ∷ cs))
     ∙ sym (ids_made (c ∷ cs))
+
+-- the ids of the distinct clicks are those of all clicks, each once
+pub distinct_in_order : (cs : List ClickRec) → ids_of cs ≡ in_order (map (λ (c : ClickRec). c.id) cs)
+distinct_in_order [] = sym ids_nil
+distinct_in_order (c ∷ cs) = sym (ids_cons c cs) ∙ ap (λ (l : List EventId). insert_key id_cmp l c.id) (distinct_in_order cs)
 
 -- ---- ids of inserts
 
@@ -146,7 +152,7 @@ add_push had old new xs x i e k =
     ∙ add_step (same_id x.id i) had (first_in xs i) x.token
     ∙ ap (λ (o : Option Token). had || is_some o) (sym (first_in_push xs x i))
 
--- ---- clicks from the end
+-- ---- from the end
 
 drop_all : {A : Type 0} (xs : List A) → drop (length xs) xs ≡ []
 drop_all [] = refl

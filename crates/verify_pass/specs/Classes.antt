@@ -1,8 +1,9 @@
 -- What the records of all journals say of an id: registered, written, missing, and its line in the report.
-use Rattle.std.specs.Prelude.{Bool, not, ◌&&◌, is_some, nat_lt, List, map, find, if◌then◌else◌, Option, Some, None}
+use Rattle.std.specs.Prelude.{Bool, not, ◌&&◌, is_some, nat_lt, List, [], ◌∷◌, map, find, if◌then◌else◌, Option, Some, None}
+use Rattle.std.specs.BTreeSet.{insert_key}
 use Rattle.std.specs.List.{flat_map}
 use Rattle.event_id.specs.declared.id.EventId.{EventId}
-use Rattle.event_id.specs.EventId.{is_same as same_id}
+use Rattle.event_id.specs.EventId.{is_same as same_id, id_cmp}
 use Rattle.registry_state.specs.declared.Batch.{Batch}
 use Rattle.registry_state.specs.LookBack.{holder, bound_of}
 use Rattle.registry_state.specs.Same.{same_batch}
@@ -50,3 +51,8 @@ is_missing_by applied pair i = is_some (holder applied i) && not (is_some pair)
 -- whether it is registered in its shard and not written in any output log
 abbrev pub is_missing : Journals → List ShardRow → EventId → Bool
 is_missing journals table i = is_missing_by (decided_for journals table i) (first_pair (all_pairs journals) i) i
+
+-- ids, each once, in their order
+abbrev pub in_order : List EventId → List EventId
+in_order [] = []
+in_order (i ∷ is) = insert_key id_cmp (in_order is) i

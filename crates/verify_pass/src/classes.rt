@@ -17,31 +17,30 @@ use crate::states::{registries, registry_for};
 use crate::written::Written;
 use event_id::EventId;
 use log_defs::ReportLine;
-use log_records::ClickRec;
 use registry_state::Registry;
 use std::alloc::{AllocError, Global};
 use time_shards::Table;
 
-/// The report's line for each distinct click id, in the order of ids: joined where a pair with the id was written (the
+/// The report's line for each distinct one of the clicks' ids, in the order of ids: joined where a pair with the id was written (the
 /// first one, in the order of the disks), else missing where the id is registered in its shard, else expired where it
 /// lies below its shard's bound, else unmatched.
 ///
-/// O(n log n) for n clicks, and expected linear time in the records where a place has few acceptances: those of one place
-/// are compared each with each, with a test for each replica. It takes memory for each acceptance, and copies the texts
-/// of the pairs that are told, and no other record.
+/// O(n log n) for n ids, and expected linear time in the records where a place has few acceptances: those of one place
+/// are compared each with each, with a test for each replica. It takes memory for each acceptance and each distinct id, and
+/// copies the texts of the pairs that are told, and no other record.
 pub fn classify(
     alloc: Global,
-    clicks: &[ClickRec],
+    ids: &[EventId],
     journals: &Journals,
     table: &Table,
 ) -> Result<Vec<ReportLine>, AllocError>
-    ensures { IfOk result (λ lines. lines.items ≡ map (λ (c : Click). line_of journals.now table.now c.id) (distinct clicks.now)) }
+    ensures { IfOk result (λ lines. (clicks : List Click) → map (λ (c : Click). c.id) clicks ≡ ids.now → lines.items ≡ map (λ (c : Click). line_of journals.now table.now c.id) (distinct clicks)) }
 {
     let chosen = Chosen::of(alloc, &journals.notes)?;
     let registries = registries(alloc, &chosen, table.shards())?;
     let written = Written::of(alloc, &journals.pairs)?;
-    let ids = distinct_ids(alloc, clicks)?;
-    let lines = lines_of(alloc, &ids, &registries, &written, table)?;
+    let each = distinct_ids(alloc, ids)?;
+    let lines = lines_of(alloc, &each, &registries, &written, table)?;
     Ok(lines)
 }
 

@@ -1,5 +1,5 @@
 // A drill: both sites run over a store in memory that is empty at first, and a plan says what goes wrong.
-ghost use Rattle.std.specs.Prelude.{◌≡◌, ◌<◌, ◌≤◌, ◌⊎◌, ⊤, [], ℕ, List, map, false, IfErr, IfOk, IfSome, IsErrAnd, IsSomeAnd, IsTrue, OnOk, Err};
+ghost use Rattle.std.specs.Prelude.{◌≡◌, ◌<◌, ◌≤◌, ◌⊎◌, ⊤, [], ℕ, List, false, IfErr, IfOk, IfSome, IsErrAnd, IsSomeAnd, IsTrue, OnOk, Err};
 ghost use Rattle.std.specs.List.{list_any};
 ghost use Rattle.outside.specs.declared.store.DiskName.{DiskName};
 ghost use Rattle.outside.specs.Faults.{Counts};
@@ -9,7 +9,6 @@ ghost use Rattle.time_shards.specs.Shards.{IsTable};
 ghost use Rattle.time_shards.specs.Text.{IsFirstBad};
 ghost use Rattle.lossy_link.specs.Fates.{PlanView};
 ghost use Rattle.lossy_link.specs.declared.bad_plan.Field.{Field as Place};
-ghost use Rattle.log_records.specs.Lines.{ClickLine};
 ghost use Rattle.log_records.specs.declared.why.Why.{Why as Reason};
 ghost use Rattle.run_faults.specs.declared.fault.LogName.{LogName as LogKind};
 ghost use Rattle.site_laws.specs.Laws.{made_by};
@@ -17,17 +16,18 @@ ghost use Rattle.site_run.specs.Works.{is_stop};
 ghost use Rattle.store_run.specs.Asked.{OfSetting};
 ghost use Rattle.photon_cli.specs.declared.engine.fault.Fault.TheVariants as fault;
 ghost use Rattle.photon_cli.specs.Drill.{is_late_stop, Drills, IsBadIn, IsDrilled, IsPlanIn, PrintsDrill, PrintsDrillPrefix};
-ghost use Rattle.photon_cli.specs.Join.{AreValid, Refuses};
+ghost use Rattle.photon_cli.specs.Join.{AreValid, HaveIds, Refuses};
 ghost use Rattle.photon_cli.specs.LogFaults.{IsBeforeLogs, IsEarlyInDrill, IsFailedRead, IsFair, IsLogFault, IsOfRun, failed_read};
 ghost use Rattle.photon_cli.specs.Words.{AreInRanges, IsTextOf, values_in};
 
-use super::checked::{CheckedClicks, checked_logs};
+use super::checked::checked_logs;
 use super::fault::Fault;
 use super::plan::plan_in_file;
 use super::run::run_lines;
 use crate::wanted::Wanted;
 use air_bus::Entry;
 use drill_store::{stops_a_joiner, store_for};
+use log_check::CheckedLog;
 use log_defs::ReportLine;
 use lossy_link::Plan;
 use mem_outside::MemStore;
@@ -87,7 +87,7 @@ fn drill_lines<R, F, G>(
     alloc: Global,
     config: &Config,
     names: &Names<'_>,
-    clicks: &CheckedClicks,
+    clicks: &CheckedLog,
     plan: Plan,
     files: &mut F,
     store: &mut MemStore,
@@ -104,7 +104,7 @@ where
     requires joiners { (0 < config.now.joiners) × (config.now.joiners ≤ 4) }
     requires table { IsTable config.now.table }
     requires batch { config.now.batch ≤ 64 }
-    ensures drilled { IsTrue F.Log.tells → OfSetting (F.bytes files.old) names.now.queries.now names.now.clicks.now config.now clicks.now.lines_end (λ g. map (λ (l : ClickLine). l.click) g.clicks ≡ clicks.now.records.items
+    ensures drilled { IsTrue F.Log.tells → OfSetting (F.bytes files.old) names.now.queries.now names.now.clicks.now config.now clicks.now.lines_end (λ g. HaveIds g clicks.now.ids.items
         → IfOk result (λ lines. IsSomeAnd ran.new.log (IsDrilled g plan lines.items))) }
     ensures fair { IsTrue F.Log.tells → OfSetting (F.bytes files.old) names.now.queries.now names.now.clicks.now config.now clicks.now.lines_end (λ g. IfErr result (IsFair ⊤)) }
     ensures cause { IfErr result IsOfRun }

@@ -1,9 +1,8 @@
 // The run of both sites, and what becomes of each click by what it leaves.
-ghost use Rattle.std.specs.Prelude.{◌≡◌, ◌<◌, ◌≤◌, List, map, IfOk, IfErr, IfSome, IsSomeAnd, OnOk, IsTrue};
+ghost use Rattle.std.specs.Prelude.{◌<◌, ◌≤◌, IfOk, IfErr, IfSome, IsSomeAnd, OnOk, IsTrue};
 ghost use Rattle.outside.specs.declared.store.DiskName.{DiskName};
 ghost use Rattle.outside.specs.Faults.{Rose};
 ghost use Rattle.time_shards.specs.Shards.{IsTable};
-ghost use Rattle.log_records.specs.Lines.{ClickLine};
 ghost use Rattle.site_disks.specs.Lent.{GoesOn};
 ghost use Rattle.store_laws.specs.Stores.{IsSoundStore};
 ghost use Rattle.store_laws.specs.Laws.{LeavesNothing};
@@ -14,10 +13,11 @@ ghost use Rattle.store_run.specs.Left.{RunLeft};
 ghost use Rattle.air_bus.specs.History.{IsAired};
 ghost use Rattle.bus_seat.specs.Seats.{IsIn};
 ghost use Rattle.std.specs.List.{All};
+ghost use Rattle.photon_cli.specs.Join.{HaveIds};
 ghost use Rattle.photon_cli.specs.LogFaults.{IsLate, IsFair};
 
-use super::checked::CheckedClicks;
 use super::fault::Fault;
+use log_check::CheckedLog;
 use log_defs::ReportLine;
 use lossy_link::Plan;
 use outside::{Gate, Source, Store};
@@ -36,7 +36,7 @@ pub fn run_lines<R, F, S, G>(
     alloc: Global,
     config: &Config,
     names: &Names<'_>,
-    clicks: &CheckedClicks,
+    clicks: &CheckedLog,
     plan: Plan,
     files: &mut F,
     store: &mut S,
@@ -57,14 +57,14 @@ where
     ensures grown { IsTrue S.Disk.tells → IsTrue F.Log.tells → OfSetting (F.bytes files.old) names.now.queries.now names.now.clicks.now config.now clicks.now.lines_end (λ g. (disk : DiskName) → GoesOn (S.image store.old disk) (S.image store.new disk)) }
 
     // The lines are the report of what the disks keep at the end, and from an empty store that of the two logs.
-    ensures joined { IsTrue S.Disk.tells → IsTrue F.Log.tells → OfSetting (F.bytes files.old) names.now.queries.now names.now.clicks.now config.now clicks.now.lines_end (λ g. map (λ (l : ClickLine). l.click) g.clicks ≡ clicks.now.records.items → IsSoundStore g (S.image store.old)
+    ensures joined { IsTrue S.Disk.tells → IsTrue F.Log.tells → OfSetting (F.bytes files.old) names.now.queries.now names.now.clicks.now config.now clicks.now.lines_end (λ g. HaveIds g clicks.now.ids.items → IsSoundStore g (S.image store.old)
         → IfOk result (λ lines. Joins g (S.image store.old) (S.image store.new) (Rose (S.faults store.old) (S.faults store.new)) lines.items)) }
-    ensures afresh { IsTrue S.Disk.tells → IsTrue F.Log.tells → OfSetting (F.bytes files.old) names.now.queries.now names.now.clicks.now config.now clicks.now.lines_end (λ g. map (λ (l : ClickLine). l.click) g.clicks ≡ clicks.now.records.items → LeavesNothing g (S.image store.old)
+    ensures afresh { IsTrue S.Disk.tells → IsTrue F.Log.tells → OfSetting (F.bytes files.old) names.now.queries.now names.now.clicks.now config.now clicks.now.lines_end (λ g. HaveIds g clicks.now.ids.items → LeavesNothing g (S.image store.old)
         → IfOk result (λ lines. JoinsAfresh g (Rose (S.faults store.old) (S.faults store.new)) lines.items)) }
 
     // The run's history, and from an empty store what it means for the lines.
     ensures began { IsTrue S.Disk.tells → IsTrue F.Log.tells → OfSetting (F.bytes files.old) names.now.queries.now names.now.clicks.now config.now clicks.now.lines_end (λ g. OnOk result (IsSomeAnd ran.new.log (λ l. RunLeft g (S.image store.old) (S.image store.new) l.air.history))) }
-    ensures ran { IsTrue S.Disk.tells → IsTrue F.Log.tells → OfSetting (F.bytes files.old) names.now.queries.now names.now.clicks.now config.now clicks.now.lines_end (λ g. map (λ (l : ClickLine). l.click) g.clicks ≡ clicks.now.records.items → LeavesNothing g (S.image store.old)
+    ensures ran { IsTrue S.Disk.tells → IsTrue F.Log.tells → OfSetting (F.bytes files.old) names.now.queries.now names.now.clicks.now config.now clicks.now.lines_end (λ g. HaveIds g clicks.now.ids.items → LeavesNothing g (S.image store.old)
         → IfOk result (λ lines. IsSomeAnd ran.new.log (λ l. RanAfresh g l.air.history lines.items))) }
     ensures lists { IfSome ran.new.log (λ l. All (IsIn l.air.history) l.seen.items) }
     ensures aired { IfSome ran.new.log (λ l. IsAired plan l.air.kinds l.air.history) }
@@ -90,7 +90,7 @@ where
         Ok(journals) => journals,
         Err(cause) => return Err(Fault::Run(cause)),
     };
-    match classify(alloc, &clicks.records, &journals, &config.table) {
+    match classify(alloc, &clicks.ids, &journals, &config.table) {
         Ok(lines) => Ok(lines),
         Err(_) => Err(Fault::Memory),
     }

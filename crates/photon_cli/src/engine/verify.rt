@@ -24,8 +24,8 @@ ghost use Rattle.photon_cli.specs.Verify.{IsReadFrom, PrintsKept, PrintsKeptPref
 
 use super::checked::{clicks_in_log, open_log};
 use super::fault::Fault;
+use event_id::EventId;
 use log_defs::ReportLine;
-use log_records::ClickRec;
 use outside::{Sink, Source, Store, StoreFault};
 use report_text::write_report;
 use run_faults::{LogName, RunFault, StorePlace};
@@ -62,28 +62,28 @@ fn one_shard() -> Table {
 }
 
 // The report's lines where nothing is kept: every click is unmatched.
-fn unmatched_lines(alloc: Global, clicks: &[ClickRec]) -> Result<Vec<ReportLine>, AllocError>
-    ensures { IfOk result (λ lines. lines.items ≡ map (λ (c : Click). U c.id) (distinct clicks.now)) }
+fn unmatched_lines(alloc: Global, ids: &[EventId]) -> Result<Vec<ReportLine>, AllocError>
+    ensures { IfOk result (λ lines. (clicks : List Click) → map (λ (c : Click). c.id) clicks ≡ ids.now → lines.items ≡ map (λ (c : Click). U c.id) (distinct clicks)) }
 {
     let nothing = Journals {
         notes: Vec::new(alloc),
         pairs: Vec::new(alloc),
     };
-    classify(alloc, clicks, &nothing, &one_shard())
+    classify(alloc, ids, &nothing, &one_shard())
 }
 
 // The report's lines of what a store keeps, where no topology is kept those of nothing.
 fn kept_lines(
     alloc: Global,
-    clicks: &[ClickRec],
+    ids: &[EventId],
     kept: &KeptStore,
 ) -> Result<Vec<ReportLine>, AllocError>
-    ensures some { IfOk result (λ lines. (t : KeptTopology) → kept.now.topology ≡ Some t → lines.items ≡ map (λ (c : Click). line_of kept.now.journals t.table c.id) (distinct clicks.now)) }
-    ensures none { IfOk result (λ lines. kept.now.topology ≡ None → lines.items ≡ map (λ (c : Click). U c.id) (distinct clicks.now)) }
+    ensures some { IfOk result (λ lines. (t : KeptTopology) → kept.now.topology ≡ Some t → (clicks : List Click) → map (λ (c : Click). c.id) clicks ≡ ids.now → lines.items ≡ map (λ (c : Click). line_of kept.now.journals t.table c.id) (distinct clicks)) }
+    ensures none { IfOk result (λ lines. kept.now.topology ≡ None → (clicks : List Click) → map (λ (c : Click). c.id) clicks ≡ ids.now → lines.items ≡ map (λ (c : Click). U c.id) (distinct clicks)) }
 {
     match &kept.topology {
-        Some(topology) => classify(alloc, clicks, &kept.journals, &topology.table),
-        None => unmatched_lines(alloc, clicks),
+        Some(topology) => classify(alloc, ids, &kept.journals, &topology.table),
+        None => unmatched_lines(alloc, ids),
     }
 }
 
@@ -130,7 +130,7 @@ fn kept_store<F: Source, S: Store>(
 
 /// Reports what the store in a directory keeps of the clicks of a log, and answers whether a line is of a missing click.
 ///
-/// It reads the log whole, in pieces of 64 KiB, and keeps the clicks and the kept records in memory.
+/// It reads the log line by line, and keeps the clicks' ids and the kept records in memory.
 pub fn verify_store<F: Source, S: Store, K: Sink>(
     alloc: Global,
     files: &mut F,
@@ -159,7 +159,7 @@ pub fn verify_store<F: Source, S: Store, K: Sink>(
         Ok(kept) => kept,
         Err(fault) => return Err(fault),
     };
-    let Ok(lines) = kept_lines(alloc, &checked.records, &kept) else {
+    let Ok(lines) = kept_lines(alloc, &checked.ids, &kept) else {
         return Err(Fault::Memory);
     };
     match write_report(out, &lines) {

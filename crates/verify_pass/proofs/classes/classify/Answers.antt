@@ -1,4 +1,4 @@
-use Rattle.std.proofs.Common.{◌≡◌, List, map, Some, ap, ◌∙◌, subst}
+use Rattle.std.proofs.Common.{◌≡◌, List, map, Some, ap, sym, ◌∙◌, subst}
 use Rattle.std.specs.Prelude.{slice_get}
 use Rattle.std.specs.List.{flat_map}
 use Rattle.std.proofs.lemmas.Simd.{map-map}
@@ -16,19 +16,19 @@ use Rattle.registry_state.specs.declared.Batch.{Batch}
 use Rattle.registry_state.specs.declared.registry.Registry.{Registry}
 use Rattle.time_shards.specs.Shards.{shard_of}
 use Rattle.verify_pass.specs.Chosen.{batch_at}
-use Rattle.verify_pass.specs.Classes.{all_pairs, decided_for, first_pair, line_by}
+use Rattle.verify_pass.specs.Classes.{all_pairs, decided_for, first_pair, in_order, line_by}
 use Rattle.verify_pass.specs.States.{KnowAll}
 use Rattle.verify_pass.specs.Written.{pair_at}
+use Rattle.verify_pass.proofs.Ids.{distinct_in_order}
 use Rattle.verify_pass.proofs.Whole.{decided_front}
 use Rattle.verify_pass.proofs.classes.classify.Goals as goal
 
 pub returns : goal.returns
-returns c =
+returns c clicks same =
     let js = c.args.journals.now in
     let table = c.args.table.now in
     let chosen = c.in_ok-chosen.chosen in
     let written = c.in_ok-written.written in
-    let clicks = distinct c.args.clicks.now in
     let batches : EventId → List Batch = λ i. decided_for js table i in
     let found : (p : Place) → batch_at chosen p ≡ paxos.chosen same_batch (map (map note_view) js.notes.items) p = λ p. c.in_ok-chosen.ensures.batches p ∙ ap (λ (l : List (List ReplicaNote)). paxos.chosen same_batch (map (map note_view) l) p) c.deref.ensures.value in
     let known : KnowAll c.deref-4.result.now table batches = λ i state at.
@@ -36,6 +36,6 @@ returns c =
     let pairs : (i : EventId) → pair_at written i ≡ first_pair (all_pairs js) i = λ i. c.in_ok-written.ensures i ∙ ap (λ (l : List (List PairRec)). first_pair (flat_map (λ (ps : List PairRec). ps) l) i) c.deref-2.ensures.value in
     let g : EventId → ReportLine = λ i. line_by (batches i) i (pair_at written i) in
     c.in_ok-lines.ensures batches known
-    ∙ ap (map g) (c.deref-3.ensures.value ∙ c.in_ok-ids.ensures)
-    ∙ map-map g (λ (k : ClickRec). k.id) clicks
-    ∙ (λ j. map (λ (k : ClickRec). line_by (batches k.id) k.id (pairs k.id j)) clicks)
+    ∙ ap (map g) (c.deref-3.ensures.value ∙ c.in_ok-each.ensures ∙ ap in_order (sym same) ∙ sym (distinct_in_order clicks))
+    ∙ map-map g (λ (k : ClickRec). k.id) (distinct clicks)
+    ∙ (λ j. map (λ (k : ClickRec). line_by (batches k.id) k.id (pairs k.id j)) (distinct clicks))

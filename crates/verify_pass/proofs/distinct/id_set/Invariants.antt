@@ -1,9 +1,8 @@
-use Rattle.std.proofs.Common.{◌≡◌, ◌-◌, map, length}
+use Rattle.std.proofs.Common.{◌≡◌, ◌-◌, length}
 use Rattle.std.specs.Prelude.{drop}
-use Rattle.log_records.specs.declared.records.ClickRec.{ClickRec}
-use Rattle.log_defs.specs.Report.{distinct}
+use Rattle.verify_pass.specs.Classes.{in_order}
 use Rattle.verify_pass.proofs.distinct.id_set.Given as goal
 
--- the ids of the last clicks so far
+-- the last ids so far
 abbrev pub invariant-loop-taken : goal.invariant-loop-taken
-invariant-loop-taken l = l.ids.keys ≡ map (λ (c : ClickRec). c.id) (distinct (drop (length l.clicks - l.taken) l.clicks))
+invariant-loop-taken l = l.found.keys ≡ in_order (drop (length l.ids - l.taken) l.ids)

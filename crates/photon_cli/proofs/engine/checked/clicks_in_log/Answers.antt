@@ -1,18 +1,31 @@
-use Rattle.std.proofs.Common.{◌≡◌, List, ℕ, subst, sym, ◌∙◌}
+use Rattle.std.proofs.Common.{◌≡◌, List, ℕ, Err, inr, ap, subst, sym, ◌∙◌}
 use Rattle.log_records.specs.declared.check.BadLine.{BadLine}
-use Rattle.log_records.specs.Check.{RefusesClick}
+use Rattle.log_records.specs.Check.{IsClickLog, RefusesClick}
+use Rattle.log_check.specs.Check.{EndsAt}
 use Rattle.photon_cli.specs.declared.engine.fault.Fault.TheVariants as fault
 use Rattle.run_faults.specs.declared.fault.LogName.TheVariants.{Clicks}
+use Rattle.photon_cli.specs.Join.{HasIds}
 use Rattle.photon_cli.specs.LogFaults.{IsLogFault}
 use Rattle.photon_cli.proofs.Refusals.{within, refusal_kind, told_line}
 use Rattle.photon_cli.proofs.engine.checked.clicks_in_log.Goals as goal
 
-pub returns-clause-refused : goal.returns-clause-refused
-returns-clause-refused g c tells line w e =
+pub returns-in-Ok-clause-found : goal.returns-in-Ok-clause-found
+returns-in-Ok-clause-found g c logs =
+    let x = c.in-Ok.ensures.found logs in
+    within _ _ (λ (b : List ℕ). HasIds b c.in-Ok.checked.ids.items) (λ b same. record { clicks = x.0; holds = subst (λ (l : List ℕ). IsClickLog l x.0) same x.1; are = x.2 }) (c.in_ok-file.ensures.bytes logs)
+
+pub returns-in-Ok-clause-end : goal.returns-in-Ok-clause-end
+returns-in-Ok-clause-end g c logs =
+    let end_ = c.in-Ok.checked.lines_end in
+    within _ _ (λ (b : List ℕ). EndsAt b end_) (λ b same. subst (λ (l : List ℕ). EndsAt l end_) same (c.in-Ok.ensures.end logs)) (c.in_ok-file.ensures.bytes logs)
+
+pub returns-in-Err-Refused-clause-refused : goal.returns-in-Err-Refused-clause-refused
+returns-in-Err-Refused-clause-refused g c tells line w e =
     let own : c.refused.result ≡ fault.Refused Clicks line w = cc in
     let bad : BadLine = record { line = line; why = w } in
-    let told = told_line Clicks c.in-Err.bad line w (RefusesClick c.deref-2.result.now) (sym c.refused.ensures ∙ own) c.in-Err.ensures.refused in
-    within _ _ _ (λ log same. subst (λ (l : List ℕ). RefusesClick l bad) (c.deref-2.ensures.value ∙ same) told) (c.in_ok-bytes.ensures.bytes tells)
+    let here = c.in-Err-Refused.ensures.refused tells c.in-Err-Refused.bad (ap Err c.in-Err-Refused.field-0-is) in
+    let told = told_line Clicks c.in-Err-Refused.bad line w (RefusesClick (g.F.Log.LogFile.bytes c.in_ok-file.file)) (sym c.refused.ensures ∙ own) (inr here) in
+    within _ _ _ (λ log same. subst (λ (l : List ℕ). RefusesClick l bad) same told) (c.in_ok-file.ensures.bytes tells)
 
-pub returns-clause-fault : goal.returns-clause-fault
-returns-clause-fault g c = subst (IsLogFault Clicks) (sym c.refused.ensures) (refusal_kind Clicks c.in-Err.bad.line c.in-Err.bad.why)
+pub returns-in-Err-Refused-clause-fault : goal.returns-in-Err-Refused-clause-fault
+returns-in-Err-Refused-clause-fault g c = subst (IsLogFault Clicks) (sym c.refused.ensures) (refusal_kind Clicks c.in-Err-Refused.bad.line c.in-Err-Refused.bad.why)

@@ -2,7 +2,7 @@ use Rattle.std.proofs.Common.{List, ℕ, Option, inl, refl}
 use Rattle.std.proofs.lemmas.Result.{IfOk-weaker}
 use Rattle.photon_cli.specs.Words.{values_in}
 use Rattle.photon_cli.proofs.Ends.{log_fair}
-use Rattle.photon_cli.proofs.Runs.{clicks_back, is_asked, run_setting, setting_of}
+use Rattle.photon_cli.proofs.Runs.{is_asked, placed_ids, run_setting, setting_of}
 use Rattle.photon_cli.proofs.engine.drill.drilled_lines.Goals as goal
 
 pub returns-clause-done : goal.returns-clause-done
@@ -10,14 +10,14 @@ returns-clause-done g c logs =
     let told : List ℕ → Option (List ℕ) = g.F.Source.bytes c.args.files.now in
     let v = values_in c.args.wanted.now in
     let x = c.in-Ok.ensures.valid logs in
-    let cs = c.in-Ok.clicks.records.items in
+    let cs = x.1 in
     let s = setting_of v c.args.table x.0 cs in
-    let asked = is_asked told v c.args.table x.0 cs c.requires.table x.1 in
+    let asked = is_asked told v c.args.table x.0 cs c.requires.table x.2 in
     let setting = run_setting told (g.F.Source.bytes c.checked_logs.new.files) v c.args.table c.in-Ok.clicks.lines_end s asked (c.in-Ok.ensures.same logs) refl (c.in-Ok.ensures.end logs) in
-    IfOk-weaker c.drill_lines.result _ _ (λ lines run. (s, asked, run)) (c.drill_lines.ensures.drilled logs s setting (clicks_back 0 cs))
+    IfOk-weaker c.drill_lines.result _ _ (λ lines run. (s, asked, run)) (c.drill_lines.ensures.drilled logs s setting (placed_ids c.in-Ok.clicks.ids.items cs x.3))
 
 pub returns-clause-valid : goal.returns-clause-valid
-returns-clause-valid g c logs = let x = c.in-Ok.ensures.valid logs in inl (x.0, _, x.1)
+returns-clause-valid g c logs = let x = c.in-Ok.ensures.valid logs in inl (x.0, x.1, x.2)
 
 pub returns-in-Err-clause-fair : goal.returns-in-Err-clause-fair
 returns-in-Err-clause-fair g c logs = let x = c.in-Err.ensures.fault in log_fair c.in-Err.fault x.0 x.1
@@ -27,8 +27,8 @@ returns-clause-fair g c logs =
     let told : List ℕ → Option (List ℕ) = g.F.Source.bytes c.args.files.now in
     let v = values_in c.args.wanted.now in
     let x = c.in-Ok.ensures.valid logs in
-    let cs = c.in-Ok.clicks.records.items in
+    let cs = x.1 in
     let s = setting_of v c.args.table x.0 cs in
-    let asked = is_asked told v c.args.table x.0 cs c.requires.table x.1 in
+    let asked = is_asked told v c.args.table x.0 cs c.requires.table x.2 in
     let setting = run_setting told (g.F.Source.bytes c.checked_logs.new.files) v c.args.table c.in-Ok.clicks.lines_end s asked (c.in-Ok.ensures.same logs) refl (c.in-Ok.ensures.end logs) in
     c.drill_lines.ensures.fair logs s setting

@@ -13,7 +13,7 @@ use Rattle.air_bus.specs.History.{IsAired}
 use Rattle.store_run.specs.declared.ran.RunLog.{RunLog}
 use Rattle.photon_cli.specs.Join.{no_plan}
 use Rattle.photon_cli.proofs.Ends.{late_own, log_own}
-use Rattle.photon_cli.proofs.Runs.{clicks_back, history, is_asked, run_setting, setting_of}
+use Rattle.photon_cli.proofs.Runs.{history, is_asked, placed_ids, run_setting, setting_of}
 use Rattle.photon_cli.proofs.engine.join.join_logs.Goals as goal
 
 pub returns-in-Err-clause-bad_row : goal.returns-in-Err-clause-bad_row
@@ -37,7 +37,7 @@ returns-in-Err-run_lines-clause-bad_row g c n first =
     absurd cc
 
 pub returns-in-Err-run_lines-clause-valid : goal.returns-in-Err-run_lines-clause-valid
-returns-in-Err-run_lines-clause-valid g c logs = let x = c.in-Ok-checked_logs.ensures.valid logs in inl (x.0, _, x.1)
+returns-in-Err-run_lines-clause-valid g c logs = let x = c.in-Ok-checked_logs.ensures.valid logs in inl (x.0, x.1, x.2)
 
 pub returns-in-Err-run_lines-clause-sound : goal.returns-in-Err-run_lines-clause-sound
 returns-in-Err-run_lines-clause-sound g c disks logs s asked =
@@ -68,24 +68,24 @@ returns-in-Ok-write_report-clause-done g c logs sinks disks =
     let told : List ℕ → Option (List ℕ) = g.F.Source.bytes c.args.files.now in
     let v = values_in c.args.wanted.now in
     let x = c.in-Ok-checked_logs.ensures.valid logs in
-    let cs = c.in-Ok-checked_logs.clicks.records.items in
+    let cs = x.1 in
     let s = setting_of v c.in-Ok.table x.0 cs in
-    let asked = is_asked told v c.in-Ok.table x.0 cs (c.in-Ok.ensures.found.0, sym c.as_bytes.ensures.value ∙ c.in-Ok.ensures.found.1) x.1 in
+    let asked = is_asked told v c.in-Ok.table x.0 cs (c.in-Ok.ensures.found.0, sym c.as_bytes.ensures.value ∙ c.in-Ok.ensures.found.1) x.2 in
     let setting = run_setting told (g.F.Source.bytes c.checked_logs.new.files) v c.in-Ok.table c.in-Ok-checked_logs.clicks.lines_end s asked (c.in-Ok-checked_logs.ensures.same logs) refl (c.in-Ok-checked_logs.ensures.end logs) in
     let written = c.in-Ok-write_report.ensures.all sinks ∙ ap (λ (ls : List ReportLine). g.K.Sink.held c.args.out.now ++ text_of ls) c.deref.ensures.value in
-    (s, asked, λ was. (c.in-Ok-run_lines.lines.items, c.in-Ok-run_lines.ensures.joined disks logs s setting (clicks_back 0 cs) was, written))
+    (s, asked, λ was. (c.in-Ok-run_lines.lines.items, c.in-Ok-run_lines.ensures.joined disks logs s setting (placed_ids c.in-Ok-checked_logs.clicks.ids.items cs x.3) was, written))
 
 pub returns-in-Ok-write_report-clause-afresh : goal.returns-in-Ok-write_report-clause-afresh
 returns-in-Ok-write_report-clause-afresh g c logs sinks disks =
     let told : List ℕ → Option (List ℕ) = g.F.Source.bytes c.args.files.now in
     let v = values_in c.args.wanted.now in
     let x = c.in-Ok-checked_logs.ensures.valid logs in
-    let cs = c.in-Ok-checked_logs.clicks.records.items in
+    let cs = x.1 in
     let s = setting_of v c.in-Ok.table x.0 cs in
-    let asked = is_asked told v c.in-Ok.table x.0 cs (c.in-Ok.ensures.found.0, sym c.as_bytes.ensures.value ∙ c.in-Ok.ensures.found.1) x.1 in
+    let asked = is_asked told v c.in-Ok.table x.0 cs (c.in-Ok.ensures.found.0, sym c.as_bytes.ensures.value ∙ c.in-Ok.ensures.found.1) x.2 in
     let setting = run_setting told (g.F.Source.bytes c.checked_logs.new.files) v c.in-Ok.table c.in-Ok-checked_logs.clicks.lines_end s asked (c.in-Ok-checked_logs.ensures.same logs) refl (c.in-Ok-checked_logs.ensures.end logs) in
     let written = c.in-Ok-write_report.ensures.all sinks ∙ ap (λ (ls : List ReportLine). g.K.Sink.held c.args.out.now ++ text_of ls) c.deref.ensures.value in
-    (s, asked, λ was. (c.in-Ok-run_lines.lines.items, c.in-Ok-run_lines.ensures.afresh disks logs s setting (clicks_back 0 cs) was, written))
+    (s, asked, λ was. (c.in-Ok-run_lines.lines.items, c.in-Ok-run_lines.ensures.afresh disks logs s setting (placed_ids c.in-Ok-checked_logs.clicks.ids.items cs x.3) was, written))
 
 pub returns-in-Ok-write_report-clause-bad_row : goal.returns-in-Ok-write_report-clause-bad_row
 returns-in-Ok-write_report-clause-bad_row g c n first =
@@ -94,7 +94,7 @@ returns-in-Ok-write_report-clause-bad_row g c n first =
     absurd cc
 
 pub returns-in-Ok-write_report-clause-valid : goal.returns-in-Ok-write_report-clause-valid
-returns-in-Ok-write_report-clause-valid g c logs = let x = c.in-Ok-checked_logs.ensures.valid logs in inl (x.0, _, x.1)
+returns-in-Ok-write_report-clause-valid g c logs = let x = c.in-Ok-checked_logs.ensures.valid logs in inl (x.0, x.1, x.2)
 
 pub returns-in-Ok-write_report-clause-sound : goal.returns-in-Ok-write_report-clause-sound
 returns-in-Ok-write_report-clause-sound g c disks logs s asked =
@@ -117,12 +117,12 @@ returns-clause-prefix g c logs sinks disks e =
     let told : List ℕ → Option (List ℕ) = g.F.Source.bytes c.args.files.now in
     let v = values_in c.args.wanted.now in
     let x = c.in-Ok-checked_logs.ensures.valid logs in
-    let cs = c.in-Ok-checked_logs.clicks.records.items in
+    let cs = x.1 in
     let s = setting_of v c.in-Ok.table x.0 cs in
-    let asked = is_asked told v c.in-Ok.table x.0 cs (c.in-Ok.ensures.found.0, sym c.as_bytes.ensures.value ∙ c.in-Ok.ensures.found.1) x.1 in
+    let asked = is_asked told v c.in-Ok.table x.0 cs (c.in-Ok.ensures.found.0, sym c.as_bytes.ensures.value ∙ c.in-Ok.ensures.found.1) x.2 in
     let setting = run_setting told (g.F.Source.bytes c.checked_logs.new.files) v c.in-Ok.table c.in-Ok-checked_logs.clicks.lines_end s asked (c.in-Ok-checked_logs.ensures.same logs) refl (c.in-Ok-checked_logs.ensures.end logs) in
     let took = subst (λ (ls : List ReportLine). TookPrefix (g.K.Sink.held c.args.out.now) (text_of ls) (g.K.Sink.held c.write_report.new.sink)) c.deref.ensures.value (c.in-Err-write_report.ensures.prefix sinks) in
-    (s, asked, λ was. (c.in-Ok-run_lines.lines.items, c.in-Ok-run_lines.ensures.joined disks logs s setting (clicks_back 0 cs) was, took))
+    (s, asked, λ was. (c.in-Ok-run_lines.lines.items, c.in-Ok-run_lines.ensures.joined disks logs s setting (placed_ids c.in-Ok-checked_logs.clicks.ids.items cs x.3) was, took))
 
 pub returns-clause-bad_row : goal.returns-clause-bad_row
 returns-clause-bad_row g c n first =
@@ -131,7 +131,7 @@ returns-clause-bad_row g c n first =
     absurd cc
 
 pub returns-clause-valid : goal.returns-clause-valid
-returns-clause-valid g c logs = let x = c.in-Ok-checked_logs.ensures.valid logs in inl (x.0, _, x.1)
+returns-clause-valid g c logs = let x = c.in-Ok-checked_logs.ensures.valid logs in inl (x.0, x.1, x.2)
 
 pub returns-clause-sound : goal.returns-clause-sound
 returns-clause-sound g c disks logs s asked =
@@ -154,9 +154,9 @@ returns-in-Ok-write_report-clause-ran g c logs disks =
     let told : List ℕ → Option (List ℕ) = g.F.Source.bytes c.args.files.now in
     let v = values_in c.args.wanted.now in
     let x = c.in-Ok-checked_logs.ensures.valid logs in
-    let cs = c.in-Ok-checked_logs.clicks.records.items in
+    let cs = x.1 in
     let s = setting_of v c.in-Ok.table x.0 cs in
-    let asked = is_asked told v c.in-Ok.table x.0 cs (c.in-Ok.ensures.found.0, sym c.as_bytes.ensures.value ∙ c.in-Ok.ensures.found.1) x.1 in
+    let asked = is_asked told v c.in-Ok.table x.0 cs (c.in-Ok.ensures.found.0, sym c.as_bytes.ensures.value ∙ c.in-Ok.ensures.found.1) x.2 in
     let setting = run_setting told (g.F.Source.bytes c.checked_logs.new.files) v c.in-Ok.table c.in-Ok-checked_logs.clicks.lines_end s asked (c.in-Ok-checked_logs.ensures.same logs) refl (c.in-Ok-checked_logs.ensures.end logs) in
     let aired = subst (λ (p : PlanView). IfSome c.run_lines.new.ran.log (λ (l : RunLog). IsAired p l.air.kinds l.air.history)) c.empty-plan.ensures c.run_lines.ensures.aired in
     (s, asked, history c.run_lines.new.ran.log s (g.S.Store.image c.args.store.now) (g.S.Store.image c.run_lines.new.store) no_plan (c.in-Ok-run_lines.ensures.began disks logs s setting) c.run_lines.ensures.lists aired)

@@ -18,17 +18,17 @@ pub returns-in-Ok-classify-clause-joined : goal.returns-in-Ok-classify-clause-jo
 returns-in-Ok-classify-clause-joined g c disks logs s setting own sound =
     let rest = taken c.run_sites.new.ran.log (λ (l : RunLog). RestLeft s (g.S.Store.image c.args.store.now) (g.S.Store.image c.run_sites.new.store) l.air.history (Rose (g.S.Store.faults c.args.store.now) (g.S.Store.faults c.run_sites.new.store)) c.in-Ok.journals) (c.in-Ok.ensures.rest disks logs s setting) in
     let table : c.args.config.now.table ≡ s.table = sym setting.numbers.table in
-    let clicks : c.deref.result.now ≡ map (λ (l : ClickLine). l.click) s.clicks = c.deref.ensures.value ∙ sym own in
+    let clicks : List ClickRec = map (λ (l : ClickLine). l.click) s.clicks in
     c.means.ensures.joins s c.args.store.now c.run_sites.new.store rest.0.air.history c.in-Ok.journals c.in-Ok-classify.lines.items (log_checked _ s setting.clicks_are) sound rest.1
-    (c.in-Ok-classify.ensures ∙ (λ k. map (λ (x : ClickRec). line_of c.in-Ok.journals (table k) x.id) (distinct (clicks k))))
+    (c.in-Ok-classify.ensures clicks (own ∙ sym c.deref.ensures.value) ∙ (λ k. map (λ (x : ClickRec). line_of c.in-Ok.journals (table k) x.id) (distinct clicks)))
 
 pub returns-in-Ok-classify-clause-afresh : goal.returns-in-Ok-classify-clause-afresh
 returns-in-Ok-classify-clause-afresh g c disks logs s setting own nothing =
     let rest = taken c.run_sites.new.ran.log (λ (l : RunLog). RestLeft s (g.S.Store.image c.args.store.now) (g.S.Store.image c.run_sites.new.store) l.air.history (Rose (g.S.Store.faults c.args.store.now) (g.S.Store.faults c.run_sites.new.store)) c.in-Ok.journals) (c.in-Ok.ensures.rest disks logs s setting) in
     let table : c.args.config.now.table ≡ s.table = sym setting.numbers.table in
-    let clicks : c.deref.result.now ≡ map (λ (l : ClickLine). l.click) s.clicks = c.deref.ensures.value ∙ sym own in
+    let clicks : List ClickRec = map (λ (l : ClickLine). l.click) s.clicks in
     c.means.ensures.afresh s c.args.store.now c.run_sites.new.store rest.0.air.history c.in-Ok.journals c.in-Ok-classify.lines.items (log_checked _ s setting.clicks_are) (subst (λ (t : List ShardRow). IsTable t) table c.requires.table) nothing rest.1
-    (c.in-Ok-classify.ensures ∙ (λ k. map (λ (x : ClickRec). line_of c.in-Ok.journals (table k) x.id) (distinct (clicks k))))
+    (c.in-Ok-classify.ensures clicks (own ∙ sym c.deref.ensures.value) ∙ (λ k. map (λ (x : ClickRec). line_of c.in-Ok.journals (table k) x.id) (distinct clicks)))
 
 pub returns-in-Ok-classify-clause-began : goal.returns-in-Ok-classify-clause-began
 returns-in-Ok-classify-clause-began g c disks logs s setting =
@@ -38,9 +38,9 @@ returns-in-Ok-classify-clause-began g c disks logs s setting =
 pub returns-in-Ok-classify-clause-ran : goal.returns-in-Ok-classify-clause-ran
 returns-in-Ok-classify-clause-ran g c disks logs s setting own nothing =
     let table : c.args.config.now.table ≡ s.table = sym setting.numbers.table in
-    let clicks : c.deref.result.now ≡ map (λ (l : ClickLine). l.click) s.clicks = c.deref.ensures.value ∙ sym own in
+    let clicks : List ClickRec = map (λ (l : ClickLine). l.click) s.clicks in
     within c.run_sites.new.ran.log (λ (l : RunLog). RestLeft s (g.S.Store.image c.args.store.now) (g.S.Store.image c.run_sites.new.store) l.air.history (Rose (g.S.Store.faults c.args.store.now) (g.S.Store.faults c.run_sites.new.store)) c.in-Ok.journals)
     (λ (l : RunLog). RanAfresh s l.air.history c.in-Ok-classify.lines.items)
     (λ l rest. c.means.ensures.ran s c.args.store.now c.run_sites.new.store l.air.history c.in-Ok.journals c.in-Ok-classify.lines.items (log_checked _ s setting.clicks_are) (subst (λ (t : List ShardRow). IsTable t) table c.requires.table) nothing rest
-    (c.in-Ok-classify.ensures ∙ (λ k. map (λ (x : ClickRec). line_of c.in-Ok.journals (table k) x.id) (distinct (clicks k)))))
+    (c.in-Ok-classify.ensures clicks (own ∙ sym c.deref.ensures.value) ∙ (λ k. map (λ (x : ClickRec). line_of c.in-Ok.journals (table k) x.id) (distinct clicks))))
     (c.in-Ok.ensures.rest disks logs s setting)

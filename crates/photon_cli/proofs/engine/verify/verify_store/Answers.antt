@@ -1,12 +1,9 @@
-use Rattle.std.proofs.Common.{◌++◌, ℕ, List, map, Option, ap, subst, ◌∙◌}
+use Rattle.std.proofs.Common.{◌++◌, ℕ, List, Option, ap, sym, subst, ◌∙◌}
 use Rattle.std.specs.List.{list_any}
 use Rattle.std.specs.Option.{IsSomeAnd}
-use Rattle.log_records.specs.declared.records.ClickRec.{ClickRec}
 use Rattle.log_defs.specs.declared.ReportLine.{ReportLine}
-use Rattle.log_defs.specs.declared.ReportLine.TheVariants.{U}
-use Rattle.log_defs.specs.Report.{distinct, is_missing, text_of}
+use Rattle.log_defs.specs.Report.{is_missing, text_of}
 use Rattle.report_text.specs.Stream.{TookPrefix}
-use Rattle.verify_pass.specs.Classes.{line_of}
 use Rattle.photon_cli.specs.Verify.{IsReadFrom}
 use Rattle.photon_cli.proofs.Verifying.{told_of}
 use Rattle.photon_cli.proofs.engine.verify.verify_store.Goals as goal
@@ -19,9 +16,9 @@ returns-in-Ok-write_report-clause-done g c logs sinks disks =
     let before = g.S.Store.image c.args.store.now in
     let own = c.in-Ok.ensures.found logs in
     let read = subst (λ (o : Option (List ℕ)). IsSomeAnd o (λ log. IsReadFrom before log kept)) (c.in-Ok.ensures.same logs clicks) (c.in-Ok-kept_store.ensures.read disks logs) in
-    let told = told_of before kept c.in-Ok.checked.records.items lines
-    (λ t is. c.in-Ok-kept_lines.ensures.some t is ∙ ap (λ (xs : List ClickRec). map (λ (x : ClickRec). line_of kept.journals t.table x.id) (distinct xs)) c.deref.ensures.value)
-    (λ is. c.in-Ok-kept_lines.ensures.none is ∙ ap (λ (xs : List ClickRec). map (λ (x : ClickRec). U x.id) (distinct xs)) c.deref.ensures.value)
+    let told = told_of before kept c.in-Ok.checked.ids.items lines
+    (λ t is cs same. c.in-Ok-kept_lines.ensures.some t is cs (same ∙ sym c.deref.ensures.value))
+    (λ is cs same. c.in-Ok-kept_lines.ensures.none is cs (same ∙ sym c.deref.ensures.value))
     (g.F.Source.bytes c.args.files.now clicks) own read in (
       kept,
       lines,
@@ -38,9 +35,9 @@ returns-clause-prefix g c logs sinks disks e =
     let before = g.S.Store.image c.args.store.now in
     let own = c.in-Ok.ensures.found logs in
     let read = subst (λ (o : Option (List ℕ)). IsSomeAnd o (λ log. IsReadFrom before log kept)) (c.in-Ok.ensures.same logs clicks) (c.in-Ok-kept_store.ensures.read disks logs) in
-    let told = told_of before kept c.in-Ok.checked.records.items lines
-    (λ t is. c.in-Ok-kept_lines.ensures.some t is ∙ ap (λ (xs : List ClickRec). map (λ (x : ClickRec). line_of kept.journals t.table x.id) (distinct xs)) c.deref.ensures.value)
-    (λ is. c.in-Ok-kept_lines.ensures.none is ∙ ap (λ (xs : List ClickRec). map (λ (x : ClickRec). U x.id) (distinct xs)) c.deref.ensures.value)
+    let told = told_of before kept c.in-Ok.checked.ids.items lines
+    (λ t is cs same. c.in-Ok-kept_lines.ensures.some t is cs (same ∙ sym c.deref.ensures.value))
+    (λ is cs same. c.in-Ok-kept_lines.ensures.none is cs (same ∙ sym c.deref.ensures.value))
     (g.F.Source.bytes c.args.files.now clicks) own read in (
       kept,
       lines,
