@@ -103,7 +103,7 @@ more_by log place end_ qs read (q ∷ others) r all so_far each has (line, rest,
       all = all ∙ sym (append_assoc read (q ∷ []) others);
       so_far =
           subst (AreRead log end_) (sym (map-append (λ (x : Query). Some x) read (q ∷ [])))
-            (subst (λ (o : Option Query). AreRead log end_ (given read ++ o ∷ [])) (read_is line q r each.0 parts.0 reads) (reads_more log 0 place end_ (given read) r so_far (line, rest, is, lacks, counts, reads)));
+          (subst (λ (o : Option Query). AreRead log end_ (given read ++ o ∷ [])) (read_is line q r each.0 parts.0 reads) (reads_more log 0 place end_ (given read) r so_far (line, rest, is, lacks, counts, reads)));
       each = each.1;
       behind_them = (has.0, behind_more log line rest place end_ is counts ∙ parts.1, has.2);
     }

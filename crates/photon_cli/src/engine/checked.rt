@@ -42,11 +42,7 @@ pub fn open_log<F: Source>(
 }
 
 // Checks an open query log, line by line, and shuts it.
-fn checked_queries<F: Source>(
-    alloc: Global,
-    files: &mut F,
-    file: F::Log,
-) -> Result<u64, CheckFault>
+fn checked_queries<F: Source>(alloc: Global, files: &mut F, file: F::Log) -> Result<u64, CheckFault>
     ensures found { IsTrue F.Log.tells → IfOk result (λ n. (qs : List Query) × IsQueryLog (F.Log.bytes file) qs × (n ≡ length qs)) }
     ensures refused { IsTrue F.Log.tells → (bad : Bad) → result ≡ Err (check_fault.Refused bad) → RefusesQuery (F.Log.bytes file) bad }
     ensures same { IsTrue F.Log.tells → (n : List ℕ) → F.bytes files.new n ≡ F.bytes files.old n }
