@@ -1,4 +1,4 @@
-use Rattle.std.proofs.Common.{◌-◌, List, length, get_or, drop, ap, sym, ◌∙◌, arith}
+use Rattle.std.proofs.Common.{◌-◌, List, length, get_or, ap, sym, ◌∙◌, arith}
 use Rattle.std.specs.BTreeSet.{insert_key}
 use Rattle.event_id.specs.declared.id.EventId.{EventId}
 use Rattle.event_id.specs.EventId.{id_cmp}
@@ -13,7 +13,7 @@ pub loop-taken-preserved : goal.loop-taken-preserved
 loop-taken-preserved c =
     let ids = c.args.ids.now in
     let k = c.loop-taken.taken in
-    let none = c.index-ids-ids.result in
+    let none : EventId = record { ip = 0; pid = 0; micros = 0 } in
     let at = length ids - 1 - k in
     let x : EventId = get_or ids at none in
     c.in_ok-insert.ensures.keys
