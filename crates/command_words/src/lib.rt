@@ -7,6 +7,3 @@ mod parse;
 
 pub use asked::{Asked, WordsFault};
 pub use parse::parse_words;
-
-#[cfg(test)]
-mod examples;

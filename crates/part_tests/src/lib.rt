@@ -6,6 +6,8 @@ mod air_bus_tests;
 #[cfg(test)]
 mod batch_queue_tests;
 #[cfg(test)]
+mod command_words_tests;
+#[cfg(test)]
 mod event_id_tests;
 #[cfg(test)]
 mod event_store_tests;

@@ -1,4 +1,4 @@
-use crate::{Asked, WordsFault, parse_words};
+use command_words::{Asked, WordsFault, parse_words};
 use std::alloc::Global;
 use std::test::Fail;
 
