@@ -4,8 +4,6 @@
 mod any_node;
 mod making;
 mod nodes;
-#[cfg(test)]
-mod tests;
 
 pub use any_node::{AnyNode, SystemNode};
 pub use making::{dispatcher, joiner, replica, server};

@@ -6,7 +6,5 @@ pub mod laws;
 mod lines;
 mod logs;
 pub mod rows;
-#[cfg(test)]
-mod tests;
 
 pub use logs::make_logs;

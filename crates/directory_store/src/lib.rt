@@ -5,8 +5,6 @@ mod directory;
 mod disk;
 mod name;
 pub mod rows;
-#[cfg(test)]
-mod tests;
 
 pub use directory::Directory;
 pub use disk::DirectoryDisk;

@@ -5,8 +5,6 @@ mod build;
 mod kinds;
 mod names;
 pub mod rows;
-#[cfg(test)]
-mod tests;
 
 pub use build::store_for;
 pub use kinds::stops_a_joiner;

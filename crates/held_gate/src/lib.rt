@@ -6,6 +6,3 @@ mod hold;
 
 pub use gate::{HeldGate, LOOKS};
 pub use hold::Hold;
-
-#[cfg(test)]
-mod tests;

@@ -9,8 +9,6 @@ mod flights;
 mod input;
 pub mod laws;
 mod node_core;
-#[cfg(test)]
-mod tests;
 mod turn;
 
 pub use input::{JoinerInput, Looked};

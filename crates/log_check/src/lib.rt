@@ -7,7 +7,5 @@ mod lines;
 pub mod rows;
 mod seen;
 mod step;
-#[cfg(test)]
-mod tests;
 
 pub use check::{CheckFault, CheckedLog, check_click_log, check_query_log};

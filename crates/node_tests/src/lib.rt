@@ -2,16 +2,14 @@
 #![tactic(auto)]
 
 #[cfg(test)]
-mod dispatch_core_tests;
-#[cfg(test)]
 mod dispatch_node_tests;
+#[cfg(test)]
+mod held_gate_tests;
 #[cfg(test)]
 mod joiner_node_tests;
 #[cfg(test)]
-mod registry_server_core_tests;
-#[cfg(test)]
 mod registry_server_tests;
 #[cfg(test)]
-mod replica_node_core_tests;
-#[cfg(test)]
 mod replica_node_tests;
+#[cfg(test)]
+mod site_run_tests;

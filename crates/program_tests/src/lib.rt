@@ -3,4 +3,6 @@
 #![tactic(auto)]
 
 #[cfg(test)]
+mod both_sites_tests;
+#[cfg(test)]
 mod photon_cli_tests;

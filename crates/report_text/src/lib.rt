@@ -9,6 +9,3 @@ mod totals;
 pub use log_defs::ReportLine;
 pub use report::{write_report, write_totals};
 pub use stream::write_all;
-
-#[cfg(test)]
-mod examples;

@@ -6,8 +6,6 @@ mod lines;
 mod names;
 pub mod rows;
 mod tables;
-#[cfg(test)]
-mod tests;
 
 pub use fault::{LogName, Mismatch, RunFault, StorePlace};
 pub use lines::{status, tell};

@@ -5,8 +5,6 @@ mod copies;
 mod judging;
 mod kept;
 mod reading;
-#[cfg(test)]
-mod tests;
 
 pub use kept::KeptStore;
 pub use reading::read_store;

@@ -16,4 +16,6 @@ mod site_disks_tests;
 #[cfg(test)]
 mod store_opening_tests;
 #[cfg(test)]
+mod store_reading_tests;
+#[cfg(test)]
 mod topology_journal_tests;

@@ -1,7 +1,7 @@
 // Faults told on a sink in memory.
-use super::*;
 use mem_outside::MemSink;
 use outside::DiskName;
+use run_faults::*;
 use std::alloc::Global;
 use std::test::Fail;
 use time_shards::Table;

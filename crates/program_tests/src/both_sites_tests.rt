@@ -2,8 +2,8 @@
 ghost use Rattle.std.specs.Prelude.{◌≡◌, ◌<◌, ◌+◌, ◌*◌, length, false, OnOk};
 ghost use Rattle.both_sites.specs.Numbers.{AreReady};
 
-use crate::{AnyNode, SystemNode, dispatcher, joiner, replica, run_nodes, server};
 use air_bus::Entry;
+use both_sites::{AnyNode, SystemNode, dispatcher, joiner, replica, run_nodes, server};
 use epoch_journal::EpochJournal;
 use gate_journal::Journal;
 use held_gate::{HeldGate, Hold, LOOKS};

@@ -1,4 +1,4 @@
-use super::*;
+use directory_store::*;
 use outside::{Disk, DiskName, Store, StoreFault};
 use std::fs;
 use std::test::Fail;

@@ -1,5 +1,5 @@
 // A plan is read, and the disks of its store are called until they stop.
-use super::*;
+use drill_store::*;
 use lossy_link::Plan;
 use mem_outside::MemStore;
 use outside::{Disk, DiskName, Store};

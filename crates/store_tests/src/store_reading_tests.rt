@@ -1,4 +1,3 @@
-use crate::{KeptStore, read_store};
 use kept_places::Misplaced;
 use mem_outside::{MemDisk, MemLog, MemStore};
 use outside::{DiskName, Store};
@@ -7,6 +6,7 @@ use site_disks::DisksFault;
 use std::alloc::Global;
 use std::test::Fail;
 use store_opening::Refusal;
+use store_reading::{KeptStore, read_store};
 use verify_pass::{NoteList, PairList};
 
 // Two joiners a site and four shards, as the topology's disk keeps them.

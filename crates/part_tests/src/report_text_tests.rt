@@ -1,9 +1,9 @@
 ghost use Rattle.std.specs.Prelude.{[], false};
 
-use super::*;
 use event_id::{EventId, parse};
 use log_records::{ClickRec, QueryRec, Text};
 use outside::{Sink, WriteFault};
+use report_text::*;
 use std::alloc::{AllocError, Global};
 use std::test::Fail;
 

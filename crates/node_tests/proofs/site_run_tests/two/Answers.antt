@@ -2,9 +2,9 @@ use Rattle.std.proofs.Common.{◌≡◌, List, [], ◌∷◌, ◌++◌, length, 
 use Rattle.site_run.specs.Eithers.{by}
 use Rattle.site_run.specs.declared.either.Either.{Either}
 use Rattle.site_run.specs.declared.either.Either.TheVariants.{First, Second}
-use Rattle.site_run.specs.declared.tests.Puppet.{Puppet}
-use Rattle.site_run.proofs.Examples.{two_numbers}
-use Rattle.site_run.proofs.tests.two.Goals as goal
+use Rattle.node_tests.specs.declared.site_run_tests.Puppet.{Puppet}
+use Rattle.node_tests.proofs.Examples.{two_numbers}
+use Rattle.node_tests.proofs.site_run_tests.two.Goals as goal
 
 pub returns-clause-numbers : goal.returns-clause-numbers
 returns-clause-numbers c i d l =

@@ -1,5 +1,5 @@
 // Both logs' bytes, from another program.
-use crate::make_logs;
+use bulk_logs::make_logs;
 use log_records::{check_clicks, check_queries};
 use std::alloc::{AllocError, Global};
 use std::test::Fail;

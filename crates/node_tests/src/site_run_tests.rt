@@ -4,12 +4,12 @@ ghost use Rattle.site_run.specs.Eithers.{by};
 ghost use Rattle.bus_seat.specs.Views.{count};
 ghost use Rattle.bus_seat.specs.Seats.{BusId, fresh, fresh_seats};
 
-use crate::{Either, Ran, Worker, run};
 use air_bus::{Air, Input, Packets, Payload};
 use bus_seat::{Bus, Seat};
 use lossy_link::{Kind, Plan};
 use outside::{Gate, OpenGate};
 use site_node::{Done, NodeFault, SiteNode};
+use site_run::{Either, Ran, Worker, run};
 use std::alloc::Global;
 use std::sync::Wait;
 use std::test::Fail;
@@ -57,7 +57,7 @@ impl Puppet {
 
 impl SiteNode for Puppet {
     ghost use Rattle.std.specs.Prelude.{◌≡◌, true, None};
-    ghost use Rattle.site_run.specs.Puppets.{moves, begins_so, phases_so};
+    ghost use Rattle.node_tests.specs.Puppets.{moves, begins_so, phases_so};
     ghost use Rattle.air_bus.specs.declared.entry.Phase.{Phase};
 
     ghost tells = { true };

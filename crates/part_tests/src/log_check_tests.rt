@@ -1,7 +1,7 @@
 // The check of a stream against the check of the same log in memory.
 ghost use Rattle.std.specs.Prelude.{◌≡◌, ◌≤◌, ◌<◌, ◌↔◌, length, take, drop, true};
 
-use crate::{CheckFault, check_click_log, check_query_log};
+use log_check::{CheckFault, check_click_log, check_query_log};
 use log_records::{BadLine, Why, check_queries, clicks_of};
 use outside::{LogFile, ReadFault};
 use std::alloc::{AllocError, Global};
