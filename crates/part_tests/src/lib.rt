@@ -6,29 +6,13 @@ mod air_bus_tests;
 #[cfg(test)]
 mod batch_queue_tests;
 #[cfg(test)]
-mod bulk_logs_tests;
-#[cfg(test)]
-mod command_words_tests;
-#[cfg(test)]
-mod directory_store_tests;
-#[cfg(test)]
-mod drill_store_tests;
-#[cfg(test)]
 mod event_id_tests;
-#[cfg(test)]
-mod event_store_tests;
 #[cfg(test)]
 mod fields_tests;
 #[cfg(test)]
 mod gate_journal_tests;
 #[cfg(test)]
 mod id_expiry_tests;
-#[cfg(test)]
-mod log_check_tests;
-#[cfg(test)]
-mod log_records_tests;
-#[cfg(test)]
-mod lossy_link_tests;
 #[cfg(test)]
 mod output_log_tests;
 #[cfg(test)]
@@ -38,14 +22,7 @@ mod paxos_acceptor_tests;
 #[cfg(test)]
 mod paxos_proposer_tests;
 #[cfg(test)]
-mod report_text_tests;
-#[cfg(test)]
 mod retry_log_tests;
-#[cfg(test)]
-mod run_faults_tests;
-pub mod store_rows;
-#[cfg(test)]
-mod tail_reader_tests;
 #[cfg(test)]
 mod time_shards_tests;
 #[cfg(test)]

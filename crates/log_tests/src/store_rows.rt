@@ -1,5 +1,5 @@
 //! Worked rows of the definitions that `event_store` is proved by.
-ghost use Rattle.part_tests.specs.StoreRows.{EntriesAreCounted, LinesAreRead};
+ghost use Rattle.log_tests.specs.StoreRows.{EntriesAreCounted, LinesAreRead};
 
 /// How many entries the index of some lines has.
 pub fn entries()

@@ -9,8 +9,8 @@ use Rattle.log_records.specs.Line.{space, query_line, IsQuery}
 use Rattle.log_records.specs.Rows.{one_query}
 use Rattle.log_records.proofs.Reading.{query_lacks}
 use Rattle.event_store.specs.Read.{ReadsNext}
-use Rattle.part_tests.specs.StoreRows.{small_log}
-use Rattle.part_tests.proofs.store_rows.reading.Goals as goal
+use Rattle.log_tests.specs.StoreRows.{small_log}
+use Rattle.log_tests.proofs.store_rows.reading.Goals as goal
 
 one_is : IsQuery one_query
 one_is = record {

@@ -1,5 +1,5 @@
 use Rattle.std.proofs.Common.{refl}
-use Rattle.part_tests.proofs.store_rows.entries.Goals as goal
+use Rattle.log_tests.proofs.store_rows.entries.Goals as goal
 
 pub returns : goal.returns
 returns c = record {
