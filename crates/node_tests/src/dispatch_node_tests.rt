@@ -43,20 +43,6 @@ const NO_QUERY_SECOND: [u8; 18] = [0x12, 0, 0, 0, 0, 0, 0, 0, 30, 3, 0, 0, 0, 0,
 
 const WRITTEN_SECOND: [u8; 10] = [0x12, 0, 0, 0, 0, 0, 0, 0, 30, 0];
 
-// Packets that a dispatcher has no row for: an insert of the id 0.0.0.1:2:3, the tag of a Prepare, its place and its
-// ballot, and that tag's promise.
-const INSERT: [u8; 31] = [
-    0x13, 0, 0, 0, 1, 0, 0, 0, 2, 0, 0, 0, 0, 0, 0, 0, 3, 0, 7, 0, 0, 0, 1, 0, 0, 0, 0, 0, 0, 0, 0,
-];
-
-const PREPARE: [u8; 23] = [
-    0x15, 3, 0, 0, 0, 0, 0, 0, 0, 0, 0, 0, 0, 0, 0, 0, 0, 1, 0, 0, 0, 1, 0,
-];
-
-const PROMISE: [u8; 24] = [
-    0x16, 3, 0, 0, 0, 0, 0, 0, 0, 0, 0, 0, 0, 0, 0, 0, 0, 1, 0, 0, 0, 1, 0, 0,
-];
-
 // Records: the offset is 30, it is 60, the second line is pending, it isn't any more.
 const TO_30: [u8; 9] = [3, 0, 0, 0, 0, 0, 0, 0, 30];
 
@@ -425,62 +411,12 @@ fn a_note_lands_once_its_gate_is_open(rt: HostRuntime) -> Result<(), Fail> {
     Ok(())
 }
 
-// Whether it starts, takes the first line, and does nothing at the packet.
-fn ignores(alloc: Global, node: &mut Node, bytes: &[u8]) -> Result<bool, AllocError>
-    requires { is_some node.old.in_doubt ≡ false }
-    ensures { IfOk result (λ same. IsTrue same → is_some node.new.in_doubt ≡ false) }
-{
-    if turns(node, &Input::Start, &[], &[]) && turns(node, &Input::Own, &[], &JOIN_FIRST) {
-        gets(alloc, node, bytes, &[])
-    } else {
-        Ok(false)
-    }
-}
-
-// Whether the packet does nothing, and the answer to the first Join counts then.
-fn skips(alloc: Global, node: &mut Node, bytes: &[u8]) -> bool
-    requires { is_some node.old.in_doubt ≡ false }
-{
-    match ignores(alloc, node, bytes) {
-        Ok(true) => {}
         _ => return false,
     }
     match gets(alloc, node, &WRITTEN_FIRST, &[]) {
         Ok(true) => turns(node, &Input::Own, &TO_30, &[]),
         _ => false,
     }
-}
-
-fn is_skipped(alloc: Global, bytes: &[u8]) -> Result<bool, Fail> {
-    let mut node = fresh(alloc, Vec::new(alloc), Vec::new(alloc))?;
-    let same = skips(alloc, &mut node, bytes);
-    let is_noted = offset_ends_with(node, &TO_30);
-    Ok(same && is_noted)
-}
-
-#[test]
-fn what_no_packet_spells_is_skipped(rt: HostRuntime) -> Result<(), Fail> {
-    let alloc = rt.alloc();
-    for len in 0..NO_QUERY_SECOND.len() {
-        assert!(rt; is_skipped(alloc, &NO_QUERY_SECOND[..len])?);
-    }
-    for len in 0..WRITTEN_FIRST.len() {
-        assert!(rt; is_skipped(alloc, &WRITTEN_FIRST[..len])?);
-    }
-    Ok(())
-}
-
-#[test]
-fn other_packets_do_nothing(rt: HostRuntime) -> Result<(), Fail> {
-    let alloc = rt.alloc();
-    assert!(rt; is_skipped(alloc, &JOIN_FIRST)?);
-    assert!(rt; is_skipped(alloc, &INSERT)?);
-    assert!(rt; is_skipped(alloc, &PREPARE)?);
-    assert!(rt; is_skipped(alloc, &PROMISE)?);
-    // The second line waits for no answer yet.
-    assert!(rt; is_skipped(alloc, &WRITTEN_SECOND)?);
-    assert!(rt; is_skipped(alloc, &NO_QUERY_SECOND)?);
-    Ok(())
 }
 
 // A gate that counts how often it is passed before a note of node 0.
@@ -553,20 +489,6 @@ fn the_gate_is_passed_before_the_append(rt: HostRuntime) -> Result<(), Fail> {
     ]?;
     assert!(rt; passes_once(alloc, first, true, 4)?);
     assert!(rt; passes_once(alloc, Vec::new(alloc), false, 7)?);
-    Ok(())
-}
-
-// Whether a Start passes no gate, and its disk has seen the calls of opening alone then.
-fn passes_none(alloc: Global) -> Result<bool, Fail> {
-    let mut node = fresh(alloc, Vec::new(alloc), Vec::new(alloc))?;
-    let passed = passes(&mut node, &Input::Start, false);
-    let made = offset_calls(node);
-    Ok(passed == Some(0) && made == 3)
-}
-
-#[test]
-fn a_turn_without_a_note_passes_no_gate(rt: HostRuntime) -> Result<(), Fail> {
-    assert!(rt; passes_none(rt.alloc())?);
     Ok(())
 }
 

@@ -57,11 +57,6 @@ const PAIR: [u8; 73] = [
     b'h', b'o', b'e', b's', 0, 7, 0, 0, 0, 1, 0, 0, 0, 0, 0, 0, 0, 0,
 ];
 
-// Server 0 asks for the first round of its first epoch in shard 3, slot 0.
-const PREPARE: [u8; 23] = [
-    0x15, 3, 0, 0, 0, 0, 0, 0, 0, 0, 0, 0, 0, 0, 0, 0, 0, 1, 0, 0, 0, 1, 0,
-];
-
 type Node = JoinerNode<MemLog, MemDisk>;
 
 // A joiner that is down, over these disks and a log of which these reads fail.
@@ -180,40 +175,6 @@ fn a_join_in_flight_is_sent_again(rt: HostRuntime) -> Result<(), Fail> {
         return Err("again".into());
     }
     assert!(rt; turns(&mut node, &Input::Tick, &[], SERVER, &INSERT));
-    Ok(())
-}
-
-// Whether the packet changes nothing: no note and no packet, and then the Join is registered.
-fn is_skipped(alloc: Global, from: u16, bytes: &[u8]) -> Result<bool, Fail> {
-    let mut node = fresh(alloc, Vec::new(alloc), Vec::new(alloc))?;
-    let skipped = packet(alloc, from, bytes)?;
-    let join = packet(alloc, DISPATCHER, &JOIN)?;
-    Ok(
-        turns(&mut node, &Input::Start, &EPOCH, SERVER, &[])
-            && turns(&mut node, &skipped, &[], SERVER, &[])
-            && turns(&mut node, &join, &[], SERVER, &INSERT),
-    )
-}
-
-#[test]
-fn what_no_packet_spells_is_skipped(rt: HostRuntime) -> Result<(), Fail> {
-    let alloc = rt.alloc();
-    for len in 0..JOIN.len() {
-        assert!(rt; is_skipped(alloc, DISPATCHER, &JOIN[..len])?);
-    }
-    // No node has this number: two dispatchers, two servers, three replicas, two joiners.
-    assert!(rt; is_skipped(alloc, 9, &JOIN)?);
-    Ok(())
-}
-
-#[test]
-fn other_packets_do_nothing(rt: HostRuntime) -> Result<(), Fail> {
-    let alloc = rt.alloc();
-    // A reply to no join in flight, and packets to a dispatcher, a server and a replica.
-    assert!(rt; is_skipped(alloc, SERVER, &GRANTED)?);
-    assert!(rt; is_skipped(alloc, SERVER, &WRITTEN)?);
-    assert!(rt; is_skipped(alloc, SERVER, &INSERT)?);
-    assert!(rt; is_skipped(alloc, SERVER, &PREPARE)?);
     Ok(())
 }
 
@@ -384,21 +345,5 @@ fn a_log_is_read_only_as_far_as_needed(rt: HostRuntime) -> Result<(), Fail> {
         _ => return Err("read".into()),
     }
     assert!(rt; turns(&mut node, &join, &[], SERVER, &INSERT));
-    Ok(())
-}
-
-#[test]
-fn the_last_epoch_is_spent(rt: HostRuntime) -> Result<(), Fail> {
-    let alloc = rt.alloc();
-    let bytes = [0xA5, 0, 0, 0, 5, 2, 0xFF, 0xFF, 0xFF, 0xFE, 0];
-    let epochs = MemDisk::holding(alloc, &bytes, Vec::new(alloc))?;
-    let pairs = MemDisk::new(alloc, Vec::new(alloc));
-    let mut node = over(alloc, epochs, pairs, QUERY, Vec::new(alloc))?;
-    match node.turn(&Input::Start, &OpenGate) {
-        Err(NodeFault::Spent(epoch)) => assert_eq!(rt; epoch, 4294967294),
-        _ => return Err("spent".into()),
-    }
-    let (epochs, _, _) = node.into_disks();
-    assert!(rt; epochs.bytes() == bytes.as_slice());
     Ok(())
 }

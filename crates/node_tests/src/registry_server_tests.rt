@@ -16,30 +16,10 @@ const ROSTER: Roster = Roster {
     joiners: 1,
 };
 
-// The joiner of site 0, behind two dispatchers, two servers and three replicas.
-const JOINER: u16 = 7;
-
-// The joiner claims the id 10.0.0.2:9:2000, whose shard of four is 3: the tag, the id, and the joiner's first token.
-const INSERT: [u8; 31] = [
-    0x13, 10, 0, 0, 2, 0, 0, 0, 9, 0, 0, 0, 0, 0, 0, 7, 208, 0, 7, 0, 0, 0, 1, 0, 0, 0, 0, 0, 0, 0,
-    0,
-];
-
 // What the server then asks each replica: the tag, shard 3 and slot 0, and round 1 of the first epoch at site 0.
 const PREPARE: [u8; 23] = [
     0x15, 3, 0, 0, 0, 0, 0, 0, 0, 0, 0, 0, 0, 0, 0, 0, 0, 1, 0, 0, 0, 1, 0,
 ];
-
-// A promise at that place and ballot, which tells that nothing was accepted.
-const PROMISE: [u8; 24] = [
-    0x16, 3, 0, 0, 0, 0, 0, 0, 0, 0, 0, 0, 0, 0, 0, 0, 0, 1, 0, 0, 0, 1, 0, 0,
-];
-
-// A joiner tells a dispatcher that the click at position 0 is written.
-const JOINED: [u8; 10] = [0x12, 0, 0, 0, 0, 0, 0, 0, 0, 0];
-
-// The last epoch's record behind an open gate, and a closed one.
-const SPENT: [u8; 11] = [0xA5, 0, 0, 0, 5, 2, 255, 255, 255, 254, 0];
 
 // A server of site 0 that is down, over this disk, with four shards and the horizon 0.
 fn opened(alloc: Global, disk: MemDisk) -> Result<ServerNode<MemDisk>, Fail>
@@ -57,22 +37,6 @@ fn opened(alloc: Global, disk: MemDisk) -> Result<ServerNode<MemDisk>, Fail>
     }
 }
 
-// A server that is up.
-fn started(alloc: Global) -> Result<ServerNode<MemDisk>, Fail>
-    ensures { IfOk result (λ node. node.in_doubt ≡ None) }
-{
-    let mut node = opened(alloc, MemDisk::new(alloc, Vec::new(alloc)))?;
-    match node.turn(&Input::Start, &OpenGate) {
-        Ok(_) => Ok(node),
-        Err(_) => Err("start".into()),
-    }
-}
-
-fn packet(alloc: Global, from: u16, bytes: &[u8]) -> Result<Input, AllocError> {
-    let bytes = Payload::new(bytes.to_vec(alloc)?)?;
-    Ok(Input::Packet { from, bytes })
-}
-
 // Whether the turn noted this epoch, and sent nothing.
 fn is_raised(done: &Done, epoch: u8) -> bool {
     let noted = match &done.note {
@@ -80,10 +44,6 @@ fn is_raised(done: &Done, epoch: u8) -> bool {
         None => false,
     };
     noted && done.packets.as_slice().is_empty()
-}
-
-fn is_idle(done: &Done) -> bool {
-    done.note.is_none() && done.packets.as_slice().is_empty()
 }
 
 // Whether the turn asked each of three replicas for its promise.
@@ -112,52 +72,6 @@ fn a_start_is_noted(rt: HostRuntime) -> Result<(), Fail> {
     let disk = node.into_disk();
     let wanted: [u8; 11] = [0xA5, 0, 0, 0, 5, 2, 0, 0, 0, 1, 0];
     assert!(rt; disk.bytes() == wanted.as_slice());
-    Ok(())
-}
-
-// Whether the turn is done without a note and without packets.
-fn is_idle_turn(node: &mut ServerNode<MemDisk>, input: &Input) -> Result<bool, Fail>
-    requires { is_some node.old.in_doubt ≡ false }
-    ensures { OnOk result (is_some node.new.in_doubt ≡ false) }
-{
-    match node.turn(input, &OpenGate) {
-        Ok(done) => Ok(is_idle(&done)),
-        Err(_) => Err("packet".into()),
-    }
-}
-
-// Whether these bytes do nothing, and the joiner's insert is then put to the replicas.
-fn is_skipped(alloc: Global, from: u16, bytes: &[u8]) -> Result<bool, Fail> {
-    let mut node = started(alloc)?;
-    let skipped = is_idle_turn(&mut node, &packet(alloc, from, bytes)?)?;
-    let queued = is_idle_turn(&mut node, &packet(alloc, JOINER, &INSERT)?)?;
-    if !skipped || !queued || !node.wants() || !node.unfinished() {
-        return Ok(false);
-    }
-    match node.turn(&Input::Own, &OpenGate) {
-        Ok(done) => Ok(asks(&done) && !node.wants()),
-        Err(_) => Err("own".into()),
-    }
-}
-
-#[test]
-fn what_no_packet_spells_is_skipped(rt: HostRuntime) -> Result<(), Fail> {
-    let alloc = rt.alloc();
-    for len in 0..INSERT.len() {
-        assert!(rt; is_skipped(alloc, JOINER, &INSERT[..len])?);
-    }
-    // No node has this number.
-    assert!(rt; is_skipped(alloc, 9, &INSERT)?);
-    Ok(())
-}
-
-#[test]
-fn what_is_for_others_is_skipped(rt: HostRuntime) -> Result<(), Fail> {
-    let alloc = rt.alloc();
-    assert!(rt; is_skipped(alloc, JOINER, &JOINED)?);
-    assert!(rt; is_skipped(alloc, 4, &PREPARE)?);
-    // A promise counts from a replica alone.
-    assert!(rt; is_skipped(alloc, JOINER, &PROMISE)?);
     Ok(())
 }
 
@@ -195,19 +109,5 @@ fn a_start_lands_once_its_gate_is_open(rt: HostRuntime) -> Result<(), Fail> {
         assert!(rt; !lands(alloc, call, Image::Noise)?);
         assert!(rt; lands(alloc, call, Image::New)? == (call >= 5));
     }
-    Ok(())
-}
-
-#[test]
-fn the_last_epoch_is_told_before_any_change(rt: HostRuntime) -> Result<(), Fail> {
-    let alloc = rt.alloc();
-    let disk = MemDisk::holding(alloc, &SPENT, Vec::new(alloc))?;
-    let mut node = opened(alloc, disk)?;
-    match node.turn(&Input::Start, &OpenGate) {
-        Err(NodeFault::Spent(epoch)) => assert_eq!(rt; epoch, 4294967294),
-        _ => return Err("spent".into()),
-    }
-    let disk = node.into_disk();
-    assert!(rt; disk.bytes() == SPENT.as_slice());
     Ok(())
 }

@@ -32,18 +32,6 @@ const PROMISED: [u8; 23] = [
     7, 3, 0, 0, 0, 0, 0, 0, 0, 0, 0, 0, 0, 0, 0, 0, 0, 1, 0, 0, 0, 1, 0,
 ];
 
-// Packets of kinds that a replica gives no answer to: that a joiner is busy, an insert of the id 0.0.0.1:2:3, and that
-// another replica accepted.
-const JOINED: [u8; 10] = [0x12, 0, 0, 0, 0, 0, 0, 0, 36, 4];
-
-const INSERT: [u8; 31] = [
-    0x13, 0, 0, 0, 1, 0, 0, 0, 2, 0, 0, 0, 0, 0, 0, 0, 3, 0, 7, 0, 0, 0, 1, 0, 0, 0, 0, 0, 0, 0, 0,
-];
-
-const ACCEPTED: [u8; 23] = [
-    0x19, 3, 0, 0, 0, 0, 0, 0, 0, 0, 0, 0, 0, 0, 0, 0, 0, 1, 0, 0, 0, 1, 0,
-];
-
 // A replica that is down, over a fresh disk with these stops.
 fn opened(alloc: Global, fuses: Vec<Fuse>) -> Result<ReplicaNode<MemDisk>, Fail>
     ensures { IfOk result (λ node. node.in_doubt ≡ None) }
@@ -108,44 +96,6 @@ fn a_note_is_written_and_answered(rt: HostRuntime) -> Result<(), Fail> {
     assert!(rt; disk.bytes().len() == 29);
     assert!(rt; disk.bytes().starts_with(&[0xA5, 0, 0, 0, 23]));
     assert!(rt; disk.bytes().ends_with(&[1, 0, 0, 0, 1, 0, 0]));
-    Ok(())
-}
-
-// Whether the packet changes nothing: no note and no packet, and then the server's first Prepare is noted.
-fn is_skipped(alloc: Global, from: u16, bytes: &[u8]) -> Result<bool, Fail> {
-    let mut node = started(alloc, Vec::new(alloc))?;
-    match node.turn(&packet(alloc, from, bytes)?, &OpenGate) {
-        Ok(done) => {
-            if !is_idle(&done) {
-                return Ok(false);
-            }
-        }
-        Err(_) => return Err("junk".into()),
-    }
-    match node.turn(&packet(alloc, SERVER, &PREPARE)?, &OpenGate) {
-        Ok(done) => Ok(promises(&done, true)),
-        Err(_) => Err("prepare".into()),
-    }
-}
-
-#[test]
-fn what_no_packet_spells_is_skipped(rt: HostRuntime) -> Result<(), Fail> {
-    let alloc = rt.alloc();
-    for len in 0..PREPARE.len() {
-        assert!(rt; is_skipped(alloc, SERVER, &PREPARE[..len])?);
-    }
-    // No node has this number: two dispatchers, two servers, three replicas, two joiners.
-    assert!(rt; is_skipped(alloc, 9, &PREPARE)?);
-    Ok(())
-}
-
-#[test]
-fn packets_of_other_kinds_are_skipped(rt: HostRuntime) -> Result<(), Fail> {
-    let alloc = rt.alloc();
-    assert!(rt; is_skipped(alloc, SERVER, &JOINED)?);
-    assert!(rt; is_skipped(alloc, SERVER, &INSERT)?);
-    assert!(rt; is_skipped(alloc, SERVER, &ACCEPTED)?);
-    assert!(rt; is_skipped(alloc, SERVER, &PROMISE)?);
     Ok(())
 }
 

@@ -72,18 +72,6 @@ fn are_told<L: LogFile>(log: &mut L, end: u64, rows: &[PlaceRow]) -> bool {
 }
 
 #[test]
-fn an_empty_log(rt: HostRuntime) -> Result<(), Fail> {
-    let mut log = log_of(rt.alloc(), 0, b"", &[])?;
-    let rows = [
-        row(0, None, Some(0)),
-        row(1, Some(0), Some(0)),
-        row(u64::MAX, Some(0), Some(0)),
-    ];
-    assert!(rt; are_told(&mut log, 0, &rows));
-    Ok(())
-}
-
-#[test]
 fn a_log_of_one_line(rt: HostRuntime) -> Result<(), Fail> {
     let mut log = log_of(rt.alloc(), 1, b"", &[])?;
     let rows = [
@@ -95,45 +83,6 @@ fn a_log_of_one_line(rt: HostRuntime) -> Result<(), Fail> {
         row(u64::MAX, Some(36), Some(0)),
     ];
     assert!(rt; are_told(&mut log, 36, &rows));
-    Ok(())
-}
-
-#[test]
-fn a_line_that_is_still_written(rt: HostRuntime) -> Result<(), Fail> {
-    let mut log = log_of(rt.alloc(), 20, b"10.0.0.2:9:20", &[])?;
-    let rows = [
-        row(0, None, None),
-        row(71, Some(36), Some(36)),
-        row(72, None, None),
-        row(73, Some(72), Some(72)),
-        row(684, None, None),
-        row(719, Some(684), Some(684)),
-        row(720, None, Some(684)),
-        row(721, Some(720), Some(684)),
-        row(733, Some(720), Some(684)),
-        row(734, Some(720), Some(684)),
-    ];
-    assert!(rt; are_told(&mut log, 720, &rows));
-    Ok(())
-}
-
-// No line feed stands in several blocks before the place.
-#[test]
-fn floors_that_lie_far_below(rt: HostRuntime) -> Result<(), Fail> {
-    let alloc = rt.alloc();
-    let mut rest = Vec::new(alloc);
-    for _ in 0..1500 {
-        rest.push(b'a')?;
-    }
-    let mut log = log_of(alloc, 1, &rest, &[])?;
-    let rows = [
-        row(36, None, None),
-        row(548, Some(36), Some(36)),
-        row(549, Some(36), Some(36)),
-        row(1536, Some(36), Some(36)),
-        row(1537, Some(36), Some(36)),
-    ];
-    assert!(rt; are_told(&mut log, 1536, &rows));
     Ok(())
 }
 
@@ -166,23 +115,6 @@ fn copy_byte(bytes: &[u8], at: u64, buf: &mut [u8]) -> usize
     let rest = &bytes[at as usize..];
     buf[..1].copy_from_slice(&rest[..1]);
     1
-}
-
-#[test]
-fn reads_that_give_a_byte(rt: HostRuntime) -> Result<(), Fail> {
-    let alloc = rt.alloc();
-    let mut bytes = Vec::from_slice(alloc, LINE)?;
-    bytes.extend_from_slice(LINE)?;
-    let mut log = SlowLog { bytes };
-    let rows = [
-        row(0, None, None),
-        row(35, Some(0), Some(0)),
-        row(36, None, None),
-        row(72, None, Some(36)),
-        row(73, Some(72), Some(36)),
-    ];
-    assert!(rt; are_told(&mut log, 72, &rows));
-    Ok(())
 }
 
 fn misplaced(disk: DiskName, kept: u64, floor: u64) -> Option<Misplaced> {

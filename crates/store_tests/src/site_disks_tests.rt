@@ -19,8 +19,6 @@ const THREE_SHARDS: [u8; 19] = [0xA5, 0, 0, 0, 13, 1, 1, 2, 1, 0, 0, 0, 0, 0, 0,
 // The last epoch, 4294967294, and the one before it.
 const LAST_EPOCH: [u8; 11] = [0xA5, 0, 0, 0, 5, 2, 0xFF, 0xFF, 0xFF, 0xFE, 0];
 
-const EARLIER_EPOCH: [u8; 11] = [0xA5, 0, 0, 0, 5, 2, 0xFF, 0xFF, 0xFF, 0xFD, 0];
-
 // A promise in shard 3: in the last slot, 281474976710655; of the last round; and of the slot and the round before these.
 const LAST_SLOT: [u8; 29] = [
     0xA5, 0, 0, 0, 23, 7, 3, 0, 0, 0xFF, 0xFF, 0xFF, 0xFF, 0xFF, 0xFF, 0, 0, 0, 0, 0, 0, 0, 1, 0,
@@ -30,11 +28,6 @@ const LAST_SLOT: [u8; 29] = [
 const LAST_ROUND: [u8; 29] = [
     0xA5, 0, 0, 0, 23, 7, 3, 0, 0, 0, 0, 0, 0, 0, 5, 0, 0, 0xFF, 0xFF, 0xFF, 0xFF, 0xFF, 0xFF, 0,
     0, 0, 1, 0, 0,
-];
-
-const EARLIER_PLACE: [u8; 29] = [
-    0xA5, 0, 0, 0, 23, 7, 3, 0, 0, 0xFF, 0xFF, 0xFF, 0xFF, 0xFF, 0xFE, 0, 0, 0xFF, 0xFF, 0xFF,
-    0xFF, 0xFF, 0xFE, 0, 0, 0, 1, 0, 0,
 ];
 
 // Puts a disk of this name with these bytes in the place of the store's.
@@ -185,55 +178,6 @@ fn a_damaged_disk_is_told(rt: HostRuntime) -> Result<(), Fail> {
 }
 
 #[test]
-fn the_first_damaged_disk_is_told(rt: HostRuntime) -> Result<(), Fail> {
-    let alloc = rt.alloc();
-    // A record of another kind, on one disk more each time, which is opened before those with it.
-    let bytes = [0xA5, 0, 0, 0, 5, 9, 0, 0, 0, 1, 0];
-    let mut store = MemStore::new(alloc, Vec::new(alloc));
-    let names = [
-        DiskName::Output(1, 0),
-        DiskName::Output(0, 1),
-        DiskName::Epoch(1, 1),
-        DiskName::Epoch(0, 0),
-        DiskName::Replica(2),
-        DiskName::Replica(1),
-        DiskName::Server(1),
-        DiskName::Retry(0),
-        DiskName::Offset(1),
-        DiskName::Topology,
-    ];
-    for disk in names {
-        put(alloc, &mut store, disk, &bytes)?;
-        let want = Some(DisksFault::Damaged { disk, at: 1 });
-        assert_eq!(rt; counts(alloc, &mut store, 2).err(), want);
-    }
-    Ok(())
-}
-
-#[test]
-fn a_stop_in_the_opening_is_told(rt: HostRuntime) -> Result<(), Fail> {
-    let alloc = rt.alloc();
-    let name = DiskName::Replica(2);
-    let fuse = Fuse {
-        call: 0,
-        image: Image::Old,
-    };
-    let mut stops = Vec::new(alloc);
-    stops.push(Stop { name, fuse })?;
-    let mut store = MemStore::new(alloc, stops);
-    assert_eq!(rt;
-        counts(alloc, &mut store, 1).err(),
-        Some(DisksFault::Store(name))
-    );
-    assert_eq!(rt; store.faults(), 1);
-    assert_eq!(rt;
-        counts(alloc, &mut store, 1).ok(),
-        Some([2, 2, 2, 3, 1, 1, 1, 1])
-    );
-    Ok(())
-}
-
-#[test]
 fn the_first_misfit_is_told(rt: HostRuntime) -> Result<(), Fail> {
     let alloc = rt.alloc();
     let mut store = MemStore::new(alloc, Vec::new(alloc));
@@ -259,36 +203,6 @@ fn the_first_misfit_is_told(rt: HostRuntime) -> Result<(), Fail> {
     put(alloc, &mut store, DiskName::Topology, &ONE_JOINER)?;
     let want = Some(Misfit::Joiners { kept: 1, asked: 2 });
     assert_eq!(rt; misfit(alloc, &mut store)?, want);
-    Ok(())
-}
-
-#[test]
-fn disks_that_fit(rt: HostRuntime) -> Result<(), Fail> {
-    let alloc = rt.alloc();
-    let mut store = MemStore::new(alloc, Vec::new(alloc));
-    let disks = [
-        (DiskName::Topology, TWO_JOINERS.as_slice()),
-        (DiskName::Server(0), EARLIER_EPOCH.as_slice()),
-        (DiskName::Replica(1), EARLIER_PLACE.as_slice()),
-        (DiskName::Epoch(0, 1), EARLIER_EPOCH.as_slice()),
-        (DiskName::Epoch(1, 0), EARLIER_EPOCH.as_slice()),
-        // Of joiners that the topology doesn't have.
-        (DiskName::Epoch(0, 2), LAST_EPOCH.as_slice()),
-    ];
-    for (disk, bytes) in disks {
-        put(alloc, &mut store, disk, bytes)?;
-        assert_eq!(rt; misfit(alloc, &mut store)?, None);
-    }
-    Ok(())
-}
-
-#[test]
-fn a_topology_is_written(rt: HostRuntime) -> Result<(), Fail> {
-    let alloc = rt.alloc();
-    let mut store = MemStore::new(alloc, Vec::new(alloc));
-    assert_eq!(rt; write_fault(alloc, &mut store)?, None);
-    assert_eq!(rt; misfit(alloc, &mut store)?, None);
-    assert!(rt; holds(alloc, &mut store, &TWO_JOINERS)?);
     Ok(())
 }
 

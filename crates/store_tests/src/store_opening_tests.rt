@@ -200,26 +200,6 @@ fn the_first_reason_is_told(rt: HostRuntime) -> Result<(), Fail> {
 }
 
 #[test]
-fn nothing_is_written_where_a_place_is_refused(rt: HostRuntime) -> Result<(), Fail> {
-    let alloc = rt.alloc();
-    let mut store = MemStore::new(alloc, Vec::new(alloc));
-    put(alloc, &mut store, DiskName::Offset(1), &OFFSET_5)?;
-    assert!(rt; refusal(alloc, &mut store)?.is_some());
-    // The shut gate of a new journal.
-    assert!(rt; holds(alloc, &mut store, DiskName::Topology, &[0])?);
-    Ok(())
-}
-
-#[test]
-fn an_offset_at_the_end_fits(rt: HostRuntime) -> Result<(), Fail> {
-    let alloc = rt.alloc();
-    let mut store = MemStore::new(alloc, Vec::new(alloc));
-    put(alloc, &mut store, DiskName::Offset(1), &OFFSET_36)?;
-    assert!(rt; refusal(alloc, &mut store)?.is_none());
-    Ok(())
-}
-
-#[test]
 fn a_fault_of_the_log_is_told(rt: HostRuntime) -> Result<(), Fail> {
     let alloc = rt.alloc();
     let mut store = MemStore::new(alloc, Vec::new(alloc));
