@@ -411,14 +411,6 @@ fn a_note_lands_once_its_gate_is_open(rt: HostRuntime) -> Result<(), Fail> {
     Ok(())
 }
 
-        _ => return false,
-    }
-    match gets(alloc, node, &WRITTEN_FIRST, &[]) {
-        Ok(true) => turns(node, &Input::Own, &TO_30, &[]),
-        _ => false,
-    }
-}
-
 // A gate that counts how often it is passed before a note of node 0.
 #[derive(Drop)]
 struct Counter {
