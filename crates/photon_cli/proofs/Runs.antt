@@ -66,6 +66,9 @@ both_logs told queries clicks ids q k =
     let b = some_clicks ids (told clicks) k in
     (a.0, b.0, record { query = a.1; click = b.1 }, b.2)
 
+pub clicks_there : (ids : List EventId) (o : Option (List ℕ)) → IsSomeAnd o (λ log. HasIds log ids) → (cs : List ClickRec) × IsSomeAnd o (λ log. IsClickLog log cs)
+clicks_there ids o h = let found = some_clicks ids o h in (found.0, found.1)
+
 -- the clicks of lines that were placed have the ids that were read
 pub placed_ids : (ids : List EventId) (cs : List ClickRec) → ids ≡ map (λ (c : ClickRec). c.id) cs → map (λ (c : ClickRec). c.id) (map (λ (l : ClickLine). l.click) (placed 0 cs)) ≡ ids
 placed_ids ids cs are = ap (map (λ (c : ClickRec). c.id)) (clicks_back 0 cs) ∙ sym are

@@ -1,10 +1,11 @@
-use Rattle.std.proofs.Common.{◌++◌, ℕ, List, Option, ap, sym, subst, ◌∙◌}
+use Rattle.std.proofs.Common.{◌++◌, ℕ, List, Option, inl, ap, sym, subst, ◌∙◌}
 use Rattle.std.specs.List.{list_any}
 use Rattle.std.specs.Option.{IsSomeAnd}
 use Rattle.log_defs.specs.declared.ReportLine.{ReportLine}
 use Rattle.log_defs.specs.Report.{is_missing, text_of}
 use Rattle.report_text.specs.Stream.{TookPrefix}
 use Rattle.photon_cli.specs.Verify.{IsReadFrom}
+use Rattle.photon_cli.proofs.Runs.{clicks_there}
 use Rattle.photon_cli.proofs.Verifying.{told_of}
 use Rattle.photon_cli.proofs.engine.verify.verify_store.Goals as goal
 
@@ -44,3 +45,12 @@ returns-clause-prefix g c logs sinks disks e =
       told,
       subst (λ (t : List ℕ). TookPrefix (g.K.Sink.held c.args.out.now) t (g.K.Sink.held c.write_report.new.sink)) (ap text_of c.deref-2.ensures.value) (c.in-Err-write_report.ensures.prefix sinks),
     )
+
+pub returns-in-Err-kept_store-clause-valid : goal.returns-in-Err-kept_store-clause-valid
+returns-in-Err-kept_store-clause-valid g c logs = inl (clicks_there _ _ (c.in-Ok.ensures.found logs))
+
+pub returns-in-Ok-write_report-clause-valid : goal.returns-in-Ok-write_report-clause-valid
+returns-in-Ok-write_report-clause-valid g c logs = inl (clicks_there _ _ (c.in-Ok.ensures.found logs))
+
+pub returns-clause-valid : goal.returns-clause-valid
+returns-clause-valid g c logs = inl (clicks_there _ _ (c.in-Ok.ensures.found logs))
