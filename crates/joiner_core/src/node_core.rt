@@ -389,11 +389,3 @@ impl JoinerCore {
         }
     }
 }
-
-#[cfg(test)]
-impl JoinerCore {
-    // The next token gets this number.
-    pub(crate) fn skip_to(&mut self, number: u64) {
-        self.number = number;
-    }
-}
