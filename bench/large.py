@@ -1,13 +1,14 @@
 #!/usr/bin/env python3
 """Times `photon join` over query logs that are much longer than the click log, and prints what a query line costs.
 
-usage: bench/large.py [--beside PROGRAM] [QUERIES CLICKS] ..      (default: 100000 200 1000000 200 1000000 20000)
+usage: bench/large.py [--joiners N] [--beside PROGRAM] [QUERIES CLICKS] ..      (default: 1 joiner, 100000 200 1000000 200 1000000 20000)
 
 Each pair of numbers makes a query log of QUERIES lines, in order of time, and a click log of CLICKS lines whose queries are spread
 evenly over it, the last one at its end, in a temporary folder. `photon` joins them over a new state directory, and with PROGRAM, another
 build, the same is done beside it. Printed are seconds of wall time and of the processors, the largest resident set, and for each
 pair after the first the bytes of memory and the microseconds of processor time that each further query line took, where only the
-number of queries differs. A query line is read once by the check and once by each of the two sites' joiners.
+number of queries differs. A query line is read once by the check and once by each joiner of the two sites: with 1 joiner the most
+memory is the check's, with 4 joiners the run's, of which each of the eight joiners has an eighth.
 """
 import os
 import subprocess
@@ -32,10 +33,10 @@ def make_logs(folder, queries, clicks):
     return query_log, click_log
 
 
-def join(program, folder, logs, clicks):
+def join(program, folder, logs, clicks, joiners):
     """Seconds of wall time, of the processors, and bytes of the largest resident set. Every click has to be joined."""
     report, state = os.path.join(folder, "report"), tempfile.mkdtemp(dir=folder)
-    words = [program, "join", "--queries", logs[0], "--clicks", logs[1], "--state", state, "--joiners", "1"]
+    words = [program, "join", "--queries", logs[0], "--clicks", logs[1], "--state", state, "--joiners", joiners]
     with open(report, "wb") as out:
         began = time.perf_counter()
         child = subprocess.Popen(words, stdout=out, stdin=subprocess.DEVNULL)
@@ -49,9 +50,12 @@ def join(program, folder, logs, clicks):
 
 
 def main():
-    words, programs = sys.argv[1:], [PHOTON]
-    if words[:1] == ["--beside"]:
-        programs.append(words[1])
+    words, programs, joiners = sys.argv[1:], [PHOTON], "1"
+    while words[:1] in (["--beside"], ["--joiners"]):
+        if words[0] == "--beside":
+            programs.append(words[1])
+        else:
+            joiners = words[1]
         words = words[2:]
     numbers = [int(word) for word in words] or [100_000, 200, 1_000_000, 200, 1_000_000, 20_000]
     # Builds the program where need be, so that no build is timed.
@@ -62,7 +66,7 @@ def main():
         with tempfile.TemporaryDirectory() as folder:
             logs = make_logs(folder, queries, clicks)
             for program in programs:
-                took, spent, held = join(program, folder, logs, clicks)
+                took, spent, held = join(program, folder, logs, clicks, joiners)
                 line = f"{queries:>8} {clicks:>7}  {'photon' if program == PHOTON else 'beside':<8} {took:>8.2f} {spent:>9.2f} {held / 1e6:>6.0f}"
                 before = earlier.get((program, clicks))
                 if before and before[0] != queries:
