@@ -8,7 +8,8 @@ with 1, 2 and 4 joiners a site, then once more over what that left, and then ove
 the same clicks into a table on disk, a transaction a click with the query looked up in it, as one site alone would do (WAL,
 synchronous=FULL). Both wait for the disk. The pairs are counted and compared. Printed are seconds of wall time, clicks a second, the
 largest resident set, the bytes of the state, and, where strace is here, syncs a click, counted in a run of its own of at most 1000
-clicks. Where a tool is missing its part is left out with a message. Nothing is written outside the temporary folder.
+clicks, and, where valgrind is here, rounds and turns, counted in one of at most 200 (a turn adds two entries of under 100 bytes each to
+the run's history). Where a tool is missing its part is left out. Nothing is written outside the temporary folder.
 """
 import os
 import re
@@ -19,7 +20,7 @@ import tempfile
 import time
 
 TOP = os.path.dirname(os.path.dirname(os.path.abspath(__file__)))
-PHOTON = os.path.join(TOP, "bin", "photon")
+PHOTON = os.environ.get("PHOTON", os.path.join(TOP, "bin", "photon"))
 
 TABLES = """PRAGMA journal_mode=WAL;
 PRAGMA synchronous=FULL;
@@ -96,6 +97,25 @@ def syncs(words):
     return sum(int(found) for found in re.findall(r"^\s*[\d.]+\s+[\d.]+\s+\d+\s+(\d+)(?:\s+\d+)?\s+f(?:data)?sync$", done.stderr, re.M))
 
 
+def calls(words, folder):
+    """How often a run called some functions: rounds (the bus is asked whether all is quiet once a round) and turns, or None where valgrind isn't here."""
+    if shutil.which("valgrind") is None:
+        return None
+    found, names, called = os.path.join(folder, "calls"), {}, {}
+    subprocess.run(["valgrind", "--tool=callgrind", f"--callgrind-out-file={found}", *words], capture_output=True, check=True)
+    callee = None
+    with open(found, encoding="utf-8", errors="replace") as file:
+        for line in file:
+            name = re.match(r"(c?)fn=\((\d+)\)(?: (.*))?", line)
+            if name:
+                names.setdefault(name[2], (name[3] or "").split("::<")[0])
+                callee = name[2] if name[1] else callee
+            elif line.startswith("calls="):
+                called[callee] = called.get(callee, 0) + int(line[6:].split()[0])
+    of = lambda wanted: sum(count for key, count in called.items() if names.get(key) == wanted)
+    return of("bus_seat::bus::Bus::quiet"), of("bus_seat::bus::Bus::end")
+
+
 def size(folder):
     return sum(os.path.getsize(os.path.join(folder, name)) for name in os.listdir(folder))
 
@@ -131,6 +151,12 @@ def main():
             count = syncs(photon_words(logs, os.path.join(folder, f"state{joiners}"), joiners))
             if count is not None:
                 print(f"{few:>7}  photon, {joiners} joiners: {count / few:.2f} syncs a click")
+        few = min(200, few)
+        logs = make_logs(folder, few)
+        for joiners in (1, 2, 4):
+            count = calls(photon_words(logs, os.path.join(folder, f"called{joiners}"), joiners), folder)
+            if count is not None:
+                print(f"{few:>7}  photon, {joiners} joiners: {count[0]} rounds, {count[1] / few:.2f} turns a click")
     return 0
 
 
