@@ -158,23 +158,27 @@ fn a_granted_pair_is_written(rt: HostRuntime) -> Result<(), Fail> {
     Ok(())
 }
 
+// Whether a Join that is in flight does nothing once more, and a Tick sends its insert under its own token.
+fn is_sent_again(alloc: Global, node: &mut Node) -> Result<bool, AllocError>
+    requires { is_some node.old.disks.in_doubt ≡ false }
+{
+    let join = packet(alloc, DISPATCHER, &JOIN)?;
+    let flies = turns(node, &Input::Start, &EPOCH, SERVER, &[])
+        && turns(node, &join, &[], SERVER, &INSERT)
+        && node.unfinished()
+        && !node.at_rest();
+    Ok(
+        flies
+            && turns(node, &join, &[], SERVER, &[])
+            && turns(node, &Input::Tick, &[], SERVER, &INSERT),
+    )
+}
+
 #[test]
 fn a_join_in_flight_is_sent_again(rt: HostRuntime) -> Result<(), Fail> {
     let alloc = rt.alloc();
     let mut node = fresh(alloc, Vec::new(alloc), Vec::new(alloc))?;
-    let join = packet(alloc, DISPATCHER, &JOIN)?;
-    if !turns(&mut node, &Input::Start, &EPOCH, SERVER, &[]) {
-        return Err("start".into());
-    }
-    if !turns(&mut node, &join, &[], SERVER, &INSERT) {
-        return Err("join".into());
-    }
-    assert!(rt; node.unfinished() && !node.at_rest());
-    // The same Join again does nothing, and a Tick sends its insert under its own token.
-    if !turns(&mut node, &join, &[], SERVER, &[]) {
-        return Err("again".into());
-    }
-    assert!(rt; turns(&mut node, &Input::Tick, &[], SERVER, &INSERT));
+    assert!(rt; is_sent_again(alloc, &mut node)?);
     Ok(())
 }
 
@@ -201,21 +205,27 @@ fn landed(node: &mut Node, note: &[u8]) -> Result<bool, Fail>
     }
 }
 
-// Whether the epoch's note landed where this call of its disk stops; and then the next Start raises the epoch that is
-// kept.
-fn epoch_lands(alloc: Global, call: u64, image: Image) -> Result<bool, Fail> {
-    let fuses = vec![in alloc; Fuse { call, image }]?;
-    let mut node = fresh(alloc, fuses, Vec::new(alloc))?;
-    if !is_stopped(&mut node, &Input::Start) {
+// Whether the epoch's note landed where the Start stops; and then the next Start raises the epoch that is kept.
+fn lands_epoch(node: &mut Node) -> Result<bool, Fail>
+    requires { is_some node.old.disks.in_doubt ≡ false }
+{
+    if !is_stopped(node, &Input::Start) {
         return Err("stopped".into());
     }
-    let landed = landed(&mut node, &EPOCH)?;
+    let landed = landed(node, &EPOCH)?;
     let next = if landed { 2 } else { 1 };
-    if turns(&mut node, &Input::Start, &[2, 0, 0, 0, next], SERVER, &[]) {
+    if turns(node, &Input::Start, &[2, 0, 0, 0, next], SERVER, &[]) {
         Ok(landed)
     } else {
         Err("start".into())
     }
+}
+
+// The same over a disk that stops at this call.
+fn epoch_lands(alloc: Global, call: u64, image: Image) -> Result<bool, Fail> {
+    let fuses = vec![in alloc; Fuse { call, image }]?;
+    let mut node = fresh(alloc, fuses, Vec::new(alloc))?;
+    lands_epoch(&mut node)
 }
 
 // A joiner with the worked click in flight, over a disk of pairs with these stops.
@@ -242,17 +252,26 @@ fn pairs_of(alloc: Global, node: Node) -> Result<usize, Fail> {
     }
 }
 
-// Whether the pair's note landed where this call of its disk stops; and then the joiner starts in its second epoch with
-// nothing in flight, and the disk holds the pair just where it landed.
-fn pair_lands(alloc: Global, call: u64, image: Image) -> Result<bool, Fail> {
-    let mut node = flying(alloc, vec![in alloc; Fuse { call, image }]?)?;
-    if !is_stopped(&mut node, &packet(alloc, SERVER, &GRANTED)?) {
+// Whether the pair's note landed where the turn stops; and then the joiner starts in its second epoch with nothing in flight.
+fn lands_pair(alloc: Global, node: &mut Node) -> Result<bool, Fail>
+    requires { is_some node.old.disks.in_doubt ≡ false }
+{
+    let granted = packet(alloc, SERVER, &GRANTED)?;
+    if !is_stopped(node, &granted) {
         return Err("stopped".into());
     }
-    let landed = landed(&mut node, &PAIR)?;
-    if !turns(&mut node, &Input::Start, &[2, 0, 0, 0, 2], SERVER, &[]) || !node.at_rest() {
-        return Err("start".into());
+    let landed = landed(node, &PAIR)?;
+    if turns(node, &Input::Start, &[2, 0, 0, 0, 2], SERVER, &[]) && node.at_rest() {
+        Ok(landed)
+    } else {
+        Err("start".into())
     }
+}
+
+// The same where this call of its disk stops. The disk holds the pair just where it landed.
+fn pair_lands(alloc: Global, call: u64, image: Image) -> Result<bool, Fail> {
+    let mut node = flying(alloc, vec![in alloc; Fuse { call, image }]?)?;
+    let landed = lands_pair(alloc, &mut node)?;
     if (pairs_of(alloc, node)? == 1) == landed {
         Ok(landed)
     } else {
@@ -275,16 +294,20 @@ fn a_note_lands_once_its_gate_is_open(rt: HostRuntime) -> Result<(), Fail> {
     Ok(())
 }
 
-// What comes of the worked Join over this log.
+// Whether it starts, and this comes of the worked Join.
+fn gives(alloc: Global, node: &mut Node, to: u16, sent: &[u8]) -> Result<bool, Fail>
+    requires { is_some node.old.disks.in_doubt ≡ false }
+{
+    let join = packet(alloc, DISPATCHER, &JOIN)?;
+    Ok(turns(node, &Input::Start, &EPOCH, SERVER, &[]) && turns(node, &join, &[], to, sent))
+}
+
+// The same over this log.
 fn answers(alloc: Global, log: &[u8], to: u16, sent: &[u8]) -> Result<bool, Fail> {
     let epochs = MemDisk::new(alloc, Vec::new(alloc));
     let pairs = MemDisk::new(alloc, Vec::new(alloc));
     let mut node = over(alloc, epochs, pairs, log, Vec::new(alloc))?;
-    let join = packet(alloc, DISPATCHER, &JOIN)?;
-    Ok(
-        turns(&mut node, &Input::Start, &EPOCH, SERVER, &[])
-            && turns(&mut node, &join, &[], to, sent),
-    )
+    gives(alloc, &mut node, to, sent)
 }
 
 #[test]
@@ -325,25 +348,39 @@ fn long_log(alloc: Global) -> Result<Vec<u8>, AllocError> {
     Ok(log)
 }
 
+// Whether the log can't be read on.
+fn fails_to_read(node: &mut Node, input: &Input) -> bool
+    requires { is_some node.old.disks.in_doubt ≡ false }
+    ensures { IsTrue result → is_some node.new.disks.in_doubt ≡ false }
+{
+    match node.turn(input, &OpenGate) {
+        Err(NodeFault::Read) => true,
+        _ => false,
+    }
+}
+
+// Whether another query isn't found, since the second read fails, and the worked one is without it.
+fn reads_as_needed(alloc: Global, node: &mut Node) -> Result<bool, Fail>
+    requires { is_some node.old.disks.in_doubt ≡ false }
+{
+    let join = packet(alloc, DISPATCHER, &JOIN)?;
+    let mut other = JOIN;
+    other[24] = 1;
+    other[40] = 1;
+    let other = packet(alloc, DISPATCHER, &other)?;
+    Ok(
+        turns(node, &Input::Start, &EPOCH, SERVER, &[])
+            && fails_to_read(node, &other)
+            && turns(node, &join, &[], SERVER, &INSERT),
+    )
+}
+
 #[test]
 fn a_log_is_read_only_as_far_as_needed(rt: HostRuntime) -> Result<(), Fail> {
     let alloc = rt.alloc();
     let epochs = MemDisk::new(alloc, Vec::new(alloc));
     let pairs = MemDisk::new(alloc, Vec::new(alloc));
     let mut node = over(alloc, epochs, pairs, &long_log(alloc)?, vec![in alloc; 1]?)?;
-    // The second read fails: the first query is found without it, and another isn't.
-    let join = packet(alloc, DISPATCHER, &JOIN)?;
-    let mut other = JOIN;
-    other[24] = 1;
-    other[40] = 1;
-    let other = packet(alloc, DISPATCHER, &other)?;
-    if !turns(&mut node, &Input::Start, &EPOCH, SERVER, &[]) {
-        return Err("start".into());
-    }
-    match node.turn(&other, &OpenGate) {
-        Err(NodeFault::Read) => {}
-        _ => return Err("read".into()),
-    }
-    assert!(rt; turns(&mut node, &join, &[], SERVER, &INSERT));
+    assert!(rt; reads_as_needed(alloc, &mut node)?);
     Ok(())
 }
