@@ -93,6 +93,15 @@ fn fresh(alloc: Global, epochs: Vec<Fuse>, pairs: Vec<Fuse>) -> Result<Node, Fai
     over(alloc, epochs, pairs, QUERY, Vec::new(alloc))
 }
 
+// The same over fresh disks that don't stop, and this log.
+fn reading(alloc: Global, bytes: &[u8], failing: Vec<u64>) -> Result<Node, Fail>
+    ensures { IfOk result (λ node. is_some node.disks.in_doubt ≡ false) }
+{
+    let epochs = MemDisk::new(alloc, Vec::new(alloc));
+    let pairs = MemDisk::new(alloc, Vec::new(alloc));
+    over(alloc, epochs, pairs, bytes, failing)
+}
+
 fn packet(alloc: Global, from: u16, bytes: &[u8]) -> Result<Input, AllocError> {
     let bytes = Payload::new(bytes.to_vec(alloc)?)?;
     Ok(Input::Packet { from, bytes })
@@ -304,9 +313,7 @@ fn gives(alloc: Global, node: &mut Node, to: u16, sent: &[u8]) -> Result<bool, F
 
 // The same over this log.
 fn answers(alloc: Global, log: &[u8], to: u16, sent: &[u8]) -> Result<bool, Fail> {
-    let epochs = MemDisk::new(alloc, Vec::new(alloc));
-    let pairs = MemDisk::new(alloc, Vec::new(alloc));
-    let mut node = over(alloc, epochs, pairs, log, Vec::new(alloc))?;
+    let mut node = reading(alloc, log, Vec::new(alloc))?;
     gives(alloc, &mut node, to, sent)
 }
 
@@ -348,6 +355,14 @@ fn long_log(alloc: Global) -> Result<Vec<u8>, AllocError> {
     Ok(log)
 }
 
+// A joiner over such a log, of which the second read fails.
+fn over_long_log(alloc: Global) -> Result<Node, Fail>
+    ensures { IfOk result (λ node. is_some node.disks.in_doubt ≡ false) }
+{
+    let log = long_log(alloc)?;
+    reading(alloc, &log, vec![in alloc; 1]?)
+}
+
 // Whether the log can't be read on.
 fn fails_to_read(node: &mut Node, input: &Input) -> bool
     requires { is_some node.old.disks.in_doubt ≡ false }
@@ -378,9 +393,7 @@ fn reads_as_needed(alloc: Global, node: &mut Node) -> Result<bool, Fail>
 #[test]
 fn a_log_is_read_only_as_far_as_needed(rt: HostRuntime) -> Result<(), Fail> {
     let alloc = rt.alloc();
-    let epochs = MemDisk::new(alloc, Vec::new(alloc));
-    let pairs = MemDisk::new(alloc, Vec::new(alloc));
-    let mut node = over(alloc, epochs, pairs, &long_log(alloc)?, vec![in alloc; 1]?)?;
+    let mut node = over_long_log(alloc)?;
     assert!(rt; reads_as_needed(alloc, &mut node)?);
     Ok(())
 }
