@@ -1,4 +1,3 @@
-pub mod Asking
 pub mod Handing
 pub mod Walking
 pub mod Readings

@@ -60,11 +60,12 @@ pub record IsOnlyRead {D : Type 0} (tells : Bool) (seen : D → List ℕ) (image
   pub moments : IsTrue tells → Throughout image since old.disk new.disk (image old.disk)
   pub count : faults old.disk ≤ faults new.disk
 
--- A fault is of this disk: its count rose, or its bytes are damaged as its kind reads them. Want of memory is free.
-abbrev pub IsToldBy : {D : Type 0} → Bool → (D → List ℕ) → (D → ℕ) → (old new : LentDisk D) → DisksFault → Type 0
-IsToldBy tells seen faults old new (Store name) = (old.name ≡ name) × Rose (faults old.disk) (faults new.disk)
-IsToldBy tells seen faults old new (Damaged name at) = (old.name ≡ name) × (IsTrue tells → damaged_by name (seen old.disk) at)
-IsToldBy tells seen faults old new Memory = Unit {0}
+-- A fault is of this disk: its count rose, or a stop might have left bytes of it that are damaged as its kind reads them. Want of
+-- memory is free.
+abbrev pub IsToldBy : {D : Type 0} → Bool → (D → List ℕ → Type 0) → (D → ℕ) → (old new : LentDisk D) → DisksFault → Type 0
+IsToldBy tells image faults old new (Store name) = (old.name ≡ name) × Rose (faults old.disk) (faults new.disk)
+IsToldBy tells image faults old new (Damaged name at) = (old.name ≡ name) × (IsTrue tells → (c : List ℕ) × image old.disk c × damaged_by name c at)
+IsToldBy tells image faults old new Memory = Unit {0}
 
 -- what one disk is read as, by its name
 abbrev pub IsReadAs : {D : Type 0} → Bool → (D → List ℕ) → LentDisk D → ReadAs → Type 0

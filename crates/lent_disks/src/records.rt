@@ -1,7 +1,6 @@
 // The records of one disk, read again.
-ghost use Rattle.std.specs.Prelude.{◌≡◌, ◌<◌, ◌≤◌, ◌^◌, All, map, IsTrue, IfOk, IfErr, OnOk, IsErr, MatchOption};
+ghost use Rattle.std.specs.Prelude.{◌≡◌, ◌<◌, ◌≤◌, ◌^◌, All, map, IsTrue, IfOk, IfErr, MatchOption};
 ghost use Rattle.outside.specs.Disk.{Throughout};
-ghost use Rattle.outside.specs.Faults.{Counts};
 ghost use Rattle.gate_journal.specs.Gate.{StandsFor, spans};
 ghost use Rattle.gate_journal.specs.Opening.{IsRefused};
 ghost use Rattle.output_log.specs.Pairs.{IsPair, record_of, FailsAt, Keeps as KeepsPairs, IsDamagedAt as IsOutputDamaged};
@@ -10,8 +9,9 @@ ghost use Rattle.site_disks.specs.Opening.{IsRefusedBy};
 
 use gate_journal::{Journal, JournalFault};
 use output_log::{PairRec, read_pair};
-use outside::{Disk, DiskFault};
+use outside::Disk;
 use replica_node::read_votes;
+use site_disks::ask;
 use std::alloc::Global;
 use verify_pass::{NoteList, PairList};
 use wire_core::Bytes;
@@ -32,33 +32,20 @@ fn span_of(records: &[Bytes]) -> Option<u64>
     if span <= MOST { Some(span) } else { None }
 }
 
-// Asks a disk for its length once more. One that tells what it holds says with it that it reads as one of its images.
-fn ask<D: Disk>(disk: &mut D) -> Result<(), DiskFault>
-    ensures left { IsTrue D.tells → D.image disk.old (D.seen disk.old) }
-    ensures seen { IsTrue D.tells → D.seen disk.new ≡ D.seen disk.old }
-    ensures moments { IsTrue D.tells → Throughout D.image D.since disk.old disk.new (D.image disk.old) }
-    ensures count { Counts (D.faults disk.old) (D.faults disk.new) (IsErr result) }
-{
-    match disk.len() {
-        Ok(_) => Ok(()),
-        Err(fault) => Err(fault),
-    }
-}
-
 /// The records of a disk as it reads. Where they are longer than any file they count as want of memory.
 fn records_again<D: Disk>(alloc: Global, disk: &mut D) -> Result<Vec<Bytes>, JournalFault>
     ensures records { IsTrue D.tells → IfOk result (λ records. StandsFor records.items (D.seen disk.old)) }
-    ensures left { IsTrue D.tells → OnOk result (D.image disk.old (D.seen disk.old)) }
+    ensures left { IsTrue D.tells → D.image disk.old (D.seen disk.old) }
     ensures place { IfOk result (λ records. spans records.items ≤ 2 ^ 63) }
     ensures err { IfErr result (λ e. IsRefused D.tells (D.seen disk.old) (D.faults disk.old) (D.faults disk.new) e) }
     ensures seen { IsTrue D.tells → D.seen disk.new ≡ D.seen disk.old }
     ensures moments { IsTrue D.tells → Throughout D.image D.since disk.old disk.new (D.image disk.old) }
     ensures count { D.faults disk.old ≤ D.faults disk.new }
 {
-    let records = Journal::read_again(alloc, disk)?;
     let Ok(()) = ask(disk) else {
         return Err(JournalFault::Disk);
     };
+    let records = Journal::read_again(alloc, disk)?;
     match span_of(&records) {
         Some(_) => Ok(records),
         None => Err(JournalFault::Memory),
@@ -86,7 +73,7 @@ fn read_pairs(alloc: Global, records: &[Bytes]) -> Result<Vec<PairRec>, JournalF
 /// The notes that a replica's disk keeps as it reads.
 pub(crate) fn notes_again<D: Disk>(alloc: Global, disk: &mut D) -> Result<NoteList, JournalFault>
     ensures notes { IsTrue D.tells → IfOk result (λ notes. KeepsNotes notes (D.seen disk.old)) }
-    ensures left { IsTrue D.tells → OnOk result (D.image disk.old (D.seen disk.old)) }
+    ensures left { IsTrue D.tells → D.image disk.old (D.seen disk.old) }
     ensures err { IfErr result (λ e. IsRefusedBy IsVotesDamaged D.tells (D.seen disk.old) (D.faults disk.old) (D.faults disk.new) e) }
     ensures seen { IsTrue D.tells → D.seen disk.new ≡ D.seen disk.old }
     ensures moments { IsTrue D.tells → Throughout D.image D.since disk.old disk.new (D.image disk.old) }
@@ -100,7 +87,7 @@ pub(crate) fn notes_again<D: Disk>(alloc: Global, disk: &mut D) -> Result<NoteLi
 /// The pairs that an output's disk keeps as it reads.
 pub(crate) fn pairs_again<D: Disk>(alloc: Global, disk: &mut D) -> Result<PairList, JournalFault>
     ensures pairs { IsTrue D.tells → IfOk result (λ pairs. KeepsPairs pairs (D.seen disk.old)) }
-    ensures left { IsTrue D.tells → OnOk result (D.image disk.old (D.seen disk.old)) }
+    ensures left { IsTrue D.tells → D.image disk.old (D.seen disk.old) }
     ensures err { IfErr result (λ e. IsRefusedBy IsOutputDamaged D.tells (D.seen disk.old) (D.faults disk.old) (D.faults disk.new) e) }
     ensures seen { IsTrue D.tells → D.seen disk.new ≡ D.seen disk.old }
     ensures moments { IsTrue D.tells → Throughout D.image D.since disk.old disk.new (D.image disk.old) }

@@ -186,12 +186,11 @@ keeps_first left before mid keeps lent one name so lacks named kept =
     subst (λ (n : DiskName). IsKeptIn (before n) (keeps one.journal)) (sym named) (kept.0, so.others name lacks kept.0 kept.1, kept.2)
 
 -- a disk that was damaged when it was taken was so at first
-pub damaged_first : {D : Type 0} (seen : D → List ℕ) (left : D → List ℕ → Type 0) (before mid : DiskName → List ℕ → Type 0) (name : DiskName) (fault : DisksFault) → IsOf name fault
-    → Within (before name) (mid name) → WasDamaged seen left mid fault → WasDamaged seen left before fault
-damaged_first seen left before mid name (Store of) is within was = tt
-damaged_first seen left before mid name (Damaged of at) is within was =
-    record { disk = was.disk; within = λ c now. subst (λ (n : DiskName). before n c) (sym is) (within c (subst (λ (n : DiskName). mid n c) is (was.within c now))); damaged = was.damaged }
-damaged_first seen left before mid name Memory is within was = tt
+pub damaged_first : (before mid : DiskName → List ℕ → Type 0) (name : DiskName) (fault : DisksFault) → IsOf name fault → Within (before name) (mid name) → WasDamaged mid fault → WasDamaged before fault
+damaged_first before mid name (Store of) is within was = tt
+damaged_first before mid name (Damaged of at) is within was =
+    (was.0, subst (λ (n : DiskName). before n was.0) (sym is) (within was.0 (subst (λ (n : DiskName). mid n was.0) is was.1)), was.2)
+damaged_first before mid name Memory is within was = tt
 
 pub length_more : {A : Type 0} (all now : List A) (one : A) → now ≡ all ++ one ∷ [] → length now ≡ length all + 1
 length_more all now one is = ap length is ∙ length-append all (one ∷ [])

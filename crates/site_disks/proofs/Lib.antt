@@ -3,3 +3,4 @@ pub mod Stays
 pub mod Lending
 pub mod Faults
 pub mod Refusals
+pub mod Undamaged

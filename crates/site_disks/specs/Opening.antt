@@ -2,7 +2,6 @@
 use Rattle.std.specs.Prelude.{◌≡◌, ℕ, List, map, Bool, IsTrue}
 use Rattle.list_words.specs.Lists.{Each}
 use Rattle.outside.specs.declared.store.DiskName.{DiskName}
-use Rattle.outside.specs.Disk.{Within}
 use Rattle.outside.specs.Faults.{Rose}
 use Rattle.gate_journal.specs.declared.reading.JournalFault.{JournalFault}
 use Rattle.gate_journal.specs.declared.reading.JournalFault.TheVariants as journal
@@ -50,14 +49,12 @@ IsOf name (disks.Store of) = of ≡ name
 IsOf name (disks.Damaged of at) = of ≡ name
 IsOf name disks.Memory = Unit {0}
 
--- a disk with nothing but what might have been left of this name, which reads as damaged at this place
-pub record IsDamagedDisk {D : Type 0} (seen : D → List ℕ) (left : D → List ℕ → Type 0) (before : DiskName → List ℕ → Type 0) (name : DiskName) (at : ℕ) : Type 0 where
-  pub disk : D
-  pub within : Within (before name) (left disk)
-  pub damaged : damaged_by name (seen disk) at
+-- a stop might have left bytes of this disk that are no journal of its kind, for this place
+abbrev pub IsDamagedIn : (DiskName → List ℕ → Type 0) → DiskName → ℕ → Type 0
+IsDamagedIn before name at = (c : List ℕ) × before name c × damaged_by name c at
 
 -- a disk that is told as damaged was so when it was taken
-abbrev pub WasDamaged : {D : Type 0} → (D → List ℕ) → (D → List ℕ → Type 0) → (DiskName → List ℕ → Type 0) → DisksFault → Type 0
-WasDamaged seen left before (disks.Store name) = Unit {0}
-WasDamaged seen left before (disks.Damaged name at) = IsDamagedDisk seen left before name at
-WasDamaged seen left before disks.Memory = Unit {0}
+abbrev pub WasDamaged : (DiskName → List ℕ → Type 0) → DisksFault → Type 0
+WasDamaged before (disks.Store name) = Unit {0}
+WasDamaged before (disks.Damaged name at) = IsDamagedIn before name at
+WasDamaged before disks.Memory = Unit {0}

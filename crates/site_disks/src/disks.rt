@@ -109,7 +109,7 @@ fn open_rest<S: Store>(
         (lend_all (λ o. o.journal.disk) disks.new.outputs_a.items)
         (lend_all (λ o. o.journal.disk) disks.new.outputs_b.items))) }
     ensures damaged { IsTrue S.Disk.tells → (s : S) → Stage S.Disk.image (S.image s) (S.image store.old) 1 (lend (λ t. t.journal.disk) disks.old.topology ∷ [])
-        → IfErr result (WasDamaged S.Disk.seen S.Disk.image (S.image s)) }
+        → IfErr result (WasDamaged (S.image s)) }
     ensures first { (s : S) → (IsTrue S.Disk.tells → Stage S.Disk.image (S.image s) (S.image store.old) 1 (lend (λ t. t.journal.disk) disks.old.topology ∷ []))
         → IfErr result (IsOfFirst S.Disk.tells (S.image s) (other_names joiners)) }
     ensures places { S.places_left store.old + (length disks.new.offsets.items + length disks.new.retries.items + length disks.new.servers.items + length disks.new.replicas.items + length disks.new.epochs_a.items + length disks.new.epochs_b.items + length disks.new.outputs_a.items + length disks.new.outputs_b.items) ≤ S.places_left store.new }
@@ -172,7 +172,7 @@ pub fn open_disks<S: Store>(
 
     ensures first { IfErr result (IsOfFirstDisk S.Disk.tells (S.image store.old) asked) }
     ensures rose { IfErr result (RoseBy (S.faults store.old) (S.faults store.new)) }
-    ensures damaged { IsTrue S.Disk.tells → IfErr result (WasDamaged S.Disk.seen S.Disk.image (S.image store.old)) }
+    ensures damaged { IsTrue S.Disk.tells → IfErr result (WasDamaged (S.image store.old)) }
     ensures count { S.faults store.old ≤ S.faults store.new }
 {
     let topology = open_one(alloc, store, DiskName::Topology)?;

@@ -45,7 +45,7 @@ pub(crate) fn open_joiners<S: Store>(
     ensures cut { IsTrue S.Disk.tells → (s : S) (lent : List (Lent S.Disk)) → Stage S.Disk.image (S.image s) (S.image store.old) 5 lent
         → OnErr result (IsCut S.Disk.image (S.image s) (S.image store.new) ((((lent ++ lend_all (λ e. e.journal.disk) epochs_a.new.items) ++ lend_all (λ e. e.journal.disk) epochs_b.new.items) ++ lend_all (λ o. o.journal.disk) outputs_a.new.items) ++ lend_all (λ o. o.journal.disk) outputs_b.new.items)) }
     ensures damaged { IsTrue S.Disk.tells → (s : S) (lent : List (Lent S.Disk)) → Stage S.Disk.image (S.image s) (S.image store.old) 5 lent
-        → IfErr result (WasDamaged S.Disk.seen S.Disk.image (S.image s)) }
+        → IfErr result (WasDamaged (S.image s)) }
     ensures first { (s : S) (lent : List (Lent S.Disk)) → (IsTrue S.Disk.tells → Stage S.Disk.image (S.image s) (S.image store.old) 5 lent)
         → IfErr result (IsOfFirst S.Disk.tells (S.image s) (joiner_names joiners)) }
     ensures places { S.places_left store.old + (length epochs_a.new.items + length epochs_b.new.items + length outputs_a.new.items + length outputs_b.new.items) ≤ S.places_left store.new }

@@ -1,6 +1,7 @@
 //! The disks of a state directory, opened together and given back together.
 #![tactic(auto)]
 
+mod asking;
 mod checks;
 mod disks;
 mod fault;
@@ -15,6 +16,7 @@ mod record_journal;
 mod sites;
 mod votes;
 
+pub use asking::ask;
 pub use checks::{Misfit, first_misfit};
 pub use disks::{SiteDisks, give_back, open_disks};
 pub use fault::DisksFault;

@@ -1,14 +1,16 @@
 // Taking disks from a store and giving them back.
-ghost use Rattle.std.specs.Prelude.{◌≡◌, ◌≢◌, ◌≤◌, ◌+◌, ◌++◌, [], ℕ, List, length, take, IsTrue, IfOk, IfErr, OnOk, OnErr};
+ghost use Rattle.std.specs.Prelude.{◌≡◌, ◌≢◌, ◌≤◌, ◌+◌, ◌++◌, [], ℕ, List, length, take, IsTrue, IfOk, IfErr, OnOk, OnErr, IsErrOf};
 ghost use Rattle.list_words.specs.Lists.{Each, EachPair};
 ghost use Rattle.outside.specs.declared.store.DiskName.{DiskName};
 ghost use Rattle.outside.specs.Disk.{Within};
+ghost use Rattle.outside.specs.Faults.{Counts};
+ghost use Rattle.outside.specs.declared.faults.StoreFault.TheVariants.{Disk};
 ghost use Rattle.site_disks.specs.Kinds.{damaged_by, kind_of};
 ghost use Rattle.site_disks.specs.Lent.{Lent, lend_all, StaysAs, IsCut, MayBeLeft, Stage};
 ghost use Rattle.site_disks.specs.Refusals.{IsJournalOf, WereJournals, IsOfFirst};
 ghost use Rattle.site_disks.specs.Opening.{told_by, IsKeptIn, AreOpened, RoseBy, IsOf, WasDamaged};
 
-use crate::{DisksFault, Opened, RecordJournal};
+use crate::{DisksFault, Opened, RecordJournal, ask};
 use gate_journal::JournalFault;
 use outside::{DiskName, Store, StoreFault};
 use std::alloc::Global;
@@ -21,6 +23,26 @@ fn told(name: DiskName, fault: JournalFault) -> DisksFault
         JournalFault::Damaged { at } => DisksFault::Damaged { disk: name, at },
         JournalFault::Disk => DisksFault::Store(name),
         JournalFault::Memory => DisksFault::Memory,
+    }
+}
+
+// Takes the disk of this name from the store and asks it. Where it fails it is given back.
+fn take_one<S: Store>(alloc: Global, store: &mut S, name: DiskName) -> Result<S::Disk, StoreFault>
+    ensures images { IsTrue S.Disk.tells → IfOk result (λ disk. Within (S.image store.old name) (S.Disk.image disk)) }
+    ensures left { IsTrue S.Disk.tells → IfOk result (λ disk. S.image store.old name (S.Disk.seen disk)) }
+    ensures others { IsTrue S.Disk.tells → OnOk result ((other : DiskName) → other ≢ name → Within (S.image store.old other) (S.image store.new other)) }
+    ensures back { IsTrue S.Disk.tells → OnErr result ((other : DiskName) → Within (S.image store.old other) (S.image store.new other)) }
+    ensures place { OnOk result (S.places_left store.old + 1 ≤ S.places_left store.new) }
+    ensures no_place { OnErr result (S.places_left store.old ≤ S.places_left store.new) }
+    ensures count { Counts (S.faults store.old) (S.faults store.new) (IsErrOf result Disk) }
+{
+    let mut disk = store.take(alloc, name)?;
+    match ask(&mut disk) {
+        Ok(()) => Ok(disk),
+        Err(_) => {
+            store.give(name, disk);
+            Err(StoreFault::Disk)
+        }
     }
 }
 
@@ -42,9 +64,9 @@ pub(crate) fn open_one<S: Store, J: RecordJournal<S::Disk>>(
     ensures count { S.faults store.old ≤ S.faults store.new }
     ensures rose { IfErr result (RoseBy (S.faults store.old) (S.faults store.new)) }
     ensures of { IfErr result (IsOf name) }
-    ensures damaged { IsTrue S.Disk.tells → IfErr result (WasDamaged S.Disk.seen S.Disk.image (S.image store.old)) }
+    ensures damaged { IsTrue S.Disk.tells → IfErr result (WasDamaged (S.image store.old)) }
 {
-    match store.take(alloc, name) {
+    match take_one(alloc, store, name) {
         Ok(disk) => match J::open_on(alloc, disk) {
             Ok(journal) => Ok(Opened { name, journal }),
             Err((fault, disk)) => {
@@ -78,7 +100,7 @@ pub(crate) fn open_each<S: Store, J: RecordJournal<S::Disk>>(
     ensures cut { IsTrue S.Disk.tells → (s : S) (kind : ℕ) (lent : List (Lent S.Disk)) → Each (λ name. kind_of name ≡ kind) names.now → Stage S.Disk.image (S.image s) (S.image store.old) kind lent
         → OnErr result (IsCut S.Disk.image (S.image s) (S.image store.new) (lent ++ lend_all J.disk_of opened.new.items)) }
     ensures damaged { IsTrue S.Disk.tells → (s : S) (kind : ℕ) (lent : List (Lent S.Disk)) → Each (λ name. kind_of name ≡ kind) names.now → Stage S.Disk.image (S.image s) (S.image store.old) kind lent
-        → IfErr result (WasDamaged S.Disk.seen S.Disk.image (S.image s)) }
+        → IfErr result (WasDamaged (S.image s)) }
     ensures all { (s : S) (kind : ℕ) (lent : List (Lent S.Disk)) → Each (λ name. kind_of name ≡ kind) names.now → (IsTrue S.Disk.tells → Stage S.Disk.image (S.image s) (S.image store.old) kind lent)
         → OnOk result (IsTrue S.Disk.tells → WereJournals (S.image s) (take count names.now)) }
     ensures first { (s : S) (kind : ℕ) (lent : List (Lent S.Disk)) → Each (λ name. kind_of name ≡ kind) names.now → (IsTrue S.Disk.tells → Stage S.Disk.image (S.image s) (S.image store.old) kind lent)

@@ -41,7 +41,7 @@ pub(crate) fn open_sites<S: Store>(
     ensures cut { IsTrue S.Disk.tells → (s : S) (lent : List (Lent S.Disk)) → Stage S.Disk.image (S.image s) (S.image store.old) 1 lent
         → OnErr result (IsCut S.Disk.image (S.image s) (S.image store.new) (((lent ++ lend_all (λ o. o.journal.disk) offsets.new.items) ++ lend_all (λ r. r.journal.disk) retries.new.items) ++ lend_all (λ e. e.journal.disk) servers.new.items)) }
     ensures damaged { IsTrue S.Disk.tells → (s : S) (lent : List (Lent S.Disk)) → Stage S.Disk.image (S.image s) (S.image store.old) 1 lent
-        → IfErr result (WasDamaged S.Disk.seen S.Disk.image (S.image s)) }
+        → IfErr result (WasDamaged (S.image s)) }
     ensures all { (s : S) (lent : List (Lent S.Disk)) → (IsTrue S.Disk.tells → Stage S.Disk.image (S.image s) (S.image store.old) 1 lent)
         → OnOk result (IsTrue S.Disk.tells → WereJournals (S.image s) site_names) }
     ensures first { (s : S) (lent : List (Lent S.Disk)) → (IsTrue S.Disk.tells → Stage S.Disk.image (S.image s) (S.image store.old) 1 lent)

@@ -30,10 +30,10 @@ unwritten_rose disk (Store of) fresh n old mid new is rose le counted = omega (a
 unwritten_rose disk (Damaged of at) fresh n old mid new is rose le counted = absurd is
 unwritten_rose disk Memory fresh n old mid new is rose le counted = tt
 
-pub unwritten_damaged : {D : Type 0} (seen : D → List ℕ) (left : D → List ℕ → Type 0) (before : DiskName → List ℕ → Type 0) (disk : DiskName) (fault : DisksFault) → IsUnwritten disk fault → WasDamaged seen left before fault
-unwritten_damaged seen left before disk (Store of) is = tt
-unwritten_damaged seen left before disk (Damaged of at) is = absurd is
-unwritten_damaged seen left before disk Memory is = tt
+pub unwritten_damaged : (before : DiskName → List ℕ → Type 0) (disk : DiskName) (fault : DisksFault) → IsUnwritten disk fault → WasDamaged before fault
+unwritten_damaged before disk (Store of) is = tt
+unwritten_damaged before disk (Damaged of at) is = absurd is
+unwritten_damaged before disk Memory is = tt
 
 pub unwritten_first : (tells : Bool) (before : DiskName → List ℕ → Type 0) (asked : ℕ) (disk : DiskName) (fault : DisksFault) → disk ≡ name.Topology → IsUnwritten disk fault → IsOfFirstDisk tells before asked fault
 unwritten_first tells before asked disk (Store of) named is = inl (is ∙ named)

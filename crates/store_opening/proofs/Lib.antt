@@ -4,3 +4,4 @@ mod Causes
 mod Images
 mod Whole
 mod Welcome
+pub mod Damage

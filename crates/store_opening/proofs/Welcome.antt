@@ -28,7 +28,7 @@ use Rattle.store_opening.specs.declared.refusal.Refusal.{Refusal}
 use Rattle.store_opening.specs.declared.refusal.Refusal.TheVariants.{Disks, Joiners, Table, Place, Limit, Read}
 use Rattle.store_opening.specs.Records.{KeptValues, AreKept, value_at}
 use Rattle.store_opening.specs.Leaving.{IsAsked}
-use Rattle.store_opening.specs.Causes.{AreTold, IsOtherTable, IsCause, IfJudged, LeavesSomething, IsWelcome}
+use Rattle.store_opening.specs.Causes.{AreTold, IsOtherTable, IsCause, LeavesSomething, IsWelcome}
 use Rattle.store_opening.proofs.Leaving.{joiners_same}
 use Rattle.store_opening.proofs.Images.{offset_kept, pending_kept, server_kept, notes_kept, epoch_kept, pairs_kept}
 
@@ -124,10 +124,11 @@ module _ (tells : Bool) (sure : IsTrue tells) (log_tells : Bool) (log_sure : IsT
       let places = places_are tells sure image asked.joiners k are g some sound in
       never_told g (value_at k.offsets 0 0) (value_at k.offsets 1 0) (value_at k.pending 0 []) (value_at k.pending 1 []) told (places 0 (omega arith)) (places 1 (omega arith)) (h log_sure g log_is end_is)
 
-  pub welcome : (r : Refusal) → IfJudged (AreKept tells image asked.joiners) (IsCause log_tells log end_ old new asked) r → IsWelcome g image r
-  welcome (Disks fault) h = tt
-  welcome (Joiners kept wanted) (k, are, why) = no_joiners k kept wanted are why
-  welcome (Table kept wanted) (k, are, why) = no_table k kept wanted are why
-  welcome (Place told) (k, are, why) = no_place k told are why.0 why.1
-  welcome (Limit disk value) h = tt
-  welcome Read h = tt
+  -- nor are values that its disks kept
+  pub welcome : (k : KeptValues) → AreKept tells image asked.joiners k → (r : Refusal) → IsCause log_tells log end_ old new asked k r → IsWelcome g image r
+  welcome k are (Disks fault) why = absurd why
+  welcome k are (Joiners kept wanted) why = no_joiners k kept wanted are why
+  welcome k are (Table kept wanted) why = no_table k kept wanted are why
+  welcome k are (Place told) why = no_place k told are why.0 why.1
+  welcome k are (Limit disk value) why = tt
+  welcome k are Read why = tt

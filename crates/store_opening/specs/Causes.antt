@@ -11,6 +11,7 @@ use Rattle.dispatch_node.specs.Places.{IsLogOf, AreKeptPlaces}
 use Rattle.site_disks.specs.declared.checks.Misfit.{Misfit}
 use Rattle.site_disks.specs.declared.checks.Misfit.TheVariants as misfit
 use Rattle.site_disks.specs.declared.fault.DisksFault.{DisksFault}
+use Rattle.site_disks.specs.declared.fault.DisksFault.TheVariants as disks
 use Rattle.site_disks.specs.declared.opened.Opened.{Opened}
 use Rattle.site_disks.specs.Misfits.{IsFit, IsMisfit, first_spent, first_full, first_some}
 use Rattle.kept_places.specs.declared.misplaced.Misplaced.{Misplaced}
@@ -93,10 +94,12 @@ IfDisks P refusal = ⊤
 abbrev pub LeavesSomething : Setting → (DiskName → List ℕ → Type 0) → Type 0
 LeavesSomething g image = (disk : DiskName) → IsDisk g disk → (c : List ℕ) × image disk c
 
--- The refusal isn't for what the store keeps: neither for a table nor for a place, nor for a number of joiners if a stop leaves
--- something of each disk. Of the joiners that are asked for and not kept, no disk was opened.
+-- The refusal isn't for what the store keeps: neither for a table nor for a place, and if a stop leaves something of each disk
+-- neither for a damaged disk nor for a number of joiners. Of the joiners that are asked for and not kept, no disk was opened.
 abbrev pub IsWelcome : Setting → (DiskName → List ℕ → Type 0) → Refusal → Type 0
-IsWelcome g image (Disks fault) = ⊤
+IsWelcome g image (Disks (disks.Store disk)) = ⊤
+IsWelcome g image (Disks (disks.Damaged disk at)) = LeavesSomething g image → ⊥
+IsWelcome g image (Disks disks.Memory) = ⊤
 IsWelcome g image (Joiners kept wanted) = LeavesSomething g image → ⊥
 IsWelcome g image (Table kept wanted) = ⊥
 IsWelcome g image (Place told) = ⊥

@@ -21,7 +21,7 @@ ghost use Rattle.photon_defs.specs.Topology.{Topology as StoreTopology, topology
 ghost use Rattle.store_laws.specs.Stores.{IsSoundStore, AreLeft};
 ghost use Rattle.site_disks.specs.declared.fault.DisksFault.TheVariants.{Store as StoreFailed};
 ghost use Rattle.store_opening.specs.declared.refusal.Refusal.TheVariants.{Disks as OfDisks};
-ghost use Rattle.store_opening.specs.Records.{keep_all, AreKept, AreRecordsOf};
+ghost use Rattle.store_opening.specs.Records.{keep_all, KeptValues, AreKept, AreRecordsOf};
 ghost use Rattle.store_opening.specs.Leaving.{behind, IsOut, StayOrAsked, IsAsked};
 ghost use Rattle.store_opening.specs.Causes.{ArePassed, IsCause, IfDisks, IfJudged, IsWelcome};
 
@@ -81,6 +81,8 @@ pub fn open_store<S: Store, L: LogFile>(
       pairs_a = keep_all (λ o. o.pairs.items) d.outputs_a.items;
       pairs_b = keep_all (λ o. o.pairs.items) d.outputs_b.items;
     })) }
+    // The disks kept values that pass.
+    ensures kept { IfOk result (λ d. (k : KeptValues) × AreKept S.Disk.tells (S.image store.old) asked.joiners k × ArePassed L.tells (L.bytes clicks.old) end asked k) }
     // Each record was kept by an image of its disk, and the topology or none by one of its own.
     ensures were_left { IsTrue S.Disk.tells → IfOk result (λ d. (g : Setting) (records : Disks) → IsAsked asked g → g.replicas ≡ 3 → AreRecordsOf g (record {
       topology = d.topology.journal.kept;
@@ -115,9 +117,9 @@ pub fn open_store<S: Store, L: LogFile>(
     ensures grown { IsTrue S.Disk.tells → OnErr result ((disk : DiskName) → GoesOn (S.image store.old disk) (S.image store.new disk)) }
     ensures first { IfErr result (IfDisks (IsOfFirstDisk S.Disk.tells (S.image store.old) asked.joiners)) }
     ensures rose { IfErr result (IfDisks (RoseBy (S.faults store.old) (S.faults store.new))) }
-    ensures damaged { IsTrue S.Disk.tells → IfErr result (IfDisks (WasDamaged S.Disk.seen S.Disk.image (S.image store.old))) }
+    ensures damaged { IsTrue S.Disk.tells → IfErr result (IfDisks (WasDamaged (S.image store.old))) }
     ensures cause { IfErr result (IfJudged (AreKept S.Disk.tells (S.image store.old) asked.joiners) (IsCause L.tells (L.bytes clicks.old) end (L.faults clicks.old) (L.faults clicks.new) asked)) }
-    // Of a sound store nothing that it keeps is refused.
+    // Of a sound store nothing that it keeps is refused, and no disk is told as damaged.
     ensures welcome { IsTrue S.Disk.tells → IsTrue L.tells → IfErr result (λ r. (g : Setting) → IsAsked asked g → g.replicas ≡ 3 → IsLogOf (L.bytes clicks.old) g → end ≡ end_from 0 g.clicks
         → IsSoundStore g (S.image store.old) → IsWelcome g (S.image store.old) r) }
 

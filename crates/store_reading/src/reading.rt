@@ -116,7 +116,7 @@ pub fn read_store<S: Store, L: LogFile>(
 
     ensures first { IfErr result (IfDisks (IsOfFirstDisk S.Disk.tells (S.image store.old) 0)) }
     ensures rose { IfErr result (IfDisks (RoseBy (S.faults store.old) (S.faults store.new))) }
-    ensures damaged { IsTrue S.Disk.tells → IfErr result (IfDisks (WasDamaged S.Disk.seen S.Disk.image (S.image store.old))) }
+    ensures damaged { IsTrue S.Disk.tells → IfErr result (IfDisks (WasDamaged (S.image store.old))) }
     ensures cause { IfErr result (IfJudged (AreKept S.Disk.tells (S.image store.old) 0) (IsCause L.tells (L.bytes clicks.old) end (L.faults clicks.old) (L.faults clicks.new))) }
 
     // Of a sound store no place is refused, if a stop leaves something of each of its disks.

@@ -15,12 +15,11 @@ returns-in-Err-clause-cut g c tells s kind lent kinds stage =
 pub returns-in-Err-clause-damaged : goal.returns-in-Err-clause-damaged
 returns-in-Err-clause-damaged g c tells s kind lent kinds stage =
     let image = g.S.Store.image in
-    let d = g.S.Disk.Disk in
     let new = are_new kind c.args.names.now lent kinds stage.below in
     let so = c.loop-i.invariant.lent tells s lent stage.taken new in
     let lt : c.loop-i.i < length c.args.names.now = omega (arith, c.loop-i-test.true, c.requires.many) in
     let lacks = lacks_next g.J.RecordJournal.disk_of c.args.names.now c.loop-i.i _ lent c.loop-i.opened.items new c.requires.apart c.loop-i.invariant.names lt in
-    damaged_first d.seen d.image (image s) (image c.loop-i.store) _ c.in-Err.fault c.in-Err.ensures.of (so.others _ lacks) (c.in-Err.ensures.damaged tells)
+    damaged_first (image s) (image c.loop-i.store) _ c.in-Err.fault c.in-Err.ensures.of (so.others _ lacks) (c.in-Err.ensures.damaged tells)
 
 pub returns-in-Err-clause-first : goal.returns-in-Err-clause-first
 returns-in-Err-clause-first g c s kind lent kinds stage =

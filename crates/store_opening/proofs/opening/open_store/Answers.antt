@@ -13,10 +13,15 @@ use Rattle.store_opening.proofs.Leaving.{back_stays, back_grown, back_written, o
 use Rattle.store_opening.proofs.Values.{values_in}
 use Rattle.store_opening.proofs.Whole.{left_with, whole_with}
 use Rattle.store_opening.proofs.Welcome.{welcome}
+use Rattle.store_opening.proofs.Damage.{no_damage, unwritten_welcome}
 use Rattle.store_opening.proofs.opening.open_store.Goals as goal
 
 pub returns-in-Err-clause-sound : goal.returns-in-Err-clause-sound
 returns-in-Err-clause-sound g c tells s asked sound = c.stays.ensures s c.args.store.now c.open_disks.new.store sound (λ disk is. c.in-Err.ensures.back tells disk)
+
+pub returns-in-Err-clause-welcome : goal.returns-in-Err-clause-welcome
+returns-in-Err-clause-welcome g c sure log_sure = λ s asked replicas log_is end_is sound.
+    no_damage g.S.Disk.Disk.tells sure (g.S.Store.image c.args.store.now) c.args.asked c.requires.joiners.few c.read.ensures.topology c.fits.ensures.only s asked replicas sound c.in-Err.fault c.in-Err.ensures.first (c.in-Err.ensures.damaged sure)
 
 pub returns-in-Some-clause-left : goal.returns-in-Some-clause-left
 returns-in-Some-clause-left g c tells =
@@ -81,8 +86,33 @@ returns-in-Some-clause-cause g c =
 
 pub returns-in-Some-clause-welcome : goal.returns-in-Some-clause-welcome
 returns-in-Some-clause-welcome g c sure log_sure = λ s asked replicas log_is end_is sound.
-    welcome g.S.Disk.Disk.tells sure g.L.LogFile.tells log_sure (g.S.Store.image c.args.store.now) c.args.asked c.requires.joiners.few (g.L.LogFile.bytes c.args.clicks.now) c.args.end (g.L.LogFile.faults c.args.clicks.now) (g.L.LogFile.faults c.judge.new.clicks)
-    c.read.ensures.topology c.fits.ensures.only s asked replicas log_is end_is sound c.in-Some.refusal (returns-in-Some-clause-cause g c)
+    let d = c.in-Ok.disks in
+    let k : KeptValues = record {
+      topology = d.topology.journal.kept;
+      offsets = keep_all (λ o. o.offset) d.offsets.items;
+      pending = keep_all (λ r. r.pending.keys) d.retries.items;
+      servers = keep_all (λ e. e.epoch) d.servers.items;
+      notes = keep_all (λ v. v.notes.items) d.replicas.items;
+      epochs_a = keep_all (λ e. e.epoch) d.epochs_a.items;
+      epochs_b = keep_all (λ e. e.epoch) d.epochs_b.items;
+      pairs_a = keep_all (λ o. o.pairs.items) d.outputs_a.items;
+      pairs_b = keep_all (λ o. o.pairs.items) d.outputs_b.items;
+    } in
+    let tells = g.S.Disk.Disk.tells in
+    let before = g.S.Store.image c.args.store.now in
+    let kept : AreKept tells before c.args.asked.joiners k = record {
+      topology = c.in-Ok.ensures.kept;
+      offsets = values_in tells before _ (λ o. o.offset) (λ o. KeepsOffset o) _ d.offsets.items c.in-Ok.ensures.offsets;
+      pending = values_in tells before _ (λ r. r.pending.keys) (λ p. KeepsPending p) _ d.retries.items c.in-Ok.ensures.retries;
+      servers = values_in tells before _ (λ e. e.epoch) (λ e. KeepsEpoch e) _ d.servers.items c.in-Ok.ensures.servers;
+      notes = values_in tells before _ (λ v. v.notes.items) (λ n. KeepsNotes n) _ d.replicas.items c.in-Ok.ensures.replicas;
+      epochs_a = values_in tells before _ (λ e. e.epoch) (λ e. KeepsEpoch e) _ d.epochs_a.items c.in-Ok.ensures.epochs_a;
+      epochs_b = values_in tells before _ (λ e. e.epoch) (λ e. KeepsEpoch e) _ d.epochs_b.items c.in-Ok.ensures.epochs_b;
+      pairs_a = values_in tells before _ (λ o. o.pairs.items) (λ p. KeepsPairs p) _ d.outputs_a.items c.in-Ok.ensures.outputs_a;
+      pairs_b = values_in tells before _ (λ o. o.pairs.items) (λ p. KeepsPairs p) _ d.outputs_b.items c.in-Ok.ensures.outputs_b;
+    } in
+    welcome tells sure g.L.LogFile.tells log_sure before c.args.asked c.requires.joiners.few (g.L.LogFile.bytes c.args.clicks.now) c.args.end (g.L.LogFile.faults c.args.clicks.now) (g.L.LogFile.faults c.judge.new.clicks)
+    c.read.ensures.topology c.fits.ensures.only s asked replicas log_is end_is sound k kept c.in-Some.refusal c.in-Some.ensures.cause
 
 pub returns-in-Ok-keep_topology-clause-lent : goal.returns-in-Ok-keep_topology-clause-lent
 returns-in-Ok-keep_topology-clause-lent g c tells =
@@ -91,6 +121,35 @@ returns-in-Ok-keep_topology-clause-lent g c tells =
     let old = lend {D = g.row.S-Disk.Denot} (λ t. t.journal.disk) c.in-Ok.disks.topology in
     let new = lend {D = g.row.S-Disk.Denot} (λ t. t.journal.disk) c.keep_topology.new.topology in
     out_for left (image c.args.store.now) (image c.open_disks.new.store) old new _ (c.in-Ok.ensures.lent tells) c.in-Ok-keep_topology.ensures.name c.args.asked (c.in-Ok-keep_topology.ensures.durable tells) (c.in-Ok-keep_topology.ensures.grows tells)
+
+pub returns-in-Ok-keep_topology-clause-kept : goal.returns-in-Ok-keep_topology-clause-kept
+returns-in-Ok-keep_topology-clause-kept g c =
+    let d = c.in-Ok.disks in
+    let k : KeptValues = record {
+      topology = d.topology.journal.kept;
+      offsets = keep_all (λ o. o.offset) d.offsets.items;
+      pending = keep_all (λ r. r.pending.keys) d.retries.items;
+      servers = keep_all (λ e. e.epoch) d.servers.items;
+      notes = keep_all (λ v. v.notes.items) d.replicas.items;
+      epochs_a = keep_all (λ e. e.epoch) d.epochs_a.items;
+      epochs_b = keep_all (λ e. e.epoch) d.epochs_b.items;
+      pairs_a = keep_all (λ o. o.pairs.items) d.outputs_a.items;
+      pairs_b = keep_all (λ o. o.pairs.items) d.outputs_b.items;
+    } in
+    let tells = g.S.Disk.Disk.tells in
+    let before = g.S.Store.image c.args.store.now in
+    let kept : AreKept tells before c.args.asked.joiners k = record {
+      topology = c.in-Ok.ensures.kept;
+      offsets = values_in tells before _ (λ o. o.offset) (λ o. KeepsOffset o) _ d.offsets.items c.in-Ok.ensures.offsets;
+      pending = values_in tells before _ (λ r. r.pending.keys) (λ p. KeepsPending p) _ d.retries.items c.in-Ok.ensures.retries;
+      servers = values_in tells before _ (λ e. e.epoch) (λ e. KeepsEpoch e) _ d.servers.items c.in-Ok.ensures.servers;
+      notes = values_in tells before _ (λ v. v.notes.items) (λ n. KeepsNotes n) _ d.replicas.items c.in-Ok.ensures.replicas;
+      epochs_a = values_in tells before _ (λ e. e.epoch) (λ e. KeepsEpoch e) _ d.epochs_a.items c.in-Ok.ensures.epochs_a;
+      epochs_b = values_in tells before _ (λ e. e.epoch) (λ e. KeepsEpoch e) _ d.epochs_b.items c.in-Ok.ensures.epochs_b;
+      pairs_a = values_in tells before _ (λ o. o.pairs.items) (λ p. KeepsPairs p) _ d.outputs_a.items c.in-Ok.ensures.outputs_a;
+      pairs_b = values_in tells before _ (λ o. o.pairs.items) (λ p. KeepsPairs p) _ d.outputs_b.items c.in-Ok.ensures.outputs_b;
+    } in
+    (k, kept, none_here c.judge.result _ c.in_default.not-Some c.judge.ensures.passed)
 
 pub returns-in-Ok-keep_topology-clause-were_left : goal.returns-in-Ok-keep_topology-clause-were_left
 returns-in-Ok-keep_topology-clause-were_left g c sure s records asked replicas of =
@@ -167,4 +226,8 @@ returns-in-Err-keep_topology-clause-rose g c =
 
 pub returns-in-Err-keep_topology-clause-damaged : goal.returns-in-Err-keep_topology-clause-damaged
 returns-in-Err-keep_topology-clause-damaged g c tells =
-    unwritten_damaged g.S.Disk.Disk.seen g.S.Disk.Disk.image (g.S.Store.image c.args.store.now) c.in-Ok.disks.topology.name c.in-Err-keep_topology.fault c.in-Err-keep_topology.ensures.unwritten
+    unwritten_damaged (g.S.Store.image c.args.store.now) c.in-Ok.disks.topology.name c.in-Err-keep_topology.fault c.in-Err-keep_topology.ensures.unwritten
+
+pub returns-in-Err-keep_topology-clause-welcome : goal.returns-in-Err-keep_topology-clause-welcome
+returns-in-Err-keep_topology-clause-welcome g c sure log_sure = λ s asked replicas log_is end_is sound.
+    unwritten_welcome s (g.S.Store.image c.args.store.now) c.in-Ok.disks.topology.name c.in-Err-keep_topology.fault c.in-Err-keep_topology.ensures.unwritten

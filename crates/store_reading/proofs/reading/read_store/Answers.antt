@@ -111,8 +111,8 @@ returns-clause-rose g c =
 
 pub returns-clause-damaged : goal.returns-clause-damaged
 returns-clause-damaged g c tells =
-    err_weaker _ (IfDisks (WasDamaged g.S.Disk.Disk.seen g.S.Disk.Disk.image (g.S.Store.image c.args.store.now))) c.read_disks-read.result
-    (λ r why. of_memory (WasDamaged g.S.Disk.Disk.seen g.S.Disk.Disk.image (g.S.Store.image c.args.store.now)) g.L.LogFile.tells (g.L.LogFile.bytes c.args.clicks.now) c.args.end (g.L.LogFile.faults c.args.clicks.now) (g.L.LogFile.faults c.read_disks-read.new.clicks) (its_values g c) r tt why) c.read_disks-read.ensures.cause
+    err_weaker _ (IfDisks (WasDamaged (g.S.Store.image c.args.store.now))) c.read_disks-read.result
+    (λ r why. of_memory (WasDamaged (g.S.Store.image c.args.store.now)) g.L.LogFile.tells (g.L.LogFile.bytes c.args.clicks.now) c.args.end (g.L.LogFile.faults c.args.clicks.now) (g.L.LogFile.faults c.read_disks-read.new.clicks) (its_values g c) r tt why) c.read_disks-read.ensures.cause
 
 pub returns-clause-welcome : goal.returns-clause-welcome
 returns-clause-welcome g c sure log_sure s log_is end_is some sound =
