@@ -1,6 +1,8 @@
 -- Nodes of all four kinds as one kind, and where they stand.
-use Rattle.std.proofs.Common.{◌≡◌, ◌⊎◌, inl, inr, ℕ, Bool, List, None}
+use Rattle.std.proofs.Common.{◌≡◌, ◌⊎◌, inl, inr, ℕ, Bool, List, Option, None, Some}
 use Rattle.air_bus.specs.declared.entry.Entry.{Entry}
+use Rattle.air_bus.specs.declared.entry.Entry.TheVariants.{Begin}
+use Rattle.air_bus.specs.declared.entry.Input.{Input}
 use Rattle.packet_codec.specs.declared.node.Node.{Node}
 use Rattle.packet_codec.specs.declared.node.Node.TheVariants.{Dispatcher, Server, Replica, Joiner}
 use Rattle.air_bus.specs.declared.entry.Phase.{Phase}
@@ -8,13 +10,15 @@ use Rattle.turn_defs.specs.Setting.{Setting}
 use Rattle.site_node.specs.States.{State, Leads, Says, state_phase}
 use Rattle.dispatch_core.specs.Dispatcher.{dispatcher_at_rest}
 use Rattle.joiner_core.specs.Joiner.{joiner_at_rest}
+use Rattle.dispatch_node.specs.Node as dispatcher
 use Rattle.dispatch_node.specs.Node.{DispatcherState, SiteLeads, says}
 use Rattle.registry_server.specs.Server.{ServerKept, ServerLive, server_at_rest}
-use Rattle.registry_server.specs.Node.{ServerState}
+use Rattle.registry_server.specs.Node.{ServerState, spent_at}
 use Rattle.registry_server.specs.Registrars.{server_rows}
 use Rattle.replica_node.specs.Replica.{replica_at_rest}
+use Rattle.replica_node.specs.Node as replica
 use Rattle.replica_node.specs.Node.{ReplicaState, replica_rows}
-use Rattle.joiner_node.specs.Node.{JoinerState, LeadsTo, joiner_phase}
+use Rattle.joiner_node.specs.Node.{JoinerState, LeadsTo, joiner_phase, spends_of}
 use Rattle.site_laws.specs.Kinds.{StateOf}
 use Rattle.site_run.specs.Eithers as either
 use Rattle.site_run.specs.Works.{Path}
@@ -49,14 +53,27 @@ any_of (Joiner j) t = inr (inr (record { number = j; node = t }))
 abbrev pub down_with : {K L : Type 0} → Setting → K → State K L
 down_with g k = record { setting = g; kept = k; live = None; opened = None }
 
+-- the epoch that a start would raise, where it is the last one
+abbrev pub any_spends : AnyState → Input → Option ℕ
+any_spends = either.of (either.of dispatcher.never_spent spent_at) (either.of replica.never_spent spends_of)
+
+-- The node knows nothing, since it is down or starts, and the epoch that its disk keeps is this one, the last.
+abbrev pub IsAtLast : AnyState → ℕ → Type 0
+IsAtLast (inl (inl d)) epoch = ⊥
+IsAtLast (inl (inr s)) epoch = (s.live ≡ None) × (s.kept.disk.epoch ≡ epoch) × (epoch ≡ 4294967294)
+IsAtLast (inr (inl r)) epoch = ⊥
+IsAtLast (inr (inr j)) epoch = (j.node.live ≡ None) × (j.node.kept.epoch ≡ epoch) × (epoch ≡ 4294967294)
+
 -- ---- a kind of node that stands at such states
 
-module _ {N S : Type 0} (leads : S → Entry → S → Type 0) (phase_of : S → Phase) (stands : N → S → Type 0) (at_rest_as : S → Bool → Type 0) (places : N → AnyState → Type 0) where
-  -- its own state t means u: it stands on the bus as there, a node at t is at u, and what is said of rest at t is said at u
+module _ {N S : Type 0} (leads : S → Entry → S → Type 0) (phase_of : S → Phase) (stands : N → S → Type 0) (at_rest_as : S → Bool → Type 0) (spends : S → Input → Option ℕ) (places : N → AnyState → Type 0) where
+  -- Its own state t means u: it stands on the bus as there, a node at t is at u, and what is said of rest at t is said at u. A turn
+  -- that came to t and would raise the last epoch came to u at that epoch.
   pub record IsMeant (t : S) (u : AnyState) : Type 0 where
     pub phased : any_phase u ≡ phase_of t
     pub placed : (w : N) → stands w t → places w u
     pub rested : (b : Bool) → at_rest_as t b → any_rests u b
+    pub spent : (before : S) (n : ℕ) (input : Input) (epoch : ℕ) → leads before (Begin n input) t → spends before input ≡ Some epoch → IsAtLast u epoch
 
   -- the node is at u by a state of its own, and what leads on from there leads on from u
   pub record GoesOn (v : N) (u : AnyState) : Type 0 where

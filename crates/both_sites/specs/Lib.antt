@@ -1,3 +1,4 @@
 pub mod AnyNodes
 pub mod Running
+pub mod Spending
 pub mod Numbers

@@ -95,12 +95,13 @@ pub trait SystemNode: SiteNode {
     /// Its kind.
     fn kind(&self) -> Kind;
 
-    /// What leads it on leads a node of the system on, and it says of its rest what that node says.
-    ghost walks: { (v : Self) (u : AnyState) → places v u → GoesOn Self.leads Self.phase_of Self.stands Self.at_rest_as places v u };
+    /// What leads it on leads a node of the system on, and it says of its rest, and of its last epoch, what that node says.
+    ghost walks: { (v : Self) (u : AnyState) → places v u → GoesOn Self.leads Self.phase_of Self.stands Self.at_rest_as Self.spends places v u };
 }
 
 impl<D: Disk, L: LogFile> SystemNode for AnyNode<D, L> {
     ghost use Rattle.std.proofs.Common.{refl};
+    ghost use Rattle.both_sites.specs.Spending.{at_last};
 
     ghost places = { ⟦<AnyNode<D, L> as SiteNode>⟧.stands };
 
@@ -116,7 +117,7 @@ impl<D: Disk, L: LogFile> SystemNode for AnyNode<D, L> {
     ghost walks = { λ v u at. record {
       from = u;
       at = at;
-      led = record { phased = refl; placed = λ w h. h; rested = λ b r. r };
-      on = λ es t p. (t, p, record { phased = refl; placed = λ w h. h; rested = λ b r. r });
+      led = record { phased = refl; placed = λ w h. h; rested = λ b r. r; spent = λ s n i epoch led is. at_last s n i u epoch led is };
+      on = λ es t p. (t, p, record { phased = refl; placed = λ w h. h; rested = λ b r. r; spent = λ s n i epoch led is. at_last s n i t epoch led is });
     } };
 }

@@ -50,8 +50,8 @@ pub fn run_nodes<R: Threads + Wait + Sync, N: SystemNode + Send + Drop, G: Gate>
     // A node has a fault where the run is not at rest. Its cause is met where it is one of disks or of a log.
     ensures fault { IfOk result (λ r. r.rest ≡ false → HasFault r.nodes.items) }
     ensures caused { IfOk result (λ r. AreCaused N.faults N.log_faults r.nodes.items) }
-    // A node that stopped within a turn has met a fault of its disks.
-    ensures met { IfOk result (λ r. (i : ℕ) (b : _) → i < length nodes.items → HasMet N.faults (slice_index_or r.nodes.items i b).0 (made_by i r.air.history)) }
+    // A node that stopped within a turn has met a fault of its disks; one that ended as stopped has eight stops, or its turn is left open.
+    ensures met { IfOk result (λ r. (i : ℕ) (b : _) → i < length nodes.items → HasMet N.faults (slice_index_or r.nodes.items i b).0 (slice_index_or r.nodes.items i b).1 (made_by i r.air.history)) }
     ensures back { IfErr result (λ e. e.1 ≡ nodes) }
 {
     turn_defs::laws::node_numbers();

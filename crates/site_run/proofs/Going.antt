@@ -7,6 +7,7 @@ use native.Mathlib.Decide.{ℕ_discrete}
 use Rattle.std.proofs.lemmas.List.{append-nil, length-map, get_or-map, get_or_append_left, get_or_push, ext_get_or}
 use Rattle.std.proofs.Common.{length-append}
 use Rattle.air_bus.specs.declared.entry.Entry.{Entry}
+use Rattle.air_bus.specs.declared.entry.Input.{Input}
 use Rattle.air_bus.specs.declared.entry.Phase.{Phase}
 use Rattle.bus_seat.specs.Views.{count, made_by}
 use Rattle.bus_seat.specs.Seats.{BusId, Sight, fresh, fresh_to, fresh_seats, tag, AreSeatsOf, IsIn}
@@ -19,21 +20,21 @@ use Rattle.site_run.proofs.Stepping.{leads_on, leads_nowhere, grows_on, grows_no
 grew_nowhere : (s : Sight) → Grew s s
 grew_nowhere s = record { bus = refl; number = refl; seen = ([], append-nil s.seen); mine = ([], append-nil s.mine) }
 
-module _ {N S : Type 0} (tells : Bool) (leads : S → Entry → S → Type 0) (phase_of : S → Phase) (stands : N → S → Type 0) (number : N → ℕ) (grown : N → N → Type 0) where
+module _ {N S : Type 0} (tells : Bool) (leads : S → Entry → S → Type 0) (phase_of : S → Phase) (stands : N → S → Type 0) (number : N → ℕ) (spends : S → Input → Option ℕ) (grown : N → N → Type 0) where
   abbrev Went : WorkerView N → WorkerView N → Type 0
-  Went = WentOn tells leads phase_of stands number grown
+  Went = WentOn tells leads phase_of stands number spends grown
 
   abbrev AllWent : List (WorkerView N) → List (WorkerView N) → Type 0
-  AllWent = AllWentOn tells leads phase_of stands number grown
+  AllWent = AllWentOn tells leads phase_of stands number spends grown
 
   pub went_nowhere : (v : WorkerView N) → Went v v
-  went_nowhere v = record { grew = grew_nowhere v.seat; leads_on = λ t. leads_nowhere leads phase_of stands number v.node v.fault v.seat.mine; grows_on = λ t. grows_nowhere leads phase_of stands number grown v.node v.fault v.seat.mine }
+  went_nowhere v = record { grew = grew_nowhere v.seat; leads_on = λ t. leads_nowhere leads phase_of stands number spends v.node v.fault v.seat.mine; grows_on = λ t. grows_nowhere leads phase_of stands number spends grown v.node v.fault v.seat.mine }
 
   pub went_on : (u v w : WorkerView N) → Went u v → Went v w → Went u w
   went_on u v w a b = record {
     grew = grew_on u.seat v.seat w.seat a.grew b.grew;
-    leads_on = λ t. leads_on leads phase_of stands number u.node v.node w.node u.fault v.fault w.fault u.seat.mine v.seat.mine w.seat.mine (a.leads_on t) (b.leads_on t);
-    grows_on = λ t. grows_on leads phase_of stands number grown u.node v.node w.node u.fault v.fault u.seat.mine v.seat.mine (a.leads_on t) (a.grows_on t) (b.grows_on t);
+    leads_on = λ t. leads_on leads phase_of stands number spends u.node v.node w.node u.fault v.fault w.fault u.seat.mine v.seat.mine w.seat.mine (a.leads_on t) (b.leads_on t);
+    grows_on = λ t. grows_on leads phase_of stands number spends grown u.node v.node w.node u.fault v.fault u.seat.mine v.seat.mine (a.leads_on t) (a.grows_on t) (b.grows_on t);
   }
 
   pub all_nowhere : (vs : List (WorkerView N)) → AllWent vs vs
@@ -78,7 +79,7 @@ front_count bus front is = ap length is ∙ fresh_count bus (count bus.base)
 pub front_at : (bus : BusId) (front : List Sight) (i : ℕ) (d : Sight) → front ≡ fresh_to bus (count bus.base) → i < (count bus.base) → get_or front i d ≡ fresh bus (Some i)
 front_at bus front i d is l = ap (λ (xs : List Sight). get_or xs i d) is ∙ fresh_at bus (count bus.base) i d l
 
-module _ {N S : Type 0} (tells : Bool) (leads : S → Entry → S → Type 0) (phase_of : S → Phase) (stands : N → S → Type 0) (number : N → ℕ) (grown : N → N → Type 0)
+module _ {N S : Type 0} (tells : Bool) (leads : S → Entry → S → Type 0) (phase_of : S → Phase) (stands : N → S → Type 0) (number : N → ℕ) (spends : S → Input → Option ℕ) (grown : N → N → Type 0)
     (bus : BusId) (nodes : List N) (front : List Sight) (ws us : List (WorkerView N))
     (nodes_are : map (λ (w : WorkerView N). w.node) ws ≡ nodes) (seats_are : map (λ (w : WorkerView N). w.seat) ws ≡ front) (front_is : front ≡ fresh_to bus (count bus.base)) where
   hired_count : length ws ≡ (count bus.base)
@@ -96,7 +97,7 @@ module _ {N S : Type 0} (tells : Bool) (leads : S → Entry → S → Type 0) (p
   pub hired_buses : (i : ℕ) (d : WorkerView N) → i < length ws → (get_or ws i d).seat.bus ≡ bus
   hired_buses i d l = ap (λ (s : Sight). s.bus) (hired_seat i d l)
 
-  module _ (went : AllWentOn tells leads phase_of stands number grown ws us) where
+  module _ (went : AllWentOn tells leads phase_of stands number spends grown ws us) where
     ended_tag : (i : ℕ) (d : WorkerView N) → i < length us → tag (get_or us i d).seat ≡ (bus, Some i)
     ended_tag i d l =
         let inside : i < length ws = omega (arith, l, went.count) in
@@ -147,39 +148,39 @@ module _ {N S : Type 0} (tells : Bool) (leads : S → Entry → S → Type 0) (p
         left_at i d b l = ap (λ (xs : List (N × Option NodeFault)). get_or xs i b) left_is ∙ get_or-map (λ (w : WorkerView N). (w.node, w.fault)) us i d b l
 
         -- each node's entries in the history have led it from where it stood to where it stands
-        pub all_walked : IsTrue tells → (i : ℕ) (a : N) (b : N × Option NodeFault) → i < length ws → Walked leads phase_of stands number (get_or nodes i a) (get_or left i b) i h
+        pub all_walked : IsTrue tells → (i : ℕ) (a : N) (b : N × Option NodeFault) → i < length ws → Walked leads phase_of stands number spends (get_or nodes i a) (get_or left i b) i h
         all_walked t i a b l =
             let inside : i < length us = omega (arith, l, went.count) in
             let d = some_of ws i l in
             let v = get_or ws i d in
             let w = get_or us i d in
-            let led : LeadsOn leads phase_of stands number v.node v.fault v.seat.mine w.node w.fault w.seat.mine = (went.each i d l).leads_on t in
-            let from : LeadsOn leads phase_of stands number v.node None [] w.node w.fault w.seat.mine =
-            subst (λ (m : List Entry). LeadsOn leads phase_of stands number v.node None m w.node w.fault w.seat.mine) (ap (λ (s : Sight). s.mine) (hired_seat i d l))
-            (subst (λ (o : Option NodeFault). LeadsOn leads phase_of stands number v.node o v.seat.mine w.node w.fault w.seat.mine) (faults i d l) led)
+            let led : LeadsOn leads phase_of stands number spends v.node v.fault v.seat.mine w.node w.fault w.seat.mine = (went.each i d l).leads_on t in
+            let from : LeadsOn leads phase_of stands number spends v.node None [] w.node w.fault w.seat.mine =
+            subst (λ (m : List Entry). LeadsOn leads phase_of stands number spends v.node None m w.node w.fault w.seat.mine) (ap (λ (s : Sight). s.mine) (hired_seat i d l))
+            (subst (λ (o : Option NodeFault). LeadsOn leads phase_of stands number spends v.node o v.seat.mine w.node w.fault w.seat.mine) (faults i d l) led)
             in
-            let at : LeadsOn leads phase_of stands number (get_or nodes i a) None [] w.node w.fault (made_by i h) =
-            subst (λ (n : N). LeadsOn leads phase_of stands number n None [] w.node w.fault (made_by i h)) (hired_node i d a l)
-            (subst (λ (m : List Entry). LeadsOn leads phase_of stands number v.node None [] w.node w.fault m) (sym (own_entries i d inside)) from)
+            let at : LeadsOn leads phase_of stands number spends (get_or nodes i a) None [] w.node w.fault (made_by i h) =
+            subst (λ (n : N). LeadsOn leads phase_of stands number spends n None [] w.node w.fault (made_by i h)) (hired_node i d a l)
+            (subst (λ (m : List Entry). LeadsOn leads phase_of stands number spends v.node None [] w.node w.fault m) (sym (own_entries i d inside)) from)
             in
-            subst (λ (x : N × Option NodeFault). LeadsOn leads phase_of stands number (get_or nodes i a) None [] x.0 x.1 (made_by i h)) (sym (left_at i d b inside)) at
+            subst (λ (x : N × Option NodeFault). LeadsOn leads phase_of stands number spends (get_or nodes i a) None [] x.0 x.1 (made_by i h)) (sym (left_at i d b inside)) at
 
         -- and each node's disks have gone on
-        pub all_grown : IsTrue tells → (i : ℕ) (a : N) (b : N × Option NodeFault) → i < length ws → WentFar leads phase_of stands number grown (get_or nodes i a) (get_or left i b)
+        pub all_grown : IsTrue tells → (i : ℕ) (a : N) (b : N × Option NodeFault) → i < length ws → WentFar leads phase_of stands number spends grown (get_or nodes i a) (get_or left i b)
         all_grown t i a b l =
             let inside : i < length us = omega (arith, l, went.count) in
             let d = some_of ws i l in
             let v = get_or ws i d in
             let w = get_or us i d in
-            let grew : GrowsOn leads phase_of stands number grown v.node v.fault v.seat.mine w.node = (went.each i d l).grows_on t in
-            let from : GrowsOn leads phase_of stands number grown v.node None [] w.node =
-            subst (λ (m : List Entry). GrowsOn leads phase_of stands number grown v.node None m w.node) (ap (λ (s : Sight). s.mine) (hired_seat i d l))
-            (subst (λ (o : Option NodeFault). GrowsOn leads phase_of stands number grown v.node o v.seat.mine w.node) (faults i d l) grew)
+            let grew : GrowsOn leads phase_of stands number spends grown v.node v.fault v.seat.mine w.node = (went.each i d l).grows_on t in
+            let from : GrowsOn leads phase_of stands number spends grown v.node None [] w.node =
+            subst (λ (m : List Entry). GrowsOn leads phase_of stands number spends grown v.node None m w.node) (ap (λ (s : Sight). s.mine) (hired_seat i d l))
+            (subst (λ (o : Option NodeFault). GrowsOn leads phase_of stands number spends grown v.node o v.seat.mine w.node) (faults i d l) grew)
             in
-            let at : GrowsOn leads phase_of stands number grown (get_or nodes i a) None [] w.node =
-            subst (λ (n : N). GrowsOn leads phase_of stands number grown n None [] w.node) (hired_node i d a l) from
+            let at : GrowsOn leads phase_of stands number spends grown (get_or nodes i a) None [] w.node =
+            subst (λ (n : N). GrowsOn leads phase_of stands number spends grown n None [] w.node) (hired_node i d a l) from
             in
-            subst (λ (x : N × Option NodeFault). GrowsOn leads phase_of stands number grown (get_or nodes i a) None [] x.0) (sym (left_at i d b inside)) at
+            subst (λ (x : N × Option NodeFault). GrowsOn leads phase_of stands number spends grown (get_or nodes i a) None [] x.0) (sym (left_at i d b inside)) at
 
         abbrev parted : WorkerView N → N × Option NodeFault
         parted w = (w.node, w.fault)
@@ -205,9 +206,10 @@ module _ {N S : Type 0} (tells : Bool) (leads : S → Entry → S → Type 0) (p
             (subst (λ (m : List Entry). Rests number stands at_rest_as ((get_or us i d).node, (get_or us i d).fault) m) (sym (own_entries i d inside)) (rest i d inside))
 
         -- what is known of each worker's own entries and its faults is known by the history
-        pub all_met : (tally : N → ℕ) → All (λ (w : WorkerView N). HasMet tally w.node w.seat.mine) us → (i : ℕ) (b : N × Option NodeFault) → i < length ws → HasMet tally (get_or left i b).0 (made_by i h)
+        pub all_met : (tally : N → ℕ) → All (λ (w : WorkerView N). HasMet tally w.node w.fault w.seat.mine) us → (i : ℕ) (b : N × Option NodeFault) → i < length ws
+            → HasMet tally (get_or left i b).0 (get_or left i b).1 (made_by i h)
         all_met tally have i b l =
             let inside : i < length us = omega (arith, l, went.count) in
             let d = some_of us i inside in
-            subst (λ (x : N × Option NodeFault). HasMet tally x.0 (made_by i h)) (sym (left_at i d b inside))
-            (subst (λ (m : List Entry). HasMet tally (get_or us i d).node m) (sym (own_entries i d inside)) (have i d inside))
+            subst (λ (x : N × Option NodeFault). HasMet tally x.0 x.1 (made_by i h)) (sym (left_at i d b inside))
+            (subst (λ (m : List Entry). HasMet tally (get_or us i d).node (get_or us i d).fault m) (sym (own_entries i d inside)) (have i d inside))

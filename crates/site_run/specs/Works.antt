@@ -1,15 +1,17 @@
 -- What a worker does, by the entries that it adds.
-use Rattle.std.specs.Prelude.{◌≡◌, ◌≢◌, ℕ, zero, suc, ◌≤◌, Bool, true, false, List, [], ◌∷◌, ◌++◌, Option, None, Some}
+use Rattle.std.specs.Prelude.{◌≡◌, ◌≢◌, ℕ, zero, suc, ◌≤◌, Bool, true, false, List, [], ◌∷◌, ◌++◌, length, filter, Option, None, Some}
 use Rattle.std.specs.List.{list_any}
 use mathlib.Core.List.{IsPrefix}
+use Rattle.outside.specs.declared.store.DiskName.{DiskName}
 use Rattle.air_bus.specs.declared.entry.Entry.{Entry}
 use Rattle.air_bus.specs.declared.entry.Entry.TheVariants.{Begin, End, Stop}
+use Rattle.air_bus.specs.declared.entry.Input.{Input}
 use Rattle.air_bus.specs.declared.entry.Phase.{Phase}
 use Rattle.air_bus.specs.declared.entry.Phase.TheVariants.{Busy}
 use Rattle.air_bus.specs.History.{phase}
 use Rattle.bus_seat.specs.Seats.{Sight}
 use Rattle.site_node.specs.declared.kind.NodeFault.{NodeFault}
-use Rattle.site_node.specs.declared.kind.NodeFault.TheVariants.{Stopped, Read}
+use Rattle.site_node.specs.declared.kind.NodeFault.TheVariants.{Stopped, Damaged, Read, Spent}
 
 -- the entries lead from one state to another
 abbrev pub Path : {S : Type 0} → (S → Entry → S → Type 0) → S → List Entry → S → Type 0
@@ -32,9 +34,19 @@ is_stop (Begin node input) = false
 is_stop (End node noted packets kept) = false
 is_stop (Stop node landed) = true
 
--- a node whose entries have a stop has met a fault of its disks
-pub record HasMet {N : Type 0} (faults : N → ℕ) (node : N) (mine : List Entry) : Type 0 where
+-- how many of the entries are such
+abbrev pub stop_count : List Entry → ℕ
+stop_count entries = length (filter is_stop entries)
+
+-- the last entry began a turn, which nothing has closed
+abbrev pub IsLeftOpen : List Entry → Type 0
+IsLeftOpen entries = (front : List Entry) × (node : ℕ) × (input : Input) × (entries ≡ front ++ Begin node input ∷ [])
+
+-- A node whose entries have a stop has met a fault of its disks. One whose work ended as stopped has eight stops, but for one that
+-- couldn't be reopened: its turn is left open.
+pub record HasMet {N : Type 0} (faults : N → ℕ) (node : N) (fault : Option NodeFault) (mine : List Entry) : Type 0 where
   pub stops : list_any is_stop mine ≡ true → 1 ≤ faults node
+  pub ended : fault ≡ Some Stopped → (IsLeftOpen mine → ⊥) → stop_count mine ≡ 8
 
 -- what a contract sees of a worker
 pub record WorkerView (N : Type 0) : Type 0 where
@@ -47,11 +59,18 @@ pub record IsIdle (n : ℕ) (waits : Bool) (s : Sight) : Type 0 where
   pub up : waits ≡ false
   pub closed : phase n s.mine ≢ Busy
 
-module _ {N S : Type 0} (leads : S → Entry → S → Type 0) (phase_of : S → Phase) (stands : N → S → Type 0) (number : N → ℕ) where
-  -- the node stands at the state; between two turns its last entry left it there
+module _ {N S : Type 0} (leads : S → Entry → S → Type 0) (phase_of : S → Phase) (stands : N → S → Type 0) (number : N → ℕ) (spends : S → Input → Option ℕ) where
+  -- the open turn would raise the epoch, which is the last one
+  abbrev pub IsSpent : N → S → ℕ → Type 0
+  IsSpent node s epoch = (before : S) × (input : Input) × leads before (Begin (number node) input) s × (spends before input ≡ Some epoch)
+
+  -- The node stands at the state; between two turns its last entry left it there. It was never told as damaged, and as spent only in
+  -- a turn that would raise the last epoch.
   pub record StandsAt (node : N) (fault : Option NodeFault) (mine : List Entry) (s : S) : Type 0 where
     pub at : stands node s
     pub phased : fault ≡ None → phase_of s ≡ phase (number node) mine
+    pub whole : (disk : DiskName) (place : ℕ) → fault ≢ Some (Damaged disk place)
+    pub spent : (epoch : ℕ) → fault ≡ Some (Spent epoch) → IsSpent node s epoch
 
   -- Wherever the node stood, the entries that were added lead on to where it stands.
   abbrev pub LeadsOn : N → Option NodeFault → List Entry → N → Option NodeFault → List Entry → Type 0

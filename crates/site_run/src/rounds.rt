@@ -67,16 +67,16 @@ pub fn run<R: Threads + Wait + Sync, N: SiteNode + Send + Drop, G: Gate>(
     ensures count { IfOk result (λ r. length r.nodes.items ≡ length nodes.items) }
     // Each node's entries have led it from where it stood to where it stands.
     ensures walked { IsTrue N.tells → IfOk result (λ r. (i : ℕ) (a : N) (b : _) → i < length nodes.items →
-        Walked N.leads N.phase_of N.stands N.number (slice_index_or nodes.items i a) (slice_index_or r.nodes.items i b) i r.air.history) }
+        Walked N.leads N.phase_of N.stands N.number N.spends (slice_index_or nodes.items i a) (slice_index_or r.nodes.items i b) i r.air.history) }
     // And its disks, whatever a stop leaves of them, have gone on from where they were.
     ensures grown { IsTrue N.tells → IfOk result (λ r. (i : ℕ) (a : N) (b : _) → i < length nodes.items →
-        WentFar N.leads N.phase_of N.stands N.number N.grown (slice_index_or nodes.items i a) (slice_index_or r.nodes.items i b)) }
+        WentFar N.leads N.phase_of N.stands N.number N.spends N.grown (slice_index_or nodes.items i a) (slice_index_or r.nodes.items i b)) }
     // A node has a fault where not all are at rest. Its cause is met where it is one of disks or of a log.
     ensures fault { IfOk result (λ r. r.rest ≡ false → HasFault r.nodes.items) }
     ensures caused { IfOk result (λ r. AreCaused N.faults N.log_faults r.nodes.items) }
     // A node that stopped within a turn has met a fault of its disks.
     ensures met { IfOk result (λ r. (i : ℕ) (b : _) → i < length nodes.items →
-        HasMet N.faults (slice_index_or r.nodes.items i b).0 (made_by i r.air.history)) }
+        HasMet N.faults (slice_index_or r.nodes.items i b).0 (slice_index_or r.nodes.items i b).1 (made_by i r.air.history)) }
     ensures rest { IfOk result (λ r. IsTrue r.rest → (i : ℕ) (b : _) → i < length nodes.items →
         Rests N.number N.stands N.at_rest_as (slice_index_or r.nodes.items i b) (made_by i r.air.history)) }
     ensures back { IfErr result (λ e. e.1 ≡ nodes) }
@@ -137,12 +137,12 @@ fn run_on<R: Threads + Wait + Sync, N: SiteNode + Send + Drop, G: Gate>(
     ensures others { (n : ℕ) → count bus.base ≤ n → made_by n result.air.history ≡ [] }
     ensures count { length result.nodes.items ≡ length nodes.items }
     ensures walked { IsTrue N.tells → (i : ℕ) (a : N) (b : _) → i < length nodes.items →
-        Walked N.leads N.phase_of N.stands N.number (slice_index_or nodes.items i a) (slice_index_or result.nodes.items i b) i result.air.history }
+        Walked N.leads N.phase_of N.stands N.number N.spends (slice_index_or nodes.items i a) (slice_index_or result.nodes.items i b) i result.air.history }
     ensures grown { IsTrue N.tells → (i : ℕ) (a : N) (b : _) → i < length nodes.items →
-        WentFar N.leads N.phase_of N.stands N.number N.grown (slice_index_or nodes.items i a) (slice_index_or result.nodes.items i b) }
+        WentFar N.leads N.phase_of N.stands N.number N.spends N.grown (slice_index_or nodes.items i a) (slice_index_or result.nodes.items i b) }
     ensures fault { result.rest ≡ false → HasFault result.nodes.items }
     ensures caused { AreCaused N.faults N.log_faults result.nodes.items }
-    ensures met { (i : ℕ) (b : _) → i < length nodes.items → HasMet N.faults (slice_index_or result.nodes.items i b).0 (made_by i result.air.history) }
+    ensures met { (i : ℕ) (b : _) → i < length nodes.items → HasMet N.faults (slice_index_or result.nodes.items i b).0 (slice_index_or result.nodes.items i b).1 (made_by i result.air.history) }
     ensures rest { IsTrue result.rest → (i : ℕ) (b : _) → i < length nodes.items →
         Rests N.number N.stands N.at_rest_as (slice_index_or result.nodes.items i b) (made_by i result.air.history) }
 {
@@ -206,7 +206,7 @@ fn dismiss<N: SiteNode + Drop>(
     ensures seats { (seats.new.items ≡ map (λ (w : WorkerView N). w.seat) workers.items) × (length workers.items < vec_capacity seats.new) }
     ensures nodes { nodes.new.items ≡ map (λ (w : WorkerView N). (w.node, w.fault)) workers.items }
     ensures caused { AreCaused N.faults N.log_faults nodes.new.items }
-    ensures met { All (λ (w : WorkerView N). HasMet N.faults w.node w.seat.mine) workers.items }
+    ensures met { All (λ (w : WorkerView N). HasMet N.faults w.node w.fault w.seat.mine) workers.items }
 {
     for worker in workers {
         dismiss_one(worker, seats, nodes);
@@ -225,7 +225,7 @@ fn dismiss_one<N: SiteNode + Drop>(
     ensures room { (vec_capacity seats.new ≡ vec_capacity seats.old) × (vec_capacity nodes.new ≡ vec_capacity nodes.old) }
     ensures lens { (vec_len seats.new ≡ vec_len seats.old + 1) × (vec_len nodes.new ≡ vec_len nodes.old + 1) }
     ensures caused { AreCaused N.faults N.log_faults nodes.old.items → AreCaused N.faults N.log_faults nodes.new.items }
-    ensures met { HasMet N.faults worker.node worker.seat.mine }
+    ensures met { HasMet N.faults worker.node worker.fault worker.seat.mine }
 {
     let (node, seat, fault) = worker.into_parts();
     seats.push_reserved(seat);
@@ -243,7 +243,7 @@ fn rounds_of<R: Threads + Wait + Sync, N: SiteNode + Send + Drop, G: Gate>(
     requires buses { All (λ (w : WorkerView N). w.seat.bus ≡ bus.now) workers.items }
     requires last { last.old.bus ≡ bus.now }
     ensures last { (last.new.bus ≡ last.old.bus) × (last.new.number ≡ last.old.number) }
-    ensures went { AllWentOn N.tells N.leads N.phase_of N.stands N.number N.grown workers.items result.0.items }
+    ensures went { AllWentOn N.tells N.leads N.phase_of N.stands N.number N.spends N.grown workers.items result.0.items }
     ensures rest { IsTrue result.1 → All (λ (w : WorkerView N). Rests N.number N.stands N.at_rest_as (w.node, w.fault) w.seat.mine) result.0.items }
     ensures fault { result.1 ≡ false → OneHasFault result.0.items }
 {
@@ -261,7 +261,7 @@ fn rounds<R: Threads + Wait + Sync, N: SiteNode + Send, G: Gate>(
     requires buses { All (λ (w : WorkerView N). w.seat.bus ≡ bus.now) workers.old }
     requires last { last.old.bus ≡ bus.now }
     ensures last { (last.new.bus ≡ last.old.bus) × (last.new.number ≡ last.old.number) }
-    ensures went { AllWentOn N.tells N.leads N.phase_of N.stands N.number N.grown workers.old workers.new }
+    ensures went { AllWentOn N.tells N.leads N.phase_of N.stands N.number N.spends N.grown workers.old workers.new }
     ensures rest { IsTrue result → All (λ (w : WorkerView N). Rests N.number N.stands N.at_rest_as (w.node, w.fault) w.seat.mine) workers.new }
     ensures fault { result ≡ false → OneHasFault workers.new }
 {
@@ -288,7 +288,7 @@ fn round<R: Threads + Wait + Sync, N: SiteNode + Send, G: Gate>(
     tick: bool,
 )
     requires { All (λ (w : WorkerView N). w.seat.bus ≡ bus.now) workers.old }
-    ensures { AllWentOn N.tells N.leads N.phase_of N.stands N.number N.grown workers.old workers.new }
+    ensures { AllWentOn N.tells N.leads N.phase_of N.stands N.number N.spends N.grown workers.old workers.new }
 {
     let threads = workers.len().max(1);
     thread::for_each_mut(
@@ -297,7 +297,7 @@ fn round<R: Threads + Wait + Sync, N: SiteNode + Send, G: Gate>(
         threads,
         &|_, worker: &mut Worker<N>|
             requires { worker.old.seat.bus ≡ bus.now }
-            ensures { WentOn N.tells N.leads N.phase_of N.stands N.number N.grown worker.old worker.new }
+            ensures { WentOn N.tells N.leads N.phase_of N.stands N.number N.spends N.grown worker.old worker.new }
         { take_part(rt, bus, gate, worker, tick) },
     );
 }
@@ -311,7 +311,7 @@ fn take_part<R: Wait, N: SiteNode, G: Gate>(
     tick: bool,
 )
     requires { worker.old.seat.bus ≡ bus.now }
-    ensures { WentOn N.tells N.leads N.phase_of N.stands N.number N.grown worker.old worker.new }
+    ensures { WentOn N.tells N.leads N.phase_of N.stands N.number N.spends N.grown worker.old worker.new }
 {
     if tick {
         worker.ask_tick();

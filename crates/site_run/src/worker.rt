@@ -1,10 +1,11 @@
 // A node with its seat.
-ghost use Rattle.std.specs.Prelude.{◌≡◌, ◌≢◌, ◌≤◌, ℕ, true, false, nat_lt, if◌then◌else◌, Some, None, IsTrue, Ok, OnOk, OnErr, IfErr};
+ghost use Rattle.std.specs.Prelude.{◌≡◌, ◌≢◌, ◌<◌, ◌≤◌, ◌+◌, ℕ, true, false, nat_lt, if◌then◌else◌, Some, None, IsTrue, Ok, OnOk, OnErr, IfErr};
 ghost use Rattle.air_bus.specs.declared.entry.Entry.TheVariants.{Begin};
 ghost use Rattle.air_bus.specs.declared.entry.Phase.TheVariants.{Idle, Busy};
 ghost use Rattle.air_bus.specs.History.{phase};
 ghost use Rattle.site_node.specs.declared.kind.NodeFault.TheVariants as node_fault;
-ghost use Rattle.site_run.specs.Works.{IsIdle, Closes, Grew, Reached, IsCaused, HasMet};
+ghost use Rattle.site_node.specs.Faults.{IsWhole};
+ghost use Rattle.site_run.specs.Works.{IsIdle, Closes, Grew, Reached, IsCaused, HasMet, stop_count};
 
 use air_bus::Input;
 use bus_seat::{Bus, Seat};
@@ -35,7 +36,8 @@ pub struct Worker<N: SiteNode> {
     ghost idle: { fault ≡ None → IsIdle (N.number node) (N.waits node) seat },
     ghost is_up: { fault ≡ None → up ≡ true → phase (N.number node) seat.mine ≡ Idle },
     ghost caused: { IsCaused N.faults N.log_faults node fault },
-    ghost met: { HasMet N.faults node seat.mine },
+    ghost counted: { fault ≡ None → (stops ≡ stop_count seat.mine) × (stops < 8) },
+    ghost met: { HasMet N.faults node fault seat.mine },
 }
 
 impl<N: SiteNode> Model for Worker<N> {
@@ -84,7 +86,7 @@ impl<N: SiteNode> Worker<N> {
         ensures seat { result.1 ≡ self.seat }
         ensures fault { result.2 ≡ self.fault }
         ensures caused { IsCaused N.faults N.log_faults result.0 result.2 }
-        ensures met { HasMet N.faults result.0 result.1.mine }
+        ensures met { HasMet N.faults result.0 result.2 result.1.mine }
     {
         let Worker {
             node,
@@ -122,8 +124,8 @@ impl<N: SiteNode> Worker<N> {
     pub fn work<R: Wait, G: Gate>(&mut self, rt: &R, bus: &Bus, gate: &G)
         requires { self.old.seat.bus ≡ bus.now }
         ensures grew { Grew self.old.seat self.new.seat }
-        ensures leads { IsTrue N.tells → LeadsOn N.leads N.phase_of N.stands N.number self.old.node self.old.fault self.old.seat.mine self.new.node self.new.fault self.new.seat.mine }
-        ensures grows { IsTrue N.tells → GrowsOn N.leads N.phase_of N.stands N.number N.grown self.old.node self.old.fault self.old.seat.mine self.new.node }
+        ensures leads { IsTrue N.tells → LeadsOn N.leads N.phase_of N.stands N.number N.spends self.old.node self.old.fault self.old.seat.mine self.new.node self.new.fault self.new.seat.mine }
+        ensures grows { IsTrue N.tells → GrowsOn N.leads N.phase_of N.stands N.number N.spends N.grown self.old.node self.old.fault self.old.seat.mine self.new.node }
     {
         for _ in 0..u64::MAX {
             if !self.step(rt, bus, gate) {
@@ -137,8 +139,8 @@ impl<N: SiteNode> Worker<N> {
     pub fn step<R: Wait, G: Gate>(&mut self, rt: &R, bus: &Bus, gate: &G) -> bool
         requires { self.old.seat.bus ≡ bus.now }
         ensures grew { Grew self.old.seat self.new.seat }
-        ensures leads { IsTrue N.tells → LeadsOn N.leads N.phase_of N.stands N.number self.old.node self.old.fault self.old.seat.mine self.new.node self.new.fault self.new.seat.mine }
-        ensures grows { IsTrue N.tells → GrowsOn N.leads N.phase_of N.stands N.number N.grown self.old.node self.old.fault self.old.seat.mine self.new.node }
+        ensures leads { IsTrue N.tells → LeadsOn N.leads N.phase_of N.stands N.number N.spends self.old.node self.old.fault self.old.seat.mine self.new.node self.new.fault self.new.seat.mine }
+        ensures grows { IsTrue N.tells → GrowsOn N.leads N.phase_of N.stands N.number N.spends N.grown self.old.node self.old.fault self.old.seat.mine self.new.node }
     {
         if self.fault.is_some() {
             return false;
@@ -207,8 +209,12 @@ fn close<N: SiteNode, R: Wait, G: Gate>(
     ensures ended { result ≡ Ok Closed.Ended → phase (N.number node.new) seat.new.mine ≡ Idle }
     ensures met { result ≡ Ok Closed.Stopped → 1 ≤ N.faults node.new }
     ensures caused { IfErr result (λ fault. IsCaused N.faults N.log_faults node.new (Some fault)) }
-    ensures stops { HasMet N.faults node.old seat.old.mine → HasMet N.faults node.new seat.new.mine }
-    ensures closes { IsTrue N.tells → (s t : N.State) → N.stands node.old s → N.leads s (Begin (N.number node.old) input.now) t → OnOk result (Closes N.leads N.phase_of N.stands N.number node.new t seat.old.mine seat.new.mine) }
+    ensures stops { HasMet N.faults node.old None seat.old.mine → HasMet N.faults node.new None seat.new.mine }
+    ensures no_stop { result ≡ Ok Closed.Ended → stop_count seat.new.mine ≡ stop_count seat.old.mine }
+    ensures one_stop { result ≡ Ok Closed.Stopped → stop_count seat.new.mine ≡ stop_count seat.old.mine + 1 }
+    ensures whole { IsTrue N.tells → (s t : N.State) → N.stands node.old s → N.leads s (Begin (N.number node.old) input.now) t → IfErr result IsWhole }
+    ensures spent { (s : N.State) → N.stands node.old s → IfErr result (λ fault. (epoch : ℕ) → fault ≡ NodeFault.Spent epoch → N.spends s input.now ≡ Some epoch) }
+    ensures closes { IsTrue N.tells → (s t : N.State) → N.stands node.old s → N.leads s (Begin (N.number node.old) input.now) t → OnOk result (Closes N.leads N.phase_of N.stands N.number N.spends node.new t seat.old.mine seat.new.mine) }
     ensures open { IsTrue N.tells → (s t : N.State) → N.stands node.old s → N.leads s (Begin (N.number node.old) input.now) t → OnErr result (N.stands node.new t) }
     ensures grows { IsTrue N.tells → (s t : N.State) → N.stands node.old s → N.leads s (Begin (N.number node.old) input.now) t → (k : ℕ) × Reached N.grown k node.old node.new }
 {
