@@ -32,7 +32,7 @@ use Rattle.store_run.specs.declared.ran.RunLog.{RunLog}
 use Rattle.site_nodes.specs.declared.config.Config.{Config}
 use Rattle.store_run.specs.Asked.{IsSettingOf, IsSettingOver}
 use Rattle.store_run.specs.Logs.{IsOfLogs}
-use Rattle.store_run.specs.Causes.{of_refusal, of_place, IsCounted, IsWelcome, IsWelcomeWhere}
+use Rattle.store_run.specs.Causes.{of_refusal, of_place, IsCounted, IsWelcomeWhere}
 use Rattle.store_run.specs.Left.{HasRun, HasRested, RunLeft, RestLeft}
 
 -- ---- where a run began, and where none did
@@ -73,23 +73,13 @@ refusal_counted Read tells log end_ old new store_old store_new asked kept logs 
 
 pub refusal_welcome : (r : Refusal) (g : Setting) (image : Images) → OpensWelcome g image r → IsWelcomeWhere (LeavesSomething g image) (of_refusal r)
 refusal_welcome (OfDisks (disks.Store disk)) g image welcome = tt
-refusal_welcome (OfDisks (disks.Damaged disk at)) g image welcome = tt
+refusal_welcome (OfDisks (disks.Damaged disk at)) g image welcome = welcome
 refusal_welcome (OfDisks disks.Memory) g image welcome = tt
 refusal_welcome (Joiners a b) g image welcome = welcome
 refusal_welcome (Table a b) g image welcome = absurd welcome
 refusal_welcome (Place p) g image welcome = absurd welcome
 refusal_welcome (Limit disk value) g image welcome = tt
 refusal_welcome Read g image welcome = tt
-
--- ---- what is welcome
-
-pub welcome_too : (holds : Type 0) (f : RunFault) → IsWelcome f → IsWelcomeWhere holds f
-welcome_too holds (fault.Read log) welcome = tt
-welcome_too holds (fault.Store place) welcome = tt
-welcome_too holds (fault.Damaged disk at) welcome = tt
-welcome_too holds (fault.Topology what) welcome = absurd welcome
-welcome_too holds (fault.Limit disk value) welcome = tt
-welcome_too holds fault.Memory welcome = tt
 
 -- ---- the log that is read and put back
 
@@ -134,7 +124,7 @@ logs_counted fault.Memory rose stores of = tt
 pub logs_welcome : (f : RunFault) (rose holds : Type 0) → IsOfLogs rose f → IsWelcomeWhere holds f
 logs_welcome (fault.Read log) rose holds of = tt
 logs_welcome (fault.Store place) rose holds of = tt
-logs_welcome (fault.Damaged disk at) rose holds of = tt
+logs_welcome (fault.Damaged disk at) rose holds of = absurd of
 logs_welcome (fault.Topology what) rose holds of = absurd of
 logs_welcome (fault.Limit disk value) rose holds of = tt
 logs_welcome fault.Memory rose holds of = tt
@@ -160,7 +150,7 @@ counted_more fault.Memory logs stores logs_too stores_too more_logs more_stores 
 pub welcome_where : (f : RunFault) (holds less : Type 0) → (less → holds) → IsWelcomeWhere holds f → IsWelcomeWhere less f
 welcome_where (fault.Read log) holds less from is = tt
 welcome_where (fault.Store place) holds less from is = tt
-welcome_where (fault.Damaged disk at) holds less from is = tt
+welcome_where (fault.Damaged disk at) holds less from is = λ l. is (from l)
 welcome_where (fault.Topology (mismatch.Joiners kept asked)) holds less from is = λ l. is (from l)
 welcome_where (fault.Topology (mismatch.Table kept asked)) holds less from is = absurd is
 welcome_where (fault.Topology (mismatch.Place disk kept floor)) holds less from is = absurd is

@@ -16,7 +16,7 @@ use Rattle.site_nodes.proofs.Naming.{site_named}
 use Rattle.store_laws.specs.Stores.{Images, IsDisk, AreKept, joiner_of}
 use Rattle.store_laws.proofs.Naming.{is_joiner}
 use Rattle.store_run.specs.Laws.{AllHold, IsLeftBy, KeepsItsRecord}
-use Rattle.store_run.proofs.Places.{IsDiskOf, from_place, at_place, node_with, owner, no_node, names_of}
+use Rattle.store_run.proofs.Places.{IsDiskOf, from_place, at_place, node_with, owner, of_setting, no_node, names_of}
 
 some_of : {A : Type 0} (xs : List A) → 0 < length xs → A
 some_of [] l = absurd (omega (arith, l))
@@ -77,7 +77,17 @@ module _ {N D : Type 0} (image : D → List ℕ → Type 0) (disks_of : ℕ → 
       record { one = x.one; among = subst (λ n. Mem x.one (disks_at n a_node)) (sym same) has.among; named = x.named; may = x.may })
       x.among
 
-  topology_image : (c : List ℕ) → IsOfOne image every_disk name.Topology c → image topology.disk c
+  -- what is left is of a disk of the setting
+  pub disk_there : (disk : DiskName) → disk ≢ name.Topology → (c : List ℕ) → IsOfOne image every_disk disk c → IsDisk g disk
+  disk_there disk other c x =
+      ⊎_elim
+      (λ e. absurd (other (sym x.named ∙ ap (λ (l : Lent D). l.name) (sym e) ∙ named)))
+      (λ m.
+      let has = node_of_disk x.one m in
+      of_setting g all.replicas has.node disk has.is (subst (λ d. IsDiskOf g.joiners has.node d) x.named (names_of image g.joiners has.node (at has.node) (disks_at has.node a_node) (all.each has.node has.is a_node) x.one has.among)))
+      x.among
+
+  pub topology_image : (c : List ℕ) → IsOfOne image every_disk name.Topology c → image topology.disk c
   topology_image c x =
       ⊎_elim (λ e. subst (λ (l : Lent D). image l.disk c) (sym e) x.may)
       (λ m.

@@ -15,5 +15,6 @@ pub mod Entering
 pub mod Opened
 pub mod Entered
 pub mod Running
+pub mod Refusing
 pub mod Bounds
 pub mod Joining

@@ -1,5 +1,5 @@
 -- Lists that are put together place by place, and whose disk a name is.
-use Rattle.std.proofs.Common.{◌≡◌, ⊎_elim, ℕ, zero, suc, ◌+◌, ◌-◌, ◌*◌, ◌<◌, ◌≤◌, nat_lt, true, false, cond, List, [], ◌∷◌, length, refl, sym, ap, ◌∙◌, subst, arith}
+use Rattle.std.proofs.Common.{◌≡◌, ⊎_elim, ℕ, zero, suc, ◌+◌, ◌-◌, ◌*◌, ◌<◌, ◌≤◌, nat_lt, Bool, true, false, cond, List, [], ◌∷◌, length, refl, sym, ap, ◌∙◌, subst, arith}
 use Rattle.std.specs.Prelude.{slice_index_or}
 use Rattle.std.proofs.lemmas.Bool.{cases_lt, lt-ltb, le-ltb}
 use Rattle.list_words.specs.Lists.{Mem, Each}
@@ -87,6 +87,32 @@ owner g three (Replica r) _ is has = absurd has
 owner g three (Joiner n) (name.Epoch s j) is has = ap (λ x. Joiner x) (number_back g.joiners g.replicas n s j three is.0 has.0 has.1)
 owner g three (Joiner n) (name.Output s j) is has = ap (λ x. Joiner x) (number_back g.joiners g.replicas n s j three is.0 has.0 has.1)
 owner g three (Joiner n) _ is has = absurd has
+
+-- and that name is one of the setting's
+place_within : (joiners replicas n : ℕ) → replicas ≡ 3 → 4 + replicas ≤ n → n < 4 + replicas + 2 * joiners → (site_of joiners n < 2) × (joiner_of joiners n < joiners)
+place_within joiners replicas n three low high =
+    ⊎_elim
+    (λ l.
+    let lt : nat_lt (place_of n) joiners ≡ true = lt-ltb (place_of n) joiners l in
+    (subst (λ (t : Bool). cond t 0 1 < 2) (sym lt) (omega arith), subst (λ (t : Bool). cond t (place_of n) (place_of n - joiners) < joiners) (sym lt) l))
+    (λ l.
+    let ge : nat_lt (place_of n) joiners ≡ false = le-ltb (place_of n) joiners l in
+    (subst (λ (t : Bool). cond t 0 1 < 2) (sym ge) (omega arith), subst (λ (t : Bool). cond t (place_of n) (place_of n - joiners) < joiners) (sym ge) (omega (arith, three, low, high, l))))
+    (cases_lt (place_of n) joiners)
+
+pub of_setting : (g : Setting) → g.replicas ≡ 3 → (n : Node) (disk : DiskName) → IsNode g n → IsDiskOf g.joiners n disk → stores.IsDisk g disk
+of_setting g three (Dispatcher s) (name.Offset t) is has = subst (λ k. k < 2) (sym has) is
+of_setting g three (Dispatcher s) (name.Retry t) is has = subst (λ k. k < 2) (sym has) is
+of_setting g three (Dispatcher s) _ is has = absurd has
+of_setting g three (Server s) (name.Server t) is has = subst (λ k. k < 2) (sym has) is
+of_setting g three (Server s) _ is has = absurd has
+of_setting g three (Replica r) (name.Replica t) is has = subst (λ k. k < g.replicas) (sym has) is
+of_setting g three (Replica r) _ is has = absurd has
+of_setting g three (Joiner n) (name.Epoch s j) is has =
+    let within = place_within g.joiners g.replicas n three is.0 is.1 in (subst (λ k. k < 2) (sym has.0) within.0, subst (λ k. k < g.joiners) (sym has.1) within.1)
+of_setting g three (Joiner n) (name.Output s j) is has =
+    let within = place_within g.joiners g.replicas n three is.0 is.1 in (subst (λ k. k < 2) (sym has.0) within.0, subst (λ k. k < g.joiners) (sym has.1) within.1)
+of_setting g three (Joiner n) _ is has = absurd has
 
 -- no node has the topology's
 pub no_node : (joiners : ℕ) (n : Node) → IsDiskOf joiners n name.Topology → ⊥

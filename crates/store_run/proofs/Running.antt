@@ -1,10 +1,12 @@
 -- From what a run leaves of each node to what it leaves of the store.
-use Rattle.std.specs.Prelude.{IsTrue, IsSome}
-use Rattle.std.proofs.Common.{◌≡◌, inr, ⊎_elim, ℕ, zero, suc, ◌+◌, ◌<◌, ◌≤◌, List, [], ◌∷◌, ◌++◌, length, map, slice_index_or, Bool, true, false, Option, None, Some, refl, sym, ap, ◌∙◌, subst, arith}
+use Rattle.std.specs.Prelude.{IsTrue, IsSome, option_map}
+use Rattle.std.specs.List.{list_any}
+use Rattle.std.proofs.Common.{◌≡◌, ◌≢◌, ◌⊎◌, inl, inr, ⊎_elim, ℕ, zero, suc, ◌+◌, ◌<◌, ◌≤◌, List, [], ◌∷◌, ◌++◌, length, map, slice_index_or, Bool, true, false, Option, None, Some, refl, sym, ap, ◌∙◌, subst, arith}
 use Rattle.std.proofs.lemmas.List.Elements.{recursion_from_All}
 use Rattle.list_words.specs.Lists.{Mem, Each}
-use Rattle.list_words.proofs.Lists.{mem_left, mem_right}
+use Rattle.list_words.proofs.Lists.{mem_left, mem_right, some_same}
 use Rattle.outside.specs.declared.store.DiskName.{DiskName}
+use Rattle.outside.specs.declared.store.DiskName.TheVariants as name
 use Rattle.air_bus.specs.declared.entry.Entry.{Entry as BusEntry}
 use Rattle.air_bus.specs.declared.entry.Input.{Input as Bytes}
 use Rattle.air_bus.specs.declared.entry.Phase.TheVariants.{Idle}
@@ -18,19 +20,27 @@ use Rattle.site_node.specs.declared.kind.NodeFault.TheVariants as node
 use Rattle.photon_defs.specs.Runs.{World, Disks, disks, world_after, opening}
 use Rattle.photon_model.specs.EveryRun.{NoJoinerStops}
 use Rattle.photon_model.specs.Verification.{AreOf}
+use Rattle.run_faults.specs.declared.fault.StorePlace.TheVariants as at
 use Rattle.run_faults.specs.declared.fault.RunFault.{RunFault}
-use Rattle.site_disks.specs.Lent.{Lent, GoesOn, MayBeLeft}
+use Rattle.site_disks.specs.Kinds.{damaged_by}
+use Rattle.site_disks.specs.Refusals.{IsJournalOf}
+use Rattle.site_disks.proofs.Undamaged.{undamaged}
+use Rattle.site_disks.specs.Lent.{Lent, GoesOn, IsOfOne, MayBeLeft}
 use Rattle.site_laws.specs.Kinds.{StateOf, kept_of, cell_of}
 use Rattle.site_laws.specs.Laws.{made_by}
-use Rattle.site_run.specs.Works.{HasMet, IsCaused}
+use Rattle.site_run.specs.Works.{HasMet, IsCaused, is_stop}
 use Rattle.site_run.specs.Rounds.{AreCaused, HasFault}
 use Rattle.both_sites.specs.AnyNodes.{AnyState, any_of, any_phase}
-use Rattle.both_sites.specs.Running.{IsRunFrom, HaveGrown}
+use Rattle.both_sites.specs.Running.{IsRunFrom, HaveGrown, ComesToLast}
 use Rattle.site_nodes.specs.Naming.{all_from}
-use Rattle.store_laws.specs.Stores.{Images, IsDisk, AreKept, KeepsOf}
+use Rattle.topology_journal.specs.Topologies as journal
+use Rattle.photon_defs.specs.Topology.{Topology, topology_of}
+use Rattle.store_laws.specs.Stores.{Images, IsDisk, AreKept, KeepsOf, KeepsTopology}
 use Rattle.verify_pass.specs.declared.journals.Journals.{Journals}
 use Rattle.store_run.specs.Asked.{IsRosterOf}
+use Rattle.store_opening.proofs.Damage.{notes_kept as votes_are_notes}
 use Rattle.store_run.specs.Causes.{of_node, IsCounted, IsOfDisks, IsWelcome}
+use Rattle.store_run.specs.Refused.{HasEnded, IsOfRun, OneKept}
 use Rattle.store_run.specs.Held.{HoldsAs, HasGoneOn, HaveGoneOn}
 use Rattle.store_run.specs.Laws.{AllHold, AreHeld, AreMet, IsLeftBy, KeepsItsRecord, NoneStops}
 use Rattle.store_run.specs.Left.{HasRun, HasRested}
@@ -41,7 +51,7 @@ use Rattle.site_disks.specs.Votes.{KeepsNotes}
 use Rattle.store_laws.specs.Laws.{HoldSameRecords, ReadNotesAreKept}
 use Rattle.store_run.specs.Settled.{told_of, or_else, first_fault, lent_replicas, lent_outputs, AreKeptIn}
 use Rattle.store_run.proofs.Going.{with_length, all_nodes_gone_on}
-use Rattle.store_run.proofs.Keeping.{keeps, none_lacks}
+use Rattle.store_run.proofs.Keeping.{keeps, none_lacks, disk_there, topology_image}
 use Rattle.store_run.proofs.Outing.{given_goes_on, gone_out}
 use Rattle.store_run.proofs.Places.{at_place}
 use Rattle.store_run.proofs.ReadBack.{read_is}
@@ -69,6 +79,49 @@ kept_same w (Joiner j) = refl
 pub some_of : {A : Type 0} (xs : List A) → 0 < length xs → A
 some_of [] l = absurd (omega (arith, l))
 some_of (x ∷ xs) l = x
+
+-- ---- the node of the first fault
+
+-- the fault that is told is that of the node at this place
+record IsToldAt {N : Type 0} (joiners first : ℕ) (ws : List (N × Option NodeFault)) (f : RunFault) : Type 0 where
+  place : ℕ
+  number : ℕ
+  within : place < length ws
+  counted : number ≡ first + place
+  told : (b : N × Option NodeFault) → (fault : NodeFault) × ((slice_index_or ws place b).1 ≡ Some fault) × (f ≡ of_node joiners number fault)
+
+told_later : {N : Type 0} (joiners first : ℕ) (w : N × Option NodeFault) (ws : List (N × Option NodeFault)) (f : RunFault) → IsToldAt joiners (suc first) ws f → IsToldAt joiners first (w ∷ ws) f
+told_later joiners first w ws f r = record { place = suc r.place; number = r.number; within = omega (arith, r.within); counted = omega (arith, r.counted); told = λ b. r.told b }
+
+-- of the first node, or of a later one
+told_here : {N : Type 0} (joiners first : ℕ) (w : N × Option NodeFault) (ws : List (N × Option NodeFault)) (f : RunFault) → (first_fault joiners (suc first) ws ≡ Some f → IsToldAt joiners (suc first) ws f)
+    → (o : Option NodeFault) → w.1 ≡ o → or_else (told_of joiners first o) (first_fault joiners (suc first) ws) ≡ Some f → IsToldAt joiners first (w ∷ ws) f
+told_here joiners first w ws f later None none is = told_later joiners first w ws f (later is)
+told_here joiners first w ws f later (Some fault) some is = record {
+  place = 0;
+  number = first;
+  within = omega arith;
+  counted = omega arith;
+  told = λ b. (fault, some, sym (some_same (of_node joiners first fault) f is));
+}
+
+told_at : {N : Type 0} (joiners first : ℕ) (ws : List (N × Option NodeFault)) (f : RunFault) → first_fault joiners first ws ≡ Some f → IsToldAt joiners first ws f
+told_at joiners first [] f is = absurd (cc is)
+told_at joiners first (w ∷ ws) f is = told_here joiners first w ws f (told_at joiners (suc first) ws f) w.1 refl is
+
+-- what the topology's disk keeps is a journal of its kind
+topology_kept : (t : Option Topology) (c : List ℕ) → KeepsTopology t c → IsJournalOf name.Topology c
+topology_kept t c keeps = (option_map (λ (u : Topology). journal.topology_of u.joiners u.table) t, keeps)
+
+-- and what a disk of records keeps
+journal_of : (g : Setting) (d : Disks) (disk : DiskName) → disk ≢ name.Topology → IsDisk g disk → (c : List ℕ) → KeepsOf g d disk c → IsJournalOf disk c
+journal_of g d name.Topology other is c keeps = absurd (other refl)
+journal_of g d (name.Offset s) other is c keeps = (_, keeps)
+journal_of g d (name.Retry s) other is c keeps = (_, keeps)
+journal_of g d (name.Server s) other is c keeps = (_, keeps)
+journal_of g d (name.Replica r) other is c keeps = (_, votes_are_notes (d.replicas r) c keeps)
+journal_of g d (name.Epoch s j) other is c keeps = (_, keeps)
+journal_of g d (name.Output s j) other is c keeps = (_, keeps)
 
 -- ---- what a run leaves
 
@@ -137,7 +190,7 @@ module _ {N D : Type 0} (image : D → List ℕ → Type 0) (places : N → AnyS
   -- ---- unless a disk met a fault no joiner has stopped
 
   module _ {L : Type 0} (disk_faults : D → ℕ) (log_faults : L → ℕ) (faults read_faults : N → ℕ) (logs_of : N → List L) (met : AreMet disk_faults log_faults faults read_faults disks_of logs_of) where
-    pub no_stops : NoneStops → ((i : ℕ) (b : N × Option NodeFault) → i < length ws → HasMet faults (slice_index_or ws i b).0 (made_by i h)) → (faulted : Type 0)
+    pub no_stops : NoneStops → ((i : ℕ) (b : N × Option NodeFault) → i < length ws → HasMet faults (slice_index_or ws i b).0 (slice_index_or ws i b).1 (made_by i h)) → (faulted : Type 0)
         → ((l : Lent D) → Mem l (topology ∷ all_from disks_at 0 ws) → 1 ≤ disk_faults l.disk → faulted) → (faulted → ⊥) → NoJoinerStops left.entries
     no_stops law stopped faulted rises never =
         law g d h left.at left.entries left.run
@@ -146,6 +199,69 @@ module _ {N D : Type 0} (image : D → List ℕ → Type 0) (places : N → AnyS
         let b = some_of ws (omega (arith, below)) in
         let l = met.disks joiners j (slice_index_or ws j b).0 ((stopped j b below).stops has) in
         never (rises l.0 (inr (at_place disks_at 0 j j ws b l.0 below (omega arith) l.1)) l.2))
+
+  -- ---- what is told where the run isn't at rest
+
+  module _ (resting : IsTrue rest) where
+    -- at rest whatever a stop leaves of a disk is a journal of its kind
+    undamaged_now : (disk : DiskName) (at : ℕ) (c : List ℕ) → disk ≢ name.Topology → IsOfOne image (topology ∷ all_from disks_at 0 ws) disk c → damaged_by disk c at → ⊥
+    undamaged_now disk at c other here =
+        let is = disk_there image disks_at g left.at ws topology numbers hold kept.named disk other c here in
+        undamaged disk c at (journal_of g (disks (world_after g (opening d) left.entries)) disk other is c
+        (all_keep image disks_at g left.at ws topology numbers (keep resting) kept.named (disks (world_after g (opening d) left.entries)) (same resting) disk is c here))
+
+    pub never_damaged : (disk : DiskName) (at : ℕ) (c : List ℕ) → IsOfOne image (topology ∷ all_from disks_at 0 ws) disk c → damaged_by disk c at → ⊥
+    never_damaged name.Topology at c here = undamaged name.Topology c at (topology_kept (Some (topology_of g)) c (kept.keeps c (topology_image image disks_at g left.at ws topology numbers hold kept.named c here)))
+    never_damaged (name.Offset s) at c here = undamaged_now (name.Offset s) at c (λ e. absurd (cc e)) here
+    never_damaged (name.Retry s) at c here = undamaged_now (name.Retry s) at c (λ e. absurd (cc e)) here
+    never_damaged (name.Server s) at c here = undamaged_now (name.Server s) at c (λ e. absurd (cc e)) here
+    never_damaged (name.Replica r) at c here = undamaged_now (name.Replica r) at c (λ e. absurd (cc e)) here
+    never_damaged (name.Epoch s j) at c here = undamaged_now (name.Epoch s j) at c (λ e. absurd (cc e)) here
+    never_damaged (name.Output s j) at c here = undamaged_now (name.Output s j) at c (λ e. absurd (cc e)) here
+
+    -- so a fault of reading them back is none of damage
+    pub read_back_of : (faulted : Type 0) (f : RunFault) → (tells : Bool) → IsTrue tells → IsOfDisks tells image (topology ∷ all_from disks_at 0 ws) faulted f → IsOfRun g d faulted f
+    read_back_of faulted (run.Read log) tells sure of = tt
+    read_back_of faulted (run.Store place) tells sure of = tt
+    read_back_of faulted (run.Damaged disk at) tells sure of = let x = of sure in never_damaged disk at x.0 x.1 x.2
+    read_back_of faulted (run.Topology what) tells sure of = absurd of
+    read_back_of faulted (run.Limit disk value) tells sure of = absurd of
+    read_back_of faulted run.Memory tells sure of = tt
+
+  module _ {L : Type 0} (disk_faults : D → ℕ) (log_faults : L → ℕ) (faults read_faults : N → ℕ) (logs_of : N → List L) (met : AreMet disk_faults log_faults faults read_faults disks_of logs_of)
+      (stopped : (i : ℕ) (b : N × Option NodeFault) → i < length ws → HasMet faults (slice_index_or ws i b).0 (slice_index_or ws i b).1 (made_by i h)) (faulted : Type 0)
+      (rises : (l : Lent D) → Mem l (topology ∷ all_from disks_at 0 ws) → 1 ≤ disk_faults l.disk → faulted) where
+    has_stopped : (n : Node) → IsNode g n → list_any is_stop (made_by (node_number n) h) ≡ true → faulted
+    has_stopped n is has =
+        let j = node_number n in
+        let below : j < length ws = let under = numbers.below n is in omega (arith, under, count) in
+        let b = some_of ws (omega (arith, below)) in
+        let l = met.disks joiners j (slice_index_or ws j b).0 ((stopped j b below).stops has) in
+        rises l.0 (inr (at_place disks_at 0 j j ws b l.0 below (omega arith) l.1)) l.2
+
+    came_to : (n : Node) (epoch : ℕ) → IsNode g n → ComesToLast d h n epoch → (epoch ≡ 4294967294) × (OneKept g d epoch ⊎ faulted)
+    came_to (Dispatcher s) epoch is came = absurd came
+    came_to (Server s) epoch is came = (came.0, ⊎_elim (λ same. inl (Server s, is, same)) (λ has. inr (has_stopped (Server s) is has)) came.1)
+    came_to (Replica r) epoch is came = absurd came
+    came_to (Joiner j) epoch is came = (came.0, ⊎_elim (λ same. inl (Joiner j, is, same)) (λ has. inr (has_stopped (Joiner j) is has)) came.1)
+
+    -- what is told of a node
+    node_told : (n : Node) → IsNode g n → (b : N × Option NodeFault) (f : NodeFault) → (slice_index_or ws (node_number n) b).1 ≡ Some f → (k : ℕ) → IsOfRun g d faulted (of_node joiners k f)
+    node_told n is b node.Stopped told k = tt
+    node_told n is b (node.Damaged disk at) told k = left.whole n is b disk at told
+    node_told n is b node.Read told k = tt
+    node_told n is b (node.Spent epoch) told k = came_to n epoch is (left.spent n is b epoch told)
+    node_told n is b node.Memory told k = tt
+
+    -- and so what is told of the first that has a fault
+    pub first_told : (f : RunFault) → first_fault joiners 0 ws ≡ Some f → IsOfRun g d faulted f
+    first_told f is =
+        let t = told_at joiners 0 ws f is in
+        let b = some_of ws (omega (arith, t.within)) in
+        let n = numbers.each t.place (omega (arith, t.within, count)) in
+        let back = numbers.back t.place n.0 n.1 in
+        let at = t.told b in
+        subst (IsOfRun g d faulted) (sym at.2) (node_told n.0 back.1 b at.0 (subst (λ k. (slice_index_or ws k b).1 ≡ Some at.0) (sym back.0) at.1) t.number)
 
 -- ---- how the disks have gone on
 
@@ -239,13 +355,39 @@ module _ {N D L : Type 0} (disk_faults : D → ℕ) (log_faults : L → ℕ) (fa
 
 -- ---- a fault of the disks
 
-pub disks_counted : (logs_rose disks_rose : Type 0) (f : RunFault) → IsOfDisks disks_rose f → IsCounted logs_rose disks_rose f × IsWelcome f
-disks_counted logs_rose disks_rose (run.Read log) of = absurd of
-disks_counted logs_rose disks_rose (run.Store place) of = (of, tt)
-disks_counted logs_rose disks_rose (run.Damaged disk at) of = (tt, tt)
-disks_counted logs_rose disks_rose (run.Topology what) of = absurd of
-disks_counted logs_rose disks_rose (run.Limit disk value) of = absurd of
-disks_counted logs_rose disks_rose run.Memory of = (tt, tt)
+pub disks_counted : {D : Type 0} (tells : Bool) (image : D → List ℕ → Type 0) (lent : List (Lent D)) (logs_rose disks_rose : Type 0) (f : RunFault) → IsOfDisks tells image lent disks_rose f → IsCounted logs_rose disks_rose f × IsWelcome f
+disks_counted tells image lent logs_rose disks_rose (run.Read log) of = absurd of
+disks_counted tells image lent logs_rose disks_rose (run.Store at.Directory) of = absurd of
+disks_counted tells image lent logs_rose disks_rose (run.Store (at.Disk disk)) of = (of, tt)
+disks_counted tells image lent logs_rose disks_rose (run.Store (at.Node number)) of = absurd of
+disks_counted tells image lent logs_rose disks_rose (run.Damaged disk at) of = (tt, tt)
+disks_counted tells image lent logs_rose disks_rose (run.Topology what) of = absurd of
+disks_counted tells image lent logs_rose disks_rose (run.Limit disk value) of = absurd of
+disks_counted tells image lent logs_rose disks_rose run.Memory of = (tt, tt)
+
+-- and of no node
+pub disks_alone : {D : Type 0} (tells : Bool) (image : D → List ℕ → Type 0) (lent : List (Lent D)) (disks_rose P : Type 0) (f : RunFault) (n : ℕ) → IsOfDisks tells image lent disks_rose f → f ≡ run.Store (at.Node n) → P
+disks_alone tells image lent disks_rose P f n of is = absurd (subst (IsOfDisks tells image lent disks_rose) is of)
+
+-- ---- a fault that names a node
+
+node_named : (joiners n k : ℕ) (nf : NodeFault) → run.Store (at.Node n) ≡ of_node joiners k nf → (nf ≡ node.Stopped) × (n ≡ k)
+node_named joiners n k node.Stopped is = (refl, cc)
+node_named joiners n k (node.Damaged disk place) is = absurd (cc is)
+node_named joiners n k node.Read is = absurd (cc is)
+node_named joiners n k (node.Spent epoch) is = absurd (cc is)
+node_named joiners n k node.Memory is = absurd (cc is)
+
+-- it is of one whose work has ended so
+pub first_ended : {N : Type 0} (faults : N → ℕ) (joiners : ℕ) (h : List BusEntry) (ws : List (N × Option NodeFault)) → ((i : ℕ) (b : N × Option NodeFault) → i < length ws → HasMet faults (slice_index_or ws i b).0 (slice_index_or ws i b).1 (made_by i h))
+    → (f : RunFault) (n : ℕ) → first_fault joiners 0 ws ≡ Some f → f ≡ run.Store (at.Node n) → HasEnded n h
+first_ended {N} faults joiners h ws met f n is named =
+    let t = told_at joiners 0 ws f is in
+    let b = some_of ws (omega (arith, t.within)) in
+    let x = t.told b in
+    let w = node_named joiners n t.number x.0 (sym named ∙ x.2) in
+    let same : n ≡ t.place = omega (arith, w.1, t.counted) in
+    subst (λ k. HasEnded k h) (sym same) (λ closed. (met t.place b t.within).ended (x.1 ∙ ap (λ (y : NodeFault). Some y) w.0) closed)
 
 -- ---- where none is told no node has one
 

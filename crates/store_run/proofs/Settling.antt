@@ -6,6 +6,7 @@ use Rattle.list_words.specs.Lists.{Mem, Each}
 use Rattle.outside.specs.declared.store.DiskName.{DiskName}
 use Rattle.site_disks.specs.declared.fault.DisksFault.{DisksFault}
 use Rattle.site_disks.specs.declared.fault.DisksFault.TheVariants as disks
+use Rattle.site_disks.specs.Kinds.{damaged_by}
 use Rattle.site_disks.specs.Lent.{Lent, Lacks, IsOfOne, MayBeLeft}
 use Rattle.lent_disks.specs.declared.lent.LentDisk.{LentDisk}
 use Rattle.lent_disks.specs.ReadBack.{EachWith, OneWith, AreReadFrom, IsOnlyRead, IsToldBy, AreAmongImages}
@@ -87,16 +88,27 @@ module _ {D : Type 0} (tells : Bool) (seen : D → List ℕ) (image : D → List
 
   -- a fault of reading is one of a disk
   told_store : (disk : DiskName) (olds news : List (LentDisk D)) (rose : Type 0) → ((l : Lent D) → Mem l (map as_lent news) → 1 ≤ faults l.disk → rose)
-      → OneWith (λ old new. IsToldBy tells seen faults old new (disks.Store disk)) olds news → rose
+      → OneWith (λ old new. IsToldBy tells image faults old new (disks.Store disk)) olds news → rose
   told_store disk [] news rose rises one = absurd one
   told_store disk (o ∷ olds) [] rose rises one = absurd one
   told_store disk (o ∷ olds) (n ∷ news) rose rises one =
       ⊎_elim (λ here. rises (as_lent n) (inl refl) (omega (arith, here.1))) (λ later. told_store disk olds news rose (λ l among some. rises l (inr among) some) later) one
 
+  -- or of bytes that may be left of one
+  told_damaged : (disk : DiskName) (at : ℕ) (olds news : List (LentDisk D)) → OneWith (λ old new. IsToldBy tells image faults old new (disks.Damaged disk at)) olds news → IsTrue tells
+      → (c : List ℕ) × IsOfOne image (map as_lent olds) disk c × damaged_by disk c at
+  told_damaged disk at [] news one sure = absurd one
+  told_damaged disk at (o ∷ olds) [] one sure = absurd one
+  told_damaged disk at (o ∷ olds) (n ∷ news) one sure =
+      ⊎_elim
+      (λ here. let x = here.1 sure in (x.0, record { one = as_lent o; among = inl refl; named = here.0; may = x.1 }, x.2))
+      (λ later. let r = told_damaged disk at olds news later sure in (r.0, record { one = r.1.one; among = inr r.1.among; named = r.1.named; may = r.1.may }, r.2))
+      one
+
   pub told_counted : (fault : DisksFault) (olds news : List (LentDisk D)) (rose : Type 0) → ((l : Lent D) → Mem l (map as_lent news) → 1 ≤ faults l.disk → rose)
-      → OneWith (λ old new. IsToldBy tells seen faults old new fault) olds news → IsOfDisks rose (of_disks fault)
+      → OneWith (λ old new. IsToldBy tells image faults old new fault) olds news → IsOfDisks tells image (map as_lent olds) rose (of_disks fault)
   told_counted (disks.Store disk) olds news rose rises one = told_store disk olds news rose rises one
-  told_counted (disks.Damaged disk at) olds news rose rises one = tt
+  told_counted (disks.Damaged disk at) olds news rose rises one = told_damaged disk at olds news one
   told_counted disks.Memory olds news rose rises one = tt
 
   -- ---- what was read

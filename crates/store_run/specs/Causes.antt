@@ -1,5 +1,5 @@
 -- Why a run gives up.
-use Rattle.std.specs.Prelude.{ℕ, ◌-◌, nat_lt, if◌then◌else◌, ⊤}
+use Rattle.std.specs.Prelude.{ℕ, ◌-◌, nat_lt, if◌then◌else◌, List, Bool, IsTrue, ⊤}
 use Rattle.outside.specs.declared.store.DiskName.{DiskName}
 use Rattle.outside.specs.declared.store.DiskName.TheVariants as name
 use Rattle.outside.specs.declared.faults.StoreFault.{StoreFault}
@@ -10,6 +10,8 @@ use Rattle.run_faults.specs.declared.fault.StorePlace.TheVariants as place
 use Rattle.run_faults.specs.declared.fault.Mismatch.TheVariants as mismatch
 use Rattle.run_faults.specs.declared.fault.RunFault.{RunFault}
 use Rattle.run_faults.specs.declared.fault.RunFault.TheVariants as fault
+use Rattle.site_disks.specs.Kinds.{damaged_by}
+use Rattle.site_disks.specs.Lent.{Lent, IsOfOne}
 use Rattle.site_disks.specs.declared.fault.DisksFault.{DisksFault}
 use Rattle.site_disks.specs.declared.fault.DisksFault.TheVariants as disks
 use Rattle.site_node.specs.declared.kind.NodeFault.{NodeFault}
@@ -66,14 +68,17 @@ IsCounted logs disks (fault.Topology what) = ⊤
 IsCounted logs disks (fault.Limit disk value) = ⊤
 IsCounted logs disks fault.Memory = ⊤
 
--- A fault of disks that were read or written: it raised the store's count, or the bytes of one are no journal of its kind.
-abbrev pub IsOfDisks : Type 0 → RunFault → Type 0
-IsOfDisks rose (fault.Read log) = ⊥
-IsOfDisks rose (fault.Store place) = rose
-IsOfDisks rose (fault.Damaged disk at) = ⊤
-IsOfDisks rose (fault.Topology what) = ⊥
-IsOfDisks rose (fault.Limit disk value) = ⊥
-IsOfDisks rose fault.Memory = ⊤
+-- A fault of disks that were read or written: it raised the store's count, or what a stop may leave of one of these disks is no
+-- journal of its kind.
+abbrev pub IsOfDisks : {D : Type 0} → Bool → (D → List ℕ → Type 0) → List (Lent D) → Type 0 → RunFault → Type 0
+IsOfDisks tells image lent rose (fault.Read log) = ⊥
+IsOfDisks tells image lent rose (fault.Store place.Directory) = ⊥
+IsOfDisks tells image lent rose (fault.Store (place.Disk disk)) = rose
+IsOfDisks tells image lent rose (fault.Store (place.Node number)) = ⊥
+IsOfDisks tells image lent rose (fault.Damaged disk at) = IsTrue tells → (c : List ℕ) × IsOfOne image lent disk c × damaged_by disk c at
+IsOfDisks tells image lent rose (fault.Topology what) = ⊥
+IsOfDisks tells image lent rose (fault.Limit disk value) = ⊥
+IsOfDisks tells image lent rose fault.Memory = ⊤
 
 -- a run over a store that was opened isn't given up for its topology or its places
 abbrev pub IsWelcome : RunFault → Type 0
@@ -84,11 +89,12 @@ IsWelcome (fault.Topology what) = ⊥
 IsWelcome (fault.Limit disk value) = ⊤
 IsWelcome fault.Memory = ⊤
 
--- a store that is sound isn't refused for the table or the places that it keeps, nor for its number of joiners where this holds
+-- a store that is sound isn't refused for the table or the places that it keeps, nor where this holds for its number of joiners or
+-- for a damaged disk
 abbrev pub IsWelcomeWhere : Type 0 → RunFault → Type 0
 IsWelcomeWhere holds (fault.Read log) = ⊤
 IsWelcomeWhere holds (fault.Store place) = ⊤
-IsWelcomeWhere holds (fault.Damaged disk at) = ⊤
+IsWelcomeWhere holds (fault.Damaged disk at) = holds → ⊥
 IsWelcomeWhere holds (fault.Topology (mismatch.Joiners kept asked)) = holds → ⊥
 IsWelcomeWhere holds (fault.Topology (mismatch.Table kept asked)) = ⊥
 IsWelcomeWhere holds (fault.Topology (mismatch.Place disk kept floor)) = ⊥

@@ -1,6 +1,7 @@
 pub mod Asked
 pub mod Logs
 pub mod Causes
+pub mod Refused
 pub mod Settled
 pub mod Out
 pub mod Held

@@ -1,5 +1,5 @@
 // The run.
-ghost use Rattle.std.specs.Prelude.{◌≡◌, ◌<◌, ◌≤◌, ◌+◌, ◌*◌, ◌++◌, ◌∷◌, ◌⊎◌, [], ℕ, List, None, Some, length, map, slice_index_or, vec_len, vec_capacity, take, false, IsTrue, IfOk, IfErr, IfSome, IsSomeAnd};
+ghost use Rattle.std.specs.Prelude.{◌≡◌, ◌<◌, ◌≤◌, ◌+◌, ◌*◌, ◌++◌, ◌∷◌, ◌⊎◌, [], ℕ, List, None, Some, length, map, slice_index_or, vec_len, vec_capacity, take, false, IsTrue, IfOk, IfErr, OnOk, IfSome, IsSomeAnd};
 ghost use Rattle.std.specs.List.{All};
 ghost use Rattle.list_words.specs.Lists.{Each, Mem};
 ghost use Rattle.outside.specs.declared.store.DiskName.{DiskName};
@@ -28,6 +28,7 @@ ghost use Rattle.store_run.specs.Asked.{OfSetting, IsSettingOver, IsRosterOf};
 ghost use Rattle.store_run.specs.Out.{AreOut};
 ghost use Rattle.store_run.specs.Left.{HasRun, HasRested, RunLeft, RestLeft};
 ghost use Rattle.store_run.specs.Causes.{IsCounted, IsWelcome, IsWelcomeWhere, of_place};
+ghost use Rattle.store_run.specs.Refused.{HasPassed, IsCauseOf, IsOfRun, NamesEnded};
 
 use crate::disk_laws::{all_held, all_met};
 use crate::faults::fault_of_refusal;
@@ -95,10 +96,14 @@ where
     ensures lists { IfSome ran.new.log (λ l. All (IsIn l.air.history) l.seen.items) }
     ensures aired { IfSome ran.new.log (λ l. IsAired plan l.air.kinds l.air.history) }
 
-    // Why it gives up. A sound store isn't refused for the table or the places that it keeps, nor for its number of joiners where a
-    // stop leaves something of each disk.
+    // Why it gives up, and that what the disks kept can be run where it doesn't. A fault that names a node is of one that stopped eight
+    // times, or couldn't be reopened. A sound store isn't refused for the table or the places that it keeps, nor, where a stop leaves
+    // something of each disk, for its number of joiners or for a damaged disk.
     ensures cause { IfErr result (IsCounted (Rose (F.faults files.old) (F.faults files.new)) (Rose (S.faults store.old) (S.faults store.new))) }
     ensures welcome { IsTrue S.Disk.tells → IsTrue F.Log.tells → OfSetting (F.bytes files.old) names.now.queries.now names.now.clicks.now config.now end (λ g. IsSoundStore g (S.image store.old) → IfErr result (IsWelcomeWhere ((s : S) → LeavesSomething g (S.image s)))) }
+    ensures refused { IsTrue S.Disk.tells → IsTrue F.Log.tells → OfSetting (F.bytes files.old) names.now.queries.now names.now.clicks.now config.now end (λ g. IfErr result (IsCauseOf g (S.image store.old) (Rose (F.faults files.old) (F.faults files.new)) (Rose (S.faults store.old) (S.faults store.new)))) }
+    ensures passed { IsTrue S.Disk.tells → IsTrue F.Log.tells → OfSetting (F.bytes files.old) names.now.queries.now names.now.clicks.now config.now end (λ g. OnOk result (HasPassed g (S.image store.old))) }
+    ensures stopped { IfErr result (NamesEnded ran.new.log) }
     ensures same { IsTrue F.Log.tells → (n : List ℕ) → F.bytes files.new n ≡ F.bytes files.old n }
     ensures file_count { F.faults files.old ≤ F.faults files.new }
     ensures store_count { S.faults store.old ≤ S.faults store.new }
@@ -180,6 +185,9 @@ where
     ensures aired { IfSome ran.new.log (λ l. IsAired plan l.air.kinds l.air.history) }
     ensures cause { IfErr result (IsCounted (Rose (F.faults files.old) (F.faults files.new)) (Rose (S.faults store.old) (S.faults store.new))) }
     ensures welcome { IsTrue S.Disk.tells → IsTrue F.Log.tells → (g : Setting) → IsSettingOver F.Log.bytes logs.clicks.items logs.queries_a.items logs.queries_b.items config.now end g → IsSoundStore g (S.image store.old) → IfErr result (IsWelcomeWhere (LeavesSomething g (S.image store.old))) }
+    ensures refused { IsTrue S.Disk.tells → IsTrue F.Log.tells → (g : Setting) → IsSettingOver F.Log.bytes logs.clicks.items logs.queries_a.items logs.queries_b.items config.now end g → IfErr result (IsCauseOf g (S.image store.old) (Rose (F.faults files.old) (F.faults files.new)) (Rose (S.faults store.old) (S.faults store.new))) }
+    ensures passed { IsTrue S.Disk.tells → IsTrue F.Log.tells → (g : Setting) → IsSettingOver F.Log.bytes logs.clicks.items logs.queries_a.items logs.queries_b.items config.now end g → OnOk result (HasPassed g (S.image store.old)) }
+    ensures stopped { IfErr result (NamesEnded ran.new.log) }
     ensures same { IsTrue F.Log.tells → (n : List ℕ) → F.bytes files.new n ≡ F.bytes files.old n }
     ensures file_count { F.faults files.old ≤ F.faults files.new }
     ensures store_count { S.faults store.old ≤ S.faults store.new }
@@ -295,6 +303,16 @@ where
     ensures aired { IfSome ran.new.log (λ l. IsAired plan l.air.kinds l.air.history) }
     ensures cause { IfErr result (IsCounted (Rose (F.faults files.old) (F.faults files.new)) (Rose (S.faults store.old) (S.faults store.new))) }
     ensures welcome { IfErr result IsWelcome }
+    ensures whole { IsTrue S.Disk.tells → IsTrue F.Log.tells → (g : Setting) → IsNew g config.now.joiners config.now.horizon config.now.table config.now.batch → Each (λ l. IsLogOf (F.Log.bytes l) g) logs.clicks.items → Each (λ l. IsQueryLog (F.Log.bytes l) g.queries) logs.queries_a.items → Each (λ l. IsQueryLog (F.Log.bytes l) g.queries) logs.queries_b.items
+        → let opened = (disks_over (record {
+          offsets = map (λ o. o.journal.offset) disks.offsets.items;
+          pendings = map (λ r. r.journal.pending.keys) disks.retries.items;
+          epochs = map (λ e. e.journal.epoch) disks.servers.items;
+          notes = map (λ v. v.journal.notes.items) disks.replicas.items;
+          joiner_epochs = map (λ e. e.journal.epoch) disks.epochs_a.items ++ map (λ e. e.journal.epoch) disks.epochs_b.items;
+          joiner_pairs = map (λ o. o.journal.pairs.items) disks.outputs_a.items ++ map (λ o. o.journal.pairs.items) disks.outputs_b.items;
+        })) in ((s : ℕ) → s < 2 → AreKeptPlaces g (opened.dispatchers s)) → KeepsItsRecord S.Disk.image g (lend (λ t. t.journal.disk) disks.topology) → IfErr result (IsOfRun g opened (Rose (S.faults store.old) (S.faults store.new))) }
+    ensures stopped { IfErr result (NamesEnded ran.new.log) }
     ensures same { IsTrue F.Log.tells → (n : List ℕ) → F.bytes files.new n ≡ F.bytes files.old n }
     ensures file_count { F.faults files.old ≤ F.faults files.new }
     ensures store_count { S.faults store.old ≤ S.faults store.new }
@@ -359,6 +377,9 @@ where
     ensures aired { IfSome ran.new.log (λ l. IsAired plan l.air.kinds l.air.history) }
     ensures cause { IfErr result (IsCounted (Rose (F.faults files.old) (F.faults files.new)) (Rose (S.faults store.old) (S.faults store.new))) }
     ensures welcome { IfErr result IsWelcome }
+    ensures whole { IsTrue S.Disk.tells → IsTrue F.Log.tells → (g : Setting) (d : Disks) → IsRosterOf g joiners → AreDownOver ⟦<AnyNode<S::Disk, F::Log> as SystemNode>⟧.places g d built.nodes.items
+        → KeepsItsRecord S.Disk.image g (lend (λ t. t.journal.disk) built.topology) → IfErr result (IsOfRun g d (Rose (S.faults store.old) (S.faults store.new))) }
+    ensures stopped { IfErr result (NamesEnded ran.new.log) }
     ensures same { IsTrue F.Log.tells → (n : List ℕ) → F.bytes files.new n ≡ F.bytes files.old n }
     ensures file_count { F.faults files.old ≤ F.faults files.new }
     ensures store_count { S.faults store.old ≤ S.faults store.new }

@@ -98,7 +98,7 @@ fn read_disks<D: Disk>(
     ensures pairs { IfOk result.1 (λ journals. AreReadFrom D.tells D.seen KeepsPairs (outputs disks.items) journals.pairs.items) }
     ensures notes_left { OnOk result.1 (AreAmongImages D.tells D.seen D.image (replicas disks.items)) }
     ensures pairs_left { OnOk result.1 (AreAmongImages D.tells D.seen D.image (outputs disks.items)) }
-    ensures err { IfErr result.1 (λ fault. OneWith (λ old new. IsToldBy D.tells D.seen D.faults old new fault) disks.items result.0.items) }
+    ensures err { IfErr result.1 (λ fault. OneWith (λ old new. IsToldBy D.tells D.image D.faults old new fault) disks.items result.0.items) }
 {
     let mut disks = disks;
     let read = read_back(alloc, &mut disks);
@@ -118,7 +118,7 @@ pub(crate) fn settle<F: Source, S: Store>(
     ensures notes { IfOk result (λ journals. AreKeptIn S.Disk.tells S.Disk.image KeepsNotes (lent_replicas (map as_lent parts.disks.items)) journals.notes.items) }
     ensures pairs { IfOk result (λ journals. AreKeptIn S.Disk.tells S.Disk.image KeepsPairs (lent_outputs (map as_lent parts.disks.items)) journals.pairs.items) }
     ensures whole { IfOk result (λ journals. fault ≡ None) }
-    ensures told { IfErr result (λ f. (fault ≡ Some f) ⊎ IsOfDisks (Rose (S.faults store.old) (S.faults store.new)) f) }
+    ensures told { IfErr result (λ f. (fault ≡ Some f) ⊎ ((fault ≡ None) × IsOfDisks S.Disk.tells S.Disk.image (map as_lent parts.disks.items) (Rose (S.faults store.old) (S.faults store.new)) f)) }
     ensures disks { (l : Lent S.Disk) → Mem l (map as_lent parts.disks.items) → 1 ≤ S.Disk.faults l.disk → Rose (S.faults store.old) (S.faults store.new) }
     ensures logs { (l : F.Log) → Mem l parts.logs.items → 1 ≤ F.Log.faults l → Rose (F.faults files.old) (F.faults files.new) }
     ensures same { IsTrue F.Log.tells → (n : List ℕ) → F.bytes files.new n ≡ F.bytes files.old n }
@@ -159,7 +159,7 @@ where
     ensures notes { IfOk result (λ journals. AreKeptIn S.Disk.tells S.Disk.image KeepsNotes (lent_replicas (map as_lent parts.disks.items ++ all_from (λ i w. N.disks_of joiners i w.0) 0 nodes.items)) journals.notes.items) }
     ensures pairs { IfOk result (λ journals. AreKeptIn S.Disk.tells S.Disk.image KeepsPairs (lent_outputs (map as_lent parts.disks.items ++ all_from (λ i w. N.disks_of joiners i w.0) 0 nodes.items)) journals.pairs.items) }
     ensures whole { IfOk result (λ journals. first_fault joiners 0 nodes.items ≡ None) }
-    ensures told { IfErr result (λ f. ((first_fault joiners 0 nodes.items ≡ Some f) × (length (map as_lent parts.disks.items ++ all_from (λ i w. N.disks_of joiners i w.0) 0 nodes.items) ≤ places)) ⊎ IsOfDisks (Rose (S.faults store.old) (S.faults store.new)) f) }
+    ensures told { IfErr result (λ f. ((first_fault joiners 0 nodes.items ≡ Some f) × (length (map as_lent parts.disks.items ++ all_from (λ i w. N.disks_of joiners i w.0) 0 nodes.items) ≤ places)) ⊎ ((f ≡ RunFault.Memory) ⊎ ((first_fault joiners 0 nodes.items ≡ None) × IsOfDisks S.Disk.tells S.Disk.image (map as_lent parts.disks.items ++ all_from (λ i w. N.disks_of joiners i w.0) 0 nodes.items) (Rose (S.faults store.old) (S.faults store.new)) f))) }
     ensures disks { length (map as_lent parts.disks.items ++ all_from (λ i w. N.disks_of joiners i w.0) 0 nodes.items) ≤ places → (l : Lent S.Disk) → Mem l (map as_lent parts.disks.items ++ all_from (λ i w. N.disks_of joiners i w.0) 0 nodes.items) → 1 ≤ S.Disk.faults l.disk → Rose (S.faults store.old) (S.faults store.new) }
     ensures logs { (l : F.Log) → Mem l (parts.logs.items ++ all_from (λ i w. N.logs_of w.0) 0 nodes.items) → 1 ≤ F.Log.faults l → Rose (F.faults files.old) (F.faults files.new) }
     ensures same { IsTrue F.Log.tells → (n : List ℕ) → F.bytes files.new n ≡ F.bytes files.old n }

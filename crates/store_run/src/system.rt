@@ -13,6 +13,7 @@ ghost use Rattle.both_sites.specs.Running.{AreDownOver};
 ghost use Rattle.site_nodes.specs.Naming.{as_lent, all_from};
 ghost use Rattle.store_run.specs.Asked.{IsRosterOf};
 ghost use Rattle.store_run.specs.Causes.{IsCounted, IsWelcome};
+ghost use Rattle.store_run.specs.Refused.{IsOfRun, NamesEnded};
 ghost use Rattle.store_run.specs.Laws.{AreHeld, AreMet, KeepsItsRecord};
 ghost use Rattle.store_run.specs.Left.{HasRun, HasRested};
 ghost use Rattle.store_run.specs.Out.{AreOut};
@@ -111,6 +112,11 @@ where
     ensures aired { IfSome ran.new.log (λ l. IsAired plan l.air.kinds l.air.history) }
     ensures cause { AreMet S.Disk.faults F.Log.faults N.faults N.log_faults N.disks_of N.logs_of
         → IfErr result (λ f. IsCounted (Rose (F.faults files.old) (F.faults files.new)) (Rose (S.faults store.old) (S.faults store.new)) f × IsWelcome f) }
+    // No disk is told as damaged, and a limit only of a node in its last epoch, which it kept at first or came to after a fault.
+    ensures whole { IsTrue S.Disk.tells → IsTrue N.tells → (g : Setting) (d : Disks) → IsRosterOf g joiners → AreHeld S.Disk.image N.places N.grown N.disks_of
+        → AreMet S.Disk.faults F.Log.faults N.faults N.log_faults N.disks_of N.logs_of → AreDownOver N.places g d nodes.items → KeepsItsRecord S.Disk.image g (as_lent topology)
+        → IfErr result (IsOfRun g d (Rose (S.faults store.old) (S.faults store.new))) }
+    ensures stopped { IfErr result (NamesEnded ran.new.log) }
     ensures same { IsTrue F.Log.tells → (n : List ℕ) → F.bytes files.new n ≡ F.bytes files.old n }
     ensures file_count { F.faults files.old ≤ F.faults files.new }
     ensures store_count { S.faults store.old ≤ S.faults store.new }

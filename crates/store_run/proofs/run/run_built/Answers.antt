@@ -33,3 +33,9 @@ returns-clause-cause g c = IfErr-weaker c.run_system.result _ _ (λ f both. both
 
 pub returns-clause-welcome : goal.returns-clause-welcome
 returns-clause-welcome g c = IfErr-weaker c.run_system.result _ _ (λ f both. both.1) (c.run_system.ensures.cause c.all_met.ensures)
+
+pub returns-clause-whole : goal.returns-clause-whole
+returns-clause-whole g c tells log_tells gg d roster down kept =
+    let same = ap (λ x. record { name = c.args.built.topology.name; disk = x }) c.into_disk.ensures in
+    c.run_system.ensures.whole tells (all_tell g.S.Disk.Disk.tells g.F.Log.LogFile.tells tells log_tells) gg d roster (c.all_held.ensures tells log_tells) c.all_met.ensures down
+    (subst (λ t. KeepsItsRecord g.S.Disk.Disk.image gg t) (sym same) kept)

@@ -73,3 +73,10 @@ returns-in-Err-clause-grown g c tells log_tells gg new clicks qa qb places s out
 
 pub returns-in-Err-clause-left : goal.returns-in-Err-clause-left
 returns-in-Err-clause-left g c tells log_tells gg new clicks qa qb places d same kept = none_left (λ l. HasRun gg d l.air.history (g.S.Store.image c.give_parts.new.store)) _ c.requires.none
+
+pub returns-in-Ok-clause-whole : goal.returns-in-Ok-clause-whole
+returns-in-Ok-clause-whole g c tells log_tells gg new clicks qa qb places kept =
+    let image = g.S.Disk.Disk.image in
+    let same = ap (lend {D = g.row.S-Disk.Denot} (λ t. t.journal.disk)) c.in-Ok.ensures.topology in
+    let roster : IsRosterOf gg c.args.config.now.joiners = record { joiners_are = new.joiners; replicas = new.replicas } in
+    c.run_built.ensures.whole tells log_tells gg _ roster (c.in-Ok.ensures.places tells gg new clicks qa qb places) (subst (λ t. KeepsItsRecord image gg t) (sym same) kept)

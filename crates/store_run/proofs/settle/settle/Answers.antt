@@ -1,8 +1,9 @@
-use Rattle.std.proofs.Common.{inr, subst, sym}
+use Rattle.std.proofs.Common.{rules, inr, map, subst, sym}
 use Rattle.output_log.specs.Pairs.{Keeps as KeepsPairs}
 use Rattle.site_disks.specs.Votes.{KeepsNotes}
 use Rattle.lent_disks.specs.ReadBack.{is_replica, is_output}
 use Rattle.outside.specs.Faults.{Rose}
+use Rattle.site_nodes.specs.Naming.{as_lent}
 use Rattle.store_run.specs.Causes.{IsOfDisks}
 use Rattle.store_run.proofs.Settling.{left_read, met_read, told_counted, kept_in, ok_of, on_ok, err_of}
 use Rattle.store_run.proofs.settle.settle.Goals as goal
@@ -54,4 +55,9 @@ pub returns-in-Err-clause-told : goal.returns-in-Err-clause-told
 returns-in-Err-clause-told g c =
     let d = g.S.Disk.Disk in
     let rose = Rose (g.S.Store.faults c.args.store.now) (g.S.Store.faults c.give_parts.new.store) in
-    inr (subst (λ f. IsOfDisks rose f) (sym c.fault_of_disks.ensures) (told_counted d.tells d.seen d.image d.since d.faults c.in-Err.fault _ _ rose c.give_parts.ensures.disks (err_of _ c.read_disks-disks.result.1 c.in-Err.fault c.in-Err.is c.read_disks-disks.ensures.err)))
+    let lent = map as_lent c.args.parts.disks.items in
+    inr (
+      search rules,
+      subst (λ f. IsOfDisks d.tells d.image lent rose f) (sym c.fault_of_disks.ensures)
+          (told_counted d.tells d.seen d.image d.since d.faults c.in-Err.fault c.args.parts.disks.items _ rose c.give_parts.ensures.disks (err_of _ c.read_disks-disks.result.1 c.in-Err.fault c.in-Err.is c.read_disks-disks.ensures.err)),
+    )

@@ -8,10 +8,12 @@ use Rattle.turn_defs.specs.Nodes.{node_count}
 use Rattle.site_disks.specs.Lent.{MayBeLeft}
 use Rattle.site_disks.specs.Votes.{KeepsNotes}
 use Rattle.site_nodes.specs.Naming.{as_lent, all_from}
+use Rattle.store_run.specs.Causes.{IsCounted, IsOfDisks, IsWelcome}
+use Rattle.store_run.specs.Refused.{HasEnded, IsOfRun}
 use Rattle.store_run.specs.Settled.{AreKeptIn, lent_replicas, lent_outputs}
 use Rattle.store_run.proofs.Opened.{down_too}
 use Rattle.store_run.proofs.Outing.{given_goes_on}
-use Rattle.store_run.proofs.Running.{all_fit, goes_on, has_run, rests, no_stops, fault_told, at_rest, disks_counted}
+use Rattle.store_run.proofs.Running.{all_fit, goes_on, has_run, rests, no_stops, fault_told, first_told, first_ended, disks_alone, read_back_of, at_rest, disks_counted}
 use Rattle.store_run.proofs.Settling.{in_front, ok_three}
 use Rattle.store_run.proofs.system.run_system.Goals as goal
 
@@ -90,7 +92,55 @@ returns-in-Ok-clause-cause g c met =
     fault_told g.S.Disk.Disk.faults g.F.Log.LogFile.faults n.faults n.log_faults disks_of g.N.Parting.logs_of met c.args.joiners logs_rose disks_rose ws c.in-Ok.ensures.caused
     (λ l among some. c.end_run.ensures.disks is.1 l (mem_right l (map as_lent c.push_reserved.new.self.items) (all_from (λ i w. disks_of c.args.joiners i w.0) 0 ws) among) some)
     (λ l among some. c.end_run.ensures.logs l (mem_right l c.args.parts.logs.items (all_from (λ i w. g.N.Parting.logs_of w.0) 0 ws) among) some) f is.0)
-    (λ of. disks_counted logs_rose disks_rose f of) told)
+    (λ others. ⊎_elim (λ memory. subst (λ x. IsCounted logs_rose disks_rose x × IsWelcome x) (sym memory) (tt, tt)) (λ of. disks_counted g.S.Disk.Disk.tells g.S.Disk.Disk.image (map as_lent c.push_reserved.new.self.items ++ all_from (λ i w. disks_of c.args.joiners i w.0) 0 ws) logs_rose disks_rose f of.1) others) told)
+    c.end_run.ensures.told
+
+pub returns-in-Ok-clause-whole : goal.returns-in-Ok-clause-whole
+returns-in-Ok-clause-whole g c tells node_tells gg d roster held met down kept =
+    let image = g.S.Disk.Disk.image in
+    let inside = g.S.Store.image c.args.store.now in
+    let after = g.S.Store.image c.end_run.new.store in
+    let n = g.N.SiteNode in
+    let disks_of = g.N.Parting.disks_of in
+    let ws = c.in-Ok.left.nodes.items in
+    let h = c.in-Ok.left.air.history in
+    let rose = Rose (g.S.Store.faults c.args.store.now) (g.S.Store.faults c.end_run.new.store) in
+    let numbers = c.node_numbers.ensures gg in
+    let topology = as_lent c.args.topology in
+    let all = map as_lent c.push_reserved.new.self.items ++ all_from (λ i w. disks_of c.args.joiners i w.0) 0 ws in
+    let count : length c.args.nodes.items ≡ node_count gg = counted gg.joiners gg.replicas (length c.args.nodes.items) c.args.joiners c.requires.count roster.joiners_are roster.replicas in
+    let left = c.in-Ok.ensures.run node_tells gg d (sym count ∙ c.requires.count ∙ sym c.kinds.ensures) down in
+    let front = in_front c.args.parts.disks.items c.push_reserved.new.self.items c.args.topology (all_from (λ i w. disks_of c.args.joiners i w.0) 0 ws) c.requires.empty.0 c.push_reserved.ensures.items in
+    let fits = all_fit image g.N.SystemNode.places n.grown disks_of held gg c.args.joiners numbers c.args.nodes.items ws count c.in-Ok.ensures.count
+    (c.in-Ok.ensures.grown node_tells gg d (sym count ∙ c.requires.count ∙ sym c.kinds.ensures) down) topology all c.disk_count.result front (omega (arith, c.requires.disks, c.disk_count.ensures)) in
+    IfErr-weaker c.end_run.result _ _
+    (λ f told.
+    ⊎_elim
+    (λ is.
+    first_told image g.N.SystemNode.places n.grown disks_of held gg c.args.joiners roster numbers d h ws c.in-Ok.left.rest left (c.in-Ok.ensures.count ∙ count) topology kept inside after
+    (λ name b here. subst (λ l. MayBeLeft image inside l name b) front (c.end_run.ensures.left tells fits name b here))
+    g.S.Disk.Disk.faults g.F.Log.LogFile.faults n.faults n.log_faults g.N.Parting.logs_of met
+    (λ i b below. c.in-Ok.ensures.met i b (subst (λ k. i < k) c.in-Ok.ensures.count below)) rose
+    (λ l among some. c.end_run.ensures.disks fits l (subst (Mem l) (sym front) among) some) f is.0)
+    (λ others.
+    ⊎_elim (λ memory. subst (IsOfRun gg d rose) (sym memory) tt)
+    (λ of.
+    read_back_of image g.N.SystemNode.places n.grown disks_of held gg c.args.joiners roster numbers d h ws c.in-Ok.left.rest left (c.in-Ok.ensures.count ∙ count) topology kept inside after
+    (λ name b here. subst (λ l. MayBeLeft image inside l name b) front (c.end_run.ensures.left tells fits name b here))
+    (at_rest c.args.joiners ws c.in-Ok.left.rest c.in-Ok.ensures.fault of.0) rose f g.S.Disk.Disk.tells tells
+    (subst (λ l. IsOfDisks g.S.Disk.Disk.tells image l rose f) front of.1))
+    others)
+    told)
+    c.end_run.ensures.told
+
+pub returns-in-Ok-clause-stopped : goal.returns-in-Ok-clause-stopped
+returns-in-Ok-clause-stopped g c =
+    let ws = c.in-Ok.left.nodes.items in
+    let h = c.in-Ok.left.air.history in
+    IfErr-weaker c.end_run.result _ _
+    (λ f told n named.
+    ⊎_elim (λ is. first_ended g.N.SiteNode.faults c.args.joiners h ws (λ i b below. c.in-Ok.ensures.met i b (subst (λ k. i < k) c.in-Ok.ensures.count below)) f n is.0 named)
+    (λ others. ⊎_elim (λ memory. absurd (cc (sym memory ∙ named))) (λ of. disks_alone _ _ _ _ (HasEnded n h) f n of.1 named) others) told)
     c.end_run.ensures.told
 
 pub returns-in-Err-clause-idle : goal.returns-in-Err-clause-idle
