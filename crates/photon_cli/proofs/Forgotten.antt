@@ -25,12 +25,17 @@ module _ (logs sinks : Bool) (told : List ℕ → Option (List ℕ)) (files outp
     lines = λ l e. absurd (omega (arith, eight, e));
     invalid = λ l log table text h calm. inr eight;
     stopped = λ e. absurd (omega (arith, eight, e));
-    welcome = λ d l g asked sound leaves nine. omega (arith, eight, nine);
+    welcome = λ d l g asked sound leaves. (λ seven. omega (arith, eight, seven), λ nine. omega (arith, eight, nine));
+    damaged = λ d l g asked disk taken none calm still. inr eight;
+    mismatched = λ d l g asked other calm still. inr (inr eight);
+    limited = λ d l g asked at calm still. inr (inr (inr eight));
+    passed = λ d l g asked e. absurd (omega (arith, eight, e));
+    caused = λ l. inr (fault.Memory, eight, (tt, λ d g asked. tt));
     prefix = λ l s d e. absurd (omega (arith, eight, e));
-    tells = λ l s calm. inr (fault.Memory, eight, tt, tells s calm);
+    tells = λ l s calm. inr (fault.Memory, eight, (tt, λ d g asked. tt), tells s calm);
     sound = λ d l g asked sound. sound;
     grown = λ d l g asked disk bytes now. continues_same (before disk) bytes now;
-    complete = λ d l g asked sound leaves calm still quiet. inr (inr (inl eight));
+    complete = λ d l g asked sound leaves below calm still quiet. inr eight;
   }
 
   pub drill_forgotten : (v : Values) (file : Text) (untouched : Type 0) → untouched → DrillEnds logs sinks told files output errors ran old old err_old err_new status v file untouched
@@ -43,8 +48,8 @@ module _ (logs sinks : Bool) (told : List ℕ → Option (List ℕ)) (files outp
     invalid = λ l log table text h calm. inr (inr eight);
     prefix = λ l s e. absurd (omega (arith, eight, e));
     tells = λ l s calm. inr (fault.Memory, eight, tt, tells s calm);
-    welcome = λ l nine. omega (arith, eight, nine);
-    complete = λ l g asked plan is calm quiet. inr (inr (inr (inl eight)));
+    welcome = λ l. (λ seven. omega (arith, eight, seven), λ nine. omega (arith, eight, nine));
+    complete = λ l g asked plan is calm quiet. inr (inr (inl eight));
     store = stays;
   }
 

@@ -13,10 +13,14 @@ use Rattle.log_records.specs.Check.{RefusesClick}
 use Rattle.site_disks.specs.Lent.{GoesOn, StaysAs}
 use Rattle.store_laws.specs.Stores.{Images, IsSoundStore}
 use Rattle.store_run.specs.declared.ran.RunLog.{RunLog}
+use Rattle.store_run.specs.Refused.{HasPassed, IsTaken, WasJournal}
+use Rattle.photon_cli.specs.declared.engine.fault.Fault.{Fault}
+use Rattle.photon_cli.specs.Causes.{IsAtLimit, IsBelowLimits, IsMismatched}
+use Rattle.photon_cli.specs.Faults.{status_of}
 use Rattle.photon_cli.specs.Bulk.{PrintsTotals, PrintsTotalsPrefix}
 use Rattle.photon_cli.specs.Drill.{IsBadIn, IsPlanIn, PrintsDrill, PrintsDrillPrefix}
 use Rattle.photon_cli.specs.Join.{HasRun, IsAsked, IsInvalid, Prints, PrintsAfresh, PrintsPrefix, Refuses}
-use Rattle.photon_cli.specs.Told.{IsNamed, IsNamedInBulk, IsNamedInDrill, IsNamedInVerify, TellsBy}
+use Rattle.photon_cli.specs.Told.{IsNamedInBulk, IsNamedInDrill, IsNamedInVerify, IsToldOf, TellsBy}
 use Rattle.photon_cli.specs.Verify.{IsUnreadable, PrintsKept, PrintsKeptPrefix}
 use Rattle.photon_cli.specs.Words.{BulkValues, IsTextOf, Values}
 
@@ -39,20 +43,28 @@ module _ (logs sinks : Bool) (told : List ℕ → Option (List ℕ)) (files outp
     -- 3: only where a log has a refused line, and where one isn't valid always, but for a fault of the logs or want of memory
     pub lines : IsTrue logs → status ≡ 3 → (log : LogName) × (bad : BadLine) × Refuses told v.queries v.clicks log bad
     pub invalid : IsTrue logs → (log : LogName) (table : List ShardRow) → IsTextOf v.shards table → IsInvalid told v.queries v.clicks log → (files → ⊥) → (status ≡ 3) ⊎ (status ≡ 8)
-    -- 6 only where the store's count rose; 9 never over a sound store where a stop leaves something of each disk
+    -- 6 only where the store's count rose; 7 and 9 never over a sound store where a stop leaves something of each disk
     pub stopped : status ≡ 6 → faulted
-    pub welcome : IsTrue disks → IsTrue logs → (g : Setting) → IsAsked told v g → IsSoundStore g before → leaves g → status ≢ 9
+    pub welcome : IsTrue disks → IsTrue logs → (g : Setting) → IsAsked told v g → IsSoundStore g before → leaves g → (status ≢ 7) × (status ≢ 9)
+    -- 7, where a disk that is opened is no journal, whatever a stop left of it; else 9, where the topology or a place doesn't fit, whatever
+    -- the disks kept; else 10, where an epoch, a round or a slot is at its limit. And there always, but for a fault of the logs or the
+    -- store, or want of memory.
+    pub damaged : IsTrue disks → IsTrue logs → (g : Setting) → IsAsked told v g → (disk : DiskName) → IsTaken g before disk → (WasJournal g before disk → ⊥) → (files → ⊥) → (faulted → ⊥) → (status ≡ 7) ⊎ (status ≡ 8)
+    pub mismatched : IsTrue disks → IsTrue logs → (g : Setting) → IsAsked told v g → IsMismatched g before → (files → ⊥) → (faulted → ⊥) → (status ≡ 9) ⊎ ((status ≡ 7) ⊎ (status ≡ 8))
+    pub limited : IsTrue disks → IsTrue logs → (g : Setting) → IsAsked told v g → IsAtLimit g before → (files → ⊥) → (faulted → ⊥) → (status ≡ 10) ⊎ ((status ≡ 9) ⊎ ((status ≡ 7) ⊎ (status ≡ 8)))
+    -- 0 only where what the disks kept can be run; any other is of a fault, which names a line or a row that is so, or has its cause
+    pub passed : IsTrue disks → IsTrue logs → (g : Setting) → IsAsked told v g → status ≡ 0 → HasPassed g before
+    pub caused : IsTrue logs → (status ≡ 0) ⊎ ((f : Fault) × (status ≡ status_of f) × IsToldOf told v disks before files faulted f)
     -- what went out before a fault of the output is a prefix of the report
     pub prefix : IsTrue logs → IsTrue sinks → IsTrue disks → status ≡ 5 → PrintsPrefix told v before after faulted old new
     -- what is told, unless the standard error has a fault
-    pub tells : IsTrue logs → IsTrue sinks → (errors → ⊥) → TellsBy (IsNamed told v) status err_old err_new
+    pub tells : IsTrue logs → IsTrue sinks → (errors → ⊥) → TellsBy (IsToldOf told v disks before files faulted) status err_old err_new
     -- at every status a sound store stays sound, and no disk's records are lost
     pub sound : IsTrue disks → IsTrue logs → (g : Setting) → IsAsked told v g → IsSoundStore g before → IsSoundStore g after
     pub grown : IsTrue disks → IsTrue logs → (g : Setting) → IsAsked told v g → (disk : DiskName) → GoesOn (before disk) (after disk)
-    -- Over a sound store, and with no fault, it ends well, unless memory runs out, a disk's bytes are damaged or a number that a
-    -- disk keeps is the last of its kind.
-    pub complete : IsTrue disks → IsTrue logs → (g : Setting) → IsAsked told v g → IsSoundStore g before → leaves g → (files → ⊥) → (faulted → ⊥) → (output → ⊥)
-        → (status ≡ 0) ⊎ ((status ≡ 7) ⊎ ((status ≡ 8) ⊎ (status ≡ 10)))
+    -- over a sound store, with no fault and nothing at its limit, it ends well, unless memory runs out
+    pub complete : IsTrue disks → IsTrue logs → (g : Setting) → IsAsked told v g → IsSoundStore g before → leaves g → IsBelowLimits g before → (files → ⊥) → (faulted → ⊥) → (output → ⊥)
+        → (status ≡ 0) ⊎ (status ≡ 8)
 
   -- Of a drill for these values with the plan of a file; untouched says that the store which is handed in is as it was.
   pub record DrillEnds (v : Values) (file : Text) (untouched : Type 0) : Type 0 where
@@ -70,12 +82,12 @@ module _ (logs sinks : Bool) (told : List ℕ → Option (List ℕ)) (files outp
     pub invalid : IsTrue logs → (log : LogName) (table : List ShardRow) → IsTextOf v.shards table → IsInvalid told v.queries v.clicks log → (files → ⊥) → (status ≡ 2) ⊎ ((status ≡ 3) ⊎ (status ≡ 8))
     pub prefix : IsTrue logs → IsTrue sinks → status ≡ 5 → PrintsDrillPrefix told v file ran old new
     pub tells : IsTrue logs → IsTrue sinks → (errors → ⊥) → TellsBy (IsNamedInDrill told v file) status err_old err_new
-    -- 9 never: its store is empty at first
-    pub welcome : IsTrue logs → status ≢ 9
+    -- 7 and 9 never: its store is empty at first
+    pub welcome : IsTrue logs → (status ≢ 7) × (status ≢ 9)
     -- with a table, a plan, two valid logs and no fault of the files or the output it ends with 0, or for a fault of the run's own
     -- disks, or for want of memory
     pub complete : IsTrue logs → (g : Setting) → IsAsked told v g → (plan : PlanView) → IsPlanIn told file plan → (files → ⊥) → (output → ⊥)
-        → (status ≡ 0) ⊎ ((status ≡ 6) ⊎ ((status ≡ 7) ⊎ ((status ≡ 8) ⊎ (status ≡ 10))))
+        → (status ≡ 0) ⊎ ((status ≡ 6) ⊎ ((status ≡ 8) ⊎ (status ≡ 10)))
     -- at every status: it runs over disks of its own
     pub store : untouched
 

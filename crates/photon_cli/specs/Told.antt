@@ -1,13 +1,16 @@
 -- What the program tells on standard error.
-use Rattle.std.specs.Prelude.{ℕ, ◌≡◌, ◌⊎◌, List, ◌++◌, Option, IsSomeAnd, ⊤}
+use Rattle.std.specs.Prelude.{ℕ, ◌≡◌, ◌⊎◌, List, ◌++◌, Bool, IsTrue, Option, IsSomeAnd, ⊤}
 use Rattle.log_records.specs.Check.{RefusesClick}
 use Rattle.run_faults.specs.declared.fault.LogName.TheVariants.{Queries, Clicks}
 use Rattle.time_shards.specs.Text.{IsFirstBad}
 use Rattle.command_words.specs.Words.{Text}
+use Rattle.turn_defs.specs.Setting.{Setting}
+use Rattle.store_laws.specs.Stores.{Images}
 use Rattle.photon_cli.specs.declared.engine.fault.Fault.{Fault}
 use Rattle.photon_cli.specs.declared.engine.fault.Fault.TheVariants as fault
 use Rattle.photon_cli.specs.Drill.{IsBadIn}
-use Rattle.photon_cli.specs.Join.{Refuses}
+use Rattle.photon_cli.specs.Causes.{HasCause}
+use Rattle.photon_cli.specs.Join.{IsAsked, Refuses}
 use Rattle.photon_cli.specs.Words.{BulkValues, Values}
 use Rattle.photon_cli.specs.Faults.{status_of, message}
 
@@ -27,6 +30,10 @@ module _ (told : List ℕ → Option (List ℕ)) where
   IsNamed v (fault.Run cause) = ⊤
   IsNamed v fault.Write = ⊤
   IsNamed v fault.Memory = ⊤
+
+  -- and where the disks tell what they hold it has its cause, whatever setting the values ask for
+  abbrev pub IsToldOf : Values → (disks : Bool) → Images → (files faulted : Type 0) → Fault → Type 0
+  IsToldOf v disks before files faulted f = IsNamed v f × (IsTrue disks → (g : Setting) → IsAsked told v g → HasCause g before files faulted f)
 
   -- the same of a drill, and one that names a place of the plan names its first bad one
   abbrev pub IsNamedInDrill : Values → Text → Fault → Type 0

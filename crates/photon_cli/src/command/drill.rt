@@ -59,8 +59,8 @@ where
         → TellsBy (IsNamedInDrill (F.bytes files.old) (values_in wanted.now) plan.now) result (K.held err.old) (K.held err.new) }
     ensures complete { IsTrue F.Log.tells → (g : Setting) → IsAsked (F.bytes files.old) (values_in wanted.now) g → (p : PlanView) → IsPlanIn (F.bytes files.old) plan.now p
         → (Rose (F.faults files.old) (F.faults files.new) → ⊥) → (Rose (K.faults out.old) (K.faults out.new) → ⊥)
-        → (result ≡ 0) ⊎ ((result ≡ 6) ⊎ ((result ≡ 7) ⊎ ((result ≡ 8) ⊎ (result ≡ 10)))) }
-    ensures welcome { IsTrue F.Log.tells → result ≢ 9 }
+        → (result ≡ 0) ⊎ ((result ≡ 6) ⊎ ((result ≡ 8) ⊎ (result ≡ 10))) }
+    ensures welcome { IsTrue F.Log.tells → (result ≢ 7) × (result ≢ 9) }
 {
     match drill_logs(rt, alloc, wanted, plan, files, out, gate, ran) {
         Ok(()) => 0,

@@ -11,9 +11,11 @@ ghost use Rattle.site_disks.specs.Lent.{GoesOn};
 ghost use Rattle.store_laws.specs.Stores.{IsSoundStore};
 ghost use Rattle.store_opening.specs.Causes.{LeavesSomething};
 ghost use Rattle.photon_cli.specs.declared.engine.fault.Fault.{Fault as Failure};
+ghost use Rattle.store_run.specs.Refused.{HasPassed, IsTaken, WasJournal};
+ghost use Rattle.photon_cli.specs.Causes.{IsAtLimit, IsBelowLimits, IsMismatched};
 ghost use Rattle.photon_cli.specs.Join.{HasRun, IsAsked, Prints, PrintsAfresh, PrintsPrefix, Refuses, IsInvalid};
 ghost use Rattle.photon_cli.specs.Faults.{status_of};
-ghost use Rattle.photon_cli.specs.Told.{IsNamed, TellsBy};
+ghost use Rattle.photon_cli.specs.Told.{IsToldOf, TellsBy};
 ghost use Rattle.photon_cli.specs.Words.{AreInRanges, IsTextOf, values_in};
 
 use crate::engine::join_logs;
@@ -61,13 +63,21 @@ where
     ensures prefix { IsTrue F.Log.tells → IsTrue K.tells → IsTrue S.Disk.tells → result ≡ 5 → PrintsPrefix (F.bytes files.old) (values_in wanted.now) (S.image store.old) (S.image store.new) (Rose (S.faults store.old) (S.faults store.new)) (K.held out.old) (K.held out.new) }
     ensures quiet { IsTrue K.tells → result ≢ 0 → result ≢ 5 → K.held out.new ≡ K.held out.old }
     ensures told { IsTrue F.Log.tells → IsTrue K.tells → (Rose (K.faults err.old) (K.faults err.new) → ⊥)
-        → TellsBy (IsNamed (F.bytes files.old) (values_in wanted.now)) result (K.held err.old) (K.held err.new) }
+        → TellsBy (IsToldOf (F.bytes files.old) (values_in wanted.now) S.Disk.tells (S.image store.old) (Rose (F.faults files.old) (F.faults files.new)) (Rose (S.faults store.old) (S.faults store.new))) result (K.held err.old) (K.held err.new) }
     ensures sound { IsTrue S.Disk.tells → IsTrue F.Log.tells → (g : Setting) → IsAsked (F.bytes files.old) (values_in wanted.now) g → IsSoundStore g (S.image store.old) → IsSoundStore g (S.image store.new) }
     ensures grown { IsTrue S.Disk.tells → IsTrue F.Log.tells → (g : Setting) → IsAsked (F.bytes files.old) (values_in wanted.now) g → (disk : DiskName) → GoesOn (S.image store.old disk) (S.image store.new disk) }
-    ensures welcome { IsTrue S.Disk.tells → IsTrue F.Log.tells → (g : Setting) → IsAsked (F.bytes files.old) (values_in wanted.now) g → IsSoundStore g (S.image store.old) → ((s : S) → LeavesSomething g (S.image s)) → result ≢ 9 }
-    ensures complete { IsTrue S.Disk.tells → IsTrue F.Log.tells → (g : Setting) → IsAsked (F.bytes files.old) (values_in wanted.now) g → IsSoundStore g (S.image store.old) → ((s : S) → LeavesSomething g (S.image s))
+    ensures welcome { IsTrue S.Disk.tells → IsTrue F.Log.tells → (g : Setting) → IsAsked (F.bytes files.old) (values_in wanted.now) g → IsSoundStore g (S.image store.old) → ((s : S) → LeavesSomething g (S.image s)) → (result ≢ 7) × (result ≢ 9) }
+    ensures passed { IsTrue S.Disk.tells → IsTrue F.Log.tells → (g : Setting) → IsAsked (F.bytes files.old) (values_in wanted.now) g → result ≡ 0 → HasPassed g (S.image store.old) }
+    ensures caused { IsTrue F.Log.tells → (result ≡ 0) ⊎ ((f : Failure) × (result ≡ status_of f) × IsToldOf (F.bytes files.old) (values_in wanted.now) S.Disk.tells (S.image store.old) (Rose (F.faults files.old) (F.faults files.new)) (Rose (S.faults store.old) (S.faults store.new)) f) }
+    ensures damaged { IsTrue S.Disk.tells → IsTrue F.Log.tells → (g : Setting) → IsAsked (F.bytes files.old) (values_in wanted.now) g → (disk : DiskName) → IsTaken g (S.image store.old) disk → (WasJournal g (S.image store.old) disk → ⊥)
+        → (Rose (F.faults files.old) (F.faults files.new) → ⊥) → (Rose (S.faults store.old) (S.faults store.new) → ⊥) → (result ≡ 7) ⊎ (result ≡ 8) }
+    ensures mismatched { IsTrue S.Disk.tells → IsTrue F.Log.tells → (g : Setting) → IsAsked (F.bytes files.old) (values_in wanted.now) g → IsMismatched g (S.image store.old)
+        → (Rose (F.faults files.old) (F.faults files.new) → ⊥) → (Rose (S.faults store.old) (S.faults store.new) → ⊥) → (result ≡ 9) ⊎ ((result ≡ 7) ⊎ (result ≡ 8)) }
+    ensures limited { IsTrue S.Disk.tells → IsTrue F.Log.tells → (g : Setting) → IsAsked (F.bytes files.old) (values_in wanted.now) g → IsAtLimit g (S.image store.old)
+        → (Rose (F.faults files.old) (F.faults files.new) → ⊥) → (Rose (S.faults store.old) (S.faults store.new) → ⊥) → (result ≡ 10) ⊎ ((result ≡ 9) ⊎ ((result ≡ 7) ⊎ (result ≡ 8))) }
+    ensures complete { IsTrue S.Disk.tells → IsTrue F.Log.tells → (g : Setting) → IsAsked (F.bytes files.old) (values_in wanted.now) g → IsSoundStore g (S.image store.old) → ((s : S) → LeavesSomething g (S.image s)) → IsBelowLimits g (S.image store.old)
         → (Rose (F.faults files.old) (F.faults files.new) → ⊥) → (Rose (S.faults store.old) (S.faults store.new) → ⊥) → (Rose (K.faults out.old) (K.faults out.new) → ⊥)
-        → (result ≡ 0) ⊎ ((result ≡ 7) ⊎ ((result ≡ 8) ⊎ (result ≡ 10))) }
+        → (result ≡ 0) ⊎ (result ≡ 8) }
 {
     match join_logs(rt, alloc, wanted, files, store, out, gate, ran) {
         Ok(()) => 0,

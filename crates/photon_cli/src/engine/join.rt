@@ -12,6 +12,8 @@ ghost use Rattle.site_disks.specs.Lent.{GoesOn};
 ghost use Rattle.store_laws.specs.Stores.{IsSoundStore};
 ghost use Rattle.store_opening.specs.Causes.{LeavesSomething};
 ghost use Rattle.photon_cli.specs.declared.engine.fault.Fault.TheVariants as fault;
+ghost use Rattle.store_run.specs.Refused.{HasPassed};
+ghost use Rattle.photon_cli.specs.Causes.{HasCause};
 ghost use Rattle.photon_cli.specs.LogFaults.{IsEarly, IsFair, IsOfJoin, failed_read};
 ghost use Rattle.photon_cli.specs.Join.{AreValid, HasRun, IsAsked, Prints, PrintsAfresh, PrintsPrefix, Refuses};
 ghost use Rattle.photon_cli.specs.Words.{AreInRanges, values_in};
@@ -32,7 +34,7 @@ use time_shards::Table;
 
 /// Joins the clicks under one name with the queries under another over a store, and writes the report.
 ///
-/// It reads both logs whole first, in pieces of 64 KiB, and keeps the clicks in memory.
+/// It reads both logs whole first, in pieces of 64 KiB, and keeps the distinct ids of one log at a time, and those of the clicks to the end.
 pub fn join_logs<R, F, S, K, G>(
     rt: &R,
     alloc: Global,
@@ -76,11 +78,13 @@ where
     ensures disks { Counts (S.faults store.old) (S.faults store.new) ((place : StorePlace) × (result ≡ Err (fault.Run (cause.Store place)))) }
     ensures write { Counts (K.faults out.old) (K.faults out.new) (result ≡ Err fault.Write) }
 
-    // A sound store stays sound, loses no records, and is welcome where
-    // a stop leaves something of each disk.
+    // A sound store stays sound, loses no records, and is welcome where a stop leaves something of each disk.
     ensures sound { IsTrue S.Disk.tells → IsTrue F.Log.tells → (g : Setting) → IsAsked (F.bytes files.old) (values_in wanted.now) g → IsSoundStore g (S.image store.old) → IsSoundStore g (S.image store.new) }
     ensures grown { IsTrue S.Disk.tells → IsTrue F.Log.tells → (g : Setting) → IsAsked (F.bytes files.old) (values_in wanted.now) g → (disk : DiskName) → GoesOn (S.image store.old disk) (S.image store.new disk) }
     ensures welcome { IsTrue S.Disk.tells → IsTrue F.Log.tells → (g : Setting) → IsAsked (F.bytes files.old) (values_in wanted.now) g → IsSoundStore g (S.image store.old) → IfErr result (IsFair ((s : S) → LeavesSomething g (S.image s))) }
+    // Each fault of the run has its cause, and where the report was to be written the disks had kept what can be run.
+    ensures caused { IsTrue S.Disk.tells → IsTrue F.Log.tells → (g : Setting) → IsAsked (F.bytes files.old) (values_in wanted.now) g → IfErr result (HasCause g (S.image store.old) (Rose (F.faults files.old) (F.faults files.new)) (Rose (S.faults store.old) (S.faults store.new))) }
+    ensures passed { IsTrue S.Disk.tells → IsTrue F.Log.tells → (g : Setting) → IsAsked (F.bytes files.old) (values_in wanted.now) g → OnOk result (HasPassed g (S.image store.old)) }
 {
     let table = match Table::read(wanted.shards.as_bytes()) {
         Ok(table) => table,

@@ -13,6 +13,8 @@ ghost use Rattle.store_run.specs.Left.{RunLeft};
 ghost use Rattle.air_bus.specs.History.{IsAired};
 ghost use Rattle.bus_seat.specs.Seats.{IsIn};
 ghost use Rattle.std.specs.List.{All};
+ghost use Rattle.store_run.specs.Refused.{HasPassed};
+ghost use Rattle.photon_cli.specs.Causes.{HasCause};
 ghost use Rattle.photon_cli.specs.Join.{HaveIds};
 ghost use Rattle.photon_cli.specs.LogFaults.{IsLate, IsFair};
 
@@ -71,6 +73,8 @@ where
 
     ensures cause { IfErr result (IsLate (Rose (F.faults files.old) (F.faults files.new)) (Rose (S.faults store.old) (S.faults store.new))) }
     ensures welcome { IsTrue S.Disk.tells → IsTrue F.Log.tells → OfSetting (F.bytes files.old) names.now.queries.now names.now.clicks.now config.now clicks.now.lines_end (λ g. IsSoundStore g (S.image store.old) → IfErr result (IsFair ((s : S) → LeavesSomething g (S.image s)))) }
+    ensures caused { IsTrue S.Disk.tells → IsTrue F.Log.tells → OfSetting (F.bytes files.old) names.now.queries.now names.now.clicks.now config.now clicks.now.lines_end (λ g. IfErr result (HasCause g (S.image store.old) (Rose (F.faults files.old) (F.faults files.new)) (Rose (S.faults store.old) (S.faults store.new)))) }
+    ensures passed { IsTrue S.Disk.tells → IsTrue F.Log.tells → OfSetting (F.bytes files.old) names.now.queries.now names.now.clicks.now config.now clicks.now.lines_end (λ g. OnOk result (HasPassed g (S.image store.old))) }
     ensures file_count { F.faults files.old ≤ F.faults files.new }
     ensures store_count { S.faults store.old ≤ S.faults store.new }
 {

@@ -80,7 +80,9 @@ returns-in-Err-clause-complete g c logs s asked p is calm quiet =
     (λ e. quiet (c.in-Err.ensures.write.rose (ap Err e)))
     (c.in-Err.ensures.fair logs) in
     let on = λ (n : ℕ) (e : status_of f ≡ n). c.status.ensures ∙ e in
-    inr (⊎_elim (λ a. inl (on _ a)) (λ b. inr (⊎_elim (λ a. inl (on _ a)) (λ d. inr (⊎_elim (λ a. inl (on _ a)) (λ a. inr (on _ a)) d)) b)) left)
+    inr (⊎_elim (λ a. inl (on _ a)) (λ b. inr (⊎_elim (λ a. inl (on _ a)) (λ a. inr (on _ a)) b)) left)
 
 pub returns-in-Err-clause-welcome : goal.returns-in-Err-clause-welcome
-returns-in-Err-clause-welcome g c logs nine = fair_status c.in-Err.fault ⊤ tt (c.in-Err.ensures.fair logs) (sym c.status.ensures ∙ nine)
+returns-in-Err-clause-welcome g c logs =
+    let never = fair_status c.in-Err.fault ⊤ tt (c.in-Err.ensures.fair logs) in
+    (λ seven. never.0 (sym c.status.ensures ∙ seven), λ nine. never.1 (sym c.status.ensures ∙ nine))

@@ -12,6 +12,9 @@ use Rattle.lossy_link.specs.Fates.{PlanView}
 use Rattle.air_bus.specs.History.{IsAired}
 use Rattle.store_run.specs.declared.ran.RunLog.{RunLog}
 use Rattle.photon_cli.specs.Join.{no_plan}
+use Rattle.outside.specs.Faults.{Rose}
+use Rattle.store_run.proofs.Counting.{rose_before}
+use Rattle.photon_cli.proofs.Causing.{later_caused, log_caused}
 use Rattle.photon_cli.proofs.Ends.{late_own, log_own}
 use Rattle.photon_cli.proofs.Runs.{history, is_asked, placed_ids, run_setting, setting_of}
 use Rattle.photon_cli.proofs.engine.join.join_logs.Goals as goal
@@ -166,3 +169,35 @@ returns-in-Err-checked_logs-clause-own g c = let x = c.in-Err-checked_logs.ensur
 
 pub returns-in-Err-run_lines-clause-own : goal.returns-in-Err-run_lines-clause-own
 returns-in-Err-run_lines-clause-own g c = late_own c.in-Err-run_lines.fault _ _ c.in-Err-run_lines.ensures.cause
+
+pub returns-in-Err-checked_logs-clause-caused : goal.returns-in-Err-checked_logs-clause-caused
+returns-in-Err-checked_logs-clause-caused g c disks logs s asked =
+    let e = c.in-Err-checked_logs.ensures in
+    log_caused s (g.S.Store.image c.args.store.now) _ _ c.in-Err-checked_logs.fault e.fault.0 e.fault.1 (λ is. e.count.rose (e.fault.0, ap Err is))
+
+pub returns-in-Err-run_lines-clause-caused : goal.returns-in-Err-run_lines-clause-caused
+returns-in-Err-run_lines-clause-caused g c disks logs s asked =
+    let told : List ℕ → Option (List ℕ) = g.F.Source.bytes c.args.files.now in
+    let v = values_in c.args.wanted.now in
+    let table = only_table v.shards c.in-Ok.table s.table c.in-Ok.ensures.found.0 asked.table.0 (sym c.as_bytes.ensures.value ∙ c.in-Ok.ensures.found.1) asked.table.1 in
+    let setting = run_setting told (g.F.Source.bytes c.checked_logs.new.files) v c.in-Ok.table c.in-Ok-checked_logs.clicks.lines_end s asked (c.in-Ok-checked_logs.ensures.same logs) table (c.in-Ok-checked_logs.ensures.end logs) in
+    let first = g.F.Source.faults c.args.files.now in
+    let mid = g.F.Source.faults c.checked_logs.new.files in
+    let last = g.F.Source.faults c.run_lines.new.files in
+    later_caused s (g.S.Store.image c.args.store.now) (Rose mid last) (Rose first last) _ (λ rose. rose_before first mid last c.checked_logs.ensures.count.later rose) c.in-Err-run_lines.fault (c.in-Err-run_lines.ensures.caused disks logs s setting)
+
+pub returns-clause-caused : goal.returns-clause-caused
+returns-clause-caused g c disks logs s asked =
+    let told : List ℕ → Option (List ℕ) = g.F.Source.bytes c.args.files.now in
+    let v = values_in c.args.wanted.now in
+    let table = only_table v.shards c.in-Ok.table s.table c.in-Ok.ensures.found.0 asked.table.0 (sym c.as_bytes.ensures.value ∙ c.in-Ok.ensures.found.1) asked.table.1 in
+    let setting = run_setting told (g.F.Source.bytes c.checked_logs.new.files) v c.in-Ok.table c.in-Ok-checked_logs.clicks.lines_end s asked (c.in-Ok-checked_logs.ensures.same logs) table (c.in-Ok-checked_logs.ensures.end logs) in
+    c.in-Ok-run_lines.ensures.passed disks logs s setting
+
+pub returns-in-Ok-write_report-clause-passed : goal.returns-in-Ok-write_report-clause-passed
+returns-in-Ok-write_report-clause-passed g c disks logs s asked =
+    let told : List ℕ → Option (List ℕ) = g.F.Source.bytes c.args.files.now in
+    let v = values_in c.args.wanted.now in
+    let table = only_table v.shards c.in-Ok.table s.table c.in-Ok.ensures.found.0 asked.table.0 (sym c.as_bytes.ensures.value ∙ c.in-Ok.ensures.found.1) asked.table.1 in
+    let setting = run_setting told (g.F.Source.bytes c.checked_logs.new.files) v c.in-Ok.table c.in-Ok-checked_logs.clicks.lines_end s asked (c.in-Ok-checked_logs.ensures.same logs) table (c.in-Ok-checked_logs.ensures.end logs) in
+    c.in-Ok-run_lines.ensures.passed disks logs s setting
