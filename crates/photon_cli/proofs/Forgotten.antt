@@ -1,5 +1,5 @@
 -- Commands whose words were taken for none, for want of memory: nothing was done.
-use Rattle.std.proofs.Common.{inl, inr, ◌≡◌, ◌++◌, ℕ, List, Bool, Option, IsTrue, arith}
+use Rattle.std.proofs.Common.{inl, inr, ⊎_elim, ◌≡◌, ◌++◌, ℕ, List, Bool, Option, IsTrue, arith}
 use Rattle.gate_journal.proofs.Growth.{continues_same}
 use Rattle.turn_defs.specs.Setting.{Setting}
 use Rattle.outside.specs.declared.store.DiskName.{DiskName}
@@ -53,19 +53,26 @@ module _ (logs sinks : Bool) (told : List ℕ → Option (List ℕ)) (files outp
     store = stays;
   }
 
-  pub verify_forgotten : (clicks : Text) (disks : Bool) (before : Images) (faulted : Type 0) → ((disk : DiskName) → StaysAs (before disk) (before disk))
-      → VerifyEnds logs sinks told files output errors ran old old err_old err_new status clicks disks before before faulted
-  verify_forgotten clicks disks before faulted stays = record {
+  pub verify_forgotten : (clicks : Text) (disks : Bool) (before : Images) (faulted : Type 0) (leaves : Setting → Type 0) → ((disk : DiskName) → StaysAs (before disk) (before disk))
+      → VerifyEnds logs sinks told files output errors ran old old err_old err_new status clicks disks before before faulted leaves
+  verify_forgotten clicks disks before faulted leaves stays = record {
     whole = λ l s d e. absurd (omega (arith, eight, e));
     missing = λ l s d e. absurd (omega (arith, eight, e));
     lines = λ l e. absurd (omega (arith, eight, e));
     invalid = λ l bad calm. inr eight;
     words = λ e. omega (arith, eight, e);
     stopped = λ e. absurd (omega (arith, eight, e));
+    welcome = λ d l g over replicas few sound leaves. (λ seven. omega (arith, eight, seven), λ nine. omega (arith, eight, nine));
+    damaged = λ d l g over disk taken none calm still. inr eight;
+    misplaced = λ d l g over other calm still. inr (inr eight);
+    limited = λ d l g over at calm still. inr (inr (inr eight));
+    passed = λ d l g over e. absurd (⊎_elim (λ zero. let no : ⊥ = omega (arith, eight, zero) in no) (λ one. let no : ⊥ = omega (arith, eight, one) in no) e);
+    caused = λ l. inr (inr (fault.Memory, eight, (tt, λ d g over. tt)));
     prefix = λ l s d e. absurd (omega (arith, eight, e));
-    tells = λ l s calm. inr (inr (fault.Memory, eight, tt, tells s calm));
+    tells = λ l s calm. inr (inr (fault.Memory, eight, (tt, λ d g over. tt), tells s calm));
     stays = λ d disk. stays disk;
     sound = λ d g sound. sound;
+    complete = λ d l g over replicas few sound leaves below calm still quiet. inr (inr eight);
   }
 
   pub bulk_forgotten : (v : BulkValues) (untouched : Type 0) → untouched → BulkEnds logs sinks told files output errors ran old old err_old err_new status v untouched

@@ -90,7 +90,7 @@ is_asked told v table qs cs text logs = record {
   };
 }
 
-ends_there : (o : Option (List ℕ)) (g : Setting) (end_ : ℕ) → IsSomeAnd o (λ log. IsLogOf log g) → IsSomeAnd o (λ log. EndsAt log end_) → end_ ≡ end_from 0 g.clicks
+pub ends_there : (o : Option (List ℕ)) (g : Setting) (end_ : ℕ) → IsSomeAnd o (λ log. IsLogOf log g) → IsSomeAnd o (λ log. EndsAt log end_) → end_ ≡ end_from 0 g.clicks
 ends_there None g end_ h k = absurd h
 ends_there (Some log) g end_ h k = k g.clicks h.lines
 

@@ -1,5 +1,5 @@
 -- How each command ends, by its exit status.
-use Rattle.std.specs.Prelude.{ℕ, ◌≡◌, ◌≢◌, ◌⊎◌, List, Bool, true, false, Option, IsSomeAnd, IsTrue}
+use Rattle.std.specs.Prelude.{ℕ, ◌≡◌, ◌≢◌, ◌≤◌, ◌⊎◌, List, Bool, true, false, Option, IsSomeAnd, IsTrue}
 use Rattle.outside.specs.declared.store.DiskName.{DiskName}
 use Rattle.time_shards.specs.declared.ShardRow.{ShardRow}
 use Rattle.time_shards.specs.Text.{IsFirstBad}
@@ -15,12 +15,12 @@ use Rattle.store_laws.specs.Stores.{Images, IsSoundStore}
 use Rattle.store_run.specs.declared.ran.RunLog.{RunLog}
 use Rattle.store_run.specs.Refused.{HasPassed, IsTaken, WasJournal}
 use Rattle.photon_cli.specs.declared.engine.fault.Fault.{Fault}
-use Rattle.photon_cli.specs.Causes.{IsAtLimit, IsBelowLimits, IsMismatched}
+use Rattle.photon_cli.specs.Causes.{AreMisplaced, CanBeRead, IsAtLimit, IsBelowLimits, IsMismatched, IsOverLog, unasked}
 use Rattle.photon_cli.specs.Faults.{status_of}
 use Rattle.photon_cli.specs.Bulk.{PrintsTotals, PrintsTotalsPrefix}
 use Rattle.photon_cli.specs.Drill.{IsBadIn, IsPlanIn, PrintsDrill, PrintsDrillPrefix}
 use Rattle.photon_cli.specs.Join.{HasRun, IsAsked, IsInvalid, Prints, PrintsAfresh, PrintsPrefix, Refuses}
-use Rattle.photon_cli.specs.Told.{IsNamedInBulk, IsNamedInDrill, IsNamedInVerify, IsToldOf, TellsBy}
+use Rattle.photon_cli.specs.Told.{IsNamedInBulk, IsNamedInDrill, IsToldOf, IsToldOfVerify, TellsBy}
 use Rattle.photon_cli.specs.Verify.{IsUnreadable, PrintsKept, PrintsKeptPrefix}
 use Rattle.photon_cli.specs.Words.{BulkValues, IsTextOf, Values}
 
@@ -91,22 +91,33 @@ module _ (logs sinks : Bool) (told : List ℕ → Option (List ℕ)) (files outp
     -- at every status: it runs over disks of its own
     pub store : untouched
 
-  -- Of a verification over a click log and the store in a directory.
-  pub record VerifyEnds (clicks : Text) (disks : Bool) (before after : Images) (faulted : Type 0) : Type 0 where
+  -- Of a verification over a click log and the store in a directory; leaves as of a join.
+  pub record VerifyEnds (clicks : Text) (disks : Bool) (before after : Images) (faulted : Type 0) (leaves : Setting → Type 0) : Type 0 where
     -- 0 and 1: the report of what the disks keep was written, whole; 1 exactly where a line tells a missing click
     pub whole : IsTrue logs → IsTrue sinks → IsTrue disks → status ≡ 0 → PrintsKept told clicks before false old new
     pub missing : IsTrue logs → IsTrue sinks → IsTrue disks → status ≡ 1 → PrintsKept told clicks before true old new
     -- 3: only where the log has a refused line, and where it isn't valid always, but for a fault of it or want of memory
     pub lines : IsTrue logs → status ≡ 3 → (bad : BadLine) × IsSomeAnd (told clicks) (λ log. RefusesClick log bad)
     pub invalid : IsTrue logs → IsUnreadable told clicks → (files → ⊥) → (status ≡ 3) ⊎ (status ≡ 8)
-    -- 2 never; 6 only where the store's count rose
+    -- 2 never; 6 only where the store's count rose; 7 and 9 never over a sound store where a stop leaves something of each disk
     pub words : status ≢ 2
     pub stopped : status ≡ 6 → faulted
+    pub welcome : IsTrue disks → IsTrue logs → (g : Setting) → IsOverLog told clicks g → g.replicas ≡ 3 → g.joiners ≤ 4 → IsSoundStore g before → leaves g → (status ≢ 7) × (status ≢ 9)
+    -- 7, 9 and 10 as of a join, but that no topology is asked for
+    pub damaged : IsTrue disks → IsTrue logs → (g : Setting) → IsOverLog told clicks g → (disk : DiskName) → IsTaken (unasked g) before disk → (WasJournal g before disk → ⊥) → (files → ⊥) → (faulted → ⊥) → (status ≡ 7) ⊎ (status ≡ 8)
+    pub misplaced : IsTrue disks → IsTrue logs → (g : Setting) → IsOverLog told clicks g → AreMisplaced g before → (files → ⊥) → (faulted → ⊥) → (status ≡ 9) ⊎ ((status ≡ 7) ⊎ (status ≡ 8))
+    pub limited : IsTrue disks → IsTrue logs → (g : Setting) → IsOverLog told clicks g → IsAtLimit (unasked g) before → (files → ⊥) → (faulted → ⊥) → (status ≡ 10) ⊎ ((status ≡ 9) ⊎ ((status ≡ 7) ⊎ (status ≡ 8)))
+    -- 0 and 1 only where what the disks kept can be read; any other is of a fault that has its cause
+    pub passed : IsTrue disks → IsTrue logs → (g : Setting) → IsOverLog told clicks g → (status ≡ 0) ⊎ (status ≡ 1) → CanBeRead g before
+    pub caused : IsTrue logs → (status ≡ 0) ⊎ ((status ≡ 1) ⊎ ((f : Fault) × (status ≡ status_of f) × IsToldOfVerify told clicks disks before files faulted f))
     pub prefix : IsTrue logs → IsTrue sinks → IsTrue disks → status ≡ 5 → PrintsKeptPrefix told clicks before old new
-    pub tells : IsTrue logs → IsTrue sinks → (errors → ⊥) → ((status ≡ 1) × (err_new ≡ err_old)) ⊎ TellsBy (IsNamedInVerify told clicks) status err_old err_new
+    pub tells : IsTrue logs → IsTrue sinks → (errors → ⊥) → ((status ≡ 1) × (err_new ≡ err_old)) ⊎ TellsBy (IsToldOfVerify told clicks disks before files faulted) status err_old err_new
     -- at every status each disk stands for what it stood for, and a sound store stays sound
     pub stays : IsTrue disks → (disk : DiskName) → StaysAs (before disk) (after disk)
     pub sound : IsTrue disks → (g : Setting) → IsSoundStore g before → IsSoundStore g after
+    -- over a sound store, with no fault and nothing at its limit, it ends with 0 or 1, unless memory runs out
+    pub complete : IsTrue disks → IsTrue logs → (g : Setting) → IsOverLog told clicks g → g.replicas ≡ 3 → g.joiners ≤ 4 → IsSoundStore g before → leaves g → IsBelowLimits (unasked g) before
+        → (files → ⊥) → (faulted → ⊥) → (output → ⊥) → (status ≡ 0) ⊎ ((status ≡ 1) ⊎ (status ≡ 8))
 
   -- Of a bulk run; untouched as for a drill.
   pub record BulkEnds (v : BulkValues) (untouched : Type 0) : Type 0 where

@@ -9,7 +9,7 @@ use Rattle.store_laws.specs.Stores.{Images}
 use Rattle.photon_cli.specs.declared.engine.fault.Fault.{Fault}
 use Rattle.photon_cli.specs.declared.engine.fault.Fault.TheVariants as fault
 use Rattle.photon_cli.specs.Drill.{IsBadIn}
-use Rattle.photon_cli.specs.Causes.{HasCause}
+use Rattle.photon_cli.specs.Causes.{HasCause, HasCauseInVerify, IsOverLog}
 use Rattle.photon_cli.specs.Join.{IsAsked, Refuses}
 use Rattle.photon_cli.specs.Words.{BulkValues, Values}
 use Rattle.photon_cli.specs.Faults.{status_of, message}
@@ -55,6 +55,10 @@ module _ (told : List ℕ → Option (List ℕ)) where
   IsNamedInVerify clicks (fault.Run cause) = ⊤
   IsNamedInVerify clicks fault.Write = ⊤
   IsNamedInVerify clicks fault.Memory = ⊤
+
+  -- and where the disks tell what they hold it has its cause, whatever setting is over the log
+  abbrev pub IsToldOfVerify : Text → (disks : Bool) → Images → (files faulted : Type 0) → Fault → Type 0
+  IsToldOfVerify clicks disks before files faulted f = IsNamedInVerify clicks f × (IsTrue disks → (g : Setting) → IsOverLog told clicks g → HasCauseInVerify g before files faulted f)
 
 -- of a bulk run, which reads no file
 abbrev pub IsNamedInBulk : BulkValues → Fault → Type 0

@@ -1,5 +1,5 @@
--- No place that a sound store keeps is told as one that doesn't fit.
-use Rattle.std.proofs.Common.{◌≡◌, ◌≢◌, ℕ, ◌<◌, ◌==◌, List, [], ◌∷◌, ◌++◌, Bool, IsTrue, true, Some, refl, sym, subst, arith}
+-- What a sound store keeps isn't refused: no place, and no disk as damaged.
+use Rattle.std.proofs.Common.{◌≡◌, inl, inr, ℕ, ◌<◌, ◌≤◌, ◌==◌, List, [], ◌∷◌, ◌++◌, Bool, IsTrue, true, Option, Some, None, refl, sym, ◌∙◌, ap, subst, append_assoc, arith}
 use Rattle.std.specs.Bool.{⊤}
 use Rattle.std.proofs.lemmas.Bool.{eq-eqb, or_left, or_right}
 use Rattle.list_words.specs.Lists.{Each, has}
@@ -13,13 +13,21 @@ use Rattle.turn_defs.specs.Setting.{Setting}
 use Rattle.dispatch_node.specs.Places.{IsLogOf}
 use Rattle.kept_places.specs.declared.misplaced.Misplaced.{Misplaced}
 use Rattle.kept_places.specs.Kept.{KeptPlace, Fits, IsStart, on_disk, all_kept}
+use Rattle.topology_journal.specs.declared.topology.Topology.{Topology}
+use Rattle.site_disks.specs.Kinds.{joiners_kept}
+use Rattle.site_disks.specs.Opening.{WasDamaged}
+use Rattle.site_disks.specs.Refusals.{IsFirst, IsOfFirstDisk, joiner_names, other_names}
+use Rattle.site_disks.specs.declared.fault.DisksFault.{DisksFault}
+use Rattle.site_disks.specs.declared.fault.DisksFault.TheVariants as disks
+use Rattle.store_laws.specs.Laws.{ReadTopologyIsKept, TopologyFits}
 use Rattle.store_laws.specs.Stores.{Bytes, IsDisk, KeepSound, IsSoundStore}
 use Rattle.store_laws.proofs.Naming.{choose}
 use Rattle.store_laws.proofs.Keeping.{one_value}
 use Rattle.store_opening.specs.declared.refusal.Refusal.{Refusal}
-use Rattle.store_opening.specs.declared.refusal.Refusal.TheVariants.{Place}
+use Rattle.store_opening.specs.declared.refusal.Refusal.TheVariants.{Disks, Joiners, Table, Place, Limit, Read}
 use Rattle.store_opening.specs.Records.{KeptValues, AreKept, value_at}
-use Rattle.store_opening.specs.Causes.{AreTold, IfJudged, LeavesSomething}
+use Rattle.store_opening.specs.Causes.{AreTold, IsWelcome, LeavesSomething}
+use Rattle.store_opening.proofs.Damage.{no_damage}
 use Rattle.store_reading.specs.Reading.{IsCause}
 use Rattle.store_reading.proofs.Images.{two_at}
 
@@ -78,7 +86,39 @@ module _ (tells : Bool) (sure : IsTrue tells) (image : DiskName → List ℕ →
       first.misfit (each_there (Fits g.clicks) first.before _ first.after (subst (Each (Fits g.clicks)) first.order all_fit))
 
 pub no_place : (tells : Bool) → IsTrue tells → (image : DiskName → List ℕ → Type 0) (log_tells : Bool) → IsTrue log_tells → (log : List ℕ) (end_ old new : ℕ) (g : Setting) → IsLogOf log g → end_ ≡ end_from 0 g.clicks
-    → LeavesSomething g image → IsSoundStore g image → (r : Refusal) → IfJudged (AreKept tells image 0) (IsCause log_tells log end_ old new) r → (told : Misplaced) → r ≢ Place told
-no_place tells sure image log_tells log_sure log end_ old new g log_is end_is some sound r why told is =
-    let x = subst (IfJudged (AreKept tells image 0) (IsCause log_tells log end_ old new)) is why in
-    never_told tells sure image g some sound x.0 x.1 log_tells log_sure log end_ log_is end_is told x.2
+    → LeavesSomething g image → IsSoundStore g image → (k : KeptValues) → AreKept tells image 0 k → (r : Refusal) → IsCause log_tells log end_ old new k r → IsWelcome g image r
+no_place tells sure image log_tells log_sure log end_ old new g log_is end_is some sound k are (Disks disks.Memory) why = tt
+no_place tells sure image log_tells log_sure log end_ old new g log_is end_is some sound k are (Disks (disks.Store disk)) why = tt
+no_place tells sure image log_tells log_sure log end_ old new g log_is end_is some sound k are (Disks (disks.Damaged disk at)) why = absurd (cc why)
+no_place tells sure image log_tells log_sure log end_ old new g log_is end_is some sound k are (Joiners kept wanted) why = absurd why
+no_place tells sure image log_tells log_sure log end_ old new g log_is end_is some sound k are (Table kept wanted) why = absurd why
+no_place tells sure image log_tells log_sure log end_ old new g log_is end_is some sound k are (Place told) why = never_told tells sure image g some sound k are log_tells log_sure log end_ log_is end_is told why
+no_place tells sure image log_tells log_sure log end_ old new g log_is end_is some sound k are (Limit disk value) why = tt
+no_place tells sure image log_tells log_sure log end_ old new g log_is end_is some sound k are Read why = tt
+
+-- ---- no disk of a sound store is told as damaged
+
+-- the first of fewer names is the first of more
+first_of_more : (tells : Bool) (image : DiskName → List ℕ → Type 0) (names more : List DiskName) (disk : DiskName) → IsFirst tells image names disk → IsFirst tells image (names ++ more) disk
+first_of_more tells image names more disk first = record {
+  front = first.front;
+  rest = first.rest ++ more;
+  order = ap (λ (ns : List DiskName). ns ++ more) first.order ∙ append_assoc first.front (disk ∷ first.rest) more;
+  opened = first.opened;
+}
+
+first_with : (tells : Bool) (image : DiskName → List ℕ → Type 0) (joiners : ℕ) (kept : Option Topology) (disk : DiskName) → IsFirst tells image (other_names (joiners_kept kept 0)) disk → IsFirst tells image (other_names (joiners_kept kept joiners)) disk
+first_with tells image joiners None disk first = first_of_more tells image (other_names 0) (joiner_names joiners) disk first
+first_with tells image joiners (Some t) disk first = first
+
+-- with none asked for, or as many as the setting has
+first_asked : (tells : Bool) (image : DiskName → List ℕ → Type 0) (joiners : ℕ) (fault : DisksFault) → IsOfFirstDisk tells image 0 fault → IsOfFirstDisk tells image joiners fault
+first_asked tells image joiners fault (inl topology) = inl topology
+first_asked tells image joiners (disks.Store disk) (inr (kept, kept_in, first)) = inr (kept, kept_in, first_with tells image joiners kept disk first)
+first_asked tells image joiners (disks.Damaged disk at) (inr (kept, kept_in, first)) = inr (kept, kept_in, first_with tells image joiners kept disk first)
+first_asked tells image joiners disks.Memory (inr (kept, kept_in, first)) = inr (kept, kept_in, tt)
+
+pub undamaged : (tells : Bool) → IsTrue tells → (image : DiskName → List ℕ → Type 0) → ReadTopologyIsKept → TopologyFits → (g : Setting) → g.replicas ≡ 3 → g.joiners ≤ 4 → IsSoundStore g image
+    → (fault : DisksFault) → IsOfFirstDisk tells image 0 fault → WasDamaged image fault → IsWelcome g image (Disks fault)
+undamaged tells sure image read fits g replicas few sound fault first was =
+    no_damage tells sure image (record { joiners = g.joiners; table = g.table }) few read fits g (record { joiners = refl; table = refl }) replicas sound fault (first_asked tells image g.joiners fault first) was

@@ -1,19 +1,17 @@
 // A store read for verification.
-ghost use Rattle.std.specs.Prelude.{◌≡◌, ◌≢◌, ◌≤◌, Some, None, length, IsTrue, IfOk, IfErr, OnOk};
+ghost use Rattle.std.specs.Prelude.{◌≡◌, ◌≤◌, Some, None, length, IsTrue, IfOk, IfErr, OnOk};
 ghost use Rattle.outside.specs.declared.store.DiskName.{DiskName};
 ghost use Rattle.topology_journal.specs.declared.topology.Topology.{Topology as KeptTopology};
 ghost use Rattle.log_records.specs.Lines.{end_from};
 ghost use Rattle.turn_defs.specs.Setting.{Setting};
 ghost use Rattle.dispatch_node.specs.Places.{IsLogOf};
-ghost use Rattle.kept_places.specs.declared.misplaced.Misplaced.{Misplaced};
 ghost use Rattle.site_disks.specs.Lent.{StaysAs, GoesOn};
 ghost use Rattle.site_disks.specs.Refusals.{IsOfFirstDisk};
 ghost use Rattle.site_disks.specs.Opening.{RoseBy, WasDamaged};
 ghost use Rattle.store_laws.specs.Stores.{IsSoundStore};
 ghost use Rattle.store_opening.specs.Records.{keep_all, AreKept};
 ghost use Rattle.store_opening.specs.Leaving.{IsAsked};
-ghost use Rattle.store_opening.specs.Causes.{IfDisks, IfJudged, LeavesSomething};
-ghost use Rattle.store_opening.specs.declared.refusal.Refusal.TheVariants.{Place};
+ghost use Rattle.store_opening.specs.Causes.{IfDisks, IfJudged, IsWelcome, LeavesSomething};
 ghost use Rattle.store_reading.specs.Reading.{AreFine, IsOfValues, IsRead, IsCause};
 ghost use Rattle.store_reading.specs.Telling.{Tells, KeepsNothing};
 
@@ -24,7 +22,7 @@ use outside::{Disk, LogFile, Store};
 use photon_model::verification;
 use site_disks::{DisksFault, SiteDisks, give_back, open_disks};
 use std::alloc::Global;
-use store_laws::{once, opened, read, stays};
+use store_laws::{fits, once, opened, read, stays};
 use store_opening::Refusal;
 use topology_journal::{Topology, TopologyJournal};
 
@@ -119,9 +117,9 @@ pub fn read_store<S: Store, L: LogFile>(
     ensures damaged { IsTrue S.Disk.tells → IfErr result (IfDisks (WasDamaged (S.image store.old))) }
     ensures cause { IfErr result (IfJudged (AreKept S.Disk.tells (S.image store.old) 0) (IsCause L.tells (L.bytes clicks.old) end (L.faults clicks.old) (L.faults clicks.new))) }
 
-    // Of a sound store no place is refused, if a stop leaves something of each of its disks.
-    ensures welcome { IsTrue S.Disk.tells → IsTrue L.tells → (g : Setting) → IsLogOf (L.bytes clicks.old) g → end ≡ end_from 0 g.clicks → LeavesSomething g (S.image store.old) → IsSoundStore g (S.image store.old)
-        → IfErr result (λ r. (told : Misplaced) → r ≢ Place told) }
+    // A sound store is refused neither for a place nor for a damaged disk, if a stop leaves something of each of its disks.
+    ensures welcome { IsTrue S.Disk.tells → IsTrue L.tells → (g : Setting) → IsLogOf (L.bytes clicks.old) g → end ≡ end_from 0 g.clicks → g.replicas ≡ 3 → g.joiners ≤ 4 → LeavesSomething g (S.image store.old) → IsSoundStore g (S.image store.old)
+        → IfErr result (IsWelcome g (S.image store.old)) }
 
     ensures same { IsTrue L.tells → L.bytes clicks.new ≡ L.bytes clicks.old }
     ensures count { S.faults store.old ≤ S.faults store.new }
@@ -131,6 +129,7 @@ pub fn read_store<S: Store, L: LogFile>(
     once();
     opened::<S>();
     read();
+    fits();
     verification();
     let disks = match open_disks(alloc, store, 0) {
         Ok(disks) => disks,

@@ -1,5 +1,5 @@
 // A verification: no node runs, and what the disks keep is reported.
-ghost use Rattle.std.specs.Prelude.{◌≡◌, ◌≤◌, ◌⊎◌, ℕ, List, map, None, Some, IfErr, IfOk, IsErrAnd, IsSomeAnd, IsTrue, Err};
+ghost use Rattle.std.specs.Prelude.{◌≡◌, ◌≤◌, ◌⊎◌, ℕ, List, map, None, Some, IfErr, IfOk, OnOk, IsErrAnd, IsSomeAnd, IsTrue, Err, ⊤};
 ghost use Rattle.std.specs.List.{list_any};
 ghost use Rattle.outside.specs.declared.store.DiskName.{DiskName};
 ghost use Rattle.outside.specs.Faults.{Counts, Rose};
@@ -7,6 +7,7 @@ ghost use Rattle.time_shards.specs.declared.ShardRow.{ShardRow};
 ghost use Rattle.log_records.specs.declared.records.ClickRec.{ClickRec as Click};
 ghost use Rattle.log_records.specs.declared.why.Why.{Why as Reason};
 ghost use Rattle.log_records.specs.Check.{IsClickLog, RefusesClick};
+ghost use Rattle.log_records.specs.Lines.{end_from};
 ghost use Rattle.log_defs.specs.Report.{distinct, is_missing};
 ghost use Rattle.log_defs.specs.declared.ReportLine.TheVariants.{U};
 ghost use Rattle.run_faults.specs.declared.fault.LogName.TheVariants.{Clicks};
@@ -16,10 +17,12 @@ ghost use Rattle.topology_journal.specs.declared.topology.Topology.{Topology as 
 ghost use Rattle.turn_defs.specs.Setting.{Setting};
 ghost use Rattle.site_disks.specs.Lent.{StaysAs};
 ghost use Rattle.store_laws.specs.Stores.{IsSoundStore};
+ghost use Rattle.store_opening.specs.Causes.{LeavesSomething};
 ghost use Rattle.store_run.specs.Causes.{of_place};
 ghost use Rattle.verify_pass.specs.Classes.{line_of};
 ghost use Rattle.photon_cli.specs.declared.engine.fault.Fault.TheVariants as fault;
-ghost use Rattle.photon_cli.specs.LogFaults.{IsFailedRead, IsLogFault, IsOfRun, IsOfVerify};
+ghost use Rattle.photon_cli.specs.Causes.{CanBeRead, HasCauseInVerify, IsOverLog};
+ghost use Rattle.photon_cli.specs.LogFaults.{IsFailedRead, IsFair, IsLogFault, IsOfRun, IsOfVerify};
 ghost use Rattle.photon_cli.specs.Verify.{IsReadFrom, PrintsKept, PrintsKeptPrefix};
 
 use super::checked::{clicks_in_log, open_log};
@@ -109,6 +112,9 @@ fn kept_store<F: Source, S: Store>(
     ensures stays { IsTrue S.Disk.tells → (disk : DiskName) → StaysAs (S.image store.old disk) (S.image store.new disk) }
     ensures sound { IsTrue S.Disk.tells → (g : Setting) → IsSoundStore g (S.image store.old) → IsSoundStore g (S.image store.new) }
     ensures cause { IfErr result IsOfRun }
+    ensures caused { IsTrue S.Disk.tells → IsTrue F.Log.tells → (g : Setting) → IsOverLog (F.bytes files.old) clicks.now g → end ≡ end_from 0 g.clicks → IfErr result (HasCauseInVerify g (S.image store.old) (Rose (F.faults files.old) (F.faults files.new)) (Rose (S.faults store.old) (S.faults store.new))) }
+    ensures passed { IsTrue S.Disk.tells → IsTrue F.Log.tells → (g : Setting) → IsOverLog (F.bytes files.old) clicks.now g → end ≡ end_from 0 g.clicks → OnOk result (CanBeRead g (S.image store.old)) }
+    ensures welcome { IsTrue S.Disk.tells → IsTrue F.Log.tells → (g : Setting) → IsOverLog (F.bytes files.old) clicks.now g → end ≡ end_from 0 g.clicks → g.replicas ≡ 3 → g.joiners ≤ 4 → ((s : S) → LeavesSomething g (S.image s)) → IsSoundStore g (S.image store.old) → IfErr result (IsFair ⊤) }
     ensures log_count { Counts (F.faults files.old) (F.faults files.new) (IsErrAnd result IsFailedRead) }
     ensures count { Counts (S.faults store.old) (S.faults store.new) ((place : Place) × (result ≡ Err (fault.Run (cause.Store place)))) }
 {
@@ -147,6 +153,9 @@ pub fn verify_store<F: Source, S: Store, K: Sink>(
     ensures stays { IsTrue S.Disk.tells → (disk : DiskName) → StaysAs (S.image store.old disk) (S.image store.new disk) }
     ensures sound { IsTrue S.Disk.tells → (g : Setting) → IsSoundStore g (S.image store.old) → IsSoundStore g (S.image store.new) }
     ensures own { IfErr result IsOfVerify }
+    ensures caused { IsTrue S.Disk.tells → IsTrue F.Log.tells → (g : Setting) → IsOverLog (F.bytes files.old) clicks.now g → IfErr result (HasCauseInVerify g (S.image store.old) (Rose (F.faults files.old) (F.faults files.new)) (Rose (S.faults store.old) (S.faults store.new))) }
+    ensures passed { IsTrue S.Disk.tells → IsTrue F.Log.tells → (g : Setting) → IsOverLog (F.bytes files.old) clicks.now g → OnOk result (CanBeRead g (S.image store.old)) }
+    ensures welcome { IsTrue S.Disk.tells → IsTrue F.Log.tells → (g : Setting) → IsOverLog (F.bytes files.old) clicks.now g → g.replicas ≡ 3 → g.joiners ≤ 4 → ((s : S) → LeavesSomething g (S.image s)) → IsSoundStore g (S.image store.old) → IfErr result (IsFair ⊤) }
     ensures read { Counts (F.faults files.old) (F.faults files.new) (IsErrAnd result IsFailedRead) }
     ensures write { Counts (K.faults out.old) (K.faults out.new) (result ≡ Err fault.Write) }
     ensures disks { Counts (S.faults store.old) (S.faults store.new) ((place : Place) × (result ≡ Err (fault.Run (cause.Store place)))) }

@@ -55,10 +55,17 @@ returns-in-Verify-clause-verify g c clicks state asks =
       invalid = c.verify_command.ensures.invalid;
       words = c.verify_command.ensures.words;
       stopped = λ six. c.verify_command.ensures.disks.rose six;
+      welcome = c.verify_command.ensures.welcome;
+      damaged = c.verify_command.ensures.damaged;
+      misplaced = c.verify_command.ensures.misplaced;
+      limited = c.verify_command.ensures.limited;
+      passed = c.verify_command.ensures.passed;
+      caused = c.verify_command.ensures.caused;
       prefix = c.verify_command.ensures.prefix;
       tells = λ here sinks calm. ⊎_elim (λ one. inl (one, c.verify_command.ensures.silent sinks one)) (λ told. inr told) (c.verify_command.ensures.told here sinks calm);
       stays = c.verify_command.ensures.stays;
       sound = c.verify_command.ensures.sound;
+      complete = c.verify_command.ensures.complete;
     })
 
 pub returns-in-Bulk-clause-bulk : goal.returns-in-Bulk-clause-bulk

@@ -16,7 +16,7 @@ use Rattle.store_reading.proofs.Blank.{ok_nothing}
 use Rattle.store_reading.proofs.Reasons.{judged, of_memory, err_weaker}
 use Rattle.store_reading.proofs.Telling.{ok_read, ok_tells}
 use Rattle.store_reading.proofs.Values.{values_in, count_named}
-use Rattle.store_reading.proofs.Welcome.{no_place}
+use Rattle.store_reading.proofs.Welcome.{no_place, undamaged}
 use Rattle.store_reading.proofs.reading.read_store.Given as given
 use Rattle.store_reading.proofs.reading.read_store.Goals as goal
 
@@ -115,7 +115,11 @@ returns-clause-damaged g c tells =
     (λ r why. of_memory (WasDamaged (g.S.Store.image c.args.store.now)) g.L.LogFile.tells (g.L.LogFile.bytes c.args.clicks.now) c.args.end (g.L.LogFile.faults c.args.clicks.now) (g.L.LogFile.faults c.read_disks-read.new.clicks) (its_values g c) r tt why) c.read_disks-read.ensures.cause
 
 pub returns-clause-welcome : goal.returns-clause-welcome
-returns-clause-welcome g c sure log_sure s log_is end_is some sound =
+returns-clause-welcome g c sure log_sure s log_is end_is replicas few some sound =
     err_weaker _ _ c.read_disks-read.result
-    (no_place g.S.Disk.Disk.tells sure (g.S.Store.image c.args.store.now) g.L.LogFile.tells log_sure (g.L.LogFile.bytes c.args.clicks.now) c.args.end (g.L.LogFile.faults c.args.clicks.now) (g.L.LogFile.faults c.read_disks-read.new.clicks) s log_is end_is some sound)
-    (returns-clause-cause g c)
+    (λ r why. no_place g.S.Disk.Disk.tells sure (g.S.Store.image c.args.store.now) g.L.LogFile.tells log_sure (g.L.LogFile.bytes c.args.clicks.now) c.args.end (g.L.LogFile.faults c.args.clicks.now) (g.L.LogFile.faults c.read_disks-read.new.clicks) s log_is end_is some sound (its_values g c) (its_kept g c) r why)
+    c.read_disks-read.ensures.cause
+
+pub returns-in-Err-clause-welcome : goal.returns-in-Err-clause-welcome
+returns-in-Err-clause-welcome g c sure log_sure s log_is end_is replicas few some sound =
+    undamaged g.S.Disk.Disk.tells sure (g.S.Store.image c.args.store.now) c.read.ensures.topology c.fits.ensures.only s replicas few sound c.in-Err.fault c.in-Err.ensures.first (c.in-Err.ensures.damaged sure)

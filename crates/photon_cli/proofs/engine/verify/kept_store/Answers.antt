@@ -1,6 +1,15 @@
-use Rattle.std.proofs.Common.{◌≡◌, List, ℕ, subst}
+use Rattle.std.proofs.Common.{◌≡◌, inr, List, ℕ, Err, sym, ap, subst}
+use Rattle.std.specs.Prelude.{⊤}
+use Rattle.outside.specs.Faults.{Rose}
 use Rattle.outside.specs.declared.store.DiskName.{DiskName}
+use Rattle.run_faults.specs.declared.fault.LogName.TheVariants.{Clicks}
+use Rattle.run_faults.specs.declared.fault.RunFault.{RunFault}
+use Rattle.store_run.proofs.Counting.{rose_before}
+use Rattle.photon_cli.specs.declared.engine.fault.Fault.TheVariants as fault
+use Rattle.photon_cli.specs.Causes.{HasCauseInVerify, StopsReading}
+use Rattle.photon_cli.specs.LogFaults.{IsFair}
 use Rattle.photon_cli.specs.Verify.{IsReadFrom}
+use Rattle.photon_cli.proofs.Reading.{log_fair, log_in_verify, log_over, place_fair, place_stops, read_so, refused_so, rose_shut, welcome_so}
 use Rattle.photon_cli.proofs.Refusals.{within}
 use Rattle.photon_cli.proofs.Verifying.{read_before, sound_before}
 use Rattle.photon_cli.proofs.engine.verify.kept_store.Goals as goal
@@ -24,3 +33,58 @@ returns-in-Err-read-clause-stays g c here disk b now = let x = c.read_store-read
 pub returns-in-Err-read-clause-sound : goal.returns-in-Err-read-clause-sound
 returns-in-Err-read-clause-sound g c here s sound =
     c.read_store-read.ensures.sound here s (sound_before (g.S.Store.image c.args.store.now) (g.S.Store.image c.place.new.self) (λ disk b now. c.place.ensures.same here disk b now) s sound)
+
+pub returns-in-Err-clause-caused : goal.returns-in-Err-clause-caused
+returns-in-Err-clause-caused g c disks logs s over end = log_in_verify s (g.S.Store.image c.args.store.now) _ _ c.in-Err.fault Clicks (inr c.in-Err.ensures.fault) (λ is. c.in-Err.ensures.count.rose (ap Err is))
+
+pub returns-in-Err-clause-welcome : goal.returns-in-Err-clause-welcome
+returns-in-Err-clause-welcome g c disks logs s over end replicas few leaves sound = log_fair c.in-Err.fault Clicks (inr c.in-Err.ensures.fault)
+
+pub returns-in-Err-place-clause-caused : goal.returns-in-Err-place-clause-caused
+returns-in-Err-place-clause-caused g c disks logs s over end =
+    subst (HasCauseInVerify s (g.S.Store.image c.args.store.now) _ _) (sym c.fault_of_place.ensures)
+    (place_stops s (g.S.Store.image c.args.store.now) _ _ c.in-Err-place.fault (λ is. c.in-Err-place.ensures.count.rose (ap Err is)))
+
+pub returns-in-Err-place-clause-welcome : goal.returns-in-Err-place-clause-welcome
+returns-in-Err-place-clause-welcome g c disks logs s over end replicas few leaves sound = subst (IsFair ⊤) (sym c.fault_of_place.ensures) (place_fair c.in-Err-place.fault)
+
+pub returns-in-Err-read-clause-caused : goal.returns-in-Err-read-clause-caused
+returns-in-Err-read-clause-caused g c disks logs s over end =
+    let before = g.S.Store.image c.args.store.now in
+    let placed = g.S.Store.image c.place.new.self in
+    let inside : (disk : DiskName) (b : List ℕ) → placed disk b → before disk b = λ disk b now. c.place.ensures.same disks disk b now in
+    let bytes = g.F.Log.LogFile.bytes c.in-Ok.log in
+    let first = g.F.Source.faults c.args.files.now in
+    let last = g.F.Source.faults c.shut-2.new.self in
+    let old = g.F.Log.LogFile.faults c.in-Ok.log in
+    let new = g.F.Log.LogFile.faults c.read_store-read.new.clicks in
+    let store_old = g.S.Store.faults c.args.store.now in
+    let store_placed = g.S.Store.faults c.place.new.self in
+    let store_new = g.S.Store.faults c.read_store-read.new.store in
+    let e = c.in-Err-read.ensures in
+    subst (λ (f : RunFault). StopsReading s before (Rose first last) (Rose store_old store_new) f) (sym c.fault_of_refusal.ensures)
+    (refused_so before placed inside s g.S.Disk.Disk.tells g.F.Log.LogFile.tells disks logs bytes c.args.end (log_over (g.F.Source.bytes c.args.files.now c.args.clicks.now) bytes s (c.in-Ok.ensures.bytes logs) over) end
+    old new store_placed store_new (Rose first last) (Rose store_old store_new)
+    (λ rose. rose_shut first (g.F.Source.faults c.open_log.new.files) last old new c.in-Ok.ensures.fresh c.open_log.ensures.count.later c.shut-2.ensures.count rose)
+    (λ rose. rose_before store_old store_placed store_new c.place.ensures.count.later rose)
+    c.in-Err-read.refusal e.first e.rose (e.damaged disks) e.cause)
+
+pub returns-in-Ok-read-clause-passed : goal.returns-in-Ok-read-clause-passed
+returns-in-Ok-read-clause-passed g c disks logs s over end =
+    let before = g.S.Store.image c.args.store.now in
+    let placed = g.S.Store.image c.place.new.self in
+    let inside : (disk : DiskName) (b : List ℕ) → placed disk b → before disk b = λ disk b now. c.place.ensures.same disks disk b now in
+    let bytes = g.F.Log.LogFile.bytes c.in-Ok.log in
+    let log_is = log_over (g.F.Source.bytes c.args.files.now c.args.clicks.now) bytes s (c.in-Ok.ensures.bytes logs) over in
+    read_so before placed inside s g.S.Disk.Disk.tells g.F.Log.LogFile.tells disks logs bytes c.args.end log_is end c.in-Ok-read.kept c.in-Ok-read.ensures.kept
+
+pub returns-in-Err-read-clause-welcome : goal.returns-in-Err-read-clause-welcome
+returns-in-Err-read-clause-welcome g c disks logs s over end replicas few leaves sound =
+    let before = g.S.Store.image c.args.store.now in
+    let placed = g.S.Store.image c.place.new.self in
+    let inside : (disk : DiskName) (b : List ℕ) → placed disk b → before disk b = λ disk b now. c.place.ensures.same disks disk b now in
+    let bytes = g.F.Log.LogFile.bytes c.in-Ok.log in
+    let log_is = log_over (g.F.Source.bytes c.args.files.now c.args.clicks.now) bytes s (c.in-Ok.ensures.bytes logs) over in
+    let some = leaves c.place.new.self in
+    subst (λ (f : RunFault). IsFair ⊤ (fault.Run f)) (sym c.fault_of_refusal.ensures)
+    (welcome_so s placed some c.in-Err-read.refusal (c.in-Err-read.ensures.welcome disks logs s log_is end replicas few some (sound_before before placed inside s sound)))

@@ -1,11 +1,16 @@
-use Rattle.std.proofs.Common.{◌++◌, ℕ, List, Option, inl, ap, sym, subst, ◌∙◌}
+use Rattle.std.proofs.Common.{◌++◌, ℕ, List, Option, Err, inl, ap, sym, subst, ◌∙◌}
 use Rattle.std.specs.List.{list_any}
 use Rattle.std.specs.Option.{IsSomeAnd}
 use Rattle.log_defs.specs.declared.ReportLine.{ReportLine}
 use Rattle.log_defs.specs.Report.{is_missing, text_of}
 use Rattle.report_text.specs.Stream.{TookPrefix}
+use Rattle.outside.specs.Faults.{Rose}
+use Rattle.dispatch_node.specs.Places.{IsLogOf}
+use Rattle.run_faults.specs.declared.fault.LogName.TheVariants.{Clicks}
+use Rattle.store_run.proofs.Counting.{rose_before}
 use Rattle.photon_cli.specs.Verify.{IsReadFrom}
-use Rattle.photon_cli.proofs.Runs.{clicks_there}
+use Rattle.photon_cli.proofs.Reading.{later_in_verify, log_fair, log_in_verify}
+use Rattle.photon_cli.proofs.Runs.{clicks_there, ends_there}
 use Rattle.photon_cli.proofs.Verifying.{told_of}
 use Rattle.photon_cli.proofs.engine.verify.verify_store.Goals as goal
 
@@ -54,3 +59,44 @@ returns-in-Ok-write_report-clause-valid g c logs = inl (clicks_there _ _ (c.in-O
 
 pub returns-clause-valid : goal.returns-clause-valid
 returns-clause-valid g c logs = inl (clicks_there _ _ (c.in-Ok.ensures.found logs))
+
+pub returns-in-Err-clause-caused : goal.returns-in-Err-clause-caused
+returns-in-Err-clause-caused g c disks logs s over = log_in_verify s (g.S.Store.image c.args.store.now) _ _ c.in-Err.fault Clicks c.in-Err.ensures.fault (λ is. c.in-Err.ensures.count.rose (ap Err is))
+
+pub returns-in-Err-clause-welcome : goal.returns-in-Err-clause-welcome
+returns-in-Err-clause-welcome g c disks logs s over replicas few leaves sound = log_fair c.in-Err.fault Clicks c.in-Err.ensures.fault
+
+pub returns-in-Err-kept_store-clause-caused : goal.returns-in-Err-kept_store-clause-caused
+returns-in-Err-kept_store-clause-caused g c disks logs s over =
+    let told : List ℕ → Option (List ℕ) = g.F.Source.bytes c.args.files.now in
+    let clicks = c.args.clicks.now in
+    let here = subst (λ (o : Option (List ℕ)). IsSomeAnd o (λ log. IsLogOf log s)) (sym (c.in-Ok.ensures.same logs clicks)) over in
+    let end = ends_there (told clicks) s c.in-Ok.checked.lines_end over (c.in-Ok.ensures.end logs) in
+    let first = g.F.Source.faults c.args.files.now in
+    let mid = g.F.Source.faults c.clicks_in_log.new.files in
+    let last = g.F.Source.faults c.kept_store.new.files in
+    later_in_verify s (g.S.Store.image c.args.store.now) (Rose mid last) (Rose first last) _ (λ rose. rose_before first mid last c.clicks_in_log.ensures.count.later rose) c.in-Err-kept_store.fault (c.in-Err-kept_store.ensures.caused disks logs s here end)
+
+pub returns-in-Err-kept_store-clause-welcome : goal.returns-in-Err-kept_store-clause-welcome
+returns-in-Err-kept_store-clause-welcome g c disks logs s over replicas few leaves sound =
+    let told : List ℕ → Option (List ℕ) = g.F.Source.bytes c.args.files.now in
+    let clicks = c.args.clicks.now in
+    let here = subst (λ (o : Option (List ℕ)). IsSomeAnd o (λ log. IsLogOf log s)) (sym (c.in-Ok.ensures.same logs clicks)) over in
+    let end = ends_there (told clicks) s c.in-Ok.checked.lines_end over (c.in-Ok.ensures.end logs) in
+    c.in-Err-kept_store.ensures.welcome disks logs s here end replicas few leaves sound
+
+pub returns-clause-caused : goal.returns-clause-caused
+returns-clause-caused g c disks logs s over =
+    let told : List ℕ → Option (List ℕ) = g.F.Source.bytes c.args.files.now in
+    let clicks = c.args.clicks.now in
+    let here = subst (λ (o : Option (List ℕ)). IsSomeAnd o (λ log. IsLogOf log s)) (sym (c.in-Ok.ensures.same logs clicks)) over in
+    let end = ends_there (told clicks) s c.in-Ok.checked.lines_end over (c.in-Ok.ensures.end logs) in
+    c.in-Ok-kept_store.ensures.passed disks logs s here end
+
+pub returns-in-Ok-write_report-clause-passed : goal.returns-in-Ok-write_report-clause-passed
+returns-in-Ok-write_report-clause-passed g c disks logs s over =
+    let told : List ℕ → Option (List ℕ) = g.F.Source.bytes c.args.files.now in
+    let clicks = c.args.clicks.now in
+    let here = subst (λ (o : Option (List ℕ)). IsSomeAnd o (λ log. IsLogOf log s)) (sym (c.in-Ok.ensures.same logs clicks)) over in
+    let end = ends_there (told clicks) s c.in-Ok.checked.lines_end over (c.in-Ok.ensures.end logs) in
+    c.in-Ok-kept_store.ensures.passed disks logs s here end
