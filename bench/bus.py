@@ -3,10 +3,11 @@
 
 usage: bench/bus.py [TURNS]      (default: 200000)
 
-Each of 1, 4 and 8 threads takes TURNS turns of its node in all, a begin and an end each, without packets, so that what is timed is
-the lock and the one entry that each call adds. The Rust program keeps its history, the nodes' phases and the number of open
-turns under a Mutex, with the same entries. Each is timed as a process, the best of three, less the same process with no turn.
-Where there is no rustc the Rust column is left out. Nothing is written outside a temporary folder.
+The program is `bench_parts` with its part `bus`: each of 1, 4 and 8 threads takes TURNS turns of its node in all, a begin and an
+end each, without packets, so that what is timed is the lock and the one entry that each call adds. The Rust program keeps its
+history, the nodes' phases and the number of open turns under a Mutex, with the same entries. Each is timed as a process, the best
+of three, less the same process with no turn. Where there is no rustc the Rust column is left out. Nothing is written outside a
+temporary folder.
 """
 import os
 import shutil
@@ -17,7 +18,7 @@ import tempfile
 from timing import rust_program, seconds
 
 TOP = os.path.dirname(os.path.dirname(os.path.abspath(__file__)))
-CRATE = os.path.join(TOP, "crates/bench_bus")
+CRATE = os.path.join(TOP, "crates/bench_parts")
 
 RUST = r"""
 use std::sync::{Arc, Mutex};
@@ -73,23 +74,23 @@ fn main() {
 
 def main():
     turns = int(sys.argv[1]) if len(sys.argv) > 1 else 200_000
-    ours = os.path.join(CRATE, "out/bench_bus")
+    ours = os.path.join(CRATE, "out/bench_parts")
     if shutil.which("rt") is not None:
-        print("building bench_bus; from nothing this takes some minutes", file=sys.stderr)
-        subprocess.run(["rt", "run", "--", "1", "0"], cwd=CRATE, stdout=subprocess.DEVNULL, stderr=subprocess.DEVNULL, check=False)
+        print("building bench_parts; from nothing this takes some minutes", file=sys.stderr)
+        subprocess.run(["rt", "run", "--", "none"], cwd=CRATE, stdout=subprocess.DEVNULL, stderr=subprocess.DEVNULL, check=False)
     if not os.path.exists(ours):
-        print("bench_bus isn't built: nothing timed")
+        print("bench_parts isn't built: nothing timed")
         return 1
     with tempfile.TemporaryDirectory() as folder:
         rust = rust_program(folder, RUST)
         for threads in (1, 4, 8):
             each = turns // 2 // threads
             cost, printed = {}, set()
-            for name, program in (("here", ours), ("Rust", rust)):
-                if program is None:
+            for name, words in (("here", [ours, "bus"]), ("Rust", [rust])):
+                if words[0] is None:
                     continue
-                start, _ = seconds([program, str(threads), "0"])
-                spent, said = seconds([program, str(threads), str(each)])
+                start, _ = seconds([*words, str(threads), "0"])
+                spent, said = seconds([*words, str(threads), str(each)])
                 cost[name] = (spent - start) / (2 * each * threads)
                 printed.add(said)
             line = f"{threads} threads: {cost['here'] * 1e9:8.0f} ns a turn"

@@ -8,7 +8,8 @@ are kept by time, under a bound that rises with each batch), `replay` (each inse
 `encode` and `decode` (an Insert packet). Of the air between nodes (`air`) it sends COUNT packets, a third of them late, to one inbox, and
 takes them when all wait; told are the time a packet for a tenth of COUNT and for COUNT, and the memory an entry of the history takes
 with all else that is kept (four entries and a payload of four bytes a packet). Each is timed as a process, the best of three, less the same
-process with the part `none`. Where there is no rustc the Rust column is left out. Nothing is written outside a temporary folder.
+process with the part `none`. Where there is no rustc the Rust column is left out. Nothing is written outside a temporary folder. The
+program's part `bus` is timed by bench/bus.py.
 """
 import os
 import shutil

@@ -1,7 +1,8 @@
 // Insert packets to bytes and back.
 use crate::registry::insert;
-use packet_codec::{DecodeFault, Packet, decode, encode};
+use packet_codec::{DecodeFault, decode, encode};
 use std::alloc::{AllocError, Global};
+use turn_defs::Packet;
 
 /// Encodes this many packets, and answers how many bytes that gave.
 pub fn encoded(alloc: Global, count: u32) -> Result<u64, AllocError> {

@@ -16,7 +16,7 @@ use Rattle.std.proofs.lemmas.List.FromFn.{sum_by-map-range_with_len_more}
 use Rattle.event_id.specs.declared.id.EventId.{EventId}
 use Rattle.event_id.specs.EventId.{id_cmp}
 use Rattle.log_records.specs.declared.records.ClickRec.{ClickRec}
-use Rattle.log_defs.specs.Report.{distinct}
+use Rattle.log_records.specs.Report.{distinct}
 use Rattle.bulk_logs.proofs.Valid.{each_made}
 
 -- ---- the order of ids

@@ -8,9 +8,9 @@ use Rattle.event_id.specs.EventId.{is_same, id_cmp}
 use Rattle.log_records.specs.declared.records.QueryRec.{QueryRec}
 use Rattle.log_records.specs.declared.records.ClickRec.{ClickRec}
 use Rattle.log_records.specs.Log.{line_feed, first}
-use Rattle.log_defs.specs.declared.ReportLine.{ReportLine}
-use Rattle.log_defs.specs.declared.ReportLine.TheVariants.{J, M, X, U}
-use Rattle.log_defs.specs.Report.{is_joined, is_missing, is_expired, is_unmatched, totals, line_of, pair_or_none}
+use Rattle.log_records.specs.declared.report.ReportLine.{ReportLine}
+use Rattle.log_records.specs.declared.report.ReportLine.TheVariants.{J, M, X, U}
+use Rattle.log_records.specs.Report.{is_joined, is_missing, is_expired, is_unmatched, totals, line_of, pair_or_none}
 use Rattle.bulk_logs.specs.Bulk.{drawn, query_id, click_micros, nowhere, query_at, click_at, queries, clicks, horizon, lines, kinds, kinds_made, totals_made, joined, expired, unmatched}
 use Rattle.bulk_logs.proofs.Valid.{click_apart}
 use Rattle.bulk_logs.proofs.Counting.{tied_micros, count_lines, apart_made, counted}

@@ -6,8 +6,8 @@ use Rattle.log_records.specs.declared.records.QueryRec.{QueryRec}
 use Rattle.log_records.specs.declared.records.ClickRec.{ClickRec}
 use Rattle.log_records.specs.Line.{query_line, click_line}
 use Rattle.log_records.specs.Log.{line_feed, whole}
-use Rattle.log_defs.specs.declared.ReportLine.{ReportLine}
-use Rattle.log_defs.specs.Report.{is_joined, is_missing, is_expired, is_unmatched, distinct, line_of}
+use Rattle.log_records.specs.declared.report.ReportLine.{ReportLine}
+use Rattle.log_records.specs.Report.{is_joined, is_missing, is_expired, is_unmatched, distinct, line_of}
 
 -- ---- the numbers drawn
 

@@ -1,6 +1,6 @@
 //! Laws over these logs.
 ghost use Rattle.std.specs.Prelude.{◌≡◌, ◌≤◌, ◌*◌, ◌^◌, ℕ, length};
-ghost use Rattle.log_defs.specs.Report.{totals};
+ghost use Rattle.log_records.specs.Report.{totals};
 ghost use Rattle.log_records.specs.Log.{HoldsQueries, HoldsClicks};
 ghost use Rattle.bulk_logs.specs.Bulk.{queries, clicks, query_log, click_log, lines, kinds, kinds_made, totals_made};
 

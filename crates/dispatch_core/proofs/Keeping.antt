@@ -7,7 +7,7 @@ use Rattle.list_words.proofs.Lists.{clash, has_push-false, has_without-false, di
 use Rattle.indexmap.specs.IndexSet.{contains}
 use Rattle.turn_defs.specs.Setting.{Setting}
 use Rattle.turn_defs.specs.Turns.{land}
-use Rattle.dispatch_core.specs.Dispatcher.{DispatcherKept, DispatcherLive, land_dispatcher, mark}
+use Rattle.turn_defs.specs.Dispatcher.{DispatcherKept, DispatcherLive, land_dispatcher, mark}
 use Rattle.dispatch_core.specs.Windows.{fresh_of, IsRising, AreBefore}
 use Rattle.dispatch_core.specs.Changes.{note_of, changed}
 use Rattle.dispatch_core.specs.Standing.{live_of, IsOf, IsOrdered, Stands, Fits, IsAlike}

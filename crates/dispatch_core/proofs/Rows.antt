@@ -3,13 +3,13 @@ use Rattle.std.proofs.Common.{◌≡◌, ℕ, ◌<◌, ◌%◌, Bool, true, fals
 use Rattle.std.specs.List.{list_any}
 use Rattle.std.proofs.lemmas.Bool.{cond-true, cond-false}
 use Rattle.log_records.specs.declared.records.ClickRec.{ClickRec as Click}
-use Rattle.packet_codec.specs.declared.packet.Packet.{Packet}
-use Rattle.packet_codec.specs.declared.node.Node.{Node}
+use Rattle.turn_defs.specs.declared.packet.Packet.{Packet}
+use Rattle.turn_defs.specs.declared.node.Node.{Node}
 use Rattle.list_words.specs.Lists.{has, Each}
 use Rattle.turn_defs.specs.Setting.{Setting}
 use Rattle.turn_defs.specs.Nodes.{Addressed}
 use Rattle.turn_defs.specs.Turns.{Out}
-use Rattle.dispatch_core.specs.Dispatcher.{DispatcherKept, DispatcherLive, waits}
+use Rattle.turn_defs.specs.Dispatcher.{DispatcherKept, DispatcherLive, waits}
 use Rattle.dispatch_core.specs.Windows.{fresh_of, IsRising}
 use Rattle.dispatch_core.specs.Dealing.{dealt, next_after, GoInTurn}
 use Rattle.dispatch_core.specs.Changes.{note_of, changed}

@@ -3,7 +3,7 @@ use Rattle.std.specs.Prelude.{true, false, [], ◌∷◌, ◌++◌, take, drop, 
 use Rattle.list_words.specs.Lists.{without}
 use Rattle.turn_defs.specs.Turns.{Note}
 use Rattle.turn_defs.specs.Turns as turns
-use Rattle.dispatch_core.specs.Dispatcher.{DispatcherLive, after_done, mark}
+use Rattle.turn_defs.specs.Dispatcher.{DispatcherLive, after_done, mark}
 use Rattle.dispatch_core.specs.Windows.{fresh_of}
 use Rattle.dispatch_core.specs.declared.turns.DispatchNote.{DispatchNote}
 use Rattle.dispatch_core.specs.declared.turns.DispatchNote.TheVariants as note

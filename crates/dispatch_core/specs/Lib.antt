@@ -1,4 +1,3 @@
-pub mod Dispatcher
 pub mod Rows
 pub mod Windows
 pub mod Dealing

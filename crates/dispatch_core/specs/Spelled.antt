@@ -2,10 +2,10 @@
 use Rattle.std.specs.Prelude.{ℕ, List, All, IfSome}
 use Rattle.log_records.specs.Line.{IsClick}
 use Rattle.log_records.specs.declared.records.ClickRec.{ClickRec as Click}
-use Rattle.packet_codec.specs.declared.packet.Packet.{Packet}
-use Rattle.packet_codec.specs.declared.packet.Packet.TheVariants.{Join}
-use Rattle.packet_codec.specs.declared.node.Node.{Node}
-use Rattle.packet_codec.specs.Packets.{IsPacket}
+use Rattle.turn_defs.specs.declared.packet.Packet.{Packet}
+use Rattle.turn_defs.specs.declared.packet.Packet.TheVariants.{Join}
+use Rattle.turn_defs.specs.declared.node.Node.{Node}
+use Rattle.turn_defs.specs.Packets.{IsPacket}
 use Rattle.dispatch_core.specs.declared.input.DispatchInput.{DispatchInput}
 use Rattle.dispatch_core.specs.declared.input.DispatchInput.TheVariants as input
 use Rattle.dispatch_core.specs.declared.input.TakenLine.{TakenLine}

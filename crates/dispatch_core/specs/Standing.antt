@@ -6,12 +6,12 @@ use Rattle.indexmap.specs.IndexSet.{contains, spare}
 use Rattle.list_words.specs.Lists.{has, Distinct, Each}
 use Rattle.log_records.specs.declared.records.ClickRec.{ClickRec as Click}
 use Rattle.log_records.specs.Lines.{ClickLine, at}
-use Rattle.packet_codec.specs.declared.node.Input.{Input}
-use Rattle.packet_codec.specs.declared.node.Input.TheVariants as model
+use Rattle.turn_defs.specs.declared.node.Input.{Input}
+use Rattle.turn_defs.specs.declared.node.Input.TheVariants as model
 use Rattle.turn_defs.specs.Setting.{Setting}
 use Rattle.turn_defs.specs.Nodes.{Addressed}
 use Rattle.turn_defs.specs.Turns.{Out}
-use Rattle.dispatch_core.specs.Dispatcher.{DispatcherKept, DispatcherLive, dispatcher_turn, dispatcher_start, dispatcher_looks}
+use Rattle.turn_defs.specs.Dispatcher.{DispatcherKept, DispatcherLive, dispatcher_turn, dispatcher_start, dispatcher_looks}
 use Rattle.dispatch_core.specs.Windows.{fresh_of, IsRising, AreBefore}
 use Rattle.dispatch_core.specs.Dealing.{dealt, next_after, GoInTurn}
 use Rattle.dispatch_core.specs.Changes.{note_of, changed}

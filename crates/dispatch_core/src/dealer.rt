@@ -1,7 +1,7 @@
 // The joiners of a site, one after another.
 ghost use Rattle.std.specs.Prelude.{◌≡◌, ◌<◌, ◌+◌, ◌*◌, ◌%◌, ◌≤◌};
 
-use packet_codec::Node;
+use turn_defs::Node;
 
 // The number of site 0's first joiner: two dispatchers, two servers and three replicas come before.
 const FIRST_JOINER: u16 = 7;

@@ -7,10 +7,10 @@ ghost use Rattle.log_records.specs.Line.{IsClick};
 ghost use Rattle.log_records.specs.Lines.{at};
 ghost use Rattle.turn_defs.specs.Setting.{Setting};
 ghost use Rattle.turn_defs.specs.Turns.{Out, land, idle};
-ghost use Rattle.packet_codec.specs.declared.node.Input.{Input};
-ghost use Rattle.dispatch_core.specs.Dispatcher.{DispatcherKept, DispatcherLive, land_dispatcher, has_room, retries, takes, ends, parks};
-ghost use Rattle.dispatch_core.specs.Dispatcher.{dispatcher_start, dispatcher_own, dispatcher_tick, dispatcher_gets};
-ghost use Rattle.dispatch_core.specs.Dispatcher.{dispatcher_wants, dispatcher_looks, dispatcher_unfinished, dispatcher_at_rest};
+ghost use Rattle.turn_defs.specs.declared.node.Input.{Input};
+ghost use Rattle.turn_defs.specs.Dispatcher.{DispatcherKept, DispatcherLive, land_dispatcher, has_room, retries, takes, ends, parks};
+ghost use Rattle.turn_defs.specs.Dispatcher.{dispatcher_start, dispatcher_own, dispatcher_tick, dispatcher_gets};
+ghost use Rattle.turn_defs.specs.Dispatcher.{dispatcher_wants, dispatcher_looks, dispatcher_unfinished, dispatcher_at_rest};
 ghost use Rattle.dispatch_core.specs.Dealing.{GoInTurn};
 ghost use Rattle.dispatch_core.specs.Changes.{note_of, changed};
 ghost use Rattle.dispatch_core.specs.Spelled.{IsTaken, ArePackets};
@@ -27,9 +27,9 @@ use crate::window::{end_of_done, finish, has_waiting, is_first_done, is_waiting,
 use crate::{DispatchInput, TakenLine, Turn};
 use indexmap::IndexSet;
 use log_records::ClickRec;
-use packet_codec::{Outcome, Packet};
 use std::alloc::{AllocError, Global};
 use std::collections::VecDeque;
+use turn_defs::{Outcome, Packet};
 
 // How many lines and positions in trial may be in the window.
 const WINDOW: usize = 64;

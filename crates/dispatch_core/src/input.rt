@@ -1,6 +1,6 @@
 // What a turn takes.
 use log_records::ClickRec;
-use packet_codec::{Node, Packet};
+use turn_defs::{Node, Packet};
 
 /// A whole line of the click log: the place of its first byte, the place behind its line feed, and its click.
 #[derive(Debug, Drop)]

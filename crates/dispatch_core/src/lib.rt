@@ -1,5 +1,5 @@
 //! The dispatcher of a site: it has joiners join each click of the log, and moves its offset past the clicks that are
-//! settled or parked. The rows of its turns stand in `specs/Dispatcher.antt`; `DispatchCore` carries them.
+//! settled or parked. The rows of its turns stand in `Dispatcher.antt` of `turn_defs`; `DispatchCore` carries them.
 #![tactic(auto)]
 
 mod clicks;

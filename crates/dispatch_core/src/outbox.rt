@@ -9,9 +9,9 @@ use crate::dealer::Dealer;
 use crate::line::FreshLine;
 use crate::turns::Change;
 use log_records::ClickRec;
-use packet_codec::{Node, Packet};
 use std::alloc::{AllocError, Global};
 use std::collections::VecDeque;
+use turn_defs::{Node, Packet};
 
 // Joins, each to the joiner behind that of the one before, and the dealer that says whose turn is next.
 #[derive(Debug, Drop)]

@@ -5,8 +5,8 @@ ghost use Rattle.dispatch_core.specs.Changes.{note_of, told};
 
 use crate::line::FreshLine;
 use indexmap::IndexSet;
-use packet_codec::{Node, Packet};
 use std::collections::VecDeque;
+use turn_defs::{Node, Packet};
 
 /// A record for one of the dispatcher's disks.
 #[derive(Clone, Copy, Debug, PartialEq, Eq)]

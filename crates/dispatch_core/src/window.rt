@@ -1,6 +1,6 @@
 // The window of lines that were taken and are not behind the offset yet.
 ghost use Rattle.std.specs.Prelude.{◌≡◌, map};
-ghost use Rattle.dispatch_core.specs.Dispatcher.{first_done, done_end, after_done, waits, mark, some_waits};
+ghost use Rattle.turn_defs.specs.Dispatcher.{first_done, done_end, after_done, waits, mark, some_waits};
 ghost use Rattle.dispatch_core.specs.Windows.{fresh_of, IsRising, IsFound};
 
 use crate::line::FreshLine;

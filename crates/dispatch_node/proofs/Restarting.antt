@@ -10,7 +10,7 @@ use Rattle.retry_log.specs.Pending as pending
 use Rattle.turn_defs.specs.Turns.{Note, land}
 use Rattle.site_node.specs.Bytes.{record_of}
 use Rattle.site_node.specs.States.{row, written, closes}
-use Rattle.dispatch_core.specs.Dispatcher.{DispatcherKept, land_dispatcher}
+use Rattle.turn_defs.specs.Dispatcher.{DispatcherKept, land_dispatcher}
 use Rattle.dispatch_core.specs.declared.turns.DispatchNote.{DispatchNote}
 use Rattle.dispatch_core.specs.declared.turns.DispatchNote.TheVariants.{Advance, Park, Settle}
 use Rattle.dispatch_node.specs.Kept.{landed, kept_as, takes_note, Holds, MayKeep}

@@ -4,13 +4,13 @@ use Rattle.std.specs.Prelude.{is_some, option_map}
 use Rattle.log_records.proofs.Places.{lines_follow}
 use Rattle.air_bus.specs.declared.entry.Input.{Input as Bytes}
 use Rattle.air_bus.specs.declared.entry.Input.TheVariants as bytes
-use Rattle.packet_codec.specs.declared.node.Input.{Input}
-use Rattle.packet_codec.specs.declared.node.Input.TheVariants.{Start, Own, Tick, Deliver}
+use Rattle.turn_defs.specs.declared.node.Input.{Input}
+use Rattle.turn_defs.specs.declared.node.Input.TheVariants.{Start, Own, Tick, Deliver}
 use Rattle.turn_defs.specs.Setting.{Setting}
 use Rattle.turn_defs.specs.Turns.{Note, Out, land}
 use Rattle.site_node.specs.Bytes.{Reads, IsJunk}
 use Rattle.site_node.specs.States.{MayTake, row_of}
-use Rattle.dispatch_core.specs.Dispatcher.{DispatcherKept, DispatcherLive, land_dispatcher, dispatcher_turn}
+use Rattle.turn_defs.specs.Dispatcher.{DispatcherKept, DispatcherLive, land_dispatcher, dispatcher_turn}
 use Rattle.dispatch_core.specs.Changes.{told}
 use Rattle.dispatch_core.specs.Standing.{out_of}
 use Rattle.dispatch_core.specs.declared.dispatch.DispatchCore.{DispatchCore}

@@ -3,7 +3,7 @@ use Rattle.std.proofs.Common.{◌≡◌, ◌⊎◌, inl, inr, ⊎_elim, ℕ, ◌
 use Rattle.std.specs.Prelude.{is_some, option_map, Result, Ok, Err, IfOk, OnOk, OnErr}
 use Rattle.air_bus.specs.declared.entry.Input.{Input as Bytes}
 use Rattle.air_bus.specs.declared.entry.Entry.TheVariants.{Begin, End}
-use Rattle.packet_codec.specs.declared.node.Input.{Input}
+use Rattle.turn_defs.specs.declared.node.Input.{Input}
 use Rattle.gate_journal.specs.declared.journal.JournalState.TheVariants.{Ready}
 use Rattle.offset_journal.specs.Offsets as offsets
 use Rattle.retry_log.specs.Pending as pending
@@ -12,7 +12,7 @@ use Rattle.turn_defs.specs.Turns.{Note, Out, land}
 use Rattle.site_node.specs.Bytes.{record_of, AreSpelled, Reads, IsJunk}
 use Rattle.site_node.specs.States.{State, Leads, row, written, closes}
 use Rattle.site_node.specs.Rosters as rosters
-use Rattle.dispatch_core.specs.Dispatcher.{DispatcherKept, DispatcherLive, land_dispatcher}
+use Rattle.turn_defs.specs.Dispatcher.{DispatcherKept, DispatcherLive, land_dispatcher}
 use Rattle.dispatch_core.specs.Changes.{told, note_of}
 use Rattle.dispatch_core.specs.Standing.{IsTurn, Stands, out_of}
 use Rattle.dispatch_core.specs.declared.dispatch.DispatchCore.{DispatchCore}

@@ -2,7 +2,7 @@
 use Rattle.std.specs.Prelude.{◌≡◌, ℕ, ◌<◌, ◌≤◌, true, false, List, [], ◌∷◌, Option, Some, None, ⊤}
 use Rattle.list_words.specs.Lists.{has}
 use Rattle.turn_defs.specs.Turns.{Note, Advance, Park, Settle}
-use Rattle.dispatch_core.specs.Dispatcher.{DispatcherKept, DispatcherLive, Fresh, waits}
+use Rattle.turn_defs.specs.Dispatcher.{DispatcherKept, DispatcherLive, Fresh, waits}
 
 -- from the place a on the entries follow one another, none of them empty, and the last ends at or before z
 abbrev pub AreInOrder : ℕ → List Fresh → ℕ → Type 0

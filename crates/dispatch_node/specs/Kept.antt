@@ -6,7 +6,7 @@ use Rattle.gate_journal.specs.declared.journal.JournalState.{JournalState}
 use Rattle.gate_journal.specs.declared.journal.JournalState.TheVariants.{Ready}
 use Rattle.offset_journal.specs.Offsets as offsets
 use Rattle.retry_log.specs.Pending as pending
-use Rattle.dispatch_core.specs.Dispatcher.{DispatcherKept, land_dispatcher}
+use Rattle.turn_defs.specs.Dispatcher.{DispatcherKept, land_dispatcher}
 use Rattle.dispatch_core.specs.Changes.{told}
 use Rattle.dispatch_core.specs.declared.turns.DispatchNote.{DispatchNote}
 use Rattle.dispatch_core.specs.declared.turns.DispatchNote.TheVariants.{Advance, Park, Settle}

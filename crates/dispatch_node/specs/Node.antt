@@ -3,15 +3,15 @@ use Rattle.std.specs.Prelude.{◌≡◌, ℕ, List, Bool, true, Option, Some, No
 use Rattle.gate_journal.specs.declared.journal.JournalState.{JournalState}
 use Rattle.air_bus.specs.declared.entry.Input.{Input as Bytes}
 use Rattle.air_bus.specs.declared.entry.Entry.{Entry}
-use Rattle.packet_codec.specs.declared.node.Input.{Input}
-use Rattle.packet_codec.specs.declared.node.Input.TheVariants.{Start, Own, Tick, Deliver}
+use Rattle.turn_defs.specs.declared.node.Input.{Input}
+use Rattle.turn_defs.specs.declared.node.Input.TheVariants.{Start, Own, Tick, Deliver}
 use Rattle.turn_defs.specs.Setting.{Setting}
 use Rattle.turn_defs.specs.Turns.{Note}
 use Rattle.site_node.specs.Bytes.{record_of, AreSpelled, Reads}
 use Rattle.site_node.specs.States.{State, Rows, row, Leads}
 use Rattle.site_node.specs.declared.roster.Roster.{Roster}
 use Rattle.site_node.specs.Rosters as rosters
-use Rattle.dispatch_core.specs.Dispatcher.{DispatcherKept, DispatcherLive, dispatcher_start, dispatcher_turn, land_dispatcher}
+use Rattle.turn_defs.specs.Dispatcher.{DispatcherKept, DispatcherLive, dispatcher_start, dispatcher_turn, land_dispatcher}
 use Rattle.dispatch_core.specs.Changes.{told, note_of}
 use Rattle.dispatch_core.specs.Standing.{IsOf, Stands, CanKeep}
 use Rattle.dispatch_core.specs.declared.dispatch.DispatchCore.{DispatchCore}

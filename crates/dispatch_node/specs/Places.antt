@@ -3,7 +3,7 @@ use Rattle.std.specs.Prelude.{◌≡◌, ◌⊎◌, ℕ, ◌^◌, ◌≤◌, tru
 use Rattle.list_words.specs.Lists.{Each, has}
 use Rattle.log_records.specs.Lines.{ClickLine, at, HoldsLines, IsBoundary}
 use Rattle.turn_defs.specs.Setting.{Setting}
-use Rattle.dispatch_core.specs.Dispatcher.{DispatcherKept, DispatcherLive, Fresh}
+use Rattle.turn_defs.specs.Dispatcher.{DispatcherKept, DispatcherLive, Fresh}
 
 -- the log was checked, and its lines are the setting's clicks
 pub record IsLogOf (log : List ℕ) (g : Setting) : Type 0 where

@@ -1,9 +1,9 @@
 // What a turn takes, with what its node looks up for it.
 ghost use Rattle.std.specs.Prelude.{◌≡◌, ◌≤◌, Option, true, IfOk, IfErr, IsErrOf, IsTrue};
 ghost use Rattle.outside.specs.Faults.{Rose};
-ghost use Rattle.packet_codec.specs.declared.node.Input.TheVariants as asked;
+ghost use Rattle.turn_defs.specs.declared.node.Input.TheVariants as asked;
 ghost use Rattle.turn_defs.specs.Setting.{Setting};
-ghost use Rattle.dispatch_core.specs.Dispatcher.{DispatcherKept, DispatcherLive, dispatcher_looks};
+ghost use Rattle.turn_defs.specs.Dispatcher.{DispatcherKept, DispatcherLive, dispatcher_looks};
 ghost use Rattle.dispatch_core.specs.Spelled.{IsTaken};
 ghost use Rattle.dispatch_core.specs.Standing.{Carries, IsOf, Stands, Takes};
 ghost use Rattle.dispatch_node.specs.Faults.{IsReadFault};
@@ -15,8 +15,8 @@ use crate::clicks::Clicks;
 use crate::journals::Journals;
 use dispatch_core::{DispatchCore, DispatchInput};
 use outside::{Disk, LogFile};
-use packet_codec::Input;
 use site_node::NodeFault;
+use turn_defs::Input;
 
 // A Start takes what the journals keep; an Own the click or the line that its row needs, if any; a Tick the clicks of the
 // positions in trial.

@@ -10,10 +10,10 @@ use air_bus::{Input as Begun, Packets, Payload};
 use dispatch_core::{DispatchCore, DispatchNote, Turn};
 use offset_journal::OffsetJournal;
 use outside::{Disk, Gate, LogFile, Point};
-use packet_codec::Input;
 use retry_log::RetryLog;
 use site_node::{Done, NodeFault, Roster, SiteNode, read_input, spell};
 use std::alloc::Global;
+use turn_defs::Input;
 
 /// The dispatcher of a site over its offset journal, its retry log and the click log: down, up, or stopped in an open turn.
 ///
@@ -54,7 +54,7 @@ impl<D: Disk, L: LogFile> DispatchNode<D, L> {
     ghost use Rattle.turn_defs.specs.Turns.{Out, land};
     ghost use Rattle.site_node.specs.Rosters as rosters;
     ghost use Rattle.dispatch_core.specs.Changes.{told};
-    ghost use Rattle.dispatch_core.specs.Dispatcher.{DispatcherKept, DispatcherLive, land_dispatcher};
+    ghost use Rattle.turn_defs.specs.Dispatcher.{DispatcherKept, DispatcherLive, land_dispatcher};
     ghost use Rattle.dispatch_core.specs.Standing.{HasSameNumbers, IsOf, IsTurn, Stands, StandsAs, out_of};
     ghost use Rattle.dispatch_node.specs.Faults.{IsReadFault};
     ghost use Rattle.dispatch_node.specs.Kept.{kept_as, takes_or_none};
@@ -286,7 +286,7 @@ impl<D: Disk, L: LogFile> SiteNode for DispatchNode<D, L> {
     ghost use Rattle.std.specs.Prelude.{◌≡◌, ◌+◌, ◌&&◌, is_some, List, ℕ};
     ghost use Rattle.gate_journal.specs.Growth.{Continues};
     ghost use Rattle.site_node.specs.States.{state_phase};
-    ghost use Rattle.dispatch_core.specs.Dispatcher.{dispatcher_at_rest, dispatcher_unfinished, dispatcher_wants};
+    ghost use Rattle.turn_defs.specs.Dispatcher.{dispatcher_at_rest, dispatcher_unfinished, dispatcher_wants};
     ghost use Rattle.dispatch_node.specs.Node.{DispatcherState, SiteLeads, StandsAt, says, never_spent};
     ghost use Rattle.dispatch_node.specs.Images.{KeptOn, kept_images, one_of};
     ghost use Rattle.dispatch_node.specs.Paths.{begins as begins_by, phase_led};

@@ -7,7 +7,7 @@ use Rattle.std.proofs.lemmas.Str.Parse.{IsNumeralModel, numerals_by_value, tells
 use Rattle.std.proofs.lemmas.Fmt.{digits_decimal, digits_value-decimal, decimal-digits_value, decimal_nonempty, first_decimal, decimal_digit, decimal_step, decimal_injective}
 use Rattle.std.proofs.lemmas.Bool.{cases_lt}
 use Rattle.std.proofs.lemmas.Result.{OkIff-at_ok}
-use Rattle.byte_split.specs.Bytes.{Lacks}
+use Rattle.list_words.specs.Bytes.{Lacks}
 use Rattle.event_id.specs.Numeral.{HasPlainFront, BeginsWithNoDigit}
 
 own : IsNumeralModel (AllDigits 10) (digits_value 10)

@@ -3,12 +3,12 @@ use Rattle.std.proofs.Common.{◌≡◌, ◌≢◌, ℕ, ◌/◌, ◌%◌, ◌^�
 use Rattle.std.specs.Int.{w32, from_be_bytes}
 use Rattle.std.proofs.lemmas.Fmt.{length-decimal-le, decimal_injective}
 use Rattle.std.proofs.lemmas.List.{length-append}
-use Rattle.byte_split.specs.Bytes.{Lacks}
+use Rattle.list_words.specs.Bytes.{Lacks}
 use Rattle.event_id.specs.declared.id.EventId.{EventId}
 use Rattle.event_id.specs.EventId.{dot, colon, dotted, spell, IsId}
 use Rattle.event_id.proofs.Numerals.{decimal_lacks}
 use Rattle.std.proofs.lemmas.Option.{same_Some}
-use Rattle.byte_split.proofs.Splits.{split_same, lacks_append}
+use Rattle.list_words.proofs.Splits.{split_same, lacks_append}
 
 pub dotted_lacks : (byte ip : ℕ) → (byte < 46) ⊎ (57 < byte) → ip < 2 ^ 32 → Lacks byte (dotted ip)
 unfolding dotted

@@ -1,7 +1,7 @@
 //! Laws over ids and their texts.
 ghost use Rattle.std.specs.Prelude.{◌≡◌, ◌≤◌, length};
 ghost use Rattle.event_id.specs.declared.id.EventId.{EventId as Id};
-ghost use Rattle.byte_split.specs.Bytes.{Lacks};
+ghost use Rattle.list_words.specs.Bytes.{Lacks};
 ghost use Rattle.event_id.specs.EventId.{spell, packed, id_cmp, IsId};
 
 use crate::EventId;

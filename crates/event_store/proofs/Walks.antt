@@ -3,8 +3,8 @@ use Rattle.std.proofs.Common.{◌≡◌, ℕ, ◌+◌, ◌<◌, ◌≤◌, List,
 use Rattle.std.specs.Option.{option_or}
 use Rattle.std.proofs.lemmas.List.Folds.{find-append}
 use Rattle.std.proofs.lemmas.List.Elements.{filter_map-append}
-use Rattle.byte_split.specs.Bytes.{Lacks}
-use Rattle.byte_split.proofs.Splits.{split_same, lacks_none}
+use Rattle.list_words.specs.Bytes.{Lacks}
+use Rattle.list_words.proofs.Splits.{split_same, lacks_none}
 use Rattle.event_id.specs.declared.id.EventId.{EventId}
 use Rattle.event_id.specs.EventId.{is_same}
 use Rattle.log_records.specs.declared.records.QueryRec.{QueryRec}

@@ -1,13 +1,13 @@
 -- What a turn of the code says of a row.
 use Rattle.std.proofs.Common.{Result, Ok, Err, IfOk, ◌≡◌, ℕ, List, [], ◌∷◌, map, None, option_map, refl, sym, ap, subst, ◌∙◌}
-use Rattle.packet_codec.specs.declared.packet.Packet.{Packet}
-use Rattle.packet_codec.specs.declared.node.Node.{Node}
-use Rattle.packet_codec.specs.declared.node.Node.TheVariants.{Server}
-use Rattle.packet_codec.specs.declared.node.To.{To}
-use Rattle.packet_codec.specs.declared.node.Input.{Input}
+use Rattle.turn_defs.specs.declared.packet.Packet.{Packet}
+use Rattle.turn_defs.specs.declared.node.Node.{Node}
+use Rattle.turn_defs.specs.declared.node.Node.TheVariants.{Server}
+use Rattle.turn_defs.specs.declared.node.To.{To}
+use Rattle.turn_defs.specs.declared.node.Input.{Input}
 use Rattle.turn_defs.specs.Setting.{Setting}
 use Rattle.turn_defs.specs.Nodes.{Addressed}
-use Rattle.joiner_core.specs.Joiner.{JoinerKept, JoinerLive, Flight, insert_of, claim, joiner_tick}
+use Rattle.turn_defs.specs.Joiner.{JoinerKept, JoinerLive, Flight, insert_of, claim, joiner_tick}
 use Rattle.joiner_core.specs.declared.turn.Change.TheVariants.{Stay}
 use Rattle.joiner_core.specs.declared.turn.Turn.{Turn}
 use Rattle.joiner_core.specs.declared.node_core.JoinerCore.{JoinerCore}

@@ -11,7 +11,7 @@ use Rattle.registry_state.proofs.Tests.{same_id-true, same_id-refl}
 use Rattle.std.proofs.lemmas.Bool.{true≢false}
 use Rattle.list_words.proofs.Lists.{none_some, some_same}
 use Rattle.joiner_core.specs.declared.flights.Waiting.{Waiting}
-use Rattle.joiner_core.specs.Joiner.{Flight, in_flight, is_for, landed}
+use Rattle.turn_defs.specs.Joiner.{Flight, in_flight, is_for, landed}
 use Rattle.joiner_core.specs.Flying.{flight_of, claim_to}
 use Rattle.joiner_core.specs.Held.{IsHeld}
 use Rattle.joiner_core.specs.Spelled.{ArePackets}

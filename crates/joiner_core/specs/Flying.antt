@@ -5,12 +5,12 @@ use Rattle.event_id.specs.declared.id.EventId.{EventId}
 use Rattle.registry_state.specs.declared.Token.{Token}
 use Rattle.log_records.specs.declared.records.QueryRec.{QueryRec as Query}
 use Rattle.log_records.specs.declared.records.ClickRec.{ClickRec as Click}
-use Rattle.packet_codec.specs.declared.packet.Packet.{Packet}
-use Rattle.packet_codec.specs.declared.packet.Packet.TheVariants.{Insert}
-use Rattle.packet_codec.specs.declared.node.Node.{Node}
-use Rattle.packet_codec.specs.declared.node.Node.TheVariants.{Server}
-use Rattle.output_log.specs.declared.pair.PairRec.{PairRec}
-use Rattle.joiner_core.specs.Joiner.{Flight, insert_of}
+use Rattle.turn_defs.specs.declared.packet.Packet.{Packet}
+use Rattle.turn_defs.specs.declared.packet.Packet.TheVariants.{Insert}
+use Rattle.turn_defs.specs.declared.node.Node.{Node}
+use Rattle.turn_defs.specs.declared.node.Node.TheVariants.{Server}
+use Rattle.turn_defs.specs.declared.pair.PairRec.{PairRec}
+use Rattle.turn_defs.specs.Joiner.{Flight, insert_of}
 use Rattle.joiner_core.specs.declared.flights.Waiting.{Waiting}
 use Rattle.joiner_core.specs.declared.flights.Flights.{Flights}
 

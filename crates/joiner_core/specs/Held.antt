@@ -4,7 +4,7 @@ use Rattle.event_id.specs.declared.id.EventId.{EventId}
 use Rattle.event_id.specs.EventId.{IsId}
 use Rattle.log_records.specs.Line.{IsQuery}
 use Rattle.log_records.specs.Text.{IsText}
-use Rattle.fields.specs.Spellings.{IsNumber, IsToken}
+use Rattle.turn_defs.specs.Spellings.{IsNumber, IsToken}
 use Rattle.joiner_core.specs.declared.flights.Waiting.{Waiting}
 
 pub record IsHeld (e : EventId × Waiting) : Type 0 where

@@ -1,4 +1,3 @@
-pub mod Joiner
 pub mod Rows
 pub mod Flying
 pub mod Held

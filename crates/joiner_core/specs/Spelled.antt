@@ -2,11 +2,11 @@
 use Rattle.std.specs.Prelude.{ℕ, ◌<◌, List, Option, Some, None}
 use Rattle.std.specs.List.{AllByRecursion}
 use Rattle.log_records.specs.Line.{IsQuery, IsClick}
-use Rattle.fields.specs.Spellings.{IsNumber}
-use Rattle.packet_codec.specs.declared.packet.Packet.{Packet}
-use Rattle.packet_codec.specs.declared.node.Node.{Node}
-use Rattle.packet_codec.specs.Packets.{IsPacket}
-use Rattle.output_log.specs.Pairs.{IsPair}
+use Rattle.turn_defs.specs.Spellings.{IsNumber}
+use Rattle.turn_defs.specs.declared.packet.Packet.{Packet}
+use Rattle.turn_defs.specs.declared.node.Node.{Node}
+use Rattle.turn_defs.specs.Packets.{IsPacket}
+use Rattle.turn_defs.specs.Spellings.{IsPair}
 use Rattle.joiner_core.specs.declared.input.Looked.{Looked}
 use Rattle.joiner_core.specs.declared.input.Looked.TheVariants.{Found, Lines}
 use Rattle.joiner_core.specs.declared.input.JoinerInput.{JoinerInput}

@@ -4,15 +4,15 @@ use Rattle.event_id.specs.declared.id.EventId.{EventId}
 use Rattle.registry_state.specs.declared.Token.{Token}
 use Rattle.log_records.specs.declared.records.ClickRec.{ClickRec as Click}
 use Rattle.log_records.specs.Log.{first}
-use Rattle.packet_codec.specs.declared.packet.Packet.{Packet}
-use Rattle.packet_codec.specs.declared.packet.Packet.TheVariants as packet
-use Rattle.packet_codec.specs.declared.node.Node.{Node}
-use Rattle.packet_codec.specs.declared.node.Input.{Input}
-use Rattle.packet_codec.specs.declared.node.Input.TheVariants.{Start, Own, Tick, Deliver}
+use Rattle.turn_defs.specs.declared.packet.Packet.{Packet}
+use Rattle.turn_defs.specs.declared.packet.Packet.TheVariants as packet
+use Rattle.turn_defs.specs.declared.node.Node.{Node}
+use Rattle.turn_defs.specs.declared.node.Input.{Input}
+use Rattle.turn_defs.specs.declared.node.Input.TheVariants.{Start, Own, Tick, Deliver}
 use Rattle.turn_defs.specs.Setting.{Setting, site_of_joiner}
 use Rattle.turn_defs.specs.Nodes.{Addressed}
 use Rattle.turn_defs.specs.Turns.{Note, Epoch, Output, Out, land}
-use Rattle.joiner_core.specs.Joiner.{JoinerKept, JoinerLive, land_joiner, in_flight, landed, joiner_start, joiner_turn}
+use Rattle.turn_defs.specs.Joiner.{JoinerKept, JoinerLive, land_joiner, in_flight, landed, joiner_start, joiner_turn}
 use Rattle.joiner_core.specs.Flying.{flights, flight_of, room}
 use Rattle.joiner_core.specs.Held.{IsHeld}
 use Rattle.joiner_core.specs.declared.input.Looked.{Looked}

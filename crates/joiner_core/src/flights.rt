@@ -9,9 +9,9 @@ ghost use Rattle.joiner_core.specs.Held.{IsHeld};
 use event_id::EventId;
 use indexmap::IndexMap;
 use log_records::{QueryRec, Text};
-use packet_codec::{Node, Packet};
 use registry_state::{Insert, Token};
 use std::alloc::{AllocError, Global};
+use turn_defs::{Node, Packet};
 
 /// How many joins may be in flight.
 pub const MOST: usize = 32;
@@ -41,7 +41,7 @@ pub struct Flights {
 impl Flights {
     ghost use Rattle.std.specs.Prelude.{◌≡◌, ◌++◌, ◌∷◌, [], ◌<◌, ◌==◌, false, length, map, find, IfOk, OnOk, IfSome};
     ghost use Rattle.std.specs.Option.{option_map};
-    ghost use Rattle.joiner_core.specs.Joiner.{in_flight, landed, is_for};
+    ghost use Rattle.turn_defs.specs.Joiner.{in_flight, landed, is_for};
     ghost use Rattle.joiner_core.specs.Flying.{flights, flight_of, room, claim_to};
     ghost use Rattle.joiner_core.specs.Spelled.{ArePackets};
 

@@ -1,6 +1,6 @@
 // What a joiner's turn takes.
 use log_records::{ClickRec, QueryRec};
-use packet_codec::{Node, Packet};
+use turn_defs::{Node, Packet};
 
 /// What a look through the query log found for a click.
 #[derive(Debug, Drop)]

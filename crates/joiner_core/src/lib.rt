@@ -1,5 +1,5 @@
 //! A joiner: it looks for a click's query, registers the click's id under a token of its own, and writes the pair once
-//! that is granted. The rows of its turns stand in `specs/Joiner.antt`.
+//! that is granted. The rows of its turns stand in `Joiner.antt` of `turn_defs`.
 //!
 //! A turn is decided first, then its note is written to a disk, then it is kept: only that changes what the joiner knows.
 #![tactic(auto)]

@@ -7,10 +7,9 @@ use crate::turn::Change;
 use crate::{JoinerInput, JoinerNote, Looked, Turn};
 use event_id::EventId;
 use log_records::{ClickRec, QueryRec};
-use output_log::PairRec;
-use packet_codec::{Node, Outcome, Packet};
 use registry_state::{Answer, Insert, Token};
 use std::alloc::{AllocError, Global};
+use turn_defs::{Node, Outcome, Packet, PairRec};
 
 /// What a joiner knows while it is up: its epoch, the number of its next token, and at most 32 joins in flight.
 ///
@@ -32,17 +31,17 @@ pub struct JoinerCore {
 
 impl JoinerCore {
     ghost use Rattle.std.specs.Prelude.{◌≡◌, ◌∷◌, [], ◌+◌, ◌-◌, ◌^◌, ◌<◌, true, false, length, map, find, IfOk, Option, Some, None};
-    ghost use Rattle.packet_codec.specs.declared.node.Node.TheVariants.{Dispatcher, Server};
-    ghost use Rattle.packet_codec.specs.declared.packet.Packet.TheVariants as packet;
+    ghost use Rattle.turn_defs.specs.declared.node.Node.TheVariants.{Dispatcher, Server};
+    ghost use Rattle.turn_defs.specs.declared.packet.Packet.TheVariants as packet;
     ghost use Rattle.turn_defs.specs.Setting.{site_of_joiner};
-    ghost use Rattle.joiner_core.specs.Joiner.{in_flight, is_for, joins, looks, replied, joiner_gets, joiner_wants, joiner_unfinished, joiner_at_rest};
+    ghost use Rattle.turn_defs.specs.Joiner.{in_flight, is_for, joins, looks, replied, joiner_gets, joiner_wants, joiner_unfinished, joiner_at_rest};
     ghost use Rattle.joiner_core.specs.declared.turn.JoinerNote.TheVariants.{Epoch, Pair};
     ghost use Rattle.joiner_core.specs.declared.turn.Change.TheVariants.{Stay, Begin, Fly, Land};
     ghost use Rattle.joiner_core.specs.Flying.{flights, flight_of, room, waiting_of, claim_to, pair_of};
     ghost use Rattle.log_records.specs.Line.{IsQuery, IsClick};
-    ghost use Rattle.fields.specs.Spellings.{IsNumber, IsToken, IsAnswer};
-    ghost use Rattle.packet_codec.specs.Packets.{IsPacket, IsOutcome};
-    ghost use Rattle.output_log.specs.Pairs.{IsPair};
+    ghost use Rattle.turn_defs.specs.Spellings.{IsNumber, IsToken, IsAnswer};
+    ghost use Rattle.turn_defs.specs.Packets.{IsPacket, IsOutcome};
+    ghost use Rattle.turn_defs.specs.Spellings.{IsPair};
     ghost use Rattle.joiner_core.specs.Held.{IsHeld};
     ghost use Rattle.joiner_core.specs.Spelled.{IsTold, IsTaken, IsWritten, IsSpelled};
     ghost use Rattle.joiner_core.specs.Standing.{Serves, Stands, IsSame, IsReady, CanStart, Carries, Tells, needs_look_up, row, IsJoin, changed, epoch_after, known, CanChange, Fits, Leads, Answers, Does, own_token};

@@ -1,9 +1,8 @@
 // A turn that was decided.
 use crate::flights::Waiting;
 use event_id::EventId;
-use output_log::PairRec;
-use packet_codec::{Node, Packet};
 use registry_state::Insert;
+use turn_defs::{Node, Packet, PairRec};
 
 /// A record to be written on one of the joiner's disks.
 #[derive(Debug, Drop)]

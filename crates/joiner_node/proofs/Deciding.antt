@@ -1,11 +1,11 @@
 -- What a joiner is given, as the core takes it.
 use Rattle.std.proofs.Common.{◌≡◌, ℕ, Bool, true, false, [], Option, Some, None, subst}
 use Rattle.log_records.specs.declared.records.ClickRec.{ClickRec as Click}
-use Rattle.packet_codec.specs.declared.packet.Packet.TheVariants as packet
-use Rattle.packet_codec.specs.declared.node.Input.{Input}
-use Rattle.packet_codec.specs.declared.node.Input.TheVariants.{Start, Own, Tick, Deliver}
+use Rattle.turn_defs.specs.declared.packet.Packet.TheVariants as packet
+use Rattle.turn_defs.specs.declared.node.Input.{Input}
+use Rattle.turn_defs.specs.declared.node.Input.TheVariants.{Start, Own, Tick, Deliver}
 use Rattle.turn_defs.specs.Setting.{Setting}
-use Rattle.joiner_core.specs.Joiner.{JoinerKept, JoinerLive}
+use Rattle.turn_defs.specs.Joiner.{JoinerKept, JoinerLive}
 use Rattle.joiner_core.specs.Standing.{Serves, Stands, Carries, Tells, IsReady, Answers, row}
 use Rattle.joiner_core.specs.declared.input.Looked.{Looked}
 use Rattle.joiner_core.specs.declared.input.Looked.TheVariants.{Found, Lines}

@@ -8,10 +8,11 @@ use Rattle.gate_journal.specs.declared.reading.JournalFault.{JournalFault}
 use Rattle.gate_journal.specs.declared.reading.JournalFault.TheVariants.{Damaged, Disk, Memory}
 use Rattle.epoch_journal.specs.Epochs.{epoch_of}
 use Rattle.epoch_journal.specs.Epochs as epochs
-use Rattle.output_log.specs.declared.pair.PairRec.{PairRec}
-use Rattle.output_log.specs.Pairs.{IsPair, record_of}
+use Rattle.turn_defs.specs.declared.pair.PairRec.{PairRec}
+use Rattle.output_log.specs.Pairs.{record_of}
+use Rattle.turn_defs.specs.Spellings.{IsPair}
 use Rattle.output_log.specs.Pairs as pairs
-use Rattle.joiner_core.specs.Joiner.{JoinerKept}
+use Rattle.turn_defs.specs.Joiner.{JoinerKept}
 use Rattle.joiner_core.specs.declared.turn.JoinerNote.{JoinerNote}
 use Rattle.joiner_core.specs.declared.turn.JoinerNote.TheVariants as notes
 use Rattle.joiner_node.specs.Disks.{EpochOr, PairsOr, Holds, with_note, InDoubt, IsFound, has_more, IsUndamaged}

@@ -7,21 +7,21 @@ use Rattle.log_records.specs.Log.{first}
 use Rattle.registry_state.specs.declared.Insert.{Insert}
 use Rattle.registry_state.specs.declared.Answer.{Answer}
 use Rattle.registry_state.specs.declared.Answer.TheVariants.{Granted, Duplicate, TooOld}
-use Rattle.output_log.specs.declared.pair.PairRec.{PairRec}
+use Rattle.turn_defs.specs.declared.pair.PairRec.{PairRec}
 use Rattle.air_bus.specs.declared.entry.Input.{Input as Bytes}
 use Rattle.air_bus.specs.declared.entry.Input.TheVariants as bytes
 use Rattle.air_bus.specs.declared.entry.Entry.TheVariants.{Begin, End, Stop}
-use Rattle.packet_codec.specs.declared.packet.Packet.{Packet}
-use Rattle.packet_codec.specs.declared.packet.Packet.TheVariants as packet
-use Rattle.packet_codec.specs.declared.node.Input.{Input}
-use Rattle.packet_codec.specs.declared.node.Input.TheVariants.{Start, Own, Tick, Deliver}
+use Rattle.turn_defs.specs.declared.packet.Packet.{Packet}
+use Rattle.turn_defs.specs.declared.packet.Packet.TheVariants as packet
+use Rattle.turn_defs.specs.declared.node.Input.{Input}
+use Rattle.turn_defs.specs.declared.node.Input.TheVariants.{Start, Own, Tick, Deliver}
 use Rattle.turn_defs.specs.Setting.{Setting}
 use Rattle.turn_defs.specs.Turns.{Note, Advance, Park, Settle, Epoch, Output, Voted, Out, land}
 use Rattle.site_node.specs.Bytes.{record_of, AreSpelled, Reads, IsJunk}
 use Rattle.site_node.specs.States.{State, MayTake, row, written, closes, opens}
 use Rattle.site_node.specs.declared.roster.Roster.{Roster}
 use Rattle.site_node.specs.Rosters.{IsOf}
-use Rattle.joiner_core.specs.Joiner.{JoinerKept, JoinerLive, Flight, land_joiner, in_flight, is_for, looks, joins, replied, joiner_gets}
+use Rattle.turn_defs.specs.Joiner.{JoinerKept, JoinerLive, Flight, land_joiner, in_flight, is_for, looks, joins, replied, joiner_gets}
 use Rattle.joiner_core.specs.Standing.{Serves, Stands, IsSame, Answers, note_of}
 use Rattle.joiner_core.specs.declared.turn.Turn.{Turn}
 use Rattle.joiner_core.specs.declared.turn.JoinerNote.{JoinerNote}

@@ -5,12 +5,12 @@ use Rattle.gate_journal.specs.declared.reading.JournalFault.{JournalFault}
 use Rattle.gate_journal.specs.declared.reading.JournalFault.TheVariants.{Damaged, Disk, Memory}
 use Rattle.epoch_journal.specs.Epochs.{KeepsOr}
 use Rattle.epoch_journal.specs.Epochs as epochs
-use Rattle.output_log.specs.declared.pair.PairRec.{PairRec}
+use Rattle.turn_defs.specs.declared.pair.PairRec.{PairRec}
 use Rattle.output_log.specs.Pairs.{longest}
 use Rattle.output_log.specs.Pairs as pairs
 use Rattle.turn_defs.specs.Turns.{land}
 use Rattle.site_node.specs.Bytes.{record_of}
-use Rattle.joiner_core.specs.Joiner.{JoinerKept, land_joiner}
+use Rattle.turn_defs.specs.Joiner.{JoinerKept, land_joiner}
 use Rattle.joiner_core.specs.Standing.{note_of}
 use Rattle.joiner_core.specs.declared.turn.JoinerNote.{JoinerNote}
 use Rattle.joiner_core.specs.declared.turn.JoinerNote.TheVariants as notes

@@ -1,13 +1,13 @@
 -- What a joiner knows while it is up, and what it is given.
 use Rattle.std.specs.Prelude.{ℕ, Bool, true, false, Option, Some, None, ⊤}
-use Rattle.packet_codec.specs.declared.node.Input.{Input}
-use Rattle.packet_codec.specs.declared.node.Input.TheVariants.{Start, Own, Tick, Deliver}
+use Rattle.turn_defs.specs.declared.node.Input.{Input}
+use Rattle.turn_defs.specs.declared.node.Input.TheVariants.{Start, Own, Tick, Deliver}
 use Rattle.turn_defs.specs.Setting.{Setting}
 use Rattle.turn_defs.specs.Turns.{Out}
 use Rattle.site_node.specs.States.{Rows, row_of}
 use Rattle.site_node.specs.declared.kind.NodeFault.{NodeFault}
 use Rattle.site_node.specs.declared.kind.NodeFault.TheVariants as fault
-use Rattle.joiner_core.specs.Joiner.{JoinerKept, JoinerLive, joiner_start, joiner_turn, land_joiner}
+use Rattle.turn_defs.specs.Joiner.{JoinerKept, JoinerLive, joiner_start, joiner_turn, land_joiner}
 use Rattle.joiner_core.specs.Standing.{Stands}
 use Rattle.joiner_core.specs.declared.input.JoinerInput.{JoinerInput}
 use Rattle.joiner_core.specs.declared.input.JoinerInput.TheVariants as asked

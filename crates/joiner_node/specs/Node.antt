@@ -1,11 +1,11 @@
 -- A joiner over its disks, beside the states that its entries lead through.
 use Rattle.std.specs.Prelude.{◌≡◌, ℕ, ◌==◌, List, Bool, if◌then◌else◌, Option, Some, None, option_map}
-use Rattle.output_log.specs.declared.pair.PairRec.{PairRec}
+use Rattle.turn_defs.specs.declared.pair.PairRec.{PairRec}
 use Rattle.air_bus.specs.declared.entry.Entry.{Entry}
 use Rattle.air_bus.specs.declared.entry.Input.{Input as Bytes}
 use Rattle.air_bus.specs.declared.entry.Input.TheVariants as bytes
 use Rattle.air_bus.specs.declared.entry.Phase.{Phase}
-use Rattle.packet_codec.specs.declared.node.Input.{Input}
+use Rattle.turn_defs.specs.declared.node.Input.{Input}
 use Rattle.turn_defs.specs.Setting.{Setting}
 use Rattle.turn_defs.specs.Nodes.{Addressed}
 use Rattle.turn_defs.specs.Turns.{Out}
@@ -13,7 +13,7 @@ use Rattle.site_node.specs.Bytes.{AreSpelled, Reads}
 use Rattle.site_node.specs.States.{State, Leads, MayHold, row, state_phase}
 use Rattle.site_node.specs.declared.roster.Roster.{Roster}
 use Rattle.site_node.specs.Rosters.{IsOf}
-use Rattle.joiner_core.specs.Joiner.{JoinerKept, JoinerLive}
+use Rattle.turn_defs.specs.Joiner.{JoinerKept, JoinerLive}
 use Rattle.joiner_core.specs.Standing.{Serves, Leads as CoreLeads, note_of}
 use Rattle.joiner_core.specs.declared.turn.JoinerNote.{JoinerNote}
 use Rattle.joiner_core.specs.declared.node_core.JoinerCore.{JoinerCore}

@@ -1,8 +1,9 @@
 -- Notes as they are written.
 use Rattle.std.specs.Prelude.{◌≡◌, ℕ, ◌<◌, Option, Some, None, ⊤}
 use Rattle.epoch_journal.specs.Epochs.{epoch_record}
-use Rattle.output_log.specs.declared.pair.PairRec.{PairRec}
-use Rattle.output_log.specs.Pairs.{IsPair, record_of}
+use Rattle.turn_defs.specs.declared.pair.PairRec.{PairRec}
+use Rattle.output_log.specs.Pairs.{record_of}
+use Rattle.turn_defs.specs.Spellings.{IsPair}
 use Rattle.joiner_core.specs.declared.turn.JoinerNote.{JoinerNote}
 use Rattle.joiner_core.specs.declared.turn.JoinerNote.TheVariants as notes
 use Rattle.joiner_node.specs.declared.records.Record.{Record}

@@ -7,14 +7,14 @@ use Rattle.air_bus.specs.declared.entry.Input.{Input as Bytes}
 use Rattle.air_bus.specs.declared.entry.Phase.TheVariants.{Busy}
 use Rattle.air_bus.specs.Copies.{Copy}
 use Rattle.air_bus.specs.History.{next_input, phase_after}
-use Rattle.packet_codec.specs.declared.node.Input.{Input}
+use Rattle.turn_defs.specs.declared.node.Input.{Input}
 use Rattle.turn_defs.specs.Turns.{Note, land}
 use Rattle.epoch_journal.specs.Epochs as epochs
 use Rattle.output_log.specs.Pairs as pairs
 use Rattle.site_node.specs.Bytes.{Reads}
 use Rattle.site_node.specs.States.{written}
 use Rattle.site_node.specs.Paths.{begins, phase_led}
-use Rattle.joiner_core.specs.Joiner.{JoinerKept, land_joiner}
+use Rattle.turn_defs.specs.Joiner.{JoinerKept, land_joiner}
 use Rattle.joiner_core.specs.Standing.{note_of}
 use Rattle.joiner_core.specs.declared.turn.JoinerNote.{JoinerNote}
 use Rattle.joiner_core.specs.declared.turn.JoinerNote.TheVariants as notes

@@ -8,10 +8,11 @@ use crate::records::Record;
 use air_bus::Payload;
 use epoch_journal::EpochJournal;
 use gate_journal::{Frame, JournalFault};
-use output_log::{OutputLog, PairRec, laws};
+use output_log::{OutputLog, laws};
 use outside::{Disk, DiskName};
 use site_node::NodeFault;
 use std::alloc::{AllocError, Global};
+use turn_defs::PairRec;
 
 // A record that may have landed, and what was kept before it.
 #[derive(Drop)]
@@ -47,8 +48,9 @@ impl<D: Disk> Disks<D> {
     ghost use Rattle.epoch_journal.specs.Epochs as epochs;
     ghost use Rattle.epoch_journal.specs.Epochs.{KeepsOr};
     ghost use Rattle.output_log.specs.Pairs as pairs;
-    ghost use Rattle.output_log.specs.Pairs.{IsPair, record_of, longest};
-    ghost use Rattle.joiner_core.specs.Joiner.{JoinerKept};
+    ghost use Rattle.output_log.specs.Pairs.{record_of, longest};
+    ghost use Rattle.turn_defs.specs.Spellings.{IsPair};
+    ghost use Rattle.turn_defs.specs.Joiner.{JoinerKept};
     ghost use Rattle.joiner_core.specs.declared.turn.JoinerNote.{JoinerNote};
     ghost use Rattle.joiner_node.specs.Records.{recorded_as, IsOwn, IsUnspent};
     ghost use Rattle.joiner_node.specs.Disks.{EpochOr, PairsOr, MayHave, Holds, IsNext, with_note, bytes_of, InDoubt, AreInDoubt, IsLeftBehind, IsFound, has_more, IsRoomFor};

@@ -7,9 +7,9 @@ use event_store::LookFault;
 use joiner_core::{JoinerCore, JoinerInput, Looked, Turn};
 use log_records::ClickRec;
 use outside::LogFile;
-use packet_codec::{Input, Node, Packet};
 use site_node::NodeFault;
 use std::alloc::{AllocError, Global};
+use turn_defs::{Input, Node, Packet};
 
 // The last epoch.
 const LAST: u32 = u32::MAX - 1;
@@ -27,13 +27,13 @@ impl<L: LogFile> Joining<L> {
     ghost use Rattle.outside.specs.Faults.{Rose};
     ghost use Rattle.log_records.specs.declared.records.QueryRec.{QueryRec as Query};
     ghost use Rattle.log_records.specs.Check.{IsQueryLog};
-    ghost use Rattle.packet_codec.specs.declared.node.Input.TheVariants.{Start};
-    ghost use Rattle.packet_codec.specs.Packets.{IsPacket};
-    ghost use Rattle.packet_codec.specs.declared.node.Input.TheVariants.{Deliver};
+    ghost use Rattle.turn_defs.specs.declared.node.Input.TheVariants.{Start};
+    ghost use Rattle.turn_defs.specs.Packets.{IsPacket};
+    ghost use Rattle.turn_defs.specs.declared.node.Input.TheVariants.{Deliver};
     ghost use Rattle.turn_defs.specs.Setting.{Setting, site_of_joiner};
     ghost use Rattle.turn_defs.specs.Turns.{land};
     ghost use Rattle.site_node.specs.Bytes.{IsInput};
-    ghost use Rattle.joiner_core.specs.Joiner.{JoinerKept, JoinerLive};
+    ghost use Rattle.turn_defs.specs.Joiner.{JoinerKept, JoinerLive};
     ghost use Rattle.joiner_core.specs.Spelled.{IsTaken, IsTold, IsSpelled};
     ghost use Rattle.joiner_core.specs.Standing.{Serves, Stands, IsSame, CanStart, Carries, Tells, Fits, Leads, Answers, needs_look_up};
     ghost use Rattle.joiner_node.specs.Read.{HasRead};

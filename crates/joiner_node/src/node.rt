@@ -11,9 +11,9 @@ use epoch_journal::EpochJournal;
 use joiner_core::Turn;
 use output_log::OutputLog;
 use outside::{Disk, Gate, LogFile, Point};
-use packet_codec::Input;
 use site_node::{Done, NodeFault, Roster, SiteNode, read_input, spell};
 use std::alloc::{AllocError, Global};
+use turn_defs::Input;
 
 /// A joiner over its epoch journal, the log of the pairs that it wrote, and the query log: down, up, or stopped in an
 /// open turn.
@@ -46,11 +46,11 @@ impl<L: LogFile, D: Disk> JoinerNode<L, D> {
     ghost use Rattle.gate_journal.specs.Growth.{Continues};
     ghost use Rattle.log_records.specs.declared.records.QueryRec.{QueryRec as Query};
     ghost use Rattle.log_records.specs.Check.{IsQueryLog};
-    ghost use Rattle.packet_codec.specs.declared.node.Input.TheVariants.{Start};
+    ghost use Rattle.turn_defs.specs.declared.node.Input.TheVariants.{Start};
     ghost use Rattle.turn_defs.specs.Setting.{Setting};
     ghost use Rattle.site_node.specs.Bytes.{IsInput};
     ghost use Rattle.site_node.specs.Rosters.{IsOf};
-    ghost use Rattle.joiner_core.specs.Joiner.{JoinerKept, JoinerLive};
+    ghost use Rattle.turn_defs.specs.Joiner.{JoinerKept, JoinerLive};
     ghost use Rattle.joiner_core.specs.Standing.{Serves, IsSame, Fits, Leads};
     ghost use Rattle.joiner_core.specs.declared.turn.JoinerNote.{JoinerNote};
     ghost use Rattle.joiner_node.specs.Read.{HasRead};
@@ -200,7 +200,7 @@ fn joiner_number(roster: Roster, site: u8, joiner: u8) -> u16
 impl<L: LogFile, D: Disk> SiteNode for JoinerNode<L, D> {
     ghost use Rattle.std.specs.Prelude.{◌≡◌, ◌+◌, ◌&&◌, is_some};
     ghost use Rattle.site_node.specs.States.{Says};
-    ghost use Rattle.joiner_core.specs.Joiner.{joiner_at_rest, joiner_unfinished, joiner_wants};
+    ghost use Rattle.turn_defs.specs.Joiner.{joiner_at_rest, joiner_unfinished, joiner_wants};
     ghost use Rattle.gate_journal.specs.Growth.{Continues};
     ghost use Rattle.joiner_node.specs.Disks.{Contents as Bytes};
     ghost use Rattle.joiner_node.specs.Node.{JoinerState, LeadsTo, StandsAt, KeepsOf, joiner_phase, spends_of};

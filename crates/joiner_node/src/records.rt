@@ -1,15 +1,17 @@
 // Notes and their records.
 ghost use Rattle.std.specs.Prelude.{◌≡◌, IfOk};
 ghost use Rattle.epoch_journal.specs.Epochs.{epoch_record};
-ghost use Rattle.output_log.specs.Pairs.{IsPair, record_of};
+ghost use Rattle.output_log.specs.Pairs.{record_of};
+ghost use Rattle.turn_defs.specs.Spellings.{IsPair};
 ghost use Rattle.joiner_core.specs.Spelled.{IsWritten};
 ghost use Rattle.joiner_node.specs.Records.{recorded_as, pair_record, IsAbove, IsOwn, IsUnspent};
 
 use air_bus::Payload;
 use gate_journal::Frame;
 use joiner_core::JoinerNote;
-use output_log::{PairRec, pair_frame};
+use output_log::pair_frame;
 use std::alloc::{AllocError, Global};
+use turn_defs::PairRec;
 
 // What a note's disk takes, and the record as the bus takes it. The epoch journal makes its record itself.
 #[derive(Drop)]

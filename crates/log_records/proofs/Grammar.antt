@@ -3,9 +3,9 @@ use Rattle.std.proofs.Common.{◌≡◌, ℕ, ◌+◌, ◌≤◌, inl, inr, List
 use Rattle.std.specs.Result.{MatchResult, IfOk, IfErr}
 use Rattle.std.proofs.lemmas.List.{take_at, drop_at, get_or_at, length-append}
 use Rattle.event_id.specs.declared.id.EventId.{EventId}
-use Rattle.byte_split.specs.Bytes.{Lacks}
+use Rattle.list_words.specs.Bytes.{Lacks}
 use Rattle.event_id.specs.EventId.{spell, IsId}
-use Rattle.byte_split.proofs.Splits.{position_at, split_same}
+use Rattle.list_words.proofs.Splits.{position_at, split_same}
 use Rattle.event_id.proofs.Spelling.{spell_same, spell_lacks, length-spell-le}
 use Rattle.log_records.specs.declared.records.QueryRec.{QueryRec}
 use Rattle.log_records.specs.declared.records.ClickRec.{ClickRec}

@@ -6,3 +6,4 @@ pub mod FirstLines
 pub mod Cuts
 pub mod LogWalk
 pub mod WholeLogs
+pub mod FirstPlaces

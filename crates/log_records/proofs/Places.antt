@@ -3,8 +3,8 @@ use Rattle.std.proofs.Common.{◌≡◌, ℕ, suc, ◌+◌, inl, inr, List, [], 
 use Rattle.std.proofs.lemmas.List.{length-append}
 use Rattle.std.specs.Prelude.{Contains}
 use Rattle.std.specs.List.{AllByRecursion}
-use Rattle.byte_split.specs.Bytes.{Lacks}
-use Rattle.byte_split.proofs.Splits.{split_same, lacks_none}
+use Rattle.list_words.specs.Bytes.{Lacks}
+use Rattle.list_words.proofs.Splits.{split_same, lacks_none}
 use Rattle.list_words.specs.Lists.{Mem, Begins}
 use Rattle.log_records.specs.declared.records.ClickRec.{ClickRec}
 use Rattle.log_records.specs.Line.{query_line, click_line, IsQuery, IsClick}

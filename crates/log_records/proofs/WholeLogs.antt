@@ -4,8 +4,8 @@ use Rattle.std.specs.Prelude.{IfOk, IfErr, MatchResult}
 use Rattle.std.specs.List.{AllByRecursion}
 use Rattle.std.proofs.lemmas.List.{length-append}
 use Rattle.std.proofs.lemmas.List.Elements.{All-from_recursion, All-contains, Contains-append_left, Contains-append_right}
-use Rattle.byte_split.specs.Bytes.{Lacks}
-use Rattle.byte_split.proofs.Splits.{split_same, lacks_none}
+use Rattle.list_words.specs.Bytes.{Lacks}
+use Rattle.list_words.proofs.Splits.{split_same, lacks_none}
 use Rattle.event_id.specs.declared.id.EventId.{EventId}
 use Rattle.log_records.specs.declared.records.QueryRec.{QueryRec}
 use Rattle.log_records.specs.declared.records.ClickRec.{ClickRec}

@@ -1,7 +1,7 @@
 -- What a check of a whole log finds: how many records it holds, or its first line that is refused.
 use Rattle.std.specs.Prelude.{ℕ, ◌≡◌, ◌≢◌, ◌⊎◌, ◌+◌, ◌^◌, ◌<◌, ◌≤◌, List, ◌∷◌, ◌++◌, length, map, Contains}
 use Rattle.event_id.specs.declared.id.EventId.{EventId}
-use Rattle.byte_split.specs.Bytes.{Lacks}
+use Rattle.list_words.specs.Bytes.{Lacks}
 use Rattle.log_records.specs.declared.records.QueryRec.{QueryRec}
 use Rattle.log_records.specs.declared.records.ClickRec.{ClickRec}
 use Rattle.log_records.specs.declared.why.Why.{Why}

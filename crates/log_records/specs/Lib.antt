@@ -5,3 +5,5 @@ pub mod Lines
 pub mod Check
 pub mod Seen
 pub mod Rows
+pub mod Report
+pub mod FirstPlaces

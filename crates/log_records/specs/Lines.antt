@@ -7,7 +7,7 @@ use Rattle.log_records.specs.declared.records.QueryRec.{QueryRec}
 use Rattle.log_records.specs.declared.records.ClickRec.{ClickRec}
 use Rattle.log_records.specs.Line.{click_line}
 use Rattle.log_records.specs.Log.{line_feed, HoldsQueries, HoldsClicks, first}
-use Rattle.byte_split.specs.Bytes.{Lacks}
+use Rattle.list_words.specs.Bytes.{Lacks}
 
 -- a click with the place of its line's first byte, and the place behind its line feed
 pub record ClickLine : Type 0 where

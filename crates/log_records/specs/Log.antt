@@ -2,7 +2,7 @@
 use Rattle.std.specs.Prelude.{ℕ, ◌≡◌, List, [], ◌∷◌, ◌++◌, Option, map, Contains}
 use Rattle.std.specs.List.{flat_map, find, AllByRecursion}
 use Rattle.event_id.specs.declared.id.EventId.{EventId}
-use Rattle.byte_split.specs.Bytes.{Lacks}
+use Rattle.list_words.specs.Bytes.{Lacks}
 use Rattle.event_id.specs.EventId.{is_same}
 use Rattle.log_records.specs.declared.records.QueryRec.{QueryRec}
 use Rattle.log_records.specs.declared.records.ClickRec.{ClickRec}

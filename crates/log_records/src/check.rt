@@ -8,7 +8,7 @@ ghost use Rattle.log_records.specs.Check.{IsLog, Refuses, IsQueryLog, IsClickLog
 use crate::kind::Record;
 use crate::seen::{accept, accept_record};
 use crate::{ClickRec, QueryRec, Why};
-use byte_split::split_once;
+use list_words::split_once;
 use std::alloc::Global;
 use std::collections::BTreeMap;
 

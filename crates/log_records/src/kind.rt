@@ -1,7 +1,8 @@
-// The two kinds of record, as the check of a whole log sees them.
-ghost use Rattle.std.specs.Prelude.{◌≡◌, ℕ, List, IfOk, IfErr};
+// The two kinds of record, as the check of a log sees them.
+ghost use Rattle.std.specs.Prelude.{◌≡◌, ◌<◌, ℕ, List, length, IfOk, IfErr};
 ghost use Rattle.event_id.specs.declared.id.EventId.{EventId as Id};
 ghost use Rattle.log_records.specs.declared.why.Why.{Why as WhyOf};
+ghost use Rattle.log_records.specs.declared.why.Why.TheVariants as why;
 ghost use Rattle.log_records.specs.Line.{query_line, click_line, IsQuery, IsClick, QueryWhy, ClickWhy, OrMemory};
 
 use crate::lines::{click_parts, query_parts};
@@ -34,6 +35,10 @@ pub trait Record: Drop {
 
     fn id(&self) -> EventId
         ensures { result ≡ own_id self.now };
+
+    /// Of a line of over 296 bytes that is the first that is wrong.
+    fn long_lines()
+        ensures { (line : List ℕ) → 296 < length line → whys line why.TooLong };
 }
 
 impl Record for QueryRec {
@@ -57,6 +62,8 @@ impl Record for QueryRec {
     fn id(&self) -> EventId {
         self.id
     }
+
+    fn long_lines() {}
 }
 
 impl Record for ClickRec {
@@ -80,4 +87,6 @@ impl Record for ClickRec {
     fn id(&self) -> EventId {
         self.id
     }
+
+    fn long_lines() {}
 }

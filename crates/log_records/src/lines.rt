@@ -6,8 +6,8 @@ ghost use Rattle.log_records.specs.Line.{query_line, click_line, IsQuery, IsClic
 
 use crate::text::check;
 use crate::{ClickRec, QueryRec, Text, Why};
-use byte_split::split_once;
 use event_id::{EventId, parse};
+use list_words::split_once;
 use std::alloc::Global;
 
 /// The longest line, without its line feed.

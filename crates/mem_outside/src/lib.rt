@@ -5,6 +5,8 @@ mod call;
 mod contents;
 mod disk;
 mod failing;
+mod gate;
+mod hold;
 mod log;
 mod mem_store;
 mod ranges;
@@ -14,6 +16,8 @@ mod store;
 
 pub use call::{Call, Image};
 pub use disk::{Fuse, MemDisk};
+pub use gate::{HeldGate, LOOKS};
+pub use hold::Hold;
 pub use log::{MemFile, MemLog, MemSource};
 pub use mem_store::MemStore;
 pub use sink::MemSink;

@@ -1,7 +1,7 @@
 // Threads that pass the gate as nodes.
 ghost use Rattle.std.specs.Prelude.{◌<◌};
 
-use held_gate::{HeldGate, Hold, LOOKS};
+use mem_outside::{HeldGate, Hold, LOOKS};
 use outside::Gate;
 use outside::Point::{AfterEnd, BeforeAppend};
 use std::sync::atomic::AtomicBool;

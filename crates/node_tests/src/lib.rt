@@ -12,4 +12,4 @@ mod registry_server_tests;
 #[cfg(test)]
 mod replica_node_tests;
 #[cfg(test)]
-mod site_run_tests;
+mod site_workers_tests;

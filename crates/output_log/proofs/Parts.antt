@@ -1,8 +1,8 @@
 -- Fields behind one another.
 use Rattle.std.proofs.Common.{◌≡◌, List, [], ◌++◌, ℕ, true, false, ◌==◌, length, sym, ap, ◌∙◌, subst, append_assoc, Result, Ok, Err}
 use Rattle.std.specs.Prelude.{IsErrAnd, MatchResult}
-use Rattle.fields.specs.declared.stop.FieldFault.{FieldFault}
-use Rattle.fields.specs.Stops.{IsMemory}
+use Rattle.packet_codec.specs.declared.fields.stop.FieldFault.{FieldFault}
+use Rattle.packet_codec.specs.Stops.{IsMemory}
 use Rattle.std.proofs.lemmas.List.{append_cancel_left}
 
 -- what is left behind a field that was taken

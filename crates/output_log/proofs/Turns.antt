@@ -5,8 +5,9 @@ use Rattle.std.proofs.lemmas.List.{map-append, take_more, take-append-drop}
 use Rattle.std.proofs.lemmas.List.Elements.{All-push, All-same}
 use Rattle.std.proofs.Math.Seq.{drop-cons}
 use Rattle.gate_journal.specs.Gate.{spans, StandsFor, IsOldOrNew}
-use Rattle.output_log.specs.declared.pair.PairRec.{PairRec}
-use Rattle.output_log.specs.Pairs.{IsPair, record_of, IsOther, IsOtherAt, KeepsOr}
+use Rattle.turn_defs.specs.declared.pair.PairRec.{PairRec}
+use Rattle.output_log.specs.Pairs.{record_of, IsOther, IsOtherAt, KeepsOr}
+use Rattle.turn_defs.specs.Spellings.{IsPair}
 
 pub record Next (rs : List (List ℕ)) (pairs : List PairRec) (place i : ℕ) : Type 0 where
   pub are_pairs : All IsPair pairs

@@ -7,19 +7,12 @@ use Rattle.gate_journal.specs.declared.reading.JournalFault.TheVariants.{Damaged
 use Rattle.registry_state.specs.declared.Token.{Token}
 use Rattle.log_records.specs.declared.records.ClickRec.{ClickRec}
 use Rattle.log_records.specs.declared.records.QueryRec.{QueryRec}
-use Rattle.log_records.specs.Line.{IsClick, IsQuery}
-use Rattle.fields.specs.Spellings.{click, query, token, IsToken}
-use Rattle.output_log.specs.declared.pair.PairRec.{PairRec}
+use Rattle.turn_defs.specs.Spellings.{click, query, token, IsPair}
+use Rattle.turn_defs.specs.declared.pair.PairRec.{PairRec}
 
 -- a click with its query, under a token
 abbrev pub pair_of : ClickRec → QueryRec → Token → PairRec
 pair_of c q t = record { click = c; query = q; token = t }
-
--- the three fields have spellings
-pub record IsPair (p : PairRec) : Type 0 where
-  pub click : IsClick p.click
-  pub query : IsQuery p.query
-  pub token : IsToken p.token
 
 -- the fields of a pair, one behind the other
 abbrev pub fields_of : PairRec → List ℕ

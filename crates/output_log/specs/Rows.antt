@@ -4,7 +4,7 @@ use Rattle.event_id.specs.declared.id.EventId.{EventId}
 use Rattle.registry_state.specs.declared.Token.{Token}
 use Rattle.log_records.specs.declared.records.ClickRec.{ClickRec}
 use Rattle.log_records.specs.declared.records.QueryRec.{QueryRec}
-use Rattle.output_log.specs.declared.pair.PairRec.{PairRec}
+use Rattle.turn_defs.specs.declared.pair.PairRec.{PairRec}
 use Rattle.output_log.specs.Pairs.{pair_of}
 
 -- 10.0.0.1:7:1000

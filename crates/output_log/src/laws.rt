@@ -1,10 +1,11 @@
 //! Records tell pairs apart.
 ghost use Rattle.std.specs.Prelude.{◌≡◌};
-ghost use Rattle.output_log.specs.declared.pair.PairRec.{PairRec};
-ghost use Rattle.output_log.specs.Pairs.{IsPair, record_of};
+ghost use Rattle.turn_defs.specs.declared.pair.PairRec.{PairRec};
+ghost use Rattle.output_log.specs.Pairs.{record_of};
+ghost use Rattle.turn_defs.specs.Spellings.{IsPair};
 
-use fields::Field;
 use log_records::{ClickRec, QueryRec};
+use packet_codec::Field;
 use registry_state::Token;
 
 /// Two pairs with one record are one pair.

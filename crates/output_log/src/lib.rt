@@ -8,4 +8,5 @@ mod reading;
 pub mod rows;
 
 pub use log::OutputLog;
-pub use pair::{PairRec, pair_frame, read_pair};
+pub use pair::{pair_frame, read_pair};
+pub use turn_defs::PairRec;

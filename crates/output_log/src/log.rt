@@ -3,13 +3,15 @@ ghost use Rattle.std.specs.Prelude.{◌≡◌, All, map, IsTrue, List, ℕ};
 ghost use Rattle.std.proofs.Props.{props};
 ghost use Rattle.gate_journal.specs.declared.journal.JournalState.TheVariants.{Ready};
 ghost use Rattle.gate_journal.specs.Gate.{records, StandsFor};
-ghost use Rattle.output_log.specs.Pairs.{IsPair, record_of};
+ghost use Rattle.output_log.specs.Pairs.{record_of};
+ghost use Rattle.turn_defs.specs.Spellings.{IsPair};
 
-use crate::pair::{LONGEST, PairRec};
+use crate::pair::LONGEST;
 use crate::reading::{put_last, read_pairs};
 use gate_journal::{AppendFault, Frame, Journal, JournalFault};
 use outside::Disk;
 use std::alloc::{AllocError, Global};
+use turn_defs::PairRec;
 
 /// The pairs that were joined, as a disk keeps them.
 ///
@@ -34,7 +36,8 @@ impl<D: Disk> OutputLog<D> {
     ghost use Rattle.gate_journal.specs.Gate.{records, gate_rule, StandsFor, IsOldOrNew};
     ghost use Rattle.gate_journal.specs.Opening.{IsOpened};
     ghost use Rattle.gate_journal.specs.Growth.{Continues};
-    ghost use Rattle.output_log.specs.Pairs.{IsPair, record_of, longest, Keeps, KeepsOr, IsLeft, IsRefused, IsRefusedAgain};
+    ghost use Rattle.output_log.specs.Pairs.{record_of, longest, Keeps, KeepsOr, IsLeft, IsRefused, IsRefusedAgain};
+    ghost use Rattle.turn_defs.specs.Spellings.{IsPair};
 
     /// Opens what is on a disk, which is fresh or a log of pairs. Hands the disk back where it is refused.
     pub fn open(alloc: Global, disk: D) -> Result<OutputLog<D>, (JournalFault, D)>

@@ -1,13 +1,15 @@
 // A pair and its record.
 ghost use Rattle.std.specs.Prelude.{◌≡◌, ◌++◌, List, ℕ, Some, IfOk, IfSome, IfNone, MatchResult};
-ghost use Rattle.fields.specs.Stops.{IsMemory};
-ghost use Rattle.output_log.specs.Pairs.{pair_of, IsPair, fields_of, record_of, IsOther};
+ghost use Rattle.packet_codec.specs.Stops.{IsMemory};
+ghost use Rattle.output_log.specs.Pairs.{pair_of, fields_of, record_of, IsOther};
+ghost use Rattle.turn_defs.specs.Spellings.{IsPair};
 
-use fields::{Field, FieldFault};
 use gate_journal::Frame;
 use log_records::{ClickRec, QueryRec};
+use packet_codec::{Field, FieldFault};
 use registry_state::Token;
 use std::alloc::{AllocError, Global};
+use turn_defs::PairRec;
 use wire_core::{Bytes, Reader};
 
 /// The first byte of a record.
@@ -15,14 +17,6 @@ const TAG: u8 = 6;
 
 /// The most bytes that a record has.
 pub(crate) const LONGEST: u32 = 465;
-
-/// A click, the query that it came from, and the token under which they were joined.
-#[derive(Debug, Drop)]
-pub struct PairRec {
-    pub click: ClickRec,
-    pub query: QueryRec,
-    pub token: Token,
-}
 
 /// The record of a pair as it is written to a log: the byte 06, the click, the query and the token. Two allocations.
 pub fn pair_frame(

@@ -1,11 +1,13 @@
 // Reading records of pairs.
 ghost use Rattle.std.specs.Prelude.{◌≡◌, ◌<◌, ◌≤◌, ◌^◌, ◌++◌, [], ◌∷◌, All, map, vec_len, vec_capacity, IfOk, IfErr};
 ghost use Rattle.gate_journal.specs.Gate.{spans};
-ghost use Rattle.output_log.specs.Pairs.{IsPair, record_of, FailsAt};
+ghost use Rattle.output_log.specs.Pairs.{record_of, FailsAt};
+ghost use Rattle.turn_defs.specs.Spellings.{IsPair};
 
-use crate::pair::{PairRec, read_pair};
+use crate::pair::read_pair;
 use gate_journal::JournalFault;
 use std::alloc::Global;
+use turn_defs::PairRec;
 use wire_core::Bytes;
 
 /// The pairs of the records, or the place of the first that is none.

@@ -3,10 +3,11 @@ use Rattle.std.proofs.Common.{◌≡◌, ⊎_elim, ℕ, ◌+◌, ◌-◌, ◌<�
 use Rattle.std.proofs.lemmas.List.{length-take-le}
 use Rattle.std.proofs.Math.Seq.{take-append-add, take-append_seam}
 use Rattle.std.proofs.lemmas.Bool.{cases_lt}
-use Rattle.fields.specs.Bad.{Reaches}
-use Rattle.fields.specs.Stops.{IsBadBefore}
-use Rattle.packet_codec.specs.declared.packet.Packet.{Packet}
-use Rattle.packet_codec.specs.Packets.{packet, IsPacket, Packets}
+use Rattle.packet_codec.specs.Bad.{Reaches}
+use Rattle.packet_codec.specs.Stops.{IsBadBefore}
+use Rattle.turn_defs.specs.declared.packet.Packet.{Packet}
+use Rattle.turn_defs.specs.Packets.{packet, IsPacket}
+use Rattle.packet_codec.specs.Spelled.{Packets}
 use Rattle.packet_codec.specs.Refused.{IsBadPacket}
 use Rattle.packet_codec.proofs.PacketsApart.{packet_apart}
 

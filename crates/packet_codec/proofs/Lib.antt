@@ -2,3 +2,14 @@ pub mod OutcomeParts
 pub mod PacketParts
 pub mod PacketsApart
 pub mod BadPackets
+pub mod BadPlaces
+pub mod NumberBytes
+pub mod Fixed
+pub mod BatchParts
+pub mod Sequences
+pub mod FollowedParts
+pub mod PriorParts
+pub mod SomeValues
+pub mod AnswerParts
+pub mod NoteParts
+pub mod TextParts

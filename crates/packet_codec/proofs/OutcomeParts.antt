@@ -1,16 +1,16 @@
 -- Outcomes.
 use Rattle.std.proofs.Common.{◌≡◌, ℕ, zero, suc, ◌≤◌, List, [], ◌∷◌, ◌++◌, drop, get_or, refl, ap, ◌∙◌, arith}
-use Rattle.fields.specs.Bad.{Spelled, After}
-use Rattle.fields.specs.Cells.{Run}
-use Rattle.fields.specs.Stops.{IsBadBefore}
-use Rattle.fields.specs.Spellings.{number, IsNumber, token, IsToken}
-use Rattle.fields.proofs.BadPlaces.{before_same}
-use Rattle.fields.proofs.Fixed.{number_apart, token_apart}
-use Rattle.fields.proofs.FollowedParts.{IsTagged, tag_first, tag_next}
-use Rattle.fields.proofs.SomeValues.{some_number, some_token}
-use Rattle.packet_codec.specs.declared.packet.Outcome.{Outcome}
-use Rattle.packet_codec.specs.declared.packet.Outcome.TheVariants.{Written, Already, TooOld, NoQuery, Busy}
-use Rattle.packet_codec.specs.Packets.{outcome, IsOutcome}
+use Rattle.packet_codec.specs.Bad.{Spelled, After}
+use Rattle.packet_codec.specs.Cells.{Run}
+use Rattle.packet_codec.specs.Stops.{IsBadBefore}
+use Rattle.turn_defs.specs.Spellings.{number, IsNumber, token, IsToken}
+use Rattle.packet_codec.proofs.BadPlaces.{before_same}
+use Rattle.packet_codec.proofs.Fixed.{number_apart, token_apart}
+use Rattle.packet_codec.proofs.FollowedParts.{IsTagged, tag_first, tag_next}
+use Rattle.packet_codec.proofs.SomeValues.{some_number, some_token}
+use Rattle.turn_defs.specs.declared.packet.Outcome.{Outcome}
+use Rattle.turn_defs.specs.declared.packet.Outcome.TheVariants.{Written, Already, TooOld, NoQuery, Busy}
+use Rattle.turn_defs.specs.Packets.{outcome, IsOutcome}
 
 abbrev pub Outcomes : List ℕ → Type 0
 Outcomes = Spelled outcome IsOutcome

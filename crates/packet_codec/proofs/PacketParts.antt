@@ -1,17 +1,18 @@
 -- What may follow each tag in a packet's spelling.
 use Rattle.std.proofs.Common.{◌≡◌, ℕ, zero, suc, ◌+◌, ◌-◌, ◌≤◌, List, ◌∷◌, ◌++◌, drop, get_or, refl, ap, ◌∙◌, subst, arith}
 use Rattle.log_records.specs.Line.{IsClick}
-use Rattle.fields.specs.Bad.{Spelled, Followed, After}
-use Rattle.fields.specs.Cells.{Run}
-use Rattle.fields.specs.Stops.{IsBadBefore}
-use Rattle.fields.specs.Spellings.{number, IsNumber, insert, IsInsert, answer, IsAnswer, ballot, IsBallot, place, IsPlace, batch, IsBatch, prior, IsPrior, click}
-use Rattle.fields.proofs.BadPlaces.{before_same}
-use Rattle.fields.proofs.FollowedParts.{IsTagged, tag_first, tag_next}
-use Rattle.fields.proofs.SomeValues.{some_number, some_insert, some_answer, some_ballot, some_place, some_batch, some_prior, some_click}
-use Rattle.packet_codec.specs.declared.packet.Outcome.TheVariants.{Busy}
-use Rattle.packet_codec.specs.declared.packet.Packet.{Packet}
-use Rattle.packet_codec.specs.declared.packet.Packet.TheVariants.{Join, Joined, Insert, Reply, Prepare, Promise, Nack, Accept, Accepted, Chosen}
-use Rattle.packet_codec.specs.Packets.{outcome, IsOutcome, packet, IsPacket, Packets}
+use Rattle.packet_codec.specs.Bad.{Spelled, Followed, After}
+use Rattle.packet_codec.specs.Cells.{Run}
+use Rattle.packet_codec.specs.Stops.{IsBadBefore}
+use Rattle.turn_defs.specs.Spellings.{number, IsNumber, insert, IsInsert, answer, IsAnswer, ballot, IsBallot, place, IsPlace, batch, IsBatch, prior, IsPrior, click}
+use Rattle.packet_codec.proofs.BadPlaces.{before_same}
+use Rattle.packet_codec.proofs.FollowedParts.{IsTagged, tag_first, tag_next}
+use Rattle.packet_codec.proofs.SomeValues.{some_number, some_insert, some_answer, some_ballot, some_place, some_batch, some_prior, some_click}
+use Rattle.turn_defs.specs.declared.packet.Outcome.TheVariants.{Busy}
+use Rattle.turn_defs.specs.declared.packet.Packet.{Packet}
+use Rattle.turn_defs.specs.declared.packet.Packet.TheVariants.{Join, Joined, Insert, Reply, Prepare, Promise, Nack, Accept, Accepted, Chosen}
+use Rattle.turn_defs.specs.Packets.{outcome, IsOutcome, packet, IsPacket}
+use Rattle.packet_codec.specs.Spelled.{Packets}
 
 -- ---- a packet's fields
 

@@ -1,17 +1,17 @@
 -- One packet for each spelling, and none begins another.
 use Rattle.std.proofs.Common.{◌≡◌, ℕ, List, [], ◌++◌, drop, get_or, ap, ◌∙◌, arith}
 use Rattle.log_records.specs.Line.{IsClick}
-use Rattle.fields.specs.Spellings.{number, IsNumber, insert, IsInsert, answer, IsAnswer, ballot, IsBallot, place, IsPlace, batch, IsBatch, prior, IsPrior, click}
-use Rattle.fields.proofs.Fixed.{number_apart, insert_apart, ballot_apart, place_apart}
-use Rattle.fields.proofs.AnswerParts.{answer_apart}
-use Rattle.fields.proofs.BatchParts.{batch_apart}
-use Rattle.fields.proofs.PriorParts.{prior_apart}
-use Rattle.fields.proofs.TextParts.{click_apart}
-use Rattle.fields.proofs.FollowedParts.{same_first}
+use Rattle.turn_defs.specs.Spellings.{number, IsNumber, insert, IsInsert, answer, IsAnswer, ballot, IsBallot, place, IsPlace, batch, IsBatch, prior, IsPrior, click}
+use Rattle.packet_codec.proofs.Fixed.{number_apart, insert_apart, ballot_apart, place_apart}
+use Rattle.packet_codec.proofs.AnswerParts.{answer_apart}
+use Rattle.packet_codec.proofs.BatchParts.{batch_apart}
+use Rattle.packet_codec.proofs.PriorParts.{prior_apart}
+use Rattle.packet_codec.proofs.TextParts.{click_apart}
+use Rattle.packet_codec.proofs.FollowedParts.{same_first}
 use Rattle.packet_codec.proofs.OutcomeParts.{outcome_apart}
-use Rattle.packet_codec.specs.declared.packet.Packet.{Packet}
-use Rattle.packet_codec.specs.declared.packet.Packet.TheVariants.{Join, Joined, Insert, Reply, Prepare, Promise, Nack, Accept, Accepted, Chosen}
-use Rattle.packet_codec.specs.Packets.{outcome, IsOutcome, packet, IsPacket}
+use Rattle.turn_defs.specs.declared.packet.Packet.{Packet}
+use Rattle.turn_defs.specs.declared.packet.Packet.TheVariants.{Join, Joined, Insert, Reply, Prepare, Promise, Nack, Accept, Accepted, Chosen}
+use Rattle.turn_defs.specs.Packets.{outcome, IsOutcome, packet, IsPacket}
 
 pub packet_apart : (v w : Packet) (s t : List ℕ) → IsPacket v → IsPacket w → packet v ++ s ≡ packet w ++ t → v ≡ w
 packet_apart (Join position1 c1) (Join position2 c2) s t p q e =

@@ -1,7 +1,7 @@
 -- Where bytes stop being the front of a packet's spelling.
 use Rattle.std.specs.Prelude.{◌≡◌, ℕ, ◌≤◌, List}
-use Rattle.fields.specs.Bad.{Reaches}
-use Rattle.packet_codec.specs.Packets.{Packets}
+use Rattle.packet_codec.specs.Bad.{Reaches}
+use Rattle.packet_codec.specs.Spelled.{Packets}
 use Rattle.packet_codec.specs.declared.fault.DecodeFault.{DecodeFault}
 use Rattle.packet_codec.specs.declared.fault.DecodeFault.TheVariants.{BadPacket, Memory}
 

@@ -6,9 +6,9 @@ use Rattle.registry_state.specs.declared.Insert as inserts
 use Rattle.registry_state.specs.declared.Answer.TheVariants as answers
 use Rattle.ballot_core.specs.declared.Ballot.{Ballot}
 use Rattle.paxos_defs.specs.declared.Place.{Place}
-use Rattle.packet_codec.specs.declared.packet.Outcome.TheVariants.{NoQuery}
-use Rattle.packet_codec.specs.declared.packet.Packet.TheVariants.{Join, Joined, Insert, Reply, Promise, Nack, Chosen}
-use Rattle.packet_codec.specs.Packets.{packet}
+use Rattle.turn_defs.specs.declared.packet.Outcome.TheVariants.{NoQuery}
+use Rattle.turn_defs.specs.declared.packet.Packet.TheVariants.{Join, Joined, Insert, Reply, Promise, Nack, Chosen}
+use Rattle.turn_defs.specs.Packets.{packet}
 
 abbrev pub some_id : EventId
 some_id = record { ip = 167772162; pid = 9; micros = 2000 }

@@ -1,19 +1,21 @@
 // Packets from bytes.
 ghost use Rattle.std.specs.Prelude.{◌≡◌, ◌≤◌, ◌∷◌, ◌++◌, ℕ, IfOk, IfErr, MatchResult};
-ghost use Rattle.fields.specs.Bad.{After};
-ghost use Rattle.fields.specs.Stops.{Stops};
-ghost use Rattle.packet_codec.specs.Packets.{packet, IsPacket, Packets};
+ghost use Rattle.packet_codec.specs.Bad.{After};
+ghost use Rattle.packet_codec.specs.Stops.{Stops};
+ghost use Rattle.turn_defs.specs.Packets.{packet, IsPacket};
+ghost use Rattle.packet_codec.specs.Spelled.{Packets};
 ghost use Rattle.packet_codec.specs.Refused.{IsBadPacket, IsFault, Tells, IsMemory};
-ghost use Rattle.packet_codec.specs.declared.packet.Packet.{Packet};
+ghost use Rattle.turn_defs.specs.declared.packet.Packet.{Packet};
 
+use crate::fields::{Stop, read_tag, read_three, read_two};
 use crate::tags::{ACCEPT, ACCEPTED, CHOSEN, INSERT, JOIN, JOINED, NACK, PREPARE, PROMISE, REPLY};
-use crate::{DecodeFault, Outcome, Packet};
+use crate::{DecodeFault, Field};
 use ballot_core::Ballot;
-use fields::{Field, Stop, read_tag, read_three, read_two};
 use log_records::ClickRec;
 use paxos_defs::Place;
 use registry_state::{Answer, Batch, Insert};
 use std::alloc::Global;
+use turn_defs::{Outcome, Packet};
 
 /// The packet that the bytes spell, all of them. Linear in the bytes. A text and a batch's list of inserts are allocated,
 /// and nothing else.

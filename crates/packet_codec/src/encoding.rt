@@ -1,15 +1,16 @@
 // Packets to bytes.
 ghost use Rattle.std.specs.Prelude.{◌≡◌, ◌≤◌, ◌∷◌, ◌++◌, length, IfOk, OnOk};
-ghost use Rattle.fields.specs.Spellings.{answer, batch, IsBatch, prior, IsPrior};
-ghost use Rattle.packet_codec.specs.Packets.{packet, IsPacket};
+ghost use Rattle.turn_defs.specs.Spellings.{answer, batch, IsBatch, prior, IsPrior};
+ghost use Rattle.turn_defs.specs.Packets.{packet, IsPacket};
 
-use crate::Packet;
+use crate::Field;
+use crate::fields::{put_three, put_two};
 use crate::outcomes::outcome_length;
 use crate::tags::{ACCEPT, ACCEPTED, CHOSEN, INSERT, JOIN, JOINED, NACK, PREPARE, PROMISE, REPLY};
 use ballot_core::Ballot;
-use fields::{Field, put_three, put_two};
 use registry_state::{Answer, Batch};
 use std::alloc::{AllocError, Global};
+use turn_defs::Packet;
 use wire_core::Bytes;
 
 /// The one spelling of a packet that has one: its numbers are in the ranges of its fields, its text has at most 200

@@ -1,18 +1,16 @@
-//! What nodes send to one another: packets, the nodes themselves, and what a turn takes. A packet has one spelling in
-//! bytes.
+//! Packets as bytes: each has one spelling, which is read and written field by field.
 #![tactic(auto)]
 
 mod decoding;
 mod encoding;
 mod fault;
-mod node;
+pub mod fields;
 mod outcomes;
-mod packet;
 pub mod rows;
 mod tags;
 
 pub use decoding::decode;
 pub use encoding::encode;
 pub use fault::DecodeFault;
-pub use node::{Input, Node, To};
-pub use packet::{Outcome, Packet};
+pub use fields::{Field, FieldFault};
+pub use turn_defs::{Input, Node, Outcome, Packet, To};

@@ -1,11 +1,12 @@
 // Outcomes of joins.
 ghost use Rattle.std.specs.Prelude.{◌≡◌, ◌≤◌, length, take};
-ghost use Rattle.packet_codec.specs.Packets.{outcome, IsOutcome};
+ghost use Rattle.turn_defs.specs.Packets.{outcome, IsOutcome};
 
-use crate::Outcome;
-use fields::{Field, Stop, read_tag, token_bytes, write};
+use crate::Field;
+use crate::fields::{Stop, read_tag, token_bytes, write};
 use registry_state::Token;
 use std::alloc::{AllocError, Global};
+use turn_defs::Outcome;
 use wire_core::Bytes;
 
 const WRITTEN: u8 = 0;

@@ -1,8 +1,8 @@
 //! Laws of packets' spellings, and worked rows.
 ghost use Rattle.std.specs.Prelude.{◌≡◌, ℕ, List, ◌++◌};
-ghost use Rattle.packet_codec.specs.Packets.{packet, IsPacket};
+ghost use Rattle.turn_defs.specs.Packets.{packet, IsPacket};
 ghost use Rattle.packet_codec.specs.Rows.{InsertRow, JoinRow, JoinedRow, ReplyRow, PromiseRow, NackRow, ChosenRow};
-ghost use Rattle.packet_codec.specs.declared.packet.Packet.{Packet};
+ghost use Rattle.turn_defs.specs.declared.packet.Packet.{Packet};
 
 /// Each spelling is of one packet, and none begins another.
 pub fn one_spelling()

@@ -1,8 +1,9 @@
 // Bytes and what is taken from them, from the layouts.
 use ballot_core::Ballot;
 use event_id::EventId;
-use fields::{Field, FieldFault, Stop, put_three, put_two, read_tag, read_three, read_two};
 use log_records::{ClickRec, QueryRec, Text};
+use packet_codec::fields::{Stop, put_three, put_two, read_tag, read_three, read_two};
+use packet_codec::{Field, FieldFault};
 use paxos_acceptor::ReplicaNote;
 use paxos_defs::Place;
 use registry_state::{Answer, Batch, Insert, Token};

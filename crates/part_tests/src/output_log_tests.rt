@@ -1,5 +1,5 @@
 ghost use Rattle.std.specs.Prelude.{IfOk};
-ghost use Rattle.output_log.specs.Pairs.{IsPair};
+ghost use Rattle.turn_defs.specs.Spellings.{IsPair};
 
 use log_records::{read_click, read_query};
 use mem_outside::MemDisk;

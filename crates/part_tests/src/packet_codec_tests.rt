@@ -1,11 +1,12 @@
 // Packets and their bytes, from the layouts.
 use ballot_core::Ballot;
 use event_id::EventId;
-use packet_codec::{DecodeFault, Outcome, Packet, decode, encode};
+use packet_codec::{DecodeFault, decode, encode};
 use paxos_defs::Place;
 use registry_state::{Insert, Token};
 use std::alloc::{AllocError, Global};
 use std::test::Fail;
+use turn_defs::{Outcome, Packet};
 use wire_core::Bytes;
 
 const POSITION: [u8; 8] = [0, 0, 0, 1, 0, 0, 0, 9];

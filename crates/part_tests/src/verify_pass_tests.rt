@@ -1,14 +1,13 @@
 // Small journals worked out by hand.
 use ballot_core::Ballot;
 use event_id::EventId;
-use log_defs::ReportLine;
-use log_records::{ClickRec, QueryRec, Text};
-use output_log::PairRec;
+use log_records::{ClickRec, QueryRec, ReportLine, Text};
 use paxos_acceptor::ReplicaNote;
 use registry_state::{Batch, Insert, Inserts, Token};
 use std::alloc::{AllocError, Global};
 use std::test::Fail;
 use time_shards::Table;
+use turn_defs::PairRec;
 use verify_pass::*;
 
 fn id(micros: u64) -> EventId {

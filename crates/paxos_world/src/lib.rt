@@ -1,6 +1,8 @@
 //! Paxos alone, as a protocol over lists of events, and its law of agreement.
 #![tactic(auto)]
 
+pub mod servers;
+
 ghost use Rattle.std.specs.Prelude.{◌≡◌, ℕ, List, [], ◌∷◌, Bool, replicate};
 ghost use Rattle.list_words.specs.Lists.{Begins};
 ghost use Rattle.paxos_defs.specs.declared.Place.{Place};

@@ -9,14 +9,14 @@ use Rattle.log_records.specs.Check.{IsQueryLog, IsClickLog}
 use Rattle.log_records.specs.Log.{HoldsQueries, HoldsClicks}
 use Rattle.log_records.specs.Lines.{ClickLine, placed}
 use Rattle.log_records.proofs.Reading.{clicks_same, queries_same}
-use Rattle.log_defs.specs.declared.ReportLine.{ReportLine}
-use Rattle.log_defs.specs.Report.{distinct, line_of, totals}
-use Rattle.run_faults.specs.declared.fault.LogName.{LogName}
+use Rattle.log_records.specs.declared.report.ReportLine.{ReportLine}
+use Rattle.log_records.specs.Report.{distinct, line_of, totals}
+use Rattle.site_run.specs.declared.faults.fault.LogName.{LogName}
 use Rattle.turn_defs.specs.Setting.{Setting}
 use Rattle.dispatch_node.specs.Places.{IsLogOf}
-use Rattle.drill_store.specs.Planned.{is_joiners}
+use Rattle.photon_cli.specs.Planned.{is_joiners}
 use Rattle.bulk_logs.specs.Bulk as logs
-use Rattle.store_run.specs.declared.ran.RunLog.{RunLog}
+use Rattle.site_run.specs.declared.ran.RunLog.{RunLog}
 use Rattle.photon_cli.specs.declared.engine.fault.Fault.{Fault}
 use Rattle.photon_cli.specs.declared.engine.fault.Fault.TheVariants as fault
 use Rattle.photon_cli.specs.Bulk.{IsBulkRun, IsBulkSetting, plan_text}

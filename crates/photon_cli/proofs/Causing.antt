@@ -2,15 +2,15 @@
 use Rattle.std.proofs.Common.{◌≡◌, ◌⊎◌, inl, inr, ⊎_elim, ℕ, ◌∷◌, List, Option, None, Some, refl, sym, subst, ◌∙◌}
 use Rattle.outside.specs.declared.store.DiskName.{DiskName}
 use Rattle.log_records.specs.declared.why.Why.{Why}
-use Rattle.run_faults.specs.declared.fault.LogName.{LogName}
-use Rattle.run_faults.specs.declared.fault.Mismatch.TheVariants as mismatch
-use Rattle.run_faults.specs.declared.fault.RunFault.{RunFault}
-use Rattle.run_faults.specs.declared.fault.RunFault.TheVariants as cause
-use Rattle.site_disks.specs.declared.checks.Misfit.{Misfit}
+use Rattle.site_run.specs.declared.faults.fault.LogName.{LogName}
+use Rattle.site_run.specs.declared.faults.fault.Mismatch.TheVariants as mismatch
+use Rattle.site_run.specs.declared.faults.fault.RunFault.{RunFault}
+use Rattle.site_run.specs.declared.faults.fault.RunFault.TheVariants as cause
+use Rattle.site_store.specs.declared.disks.checks.Misfit.{Misfit}
 use Rattle.turn_defs.specs.Setting.{Setting}
-use Rattle.store_laws.specs.Stores.{Images}
-use Rattle.store_run.specs.Refused.{HasPassed, IsCauseOf, IsTaken, WasJournal}
-use Rattle.store_run.proofs.Refusing.{cause_within, kept_are_journals}
+use Rattle.site_laws.specs.Stores.{Images}
+use Rattle.site_run.specs.Refused.{HasPassed, IsCauseOf, IsTaken, WasJournal}
+use Rattle.site_run.proofs.Refusing.{cause_within, kept_are_journals}
 use Rattle.photon_cli.specs.declared.engine.fault.Fault.{Fault}
 use Rattle.photon_cli.specs.declared.engine.fault.Fault.TheVariants as fault
 use Rattle.photon_cli.specs.Causes.{HasCause, IsAtLimit, IsBelowLimits, IsMismatched}

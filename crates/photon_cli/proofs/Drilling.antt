@@ -12,13 +12,13 @@ use Rattle.air_bus.specs.declared.entry.Entry.{Entry}
 use Rattle.air_bus.specs.declared.entry.Entry.TheVariants.{Begin, End, Stop}
 use Rattle.air_bus.specs.History.{is_of, IsAired}
 use Rattle.bus_seat.specs.Seats.{IsIn}
-use Rattle.log_defs.specs.declared.ReportLine.{ReportLine}
+use Rattle.log_records.specs.declared.report.ReportLine.{ReportLine}
 use Rattle.turn_defs.specs.Setting.{Setting}
-use Rattle.drill_store.specs.Planned.{is_joiners}
+use Rattle.photon_cli.specs.Planned.{is_joiners}
 use Rattle.site_laws.specs.Laws.{made_by}
-use Rattle.site_run.specs.Works.{is_stop}
-use Rattle.store_run.specs.Joined.{RanAfresh}
-use Rattle.store_run.specs.declared.ran.RunLog.{RunLog}
+use Rattle.site_workers.specs.Works.{is_stop}
+use Rattle.site_run.specs.Joined.{RanAfresh}
+use Rattle.site_run.specs.declared.ran.RunLog.{RunLog}
 use Rattle.photon_cli.specs.Drill.{IsDrilled, is_late_stop}
 
 -- an entry that may be the node's, before others: if it is, it is no stop

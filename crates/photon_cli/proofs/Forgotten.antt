@@ -3,9 +3,9 @@ use Rattle.std.proofs.Common.{inl, inr, ⊎_elim, ◌≡◌, ◌++◌, ℕ, List
 use Rattle.gate_journal.proofs.Growth.{continues_same}
 use Rattle.turn_defs.specs.Setting.{Setting}
 use Rattle.outside.specs.declared.store.DiskName.{DiskName}
-use Rattle.site_disks.specs.Lent.{StaysAs}
-use Rattle.store_laws.specs.Stores.{Images}
-use Rattle.store_run.specs.declared.ran.RunLog.{RunLog}
+use Rattle.gate_journal.specs.Images.{StaysAs}
+use Rattle.site_laws.specs.Stores.{Images}
+use Rattle.site_run.specs.declared.ran.RunLog.{RunLog}
 use Rattle.command_words.specs.Words.{Text}
 use Rattle.photon_cli.specs.declared.engine.fault.Fault.TheVariants as fault
 use Rattle.photon_cli.specs.Ends.{BulkEnds, DrillEnds, JoinEnds, VerifyEnds}

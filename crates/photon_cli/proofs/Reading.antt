@@ -10,25 +10,26 @@ use Rattle.log_records.specs.declared.why.Why.{Why}
 use Rattle.log_records.specs.Lines.{end_from}
 use Rattle.turn_defs.specs.Setting.{Setting}
 use Rattle.dispatch_node.specs.Places.{IsLogOf}
-use Rattle.run_faults.specs.declared.fault.LogName.{LogName}
-use Rattle.run_faults.specs.declared.fault.LogName.TheVariants.{Queries, Clicks}
-use Rattle.run_faults.specs.declared.fault.Mismatch.{Mismatch}
-use Rattle.run_faults.specs.declared.fault.Mismatch.TheVariants as mismatch
-use Rattle.run_faults.specs.declared.fault.RunFault.TheVariants as cause
-use Rattle.site_disks.specs.declared.fault.DisksFault.TheVariants as disks
-use Rattle.site_disks.specs.declared.opened.Opened.{Opened}
-use Rattle.site_disks.specs.Opening.{IsKeptIn, KeepsLeft, RoseBy, WasDamaged}
-use Rattle.site_disks.specs.Refusals.{IsOfFirstDisk}
-use Rattle.store_laws.specs.Stores.{Images}
-use Rattle.store_opening.specs.declared.refusal.Refusal.{Refusal}
-use Rattle.store_opening.specs.declared.refusal.Refusal.TheVariants.{Disks as OfDisks, Joiners, Table, Place, Limit, Read}
-use Rattle.store_opening.specs.Records.{KeptValues, AreIn, AreKept}
-use Rattle.store_opening.specs.Causes.{IfDisks, IfJudged, IsWelcome, LeavesSomething}
-use Rattle.store_reading.specs.declared.kept.KeptStore.{KeptStore}
-use Rattle.store_reading.specs.Reading.{IsCause, IsRead}
-use Rattle.store_run.specs.Causes.{of_place, of_refusal}
-use Rattle.store_run.specs.Refused.{IsTaken, Kept, WasJournal}
-use Rattle.store_run.proofs.Refusing.{cause_within, kept_are_journals}
+use Rattle.site_run.specs.declared.faults.fault.LogName.{LogName}
+use Rattle.site_run.specs.declared.faults.fault.LogName.TheVariants.{Queries, Clicks}
+use Rattle.site_run.specs.declared.faults.fault.Mismatch.{Mismatch}
+use Rattle.site_run.specs.declared.faults.fault.Mismatch.TheVariants as mismatch
+use Rattle.site_run.specs.declared.faults.fault.RunFault.TheVariants as cause
+use Rattle.site_store.specs.declared.disks.fault.DisksFault.TheVariants as disks
+use Rattle.site_store.specs.declared.disks.opened.Opened.{Opened}
+use Rattle.site_store.specs.Opening.{KeepsLeft, RoseBy, WasDamaged}
+use Rattle.gate_journal.specs.Images.{IsKeptIn}
+use Rattle.site_store.specs.Refusals.{IsOfFirstDisk}
+use Rattle.site_laws.specs.Stores.{Images}
+use Rattle.site_store.specs.declared.opening.refusal.Refusal.{Refusal}
+use Rattle.site_store.specs.declared.opening.refusal.Refusal.TheVariants.{Disks as OfDisks, Joiners, Table, Place, Limit, Read}
+use Rattle.site_store.specs.Records.{KeptValues, AreIn, AreKept}
+use Rattle.site_store.specs.Causes.{IfDisks, IfJudged, IsWelcome, LeavesSomething}
+use Rattle.site_store.specs.declared.reading.kept.KeptStore.{KeptStore}
+use Rattle.site_store.specs.Reading.{IsCause, IsRead}
+use Rattle.site_run.specs.Causes.{of_place, of_refusal}
+use Rattle.site_run.specs.Refused.{IsTaken, Kept, WasJournal}
+use Rattle.site_run.proofs.Refusing.{cause_within, kept_are_journals}
 use Rattle.photon_cli.specs.declared.engine.fault.Fault.{Fault}
 use Rattle.photon_cli.specs.declared.engine.fault.Fault.TheVariants as fault
 use Rattle.photon_cli.specs.Causes.{AreMisplaced, CanBeRead, HasCauseInVerify, IsAtLimit, IsBelowLimits, IsUnread, StopsReading, unasked}

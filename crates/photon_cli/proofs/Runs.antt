@@ -5,9 +5,9 @@ use Rattle.std.specs.Option.{IfSome, IsSomeAnd}
 use Rattle.lossy_link.specs.Fates.{PlanView}
 use Rattle.air_bus.specs.History.{IsAired}
 use Rattle.bus_seat.specs.Seats.{IsIn}
-use Rattle.store_laws.specs.Stores.{Images}
-use Rattle.store_run.specs.Left.{RunLeft}
-use Rattle.store_run.specs.declared.ran.RunLog.{RunLog}
+use Rattle.site_laws.specs.Stores.{Images}
+use Rattle.site_run.specs.Left.{RunLeft}
+use Rattle.site_run.specs.declared.ran.RunLog.{RunLog}
 use Rattle.time_shards.specs.declared.ShardRow.{ShardRow}
 use Rattle.event_id.specs.declared.id.EventId.{EventId}
 use Rattle.log_records.specs.declared.records.QueryRec.{QueryRec}
@@ -18,8 +18,8 @@ use Rattle.log_records.specs.Lines.{ClickLine, placed, end_from}
 use Rattle.log_records.proofs.Places.{lines_follow}
 use Rattle.turn_defs.specs.Setting.{Setting, Checked}
 use Rattle.dispatch_node.specs.Places.{IsLogOf}
-use Rattle.store_run.specs.Asked.{IsSettingOf}
-use Rattle.log_check.specs.Check.{EndsAt}
+use Rattle.site_run.specs.Asked.{IsSettingOf}
+use Rattle.photon_cli.specs.CheckedLogs.{EndsAt}
 use Rattle.photon_cli.specs.Join.{AreLogs, HasIds, IsAsked, IsHistory, config_of}
 use Rattle.photon_cli.specs.Words.{IsTextOf, Values}
 use Rattle.photon_cli.proofs.Refusals.{within}

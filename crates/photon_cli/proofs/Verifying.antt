@@ -6,8 +6,8 @@ use Rattle.std.proofs.lemmas.Bool.Decides.{nat_tests}
 use Rattle.event_id.specs.declared.id.EventId.{EventId}
 use Rattle.registry_state.specs.declared.Batch.{Batch}
 use Rattle.registry_state.specs.Same.{same_batch}
-use Rattle.log_defs.specs.declared.ReportLine.TheVariants.{U}
-use Rattle.output_log.specs.declared.pair.PairRec.{PairRec}
+use Rattle.log_records.specs.declared.report.ReportLine.TheVariants.{U}
+use Rattle.turn_defs.specs.declared.pair.PairRec.{PairRec}
 use Rattle.paxos_defs.specs.Decided.{decided}
 use Rattle.paxos_acceptor.specs.Cells.{note_view}
 use Rattle.time_shards.specs.declared.ShardRow.{ShardRow}
@@ -15,31 +15,31 @@ use Rattle.time_shards.specs.Shards.{shard_of}
 use Rattle.verify_pass.specs.Classes.{first_pair, line_by, line_of}
 use Rattle.log_records.specs.declared.why.Why.{Why}
 use Rattle.log_records.specs.Check.{RefusesClick}
-use Rattle.run_faults.specs.declared.fault.LogName.TheVariants.{Queries, Clicks}
-use Rattle.run_faults.specs.declared.fault.RunFault.TheVariants as cause
+use Rattle.site_run.specs.declared.faults.fault.LogName.TheVariants.{Queries, Clicks}
+use Rattle.site_run.specs.declared.faults.fault.RunFault.TheVariants as cause
 use Rattle.command_words.specs.Words.{Text}
 use Rattle.outside.specs.declared.store.DiskName.{DiskName}
 use Rattle.outside.specs.declared.store.DiskName.TheVariants as name
 use Rattle.topology_journal.specs.Topologies.{Keeps as KeepsTopology}
 use Rattle.turn_defs.specs.Setting.{Setting}
-use Rattle.photon_defs.specs.Topology.{Store}
-use Rattle.site_disks.specs.declared.fault.DisksFault.TheVariants as disks
-use Rattle.store_laws.specs.Stores.{AreLeft, Images, IsSoundStore}
-use Rattle.store_opening.specs.declared.refusal.Refusal.{Refusal}
-use Rattle.store_opening.specs.declared.refusal.Refusal.TheVariants.{Disks as OfDisks, Joiners, Table, Place, Limit, Read}
-use Rattle.store_opening.specs.Leaving.{IsAsked as HasTopology}
-use Rattle.store_reading.specs.declared.kept.KeptStore.{KeptStore}
-use Rattle.store_reading.specs.Reading.{IsRead}
-use Rattle.store_reading.specs.Telling.{Tells}
-use Rattle.store_run.specs.Causes.{of_refusal}
+use Rattle.photon_model.specs.Topology.{Store}
+use Rattle.site_store.specs.declared.disks.fault.DisksFault.TheVariants as disks
+use Rattle.site_laws.specs.Stores.{AreLeft, Images, IsSoundStore}
+use Rattle.site_store.specs.declared.opening.refusal.Refusal.{Refusal}
+use Rattle.site_store.specs.declared.opening.refusal.Refusal.TheVariants.{Disks as OfDisks, Joiners, Table, Place, Limit, Read}
+use Rattle.site_store.specs.Leaving.{IsAsked as HasTopology}
+use Rattle.site_store.specs.declared.reading.kept.KeptStore.{KeptStore}
+use Rattle.site_store.specs.Reading.{IsRead}
+use Rattle.site_store.specs.Telling.{Tells}
+use Rattle.site_run.specs.Causes.{of_refusal}
 use Rattle.verify_pass.specs.declared.journals.Journals.{Journals}
 use Rattle.topology_journal.specs.declared.topology.Topology.{Topology as KeptTopology}
 use Rattle.log_records.specs.declared.records.ClickRec.{ClickRec}
 use Rattle.log_records.specs.Check.{IsClickLog}
 use Rattle.log_records.specs.Lines.{ClickLine}
 use Rattle.log_records.proofs.Reading.{clicks_same}
-use Rattle.log_defs.specs.declared.ReportLine.{ReportLine}
-use Rattle.log_defs.specs.Report.{distinct}
+use Rattle.log_records.specs.declared.report.ReportLine.{ReportLine}
+use Rattle.log_records.specs.Report.{distinct}
 use Rattle.dispatch_node.specs.Places.{IsLogOf}
 use Rattle.photon_cli.specs.Join.{HasIds}
 use Rattle.photon_cli.specs.Verify.{IsReadFrom, IsTold}

@@ -5,9 +5,9 @@ use Rattle.lossy_link.specs.Plans.{IsPlanOf}
 use Rattle.log_records.specs.Lines.{placed}
 use Rattle.turn_defs.specs.Setting.{Setting}
 use Rattle.bulk_logs.specs.Bulk as logs
-use Rattle.log_defs.specs.declared.ReportLine.{ReportLine}
+use Rattle.log_records.specs.declared.report.ReportLine.{ReportLine}
 use Rattle.report_text.specs.Stream.{TookPrefix}
-use Rattle.store_run.specs.declared.ran.RunLog.{RunLog}
+use Rattle.site_run.specs.declared.ran.RunLog.{RunLog}
 use Rattle.photon_cli.specs.declared.wanted.BulkWanted.{BulkWanted}
 use Rattle.photon_cli.specs.Drill.{IsDrilled}
 use Rattle.photon_cli.specs.Words.{BulkValues, IsTextOf}

@@ -1,17 +1,17 @@
 -- Why a join and a verification give up, by what a stop might have left of the disks before.
 use Rattle.std.specs.Prelude.{◌≡◌, ◌≢◌, ℕ, List, Option, None, Some, IsSomeAnd, ⊤}
 use Rattle.turn_defs.specs.Setting.{Setting}
-use Rattle.run_faults.specs.declared.fault.Mismatch.TheVariants as mismatch
-use Rattle.run_faults.specs.declared.fault.RunFault.{RunFault}
-use Rattle.run_faults.specs.declared.fault.RunFault.TheVariants as cause
+use Rattle.site_run.specs.declared.faults.fault.Mismatch.TheVariants as mismatch
+use Rattle.site_run.specs.declared.faults.fault.RunFault.{RunFault}
+use Rattle.site_run.specs.declared.faults.fault.RunFault.TheVariants as cause
 use Rattle.command_words.specs.Words.{Text}
 use Rattle.dispatch_node.specs.Places.{IsLogOf}
-use Rattle.site_disks.specs.Misfits.{IsFit}
-use Rattle.site_disks.specs.declared.checks.Misfit.TheVariants.{Spent}
-use Rattle.store_laws.specs.Stores.{Images}
-use Rattle.store_opening.specs.Records.{KeptValues}
-use Rattle.store_opening.specs.Causes.{first_limit}
-use Rattle.store_run.specs.Refused.{asked_of, HasPassed, IsCauseOf, IsFirstDamaged, IsFirstMisplaced, Kept, PlacesFit}
+use Rattle.site_store.specs.Misfits.{IsFit}
+use Rattle.site_store.specs.declared.disks.checks.Misfit.TheVariants.{Spent}
+use Rattle.site_laws.specs.Stores.{Images}
+use Rattle.site_store.specs.Records.{KeptValues}
+use Rattle.site_store.specs.Causes.{first_limit}
+use Rattle.site_run.specs.Refused.{asked_of, HasPassed, IsCauseOf, IsFirstDamaged, IsFirstMisplaced, Kept, PlacesFit}
 use Rattle.photon_cli.specs.declared.engine.fault.Fault.{Fault}
 use Rattle.photon_cli.specs.declared.engine.fault.Fault.TheVariants as fault
 

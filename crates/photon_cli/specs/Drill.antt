@@ -9,13 +9,13 @@ use Rattle.air_bus.specs.declared.entry.Entry.TheVariants.{Begin, End, Stop}
 use Rattle.air_bus.specs.History.{IsAired}
 use Rattle.bus_seat.specs.Seats.{IsIn}
 use Rattle.log_records.specs.Lines.{ClickLine}
-use Rattle.log_defs.specs.declared.ReportLine.{ReportLine}
-use Rattle.log_defs.specs.Report as logs
+use Rattle.log_records.specs.declared.report.ReportLine.{ReportLine}
+use Rattle.log_records.specs.Report as logs
 use Rattle.report_text.specs.Stream.{TookPrefix}
 use Rattle.turn_defs.specs.Setting.{Setting}
-use Rattle.drill_store.specs.Planned.{is_joiners}
-use Rattle.store_run.specs.Joined.{RanAfresh}
-use Rattle.store_run.specs.declared.ran.RunLog.{RunLog}
+use Rattle.photon_cli.specs.Planned.{is_joiners}
+use Rattle.site_run.specs.Joined.{RanAfresh}
+use Rattle.site_run.specs.declared.ran.RunLog.{RunLog}
 use Rattle.photon_cli.specs.Join.{IsAsked}
 use Rattle.command_words.specs.Words.{Text}
 use Rattle.photon_cli.specs.Words.{Values}

@@ -7,13 +7,13 @@ use Rattle.lossy_link.specs.Fates.{PlanView}
 use Rattle.lossy_link.specs.declared.bad_plan.Field.{Field}
 use Rattle.command_words.specs.Words.{Text}
 use Rattle.log_records.specs.declared.check.BadLine.{BadLine}
-use Rattle.run_faults.specs.declared.fault.LogName.{LogName}
+use Rattle.site_run.specs.declared.faults.fault.LogName.{LogName}
 use Rattle.turn_defs.specs.Setting.{Setting}
 use Rattle.log_records.specs.Check.{RefusesClick}
-use Rattle.site_disks.specs.Lent.{GoesOn, StaysAs}
-use Rattle.store_laws.specs.Stores.{Images, IsSoundStore}
-use Rattle.store_run.specs.declared.ran.RunLog.{RunLog}
-use Rattle.store_run.specs.Refused.{HasPassed, IsTaken, WasJournal}
+use Rattle.gate_journal.specs.Images.{GoesOn, StaysAs}
+use Rattle.site_laws.specs.Stores.{Images, IsSoundStore}
+use Rattle.site_run.specs.declared.ran.RunLog.{RunLog}
+use Rattle.site_run.specs.Refused.{HasPassed, IsTaken, WasJournal}
 use Rattle.photon_cli.specs.declared.engine.fault.Fault.{Fault}
 use Rattle.photon_cli.specs.Causes.{AreMisplaced, CanBeRead, IsAtLimit, IsBelowLimits, IsMismatched, IsOverLog, unasked}
 use Rattle.photon_cli.specs.Faults.{status_of}

@@ -6,7 +6,7 @@ use Rattle.lossy_link.specs.declared.bad_plan.Field.{Field}
 use Rattle.lossy_link.specs.declared.bad_plan.Field.TheVariants as field
 use Rattle.command_words.specs.declared.asked.WordsFault.{WordsFault}
 use Rattle.command_words.specs.declared.asked.WordsFault.TheVariants as words_fault
-use Rattle.run_faults.specs.Faults as run
+use Rattle.site_run.specs.Faults as run
 use Rattle.photon_cli.specs.declared.engine.fault.Fault.{Fault}
 use Rattle.photon_cli.specs.declared.engine.fault.Fault.TheVariants as fault
 

@@ -11,19 +11,19 @@ use Rattle.log_records.specs.declared.records.ClickRec.{ClickRec}
 use Rattle.log_records.specs.declared.check.BadLine.{BadLine}
 use Rattle.log_records.specs.Check.{IsQueryLog, IsClickLog, RefusesQuery, RefusesClick}
 use Rattle.log_records.specs.Lines.{ClickLine, end_from}
-use Rattle.log_defs.specs.declared.ReportLine.{ReportLine}
-use Rattle.log_defs.specs.Report.{text_of}
+use Rattle.log_records.specs.declared.report.ReportLine.{ReportLine}
+use Rattle.log_records.specs.Report.{text_of}
 use Rattle.report_text.specs.Stream.{TookPrefix}
-use Rattle.run_faults.specs.declared.fault.LogName.{LogName}
-use Rattle.run_faults.specs.declared.fault.LogName.TheVariants.{Queries, Clicks}
+use Rattle.site_run.specs.declared.faults.fault.LogName.{LogName}
+use Rattle.site_run.specs.declared.faults.fault.LogName.TheVariants.{Queries, Clicks}
 use Rattle.turn_defs.specs.Setting.{Setting}
-use Rattle.site_nodes.specs.declared.config.Config.{Config}
-use Rattle.store_laws.specs.Stores.{Images, IsSoundStore}
-use Rattle.store_laws.specs.Laws.{LeavesNothing}
-use Rattle.store_run.specs.Asked.{IsSettingOf}
-use Rattle.store_run.specs.Joined.{Joins, JoinsAfresh}
-use Rattle.store_run.specs.Left.{RunLeft}
-use Rattle.store_run.specs.declared.ran.RunLog.{RunLog}
+use Rattle.site_run.specs.declared.built.config.Config.{Config}
+use Rattle.site_laws.specs.Stores.{Images, IsSoundStore}
+use Rattle.site_laws.specs.StoreLaws.{LeavesNothing}
+use Rattle.site_run.specs.Asked.{IsSettingOf}
+use Rattle.site_run.specs.Joined.{Joins, JoinsAfresh}
+use Rattle.site_run.specs.Left.{RunLeft}
+use Rattle.site_run.specs.declared.ran.RunLog.{RunLog}
 use Rattle.photon_cli.specs.Words.{Values, IsTextOf}
 
 -- Here told says what bytes are under a name.

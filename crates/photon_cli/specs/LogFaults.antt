@@ -4,11 +4,11 @@ use Rattle.log_records.specs.declared.why.Why.{Why}
 use Rattle.log_records.specs.declared.why.Why.TheVariants as why
 use Rattle.log_records.specs.declared.check.BadLine.{BadLine}
 use Rattle.lossy_link.specs.declared.bad_plan.Field.{Field}
-use Rattle.run_faults.specs.declared.fault.LogName.{LogName}
-use Rattle.run_faults.specs.declared.fault.LogName.TheVariants.{Queries, Clicks}
-use Rattle.run_faults.specs.declared.fault.RunFault.{RunFault}
-use Rattle.run_faults.specs.declared.fault.RunFault.TheVariants as cause
-use Rattle.store_run.specs.Causes.{IsCounted, IsWelcomeWhere}
+use Rattle.site_run.specs.declared.faults.fault.LogName.{LogName}
+use Rattle.site_run.specs.declared.faults.fault.LogName.TheVariants.{Queries, Clicks}
+use Rattle.site_run.specs.declared.faults.fault.RunFault.{RunFault}
+use Rattle.site_run.specs.declared.faults.fault.RunFault.TheVariants as cause
+use Rattle.site_run.specs.Causes.{IsCounted, IsWelcomeWhere}
 use Rattle.photon_cli.specs.declared.engine.fault.Fault.{Fault}
 use Rattle.photon_cli.specs.declared.engine.fault.Fault.TheVariants as fault
 

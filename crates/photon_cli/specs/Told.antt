@@ -1,11 +1,11 @@
 -- What the program tells on standard error.
 use Rattle.std.specs.Prelude.{ℕ, ◌≡◌, ◌⊎◌, List, ◌++◌, Bool, IsTrue, Option, IsSomeAnd, ⊤}
 use Rattle.log_records.specs.Check.{RefusesClick}
-use Rattle.run_faults.specs.declared.fault.LogName.TheVariants.{Queries, Clicks}
+use Rattle.site_run.specs.declared.faults.fault.LogName.TheVariants.{Queries, Clicks}
 use Rattle.time_shards.specs.Text.{IsFirstBad}
 use Rattle.command_words.specs.Words.{Text}
 use Rattle.turn_defs.specs.Setting.{Setting}
-use Rattle.store_laws.specs.Stores.{Images}
+use Rattle.site_laws.specs.Stores.{Images}
 use Rattle.photon_cli.specs.declared.engine.fault.Fault.{Fault}
 use Rattle.photon_cli.specs.declared.engine.fault.Fault.TheVariants as fault
 use Rattle.photon_cli.specs.Drill.{IsBadIn}

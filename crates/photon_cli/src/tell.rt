@@ -2,7 +2,7 @@
 ghost use Rattle.std.specs.Prelude.{◌≡◌, ◌++◌, OnOk, IsErr, IsTrue, List, codes, decimal};
 ghost use Rattle.std.specs.List.{flat_map};
 ghost use Rattle.outside.specs.Faults.{Counts, Rose};
-ghost use Rattle.run_faults.specs.Faults.{log_text};
+ghost use Rattle.site_run.specs.Faults.{log_text};
 ghost use Rattle.photon_cli.specs.Faults.{status_of, why_text, plan_message, message};
 
 use crate::engine::Fault;
@@ -12,7 +12,7 @@ use log_records::Why;
 use lossy_link::Field;
 use outside::{Sink, WriteFault};
 use report_text::write_all;
-use run_faults::LogName;
+use site_run::LogName;
 use std::alloc::Global;
 
 /// The exit status of a fault.
@@ -24,7 +24,7 @@ pub fn status(fault: &Fault) -> u8
         Fault::Plan(_) => 2,
         Fault::Refused { .. } => 3,
         Fault::PlanRead => 4,
-        Fault::Run(cause) => run_faults::status(cause),
+        Fault::Run(cause) => site_run::status(cause),
         Fault::Write => 5,
         Fault::Memory => 8,
     }
@@ -72,7 +72,7 @@ fn write_fault<K: Sink>(err: &mut K, fault: &Fault) -> Result<(), WriteFault>
             )
         }
         Fault::PlanRead => write_all(err, b"photon: read: plan\n"),
-        Fault::Run(cause) => run_faults::tell(err, cause),
+        Fault::Run(cause) => site_run::tell(err, cause),
         Fault::Write => write_all(err, b"photon: write\n"),
         Fault::Memory => write_all(err, b"photon: memory\n"),
     }

@@ -1,6 +1,6 @@
 // What is asked for, with names.
 
-use store_run::Names;
+use site_run::Names;
 
 /// What both sites are run for. The shards are the text of a table, which isn't read yet.
 #[derive(Clone, Copy)]

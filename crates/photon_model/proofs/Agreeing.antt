@@ -16,16 +16,16 @@ use Rattle.registry_state.specs.declared.Answer.{Answer}
 use Rattle.registry_state.specs.declared.Answer.TheVariants.{Granted, Duplicate, TooOld}
 use Rattle.registry_state.specs.LookBack.{IsGranted, bound_of, first_insert, holder}
 use Rattle.turn_defs.specs.Setting.{Setting, Checked, shard, IsJoiner}
-use Rattle.packet_codec.specs.declared.packet.Packet.{Packet}
-use Rattle.packet_codec.specs.declared.packet.Packet.TheVariants.{Join, Joined, Insert as Claim, Reply, Prepare, Promise, Nack, Accept, Accepted, Chosen}
-use Rattle.packet_codec.specs.declared.packet.Outcome.{Outcome}
-use Rattle.packet_codec.specs.declared.packet.Outcome.TheVariants.{Written, Already, TooOld as Late, NoQuery, Busy}
-use Rattle.packet_codec.specs.declared.node.Node.{Node}
-use Rattle.packet_codec.specs.declared.node.Node.TheVariants.{Dispatcher, Server, Replica, Joiner}
-use Rattle.packet_codec.specs.declared.node.To.{To}
-use Rattle.packet_codec.specs.Nodes.{Sent}
-use Rattle.packet_codec.specs.declared.node.Input.{Input}
-use Rattle.packet_codec.specs.declared.node.Input.TheVariants.{Start, Own, Tick, Deliver}
+use Rattle.turn_defs.specs.declared.packet.Packet.{Packet}
+use Rattle.turn_defs.specs.declared.packet.Packet.TheVariants.{Join, Joined, Insert as Claim, Reply, Prepare, Promise, Nack, Accept, Accepted, Chosen}
+use Rattle.turn_defs.specs.declared.packet.Outcome.{Outcome}
+use Rattle.turn_defs.specs.declared.packet.Outcome.TheVariants.{Written, Already, TooOld as Late, NoQuery, Busy}
+use Rattle.turn_defs.specs.declared.node.Node.{Node}
+use Rattle.turn_defs.specs.declared.node.Node.TheVariants.{Dispatcher, Server, Replica, Joiner}
+use Rattle.turn_defs.specs.declared.node.To.{To}
+use Rattle.turn_defs.specs.Sent.{Sent}
+use Rattle.turn_defs.specs.declared.node.Input.{Input}
+use Rattle.turn_defs.specs.declared.node.Input.TheVariants.{Start, Own, Tick, Deliver}
 use Rattle.paxos_defs.specs.declared.Place.{Place}
 use Rattle.paxos_defs.specs.Notes.{Vote, acceptance, vote_at, votes_at, votes as votes_in, Has}
 use Rattle.paxos_defs.specs.Notes.Note.{Promised, Accepted as Took}
@@ -35,18 +35,18 @@ use Rattle.paxos_defs.proofs.Facts.{decided_grows}
 use Rattle.paxos_defs.proofs.Places.{vote_here}
 use Rattle.paxos_defs.proofs.Votes.{has_append}
 use Rattle.turn_defs.specs.Turns.{BallotNote, Note, Advance, Park, Settle, Epoch, Output, Voted, Out, idle, land}
-use Rattle.dispatch_core.specs.Dispatcher.{DispatcherKept, DispatcherLive, Fresh, first_done, waits, has_room, retries, takes, with_room, dispatcher_own, fresh_joins, join_if, trying_joins, ends, parks, dispatcher_joined, dispatcher_gets, dispatcher_turn}
-use Rattle.joiner_core.specs.Joiner.{JoinerKept, JoinerLive, Flight, insert_of, is_for, in_flight, claim, looks, joins, answers, replied, joiner_gets, joiner_turn}
-use Rattle.registry_server.specs.Server.{ServerKept, ServerLive, land_server, server_turn}
-use Rattle.replica_node.specs.Replica.{ReplicaKept, land_replica, replica_turn}
-use Rattle.photon_defs.specs.Journals.{journals, decided}
-use Rattle.photon_defs.specs.Agreement.{ReplicasSound, Offer, Votes, offer, VotesOf, VotesOfServer, VotesAgree}
-use Rattle.photon_defs.specs.Sound.{values_of, IsWritten, IsInsertOf, InsertsOf, Sound}
-use Rattle.photon_defs.specs.Facts.{IfUp, IfOpen, known, ServerHolds, WorldHolds}
-use Rattle.photon_defs.specs.Runs.{Cell, World, Entry, Begin, End, Stop, Disks, disks, begun, ended, stopped, dispatcher_row, server_row, replica_row, joiner_row, sends, after, world_after, WasSent, May, IsRun, opening}
+use Rattle.turn_defs.specs.Dispatcher.{DispatcherKept, DispatcherLive, Fresh, first_done, waits, has_room, retries, takes, with_room, dispatcher_own, fresh_joins, join_if, trying_joins, ends, parks, dispatcher_joined, dispatcher_gets, dispatcher_turn}
+use Rattle.turn_defs.specs.Joiner.{JoinerKept, JoinerLive, Flight, insert_of, is_for, in_flight, claim, looks, joins, answers, replied, joiner_gets, joiner_turn}
+use Rattle.turn_defs.specs.Server.{ServerKept, ServerLive, land_server, server_turn}
+use Rattle.turn_defs.specs.Replica.{ReplicaKept, land_replica, replica_turn}
+use Rattle.photon_model.specs.Journals.{journals, decided}
+use Rattle.photon_model.specs.Agreement.{ReplicasSound, Offer, Votes, offer, VotesOf, VotesOfServer, VotesAgree}
+use Rattle.photon_model.specs.Sound.{values_of, IsWritten, IsInsertOf, InsertsOf, Sound}
+use Rattle.photon_model.specs.Facts.{IfUp, IfOpen, known, ServerHolds, WorldHolds}
+use Rattle.photon_model.specs.Runs.{Cell, World, Entry, Begin, End, Stop, Disks, disks, begun, ended, stopped, dispatcher_row, server_row, replica_row, joiner_row, sends, after, world_after, WasSent, May, IsRun, opening}
 use Rattle.list_words.proofs.Lists.{option_both, each_at, each_append, mem_left, mem_right, mem_split, at_set, at_set_if, none_some}
 use Rattle.registry_state.proofs.LookingBack.{one_granted, holder_granted, holder_first, bound_stays}
-use Rattle.photon_defs.proofs.Journals.{journals_length, journal_of, journals_noted, journals_same, accepted_note, accepted_stands, exact, decided_accepted}
+use Rattle.photon_model.proofs.Journals.{journals_length, journal_of, journals_noted, journals_same, accepted_note, accepted_stands, exact, decided_accepted}
 use Rattle.photon_model.specs.EveryRun.{decided_in, NoJoinerStops, IsBoundOk, HasBounds}
 use Rattle.photon_model.specs.Voting.{votes, BallotsHold}
 use Rattle.photon_model.specs.Keeping.{IsFlying, IsResolved, IsChosenNow, PaxosGives}

@@ -16,20 +16,20 @@ use Rattle.list_words.specs.Lists.{Mem, Each, set_at}
 use Rattle.registry_state.specs.declared.Answer.{Answer}
 use Rattle.registry_state.specs.LookBack.{replay}
 use Rattle.turn_defs.specs.Setting.{Setting, shard, shards}
-use Rattle.packet_codec.specs.declared.packet.Packet.{Packet}
-use Rattle.packet_codec.specs.declared.packet.Packet.TheVariants.{Join, Joined, Insert as Claim, Reply, Prepare, Promise, Nack, Accept, Accepted, Chosen}
+use Rattle.turn_defs.specs.declared.packet.Packet.{Packet}
+use Rattle.turn_defs.specs.declared.packet.Packet.TheVariants.{Join, Joined, Insert as Claim, Reply, Prepare, Promise, Nack, Accept, Accepted, Chosen}
 use Rattle.paxos_defs.specs.declared.Place.{Place}
-use Rattle.packet_codec.specs.declared.node.Node.{Node}
-use Rattle.packet_codec.specs.declared.node.Node.TheVariants.{Dispatcher, Server, Replica, Joiner}
-use Rattle.packet_codec.specs.declared.node.To.{To}
-use Rattle.packet_codec.specs.declared.node.To.TheVariants.{Only}
-use Rattle.packet_codec.specs.Nodes.{Sent}
-use Rattle.packet_codec.specs.declared.node.Input.{Input}
-use Rattle.packet_codec.specs.declared.node.Input.TheVariants.{Start, Own, Tick, Deliver}
+use Rattle.turn_defs.specs.declared.node.Node.{Node}
+use Rattle.turn_defs.specs.declared.node.Node.TheVariants.{Dispatcher, Server, Replica, Joiner}
+use Rattle.turn_defs.specs.declared.node.To.{To}
+use Rattle.turn_defs.specs.declared.node.To.TheVariants.{Only}
+use Rattle.turn_defs.specs.Sent.{Sent}
+use Rattle.turn_defs.specs.declared.node.Input.{Input}
+use Rattle.turn_defs.specs.declared.node.Input.TheVariants.{Start, Own, Tick, Deliver}
 use Rattle.turn_defs.specs.Turns.{Note, Out, idle, land}
-use Rattle.registry_server.specs.Server.{is_next, ServerKept, ServerLive, ShardState, Proposal, land_server, queued, to_from, to_replicas, is_below_limit, may_propose, first_shard, is_current, is_own_joiner, reply, reply_if, replies, claimed, owns, server_own, promised, accepted, of_phase, gets_promise, gets_accepted, gets_nack, again, all_again, from_replica, server_gets, server_turn}
-use Rattle.replica_node.specs.Replica.{ReplicaKept, cell_at, prepared, taken, replica_gets}
-use Rattle.photon_defs.specs.Runs.{Cell, World, Entry, Begin, End, Stop, Disks, begun, ended, stopped, dispatcher_row, joiner_row, server_row, replica_row, sends, after, world_after, May, IsRun, opening}
+use Rattle.turn_defs.specs.Server.{is_next, ServerKept, ServerLive, ShardState, Proposal, land_server, queued, to_from, to_replicas, is_below_limit, may_propose, first_shard, is_current, is_own_joiner, reply, reply_if, replies, claimed, owns, server_own, promised, accepted, of_phase, gets_promise, gets_accepted, gets_nack, again, all_again, from_replica, server_gets, server_turn}
+use Rattle.turn_defs.specs.Replica.{ReplicaKept, cell_at, prepared, taken, replica_gets}
+use Rattle.photon_model.specs.Runs.{Cell, World, Entry, Begin, End, Stop, Disks, begun, ended, stopped, dispatcher_row, joiner_row, server_row, replica_row, sends, after, world_after, May, IsRun, opening}
 use Rattle.list_words.proofs.Lists.{option_both, each_at, each_append, mem_left, mem_right, mem_split, at_set, at_set_if, some_same, none_some}
 use Rattle.photon_model.specs.Claims.{HasSent}
 use Rattle.photon_model.specs.Alone.{Prepared, BallotsAlone}

@@ -12,16 +12,16 @@ use Rattle.paxos_defs.specs.Facts.{IsGrant}
 use Rattle.list_words.specs.Lists.{Mem, set_at}
 use Rattle.registry_state.specs.LookBack.{replay}
 use Rattle.turn_defs.specs.Setting.{Setting, shard, shards}
-use Rattle.packet_codec.specs.declared.packet.Packet.{Packet}
-use Rattle.packet_codec.specs.declared.packet.Packet.TheVariants.{Insert as Claim, Promise, Nack, Accepted, Chosen}
+use Rattle.turn_defs.specs.declared.packet.Packet.{Packet}
+use Rattle.turn_defs.specs.declared.packet.Packet.TheVariants.{Insert as Claim, Promise, Nack, Accepted, Chosen}
 use Rattle.paxos_defs.specs.declared.Place.{Place}
-use Rattle.packet_codec.specs.declared.node.Node.{Node}
-use Rattle.packet_codec.specs.declared.node.Node.TheVariants.{Replica}
-use Rattle.packet_codec.specs.declared.node.Input.{Input}
-use Rattle.packet_codec.specs.declared.node.Input.TheVariants.{Start, Own, Tick, Deliver}
+use Rattle.turn_defs.specs.declared.node.Node.{Node}
+use Rattle.turn_defs.specs.declared.node.Node.TheVariants.{Replica}
+use Rattle.turn_defs.specs.declared.node.Input.{Input}
+use Rattle.turn_defs.specs.declared.node.Input.TheVariants.{Start, Own, Tick, Deliver}
 use Rattle.turn_defs.specs.Turns.{Out, idle}
-use Rattle.registry_server.specs.Server.{is_next, ServerKept, ServerLive, ShardState, Proposal, queued, is_below_limit, may_propose, first_shard, accepted, is_current, claimed, owns, server_own, gets_promise, gets_accepted, gets_nack, from_replica, server_gets, server_turn}
-use Rattle.photon_defs.specs.Agreement.{Offer, Votes, offer, VotesOf, VotesAgree}
+use Rattle.turn_defs.specs.Server.{is_next, ServerKept, ServerLive, ShardState, Proposal, queued, is_below_limit, may_propose, first_shard, accepted, is_current, claimed, owns, server_own, gets_promise, gets_accepted, gets_nack, from_replica, server_gets, server_turn}
+use Rattle.photon_model.specs.Agreement.{Offer, Votes, offer, VotesOf, VotesAgree}
 use Rattle.list_words.proofs.Lists.{option_both, at_set}
 use Rattle.photon_model.specs.EveryRun.{IsBoundOk}
 

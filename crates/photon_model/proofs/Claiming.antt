@@ -9,17 +9,17 @@ use Rattle.list_words.specs.Lists.{Mem, set_at}
 use Rattle.registry_state.specs.declared.Answer.{Answer}
 use Rattle.registry_state.specs.declared.Answer.TheVariants.{Granted, Duplicate, TooOld}
 use Rattle.turn_defs.specs.Setting.{Setting}
-use Rattle.packet_codec.specs.declared.packet.Packet.{Packet}
-use Rattle.packet_codec.specs.declared.packet.Packet.TheVariants.{Join, Insert as Claim, Reply}
-use Rattle.packet_codec.specs.declared.node.Node.{Node}
-use Rattle.packet_codec.specs.declared.node.Node.TheVariants.{Dispatcher, Server, Replica, Joiner}
-use Rattle.packet_codec.specs.declared.node.To.{To}
-use Rattle.packet_codec.specs.Nodes.{Sent}
-use Rattle.packet_codec.specs.declared.node.Input.{Input}
-use Rattle.packet_codec.specs.declared.node.Input.TheVariants.{Start, Own, Tick, Deliver}
+use Rattle.turn_defs.specs.declared.packet.Packet.{Packet}
+use Rattle.turn_defs.specs.declared.packet.Packet.TheVariants.{Join, Insert as Claim, Reply}
+use Rattle.turn_defs.specs.declared.node.Node.{Node}
+use Rattle.turn_defs.specs.declared.node.Node.TheVariants.{Dispatcher, Server, Replica, Joiner}
+use Rattle.turn_defs.specs.declared.node.To.{To}
+use Rattle.turn_defs.specs.Sent.{Sent}
+use Rattle.turn_defs.specs.declared.node.Input.{Input}
+use Rattle.turn_defs.specs.declared.node.Input.TheVariants.{Start, Own, Tick, Deliver}
 use Rattle.turn_defs.specs.Turns.{Out, idle}
-use Rattle.joiner_core.specs.Joiner.{JoinerKept, JoinerLive, Flight, insert_of, is_for, in_flight, landed, looks, joins, answers, replied, joiner_gets, joiner_turn, joiner_start}
-use Rattle.photon_defs.specs.Runs.{Cell, World, Entry, Begin, End, Stop, Disks, begun, stopped, joiner_row, sends, after, world_after, May, IsRun, opening}
+use Rattle.turn_defs.specs.Joiner.{JoinerKept, JoinerLive, Flight, insert_of, is_for, in_flight, landed, looks, joins, answers, replied, joiner_gets, joiner_turn, joiner_start}
+use Rattle.photon_model.specs.Runs.{Cell, World, Entry, Begin, End, Stop, Disks, begun, stopped, joiner_row, sends, after, world_after, May, IsRun, opening}
 use Rattle.list_words.proofs.Lists.{option_both, mem_left, mem_right, mem_split, at_set, some_same, none_some}
 use Rattle.photon_model.specs.Claims.{HasSent, ClaimsSent}
 use Rattle.turn_defs.specs.Nodes.{Addressed}
@@ -122,7 +122,7 @@ module _ (g : Setting) (w : World) (h : ClaimsSent w) where
   claims_kept (Stop (Dispatcher s) _) m = h
   claims_kept (Stop (Server s) _) m = h
   claims_kept (Stop (Replica r) _) m = h
-  claims_kept (Stop (Joiner j) o) m = replaced j (stopped Rattle.joiner_core.specs.Joiner.land_joiner (w.joiners j) o) [] (λ l e. none_some l e)
+  claims_kept (Stop (Joiner j) o) m = replaced j (stopped Rattle.turn_defs.specs.Joiner.land_joiner (w.joiners j) o) [] (λ l e. none_some l e)
 
 claims_run : (g : Setting) (es : List Entry) (w : World) → ClaimsSent w → IsRun g w es → ClaimsSent (world_after g w es)
 claims_run g [] w h r = h

@@ -22,16 +22,16 @@ use Rattle.log_records.specs.declared.records.QueryRec.{QueryRec as Query}
 use Rattle.log_records.specs.declared.records.ClickRec.{ClickRec as Click}
 use Rattle.log_records.specs.Lines.{ClickLine}
 use Rattle.log_records.specs.Log.{first}
-use Rattle.log_defs.specs.Report as logs
-use Rattle.log_defs.specs.declared.ReportLine.TheVariants.{J, M, X, U}
-use Rattle.output_log.specs.declared.pair.PairRec.{PairRec}
+use Rattle.log_records.specs.Report as logs
+use Rattle.log_records.specs.declared.report.ReportLine.TheVariants.{J, M, X, U}
+use Rattle.turn_defs.specs.declared.pair.PairRec.{PairRec}
 use Rattle.turn_defs.specs.Setting.{Setting, Checked, first_joiner, shard}
 use Rattle.turn_defs.proofs.ShardsBelow.{shard_below}
-use Rattle.photon_defs.specs.Sound.{SoundStore, PairSound, IsWritten, known_of, values_of}
-use Rattle.photon_defs.specs.Facts.{known}
-use Rattle.photon_defs.specs.Report.{all_pairs, pair_of, line_by, line_of, unwritten_line}
-use Rattle.photon_defs.specs.Rest.{IsAtRest}
-use Rattle.photon_defs.specs.Runs.{World, Entry, Disks, disks, world_after, IsRun, opening}
+use Rattle.photon_model.specs.Sound.{SoundStore, PairSound, IsWritten, known_of, values_of}
+use Rattle.photon_model.specs.Facts.{known}
+use Rattle.photon_model.specs.Report.{all_pairs, pair_of, line_by, line_of, unwritten_line}
+use Rattle.photon_model.specs.Rest.{IsAtRest}
+use Rattle.photon_model.specs.Runs.{World, Entry, Disks, disks, world_after, IsRun, opening}
 use Rattle.photon_model.specs.Stores.{empty_disks}
 use Rattle.photon_model.specs.EveryRun.{AllFactsHold, HasBounds, RestLeaves, decided_in}
 use Rattle.photon_model.specs.Exact.{IsExact, AtRestFromEmpty, ClicksAreExact, ReportIsExact}

@@ -12,18 +12,18 @@ use Rattle.registry_state.specs.declared.Answer.{Answer}
 use Rattle.registry_state.specs.declared.Answer.TheVariants.{Granted, Duplicate, TooOld}
 use Rattle.registry_state.specs.LookBack.{IsGranted, Expired}
 use Rattle.turn_defs.specs.Setting.{Setting, Checked, IsJoiner}
-use Rattle.packet_codec.specs.declared.packet.Packet.{Packet}
-use Rattle.packet_codec.specs.declared.packet.Packet.TheVariants.{Join, Reply}
-use Rattle.packet_codec.specs.declared.node.Node.{Node}
-use Rattle.packet_codec.specs.declared.node.Node.TheVariants.{Joiner}
-use Rattle.output_log.specs.declared.pair.PairRec.{PairRec}
-use Rattle.packet_codec.specs.declared.node.Input.{Input}
-use Rattle.packet_codec.specs.declared.node.Input.TheVariants.{Start, Own, Tick, Deliver}
+use Rattle.turn_defs.specs.declared.packet.Packet.{Packet}
+use Rattle.turn_defs.specs.declared.packet.Packet.TheVariants.{Join, Reply}
+use Rattle.turn_defs.specs.declared.node.Node.{Node}
+use Rattle.turn_defs.specs.declared.node.Node.TheVariants.{Joiner}
+use Rattle.turn_defs.specs.declared.pair.PairRec.{PairRec}
+use Rattle.turn_defs.specs.declared.node.Input.{Input}
+use Rattle.turn_defs.specs.declared.node.Input.TheVariants.{Start, Own, Tick, Deliver}
 use Rattle.turn_defs.specs.Turns.{Note, Out, idle, land}
-use Rattle.joiner_core.specs.Joiner.{JoinerKept, JoinerLive, Flight, land_joiner, insert_of, is_for, in_flight, landed, looks, joins, answers, replied, joiner_gets, joiner_turn}
-use Rattle.photon_defs.specs.Sound.{Known, values_of}
-use Rattle.photon_defs.specs.Facts.{HoldsOf, HoldsOfReply, HoldsOfInput, IfOpen, known, WorldHolds}
-use Rattle.photon_defs.specs.Runs.{Cell, World, Begin, End, begun, ended, joiner_row, after}
+use Rattle.turn_defs.specs.Joiner.{JoinerKept, JoinerLive, Flight, land_joiner, insert_of, is_for, in_flight, landed, looks, joins, answers, replied, joiner_gets, joiner_turn}
+use Rattle.photon_model.specs.Sound.{Known, values_of}
+use Rattle.photon_model.specs.Facts.{HoldsOf, HoldsOfReply, HoldsOfInput, IfOpen, known, WorldHolds}
+use Rattle.photon_model.specs.Runs.{Cell, World, Begin, End, begun, ended, joiner_row, after}
 use Rattle.list_words.proofs.Lists.{option_both, mem_left, mem_right, mem_split, at_set, clash, each_at}
 use Rattle.registry_state.proofs.LookingBack.{bound_stays}
 use Rattle.photon_model.specs.Keeping.{Grows, IsFlying, IsResolved, IsDrawing, JoinerKeeps}

@@ -11,21 +11,21 @@ use Rattle.registry_state.specs.declared.Answer.{Answer}
 use Rattle.registry_state.specs.declared.Answer.TheVariants.{Granted, Duplicate, TooOld}
 use Rattle.registry_state.specs.LookBack.{IsGranted}
 use Rattle.turn_defs.specs.Setting.{Setting}
-use Rattle.packet_codec.specs.declared.packet.Packet.{Packet}
-use Rattle.packet_codec.specs.declared.packet.Packet.TheVariants.{Join, Joined, Insert as Claim, Reply, Prepare, Promise, Nack, Accept, Accepted, Chosen}
-use Rattle.packet_codec.specs.declared.packet.Outcome.{Outcome}
-use Rattle.packet_codec.specs.declared.packet.Outcome.TheVariants.{Written, Already, TooOld as Late, NoQuery, Busy}
-use Rattle.output_log.specs.declared.pair.PairRec.{PairRec}
+use Rattle.turn_defs.specs.declared.packet.Packet.{Packet}
+use Rattle.turn_defs.specs.declared.packet.Packet.TheVariants.{Join, Joined, Insert as Claim, Reply, Prepare, Promise, Nack, Accept, Accepted, Chosen}
+use Rattle.turn_defs.specs.declared.packet.Outcome.{Outcome}
+use Rattle.turn_defs.specs.declared.packet.Outcome.TheVariants.{Written, Already, TooOld as Late, NoQuery, Busy}
+use Rattle.turn_defs.specs.declared.pair.PairRec.{PairRec}
 use Rattle.turn_defs.specs.Turns.{BallotNote}
 use Rattle.paxos_defs.specs.Notes.Note.{Promised, Accepted as Took}
 use Rattle.paxos_defs.specs.Attempts.{Phase}
 use Rattle.paxos_defs.specs.Attempts.Phase.{Promising, Accepting, Ended}
 use Rattle.ballot_core.specs.declared.Ballot.{Ballot}
-use Rattle.dispatch_core.specs.Dispatcher.{DispatcherKept, DispatcherLive, Fresh}
-use Rattle.joiner_core.specs.Joiner.{JoinerKept, JoinerLive, Flight}
-use Rattle.registry_server.specs.Server.{ServerLive, ShardState, Proposal}
-use Rattle.photon_defs.specs.Sound.{Known, values_of, IsWritten, IsSettled, DispatcherSound, PairSound, JoinerSound, IsInsertOf, InsertsOf}
-use Rattle.photon_defs.specs.Facts.{IsTooOld, HoldsOfOutcome, HoldsOfReply, HoldsOfBest, HoldsOfPhase, HoldsOf, Covers, IsFreshSound, DispatcherHolds, FlightHolds, JoinerHolds, HoldsOfProposal, ShardHolds, ServerHolds}
+use Rattle.turn_defs.specs.Dispatcher.{DispatcherKept, DispatcherLive, Fresh}
+use Rattle.turn_defs.specs.Joiner.{JoinerKept, JoinerLive, Flight}
+use Rattle.turn_defs.specs.Server.{ServerLive, ShardState, Proposal}
+use Rattle.photon_model.specs.Sound.{Known, values_of, IsWritten, IsSettled, DispatcherSound, PairSound, JoinerSound, IsInsertOf, InsertsOf}
+use Rattle.photon_model.specs.Facts.{IsTooOld, HoldsOfOutcome, HoldsOfReply, HoldsOfBest, HoldsOfPhase, HoldsOf, Covers, IsFreshSound, DispatcherHolds, FlightHolds, JoinerHolds, HoldsOfProposal, ShardHolds, ServerHolds}
 use Rattle.list_words.proofs.Lists.{each_more}
 use Rattle.registry_state.proofs.LookingBack.{granted_stays, settled_stays, bound_stays, get_front}
 use Rattle.photon_model.specs.Keeping.{Grows}

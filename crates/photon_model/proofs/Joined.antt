@@ -3,11 +3,11 @@ use Rattle.std.proofs.Common.{◌≡◌, inl, inr, ⊎_elim, ℕ, zero, suc, ◌
 use Rattle.std.proofs.lemmas.Bool.{cases_lt}
 use Rattle.turn_defs.specs.Setting.{IsJoiner}
 use Rattle.turn_defs.specs.Rows.{worked}
-use Rattle.dispatch_core.specs.Dispatcher.{dispatcher_at_rest}
-use Rattle.joiner_core.specs.Joiner.{joiner_at_rest}
-use Rattle.registry_server.specs.Server.{server_at_rest}
-use Rattle.photon_defs.specs.Rest.{UpWith}
-use Rattle.photon_defs.specs.Runs.{IsRun, world_after, opening}
+use Rattle.turn_defs.specs.Dispatcher.{dispatcher_at_rest}
+use Rattle.turn_defs.specs.Joiner.{joiner_at_rest}
+use Rattle.turn_defs.specs.Server.{server_at_rest}
+use Rattle.photon_model.specs.Rest.{UpWith}
+use Rattle.photon_model.specs.Runs.{IsRun, world_after, opening}
 use Rattle.photon_model.specs.Stores.{empty_disks}
 use Rattle.photon_model.specs.Example.{entries, comes_up, asks, registers, writes, other_site, asked, at_the_end, ClickIsJoined}
 use Rattle.photon_model.proofs.Imaging.{run_append}

@@ -16,17 +16,17 @@ use Rattle.turn_defs.specs.Setting.{Setting, Checked, IsJoiner}
 use Rattle.registry_state.specs.declared.Answer.{Answer}
 use Rattle.registry_state.specs.declared.Answer.TheVariants.{Granted, Duplicate, TooOld}
 use Rattle.registry_state.specs.LookBack.{IsGranted}
-use Rattle.packet_codec.specs.declared.packet.Packet.{Packet}
-use Rattle.packet_codec.specs.declared.packet.Packet.TheVariants.{Join, Reply}
-use Rattle.packet_codec.specs.declared.packet.Outcome.{Outcome}
-use Rattle.packet_codec.specs.declared.packet.Outcome.TheVariants.{NoQuery, Busy}
-use Rattle.output_log.specs.declared.pair.PairRec.{PairRec}
-use Rattle.packet_codec.specs.declared.node.Input.{Input}
-use Rattle.packet_codec.specs.declared.node.Input.TheVariants.{Start, Own, Tick, Deliver}
+use Rattle.turn_defs.specs.declared.packet.Packet.{Packet}
+use Rattle.turn_defs.specs.declared.packet.Packet.TheVariants.{Join, Reply}
+use Rattle.turn_defs.specs.declared.packet.Outcome.{Outcome}
+use Rattle.turn_defs.specs.declared.packet.Outcome.TheVariants.{NoQuery, Busy}
+use Rattle.turn_defs.specs.declared.pair.PairRec.{PairRec}
+use Rattle.turn_defs.specs.declared.node.Input.{Input}
+use Rattle.turn_defs.specs.declared.node.Input.TheVariants.{Start, Own, Tick, Deliver}
 use Rattle.turn_defs.specs.Turns.{Note, Out, idle, land}
-use Rattle.joiner_core.specs.Joiner.{JoinerKept, JoinerLive, Flight, land_joiner, insert_of, is_for, in_flight, landed, to_dispatcher, claim, next_token, looks, joins, without_flight, answers, replied, joiner_gets, joiner_tick, joiner_turn, joiner_start}
-use Rattle.photon_defs.specs.Sound.{Known, values_of, PairSound, JoinerSound, DrawnSound}
-use Rattle.photon_defs.specs.Facts.{IsTooOld, HoldsOfOutcome, HoldsOfReply, HoldsOf, HoldsOfInput, FlightHolds, JoinerHolds}
+use Rattle.turn_defs.specs.Joiner.{JoinerKept, JoinerLive, Flight, land_joiner, insert_of, is_for, in_flight, landed, to_dispatcher, claim, next_token, looks, joins, without_flight, answers, replied, joiner_gets, joiner_tick, joiner_turn, joiner_start}
+use Rattle.photon_model.specs.Sound.{Known, values_of, PairSound, JoinerSound, DrawnSound}
+use Rattle.photon_model.specs.Facts.{IsTooOld, HoldsOfOutcome, HoldsOfReply, HoldsOf, HoldsOfInput, FlightHolds, JoinerHolds}
 use Rattle.list_words.proofs.Lists.{some_same, none_some, clash, option_both, mem_left, mem_right, each_at, each_from, each_more, each_append, pairs_push}
 use Rattle.log_records.proofs.LineOrder.{at_mem}
 use Rattle.registry_state.proofs.Tests.{same_id-true, same_token-true, same_id-refl, same_token-refl, same_id-false}

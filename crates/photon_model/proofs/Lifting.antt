@@ -5,21 +5,21 @@ use Rattle.std.proofs.lemmas.Bool.{cond_both, eq-eqb}
 use Rattle.registry_state.specs.declared.Insert.{Insert}
 use Rattle.list_words.specs.Lists.{Mem, Each, Begins, set_at}
 use Rattle.turn_defs.specs.Setting.{Setting, Checked, IsJoiner}
-use Rattle.packet_codec.specs.declared.packet.Packet.{Packet}
-use Rattle.packet_codec.specs.declared.node.Node.{Node}
-use Rattle.packet_codec.specs.declared.node.Node.TheVariants.{Dispatcher, Server, Replica, Joiner}
-use Rattle.packet_codec.specs.declared.node.To.{To}
-use Rattle.packet_codec.specs.Nodes.{Sent}
-use Rattle.output_log.specs.declared.pair.PairRec.{PairRec}
-use Rattle.packet_codec.specs.declared.node.Input.{Input}
-use Rattle.packet_codec.specs.declared.node.Input.TheVariants.{Start, Own, Tick, Deliver}
-use Rattle.dispatch_core.specs.Dispatcher.{DispatcherKept, DispatcherLive}
-use Rattle.joiner_core.specs.Joiner.{JoinerKept, JoinerLive}
-use Rattle.registry_server.specs.Server.{ServerKept, ServerLive}
-use Rattle.replica_node.specs.Replica.{ReplicaKept}
-use Rattle.photon_defs.specs.Sound.{Known, JoinerSound}
-use Rattle.photon_defs.specs.Facts.{HoldsOf, HoldsOfInput, DispatcherHolds, JoinerHolds, ServerHolds, IfUp, IfOpen, known, DispatcherFacts, JoinerFacts, ServerFacts, ReplicaFacts, WorldHolds}
-use Rattle.photon_defs.specs.Runs.{Cell, World, dispatcher_row, server_row, replica_row, joiner_row, sends, WasSent}
+use Rattle.turn_defs.specs.declared.packet.Packet.{Packet}
+use Rattle.turn_defs.specs.declared.node.Node.{Node}
+use Rattle.turn_defs.specs.declared.node.Node.TheVariants.{Dispatcher, Server, Replica, Joiner}
+use Rattle.turn_defs.specs.declared.node.To.{To}
+use Rattle.turn_defs.specs.Sent.{Sent}
+use Rattle.turn_defs.specs.declared.pair.PairRec.{PairRec}
+use Rattle.turn_defs.specs.declared.node.Input.{Input}
+use Rattle.turn_defs.specs.declared.node.Input.TheVariants.{Start, Own, Tick, Deliver}
+use Rattle.turn_defs.specs.Dispatcher.{DispatcherKept, DispatcherLive}
+use Rattle.turn_defs.specs.Joiner.{JoinerKept, JoinerLive}
+use Rattle.turn_defs.specs.Server.{ServerKept, ServerLive}
+use Rattle.turn_defs.specs.Replica.{ReplicaKept}
+use Rattle.photon_model.specs.Sound.{Known, JoinerSound}
+use Rattle.photon_model.specs.Facts.{HoldsOf, HoldsOfInput, DispatcherHolds, JoinerHolds, ServerHolds, IfUp, IfOpen, known, DispatcherFacts, JoinerFacts, ServerFacts, ReplicaFacts, WorldHolds}
+use Rattle.photon_model.specs.Runs.{Cell, World, dispatcher_row, server_row, replica_row, joiner_row, sends, WasSent}
 use Rattle.list_words.proofs.Lists.{mem_right, mem_split, each_at, at_set, at_set_if}
 use Rattle.photon_model.specs.Keeping.{Grows, PacketsHold, extended, IsDrawing, DispatcherKeeps, JoinerKeeps, ServerKeeps, ReplicaKeeps, IsChosenNow}
 use Rattle.photon_model.specs.EveryRun.{decided_in}

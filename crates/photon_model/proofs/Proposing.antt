@@ -21,21 +21,21 @@ use Rattle.registry_state.specs.Same.{same_batch}
 use Rattle.list_words.specs.Lists.{Mem, Each, Begins, set_at}
 use Rattle.list_words.proofs.Lists.{option_both, each_append, at_set, at_set_if}
 use Rattle.turn_defs.specs.Setting.{Setting, shard, shards}
-use Rattle.packet_codec.specs.declared.packet.Packet.{Packet}
-use Rattle.packet_codec.specs.declared.packet.Packet.TheVariants.{Insert as Claim, Reply, Prepare, Promise, Nack, Accept, Accepted, Chosen}
-use Rattle.packet_codec.specs.declared.node.Node.{Node}
-use Rattle.packet_codec.specs.declared.node.Node.TheVariants.{Server, Replica, Joiner}
-use Rattle.packet_codec.specs.declared.node.To.{To}
-use Rattle.packet_codec.specs.declared.node.To.TheVariants.{Only}
-use Rattle.packet_codec.specs.declared.node.Input.{Input}
-use Rattle.packet_codec.specs.declared.node.Input.TheVariants.{Start, Own, Tick, Deliver}
+use Rattle.turn_defs.specs.declared.packet.Packet.{Packet}
+use Rattle.turn_defs.specs.declared.packet.Packet.TheVariants.{Insert as Claim, Reply, Prepare, Promise, Nack, Accept, Accepted, Chosen}
+use Rattle.turn_defs.specs.declared.node.Node.{Node}
+use Rattle.turn_defs.specs.declared.node.Node.TheVariants.{Server, Replica, Joiner}
+use Rattle.turn_defs.specs.declared.node.To.{To}
+use Rattle.turn_defs.specs.declared.node.To.TheVariants.{Only}
+use Rattle.turn_defs.specs.declared.node.Input.{Input}
+use Rattle.turn_defs.specs.declared.node.Input.TheVariants.{Start, Own, Tick, Deliver}
 use Rattle.turn_defs.specs.Turns.{Out, idle}
-use Rattle.registry_server.specs.Server.{is_next, ServerKept, ServerLive, ShardState, Proposal, queued, to_from, to_replicas, is_below_limit, may_propose, first_shard, is_current, is_own_joiner, reply, reply_if, replies, with_shard, claimed, owns, server_own, promised, accepted, gets_promise, gets_accepted, gets_nack, gets_chosen, of_phase, again, all_again, server_tick, from_replica, server_gets, server_turn}
-use Rattle.photon_defs.specs.Journals.{decided}
-use Rattle.photon_defs.specs.Agreement.{IsOwned, Offer, Votes, offer, Offered, VotesOf, VotesOfPhase, VotesOfProposal, next_place, VotesOfServer, VotesAgree}
-use Rattle.photon_defs.specs.Sound.{Known}
-use Rattle.photon_defs.specs.Facts.{ServerHolds}
-use Rattle.photon_defs.proofs.Journals.{exact}
+use Rattle.turn_defs.specs.Server.{is_next, ServerKept, ServerLive, ShardState, Proposal, queued, to_from, to_replicas, is_below_limit, may_propose, first_shard, is_current, is_own_joiner, reply, reply_if, replies, with_shard, claimed, owns, server_own, promised, accepted, gets_promise, gets_accepted, gets_nack, gets_chosen, of_phase, again, all_again, server_tick, from_replica, server_gets, server_turn}
+use Rattle.photon_model.specs.Journals.{decided}
+use Rattle.photon_model.specs.Agreement.{IsOwned, Offer, Votes, offer, Offered, VotesOf, VotesOfPhase, VotesOfProposal, next_place, VotesOfServer, VotesAgree}
+use Rattle.photon_model.specs.Sound.{Known}
+use Rattle.photon_model.specs.Facts.{ServerHolds}
+use Rattle.photon_model.proofs.Journals.{exact}
 use Rattle.photon_model.specs.Keeping.{IsChosenNow}
 use Rattle.photon_model.proofs.Voting.{ServerVotes, offering, proposal_sent}
 

@@ -9,20 +9,20 @@ use Rattle.registry_state.specs.declared.Batch.{Batch}
 use Rattle.registry_state.specs.declared.Token.{Token}
 use Rattle.registry_state.specs.LookBack.{IsGranted, bound_of, holder}
 use Rattle.log_records.specs.declared.records.QueryRec.{QueryRec}
-use Rattle.packet_codec.specs.Nodes.{Sent}
-use Rattle.packet_codec.specs.declared.node.Node.{Node}
-use Rattle.packet_codec.specs.declared.node.Node.TheVariants.{Dispatcher, Server, Replica, Joiner}
-use Rattle.packet_codec.specs.declared.packet.Packet.{Packet}
-use Rattle.packet_codec.specs.declared.packet.Packet.TheVariants as packet
-use Rattle.output_log.specs.declared.pair.PairRec.{PairRec}
+use Rattle.turn_defs.specs.Sent.{Sent}
+use Rattle.turn_defs.specs.declared.node.Node.{Node}
+use Rattle.turn_defs.specs.declared.node.Node.TheVariants.{Dispatcher, Server, Replica, Joiner}
+use Rattle.turn_defs.specs.declared.packet.Packet.{Packet}
+use Rattle.turn_defs.specs.declared.packet.Packet.TheVariants as packet
+use Rattle.turn_defs.specs.declared.pair.PairRec.{PairRec}
 use Rattle.log_records.specs.Lines.{ClickLine}
 use Rattle.log_records.specs.Rows.{one_click}
 use Rattle.paxos_defs.specs.Decided as paxos
 use Rattle.turn_defs.specs.Rows.{worked, one_line, one_batch, token, insert}
-use Rattle.photon_defs.specs.Rows.{store, one_pair, only_bound, accepted_by}
-use Rattle.photon_defs.specs.Journals.{journals, decided}
-use Rattle.photon_defs.specs.Sound.{Known, known_of, accepted_inserts, IsWritten, IsSettled}
-use Rattle.photon_defs.specs.Runs.{opening}
+use Rattle.photon_model.specs.Rows.{store, one_pair, only_bound, accepted_by}
+use Rattle.photon_model.specs.Journals.{journals, decided}
+use Rattle.photon_model.specs.Sound.{Known, known_of, accepted_inserts, IsWritten, IsSettled}
+use Rattle.photon_model.specs.Runs.{opening}
 use Rattle.photon_model.specs.Example.{accept, prepare, asked, at_offset, RunsAreStrict, StoresAreStrict, second_pair}
 use Rattle.photon_model.proofs.Joined.{asks_run, joiner_7}
 use Rattle.photon_model.proofs.Running.{opens, written_once}

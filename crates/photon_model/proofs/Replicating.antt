@@ -16,14 +16,14 @@ use Rattle.registry_state.specs.Same.{same_batch}
 use Rattle.list_words.specs.Lists.{Each}
 use Rattle.turn_defs.specs.Setting.{Setting}
 use Rattle.turn_defs.specs.Turns.{BallotNote, idle}
-use Rattle.packet_codec.specs.declared.packet.Packet.{Packet}
-use Rattle.packet_codec.specs.declared.packet.Packet.TheVariants.{Prepare, Accept}
-use Rattle.packet_codec.specs.declared.node.Node.{Node}
-use Rattle.packet_codec.specs.declared.node.Input.{Input}
-use Rattle.packet_codec.specs.declared.node.Input.TheVariants.{Start, Own, Tick, Deliver}
-use Rattle.replica_node.specs.Replica.{ReplicaKept, cell_at, note_at, says, prepared, taken, replica_gets, replica_turn}
-use Rattle.photon_defs.specs.Sound.{Known, InsertsOf}
-use Rattle.photon_defs.specs.Facts.{HoldsOfBatch, HoldsOfBest, HoldsOf, HoldsOfInput}
+use Rattle.turn_defs.specs.declared.packet.Packet.{Packet}
+use Rattle.turn_defs.specs.declared.packet.Packet.TheVariants.{Prepare, Accept}
+use Rattle.turn_defs.specs.declared.node.Node.{Node}
+use Rattle.turn_defs.specs.declared.node.Input.{Input}
+use Rattle.turn_defs.specs.declared.node.Input.TheVariants.{Start, Own, Tick, Deliver}
+use Rattle.turn_defs.specs.Replica.{ReplicaKept, cell_at, note_at, says, prepared, taken, replica_gets, replica_turn}
+use Rattle.photon_model.specs.Sound.{Known, InsertsOf}
+use Rattle.photon_model.specs.Facts.{HoldsOfBatch, HoldsOfBest, HoldsOf, HoldsOfInput}
 use Rattle.list_words.proofs.Lists.{each_append}
 use Rattle.photon_model.specs.Keeping.{ReplicaKeeps}
 

@@ -5,15 +5,15 @@ use Rattle.std.proofs.lemmas.Bool.{cases_lt, ltb-false, true≢false}
 use Rattle.registry_state.specs.LookBack.{holder, bound_of}
 use Rattle.turn_defs.specs.Setting.{Setting, Checked, shards}
 use Rattle.turn_defs.specs.Turns.{is_empty}
-use Rattle.joiner_core.specs.Joiner.{JoinerLive, joiner_at_rest}
-use Rattle.registry_server.specs.Server.{ServerLive, first_shard, server_at_rest}
+use Rattle.turn_defs.specs.Joiner.{JoinerLive, joiner_at_rest}
+use Rattle.turn_defs.specs.Server.{ServerLive, first_shard, server_at_rest}
 use Rattle.list_words.specs.Lists.{Mem}
 use Rattle.event_id.specs.declared.id.EventId.{EventId}
 use Rattle.registry_state.specs.declared.Token.{Token}
-use Rattle.photon_defs.specs.Facts.{known}
-use Rattle.photon_defs.specs.Sound.{SoundStore, accepted_inserts, values_of, IsWritten, IsDrained}
-use Rattle.photon_defs.specs.Rest.{UpWith, IsAtRest}
-use Rattle.photon_defs.specs.Runs.{World, Entry, Disks, world_after, IsRun, opening}
+use Rattle.photon_model.specs.Facts.{known}
+use Rattle.photon_model.specs.Sound.{SoundStore, accepted_inserts, values_of, IsWritten, IsDrained}
+use Rattle.photon_model.specs.Rest.{UpWith, IsAtRest}
+use Rattle.photon_model.specs.Runs.{World, Entry, Disks, world_after, IsRun, opening}
 use Rattle.photon_model.specs.EveryRun.{decided_in, HasBounds, IsBoundOk, NoJoinerStops, RestLeaves}
 use Rattle.photon_model.proofs.Running.{rest_drained}
 use Rattle.photon_model.proofs.Agreeing.{every_run_holds, missing_is_old, bound_is_ok}

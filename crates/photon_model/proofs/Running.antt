@@ -12,18 +12,18 @@ use Rattle.log_records.specs.Log.{first}
 use Rattle.list_words.specs.Lists.{Mem, Each, EachPair, has, set_at}
 use Rattle.registry_state.specs.LookBack.{IsGranted, Expired}
 use Rattle.turn_defs.specs.Setting.{Setting, first_joiner, Checked, IsJoiner, IsJoin}
-use Rattle.packet_codec.specs.declared.node.Node.TheVariants.{Dispatcher, Server, Replica, Joiner}
-use Rattle.output_log.specs.declared.pair.PairRec.{PairRec}
-use Rattle.packet_codec.specs.declared.node.Input.{Input}
+use Rattle.turn_defs.specs.declared.node.Node.TheVariants.{Dispatcher, Server, Replica, Joiner}
+use Rattle.turn_defs.specs.declared.pair.PairRec.{PairRec}
+use Rattle.turn_defs.specs.declared.node.Input.{Input}
 use Rattle.turn_defs.specs.Turns.{Note, land, is_empty}
-use Rattle.dispatch_core.specs.Dispatcher.{DispatcherKept, DispatcherLive, land_dispatcher, dispatcher_at_rest}
-use Rattle.photon_defs.specs.Rest.{UpWith}
-use Rattle.joiner_core.specs.Joiner.{JoinerLive, land_joiner}
-use Rattle.registry_server.specs.Server.{land_server}
-use Rattle.replica_node.specs.Replica.{land_replica}
-use Rattle.photon_defs.specs.Sound.{Known, values_of, IsWritten, IsMissing, IsDrained, DispatcherSound, PairSound, InsertsOf, Sound}
-use Rattle.photon_defs.specs.Facts.{known, IfUp, DispatcherFacts, JoinerFacts, ServerFacts, ReplicaFacts, WorldHolds}
-use Rattle.photon_defs.specs.Runs.{World, Entry, Begin, End, Stop, Disks, begun, ended, stopped, dispatcher_row, server_row, replica_row, joiner_row, sends, after, May, opening}
+use Rattle.turn_defs.specs.Dispatcher.{DispatcherKept, DispatcherLive, land_dispatcher, dispatcher_at_rest}
+use Rattle.photon_model.specs.Rest.{UpWith}
+use Rattle.turn_defs.specs.Joiner.{JoinerLive, land_joiner}
+use Rattle.turn_defs.specs.Server.{land_server}
+use Rattle.turn_defs.specs.Replica.{land_replica}
+use Rattle.photon_model.specs.Sound.{Known, values_of, IsWritten, IsMissing, IsDrained, DispatcherSound, PairSound, InsertsOf, Sound}
+use Rattle.photon_model.specs.Facts.{known, IfUp, DispatcherFacts, JoinerFacts, ServerFacts, ReplicaFacts, WorldHolds}
+use Rattle.photon_model.specs.Runs.{World, Entry, Begin, End, Stop, Disks, begun, ended, stopped, dispatcher_row, server_row, replica_row, joiner_row, sends, after, May, opening}
 use Rattle.list_words.proofs.Lists.{each_at, some_same, none_some}
 use Rattle.log_records.proofs.LineOrder.{at_own, within_end}
 use Rattle.registry_state.proofs.LookingBack.{one_granted}
@@ -41,7 +41,7 @@ module _ (g : Setting) (c : Checked g) (old : List Insert) (w : World) (drawn : 
   Kept e = (d : List Insert) × WorldHolds g (after g w e) d × (Fates g old w drawn → NoJoinerStops (e ∷ []) → Fates g old (after g w e) d)
 
   -- a joiner's disks stay, and nothing is sent
-  joiner_stays : (j : ℕ) (is : IsJoiner g j) (l : Option JoinerLive) (o : Option Input) → IfUp (λ _. l ≡ (w.joiners j).live) l → Rattle.photon_defs.specs.Facts.IfOpen w.sent (Joiner j) o →
+  joiner_stays : (j : ℕ) (is : IsJoiner g j) (l : Option JoinerLive) (o : Option Input) → IfUp (λ _. l ≡ (w.joiners j).live) l → Rattle.photon_model.specs.Facts.IfOpen w.sent (Joiner j) o →
       WorldHolds g (record w { joiners = set_at w.joiners j (record { kept = (w.joiners j).kept; live = l; opened = o }) }) drawn
   joiner_stays j is l o same op =
       let f = holds.joiners j is in
@@ -52,11 +52,11 @@ module _ (g : Setting) (c : Checked g) (old : List Insert) (w : World) (drawn : 
       op
       (λ x m. absurd m)
     where
-      live : (l : Option JoinerLive) → IfUp (λ _. l ≡ (w.joiners j).live) l → IfUp (Rattle.photon_defs.specs.Facts.JoinerHolds g (extended (known g w drawn) j (w.joiners j).kept.pairs []) j (w.joiners j).kept) l
+      live : (l : Option JoinerLive) → IfUp (λ _. l ≡ (w.joiners j).live) l → IfUp (Rattle.photon_model.specs.Facts.JoinerHolds g (extended (known g w drawn) j (w.joiners j).kept.pairs []) j (w.joiners j).kept) l
       live None s = tt
       live (Some x) s =
           joiner_live_lasts g (known g w drawn) (extended (known g w drawn) j (w.joiners j).kept.pairs []) (grows_extended (known g w drawn) j (w.joiners j).kept.pairs (w.joiners j).kept.pairs [] refl (λ p m. m)) j (w.joiners j).kept x (λ y m e. m)
-          (subst (IfUp (Rattle.photon_defs.specs.Facts.JoinerHolds g (known g w drawn) j (w.joiners j).kept)) (sym s) (holds.joiners j is).live)
+          (subst (IfUp (Rattle.photon_model.specs.Facts.JoinerHolds g (known g w drawn) j (w.joiners j).kept)) (sym s) (holds.joiners j is).live)
 
   always_same : (l : Option JoinerLive) → IfUp (λ _. l ≡ l) l
   always_same None = tt
@@ -199,8 +199,8 @@ last_boundary (x ∷ ls) p e f b n = rest (last_boundary ls x.end_ e f.2) b
 pub rest_is_drained : (g : Setting) (w : World) (drawn : List Insert) → Checked g → WorldHolds g w drawn → (s : ℕ) (l : DispatcherLive) → s < 2 → (w.dispatchers s).live ≡ Some l → l.ended ≡ true → l.fresh ≡ [] → l.due ≡ [] → l.trying ≡ [] → IsDrained g (w.dispatchers s).kept
 rest_is_drained g w drawn c h s l lt up ended_ fresh due trying =
     let f = h.dispatchers s lt in
-    let v = subst (IfUp (Rattle.photon_defs.specs.Facts.DispatcherHolds g (known g w drawn) (w.dispatchers s).kept)) up f.live in
-    let at_place_ : (w.dispatchers s).kept.offset ≡ l.place = subst (λ (x : List Rattle.dispatch_core.specs.Dispatcher.Fresh). Rattle.photon_defs.specs.Facts.Covers g (known g w drawn) (w.dispatchers s).kept.offset x l.place) fresh v.covers in
+    let v = subst (IfUp (Rattle.photon_model.specs.Facts.DispatcherHolds g (known g w drawn) (w.dispatchers s).kept)) up f.live in
+    let at_place_ : (w.dispatchers s).kept.offset ≡ l.place = subst (λ (x : List Rattle.turn_defs.specs.Dispatcher.Fresh). Rattle.photon_model.specs.Facts.Covers g (known g w drawn) (w.dispatchers s).kept.offset x l.place) fresh v.covers in
     record {
       at_end = last_boundary g.clicks 0 (w.dispatchers s).kept.offset c.follow f.kept.boundary (ap (at g.clicks) at_place_ ∙ v.at_end ended_);
       no_query = λ p q. ⊎_elim

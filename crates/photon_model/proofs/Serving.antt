@@ -14,19 +14,19 @@ use Rattle.registry_state.specs.declared.Answer.{Answer}
 use Rattle.registry_state.specs.declared.Answer.TheVariants.{Granted, Duplicate, TooOld}
 use Rattle.registry_state.specs.LookBack.{replay}
 use Rattle.turn_defs.specs.Setting.{Setting, shard, shards}
-use Rattle.packet_codec.specs.declared.packet.Packet.{Packet}
-use Rattle.packet_codec.specs.declared.packet.Packet.TheVariants.{Insert as Claim, Reply, Prepare, Promise, Nack, Accept, Accepted, Chosen}
+use Rattle.turn_defs.specs.declared.packet.Packet.{Packet}
+use Rattle.turn_defs.specs.declared.packet.Packet.TheVariants.{Insert as Claim, Reply, Prepare, Promise, Nack, Accept, Accepted, Chosen}
 use Rattle.paxos_defs.specs.declared.Place.{Place}
-use Rattle.packet_codec.specs.declared.node.Node.{Node}
-use Rattle.packet_codec.specs.declared.node.Node.TheVariants.{Replica, Joiner}
-use Rattle.packet_codec.specs.declared.node.To.{To}
-use Rattle.packet_codec.specs.declared.node.To.TheVariants.{Only}
-use Rattle.packet_codec.specs.declared.node.Input.{Input}
-use Rattle.packet_codec.specs.declared.node.Input.TheVariants.{Start, Own, Tick, Deliver}
+use Rattle.turn_defs.specs.declared.node.Node.{Node}
+use Rattle.turn_defs.specs.declared.node.Node.TheVariants.{Replica, Joiner}
+use Rattle.turn_defs.specs.declared.node.To.{To}
+use Rattle.turn_defs.specs.declared.node.To.TheVariants.{Only}
+use Rattle.turn_defs.specs.declared.node.Input.{Input}
+use Rattle.turn_defs.specs.declared.node.Input.TheVariants.{Start, Own, Tick, Deliver}
 use Rattle.turn_defs.specs.Turns.{idle}
-use Rattle.registry_server.specs.Server.{is_next, ServerKept, ServerLive, ShardState, Proposal, queued, to_from, to_replicas, is_below_limit, may_propose, first_shard, is_current, is_own_joiner, reply, reply_if, replies, keep_if, unanswered, learns, with_shard, claimed, owns, server_own, promised, accepted, of_phase, gets_promise, gets_accepted, gets_nack, gets_chosen, again, all_again, server_tick, from_replica, server_gets, server_turn, server_start}
-use Rattle.photon_defs.specs.Sound.{Known, values_of, IsInsertOf}
-use Rattle.photon_defs.specs.Facts.{HoldsOfReply, HoldsOfBatch, HoldsOfBest, HoldsOfPhase, HoldsOf, HoldsOfInput, HoldsOfProposal, ShardHolds, ServerHolds}
+use Rattle.turn_defs.specs.Server.{is_next, ServerKept, ServerLive, ShardState, Proposal, queued, to_from, to_replicas, is_below_limit, may_propose, first_shard, is_current, is_own_joiner, reply, reply_if, replies, keep_if, unanswered, learns, with_shard, claimed, owns, server_own, promised, accepted, of_phase, gets_promise, gets_accepted, gets_nack, gets_chosen, again, all_again, server_tick, from_replica, server_gets, server_turn, server_start}
+use Rattle.photon_model.specs.Sound.{Known, values_of, IsInsertOf}
+use Rattle.photon_model.specs.Facts.{HoldsOfReply, HoldsOfBatch, HoldsOfBest, HoldsOfPhase, HoldsOf, HoldsOfInput, HoldsOfProposal, ShardHolds, ServerHolds}
 use Rattle.list_words.proofs.Lists.{some_same, none_some, option_both, each_append, at_set}
 use Rattle.registry_state.proofs.LookingBack.{Replays, replay_means, granted_stays, bound_stays}
 use Rattle.photon_model.specs.Keeping.{PacketsHold, ServerKeeps, IsChosenNow}

@@ -8,12 +8,12 @@ use Rattle.registry_state.specs.LookBack.{holder, bound_of}
 use Rattle.registry_state.proofs.Tests.{same_id-true, same_id-false}
 use Rattle.list_words.specs.Lists.{Mem}
 use Rattle.list_words.proofs.Lists.{none_some, mem_left, mem_right, mem_split}
-use Rattle.log_defs.specs.declared.ReportLine.TheVariants.{M, X, U}
-use Rattle.output_log.specs.declared.pair.PairRec.{PairRec}
+use Rattle.log_records.specs.declared.report.ReportLine.TheVariants.{M, X, U}
+use Rattle.turn_defs.specs.declared.pair.PairRec.{PairRec}
 use Rattle.turn_defs.specs.Setting.{Setting, first_joiner}
-use Rattle.photon_defs.specs.Sound.{IsWritten, IsMissing, known_of}
-use Rattle.photon_defs.specs.Report.{pairs_from, all_pairs, decided_for, pair_of, line_by, line_of}
-use Rattle.photon_defs.specs.Runs.{Disks}
+use Rattle.photon_model.specs.Sound.{IsWritten, IsMissing, known_of}
+use Rattle.photon_model.specs.Report.{pairs_from, all_pairs, decided_for, pair_of, line_by, line_of}
+use Rattle.photon_model.specs.Runs.{Disks}
 
 -- a pair of so many joiners' logs stands in one of them
 pub from_log : (d : Disks) (from n : ℕ) (p : PairRec) → Mem p (pairs_from d from n) → (j : ℕ) × (from ≤ j) × (j < from + n) × Mem p (d.joiners j).pairs

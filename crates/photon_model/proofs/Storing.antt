@@ -8,22 +8,22 @@ use Rattle.log_records.specs.declared.records.ClickRec.{ClickRec as Click}
 use Rattle.log_records.specs.Lines.{ClickLine, end_from, Follow, IsBoundary}
 use Rattle.list_words.specs.Lists.{Mem, Begins, set_at}
 use Rattle.turn_defs.specs.Setting.{Setting, Checked, IsJoin}
-use Rattle.packet_codec.specs.declared.node.Node.TheVariants.{Dispatcher, Server, Replica, Joiner}
-use Rattle.output_log.specs.declared.pair.PairRec.{PairRec}
+use Rattle.turn_defs.specs.declared.node.Node.TheVariants.{Dispatcher, Server, Replica, Joiner}
+use Rattle.turn_defs.specs.declared.pair.PairRec.{PairRec}
 use Rattle.turn_defs.specs.Turns.{BallotNote, Note, Advance, Park, Settle, Epoch, Output, Voted, land}
 use Rattle.paxos_defs.specs.declared.Place.{Place}
 use Rattle.paxos_defs.specs.Notes.{Vote, acceptance, votes_at, votes, Has}
 use Rattle.paxos_defs.specs.Notes.Note.{Promised, Accepted}
 use Rattle.paxos_defs.specs.Agreement.{NeverFall}
 use Rattle.registry_state.specs.declared.Batch.{Batch}
-use Rattle.photon_defs.specs.Journals.{journals}
-use Rattle.photon_defs.proofs.Journals.{journal_beyond, votes_of}
-use Rattle.joiner_core.specs.Joiner.{JoinerKept, JoinerLive, land_joiner}
-use Rattle.replica_node.specs.Replica.{ReplicaKept, land_replica}
-use Rattle.photon_defs.specs.Sound.{Known, known_of, DispatcherSound, PairSound, DrawnSound, InsertsOf, Sound, SoundStore, accepted_inserts}
-use Rattle.photon_defs.specs.Runs.{Cell, World, Entry, Begin, End, Stop, Disks, begun, after, world_after}
+use Rattle.photon_model.specs.Journals.{journals}
+use Rattle.photon_model.proofs.Journals.{journal_beyond, votes_of}
+use Rattle.turn_defs.specs.Joiner.{JoinerKept, JoinerLive, land_joiner}
+use Rattle.turn_defs.specs.Replica.{ReplicaKept, land_replica}
+use Rattle.photon_model.specs.Sound.{Known, known_of, DispatcherSound, PairSound, DrawnSound, InsertsOf, Sound, SoundStore, accepted_inserts}
+use Rattle.photon_model.specs.Runs.{Cell, World, Entry, Begin, End, Stop, Disks, begun, after, world_after}
 use Rattle.list_words.proofs.Lists.{none_some, mem_left, mem_split, each_more, at_set}
-use Rattle.photon_defs.specs.Topology.{Store, WholeSound}
+use Rattle.photon_model.specs.Topology.{Store, WholeSound}
 use Rattle.photon_model.specs.Stores.{empty_disks, ReadIsChecked, IsLonger}
 use Rattle.log_records.proofs.Places.{queries_begin, lines_begin, lines_follow}
 use Rattle.photon_model.proofs.Growth.{begins_self, begins_again}
@@ -86,7 +86,7 @@ module _ (g : Setting) (qs : List Query) (cs : List ClickLine) (horizon batch : 
   offset_within p (inl e) = omega arith
   offset_within p (inr h) = let q = end_of g.clicks 0 h.0 (follow_front g.clicks cs 0 c.follow).0 h.1 in let r = h.2 in omega arith
 
-  dispatcher_longer : (k : Rattle.dispatch_core.specs.Dispatcher.DispatcherKept) → DispatcherSound g n k → DispatcherSound (longer g qs cs horizon batch) n k
+  dispatcher_longer : (k : Rattle.turn_defs.specs.Dispatcher.DispatcherKept) → DispatcherSound g n k → DispatcherSound (longer g qs cs horizon batch) n k
   dispatcher_longer k s =
       record {
         boundary = ⊎_elim (λ e. inl e) (λ (h : (l : ClickLine) × Mem l g.clicks × (l.end_ ≡ k.offset)). inr (h.0, mem_left h.0 g.clicks cs h.1, h.2)) s.boundary;

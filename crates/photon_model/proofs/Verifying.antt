@@ -9,14 +9,14 @@ use Rattle.registry_state.specs.declared.Batch.{Batch}
 use Rattle.registry_state.specs.Same.{same_batch}
 use Rattle.registry_state.specs.LookBack.{holder}
 use Rattle.paxos_defs.specs.Decided.{decided}
-use Rattle.output_log.specs.declared.pair.PairRec.{PairRec}
+use Rattle.turn_defs.specs.declared.pair.PairRec.{PairRec}
 use Rattle.turn_defs.specs.Setting.{Setting, first_joiner, shard}
 use Rattle.turn_defs.specs.Turns.{BallotNote}
-use Rattle.photon_defs.specs.Journals.{values_from}
-use Rattle.photon_defs.specs.Report as report
-use Rattle.photon_defs.specs.Report.{pairs_from, decided_for, pair_of}
-use Rattle.photon_defs.specs.Runs.{Disks}
-use Rattle.photon_defs.specs.Sound.{IsWritten, IsMissing, known_of}
+use Rattle.photon_model.specs.Journals.{values_from}
+use Rattle.photon_model.specs.Report as report
+use Rattle.photon_model.specs.Report.{pairs_from, decided_for, pair_of}
+use Rattle.photon_model.specs.Runs.{Disks}
+use Rattle.photon_model.specs.Sound.{IsWritten, IsMissing, known_of}
 use Rattle.verify_pass.specs.declared.journals.Journals.{Journals}
 use Rattle.verify_pass.specs.Classes as classes
 use Rattle.photon_model.specs.Verification.{AreOf}

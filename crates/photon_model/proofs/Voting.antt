@@ -19,16 +19,16 @@ use Rattle.paxos_defs.proofs.Facts.{Suits, vote_suits, note_writes, note_agrees,
 use Rattle.registry_state.specs.declared.Batch.{Batch}
 use Rattle.registry_state.specs.Same.{same_batch}
 use Rattle.list_words.specs.Lists.{Mem, Each}
-use Rattle.packet_codec.specs.declared.packet.Packet.{Packet}
-use Rattle.packet_codec.specs.declared.packet.Packet.TheVariants.{Join, Joined, Insert as Claim, Reply, Prepare, Promise, Nack, Accept, Accepted, Chosen}
-use Rattle.packet_codec.specs.declared.node.Node.{Node}
-use Rattle.packet_codec.specs.declared.node.Node.TheVariants.{Dispatcher, Server, Replica, Joiner}
-use Rattle.packet_codec.specs.declared.node.To.{To}
+use Rattle.turn_defs.specs.declared.packet.Packet.{Packet}
+use Rattle.turn_defs.specs.declared.packet.Packet.TheVariants.{Join, Joined, Insert as Claim, Reply, Prepare, Promise, Nack, Accept, Accepted, Chosen}
+use Rattle.turn_defs.specs.declared.node.Node.{Node}
+use Rattle.turn_defs.specs.declared.node.Node.TheVariants.{Dispatcher, Server, Replica, Joiner}
+use Rattle.turn_defs.specs.declared.node.To.{To}
 use Rattle.turn_defs.specs.Turns.{BallotNote, Note, Advance, Park, Settle, Epoch, Output, Voted, Out, idle}
-use Rattle.registry_server.specs.Server.{ServerLive, Proposal}
-use Rattle.replica_node.specs.Replica.{ReplicaKept, cell_at, note_at, prepared, taken, replica_gets}
+use Rattle.turn_defs.specs.Server.{ServerLive, Proposal}
+use Rattle.turn_defs.specs.Replica.{ReplicaKept, cell_at, note_at, prepared, taken, replica_gets}
 use Rattle.list_words.proofs.Lists.{mem_right, mem_split}
-use Rattle.photon_defs.specs.Agreement.{IsOwned, Offer, offer, Votes, Offered, PromisedBy, AcceptedBy, NackedBy, VotesOf, VotesOfPhase, VotesOfProposal, next_place, VotesOfServer, VotesAgree}
+use Rattle.photon_model.specs.Agreement.{IsOwned, Offer, offer, Votes, Offered, PromisedBy, AcceptedBy, NackedBy, VotesOf, VotesOfPhase, VotesOfProposal, next_place, VotesOfServer, VotesAgree}
 
 -- ---- what a row is to keep
 

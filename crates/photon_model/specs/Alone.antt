@@ -3,10 +3,10 @@ use Rattle.std.specs.Prelude.{◌≡◌, List, ◌<◌}
 use Rattle.ballot_core.specs.declared.Ballot.{Ballot}
 use Rattle.registry_state.specs.declared.Batch.{Batch}
 use Rattle.turn_defs.specs.Setting.{Setting}
-use Rattle.packet_codec.specs.declared.packet.Packet.TheVariants.{Prepare, Accept}
+use Rattle.turn_defs.specs.declared.packet.Packet.TheVariants.{Prepare, Accept}
 use Rattle.paxos_defs.specs.declared.Place.{Place}
-use Rattle.packet_codec.specs.Nodes.{Sent}
-use Rattle.photon_defs.specs.Runs.{Entry, Disks, world_after, IsRun, opening}
+use Rattle.turn_defs.specs.Sent.{Sent}
+use Rattle.photon_model.specs.Runs.{Entry, Disks, world_after, IsRun, opening}
 use Rattle.photon_model.specs.Claims.{HasSent}
 
 abbrev pub Prepared : List Sent → Place → Ballot → Type 0

@@ -2,11 +2,11 @@
 use Rattle.std.specs.Prelude.{◌≡◌, ℕ, List, Some}
 use Rattle.list_words.specs.Lists.{Mem}
 use Rattle.turn_defs.specs.Setting.{Setting}
-use Rattle.packet_codec.specs.declared.packet.Packet.{Packet}
-use Rattle.packet_codec.specs.declared.packet.Packet.TheVariants.{Insert}
-use Rattle.packet_codec.specs.Nodes.{Sent}
-use Rattle.joiner_core.specs.Joiner.{JoinerLive, Flight, insert_of}
-use Rattle.photon_defs.specs.Runs.{World, Entry, Disks, world_after, IsRun, opening}
+use Rattle.turn_defs.specs.declared.packet.Packet.{Packet}
+use Rattle.turn_defs.specs.declared.packet.Packet.TheVariants.{Insert}
+use Rattle.turn_defs.specs.Sent.{Sent}
+use Rattle.turn_defs.specs.Joiner.{JoinerLive, Flight, insert_of}
+use Rattle.photon_model.specs.Runs.{World, Entry, Disks, world_after, IsRun, opening}
 
 abbrev pub HasSent : List Sent → Packet → Type 0
 HasSent sent p = (x : Sent) × Mem x sent × (x.packet ≡ p)

@@ -8,15 +8,15 @@ use Rattle.registry_state.specs.declared.Batch.{Batch}
 use Rattle.registry_state.specs.LookBack.{holder, bound_of}
 use Rattle.list_words.specs.Lists.{Mem}
 use Rattle.turn_defs.specs.Setting.{Setting, Checked, shards}
-use Rattle.packet_codec.specs.declared.node.Node.TheVariants.{Dispatcher, Server, Replica, Joiner}
+use Rattle.turn_defs.specs.declared.node.Node.TheVariants.{Dispatcher, Server, Replica, Joiner}
 use Rattle.paxos_defs.specs.declared.Place.{Place}
 use Rattle.paxos_defs.specs.Notes.Note.{Accepted}
-use Rattle.photon_defs.specs.Journals.{journals, decided}
-use Rattle.photon_defs.specs.Sound.{values_of, IsWritten, IsDrained, accepted_inserts, SoundStore}
-use Rattle.photon_defs.specs.Facts.{known, WorldHolds}
-use Rattle.photon_defs.specs.Rest.{IsAtRest}
-use Rattle.photon_defs.specs.Runs.{World, Entry, Begin, End, Stop, Disks, world_after, IsRun, opening}
-use Rattle.photon_defs.specs.Agreement.{Offer}
+use Rattle.photon_model.specs.Journals.{journals, decided}
+use Rattle.photon_model.specs.Sound.{values_of, IsWritten, IsDrained, accepted_inserts, SoundStore}
+use Rattle.photon_model.specs.Facts.{known, WorldHolds}
+use Rattle.photon_model.specs.Rest.{IsAtRest}
+use Rattle.photon_model.specs.Runs.{World, Entry, Begin, End, Stop, Disks, world_after, IsRun, opening}
+use Rattle.photon_model.specs.Agreement.{Offer}
 use Rattle.photon_model.specs.Voting.{BallotsHold}
 
 -- P holds of each setting and of the world after each run

@@ -6,12 +6,12 @@ use Rattle.log_records.specs.declared.records.QueryRec.{QueryRec as Query}
 use Rattle.log_records.specs.declared.records.ClickRec.{ClickRec as Click}
 use Rattle.log_records.specs.Lines.{ClickLine}
 use Rattle.log_records.specs.Log.{first}
-use Rattle.log_defs.specs.Report as logs
-use Rattle.log_defs.specs.declared.ReportLine.TheVariants.{M}
+use Rattle.log_records.specs.Report as logs
+use Rattle.log_records.specs.declared.report.ReportLine.TheVariants.{M}
 use Rattle.turn_defs.specs.Setting.{Setting, Checked}
-use Rattle.photon_defs.specs.Report.{line_of, report}
-use Rattle.photon_defs.specs.Rest.{IsAtRest}
-use Rattle.photon_defs.specs.Runs.{Entry, Disks, disks, world_after, IsRun, opening}
+use Rattle.photon_model.specs.Report.{line_of, report}
+use Rattle.photon_model.specs.Rest.{IsAtRest}
+use Rattle.photon_model.specs.Runs.{Entry, Disks, disks, world_after, IsRun, opening}
 use Rattle.photon_model.specs.Stores.{empty_disks}
 
 -- the click's line is that of the two logs; or it is missing, being young enough and having a query

@@ -5,20 +5,20 @@ use Rattle.paxos_defs.specs.declared.Place.{Place}
 use Rattle.paxos_defs.specs.Notes.Note.{Promised, Accepted}
 use Rattle.registry_state.specs.declared.Answer.TheVariants.{Granted, Duplicate}
 use Rattle.log_records.specs.Rows.{one_query, one_click}
-use Rattle.output_log.specs.declared.pair.PairRec.{PairRec}
-use Rattle.packet_codec.specs.declared.packet.Packet.{Packet}
-use Rattle.packet_codec.specs.declared.packet.Packet.TheVariants as packet
-use Rattle.packet_codec.specs.declared.packet.Outcome.TheVariants.{Written, Already}
-use Rattle.packet_codec.specs.declared.node.Node.{Node}
-use Rattle.packet_codec.specs.declared.node.Node.TheVariants.{Dispatcher, Server, Replica, Joiner}
-use Rattle.packet_codec.specs.declared.node.Input.{Input}
-use Rattle.packet_codec.specs.declared.node.Input.TheVariants.{Start, Own, Deliver}
+use Rattle.turn_defs.specs.declared.pair.PairRec.{PairRec}
+use Rattle.turn_defs.specs.declared.packet.Packet.{Packet}
+use Rattle.turn_defs.specs.declared.packet.Packet.TheVariants as packet
+use Rattle.turn_defs.specs.declared.packet.Outcome.TheVariants.{Written, Already}
+use Rattle.turn_defs.specs.declared.node.Node.{Node}
+use Rattle.turn_defs.specs.declared.node.Node.TheVariants.{Dispatcher, Server, Replica, Joiner}
+use Rattle.turn_defs.specs.declared.node.Input.{Input}
+use Rattle.turn_defs.specs.declared.node.Input.TheVariants.{Start, Own, Deliver}
 use Rattle.turn_defs.specs.Turns.{Note, Advance, Epoch, Output, Voted}
 use Rattle.turn_defs.specs.Rows.{worked, token, insert, one_batch}
-use Rattle.photon_defs.specs.Rows.{store, one_pair, only_bound}
-use Rattle.photon_defs.specs.Sound.{SoundStore}
-use Rattle.photon_defs.specs.Runs.{World, Entry, Begin, End, Stop, Disks, world_after, IsRun, opening}
-use Rattle.photon_defs.specs.Rest.{IsAtRest}
+use Rattle.photon_model.specs.Rows.{store, one_pair, only_bound}
+use Rattle.photon_model.specs.Sound.{SoundStore}
+use Rattle.photon_model.specs.Runs.{World, Entry, Begin, End, Stop, Disks, world_after, IsRun, opening}
+use Rattle.photon_model.specs.Rest.{IsAtRest}
 use Rattle.registry_state.specs.declared.Insert.{Insert}
 use Rattle.photon_model.specs.Stores.{empty_disks}
 

@@ -5,17 +5,17 @@ use Rattle.list_words.specs.Lists.{Mem, Begins}
 use Rattle.log_records.specs.declared.records.QueryRec.{QueryRec as Query}
 use Rattle.log_records.specs.Lines.{ClickLine}
 use Rattle.log_records.specs.Log.{first}
-use Rattle.log_defs.specs.declared.ReportLine.TheVariants.{M}
+use Rattle.log_records.specs.declared.report.ReportLine.TheVariants.{M}
 use Rattle.registry_state.specs.LookBack.{Expired}
-use Rattle.output_log.specs.declared.pair.PairRec.{PairRec}
+use Rattle.turn_defs.specs.declared.pair.PairRec.{PairRec}
 use Rattle.paxos_defs.specs.Agreement.{OneChosen}
 use Rattle.turn_defs.specs.Setting.{Setting, IsJoiner, IsJoin}
-use Rattle.registry_server.specs.Server.{ServerLive}
-use Rattle.photon_defs.specs.Journals.{journals}
-use Rattle.photon_defs.specs.Sound.{values_of, IsWritten, IsMissing, IsDrained, known_of}
-use Rattle.photon_defs.specs.Facts.{known}
-use Rattle.photon_defs.specs.Report.{line_of}
-use Rattle.photon_defs.specs.Runs.{World, Entry, Disks, world_after}
+use Rattle.turn_defs.specs.Server.{ServerLive}
+use Rattle.photon_model.specs.Journals.{journals}
+use Rattle.photon_model.specs.Sound.{values_of, IsWritten, IsMissing, IsDrained, known_of}
+use Rattle.photon_model.specs.Facts.{known}
+use Rattle.photon_model.specs.Report.{line_of}
+use Rattle.photon_model.specs.Runs.{World, Entry, Disks, world_after}
 use Rattle.photon_model.specs.EveryRun.{decided_in}
 
 -- the pair stands at place k of joiner j's output log

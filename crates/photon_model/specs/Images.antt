@@ -2,14 +2,14 @@
 use Rattle.std.specs.Prelude.{◌≡◌, List, ◌++◌, Bool, ◌&&◌, is_some, if◌then◌else◌, None}
 use Rattle.turn_defs.specs.Setting.{Setting}
 use Rattle.turn_defs.specs.Turns.{Note, Out, land}
-use Rattle.packet_codec.specs.declared.node.Node.{Node}
-use Rattle.packet_codec.specs.declared.node.Node.TheVariants.{Dispatcher, Server, Replica, Joiner}
-use Rattle.dispatch_core.specs.Dispatcher.{land_dispatcher}
-use Rattle.joiner_core.specs.Joiner.{land_joiner}
-use Rattle.registry_server.specs.Server.{land_server}
-use Rattle.replica_node.specs.Replica.{land_replica}
-use Rattle.photon_defs.specs.Sound.{SoundStore}
-use Rattle.photon_defs.specs.Runs.{Cell, World, Entry, Disks, disks, dispatcher_row, server_row, replica_row, joiner_row, world_after, IsRun, opening}
+use Rattle.turn_defs.specs.declared.node.Node.{Node}
+use Rattle.turn_defs.specs.declared.node.Node.TheVariants.{Dispatcher, Server, Replica, Joiner}
+use Rattle.turn_defs.specs.Dispatcher.{land_dispatcher}
+use Rattle.turn_defs.specs.Joiner.{land_joiner}
+use Rattle.turn_defs.specs.Server.{land_server}
+use Rattle.turn_defs.specs.Replica.{land_replica}
+use Rattle.photon_model.specs.Sound.{SoundStore}
+use Rattle.photon_model.specs.Runs.{Cell, World, Entry, Disks, disks, dispatcher_row, server_row, replica_row, joiner_row, world_after, IsRun, opening}
 
 -- what a stop now leaves of a node, the open turn's note having landed or not
 abbrev pub left_by : {K L : Type 0} → (Note → K → K) → Out L → Bool → Cell K L → K

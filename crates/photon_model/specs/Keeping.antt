@@ -6,25 +6,25 @@ use Rattle.ballot_core.specs.declared.Ballot.{Ballot}
 use Rattle.registry_state.specs.LookBack.{IsGranted, Expired}
 use Rattle.list_words.specs.Lists.{Mem, Each, Begins, set_at}
 use Rattle.turn_defs.specs.Setting.{Setting, Checked, IsJoiner, IsJoinable}
-use Rattle.packet_codec.specs.declared.packet.Packet.{Packet}
-use Rattle.packet_codec.specs.declared.packet.Packet.TheVariants.{Accepted}
-use Rattle.packet_codec.specs.declared.node.Node.TheVariants.{Replica}
-use Rattle.packet_codec.specs.declared.node.To.{To}
-use Rattle.packet_codec.specs.declared.node.Input.{Input}
-use Rattle.packet_codec.specs.declared.node.Input.TheVariants.{Deliver}
-use Rattle.output_log.specs.declared.pair.PairRec.{PairRec}
+use Rattle.turn_defs.specs.declared.packet.Packet.{Packet}
+use Rattle.turn_defs.specs.declared.packet.Packet.TheVariants.{Accepted}
+use Rattle.turn_defs.specs.declared.node.Node.TheVariants.{Replica}
+use Rattle.turn_defs.specs.declared.node.To.{To}
+use Rattle.turn_defs.specs.declared.node.Input.{Input}
+use Rattle.turn_defs.specs.declared.node.Input.TheVariants.{Deliver}
+use Rattle.turn_defs.specs.declared.pair.PairRec.{PairRec}
 use Rattle.paxos_defs.specs.declared.Place.{Place}
 use Rattle.paxos_defs.specs.Attempts.{on_accepted}
 use Rattle.registry_state.specs.declared.Batch.{Batch}
 use Rattle.turn_defs.specs.Turns.{Out, land}
-use Rattle.dispatch_core.specs.Dispatcher.{DispatcherKept, DispatcherLive, land_dispatcher, dispatcher_turn, dispatcher_start}
-use Rattle.joiner_core.specs.Joiner.{JoinerKept, JoinerLive, Flight, insert_of, land_joiner, joiner_turn, joiner_start}
-use Rattle.registry_server.specs.Server.{ServerKept, ServerLive, Proposal, server_turn, is_current}
-use Rattle.replica_node.specs.Replica.{ReplicaKept, land_replica, replica_turn}
-use Rattle.photon_defs.specs.Sound.{Known, values_of, IsWritten, DispatcherSound, JoinerSound, DrawnSound, InsertsOf}
-use Rattle.photon_defs.specs.Runs.{World, Entry, after}
+use Rattle.turn_defs.specs.Dispatcher.{DispatcherKept, DispatcherLive, land_dispatcher, dispatcher_turn, dispatcher_start}
+use Rattle.turn_defs.specs.Joiner.{JoinerKept, JoinerLive, Flight, insert_of, land_joiner, joiner_turn, joiner_start}
+use Rattle.turn_defs.specs.Server.{ServerKept, ServerLive, Proposal, server_turn, is_current}
+use Rattle.turn_defs.specs.Replica.{ReplicaKept, land_replica, replica_turn}
+use Rattle.photon_model.specs.Sound.{Known, values_of, IsWritten, DispatcherSound, JoinerSound, DrawnSound, InsertsOf}
+use Rattle.photon_model.specs.Runs.{World, Entry, after}
 use Rattle.photon_model.specs.EveryRun.{decided_in}
-use Rattle.photon_defs.specs.Facts.{known, HoldsOf, HoldsOfInput, DispatcherHolds, JoinerHolds, ServerHolds}
+use Rattle.photon_model.specs.Facts.{known, HoldsOf, HoldsOfInput, DispatcherHolds, JoinerHolds, ServerHolds}
 
 abbrev pub PacketsHold : Setting → Known → List (To × Packet) → Type 0
 PacketsHold g n ps = Each (λ (a : To × Packet). HoldsOf g n a.1) ps

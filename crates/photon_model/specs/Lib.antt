@@ -9,3 +9,16 @@ pub mod Alone
 pub mod Example
 pub mod Exact
 pub mod Verification
+pub mod Journals
+pub mod Runs
+pub mod Local
+pub mod Own
+pub mod Wanting
+pub mod Agreement
+pub mod Sound
+pub mod Topology
+pub mod Facts
+pub mod Rows
+pub mod Bus
+pub mod Report
+pub mod Rest

@@ -6,11 +6,11 @@ use Rattle.log_records.specs.declared.records.QueryRec.{QueryRec}
 use Rattle.log_records.specs.declared.records.ClickRec.{ClickRec}
 use Rattle.log_records.specs.Log.{HoldsQueries, HoldsClicks}
 use Rattle.log_records.specs.Lines.{placed}
-use Rattle.packet_codec.specs.declared.node.Node.{Node}
+use Rattle.turn_defs.specs.declared.node.Node.{Node}
 use Rattle.turn_defs.specs.Setting.{Setting, Checked, IsOver}
-use Rattle.photon_defs.specs.Sound.{Sound, SoundStore}
-use Rattle.photon_defs.specs.Topology.{Store, WholeSound, topology_of}
-use Rattle.photon_defs.specs.Runs.{World, Entry, Disks, disks, world_after, IsRun, opening}
+use Rattle.photon_model.specs.Sound.{Sound, SoundStore}
+use Rattle.photon_model.specs.Topology.{Store, WholeSound, topology_of}
+use Rattle.photon_model.specs.Runs.{World, Entry, Disks, disks, world_after, IsRun, opening}
 use Rattle.photon_model.specs.Images.{image}
 
 abbrev pub empty_disks : Disks

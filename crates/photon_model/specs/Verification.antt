@@ -3,13 +3,13 @@ use Rattle.std.specs.Prelude.{◌≡◌, ◌↔◌, ◌*◌, true, [], map, IsSo
 use Rattle.event_id.specs.declared.id.EventId.{EventId}
 use Rattle.log_records.specs.declared.records.ClickRec.{ClickRec as Click}
 use Rattle.log_records.specs.Lines.{ClickLine}
-use Rattle.log_defs.specs.Report.{distinct}
+use Rattle.log_records.specs.Report.{distinct}
 use Rattle.paxos_defs.specs.Agreement.{JournalsAgree}
 use Rattle.turn_defs.specs.Setting.{Setting, first_joiner}
-use Rattle.photon_defs.specs.Journals.{journals, values_from}
-use Rattle.photon_defs.specs.Report as report
-use Rattle.photon_defs.specs.Runs.{Disks}
-use Rattle.photon_defs.specs.Sound.{IsWritten, IsMissing, SoundStore, known_of}
+use Rattle.photon_model.specs.Journals.{journals, values_from}
+use Rattle.photon_model.specs.Report as report
+use Rattle.photon_model.specs.Runs.{Disks}
+use Rattle.photon_model.specs.Sound.{IsWritten, IsMissing, SoundStore, known_of}
 use Rattle.verify_pass.specs.declared.journals.Journals.{Journals}
 use Rattle.verify_pass.specs.Classes as classes
 use Rattle.verify_pass.specs.Classes.{notes_of}

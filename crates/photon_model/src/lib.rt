@@ -1,11 +1,14 @@
-//! The law over every run: what holds of packets, nodes and disks at every moment, whatever is lost, repeated,
-//! reordered or stopped, and what follows from it in plain words.
+//! The whole system as definitions (what nodes keep and know, which histories are runs, which stores are sound, what holds of
+//! each packet and node), and the law over every run: what holds at every moment, whatever is lost, repeated, reordered or
+//! stopped, and what follows from it in plain words.
 #![tactic(auto)]
+
+pub mod laws;
 
 ghost use Rattle.photon_model.specs.EveryRun.{AfterEveryRun, AllFactsHold, RestIsDone};
 ghost use Rattle.photon_model.specs.Headline.{DecidesOnce, ForgetsNothing, HasOwnQueries, IsOutputOnce, LearnsTheDecided, LosesNoPair, TellsTheMissing};
 ghost use Rattle.turn_defs.specs.Setting.{Setting};
-ghost use Rattle.photon_defs.specs.Topology.{WholeSound};
+ghost use Rattle.photon_model.specs.Topology.{WholeSound};
 ghost use Rattle.photon_model.specs.Stores.{LongerKeepsStores, LongerKeepsWhole, ReadIsChecked, ReadIsOver, RecordsStay, RunsKeepStores, RunsKeepWhole, SoundCloses, TopologyComesFirst, empty_store};
 ghost use Rattle.photon_model.specs.Exact.{AtRestFromEmpty, ClicksAreExact, ReportIsExact};
 ghost use Rattle.photon_model.specs.Example.{ClickIsJoined, RunsAreStrict, StoresAreStrict};

@@ -3,6 +3,8 @@
 #![tactic(auto)]
 
 #[cfg(test)]
-mod both_sites_tests;
+mod drill_store_tests;
+#[cfg(test)]
+mod log_check_tests;
 #[cfg(test)]
 mod photon_cli_tests;

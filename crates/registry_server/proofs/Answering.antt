@@ -8,15 +8,15 @@ use Rattle.paxos_defs.specs.declared.Place.{Place}
 use Rattle.paxos_defs.specs.Attempts.{Phase, on_promise, on_accepted}
 use Rattle.paxos_proposer.specs.declared.proposer.Proposer.{Proposer}
 use Rattle.paxos_proposer.specs.Proposals.{ballot_of, own_of, phase_of, promise_turn, acceptance_turn}
-use Rattle.packet_codec.specs.declared.packet.Packet.{Packet}
-use Rattle.packet_codec.specs.declared.packet.Packet.TheVariants.{Accept as AcceptPacket, Chosen}
-use Rattle.packet_codec.specs.declared.node.Node.{Node}
-use Rattle.packet_codec.specs.declared.node.Node.TheVariants.{Server}
-use Rattle.packet_codec.specs.declared.node.To.{To}
-use Rattle.packet_codec.specs.declared.node.To.TheVariants.{Only}
+use Rattle.turn_defs.specs.declared.packet.Packet.{Packet}
+use Rattle.turn_defs.specs.declared.packet.Packet.TheVariants.{Accept as AcceptPacket, Chosen}
+use Rattle.turn_defs.specs.declared.node.Node.{Node}
+use Rattle.turn_defs.specs.declared.node.Node.TheVariants.{Server}
+use Rattle.turn_defs.specs.declared.node.To.{To}
+use Rattle.turn_defs.specs.declared.node.To.TheVariants.{Only}
 use Rattle.turn_defs.specs.Setting.{Setting, shards}
 use Rattle.turn_defs.specs.Turns.{idle}
-use Rattle.registry_server.specs.Server.{ServerKept, ServerLive, is_below_limit, is_next, to_replicas, accept_if, promised, accepted, nacked, gets_promise, gets_accepted, gets_nack, gets_chosen}
+use Rattle.turn_defs.specs.Server.{ServerKept, ServerLive, is_below_limit, is_next, to_replicas, accept_if, promised, accepted, nacked, gets_promise, gets_accepted, gets_nack, gets_chosen}
 use Rattle.registry_server.specs.Stations.{setting, sent}
 use Rattle.registry_server.specs.ShardStates.{Goes, NotLast, proposal_of, counts_promise, counts_accepted}
 use Rattle.registry_server.specs.Cores.{Gives, IsStep}

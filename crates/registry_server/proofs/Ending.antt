@@ -10,13 +10,13 @@ use Rattle.gate_journal.specs.declared.journal.JournalState.{JournalState}
 use Rattle.gate_journal.specs.declared.journal.JournalState.TheVariants.{Ready}
 use Rattle.air_bus.specs.declared.entry.Input.{Input as Bytes}
 use Rattle.air_bus.specs.declared.entry.Entry.TheVariants.{Begin, End, Stop}
-use Rattle.packet_codec.specs.declared.node.Input.{Input}
+use Rattle.turn_defs.specs.declared.node.Input.{Input}
 use Rattle.turn_defs.specs.Turns.{Note, land}
 use Rattle.site_node.specs.Bytes.{AreSpelled, Reads, IsJunk, record_of}
 use Rattle.site_node.specs.States.{Leads, row, written, closes}
 use Rattle.site_node.specs.declared.roster.Roster.{Roster}
 use Rattle.site_node.specs.Rosters.{IsOf}
-use Rattle.registry_server.specs.Server.{ServerLive, land_server}
+use Rattle.turn_defs.specs.Server.{ServerLive, land_server}
 use Rattle.registry_server.specs.Cores.{Serves, note_of, site_of}
 use Rattle.registry_server.specs.Registrars.{SiteKept, RegistrarView, ServesSite, Knows, IsRow, landed, server_rows}
 use Rattle.registry_server.specs.declared.server_core.ServerCore.{ServerCore}

@@ -17,7 +17,7 @@ use Rattle.paxos_proposer.specs.declared.proposer.Proposer.{Proposer}
 use Rattle.paxos_proposer.specs.Proposals.{ballot_of, own_of, phase_of, promise_turn, acceptance_turn, IsSameProposal}
 use Rattle.turn_defs.specs.Setting.{Setting, shards}
 use Rattle.turn_defs.specs.Turns.{Out, idle}
-use Rattle.registry_server.specs.Server.{ServerLive, ShardState, Proposal, is_current}
+use Rattle.turn_defs.specs.Server.{ServerLive, ShardState, Proposal, is_current}
 use Rattle.registry_server.specs.ShardStates.{proposal_of, is_going, counts_promise, counts_accepted}
 use Rattle.registry_server.specs.Rowed.{current_in, current_of}
 use Rattle.registry_server.specs.declared.shard.Shard.{Shard}

@@ -5,15 +5,15 @@ use Rattle.ballot_core.specs.declared.Ballot.{Ballot}
 use Rattle.registry_state.specs.declared.Insert.{Insert}
 use Rattle.registry_state.specs.declared.Batch.{Batch}
 use Rattle.paxos_defs.specs.declared.Place.{Place}
-use Rattle.packet_codec.specs.declared.packet.Packet.{Packet}
-use Rattle.packet_codec.specs.declared.packet.Packet.TheVariants as packet
-use Rattle.packet_codec.specs.declared.node.Node.{Node}
-use Rattle.packet_codec.specs.declared.node.Node.TheVariants.{Dispatcher, Server, Replica, Joiner}
+use Rattle.turn_defs.specs.declared.packet.Packet.{Packet}
+use Rattle.turn_defs.specs.declared.packet.Packet.TheVariants as packet
+use Rattle.turn_defs.specs.declared.node.Node.{Node}
+use Rattle.turn_defs.specs.declared.node.Node.TheVariants.{Dispatcher, Server, Replica, Joiner}
 use Rattle.turn_defs.specs.Setting.{Setting, shard}
 use Rattle.turn_defs.specs.Turns.{idle}
 use Rattle.std.proofs.lemmas.Option.{same_Some}
 use Rattle.registry_state.specs.LookBack.{replay}
-use Rattle.registry_server.specs.Server.{ServerKept, ServerLive, claimed, gets_promise, gets_accepted, gets_nack, gets_chosen, from_replica, server_gets}
+use Rattle.turn_defs.specs.Server.{ServerKept, ServerLive, claimed, gets_promise, gets_accepted, gets_nack, gets_chosen, from_replica, server_gets}
 use Rattle.registry_server.specs.Cores.{Gives}
 use Rattle.registry_server.specs.declared.turn.Turn.{Turn}
 use Rattle.registry_server.specs.Rowed.{number_of}

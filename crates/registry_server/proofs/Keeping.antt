@@ -16,7 +16,7 @@ use Rattle.paxos_defs.specs.Attempts.{on_accepted}
 use Rattle.paxos_proposer.specs.declared.proposer.Proposer.{Proposer}
 use Rattle.paxos_proposer.specs.Proposals.{ballot_of, own_of, phase_of, promise_turn, acceptance_turn, IsSameProposal}
 use Rattle.turn_defs.specs.Setting.{Setting}
-use Rattle.registry_server.specs.Server.{ShardState, Proposal, is_below_limit, unanswered}
+use Rattle.turn_defs.specs.Server.{ShardState, Proposal, is_below_limit, unanswered}
 use Rattle.registry_server.specs.ShardStates.{IsShard, Goes, NotLast, stepped, proposal_of, is_going, put_last, counts_promise, counts_accepted}
 use Rattle.registry_server.specs.declared.shard.Shard.{Shard}
 use Rattle.registry_server.specs.declared.shard.Step.TheVariants.{Queue, Propose, Promise, Accept, Learn, Hold}

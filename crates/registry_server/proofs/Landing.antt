@@ -8,8 +8,8 @@ use Rattle.gate_journal.specs.declared.journal.JournalState.{JournalState}
 use Rattle.gate_journal.specs.declared.journal.JournalState.TheVariants.{Ready}
 use Rattle.air_bus.specs.declared.entry.Input.{Input as Bytes}
 use Rattle.air_bus.specs.declared.entry.Input.TheVariants as bytes
-use Rattle.packet_codec.specs.declared.node.Input.{Input}
-use Rattle.packet_codec.specs.declared.node.Input.TheVariants.{Start, Own, Tick, Deliver}
+use Rattle.turn_defs.specs.declared.node.Input.{Input}
+use Rattle.turn_defs.specs.declared.node.Input.TheVariants.{Start, Own, Tick, Deliver}
 use Rattle.turn_defs.specs.Setting.{Setting}
 use Rattle.turn_defs.specs.Turns.{land}
 use Rattle.site_node.specs.Bytes.{record_of, Reads, IsInput, IsJunk}
@@ -18,7 +18,7 @@ use Rattle.site_node.specs.declared.kind.NodeFault.{NodeFault}
 use Rattle.site_node.specs.declared.kind.NodeFault.TheVariants as fault
 use Rattle.site_node.specs.declared.roster.Roster.{Roster}
 use Rattle.site_node.specs.Rosters.{IsOf}
-use Rattle.registry_server.specs.Server.{ServerKept, ServerLive, land_server}
+use Rattle.turn_defs.specs.Server.{ServerKept, ServerLive, land_server}
 use Rattle.registry_server.specs.Cores.{Stands, note_of}
 use Rattle.registry_server.specs.Registrars.{SiteKept, RegistrarView, ServesSite, Knows, KnowsAs, Fits, IsNextNote}
 use Rattle.registry_server.specs.declared.server_core.ServerCore.{ServerCore}

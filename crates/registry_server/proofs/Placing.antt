@@ -3,7 +3,7 @@ use Rattle.std.proofs.Common.{◌≡◌, ℕ, ◌+◌, ◌<◌, ◌≤◌, ◌==
 use Rattle.std.proofs.lemmas.Bool.{cond_both, cond-true, cond-false, cases_eq, eq-eqb, ne_eqb, eqb-true, cases_lt}
 use Rattle.std.proofs.lemmas.List.{get_or-set_same, get_or-set_other, length-set, length-append, get_or_append_left, get_or_at, append-nil, take_all, drop_all}
 use Rattle.list_words.specs.Lists.{set_at}
-use Rattle.registry_server.specs.Server.{ShardState}
+use Rattle.turn_defs.specs.Server.{ShardState}
 use Rattle.registry_server.specs.ShardStates.{IsShard, EachStands}
 use Rattle.registry_server.specs.declared.shard.Shard.{Shard}
 

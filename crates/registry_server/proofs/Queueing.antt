@@ -8,7 +8,7 @@ use Rattle.registry_state.specs.Same.{same_token}
 use Rattle.batch_queue.specs.Waiting.{has_token, with_last, HasNoPlace}
 use Rattle.batch_queue.specs.declared.queue.Put.{Put}
 use Rattle.batch_queue.specs.declared.queue.Put.TheVariants.{Full}
-use Rattle.registry_server.specs.Server.{queued}
+use Rattle.turn_defs.specs.Server.{queued}
 use Rattle.registry_server.specs.ShardStates.{put_last}
 
 eqb_comm : (m n : ℕ) → (m == n) ≡ (n == m)

@@ -15,13 +15,13 @@ use Rattle.paxos_defs.specs.Attempts.{nobody}
 use Rattle.paxos_defs.specs.Attempts.Phase.{Promising}
 use Rattle.paxos_proposer.specs.declared.proposer.Proposer.{Proposer}
 use Rattle.paxos_proposer.specs.Proposals.{ballot_of, own_of, phase_of}
-use Rattle.packet_codec.specs.declared.packet.Packet.{Packet}
-use Rattle.packet_codec.specs.declared.packet.Packet.TheVariants.{Prepare}
-use Rattle.packet_codec.specs.declared.node.Node.{Node}
-use Rattle.packet_codec.specs.declared.node.To.{To}
+use Rattle.turn_defs.specs.declared.packet.Packet.{Packet}
+use Rattle.turn_defs.specs.declared.packet.Packet.TheVariants.{Prepare}
+use Rattle.turn_defs.specs.declared.node.Node.{Node}
+use Rattle.turn_defs.specs.declared.node.To.{To}
 use Rattle.turn_defs.specs.Setting.{Setting}
 use Rattle.turn_defs.specs.Turns.{Out, idle}
-use Rattle.registry_server.specs.Server.{ServerKept, ServerLive, ShardState, queued, claimed, reply, replies, may_propose, to_replicas}
+use Rattle.turn_defs.specs.Server.{ServerKept, ServerLive, ShardState, queued, claimed, reply, replies, may_propose, to_replicas}
 use Rattle.registry_server.specs.Stations.{setting, sent}
 use Rattle.registry_server.specs.Replies.{each_reply}
 use Rattle.registry_server.specs.ShardStates.{IsShard, stepped, proposal_of}

@@ -8,14 +8,14 @@ use Rattle.registry_state.specs.declared.Batch.{Batch}
 use Rattle.registry_state.specs.declared.Answer.{Answer}
 use Rattle.registry_state.specs.LookBack.{replay}
 use Rattle.batch_queue.specs.Waiting.{answered, unanswered as left_of}
-use Rattle.packet_codec.specs.declared.packet.Packet.{Packet}
-use Rattle.packet_codec.specs.declared.node.Node.{Node}
-use Rattle.packet_codec.specs.declared.node.Node.TheVariants.{Replica}
-use Rattle.packet_codec.specs.declared.node.To.{To}
-use Rattle.packet_codec.specs.declared.node.To.TheVariants.{Only}
+use Rattle.turn_defs.specs.declared.packet.Packet.{Packet}
+use Rattle.turn_defs.specs.declared.node.Node.{Node}
+use Rattle.turn_defs.specs.declared.node.Node.TheVariants.{Replica}
+use Rattle.turn_defs.specs.declared.node.To.{To}
+use Rattle.turn_defs.specs.declared.node.To.TheVariants.{Only}
 use Rattle.turn_defs.specs.Setting.{Setting}
 use Rattle.turn_defs.specs.Nodes.{Addressed}
-use Rattle.registry_server.specs.Server.{to_from, reply, reply_if, replies, keep_if, unanswered}
+use Rattle.turn_defs.specs.Server.{to_from, reply, reply_if, replies, keep_if, unanswered}
 use Rattle.registry_server.specs.Stations.{sent}
 use Rattle.registry_server.specs.Replies.{each_reply}
 

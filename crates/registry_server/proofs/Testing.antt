@@ -7,7 +7,7 @@ use Rattle.batch_queue.specs.Queue.{waiting}
 use Rattle.paxos_proposer.specs.declared.proposer.Proposer.{Proposer}
 use Rattle.turn_defs.specs.Setting.{Setting}
 use Rattle.turn_defs.specs.Turns.{is_empty}
-use Rattle.registry_server.specs.Server.{ShardState, may_propose, shard_unfinished, is_free, is_below_limit}
+use Rattle.turn_defs.specs.Server.{ShardState, may_propose, shard_unfinished, is_free, is_below_limit}
 use Rattle.registry_server.specs.Stations.{setting}
 use Rattle.registry_server.specs.ShardStates.{IsShard, passes, proposal_of}
 use Rattle.registry_server.specs.declared.station.Station.{Station}

@@ -7,7 +7,7 @@ use Rattle.registry_state.specs.declared.Batch.{Batch}
 use Rattle.registry_state.specs.declared.Answer.{Answer}
 use Rattle.batch_queue.specs.Waiting.{answered, unanswered, replays, IsUnanswered}
 use Rattle.batch_queue.proofs.Answering.{answered-append}
-use Rattle.registry_server.specs.Server.{queued}
+use Rattle.turn_defs.specs.Server.{queued}
 use Rattle.registry_server.specs.ShardStates.{put_last}
 
 -- none of those that are left has an answer

@@ -5,11 +5,11 @@ use Rattle.time_shards.specs.declared.ShardRow.{ShardRow}
 use Rattle.turn_defs.specs.Setting.{Setting}
 use Rattle.turn_defs.specs.Turns.{Out, Note, Epoch}
 use Rattle.turn_defs.specs.Nodes.{Addressed}
-use Rattle.packet_codec.specs.declared.packet.Packet.{Packet as Message}
-use Rattle.packet_codec.specs.declared.node.Node.{Node}
-use Rattle.packet_codec.specs.declared.node.Input.{Input}
-use Rattle.packet_codec.specs.declared.node.Input.TheVariants as input
-use Rattle.registry_server.specs.Server.{ServerKept, ServerLive, empty_shard}
+use Rattle.turn_defs.specs.declared.packet.Packet.{Packet as Message}
+use Rattle.turn_defs.specs.declared.node.Node.{Node}
+use Rattle.turn_defs.specs.declared.node.Input.{Input}
+use Rattle.turn_defs.specs.declared.node.Input.TheVariants as input
+use Rattle.turn_defs.specs.Server.{ServerKept, ServerLive, empty_shard}
 use Rattle.registry_server.specs.Stations.{setting, sent}
 use Rattle.registry_server.specs.ShardStates.{EachStands, FitsStep, stepped}
 use Rattle.registry_server.specs.declared.shard.Shard.{Shard}

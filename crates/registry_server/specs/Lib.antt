@@ -1,4 +1,3 @@
-pub mod Server
 pub mod Rows
 pub mod Stations
 pub mod Replies

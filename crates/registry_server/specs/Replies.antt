@@ -2,10 +2,10 @@
 use Rattle.std.specs.Prelude.{ℕ, List, [], ◌∷◌, ◌++◌}
 use Rattle.registry_state.specs.declared.Insert.{Insert}
 use Rattle.registry_state.specs.declared.Answer.{Answer}
-use Rattle.packet_codec.specs.declared.packet.Packet.{Packet}
-use Rattle.packet_codec.specs.declared.node.To.{To}
+use Rattle.turn_defs.specs.declared.packet.Packet.{Packet}
+use Rattle.turn_defs.specs.declared.node.To.{To}
 use Rattle.turn_defs.specs.Setting.{Setting}
-use Rattle.registry_server.specs.Server.{reply}
+use Rattle.turn_defs.specs.Server.{reply}
 
 abbrev pub each_reply : Setting → ℕ → List (Insert × Answer) → List (To × Packet)
 each_reply g site [] = []

@@ -6,12 +6,12 @@ use Rattle.paxos_defs.specs.declared.Place.{Place}
 use Rattle.registry_state.specs.declared.Batch.{Batch}
 use Rattle.paxos_proposer.specs.declared.proposer.Proposer.{Proposer}
 use Rattle.paxos_proposer.specs.Proposals.{ballot_of}
-use Rattle.packet_codec.specs.declared.packet.Packet.{Packet}
-use Rattle.packet_codec.specs.declared.packet.Packet.TheVariants as packet
-use Rattle.packet_codec.specs.declared.node.To.{To}
+use Rattle.turn_defs.specs.declared.packet.Packet.{Packet}
+use Rattle.turn_defs.specs.declared.packet.Packet.TheVariants as packet
+use Rattle.turn_defs.specs.declared.node.To.{To}
 use Rattle.turn_defs.specs.Setting.{Setting, shard, shards}
 use Rattle.turn_defs.specs.Turns.{Out, idle}
-use Rattle.registry_server.specs.Server.{ServerKept, ServerLive, ShardState, may_propose, proposes, replies, learns, to_replicas, with_shard}
+use Rattle.turn_defs.specs.Server.{ServerKept, ServerLive, ShardState, may_propose, proposes, replies, learns, to_replicas, with_shard}
 use Rattle.registry_server.specs.Stations.{setting}
 use Rattle.registry_server.specs.ShardStates.{IsShard, FitsStep}
 use Rattle.registry_server.specs.Cores.{Gives}

@@ -7,16 +7,16 @@ use Rattle.paxos_defs.specs.Attempts.Phase.{Promising, Accepting}
 use Rattle.registry_state.specs.declared.Insert.{Insert}
 use Rattle.registry_state.specs.declared.Batch.{Batch}
 use Rattle.registry_state.specs.declared.Answer.TheVariants.{Granted, Duplicate}
-use Rattle.packet_codec.specs.declared.packet.Packet.{Packet}
-use Rattle.packet_codec.specs.declared.packet.Packet.TheVariants as packet
-use Rattle.packet_codec.specs.declared.node.Node.TheVariants.{Server, Replica, Joiner}
-use Rattle.packet_codec.specs.declared.node.To.{To}
-use Rattle.packet_codec.specs.declared.node.To.TheVariants.{Only}
-use Rattle.packet_codec.specs.declared.node.Input.{Input}
-use Rattle.packet_codec.specs.declared.node.Input.TheVariants.{Own, Tick, Deliver}
+use Rattle.turn_defs.specs.declared.packet.Packet.{Packet}
+use Rattle.turn_defs.specs.declared.packet.Packet.TheVariants as packet
+use Rattle.turn_defs.specs.declared.node.Node.TheVariants.{Server, Replica, Joiner}
+use Rattle.turn_defs.specs.declared.node.To.{To}
+use Rattle.turn_defs.specs.declared.node.To.TheVariants.{Only}
+use Rattle.turn_defs.specs.declared.node.Input.{Input}
+use Rattle.turn_defs.specs.declared.node.Input.TheVariants.{Own, Tick, Deliver}
 use Rattle.turn_defs.specs.Turns.{Epoch, Out}
 use Rattle.turn_defs.specs.Rows.{worked, worked_late, token, insert, one_batch}
-use Rattle.registry_server.specs.Server.{ServerKept, ServerLive, ShardState, Proposal, empty_shard, server_start, server_turn, server_wants, server_unfinished, server_at_rest}
+use Rattle.turn_defs.specs.Server.{ServerKept, ServerLive, ShardState, Proposal, empty_shard, server_start, server_turn, server_wants, server_unfinished, server_at_rest}
 
 abbrev pub kept : ServerKept
 kept = record { epoch = 1 }

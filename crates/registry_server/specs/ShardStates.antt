@@ -13,7 +13,7 @@ use Rattle.paxos_defs.specs.Attempts.Phase.{Promising, Accepting, Ended}
 use Rattle.paxos_proposer.specs.declared.proposer.Proposer.{Proposer}
 use Rattle.paxos_proposer.specs.Proposals.{ballot_of, own_of, phase_of}
 use Rattle.turn_defs.specs.Setting.{Setting}
-use Rattle.registry_server.specs.Server.{Proposal, ShardState, queued, learns, may_propose, shard_unfinished, is_below_limit}
+use Rattle.turn_defs.specs.Server.{Proposal, ShardState, queued, learns, may_propose, shard_unfinished, is_below_limit}
 use Rattle.registry_server.specs.declared.shard.Shard.{Shard}
 use Rattle.registry_server.specs.declared.shard.Step.{Step}
 use Rattle.registry_server.specs.declared.shard.Step.TheVariants.{Queue, Propose, Promise, Accept, Learn, Hold}

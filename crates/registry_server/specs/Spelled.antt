@@ -2,11 +2,11 @@
 use Rattle.std.specs.Prelude.{ℕ, ◌^◌, ◌<◌, ◌≤◌, length, Option, Some, None}
 use Rattle.list_words.specs.Lists.{Each}
 use Rattle.registry_state.specs.declared.Batch.{Batch}
-use Rattle.fields.specs.Spellings.{IsInsert, IsBallot, IsBatch, IsPrior}
+use Rattle.turn_defs.specs.Spellings.{IsInsert, IsBallot, IsBatch, IsPrior}
 use Rattle.paxos_defs.specs.Attempts.{Phase}
 use Rattle.paxos_defs.specs.Attempts.Phase.{Promising, Accepting, Ended}
 use Rattle.turn_defs.specs.Setting.{Setting, shards}
-use Rattle.registry_server.specs.Server.{ServerKept, ServerLive, ShardState, Proposal}
+use Rattle.turn_defs.specs.Server.{ServerKept, ServerLive, ShardState, Proposal}
 
 abbrev pub IsSpelledPhase : Phase Batch → Type 0
 IsSpelledPhase (Promising marks best) = IsPrior best

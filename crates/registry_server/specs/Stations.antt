@@ -4,11 +4,11 @@ use Rattle.std.specs.Borrow.{Bor}
 use Rattle.ballot_core.specs.declared.Ballot.{Ballot}
 use Rattle.paxos_defs.specs.declared.Place.{Place}
 use Rattle.registry_state.specs.declared.Batch.{Batch}
-use Rattle.packet_codec.specs.declared.packet.Packet.{Packet}
-use Rattle.packet_codec.specs.declared.packet.Packet.TheVariants.{Prepare, Accept}
-use Rattle.packet_codec.specs.declared.node.Node.{Node}
-use Rattle.packet_codec.specs.declared.node.To.{To}
-use Rattle.packet_codec.specs.declared.node.To.TheVariants.{Only}
+use Rattle.turn_defs.specs.declared.packet.Packet.{Packet}
+use Rattle.turn_defs.specs.declared.packet.Packet.TheVariants.{Prepare, Accept}
+use Rattle.turn_defs.specs.declared.node.Node.{Node}
+use Rattle.turn_defs.specs.declared.node.To.{To}
+use Rattle.turn_defs.specs.declared.node.To.TheVariants.{Only}
 use Rattle.turn_defs.specs.Setting.{Setting}
 use Rattle.registry_server.specs.declared.station.Station.{Station}
 

@@ -11,10 +11,10 @@ use air_bus::{Input as Begun, Packets, Payload};
 use epoch_journal::{EpochJournal, RaiseFault};
 use gate_journal::JournalFault;
 use outside::{Disk, DiskName, Gate, Point};
-use packet_codec::Input;
 use site_node::{Done, NodeFault, Roster, SiteNode, read_input, spell};
 use std::alloc::{AllocError, Global};
 use time_shards::Table;
+use turn_defs::Input;
 
 // No epoch follows this one.
 const LAST: u32 = u32::MAX - 1;
@@ -52,12 +52,12 @@ impl<D: Disk> ServerNode<D> {
     ghost use Rattle.epoch_journal.specs.Epochs.{IsLeft, Keeps, KeepsAsLeft};
     ghost use Rattle.turn_defs.specs.Setting.{Setting};
     ghost use Rattle.turn_defs.specs.Turns.{land};
-    ghost use Rattle.packet_codec.specs.declared.node.Input.TheVariants as given;
+    ghost use Rattle.turn_defs.specs.declared.node.Input.TheVariants as given;
     ghost use Rattle.site_node.specs.Bytes.{IsInput};
     ghost use Rattle.site_node.specs.Rosters.{IsOf};
     ghost use Rattle.site_node.specs.States.{row_of};
     ghost use Rattle.site_node.specs.Faults.{IsOfRestart, IsWhole};
-    ghost use Rattle.registry_server.specs.Server.{ServerKept, ServerLive, land_server};
+    ghost use Rattle.turn_defs.specs.Server.{ServerKept, ServerLive, land_server};
     ghost use Rattle.registry_server.specs.Cores.{IsNew, note_of, site_of};
     ghost use Rattle.registry_server.specs.Registrars.{SiteKept, Knows, Fits, IsNextNote, IsRow, Makes, landed, server_rows};
     ghost use Rattle.registry_server.specs.declared.turn.ServerNote.{ServerNote};
@@ -248,7 +248,7 @@ impl<D: Disk> SiteNode for ServerNode<D> {
     ghost use Rattle.gate_journal.specs.Growth.{Continues};
     ghost use Rattle.site_node.specs.States.{Leads, state_phase, Says};
     ghost use Rattle.site_node.specs.Paths.{begins as begins_by, phase_led};
-    ghost use Rattle.registry_server.specs.Server.{server_at_rest, server_unfinished, server_wants};
+    ghost use Rattle.turn_defs.specs.Server.{server_at_rest, server_unfinished, server_wants};
     ghost use Rattle.registry_server.specs.Registrars.{server_rows};
     ghost use Rattle.registry_server.specs.Node.{ServerState, StandsAt, KeptOn, spent_at};
     ghost use Rattle.registry_server.specs.Kept.{kept_images};

@@ -1,18 +1,18 @@
 // What a server sends, behind what it sends already.
 ghost use Rattle.std.specs.Prelude.{◌≡◌, ◌++◌, ◌∷◌, [], IfOk, OnOk};
 ghost use Rattle.turn_defs.specs.Setting.{Setting};
-ghost use Rattle.packet_codec.specs.declared.packet.Packet.TheVariants as packet;
-ghost use Rattle.registry_server.specs.Server.{to_replicas, reply};
+ghost use Rattle.turn_defs.specs.declared.packet.Packet.TheVariants as packet;
+ghost use Rattle.turn_defs.specs.Server.{to_replicas, reply};
 ghost use Rattle.registry_server.specs.Stations.{setting, sent, request};
 ghost use Rattle.registry_server.specs.Replies.{each_reply};
 
 use crate::station::Station;
 use ballot_core::Ballot;
-use packet_codec::{Node, Packet};
 use paxos_defs::Place;
 use paxos_proposer::REPLICAS;
 use registry_state::{Answer, Batch, Insert};
 use std::alloc::AllocError;
+use turn_defs::{Node, Packet};
 
 // A Prepare, or an Accept of the value where there is one, to each replica. One allocation each for the value.
 pub(crate) fn ask_all(

@@ -1,17 +1,17 @@
 // A server that is up or down, and what it knows has spellings.
 ghost use Rattle.std.specs.Prelude.{◌≡◌};
-ghost use Rattle.registry_server.specs.Server.{ServerKept};
+ghost use Rattle.turn_defs.specs.Server.{ServerKept};
 ghost use Rattle.registry_server.specs.Registrars.{MayRaise};
 ghost use Rattle.registry_server.specs.Cores.{Carries, CarriesStart, MayStart};
-ghost use Rattle.packet_codec.specs.declared.node.Input.{Input as Given};
-ghost use Rattle.packet_codec.specs.declared.node.Input.TheVariants as given;
+ghost use Rattle.turn_defs.specs.declared.node.Input.{Input as Given};
+ghost use Rattle.turn_defs.specs.declared.node.Input.TheVariants as given;
 
 use crate::ServerCore;
 use crate::turn::{ServerInput, Turn};
-use packet_codec::Input;
 use std::alloc::{AllocError, Global};
 use std::marker::Model;
 use time_shards::Table;
+use turn_defs::Input;
 
 // The core, while the server is up and while it is down. What it knows has spellings, so what it sends has them.
 #[derive(Drop)]
@@ -36,13 +36,13 @@ impl Model for Registrar {
 
 impl Registrar {
     ghost use Rattle.std.specs.Prelude.{◌≡◌, ◌<◌, ◌≤◌, Option, All, IfOk, true, false};
-    ghost use Rattle.packet_codec.specs.Packets.{IsPacket};
-    ghost use Rattle.packet_codec.specs.declared.packet.Packet.{Packet};
-    ghost use Rattle.packet_codec.specs.declared.node.Node.{Node};
+    ghost use Rattle.turn_defs.specs.Packets.{IsPacket};
+    ghost use Rattle.turn_defs.specs.declared.packet.Packet.{Packet};
+    ghost use Rattle.turn_defs.specs.declared.node.Node.{Node};
     ghost use Rattle.site_node.specs.Bytes.{IsInput};
     ghost use Rattle.site_node.specs.States.{row_of};
     ghost use Rattle.turn_defs.specs.Setting.{Setting};
-    ghost use Rattle.registry_server.specs.Server.{ServerKept, ServerLive, server_at_rest, server_unfinished, server_wants};
+    ghost use Rattle.turn_defs.specs.Server.{ServerKept, ServerLive, server_at_rest, server_unfinished, server_wants};
     ghost use Rattle.registry_server.specs.Cores.{Stands, Serves, Decided, IsNew, site_of};
     ghost use Rattle.registry_server.specs.Registrars.{SiteKept, Knows, Fits, MayRaise, IsNextNote, IsRow, Makes, IsSpelledTurn, landed, server_rows};
 

@@ -3,7 +3,7 @@ ghost use Rattle.std.specs.Prelude.{◌≡◌, ◌++◌, ◌-◌, ◌<◌, ◌^�
 ghost use Rattle.registry_state.specs.LookBack.{replay};
 ghost use Rattle.turn_defs.specs.Setting.{Setting};
 ghost use Rattle.paxos_proposer.specs.Proposals.{prior_of, promise_turn};
-ghost use Rattle.registry_server.specs.Server.{ServerKept, ServerLive, may_propose, claimed, gets_promise, gets_accepted, gets_nack, gets_chosen, server_gets, from_replica, again};
+ghost use Rattle.turn_defs.specs.Server.{ServerKept, ServerLive, may_propose, claimed, gets_promise, gets_accepted, gets_nack, gets_chosen, server_gets, from_replica, again};
 ghost use Rattle.registry_server.specs.declared.station.Station.{Station as Fixed};
 ghost use Rattle.registry_server.specs.Stations.{setting, sent};
 ghost use Rattle.registry_server.specs.ShardStates.{IsShard};
@@ -15,11 +15,11 @@ use crate::shard::{LIMIT, Shard, Step};
 use crate::station::Station;
 use crate::turn::{Change, Turn};
 use ballot_core::Ballot;
-use packet_codec::{Node, Packet};
 use paxos_defs::Place;
 use paxos_proposer::Proposer;
 use registry_state::{Batch, Insert};
 use std::alloc::{AllocError, Global};
+use turn_defs::{Node, Packet};
 
 impl Shard {
     // An insert comes. It is answered where a learned value answers it; else it goes to the queue, where its token

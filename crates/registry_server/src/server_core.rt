@@ -6,9 +6,9 @@ use crate::shard::{LIMIT, Shard, Test};
 use crate::shards::{empty_shards, release_all};
 use crate::station::Station;
 use crate::turn::{Change, ServerInput, ServerNote, Turn};
-use packet_codec::{Node, Packet};
 use std::alloc::{AllocError, Global};
 use time_shards::Table;
+use turn_defs::{Node, Packet};
 
 /// The registry server of a site, between its turns. A turn is decided, its note written and its packets sent, and then
 /// it is kept.
@@ -25,11 +25,11 @@ pub struct ServerCore {
 
 impl ServerCore {
     ghost use Rattle.std.specs.Prelude.{◌≡◌, ◌<◌, ◌≤◌, ◌++◌, ◌∷◌, [], ℕ, length, IfOk, IfSome, Some, None, option_map};
-    ghost use Rattle.packet_codec.specs.declared.node.Input.{Input};
+    ghost use Rattle.turn_defs.specs.declared.node.Input.{Input};
     ghost use Rattle.registry_state.specs.declared.Insert.{Insert as Claim};
     ghost use Rattle.turn_defs.specs.Setting.{Setting, shards};
     ghost use Rattle.turn_defs.specs.Turns.{land};
-    ghost use Rattle.registry_server.specs.Server.{ServerKept, ServerLive, empty_shard, first_shard, land_server, server_own, server_tick, server_gets, server_turn, server_start, server_wants, server_unfinished, server_at_rest};
+    ghost use Rattle.turn_defs.specs.Server.{ServerKept, ServerLive, empty_shard, first_shard, land_server, server_own, server_tick, server_gets, server_turn, server_start, server_wants, server_unfinished, server_at_rest};
     ghost use Rattle.registry_server.specs.Stations.{setting, sent};
     ghost use Rattle.registry_server.specs.ShardStates.{passes};
     ghost use Rattle.registry_server.specs.Cores.{Stands, IsTurn, Gives, Decided, FitsChange, Carries, CarriesStart, MayStart, Serves, IsStart, Begins, changed, note_of, site_of, IsNew};

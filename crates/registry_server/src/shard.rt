@@ -3,7 +3,7 @@ ghost use Rattle.std.specs.Prelude.{◌≡◌, ◌-◌, ◌<◌, ◌≤◌, ◌^
 ghost use Rattle.id_expiry.specs.Timed.{room};
 ghost use Rattle.batch_queue.specs.Queue.{room as places};
 ghost use Rattle.turn_defs.specs.Setting.{Setting};
-ghost use Rattle.registry_server.specs.Server.{ShardState, empty_shard};
+ghost use Rattle.turn_defs.specs.Server.{ShardState, empty_shard};
 ghost use Rattle.registry_server.specs.Stations.{setting};
 ghost use Rattle.registry_server.specs.ShardStates.{IsShard, FitsStep, IsUnknown, TellsAnswered, stepped, passes, put_last};
 

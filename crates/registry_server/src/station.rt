@@ -24,7 +24,7 @@ impl Station {
     ghost use Rattle.std.specs.Prelude.{◌≡◌, ◌≤◌, ◌-◌};
     ghost use Rattle.turn_defs.specs.Setting.{Setting};
     ghost use Rattle.registry_server.specs.Stations.{setting};
-    ghost use Rattle.registry_server.specs.Server.{is_own_joiner};
+    ghost use Rattle.turn_defs.specs.Server.{is_own_joiner};
 
     // Whether this is the number of a joiner of this site.
     pub(crate) fn is_own_joiner(&self, number: u16) -> bool

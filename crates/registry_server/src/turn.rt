@@ -1,7 +1,7 @@
 // What a turn takes and gives.
 use crate::shard::{Shard, Step};
-use packet_codec::{Node, Packet};
 use std::alloc::Global;
+use turn_defs::{Node, Packet};
 
 /// What a server's turn takes.
 #[derive(Debug, Drop)]
@@ -48,7 +48,7 @@ impl Turn {
     ghost use Rattle.std.specs.Prelude.{◌≡◌};
     ghost use Rattle.turn_defs.specs.Setting.{Setting};
     ghost use Rattle.turn_defs.specs.Turns.{idle as no_row};
-    ghost use Rattle.registry_server.specs.Server.{ServerLive};
+    ghost use Rattle.turn_defs.specs.Server.{ServerLive};
     ghost use Rattle.registry_server.specs.Cores.{Gives, IsStep};
     ghost use Rattle.registry_server.specs.declared.turn.Change.TheVariants as change;
 

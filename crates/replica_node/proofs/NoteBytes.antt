@@ -9,8 +9,9 @@ use Rattle.ballot_core.specs.declared.Ballot.{Ballot}
 use Rattle.paxos_acceptor.specs.Cells.{place_of}
 use Rattle.paxos_acceptor.specs.declared.notes.ReplicaNote.{ReplicaNote}
 use Rattle.paxos_acceptor.specs.declared.notes.ReplicaNote.TheVariants.{Promised, Accepted}
-use Rattle.fields.specs.Spellings.{note, IsNote, batch, place, ballot}
-use Rattle.fields.proofs.NoteParts.{note_room}
+use Rattle.turn_defs.specs.Spellings.{batch, place, ballot}
+use Rattle.packet_codec.specs.Notes.{note, IsNote}
+use Rattle.packet_codec.proofs.NoteParts.{note_room}
 use Rattle.gate_journal.specs.Gate.{spans}
 use Rattle.replica_node.specs.Votes.{IsNoVote, IsFirstBad}
 

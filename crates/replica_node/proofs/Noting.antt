@@ -14,12 +14,13 @@ use Rattle.paxos_acceptor.specs.Cells.{place_of, note_view, note_for, note_by, c
 use Rattle.turn_defs.specs.Turns.{BallotNote, Voted}
 use Rattle.turn_defs.specs.Setting.{Setting}
 use Rattle.turn_defs.specs.Nodes.{Addressed}
-use Rattle.packet_codec.specs.declared.packet.Packet.{Packet}
-use Rattle.packet_codec.specs.declared.node.Node.{Node}
-use Rattle.packet_codec.specs.declared.node.To.TheVariants.{Only}
+use Rattle.turn_defs.specs.declared.packet.Packet.{Packet}
+use Rattle.turn_defs.specs.declared.node.Node.{Node}
+use Rattle.turn_defs.specs.declared.node.To.TheVariants.{Only}
 use Rattle.replica_node.specs.declared.turn.Turn.{Turn}
-use Rattle.replica_node.specs.Replica.{ReplicaKept, cell_at, note_at, land_replica, says}
-use Rattle.replica_node.specs.Core.{IsRow, Knows, kept_of, noted}
+use Rattle.turn_defs.specs.Replica.{ReplicaKept, cell_at, note_at, land_replica, says}
+use Rattle.replica_node.specs.Core.{IsRow, Knows, noted}
+use Rattle.site_node.specs.Replicas.{kept_of}
 
 -- the kept notes, with one more behind them
 abbrev pub with_note : ReplicaKept → ReplicaNote → ReplicaKept

@@ -10,30 +10,32 @@ use Rattle.paxos_defs.specs.Notes.Note.{Promised, Accepted}
 use Rattle.paxos_acceptor.specs.declared.notes.ReplicaNote.{ReplicaNote}
 use Rattle.paxos_acceptor.specs.declared.notes.ReplicaNote.TheVariants as replica
 use Rattle.paxos_acceptor.specs.Cells.{note_view}
-use Rattle.fields.specs.Spellings.{note, IsNote}
+use Rattle.packet_codec.specs.Notes.{note, IsNote}
 use Rattle.gate_journal.specs.Gate.{records, StandsFor, IsOldOrNew}
 use Rattle.gate_journal.specs.Opening.{IsOpened}
 use Rattle.gate_journal.specs.declared.journal.JournalState.{JournalState}
 use Rattle.gate_journal.specs.declared.journal.JournalState.TheVariants.{Ready}
 use Rattle.air_bus.specs.declared.entry.Input.{Input as Bytes}
 use Rattle.air_bus.specs.declared.entry.Input.TheVariants as bytes
-use Rattle.packet_codec.specs.declared.node.Input.{Input}
-use Rattle.packet_codec.specs.declared.node.Input.TheVariants.{Start, Own, Tick, Deliver}
+use Rattle.turn_defs.specs.declared.node.Input.{Input}
+use Rattle.turn_defs.specs.declared.node.Input.TheVariants.{Start}
 use Rattle.turn_defs.specs.Setting.{Setting}
 use Rattle.turn_defs.specs.Turns.{BallotNote, Note, Advance, Park, Settle, Epoch, Output, Voted, land}
-use Rattle.site_node.specs.Bytes.{record_of, Reads, IsInput, IsJunk}
-use Rattle.site_node.specs.States.{MayTake, row_of}
+use Rattle.site_node.specs.Bytes.{record_of, Reads, IsJunk}
+use Rattle.site_node.specs.States.{MayTake}
 use Rattle.site_node.specs.declared.roster.Roster.{Roster}
 use Rattle.site_node.specs.Rosters.{IsOf}
-use Rattle.replica_node.specs.Replica.{ReplicaKept, land_replica}
-use Rattle.replica_node.specs.Core.{kept_of, noted}
-use Rattle.replica_node.specs.Node.{ReplicaState, VoterView, Knows, KnowsAs, Fits, IsVoted, vote_record, records_of, counted, framed_note, replica_rows, Holds, OnDiskOr, IsRecord, StandsAt}
+use Rattle.turn_defs.specs.Replica.{ReplicaKept, land_replica}
+use Rattle.replica_node.specs.Core.{noted}
+use Rattle.site_node.specs.Replicas.{kept_of}
+use Rattle.replica_node.specs.Node.{VoterView, Knows, KnowsAs, Fits, counted, framed_note, Holds, OnDiskOr, IsRecord, StandsAt}
+use Rattle.site_node.specs.Replicas.{ReplicaState, IsVoted, vote_record, records_of}
 use Rattle.replica_node.specs.Votes.{IsOfNotes, IsBadVote, IsUndamaged}
 use Rattle.replica_node.proofs.NoteBytes.{none_bad}
 use Rattle.gate_journal.specs.declared.reading.JournalFault.{JournalFault}
 use Rattle.gate_journal.specs.declared.reading.JournalFault.TheVariants.{Damaged, Disk, Memory}
-use Rattle.replica_node.proofs.Spelled.{IsRowNote, IsSpelledOut, idle_ok, gets_ok}
-use Rattle.replica_node.proofs.Voters.{views_ok}
+use Rattle.site_node.proofs.Replicas.{IsRowNote}
+use Rattle.site_node.proofs.Replicas.{views_ok}
 
 pub none_of : {A : Type 0} (o : Option A) → is_some o ≡ false → o ≡ None
 none_of None off = refl
@@ -186,12 +188,6 @@ new_count ns k r kept count e counts is fits =
 
 -- ---- inputs and rows
 
-pub input_ok : (g : Setting) (b : Bytes) (i : Input) → Reads g b i → IsInput i
-input_ok g bytes.Start i reads = subst IsInput (sym reads) tt
-input_ok g bytes.Own i reads = subst IsInput (sym reads) tt
-input_ok g bytes.Tick i reads = subst IsInput (sym reads) tt
-input_ok g (bytes.Packet from p) i reads = subst IsInput (sym reads.5) reads.3
-
 pub fits_of : (g : Setting) (live : Option (Unit {0})) (b : Bytes) (i : Input) → Reads g b i → MayTake live b → Fits live i
 fits_of g None bytes.Start i reads may = subst (Fits None) (sym reads) tt
 fits_of g None bytes.Own i reads may = absurd may
@@ -208,13 +204,6 @@ up_of g None bytes.Own may junk = absurd may
 up_of g None bytes.Tick may junk = absurd may
 up_of g None (bytes.Packet from p) may junk = absurd may
 up_of g (Some l) b may junk = refl
-
-pub row_ok : (g : Setting) (k : ReplicaKept) (live : Option (Unit {0})) (i : Input) → Each IsVoted k.notes → IsInput i → IsSpelledOut (row_of replica_rows g k live i)
-row_ok g k None i all is = idle_ok
-row_ok g k (Some l) Start all is = idle_ok
-row_ok g k (Some l) Own all is = idle_ok
-row_ok g k (Some l) Tick all is = idle_ok
-row_ok g k (Some l) (Deliver from p) all is = gets_ok k from p all is
 
 pub noted_bytes : (o : Option ReplicaNote) → option_map note o ≡ option_map record_of (noted o)
 noted_bytes None = refl

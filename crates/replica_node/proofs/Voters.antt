@@ -1,25 +1,21 @@
 -- What a voter knows, and the rows of its turns.
 use Rattle.std.proofs.Common.{◌≡◌, Bool, true, false, List, [], ◌∷◌, Option, Some, None, sym, subst}
-use Rattle.std.specs.Prelude.{All, map, IfOk, Result, Ok, Err}
-use Rattle.std.proofs.lemmas.List.Elements.{All-head, All-tail}
-use Rattle.list_words.specs.Lists.{Each}
+use Rattle.std.specs.Prelude.{IfOk, Result, Ok, Err}
 use Rattle.paxos_acceptor.specs.declared.notes.ReplicaNote.{ReplicaNote}
-use Rattle.paxos_acceptor.specs.declared.notes.ReplicaNote.TheVariants.{Promised, Accepted}
-use Rattle.paxos_acceptor.specs.Cells.{note_view}
-use Rattle.fields.specs.Spellings.{IsNote}
-use Rattle.packet_codec.specs.declared.packet.Packet.{Packet}
-use Rattle.packet_codec.specs.declared.node.Node.{Node}
-use Rattle.packet_codec.specs.declared.node.Input.{Input}
-use Rattle.packet_codec.specs.declared.node.Input.TheVariants.{Start, Deliver}
-use Rattle.packet_codec.specs.Packets.{IsPacket}
+use Rattle.turn_defs.specs.declared.packet.Packet.{Packet}
+use Rattle.turn_defs.specs.declared.node.Node.{Node}
+use Rattle.turn_defs.specs.declared.node.Input.{Input}
+use Rattle.turn_defs.specs.declared.node.Input.TheVariants.{Start, Deliver}
+use Rattle.turn_defs.specs.Packets.{IsPacket}
 use Rattle.turn_defs.specs.Setting.{Setting}
 use Rattle.site_node.specs.Bytes.{IsInput}
 use Rattle.site_node.specs.States.{row_of}
-use Rattle.replica_node.specs.Replica.{ReplicaKept, replica_start, replica_gets}
+use Rattle.turn_defs.specs.Replica.{ReplicaKept, replica_start, replica_gets}
 use Rattle.replica_node.specs.Core.{IsRow, Stands}
 use Rattle.replica_node.specs.declared.replica_core.ReplicaCore.{ReplicaCore}
 use Rattle.replica_node.specs.declared.turn.Turn.{Turn}
-use Rattle.replica_node.specs.Node.{VoterView, Knows, KnowsAs, Fits, IsVoted, replica_rows}
+use Rattle.replica_node.specs.Node.{VoterView, Knows, KnowsAs, Fits}
+use Rattle.site_node.specs.Replicas.{replica_rows}
 
 pub both : {T E : Type 0} (r : Result T E) (P Q : T → Type 0) → IfOk r P → IfOk r Q → IfOk r (λ x. P x × Q x)
 both (Ok x) P Q p q = (p, q)
@@ -53,11 +49,3 @@ gets_row i from p g k live turn e fits row = subst (λ (j : Input). Fits live j 
 
 pub is_packet : (i : Input) (from : Node) (p : Packet) → i ≡ Deliver from p → IsInput i → IsPacket p
 is_packet i from p e is = subst IsInput e is
-
-view_ok : (n : ReplicaNote) → IsNote n → IsVoted (note_view n)
-view_ok (Promised s l b) is = is
-view_ok (Accepted s l b v) is = is
-
-pub views_ok : (ns : List ReplicaNote) → All IsNote ns → Each IsVoted (map note_view ns)
-views_ok [] all = tt
-views_ok (n ∷ ns) all = (view_ok n (All-head IsNote n ns all), views_ok ns (All-tail IsNote n ns all))

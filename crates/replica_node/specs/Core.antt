@@ -1,26 +1,23 @@
 -- A replica's core beside the rows of its turns: what it stands for, what an input carries, what a turn says and does.
-use Rattle.std.specs.Prelude.{◌≡◌, ◌<◌, map, List, Option, Some, None, option_map, ⊤}
+use Rattle.std.specs.Prelude.{◌≡◌, ◌<◌, Option, Some, None, option_map, ⊤}
 use Rattle.paxos_defs.specs.declared.Place.{Place}
 use Rattle.paxos_acceptor.specs.declared.acceptor.Acceptor.{Acceptor}
 use Rattle.paxos_acceptor.specs.declared.notes.ReplicaNote.{ReplicaNote}
 use Rattle.paxos_acceptor.specs.Cells as cells
 use Rattle.paxos_acceptor.specs.Cells.{note_view, room}
-use Rattle.packet_codec.specs.declared.node.Input.{Input}
-use Rattle.packet_codec.specs.declared.node.Input.TheVariants.{Start, Own, Tick, Deliver}
+use Rattle.turn_defs.specs.declared.node.Input.{Input}
+use Rattle.turn_defs.specs.declared.node.Input.TheVariants.{Start, Own, Tick, Deliver}
 use Rattle.turn_defs.specs.Setting.{Setting}
 use Rattle.turn_defs.specs.Nodes.{Addressed}
 use Rattle.turn_defs.specs.Turns.{Note, Voted, Out}
-use Rattle.replica_node.specs.Replica.{ReplicaKept, cell_at, replica_start, replica_turn}
+use Rattle.site_node.specs.Replicas.{kept_of}
+use Rattle.turn_defs.specs.Replica.{ReplicaKept, cell_at, replica_start, replica_turn}
 use Rattle.replica_node.specs.declared.input.ReplicaInput.{ReplicaInput}
 use Rattle.replica_node.specs.declared.input.ReplicaInput.TheVariants as input
 use Rattle.replica_node.specs.declared.turn.Change.{Change}
 use Rattle.replica_node.specs.declared.turn.Change.TheVariants.{Stays, Starts}
 use Rattle.replica_node.specs.declared.turn.Turn.{Turn}
 use Rattle.replica_node.specs.declared.replica_core.ReplicaCore.{ReplicaCore}
-
--- what a disk holds that has these notes
-abbrev pub kept_of : List ReplicaNote → ReplicaKept
-kept_of notes = record { notes = map note_view notes }
 
 -- the acceptor knows of each place what the kept notes say
 abbrev pub Knows : Acceptor → ReplicaKept → Type 0

@@ -4,7 +4,8 @@ use Rattle.gate_journal.specs.Gate.{StandsFor}
 use Rattle.gate_journal.specs.declared.journal.JournalState.{JournalState}
 use Rattle.site_node.specs.States.{written}
 use Rattle.site_node.specs.declared.roster.Roster.{Roster}
-use Rattle.replica_node.specs.Node.{ReplicaState, VoterView, StandsAt, KeptOn, OnDisk, replica_rows}
+use Rattle.replica_node.specs.Node.{VoterView, StandsAt}
+use Rattle.site_node.specs.Replicas.{ReplicaState, KeptOn, OnDisk, replica_rows}
 
 -- what the state keeps, as it is
 pub kept_now : (s : ReplicaState) (c : List ℕ) → OnDisk s.kept c → KeptOn s c

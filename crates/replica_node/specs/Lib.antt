@@ -1,4 +1,3 @@
-pub mod Replica
 pub mod Core
 pub mod Rows
 pub mod Node

@@ -1,50 +1,31 @@
 -- A replica over its disk, beside the states that its entries lead through.
-use Rattle.std.specs.Prelude.{◌≡◌, ◌⊎◌, ◌≤◌, ◌-◌, ◌^◌, min, ℕ, List, [], ◌∷◌, ◌++◌, map, length, Bool, true, false, Option, Some, None}
+use Rattle.std.specs.Prelude.{◌≡◌, ◌⊎◌, ◌≤◌, ◌-◌, ◌^◌, min, ℕ, List, [], ◌∷◌, ◌++◌, length, Bool, true, false, Option, Some, None}
 use Rattle.list_words.specs.Lists.{Each}
-use Rattle.paxos_defs.specs.Notes.Note.{Promised, Accepted}
 use Rattle.paxos_acceptor.specs.declared.notes.ReplicaNote.{ReplicaNote}
-use Rattle.fields.specs.Spellings.{IsPlace, IsBallot, IsBatch, note, IsNote}
+use Rattle.packet_codec.specs.Notes.{note, IsNote}
 use Rattle.gate_journal.specs.Gate.{records, StandsFor, IsOldOrNew}
 use Rattle.gate_journal.specs.Disk.{HasRoom}
 use Rattle.gate_journal.specs.declared.journal.JournalState.{JournalState}
 use Rattle.gate_journal.specs.declared.journal.JournalState.TheVariants.{Ready}
 use Rattle.air_bus.specs.declared.entry.Input.{Input as Bytes}
-use Rattle.packet_codec.specs.declared.node.Input.{Input}
-use Rattle.packet_codec.specs.declared.node.Input.TheVariants.{Start, Own, Tick, Deliver}
+use Rattle.turn_defs.specs.declared.node.Input.{Input}
+use Rattle.turn_defs.specs.declared.node.Input.TheVariants.{Start, Own, Tick, Deliver}
 use Rattle.turn_defs.specs.Setting.{Setting}
-use Rattle.turn_defs.specs.Turns.{BallotNote, Voted, land}
-use Rattle.site_node.specs.Bytes.{record_of, IsNoted, AreSpelled, Reads}
-use Rattle.site_node.specs.States.{State, Rows, row, written, MayHold}
+use Rattle.turn_defs.specs.Turns.{land}
+use Rattle.site_node.specs.Bytes.{IsNoted, AreSpelled, Reads}
+use Rattle.site_node.specs.States.{row, written}
 use Rattle.site_node.specs.declared.roster.Roster.{Roster}
 use Rattle.site_node.specs.Rosters.{IsOf}
-use Rattle.replica_node.specs.Replica.{ReplicaKept, replica_start, replica_turn, land_replica}
-use Rattle.replica_node.specs.Core.{Stands, GoesOn, HasRoomFor, kept_of, noted}
+use Rattle.site_node.specs.Replicas.{ReplicaState, IsVoted, records_of, OnDisk, kept_of, replica_rows}
+use Rattle.turn_defs.specs.Replica.{ReplicaKept, land_replica}
+use Rattle.replica_node.specs.Core.{Stands, GoesOn, HasRoomFor, noted}
 use Rattle.replica_node.specs.declared.turn.Turn.{Turn}
 use Rattle.replica_node.specs.declared.turn.Change.{Change}
 use Rattle.replica_node.specs.declared.replica_core.ReplicaCore.{ReplicaCore}
 
--- the rows of a replica as those of a kind of node
-abbrev pub replica_rows : Rows ReplicaKept (Unit {0})
-replica_rows = record { start = replica_start; turn = λ g k l i. replica_turn k i; lands = land_replica }
-
-abbrev pub ReplicaState : Type 0
-ReplicaState = State ReplicaKept (Unit {0})
-
--- the parts of a note have spellings
-abbrev pub IsVoted : BallotNote → Type 0
-IsVoted (Promised at b) = IsPlace at × IsBallot b
-IsVoted (Accepted at b v) = IsPlace at × IsBallot b × IsBatch v
-
 abbrev pub IsNotedSo : Option ReplicaNote → Type 0
 IsNotedSo None = Unit {0}
 IsNotedSo (Some n) = IsNote n
-
--- the records of the kept notes
-abbrev pub vote_record : BallotNote → List ℕ
-vote_record n = record_of (Voted n)
-
-abbrev pub records_of : ReplicaKept → List (List ℕ)
-records_of k = map vote_record k.notes
 
 -- what contracts see of a voter
 pub record VoterView : Type 0 where
@@ -90,17 +71,9 @@ pub record IsSpelledTurn (core : ReplicaCore) (change : Change) (written_note : 
 abbrev pub counted : ReplicaKept → ℕ
 counted k = min (length k.notes) (2 ^ 64 - 1)
 
--- the disk's bytes hold these notes
-abbrev pub OnDisk : ReplicaKept → List ℕ → Type 0
-OnDisk k bytes = StandsFor (records_of k) bytes
-
 -- these notes, or those and this one
 abbrev pub OnDiskOr : ReplicaKept → Option ReplicaNote → List ℕ → Type 0
 OnDiskOr k n bytes = OnDisk k bytes ⊎ OnDisk (land land_replica (noted n) k) bytes
-
--- the disk's bytes hold what the state keeps, or that and the note of its open turn
-abbrev pub KeptOn : ReplicaState → List ℕ → Type 0
-KeptOn s bytes = (k : ReplicaKept) × MayHold replica_rows s k × OnDisk k bytes
 
 -- no disk of a replica is ever beyond its last epoch
 abbrev pub never_spent : ReplicaState → Bytes → Option ℕ

@@ -3,12 +3,12 @@ ghost use Rattle.std.specs.Prelude.{◌≡◌};
 ghost use Rattle.paxos_acceptor.specs.Cells.{prepared_as, taken_as};
 ghost use Rattle.paxos_defs.specs.Turns as turns;
 ghost use Rattle.registry_state.specs.declared.Batch.{Batch as Value};
-ghost use Rattle.replica_node.specs.Replica as rows;
+ghost use Rattle.turn_defs.specs.Replica as rows;
 
 use ballot_core::Ballot;
-use packet_codec::Packet;
 use paxos_acceptor::{Prepared, Taken};
 use paxos_defs::Place;
+use turn_defs::Packet;
 
 // A promise tells what was accepted before; a refusal tells the higher ballot that was promised.
 pub(crate) fn prepared(place: Place, ballot: Ballot, answer: Prepared) -> Packet

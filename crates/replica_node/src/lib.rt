@@ -1,5 +1,5 @@
 //! A replica: it promises and accepts ballots, place by place, and writes each promise and each acceptance down before
-//! it answers. The rows of its turns stand in `specs/Replica.antt`.
+//! it answers. The rows of its turns stand in `Replica.antt` of `turn_defs`.
 #![tactic(auto)]
 
 mod answers;

@@ -6,20 +6,20 @@ ghost use Rattle.gate_journal.specs.declared.journal.JournalState.TheVariants.{R
 ghost use Rattle.gate_journal.specs.Gate.{StandsFor};
 ghost use Rattle.gate_journal.specs.Opening.{IsOpened};
 ghost use Rattle.gate_journal.specs.Growth.{Continues};
-ghost use Rattle.fields.specs.Spellings.{note as note_spelled, IsNote};
+ghost use Rattle.packet_codec.specs.Notes.{note as note_spelled, IsNote};
 ghost use Rattle.replica_node.specs.Votes.{IsOfNotes, IsUndamaged};
 
 use crate::Turn;
 use crate::voter::Voter;
 use crate::votes::{read_votes, vote_frame};
 use air_bus::{Input as Begun, Packets, Payload};
-use fields::Field;
 use gate_journal::{Frame, Journal, JournalFault};
 use outside::{Disk, DiskName, Gate, Point};
-use packet_codec::Input;
+use packet_codec::Field;
 use paxos_acceptor::ReplicaNote;
 use site_node::{Done, NodeFault, Roster, SiteNode, read_input, spell};
 use std::alloc::{AllocError, Global};
+use turn_defs::Input;
 
 /// A replica over its journal: down, up, or stopped in an open turn.
 ///
@@ -55,18 +55,19 @@ impl<D: Disk> ReplicaNode<D> {
     ghost use Rattle.gate_journal.specs.Gate.{StandsFor};
     ghost use Rattle.gate_journal.specs.Opening.{IsOpened};
     ghost use Rattle.gate_journal.specs.Growth.{Continues};
-    ghost use Rattle.fields.specs.Spellings.{note as note_spelled, IsNote};
+    ghost use Rattle.packet_codec.specs.Notes.{note as note_spelled, IsNote};
     ghost use Rattle.turn_defs.specs.Setting.{Setting};
     ghost use Rattle.turn_defs.specs.Turns.{land};
     ghost use Rattle.site_node.specs.Bytes.{IsInput};
     ghost use Rattle.site_node.specs.Rosters.{IsOf};
     ghost use Rattle.site_node.specs.States.{row_of};
     ghost use Rattle.site_node.specs.Faults.{IsOfRestart, IsWhole};
-    ghost use Rattle.replica_node.specs.Replica.{ReplicaKept, land_replica};
+    ghost use Rattle.turn_defs.specs.Replica.{ReplicaKept, land_replica};
     ghost use Rattle.replica_node.specs.Core.{noted, IsRow, GoesOn};
     ghost use Rattle.replica_node.specs.Votes.{IsOfNotes};
     ghost use Rattle.paxos_acceptor.specs.declared.notes.ReplicaNote.{ReplicaNote};
-    ghost use Rattle.replica_node.specs.Node.{StandsAt, Holds, HoldsOr, OnDiskOr, Knows, Fits, framed_note, IsShort, IsReady, IsRoomFor, replica_rows, down_over};
+    ghost use Rattle.replica_node.specs.Node.{StandsAt, Holds, HoldsOr, OnDiskOr, Knows, Fits, framed_note, IsShort, IsReady, IsRoomFor, down_over};
+    ghost use Rattle.site_node.specs.Replicas.{replica_rows};
 
     /// A replica that is down, over a journal with these notes. It takes no memory.
     pub fn new(
@@ -249,11 +250,12 @@ fn reopen_notes<D: Disk>(
 
 impl<D: Disk> SiteNode for ReplicaNode<D> {
     ghost use Rattle.std.specs.Prelude.{◌≡◌, ◌+◌, is_some, List, ℕ};
-    ghost use Rattle.replica_node.specs.Replica.{replica_at_rest, replica_unfinished, replica_wants};
+    ghost use Rattle.turn_defs.specs.Replica.{replica_at_rest, replica_unfinished, replica_wants};
     ghost use Rattle.site_node.specs.States.{Leads, state_phase, Says};
     ghost use Rattle.site_node.specs.Paths.{begins as begins_by, phase_led};
     ghost use Rattle.gate_journal.specs.Growth.{Continues};
-    ghost use Rattle.replica_node.specs.Node.{ReplicaState, StandsAt, KeptOn, never_spent, replica_rows};
+    ghost use Rattle.replica_node.specs.Node.{StandsAt, never_spent};
+    ghost use Rattle.site_node.specs.Replicas.{ReplicaState, KeptOn, replica_rows};
     ghost use Rattle.replica_node.specs.Kept.{kept_images};
 
     ghost tells = { D.tells };

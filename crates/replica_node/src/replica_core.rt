@@ -5,8 +5,9 @@ ghost use Rattle.paxos_defs.specs.Turns.{on_accept, on_prepare};
 ghost use Rattle.registry_state.specs.Same.{same_batch};
 ghost use Rattle.turn_defs.specs.Setting.{Setting};
 ghost use Rattle.turn_defs.specs.Turns.{land};
-ghost use Rattle.replica_node.specs.Replica.{ReplicaKept, accepts, cell_at, land_replica, prepares, replica_at_rest, replica_gets, replica_start, replica_unfinished, replica_wants};
-ghost use Rattle.replica_node.specs.Core.{Carries, GoesOn, HasRoomFor, HasRoomIn, IsRow, Stands, asked, kept_of, noted, row_of};
+ghost use Rattle.turn_defs.specs.Replica.{ReplicaKept, accepts, cell_at, land_replica, prepares, replica_at_rest, replica_gets, replica_start, replica_unfinished, replica_wants};
+ghost use Rattle.replica_node.specs.Core.{Carries, GoesOn, HasRoomFor, HasRoomIn, IsRow, Stands, asked, noted, row_of};
+ghost use Rattle.site_node.specs.Replicas.{kept_of};
 ghost use Rattle.replica_node.specs.declared.turn.Change.TheVariants.{Stays};
 
 use crate::answers::{prepared, taken};
@@ -14,11 +15,11 @@ use crate::replay::replay;
 use crate::turn::Change;
 use crate::{ReplicaInput, Turn};
 use ballot_core::Ballot;
-use packet_codec::{Node, Packet};
 use paxos_acceptor::{Acceptor, ReplicaNote};
 use paxos_defs::Place;
 use registry_state::Batch;
 use std::alloc::{AllocError, Global};
+use turn_defs::{Node, Packet};
 
 /// A replica while it is up: what its journal's notes say of each place.
 ///

@@ -1,6 +1,6 @@
-use packet_codec::{Node, Packet};
 use paxos_acceptor::{Acceptor, ReplicaNote};
 use std::alloc::Global;
+use turn_defs::{Node, Packet};
 
 /// What a turn writes and sends. The note has to stand in the journal before the turn is kept, and before a packet goes
 /// out.

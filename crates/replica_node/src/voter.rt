@@ -1,10 +1,10 @@
 // A replica that is up or down, and what it keeps has spellings.
 use crate::turn::Change;
 use crate::{ReplicaCore, Turn};
-use packet_codec::Input;
 use paxos_acceptor::ReplicaNote;
 use std::alloc::{AllocError, Global};
 use std::marker::Model;
+use turn_defs::Input;
 
 // The core, while the replica is up; while it is down, the notes that its start goes on from. What it kept has
 // spellings, so what it sends has them.
@@ -18,7 +18,7 @@ pub(crate) struct Voter {
 
 impl Model for Voter {
     ghost use Rattle.std.specs.Prelude.{All};
-    ghost use Rattle.fields.specs.Spellings.{IsNote};
+    ghost use Rattle.packet_codec.specs.Notes.{IsNote};
     ghost use Rattle.replica_node.specs.Node.{VoterView, IsSpelledCore};
     ghost use Rattle.std.specs.Coded.{codes};
     ghost use Rattle.replica_node.specs.contracts.replica_core.ReplicaCore as core_row;
@@ -34,17 +34,18 @@ impl Model for Voter {
 
 impl Voter {
     ghost use Rattle.std.specs.Prelude.{◌≡◌, [], Option, All, IfOk, true, false};
-    ghost use Rattle.fields.specs.Spellings.{IsNote};
-    ghost use Rattle.packet_codec.specs.Packets.{IsPacket};
-    ghost use Rattle.packet_codec.specs.declared.packet.Packet.{Packet};
-    ghost use Rattle.packet_codec.specs.declared.node.Node.{Node};
+    ghost use Rattle.packet_codec.specs.Notes.{IsNote};
+    ghost use Rattle.turn_defs.specs.Packets.{IsPacket};
+    ghost use Rattle.turn_defs.specs.declared.packet.Packet.{Packet};
+    ghost use Rattle.turn_defs.specs.declared.node.Node.{Node};
     ghost use Rattle.site_node.specs.Bytes.{IsInput};
     ghost use Rattle.site_node.specs.States.{row_of};
     ghost use Rattle.turn_defs.specs.Setting.{Setting};
     ghost use Rattle.turn_defs.specs.Turns.{land};
-    ghost use Rattle.replica_node.specs.Replica.{ReplicaKept, land_replica};
+    ghost use Rattle.turn_defs.specs.Replica.{ReplicaKept, land_replica};
     ghost use Rattle.replica_node.specs.Core.{GoesOn, HasRoomFor, IsRow, Stands, noted};
-    ghost use Rattle.replica_node.specs.Node.{Fits, Knows, IsSpelledTurn, replica_rows};
+    ghost use Rattle.replica_node.specs.Node.{Fits, Knows, IsSpelledTurn};
+    ghost use Rattle.site_node.specs.Replicas.{replica_rows};
 
     // A replica that is down, over these notes.
     pub(crate) fn new(alloc: Global, notes: Vec<ReplicaNote>) -> Voter

@@ -1,13 +1,13 @@
 // Notes and their records.
 ghost use Rattle.std.specs.Prelude.{◌≡◌, ◌≤◌, ◌^◌, All, map, length, IfOk, IfErr, IfSome, IfNone};
 ghost use Rattle.gate_journal.specs.Gate.{spans};
-ghost use Rattle.fields.specs.Spellings.{note as note_spelled, IsNote};
+ghost use Rattle.packet_codec.specs.Notes.{note as note_spelled, IsNote};
 ghost use Rattle.replica_node.specs.Node.{framed_note, IsNotedSo, IsShort};
 ghost use Rattle.replica_node.specs.Votes.{IsNoVote, IsBadVote};
 
 use air_bus::Payload;
-use fields::{Field, FieldFault};
 use gate_journal::{Frame, JournalFault};
+use packet_codec::{Field, FieldFault};
 use paxos_acceptor::ReplicaNote;
 use std::alloc::{AllocError, Global};
 use wire_core::{Bytes, Reader};

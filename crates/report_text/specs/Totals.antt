@@ -1,8 +1,8 @@
 -- Counting lines by kind.
 use Rattle.std.specs.Prelude.{List}
 use Rattle.std.specs.List.{count_by}
-use Rattle.log_defs.specs.declared.ReportLine.{ReportLine}
-use Rattle.log_defs.specs.Report.{is_joined, is_missing, is_expired, is_unmatched}
+use Rattle.log_records.specs.declared.report.ReportLine.{ReportLine}
+use Rattle.log_records.specs.Report.{is_joined, is_missing, is_expired, is_unmatched}
 use Rattle.report_text.specs.declared.totals.Totals.{Totals}
 
 abbrev pub totals_of : List ReportLine → Totals

@@ -6,6 +6,6 @@ mod report;
 mod stream;
 mod totals;
 
-pub use log_defs::ReportLine;
+pub use log_records::ReportLine;
 pub use report::{write_report, write_totals};
 pub use stream::write_all;

@@ -3,8 +3,8 @@ ghost use Rattle.std.specs.Prelude.{◌≡◌, ◌++◌, OnOk, OnErr, IsErr, IsT
 ghost use Rattle.std.specs.List.{flat_map};
 ghost use Rattle.event_id.specs.EventId.{spell};
 ghost use Rattle.log_records.specs.Log.{line_feed};
-ghost use Rattle.log_defs.specs.Report.{line_text, text_of, totals};
-ghost use Rattle.log_defs.specs.declared.ReportLine.TheVariants.{J};
+ghost use Rattle.log_records.specs.Report.{line_text, text_of, totals};
+ghost use Rattle.log_records.specs.declared.report.ReportLine.TheVariants.{J};
 ghost use Rattle.outside.specs.Faults.{Counts};
 ghost use Rattle.report_text.specs.Stream.{Passed, TookPrefix};
 
@@ -12,8 +12,7 @@ use crate::buffer::Buffer;
 use crate::stream::{flush, put_all};
 use crate::totals::Totals;
 use event_id::{EventId, MAX_TEXT};
-use log_defs::ReportLine;
-use log_records::{ClickRec, QueryRec};
+use log_records::{ClickRec, QueryRec, ReportLine};
 use outside::{Sink, WriteFault};
 
 /// Writes each line, and then the totals line. At a fault a prefix of the bytes went out.

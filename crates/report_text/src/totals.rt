@@ -1,8 +1,8 @@
 // How many lines there are of each kind.
 ghost use Rattle.std.specs.Prelude.{◌≡◌, ◌<◌, ◌^◌};
-ghost use Rattle.log_defs.specs.declared.ReportLine.{ReportLine as Line};
+ghost use Rattle.log_records.specs.declared.report.ReportLine.{ReportLine as Line};
 
-use log_defs::ReportLine;
+use log_records::ReportLine;
 
 #[derive(Clone, Copy, Debug, PartialEq, Eq, Default)]
 pub struct Totals {

@@ -17,26 +17,26 @@ use Rattle.ballot_core.specs.declared.Ballot.{Ballot}
 use Rattle.paxos_defs.specs.declared.Place.{Place}
 use Rattle.paxos_defs.specs.Attempts.{Phase, on_promise, on_accepted}
 use Rattle.paxos_defs.specs.Attempts.Phase.{Promising, Accepting, Ended}
-use Rattle.packet_codec.specs.declared.packet.Packet.{Packet}
-use Rattle.packet_codec.specs.declared.packet.Packet.TheVariants as packet
-use Rattle.packet_codec.specs.declared.packet.Outcome.{Outcome}
-use Rattle.packet_codec.specs.declared.packet.Outcome.TheVariants as outcome
-use Rattle.packet_codec.specs.declared.node.Node.{Node}
-use Rattle.packet_codec.specs.declared.node.Node.TheVariants.{Dispatcher, Server, Replica, Joiner}
-use Rattle.packet_codec.specs.declared.node.To.{To}
-use Rattle.packet_codec.specs.declared.node.To.TheVariants.{Only, AnyJoiner}
-use Rattle.packet_codec.specs.declared.node.Input.{Input}
-use Rattle.packet_codec.specs.declared.node.Input.TheVariants.{Start, Own, Tick, Deliver}
+use Rattle.turn_defs.specs.declared.packet.Packet.{Packet}
+use Rattle.turn_defs.specs.declared.packet.Packet.TheVariants as packet
+use Rattle.turn_defs.specs.declared.packet.Outcome.{Outcome}
+use Rattle.turn_defs.specs.declared.packet.Outcome.TheVariants as outcome
+use Rattle.turn_defs.specs.declared.node.Node.{Node}
+use Rattle.turn_defs.specs.declared.node.Node.TheVariants.{Dispatcher, Server, Replica, Joiner}
+use Rattle.turn_defs.specs.declared.node.To.{To}
+use Rattle.turn_defs.specs.declared.node.To.TheVariants.{Only, AnyJoiner}
+use Rattle.turn_defs.specs.declared.node.Input.{Input}
+use Rattle.turn_defs.specs.declared.node.Input.TheVariants.{Start, Own, Tick, Deliver}
 use Rattle.turn_defs.specs.Setting.{Setting, first_joiner, shard, shards, site_of_joiner}
 use Rattle.turn_defs.specs.Nodes.{IsNode, IsTo, Addressed}
 use Rattle.turn_defs.specs.Turns.{Out}
-use Rattle.dispatch_core.specs.Dispatcher as d
-use Rattle.dispatch_core.specs.Dispatcher.{DispatcherKept, DispatcherLive, Fresh}
-use Rattle.joiner_core.specs.Joiner as j
-use Rattle.joiner_core.specs.Joiner.{JoinerKept, JoinerLive, Flight}
-use Rattle.registry_server.specs.Server as s
-use Rattle.registry_server.specs.Server.{ServerKept, ServerLive, ShardState, Proposal}
-use Rattle.replica_node.specs.Replica.{ReplicaKept, replica_gets}
+use Rattle.turn_defs.specs.Dispatcher as d
+use Rattle.turn_defs.specs.Dispatcher.{DispatcherKept, DispatcherLive, Fresh}
+use Rattle.turn_defs.specs.Joiner as j
+use Rattle.turn_defs.specs.Joiner.{JoinerKept, JoinerLive, Flight}
+use Rattle.turn_defs.specs.Server as s
+use Rattle.turn_defs.specs.Server.{ServerKept, ServerLive, ShardState, Proposal}
+use Rattle.turn_defs.specs.Replica.{ReplicaKept, replica_gets}
 use Rattle.site_node.specs.States.{row_of}
 use Rattle.site_laws.specs.Kinds.{KeptOf, LiveOf, rows_of}
 

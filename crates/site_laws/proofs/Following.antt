@@ -7,12 +7,12 @@ use Rattle.list_words.specs.Lists.{Mem}
 use Rattle.list_words.proofs.Lists.{mem_left, mem_right, mem_split, each_at, some_same, none_some}
 use Rattle.turn_defs.specs.Setting.{Setting}
 use Rattle.turn_defs.specs.Nodes.{IsNode, node_number, node_of, NumbersAreNodes}
-use Rattle.packet_codec.specs.declared.packet.Packet.{Packet}
-use Rattle.packet_codec.specs.Packets.{packet, IsPacket}
-use Rattle.packet_codec.specs.Nodes.{Sent}
-use Rattle.packet_codec.specs.declared.node.Node.{Node}
-use Rattle.packet_codec.specs.declared.node.Input.{Input}
-use Rattle.packet_codec.specs.declared.node.Input.TheVariants.{Start, Own, Tick, Deliver}
+use Rattle.turn_defs.specs.declared.packet.Packet.{Packet}
+use Rattle.turn_defs.specs.Packets.{packet, IsPacket}
+use Rattle.turn_defs.specs.Sent.{Sent}
+use Rattle.turn_defs.specs.declared.node.Node.{Node}
+use Rattle.turn_defs.specs.declared.node.Input.{Input}
+use Rattle.turn_defs.specs.declared.node.Input.TheVariants.{Start, Own, Tick, Deliver}
 use Rattle.air_bus.specs.declared.entry.Input.{Input as Bytes}
 use Rattle.air_bus.specs.declared.entry.Input.TheVariants as bytes
 use Rattle.air_bus.specs.declared.entry.Entry.{Entry as BusEntry}
@@ -21,7 +21,7 @@ use Rattle.air_bus.specs.History.{node_of as number_in}
 use Rattle.air_bus.specs.Laws.{Sent as BusSent, sent, sent_by, sent_to, DeliveredWasSent}
 use Rattle.site_node.specs.Bytes.{addressed, Reads}
 use Rattle.site_node.specs.States.{Path}
-use Rattle.photon_defs.specs.Runs.{World, Entry, Disks, after, world_after, sends, WasSent, May, IsRun, opening}
+use Rattle.photon_model.specs.Runs.{World, Entry, Disks, after, world_after, sends, WasSent, May, IsRun, opening}
 use Rattle.site_laws.specs.Kinds.{StateOf, rows_of, cell_of}
 use Rattle.site_laws.specs.Meaning.{Means, AllMean, OpenedAs, StandsFor}
 use Rattle.site_laws.specs.Laws.{made_by, EachWalked, IsRunOf}

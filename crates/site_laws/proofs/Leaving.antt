@@ -4,15 +4,15 @@ use Rattle.std.specs.Prelude.{is_some, if◌then◌else◌}
 use Rattle.turn_defs.specs.Setting.{Setting}
 use Rattle.turn_defs.specs.Nodes.{IsNode}
 use Rattle.turn_defs.specs.Turns.{Note, Out, land}
-use Rattle.packet_codec.specs.declared.node.Node.{Node}
-use Rattle.packet_codec.specs.declared.node.Node.TheVariants.{Dispatcher, Server, Replica, Joiner}
-use Rattle.packet_codec.specs.declared.node.Input.{Input}
+use Rattle.turn_defs.specs.declared.node.Node.{Node}
+use Rattle.turn_defs.specs.declared.node.Node.TheVariants.{Dispatcher, Server, Replica, Joiner}
+use Rattle.turn_defs.specs.declared.node.Input.{Input}
 use Rattle.air_bus.specs.declared.entry.Input.{Input as Bytes}
 use Rattle.air_bus.specs.declared.entry.Entry.{Entry as BusEntry}
 use Rattle.site_node.specs.Bytes.{Reads}
 use Rattle.site_node.specs.States.{State, Rows, MayHold, row_of}
-use Rattle.photon_defs.specs.Runs.{Cell, World, Entry, Begin, End, Stop, Disks, disks, after, world_after, May, IsRun, down, opening}
-use Rattle.photon_defs.specs.Topology.{WholeSound}
+use Rattle.photon_model.specs.Runs.{Cell, World, Entry, Begin, End, Stop, Disks, disks, after, world_after, May, IsRun, down, opening}
+use Rattle.photon_model.specs.Topology.{WholeSound}
 use Rattle.photon_model.specs.Stores.{RunsKeepWhole}
 use Rattle.photon_model.specs.Images.{left_by, image, ImagesAreRuns}
 use Rattle.site_laws.specs.Kinds.{StateOf, rows_of, cell_of, kept_of}

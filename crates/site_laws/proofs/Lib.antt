@@ -5,3 +5,10 @@ mod Following
 mod Leaving
 mod Starting
 mod Resting
+pub mod Naming
+pub mod Keeping
+pub mod Nodes
+pub mod Opening
+pub mod LongerLogs
+pub mod Running
+pub mod Working

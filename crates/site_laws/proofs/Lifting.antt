@@ -5,10 +5,10 @@ use Rattle.list_words.specs.Lists.{set_at}
 use Rattle.turn_defs.specs.Setting.{Setting}
 use Rattle.list_words.proofs.Lists.{none_some}
 use Rattle.turn_defs.specs.Nodes.{IsNode, node_of, node_count, NumbersAreNodes}
-use Rattle.packet_codec.specs.Nodes.{Sent}
-use Rattle.packet_codec.specs.declared.node.Node.{Node}
-use Rattle.packet_codec.specs.declared.node.Node.TheVariants.{Dispatcher, Server, Replica, Joiner}
-use Rattle.photon_defs.specs.Runs.{Cell, World, Disks, after, May, down, opening}
+use Rattle.turn_defs.specs.Sent.{Sent}
+use Rattle.turn_defs.specs.declared.node.Node.{Node}
+use Rattle.turn_defs.specs.declared.node.Node.TheVariants.{Dispatcher, Server, Replica, Joiner}
+use Rattle.photon_model.specs.Runs.{Cell, World, Disks, after, May, down, opening}
 use Rattle.site_laws.specs.Kinds.{KeptOf, LiveOf, rows_of, cell_of, kept_of}
 use Rattle.site_laws.proofs.Stepping.{Deed, Begins, Ends, Stops, entry_of, sent_of, MayDo, done}
 

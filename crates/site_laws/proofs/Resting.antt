@@ -1,11 +1,11 @@
 -- Rest and quiet points, from the states that the world stands for.
 use Rattle.std.proofs.Common.{◌≡◌, ℕ, false, Option, Some, None, refl, sym, subst}
 use Rattle.turn_defs.specs.Setting.{Setting}
-use Rattle.packet_codec.specs.declared.node.Node.TheVariants.{Dispatcher, Server, Replica, Joiner}
+use Rattle.turn_defs.specs.declared.node.Node.TheVariants.{Dispatcher, Server, Replica, Joiner}
 use Rattle.site_node.specs.States.{State}
-use Rattle.photon_defs.specs.Bus.{is_dead}
-use Rattle.photon_defs.specs.Rest.{UpWith}
-use Rattle.photon_defs.specs.Runs.{Cell}
+use Rattle.photon_model.specs.Bus.{is_dead}
+use Rattle.photon_model.specs.Rest.{UpWith}
+use Rattle.photon_model.specs.Runs.{Cell}
 use Rattle.site_laws.specs.Meaning.{StandsFor}
 use Rattle.site_laws.specs.Rest.{StatesRest, StatesAreQuiet}
 use Rattle.site_laws.proofs.Stepping.{opened_none}

@@ -12,11 +12,11 @@ use Rattle.air_bus.specs.History.{IsAired}
 use Rattle.air_bus.proofs.Phases.{aired_more, aired_none}
 use Rattle.turn_defs.specs.Nodes.{IsNode, node_number, node_of}
 use Rattle.turn_defs.specs.Rows.{worked}
-use Rattle.packet_codec.specs.declared.packet.Packet.{Packet}
-use Rattle.packet_codec.specs.Packets.{IsPacket}
-use Rattle.packet_codec.specs.declared.node.Node.{Node}
-use Rattle.packet_codec.specs.declared.node.Node.TheVariants.{Dispatcher, Server, Replica, Joiner}
-use Rattle.packet_codec.specs.declared.node.Input.TheVariants.{Start}
+use Rattle.turn_defs.specs.declared.packet.Packet.{Packet}
+use Rattle.turn_defs.specs.Packets.{IsPacket}
+use Rattle.turn_defs.specs.declared.node.Node.{Node}
+use Rattle.turn_defs.specs.declared.node.Node.TheVariants.{Dispatcher, Server, Replica, Joiner}
+use Rattle.turn_defs.specs.declared.node.Input.TheVariants.{Start}
 use Rattle.site_node.specs.Bytes.{AreSpelled}
 use Rattle.site_node.specs.States.{Path}
 use Rattle.photon_model.specs.Stores.{empty_disks}

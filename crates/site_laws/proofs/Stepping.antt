@@ -7,12 +7,12 @@ use Rattle.list_words.proofs.Lists.{some_same, none_some}
 use Rattle.turn_defs.specs.Setting.{Setting}
 use Rattle.turn_defs.specs.Nodes.{IsNode, node_of, Addressed, NumbersAreNodes}
 use Rattle.turn_defs.specs.Turns.{Note, Out}
-use Rattle.packet_codec.specs.declared.packet.Packet.{Packet}
-use Rattle.packet_codec.specs.Packets.{packet, IsPacket}
-use Rattle.packet_codec.specs.Nodes.{Sent}
-use Rattle.packet_codec.specs.declared.node.Node.{Node}
-use Rattle.packet_codec.specs.declared.node.Input.{Input}
-use Rattle.packet_codec.specs.declared.node.Input.TheVariants.{Deliver}
+use Rattle.turn_defs.specs.declared.packet.Packet.{Packet}
+use Rattle.turn_defs.specs.Packets.{packet, IsPacket}
+use Rattle.turn_defs.specs.Sent.{Sent}
+use Rattle.turn_defs.specs.declared.node.Node.{Node}
+use Rattle.turn_defs.specs.declared.node.Input.{Input}
+use Rattle.turn_defs.specs.declared.node.Input.TheVariants.{Deliver}
 use Rattle.air_bus.specs.declared.entry.Input.{Input as Bytes}
 use Rattle.air_bus.specs.declared.entry.Input.TheVariants as bytes
 use Rattle.air_bus.specs.declared.entry.Entry.{Entry as BusEntry}
@@ -20,7 +20,7 @@ use Rattle.air_bus.specs.declared.entry.Entry.TheVariants as bus
 use Rattle.air_bus.specs.History.{node_of as number_in}
 use Rattle.site_node.specs.Bytes.{IsNoted, addressed, Reads}
 use Rattle.site_node.specs.States.{State, Rows, MayTake, row_of, Leads, IsDone, IsIdle}
-use Rattle.photon_defs.specs.Runs.{Cell, Entry, Begin, End, Stop, begun, ended, stopped, row, sends, Fits, WasSent, MayBegin, IsTurn, MayStop}
+use Rattle.photon_model.specs.Runs.{Cell, Entry, Begin, End, Stop, begun, ended, stopped, row, sends, Fits, WasSent, MayBegin, IsTurn, MayStop}
 use Rattle.site_laws.specs.Meaning.{Means, OpenedAs}
 use Rattle.site_laws.proofs.Addressing.{SendsRight, ComesRight, all_right}
 

@@ -3,10 +3,10 @@ use Rattle.std.proofs.Common.{◌≡◌, ◌⊎◌, inl, inr, ⊎_elim, ◌+◌,
 use Rattle.std.proofs.lemmas.Bool.{cases_lt}
 use Rattle.turn_defs.specs.Setting.{Setting, first_joiner}
 use Rattle.turn_defs.specs.Nodes.{IsNode}
-use Rattle.packet_codec.specs.declared.node.Node.{Node}
-use Rattle.packet_codec.specs.declared.node.Node.TheVariants.{Dispatcher, Server, Replica, Joiner}
+use Rattle.turn_defs.specs.declared.node.Node.{Node}
+use Rattle.turn_defs.specs.declared.node.Node.TheVariants.{Dispatcher, Server, Replica, Joiner}
 use Rattle.site_node.specs.States.{MayHold}
-use Rattle.photon_defs.specs.Runs.{Disks}
+use Rattle.photon_model.specs.Runs.{Disks}
 use Rattle.site_laws.specs.Kinds.{KeptOf, StateOf, rows_of, kept_of}
 use Rattle.site_laws.specs.Laws.{MayLeave}
 

@@ -7,12 +7,12 @@ use Rattle.air_bus.specs.declared.entry.Entry.{Entry as BusEntry}
 use Rattle.air_bus.specs.declared.entry.Entry.TheVariants as bus
 use Rattle.air_bus.specs.History.{IsAired}
 use Rattle.turn_defs.specs.Rows.{worked}
-use Rattle.packet_codec.specs.declared.node.Node.{Node}
-use Rattle.packet_codec.specs.declared.node.Node.TheVariants.{Dispatcher, Server, Replica, Joiner}
-use Rattle.packet_codec.specs.declared.node.Input.TheVariants.{Start}
-use Rattle.dispatch_core.specs.Dispatcher.{DispatcherKept, DispatcherLive, dispatcher_start}
+use Rattle.turn_defs.specs.declared.node.Node.{Node}
+use Rattle.turn_defs.specs.declared.node.Node.TheVariants.{Dispatcher, Server, Replica, Joiner}
+use Rattle.turn_defs.specs.declared.node.Input.TheVariants.{Start}
+use Rattle.turn_defs.specs.Dispatcher.{DispatcherKept, DispatcherLive, dispatcher_start}
 use Rattle.site_node.specs.States.{State, Path}
-use Rattle.photon_defs.specs.Runs.{Entry, Begin, End, Disks, IsRun, opening}
+use Rattle.photon_model.specs.Runs.{Entry, Begin, End, Disks, IsRun, opening}
 use Rattle.photon_model.specs.Stores.{empty_disks}
 use Rattle.site_laws.specs.Kinds.{StateOf, rows_of, down_over}
 use Rattle.site_laws.specs.Meaning.{AllMean}

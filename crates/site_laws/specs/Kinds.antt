@@ -1,15 +1,15 @@
 -- What the nodes of each kind keep and know, and their rows of the turn table, by the node.
 use Rattle.std.specs.Prelude.{ℕ, None}
 use Rattle.turn_defs.specs.Setting.{Setting}
-use Rattle.packet_codec.specs.declared.node.Node.{Node}
-use Rattle.packet_codec.specs.declared.node.Node.TheVariants.{Dispatcher, Server, Replica, Joiner}
-use Rattle.dispatch_core.specs.Dispatcher.{DispatcherKept, DispatcherLive, land_dispatcher, dispatcher_start, dispatcher_turn}
-use Rattle.joiner_core.specs.Joiner.{JoinerKept, JoinerLive, land_joiner, joiner_start, joiner_turn}
-use Rattle.registry_server.specs.Server.{ServerKept, ServerLive, land_server, server_start, server_turn}
-use Rattle.replica_node.specs.Replica.{ReplicaKept}
-use Rattle.replica_node.specs.Node.{replica_rows}
+use Rattle.turn_defs.specs.declared.node.Node.{Node}
+use Rattle.turn_defs.specs.declared.node.Node.TheVariants.{Dispatcher, Server, Replica, Joiner}
+use Rattle.turn_defs.specs.Dispatcher.{DispatcherKept, DispatcherLive, land_dispatcher, dispatcher_start, dispatcher_turn}
+use Rattle.turn_defs.specs.Joiner.{JoinerKept, JoinerLive, land_joiner, joiner_start, joiner_turn}
+use Rattle.turn_defs.specs.Server.{ServerKept, ServerLive, land_server, server_start, server_turn}
+use Rattle.turn_defs.specs.Replica.{ReplicaKept}
+use Rattle.site_node.specs.Replicas.{replica_rows}
 use Rattle.site_node.specs.States.{Rows, State}
-use Rattle.photon_defs.specs.Runs.{Cell, World, Disks}
+use Rattle.photon_model.specs.Runs.{Cell, World, Disks}
 
 -- ---- the rows of each kind, as those of a node over its disks
 

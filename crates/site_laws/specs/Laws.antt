@@ -6,10 +6,10 @@ use Rattle.air_bus.specs.declared.entry.Entry.{Entry as BusEntry}
 use Rattle.air_bus.specs.History.{is_of, IsAired}
 use Rattle.turn_defs.specs.Setting.{Setting, Checked}
 use Rattle.turn_defs.specs.Nodes.{IsNode, node_number, node_of}
-use Rattle.packet_codec.specs.declared.node.Node.{Node}
+use Rattle.turn_defs.specs.declared.node.Node.{Node}
 use Rattle.site_node.specs.States.{Path, MayHold}
-use Rattle.photon_defs.specs.Runs.{Entry, Disks, disks, world_after, IsRun, opening}
-use Rattle.photon_defs.specs.Topology.{Store, WholeSound, topology_of}
+use Rattle.photon_model.specs.Runs.{Entry, Disks, disks, world_after, IsRun, opening}
+use Rattle.photon_model.specs.Topology.{Store, WholeSound, topology_of}
 use Rattle.photon_model.specs.Images.{image}
 use Rattle.site_laws.specs.Kinds.{StateOf, rows_of, cell_of, kept_of, down_over}
 use Rattle.site_laws.specs.Meaning.{AllMean, StandsFor}

@@ -4,3 +4,6 @@ pub mod Laws
 pub mod Example
 pub mod Rest
 pub mod Choosing
+pub mod Stores
+pub mod StoreLaws
+pub mod StoreExample

@@ -2,14 +2,14 @@
 use Rattle.std.specs.Prelude.{◌≡◌, ℕ, List, [], ◌∷◌, Option, Some, None, ⊤}
 use Rattle.turn_defs.specs.Setting.{Setting}
 use Rattle.turn_defs.specs.Nodes.{node_of}
-use Rattle.packet_codec.specs.declared.node.Node.{Node}
-use Rattle.packet_codec.specs.declared.node.Input.{Input}
+use Rattle.turn_defs.specs.declared.node.Node.{Node}
+use Rattle.turn_defs.specs.declared.node.Input.{Input}
 use Rattle.air_bus.specs.declared.entry.Input.{Input as Bytes}
 use Rattle.air_bus.specs.declared.entry.Entry.{Entry as BusEntry}
 use Rattle.air_bus.specs.declared.entry.Entry.TheVariants as bus
 use Rattle.site_node.specs.Bytes.{IsNoted, AreSpelled, Reads}
 use Rattle.site_node.specs.States.{State}
-use Rattle.photon_defs.specs.Runs.{Cell, Entry, Begin, End, Stop}
+use Rattle.photon_model.specs.Runs.{Cell, Entry, Begin, End, Stop}
 
 -- the number is this node's
 abbrev pub IsNumberOf : Setting → ℕ → Node → Type 0

@@ -4,14 +4,14 @@ use Rattle.lossy_link.specs.Fates.{PlanView}
 use Rattle.air_bus.specs.declared.entry.Entry.{Entry as BusEntry}
 use Rattle.turn_defs.specs.Setting.{Setting}
 use Rattle.turn_defs.specs.Nodes.{IsNode}
-use Rattle.packet_codec.specs.declared.node.Node.{Node}
-use Rattle.packet_codec.specs.declared.node.Node.TheVariants.{Dispatcher, Server, Replica, Joiner}
-use Rattle.dispatch_core.specs.Dispatcher.{dispatcher_wants, dispatcher_at_rest}
-use Rattle.joiner_core.specs.Joiner.{joiner_at_rest}
-use Rattle.registry_server.specs.Server.{server_wants, server_at_rest}
-use Rattle.photon_defs.specs.Runs.{Entry, Disks, world_after, opening}
-use Rattle.photon_defs.specs.Bus.{is_dead}
-use Rattle.photon_defs.specs.Rest.{UpWith, IsAtRest, IsQuietPoint}
+use Rattle.turn_defs.specs.declared.node.Node.{Node}
+use Rattle.turn_defs.specs.declared.node.Node.TheVariants.{Dispatcher, Server, Replica, Joiner}
+use Rattle.turn_defs.specs.Dispatcher.{dispatcher_wants, dispatcher_at_rest}
+use Rattle.turn_defs.specs.Joiner.{joiner_at_rest}
+use Rattle.turn_defs.specs.Server.{server_wants, server_at_rest}
+use Rattle.photon_model.specs.Runs.{Entry, Disks, world_after, opening}
+use Rattle.photon_model.specs.Bus.{is_dead}
+use Rattle.photon_model.specs.Rest.{UpWith, IsAtRest, IsQuietPoint}
 use Rattle.site_laws.specs.Kinds.{StateOf}
 use Rattle.site_laws.specs.Laws.{IsRunOf}
 

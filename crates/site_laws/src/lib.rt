@@ -1,5 +1,8 @@
-//! From each node's own entries to the run of the whole system: what the bus kept is a history of the model.
+//! From each node's own entries to the run of the whole system: what the bus kept is a history of the model, and which
+//! stores are sound, by what a stop may leave of their disks.
 #![tactic(auto)]
+
+pub mod stores;
 
 ghost use Rattle.std.specs.Prelude.{◌≡◌, ◌≤◌, ℕ, None};
 ghost use Rattle.turn_defs.specs.Nodes.{node_count, node_of};

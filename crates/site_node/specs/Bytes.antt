@@ -3,17 +3,17 @@ use Rattle.std.specs.Prelude.{◌≡◌, ℕ, List, map, Option, option_map, Som
 use Rattle.std.specs.List.{All}
 use Rattle.paxos_defs.specs.Notes.Note.{Promised, Accepted}
 use Rattle.paxos_acceptor.specs.declared.notes.ReplicaNote.TheVariants as replica
-use Rattle.fields.specs.Spellings.{note}
+use Rattle.packet_codec.specs.Notes.{note}
 use Rattle.offset_journal.specs.Offsets.{offset_record}
 use Rattle.epoch_journal.specs.Epochs.{epoch_record}
 use Rattle.retry_log.specs.declared.changing.Change.TheVariants as change
 use Rattle.retry_log.specs.Pending as pending
 use Rattle.output_log.specs.Pairs as pairs
-use Rattle.packet_codec.specs.declared.packet.Packet.{Packet}
-use Rattle.packet_codec.specs.declared.node.Node.{Node}
-use Rattle.packet_codec.specs.declared.node.Input.{Input}
-use Rattle.packet_codec.specs.declared.node.Input.TheVariants.{Start, Own, Tick, Deliver}
-use Rattle.packet_codec.specs.Packets.{packet, IsPacket}
+use Rattle.turn_defs.specs.declared.packet.Packet.{Packet}
+use Rattle.turn_defs.specs.declared.node.Node.{Node}
+use Rattle.turn_defs.specs.declared.node.Input.{Input}
+use Rattle.turn_defs.specs.declared.node.Input.TheVariants.{Start, Own, Tick, Deliver}
+use Rattle.turn_defs.specs.Packets.{packet, IsPacket}
 use Rattle.air_bus.specs.declared.entry.Input.{Input as Bytes}
 use Rattle.air_bus.specs.declared.entry.Input.TheVariants as bytes
 use Rattle.turn_defs.specs.Setting.{Setting}

@@ -3,3 +3,4 @@ pub mod States
 pub mod Paths
 pub mod Rosters
 pub mod Faults
+pub mod Replicas

@@ -6,8 +6,9 @@ ghost use Rattle.site_node.specs.Rosters.{IsOf};
 
 use crate::Roster;
 use air_bus::Input as Begun;
-use packet_codec::{DecodeFault, Input, decode};
+use packet_codec::{DecodeFault, decode};
 use std::alloc::{AllocError, Global};
+use turn_defs::Input;
 
 /// The input that the bytes spell, or None where no input is spelled so, or no node has the sender's number. Linear in
 /// the bytes.

@@ -1,5 +1,5 @@
 // Nodes and their numbers.
-use packet_codec::Node;
+use turn_defs::Node;
 
 /// How many replicas and joiners a setting has, which is all that node numbers go by.
 #[derive(Clone, Copy, Debug, PartialEq, Eq)]

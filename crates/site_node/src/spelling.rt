@@ -1,14 +1,15 @@
 // What a turn sends, as bytes.
 ghost use Rattle.std.specs.Prelude.{◌≡◌, All, IfOk};
 ghost use Rattle.turn_defs.specs.Nodes.{node_number};
-ghost use Rattle.packet_codec.specs.declared.packet.Packet.{Packet};
-ghost use Rattle.packet_codec.specs.declared.node.Node.{Node};
-ghost use Rattle.packet_codec.specs.Packets.{packet, IsPacket};
+ghost use Rattle.turn_defs.specs.declared.packet.Packet.{Packet};
+ghost use Rattle.turn_defs.specs.declared.node.Node.{Node};
+ghost use Rattle.turn_defs.specs.Packets.{packet, IsPacket};
 ghost use Rattle.site_node.specs.Bytes.{AreSpelled};
 
 use air_bus::{Packets, Payload};
-use packet_codec::{Node, Packet, encode};
+use packet_codec::encode;
 use std::alloc::{AllocError, Global};
+use turn_defs::{Node, Packet};
 
 /// The number of a node, by which the bus and packets name it.
 pub fn number_of(node: Node) -> u16

@@ -1,215 +1,124 @@
--- Rounds of workers, one after another, and what they leave.
-use Rattle.std.proofs.Common.{◌≡◌, ℕ, zero, suc, ◌<◌, Bool, List, [], ◌∷◌, ◌++◌, length, map, get_or, slice_index_or, Option, Some, None, IfSome, refl, sym, ap, ◌∙◌, subst, arith}
-use Rattle.std.specs.Prelude.{All, IsTrue, IsSome}
-use mathlib.Core.Logic.{dite}
-use mathlib.Core.List.{map-append}
-use native.Mathlib.Decide.{ℕ_discrete}
-use Rattle.std.proofs.lemmas.List.{append-nil, length-map, get_or-map, get_or_append_left, get_or_push, ext_get_or}
-use Rattle.std.proofs.Common.{length-append}
-use Rattle.air_bus.specs.declared.entry.Entry.{Entry}
-use Rattle.air_bus.specs.declared.entry.Input.{Input}
-use Rattle.air_bus.specs.declared.entry.Phase.{Phase}
-use Rattle.bus_seat.specs.Views.{count, made_by}
-use Rattle.bus_seat.specs.Seats.{BusId, Sight, fresh, fresh_to, fresh_seats, tag, AreSeatsOf, IsIn}
-use Rattle.bus_seat.proofs.Closing.{snoc_injective, fresh_count}
-use Rattle.site_node.specs.declared.kind.NodeFault.{NodeFault}
-use Rattle.site_run.specs.Works.{WorkerView, LeadsOn, GrowsOn, Grew, HasMet}
-use Rattle.site_run.specs.Rounds.{WentOn, AllWentOn, Walked, WentFar, Rests, OneHasFault, HasFault}
-use Rattle.site_run.proofs.Stepping.{leads_on, leads_nowhere, grows_on, grows_nowhere, grew_on}
+-- Disks that have gone on, step by step and place by place.
+use Rattle.std.proofs.Common.{◌≡◌, ℕ, zero, suc, ◌+◌, ◌<◌, List, [], ◌∷◌, ◌++◌, length, refl, ap, ◌∙◌, subst, arith}
+use Rattle.std.specs.Prelude.{slice_index_or}
+use Rattle.gate_journal.specs.Growth.{Continues}
+use Rattle.gate_journal.proofs.Growth.{continues_same, continues_through}
+use Rattle.turn_defs.specs.declared.node.Node.{Node}
+use Rattle.turn_defs.specs.Setting.{Setting}
+use Rattle.turn_defs.specs.Nodes.{IsNode, NumbersAreNodes, node_number, node_count}
+use Rattle.site_store.specs.Lent.{Lent}
+use Rattle.site_store.specs.ReadBack.{EachWith}
+use Rattle.site_run.specs.Naming.{all_from, of_dispatcher, of_server, of_replica, of_joiner}
+use Rattle.site_workers.specs.Works.{Reached}
+use Rattle.site_workers.specs.Eithers as either
+use Rattle.site_workers.specs.declared.either.Either.{Either}
+use Rattle.site_workers.specs.declared.either.Either.TheVariants as node
+use Rattle.site_run.specs.Held.{HasGoneOn, HaveGoneOn}
 
-grew_nowhere : (s : Sight) → Grew s s
-grew_nowhere s = record { bus = refl; number = refl; seen = ([], append-nil s.seen); mine = ([], append-nil s.mine) }
+-- ---- lists side by side
 
-module _ {N S : Type 0} (tells : Bool) (leads : S → Entry → S → Type 0) (phase_of : S → Phase) (stands : N → S → Type 0) (number : N → ℕ) (spends : S → Input → Option ℕ) (grown : N → N → Type 0) where
-  abbrev Went : WorkerView N → WorkerView N → Type 0
-  Went = WentOn tells leads phase_of stands number spends grown
+module _ {A : Type 0} (R : A → A → Type 0) where
+  with_same : ((x : A) → R x x) → (xs : List A) → EachWith R xs xs
+  with_same same [] = tt
+  with_same same (x ∷ xs) = (same x, with_same same xs)
 
-  abbrev AllWent : List (WorkerView N) → List (WorkerView N) → Type 0
-  AllWent = AllWentOn tells leads phase_of stands number spends grown
+  with_through : ((x y z : A) → R x y → R y z → R x z) → (xs ys zs : List A) → EachWith R xs ys → EachWith R ys zs → EachWith R xs zs
+  with_through through [] [] [] a b = tt
+  with_through through [] [] (z ∷ zs) a b = absurd b
+  with_through through [] (y ∷ ys) zs a b = absurd a
+  with_through through (x ∷ xs) [] zs a b = absurd a
+  with_through through (x ∷ xs) (y ∷ ys) [] a b = absurd b
+  with_through through (x ∷ xs) (y ∷ ys) (z ∷ zs) a b = (through x y z a.0 b.0, with_through through xs ys zs a.1 b.1)
 
-  pub went_nowhere : (v : WorkerView N) → Went v v
-  went_nowhere v = record { grew = grew_nowhere v.seat; leads_on = λ t. leads_nowhere leads phase_of stands number spends v.node v.fault v.seat.mine; grows_on = λ t. grows_nowhere leads phase_of stands number spends grown v.node v.fault v.seat.mine }
+  pub with_length : (xs ys : List A) → EachWith R xs ys → length ys ≡ length xs
+  with_length [] [] a = refl
+  with_length [] (y ∷ ys) a = absurd a
+  with_length (x ∷ xs) [] a = absurd a
+  with_length (x ∷ xs) (y ∷ ys) a = ap suc (with_length xs ys a.1)
 
-  pub went_on : (u v w : WorkerView N) → Went u v → Went v w → Went u w
-  went_on u v w a b = record {
-    grew = grew_on u.seat v.seat w.seat a.grew b.grew;
-    leads_on = λ t. leads_on leads phase_of stands number spends u.node v.node w.node u.fault v.fault w.fault u.seat.mine v.seat.mine w.seat.mine (a.leads_on t) (b.leads_on t);
-    grows_on = λ t. grows_on leads phase_of stands number spends grown u.node v.node w.node u.fault v.fault u.seat.mine v.seat.mine (a.leads_on t) (a.grows_on t) (b.grows_on t);
-  }
+  with_append : (ws xs ys zs : List A) → EachWith R ws xs → EachWith R ys zs → EachWith R (ws ++ ys) (xs ++ zs)
+  with_append [] [] ys zs a b = b
+  with_append [] (x ∷ xs) ys zs a b = absurd a
+  with_append (w ∷ ws) [] ys zs a b = absurd a
+  with_append (w ∷ ws) (x ∷ xs) ys zs a b = (a.0, with_append ws xs ys zs a.1 b)
 
-  pub all_nowhere : (vs : List (WorkerView N)) → AllWent vs vs
-  all_nowhere vs = record { count = refl; each = λ i d l. went_nowhere (slice_index_or vs i d) }
+-- ---- the disks of one node
 
-  pub all_on : (us vs ws : List (WorkerView N)) → AllWent us vs → AllWent vs ws → AllWent us ws
-  all_on us vs ws a b = record {
-    count = b.count ∙ a.count;
-    each = λ i d l. went_on (slice_index_or us i d) (slice_index_or vs i d) (slice_index_or ws i d) (a.each i d l) (b.each i d (omega (arith, l, a.count)));
-  }
+module _ {D : Type 0} (image : D → List ℕ → Type 0) where
+  gone_same : (l : Lent D) → HasGoneOn image l l
+  gone_same l = record { named = refl; grown = continues_same (image l.disk) }
 
--- ---- lists
+  gone_through : (x y z : Lent D) → HasGoneOn image x y → HasGoneOn image y z → HasGoneOn image x z
+  gone_through x y z a b = record { named = b.named ∙ a.named; grown = λ c now. continues_through (image x.disk) (image y.disk) a.grown c (b.grown c now) }
 
-seam : {X : Type 0} (front : List X) (x : X) (rest : List X) (d : X) → get_or (front ++ x ∷ rest) (length front) d ≡ x
-seam [] x rest d = refl
-seam (y ∷ ys) x rest d = seam ys x rest d
+  pub all_same : (lent : List (Lent D)) → HaveGoneOn image lent lent
+  all_same lent = with_same (HasGoneOn image) gone_same lent
 
-pub at_front : {X : Type 0} (front : List X) (x : X) (rest all : List X) (n : ℕ) (d : X) → front ++ x ∷ rest ≡ all → n ≡ length front → get_or all n d ≡ x
-at_front {X} front x rest all n d is at = ap (λ (xs : List X). get_or xs n d) (sym is) ∙ ap (λ (k : ℕ). get_or (front ++ x ∷ rest) k d) at ∙ seam front x rest d
+  pub all_through : (xs ys zs : List (Lent D)) → HaveGoneOn image xs ys → HaveGoneOn image ys zs → HaveGoneOn image xs zs
+  all_through xs ys zs a b = with_through (HasGoneOn image) gone_through xs ys zs a b
 
-some_of : {A : Type 0} (xs : List A) (i : ℕ) → i < length xs → A
-some_of [] i l = absurd (omega (arith, l))
-some_of (x ∷ xs) i l = x
+-- in any number of steps, each of which they have gone on in
+pub reached_on : {N D : Type 0} (image : D → List ℕ → Type 0) (grown : N → N → Type 0) (disks_of : N → List (Lent D)) → ((v w : N) → grown v w → HaveGoneOn image (disks_of v) (disks_of w)) → (k : ℕ) (v w : N) → Reached grown k v w → HaveGoneOn image (disks_of v) (disks_of w)
+reached_on image grown disks_of one zero v w same = subst (λ x. HaveGoneOn image (disks_of v) (disks_of x)) same (all_same image (disks_of v))
+reached_on image grown disks_of one (suc k) v w r = all_through image (disks_of v) (disks_of r.0) (disks_of w) (reached_on image grown disks_of one k v r.0 r.1) (one r.0 w r.2)
 
-fresh_at : (bus : BusId) (m i : ℕ) (d : Sight) → i < m → get_or (fresh_to bus m) i d ≡ fresh bus (Some i)
-fresh_at bus zero i d l = absurd (omega (arith, l))
-fresh_at bus (suc m) i d l =
-    let len = fresh_count bus m in
-    dite (ℕ_discrete m i)
-    (λ same. get_or_push (fresh_to bus m) (fresh bus (Some m)) d i (len ∙ same) ∙ ap (λ k. fresh bus (Some k)) same)
-    (λ ne. get_or_append_left (fresh_to bus m) (fresh bus (Some m) ∷ []) d i (omega (arith, len, l, ne)) ∙ fresh_at bus m i d (omega (arith, l, ne)))
+-- one step of a node of any kind
+module _ {D A B C E : Type 0} (image : D → List ℕ → Type 0) (offset retry : A → D) (server : B → D) (replica : C → D) (epochs outputs : E → D) where
+  abbrev Goes : D → D → Type 0
+  Goes old new = (c : List ℕ) → image new c → Continues (image old) c
 
--- ---- a run on a bus: its workers before the first round, and after the last
+  abbrev pub Grown : Either (Either A B) (Either C E) → Either (Either A B) (Either C E) → Type 0
+  Grown =
+      either.grown (either.grown (λ v w. Goes (offset v) (offset w) × Goes (retry v) (retry w)) (λ v w. Goes (server v) (server w)))
+      (either.grown (λ v w. Goes (replica v) (replica w)) (λ v w. Goes (epochs v) (epochs w) × Goes (outputs v) (outputs w)))
 
--- the seats of a new bus, without the run's
-pub front_of : (bus : BusId) (seats front : List Sight) (last : Sight) → seats ≡ fresh_seats bus → seats ≡ front ++ last ∷ [] → (front ≡ fresh_to bus (count bus.base)) × (last ≡ fresh bus None)
-front_of bus seats front last new split = snoc_injective front (fresh_to bus (count bus.base)) last (fresh bus None) (sym split ∙ new)
+  abbrev pub disks_by : (joiners number : ℕ) → Either (Either A B) (Either C E) → List (Lent D)
+  disks_by joiners number =
+      either.by (either.by (λ d. of_dispatcher number (offset d) (retry d)) (λ s. of_server number (server s)))
+      (either.by (λ r. of_replica number (replica r)) (λ j. of_joiner joiners number (epochs j) (outputs j)))
 
-pub front_count : (bus : BusId) (front : List Sight) → front ≡ fresh_to bus (count bus.base) → length front ≡ (count bus.base)
-front_count bus front is = ap length is ∙ fresh_count bus (count bus.base)
+  pub one_on : (joiners number : ℕ) (v w : Either (Either A B) (Either C E)) → Grown v w → HaveGoneOn image (disks_by joiners number v) (disks_by joiners number w)
+  one_on joiners number (node.First (node.First v)) (node.First (node.First w)) on = (record { named = refl; grown = on.0 }, (record { named = refl; grown = on.1 }, tt))
+  one_on joiners number (node.First (node.First v)) (node.First (node.Second w)) on = absurd on
+  one_on joiners number (node.First (node.Second v)) (node.First (node.First w)) on = absurd on
+  one_on joiners number (node.First (node.Second v)) (node.First (node.Second w)) on = (record { named = refl; grown = on }, tt)
+  one_on joiners number (node.First v) (node.Second w) on = absurd on
+  one_on joiners number (node.Second v) (node.First w) on = absurd on
+  one_on joiners number (node.Second (node.First v)) (node.Second (node.First w)) on = (record { named = refl; grown = on }, tt)
+  one_on joiners number (node.Second (node.First v)) (node.Second (node.Second w)) on = absurd on
+  one_on joiners number (node.Second (node.Second v)) (node.Second (node.First w)) on = absurd on
+  one_on joiners number (node.Second (node.Second v)) (node.Second (node.Second w)) on = (record { named = refl; grown = on.0 }, (record { named = refl; grown = on.1 }, tt))
 
-pub front_at : (bus : BusId) (front : List Sight) (i : ℕ) (d : Sight) → front ≡ fresh_to bus (count bus.base) → i < (count bus.base) → get_or front i d ≡ fresh bus (Some i)
-front_at bus front i d is l = ap (λ (xs : List Sight). get_or xs i d) is ∙ fresh_at bus (count bus.base) i d l
+-- ---- the disks of all nodes
 
-module _ {N S : Type 0} (tells : Bool) (leads : S → Entry → S → Type 0) (phase_of : S → Phase) (stands : N → S → Type 0) (number : N → ℕ) (spends : S → Input → Option ℕ) (grown : N → N → Type 0)
-    (bus : BusId) (nodes : List N) (front : List Sight) (ws us : List (WorkerView N))
-    (nodes_are : map (λ (w : WorkerView N). w.node) ws ≡ nodes) (seats_are : map (λ (w : WorkerView N). w.seat) ws ≡ front) (front_is : front ≡ fresh_to bus (count bus.base)) where
-  hired_count : length ws ≡ (count bus.base)
-  hired_count = sym (length-map ws (λ (w : WorkerView N). w.seat)) ∙ ap length seats_are ∙ front_count bus front front_is
+module _ {N D : Type 0} (image : D → List ℕ → Type 0) (disks_of : ℕ → N → List (Lent D)) where
+  from_on : (k : ℕ) (vs ws : List N) → length ws ≡ length vs
+      → ((i j : ℕ) (a b : N) → j ≡ k + i → i < length vs → HaveGoneOn image (disks_of j (slice_index_or vs i a)) (disks_of j (slice_index_or ws i b)))
+      → HaveGoneOn image (all_from disks_of k vs) (all_from disks_of k ws)
+  from_on k [] [] count each = tt
+  from_on k [] (w ∷ ws) count each = absurd (omega (arith, count))
+  from_on k (v ∷ vs) [] count each = absurd (omega (arith, count))
+  from_on k (v ∷ vs) (w ∷ ws) count each =
+      with_append (HasGoneOn image) (disks_of k v) (disks_of k w) (all_from disks_of (suc k) vs) (all_from disks_of (suc k) ws) (each 0 k v w (omega arith) (omega arith))
+      (from_on (suc k) vs ws (omega (arith, count)) (λ i j a b is below. each (suc i) j a b (omega (arith, is)) (omega (arith, below))))
 
-  pub hired_seat : (i : ℕ) (d : WorkerView N) → i < length ws → (get_or ws i d).seat ≡ fresh bus (Some i)
-  hired_seat i d l =
-      sym (get_or-map (λ (w : WorkerView N). w.seat) ws i d d.seat l) ∙ ap (λ (xs : List Sight). get_or xs i d.seat) seats_are ∙ front_at bus front i d.seat front_is (omega (arith, l, hired_count))
+  -- where those of each place have gone on, all have
+  pub all_gone_on : (vs ws : List N) → length ws ≡ length vs
+      → ((i : ℕ) (a b : N) → i < length vs → HaveGoneOn image (disks_of i (slice_index_or vs i a)) (disks_of i (slice_index_or ws i b)))
+      → HaveGoneOn image (all_from disks_of 0 vs) (all_from disks_of 0 ws)
+  all_gone_on vs ws count each =
+      from_on 0 vs ws count
+      (λ i j a b is below.
+      let same : i ≡ j = omega (arith, is) in
+      subst (λ n. HaveGoneOn image (disks_of n (slice_index_or vs i a)) (disks_of n (slice_index_or ws i b))) same (each i a b below))
 
-  pub hired_node : (i : ℕ) (d : WorkerView N) (a : N) → i < length ws → (get_or ws i d).node ≡ get_or nodes i a
-  hired_node i d a l =
-      sym (get_or-map (λ (w : WorkerView N). w.node) ws i d a l) ∙ ap (λ (xs : List N). get_or xs i a) nodes_are
-
-  -- each worker's seat is one of the bus
-  pub hired_buses : (i : ℕ) (d : WorkerView N) → i < length ws → (get_or ws i d).seat.bus ≡ bus
-  hired_buses i d l = ap (λ (s : Sight). s.bus) (hired_seat i d l)
-
-  module _ (went : AllWentOn tells leads phase_of stands number spends grown ws us) where
-    ended_tag : (i : ℕ) (d : WorkerView N) → i < length us → tag (get_or us i d).seat ≡ (bus, Some i)
-    ended_tag i d l =
-        let inside : i < length ws = omega (arith, l, went.count) in
-        let grew = (went.each i d inside).grew in
-        let before = hired_seat i d inside in
-        let of_bus = grew.bus ∙ ap (λ (s : Sight). s.bus) before in
-        let of_node = grew.number ∙ ap (λ (s : Sight). s.number) before in
-        λ k. (of_bus k, of_node k)
-
-    nobody : BusId × Option ℕ
-    nobody = (bus, None)
-
-    tags : map tag (map (λ (w : WorkerView N). w.seat) us) ≡ map tag (fresh_to bus (count bus.base))
-    tags =
-        let seats = map (λ (w : WorkerView N). w.seat) us in
-        let m = count bus.base in
-        let len : length seats ≡ m = length-map us (λ (w : WorkerView N). w.seat) ∙ went.count ∙ hired_count in
-        ext_get_or nobody (map tag seats) (map tag (fresh_to bus m)) (length-map seats tag ∙ len ∙ sym (length-map (fresh_to bus m) tag ∙ fresh_count bus m))
-        (λ i l.
-        let inside : i < length us = omega (arith, l, length-map seats tag, length-map us (λ (w : WorkerView N). w.seat)) in
-        let d = some_of us i inside in
-        let below : i < m = omega (arith, l, length-map seats tag, len) in
-        get_or-map tag seats i d.seat nobody (omega (arith, inside, length-map us (λ (w : WorkerView N). w.seat)))
-        ∙ ap tag (get_or-map (λ (w : WorkerView N). w.seat) us i d d.seat inside)
-        ∙ ended_tag i d inside
-        ∙ sym (get_or-map tag (fresh_to bus m) i d.seat nobody (omega (arith, below, fresh_count bus m)) ∙ ap tag (fresh_at bus m i d.seat below)))
-
-    -- the seats of all workers, and the run's
-    pub all_seats : (last : Sight) (seats : List Sight) → last.bus ≡ bus → last.number ≡ None → seats ≡ map (λ (w : WorkerView N). w.seat) us ++ last ∷ [] → AreSeatsOf bus seats
-    all_seats last seats of_bus none is =
-        let ss = map (λ (w : WorkerView N). w.seat) us in
-        let end : tag last ≡ (bus, None) = λ k. (of_bus k, none k) in
-        ap (map tag) is ∙ map-append tag ss (last ∷ []) ∙ ap (λ l. l ++ tag last ∷ []) tags ∙ ap (λ t. map tag (fresh_to bus (count bus.base)) ++ t ∷ []) end ∙ sym (map-append tag (fresh_to bus (count bus.base)) (fresh bus None ∷ []))
-
-    module _ (last : Sight) (seats : List Sight) (h : List Entry) (is : seats ≡ map (λ (w : WorkerView N). w.seat) us ++ last ∷ []) (in_history : All (IsIn h) seats) where
-      -- what each worker made is what the history has of its number
-      pub own_entries : (i : ℕ) (d : WorkerView N) → i < length us → made_by i h ≡ (get_or us i d).seat.mine
-      own_entries i d l =
-          let ss = map (λ (w : WorkerView N). w.seat) us in
-          let len : length ss ≡ length us = length-map us (λ (w : WorkerView N). w.seat) in
-          let at : get_or seats i d.seat ≡ (get_or us i d).seat = ap (λ (xs : List Sight). get_or xs i d.seat) is ∙ get_or_append_left ss (last ∷ []) d.seat i (omega (arith, l, len)) ∙ get_or-map (λ (w : WorkerView N). w.seat) us i d d.seat l in
-          let there : i < length seats = omega (arith, ap length is, length-append ss (last ∷ []), len, l) in
-          let mine = (subst (IsIn h) at (in_history i d.seat there)).1 in
-          subst (λ (o : Option ℕ). IfSome o (λ k. made_by k h ≡ (get_or us i d).seat.mine)) (ap (λ (t : BusId × Option ℕ). t.1) (ended_tag i d l)) mine
-
-      module _ (faults : All (λ (w : WorkerView N). w.fault ≡ None) ws) (left : List (N × Option NodeFault)) (left_is : left ≡ map (λ (w : WorkerView N). (w.node, w.fault)) us) where
-        pub left_at : (i : ℕ) (d : WorkerView N) (b : N × Option NodeFault) → i < length us → get_or left i b ≡ ((get_or us i d).node, (get_or us i d).fault)
-        left_at i d b l = ap (λ (xs : List (N × Option NodeFault)). get_or xs i b) left_is ∙ get_or-map (λ (w : WorkerView N). (w.node, w.fault)) us i d b l
-
-        -- each node's entries in the history have led it from where it stood to where it stands
-        pub all_walked : IsTrue tells → (i : ℕ) (a : N) (b : N × Option NodeFault) → i < length ws → Walked leads phase_of stands number spends (get_or nodes i a) (get_or left i b) i h
-        all_walked t i a b l =
-            let inside : i < length us = omega (arith, l, went.count) in
-            let d = some_of ws i l in
-            let v = get_or ws i d in
-            let w = get_or us i d in
-            let led : LeadsOn leads phase_of stands number spends v.node v.fault v.seat.mine w.node w.fault w.seat.mine = (went.each i d l).leads_on t in
-            let from : LeadsOn leads phase_of stands number spends v.node None [] w.node w.fault w.seat.mine =
-            subst (λ (m : List Entry). LeadsOn leads phase_of stands number spends v.node None m w.node w.fault w.seat.mine) (ap (λ (s : Sight). s.mine) (hired_seat i d l))
-            (subst (λ (o : Option NodeFault). LeadsOn leads phase_of stands number spends v.node o v.seat.mine w.node w.fault w.seat.mine) (faults i d l) led)
-            in
-            let at : LeadsOn leads phase_of stands number spends (get_or nodes i a) None [] w.node w.fault (made_by i h) =
-            subst (λ (n : N). LeadsOn leads phase_of stands number spends n None [] w.node w.fault (made_by i h)) (hired_node i d a l)
-            (subst (λ (m : List Entry). LeadsOn leads phase_of stands number spends v.node None [] w.node w.fault m) (sym (own_entries i d inside)) from)
-            in
-            subst (λ (x : N × Option NodeFault). LeadsOn leads phase_of stands number spends (get_or nodes i a) None [] x.0 x.1 (made_by i h)) (sym (left_at i d b inside)) at
-
-        -- and each node's disks have gone on
-        pub all_grown : IsTrue tells → (i : ℕ) (a : N) (b : N × Option NodeFault) → i < length ws → WentFar leads phase_of stands number spends grown (get_or nodes i a) (get_or left i b)
-        all_grown t i a b l =
-            let inside : i < length us = omega (arith, l, went.count) in
-            let d = some_of ws i l in
-            let v = get_or ws i d in
-            let w = get_or us i d in
-            let grew : GrowsOn leads phase_of stands number spends grown v.node v.fault v.seat.mine w.node = (went.each i d l).grows_on t in
-            let from : GrowsOn leads phase_of stands number spends grown v.node None [] w.node =
-            subst (λ (m : List Entry). GrowsOn leads phase_of stands number spends grown v.node None m w.node) (ap (λ (s : Sight). s.mine) (hired_seat i d l))
-            (subst (λ (o : Option NodeFault). GrowsOn leads phase_of stands number spends grown v.node o v.seat.mine w.node) (faults i d l) grew)
-            in
-            let at : GrowsOn leads phase_of stands number spends grown (get_or nodes i a) None [] w.node =
-            subst (λ (n : N). GrowsOn leads phase_of stands number spends grown n None [] w.node) (hired_node i d a l) from
-            in
-            subst (λ (x : N × Option NodeFault). GrowsOn leads phase_of stands number spends grown (get_or nodes i a) None [] x.0) (sym (left_at i d b inside)) at
-
-        abbrev parted : WorkerView N → N × Option NodeFault
-        parted w = (w.node, w.fault)
-
-        left_count : length left ≡ length us
-        left_count = ap length left_is ∙ length-map us parted
-
-        -- where a worker has a fault its node has it
-        pub has_fault : OneHasFault us → HasFault left
-        has_fault one = (
-          one.0,
-          omega (arith, one.1, left_count),
-          λ b. let d = some_of us one.0 one.1 in subst (λ (x : N × Option NodeFault). IsSome x.1) (sym (left_at one.0 d b one.1)) (one.2 d),
-        )
-
-        -- where each worker's node rests by its own entries, it does by the history
-        pub all_rested : (at_rest_as : S → Bool → Type 0) → All (λ (w : WorkerView N). Rests number stands at_rest_as (w.node, w.fault) w.seat.mine) us
-            → (i : ℕ) (b : N × Option NodeFault) → i < length ws → Rests number stands at_rest_as (get_or left i b) (made_by i h)
-        all_rested at_rest_as rest i b l =
-            let inside : i < length us = omega (arith, l, went.count) in
-            let d = some_of us i inside in
-            subst (λ (x : N × Option NodeFault). Rests number stands at_rest_as x (made_by i h)) (sym (left_at i d b inside))
-            (subst (λ (m : List Entry). Rests number stands at_rest_as ((get_or us i d).node, (get_or us i d).fault) m) (sym (own_entries i d inside)) (rest i d inside))
-
-        -- what is known of each worker's own entries and its faults is known by the history
-        pub all_met : (tally : N → ℕ) → All (λ (w : WorkerView N). HasMet tally w.node w.fault w.seat.mine) us → (i : ℕ) (b : N × Option NodeFault) → i < length ws
-            → HasMet tally (get_or left i b).0 (get_or left i b).1 (made_by i h)
-        all_met tally have i b l =
-            let inside : i < length us = omega (arith, l, went.count) in
-            let d = some_of us i inside in
-            subst (λ (x : N × Option NodeFault). HasMet tally x.0 x.1 (made_by i h)) (sym (left_at i d b inside))
-            (subst (λ (m : List Entry). HasMet tally (get_or us i d).node (get_or us i d).fault m) (sym (own_entries i d inside)) (have i d inside))
+  -- and where those of each node of a setting have
+  pub all_nodes_gone_on : (g : Setting) → NumbersAreNodes g → (vs ws : List N) → length vs ≡ node_count g → length ws ≡ length vs
+      → ((n : Node) → IsNode g n → (a b : N) → HaveGoneOn image (disks_of (node_number n) (slice_index_or vs (node_number n) a)) (disks_of (node_number n) (slice_index_or ws (node_number n) b)))
+      → HaveGoneOn image (all_from disks_of 0 vs) (all_from disks_of 0 ws)
+  all_nodes_gone_on g numbers vs ws nodes count each =
+      all_gone_on vs ws count
+      (λ i a b below.
+      let of_number = numbers.each i (omega (arith, below, nodes)) in
+      let back = numbers.back i of_number.0 of_number.1 in
+      subst (λ j. HaveGoneOn image (disks_of j (slice_index_or vs j a)) (disks_of j (slice_index_or ws j b))) back.0 (each of_number.0 back.1 a b))

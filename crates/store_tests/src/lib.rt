@@ -2,20 +2,22 @@
 #![tactic(auto)]
 
 #[cfg(test)]
+mod disks_tests;
+#[cfg(test)]
 mod epoch_journal_tests;
 #[cfg(test)]
-mod kept_places_tests;
-#[cfg(test)]
-mod lent_disks_tests;
+mod lent_tests;
 #[cfg(test)]
 mod mem_outside_tests;
 #[cfg(test)]
 mod offset_journal_tests;
 #[cfg(test)]
-mod site_disks_tests;
+mod opening_tests;
 #[cfg(test)]
-mod store_opening_tests;
+mod places_tests;
 #[cfg(test)]
-mod store_reading_tests;
+mod reading_tests;
+#[cfg(test)]
+mod site_laws_tests;
 #[cfg(test)]
 mod topology_journal_tests;

@@ -2,8 +2,8 @@
 use Rattle.std.proofs.Common.{◌≡◌, ℕ, ◌+◌, ◌-◌, ◌<◌, ◌≤◌, List, [], ◌∷◌, ◌++◌, length, take, drop, refl, sym, ap, subst, ◌∙◌, append_assoc, arith}
 use Rattle.std.proofs.lemmas.List.{drop-take, drop-drop, drop_all, take_at, take-append-le, take-append-drop, take-take, length-take, length-take-le, length-drop, length-append}
 use Rattle.std.proofs.Math.Seq.{take-append-add}
-use Rattle.byte_split.specs.Bytes.{Lacks}
-use Rattle.byte_split.proofs.Splits.{lacks_append}
+use Rattle.list_words.specs.Bytes.{Lacks}
+use Rattle.list_words.proofs.Splits.{lacks_append}
 use Rattle.tail_reader.specs.Buffered.{line_feed, limit, behind, Buffers}
 use Rattle.tail_reader.specs.declared.tail.Next.TheVariants as next
 use Rattle.tail_reader.specs.Next.{IsNext}

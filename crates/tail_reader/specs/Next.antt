@@ -1,6 +1,6 @@
 -- What stands in a log from a place on.
 use Rattle.std.specs.Prelude.{ℕ, ◌≡◌, ◌+◌, ◌<◌, ◌≤◌, List, ◌∷◌, ◌++◌, length}
-use Rattle.byte_split.specs.Bytes.{Lacks}
+use Rattle.list_words.specs.Bytes.{Lacks}
 use Rattle.tail_reader.specs.Buffered.{line_feed, behind}
 use Rattle.tail_reader.specs.declared.tail.Next.{Next}
 use Rattle.tail_reader.specs.declared.tail.Next.TheVariants.{Line, Long, End}

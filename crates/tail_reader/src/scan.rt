@@ -1,13 +1,13 @@
 // Looks for the next line feed, over what was read ahead and the log behind it.
 ghost use Rattle.std.specs.Prelude.{◌≡◌, ◌≤◌, ◌<◌, ◌+◌, ◌^◌, ◌++◌, ◌∷◌, ◌⊎◌, [], List, ℕ, length, IfOk, IfSome, IfNone, OnErr, IsErr, IsTrue};
-ghost use Rattle.byte_split.specs.Bytes.{Lacks};
+ghost use Rattle.list_words.specs.Bytes.{Lacks};
 ghost use Rattle.outside.specs.Faults.{Counts};
 ghost use Rattle.tail_reader.specs.Buffered.{line_feed, behind, Buffers};
 ghost use Rattle.tail_reader.specs.Next.{IsNext, end_of};
 
 use crate::Next;
 use crate::window::Window;
-use byte_split::split_once;
+use list_words::split_once;
 use outside::{LogFile, ReadFault};
 
 /// The longest line, without its line feed.

@@ -7,7 +7,7 @@ ghost use Rattle.time_shards.specs.Shards.{IsRow, BeginsTable};
 ghost use Rattle.time_shards.specs.Text.{comma, row_text, HasFirst};
 
 use crate::{MAX_ROWS, MAX_SHARDS, ShardRow};
-use byte_split::split_once;
+use list_words::split_once;
 use std::str;
 
 // The row that the text begins with and that goes on with these rows, and what stands behind its comma, if one follows.

@@ -2,3 +2,10 @@ pub mod Setting
 pub mod Nodes
 pub mod Turns
 pub mod Rows
+pub mod Sent
+pub mod Dispatcher
+pub mod Joiner
+pub mod Server
+pub mod Replica
+pub mod Packets
+pub mod Spellings

@@ -1,11 +1,11 @@
 -- The nodes of a setting, their numbers, and to whom a packet may go.
 use Rattle.std.specs.Prelude.{◌≡◌, ℕ, ◌+◌, ◌*◌, ◌-◌, ◌<◌, nat_lt, List, [], ◌∷◌, if◌then◌else◌, Option, Some, None, ⊤}
 use Rattle.turn_defs.specs.Setting.{Setting, IsJoiner, first_joiner, site_of_joiner}
-use Rattle.packet_codec.specs.declared.packet.Packet.{Packet}
-use Rattle.packet_codec.specs.declared.node.Node.{Node}
-use Rattle.packet_codec.specs.declared.node.Node.TheVariants.{Dispatcher, Server, Replica, Joiner}
-use Rattle.packet_codec.specs.declared.node.To.{To}
-use Rattle.packet_codec.specs.declared.node.To.TheVariants.{Only, AnyJoiner}
+use Rattle.turn_defs.specs.declared.packet.Packet.{Packet}
+use Rattle.turn_defs.specs.declared.node.Node.{Node}
+use Rattle.turn_defs.specs.declared.node.Node.TheVariants.{Dispatcher, Server, Replica, Joiner}
+use Rattle.turn_defs.specs.declared.node.To.{To}
+use Rattle.turn_defs.specs.declared.node.To.TheVariants.{Only, AnyJoiner}
 
 -- the node is one of the setting's
 abbrev pub IsNode : Setting → Node → Type 0

@@ -1,5 +1,13 @@
-//! What is fixed for a run, the nodes and their numbers, and what a row of the turn table says. The rows themselves
-//! stand in the definitions of the four cores.
+//! What is fixed for a run, the nodes and their numbers, what they send to one another and how it is spelled, and the turn
+//! table: what each kind of node does with each input, in `specs/Dispatcher.antt`, `Joiner.antt`, `Server.antt` and
+//! `Replica.antt`.
 #![tactic(auto)]
 
 pub mod laws;
+mod node;
+mod packet;
+mod pair;
+
+pub use node::{Input, Node, To};
+pub use packet::{Outcome, Packet};
+pub use pair::PairRec;

@@ -18,7 +18,7 @@ use Rattle.registry_state.specs.declared.Token.{Token}
 use Rattle.registry_state.specs.LookBack.{or_else, first_in}
 use Rattle.registry_state.proofs.Tests.{same_id-true, same_id-false}
 use Rattle.log_records.specs.declared.records.ClickRec.{ClickRec}
-use Rattle.log_defs.specs.Report.{distinct}
+use Rattle.log_records.specs.Report.{distinct}
 use Rattle.verify_pass.specs.Classes.{in_order}
 
 pub ids_total : IsTotalOrder id_cmp

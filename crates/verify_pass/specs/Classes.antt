@@ -7,9 +7,9 @@ use Rattle.event_id.specs.EventId.{is_same as same_id, id_cmp}
 use Rattle.registry_state.specs.declared.Batch.{Batch}
 use Rattle.registry_state.specs.LookBack.{holder, bound_of}
 use Rattle.registry_state.specs.Same.{same_batch}
-use Rattle.log_defs.specs.declared.ReportLine.{ReportLine}
-use Rattle.log_defs.specs.declared.ReportLine.TheVariants.{J, M, X, U}
-use Rattle.output_log.specs.declared.pair.PairRec.{PairRec}
+use Rattle.log_records.specs.declared.report.ReportLine.{ReportLine}
+use Rattle.log_records.specs.declared.report.ReportLine.TheVariants.{J, M, X, U}
+use Rattle.turn_defs.specs.declared.pair.PairRec.{PairRec}
 use Rattle.paxos_defs.specs.Notes.{Note}
 use Rattle.paxos_defs.specs.Decided as paxos
 use Rattle.paxos_acceptor.specs.Cells.{note_view}

@@ -1,7 +1,7 @@
 // The class of each click.
 ghost use Rattle.std.specs.Prelude.{◌≡◌, List, length, map, IfOk};
 ghost use Rattle.log_records.specs.declared.records.ClickRec.{ClickRec as Click};
-ghost use Rattle.log_defs.specs.Report.{distinct};
+ghost use Rattle.log_records.specs.Report.{distinct};
 ghost use Rattle.event_id.specs.declared.id.EventId.{EventId as Id};
 ghost use Rattle.registry_state.specs.declared.Batch.{Batch as Value};
 ghost use Rattle.time_shards.specs.Shards.{shard_count};
@@ -16,7 +16,7 @@ use crate::lines::line_for;
 use crate::states::{registries, registry_for};
 use crate::written::Written;
 use event_id::EventId;
-use log_defs::ReportLine;
+use log_records::ReportLine;
 use registry_state::Registry;
 use std::alloc::{AllocError, Global};
 use time_shards::Table;

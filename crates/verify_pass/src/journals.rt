@@ -1,9 +1,9 @@
 // The records of the replicas' journals and of the output logs.
 ghost use Rattle.std.specs.Prelude.{◌≡◌};
 
-use output_log::PairRec;
 use paxos_acceptor::ReplicaNote;
 use std::marker::Model;
+use turn_defs::PairRec;
 
 /// A replica's notes, in the order in which it wrote them.
 #[derive(Debug, Drop)]
@@ -45,7 +45,7 @@ pub struct PairList {
 
 impl Model for PairList {
     ghost use Rattle.std.specs.Prelude.{List};
-    ghost use Rattle.output_log.specs.declared.pair.PairRec.{PairRec};
+    ghost use Rattle.turn_defs.specs.declared.pair.PairRec.{PairRec};
 
     ghost Value = { List PairRec };
 

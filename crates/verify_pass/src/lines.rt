@@ -1,16 +1,15 @@
 // The line of an id.
 ghost use Rattle.std.specs.Prelude.{◌≡◌, List, Option, IfOk, option_map};
-ghost use Rattle.log_defs.specs.declared.ReportLine.TheVariants.{J};
+ghost use Rattle.log_records.specs.declared.report.ReportLine.TheVariants.{J};
 ghost use Rattle.registry_state.specs.declared.Batch.{Batch as Value};
 ghost use Rattle.registry_state.specs.Registry.{Knows};
 ghost use Rattle.verify_pass.specs.Classes.{line_by, unwritten_line};
 
 use event_id::EventId;
-use log_defs::ReportLine;
-use log_records::{ClickRec, QueryRec, Text};
-use output_log::PairRec;
+use log_records::{ClickRec, QueryRec, ReportLine, Text};
 use registry_state::Registry;
 use std::alloc::{AllocError, Global};
+use turn_defs::PairRec;
 
 /// The line of an id whose first pair is given. Only a pair's texts take memory.
 pub fn line_for(

@@ -9,9 +9,9 @@ ghost use Rattle.verify_pass.specs.Written.{pair_at};
 
 use crate::PairList;
 use event_id::EventId;
-use output_log::PairRec;
 use std::alloc::{AllocError, Global};
 use std::collections::HashMap;
+use turn_defs::PairRec;
 
 /// The first pair of each id, in the order of the disks. A look-up takes constant expected time.
 #[derive(Drop)]

@@ -12,10 +12,10 @@ use crate::engine::{Fault, bulk_totals};
 use crate::tell::{status, tell};
 use crate::wanted::BulkWanted;
 use outside::{Gate, Sink};
+use site_run::Ran;
 use std::alloc::Global;
 use std::sync::Wait;
 use std::thread::Threads;
-use store_run::Ran;
 
 // The logs of a bulk run lie in memory, where a read fails only for want of it. No failed read is ever met.
 #[tactic(auto, using(crate::proofs::Ends::failed_of, crate::proofs::Ends::four_of))]

@@ -6,7 +6,7 @@ ghost use Rattle.time_shards.specs.Text.{IsFirstBad};
 ghost use Rattle.lossy_link.specs.Fates.{PlanView};
 ghost use Rattle.lossy_link.specs.declared.bad_plan.Field.{Field as Place};
 ghost use Rattle.log_records.specs.declared.check.BadLine.{BadLine as Bad};
-ghost use Rattle.run_faults.specs.declared.fault.LogName.{LogName as LogKind};
+ghost use Rattle.site_run.specs.declared.faults.fault.LogName.{LogName as LogKind};
 ghost use Rattle.turn_defs.specs.Setting.{Setting};
 ghost use Rattle.photon_cli.specs.declared.engine.fault.Fault.{Fault as Failure};
 ghost use Rattle.photon_cli.specs.Drill.{IsBadIn, IsPlanIn, PrintsDrill, PrintsDrillPrefix};
@@ -19,10 +19,10 @@ use crate::engine::drill_logs;
 use crate::tell::{status, tell};
 use crate::wanted::Wanted;
 use outside::{Gate, Sink, Source};
+use site_run::Ran;
 use std::alloc::Global;
 use std::sync::Wait;
 use std::thread::Threads;
-use store_run::Ran;
 
 /// Drills with the plan of a file over the two logs of these names, and answers the exit status.
 pub fn drill_command<R, F, K, G>(

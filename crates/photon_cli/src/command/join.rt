@@ -5,13 +5,13 @@ ghost use Rattle.outside.specs.Faults.{Counts, Rose};
 ghost use Rattle.time_shards.specs.declared.ShardRow.{ShardRow};
 ghost use Rattle.time_shards.specs.Text.{IsFirstBad};
 ghost use Rattle.log_records.specs.declared.check.BadLine.{BadLine as Bad};
-ghost use Rattle.run_faults.specs.declared.fault.LogName.{LogName as LogKind};
+ghost use Rattle.site_run.specs.declared.faults.fault.LogName.{LogName as LogKind};
 ghost use Rattle.turn_defs.specs.Setting.{Setting};
-ghost use Rattle.site_disks.specs.Lent.{GoesOn};
-ghost use Rattle.store_laws.specs.Stores.{IsSoundStore};
-ghost use Rattle.store_opening.specs.Causes.{LeavesSomething};
+ghost use Rattle.gate_journal.specs.Images.{GoesOn};
+ghost use Rattle.site_laws.specs.Stores.{IsSoundStore};
+ghost use Rattle.site_store.specs.Causes.{LeavesSomething};
 ghost use Rattle.photon_cli.specs.declared.engine.fault.Fault.{Fault as Failure};
-ghost use Rattle.store_run.specs.Refused.{HasPassed, IsTaken, WasJournal};
+ghost use Rattle.site_run.specs.Refused.{HasPassed, IsTaken, WasJournal};
 ghost use Rattle.photon_cli.specs.Causes.{IsAtLimit, IsBelowLimits, IsMismatched};
 ghost use Rattle.photon_cli.specs.Join.{HasRun, IsAsked, Prints, PrintsAfresh, PrintsPrefix, Refuses, IsInvalid};
 ghost use Rattle.photon_cli.specs.Faults.{status_of};
@@ -22,10 +22,10 @@ use crate::engine::join_logs;
 use crate::tell::{status, tell};
 use crate::wanted::Wanted;
 use outside::{Gate, Sink, Source, Store};
+use site_run::Ran;
 use std::alloc::Global;
 use std::sync::Wait;
 use std::thread::Threads;
-use store_run::Ran;
 
 /// Joins the two logs of these names over the store, and answers the exit status.
 pub fn join_command<R, F, S, K, G>(

@@ -6,10 +6,10 @@ ghost use Rattle.log_records.specs.declared.records.ClickRec.{ClickRec as Click}
 ghost use Rattle.log_records.specs.declared.check.BadLine.{BadLine as Bad};
 ghost use Rattle.log_records.specs.Check.{IsClickLog, RefusesClick};
 ghost use Rattle.turn_defs.specs.Setting.{Setting};
-ghost use Rattle.site_disks.specs.Lent.{StaysAs};
-ghost use Rattle.store_laws.specs.Stores.{IsSoundStore};
-ghost use Rattle.store_opening.specs.Causes.{LeavesSomething};
-ghost use Rattle.store_run.specs.Refused.{IsTaken, WasJournal};
+ghost use Rattle.gate_journal.specs.Images.{StaysAs};
+ghost use Rattle.site_laws.specs.Stores.{IsSoundStore};
+ghost use Rattle.site_store.specs.Causes.{LeavesSomething};
+ghost use Rattle.site_run.specs.Refused.{IsTaken, WasJournal};
 ghost use Rattle.photon_cli.specs.declared.engine.fault.Fault.{Fault as Failure};
 ghost use Rattle.photon_cli.specs.Causes.{AreMisplaced, CanBeRead, IsAtLimit, IsBelowLimits, IsOverLog, unasked};
 ghost use Rattle.photon_cli.specs.Faults.{status_of};

@@ -4,7 +4,7 @@ ghost use Rattle.std.specs.List.{list_any};
 ghost use Rattle.outside.specs.Faults.{Counts};
 ghost use Rattle.time_shards.specs.Text.{IsFirstBad};
 ghost use Rattle.lossy_link.specs.Plans.{IsPlanOf};
-ghost use Rattle.drill_store.specs.Planned.{is_joiners};
+ghost use Rattle.photon_cli.specs.Planned.{is_joiners};
 ghost use Rattle.mem_outside.specs.Files.{bytes_under};
 ghost use Rattle.bulk_logs.specs.Bulk.{query_log, click_log};
 ghost use Rattle.photon_cli.specs.declared.engine.fault.Fault.TheVariants as fault;
@@ -13,18 +13,18 @@ ghost use Rattle.photon_cli.specs.LogFaults.{IsOfBulk};
 
 use super::drill::drilled_lines;
 use super::fault::Fault;
+use crate::drill_store::stops_a_joiner;
 use crate::wanted::{BulkWanted, Wanted};
 use bulk_logs::laws::{report_kinds, sizes, valid_logs};
 use bulk_logs::make_logs;
-use drill_store::stops_a_joiner;
 use lossy_link::Plan;
 use mem_outside::{MemFile, MemSource};
 use outside::{Gate, Sink};
 use report_text::write_totals;
+use site_run::{Names, Ran};
 use std::alloc::{AllocError, Global};
 use std::sync::Wait;
 use std::thread::Threads;
-use store_run::{Names, Ran};
 use time_shards::Table;
 
 // One click in ten has a timestamp below it.

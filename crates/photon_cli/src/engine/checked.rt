@@ -6,19 +6,19 @@ ghost use Rattle.log_records.specs.declared.records.ClickRec.{ClickRec as Click}
 ghost use Rattle.log_records.specs.declared.why.Why.{Why as Reason};
 ghost use Rattle.log_records.specs.Check.{IsQueryLog, IsClickLog, RefusesQuery, RefusesClick};
 ghost use Rattle.log_records.specs.declared.check.BadLine.{BadLine as Bad};
-ghost use Rattle.log_check.specs.declared.check.CheckFault.TheVariants as check_fault;
-ghost use Rattle.log_check.specs.Check.{EndsAt};
-ghost use Rattle.run_faults.specs.declared.fault.LogName.{LogName as LogKind};
-ghost use Rattle.run_faults.specs.declared.fault.LogName.TheVariants.{Queries, Clicks};
+ghost use Rattle.photon_cli.specs.declared.log_check.check.CheckFault.TheVariants as check_fault;
+ghost use Rattle.photon_cli.specs.CheckedLogs.{EndsAt};
+ghost use Rattle.site_run.specs.declared.faults.fault.LogName.{LogName as LogKind};
+ghost use Rattle.site_run.specs.declared.faults.fault.LogName.TheVariants.{Queries, Clicks};
 ghost use Rattle.photon_cli.specs.declared.engine.fault.Fault.TheVariants as fault;
 ghost use Rattle.photon_cli.specs.Join.{AreLogs, HasIds, Refuses};
 ghost use Rattle.photon_cli.specs.LogFaults.{IsLogFault, failed_read, refusal_of};
 
 use super::fault::Fault;
-use log_check::{CheckFault, CheckedLog, check_click_log, check_query_log};
+use crate::log_check::{CheckFault, CheckedLog, check_click_log, check_query_log};
 use log_records::{BadLine, Why};
 use outside::{OpenFault, Source};
-use run_faults::{LogName, RunFault};
+use site_run::{LogName, RunFault};
 use std::alloc::Global;
 
 /// Opens the log of that name.

@@ -2,7 +2,7 @@
 
 use log_records::Why;
 use lossy_link::Field;
-use run_faults::{LogName, RunFault};
+use site_run::{LogName, RunFault};
 
 /// Why a command gives up. It holds no memory of the heap.
 #[derive(Clone, Copy, Debug)]

@@ -3,32 +3,31 @@ ghost use Rattle.std.specs.Prelude.{◌<◌, ◌≤◌, IfOk, IfErr, IfSome, IsS
 ghost use Rattle.outside.specs.declared.store.DiskName.{DiskName};
 ghost use Rattle.outside.specs.Faults.{Rose};
 ghost use Rattle.time_shards.specs.Shards.{IsTable};
-ghost use Rattle.site_disks.specs.Lent.{GoesOn};
-ghost use Rattle.store_laws.specs.Stores.{IsSoundStore};
-ghost use Rattle.store_laws.specs.Laws.{LeavesNothing};
-ghost use Rattle.store_opening.specs.Causes.{LeavesSomething};
-ghost use Rattle.store_run.specs.Asked.{OfSetting};
-ghost use Rattle.store_run.specs.Joined.{Joins, JoinsAfresh, RanAfresh};
-ghost use Rattle.store_run.specs.Left.{RunLeft};
+ghost use Rattle.gate_journal.specs.Images.{GoesOn};
+ghost use Rattle.site_laws.specs.Stores.{IsSoundStore};
+ghost use Rattle.site_laws.specs.StoreLaws.{LeavesNothing};
+ghost use Rattle.site_store.specs.Causes.{LeavesSomething};
+ghost use Rattle.site_run.specs.Asked.{OfSetting};
+ghost use Rattle.site_run.specs.Joined.{Joins, JoinsAfresh, RanAfresh};
+ghost use Rattle.site_run.specs.Left.{RunLeft};
 ghost use Rattle.air_bus.specs.History.{IsAired};
 ghost use Rattle.bus_seat.specs.Seats.{IsIn};
 ghost use Rattle.std.specs.List.{All};
-ghost use Rattle.store_run.specs.Refused.{HasPassed};
+ghost use Rattle.site_run.specs.Refused.{HasPassed};
 ghost use Rattle.photon_cli.specs.Causes.{HasCause};
 ghost use Rattle.photon_cli.specs.Join.{HaveIds};
 ghost use Rattle.photon_cli.specs.LogFaults.{IsLate, IsFair};
 
 use super::fault::Fault;
-use log_check::CheckedLog;
-use log_defs::ReportLine;
+use crate::log_check::CheckedLog;
+use log_records::ReportLine;
 use lossy_link::Plan;
 use outside::{Gate, Source, Store};
-use site_nodes::Config;
+use site_run::meaning::means;
+use site_run::{Config, Names, Outcome, Ran, run_sites};
 use std::alloc::Global;
 use std::sync::Wait;
 use std::thread::Threads;
-use store_run::meaning::means;
-use store_run::{Names, Ran, run_sites};
 use verify_pass::classify;
 
 /// Runs both sites over the store until all nodes are at rest, and gives the report's line for each distinct click id, by what the
@@ -91,7 +90,7 @@ where
         gate,
         ran,
     ) {
-        Ok(journals) => journals,
+        Ok(Outcome { journals }) => journals,
         Err(cause) => return Err(Fault::Run(cause)),
     };
     match classify(alloc, &clicks.ids, &journals, &config.table) {

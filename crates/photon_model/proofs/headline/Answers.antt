@@ -1,9 +1,9 @@
 use Rattle.std.proofs.Common.{inl, inr, ⊎_elim, [], subst, arith}
 use Rattle.std.proofs.lemmas.Bool.{cases_lt}
 use Rattle.registry_state.specs.LookBack.{bound_of}
-use Rattle.photon_defs.specs.Facts.{IfUp, ServerHolds, known}
-use Rattle.photon_defs.specs.Runs.{world_after, opening}
-use Rattle.photon_defs.specs.Sound.{accepted_inserts, values_of}
+use Rattle.photon_model.specs.Facts.{IfUp, ServerHolds, known}
+use Rattle.photon_model.specs.Runs.{world_after, opening}
+use Rattle.photon_model.specs.Sound.{accepted_inserts, values_of}
 use Rattle.photon_model.proofs.Running.{drained, written_once, own_query}
 use Rattle.photon_model.proofs.Agreeing.{every_run_holds, one_decided}
 use Rattle.photon_model.proofs.Storing.{records_stay}

@@ -1,7 +1,7 @@
 use Rattle.std.proofs.Common.{List, map, subst, sym}
 use Rattle.log_records.specs.declared.records.ClickRec.{ClickRec as Click}
 use Rattle.log_records.specs.Lines.{ClickLine}
-use Rattle.log_defs.specs.Report.{distinct}
+use Rattle.log_records.specs.Report.{distinct}
 use Rattle.paxos_defs.specs.Agreement.{JournalsAgree}
 use Rattle.turn_defs.specs.Turns.{BallotNote}
 use Rattle.photon_model.proofs.Verifying.{pair, found, line, missing}

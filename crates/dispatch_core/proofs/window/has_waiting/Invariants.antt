@@ -1,6 +1,6 @@
 use Rattle.std.proofs.Common.{◌≡◌, map}
 use Rattle.std.specs.VecDeque.Iter.{deque_iter_rest}
-use Rattle.dispatch_core.specs.Dispatcher.{some_waits}
+use Rattle.turn_defs.specs.Dispatcher.{some_waits}
 use Rattle.dispatch_core.specs.Windows.{fresh_of}
 use Rattle.dispatch_core.proofs.window.has_waiting.Given as goal
 

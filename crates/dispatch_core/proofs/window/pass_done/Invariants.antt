@@ -1,6 +1,6 @@
 use Rattle.std.proofs.Common.{◌≡◌, map}
 use Rattle.std.specs.VecDeque.{deque_len}
-use Rattle.dispatch_core.specs.Dispatcher.{after_done}
+use Rattle.turn_defs.specs.Dispatcher.{after_done}
 use Rattle.dispatch_core.specs.Windows.{fresh_of}
 use Rattle.dispatch_core.proofs.window.pass_done.Given as goal
 

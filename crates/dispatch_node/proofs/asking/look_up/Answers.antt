@@ -1,7 +1,7 @@
 use Rattle.std.proofs.Common.{ℕ, sym, subst}
 use Rattle.std.proofs.lemmas.Result.{IfOk-weaker}
-use Rattle.packet_codec.specs.declared.node.Input.{Input}
-use Rattle.packet_codec.specs.declared.node.Input.TheVariants.{Own, Tick, Deliver}
+use Rattle.turn_defs.specs.declared.node.Input.{Input}
+use Rattle.turn_defs.specs.declared.node.Input.TheVariants.{Own, Tick, Deliver}
 use Rattle.dispatch_core.specs.Standing.{Carries, IsKept}
 use Rattle.dispatch_node.specs.Node.{IsAsked}
 use Rattle.dispatch_node.proofs.Disks.{distinct_of}

@@ -1,6 +1,6 @@
 use Rattle.std.proofs.Common.{◌≡◌, [], sym, ◌∙◌, ap, drop, Some}
 use Rattle.std.proofs.lemmas.List.{append-nil}
-use Rattle.output_log.specs.declared.pair.PairRec.{PairRec}
+use Rattle.turn_defs.specs.declared.pair.PairRec.{PairRec}
 use Rattle.output_log.specs.Pairs.{fields_of}
 use Rattle.output_log.proofs.Parts.{not_empty}
 use Rattle.output_log.proofs.pair.read_pair.Goals as goal

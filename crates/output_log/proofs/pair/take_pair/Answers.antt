@@ -1,5 +1,5 @@
 use Rattle.std.proofs.Common.{◌≡◌, List, ℕ, ◌++◌, sym, ◌∙◌, ap}
-use Rattle.fields.specs.Spellings.{click, query, token}
+use Rattle.turn_defs.specs.Spellings.{click, query, token}
 use Rattle.output_log.specs.Pairs.{pair_of}
 use Rattle.output_log.proofs.Parts.{left_behind, handed_on, three}
 use Rattle.output_log.proofs.pair.take_pair.Goals as goal

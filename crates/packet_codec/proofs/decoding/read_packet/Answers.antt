@@ -1,7 +1,7 @@
-use Rattle.fields.specs.Bad.{After}
-use Rattle.fields.specs.Cells.{Run}
-use Rattle.fields.proofs.BadPlaces.{stops_out, stops_through}
-use Rattle.packet_codec.specs.Packets.{Packets}
+use Rattle.packet_codec.specs.Bad.{After}
+use Rattle.packet_codec.specs.Cells.{Run}
+use Rattle.packet_codec.proofs.BadPlaces.{stops_out, stops_through}
+use Rattle.packet_codec.specs.Spelled.{Packets}
 use Rattle.packet_codec.proofs.PacketParts.{packet_bad_tag, packet_bad_fields}
 use Rattle.packet_codec.proofs.decoding.read_packet.Goals as goal
 

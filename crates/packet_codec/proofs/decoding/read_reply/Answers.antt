@@ -1,6 +1,6 @@
-use Rattle.fields.specs.Bad.{After}
-use Rattle.fields.proofs.BadPlaces.{stops_out}
-use Rattle.packet_codec.specs.Packets.{Packets}
+use Rattle.packet_codec.specs.Bad.{After}
+use Rattle.packet_codec.proofs.BadPlaces.{stops_out}
+use Rattle.packet_codec.specs.Spelled.{Packets}
 use Rattle.packet_codec.proofs.PacketParts.{ReplyFields, reply_bad}
 use Rattle.packet_codec.proofs.decoding.read_reply.Goals as goal
 

@@ -1,8 +1,8 @@
 use Rattle.std.proofs.Common.{◌≡◌, ◌++◌, true, false, List, ap, sym, ◌∙◌, rules}
 use Rattle.std.proofs.lemmas.Bool.{cond-true, cond-false}
 use Rattle.std.proofs.lemmas.List.{append-nil}
-use Rattle.packet_codec.specs.declared.packet.Packet.{Packet}
-use Rattle.packet_codec.specs.declared.node.To.{To}
+use Rattle.turn_defs.specs.declared.packet.Packet.{Packet}
+use Rattle.turn_defs.specs.declared.node.To.{To}
 use Rattle.registry_server.specs.Stations.{sent}
 use Rattle.registry_server.proofs.Sending.{sent_push}
 use Rattle.registry_server.proofs.packets.push_reply.Goals as goal

@@ -1,6 +1,6 @@
 use Rattle.std.proofs.Common.{◌≡◌, ◌≤◌, ℕ, List, length, ◌++◌, sym, ◌∙◌, ap, subst}
 use Rattle.replica_node.proofs.NoteBytes.{note_short}
-use Rattle.fields.specs.Spellings.{note as spelled}
+use Rattle.packet_codec.specs.Notes.{note as spelled}
 use Rattle.replica_node.proofs.votes.note_frame.Goals as goal
 
 pub new-requires : goal.new-requires

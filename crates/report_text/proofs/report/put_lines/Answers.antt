@@ -1,5 +1,5 @@
 use Rattle.std.proofs.Common.{arith}
-use Rattle.log_defs.specs.Report.{line_text}
+use Rattle.log_records.specs.Report.{line_text}
 use Rattle.report_text.proofs.Streams.{text_passed, text_cut, on_err}
 use Rattle.report_text.proofs.report.put_lines.Goals as goal
 

@@ -1,6 +1,6 @@
 use Rattle.std.proofs.Common.{◌≤◌, ◌++◌, take, IsTrue}
 use Rattle.std.specs.List.{flat_map}
-use Rattle.log_defs.specs.Report.{line_text}
+use Rattle.log_records.specs.Report.{line_text}
 use Rattle.report_text.specs.Stream.{Passed}
 use Rattle.report_text.proofs.report.put_lines.Given as goal
 

@@ -1,6 +1,6 @@
 use Rattle.std.proofs.Common.{◌≡◌, ◌∙◌, sym, subst, inl, inr}
-use Rattle.byte_split.specs.Bytes.{Lacks}
-use Rattle.byte_split.proofs.Splits.{lacks_none}
+use Rattle.list_words.specs.Bytes.{Lacks}
+use Rattle.list_words.proofs.Splits.{lacks_none}
 use Rattle.time_shards.specs.Text.{comma, row_text}
 use Rattle.time_shards.proofs.Texts.{row_lacks}
 use Rattle.time_shards.proofs.text.cut.Goals as goal

@@ -4,9 +4,9 @@ use Rattle.std.specs.List.{flat_map}
 use Rattle.std.proofs.lemmas.Simd.{map-map}
 use Rattle.event_id.specs.declared.id.EventId.{EventId}
 use Rattle.log_records.specs.declared.records.ClickRec.{ClickRec}
-use Rattle.log_defs.specs.declared.ReportLine.{ReportLine}
-use Rattle.log_defs.specs.Report.{distinct}
-use Rattle.output_log.specs.declared.pair.PairRec.{PairRec}
+use Rattle.log_records.specs.declared.report.ReportLine.{ReportLine}
+use Rattle.log_records.specs.Report.{distinct}
+use Rattle.turn_defs.specs.declared.pair.PairRec.{PairRec}
 use Rattle.paxos_defs.specs.declared.Place.{Place}
 use Rattle.paxos_defs.specs.Decided as paxos
 use Rattle.registry_state.specs.Same.{same_batch}

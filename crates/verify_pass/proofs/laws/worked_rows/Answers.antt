@@ -4,8 +4,8 @@ use Rattle.paxos_defs.specs.Decided.{decided}
 use Rattle.registry_state.specs.Same.{same_batch}
 use Rattle.paxos_acceptor.specs.Cells.{note_view}
 use Rattle.paxos_acceptor.specs.declared.notes.ReplicaNote.{ReplicaNote}
-use Rattle.output_log.specs.declared.pair.PairRec.{PairRec}
-use Rattle.log_defs.specs.declared.ReportLine.{ReportLine}
+use Rattle.turn_defs.specs.declared.pair.PairRec.{PairRec}
+use Rattle.log_records.specs.declared.report.ReportLine.{ReportLine}
 use Rattle.log_records.specs.Rows.{one_click}
 use Rattle.verify_pass.specs.Classes.{first_pair, line_by, is_missing_by}
 use Rattle.verify_pass.specs.Rows.{Says}

@@ -1,6 +1,6 @@
 use Rattle.std.proofs.Common.{subst, sym, IfOk}
-use Rattle.packet_codec.specs.declared.node.Input.{Input}
-use Rattle.dispatch_core.specs.Dispatcher.{dispatcher_own, dispatcher_gets}
+use Rattle.turn_defs.specs.declared.node.Input.{Input}
+use Rattle.turn_defs.specs.Dispatcher.{dispatcher_own, dispatcher_gets}
 use Rattle.dispatch_core.specs.Standing.{Takes, Carries, IsTurn, out_of}
 use Rattle.dispatch_core.specs.declared.dealer.Dealer.{Dealer}
 use Rattle.dispatch_core.specs.declared.input.DispatchInput.{DispatchInput}

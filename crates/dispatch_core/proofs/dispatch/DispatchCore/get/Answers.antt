@@ -1,9 +1,9 @@
 use Rattle.std.proofs.Common.{◌≡◌, ℕ, ◌∙◌, ap, ◌⊎◌, inl, inr}
 use Rattle.registry_state.specs.declared.Token.{Token}
-use Rattle.packet_codec.specs.declared.packet.Outcome.{Outcome}
-use Rattle.packet_codec.specs.declared.packet.Outcome.TheVariants.{Written, Already, TooOld}
+use Rattle.turn_defs.specs.declared.packet.Outcome.{Outcome}
+use Rattle.turn_defs.specs.declared.packet.Outcome.TheVariants.{Written, Already, TooOld}
 use Rattle.turn_defs.specs.Setting.{Setting}
-use Rattle.dispatch_core.specs.Dispatcher.{DispatcherKept, DispatcherLive, dispatcher_gets, dispatcher_joined, ends, parks}
+use Rattle.turn_defs.specs.Dispatcher.{DispatcherKept, DispatcherLive, dispatcher_gets, dispatcher_joined, ends, parks}
 use Rattle.dispatch_core.proofs.Rows.{as_out}
 use Rattle.dispatch_core.proofs.dispatch.DispatchCore.get.Goals as goal
 

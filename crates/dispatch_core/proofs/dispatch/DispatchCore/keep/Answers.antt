@@ -1,6 +1,6 @@
 use Rattle.std.proofs.Common.{Option, refl, subst}
 use Rattle.turn_defs.specs.Turns.{Note, land}
-use Rattle.dispatch_core.specs.Dispatcher.{DispatcherLive, land_dispatcher}
+use Rattle.turn_defs.specs.Dispatcher.{DispatcherLive, land_dispatcher}
 use Rattle.dispatch_core.specs.Changes.{note_of}
 use Rattle.dispatch_core.specs.Standing.{Stands}
 use Rattle.dispatch_core.proofs.Keeping.{turned}

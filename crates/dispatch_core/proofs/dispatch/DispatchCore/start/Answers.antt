@@ -2,8 +2,8 @@ use Rattle.std.proofs.Common.{◌≡◌, ◌≤◌, ◌∙◌, List, [], ℕ, ap
 use Rattle.std.proofs.lemmas.List.{take_more, take_all}
 use Rattle.indexmap.specs.IndexSet.{contains}
 use Rattle.list_words.specs.Lists.{has}
-use Rattle.packet_codec.specs.declared.packet.Packet.{Packet}
-use Rattle.packet_codec.specs.declared.node.Node.{Node}
+use Rattle.turn_defs.specs.declared.packet.Packet.{Packet}
+use Rattle.turn_defs.specs.declared.node.Node.{Node}
 use Rattle.turn_defs.specs.Nodes.{Addressed}
 use Rattle.dispatch_core.proofs.Sets.{one_more}
 use Rattle.dispatch_core.proofs.dispatch.DispatchCore.start.Goals as goal

@@ -3,7 +3,7 @@ use Rattle.std.specs.List.{zip}
 use Rattle.std.proofs.lemmas.List.Elements.{All-same}
 use Rattle.list_words.proofs.Lists.{each_append}
 use Rattle.log_records.specs.declared.records.ClickRec.{ClickRec as Click}
-use Rattle.dispatch_core.specs.Dispatcher.{DispatcherLive, dispatcher_tick}
+use Rattle.turn_defs.specs.Dispatcher.{DispatcherLive, dispatcher_tick}
 use Rattle.dispatch_core.specs.Outboxes.{Puts, waiting_joins}
 use Rattle.dispatch_core.specs.Spelled.{IsJoin}
 use Rattle.dispatch_core.specs.Standing.{Sends}

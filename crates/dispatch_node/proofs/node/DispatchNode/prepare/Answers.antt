@@ -1,6 +1,6 @@
 use Rattle.std.proofs.Common.{List, subst}
-use Rattle.packet_codec.specs.declared.packet.Packet.{Packet}
-use Rattle.packet_codec.specs.declared.node.Node.{Node}
+use Rattle.turn_defs.specs.declared.packet.Packet.{Packet}
+use Rattle.turn_defs.specs.declared.node.Node.{Node}
 use Rattle.site_node.specs.Bytes.{AreSpelled}
 use Rattle.dispatch_core.specs.Changes.{note_of}
 use Rattle.dispatch_node.proofs.node.DispatchNode.prepare.Goals as goal

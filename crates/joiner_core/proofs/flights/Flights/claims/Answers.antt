@@ -1,8 +1,8 @@
 use Rattle.std.proofs.Common.{◌≡◌, ◌++◌, List, map, sym, ap, subst, ◌∙◌}
 use Rattle.std.proofs.lemmas.List.{append-nil}
 use Rattle.event_id.specs.declared.id.EventId.{EventId}
-use Rattle.packet_codec.specs.declared.packet.Packet.{Packet}
-use Rattle.packet_codec.specs.declared.node.Node.{Node}
+use Rattle.turn_defs.specs.declared.packet.Packet.{Packet}
+use Rattle.turn_defs.specs.declared.node.Node.{Node}
 use Rattle.joiner_core.specs.declared.flights.Waiting.{Waiting}
 use Rattle.joiner_core.specs.Flying.{flights, claim_to}
 use Rattle.joiner_core.specs.Spelled.{ArePackets}

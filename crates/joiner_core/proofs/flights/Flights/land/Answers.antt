@@ -1,7 +1,7 @@
 use Rattle.std.proofs.Common.{◌≡◌, List, subst, map, true, false, is_some, sym, ap, ◌∙◌, rules}
 use Rattle.std.specs.List.{find}
 use Rattle.registry_state.proofs.Learning.{nobody}
-use Rattle.joiner_core.specs.Joiner.{is_for}
+use Rattle.turn_defs.specs.Joiner.{is_for}
 use Rattle.std.specs.List.{AllByRecursion}
 use Rattle.event_id.specs.declared.id.EventId.{EventId}
 use Rattle.event_id.specs.EventId.{is_same as same_id}

@@ -1,8 +1,8 @@
 use Rattle.std.proofs.Common.{List, [], ◌∷◌, sym, subst}
 use Rattle.registry_state.specs.declared.Token.{Token}
-use Rattle.fields.specs.Spellings.{IsToken}
-use Rattle.packet_codec.specs.declared.packet.Packet.{Packet}
-use Rattle.packet_codec.specs.declared.node.Node.{Node}
+use Rattle.turn_defs.specs.Spellings.{IsToken}
+use Rattle.turn_defs.specs.declared.packet.Packet.{Packet}
+use Rattle.turn_defs.specs.declared.node.Node.{Node}
 use Rattle.joiner_core.specs.Spelled.{ArePackets}
 use Rattle.joiner_core.proofs.node_core.JoinerCore.claim.Goals as goal
 

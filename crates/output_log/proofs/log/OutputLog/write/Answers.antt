@@ -3,7 +3,8 @@ use Rattle.std.specs.Prelude.{map}
 use Rattle.std.proofs.lemmas.List.Elements.{All-push, All-same}
 use Rattle.outside.proofs.Moments.{weaker}
 use Rattle.gate_journal.specs.Gate.{records, StandsFor, IsOldOrNew}
-use Rattle.output_log.specs.Pairs.{IsPair, record_of, KeepsOr}
+use Rattle.output_log.specs.Pairs.{record_of, KeepsOr}
+use Rattle.turn_defs.specs.Spellings.{IsPair}
 use Rattle.output_log.proofs.Turns.{more, keeps_or}
 use Rattle.output_log.proofs.log.OutputLog.write.Goals as goal
 

@@ -1,7 +1,7 @@
-use Rattle.fields.specs.Bad.{Spelled}
-use Rattle.fields.specs.Cells.{Run}
-use Rattle.fields.specs.Spellings.{number, IsNumber, token, IsToken}
-use Rattle.fields.proofs.BadPlaces.{stops_out}
+use Rattle.packet_codec.specs.Bad.{Spelled}
+use Rattle.packet_codec.specs.Cells.{Run}
+use Rattle.turn_defs.specs.Spellings.{number, IsNumber, token, IsToken}
+use Rattle.packet_codec.proofs.BadPlaces.{stops_out}
 use Rattle.packet_codec.proofs.OutcomeParts.{Outcomes, outcome_bad_tag, outcome_bad_token, outcome_bad_bound, outcome_bad_lines}
 use Rattle.packet_codec.proofs.outcomes.OutcomeField.read.Goals as goal
 

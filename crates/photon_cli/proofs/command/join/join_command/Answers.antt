@@ -4,7 +4,7 @@ use Rattle.photon_cli.specs.declared.engine.fault.Fault.TheVariants as fault
 use Rattle.photon_cli.specs.Faults.{status_of}
 use Rattle.photon_cli.specs.LogFaults.{IsEarly}
 use Rattle.photon_cli.specs.Words.{values_in}
-use Rattle.store_run.proofs.Refusing.{kept_are_journals}
+use Rattle.site_run.proofs.Refusing.{kept_are_journals}
 use Rattle.photon_cli.proofs.Causing.{damage_told, ends_well, limit_told, mismatch_told}
 use Rattle.photon_cli.proofs.Ends.{asked_valid, early_left, fair_status, line_of, named, no_zero, none_refused, not_invalid, place_of, read_of, row_of, write_of}
 use Rattle.photon_cli.proofs.command.join.join_command.Goals as goal

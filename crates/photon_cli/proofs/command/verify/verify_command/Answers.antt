@@ -1,5 +1,5 @@
 use Rattle.std.proofs.Common.{◌≡◌, ℕ, inl, inr, ⊎_elim, Bool, true, false, Err, sym, ap, subst, ◌∙◌}
-use Rattle.store_run.proofs.Refusing.{kept_are_journals}
+use Rattle.site_run.proofs.Refusing.{kept_are_journals}
 use Rattle.photon_cli.specs.Causes.{unasked}
 use Rattle.photon_cli.specs.Faults.{status_of}
 use Rattle.photon_cli.specs.Verify.{PrintsKept}

@@ -2,8 +2,8 @@ use Rattle.std.proofs.Common.{◌≡◌, ◌++◌, ℕ, List, Option, Err, refl,
 use Rattle.time_shards.specs.declared.BadTable.{BadTable}
 use Rattle.time_shards.specs.Text.{IsFirstBad}
 use Rattle.mem_outside.specs.Files.{bytes_under}
-use Rattle.log_defs.specs.declared.ReportLine.{ReportLine}
-use Rattle.log_defs.specs.Report.{totals}
+use Rattle.log_records.specs.declared.report.ReportLine.{ReportLine}
+use Rattle.log_records.specs.Report.{totals}
 use Rattle.report_text.specs.Stream.{TookPrefix}
 use Rattle.photon_cli.specs.declared.engine.fault.Fault.TheVariants as fault
 use Rattle.photon_cli.specs.Bulk.{bulk_values}

@@ -3,7 +3,7 @@ use Rattle.log_records.specs.declared.records.QueryRec.{QueryRec}
 use Rattle.log_records.specs.declared.check.BadLine.{BadLine}
 use Rattle.log_records.specs.Check.{IsQueryLog, RefusesQuery}
 use Rattle.photon_cli.specs.declared.engine.fault.Fault.TheVariants as fault
-use Rattle.run_faults.specs.declared.fault.LogName.TheVariants.{Queries}
+use Rattle.site_run.specs.declared.faults.fault.LogName.TheVariants.{Queries}
 use Rattle.photon_cli.specs.LogFaults.{IsLogFault}
 use Rattle.photon_cli.proofs.Refusals.{within, refusal_kind, told_line}
 use Rattle.photon_cli.proofs.engine.checked.check_queries_in.Goals as goal

@@ -1,9 +1,9 @@
 use Rattle.std.proofs.Common.{◌≡◌, List, ℕ, Err, inr, ap, subst, sym, ◌∙◌}
 use Rattle.log_records.specs.declared.check.BadLine.{BadLine}
 use Rattle.log_records.specs.Check.{IsClickLog, RefusesClick}
-use Rattle.log_check.specs.Check.{EndsAt}
+use Rattle.photon_cli.specs.CheckedLogs.{EndsAt}
 use Rattle.photon_cli.specs.declared.engine.fault.Fault.TheVariants as fault
-use Rattle.run_faults.specs.declared.fault.LogName.TheVariants.{Clicks}
+use Rattle.site_run.specs.declared.faults.fault.LogName.TheVariants.{Clicks}
 use Rattle.photon_cli.specs.Join.{HasIds}
 use Rattle.photon_cli.specs.LogFaults.{IsLogFault}
 use Rattle.photon_cli.proofs.Refusals.{within, refusal_kind, told_line}

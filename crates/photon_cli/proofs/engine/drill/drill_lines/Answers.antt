@@ -1,10 +1,10 @@
 use Rattle.std.proofs.Common.{◌≡◌, ◌≤◌, ℕ, Bool, false, not, IsTrue, refl, subst, sym, ◌∙◌}
 use Rattle.std.specs.List.{list_any}
 use Rattle.std.specs.Option.{IfSome}
-use Rattle.drill_store.specs.Planned.{is_joiners}
+use Rattle.photon_cli.specs.Planned.{is_joiners}
 use Rattle.site_laws.specs.Laws.{made_by}
-use Rattle.site_run.specs.Works.{is_stop}
-use Rattle.store_run.specs.declared.ran.RunLog.{RunLog}
+use Rattle.site_workers.specs.Works.{is_stop}
+use Rattle.site_run.specs.declared.ran.RunLog.{RunLog}
 use Rattle.photon_cli.proofs.Drilling.{drilled, something_left}
 use Rattle.photon_cli.proofs.Ends.{fair_by}
 use Rattle.mem_outside.specs.Kept.{disk_of}

@@ -2,8 +2,8 @@ use Rattle.std.proofs.Common.{◌≡◌, ◌≤◌, ℕ, false, Option, ap, subs
 use Rattle.std.specs.List.{list_any}
 use Rattle.std.specs.Option.{IfSome}
 use Rattle.site_laws.specs.Laws.{made_by}
-use Rattle.site_run.specs.Works.{is_stop}
-use Rattle.store_run.specs.declared.ran.RunLog.{RunLog}
+use Rattle.site_workers.specs.Works.{is_stop}
+use Rattle.site_run.specs.declared.ran.RunLog.{RunLog}
 use Rattle.photon_cli.specs.Drill.{is_late_stop}
 use Rattle.photon_cli.proofs.Drilling.{none_late}
 use Rattle.photon_cli.proofs.engine.drill.joiner_stopped.Goals as goal

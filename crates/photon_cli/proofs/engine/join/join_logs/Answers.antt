@@ -2,18 +2,18 @@ use Rattle.std.proofs.Common.{◌≡◌, ◌++◌, ℕ, List, Option, inl, Err, 
 use Rattle.time_shards.specs.declared.BadTable.{BadTable}
 use Rattle.time_shards.specs.Text.{IsFirstBad}
 use Rattle.time_shards.proofs.Texts.{only_table}
-use Rattle.log_defs.specs.declared.ReportLine.{ReportLine}
-use Rattle.log_defs.specs.Report.{text_of}
+use Rattle.log_records.specs.declared.report.ReportLine.{ReportLine}
+use Rattle.log_records.specs.Report.{text_of}
 use Rattle.report_text.specs.Stream.{TookPrefix}
 use Rattle.photon_cli.specs.declared.engine.fault.Fault.TheVariants as fault
 use Rattle.photon_cli.specs.Words.{values_in}
 use Rattle.std.specs.Option.{IfSome}
 use Rattle.lossy_link.specs.Fates.{PlanView}
 use Rattle.air_bus.specs.History.{IsAired}
-use Rattle.store_run.specs.declared.ran.RunLog.{RunLog}
+use Rattle.site_run.specs.declared.ran.RunLog.{RunLog}
 use Rattle.photon_cli.specs.Join.{no_plan}
 use Rattle.outside.specs.Faults.{Rose}
-use Rattle.store_run.proofs.Counting.{rose_before}
+use Rattle.site_run.proofs.Counting.{rose_before}
 use Rattle.photon_cli.proofs.Causing.{later_caused, log_caused}
 use Rattle.photon_cli.proofs.Ends.{late_own, log_own}
 use Rattle.photon_cli.proofs.Runs.{history, is_asked, placed_ids, run_setting, setting_of}

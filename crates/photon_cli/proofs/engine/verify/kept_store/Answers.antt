@@ -2,9 +2,9 @@ use Rattle.std.proofs.Common.{◌≡◌, inr, List, ℕ, Err, sym, ap, subst}
 use Rattle.std.specs.Prelude.{⊤}
 use Rattle.outside.specs.Faults.{Rose}
 use Rattle.outside.specs.declared.store.DiskName.{DiskName}
-use Rattle.run_faults.specs.declared.fault.LogName.TheVariants.{Clicks}
-use Rattle.run_faults.specs.declared.fault.RunFault.{RunFault}
-use Rattle.store_run.proofs.Counting.{rose_before}
+use Rattle.site_run.specs.declared.faults.fault.LogName.TheVariants.{Clicks}
+use Rattle.site_run.specs.declared.faults.fault.RunFault.{RunFault}
+use Rattle.site_run.proofs.Counting.{rose_before}
 use Rattle.photon_cli.specs.declared.engine.fault.Fault.TheVariants as fault
 use Rattle.photon_cli.specs.Causes.{HasCauseInVerify, StopsReading}
 use Rattle.photon_cli.specs.LogFaults.{IsFair}

@@ -1,13 +1,13 @@
 use Rattle.std.proofs.Common.{◌++◌, ℕ, List, Option, Err, inl, ap, sym, subst, ◌∙◌}
 use Rattle.std.specs.List.{list_any}
 use Rattle.std.specs.Option.{IsSomeAnd}
-use Rattle.log_defs.specs.declared.ReportLine.{ReportLine}
-use Rattle.log_defs.specs.Report.{is_missing, text_of}
+use Rattle.log_records.specs.declared.report.ReportLine.{ReportLine}
+use Rattle.log_records.specs.Report.{is_missing, text_of}
 use Rattle.report_text.specs.Stream.{TookPrefix}
 use Rattle.outside.specs.Faults.{Rose}
 use Rattle.dispatch_node.specs.Places.{IsLogOf}
-use Rattle.run_faults.specs.declared.fault.LogName.TheVariants.{Clicks}
-use Rattle.store_run.proofs.Counting.{rose_before}
+use Rattle.site_run.specs.declared.faults.fault.LogName.TheVariants.{Clicks}
+use Rattle.site_run.proofs.Counting.{rose_before}
 use Rattle.photon_cli.specs.Verify.{IsReadFrom}
 use Rattle.photon_cli.proofs.Reading.{later_in_verify, log_fair, log_in_verify}
 use Rattle.photon_cli.proofs.Runs.{clicks_there, ends_there}

@@ -1,7 +1,7 @@
 use Rattle.std.proofs.Common.{sym, subst}
 use Rattle.std.proofs.lemmas.Result.{IfOk-weaker}
-use Rattle.packet_codec.specs.declared.node.Input.{Input}
-use Rattle.registry_server.specs.Server.{server_turn, server_start}
+use Rattle.turn_defs.specs.declared.node.Input.{Input}
+use Rattle.turn_defs.specs.Server.{server_turn, server_start}
 use Rattle.registry_server.specs.Cores.{IsTurn, Carries, CarriesStart}
 use Rattle.registry_server.specs.declared.turn.ServerInput.{ServerInput}
 use Rattle.registry_server.proofs.Standing.{turn_of}

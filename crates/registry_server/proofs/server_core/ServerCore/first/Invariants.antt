@@ -1,6 +1,6 @@
 use Rattle.std.proofs.Common.{◌≡◌, ◌-◌}
 use Rattle.turn_defs.specs.Setting.{Setting, shards}
-use Rattle.registry_server.specs.Server.{ServerKept, ServerLive, first_shard}
+use Rattle.turn_defs.specs.Server.{ServerKept, ServerLive, first_shard}
 use Rattle.registry_server.specs.ShardStates.{passes}
 use Rattle.registry_server.specs.Cores.{Stands}
 use Rattle.registry_server.proofs.server_core.ServerCore.first.Given as goal

@@ -1,6 +1,6 @@
 use Rattle.std.proofs.Common.{◌≡◌, ◌-◌, ◌++◌}
 use Rattle.turn_defs.specs.Setting.{Setting, shards}
-use Rattle.registry_server.specs.Server.{ServerKept, ServerLive, all_again}
+use Rattle.turn_defs.specs.Server.{ServerKept, ServerLive, all_again}
 use Rattle.registry_server.specs.Stations.{sent}
 use Rattle.registry_server.specs.Cores.{Stands}
 use Rattle.registry_server.proofs.server_core.ServerCore.tick.Given as goal

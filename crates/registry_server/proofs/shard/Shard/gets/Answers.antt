@@ -1,7 +1,7 @@
 use Rattle.std.proofs.Common.{sym, subst, ap, ◌∙◌}
 use Rattle.std.proofs.lemmas.Result.{IfOk-weaker}
-use Rattle.packet_codec.specs.declared.node.Node.{Node}
-use Rattle.registry_server.specs.Server.{server_gets}
+use Rattle.turn_defs.specs.declared.node.Node.{Node}
+use Rattle.turn_defs.specs.Server.{server_gets}
 use Rattle.registry_server.specs.Stations.{setting}
 use Rattle.registry_server.specs.Rowed.{FitsAt}
 use Rattle.registry_server.specs.declared.turn.Change.{Change}

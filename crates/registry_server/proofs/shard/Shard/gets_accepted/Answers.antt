@@ -1,10 +1,10 @@
 use Rattle.std.proofs.Common.{◌≡◌, ◌++◌, ◌∷◌, [], List, true, false, sym, ap, ◌∙◌, rules}
 use Rattle.paxos_defs.specs.declared.Place.{Place}
-use Rattle.packet_codec.specs.declared.packet.Packet.{Packet}
-use Rattle.packet_codec.specs.declared.packet.Packet.TheVariants.{Chosen}
-use Rattle.packet_codec.specs.declared.node.Node.{Node}
-use Rattle.packet_codec.specs.declared.node.Node.TheVariants.{Server}
-use Rattle.packet_codec.specs.declared.node.To.TheVariants.{Only}
+use Rattle.turn_defs.specs.declared.packet.Packet.{Packet}
+use Rattle.turn_defs.specs.declared.packet.Packet.TheVariants.{Chosen}
+use Rattle.turn_defs.specs.declared.node.Node.{Node}
+use Rattle.turn_defs.specs.declared.node.Node.TheVariants.{Server}
+use Rattle.turn_defs.specs.declared.node.To.TheVariants.{Only}
 use Rattle.std.proofs.lemmas.Result.{IfOk-weaker}
 use Rattle.registry_server.specs.Stations.{setting, sent}
 use Rattle.registry_server.proofs.Rowing.{same_row}

@@ -6,7 +6,7 @@ use Rattle.paxos_acceptor.specs.declared.notes.Taken as code
 use Rattle.paxos_acceptor.specs.Cells.{cell_in}
 use Rattle.registry_state.specs.declared.Batch.{Batch}
 use Rattle.registry_state.specs.Same.{same_batch}
-use Rattle.replica_node.specs.Replica.{taken, accepts}
+use Rattle.turn_defs.specs.Replica.{taken, accepts}
 use Rattle.replica_node.specs.Core.{IsRow}
 use Rattle.replica_node.proofs.Noting.{says_row}
 use Rattle.replica_node.proofs.replica_core.ReplicaCore.accept.Goals as goal

@@ -2,7 +2,7 @@ use Rattle.std.proofs.Common.{IfOk, sym, subst}
 use Rattle.std.proofs.lemmas.Result.{IfOk-weaker}
 use Rattle.turn_defs.specs.Setting.{Setting}
 use Rattle.replica_node.specs.declared.input.ReplicaInput.{ReplicaInput}
-use Rattle.replica_node.specs.Replica.{ReplicaKept}
+use Rattle.turn_defs.specs.Replica.{ReplicaKept}
 use Rattle.replica_node.specs.Core.{Carries, IsRow, asked, row_of}
 use Rattle.replica_node.proofs.replica_core.ReplicaCore.decide.Goals as goal
 

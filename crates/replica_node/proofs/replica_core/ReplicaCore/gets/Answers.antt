@@ -1,7 +1,7 @@
 use Rattle.std.proofs.Common.{IfOk, sym, subst}
-use Rattle.packet_codec.specs.declared.packet.Packet.{Packet}
+use Rattle.turn_defs.specs.declared.packet.Packet.{Packet}
 use Rattle.turn_defs.specs.Setting.{Setting}
-use Rattle.replica_node.specs.Replica.{ReplicaKept, replica_gets}
+use Rattle.turn_defs.specs.Replica.{ReplicaKept, replica_gets}
 use Rattle.replica_node.specs.Core.{IsRow, Stands}
 use Rattle.replica_node.proofs.replica_core.ReplicaCore.gets.Goals as goal
 

@@ -1,7 +1,7 @@
 use Rattle.std.proofs.Common.{Option, sym, subst}
 use Rattle.paxos_acceptor.specs.declared.notes.ReplicaNote.{ReplicaNote}
 use Rattle.turn_defs.specs.Turns.{land}
-use Rattle.replica_node.specs.Replica.{land_replica}
+use Rattle.turn_defs.specs.Replica.{land_replica}
 use Rattle.replica_node.specs.Core.{Knows, noted}
 use Rattle.replica_node.proofs.Noting.{knows_note}
 use Rattle.replica_node.proofs.replica_core.ReplicaCore.keep.Goals as goal

@@ -5,7 +5,7 @@ use Rattle.paxos_acceptor.specs.declared.notes.ReplicaNote.{ReplicaNote}
 use Rattle.paxos_acceptor.specs.declared.notes.Prepared as code
 use Rattle.paxos_acceptor.specs.Cells.{cell_in}
 use Rattle.registry_state.specs.declared.Batch.{Batch}
-use Rattle.replica_node.specs.Replica.{prepared, prepares}
+use Rattle.turn_defs.specs.Replica.{prepared, prepares}
 use Rattle.replica_node.specs.Core.{IsRow}
 use Rattle.replica_node.proofs.Noting.{says_row}
 use Rattle.replica_node.proofs.replica_core.ReplicaCore.prepare.Goals as goal

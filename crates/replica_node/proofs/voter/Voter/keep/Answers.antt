@@ -1,8 +1,8 @@
 use Rattle.std.proofs.lemmas.List.Elements.{All-nil, All-same}
 use Rattle.std.proofs.Common.{[], ap, subst, sym}
-use Rattle.fields.specs.Spellings.{IsNote}
+use Rattle.packet_codec.specs.Notes.{IsNote}
 use Rattle.turn_defs.specs.Turns.{land}
-use Rattle.replica_node.specs.Replica.{land_replica}
+use Rattle.turn_defs.specs.Replica.{land_replica}
 use Rattle.replica_node.specs.Core.{noted, GoesOn}
 use Rattle.replica_node.specs.Node.{VoterView}
 use Rattle.replica_node.specs.declared.replica_core.ReplicaCore.{ReplicaCore}

@@ -1,4 +1,0 @@
-pub mod AnyNodes
-pub mod Running
-pub mod Spending
-pub mod Numbers

@@ -1,8 +1,0 @@
-use Rattle.std.proofs.Common.{◌≡◌, ◌++◌, drop}
-use Rattle.outside.specs.declared.store.DiskName.{DiskName}
-use Rattle.mem_outside.specs.Kept.{fuses_for}
-use Rattle.drill_store.specs.Planned.{planned_for}
-use Rattle.drill_store.proofs.build.stops_for.Given as goal
-
-abbrev pub invariant-loop-stop : goal.invariant-loop-stop
-invariant-loop-stop l = (name : DiskName) → fuses_for l.stops.items name ++ planned_for l.joiners (drop l.stop-index l.planned) name ≡ planned_for l.joiners l.planned name

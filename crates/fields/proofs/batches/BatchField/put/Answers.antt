@@ -1,6 +1,0 @@
-use Rattle.std.proofs.Common.{arith}
-use Rattle.fields.proofs.BatchParts.{batch_room}
-use Rattle.fields.proofs.batches.BatchField.put.Goals as goal
-
-pub write_batch-end-requires-clause-room : goal.write_batch-end-requires-clause-room
-write_batch-end-requires-clause-room c = let room = batch_room c.args.self.now c.requires.count in omega arith

@@ -1,4 +1,0 @@
-pub mod Bad
-pub mod Cells
-pub mod Spellings
-pub mod Stops

@@ -1,4 +1,0 @@
-mod Stretches
-mod Boundaries
-mod Telling
-mod Worked

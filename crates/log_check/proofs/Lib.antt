@@ -1,4 +1,0 @@
-pub mod Cuts
-pub mod FirstPlaces
-pub mod Walk
-pub mod Logs

@@ -1,4 +1,0 @@
-pub mod Places
-pub mod Read
-pub mod Check
-pub mod Rows

@@ -1,0 +1,195 @@
+-- The first bad byte of a spelling made of parts.
+use Rattle.std.proofs.Common.{◌≡◌, ⊎_elim, ℕ, ◌+◌, ◌-◌, ◌<◌, ◌≤◌, List, ◌++◌, length, take, drop, get_or, refl, sym, ap, ◌∙◌, subst, append_assoc, arith}
+use Rattle.std.specs.Prelude.{replicate}
+use Rattle.std.proofs.lemmas.List.{length-append, length-take-le, length-replicate, get_or-replicate, get_or-take, take-append-drop, take_at, drop_at, get_or-append_right, get_or_append_left}
+use Rattle.std.proofs.Math.Seq.{take-append-add}
+use Rattle.std.proofs.lemmas.Bool.{cases_lt}
+use Rattle.packet_codec.specs.Bad.{Reaches, IsBadAt}
+use Rattle.packet_codec.specs.Cells.{Cells}
+use Rattle.std.specs.Prelude.{Result, Ok, Err, IfErr, IsErrAnd}
+use Rattle.packet_codec.specs.declared.fields.stop.Stop.{Stop}
+use Rattle.packet_codec.specs.declared.fields.stop.Stop.TheVariants.{Bad, Memory}
+use Rattle.packet_codec.specs.Stops.{IsBadBefore, Stops}
+
+-- two sets that are one have one first bad byte
+pub bad_same : (S T : List ℕ → Type 0) (rest : List ℕ) (n : ℕ) → ((z : List ℕ) → S z → T z) → ((z : List ℕ) → T z → S z) → IsBadAt S rest n → IsBadAt T rest n
+bad_same S T rest n to from bad = record {
+  none = λ front tail s e. bad.none front tail (from front s) e;
+  reaches = record { within = bad.reaches.within; more = bad.reaches.more; whole = to _ bad.reaches.whole };
+  furthest = λ k r. bad.furthest k (record { within = r.within; more = r.more; whole = from _ r.whole });
+}
+
+-- fronts of two equal lists
+pub front_same : (a b s t : List ℕ) → length a ≡ length b → a ++ s ≡ b ++ t → (a ≡ b) × (s ≡ t)
+front_same a b s t len e = (
+  sym (take_at a s (length a) refl) ∙ ap (take (length a)) e ∙ take_at b t (length a) (sym len),
+  sym (drop_at a s (length a) refl) ∙ ap (drop (length a)) e ∙ drop_at b t (length a) (sym len),
+)
+
+-- a longer list from a shorter one that begins the same
+pub front_longer : (a b s t : List ℕ) → length a ≤ length b → a ++ s ≡ b ++ t → (more : List ℕ) × (b ≡ a ++ more) × (s ≡ more ++ t)
+front_longer a b s t le e =
+    let cut : b ≡ take (length a) b ++ drop (length a) b = sym (take-append-drop (length a) b) in
+    let whole : a ++ s ≡ take (length a) b ++ (drop (length a) b ++ t) = e ∙ ap (λ (x : List ℕ). x ++ t) cut ∙ append_assoc (take (length a) b) (drop (length a) b) t in
+    let parts = front_same a (take (length a) b) s (drop (length a) b ++ t) (sym (length-take-le (length a) b le)) whole in
+    (drop (length a) b, cut ∙ ap (λ (x : List ℕ). x ++ drop (length a) b) (sym parts.0), parts.1)
+
+-- Where the fronts of the spellings in T are the spellings in S, a first bad byte in the front is one of the whole.
+pub bad_front : (S T : List ℕ → Type 0) (rest : List ℕ) (n : ℕ)
+    → ((z : List ℕ) → T z → (front : List ℕ) × (back : List ℕ) × S front × (z ≡ front ++ back))
+    → ((front : List ℕ) → S front → (back : List ℕ) × T (front ++ back))
+    → IsBadAt S rest n → IsBadAt T rest n
+bad_front S T rest n parts some bad = record {
+  none = λ z tail t e. let p = parts z t in bad.none p.0 (p.1 ++ tail) p.2 (e ∙ ap (λ (x : List ℕ). x ++ tail) p.3 ∙ append_assoc p.0 p.1 tail);
+  reaches = let w = some _ bad.reaches.whole in record { within = bad.reaches.within; more = bad.reaches.more ++ w.0; whole = subst T (append_assoc (take n rest) bad.reaches.more w.0) w.1 };
+  furthest = λ k r. go k r (parts _ r.whole);
+}
+  where
+    go : (k : ℕ) (r : Reaches T rest k) → (front : List ℕ) × (back : List ℕ) × S front × (take k rest ++ r.more ≡ front ++ back) → k ≤ n
+    go k r p =
+        let len : length (take k rest) ≡ k = length-take-le k rest r.within in
+        ⊎_elim
+        (λ lt.
+        let q = front_longer p.0 (take k rest) p.1 r.more (omega arith) (sym p.3) in
+        absurd (bad.none p.0 (q.0 ++ drop k rest) p.2 (sym (take-append-drop k rest) ∙ ap (λ (x : List ℕ). x ++ drop k rest) q.1 ∙ append_assoc p.0 q.0 (drop k rest))))
+        (λ le.
+        let q = front_longer (take k rest) p.0 r.more p.1 (omega arith) p.3 in
+        bad.furthest k (record { within = r.within; more = q.0; whole = subst S q.1 p.2 }))
+        (cases_lt (length p.0) k)
+
+-- Where each spelling of T that agrees with the front has it whole, a first bad byte of what follows is one of the whole.
+pub bad_agreed : (T S : List ℕ → Type 0) (front rest : List ℕ) (n : ℕ)
+    → ((z s t : List ℕ) → T z → z ++ s ≡ front ++ t → (w : List ℕ) × (z ≡ front ++ w))
+    → ((z : List ℕ) → T (front ++ z) → S z)
+    → ((z : List ℕ) → S z → T (front ++ z))
+    → IsBadAt S rest n → IsBadAt T (front ++ rest) (length front + n)
+bad_agreed T S front rest n agreed back on bad = record {
+  none = λ z tail t e.
+      let q = agreed z tail rest t (sym e) in
+      let same = front_same front front rest (q.0 ++ tail) refl (e ∙ ap (λ (x : List ℕ). x ++ tail) q.1 ∙ append_assoc front q.0 tail) in
+      bad.none q.0 tail (back q.0 (subst T q.1 t)) same.1;
+  reaches = record {
+    within = let w = bad.reaches.within in omega (arith, length-append front rest);
+    more = bad.reaches.more;
+    whole =
+        let e : take (length front + n) (front ++ rest) ++ bad.reaches.more ≡ front ++ (take n rest ++ bad.reaches.more) = ap (λ (x : List ℕ). x ++ bad.reaches.more) (take-append-add front rest n) ∙ append_assoc front (take n rest) bad.reaches.more in
+        subst T (sym e) (on _ bad.reaches.whole);
+  };
+  furthest = λ k r. ⊎_elim
+      (λ lt. omega arith)
+      (λ le. far k r (k - length front) (omega arith))
+      (cases_lt k (length front));
+}
+  where
+    far : (k : ℕ) (r : Reaches T (front ++ rest) k) (j : ℕ) → k ≡ length front + j → k ≤ length front + n
+    far k r j is =
+        let e : take k (front ++ rest) ++ r.more ≡ front ++ (take j rest ++ r.more) = ap (λ (i : ℕ). take i (front ++ rest) ++ r.more) is ∙ ap (λ (x : List ℕ). x ++ r.more) (take-append-add front rest j) ∙ append_assoc front (take j rest) r.more in
+        let w : length front + j ≤ length (front ++ rest) = subst (λ (i : ℕ). i ≤ length (front ++ rest)) is r.within in
+        let in_rest : j ≤ length rest = omega (arith, length-append front rest) in
+        let le = bad.furthest j (record { within = in_rest; more = r.more; whole = back _ (subst T e r.whole) }) in
+        omega arith
+
+-- Behind a front that the spellings of T with it have, and none is shorter, a first bad byte of what follows is one of the whole.
+pub bad_behind : (T S : List ℕ → Type 0) (front rest : List ℕ) (n : ℕ)
+    → ((z : List ℕ) → T z → length front ≤ length z)
+    → ((z : List ℕ) → T (front ++ z) → S z)
+    → ((z : List ℕ) → S z → T (front ++ z))
+    → IsBadAt S rest n → IsBadAt T (front ++ rest) (length front + n)
+bad_behind T S front rest n long = bad_agreed T S front rest n (λ z s t h e. let q = front_longer front z t s (long z h) (sym e) in (q.0, q.1))
+
+-- The first byte that does not fit, or the end where bytes are missing.
+pub bad_cell : (n : ℕ) (Fits : ℕ → ℕ → Type 0) (filler : ℕ) (rest : List ℕ) (i : ℕ)
+    → ((k : ℕ) → k < n → Fits k filler)
+    → i < n → i ≤ length rest
+    → ((k : ℕ) → k < i → Fits k (get_or rest k 0))
+    → (i < length rest → Fits i (get_or rest i 0) → ⊥)
+    → IsBadAt (Cells n Fits) rest i
+bad_cell n Fits filler rest i fill lt le good wrong = record {
+  none = λ front tail s e.
+      let long : i < length rest = omega (arith, ap length e, length-append front tail, s.len) in
+      let j : i < length front = omega (arith, s.len) in
+      let same : get_or rest i 0 ≡ get_or front i 0 = ap (λ (x : List ℕ). get_or x i 0) e ∙ get_or_append_left front tail 0 i j in
+      wrong long (subst (Fits i) (sym same) (s.each i lt));
+  reaches = record {
+    within = le;
+    more = replicate (n - i) filler;
+    whole = record {
+      len = omega (arith, length-append (take i rest) (replicate (n - i) filler), length-take-le i rest le, length-replicate (n - i) filler);
+      each = λ k kn. ⊎_elim
+          (λ a. subst (Fits k) (sym (get_or_append_left (take i rest) (replicate (n - i) filler) 0 k (omega (arith, length-take-le i rest le)) ∙ get_or-take i rest k 0 a)) (good k a))
+          (λ b. subst (Fits k) (sym (get_or-append_right (take i rest) (replicate (n - i) filler) i k 0 (length-take-le i rest le) b ∙ get_or-replicate (n - i) (k - i) filler 0 (omega arith))) (fill k kn))
+          (cases_lt k i);
+    };
+  };
+  furthest = λ k r. ⊎_elim
+      (λ a.
+      let long : i < length rest = let w = r.within in omega arith in
+      let w = r.within in
+      let same : get_or (take k rest ++ r.more) i 0 ≡ get_or rest i 0 = get_or_append_left (take k rest) r.more 0 i (omega (arith, length-take-le k rest w)) ∙ get_or-take k rest i 0 a in
+      absurd (wrong long (subst (Fits i) same (r.whole.each i lt))))
+      (λ b. b)
+      (cases_lt i k);
+}
+
+-- ---- told by how many bytes follow
+
+pub before_same : (S T : List ℕ → Type 0) (rest : List ℕ) (left : ℕ) → ((z : List ℕ) → S z → T z) → ((z : List ℕ) → T z → S z) → IsBadBefore S rest left → IsBadBefore T rest left
+before_same S T rest left to from b = record { at = b.at; place = b.place; bad = bad_same S T rest b.at to from b.bad }
+
+pub before_front : (S T : List ℕ → Type 0) (rest : List ℕ) (left : ℕ)
+    → ((z : List ℕ) → T z → (front : List ℕ) × (back : List ℕ) × S front × (z ≡ front ++ back))
+    → ((front : List ℕ) → S front → (back : List ℕ) × T (front ++ back))
+    → IsBadBefore S rest left → IsBadBefore T rest left
+before_front S T rest left parts some b = record { at = b.at; place = b.place; bad = bad_front S T rest b.at parts some b.bad }
+
+pub before_agreed : (T S : List ℕ → Type 0) (whole front rest : List ℕ) (left : ℕ)
+    → whole ≡ front ++ rest
+    → ((z s t : List ℕ) → T z → z ++ s ≡ front ++ t → (w : List ℕ) × (z ≡ front ++ w))
+    → ((z : List ℕ) → T (front ++ z) → S z)
+    → ((z : List ℕ) → S z → T (front ++ z))
+    → IsBadBefore S rest left → IsBadBefore T whole left
+before_agreed T S whole front rest left e agreed back on b = record {
+  at = length front + b.at;
+  place = let p = b.place in omega (arith, ap length e, length-append front rest);
+  bad = subst (λ (w : List ℕ). IsBadAt T w (length front + b.at)) (sym e) (bad_agreed T S front rest b.at agreed back on b.bad);
+}
+
+pub before_behind : (T S : List ℕ → Type 0) (whole front rest : List ℕ) (left : ℕ)
+    → whole ≡ front ++ rest
+    → ((z : List ℕ) → T z → length front ≤ length z)
+    → ((z : List ℕ) → T (front ++ z) → S z)
+    → ((z : List ℕ) → S z → T (front ++ z))
+    → IsBadBefore S rest left → IsBadBefore T whole left
+before_behind T S whole front rest left e long back on b = record {
+  at = length front + b.at;
+  place = let p = b.place in omega (arith, ap length e, length-append front rest);
+  bad = subst (λ (w : List ℕ). IsBadAt T w (length front + b.at)) (sym e) (bad_behind T S front rest b.at long back on b.bad);
+}
+
+pub before_cell : (n : ℕ) (Fits : ℕ → ℕ → Type 0) (filler : ℕ) (rest : List ℕ) (i : ℕ)
+    → ((k : ℕ) → k < n → Fits k filler)
+    → i < n → i ≤ length rest
+    → ((k : ℕ) → k < i → Fits k (get_or rest k 0))
+    → (i < length rest → Fits i (get_or rest i 0) → ⊥)
+    → IsBadBefore (Cells n Fits) rest (length rest - i)
+before_cell n Fits filler rest i fill lt le good wrong = record { at = i; place = omega arith; bad = bad_cell n Fits filler rest i fill lt le good wrong }
+
+-- ---- what stopped a part stops the whole
+
+pub stops_on : (S T : List ℕ → Type 0) (rest whole : List ℕ) (stop : Stop) → ((left : ℕ) → IsBadBefore S rest left → IsBadBefore T whole left) → Stops S rest stop → Stops T whole stop
+stops_on S T rest whole (Bad left) on b = on left b
+stops_on S T rest whole Memory on b = tt
+
+-- in what is handed on as it is
+pub stops_through : {W : Type 0} (S T : List ℕ → Type 0) (rest whole : List ℕ) (r : Result W Stop) → ((left : ℕ) → IsBadBefore S rest left → IsBadBefore T whole left) → IfErr r (Stops S rest) → IfErr r (Stops T whole)
+stops_through S T rest whole (Ok x) on b = tt
+stops_through S T rest whole (Err d) on b = stops_on S T rest whole d on b
+
+-- at the exit of a `?`
+pub stops_out : {W : Type 0} (S T : List ℕ → Type 0) (rest whole : List ℕ) (stop : Stop) (r : Result W Stop) → IsErrAnd r (λ d. d ≡ stop) → ((left : ℕ) → IsBadBefore S rest left → IsBadBefore T whole left) → Stops S rest stop → IfErr r (Stops T whole)
+stops_out S T rest whole stop (Ok x) is on b = tt
+stops_out S T rest whole stop (Err d) is on b = subst (Stops T whole) (sym is) (stops_on S T rest whole stop on b)
+
+pub stops_out-same : {W : Type 0} (T : List ℕ → Type 0) (whole : List ℕ) (stop : Stop) (r : Result W Stop) → IsErrAnd r (λ d. d ≡ stop) → stop ≡ Memory → IfErr r (Stops T whole)
+stops_out-same T whole stop (Ok x) is m = tt
+stops_out-same T whole stop (Err d) is m = subst (Stops T whole) (sym (is ∙ m)) tt

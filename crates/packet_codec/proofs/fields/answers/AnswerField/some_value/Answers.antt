@@ -1,0 +1,5 @@
+use Rattle.packet_codec.proofs.SomeValues.{some_answer}
+use Rattle.packet_codec.proofs.fields.answers.AnswerField.some_value.Goals as goal
+
+pub returns : goal.returns
+returns c = some_answer

@@ -1,0 +1,5 @@
+use Rattle.packet_codec.proofs.AnswerParts.{answer_apart}
+use Rattle.packet_codec.proofs.fields.answers.AnswerField.told_apart.Goals as goal
+
+pub returns : goal.returns
+returns c = answer_apart

@@ -1,0 +1,5 @@
+use Rattle.packet_codec.proofs.SomeValues.{some_ballot}
+use Rattle.packet_codec.proofs.fields.ballots.BallotField.some_value.Goals as goal
+
+pub returns : goal.returns
+returns c = some_ballot

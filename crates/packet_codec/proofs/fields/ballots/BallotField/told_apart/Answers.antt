@@ -1,0 +1,5 @@
+use Rattle.packet_codec.proofs.Fixed.{ballot_apart}
+use Rattle.packet_codec.proofs.fields.ballots.BallotField.told_apart.Goals as goal
+
+pub returns : goal.returns
+returns c = ballot_apart

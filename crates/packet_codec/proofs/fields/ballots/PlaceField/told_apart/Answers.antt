@@ -1,0 +1,5 @@
+use Rattle.packet_codec.proofs.Fixed.{place_apart}
+use Rattle.packet_codec.proofs.fields.ballots.PlaceField.told_apart.Goals as goal
+
+pub returns : goal.returns
+returns c = place_apart

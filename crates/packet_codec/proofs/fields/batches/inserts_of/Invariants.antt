@@ -1,0 +1,12 @@
+use Rattle.std.proofs.Common.{◌≡◌, ◌+◌, ◌*◌, ◌++◌, length}
+use Rattle.list_words.specs.Lists.{Each}
+use Rattle.turn_defs.specs.Spellings.{IsInsert, inserts}
+use Rattle.packet_codec.proofs.fields.batches.inserts_of.Given as goal
+
+abbrev pub invariant-loop : goal.invariant-loop
+invariant-loop l = record {
+  left : length l.rest + 30 * l.counter ≡ 30 * l.count;
+  so_far : l.bytes ≡ inserts l.list ++ l.rest;
+  count : length l.list ≡ l.counter;
+  each : Each IsInsert l.list;
+}

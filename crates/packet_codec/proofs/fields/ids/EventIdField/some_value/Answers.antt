@@ -1,0 +1,5 @@
+use Rattle.packet_codec.proofs.SomeValues.{some_id}
+use Rattle.packet_codec.proofs.fields.ids.EventIdField.some_value.Goals as goal
+
+pub returns : goal.returns
+returns c = some_id

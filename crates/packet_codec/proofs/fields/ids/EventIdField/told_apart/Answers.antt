@@ -1,0 +1,5 @@
+use Rattle.packet_codec.proofs.Fixed.{id_apart}
+use Rattle.packet_codec.proofs.fields.ids.EventIdField.told_apart.Goals as goal
+
+pub returns : goal.returns
+returns c = id_apart

@@ -1,0 +1,5 @@
+use Rattle.packet_codec.proofs.SomeValues.{some_note}
+use Rattle.packet_codec.proofs.fields.notes.ReplicaNoteField.some_value.Goals as goal
+
+pub returns : goal.returns
+returns c = some_note

@@ -1,0 +1,5 @@
+use Rattle.packet_codec.proofs.SomeValues.{some_click}
+use Rattle.packet_codec.proofs.fields.records.ClickRecField.some_value.Goals as goal
+
+pub returns : goal.returns
+returns c = some_click

@@ -1,0 +1,5 @@
+use Rattle.packet_codec.proofs.SomeValues.{some_query}
+use Rattle.packet_codec.proofs.fields.records.QueryRecField.some_value.Goals as goal
+
+pub returns : goal.returns
+returns c = some_query

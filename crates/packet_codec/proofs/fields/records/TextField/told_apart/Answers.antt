@@ -1,0 +1,5 @@
+use Rattle.packet_codec.proofs.TextParts.{text_apart}
+use Rattle.packet_codec.proofs.fields.records.TextField.told_apart.Goals as goal
+
+pub returns : goal.returns
+returns c = text_apart

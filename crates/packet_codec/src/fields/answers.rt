@@ -1,0 +1,61 @@
+// Answers.
+ghost use Rattle.std.specs.Prelude.{◌≡◌, ◌≤◌, take};
+ghost use Rattle.turn_defs.specs.Spellings.{answer, IsAnswer};
+
+use crate::fields::Stop;
+use crate::fields::field::Field;
+use crate::fields::ids::token_bytes;
+use crate::fields::numbers::u64_of;
+use crate::fields::parts::{any, run, write};
+use registry_state::{Answer, Token};
+use std::alloc::{AllocError, Global};
+use wire_core::Bytes;
+
+/// A tag, 0 for Granted, 1 for Duplicate with the token behind it, 2 for TooOld with the bound behind it. Reading takes
+/// no memory.
+impl Field for Answer {
+    ghost spelled = { answer };
+
+    ghost has_spelling = { IsAnswer };
+
+    fn put(&self, to: &mut Bytes) -> Result<(), AllocError> {
+        let mut bytes = [0; 15];
+        let end = write_answer(self, &mut bytes);
+        to.put_bytes(&bytes[..end])
+    }
+
+    fn read(alloc: Global, bytes: &[u8]) -> Result<(Answer, &[u8]), Stop> {
+        let (tag, rest) = run(bytes, 1, 0, 2)?;
+        if tag[0] == 0 {
+            return Ok((Answer::Granted, rest));
+        }
+        if tag[0] == 1 {
+            let (token, rest) = Token::read(alloc, rest)?;
+            return Ok((Answer::Duplicate(token), rest));
+        }
+        let (bound, rest) = any(rest, 8)?;
+        Ok((Answer::TooOld(u64_of(bound)), rest))
+    }
+
+    fn told_apart() {}
+
+    fn some_value() {}
+}
+
+// Writes the spelling to the front, and answers its length.
+fn write_answer(a: &Answer, buf: &mut [u8; 15]) -> usize
+    ensures within { result ≤ 15 }
+    ensures text { take result buf.new ≡ answer a.now }
+{
+    match a {
+        Answer::Granted => write(buf, 0, &[0]),
+        Answer::Duplicate(token) => {
+            let at = write(buf, 0, &[1]);
+            write(buf, at, &token_bytes(token))
+        }
+        Answer::TooOld(bound) => {
+            let at = write(buf, 0, &[2]);
+            write(buf, at, &bound.to_be_bytes())
+        }
+    }
+}

@@ -1,0 +1,108 @@
+// Texts, and the records of lines.
+ghost use Rattle.std.specs.Prelude.{◌≡◌, ◌+◌, ◌≤◌, ◌++◌, length, take};
+ghost use Rattle.event_id.specs.EventId.{packed};
+ghost use Rattle.log_records.specs.Text.{IsText};
+ghost use Rattle.log_records.specs.Line.{IsQuery, IsClick};
+ghost use Rattle.turn_defs.specs.Spellings.{text, query, click};
+
+use crate::fields::Stop;
+use crate::fields::field::Field;
+use crate::fields::parts::{run, write};
+use event_id::EventId;
+use log_records::{ClickRec, QueryRec, Text};
+use std::alloc::{AllocError, Global};
+use wire_core::Bytes;
+
+/// The length in a byte, up to 200, and so many printable bytes. Reading copies the text, in one allocation.
+impl Field for Text {
+    ghost spelled = { text };
+
+    ghost has_spelling = { IsText };
+
+    fn put(&self, to: &mut Bytes) -> Result<(), AllocError> {
+        let mut bytes = [0; 201];
+        let end = write_text(self, &mut bytes, 0);
+        to.put_bytes(&bytes[..end])
+    }
+
+    fn read(alloc: Global, bytes: &[u8]) -> Result<(Text, &[u8]), Stop> {
+        let (len, rest) = run(bytes, 1, 0, 200)?;
+        let (spelled, rest) = run(rest, usize::from(len[0]), b' ', b'~')?;
+        match Text::read(alloc, spelled) {
+            Ok(text) => Ok((text, rest)),
+            Err(_) => Err(Stop::Memory),
+        }
+    }
+
+    fn told_apart() {}
+
+    fn some_value() {}
+}
+
+/// The id and the text. Reading copies the text, in one allocation.
+impl Field for QueryRec {
+    ghost spelled = { query };
+
+    ghost has_spelling = { IsQuery };
+
+    fn put(&self, to: &mut Bytes) -> Result<(), AllocError> {
+        let mut bytes = [0; 217];
+        let at = write(&mut bytes, 0, &self.id.to_bytes());
+        let end = write_text(&self.text, &mut bytes, at);
+        to.put_bytes(&bytes[..end])
+    }
+
+    fn read(alloc: Global, bytes: &[u8]) -> Result<(QueryRec, &[u8]), Stop> {
+        let (id, rest) = EventId::read(alloc, bytes)?;
+        let (text, rest) = <Text as Field>::read(alloc, rest)?;
+        Ok((QueryRec { id, text }, rest))
+    }
+
+    fn told_apart() {}
+
+    fn some_value() {}
+}
+
+/// The click's id, its query's, and the text. Reading copies the text, in one allocation.
+impl Field for ClickRec {
+    ghost spelled = { click };
+
+    ghost has_spelling = { IsClick };
+
+    fn put(&self, to: &mut Bytes) -> Result<(), AllocError> {
+        let mut bytes = [0; 233];
+        let at = write_ids(self.id, self.query, &mut bytes);
+        let end = write_text(&self.text, &mut bytes, at);
+        to.put_bytes(&bytes[..end])
+    }
+
+    fn read(alloc: Global, bytes: &[u8]) -> Result<(ClickRec, &[u8]), Stop> {
+        let (id, rest) = EventId::read(alloc, bytes)?;
+        let (QueryRec { id: query, text }, rest) = QueryRec::read(alloc, rest)?;
+        Ok((ClickRec { id, query, text }, rest))
+    }
+
+    fn told_apart() {}
+
+    fn some_value() {}
+}
+
+// Writes the spelling from `at` on, and answers the place behind it.
+fn write_text(t: &Text, buf: &mut [u8], at: usize) -> usize
+    requires is_text { IsText t.now }
+    requires room { at + length (text t.now) ≤ length buf.old }
+    ensures end { result ≡ at + length (text t.now) }
+    ensures text { take result buf.new ≡ take at buf.old ++ text t.now }
+{
+    let bytes = t.as_bytes();
+    let at = write(buf, at, &[bytes.len() as u8]);
+    write(buf, at, bytes)
+}
+
+fn write_ids(id: EventId, of: EventId, buf: &mut [u8; 233]) -> usize
+    ensures end { result ≡ 32 }
+    ensures text { take 32 buf.new ≡ packed id ++ packed of }
+{
+    let at = write(buf, 0, &id.to_bytes());
+    write(buf, at, &of.to_bytes())
+}

@@ -1,0 +1,192 @@
+-- Whole logs.
+use Rattle.std.proofs.Common.{◌≡◌, ◌≢◌, inl, inr, ℕ, suc, ◌+◌, ◌-◌, ◌^◌, ◌<◌, ◌≤◌, min, IsTrue, Bool, true, false, None, Result, Ok, Err, List, [], ◌∷◌, ◌++◌, length, map, refl, sym, ap, subst, ◌∙◌, arith}
+use Rattle.std.specs.Prelude.{if◌then◌else◌, ◌↔◌, IfOk}
+use Rattle.std.proofs.lemmas.Bool.{cases_lt}
+use Rattle.std.proofs.lemmas.List.{map_push, take_all, length-append, length-map}
+use Rattle.list_words.specs.Bytes.{Lacks}
+use Rattle.list_words.proofs.Splits.{lacks_none}
+use Rattle.event_id.specs.declared.id.EventId.{EventId}
+use Rattle.log_records.specs.declared.records.QueryRec.{QueryRec}
+use Rattle.log_records.specs.declared.records.ClickRec.{ClickRec}
+use Rattle.log_records.specs.declared.why.Why.{Why}
+use Rattle.log_records.specs.declared.why.Why.TheVariants as why
+use Rattle.log_records.specs.declared.check.BadLine.{BadLine}
+use Rattle.log_records.specs.Line.{query_line, click_line, IsQuery, IsClick, OrMemory}
+use Rattle.log_records.specs.Lines.{placed, end_from}
+use Rattle.log_records.specs.Log.{line_feed, whole}
+use Rattle.log_records.specs.Check.{limit, IsLog, NextWhy, Refuses, IsQueryLog, IsClickLog}
+use Rattle.log_records.proofs.Reading.{clicks_same}
+use Rattle.log_records.proofs.WholeLogs.{queries_found, clicks_found}
+use Rattle.log_records.specs.FirstPlaces.{Places, place_at, Keeps}
+use Rattle.photon_cli.specs.declared.log_check.step.Step.{Step}
+use Rattle.photon_cli.specs.declared.log_check.step.Step.TheVariants as step
+use Rattle.photon_cli.specs.declared.log_check.lines.Lines.{Lines}
+use Rattle.photon_cli.specs.declared.log_check.check.CheckFault.{CheckFault}
+use Rattle.photon_cli.specs.ReadLines.{SoFar, AtEnd, WrongNext, IsStep}
+use Rattle.photon_cli.specs.CheckedLogs.{EndsAt, kept, AreLines, IsChecked}
+use Rattle.photon_cli.proofs.LogCuts.{first_or_none, take_line, behind_front, length-whole}
+use Rattle.log_records.proofs.FirstPlaces.{length-one}
+
+kept_push : (keep : Bool) (ids : List EventId) (id : EventId) → kept keep ids ++ (if keep then id ∷ [] else []) ≡ kept keep (ids ++ id ∷ [])
+kept_push true ids id = refl
+kept_push false ids id = refl
+
+kept_none : (keep : Bool) → [] ≡ kept keep []
+kept_none true = refl
+kept_none false = refl
+
+pub not_memory : (line : ℕ) (w : Why) (bad : BadLine) → (bad ≡ record { line = line; why = w }) × (w ≢ why.Memory) → bad.why ≢ why.Memory
+not_memory line w bad is memory = is.1 (sym (ap (λ (b : BadLine). b.why) is.0) ∙ memory)
+
+module _ {R : Type 0} (line_of : R → List ℕ) (IsRecord : R → Type 0) (id_of : R → EventId) where
+  -- the lines before the place, which were counted, and whose ids were kept
+  pub record Before (keep : Bool) (log : List ℕ) (place : ℕ) (places : Places) (count : ℕ) (ids : List EventId) (rs : List R) : Type 0 where
+    pub so_far : SoFar line_of IsRecord id_of log place rs
+    pub keeps : Keeps line_of id_of places rs
+    pub counted : count ≡ length rs
+    pub ids_are : ids ≡ kept keep (map id_of rs)
+
+  pub starts : (keep : Bool) (log : List ℕ) (place : ℕ) (places : Places) (ids : List EventId) → place ≡ 0 → ((k : EventId) → place_at places k ≡ None) → ids ≡ [] → Before keep log place places 0 ids []
+  starts keep log place places ids at empty none = record {
+    so_far = record {
+      begins = (log, refl);
+      at = at;
+      fits = omega arith;
+      records = record { each = tt; one = λ r s in_none. absurd (omega (arith, in_none.1)) };
+      lines = tt;
+    };
+    keeps = record { each = empty };
+    counted = refl;
+    ids_are = none ∙ kept_none keep;
+  }
+
+  few_lines : (log : List ℕ) (place : ℕ) (rs : List R) → SoFar line_of IsRecord id_of log place rs → length rs ≤ limit
+  few_lines log place rs so_far = omega (arith, so_far.at, so_far.fits, length-whole (map line_of rs), length-map rs line_of)
+
+  pub few : (keep : Bool) (log : List ℕ) (place : ℕ) (places : Places) (count : ℕ) (ids : List EventId) (rs : List R) → Before keep log place places count ids rs → count ≤ limit
+  few keep log place places count ids rs h = omega (arith, few_lines log place rs h.so_far, h.counted)
+
+  module _ (LineWhy : List ℕ → Why → Type 0) where
+    -- what the next line came to
+    pub stepped : (keep : Bool) (log log' : List ℕ) (place place' : ℕ) (old new : Places) (count : ℕ) (ids : List EventId) (rs : List R) (to to' : Step) → log' ≡ log → to ≡ to' → Before keep log place old count ids rs
+        → ((xs : List R) → SoFar line_of IsRecord id_of log' place xs → Keeps line_of id_of old xs → IsStep line_of IsRecord id_of LineWhy log' place' new xs to) → IsStep line_of IsRecord id_of LineWhy log place' new rs to'
+    stepped keep log log' place place' old new count ids rs to to' same is before told =
+        subst (λ (s : Step). IsStep line_of IsRecord id_of LineWhy log place' new rs s) is
+        (subst (λ (b : List ℕ). IsStep line_of IsRecord id_of LineWhy b place' new rs to) same
+        (told rs (subst (λ (b : List ℕ). SoFar line_of IsRecord id_of b place rs) (sym same) before.so_far) before.keeps))
+
+    pub one_more_line : (keep : Bool) (log : List ℕ) (place place' : ℕ) (old new : Places) (count : ℕ) (ids ids' : List EventId) (id : EventId) (rs : List R) → Before keep log place old count ids rs → IsStep line_of IsRecord id_of LineWhy log place' new rs (step.Line id) → ids' ≡ ids ++ (if keep then id ∷ [] else [])
+        → (xs : List R) × Before keep log place' new (count + 1) ids' xs
+    one_more_line keep log place place' old new count ids ids' id rs before (r, is_id, so_far, keeps) ids_is = (
+      rs ++ r ∷ [],
+      record {
+        so_far = so_far;
+        keeps = keeps;
+        counted = omega (arith, before.counted, length-append rs (r ∷ []));
+        ids_are =
+            ids_is ∙ ap (λ (is : List EventId). is ++ (if keep then id ∷ [] else [])) before.ids_are ∙ kept_push keep (map id_of rs) id ∙ ap (λ (i : EventId). kept keep (map id_of rs ++ i ∷ [])) (sym is_id) ∙ ap (kept keep) (sym (map_push id_of rs r));
+      },
+    )
+
+    refuses : (log : List ℕ) (place : ℕ) (rs : List R) (count : ℕ) (w : Why) (bad : BadLine) → SoFar line_of IsRecord id_of log place rs → count ≡ length rs → bad ≡ record { line = count + 1; why = w } → NextWhy line_of IsRecord id_of LineWhy log rs w → Refuses line_of IsRecord id_of LineWhy log bad
+    refuses log place rs count w bad so_far counted is told = record {
+      earlier = rs;
+      records = so_far.records;
+      fits = omega (arith, so_far.at, so_far.fits);
+      number = ap (λ (b : BadLine). b.line) is ∙ ap (λ (n : ℕ). n + 1) counted;
+      told = subst (λ (v : Why). NextWhy line_of IsRecord id_of LineWhy log rs v) (sym (ap (λ (b : BadLine). b.why) is)) told;
+    }
+
+    -- the next line is refused
+    pub refuses_next : (keep : Bool) (log : List ℕ) (place : ℕ) (places : Places) (count : ℕ) (ids : List EventId) (rs : List R) (w : Why) (bad : BadLine) → Before keep log place places count ids rs → OrMemory (WrongNext line_of IsRecord id_of LineWhy log rs) w → (bad ≡ record { line = count + 1; why = w }) × (w ≢ why.Memory) → Refuses line_of IsRecord id_of LineWhy log bad
+    refuses_next keep log place places count ids rs w bad before (inl memory) is = absurd (is.1 memory)
+    refuses_next keep log place places count ids rs w bad before (inr (line, after, e, lacks, below, told)) is = refuses log place rs count w bad before.so_far before.counted is.0 (inl (line, after, e, lacks, inr (below, told)))
+
+    -- a line that ends behind the limit, or the rest of the log without an end
+    big_next : (log : List ℕ) (place : ℕ) (rs : List R) → AtEnd line_of IsRecord id_of log place rs → limit < length log → NextWhy line_of IsRecord id_of LineWhy log rs why.TooBig
+    big_next log place rs h big =
+        let front = whole (map line_of rs) in
+        let rest = h.so_far.begins.0 in
+        elim (first_or_none line_feed rest) [
+          | inr none ↦ inr (rest, h.so_far.begins.1, none, big, refl)
+          | inl cut ↦
+              let e : log ≡ front ++ (cut.0 ++ line_feed ∷ cut.1) = h.so_far.begins.1 ∙ ap (λ (x : List ℕ). front ++ x) cut.2 in
+              let far : (length front + length cut.0 < limit) → ⊥ = λ lt.
+              let short : length cut.0 < limit - place = omega (arith, h.so_far.at, h.so_far.fits, lt) in
+              lacks_none line_feed cut.0 _ (subst (Lacks line_feed) (behind_front log front (cut.0 ++ line_feed ∷ cut.1) place e h.so_far.at h.so_far.fits ∙ take_line (limit - place) cut.0 cut.1 short) h.none) in
+              inl (cut.0, cut.1, e, cut.3, inl (far, refl))
+        ]
+
+    pub too_big : (keep : Bool) (log : List ℕ) (rs : List R) (read : Lines) (bad : BadLine) → AreLines line_of IsRecord id_of keep log rs read → limit < length log → bad ≡ record { line = read.count + 1; why = why.TooBig } → Refuses line_of IsRecord id_of LineWhy log bad
+    too_big keep log rs read bad h big is = refuses log read.end rs read.count why.TooBig bad h.at_end.so_far h.count is (big_next log read.end rs h.at_end big)
+
+  pub counted_few : (keep : Bool) (log : List ℕ) (rs : List R) (read : Lines) → AreLines line_of IsRecord id_of keep log rs read → read.count ≤ limit
+  counted_few keep log rs read h = omega (arith, few_lines log read.end rs h.at_end.so_far, h.count)
+
+  -- where the log isn't too big its lines are read to its end
+  pub checked : (keep : Bool) (log : List ℕ) (rs : List R) (read : Lines) → AreLines line_of IsRecord id_of keep log rs read → length log ≤ limit → IsChecked line_of IsRecord id_of keep log rs read
+  checked keep log rs read h fits =
+      let front = whole (map line_of rs) in
+      let so_far = h.at_end.so_far in
+      let rest = so_far.begins.0 in
+      let all : length rest ≤ limit - read.end = omega (arith, so_far.at, ap length so_far.begins.1, length-append front rest) in
+      let none : Lacks line_feed rest = subst (Lacks line_feed) (behind_front log front rest read.end so_far.begins.1 so_far.at so_far.fits ∙ take_all (limit - read.end) rest all) h.at_end.none in
+      record {
+        holds = record { lines = (rest, so_far.begins.1, none); records = so_far.records; fits = fits };
+        count = h.count;
+        ids = h.ids;
+        end_is = so_far.at;
+      }
+
+-- what the byte at the limit says
+not_big : (n : ℕ) (big : Bool) → big ≡ false → IsTrue big ↔ (limit < n) → n ≤ limit
+not_big n big is tells =
+    elim (cases_lt limit n) [
+      | inl lt ↦ let is_big : IsTrue big = tells.1 lt in absurd cc
+      | inr le ↦ le
+    ]
+
+module _ {R : Type 0} (line_of : R → List ℕ) (IsRecord : R → Type 0) (id_of : R → EventId) (LineWhy : List ℕ → Why → Type 0) (keep : Bool) (log log0 log1 : List ℕ) (read : Lines) (big : Bool) (first : log0 ≡ log) (last : log1 ≡ log) (tells : IsTrue big ↔ (limit < length log1)) (h : (rs : List R) × AreLines line_of IsRecord id_of keep log0 rs read) where
+  here : AreLines line_of IsRecord id_of keep log h.0 read
+  here = subst (λ (b : List ℕ). AreLines line_of IsRecord id_of keep b h.0 read) first h.1
+
+  pub all_checked : big ≡ false → (rs : List R) × IsChecked line_of IsRecord id_of keep log rs read
+  all_checked is = (h.0, checked line_of IsRecord id_of keep log h.0 read here (omega (arith, not_big (length log1) big is tells, ap length last)))
+
+  pub told_big : (line : ℕ) (bad : BadLine) → big ≡ true → line ≡ min (read.count + 1) (2 ^ 64 - 1) → bad ≡ record { line = line; why = why.TooBig } → Refuses line_of IsRecord id_of LineWhy log bad
+  told_big line bad is line_is bad_is =
+      let lt = tells.0 is in
+      let few_lines = counted_few line_of IsRecord id_of keep log h.0 read here in
+      let number : line ≡ read.count + 1 = omega arith in
+      too_big line_of IsRecord id_of LineWhy keep log h.0 read bad here (omega (arith, lt, ap length last)) (bad_is ∙ ap (λ (n : ℕ). record { line = n; why = why.TooBig }) number)
+
+-- ---- clicks
+
+ends_placed : (p : ℕ) (cs : List ClickRec) → end_from p (placed p cs) ≡ p + length (whole (map click_line cs))
+ends_placed p [] = omega arith
+ends_placed p (c ∷ cs) = let rest = ends_placed (suc (p + length (click_line c))) cs in omega (arith, rest, length-one (click_line c) (map click_line cs))
+
+pub clicks_end : (log : List ℕ) (cs : List ClickRec) (end_ : ℕ) → IsLog click_line IsClick (λ c. c.id) log cs → end_ ≡ length (whole (map click_line cs)) → EndsAt log end_
+clicks_end log cs end_ h is ls holds =
+    let same : holds.clicks ≡ cs = clicks_same log holds.clicks cs holds.holds (clicks_found log cs h).0 in
+    let there : ls ≡ placed 0 cs = holds.lines ∙ ap (placed 0) same in
+    let from_start : 0 + length (whole (map click_line cs)) ≡ length (whole (map click_line cs)) = omega arith in
+    is ∙ sym (ap (end_from 0) there ∙ ends_placed 0 cs ∙ from_start)
+
+-- ---- both kinds
+
+pub queries_checked : (r : Result Lines CheckFault) (lines : Lines) (log : List ℕ) → r ≡ Ok lines → IfOk r (λ read. (rs : List QueryRec) × IsChecked query_line IsQuery (λ q. q.id) false log rs read) → (qs : List QueryRec) × IsQueryLog log qs × (lines.count ≡ length qs)
+queries_checked (Err e) lines log is h = absurd cc
+queries_checked (Ok read) lines log is h =
+    let same : read ≡ lines = cc in
+    (h.0, queries_found log h.0 h.1.holds, ap (λ (l : Lines). l.count) (sym same) ∙ h.1.count)
+
+module _ (r : Result Lines CheckFault) (lines : Lines) (log : List ℕ) (is : r ≡ Ok lines) (h : IfOk r (λ read. (rs : List ClickRec) × IsChecked click_line IsClick (λ c. c.id) true log rs read)) where
+  clicks_here : (rs : List ClickRec) × IsChecked click_line IsClick (λ c. c.id) true log rs lines
+  clicks_here = subst (λ (x : Result Lines CheckFault). IfOk x (λ read. (rs : List ClickRec) × IsChecked click_line IsClick (λ c. c.id) true log rs read)) is h
+
+  pub clicks_checked : (cs : List ClickRec) × IsClickLog log cs × (lines.ids.items ≡ map (λ c. c.id) cs)
+  clicks_checked = (clicks_here.0, clicks_found log clicks_here.0 clicks_here.1.holds, clicks_here.1.ids)
+
+  pub clicks_ended : EndsAt log lines.end
+  clicks_ended = clicks_end log clicks_here.0 lines.end clicks_here.1.holds clicks_here.1.end_is

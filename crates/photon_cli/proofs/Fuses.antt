@@ -1,0 +1,50 @@
+-- The fuses of one disk in a list of stops, and those that a plan has for it.
+use Rattle.std.proofs.Common.{◌≡◌, ◌⊎◌, inl, inr, List, [], ◌∷◌, ◌++◌, Bool, true, false, ◌&&◌, if◌then◌else◌, refl, sym, ◌∙◌, ap, ℕ, ◌+◌, ◌<◌, length, get_or, drop, append_assoc}
+use Rattle.std.proofs.lemmas.List.{drop_more}
+use Rattle.outside.specs.declared.store.DiskName.{DiskName}
+use Rattle.mem_outside.specs.declared.store.Stop.{Stop}
+use Rattle.mem_outside.specs.declared.disk.Fuse.{Fuse}
+use Rattle.mem_outside.specs.Kept.{same_name, fuses_for}
+use Rattle.lossy_link.specs.declared.plan.PlanStop.{PlanStop}
+use Rattle.photon_cli.specs.Planned.{is_for, fuse_of, planned_for}
+
+cases_bool : (b : Bool) → (b ≡ true) ⊎ (b ≡ false)
+cases_bool true = inl refl
+cases_bool false = inr refl
+
+-- one stop more
+fuses_push : (xs : List Stop) (stop : Stop) (name : DiskName) → fuses_for (xs ++ stop ∷ []) name ≡ fuses_for xs name ++ (if same_name stop.name name then stop.fuse ∷ [] else [])
+fuses_push [] stop name = refl
+fuses_push (x ∷ xs) stop name = elim (cases_bool (same_name x.name name)) [
+  | inl is ↦ rw is (ap (λ (l : List Fuse). x.fuse ∷ l) (fuses_push xs stop name))
+  | inr not ↦ rw not (fuses_push xs stop name)
+]
+
+-- one stop more, where the disk's place says whether it has this name
+pub pushed : (xs ys : List Stop) (found name : DiskName) (had fuse : Fuse) (named here : Bool) → ys ≡ xs ++ record { name = found; fuse = had } ∷ [] → had ≡ fuse → named ≡ true → same_name found name ≡ here
+    → fuses_for ys name ≡ fuses_for xs name ++ (if named && here then fuse ∷ [] else [])
+pushed xs ys found name had fuse named here more made is same =
+    let stop : Stop = record { name = found; fuse = had } in
+    ap (λ (l : List Stop). fuses_for l name) more ∙ fuses_push xs stop name ∙ ap (λ (b : Bool). fuses_for xs name ++ (if b then had ∷ [] else [])) (same ∙ sym (ap (λ (b : Bool). b && here) is))
+    ∙ ap (λ (f : Fuse). fuses_for xs name ++ (if named && here then f ∷ [] else [])) made
+
+-- the first of the stops
+planned_first : (joiners : ℕ) (stop : PlanStop) (stops : List PlanStop) (name : DiskName) → planned_for joiners (stop ∷ stops) name ≡ (if is_for joiners stop name then fuse_of stop ∷ [] else []) ++ planned_for joiners stops name
+planned_first joiners stop stops name = elim (cases_bool (is_for joiners stop name)) [
+  | inl is ↦ rw is refl
+  | inr not ↦ rw not refl
+]
+
+-- a stop is taken from those that are left
+pub taken : (joiners : ℕ) (stops : List PlanStop) (i : ℕ) (default : PlanStop) (name : DiskName) (made new all : List Fuse) → i < length stops
+    → new ≡ made ++ (if is_for joiners (get_or stops i default) name then fuse_of (get_or stops i default) ∷ [] else [])
+    → made ++ planned_for joiners (drop i stops) name ≡ all
+    → new ++ planned_for joiners (drop (i + 1) stops) name ≡ all
+taken joiners stops i default name made new all lt more before =
+    let stop = get_or stops i default in
+    let rest = drop (i + 1) stops in
+    ap (λ (l : List Fuse). l ++ planned_for joiners (drop (i + 1) stops) name) more
+    ∙ append_assoc made (if is_for joiners (get_or stops i default) name then fuse_of (get_or stops i default) ∷ [] else []) (planned_for joiners (drop (i + 1) stops) name)
+    ∙ ap (λ (l : List Fuse). made ++ l) (sym (planned_first joiners stop rest name))
+    ∙ ap (λ (l : List PlanStop). made ++ planned_for joiners l name) (sym (drop_more stops i default lt))
+    ∙ before

@@ -1,0 +1,6 @@
+// Checks a whole log as a stream, line by line, without holding it in memory.
+mod check;
+mod lines;
+mod step;
+
+pub use check::{CheckFault, CheckedLog, check_click_log, check_query_log};

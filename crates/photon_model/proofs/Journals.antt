@@ -1,0 +1,124 @@
+-- The list of the replicas' journals, and the notes that votes stand in.
+use Rattle.std.proofs.Common.{◌≡◌, ◌≢◌, inl, inr, ⊎_elim, ℕ, zero, suc, ◌+◌, ◌<◌, ◌≤◌, Bool, true, false, cond, List, [], ◌∷◌, ◌++◌, length, get_or, set, Some, None, refl, sym, ap, ◌∙◌, subst, arith}
+use Rattle.std.specs.Prelude.{slice_get}
+use Rattle.ballot_core.specs.declared.Ballot.{Ballot}
+use Rattle.ballot_core.proofs.Meets.{some_member}
+use Rattle.paxos_defs.specs.declared.Place.{Place}
+use Rattle.paxos_defs.specs.Notes.{is_place, Vote, promise, acceptance, vote_at, votes_at, votes, Has}
+use Rattle.paxos_defs.specs.Notes.Note.{Promised, Accepted}
+use Rattle.paxos_defs.specs.Agreement.{HasAccepted, JournalsAgree}
+use Rattle.paxos_defs.specs.Decided.{IsExact}
+use Rattle.paxos_defs.proofs.Agreement.{agreed_one}
+use Rattle.paxos_defs.proofs.Decided.{decided_is}
+use Rattle.paxos_defs.proofs.Places.{noted, has_split, place_true}
+use Rattle.registry_state.specs.declared.Batch.{Batch}
+use Rattle.registry_state.specs.Same.{same_batch}
+use Rattle.registry_state.proofs.Tests.{same_batch-true, same_batch-refl}
+use Rattle.list_words.specs.Lists.{Mem}
+use Rattle.turn_defs.specs.Turns.{BallotNote}
+use Rattle.turn_defs.specs.Replica.{ReplicaKept}
+use Rattle.photon_model.specs.Journals.{values_from, journals, decided}
+
+-- ---- the values of a function as a list
+
+pub values_length : {A : Type 0} (f : ℕ → A) (from n : ℕ) → length (values_from f from n) ≡ n
+values_length f from zero = refl
+values_length f from (suc n) = ap suc (values_length f (suc from) n)
+
+values_same : {A : Type 0} (f h : ℕ → A) (from n : ℕ) → ((k : ℕ) → from ≤ k → f k ≡ h k) → values_from f from n ≡ values_from h from n
+values_same f h from zero e = refl
+values_same {A} f h from (suc n) e = let rest = values_same f h (suc from) n (λ k le. e k (omega arith)) in let here = e from (omega arith) in λ i. here i ∷ rest i
+
+values_at : {A : Type 0} (f : ℕ → A) (d : A) (from n i : ℕ) → i < n → get_or (values_from f from n) i d ≡ f (from + i)
+values_at f d from zero i lt = absurd (omega arith)
+values_at f d from (suc n) zero lt = ap f (let e : from ≡ from + 0 = omega arith in e)
+values_at f d from (suc n) (suc i) lt = values_at f d (suc from) n i (omega arith) ∙ ap f (let e : suc from + i ≡ from + suc i = omega arith in e)
+
+values_beyond : {A : Type 0} (f : ℕ → A) (d : A) (from n i : ℕ) → n ≤ i → get_or (values_from f from n) i d ≡ d
+values_beyond f d from zero i le = refl
+values_beyond f d from (suc n) zero le = absurd (omega arith)
+values_beyond f d from (suc n) (suc i) le = values_beyond f d (suc from) n i (omega arith)
+
+values_set : {A : Type 0} (f h : ℕ → A) (v : A) (from n i : ℕ) → i < n → h (from + i) ≡ v → ((k : ℕ) → k ≢ from + i → h k ≡ f k) → values_from h from n ≡ set (values_from f from n) i v
+values_set f h v from zero i lt here others = absurd (omega arith)
+values_set {A} f h v from (suc n) zero lt here others =
+    let a : h from ≡ v = ap h (let e : from ≡ from + 0 = omega arith in e) ∙ here in
+    let rest = values_same h f (suc from) n (λ k le. others k (λ e. omega arith)) in
+    λ i. a i ∷ rest i
+values_set {A} f h v from (suc n) (suc i) lt here others =
+    let a = others from (λ e. omega arith) in
+    let rest = values_set f h v (suc from) n i (omega arith) (ap h (let e : suc from + i ≡ from + suc i = omega arith in e) ∙ here) (λ k ne. others k (λ e. ne (omega arith))) in
+    λ j. a j ∷ rest j
+
+-- ---- journals
+
+module _ (n : ℕ) (f : ℕ → ReplicaKept) where
+  pub journals_length : length (journals n f) ≡ n
+  journals_length = values_length (λ k. (f k).notes) 0 n
+
+  pub journal_of : (r : ℕ) → r < n → get_or (journals n f) r [] ≡ (f r).notes
+  journal_of r lt = values_at (λ k. (f k).notes) [] 0 n r lt ∙ ap (λ k. (f k).notes) (let e : 0 + r ≡ r = omega arith in e)
+
+  pub journal_beyond : (r : ℕ) → n ≤ r → get_or (journals n f) r [] ≡ []
+  journal_beyond r le = values_beyond (λ k. (f k).notes) [] 0 n r le
+
+  -- replica r has written a note
+  pub journals_noted : (h : ℕ → ReplicaKept) (r : ℕ) (x : BallotNote) → r < n → (h r).notes ≡ (f r).notes ++ x ∷ [] → ((k : ℕ) → k ≢ r → (h k).notes ≡ (f k).notes) → journals n h ≡ noted (journals n f) r x
+  journals_noted h r x lt here others =
+      values_set (λ k. (f k).notes) (λ k. (h k).notes) ((f r).notes ++ x ∷ []) 0 n r lt (ap (λ k. (h k).notes) (let e : 0 + r ≡ r = omega arith in e) ∙ here) (λ k ne. others k (λ e. ne (omega arith)))
+      ∙ ap (λ (ns : List BallotNote). set (journals n f) r (ns ++ x ∷ [])) (sym (journal_of r lt))
+
+  pub journals_same : (h : ℕ → ReplicaKept) → ((k : ℕ) → (h k).notes ≡ (f k).notes) → journals n h ≡ journals n f
+  journals_same h e = values_same (λ k. (h k).notes) (λ k. (f k).notes) 0 n (λ k le. e k)
+
+-- ---- votes and notes
+
+acceptance_here : (at : Place) (x : BallotNote) (b : Ballot) (v : Batch) → Has (vote_at at x) (acceptance b v) → x ≡ Accepted at b v
+acceptance_here at (Promised q c) b v h = go (is_place q at) h
+  where
+    go : (t : Bool) → Has (cond t (promise c ∷ []) []) (acceptance b v) → Promised q c ≡ Accepted at b v
+    go true (inl e) = absurd (differ (ap (λ (z : Vote Batch). z.value) e))
+      where
+        differ : Some v ≡ None → ⊥
+        differ e = cc
+    go true (inr h) = absurd h
+    go false h = absurd h
+acceptance_here at (Accepted q c w) b v h = go (is_place q at) refl h
+  where
+    go : (t : Bool) → is_place q at ≡ t → Has (cond t (acceptance c w ∷ []) []) (acceptance b v) → Accepted q c w ≡ Accepted at b v
+    go true p (inl e) =
+        let values : Some v ≡ Some w = ap (λ (z : Vote Batch). z.value) e in
+        let ballots : b ≡ c = ap (λ (z : Vote Batch). z.ballot) e in
+        let same : v ≡ w = cc in
+        let places = place_true q at p in
+        λ i. Accepted (places i) (sym ballots i) (sym same i)
+    go true p (inr h) = absurd h
+    go false p h = absurd h
+
+-- an acceptance stands in a note
+pub accepted_note : (at : Place) (notes : List BallotNote) (b : Ballot) (v : Batch) → HasAccepted (votes_at at notes) b v → Mem (Accepted at b v) notes
+accepted_note at [] b v h = h
+accepted_note at (x ∷ notes) b v h = ⊎_elim (λ k. inl (acceptance_here at x b v k)) (λ k. inr (accepted_note at notes b v k)) (has_split (vote_at at x) (votes_at at notes) (acceptance b v) h)
+
+module _ (n : ℕ) (f : ℕ → ReplicaKept) (at : Place) (r : ℕ) where
+  -- in a journal of the replicas
+  pub within : (x : Vote Batch) → Has (votes (journals n f) at r) x → r < n
+  within x h = ⊎_elim (λ lt. lt) (λ le. absurd (subst (λ (ns : List BallotNote). Has (votes_at at ns) x) (values_beyond (λ k. (f k).notes) [] 0 n r le) h)) (Rattle.std.proofs.lemmas.Bool.cases_lt r n)
+
+  pub votes_of : r < n → votes (journals n f) at r ≡ votes_at at (f r).notes
+  votes_of lt = ap (votes_at at) (journal_of n f r lt)
+
+  pub accepted_stands : (b : Ballot) (v : Batch) → HasAccepted (votes (journals n f) at r) b v → (r < n) × Mem (Accepted at b v) (f r).notes
+  accepted_stands b v h = let lt = within (acceptance b v) h in (lt, accepted_note at (f r).notes b v (subst (λ (xs : List (Vote Batch)). Has xs (acceptance b v)) (votes_of lt) h))
+
+-- ---- what is decided
+
+pub exact : IsExact same_batch
+exact = record { true_only = same_batch-true; itself = same_batch-refl }
+
+-- a decided value was accepted
+pub decided_accepted : (js : List (List BallotNote)) → JournalsAgree js → (shard slot : ℕ) (v : Batch) → slice_get (decided js shard) slot ≡ Some v → (r : ℕ) × (b : Ballot) × HasAccepted (votes js (record { shard = shard; slot = slot }) r) b v
+decided_accepted js agree shard slot v e =
+    let c = (decided_is same_batch exact js (agreed_one js agree) shard).each slot v e in
+    let m = some_member c.1 in
+    (m.0, c.0, m.1)

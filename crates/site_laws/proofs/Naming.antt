@@ -1,0 +1,78 @@
+-- The disks of a setting, and the numbers of its joiners.
+use Rattle.std.proofs.Common.{◌≡◌, ◌≢◌, ◌⊎◌, inl, inr, ⊎_elim, ℕ, ◌+◌, ◌-◌, ◌<◌, List, [], refl, arith, zero, suc, lit<}
+use Rattle.std.proofs.lemmas.Bool.{cases_lt}
+use Rattle.outside.specs.declared.store.DiskName.{DiskName}
+use Rattle.outside.specs.declared.store.DiskName.TheVariants as name
+use Rattle.turn_defs.specs.Setting.{Setting, IsJoiner, first_joiner}
+use Rattle.site_laws.specs.Stores.{Bytes, IsDisk, joiner_of}
+
+below_or : (m n : ℕ) → (m < n) ⊎ (m < n → ⊥)
+below_or m n = ⊎_elim (λ l. inl l) (λ l. inr (λ k. absurd (omega (arith, k, l)))) (cases_lt m n)
+
+both_or : {P Q : Type 0} → P ⊎ (P → ⊥) → Q ⊎ (Q → ⊥) → (P × Q) ⊎ (P × Q → ⊥)
+both_or (inl p) (inl q) = inl (p, q)
+both_or (inl p) (inr no_) = inr (λ x. no_ x.1)
+both_or (inr no_) q = inr (λ x. no_ x.0)
+
+pub is_disk_or : (g : Setting) (disk : DiskName) → IsDisk g disk ⊎ (IsDisk g disk → ⊥)
+is_disk_or g name.Topology = inl tt
+is_disk_or g (name.Offset s) = below_or s 2
+is_disk_or g (name.Retry s) = below_or s 2
+is_disk_or g (name.Server s) = below_or s 2
+is_disk_or g (name.Replica r) = below_or r g.replicas
+is_disk_or g (name.Epoch s j) = both_or (below_or s 2) (below_or j g.joiners)
+is_disk_or g (name.Output s j) = both_or (below_or s 2) (below_or j g.joiners)
+
+-- where there are such bytes for each disk of the setting, one function has them all
+module _ (g : Setting) (P : DiskName → List ℕ → Type 0) (each : (disk : DiskName) → IsDisk g disk → (c : List ℕ) × P disk c) where
+  abbrev pick : (disk : DiskName) → IsDisk g disk ⊎ (IsDisk g disk → ⊥) → List ℕ
+  pick disk (inl is) = (each disk is).0
+  pick disk (inr never) = []
+
+  picked : (disk : DiskName) (o : IsDisk g disk ⊎ (IsDisk g disk → ⊥)) → IsDisk g disk → P disk (pick disk o)
+  picked disk (inl is) i = (each disk is).1
+  picked disk (inr never) i = absurd (never i)
+
+  pub choose : (b : Bytes) × ((disk : DiskName) → IsDisk g disk → P disk (b disk))
+  choose = (λ disk. pick disk (is_disk_or g disk), λ disk i. picked disk (is_disk_or g disk) i)
+
+-- ---- joiners by site
+
+pub record SeatOf (g : Setting) (n : ℕ) : Type 0 where
+  pub site : ℕ
+  pub joiner : ℕ
+  pub site_below : site < 2
+  pub joiner_below : joiner < g.joiners
+  pub number : joiner_of g site joiner ≡ n
+
+pub seat_of : (g : Setting) (n : ℕ) → IsJoiner g n → SeatOf g n
+seat_of g n is =
+    ⊎_elim
+    (λ l. record { site = 0; joiner = n - first_joiner g; site_below = lit< tt; joiner_below = omega (arith, is.0, l); number = omega (arith, is.0, l) })
+    (λ l. record { site = 1; joiner = n - (first_joiner g + g.joiners); site_below = lit< tt; joiner_below = omega (arith, is.1, l); number = omega (arith, l) })
+    (cases_lt n (first_joiner g + g.joiners))
+
+pub is_joiner : (g : Setting) (s j : ℕ) → s < 2 → j < g.joiners → IsJoiner g (joiner_of g s j)
+is_joiner g zero j s_below j_below = (omega arith, omega (arith, j_below))
+is_joiner g (suc zero) j s_below j_below = (omega arith, omega (arith, j_below))
+is_joiner g (suc (suc s)) j s_below j_below = absurd (omega (arith, s_below))
+
+pub one_seat : (g : Setting) (s j t i : ℕ) → s < 2 → j < g.joiners → t < 2 → i < g.joiners → joiner_of g s j ≡ joiner_of g t i → (s ≡ t) × (j ≡ i)
+one_seat g zero j zero i a b c d e = (refl, omega (arith, e))
+one_seat g zero j (suc zero) i a b c d e = absurd (omega (arith, b, e))
+one_seat g (suc zero) j zero i a b c d e = absurd (omega (arith, d, e))
+one_seat g (suc zero) j (suc zero) i a b c d e = (refl, omega (arith, e))
+one_seat g zero j (suc (suc t)) i a b c d e = absurd (omega (arith, c))
+one_seat g (suc zero) j (suc (suc t)) i a b c d e = absurd (omega (arith, c))
+one_seat g (suc (suc s)) j t i a b c d e = absurd (omega (arith, a))
+
+-- ---- the topology's disk and the others
+
+pub by_topology : (P : DiskName → Type 0) → P name.Topology → ((disk : DiskName) → disk ≢ name.Topology → P disk) → (disk : DiskName) → P disk
+by_topology P first others name.Topology = first
+by_topology P first others (name.Offset s) = others (name.Offset s) (λ e. cc)
+by_topology P first others (name.Retry s) = others (name.Retry s) (λ e. cc)
+by_topology P first others (name.Server s) = others (name.Server s) (λ e. cc)
+by_topology P first others (name.Replica r) = others (name.Replica r) (λ e. cc)
+by_topology P first others (name.Epoch s j) = others (name.Epoch s j) (λ e. cc)
+by_topology P first others (name.Output s j) = others (name.Output s j) (λ e. cc)

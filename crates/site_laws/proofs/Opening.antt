@@ -1,0 +1,140 @@
+-- What keeps the disks of a store sound: no bytes at all, nothing new, the topology's record, and what is read from them.
+use Rattle.std.proofs.Common.{◌≡◌, ◌≢◌, ⊎_elim, ℕ, Bool, List, [], Option, Some, None, refl, sym, ◌∙◌, ap, subst}
+use Rattle.std.specs.Result.{result_unwrap_or}
+use Rattle.std.proofs.lemmas.List.Elements.{All-nil}
+use Rattle.list_words.proofs.Lists.{some_same, none_some}
+use Rattle.outside.specs.declared.store.DiskName.{DiskName}
+use Rattle.outside.specs.declared.store.DiskName.TheVariants as name
+use Rattle.gate_journal.specs.Gate.{gate_rule, records}
+use Rattle.gate_journal.specs.Opening.{IsOpened}
+use Rattle.turn_defs.specs.Spellings.{IsPair}
+use Rattle.turn_defs.specs.Setting.{Setting}
+use Rattle.photon_model.specs.Topology.{Topology, topology_of, Store, WholeSound}
+use Rattle.photon_model.specs.Stores.{empty_disks, empty_store, TopologyComesFirst}
+use Rattle.site_laws.specs.Stores.{Bytes, Images, IsDisk, IsChoice, KeepsTopology, KeepsOf, IsFit, KeepSound, IsSoundStore, AreLeft, SameRecords}
+use Rattle.site_laws.specs.StoreLaws.{KeepOneTopology, HoldSameRecords, SameIsWhole, LeavesNothing, TopologyIsFirst, TopologyFits, StaysSound, IsTopologyWritten, WrittenIsSound}
+use Rattle.site_laws.proofs.Naming.{choose, by_topology}
+use Rattle.site_laws.proofs.Keeping.{topology_again, keeps_again}
+
+-- ---- no bytes
+
+empty_keeps : (g : Setting) (disk : DiskName) → KeepsOf g empty_disks disk []
+empty_keeps g name.Topology = tt
+empty_keeps g (name.Offset s) = refl
+empty_keeps g (name.Retry s) = refl
+empty_keeps g (name.Server s) = refl
+empty_keeps g (name.Replica r) = (tt, refl)
+empty_keeps g (name.Epoch s j) = refl
+empty_keeps g (name.Output s j) = (All-nil IsPair, refl)
+
+pub empty_sound : ((g : Setting) → WholeSound g empty_store) → (g : Setting) (image : Images) → LeavesNothing g image → IsSoundStore g image
+empty_sound whole g image nothing b choice = (
+  empty_store,
+  record {
+    topology = topology_again None [] (b name.Topology) (stands name.Topology tt) (tt, refl);
+    records = λ disk is. keeps_again g empty_disks disk [] (b disk) (stands disk is) (empty_keeps g disk);
+    used = λ disk is other some. absurd (some (ap records (no_bytes disk is)));
+  },
+  whole g,
+  λ t e. none_some t e,
+)
+  where
+    no_bytes : (disk : DiskName) → IsDisk g disk → b disk ≡ []
+    no_bytes disk is = nothing disk is (b disk) (choice disk is)
+
+    stands : (disk : DiskName) → IsDisk g disk → gate_rule [] ≡ gate_rule (b disk)
+    stands disk is = ap gate_rule (sym (no_bytes disk is))
+
+-- ---- nothing new
+
+records_same : (c d : List ℕ) → gate_rule c ≡ gate_rule d → records c ≢ [] → records d ≢ []
+records_same c d e some none = some (ap (λ r. result_unwrap_or r []) e ∙ none)
+
+keep_again : (g : Setting) (b c : Bytes) → ((disk : DiskName) → IsDisk g disk → gate_rule (b disk) ≡ gate_rule (c disk)) → KeepSound g b → KeepSound g c
+keep_again g b c stands x = (
+  x.0,
+  record {
+    topology = topology_again x.0.topology (b name.Topology) (c name.Topology) (stands name.Topology tt) x.1.topology;
+    records = λ disk is. keeps_again g x.0.disks disk (b disk) (c disk) (stands disk is) (x.1.records disk is);
+    used = λ disk is other some. x.1.used disk is other (records_same (c disk) (b disk) (sym (stands disk is)) some);
+  },
+  x.2,
+  x.3,
+)
+
+pub stays_sound : (g : Setting) (before after : Images) → StaysSound g before after
+stays_sound g before after sound stays b choice =
+    let was = choose g (λ disk c. before disk c × (gate_rule (b disk) ≡ gate_rule c)) (λ disk is. let x = stays disk is (b disk) (choice disk is) in (x.0, (x.1, x.2))) in
+    keep_again g was.0 b (λ disk is. sym (was.1 disk is).1) (sound was.0 (λ disk is. (was.1 disk is).0))
+
+-- ---- the topology is written
+
+module _ (first : TopologyComesFirst) (g : Setting) (before after : Images) (sound : IsSoundStore g before) (written : IsTopologyWritten g before after) (b : Bytes) (choice : IsChoice g after b) where
+  -- what may have been left before, and stood for the same
+  abbrev Stood : DiskName → List ℕ → Type 0
+  Stood disk c = before disk c × (gate_rule (b disk) ≡ gate_rule c)
+
+  other_was : (disk : DiskName) → disk ≢ name.Topology → IsDisk g disk → (c : List ℕ) × Stood disk c
+  other_was disk other is = let x = written.others disk is other (b disk) (choice disk is) in (x.0, (x.1, x.2))
+
+  still : IsOpened (before name.Topology) (b name.Topology) → KeepSound g b
+  still here =
+      let was = choose g Stood (by_topology (λ disk. IsDisk g disk → (c : List ℕ) × Stood disk c) (λ _. (here.0, (here.1, here.2))) other_was) in
+      keep_again g was.0 b (λ disk is. sym (was.1 disk is).1) (sound was.0 (λ disk is. (was.1 disk is).0))
+
+  -- what may have been left before, where the topology's disk keeps it now
+  abbrev Was : DiskName → List ℕ → Type 0
+  Was disk c = before disk c × (disk ≢ name.Topology → gate_rule c ≡ gate_rule (b disk))
+
+  was_each : (disk : DiskName) → IsDisk g disk → (c : List ℕ) × Was disk c
+  was_each =
+      by_topology (λ disk. IsDisk g disk → (c : List ℕ) × Was disk c) (λ _. (written.was.0, (written.was.1, λ other. absurd (other refl))))
+      (λ disk other is. let x = other_was disk other is in (x.0, (x.1.0, λ _. sym x.1.1)))
+
+  kept : KeepsTopology (Some (topology_of g)) (b name.Topology) → KeepSound g b
+  kept keeps =
+      let was = choose g Was was_each in
+      let x = sound was.0 (λ disk is. (was.1 disk is).0) in (
+        record x.0 { topology = Some (topology_of g) },
+        record {
+          topology = keeps;
+          records = by_topology (λ disk. IsDisk g disk → KeepsOf g x.0.disks disk (b disk)) (λ _. tt) (λ disk other is. keeps_again g x.0.disks disk (was.0 disk) (b disk) ((was.1 disk is).1 other) (x.1.records disk is));
+          used = λ disk is other some. x.1.used disk is other (records_same (b disk) (was.0 disk) (sym ((was.1 disk is).1 other)) some);
+        },
+        first g x.0 x.2,
+        λ t e. sym (some_same (topology_of g) t e),
+      )
+
+  now_sound : KeepSound g b
+  now_sound = ⊎_elim still kept (written.topology (b name.Topology) (choice name.Topology tt))
+
+pub written_sound : TopologyComesFirst → (g : Setting) (before after : Images) → WrittenIsSound g before after
+written_sound first g before after sound written b choice = now_sound first g before after sound written b choice
+
+-- ---- what is read from a sound store
+
+module _ (g : Setting) (image : Images) (s : Store) (sound : IsSoundStore g image) (left : AreLeft g image s) where
+  -- one image of each disk, which keeps what was read of it
+  abbrev Read : DiskName → List ℕ → Type 0
+  Read disk c = (image disk c × KeepsOf g s.disks disk c) × (disk ≡ name.Topology → KeepsTopology s.topology c)
+
+  read_each : (disk : DiskName) → IsDisk g disk → (c : List ℕ) × Read disk c
+  read_each =
+      by_topology (λ disk. IsDisk g disk → (c : List ℕ) × Read disk c) (λ _. (left.topology.0, ((left.topology.1, tt), λ _. left.topology.2)))
+      (λ disk other is. let x = left.records disk is in (x.0, ((x.1, x.2), λ same. absurd (other same))))
+
+  pub opened_whole : KeepOneTopology → HoldSameRecords → SameIsWhole → (used : Bool) × WholeSound g (record s { is_used = used }) × IsFit g s
+  opened_whole one_topology one_records same_whole =
+      let read = choose g Read read_each in
+      let x = sound read.0 (λ disk is. (read.1 disk is).0.0) in
+      let topology : x.0.topology ≡ s.topology = one_topology x.0.topology s.topology (read.0 name.Topology) x.1.topology ((read.1 name.Topology tt).1 refl) in
+      let same : SameRecords g x.0.disks s.disks = one_records g read.0 x.0.disks s.disks x.1.records (λ disk is. (read.1 disk is).0.1) in
+      (x.0.is_used, same_whole g x.0 (record s { is_used = x.0.is_used }) topology refl same x.2, λ t e. x.3 t (topology ∙ e))
+
+-- ---- the topology of a sound store
+
+pub topology_first : TopologyIsFirst
+topology_first g b disk x is other some = subst (λ (kept : Option Topology). KeepsTopology kept (b name.Topology)) (x.2.topology (x.1.used disk is other some)) x.1.topology
+
+pub topology_fits : KeepOneTopology → TopologyFits
+topology_fits one g b t x keeps = x.3 t (one x.0.topology (Some t) (b name.Topology) x.1.topology keeps)

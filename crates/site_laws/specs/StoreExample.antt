@@ -1,0 +1,28 @@
+-- Which bytes keep a sound store, worked out: with no record but the topology's, with a pair alone, with another topology.
+use Rattle.std.specs.Prelude.{ℕ, zero, List, [], ◌∷◌}
+use Rattle.outside.specs.declared.store.DiskName.TheVariants as name
+use Rattle.gate_journal.specs.Gate.{framed}
+use Rattle.topology_journal.specs.Topologies.{topology_of, topology_record}
+use Rattle.output_log.specs.Pairs.{record_of}
+use Rattle.output_log.specs.Rows.{a_pair}
+use Rattle.turn_defs.specs.Rows.{worked}
+use Rattle.site_laws.specs.Stores.{Bytes, KeepSound}
+
+-- the bytes of a journal with one record
+abbrev pub one_record : List ℕ → List ℕ
+one_record payload = 165 ∷ framed payload
+
+-- the topology of so many joiners, and no other record
+abbrev pub topology_alone : ℕ → Bytes
+topology_alone joiners name.Topology = one_record (topology_record (topology_of joiners worked.table))
+topology_alone joiners _ = []
+
+-- a pair in the output log of a joiner, and no other record
+abbrev pub pair_alone : Bytes
+pair_alone (name.Output zero zero) = one_record (record_of a_pair)
+pair_alone _ = []
+
+pub record SoundBytes : Type 0 where
+  pub topology : KeepSound worked (topology_alone 1)
+  pub no_other_topology : KeepSound worked (topology_alone 2) → ⊥
+  pub no_record_before : KeepSound worked pair_alone → ⊥

@@ -1,0 +1,117 @@
+-- What a stop may leave of the disks of a store, and when that is sound.
+use Rattle.std.specs.Prelude.{◌≡◌, ◌≢◌, ℕ, ◌+◌, ◌*◌, ◌<◌, true, List, [], Option, Some, option_map, ⊤}
+use Rattle.list_words.specs.Lists.{Each}
+use Rattle.outside.specs.declared.store.DiskName.{DiskName}
+use Rattle.outside.specs.declared.store.DiskName.TheVariants as name
+use Rattle.gate_journal.specs.Gate as gate
+use Rattle.topology_journal.specs.Topologies as journal
+use Rattle.offset_journal.specs.Offsets.{Keeps as KeepsOffset}
+use Rattle.retry_log.specs.Pending.{Keeps as KeepsPending}
+use Rattle.epoch_journal.specs.Epochs.{Keeps as KeepsEpoch}
+use Rattle.output_log.specs.Pairs.{Keeps as KeepsPairs}
+use Rattle.turn_defs.specs.declared.node.Node.{Node}
+use Rattle.turn_defs.specs.declared.node.Node.TheVariants.{Dispatcher, Server, Replica, Joiner}
+use Rattle.turn_defs.specs.Setting.{Setting, first_joiner}
+use Rattle.turn_defs.specs.Nodes.{IsNode}
+use Rattle.turn_defs.specs.Dispatcher.{DispatcherKept}
+use Rattle.turn_defs.specs.Joiner.{JoinerKept}
+use Rattle.turn_defs.specs.Server.{ServerKept}
+use Rattle.turn_defs.specs.Replica.{ReplicaKept}
+use Rattle.site_node.specs.Replicas.{IsVoted, OnDisk}
+use Rattle.site_node.specs.States.{MayHold}
+use Rattle.gate_journal.specs.Images.{IsKeptIn}
+use Rattle.photon_model.specs.Runs.{Disks}
+use Rattle.photon_model.specs.Topology.{Topology, topology_of, Store, WholeSound}
+use Rattle.site_laws.specs.Kinds.{StateOf, rows_of, kept_of}
+
+-- ---- the disks of a setting
+
+-- bytes for each disk
+abbrev pub Bytes : Type 0
+Bytes = DiskName → List ℕ
+
+-- which bytes a stop now may leave of each disk
+abbrev pub Images : Type 1
+Images = DiskName → List ℕ → Type 0
+
+-- the setting has a disk of this name
+abbrev pub IsDisk : Setting → DiskName → Type 0
+IsDisk g name.Topology = ⊤
+IsDisk g (name.Offset s) = s < 2
+IsDisk g (name.Retry s) = s < 2
+IsDisk g (name.Server s) = s < 2
+IsDisk g (name.Replica r) = r < g.replicas
+IsDisk g (name.Epoch s j) = (s < 2) × (j < g.joiners)
+IsDisk g (name.Output s j) = (s < 2) × (j < g.joiners)
+
+-- the node number of a site's joiner
+abbrev pub joiner_of : Setting → ℕ → ℕ → ℕ
+joiner_of g s j = first_joiner g + s * g.joiners + j
+
+-- one image of each disk of the setting
+abbrev pub IsChoice : Setting → Images → Bytes → Type 0
+IsChoice g image b = (disk : DiskName) → IsDisk g disk → image disk (b disk)
+
+-- ---- what bytes keep
+
+-- the bytes keep the topology, or none
+abbrev pub KeepsTopology : Option Topology → List ℕ → Type 0
+KeepsTopology kept bytes = journal.Keeps (option_map (λ (t : Topology). journal.topology_of t.joiners t.table) kept) bytes
+
+-- the bytes keep a replica's notes, each of which has a spelling
+abbrev pub KeepsVotes : ReplicaKept → List ℕ → Type 0
+KeepsVotes k bytes = Each IsVoted k.notes × OnDisk k bytes
+
+-- the bytes of the disk of this name keep what the records say of it; of the topology they say nothing
+abbrev pub KeepsOf : Setting → Disks → DiskName → List ℕ → Type 0
+KeepsOf g d name.Topology bytes = ⊤
+KeepsOf g d (name.Offset s) bytes = KeepsOffset (d.dispatchers s).offset bytes
+KeepsOf g d (name.Retry s) bytes = KeepsPending (d.dispatchers s).pending bytes
+KeepsOf g d (name.Server s) bytes = KeepsEpoch (d.servers s).epoch bytes
+KeepsOf g d (name.Replica r) bytes = KeepsVotes (d.replicas r) bytes
+KeepsOf g d (name.Epoch s j) bytes = KeepsEpoch (d.joiners (joiner_of g s j)).epoch bytes
+KeepsOf g d (name.Output s j) bytes = KeepsPairs (d.joiners (joiner_of g s j)).pairs bytes
+
+-- the bytes of each disk keep its records
+abbrev pub HoldsRecords : Setting → Bytes → Disks → Type 0
+HoldsRecords g b d = (disk : DiskName) → IsDisk g disk → KeepsOf g d disk (b disk)
+
+-- The bytes keep the store, which is used where any disk but the topology's has a record.
+pub record Holds (g : Setting) (b : Bytes) (s : Store) : Type 0 where
+  pub topology : KeepsTopology s.topology (b name.Topology)
+  pub records : HoldsRecords g b s.disks
+  pub used : (disk : DiskName) → IsDisk g disk → disk ≢ name.Topology → gate.records (b disk) ≢ [] → s.is_used ≡ true
+
+-- ---- sound stores
+
+-- no other topology is kept than the setting's
+abbrev pub IsFit : Setting → Store → Type 0
+IsFit g s = (t : Topology) → s.topology ≡ Some t → t ≡ topology_of g
+
+-- the bytes keep a sound store, the topology's record the first, and that of the setting
+abbrev pub KeepSound : Setting → Bytes → Type 0
+KeepSound g b = (s : Store) × Holds g b s × WholeSound g s × IsFit g s
+
+-- and so do whatever bytes a stop now leaves of the disks
+abbrev pub IsSoundStore : Setting → Images → Type 0
+IsSoundStore g image = (b : Bytes) → IsChoice g image b → KeepSound g b
+
+-- Each record of the store is kept by an image of its disk.
+pub record AreLeft (g : Setting) (image : Images) (s : Store) : Type 0 where
+  pub topology : IsKeptIn (image name.Topology) (KeepsTopology s.topology)
+  pub records : (disk : DiskName) → IsDisk g disk → IsKeptIn (image disk) (KeepsOf g s.disks disk)
+
+-- the same records of each node of the setting
+abbrev pub SameRecords : Setting → Disks → Disks → Type 0
+SameRecords g d e = (n : Node) → IsNode g n → kept_of d n ≡ kept_of e n
+
+-- Whatever a stop now leaves of a node's disks keeps records that the node's state may hold, and of the topology's disk the
+-- setting's.
+pub record AreKept (g : Setting) (at : (n : Node) → StateOf n) (image : Images) : Type 0 where
+  pub topology : (c : List ℕ) → image name.Topology c → KeepsTopology (Some (topology_of g)) c
+  pub dispatchers : (s : ℕ) → s < 2 → (o r : List ℕ) → image (name.Offset s) o → image (name.Retry s) r
+      → (k : DispatcherKept) × MayHold (rows_of (Dispatcher s)) (at (Dispatcher s)) k × KeepsOffset k.offset o × KeepsPending k.pending r
+  pub servers : (s : ℕ) → s < 2 → (c : List ℕ) → image (name.Server s) c → (k : ServerKept) × MayHold (rows_of (Server s)) (at (Server s)) k × KeepsEpoch k.epoch c
+  pub replicas : (r : ℕ) → r < g.replicas → (c : List ℕ) → image (name.Replica r) c → (k : ReplicaKept) × MayHold (rows_of (Replica r)) (at (Replica r)) k × KeepsVotes k c
+  pub joiners : (s j : ℕ) → s < 2 → j < g.joiners → (e o : List ℕ) → image (name.Epoch s j) e → image (name.Output s j) o
+      → (k : JoinerKept) × MayHold (rows_of (Joiner (joiner_of g s j))) (at (Joiner (joiner_of g s j))) k × KeepsEpoch k.epoch e × KeepsPairs k.pairs o

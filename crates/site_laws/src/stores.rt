@@ -1,0 +1,98 @@
+// When a store is sound, by what a stop now may leave of its disks, and what keeps it so: disks that are opened, the
+// topology's record, a run of both sites, longer logs.
+ghost use Rattle.outside.specs.declared.store.DiskName.{DiskName};
+ghost use Rattle.turn_defs.specs.Setting.{Setting};
+ghost use Rattle.site_laws.specs.Stores.{IsSoundStore};
+ghost use Rattle.site_laws.specs.StoreLaws.{HoldSameRecords, KeepOneTopology, LeavesNothing, LeftIsHeld, LongerStaysSound, OpenedIsWhole, ReadNotesAreKept, ReadTopologyIsKept, RunStaysSound, SameIsSound, SameIsWhole, StatesKeepVotes, StaysSound, TopologyFits, TopologyIsFirst, WrittenIsSound};
+ghost use Rattle.site_laws.specs.StoreExample.{SoundBytes};
+
+use outside::Store;
+use packet_codec::Field;
+use paxos_acceptor::ReplicaNote;
+
+/// A store whose disks have no bytes is sound.
+pub fn empty_store<S: Store>()
+    ensures { (g : Setting) (s : S) → LeavesNothing g (S.image s) → IsSoundStore g (S.image s) }
+{
+    photon_model::whole_stores();
+}
+
+/// Bytes keep one topology or none, and of each node of the setting the same records.
+pub fn once()
+    ensures topology { KeepOneTopology }
+    ensures records { HoldSameRecords }
+{
+    topology_journal::laws::told_apart();
+    output_log::laws::told_apart();
+    ReplicaNote::told_apart();
+}
+
+/// What is read of the topology's disk, and of a replica's, is what the bytes keep; and so is what a replica's state keeps on
+/// its disk, if its notes have spellings.
+pub fn read()
+    ensures topology { ReadTopologyIsKept }
+    ensures notes { ReadNotesAreKept }
+    ensures states { StatesKeepVotes }
+{}
+
+/// Whether records are sound is told by those of the setting's nodes alone.
+pub fn same()
+    ensures records { SameIsSound }
+    ensures store { SameIsWhole }
+{}
+
+/// The topology's record is a sound store's first, and it is the setting's.
+pub fn fits()
+    ensures first { TopologyIsFirst }
+    ensures only { TopologyFits }
+{
+    once();
+}
+
+/// Records that are read from a sound store, each from what a stop may leave of its disk, are a sound store.
+pub fn opened<S: Store>()
+    ensures { (g : Setting) (s : S) → OpenedIsWhole g (S.image s) }
+{
+    once();
+    same();
+}
+
+/// A store stays sound where no disk stands for anything new.
+pub fn stays<S: Store>()
+    ensures { (g : Setting) (before after : S) → StaysSound g (S.image before) (S.image after) }
+{}
+
+/// It stays sound where the topology's disk may keep the setting's besides.
+pub fn topology_first<S: Store>()
+    ensures { (g : Setting) (before after : S) → WrittenIsSound g (S.image before) (S.image after) }
+{
+    photon_model::whole_stores();
+}
+
+/// It stays sound where both logs grow by bytes at their ends and stay valid.
+pub fn longer<S: Store>()
+    ensures { (s : S) → LongerStaysSound (S.image s) }
+{
+    photon_model::whole_stores();
+}
+
+/// After a run from a sound store with its topology, disks that keep what their nodes' states may hold are a sound store.
+pub fn run<S: Store>()
+    ensures { (g : Setting) (s : S) → RunStaysSound g (S.image s) }
+{
+    crate::left_on_disks();
+}
+
+/// Whatever a stop leaves of such disks keeps records that the nodes may leave.
+pub fn left<S: Store>()
+    ensures { (g : Setting) (s : S) → LeftIsHeld g (S.image s) }
+{}
+
+/// A store of the topology's record alone is sound; one of another topology's isn't, nor one of a pair alone.
+pub fn example()
+    ensures { SoundBytes }
+{
+    fits();
+    once();
+    photon_model::whole_stores();
+}

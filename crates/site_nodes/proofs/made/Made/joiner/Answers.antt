@@ -1,5 +1,0 @@
-use Rattle.std.proofs.Common.{refl}
-use Rattle.site_nodes.proofs.made.Made.joiner.Goals as goal
-
-pub returns-in-Ok-clause-places : goal.returns-in-Ok-clause-places
-returns-in-Ok-clause-places g c tells gg of q = c.in-Ok.ensures.stands tells gg (record { epoch = c.args.epochs.epoch; pairs = c.args.outputs.pairs.items }) of q refl refl

@@ -1,0 +1,51 @@
+-- The bounds of accepted records.
+use Rattle.std.proofs.Common.{◌≡◌, inl, inr, ⊎_elim, ℕ, zero, suc, ◌+◌, ◌<◌, ◌≤◌, List, [], ◌∷◌, ◌++◌, refl, ap, subst, arith}
+use Rattle.std.proofs.lemmas.Bool.{cases_lt}
+use Rattle.list_words.specs.Lists.{Mem}
+use Rattle.list_words.proofs.Lists.{mem_left, mem_right, mem_split}
+use Rattle.registry_state.specs.declared.Batch.{Batch}
+use Rattle.ballot_core.specs.declared.Ballot.{Ballot}
+use Rattle.paxos_defs.specs.declared.Place.{Place}
+use Rattle.paxos_defs.specs.Notes.Note.{Promised, Accepted}
+use Rattle.turn_defs.specs.Turns.{BallotNote}
+use Rattle.turn_defs.specs.Replica.{ReplicaKept}
+
+abbrev bounds_in : List BallotNote → List ℕ
+bounds_in [] = []
+bounds_in (Accepted p b v ∷ ns) = v.bound ∷ bounds_in ns
+bounds_in (Promised p b ∷ ns) = bounds_in ns
+
+has_bound : (ns : List BallotNote) (at : Place) (b : Ballot) (v : Batch) → Mem (Accepted at b v) ns → Mem v.bound (bounds_in ns)
+has_bound [] at b v m = absurd m
+has_bound (Accepted p c w ∷ ns) at b v (inl e) = let same : w ≡ v = cc in inl (ap (λ (x : Batch). x.bound) same)
+has_bound (Accepted p c w ∷ ns) at b v (inr m) = inr (has_bound ns at b v m)
+has_bound (Promised p c ∷ ns) at b v (inl e) = absurd cc
+has_bound (Promised p c ∷ ns) at b v (inr m) = has_bound ns at b v m
+
+-- a record among these accepts a value with the bound
+abbrev pub Accepts : List BallotNote → ℕ → Type 0
+Accepts ns bound = (at : Place) × (b : Ballot) × (v : Batch) × Mem (Accepted at b v) ns × (v.bound ≡ bound)
+
+from_record : (ns : List BallotNote) (bound : ℕ) → Mem bound (bounds_in ns) → Accepts ns bound
+from_record [] bound m = absurd m
+from_record (Accepted p b v ∷ ns) bound (inl e) = (p, b, v, inl refl, e)
+from_record (Accepted p b v ∷ ns) bound (inr m) = let x = from_record ns bound m in (x.0, x.1, x.2, inr x.3, x.4)
+from_record (Promised p b ∷ ns) bound m = let x = from_record ns bound m in (x.0, x.1, x.2, inr x.3, x.4)
+
+-- those of so many replicas from this one on
+abbrev pub bounds_from : (ℕ → ReplicaKept) → ℕ → ℕ → List ℕ
+bounds_from f from zero = []
+bounds_from f from (suc n) = bounds_in (f from).notes ++ bounds_from f (suc from) n
+
+pub to_bounds : (f : ℕ → ReplicaKept) (from n r : ℕ) (at : Place) (b : Ballot) (v : Batch) → from ≤ r → r < from + n → Mem (Accepted at b v) (f r).notes → Mem v.bound (bounds_from f from n)
+to_bounds f from zero r at b v low high m = absurd (omega arith)
+to_bounds f from (suc n) r at b v low high m =
+    ⊎_elim (λ lt. mem_right v.bound (bounds_in (f from).notes) (bounds_from f (suc from) n) (to_bounds f (suc from) n r at b v lt (omega arith) m))
+    (λ ge. mem_left v.bound (bounds_in (f from).notes) (bounds_from f (suc from) n) (has_bound (f from).notes at b v (subst (λ k. Mem (Accepted at b v) (f k).notes) (let e : r ≡ from = omega arith in e) m)))
+    (cases_lt from r)
+
+pub from_bounds : (f : ℕ → ReplicaKept) (from n bound : ℕ) → Mem bound (bounds_from f from n) → (r : ℕ) × (r < from + n) × Accepts (f r).notes bound
+from_bounds f from zero bound m = absurd m
+from_bounds f from (suc n) bound m =
+    ⊎_elim (λ k. (from, omega arith, from_record (f from).notes bound k)) (λ k. let x = from_bounds f (suc from) n bound k in let lt = x.1 in (x.0, omega arith, x.2))
+    (mem_split bound (bounds_in (f from).notes) (bounds_from f (suc from) n) m)

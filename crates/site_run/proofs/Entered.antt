@@ -1,0 +1,201 @@
+-- What a run leaves, by what its parts do.
+use Rattle.std.specs.Prelude.{IfSome, IsSomeAnd, IfOk}
+use Rattle.std.proofs.Common.{◌≡◌, inl, ℕ, List, [], ◌∷◌, ◌++◌, Bool, Option, None, Some, Result, Ok, Err, refl, sym, subst}
+use Rattle.list_words.specs.Lists.{Each, Mem}
+use Rattle.list_words.proofs.Lists.{mem_left, mem_right, each_at, each_from, each_more, each_append}
+use Rattle.outside.specs.declared.store.DiskName.{DiskName}
+use Rattle.outside.specs.declared.store.DiskName.TheVariants as name
+use Rattle.outside.specs.declared.faults.StoreFault.{StoreFault}
+use Rattle.outside.specs.declared.faults.StoreFault.TheVariants as store
+use Rattle.air_bus.specs.declared.entry.Entry.{Entry as BusEntry}
+use Rattle.outside.specs.Faults.{Rose}
+use Rattle.topology_journal.specs.declared.topology.Topology.{Topology as Asked}
+use Rattle.log_records.specs.Check.{IsQueryLog}
+use Rattle.turn_defs.specs.Setting.{Setting, Checked}
+use Rattle.dispatch_node.specs.Places.{IsLogOf}
+use Rattle.photon_model.specs.Runs.{Disks}
+use Rattle.photon_model.specs.Topology.{topology_of, Store, WholeSound}
+use Rattle.photon_model.specs.Stores.{ReadIsChecked}
+use Rattle.site_run.specs.declared.faults.fault.RunFault.{RunFault}
+use Rattle.site_run.specs.declared.faults.fault.RunFault.TheVariants as fault
+use Rattle.site_run.specs.declared.faults.fault.Mismatch.TheVariants as mismatch
+use Rattle.site_store.specs.declared.disks.fault.DisksFault.TheVariants as disks
+use Rattle.site_store.specs.Opening.{RoseBy}
+use Rattle.gate_journal.specs.Images.{IsKeptIn}
+use Rattle.site_laws.specs.Stores.{Images, AreLeft, IsSoundStore, SameRecords, KeepsOf, KeepsTopology}
+use Rattle.site_laws.specs.StoreLaws.{RunStaysSound}
+use Rattle.site_store.specs.declared.opening.refusal.Refusal.{Refusal}
+use Rattle.site_store.specs.declared.opening.refusal.Refusal.TheVariants.{Disks as OfDisks, Joiners, Table, Place, Limit, Read}
+use Rattle.site_store.specs.Records.{KeptValues}
+use Rattle.site_store.specs.Causes.{IfJudged, IfDisks, IsCause, LeavesSomething, IsWelcome as OpensWelcome}
+use Rattle.verify_pass.specs.declared.journals.Journals.{Journals}
+use Rattle.site_run.specs.declared.ran.Outcome.{Outcome}
+use Rattle.site_run.specs.declared.ran.RunLog.{RunLog}
+use Rattle.site_run.specs.declared.built.config.Config.{Config}
+use Rattle.site_run.specs.Asked.{IsSettingOf, IsSettingOver}
+use Rattle.site_run.specs.Logs.{IsOfLogs}
+use Rattle.site_run.specs.Causes.{of_refusal, of_place, IsCounted, IsWelcomeWhere}
+use Rattle.site_run.specs.Left.{HasRun, HasRested, RunLeft, RestLeft}
+
+-- ---- where a run began, and where none did
+
+pub run_left : (o : Option RunLog) (g : Setting) (before after : Images) (s : Store) → AreLeft g before s
+    → ((d : Disks) → SameRecords g s.disks d → IfSome o (λ l. HasRun g d l.air.history after)) → IfSome o (λ l. RunLeft g before after l.air.history)
+run_left None g before after s kept run = tt
+run_left (Some l) g before after s kept run = record { store = s; kept = kept; ran = run }
+
+pub rest_left : (r : Result Outcome RunFault) (o : Option RunLog) (g : Setting) (before after : Images) (s : Store) (faulted : Type 0) → AreLeft g before s
+    → ((d : Disks) → SameRecords g s.disks d → IfOk r (λ outcome. IsSomeAnd o (λ l. HasRested g d l.air.history after faulted outcome.journals)))
+    → IfOk r (λ outcome. IsSomeAnd o (λ l. RestLeft g before after l.air.history faulted outcome.journals))
+rest_left (Err f) o g before after s faulted kept run = tt
+rest_left (Ok outcome) None g before after s faulted kept run = run s.disks (λ n is. refl)
+rest_left (Ok outcome) (Some l) g before after s faulted kept run = record { store = s; kept = kept; ran = run }
+
+-- a run over a sound store leaves a sound one, and so does none
+pub run_sound : (o : Option RunLog) (g : Setting) (after : Images) (s : Store) → Checked g → WholeSound g s → s.topology ≡ Some (topology_of g) → RunStaysSound g after
+    → (o ≡ None → IsSoundStore g after) → IfSome o (λ l. HasRun g s.disks l.air.history after) → IsSoundStore g after
+run_sound None g after s checked whole topology law none run = none refl
+run_sound (Some l) g after s checked whole topology law none run = law s l.air.history run.at run.entries checked whole topology run.run run.keeps
+
+pub none_left : (P : RunLog → Type 0) (o : Option RunLog) → o ≡ None → IfSome o P
+none_left P o none = subst (λ (x : Option RunLog). IfSome x P) (sym none) tt
+
+-- ---- a store that isn't opened
+
+pub refusal_counted : (r : Refusal) (tells : Bool) (log : List ℕ) (end_ old new store_old store_new : ℕ) (asked : Asked) (kept : KeptValues → Type 0) (logs stores : Type 0)
+    → IfDisks (RoseBy store_old store_new) r → (Rose store_old store_new → stores) → IfJudged kept (IsCause tells log end_ old new asked) r → (Rose old new → logs) → IsCounted logs stores (of_refusal r)
+refusal_counted (OfDisks (disks.Store disk)) tells log end_ old new store_old store_new asked kept logs stores rose to_stores judged to_logs = to_stores rose
+refusal_counted (OfDisks (disks.Damaged disk at)) tells log end_ old new store_old store_new asked kept logs stores rose to_stores judged to_logs = tt
+refusal_counted (OfDisks disks.Memory) tells log end_ old new store_old store_new asked kept logs stores rose to_stores judged to_logs = tt
+refusal_counted (Joiners a b) tells log end_ old new store_old store_new asked kept logs stores rose to_stores judged to_logs = tt
+refusal_counted (Table a b) tells log end_ old new store_old store_new asked kept logs stores rose to_stores judged to_logs = tt
+refusal_counted (Place p) tells log end_ old new store_old store_new asked kept logs stores rose to_stores judged to_logs = tt
+refusal_counted (Limit disk value) tells log end_ old new store_old store_new asked kept logs stores rose to_stores judged to_logs = tt
+refusal_counted Read tells log end_ old new store_old store_new asked kept logs stores rose to_stores judged to_logs = to_logs judged.2.1
+
+pub refusal_welcome : (r : Refusal) (g : Setting) (image : Images) → OpensWelcome g image r → IsWelcomeWhere (LeavesSomething g image) (of_refusal r)
+refusal_welcome (OfDisks (disks.Store disk)) g image welcome = tt
+refusal_welcome (OfDisks (disks.Damaged disk at)) g image welcome = welcome
+refusal_welcome (OfDisks disks.Memory) g image welcome = tt
+refusal_welcome (Joiners a b) g image welcome = welcome
+refusal_welcome (Table a b) g image welcome = absurd welcome
+refusal_welcome (Place p) g image welcome = absurd welcome
+refusal_welcome (Limit disk value) g image welcome = tt
+refusal_welcome Read g image welcome = tt
+
+-- ---- the log that is read and put back
+
+pub last_of : {A : Type 0} (P : A → Type 0) (items rest : List A) (last : A) → items ≡ rest ++ last ∷ [] → Each P items → P last
+last_of P items rest last is all = each_at P items all last (subst (Mem last) (sym is) (mem_right last rest (last ∷ []) (inl refl)))
+
+pub put_back : {A : Type 0} (P : A → Type 0) (items rest new : List A) (last next : A) → items ≡ rest ++ last ∷ [] → new ≡ rest ++ next ∷ [] → P next → Each P items → Each P new
+put_back P items rest new last next is now good all =
+    subst (Each P) (sym now) (each_append P rest (next ∷ []) (each_from P rest (λ x among. each_at P items all x (subst (Mem x) (sym is) (mem_left x rest (last ∷ []) among)))) (good, tt))
+
+-- ---- the setting of logs that are open
+
+some_at : {A : Type 0} (P : A → Type 0) (o : Option A) (x : A) → o ≡ Some x → IsSomeAnd o P → P x
+some_at {A} P o x is some = subst (λ (y : Option A). IsSomeAnd y P) is some
+
+pub over_so : {L : Type 0} (bytes : L → List ℕ) (told : List ℕ → Option (List ℕ)) (queries clicks : List ℕ) (config : Config) (end_ : ℕ) (g : Setting) (click_logs logs_a logs_b : List L)
+    → Each (λ (l : L). told clicks ≡ Some (bytes l)) click_logs → Each (λ (l : L). told queries ≡ Some (bytes l)) logs_a → Each (λ (l : L). told queries ≡ Some (bytes l)) logs_b
+    → IsSettingOf told queries clicks config end_ g → IsSettingOver bytes click_logs logs_a logs_b config end_ g
+over_so {L} bytes told queries clicks config end_ g click_logs logs_a logs_b of_clicks of_a of_b is = record {
+  numbers = is.numbers;
+  clicks_are = each_more (λ (l : L). told clicks ≡ Some (bytes l)) (λ (l : L). IsLogOf (bytes l) g) click_logs (λ l same. some_at (λ log. IsLogOf log g) (told clicks) (bytes l) same is.clicks_are) of_clicks;
+  queries_a_are = each_more (λ (l : L). told queries ≡ Some (bytes l)) (λ (l : L). IsQueryLog (bytes l) g.queries) logs_a (λ l same. some_at (λ log. IsQueryLog log g.queries) (told queries) (bytes l) same is.queries_are) of_a;
+  queries_b_are = each_more (λ (l : L). told queries ≡ Some (bytes l)) (λ (l : L). IsQueryLog (bytes l) g.queries) logs_b (λ l same. some_at (λ log. IsQueryLog log g.queries) (told queries) (bytes l) same is.queries_are) of_b;
+  ends = is.ends;
+}
+
+pub checked_so : ReadIsChecked → (g : Setting) (a b : Option (List ℕ)) → IsSomeAnd a (λ log. IsQueryLog log g.queries) → IsSomeAnd b (λ log. IsLogOf log g) → Checked g
+checked_so law g None b of_a of_b = absurd of_a
+checked_so law g (Some a) None of_a of_b = absurd of_b
+checked_so law g (Some a) (Some b) of_a of_b = law g a b (record { queries = of_a.0; clicks = of_b.lines })
+
+-- ---- logs that aren't opened, and a store that isn't placed
+
+pub logs_counted : (f : RunFault) (rose stores : Type 0) → IsOfLogs rose f → IsCounted rose stores f
+logs_counted (fault.Read log) rose stores of = of
+logs_counted (fault.Store place) rose stores of = absurd of
+logs_counted (fault.Damaged disk at) rose stores of = tt
+logs_counted (fault.Topology what) rose stores of = tt
+logs_counted (fault.Limit disk value) rose stores of = tt
+logs_counted fault.Memory rose stores of = tt
+
+pub logs_welcome : (f : RunFault) (rose holds : Type 0) → IsOfLogs rose f → IsWelcomeWhere holds f
+logs_welcome (fault.Read log) rose holds of = tt
+logs_welcome (fault.Store place) rose holds of = tt
+logs_welcome (fault.Damaged disk at) rose holds of = absurd of
+logs_welcome (fault.Topology what) rose holds of = absurd of
+logs_welcome (fault.Limit disk value) rose holds of = tt
+logs_welcome fault.Memory rose holds of = tt
+
+pub place_counted : (f : StoreFault) (logs stores : Type 0) → (f ≡ store.Disk → stores) → IsCounted logs stores (of_place f)
+place_counted store.Disk logs stores rose = rose refl
+place_counted store.Memory logs stores rose = tt
+
+pub place_welcome : (f : StoreFault) (holds : Type 0) → IsWelcomeWhere holds (of_place f)
+place_welcome store.Disk holds = tt
+place_welcome store.Memory holds = tt
+
+-- ---- where the counts were lower, and where less holds
+
+pub counted_more : (f : RunFault) (logs stores logs_too stores_too : Type 0) → (logs → logs_too) → (stores → stores_too) → IsCounted logs stores f → IsCounted logs_too stores_too f
+counted_more (fault.Read log) logs stores logs_too stores_too more_logs more_stores is = more_logs is
+counted_more (fault.Store place) logs stores logs_too stores_too more_logs more_stores is = more_stores is
+counted_more (fault.Damaged disk at) logs stores logs_too stores_too more_logs more_stores is = tt
+counted_more (fault.Topology what) logs stores logs_too stores_too more_logs more_stores is = tt
+counted_more (fault.Limit disk value) logs stores logs_too stores_too more_logs more_stores is = tt
+counted_more fault.Memory logs stores logs_too stores_too more_logs more_stores is = tt
+
+pub welcome_where : (f : RunFault) (holds less : Type 0) → (less → holds) → IsWelcomeWhere holds f → IsWelcomeWhere less f
+welcome_where (fault.Read log) holds less from is = tt
+welcome_where (fault.Store place) holds less from is = tt
+welcome_where (fault.Damaged disk at) holds less from is = λ l. is (from l)
+welcome_where (fault.Topology (mismatch.Joiners kept asked)) holds less from is = λ l. is (from l)
+welcome_where (fault.Topology (mismatch.Table kept asked)) holds less from is = absurd is
+welcome_where (fault.Topology (mismatch.Place disk kept floor)) holds less from is = absurd is
+welcome_where (fault.Limit disk value) holds less from is = tt
+welcome_where fault.Memory holds less from is = tt
+
+-- ---- from a store that was placed to the one before
+
+kept_in : (before placed keeps : List ℕ → Type 0) → ((c : List ℕ) → placed c → before c) → IsKeptIn placed keeps → IsKeptIn before keeps
+kept_in before placed keeps within kept = (kept.0, within kept.0 kept.1, kept.2)
+
+left_before : (g : Setting) (before placed : Images) (s : Store) → ((disk : DiskName) (c : List ℕ) → placed disk c → before disk c) → AreLeft g placed s → AreLeft g before s
+left_before g before placed s within kept = record {
+  topology = kept_in (before name.Topology) (placed name.Topology) (KeepsTopology s.topology) (within name.Topology) kept.topology;
+  records = λ disk is. kept_in (before disk) (placed disk) (KeepsOf g s.disks disk) (within disk) (kept.records disk is);
+}
+
+rested_where : (g : Setting) (d : Disks) (h : List BusEntry) (after : Images) (less more : Type 0) (journals : Journals) → (less → more) → HasRested g d h after less journals → HasRested g d h after more journals
+rested_where g d h after less more journals from is = record {
+  at = is.at;
+  entries = is.entries;
+  run = is.run;
+  rest = is.rest;
+  keeps = is.keeps;
+  holds = is.holds;
+  read = is.read;
+  stops = λ no. is.stops (λ l. no (from l));
+}
+
+module _ (g : Setting) (before placed after : Images) (within : (disk : DiskName) (c : List ℕ) → placed disk c → before disk c) where
+  pub sound_placed : IsSoundStore g before → IsSoundStore g placed
+  sound_placed sound b choice = sound b (λ disk is. within disk (b disk) (choice disk is))
+
+  pub run_earlier : (o : Option RunLog) → IfSome o (λ l. RunLeft g placed after l.air.history) → IfSome o (λ l. RunLeft g before after l.air.history)
+  run_earlier None left = tt
+  run_earlier (Some l) left = record { store = left.store; kept = left_before g before placed left.store within left.kept; ran = left.ran }
+
+  pub rest_earlier : (r : Result Outcome RunFault) (o : Option RunLog) (less more : Type 0) → (less → more)
+      → IfOk r (λ outcome. IsSomeAnd o (λ l. RestLeft g placed after l.air.history less outcome.journals)) → IfOk r (λ outcome. IsSomeAnd o (λ l. RestLeft g before after l.air.history more outcome.journals))
+  rest_earlier (Err f) o less more from left = tt
+  rest_earlier (Ok outcome) None less more from left = absurd left
+  rest_earlier (Ok outcome) (Some l) less more from left = record {
+    store = left.store;
+    kept = left_before g before placed left.store within left.kept;
+    ran = λ d same. rested_where g d l.air.history after less more outcome.journals from (left.ran d same);
+  }

@@ -1,0 +1,114 @@
+-- The disks of a node that stands at a state hold what the state says.
+use Rattle.std.proofs.Common.{◌≡◌, ◌⊎◌, inl, inr, ⊎_elim, ℕ, Bool, true, false, ◌&&◌, List, Option, Some, None, refl, ap, ◌∙◌}
+use Rattle.std.specs.Prelude.{IsTrue}
+use Rattle.turn_defs.specs.declared.node.Node.{Node}
+use Rattle.turn_defs.specs.declared.node.Node.TheVariants.{Dispatcher, Server, Replica, Joiner}
+use Rattle.turn_defs.specs.declared.node.Input.{Input}
+use Rattle.turn_defs.specs.Setting.{Setting}
+use Rattle.turn_defs.specs.Nodes.{node_number}
+use Rattle.turn_defs.specs.Turns.{Note, Out, land}
+use Rattle.site_node.specs.States.{State, MayHold, row_of}
+use Rattle.dispatch_node.specs.Node.{DispatcherState}
+use Rattle.dispatch_node.specs.Images as dispatcher
+use Rattle.turn_defs.specs.Server.{ServerKept, ServerLive, land_server}
+use Rattle.registry_server.specs.Registrars.{SiteKept}
+use Rattle.registry_server.specs.Registrars as registrars
+use Rattle.registry_server.specs.Node.{ServerState}
+use Rattle.registry_server.specs.Node as server
+use Rattle.site_node.specs.Replicas.{ReplicaState}
+use Rattle.site_node.specs.Replicas as replica
+use Rattle.joiner_node.specs.Node.{JoinerState, KeepsOf}
+use Rattle.site_laws.specs.Kinds.{StateOf, server_rows}
+use Rattle.site_workers.specs.Eithers as either
+use Rattle.site_workers.specs.declared.either.Either.{Either}
+use Rattle.site_workers.specs.declared.either.Either.TheVariants as node
+use Rattle.site_run.specs.AnyNodes.{AnyState, any_of, with_site}
+use Rattle.site_laws.specs.StoreLaws.{StatesKeepVotes}
+use Rattle.site_run.specs.Held.{HasSpelledNotes, HoldsAs}
+use Rattle.site_run.proofs.Going.{disks_by}
+
+-- where disk and log tell, so does a node of any kind
+pub all_tell : (disk log : Bool) → IsTrue disk → IsTrue log → IsTrue (((disk && log) && disk) && (disk && (disk && log)))
+all_tell true true d l = refl
+all_tell true false d l = absurd (cc l)
+all_tell false log d l = absurd (cc d)
+
+-- ---- a server, whose records carry its site
+
+abbrev at_site : ℕ → ServerKept → SiteKept
+at_site s k = record { site = s; disk = k }
+
+lands_so : (s : ℕ) (k : ServerKept) (o : Option Note) → (land registrars.server_rows.lands o (at_site s k)).disk ≡ land land_server o k
+lands_so s k None = refl
+lands_so s k (Some n) = refl
+
+row_so : (s : ℕ) (g : Setting) (k : ServerKept) (live : Option ServerLive) (i : Input) → row_of registrars.server_rows g (at_site s k) live i ≡ row_of (server_rows s) g k live i
+row_so s g k None i = refl
+row_so s g k (Some l) i = refl
+
+may_hold_so : (s : ℕ) (t : State ServerKept ServerLive) (k : SiteKept) → MayHold registrars.server_rows (with_site s t) k → MayHold (server_rows s) t k.disk
+may_hold_so s t k may =
+    ⊎_elim (λ same. inl (ap (λ (x : SiteKept). x.disk) same))
+    (λ more.
+    inr (
+      more.0,
+      more.1,
+      more.2,
+      more.3,
+      ap (λ (x : SiteKept). x.disk) more.4 ∙ ap (λ (o : Out ServerLive). (land registrars.server_rows.lands o.note (at_site s t.kept)).disk) (row_so s t.setting t.kept t.live more.1) ∙ lands_so s t.kept (row_of (server_rows s) t.setting t.kept t.live more.1).note,
+    ))
+    may
+
+-- ---- a node of any kind
+
+module _ {D A B C E : Type 0} (image : D → List ℕ → Type 0) (offset retry : A → D) (server_disk : B → D) (replica_disk : C → D) (epochs outputs : E → D)
+    (a_stands : A → DispatcherState → Type 0) (b_stands : B → ServerState → Type 0) (c_stands : C → ReplicaState → Type 0) (e_stands : E → JoinerState → Type 0) where
+  abbrev Bytes : Type 0
+  Bytes = ((List ℕ × List ℕ) ⊎ List ℕ) ⊎ (List ℕ ⊎ (List ℕ × List ℕ))
+
+  abbrev stands : Either (Either A B) (Either C E) → AnyState → Type 0
+  stands = either.at (either.at a_stands b_stands) (either.at c_stands e_stands)
+
+  abbrev images : Either (Either A B) (Either C E) → Bytes → Type 0
+  images =
+      either.at (either.at (λ n c. image (offset n) c.0 × image (retry n) c.1) (λ n. image (server_disk n))) (either.at (λ n. image (replica_disk n)) (λ n c. image (epochs n) c.0 × image (outputs n) c.1))
+
+  abbrev keep : AnyState → Bytes → Type 0
+  keep = either.both (either.both dispatcher.KeptOn server.KeptOn) (either.both replica.KeptOn KeepsOf)
+
+  -- whatever a stop now leaves of its disks is what the state that it stands at keeps
+  abbrev IsKeptBy : Either (Either A B) (Either C E) → Type 0
+  IsKeptBy v = (s : AnyState) → stands v s → (c : Bytes) → images v c → keep s c
+
+  pub holds_as : StatesKeepVotes → (joiners : ℕ) (n : Node) (t : StateOf n) (v : Either (Either A B) (Either C E)) → IsKeptBy v → HasSpelledNotes n t → stands v (any_of n t)
+      → HoldsAs image joiners n t (disks_by image offset retry server_disk replica_disk epochs outputs joiners (node_number n) v)
+  holds_as votes joiners (Dispatcher s) t (node.First (node.First v)) law spelled at = record {
+    offset = offset v;
+    retry = retry v;
+    named = refl;
+    keeps = λ o r o_here r_here. let kept = law (any_of (Dispatcher s) t) at (inl (inl (o, r))) (o_here, r_here) in (kept.0, kept.1, kept.2.0, kept.2.1);
+  }
+  holds_as votes joiners (Dispatcher s) t (node.First (node.Second v)) law spelled at = absurd at
+  holds_as votes joiners (Dispatcher s) t (node.Second v) law spelled at = absurd at
+  holds_as votes joiners (Server s) t (node.First (node.First v)) law spelled at = absurd at
+  holds_as votes joiners (Server s) t (node.First (node.Second v)) law spelled at = record {
+    disk = server_disk v;
+    named = refl;
+    keeps = λ c here. let kept = law (any_of (Server s) t) at (inl (inr c)) here in (kept.0.disk, may_hold_so s t kept.0 kept.1, kept.2);
+  }
+  holds_as votes joiners (Server s) t (node.Second v) law spelled at = absurd at
+  holds_as votes joiners (Replica r) t (node.First v) law spelled at = absurd at
+  holds_as votes joiners (Replica r) t (node.Second (node.First v)) law spelled at = record {
+    disk = replica_disk v;
+    named = refl;
+    keeps = λ c here. votes t c spelled (law (any_of (Replica r) t) at (inr (inl c)) here);
+  }
+  holds_as votes joiners (Replica r) t (node.Second (node.Second v)) law spelled at = absurd at
+  holds_as votes joiners (Joiner j) t (node.First v) law spelled at = absurd at
+  holds_as votes joiners (Joiner j) t (node.Second (node.First v)) law spelled at = absurd at
+  holds_as votes joiners (Joiner j) t (node.Second (node.Second v)) law spelled at = record {
+    epochs = epochs v;
+    outputs = outputs v;
+    named = refl;
+    keeps = λ e o e_here o_here. let kept = law (any_of (Joiner j) t) at (inr (inr (e, o))) (e_here, o_here) in (kept.0, kept.1, kept.2.0, kept.2.1);
+  }

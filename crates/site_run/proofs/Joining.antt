@@ -1,0 +1,205 @@
+-- What the journals of a run that has come to rest say is the report of what its disks keep.
+use Rattle.std.proofs.Common.{◌≡◌, ◌⊎◌, inl, inr, ℕ, zero, suc, List, [], refl, ap, ◌∙◌, subst, arith}
+use Rattle.std.proofs.lemmas.List.Elements.{All-nil}
+use Rattle.list_words.specs.Lists.{Mem}
+use Rattle.event_id.specs.declared.id.EventId.{EventId}
+use Rattle.time_shards.specs.Shards.{IsTable}
+use Rattle.registry_state.specs.declared.Insert.{Insert}
+use Rattle.registry_state.specs.LookBack.{bound_of}
+use Rattle.outside.specs.declared.store.DiskName.{DiskName}
+use Rattle.outside.specs.declared.store.DiskName.TheVariants as name
+use Rattle.log_records.specs.Lines.{ClickLine}
+use Rattle.log_records.specs.Report as logs
+use Rattle.log_records.specs.declared.report.ReportLine.{ReportLine}
+use Rattle.log_records.specs.declared.report.ReportLine.TheVariants.{M}
+use Rattle.air_bus.specs.declared.entry.Entry.{Entry as BusEntry}
+use Rattle.turn_defs.specs.Spellings.{IsPair}
+use Rattle.turn_defs.specs.Setting.{Setting, Checked}
+use Rattle.photon_model.specs.Journals.{values_from}
+use Rattle.photon_model.specs.Report as kept
+use Rattle.photon_model.specs.Runs.{World, Disks, disks, world_after, opening}
+use Rattle.photon_model.specs.Topology.{WholeSound}
+use Rattle.photon_model.specs.Sound.{SoundStore, IsMissing, inserts_of, known_of}
+use Rattle.photon_model.specs.EveryRun.{HasBounds, IsBoundOk, RestLeaves}
+use Rattle.photon_model.specs.EveryRun.{RestIsDone}
+use Rattle.photon_model.specs.Exact.{AtRestFromEmpty, ClicksAreExact, ReportIsExact}
+use Rattle.photon_model.specs.Headline.{TellsTheMissing}
+use Rattle.photon_model.specs.Stores.{RunsKeepStores, empty_disks, empty_store}
+use Rattle.photon_model.specs.Verification.{TellsTheReport}
+use Rattle.verify_pass.specs.declared.journals.Journals.{Journals}
+use Rattle.site_laws.specs.Stores.{Images, IsDisk, KeepsOf, IsSoundStore, SameRecords}
+use Rattle.site_laws.specs.StoreLaws.{KeepOneTopology, HoldSameRecords, LeavesNothing}
+use Rattle.site_laws.proofs.Nodes.{same_is_whole}
+use Rattle.site_laws.proofs.Opening.{opened_whole}
+use Rattle.site_run.specs.Left.{HasRested, RestLeft}
+use Rattle.site_run.specs.Meaning.{lines_by, AreLinesBy}
+use Rattle.site_run.specs.Joined.{IsAcceptedBound, WasHeld, Joins, JoinsAfresh, RanAfresh, decided_by}
+use Rattle.site_run.specs.Laws.{JoinerStopped, NoneStops}
+use Rattle.site_run.proofs.Bounds.{bounds_from, to_bounds, from_bounds}
+
+-- the laws that this stands on
+pub record Laws : Type 0 where
+  pub one_topology : KeepOneTopology
+  pub one_records : HoldSameRecords
+  pub empty : (g : Setting) → WholeSound g empty_store
+  pub runs : RunsKeepStores
+  pub rest : RestIsDone
+  pub clicks : AtRestFromEmpty ClicksAreExact
+  pub report : AtRestFromEmpty ReportIsExact
+  pub missing : TellsTheMissing
+  pub tells : TellsTheReport
+
+module _ (laws : Laws) (g : Setting) (d : Disks) (h : List BusEntry) (after : Images) (faulted : Type 0) (js : Journals) (checked : Checked g) (sound : SoundStore g d) (rested : HasRested g d h after faulted js) where
+  abbrev w : World
+  w = world_after g (opening d) rested.entries
+
+  abbrev left : Disks
+  left = disks w
+
+  -- the bounds of all accepted records
+  abbrev old : List ℕ
+  old = bounds_from d.replicas 0 g.replicas
+
+  has_bounds : HasBounds g d old
+  has_bounds r at b v lt m = to_bounds d.replicas 0 g.replicas r at b v (omega arith) (omega arith) m
+
+  leaves : RestLeaves g d rested.entries old w
+  leaves = laws.rest g d rested.entries old checked sound has_bounds rested.run.run rested.rest
+
+  was_accepted : (bound : ℕ) → IsBoundOk g old bound → (bound ≡ g.horizon) ⊎ IsAcceptedBound g d bound
+  was_accepted bound (inl e) = inl e
+  was_accepted bound (inr m) = let x = from_bounds d.replicas 0 g.replicas bound m in let lt = x.1 in inr (x.0, x.2.0, x.2.1, x.2.2, omega arith, x.2.3, x.2.4)
+
+  missing : (faulted → ⊥) → (i : EventId) → IsMissing g (known_of g left []) i → WasHeld g d left i
+  missing calm i m = (m.0.0, m.0.1, leaves.missing (rested.stops calm) i m.0.0 m.0.1 m.1)
+
+  told : lines_by g js ≡ kept.report g left
+  told = laws.tells g left js rested.read
+
+pub joins : Laws → (g : Setting) (before after : Images) (h : List BusEntry) (faulted : Type 0) (js : Journals) (lines : List ReportLine)
+    → Checked g → IsSoundStore g before → RestLeft g before after h faulted js → AreLinesBy g js lines → Joins g before after faulted lines
+joins laws g before after h faulted js lines checked sound rest are =
+    let d : Disks = rest.store.disks in
+    let was : SoundStore g d = (opened_whole g before rest.store sound rest.kept laws.one_topology laws.one_records same_is_whole).1.records in
+    let rested : HasRested g d h after faulted js = rest.ran d (λ n is. refl) in
+    let done = leaves laws g d h after faulted js checked was rested in
+    record {
+      left = left laws g d h after faulted js checked was rested;
+      rested = record {
+        opened = rest.store;
+        were_kept = rest.kept;
+        keeps = rested.holds;
+        drained = done.drained;
+        bounds = λ s lt. (done.bounds s lt).0;
+        no_others = λ s lt. was_accepted laws g d h after faulted js checked was rested (bound_of (decided_by g (left laws g d h after faulted js checked was rested) s)) (done.bounds s lt).1;
+        missing = missing laws g d h after faulted js checked was rested;
+      };
+      are = are ∙ told laws g d h after faulted js checked was rested;
+    }
+
+-- ---- from an empty store
+
+empty_keeps : (g : Setting) (disk : DiskName) → KeepsOf g empty_disks disk []
+empty_keeps g name.Topology = tt
+empty_keeps g (name.Offset s) = refl
+empty_keeps g (name.Retry s) = refl
+empty_keeps g (name.Server s) = refl
+empty_keeps g (name.Replica r) = (tt, refl)
+empty_keeps g (name.Epoch s j) = refl
+empty_keeps g (name.Output s j) = (All-nil IsPair, refl)
+
+-- replicas without records have accepted no insert
+none_accepted : (from n : ℕ) (x : Insert) → Mem x (inserts_of (values_from (λ k. []) from n)) → ⊥
+none_accepted from zero x m = m
+none_accepted from (suc n) x m = none_accepted (suc from) n x m
+
+pub afresh : Laws → (g : Setting) (before after : Images) (h : List BusEntry) (faulted : Type 0) (js : Journals) (lines : List ReportLine)
+    → Checked g → IsTable g.table → LeavesNothing g before → RestLeft g before after h faulted js → AreLinesBy g js lines → JoinsAfresh g faulted lines
+afresh laws g before after h faulted js lines checked table nothing rest are = record {
+  left = now;
+  are = same;
+  exact = laws.clicks g rested.entries checked table rested.run.run rested.rest;
+  whole = λ calm. ap logs.text_of (same ∙ laws.report g rested.entries checked table rested.run.run rested.rest (none_missing calm));
+}
+  where
+    keeps : (disk : DiskName) → IsDisk g disk → KeepsOf g rest.store.disks disk []
+    keeps disk is = let x = rest.kept.records disk is in subst (λ (c : List ℕ). KeepsOf g rest.store.disks disk c) (nothing disk is x.0 x.1) x.2
+
+    blank : SameRecords g rest.store.disks empty_disks
+    blank = laws.one_records g (λ disk. []) rest.store.disks empty_disks keeps (λ disk is. empty_keeps g disk)
+
+    rested : HasRested g empty_disks h after faulted js
+    rested = rest.ran empty_disks blank
+
+    was : SoundStore g empty_disks
+    was = (laws.empty g).records
+
+    now : Disks
+    now = left laws g empty_disks h after faulted js checked was rested
+
+    same : lines ≡ kept.report g now
+    same = are ∙ told laws g empty_disks h after faulted js checked was rested
+
+    none_missing : (faulted → ⊥) → (l : ClickLine) → Mem l g.clicks → kept.line_of g now l.click.id ≡ M l.click.id → ⊥
+    none_missing calm l m e =
+        let held = missing laws g empty_disks h after faulted js checked was rested calm l.click.id ((laws.missing g now l.click.id).0 e) in
+        none_accepted 0 g.replicas _ held.2
+
+-- ---- by the run's own history
+
+stopped : (g : Setting) (d : Disks) (h : List BusEntry) (after : Images) (faulted : Type 0) (js : Journals) → NoneStops → HasRested g d h after faulted js → HasRested g d h after (JoinerStopped g h) js
+stopped g d h after faulted js none rested = record {
+  at = rested.at;
+  entries = rested.entries;
+  run = rested.run;
+  rest = rested.rest;
+  keeps = rested.keeps;
+  holds = rested.holds;
+  read = rested.read;
+  stops = λ calm. none g d h rested.at rested.entries rested.run (λ j is e. calm (j, is, e));
+}
+
+by_stops : (g : Setting) (before after : Images) (h : List BusEntry) (faulted : Type 0) (js : Journals) → NoneStops → RestLeft g before after h faulted js → RestLeft g before after h (JoinerStopped g h) js
+by_stops g before after h faulted js none rest = record { store = rest.store; kept = rest.kept; ran = λ d same. stopped g d h after faulted js none (rest.ran d same) }
+
+pub joins_by_stops : Laws → NoneStops → (g : Setting) (before after : Images) (h : List BusEntry) (faulted : Type 0) (js : Journals) (lines : List ReportLine)
+    → Checked g → IsSoundStore g before → RestLeft g before after h faulted js → AreLinesBy g js lines → Joins g before after (JoinerStopped g h) lines
+joins_by_stops laws none g before after h faulted js lines checked sound rest are =
+    joins laws g before after h (JoinerStopped g h) js lines checked sound (by_stops g before after h faulted js none rest) are
+
+-- a run over records that are none, and the lines that were told
+module _ (laws : Laws) (g : Setting) (h : List BusEntry) (after : Images) (js : Journals) (lines : List ReportLine) (checked : Checked g) (table : IsTable g.table) (are : AreLinesBy g js lines) (rested : HasRested g empty_disks h after (JoinerStopped g h) js) where
+  was : SoundStore g empty_disks
+  was = (laws.empty g).records
+
+  abbrev now : Disks
+  now = left laws g empty_disks h after (JoinerStopped g h) js checked was rested
+
+  same : lines ≡ kept.report g now
+  same = are ∙ told laws g empty_disks h after (JoinerStopped g h) js checked was rested
+
+  none_missing : (JoinerStopped g h → ⊥) → (l : ClickLine) → Mem l g.clicks → kept.line_of g now l.click.id ≡ M l.click.id → ⊥
+  none_missing calm l m e =
+      let held = missing laws g empty_disks h after (JoinerStopped g h) js checked was rested calm l.click.id ((laws.missing g now l.click.id).0 e) in
+      none_accepted 0 g.replicas _ held.2
+
+  ran_afresh : RanAfresh g h lines
+  ran_afresh = record {
+    at = rested.at;
+    entries = rested.entries;
+    run = rested.run;
+    rest = rested.rest;
+    are = same;
+    exact = laws.clicks g rested.entries checked table rested.run.run rested.rest;
+    whole = λ calm. same ∙ laws.report g rested.entries checked table rested.run.run rested.rest (none_missing calm);
+  }
+
+blank : (laws : Laws) (g : Setting) (before after : Images) (h : List BusEntry) (faulted : Type 0) (js : Journals) → LeavesNothing g before → (rest : RestLeft g before after h faulted js) → SameRecords g rest.store.disks empty_disks
+blank laws g before after h faulted js nothing rest = laws.one_records g (λ disk. []) rest.store.disks empty_disks
+    (λ disk is. let x = rest.kept.records disk is in subst (λ (c : List ℕ). KeepsOf g rest.store.disks disk c) (nothing disk is x.0 x.1) x.2)
+    (λ disk is. empty_keeps g disk)
+
+pub ran : Laws → NoneStops → (g : Setting) (before after : Images) (h : List BusEntry) (faulted : Type 0) (js : Journals) (lines : List ReportLine)
+    → Checked g → IsTable g.table → LeavesNothing g before → RestLeft g before after h faulted js → AreLinesBy g js lines → RanAfresh g h lines
+ran laws none g before after h faulted js lines checked table nothing rest are =
+    ran_afresh laws g h after js lines checked table are (stopped g empty_disks h after faulted js none (rest.ran empty_disks (blank laws g before after h faulted js nothing rest)))

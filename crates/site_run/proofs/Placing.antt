@@ -1,0 +1,56 @@
+-- Each node is at the place of its number.
+use Rattle.std.proofs.Common.{◌≡◌, ℕ, suc, zero, ◌+◌, ◌*◌, ◌<◌, Bool, List, length, Some, refl, sym, ap, ◌∙◌, subst, arith}
+use Rattle.turn_defs.specs.declared.node.Node.{Node}
+use Rattle.turn_defs.specs.declared.node.Node.TheVariants.{Dispatcher, Server, Replica, Joiner}
+use Rattle.turn_defs.specs.Setting.{Setting, IsJoiner}
+use Rattle.turn_defs.specs.Nodes.{IsNode, NumbersAreNodes, node_count, node_number, node_of}
+use Rattle.photon_model.specs.Runs.{Disks}
+use Rattle.site_laws.specs.Kinds.{down_over}
+use Rattle.site_node.specs.declared.roster.Roster.{Roster}
+use Rattle.site_node.specs.Rosters.{IsOf}
+use Rattle.turn_defs.specs.Dispatcher.{DispatcherKept}
+use Rattle.turn_defs.specs.Server.{ServerKept}
+use Rattle.turn_defs.specs.Replica.{ReplicaKept}
+use Rattle.turn_defs.specs.Joiner.{JoinerKept}
+use Rattle.site_run.specs.AnyNodes.{AnyState, any_of, down_with}
+use Rattle.site_run.specs.Running.{AreDownOver}
+use Rattle.site_run.specs.Placed.{AllAt, IsDownAt, IsUpAt}
+
+some_same : (m n : Node) → Some m ≡ Some n → m ≡ n
+some_same m n is = cc is
+
+same_node : (g : Setting) → NumbersAreNodes g → (m n : Node) → IsNode g m → IsNode g n → node_number m ≡ node_number n → m ≡ n
+same_node g law m n m_is n_is same = some_same m n (sym (law.of_number m m_is) ∙ ap (node_of g) same ∙ law.of_number n n_is)
+
+pub down_at : {N : Type 0} (places : N → AnyState → Type 0) (g : Setting) (d : Disks) → NumbersAreNodes g → (n : Node) → IsNode g n → (i : ℕ) → i ≡ node_number n → (node : N) → places node (any_of n (down_over g d n)) → IsDownAt places g d i node
+down_at places g d law n is i at node down = record { down = λ m m_is m_at. subst (λ k. places node (any_of k (down_over g d k))) (sym (same_node g law m n m_is is (m_at ∙ at))) down }
+
+-- ---- by the kind
+
+module _ {N : Type 0} (places : N → AnyState → Type 0) (g : Setting) (d : Disks) (law : NumbersAreNodes g) where
+  pub dispatcher_at : (site i : ℕ) → site < 2 → i ≡ site → (node : N) (k : DispatcherKept) → d.dispatchers site ≡ k → places node (any_of (Dispatcher site) (down_with g k)) → IsDownAt places g d i node
+  dispatcher_at site i is at node k kept down = down_at places g d law (Dispatcher site) is i at node (subst (λ x. places node (any_of (Dispatcher site) (down_with g x))) (sym kept) down)
+
+  pub server_at : (site i : ℕ) → site < 2 → i ≡ 2 + site → (node : N) (k : ServerKept) → d.servers site ≡ k → places node (any_of (Server site) (down_with g k)) → IsDownAt places g d i node
+  server_at site i is at node k kept down = down_at places g d law (Server site) is i at node (subst (λ x. places node (any_of (Server site) (down_with g x))) (sym kept) down)
+
+  pub replica_at : (r i : ℕ) → r < g.replicas → i ≡ 4 + r → (node : N) (k : ReplicaKept) → d.replicas r ≡ k → places node (any_of (Replica r) (down_with g k)) → IsDownAt places g d i node
+  replica_at r i is at node k kept down = down_at places g d law (Replica r) is i at node (subst (λ x. places node (any_of (Replica r) (down_with g x))) (sym kept) down)
+
+  pub joiner_at : (j i : ℕ) → IsJoiner g j → i ≡ j → (node : N) (k : JoinerKept) → d.joiners i ≡ k → places node (any_of (Joiner j) (down_with g k)) → IsDownAt places g d i node
+  joiner_at j i is at node k kept down = down_at places g d law (Joiner j) is i at node (subst (λ x. places node (any_of (Joiner j) (down_with g x))) (sym (ap d.joiners (sym at) ∙ kept)) down)
+
+pub up_at : {N : Type 0} (number : N → ℕ) (waits : N → Bool) (i j : ℕ) (node : N) → i ≡ j → IsUpAt number waits j node → IsUpAt number waits i node
+up_at number waits i j node is up = subst (λ k. IsUpAt number waits k node) (sym is) up
+
+-- a joiner's number, by its site and its place there, is one of the setting's
+pub is_joiner : (g : Setting) (r : Roster) (site joiner n : ℕ) → IsOf r g → r.replicas ≡ 3 → site < 2 → joiner < r.joiners → n ≡ 7 + site * r.joiners + joiner → IsJoiner g n
+is_joiner g r zero joiner n of three is at eq = (omega (arith, of.replicas, three, eq), omega (arith, of.replicas, of.joiners, three, eq, at))
+is_joiner g r (suc zero) joiner n of three is at eq = (omega (arith, of.replicas, three, eq), omega (arith, of.replicas, of.joiners, three, eq, at))
+is_joiner g r (suc (suc site)) joiner n of three is at eq = absurd (omega (arith, is))
+
+pub is_down_over : {N : Type 0} (places : N → AnyState → Type 0) (g : Setting) (d : Disks) → NumbersAreNodes g → (nodes : List N) → length nodes ≡ node_count g → AllAt (IsDownAt places g d) nodes → AreDownOver places g d nodes
+is_down_over places g d law nodes count all n is a = (all.at (node_number n) a (omega (arith, count, law.below n is))).down n is refl
+
+pub joiners_of : (old new : Roster) (j : ℕ) → new ≡ old → old.joiners ≡ j → new.joiners ≡ j
+joiners_of old new j same is = ap (λ (r : Roster). r.joiners) same ∙ is

@@ -1,0 +1,131 @@
+-- A node without an open turn keeps on each of its disks alone what its state says.
+use Rattle.std.proofs.Common.{◌≡◌, ⊎_elim, ℕ, List, Option, Some, None, refl, ap, subst}
+use Rattle.list_words.specs.Lists.{Each}
+use Rattle.gate_journal.specs.declared.journal.JournalState.{JournalState}
+use Rattle.gate_journal.specs.declared.journal.JournalState.TheVariants.{Ready}
+use Rattle.offset_journal.specs.Offsets.{Keeps as KeepsOffset}
+use Rattle.retry_log.specs.Pending.{Keeps as KeepsPending}
+use Rattle.epoch_journal.specs.Epochs.{Keeps as KeepsEpoch}
+use Rattle.output_log.specs.Pairs.{Keeps as KeepsPairs}
+use Rattle.turn_defs.specs.declared.node.Node.{Node}
+use Rattle.turn_defs.specs.declared.node.Node.TheVariants.{Dispatcher, Server, Replica, Joiner}
+use Rattle.turn_defs.specs.Nodes.{node_number}
+use Rattle.site_node.specs.declared.roster.Roster.{Roster}
+use Rattle.dispatch_core.specs.declared.turns.DispatchNote.{DispatchNote}
+use Rattle.dispatch_node.specs.Node.{DispatcherState}
+use Rattle.dispatch_node.specs.Node as dispatcher
+use Rattle.registry_server.specs.Registrars.{RegistrarView}
+use Rattle.registry_server.specs.Node.{ServerState}
+use Rattle.registry_server.specs.Node as server
+use Rattle.replica_node.specs.Node.{VoterView}
+use Rattle.site_node.specs.Replicas.{ReplicaState, IsVoted}
+use Rattle.replica_node.specs.Node as replica
+use Rattle.joiner_node.specs.Node.{JoinerState}
+use Rattle.joiner_node.specs.Node as joiner
+use Rattle.joiner_node.specs.declared.disks.Doubt.{Doubt}
+use Rattle.site_laws.specs.Kinds.{StateOf}
+use Rattle.site_workers.specs.Eithers as either
+use Rattle.site_workers.specs.declared.either.Either.{Either}
+use Rattle.site_workers.specs.declared.either.Either.TheVariants as node
+use Rattle.site_run.specs.AnyNodes.{AnyState, any_of}
+use Rattle.site_laws.specs.Stores.{KeepsVotes}
+use Rattle.site_run.specs.Held.{HasSpelledNotes}
+use Rattle.site_run.specs.Resting.{IsClosed, KeepsAs}
+use Rattle.site_run.proofs.Going.{disks_by}
+
+-- ---- by the kind of node
+
+not_open : {A : Type 0} (opened : Option A) (x : A) → opened ≡ Some x → opened ≡ None → ⊥
+not_open opened x is none = cc (is, none)
+
+module _ (p : dispatcher.Parts) (oi ri : List ℕ → Type 0) (s : DispatcherState) (closed : s.node.opened ≡ None) where
+  abbrev BothKept : Type 0
+  BothKept = ((c : List ℕ) → oi c → KeepsOffset s.node.kept.offset c) × ((c : List ℕ) → ri c → KeepsPending s.node.kept.pending c)
+
+  dispatcher_by : (d : Option (DispatchNote × List ℕ)) → dispatcher.StandsBy d p oi ri s → (p.offset_state ≡ Ready → (c : List ℕ) → oi c → KeepsOffset p.offset c)
+      → (p.retry_state ≡ Ready → (c : List ℕ) → ri c → KeepsPending p.pending c) → BothKept
+  dispatcher_by None by o r = (
+    λ c here. subst (λ (n : ℕ). KeepsOffset n c) (ap (λ k. k.offset) by.0.kept) (o by.0.offset_ready c here),
+    λ c here. subst (λ (l : List ℕ). KeepsPending l c) (ap (λ k. k.pending) by.0.kept) (r by.0.retry_ready c here),
+  )
+  dispatcher_by (Some d) by o r = absurd (not_open s.node.opened by.1.begun by.1.opened closed)
+
+  pub dispatcher_rests : dispatcher.StandsAt p oi ri s → (p.offset_state ≡ Ready → (c : List ℕ) → oi c → KeepsOffset p.offset c)
+      → (p.retry_state ≡ Ready → (c : List ℕ) → ri c → KeepsPending p.pending c) → BothKept
+  dispatcher_rests at = dispatcher_by p.in_doubt at.by
+
+module _ (image : List ℕ → Type 0) (state : JournalState) where
+  server_by : (doubt : Option (List ℕ)) (epoch : ℕ) (v : RegistrarView) (s : ServerState) → s.opened ≡ None → server.StandsBy doubt epoch image state v s → (c : List ℕ) → image c → KeepsEpoch s.kept.disk.epoch c
+  server_by None epoch v s closed by c here = by.0.durable c here
+  server_by (Some r) epoch v s closed by c here = absurd (not_open s.opened by.1.begun by.1.opened closed)
+
+  replica_by : (doubt : Option (List ℕ)) (kept : ℕ) (seen : List ℕ) (v : VoterView) (s : ReplicaState) → s.opened ≡ None → replica.StandsBy doubt kept seen image state v s → Each IsVoted s.kept.notes
+      → (c : List ℕ) → image c → KeepsVotes s.kept c
+  replica_by None kept seen v s closed by voted c here = (voted, by.0.durable c here)
+  replica_by (Some r) kept seen v s closed by voted c here = absurd (not_open s.opened by.1.begun by.1.opened closed)
+
+  pub server_rests : (site : ℕ) (roster : Roster) (doubt : Option (List ℕ)) (epoch : ℕ) (v : RegistrarView) (s : ServerState) → s.opened ≡ None → server.StandsAt site roster doubt epoch image state v s → (c : List ℕ) → image c → KeepsEpoch s.kept.disk.epoch c
+  server_rests site roster doubt epoch v s closed at = server_by doubt epoch v s closed at.by
+
+  pub replica_rests : (roster : Roster) (doubt : Option (List ℕ)) (kept : ℕ) (seen : List ℕ) (v : VoterView) (s : ReplicaState) → s.opened ≡ None → replica.StandsAt roster doubt kept seen image state v s → (c : List ℕ) → image c → KeepsVotes s.kept c
+  replica_rests roster doubt kept seen v s closed at = replica_by doubt kept seen v s closed at.by at.spelled
+
+module _ (p : joiner.Parts) (ei pi : List ℕ → Type 0) (s : JoinerState) (closed : s.node.opened ≡ None) where
+  abbrev PairKept : Type 0
+  PairKept = ((c : List ℕ) → ei c → KeepsEpoch s.node.kept.epoch c) × ((c : List ℕ) → pi c → KeepsPairs s.node.kept.pairs c)
+
+  joiner_by : (d : Option Doubt) → joiner.StandsBy d p ei pi s → PairKept
+  joiner_by None by = (
+    λ c here. ⊎_elim (λ k. k) (λ k. k) (by.0.images.epochs_or c here),
+    λ c here. ⊎_elim (λ k. k) (λ k. k) (by.0.images.pairs_or c here),
+  )
+  joiner_by (Some d) by = absurd (not_open s.node.opened by.begun by.opened closed)
+
+  pub joiner_rests : joiner.StandsAt p ei pi s → PairKept
+  joiner_rests at = joiner_by p.in_doubt at.by
+
+-- ---- a node of any kind
+
+module _ {D A B C E : Type 0} (image : D → List ℕ → Type 0) (offset retry : A → D) (server_disk : B → D) (replica_disk : C → D) (epochs outputs : E → D)
+    (a_stands : A → DispatcherState → Type 0) (b_stands : B → ServerState → Type 0) (c_stands : C → ReplicaState → Type 0) (e_stands : E → JoinerState → Type 0) where
+  abbrev stands : Either (Either A B) (Either C E) → AnyState → Type 0
+  stands = either.at (either.at a_stands b_stands) (either.at c_stands e_stands)
+
+  pub record Rests : Type 0 where
+    pub dispatchers : (v : A) (s : DispatcherState) → a_stands v s → s.node.opened ≡ None
+        → ((c : List ℕ) → image (offset v) c → KeepsOffset s.node.kept.offset c) × ((c : List ℕ) → image (retry v) c → KeepsPending s.node.kept.pending c)
+    pub servers : (v : B) (s : ServerState) → b_stands v s → s.opened ≡ None → (c : List ℕ) → image (server_disk v) c → KeepsEpoch s.kept.disk.epoch c
+    pub replicas : (v : C) (s : ReplicaState) → c_stands v s → s.opened ≡ None → (c : List ℕ) → image (replica_disk v) c → KeepsVotes s.kept c
+    pub joiners : (v : E) (s : JoinerState) → e_stands v s → s.node.opened ≡ None
+        → ((c : List ℕ) → image (epochs v) c → KeepsEpoch s.node.kept.epoch c) × ((c : List ℕ) → image (outputs v) c → KeepsPairs s.node.kept.pairs c)
+
+  pub keeps_as : Rests → (joiners : ℕ) (n : Node) (t : StateOf n) (v : Either (Either A B) (Either C E)) → IsClosed n t → stands v (any_of n t)
+      → KeepsAs image joiners n t (disks_by image offset retry server_disk replica_disk epochs outputs joiners (node_number n) v)
+  keeps_as rests joiners (Dispatcher s) t (node.First (node.First v)) closed at =
+      let kept = rests.dispatchers v (record { site = s; node = t }) at closed in
+      record { offset = offset v; retry = retry v; named = refl; offsets = kept.0; pending = kept.1 }
+  keeps_as rests joiners (Dispatcher s) t (node.First (node.Second v)) closed at = absurd at
+  keeps_as rests joiners (Dispatcher s) t (node.Second v) closed at = absurd at
+  keeps_as rests joiners (Server s) t (node.First (node.First v)) closed at = absurd at
+  keeps_as rests joiners (Server s) t (node.First (node.Second v)) closed at = record { disk = server_disk v; named = refl; epochs = rests.servers v _ at closed }
+  keeps_as rests joiners (Server s) t (node.Second v) closed at = absurd at
+  keeps_as rests joiners (Replica r) t (node.First v) closed at = absurd at
+  keeps_as rests joiners (Replica r) t (node.Second (node.First v)) closed at = record { disk = replica_disk v; named = refl; votes = rests.replicas v t at closed }
+  keeps_as rests joiners (Replica r) t (node.Second (node.Second v)) closed at = absurd at
+  keeps_as rests joiners (Joiner j) t (node.First v) closed at = absurd at
+  keeps_as rests joiners (Joiner j) t (node.Second (node.First v)) closed at = absurd at
+  keeps_as rests joiners (Joiner j) t (node.Second (node.Second v)) closed at =
+      let kept = rests.joiners v (record { number = j; node = t }) at closed in
+      record { epochs = epochs v; outputs = outputs v; named = refl; epoch = kept.0; pairs = kept.1 }
+
+-- ---- the notes of a replica
+
+module _ {A B C E : Type 0} (a_stands : A → DispatcherState → Type 0) (b_stands : B → ServerState → Type 0) (c_stands : C → ReplicaState → Type 0) (e_stands : E → JoinerState → Type 0) where
+  pub notes_spelled : ((v : C) (s : ReplicaState) → c_stands v s → Each IsVoted s.kept.notes) → (n : Node) (t : StateOf n) (v : Either (Either A B) (Either C E))
+      → either.at (either.at a_stands b_stands) (either.at c_stands e_stands) v (any_of n t) → HasSpelledNotes n t
+  notes_spelled voted (Dispatcher s) t v at = tt
+  notes_spelled voted (Server s) t v at = tt
+  notes_spelled voted (Replica r) t (node.First v) at = absurd at
+  notes_spelled voted (Replica r) t (node.Second (node.First v)) at = voted v t at
+  notes_spelled voted (Replica r) t (node.Second (node.Second v)) at = absurd at
+  notes_spelled voted (Joiner j) t v at = tt

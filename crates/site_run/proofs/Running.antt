@@ -1,0 +1,416 @@
+-- From what a run leaves of each node to what it leaves of the store.
+use Rattle.std.specs.Prelude.{IsTrue, IsSome, option_map}
+use Rattle.std.specs.List.{list_any}
+use Rattle.std.proofs.Common.{◌≡◌, ◌≢◌, ◌⊎◌, inl, inr, ⊎_elim, ℕ, zero, suc, ◌+◌, ◌<◌, ◌≤◌, List, [], ◌∷◌, ◌++◌, length, map, slice_index_or, Bool, true, false, Option, None, Some, refl, sym, ap, ◌∙◌, subst, arith}
+use Rattle.std.proofs.lemmas.List.Elements.{recursion_from_All}
+use Rattle.list_words.specs.Lists.{Mem, Each}
+use Rattle.list_words.proofs.Lists.{mem_left, mem_right, some_same}
+use Rattle.outside.specs.declared.store.DiskName.{DiskName}
+use Rattle.outside.specs.declared.store.DiskName.TheVariants as name
+use Rattle.air_bus.specs.declared.entry.Entry.{Entry as BusEntry}
+use Rattle.air_bus.specs.declared.entry.Input.{Input as Bytes}
+use Rattle.air_bus.specs.declared.entry.Phase.TheVariants.{Idle}
+use Rattle.turn_defs.specs.declared.node.Node.{Node}
+use Rattle.turn_defs.specs.declared.node.Node.TheVariants.{Dispatcher, Server, Replica, Joiner}
+use Rattle.turn_defs.specs.Setting.{Setting}
+use Rattle.turn_defs.specs.Nodes.{IsNode, NumbersAreNodes, node_number, node_count}
+use Rattle.site_node.specs.States.{phase_by}
+use Rattle.site_node.specs.declared.kind.NodeFault.{NodeFault}
+use Rattle.site_node.specs.declared.kind.NodeFault.TheVariants as node
+use Rattle.photon_model.specs.Runs.{World, Disks, disks, world_after, opening}
+use Rattle.photon_model.specs.EveryRun.{NoJoinerStops}
+use Rattle.photon_model.specs.Verification.{AreOf}
+use Rattle.site_run.specs.declared.faults.fault.StorePlace.TheVariants as at
+use Rattle.site_run.specs.declared.faults.fault.RunFault.{RunFault}
+use Rattle.site_store.specs.Kinds.{damaged_by}
+use Rattle.site_store.specs.Refusals.{IsJournalOf}
+use Rattle.site_store.proofs.Undamaged.{undamaged}
+use Rattle.site_store.specs.Lent.{Lent, IsOfOne, MayBeLeft}
+use Rattle.gate_journal.specs.Images.{GoesOn}
+use Rattle.site_laws.specs.Kinds.{StateOf, kept_of, cell_of}
+use Rattle.site_laws.specs.Laws.{made_by}
+use Rattle.site_workers.specs.Works.{HasMet, IsCaused, is_stop}
+use Rattle.site_workers.specs.Rounds.{AreCaused, HasFault}
+use Rattle.site_run.specs.AnyNodes.{AnyState, any_of, any_phase}
+use Rattle.site_run.specs.Running.{IsRunFrom, HaveGrown, ComesToLast}
+use Rattle.site_run.specs.Naming.{all_from}
+use Rattle.topology_journal.specs.Topologies as journal
+use Rattle.photon_model.specs.Topology.{Topology, topology_of}
+use Rattle.site_laws.specs.Stores.{Images, IsDisk, AreKept, KeepsOf, KeepsTopology}
+use Rattle.verify_pass.specs.declared.journals.Journals.{Journals}
+use Rattle.site_run.specs.Asked.{IsRosterOf}
+use Rattle.site_store.proofs.Damage.{notes_kept as votes_are_notes}
+use Rattle.site_run.specs.Causes.{of_node, IsCounted, IsOfDisks, IsWelcome}
+use Rattle.site_run.specs.Refused.{HasEnded, IsOfRun, OneKept}
+use Rattle.site_run.specs.Held.{HoldsAs, HasGoneOn, HaveGoneOn}
+use Rattle.site_run.specs.Laws.{AllHold, AreHeld, AreMet, IsLeftBy, KeepsItsRecord, NoneStops}
+use Rattle.site_run.specs.Left.{HasRun, HasRested}
+use Rattle.site_run.specs.Out.{AreOut}
+use Rattle.site_run.specs.Resting.{IsClosed, KeepsAs, AllKeep}
+use Rattle.output_log.specs.Pairs.{Keeps as KeepsPairs}
+use Rattle.site_node.specs.Replicas.{KeepsNotes}
+use Rattle.site_laws.specs.StoreLaws.{HoldSameRecords, ReadNotesAreKept}
+use Rattle.site_run.specs.Settled.{told_of, or_else, first_fault, lent_replicas, lent_outputs, AreKeptIn}
+use Rattle.site_run.proofs.Going.{with_length, all_nodes_gone_on}
+use Rattle.site_run.proofs.Keeping.{keeps, none_lacks, disk_there, topology_image}
+use Rattle.site_run.proofs.Outing.{given_goes_on, gone_out}
+use Rattle.site_run.proofs.Places.{at_place}
+use Rattle.site_run.proofs.ReadBack.{read_is}
+use Rattle.site_run.proofs.Reading.{all_keep}
+use Rattle.site_run.specs.declared.faults.fault.RunFault.TheVariants as run
+
+-- ---- a node that is up with no open turn
+
+closed_by : {L : Type 0} (live : Option L) (opened : Option Bytes) → phase_by live opened ≡ Idle → opened ≡ None
+closed_by live None is = refl
+closed_by live (Some b) is = absurd (cc is)
+
+closed_of : (n : Node) (t : StateOf n) → any_phase (any_of n t) ≡ Idle → IsClosed n t
+closed_of (Dispatcher s) t is = closed_by t.live t.opened is
+closed_of (Server s) t is = closed_by t.live t.opened is
+closed_of (Replica r) t is = closed_by t.live t.opened is
+closed_of (Joiner j) t is = closed_by t.live t.opened is
+
+kept_same : (w : World) (n : Node) → kept_of (disks w) n ≡ (cell_of w n).kept
+kept_same w (Dispatcher s) = refl
+kept_same w (Server s) = refl
+kept_same w (Replica r) = refl
+kept_same w (Joiner j) = refl
+
+pub some_of : {A : Type 0} (xs : List A) → 0 < length xs → A
+some_of [] l = absurd (omega (arith, l))
+some_of (x ∷ xs) l = x
+
+-- ---- the node of the first fault
+
+-- the fault that is told is that of the node at this place
+record IsToldAt {N : Type 0} (joiners first : ℕ) (ws : List (N × Option NodeFault)) (f : RunFault) : Type 0 where
+  place : ℕ
+  number : ℕ
+  within : place < length ws
+  counted : number ≡ first + place
+  told : (b : N × Option NodeFault) → (fault : NodeFault) × ((slice_index_or ws place b).1 ≡ Some fault) × (f ≡ of_node joiners number fault)
+
+told_later : {N : Type 0} (joiners first : ℕ) (w : N × Option NodeFault) (ws : List (N × Option NodeFault)) (f : RunFault) → IsToldAt joiners (suc first) ws f → IsToldAt joiners first (w ∷ ws) f
+told_later joiners first w ws f r = record { place = suc r.place; number = r.number; within = omega (arith, r.within); counted = omega (arith, r.counted); told = λ b. r.told b }
+
+-- of the first node, or of a later one
+told_here : {N : Type 0} (joiners first : ℕ) (w : N × Option NodeFault) (ws : List (N × Option NodeFault)) (f : RunFault) → (first_fault joiners (suc first) ws ≡ Some f → IsToldAt joiners (suc first) ws f)
+    → (o : Option NodeFault) → w.1 ≡ o → or_else (told_of joiners first o) (first_fault joiners (suc first) ws) ≡ Some f → IsToldAt joiners first (w ∷ ws) f
+told_here joiners first w ws f later None none is = told_later joiners first w ws f (later is)
+told_here joiners first w ws f later (Some fault) some is = record {
+  place = 0;
+  number = first;
+  within = omega arith;
+  counted = omega arith;
+  told = λ b. (fault, some, sym (some_same (of_node joiners first fault) f is));
+}
+
+told_at : {N : Type 0} (joiners first : ℕ) (ws : List (N × Option NodeFault)) (f : RunFault) → first_fault joiners first ws ≡ Some f → IsToldAt joiners first ws f
+told_at joiners first [] f is = absurd (cc is)
+told_at joiners first (w ∷ ws) f is = told_here joiners first w ws f (told_at joiners (suc first) ws f) w.1 refl is
+
+-- what the topology's disk keeps is a journal of its kind
+topology_kept : (t : Option Topology) (c : List ℕ) → KeepsTopology t c → IsJournalOf name.Topology c
+topology_kept t c keeps = (option_map (λ (u : Topology). journal.topology_of u.joiners u.table) t, keeps)
+
+-- and what a disk of records keeps
+journal_of : (g : Setting) (d : Disks) (disk : DiskName) → disk ≢ name.Topology → IsDisk g disk → (c : List ℕ) → KeepsOf g d disk c → IsJournalOf disk c
+journal_of g d name.Topology other is c keeps = absurd (other refl)
+journal_of g d (name.Offset s) other is c keeps = (_, keeps)
+journal_of g d (name.Retry s) other is c keeps = (_, keeps)
+journal_of g d (name.Server s) other is c keeps = (_, keeps)
+journal_of g d (name.Replica r) other is c keeps = (_, votes_are_notes (d.replicas r) c keeps)
+journal_of g d (name.Epoch s j) other is c keeps = (_, keeps)
+journal_of g d (name.Output s j) other is c keeps = (_, keeps)
+
+-- ---- what a run leaves
+
+module _ {N D : Type 0} (image : D → List ℕ → Type 0) (places : N → AnyState → Type 0) (grown : N → N → Type 0) (disks_of : ℕ → ℕ → N → List (Lent D)) (laws : AreHeld image places grown disks_of)
+    (g : Setting) (joiners : ℕ) (roster : IsRosterOf g joiners) (numbers : NumbersAreNodes g) (d : Disks) (h : List BusEntry) (ws : List (N × Option NodeFault)) (rest : Bool)
+    (left : IsRunFrom places g d h ws rest) (count : length ws ≡ node_count g) (topology : Lent D) (kept : KeepsItsRecord image g topology) (inside after : Images)
+    (by : (disk : DiskName) (c : List ℕ) → after disk c → MayBeLeft image inside (topology ∷ all_from (λ i (w : N × Option NodeFault). disks_of joiners i w.0) 0 ws) disk c) where
+  abbrev disks_at : ℕ → N × Option NodeFault → List (Lent D)
+  disks_at i w = disks_of joiners i w.0
+
+  hold : AllHold image disks_at g left.at ws
+  hold = record {
+    replicas = roster.replicas;
+    count = count;
+    each = λ n is a. subst (λ k. HoldsAs image k n (left.at n) (disks_at (node_number n) (slice_index_or ws (node_number n) a))) (sym roster.joiners_are)
+        (laws.held joiners n (left.at n) (slice_index_or ws (node_number n) a).0 (left.stand n is a));
+  }
+
+  is_left : IsLeftBy image g topology (all_from disks_at 0 ws) after
+  is_left disk is c here = ⊎_elim (λ in_it. absurd (none_lacks image disks_at g left.at ws topology numbers hold kept.named disk is in_it.0)) (λ of. of) (by disk c here)
+
+  keeps_all : AreKept g left.at after
+  keeps_all = keeps image disks_at g left.at ws topology after numbers hold kept is_left
+
+  pub has_run : HasRun g d h after
+  has_run = record { at = left.at; entries = left.entries; run = left.run; keeps = keeps_all }
+
+  -- ---- at rest
+
+  module _ (resting : IsTrue rest) where
+    abbrev end_world : World
+    end_world = world_after g (opening d) left.entries
+
+    pub keep : AllKeep image disks_at g left.at ws
+    keep = record {
+      replicas = roster.replicas;
+      count = count;
+      each = λ n is a. subst (λ k. KeepsAs image k n (left.at n) (disks_at (node_number n) (slice_index_or ws (node_number n) a))) (sym roster.joiners_are)
+          (laws.rested joiners n (left.at n) (slice_index_or ws (node_number n) a).0 (closed_of n (left.at n) (left.idle resting n is)) (left.stand n is a));
+    }
+
+    pub same : (n : Node) → IsNode g n → kept_of (disks end_world) n ≡ (left.at n).kept
+    same n is = kept_same end_world n ∙ (left.run.stands n is).kept
+
+    holds : (disk : DiskName) → IsDisk g disk → (c : List ℕ) → after disk c → KeepsOf g (disks end_world) disk c
+    holds disk is c here = all_keep image disks_at g left.at ws topology numbers keep kept.named (disks end_world) same disk is c (is_left disk is c here)
+
+    pub has_rested : (faulted : Type 0) (journals : Journals) → AreOf g (disks end_world) journals → ((faulted → ⊥) → NoJoinerStops left.entries) → HasRested g d h after faulted journals
+    has_rested faulted journals read stops = record {
+      at = left.at;
+      entries = left.entries;
+      run = left.run;
+      rest = left.at_rest resting;
+      keeps = keeps_all;
+      holds = holds;
+      read = read;
+      stops = stops;
+    }
+
+    -- what was read back is what the disks keep
+    pub rests : HoldSameRecords → ReadNotesAreKept → (tells : Bool) → IsTrue tells → (journals : Journals) → AreKeptIn tells image KeepsNotes (lent_replicas (topology ∷ all_from disks_at 0 ws)) journals.notes.items
+        → AreKeptIn tells image KeepsPairs (lent_outputs (topology ∷ all_from disks_at 0 ws)) journals.pairs.items → (faulted : Type 0) → ((faulted → ⊥) → NoJoinerStops left.entries) → HasRested g d h after faulted journals
+    rests once read tells sure journals notes pairs faulted stops =
+        has_rested faulted journals (read_is image disks_at g left.at ws topology tells journals once read keep kept.named (disks end_world) same sure notes pairs) stops
+
+  -- ---- unless a disk met a fault no joiner has stopped
+
+  module _ {L : Type 0} (disk_faults : D → ℕ) (log_faults : L → ℕ) (faults read_faults : N → ℕ) (logs_of : N → List L) (met : AreMet disk_faults log_faults faults read_faults disks_of logs_of) where
+    pub no_stops : NoneStops → ((i : ℕ) (b : N × Option NodeFault) → i < length ws → HasMet faults (slice_index_or ws i b).0 (slice_index_or ws i b).1 (made_by i h)) → (faulted : Type 0)
+        → ((l : Lent D) → Mem l (topology ∷ all_from disks_at 0 ws) → 1 ≤ disk_faults l.disk → faulted) → (faulted → ⊥) → NoJoinerStops left.entries
+    no_stops law stopped faulted rises never =
+        law g d h left.at left.entries left.run
+        (λ j is has.
+        let below : j < length ws = omega (arith, is.1, count) in
+        let b = some_of ws (omega (arith, below)) in
+        let l = met.disks joiners j (slice_index_or ws j b).0 ((stopped j b below).stops has) in
+        never (rises l.0 (inr (at_place disks_at 0 j j ws b l.0 below (omega arith) l.1)) l.2))
+
+  -- ---- what is told where the run isn't at rest
+
+  module _ (resting : IsTrue rest) where
+    -- at rest whatever a stop leaves of a disk is a journal of its kind
+    undamaged_now : (disk : DiskName) (at : ℕ) (c : List ℕ) → disk ≢ name.Topology → IsOfOne image (topology ∷ all_from disks_at 0 ws) disk c → damaged_by disk c at → ⊥
+    undamaged_now disk at c other here =
+        let is = disk_there image disks_at g left.at ws topology numbers hold kept.named disk other c here in
+        undamaged disk c at (journal_of g (disks (world_after g (opening d) left.entries)) disk other is c
+        (all_keep image disks_at g left.at ws topology numbers (keep resting) kept.named (disks (world_after g (opening d) left.entries)) (same resting) disk is c here))
+
+    pub never_damaged : (disk : DiskName) (at : ℕ) (c : List ℕ) → IsOfOne image (topology ∷ all_from disks_at 0 ws) disk c → damaged_by disk c at → ⊥
+    never_damaged name.Topology at c here = undamaged name.Topology c at (topology_kept (Some (topology_of g)) c (kept.keeps c (topology_image image disks_at g left.at ws topology numbers hold kept.named c here)))
+    never_damaged (name.Offset s) at c here = undamaged_now (name.Offset s) at c (λ e. absurd (cc e)) here
+    never_damaged (name.Retry s) at c here = undamaged_now (name.Retry s) at c (λ e. absurd (cc e)) here
+    never_damaged (name.Server s) at c here = undamaged_now (name.Server s) at c (λ e. absurd (cc e)) here
+    never_damaged (name.Replica r) at c here = undamaged_now (name.Replica r) at c (λ e. absurd (cc e)) here
+    never_damaged (name.Epoch s j) at c here = undamaged_now (name.Epoch s j) at c (λ e. absurd (cc e)) here
+    never_damaged (name.Output s j) at c here = undamaged_now (name.Output s j) at c (λ e. absurd (cc e)) here
+
+    -- so a fault of reading them back is none of damage
+    pub read_back_of : (faulted : Type 0) (f : RunFault) → (tells : Bool) → IsTrue tells → IsOfDisks tells image (topology ∷ all_from disks_at 0 ws) faulted f → IsOfRun g d faulted f
+    read_back_of faulted (run.Read log) tells sure of = tt
+    read_back_of faulted (run.Store place) tells sure of = tt
+    read_back_of faulted (run.Damaged disk at) tells sure of = let x = of sure in never_damaged disk at x.0 x.1 x.2
+    read_back_of faulted (run.Topology what) tells sure of = absurd of
+    read_back_of faulted (run.Limit disk value) tells sure of = absurd of
+    read_back_of faulted run.Memory tells sure of = tt
+
+  module _ {L : Type 0} (disk_faults : D → ℕ) (log_faults : L → ℕ) (faults read_faults : N → ℕ) (logs_of : N → List L) (met : AreMet disk_faults log_faults faults read_faults disks_of logs_of)
+      (stopped : (i : ℕ) (b : N × Option NodeFault) → i < length ws → HasMet faults (slice_index_or ws i b).0 (slice_index_or ws i b).1 (made_by i h)) (faulted : Type 0)
+      (rises : (l : Lent D) → Mem l (topology ∷ all_from disks_at 0 ws) → 1 ≤ disk_faults l.disk → faulted) where
+    has_stopped : (n : Node) → IsNode g n → list_any is_stop (made_by (node_number n) h) ≡ true → faulted
+    has_stopped n is has =
+        let j = node_number n in
+        let below : j < length ws = let under = numbers.below n is in omega (arith, under, count) in
+        let b = some_of ws (omega (arith, below)) in
+        let l = met.disks joiners j (slice_index_or ws j b).0 ((stopped j b below).stops has) in
+        rises l.0 (inr (at_place disks_at 0 j j ws b l.0 below (omega arith) l.1)) l.2
+
+    came_to : (n : Node) (epoch : ℕ) → IsNode g n → ComesToLast d h n epoch → (epoch ≡ 4294967294) × (OneKept g d epoch ⊎ faulted)
+    came_to (Dispatcher s) epoch is came = absurd came
+    came_to (Server s) epoch is came = (came.0, ⊎_elim (λ same. inl (Server s, is, same)) (λ has. inr (has_stopped (Server s) is has)) came.1)
+    came_to (Replica r) epoch is came = absurd came
+    came_to (Joiner j) epoch is came = (came.0, ⊎_elim (λ same. inl (Joiner j, is, same)) (λ has. inr (has_stopped (Joiner j) is has)) came.1)
+
+    -- what is told of a node
+    node_told : (n : Node) → IsNode g n → (b : N × Option NodeFault) (f : NodeFault) → (slice_index_or ws (node_number n) b).1 ≡ Some f → (k : ℕ) → IsOfRun g d faulted (of_node joiners k f)
+    node_told n is b node.Stopped told k = tt
+    node_told n is b (node.Damaged disk at) told k = left.whole n is b disk at told
+    node_told n is b node.Read told k = tt
+    node_told n is b (node.Spent epoch) told k = came_to n epoch is (left.spent n is b epoch told)
+    node_told n is b node.Memory told k = tt
+
+    -- and so what is told of the first that has a fault
+    pub first_told : (f : RunFault) → first_fault joiners 0 ws ≡ Some f → IsOfRun g d faulted f
+    first_told f is =
+        let t = told_at joiners 0 ws f is in
+        let b = some_of ws (omega (arith, t.within)) in
+        let n = numbers.each t.place (omega (arith, t.within, count)) in
+        let back = numbers.back t.place n.0 n.1 in
+        let at = t.told b in
+        subst (IsOfRun g d faulted) (sym at.2) (node_told n.0 back.1 b at.0 (subst (λ k. (slice_index_or ws k b).1 ≡ Some at.0) (sym back.0) at.1) t.number)
+
+-- ---- how the disks have gone on
+
+same_from : {N X : Type 0} (f : ℕ → N → List X) (i : ℕ) (ws : List (N × Option NodeFault)) → all_from f i (map (λ (w : N × Option NodeFault). w.0) ws) ≡ all_from (λ k (w : N × Option NodeFault). f k w.0) i ws
+same_from f i [] = refl
+same_from {N} {X} f i (w ∷ ws) = ap (λ (l : List X). f i w.0 ++ l) (same_from f (suc i) ws)
+
+at_first : {N : Type 0} (ws : List (N × Option NodeFault)) (i : ℕ) (a : N) (b : N × Option NodeFault) → i < length ws → slice_index_or (map (λ (w : N × Option NodeFault). w.0) ws) i a ≡ (slice_index_or ws i b).0
+at_first [] i a b l = absurd (omega (arith, l))
+at_first (w ∷ ws) zero a b l = refl
+at_first (w ∷ ws) (suc i) a b l = at_first ws i a b (omega (arith, l))
+
+firsts : {N : Type 0} (ws : List (N × Option NodeFault)) → length (map (λ (w : N × Option NodeFault). w.0) ws) ≡ length ws
+firsts [] = refl
+firsts (w ∷ ws) = ap suc (firsts ws)
+
+module _ {N D : Type 0} (image : D → List ℕ → Type 0) (places : N → AnyState → Type 0) (grown : N → N → Type 0) (disks_of : ℕ → ℕ → N → List (Lent D)) (laws : AreHeld image places grown disks_of)
+    (g : Setting) (joiners : ℕ) (numbers : NumbersAreNodes g) (vs : List N) (ws : List (N × Option NodeFault)) (count_before : length vs ≡ node_count g) (count : length ws ≡ length vs) (grew : HaveGrown grown g vs ws) where
+  abbrev olds : List (Lent D)
+  olds = all_from (disks_of joiners) 0 vs
+
+  abbrev news : List (Lent D)
+  news = all_from (λ i (w : N × Option NodeFault). disks_of joiners i w.0) 0 ws
+
+  have_gone_on : HaveGoneOn image olds news
+  have_gone_on =
+      let firsts_of = map (λ (w : N × Option NodeFault). w.0) ws in
+      subst (λ (l : List (Lent D)). HaveGoneOn image olds l) (same_from (disks_of joiners) 0 ws)
+      (all_nodes_gone_on image (disks_of joiners) g numbers vs firsts_of count_before (firsts ws ∙ count)
+      (λ n is a c.
+      let below : node_number n < length ws = let under = numbers.below n is in omega (arith, under, count_before, count) in
+      let b = some_of ws (omega (arith, below)) in
+      let grows = grew n is a b in
+      subst (λ (w : N). HaveGoneOn image (disks_of joiners (node_number n) (slice_index_or vs (node_number n) a)) (disks_of joiners (node_number n) w)) (sym (at_first ws (node_number n) c b below))
+      (laws.gone_on joiners (node_number n) grows.0 (slice_index_or vs (node_number n) a) (slice_index_or ws (node_number n) b).0 grows.1)))
+
+  -- there are as many as there were
+  pub same_count : length news ≡ length olds
+  same_count = with_length (HasGoneOn image) olds news have_gone_on
+
+  -- and the topology's besides
+  pub all_fit : (topology : Lent D) (all : List (Lent D)) (room : ℕ) → all ≡ topology ∷ news → 1 + length olds ≤ room → length all ≤ room
+  all_fit topology all room is fit =
+      let long : length all ≡ suc (length news) = ap length is in
+      omega (arith, long, same_count, fit)
+
+  pub goes_on : (topology : Lent D) (before inside after : Images) → AreOut image before inside topology olds
+      → ((disk : DiskName) (c : List ℕ) → after disk c → MayBeLeft image inside (topology ∷ news) disk c) → (disk : DiskName) → GoesOn (before disk) (after disk)
+  goes_on topology before inside after out by disk c here = given_goes_on image before inside topology news (gone_out image before inside topology olds news have_gone_on out) disk c (by disk c here)
+
+-- ---- the fault that is told
+
+module _ {N D L : Type 0} (disk_faults : D → ℕ) (log_faults : L → ℕ) (faults read_faults : N → ℕ) (disks_of : ℕ → ℕ → N → List (Lent D)) (logs_of : N → List L) (met : AreMet disk_faults log_faults faults read_faults disks_of logs_of)
+    (joiners : ℕ) (logs_rose disks_rose : Type 0) where
+  node_fault : (i : ℕ) (v : N) (f : NodeFault) → IsCaused faults read_faults v (Some f) → ((l : Lent D) → Mem l (disks_of joiners i v) → 1 ≤ disk_faults l.disk → disks_rose) → ((l : L) → Mem l (logs_of v) → 1 ≤ log_faults l → logs_rose)
+      → IsCounted logs_rose disks_rose (of_node joiners i f) × IsWelcome (of_node joiners i f)
+  node_fault i v node.Stopped caused rise reads = (let l = met.disks joiners i v (caused.stopped refl) in rise l.0 l.1 l.2, tt)
+  node_fault i v (node.Damaged disk at) caused rise reads = (tt, tt)
+  node_fault i v node.Read caused rise reads = (let l = met.logs v (caused.read refl) in reads l.0 l.1 l.2, tt)
+  node_fault i v (node.Spent epoch) caused rise reads = (tt, tt)
+  node_fault i v node.Memory caused rise reads = (tt, tt)
+
+  fault_step : (i : ℕ) (v : N) (o : Option NodeFault) (rest : Option RunFault) (f : RunFault) → IsCaused faults read_faults v o → ((l : Lent D) → Mem l (disks_of joiners i v) → 1 ≤ disk_faults l.disk → disks_rose)
+      → ((l : L) → Mem l (logs_of v) → 1 ≤ log_faults l → logs_rose) → (rest ≡ Some f → IsCounted logs_rose disks_rose f × IsWelcome f) → or_else (told_of joiners i o) rest ≡ Some f → IsCounted logs_rose disks_rose f × IsWelcome f
+  fault_step i v None rest f caused rise reads later is = later is
+  fault_step i v (Some nf) rest f caused rise reads later is =
+      let same : of_node joiners i nf ≡ f = cc is in
+      subst (λ x. IsCounted logs_rose disks_rose x × IsWelcome x) same (node_fault i v nf caused rise reads)
+
+  fault_from : (i : ℕ) (ws : List (N × Option NodeFault)) → Each (λ (w : N × Option NodeFault). IsCaused faults read_faults w.0 w.1) ws
+      → ((l : Lent D) → Mem l (all_from (λ k (w : N × Option NodeFault). disks_of joiners k w.0) i ws) → 1 ≤ disk_faults l.disk → disks_rose)
+      → ((l : L) → Mem l (all_from (λ k (w : N × Option NodeFault). logs_of w.0) i ws) → 1 ≤ log_faults l → logs_rose)
+      → (f : RunFault) → first_fault joiners i ws ≡ Some f → IsCounted logs_rose disks_rose f × IsWelcome f
+  fault_from i [] caused rise reads f is = absurd (cc is)
+  fault_from i (w ∷ ws) caused rise reads f is =
+      fault_step i w.0 w.1 (first_fault joiners (suc i) ws) f caused.0
+      (λ l among some. rise l (mem_left l (disks_of joiners i w.0) (all_from (λ k (x : N × Option NodeFault). disks_of joiners k x.0) (suc i) ws) among) some)
+      (λ l among some. reads l (mem_left l (logs_of w.0) (all_from (λ k (x : N × Option NodeFault). logs_of x.0) (suc i) ws) among) some)
+      (λ later. fault_from (suc i) ws caused.1
+      (λ l among some. rise l (mem_right l (disks_of joiners i w.0) (all_from (λ k (x : N × Option NodeFault). disks_of joiners k x.0) (suc i) ws) among) some)
+      (λ l among some. reads l (mem_right l (logs_of w.0) (all_from (λ k (x : N × Option NodeFault). logs_of x.0) (suc i) ws) among) some)
+      f later)
+      is
+
+  -- it has its cause, and is none of the topology
+  pub fault_told : (ws : List (N × Option NodeFault)) → AreCaused faults read_faults ws
+      → ((l : Lent D) → Mem l (all_from (λ k (w : N × Option NodeFault). disks_of joiners k w.0) 0 ws) → 1 ≤ disk_faults l.disk → disks_rose)
+      → ((l : L) → Mem l (all_from (λ k (w : N × Option NodeFault). logs_of w.0) 0 ws) → 1 ≤ log_faults l → logs_rose)
+      → (f : RunFault) → first_fault joiners 0 ws ≡ Some f → IsCounted logs_rose disks_rose f × IsWelcome f
+  fault_told ws caused rise reads f is = fault_from 0 ws (recursion_from_All (λ (w : N × Option NodeFault). IsCaused faults read_faults w.0 w.1) ws caused) rise reads f is
+
+-- ---- a fault of the disks
+
+pub disks_counted : {D : Type 0} (tells : Bool) (image : D → List ℕ → Type 0) (lent : List (Lent D)) (logs_rose disks_rose : Type 0) (f : RunFault) → IsOfDisks tells image lent disks_rose f → IsCounted logs_rose disks_rose f × IsWelcome f
+disks_counted tells image lent logs_rose disks_rose (run.Read log) of = absurd of
+disks_counted tells image lent logs_rose disks_rose (run.Store at.Directory) of = absurd of
+disks_counted tells image lent logs_rose disks_rose (run.Store (at.Disk disk)) of = (of, tt)
+disks_counted tells image lent logs_rose disks_rose (run.Store (at.Node number)) of = absurd of
+disks_counted tells image lent logs_rose disks_rose (run.Damaged disk at) of = (tt, tt)
+disks_counted tells image lent logs_rose disks_rose (run.Topology what) of = absurd of
+disks_counted tells image lent logs_rose disks_rose (run.Limit disk value) of = absurd of
+disks_counted tells image lent logs_rose disks_rose run.Memory of = (tt, tt)
+
+-- and of no node
+pub disks_alone : {D : Type 0} (tells : Bool) (image : D → List ℕ → Type 0) (lent : List (Lent D)) (disks_rose P : Type 0) (f : RunFault) (n : ℕ) → IsOfDisks tells image lent disks_rose f → f ≡ run.Store (at.Node n) → P
+disks_alone tells image lent disks_rose P f n of is = absurd (subst (IsOfDisks tells image lent disks_rose) is of)
+
+-- ---- a fault that names a node
+
+node_named : (joiners n k : ℕ) (nf : NodeFault) → run.Store (at.Node n) ≡ of_node joiners k nf → (nf ≡ node.Stopped) × (n ≡ k)
+node_named joiners n k node.Stopped is = (refl, cc)
+node_named joiners n k (node.Damaged disk place) is = absurd (cc is)
+node_named joiners n k node.Read is = absurd (cc is)
+node_named joiners n k (node.Spent epoch) is = absurd (cc is)
+node_named joiners n k node.Memory is = absurd (cc is)
+
+-- it is of one whose work has ended so
+pub first_ended : {N : Type 0} (faults : N → ℕ) (joiners : ℕ) (h : List BusEntry) (ws : List (N × Option NodeFault)) → ((i : ℕ) (b : N × Option NodeFault) → i < length ws → HasMet faults (slice_index_or ws i b).0 (slice_index_or ws i b).1 (made_by i h))
+    → (f : RunFault) (n : ℕ) → first_fault joiners 0 ws ≡ Some f → f ≡ run.Store (at.Node n) → HasEnded n h
+first_ended {N} faults joiners h ws met f n is named =
+    let t = told_at joiners 0 ws f is in
+    let b = some_of ws (omega (arith, t.within)) in
+    let x = t.told b in
+    let w = node_named joiners n t.number x.0 (sym named ∙ x.2) in
+    let same : n ≡ t.place = omega (arith, w.1, t.counted) in
+    subst (λ k. HasEnded k h) (sym same) (λ closed. (met t.place b t.within).ended (x.1 ∙ ap (λ (y : NodeFault). Some y) w.0) closed)
+
+-- ---- where none is told no node has one
+
+or_none_both : (a b : Option RunFault) → or_else a b ≡ None → (a ≡ None) × (b ≡ None)
+or_none_both None b is = (refl, is)
+or_none_both (Some f) b is = absurd (cc is)
+
+not_told : (joiners i : ℕ) (o : Option NodeFault) → told_of joiners i o ≡ None → o ≡ None
+not_told joiners i None is = refl
+not_told joiners i (Some f) is = absurd (cc is)
+
+none_at : {N : Type 0} (joiners i : ℕ) (ws : List (N × Option NodeFault)) (k : ℕ) (b : N × Option NodeFault) → first_fault joiners i ws ≡ None → k < length ws → (slice_index_or ws k b).1 ≡ None
+none_at joiners i [] k b none below = absurd (omega (arith, below))
+none_at joiners i (w ∷ ws) zero b none below = not_told joiners i w.1 (or_none_both (told_of joiners i w.1) (first_fault joiners (suc i) ws) none).0
+none_at joiners i (w ∷ ws) (suc k) b none below = none_at joiners (suc i) ws k b (or_none_both (told_of joiners i w.1) (first_fault joiners (suc i) ws) none).1 (omega (arith, below))
+
+pub no_fault : {N : Type 0} (joiners : ℕ) (ws : List (N × Option NodeFault)) → first_fault joiners 0 ws ≡ None → HasFault ws → ⊥
+no_fault {N} joiners ws none has =
+    let b = some_of ws (omega (arith, has.1)) in
+    let never : IsSome {T = NodeFault} None = subst (λ (o : Option NodeFault). IsSome o) (none_at joiners 0 ws has.0 b none has.1) (has.2 b) in
+    absurd (cc never)
+
+pub at_rest : {N : Type 0} (joiners : ℕ) (ws : List (N × Option NodeFault)) (rest : Bool) → (rest ≡ false → HasFault ws) → first_fault joiners 0 ws ≡ None → IsTrue rest
+at_rest joiners ws true fault none = refl
+at_rest joiners ws false fault none = absurd (no_fault joiners ws none (fault refl))

@@ -1,0 +1,237 @@
+-- From what a run leaves of each node to the run of the whole system.
+use Rattle.std.specs.Prelude.{IsTrue, Result, Ok, Err, IfOk}
+use Rattle.std.proofs.Common.{◌≡◌, ◌≢◌, ⊎_elim, inl, inr, ℕ, ◌≤◌, ◌<◌, List, [], ◌∷◌, length, slice_index_or, Bool, true, false, Option, Some, None, refl, sym, ap, ◌∙◌, subst, arith}
+use Rattle.std.specs.List.{list_any}
+use Rattle.std.proofs.lemmas.Bool.{or_parts}
+use Rattle.std.proofs.lemmas.List.{get_or_default}
+use Rattle.outside.specs.declared.store.DiskName.{DiskName}
+use Rattle.air_bus.specs.declared.entry.Entry.{Entry}
+use Rattle.air_bus.specs.declared.entry.Entry.TheVariants.{Begin, End, Stop}
+use Rattle.air_bus.specs.declared.entry.Phase.{Phase}
+use Rattle.air_bus.specs.declared.entry.Phase.TheVariants.{Idle}
+use Rattle.air_bus.specs.declared.entry.Input.{Input as Bytes}
+use Rattle.lossy_link.specs.declared.plan.Kind.{Kind}
+use Rattle.lossy_link.specs.Fates.{PlanView}
+use Rattle.air_bus.specs.History.{IsAired, phase}
+use Rattle.turn_defs.specs.declared.node.Node.{Node}
+use Rattle.turn_defs.specs.declared.node.Node.TheVariants.{Dispatcher, Server, Replica, Joiner}
+use Rattle.turn_defs.specs.Setting.{Setting}
+use Rattle.turn_defs.specs.Nodes.{IsNode, NumbersAreNodes, node_number, node_of, node_count}
+use Rattle.site_node.specs.declared.kind.NodeFault.{NodeFault}
+use Rattle.site_node.specs.declared.kind.NodeFault.TheVariants.{Damaged, Spent}
+use Rattle.site_node.specs.States.{State, Rows, state_phase, phase_by}
+use Rattle.site_node.specs.States as states
+use Rattle.turn_defs.specs.Dispatcher.{dispatcher_at_rest}
+use Rattle.turn_defs.specs.Joiner.{JoinerKept, joiner_at_rest}
+use Rattle.turn_defs.specs.Server.{ServerKept, server_at_rest}
+use Rattle.photon_model.specs.Runs.{World, Disks, world_after, opening}
+use Rattle.photon_model.specs.Runs as model
+use Rattle.photon_model.specs.Rest.{UpWith}
+use Rattle.site_laws.specs.Kinds.{StateOf, rows_of, down_over, cell_of}
+use Rattle.site_laws.specs.Meaning.{StandsFor}
+use Rattle.site_laws.specs.Rest.{RestsAt, StatesRest}
+use Rattle.site_laws.specs.Laws.{made_by, EachWalked, IsRunOf, AiredIsRun}
+use Rattle.site_laws.specs.Choosing.{Chosen, choose}
+use Rattle.site_workers.specs.Works.{StandsAt, LeadsOn, GrowsOn, Reached, is_stop}
+use Rattle.site_workers.specs.Rounds.{Rests}
+use Rattle.site_run.specs.AnyNodes.{AnyState, any_of, any_phase, any_rests, IsAtLast, IsMeant, GoesOn}
+use Rattle.site_run.specs.Running.{AreDownOver, IsRunFrom, HaveGrown, HasCome, ComesToLast}
+use Rattle.site_run.proofs.Walking.{walked}
+
+-- what is known of a result that came
+pub with_ok : {T E : Type 0} (A B C F G Q : T → Type 0) (r : Result T E) → IfOk r A → IfOk r B → IfOk r C → IfOk r F → IfOk r G → ((t : T) → A t → B t → C t → F t → G t → Q t) → IfOk r Q
+with_ok A B C F G Q (Ok t) a b c f g h = h t a b c f g
+with_ok A B C F G Q (Err e) a b c f g h = tt
+
+pub with_grown : {T E : Type 0} (A Q : T → Type 0) (r : Result T E) → IfOk r A → ((t : T) → A t → Q t) → IfOk r Q
+with_grown A Q (Ok t) a h = h t a
+with_grown A Q (Err e) a h = tt
+
+down_phase : (g : Setting) (d : Disks) (n : Node) (m : ℕ) → any_phase (any_of n (down_over g d n)) ≡ phase m []
+down_phase g d (Dispatcher s) m = refl
+down_phase g d (Server s) m = refl
+down_phase g d (Replica r) m = refl
+down_phase g d (Joiner j) m = refl
+
+-- a node whose own entries leave it up with no open turn knows something
+live_by : {L : Type 0} (live : Option L) (o : Option Bytes) → phase_by live o ≡ Idle → (l : L) × (live ≡ Some l)
+live_by None None is = absurd (cc is)
+live_by None (Some b) is = absurd (cc is)
+live_by (Some l) None is = (l, refl)
+live_by (Some l) (Some b) is = absurd (cc is)
+
+up_live : {K L : Type 0} (s : State K L) → state_phase s ≡ Idle → (l : L) × (s.live ≡ Some l)
+up_live s is = live_by s.live s.opened is
+
+abbrev setting_of : (n : Node) → StateOf n → Setting
+setting_of (Dispatcher s) u = u.setting
+setting_of (Server s) u = u.setting
+setting_of (Replica r) u = u.setting
+setting_of (Joiner j) u = u.setting
+
+settings_so : (g : Setting) (w : World) (n : Node) (u : StateOf n) → StandsFor g (cell_of w n) u → setting_of n u ≡ g
+settings_so g w (Dispatcher s) u f = f.setting
+settings_so g w (Server s) u f = f.setting
+settings_so g w (Replica r) u f = f.setting
+settings_so g w (Joiner j) u f = f.setting
+
+-- ---- a node at its last epoch
+
+module _ {K L : Type 0} (rows : Rows K L) (P : K → Type 0) where
+  -- a node that is up, or keeps what has P
+  abbrev KeepsWhereDown : State K L → Type 0
+  KeepsWhereDown s = s.live ≡ None → P s.kept
+
+  after_end : (s t : State K L) (b : Bytes) (note : Option (List ℕ)) (ps : List (ℕ × List ℕ)) → states.Ends rows s b note ps t → KeepsWhereDown t
+  after_end s t b noted ps ends down = ⊎_elim (λ done. let live = ap (λ (x : State K L). x.live) done.2.state in absurd (cc (sym live ∙ down))) (λ idle. let live = ap (λ (x : State K L). x.live) idle.state in absurd (cc (sym live ∙ down))) ends
+
+  one_more : (s t : State K L) (e : Entry) → is_stop e ≡ false → states.Leads rows s e t → KeepsWhereDown s → KeepsWhereDown t
+  one_more s t (Begin n b) never led kept = subst KeepsWhereDown (sym led.2) kept
+  one_more s t (End n note ps sent) never led kept = after_end s t led.0 note ps led.3
+  one_more s t (Stop n landed) never led kept = absurd (cc never)
+
+  -- with no stop a node that is down keeps what it kept at first
+  none_stops : (s t : State K L) (es : List Entry) → list_any is_stop es ≡ false → states.Path rows s es t → KeepsWhereDown s → KeepsWhereDown t
+  none_stops s t [] never path kept = subst KeepsWhereDown path kept
+  none_stops s t (e ∷ es) never path kept = none_stops path.0 t es ((or_parts (is_stop e) (list_any is_stop es) never).1) path.2 (one_more s path.0 e ((or_parts (is_stop e) (list_any is_stop es) never).0) path.1 kept)
+
+-- the disk kept the epoch at first, or there was a stop
+module _ (h : List Entry) (n : Node) (kept epoch : ℕ) (last : epoch ≡ 4294967294) where
+  has_come : (b : Bool) → list_any is_stop (made_by (node_number n) h) ≡ b → (b ≡ false → kept ≡ epoch) → HasCome h n kept epoch
+  has_come true is same = (last, inr is)
+  has_come false is same = (last, inl (same refl))
+
+comes_to_last : (g : Setting) (d : Disks) (h : List Entry) (n : Node) (u : StateOf n) (epoch : ℕ) → states.Path (rows_of n) (down_over g d n) (made_by (node_number n) h) u → IsAtLast (any_of n u) epoch → ComesToLast d h n epoch
+comes_to_last g d h (Dispatcher s) u epoch path at = absurd at
+comes_to_last g d h (Server s) u epoch path at =
+    let mine = made_by (node_number (Server s)) h in
+    has_come h (Server s) (d.servers s).epoch epoch at.2 (list_any is_stop mine) refl
+    (λ never. none_stops (rows_of (Server s)) (λ (k : ServerKept). (d.servers s).epoch ≡ k.epoch) (down_over g d (Server s)) u mine never path (λ down. refl) at.0 ∙ at.1)
+comes_to_last g d h (Replica r) u epoch path at = absurd at
+comes_to_last g d h (Joiner j) u epoch path at =
+    let mine = made_by (node_number (Joiner j)) h in
+    has_come h (Joiner j) (d.joiners j).epoch epoch at.2 (list_any is_stop mine) refl
+    (λ never. none_stops (rows_of (Joiner j)) (λ (k : JoinerKept). (d.joiners j).epoch ≡ k.epoch) (down_over g d (Joiner j)) u mine never path (λ down. refl) at.0 ∙ at.1)
+
+some_of : {A : Type 0} (xs : List A) → 0 < length xs → A
+some_of [] l = absurd (omega (arith, l))
+some_of (x ∷ xs) l = x
+
+module _ {N S : Type 0} (leads : S → Entry → S → Type 0) (phase_of : S → Phase) (stands : N → S → Type 0) (number : N → ℕ) (at_rest_as : S → Bool → Type 0) (spends : S → Bytes → Option ℕ) (places : N → AnyState → Type 0)
+    (walks : (v : N) (u : AnyState) → places v u → GoesOn leads phase_of stands at_rest_as spends places v u) where
+  -- where a node that was down over its records stands at the end of its own entries
+  pub record Ended (g : Setting) (d : Disks) (h : List Entry) (w : N × Option NodeFault) (n : Node) (u : StateOf n) : Type 0 where
+    pub path : states.Path (rows_of n) (down_over g d n) (made_by (node_number n) h) u
+    pub here : S
+    pub at : stands w.0 here
+    pub meant : IsMeant leads phase_of stands at_rest_as spends places here (any_of n u)
+    pub phased : w.1 ≡ None → phase_of here ≡ phase (number w.0) (made_by (node_number n) h)
+    pub whole : (disk : DiskName) (place : ℕ) → w.1 ≢ Some (Damaged disk place)
+    pub spent : (epoch : ℕ) → w.1 ≡ Some (Spent epoch) → IsAtLast (any_of n u) epoch
+
+  -- a node that was opened has no fault
+  opened_at : {v : N} (s : S) → stands v s → phase_of s ≡ phase (number v) [] → StandsAt leads phase_of stands number spends v None [] s
+  opened_at s at phased = record { at = at; phased = λ none. phased; whole = λ disk place is. absurd (cc is); spent = λ epoch is. absurd (cc is) }
+
+  ended : (g : Setting) (d : Disks) (h : List Entry) (n : Node) (v : N) (w : N × Option NodeFault) → places v (any_of n (down_over g d n))
+      → LeadsOn leads phase_of stands number spends v None [] w.0 w.1 (made_by (node_number n) h) → (u : StateOf n) × Ended g d h w n u
+  ended g d h n v w at led =
+      let go = walks v (any_of n (down_over g d n)) at in
+      let from = led go.from (opened_at go.from go.at (sym go.led.phased ∙ down_phase g d n (number v))) in
+      let on = go.on from.0 from.1 from.3 in
+      let to = walked n (down_over g d n) from.0 on.0 on.1 in (
+        to.0,
+        record {
+          path = subst (λ es. states.Path (rows_of n) (down_over g d n) es to.0) (sym from.2) to.2;
+          here = from.1;
+          at = from.4.at;
+          meant = subst (IsMeant leads phase_of stands at_rest_as spends places from.1) to.1 on.2;
+          phased = from.4.phased;
+          whole = from.4.whole;
+          spent = λ epoch is. let x = from.4.spent epoch is in subst (λ a. IsAtLast a epoch) to.1 (on.2.spent x.0 (number w.0) x.1 epoch x.2 x.3);
+        },
+      )
+
+  -- a node that was down over its records has grown from there
+  pub grown_from : (grown : N → N → Type 0) (g : Setting) (d : Disks) (n : Node) (v : N) (w : N) → places v (any_of n (down_over g d n))
+      → GrowsOn leads phase_of stands number spends grown v None [] w → (k : ℕ) × Reached grown k v w
+  grown_from grown g d n v w at grows =
+      let go = walks v (any_of n (down_over g d n)) at in
+      grows go.from (opened_at go.from go.at (sym go.led.phased ∙ down_phase g d n (number v)))
+
+  pub have_grown : (grown : N → N → Type 0) (g : Setting) (d : Disks) (vs : List N) (ws : List (N × Option NodeFault)) → ((n : Node) → IsNode g n → node_number n < length vs) → AreDownOver places g d vs
+      → ((i : ℕ) (a : N) (b : N × Option NodeFault) → i < length vs → GrowsOn leads phase_of stands number spends grown (slice_index_or vs i a) None [] (slice_index_or ws i b).0) → HaveGrown grown g vs ws
+  have_grown grown g d vs ws inside down grows n is a b = grown_from grown g d n (slice_index_or vs (node_number n) a) (slice_index_or ws (node_number n) b).0 (down n is a) (grows (node_number n) a b (inside n is))
+
+  module _ (law : AiredIsRun) (rest_law : StatesRest) (numbers : (g : Setting) → NumbersAreNodes g) (ends : (g : Setting) (m : ℕ) → node_of g m ≡ None → node_count g ≤ m)
+      (g : Setting) (d : Disks) (plan : PlanView) (kinds : List Kind) (h : List Entry) (vs : List N) (ws : List (N × Option NodeFault)) (rest : Bool)
+      (count : length vs ≡ node_count g) (len : length ws ≡ length vs) (aired : IsAired plan kinds h) (others : (m : ℕ) → length vs ≤ m → made_by m h ≡ []) (down : AreDownOver places g d vs)
+      (went : (i : ℕ) (a : N) (b : N × Option NodeFault) → i < length vs → LeadsOn leads phase_of stands number spends (slice_index_or vs i a) None [] (slice_index_or ws i b).0 (slice_index_or ws i b).1 (made_by i h))
+      (rested : IsTrue rest → (i : ℕ) (b : N × Option NodeFault) → i < length vs → Rests number stands at_rest_as (slice_index_or ws i b) (made_by i h)) where
+    some : 0 < length vs
+    some = omega (arith, count)
+
+    abbrev one_left : N × Option NodeFault
+    one_left = some_of ws (omega (arith, some, len))
+
+    inside : (n : Node) → IsNode g n → node_number n < length vs
+    inside n is = omega (arith, (numbers g).below n is, count)
+
+    abbrev left_at : Node → N × Option NodeFault
+    left_at n = slice_index_or ws (node_number n) one_left
+
+    each : (n : Node) → IsNode g n → (u : StateOf n) × Ended g d h (left_at n) n u
+    each n is = ended g d h n (slice_index_or vs (node_number n) (some_of vs some)) (left_at n) (down n is (some_of vs some)) (went (node_number n) (some_of vs some) one_left (inside n is))
+
+    chosen : Chosen g StateOf (λ n u. Ended g d h (left_at n) n u) (down_over g d)
+    chosen = choose g StateOf (λ n u. Ended g d h (left_at n) n u) (down_over g d) each
+
+    all_walked : EachWalked g d h chosen.at
+    all_walked = record {
+      paths = λ n is. (chosen.holds n is).path;
+      no_others = λ m none. others m (omega (arith, ends g m none, count));
+    }
+
+    whole : (es : List model.Entry) × IsRunOf g d h chosen.at es
+    whole = law g d plan kinds h chosen.at aired all_walked
+
+    -- a node that rests says so of its state in the system
+    rests_here : (n : Node) (u : StateOf n) (w : N × Option NodeFault) → Ended g d h w n u → Rests number stands at_rest_as w (made_by (node_number n) h) → (any_phase (any_of n u) ≡ Idle) × any_rests (any_of n u) true
+    rests_here n u w e r = (e.meant.phased ∙ e.phased r.whole ∙ r.up, e.meant.rested true (r.rests e.here e.at))
+
+    rests_at : (n : Node) (u : StateOf n) → setting_of n u ≡ g → any_phase (any_of n u) ≡ Idle → any_rests (any_of n u) true → RestsAt g n u
+    rests_at (Dispatcher s) u of_g up says =
+        let l = up_live u up in
+        subst (UpWith (λ x. dispatcher_at_rest x ≡ true)) (sym l.1) (sym (says l.0 l.1))
+    rests_at (Server s) u of_g up says =
+        let l = up_live u up in
+        subst (UpWith (λ x. server_at_rest g x ≡ true)) (sym l.1) (ap (λ x. server_at_rest x l.0) (sym of_g) ∙ sym (says l.0 l.1))
+    rests_at (Replica k) u of_g up says = tt
+    rests_at (Joiner j) u of_g up says =
+        let l = up_live u up in
+        subst (UpWith (λ x. joiner_at_rest x ≡ true)) (sym l.1) (sym (says l.0 l.1))
+
+    -- whatever stands for a node that isn't there
+    left_is : (n : Node) → IsNode g n → (c : N × Option NodeFault) → left_at n ≡ slice_index_or ws (node_number n) c
+    left_is n is c = get_or_default ws (node_number n) one_left c (omega (arith, inside n is, len))
+
+    -- what a run leaves of all nodes is a run from what they were opened over
+    pub runs_from : IsRunFrom places g d h ws rest
+    runs_from =
+        record {
+          at = chosen.at;
+          entries = whole.0;
+          run = whole.1;
+          stand = λ n is c.
+              let e = chosen.holds n is in
+              subst (λ (x : N × Option NodeFault). places x.0 (any_of n (chosen.at n))) (left_is n is c) (e.meant.placed (left_at n).0 e.at);
+          at_rest = λ r. rest_law g d h chosen.at whole.0 whole.1
+              (λ n is.
+              let rests = rests_here n (chosen.at n) (left_at n) (chosen.holds n is) (rested r (node_number n) one_left (inside n is)) in
+              rests_at n (chosen.at n) (settings_so g (world_after g (opening d) whole.0) n (chosen.at n) (whole.1.stands n is)) rests.0 rests.1);
+          whole = λ n is c disk place told. (chosen.holds n is).whole disk place (ap (λ (x : N × Option NodeFault). x.1) (left_is n is c) ∙ told);
+          spent = λ n is c epoch told.
+              let e = chosen.holds n is in
+              comes_to_last g d h n (chosen.at n) epoch e.path (e.spent epoch (ap (λ (x : N × Option NodeFault). x.1) (left_is n is c) ∙ told));
+          idle = λ r n is. (rests_here n (chosen.at n) (left_at n) (chosen.holds n is) (rested r (node_number n) one_left (inside n is))).0;
+        }

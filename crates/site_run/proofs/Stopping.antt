@@ -1,0 +1,57 @@
+-- Where no joiner's entries have a stop, the run has none.
+use Rattle.std.proofs.Common.{◌≡◌, ℕ, Bool, true, false, ◌||◌, List, [], ◌∷◌, refl, sym, ap, ◌∙◌, eq-eqb}
+use Rattle.std.specs.Prelude.{if◌then◌else◌}
+use Rattle.std.specs.List.{list_any}
+use Rattle.air_bus.specs.declared.entry.Entry.{Entry as BusEntry}
+use Rattle.air_bus.specs.declared.entry.Entry.TheVariants as bus
+use Rattle.air_bus.specs.History.{is_of}
+use Rattle.turn_defs.specs.declared.node.Node.TheVariants.{Dispatcher, Server, Replica, Joiner}
+use Rattle.turn_defs.specs.Setting.{Setting}
+use Rattle.turn_defs.specs.Nodes.{NumbersAreNodes}
+use Rattle.photon_model.specs.Runs.{Entry, Begin, End, Stop}
+use Rattle.photon_model.specs.EveryRun.{NoJoinerStops}
+use Rattle.site_laws.specs.Meaning.{AllMean}
+use Rattle.site_laws.specs.Laws.{made_by}
+use Rattle.site_workers.specs.Works.{is_stop}
+use Rattle.site_run.specs.Laws.{NoJoinerStopped, NoneStops}
+
+module _ (j : ℕ) (e : BusEntry) (h : List BusEntry) where
+  -- j's entries with this one, if it is j's
+  abbrev with_it : Bool → List BusEntry
+  with_it b = if b then e ∷ made_by j h else made_by j h
+
+  stops_more : list_any is_stop (made_by j h) ≡ true → list_any is_stop (made_by j (e ∷ h)) ≡ true
+  stops_more some = own (is_of j e)
+    where
+      either_way : (b : Bool) → (b || list_any is_stop (made_by j h)) ≡ true
+      either_way true = refl
+      either_way false = some
+
+      own : (b : Bool) → list_any is_stop (with_it b) ≡ true
+      own true = either_way (is_stop e)
+      own false = some
+
+  stops_here : is_of j e ≡ true → is_stop e ≡ true → list_any is_stop (made_by j (e ∷ h)) ≡ true
+  stops_here own stop = ap (λ b. list_any is_stop (with_it b)) own ∙ ap (λ b. b || list_any is_stop (made_by j h)) stop
+
+module _ (g : Setting) (numbers : NumbersAreNodes g) where
+  none_later : (e : BusEntry) (h : List BusEntry) → NoJoinerStopped g (e ∷ h) → NoJoinerStopped g h
+  none_later e h none j is stops = none j is (stops_more j e h stops)
+
+  none_on : (h : List BusEntry) (es : List Entry) → AllMean g h es → NoJoinerStopped g h → NoJoinerStops es
+  none_on [] [] means none = tt
+  none_on [] (x ∷ es) means none = absurd means
+  none_on (e ∷ h) [] means none = absurd means
+  none_on (e ∷ h) (Begin n i ∷ es) means none = none_on h es means.1 (none_later e h none)
+  none_on (e ∷ h) (End n made ps kept ∷ es) means none = none_on h es means.1 (none_later e h none)
+  none_on (e ∷ h) (Stop (Dispatcher s) landed ∷ es) means none = none_on h es means.1 (none_later e h none)
+  none_on (e ∷ h) (Stop (Server s) landed ∷ es) means none = none_on h es means.1 (none_later e h none)
+  none_on (e ∷ h) (Stop (Replica r) landed ∷ es) means none = none_on h es means.1 (none_later e h none)
+  none_on (bus.Begin m b ∷ h) (Stop (Joiner j) landed ∷ es) means none = absurd means.0
+  none_on (bus.End m noted sent fits ∷ h) (Stop (Joiner j) landed ∷ es) means none = absurd means.0
+  none_on (bus.Stop m noted ∷ h) (Stop (Joiner j) landed ∷ es) means none =
+      let back = numbers.back m (Joiner j) means.0.0 in
+      none j back.1 (stops_here j (bus.Stop m noted) h (eq-eqb m j (sym back.0)) refl)
+
+pub none_stop : ((g : Setting) → NumbersAreNodes g) → NoneStops
+none_stop numbers g d h at es is none = none_on g (numbers g) h es is.means none

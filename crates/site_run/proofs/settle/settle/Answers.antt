@@ -1,0 +1,63 @@
+use Rattle.std.proofs.Common.{rules, inr, map, subst, sym}
+use Rattle.output_log.specs.Pairs.{Keeps as KeepsPairs}
+use Rattle.site_node.specs.Replicas.{KeepsNotes}
+use Rattle.site_store.specs.ReadBack.{is_replica, is_output}
+use Rattle.outside.specs.Faults.{Rose}
+use Rattle.site_run.specs.Naming.{as_lent}
+use Rattle.site_run.specs.Causes.{IsOfDisks}
+use Rattle.site_run.proofs.Settling.{left_read, met_read, told_counted, kept_in, ok_of, on_ok, err_of}
+use Rattle.site_run.proofs.settle.settle.Goals as goal
+
+pub returns-in-Some-clause-left : goal.returns-in-Some-clause-left
+returns-in-Some-clause-left g c tells name bytes now =
+    let d = g.S.Disk.Disk in
+    left_read d.tells d.seen d.image d.since d.faults tells (g.S.Store.image c.args.store.now) _ _ c.read_disks-disks.ensures.same name bytes (c.give_parts.ensures.left tells name bytes now)
+
+pub returns-in-Ok-clause-left : goal.returns-in-Ok-clause-left
+returns-in-Ok-clause-left g c tells name bytes now =
+    let d = g.S.Disk.Disk in
+    left_read d.tells d.seen d.image d.since d.faults tells (g.S.Store.image c.args.store.now) _ _ c.read_disks-disks.ensures.same name bytes (c.give_parts.ensures.left tells name bytes now)
+
+pub returns-in-Err-clause-left : goal.returns-in-Err-clause-left
+returns-in-Err-clause-left g c tells name bytes now =
+    let d = g.S.Disk.Disk in
+    left_read d.tells d.seen d.image d.since d.faults tells (g.S.Store.image c.args.store.now) _ _ c.read_disks-disks.ensures.same name bytes (c.give_parts.ensures.left tells name bytes now)
+
+pub returns-in-Some-clause-disks : goal.returns-in-Some-clause-disks
+returns-in-Some-clause-disks g c l among some =
+    let d = g.S.Disk.Disk in
+    let m = met_read d.tells d.seen d.image d.since d.faults _ _ c.read_disks-disks.ensures.same l among some in
+    c.give_parts.ensures.disks m.0 m.1 m.2
+
+pub returns-in-Ok-clause-disks : goal.returns-in-Ok-clause-disks
+returns-in-Ok-clause-disks g c l among some =
+    let d = g.S.Disk.Disk in
+    let m = met_read d.tells d.seen d.image d.since d.faults _ _ c.read_disks-disks.ensures.same l among some in
+    c.give_parts.ensures.disks m.0 m.1 m.2
+
+pub returns-in-Err-clause-disks : goal.returns-in-Err-clause-disks
+returns-in-Err-clause-disks g c l among some =
+    let d = g.S.Disk.Disk in
+    let m = met_read d.tells d.seen d.image d.since d.faults _ _ c.read_disks-disks.ensures.same l among some in
+    c.give_parts.ensures.disks m.0 m.1 m.2
+
+pub returns-in-Ok-clause-notes : goal.returns-in-Ok-clause-notes
+returns-in-Ok-clause-notes g c =
+    let d = g.S.Disk.Disk in
+    kept_in d.tells d.seen d.image d.since d.faults KeepsNotes is_replica c.args.parts.disks.items c.in-Ok.journals.notes.items (ok_of _ c.read_disks-disks.result.1 c.in-Ok.journals c.in-Ok.is c.read_disks-disks.ensures.notes) (on_ok _ c.read_disks-disks.result.1 c.in-Ok.journals c.in-Ok.is c.read_disks-disks.ensures.notes_left)
+
+pub returns-in-Ok-clause-pairs : goal.returns-in-Ok-clause-pairs
+returns-in-Ok-clause-pairs g c =
+    let d = g.S.Disk.Disk in
+    kept_in d.tells d.seen d.image d.since d.faults KeepsPairs is_output c.args.parts.disks.items c.in-Ok.journals.pairs.items (ok_of _ c.read_disks-disks.result.1 c.in-Ok.journals c.in-Ok.is c.read_disks-disks.ensures.pairs) (on_ok _ c.read_disks-disks.result.1 c.in-Ok.journals c.in-Ok.is c.read_disks-disks.ensures.pairs_left)
+
+pub returns-in-Err-clause-told : goal.returns-in-Err-clause-told
+returns-in-Err-clause-told g c =
+    let d = g.S.Disk.Disk in
+    let rose = Rose (g.S.Store.faults c.args.store.now) (g.S.Store.faults c.give_parts.new.store) in
+    let lent = map as_lent c.args.parts.disks.items in
+    inr (
+      search rules,
+      subst (λ f. IsOfDisks d.tells d.image lent rose f) (sym c.fault_of_disks.ensures)
+          (told_counted d.tells d.seen d.image d.since d.faults c.in-Err.fault c.args.parts.disks.items _ rose c.give_parts.ensures.disks (err_of _ c.read_disks-disks.result.1 c.in-Err.fault c.in-Err.is c.read_disks-disks.ensures.err)),
+    )

@@ -1,0 +1,83 @@
+-- Nodes of all four kinds as one kind, and where they stand.
+use Rattle.std.proofs.Common.{◌≡◌, ◌⊎◌, inl, inr, ℕ, Bool, List, Option, None, Some}
+use Rattle.air_bus.specs.declared.entry.Entry.{Entry}
+use Rattle.air_bus.specs.declared.entry.Entry.TheVariants.{Begin}
+use Rattle.air_bus.specs.declared.entry.Input.{Input}
+use Rattle.turn_defs.specs.declared.node.Node.{Node}
+use Rattle.turn_defs.specs.declared.node.Node.TheVariants.{Dispatcher, Server, Replica, Joiner}
+use Rattle.air_bus.specs.declared.entry.Phase.{Phase}
+use Rattle.turn_defs.specs.Setting.{Setting}
+use Rattle.site_node.specs.States.{State, Leads, Says, state_phase}
+use Rattle.turn_defs.specs.Dispatcher.{dispatcher_at_rest}
+use Rattle.turn_defs.specs.Joiner.{joiner_at_rest}
+use Rattle.dispatch_node.specs.Node as dispatcher
+use Rattle.dispatch_node.specs.Node.{DispatcherState, SiteLeads, says}
+use Rattle.turn_defs.specs.Server.{ServerKept, ServerLive, server_at_rest}
+use Rattle.registry_server.specs.Node.{ServerState, spent_at}
+use Rattle.registry_server.specs.Registrars.{server_rows}
+use Rattle.turn_defs.specs.Replica.{replica_at_rest}
+use Rattle.replica_node.specs.Node as replica
+use Rattle.site_node.specs.Replicas.{ReplicaState, replica_rows}
+use Rattle.joiner_node.specs.Node.{JoinerState, LeadsTo, joiner_phase, spends_of}
+use Rattle.site_laws.specs.Kinds.{StateOf}
+use Rattle.site_workers.specs.Eithers as either
+use Rattle.site_workers.specs.Works.{Path}
+
+abbrev pub AnyState : Type 0
+AnyState = (DispatcherState ⊎ ServerState) ⊎ (ReplicaState ⊎ JoinerState)
+
+-- an entry leads a node of its kind on
+abbrev pub AnyLeads : AnyState → Entry → AnyState → Type 0
+AnyLeads = either.leads (either.leads SiteLeads (Leads server_rows)) (either.leads (Leads replica_rows) LeadsTo)
+
+-- where a state stands on the bus
+abbrev pub any_phase : AnyState → Phase
+any_phase = either.of (either.of (λ s. state_phase s.node) state_phase) (either.of state_phase joiner_phase)
+
+-- what a node says of its rest
+abbrev pub any_rests : AnyState → Bool → Type 0
+any_rests = either.says (either.says (says dispatcher_at_rest) (Says (λ g k l. server_at_rest g l))) (either.says (Says (λ g k l. replica_at_rest k)) (λ s. Says (λ g k l. joiner_at_rest l) s.node))
+
+-- a server's state, with its site
+abbrev pub with_site : ℕ → State ServerKept ServerLive → ServerState
+with_site s t = record { setting = t.setting; kept = record { site = s; disk = t.kept }; live = t.live; opened = t.opened }
+
+-- where a node of the system stands, as a state of a node of any kind
+abbrev pub any_of : (n : Node) → StateOf n → AnyState
+any_of (Dispatcher s) t = inl (inl (record { site = s; node = t }))
+any_of (Server s) t = inl (inr (with_site s t))
+any_of (Replica r) t = inr (inl t)
+any_of (Joiner j) t = inr (inr (record { number = j; node = t }))
+
+-- down, over these records
+abbrev pub down_with : {K L : Type 0} → Setting → K → State K L
+down_with g k = record { setting = g; kept = k; live = None; opened = None }
+
+-- the epoch that a start would raise, where it is the last one
+abbrev pub any_spends : AnyState → Input → Option ℕ
+any_spends = either.of (either.of dispatcher.never_spent spent_at) (either.of replica.never_spent spends_of)
+
+-- The node knows nothing, since it is down or starts, and the epoch that its disk keeps is this one, the last.
+abbrev pub IsAtLast : AnyState → ℕ → Type 0
+IsAtLast (inl (inl d)) epoch = ⊥
+IsAtLast (inl (inr s)) epoch = (s.live ≡ None) × (s.kept.disk.epoch ≡ epoch) × (epoch ≡ 4294967294)
+IsAtLast (inr (inl r)) epoch = ⊥
+IsAtLast (inr (inr j)) epoch = (j.node.live ≡ None) × (j.node.kept.epoch ≡ epoch) × (epoch ≡ 4294967294)
+
+-- ---- a kind of node that stands at such states
+
+module _ {N S : Type 0} (leads : S → Entry → S → Type 0) (phase_of : S → Phase) (stands : N → S → Type 0) (at_rest_as : S → Bool → Type 0) (spends : S → Input → Option ℕ) (places : N → AnyState → Type 0) where
+  -- Its own state t means u: it stands on the bus as there, a node at t is at u, and what is said of rest at t is said at u. A turn
+  -- that came to t and would raise the last epoch came to u at that epoch.
+  pub record IsMeant (t : S) (u : AnyState) : Type 0 where
+    pub phased : any_phase u ≡ phase_of t
+    pub placed : (w : N) → stands w t → places w u
+    pub rested : (b : Bool) → at_rest_as t b → any_rests u b
+    pub spent : (before : S) (n : ℕ) (input : Input) (epoch : ℕ) → leads before (Begin n input) t → spends before input ≡ Some epoch → IsAtLast u epoch
+
+  -- the node is at u by a state of its own, and what leads on from there leads on from u
+  pub record GoesOn (v : N) (u : AnyState) : Type 0 where
+    pub from : S
+    pub at : stands v from
+    pub led : IsMeant from u
+    pub on : (es : List Entry) (t : S) → Path leads from es t → (x : AnyState) × Path AnyLeads u es x × IsMeant t x

@@ -1,0 +1,34 @@
+-- The setting of a run: what is asked for, and what the logs hold.
+use Rattle.std.specs.Prelude.{◌≡◌, ℕ, List, Option, IsSomeAnd}
+use Rattle.list_words.specs.Lists.{Each}
+use Rattle.log_records.specs.Check.{IsQueryLog}
+use Rattle.log_records.specs.Lines.{end_from}
+use Rattle.turn_defs.specs.Setting.{Setting}
+use Rattle.registry_server.specs.Cores.{IsNew}
+use Rattle.dispatch_node.specs.Places.{IsLogOf}
+use Rattle.site_run.specs.declared.built.config.Config.{Config}
+
+-- The setting has these numbers, and the records of the logs of these names, which are valid; the last whole line of the clicks
+-- ends there. Here told says what bytes are under a name.
+pub record IsSettingOf (told : List ℕ → Option (List ℕ)) (queries clicks : List ℕ) (config : Config) (end_ : ℕ) (g : Setting) : Type 0 where
+  pub numbers : IsNew g config.joiners config.horizon config.table config.batch
+  pub queries_are : IsSomeAnd (told queries) (λ log. IsQueryLog log g.queries)
+  pub clicks_are : IsSomeAnd (told clicks) (λ log. IsLogOf log g)
+  pub ends : end_ ≡ end_from 0 g.clicks
+
+-- the same of the logs that are open: the click log, and the query log at site A and at site B, each opened so many times
+pub record IsSettingOver {L : Type 0} (bytes : L → List ℕ) (clicks queries_a queries_b : List L) (config : Config) (end_ : ℕ) (g : Setting) : Type 0 where
+  pub numbers : IsNew g config.joiners config.horizon config.table config.batch
+  pub clicks_are : Each (λ l. IsLogOf (bytes l) g) clicks
+  pub queries_a_are : Each (λ l. IsQueryLog (bytes l) g.queries) queries_a
+  pub queries_b_are : Each (λ l. IsQueryLog (bytes l) g.queries) queries_b
+  pub ends : end_ ≡ end_from 0 g.clicks
+
+-- P holds of each setting of such logs under names
+abbrev pub OfSetting : (told : List ℕ → Option (List ℕ)) (queries clicks : List ℕ) → Config → ℕ → (Setting → Type 0) → Type 0
+OfSetting told queries clicks config end_ P = (g : Setting) → IsSettingOf told queries clicks config end_ g → P g
+
+-- the setting has so many joiners a site, and three replicas
+pub record IsRosterOf (g : Setting) (joiners : ℕ) : Type 0 where
+  pub joiners_are : g.joiners ≡ joiners
+  pub replicas : g.replicas ≡ 3

@@ -1,0 +1,135 @@
+-- Why a run over a store gives up, by what a stop might have left of its disks before it.
+use Rattle.std.specs.Prelude.{◌≡◌, ◌⊎◌, ℕ, List, [], ◌∷◌, true, Option, None, Some, IsSomeAnd, ⊤}
+use Rattle.list_words.specs.Lists.{Mem}
+use Rattle.outside.specs.declared.store.DiskName.{DiskName}
+use Rattle.outside.specs.declared.store.DiskName.TheVariants as name
+use Rattle.topology_journal.specs.declared.topology.Topology.{Topology}
+use Rattle.topology_journal.specs.Topologies.{Keeps as KeepsTopology}
+use Rattle.air_bus.specs.declared.entry.Entry.{Entry as BusEntry}
+use Rattle.bus_seat.specs.Views.{made_by}
+use Rattle.site_run.specs.declared.faults.fault.StorePlace.TheVariants as place
+use Rattle.site_run.specs.declared.faults.fault.Mismatch.TheVariants as mismatch
+use Rattle.site_run.specs.declared.faults.fault.RunFault.{RunFault}
+use Rattle.site_run.specs.declared.faults.fault.RunFault.TheVariants as fault
+use Rattle.turn_defs.specs.declared.node.Node.{Node}
+use Rattle.turn_defs.specs.declared.node.Node.TheVariants.{Dispatcher, Server, Replica, Joiner}
+use Rattle.turn_defs.specs.Setting.{Setting}
+use Rattle.turn_defs.specs.Nodes.{IsNode}
+use Rattle.dispatch_node.specs.Kept.{kept_as}
+use Rattle.dispatch_node.specs.Places.{AreKeptPlaces}
+use Rattle.site_store.specs.declared.disks.checks.Misfit.TheVariants as misfit
+use Rattle.site_store.specs.declared.disks.fault.DisksFault.TheVariants as disks
+use Rattle.site_store.specs.Kinds.{joiners_kept}
+use Rattle.site_store.specs.Misfits.{IsFit, IsMisfit}
+use Rattle.site_store.specs.Opening.{IsDamagedIn}
+use Rattle.gate_journal.specs.Images.{IsKeptIn}
+use Rattle.site_store.specs.Refusals.{IsJournalOf, IsOfFirstDisk, other_names}
+use Rattle.site_store.specs.declared.places.misplaced.Misplaced.{Misplaced}
+use Rattle.site_store.specs.Kept.{IsFirst, all_kept}
+use Rattle.photon_model.specs.Runs.{Disks}
+use Rattle.site_workers.specs.Works.{IsLeftOpen, stop_count}
+use Rattle.site_laws.specs.Stores.{Images}
+use Rattle.site_store.specs.Records.{KeptValues, AreKept, value_at}
+use Rattle.site_store.specs.Causes.{IsOtherTable, first_limit}
+use Rattle.site_run.specs.declared.ran.RunLog.{RunLog}
+
+-- the topology that a setting asks for
+abbrev pub asked_of : Setting → Topology
+asked_of g = record { joiners = g.joiners; table = g.table }
+
+-- the places of the click log that both dispatchers' disks keep fit the log
+abbrev pub PlacesFit : Setting → KeptValues → Type 0
+PlacesFit g k = AreKeptPlaces g (kept_as (value_at k.offsets 0 0) (value_at k.pending 0 [])) × AreKeptPlaces g (kept_as (value_at k.offsets 1 0) (value_at k.pending 1 []))
+
+-- the first of these places that doesn't fit
+abbrev pub IsFirstMisplaced : Setting → KeptValues → Misplaced → Type 0
+IsFirstMisplaced g k told = IsFirst g.clicks (all_kept (value_at k.offsets 0 0) (value_at k.offsets 1 0) (value_at k.pending 0 []) (value_at k.pending 1 [])) told
+
+-- These values can be run: no other topology is kept than the setting's, the places fit, and no epoch, round or slot is at its
+-- limit.
+pub record Passes (g : Setting) (k : KeptValues) : Type 0 where
+  pub topology : IsFit k.topology (asked_of g)
+  pub places : PlacesFit g k
+  pub limits : first_limit k ≡ None
+
+-- why these values can't be run: the first of the topology, the places and the limits that is wrong
+abbrev pub IsUnfit : Setting → KeptValues → RunFault → Type 0
+IsUnfit g k (fault.Read log) = ⊥
+IsUnfit g k (fault.Store at) = ⊥
+IsUnfit g k (fault.Damaged disk at) = ⊥
+IsUnfit g k (fault.Topology (mismatch.Joiners kept asked)) = IsMisfit k.topology (asked_of g) (misfit.Joiners kept asked)
+IsUnfit g k (fault.Topology (mismatch.Table kept asked)) = IsOtherTable k.topology (asked_of g) kept asked
+IsUnfit g k (fault.Topology (mismatch.Place disk kept floor)) = IsFit k.topology (asked_of g) × IsFirstMisplaced g k (record { disk = disk; kept = kept; floor = floor })
+IsUnfit g k (fault.Limit disk value) = IsFit k.topology (asked_of g) × PlacesFit g k × (first_limit k ≡ Some (misfit.Spent disk value))
+IsUnfit g k fault.Memory = ⊥
+
+-- ---- of a store, by what a stop might have left of its disks
+
+module _ (g : Setting) (before : Images) where
+  -- the disks that were opened kept these values
+  abbrev pub Kept : KeptValues → Type 0
+  Kept k = AreKept true before g.joiners k
+
+  -- they kept values that can be run
+  abbrev pub HasPassed : Type 0
+  HasPassed = (k : KeptValues) × Kept k × Passes g k
+
+  -- the disk was damaged at this place, and each that is opened before it was a journal of its kind
+  pub record IsFirstDamaged (disk : DiskName) (at : ℕ) : Type 0 where
+    pub damaged : IsDamagedIn before disk at
+    pub first : IsOfFirstDisk true before g.joiners (disks.Damaged disk at)
+
+  -- Why a run gives up. Read and faulted say that the count of the logs' faults rose, and that of the disks'. A limit is told of
+  -- what the disks kept, or of a node that began anew, and so met a fault, in its last epoch.
+  abbrev pub IsCauseOf : (read faulted : Type 0) → RunFault → Type 0
+  IsCauseOf read faulted (fault.Read log) = read
+  IsCauseOf read faulted (fault.Store at) = faulted
+  IsCauseOf read faulted (fault.Damaged disk at) = IsFirstDamaged disk at
+  IsCauseOf read faulted (fault.Topology what) = (k : KeptValues) × Kept k × IsUnfit g k (fault.Topology what)
+  IsCauseOf read faulted (fault.Limit disk value) = ((k : KeptValues) × Kept k × IsUnfit g k (fault.Limit disk value)) ⊎ (faulted × (value ≡ 4294967294))
+  IsCauseOf read faulted fault.Memory = ⊤
+
+  -- ---- disks that are opened
+
+  -- the disk is opened, with whatever number of joiners the topology's may have kept
+  abbrev pub IsTaken : DiskName → Type 0
+  IsTaken disk = (kept : Option Topology) → IsKeptIn (before name.Topology) (KeepsTopology kept) → Mem disk (name.Topology ∷ other_names (joiners_kept kept g.joiners))
+
+  -- a stop might have left a journal of its kind
+  abbrev pub WasJournal : DiskName → Type 0
+  WasJournal disk = IsKeptIn (before disk) (IsJournalOf disk)
+
+  -- what is kept of each disk that is opened is a journal of its kind
+  abbrev pub KeptAreJournals : Type 0
+  KeptAreJournals = (k : KeptValues) (disk : DiskName) → Kept k → IsTaken disk → WasJournal disk
+
+-- ---- of a run over a store that was opened
+
+-- the node's disk kept this epoch
+abbrev pub KeptEpoch : Disks → Node → ℕ → Type 0
+KeptEpoch d (Dispatcher s) epoch = ⊥
+KeptEpoch d (Server s) epoch = (d.servers s).epoch ≡ epoch
+KeptEpoch d (Replica r) epoch = ⊥
+KeptEpoch d (Joiner j) epoch = (d.joiners j).epoch ≡ epoch
+
+-- the disk of a node of the setting did
+abbrev pub OneKept : Setting → Disks → ℕ → Type 0
+OneKept g d epoch = (n : Node) × IsNode g n × KeptEpoch d n epoch
+
+-- No disk is told as damaged, and the topology as no other. A limit is told of a node in its last epoch, which was kept by its
+-- disk, or which it came to after a fault.
+abbrev pub IsOfRun : Setting → Disks → Type 0 → RunFault → Type 0
+IsOfRun g d faulted (fault.Read log) = ⊤
+IsOfRun g d faulted (fault.Store at) = ⊤
+IsOfRun g d faulted (fault.Damaged disk at) = ⊥
+IsOfRun g d faulted (fault.Topology what) = ⊥
+IsOfRun g d faulted (fault.Limit disk value) = (value ≡ 4294967294) × (OneKept g d value ⊎ faulted)
+IsOfRun g d faulted fault.Memory = ⊤
+
+-- The node of this number has stopped eight times, but for one that couldn't be reopened: its turn is left open.
+abbrev pub HasEnded : ℕ → List BusEntry → Type 0
+HasEnded n history = (IsLeftOpen (made_by n history) → ⊥) → stop_count (made_by n history) ≡ 8
+
+-- where a fault names a node, that node has, by the run's history
+abbrev pub NamesEnded : Option RunLog → RunFault → Type 0
+NamesEnded ran f = (n : ℕ) → f ≡ fault.Store (place.Node n) → IsSomeAnd ran (λ l. HasEnded n l.air.history)

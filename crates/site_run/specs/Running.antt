@@ -1,0 +1,50 @@
+-- What a run of both sites' nodes is from, and what it leaves.
+use Rattle.std.specs.Prelude.{◌≡◌, ◌≢◌, ◌⊎◌, ℕ, Bool, true, List, slice_index_or, Option, Some, IsTrue}
+use Rattle.std.specs.List.{list_any}
+use Rattle.outside.specs.declared.store.DiskName.{DiskName}
+use Rattle.air_bus.specs.declared.entry.Entry.{Entry as BusEntry}
+use Rattle.air_bus.specs.declared.entry.Phase.TheVariants.{Idle}
+use Rattle.turn_defs.specs.Setting.{Setting}
+use Rattle.turn_defs.specs.Nodes.{IsNode, node_number}
+use Rattle.turn_defs.specs.declared.node.Node.{Node}
+use Rattle.turn_defs.specs.declared.node.Node.TheVariants.{Dispatcher, Server, Replica, Joiner}
+use Rattle.site_node.specs.declared.kind.NodeFault.{NodeFault}
+use Rattle.site_node.specs.declared.kind.NodeFault.TheVariants.{Damaged, Spent}
+use Rattle.site_workers.specs.Works.{Reached, is_stop}
+use Rattle.photon_model.specs.Runs.{Entry, Disks, world_after, opening}
+use Rattle.photon_model.specs.Rest.{IsAtRest}
+use Rattle.site_laws.specs.Kinds.{StateOf, down_over}
+use Rattle.site_laws.specs.Laws.{IsRunOf, made_by}
+use Rattle.site_run.specs.AnyNodes.{AnyState, any_of, any_phase}
+
+-- The epoch is the last one, and the node's disk kept it at first, or the node has stopped since.
+abbrev pub HasCome : List BusEntry → Node → (kept epoch : ℕ) → Type 0
+HasCome h n kept epoch = (epoch ≡ 4294967294) × ((kept ≡ epoch) ⊎ (list_any is_stop (made_by (node_number n) h) ≡ true))
+
+-- so does a node with an epoch; no other comes to one
+abbrev pub ComesToLast : Disks → List BusEntry → Node → ℕ → Type 0
+ComesToLast d h (Dispatcher s) epoch = ⊥
+ComesToLast d h (Server s) epoch = HasCome h (Server s) (d.servers s).epoch epoch
+ComesToLast d h (Replica r) epoch = ⊥
+ComesToLast d h (Joiner j) epoch = HasCome h (Joiner j) (d.joiners j).epoch epoch
+
+module _ {N : Type 0} (places : N → AnyState → Type 0) where
+  -- each node of the setting is the one of its number, and is down over its own records
+  abbrev pub AreDownOver : Setting → Disks → List N → Type 0
+  AreDownOver g d nodes = (n : Node) → IsNode g n → (a : N) → places (slice_index_or nodes (node_number n) a) (any_of n (down_over g d n))
+
+  -- The history is a run of the whole system from these records, and each node stands where it says. Where all nodes rest the
+  -- system does, and each node is up with no open turn. No node is told as damaged, and as spent only one that came to its last epoch.
+  pub record IsRunFrom (g : Setting) (d : Disks) (h : List BusEntry) (nodes : List (N × Option NodeFault)) (rest : Bool) : Type 0 where
+    pub at : (n : Node) → StateOf n
+    pub entries : List Entry
+    pub run : IsRunOf g d h at entries
+    pub stand : (n : Node) → IsNode g n → (a : N × Option NodeFault) → places (slice_index_or nodes (node_number n) a).0 (any_of n (at n))
+    pub at_rest : IsTrue rest → IsAtRest g (world_after g (opening d) entries)
+    pub idle : IsTrue rest → (n : Node) → IsNode g n → any_phase (any_of n (at n)) ≡ Idle
+    pub whole : (n : Node) → IsNode g n → (a : N × Option NodeFault) (disk : DiskName) (place : ℕ) → (slice_index_or nodes (node_number n) a).1 ≢ Some (Damaged disk place)
+    pub spent : (n : Node) → IsNode g n → (a : N × Option NodeFault) (epoch : ℕ) → (slice_index_or nodes (node_number n) a).1 ≡ Some (Spent epoch) → ComesToLast d h n epoch
+
+-- each node's disks went on from where they were when it was opened
+abbrev pub HaveGrown : {N : Type 0} → (N → N → Type 0) → Setting → List N → List (N × Option NodeFault) → Type 0
+HaveGrown grown g vs ws = (n : Node) → IsNode g n → (a : _) (b : _) → (k : ℕ) × Reached grown k (slice_index_or vs (node_number n) a) (slice_index_or ws (node_number n) b).0

@@ -1,0 +1,35 @@
+-- What the end of a run makes of its nodes and disks.
+use Rattle.std.specs.Prelude.{ℕ, suc, List, [], ◌∷◌, Bool, IsTrue, Option, None, Some, filter}
+use Rattle.site_run.specs.declared.faults.fault.RunFault.{RunFault}
+use Rattle.site_node.specs.declared.kind.NodeFault.{NodeFault}
+use Rattle.site_store.specs.Lent.{Lent}
+use Rattle.site_store.specs.ReadBack.{EachWith, is_replica, is_output}
+use Rattle.site_run.specs.Causes.{of_node}
+
+-- ---- the fault that is told: that of the first node which has one
+
+abbrev pub told_of : (joiners number : ℕ) → Option NodeFault → Option RunFault
+told_of joiners number None = None
+told_of joiners number (Some f) = Some (of_node joiners number f)
+
+abbrev pub or_else : Option RunFault → Option RunFault → Option RunFault
+or_else None later = later
+or_else (Some f) later = Some f
+
+-- of these nodes, the first of which has this number
+abbrev pub first_fault : {N : Type 0} → (joiners number : ℕ) → List (N × Option NodeFault) → Option RunFault
+first_fault joiners number [] = None
+first_fault joiners number (n ∷ ns) = or_else (told_of joiners number n.1) (first_fault joiners (suc number) ns)
+
+-- ---- what is read back
+
+-- the replicas' disks among these, and the outputs
+abbrev pub lent_replicas : {D : Type 0} → List (Lent D) → List (Lent D)
+lent_replicas disks = filter (λ d. is_replica d.name) disks
+
+abbrev pub lent_outputs : {D : Type 0} → List (Lent D) → List (Lent D)
+lent_outputs disks = filter (λ d. is_output d.name) disks
+
+-- a list for each disk, in order: an image of the disk keeps it
+abbrev pub AreKeptIn : {D V : Type 0} → Bool → (D → List ℕ → Type 0) → (List V → List ℕ → Type 0) → List (Lent D) → List (List V) → Type 0
+AreKeptIn {D} tells image keeps disks lists = EachWith (λ (d : Lent D) items. IsTrue tells → (c : List ℕ) × image d.disk c × keeps items c) disks lists

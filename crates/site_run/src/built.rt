@@ -1,0 +1,11 @@
+// The nodes of both sites, built over the opened disks of a store and its logs, and taken apart again.
+mod building;
+mod config;
+mod made;
+mod parting;
+mod parts;
+
+pub use building::{Built, build};
+pub use config::{Config, Logs};
+pub use parting::{Parting, apart};
+pub use parts::{Parts, Room};

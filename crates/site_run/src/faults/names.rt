@@ -1,0 +1,71 @@
+// The names of disks, without memory.
+ghost use Rattle.std.specs.Prelude.{◌≡◌, ◌≤◌, ◌+◌, ◌++◌, length, decimal};
+ghost use Rattle.arrayvec.specs.ArrayString.{array_string_len};
+ghost use Rattle.directory_store.specs.Names.{name_text, word, site_text};
+ghost use Rattle.site_run.specs.declared.faults.names.TheConstants.{NAME_ROOM};
+
+use arrayvec::ArrayString;
+use itoa::Buffer;
+use outside::DiskName;
+
+/// How many bytes a disk's name has room for.
+pub const NAME_ROOM: usize = 16;
+
+/// The name of a disk's file, as `offset-A` or `epoch-B2`: what `directory_store::disk_name` gives, on the stack.
+pub fn disk_text(disk: DiskName) -> ArrayString<NAME_ROOM>
+    ensures { result.bytes ≡ name_text disk }
+{
+    let mut text = ArrayString::new();
+    text.push_str(first_word(disk));
+    match disk {
+        DiskName::Topology => {}
+        DiskName::Offset(site) | DiskName::Retry(site) | DiskName::Server(site) => push_site(
+            &mut text, site,
+        ),
+        DiskName::Replica(number) => push_number(&mut text, number),
+        DiskName::Epoch(site, joiner) | DiskName::Output(site, joiner) => {
+            push_site(&mut text, site);
+            push_number(&mut text, joiner);
+        }
+    }
+    text
+}
+
+fn first_word(disk: DiskName) -> &'static str
+    ensures word { result.now ≡ word disk }
+    ensures short { length result.now ≤ 8 }
+{
+    match disk {
+        DiskName::Topology => "topology",
+        DiskName::Offset(_) => "offset-",
+        DiskName::Retry(_) => "retry-",
+        DiskName::Server(_) => "server-",
+        DiskName::Replica(_) => "replica-",
+        DiskName::Epoch(_, _) => "epoch-",
+        DiskName::Output(_, _) => "output-",
+    }
+}
+
+fn push_site(text: &mut ArrayString<NAME_ROOM>, site: u8)
+    requires { array_string_len text.old + 4 ≤ NAME_ROOM }
+    ensures bytes { text.new.bytes ≡ text.old.bytes ++ site_text site }
+    ensures len { array_string_len text.new ≤ array_string_len text.old + 4 }
+{
+    match site {
+        0 => text.push_str("A"),
+        1 => text.push_str("B"),
+        _ => {
+            push_number(text, site);
+            text.push_str("-");
+        }
+    }
+}
+
+fn push_number(text: &mut ArrayString<NAME_ROOM>, number: u8)
+    requires { array_string_len text.old + 3 ≤ NAME_ROOM }
+    ensures bytes { text.new.bytes ≡ text.old.bytes ++ decimal number }
+    ensures len { array_string_len text.new ≤ array_string_len text.old + 3 }
+{
+    let mut digits = Buffer::new();
+    text.push_str(digits.format(number));
+}

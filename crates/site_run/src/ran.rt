@@ -1,0 +1,35 @@
+// What a run leaves.
+ghost use Rattle.std.specs.Prelude.{◌≡◌, None};
+
+use air_bus::Air;
+use bus_seat::Seen;
+use verify_pass::Journals;
+
+/// What a run that came to rest leaves: the journals that its disks keep, read back.
+#[derive(Debug, Drop)]
+pub struct Outcome {
+    pub journals: Journals,
+}
+
+/// The history of a run, with the plan by which packets went, and what was seen and made with each node's seat and with the
+/// run's, which is the last.
+#[derive(Drop)]
+pub struct RunLog {
+    pub air: Air,
+    pub seen: Vec<Seen>,
+}
+
+/// What the last run left: nothing where none began.
+#[derive(Drop)]
+pub struct Ran {
+    pub log: Option<RunLog>,
+}
+
+impl Ran {
+    /// Of no run.
+    pub fn new() -> Ran
+        ensures { result.log ≡ None }
+    {
+        Ran { log: None }
+    }
+}

@@ -1,0 +1,399 @@
+// The run.
+ghost use Rattle.std.specs.Prelude.{◌≡◌, ◌<◌, ◌≤◌, ◌+◌, ◌*◌, ◌++◌, ◌∷◌, ◌⊎◌, [], ℕ, List, None, Some, length, map, slice_index_or, vec_len, vec_capacity, take, false, IsTrue, IfOk, IfErr, OnOk, IfSome, IsSomeAnd};
+ghost use Rattle.std.specs.List.{All};
+ghost use Rattle.list_words.specs.Lists.{Each, Mem};
+ghost use Rattle.outside.specs.declared.store.DiskName.{DiskName};
+ghost use Rattle.outside.specs.declared.store.DiskName.TheVariants as name;
+ghost use Rattle.outside.specs.Faults.{Rose};
+ghost use Rattle.time_shards.specs.Shards.{IsTable};
+ghost use Rattle.air_bus.specs.History.{IsAired};
+ghost use Rattle.bus_seat.specs.Seats.{IsIn};
+ghost use Rattle.turn_defs.specs.Setting.{Setting, Checked};
+ghost use Rattle.photon_model.specs.Runs.{Disks};
+ghost use Rattle.gate_journal.specs.declared.journal.JournalState.TheVariants.{Ready};
+ghost use Rattle.log_records.specs.Check.{IsQueryLog};
+ghost use Rattle.dispatch_node.specs.Places.{IsLogOf, AreKeptPlaces};
+ghost use Rattle.registry_server.specs.Cores.{IsNew};
+ghost use Rattle.site_store.specs.Kinds.{offset_names, retry_names, server_names, replica_names, epoch_names_a, epoch_names_b, output_names_a, output_names_b};
+ghost use Rattle.site_store.specs.Lent.{MayBeLeft, lend, lend_all};
+ghost use Rattle.gate_journal.specs.Images.{GoesOn};
+ghost use Rattle.site_store.specs.Votes.{IsReadyVotes};
+ghost use Rattle.site_laws.specs.Stores.{IsSoundStore, SameRecords};
+ghost use Rattle.site_store.specs.Leaving.{behind};
+ghost use Rattle.site_store.specs.Causes.{LeavesSomething};
+ghost use Rattle.site_run.specs.Running.{AreDownOver};
+ghost use Rattle.site_run.specs.Naming.{as_lent, all_from};
+ghost use Rattle.site_run.specs.Placed.{disks_over};
+ghost use Rattle.site_run.specs.Laws.{KeepsItsRecord};
+ghost use Rattle.site_run.specs.Asked.{OfSetting, IsSettingOver, IsRosterOf};
+ghost use Rattle.site_run.specs.Out.{AreOut};
+ghost use Rattle.site_run.specs.Left.{HasRun, HasRested, RunLeft, RestLeft};
+ghost use Rattle.site_run.specs.Causes.{IsCounted, IsWelcome, IsWelcomeWhere, of_place};
+ghost use Rattle.site_run.specs.Refused.{HasPassed, IsCauseOf, IsOfRun, NamesEnded};
+
+use crate::built::{Built, Logs, Parting, Room, build};
+use crate::causes::fault_of_refusal;
+use crate::disk_laws::{all_held, all_met};
+use crate::nodes::{AnyNode, SystemNode};
+use crate::settle::give_parts;
+use crate::sources::{open_logs, shut_logs};
+use crate::system::run_system;
+use crate::{Config, Names, Outcome, Ran, RunFault, StorePlace};
+use lossy_link::Plan;
+use outside::{Gate, Source, Store, StoreFault};
+use site_laws::stores::topology_first;
+use site_node::SiteNode;
+use site_store::{LentDisk, Opened, SiteDisks, open_store};
+use std::alloc::Global;
+use std::sync::Wait;
+use std::thread::Threads;
+use topology_journal::Topology;
+
+/// Runs both sites over the store in this directory, on a thread a node, until all nodes are at rest or one has a fault, and reads
+/// back what its disks keep then. `end` is the end of the click log's last whole line. All logs and disks are given back at every
+/// return, and `ran` gets what the run leaves, nothing where none began.
+///
+/// It opens the click log twice and the query log once for each joiner, and takes a thread for each of the 7 nodes and of the
+/// joiners. The history takes memory linear in the packets that are sent.
+///
+/// What is said of the disks is said where the disks and the logs tell what they hold.
+pub fn run_sites<R, F, S, G>(
+    rt: &R,
+    alloc: Global,
+    config: &Config,
+    names: &Names<'_>,
+    end: u64,
+    files: &mut F,
+    store: &mut S,
+    plan: Plan,
+    gate: &G,
+    ran: &mut Ran,
+) -> Result<Outcome, RunFault>
+where
+    R: Threads + Wait + Sync,
+    F: Source,
+    S: Store,
+    G: Gate,
+    F::Log: Drop,
+    S::Disk: Drop,
+    requires joiners { (0 < config.now.joiners) × (config.now.joiners ≤ 4) }
+    requires table { IsTable config.now.table }
+    requires batch { config.now.batch ≤ 64 }
+
+    // A sound store stays sound, and no disk's records are lost, at every return.
+    ensures sound { IsTrue S.Disk.tells → IsTrue F.Log.tells → OfSetting (F.bytes files.old) names.now.queries.now names.now.clicks.now config.now end (λ g. IsSoundStore g (S.image store.old) → IsSoundStore g (S.image store.new)) }
+    ensures grown { IsTrue S.Disk.tells → IsTrue F.Log.tells → OfSetting (F.bytes files.old) names.now.queries.now names.now.clicks.now config.now end (λ g. (disk : DiskName) → GoesOn (S.image store.old disk) (S.image store.new disk)) }
+
+    // Where a run began, its history is one of the whole system, from what the disks kept when they were opened.
+    ensures left { IsTrue S.Disk.tells → IsTrue F.Log.tells → OfSetting (F.bytes files.old) names.now.queries.now names.now.clicks.now config.now end (λ g. IfSome ran.new.log (λ l. RunLeft g (S.image store.old) (S.image store.new) l.air.history)) }
+    // Where it ends well all nodes have come to rest, and the journals are what the disks keep.
+    ensures rest { IsTrue S.Disk.tells → IsTrue F.Log.tells → OfSetting (F.bytes files.old) names.now.queries.now names.now.clicks.now config.now end (λ g. IfOk result (λ outcome. IsSomeAnd ran.new.log (λ l. RestLeft g (S.image store.old) (S.image store.new) l.air.history (Rose (S.faults store.old) (S.faults store.new)) outcome.journals))) }
+    // The history begins with all that was seen with a seat, and has of its number just what was made with it; each packet that a
+    // node took is the next of those that the plan leaves of what was sent.
+    ensures lists { IfSome ran.new.log (λ l. All (IsIn l.air.history) l.seen.items) }
+    ensures aired { IfSome ran.new.log (λ l. IsAired plan l.air.kinds l.air.history) }
+
+    // Why it gives up, and that what the disks kept can be run where it doesn't. A fault that names a node is of one that stopped eight
+    // times, or couldn't be reopened. A sound store isn't refused for the table or the places that it keeps, nor, where a stop leaves
+    // something of each disk, for its number of joiners or for a damaged disk.
+    ensures cause { IfErr result (IsCounted (Rose (F.faults files.old) (F.faults files.new)) (Rose (S.faults store.old) (S.faults store.new))) }
+    ensures welcome { IsTrue S.Disk.tells → IsTrue F.Log.tells → OfSetting (F.bytes files.old) names.now.queries.now names.now.clicks.now config.now end (λ g. IsSoundStore g (S.image store.old) → IfErr result (IsWelcomeWhere ((s : S) → LeavesSomething g (S.image s)))) }
+    ensures refused { IsTrue S.Disk.tells → IsTrue F.Log.tells → OfSetting (F.bytes files.old) names.now.queries.now names.now.clicks.now config.now end (λ g. IfErr result (IsCauseOf g (S.image store.old) (Rose (F.faults files.old) (F.faults files.new)) (Rose (S.faults store.old) (S.faults store.new)))) }
+    ensures passed { IsTrue S.Disk.tells → IsTrue F.Log.tells → OfSetting (F.bytes files.old) names.now.queries.now names.now.clicks.now config.now end (λ g. OnOk result (HasPassed g (S.image store.old))) }
+    ensures stopped { IfErr result (NamesEnded ran.new.log) }
+    ensures same { IsTrue F.Log.tells → (n : List ℕ) → F.bytes files.new n ≡ F.bytes files.old n }
+    ensures file_count { F.faults files.old ≤ F.faults files.new }
+    ensures store_count { S.faults store.old ≤ S.faults store.new }
+{
+    photon_model::stores();
+    ran.log = None;
+    let Ok(room) = Room::new(alloc, config.joiners) else {
+        return Err(RunFault::Memory);
+    };
+    let logs = match open_logs(alloc, files, names, config.joiners) {
+        Ok(logs) => logs,
+        Err(fault) => return Err(fault),
+    };
+    if let Err(fault) = store.place(alloc, names.state) {
+        shut_logs(files, logs);
+        return Err(not_placed(fault));
+    }
+    run_over(
+        rt, alloc, config, end, files, store, plan, gate, ran, logs, room,
+    )
+}
+
+fn not_placed(fault: StoreFault) -> RunFault
+    ensures { result ≡ of_place fault }
+{
+    match fault {
+        StoreFault::Disk => RunFault::Store(StorePlace::Directory),
+        StoreFault::Memory => RunFault::Memory,
+    }
+}
+
+// Takes the last of some logs out.
+fn take_last<L>(logs: &mut Vec<L>) -> L
+    requires { 0 < vec_len logs.old }
+    ensures items { logs.old.items ≡ logs.new.items ++ result ∷ [] }
+    ensures room { vec_len logs.new < vec_capacity logs.new }
+{
+    let Some(log) = logs.pop() else {
+        unreachable!()
+    };
+    log
+}
+
+// Opens the store, and runs both sites over it.
+fn run_over<R, F, S, G>(
+    rt: &R,
+    alloc: Global,
+    config: &Config,
+    end: u64,
+    files: &mut F,
+    store: &mut S,
+    plan: Plan,
+    gate: &G,
+    ran: &mut Ran,
+    logs: Logs<F::Log>,
+    room: Room<S::Disk, F::Log>,
+) -> Result<Outcome, RunFault>
+where
+    R: Threads + Wait + Sync,
+    F: Source,
+    S: Store,
+    G: Gate,
+    F::Log: Drop,
+    S::Disk: Drop,
+    requires joiners { (0 < config.now.joiners) × (config.now.joiners ≤ 4) }
+    requires table { IsTable config.now.table }
+    requires batch { config.now.batch ≤ 64 }
+    requires node_room { (room.nodes.items ≡ []) × (7 + 2 * config.now.joiners ≤ vec_capacity room.nodes) }
+    requires disk_room { (room.parts.disks.items ≡ []) × (15 + 4 * config.now.joiners ≤ vec_capacity room.parts.disks) }
+    requires log_room { (room.parts.logs.items ≡ []) × (7 + 2 * config.now.joiners ≤ vec_capacity room.parts.logs) }
+    requires clicks { length logs.clicks.items ≡ 2 }
+    requires queries { (length logs.queries_a.items ≡ config.now.joiners) × (length logs.queries_b.items ≡ config.now.joiners) }
+    requires none { ran.old.log ≡ None }
+    ensures sound { IsTrue S.Disk.tells → IsTrue F.Log.tells → (g : Setting) → Checked g → IsSettingOver F.Log.bytes logs.clicks.items logs.queries_a.items logs.queries_b.items config.now end g → IsSoundStore g (S.image store.old) → IsSoundStore g (S.image store.new) }
+    ensures grown { IsTrue S.Disk.tells → IsTrue F.Log.tells → (g : Setting) → IsSettingOver F.Log.bytes logs.clicks.items logs.queries_a.items logs.queries_b.items config.now end g → (disk : DiskName) → GoesOn (S.image store.old disk) (S.image store.new disk) }
+    ensures left { IsTrue S.Disk.tells → IsTrue F.Log.tells → (g : Setting) → IsSettingOver F.Log.bytes logs.clicks.items logs.queries_a.items logs.queries_b.items config.now end g → IfSome ran.new.log (λ l. RunLeft g (S.image store.old) (S.image store.new) l.air.history) }
+    ensures rest { IsTrue S.Disk.tells → IsTrue F.Log.tells → (g : Setting) → IsSettingOver F.Log.bytes logs.clicks.items logs.queries_a.items logs.queries_b.items config.now end g → IfOk result (λ outcome. IsSomeAnd ran.new.log (λ l. RestLeft g (S.image store.old) (S.image store.new) l.air.history (Rose (S.faults store.old) (S.faults store.new)) outcome.journals)) }
+    ensures lists { IfSome ran.new.log (λ l. All (IsIn l.air.history) l.seen.items) }
+    ensures aired { IfSome ran.new.log (λ l. IsAired plan l.air.kinds l.air.history) }
+    ensures cause { IfErr result (IsCounted (Rose (F.faults files.old) (F.faults files.new)) (Rose (S.faults store.old) (S.faults store.new))) }
+    ensures welcome { IsTrue S.Disk.tells → IsTrue F.Log.tells → (g : Setting) → IsSettingOver F.Log.bytes logs.clicks.items logs.queries_a.items logs.queries_b.items config.now end g → IsSoundStore g (S.image store.old) → IfErr result (IsWelcomeWhere (LeavesSomething g (S.image store.old))) }
+    ensures refused { IsTrue S.Disk.tells → IsTrue F.Log.tells → (g : Setting) → IsSettingOver F.Log.bytes logs.clicks.items logs.queries_a.items logs.queries_b.items config.now end g → IfErr result (IsCauseOf g (S.image store.old) (Rose (F.faults files.old) (F.faults files.new)) (Rose (S.faults store.old) (S.faults store.new))) }
+    ensures passed { IsTrue S.Disk.tells → IsTrue F.Log.tells → (g : Setting) → IsSettingOver F.Log.bytes logs.clicks.items logs.queries_a.items logs.queries_b.items config.now end g → OnOk result (HasPassed g (S.image store.old)) }
+    ensures stopped { IfErr result (NamesEnded ran.new.log) }
+    ensures same { IsTrue F.Log.tells → (n : List ℕ) → F.bytes files.new n ≡ F.bytes files.old n }
+    ensures file_count { F.faults files.old ≤ F.faults files.new }
+    ensures store_count { S.faults store.old ≤ S.faults store.new }
+{
+    topology_first::<S>();
+    site_laws::stores::run::<S>();
+    let asked = Topology {
+        joiners: config.joiners,
+        table: config.table,
+    };
+    let mut logs = logs;
+    let mut read = take_last(&mut logs.clicks);
+    match open_store(alloc, store, asked, &mut read, end) {
+        Ok(disks) => {
+            logs.clicks.push_reserved(read);
+            run_opened(
+                rt, alloc, config, files, store, plan, gate, ran, disks, logs, room,
+            )
+        }
+        Err(refusal) => {
+            logs.clicks.push_reserved(read);
+            shut_logs(files, logs);
+            Err(fault_of_refusal(refusal))
+        }
+    }
+}
+
+// Builds the nodes, runs them, and gives all back.
+fn run_opened<R, F, S, G>(
+    rt: &R,
+    alloc: Global,
+    config: &Config,
+    files: &mut F,
+    store: &mut S,
+    plan: Plan,
+    gate: &G,
+    ran: &mut Ran,
+    disks: SiteDisks<S::Disk>,
+    logs: Logs<F::Log>,
+    room: Room<S::Disk, F::Log>,
+) -> Result<Outcome, RunFault>
+where
+    R: Threads + Wait + Sync,
+    F: Source,
+    S: Store,
+    G: Gate,
+    F::Log: Drop,
+    S::Disk: Drop,
+    requires joiners { (0 < config.now.joiners) × (config.now.joiners ≤ 4) }
+    requires batch { config.now.batch ≤ 64 }
+    requires node_room { (room.nodes.items ≡ []) × (7 + 2 * config.now.joiners ≤ vec_capacity room.nodes) }
+    requires disk_room { (room.parts.disks.items ≡ []) × (15 + 4 * config.now.joiners ≤ vec_capacity room.parts.disks) }
+    requires log_room { (room.parts.logs.items ≡ []) × (7 + 2 * config.now.joiners ≤ vec_capacity room.parts.logs) }
+    requires offsets { (map (λ o. o.name) disks.offsets.items ≡ offset_names) × Each (λ o. o.journal.journal.state ≡ Ready) disks.offsets.items }
+    requires retries { (map (λ r. r.name) disks.retries.items ≡ retry_names) × Each (λ r. r.journal.journal.state ≡ Ready) disks.retries.items }
+    requires servers { (map (λ e. e.name) disks.servers.items ≡ server_names) × Each (λ e. e.journal.journal.state ≡ Ready) disks.servers.items }
+    requires replicas { (map (λ v. v.name) disks.replicas.items ≡ replica_names) × Each (λ v. IsReadyVotes S.Disk.tells (S.Disk.seen v.journal.journal.disk) v.journal.journal.state v.journal.notes.items) disks.replicas.items }
+    requires epochs_a { (map (λ e. e.name) disks.epochs_a.items ≡ take config.now.joiners epoch_names_a) × Each (λ e. e.journal.journal.state ≡ Ready) disks.epochs_a.items }
+    requires epochs_b { (map (λ e. e.name) disks.epochs_b.items ≡ take config.now.joiners epoch_names_b) × Each (λ e. e.journal.journal.state ≡ Ready) disks.epochs_b.items }
+    requires outputs_a { (map (λ o. o.name) disks.outputs_a.items ≡ take config.now.joiners output_names_a) × Each (λ o. o.journal.journal.state ≡ Ready) disks.outputs_a.items }
+    requires outputs_b { (map (λ o. o.name) disks.outputs_b.items ≡ take config.now.joiners output_names_b) × Each (λ o. o.journal.journal.state ≡ Ready) disks.outputs_b.items }
+    requires clicks { length logs.clicks.items ≡ 2 }
+    requires queries { (length logs.queries_a.items ≡ config.now.joiners) × (length logs.queries_b.items ≡ config.now.joiners) }
+    requires places { 10 + 4 * config.now.joiners ≤ S.places_left store.old }
+    requires named { disks.topology.name ≡ name.Topology }
+    requires none { ran.old.log ≡ None }
+    // Where no run began each disk is given back as it was.
+    ensures idle { IsTrue S.Disk.tells → ran.new.log ≡ None → (disk : DiskName) (c : List ℕ) → S.image store.new disk c → MayBeLeft S.Disk.image (S.image store.old) ((lend (λ t. t.journal.disk) disks.topology) ∷ (behind
+        (lend_all (λ o. o.journal.disk) disks.offsets.items)
+        (lend_all (λ r. r.journal.disk) disks.retries.items)
+        (lend_all (λ e. e.journal.disk) disks.servers.items)
+        (lend_all (λ v. v.journal.disk) disks.replicas.items)
+        (lend_all (λ e. e.journal.disk) disks.epochs_a.items)
+        (lend_all (λ e. e.journal.disk) disks.epochs_b.items)
+        (lend_all (λ o. o.journal.disk) disks.outputs_a.items)
+        (lend_all (λ o. o.journal.disk) disks.outputs_b.items))) disk c }
+    ensures grown { IsTrue S.Disk.tells → IsTrue F.Log.tells → (g : Setting) → IsNew g config.now.joiners config.now.horizon config.now.table config.now.batch → Each (λ l. IsLogOf (F.Log.bytes l) g) logs.clicks.items → Each (λ l. IsQueryLog (F.Log.bytes l) g.queries) logs.queries_a.items → Each (λ l. IsQueryLog (F.Log.bytes l) g.queries) logs.queries_b.items
+        → let opened = (disks_over (record {
+          offsets = map (λ o. o.journal.offset) disks.offsets.items;
+          pendings = map (λ r. r.journal.pending.keys) disks.retries.items;
+          epochs = map (λ e. e.journal.epoch) disks.servers.items;
+          notes = map (λ v. v.journal.notes.items) disks.replicas.items;
+          joiner_epochs = map (λ e. e.journal.epoch) disks.epochs_a.items ++ map (λ e. e.journal.epoch) disks.epochs_b.items;
+          joiner_pairs = map (λ o. o.journal.pairs.items) disks.outputs_a.items ++ map (λ o. o.journal.pairs.items) disks.outputs_b.items;
+        })) in ((s : ℕ) → s < 2 → AreKeptPlaces g (opened.dispatchers s)) → (s : S) → AreOut S.Disk.image (S.image s) (S.image store.old) (lend (λ t. t.journal.disk) disks.topology) (behind
+        (lend_all (λ o. o.journal.disk) disks.offsets.items)
+        (lend_all (λ r. r.journal.disk) disks.retries.items)
+        (lend_all (λ e. e.journal.disk) disks.servers.items)
+        (lend_all (λ v. v.journal.disk) disks.replicas.items)
+        (lend_all (λ e. e.journal.disk) disks.epochs_a.items)
+        (lend_all (λ e. e.journal.disk) disks.epochs_b.items)
+        (lend_all (λ o. o.journal.disk) disks.outputs_a.items)
+        (lend_all (λ o. o.journal.disk) disks.outputs_b.items)) → (disk : DiskName) → GoesOn (S.image s disk) (S.image store.new disk) }
+    ensures left { IsTrue S.Disk.tells → IsTrue F.Log.tells → (g : Setting) → IsNew g config.now.joiners config.now.horizon config.now.table config.now.batch → Each (λ l. IsLogOf (F.Log.bytes l) g) logs.clicks.items → Each (λ l. IsQueryLog (F.Log.bytes l) g.queries) logs.queries_a.items → Each (λ l. IsQueryLog (F.Log.bytes l) g.queries) logs.queries_b.items
+        → let opened = (disks_over (record {
+          offsets = map (λ o. o.journal.offset) disks.offsets.items;
+          pendings = map (λ r. r.journal.pending.keys) disks.retries.items;
+          epochs = map (λ e. e.journal.epoch) disks.servers.items;
+          notes = map (λ v. v.journal.notes.items) disks.replicas.items;
+          joiner_epochs = map (λ e. e.journal.epoch) disks.epochs_a.items ++ map (λ e. e.journal.epoch) disks.epochs_b.items;
+          joiner_pairs = map (λ o. o.journal.pairs.items) disks.outputs_a.items ++ map (λ o. o.journal.pairs.items) disks.outputs_b.items;
+        })) in ((s : ℕ) → s < 2 → AreKeptPlaces g (opened.dispatchers s)) → (d : Disks) → SameRecords g opened d → KeepsItsRecord S.Disk.image g (lend (λ t. t.journal.disk) disks.topology) → IfSome ran.new.log (λ l. HasRun g d l.air.history (S.image store.new)) }
+    ensures rest { IsTrue S.Disk.tells → IsTrue F.Log.tells → (g : Setting) → IsNew g config.now.joiners config.now.horizon config.now.table config.now.batch → Each (λ l. IsLogOf (F.Log.bytes l) g) logs.clicks.items → Each (λ l. IsQueryLog (F.Log.bytes l) g.queries) logs.queries_a.items → Each (λ l. IsQueryLog (F.Log.bytes l) g.queries) logs.queries_b.items
+        → let opened = (disks_over (record {
+          offsets = map (λ o. o.journal.offset) disks.offsets.items;
+          pendings = map (λ r. r.journal.pending.keys) disks.retries.items;
+          epochs = map (λ e. e.journal.epoch) disks.servers.items;
+          notes = map (λ v. v.journal.notes.items) disks.replicas.items;
+          joiner_epochs = map (λ e. e.journal.epoch) disks.epochs_a.items ++ map (λ e. e.journal.epoch) disks.epochs_b.items;
+          joiner_pairs = map (λ o. o.journal.pairs.items) disks.outputs_a.items ++ map (λ o. o.journal.pairs.items) disks.outputs_b.items;
+        })) in ((s : ℕ) → s < 2 → AreKeptPlaces g (opened.dispatchers s)) → (d : Disks) → SameRecords g opened d → KeepsItsRecord S.Disk.image g (lend (λ t. t.journal.disk) disks.topology) → IfOk result (λ outcome. IsSomeAnd ran.new.log (λ l. HasRested g d l.air.history (S.image store.new) (Rose (S.faults store.old) (S.faults store.new)) outcome.journals)) }
+    ensures lists { IfSome ran.new.log (λ l. All (IsIn l.air.history) l.seen.items) }
+    ensures aired { IfSome ran.new.log (λ l. IsAired plan l.air.kinds l.air.history) }
+    ensures cause { IfErr result (IsCounted (Rose (F.faults files.old) (F.faults files.new)) (Rose (S.faults store.old) (S.faults store.new))) }
+    ensures welcome { IfErr result IsWelcome }
+    ensures whole { IsTrue S.Disk.tells → IsTrue F.Log.tells → (g : Setting) → IsNew g config.now.joiners config.now.horizon config.now.table config.now.batch → Each (λ l. IsLogOf (F.Log.bytes l) g) logs.clicks.items → Each (λ l. IsQueryLog (F.Log.bytes l) g.queries) logs.queries_a.items → Each (λ l. IsQueryLog (F.Log.bytes l) g.queries) logs.queries_b.items
+        → let opened = (disks_over (record {
+          offsets = map (λ o. o.journal.offset) disks.offsets.items;
+          pendings = map (λ r. r.journal.pending.keys) disks.retries.items;
+          epochs = map (λ e. e.journal.epoch) disks.servers.items;
+          notes = map (λ v. v.journal.notes.items) disks.replicas.items;
+          joiner_epochs = map (λ e. e.journal.epoch) disks.epochs_a.items ++ map (λ e. e.journal.epoch) disks.epochs_b.items;
+          joiner_pairs = map (λ o. o.journal.pairs.items) disks.outputs_a.items ++ map (λ o. o.journal.pairs.items) disks.outputs_b.items;
+        })) in ((s : ℕ) → s < 2 → AreKeptPlaces g (opened.dispatchers s)) → KeepsItsRecord S.Disk.image g (lend (λ t. t.journal.disk) disks.topology) → IfErr result (IsOfRun g opened (Rose (S.faults store.old) (S.faults store.new))) }
+    ensures stopped { IfErr result (NamesEnded ran.new.log) }
+    ensures same { IsTrue F.Log.tells → (n : List ℕ) → F.bytes files.new n ≡ F.bytes files.old n }
+    ensures file_count { F.faults files.old ≤ F.faults files.new }
+    ensures store_count { S.faults store.old ≤ S.faults store.new }
+{
+    match build(alloc, config, disks, logs, room) {
+        Ok(built) => run_built(
+            rt,
+            alloc,
+            config.joiners,
+            files,
+            store,
+            plan,
+            gate,
+            ran,
+            built,
+        ),
+        Err(parts) => {
+            give_parts(files, store, parts);
+            Err(RunFault::Memory)
+        }
+    }
+}
+
+// Runs the nodes, and gives all back.
+fn run_built<R, F, S, G>(
+    rt: &R,
+    alloc: Global,
+    joiners: u8,
+    files: &mut F,
+    store: &mut S,
+    plan: Plan,
+    gate: &G,
+    ran: &mut Ran,
+    built: Built<S::Disk, F::Log>,
+) -> Result<Outcome, RunFault>
+where
+    R: Threads + Wait + Sync,
+    F: Source,
+    S: Store,
+    G: Gate,
+    F::Log: Drop,
+    S::Disk: Drop,
+    requires joiners { (0 < joiners) × (joiners ≤ 4) }
+    requires count { length built.nodes.items ≡ 7 + 2 * joiners }
+    requires numbers { (i : ℕ) (d : _) → i < length built.nodes.items → ⟦<AnyNode<S::Disk, F::Log> as SiteNode>⟧.number (slice_index_or built.nodes.items i d) ≡ i }
+    requires up { All (λ n. ⟦<AnyNode<S::Disk, F::Log> as SiteNode>⟧.waits n ≡ false) built.nodes.items }
+    requires empty { (built.parts.disks.items ≡ []) × (built.parts.logs.items ≡ []) }
+    requires room { (15 + 4 * joiners ≤ vec_capacity built.parts.disks) × (7 + 2 * joiners ≤ vec_capacity built.parts.logs) }
+    requires places { 10 + 4 * joiners ≤ S.places_left store.old }
+    requires disks { 1 + length (all_from (⟦<AnyNode<S::Disk, F::Log> as Parting<S::Disk, F::Log>>⟧.disks_of joiners) 0 built.nodes.items) ≤ 10 + 4 * joiners }
+    requires named { built.topology.name ≡ name.Topology }
+    requires none { ran.old.log ≡ None }
+    // Where no run began each disk is given back as it was.
+    ensures idle { IsTrue S.Disk.tells → ran.new.log ≡ None → (disk : DiskName) (c : List ℕ) → S.image store.new disk c → MayBeLeft S.Disk.image (S.image store.old) ((lend (λ t. t.journal.disk) built.topology) ∷ (all_from (⟦<AnyNode<S::Disk, F::Log> as Parting<S::Disk, F::Log>>⟧.disks_of joiners) 0 built.nodes.items)) disk c }
+    ensures grown { IsTrue S.Disk.tells → IsTrue F.Log.tells → (g : Setting) (d : Disks) (s : S) → IsRosterOf g joiners → AreDownOver ⟦<AnyNode<S::Disk, F::Log> as SystemNode>⟧.places g d built.nodes.items
+        → AreOut S.Disk.image (S.image s) (S.image store.old) (lend (λ t. t.journal.disk) built.topology) (all_from (⟦<AnyNode<S::Disk, F::Log> as Parting<S::Disk, F::Log>>⟧.disks_of joiners) 0 built.nodes.items) → (disk : DiskName) → GoesOn (S.image s disk) (S.image store.new disk) }
+    ensures left { IsTrue S.Disk.tells → IsTrue F.Log.tells → (g : Setting) (d e : Disks) → IsRosterOf g joiners → AreDownOver ⟦<AnyNode<S::Disk, F::Log> as SystemNode>⟧.places g d built.nodes.items
+        → SameRecords g d e → KeepsItsRecord S.Disk.image g (lend (λ t. t.journal.disk) built.topology) → IfSome ran.new.log (λ l. HasRun g e l.air.history (S.image store.new)) }
+    ensures rest { IsTrue S.Disk.tells → IsTrue F.Log.tells → (g : Setting) (d e : Disks) → IsRosterOf g joiners → AreDownOver ⟦<AnyNode<S::Disk, F::Log> as SystemNode>⟧.places g d built.nodes.items
+        → SameRecords g d e → KeepsItsRecord S.Disk.image g (lend (λ t. t.journal.disk) built.topology) → IfOk result (λ outcome. IsSomeAnd ran.new.log (λ l. HasRested g e l.air.history (S.image store.new) (Rose (S.faults store.old) (S.faults store.new)) outcome.journals)) }
+    ensures lists { IfSome ran.new.log (λ l. All (IsIn l.air.history) l.seen.items) }
+    ensures aired { IfSome ran.new.log (λ l. IsAired plan l.air.kinds l.air.history) }
+    ensures cause { IfErr result (IsCounted (Rose (F.faults files.old) (F.faults files.new)) (Rose (S.faults store.old) (S.faults store.new))) }
+    ensures welcome { IfErr result IsWelcome }
+    ensures whole { IsTrue S.Disk.tells → IsTrue F.Log.tells → (g : Setting) (d : Disks) → IsRosterOf g joiners → AreDownOver ⟦<AnyNode<S::Disk, F::Log> as SystemNode>⟧.places g d built.nodes.items
+        → KeepsItsRecord S.Disk.image g (lend (λ t. t.journal.disk) built.topology) → IfErr result (IsOfRun g d (Rose (S.faults store.old) (S.faults store.new))) }
+    ensures stopped { IfErr result (NamesEnded ran.new.log) }
+    ensures same { IsTrue F.Log.tells → (n : List ℕ) → F.bytes files.new n ≡ F.bytes files.old n }
+    ensures file_count { F.faults files.old ≤ F.faults files.new }
+    ensures store_count { S.faults store.old ≤ S.faults store.new }
+{
+    all_held::<S::Disk, F::Log>();
+    all_met::<S::Disk, F::Log>();
+    let Built {
+        topology,
+        nodes,
+        parts,
+    } = built;
+    let Opened { name, journal } = topology;
+    let topology = LentDisk {
+        name,
+        disk: journal.into_disk(),
+    };
+    run_system(
+        rt, alloc, joiners, files, store, plan, gate, ran, topology, nodes, parts,
+    )
+}

@@ -1,0 +1,151 @@
+// The logs of a run.
+ghost use Rattle.std.specs.Prelude.{◌≡◌, ◌≤◌, ◌≢◌, List, ℕ, [], Some, length, vec_len, vec_capacity, IsTrue, IfOk, IfErr, OnOk};
+ghost use Rattle.outside.specs.Faults.{Rose};
+ghost use Rattle.list_words.specs.Lists.{Each, Mem};
+ghost use Rattle.site_run.specs.Logs.{IsOfLogs};
+
+use crate::built::Logs;
+use crate::{LogName, Names, RunFault};
+use outside::{OpenFault, Source};
+use std::alloc::Global;
+
+/// Shuts logs.
+pub(crate) fn shut_all<F: Source>(files: &mut F, logs: Vec<F::Log>)
+    ensures rose { (l : F.Log) → Mem l logs.items → 1 ≤ F.Log.faults l → Rose (F.faults files.old) (F.faults files.new) }
+    ensures same { IsTrue F.Log.tells → (n : List ℕ) → F.bytes files.new n ≡ F.bytes files.old n }
+    ensures count { F.faults files.old ≤ F.faults files.new }
+{
+    let mut logs = logs;
+    while let Some(log) = logs.pop() {
+        files.shut(log);
+    }
+    logs.destroy_empty();
+}
+
+// Opens one of the logs.
+fn open_one<F: Source>(
+    alloc: Global,
+    files: &mut F,
+    log: LogName,
+    path: &str,
+) -> Result<F::Log, RunFault>
+    ensures opened { IsTrue F.Log.tells → IfOk result (λ l. F.bytes files.old path.now ≡ Some (F.Log.bytes l)) }
+    ensures same { IsTrue F.Log.tells → (n : List ℕ) → F.bytes files.new n ≡ F.bytes files.old n }
+    ensures cause { IfErr result (IsOfLogs (Rose (F.faults files.old) (F.faults files.new))) }
+    ensures count { F.faults files.old ≤ F.faults files.new }
+{
+    match files.open(alloc, path) {
+        Ok(opened) => Ok(opened),
+        Err(OpenFault::Read) => Err(RunFault::Read(log)),
+        Err(OpenFault::Memory) => Err(RunFault::Memory),
+    }
+}
+
+// Opens one of the logs so many times, behind those that are open.
+fn open_behind<F: Source>(
+    alloc: Global,
+    files: &mut F,
+    log: LogName,
+    path: &str,
+    times: u8,
+    logs: &mut Vec<F::Log>,
+) -> Result<(), RunFault>
+    requires empty { logs.old.items ≡ [] }
+    requires room { times ≤ vec_capacity logs.old }
+    ensures count { OnOk result (length logs.new.items ≡ times) }
+    ensures opened { IsTrue F.Log.tells → Each (λ l. F.bytes files.old path.now ≡ Some (F.Log.bytes l)) logs.new.items }
+    ensures same { IsTrue F.Log.tells → (n : List ℕ) → F.bytes files.new n ≡ F.bytes files.old n }
+    ensures cause { IfErr result (IsOfLogs (Rose (F.faults files.old) (F.faults files.new))) }
+    ensures faults { F.faults files.old ≤ F.faults files.new }
+{
+    for _ in 0..times {
+        match open_one(alloc, files, log, path) {
+            Ok(opened) => logs.push_reserved(opened),
+            Err(fault) => return Err(fault),
+        }
+    }
+    Ok(())
+}
+
+// Opens one of the logs so many times. Where it isn't all are shut.
+fn open_times<F: Source>(
+    alloc: Global,
+    files: &mut F,
+    log: LogName,
+    path: &str,
+    times: u8,
+) -> Result<Vec<F::Log>, RunFault>
+    ensures count { IfOk result (λ logs. length logs.items ≡ times) }
+    ensures opened { IsTrue F.Log.tells → IfOk result (λ logs. Each (λ l. F.bytes files.old path.now ≡ Some (F.Log.bytes l)) logs.items) }
+    ensures same { IsTrue F.Log.tells → (n : List ℕ) → F.bytes files.new n ≡ F.bytes files.old n }
+    ensures cause { IfErr result (IsOfLogs (Rose (F.faults files.old) (F.faults files.new))) }
+    ensures faults { F.faults files.old ≤ F.faults files.new }
+{
+    let Ok(mut logs) = Vec::with_capacity(alloc, usize::from(times)) else {
+        return Err(RunFault::Memory);
+    };
+    match open_behind(alloc, files, log, path, times, &mut logs) {
+        Ok(()) => Ok(logs),
+        Err(fault) => {
+            shut_all(files, logs);
+            Err(fault)
+        }
+    }
+}
+
+/// Opens the click log for each site and the query log for each joiner. Where one isn't opened all are shut.
+pub(crate) fn open_logs<F: Source>(
+    alloc: Global,
+    files: &mut F,
+    names: &Names<'_>,
+    joiners: u8,
+) -> Result<Logs<F::Log>, RunFault>
+    ensures clicks { IfOk result (λ logs. length logs.clicks.items ≡ 2) }
+    ensures queries { IfOk result (λ logs. (length logs.queries_a.items ≡ joiners) × (length logs.queries_b.items ≡ joiners)) }
+    ensures click_logs { IsTrue F.Log.tells → IfOk result (λ logs. Each (λ l. F.bytes files.old names.now.clicks.now ≡ Some (F.Log.bytes l)) logs.clicks.items) }
+    ensures logs_a { IsTrue F.Log.tells → IfOk result (λ logs. Each (λ l. F.bytes files.old names.now.queries.now ≡ Some (F.Log.bytes l)) logs.queries_a.items) }
+    ensures logs_b { IsTrue F.Log.tells → IfOk result (λ logs. Each (λ l. F.bytes files.old names.now.queries.now ≡ Some (F.Log.bytes l)) logs.queries_b.items) }
+    ensures same { IsTrue F.Log.tells → (n : List ℕ) → F.bytes files.new n ≡ F.bytes files.old n }
+    ensures cause { IfErr result (IsOfLogs (Rose (F.faults files.old) (F.faults files.new))) }
+    ensures faults { F.faults files.old ≤ F.faults files.new }
+{
+    let clicks = match open_times(alloc, files, LogName::Clicks, names.clicks, 2) {
+        Ok(clicks) => clicks,
+        Err(fault) => return Err(fault),
+    };
+    let queries_a = match open_times(alloc, files, LogName::Queries, names.queries, joiners) {
+        Ok(queries) => queries,
+        Err(fault) => {
+            shut_all(files, clicks);
+            return Err(fault);
+        }
+    };
+    match open_times(alloc, files, LogName::Queries, names.queries, joiners) {
+        Ok(queries_b) => Ok(Logs {
+            clicks,
+            queries_a,
+            queries_b,
+        }),
+        Err(fault) => {
+            shut_all(files, clicks);
+            shut_all(files, queries_a);
+            Err(fault)
+        }
+    }
+}
+
+/// Shuts all logs.
+pub(crate) fn shut_logs<F: Source>(files: &mut F, logs: Logs<F::Log>)
+    ensures clicks { (l : F.Log) → Mem l logs.clicks.items → 1 ≤ F.Log.faults l → Rose (F.faults files.old) (F.faults files.new) }
+    ensures same { IsTrue F.Log.tells → (n : List ℕ) → F.bytes files.new n ≡ F.bytes files.old n }
+    ensures count { F.faults files.old ≤ F.faults files.new }
+{
+    let Logs {
+        clicks,
+        queries_a,
+        queries_b,
+    } = logs;
+    shut_all(files, clicks);
+    shut_all(files, queries_a);
+    shut_all(files, queries_b);
+}

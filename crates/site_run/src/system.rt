@@ -1,0 +1,155 @@
+// The run of all nodes, of whatever kind they are.
+ghost use Rattle.std.specs.Prelude.{◌≡◌, ◌<◌, ◌≤◌, ◌+◌, ◌*◌, ◌∷◌, [], ℕ, List, None, length, slice_index_or, vec_capacity, false, IsTrue, IfOk, IfErr, IfSome, IsSomeAnd};
+ghost use Rattle.std.specs.List.{All};
+ghost use Rattle.outside.specs.declared.store.DiskName.{DiskName};
+ghost use Rattle.outside.specs.Faults.{Rose};
+ghost use Rattle.air_bus.specs.History.{IsAired};
+ghost use Rattle.bus_seat.specs.Seats.{IsIn};
+ghost use Rattle.turn_defs.specs.Setting.{Setting};
+ghost use Rattle.photon_model.specs.Runs.{Disks};
+ghost use Rattle.site_store.specs.Lent.{MayBeLeft};
+ghost use Rattle.gate_journal.specs.Images.{GoesOn};
+ghost use Rattle.site_laws.specs.Stores.{SameRecords};
+ghost use Rattle.site_run.specs.Running.{AreDownOver};
+ghost use Rattle.site_run.specs.Naming.{as_lent, all_from};
+ghost use Rattle.site_run.specs.Asked.{IsRosterOf};
+ghost use Rattle.site_run.specs.Causes.{IsCounted, IsWelcome};
+ghost use Rattle.site_run.specs.Refused.{IsOfRun, NamesEnded};
+ghost use Rattle.site_run.specs.Laws.{AreHeld, AreMet, KeepsItsRecord};
+ghost use Rattle.site_run.specs.Left.{HasRun, HasRested};
+ghost use Rattle.site_run.specs.Out.{AreOut};
+
+use crate::built::{Parting, Parts, apart};
+use crate::disk_laws::none_stops;
+use crate::nodes::{SystemNode, run_nodes};
+use crate::settle::{end_run, give_parts};
+use crate::{Outcome, Ran, RunFault, RunLog};
+use lossy_link::{Kind, Plan};
+use outside::{Gate, Source, Store};
+use site_laws::stores::{once, read};
+use site_store::LentDisk;
+use std::alloc::Global;
+use std::sync::Wait;
+use std::thread::Threads;
+
+// The kinds of all nodes, with four joiners a site.
+const KINDS: [Kind; 15] = [
+    Kind::Dispatcher,
+    Kind::Dispatcher,
+    Kind::Server,
+    Kind::Server,
+    Kind::Replica,
+    Kind::Replica,
+    Kind::Replica,
+    Kind::Joiner,
+    Kind::Joiner,
+    Kind::Joiner,
+    Kind::Joiner,
+    Kind::Joiner,
+    Kind::Joiner,
+    Kind::Joiner,
+    Kind::Joiner,
+];
+
+// The kinds of all nodes, with so many joiners a site.
+fn kinds(joiners: u8) -> &'static [Kind]
+    requires { joiners ≤ 4 }
+    ensures { length result.now ≡ 7 + 2 * joiners }
+{
+    &KINDS[..7 + 2 * usize::from(joiners)]
+}
+
+// How many disks a store has, with so many joiners a site.
+fn disk_count(joiners: u8) -> usize
+    requires { joiners ≤ 4 }
+    ensures { result ≡ 10 + 4 * joiners }
+{
+    10 + 4 * usize::from(joiners)
+}
+
+/// Runs nodes until all are at rest or one has a fault, takes them apart, reads the journals back, and gives all back with the
+/// topology's disk. `ran` gets the history, nothing where there was no memory to begin.
+pub(crate) fn run_system<R, F, S, G, N>(
+    rt: &R,
+    alloc: Global,
+    joiners: u8,
+    files: &mut F,
+    store: &mut S,
+    plan: Plan,
+    gate: &G,
+    ran: &mut Ran,
+    topology: LentDisk<S::Disk>,
+    nodes: Vec<N>,
+    parts: Parts<S::Disk, F::Log>,
+) -> Result<Outcome, RunFault>
+where
+    R: Threads + Wait + Sync,
+    F: Source,
+    S: Store,
+    G: Gate,
+    N: SystemNode + Parting<S::Disk, F::Log> + Send + Drop,
+    S::Disk: Drop,
+    requires joiners { (0 < joiners) × (joiners ≤ 4) }
+    requires count { length nodes.items ≡ 7 + 2 * joiners }
+    requires numbers { (i : ℕ) (d : N) → i < length nodes.items → N.number (slice_index_or nodes.items i d) ≡ i }
+    requires up { All (λ n. N.waits n ≡ false) nodes.items }
+    requires empty { (parts.disks.items ≡ []) × (parts.logs.items ≡ []) }
+    requires room { (15 + 4 * joiners ≤ vec_capacity parts.disks) × (7 + 2 * joiners ≤ vec_capacity parts.logs) }
+    requires places { 10 + 4 * joiners ≤ S.places_left store.old }
+    requires disks { 1 + length (all_from (N.disks_of joiners) 0 nodes.items) ≤ 10 + 4 * joiners }
+    requires none { ran.old.log ≡ None }
+    // Where no run began each disk is given back as it was.
+    ensures idle { IsTrue S.Disk.tells → ran.new.log ≡ None → (disk : DiskName) (c : List ℕ) → S.image store.new disk c → MayBeLeft S.Disk.image (S.image store.old) (as_lent topology ∷ all_from (N.disks_of joiners) 0 nodes.items) disk c }
+    ensures grown { IsTrue S.Disk.tells → IsTrue N.tells → (g : Setting) (d : Disks) (s : S) → IsRosterOf g joiners → AreHeld S.Disk.image N.places N.grown N.disks_of → AreDownOver N.places g d nodes.items
+        → AreOut S.Disk.image (S.image s) (S.image store.old) (as_lent topology) (all_from (N.disks_of joiners) 0 nodes.items) → (disk : DiskName) → GoesOn (S.image s disk) (S.image store.new disk) }
+    ensures left { IsTrue S.Disk.tells → IsTrue N.tells → (g : Setting) (d e : Disks) → IsRosterOf g joiners → AreHeld S.Disk.image N.places N.grown N.disks_of → AreDownOver N.places g d nodes.items
+        → SameRecords g d e → KeepsItsRecord S.Disk.image g (as_lent topology) → IfSome ran.new.log (λ l. HasRun g e l.air.history (S.image store.new)) }
+    ensures rest { IsTrue S.Disk.tells → IsTrue N.tells → (g : Setting) (d e : Disks) → IsRosterOf g joiners → AreHeld S.Disk.image N.places N.grown N.disks_of
+        → AreMet S.Disk.faults F.Log.faults N.faults N.log_faults N.disks_of N.logs_of → AreDownOver N.places g d nodes.items → SameRecords g d e → KeepsItsRecord S.Disk.image g (as_lent topology)
+        → IfOk result (λ outcome. IsSomeAnd ran.new.log (λ l. HasRested g e l.air.history (S.image store.new) (Rose (S.faults store.old) (S.faults store.new)) outcome.journals)) }
+    ensures lists { IfSome ran.new.log (λ l. All (IsIn l.air.history) l.seen.items) }
+    ensures aired { IfSome ran.new.log (λ l. IsAired plan l.air.kinds l.air.history) }
+    ensures cause { AreMet S.Disk.faults F.Log.faults N.faults N.log_faults N.disks_of N.logs_of
+        → IfErr result (λ f. IsCounted (Rose (F.faults files.old) (F.faults files.new)) (Rose (S.faults store.old) (S.faults store.new)) f × IsWelcome f) }
+    // No disk is told as damaged, and a limit only of a node in its last epoch, which it kept at first or came to after a fault.
+    ensures whole { IsTrue S.Disk.tells → IsTrue N.tells → (g : Setting) (d : Disks) → IsRosterOf g joiners → AreHeld S.Disk.image N.places N.grown N.disks_of
+        → AreMet S.Disk.faults F.Log.faults N.faults N.log_faults N.disks_of N.logs_of → AreDownOver N.places g d nodes.items → KeepsItsRecord S.Disk.image g (as_lent topology)
+        → IfErr result (IsOfRun g d (Rose (S.faults store.old) (S.faults store.new))) }
+    ensures stopped { IfErr result (NamesEnded ran.new.log) }
+    ensures same { IsTrue F.Log.tells → (n : List ℕ) → F.bytes files.new n ≡ F.bytes files.old n }
+    ensures file_count { F.faults files.old ≤ F.faults files.new }
+    ensures store_count { S.faults store.old ≤ S.faults store.new }
+{
+    turn_defs::laws::node_numbers();
+    none_stops();
+    once();
+    read();
+    let mut parts = parts;
+    parts.disks.push_reserved(topology);
+    match run_nodes(rt, alloc, kinds(joiners), plan, nodes, gate) {
+        Ok(left) => {
+            let site_workers::Ran {
+                air,
+                seen,
+                nodes,
+                ..
+            } = left;
+            ran.log = Some(RunLog { air, seen });
+            end_run(
+                alloc,
+                files,
+                store,
+                joiners,
+                parts,
+                nodes,
+                disk_count(joiners),
+            )
+        }
+        Err(back) => {
+            let (_, nodes) = back;
+            let parts = apart(nodes, joiners, parts);
+            give_parts(files, store, parts);
+            Err(RunFault::Memory)
+        }
+    }
+}

@@ -1,0 +1,70 @@
+-- Disks that are given back, one by one.
+use Rattle.std.proofs.Common.{◌≡◌, ◌≢◌, ◌≤◌, ◌⊎◌, inl, inr, ⊎_elim, ℕ, List, [], ◌∷◌, ◌++◌, ◌∙◌, sym, ap, subst, arith}
+use Rattle.std.proofs.lemmas.List.{map-append}
+use Rattle.list_words.specs.Lists.{Mem}
+use Rattle.list_words.proofs.Lists.{mem_split}
+use Rattle.outside.specs.declared.store.DiskName.{DiskName}
+use Rattle.outside.specs.Disk.{Within}
+use Rattle.outside.specs.Faults.{Rose, added}
+use Rattle.site_store.specs.Lent.{Lent, Lacks, MayBeLeft}
+use Rattle.site_store.proofs.Lending.{given, each_mem}
+use Rattle.site_store.specs.declared.lent.disk.LentDisk.{LentDisk}
+use Rattle.site_store.specs.LentDisks.{lent_of, all_lent}
+
+-- the last disk of a list is given back
+pub given_last : {D : Type 0} (left : D → List ℕ → Type 0) (before after : DiskName → List ℕ → Type 0) (all rest : List (LentDisk D)) (one : LentDisk D) → all ≡ rest ++ one ∷ []
+    → Within (left one.disk) (after one.name) → ((other : DiskName) → other ≢ one.name → Within (before other) (after other))
+    → (name : DiskName) (c : List ℕ) → MayBeLeft left after (all_lent rest) name c → MayBeLeft left before (all_lent all) name c
+given_last {D} left before after all rest one cut images others name c now =
+    let whole : all_lent rest ++ lent_of one ∷ [] ≡ all_lent all = sym (map-append lent_of rest (one ∷ [])) ∙ ap all_lent (sym cut) in
+    subst (λ (l : List (Lent D)). MayBeLeft left before l name c) whole (given left before after (all_lent rest) (lent_of one) images others name c now)
+
+-- once none is left, what the store leaves is what was left at first
+pub none_left : {D : Type 0} (left : D → List ℕ → Type 0) (image : DiskName → List ℕ → Type 0) (disks : List (LentDisk D)) (name : DiskName) (c : List ℕ) → disks ≡ [] → image name c
+    → MayBeLeft left image (all_lent disks) name c
+none_left {D} left image disks name c none now = subst (λ (l : List (LentDisk D)). MayBeLeft left image (all_lent l) name c) (sym none) (inl (tt, now))
+
+-- a name that no disk has is left as it was
+pub others_stay : {D : Type 0} (left : D → List ℕ → Type 0) (before after : DiskName → List ℕ → Type 0) (lent : List (Lent D)) (name : DiskName) → Lacks lent name
+    → ((c : List ℕ) → after name c → MayBeLeft left before lent name c) → Within (before name) (after name)
+others_stay {D} left before after lent name lacks may c now = elim (may c now) [
+  | inl stays ↦ stays.1
+  | inr of ↦ absurd (each_mem (λ (l : Lent D). l.name ≢ name) of.one lent lacks of.among of.named)
+]
+
+-- ---- their faults
+
+-- each disk that met a fault is still out, or the count has risen
+pub record OutOrRose {D : Type 0} (faults : D → ℕ) (all out : List (LentDisk D)) (old new : ℕ) : Type 0 where
+  pub each : (d : Lent D) → Mem d (all_lent all) → 1 ≤ faults d.disk → Mem d (all_lent out) ⊎ Rose old new
+
+pub all_out : {D : Type 0} (faults : D → ℕ) (all out : List (LentDisk D)) (old new : ℕ) → out ≡ all → OutOrRose faults all out old new
+all_out {D} faults all out old new is = record { each = λ d among met. inl (subst (λ (l : List (LentDisk D)). Mem d (all_lent l)) (sym is) among) }
+
+rose_by : (old mid new more : ℕ) → old ≤ mid → 1 ≤ more → new ≡ added mid more → Rose old new
+rose_by old mid new more later met is = omega (arith, later, met, is)
+
+stays_risen : (old mid new more : ℕ) → new ≡ added mid more → Rose old mid → Rose old new
+stays_risen old mid new more is rose = omega (arith, rose, is)
+
+-- the last disk of a list is given back
+pub last_counts : {D : Type 0} (faults : D → ℕ) (all out rest : List (LentDisk D)) (one : LentDisk D) (old mid new : ℕ) → out ≡ rest ++ one ∷ [] → old ≤ mid → new ≡ added mid (faults one.disk)
+    → OutOrRose faults all out old mid → OutOrRose faults all rest old new
+last_counts {D} faults all out rest one old mid new cut later is so =
+    let whole : all_lent out ≡ all_lent rest ++ lent_of one ∷ [] = ap all_lent cut ∙ map-append lent_of rest (one ∷ []) in
+    record {
+      each = λ d among met. elim (so.each d among met) [
+        | inr rose ↦ inr (stays_risen old mid new (faults one.disk) is rose)
+        | inl among ↦ elim (mem_split d (all_lent rest) (lent_of one ∷ []) (subst (Mem d) whole among)) [
+          | inl among ↦ inl among
+          | inr (inl same) ↦ inr (rose_by old mid new (faults one.disk) later (subst (λ (l : Lent D). 1 ≤ faults l.disk) (sym same) met) is)
+          | inr (inr none) ↦ absurd none
+        ]
+      ];
+    }
+
+-- once none is out, it has risen
+pub none_out : {D : Type 0} (faults : D → ℕ) (all out : List (LentDisk D)) (old new : ℕ) → out ≡ [] → OutOrRose faults all out old new
+    → (d : Lent D) → Mem d (all_lent all) → 1 ≤ faults d.disk → Rose old new
+none_out {D} faults all out old new none so d among met =
+    ⊎_elim (λ (out_still : Mem d (all_lent out)). absurd (subst (λ (l : List (LentDisk D)). Mem d (all_lent l)) none out_still)) (λ rose. rose) (so.each d among met)

@@ -1,0 +1,99 @@
+-- What disks that were opened leave in their store, once they are given back.
+use Rattle.std.proofs.Common.{◌≡◌, ◌⊎◌, inl, inr, ⊎_elim, ℕ, List, ◌∷◌, Option, Some, None, refl, sym, ◌∙◌, ap, subst}
+use Rattle.list_words.specs.Lists.{Each}
+use Rattle.outside.specs.declared.store.DiskName.{DiskName}
+use Rattle.outside.specs.declared.store.DiskName.TheVariants as name
+use Rattle.gate_journal.specs.Opening.{IsOpened}
+use Rattle.gate_journal.specs.Growth.{Continues}
+use Rattle.gate_journal.proofs.Growth.{continues_opened}
+use Rattle.topology_journal.specs.declared.topology.Topology.{Topology}
+use Rattle.topology_journal.specs.Topologies.{Keeps}
+use Rattle.site_store.specs.Kinds.{joiners_kept}
+use Rattle.site_store.specs.Lent.{Lent, Lacks, IsLent, MayBeLeft}
+use Rattle.gate_journal.specs.Images.{StaysAs, GoesOn}
+use Rattle.site_store.specs.Misfits.{IsFit}
+use Rattle.site_store.specs.Written.{AllKeep, StaysOrKeeps}
+use Rattle.site_store.proofs.Lending.{each_mem, each_weaker}
+use Rattle.site_store.proofs.Stays.{opened_same, opened_through, goes_through, stays_grows}
+use Rattle.turn_defs.specs.Setting.{Setting}
+use Rattle.site_laws.specs.StoreLaws.{IsTopologyWritten}
+use Rattle.site_store.specs.Leaving.{IsOut, StayOrAsked, IsAsked}
+
+-- the disks of a store, one of which may have changed since they were taken
+module _ {D : Type 0} (left : D → List ℕ → Type 0) (before mid : DiskName → List ℕ → Type 0) (old new : Lent D) (others : List (Lent D)) (so : IsLent left before mid (old ∷ others)) (named : new.name ≡ old.name) where
+  lacks_old : (disk : DiskName) → Lacks (new ∷ others) disk → Lacks (old ∷ others) disk
+  lacks_old disk away = (λ e. away.0 (named ∙ e), away.1)
+
+  module _ (after : DiskName → List ℕ → Type 0) (give : (disk : DiskName) (c : List ℕ) → after disk c → MayBeLeft left mid (new ∷ others) disk c) where
+    -- what holds of all that stands for what might have been left, and of what may be left of the changed disk, holds once all are given back
+    pub back_as : (Q : DiskName → List ℕ → Type 0) → ((disk : DiskName) (c : List ℕ) → IsOpened (before disk) c → Q disk c) → ((c : List ℕ) → left new.disk c → Q new.name c)
+        → (disk : DiskName) (c : List ℕ) → after disk c → Q disk c
+    back_as Q weak here disk c now = elim (give disk c now) [
+      | inl stays ↦ weak disk c (opened_same (before disk) c (so.others disk (lacks_old disk stays.0) c stays.1))
+      | inr of ↦ subst (λ (n : DiskName). Q n c) of.named (each_mem (λ (l : Lent D). (b : List ℕ) → left l.disk b → Q l.name b) of.one (new ∷ others) all_as of.among c of.may)
+    ]
+      where
+        all_as : Each (λ (l : Lent D). (b : List ℕ) → left l.disk b → Q l.name b) (new ∷ others)
+        all_as = (here, each_weaker (λ (l : Lent D). StaysAs (before l.name) (left l.disk)) (λ (l : Lent D). (b : List ℕ) → left l.disk b → Q l.name b) (λ l stay b now. weak l.name b (stay b now)) others so.out.1)
+
+    pub back_stays : StaysAs (left old.disk) (left new.disk) → (disk : DiskName) → StaysAs (before disk) (after disk)
+    back_stays same disk = back_as (λ n c. IsOpened (before n) c) (λ n c from. from) here disk
+      where
+        here : (c : List ℕ) → left new.disk c → IsOpened (before new.name) c
+        here c now = subst (λ (n : DiskName). IsOpened (before n) c) (sym named) (opened_through (before old.name) (left old.disk) so.out.0 c (same c now))
+
+    pub back_grown : GoesOn (left old.disk) (left new.disk) → (disk : DiskName) → GoesOn (before disk) (after disk)
+    back_grown grows disk = back_as (λ n c. Continues (before n) c) (λ n c from. continues_opened (before n) c from) here disk
+      where
+        here : (c : List ℕ) → left new.disk c → Continues (before new.name) c
+        here c now = subst (λ (n : DiskName). Continues (before n) c) (sym named) (goes_through (before old.name) (left old.disk) (left new.disk) (stays_grows (before old.name) (left old.disk) so.out.0) grows c now)
+
+    -- the topology's disk may keep what was asked besides
+    pub back_written : (asked : Topology) → old.name ≡ name.Topology → StaysOrKeeps (left old.disk) asked (left new.disk) → StayOrAsked asked before after
+    back_written asked is written = record {
+      topology = λ c now. ⊎_elim (λ from. inl from) (λ keeps. inr keeps.1) (either name.Topology c now);
+      others = λ disk other c now. ⊎_elim (λ from. from) (λ keeps. absurd (other keeps.0)) (either disk c now);
+    }
+      where
+        OpenedOrAsked : DiskName → List ℕ → Type 0
+        OpenedOrAsked n c = IsOpened (before n) c ⊎ ((n ≡ name.Topology) × Keeps (Some asked) c)
+
+        here : (c : List ℕ) → left new.disk c → OpenedOrAsked new.name c
+        here c now =
+            ⊎_elim (λ from. inl (subst (λ (n : DiskName). IsOpened (before n) c) (sym named) (opened_through (before old.name) (left old.disk) so.out.0 c from)))
+            (λ keeps. inr (named ∙ is, keeps)) (written c now)
+
+        either : (disk : DiskName) (c : List ℕ) → after disk c → OpenedOrAsked disk c
+        either = back_as OpenedOrAsked (λ n c from. inl from) here
+
+  -- the disks of a run
+  pub out_for : (asked : Topology) → AllKeep asked (left new.disk) → GoesOn (left old.disk) (left new.disk) → IsOut asked left before mid new others
+  out_for asked keeps grows = record {
+    keeps = keeps;
+    grown = subst (λ (n : DiskName). GoesOn (before n) (left new.disk)) (sym named) (goes_through (before old.name) (left old.disk) (left new.disk) (stays_grows (before old.name) (left old.disk) so.out.0) grows);
+    stay = so.out.1;
+    in_store = λ disk away. so.others disk (lacks_old disk away);
+  }
+
+pub all_stay : (asked : Topology) (before after : DiskName → List ℕ → Type 0) → ((disk : DiskName) → StaysAs (before disk) (after disk)) → StayOrAsked asked before after
+all_stay asked before after stay = record { topology = λ c now. inl (stay name.Topology c now); others = λ disk other. stay disk }
+
+pub all_grow : (before after : DiskName → List ℕ → Type 0) → ((disk : DiskName) → StaysAs (before disk) (after disk)) → (disk : DiskName) → GoesOn (before disk) (after disk)
+all_grow before after stay disk = stays_grows (before disk) (after disk) (stay disk)
+
+-- ---- the asked topology
+
+-- a site of the kept topology has as many joiners as the asked one, if it is the asked one
+pub joiners_same : (kept : Option Topology) (asked : Topology) → IsFit kept asked → joiners_kept kept asked.joiners ≡ asked.joiners
+joiners_same None asked fit = refl
+joiners_same (Some t) asked fit = ap (λ (u : Topology). u.joiners) (fit t refl)
+
+asked_is : (asked : Topology) (g : Setting) → IsAsked asked g → record { joiners = g.joiners; table = g.table } ≡ asked
+asked_is asked g is = ap (λ (j : ℕ). record { joiners = j; table = g.table }) is.joiners ∙ ap (λ (t : List _). record { joiners = asked.joiners; table = t }) is.table
+
+pub topology_written : (asked : Topology) (g : Setting) (before after : DiskName → List ℕ → Type 0) → IsAsked asked g → (c : List ℕ) × before name.Topology c → StayOrAsked asked before after → IsTopologyWritten g before after
+topology_written asked g before after is was stay = record {
+  was = was;
+  topology = λ c now. ⊎_elim (λ from. inl from) (λ keeps. inr (subst (λ (t : Topology). Keeps (Some t) c) (sym (asked_is asked g is)) keeps)) (stay.topology c now);
+  others = λ disk here other. stay.others disk other;
+}

@@ -1,0 +1,137 @@
+-- What disks are read as, one more at a time.
+use Rattle.std.proofs.Common.{◌≡◌, ◌<◌, inl, inr, ℕ, ◌+◌, List, [], ◌∷◌, ◌++◌, length, take, get_or, Bool, IsTrue, refl, sym, ◌∙◌, ap, subst, arith, if◌then◌else◌}
+use Rattle.std.specs.List.{filter}
+use Rattle.std.specs.Prelude.{Result, Ok, Err, IsErrAnd, IfErr}
+use Rattle.std.proofs.lemmas.List.{take_more}
+use Rattle.std.proofs.lemmas.List.Elements.{filter-append}
+use Rattle.list_words.proofs.Lists.{each_append}
+use Rattle.gate_journal.specs.Gate.{gate_rule, StandsFor}
+use Rattle.gate_journal.specs.Opening.{IsRefused}
+use Rattle.gate_journal.specs.declared.reading.JournalFault.{JournalFault}
+use Rattle.gate_journal.specs.declared.reading.JournalFault.TheVariants as journal
+use Rattle.paxos_acceptor.specs.declared.notes.ReplicaNote.{ReplicaNote}
+use Rattle.turn_defs.specs.declared.pair.PairRec.{PairRec}
+use Rattle.replica_node.specs.Votes.{IsBadVote}
+use Rattle.output_log.specs.Pairs.{FailsAt, Keeps as KeepsPairs, IsDamagedAt as IsOutputDamaged}
+use Rattle.site_store.specs.Opening.{IsRefusedBy}
+use Rattle.site_store.specs.Votes.{IsVotesDamaged}
+use Rattle.site_node.specs.Replicas.{KeepsNotes}
+use Rattle.site_store.specs.declared.lent.disk.LentDisk.{LentDisk}
+use Rattle.site_store.specs.declared.lent.reading.ReadAs.{ReadAs}
+use Rattle.site_store.specs.declared.lent.reading.ReadAs.TheVariants.{Notes, Pairs, Neither}
+use Rattle.site_store.specs.ReadBack.{is_replica, is_output, replicas, outputs, notes_in, pairs_in, AreReadFrom, AreAmongImages, IsReadAs, IsAnImage, IsOnlyRead}
+use Rattle.site_store.proofs.Walking.{FirstWith, first_at, each_with_append}
+
+-- a fault that is handed on
+pub handed_on : {T E : Type 0} (r : Result T E) (fault : E) (P : E → Type 0) → IsErrAnd r (λ e. e ≡ fault) → P fault → IfErr r P
+handed_on (Ok x) fault P is p = tt
+handed_on (Err e) fault P is p = subst P (sym is) p
+
+-- a file that is damaged by its gates is so as its kind reads it
+pub refused_by_gates : (is_damaged : List ℕ → ℕ → Type 0) (tells : Bool) (seen : List ℕ) (old new : ℕ) (fault : JournalFault) → ((at : ℕ) → gate_rule seen ≡ Err at → is_damaged seen at)
+    → IsRefused tells seen old new fault → IsRefusedBy is_damaged tells seen old new fault
+refused_by_gates is_damaged tells seen old new (journal.Damaged at) agrees refused = λ sure. agrees at (refused sure)
+refused_by_gates is_damaged tells seen old new journal.Disk agrees refused = refused
+refused_by_gates is_damaged tells seen old new journal.Memory agrees refused = tt
+
+-- records of which one is no note's
+pub refused_by_notes : (tells : Bool) (seen : List ℕ) (records : List (List ℕ)) (old new : ℕ) (fault : JournalFault) → (IsTrue tells → StandsFor records seen) → IsBadVote records fault
+    → IsRefusedBy IsVotesDamaged tells seen old new fault
+refused_by_notes tells seen records old new (journal.Damaged at) stands bad = λ sure. inr (records, stands sure, bad)
+refused_by_notes tells seen records old new journal.Disk stands bad = absurd bad
+refused_by_notes tells seen records old new journal.Memory stands bad = tt
+
+-- records of which one is no pair's
+pub refused_by_pairs : (tells : Bool) (seen : List ℕ) (records : List (List ℕ)) (old new : ℕ) (fault : JournalFault) → (IsTrue tells → StandsFor records seen) → FailsAt records fault
+    → IsRefusedBy IsOutputDamaged tells seen old new fault
+refused_by_pairs tells seen records old new (journal.Damaged at) stands bad = λ sure. inr (records, stands sure, bad)
+refused_by_pairs tells seen records old new journal.Disk stands bad = absurd bad
+refused_by_pairs tells seen records old new journal.Memory stands bad = tt
+
+-- a disk that nothing was done to
+pub untouched : {D : Type 0} (tells : Bool) (seen : D → List ℕ) (image : D → List ℕ → Type 0) (since : D → D → List ℕ → Type 0) (faults : D → ℕ)
+    → ((disk : D) (c : List ℕ) → IsTrue tells → since disk disk c → image disk c) → (lent : LentDisk D) → IsOnlyRead tells seen image since faults lent lent
+untouched tells seen image since faults starts lent = record {
+  named = refl;
+  reads = λ sure. refl;
+  moments = λ sure. record {
+    each = λ c at. starts lent.disk c sure at;
+    now = λ c at. at;
+    before = λ s c at. inl at;
+  };
+  count = omega arith;
+}
+
+-- one element more, of those that a test picks
+filter_more : {A : Type 0} (p : A → Bool) (xs : List A) (i : ℕ) (d : A) → i < length xs → filter p (take i xs) ++ filter p (get_or xs i d ∷ []) ≡ filter p (take (i + 1) xs)
+filter_more p xs i d lt = sym (filter-append p (take i xs) (get_or xs i d ∷ [])) ∙ ap (filter p) (sym (take_more xs i d lt))
+
+module _ {D : Type 0} (tells : Bool) (seen : D → List ℕ) where
+  -- what one disk is read as, as a list of lists
+  notes_of_one : (d : LentDisk D) (read : ReadAs) → IsReadAs tells seen d read → AreReadFrom tells seen KeepsNotes (replicas (d ∷ [])) (notes_in read)
+  notes_of_one d (Notes notes) is =
+      subst (λ (b : Bool). AreReadFrom tells seen KeepsNotes (if b then d ∷ [] else []) (notes ∷ [])) (sym is.0) (is.2, tt)
+  notes_of_one d (Pairs pairs) is = subst (λ (b : Bool). AreReadFrom tells seen KeepsNotes (if b then d ∷ [] else []) []) (sym is.0) tt
+  notes_of_one d Neither is = subst (λ (b : Bool). AreReadFrom tells seen KeepsNotes (if b then d ∷ [] else []) []) (sym is.0) tt
+
+  pairs_of_one : (d : LentDisk D) (read : ReadAs) → IsReadAs tells seen d read → AreReadFrom tells seen KeepsPairs (outputs (d ∷ [])) (pairs_in read)
+  pairs_of_one d (Notes notes) is = subst (λ (b : Bool). AreReadFrom tells seen KeepsPairs (if b then d ∷ [] else []) []) (sym is.1) tt
+  pairs_of_one d (Pairs pairs) is =
+      subst (λ (b : Bool). AreReadFrom tells seen KeepsPairs (if b then d ∷ [] else []) (pairs ∷ [])) (sym is.1) (is.2, tt)
+  pairs_of_one d Neither is = subst (λ (b : Bool). AreReadFrom tells seen KeepsPairs (if b then d ∷ [] else []) []) (sym is.1) tt
+
+  -- one disk more
+  read_more : {V : Type 0} (keeps : List V → List ℕ → Type 0) (p : LentDisk D → Bool) (disks : List (LentDisk D)) (i : ℕ) (d : LentDisk D) (lists extra now : List (List V)) → i < length disks
+      → AreReadFrom tells seen keeps (filter p (take i disks)) lists → AreReadFrom tells seen keeps (filter p (get_or disks i d ∷ [])) extra → now ≡ lists ++ extra
+      → AreReadFrom tells seen keeps (filter p (take (i + 1) disks)) now
+  read_more {V} keeps p disks i d lists extra now lt so one is =
+      subst (λ (xs : List (LentDisk D)). AreReadFrom tells seen keeps xs now) (filter_more p disks i d lt)
+      (subst (AreReadFrom tells seen keeps (filter p (take i disks) ++ filter p (get_or disks i d ∷ []))) (sym is)
+      (each_with_append (λ (x : LentDisk D) (items : List V). IsTrue tells → keeps items (seen x.disk)) (filter p (take i disks)) (filter p (get_or disks i d ∷ [])) lists extra so one))
+
+  -- the next disk is read
+  pub notes_more : (R : LentDisk D → LentDisk D → Type 0) (disks now : List (LentDisk D)) (i : ℕ) (d : LentDisk D) (read : ReadAs) (lists more : List (List ReplicaNote)) → FirstWith R i disks now → i < length disks
+      → IsReadAs tells seen (get_or now i d) read → AreReadFrom tells seen KeepsNotes (replicas (take i disks)) lists → more ≡ lists ++ notes_in read → AreReadFrom tells seen KeepsNotes (replicas (take (i + 1) disks)) more
+  notes_more R disks now i d read lists more so lt is before next =
+      read_more KeepsNotes (λ (x : LentDisk D). is_replica x.name) disks i d lists (notes_in read) more lt before
+      (notes_of_one (get_or disks i d) read (subst (λ (x : LentDisk D). IsReadAs tells seen x read) (first_at R i disks now d so) is)) next
+
+  pub pairs_more : (R : LentDisk D → LentDisk D → Type 0) (disks now : List (LentDisk D)) (i : ℕ) (d : LentDisk D) (read : ReadAs) (lists more : List (List PairRec)) → FirstWith R i disks now → i < length disks
+      → IsReadAs tells seen (get_or now i d) read → AreReadFrom tells seen KeepsPairs (outputs (take i disks)) lists → more ≡ lists ++ pairs_in read → AreReadFrom tells seen KeepsPairs (outputs (take (i + 1) disks)) more
+  pairs_more R disks now i d read lists more so lt is before next =
+      read_more KeepsPairs (λ (x : LentDisk D). is_output x.name) disks i d lists (pairs_in read) more lt before
+      (pairs_of_one (get_or disks i d) read (subst (λ (x : LentDisk D). IsReadAs tells seen x read) (first_at R i disks now d so) is)) next
+
+module _ {D : Type 0} (tells : Bool) (seen : D → List ℕ) (image : D → List ℕ → Type 0) where
+  -- what one disk is read from
+  notes_image : (d : LentDisk D) (read : ReadAs) → IsReadAs tells seen d read → IsAnImage tells seen image d read → AreAmongImages tells seen image (replicas (d ∷ []))
+  notes_image d (Notes notes) is left = subst (λ (b : Bool). AreAmongImages tells seen image (if b then d ∷ [] else [])) (sym is.0) (left, tt)
+  notes_image d (Pairs pairs) is left = subst (λ (b : Bool). AreAmongImages tells seen image (if b then d ∷ [] else [])) (sym is.0) tt
+  notes_image d Neither is left = subst (λ (b : Bool). AreAmongImages tells seen image (if b then d ∷ [] else [])) (sym is.0) tt
+
+  pairs_image : (d : LentDisk D) (read : ReadAs) → IsReadAs tells seen d read → IsAnImage tells seen image d read → AreAmongImages tells seen image (outputs (d ∷ []))
+  pairs_image d (Notes notes) is left = subst (λ (b : Bool). AreAmongImages tells seen image (if b then d ∷ [] else [])) (sym is.1) tt
+  pairs_image d (Pairs pairs) is left = subst (λ (b : Bool). AreAmongImages tells seen image (if b then d ∷ [] else [])) (sym is.1) (left, tt)
+  pairs_image d Neither is left = subst (λ (b : Bool). AreAmongImages tells seen image (if b then d ∷ [] else [])) (sym is.1) tt
+
+  -- one disk more
+  left_more : (p : LentDisk D → Bool) (disks : List (LentDisk D)) (i : ℕ) (d : LentDisk D) → i < length disks → AreAmongImages tells seen image (filter p (take i disks))
+      → AreAmongImages tells seen image (filter p (get_or disks i d ∷ [])) → AreAmongImages tells seen image (filter p (take (i + 1) disks))
+  left_more p disks i d lt so one =
+      subst (AreAmongImages tells seen image) (filter_more p disks i d lt)
+      (each_append (λ (x : LentDisk D). IsTrue tells → image x.disk (seen x.disk)) (filter p (take i disks)) (filter p (get_or disks i d ∷ [])) so one)
+
+  -- the next disk is read
+  pub notes_left_more : (R : LentDisk D → LentDisk D → Type 0) (disks now : List (LentDisk D)) (i : ℕ) (d : LentDisk D) (read : ReadAs) → FirstWith R i disks now → i < length disks
+      → IsReadAs tells seen (get_or now i d) read → IsAnImage tells seen image (get_or now i d) read → AreAmongImages tells seen image (replicas (take i disks)) → AreAmongImages tells seen image (replicas (take (i + 1) disks))
+  notes_left_more R disks now i d read so lt is left before =
+      let same = first_at R i disks now d so in
+      left_more (λ (x : LentDisk D). is_replica x.name) disks i d lt before
+      (notes_image (get_or disks i d) read (subst (λ (x : LentDisk D). IsReadAs tells seen x read) same is) (subst (λ (x : LentDisk D). IsAnImage tells seen image x read) same left))
+
+  pub pairs_left_more : (R : LentDisk D → LentDisk D → Type 0) (disks now : List (LentDisk D)) (i : ℕ) (d : LentDisk D) (read : ReadAs) → FirstWith R i disks now → i < length disks
+      → IsReadAs tells seen (get_or now i d) read → IsAnImage tells seen image (get_or now i d) read → AreAmongImages tells seen image (outputs (take i disks)) → AreAmongImages tells seen image (outputs (take (i + 1) disks))
+  pairs_left_more R disks now i d read so lt is left before =
+      let same = first_at R i disks now d so in
+      left_more (λ (x : LentDisk D). is_output x.name) disks i d lt before
+      (pairs_image (get_or disks i d) read (subst (λ (x : LentDisk D). IsReadAs tells seen x read) same is) (subst (λ (x : LentDisk D). IsAnImage tells seen image x read) same left))

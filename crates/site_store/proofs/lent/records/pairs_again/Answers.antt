@@ -1,0 +1,18 @@
+use Rattle.std.proofs.Common.{inl, ℕ, List, subst}
+use Rattle.output_log.specs.Pairs.{FailsAt, IsDamagedAt}
+use Rattle.site_store.proofs.Readings.{handed_on, refused_by_gates, refused_by_pairs}
+use Rattle.site_store.proofs.lent.records.pairs_again.Goals as goal
+
+pub returns-in_err-records-clause-err : goal.returns-in_err-records-clause-err
+returns-in_err-records-clause-err g c =
+    let d = g.D.Disk in
+    handed_on c.from_residual.result c.in_err-records.field-0.0 _ c.from_residual.ensures.1
+    (refused_by_gates IsDamagedAt d.tells (d.seen c.args.disk.now) (d.faults c.args.disk.now) (d.faults c.records_again.new.disk) c.in_err-records.field-0.0 (λ at is. inl is) c.in_err-records.ensures.err)
+
+pub returns-in_err-pairs-clause-err : goal.returns-in_err-pairs-clause-err
+returns-in_err-pairs-clause-err g c =
+    let d = g.D.Disk in
+    let fault = c.in_err-pairs.field-0.0 in
+    let bad = subst (λ (rs : List (List ℕ)). FailsAt rs fault) c.deref.ensures.value c.in_err-pairs.ensures.err in
+    handed_on c.from_residual-in_err-pairs.result fault _ c.from_residual-in_err-pairs.ensures.1
+    (refused_by_pairs d.tells (d.seen c.args.disk.now) c.in_ok-records.records.items (d.faults c.args.disk.now) (d.faults c.records_again.new.disk) fault c.in_ok-records.ensures.records bad)

@@ -1,0 +1,53 @@
+-- The places of the click log that the disks of both dispatchers keep, and the first of them that doesn't fit the log.
+use Rattle.std.specs.Prelude.{◌≡◌, ℕ, List, [], ◌∷◌, ◌++◌, map, Option, None, Some, ⊤}
+use Rattle.list_words.specs.Lists.{Each}
+use Rattle.outside.specs.declared.store.DiskName.{DiskName}
+use Rattle.outside.specs.declared.store.DiskName.TheVariants.{Topology, Offset, Retry, Server, Replica, Epoch, Output}
+use Rattle.log_records.specs.Lines.{ClickLine, at, IsBoundary}
+use Rattle.site_store.specs.Floors.{IsFloorOf}
+use Rattle.site_store.specs.declared.places.misplaced.Misplaced.{Misplaced}
+
+-- a whole line starts at p
+abbrev pub IsStart : List ClickLine → ℕ → Type 0
+IsStart ls p = (l : ClickLine) × (at ls p ≡ Some l)
+
+-- what a disk may keep: an offset where a line may start, a pending position where one does; other disks keep no places
+abbrev pub FitsOn : List ClickLine → DiskName → ℕ → Type 0
+FitsOn ls (Offset site) p = IsBoundary ls p
+FitsOn ls (Retry site) p = IsStart ls p
+FitsOn ls Topology p = ⊤
+FitsOn ls (Server site) p = ⊤
+FitsOn ls (Replica replica) p = ⊤
+FitsOn ls (Epoch site joiner) p = ⊤
+FitsOn ls (Output site joiner) p = ⊤
+
+-- a place that a disk keeps
+pub record KeptPlace : Type 0 where
+  pub disk : DiskName
+  pub kept : ℕ
+
+abbrev pub Fits : List ClickLine → KeptPlace → Type 0
+Fits ls k = FitsOn ls k.disk k.kept
+
+-- these places on a disk
+abbrev pub on_disk : DiskName → List ℕ → List KeptPlace
+on_disk disk places = map (λ p. record { disk = disk; kept = p }) places
+
+-- all of them, in the order in which they are looked at
+abbrev pub all_kept : (offset_a offset_b : ℕ) (pending_a pending_b : List ℕ) → List KeptPlace
+all_kept offset_a offset_b pending_a pending_b =
+    on_disk (Offset 0) (offset_a ∷ []) ++ (on_disk (Offset 1) (offset_b ∷ []) ++ (on_disk (Retry 0) pending_a ++ on_disk (Retry 1) pending_b))
+
+-- the first of these places that doesn't fit, with its floor
+pub record IsFirst (ls : List ClickLine) (places : List KeptPlace) (told : Misplaced) : Type 0 where
+  pub before : List KeptPlace
+  pub after : List KeptPlace
+  pub order : places ≡ before ++ record { disk = told.disk; kept = told.kept } ∷ after
+  pub fit : Each (Fits ls) before
+  pub misfit : FitsOn ls told.disk told.kept → ⊥
+  pub floor_is : IsFloorOf (FitsOn ls told.disk) told.kept told.floor
+
+-- the first that doesn't fit is told, or all fit
+abbrev pub IsTold : List ClickLine → List KeptPlace → Option Misplaced → Type 0
+IsTold ls places None = Each (Fits ls) places
+IsTold ls places (Some told) = IsFirst ls places told

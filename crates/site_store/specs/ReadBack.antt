@@ -1,0 +1,91 @@
+-- What reading disks back gives.
+use Rattle.std.specs.Prelude.{◌≡◌, ◌≤◌, ◌⊎◌, ⊤, ℕ, List, [], ◌∷◌, Bool, true, false, filter, IsTrue}
+use Rattle.list_words.specs.Lists.{Each}
+use Rattle.outside.specs.declared.store.DiskName.{DiskName}
+use Rattle.outside.specs.declared.store.DiskName.TheVariants as name
+use Rattle.outside.specs.Disk.{Throughout}
+use Rattle.outside.specs.Faults.{Rose}
+use Rattle.paxos_acceptor.specs.declared.notes.ReplicaNote.{ReplicaNote}
+use Rattle.turn_defs.specs.declared.pair.PairRec.{PairRec}
+use Rattle.output_log.specs.Pairs.{Keeps as KeepsPairs}
+use Rattle.site_store.specs.Kinds.{damaged_by}
+use Rattle.site_node.specs.Replicas.{KeepsNotes}
+use Rattle.site_store.specs.declared.disks.fault.DisksFault.{DisksFault}
+use Rattle.site_store.specs.declared.disks.fault.DisksFault.TheVariants.{Store, Damaged, Memory}
+use Rattle.site_store.specs.declared.lent.disk.LentDisk.{LentDisk}
+use Rattle.site_store.specs.declared.lent.reading.ReadAs.{ReadAs}
+use Rattle.site_store.specs.declared.lent.reading.ReadAs.TheVariants.{Notes, Pairs, Neither}
+
+-- R holds of each element and the one at its place in the other list, which is as long
+abbrev pub EachWith : {A B : Type 0} → (A → B → Type 0) → List A → List B → Type 0
+EachWith R [] [] = ⊤
+EachWith R [] (y ∷ ys) = ⊥
+EachWith R (x ∷ xs) [] = ⊥
+EachWith R (x ∷ xs) (y ∷ ys) = R x y × EachWith R xs ys
+
+-- R holds of an element and the one at its place in the other list
+abbrev pub OneWith : {A B : Type 0} → (A → B → Type 0) → List A → List B → Type 0
+OneWith R [] ys = ⊥
+OneWith R (x ∷ xs) [] = ⊥
+OneWith R (x ∷ xs) (y ∷ ys) = R x y ⊎ OneWith R xs ys
+
+-- whether a disk of this name is a replica's, and whether it is an output
+abbrev pub is_replica : DiskName → Bool
+is_replica (name.Replica replica) = true
+is_replica other = false
+
+abbrev pub is_output : DiskName → Bool
+is_output (name.Output site joiner) = true
+is_output other = false
+
+-- those disks among these
+abbrev pub replicas : {D : Type 0} → List (LentDisk D) → List (LentDisk D)
+replicas disks = filter (λ d. is_replica d.name) disks
+
+abbrev pub outputs : {D : Type 0} → List (LentDisk D) → List (LentDisk D)
+outputs disks = filter (λ d. is_output d.name) disks
+
+-- One list for each of these disks, in order. Where the disk tells, its bytes as they read keep that list.
+abbrev pub AreReadFrom : {D V : Type 0} → Bool → (D → List ℕ) → (List V → List ℕ → Type 0) → List (LentDisk D) → List (List V) → Type 0
+AreReadFrom tells seen keeps disks lists = EachWith (λ d items. IsTrue tells → keeps items (seen d.disk)) disks lists
+
+-- each of these disks as it reads is one of the images that a stop may leave of it
+abbrev pub AreAmongImages : {D : Type 0} → Bool → (D → List ℕ) → (D → List ℕ → Type 0) → List (LentDisk D) → Type 0
+AreAmongImages tells seen image disks = Each (λ d. IsTrue tells → image d.disk (seen d.disk)) disks
+
+-- A disk that was read at most: it has its name and its bytes, and no moment left anything else than might have been left.
+pub record IsOnlyRead {D : Type 0} (tells : Bool) (seen : D → List ℕ) (image : D → List ℕ → Type 0) (since : D → D → List ℕ → Type 0) (faults : D → ℕ) (old new : LentDisk D) : Type 0 where
+  pub named : new.name ≡ old.name
+  pub reads : IsTrue tells → seen new.disk ≡ seen old.disk
+  pub moments : IsTrue tells → Throughout image since old.disk new.disk (image old.disk)
+  pub count : faults old.disk ≤ faults new.disk
+
+-- A fault is of this disk: its count rose, or a stop might have left bytes of it that are damaged as its kind reads them. Want of
+-- memory is free.
+abbrev pub IsToldBy : {D : Type 0} → Bool → (D → List ℕ → Type 0) → (D → ℕ) → (old new : LentDisk D) → DisksFault → Type 0
+IsToldBy tells image faults old new (Store name) = (old.name ≡ name) × Rose (faults old.disk) (faults new.disk)
+IsToldBy tells image faults old new (Damaged name at) = (old.name ≡ name) × (IsTrue tells → (c : List ℕ) × image old.disk c × damaged_by name c at)
+IsToldBy tells image faults old new Memory = Unit {0}
+
+-- what one disk is read as, by its name
+abbrev pub IsReadAs : {D : Type 0} → Bool → (D → List ℕ) → LentDisk D → ReadAs → Type 0
+IsReadAs tells seen d (Notes notes) = (is_replica d.name ≡ true) × (is_output d.name ≡ false) × (IsTrue tells → KeepsNotes notes (seen d.disk))
+IsReadAs tells seen d (Pairs pairs) = (is_replica d.name ≡ false) × (is_output d.name ≡ true) × (IsTrue tells → KeepsPairs pairs (seen d.disk))
+IsReadAs tells seen d Neither = (is_replica d.name ≡ false) × (is_output d.name ≡ false)
+
+-- what was read, if anything was, is one of the images of the disk
+abbrev pub IsAnImage : {D : Type 0} → Bool → (D → List ℕ) → (D → List ℕ → Type 0) → LentDisk D → ReadAs → Type 0
+IsAnImage tells seen image d (Notes notes) = IsTrue tells → image d.disk (seen d.disk)
+IsAnImage tells seen image d (Pairs pairs) = IsTrue tells → image d.disk (seen d.disk)
+IsAnImage tells seen image d Neither = Unit {0}
+
+-- the list of notes that was read, if one was, and the list of pairs
+abbrev pub notes_in : ReadAs → List (List ReplicaNote)
+notes_in (Notes notes) = notes ∷ []
+notes_in (Pairs pairs) = []
+notes_in Neither = []
+
+abbrev pub pairs_in : ReadAs → List (List PairRec)
+pairs_in (Notes notes) = []
+pairs_in (Pairs pairs) = pairs ∷ []
+pairs_in Neither = []

@@ -1,0 +1,94 @@
+// Reading disks back.
+ghost use Rattle.std.specs.Prelude.{◌≡◌, ◌++◌, IsTrue, IfOk, IfErr, OnOk};
+ghost use Rattle.output_log.specs.Pairs.{Keeps as KeepsPairs};
+ghost use Rattle.site_store.specs.Opening.{told_by};
+ghost use Rattle.site_node.specs.Replicas.{KeepsNotes};
+ghost use Rattle.site_store.specs.ReadBack.{EachWith, OneWith, replicas, outputs, notes_in, pairs_in, AreReadFrom, AreAmongImages, IsReadAs, IsAnImage, IsOnlyRead, IsToldBy};
+
+use crate::DisksFault;
+use crate::lent::LentDisk;
+use crate::lent::records::{notes_again, pairs_again};
+use gate_journal::JournalFault;
+use outside::{Disk, DiskName};
+use std::alloc::{AllocError, Global};
+use verify_pass::{Journals, NoteList, PairList};
+
+/// What a disk is read as.
+#[derive(Drop)]
+pub(crate) enum ReadAs {
+    Notes(NoteList),
+    Pairs(PairList),
+    /// It isn't read.
+    Neither,
+}
+
+// The fault of a disk that isn't read.
+fn told(name: DiskName, fault: JournalFault) -> DisksFault
+    ensures { result ≡ told_by name fault }
+{
+    match fault {
+        JournalFault::Damaged { at } => DisksFault::Damaged { disk: name, at },
+        JournalFault::Disk => DisksFault::Store(name),
+        JournalFault::Memory => DisksFault::Memory,
+    }
+}
+
+/// Reads a replica's disk or an output's again, and no other.
+fn read_one<D: Disk>(alloc: Global, lent: &mut LentDisk<D>) -> Result<ReadAs, DisksFault>
+    ensures read { IfOk result (IsReadAs D.tells D.seen lent.old) }
+    ensures left { IfOk result (IsAnImage D.tells D.seen D.image lent.old) }
+    ensures same { IsOnlyRead D.tells D.seen D.image D.since D.faults lent.old lent.new }
+    ensures err { IfErr result (IsToldBy D.tells D.image D.faults lent.old lent.new) }
+{
+    match lent.name {
+        DiskName::Replica(_) => match notes_again(alloc, &mut lent.disk) {
+            Ok(notes) => Ok(ReadAs::Notes(notes)),
+            Err(fault) => Err(told(lent.name, fault)),
+        },
+        DiskName::Output(_, _) => match pairs_again(alloc, &mut lent.disk) {
+            Ok(pairs) => Ok(ReadAs::Pairs(pairs)),
+            Err(fault) => Err(told(lent.name, fault)),
+        },
+        _ => Ok(ReadAs::Neither),
+    }
+}
+
+// Puts what was read behind the others of its kind.
+fn put(journals: &mut Journals, read: ReadAs) -> Result<(), AllocError>
+    ensures notes { OnOk result (journals.new.notes.items ≡ journals.old.notes.items ++ notes_in read) }
+    ensures pairs { OnOk result (journals.new.pairs.items ≡ journals.old.pairs.items ++ pairs_in read) }
+{
+    match read {
+        ReadAs::Notes(notes) => journals.notes.push(notes)?,
+        ReadAs::Pairs(pairs) => journals.pairs.push(pairs)?,
+        ReadAs::Neither => {}
+    }
+    Ok(())
+}
+
+/// Reads each replica's disk and each output's again, in order, with no changing call: a list of notes for each replica, and
+/// a list of pairs for each output. The first disk that can't be read ends it. Linear in the files, in time and memory.
+pub fn read_back<D: Disk>(alloc: Global, disks: &mut [LentDisk<D>]) -> Result<Journals, DisksFault>
+    ensures notes { IfOk result (λ journals. AreReadFrom D.tells D.seen KeepsNotes (replicas disks.old) journals.notes.items) }
+    ensures pairs { IfOk result (λ journals. AreReadFrom D.tells D.seen KeepsPairs (outputs disks.old) journals.pairs.items) }
+    // What they are read from is what a stop may leave of them.
+    ensures notes_left { OnOk result (AreAmongImages D.tells D.seen D.image (replicas disks.old)) }
+    ensures pairs_left { OnOk result (AreAmongImages D.tells D.seen D.image (outputs disks.old)) }
+    ensures same { EachWith (IsOnlyRead D.tells D.seen D.image D.since D.faults) disks.old disks.new }
+    ensures err { IfErr result (λ fault. OneWith (λ old new. IsToldBy D.tells D.image D.faults old new fault) disks.old disks.new) }
+{
+    let mut journals = Journals {
+        notes: Vec::new(alloc),
+        pairs: Vec::new(alloc),
+    };
+    for i in 0..disks.len() {
+        let read = match read_one(alloc, &mut disks[i]) {
+            Ok(read) => read,
+            Err(fault) => return Err(fault),
+        };
+        let Ok(()) = put(&mut journals, read) else {
+            return Err(DisksFault::Memory);
+        };
+    }
+    Ok(journals)
+}

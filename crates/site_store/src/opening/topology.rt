@@ -1,0 +1,40 @@
+// The topology's record of opened disks.
+ghost use Rattle.std.specs.Prelude.{◌≡◌, ◌≤◌, Some, IsTrue, OnOk, OnErr, IfErr, IsErrOf};
+ghost use Rattle.gate_journal.specs.declared.journal.JournalState.TheVariants.{Ready};
+ghost use Rattle.topology_journal.specs.Topologies.{IsTopology};
+ghost use Rattle.site_store.specs.declared.disks.fault.DisksFault.TheVariants.{Memory};
+ghost use Rattle.gate_journal.specs.Images.{StaysAs, GoesOn};
+ghost use Rattle.site_store.specs.Misfits.{IsFit};
+ghost use Rattle.site_store.specs.Opening.{RoseBy};
+ghost use Rattle.site_store.specs.Written.{AllKeep, StaysOrKeeps, IsUnwritten};
+
+use crate::{DisksFault, Opened, write_topology};
+use outside::Disk;
+use std::alloc::Global;
+use topology_journal::{Topology, TopologyJournal};
+
+/// Writes the asked topology where none is kept.
+pub(crate) fn keep_topology<D: Disk>(
+    alloc: Global,
+    topology: &mut Opened<TopologyJournal<D>>,
+    asked: Topology,
+) -> Result<(), DisksFault>
+    requires is_topology { IsTopology asked }
+    requires ready { topology.old.journal.journal.state ≡ Ready }
+    requires fit { IsFit topology.old.journal.kept asked }
+    ensures name { topology.new.name ≡ topology.old.name }
+    ensures kept { OnOk result (topology.new.journal.kept ≡ Some asked) }
+    ensures ready { OnOk result (topology.new.journal.journal.state ≡ Ready) }
+    ensures durable { IsTrue D.tells → OnOk result (AllKeep asked (D.image topology.new.journal.journal.disk)) }
+    ensures old_or_new { IsTrue D.tells → OnErr result (StaysOrKeeps (D.image topology.old.journal.journal.disk) asked (D.image topology.new.journal.journal.disk)) }
+    ensures stays { IsTrue D.tells → IsErrOf result Memory → StaysAs (D.image topology.old.journal.journal.disk) (D.image topology.new.journal.journal.disk) }
+    ensures grows { IsTrue D.tells → GoesOn (D.image topology.old.journal.journal.disk) (D.image topology.new.journal.journal.disk) }
+    ensures count { D.faults topology.old.journal.journal.disk ≤ D.faults topology.new.journal.journal.disk }
+    ensures rose { IfErr result (RoseBy (D.faults topology.old.journal.journal.disk) (D.faults topology.new.journal.journal.disk)) }
+    ensures unwritten { IfErr result (IsUnwritten topology.old.name) }
+{
+    if topology.journal.kept().is_some() {
+        return Ok(());
+    }
+    write_topology(alloc, topology, asked)
+}

@@ -1,0 +1,8 @@
+// A store that is read for verification: no node runs, and what the journals of its disks stand for doesn't change.
+mod copies;
+mod judging;
+mod kept;
+mod store;
+
+pub use kept::KeptStore;
+pub use store::read_store;

@@ -1,0 +1,140 @@
+// A store read for verification.
+ghost use Rattle.std.specs.Prelude.{◌≡◌, ◌≤◌, Some, None, length, IsTrue, IfOk, IfErr, OnOk};
+ghost use Rattle.outside.specs.declared.store.DiskName.{DiskName};
+ghost use Rattle.topology_journal.specs.declared.topology.Topology.{Topology as KeptTopology};
+ghost use Rattle.log_records.specs.Lines.{end_from};
+ghost use Rattle.turn_defs.specs.Setting.{Setting};
+ghost use Rattle.dispatch_node.specs.Places.{IsLogOf};
+ghost use Rattle.gate_journal.specs.Images.{StaysAs, GoesOn};
+ghost use Rattle.site_store.specs.Refusals.{IsOfFirstDisk};
+ghost use Rattle.site_store.specs.Opening.{RoseBy, WasDamaged};
+ghost use Rattle.site_laws.specs.Stores.{IsSoundStore};
+ghost use Rattle.site_store.specs.Records.{keep_all, AreKept};
+ghost use Rattle.site_store.specs.Leaving.{IsAsked};
+ghost use Rattle.site_store.specs.Causes.{IfDisks, IfJudged, IsWelcome, LeavesSomething};
+ghost use Rattle.site_store.specs.Reading.{AreFine, IsOfValues, IsRead, IsCause};
+ghost use Rattle.site_store.specs.Telling.{Tells, KeepsNothing};
+
+use crate::reading::KeptStore;
+use crate::reading::copies::journals_of;
+use crate::reading::judging::judge;
+use crate::{DisksFault, Refusal, SiteDisks, give_back, open_disks};
+use outside::{Disk, LogFile, Store};
+use photon_model::verification;
+use site_laws::stores::{fits, once, opened, read, stays};
+use std::alloc::Global;
+use topology_journal::{Topology, TopologyJournal};
+
+fn kept_topology<D: Disk>(topology: &TopologyJournal<D>) -> Option<Topology>
+    ensures { result ≡ topology.now.kept }
+{
+    topology.kept().copied()
+}
+
+// What opened disks keep, if that fits the log and has room for more.
+fn read_disks<D: Disk, L: LogFile>(
+    alloc: Global,
+    disks: &SiteDisks<D>,
+    clicks: &mut L,
+    end: u64,
+) -> Result<KeptStore, Refusal>
+    requires offsets { length disks.now.offsets.items ≡ 2 }
+    requires retries { length disks.now.retries.items ≡ 2 }
+    ensures told { IfOk result (IsOfValues (record {
+      topology = disks.now.topology.journal.kept;
+      offsets = keep_all (λ o. o.offset) disks.now.offsets.items;
+      pending = keep_all (λ r. r.pending.keys) disks.now.retries.items;
+      servers = keep_all (λ e. e.epoch) disks.now.servers.items;
+      notes = keep_all (λ v. v.notes.items) disks.now.replicas.items;
+      epochs_a = keep_all (λ e. e.epoch) disks.now.epochs_a.items;
+      epochs_b = keep_all (λ e. e.epoch) disks.now.epochs_b.items;
+      pairs_a = keep_all (λ o. o.pairs.items) disks.now.outputs_a.items;
+      pairs_b = keep_all (λ o. o.pairs.items) disks.now.outputs_b.items;
+    })) }
+    ensures fine { OnOk result (AreFine L.tells (L.bytes clicks.old) end (record {
+      topology = disks.now.topology.journal.kept;
+      offsets = keep_all (λ o. o.offset) disks.now.offsets.items;
+      pending = keep_all (λ r. r.pending.keys) disks.now.retries.items;
+      servers = keep_all (λ e. e.epoch) disks.now.servers.items;
+      notes = keep_all (λ v. v.notes.items) disks.now.replicas.items;
+      epochs_a = keep_all (λ e. e.epoch) disks.now.epochs_a.items;
+      epochs_b = keep_all (λ e. e.epoch) disks.now.epochs_b.items;
+      pairs_a = keep_all (λ o. o.pairs.items) disks.now.outputs_a.items;
+      pairs_b = keep_all (λ o. o.pairs.items) disks.now.outputs_b.items;
+    })) }
+    ensures cause { IfErr result (IsCause L.tells (L.bytes clicks.old) end (L.faults clicks.old) (L.faults clicks.new) (record {
+      topology = disks.now.topology.journal.kept;
+      offsets = keep_all (λ o. o.offset) disks.now.offsets.items;
+      pending = keep_all (λ r. r.pending.keys) disks.now.retries.items;
+      servers = keep_all (λ e. e.epoch) disks.now.servers.items;
+      notes = keep_all (λ v. v.notes.items) disks.now.replicas.items;
+      epochs_a = keep_all (λ e. e.epoch) disks.now.epochs_a.items;
+      epochs_b = keep_all (λ e. e.epoch) disks.now.epochs_b.items;
+      pairs_a = keep_all (λ o. o.pairs.items) disks.now.outputs_a.items;
+      pairs_b = keep_all (λ o. o.pairs.items) disks.now.outputs_b.items;
+    })) }
+    ensures same { IsTrue L.tells → L.bytes clicks.new ≡ L.bytes clicks.old }
+    ensures count { L.faults clicks.old ≤ L.faults clicks.new }
+{
+    match judge(disks, clicks, end) {
+        Some(refusal) => Err(refusal),
+        None => match journals_of(alloc, disks) {
+            Ok(journals) => Ok(KeptStore {
+                topology: kept_topology(&disks.topology.journal),
+                journals,
+            }),
+            Err(_) => Err(Refusal::Disks(DisksFault::Memory)),
+        },
+    }
+}
+
+/// Reads what a store keeps, over a click log whose last whole line ends at `end`, and gives all its disks back. The store is
+/// refused for the first of these: a disk that isn't opened, a kept place that doesn't fit the log, an epoch, a round or a slot
+/// that is at its limit. Nothing is asked of it, so that no refusal is for joiners or a table; a store that keeps no topology has
+/// no joiners.
+///
+/// Each file is read once. Time and memory are linear in the files; of the log it reads up to 512 bytes for each kept place.
+pub fn read_store<S: Store, L: LogFile>(
+    alloc: Global,
+    store: &mut S,
+    clicks: &mut L,
+    end: u64,
+) -> Result<KeptStore, Refusal>
+    ensures kept { IfOk result (IsRead S.Disk.tells (S.image store.old) L.tells (L.bytes clicks.old) end) }
+    // With the kept topology, and three replicas: of records that the disks kept verification tells the report.
+    ensures report { IsTrue S.Disk.tells → IfOk result (λ k. (t : KeptTopology) (g : Setting) → k.topology ≡ Some t → IsAsked t g → g.replicas ≡ 3 → Tells g (S.image store.old) k.journals) }
+    // A sound store that keeps no topology keeps no records, if a stop leaves something of each of its disks.
+    ensures blank { IsTrue S.Disk.tells → IfOk result (λ k. (g : Setting) → k.topology ≡ None → g.replicas ≡ 3 → LeavesSomething g (S.image store.old) → IsSoundStore g (S.image store.old) → KeepsNothing k.journals) }
+
+    // All disks are back, and what may be left of each stands for what might have been left of it before.
+    ensures stays { IsTrue S.Disk.tells → (disk : DiskName) → StaysAs (S.image store.old disk) (S.image store.new disk) }
+    ensures grown { IsTrue S.Disk.tells → (disk : DiskName) → GoesOn (S.image store.old disk) (S.image store.new disk) }
+    ensures sound { IsTrue S.Disk.tells → (g : Setting) → IsSoundStore g (S.image store.old) → IsSoundStore g (S.image store.new) }
+
+    ensures first { IfErr result (IfDisks (IsOfFirstDisk S.Disk.tells (S.image store.old) 0)) }
+    ensures rose { IfErr result (IfDisks (RoseBy (S.faults store.old) (S.faults store.new))) }
+    ensures damaged { IsTrue S.Disk.tells → IfErr result (IfDisks (WasDamaged (S.image store.old))) }
+    ensures cause { IfErr result (IfJudged (AreKept S.Disk.tells (S.image store.old) 0) (IsCause L.tells (L.bytes clicks.old) end (L.faults clicks.old) (L.faults clicks.new))) }
+
+    // A sound store is refused neither for a place nor for a damaged disk, if a stop leaves something of each of its disks.
+    ensures welcome { IsTrue S.Disk.tells → IsTrue L.tells → (g : Setting) → IsLogOf (L.bytes clicks.old) g → end ≡ end_from 0 g.clicks → g.replicas ≡ 3 → g.joiners ≤ 4 → LeavesSomething g (S.image store.old) → IsSoundStore g (S.image store.old)
+        → IfErr result (IsWelcome g (S.image store.old)) }
+
+    ensures same { IsTrue L.tells → L.bytes clicks.new ≡ L.bytes clicks.old }
+    ensures count { S.faults store.old ≤ S.faults store.new }
+    ensures log_count { L.faults clicks.old ≤ L.faults clicks.new }
+{
+    stays::<S>();
+    once();
+    opened::<S>();
+    read();
+    fits();
+    verification();
+    let disks = match open_disks(alloc, store, 0) {
+        Ok(disks) => disks,
+        Err(fault) => return Err(Refusal::Disks(fault)),
+    };
+    let read = read_disks(alloc, &disks, clicks, end);
+    give_back(store, disks);
+    read
+}

@@ -1,0 +1,13 @@
+use Rattle.std.proofs.Common.{Option, sym, subst}
+use Rattle.std.proofs.lemmas.List.Elements.{All-push}
+use Rattle.site_node.specs.declared.kind.NodeFault.{NodeFault}
+use Rattle.site_workers.specs.Works.{IsCaused}
+use Rattle.site_workers.specs.Rounds.{AreCaused}
+use Rattle.site_workers.proofs.rounds.dismiss_one.Goals as goal
+
+pub returns-clause-caused : goal.returns-clause-caused
+returns-clause-caused g c before =
+    let m = g.N.SiteNode in
+    let left = c.into_parts-node.result in
+    let caused = All-push (λ (w : g.row.N.Denot × Option NodeFault). IsCaused m.faults m.log_faults w.0 w.1) c.args.nodes.now.items (left.0, left.2) before c.into_parts-node.ensures.caused in
+    subst (AreCaused m.faults m.log_faults) (sym c.push_reserved-2.ensures.items) caused

@@ -1,0 +1,346 @@
+// Rounds of workers over one bus, a thread each.
+ghost use Rattle.std.specs.Prelude.{◌≡◌, ◌≢◌, ◌<◌, ◌≤◌, ◌+◌, ◌^◌, ℕ, true, false, None, Some, [], ◌∷◌, ◌++◌, map, length, slice_index_or, vec_capacity, vec_len, IsTrue, IfOk, IfErr};
+ghost use Rattle.std.specs.List.{All};
+ghost use Rattle.air_bus.specs.History.{IsAired};
+ghost use Rattle.bus_seat.specs.Views.{count, made_by};
+ghost use Rattle.bus_seat.specs.Seats.{fresh, fresh_to, fresh_seats, IsIn};
+ghost use Rattle.site_workers.specs.Works.{WorkerView, HasMet};
+ghost use Rattle.site_workers.specs.Rounds.{WentOn, AllWentOn, Walked, WentFar, Rests, AreCaused, OneHasFault, HasFault};
+
+use crate::Worker;
+use air_bus::Air;
+use bus_seat::{Bus, Seat, Seen};
+use lossy_link::{Kind, Plan};
+use outside::Gate;
+use site_node::{NodeFault, SiteNode};
+use std::alloc::{AllocError, Global};
+use std::sync::Wait;
+use std::thread;
+use std::thread::Threads;
+
+/// What a run leaves.
+#[derive(Drop)]
+pub struct Ran<N: SiteNode> {
+    /// The history, with the plan by which packets went.
+    pub air: Air,
+    /// What was seen and made with each node's seat, and with the run's, which is the last.
+    pub seen: Vec<Seen>,
+    /// The nodes in their order, each with the fault that ended its work, if one did.
+    pub nodes: Vec<(N, Option<NodeFault>)>,
+    /// Whether all nodes are at rest. Else a node has a fault.
+    pub rest: bool,
+}
+
+// The memory that a run takes beside the bus.
+#[derive(Drop)]
+struct Room<N: SiteNode> {
+    workers: Vec<Worker<N>>,
+    seats: Vec<Seat>,
+    nodes: Vec<(N, Option<NodeFault>)>,
+    seen: Vec<Seen>,
+}
+
+/// Runs the nodes, whose numbers are their places in the list, until all are at rest or one has a fault. In a round each node
+/// takes its turns on a thread of its own, until there is none to take. Where a round ends quiet, each node that waits for an
+/// answer takes one Tick in the next.
+///
+/// It takes memory for the bus and the lists before the first round, and hands the nodes back where that is wanting; in a round
+/// the bus and the nodes take theirs.
+pub fn run<R: Threads + Wait + Sync, N: SiteNode + Send + Drop, G: Gate>(
+    rt: &R,
+    alloc: Global,
+    kinds: &[Kind],
+    plan: Plan,
+    nodes: Vec<N>,
+    gate: &G,
+) -> Result<Ran<N>, (AllocError, Vec<N>)>
+    requires count { length nodes.items ≡ length kinds.now }
+    requires few { length kinds.now < 2 ^ 16 }
+    requires numbers { (i : ℕ) (d : N) → i < length nodes.items → N.number (slice_index_or nodes.items i d) ≡ i }
+    requires up { All (λ n. N.waits n ≡ false) nodes.items }
+    ensures plan { IfOk result (λ r. (r.air.plan ≡ plan) × (r.air.kinds ≡ kinds.now)) }
+    // Each entry is one that the bus may add there: each packet that a node took was sent to it, and the next by the plan.
+    ensures aired { IfOk result (λ r. IsAired plan kinds.now r.air.history) }
+    // The history begins with all that was seen with a seat, and has of its number just what was made with it.
+    ensures lists { IfOk result (λ r. All (IsIn r.air.history) r.seen.items) }
+    ensures others { IfOk result (λ r. (n : ℕ) → length kinds.now ≤ n → made_by n r.air.history ≡ []) }
+    ensures count { IfOk result (λ r. length r.nodes.items ≡ length nodes.items) }
+    // Each node's entries have led it from where it stood to where it stands.
+    ensures walked { IsTrue N.tells → IfOk result (λ r. (i : ℕ) (a : N) (b : _) → i < length nodes.items →
+        Walked N.leads N.phase_of N.stands N.number N.spends (slice_index_or nodes.items i a) (slice_index_or r.nodes.items i b) i r.air.history) }
+    // And its disks, whatever a stop leaves of them, have gone on from where they were.
+    ensures grown { IsTrue N.tells → IfOk result (λ r. (i : ℕ) (a : N) (b : _) → i < length nodes.items →
+        WentFar N.leads N.phase_of N.stands N.number N.spends N.grown (slice_index_or nodes.items i a) (slice_index_or r.nodes.items i b)) }
+    // A node has a fault where not all are at rest. Its cause is met where it is one of disks or of a log.
+    ensures fault { IfOk result (λ r. r.rest ≡ false → HasFault r.nodes.items) }
+    ensures caused { IfOk result (λ r. AreCaused N.faults N.log_faults r.nodes.items) }
+    // A node that stopped within a turn has met a fault of its disks.
+    ensures met { IfOk result (λ r. (i : ℕ) (b : _) → i < length nodes.items →
+        HasMet N.faults (slice_index_or r.nodes.items i b).0 (slice_index_or r.nodes.items i b).1 (made_by i r.air.history)) }
+    ensures rest { IfOk result (λ r. IsTrue r.rest → (i : ℕ) (b : _) → i < length nodes.items →
+        Rests N.number N.stands N.at_rest_as (slice_index_or r.nodes.items i b) (made_by i r.air.history)) }
+    ensures back { IfErr result (λ e. e.1 ≡ nodes) }
+{
+    match set_up(alloc, kinds, plan) {
+        Ok((bus, seats, room)) => Ok(run_on(rt, bus, seats, room, nodes, gate)),
+        Err(error) => Err((error, nodes)),
+    }
+}
+
+// The bus, its seats, and the room for the lists.
+fn set_up<N: SiteNode + Drop>(
+    alloc: Global,
+    kinds: &[Kind],
+    plan: Plan,
+) -> Result<(Bus, Vec<Seat>, Room<N>), AllocError>
+    requires few { length kinds.now < 2 ^ 16 }
+    ensures air { IfOk result (λ r. r.0.base ≡ record { kinds = kinds.now; plan = plan; history = [] }) }
+    ensures seats { IfOk result (λ r. r.1.items ≡ fresh_seats r.0) }
+    ensures workers { IfOk result (λ r. (r.2.workers.items ≡ []) × (length kinds.now ≤ vec_capacity r.2.workers)) }
+    ensures room { IfOk result (λ r. (r.2.seats.items ≡ []) × (length kinds.now + 1 ≤ vec_capacity r.2.seats)) }
+    ensures nodes { IfOk result (λ r. (r.2.nodes.items ≡ []) × (length kinds.now ≤ vec_capacity r.2.nodes)) }
+    ensures seen { IfOk result (λ r. (r.2.seen.items ≡ []) × (length kinds.now + 1 ≤ vec_capacity r.2.seen)) }
+{
+    let count = kinds.len();
+    let room = Room {
+        workers: Vec::with_capacity(alloc, count)?,
+        seats: Vec::with_capacity(alloc, count + 1)?,
+        nodes: Vec::with_capacity(alloc, count)?,
+        seen: Vec::with_capacity(alloc, count + 1)?,
+    };
+    let air = Air::new(alloc, kinds, plan)?;
+    let (bus, seats) = Bus::new(alloc, air)?;
+    Ok((bus, seats, room))
+}
+
+// Runs the nodes on the bus, and ends it.
+fn run_on<R: Threads + Wait + Sync, N: SiteNode + Send + Drop, G: Gate>(
+    rt: &R,
+    bus: Bus,
+    seats: Vec<Seat>,
+    room: Room<N>,
+    nodes: Vec<N>,
+    gate: &G,
+) -> Ran<N>
+    requires seats { seats.items ≡ fresh_seats bus }
+    requires count { length nodes.items ≡ count bus.base }
+    requires numbers { (i : ℕ) (d : N) → i < length nodes.items → N.number (slice_index_or nodes.items i d) ≡ i }
+    requires up { All (λ n. N.waits n ≡ false) nodes.items }
+    requires few { count bus.base < 2 ^ 16 }
+    requires workers { (room.workers.items ≡ []) × (count bus.base ≤ vec_capacity room.workers) }
+    requires ended { (room.seats.items ≡ []) × (count bus.base + 1 ≤ vec_capacity room.seats) }
+    requires left { (room.nodes.items ≡ []) × (count bus.base ≤ vec_capacity room.nodes) }
+    requires seen { (room.seen.items ≡ []) × (count bus.base + 1 ≤ vec_capacity room.seen) }
+    ensures plan { (result.air.plan ≡ bus.base.plan) × (result.air.kinds ≡ bus.base.kinds) }
+    ensures aired { IsAired result.air.plan result.air.kinds result.air.history }
+    ensures lists { All (IsIn result.air.history) result.seen.items }
+    ensures others { (n : ℕ) → count bus.base ≤ n → made_by n result.air.history ≡ [] }
+    ensures count { length result.nodes.items ≡ length nodes.items }
+    ensures walked { IsTrue N.tells → (i : ℕ) (a : N) (b : _) → i < length nodes.items →
+        Walked N.leads N.phase_of N.stands N.number N.spends (slice_index_or nodes.items i a) (slice_index_or result.nodes.items i b) i result.air.history }
+    ensures grown { IsTrue N.tells → (i : ℕ) (a : N) (b : _) → i < length nodes.items →
+        WentFar N.leads N.phase_of N.stands N.number N.spends N.grown (slice_index_or nodes.items i a) (slice_index_or result.nodes.items i b) }
+    ensures fault { result.rest ≡ false → HasFault result.nodes.items }
+    ensures caused { AreCaused N.faults N.log_faults result.nodes.items }
+    ensures met { (i : ℕ) (b : _) → i < length nodes.items → HasMet N.faults (slice_index_or result.nodes.items i b).0 (slice_index_or result.nodes.items i b).1 (made_by i result.air.history) }
+    ensures rest { IsTrue result.rest → (i : ℕ) (b : _) → i < length nodes.items →
+        Rests N.number N.stands N.at_rest_as (slice_index_or result.nodes.items i b) (made_by i result.air.history) }
+{
+    let Room {
+        workers,
+        seats: mut ended,
+        nodes: mut left,
+        seen,
+    } = room;
+    let mut seats = seats;
+    let Some(mut last) = seats.pop() else {
+        unreachable!()
+    };
+    let workers = hire(nodes, seats, workers);
+    let (workers, rest) = rounds_of(rt, &bus, &mut last, gate, workers);
+    dismiss(workers, &mut ended, &mut left);
+    ended.push_reserved(last);
+    let (air, seen) = bus.close(ended, seen);
+    Ran {
+        air,
+        seen,
+        nodes: left,
+        rest,
+    }
+}
+
+// A worker for each node, with its seat.
+fn hire<N: SiteNode + Drop>(nodes: Vec<N>, seats: Vec<Seat>, room: Vec<Worker<N>>) -> Vec<Worker<N>>
+    requires empty { room.items ≡ [] }
+    requires room { length nodes.items ≤ vec_capacity room }
+    requires few { length nodes.items < 2 ^ 16 }
+    requires count { length seats.items ≡ length nodes.items }
+    requires numbers { (i : ℕ) (d : N) → i < length nodes.items → N.number (slice_index_or nodes.items i d) ≡ i }
+    requires up { All (λ n. N.waits n ≡ false) nodes.items }
+    requires seats { (i : ℕ) (d : _) → i < length nodes.items → (bus : _) × (slice_index_or seats.items i d ≡ fresh bus (Some i)) }
+    ensures nodes { map (λ (w : WorkerView N). w.node) result.items ≡ nodes.items }
+    ensures seats { map (λ (w : WorkerView N). w.seat) result.items ≡ seats.items }
+    ensures faults { All (λ (w : WorkerView N). w.fault ≡ None) result.items }
+{
+    let mut workers = room;
+    let mut number = 0u16;
+    let mut seats = seats.into_iter();
+    for node in nodes {
+        let Some(seat) = seats.next() else {
+            unreachable!()
+        };
+        workers.push_reserved(Worker::new(node, number, seat));
+        number += 1;
+    }
+    workers
+}
+
+// What workers leave.
+fn dismiss<N: SiteNode + Drop>(
+    workers: Vec<Worker<N>>,
+    seats: &mut Vec<Seat>,
+    nodes: &mut Vec<(N, Option<NodeFault>)>,
+)
+    requires seats { (seats.old.items ≡ []) × (length workers.items < vec_capacity seats.old) }
+    requires nodes { (nodes.old.items ≡ []) × (length workers.items ≤ vec_capacity nodes.old) }
+    ensures seats { (seats.new.items ≡ map (λ (w : WorkerView N). w.seat) workers.items) × (length workers.items < vec_capacity seats.new) }
+    ensures nodes { nodes.new.items ≡ map (λ (w : WorkerView N). (w.node, w.fault)) workers.items }
+    ensures caused { AreCaused N.faults N.log_faults nodes.new.items }
+    ensures met { All (λ (w : WorkerView N). HasMet N.faults w.node w.fault w.seat.mine) workers.items }
+{
+    for worker in workers {
+        dismiss_one(worker, seats, nodes);
+    }
+}
+
+fn dismiss_one<N: SiteNode + Drop>(
+    worker: Worker<N>,
+    seats: &mut Vec<Seat>,
+    nodes: &mut Vec<(N, Option<NodeFault>)>,
+)
+    requires seats { vec_len seats.old < vec_capacity seats.old }
+    requires nodes { vec_len nodes.old < vec_capacity nodes.old }
+    ensures seats { seats.new.items ≡ seats.old.items ++ worker.seat ∷ [] }
+    ensures nodes { nodes.new.items ≡ nodes.old.items ++ (worker.node, worker.fault) ∷ [] }
+    ensures room { (vec_capacity seats.new ≡ vec_capacity seats.old) × (vec_capacity nodes.new ≡ vec_capacity nodes.old) }
+    ensures lens { (vec_len seats.new ≡ vec_len seats.old + 1) × (vec_len nodes.new ≡ vec_len nodes.old + 1) }
+    ensures caused { AreCaused N.faults N.log_faults nodes.old.items → AreCaused N.faults N.log_faults nodes.new.items }
+    ensures met { HasMet N.faults worker.node worker.fault worker.seat.mine }
+{
+    let (node, seat, fault) = worker.into_parts();
+    seats.push_reserved(seat);
+    nodes.push_reserved((node, fault));
+}
+
+// Rounds until all are at rest, which it tells, or one has a fault.
+fn rounds_of<R: Threads + Wait + Sync, N: SiteNode + Send + Drop, G: Gate>(
+    rt: &R,
+    bus: &Bus,
+    last: &mut Seat,
+    gate: &G,
+    mut workers: Vec<Worker<N>>,
+) -> (Vec<Worker<N>>, bool)
+    requires buses { All (λ (w : WorkerView N). w.seat.bus ≡ bus.now) workers.items }
+    requires last { last.old.bus ≡ bus.now }
+    ensures last { (last.new.bus ≡ last.old.bus) × (last.new.number ≡ last.old.number) }
+    ensures went { AllWentOn N.tells N.leads N.phase_of N.stands N.number N.spends N.grown workers.items result.0.items }
+    ensures rest { IsTrue result.1 → All (λ (w : WorkerView N). Rests N.number N.stands N.at_rest_as (w.node, w.fault) w.seat.mine) result.0.items }
+    ensures fault { result.1 ≡ false → OneHasFault result.0.items }
+{
+    let rest = rounds(rt, bus, last, gate, workers.as_mut_slice());
+    (workers, rest)
+}
+
+fn rounds<R: Threads + Wait + Sync, N: SiteNode + Send, G: Gate>(
+    rt: &R,
+    bus: &Bus,
+    last: &mut Seat,
+    gate: &G,
+    workers: &mut [Worker<N>],
+) -> bool
+    requires buses { All (λ (w : WorkerView N). w.seat.bus ≡ bus.now) workers.old }
+    requires last { last.old.bus ≡ bus.now }
+    ensures last { (last.new.bus ≡ last.old.bus) × (last.new.number ≡ last.old.number) }
+    ensures went { AllWentOn N.tells N.leads N.phase_of N.stands N.number N.spends N.grown workers.old workers.new }
+    ensures rest { IsTrue result → All (λ (w : WorkerView N). Rests N.number N.stands N.at_rest_as (w.node, w.fault) w.seat.mine) workers.new }
+    ensures fault { result ≡ false → OneHasFault workers.new }
+{
+    let mut tick = false;
+    for _ in rt.forever() {
+        round(rt, bus, gate, workers, tick);
+        if has_fault(workers) {
+            return false;
+        }
+        tick = bus.quiet(rt, last);
+        if tick && all_rest(workers) {
+            return true;
+        }
+    }
+    unreachable!()
+}
+
+// All workers take turns at the same time, a thread each.
+fn round<R: Threads + Wait + Sync, N: SiteNode + Send, G: Gate>(
+    rt: &R,
+    bus: &Bus,
+    gate: &G,
+    workers: &mut [Worker<N>],
+    tick: bool,
+)
+    requires { All (λ (w : WorkerView N). w.seat.bus ≡ bus.now) workers.old }
+    ensures { AllWentOn N.tells N.leads N.phase_of N.stands N.number N.spends N.grown workers.old workers.new }
+{
+    let threads = workers.len().max(1);
+    thread::for_each_mut(
+        rt,
+        workers,
+        threads,
+        &|_, worker: &mut Worker<N>|
+            requires { worker.old.seat.bus ≡ bus.now }
+            ensures { WentOn N.tells N.leads N.phase_of N.stands N.number N.spends N.grown worker.old worker.new }
+        { take_part(rt, bus, gate, worker, tick) },
+    );
+}
+
+// One worker's part of a round.
+fn take_part<R: Wait, N: SiteNode, G: Gate>(
+    rt: &R,
+    bus: &Bus,
+    gate: &G,
+    worker: &mut Worker<N>,
+    tick: bool,
+)
+    requires { worker.old.seat.bus ≡ bus.now }
+    ensures { WentOn N.tells N.leads N.phase_of N.stands N.number N.spends N.grown worker.old worker.new }
+{
+    if tick {
+        worker.ask_tick();
+    }
+    worker.work(rt, bus, gate);
+}
+
+// Whether a worker has a fault.
+fn has_fault<N: SiteNode>(workers: &[Worker<N>]) -> bool
+    ensures none { result ≡ false → All (λ (w : WorkerView N). w.fault ≡ None) workers.now }
+    ensures one { result ≡ true → OneHasFault workers.now }
+{
+    for worker in workers {
+        if worker.fault().is_some() {
+            return true;
+        }
+    }
+    false
+}
+
+// Whether each worker's node has nothing left to do.
+fn all_rest<N: SiteNode>(workers: &[Worker<N>]) -> bool
+    requires { All (λ (w : WorkerView N). w.fault ≡ None) workers.now }
+    ensures { IsTrue result → All (λ (w : WorkerView N). Rests N.number N.stands N.at_rest_as (w.node, w.fault) w.seat.mine) workers.now }
+{
+    for worker in workers {
+        if !worker.at_rest() {
+            return false;
+        }
+    }
+    true
+}

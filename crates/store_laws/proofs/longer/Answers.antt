@@ -1,5 +1,0 @@
-use Rattle.store_laws.proofs.LongerLogs.{longer_sound}
-use Rattle.store_laws.proofs.longer.Goals as goal
-
-pub returns : goal.returns
-returns g c = λ s. longer_sound c.whole_stores.ensures.longer (g.S.Store.image s)

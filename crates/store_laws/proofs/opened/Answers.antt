@@ -1,5 +1,0 @@
-use Rattle.store_laws.proofs.Opening.{opened_whole}
-use Rattle.store_laws.proofs.opened.Goals as goal
-
-pub returns : goal.returns
-returns g c = λ h s store sound left. opened_whole h (g.S.Store.image s) store sound left c.once.ensures.topology c.once.ensures.records c.same.ensures.store

@@ -1,8 +1,0 @@
-use Rattle.store_laws.proofs.Nodes.{same_is_sound, same_is_whole}
-use Rattle.store_laws.proofs.same.Goals as goal
-
-pub returns-clause-records : goal.returns-clause-records
-returns-clause-records c = same_is_sound
-
-pub returns-clause-store : goal.returns-clause-store
-returns-clause-store c = same_is_whole

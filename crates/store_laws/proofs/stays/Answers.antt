@@ -1,5 +1,0 @@
-use Rattle.store_laws.proofs.Opening.{stays_sound}
-use Rattle.store_laws.proofs.stays.Goals as goal
-
-pub returns : goal.returns
-returns g c = λ h before after. stays_sound h (g.S.Store.image before) (g.S.Store.image after)

@@ -1,7 +1,0 @@
-mod Leaving
-mod Values
-mod Causes
-mod Images
-mod Whole
-mod Welcome
-pub mod Damage

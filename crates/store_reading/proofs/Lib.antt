@@ -1,6 +1,0 @@
-mod Values
-mod Reasons
-mod Images
-mod Telling
-mod Welcome
-mod Blank

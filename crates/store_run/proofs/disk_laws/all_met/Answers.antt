@@ -1,4 +1,0 @@
-use Rattle.store_run.proofs.disk_laws.all_met.Goals as goal
-
-pub returns : goal.returns
-returns g c = record { disks = c.met.ensures.disks; logs = c.met.ensures.logs }

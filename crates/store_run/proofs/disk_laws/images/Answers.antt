@@ -1,4 +1,0 @@
-use Rattle.store_run.proofs.disk_laws.images.Goals as goal
-
-pub returns : goal.returns
-returns g c = g.N.SiteNode.images

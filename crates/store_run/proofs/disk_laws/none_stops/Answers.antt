@@ -1,5 +1,0 @@
-use Rattle.store_run.proofs.Stopping.{none_stop}
-use Rattle.store_run.proofs.disk_laws.none_stops.Goals as goal
-
-pub returns : goal.returns
-returns c = none_stop c.node_numbers.ensures
