@@ -1,0 +1,39 @@
+# What bin/photon, bin/build, bin/release and .ci/run ask about the program's sources, which are crates.txt and each .rt and .antt file
+# below crates/ that isn't below a folder out/. For a POSIX shell in which $top is the top of the repository.
+built=$top/crates/photon/out/photon
+released=$top/dist/photon-x86_64-linux
+release=$top/dist/RELEASE
+
+# Whether the file is a program that is newer than each source.
+is_newest() {
+    [ -f "$1" ] && [ -x "$1" ] || return 1
+    newer=$(find "$top/crates.txt" "$top/crates" -type d -name out -prune -o \
+        -type f \( -name crates.txt -o -name '*.rt' -o -name '*.antt' \) -newer "$1" -print) || return 1
+    [ -z "$newer" ]
+}
+
+# Prints the SHA-256 of the sources: of the list that sha256sum gives of them, in the order of their paths.
+sources_sum() {
+    (
+        cd "$top" || exit 1
+        {
+            printf 'crates.txt\0'
+            find crates -type d -name out -prune -o -type f \( -name '*.rt' -o -name '*.antt' \) -print0
+        } | LC_ALL=C sort -z | xargs -0 sha256sum | file_sum
+    )
+}
+
+# Prints the SHA-256 of the file, or of standard input.
+file_sum() {
+    sha256sum "$@" | cut -d ' ' -f 1
+}
+
+# Prints what dist/RELEASE says of its kit, its program or its sources.
+release_says() {
+    sed -n "s/^$1: //p" "$release" 2>/dev/null
+}
+
+# Whether these are the same sum, and one at all.
+is_sum() {
+    [ "${#1}" -eq 64 ] && [ "$1" = "$2" ]
+}
