@@ -1,0 +1,135 @@
+"""A case of the tests: its folder, its random numbers, the program, and what it ran, which is kept where it fails."""
+import os
+import random
+import shlex
+import signal
+import subprocess
+import time
+
+LIMIT = float(os.environ.get("PHOTON_TEST_LIMIT", "600"))  # seconds for a call of the program
+MEMORY = 1500  # megabytes that a call may take
+PAGE = os.sysconf("SC_PAGE_SIZE")
+
+
+class Failed(Exception):
+    """The program did something else than the pages say."""
+
+
+class Ended:
+    """How a call of the program ended."""
+
+    def __init__(self, status, out, err):
+        self.status, self.out, self.err = status, out, err.decode("utf-8", "replace").strip()
+
+
+class Case:
+    """One case; the same name and seed give the same random numbers."""
+
+    def __init__(self, name, seed, program, folder):
+        self.name, self.seed, self.program, self.folder = name, seed, program, folder
+        self.random = random.Random(f"{seed} {name}")
+        self.steps, self.children = [], []
+
+    # ---- files
+
+    def path(self, name):
+        """The path of a file of the case's folder."""
+        return os.path.join(self.folder, name)
+
+    def write(self, name, data):
+        """Writes a file into the case's folder, and gives its name."""
+        with open(self.path(name), "wb") as file:
+            file.write(data)
+        return name
+
+    def note(self, text):
+        """Keeps a line for whoever looks at a failed case."""
+        self.steps.append(text)
+
+    # ---- what is expected
+
+    def check(self, fits, text):
+        """Fails the case where something doesn't fit."""
+        if not fits:
+            raise Failed(text)
+
+    def check_none(self, wrong, when):
+        """Fails the case where anything is wrong."""
+        if wrong:
+            raise Failed(f"{when}: " + "; ".join(wrong[:5]) + (f"; and {len(wrong) - 5} more" if len(wrong) > 5 else ""))
+
+    def check_same(self, got, expected, what):
+        """Fails the case where two texts differ."""
+        if got != expected:
+            raise Failed(f"{what}: it is\n{shown(got)}\nand by the pages\n{shown(expected)}")
+
+    # ---- the program
+
+    def start(self, words, **more):
+        """Starts the program with these words in the case's folder."""
+        self.note("photon " + shlex.join(str(word) for word in words))
+        settings = {"stdin": subprocess.DEVNULL, "stdout": subprocess.PIPE, "stderr": subprocess.PIPE, **more}
+        child = subprocess.Popen([self.program, *map(str, words)], cwd=self.folder, **settings)
+        self.children.append(child)
+        return child
+
+    def end(self, child):
+        """Waits for the end of a call; one that takes too long or too much memory fails the case."""
+        until = time.monotonic() + LIMIT
+        while True:
+            try:
+                out, err = child.communicate(timeout=0.25)
+                break
+            except subprocess.TimeoutExpired:
+                self.check(time.monotonic() < until, f"the program didn't end in {LIMIT:.0f} seconds: {self.steps[-1]}")
+                self.check(megabytes(child) < MEMORY, f"the program takes over {MEMORY} megabytes: {self.steps[-1]}")
+        ended = Ended(child.returncode, out or b"", err or b"")
+        self.note(f"  status {ended.status}; {ended.err or 'nothing on standard error'}; {len(ended.out)} bytes of output")
+        return ended
+
+    def run(self, words, **more):
+        """Runs the program to its end."""
+        return self.end(self.start(words, **more))
+
+    def expect(self, words, status, err, out=b"", **more):
+        """Runs the program, and compares all that it tells."""
+        ended = self.run(words, **more)
+        self.check((ended.status, ended.err) == (status, err),
+                   f"status {ended.status}, {ended.err!r}; by the pages {status}, {err!r}: {self.steps[-2]}")
+        if out is not None:
+            self.check_same(ended.out, out, self.steps[-2])
+        return ended
+
+    def kill_at(self, child, fits):
+        """Kills a call once something holds, or lets it end; whether it was killed."""
+        until = time.monotonic() + LIMIT
+        while child.poll() is None and not fits():
+            if time.monotonic() > until:
+                raise Failed(f"the program didn't end in {LIMIT:.0f} seconds: {self.steps[-1]}")
+            time.sleep(0.0005)
+        child.kill()
+        child.communicate()
+        self.note(f"  ended with {child.returncode}")
+        return child.returncode == -signal.SIGKILL
+
+    def close(self):
+        """Ends what the case has started and not waited for."""
+        for child in self.children:
+            if child.poll() is None:
+                child.kill()
+                child.communicate()
+
+
+def megabytes(child):
+    """The memory of a process, 0 where the system doesn't tell."""
+    try:
+        with open(f"/proc/{child.pid}/statm", encoding="ascii") as file:
+            return int(file.read().split()[1]) * PAGE >> 20
+    except (OSError, ValueError, IndexError):
+        return 0
+
+
+def shown(text):
+    """A text for a message, its middle left out where it is long."""
+    text = text.decode("utf-8", "replace") if isinstance(text, bytes) else str(text)
+    return text if len(text) < 3000 else text[:1400] + "\n[..]\n" + text[-1400:]

@@ -1,0 +1,46 @@
+"""The groups of cases, in the order in which they are run and told."""
+import drills
+import journals
+import kills
+import runs
+import strict
+import texts
+import worked
+
+
+class Group:
+    """A name with its cases: those of a list, or so many random ones of one function for each seed."""
+
+    def __init__(self, name, function=None, count=0, listed=()):
+        self.name, self.function, self.count, self.listed = name, function, count, listed
+
+    def cases(self):
+        """Each case's name and function, and whether it takes random numbers."""
+        for number in range(self.count):
+            yield f"{self.name}.{number}", self.function, True
+        for label, function in self.listed:
+            yield f"{self.name}.{label}", function, False
+
+
+EXAMPLES = [("one_line", lambda case: runs.example(case, "one_line")), ("shop", lambda case: runs.example(case, "shop")), ("bytes", runs.one_line_bytes)]
+
+GROUPS = [
+    Group("pages", listed=[("commands", worked.pages)]),
+    Group("worked", listed=worked.CASES + strict.CASES),
+    Group("examples", listed=EXAMPLES),
+    Group("texts", listed=texts.CASES),
+    Group("fresh", runs.fresh, 20),
+    Group("growing", runs.growing, 10),
+    Group("live", runs.live, 3),
+    Group("wrong", runs.wrong, 40),
+    Group("invented", journals.invented, 40),
+    Group("damaged", journals.damaged, 60),
+    Group("misfits", journals.misfits, 30),
+    Group("drills", drills.drill, 40, [("many_joiners", drills.many_joiners)]),
+    Group("plans", drills.plans, 50),
+    Group("bulk", drills.bulk, 10),
+    Group("kills", kills.kill, 20),
+    Group("full_disk", kills.full_disk, 10),
+    Group("held", kills.held, 2),
+    Group("race", kills.race, 4),
+]

@@ -1,0 +1,124 @@
+"""Runs the tests of the program that PHOTON names; see `bin/test --help`."""
+import argparse
+import concurrent.futures
+import os
+import random
+import shutil
+import signal
+import subprocess
+import sys
+import tempfile
+import traceback
+
+sys.dont_write_bytecode = True
+import groups
+from case import Case, Failed
+
+HERE = os.path.dirname(os.path.abspath(__file__))
+SEEDS = (1, 2)
+
+
+class Pool(concurrent.futures.ThreadPoolExecutor):
+    """Runs some cases at once; where the run is ended early, those that haven't begun aren't begun."""
+
+    def __exit__(self, *fault):
+        self.shutdown(wait=True, cancel_futures=True)
+
+
+def read_words():
+    """The options."""
+    parser = argparse.ArgumentParser(prog="bin/test", description="Runs the program over everything that the pages say of it.")
+    parser.add_argument("--seed", type=int, action="append", help=f"a seed of the random cases; if missing {' and '.join(map(str, SEEDS))}")
+    parser.add_argument("--random", action="store_true", help="takes one seed by chance")
+    parser.add_argument("--case", action="append", help="runs this case, or this group, alone")
+    parser.add_argument("--jobs", type=int, default=2, help="how many cases at once; if missing 2")
+    parser.add_argument("--list", action="store_true", help="prints the names of the cases")
+    return parser.parse_args()
+
+
+def wanted(words, seeds):
+    """The cases to run: (group, name, seed, function). Those without random numbers are run with the first seed alone."""
+    found = []
+    for group in groups.GROUPS:
+        for name, function, is_random in group.cases():
+            for seed in seeds if is_random else seeds[:1]:
+                if not words.case or name in words.case or group.name in words.case:
+                    found.append((group.name, name, seed, function))
+    return found
+
+
+def keep(folder, case, text):
+    """Keeps the folder of a failed case, with what it ran, and gives its place."""
+    place = os.path.join(HERE, "out", f"{case.seed}.{case.name}")
+    shutil.rmtree(place, ignore_errors=True)
+    shutil.copytree(folder, place, symlinks=True)
+    with open(os.path.join(place, "steps.txt"), "w", encoding="utf-8") as file:
+        file.write("\n".join([*case.steps, "", text, ""]))
+    return place
+
+
+def run_case(top, program, name, seed, function):
+    """Runs one case: None, or the text of its failure."""
+    folder = tempfile.mkdtemp(prefix=f"{name}.", dir=top)
+    case, text = Case(name, seed, program, folder), None
+    try:
+        function(case)
+    except Failed as failed:
+        text = str(failed)
+    except Exception:
+        text = traceback.format_exc()
+    case.close()
+    place = keep(folder, case, text) if text else None
+    shutil.rmtree(folder, ignore_errors=True)
+    return text and f"FAILED {name}, seed {seed}; kept in {place}; again by: bin/test --seed {seed} --case {name}\n{text}"
+
+
+def run_all(cases, program, jobs):
+    """Runs the cases, prints a line for each group, and gives how many passed and failed."""
+    passed = failed = 0
+    with tempfile.TemporaryDirectory(prefix="photon_test.") as top, Pool(jobs) as pool:
+        runs = [(group, pool.submit(run_case, top, program, name, seed, function)) for group, name, seed, function in cases]
+        for group in dict.fromkeys(group for group, _ in runs):
+            texts = [run.result() for one, run in runs if one == group]
+            wrong = [text for text in texts if text]
+            for text in wrong:
+                print(text, flush=True)
+            print(f"{group}: {len(texts) - len(wrong)} of {len(texts)} passed", flush=True)
+            passed, failed = passed + len(texts) - len(wrong), failed + len(wrong)
+    return passed, failed
+
+
+def can_run(program):
+    """Calls the program once without words, which it refuses; bin/photon builds it then, where need be."""
+    try:
+        ended = subprocess.run([program], stdin=subprocess.DEVNULL, capture_output=True, check=False)
+    except OSError as fault:
+        print(f"test: {program} can't be run: {fault.strerror}", file=sys.stderr)
+        return False
+    if ended.returncode != 2:
+        print(f"test: {program} without words ends with {ended.returncode}: {ended.stderr.decode('utf-8', 'replace')}", file=sys.stderr)
+    return ended.returncode == 2
+
+
+def main():
+    """Runs what the words ask for; 1 where something failed."""
+    words = read_words()
+    seeds = words.seed or ([random.SystemRandom().randrange(1 << 32)] if words.random else list(SEEDS))
+    cases = wanted(words, seeds)
+    if words.list:
+        print("\n".join(dict.fromkeys(name for _, name, _, _ in cases)))
+        return 0
+    if not cases:
+        sys.exit("test: there is no such case; --list prints them")
+    signal.signal(signal.SIGTERM, lambda *_: sys.exit(143))
+    program = os.path.abspath(os.environ["PHOTON"])
+    if not can_run(program):
+        return 127
+    print(f"{program}, seeds {' '.join(map(str, seeds))}", flush=True)
+    passed, failed = run_all(cases, program, words.jobs)
+    print(f"{passed} passed, {failed} failed")
+    return 1 if failed else 0
+
+
+if __name__ == "__main__":
+    sys.exit(main())
