@@ -1,5 +1,5 @@
-# What bin/photon, bin/build, bin/release and .ci/run ask about the program's sources, which are crates.txt and each .rt and .antt file
-# below crates/ that isn't below a folder out/. For a POSIX shell in which $top is the top of the repository.
+# What bin/photon, bin/build, bin/release, bin/test and .ci/run ask about the program and its sources, which are crates.txt and each .rt and
+# .antt file below crates/ that isn't below a folder out/. For a POSIX shell in which $top is the top of the repository.
 built=$top/crates/photon/out/photon
 released=$top/dist/photon-x86_64-linux
 release=$top/dist/RELEASE
@@ -36,4 +36,22 @@ release_says() {
 # Whether these are the same sum, and one at all.
 is_sum() {
     [ "${#1}" -eq 64 ] && [ "$1" = "$2" ]
+}
+
+# Whether the released program was built from just these sources.
+is_released() {
+    [ -f "$release" ] && [ -x "$released" ] && [ "$(uname -sm)" = 'Linux x86_64' ] &&
+        is_sum "$(file_sum "$released")" "$(release_says program)" &&
+        is_sum "$(sources_sum)" "$(release_says sources)"
+}
+
+# Prints the program of these sources: the one that was built here, where that is newer than they are, else the released one.
+program_here() {
+    if is_newest "$built"; then
+        echo "$built"
+    elif is_released; then
+        echo "$released"
+    else
+        return 1
+    fi
 }
