@@ -1,13 +1,28 @@
 -- A list that is split at the first of a byte.
-use Rattle.std.proofs.Common.{◌≡◌, ℕ, ◌+◌, ◌-◌, ◌≤◌, Bool, true, false, cond, Some, None, Contains, append_assoc, get_or, ltb, eqb, List, [], ◌∷◌, ◌++◌, length, take, drop, refl, sym, ap, ◌∙◌, arith}
-use Rattle.std.specs.List.{position, position_or_len}
-use Rattle.std.proofs.lemmas.Bool.{lt-ltb, ltb-false, eqb-true}
-use Rattle.std.proofs.lemmas.List.Sums.{fails_before_first}
+use Rattle.std.proofs.Common.{◌≡◌, ℕ, ◌+◌, ◌-◌, ◌≤◌, Bool, true, false, cond, Option, Some, None, Contains, append_assoc, get_or, ltb, eqb, List, [], ◌∷◌, ◌++◌, length, take, drop, refl, sym, ap, ◌∙◌, subst, arith}
+use Rattle.std.specs.List.{position, position_or_len, before_first, after_first}
+use Rattle.std.proofs.lemmas.Bool.{lt-ltb, ltb-true, ltb-false, eqb-true}
+use Rattle.std.proofs.lemmas.List.Sums.{fails_before_first, position_or_len_is}
 use Rattle.std.proofs.lemmas.List.Quantifiers.{position-Some}
 use Rattle.std.proofs.lemmas.Bool.Decides.{nat_tests}
 use Rattle.std.proofs.lemmas.List.{take_at, drop_at, take_all, drop_more, take-append-drop, length-append, length-drop}
 use Rattle.std.proofs.lemmas.Option.{same_Some}
+use Rattle.memchr.specs.Find.{IsFirstByte, is_byte}
 use Rattle.list_words.specs.Bytes.{Lacks}
+
+fails : (byte x : ℕ) → (eqb x byte ≡ true → ⊥) → eqb x byte ≡ false
+fails byte x other = go (eqb x byte) refl
+  where
+    go : (b : Bool) → eqb x byte ≡ b → b ≡ false
+    go true e = absurd (other e)
+    go false e = refl
+
+ltb-irrefl : (n : ℕ) → ltb n n ≡ false
+ltb-irrefl n = go (ltb n n) refl
+  where
+    go : (b : Bool) → ltb n n ≡ b → b ≡ false
+    go true e = absurd (omega (arith, ltb-true n n e))
+    go false e = refl
 
 pub position_at : (byte : ℕ) (front rest : List ℕ) → Lacks byte front → position_or_len (λ b. eqb b byte) (front ++ byte ∷ rest) ≡ length front
 position_at byte [] rest h = grind (arith, nat_tests)
@@ -15,6 +30,26 @@ position_at byte (x ∷ xs) rest h =
     let more = position_at byte xs rest h.1 in
     let apart = h.0 in
     grind (arith, nat_tests)
+
+-- the place that a search for a byte finds is its first
+found_first : (byte : ℕ) (text : List ℕ) (k : ℕ) → IsFirstByte (is_byte byte) text (Some k) → position_or_len (λ b. eqb b byte) text ≡ k
+found_first byte text k first =
+    position_or_len_is (λ b. eqb b byte) text k 0 (omega (arith, first.0.high)) (λ j lt. fails byte (get_or text j 0) (first.0.before j (omega arith) lt)) (λ lt. first.1)
+
+pub first_is : (byte : ℕ) (text : List ℕ) (r : Option ℕ) → IsFirstByte (is_byte byte) text r → r ≡ position (λ b. eqb b byte) text
+first_is byte text None none =
+    let end : position_or_len (λ b. eqb b byte) text ≡ length text =
+    position_or_len_is (λ b. eqb b byte) text (length text) 0 (omega arith) (λ k lt. fails byte (get_or text k 0) (none k (omega arith) lt)) (λ lt. absurd (omega (arith, lt))) in
+    rw (end, ltb-irrefl (length text)) refl
+first_is byte text (Some k) first = rw (found_first byte text k first, lt-ltb k (length text) first.0.high) refl
+
+-- what stands before it and behind it
+pub cut_there : (byte : ℕ) (text : List ℕ) (r : Option ℕ) (at : ℕ) → IsFirstByte (is_byte byte) text r → r ≡ Some at
+    → (take at text ≡ before_first (λ b. eqb b byte) text) × (take (length text - (at + 1)) (drop (at + 1) text) ≡ after_first (λ b. eqb b byte) text)
+cut_there byte text r at first is =
+    let e = found_first byte text at (subst (IsFirstByte (is_byte byte) text) is first) in
+    let all : take (length text - (at + 1)) (drop (at + 1) text) ≡ drop (at + 1) text = take_all _ _ (omega (arith, length-drop (at + 1) text)) in
+    (ap (λ k. take k text) (sym e), all ∙ ap (λ k. drop (k + 1) text) (sym e))
 
 -- the first of a byte stands behind what lacks it
 pub found_at : (byte : ℕ) (text front rest : List ℕ) → Lacks byte front → text ≡ front ++ byte ∷ rest → position (λ b. eqb b byte) text ≡ Some (length front)

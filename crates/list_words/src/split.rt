@@ -1,7 +1,9 @@
 // Cuts a byte string at the first of a byte: a line at its spaces, a log at its line feeds.
-ghost use Rattle.std.specs.Prelude.{◌≡◌, ◌==◌, ◌++◌, ◌∷◌, ℕ, List, Contains, IfSome, IfNone, IsSomeAnd, position};
+ghost use Rattle.std.specs.Prelude.{◌≡◌, ◌==◌, ◌++◌, ◌∷◌, ℕ, List, Contains, IfSome, IfNone, IsSomeAnd};
 ghost use Rattle.std.specs.List.{before_first, after_first};
 ghost use Rattle.list_words.specs.Bytes.{Lacks};
+
+use memchr::memchr;
 
 /// What stands before the first such byte, and what stands behind it.
 ///
@@ -15,12 +17,6 @@ pub fn split_once(text: &[u8], byte: u8) -> Option<(&[u8], &[u8])>
         → IsSomeAnd result (λ parts. (parts.0.now ≡ front) × (parts.1.now ≡ rest)) }
     ensures none { IfNone result (Contains text.now byte → ⊥) }
 {
-    let at = find(text, byte)?;
+    let at = memchr(byte, text)?;
     Some((&text[..at], &text[at + 1..]))
-}
-
-fn find(text: &[u8], byte: u8) -> Option<usize>
-    ensures { result ≡ position (λ b. b == byte) text.now }
-{
-    text.iter().position(|b| *b == byte)
 }

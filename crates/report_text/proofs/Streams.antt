@@ -4,7 +4,7 @@ use Rattle.std.proofs.Math.Seq.{take-add}
 use Rattle.std.proofs.lemmas.List.{take-take, length-take, take-append-drop, take_more}
 use Rattle.std.proofs.lemmas.Grind.{flat_map-append}
 use Rattle.std.specs.List.{flat_map}
-use Rattle.std.specs.Prelude.{Result, Ok, Err, OnErr}
+use Rattle.std.specs.Prelude.{true, false, Result, Ok, Err, OnOk, OnErr, is_ok}
 use Rattle.report_text.specs.Stream.{Passed, TookPrefix}
 
 -- a sink that took a front of the bytes takes some of the rest
@@ -105,3 +105,24 @@ module _ {X : Type 0} (f : X → List ℕ) where
 pub on_err : {T E P : Type 0} (r : Result T E) → P → OnErr r P
 on_err (Ok x) p = tt
 on_err (Err e) p = p
+
+-- ---- a buffer that took the bytes, or had no room for them
+
+pub given_ok : {T E : Type 0} (r : Result T E) (P : Type 0) → true ≡ is_ok r → OnOk r P → P
+given_ok (Ok x) P is h = h
+given_ok (Err e) P is h = absurd (cc is)
+
+pub given_err : {T E : Type 0} (r : Result T E) (P : Type 0) → false ≡ is_ok r → OnErr r P → P
+given_err (Ok x) P is h = absurd (cc is)
+given_err (Err e) P is h = h
+
+-- what waited went out, and the text waits, or went out too
+pub waits_now : (old buffer text mid left : List ℕ) → mid ≡ old ++ buffer → left ≡ text → Passed old (buffer ++ text) mid left
+waits_now old buffer text mid left sent is = record { sent = buffer; text_is = ap (λ t. buffer ++ t) (sym is); new_is = sent }
+
+pub went_too : (old buffer text mid new left : List ℕ) → mid ≡ old ++ buffer → new ≡ mid ++ text → left ≡ [] → Passed old (buffer ++ text) new left
+went_too old buffer text mid new left sent is none = record {
+  sent = buffer ++ text;
+  text_is = sym (nothing_left (buffer ++ text)) ∙ ap (λ t. (buffer ++ text) ++ t) (sym none);
+  new_is = is ∙ ap (λ t. t ++ text) sent ∙ append_assoc old buffer text;
+}

@@ -1,7 +1,6 @@
 //! The report's bytes, written to a sink without memory.
 #![tactic(auto)]
 
-mod buffer;
 mod report;
 mod stream;
 mod totals;

@@ -8,8 +8,7 @@ ghost use Rattle.log_records.specs.declared.report.ReportLine.TheVariants.{J};
 ghost use Rattle.outside.specs.Faults.{Counts};
 ghost use Rattle.report_text.specs.Stream.{Passed, TookPrefix};
 
-use crate::buffer::Buffer;
-use crate::stream::{flush, put_all};
+use crate::stream::{Buffer, flush, put_all};
 use crate::totals::Totals;
 use event_id::{EventId, MAX_TEXT};
 use log_records::{ClickRec, QueryRec, ReportLine};
@@ -47,8 +46,8 @@ fn put_lines<K: Sink>(
     buffer: &mut Buffer,
     lines: &[ReportLine],
 ) -> Result<(), WriteFault>
-    ensures passed { IsTrue K.tells → OnOk result (Passed (K.held sink.old) (buffer.old ++ flat_map line_text lines.now) (K.held sink.new) buffer.new) }
-    ensures prefix { IsTrue K.tells → OnErr result (TookPrefix (K.held sink.old) (buffer.old ++ flat_map line_text lines.now) (K.held sink.new)) }
+    ensures passed { IsTrue K.tells → OnOk result (Passed (K.held sink.old) (buffer.old.items ++ flat_map line_text lines.now) (K.held sink.new) buffer.new.items) }
+    ensures prefix { IsTrue K.tells → OnErr result (TookPrefix (K.held sink.old) (buffer.old.items ++ flat_map line_text lines.now) (K.held sink.new)) }
     ensures count { Counts (K.faults sink.old) (K.faults sink.new) (IsErr result) }
 {
     for line in lines {
@@ -58,8 +57,8 @@ fn put_lines<K: Sink>(
 }
 
 fn put_line<K: Sink>(sink: &mut K, buffer: &mut Buffer, line: &ReportLine) -> Result<(), WriteFault>
-    ensures passed { IsTrue K.tells → OnOk result (Passed (K.held sink.old) (buffer.old ++ line_text line.now) (K.held sink.new) buffer.new) }
-    ensures prefix { IsTrue K.tells → OnErr result (TookPrefix (K.held sink.old) (buffer.old ++ line_text line.now) (K.held sink.new)) }
+    ensures passed { IsTrue K.tells → OnOk result (Passed (K.held sink.old) (buffer.old.items ++ line_text line.now) (K.held sink.new) buffer.new.items) }
+    ensures prefix { IsTrue K.tells → OnErr result (TookPrefix (K.held sink.old) (buffer.old.items ++ line_text line.now) (K.held sink.new)) }
     ensures count { Counts (K.faults sink.old) (K.faults sink.new) (IsErr result) }
 {
     match line {
@@ -76,8 +75,8 @@ fn put_joined<K: Sink>(
     click: &ClickRec,
     query: &QueryRec,
 ) -> Result<(), WriteFault>
-    ensures passed { IsTrue K.tells → OnOk result (Passed (K.held sink.old) (buffer.old ++ line_text (J click.now query.now)) (K.held sink.new) buffer.new) }
-    ensures prefix { IsTrue K.tells → OnErr result (TookPrefix (K.held sink.old) (buffer.old ++ line_text (J click.now query.now)) (K.held sink.new)) }
+    ensures passed { IsTrue K.tells → OnOk result (Passed (K.held sink.old) (buffer.old.items ++ line_text (J click.now query.now)) (K.held sink.new) buffer.new.items) }
+    ensures prefix { IsTrue K.tells → OnErr result (TookPrefix (K.held sink.old) (buffer.old.items ++ line_text (J click.now query.now)) (K.held sink.new)) }
     ensures count { Counts (K.faults sink.old) (K.faults sink.new) (IsErr result) }
 {
     let mut id = [0; MAX_TEXT];
@@ -104,8 +103,8 @@ fn put_short<K: Sink>(
     letter: &[u8],
     id: EventId,
 ) -> Result<(), WriteFault>
-    ensures passed { IsTrue K.tells → OnOk result (Passed (K.held sink.old) (buffer.old ++ (letter.now ++ spell id ++ line_feed ∷ [])) (K.held sink.new) buffer.new) }
-    ensures prefix { IsTrue K.tells → OnErr result (TookPrefix (K.held sink.old) (buffer.old ++ (letter.now ++ spell id ++ line_feed ∷ [])) (K.held sink.new)) }
+    ensures passed { IsTrue K.tells → OnOk result (Passed (K.held sink.old) (buffer.old.items ++ (letter.now ++ spell id ++ line_feed ∷ [])) (K.held sink.new) buffer.new.items) }
+    ensures prefix { IsTrue K.tells → OnErr result (TookPrefix (K.held sink.old) (buffer.old.items ++ (letter.now ++ spell id ++ line_feed ∷ [])) (K.held sink.new)) }
     ensures count { Counts (K.faults sink.old) (K.faults sink.new) (IsErr result) }
 {
     let mut text = [0; MAX_TEXT];
@@ -118,8 +117,8 @@ fn put_totals<K: Sink>(
     buffer: &mut Buffer,
     lines: &[ReportLine],
 ) -> Result<(), WriteFault>
-    ensures passed { IsTrue K.tells → OnOk result (Passed (K.held sink.old) (buffer.old ++ totals lines.now) (K.held sink.new) buffer.new) }
-    ensures prefix { IsTrue K.tells → OnErr result (TookPrefix (K.held sink.old) (buffer.old ++ totals lines.now) (K.held sink.new)) }
+    ensures passed { IsTrue K.tells → OnOk result (Passed (K.held sink.old) (buffer.old.items ++ totals lines.now) (K.held sink.new) buffer.new.items) }
+    ensures prefix { IsTrue K.tells → OnErr result (TookPrefix (K.held sink.old) (buffer.old.items ++ totals lines.now) (K.held sink.new)) }
     ensures count { Counts (K.faults sink.old) (K.faults sink.new) (IsErr result) }
 {
     let totals = Totals::of(lines);

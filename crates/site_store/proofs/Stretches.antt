@@ -1,7 +1,8 @@
 -- Floors of a stretch from those of its parts.
 use Rattle.std.proofs.Common.{◌≡◌, inl, inr, ⊎_elim, ℕ, ◌+◌, ◌-◌, ◌<◌, ◌≤◌, List, ◌++◌, length, take, drop, get_or, refl, sym, ap, subst, ◌∙◌, arith}
-use Rattle.std.proofs.lemmas.Bool.{cases_lt}
+use Rattle.std.proofs.lemmas.Bool.{cases_lt, eqb-true, eq-eqb}
 use Rattle.std.proofs.lemmas.List.{get_or-take, get_or-drop, get_or_past, length-take, take-append-le}
+use Rattle.memchr.specs.Find.{Nowhere, NoneAfter, Passes, is_byte}
 use Rattle.log_records.specs.Log.{line_feed}
 use Rattle.site_store.specs.Floors.{NoneBetween, IsFloorFrom, IsFloorOf, IsBehindFeed}
 
@@ -39,11 +40,17 @@ floor_none P at none = record { above = omega arith; below = omega arith; is = i
 
 -- ---- line feeds
 
--- the place behind another byte
-pub behind_other : (bytes : List ℕ) (n : ℕ) → (get_or bytes (n - 1) 0 ≡ line_feed → ⊥) → NoneBetween (IsBehindFeed bytes) (n - 1) n
-behind_other bytes n other m low high (i, is, feed) =
-    let here : i ≡ n - 1 = omega arith in
-    other (subst (λ j. get_or bytes j 0 ≡ line_feed) here feed)
+-- of bytes without one, and of those whose last one stands at a place
+pub floor_of_none : (bytes : List ℕ) → Nowhere (Passes (is_byte line_feed) bytes) 0 (length bytes) → IsFloorOf (IsBehindFeed bytes) (length bytes) 0
+floor_of_none bytes none = floor_none (IsBehindFeed bytes) (length bytes) (λ n low high (i, is, feed). none i (omega arith) (omega (arith, high, is)) (eq-eqb _ _ feed))
+
+pub floor_of_last : (bytes : List ℕ) (k : ℕ) → NoneAfter (Passes (is_byte line_feed) bytes) 0 (length bytes) k → Passes (is_byte line_feed) bytes k → IsFloorOf (IsBehindFeed bytes) (length bytes) (k + 1)
+floor_of_last bytes k last here = record {
+  above = omega arith;
+  below = omega (arith, last.high);
+  is = inr (k, omega arith, eqb-true _ _ here);
+  none = λ n low high (i, is, feed). last.after i (omega (arith, low, is)) (omega (arith, high, is)) (eq-eqb _ _ feed);
+}
 
 -- behind the end of a log there are none
 pub none_past : (log : List ℕ) (at to : ℕ) → length log ≤ at → NoneBetween (IsBehindFeed log) at to

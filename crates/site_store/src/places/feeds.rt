@@ -3,6 +3,7 @@ ghost use Rattle.std.specs.Prelude.{◌≡◌, ◌≤◌, ◌<◌, ◌+◌, ◌^
 ghost use Rattle.outside.specs.Faults.{Counts};
 ghost use Rattle.site_store.specs.Floors.{IsFloorOf, IsFloorFrom, IsBehindFeed};
 
+use memchr::memrchr;
 use outside::{LogFile, ReadFault};
 
 /// How many bytes are read at once. A whole line with its line feed is shorter.
@@ -12,11 +13,10 @@ const BLOCK: usize = 512;
 fn behind_last(bytes: &[u8]) -> usize
     ensures { IsFloorOf (IsBehindFeed bytes.now) (length bytes.now) result }
 {
-    let mut place = bytes.len();
-    while place > 0 && bytes[place - 1] != b'\n' {
-        place -= 1;
+    match memrchr(b'\n', bytes) {
+        Some(at) => at + 1,
+        None => 0,
     }
-    place
 }
 
 // The floor of the place behind some bytes, from that of the place before them.

@@ -8,6 +8,6 @@ use Rattle.report_text.proofs.report.put_lines.Given as goal
 abbrev pub invariant-loop-line : goal.invariant-loop-line
 invariant-loop-line g l =
     record {
-      passed : IsTrue g.K.Sink.tells → Passed (g.K.Sink.held l.fn.sink) (l.fn.buffer ++ flat_map line_text (take l.line-index l.lines)) (g.K.Sink.held l.sink) l.buffer;
+      passed : IsTrue g.K.Sink.tells → Passed (g.K.Sink.held l.fn.sink) (l.fn.buffer.items ++ flat_map line_text (take l.line-index l.lines)) (g.K.Sink.held l.sink) l.buffer.items;
       later : g.K.Sink.faults l.fn.sink ≤ g.K.Sink.faults l.sink;
     }

@@ -1,12 +1,8 @@
-use Rattle.std.proofs.Common.{◌-◌, arith}
-use Rattle.site_store.proofs.Stretches.{none_joined, behind_other}
+use Rattle.site_store.proofs.Stretches.{floor_of_last, floor_of_none}
 use Rattle.site_store.proofs.places.feeds.behind_last.Goals as goal
 
-pub loop-place-preserved : goal.loop-place-preserved
-loop-place-preserved c =
-    let bytes = c.args.bytes.now in
-    let n = c.loop-place.place in
-    record {
-      none = none_joined _ (n - 1) n _ (behind_other bytes n c.if-bytes-place-ne10.true) c.loop-place.invariant.none;
-      below = omega (arith, c.loop-place.invariant.below);
-    }
+pub returns-in-Some : goal.returns-in-Some
+returns-in-Some c = floor_of_last c.args.bytes.now c.in-Some.at c.in-Some.ensures.0 c.in-Some.ensures.1
+
+pub returns-in-None : goal.returns-in-None
+returns-in-None c = floor_of_none c.args.bytes.now c.in-None.ensures
