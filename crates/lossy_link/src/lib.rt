@@ -12,3 +12,4 @@ mod words;
 
 pub use bad_plan::{BadPlan, Field};
 pub use plan::{DiskKind, Fate, Image, Kind, Plan, PlanStop, Rule};
+pub use read::MOST_BYTES;

@@ -15,8 +15,8 @@ use crate::plan::{Plan, PlanStop, Rule};
 use serde_json::Value;
 use std::alloc::Global;
 
-// A plan's text has at most so many bytes.
-const MOST_BYTES: usize = 1_048_576;
+/// A plan's text has at most so many bytes.
+pub const MOST_BYTES: usize = 1_048_576;
 
 static TOP_KEYS: [&str; 3] = ["rules", "stops", "dead"];
 

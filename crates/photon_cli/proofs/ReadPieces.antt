@@ -1,7 +1,7 @@
 -- Bytes that are read piece by piece.
-use Rattle.std.proofs.Common.{◌≡◌, ℕ, ◌+◌, ◌≤◌, List, ◌++◌, length, take, drop, refl, sym, ap, subst, ◌∙◌, append_assoc, arith}
+use Rattle.std.proofs.Common.{◌≡◌, ℕ, ◌+◌, ◌<◌, ◌≤◌, List, ◌++◌, length, take, drop, refl, sym, ap, subst, ◌∙◌, append_assoc, arith}
 use Rattle.std.proofs.Math.Seq.{take-add}
-use Rattle.std.proofs.lemmas.List.{take_at, drop_at, take_all, take-take, take-append-le, length-append, length-take-le}
+use Rattle.std.proofs.lemmas.List.{append-nil, take_at, drop_at, take_all, take-take, take-append-le, length-append, length-take-le}
 
 -- what was read so far, and a piece of what follows
 pub piece_next : (bytes now read new : List ℕ) (n : ℕ) → now ≡ bytes → read ≡ take (length read) bytes → (n ≤ length (drop (length read) now)) × (new ≡ read ++ take n (drop (length read) now)) → new ≡ take (length new) bytes
@@ -11,6 +11,18 @@ piece_next bytes now read new n same e piece =
     let fits : n ≤ length rest = subst (λ (b : List ℕ). n ≤ length (drop (length read) b)) same piece.0 in
     let size : length new ≡ length read + n = ap length is ∙ length-append read (take n rest) ∙ ap (λ (k : ℕ). length read + k) (length-take-le n rest fits) in
     is ∙ ap (λ (front : List ℕ). front ++ take n rest) e ∙ sym (take-add (length read) n bytes) ∙ ap (λ (k : ℕ). take k bytes) (sym size)
+
+-- where nothing follows, what was read is all
+pub last_piece : (bytes now read new : List ℕ) (n most : ℕ) → now ≡ bytes → read ≡ take (length read) bytes → (n ≤ length (drop (length read) now)) × (new ≡ read ++ take n (drop (length read) now))
+    → n ≡ 0 → length now ≤ length read → length read < most → new ≡ take most bytes
+last_piece bytes now read new n most same e piece none past few =
+    let long : length bytes ≤ length read = omega (arith, past, ap length same) in
+    let own : new ≡ read = piece.1 ∙ ap (λ (k : ℕ). read ++ take k (drop (length read) now)) none ∙ append-nil read in
+    own ∙ e ∙ take_all (length read) bytes long ∙ sym (take_all most bytes (omega (arith, long, few)))
+
+-- and so it is where it is as long as it may be
+pub all_pieces : (bytes read : List ℕ) (most : ℕ) → read ≡ take (length read) bytes → length read ≡ most → read ≡ take most bytes
+all_pieces bytes read most e size = e ∙ ap (λ (k : ℕ). take k bytes) size
 
 taken : (old buf rest : List ℕ) (n : ℕ) → n ≤ length buf → take (length old + n) (old ++ (buf ++ rest)) ≡ old ++ take n buf
 taken old buf rest n fits =

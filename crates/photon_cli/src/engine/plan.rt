@@ -1,7 +1,8 @@
 // The plan of a drill, read from its file.
-ghost use Rattle.std.specs.Prelude.{◌≡◌, ◌⊎◌, ℕ, List, IfErr, IfOk, IsErrAnd, IsSomeAnd, IsTrue, Err};
+ghost use Rattle.std.specs.Prelude.{◌≡◌, ◌⊎◌, ◌+◌, ℕ, List, take, IfErr, IfOk, IsErrAnd, IsSomeAnd, IsTrue, Err};
 ghost use Rattle.outside.specs.Faults.{Counts};
 ghost use Rattle.lossy_link.specs.Fates.{PlanView};
+ghost use Rattle.lossy_link.specs.Plans.{size_limit};
 ghost use Rattle.lossy_link.specs.declared.bad_plan.Field.{Field as Place};
 ghost use Rattle.photon_cli.specs.declared.engine.fault.Fault.TheVariants as fault;
 ghost use Rattle.photon_cli.specs.declared.engine.read.ReadError.TheVariants.{Read};
@@ -9,14 +10,14 @@ ghost use Rattle.photon_cli.specs.Drill.{IsBadIn, IsPlanIn};
 ghost use Rattle.photon_cli.specs.LogFaults.{IsPlanFault, IsToldOfPlan};
 
 use super::fault::Fault;
-use super::read::{ReadError, read_all};
-use lossy_link::{BadPlan, Plan};
+use super::read::{ReadError, read_front};
+use lossy_link::{BadPlan, MOST_BYTES, Plan};
 use outside::{OpenFault, Source};
 use std::alloc::Global;
 
-// All bytes of the file of that name.
+// The bytes of the file of that name, and of more than a plan may have the first byte too many.
 fn read_file<F: Source>(alloc: Global, files: &mut F, name: &str) -> Result<Vec<u8>, ReadError>
-    ensures bytes { IsTrue F.Log.tells → IfOk result (λ v. IsSomeAnd (F.bytes files.old name.now) (λ bytes. v.items ≡ bytes)) }
+    ensures bytes { IsTrue F.Log.tells → IfOk result (λ v. IsSomeAnd (F.bytes files.old name.now) (λ bytes. v.items ≡ take (size_limit + 1) bytes)) }
     ensures same { IsTrue F.Log.tells → (n : List ℕ) → F.bytes files.new n ≡ F.bytes files.old n }
     ensures count { Counts (F.faults files.old) (F.faults files.new) (result ≡ Err Read) }
 {
@@ -25,12 +26,13 @@ fn read_file<F: Source>(alloc: Global, files: &mut F, name: &str) -> Result<Vec<
         Err(OpenFault::Read) => return Err(ReadError::Read),
         Err(OpenFault::Memory) => return Err(ReadError::Memory),
     };
-    let read = read_all(alloc, &mut file);
+    let read = read_front(alloc, &mut file, MOST_BYTES + 1);
     files.shut(file);
     read
 }
 
-/// The plan that the file of that name holds. It reads the whole file, in pieces of 64 KiB.
+/// The plan that the file of that name holds. It reads the file in pieces of 64 KiB, and no further than to the first byte that
+/// a plan hasn't.
 pub fn plan_in_file<F: Source>(alloc: Global, files: &mut F, name: &str) -> Result<Plan, Fault>
     ensures plan { IsTrue F.Log.tells → IfOk result (λ p. IsPlanIn (F.bytes files.old) name.now p) }
     ensures place { IsTrue F.Log.tells → (at : Place) → result ≡ Err (fault.Plan at) → IsBadIn (F.bytes files.old) name.now at }

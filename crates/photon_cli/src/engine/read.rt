@@ -1,4 +1,4 @@
-// Whole logs, read into memory.
+// The front of a log, read into memory.
 ghost use Rattle.std.specs.Prelude.{◌≡◌, ◌≤◌, ◌<◌, ◌+◌, ◌++◌, ◌^◌, ℕ, List, length, take, drop, vec_len, IfOk, IsTrue, Err};
 ghost use Rattle.outside.specs.Faults.{Counts};
 ghost use Rattle.photon_cli.specs.declared.engine.read.ReadError.TheVariants.{Read};
@@ -17,32 +17,35 @@ pub enum ReadError {
     Memory,
 }
 
-/// All bytes of the log, which it reads in pieces of 64 KiB.
-pub fn read_all<L: LogFile>(alloc: Global, log: &mut L) -> Result<Vec<u8>, ReadError>
-    ensures bytes { IsTrue L.tells → IfOk result (λ v. v.items ≡ L.bytes log.old) }
+/// The first bytes of the log, at most so many, which it reads in pieces of 64 KiB. It reads no byte behind them.
+pub fn read_front<L: LogFile>(alloc: Global, log: &mut L, most: usize) -> Result<Vec<u8>, ReadError>
+    ensures bytes { IsTrue L.tells → IfOk result (λ v. v.items ≡ take most (L.bytes log.old)) }
     ensures same { IsTrue L.tells → L.bytes log.new ≡ L.bytes log.old }
     ensures count { Counts (L.faults log.old) (L.faults log.new) (result ≡ Err Read) }
 {
     let mut bytes = Vec::new(alloc);
-    'pieces: for _ in 0..u64::MAX {
-        match read_piece(log, &mut bytes) {
-            Ok(0) => return Ok(bytes),
-            Ok(_) => {}
-            Err(error) => return Err(error),
+    'pieces: while bytes.len() < most {
+        let n = read_piece(log, &mut bytes, most)?;
+        if n == 0 {
+            return Ok(bytes);
         }
     }
-    Err(ReadError::Memory)
+    Ok(bytes)
 }
 
-// Reads the next piece behind the bytes, and answers its length: 0 exactly at the log's end.
-fn read_piece<L: LogFile>(log: &mut L, bytes: &mut Vec<u8>) -> Result<usize, ReadError>
+// Reads the next piece behind the bytes, of which there are at most so many then, and answers its length: 0 exactly at the
+// log's end.
+fn read_piece<L: LogFile>(log: &mut L, bytes: &mut Vec<u8>, most: usize) -> Result<usize, ReadError>
+    requires { length bytes.old.items < most }
+    ensures len { IfOk result (λ n. (length bytes.new.items ≡ length bytes.old.items + n) × (length bytes.new.items ≤ most)) }
     ensures piece { IsTrue L.tells → IfOk result (λ n. let rest = drop (length bytes.old.items) (L.bytes log.old) in (n ≤ length rest) × (bytes.new.items ≡ bytes.old.items ++ take n rest)) }
     ensures end { IsTrue L.tells → IfOk result (λ n. n ≡ 0 → length (L.bytes log.old) ≤ length bytes.old.items) }
     ensures same { IsTrue L.tells → L.bytes log.new ≡ L.bytes log.old }
     ensures count { Counts (L.faults log.old) (L.faults log.new) (result ≡ Err Read) }
 {
     let len = bytes.len();
-    if bytes.resize(len + PIECE, 0).is_err() {
+    let room = PIECE.min(most - len);
+    if bytes.resize(len + room, 0).is_err() {
         return Err(ReadError::Memory);
     }
     match log.read_at(len as u64, &mut bytes[len..]) {
