@@ -56,9 +56,13 @@ pub record IsQuiet (f : Flight) : Type 0 where
   pub idle : (n : ℕ) → n < length f.kinds → is_dead f.plan.dead f.kinds n ≡ false → phase n f.history ≡ Idle
   pub empty : (n : ℕ) → n < length f.kinds → waiting f.plan f.kinds n f.history ≡ []
 
--- an entry that an Air may add after these: a turn begins on a node with no open turn, with what it has to take, and is closed once
+-- An entry that an Air may add after these: a turn begins on a node that isn't dead and has no open turn, with what it has to
+-- take, and is closed once.
 abbrev pub MayFollow : PlanView → List Kind → List Entry → Entry → Type 0
-MayFollow plan kinds before (Begin node input) = (phase node before ≢ Busy) × ((tick : Bool) × (wants : Bool) × (next_input (phase node before) (next_copy (waiting plan kinds node before)) tick wants ≡ Some input))
+MayFollow plan kinds before (Begin node input) =
+    (phase node before ≢ Busy)
+    × ((tick : Bool) × (wants : Bool) × (next_input (phase node before) (next_copy (waiting plan kinds node before)) tick wants ≡ Some input))
+    × (is_dead plan.dead kinds node ≡ false)
 MayFollow plan kinds before (End node noted packets kept) = (phase node before ≡ Busy) × (kept ≤ length packets)
 MayFollow plan kinds before (Stop node landed) = phase node before ≡ Busy
 

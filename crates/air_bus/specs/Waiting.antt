@@ -1,5 +1,6 @@
 -- The packets that wait for a node after a history, where a plan says what becomes of each packet. Nodes go by number.
-use Rattle.std.specs.Prelude.{ℕ, ◌-◌, Bool, false, ◌&&◌, ◌==◌, nat_lt, List, [], ◌∷◌, ◌++◌, take, slice_index_or, fold, count_by, if◌then◌else◌, Option}
+use Rattle.std.specs.Prelude.{◌≡◌, ℕ, ◌-◌, ◌<◌, Bool, false, ◌&&◌, ◌==◌, nat_lt, List, [], ◌∷◌, ◌++◌, length, take, slice_index_or, fold, count_by, if◌then◌else◌, Option}
+use Rattle.std.specs.List.{list_any}
 use Rattle.std.specs.Option.{option_map_or}
 use Rattle.lossy_link.specs.declared.plan.Kind.{Kind}
 use Rattle.lossy_link.specs.declared.plan.Kind.TheVariants.{Dispatcher, Replica}
@@ -25,7 +26,11 @@ replica_number kinds n = count_by is_replica (take n kinds)
 
 -- the plan has at most one dead replica, which takes no turn
 abbrev pub is_dead : Option ℕ → List Kind → ℕ → Bool
-is_dead dead kinds n = is_replica (kind_at kinds n) && option_map_or (λ d. replica_number kinds n == d) dead false
+is_dead dead kinds n = option_map_or (λ d. replica_number kinds n == d) dead false && is_replica (kind_at kinds n)
+
+-- these are the numbers of the nodes that are dead
+abbrev pub LeftOut : PlanView → List Kind → List ℕ → Type 0
+LeftOut plan kinds numbers = (n : ℕ) → n < length kinds → list_any (λ m. m == n) numbers ≡ is_dead plan.dead kinds n
 
 -- what becomes of a link's packet of this ordinal: a dead replica gets none
 abbrev pub link_fate : PlanView → List Kind → ℕ → ℕ → ℕ → Fate

@@ -1,8 +1,9 @@
 //! The history of a run, and what waits between its nodes.
-ghost use Rattle.std.specs.Prelude.{◌≡◌, ◌≢◌, ℕ, ◌+◌, ◌<◌, ◌≤◌, ◌^◌, ◌↔◌, [], ◌∷◌, ◌++◌, length, IfOk, OnErr, IsTrue, MatchOption};
+ghost use Rattle.std.specs.Prelude.{◌≡◌, ◌≢◌, ℕ, ◌+◌, ◌<◌, ◌≤◌, ◌^◌, ◌↔◌, false, [], ◌∷◌, ◌++◌, length, IfOk, OnErr, IsTrue, MatchOption};
 ghost use Rattle.air_bus.specs.declared.entry.Entry.TheVariants.{Begin, End, Stop};
 ghost use Rattle.air_bus.specs.declared.entry.Phase.TheVariants.{Busy};
 ghost use Rattle.air_bus.specs.History.{phase, input_of, adds, IsQuiet, IsAired};
+ghost use Rattle.air_bus.specs.Waiting.{is_dead, LeftOut};
 
 use crate::entry::{Entry, Input, Phase};
 use crate::inbox::Inbox;
@@ -65,6 +66,14 @@ impl Air {
         self.phases.len()
     }
 
+    /// The numbers of the nodes that take no turn: of the dead replica, if the plan has one. It looks at each node.
+    pub fn left_out(&self, alloc: Global) -> Result<Vec<u16>, AllocError>
+        requires { length self.now.kinds < 2 ^ 16 }
+        ensures { IfOk result (λ numbers. LeftOut self.now.plan self.now.kinds numbers.items) }
+    {
+        self.links.left_out(alloc)
+    }
+
     /// Where the node stands, in constant time. A turn is opened on a node that isn't `Busy`, and closed on one that is.
     pub fn phase(&self, node: u16) -> Phase
         requires { node < length self.now.kinds }
@@ -87,7 +96,7 @@ impl Air {
         let _ = &self.history;
     }
 
-    /// Opens a turn of the node where it has something to take: a node that is down starts; else it gets the first of the
+    /// Opens a turn of the node, which isn't a dead replica, where it has something to take: a node that is down starts; else it gets the first of the
     /// packets of least delay that wait for it; else a tick where `tick` is set; else its own work where it `wants`. Of
     /// the packets that are left each positive delay is then one less. Where there is nothing no turn opens.
     ///
@@ -96,6 +105,7 @@ impl Air {
     /// each packet, in O(log n).
     pub fn begin(&mut self, node: u16, wants: bool, tick: bool) -> Result<Option<Input>, AllocError>
         requires node { node < length self.old.kinds }
+        requires live { is_dead self.old.plan.dead self.old.kinds node ≡ false }
         requires closed { phase node self.old.history ≢ Busy }
         ensures answer { IfOk result (λ input. input ≡ input_of self.old node tick wants) }
         ensures entry { IfOk result (λ input. MatchOption input (self.new ≡ self.old) (λ i. self.new ≡ adds self.old (Begin node i))) }

@@ -1,7 +1,7 @@
 //! What a plan does to the links between the nodes.
-ghost use Rattle.std.specs.Prelude.{◌≡◌, ℕ, ◌<◌, IfOk, length, slice_index_or, false, ◌==◌};
+ghost use Rattle.std.specs.Prelude.{◌≡◌, ℕ, ◌<◌, ◌^◌, IfOk, length, slice_index_or, false, ◌==◌};
 ghost use Rattle.std.specs.Option.{option_map_or};
-ghost use Rattle.air_bus.specs.Waiting.{is_dead, is_replica as kind_is_replica, link_fate};
+ghost use Rattle.air_bus.specs.Waiting.{LeftOut, is_dead, is_replica as kind_is_replica, link_fate};
 
 use lossy_link::{Fate, Kind, Plan};
 use std::alloc::{AllocError, Global};
@@ -41,6 +41,20 @@ impl Links {
             .fate(self.kinds[sender], self.kinds[receiver], ordinal)
     }
 
+    // The numbers of the dead nodes.
+    pub(crate) fn left_out(&self, alloc: Global) -> Result<Vec<u16>, AllocError>
+        requires { length self.now.kinds.items < 2 ^ 16 }
+        ensures { IfOk result (λ numbers. LeftOut self.now.plan self.now.kinds.items numbers.items) }
+    {
+        let mut numbers = Vec::new(alloc);
+        for node in 0..self.dead.len() as u16 {
+            if self.is_dead(usize::from(node)) {
+                numbers.push(node)?;
+            }
+        }
+        Ok(numbers)
+    }
+
     pub(crate) fn is_dead(&self, node: usize) -> bool
         requires { node < length self.now.kinds.items }
         ensures { result ≡ is_dead self.now.plan.dead self.now.kinds.items node }
@@ -57,7 +71,7 @@ fn dead_nodes(alloc: Global, kinds: &[Kind], dead: Option<u8>) -> Result<Vec<boo
     let mut replicas = 0;
     for kind in kinds {
         let is_replica = is_replica(*kind);
-        list.push(is_replica && is_number(dead, replicas))?;
+        list.push(is_number(dead, replicas) && is_replica)?;
         replicas += usize::from(is_replica);
     }
     Ok(list)

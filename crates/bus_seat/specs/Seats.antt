@@ -6,7 +6,7 @@ use Rattle.air_bus.specs.declared.entry.Entry.{Entry}
 use Rattle.air_bus.specs.declared.entry.Entry.TheVariants.{Begin}
 use Rattle.air_bus.specs.declared.entry.Input.{Input}
 use Rattle.air_bus.specs.Copies.{Copy, next_copy}
-use Rattle.air_bus.specs.Waiting.{waiting}
+use Rattle.air_bus.specs.Waiting.{waiting, is_dead}
 use Rattle.air_bus.specs.History.{Flight, phase, next_input}
 use Rattle.bus_seat.specs.declared.view.View.{View}
 use Rattle.bus_seat.specs.declared.view.Ended.{Ended}
@@ -58,6 +58,10 @@ fresh_to bus (suc n) = fresh_to bus n ++ fresh bus (Some n) ∷ []
 -- one for each node, and the run's last
 abbrev pub fresh_seats : BusId → List Sight
 fresh_seats bus = fresh_to bus (count bus.base) ++ fresh bus None ∷ []
+
+-- the seat is of a node that takes part in the run: no dead replica
+abbrev pub TakesPart : Sight → Type 0
+TakesPart s = MatchOption s.number ⊥ (λ n. is_dead s.bus.base.plan.dead s.bus.base.kinds n ≡ false)
 
 -- whose seat it is
 abbrev pub tag : Sight → BusId × Option ℕ

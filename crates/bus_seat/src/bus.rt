@@ -6,8 +6,9 @@ ghost use Rattle.air_bus.specs.declared.entry.Entry.TheVariants.{Begin, End, Sto
 ghost use Rattle.air_bus.specs.declared.entry.Phase.TheVariants.{Busy};
 ghost use Rattle.air_bus.specs.declared.entry.Entry.{Entry};
 ghost use Rattle.air_bus.specs.History.{Flight, node_of, phase, next_input, IsQuiet, IsAired};
+ghost use Rattle.air_bus.specs.Waiting.{is_dead};
 ghost use Rattle.bus_seat.specs.Views.{count, flown, made_by, holding, Took, in_hand, caught_up, off, runner_at, Grew};
-ghost use Rattle.bus_seat.specs.Seats.{bus_id, fresh, fresh_seats, Sight, gathered, AreSeatsOf, IsIn, Adds, Begins, Looks, next_for};
+ghost use Rattle.bus_seat.specs.Seats.{bus_id, fresh, fresh_seats, Sight, gathered, TakesPart, AreSeatsOf, IsIn, Adds, Begins, Looks, next_for};
 
 use super::order::{Add, Deal, Gather, Give, Order, Take, Wait as Waiting};
 use super::seat::{Place, Seat, Seen};
@@ -35,17 +36,21 @@ const WAITING: usize = 2;
 #[derive(Drop)]
 pub struct Bus {
     table: Table<Air, View, Base, Order, Global>,
+    // The numbers of the nodes that take no part.
+    left_out: Vec<u16>,
 }
 
 impl Model for Bus {
     ghost use Rattle.std.specs.Prelude.{◌≡◌};
+    ghost use Rattle.air_bus.specs.Waiting.{LeftOut};
     ghost use Rattle.bus_seat.specs.Seats.{BusId, bus_id};
 
     ghost Value = { BusId };
 
     ghost view = { λ b. bus_id b.table.shared.table_id b.table.shared.key };
 
-    ghost invariant = { λ b. (b.table.shared.table_id.words ≡ 3) × (b.table.shared.table_id.slots ≡ 1) };
+    ghost invariant = { λ b. (b.table.shared.table_id.words ≡ 3) × (b.table.shared.table_id.slots ≡ 1)
+        × LeftOut b.table.shared.key.plan b.table.shared.key.kinds b.left_out.items };
 }
 
 impl Bus {
@@ -59,6 +64,7 @@ impl Bus {
     {
         let nodes = air.nodes();
         let base = Base::of(&air);
+        let left_out = air.left_out(alloc)?;
         let mut seats = Vec::with_capacity(alloc, nodes + 1)?;
         let mut slots = Vec::with_capacity(alloc, 1)?;
         slots.push_reserved(air);
@@ -66,7 +72,7 @@ impl Bus {
             Ok(made) => made,
             Err(Refused { slots: _ }) => return Err(AllocError),
         };
-        let bus = Bus { table };
+        let bus = Bus { table, left_out };
         for node in 0..nodes as u16 {
             seats.push_reserved(bus.deal(&mut place, node));
         }
@@ -118,7 +124,7 @@ impl Bus {
         ensures history { All (IsIn result.history) seats.items }
         ensures aired { IsAired result.plan result.kinds result.history }
     {
-        let Bus { table } = self;
+        let Bus { table, .. } = self;
         let mut seats = seats;
         let Some(run) = seats.pop() else {
             unreachable!()
@@ -132,7 +138,19 @@ impl Bus {
         air
     }
 
-    /// Opens a turn of the seat's node where it has something to take, as `Air::begin` does. It takes memory for this entry
+    /// Whether the seat is of a node that takes part in the run: of one that isn't a dead replica.
+    pub fn takes_part(&self, seat: &Seat) -> bool
+        requires bus { seat.now.bus ≡ self.now }
+        requires node { IsSome seat.now.number }
+        ensures { IsTrue result ↔ TakesPart seat.now }
+    {
+        let Some(node) = seat.node else {
+            unreachable!()
+        };
+        !self.left_out.contains(&node)
+    }
+
+    /// Opens a turn of the seat's node, which takes part, where it has something to take, as `Air::begin` does. It takes memory for this entry
     /// and the one that closes the turn, under the turn; with an error no entry is added.
     pub fn begin<R: Wait>(
         &self,
@@ -142,6 +160,7 @@ impl Bus {
         tick: bool,
     ) -> Result<Option<Input>, AllocError>
         requires bus { seat.old.bus ≡ self.now }
+        requires live { TakesPart seat.old }
         requires closed { MatchOption seat.old.number ⊥ (λ n. phase n seat.old.mine ≢ Busy) }
         ensures kept { (seat.new.bus ≡ seat.old.bus) × (seat.new.number ≡ seat.old.number) }
         ensures did { IfSome seat.old.number (λ n. IfOk result (λ input. Begins n wants tick seat.old input seat.new)) }
@@ -289,6 +308,7 @@ impl Bus {
         requires table { place.old.table_id ≡ self.now.table }
         requires hand { place.old.me.1 ≡ (0, flown place.old.me.0.base place.old.me.0.seen) ∷ [] }
         requires node { (node < count place.old.me.0.base) × (phase node place.old.me.0.seen ≢ Busy) }
+        requires live { is_dead place.old.me.0.base.plan.dead place.old.me.0.base.kinds node ≡ false }
         ensures table { place.new.table_id ≡ place.old.table_id }
         ensures view { place.new.me.0 ≡ place.old.me.0 }
         ensures hand { place.new.me.1 ≡ (0, flown place.old.me.0.base (in_hand place.new.me.1)) ∷ [] }

@@ -13,7 +13,7 @@ use Rattle.gate_journal.specs.declared.reading.JournalFault.{JournalFault}
 use Rattle.gate_journal.specs.declared.reading.JournalFault.TheVariants as journal
 use Rattle.site_node.specs.Faults.{IsOfRestart, IsWhole}
 use Rattle.site_node.specs.declared.kind.NodeFault.{NodeFault}
-use Rattle.site_node.specs.declared.kind.NodeFault.TheVariants.{Stopped, Damaged, Read, Spent, Memory}
+use Rattle.site_node.specs.declared.kind.NodeFault.TheVariants.{Stopped, Disk, Damaged, Read, Spent, Memory}
 use Rattle.dispatch_node.specs.Faults.{fault_told}
 use Rattle.offset_journal.specs.Offsets as offsets
 use Rattle.retry_log.specs.Pending as pending
@@ -72,23 +72,24 @@ told_kind disk (journal.Damaged at) = tt
 told_kind disk journal.Disk = tt
 told_kind disk journal.Memory = tt
 
--- whether it is a stop
-abbrev is_stop : NodeFault → Bool
-is_stop Stopped = true
-is_stop (Damaged disk at) = false
-is_stop Read = false
-is_stop (Spent e) = false
-is_stop Memory = false
+-- whether it is of a disk that wasn't opened
+abbrev is_disk : NodeFault → Bool
+is_disk Stopped = false
+is_disk (Disk disk) = true
+is_disk (Damaged disk at) = false
+is_disk Read = false
+is_disk (Spent e) = false
+is_disk Memory = false
 
-pub told_stopped : (tells : Bool) (disk : DiskName) (f : JournalFault) (image : List ℕ → Type 0) (a b : ℕ) → fault_told disk f ≡ Stopped → offsets.IsRefusedAgain tells image a b f → Rose a b
-told_stopped tells disk (journal.Damaged at) image a b is refused = clash (is_stop (Damaged disk at)) (ap is_stop is) refl
-told_stopped tells disk journal.Disk image a b is refused = refused
-told_stopped tells disk journal.Memory image a b is refused = clash (is_stop Memory) (ap is_stop is) refl
+pub told_disk : (tells : Bool) (told disk : DiskName) (f : JournalFault) (image : List ℕ → Type 0) (a b : ℕ) → fault_told disk f ≡ Disk told → offsets.IsRefusedAgain tells image a b f → Rose a b
+told_disk tells told disk (journal.Damaged at) image a b is refused = clash (is_disk (Damaged disk at)) (ap is_disk is) refl
+told_disk tells told disk journal.Disk image a b is refused = refused
+told_disk tells told disk journal.Memory image a b is refused = clash (is_disk Memory) (ap is_disk is) refl
 
-pub told_stopped_retry : (tells : Bool) (disk : DiskName) (f : JournalFault) (image : List ℕ → Type 0) (a b : ℕ) → fault_told disk f ≡ Stopped → pending.IsRefusedAgain tells image a b f → Rose a b
-told_stopped_retry tells disk (journal.Damaged at) image a b is refused = clash (is_stop (Damaged disk at)) (ap is_stop is) refl
-told_stopped_retry tells disk journal.Disk image a b is refused = refused
-told_stopped_retry tells disk journal.Memory image a b is refused = clash (is_stop Memory) (ap is_stop is) refl
+pub told_disk_retry : (tells : Bool) (told disk : DiskName) (f : JournalFault) (image : List ℕ → Type 0) (a b : ℕ) → fault_told disk f ≡ Disk told → pending.IsRefusedAgain tells image a b f → Rose a b
+told_disk_retry tells told disk (journal.Damaged at) image a b is refused = clash (is_disk (Damaged disk at)) (ap is_disk is) refl
+told_disk_retry tells told disk journal.Disk image a b is refused = refused
+told_disk_retry tells told disk journal.Memory image a b is refused = clash (is_disk Memory) (ap is_disk is) refl
 
 abbrev is_good : {A : Type 0} → Result A ℕ → Bool
 is_good (Ok x) = true

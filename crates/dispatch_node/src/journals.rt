@@ -181,7 +181,7 @@ impl<D: Disk> Journals<D> {
         ensures retry_grows { IsTrue D.tells → (c : List ℕ) → D.image self.new.retry.journal.disk c →
             Continues (D.image self.old.retry.journal.disk) c }
         ensures kind { IfErr result IsOfRestart }
-        ensures stopped { IsErrOf result NodeFault.Stopped →
+        ensures disk { (disk : _) → IsErrOf result (NodeFault.Disk disk) →
             Rose (D.faults self.old.offset.journal.disk) (D.faults self.new.offset.journal.disk)
             ⊎ Rose (D.faults self.old.retry.journal.disk) (D.faults self.new.retry.journal.disk) }
         ensures counts { (D.faults self.old.offset.journal.disk ≤ D.faults self.new.offset.journal.disk)
@@ -206,7 +206,7 @@ fn fault_of(disk: DiskName, fault: JournalFault) -> NodeFault
 {
     match fault {
         JournalFault::Damaged { at } => NodeFault::Damaged { disk, at },
-        JournalFault::Disk => NodeFault::Stopped,
+        JournalFault::Disk => NodeFault::Disk(disk),
         JournalFault::Memory => NodeFault::Memory,
     }
 }

@@ -51,6 +51,7 @@ asked_start e = asked.Start e
 -- why a query isn't looked up
 abbrev pub IsLookFault : NodeFault → Type 0
 IsLookFault fault.Stopped = ⊥
+IsLookFault (fault.Disk disk) = ⊥
 IsLookFault (fault.Damaged disk at) = ⊥
 IsLookFault fault.Read = ⊤
 IsLookFault (fault.Spent epoch) = ⊥
@@ -59,6 +60,7 @@ IsLookFault fault.Memory = ⊤
 -- why a turn isn't decided
 abbrev pub IsOfDecision : NodeFault → Type 0
 IsOfDecision fault.Stopped = ⊥
+IsOfDecision (fault.Disk disk) = ⊥
 IsOfDecision (fault.Damaged disk at) = ⊥
 IsOfDecision fault.Read = ⊤
 IsOfDecision (fault.Spent epoch) = ⊤

@@ -234,7 +234,7 @@ impl<D: Disk> Disks<D> {
         ensures pair_grows { IsTrue D.tells → (c : List ℕ) → D.image self.new.log.journal.disk c → Continues (D.image self.old.log.journal.disk) c }
         ensures kind { IfErr result IsOfRestart }
         ensures whole { IsTrue D.tells → (k m : JoinerKept) → MayHave k m (D.image self.old.epochs.journal.disk) (D.image self.old.log.journal.disk) → IfErr result IsWhole }
-        ensures fault { IsErrOf result NodeFault.Stopped → Rose (D.faults self.old.epochs.journal.disk + D.faults self.old.log.journal.disk) (D.faults self.new.epochs.journal.disk + D.faults self.new.log.journal.disk) }
+        ensures fault { (disk : _) → IsErrOf result (NodeFault.Disk disk) → Rose (D.faults self.old.epochs.journal.disk + D.faults self.old.log.journal.disk) (D.faults self.new.epochs.journal.disk + D.faults self.new.log.journal.disk) }
         ensures epoch_count { D.faults self.old.epochs.journal.disk ≤ D.faults self.new.epochs.journal.disk }
         ensures pair_count { D.faults self.old.log.journal.disk ≤ D.faults self.new.log.journal.disk }
     {
@@ -268,7 +268,7 @@ impl<D: Disk> Disks<D> {
         ensures grows { IsTrue D.tells → (c : List ℕ) → D.image self.new.epochs.journal.disk c → Continues (D.image self.old.epochs.journal.disk) c }
         ensures kind { IfErr result IsOfRestart }
         ensures whole { IsTrue D.tells → (k m : JoinerKept) → ((c : List ℕ) → D.image self.old.epochs.journal.disk c → EpochOr k m c) → IfErr result IsWhole }
-        ensures fault { IsErrOf result NodeFault.Stopped → Rose (D.faults self.old.epochs.journal.disk) (D.faults self.new.epochs.journal.disk) }
+        ensures fault { (disk : _) → IsErrOf result (NodeFault.Disk disk) → Rose (D.faults self.old.epochs.journal.disk) (D.faults self.new.epochs.journal.disk) }
         ensures count { D.faults self.old.epochs.journal.disk ≤ D.faults self.new.epochs.journal.disk }
     {
         match self.epochs.reopen(self.alloc) {
@@ -286,7 +286,7 @@ impl<D: Disk> Disks<D> {
         ensures grows { IsTrue D.tells → (c : List ℕ) → D.image self.new.log.journal.disk c → Continues (D.image self.old.log.journal.disk) c }
         ensures kind { IfErr result IsOfRestart }
         ensures whole { IsTrue D.tells → (k m : JoinerKept) → ((c : List ℕ) → D.image self.old.log.journal.disk c → PairsOr k m c) → IfErr result IsWhole }
-        ensures fault { IsErrOf result NodeFault.Stopped → Rose (D.faults self.old.log.journal.disk) (D.faults self.new.log.journal.disk) }
+        ensures fault { (disk : _) → IsErrOf result (NodeFault.Disk disk) → Rose (D.faults self.old.log.journal.disk) (D.faults self.new.log.journal.disk) }
         ensures count { D.faults self.old.log.journal.disk ≤ D.faults self.new.log.journal.disk }
     {
         match self.log.reopen(self.alloc) {
@@ -300,11 +300,11 @@ impl<D: Disk> Disks<D> {
 fn fault_of(disk: DiskName, fault: JournalFault) -> NodeFault
     ensures kind { IsOfRestart result }
     ensures whole { IsUndamaged fault → IsWhole result }
-    ensures stopped { result ≡ NodeFault.Stopped → fault ≡ JournalFault.Disk }
+    ensures disk { (d : _) → result ≡ NodeFault.Disk d → fault ≡ JournalFault.Disk }
 {
     match fault {
         JournalFault::Damaged { at } => NodeFault::Damaged { disk, at },
-        JournalFault::Disk => NodeFault::Stopped,
+        JournalFault::Disk => NodeFault::Disk(disk),
         JournalFault::Memory => NodeFault::Memory,
     }
 }

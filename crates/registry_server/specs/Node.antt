@@ -73,6 +73,7 @@ abbrev pub IsNotPrepared : ℕ → Input → NodeFault → Type 0
 IsNotPrepared epoch i (fault.Spent e) = (e ≡ epoch) × (is_spent_at epoch i ≡ true)
 IsNotPrepared epoch i fault.Memory = Unit {0}
 IsNotPrepared epoch i fault.Stopped = ⊥
+IsNotPrepared epoch i (fault.Disk disk) = ⊥
 IsNotPrepared epoch i (fault.Damaged disk at) = ⊥
 IsNotPrepared epoch i fault.Read = ⊥
 

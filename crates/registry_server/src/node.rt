@@ -227,7 +227,7 @@ impl<D: Disk> ServerNode<D> {
         ensures moments { IsTrue D.tells → Throughout D.image D.since self.old.journal.journal.disk self.new.journal.journal.disk (KeepsAsLeft (D.image self.old.journal.journal.disk)) }
         ensures grows { IsTrue D.tells → Throughout D.image D.since self.old.journal.journal.disk self.new.journal.journal.disk (Continues (D.image self.old.journal.journal.disk)) }
         ensures kind { IfErr result IsOfRestart }
-        ensures fault { IsErrOf result NodeFault.Stopped → Rose (D.faults self.old.journal.journal.disk) (D.faults self.new.journal.journal.disk) }
+        ensures fault { (disk : _) → IsErrOf result (NodeFault.Disk disk) → Rose (D.faults self.old.journal.journal.disk) (D.faults self.new.journal.journal.disk) }
         ensures count { D.faults self.old.journal.journal.disk ≤ D.faults self.new.journal.journal.disk }
         ensures whole { IsTrue D.tells → ((c : List ℕ) → D.image self.old.journal.journal.disk c → (e : ℕ) × Keeps e c) → IfErr result IsWhole }
     {
@@ -237,7 +237,7 @@ impl<D: Disk> ServerNode<D> {
                 disk: DiskName::Server(self.site),
                 at,
             }),
-            Err(JournalFault::Disk) => Err(NodeFault::Stopped),
+            Err(JournalFault::Disk) => Err(NodeFault::Disk(DiskName::Server(self.site))),
             Err(JournalFault::Memory) => Err(NodeFault::Memory),
         }
     }

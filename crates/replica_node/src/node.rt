@@ -213,7 +213,7 @@ impl<D: Disk> ReplicaNode<D> {
         ensures moments { IsTrue D.tells → Throughout D.image D.since self.old.journal.disk self.new.journal.disk (IsOpened (D.image self.old.journal.disk)) }
         ensures grows { IsTrue D.tells → Throughout D.image D.since self.old.journal.disk self.new.journal.disk (Continues (D.image self.old.journal.disk)) }
         ensures kind { IfErr result IsOfRestart }
-        ensures fault { IsErrOf result NodeFault.Stopped → Rose (D.faults self.old.journal.disk) (D.faults self.new.journal.disk) }
+        ensures fault { (disk : _) → IsErrOf result (NodeFault.Disk disk) → Rose (D.faults self.old.journal.disk) (D.faults self.new.journal.disk) }
         ensures count { D.faults self.old.journal.disk ≤ D.faults self.new.journal.disk }
         ensures whole { IsTrue D.tells → ((c : List ℕ) → D.image self.old.journal.disk c → IsOfNotes c) → IfErr result IsWhole }
     {
@@ -223,7 +223,7 @@ impl<D: Disk> ReplicaNode<D> {
                 disk: DiskName::Replica(self.replica),
                 at,
             }),
-            Err(JournalFault::Disk) => Err(NodeFault::Stopped),
+            Err(JournalFault::Disk) => Err(NodeFault::Disk(DiskName::Replica(self.replica))),
             Err(JournalFault::Memory) => Err(NodeFault::Memory),
         }
     }

@@ -9,6 +9,7 @@ use Rattle.air_bus.specs.declared.entry.Entry.{Entry as BusEntry}
 use Rattle.air_bus.specs.declared.entry.Entry.TheVariants as bus
 use Rattle.air_bus.specs.declared.entry.Phase.TheVariants.{Down, Busy}
 use Rattle.air_bus.specs.History.{IsAired}
+use Rattle.air_bus.specs.Waiting.{is_dead}
 use Rattle.air_bus.proofs.Phases.{aired_more, aired_none}
 use Rattle.turn_defs.specs.Nodes.{IsNode, node_number, node_of}
 use Rattle.turn_defs.specs.Rows.{worked}
@@ -49,15 +50,15 @@ paths (Joiner j) is = still (Joiner j) (λ e. absurd (omega (arith, e, is.0))) r
 not_busy : Down ≢ Busy
 not_busy e = cc
 
-begun_aired : (plan : PlanView) (kinds : List Kind) → IsAired plan kinds (bus.Begin 0 bytes.Start ∷ [])
-begun_aired plan kinds = aired_more plan kinds [] (bus.Begin 0 bytes.Start ∷ []) (bus.Begin 0 bytes.Start) (aired_none plan kinds [] refl) (not_busy, (false, false, refl)) refl
+begun_aired : (plan : PlanView) (kinds : List Kind) → is_dead plan.dead kinds 0 ≡ false → IsAired plan kinds (bus.Begin 0 bytes.Start ∷ [])
+begun_aired plan kinds alive = aired_more plan kinds [] (bus.Begin 0 bytes.Start ∷ []) (bus.Begin 0 bytes.Start) (aired_none plan kinds [] refl) (not_busy, (false, false, refl), alive) refl
 
 zero_is : (m : ℕ) → node_of worked m ≡ None → 0 ≢ m
 zero_is m none e = none_some (Dispatcher 0) (sym none ∙ ap (node_of worked) (sym e))
 
 pub comes_up : DispatcherComesUp
 comes_up = record {
-  aired = λ plan kinds. aired_more plan kinds (bus.Begin 0 bytes.Start ∷ []) on_the_bus (bus.End 0 None [] 0) (begun_aired plan kinds) (refl, omega arith) refl;
+  aired = λ plan kinds alive. aired_more plan kinds (bus.Begin 0 bytes.Start ∷ []) on_the_bus (bus.End 0 None [] 0) (begun_aired plan kinds alive) (refl, omega arith) refl;
   walked = record { paths = paths; no_others = λ m none. none_made m (zero_is m none) };
   means = ((refl, refl), ((refl, refl, none_spelled, refl), tt));
   run = ((omega arith, (refl, tt, tt)), ((omega arith, ((Start, refl), refl, tt), omega arith), tt));

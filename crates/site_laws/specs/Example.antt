@@ -1,11 +1,12 @@
 -- What the bus keeps where a dispatcher comes up.
-use Rattle.std.specs.Prelude.{ℕ, ◌==◌, List, [], ◌∷◌, if◌then◌else◌, Some, None}
+use Rattle.std.specs.Prelude.{◌≡◌, ℕ, ◌==◌, false, List, [], ◌∷◌, if◌then◌else◌, Some, None}
 use Rattle.lossy_link.specs.declared.plan.Kind.{Kind}
 use Rattle.lossy_link.specs.Fates.{PlanView}
 use Rattle.air_bus.specs.declared.entry.Input.TheVariants as bytes
 use Rattle.air_bus.specs.declared.entry.Entry.{Entry as BusEntry}
 use Rattle.air_bus.specs.declared.entry.Entry.TheVariants as bus
 use Rattle.air_bus.specs.History.{IsAired}
+use Rattle.air_bus.specs.Waiting.{is_dead}
 use Rattle.turn_defs.specs.Rows.{worked}
 use Rattle.turn_defs.specs.declared.node.Node.{Node}
 use Rattle.turn_defs.specs.declared.node.Node.TheVariants.{Dispatcher, Server, Replica, Joiner}
@@ -40,9 +41,9 @@ stands_at (Server s) = down_over worked empty_disks (Server s)
 stands_at (Replica r) = down_over worked empty_disks (Replica r)
 stands_at (Joiner j) = down_over worked empty_disks (Joiner j)
 
--- An Air may make this history, its node's entries lead there, and this is the run that it means.
+-- An Air may make this history of a node that isn't dead, its node's entries lead there, and this is the run that it means.
 pub record DispatcherComesUp : Type 0 where
-  pub aired : (plan : PlanView) (kinds : List Kind) → IsAired plan kinds on_the_bus
+  pub aired : (plan : PlanView) (kinds : List Kind) → is_dead plan.dead kinds 0 ≡ false → IsAired plan kinds on_the_bus
   pub walked : EachWalked worked empty_disks on_the_bus stands_at
   pub means : AllMean worked on_the_bus in_the_model
   pub run : IsRun worked (opening empty_disks) in_the_model

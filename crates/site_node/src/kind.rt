@@ -18,8 +18,10 @@ use std::alloc::AllocError;
 /// as they were, and its turn is open still.
 #[derive(Clone, Copy, Debug, PartialEq, Eq)]
 pub enum NodeFault {
-    /// A disk failed in this turn. The node is down and waits for `restart`.
+    /// A disk failed in this turn: never from `restart`. The node is down and waits for `restart`.
     Stopped,
+    /// This disk couldn't be opened again after a stop: from `restart` alone.
+    Disk(DiskName),
     /// A disk doesn't hold what this node's journals are: from `restart` alone.
     Damaged { disk: DiskName, at: u64 },
     /// A log couldn't be read.
@@ -159,7 +161,7 @@ pub trait SiteNode {
         ensures grown { IsTrue tells → (s : State) → stands self.old s → grown self.old self.new }
         // Why it isn't up again.
         ensures kind { IfErr result IsOfRestart }
-        ensures fault { IsErrOf result NodeFault.Stopped → Rose (faults self.old) (faults self.new) }
+        ensures fault { (disk : _) → IsErrOf result (NodeFault.Disk disk) → Rose (faults self.old) (faults self.new) }
         ensures whole { IsTrue tells → (s : State) → stands self.old s → IfErr result IsWhole }
         ensures count { faults self.old ≤ faults self.new }
         ensures log_count { log_faults self.old ≤ log_faults self.new };

@@ -9,7 +9,7 @@ use Rattle.outside.specs.declared.store.DiskName.{DiskName}
 use Rattle.outside.specs.declared.store.DiskName.TheVariants as name
 use Rattle.air_bus.specs.declared.entry.Entry.{Entry as BusEntry}
 use Rattle.air_bus.specs.declared.entry.Input.{Input as Bytes}
-use Rattle.air_bus.specs.declared.entry.Phase.TheVariants.{Idle}
+use Rattle.air_bus.specs.declared.entry.Phase.TheVariants.{Busy}
 use Rattle.turn_defs.specs.declared.node.Node.{Node}
 use Rattle.turn_defs.specs.declared.node.Node.TheVariants.{Dispatcher, Server, Replica, Joiner}
 use Rattle.turn_defs.specs.Setting.{Setting}
@@ -29,7 +29,7 @@ use Rattle.site_store.specs.Lent.{Lent, IsOfOne, MayBeLeft}
 use Rattle.gate_journal.specs.Images.{GoesOn}
 use Rattle.site_laws.specs.Kinds.{StateOf, kept_of, cell_of}
 use Rattle.site_laws.specs.Laws.{made_by}
-use Rattle.site_workers.specs.Works.{HasMet, IsCaused, is_stop}
+use Rattle.site_workers.specs.Works.{HasMet, IsCaused, is_stop, stop_count}
 use Rattle.site_workers.specs.Rounds.{AreCaused, HasFault}
 use Rattle.site_run.specs.AnyNodes.{AnyState, any_of, any_phase}
 use Rattle.site_run.specs.Running.{IsRunFrom, HaveGrown, ComesToLast}
@@ -41,7 +41,7 @@ use Rattle.verify_pass.specs.declared.journals.Journals.{Journals}
 use Rattle.site_run.specs.Asked.{IsRosterOf}
 use Rattle.site_store.proofs.Damage.{notes_kept as votes_are_notes}
 use Rattle.site_run.specs.Causes.{of_node, IsCounted, IsOfDisks, IsWelcome}
-use Rattle.site_run.specs.Refused.{HasEnded, IsOfRun, OneKept}
+use Rattle.site_run.specs.Refused.{IsOfRun, OneKept}
 use Rattle.site_run.specs.Held.{HoldsAs, HasGoneOn, HaveGoneOn}
 use Rattle.site_run.specs.Laws.{AllHold, AreHeld, AreMet, IsLeftBy, KeepsItsRecord, NoneStops}
 use Rattle.site_run.specs.Left.{HasRun, HasRested}
@@ -59,13 +59,13 @@ use Rattle.site_run.proofs.ReadBack.{read_is}
 use Rattle.site_run.proofs.Reading.{all_keep}
 use Rattle.site_run.specs.declared.faults.fault.RunFault.TheVariants as run
 
--- ---- a node that is up with no open turn
+-- ---- a node with no open turn
 
-closed_by : {L : Type 0} (live : Option L) (opened : Option Bytes) → phase_by live opened ≡ Idle → opened ≡ None
+closed_by : {L : Type 0} (live : Option L) (opened : Option Bytes) → phase_by live opened ≢ Busy → opened ≡ None
 closed_by live None is = refl
-closed_by live (Some b) is = absurd (cc is)
+closed_by live (Some b) is = absurd (is refl)
 
-closed_of : (n : Node) (t : StateOf n) → any_phase (any_of n t) ≡ Idle → IsClosed n t
+closed_of : (n : Node) (t : StateOf n) → any_phase (any_of n t) ≢ Busy → IsClosed n t
 closed_of (Dispatcher s) t is = closed_by t.live t.opened is
 closed_of (Server s) t is = closed_by t.live t.opened is
 closed_of (Replica r) t is = closed_by t.live t.opened is
@@ -161,7 +161,7 @@ module _ {N D : Type 0} (image : D → List ℕ → Type 0) (places : N → AnyS
       replicas = roster.replicas;
       count = count;
       each = λ n is a. subst (λ k. KeepsAs image k n (left.at n) (disks_at (node_number n) (slice_index_or ws (node_number n) a))) (sym roster.joiners_are)
-          (laws.rested joiners n (left.at n) (slice_index_or ws (node_number n) a).0 (closed_of n (left.at n) (left.idle resting n is)) (left.stand n is a));
+          (laws.rested joiners n (left.at n) (slice_index_or ws (node_number n) a).0 (closed_of n (left.at n) (left.closed resting n is)) (left.stand n is a));
     }
 
     pub same : (n : Node) → IsNode g n → kept_of (disks end_world) n ≡ (left.at n).kept
@@ -249,6 +249,7 @@ module _ {N D : Type 0} (image : D → List ℕ → Type 0) (places : N → AnyS
     -- what is told of a node
     node_told : (n : Node) → IsNode g n → (b : N × Option NodeFault) (f : NodeFault) → (slice_index_or ws (node_number n) b).1 ≡ Some f → (k : ℕ) → IsOfRun g d faulted (of_node joiners k f)
     node_told n is b node.Stopped told k = tt
+    node_told n is b (node.Disk disk) told k = tt
     node_told n is b (node.Damaged disk at) told k = left.whole n is b disk at told
     node_told n is b node.Read told k = tt
     node_told n is b (node.Spent epoch) told k = came_to n epoch is (left.spent n is b epoch told)
@@ -320,6 +321,7 @@ module _ {N D L : Type 0} (disk_faults : D → ℕ) (log_faults : L → ℕ) (fa
   node_fault : (i : ℕ) (v : N) (f : NodeFault) → IsCaused faults read_faults v (Some f) → ((l : Lent D) → Mem l (disks_of joiners i v) → 1 ≤ disk_faults l.disk → disks_rose) → ((l : L) → Mem l (logs_of v) → 1 ≤ log_faults l → logs_rose)
       → IsCounted logs_rose disks_rose (of_node joiners i f) × IsWelcome (of_node joiners i f)
   node_fault i v node.Stopped caused rise reads = (let l = met.disks joiners i v (caused.stopped refl) in rise l.0 l.1 l.2, tt)
+  node_fault i v (node.Disk disk) caused rise reads = (let l = met.disks joiners i v (caused.disk disk refl) in rise l.0 l.1 l.2, tt)
   node_fault i v (node.Damaged disk at) caused rise reads = (tt, tt)
   node_fault i v node.Read caused rise reads = (let l = met.logs v (caused.read refl) in reads l.0 l.1 l.2, tt)
   node_fault i v (node.Spent epoch) caused rise reads = (tt, tt)
@@ -374,6 +376,7 @@ disks_alone tells image lent disks_rose P f n of is = absurd (subst (IsOfDisks t
 
 node_named : (joiners n k : ℕ) (nf : NodeFault) → run.Store (at.Node n) ≡ of_node joiners k nf → (nf ≡ node.Stopped) × (n ≡ k)
 node_named joiners n k node.Stopped is = (refl, cc)
+node_named joiners n k (node.Disk disk) is = absurd (cc is)
 node_named joiners n k (node.Damaged disk place) is = absurd (cc is)
 node_named joiners n k node.Read is = absurd (cc is)
 node_named joiners n k (node.Spent epoch) is = absurd (cc is)
@@ -381,14 +384,14 @@ node_named joiners n k node.Memory is = absurd (cc is)
 
 -- it is of one whose work has ended so
 pub first_ended : {N : Type 0} (faults : N → ℕ) (joiners : ℕ) (h : List BusEntry) (ws : List (N × Option NodeFault)) → ((i : ℕ) (b : N × Option NodeFault) → i < length ws → HasMet faults (slice_index_or ws i b).0 (slice_index_or ws i b).1 (made_by i h))
-    → (f : RunFault) (n : ℕ) → first_fault joiners 0 ws ≡ Some f → f ≡ run.Store (at.Node n) → HasEnded n h
+    → (f : RunFault) (n : ℕ) → first_fault joiners 0 ws ≡ Some f → f ≡ run.Store (at.Node n) → stop_count (made_by n h) ≡ 8
 first_ended {N} faults joiners h ws met f n is named =
     let t = told_at joiners 0 ws f is in
     let b = some_of ws (omega (arith, t.within)) in
     let x = t.told b in
     let w = node_named joiners n t.number x.0 (sym named ∙ x.2) in
     let same : n ≡ t.place = omega (arith, w.1, t.counted) in
-    subst (λ k. HasEnded k h) (sym same) (λ closed. (met t.place b t.within).ended (x.1 ∙ ap (λ (y : NodeFault). Some y) w.0) closed)
+    subst (λ k. stop_count (made_by k h) ≡ 8) (sym same) ((met t.place b t.within).ended (x.1 ∙ ap (λ (y : NodeFault). Some y) w.0))
 
 -- ---- where none is told no node has one
 

@@ -8,11 +8,12 @@ use Rattle.outside.specs.declared.store.DiskName.{DiskName}
 use Rattle.air_bus.specs.declared.entry.Entry.{Entry}
 use Rattle.air_bus.specs.declared.entry.Entry.TheVariants.{Begin, End, Stop}
 use Rattle.air_bus.specs.declared.entry.Phase.{Phase}
-use Rattle.air_bus.specs.declared.entry.Phase.TheVariants.{Idle}
+use Rattle.air_bus.specs.declared.entry.Phase.TheVariants.{Idle, Busy}
 use Rattle.air_bus.specs.declared.entry.Input.{Input as Bytes}
 use Rattle.lossy_link.specs.declared.plan.Kind.{Kind}
 use Rattle.lossy_link.specs.Fates.{PlanView}
 use Rattle.air_bus.specs.History.{IsAired, phase}
+use Rattle.air_bus.specs.Waiting.{is_dead}
 use Rattle.turn_defs.specs.declared.node.Node.{Node}
 use Rattle.turn_defs.specs.declared.node.Node.TheVariants.{Dispatcher, Server, Replica, Joiner}
 use Rattle.turn_defs.specs.Setting.{Setting}
@@ -35,7 +36,7 @@ use Rattle.site_laws.specs.Choosing.{Chosen, choose}
 use Rattle.site_workers.specs.Works.{StandsAt, LeadsOn, GrowsOn, Reached, is_stop}
 use Rattle.site_workers.specs.Rounds.{Rests}
 use Rattle.site_run.specs.AnyNodes.{AnyState, any_of, any_phase, any_rests, IsAtLast, IsMeant, GoesOn}
-use Rattle.site_run.specs.Running.{AreDownOver, IsRunFrom, HaveGrown, HasCome, ComesToLast}
+use Rattle.site_run.specs.Running.{AreDownOver, DeadAreReplicas, IsRunFrom, HaveGrown, HasCome, ComesToLast}
 use Rattle.site_run.proofs.Walking.{walked}
 
 -- what is known of a result that came
@@ -164,10 +165,11 @@ module _ {N S : Type 0} (leads : S → Entry → S → Type 0) (phase_of : S →
   have_grown grown g d vs ws inside down grows n is a b = grown_from grown g d n (slice_index_or vs (node_number n) a) (slice_index_or ws (node_number n) b).0 (down n is a) (grows (node_number n) a b (inside n is))
 
   module _ (law : AiredIsRun) (rest_law : StatesRest) (numbers : (g : Setting) → NumbersAreNodes g) (ends : (g : Setting) (m : ℕ) → node_of g m ≡ None → node_count g ≤ m)
+      (silent : (plan : PlanView) (kinds : List Kind) (h : List Entry) → IsAired plan kinds h → (m : ℕ) → is_dead plan.dead kinds m ≡ true → made_by m h ≡ [])
       (g : Setting) (d : Disks) (plan : PlanView) (kinds : List Kind) (h : List Entry) (vs : List N) (ws : List (N × Option NodeFault)) (rest : Bool)
-      (count : length vs ≡ node_count g) (len : length ws ≡ length vs) (aired : IsAired plan kinds h) (others : (m : ℕ) → length vs ≤ m → made_by m h ≡ []) (down : AreDownOver places g d vs)
+      (count : length vs ≡ node_count g) (len : length ws ≡ length vs) (aired : IsAired plan kinds h) (others : (m : ℕ) → length vs ≤ m → made_by m h ≡ []) (dead : DeadAreReplicas g plan kinds) (down : AreDownOver places g d vs)
       (went : (i : ℕ) (a : N) (b : N × Option NodeFault) → i < length vs → LeadsOn leads phase_of stands number spends (slice_index_or vs i a) None [] (slice_index_or ws i b).0 (slice_index_or ws i b).1 (made_by i h))
-      (rested : IsTrue rest → (i : ℕ) (b : N × Option NodeFault) → i < length vs → Rests number stands at_rest_as (slice_index_or ws i b) (made_by i h)) where
+      (rested : IsTrue rest → (i : ℕ) (b : N × Option NodeFault) → i < length vs → is_dead plan.dead kinds i ≡ false → Rests number stands at_rest_as (slice_index_or ws i b) (made_by i h)) where
     some : 0 < length vs
     some = omega (arith, count)
 
@@ -211,6 +213,30 @@ module _ {N S : Type 0} (leads : S → Entry → S → Type 0) (phase_of : S →
         let l = up_live u up in
         subst (UpWith (λ x. joiner_at_rest x ≡ true)) (sym l.1) (sym (says l.0 l.1))
 
+    -- a dead replica has nothing to do, and no turn
+    replica_rests : (n : Node) (u : StateOf n) (r : ℕ) → n ≡ Replica r → RestsAt g n u
+    replica_rests (Dispatcher s) u r is = absurd (cc is)
+    replica_rests (Server s) u r is = absurd (cc is)
+    replica_rests (Replica k) u r is = tt
+    replica_rests (Joiner j) u r is = absurd (cc is)
+
+    no_turn : (n : Node) (u : StateOf n) (mine : List Entry) → states.Path (rows_of n) (down_over g d n) mine u → mine ≡ [] → any_phase (any_of n u) ≢ Busy
+    no_turn n u [] path none busy = absurd (cc (sym (down_phase g d n 0) ∙ ap (λ x. any_phase (any_of n x)) path ∙ busy))
+    no_turn n u (e ∷ es) path none busy = absurd (cc none)
+
+    abbrev gone : (n : Node) → Bool
+    gone n = is_dead plan.dead kinds (node_number n)
+
+    rest_of : IsTrue rest → (n : Node) → IsNode g n → (b : Bool) → gone n ≡ b → RestsAt g n (chosen.at n) × (any_phase (any_of n (chosen.at n)) ≢ Busy)
+    rest_of r n is true e = (
+      (let replica = dead n is e in replica_rests n (chosen.at n) replica.0 replica.1),
+      no_turn n (chosen.at n) (made_by (node_number n) h) (chosen.holds n is).path (silent plan kinds h aired (node_number n) e),
+    )
+    rest_of r n is false e =
+        let rests = rests_here n (chosen.at n) (left_at n) (chosen.holds n is) (rested r (node_number n) one_left (inside n is) e) in
+        let of_g = settings_so g (world_after g (opening d) whole.0) n (chosen.at n) (whole.1.stands n is) in
+        (rests_at n (chosen.at n) of_g rests.0 rests.1, λ busy. absurd (cc (sym rests.0 ∙ busy)))
+
     -- whatever stands for a node that isn't there
     left_is : (n : Node) → IsNode g n → (c : N × Option NodeFault) → left_at n ≡ slice_index_or ws (node_number n) c
     left_is n is c = get_or_default ws (node_number n) one_left c (omega (arith, inside n is, len))
@@ -225,13 +251,10 @@ module _ {N S : Type 0} (leads : S → Entry → S → Type 0) (phase_of : S →
           stand = λ n is c.
               let e = chosen.holds n is in
               subst (λ (x : N × Option NodeFault). places x.0 (any_of n (chosen.at n))) (left_is n is c) (e.meant.placed (left_at n).0 e.at);
-          at_rest = λ r. rest_law g d h chosen.at whole.0 whole.1
-              (λ n is.
-              let rests = rests_here n (chosen.at n) (left_at n) (chosen.holds n is) (rested r (node_number n) one_left (inside n is)) in
-              rests_at n (chosen.at n) (settings_so g (world_after g (opening d) whole.0) n (chosen.at n) (whole.1.stands n is)) rests.0 rests.1);
+          at_rest = λ r. rest_law g d h chosen.at whole.0 whole.1 (λ n is. (rest_of r n is (gone n) refl).0);
           whole = λ n is c disk place told. (chosen.holds n is).whole disk place (ap (λ (x : N × Option NodeFault). x.1) (left_is n is c) ∙ told);
           spent = λ n is c epoch told.
               let e = chosen.holds n is in
               comes_to_last g d h n (chosen.at n) epoch e.path (e.spent epoch (ap (λ (x : N × Option NodeFault). x.1) (left_is n is c) ∙ told));
-          idle = λ r n is. (rests_here n (chosen.at n) (left_at n) (chosen.holds n is) (rested r (node_number n) one_left (inside n is))).0;
+          closed = λ r n is. (rest_of r n is (gone n) refl).1;
         }

@@ -52,6 +52,7 @@ epochs_of joiners number = if nat_lt number 7 then name.Server (number - 2) else
 -- of the node of a number, where each site has so many joiners
 abbrev pub of_node : (joiners number : ℕ) → NodeFault → RunFault
 of_node joiners number node.Stopped = fault.Store (place.Node number)
+of_node joiners number (node.Disk disk) = fault.Store (place.Disk disk)
 of_node joiners number (node.Damaged disk at) = fault.Damaged disk at
 of_node joiners number node.Read = fault.Read (log_of number)
 of_node joiners number (node.Spent epoch) = fault.Limit (epochs_of joiners number) epoch

@@ -27,7 +27,7 @@ use Rattle.site_store.specs.Refusals.{IsJournalOf, IsOfFirstDisk, other_names}
 use Rattle.site_store.specs.declared.places.misplaced.Misplaced.{Misplaced}
 use Rattle.site_store.specs.Kept.{IsFirst, all_kept}
 use Rattle.photon_model.specs.Runs.{Disks}
-use Rattle.site_workers.specs.Works.{IsLeftOpen, stop_count}
+use Rattle.site_workers.specs.Works.{stop_count}
 use Rattle.site_laws.specs.Stores.{Images}
 use Rattle.site_store.specs.Records.{KeptValues, AreKept, value_at}
 use Rattle.site_store.specs.Causes.{IsOtherTable, first_limit}
@@ -126,10 +126,6 @@ IsOfRun g d faulted (fault.Topology what) = ⊥
 IsOfRun g d faulted (fault.Limit disk value) = (value ≡ 4294967294) × (OneKept g d value ⊎ faulted)
 IsOfRun g d faulted fault.Memory = ⊤
 
--- The node of this number has stopped eight times, but for one that couldn't be reopened: its turn is left open.
-abbrev pub HasEnded : ℕ → List BusEntry → Type 0
-HasEnded n history = (IsLeftOpen (made_by n history) → ⊥) → stop_count (made_by n history) ≡ 8
-
--- where a fault names a node, that node has, by the run's history
+-- where a fault names a node, that node has stopped eight times, by the run's history
 abbrev pub NamesEnded : Option RunLog → RunFault → Type 0
-NamesEnded ran f = (n : ℕ) → f ≡ fault.Store (place.Node n) → IsSomeAnd ran (λ l. HasEnded n l.air.history)
+NamesEnded ran f = (n : ℕ) → f ≡ fault.Store (place.Node n) → IsSomeAnd ran (λ l. stop_count (made_by n l.air.history) ≡ 8)

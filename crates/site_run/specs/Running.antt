@@ -3,7 +3,10 @@ use Rattle.std.specs.Prelude.{◌≡◌, ◌≢◌, ◌⊎◌, ℕ, Bool, true, 
 use Rattle.std.specs.List.{list_any}
 use Rattle.outside.specs.declared.store.DiskName.{DiskName}
 use Rattle.air_bus.specs.declared.entry.Entry.{Entry as BusEntry}
-use Rattle.air_bus.specs.declared.entry.Phase.TheVariants.{Idle}
+use Rattle.air_bus.specs.declared.entry.Phase.TheVariants.{Busy}
+use Rattle.lossy_link.specs.declared.plan.Kind.{Kind}
+use Rattle.lossy_link.specs.Fates.{PlanView}
+use Rattle.air_bus.specs.Waiting.{is_dead}
 use Rattle.turn_defs.specs.Setting.{Setting}
 use Rattle.turn_defs.specs.Nodes.{IsNode, node_number}
 use Rattle.turn_defs.specs.declared.node.Node.{Node}
@@ -34,16 +37,20 @@ module _ {N : Type 0} (places : N → AnyState → Type 0) where
   AreDownOver g d nodes = (n : Node) → IsNode g n → (a : N) → places (slice_index_or nodes (node_number n) a) (any_of n (down_over g d n))
 
   -- The history is a run of the whole system from these records, and each node stands where it says. Where all nodes rest the
-  -- system does, and each node is up with no open turn. No node is told as damaged, and as spent only one that came to its last epoch.
+  -- system does, and no node has an open turn. No node is told as damaged, and as spent only one that came to its last epoch.
   pub record IsRunFrom (g : Setting) (d : Disks) (h : List BusEntry) (nodes : List (N × Option NodeFault)) (rest : Bool) : Type 0 where
     pub at : (n : Node) → StateOf n
     pub entries : List Entry
     pub run : IsRunOf g d h at entries
     pub stand : (n : Node) → IsNode g n → (a : N × Option NodeFault) → places (slice_index_or nodes (node_number n) a).0 (any_of n (at n))
     pub at_rest : IsTrue rest → IsAtRest g (world_after g (opening d) entries)
-    pub idle : IsTrue rest → (n : Node) → IsNode g n → any_phase (any_of n (at n)) ≡ Idle
+    pub closed : IsTrue rest → (n : Node) → IsNode g n → any_phase (any_of n (at n)) ≢ Busy
     pub whole : (n : Node) → IsNode g n → (a : N × Option NodeFault) (disk : DiskName) (place : ℕ) → (slice_index_or nodes (node_number n) a).1 ≢ Some (Damaged disk place)
     pub spent : (n : Node) → IsNode g n → (a : N × Option NodeFault) (epoch : ℕ) → (slice_index_or nodes (node_number n) a).1 ≡ Some (Spent epoch) → ComesToLast d h n epoch
+
+-- each node of the setting that the plan takes for a dead replica is a replica
+abbrev pub DeadAreReplicas : Setting → PlanView → List Kind → Type 0
+DeadAreReplicas g plan kinds = (n : Node) → IsNode g n → is_dead plan.dead kinds (node_number n) ≡ true → (r : ℕ) × (n ≡ Replica r)
 
 -- each node's disks went on from where they were when it was opened
 abbrev pub HaveGrown : {N : Type 0} → (N → N → Type 0) → Setting → List N → List (N × Option NodeFault) → Type 0

@@ -67,6 +67,7 @@ pub(crate) fn fault_of_node(joiners: u8, number: u8, fault: NodeFault) -> RunFau
 {
     match fault {
         NodeFault::Stopped => RunFault::Store(StorePlace::Node(u16::from(number))),
+        NodeFault::Disk(disk) => RunFault::Store(StorePlace::Disk(disk)),
         NodeFault::Damaged { disk, at } => RunFault::Damaged { disk, at },
         NodeFault::Read => RunFault::Read(log_read(number)),
         NodeFault::Spent(epoch) => RunFault::Limit {

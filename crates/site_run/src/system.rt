@@ -1,9 +1,10 @@
 // The run of all nodes, of whatever kind they are.
-ghost use Rattle.std.specs.Prelude.{◌≡◌, ◌<◌, ◌≤◌, ◌+◌, ◌*◌, ◌∷◌, [], ℕ, List, None, length, slice_index_or, vec_capacity, false, IsTrue, IfOk, IfErr, IfSome, IsSomeAnd};
+ghost use Rattle.std.specs.Prelude.{◌≡◌, ◌<◌, ◌≤◌, ◌+◌, ◌*◌, ◌∷◌, [], ℕ, List, None, length, slice_index_or, vec_capacity, true, false, IsTrue, IfOk, IfErr, IfSome, IsSomeAnd};
 ghost use Rattle.std.specs.List.{All};
 ghost use Rattle.outside.specs.declared.store.DiskName.{DiskName};
 ghost use Rattle.outside.specs.Faults.{Rose};
 ghost use Rattle.air_bus.specs.History.{IsAired};
+ghost use Rattle.air_bus.specs.Waiting.{is_replica, kind_at};
 ghost use Rattle.bus_seat.specs.Seats.{IsIn};
 ghost use Rattle.turn_defs.specs.Setting.{Setting};
 ghost use Rattle.photon_model.specs.Runs.{Disks};
@@ -54,7 +55,8 @@ const KINDS: [Kind; 15] = [
 // The kinds of all nodes, with so many joiners a site.
 fn kinds(joiners: u8) -> &'static [Kind]
     requires { joiners ≤ 4 }
-    ensures { length result.now ≡ 7 + 2 * joiners }
+    ensures count { length result.now ≡ 7 + 2 * joiners }
+    ensures replicas { (n : ℕ) → is_replica (kind_at result.now n) ≡ true → (4 ≤ n) × (n < 7) }
 {
     &KINDS[..7 + 2 * usize::from(joiners)]
 }

@@ -1,5 +1,5 @@
 -- Rounds of workers, one after another, and what they leave.
-use Rattle.std.proofs.Common.{◌≡◌, ℕ, zero, suc, ◌<◌, Bool, List, [], ◌∷◌, ◌++◌, length, map, get_or, slice_index_or, Option, Some, None, IfSome, refl, sym, ap, ◌∙◌, subst, arith}
+use Rattle.std.proofs.Common.{◌≡◌, ℕ, zero, suc, ◌<◌, Bool, false, List, [], ◌∷◌, ◌++◌, length, map, get_or, slice_index_or, Option, Some, None, IfSome, MatchOption, refl, sym, ap, ◌∙◌, subst, arith}
 use Rattle.std.specs.Prelude.{All, IsTrue, IsSome}
 use mathlib.Core.Logic.{dite}
 use mathlib.Core.List.{map-append}
@@ -9,8 +9,9 @@ use Rattle.std.proofs.Common.{length-append}
 use Rattle.air_bus.specs.declared.entry.Entry.{Entry}
 use Rattle.air_bus.specs.declared.entry.Input.{Input}
 use Rattle.air_bus.specs.declared.entry.Phase.{Phase}
+use Rattle.air_bus.specs.Waiting.{is_dead}
 use Rattle.bus_seat.specs.Views.{count, made_by}
-use Rattle.bus_seat.specs.Seats.{BusId, Sight, fresh, fresh_to, fresh_seats, tag, AreSeatsOf, IsIn}
+use Rattle.bus_seat.specs.Seats.{BusId, Sight, fresh, fresh_to, fresh_seats, tag, TakesPart, AreSeatsOf, IsIn}
 use Rattle.bus_seat.proofs.Closing.{snoc_injective, fresh_count}
 use Rattle.site_node.specs.declared.kind.NodeFault.{NodeFault}
 use Rattle.site_workers.specs.Works.{WorkerView, LeadsOn, GrowsOn, Grew, HasMet}
@@ -196,14 +197,17 @@ module _ {N S : Type 0} (tells : Bool) (leads : S → Entry → S → Type 0) (p
           λ b. let d = some_of us one.0 one.1 in subst (λ (x : N × Option NodeFault). IsSome x.1) (sym (left_at one.0 d b one.1)) (one.2 d),
         )
 
-        -- where each worker's node rests by its own entries, it does by the history
-        pub all_rested : (at_rest_as : S → Bool → Type 0) → All (λ (w : WorkerView N). Rests number stands at_rest_as (w.node, w.fault) w.seat.mine) us
-            → (i : ℕ) (b : N × Option NodeFault) → i < length ws → Rests number stands at_rest_as (get_or left i b) (made_by i h)
-        all_rested at_rest_as rest i b l =
+        -- where each worker's node that takes part rests by its own entries, it does by the history
+        pub all_rested : (at_rest_as : S → Bool → Type 0) → All (λ (w : WorkerView N). TakesPart w.seat → Rests number stands at_rest_as (w.node, w.fault) w.seat.mine) us
+            → (i : ℕ) (b : N × Option NodeFault) → i < length ws → is_dead bus.base.plan.dead bus.base.kinds i ≡ false → Rests number stands at_rest_as (get_or left i b) (made_by i h)
+        all_rested at_rest_as rest i b l alive =
             let inside : i < length us = omega (arith, l, went.count) in
             let d = some_of us i inside in
+            let part : TakesPart (get_or us i d).seat =
+            subst (λ (t : BusId × Option ℕ). MatchOption t.1 ⊥ (λ n. is_dead t.0.base.plan.dead t.0.base.kinds n ≡ false)) (sym (ended_tag i d inside)) alive
+            in
             subst (λ (x : N × Option NodeFault). Rests number stands at_rest_as x (made_by i h)) (sym (left_at i d b inside))
-            (subst (λ (m : List Entry). Rests number stands at_rest_as ((get_or us i d).node, (get_or us i d).fault) m) (sym (own_entries i d inside)) (rest i d inside))
+            (subst (λ (m : List Entry). Rests number stands at_rest_as ((get_or us i d).node, (get_or us i d).fault) m) (sym (own_entries i d inside)) (rest i d inside part))
 
         -- what is known of each worker's own entries and its faults is known by the history
         pub all_met : (tally : N → ℕ) → All (λ (w : WorkerView N). HasMet tally w.node w.fault w.seat.mine) us → (i : ℕ) (b : N × Option NodeFault) → i < length ws

@@ -126,6 +126,10 @@ module _ (n : ℕ) (v w : Sight) (i : Input) (wants tick : Bool) (whose : v.numb
   pub made : IsPrefix v.mine w.mine
   made = (Begin n i ∷ [], sym grew)
 
+  -- and the turn was closed, or left open
+  pub grew_then : (new : Sight) → (w.bus ≡ v.bus) × (w.number ≡ v.number) → Grew w new → Grew v new
+  grew_then new same next = grew_on v w new (record { bus = same.0; number = same.1; seen = saw; mine = made }) next
+
 -- what closes a turn
 pub record Closed (n : ℕ) (v w : Sight) (e : Entry) : Type 0 where
   pub mine : w.mine ≡ v.mine ++ e ∷ []

@@ -31,7 +31,7 @@ module _ {N S : Type 0} (leads : S → Entry → S → Type 0) (phase_of : S →
   abbrev pub WentFar : (N → N → Type 0) → N → N × Option NodeFault → Type 0
   WentFar grown v w = GrowsOn leads phase_of stands number spends grown v None [] w.0
 
--- The node has no fault, is up by its own entries, and says that it rests.
+-- the node has no fault, is up by its own entries, and says that it rests
 pub record Rests {N S : Type 0} (number : N → ℕ) (stands : N → S → Type 0) (at_rest_as : S → Bool → Type 0) (n : N × Option NodeFault) (mine : List Entry) : Type 0 where
   pub whole : n.1 ≡ None
   pub up : phase (number n.0) mine ≡ Idle

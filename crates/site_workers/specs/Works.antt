@@ -11,7 +11,7 @@ use Rattle.air_bus.specs.declared.entry.Phase.TheVariants.{Busy}
 use Rattle.air_bus.specs.History.{phase}
 use Rattle.bus_seat.specs.Seats.{Sight}
 use Rattle.site_node.specs.declared.kind.NodeFault.{NodeFault}
-use Rattle.site_node.specs.declared.kind.NodeFault.TheVariants.{Stopped, Damaged, Read, Spent}
+use Rattle.site_node.specs.declared.kind.NodeFault.TheVariants.{Stopped, Disk, Damaged, Read, Spent}
 
 -- the entries lead from one state to another
 abbrev pub Path : {S : Type 0} → (S → Entry → S → Type 0) → S → List Entry → S → Type 0
@@ -23,9 +23,11 @@ abbrev pub Reached : {N : Type 0} → (N → N → Type 0) → ℕ → N → N �
 Reached grown zero v w = v ≡ w
 Reached grown (suc k) v w = (u : _) × Reached grown k v u × grown u w
 
--- a node that stopped too often, or couldn't be reopened, has met a fault of its disks, and one that couldn't read one of its log
+-- a node that stopped too often, or a disk of which wasn't opened again, has met a fault of its disks, and one that couldn't read one of
+-- its log
 pub record IsCaused {N : Type 0} (faults log_faults : N → ℕ) (node : N) (fault : Option NodeFault) : Type 0 where
   pub stopped : fault ≡ Some Stopped → 1 ≤ faults node
+  pub disk : (disk : DiskName) → fault ≡ Some (Disk disk) → 1 ≤ faults node
   pub read : fault ≡ Some Read → 1 ≤ log_faults node
 
 -- the node went down within its turn
@@ -38,15 +40,10 @@ is_stop (Stop node landed) = true
 abbrev pub stop_count : List Entry → ℕ
 stop_count entries = length (filter is_stop entries)
 
--- the last entry began a turn, which nothing has closed
-abbrev pub IsLeftOpen : List Entry → Type 0
-IsLeftOpen entries = (front : List Entry) × (node : ℕ) × (input : Input) × (entries ≡ front ++ Begin node input ∷ [])
-
--- A node whose entries have a stop has met a fault of its disks. One whose work ended as stopped has eight stops, but for one that
--- couldn't be reopened: its turn is left open.
+-- a node whose entries have a stop has met a fault of its disks, and one whose work ended as stopped has eight stops
 pub record HasMet {N : Type 0} (faults : N → ℕ) (node : N) (fault : Option NodeFault) (mine : List Entry) : Type 0 where
   pub stops : list_any is_stop mine ≡ true → 1 ≤ faults node
-  pub ended : fault ≡ Some Stopped → (IsLeftOpen mine → ⊥) → stop_count mine ≡ 8
+  pub ended : fault ≡ Some Stopped → stop_count mine ≡ 8
 
 -- what a contract sees of a worker
 pub record WorkerView (N : Type 0) : Type 0 where

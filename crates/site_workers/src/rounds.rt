@@ -3,7 +3,8 @@ ghost use Rattle.std.specs.Prelude.{◌≡◌, ◌≢◌, ◌<◌, ◌≤◌, �
 ghost use Rattle.std.specs.List.{All};
 ghost use Rattle.air_bus.specs.History.{IsAired};
 ghost use Rattle.bus_seat.specs.Views.{count, made_by};
-ghost use Rattle.bus_seat.specs.Seats.{fresh, fresh_to, fresh_seats, IsIn};
+ghost use Rattle.air_bus.specs.Waiting.{is_dead};
+ghost use Rattle.bus_seat.specs.Seats.{fresh, fresh_to, fresh_seats, TakesPart, IsIn};
 ghost use Rattle.site_workers.specs.Works.{WorkerView, HasMet};
 ghost use Rattle.site_workers.specs.Rounds.{WentOn, AllWentOn, Walked, WentFar, Rests, AreCaused, OneHasFault, HasFault};
 
@@ -40,8 +41,8 @@ struct Room<N: SiteNode> {
     seen: Vec<Seen>,
 }
 
-/// Runs the nodes, whose numbers are their places in the list, until all are at rest or one has a fault. In a round each node
-/// takes its turns on a thread of its own, until there is none to take. Where a round ends quiet, each node that waits for an
+/// Runs the nodes, whose numbers are their places in the list, until all are at rest or one has a fault. A dead replica takes no
+/// turn, and isn't asked whether it rests. In a round each node takes its turns on a thread of its own, until there is none to take. Where a round ends quiet, each node that waits for an
 /// answer takes one Tick in the next.
 ///
 /// It takes memory for the bus and the lists before the first round, and hands the nodes back where that is wanting; in a round
@@ -77,7 +78,8 @@ pub fn run<R: Threads + Wait + Sync, N: SiteNode + Send + Drop, G: Gate>(
     // A node that stopped within a turn has met a fault of its disks.
     ensures met { IfOk result (λ r. (i : ℕ) (b : _) → i < length nodes.items →
         HasMet N.faults (slice_index_or r.nodes.items i b).0 (slice_index_or r.nodes.items i b).1 (made_by i r.air.history)) }
-    ensures rest { IfOk result (λ r. IsTrue r.rest → (i : ℕ) (b : _) → i < length nodes.items →
+    // Where all are at rest, each that isn't a dead replica is.
+    ensures rest { IfOk result (λ r. IsTrue r.rest → (i : ℕ) (b : _) → i < length nodes.items → is_dead plan.dead kinds.now i ≡ false →
         Rests N.number N.stands N.at_rest_as (slice_index_or r.nodes.items i b) (made_by i r.air.history)) }
     ensures back { IfErr result (λ e. e.1 ≡ nodes) }
 {
@@ -143,7 +145,7 @@ fn run_on<R: Threads + Wait + Sync, N: SiteNode + Send + Drop, G: Gate>(
     ensures fault { result.rest ≡ false → HasFault result.nodes.items }
     ensures caused { AreCaused N.faults N.log_faults result.nodes.items }
     ensures met { (i : ℕ) (b : _) → i < length nodes.items → HasMet N.faults (slice_index_or result.nodes.items i b).0 (slice_index_or result.nodes.items i b).1 (made_by i result.air.history) }
-    ensures rest { IsTrue result.rest → (i : ℕ) (b : _) → i < length nodes.items →
+    ensures rest { IsTrue result.rest → (i : ℕ) (b : _) → i < length nodes.items → is_dead bus.base.plan.dead bus.base.kinds i ≡ false →
         Rests N.number N.stands N.at_rest_as (slice_index_or result.nodes.items i b) (made_by i result.air.history) }
 {
     let Room {
@@ -244,7 +246,7 @@ fn rounds_of<R: Threads + Wait + Sync, N: SiteNode + Send + Drop, G: Gate>(
     requires last { last.old.bus ≡ bus.now }
     ensures last { (last.new.bus ≡ last.old.bus) × (last.new.number ≡ last.old.number) }
     ensures went { AllWentOn N.tells N.leads N.phase_of N.stands N.number N.spends N.grown workers.items result.0.items }
-    ensures rest { IsTrue result.1 → All (λ (w : WorkerView N). Rests N.number N.stands N.at_rest_as (w.node, w.fault) w.seat.mine) result.0.items }
+    ensures rest { IsTrue result.1 → All (λ (w : WorkerView N). TakesPart w.seat → Rests N.number N.stands N.at_rest_as (w.node, w.fault) w.seat.mine) result.0.items }
     ensures fault { result.1 ≡ false → OneHasFault result.0.items }
 {
     let rest = rounds(rt, bus, last, gate, workers.as_mut_slice());
@@ -262,7 +264,7 @@ fn rounds<R: Threads + Wait + Sync, N: SiteNode + Send, G: Gate>(
     requires last { last.old.bus ≡ bus.now }
     ensures last { (last.new.bus ≡ last.old.bus) × (last.new.number ≡ last.old.number) }
     ensures went { AllWentOn N.tells N.leads N.phase_of N.stands N.number N.spends N.grown workers.old workers.new }
-    ensures rest { IsTrue result → All (λ (w : WorkerView N). Rests N.number N.stands N.at_rest_as (w.node, w.fault) w.seat.mine) workers.new }
+    ensures rest { IsTrue result → All (λ (w : WorkerView N). TakesPart w.seat → Rests N.number N.stands N.at_rest_as (w.node, w.fault) w.seat.mine) workers.new }
     ensures fault { result ≡ false → OneHasFault workers.new }
 {
     let mut tick = false;
@@ -272,7 +274,7 @@ fn rounds<R: Threads + Wait + Sync, N: SiteNode + Send, G: Gate>(
             return false;
         }
         tick = bus.quiet(rt, last);
-        if tick && all_rest(workers) {
+        if tick && all_rest(bus, workers) {
             return true;
         }
     }
@@ -332,13 +334,14 @@ fn has_fault<N: SiteNode>(workers: &[Worker<N>]) -> bool
     false
 }
 
-// Whether each worker's node has nothing left to do.
-fn all_rest<N: SiteNode>(workers: &[Worker<N>]) -> bool
-    requires { All (λ (w : WorkerView N). w.fault ≡ None) workers.now }
-    ensures { IsTrue result → All (λ (w : WorkerView N). Rests N.number N.stands N.at_rest_as (w.node, w.fault) w.seat.mine) workers.now }
+// Whether each worker's node that takes part has nothing left to do.
+fn all_rest<N: SiteNode>(bus: &Bus, workers: &[Worker<N>]) -> bool
+    requires buses { All (λ (w : WorkerView N). w.seat.bus ≡ bus.now) workers.now }
+    requires whole { All (λ (w : WorkerView N). w.fault ≡ None) workers.now }
+    ensures { IsTrue result → All (λ (w : WorkerView N). TakesPart w.seat → Rests N.number N.stands N.at_rest_as (w.node, w.fault) w.seat.mine) workers.now }
 {
     for worker in workers {
-        if !worker.at_rest() {
+        if !worker.at_rest(bus) {
             return false;
         }
     }

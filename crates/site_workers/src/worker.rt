@@ -3,6 +3,7 @@ ghost use Rattle.std.specs.Prelude.{◌≡◌, ◌≢◌, ◌<◌, ◌≤◌, �
 ghost use Rattle.air_bus.specs.declared.entry.Entry.TheVariants.{Begin};
 ghost use Rattle.air_bus.specs.declared.entry.Phase.TheVariants.{Idle, Busy};
 ghost use Rattle.air_bus.specs.History.{phase};
+ghost use Rattle.bus_seat.specs.Seats.{TakesPart};
 ghost use Rattle.site_node.specs.declared.kind.NodeFault.TheVariants as node_fault;
 ghost use Rattle.site_node.specs.Faults.{IsWhole};
 ghost use Rattle.site_workers.specs.Works.{IsIdle, Closes, Grew, Reached, IsCaused, HasMet, stop_count};
@@ -104,13 +105,14 @@ impl<N: SiteNode> Worker<N> {
         self.fault
     }
 
-    /// Whether its node is up and has nothing left to do.
-    pub fn at_rest(&self) -> bool
-        requires { self.now.fault ≡ None }
-        ensures up { IsTrue result → phase (N.number self.now.node) self.now.seat.mine ≡ Idle }
-        ensures rests { IsTrue result → (s : N.State) → N.stands self.now.node s → N.at_rest_as s true }
+    /// Whether its node takes no part, or is up and has nothing left to do.
+    pub fn at_rest(&self, bus: &Bus) -> bool
+        requires bus { self.now.seat.bus ≡ bus.now }
+        requires fault { self.now.fault ≡ None }
+        ensures up { IsTrue result → TakesPart self.now.seat → phase (N.number self.now.node) self.now.seat.mine ≡ Idle }
+        ensures rests { IsTrue result → TakesPart self.now.seat → (s : N.State) → N.stands self.now.node s → N.at_rest_as s true }
     {
-        self.up && self.node.at_rest()
+        !bus.takes_part(&self.seat) || self.up && self.node.at_rest()
     }
 
     /// Asks for a Tick, if the node waits for answers: it gets one where no packet waits.
@@ -134,7 +136,7 @@ impl<N: SiteNode> Worker<N> {
         }
     }
 
-    /// Takes a turn of the node, if there is one to take, and says whether it did. Where its disks tell what they hold, the
+    /// Takes a turn of the node, if it takes part and there is one to take, and says whether it did. Where its disks tell what they hold, the
     /// entries that it adds lead on from where the node stood.
     pub fn step<R: Wait, G: Gate>(&mut self, rt: &R, bus: &Bus, gate: &G) -> bool
         requires { self.old.seat.bus ≡ bus.now }
@@ -143,6 +145,9 @@ impl<N: SiteNode> Worker<N> {
         ensures grows { IsTrue N.tells → GrowsOn N.leads N.phase_of N.stands N.number N.spends N.grown self.old.node self.old.fault self.old.seat.mine self.new.node }
     {
         if self.fault.is_some() {
+            return false;
+        }
+        if !bus.takes_part(&self.seat) {
             return false;
         }
         let wants = self.node.wants();
@@ -213,6 +218,7 @@ fn close<N: SiteNode, R: Wait, G: Gate>(
     ensures no_stop { result ≡ Ok Closed.Ended → stop_count seat.new.mine ≡ stop_count seat.old.mine }
     ensures one_stop { result ≡ Ok Closed.Stopped → stop_count seat.new.mine ≡ stop_count seat.old.mine + 1 }
     ensures whole { IsTrue N.tells → (s t : N.State) → N.stands node.old s → N.leads s (Begin (N.number node.old) input.now) t → IfErr result IsWhole }
+    ensures counted { IfErr result (λ fault. fault ≢ NodeFault.Stopped) }
     ensures spent { (s : N.State) → N.stands node.old s → IfErr result (λ fault. (epoch : ℕ) → fault ≡ NodeFault.Spent epoch → N.spends s input.now ≡ Some epoch) }
     ensures closes { IsTrue N.tells → (s t : N.State) → N.stands node.old s → N.leads s (Begin (N.number node.old) input.now) t → OnOk result (Closes N.leads N.phase_of N.stands N.number N.spends node.new t seat.old.mine seat.new.mine) }
     ensures open { IsTrue N.tells → (s t : N.State) → N.stands node.old s → N.leads s (Begin (N.number node.old) input.now) t → OnErr result (N.stands node.new t) }

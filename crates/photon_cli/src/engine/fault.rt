@@ -5,7 +5,7 @@ use lossy_link::Field;
 use site_run::{LogName, RunFault};
 
 /// Why a command gives up. It holds no memory of the heap.
-#[derive(Clone, Copy, Debug)]
+#[derive(Debug, Drop)]
 pub enum Fault {
     /// The text of the shards is no table: its first bad row, from 0.
     Table { row: u8 },

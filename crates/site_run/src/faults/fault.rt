@@ -4,6 +4,7 @@ ghost use Rattle.site_run.specs.declared.faults.fault.RunFault.TheVariants as ru
 
 use outside::DiskName;
 use std::alloc::{AllocError, AllocFailed};
+use thiserror::Error;
 use time_shards::Table;
 
 /// Which of the two logs.
@@ -45,20 +46,26 @@ pub enum Mismatch {
     },
 }
 
-/// Why a run of both sites gives up. It holds no memory of the heap.
-#[derive(Clone, Copy, Debug)]
+/// Why a run of both sites gives up. It holds no memory of the heap. What the command tells of it is `tell`'s line.
+#[derive(Debug, Drop, Error)]
 pub enum RunFault {
     /// The log couldn't be read.
+    #[error("the log of the {0:?} couldn't be read")]
     Read(LogName),
     /// The state directory failed.
+    #[error("the state directory failed: {0:?}")]
     Store(StorePlace),
     /// The bytes of this disk are no journal of its kind, from this place on.
+    #[error("{disk:?} is damaged at {at}")]
     Damaged { disk: DiskName, at: u64 },
     /// What is kept doesn't fit what was asked.
+    #[error("what is kept doesn't fit what was asked: {0:?}")]
     Topology(Mismatch),
     /// A number that this disk keeps is the last of its kind.
+    #[error("{disk:?} keeps the last number of its kind, {value}")]
     Limit { disk: DiskName, value: u64 },
-    /// Memory was wanting.
+    /// There was no memory.
+    #[error("out of memory")]
     Memory,
 }
 

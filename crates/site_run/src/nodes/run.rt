@@ -9,7 +9,7 @@ ghost use Rattle.turn_defs.specs.Nodes.{node_count};
 ghost use Rattle.photon_model.specs.Runs.{Disks};
 ghost use Rattle.site_workers.specs.Works.{HasMet};
 ghost use Rattle.site_workers.specs.Rounds.{HasFault, AreCaused};
-ghost use Rattle.site_run.specs.Running.{AreDownOver, IsRunFrom, HaveGrown};
+ghost use Rattle.site_run.specs.Running.{AreDownOver, DeadAreReplicas, IsRunFrom, HaveGrown};
 
 use crate::nodes::SystemNode;
 use lossy_link::{Kind, Plan};
@@ -19,8 +19,8 @@ use std::alloc::{AllocError, Global};
 use std::sync::Wait;
 use std::thread::Threads;
 
-/// Runs the nodes of both sites, each on a thread, until all are at rest or one has a fault. They stand in the order of their
-/// numbers. It costs what `site_workers::run` does.
+/// Runs the nodes of both sites, each on a thread, until all but a dead replica are at rest or one has a fault. They stand in
+/// the order of their numbers. It costs what `site_workers::run` does.
 ///
 /// What is said of runs is said where the disks and the logs tell what they hold.
 pub fn run_nodes<R: Threads + Wait + Sync, N: SystemNode + Send + Drop, G: Gate>(
@@ -42,7 +42,7 @@ pub fn run_nodes<R: Threads + Wait + Sync, N: SystemNode + Send + Drop, G: Gate>
     ensures lists { IfOk result (λ r. All (IsIn r.air.history) r.seen.items) }
     ensures count { IfOk result (λ r. length r.nodes.items ≡ length nodes.items) }
     // The history is a run of the whole system, from whatever records its nodes were opened over.
-    ensures run { IsTrue N.tells → (g : Setting) (d : Disks) → node_count g ≡ length kinds.now → AreDownOver N.places g d nodes.items
+    ensures run { IsTrue N.tells → (g : Setting) (d : Disks) → node_count g ≡ length kinds.now → DeadAreReplicas g plan kinds.now → AreDownOver N.places g d nodes.items
         → IfOk result (λ r. IsRunFrom N.places g d r.air.history r.nodes.items r.rest) }
     // And the disks of each node, whatever a stop leaves of them, have gone on from where they were, step by step.
     ensures grown { IsTrue N.tells → (g : Setting) (d : Disks) → node_count g ≡ length kinds.now → AreDownOver N.places g d nodes.items
@@ -55,6 +55,7 @@ pub fn run_nodes<R: Threads + Wait + Sync, N: SystemNode + Send + Drop, G: Gate>
     ensures back { IfErr result (λ e. e.1 ≡ nodes) }
 {
     turn_defs::laws::node_numbers();
+    air_bus::laws::dead_have_no_entry();
     site_laws::aired_is_run();
     site_laws::numbers_end();
     site_laws::rest_of_states();

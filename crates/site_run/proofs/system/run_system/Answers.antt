@@ -7,11 +7,14 @@ use Rattle.output_log.specs.Pairs.{Keeps as KeepsPairs}
 use Rattle.turn_defs.specs.Nodes.{node_count}
 use Rattle.site_store.specs.Lent.{MayBeLeft}
 use Rattle.site_node.specs.Replicas.{KeepsNotes}
+use Rattle.site_laws.specs.Laws.{made_by}
+use Rattle.site_workers.specs.Works.{stop_count}
 use Rattle.site_run.specs.Naming.{as_lent, all_from}
 use Rattle.site_run.specs.Causes.{IsCounted, IsOfDisks, IsWelcome}
-use Rattle.site_run.specs.Refused.{HasEnded, IsOfRun}
+use Rattle.site_run.specs.Refused.{IsOfRun}
 use Rattle.site_run.specs.Settled.{AreKeptIn, lent_replicas, lent_outputs}
 use Rattle.site_run.proofs.Opened.{down_too}
+use Rattle.site_run.proofs.Dead.{dead_replicas}
 use Rattle.site_run.proofs.Outing.{given_goes_on}
 use Rattle.site_run.proofs.Running.{all_fit, goes_on, has_run, rests, no_stops, fault_told, first_told, first_ended, disks_alone, read_back_of, at_rest, disks_counted}
 use Rattle.site_run.proofs.Settling.{in_front, ok_three}
@@ -30,9 +33,9 @@ returns-in-Ok-clause-grown g c tells node_tells gg d s roster held down out disk
     let count : length c.args.nodes.items ≡ node_count gg = counted gg.joiners gg.replicas (length c.args.nodes.items) c.args.joiners c.requires.count roster.joiners_are roster.replicas in
     let front = in_front c.args.parts.disks.items c.push_reserved.new.self.items c.args.topology (all_from (λ i w. disks_of c.args.joiners i w.0) 0 ws) c.requires.empty.0 c.push_reserved.ensures.items in
     let fits = all_fit image g.N.SystemNode.places g.N.SiteNode.grown disks_of held gg c.args.joiners (c.node_numbers.ensures gg) c.args.nodes.items ws count c.in-Ok.ensures.count
-    (c.in-Ok.ensures.grown node_tells gg d (sym count ∙ c.requires.count ∙ sym c.kinds.ensures) down) (as_lent c.args.topology) (map as_lent c.push_reserved.new.self.items ++ all_from (λ i w. disks_of c.args.joiners i w.0) 0 ws) c.disk_count.result front (omega (arith, c.requires.disks, c.disk_count.ensures)) in
+    (c.in-Ok.ensures.grown node_tells gg d (sym count ∙ c.requires.count ∙ sym c.kinds.ensures.count) down) (as_lent c.args.topology) (map as_lent c.push_reserved.new.self.items ++ all_from (λ i w. disks_of c.args.joiners i w.0) 0 ws) c.disk_count.result front (omega (arith, c.requires.disks, c.disk_count.ensures)) in
     goes_on image g.N.SystemNode.places g.N.SiteNode.grown disks_of held gg c.args.joiners (c.node_numbers.ensures gg) c.args.nodes.items ws count c.in-Ok.ensures.count
-    (c.in-Ok.ensures.grown node_tells gg d (sym count ∙ c.requires.count ∙ sym c.kinds.ensures) down) (as_lent c.args.topology) (g.S.Store.image s) inside (g.S.Store.image c.end_run.new.store) out
+    (c.in-Ok.ensures.grown node_tells gg d (sym count ∙ c.requires.count ∙ sym c.kinds.ensures.count) down) (as_lent c.args.topology) (g.S.Store.image s) inside (g.S.Store.image c.end_run.new.store) out
     (λ name b here. subst (λ l. MayBeLeft image inside l name b) front (c.end_run.ensures.left tells fits name b here)) disk bytes now
 
 pub returns-in-Ok-clause-left : goal.returns-in-Ok-clause-left
@@ -44,9 +47,9 @@ returns-in-Ok-clause-left g c tells node_tells gg d e roster held down same kept
     let count : length c.args.nodes.items ≡ node_count gg = counted gg.joiners gg.replicas (length c.args.nodes.items) c.args.joiners c.requires.count roster.joiners_are roster.replicas in
     let front = in_front c.args.parts.disks.items c.push_reserved.new.self.items c.args.topology (all_from (λ i w. disks_of c.args.joiners i w.0) 0 ws) c.requires.empty.0 c.push_reserved.ensures.items in
     let fits = all_fit image g.N.SystemNode.places g.N.SiteNode.grown disks_of held gg c.args.joiners (c.node_numbers.ensures gg) c.args.nodes.items ws count c.in-Ok.ensures.count
-    (c.in-Ok.ensures.grown node_tells gg d (sym count ∙ c.requires.count ∙ sym c.kinds.ensures) down) (as_lent c.args.topology) (map as_lent c.push_reserved.new.self.items ++ all_from (λ i w. disks_of c.args.joiners i w.0) 0 ws) c.disk_count.result front (omega (arith, c.requires.disks, c.disk_count.ensures)) in
+    (c.in-Ok.ensures.grown node_tells gg d (sym count ∙ c.requires.count ∙ sym c.kinds.ensures.count) down) (as_lent c.args.topology) (map as_lent c.push_reserved.new.self.items ++ all_from (λ i w. disks_of c.args.joiners i w.0) 0 ws) c.disk_count.result front (omega (arith, c.requires.disks, c.disk_count.ensures)) in
     has_run image g.N.SystemNode.places g.N.SiteNode.grown disks_of held gg c.args.joiners roster (c.node_numbers.ensures gg) e c.in-Ok.left.air.history ws c.in-Ok.left.rest
-    (c.in-Ok.ensures.run node_tells gg e (sym count ∙ c.requires.count ∙ sym c.kinds.ensures) (down_too g.N.SystemNode.places gg d e c.args.nodes.items same down)) (c.in-Ok.ensures.count ∙ count) (as_lent c.args.topology) kept inside (g.S.Store.image c.end_run.new.store)
+    (c.in-Ok.ensures.run node_tells gg e (sym count ∙ c.requires.count ∙ sym c.kinds.ensures.count) (dead_replicas gg c.args.plan _ roster.replicas c.kinds.ensures.replicas) (down_too g.N.SystemNode.places gg d e c.args.nodes.items same down)) (c.in-Ok.ensures.count ∙ count) (as_lent c.args.topology) kept inside (g.S.Store.image c.end_run.new.store)
     (λ name b here. subst (λ l. MayBeLeft image inside l name b) front (c.end_run.ensures.left tells fits name b here))
 
 pub returns-in-Ok-clause-rest : goal.returns-in-Ok-clause-rest
@@ -62,10 +65,10 @@ returns-in-Ok-clause-rest g c tells node_tells gg d e roster held met down same 
     let numbers = c.node_numbers.ensures gg in
     let topology = as_lent c.args.topology in
     let count : length c.args.nodes.items ≡ node_count gg = counted gg.joiners gg.replicas (length c.args.nodes.items) c.args.joiners c.requires.count roster.joiners_are roster.replicas in
-    let left = c.in-Ok.ensures.run node_tells gg e (sym count ∙ c.requires.count ∙ sym c.kinds.ensures) (down_too g.N.SystemNode.places gg d e c.args.nodes.items same down) in
+    let left = c.in-Ok.ensures.run node_tells gg e (sym count ∙ c.requires.count ∙ sym c.kinds.ensures.count) (dead_replicas gg c.args.plan _ roster.replicas c.kinds.ensures.replicas) (down_too g.N.SystemNode.places gg d e c.args.nodes.items same down) in
     let front = in_front c.args.parts.disks.items c.push_reserved.new.self.items c.args.topology (all_from (λ i w. disks_of c.args.joiners i w.0) 0 ws) c.requires.empty.0 c.push_reserved.ensures.items in
     let fits = all_fit image g.N.SystemNode.places g.N.SiteNode.grown disks_of held gg c.args.joiners (c.node_numbers.ensures gg) c.args.nodes.items ws count c.in-Ok.ensures.count
-    (c.in-Ok.ensures.grown node_tells gg d (sym count ∙ c.requires.count ∙ sym c.kinds.ensures) down) (as_lent c.args.topology) (map as_lent c.push_reserved.new.self.items ++ all_from (λ i w. disks_of c.args.joiners i w.0) 0 ws) c.disk_count.result front (omega (arith, c.requires.disks, c.disk_count.ensures)) in
+    (c.in-Ok.ensures.grown node_tells gg d (sym count ∙ c.requires.count ∙ sym c.kinds.ensures.count) down) (as_lent c.args.topology) (map as_lent c.push_reserved.new.self.items ++ all_from (λ i w. disks_of c.args.joiners i w.0) 0 ws) c.disk_count.result front (omega (arith, c.requires.disks, c.disk_count.ensures)) in
     ok_three _ _ _ _ c.end_run.result c.end_run.ensures.notes c.end_run.ensures.pairs c.end_run.ensures.whole
     (λ outcome notes pairs none.
     rests image g.N.SystemNode.places n.grown disks_of held gg c.args.joiners roster numbers e h ws c.in-Ok.left.rest left (c.in-Ok.ensures.count ∙ count) topology kept inside after
@@ -109,10 +112,10 @@ returns-in-Ok-clause-whole g c tells node_tells gg d roster held met down kept =
     let topology = as_lent c.args.topology in
     let all = map as_lent c.push_reserved.new.self.items ++ all_from (λ i w. disks_of c.args.joiners i w.0) 0 ws in
     let count : length c.args.nodes.items ≡ node_count gg = counted gg.joiners gg.replicas (length c.args.nodes.items) c.args.joiners c.requires.count roster.joiners_are roster.replicas in
-    let left = c.in-Ok.ensures.run node_tells gg d (sym count ∙ c.requires.count ∙ sym c.kinds.ensures) down in
+    let left = c.in-Ok.ensures.run node_tells gg d (sym count ∙ c.requires.count ∙ sym c.kinds.ensures.count) (dead_replicas gg c.args.plan _ roster.replicas c.kinds.ensures.replicas) down in
     let front = in_front c.args.parts.disks.items c.push_reserved.new.self.items c.args.topology (all_from (λ i w. disks_of c.args.joiners i w.0) 0 ws) c.requires.empty.0 c.push_reserved.ensures.items in
     let fits = all_fit image g.N.SystemNode.places n.grown disks_of held gg c.args.joiners numbers c.args.nodes.items ws count c.in-Ok.ensures.count
-    (c.in-Ok.ensures.grown node_tells gg d (sym count ∙ c.requires.count ∙ sym c.kinds.ensures) down) topology all c.disk_count.result front (omega (arith, c.requires.disks, c.disk_count.ensures)) in
+    (c.in-Ok.ensures.grown node_tells gg d (sym count ∙ c.requires.count ∙ sym c.kinds.ensures.count) down) topology all c.disk_count.result front (omega (arith, c.requires.disks, c.disk_count.ensures)) in
     IfErr-weaker c.end_run.result _ _
     (λ f told.
     ⊎_elim
@@ -140,7 +143,7 @@ returns-in-Ok-clause-stopped g c =
     IfErr-weaker c.end_run.result _ _
     (λ f told n named.
     ⊎_elim (λ is. first_ended g.N.SiteNode.faults c.args.joiners h ws (λ i b below. c.in-Ok.ensures.met i b (subst (λ k. i < k) c.in-Ok.ensures.count below)) f n is.0 named)
-    (λ others. ⊎_elim (λ memory. absurd (cc (sym memory ∙ named))) (λ of. disks_alone _ _ _ _ (HasEnded n h) f n of.1 named) others) told)
+    (λ others. ⊎_elim (λ memory. absurd (cc (sym memory ∙ named))) (λ of. disks_alone _ _ _ _ (stop_count (made_by n h) ≡ 8) f n of.1 named) others) told)
     c.end_run.ensures.told
 
 pub returns-in-Err-clause-idle : goal.returns-in-Err-clause-idle

@@ -1,4 +1,5 @@
 use Rattle.std.proofs.Common.{ℕ, ◌<◌, slice_index_or}
+use Rattle.bus_seat.specs.Seats.{TakesPart}
 use Rattle.site_workers.specs.Works.{WorkerView}
 use Rattle.site_workers.specs.Rounds.{Rests}
 use Rattle.site_workers.proofs.rounds.all_rest.Given as goal
@@ -6,4 +7,4 @@ use Rattle.site_workers.proofs.rounds.all_rest.Given as goal
 abbrev pub invariant-loop-worker : goal.invariant-loop-worker
 invariant-loop-worker g l =
     let m = g.N.SiteNode in
-    (i : ℕ) (d : WorkerView g.row.N.Denot) → i < l.worker-index → Rests m.number m.stands m.at_rest_as ((slice_index_or l.workers i d).node, (slice_index_or l.workers i d).fault) (slice_index_or l.workers i d).seat.mine
+    (i : ℕ) (d : WorkerView g.row.N.Denot) → i < l.worker-index → TakesPart (slice_index_or l.workers i d).seat → Rests m.number m.stands m.at_rest_as ((slice_index_or l.workers i d).node, (slice_index_or l.workers i d).fault) (slice_index_or l.workers i d).seat.mine

@@ -74,7 +74,7 @@ returns-clause-fault g c down =
     c.hire-workers.ensures.faults c.dismiss.new.nodes.items c.dismiss.ensures.nodes (c.rounds_of-workers.ensures.fault down)
 
 pub returns-clause-rest : goal.returns-clause-rest
-returns-clause-rest g c rests i b l =
+returns-clause-rest g c rests i b l alive =
     let m = g.N.SiteNode in
     let front = front_of c.args.bus c.args.seats.items c.pop.new.self.items c.in-Some.last c.requires.seats c.in-Some.ensures.items in
     let ws = c.hire-workers.result.items in
@@ -83,7 +83,7 @@ returns-clause-rest g c rests i b l =
     all_rested m.tells m.leads m.phase_of m.stands m.number m.spends m.grown c.args.bus c.args.nodes.items c.pop.new.self.items ws us c.hire-workers.ensures.nodes c.hire-workers.ensures.seats front.0 c.rounds_of-workers.ensures.went
     last c.push_reserved.new.self.items c.close-air.result.0.history (c.push_reserved.ensures.items ∙ ap (λ l. l ++ last ∷ []) c.dismiss.ensures.seats.0) c.close-air.ensures.history
     c.hire-workers.ensures.faults c.dismiss.new.nodes.items c.dismiss.ensures.nodes m.at_rest_as (c.rounds_of-workers.ensures.rest rests) i b
-    (omega (arith, l, ap length c.hire-workers.ensures.nodes, length-map ws (λ (w : WorkerView g.row.N.Denot). w.node)))
+    (omega (arith, l, ap length c.hire-workers.ensures.nodes, length-map ws (λ (w : WorkerView g.row.N.Denot). w.node))) alive
 
 pub returns-clause-met : goal.returns-clause-met
 returns-clause-met g c i b l =

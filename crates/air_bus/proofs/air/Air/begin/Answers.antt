@@ -1,9 +1,9 @@
-use Rattle.std.proofs.Common.{◌≡◌, ◌≢◌, ◌+◌, ◌<◌, [], ◌∷◌, ◌++◌, length, Some, refl, sym, ap, ◌∙◌, arith}
+use Rattle.std.proofs.Common.{◌≡◌, ◌≢◌, ◌+◌, ◌<◌, false, [], ◌∷◌, ◌++◌, length, Some, refl, sym, ap, ◌∙◌, arith}
 use Rattle.std.specs.Prelude.{vec_len, vec_capacity}
 use Rattle.air_bus.specs.declared.entry.Entry.TheVariants.{Begin}
 use Rattle.air_bus.specs.declared.entry.Phase.TheVariants.{Busy}
 use Rattle.air_bus.specs.Copies.{next_copy}
-use Rattle.air_bus.specs.Waiting.{waiting}
+use Rattle.air_bus.specs.Waiting.{waiting, is_dead}
 use Rattle.air_bus.specs.History.{phase, next_input, input_of}
 use Rattle.air_bus.proofs.Phases.{not_open}
 use Rattle.air_bus.proofs.Agreeing.{agrees_same, agrees_more, chosen_is, begin_turn}
@@ -59,11 +59,12 @@ invariant_of-self-2 c =
     sym (chosen_is plan kinds a.phases.items a.busy a.inboxes.items h (vec_len a.history) (vec_capacity a.history) c.self.invariant
     c.from-at.result c.args.node c.index-phase.result.now c.args.tick c.args.wants c.in_ok-chosen.chosen c.from-at.ensures inside c.index-phase.ensures c.in_ok-chosen.ensures.answer)
     ∙ c.in-Some.is ∙ ap Some (sym same) in
+    let live : is_dead plan.dead kinds c.args.node ≡ false = ap (λ f. is_dead f.plan.dead f.kinds c.args.node) c.self.view_is ∙ c.requires.live in
     let none-open = not_open (phase c.args.node h) closed in
     agrees_more plan kinds a.phases.items a.busy a.inboxes.items h (vec_len a.history) (vec_capacity a.history) c.self.invariant
     (Begin c.args.node noted) c.from-at.result Busy (a.busy + 1) c.leave.new.inboxes.items c.push_reserved.new.self.items (vec_len c.push_reserved.new.self) (vec_capacity c.push_reserved.new.self)
     c.from-at.ensures inside refl (omega (arith, none-open))
     (omega (arith, c.in_ok-reserve.ensures.ok, c.reserve.ensures.len, c.push_reserved.ensures.len, c.push_reserved.ensures.capacity))
     (c.push_reserved.ensures.items ∙ ap (λ l. l ++ Begin c.args.node noted ∷ []) c.reserve.ensures.items)
-    (closed, (c.args.tick, c.args.wants, had)) (c.leave.ensures.many ∙ c.choose.ensures.many)
+    (closed, (c.args.tick, c.args.wants, had), live) (c.leave.ensures.many ∙ c.choose.ensures.many)
     (begin_turn plan kinds a.inboxes.items c.choose.new.inboxes.items c.leave.new.inboxes.items c.from-at.result c.args.node c.in-Some.input noted c.from-at.ensures same c.choose.ensures.many c.choose.ensures.same c.leave.ensures.taken)

@@ -1,9 +1,10 @@
-use Rattle.std.proofs.Common.{◌≡◌, ◌≢◌, ◌<◌, Some, None, MatchOption, IfSome, IfOk, sym, ap, ◌∙◌, subst, arith}
+use Rattle.std.proofs.Common.{◌≡◌, ◌≢◌, ◌<◌, false, Some, None, MatchOption, IfSome, IfOk, sym, ap, ◌∙◌, subst, arith}
 use Rattle.air_bus.specs.declared.entry.Phase.TheVariants.{Busy}
-use Rattle.air_bus.specs.History.{phase}
+use Rattle.air_bus.specs.History.{Flight, phase}
+use Rattle.air_bus.specs.Waiting.{is_dead}
 use Rattle.bus_seat.specs.declared.view.View.{View}
 use Rattle.bus_seat.specs.Views.{count, Sat, caught_up, off, in_hand}
-use Rattle.bus_seat.specs.Seats.{Sight, sight, Begins}
+use Rattle.bus_seat.specs.Seats.{Sight, sight, TakesPart, Begins}
 use Rattle.bus_seat.proofs.Moves.{took_phase}
 use Rattle.bus_seat.proofs.Beginning.{begun}
 use Rattle.bus_seat.proofs.bus.Bus.begin.Goals as goal
@@ -18,6 +19,16 @@ begin_in_hand-input-requires-clause-node g c =
     let closed = subst (λ (s : Sight). MatchOption s.number ⊥ (λ n. phase n s.mine ≢ Busy)) (sym c.seat.view_is) c.requires.closed in
     let not-busy : phase c.in-Some.node m.0.mine ≢ Busy = subst (λ num. MatchOption num ⊥ (λ n. phase n m.0.mine ≢ Busy)) is closed in
     (omega (arith, role.1, ap (λ x. count x.0.base) t.1), λ busy. not-busy (sym (took_phase m c.take_turn.new.place.me _ t is) ∙ busy))
+
+pub begin_in_hand-input-requires-clause-live : goal.begin_in_hand-input-requires-clause-live
+begin_in_hand-input-requires-clause-live g c =
+    let i = c.seat.invariant in
+    let m = c.seat.inside.place.me in
+    let is : m.0.number ≡ Some c.in-Some.node = i.1 ∙ c.in-Some.is in
+    let base : Flight = m.0.base in
+    let live = subst TakesPart (sym c.seat.view_is) c.requires.live in
+    let own : is_dead base.plan.dead base.kinds c.in-Some.node ≡ false = subst (λ num. MatchOption num ⊥ (λ n. is_dead base.plan.dead base.kinds n ≡ false)) is live in
+    ap (λ (x : Sat). is_dead x.0.base.plan.dead x.0.base.kinds c.in-Some.node) c.take_turn.ensures.took.1 ∙ own
 
 pub returns-clause-did : goal.returns-clause-did
 returns-clause-did g c =

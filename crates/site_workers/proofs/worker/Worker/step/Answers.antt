@@ -5,7 +5,7 @@ use Rattle.air_bus.specs.History.{phase}
 use Rattle.bus_seat.specs.Seats.{Begins}
 use Rattle.site_workers.specs.Works.{WorkerView, Grew, HasMet}
 use Rattle.site_node.specs.declared.kind.NodeFault.TheVariants.{Damaged, Spent, Memory}
-use Rattle.site_workers.proofs.Stepping.{none_of, next, grew, saw, made, grew_on, given, not_open, leads_from, leads_one, leads_two, grows_from, no_fault, told_same, too_often_told, whole_told, counted_same, met_begun, eighth}
+use Rattle.site_workers.proofs.Stepping.{none_of, next, grew, grew_then, given, not_open, leads_from, leads_one, leads_two, grows_from, no_fault, told_same, too_often_told, whole_told, counted_same, met_begun, eighth}
 use Rattle.site_workers.proofs.worker.Worker.step.Goals as goal
 
 pub returns-in-Ok-Ended-clause-leads : goal.returns-in-Ok-Ended-clause-leads
@@ -179,13 +179,29 @@ returns-in-Ok-Ended-clause-grew g c =
     let i = c.in-Ok-Some.input in
     let wants = c.wants-wants.result in
     let did : IfSome s0.number (λ k. Begins k wants self.tick s0 (Some i) s1) = subst (λ o. IfSome s0.number (λ k. Begins k wants self.tick s0 o s1)) c.in-Ok-Some.field-0-is c.in-Ok-Some.ensures.did in
-    let first : Grew s0 s1 = record {
-      bus = c.begin.ensures.kept.0;
-      number = c.begin.ensures.kept.1;
-      seen = saw n s0 s1 i wants self.tick self.whose did;
-      mine = made n s0 s1 i wants self.tick self.whose did;
-    } in
-    subst (λ (w : WorkerView g.row.N.Denot). Grew w.seat c.close.new.seat) c.self.view_is (grew_on s0 s1 c.close.new.seat first c.close.ensures.grew)
+    subst (λ (w : WorkerView g.row.N.Denot). Grew w.seat c.close.new.seat) c.self.view_is (grew_then n s0 s1 i wants self.tick self.whose did c.close.new.seat c.begin.ensures.kept c.close.ensures.grew)
+
+pub returns-in-Ok-Stopped-clause-grew : goal.returns-in-Ok-Stopped-clause-grew
+returns-in-Ok-Stopped-clause-grew g c =
+    let self = c.self.inside in
+    let s0 = self.seat in
+    let s1 = c.begin.new.seat in
+    let n = g.N.SiteNode.number self.node in
+    let i = c.in-Ok-Some.input in
+    let wants = c.wants-wants.result in
+    let did : IfSome s0.number (λ k. Begins k wants self.tick s0 (Some i) s1) = subst (λ o. IfSome s0.number (λ k. Begins k wants self.tick s0 o s1)) c.in-Ok-Some.field-0-is c.in-Ok-Some.ensures.did in
+    subst (λ (w : WorkerView g.row.N.Denot). Grew w.seat c.close.new.seat) c.self.view_is (grew_then n s0 s1 i wants self.tick self.whose did c.close.new.seat c.begin.ensures.kept c.close.ensures.grew)
+
+pub returns-clause-grew : goal.returns-clause-grew
+returns-clause-grew g c =
+    let self = c.self.inside in
+    let s0 = self.seat in
+    let s1 = c.begin.new.seat in
+    let n = g.N.SiteNode.number self.node in
+    let i = c.in-Ok-Some.input in
+    let wants = c.wants-wants.result in
+    let did : IfSome s0.number (λ k. Begins k wants self.tick s0 (Some i) s1) = subst (λ o. IfSome s0.number (λ k. Begins k wants self.tick s0 o s1)) c.in-Ok-Some.field-0-is c.in-Ok-Some.ensures.did in
+    subst (λ (w : WorkerView g.row.N.Denot). Grew w.seat c.close.new.seat) c.self.view_is (grew_then n s0 s1 i wants self.tick self.whose did c.close.new.seat c.begin.ensures.kept c.close.ensures.grew)
 
 pub invariant_of-self-inside-in-Ok-Ended : goal.invariant_of-self-inside-in-Ok-Ended
 invariant_of-self-inside-in-Ok-Ended g c =
@@ -220,6 +236,6 @@ invariant_of-self-inside-in-Ok-Stopped g c =
     let told = eighth stops c.too_often-self-inside.result c.too_often-self-inside.ensures in
     let met : HasMet g.N.SiteNode.faults c.close.new.node c.too_often-self-inside.result c.close.new.seat.mine = record {
       stops = λ has. c.in-Ok-Stopped.ensures.met (ap Ok c.in-Ok-Stopped.field-0-is);
-      ended = λ is closed. let most = told.0 is in omega (arith, most, next, before.0, before.1, same, more);
+      ended = λ is. let most = told.0 is in omega (arith, most, next, before.0, before.1, same, more);
     } in
     (search rules, (search rules, (search rules, (search rules, (λ up. let few = told.1 up in (omega (arith, next, before.0, same, more), few), (met, tt))))))

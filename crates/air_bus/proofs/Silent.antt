@@ -1,0 +1,30 @@
+-- A dead replica has no entry.
+use Rattle.std.proofs.Common.{◌≡◌, ℕ, Bool, true, false, List, [], ◌∷◌, ◌++◌, append_assoc, refl, sym, ◌∙◌, ap, ne_eqb}
+use Rattle.std.specs.Prelude.{filter}
+use mathlib.Core.Logic.{dite}
+use native.Mathlib.Decide.{ℕ_discrete}
+use Rattle.air_bus.specs.declared.entry.Entry.{Entry}
+use Rattle.air_bus.specs.declared.entry.Entry.TheVariants.{Begin, End, Stop}
+use Rattle.air_bus.specs.declared.entry.Phase.TheVariants.{Down, Busy}
+use Rattle.lossy_link.specs.declared.plan.Kind.{Kind}
+use Rattle.lossy_link.specs.Fates.{PlanView}
+use Rattle.air_bus.specs.History.{MayFollow, IsAired, node_of, is_of, phase}
+use Rattle.air_bus.specs.Waiting.{is_dead}
+use Rattle.air_bus.proofs.Phases.{phase_else}
+
+module _ (plan : PlanView) (kinds : List Kind) (n : ℕ) (dead : is_dead plan.dead kinds n ≡ true) where
+  -- an entry of its own would follow none of this kind
+  none_begins : (before : List Entry) (e : Entry) → phase n before ≡ Down → MayFollow plan kinds before e → node_of e ≡ n → ⊥
+  none_begins before (Begin node input) down may is = absurd (cc (sym dead ∙ ap (is_dead plan.dead kinds) (sym is) ∙ may.2))
+  none_begins before (End node noted packets kept) down may is = absurd (cc (sym down ∙ ap (λ k. phase k before) (sym is) ∙ may.0))
+  none_begins before (Stop node landed) down may is = absurd (cc (sym down ∙ ap (λ k. phase k before) (sym is) ∙ may))
+
+  pub none_made : (h : List Entry) → IsAired plan kinds h → filter (is_of n) h ≡ []
+  none_made h aired = go [] h refl refl
+    where
+      go : (before after : List Entry) → h ≡ before ++ after → phase n before ≡ Down → filter (is_of n) after ≡ []
+      go before [] is down = refl
+      go before (e ∷ after) is down =
+          let other : node_of e ≡ n → ⊥ = none_begins before e down (aired.follows before after e is) in
+          let rest = go (before ++ e ∷ []) after (is ∙ sym (append_assoc before (e ∷ []) after)) (phase_else before e n other ∙ down) in
+          rw (ne_eqb _ _ other) rest
