@@ -13,6 +13,10 @@ use std::os::unix::fs::FileExt;
 /// Where the last byte of a file ends at most.
 const END: u64 = 1 << 63;
 
+/// How much of a file's end the last record may have changed: the gate before it, its length, its payload of at most 65,535
+/// bytes and the gate behind it.
+const IN_DOUBT: usize = 65_541;
+
 /// A disk that is a file of a state directory. A fault shuts the file, and `reopen` opens it anew: a file that is gone by
 /// then isn't made again. A write may fail after some of its bytes were written.
 ///
@@ -77,7 +81,7 @@ impl<'a, R> DirectoryDisk<'a, R> {
     }
 }
 
-/// Opens a file, and syncs it.
+/// Opens a file, writes again what may not have come to the disk, and syncs it.
 pub(crate) fn open_settled<R: Files<File = File>>(
     rt: &R,
     path: &str,
@@ -88,8 +92,20 @@ pub(crate) fn open_settled<R: Files<File = File>>(
         .write(true)
         .create(create)
         .open(rt, path)?;
+    write_again(&file)?;
     file.sync_all()?;
     Ok(file)
+}
+
+/// Writes a file's end again as it reads. Once a sync has failed, the system may show bytes that never came to the disk and
+/// take them for written: a later sync writes only what was written since.
+fn write_again(file: &File) -> io::Result<()> {
+    let len = file_len(file)?;
+    let start = len.saturating_sub(IN_DOUBT as u64);
+    let mut bytes = [0; IN_DOUBT];
+    let end = &mut bytes[..(len - start) as usize];
+    file.read_exact_at(end, start)?;
+    file.write_all_at(end, start)
 }
 
 fn file_len(file: &File) -> io::Result<u64>
