@@ -15,6 +15,10 @@ class Failed(Exception):
     """The program did something else than the pages say."""
 
 
+class Skipped(Exception):
+    """The case can't be run on this machine."""
+
+
 class Ended:
     """How a call of the program ended."""
 
@@ -25,10 +29,12 @@ class Ended:
 class Case:
     """One case; the same name and seed give the same random numbers."""
 
-    def __init__(self, name, seed, program, folder):
-        self.name, self.seed, self.program, self.folder = name, seed, program, folder
+    def __init__(self, name, seed, program, folder, failing=None):
+        """`failing` is the library of tests/failing.c, None where there is no C compiler."""
+        self.name, self.seed, self.program, self.folder, self.failing = name, seed, program, folder, failing
         self.random = random.Random(f"{seed} {name}")
         self.steps, self.children = [], []
+        self.settings = {}  # of each call of the program from now on
 
     # ---- files
 
@@ -68,7 +74,7 @@ class Case:
     def start(self, words, **more):
         """Starts the program with these words in the case's folder."""
         self.note("photon " + shlex.join(str(word) for word in words))
-        settings = {"stdin": subprocess.DEVNULL, "stdout": subprocess.PIPE, "stderr": subprocess.PIPE, **more}
+        settings = {"stdin": subprocess.DEVNULL, "stdout": subprocess.PIPE, "stderr": subprocess.PIPE, **self.settings, **more}
         child = subprocess.Popen([self.program, *map(str, words)], cwd=self.folder, **settings)
         self.children.append(child)
         return child

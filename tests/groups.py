@@ -1,7 +1,9 @@
 """The groups of cases, in the order in which they are run and told."""
+import disks
 import drills
 import journals
 import kills
+import odd
 import runs
 import strict
 import texts
@@ -9,14 +11,14 @@ import worked
 
 
 class Group:
-    """A name with its cases: those of a list, or so many random ones of one function for each seed."""
+    """A name with its cases: those of a list, or so many random ones of one function for each seed, to which more may be added."""
 
-    def __init__(self, name, function=None, count=0, listed=()):
-        self.name, self.function, self.count, self.listed = name, function, count, listed
+    def __init__(self, name, function=None, count=0, listed=(), takes_more=False):
+        self.name, self.function, self.count, self.listed, self.takes_more = name, function, count, listed, takes_more
 
-    def cases(self):
+    def cases(self, more=0):
         """Each case's name and function, and whether it takes random numbers."""
-        for number in range(self.count):
+        for number in range(self.count + more * self.takes_more):
             yield f"{self.name}.{number}", self.function, True
         for label, function in self.listed:
             yield f"{self.name}.{label}", function, False
@@ -43,4 +45,12 @@ GROUPS = [
     Group("full_disk", kills.full_disk, 10),
     Group("held", kills.held, 2),
     Group("race", kills.race, 4),
+    Group("at_call", listed=disks.AT_CALLS),
+    Group("at_random", disks.at_random, 15, takes_more=True),
+    Group("failed_sync", disks.failed_sync, 40, takes_more=True),
+    Group("disks", listed=disks.LISTED),
+    Group("odd", listed=odd.LISTED),
+    Group("full_mount", odd.full, 4),
+    Group("vanish", odd.vanish, 4),
+    Group("shrink", odd.shrink, 4),
 ]

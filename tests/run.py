@@ -1,5 +1,6 @@
 """Runs the tests of the program that PHOTON names; see `bin/test --help`."""
 import argparse
+import collections
 import concurrent.futures
 import os
 import random
@@ -12,7 +13,7 @@ import traceback
 
 sys.dont_write_bytecode = True
 import groups
-from case import Case, Failed
+from case import Case, Failed, Skipped
 
 HERE = os.path.dirname(os.path.abspath(__file__))
 SEEDS = (1, 2)
@@ -31,6 +32,7 @@ def read_words():
     parser.add_argument("--seed", type=int, action="append", help=f"a seed of the random cases; if missing {' and '.join(map(str, SEEDS))}")
     parser.add_argument("--random", action="store_true", help="takes one seed by chance")
     parser.add_argument("--case", action="append", help="runs this case, or this group, alone")
+    parser.add_argument("--more", type=int, default=0, metavar="N", help="so many more cases of disks that fail for each seed: thousands take hours")
     parser.add_argument("--jobs", type=int, default=2, help="how many cases at once; if missing 2")
     parser.add_argument("--list", action="store_true", help="prints the names of the cases")
     return parser.parse_args()
@@ -40,11 +42,18 @@ def wanted(words, seeds):
     """The cases to run: (group, name, seed, function). Those without random numbers are run with the first seed alone."""
     found = []
     for group in groups.GROUPS:
-        for name, function, is_random in group.cases():
+        for name, function, is_random in group.cases(words.more):
             for seed in seeds if is_random else seeds[:1]:
                 if not words.case or name in words.case or group.name in words.case:
                     found.append((group.name, name, seed, function))
     return found
+
+
+def build_library(top):
+    """Builds the library that fails files (failing.c), where there is a C compiler."""
+    words = ["cc", "-O2", "-shared", "-fPIC", "-o", os.path.join(top, "failing.so"), os.path.join(HERE, "failing.c"), "-ldl", "-pthread"]
+    if shutil.which("cc"):
+        subprocess.run(words, check=True)
 
 
 def keep(folder, case, text):
@@ -58,34 +67,46 @@ def keep(folder, case, text):
 
 
 def run_case(top, program, name, seed, function):
-    """Runs one case: None, or the text of its failure."""
+    """Runs one case: what became of it, and the text of its failure, or why it was skipped."""
     folder = tempfile.mkdtemp(prefix=f"{name}.", dir=top)
-    case, text = Case(name, seed, program, folder), None
+    library = os.path.join(top, "failing.so")
+    case, end, text = Case(name, seed, program, folder, library if os.path.exists(library) else None), "passed", ""
     try:
         function(case)
     except Failed as failed:
-        text = str(failed)
+        end, text = "failed", str(failed)
+    except Skipped as skipped:
+        end, text = "skipped", str(skipped)
     except Exception:
-        text = traceback.format_exc()
+        end, text = "failed", traceback.format_exc()
     case.close()
-    place = keep(folder, case, text) if text else None
+    if end == "failed":
+        place = keep(folder, case, text)
+        text = f"FAILED {name}, seed {seed}; kept in {place}; again by: bin/test --seed {seed} --case {name}\n{text}"
     shutil.rmtree(folder, ignore_errors=True)
-    return text and f"FAILED {name}, seed {seed}; kept in {place}; again by: bin/test --seed {seed} --case {name}\n{text}"
+    return end, text
+
+
+def tell_group(name, ends):
+    """Prints each failure of a group, why cases of it were skipped, and how many passed."""
+    for text in [text for end, text in ends if end == "failed"]:
+        print(text, flush=True)
+    for why, count in collections.Counter(text for end, text in ends if end == "skipped").items():
+        print(f"SKIPPED {count} of {name}, NOT TESTED HERE: {why}", flush=True)
+    print(f"{name}: {sum(end == 'passed' for end, _ in ends)} of {len(ends)} passed", flush=True)
 
 
 def run_all(cases, program, jobs):
-    """Runs the cases, prints a line for each group, and gives how many passed and failed."""
-    passed = failed = 0
+    """Runs the cases, prints a line for each group, and gives how many passed, failed and were skipped."""
+    count = collections.Counter()
     with tempfile.TemporaryDirectory(prefix="photon_test.") as top, Pool(jobs) as pool:
+        build_library(top)
         runs = [(group, pool.submit(run_case, top, program, name, seed, function)) for group, name, seed, function in cases]
         for group in dict.fromkeys(group for group, _ in runs):
-            texts = [run.result() for one, run in runs if one == group]
-            wrong = [text for text in texts if text]
-            for text in wrong:
-                print(text, flush=True)
-            print(f"{group}: {len(texts) - len(wrong)} of {len(texts)} passed", flush=True)
-            passed, failed = passed + len(texts) - len(wrong), failed + len(wrong)
-    return passed, failed
+            ends = [run.result() for one, run in runs if one == group]
+            tell_group(group, ends)
+            count.update(end for end, _ in ends)
+    return count
 
 
 def can_run(program):
@@ -115,9 +136,9 @@ def main():
     if not can_run(program):
         return 127
     print(f"{program}, seeds {' '.join(map(str, seeds))}", flush=True)
-    passed, failed = run_all(cases, program, words.jobs)
-    print(f"{passed} passed, {failed} failed")
-    return 1 if failed else 0
+    count = run_all(cases, program, words.jobs)
+    print(f"{count['passed']} passed, {count['failed']} failed" + (f", {count['skipped']} SKIPPED" if count["skipped"] else ""))
+    return 1 if count["failed"] else 0
 
 
 if __name__ == "__main__":

@@ -1,0 +1,157 @@
+"""Joins over disks that fail, and machines that lose power. The store is judged after each, and the command is run again."""
+import re
+
+import logs
+import model
+import runs
+import sound
+import store as stores
+from case import Failed
+from directory import Directory
+from power import Machine
+
+KINDS = ("eio", "enospc", "eintr", "short", "sync", "drop", "power", "kill")
+IN_DOUBT = 65_541  # bytes from a file's end that are written again when it is opened
+UNSEEN = ("eintr", "short", "")  # what no run may show
+
+
+def told(directory, ended):
+    """The run ended well with the report of what its journals keep, or with 6 and one of its texts."""
+    case = directory.case
+    names = "|".join(stores.disk_names(directory.joiners))
+    nodes = "|".join(map(str, range(7 + 2 * directory.joiners)))
+    if ended.status == 6:
+        texts = f"photon: store: (directory|{names}|node ({nodes}) stopped 8 times)"
+        case.check(re.fullmatch(texts, ended.err) and ended.out == b"", f"status 6, {ended.err!r}")
+    else:
+        case.check((ended.status, ended.err) == (0, ""), f"status {ended.status}, {ended.err!r}")
+        expected = stores.report_of_store(directory.read(), model.records(directory.clicks))
+        case.check_same(ended.out, expected, "the report over a disk that failed")
+
+
+def lose_power(directory, machine, before):
+    """Loses power: the store is sound, and has the records of an earlier moment and those that were kept."""
+    sure = stores.Store(machine.sure(directory.state), directory.joiners)
+    machine.lose_power(directory.state)
+    directory.seen = before
+    store = directory.judge("after a loss of power")
+    directory.case.check_none(sound.wrong_growth(sure, store), "the store after a loss of power, beside what was kept")
+
+
+def run_with(directory, machine, plan, batch):
+    """A join in which something happens, and what it leaves; the power may go afterwards."""
+    case, before = directory.case, directory.seen
+    machine.plan(plan)
+    ended = case.run(directory.join_words(None, batch))
+    machine.plan("")
+    if any(call[-1] not in UNSEEN for call in machine.calls()):
+        directory.stops += 8
+    if ended.status != -9:
+        told(directory, ended)
+    store = directory.judge(f"after {plan}")
+    if "power" in plan or "lie" in plan or case.random.random() < 0.5:
+        lose_power(directory, machine, store if ended.status == 0 else before)
+    if ended.status == 0 and directory.stops == 0:
+        directory.joined = set(store.pairs())
+
+
+def trouble(case, joiners, has_run, plans):
+    """A new directory, or one that a join has left; joins in which something happens; then one to the end, and a loss of power."""
+    maker = logs.Maker(case.random, odd=False)
+    maker.add_queries(6)
+    maker.add_clicks(8)
+    directory = Directory(case, joiners)
+    directory.state = f"state.{len(case.steps)}"
+    machine = Machine(case)
+    if has_run:
+        directory.give(maker.queries, maker.clicks)
+        directory.join()
+    maker.add_queries(2)
+    maker.add_clicks(case.random.choice([4, 12]))
+    directory.give(maker.queries, maker.clicks)
+    for plan in plans:
+        run_with(directory, machine, plan, runs.random_batch(case))
+    directory.join(None, runs.random_batch(case))
+    lose_power(directory, machine, directory.seen)
+    directory.verify()
+
+
+def at_call(number):
+    """Joins in which something happens at the call of this number, with 1 and 4 joiners, over new and kept directories."""
+    def run(case):
+        for joiners in (1, 4):
+            for has_run in (False, True):
+                trouble(case, joiners, has_run, [f"{case.random.choice(KINDS)}:{number}"])
+    return run
+
+
+def random_plan(case):
+    """One to three things that happen at random calls, some of them again and again."""
+    events = []
+    for _ in range(case.random.choice([1, 1, 2, 3])):
+        often = case.random.choice(["", "", ":2", ":7", ":1000"])
+        events.append(f"{case.random.choice(KINDS)}:{case.random.choice([case.random.randrange(90), case.random.randrange(400)])}{often}")
+    return ",".join(events)
+
+
+def at_random(case):
+    """Joins in which things happen at random calls, one behind the other."""
+    plans = [random_plan(case) for _ in range(case.random.choice([1, 2, 3]))]
+    trouble(case, case.random.choice([1, 4]), case.random.random() < 0.5, plans)
+
+
+def failed_sync(case):
+    """A sync fails in the work of a join, which may go on; what was acknowledged afterwards outlives a loss of power."""
+    first = case.random.randrange(60, 260)
+    then = case.random.choice(["", f",power:{first + case.random.randrange(1, 60)}", f",kill:{first + case.random.randrange(1, 60)}"])
+    trouble(case, case.random.choice([1, 4]), case.random.random() < 0.5, [f"sync:{first}{then}"])
+
+
+# ---- what the checks stand on
+
+def expected_calls(directory, before, name):
+    """The calls for one disk in a join, by the pages: it is opened, its end written again, and each new record is appended."""
+    old, new = before.files.get(name, b""), directory.read().files[name]
+    place = max(0, len(old) - IN_DOUBT)
+    calls = [("open", 0, 0), *([("write", place, len(old) - place)] if old else []), ("sync", 0, 0), ("sync", 0, 0)]
+    calls += [("write", 0, 1), ("sync", 0, 0)] if len(old) <= 1 else []
+    for at, payload in stores.gate_rule(new)[0][len(before.records.get(name, [])):]:
+        calls += [("write", at, len(payload) + 5), ("sync", 0, 0), ("write", at - 1, 1), ("sync", 0, 0)]
+    return calls
+
+
+def calls(case):
+    """The library sees the calls of the pages and no others, over a new directory, a kept one, and one whose files are long."""
+    maker = logs.Maker(case.random, odd=False)
+    directory, machine = Directory(case), Machine(case)
+    for queries, clicks, text in ((4, 6, b"short"), (0, 5, b"short"), (1, 400, b"x" * 200), (0, 4, b"short")):
+        maker.text = lambda text=text: text
+        maker.add_queries(queries)
+        maker.add_clicks(clicks, 0)
+        directory.give(maker.queries, maker.clicks)
+        before = directory.read()
+        machine.restart()
+        directory.join()
+        found = {}
+        for what, path, at, size, _ in machine.calls():
+            found.setdefault(path, []).append((what, int(at), int(size)))
+        disks = stores.disk_names(1)
+        others = {"": [("sync", 0, 0)], "/state": [("mkdir", 0, 0)] * (not before.files) + [("sync", 0, 0)] * len(disks)}
+        expected = {f"/state/{name}": expected_calls(directory, before, name) for name in disks}
+        case.check_same(found, {**expected, **others}, "the calls of a join")
+    case.check(any(len(data) > IN_DOUBT for data in directory.copy_files().values()), "no file is long")
+
+
+def lies(case):
+    """A disk that only says that it has synced is found out, and so is one whose failed syncs are trusted."""
+    for joiners in (1, 4):
+        try:
+            trouble(case, joiners, False, ["lie:0:100000"])
+        except Failed as failed:
+            case.note(str(failed))
+        else:
+            raise Failed("nothing is wrong with a disk that doesn't sync")
+
+
+AT_CALLS = [(f"at_call.{number}", at_call(number)) for number in range(200)]
+LISTED = [(function.__name__, function) for function in (calls, lies)]
