@@ -122,10 +122,11 @@ def read_only(case):
     os.remove(os.path.join(folder, missing))
     os.chmod(folder, 0o555)
     case.expect(directory.join_words(), 6, f"photon: store: {missing}")
-    directory.state = "state.new"
-    case.expect(directory.join_words(), 6, "photon: store: directory")
-    case.check(not os.path.exists(case.path("state.new")), "a directory was made")
     os.chmod(folder, 0o755)
+    os.mkdir(case.path("above"), 0o555)
+    directory.state = "above/state"
+    case.expect(directory.join_words(), 6, "photon: store: directory")
+    case.check(not os.listdir(case.path("above")), "a directory was made")
 
 
 @contextlib.contextmanager
@@ -133,12 +134,9 @@ def mounted(case, size):
     """A small file system of its own, in memory."""
     place = case.path("mounted")
     os.mkdir(place)
-    try:
-        ended = subprocess.run(["mount", "-t", "tmpfs", "-o", f"size={size}", "tmpfs", place], capture_output=True, check=False)
-    except OSError as fault:
-        raise Skipped(f"nothing can be mounted here: {fault.strerror}") from fault
-    if ended.returncode != 0:
-        raise Skipped(f"nothing can be mounted here: {ended.stderr.decode('utf-8', 'replace').strip()}")
+    words = ["mount", "-t", "tmpfs", "-o", f"size={size}", "tmpfs", place]
+    if not shutil.which("mount") or subprocess.run(words, capture_output=True, check=False).returncode != 0:
+        raise Skipped("nothing can be mounted here")
     try:
         yield place
     finally:
