@@ -2,6 +2,7 @@
 import argparse
 import collections
 import concurrent.futures
+import contextlib
 import os
 import random
 import shutil
@@ -60,7 +61,8 @@ def keep(folder, case, text):
     """Keeps the folder of a failed case, with what it ran, and gives its place."""
     place = os.path.join(HERE, "out", f"{case.seed}.{case.name}")
     shutil.rmtree(place, ignore_errors=True)
-    shutil.copytree(folder, place, symlinks=True)
+    with contextlib.suppress(OSError):  # a pipe, for one, can't be copied
+        shutil.copytree(folder, place, symlinks=True)
     with open(os.path.join(place, "steps.txt"), "w", encoding="utf-8") as file:
         file.write("\n".join([*case.steps, "", text, ""]))
     return place
