@@ -46,6 +46,7 @@ def run_with(directory, machine, plan, batch):
     machine.plan("")
     if any(call[-1] not in UNSEEN for call in machine.calls()):
         directory.stops += 8
+    case.check(ended.status == 0 or directory.stops, f"status {ended.status} over a disk that met nothing")
     if ended.status != -9:
         told(directory, ended)
     store = directory.judge(f"after {plan}")
@@ -143,7 +144,7 @@ def calls(case):
 
 
 def lies(case):
-    """A disk that only says that it has synced is found out, and so is one whose failed syncs are trusted."""
+    """A disk that only says that it has synced is found out."""
     for joiners in (1, 4):
         try:
             trouble(case, joiners, False, ["lie:0:100000"])
