@@ -29,18 +29,18 @@ def told(directory, ended):
         case.check_same(ended.out, expected, "the report over a disk that failed")
 
 
-def lose_power(directory, machine, before):
-    """Loses power: the store is sound, and has the records of an earlier moment and those that were kept."""
-    sure = stores.Store(machine.sure(directory.state), directory.joiners)
+def lose_power(directory, machine):
+    """Loses power: the store is sound, and has the records of the last run that ended well and those that were synced."""
+    synced = stores.Store(machine.synced(directory.state), directory.joiners)
     machine.lose_power(directory.state)
-    directory.seen = before
-    store = directory.judge("after a loss of power")
-    directory.case.check_none(sound.wrong_growth(sure, store), "the store after a loss of power, beside what was kept")
+    directory.seen = machine.store
+    machine.store = directory.judge("after a loss of power")
+    directory.case.check_none(sound.wrong_growth(synced, machine.store), "the store after a loss of power, beside what was synced")
 
 
 def run_with(directory, machine, plan, batch):
     """A join in which something happens, and what it leaves; the power may go afterwards."""
-    case, before = directory.case, directory.seen
+    case = directory.case
     machine.plan(plan)
     ended = case.run(directory.join_words(None, batch))
     machine.plan("")
@@ -50,10 +50,11 @@ def run_with(directory, machine, plan, batch):
     if ended.status != -9:
         told(directory, ended)
     store = directory.judge(f"after {plan}")
-    if "power" in plan or "lie" in plan or case.random.random() < 0.5:
-        lose_power(directory, machine, store if ended.status == 0 else before)
-    if ended.status == 0 and directory.stops == 0:
+    if ended.status == 0:
+        machine.store = store
         directory.joined = set(store.pairs())
+    if "power" in plan or "lie" in plan or case.random.random() < 0.5:
+        lose_power(directory, machine)
 
 
 def trouble(case, joiners, has_run, plans):
@@ -67,14 +68,17 @@ def trouble(case, joiners, has_run, plans):
     if has_run:
         directory.give(maker.queries, maker.clicks)
         directory.join()
+        machine.store = directory.seen
     maker.add_queries(2)
     maker.add_clicks(case.random.choice([4, 12]))
     directory.give(maker.queries, maker.clicks)
     for plan in plans:
         run_with(directory, machine, plan, runs.random_batch(case))
     directory.join(None, runs.random_batch(case))
-    lose_power(directory, machine, directory.seen)
+    machine.store = directory.seen
+    lose_power(directory, machine)
     directory.verify()
+    return directory, machine
 
 
 def at_call(number):
@@ -96,9 +100,20 @@ def random_plan(case):
 
 
 def at_random(case):
-    """Joins in which things happen at random calls, one behind the other."""
+    """Joins in which things happen at random calls, one behind the other, and a verification in which something happens: it loses nothing."""
     plans = [random_plan(case) for _ in range(case.random.choice([1, 2, 3]))]
-    trouble(case, case.random.choice([1, 4]), case.random.random() < 0.5, plans)
+    directory, machine = trouble(case, case.random.choice([1, 4]), case.random.random() < 0.5, plans)
+    machine.plan(random_plan(case))
+    ended = case.run(directory.verify_words())
+    machine.plan("")
+    if ended.status in (0, 1):
+        expected = stores.report_of_store(directory.seen, model.records(directory.clicks))
+        case.check_same(ended.out, expected, "a verification over a disk that failed")
+    else:
+        case.check(ended.status in (6, -9) and ended.out == b"", f"a verification ended with {ended.status}, {ended.err!r}")
+    before = directory.seen
+    lose_power(directory, machine)
+    case.check(directory.seen.records == before.records, "a verification has changed records")
 
 
 def failed_sync(case):

@@ -24,16 +24,16 @@ class Kept:
         """Where the last byte with a mark ends."""
         return max((at + 1 for at, one in enumerate(self.marks) if one & mark), default=0)
 
-    def sure(self):
+    def synced(self):
         """What no loss of power takes."""
         return self.bytes[:self.length(KEPT)]
 
     def left(self, chance, now):
         """What a loss of power leaves, where the file now reads so: for each byte that was written and not synced its old value, its new one
         or noise, and an end cut anywhere. A byte that was written as it was stays, as do the neighbours of a byte in its block."""
-        sure = self.length(KEPT)
-        most = max(sure, self.length(WRITTEN))
-        left = bytearray(chance.choice([sure, most, chance.randint(sure, most)]))
+        least = self.length(KEPT)
+        most = max(least, self.length(WRITTEN))
+        left = bytearray(chance.choice([least, most, chance.randint(least, most)]))
         ways = chance.choice(["old", "new", "noise", ("old", "new"), ("old", "new", "noise")])
         for at in range(len(left)):
             old = self.bytes[at] if self.marks[at] & KEPT else chance.choice([0, 0, 0xa5, 0x5a])
@@ -50,6 +50,7 @@ class Machine:
         if case.failing is None:
             raise Skipped("there is no C compiler (cc), so the library that fails isn't there")
         self.case, self.kept = case, case.path("kept")
+        self.store = None  # what the last run that ended well, or the last loss of power, has left
         self.restart()
         self.plan("")
 
@@ -76,9 +77,9 @@ class Machine:
         found = [name for name in os.listdir(self.kept) if name.startswith(front) and name.endswith(".kept")]
         return {name[len(front):-len(".kept")]: Kept(os.path.join(self.kept, name)) for name in sorted(found)}
 
-    def sure(self, state):
+    def synced(self, state):
         """The bytes of each file of a directory that no loss of power takes."""
-        return {name: kept.sure() for name, kept in self.files(state).items() if kept.name}
+        return {name: kept.synced() for name, kept in self.files(state).items() if kept.name}
 
     def lose_power(self, state):
         """Leaves of a directory what a loss of power may leave. A name that wasn't synced may be gone."""
