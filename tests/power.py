@@ -59,11 +59,11 @@ class Machine:
         shutil.rmtree(self.kept, ignore_errors=True)
         os.mkdir(self.kept)
 
-    def plan(self, text, first=""):
-        """Plans what happens in the next run; `first` is a library that is loaded before."""
+    def plan(self, text):
+        """Plans what happens in the next run."""
         case = self.case
         case.note(f"plan {text!r}")
-        case.settings["env"] = {**os.environ, "LD_PRELOAD": f"{first} {case.failing}".strip(), "FAILING_BELOW": os.path.realpath(case.folder),
+        case.settings["env"] = {**os.environ, "LD_PRELOAD": case.failing, "FAILING_BELOW": os.path.realpath(case.folder),
                                 "FAILING_KEPT": self.kept, "FAILING_PLAN": text, "FAILING_SEED": str(case.random.randrange(1 << 31))}
 
     def calls(self):
