@@ -7,11 +7,12 @@ usage: .ci/pages.py
 2. Each path that README.md, CONTRIBUTING.md or a page of docs/ names in backticks is there, if it begins with docs/, crates/, examples/,
    bin/, bench/ or .ci/, and so is each link that isn't one to the outside. Patterns (NAME, *, .., angle brackets) are skipped, and what a
    build leaves (out/).
-3. In the code blocks of README.md, docs/GUIDE.md and docs/DRILLS.md a line that begins with "$ " is a command, and what follows it, up to the
-   next command or the block's end, is what it prints: standard output, then standard error. A line ".." stands for any lines, a last line
-   "(status N)" for the exit status, which is 0 where it is missing. Each block is run in a folder of its own with a copy of examples/ and
-   the built program as bin/photon. The program is PHOTON of the environment, or else the newest executable file crates/photon/out/photon*.
-   Where there is none, a block is run only up to its first call of bin/photon. Behind a command that failed the rest of its block isn't run.
+3. In the code blocks of README.md, docs/GUIDE.md, docs/DRILLS.md and docs/SCALE.md a line that begins with "$ " is a command, and what follows
+   it, up to the next command or the block's end, is what it prints: standard output, then standard error. A line ".." stands for any lines,
+   a last line "(status N)" for the exit status, which is 0 where it is missing. Each block is run in a folder of its own with a copy of
+   examples/, the built program as bin/photon, and the programs beside it. The program is PHOTON of the environment, or else the newest
+   executable file crates/photon/out/photon*. Where there is none, a block is run only up to its first call of bin/photon, and where parallel
+   isn't installed up to its first call. Behind a command that failed the rest of its block isn't run.
 
 Prints what failed, and then exits with 1; else the last line is "pages: ok".
 """
@@ -24,7 +25,7 @@ import sys
 import tempfile
 
 TOP = os.path.dirname(os.path.dirname(os.path.abspath(__file__)))
-SHOWN = ["README.md", "docs/GUIDE.md", "docs/DRILLS.md"]
+SHOWN = ["README.md", "docs/GUIDE.md", "docs/DRILLS.md", "docs/SCALE.md"]
 HOMES = ("docs/", "crates/", "examples/", "bin/", "bench/", ".ci/")
 LIMIT = 300  # seconds for a command
 
@@ -183,8 +184,9 @@ def program():
 
 def run(command, folder):
     """Runs a command and compares: whether it did as the page shows."""
+    surroundings = {name: value for name, value in os.environ.items() if name != "PHOTON"}  # bin/photon alone says which program it is
     try:
-        ended = subprocess.run(["/bin/sh", "-c", command.words], cwd=folder, stdin=subprocess.DEVNULL, capture_output=True, timeout=LIMIT)
+        ended = subprocess.run(["/bin/sh", "-c", command.words], cwd=folder, env=surroundings, stdin=subprocess.DEVNULL, capture_output=True, timeout=LIMIT)
     except subprocess.TimeoutExpired:
         fail(f"{command.place}: didn't end in {LIMIT} seconds: {command.words}")
         return False
@@ -202,10 +204,15 @@ def run_block(found, built):
     with tempfile.TemporaryDirectory(prefix="pages.") as folder:
         shutil.copytree(os.path.join(TOP, "examples"), os.path.join(folder, "examples"))
         os.mkdir(os.path.join(folder, "bin"))
+        for beside in glob.glob(os.path.join(TOP, "bin", "photon-*")):
+            os.symlink(beside, os.path.join(folder, "bin", os.path.basename(beside)))
         if built:
             os.symlink(built, os.path.join(folder, "bin", "photon"))
         for command in found:
             if "bin/photon" in command.words and not built:
+                return
+            if command.words.startswith("parallel ") and not shutil.which("parallel"):
+                print(f"pages: {command.place}: parallel isn't installed, so the rest of the block is not run")
                 return
             if not run(command, folder):
                 return

@@ -9,6 +9,7 @@ import time
 LIMIT = float(os.environ.get("PHOTON_TEST_LIMIT", "600"))  # seconds for a call of the program
 MEMORY = 1500  # megabytes that a call may take
 PAGE = os.sysconf("SC_PAGE_SIZE")
+TOP = os.path.dirname(os.path.dirname(os.path.abspath(__file__)))
 
 
 class Failed(Exception):
@@ -71,11 +72,13 @@ class Case:
 
     # ---- the program
 
-    def start(self, words, **more):
-        """Starts the program with these words in the case's folder."""
-        self.note("photon " + shlex.join(str(word) for word in words))
+    def start(self, words, tool="photon", **more):
+        """Starts the program, or another one of bin/, with these words in the case's folder."""
+        self.note(f"{tool} " + shlex.join(str(word) for word in words))
         settings = {"stdin": subprocess.DEVNULL, "stdout": subprocess.PIPE, "stderr": subprocess.PIPE, **self.settings, **more}
-        child = subprocess.Popen([self.program, *map(str, words)], cwd=self.folder, **settings)
+        settings["env"] = {**os.environ, "PHOTON": self.program, **settings.get("env", {})}
+        program = self.program if tool == "photon" else os.path.join(TOP, "bin", tool)
+        child = subprocess.Popen([program, *map(str, words)], cwd=self.folder, **settings)
         self.children.append(child)
         return child
 

@@ -3,6 +3,7 @@ import disks
 import drills
 import journals
 import kills
+import many
 import odd
 import runs
 import strict
@@ -53,4 +54,7 @@ GROUPS = [
     Group("full_mount", odd.full, 4),
     Group("vanish", odd.vanish, 4),
     Group("shrink", odd.shrink, 4),
+    Group("parts", many.whole_and_parts, 1, many.CASES),
+    Group("parts_killed", many.killed, 2),
+    Group("parts_wrong", many.wrong, 4),
 ]
