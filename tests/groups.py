@@ -8,6 +8,7 @@ import odd
 import runs
 import strict
 import texts
+import watch
 import worked
 
 
@@ -57,4 +58,7 @@ GROUPS = [
     Group("parts", many.whole_and_parts, 1, many.CASES),
     Group("parts_killed", many.killed, 2),
     Group("parts_wrong", many.wrong, 4),
+    Group("watch", watch.invented, 10, watch.CASES),
+    Group("watch_growing", watch.growing, 2),
+    Group("watch_live", watch.live, 1),
 ]
