@@ -1,5 +1,6 @@
 """The groups of cases, in the order in which they are run and told."""
 import disks
+import debian
 import drills
 import journals
 import kills
@@ -61,4 +62,5 @@ GROUPS = [
     Group("watch", watch.invented, 10, watch.CASES),
     Group("watch_growing", watch.growing, 2),
     Group("watch_live", watch.live, 1),
+    Group("debian", listed=debian.CASES),
 ]
