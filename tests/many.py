@@ -281,6 +281,10 @@ def refused_merges(case):
     case.check(ended.status == 3 and "another part has this click too" in ended.err, f"status {ended.status}, {ended.err!r}")
     for words in ([], ["nowhere"], ["many3", "report", "more"]):
         case.check(case.run(words, tool="photon-merge").status == 2, f"the words {words} are taken")
+    for words in ([], ["nowhere"], ["many3/0", "--horizon", "x"]):
+        case.check(case.run(words, tool="photon-part").status == 2, f"the words {words} are taken")
+    many.refuses_merge(0, "it is not there")
+    case.write("many3/0/report", reports[0])
     case.write("many3/1/report", reports[1])
     many.merge(runs.one_report(runs.read_example("shop", "queries"), runs.read_example("shop", "clicks")))
 
