@@ -1,6 +1,6 @@
 """The groups of cases, in the order in which they are run and told."""
-import disks
 import debian
+import disks
 import drills
 import journals
 import kills
