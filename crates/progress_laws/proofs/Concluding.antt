@@ -1,0 +1,222 @@
+-- An idle interval that begins with work left ends with a server held, by a promise that is older than the interval.
+use Rattle.std.proofs.Common.{◌≡◌, ◌⊎◌, inl, inr, ⊎_elim, ℕ, zero, suc, ◌+◌, ◌*◌, ◌<◌, ◌≤◌, Bool, true, false, not, ◌||◌, List, [], Some, None, refl, sym, ap, ◌∙◌, subst, arith}
+use Rattle.std.specs.Prelude.{Option}
+use Rattle.std.proofs.lemmas.Bool.{true≢false, cases_Bool, cases_lt, or_left, or_right}
+use Rattle.ballot_core.specs.declared.Ballot.{Ballot}
+use Rattle.ballot_core.specs.Ballots.{IsUpTo}
+use Rattle.ballot_core.specs.Majority.{Majority}
+use Rattle.ballot_core.proofs.Order.{upto_trans, not_above}
+use Rattle.time_shards.specs.Shards.{IsTable}
+use Rattle.paxos_defs.specs.declared.Place.{Place}
+use Rattle.list_words.proofs.Lists.{none_some, some_same}
+use Rattle.turn_defs.specs.Setting.{Setting, IsJoiner, first_joiner, shards, site_of_joiner}
+use Rattle.turn_defs.specs.Nodes.{IsNode}
+use Rattle.turn_defs.specs.declared.node.Node.{Node}
+use Rattle.turn_defs.specs.declared.node.Node.TheVariants.{Dispatcher, Server, Replica, Joiner}
+use Rattle.turn_defs.specs.declared.node.Input.TheVariants.{Deliver}
+use Rattle.turn_defs.specs.Dispatcher.{DispatcherLive, dispatcher_at_rest}
+use Rattle.turn_defs.specs.Joiner.{JoinerLive, joiner_at_rest}
+use Rattle.turn_defs.specs.Server.{ServerLive, is_free, server_at_rest}
+use Rattle.photon_model.specs.EveryRun.{AllFactsHold}
+use Rattle.photon_model.specs.Runs.{World, Entry, Disks, world_after, opening}
+use Rattle.photon_model.specs.Rest.{UpWith, IsAtRest}
+use Rattle.progress_laws.specs.Idle.{IsQuiet, IsIdle}
+use Rattle.progress_laws.specs.Moves.{is_left, next_of, promise_at, IsHeldAt, IsRefusedFrom, RestOrRefused, HeldIsRefused}
+use Rattle.progress_laws.proofs.Transit.{opened_at, HasTick, quiet_closed}
+use Rattle.progress_laws.proofs.Ticking.{comes, passes}
+use Rattle.progress_laws.proofs.Turning.{ballot_in}
+use Rattle.progress_laws.proofs.Waiting.{IsLeftAt, still_left}
+use Rattle.progress_laws.proofs.Lasting.{OfAllShards, HasCause, no_cause, cause_kept, after_run}
+use Rattle.progress_laws.proofs.Calm.{along_idle, server_waits}
+use Rattle.progress_laws.proofs.Claims.{HasOwnTokens, site_below, up_is}
+use Rattle.progress_laws.proofs.Trying.{HasLines}
+use Rattle.progress_laws.proofs.Stalling.{Stalls, stalls}
+use Rattle.progress_laws.proofs.Asking.{AreOpen}
+use Rattle.progress_laws.proofs.Refusing.{unfinished_at, no_attempt, every_attempt_open}
+use Rattle.progress_laws.proofs.Starting.{own_tokens, lines}
+use Rattle.progress_laws.proofs.Greatest.{UpTo, Promised, IsMade, MoreOfBoth, with_both}
+use Rattle.progress_laws.proofs.Dueling.{Duel, IsTrying, duel_goes_on, below_round, upto_round, raised}
+use Rattle.progress_laws.proofs.Rising.{IsPromiseUpTo}
+
+-- of all numbers below n P holds, or Q does
+every : (P : ℕ → Type 0) (Q : Type 0) (n : ℕ) → ((j : ℕ) → j < n → P j ⊎ Q) → ((j : ℕ) → j < n → P j) ⊎ Q
+every P Q zero h = inl (λ j lt. absurd (omega (arith, lt)))
+every P Q (suc n) h =
+    ⊎_elim
+    (λ below. ⊎_elim
+    (λ last. inl (λ j lt. ⊎_elim (λ b. below j b) (λ ge. subst P (let e : n ≡ j = omega (arith, lt, ge) in e) last) (cases_lt j n)))
+    (λ q. inr q)
+    (h n (omega arith)))
+    (λ q. inr q)
+    (every P Q n (λ j lt. h j (omega (arith, lt))))
+
+-- where all nodes that take part are quiet no turn of a node is open
+all_closed : (g : Setting) (dead : ℕ → Bool) (w : World) → IsQuiet g dead w → (n : Node) → IsNode g n → opened_at w n ≡ None
+all_closed g dead w q (Dispatcher s) is = quiet_closed g dead w q (Dispatcher s) is refl
+all_closed g dead w q (Server s) is = quiet_closed g dead w q (Server s) is refl
+all_closed g dead w q (Joiner j) is = quiet_closed g dead w q (Joiner j) is refl
+all_closed g dead w q (Replica r) is = ⊎_elim (λ out. q.silent r is out) (λ live. quiet_closed g dead w q (Replica r) is live) (cases_Bool (dead r))
+
+module _ (g : Setting) (dead : ℕ → Bool) (table : IsTable g.table) (most : Majority g.replicas (λ r. dead r ≡ false)) (w : World) (es : List Entry) (i : IsIdle g dead w es) (open_ : AreOpen g w) (causes : OfAllShards (HasCause g) w) (own : HasOwnTokens g w) (lines : HasLines g w) where
+  abbrev v : World
+  v = world_after g w es
+
+  all : Stalls g dead w es
+  all = stalls g dead table w es i own lines
+
+  servers_up : (s : ℕ) → s < 2 → (l : ServerLive) × ((w.servers s).live ≡ Some l)
+  servers_up s lt = let u = up_is _ (w.servers s).live (i.interval.starts.servers s lt).1 in (u.0, u.1)
+
+  -- ---- one place, and a server that has something to do there
+
+  module _ (at : Place) (below : at.shard < shards g) (site low : ℕ) (lt : site < 2) (l : ServerLive) (is_up : (w.servers site).live ≡ Some l) (place : next_of at.shard (l.shards at.shard) ≡ at) where
+    begins : (((l.shards at.shard).proposal ≡ None) × (low ≤ suc l.round)) ⊎ (low ≡ 0) → Duel g dead w at site low w [] es
+    begins start =
+        record {
+          most = all_made.0;
+          up = servers_up;
+          causes = causes;
+          promises = λ r lt live. inl refl;
+          packets = λ x is u. ⊎_elim (λ m. absurd m) (λ o. none_some (Deliver x.from x.packet) (sym (all_closed g dead w i.interval.starts x.to is) ∙ o)) u;
+          attempts = all_made.3;
+          made = all_made.2;
+          trying = ⊎_elim (λ h. inl (l, is_up, place, ap ballot_in h.0, h.1, waits)) (λ h. by_ballot (ballot_in (l.shards at.shard).proposal) refl h) start;
+        }
+      where
+        all_made : MoreOfBoth g dead w at w None
+        all_made = with_both g dead w at w None servers_up causes (λ u e. none_some u e)
+
+        waits : HasTick w es (Server site) ⊎ ((l.shards at.shard).held ≡ false)
+        waits =
+            ⊎_elim
+            (λ held. inl (comes g dead w es (Server site) i.interval lt (unfinished_at g w site l is_up at.shard below (or_left (not (is_free (l.shards at.shard).proposal) || (l.shards at.shard).held) _ (or_right (not (is_free (l.shards at.shard).proposal)) (l.shards at.shard).held held)))))
+            (λ free. inr free)
+            (cases_Bool (l.shards at.shard).held)
+
+        by_ballot : (o : Option Ballot) → ballot_in (l.shards at.shard).proposal ≡ o → low ≡ 0 → IsTrying g dead w at site low w es all_made.0
+        by_ballot None e zero_ = inl (l, is_up, place, e, omega (arith, zero_), waits)
+        by_ballot (Some b) e zero_ = inr (raised all_made.0 b low (all_made.3 site lt l is_up b (place, e)) (omega (arith, zero_)))
+
+    -- at the end a server is held there, by an old promise
+    pub refused_from : (((l.shards at.shard).proposal ≡ None) × (low ≤ suc l.round)) ⊎ (low ≡ 0) → ((m : ServerLive) → (v.servers site).live ≡ Some m → is_left g (m.shards at.shard) ≡ true) → IsRefusedFrom g dead w v at low
+    refused_from start left = by_trying ends.trying
+      where
+        ends : Duel g dead w at site low v [] []
+        ends = along_idle g dead (Duel g dead w at site low) (λ w' air next e es step h. duel_goes_on g dead w at site low w' air next e es step h lt) es w i (begins start)
+
+        none_stands : (s : ℕ) → s < 2 → (m : ServerLive) → (v.servers s).live ≡ Some m → (m.shards at.shard).proposal ≡ None
+        none_stands s slt m now = no_attempt g dead w es most i open_ s slt m now at.shard below
+
+        held_back : (s : ℕ) → s < 2 → (m : ServerLive) → (v.servers s).live ≡ Some m → is_left g (m.shards at.shard) ≡ true → (m.shards at.shard).held ≡ true
+        held_back s slt m now more =
+            ⊎_elim
+            (λ busy. absurd (true≢false (sym (ap is_free (none_stands s slt m now)) ∙ busy)))
+            (λ h. h)
+            (all.attempted s slt m now at.shard below more)
+
+        by_made : (u : Ballot) → ends.most ≡ Some u → low ≤ u.round → IsMade g dead w at v u → IsRefusedFrom g dead w v at low
+        by_made u is le (s, m, slt, now, here, more, inl stands) = none_some u (sym (ap ballot_in (none_stands s slt m now)) ∙ stands)
+        by_made u is le (s, m, slt, now, here, more, inr (r, c, rlt, takes_part, older, under, round_up)) = (
+          s,
+          suc m.round,
+          record { site = slt; live = m; up = now; shard = below; next = here; left = more; held = held_back s slt m now more; free = none_stands s slt m now; round = refl },
+          record {
+            replica = r;
+            member = rlt;
+            live = takes_part;
+            ballot = c;
+            was = older;
+            is = still (ends.promises r rlt takes_part);
+            higher = omega (arith, le, above);
+            reached = omega (arith, round_up);
+            others = λ q qlt qlive. other q (ends.promises q qlt qlive);
+          },
+        )
+          where
+            above : u.round ≤ c.round
+            above = below_round u c under
+
+            at_most : (b : Ballot) → UpTo ends.most b → IsUpTo b u
+            at_most b k = subst (λ o. UpTo o b) is k
+
+            still : Promised ends.most (promise_at w r at) (promise_at v r at) → promise_at v r at ≡ Some c
+            still (inl same) = same ∙ older
+            still (inr (b, now_is, k, from_old)) = absurd (not_above c u (upto_trans c b u (subst (λ o. IsPromiseUpTo o b) older from_old) (at_most b k)) under)
+
+            other : (q : ℕ) → Promised ends.most (promise_at w q at) (promise_at v q at) → (promise_at v q at ≡ promise_at w q at) ⊎ ((b : Ballot) → promise_at v q at ≡ Some b → b.round < suc m.round)
+            other q (inl same) = inl same
+            other q (inr (b, now_is, k, from_old)) = inr (λ b' e. let same : b'.round ≡ b.round = ap (λ (x : Ballot). x.round) (some_same b' b (sym e ∙ now_is)) in let low_ = upto_round b u (at_most b k) in omega (arith, same, low_, above, round_up))
+
+        by_trying : IsTrying g dead w at site low v [] ends.most → IsRefusedFrom g dead w v at low
+        by_trying (inr (u, is, le)) = by_made u is le (ends.made u is)
+        by_trying (inl (m, now, here, none, le, waits)) =
+            absurd (⊎_elim
+            (λ t. passes g dead v (Server site) i.interval.ends lt refl t)
+            (λ free. true≢false (sym (held_back site lt m now (left m now)) ∙ free))
+            waits)
+
+  -- ---- what is left stays so in one shard
+
+  abbrev LeftIn : ℕ → ℕ → World → Type 0
+  LeftIn s k x = (m : ServerLive) × ((x.servers s).live ≡ Some m) × (is_left g (m.shards k) ≡ true)
+
+  left_in : (s k : ℕ) → LeftIn s k w → LeftIn s k v
+  left_in s k h =
+      along_idle g dead (λ x air es. LeftIn s k x)
+      (λ x air next e es step h. let m = server_waits g dead x air next e step s h.0 h.1 in (m.0, m.1, still_left g (h.0.shards k) (m.0.shards k) (m.2 k) h.2))
+      es w i h
+
+  -- a server that is held ends held, by a promise not below the round that it drew
+  pub held_again : (s n : ℕ) (at : Place) → IsHeldAt g w s at n → IsRefusedFrom g dead w v at n
+  held_again s n at h =
+      refused_from at h.shard s n h.site h.live h.up h.next (inl (h.free, let e = h.round in omega (arith, e)))
+      (λ m now. let x = left_in s at.shard (h.live, h.up, h.left) in subst (λ (m : ServerLive). is_left g (m.shards at.shard) ≡ true) (some_same x.0 m (sym x.1 ∙ now)) x.2)
+
+  abbrev pub SomeRefused : Type 0
+  SomeRefused = (at : Place) × IsRefusedFrom g dead w v at 0
+
+  -- where something is left at the end, a server is held
+  left_refused : (s : ℕ) → s < 2 → IsLeftAt g v s → SomeRefused
+  left_refused s lt (m, now, (k, klt, left)) =
+      let u = servers_up s lt in
+      (next_of k (u.0.shards k), refused_from (next_of k (u.0.shards k)) klt s 0 lt u.0 u.1 refl (inr refl) (λ m' now'. subst (λ (x : ServerLive). is_left g (x.shards k) ≡ true) (some_same m m' (sym now ∙ now')) left))
+
+  -- ---- a node is at rest, or something is left at its site's server
+
+  tested : {L : Type 0} (P : L → Type 0) (test : L → Bool) (o : Option L) → UpWith P o → UpWith (λ l. test l ≡ true) o ⊎ UpWith (λ l. test l ≡ false) o
+  tested P test None u = absurd u
+  tested P test (Some l) u = cases_Bool (test l)
+
+  joiner_rests : (j : ℕ) → j < first_joiner g + 2 * g.joiners → (IsJoiner g j → UpWith (λ (l : JoinerLive). joiner_at_rest l ≡ true) (w.joiners j).live) ⊎ SomeRefused
+  joiner_rests j lt =
+      ⊎_elim
+      (λ low. inl (λ is. let ge = is.0 in absurd (omega (arith, low, ge))))
+      (λ ge. ⊎_elim (λ t. inl (λ is. t)) (λ f. inr (left_refused (site_of_joiner g j) (site_below g j) (all.joiners j (ge, lt) f))) (tested _ joiner_at_rest (w.joiners j).live (i.interval.starts.joiners j (ge, lt)).1))
+      (cases_lt j (first_joiner g))
+
+  pub rests_or_refused : IsAtRest g w ⊎ SomeRefused
+  rests_or_refused =
+      ⊎_elim
+      (λ ds. ⊎_elim
+      (λ ss. ⊎_elim
+      (λ js. inl (record { dispatchers = ds; joiners = λ j is. js j is.1 is; servers = ss }))
+      (λ q. inr q)
+      (every (λ j. IsJoiner g j → UpWith (λ (l : JoinerLive). joiner_at_rest l ≡ true) (w.joiners j).live) SomeRefused (first_joiner g + 2 * g.joiners) joiner_rests))
+      (λ q. inr q)
+      (every (λ s. UpWith (λ (l : ServerLive). server_at_rest g l ≡ true) (w.servers s).live) SomeRefused 2
+      (λ s lt. ⊎_elim (λ t. inl t) (λ f. inr (left_refused s lt (all.servers s f))) (tested _ (server_at_rest g) (w.servers s).live (i.interval.starts.servers s lt).1))))
+      (λ q. inr q)
+      (every (λ s. UpWith (λ (l : DispatcherLive). dispatcher_at_rest l ≡ true) (w.dispatchers s).live) SomeRefused 2
+      (λ s lt. ⊎_elim (λ t. inl t) (λ f. inr (left_refused s lt (all.dispatchers s lt f))) (tested _ dispatcher_at_rest (w.dispatchers s).live (i.interval.starts.dispatchers s lt).1)))
+
+-- ---- after every run
+
+module _ (g : Setting) (d : Disks) (es : List Entry) (facts : AllFactsHold g (world_after g (opening d) es)) where
+  causes_after : OfAllShards (HasCause g) (world_after g (opening d) es)
+  causes_after = after_run g (HasCause g) (no_cause g) (cause_kept g) d es
+
+  pub first_law : RestOrRefused g (world_after g (opening d) es)
+  first_law dead more table most idle = rests_or_refused g dead table most _ more idle (every_attempt_open g d es) causes_after (own_tokens g _ facts.0 facts.2) (lines g _ facts.0 facts.2)
+
+  pub second_law : HeldIsRefused g (world_after g (opening d) es)
+  second_law dead more table most idle s n at held = held_again g dead table most _ more idle (every_attempt_open g d es) causes_after (own_tokens g _ facts.0 facts.2) (lines g _ facts.0 facts.2) s n at held

@@ -1,0 +1,238 @@
+-- Each entry of an idle interval keeps what is known of the greatest attempt at a place.
+use Rattle.std.proofs.Common.{◌≡◌, ◌⊎◌, inl, inr, ⊎_elim, ℕ, suc, ◌<◌, ◌≤◌, Bool, false, List, ◌∷◌, length, Some, None, refl, sym, ap, ◌∙◌, subst, arith}
+use Rattle.std.specs.Prelude.{Option}
+use Rattle.std.proofs.lemmas.Cmp.{ranked}
+use Rattle.std.specs.Ordering.{nat_cmp, ordering_then, MatchOrdering}
+use Rattle.std.specs.declared.cmp.Ordering.{Ordering}
+use Rattle.std.specs.declared.cmp.Ordering.TheVariants.{Less, Equal, Greater}
+use Rattle.ballot_core.specs.declared.Ballot.{Ballot}
+use Rattle.ballot_core.specs.Ballots.{IsBelow, IsUpTo}
+use Rattle.ballot_core.proofs.Order.{not_above}
+use Rattle.registry_state.specs.declared.Batch.{Batch}
+use Rattle.paxos_defs.specs.declared.Place.{Place}
+use Rattle.list_words.specs.Lists.{Each}
+use Rattle.list_words.proofs.Lists.{none_some, some_same}
+use Rattle.turn_defs.specs.Setting.{Setting}
+use Rattle.turn_defs.specs.Nodes.{IsNode}
+use Rattle.turn_defs.specs.Sent.{Sent}
+use Rattle.turn_defs.specs.Turns.{Out, land}
+use Rattle.turn_defs.specs.declared.packet.Packet.{Packet}
+use Rattle.turn_defs.specs.declared.packet.Packet.TheVariants.{Prepare, Accept, Nack}
+use Rattle.turn_defs.specs.declared.node.Node.{Node}
+use Rattle.turn_defs.specs.declared.node.Node.TheVariants.{Dispatcher, Server, Replica, Joiner}
+use Rattle.turn_defs.specs.declared.node.To.{To}
+use Rattle.turn_defs.specs.declared.node.Input.{Input}
+use Rattle.turn_defs.specs.declared.node.Input.TheVariants.{Tick, Deliver}
+use Rattle.turn_defs.specs.Server.{ServerLive, server_turn}
+use Rattle.turn_defs.specs.Replica.{ReplicaKept, cell_at, land_replica, replica_turn}
+use Rattle.photon_model.specs.Runs.{World, Entry, End, dispatcher_row, server_row, replica_row, joiner_row, after, May}
+use Rattle.progress_laws.specs.Moves.{next_of, promise_at}
+use Rattle.progress_laws.proofs.Transit.{opened_at, Underway, HasTick, IsSent, was_underway, sent_has}
+use Rattle.progress_laws.proofs.Ending.{IsEnd, server_now, server_live, replica_turns}
+use Rattle.progress_laws.proofs.Turning.{ballot_in, Same, Fate, Keeps, Asks}
+use Rattle.progress_laws.proofs.Waiting.{still_left}
+use Rattle.progress_laws.proofs.Lasting.{OfAllShards, HasCause, no_cause, cause_kept, lasts}
+use Rattle.progress_laws.proofs.Plain.{IsPlain, dispatcher_row_plain, joiner_row_plain}
+use Rattle.progress_laws.proofs.Rising.{AsksAt, Says, says, Rises, rises, after_turn}
+use Rattle.progress_laws.proofs.Calm.{Step, step_goes, CalmTurn, calm_turn, server_waits, replica_kept, tick_goes_on}
+use Rattle.progress_laws.proofs.Greatest.{UpTo, Promised, promised_more, promised_is, Fine, fine_grows, plain_fine, asks_fine, IsRefusedBy, IsMade, AttemptUpTo, BothUp, MoreOfBoth, with_both}
+
+-- the rounds of ballots in order
+pub below_round : (a b : Ballot) → IsBelow a b → a.round ≤ b.round
+below_round a b h = go (nat_cmp a.round b.round) (ranked a.round b.round (nat_cmp a.round b.round) refl) h.less
+  where
+    go : (o : Ordering) → MatchOrdering o (a.round < b.round) (a.round ≡ b.round) (b.round < a.round) → ordering_then o (ordering_then (nat_cmp a.epoch b.epoch) (nat_cmp a.site b.site)) ≡ Less → a.round ≤ b.round
+    go Less r e = omega (arith, r)
+    go Equal r e = omega (arith, r)
+    go Greater r e = absurd (cc)
+
+pub upto_round : (a b : Ballot) → IsUpTo a b → a.round ≤ b.round
+upto_round a b (inl h) = below_round a b h
+upto_round a b (inr e) = let same : a.round ≡ b.round = ap (λ (x : Ballot). x.round) e in omega (arith, same)
+
+-- a number that an attempt's round is not below is no greater than the greatest attempt's
+pub raised : (m : Option Ballot) (b : Ballot) (low : ℕ) → UpTo m b → low ≤ b.round → (u : Ballot) × (m ≡ Some u) × (low ≤ u.round)
+raised None b low h le = absurd h
+raised (Some u) b low h le = let r = upto_round b u h in (u, refl, omega (arith, le, r))
+
+module _ (g : Setting) (dead : ℕ → Bool) (old : World) (at : Place) (site low : ℕ) where
+  -- The server has a Tick or isn't held, with no attempt, and will draw no round below `low`; or an attempt has one.
+  abbrev pub IsTrying : World → List Entry → Option Ballot → Type 0
+  IsTrying w es m =
+      ((l : ServerLive) × ((w.servers site).live ≡ Some l) × (next_of at.shard (l.shards at.shard) ≡ at) × (ballot_in (l.shards at.shard).proposal ≡ None) × (low ≤ suc l.round) × (HasTick w es (Server site) ⊎ ((l.shards at.shard).held ≡ false)))
+      ⊎ ((u : Ballot) × (m ≡ Some u) × (low ≤ u.round))
+
+  -- what is known of the greatest attempt so far
+  pub record Duel (w : World) (air : List Sent) (es : List Entry) : Type 0 where
+    pub most : Option Ballot
+    pub up : BothUp g dead old at w
+    pub causes : OfAllShards (HasCause g) w
+    pub promises : (r : ℕ) → r < g.replicas → dead r ≡ false → Promised most (promise_at old r at) (promise_at w r at)
+    pub packets : (x : Sent) → IsNode g x.to → Underway w air x → Fine g dead old at most x.to x.packet
+    pub attempts : (s : ℕ) → s < 2 → (l : ServerLive) → (w.servers s).live ≡ Some l → AttemptUpTo g dead old at most l
+    pub made : (u : Ballot) → most ≡ Some u → IsMade g dead old at w u
+    pub trying : IsTrying w es most
+
+  module _ (w : World) (air next : List Sent) (e : Entry) (es : List Entry) (step : Step g dead w air next e) (h : Duel w air (e ∷ es)) where
+    abbrev w' : World
+    w' = after g w e
+
+    abbrev row_of : ℕ → Out ServerLive
+    row_of s = server_row g s (w.servers s)
+
+    up_after : BothUp g dead old at w'
+    up_after s lt = let u = h.up s lt in let v = server_waits g dead w air next e step s u.0 u.1 in (v.0, v.1)
+
+    next_after : (s : ℕ) (l : ServerLive) → Same (l.shards at.shard) ((row_of s).live.shards at.shard) → next_of at.shard (l.shards at.shard) ≡ at → next_of at.shard ((row_of s).live.shards at.shard) ≡ at
+    next_after s l same is = ap (λ (vs : List Batch). record { shard = at.shard; slot = length vs }) same.0 ∙ is
+
+    -- ---- the greatest attempt stands, or a Nack ends it
+
+    -- the Nack that a server takes to its attempt
+    refused : (s : ℕ) → s < 2 → (u : Ballot) → h.most ≡ Some u → (r : ℕ) (c : Ballot) (round : ℕ) → opened_at w (Server s) ≡ Some (Deliver (Replica r) (Nack at u c)) → c.round ≤ round → IsRefusedBy g dead old at u round
+    refused s lt u is r c round opened le =
+        let x = h.packets (record { from = Replica r; to = Server s; packet = Nack at u c }) lt (inr opened) refl in
+        (x.0, c, x.1, x.2, ⊎_elim (λ k. k) (λ k. absurd (not_above c u (subst (λ o. UpTo o c) is k) x.3)) x.4, x.3, le)
+
+    made_after : (u : Ballot) → h.most ≡ Some u → IsMade g dead old at w' u
+    made_after u is = go (h.made u is)
+      where
+        go : IsMade g dead old at w u → IsMade g dead old at w' u
+        go (s, l, lt, up, place, left, fate) =
+            ⊎_elim
+            (λ same. (s, l, lt, same ∙ up, place, left, fate))
+            (λ (q : IsEnd e (Server s) × ((w'.servers s).live ≡ Some (row_of s).live)).
+            let t = calm_turn g dead w air next e step s l up q.0 in
+            (s, (row_of s).live, lt, q.1, next_after s l (t.each at.shard).0 place, still_left g (l.shards at.shard) ((row_of s).live.shards at.shard) (t.each at.shard).0 left, turned t (t.each at.shard).1 fate))
+            (server_live g w e s (step_goes g dead w air next e step))
+          where
+            later : CalmTurn g w s l → IsRefusedBy g dead old at u l.round → IsRefusedBy g dead old at u (row_of s).live.round
+            later t (r, c, lt, live, was, below, le) = (r, c, lt, live, was, below, let more = t.rounds in omega (arith, le, more))
+
+            turned : (t : CalmTurn g w s l) → Fate g s (w.servers s).kept l t.input (row_of s).live.round at.shard (l.shards at.shard) ((row_of s).live.shards at.shard) → (ballot_in (l.shards at.shard).proposal ≡ Some u) ⊎ IsRefusedBy g dead old at u l.round → (ballot_in ((row_of s).live.shards at.shard).proposal ≡ Some u) ⊎ IsRefusedBy g dead old at u (row_of s).live.round
+            turned t f (inr refused) = inr (later t refused)
+            turned t (inl k) (inl stands) = inl (k.0 ∙ stands)
+            turned t (inr (inl d)) (inl stands) = none_some u (sym d.1 ∙ stands)
+            turned t (inr (inr (r, b, c, input, was, gone, le))) (inl stands) =
+                inr (refused s lt u is r c (row_of s).live.round (t.opened ∙ ap Some (input ∙ ap (λ q. Deliver (Replica r) (Nack q b c)) place ∙ ap (λ x. Deliver (Replica r) (Nack at x c)) (some_same b u (sym was ∙ stands)))) le)
+
+    new : MoreOfBoth g dead old at w' h.most
+    new = with_both g dead old at w' h.most up_after (lasts g (HasCause g) (no_cause g) (cause_kept g) w e h.causes) made_after
+
+    -- ---- promises
+
+    -- a question that a replica's open turn took
+    asked : (r : ℕ) → r < g.replicas → (i : Input) (b : Ballot) → opened_at w (Replica r) ≡ Some i → AsksAt i at b → UpTo h.most b × (dead r ≡ false)
+    asked r lt i b o (from, inl q) = h.packets (record { from = from; to = Replica r; packet = Prepare at b }) lt (inr (o ∙ ap Some q)) refl
+    asked r lt i b o (from, inr (v, q)) = h.packets (record { from = from; to = Replica r; packet = Accept at b v }) lt (inr (o ∙ ap Some q)) refl
+
+    promise_after : (r : ℕ) → r < g.replicas → dead r ≡ false → Promised h.most (promise_at old r at) (promise_at w' r at)
+    promise_after r lt live =
+        ⊎_elim by_same
+        (λ (q : IsEnd e (Replica r) × ((w'.replicas r).kept ≡ land land_replica (replica_row (w.replicas r)).note (w.replicas r).kept)). ⊎_elim
+        (λ (t : (i : Input) × ((w.replicas r).opened ≡ Some i) × (replica_row (w.replicas r) ≡ replica_turn (w.replicas r).kept i)).
+        risen t.0 t.1 (q.1 ∙ ap (λ (o : Out (Unit {0})). land land_replica o.note (w.replicas r).kept) t.2) (rises (w.replicas r).kept at t.0))
+        (λ none. by_same (q.1 ∙ ap (λ (o : Out (Unit {0})). land land_replica o.note (w.replicas r).kept) none))
+        (replica_turns (w.replicas r)))
+        (replica_kept g dead w air next e step r)
+      where
+        now_is : (k : ReplicaKept) → (w'.replicas r).kept ≡ k → promise_at w' r at ≡ (cell_at k at).promised
+        now_is k same = ap (λ (k : ReplicaKept). (cell_at k at).promised) same
+
+        by_same : (w'.replicas r).kept ≡ (w.replicas r).kept → Promised h.most (promise_at old r at) (promise_at w' r at)
+        by_same same = subst (Promised h.most (promise_at old r at)) (sym (now_is (w.replicas r).kept same)) (h.promises r lt live)
+
+        risen : (i : Input) → (w.replicas r).opened ≡ Some i → (w'.replicas r).kept ≡ after_turn (w.replicas r).kept i → Rises (w.replicas r).kept at i (after_turn (w.replicas r).kept i) → Promised h.most (promise_at old r at) (promise_at w' r at)
+        risen i o kept (inl same) = subst (Promised h.most (promise_at old r at)) (sym (now_is (after_turn (w.replicas r).kept i) kept ∙ same)) (h.promises r lt live)
+        risen i o kept (inr (b, asks, is, le)) = promised_more h.most (promise_at old r at) (promise_at w r at) (promise_at w' r at) b (h.promises r lt live) (now_is (after_turn (w.replicas r).kept i) kept ∙ is) (asked r lt i b o asks).0 le
+
+    -- ---- packets
+
+    -- what a replica says is fine
+    says_fine : (r : ℕ) → r < g.replicas → (i : Input) → opened_at w (Replica r) ≡ Some i → (to : Node) (p : Packet) → Says (w.replicas r).kept at i p → Fine g dead old at h.most to p
+    says_fine r lt i o to (Nack p b c) s = λ q. let x = s q in let live = (asked r lt i b o x.2).1 in (r, lt, live, x.1, promised_is h.most (promise_at old r at) (promise_at w r at) c (h.promises r lt live) x.0)
+    says_fine r lt i o to (Prepare p b) s = absurd s
+    says_fine r lt i o to (Accept p b v) s = absurd s
+    says_fine r lt i o to _ s = tt
+
+    sent_fine : (x : Sent) → IsSent dead e x → Fine g dead old at new.0 x.to x.packet
+    sent_fine x (Dispatcher s, o, ps, kept, q, m, live) =
+        plain_fine g dead old at new.0 x.to x.packet (sent_has g (Dispatcher s) IsPlain (dispatcher_row g s (w.dispatchers s)).packets ps (subst (λ (y : Entry). May g w y) q step.may).1.2 (dispatcher_row_plain g s (w.dispatchers s)) x m)
+    sent_fine x (Joiner j, o, ps, kept, q, m, live) =
+        plain_fine g dead old at new.0 x.to x.packet (sent_has g (Joiner j) IsPlain (joiner_row g j (w.joiners j)).packets ps (subst (λ (y : Entry). May g w y) q step.may).1.2 (joiner_row_plain g j (w.joiners j)) x m)
+    sent_fine x (Server s, o, ps, kept, q, m, live) =
+        let may : May g w (End (Server s) o ps kept) = subst (λ (y : Entry). May g w y) q step.may in
+        let u = h.up s may.0 in
+        let t = calm_turn g dead w air next e step s u.0 u.1 (o, ps, kept, q) in
+        asks_fine g dead old at (row_of s).live.shards new.0 x.to live (new.3 s may.0 (row_of s).live (server_now g w e s (o, ps, kept, q))) x.packet
+        (sent_has g (Server s) (Asks (row_of s).live.shards) (row_of s).packets ps may.1.2 t.asks x m)
+    sent_fine x (Replica r, o, ps, kept, q, m, live) =
+        let may : May g w (End (Replica r) o ps kept) = subst (λ (y : Entry). May g w y) q step.may in
+        ⊎_elim
+        (λ (t : (i : Input) × ((w.replicas r).opened ≡ Some i) × (replica_row (w.replicas r) ≡ replica_turn (w.replicas r).kept i)).
+        fine_grows g dead old at h.most new.0 new.1 x.to x.packet
+        (says_fine r may.0 t.0 t.1 x.to x.packet (sent_has g (Replica r) (Says (w.replicas r).kept at t.0) (replica_row (w.replicas r)).packets ps may.1.2 (subst (λ (o : Out (Unit {0})). Each (λ (a : To × Packet). Says (w.replicas r).kept at t.0 a.1) o.packets) (sym t.2) (says (w.replicas r).kept at t.0)) x m)))
+        (λ none. absurd (sent_has g (Replica r) (λ p. ⊥) (replica_row (w.replicas r)).packets ps may.1.2 (subst (λ (o : Out (Unit {0})). Each (λ (a : To × Packet). ⊥) o.packets) (sym none) tt) x m))
+        (replica_turns (w.replicas r))
+
+    packets_after : (x : Sent) → IsNode g x.to → Underway w' next x → Fine g dead old at new.0 x.to x.packet
+    packets_after x is u = ⊎_elim (λ k. fine_grows g dead old at h.most new.0 new.1 x.to x.packet (h.packets x is k)) (sent_fine x) (was_underway g dead w air next e x step.carries u)
+
+    -- ---- the server that is to try
+
+    trying_after : site < 2 → IsTrying w' es new.0
+    trying_after lt = go h.trying
+      where
+        go : IsTrying w (e ∷ es) h.most → IsTrying w' es new.0
+        go (inr (u, is, le)) = inr (raised new.0 u low (new.1 u (subst (λ o. UpTo o u) (sym is) (inr refl))) le)
+        go (inl (l, up, place, none, le, waits)) = ⊎_elim by_tick (λ free. moved (inr free)) waits
+          where
+            ended : IsEnd e (Server site) → (Keeps (l.shards at.shard) ((row_of site).live.shards at.shard) → HasTick w' es (Server site) ⊎ (((row_of site).live.shards at.shard).held ≡ false)) → IsTrying w' es new.0
+            ended end waits = by_fate (t.each at.shard).1
+              where
+                t : CalmTurn g w site l
+                t = calm_turn g dead w air next e step site l up end
+
+                place_now : next_of at.shard ((row_of site).live.shards at.shard) ≡ at
+                place_now = next_after site l (t.each at.shard).0 place
+
+                by_fate : Fate g site (w.servers site).kept l t.input (row_of site).live.round at.shard (l.shards at.shard) ((row_of site).live.shards at.shard) → IsTrying w' es new.0
+                by_fate (inl k) = inl ((row_of site).live, server_now g w e site end, place_now, k.0 ∙ none, (let more = t.rounds in omega (arith, le, more)), waits k)
+                by_fate (inr (inl (b, was, left, is, round))) = inr (raised new.0 b low (new.3 site lt (row_of site).live (server_now g w e site end) b (place_now, is)) (omega (arith, le, round)))
+                by_fate (inr (inr (r, b, c, input, was, gone, up_to))) = none_some b (sym none ∙ was)
+
+            -- a Tick holds nothing back
+            ticked : IsEnd e (Server site) → opened_at w (Server site) ≡ Some Tick → ((row_of site).live.shards at.shard).held ≡ false
+            ticked end o =
+                let t = calm_turn g dead w air next e step site l up end in
+                subst (λ (o : Out ServerLive). (o.live.shards at.shard).held ≡ false) (sym (t.row_is ∙ ap (server_turn g site (w.servers site).kept l) (some_same t.input Tick (sym t.opened ∙ o)))) refl
+
+            moved : HasTick w' es (Server site) ⊎ ((l.shards at.shard).held ≡ false) → IsTrying w' es new.0
+            moved waits =
+                ⊎_elim
+                (λ same. inl (l, same ∙ up, place, none, le, waits))
+                (λ (q : IsEnd e (Server site) × ((w'.servers site).live ≡ Some (row_of site).live)). ended q.0 (λ k. ⊎_elim (λ t. inl t) (λ free. inr (k.1 free)) waits))
+                (server_live g w e site (step_goes g dead w air next e step))
+
+            by_tick : HasTick w (e ∷ es) (Server site) → IsTrying w' es new.0
+            by_tick k =
+                ⊎_elim (λ t. moved (inl t))
+                (λ (q : IsEnd e (Server site) × (opened_at w (Server site) ≡ Some Tick)). ended q.0 (λ k. inr (ticked q.0 q.1)))
+                (tick_goes_on g dead w air next e step es (Server site) k)
+
+    pub duel_goes_on : site < 2 → Duel w' next es
+    duel_goes_on lt =
+        record {
+          most = new.0;
+          up = up_after;
+          causes = lasts g (HasCause g) (no_cause g) (cause_kept g) w e h.causes;
+          promises = λ r lt live. promised_grows (promise_at old r at) (promise_at w' r at) (promise_after r lt live);
+          packets = packets_after;
+          attempts = new.3;
+          made = new.2;
+          trying = trying_after lt;
+        }
+      where
+        promised_grows : (was now : Option Ballot) → Promised h.most was now → Promised new.0 was now
+        promised_grows was now (inl same) = inl same
+        promised_grows was now (inr (b, is, up, le)) = inr (b, is, new.1 b up, le)

@@ -1,0 +1,80 @@
+-- What each turn of a server keeps of its shards holds after every run.
+use Rattle.std.proofs.Common.{◌≡◌, inl, inr, ⊎_elim, ℕ, true, List, [], ◌∷◌, Some, None, sym, ap, ◌∙◌}
+use Rattle.std.specs.Prelude.{Option}
+use Rattle.ballot_core.specs.declared.Ballot.{Ballot}
+use Rattle.list_words.specs.Lists.{set_at}
+use Rattle.list_words.proofs.Lists.{at_set, none_some}
+use Rattle.turn_defs.specs.Setting.{Setting}
+use Rattle.turn_defs.specs.Turns.{Out}
+use Rattle.turn_defs.specs.declared.node.Node.TheVariants.{Dispatcher, Server, Replica, Joiner}
+use Rattle.turn_defs.specs.declared.node.Input.{Input}
+use Rattle.turn_defs.specs.Server.{ServerKept, ServerLive, ShardState, land_server, empty_shard, server_start, server_turn}
+use Rattle.photon_model.specs.Facts.{IfUp}
+use Rattle.photon_model.specs.Runs.{Cell, World, Entry, Begin, End, Stop, Disks, begun, stopped, row, server_row, server_ended, after, world_after, opening}
+use Rattle.progress_laws.specs.Moves.{is_left}
+use Rattle.progress_laws.proofs.Ending.{row_up}
+use Rattle.progress_laws.proofs.Turning.{ballot_in, Fate, Turns, turns}
+use Rattle.progress_laws.proofs.Waiting.{still_left}
+
+-- P holds of each shard of a server that is up
+abbrev pub OfShards : (ShardState → Type 0) → Option ServerLive → Type 0
+OfShards P o = IfUp (λ (l : ServerLive). (n : ℕ) → P (l.shards n)) o
+
+-- and so it is at both sites
+abbrev pub OfAllShards : (ShardState → Type 0) → World → Type 0
+OfAllShards P w = (s : ℕ) → OfShards P (w.servers s).live
+
+module _ (g : Setting) (P : ShardState → Type 0) (empty : P empty_shard) (keeps : (s : ℕ) (k : ServerKept) (l : ServerLive) → ((n : ℕ) → P (l.shards n)) → (i : Input) (n : ℕ) → P ((server_turn g s k l i).live.shards n)) where
+  row_has : (w : World) (s : ℕ) → OfAllShards P w → (n : ℕ) → P ((server_row g s (w.servers s)).live.shards n)
+  row_has w s h = go (w.servers s).live (h s)
+    where
+      go : (o : Option ServerLive) → OfShards P o → (n : ℕ) → P ((row server_start (server_turn g s) (w.servers s).kept o (w.servers s).opened).live.shards n)
+      go None h = λ n. empty
+      go (Some l) h = row_up server_start (server_turn g s) (w.servers s).kept l (λ (o : Out ServerLive). (n : ℕ) → P (o.live.shards n)) (keeps s (w.servers s).kept l h) (w.servers s).opened
+
+  changed : (w : World) (m : ℕ) (c : Cell ServerKept ServerLive) → OfShards P c.live → OfAllShards P w → OfAllShards P (record w { servers = set_at w.servers m c })
+  changed w m c now h = at_set (λ s (c : Cell ServerKept ServerLive). OfShards P c.live) w.servers m c now h
+
+  pub lasts : (w : World) (e : Entry) → OfAllShards P w → OfAllShards P (after g w e)
+  lasts w (Begin (Dispatcher m) i) h = h
+  lasts w (Begin (Server m) i) h = changed w m (begun (w.servers m) i) (h m) h
+  lasts w (Begin (Replica m) i) h = h
+  lasts w (Begin (Joiner m) i) h = h
+  lasts w (End (Dispatcher m) _ ps kept) h = h
+  lasts w (End (Server m) o ps kept) h = changed w m (server_ended g m (w.servers m) o) (row_has w m h) h
+  lasts w (End (Replica m) _ ps kept) h = h
+  lasts w (End (Joiner m) _ ps kept) h = h
+  lasts w (Stop (Dispatcher m) _) h = h
+  lasts w (Stop (Server m) landed) h = changed w m (stopped land_server (w.servers m) landed) tt h
+  lasts w (Stop (Replica m) _) h = h
+  lasts w (Stop (Joiner m) _) h = h
+
+  pub after_run : (d : Disks) (es : List Entry) → OfAllShards P (world_after g (opening d) es)
+  after_run d es = go es (opening d) (λ s. tt)
+    where
+      go : (es : List Entry) (w : World) → OfAllShards P w → OfAllShards P (world_after g w es)
+      go [] w h = h
+      go (e ∷ es) w h = go es (after g w e) (lasts w e h)
+
+-- ---- where an attempt stands something is left to do
+
+abbrev pub HasCause : Setting → ShardState → Type 0
+HasCause g st = (b : Ballot) → ballot_in st.proposal ≡ Some b → is_left g st ≡ true
+
+module _ (g : Setting) where
+  pub no_cause : HasCause g empty_shard
+  no_cause b e = none_some b e
+
+  pub cause_kept : (s : ℕ) (k : ServerKept) (l : ServerLive) → ((n : ℕ) → HasCause g (l.shards n)) → (i : Input) (n : ℕ) → HasCause g ((server_turn g s k l i).live.shards n)
+  cause_kept s k l h i n b e = ⊎_elim (λ x. still_left g (l.shards n) now x.0 (was x.1)) (λ x. none_some b (sym (ap ballot_in x.1) ∙ e)) (all.each n)
+    where
+      all : Turns g s k l i (server_turn g s k l i)
+      all = turns g s k l i
+
+      now : ShardState
+      now = (server_turn g s k l i).live.shards n
+
+      was : Fate g s k l i (server_turn g s k l i).live.round n (l.shards n) now → is_left g (l.shards n) ≡ true
+      was (inl x) = h n b (sym x.0 ∙ e)
+      was (inr (inl x)) = x.2
+      was (inr (inr (r, b', c, i', stood, gone, le))) = none_some b (sym gone ∙ e)

@@ -1,0 +1,278 @@
+-- Where more than half of the replicas take part, each attempt ends in an interval in which nothing is done.
+use Rattle.std.proofs.Common.{◌≡◌, ◌⊎◌, inl, inr, ⊎_elim, ℕ, zero, suc, ◌+◌, ◌*◌, ◌<◌, ◌≤◌, Bool, true, false, cond, ◌||◌, nat_lt, List, ◌∷◌, length, Some, None, refl, sym, ap, ◌∙◌, subst, arith, []}
+use Rattle.std.specs.Prelude.{Option, not, is_some, slice_get}
+use Rattle.std.proofs.lemmas.Bool.{true≢false, cases_lt, lt-ltb, or_left}
+use Rattle.ballot_core.specs.declared.Ballot.{Ballot}
+use Rattle.ballot_core.specs.Majority.{marked, Majority}
+use Rattle.registry_state.specs.declared.Batch.{Batch}
+use Rattle.registry_state.specs.Same.{same_batch}
+use Rattle.registry_state.specs.LookBack.{bound_of}
+use Rattle.paxos_defs.specs.declared.Place.{Place}
+use Rattle.paxos_defs.specs.Turns.{Prepared, Taken, on_prepare, on_accept}
+use Rattle.paxos_defs.specs.Turns.Prepared.{Grant, Refuse}
+use Rattle.paxos_defs.specs.Turns.Taken.{Take, Decline}
+use Rattle.paxos_defs.specs.Attempts.{Phase, is_most}
+use Rattle.paxos_defs.specs.Attempts.Phase.{Promising, Accepting, Ended}
+use Rattle.list_words.specs.Lists.{Mem}
+use Rattle.list_words.proofs.Lists.{none_some, some_same}
+use Rattle.turn_defs.specs.Setting.{Setting, shards}
+use Rattle.turn_defs.specs.Turns.{Out, is_empty}
+use Rattle.turn_defs.specs.declared.packet.Packet.{Packet}
+use Rattle.turn_defs.specs.declared.node.Node.{Node}
+use Rattle.turn_defs.specs.declared.node.Node.TheVariants.{Server, Replica}
+use Rattle.turn_defs.specs.declared.node.To.TheVariants.{Only}
+use Rattle.turn_defs.specs.declared.node.Input.{Input}
+use Rattle.turn_defs.specs.declared.node.Input.TheVariants.{Tick, Deliver}
+use Rattle.turn_defs.specs.Sent.{Sent}
+use Rattle.turn_defs.specs.Server.{ServerLive, Proposal, first_shard, is_free, shard_unfinished, server_unfinished, server_start, server_turn}
+use Rattle.turn_defs.specs.Replica.{ReplicaKept, cell_at, prepared, taken, replica_start, replica_turn}
+use Rattle.photon_model.specs.Facts.{IfUp}
+use Rattle.photon_model.specs.Runs.{World, Entry, Disks, row, server_row, replica_row, after, world_after, opening}
+use Rattle.photon_model.specs.Rest.{if_up, is_unfinished}
+use Rattle.progress_laws.specs.Idle.{IsIdle}
+use Rattle.progress_laws.specs.Moves.{next_of}
+use Rattle.progress_laws.proofs.Transit.{opened_at, Underway, arrives, HasTick}
+use Rattle.progress_laws.proofs.Asking.{IsOpen, IfOpen, AreOpen, question, IsAnswer, HasMark, goes_mark, goes_question, goes_answer, AsksAll, IsKept, AllFollow, turn_follows, Counts, answer_counts, tick_asks, turn_open}
+use Rattle.progress_laws.proofs.Ticking.{comes, passes}
+use Rattle.progress_laws.proofs.Lasting.{lasts, after_run}
+use Rattle.progress_laws.proofs.Ending.{IsEnd, server_now, server_live, replica_live, row_up}
+use Rattle.progress_laws.proofs.Calm.{Step, step_goes, along_idle, server_waits, row_sent_to, goes_on, tick_goes_on}
+use Rattle.progress_laws.proofs.Claims.{up_is}
+
+module _ (g : Setting) (dead : ℕ → Bool) (w : World) (air : List Sent) (es : List Entry) where
+  -- With a replica an attempt goes on: it is counted, or the question is underway to it, or its answer to the server, or the
+  -- server has a Tick.
+  abbrev pub AttemptGoesOn : ℕ → Place → Proposal → ℕ → Type 0
+  AttemptGoesOn s at p r =
+      (HasMark r p.phase ⊎ Underway w air (record { from = Server s; to = Replica r; packet = question at p.ballot p.phase }))
+      ⊎ (((q : Packet) × IsAnswer at p.ballot p.phase q × Underway w air (record { from = Replica r; to = Server s; packet = q })) ⊎ HasTick w es (Server s))
+
+  -- Servers and replicas that take part are up, and each attempt at a shard of the table goes on with each such replica.
+  pub record AttemptsGoOn : Type 0 where
+    pub servers : (s : ℕ) → s < 2 → (l : ServerLive) × ((w.servers s).live ≡ Some l)
+    pub replicas : (r : ℕ) → r < g.replicas → dead r ≡ false → (u : Unit {0}) × ((w.replicas r).live ≡ Some u)
+    pub open_ : AreOpen g w
+    pub each :
+        (s : ℕ) → s < 2 → (l : ServerLive) → (w.servers s).live ≡ Some l → (k : ℕ) → k < shards g → (p : Proposal) → (l.shards k).proposal ≡ Some p →
+        (r : ℕ) → r < g.replicas → dead r ≡ false → AttemptGoesOn s (next_of k (l.shards k)) p r
+
+-- ---- each attempt is open
+
+open_kept : (g : Setting) (w : World) (e : Entry) → AreOpen g w → AreOpen g (after g w e)
+open_kept g = lasts g (λ st. IfOpen g.replicas st.proposal) tt (turn_open g)
+
+pub every_attempt_open : (g : Setting) (d : Disks) (es : List Entry) → AreOpen g (world_after g (opening d) es)
+every_attempt_open g = after_run g (λ st. IfOpen g.replicas st.proposal) tt (turn_open g)
+
+-- ---- a replica answers each question
+
+prepare_answers : (at : Place) (b : Ballot) (marks : List Bool) (best : Option (Ballot × Batch)) (t : Prepared Batch) → IsAnswer at b (Promising marks best) (prepared at b t)
+prepare_answers at b marks best (Grant prior) = inl (prior, refl)
+prepare_answers at b marks best (Refuse c) = inr (c, refl)
+
+accept_answers : (at : Place) (b : Ballot) (v : Batch) (marks : List Bool) (t : Taken) → IsAnswer at b (Accepting v marks) (taken at b t)
+accept_answers at b v marks Take = inl refl
+accept_answers at b v marks (Decline c) = inr (c, refl)
+
+replica_answers : (n : ℕ) (k : ReplicaKept) (from : Node) (at : Place) (b : Ballot) (y : Phase Batch) → IsOpen n y → (q : Packet) × IsAnswer at b y q × Mem (Only from, q) (replica_turn k (Deliver from (question at b y))).packets
+replica_answers n k from at b (Promising marks best) o = (prepared at b (on_prepare (cell_at k at) b).1, prepare_answers at b marks best (on_prepare (cell_at k at) b).1, inl refl)
+replica_answers n k from at b (Accepting v marks) o = (taken at b (on_accept same_batch (cell_at k at) b v).1, accept_answers at b v marks (on_accept same_batch (cell_at k at) b v).1, inl refl)
+replica_answers n k from at b Ended o = absurd o
+
+module _ (g : Setting) (dead : ℕ → Bool) (w : World) (air next : List Sent) (e : Entry) (es : List Entry) (step : Step g dead w air next e) where
+  abbrev w' : World
+  w' = after g w e
+
+  abbrev IsAsked : ℕ → ℕ → Place → Ballot → Phase Batch → World → List Sent → Type 0
+  IsAsked s r at b y v sent = Underway v sent (record { from = Server s; to = Replica r; packet = question at b y })
+
+  abbrev IsAnswered : ℕ → ℕ → Place → Ballot → Phase Batch → World → List Sent → Type 0
+  IsAnswered s r at b y v sent = (q : Packet) × IsAnswer at b y q × Underway v sent (record { from = Replica r; to = Server s; packet = q })
+
+  question_moves : (s r : ℕ) (at : Place) (b : Ballot) (y : Phase Batch) → IsOpen g.replicas y → (u : Unit {0}) → (w.replicas r).live ≡ Some u → IsAsked s r at b y w air → IsAsked s r at b y w' next ⊎ IsAnswered s r at b y w' next
+  question_moves s r at b y o u up asked =
+      ⊎_elim (λ k. inl k)
+      (λ (h : IsEnd e (Replica r) × (opened_at w (Replica r) ≡ Some (Deliver (Server s) (question at b y)))).
+      let row_is : replica_row (w.replicas r) ≡ replica_turn (w.replicas r).kept (Deliver (Server s) (question at b y)) = ap (λ (x : Option (Unit {0})). row replica_start (λ k l i. replica_turn k i) (w.replicas r).kept x (w.replicas r).opened) up ∙ ap (λ (x : Option Input). row replica_start (λ k l i. replica_turn k i) (w.replicas r).kept (Some u) x) h.1 in
+      let a = replica_answers g.replicas (w.replicas r).kept (Server s) at b y o in
+      inr (a.0, a.1, row_sent_to g dead w air next e step (Replica r) (replica_row (w.replicas r)).packets (λ o ps kept q. q.1.2) h.0 (Server s) a.0 (subst (λ (x : Out (Unit {0})). Mem (Only (Server s), a.0) x.packets) (sym row_is) a.2) refl))
+      (goes_on g dead w air next e step (record { from = Server s; to = Replica r; packet = question at b y }) asked)
+
+  -- ---- a server's turn
+
+  module _ (h : AttemptsGoOn g dead w air (e ∷ es)) (s : ℕ) (lt : s < 2) (l : ServerLive) (up : (w.servers s).live ≡ Some l) (k : ℕ) (below : k < shards g) (r : ℕ) (is : r < g.replicas) (live : dead r ≡ false) where
+    abbrev r_out : Out ServerLive
+    r_out = server_row g s (w.servers s)
+
+    opens_of : (p : Proposal) → (l.shards k).proposal ≡ Some p → IsOpen g.replicas p.phase
+    opens_of p q = subst (IfOpen g.replicas) q (subst (IfUp (λ (l : ServerLive). (k : ℕ) → IfOpen g.replicas (l.shards k).proposal)) up (h.open_ s) k)
+
+    asked_all : IsEnd e (Server s) → (p : Proposal) → AsksAll g s (w.servers s).kept l k (r_out.live.shards k) p r_out.packets → AttemptGoesOn g dead w' next es s (next_of k (r_out.live.shards k)) p r
+    asked_all end p all = inl (inr (row_sent_to g dead w air next e step (Server s) r_out.packets (λ o ps kept q. q.1.2) end (Replica r) (question (next_of k (r_out.live.shards k)) p.ballot p.phase) (all r is) live))
+
+    row_of : (i : Input) → opened_at w (Server s) ≡ Some i → r_out ≡ server_turn g s (w.servers s).kept l i
+    row_of i o = ap (λ (x : Option ServerLive). row server_start (server_turn g s) (w.servers s).kept x (w.servers s).opened) up ∙ ap (λ (x : Option Input). row server_start (server_turn g s) (w.servers s).kept (Some l) x) o
+
+    follows : AllFollow g s (w.servers s).kept l r_out
+    follows =
+        subst (λ (o : Option ServerLive). AllFollow g s (w.servers s).kept l (row server_start (server_turn g s) (w.servers s).kept o (w.servers s).opened)) (sym up)
+        (row_up server_start (server_turn g s) (w.servers s).kept l (AllFollow g s (w.servers s).kept l) (turn_follows g s (w.servers s).kept l) (w.servers s).opened)
+
+    -- the turn took an answer to the attempt
+    counted : IsEnd e (Server s) → (old : Proposal) (stands : (l.shards k).proposal ≡ Some old) (q : Packet) → IsAnswer (next_of k (l.shards k)) old.ballot old.phase q → opened_at w (Server s) ≡ Some (Deliver (Replica r) q) → (p : Proposal) → (r_out.live.shards k).proposal ≡ Some p → AttemptGoesOn g dead w' next es s (next_of k (r_out.live.shards k)) p r
+    counted end old stands q a o p now =
+        ⊎_elim (λ all. asked_all end p all) (λ m. inl (inl m))
+        (subst (λ (x : Out ServerLive). Counts g s (w.servers s).kept l k below old stands (opens_of old stands) r x) (sym (row_of (Deliver (Replica r) q) o)) (answer_counts g s (w.servers s).kept l k below old stands (opens_of old stands) r is q a) p now)
+
+    -- the turn took a Tick
+    ticked : IsEnd e (Server s) → (old : Proposal) (stands : (l.shards k).proposal ≡ Some old) → opened_at w (Server s) ≡ Some Tick → (p : Proposal) → (r_out.live.shards k).proposal ≡ Some p → AttemptGoesOn g dead w' next es s (next_of k (r_out.live.shards k)) p r
+    ticked end old stands o p now = asked_all end p (subst (λ (x : Out ServerLive). (x.live.shards k).proposal ≡ Some p → AsksAll g s (w.servers s).kept l k (x.live.shards k) p x.packets) (sym (row_of Tick o)) asks now)
+      where
+        asks : (l.shards k).proposal ≡ Some p → AsksAll g s (w.servers s).kept l k ((server_turn g s (w.servers s).kept l Tick).live.shards k) p (server_turn g s (w.servers s).kept l Tick).packets
+        asks q = tick_asks g s (w.servers s).kept l k below p q (opens_of p q)
+
+    -- what becomes of it in the server's turn
+    ended : IsEnd e (Server s) → (p : Proposal) → (r_out.live.shards k).proposal ≡ Some p → AttemptGoesOn g dead w' next es s (next_of k (r_out.live.shards k)) p r
+    ended end p now = ⊎_elim (λ all. asked_all end p all) (λ (x : IsKept g s (w.servers s).kept l k (r_out.live.shards k) p). kept x.0 x.1 x.2 x.3 x.4 (h.each s lt l up k below x.0 x.1 r is live)) (follows k p now)
+      where
+        kept : (old : Proposal) → (l.shards k).proposal ≡ Some old → (r_out.live.shards k).learned ≡ (l.shards k).learned → p.ballot ≡ old.ballot → Rattle.progress_laws.proofs.Asking.PhaseGoes old.phase p.phase → AttemptGoesOn g dead w air (e ∷ es) s (next_of k (l.shards k)) old r → AttemptGoesOn g dead w' next es s (next_of k (r_out.live.shards k)) p r
+        kept old stands learned ballot goes x = go x
+          where
+            at_is : next_of k (l.shards k) ≡ next_of k (r_out.live.shards k)
+            at_is = ap (λ (vs : List Batch). record { shard = k; slot = length vs }) (sym learned)
+
+            still_asked : IsAsked s r (next_of k (l.shards k)) old.ballot old.phase w' next → AttemptGoesOn g dead w' next es s (next_of k (r_out.live.shards k)) p r
+            still_asked u = inl (inr (subst (λ (q : Packet). Underway w' next (record { from = Server s; to = Replica r; packet = q })) (ap (λ a. question a old.ballot old.phase) at_is ∙ ap (λ b. question (next_of k (r_out.live.shards k)) b old.phase) (sym ballot) ∙ goes_question (next_of k (r_out.live.shards k)) p.ballot old.phase p.phase goes) u))
+
+            still_answered : IsAnswered s r (next_of k (l.shards k)) old.ballot old.phase w' next → AttemptGoesOn g dead w' next es s (next_of k (r_out.live.shards k)) p r
+            still_answered (q, a, u) = inr (inl (q, goes_answer (next_of k (r_out.live.shards k)) p.ballot q old.phase p.phase goes (subst (λ b. IsAnswer (next_of k (r_out.live.shards k)) b old.phase q) (sym ballot) (subst (λ at. IsAnswer at old.ballot old.phase q) at_is a)), u))
+
+            go : AttemptGoesOn g dead w air (e ∷ es) s (next_of k (l.shards k)) old r → AttemptGoesOn g dead w' next es s (next_of k (r_out.live.shards k)) p r
+            go (inl (inl m)) = inl (inl (goes_mark old.phase p.phase goes r m))
+            go (inl (inr u)) = let v = h.replicas r is live in ⊎_elim still_asked still_answered (question_moves s r (next_of k (l.shards k)) old.ballot old.phase (opens_of old stands) v.0 v.1 u)
+            go (inr (inl (q, a, u))) =
+                ⊎_elim (λ y. still_answered (q, a, y))
+                (λ (y : IsEnd e (Server s) × (opened_at w (Server s) ≡ Some (Deliver (Replica r) q))). counted y.0 old stands q a y.1 p now)
+                (goes_on g dead w air next e step (record { from = Replica r; to = Server s; packet = q }) u)
+            go (inr (inr t)) =
+                ⊎_elim (λ y. inr (inr y))
+                (λ (y : IsEnd e (Server s) × (opened_at w (Server s) ≡ Some Tick)). ticked y.0 old stands y.1 p now)
+                (tick_goes_on g dead w air next e step es (Server s) t)
+
+    -- or while it has none
+    unmoved : (p : Proposal) → (l.shards k).proposal ≡ Some p → ((IsEnd e (Server s)) → AttemptGoesOn g dead w' next es s (next_of k (l.shards k)) p r) → AttemptGoesOn g dead w' next es s (next_of k (l.shards k)) p r
+    unmoved p stands at_end = go (h.each s lt l up k below p stands r is live)
+      where
+        go : AttemptGoesOn g dead w air (e ∷ es) s (next_of k (l.shards k)) p r → AttemptGoesOn g dead w' next es s (next_of k (l.shards k)) p r
+        go (inl (inl m)) = inl (inl m)
+        go (inl (inr u)) = let v = h.replicas r is live in ⊎_elim (λ y. inl (inr y)) (λ y. inr (inl y)) (question_moves s r (next_of k (l.shards k)) p.ballot p.phase (opens_of p stands) v.0 v.1 u)
+        go (inr (inl (q, a, u))) =
+            ⊎_elim (λ y. inr (inl (q, a, y)))
+            (λ (y : IsEnd e (Server s) × (opened_at w (Server s) ≡ Some (Deliver (Replica r) q))). at_end y.0)
+            (goes_on g dead w air next e step (record { from = Replica r; to = Server s; packet = q }) u)
+        go (inr (inr t)) =
+            ⊎_elim (λ y. inr (inr y))
+            (λ (y : IsEnd e (Server s) × (opened_at w (Server s) ≡ Some Tick)). at_end y.0)
+            (tick_goes_on g dead w air next e step es (Server s) t)
+
+  pub attempts_go_on : AttemptsGoOn g dead w air (e ∷ es) → AttemptsGoOn g dead w' next es
+  attempts_go_on h =
+      record {
+        servers = λ s lt. let u = h.servers s lt in let v = server_waits g dead w air next e step s u.0 u.1 in (v.0, v.1);
+        replicas = λ r lt live. let u = h.replicas r lt live in ⊎_elim
+            (λ same. (u.0, same ∙ u.1))
+            (λ (q : IsEnd e (Replica r) × ((w'.replicas r).live ≡ Some (replica_row (w.replicas r)).live)). ((replica_row (w.replicas r)).live, q.1))
+            (replica_live g w e r (step_goes g dead w air next e step));
+        open_ = open_kept g w e h.open_;
+        each = λ s lt l now k below p stands r is live.
+            let u = h.servers s lt in
+            let at_end : IsEnd e (Server s) → AttemptGoesOn g dead w' next es s (next_of k (l.shards k)) p r = λ end. (
+            let l_is : (server_row g s (w.servers s)).live ≡ l = some_same _ l (sym (server_now g w e s end) ∙ now) in
+            subst (λ (m : ServerLive). (m.shards k).proposal ≡ Some p → AttemptGoesOn g dead w' next es s (next_of k (m.shards k)) p r) l_is (ended h s lt u.0 u.1 k below r is live end p) stands
+            ) in
+            ⊎_elim
+            (λ same. unmoved h s lt l (sym same ∙ now) k below r is live p stands at_end)
+            (λ (q : IsEnd e (Server s) × ((w'.servers s).live ≡ Some (server_row g s (w.servers s)).live)). at_end q.0)
+            (server_live g w e s (step_goes g dead w air next e step));
+      }
+
+-- ---- along an interval
+
+some_found : (test : ℕ → Bool) (from n k : ℕ) → from ≤ k → k < from + n → test k ≡ true → is_some (first_shard test from n) ≡ true
+some_found test from zero k a b t = absurd (omega arith)
+some_found test from (suc n) k a b t = go (test from) refl (λ lt. some_found test (suc from) n k lt (omega arith) t)
+  where
+    go : (c : Bool) → test from ≡ c → (from < k → is_some (first_shard test (suc from) n) ≡ true) → is_some (cond c (Some from) (first_shard test (suc from) n)) ≡ true
+    go true e ih = refl
+    go false e ih = ⊎_elim (λ lt. ih lt) (λ ge. absurd (true≢false (sym t ∙ ap test (let same : k ≡ from = omega arith in same) ∙ e))) (cases_lt from k)
+
+-- a server with such a shard is unfinished
+pub unfinished_at : (g : Setting) (w : World) (s : ℕ) (l : ServerLive) → (w.servers s).live ≡ Some l → (k : ℕ) → k < shards g → shard_unfinished g (l.shards k) ≡ true → is_unfinished g w (Server s) ≡ true
+unfinished_at g w s l up k below t = ap (λ (o : Option ServerLive). if_up (server_unfinished g) o) up ∙ some_found (λ k. shard_unfinished g (l.shards k)) 0 (shards g) k (omega arith) (omega arith) t
+
+more_marked : (xs ys : List Bool) → length xs ≡ length ys → ((r : ℕ) → slice_get xs r ≡ Some true → slice_get ys r ≡ Some true) → marked xs ≤ marked ys
+more_marked [] ys e h = omega arith
+more_marked (x ∷ xs) [] e h = absurd (omega (arith, e))
+more_marked (x ∷ xs) (y ∷ ys) e h = go x y (h 0) (more_marked xs ys (omega (arith, e)) (λ r q. h (suc r) q))
+  where
+    go : (x y : Bool) → (Some x ≡ Some true → Some y ≡ Some true) → marked xs ≤ marked ys → marked (x ∷ xs) ≤ marked (y ∷ ys)
+    go true true f le = omega (arith, le)
+    go true false f le = absurd (true≢false (sym (some_same false true (f refl))))
+    go false true f le = omega (arith, le)
+    go false false f le = le
+
+in_range : (xs : List Bool) (r : ℕ) (b : Bool) → slice_get xs r ≡ Some b → r < length xs
+in_range [] r b e = none_some b e
+in_range (x ∷ xs) zero b e = omega arith
+in_range (x ∷ xs) (suc r) b e = let h = in_range xs r b e in omega (arith, h)
+
+module _ (g : Setting) (dead : ℕ → Bool) (w : World) (es : List Entry) (most : Majority g.replicas (λ r. dead r ≡ false)) (i : IsIdle g dead w es) where
+  unfinished : (s : ℕ) (l : ServerLive) → (w.servers s).live ≡ Some l → (k : ℕ) → k < shards g → (p : Proposal) → (l.shards k).proposal ≡ Some p → is_unfinished g w (Server s) ≡ true
+  unfinished s l up k below p stands = unfinished_at g w s l up k below (or_left (not (is_free (l.shards k).proposal) || (l.shards k).held) (not (is_empty (l.shards k).queue) || nat_lt (bound_of (l.shards k).learned) g.horizon) (or_left (not (is_free (l.shards k).proposal)) (l.shards k).held (ap (λ o. not (is_free o)) stands)))
+
+  begins : AreOpen g w → AttemptsGoOn g dead w [] es
+  begins o =
+      record {
+        servers = λ s lt. let u = up_is _ (w.servers s).live (i.interval.starts.servers s lt).1 in (u.0, u.1);
+        replicas = λ r lt live. let u = up_is _ (w.replicas r).live (i.interval.starts.replicas r lt live).1 in (u.0, u.1);
+        open_ = o;
+        each = λ s lt l up k below p stands r is live. inr (inr (comes g dead w es (Server s) i.interval lt (unfinished s l up k below p stands)));
+      }
+
+  abbrev v : World
+  v = world_after g w es
+
+  ends : AreOpen g w → AttemptsGoOn g dead v [] []
+  ends o = along_idle g dead (AttemptsGoOn g dead) (λ w air next e es step h. attempts_go_on g dead w air next e es step h) es w i (begins o)
+
+  -- at the quiet end each replica that takes part is counted, so a majority is
+  no_majority : (p : Proposal) → IsOpen g.replicas p.phase → ((r : ℕ) → r < g.replicas → dead r ≡ false → HasMark r p.phase) → ⊥
+  no_majority p = go p.phase
+    where
+      too_many : (marks : List Bool) → (length marks ≡ g.replicas) → is_most marks ≡ false → ((r : ℕ) → r < g.replicas → dead r ≡ false → slice_get marks r ≡ Some true) → ⊥
+      too_many marks n few h =
+          let members = most.members in
+          let more = most.more in
+          let le = more_marked most.marks marks (members ∙ sym n) (λ r q. h r (let lt = in_range most.marks r true q in omega (arith, lt, members)) (most.each r q)) in
+          true≢false (sym (lt-ltb (length marks) (2 * marked marks) (omega (arith, n, more, le))) ∙ few)
+
+      go : (y : Phase Batch) → IsOpen g.replicas y → ((r : ℕ) → r < g.replicas → dead r ≡ false → HasMark r y) → ⊥
+      go (Promising marks best) o h = too_many marks o.0 o.1 h
+      go (Accepting u marks) o h = too_many marks o.0 o.1 h
+      go Ended o h = o
+
+  pub no_attempt : AreOpen g w → (s : ℕ) → s < 2 → (l : ServerLive) → (v.servers s).live ≡ Some l → (k : ℕ) → k < shards g → (l.shards k).proposal ≡ None
+  no_attempt o s lt l up k below = go (l.shards k).proposal refl
+    where
+      go : (x : Option Proposal) → (l.shards k).proposal ≡ x → x ≡ None
+      go None e = refl
+      go (Some p) e = absurd (no_majority p (subst (IfOpen g.replicas) e (subst (IfUp (λ (l : ServerLive). (k : ℕ) → IfOpen g.replicas (l.shards k).proposal)) up ((ends o).open_ s) k)) counted)
+        where
+          counted : (r : ℕ) → r < g.replicas → dead r ≡ false → HasMark r p.phase
+          counted r is live = only ((ends o).each s lt l up k below p e r is live)
+            where
+              only : AttemptGoesOn g dead v [] [] s (next_of k (l.shards k)) p r → HasMark r p.phase
+              only (inl (inl m)) = m
+              only (inl (inr u)) = absurd (arrives g dead v (record { from = Server s; to = Replica r; packet = question (next_of k (l.shards k)) p.ballot p.phase }) i.interval.ends is live u)
+              only (inr (inl (q, a, u))) = absurd (arrives g dead v (record { from = Replica r; to = Server s; packet = q }) i.interval.ends lt refl u)
+              only (inr (inr t)) = absurd (passes g dead v (Server s) i.interval.ends lt refl t)

@@ -1,0 +1,123 @@
+-- A replica's promise at a place rises only to a ballot that it is asked with, and it refuses with its promise.
+use Rattle.std.proofs.Common.{◌≡◌, ◌⊎◌, inl, inr, Bool, true, false, cond, ◌∷◌, ◌++◌, Some, None, refl, ap, ◌∙◌, subst, []}
+use Rattle.std.specs.Prelude.{Option}
+use Rattle.std.proofs.lemmas.Bool.{cond_both, cond-true, cond-false}
+use Rattle.ballot_core.specs.declared.Ballot.{Ballot}
+use Rattle.ballot_core.specs.Ballots.{IsBelow, IsUpTo, is_below, is_same}
+use Rattle.ballot_core.proofs.Order.{below_true, below_false}
+use Rattle.registry_state.specs.declared.Batch.{Batch}
+use Rattle.registry_state.specs.Same.{same_batch}
+use Rattle.paxos_defs.specs.declared.Place.{Place}
+use Rattle.paxos_defs.specs.Notes.{is_place, Vote, promise, acceptance, Cell, cell_of, cell_after, votes_at, note_of}
+use Rattle.paxos_defs.specs.Turns.{Prepared, Taken, prepare_under, on_prepare, is_accepted, vote_anew, accept_under, on_accept}
+use Rattle.paxos_defs.specs.Turns.Prepared.{Grant, Refuse}
+use Rattle.paxos_defs.specs.Turns.Taken.{Take, Decline}
+use Rattle.paxos_defs.proofs.Places.{place_true, cell_noted}
+use Rattle.list_words.specs.Lists.{Each}
+use Rattle.turn_defs.specs.Turns.{land}
+use Rattle.turn_defs.specs.declared.packet.Packet.{Packet}
+use Rattle.turn_defs.specs.declared.packet.Packet.TheVariants.{Prepare, Nack, Accept}
+use Rattle.turn_defs.specs.declared.node.Node.{Node}
+use Rattle.turn_defs.specs.declared.node.To.{To}
+use Rattle.turn_defs.specs.declared.node.Input.{Input}
+use Rattle.turn_defs.specs.declared.node.Input.TheVariants.{Start, Own, Tick, Deliver}
+use Rattle.turn_defs.specs.Replica.{ReplicaKept, cell_at, note_at, land_replica, prepared, taken, replica_turn}
+
+-- the input asks at the place with the ballot
+abbrev pub AsksAt : Input → Place → Ballot → Type 0
+AsksAt i at b = (from : Node) × ((i ≡ Deliver from (Prepare at b)) ⊎ ((v : Batch) × (i ≡ Deliver from (Accept at b v))))
+
+-- a promise, if any, lies no higher
+abbrev pub IsPromiseUpTo : Option Ballot → Ballot → Type 0
+IsPromiseUpTo None b = Unit {0}
+IsPromiseUpTo (Some p) b = IsUpTo p b
+
+-- a replica after its turn
+abbrev pub after_turn : ReplicaKept → Input → ReplicaKept
+after_turn k i = land land_replica (replica_turn k i).note k
+
+-- a vote at the ballot, where the promise lies no higher
+abbrev IsVote : Option Ballot → Ballot → Option (Vote Batch) → Type 0
+IsVote o b None = Unit {0}
+IsVote o b (Some x) = (x.ballot ≡ b) × IsPromiseUpTo o b
+
+-- a refusal tells the promise, above the ballot
+abbrev IsRefused : Option Ballot → Ballot → Prepared Batch → Type 0
+IsRefused o b (Grant prior) = Unit {0}
+IsRefused o b (Refuse c) = (o ≡ Some c) × IsBelow b c
+
+abbrev IsDeclined : Option Ballot → Ballot → Taken → Type 0
+IsDeclined o b Take = Unit {0}
+IsDeclined o b (Decline c) = (o ≡ Some c) × IsBelow b c
+
+prepare_is : (c : Cell Batch) (b : Ballot) (o : Option Ballot) → IsVote o b (prepare_under c b o).0 × IsRefused o b (prepare_under c b o).1
+prepare_is c b None = ((refl, tt), tt)
+prepare_is c b (Some p) =
+    cond_both (is_below b p) (None, Refuse p) (cond (is_same p b) (None, Grant c.accepted) (Some (promise b), Grant c.accepted)) (λ (t : Option (Vote Batch) × Prepared Batch). IsVote (Some p) b t.0 × IsRefused (Some p) b t.1)
+    (λ e. (tt, (refl, below_true b p e)))
+    (λ e. cond_both (is_same p b) (None, Grant c.accepted) (Some (promise b), Grant c.accepted) (λ (t : Option (Vote Batch) × Prepared Batch). IsVote (Some p) b t.0 × IsRefused (Some p) b t.1) (λ _. (tt, tt)) (λ _. ((refl, below_false b p e), tt)))
+
+accept_is : (c : Cell Batch) (b : Ballot) (v : Batch) (o : Option Ballot) → IsVote o b (accept_under same_batch c b v o).0 × IsDeclined o b (accept_under same_batch c b v o).1
+accept_is c b v None = anew tt
+  where
+    anew : IsPromiseUpTo None b → IsVote None b (vote_anew same_batch c b v).0 × IsDeclined None b (vote_anew same_batch c b v).1
+    anew h = cond_both (is_accepted same_batch b v c.accepted) (None, Take) (Some (acceptance b v), Take) (λ (t : Option (Vote Batch) × Taken). IsVote None b t.0 × IsDeclined None b t.1) (λ _. (tt, tt)) (λ _. ((refl, h), tt))
+accept_is c b v (Some p) =
+    cond_both (is_below b p) (None, Decline p) (vote_anew same_batch c b v) (λ (t : Option (Vote Batch) × Taken). IsVote (Some p) b t.0 × IsDeclined (Some p) b t.1)
+    (λ e. (tt, (refl, below_true b p e)))
+    (λ e. cond_both (is_accepted same_batch b v c.accepted) (None, Take) (Some (acceptance b v), Take) (λ (t : Option (Vote Batch) × Taken). IsVote (Some p) b t.0 × IsDeclined (Some p) b t.1) (λ _. (tt, tt)) (λ _. ((refl, below_false b p e), tt)))
+
+module _ (k : ReplicaKept) (at : Place) where
+  -- the promise after a note of a vote
+  abbrev pub Rises : Input → ReplicaKept → Type 0
+  Rises i now = ((cell_at now at).promised ≡ (cell_at k at).promised) ⊎ ((b : Ballot) × AsksAt i at b × ((cell_at now at).promised ≡ Some b) × IsPromiseUpTo (cell_at k at).promised b)
+
+  noted : (i : Input) (p : Place) (b : Ballot) → (p ≡ at → AsksAt i at b) → (x : Option (Vote Batch)) → IsVote (cell_at k p).promised b x → Rises i (land land_replica (note_at p x) k)
+  noted i p b asks None h = inl refl
+  noted i p b asks (Some x) h = go (is_place p at) refl
+    where
+      now : cell_of (votes_at at (k.notes ++ note_of p x ∷ [])) ≡ cond (is_place p at) (cell_after (cell_at k at) x) (cell_at k at)
+      now = cell_noted at k.notes p x
+
+      go : (t : Bool) → is_place p at ≡ t → Rises i (land land_replica (note_at p (Some x)) k)
+      go true e =
+          let same = place_true p at e in
+          inr (b, asks same, ap (λ (c : Cell Batch). c.promised) (now ∙ cond-true (is_place p at) (cell_after (cell_at k at) x) (cell_at k at) e) ∙ ap Some h.0, subst (λ q. IsPromiseUpTo (cell_at k q).promised b) same h.1)
+      go false e = inl (ap (λ (c : Cell Batch). c.promised) (now ∙ cond-false (is_place p at) (cell_after (cell_at k at) x) (cell_at k at) e))
+
+  prepares : (from : Node) (p : Place) (b : Ballot) → p ≡ at → AsksAt (Deliver from (Prepare p b)) at b
+  prepares from p b s = (from, inl (ap (λ q. Deliver from (Prepare q b)) s))
+
+  accepts : (from : Node) (p : Place) (b : Ballot) (v : Batch) → p ≡ at → AsksAt (Deliver from (Accept p b v)) at b
+  accepts from p b v s = (from, inr (v, ap (λ q. Deliver from (Accept q b v)) s))
+
+  pub rises : (i : Input) → Rises i (after_turn k i)
+  rises (Deliver from (Prepare p b)) = noted (Deliver from (Prepare p b)) p b (prepares from p b) (on_prepare (cell_at k p) b).0 (prepare_is (cell_at k p) b (cell_at k p).promised).0
+  rises (Deliver from (Accept p b v)) = noted (Deliver from (Accept p b v)) p b (accepts from p b v) (on_accept same_batch (cell_at k p) b v).0 (accept_is (cell_at k p) b v (cell_at k p).promised).0
+  rises (Deliver from _) = inl refl
+  rises Own = inl refl
+  rises Tick = inl refl
+  rises Start = inl refl
+
+  -- it asks nothing, and refuses a ballot that it was asked with by its promise, which lies above it
+  abbrev pub Says : Input → Packet → Type 0
+  Says i (Nack p b c) = p ≡ at → ((cell_at k at).promised ≡ Some c) × IsBelow b c × AsksAt i at b
+  Says i (Prepare p b) = ⊥
+  Says i (Accept p b v) = ⊥
+  Says i _ = Unit {0}
+
+  prepared_says : (i : Input) (p : Place) (b : Ballot) → (p ≡ at → AsksAt i at b) → (t : Prepared Batch) → IsRefused (cell_at k p).promised b t → Says i (prepared p b t)
+  prepared_says i p b asks (Grant prior) h = tt
+  prepared_says i p b asks (Refuse c) h = λ s. (subst (λ q. (cell_at k q).promised ≡ Some c) s h.0, h.1, asks s)
+
+  taken_says : (i : Input) (p : Place) (b : Ballot) → (p ≡ at → AsksAt i at b) → (t : Taken) → IsDeclined (cell_at k p).promised b t → Says i (taken p b t)
+  taken_says i p b asks Take h = tt
+  taken_says i p b asks (Decline c) h = λ s. (subst (λ q. (cell_at k q).promised ≡ Some c) s h.0, h.1, asks s)
+
+  pub says : (i : Input) → Each (λ (a : To × Packet). Says i a.1) (replica_turn k i).packets
+  says (Deliver from (Prepare p b)) = (prepared_says (Deliver from (Prepare p b)) p b (prepares from p b) (on_prepare (cell_at k p) b).1 (prepare_is (cell_at k p) b (cell_at k p).promised).1, tt)
+  says (Deliver from (Accept p b v)) = (taken_says (Deliver from (Accept p b v)) p b (accepts from p b v) (on_accept same_batch (cell_at k p) b v).1 (accept_is (cell_at k p) b v (cell_at k p).promised).1, tt)
+  says (Deliver from _) = tt
+  says Own = tt
+  says Tick = tt
+  says Start = tt

@@ -1,0 +1,140 @@
+-- Where nothing is done in an interval that does not begin at rest, a slot is attempted.
+use Rattle.std.proofs.Common.{◌≡◌, inl, inr, ⊎_elim, ℕ, zero, suc, ◌+◌, ◌<◌, ◌≤◌, Bool, true, false, cond, ◌||◌, ◌&&◌, ◌==◌, nat_lt, List, ◌∷◌, length, Some, refl, sym, ap, ◌∙◌, subst, arith, []}
+use Rattle.std.specs.Prelude.{not, is_none, is_some, ◌⊎◌}
+use Rattle.std.proofs.lemmas.Bool.{true≢false, cases_lt, and_cases, and_from, or_parts, or_left, or_right, eq-eqb, not_from_false, not-false}
+use Rattle.time_shards.specs.Shards.{IsTable}
+use Rattle.registry_state.specs.LookBack.{bound_of}
+use Rattle.list_words.specs.Lists.{Mem, has}
+use Rattle.turn_defs.specs.Setting.{Setting, IsJoiner, shards, site_of_joiner}
+use Rattle.turn_defs.specs.Turns.{is_empty}
+use Rattle.turn_defs.specs.Dispatcher.{DispatcherLive, Fresh, waits, first_done, has_room, dispatcher_wants, dispatcher_at_rest}
+use Rattle.turn_defs.specs.Joiner.{JoinerLive, Flight, joiner_at_rest}
+use Rattle.turn_defs.specs.Server.{ServerLive, first_shard, is_free, is_below_limit, may_propose, server_wants, server_at_rest, ShardState}
+use Rattle.photon_model.specs.Facts.{IfUp}
+use Rattle.photon_model.specs.Runs.{World, Entry, after, world_after}
+use Rattle.photon_model.specs.Rest.{UpWith}
+use Rattle.progress_laws.specs.Idle.{IsIdle, HasNumbers, IsWithinLimits}
+use Rattle.progress_laws.specs.Moves.{is_left}
+use Rattle.progress_laws.proofs.Waiting.{IsLeftAt}
+use Rattle.progress_laws.proofs.Claims.{HasFlight, HasOwnTokens, up_is, flight_stays, asks}
+use Rattle.progress_laws.proofs.Trying.{HasLines, IsLineAt, IsTried, HasTried, tries}
+use Rattle.progress_laws.proofs.Calm.{along_idle, left_stays}
+
+-- an attempt at the shard's next slot stands, or was refused since the last Tick
+abbrev pub IsAttempted : ShardState → Type 0
+IsAttempted st = (is_free st.proposal ≡ false) ⊎ (st.held ≡ true)
+
+-- Where nothing is done in an interval: what is left at a server where it begins is left where it ends, and so is a join in
+-- flight; a node that is not at rest where it begins leaves something at its site's server where it ends; and where
+-- something is left there, a slot was attempted.
+pub record Stalls (g : Setting) (dead : ℕ → Bool) (w : World) (es : List Entry) : Type 0 where
+  pub left : (s : ℕ) → IsLeftAt g w s → IsLeftAt g (world_after g w es) s
+  pub flight : (s : ℕ) → HasFlight g w s → HasFlight g (world_after g w es) s
+  pub servers : (s : ℕ) → UpWith (λ l. server_at_rest g l ≡ false) (w.servers s).live → IsLeftAt g (world_after g w es) s
+  pub joiners : (j : ℕ) → IsJoiner g j → UpWith (λ l. joiner_at_rest l ≡ false) (w.joiners j).live → IsLeftAt g (world_after g w es) (site_of_joiner g j)
+  pub dispatchers : (s : ℕ) → s < 2 → UpWith (λ l. dispatcher_at_rest l ≡ false) (w.dispatchers s).live → IsLeftAt g (world_after g w es) s
+  pub attempted : (s : ℕ) → s < 2 → (l : ServerLive) → ((world_after g w es).servers s).live ≡ Some l → (k : ℕ) → k < shards g → is_left g (l.shards k) ≡ true → IsAttempted (l.shards k)
+
+-- the first number that passes a test, or none
+some_passes : (test : ℕ → Bool) (from n : ℕ) → is_none (first_shard test from n) ≡ false → (k : ℕ) × (k < from + n) × (test k ≡ true)
+some_passes test from zero e = absurd (true≢false e)
+some_passes test from (suc n) e = go (test from) refl e (some_passes test (suc from) n)
+  where
+    go : (b : Bool) → test from ≡ b → is_none (cond b (Some from) (first_shard test (suc from) n)) ≡ false → (is_none (first_shard test (suc from) n) ≡ false → (k : ℕ) × (k < suc from + n) × (test k ≡ true)) → (k : ℕ) × (k < from + suc n) × (test k ≡ true)
+    go true t q ih = (from, omega arith, t)
+    go false t q ih = let h = ih q in let lt = h.1 in (h.0, omega arith, h.2)
+
+none_passes : (test : ℕ → Bool) (from n : ℕ) → is_some (first_shard test from n) ≡ false → (k : ℕ) → from ≤ k → k < from + n → test k ≡ false
+none_passes test from zero e k a b = absurd (omega arith)
+none_passes test from (suc n) e k a b = go (test from) refl e (none_passes test (suc from) n)
+  where
+    go : (b : Bool) → test from ≡ b → is_some (cond b (Some from) (first_shard test (suc from) n)) ≡ false → (is_some (first_shard test (suc from) n) ≡ false → (k : ℕ) → suc from ≤ k → k < suc from + n → test k ≡ false) → test k ≡ false
+    go true t q ih = absurd (true≢false q)
+    go false t q ih = ⊎_elim (λ lt. ih q k lt (omega arith)) (λ ge. ap test (let same : k ≡ from = omega arith in same) ∙ t) (cases_lt from k)
+
+-- a quiet dispatcher that is not at rest has tried a line
+tried : (g : Setting) (l : DispatcherLive) → ((p : ℕ) → has l.trying p ≡ true → IsLineAt g p) → dispatcher_wants l ≡ false → dispatcher_at_rest l ≡ false → (p : ℕ) × IsTried g l p
+tried g l line calm busy = by_fresh l.fresh l.trying refl refl
+  where
+    parts : (first_done l.fresh ≡ false) × ((has_room l && (not (is_empty l.due) || not l.ended)) ≡ false)
+    parts = or_parts (first_done l.fresh) (has_room l && (not (is_empty l.due) || not l.ended)) calm
+
+    by_fresh : (fs : List Fresh) (ps : List ℕ) → l.fresh ≡ fs → l.trying ≡ ps → (p : ℕ) × IsTried g l p
+    by_fresh (f ∷ fs) ps e q =
+        (f.position, inl (ap (λ x. waits x f.position) e ∙ or_left _ (waits fs f.position) (and_from _ _ (eq-eqb f.position f.position refl) (not_from_false f.done (sym (ap first_done e) ∙ parts.0)))))
+    by_fresh [] (p ∷ ps) e q = let h : has l.trying p ≡ true = ap (λ x. has x p) q ∙ or_left (p == p) (has ps p) (eq-eqb p p refl) in (p, inr (h, line p h))
+    by_fresh [] [] e q =
+        absurd (⊎_elim
+        (λ (r : has_room l ≡ false). true≢false (sym (ap (λ n. nat_lt n 64) (let a : length l.fresh ≡ 0 = ap length e in let b : length l.trying ≡ 0 = ap length q in let c : length l.fresh + length l.trying ≡ 0 = omega (arith, a, b) in c)) ∙ r))
+        (λ r. let h = or_parts (not (is_empty l.due)) (not l.ended) r in true≢false (sym (and_from l.ended _ (not-false l.ended h.1) (and_from (is_empty l.fresh) _ (ap is_empty e) (and_from (is_empty l.due) _ (not-false (is_empty l.due) h.0) (ap is_empty q)))) ∙ busy))
+        (and_cases (has_room l) (not (is_empty l.due) || not l.ended) parts.1))
+
+limits_end : (g : Setting) (es : List Entry) (w : World) → IsWithinLimits g w es → HasNumbers g (world_after g w es)
+limits_end g [] w l = l
+limits_end g (e ∷ es) w l = limits_end g es (after g w e) l.1
+
+module _ (g : Setting) (dead : ℕ → Bool) (table : IsTable g.table) (w : World) (es : List Entry) (i : IsIdle g dead w es) (own : HasOwnTokens g w) (lines : HasLines g w) where
+  abbrev v : World
+  v = world_after g w es
+
+  left : (s : ℕ) → IsLeftAt g w s → IsLeftAt g (world_after g w es) s
+  left s = along_idle g dead (λ w air es. IsLeftAt g w s) (λ w air next e es step. left_stays g dead w air next e step s) es w i
+
+  flight : (s : ℕ) → HasFlight g w s → HasFlight g (world_after g w es) s
+  flight s = along_idle g dead (λ w air es. HasFlight g w s) (λ w air next e es step. flight_stays g dead table w air next e es step s) es w i
+
+  server_left : (s : ℕ) → UpWith (λ l. server_at_rest g l ≡ false) (w.servers s).live → IsLeftAt g w s
+  server_left s u =
+      let x = up_is (λ (l : ServerLive). server_at_rest g l ≡ false) (w.servers s).live u in
+      let k = some_passes (λ k. nat_lt (bound_of (x.0.shards k).learned) g.horizon) 0 (shards g) x.2 in
+      let lt = k.1 in
+      (x.0, x.1, (k.0, omega arith, or_right (not (is_empty (x.0.shards k.0).queue)) (nat_lt (bound_of (x.0.shards k.0).learned) g.horizon) k.2))
+
+  joiner_flies : (j : ℕ) → IsJoiner g j → UpWith (λ l. joiner_at_rest l ≡ false) (w.joiners j).live → HasFlight g w (site_of_joiner g j)
+  joiner_flies j is u = let x = up_is (λ (l : JoinerLive). joiner_at_rest l ≡ false) (w.joiners j).live u in let f = some x.0.flight x.2 in (j, x.0, f.0, is, refl, x.1, f.1)
+    where
+      some : (fs : List Flight) → is_empty fs ≡ false → (f : Flight) × Mem f fs
+      some [] e = absurd (true≢false e)
+      some (f ∷ fs) e = (f, inl refl)
+
+  dispatcher_tried : (s : ℕ) → s < 2 → UpWith (λ l. dispatcher_at_rest l ≡ false) (w.dispatchers s).live → (p : ℕ) × HasTried g w s p
+  dispatcher_tried s lt u =
+      let x = up_is (λ (l : DispatcherLive). dispatcher_at_rest l ≡ false) (w.dispatchers s).live u in
+      let calm = subst (UpWith (λ (l : DispatcherLive). dispatcher_wants l ≡ false)) x.1 (i.interval.starts.dispatchers s lt).1 in
+      let t = tried g x.0 (lines s lt x.0 x.1) calm x.2 in
+      (t.0, (x.0, x.1, t.1))
+
+  attempted : (s : ℕ) → s < 2 → (l : ServerLive) → ((world_after g w es).servers s).live ≡ Some l → (k : ℕ) → k < shards g → is_left g (l.shards k) ≡ true → IsAttempted (l.shards k)
+  attempted s lt l up k below rest =
+      ⊎_elim (λ spent. absurd (true≢false (sym round ∙ spent)))
+      (λ none. ⊎_elim
+      (λ busy. ⊎_elim (λ a. inl a) (λ a. inr (not_held a)) (and_cases (is_free (l.shards k).proposal) (not (l.shards k).held) busy))
+      (λ idle. ⊎_elim (λ a. absurd (true≢false (sym rest ∙ a))) (λ a. absurd (true≢false (sym slot ∙ a))) (and_cases (is_left g (l.shards k)) (is_below_limit (length (l.shards k).learned)) idle))
+      (and_cases (is_free (l.shards k).proposal && not (l.shards k).held) _ (none_passes (λ k. may_propose g (l.shards k)) 0 (shards g) none k (omega arith) (omega arith))))
+      (and_cases (is_below_limit l.round) (is_some (first_shard (λ k. may_propose g (l.shards k)) 0 (shards g))) calm)
+    where
+      numbers : HasNumbers g (world_after g w es)
+      numbers = limits_end g es w i.limits
+
+      round : is_below_limit l.round ≡ true
+      round = subst (IfUp (λ (l : ServerLive). is_below_limit l.round ≡ true)) up (numbers.rounds s lt)
+
+      slot : is_below_limit (length (l.shards k).learned) ≡ true
+      slot = subst (IfUp (λ (l : ServerLive). (k : ℕ) → k < shards g → is_below_limit (length (l.shards k).learned) ≡ true)) up (numbers.slots s lt) k below
+
+      calm : server_wants g l ≡ false
+      calm = subst (UpWith (λ (l : ServerLive). server_wants g l ≡ false)) up (i.interval.ends.servers s lt).1
+
+      not_held : not (l.shards k).held ≡ false → (l.shards k).held ≡ true
+      not_held = not-false (l.shards k).held
+
+  pub stalls : Stalls g dead w es
+  stalls =
+      record {
+        left = left;
+        flight = flight;
+        servers = λ s u. left s (server_left s u);
+        joiners = λ j is u. asks g dead table w es i own (site_of_joiner g j) (flight (site_of_joiner g j) (joiner_flies j is u));
+        dispatchers = λ s lt u. let t = dispatcher_tried s lt u in asks g dead table w es i own s (tries g dead table w es i s t.0 lt t.1);
+        attempted = attempted;
+      }

@@ -1,0 +1,272 @@
+-- In an interval in which nothing is done a line that a dispatcher has tried gets a joiner of its site a join in flight.
+use Rattle.std.proofs.Common.{◌≡◌, ◌⊎◌, inl, inr, ⊎_elim, ℕ, ◌<◌, Bool, true, false, cond, ◌&&◌, ◌==◌, nat_lt, ◌-◌, ◌^◌, List, ◌∷◌, length, Some, None, refl, sym, ap, ◌∙◌, subst, lit<, []}
+use Rattle.std.specs.Prelude.{Option, not}
+use Rattle.std.proofs.lemmas.Bool.{cond_both, cond-true, cond-false, true≢false, cases_Bool, and_parts, or_cases, or_left, or_right, or_from, and_right, eqb-true, lt-ltb, not_from_true}
+use Rattle.time_shards.specs.Shards.{IsTable}
+use Rattle.event_id.specs.declared.id.EventId.{EventId}
+use Rattle.log_records.specs.declared.records.ClickRec.{ClickRec as Click}
+use Rattle.log_records.specs.Lines.{ClickLine, at}
+use Rattle.log_records.specs.Log.{first}
+use Rattle.list_words.specs.Lists.{Mem, has}
+use Rattle.list_words.proofs.Lists.{mem_left, mem_right, option_both, has_without-self}
+use Rattle.turn_defs.specs.Setting.{Setting, IsJoiner, site_of_joiner}
+use Rattle.turn_defs.specs.Nodes.{IsTo}
+use Rattle.turn_defs.specs.Turns.{Note, Out, idle, is_empty}
+use Rattle.turn_defs.specs.declared.packet.Packet.{Packet}
+use Rattle.turn_defs.specs.declared.packet.Packet.TheVariants.{Join, Joined}
+use Rattle.turn_defs.specs.declared.packet.Outcome.TheVariants.{NoQuery}
+use Rattle.turn_defs.specs.declared.node.Node.{Node}
+use Rattle.turn_defs.specs.declared.node.Node.TheVariants.{Dispatcher, Server, Replica, Joiner}
+use Rattle.turn_defs.specs.declared.node.To.{To}
+use Rattle.turn_defs.specs.declared.node.To.TheVariants.{Only, AnyJoiner}
+use Rattle.turn_defs.specs.declared.node.Input.{Input}
+use Rattle.turn_defs.specs.declared.node.Input.TheVariants.{Tick, Deliver}
+use Rattle.turn_defs.specs.Sent.{Sent}
+use Rattle.turn_defs.specs.Dispatcher.{DispatcherKept, DispatcherLive, Fresh, waits, mark, mark_one, join, fresh_joins, join_if, trying_joins, dispatcher_start, dispatcher_turn, dispatcher_unfinished, some_waits}
+use Rattle.turn_defs.specs.Joiner.{JoinerKept, JoinerLive, Flight, in_flight, looks, joiner_start, joiner_turn}
+use Rattle.photon_model.specs.Runs.{World, Entry, End, row, dispatcher_row, joiner_row, after, world_after}
+use Rattle.photon_model.specs.Rest.{DispatcherWorks, IsWork, if_up}
+use Rattle.progress_laws.specs.Idle.{IsQuiet, IsIdle}
+use Rattle.progress_laws.proofs.Transit.{opened_at, Underway, HasTick, arrives}
+use Rattle.progress_laws.proofs.Claims.{HasFlight, flight_stays, up_is}
+use Rattle.progress_laws.proofs.Ticking.{comes, passes}
+use Rattle.progress_laws.proofs.Ending.{IsEnd, joiner_now, dispatcher_now, joiner_live, dispatcher_live, both_up}
+use Rattle.progress_laws.proofs.Calm.{Step, step_goes, along_idle, row_sent, row_sent_to, goes_on, tick_goes_on}
+
+-- ---- what becomes of a line that a dispatcher has tried
+
+-- a line begins at the position
+abbrev pub IsLineAt : Setting → ℕ → Type 0
+IsLineAt g p = (c : ClickLine) × (at g.clicks p ≡ Some c)
+
+-- the join at the position has not ended: it waits in fresh, or it is in trial and stands for a line
+abbrev pub IsTried : Setting → DispatcherLive → ℕ → Type 0
+IsTried g l p = (waits l.fresh p ≡ true) ⊎ ((has l.trying p ≡ true) × IsLineAt g p)
+
+abbrev pub HasTried : Setting → World → ℕ → ℕ → Type 0
+HasTried g w s p = (l : DispatcherLive) × ((w.dispatchers s).live ≡ Some l) × IsTried g l p
+
+module _ (g : Setting) (w : World) (air : List Sent) (es : List Entry) where
+  -- a Join for the position is underway to a joiner of the site
+  abbrev pub IsJoinUnderway : ℕ → ℕ → Type 0
+  IsJoinUnderway s p = (j : ℕ) × (from : Node) × (c : Click) × IsJoiner g j × (site_of_joiner g j ≡ s) × Underway w air (record { from = from; to = Joiner j; packet = Join p c })
+
+  -- a joiner told the dispatcher that it has no query yet
+  abbrev pub IsTold : ℕ → ℕ → Type 0
+  IsTold s p = (from : Node) × (n : ℕ) × Underway w air (record { from = from; to = Dispatcher s; packet = Joined p (NoQuery n) })
+
+  -- The joiners are up, and the position's join goes on: the dispatcher has a Tick, or a Join is underway, or a joiner of the
+  -- site has a join in flight, or the dispatcher is told that there is no query yet.
+  pub record TrialGoesOn (s p : ℕ) : Type 0 where
+    pub up : (j : ℕ) → IsJoiner g j → (l : JoinerLive) × ((w.joiners j).live ≡ Some l)
+    pub tried : HasTried g w s p
+    pub goes : (HasTick w es (Dispatcher s) ⊎ IsJoinUnderway s p) ⊎ (HasFlight g w s ⊎ IsTold s p)
+
+-- each position in trial is that of a line
+abbrev pub HasLines : Setting → World → Type 0
+HasLines g w = (s : ℕ) → s < 2 → (l : DispatcherLive) → (w.dispatchers s).live ≡ Some l → (p : ℕ) → has l.trying p ≡ true → IsLineAt g p
+
+-- ---- the dispatcher's rows
+
+marked_waits : (fs : List Fresh) (p : ℕ) → waits (mark fs p) p ≡ false
+marked_waits [] p = refl
+marked_waits (f ∷ fs) p = or_from _ _ (go (f.position == p) refl) (marked_waits fs p)
+  where
+    go : (b : Bool) → (f.position == p) ≡ b → (((mark_one p f).position == p) && not (mark_one p f).done) ≡ false
+    go true e = subst (λ (x : Fresh). ((x.position == p) && not x.done) ≡ false) (sym (cond-true (f.position == p) (record f { done = true }) f e)) (and_right (f.position == p) false refl)
+    go false e = subst (λ (x : Fresh). ((x.position == p) && not x.done) ≡ false) (sym (cond-false (f.position == p) (record f { done = true }) f e)) (ap (λ t. t && not f.done) e)
+
+module _ (g : Setting) (site : ℕ) (k : DispatcherKept) (l : DispatcherLive) where
+  -- a joiner's word that there is no query yet ends a trial
+  told_works : (p n : ℕ) (from : Node) (o : Option Note) → IsTried g l p → DispatcherWorks l (dispatcher_turn g site k l (Deliver from (Joined p (NoQuery n)))).live o
+  told_works p n from o t =
+      cond_both (waits l.fresh p) _ _ (λ (x : Out DispatcherLive). DispatcherWorks l x.live o)
+      (λ e. inl (inr (p, e, marked_waits l.fresh p)))
+      (λ e. cond_both (has l.trying p) _ (idle l) (λ (x : Out DispatcherLive). DispatcherWorks l x.live o)
+      (λ h. inr (inl (p, h, has_without-self l.trying p)))
+      (λ h. absurd (⊎_elim (λ a. true≢false (sym a ∙ e)) (λ (a : (has l.trying p ≡ true) × IsLineAt g p). true≢false (sym a.0 ∙ h)) t)))
+
+  abbrev pub SendsJoin : ℕ → List (To × Packet) → Type 0
+  SendsJoin p ps = (c : Click) × Mem (AnyJoiner site, Join p c) ps
+
+  fresh_sends : (fs : List Fresh) (p : ℕ) → waits fs p ≡ true → SendsJoin p (fresh_joins g site k l fs)
+  fresh_sends [] p e = absurd (true≢false (sym e))
+  fresh_sends (f ∷ fs) p e = go f.done refl (or_cases ((f.position == p) && not f.done) (waits fs p) e) (fresh_sends fs p)
+    where
+      go : (b : Bool) → f.done ≡ b → (((f.position == p) && not f.done) ≡ true) ⊎ (waits fs p ≡ true) → (waits fs p ≡ true → SendsJoin p (fresh_joins g site k l fs)) → SendsJoin p (cond b (fresh_joins g site k l fs) (join site f.position f.click ∷ fresh_joins g site k l fs))
+      go true d (inl q) ih = absurd (true≢false (sym (and_parts (f.position == p) (not f.done) q).1 ∙ not_from_true f.done d))
+      go true d (inr q) ih = ih q
+      go false d (inl q) ih = (f.click, inl (ap (λ x. (AnyJoiner site, Join x f.click)) (eqb-true f.position p (and_parts (f.position == p) (not f.done) q).0)))
+      go false d (inr q) ih = let h = ih q in (h.0, inr h.1)
+
+  trying_sends : (ps : List ℕ) (p : ℕ) → has ps p ≡ true → IsLineAt g p → SendsJoin p (trying_joins g site k l ps)
+  trying_sends [] p e line = absurd (true≢false (sym e))
+  trying_sends (q ∷ ps) p e line = go (or_cases (q == p) (has ps p) e) (λ h. trying_sends ps p h line)
+    where
+      more : (o : Option ClickLine) → SendsJoin p (trying_joins g site k l ps) → SendsJoin p (join_if g site k l q o (trying_joins g site k l ps))
+      more None h = h
+      more (Some c) h = (h.0, inr h.1)
+
+      go : ((q == p) ≡ true) ⊎ (has ps p ≡ true) → (has ps p ≡ true → SendsJoin p (trying_joins g site k l ps)) → SendsJoin p (join_if g site k l q (at g.clicks q) (trying_joins g site k l ps))
+      go (inl h) ih =
+          let same = eqb-true q p h in
+          subst (λ o. SendsJoin p (join_if g site k l q o (trying_joins g site k l ps))) (sym (ap (at g.clicks) same ∙ line.1)) (line.0.click, inl (ap (λ x. (AnyJoiner site, Join x line.0.click)) same))
+      go (inr h) ih = more (at g.clicks q) (ih h)
+
+  tick_sends : (p : ℕ) → IsTried g l p → SendsJoin p (dispatcher_turn g site k l Tick).packets
+  tick_sends p (inl t) = let h = fresh_sends l.fresh p t in (h.0, mem_left _ (fresh_joins g site k l l.fresh) (trying_joins g site k l l.trying) h.1)
+  tick_sends p (inr t) = let h = trying_sends l.trying p t.0 t.1 in (h.0, mem_right _ (fresh_joins g site k l l.fresh) (trying_joins g site k l l.trying) h.1)
+
+-- ---- a joiner's turn that takes a Join
+
+module _ (g : Setting) (j : ℕ) (k : JoinerKept) (l : JoinerLive) where
+  -- a join is in flight then, or the dispatcher is told that there is no query yet
+  abbrev Taken : ℕ → Out JoinerLive → Type 0
+  Taken p o = ((f : Flight) × Mem f o.live.flight) ⊎ ((n : ℕ) × Mem (Only (Dispatcher (site_of_joiner g j)), Joined p (NoQuery n)) o.packets)
+
+  some_flight : (fs : List Flight) (i : EventId) → in_flight fs i ≡ true → (f : Flight) × Mem f fs
+  some_flight [] i e = absurd (true≢false (sym e))
+  some_flight (f ∷ fs) i e = (f, inl refl)
+
+  many_flights : (fs : List Flight) → nat_lt (length fs) 32 ≡ false → (f : Flight) × Mem f fs
+  many_flights [] e = absurd (true≢false (sym (lt-ltb 0 32 (lit< tt)) ∙ e))
+  many_flights (f ∷ fs) e = (f, inl refl)
+
+  join_taken : (p : ℕ) (c : Click) (from : Node) → l.number < 2 ^ 64 - 1 → Taken p (joiner_turn g j k l (Deliver from (Join p c)))
+  join_taken p c from low =
+      cond_both (in_flight l.flight c.id) (idle l) _ (Taken p) (λ e. inl (some_flight l.flight c.id e))
+      (λ _. cond_both (nat_lt (length l.flight) 32) _ _ (Taken p)
+      (λ _. option_both (first g.queries c.query) (looks g j k l p c) (Taken p)
+      (λ q _. cond_both (nat_lt l.number (2 ^ 64 - 1)) _ (idle l) (Taken p)
+      (λ _. inl (record { position = p; click = c; query = q; token = record { joiner = j; epoch = k.epoch; number = l.number } }, mem_right _ l.flight _ (inl refl)))
+      (λ e. absurd (true≢false (sym (lt-ltb l.number (2 ^ 64 - 1) low) ∙ e))))
+      (λ _. inr (length g.queries, inl refl)))
+      (λ e. inl (many_flights l.flight e)))
+
+module _ (g : Setting) (dead : ℕ → Bool) (table : Rattle.time_shards.specs.Shards.IsTable g.table) (w : World) (air next : List Sent) (e : Entry) (es : List Entry) (step : Step g dead w air next e) where
+  dispatcher_works : (s : ℕ) (l : DispatcherLive) → (w.dispatchers s).live ≡ Some l → IsEnd e (Dispatcher s) → ((o : Option Note) → DispatcherWorks l (dispatcher_row g s (w.dispatchers s)).live o) → ⊥
+  dispatcher_works s l up (o, ps, kept, q) works =
+      step.idle (subst (λ (x : Entry). IsWork g w x) (sym q)
+      (both_up (λ a b. DispatcherWorks a b o) (w.dispatchers s).live ((after g w (End (Dispatcher s) o ps kept)).dispatchers s).live l (dispatcher_row g s (w.dispatchers s)).live up (dispatcher_now g w (End (Dispatcher s) o ps kept) s (o, ps, kept, refl)) (works o)))
+
+  dispatcher_row_of : (s : ℕ) (l : DispatcherLive) → (w.dispatchers s).live ≡ Some l → (i : Input) → opened_at w (Dispatcher s) ≡ Some i → dispatcher_row g s (w.dispatchers s) ≡ dispatcher_turn g s (w.dispatchers s).kept l i
+  dispatcher_row_of s l up i o = ap (λ (x : Option DispatcherLive). row dispatcher_start (dispatcher_turn g s) (w.dispatchers s).kept x (w.dispatchers s).opened) up ∙ ap (λ (x : Option Input). row dispatcher_start (dispatcher_turn g s) (w.dispatchers s).kept (Some l) x) o
+
+  joiner_row_of : (j : ℕ) (l : JoinerLive) → (w.joiners j).live ≡ Some l → (i : Input) → opened_at w (Joiner j) ≡ Some i → joiner_row g j (w.joiners j) ≡ joiner_turn g j (w.joiners j).kept l i
+  joiner_row_of j l up i o = ap (λ (x : Option JoinerLive). row joiner_start (joiner_turn g j) (w.joiners j).kept x (w.joiners j).opened) up ∙ ap (λ (x : Option Input). row joiner_start (joiner_turn g j) (w.joiners j).kept (Some l) x) o
+
+  tried_stays : (s p : ℕ) → HasTried g w s p → HasTried g (after g w e) s p
+  tried_stays s p (l, up, t) =
+      ⊎_elim (λ same. (l, same ∙ up, t))
+      (λ (h : IsEnd e (Dispatcher s) × (((after g w e).dispatchers s).live ≡ Some (dispatcher_row g s (w.dispatchers s)).live)). ⊎_elim
+      (λ k. ((dispatcher_row g s (w.dispatchers s)).live, h.1, k))
+      (λ works. absurd (dispatcher_works s l up h.0 works))
+      (either (dispatcher_row g s (w.dispatchers s)).live))
+      (dispatcher_live g w e s (step_goes g dead w air next e step))
+    where
+      either : (b : DispatcherLive) → IsTried g b p ⊎ ((o : Option Note) → DispatcherWorks l b o)
+      either b = kinds t
+        where
+          kinds : IsTried g l p → IsTried g b p ⊎ ((o : Option Note) → DispatcherWorks l b o)
+          kinds (inl t) = ⊎_elim (λ k. inl (inl k)) (λ k. inr (λ o. inl (inr (p, t, k)))) (cases_Bool (waits b.fresh p))
+          kinds (inr t) = ⊎_elim (λ k. inl (inr (k, t.1))) (λ k. inr (λ o. inr (inl (p, t.0, k)))) (cases_Bool (has b.trying p))
+
+  -- a Join goes to a joiner of the site
+  to_joiner : (s p : ℕ) (c : Click) (to : Node) → IsTo g (AnyJoiner s) to → (Rattle.progress_laws.specs.Idle.is_out dead to ≡ false → Underway (after g w e) next (record { from = Dispatcher s; to = to; packet = Join p c })) → IsJoinUnderway g (after g w e) next es s p
+  to_joiner s p c (Joiner j) is u = (j, Dispatcher s, c, is.0, is.1, u refl)
+  to_joiner s p c (Dispatcher j) is u = absurd is
+  to_joiner s p c (Server j) is u = absurd is
+  to_joiner s p c (Replica j) is u = absurd is
+
+  abbrev Goes : ℕ → ℕ → Type 0
+  Goes s p = (HasTick (after g w e) es (Dispatcher s) ⊎ IsJoinUnderway g (after g w e) next es s p) ⊎ (HasFlight g (after g w e) s ⊎ IsTold g (after g w e) next es s p)
+
+  -- a joiner took the Join
+  taken : (s p j : ℕ) (c : Click) (from : Node) → IsJoiner g j → site_of_joiner g j ≡ s → (l : JoinerLive) → (w.joiners j).live ≡ Some l → IsEnd e (Joiner j) → opened_at w (Joiner j) ≡ Some (Deliver from (Join p c)) → HasFlight g (after g w e) s ⊎ IsTold g (after g w e) next es s p
+  taken s p j c from is site l up end o =
+      ⊎_elim
+      (λ (f : (f : Flight) × Mem f (joiner_row g j (w.joiners j)).live.flight). inl (j, (joiner_row g j (w.joiners j)).live, f.0, is, site, joiner_now g w e j end, f.1))
+      (λ (n : (n : ℕ) × Mem (Only (Dispatcher (site_of_joiner g j)), Joined p (NoQuery n)) (joiner_row g j (w.joiners j)).packets). inr (
+        Joiner j,
+        n.0,
+        subst (λ t. Underway (after g w e) next (record { from = Joiner j; to = Dispatcher t; packet = Joined p (NoQuery n.0) })) site
+            (row_sent_to g dead w air next e step (Joiner j) (joiner_row g j (w.joiners j)).packets (λ o ps kept q. q.1.2) end (Dispatcher (site_of_joiner g j)) (Joined p (NoQuery n.0)) n.1 refl),
+      ))
+      (subst (Taken g j (w.joiners j).kept l p) (sym (joiner_row_of j l up (Deliver from (Join p c)) o)) (join_taken g j (w.joiners j).kept l p c from low))
+    where
+      low : l.number < 2 ^ 64 - 1
+      low = subst (Rattle.photon_model.specs.Facts.IfUp (λ (x : JoinerLive). x.number < 2 ^ 64 - 1)) up (step.limits.tokens j is)
+
+  moves : (s p : ℕ) → TrialGoesOn g w air (e ∷ es) s p → Goes s p
+  moves s p h = go h.goes
+    where
+      go : (HasTick w (e ∷ es) (Dispatcher s) ⊎ IsJoinUnderway g w air (e ∷ es) s p) ⊎ (HasFlight g w s ⊎ IsTold g w air (e ∷ es) s p) → Goes s p
+      go (inl (inl t)) =
+          ⊎_elim (λ k. inl (inl k))
+          (λ (q : IsEnd e (Dispatcher s) × (opened_at w (Dispatcher s) ≡ Some Tick)).
+          let l = h.tried.0 in
+          let c = tick_sends g s (w.dispatchers s).kept l p h.tried.2 in
+          let row_is = dispatcher_row_of s l h.tried.1 Tick q.1 in
+          let x = row_sent g dead w air next e step (Dispatcher s) (dispatcher_row g s (w.dispatchers s)).packets (λ o ps kept q. q.1.2) q.0 (AnyJoiner s, Join p c.0) (subst (λ (o : Out DispatcherLive). Mem (AnyJoiner s, Join p c.0) o.packets) (sym row_is) c.1) in
+          inl (inr (to_joiner s p c.0 x.0 x.1 x.2)))
+          (tick_goes_on g dead w air next e step es (Dispatcher s) t)
+      go (inl (inr (j, from, c, is, site, u))) =
+          ⊎_elim (λ k. inl (inr (j, from, c, is, site, k)))
+          (λ (q : IsEnd e (Joiner j) × (opened_at w (Joiner j) ≡ Some (Deliver from (Join p c)))). let v = h.up j is in inr (taken s p j c from is site v.0 v.1 q.0 q.1))
+          (goes_on g dead w air next e step (record { from = from; to = Joiner j; packet = Join p c }) u)
+      go (inr (inl f)) = inr (inl (flight_stays g dead table w air next e es step s f))
+      go (inr (inr (from, n, u))) =
+          ⊎_elim (λ k. inr (inr (from, n, k)))
+          (λ (q : IsEnd e (Dispatcher s) × (opened_at w (Dispatcher s) ≡ Some (Deliver from (Joined p (NoQuery n))))).
+          let row_is = dispatcher_row_of s h.tried.0 h.tried.1 (Deliver from (Joined p (NoQuery n))) q.1 in
+          absurd (dispatcher_works s h.tried.0 h.tried.1 q.0 (λ o. subst (λ (x : Out DispatcherLive). DispatcherWorks h.tried.0 x.live o) (sym row_is) (told_works g s (w.dispatchers s).kept h.tried.0 p n from o h.tried.2))))
+          (goes_on g dead w air next e step (record { from = from; to = Dispatcher s; packet = Joined p (NoQuery n) }) u)
+
+  pub trial_goes_on : (s p : ℕ) → TrialGoesOn g w air (e ∷ es) s p → TrialGoesOn g (after g w e) next es s p
+  trial_goes_on s p h =
+      record {
+        up = λ j is. let u = h.up j is in ⊎_elim
+            (λ same. (u.0, same ∙ u.1))
+            (λ (q : IsEnd e (Joiner j) × (((after g w e).joiners j).live ≡ Some (joiner_row g j (w.joiners j)).live)). ((joiner_row g j (w.joiners j)).live, q.1))
+            (joiner_live g w e j (step_goes g dead w air next e step));
+        tried = tried_stays s p h.tried;
+        goes = moves s p h;
+      }
+
+-- ---- along an interval
+
+tried_unfinished : (g : Setting) (l : DispatcherLive) (p : ℕ) → IsTried g l p → dispatcher_unfinished l ≡ true
+tried_unfinished g l p (inl t) = or_left (some_waits l.fresh) _ (some l.fresh t)
+  where
+    some : (fs : List Fresh) → waits fs p ≡ true → some_waits fs ≡ true
+    some [] e = absurd (true≢false (sym e))
+    some (f ∷ fs) e =
+        ⊎_elim (λ a. or_left (not f.done) (some_waits fs) (and_parts (f.position == p) (not f.done) a).1)
+        (λ a. or_right (not f.done) (some_waits fs) (some fs a))
+        (or_cases ((f.position == p) && not f.done) (waits fs p) e)
+tried_unfinished g l p (inr t) = or_right (some_waits l.fresh) _ (some l.trying t.0)
+  where
+    some : (ps : List ℕ) → has ps p ≡ true → not (Rattle.turn_defs.specs.Turns.is_empty ps) ≡ true
+    some [] e = absurd (true≢false (sym e))
+    some (x ∷ ps) e = refl
+
+module _ (g : Setting) (dead : ℕ → Bool) (table : Rattle.time_shards.specs.Shards.IsTable g.table) (w : World) (es : List Entry) (i : IsIdle g dead w es) where
+  begins : (s p : ℕ) → s < 2 → HasTried g w s p → TrialGoesOn g w [] es s p
+  begins s p lt t =
+      record {
+        up = λ j is. let u = up_is _ (w.joiners j).live (i.interval.starts.joiners j is).1 in (u.0, u.1);
+        tried = t;
+        goes = inl (inl (comes g dead w es (Dispatcher s) i.interval lt (ap (λ (o : Option DispatcherLive). if_up dispatcher_unfinished o) t.1 ∙ tried_unfinished g t.0 p t.2)));
+      }
+
+  pub tries : (s p : ℕ) → s < 2 → HasTried g w s p → HasFlight g (world_after g w es) s
+  tries s p lt t = only (along_idle g dead (λ w air es. TrialGoesOn g w air es s p) (λ w air next e es step h. trial_goes_on g dead table w air next e es step s p h) es w i (begins s p lt t)).goes
+    where
+      q : IsQuiet g dead (world_after g w es)
+      q = i.interval.ends
+
+      only : (HasTick (world_after g w es) [] (Dispatcher s) ⊎ IsJoinUnderway g (world_after g w es) [] [] s p) ⊎ (HasFlight g (world_after g w es) s ⊎ IsTold g (world_after g w es) [] [] s p) → HasFlight g (world_after g w es) s
+      only (inl (inl t)) = absurd (passes g dead (world_after g w es) (Dispatcher s) q lt refl t)
+      only (inl (inr (j, from, c, is, site, u))) = absurd (arrives g dead (world_after g w es) (record { from = from; to = Joiner j; packet = Join p c }) q is refl u)
+      only (inr (inl f)) = f
+      only (inr (inr (from, n, u))) = absurd (arrives g dead (world_after g w es) (record { from = from; to = Dispatcher s; packet = Joined p (NoQuery n) }) q lt refl u)

@@ -1,0 +1,71 @@
+-- What is left to do at a server stays so where nothing is learned; and an insert that comes is answered, or waits.
+use Rattle.std.proofs.Common.{◌≡◌, ◌⊎◌, inl, inr, ⊎_elim, ℕ, ◌<◌, true, ◌||◌, ◌==◌, nat_lt, nat_le, List, ◌∷◌, ◌++◌, length, Some, None, refl, sym, ap, ◌∙◌, subst, []}
+use Rattle.std.specs.Prelude.{Option, not}
+use Rattle.std.proofs.lemmas.Bool.{cond_both, cond-true, eq-eqb, or_cases, or_left, or_right, true≢false}
+use Rattle.registry_state.specs.declared.Insert.{Insert}
+use Rattle.registry_state.specs.declared.Token.{Token}
+use Rattle.registry_state.specs.declared.Answer.{Answer}
+use Rattle.registry_state.specs.LookBack.{bound_of, replay}
+use Rattle.list_words.specs.Lists.{Mem}
+use Rattle.list_words.proofs.Lists.{mem_right}
+use Rattle.turn_defs.specs.Setting.{Setting, shard, shards}
+use Rattle.turn_defs.specs.Turns.{Out, idle, is_empty}
+use Rattle.turn_defs.specs.declared.packet.Packet.TheVariants.{Reply}
+use Rattle.turn_defs.specs.declared.node.Node.{Node}
+use Rattle.turn_defs.specs.declared.node.Node.TheVariants.{Joiner}
+use Rattle.turn_defs.specs.declared.node.To.TheVariants.{Only}
+use Rattle.turn_defs.specs.Server.{ServerKept, ServerLive, ShardState, queued, is_own_joiner, claimed, server_gets}
+use Rattle.photon_model.specs.Runs.{World}
+use Rattle.progress_laws.specs.Moves.{is_left}
+use Rattle.progress_laws.proofs.Turning.{Same}
+use Rattle.turn_defs.specs.declared.packet.Packet.TheVariants as packet
+
+-- something is left to do in a shard of the table
+abbrev pub IsLeftIn : Setting → ServerLive → Type 0
+IsLeftIn g l = (k : ℕ) × (k < shards g) × (is_left g (l.shards k) ≡ true)
+
+-- the site's server is up, and something is left to do in one of its shards
+abbrev pub IsLeftAt : Setting → World → ℕ → Type 0
+IsLeftAt g w s = (l : ServerLive) × ((w.servers s).live ≡ Some l) × IsLeftIn g l
+
+some_empty : (xs : List Insert) (x : Insert) → Mem x xs → not (is_empty xs) ≡ true
+some_empty [] x m = absurd m
+some_empty (y ∷ xs) x m = refl
+
+some_waits : (xs : List Insert) → not (is_empty xs) ≡ true → (x : Insert) × Mem x xs
+some_waits [] e = absurd (true≢false (sym e))
+some_waits (x ∷ xs) e = (x, inl refl)
+
+-- where an insert waits something is left to do
+pub waits_left : (g : Setting) (st : ShardState) (x : Insert) → Mem x st.queue → is_left g st ≡ true
+waits_left g st x m = or_left (not (is_empty st.queue)) (nat_lt (bound_of st.learned) g.horizon) (some_empty st.queue x m)
+
+-- and what is left stays so where nothing is learned
+pub still_left : (g : Setting) (st now : ShardState) → Same st now → is_left g st ≡ true → is_left g now ≡ true
+still_left g st now same e =
+    ⊎_elim
+    (λ q. let x = some_waits st.queue q in waits_left g now x.0 (same.1 x.0 x.1))
+    (λ b. or_right (not (is_empty now.queue)) (nat_lt (bound_of now.learned) g.horizon) (ap (λ vs. nat_lt (bound_of vs) g.horizon) same.0 ∙ b))
+    (or_cases (not (is_empty st.queue)) (nat_lt (bound_of st.learned) g.horizon) e)
+
+module _ (g : Setting) (site : ℕ) (k : ServerKept) (l : ServerLive) where
+  -- an insert that comes is answered, or inserts wait in its shard
+  abbrev pub Heard : Insert → Out ServerLive → Type 0
+  Heard x o = ((a : Answer) × Mem (Only (Joiner x.token.joiner), Reply x a) o.packets) ⊎ ((y : Insert) × Mem y (o.live.shards (shard g x.id)).queue)
+
+  queued_some : (xs : List Insert) (t : Token) → (queued xs t || nat_le 4096 (length xs)) ≡ true → (y : Insert) × Mem y xs
+  queued_some [] t e = absurd (true≢false (sym e))
+  queued_some (y ∷ xs) t e = (y, inl refl)
+
+  pub insert_heard : (from : Node) (x : Insert) → is_own_joiner g site x.token.joiner ≡ true → Heard x (server_gets g site k l from (packet.Insert x))
+  insert_heard from x own = go (replay (l.shards (shard g x.id)).learned x.id x.token)
+    where
+      s : ℕ
+      s = shard g x.id
+
+      go : (o : Option Answer) → Heard x (claimed g site k l x s (l.shards s) o)
+      go (Some a) = inl (a, subst (Mem (Only (Joiner x.token.joiner), Reply x a)) (sym (cond-true (is_own_joiner g site x.token.joiner) ((Only (Joiner x.token.joiner), Reply x a) ∷ []) [] own)) (inl refl))
+      go None =
+          cond_both (queued (l.shards s).queue x.token || nat_le 4096 (length (l.shards s).queue)) (idle l) _ (Heard x)
+          (λ e. inr (queued_some (l.shards s).queue x.token e))
+          (λ _. inr (x, subst (λ (c : ShardState). Mem x c.queue) (sym (cond-true (s == s) (record (l.shards s) { queue = (l.shards s).queue ++ x ∷ [] }) (l.shards s) (eq-eqb s s refl))) (mem_right x (l.shards s).queue (x ∷ []) (inl refl))))
