@@ -233,7 +233,7 @@ passed dead x (y ∷ xs) m = go (to_live dead y) refl m (passed dead x xs)
     go true e (inr k) ih = let h = ih k in (inr h.0, h.1)
     go false e k ih = let h = ih k in (inr h.0, h.1)
 
-not_out : (b : Bool) → not b ≡ true → b ≡ false
+pub not_out : (b : Bool) → not b ≡ true → b ≡ false
 not_out true e = absurd (true≢false (sym e))
 not_out false e = refl
 

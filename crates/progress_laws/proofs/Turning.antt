@@ -43,9 +43,15 @@ Same st now = (now.learned ≡ st.learned) × ((x : Insert) → Mem x st.queue �
 abbrev pub Keeps : ShardState → ShardState → Type 0
 Keeps st now = (ballot_in now.proposal ≡ ballot_in st.proposal) × (st.held ≡ false → now.held ≡ false)
 
+-- what a server may learn a value of
+abbrev pub teaches : Input → Bool
+teaches (Deliver from (Chosen at v)) = true
+teaches (Deliver from (Accepted at b)) = true
+teaches _ = false
+
 -- a value is learned, and no attempt stands
-abbrev pub Learns : ShardState → ShardState → Type 0
-Learns st now = (length st.learned < length now.learned) × (now.proposal ≡ None)
+abbrev pub Learns : Input → ShardState → ShardState → Type 0
+Learns i st now = (length st.learned < length now.learned) × (now.proposal ≡ None) × (teaches i ≡ true)
 
 -- an attempt stands at the place, with the ballot
 abbrev pub Stands : (ℕ → ShardState) → Place → Ballot → Type 0
@@ -87,7 +93,7 @@ module _ (g : Setting) (site : ℕ) (k : ServerKept) (l : ServerLive) where
   Fate i round n st now = Keeps st now ⊎ (Draws st now ⊎ IsRefused i round n st now)
 
   abbrev pub Turned : Input → ℕ → ℕ → ShardState → ShardState → Type 0
-  Turned i round n st now = (Same st now × Fate i round n st now) ⊎ Learns st now
+  Turned i round n st now = (Same st now × Fate i round n st now) ⊎ Learns i st now
 
   -- what a turn makes of the server
   pub record Turns (i : Input) (o : Out ServerLive) : Type 0 where
@@ -120,8 +126,8 @@ module _ (g : Setting) (site : ℕ) (k : ServerKept) (l : ServerLive) where
   to_from_asks f r zero p h = tt
   to_from_asks f r (suc m) p h = (h, to_from_asks f (suc r) m p h)
 
-  learned : (i : Input) (ps : List (To × Packet)) (s : ℕ) (v : Batch) → AllAsk (set_at l.shards s (learns g site (l.shards s) v)) ps → Turns i (record { note = None; packets = ps; live = record { round = l.round; shards = set_at l.shards s (learns g site (l.shards s) v) } })
-  learned i ps s v asks = sets i ps l.round s (learns g site (l.shards s) v) (omega arith) (inr (let long : length ((l.shards s).learned ++ v ∷ []) ≡ length (l.shards s).learned + 1 = length-append (l.shards s).learned (v ∷ []) in omega (arith, long), refl)) asks
+  learned : (i : Input) → teaches i ≡ true → (ps : List (To × Packet)) (s : ℕ) (v : Batch) → AllAsk (set_at l.shards s (learns g site (l.shards s) v)) ps → Turns i (record { note = None; packets = ps; live = record { round = l.round; shards = set_at l.shards s (learns g site (l.shards s) v) } })
+  learned i tells ps s v asks = sets i ps l.round s (learns g site (l.shards s) v) (omega arith) (inr (let long : length ((l.shards s).learned ++ v ∷ []) ≡ length (l.shards s).learned + 1 = length-append (l.shards s).learned (v ∷ []) in omega (arith, long), refl, tells)) asks
 
   claimed_turns : (i : Input) (x : Insert) (s : ℕ) (o : Option Answer) → Turns i (claimed g site k l x s (l.shards s) o)
   claimed_turns i x s (Some a) = stays i (reply g site x a) (reply_asks l.shards x a)
@@ -166,9 +172,9 @@ module _ (g : Setting) (site : ℕ) (k : ServerKept) (l : ServerLive) where
   promised_turns i at p e next phase None = goes i at p phase [] e tt
   promised_turns i at p e next phase (Some v) = goes i at p phase (to_replicas g.replicas (Accept at p.ballot v)) e (to_from_asks (set_at l.shards at.shard (record (l.shards at.shard) { proposal = Some (record { ballot = p.ballot; own = p.own; phase = phase }) })) 0 g.replicas (Accept at p.ballot v) (stands_at at (record (l.shards at.shard) { proposal = Some (record { ballot = p.ballot; own = p.own; phase = phase }) }) p.ballot next refl))
 
-  accepted_turns : (i : Input) (at : Place) (p : Proposal) → (l.shards at.shard).proposal ≡ Some p → (phase : Phase Batch) (o : Option Batch) → Turns i (accepted g site k l at (l.shards at.shard) p phase o)
-  accepted_turns i at p e phase None = goes i at p phase [] e tt
-  accepted_turns i at p e phase (Some v) = learned i ((Only (Server (1 - site)), Chosen at v) ∷ replies g site ((l.shards at.shard).learned ++ v ∷ []) (l.shards at.shard).queue) at.shard v (tt, replies_ask (set_at l.shards at.shard (learns g site (l.shards at.shard) v)) ((l.shards at.shard).learned ++ v ∷ []) (l.shards at.shard).queue)
+  accepted_turns : (i : Input) → teaches i ≡ true → (at : Place) (p : Proposal) → (l.shards at.shard).proposal ≡ Some p → (phase : Phase Batch) (o : Option Batch) → Turns i (accepted g site k l at (l.shards at.shard) p phase o)
+  accepted_turns i tells at p e phase None = goes i at p phase [] e tt
+  accepted_turns i tells at p e phase (Some v) = learned i tells ((Only (Server (1 - site)), Chosen at v) ∷ replies g site ((l.shards at.shard).learned ++ v ∷ []) (l.shards at.shard).queue) at.shard v (tt, replies_ask (set_at l.shards at.shard (learns g site (l.shards at.shard) v)) ((l.shards at.shard).learned ++ v ∷ []) (l.shards at.shard).queue)
 
   nacked_turns : (r : ℕ) (at : Place) (b c : Ballot) (p : Proposal) → (l.shards at.shard).proposal ≡ Some p → (next_of at.shard (l.shards at.shard) ≡ at) × (p.ballot ≡ b) → Turns (Deliver (Replica r) (Nack at b c)) (nacked g site k l at (l.shards at.shard) c)
   nacked_turns r at b c p e (next, same) =
@@ -179,7 +185,7 @@ module _ (g : Setting) (site : ℕ) (k : ServerKept) (l : ServerLive) where
   gets_turns from (packet.Insert x) = claimed_turns (Deliver from (packet.Insert x)) x (shard g x.id) (replay (l.shards (shard g x.id)).learned x.id x.token)
   gets_turns from (Chosen at v) =
       cond_both (is_next g at (l.shards at.shard) && is_below_limit at.slot) _ (idle l) (Turns (Deliver from (Chosen at v)))
-      (λ _. learned (Deliver from (Chosen at v)) (replies g site ((l.shards at.shard).learned ++ v ∷ []) (l.shards at.shard).queue) at.shard v (replies_ask (set_at l.shards at.shard (learns g site (l.shards at.shard) v)) ((l.shards at.shard).learned ++ v ∷ []) (l.shards at.shard).queue))
+      (λ _. learned (Deliver from (Chosen at v)) refl (replies g site ((l.shards at.shard).learned ++ v ∷ []) (l.shards at.shard).queue) at.shard v (replies_ask (set_at l.shards at.shard (learns g site (l.shards at.shard) v)) ((l.shards at.shard).learned ++ v ∷ []) (l.shards at.shard).queue))
       (λ _. idles (Deliver from (Chosen at v)))
   gets_turns (Replica r) (Promise at b prior) =
       option_both (l.shards at.shard).proposal (gets_promise g site k l r at b prior (l.shards at.shard)) (Turns (Deliver (Replica r) (Promise at b prior)))
@@ -190,7 +196,7 @@ module _ (g : Setting) (site : ℕ) (k : ServerKept) (l : ServerLive) where
   gets_turns (Replica r) (Accepted at b) =
       option_both (l.shards at.shard).proposal (gets_accepted g site k l r at b (l.shards at.shard)) (Turns (Deliver (Replica r) (Accepted at b)))
       (λ p e. cond_both (is_current g at b (l.shards at.shard) p) _ (idle l) (Turns (Deliver (Replica r) (Accepted at b)))
-      (λ _. accepted_turns (Deliver (Replica r) (Accepted at b)) at p e (on_accepted p.phase r).0 (on_accepted p.phase r).1)
+      (λ _. accepted_turns (Deliver (Replica r) (Accepted at b)) refl at p e (on_accepted p.phase r).0 (on_accepted p.phase r).1)
       (λ _. idles (Deliver (Replica r) (Accepted at b))))
       (λ _. idles (Deliver (Replica r) (Accepted at b)))
   gets_turns (Replica r) (Nack at b c) =

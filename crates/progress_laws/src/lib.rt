@@ -4,7 +4,7 @@
 
 ghost use Rattle.photon_model.specs.EveryRun.{AfterEveryRun};
 ghost use Rattle.progress_laws.specs.Moves.{HeldIsRefused, RestOrRefused, WorkMovesOn, WorkMovesOnBy};
-ghost use Rattle.progress_laws.specs.Rows.{CarriesOnce};
+ghost use Rattle.progress_laws.specs.Rows.{CarriesOnce, ThreeAreIdle};
 
 /// After every run work moves on. An interval in which nothing is done leaves a server held, by a promise that is older than
 /// it; and the next leaves one held at the same slot, by a promise not below the round drawn since. So no promise counts twice,
@@ -18,7 +18,9 @@ pub fn progress()
     photon_model::every_run();
 }
 
-/// A packet is carried once, after it was sent.
+/// A packet is carried once, after it was sent. With three replicas three idle intervals do follow one another, from a given
+/// world.
 pub fn examples()
-    ensures { CarriesOnce }
+    ensures carries { CarriesOnce }
+    ensures idle { ThreeAreIdle }
 {}
