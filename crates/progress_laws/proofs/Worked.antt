@@ -1,25 +1,36 @@
--- The worked intervals, entry by entry.
-use Rattle.std.proofs.Common.{◌≡◌, inl, inr, ⊎_elim, ℕ, zero, suc, ◌<◌, Bool, true, false, List, [], ◌∷◌, ◌++◌, length, Some, None, refl, sym, ap, ◌∙◌, subst, arith, lit<, lit≤}
-use Rattle.std.specs.Prelude.{⊤, ◌&&◌, not, Option}
-use Rattle.std.proofs.lemmas.Bool.{true≢false, and_parts}
-use Rattle.list_words.specs.Lists.{Mem}
-use Rattle.list_words.proofs.Lists.{mem_right}
+-- The worked intervals, computed.
+use Rattle.std.proofs.Common.{◌≡◌, inl, ⊎_elim, ℕ, zero, suc, ◌<◌, Bool, true, false, cond, ◌&&◌, nat_lt, List, [], ◌∷◌, ◌++◌, length, Some, None, refl, sym, ap, ◌∙◌, subst, arith, lit<}
+use Rattle.std.specs.Prelude.{⊤, not, is_some, filter, Option}
+use Rattle.std.proofs.lemmas.Bool.{true≢false, and_parts, ltb-true}
+use Rattle.ballot_core.specs.declared.Ballot.{Ballot}
+use Rattle.ballot_core.specs.Ballots.{is_same}
+use Rattle.ballot_core.proofs.Order.{same_true}
+use Rattle.paxos_defs.specs.declared.Place.{Place}
+use Rattle.paxos_defs.specs.Notes.{is_place}
+use Rattle.paxos_defs.proofs.Places.{place_true}
+use Rattle.list_words.specs.Lists.{Mem, option_or_else}
+use Rattle.list_words.proofs.Lists.{mem_right, none_some, some_same}
+use Rattle.turn_defs.specs.declared.packet.Packet.{Packet}
+use Rattle.turn_defs.specs.declared.packet.Packet.TheVariants.{Prepare, Promise, Nack}
 use Rattle.turn_defs.specs.declared.node.Node.{Node}
 use Rattle.turn_defs.specs.declared.node.Node.TheVariants.{Dispatcher, Server, Replica, Joiner}
+use Rattle.turn_defs.specs.declared.node.To.{To}
+use Rattle.turn_defs.specs.declared.node.To.TheVariants.{Only, AnyJoiner}
 use Rattle.turn_defs.specs.declared.node.Input.{Input}
-use Rattle.turn_defs.specs.Nodes.{IsNode}
-use Rattle.turn_defs.specs.Turns.{Out}
+use Rattle.turn_defs.specs.declared.node.Input.TheVariants.{Start, Own, Tick, Deliver}
+use Rattle.turn_defs.specs.Nodes.{IsNode, Addressed}
 use Rattle.turn_defs.specs.Sent.{Sent}
 use Rattle.turn_defs.specs.Setting.{IsJoiner, shards}
+use Rattle.turn_defs.specs.Turns.{Out, is_empty}
 use Rattle.turn_defs.specs.Dispatcher.{dispatcher_wants}
 use Rattle.turn_defs.specs.Server.{ServerLive, is_below_limit, server_wants, server_start, server_turn}
+use Rattle.photon_model.specs.Bus.{same_node}
 use Rattle.photon_model.specs.Facts.{IfUp}
-use Rattle.photon_model.specs.Runs.{World, Entry, Begin, End, Stop, row, server_row, after, world_after, IsRun}
+use Rattle.photon_model.specs.Runs.{Cell, World, Entry, Begin, End, Stop, Fits, WasSent, MayBegin, May, IsRun, row, dispatcher_row, server_row, replica_row, sends, after, world_after}
 use Rattle.photon_model.specs.Rest.{UpWith, BothUp, ServerWorks, IsWork, put_in, ticks_of, ticks_due, is_unfinished}
-use Rattle.photon_model.specs.Example.{entries}
-use Rattle.progress_laws.specs.Idle.{Carries, HasNumbers, IsQuiet, IsWithinLimits, NoWork}
-use Rattle.progress_laws.specs.Rows.{prepare, ballot, three, all_live, stale, first, second, third, CarriesOnce, ThreeAreIdle}
-use Rattle.progress_laws.proofs.Transit.{not_out}
+use Rattle.progress_laws.specs.Idle.{to_live, Carries, HasNumbers, IsQuiet, IsWithinLimits, NoWork, IsIdle}
+use Rattle.progress_laws.specs.Rows.{three, all_live, to_one, ends, plays, duel, restarts, beginning, down_again, stale, first, second, third, after_first, after_second, CarriesOnce, ThreeAreIdle}
+use Rattle.progress_laws.proofs.Transit.{opened_at, same_node-true, opens, not_out}
 use Rattle.progress_laws.proofs.Ending.{server_now}
 use Rattle.progress_laws.proofs.Turning.{teaches, turns}
 
@@ -51,7 +62,182 @@ carries_once =
       twice = λ (rest, p, (rest', q, c)). none_out _ rest' (subst (λ (a : List Sent). put_in _ rest' a) (one_out _ _ rest p) q);
     }
 
--- ---- three intervals
+-- ---- packets compared
+
+abbrev same_packet : Packet → Packet → Bool
+same_packet (Prepare p b) (Prepare q c) = is_place p q && is_same b c
+same_packet (Promise p b None) (Promise q c None) = is_place p q && is_same b c
+same_packet (Nack p b above) (Nack q c other) = (is_place p q && is_same b c) && is_same above other
+same_packet _ _ = false
+
+same_both : (P : Place → Ballot → Packet) (p q : Place) (b c : Ballot) → (is_place p q && is_same b c) ≡ true → P p b ≡ P q c
+same_both P p q b c e = let h = and_parts (is_place p q) (is_same b c) e in ap (λ x. P x b) (place_true p q h.0) ∙ ap (P q) (same_true b c h.1)
+
+same_packet-true : (x y : Packet) → same_packet x y ≡ true → x ≡ y
+same_packet-true (Prepare p b) (Prepare q c) e = same_both Prepare p q b c e
+same_packet-true (Promise p b None) (Promise q c None) e = same_both (λ p b. Promise p b None) p q b c e
+same_packet-true (Nack p b above) (Nack q c other) e =
+    let h = and_parts (is_place p q && is_same b c) (is_same above other) e in
+    same_both (λ p b. Nack p b above) p q b c h.0 ∙ ap (Nack q c) (same_true above other h.1)
+same_packet-true _ _ e = absurd (true≢false (sym e))
+
+abbrev same_sent : Sent → Sent → Bool
+same_sent x y = (same_node x.from y.from && same_node x.to y.to) && same_packet x.packet y.packet
+
+same_sent-true : (x y : Sent) → same_sent x y ≡ true → x ≡ y
+same_sent-true x y e =
+    let h = and_parts (same_node x.from y.from && same_node x.to y.to) (same_packet x.packet y.packet) e in
+    let n = and_parts (same_node x.from y.from) (same_node x.to y.to) h.0 in
+    let a = same_node-true x.from y.from n.0 in
+    let b = same_node-true x.to y.to n.1 in
+    let c = same_packet-true x.packet y.packet h.1 in
+    λ i. record { from = a i; to = b i; packet = c i }
+
+-- the list without the first such packet
+abbrev behind : Sent → Option (List Sent) → Option (List Sent)
+behind y None = None
+behind y (Some ys) = Some (y ∷ ys)
+
+abbrev without_one : Sent → List Sent → Option (List Sent)
+without_one x [] = None
+without_one x (y ∷ ys) = cond (same_sent y x) (Some ys) (behind y (without_one x ys))
+
+put_one : (x : Sent) (xs rest : List Sent) → without_one x xs ≡ Some rest → put_in x rest xs
+put_one x [] rest e = none_some rest e
+put_one x (y ∷ ys) rest e = go (same_sent y x) refl (without_one x ys) e (put_one x ys)
+  where
+    go : (b : Bool) → same_sent y x ≡ b → (o : Option (List Sent)) → cond b (Some ys) (behind y o) ≡ Some rest → ((more : List Sent) → o ≡ Some more → put_in x more ys) → put_in x rest (y ∷ ys)
+    go true t o q ih = ([], rest, refl, (λ i. same_sent-true y x t i ∷ some_same ys rest q i))
+    go false t None q ih = none_some rest q
+    go false t (Some more) q ih =
+        let h = ih more refl in
+        (y ∷ h.0, h.1, sym (some_same (y ∷ more) rest q) ∙ ap (λ zs. y ∷ zs) h.2, ap (λ zs. y ∷ zs) h.3)
+
+is_in : (x : Sent) (xs : List Sent) → is_some (without_one x xs) ≡ true → Mem x xs
+is_in x xs e = go (without_one x xs) refl e
+  where
+    go : (o : Option (List Sent)) → without_one x xs ≡ o → is_some o ≡ true → Mem x xs
+    go None q t = absurd (true≢false (sym t))
+    go (Some rest) q t = let h = put_one x xs rest q in subst (Mem x) (sym h.3) (mem_right x h.0 (x ∷ h.1) (inl refl))
+
+-- ---- what is played is a run
+
+abbrev is_fit : {L : Type 0} → Option L → Input → Bool
+is_fit None Start = true
+is_fit None _ = false
+is_fit (Some l) Start = false
+is_fit (Some l) _ = true
+
+fits : {L : Type 0} (o : Option L) (i : Input) → is_fit o i ≡ true → Fits o i
+fits None Start e = tt
+fits None Own e = absurd (true≢false (sym e))
+fits None Tick e = absurd (true≢false (sym e))
+fits None (Deliver n p) e = absurd (true≢false (sym e))
+fits (Some l) Start e = absurd (true≢false (sym e))
+fits (Some l) Own e = tt
+fits (Some l) Tick e = tt
+fits (Some l) (Deliver n p) e = tt
+
+abbrev is_sent : List Sent → Node → Input → Bool
+is_sent sent n (Deliver from p) = is_some (without_one (record { from = from; to = n; packet = p }) sent)
+is_sent sent n _ = true
+
+was_sent : (sent : List Sent) (n : Node) (i : Input) → is_sent sent n i ≡ true → WasSent sent n i
+was_sent sent n (Deliver from p) e = is_in (record { from = from; to = n; packet = p }) sent e
+was_sent sent n Start e = tt
+was_sent sent n Own e = tt
+was_sent sent n Tick e = tt
+
+abbrev is_closed : Option Input → Bool
+is_closed None = true
+is_closed (Some i) = false
+
+closed : (o : Option Input) → is_closed o ≡ true → o ≡ None
+closed None e = refl
+closed (Some i) e = absurd (true≢false (sym e))
+
+abbrev may_begin : {K L : Type 0} → Cell K L → List Sent → Node → Input → Bool
+may_begin c sent n i = is_closed c.opened && (is_fit c.live i && is_sent sent n i)
+
+begins : {K L : Type 0} (c : Cell K L) (sent : List Sent) (n : Node) (i : Input) → may_begin c sent n i ≡ true → MayBegin c sent n i
+begins c sent n i e =
+    let a = and_parts (is_closed c.opened) (is_fit c.live i && is_sent sent n i) e in
+    let b = and_parts (is_fit c.live i) (is_sent sent n i) a.1 in
+    (closed c.opened a.0, fits c.live i b.0, was_sent sent n i b.1)
+
+abbrev all_to_one : List (To × Packet) → Bool
+all_to_one [] = true
+all_to_one ((Only n, p) ∷ ps) = all_to_one ps
+all_to_one ((AnyJoiner s, p) ∷ ps) = false
+
+addressed : (ps : List (To × Packet)) → all_to_one ps ≡ true → Addressed three ps (to_one ps)
+addressed [] e = tt
+addressed ((Only n, p) ∷ ps) e = ((refl, refl), addressed ps e)
+addressed ((AnyJoiner s, p) ∷ ps) e = absurd (true≢false (sym e))
+
+abbrev can_begin : World → Node → Input → Bool
+can_begin w (Dispatcher s) i = nat_lt s 2 && may_begin (w.dispatchers s) w.sent (Dispatcher s) i
+can_begin w (Server s) i = nat_lt s 2 && may_begin (w.servers s) w.sent (Server s) i
+can_begin w (Replica r) i = nat_lt r 3 && may_begin (w.replicas r) w.sent (Replica r) i
+can_begin w (Joiner j) i = false
+
+abbrev can_end : World → Node → Bool
+can_end w (Dispatcher s) = all_to_one (dispatcher_row three s (w.dispatchers s)).packets
+can_end w (Server s) = all_to_one (server_row three s (w.servers s)).packets
+can_end w (Replica r) = all_to_one (replica_row (w.replicas r)).packets
+can_end w (Joiner j) = false
+
+begins_at : (w : World) (n : Node) (i : Input) → can_begin w n i ≡ true → IsNode three n × May three w (Begin n i)
+begins_at w (Dispatcher s) i e = let h = and_parts (nat_lt s 2) (may_begin (w.dispatchers s) w.sent (Dispatcher s) i) e in let lt = ltb-true s 2 h.0 in (lt, (lt, begins (w.dispatchers s) w.sent (Dispatcher s) i h.1))
+begins_at w (Server s) i e = let h = and_parts (nat_lt s 2) (may_begin (w.servers s) w.sent (Server s) i) e in let lt = ltb-true s 2 h.0 in (lt, (lt, begins (w.servers s) w.sent (Server s) i h.1))
+begins_at w (Replica r) i e = let h = and_parts (nat_lt r 3) (may_begin (w.replicas r) w.sent (Replica r) i) e in let lt = ltb-true r 3 h.0 in (lt, (lt, begins (w.replicas r) w.sent (Replica r) i h.1))
+begins_at w (Joiner j) i e = absurd (true≢false (sym e))
+
+ends_at : (w : World) (n : Node) → IsNode three n → (i : Input) → opened_at w n ≡ Some i → can_end w n ≡ true → May three w (ends w n)
+ends_at w (Dispatcher s) is i o e = (is, ((i, o), refl, addressed (dispatcher_row three s (w.dispatchers s)).packets e), omega arith)
+ends_at w (Server s) is i o e = (is, ((i, o), refl, addressed (server_row three s (w.servers s)).packets e), omega arith)
+ends_at w (Replica r) is i o e = (is, ((i, o), refl, addressed (replica_row (w.replicas r)).packets e), omega arith)
+ends_at w (Joiner j) is i o e = absurd (true≢false (sym e))
+
+abbrev begun : World → Node → Input → World
+begun w n i = after three w (Begin n i)
+
+abbrev are_played : World → List (Node × Input) → Bool
+are_played w [] = true
+are_played w ((n, i) ∷ ts) = can_begin w n i && (can_end (begun w n i) n && are_played (after three (begun w n i) (ends (begun w n i) n)) ts)
+
+played : (ts : List (Node × Input)) (w : World) → are_played w ts ≡ true → IsRun three w (plays w ts)
+played [] w e = tt
+played ((n, i) ∷ ts) w e =
+    let a = and_parts (can_begin w n i) (can_end (begun w n i) n && are_played (after three (begun w n i) (ends (begun w n i) n)) ts) e in
+    let b = and_parts (can_end (begun w n i) n) (are_played (after three (begun w n i) (ends (begun w n i) n)) ts) a.1 in
+    let h = begins_at w n i a.0 in
+    (h.1, (ends_at (begun w n i) n h.0 i (opens three w n i) b.0, played ts (after three (begun w n i) (ends (begun w n i) n)) b.1))
+
+-- ---- what is carried
+
+abbrev is_carried : List Sent → List Entry → Bool
+is_carried air [] = is_empty air
+is_carried air (Begin n (Deliver from p) ∷ es) = option_or_else false (λ rest. is_carried rest es) (without_one (record { from = from; to = n; packet = p }) air)
+is_carried air (Begin n _ ∷ es) = is_carried air es
+is_carried air (End n o ps kept ∷ es) = is_carried (filter (to_live all_live) (sends n ps) ++ air) es
+is_carried air (Stop n o ∷ es) = false
+
+carried : (es : List Entry) (air : List Sent) → is_carried air es ≡ true → Carries all_live air es
+carried [] [] e = refl
+carried [] (x ∷ air) e = absurd (true≢false (sym e))
+carried (Begin n (Deliver from p) ∷ es) air e = go (without_one (record { from = from; to = n; packet = p }) air) refl e (carried es)
+  where
+    go : (o : Option (List Sent)) → without_one (record { from = from; to = n; packet = p }) air ≡ o → option_or_else false (λ rest. is_carried rest es) o ≡ true → ((rest : List Sent) → is_carried rest es ≡ true → Carries all_live rest es) → (rest : List Sent) × put_in (record { from = from; to = n; packet = p }) rest air × Carries all_live rest es
+    go None q t ih = absurd (true≢false (sym t))
+    go (Some rest) q t ih = (rest, put_one (record { from = from; to = n; packet = p }) air rest q, ih rest t)
+carried (Begin n Start ∷ es) air e = carried es air e
+carried (Begin n Own ∷ es) air e = carried es air e
+carried (Begin n Tick ∷ es) air e = carried es air e
+carried (End n o ps kept ∷ es) air e = carried es (filter (to_live all_live) (sends n ps) ++ air) e
+carried (Stop n o ∷ es) air e = absurd (true≢false (sym e))
+
+-- ---- the setting's nodes
 
 two : (P : ℕ → Type 0) → P 0 → P 1 → (s : ℕ) → s < 2 → P s
 two P a b zero lt = a
@@ -148,18 +334,13 @@ calm (x ∷ es) w e =
     let rest = calm es (after three w x) b.1 in
     ((numbers w a.0, rest.0), (no_work w x b.0, rest.1))
 
--- the world when an interval begins or ends
+-- ---- the intervals
+
 quiet_at : (w : World) → ((s : ℕ) → s < 2 → ((w.dispatchers s).opened ≡ None) × UpWith (λ l. dispatcher_wants l ≡ false) (w.dispatchers s).live) → ((s : ℕ) → s < 2 → ((w.servers s).opened ≡ None) × UpWith (λ l. server_wants three l ≡ false) (w.servers s).live) → ((r : ℕ) → r < 3 → ((w.replicas r).opened ≡ None) × UpWith (λ l. ⊤) (w.replicas r).live) → IsQuiet three all_live w
 quiet_at w ds ss rs = record { dispatchers = ds; servers = ss; joiners = λ j is. absurd (no_joiner j is); replicas = λ r lt live. rs r lt; silent = λ r lt out. absurd (true≢false (sym out)) }
 
-abbrev after_first : World
-after_first = world_after three stale (entries first)
-
-abbrev after_second : World
-after_second = world_after three after_first (entries second)
-
 abbrev after_third : World
-after_third = world_after three after_second (entries third)
+after_third = world_after three after_second (plays after_second third)
 
 quiet_stale : IsQuiet three all_live stale
 quiet_stale = quiet_at stale (two _ (refl, refl) (refl, refl)) (two _ (refl, refl) (refl, refl)) (each_of_three _ (refl, tt) (refl, tt) (refl, tt))
@@ -173,54 +354,51 @@ quiet_after_second = quiet_at after_second (two _ (refl, refl) (refl, refl)) (tw
 quiet_after_third : IsQuiet three all_live after_third
 quiet_after_third = quiet_at after_third (two _ (refl, refl) (refl, refl)) (two _ (refl, refl) (refl, refl)) (each_of_three _ (refl, tt) (refl, tt) (refl, tt))
 
-run_first : IsRun three stale (entries first)
-run_first = ((lit< tt, (refl, tt, tt)), ((lit< tt, ((_, refl), refl, ((refl, refl), ((refl, refl), ((refl, refl), tt)))), lit≤ tt), ((lit< tt, (refl, tt, inl refl)), ((lit< tt, ((_, refl), refl, ((refl, refl), tt)), lit≤ tt), ((lit< tt, (refl, tt, inl refl)), ((lit< tt, ((_, refl), refl, tt), lit≤ tt), ((lit< tt, (refl, tt, inr (inr (inl refl)))), ((lit< tt, ((_, refl), refl, ((refl, refl), tt)), lit≤ tt), ((lit< tt, (refl, tt, inl refl)), ((lit< tt, ((_, refl), refl, tt), lit≤ tt), ((lit< tt, (refl, tt, inr (inr (inr (inr (inl refl)))))), ((lit< tt, ((_, refl), refl, ((refl, refl), tt)), lit≤ tt), ((lit< tt, (refl, tt, inl refl)), ((lit< tt, ((_, refl), refl, tt), lit≤ tt), tt))))))))))))))
-
-calm_first : IsWithinLimits three stale (entries first) × NoWork three stale (entries first)
-calm_first = calm (entries first) stale refl
-
-ticks_first : (n : Node) → IsNode three n → ticks_of n (entries first) ≡ ticks_due (is_unfinished three stale n)
+ticks_first : (n : Node) → IsNode three n → ticks_of n (plays stale first) ≡ ticks_due (is_unfinished three stale n)
 ticks_first = each_node _ (two _ refl refl) (two _ refl refl) (λ r. refl) (λ j. refl)
 
-carries_first : Carries all_live [] (entries first)
-carries_first = (_, ([], _, refl, refl), (_, ([], _, refl, refl), (_, ([], _, refl, refl), (_, ([], _, refl, refl), (_, ([], _, refl, refl), (_, ([], _, refl, refl), refl))))))
+idle_first : IsIdle three all_live stale (plays stale first)
+idle_first =
+    let h = calm (plays stale first) stale refl in
+    record {
+      run = played first stale refl;
+      interval = record { starts = quiet_stale; ends = quiet_after_first; carries = carried (plays stale first) [] refl; ticks = ticks_first };
+      limits = h.0;
+      no_work = h.1;
+    }
 
-run_second : IsRun three after_first (entries second)
-run_second = ((lit< tt, (refl, tt, tt)), ((lit< tt, ((_, refl), refl, tt), lit≤ tt), ((lit< tt, (refl, tt, tt)), ((lit< tt, ((_, refl), refl, ((refl, refl), ((refl, refl), ((refl, refl), tt)))), lit≤ tt), ((lit< tt, (refl, tt, inl refl)), ((lit< tt, ((_, refl), refl, ((refl, refl), tt)), lit≤ tt), ((lit< tt, (refl, tt, inl refl)), ((lit< tt, ((_, refl), refl, tt), lit≤ tt), ((lit< tt, (refl, tt, inr (inr (inl refl)))), ((lit< tt, ((_, refl), refl, ((refl, refl), tt)), lit≤ tt), ((lit< tt, (refl, tt, inl refl)), ((lit< tt, ((_, refl), refl, tt), lit≤ tt), ((lit< tt, (refl, tt, inr (inr (inr (inr (inl refl)))))), ((lit< tt, ((_, refl), refl, ((refl, refl), tt)), lit≤ tt), ((lit< tt, (refl, tt, inl refl)), ((lit< tt, ((_, refl), refl, tt), lit≤ tt), tt))))))))))))))))
-
-calm_second : IsWithinLimits three after_first (entries second) × NoWork three after_first (entries second)
-calm_second = calm (entries second) after_first refl
-
-ticks_second : (n : Node) → IsNode three n → ticks_of n (entries second) ≡ ticks_due (is_unfinished three after_first n)
+ticks_second : (n : Node) → IsNode three n → ticks_of n (plays after_first second) ≡ ticks_due (is_unfinished three after_first n)
 ticks_second = each_node _ (two _ refl refl) (two _ refl refl) (λ r. refl) (λ j. refl)
 
-carries_second : Carries all_live [] (entries second)
-carries_second = (_, ([], _, refl, refl), (_, ([], _, refl, refl), (_, ([], _, refl, refl), (_, ([], _, refl, refl), (_, ([], _, refl, refl), (_, ([], _, refl, refl), refl))))))
+idle_second : IsIdle three all_live after_first (plays after_first second)
+idle_second =
+    let h = calm (plays after_first second) after_first refl in
+    record {
+      run = played second after_first refl;
+      interval = record { starts = quiet_after_first; ends = quiet_after_second; carries = carried (plays after_first second) [] refl; ticks = ticks_second };
+      limits = h.0;
+      no_work = h.1;
+    }
 
-run_third : IsRun three after_second (entries third)
-run_third = ((lit< tt, (refl, tt, tt)), ((lit< tt, ((_, refl), refl, tt), lit≤ tt), ((lit< tt, (refl, tt, tt)), ((lit< tt, ((_, refl), refl, ((refl, refl), ((refl, refl), ((refl, refl), tt)))), lit≤ tt), ((lit< tt, (refl, tt, inr (inr (inl refl)))), ((lit< tt, ((_, refl), refl, ((refl, refl), tt)), lit≤ tt), ((lit< tt, (refl, tt, inl refl)), ((lit< tt, ((_, refl), refl, tt), lit≤ tt), ((lit< tt, (refl, tt, inr (inl refl))), ((lit< tt, ((_, refl), refl, ((refl, refl), tt)), lit≤ tt), ((lit< tt, (refl, tt, inl refl)), ((lit< tt, ((_, refl), refl, tt), lit≤ tt), ((lit< tt, (refl, tt, inr (inr (inr (inl refl))))), ((lit< tt, ((_, refl), refl, ((refl, refl), tt)), lit≤ tt), ((lit< tt, (refl, tt, inl refl)), ((lit< tt, ((_, refl), refl, tt), lit≤ tt), tt))))))))))))))))
-
-calm_third : IsWithinLimits three after_second (entries third) × NoWork three after_second (entries third)
-calm_third = calm (entries third) after_second refl
-
-ticks_third : (n : Node) → IsNode three n → ticks_of n (entries third) ≡ ticks_due (is_unfinished three after_second n)
+ticks_third : (n : Node) → IsNode three n → ticks_of n (plays after_second third) ≡ ticks_due (is_unfinished three after_second n)
 ticks_third = each_node _ (two _ refl refl) (two _ refl refl) (λ r. refl) (λ j. refl)
 
-carries_third : Carries all_live [] (entries third)
-carries_third = (_, (((record { from = Server 0; to = Replica 0; packet = prepare (ballot 5 2 0) }) ∷ (record { from = Server 0; to = Replica 1; packet = prepare (ballot 5 2 0) }) ∷ []), _, refl, refl), (_, ([], _, refl, refl), (_, ([], _, refl, refl), (_, ([], _, refl, refl), (_, ([], _, refl, refl), (_, ([], _, refl, refl), refl))))))
+idle_third : IsIdle three all_live after_second (plays after_second third)
+idle_third =
+    let h = calm (plays after_second third) after_second refl in
+    record {
+      run = played third after_second refl;
+      interval = record { starts = quiet_after_second; ends = quiet_after_third; carries = carried (plays after_second third) [] refl; ticks = ticks_third };
+      limits = h.0;
+      no_work = h.1;
+    }
 
 pub three_are_idle : ThreeAreIdle
 three_are_idle =
     record {
-      idle = (
-        record { run = run_first; interval = record { starts = quiet_stale; ends = quiet_after_first; carries = carries_first; ticks = ticks_first }; limits = calm_first.0; no_work = calm_first.1 },
-        (
-          record { run = run_second; interval = record { starts = quiet_after_first; ends = quiet_after_second; carries = carries_second; ticks = ticks_second }; limits = calm_second.0; no_work = calm_second.1 },
-          (
-            record { run = run_third; interval = record { starts = quiet_after_second; ends = quiet_after_third; carries = carries_third; ticks = ticks_third }; limits = calm_third.0; no_work = calm_third.1 },
-            tt,
-          ),
-        ),
-      );
+      first_lives = played duel beginning refl;
+      stop = ((lit< tt, (refl, tt, tt)), ((lit< tt, ((_, refl), inl refl)), ((lit< tt, (refl, tt, tt)), ((lit< tt, ((_, refl), inl refl)), tt))));
+      second_lives = played restarts down_again refl;
+      idle = (idle_first, (idle_second, (idle_third, tt)));
       work_is_left = λ r. true≢false (sym (r.servers 0 (lit< tt)));
     }

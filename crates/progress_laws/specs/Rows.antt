@@ -1,38 +1,31 @@
--- Intervals: a packet is carried once, and three idle intervals follow one another with three replicas.
-use Rattle.std.specs.Prelude.{ℕ, ◌+◌, ◌*◌, ◌==◌, Bool, true, false, List, [], ◌∷◌, Some, None, if◌then◌else◌}
+-- Worked intervals: a packet is carried once, and three idle intervals follow one another with three replicas.
+use Rattle.std.specs.Prelude.{ℕ, ◌==◌, Bool, false, List, [], ◌∷◌, length, None}
 use Rattle.ballot_core.specs.declared.Ballot.{Ballot}
-use Rattle.registry_state.specs.declared.Batch.{Batch}
 use Rattle.paxos_defs.specs.declared.Place.{Place}
-use Rattle.paxos_defs.specs.Notes.Note.{Promised}
-use Rattle.paxos_defs.specs.Attempts.{nobody}
-use Rattle.paxos_defs.specs.Attempts.Phase.{Promising}
 use Rattle.turn_defs.specs.Setting.{Setting}
-use Rattle.turn_defs.specs.Server.{ServerLive, empty_shard}
+use Rattle.turn_defs.specs.Turns.{Out}
 use Rattle.turn_defs.specs.declared.packet.Packet.{Packet}
 use Rattle.turn_defs.specs.declared.packet.Packet.TheVariants.{Prepare, Promise, Nack}
 use Rattle.turn_defs.specs.declared.node.Node.{Node}
-use Rattle.turn_defs.specs.declared.node.Node.TheVariants.{Server, Replica}
-use Rattle.turn_defs.specs.declared.node.Input.TheVariants.{Own, Tick, Deliver}
-use Rattle.turn_defs.specs.Turns.{Voted}
-use Rattle.photon_model.specs.Runs.{World, Entry, Begin, End}
+use Rattle.turn_defs.specs.declared.node.Node.TheVariants.{Dispatcher, Server, Replica, Joiner}
+use Rattle.turn_defs.specs.declared.node.To.{To}
+use Rattle.turn_defs.specs.declared.node.To.TheVariants.{Only, AnyJoiner}
+use Rattle.turn_defs.specs.declared.node.Input.{Input}
+use Rattle.turn_defs.specs.declared.node.Input.TheVariants.{Start, Own, Tick, Deliver}
+use Rattle.photon_model.specs.Stores.{empty_disks}
+use Rattle.photon_model.specs.Runs.{World, Entry, Begin, End, Stop, dispatcher_row, server_row, replica_row, joiner_row, after, world_after, IsRun, opening}
 use Rattle.photon_model.specs.Rest.{IsAtRest}
-use Rattle.photon_model.specs.Example.{Turn, turn, entries}
 use Rattle.progress_laws.specs.Idle.{Carries, AreIdle}
 
 abbrev pub place : Place
 place = record { shard = 0; slot = 0 }
 
+-- round, epoch and site
 abbrev pub ballot : ℕ → ℕ → ℕ → Ballot
 ballot round epoch site = record { round = round; epoch = epoch; site = site }
 
 abbrev pub prepare : Ballot → Packet
 prepare b = Prepare place b
-
-abbrev pub promise : Ballot → Packet
-promise b = Promise place b None
-
-abbrev pub nack : Ballot → Ballot → Packet
-nack b above = Nack place b above
 
 -- ---- one packet to two replicas, of which one takes no part
 
@@ -42,104 +35,160 @@ without_two r = r == 2
 abbrev pub sends_two : Entry
 sends_two = End (Server 0) None ((Replica 0, prepare (ballot 1 1 0)) ∷ (Replica 2, prepare (ballot 1 1 0)) ∷ []) 2
 
-abbrev pub takes : Entry
-takes = Begin (Replica 0) (Deliver (Server 0) (prepare (ballot 1 1 0)))
+abbrev pub arrives : Entry
+arrives = Begin (Replica 0) (Deliver (Server 0) (prepare (ballot 1 1 0)))
 
 -- It is delivered once, after it was sent: not never, not before, not twice.
 pub record CarriesOnce : Type 0 where
-  pub once : Carries without_two [] (sends_two ∷ takes ∷ [])
+  pub once : Carries without_two [] (sends_two ∷ arrives ∷ [])
   pub never : Carries without_two [] (sends_two ∷ []) → ⊥
-  pub before : Carries without_two [] (takes ∷ sends_two ∷ []) → ⊥
-  pub twice : Carries without_two [] (sends_two ∷ takes ∷ takes ∷ []) → ⊥
+  pub before : Carries without_two [] (arrives ∷ sends_two ∷ []) → ⊥
+  pub twice : Carries without_two [] (sends_two ∷ arrives ∷ arrives ∷ []) → ⊥
 
--- ---- three intervals
+-- ---- histories by their inputs
 
--- no clicks; the one shard's bound is to reach 1
+-- no clicks and no joiners; the one shard's bound is to reach 1
 abbrev pub three : Setting
 three = record { queries = []; clicks = []; horizon = 1; joiners = 0; table = (record { start = 0; count = 1 }) ∷ []; batch = 1; replicas = 3 }
 
 abbrev pub all_live : ℕ → Bool
 all_live r = false
 
-abbrev pub bound_one : Batch
-bound_one = record { bound = 1; inserts = [] }
+abbrev pub to_one : List (To × Packet) → List (Node × Packet)
+to_one [] = []
+to_one ((Only n, p) ∷ ps) = (n, p) ∷ to_one ps
+to_one ((AnyJoiner s, p) ∷ ps) = to_one ps
 
--- server 0 has asked, and nobody has heard of it; server 1 knows the bound
-abbrev pub asking : ServerLive
-asking =
-    record {
-      round = 1;
-      shards = λ k. record empty_shard { proposal = Some (record { ballot = ballot 1 2 0; own = bound_one; phase = Promising (nobody 3) None }) };
-    }
+abbrev pub ends_by : {L : Type 0} → Node → Out L → Entry
+ends_by n o = End n o.note (to_one o.packets) (length (to_one o.packets))
 
-abbrev pub knowing : ServerLive
-knowing = record { round = 0; shards = λ k. record empty_shard { learned = bound_one ∷ [] } }
+-- the node's open turn ends as its row says
+abbrev pub ends : World → Node → Entry
+ends w (Dispatcher s) = ends_by (Dispatcher s) (dispatcher_row three s (w.dispatchers s))
+ends w (Server s) = ends_by (Server s) (server_row three s (w.servers s))
+ends w (Replica r) = ends_by (Replica r) (replica_row (w.replicas r))
+ends w (Joiner j) = ends_by (Joiner j) (joiner_row three j (w.joiners j))
 
--- The replicas have promised rounds 2, 4 and 6.
-abbrev pub stale : World
-stale =
-    record {
-      dispatchers = λ s. record { kept = record { offset = 0; pending = [] }; live = Some (record { place = 0; fresh = []; due = []; trying = []; ended = true }); opened = None };
-      servers = λ s. record { kept = record { epoch = 2 }; live = Some (if s == 0 then asking else knowing); opened = None };
-      replicas = λ r. record { kept = record { notes = Promised place (ballot (2 * r + 2) 1 1) ∷ [] }; live = Some tt; opened = None };
-      joiners = λ j. record { kept = record { epoch = 0; pairs = [] }; live = None; opened = None };
-      sent = [];
-    }
+-- turns that begin with these inputs, one after the other
+abbrev pub plays : World → List (Node × Input) → List Entry
+plays w [] = []
+plays w ((n, i) ∷ ts) = Begin n i ∷ ends (after three w (Begin n i)) n ∷ plays (after three (after three w (Begin n i)) (ends (after three w (Begin n i)) n)) ts
 
--- Server 0 draws a ballot and asks for promises, asks once more, or is free again; a replica promises or refuses, and the
--- server hears of it.
-abbrev pub to_all : Packet → List (Node × Packet)
-to_all p = (Replica 0, p) ∷ (Replica 1, p) ∷ (Replica 2, p) ∷ []
+-- a server draws a ballot, or takes a Tick; a replica takes its question; it hears of a promise, or of a refusal
+abbrev pub asks : ℕ → Node × Input
+asks s = (Server s, Own)
 
-abbrev pub asks : Ballot → Turn
-asks b = turn (Server 0) Own None (to_all (prepare b))
+abbrev pub ticks : ℕ → Node × Input
+ticks s = (Server s, Tick)
 
-abbrev pub asks_again : Ballot → Turn
-asks_again b = turn (Server 0) Tick None (to_all (prepare b))
+abbrev pub takes : ℕ → Ballot → Node × Input
+takes r b = (Replica r, Deliver (Server b.site) (prepare b))
 
-abbrev pub is_free : Turn
-is_free = turn (Server 0) Tick None []
+abbrev pub hears : ℕ → Ballot → Node × Input
+hears r b = (Server b.site, Deliver (Replica r) (Promise place b None))
 
-abbrev pub grants : ℕ → Ballot → Turn
-grants r b = turn (Replica r) (Deliver (Server 0) (prepare b)) (Some (Voted (Promised place b))) ((Server 0, promise b) ∷ [])
+abbrev pub heeds : ℕ → Ballot → Ballot → Node × Input
+heeds r b above = (Server b.site, Deliver (Replica r) (Nack place b above))
 
-abbrev pub refuses : ℕ → Ballot → Ballot → Turn
-refuses r b c = turn (Replica r) (Deliver (Server 0) (prepare b)) None ((Server 0, nack b c) ∷ [])
+-- ---- three intervals
 
-abbrev pub hears : ℕ → Ballot → Turn
-hears r b = turn (Server 0) (Deliver (Replica r) (promise b)) None []
+-- Each server draws ballots that one replica hears of, and is refused by what the other one drew: in the end the replicas have
+-- promised rounds 2, 4 and 6.
+abbrev pub duel : List (Node × Input)
+duel =
+    (Replica 0, Start)
+    ∷ (Replica 1, Start)
+    ∷ (Replica 2, Start)
+    ∷ (Dispatcher 0, Start)
+    ∷ (Dispatcher 0, Own)
+    ∷ (Dispatcher 1, Start)
+    ∷ (Dispatcher 1, Own)
+    ∷ (Server 0, Start)
+    ∷ (Server 1, Start)
+    ∷ asks 0
+    ∷ asks 1
+    ∷ takes 0 (ballot 1 1 1)
+    ∷ takes 0 (ballot 1 1 0) ∷ heeds 0 (ballot 1 1 0) (ballot 1 1 1) ∷ ticks 0 ∷ asks 0
+    ∷ takes 0 (ballot 2 1 0)
+    ∷ takes 0 (ballot 1 1 1) ∷ heeds 0 (ballot 1 1 1) (ballot 2 1 0) ∷ ticks 1 ∷ asks 1
+    ∷ takes 1 (ballot 3 1 1)
+    ∷ takes 1 (ballot 2 1 0) ∷ heeds 1 (ballot 2 1 0) (ballot 3 1 1) ∷ ticks 0 ∷ asks 0
+    ∷ takes 1 (ballot 4 1 0)
+    ∷ takes 1 (ballot 3 1 1) ∷ heeds 1 (ballot 3 1 1) (ballot 4 1 0) ∷ ticks 1 ∷ asks 1
+    ∷ takes 2 (ballot 5 1 1)
+    ∷ takes 2 (ballot 4 1 0) ∷ heeds 2 (ballot 4 1 0) (ballot 5 1 1) ∷ ticks 0 ∷ asks 0
+    ∷ takes 2 (ballot 6 1 0)
+    ∷ []
 
-abbrev pub heeds : ℕ → Ballot → Ballot → Turn
-heeds r b c = turn (Server 0) (Deliver (Replica r) (nack b c)) None []
+-- both stop in a turn
+abbrev pub stops : List Entry
+stops = Begin (Server 0) Tick ∷ Stop (Server 0) None ∷ Begin (Server 1) Tick ∷ Stop (Server 1) None ∷ []
 
--- each replica refuses once by what it has promised
-abbrev pub first : List Turn
+-- and come up again, and draw round 1, which no replica hears of
+abbrev pub restarts : List (Node × Input)
+restarts =
+    (Server 0, Start)
+    ∷ (Server 1, Start)
+    ∷ asks 0
+    ∷ asks 1
+    ∷ []
+
+-- replica 0 refuses round 1, replica 1 round 3, replica 2 round 5
+abbrev pub first : List (Node × Input)
 first =
-    asks_again (ballot 1 2 0)
-    ∷ refuses 0 (ballot 1 2 0) (ballot 2 1 1) ∷ heeds 0 (ballot 1 2 0) (ballot 2 1 1)
-    ∷ refuses 1 (ballot 1 2 0) (ballot 4 1 1) ∷ heeds 1 (ballot 1 2 0) (ballot 4 1 1)
-    ∷ refuses 2 (ballot 1 2 0) (ballot 6 1 1) ∷ heeds 2 (ballot 1 2 0) (ballot 6 1 1)
+    ticks 0
+    ∷ takes 0 (ballot 1 2 0) ∷ heeds 0 (ballot 1 2 0) (ballot 2 1 0)
+    ∷ takes 1 (ballot 1 2 0) ∷ heeds 1 (ballot 1 2 0) (ballot 4 1 0)
+    ∷ takes 2 (ballot 1 2 0) ∷ heeds 2 (ballot 1 2 0) (ballot 6 1 0)
+    ∷ ticks 1
+    ∷ takes 0 (ballot 1 2 1) ∷ heeds 0 (ballot 1 2 1) (ballot 2 1 0)
+    ∷ takes 1 (ballot 1 2 1) ∷ heeds 1 (ballot 1 2 1) (ballot 4 1 0)
+    ∷ takes 2 (ballot 1 2 1) ∷ heeds 2 (ballot 1 2 1) (ballot 6 1 0)
     ∷ []
 
-abbrev pub second : List Turn
+abbrev pub second : List (Node × Input)
 second =
-    is_free
-    ∷ asks (ballot 3 2 0)
-    ∷ grants 0 (ballot 3 2 0) ∷ hears 0 (ballot 3 2 0)
-    ∷ refuses 1 (ballot 3 2 0) (ballot 4 1 1) ∷ heeds 1 (ballot 3 2 0) (ballot 4 1 1)
-    ∷ refuses 2 (ballot 3 2 0) (ballot 6 1 1) ∷ heeds 2 (ballot 3 2 0) (ballot 6 1 1)
+    ticks 0 ∷ asks 0
+    ∷ takes 0 (ballot 3 2 0) ∷ hears 0 (ballot 3 2 0)
+    ∷ takes 1 (ballot 3 2 0) ∷ heeds 1 (ballot 3 2 0) (ballot 4 1 0)
+    ∷ takes 2 (ballot 3 2 0) ∷ heeds 2 (ballot 3 2 0) (ballot 6 1 0)
+    ∷ ticks 1 ∷ asks 1
+    ∷ takes 0 (ballot 3 2 1) ∷ hears 0 (ballot 3 2 1)
+    ∷ takes 1 (ballot 3 2 1) ∷ heeds 1 (ballot 3 2 1) (ballot 4 1 0)
+    ∷ takes 2 (ballot 3 2 1) ∷ heeds 2 (ballot 3 2 1) (ballot 6 1 0)
     ∷ []
 
-abbrev pub third : List Turn
+abbrev pub third : List (Node × Input)
 third =
-    is_free
-    ∷ asks (ballot 5 2 0)
-    ∷ refuses 2 (ballot 5 2 0) (ballot 6 1 1) ∷ heeds 2 (ballot 5 2 0) (ballot 6 1 1)
-    ∷ grants 0 (ballot 5 2 0) ∷ hears 0 (ballot 5 2 0)
-    ∷ grants 1 (ballot 5 2 0) ∷ hears 1 (ballot 5 2 0)
+    ticks 0 ∷ asks 0
+    ∷ takes 2 (ballot 5 2 0) ∷ heeds 2 (ballot 5 2 0) (ballot 6 1 0)
+    ∷ takes 0 (ballot 5 2 0) ∷ hears 0 (ballot 5 2 0)
+    ∷ takes 1 (ballot 5 2 0) ∷ hears 1 (ballot 5 2 0)
+    ∷ ticks 1 ∷ asks 1
+    ∷ takes 2 (ballot 5 2 1) ∷ heeds 2 (ballot 5 2 1) (ballot 6 1 0)
+    ∷ takes 0 (ballot 5 2 1) ∷ hears 0 (ballot 5 2 1)
+    ∷ takes 1 (ballot 5 2 1) ∷ hears 1 (ballot 5 2 1)
     ∷ []
 
--- From that world three idle intervals follow one another, and it is not at rest.
+abbrev pub beginning : World
+beginning = opening empty_disks
+
+abbrev pub down_again : World
+down_again = world_after three (world_after three beginning (plays beginning duel)) stops
+
+abbrev pub stale : World
+stale = world_after three down_again (plays down_again restarts)
+
+abbrev pub after_first : World
+after_first = world_after three stale (plays stale first)
+
+abbrev pub after_second : World
+after_second = world_after three after_first (plays after_first second)
+
+-- A run from nothing leads to a world that isn't at rest, and from there three idle intervals follow one another.
 pub record ThreeAreIdle : Type 0 where
-  pub idle : AreIdle three all_live stale (entries first ∷ entries second ∷ entries third ∷ [])
+  pub first_lives : IsRun three beginning (plays beginning duel)
+  pub stop : IsRun three (world_after three beginning (plays beginning duel)) stops
+  pub second_lives : IsRun three down_again (plays down_again restarts)
+  pub idle : AreIdle three all_live stale (plays stale first ∷ plays after_first second ∷ plays after_second third ∷ [])
   pub work_is_left : IsAtRest three stale → ⊥

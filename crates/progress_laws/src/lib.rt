@@ -18,8 +18,8 @@ pub fn progress()
     photon_model::every_run();
 }
 
-/// A packet is carried once, after it was sent. With three replicas three idle intervals do follow one another, from a given
-/// world.
+/// A packet is carried once, after it was sent. With three replicas a run leads from nothing to a world from which three idle
+/// intervals follow one another, so the count is exact.
 pub fn examples()
     ensures carries { CarriesOnce }
     ensures idle { ThreeAreIdle }
