@@ -5,13 +5,15 @@ use Rattle.std.proofs.lemmas.Bool.{true≢false, and_parts, ltb-true}
 use Rattle.ballot_core.specs.declared.Ballot.{Ballot}
 use Rattle.ballot_core.specs.Ballots.{is_same}
 use Rattle.ballot_core.proofs.Order.{same_true}
+use Rattle.registry_state.specs.Same.{same_batch}
+use Rattle.registry_state.proofs.Tests.{same_batch-true}
 use Rattle.paxos_defs.specs.declared.Place.{Place}
 use Rattle.paxos_defs.specs.Notes.{is_place}
 use Rattle.paxos_defs.proofs.Places.{place_true}
 use Rattle.list_words.specs.Lists.{Mem, option_or_else}
 use Rattle.list_words.proofs.Lists.{mem_right, none_some, some_same}
 use Rattle.turn_defs.specs.declared.packet.Packet.{Packet}
-use Rattle.turn_defs.specs.declared.packet.Packet.TheVariants.{Prepare, Promise, Nack}
+use Rattle.turn_defs.specs.declared.packet.Packet.TheVariants.{Prepare, Promise, Nack, Accept, Accepted, Chosen}
 use Rattle.turn_defs.specs.declared.node.Node.{Node}
 use Rattle.turn_defs.specs.declared.node.Node.TheVariants.{Dispatcher, Server, Replica, Joiner}
 use Rattle.turn_defs.specs.declared.node.To.{To}
@@ -29,7 +31,7 @@ use Rattle.photon_model.specs.Facts.{IfUp}
 use Rattle.photon_model.specs.Runs.{Cell, World, Entry, Begin, End, Stop, Fits, WasSent, MayBegin, May, IsRun, row, dispatcher_row, server_row, replica_row, sends, after, world_after}
 use Rattle.photon_model.specs.Rest.{UpWith, BothUp, ServerWorks, IsWork, put_in, ticks_of, ticks_due, is_unfinished}
 use Rattle.progress_laws.specs.Idle.{to_live, Carries, HasNumbers, IsQuiet, IsWithinLimits, NoWork, IsIdle}
-use Rattle.progress_laws.specs.Rows.{three, all_live, to_one, ends, plays, duel, restarts, beginning, down_again, stale, first, second, third, after_first, after_second, CarriesOnce, ThreeAreIdle}
+use Rattle.progress_laws.specs.Rows.{three, all_live, to_one, ends, plays, duel, restarts, beginning, down_again, stale, first, second, third, fourth, after_first, after_second, after_third, CarriesOnce, ThreeAreIdle}
 use Rattle.progress_laws.proofs.Transit.{opened_at, same_node-true, opens, not_out}
 use Rattle.progress_laws.proofs.Ending.{server_now}
 use Rattle.progress_laws.proofs.Turning.{teaches, turns}
@@ -68,6 +70,9 @@ abbrev same_packet : Packet → Packet → Bool
 same_packet (Prepare p b) (Prepare q c) = is_place p q && is_same b c
 same_packet (Promise p b None) (Promise q c None) = is_place p q && is_same b c
 same_packet (Nack p b above) (Nack q c other) = (is_place p q && is_same b c) && is_same above other
+same_packet (Accept p b v) (Accept q c w) = (is_place p q && is_same b c) && same_batch v w
+same_packet (Accepted p b) (Accepted q c) = is_place p q && is_same b c
+same_packet (Chosen p v) (Chosen q w) = is_place p q && same_batch v w
 same_packet _ _ = false
 
 same_both : (P : Place → Ballot → Packet) (p q : Place) (b c : Ballot) → (is_place p q && is_same b c) ≡ true → P p b ≡ P q c
@@ -79,6 +84,11 @@ same_packet-true (Promise p b None) (Promise q c None) e = same_both (λ p b. Pr
 same_packet-true (Nack p b above) (Nack q c other) e =
     let h = and_parts (is_place p q && is_same b c) (is_same above other) e in
     same_both (λ p b. Nack p b above) p q b c h.0 ∙ ap (Nack q c) (same_true above other h.1)
+same_packet-true (Accept p b v) (Accept q c w) e =
+    let h = and_parts (is_place p q && is_same b c) (same_batch v w) e in
+    same_both (λ p b. Accept p b v) p q b c h.0 ∙ ap (Accept q c) (same_batch-true v w h.1)
+same_packet-true (Accepted p b) (Accepted q c) e = same_both Accepted p q b c e
+same_packet-true (Chosen p v) (Chosen q w) e = let h = and_parts (is_place p q) (same_batch v w) e in ap (λ x. Chosen x v) (place_true p q h.0) ∙ ap (Chosen q) (same_batch-true v w h.1)
 same_packet-true _ _ e = absurd (true≢false (sym e))
 
 abbrev same_sent : Sent → Sent → Bool
@@ -339,8 +349,8 @@ calm (x ∷ es) w e =
 quiet_at : (w : World) → ((s : ℕ) → s < 2 → ((w.dispatchers s).opened ≡ None) × UpWith (λ l. dispatcher_wants l ≡ false) (w.dispatchers s).live) → ((s : ℕ) → s < 2 → ((w.servers s).opened ≡ None) × UpWith (λ l. server_wants three l ≡ false) (w.servers s).live) → ((r : ℕ) → r < 3 → ((w.replicas r).opened ≡ None) × UpWith (λ l. ⊤) (w.replicas r).live) → IsQuiet three all_live w
 quiet_at w ds ss rs = record { dispatchers = ds; servers = ss; joiners = λ j is. absurd (no_joiner j is); replicas = λ r lt live. rs r lt; silent = λ r lt out. absurd (true≢false (sym out)) }
 
-abbrev after_third : World
-after_third = world_after three after_second (plays after_second third)
+abbrev after_fourth : World
+after_fourth = world_after three after_third (plays after_third fourth)
 
 quiet_stale : IsQuiet three all_live stale
 quiet_stale = quiet_at stale (two _ (refl, refl) (refl, refl)) (two _ (refl, refl) (refl, refl)) (each_of_three _ (refl, tt) (refl, tt) (refl, tt))
@@ -353,6 +363,9 @@ quiet_after_second = quiet_at after_second (two _ (refl, refl) (refl, refl)) (tw
 
 quiet_after_third : IsQuiet three all_live after_third
 quiet_after_third = quiet_at after_third (two _ (refl, refl) (refl, refl)) (two _ (refl, refl) (refl, refl)) (each_of_three _ (refl, tt) (refl, tt) (refl, tt))
+
+quiet_after_fourth : IsQuiet three all_live after_fourth
+quiet_after_fourth = quiet_at after_fourth (two _ (refl, refl) (refl, refl)) (two _ (refl, refl) (refl, refl)) (each_of_three _ (refl, tt) (refl, tt) (refl, tt))
 
 ticks_first : (n : Node) → IsNode three n → ticks_of n (plays stale first) ≡ ticks_due (is_unfinished three stale n)
 ticks_first = each_node _ (two _ refl refl) (two _ refl refl) (λ r. refl) (λ j. refl)
@@ -393,6 +406,9 @@ idle_third =
       no_work = h.1;
     }
 
+ticks_fourth : (n : Node) → IsNode three n → ticks_of n (plays after_third fourth) ≡ ticks_due (is_unfinished three after_third n)
+ticks_fourth = each_node _ (two _ refl refl) (two _ refl refl) (λ r. refl) (λ j. refl)
+
 pub three_are_idle : ThreeAreIdle
 three_are_idle =
     record {
@@ -401,4 +417,8 @@ three_are_idle =
       second_lives = played restarts down_again refl;
       idle = (idle_first, (idle_second, (idle_third, tt)));
       work_is_left = λ r. true≢false (sym (r.servers 0 (lit< tt)));
+      goes_on = played fourth after_third refl;
+      last = record { starts = quiet_after_third; ends = quiet_after_fourth; carries = carried (plays after_third fourth) [] refl; ticks = ticks_fourth };
+      works = λ h. h.1.1.1.1.1.1.1.1.1.1.1.1.1.1.1.1.1.1.1.1.1.1.1.0 (0, lit< tt);
+      rests = record { dispatchers = two _ refl refl; joiners = λ j is. absurd (no_joiner j is); servers = two _ refl refl };
     }

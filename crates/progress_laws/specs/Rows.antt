@@ -1,11 +1,12 @@
 -- Worked intervals: a packet is carried once, and three idle intervals follow one another with three replicas.
 use Rattle.std.specs.Prelude.{ℕ, ◌==◌, Bool, false, List, [], ◌∷◌, length, None}
 use Rattle.ballot_core.specs.declared.Ballot.{Ballot}
+use Rattle.registry_state.specs.declared.Batch.{Batch}
 use Rattle.paxos_defs.specs.declared.Place.{Place}
 use Rattle.turn_defs.specs.Setting.{Setting}
 use Rattle.turn_defs.specs.Turns.{Out}
 use Rattle.turn_defs.specs.declared.packet.Packet.{Packet}
-use Rattle.turn_defs.specs.declared.packet.Packet.TheVariants.{Prepare, Promise, Nack}
+use Rattle.turn_defs.specs.declared.packet.Packet.TheVariants.{Prepare, Promise, Nack, Accept, Accepted, Chosen}
 use Rattle.turn_defs.specs.declared.node.Node.{Node}
 use Rattle.turn_defs.specs.declared.node.Node.TheVariants.{Dispatcher, Server, Replica, Joiner}
 use Rattle.turn_defs.specs.declared.node.To.{To}
@@ -15,7 +16,7 @@ use Rattle.turn_defs.specs.declared.node.Input.TheVariants.{Start, Own, Tick, De
 use Rattle.photon_model.specs.Stores.{empty_disks}
 use Rattle.photon_model.specs.Runs.{World, Entry, Begin, End, Stop, dispatcher_row, server_row, replica_row, joiner_row, after, world_after, IsRun, opening}
 use Rattle.photon_model.specs.Rest.{IsAtRest}
-use Rattle.progress_laws.specs.Idle.{Carries, AreIdle}
+use Rattle.progress_laws.specs.Idle.{Carries, IsInterval, NoWork, AreIdle}
 
 abbrev pub place : Place
 place = record { shard = 0; slot = 0 }
@@ -185,10 +186,40 @@ after_first = world_after three stale (plays stale first)
 abbrev pub after_second : World
 after_second = world_after three after_first (plays after_first second)
 
--- A run from nothing leads to a world that isn't at rest, and from there three idle intervals follow one another.
+abbrev pub after_third : World
+after_third = world_after three after_second (plays after_second third)
+
+-- In a fourth one nobody refuses round 7: a replica takes the value, and the server hears of it; the other server is told.
+abbrev pub bound_one : Batch
+bound_one = record { bound = 1; inserts = [] }
+
+abbrev pub accepts : ℕ → Ballot → Node × Input
+accepts r b = (Replica r, Deliver (Server b.site) (Accept place b bound_one))
+
+abbrev pub counts : ℕ → Ballot → Node × Input
+counts r b = (Server b.site, Deliver (Replica r) (Accepted place b))
+
+abbrev pub fourth : List (Node × Input)
+fourth =
+    ticks 0 ∷ asks 0
+    ∷ takes 0 (ballot 7 2 0) ∷ hears 0 (ballot 7 2 0)
+    ∷ takes 1 (ballot 7 2 0) ∷ hears 1 (ballot 7 2 0)
+    ∷ takes 2 (ballot 7 2 0) ∷ hears 2 (ballot 7 2 0)
+    ∷ accepts 0 (ballot 7 2 0) ∷ counts 0 (ballot 7 2 0)
+    ∷ accepts 1 (ballot 7 2 0) ∷ counts 1 (ballot 7 2 0)
+    ∷ accepts 2 (ballot 7 2 0) ∷ counts 2 (ballot 7 2 0)
+    ∷ (Server 1, Deliver (Server 0) (Chosen place bound_one)) ∷ ticks 1
+    ∷ []
+
+-- A run from nothing leads to a world that isn't at rest, and from there three idle intervals follow one another. The fourth
+-- has a work turn, and leads to rest.
 pub record ThreeAreIdle : Type 0 where
   pub first_lives : IsRun three beginning (plays beginning duel)
   pub stop : IsRun three (world_after three beginning (plays beginning duel)) stops
   pub second_lives : IsRun three down_again (plays down_again restarts)
   pub idle : AreIdle three all_live stale (plays stale first ∷ plays after_first second ∷ plays after_second third ∷ [])
   pub work_is_left : IsAtRest three stale → ⊥
+  pub goes_on : IsRun three after_third (plays after_third fourth)
+  pub last : IsInterval three all_live after_third (plays after_third fourth)
+  pub works : NoWork three after_third (plays after_third fourth) → ⊥
+  pub rests : IsAtRest three (world_after three after_third (plays after_third fourth))

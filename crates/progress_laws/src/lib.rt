@@ -19,7 +19,7 @@ pub fn progress()
 }
 
 /// A packet is carried once, after it was sent. With three replicas a run leads from nothing to a world from which three idle
-/// intervals follow one another, so the count is exact.
+/// intervals follow one another, so the count is exact; a fourth one leads to rest.
 pub fn examples()
     ensures carries { CarriesOnce }
     ensures idle { ThreeAreIdle }
