@@ -4,7 +4,7 @@ use Rattle.list_words.specs.Lists.{Mem, has}
 use Rattle.turn_defs.specs.Setting.{Setting, IsJoiner}
 use Rattle.turn_defs.specs.declared.node.Node.{Node}
 use Rattle.turn_defs.specs.declared.node.Node.TheVariants.{Dispatcher, Server, Replica, Joiner}
-use Rattle.turn_defs.specs.declared.node.Input.TheVariants.{Start, Own, Tick, Deliver}
+use Rattle.turn_defs.specs.declared.node.Input.TheVariants.{Tick, Deliver}
 use Rattle.turn_defs.specs.Sent.{Sent}
 use Rattle.turn_defs.specs.Turns.{Note, Advance}
 use Rattle.turn_defs.specs.Dispatcher.{DispatcherLive, waits, dispatcher_wants, dispatcher_unfinished, dispatcher_at_rest}
@@ -12,8 +12,7 @@ use Rattle.turn_defs.specs.Joiner.{JoinerLive, Flight, joiner_unfinished, joiner
 use Rattle.turn_defs.specs.Server.{ServerLive, server_wants, server_unfinished, server_at_rest}
 use Rattle.turn_defs.specs.Nodes.{IsNode}
 use Rattle.photon_model.specs.Runs.{World, Entry, Begin, End, Stop, sends, after, world_after}
-use Rattle.lossy_link.specs.Fates.{PlanView}
-use Rattle.photon_model.specs.Bus.{is_dead, same_node}
+use Rattle.photon_model.specs.Bus.{same_node}
 
 -- a node is up, and this holds of its volatile state
 abbrev pub UpWith : {L : Type 0} → (L → Type 0) → Option L → Type 0
@@ -26,29 +25,7 @@ pub record IsAtRest (g : Setting) (w : World) : Type 0 where
   pub joiners : (j : ℕ) → IsJoiner g j → UpWith (λ l. joiner_at_rest l ≡ true) (w.joiners j).live
   pub servers : (s : ℕ) → s < 2 → UpWith (λ l. server_at_rest g l ≡ true) (w.servers s).live
 
--- every live node is up, no turn is open, no Own row applies
-pub record IsQuietPoint (g : Setting) (plan : PlanView) (w : World) : Type 0 where
-  pub dispatchers : (s : ℕ) → s < 2 → ((w.dispatchers s).opened ≡ None) × UpWith (λ l. dispatcher_wants l ≡ false) (w.dispatchers s).live
-  pub servers : (s : ℕ) → s < 2 → ((w.servers s).opened ≡ None) × UpWith (λ l. server_wants g l ≡ false) (w.servers s).live
-  pub joiners : (j : ℕ) → IsJoiner g j → ((w.joiners j).opened ≡ None) × UpWith (λ l. ⊤) (w.joiners j).live
-  pub replicas : (r : ℕ) → r < g.replicas → is_dead plan.dead (Replica r) ≡ false → ((w.replicas r).opened ≡ None) × UpWith (λ l. ⊤) (w.replicas r).live
-
--- ---- what happens in a list of entries
-
-abbrev pub sent_in : List Entry → List Sent
-sent_in [] = []
-sent_in (End n o ps kept ∷ es) = sends n ps ++ sent_in es
-sent_in (Begin n i ∷ es) = sent_in es
-sent_in (Stop n o ∷ es) = sent_in es
-
-abbrev pub delivered_in : List Entry → List Sent
-delivered_in [] = []
-delivered_in (Begin n (Deliver from p) ∷ es) = (record { from = from; to = n; packet = p }) ∷ delivered_in es
-delivered_in (Begin n Start ∷ es) = delivered_in es
-delivered_in (Begin n Own ∷ es) = delivered_in es
-delivered_in (Begin n Tick ∷ es) = delivered_in es
-delivered_in (End n o ps kept ∷ es) = delivered_in es
-delivered_in (Stop n o ∷ es) = delivered_in es
+-- ---- intervals
 
 abbrev pub is_tick_of : Node → Entry → Bool
 is_tick_of m (Begin n Tick) = same_node m n
@@ -57,22 +34,9 @@ is_tick_of m _ = false
 abbrev pub ticks_of : Node → List Entry → ℕ
 ticks_of m es = count_by (is_tick_of m) es
 
-abbrev pub NoStops : List Entry → Type 0
-NoStops [] = ⊤
-NoStops (Stop n o ∷ es) = ⊥
-NoStops (Begin n i ∷ es) = NoStops es
-NoStops (End n o ps kept ∷ es) = NoStops es
-
--- the same packets, in some order and as often each
+-- ys are xs with x besides
 abbrev pub put_in : Sent → List Sent → List Sent → Type 0
 put_in x xs ys = (front : List Sent) × (back : List Sent) × (xs ≡ front ++ back) × (ys ≡ front ++ x ∷ back)
-
-abbrev pub IsReordering : List Sent → List Sent → Type 0
-IsReordering [] ys = ys ≡ []
-IsReordering (x ∷ xs) ys = (rest : List Sent) × put_in x rest ys × IsReordering xs rest
-
-abbrev pub to_live : PlanView → Sent → Bool
-to_live plan x = not (is_dead plan.dead x.to)
 
 -- a node is unfinished
 abbrev pub if_up : {L : Type 0} → (L → Bool) → Option L → Bool
@@ -89,13 +53,40 @@ abbrev pub ticks_due : Bool → ℕ
 ticks_due true = 1
 ticks_due false = 0
 
--- An interval from w on: quiet at both ends, no stop, all that is sent to live nodes is delivered once and nothing else is,
--- and just the nodes that are unfinished at its start take a Tick, once.
-pub record IsInterval (g : Setting) (plan : PlanView) (w : World) (es : List Entry) : Type 0 where
-  pub starts : IsQuietPoint g plan w
-  pub ends : IsQuietPoint g plan (world_after g w es)
-  pub no_stops : NoStops es
-  pub delivers : IsReordering (filter (to_live plan) (sent_in es)) (delivered_in es)
+-- some replicas take no part; all other nodes do
+abbrev pub is_out : (ℕ → Bool) → Node → Bool
+is_out dead (Replica r) = dead r
+is_out dead (Dispatcher s) = false
+is_out dead (Server s) = false
+is_out dead (Joiner j) = false
+
+abbrev pub to_live : (ℕ → Bool) → Sent → Bool
+to_live dead x = not (is_out dead x.to)
+
+-- every node that takes part is up, no turn is open, no Own row applies; nor has a replica that takes no part an open turn,
+-- whose End might still refuse an attempt
+pub record IsQuiet (g : Setting) (dead : ℕ → Bool) (w : World) : Type 0 where
+  pub dispatchers : (s : ℕ) → s < 2 → ((w.dispatchers s).opened ≡ None) × UpWith (λ l. dispatcher_wants l ≡ false) (w.dispatchers s).live
+  pub servers : (s : ℕ) → s < 2 → ((w.servers s).opened ≡ None) × UpWith (λ l. server_wants g l ≡ false) (w.servers s).live
+  pub joiners : (j : ℕ) → IsJoiner g j → ((w.joiners j).opened ≡ None) × UpWith (λ l. ⊤) (w.joiners j).live
+  pub replicas : (r : ℕ) → r < g.replicas → dead r ≡ false → ((w.replicas r).opened ≡ None) × UpWith (λ l. ⊤) (w.replicas r).live
+  pub silent : (r : ℕ) → r < g.replicas → dead r ≡ true → (w.replicas r).opened ≡ None
+
+-- What is on its way: an End puts its packets in, but for those to nodes that take no part, and a delivery takes one out.
+-- No turn stops, and nothing is left on its way at the end.
+abbrev pub Carries : (ℕ → Bool) → List Sent → List Entry → Type 0
+Carries dead air [] = air ≡ []
+Carries dead air (Begin n (Deliver from p) ∷ es) = (rest : List Sent) × put_in (record { from = from; to = n; packet = p }) rest air × Carries dead rest es
+Carries dead air (Begin n i ∷ es) = Carries dead air es
+Carries dead air (End n _ ps kept ∷ es) = Carries dead (filter (to_live dead) (sends n ps) ++ air) es
+Carries dead air (Stop n landed ∷ es) = ⊥
+
+-- An interval from w on: quiet at both ends, all that is sent in it to nodes that take part is delivered in it once and
+-- nothing else is, and just the nodes that are unfinished at its start take a Tick, once.
+pub record IsInterval (g : Setting) (dead : ℕ → Bool) (w : World) (es : List Entry) : Type 0 where
+  pub starts : IsQuiet g dead w
+  pub ends : IsQuiet g dead (world_after g w es)
+  pub carries : Carries dead [] es
   pub ticks : (n : Node) → IsNode g n → ticks_of n es ≡ ticks_due (is_unfinished g w n)
 
 -- a turn that takes a line, marks a position done, ends a trial or a join in flight, writes an Advance, or learns a slot

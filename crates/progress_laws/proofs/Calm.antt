@@ -16,8 +16,8 @@ use Rattle.turn_defs.specs.declared.node.Node.TheVariants.{Server, Replica, Join
 use Rattle.turn_defs.specs.Sent.{Sent}
 use Rattle.turn_defs.specs.Server.{ServerLive, server_start, server_turn}
 use Rattle.photon_model.specs.Runs.{World, Entry, End, row, server_row, replica_row, after, world_after, May, IsRun}
-use Rattle.photon_model.specs.Rest.{BothUp, JoinerWorks, ServerWorks, IsWork}
-use Rattle.progress_laws.specs.Idle.{is_out, Carries, HasNumbers, IsWithinLimits, NoWork, IsIdle}
+use Rattle.photon_model.specs.Rest.{BothUp, JoinerWorks, ServerWorks, IsWork, is_out, Carries}
+use Rattle.progress_laws.specs.Idle.{HasNumbers, IsWithinLimits, NoWork, IsIdle}
 use Rattle.progress_laws.proofs.Transit.{opened_at, CarriesOne, Underway, HasTick, NotStopped, carries_one, carries_not_stopped, sent_underway, addressed, stays_underway}
 use Rattle.progress_laws.proofs.Waiting.{IsLeftAt, still_left}
 use Rattle.progress_laws.proofs.Turning.{Same, Fate, AllAsk, Turns, turns}

@@ -21,8 +21,8 @@ use Rattle.turn_defs.specs.Joiner.{JoinerLive, Flight, insert_of, joiner_start, 
 use Rattle.turn_defs.specs.Server.{ServerLive, is_own_joiner, server_start, server_turn}
 use Rattle.turn_defs.specs.Dispatcher.{waits}
 use Rattle.photon_model.specs.Runs.{World, Entry, row, server_row, joiner_row, after, world_after}
-use Rattle.photon_model.specs.Rest.{UpWith, JoinerWorks}
-use Rattle.progress_laws.specs.Idle.{IsQuiet, IsIdle}
+use Rattle.photon_model.specs.Rest.{UpWith, JoinerWorks, IsQuiet, if_up, is_unfinished}
+use Rattle.progress_laws.specs.Idle.{IsIdle}
 use Rattle.progress_laws.proofs.Transit.{opened_at, Underway, arrives, HasTick}
 use Rattle.progress_laws.proofs.Waiting.{IsLeftAt, Heard, insert_heard, waits_left}
 use Rattle.progress_laws.proofs.Ticking.{comes, passes}
@@ -163,10 +163,10 @@ module _ (g : Setting) (dead : ℕ → Bool) (table : IsTable g.table) (w : Worl
 -- ---- along an interval
 
 module _ (g : Setting) (dead : ℕ → Bool) (table : IsTable g.table) (w : World) (es : List Entry) (i : IsIdle g dead w es) where
-  unfinished : (j : ℕ) (l : JoinerLive) → (w.joiners j).live ≡ Some l → (f : Flight) → Mem f l.flight → Rattle.photon_model.specs.Rest.is_unfinished g w (Joiner j) ≡ true
-  unfinished j l up f m = ap (λ (o : Option JoinerLive). Rattle.photon_model.specs.Rest.if_up joiner_unfinished o) up ∙ some l.flight m
+  unfinished : (j : ℕ) (l : JoinerLive) → (w.joiners j).live ≡ Some l → (f : Flight) → Mem f l.flight → is_unfinished g w (Joiner j) ≡ true
+  unfinished j l up f m = ap (λ (o : Option JoinerLive). if_up joiner_unfinished o) up ∙ some l.flight m
     where
-      some : (fs : List Flight) → Mem f fs → not (Rattle.turn_defs.specs.Turns.is_empty fs) ≡ true
+      some : (fs : List Flight) → Mem f fs → not (is_empty fs) ≡ true
       some [] m = absurd m
       some (y ∷ fs) m = refl
 

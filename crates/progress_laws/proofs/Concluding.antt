@@ -19,8 +19,8 @@ use Rattle.turn_defs.specs.Joiner.{JoinerLive, joiner_at_rest}
 use Rattle.turn_defs.specs.Server.{ServerLive, is_free, server_at_rest}
 use Rattle.photon_model.specs.EveryRun.{AllFactsHold}
 use Rattle.photon_model.specs.Runs.{World, Entry, Disks, world_after, opening}
-use Rattle.photon_model.specs.Rest.{UpWith, IsAtRest}
-use Rattle.progress_laws.specs.Idle.{IsQuiet, IsIdle}
+use Rattle.photon_model.specs.Rest.{UpWith, IsAtRest, IsQuiet}
+use Rattle.progress_laws.specs.Idle.{IsIdle}
 use Rattle.progress_laws.specs.Moves.{is_left, next_of, promise_at, IsHeldAt, IsRefusedFrom, RestOrRefused, HeldIsRefused}
 use Rattle.progress_laws.proofs.Transit.{opened_at, HasTick, quiet_closed}
 use Rattle.progress_laws.proofs.Ticking.{comes, passes}

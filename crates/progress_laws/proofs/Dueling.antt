@@ -26,13 +26,13 @@ use Rattle.turn_defs.specs.declared.node.Input.TheVariants.{Tick, Deliver}
 use Rattle.turn_defs.specs.Server.{ServerLive, server_turn}
 use Rattle.turn_defs.specs.Replica.{ReplicaKept, cell_at, land_replica, replica_turn}
 use Rattle.photon_model.specs.Runs.{World, Entry, End, dispatcher_row, server_row, replica_row, joiner_row, after, May}
+use Rattle.photon_model.proofs.Agreeing.{IsPlain, dispatcher_row_plain, joiner_row_plain}
 use Rattle.progress_laws.specs.Moves.{next_of, promise_at}
 use Rattle.progress_laws.proofs.Transit.{opened_at, Underway, HasTick, IsSent, was_underway, sent_has}
 use Rattle.progress_laws.proofs.Ending.{IsEnd, server_now, server_live, replica_turns}
 use Rattle.progress_laws.proofs.Turning.{ballot_in, Same, Fate, Keeps, Asks}
 use Rattle.progress_laws.proofs.Waiting.{still_left}
 use Rattle.progress_laws.proofs.Lasting.{OfAllShards, HasCause, no_cause, cause_kept, lasts}
-use Rattle.progress_laws.proofs.Plain.{IsPlain, dispatcher_row_plain, joiner_row_plain}
 use Rattle.progress_laws.proofs.Rising.{AsksAt, Says, says, Rises, rises, after_turn}
 use Rattle.progress_laws.proofs.Calm.{Step, step_goes, CalmTurn, calm_turn, server_waits, replica_kept, tick_goes_on}
 use Rattle.progress_laws.proofs.Greatest.{UpTo, Promised, promised_more, promised_is, Fine, fine_grows, plain_fine, asks_fine, IsRefusedBy, IsMade, AttemptUpTo, BothUp, MoreOfBoth, with_both}

@@ -13,11 +13,11 @@ use Rattle.turn_defs.specs.declared.packet.Packet.TheVariants.{Prepare, Accept, 
 use Rattle.turn_defs.specs.declared.node.Node.{Node}
 use Rattle.turn_defs.specs.Server.{ServerLive, ShardState}
 use Rattle.photon_model.specs.Runs.{World}
-use Rattle.progress_laws.specs.Idle.{is_out}
+use Rattle.photon_model.specs.Rest.{is_out}
+use Rattle.photon_model.proofs.Agreeing.{IsPlain}
 use Rattle.progress_laws.specs.Moves.{is_left, next_of, promise_at}
 use Rattle.progress_laws.proofs.Turning.{ballot_in, Stands, Asks}
 use Rattle.progress_laws.proofs.Lasting.{OfShards, OfAllShards, HasCause}
-use Rattle.progress_laws.proofs.Plain.{IsPlain}
 use Rattle.progress_laws.proofs.Rising.{IsPromiseUpTo}
 
 -- at most the greatest attempt so far

@@ -8,7 +8,6 @@ pub mod Flying
 pub mod Greatest
 pub mod Lasting
 pub mod Moving
-pub mod Plain
 pub mod Refusing
 pub mod Rising
 pub mod Stalling

@@ -32,7 +32,7 @@ use Rattle.photon_model.specs.Rest.{if_up, is_unfinished}
 use Rattle.progress_laws.specs.Idle.{IsIdle}
 use Rattle.progress_laws.specs.Moves.{next_of}
 use Rattle.progress_laws.proofs.Transit.{opened_at, Underway, arrives, HasTick}
-use Rattle.progress_laws.proofs.Asking.{IsOpen, IfOpen, AreOpen, question, IsAnswer, HasMark, goes_mark, goes_question, goes_answer, AsksAll, IsKept, AllFollow, turn_follows, Counts, answer_counts, tick_asks, turn_open}
+use Rattle.progress_laws.proofs.Asking.{IsOpen, IfOpen, AreOpen, question, IsAnswer, HasMark, goes_mark, goes_question, goes_answer, AsksAll, IsKept, AllFollow, turn_follows, Counts, answer_counts, tick_asks, turn_open, PhaseGoes}
 use Rattle.progress_laws.proofs.Ticking.{comes, passes}
 use Rattle.progress_laws.proofs.Lasting.{lasts, after_run}
 use Rattle.progress_laws.proofs.Ending.{IsEnd, server_now, server_live, replica_live, row_up}
@@ -135,7 +135,7 @@ module _ (g : Setting) (dead : ℕ → Bool) (w : World) (air next : List Sent) 
     ended : IsEnd e (Server s) → (p : Proposal) → (r_out.live.shards k).proposal ≡ Some p → AttemptGoesOn g dead w' next es s (next_of k (r_out.live.shards k)) p r
     ended end p now = ⊎_elim (λ all. asked_all end p all) (λ (x : IsKept g s (w.servers s).kept l k (r_out.live.shards k) p). kept x.0 x.1 x.2 x.3 x.4 (h.each s lt l up k below x.0 x.1 r is live)) (follows k p now)
       where
-        kept : (old : Proposal) → (l.shards k).proposal ≡ Some old → (r_out.live.shards k).learned ≡ (l.shards k).learned → p.ballot ≡ old.ballot → Rattle.progress_laws.proofs.Asking.PhaseGoes old.phase p.phase → AttemptGoesOn g dead w air (e ∷ es) s (next_of k (l.shards k)) old r → AttemptGoesOn g dead w' next es s (next_of k (r_out.live.shards k)) p r
+        kept : (old : Proposal) → (l.shards k).proposal ≡ Some old → (r_out.live.shards k).learned ≡ (l.shards k).learned → p.ballot ≡ old.ballot → PhaseGoes old.phase p.phase → AttemptGoesOn g dead w air (e ∷ es) s (next_of k (l.shards k)) old r → AttemptGoesOn g dead w' next es s (next_of k (r_out.live.shards k)) p r
         kept old stands learned ballot goes x = go x
           where
             at_is : next_of k (l.shards k) ≡ next_of k (r_out.live.shards k)

@@ -11,8 +11,7 @@ use Rattle.turn_defs.specs.declared.node.Node.{Node}
 use Rattle.turn_defs.specs.declared.node.Input.TheVariants.{Start, Own, Tick, Deliver}
 use Rattle.turn_defs.specs.Sent.{Sent}
 use Rattle.photon_model.specs.Runs.{World, Entry, Begin, End, Stop, after, May}
-use Rattle.photon_model.specs.Rest.{is_tick_of, ticks_due, is_unfinished}
-use Rattle.progress_laws.specs.Idle.{is_out, IsQuiet, IsInterval}
+use Rattle.photon_model.specs.Rest.{is_tick_of, ticks_due, is_unfinished, is_out, IsQuiet, IsInterval}
 use Rattle.progress_laws.proofs.Transit.{opened_at, CarriesOne, EndsTurn, HasTick, same_node-true, opens, stays_open, quiet_closed, carries_not_stopped}
 
 is_tick : (n : Node) (e : Entry) → is_tick_of n e ≡ true → e ≡ Begin n Tick

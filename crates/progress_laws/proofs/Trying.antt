@@ -25,8 +25,9 @@ use Rattle.turn_defs.specs.Sent.{Sent}
 use Rattle.turn_defs.specs.Dispatcher.{DispatcherKept, DispatcherLive, Fresh, waits, mark, mark_one, join, fresh_joins, join_if, trying_joins, dispatcher_start, dispatcher_turn, dispatcher_unfinished, some_waits}
 use Rattle.turn_defs.specs.Joiner.{JoinerKept, JoinerLive, Flight, in_flight, looks, joiner_start, joiner_turn}
 use Rattle.photon_model.specs.Runs.{World, Entry, End, row, dispatcher_row, joiner_row, after, world_after}
-use Rattle.photon_model.specs.Rest.{DispatcherWorks, IsWork, if_up}
-use Rattle.progress_laws.specs.Idle.{IsQuiet, IsIdle}
+use Rattle.photon_model.specs.Rest.{DispatcherWorks, IsWork, if_up, IsQuiet, is_out}
+use Rattle.photon_model.specs.Facts.{IfUp}
+use Rattle.progress_laws.specs.Idle.{IsIdle}
 use Rattle.progress_laws.proofs.Transit.{opened_at, Underway, HasTick, arrives}
 use Rattle.progress_laws.proofs.Claims.{HasFlight, flight_stays, up_is}
 use Rattle.progress_laws.proofs.Ticking.{comes, passes}
@@ -143,7 +144,7 @@ module _ (g : Setting) (j : ℕ) (k : JoinerKept) (l : JoinerLive) where
       (λ _. inr (length g.queries, inl refl)))
       (λ e. inl (many_flights l.flight e)))
 
-module _ (g : Setting) (dead : ℕ → Bool) (table : Rattle.time_shards.specs.Shards.IsTable g.table) (w : World) (air next : List Sent) (e : Entry) (es : List Entry) (step : Step g dead w air next e) where
+module _ (g : Setting) (dead : ℕ → Bool) (table : IsTable g.table) (w : World) (air next : List Sent) (e : Entry) (es : List Entry) (step : Step g dead w air next e) where
   dispatcher_works : (s : ℕ) (l : DispatcherLive) → (w.dispatchers s).live ≡ Some l → IsEnd e (Dispatcher s) → ((o : Option Note) → DispatcherWorks l (dispatcher_row g s (w.dispatchers s)).live o) → ⊥
   dispatcher_works s l up (o, ps, kept, q) works =
       step.idle (subst (λ (x : Entry). IsWork g w x) (sym q)
@@ -172,7 +173,7 @@ module _ (g : Setting) (dead : ℕ → Bool) (table : Rattle.time_shards.specs.S
           kinds (inr t) = ⊎_elim (λ k. inl (inr (k, t.1))) (λ k. inr (λ o. inr (inl (p, t.0, k)))) (cases_Bool (has b.trying p))
 
   -- a Join goes to a joiner of the site
-  to_joiner : (s p : ℕ) (c : Click) (to : Node) → IsTo g (AnyJoiner s) to → (Rattle.progress_laws.specs.Idle.is_out dead to ≡ false → Underway (after g w e) next (record { from = Dispatcher s; to = to; packet = Join p c })) → IsJoinUnderway g (after g w e) next es s p
+  to_joiner : (s p : ℕ) (c : Click) (to : Node) → IsTo g (AnyJoiner s) to → (is_out dead to ≡ false → Underway (after g w e) next (record { from = Dispatcher s; to = to; packet = Join p c })) → IsJoinUnderway g (after g w e) next es s p
   to_joiner s p c (Joiner j) is u = (j, Dispatcher s, c, is.0, is.1, u refl)
   to_joiner s p c (Dispatcher j) is u = absurd is
   to_joiner s p c (Server j) is u = absurd is
@@ -195,7 +196,7 @@ module _ (g : Setting) (dead : ℕ → Bool) (table : Rattle.time_shards.specs.S
       (subst (Taken g j (w.joiners j).kept l p) (sym (joiner_row_of j l up (Deliver from (Join p c)) o)) (join_taken g j (w.joiners j).kept l p c from low))
     where
       low : l.number < 2 ^ 64 - 1
-      low = subst (Rattle.photon_model.specs.Facts.IfUp (λ (x : JoinerLive). x.number < 2 ^ 64 - 1)) up (step.limits.tokens j is)
+      low = subst (IfUp (λ (x : JoinerLive). x.number < 2 ^ 64 - 1)) up (step.limits.tokens j is)
 
   moves : (s p : ℕ) → TrialGoesOn g w air (e ∷ es) s p → Goes s p
   moves s p h = go h.goes
@@ -246,11 +247,11 @@ tried_unfinished g l p (inl t) = or_left (some_waits l.fresh) _ (some l.fresh t)
         (or_cases ((f.position == p) && not f.done) (waits fs p) e)
 tried_unfinished g l p (inr t) = or_right (some_waits l.fresh) _ (some l.trying t.0)
   where
-    some : (ps : List ℕ) → has ps p ≡ true → not (Rattle.turn_defs.specs.Turns.is_empty ps) ≡ true
+    some : (ps : List ℕ) → has ps p ≡ true → not (is_empty ps) ≡ true
     some [] e = absurd (true≢false (sym e))
     some (x ∷ ps) e = refl
 
-module _ (g : Setting) (dead : ℕ → Bool) (table : Rattle.time_shards.specs.Shards.IsTable g.table) (w : World) (es : List Entry) (i : IsIdle g dead w es) where
+module _ (g : Setting) (dead : ℕ → Bool) (table : IsTable g.table) (w : World) (es : List Entry) (i : IsIdle g dead w es) where
   begins : (s p : ℕ) → s < 2 → HasTried g w s p → TrialGoesOn g w [] es s p
   begins s p lt t =
       record {

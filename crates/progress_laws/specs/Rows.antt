@@ -15,8 +15,8 @@ use Rattle.turn_defs.specs.declared.node.Input.{Input}
 use Rattle.turn_defs.specs.declared.node.Input.TheVariants.{Start, Own, Tick, Deliver}
 use Rattle.photon_model.specs.Stores.{empty_disks}
 use Rattle.photon_model.specs.Runs.{World, Entry, Begin, End, Stop, dispatcher_row, server_row, replica_row, joiner_row, after, world_after, IsRun, opening}
-use Rattle.photon_model.specs.Rest.{IsAtRest}
-use Rattle.progress_laws.specs.Idle.{Carries, IsInterval, NoWork, AreIdle}
+use Rattle.photon_model.specs.Rest.{IsAtRest, Carries, IsInterval}
+use Rattle.progress_laws.specs.Idle.{NoWork, AreIdle}
 
 abbrev pub place : Place
 place = record { shard = 0; slot = 0 }

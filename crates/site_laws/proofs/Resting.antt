@@ -1,9 +1,8 @@
 -- Rest and quiet points, from the states that the world stands for.
-use Rattle.std.proofs.Common.{◌≡◌, ℕ, false, Option, Some, None, refl, sym, subst}
+use Rattle.std.proofs.Common.{◌≡◌, Option, None, refl, sym, subst}
 use Rattle.turn_defs.specs.Setting.{Setting}
 use Rattle.turn_defs.specs.declared.node.Node.TheVariants.{Dispatcher, Server, Replica, Joiner}
 use Rattle.site_node.specs.States.{State}
-use Rattle.photon_model.specs.Bus.{is_dead}
 use Rattle.photon_model.specs.Rest.{UpWith}
 use Rattle.photon_model.specs.Runs.{Cell}
 use Rattle.site_laws.specs.Meaning.{StandsFor}
@@ -24,23 +23,11 @@ states_rest g d h at es is rests = record {
   servers = λ s lt. up_with g _ _ (at (Server s)) (is.stands (Server s) lt) (rests (Server s) lt);
 }
 
--- only a replica is dead
-no_dispatcher : (dead : Option ℕ) (s : ℕ) → is_dead dead (Dispatcher s) ≡ false
-no_dispatcher None s = refl
-no_dispatcher (Some r) s = refl
-
-no_server : (dead : Option ℕ) (s : ℕ) → is_dead dead (Server s) ≡ false
-no_server None s = refl
-no_server (Some r) s = refl
-
-no_joiner : (dead : Option ℕ) (j : ℕ) → is_dead dead (Joiner j) ≡ false
-no_joiner None j = refl
-no_joiner (Some r) j = refl
-
 pub states_are_quiet : StatesAreQuiet
-states_are_quiet g d h at es plan is quiet = record {
-  dispatchers = λ s lt. quiet_with g _ _ (at (Dispatcher s)) (is.stands (Dispatcher s) lt) (quiet (Dispatcher s) lt (no_dispatcher plan.dead s));
-  servers = λ s lt. quiet_with g _ _ (at (Server s)) (is.stands (Server s) lt) (quiet (Server s) lt (no_server plan.dead s));
-  joiners = λ j lt. quiet_with g _ _ (at (Joiner j)) (is.stands (Joiner j) lt) (quiet (Joiner j) lt (no_joiner plan.dead j));
+states_are_quiet g d h at es dead is quiet silent = record {
+  dispatchers = λ s lt. quiet_with g _ _ (at (Dispatcher s)) (is.stands (Dispatcher s) lt) (quiet (Dispatcher s) lt refl);
+  servers = λ s lt. quiet_with g _ _ (at (Server s)) (is.stands (Server s) lt) (quiet (Server s) lt refl);
+  joiners = λ j lt. quiet_with g _ _ (at (Joiner j)) (is.stands (Joiner j) lt) (quiet (Joiner j) lt refl);
   replicas = λ r lt live. quiet_with g _ _ (at (Replica r)) (is.stands (Replica r) lt) (quiet (Replica r) lt live);
+  silent = λ r lt out. opened_none g (at (Replica r)).opened _ (is.stands (Replica r) lt).opened (silent r lt out);
 }

@@ -1,6 +1,5 @@
 -- Rest and quiet points, by each node's own state.
-use Rattle.std.specs.Prelude.{◌≡◌, true, false, List, None, ⊤}
-use Rattle.lossy_link.specs.Fates.{PlanView}
+use Rattle.std.specs.Prelude.{◌≡◌, ℕ, ◌<◌, Bool, true, false, List, None, ⊤}
 use Rattle.air_bus.specs.declared.entry.Entry.{Entry as BusEntry}
 use Rattle.turn_defs.specs.Setting.{Setting}
 use Rattle.turn_defs.specs.Nodes.{IsNode}
@@ -10,8 +9,7 @@ use Rattle.turn_defs.specs.Dispatcher.{dispatcher_wants, dispatcher_at_rest}
 use Rattle.turn_defs.specs.Joiner.{joiner_at_rest}
 use Rattle.turn_defs.specs.Server.{server_wants, server_at_rest}
 use Rattle.photon_model.specs.Runs.{Entry, Disks, world_after, opening}
-use Rattle.photon_model.specs.Bus.{is_dead}
-use Rattle.photon_model.specs.Rest.{UpWith, IsAtRest, IsQuietPoint}
+use Rattle.photon_model.specs.Rest.{UpWith, IsAtRest, is_out, IsQuiet}
 use Rattle.site_laws.specs.Kinds.{StateOf}
 use Rattle.site_laws.specs.Laws.{IsRunOf}
 
@@ -35,9 +33,9 @@ StatesRest =
     (g : Setting) (d : Disks) (h : List BusEntry) (at : (n : Node) → StateOf n) (es : List Entry) →
     IsRunOf g d h at es → ((n : Node) → IsNode g n → RestsAt g n (at n)) → IsAtRest g (world_after g (opening d) es)
 
--- where each node that isn't dead is quiet, the world is
+-- where each node that takes part is quiet, and no other has an open turn, the world is quiet
 abbrev pub StatesAreQuiet : Type 0
 StatesAreQuiet =
-    (g : Setting) (d : Disks) (h : List BusEntry) (at : (n : Node) → StateOf n) (es : List Entry) (plan : PlanView) →
-    IsRunOf g d h at es → ((n : Node) → IsNode g n → is_dead plan.dead n ≡ false → QuietAt g n (at n)) →
-    IsQuietPoint g plan (world_after g (opening d) es)
+    (g : Setting) (d : Disks) (h : List BusEntry) (at : (n : Node) → StateOf n) (es : List Entry) (dead : ℕ → Bool) →
+    IsRunOf g d h at es → ((n : Node) → IsNode g n → is_out dead n ≡ false → QuietAt g n (at n)) → ((r : ℕ) → r < g.replicas → dead r ≡ true → (at (Replica r)).opened ≡ None) →
+    IsQuiet g dead (world_after g (opening d) es)
