@@ -7,7 +7,7 @@ use Rattle.registry_state.specs.declared.Answer.{Answer}
 use Rattle.registry_state.specs.declared.Insert.{Insert}
 use Rattle.list_words.specs.Lists.{Mem}
 use Rattle.list_words.proofs.Lists.{some_same}
-use Rattle.turn_defs.specs.Setting.{Setting, IsJoiner, first_joiner, site_of_joiner, shard, shards}
+use Rattle.turn_defs.specs.Setting.{Setting, IsJoiner, first_joiner, site_of_joiner, shard}
 use Rattle.turn_defs.specs.Turns.{Out, is_empty}
 use Rattle.turn_defs.proofs.ShardsBelow.{shard_below}
 use Rattle.turn_defs.specs.declared.packet.Packet.TheVariants.{Insert as Claim, Reply}
@@ -19,7 +19,6 @@ use Rattle.turn_defs.specs.declared.node.Input.TheVariants.{Tick, Deliver}
 use Rattle.turn_defs.specs.Sent.{Sent}
 use Rattle.turn_defs.specs.Joiner.{JoinerLive, Flight, insert_of, joiner_start, joiner_turn, joiner_unfinished}
 use Rattle.turn_defs.specs.Server.{ServerLive, is_own_joiner, server_start, server_turn}
-use Rattle.turn_defs.specs.Dispatcher.{waits}
 use Rattle.photon_model.specs.Runs.{World, Entry, row, server_row, joiner_row, after, world_after}
 use Rattle.photon_model.specs.Rest.{UpWith, JoinerWorks, IsQuiet, if_up, is_unfinished}
 use Rattle.progress_laws.specs.Idle.{IsIdle}

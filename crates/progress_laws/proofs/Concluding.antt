@@ -31,7 +31,7 @@ use Rattle.progress_laws.proofs.Calm.{along_idle, server_waits}
 use Rattle.progress_laws.proofs.Claims.{HasOwnTokens, site_below, up_is}
 use Rattle.progress_laws.proofs.Trying.{HasLines}
 use Rattle.progress_laws.proofs.Stalling.{Stalls, stalls}
-use Rattle.progress_laws.proofs.Asking.{AreOpen}
+use Rattle.progress_laws.proofs.Phases.{AreOpen}
 use Rattle.progress_laws.proofs.Refusing.{unfinished_at, no_attempt, every_attempt_open}
 use Rattle.progress_laws.proofs.Starting.{own_tokens, lines}
 use Rattle.progress_laws.proofs.Greatest.{UpTo, Promised, IsMade, MoreOfBoth, with_both}

@@ -1,4 +1,5 @@
 pub mod Asking
+pub mod Phases
 pub mod Calm
 pub mod Claims
 pub mod Concluding

@@ -24,7 +24,7 @@ use Rattle.turn_defs.specs.declared.node.To.TheVariants.{Only}
 use Rattle.turn_defs.specs.declared.node.Input.{Input}
 use Rattle.turn_defs.specs.declared.node.Input.TheVariants.{Tick, Deliver}
 use Rattle.turn_defs.specs.Sent.{Sent}
-use Rattle.turn_defs.specs.Server.{ServerLive, Proposal, first_shard, is_free, shard_unfinished, server_unfinished, server_start, server_turn}
+use Rattle.turn_defs.specs.Server.{ServerKept, ServerLive, Proposal, first_shard, is_free, shard_unfinished, server_unfinished, server_start, server_turn}
 use Rattle.turn_defs.specs.Replica.{ReplicaKept, cell_at, prepared, taken, replica_start, replica_turn}
 use Rattle.photon_model.specs.Facts.{IfUp}
 use Rattle.photon_model.specs.Runs.{World, Entry, Disks, row, server_row, replica_row, after, world_after, opening}
@@ -32,7 +32,9 @@ use Rattle.photon_model.specs.Rest.{if_up, is_unfinished}
 use Rattle.progress_laws.specs.Idle.{IsIdle}
 use Rattle.progress_laws.specs.Moves.{next_of}
 use Rattle.progress_laws.proofs.Transit.{opened_at, Underway, arrives, HasTick}
-use Rattle.progress_laws.proofs.Asking.{IsOpen, IfOpen, AreOpen, question, IsAnswer, HasMark, goes_mark, goes_question, goes_answer, AsksAll, IsKept, AllFollow, turn_follows, Counts, answer_counts, tick_asks, turn_open, PhaseGoes}
+use Rattle.progress_laws.proofs.Phases.{IsOpen, IfOpen, AreOpen, question, IsAnswer, HasMark, goes_mark, goes_question, goes_answer, PhaseGoes}
+use Rattle.progress_laws.proofs.Asking.{Counts, answer_counts, tick_asks}
+use Rattle.progress_laws.proofs.Turning.{AsksAll, IsKept, AllFollow, LiveOpen, turns}
 use Rattle.progress_laws.proofs.Ticking.{comes, passes}
 use Rattle.progress_laws.proofs.Lasting.{lasts, after_run}
 use Rattle.progress_laws.proofs.Ending.{IsEnd, server_now, server_live, replica_live, row_up}
@@ -57,6 +59,9 @@ module _ (g : Setting) (dead : ℕ → Bool) (w : World) (air : List Sent) (es :
         (r : ℕ) → r < g.replicas → dead r ≡ false → AttemptGoesOn s (next_of k (l.shards k)) p r
 
 -- ---- each attempt is open
+
+turn_open : (g : Setting) (s : ℕ) (k : ServerKept) (l : ServerLive) → LiveOpen g s k l l → (i : Input) → LiveOpen g s k l (server_turn g s k l i).live
+turn_open g s k l h i = (turns g s k l i).opens h
 
 open_kept : (g : Setting) (w : World) (e : Entry) → AreOpen g w → AreOpen g (after g w e)
 open_kept g = lasts g (λ st. IfOpen g.replicas st.proposal) tt (turn_open g)
@@ -116,7 +121,7 @@ module _ (g : Setting) (dead : ℕ → Bool) (w : World) (air next : List Sent) 
     follows : AllFollow g s (w.servers s).kept l r_out
     follows =
         subst (λ (o : Option ServerLive). AllFollow g s (w.servers s).kept l (row server_start (server_turn g s) (w.servers s).kept o (w.servers s).opened)) (sym up)
-        (row_up server_start (server_turn g s) (w.servers s).kept l (AllFollow g s (w.servers s).kept l) (turn_follows g s (w.servers s).kept l) (w.servers s).opened)
+        (row_up server_start (server_turn g s) (w.servers s).kept l (AllFollow g s (w.servers s).kept l) (λ i. (turns g s (w.servers s).kept l i).follows) (w.servers s).opened)
 
     -- the turn took an answer to the attempt
     counted : IsEnd e (Server s) → (old : Proposal) (stands : (l.shards k).proposal ≡ Some old) (q : Packet) → IsAnswer (next_of k (l.shards k)) old.ballot old.phase q → opened_at w (Server s) ≡ Some (Deliver (Replica r) q) → (p : Proposal) → (r_out.live.shards k).proposal ≡ Some p → AttemptGoesOn g dead w' next es s (next_of k (r_out.live.shards k)) p r

@@ -1,0 +1,174 @@
+-- The phases of an attempt: what is asked and answered, who is counted, and what a promise or an acceptance makes of it.
+use Rattle.std.proofs.Common.{◌≡◌, ◌⊎◌, inl, inr, ⊎_elim, ℕ, zero, suc, ◌+◌, ◌*◌, ◌<◌, ◌≤◌, Bool, true, false, List, ◌∷◌, length, set, replicate, Some, None, refl, sym, ap, ◌∙◌, arith, []}
+use Rattle.std.specs.Prelude.{Option, slice_get, ⊤}
+use Rattle.std.proofs.lemmas.Bool.{cond_both, cases_lt, cases_Bool, le-ltb, not-false}
+use Rattle.std.proofs.lemmas.List.{length-set, length-replicate}
+use Rattle.ballot_core.specs.declared.Ballot.{Ballot}
+use Rattle.ballot_core.specs.Majority.{marked}
+use Rattle.ballot_core.specs.Ballots.{is_same}
+use Rattle.ballot_core.proofs.Order.{same_false}
+use Rattle.registry_state.specs.declared.Batch.{Batch}
+use Rattle.paxos_defs.specs.declared.Place.{Place}
+use Rattle.paxos_defs.specs.Turns.{higher, value_for}
+use Rattle.paxos_defs.specs.Attempts.{Phase, is_new, is_most, nobody, with_promise, on_promise, with_acceptance, on_accepted}
+use Rattle.paxos_defs.specs.Attempts.Phase.{Promising, Accepting, Ended}
+use Rattle.list_words.specs.Lists.{Mem}
+use Rattle.list_words.proofs.Lists.{none_some}
+use Rattle.turn_defs.specs.Setting.{Setting}
+use Rattle.turn_defs.specs.declared.packet.Packet.{Packet}
+use Rattle.turn_defs.specs.declared.packet.Packet.TheVariants.{Prepare, Promise, Nack, Accept, Accepted}
+use Rattle.turn_defs.specs.declared.node.Node.TheVariants.{Replica}
+use Rattle.turn_defs.specs.declared.node.To.TheVariants.{Only}
+use Rattle.turn_defs.specs.Server.{ServerLive, Proposal, to_from}
+use Rattle.photon_model.specs.Facts.{IfUp}
+use Rattle.photon_model.specs.Runs.{World}
+
+-- the phase counts each of so many replicas, and no majority of them yet
+abbrev pub IsOpen : ℕ → Phase Batch → Type 0
+IsOpen n (Promising marks best) = (length marks ≡ n) × (is_most marks ≡ false)
+IsOpen n (Accepting v marks) = (length marks ≡ n) × (is_most marks ≡ false)
+IsOpen n Ended = ⊥
+
+abbrev pub IfOpen : ℕ → Option Proposal → Type 0
+IfOpen n None = ⊤
+IfOpen n (Some p) = IsOpen n p.phase
+
+-- so it is in each proposal of the servers that are up
+abbrev pub AreOpen : Setting → World → Type 0
+AreOpen g w = (s : ℕ) → IfUp (λ (l : ServerLive). (k : ℕ) → IfOpen g.replicas (l.shards k).proposal) (w.servers s).live
+
+-- what a proposal asks each replica
+abbrev pub question : Place → Ballot → Phase Batch → Packet
+question at b (Promising marks best) = Prepare at b
+question at b (Accepting v marks) = Accept at b v
+question at b Ended = Prepare at b
+
+-- a replica's answer to it
+abbrev pub IsAnswer : Place → Ballot → Phase Batch → Packet → Type 0
+IsAnswer at b (Promising marks best) q = ((prior : Option (Ballot × Batch)) × (q ≡ Promise at b prior)) ⊎ ((c : Ballot) × (q ≡ Nack at b c))
+IsAnswer at b (Accepting v marks) q = (q ≡ Accepted at b) ⊎ ((c : Ballot) × (q ≡ Nack at b c))
+IsAnswer at b Ended q = ⊥
+
+-- the replica is counted
+abbrev pub HasMark : ℕ → Phase Batch → Type 0
+HasMark r (Promising marks best) = slice_get marks r ≡ Some true
+HasMark r (Accepting v marks) = slice_get marks r ≡ Some true
+HasMark r Ended = ⊥
+
+-- ---- marks
+
+pub marked_now : (marks : List Bool) (r : ℕ) → r < length marks → slice_get (set marks r true) r ≡ Some true
+marked_now [] r lt = absurd (omega (arith, lt))
+marked_now (m ∷ marks) zero lt = refl
+marked_now (m ∷ marks) (suc r) lt = marked_now marks r (omega arith)
+
+marks_stay : (marks : List Bool) (k r : ℕ) → slice_get marks r ≡ Some true → slice_get (set marks k true) r ≡ Some true
+marks_stay [] k r h = h
+marks_stay (m ∷ marks) zero zero h = refl
+marks_stay (m ∷ marks) zero (suc r) h = h
+marks_stay (m ∷ marks) (suc k) zero h = h
+marks_stay (m ∷ marks) (suc k) (suc r) h = marks_stay marks k r h
+
+pub was_marked : (marks : List Bool) (r : ℕ) → r < length marks → is_new marks r ≡ false → slice_get marks r ≡ Some true
+was_marked [] r lt e = absurd (omega (arith, lt))
+was_marked (m ∷ marks) zero lt e = ap Some (not-false m e)
+was_marked (m ∷ marks) (suc r) lt e = was_marked marks r (omega arith) e
+
+none_marked : (n : ℕ) → marked (replicate n false) ≡ 0
+none_marked zero = refl
+none_marked (suc n) = none_marked n
+
+pub nobody_open : (n : ℕ) → is_most (nobody n) ≡ false
+nobody_open n = le-ltb (length (nobody n)) (2 * marked (nobody n)) (let a = none_marked n in let b : 2 * marked (nobody n) ≡ 0 = ap (λ x. 2 * x) a in omega (arith, b))
+
+pub same_self : (b : Ballot) → is_same b b ≡ true
+same_self b = ⊎_elim (λ t. t) (λ f. absurd (same_false b b f refl)) (cases_Bool (is_same b b))
+
+-- ---- phases
+
+-- a phase goes on: it is of the same kind, and whoever is counted still is
+abbrev pub PhaseGoes : Phase Batch → Phase Batch → Type 0
+PhaseGoes (Promising marks best) (Promising now best') = (r : ℕ) → slice_get marks r ≡ Some true → slice_get now r ≡ Some true
+PhaseGoes (Accepting v marks) (Accepting v' now) = (v ≡ v') × ((r : ℕ) → slice_get marks r ≡ Some true → slice_get now r ≡ Some true)
+PhaseGoes Ended Ended = Unit {0}
+PhaseGoes _ _ = ⊥
+
+pub phase_same : (p : Phase Batch) → PhaseGoes p p
+phase_same (Promising marks best) = λ r h. h
+phase_same (Accepting v marks) = (refl, λ r h. h)
+phase_same Ended = tt
+
+pub goes_mark : (p q : Phase Batch) → PhaseGoes p q → (r : ℕ) → HasMark r p → HasMark r q
+goes_mark (Promising marks best) (Promising now best') h r m = h r m
+goes_mark (Accepting v marks) (Accepting v' now) h r m = h.1 r m
+goes_mark (Promising marks best) (Accepting v' now) h r m = absurd h
+goes_mark (Promising marks best) Ended h r m = absurd h
+goes_mark (Accepting v marks) (Promising now best') h r m = absurd h
+goes_mark (Accepting v marks) Ended h r m = absurd h
+goes_mark Ended q h r m = absurd m
+
+pub goes_question : (at : Place) (b : Ballot) (p q : Phase Batch) → PhaseGoes p q → question at b p ≡ question at b q
+goes_question at b (Promising marks best) (Promising now best') h = refl
+goes_question at b (Accepting v marks) (Accepting v' now) h = ap (Accept at b) h.0
+goes_question at b (Promising marks best) (Accepting v' now) h = absurd h
+goes_question at b (Promising marks best) Ended h = refl
+goes_question at b (Accepting v marks) (Promising now best') h = absurd h
+goes_question at b (Accepting v marks) Ended h = absurd h
+goes_question at b Ended (Promising now best') h = refl
+goes_question at b Ended (Accepting v' now) h = absurd h
+goes_question at b Ended Ended h = refl
+
+pub goes_answer : (at : Place) (b : Ballot) (x : Packet) (p q : Phase Batch) → PhaseGoes p q → IsAnswer at b p x → IsAnswer at b q x
+goes_answer at b x (Promising marks best) (Promising now best') h a = a
+goes_answer at b x (Accepting v marks) (Accepting v' now) h a = a
+goes_answer at b x (Promising marks best) (Accepting v' now) h a = absurd h
+goes_answer at b x (Promising marks best) Ended h a = absurd h
+goes_answer at b x (Accepting v marks) (Promising now best') h a = absurd h
+goes_answer at b x (Accepting v marks) Ended h a = absurd h
+goes_answer at b x Ended q h a = absurd a
+
+-- a promise: the phase goes on, or the value is sent
+pub promise_goes : (own : Batch) (p : Phase Batch) (r : ℕ) (prior : Option (Ballot × Batch)) → (((on_promise own p r prior).1 ≡ None) × PhaseGoes p (on_promise own p r prior).0) ⊎ ((v : Batch) × (marks : List Bool) × ((on_promise own p r prior).1 ≡ Some v) × ((on_promise own p r prior).0 ≡ Accepting v marks))
+promise_goes own (Promising marks best) r prior =
+    cond_both (is_new marks r) (with_promise own (set marks r true) (higher best prior)) (Promising marks best, None) (λ (t : Phase Batch × Option Batch). ((t.1 ≡ None) × PhaseGoes (Promising marks best) t.0) ⊎ ((v : Batch) × (now : List Bool) × (t.1 ≡ Some v) × (t.0 ≡ Accepting v now)))
+    (λ _. cond_both (is_most (set marks r true)) (Accepting (value_for own (higher best prior)) (nobody (length (set marks r true))), Some (value_for own (higher best prior))) (Promising (set marks r true) (higher best prior), None) (λ (t : Phase Batch × Option Batch). ((t.1 ≡ None) × PhaseGoes (Promising marks best) t.0) ⊎ ((v : Batch) × (now : List Bool) × (t.1 ≡ Some v) × (t.0 ≡ Accepting v now)))
+    (λ _. inr (value_for own (higher best prior), nobody (length (set marks r true)), refl, refl))
+    (λ _. inl (refl, λ k h. marks_stay marks r k h)))
+    (λ _. inl (refl, λ k h. h))
+promise_goes own (Accepting v marks) r prior = inl (refl, (refl, λ k h. h))
+promise_goes own Ended r prior = inl (refl, tt)
+
+pub accepted_goes : (p : Phase Batch) (r : ℕ) → (on_accepted p r).1 ≡ None → PhaseGoes p (on_accepted p r).0
+accepted_goes (Promising marks best) r = λ e k h. h
+accepted_goes (Accepting v marks) r =
+    cond_both (is_new marks r) (with_acceptance v (set marks r true)) (Accepting v marks, None) (λ (t : Phase Batch × Option Batch). t.1 ≡ None → PhaseGoes (Accepting v marks) t.0)
+    (λ _. cond_both (is_most (set marks r true)) (Ended, Some v) (Accepting v (set marks r true), None) (λ (t : Phase Batch × Option Batch). t.1 ≡ None → PhaseGoes (Accepting v marks) t.0)
+    (λ _ e. none_some v (sym e))
+    (λ _ e. (refl, λ k h. marks_stay marks r k h)))
+    (λ _ e. (refl, λ k h. h))
+accepted_goes Ended r = λ e. tt
+
+-- an open phase stays open, until it ends
+pub promise_open : (n : ℕ) (own : Batch) (p : Phase Batch) (r : ℕ) (prior : Option (Ballot × Batch)) → IsOpen n p → IsOpen n (on_promise own p r prior).0
+promise_open n own (Promising marks best) r prior o =
+    cond_both (is_new marks r) (with_promise own (set marks r true) (higher best prior)) (Promising marks best, None) (λ (t : Phase Batch × Option Batch). IsOpen n t.0)
+    (λ _. cond_both (is_most (set marks r true)) (Accepting (value_for own (higher best prior)) (nobody (length (set marks r true))), Some (value_for own (higher best prior))) (Promising (set marks r true) (higher best prior), None) (λ (t : Phase Batch × Option Batch). IsOpen n t.0)
+    (λ _. (length-replicate (length (set marks r true)) false ∙ length-set marks r true ∙ o.0, nobody_open (length (set marks r true))))
+    (λ m. (length-set marks r true ∙ o.0, m)))
+    (λ _. o)
+promise_open n own (Accepting v marks) r prior o = o
+promise_open n own Ended r prior o = o
+
+pub accepted_open : (n : ℕ) (p : Phase Batch) (r : ℕ) → IsOpen n p → (on_accepted p r).1 ≡ None → IsOpen n (on_accepted p r).0
+accepted_open n (Promising marks best) r o = λ e. o
+accepted_open n (Accepting v marks) r o =
+    cond_both (is_new marks r) (with_acceptance v (set marks r true)) (Accepting v marks, None) (λ (t : Phase Batch × Option Batch). t.1 ≡ None → IsOpen n t.0)
+    (λ _. cond_both (is_most (set marks r true)) (Ended, Some v) (Accepting v (set marks r true), None) (λ (t : Phase Batch × Option Batch). t.1 ≡ None → IsOpen n t.0)
+    (λ _ e. none_some v (sym e))
+    (λ m e. (length-set marks r true ∙ o.0, m)))
+    (λ _ e. o)
+accepted_open n Ended r o = λ e. o
+
+pub mem_to : (r from n : ℕ) (p : Packet) → from ≤ r → r < from + n → Mem (Only (Replica r), p) (to_from from n p)
+mem_to r from zero p a b = absurd (omega arith)
+mem_to r from (suc n) p a b = ⊎_elim (λ lt. inr (mem_to r (suc from) n p lt (omega arith))) (λ ge. inl (ap (λ x. (Only (Replica x), p)) (let e : from ≡ r = omega arith in e))) (cases_lt from r)
