@@ -1,5 +1,5 @@
 -- An idle interval that begins with work left ends with a server held, by a promise that is older than the interval.
-use Rattle.std.proofs.Common.{◌≡◌, ◌⊎◌, inl, inr, ⊎_elim, ℕ, zero, suc, ◌+◌, ◌*◌, ◌<◌, ◌≤◌, Bool, true, false, not, ◌||◌, List, [], Some, None, refl, sym, ap, ◌∙◌, subst, arith}
+use Rattle.std.proofs.Common.{◌≡◌, ◌⊎◌, inl, inr, ⊎_elim, ℕ, zero, suc, ◌+◌, ◌*◌, ◌<◌, ◌≤◌, Bool, true, false, not, ◌||◌, List, [], length, Some, None, refl, sym, ap, ◌∙◌, subst, arith}
 use Rattle.std.specs.Prelude.{Option}
 use Rattle.std.proofs.lemmas.Bool.{true≢false, cases_Bool, cases_lt, or_left, or_right}
 use Rattle.ballot_core.specs.declared.Ballot.{Ballot}
@@ -7,6 +7,7 @@ use Rattle.ballot_core.specs.Ballots.{IsUpTo}
 use Rattle.ballot_core.specs.Majority.{Majority}
 use Rattle.ballot_core.proofs.Order.{upto_trans, not_above}
 use Rattle.time_shards.specs.Shards.{IsTable}
+use Rattle.registry_state.specs.declared.Batch.{Batch}
 use Rattle.paxos_defs.specs.declared.Place.{Place}
 use Rattle.list_words.proofs.Lists.{none_some, some_same}
 use Rattle.turn_defs.specs.Setting.{Setting, IsJoiner, first_joiner, shards, site_of_joiner}
@@ -16,15 +17,15 @@ use Rattle.turn_defs.specs.declared.node.Node.TheVariants.{Dispatcher, Server, R
 use Rattle.turn_defs.specs.declared.node.Input.TheVariants.{Deliver}
 use Rattle.turn_defs.specs.Dispatcher.{DispatcherLive, dispatcher_at_rest}
 use Rattle.turn_defs.specs.Joiner.{JoinerLive, joiner_at_rest}
-use Rattle.turn_defs.specs.Server.{ServerLive, is_free, server_at_rest}
+use Rattle.turn_defs.specs.Server.{ServerLive, ShardState, is_free, server_at_rest}
 use Rattle.photon_model.specs.EveryRun.{AllFactsHold}
 use Rattle.photon_model.specs.Runs.{World, Entry, Disks, world_after, opening}
 use Rattle.photon_model.specs.Rest.{UpWith, IsAtRest, IsQuiet}
 use Rattle.progress_laws.specs.Idle.{IsIdle}
-use Rattle.progress_laws.specs.Moves.{is_left, next_of, promise_at, IsHeldAt, IsRefusedFrom, RestOrRefused, HeldIsRefused}
+use Rattle.progress_laws.specs.Moves.{is_left, next_of, promise_at, IsHeldAt, IsRefusedFrom, RestOrRefused, LeftIsRefused, HeldIsRefused}
 use Rattle.progress_laws.proofs.Transit.{opened_at, HasTick, quiet_closed}
 use Rattle.progress_laws.proofs.Ticking.{comes, passes}
-use Rattle.progress_laws.proofs.Turning.{ballot_in}
+use Rattle.progress_laws.proofs.Turning.{ballot_in, Same}
 use Rattle.progress_laws.proofs.Waiting.{IsLeftAt, still_left}
 use Rattle.progress_laws.proofs.Lasting.{OfAllShards, HasCause, no_cause, cause_kept, after_run}
 use Rattle.progress_laws.proofs.Calm.{along_idle, server_waits}
@@ -155,31 +156,42 @@ module _ (g : Setting) (dead : ℕ → Bool) (table : IsTable g.table) (most : M
             (λ free. true≢false (sym (held_back site lt m now (left m now)) ∙ free))
             waits)
 
-  -- ---- what is left stays so in one shard
+  -- ---- what stays so in one shard
 
-  abbrev LeftIn : ℕ → ℕ → World → Type 0
-  LeftIn s k x = (m : ServerLive) × ((x.servers s).live ≡ Some m) × (is_left g (m.shards k) ≡ true)
+  abbrev HasIn : (ShardState → Type 0) → ℕ → ℕ → World → Type 0
+  HasIn P s k x = (m : ServerLive) × ((x.servers s).live ≡ Some m) × P (m.shards k)
 
-  left_in : (s k : ℕ) → LeftIn s k w → LeftIn s k v
-  left_in s k h =
-      along_idle g dead (λ x air es. LeftIn s k x)
-      (λ x air next e es step h. let m = server_waits g dead x air next e step s h.0 h.1 in (m.0, m.1, still_left g (h.0.shards k) (m.0.shards k) (m.2 k) h.2))
+  stays_in : (P : ShardState → Type 0) → ((st now : ShardState) → Same st now → P st → P now) → (s k : ℕ) → HasIn P s k w → HasIn P s k v
+  stays_in P keeps s k h =
+      along_idle g dead (λ x air es. HasIn P s k x)
+      (λ x air next e es step h. let m = server_waits g dead x air next e step s h.0 h.1 in (m.0, m.1, keeps (h.0.shards k) (m.0.shards k) (m.2 k) h.2))
       es w i h
 
   -- a server that is held ends held, by a promise not below the round that it drew
   pub held_again : (s n : ℕ) (at : Place) → IsHeldAt g w s at n → IsRefusedFrom g dead w v at n
   held_again s n at h =
       refused_from at h.shard s n h.site h.live h.up h.next (inl (h.free, let e = h.round in omega (arith, e)))
-      (λ m now. let x = left_in s at.shard (h.live, h.up, h.left) in subst (λ (m : ServerLive). is_left g (m.shards at.shard) ≡ true) (some_same x.0 m (sym x.1 ∙ now)) x.2)
+      (λ m now. let x = stays_in (λ st. is_left g st ≡ true) (still_left g) s at.shard (h.live, h.up, h.left) in subst (λ (m : ServerLive). is_left g (m.shards at.shard) ≡ true) (some_same x.0 m (sym x.1 ∙ now)) x.2)
 
   abbrev pub SomeRefused : Type 0
   SomeRefused = (at : Place) × IsRefusedFrom g dead w v at 0
 
   -- where something is left at the end, a server is held
-  left_refused : (s : ℕ) → s < 2 → IsLeftAt g v s → SomeRefused
-  left_refused s lt (m, now, (k, klt, left)) =
-      let u = servers_up s lt in
-      (next_of k (u.0.shards k), refused_from (next_of k (u.0.shards k)) klt s 0 lt u.0 u.1 refl (inr refl) (λ m' now'. subst (λ (x : ServerLive). is_left g (x.shards k) ≡ true) (some_same m m' (sym now ∙ now')) left))
+  pub left_refused : (s : ℕ) → s < 2 → (m : ServerLive) → (v.servers s).live ≡ Some m → (k : ℕ) → k < shards g → is_left g (m.shards k) ≡ true → IsRefusedFrom g dead w v (next_of k (m.shards k)) 0
+  left_refused s lt m now k below left =
+      refused_from (next_of k (m.shards k)) below s 0 lt u.0 u.1 (ap (λ (vs : List Batch). record { shard = k; slot = length vs }) (sym learned)) (inr refl)
+      (λ m' now'. subst (λ (x : ServerLive). is_left g (x.shards k) ≡ true) (some_same m m' (sym now ∙ now')) left)
+    where
+      u : (l : ServerLive) × ((w.servers s).live ≡ Some l)
+      u = servers_up s lt
+
+      learned : (m.shards k).learned ≡ (u.0.shards k).learned
+      learned =
+          let x = stays_in (λ st. st.learned ≡ (u.0.shards k).learned) (λ st now same e. same.0 ∙ e) s k (u.0, u.1, refl) in
+          subst (λ (z : ServerLive). (z.shards k).learned ≡ (u.0.shards k).learned) (some_same x.0 m (sym x.1 ∙ now)) x.2
+
+  some_refused : (s : ℕ) → s < 2 → IsLeftAt g v s → SomeRefused
+  some_refused s lt (m, now, (k, below, left)) = (next_of k (m.shards k), left_refused s lt m now k below left)
 
   -- ---- a node is at rest, or something is left at its site's server
 
@@ -191,7 +203,7 @@ module _ (g : Setting) (dead : ℕ → Bool) (table : IsTable g.table) (most : M
   joiner_rests j lt =
       ⊎_elim
       (λ low. inl (λ is. let ge = is.0 in absurd (omega (arith, low, ge))))
-      (λ ge. ⊎_elim (λ t. inl (λ is. t)) (λ f. inr (left_refused (site_of_joiner g j) (site_below g j) (all.joiners j (ge, lt) f))) (tested _ joiner_at_rest (w.joiners j).live (i.interval.starts.joiners j (ge, lt)).1))
+      (λ ge. ⊎_elim (λ t. inl (λ is. t)) (λ f. inr (some_refused (site_of_joiner g j) (site_below g j) (all.joiners j (ge, lt) f))) (tested _ joiner_at_rest (w.joiners j).live (i.interval.starts.joiners j (ge, lt)).1))
       (cases_lt j (first_joiner g))
 
   pub rests_or_refused : IsAtRest g w ⊎ SomeRefused
@@ -204,10 +216,10 @@ module _ (g : Setting) (dead : ℕ → Bool) (table : IsTable g.table) (most : M
       (every (λ j. IsJoiner g j → UpWith (λ (l : JoinerLive). joiner_at_rest l ≡ true) (w.joiners j).live) SomeRefused (first_joiner g + 2 * g.joiners) joiner_rests))
       (λ q. inr q)
       (every (λ s. UpWith (λ (l : ServerLive). server_at_rest g l ≡ true) (w.servers s).live) SomeRefused 2
-      (λ s lt. ⊎_elim (λ t. inl t) (λ f. inr (left_refused s lt (all.servers s f))) (tested _ (server_at_rest g) (w.servers s).live (i.interval.starts.servers s lt).1))))
+      (λ s lt. ⊎_elim (λ t. inl t) (λ f. inr (some_refused s lt (all.servers s f))) (tested _ (server_at_rest g) (w.servers s).live (i.interval.starts.servers s lt).1))))
       (λ q. inr q)
       (every (λ s. UpWith (λ (l : DispatcherLive). dispatcher_at_rest l ≡ true) (w.dispatchers s).live) SomeRefused 2
-      (λ s lt. ⊎_elim (λ t. inl t) (λ f. inr (left_refused s lt (all.dispatchers s lt f))) (tested _ dispatcher_at_rest (w.dispatchers s).live (i.interval.starts.dispatchers s lt).1)))
+      (λ s lt. ⊎_elim (λ t. inl t) (λ f. inr (some_refused s lt (all.dispatchers s lt f))) (tested _ dispatcher_at_rest (w.dispatchers s).live (i.interval.starts.dispatchers s lt).1)))
 
 -- ---- after every run
 
@@ -217,6 +229,9 @@ module _ (g : Setting) (d : Disks) (es : List Entry) (facts : AllFactsHold g (wo
 
   pub first_law : RestOrRefused g (world_after g (opening d) es)
   first_law dead more table most idle = rests_or_refused g dead table most _ more idle (every_attempt_open g d es) causes_after (own_tokens g _ facts.0 facts.2) (lines g _ facts.0 facts.2)
+
+  pub each_law : LeftIsRefused g (world_after g (opening d) es)
+  each_law dead more table most idle s lt l up k below left = left_refused g dead table most _ more idle (every_attempt_open g d es) causes_after (own_tokens g _ facts.0 facts.2) (lines g _ facts.0 facts.2) s lt l up k below left
 
   pub second_law : HeldIsRefused g (world_after g (opening d) es)
   second_law dead more table most idle s n at held = held_again g dead table most _ more idle (every_attempt_open g d es) causes_after (own_tokens g _ facts.0 facts.2) (lines g _ facts.0 facts.2) s n at held

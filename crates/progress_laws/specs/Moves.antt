@@ -81,6 +81,13 @@ RestOrRefused g w =
     (dead : ℕ → Bool) (es : List Entry) → IsTable g.table → Majority g.replicas (λ r. dead r ≡ false) → IsIdle g dead w es →
     IsAtRest g w ⊎ ((at : Place) × IsRefusedFrom g dead w (world_after g w es) at 0)
 
+-- So it is in each shard in which a server has something left at the end.
+abbrev pub LeftIsRefused : Setting → World → Type 0
+LeftIsRefused g w =
+    (dead : ℕ → Bool) (es : List Entry) → IsTable g.table → Majority g.replicas (λ r. dead r ≡ false) → IsIdle g dead w es →
+    (s : ℕ) → s < 2 → (l : ServerLive) → ((world_after g w es).servers s).live ≡ Some l → (k : ℕ) → k < shards g → is_left g (l.shards k) ≡ true →
+    IsRefusedFrom g dead w (world_after g w es) (next_of k (l.shards k)) 0
+
 -- Where a server is held when such an interval begins, one ends held at the same slot, by a promise not below the round that
 -- the first drew in it: so no promise does it twice.
 abbrev pub HeldIsRefused : Setting → World → Type 0

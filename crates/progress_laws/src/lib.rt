@@ -3,7 +3,7 @@
 #![tactic(auto)]
 
 ghost use Rattle.photon_model.specs.EveryRun.{AfterEveryRun};
-ghost use Rattle.progress_laws.specs.Moves.{HeldIsRefused, RestOrRefused, WorkMovesOn, WorkMovesOnBy};
+ghost use Rattle.progress_laws.specs.Moves.{HeldIsRefused, LeftIsRefused, RestOrRefused, WorkMovesOn, WorkMovesOnBy};
 ghost use Rattle.progress_laws.specs.Rows.{CarriesOnce, ThreeAreIdle};
 
 /// After every run work moves on. An interval in which nothing is done leaves a server held, by a promise that is older than
@@ -13,6 +13,7 @@ pub fn progress()
     ensures moves_on { AfterEveryRun WorkMovesOn }
     ensures by_replicas { AfterEveryRun WorkMovesOnBy }
     ensures first { AfterEveryRun RestOrRefused }
+    ensures each { AfterEveryRun LeftIsRefused }
     ensures second { AfterEveryRun HeldIsRefused }
 {
     photon_model::every_run();

@@ -1,4 +1,4 @@
-use Rattle.progress_laws.proofs.Concluding.{first_law, second_law}
+use Rattle.progress_laws.proofs.Concluding.{first_law, each_law, second_law}
 use Rattle.progress_laws.proofs.Moving.{moves_on, moves_on_by}
 use Rattle.progress_laws.proofs.progress.Goals as goal
 
@@ -10,6 +10,9 @@ returns-clause-by_replicas c g d es ok sound run = moves_on_by g _ (moves_on g d
 
 pub returns-clause-first : goal.returns-clause-first
 returns-clause-first c g d es ok sound run = first_law g d es (c.every_run.ensures.facts g d es ok sound run)
+
+pub returns-clause-each : goal.returns-clause-each
+returns-clause-each c g d es ok sound run = each_law g d es (c.every_run.ensures.facts g d es ok sound run)
 
 pub returns-clause-second : goal.returns-clause-second
 returns-clause-second c g d es ok sound run = second_law g d es (c.every_run.ensures.facts g d es ok sound run)
