@@ -34,7 +34,8 @@ pub fn left_on_disks()
     photon_model::whole_stores();
 }
 
-/// Where each node rests by its own state, the world is at rest, and where each that isn't dead is quiet, the world is.
+/// Where each node rests by its own state, the world is at rest, and where each that takes part is quiet and no other has an open
+/// turn, the world is quiet.
 pub fn rest_of_states()
     ensures rest { StatesRest }
     ensures quiet { StatesAreQuiet }
