@@ -20,7 +20,7 @@ use Rattle.turn_defs.specs.declared.node.To.TheVariants.{Only}
 use Rattle.turn_defs.specs.declared.node.Input.TheVariants.{Own, Tick, Deliver}
 use Rattle.turn_defs.specs.Server.{ServerKept, ServerLive, ShardState, Proposal, is_current, learns, promised, accepted, of_phase, again, all_again, gets_promise, gets_accepted, gets_nack, server_turn}
 use Rattle.progress_laws.specs.Moves.{next_of}
-use Rattle.progress_laws.proofs.Phases.{IsOpen, IsAnswer, HasMark, question, PhaseGoes, marked_now, was_marked, same_self, promise_goes, promise_open, mem_to}
+use Rattle.progress_laws.proofs.Phases.{IsOpen, IsAnswer, HasMark, question, PhaseGoes, promises_no_more, marked_now, was_marked, same_self, promise_goes, promise_open, mem_to}
 use Rattle.progress_laws.proofs.Turning.{AsksAll, IsKept, promised_turns}
 
 module _ (g : Setting) (site : ℕ) (k : ServerKept) (l : ServerLive) where
@@ -47,7 +47,7 @@ module _ (g : Setting) (site : ℕ) (k : ServerKept) (l : ServerLive) where
     counted r prior lt marks best o =
         cond_both (is_new marks r) (with_promise p.own (set marks r true) (higher best prior)) (Promising marks best, None) (λ (t : Phase Batch × Option Batch). PhaseGoes (Promising marks best) t.0 → HasMark r t.0)
         (λ _. cond_both (is_most (set marks r true)) (Accepting (value_for p.own (higher best prior)) (nobody (length (set marks r true))), Some (value_for p.own (higher best prior))) (Promising (set marks r true) (higher best prior), None) (λ (t : Phase Batch × Option Batch). PhaseGoes (Promising marks best) t.0 → HasMark r t.0)
-        (λ _ h. absurd h)
+        (λ _ h. absurd (promises_no_more marks (nobody (length (set marks r true))) best (value_for p.own (higher best prior)) (next_of n (l.shards n)) p.ballot h))
         (λ _ h. marked_now marks r (let e = o.0 in omega (arith, e, lt))))
         (λ e h. was_marked marks r (let f = o.0 in omega (arith, f, lt)) e)
 

@@ -86,46 +86,20 @@ same_self b = ⊎_elim (λ t. t) (λ f. absurd (same_false b b f refl)) (cases_B
 
 -- ---- phases
 
--- a phase goes on: it is of the same kind, and whoever is counted still is
-abbrev pub PhaseGoes : Phase Batch → Phase Batch → Type 0
-PhaseGoes (Promising marks best) (Promising now best') = (r : ℕ) → slice_get marks r ≡ Some true → slice_get now r ≡ Some true
-PhaseGoes (Accepting v marks) (Accepting v' now) = (v ≡ v') × ((r : ℕ) → slice_get marks r ≡ Some true → slice_get now r ≡ Some true)
-PhaseGoes Ended Ended = Unit {0}
-PhaseGoes _ _ = ⊥
+-- a phase goes on: it asks and is answered the same, and whoever is counted still is
+pub record PhaseGoes (was now : Phase Batch) : Type 0 where
+  pub asks : (at : Place) (b : Ballot) → question at b was ≡ question at b now
+  pub hears : (at : Place) (b : Ballot) (q : Packet) → IsAnswer at b was q → IsAnswer at b now q
+  pub marks : (r : ℕ) → HasMark r was → HasMark r now
 
 pub phase_same : (p : Phase Batch) → PhaseGoes p p
-phase_same (Promising marks best) = λ r h. h
-phase_same (Accepting v marks) = (refl, λ r h. h)
-phase_same Ended = tt
+phase_same p = record { asks = λ at b. refl; hears = λ at b q a. a; marks = λ r h. h }
 
-pub goes_mark : (p q : Phase Batch) → PhaseGoes p q → (r : ℕ) → HasMark r p → HasMark r q
-goes_mark (Promising marks best) (Promising now best') h r m = h r m
-goes_mark (Accepting v marks) (Accepting v' now) h r m = h.1 r m
-goes_mark (Promising marks best) (Accepting v' now) h r m = absurd h
-goes_mark (Promising marks best) Ended h r m = absurd h
-goes_mark (Accepting v marks) (Promising now best') h r m = absurd h
-goes_mark (Accepting v marks) Ended h r m = absurd h
-goes_mark Ended q h r m = absurd m
-
-pub goes_question : (at : Place) (b : Ballot) (p q : Phase Batch) → PhaseGoes p q → question at b p ≡ question at b q
-goes_question at b (Promising marks best) (Promising now best') h = refl
-goes_question at b (Accepting v marks) (Accepting v' now) h = ap (Accept at b) h.0
-goes_question at b (Promising marks best) (Accepting v' now) h = absurd h
-goes_question at b (Promising marks best) Ended h = refl
-goes_question at b (Accepting v marks) (Promising now best') h = absurd h
-goes_question at b (Accepting v marks) Ended h = absurd h
-goes_question at b Ended (Promising now best') h = refl
-goes_question at b Ended (Accepting v' now) h = absurd h
-goes_question at b Ended Ended h = refl
-
-pub goes_answer : (at : Place) (b : Ballot) (x : Packet) (p q : Phase Batch) → PhaseGoes p q → IsAnswer at b p x → IsAnswer at b q x
-goes_answer at b x (Promising marks best) (Promising now best') h a = a
-goes_answer at b x (Accepting v marks) (Accepting v' now) h a = a
-goes_answer at b x (Promising marks best) (Accepting v' now) h a = absurd h
-goes_answer at b x (Promising marks best) Ended h a = absurd h
-goes_answer at b x (Accepting v marks) (Promising now best') h a = absurd h
-goes_answer at b x (Accepting v marks) Ended h a = absurd h
-goes_answer at b x Ended q h a = absurd a
+pub promises_no_more : (marks now : List Bool) (best : Option (Ballot × Batch)) (v : Batch) → Place → Ballot → PhaseGoes (Promising marks best) (Accepting v now) → ⊥
+promises_no_more marks now best v at b h = differ (h.asks at b)
+  where
+    differ : Prepare at b ≡ Accept at b v → ⊥
+    differ e = cc
 
 -- a promise: the phase goes on, or the value is sent
 pub promise_goes : (own : Batch) (p : Phase Batch) (r : ℕ) (prior : Option (Ballot × Batch)) → (((on_promise own p r prior).1 ≡ None) × PhaseGoes p (on_promise own p r prior).0) ⊎ ((v : Batch) × (marks : List Bool) × ((on_promise own p r prior).1 ≡ Some v) × ((on_promise own p r prior).0 ≡ Accepting v marks))
@@ -133,20 +107,20 @@ promise_goes own (Promising marks best) r prior =
     cond_both (is_new marks r) (with_promise own (set marks r true) (higher best prior)) (Promising marks best, None) (λ (t : Phase Batch × Option Batch). ((t.1 ≡ None) × PhaseGoes (Promising marks best) t.0) ⊎ ((v : Batch) × (now : List Bool) × (t.1 ≡ Some v) × (t.0 ≡ Accepting v now)))
     (λ _. cond_both (is_most (set marks r true)) (Accepting (value_for own (higher best prior)) (nobody (length (set marks r true))), Some (value_for own (higher best prior))) (Promising (set marks r true) (higher best prior), None) (λ (t : Phase Batch × Option Batch). ((t.1 ≡ None) × PhaseGoes (Promising marks best) t.0) ⊎ ((v : Batch) × (now : List Bool) × (t.1 ≡ Some v) × (t.0 ≡ Accepting v now)))
     (λ _. inr (value_for own (higher best prior), nobody (length (set marks r true)), refl, refl))
-    (λ _. inl (refl, λ k h. marks_stay marks r k h)))
-    (λ _. inl (refl, λ k h. h))
-promise_goes own (Accepting v marks) r prior = inl (refl, (refl, λ k h. h))
-promise_goes own Ended r prior = inl (refl, tt)
+    (λ _. inl (refl, record { asks = λ at b. refl; hears = λ at b q a. a; marks = λ k h. marks_stay marks r k h })))
+    (λ _. inl (refl, phase_same (Promising marks best)))
+promise_goes own (Accepting v marks) r prior = inl (refl, phase_same (Accepting v marks))
+promise_goes own Ended r prior = inl (refl, phase_same Ended)
 
 pub accepted_goes : (p : Phase Batch) (r : ℕ) → (on_accepted p r).1 ≡ None → PhaseGoes p (on_accepted p r).0
-accepted_goes (Promising marks best) r = λ e k h. h
+accepted_goes (Promising marks best) r = λ e. phase_same (Promising marks best)
 accepted_goes (Accepting v marks) r =
     cond_both (is_new marks r) (with_acceptance v (set marks r true)) (Accepting v marks, None) (λ (t : Phase Batch × Option Batch). t.1 ≡ None → PhaseGoes (Accepting v marks) t.0)
     (λ _. cond_both (is_most (set marks r true)) (Ended, Some v) (Accepting v (set marks r true), None) (λ (t : Phase Batch × Option Batch). t.1 ≡ None → PhaseGoes (Accepting v marks) t.0)
     (λ _ e. none_some v (sym e))
-    (λ _ e. (refl, λ k h. marks_stay marks r k h)))
-    (λ _ e. (refl, λ k h. h))
-accepted_goes Ended r = λ e. tt
+    (λ _ e. record { asks = λ at b. refl; hears = λ at b q a. a; marks = λ k h. marks_stay marks r k h }))
+    (λ _ e. phase_same (Accepting v marks))
+accepted_goes Ended r = λ e. phase_same Ended
 
 -- an open phase stays open, until it ends
 pub promise_open : (n : ℕ) (own : Batch) (p : Phase Batch) (r : ℕ) (prior : Option (Ballot × Batch)) → IsOpen n p → IsOpen n (on_promise own p r prior).0

@@ -32,7 +32,7 @@ use Rattle.photon_model.specs.Rest.{if_up, is_unfinished}
 use Rattle.progress_laws.specs.Idle.{IsIdle}
 use Rattle.progress_laws.specs.Moves.{next_of}
 use Rattle.progress_laws.proofs.Transit.{opened_at, Underway, arrives, HasTick}
-use Rattle.progress_laws.proofs.Phases.{IsOpen, IfOpen, AreOpen, question, IsAnswer, HasMark, goes_mark, goes_question, goes_answer, PhaseGoes}
+use Rattle.progress_laws.proofs.Phases.{IsOpen, IfOpen, AreOpen, question, IsAnswer, HasMark, PhaseGoes}
 use Rattle.progress_laws.proofs.Asking.{Counts, answer_counts, tick_asks}
 use Rattle.progress_laws.proofs.Turning.{AsksAll, IsKept, AllFollow, LiveOpen, turns}
 use Rattle.progress_laws.proofs.Ticking.{comes, passes}
@@ -147,13 +147,13 @@ module _ (g : Setting) (dead : ℕ → Bool) (w : World) (air next : List Sent) 
             at_is = ap (λ (vs : List Batch). record { shard = k; slot = length vs }) (sym learned)
 
             still_asked : IsAsked s r (next_of k (l.shards k)) old.ballot old.phase w' next → AttemptGoesOn g dead w' next es s (next_of k (r_out.live.shards k)) p r
-            still_asked u = inl (inr (subst (λ (q : Packet). Underway w' next (record { from = Server s; to = Replica r; packet = q })) (ap (λ a. question a old.ballot old.phase) at_is ∙ ap (λ b. question (next_of k (r_out.live.shards k)) b old.phase) (sym ballot) ∙ goes_question (next_of k (r_out.live.shards k)) p.ballot old.phase p.phase goes) u))
+            still_asked u = inl (inr (subst (λ (q : Packet). Underway w' next (record { from = Server s; to = Replica r; packet = q })) (ap (λ a. question a old.ballot old.phase) at_is ∙ ap (λ b. question (next_of k (r_out.live.shards k)) b old.phase) (sym ballot) ∙ goes.asks (next_of k (r_out.live.shards k)) p.ballot) u))
 
             still_answered : IsAnswered s r (next_of k (l.shards k)) old.ballot old.phase w' next → AttemptGoesOn g dead w' next es s (next_of k (r_out.live.shards k)) p r
-            still_answered (q, a, u) = inr (inl (q, goes_answer (next_of k (r_out.live.shards k)) p.ballot q old.phase p.phase goes (subst (λ b. IsAnswer (next_of k (r_out.live.shards k)) b old.phase q) (sym ballot) (subst (λ at. IsAnswer at old.ballot old.phase q) at_is a)), u))
+            still_answered (q, a, u) = inr (inl (q, goes.hears (next_of k (r_out.live.shards k)) p.ballot q (subst (λ b. IsAnswer (next_of k (r_out.live.shards k)) b old.phase q) (sym ballot) (subst (λ at. IsAnswer at old.ballot old.phase q) at_is a)), u))
 
             go : AttemptGoesOn g dead w air (e ∷ es) s (next_of k (l.shards k)) old r → AttemptGoesOn g dead w' next es s (next_of k (r_out.live.shards k)) p r
-            go (inl (inl m)) = inl (inl (goes_mark old.phase p.phase goes r m))
+            go (inl (inl m)) = inl (inl (goes.marks r m))
             go (inl (inr u)) = let v = h.replicas r is live in ⊎_elim still_asked still_answered (question_moves s r (next_of k (l.shards k)) old.ballot old.phase (opens_of old stands) v.0 v.1 u)
             go (inr (inl (q, a, u))) =
                 ⊎_elim (λ y. still_answered (q, a, y))
