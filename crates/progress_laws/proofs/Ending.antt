@@ -42,49 +42,29 @@ own_part {A} {B} {Z} part f n v m z = go (m == n) refl
 
 module _ (g : Setting) (w : World) where
   pub server_live : (e : Entry) (s : ℕ) → NotStopped e → (((after g w e).servers s).live ≡ (w.servers s).live) ⊎ (IsEnd e (Server s) × (((after g w e).servers s).live ≡ Some (server_row g s (w.servers s)).live))
-  server_live (Begin (Dispatcher m) i) s h = inl refl
   server_live (Begin (Server m) i) s h = inl (kept_part (λ c. c.live) w.servers m (begun (w.servers m) i) refl s)
-  server_live (Begin (Replica m) i) s h = inl refl
-  server_live (Begin (Joiner m) i) s h = inl refl
-  server_live (End (Dispatcher m) _ ps kept) s h = inl refl
   server_live (End (Server m) o ps kept) s h = own_part (λ c. c.live) w.servers m (λ n. server_ended g n (w.servers n) o) s (λ e. (o, ps, kept, ap (λ k. End (Server k) o ps kept) e))
-  server_live (End (Replica m) _ ps kept) s h = inl refl
-  server_live (End (Joiner m) _ ps kept) s h = inl refl
   server_live (Stop n landed) s h = absurd h
+  server_live _ s h = inl refl
 
   pub joiner_live : (e : Entry) (s : ℕ) → NotStopped e → (((after g w e).joiners s).live ≡ (w.joiners s).live) ⊎ (IsEnd e (Joiner s) × (((after g w e).joiners s).live ≡ Some (joiner_row g s (w.joiners s)).live))
-  joiner_live (Begin (Dispatcher m) i) s h = inl refl
   joiner_live (Begin (Joiner m) i) s h = inl (kept_part (λ c. c.live) w.joiners m (begun (w.joiners m) i) refl s)
-  joiner_live (Begin (Replica m) i) s h = inl refl
-  joiner_live (Begin (Server m) i) s h = inl refl
-  joiner_live (End (Dispatcher m) _ ps kept) s h = inl refl
   joiner_live (End (Joiner m) o ps kept) s h = own_part (λ c. c.live) w.joiners m (λ n. joiner_ended g n (w.joiners n) o) s (λ e. (o, ps, kept, ap (λ k. End (Joiner k) o ps kept) e))
-  joiner_live (End (Replica m) _ ps kept) s h = inl refl
-  joiner_live (End (Server m) _ ps kept) s h = inl refl
   joiner_live (Stop n landed) s h = absurd h
+  joiner_live _ s h = inl refl
 
   pub dispatcher_live : (e : Entry) (s : ℕ) → NotStopped e → (((after g w e).dispatchers s).live ≡ (w.dispatchers s).live) ⊎ (IsEnd e (Dispatcher s) × (((after g w e).dispatchers s).live ≡ Some (dispatcher_row g s (w.dispatchers s)).live))
-  dispatcher_live (Begin (Joiner m) i) s h = inl refl
   dispatcher_live (Begin (Dispatcher m) i) s h = inl (kept_part (λ c. c.live) w.dispatchers m (begun (w.dispatchers m) i) refl s)
-  dispatcher_live (Begin (Replica m) i) s h = inl refl
-  dispatcher_live (Begin (Server m) i) s h = inl refl
-  dispatcher_live (End (Joiner m) _ ps kept) s h = inl refl
   dispatcher_live (End (Dispatcher m) o ps kept) s h = own_part (λ c. c.live) w.dispatchers m (λ n. dispatcher_ended g n (w.dispatchers n) o) s (λ e. (o, ps, kept, ap (λ k. End (Dispatcher k) o ps kept) e))
-  dispatcher_live (End (Replica m) _ ps kept) s h = inl refl
-  dispatcher_live (End (Server m) _ ps kept) s h = inl refl
   dispatcher_live (Stop n landed) s h = absurd h
+  dispatcher_live _ s h = inl refl
 
 module _ (g : Setting) (w : World) where
   pub replica_live : (e : Entry) (s : ℕ) → NotStopped e → (((after g w e).replicas s).live ≡ (w.replicas s).live) ⊎ (IsEnd e (Replica s) × (((after g w e).replicas s).live ≡ Some (replica_row (w.replicas s)).live))
-  replica_live (Begin (Joiner m) i) s h = inl refl
   replica_live (Begin (Replica m) i) s h = inl (kept_part (λ c. c.live) w.replicas m (begun (w.replicas m) i) refl s)
-  replica_live (Begin (Dispatcher m) i) s h = inl refl
-  replica_live (Begin (Server m) i) s h = inl refl
-  replica_live (End (Joiner m) _ ps kept) s h = inl refl
   replica_live (End (Replica m) o ps kept) s h = own_part (λ c. c.live) w.replicas m (λ n. replica_ended (w.replicas n) o) s (λ e. (o, ps, kept, ap (λ k. End (Replica k) o ps kept) e))
-  replica_live (End (Dispatcher m) _ ps kept) s h = inl refl
-  replica_live (End (Server m) _ ps kept) s h = inl refl
   replica_live (Stop n landed) s h = absurd h
+  replica_live _ s h = inl refl
 
 pub both_up : {L : Type 0} (R : L → L → Type 0) (x y : Option L) (a b : L) → x ≡ Some a → y ≡ Some b → R a b → BothUp R x y
 both_up R x y a b p q r = subst (λ z. BothUp R z y) (sym p) (subst (λ z. BothUp R (Some a) z) (sym q) r)
@@ -115,17 +95,12 @@ dispatcher_now g w e s (o, ps, kept, q) = subst (λ (x : Entry). ((after g w x).
 
 -- what a replica's disk holds after an entry
 pub kept_or : (g : Setting) (w : World) (e : Entry) (r : ℕ) → May g w e → NotStopped e → (((after g w e).replicas r).kept ≡ (w.replicas r).kept) ⊎ (IsEnd e (Replica r) × (((after g w e).replicas r).kept ≡ land land_replica (replica_row (w.replicas r)).note (w.replicas r).kept))
-kept_or g w (Begin (Joiner m) i) r may h = inl refl
 kept_or g w (Begin (Replica m) i) r may h = inl (kept_part (λ c. c.kept) w.replicas m (begun (w.replicas m) i) refl r)
-kept_or g w (Begin (Dispatcher m) i) r may h = inl refl
-kept_or g w (Begin (Server m) i) r may h = inl refl
-kept_or g w (End (Joiner m) _ ps kept) r may h = inl refl
 kept_or g w (End (Replica m) o ps kept) r may h =
     subst (λ n. (((after g w (End (Replica m) n ps kept)).replicas r).kept ≡ (w.replicas r).kept) ⊎ (IsEnd (End (Replica m) o ps kept) (Replica r) × (((after g w (End (Replica m) n ps kept)).replicas r).kept ≡ land land_replica (replica_row (w.replicas r)).note (w.replicas r).kept))) (sym may.1.1)
     (own_part (λ c. c.kept) w.replicas m (λ n. replica_ended (w.replicas n) (replica_row (w.replicas n)).note) r (λ e. (o, ps, kept, ap (λ k. End (Replica k) o ps kept) e)))
-kept_or g w (End (Dispatcher m) _ ps kept) r may h = inl refl
-kept_or g w (End (Server m) _ ps kept) r may h = inl refl
 kept_or g w (Stop n landed) r may h = absurd h
+kept_or g w _ r may h = inl refl
 
 -- a replica's row is that of its open turn's input, or no row applies
 pub replica_turns : (c : Cell ReplicaKept (Unit {0})) → ((i : Input) × (c.opened ≡ Some i) × (replica_row c ≡ replica_turn c.kept i)) ⊎ (replica_row c ≡ idle tt)

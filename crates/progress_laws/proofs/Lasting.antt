@@ -6,7 +6,7 @@ use Rattle.list_words.specs.Lists.{set_at}
 use Rattle.list_words.proofs.Lists.{at_set, none_some}
 use Rattle.turn_defs.specs.Setting.{Setting}
 use Rattle.turn_defs.specs.Turns.{Out}
-use Rattle.turn_defs.specs.declared.node.Node.TheVariants.{Dispatcher, Server, Replica, Joiner}
+use Rattle.turn_defs.specs.declared.node.Node.TheVariants.{Server}
 use Rattle.turn_defs.specs.declared.node.Input.{Input}
 use Rattle.turn_defs.specs.Server.{ServerKept, ServerLive, ShardState, land_server, empty_shard, server_start, server_turn}
 use Rattle.photon_model.specs.Facts.{IfUp}
@@ -36,18 +36,10 @@ module _ (g : Setting) (P : ShardState → Type 0) (empty : P empty_shard) (keep
   changed w m c now h = at_set (λ s (c : Cell ServerKept ServerLive). OfShards P c.live) w.servers m c now h
 
   pub lasts : (w : World) (e : Entry) → OfAllShards P w → OfAllShards P (after g w e)
-  lasts w (Begin (Dispatcher m) i) h = h
   lasts w (Begin (Server m) i) h = changed w m (begun (w.servers m) i) (h m) h
-  lasts w (Begin (Replica m) i) h = h
-  lasts w (Begin (Joiner m) i) h = h
-  lasts w (End (Dispatcher m) _ ps kept) h = h
   lasts w (End (Server m) o ps kept) h = changed w m (server_ended g m (w.servers m) o) (row_has w m h) h
-  lasts w (End (Replica m) _ ps kept) h = h
-  lasts w (End (Joiner m) _ ps kept) h = h
-  lasts w (Stop (Dispatcher m) _) h = h
   lasts w (Stop (Server m) landed) h = changed w m (stopped land_server (w.servers m) landed) tt h
-  lasts w (Stop (Replica m) _) h = h
-  lasts w (Stop (Joiner m) _) h = h
+  lasts w _ h = h
 
   pub after_run : (d : Disks) (es : List Entry) → OfAllShards P (world_after g (opening d) es)
   after_run d es = go es (opening d) (λ s. tt)

@@ -20,7 +20,7 @@ use Rattle.turn_defs.specs.declared.packet.Packet.TheVariants.{Prepare, Nack, Ac
 use Rattle.turn_defs.specs.declared.node.Node.{Node}
 use Rattle.turn_defs.specs.declared.node.To.{To}
 use Rattle.turn_defs.specs.declared.node.Input.{Input}
-use Rattle.turn_defs.specs.declared.node.Input.TheVariants.{Start, Own, Tick, Deliver}
+use Rattle.turn_defs.specs.declared.node.Input.TheVariants.{Deliver}
 use Rattle.turn_defs.specs.Replica.{ReplicaKept, cell_at, note_at, land_replica, prepared, taken, replica_turn}
 
 -- the input asks at the place with the ballot
@@ -94,10 +94,7 @@ module _ (k : ReplicaKept) (at : Place) where
   pub rises : (i : Input) → Rises i (after_turn k i)
   rises (Deliver from (Prepare p b)) = noted (Deliver from (Prepare p b)) p b (prepares from p b) (on_prepare (cell_at k p) b).0 (prepare_is (cell_at k p) b (cell_at k p).promised).0
   rises (Deliver from (Accept p b v)) = noted (Deliver from (Accept p b v)) p b (accepts from p b v) (on_accept same_batch (cell_at k p) b v).0 (accept_is (cell_at k p) b v (cell_at k p).promised).0
-  rises (Deliver from _) = inl refl
-  rises Own = inl refl
-  rises Tick = inl refl
-  rises Start = inl refl
+  rises _ = inl refl
 
   -- it asks nothing, and refuses a ballot that it was asked with by its promise, which lies above it
   abbrev pub Says : Input → Packet → Type 0
@@ -117,7 +114,4 @@ module _ (k : ReplicaKept) (at : Place) where
   pub says : (i : Input) → Each (λ (a : To × Packet). Says i a.1) (replica_turn k i).packets
   says (Deliver from (Prepare p b)) = (prepared_says (Deliver from (Prepare p b)) p b (prepares from p b) (on_prepare (cell_at k p) b).1 (prepare_is (cell_at k p) b (cell_at k p).promised).1, tt)
   says (Deliver from (Accept p b v)) = (taken_says (Deliver from (Accept p b v)) p b (accepts from p b v) (on_accept same_batch (cell_at k p) b v).1 (accept_is (cell_at k p) b v (cell_at k p).promised).1, tt)
-  says (Deliver from _) = tt
-  says Own = tt
-  says Tick = tt
-  says Start = tt
+  says _ = tt

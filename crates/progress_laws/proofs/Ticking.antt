@@ -8,19 +8,15 @@ use Rattle.list_words.proofs.Lists.{none_some}
 use Rattle.turn_defs.specs.Setting.{Setting}
 use Rattle.turn_defs.specs.Nodes.{IsNode}
 use Rattle.turn_defs.specs.declared.node.Node.{Node}
-use Rattle.turn_defs.specs.declared.node.Input.TheVariants.{Start, Own, Tick, Deliver}
+use Rattle.turn_defs.specs.declared.node.Input.TheVariants.{Tick}
 use Rattle.turn_defs.specs.Sent.{Sent}
-use Rattle.photon_model.specs.Runs.{World, Entry, Begin, End, Stop, after, May}
+use Rattle.photon_model.specs.Runs.{World, Entry, Begin, after, May}
 use Rattle.photon_model.specs.Rest.{is_tick_of, ticks_due, is_unfinished, is_out, IsQuiet, IsInterval}
 use Rattle.progress_laws.proofs.Transit.{opened_at, CarriesOne, EndsTurn, HasTick, same_node-true, opens, stays_open, quiet_closed, carries_not_stopped}
 
 is_tick : (n : Node) (e : Entry) → is_tick_of n e ≡ true → e ≡ Begin n Tick
 is_tick n (Begin m Tick) t = ap (λ k. Begin k Tick) (sym (same_node-true n m t))
-is_tick n (Begin m Start) t = absurd (true≢false (sym t))
-is_tick n (Begin m Own) t = absurd (true≢false (sym t))
-is_tick n (Begin m (Deliver from p)) t = absurd (true≢false (sym t))
-is_tick n (End m _ ps kept) t = absurd (true≢false (sym t))
-is_tick n (Stop m landed) t = absurd (true≢false (sym t))
+is_tick n _ t = absurd (true≢false (sym t))
 
 some_tick : (n : Node) (es : List Entry) → 0 < length (filter (is_tick_of n) es) → Mem (Begin n Tick) es
 some_tick n [] h = absurd (omega arith)

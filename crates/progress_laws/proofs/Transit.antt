@@ -74,36 +74,14 @@ opened_begun g w (Dispatcher t) i (Dispatcher s) = opened_if (s == t) _ _
 opened_begun g w (Server t) i (Server s) = opened_if (s == t) _ _
 opened_begun g w (Replica t) i (Replica s) = opened_if (s == t) _ _
 opened_begun g w (Joiner t) i (Joiner s) = opened_if (s == t) _ _
-opened_begun g w (Dispatcher t) i (Server s) = refl
-opened_begun g w (Dispatcher t) i (Replica s) = refl
-opened_begun g w (Dispatcher t) i (Joiner s) = refl
-opened_begun g w (Server t) i (Dispatcher s) = refl
-opened_begun g w (Server t) i (Replica s) = refl
-opened_begun g w (Server t) i (Joiner s) = refl
-opened_begun g w (Replica t) i (Dispatcher s) = refl
-opened_begun g w (Replica t) i (Server s) = refl
-opened_begun g w (Replica t) i (Joiner s) = refl
-opened_begun g w (Joiner t) i (Dispatcher s) = refl
-opened_begun g w (Joiner t) i (Server s) = refl
-opened_begun g w (Joiner t) i (Replica s) = refl
+opened_begun g w _ i _ = refl
 
 opened_ended : (g : Setting) (w : World) (m : Node) (o : Option Note) (ps : List (Node × Packet)) (kept : ℕ) (n : Node) → opened_at (after g w (End m o ps kept)) n ≡ opened_by w m None n
 opened_ended g w (Dispatcher t) o ps kept (Dispatcher s) = opened_if (s == t) _ _
 opened_ended g w (Server t) o ps kept (Server s) = opened_if (s == t) _ _
 opened_ended g w (Replica t) o ps kept (Replica s) = opened_if (s == t) _ _
 opened_ended g w (Joiner t) o ps kept (Joiner s) = opened_if (s == t) _ _
-opened_ended g w (Dispatcher t) o ps kept (Server s) = refl
-opened_ended g w (Dispatcher t) o ps kept (Replica s) = refl
-opened_ended g w (Dispatcher t) o ps kept (Joiner s) = refl
-opened_ended g w (Server t) o ps kept (Dispatcher s) = refl
-opened_ended g w (Server t) o ps kept (Replica s) = refl
-opened_ended g w (Server t) o ps kept (Joiner s) = refl
-opened_ended g w (Replica t) o ps kept (Dispatcher s) = refl
-opened_ended g w (Replica t) o ps kept (Server s) = refl
-opened_ended g w (Replica t) o ps kept (Joiner s) = refl
-opened_ended g w (Joiner t) o ps kept (Dispatcher s) = refl
-opened_ended g w (Joiner t) o ps kept (Server s) = refl
-opened_ended g w (Joiner t) o ps kept (Replica s) = refl
+opened_ended g w _ o ps kept _ = refl
 
 -- a turn begins where none is open
 begins_closed : (g : Setting) (w : World) (m : Node) (i : Input) → May g w (Begin m i) → opened_at w m ≡ None
@@ -146,9 +124,7 @@ carries_not_stopped dead air next (Stop n landed) c = absurd c
 -- an interval's first entry, and those after it
 pub carries_one : (dead : ℕ → Bool) (air : List Sent) (e : Entry) (es : List Entry) → Carries dead air (e ∷ es) → (next : List Sent) × CarriesOne dead air e next × Carries dead next es
 carries_one dead air (Begin n (Deliver from p)) es c = c
-carries_one dead air (Begin n Start) es c = (air, refl, c)
-carries_one dead air (Begin n Own) es c = (air, refl, c)
-carries_one dead air (Begin n Tick) es c = (air, refl, c)
+carries_one dead air (Begin n _) es c = (air, refl, c)
 carries_one dead air (End n _ ps kept) es c = (filter (to_live dead) (sends n ps) ++ air, refl, c)
 carries_one dead air (Stop n landed) es c = absurd c
 
@@ -167,9 +143,7 @@ module _ (g : Setting) (dead : ℕ → Bool) (w : World) where
       (λ (e : record { from = from; to = n; packet = p } ≡ x). inr (subst (λ (y : Sent). opened_at (after g w (Begin n (Deliver from p))) y.to ≡ Some (Deliver y.from y.packet)) e (opens g w n (Deliver from p))))
       (λ k. inl k)
       (mem_put x _ next air c m)
-  air_stays air next (Begin n Start) x c m = inl (subst (Mem x) (sym c) m)
-  air_stays air next (Begin n Own) x c m = inl (subst (Mem x) (sym c) m)
-  air_stays air next (Begin n Tick) x c m = inl (subst (Mem x) (sym c) m)
+  air_stays air next (Begin n _) x c m = inl (subst (Mem x) (sym c) m)
   air_stays air next (End n _ ps kept) x c m = inl (subst (Mem x) (sym c) (mem_right x (filter (to_live dead) (sends n ps)) air m))
   air_stays air next (Stop n landed) x c m = absurd c
 

@@ -19,7 +19,7 @@ use Rattle.turn_defs.specs.declared.node.Node.TheVariants.{Dispatcher, Server, R
 use Rattle.turn_defs.specs.declared.node.To.{To}
 use Rattle.turn_defs.specs.declared.node.To.TheVariants.{Only, AnyJoiner}
 use Rattle.turn_defs.specs.declared.node.Input.{Input}
-use Rattle.turn_defs.specs.declared.node.Input.TheVariants.{Start, Own, Tick, Deliver}
+use Rattle.turn_defs.specs.declared.node.Input.TheVariants.{Start, Deliver}
 use Rattle.turn_defs.specs.Nodes.{IsNode, Addressed}
 use Rattle.turn_defs.specs.Sent.{Sent}
 use Rattle.turn_defs.specs.Setting.{IsJoiner, shards}
@@ -140,13 +140,9 @@ is_fit (Some l) _ = true
 
 fits : {L : Type 0} (o : Option L) (i : Input) → is_fit o i ≡ true → Fits o i
 fits None Start e = tt
-fits None Own e = absurd (true≢false (sym e))
-fits None Tick e = absurd (true≢false (sym e))
-fits None (Deliver n p) e = absurd (true≢false (sym e))
+fits None _ e = absurd (true≢false (sym e))
 fits (Some l) Start e = absurd (true≢false (sym e))
-fits (Some l) Own e = tt
-fits (Some l) Tick e = tt
-fits (Some l) (Deliver n p) e = tt
+fits (Some l) _ e = tt
 
 abbrev is_sent : List Sent → Node → Input → Bool
 is_sent sent n (Deliver from p) = is_some (without_one (record { from = from; to = n; packet = p }) sent)
@@ -154,9 +150,7 @@ is_sent sent n _ = true
 
 was_sent : (sent : List Sent) (n : Node) (i : Input) → is_sent sent n i ≡ true → WasSent sent n i
 was_sent sent n (Deliver from p) e = is_in (record { from = from; to = n; packet = p }) sent e
-was_sent sent n Start e = tt
-was_sent sent n Own e = tt
-was_sent sent n Tick e = tt
+was_sent sent n _ e = tt
 
 abbrev is_closed : Option Input → Bool
 is_closed None = true
@@ -241,9 +235,7 @@ carried (Begin n (Deliver from p) ∷ es) air e = go (without_one (record { from
     go : (o : Option (List Sent)) → without_one (record { from = from; to = n; packet = p }) air ≡ o → option_or_else false (λ rest. is_carried rest es) o ≡ true → ((rest : List Sent) → is_carried rest es ≡ true → Carries all_live rest es) → (rest : List Sent) × put_in (record { from = from; to = n; packet = p }) rest air × Carries all_live rest es
     go None q t ih = absurd (true≢false (sym t))
     go (Some rest) q t ih = (rest, put_one (record { from = from; to = n; packet = p }) air rest q, ih rest t)
-carried (Begin n Start ∷ es) air e = carried es air e
-carried (Begin n Own ∷ es) air e = carried es air e
-carried (Begin n Tick ∷ es) air e = carried es air e
+carried (Begin n _ ∷ es) air e = carried es air e
 carried (End n o ps kept ∷ es) air e = carried es (filter (to_live all_live) (sends n ps) ++ air) e
 carried (Stop n o ∷ es) air e = absurd (true≢false (sym e))
 
@@ -330,11 +322,9 @@ no_work w (End (Server s) o ps kept) c works = go (w.servers s).live refl (w.ser
         let row_is : server_row three s (w.servers s) ≡ server_turn three s (w.servers s).kept l i = ap (λ (x : Option ServerLive). row server_start (server_turn three s) (w.servers s).kept x (w.servers s).opened) up ∙ ap (λ (x : Option Input). row server_start (server_turn three s) (w.servers s).kept (Some l) x) open_ in
         let now_is = server_now three w (End (Server s) o ps kept) s (o, ps, kept, refl) ∙ ap (λ (x : Out ServerLive). Some x.live) row_is in
         learns l i (not_out (teaches i) c) (subst (λ (x : Option ServerLive). BothUp ServerWorks (Some l) x) now_is (subst (λ (x : Option ServerLive). BothUp ServerWorks x ((after three w (End (Server s) o ps kept)).servers s).live) up works))
-no_work w (End (Replica r) o ps kept) c works = works
 no_work w (End (Dispatcher s) o ps kept) c works = absurd (true≢false (sym c))
 no_work w (End (Joiner s) o ps kept) c works = absurd (true≢false (sym c))
-no_work w (Begin n i) c works = works
-no_work w (Stop n landed) c works = works
+no_work w _ c works = works
 
 calm : (es : List Entry) (w : World) → are_calm w es ≡ true → IsWithinLimits three w es × NoWork three w es
 calm [] w e = (numbers w e, tt)
