@@ -13,6 +13,7 @@ import kills
 import logs
 import model
 import runs
+import store as stores
 from case import TOP
 
 IN_FLIGHT = 64  # clicks in flight of one joiner at each of both sites
@@ -48,8 +49,9 @@ class Many:
         return self.case.path(f"{self.folder}/{part}/{name}")
 
     def split(self):
-        """Splits the logs of the case's folder, and compares each part with the page."""
+        """Splits the logs of the case's folder, and compares each part with the page; no part has a report afterwards."""
         self.case.expect(self.words, 0, "", b"", tool="photon-split")
+        self.case.check(not glob.glob(self.case.path(f"{self.folder}/*/report")), "a report of an earlier round is left")
         for kind in ("queries", "clicks"):
             whole = read(self.case.path(kind))
             for part in range(self.parts):
@@ -203,6 +205,8 @@ def stopped(case):
         return  # it ended before the signal came
     case.check(ended.status == 143, f"status {ended.status}")
     case.check_same(sorted(os.listdir(case.path(f"{many.folder}/0"))), ["clicks", "queries", "state"], "the files of the part")
+    store = stores.Store(stores.read_files(many.path(0, "state")))
+    case.check(store.last("offset-A") < len(maker.clicks), "the join went on to its end")
     ended = case.run(["verify", "--clicks", many.path(0, "clicks"), "--state", many.path(0, "state")])
     case.check(ended.status in (0, 1), f"the join still has the directory: {ended.status}, {ended.err!r}")
 

@@ -60,8 +60,8 @@ def growing(case):
     and only what is new is read."""
     inventor = journals.Inventor(case)
     files = {name: data[:stores.gate_rule(data)[2] + 1] for name, data in inventor.files(inventor.records()).items()}
-    watch, read = load(), [0]
-    progress, watch.os = watch.Progress(case.path("state")), Counted(read)
+    watch = load()
+    progress, watch.os = watch.Progress(case.path("state")), Reads()
     for step in range(1, 21):
         shown = {name: cut(data, len(data) * step // 20) for name, data in files.items()}
         shown["topology"] = files["topology"]
@@ -69,8 +69,10 @@ def growing(case):
         progress.read()
         got = [*progress.offsets, 0, progress.pairs, *progress.parked, progress.counts()[2]]
         case.check_same(str(got), str(numbers_of(stores.Store(shown), 0)), f"the numbers at step {step}")
-    kept = sum(map(len, files.values()))
-    case.check(read[0] < 3 * kept + 20 * 3000, f"it has read {read[0]} bytes of files that have {kept}")
+        gates = {name: stores.gate_rule(data)[2] for name, data in shown.items()}
+        for name, place in watch.os.places.items():
+            case.check(place == gates.get(name, 0), f"{name} was read last from {place}, and its last gate is at {gates.get(name)}")
+    case.check(not watch.os.again, f"these were read again: {watch.os.again}")
 
 
 def cut(data, size):
@@ -79,20 +81,22 @@ def cut(data, size):
     return data[:size] if damage is None else data[:gate] + b"\0" + data[gate + 1:size]
 
 
-class Counted:
-    """The module os, with the bytes counted that pread gives."""
+class Reads:
+    """The module os, with the place from which each file was read last, and those that were read from an earlier place than before."""
 
-    def __init__(self, read):
-        self.read = read
+    def __init__(self):
+        self.places, self.again = {}, []
 
     def __getattr__(self, name):
         return getattr(os, name)
 
-    def pread(self, *words):
+    def pread(self, file, size, place):
         """As that of os."""
-        data = os.pread(*words)
-        self.read[0] += len(data)
-        return data
+        name = os.path.basename(os.readlink(f"/proc/self/fd/{file}"))
+        if place < self.places.get(name, 0):
+            self.again.append(name)
+        self.places[name] = place
+        return os.pread(file, size, place)
 
 
 def load():
