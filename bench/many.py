@@ -65,8 +65,8 @@ def in_parts(folder, logs, clicks, parts, at_once):
         used = list(pool.map(join, range(parts)))
     wall = time.perf_counter() - began
     state = sum(bytes_in(os.path.join(many, str(part), "state")) for part in range(parts))
-    slowest = max(one[0] for one in used)
-    tell(f"joined, {at_once} at once", wall, sum(one[1] for one in used), max(one[2] for one in used), f" a part, {slowest:.1f} s at most, {state / 1e6:.0f} MB of state")
+    walls, spent, most = zip(*used)
+    tell(f"joined, {at_once} at once", wall, sum(spent), max(most), f" a part, {max(walls):.1f} s at most, {state / 1e6:.0f} MB of state")
     tell("merged", *run([os.path.join(BIN, "photon-merge"), many], report))
     return report
 

@@ -33,8 +33,9 @@ def part_of(event, parts):
 
 def front(log, kind, parts, part):
     """The lines of a log that fall into a part."""
-    lines = [log[line.start:line.end] for line in model.read_log(log, kind)[0] if part_of(line.record[-2] if kind == "clicks" else line.record[0], parts) == part]
-    return b"".join(lines)
+    query = 1 if kind == "clicks" else 0  # where a record has the query's id
+    lines = [line for line in model.read_log(log, kind)[0] if part_of(line.record[query], parts) == part]
+    return b"".join(log[line.start:line.end] for line in lines)
 
 
 class Many:
