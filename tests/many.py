@@ -315,4 +315,4 @@ def engines(case):
     many.merge(runs.one_report(names["queries"], names["clicks"]))
 
 
-CASES = [(function.__name__, function) for function in (stopped, refused_splits, refused_merges, engines)]
+CASES = [(function.__name__, function) for function in (whole_and_parts, stopped, refused_splits, refused_merges, engines)]
