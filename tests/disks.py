@@ -44,7 +44,7 @@ def run_with(directory, machine, plan, batch):
     machine.plan(plan)
     ended = case.run(directory.join_words(None, batch))
     machine.plan("")
-    if any(call[-1] not in UNSEEN for call in machine.calls()):
+    if any(call[-1] not in UNSEEN or call[0] == "mkdir" and call[-1] for call in machine.calls()):  # mkdir isn't called again
         directory.stops += 8
     case.check(ended.status == 0 or directory.stops, f"status {ended.status} over a disk that met nothing")
     if ended.status != -9:
@@ -169,5 +169,5 @@ def lies(case):
             raise Failed("nothing is wrong with a disk that doesn't sync")
 
 
-AT_CALLS = [(f"at_call.{number}", at_call(number)) for number in range(200)]
+AT_CALLS = [(str(number), at_call(number)) for number in range(200)]
 LISTED = [(function.__name__, function) for function in (calls, lies)]
