@@ -82,11 +82,10 @@ def trouble(case, joiners, has_run, plans):
 
 
 def at_call(number):
-    """Joins in which something happens at the call of this number, with 1 and 4 joiners, over new and kept directories."""
+    """Joins in which something happens at the call of this number, with 1 and 4 joiners, one over a new directory and one over a kept one."""
     def run(case):
         for joiners in (1, 4):
-            for has_run in (False, True):
-                trouble(case, joiners, has_run, [f"{case.random.choice(KINDS)}:{number}"])
+            trouble(case, joiners, (joiners == 1) == bool(number % 2), [f"{case.random.choice(KINDS)}:{number}"])
     return run
 
 
