@@ -3,3 +3,4 @@ pub mod Found
 pub mod Order
 pub mod Marks
 pub mod Held
+pub mod StoreRows

@@ -5,6 +5,7 @@ mod index;
 mod puts;
 mod read;
 mod recent;
+pub mod rows;
 mod scan;
 mod search;
 mod store;

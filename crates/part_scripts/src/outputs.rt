@@ -1,0 +1,60 @@
+// Logs of joined pairs.
+use crate::kinds::Kind;
+use gate_journal::JournalFault;
+use log_records::{read_click, read_query};
+use mem_outside::MemDisk;
+use output_log::{OutputLog, PairRec, pair_frame, read_pair};
+use script_lines::texts::{stop_of, told_pair, token};
+use script_lines::{Stop, Words};
+use std::alloc::Global;
+
+// `write TOKEN CLICK / QUERY`; `read BYTES`, the pair of a record.
+impl Kind for OutputLog<MemDisk> {
+    fn open_on(alloc: Global, disk: MemDisk) -> Result<OutputLog<MemDisk>, (JournalFault, MemDisk)> {
+        OutputLog::open(alloc, disk)
+    }
+
+    fn told(&self, alloc: Global) -> Result<String, Stop> {
+        let mut text = format!(in alloc; "pairs")?;
+        for pair in self.pairs() {
+            text.push_str(" | ")?;
+            text.push_str(told_pair(alloc, pair)?.as_str())?;
+        }
+        Ok(text)
+    }
+
+    fn change(&mut self, alloc: Global, words: &mut Words<'_>) -> Result<String, Stop> {
+        match words.word()? {
+            "write" => write(alloc, self, words.behind()),
+            "read" => match read_pair(alloc, &words.bytes(alloc)?)? {
+                Some(pair) => told_pair(alloc, &pair),
+                None => Ok(format!(in alloc; "no pair")?),
+            },
+            _ => Err(Stop::Words),
+        }
+    }
+
+    fn read_again(&mut self, alloc: Global) -> Result<(), JournalFault> {
+        self.reopen(alloc)
+    }
+
+    fn close(self) -> MemDisk {
+        self.into_disk()
+    }
+}
+
+fn write(alloc: Global, log: &mut OutputLog<MemDisk>, text: &str) -> Result<String, Stop> {
+    let (holder, lines) = text.split_once(' ').ok_or(Stop::Words)?;
+    let (click, query) = lines.split_once(" / ").ok_or(Stop::Words)?;
+    let click = read_click(alloc, click.as_bytes()).map_err(stop_of)?;
+    let query = read_query(alloc, query.as_bytes()).map_err(stop_of)?;
+    let token = token(holder)?;
+    let frame = pair_frame(alloc, &click, &query, token)?;
+    let pair = PairRec {
+        click,
+        query,
+        token,
+    };
+    log.make_room(alloc)?;
+    Ok(format!(in alloc; "{:?}", log.write(&frame, pair))?)
+}

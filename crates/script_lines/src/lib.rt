@@ -1,0 +1,17 @@
+//! Scripts that read as documentation: scenes of rows, each a command and the answer that is wanted of it.
+#![tactic(auto)]
+
+mod play;
+mod report;
+mod script;
+mod short;
+mod stop;
+pub mod texts;
+mod words;
+
+pub use play::{Part, play};
+pub use report::Report;
+pub use script::{Scene, Script};
+pub use short::{ShortLog, ShortSink};
+pub use stop::Stop;
+pub use words::{Words, bytes_of, first_word, number_of};

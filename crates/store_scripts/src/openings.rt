@@ -1,0 +1,147 @@
+// Whole stores: opened, refused, written and read.
+use crate::stores::{told_fault, told_journals};
+use mem_outside::{MemLog, MemStore};
+use script_lines::{Stop, Words};
+use site_laws::stores::{empty_store, left, longer, opened, run, stays, topology_first};
+use site_store::{
+    Refusal, first_misfit, give_back, open_disks, open_store, read_store, write_topology,
+};
+use std::alloc::Global;
+use time_shards::Table;
+use topology_journal::Topology;
+
+/// The laws on stores, at a store in memory.
+pub fn laws() {
+    empty_store::<MemStore>();
+    opened::<MemStore>();
+    stays::<MemStore>();
+    topology_first::<MemStore>();
+    longer::<MemStore>();
+    run::<MemStore>();
+    left::<MemStore>();
+}
+
+/// `counts JOINERS`: how many journals are opened, by kind, all of which are given back.
+pub fn counts(alloc: Global, store: &mut MemStore, joiners: u8) -> Result<String, Stop> {
+    if joiners > 4 {
+        return Err(Stop::Words);
+    }
+    let disks = match open_disks(alloc, store, joiners) {
+        Ok(disks) => disks,
+        Err(fault) => return told_fault(alloc, fault),
+    };
+    let counts = [
+        disks.offsets.len(),
+        disks.retries.len(),
+        disks.servers.len(),
+        disks.replicas.len(),
+        disks.epochs_a.len(),
+        disks.epochs_b.len(),
+        disks.outputs_a.len(),
+        disks.outputs_b.len(),
+    ];
+    give_back(store, disks);
+    Ok(format!(in alloc; "{counts:?}")?)
+}
+
+/// `misfit JOINERS TABLE`: the first reason why the disks of a store can't be run so.
+pub fn misfit(alloc: Global, store: &mut MemStore, words: &mut Words<'_>) -> Result<String, Stop> {
+    let joiners = words.number()?;
+    let Ok(table) = Table::read(words.word()?.as_bytes()) else {
+        return Err(Stop::Words);
+    };
+    if joiners > 4 {
+        return Err(Stop::Words);
+    }
+    let disks = match open_disks(alloc, store, joiners) {
+        Ok(disks) => disks,
+        Err(fault) => return told_fault(alloc, fault),
+    };
+    let misfit = first_misfit(&disks, &Topology { joiners, table });
+    give_back(store, disks);
+    Ok(format!(in alloc; "{misfit:?}")?)
+}
+
+/// `record JOINERS TABLE` writes the record of a topology to a store that keeps none.
+pub fn record(alloc: Global, store: &mut MemStore, words: &mut Words<'_>) -> Result<String, Stop> {
+    let joiners = words.number()?;
+    let Ok(table) = Table::read(words.word()?.as_bytes()) else {
+        return Err(Stop::Words);
+    };
+    if joiners == 0 || joiners > 4 {
+        return Err(Stop::Words);
+    }
+    let mut disks = match open_disks(alloc, store, joiners) {
+        Ok(disks) => disks,
+        Err(fault) => return told_fault(alloc, fault),
+    };
+    if disks.topology.journal.kept().is_some() {
+        give_back(store, disks);
+        return Ok(format!(in alloc; "one is kept")?);
+    }
+    let written = write_topology(alloc, &mut disks.topology, Topology { joiners, table });
+    give_back(store, disks);
+    Ok(format!(in alloc; "{written:?}")?)
+}
+
+/// `open JOINERS TABLE END READ..`: the store is opened over the click log that was gathered, whose last whole line ends there and
+/// of which these reads fail, and all disks are given back.
+pub fn open(
+    alloc: Global,
+    store: &mut MemStore,
+    clicks: Vec<u8>,
+    words: &mut Words<'_>,
+) -> Result<String, Stop> {
+    let joiners = words.number()?;
+    let Ok(table) = Table::read(words.word()?.as_bytes()) else {
+        return Err(Stop::Words);
+    };
+    if joiners == 0 || joiners > 4 {
+        return Err(Stop::Words);
+    }
+    let end = words.number()?;
+    let mut clicks = MemLog::new(clicks, words.numbers(alloc)?);
+    match open_store(alloc, store, Topology { joiners, table }, &mut clicks, end) {
+        Ok(disks) => {
+            give_back(store, disks);
+            Ok(format!(in alloc; "open")?)
+        }
+        Err(refusal) => told_refusal(alloc, refusal),
+    }
+}
+
+/// `read END READ..`: what the store keeps, over that log.
+pub fn read(
+    alloc: Global,
+    store: &mut MemStore,
+    clicks: Vec<u8>,
+    words: &mut Words<'_>,
+) -> Result<String, Stop> {
+    let end = words.number()?;
+    let mut clicks = MemLog::new(clicks, words.numbers(alloc)?);
+    let kept = match read_store(alloc, store, &mut clicks, end) {
+        Ok(kept) => kept,
+        Err(refusal) => return told_refusal(alloc, refusal),
+    };
+    let journals = told_journals(alloc, &kept.journals)?;
+    match kept.topology {
+        Some(topology) => {
+            let (joiners, rows) = (topology.joiners, topology.table.rows());
+            Ok(format!(in alloc; "{joiners} joiners, {rows:?} {journals}")?)
+        }
+        None => Ok(format!(in alloc; "no topology {journals}")?),
+    }
+}
+
+fn told_refusal(alloc: Global, refusal: Refusal) -> Result<String, Stop> {
+    match refusal {
+        Refusal::Disks(fault) => told_fault(alloc, fault),
+        Refusal::Joiners { kept, asked } => Ok(format!(in alloc; "joiners {kept}, asked {asked}")?),
+        Refusal::Table { kept, asked } => {
+            Ok(format!(in alloc; "table {:?}, asked {:?}", kept.rows(), asked.rows())?)
+        }
+        Refusal::Place(misplaced) => Ok(format!(in alloc; "{misplaced:?}")?),
+        Refusal::Limit { disk, value } => Ok(format!(in alloc; "{disk:?} is at its limit {value}")?),
+        Refusal::Read => Ok(format!(in alloc; "the log isn't read")?),
+    }
+}
