@@ -3,11 +3,12 @@ use log_records::{
     BadLine, check_clicks, check_queries, click_line, clicks_of, queries_of, query_line, read_click,
     read_query,
 };
+use script_lines::texts::{told_click, told_query};
 use script_lines::{Part, Stop, Words};
 use std::alloc::Global;
 
 /// `query LINE` and `click LINE` read a line and write it again. `queries` and `clicks` check the log that was gathered,
-/// `lines of queries` and `lines of clicks` write the records of one.
+/// `lines of queries` and `lines of clicks` tell the records of one.
 #[derive(Drop)]
 pub struct Logs;
 
@@ -87,7 +88,7 @@ fn query_lines(alloc: Global, log: &[u8]) -> Result<String, Stop> {
     let queries = queries_of(alloc, log).map_err(|_| Stop::Words)?;
     let mut text = String::new(alloc);
     for query in &queries {
-        put(&mut text, query_line(alloc, query)?.as_slice())?;
+        put(&mut text, told_query(alloc, query)?.as_str())?;
     }
     Ok(text)
 }
@@ -96,17 +97,16 @@ fn click_lines(alloc: Global, log: &[u8]) -> Result<String, Stop> {
     let clicks = clicks_of(alloc, log).map_err(|_| Stop::Words)?;
     let mut text = String::new(alloc);
     for click in &clicks {
-        put(&mut text, click_line(alloc, click)?.as_slice())?;
+        put(&mut text, told_click(alloc, click)?.as_str())?;
     }
     Ok(text)
 }
 
 // A line more, behind a stroke.
-fn put(text: &mut String, line: &[u8]) -> Result<(), Stop> {
+fn put(text: &mut String, line: &str) -> Result<(), Stop> {
     if !text.is_empty() {
         text.push_str(" | ")?;
     }
-    let line = std::str::from_utf8(line).map_err(|_| Stop::Words)?;
     text.push_str(line)?;
     Ok(())
 }

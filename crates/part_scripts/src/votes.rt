@@ -1,8 +1,8 @@
 // What became of clicks, by the journals of replicas and the outputs.
 use event_id::EventId;
-use log_records::{ReportLine, click_line};
+use log_records::ReportLine;
 use paxos_acceptor::ReplicaNote;
-use script_lines::texts::{id_of, note_of, pair_of, told_bytes, told_id};
+use script_lines::texts::{id_of, note_of, pair_of, told_bytes, told_click, told_id};
 use script_lines::{Part, Stop, Words};
 use std::alloc::Global;
 use time_shards::Table;
@@ -89,7 +89,7 @@ fn classes(alloc: Global, journals: &Journals, words: &mut Words<'_>) -> Result<
 fn told_line(alloc: Global, line: &ReportLine) -> Result<String, Stop> {
     match line {
         ReportLine::J { click, query } => {
-            let click = told_bytes(alloc, click_line(alloc, click)?.as_slice())?;
+            let click = told_click(alloc, click)?;
             let query = told_bytes(alloc, query.text.as_bytes())?;
             Ok(format!(in alloc; "J {click} / {query}")?)
         }

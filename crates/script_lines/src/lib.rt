@@ -1,7 +1,7 @@
 //! Scripts that read as documentation: scenes of rows, each a command and the answer that is wanted of it.
 #![tactic(auto)]
 
-mod play;
+mod playing;
 mod report;
 mod script;
 mod short;
@@ -9,7 +9,7 @@ mod stop;
 pub mod texts;
 mod words;
 
-pub use play::{Part, play};
+pub use playing::{Part, play};
 pub use report::Report;
 pub use script::{Scene, Script};
 pub use short::{ShortLog, ShortSink};

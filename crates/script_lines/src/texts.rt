@@ -2,7 +2,7 @@
 use crate::{Stop, Words, number_of};
 use ballot_core::Ballot;
 use event_id::{EventId, parse};
-use log_records::{ClickRec, QueryRec, Why, click_line, query_line, read_click, read_query};
+use log_records::{ClickRec, QueryRec, Why, read_click, read_query};
 use paxos_acceptor::ReplicaNote;
 use registry_state::{Answer, Batch, Insert, Inserts, Token};
 use std::alloc::Global;
@@ -155,9 +155,24 @@ pub fn stop_of(why: Why) -> Stop {
 /// A pair's text.
 pub fn told_pair(alloc: Global, pair: &PairRec) -> Result<String, Stop> {
     let token = told_token(alloc, pair.token)?;
-    let click = told_bytes(alloc, click_line(alloc, &pair.click)?.as_slice())?;
-    let query = told_bytes(alloc, query_line(alloc, &pair.query)?.as_slice())?;
+    let click = told_click(alloc, &pair.click)?;
+    let query = told_query(alloc, &pair.query)?;
     Ok(format!(in alloc; "{token} {click} / {query}")?)
+}
+
+/// A query's line.
+pub fn told_query(alloc: Global, query: &QueryRec) -> Result<String, Stop> {
+    let id = told_id(alloc, query.id)?;
+    let text = told_bytes(alloc, query.text.as_bytes())?;
+    Ok(format!(in alloc; "{id} {text}")?)
+}
+
+/// A click's line.
+pub fn told_click(alloc: Global, click: &ClickRec) -> Result<String, Stop> {
+    let id = told_id(alloc, click.id)?;
+    let query = told_id(alloc, click.query)?;
+    let text = told_bytes(alloc, click.text.as_bytes())?;
+    Ok(format!(in alloc; "{id} {query} {text}")?)
 }
 
 /// A note's words are its kind, its shard, its slot, its ballot and, where it accepted one, its batch.
