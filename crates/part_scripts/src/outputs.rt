@@ -4,7 +4,8 @@ use gate_journal::JournalFault;
 use log_records::{read_click, read_query};
 use mem_outside::MemDisk;
 use output_log::{OutputLog, PairRec, pair_frame, read_pair};
-use script_lines::texts::{stop_of, told_pair, token};
+use registry_state::Token;
+use script_lines::texts::{told_pair, token};
 use script_lines::{Stop, Words};
 use std::alloc::Global;
 
@@ -46,15 +47,28 @@ impl Kind for OutputLog<MemDisk> {
 fn write(alloc: Global, log: &mut OutputLog<MemDisk>, text: &str) -> Result<String, Stop> {
     let (holder, lines) = text.split_once(' ').ok_or(Stop::Words)?;
     let (click, query) = lines.split_once(" / ").ok_or(Stop::Words)?;
-    let click = read_click(alloc, click.as_bytes()).map_err(stop_of)?;
-    let query = read_query(alloc, query.as_bytes()).map_err(stop_of)?;
-    let token = token(holder)?;
+    write_pair(alloc, log, click.as_bytes(), query.as_bytes(), token(holder)?)
+}
+
+fn write_pair(
+    alloc: Global,
+    log: &mut OutputLog<MemDisk>,
+    click: &[u8],
+    query: &[u8],
+    token: Token,
+) -> Result<String, Stop> {
+    let Ok(click) = read_click(alloc, click) else {
+        return Err(Stop::Words);
+    };
+    let Ok(query) = read_query(alloc, query) else {
+        return Err(Stop::Words);
+    };
+    log.make_room(alloc)?;
     let frame = pair_frame(alloc, &click, &query, token)?;
     let pair = PairRec {
         click,
         query,
         token,
     };
-    log.make_room(alloc)?;
     Ok(format!(in alloc; "{:?}", log.write(&frame, pair))?)
 }
