@@ -357,6 +357,7 @@ def disk_files(kind, told):
                 data[chance.randrange(len(data))] = chance.choice([0, 1, 2, 3, 0xa5, 0xff])
             data = bytes(data[:chance.choice([len(data)] * 4 + [chance.randint(0, len(data))])])
             records, damage = stores.read_disk(kind, data)
+            damage = stores.gate_rule(data)[1] or damage
             yield f"open {hexed(data)} => {told(records) if damage is None else damaged(damage)}"
     return rows
 

@@ -4,7 +4,7 @@ use mem_outside::{MemLog, MemStore};
 use script_lines::{Stop, Words};
 use site_laws::stores::{empty_store, left, longer, opened, run, stays, topology_first};
 use site_store::{
-    Refusal, first_misfit, give_back, open_disks, open_store, read_store, write_topology,
+    KeptStore, Refusal, first_misfit, give_back, open_disks, open_store, read_store, write_topology,
 };
 use std::alloc::Global;
 use time_shards::Table;
@@ -119,12 +119,15 @@ pub fn read(
 ) -> Result<String, Stop> {
     let end = words.number()?;
     let mut clicks = MemLog::new(clicks, words.numbers(alloc)?);
-    let kept = match read_store(alloc, store, &mut clicks, end) {
-        Ok(kept) => kept,
-        Err(refusal) => return told_refusal(alloc, refusal),
-    };
+    match read_store(alloc, store, &mut clicks, end) {
+        Ok(kept) => told_kept(alloc, &kept),
+        Err(refusal) => told_refusal(alloc, refusal),
+    }
+}
+
+fn told_kept(alloc: Global, kept: &KeptStore) -> Result<String, Stop> {
     let journals = told_journals(alloc, &kept.journals)?;
-    match kept.topology {
+    match &kept.topology {
         Some(topology) => {
             let (joiners, rows) = (topology.joiners, topology.table.rows());
             Ok(format!(in alloc; "{joiners} joiners, {rows:?} {journals}")?)
