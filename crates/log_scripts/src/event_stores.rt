@@ -95,11 +95,7 @@ fn asked(
 }
 
 // So many steps of one kind, or the first of another kind.
-fn advance(
-    alloc: Global,
-    store: &mut EventStore<ShortLog>,
-    count: u32,
-) -> Result<String, Stop> {
+fn advance(alloc: Global, store: &mut EventStore<ShortLog>, count: u32) -> Result<String, Stop> {
     let first = store.advance();
     for _ in 1..count {
         let next = store.advance();
@@ -132,7 +128,11 @@ fn read_on(alloc: Global, store: &mut EventStore<ShortLog>) -> Result<String, St
 
 fn find(alloc: Global, store: &mut EventStore<ShortLog>, id: EventId) -> Result<String, Stop> {
     let found = lookup(alloc, store, id)?;
-    if found.as_str() == "fault" { lookup(alloc, store, id) } else { Ok(found) }
+    if found.as_str() == "fault" {
+        lookup(alloc, store, id)
+    } else {
+        Ok(found)
+    }
 }
 
 // Each answer that isn't the one before it, behind its microseconds.

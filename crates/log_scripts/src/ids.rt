@@ -20,7 +20,11 @@ impl Part for Ids {
         let Ok(id) = parse(&text) else {
             return Ok(format!(in alloc; "no id")?);
         };
-        let back = if is_written_again(alloc, id, &text)? { "and back" } else { "but not back" };
+        let back = if is_written_again(alloc, id, &text)? {
+            "and back"
+        } else {
+            "but not back"
+        };
         let bytes = hex::encode(alloc, id.to_bytes().as_slice())?;
         Ok(format!(in alloc; "{} {} {}, {bytes}, {back}", id.ip, id.pid, id.micros)?)
     }
@@ -30,9 +34,11 @@ impl Part for Ids {
 fn is_written_again(alloc: Global, id: EventId, text: &[u8]) -> Result<bool, Stop> {
     let mut buf = [0; MAX_TEXT];
     let len = id.text_into(&mut buf);
-    Ok(&buf[..len] == text
-        && id.to_text(alloc)?.as_slice() == text
-        && EventId::from_bytes(&id.to_bytes()) == id)
+    Ok(
+        &buf[..len] == text
+            && id.to_text(alloc)?.as_slice() == text
+            && EventId::from_bytes(&id.to_bytes()) == id,
+    )
 }
 
 /// Each row is two ids: how the first compares with the second.

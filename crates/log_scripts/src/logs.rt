@@ -1,7 +1,7 @@
 // Lines of logs, and whole logs.
 use log_records::{
-    BadLine, check_clicks, check_queries, click_line, clicks_of, queries_of, query_line, read_click,
-    read_query,
+    BadLine, check_clicks, check_queries, click_line, clicks_of, queries_of, query_line,
+    read_click, read_query,
 };
 use script_lines::texts::{told_click, told_query};
 use script_lines::{Part, Stop, Words};

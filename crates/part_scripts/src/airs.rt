@@ -97,13 +97,7 @@ fn asked(
 }
 
 // What a turn of a node begins with, that has none open.
-fn begin(
-    alloc: Global,
-    air: &mut Air,
-    node: u16,
-    wants: bool,
-    tick: bool,
-) -> Result<String, Stop> {
+fn begin(alloc: Global, air: &mut Air, node: u16, wants: bool, tick: bool) -> Result<String, Stop> {
     if usize::from(node) >= air.nodes() || air.phase(node) == Phase::Busy {
         return Ok(format!(in alloc; "no turn")?);
     }
@@ -163,6 +157,10 @@ fn kept(alloc: Global, air: &Air) -> Result<String, Stop> {
 
 // Whether an entry takes less than 100 bytes, and how many a payload takes.
 fn sizes(alloc: Global) -> Result<String, Stop> {
-    let entry = if size_of::<Entry>() < 100 { "small" } else { "large" };
+    let entry = if size_of::<Entry>() < 100 {
+        "small"
+    } else {
+        "large"
+    };
     Ok(format!(in alloc; "entries {entry}, payloads {}", size_of::<Payload>())?)
 }

@@ -8,7 +8,10 @@ use std::alloc::Global;
 
 // `raise`.
 impl Kind for EpochJournal<MemDisk> {
-    fn open_on(alloc: Global, disk: MemDisk) -> Result<EpochJournal<MemDisk>, (JournalFault, MemDisk)> {
+    fn open_on(
+        alloc: Global,
+        disk: MemDisk,
+    ) -> Result<EpochJournal<MemDisk>, (JournalFault, MemDisk)> {
         EpochJournal::open(alloc, disk)
     }
 

@@ -62,10 +62,22 @@ fn taken<F: Field>(alloc: Global, words: &mut Words<'_>) -> Result<String, Stop>
     let mut again = Bytes::new(alloc);
     value.put(&mut again)?;
     let again = again.as_slice();
-    let back = if bytes.starts_with(again) { "and back" } else { "but not back" };
+    let back = if bytes.starts_with(again) {
+        "and back"
+    } else {
+        "but not back"
+    };
     let fronts = (0..again.len()).all(|n| is_bad::<F>(alloc, &again[..n], n));
-    let fronts = if fronts { "each front bad at its end" } else { "a front is not bad at its end" };
-    Ok(format!(in alloc; "{} bytes of {}, {back}, {fronts}", again.len(), again.len() + left)?)
+    let fronts = if fronts {
+        "each front bad at its end"
+    } else {
+        "a front is not bad at its end"
+    };
+    Ok(format!(in alloc;
+        "{} bytes of {}, {back}, {fronts}",
+        again.len(),
+        again.len() + left
+    )?)
 }
 
 fn is_bad<F: Field>(alloc: Global, bytes: &[u8], at: usize) -> bool {
@@ -97,6 +109,13 @@ fn row(alloc: Global, bytes: &[u8]) -> Result<String, Stop> {
     let mut again = Bytes::new(alloc);
     put_two(&one, &two, &mut again)?;
     put_three(&three, &four, &five, &mut again)?;
-    let back = if bytes.starts_with(again.as_slice()) { "and back" } else { "but not back" };
-    Ok(format!(in alloc; "{one} {two}, {three} {four} {five}, then {} bytes, {back}", rest.len())?)
+    let back = if bytes.starts_with(again.as_slice()) {
+        "and back"
+    } else {
+        "but not back"
+    };
+    Ok(format!(in alloc;
+        "{one} {two}, {three} {four} {five}, then {} bytes, {back}",
+        rest.len()
+    )?)
 }

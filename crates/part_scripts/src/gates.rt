@@ -50,11 +50,7 @@ impl Kind for Gates {
     }
 }
 
-fn append(
-    alloc: Global,
-    journal: &mut Journal<MemDisk>,
-    payload: &[u8],
-) -> Result<String, Stop> {
+fn append(alloc: Global, journal: &mut Journal<MemDisk>, payload: &[u8]) -> Result<String, Stop> {
     if payload.len() > 65535 {
         return Err(Stop::Words);
     }

@@ -5,13 +5,16 @@ use log_records::{read_click, read_query};
 use mem_outside::MemDisk;
 use output_log::{OutputLog, PairRec, pair_frame, read_pair};
 use registry_state::Token;
-use script_lines::texts::{told_pair, token};
+use script_lines::texts::{token, told_pair};
 use script_lines::{Stop, Words};
 use std::alloc::Global;
 
 // `write TOKEN CLICK / QUERY`; `read BYTES`, the pair of a record.
 impl Kind for OutputLog<MemDisk> {
-    fn open_on(alloc: Global, disk: MemDisk) -> Result<OutputLog<MemDisk>, (JournalFault, MemDisk)> {
+    fn open_on(
+        alloc: Global,
+        disk: MemDisk,
+    ) -> Result<OutputLog<MemDisk>, (JournalFault, MemDisk)> {
         OutputLog::open(alloc, disk)
     }
 
@@ -47,7 +50,13 @@ impl Kind for OutputLog<MemDisk> {
 fn write(alloc: Global, log: &mut OutputLog<MemDisk>, text: &str) -> Result<String, Stop> {
     let (holder, lines) = text.split_once(' ').ok_or(Stop::Words)?;
     let (click, query) = lines.split_once(" / ").ok_or(Stop::Words)?;
-    write_pair(alloc, log, click.as_bytes(), query.as_bytes(), token(holder)?)
+    write_pair(
+        alloc,
+        log,
+        click.as_bytes(),
+        query.as_bytes(),
+        token(holder)?,
+    )
 }
 
 fn write_pair(

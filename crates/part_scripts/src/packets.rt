@@ -24,7 +24,11 @@ impl Part for Packets {
         let again = encode(alloc, &packet)?.as_slice() == bytes.as_slice();
         let back = if again { "and back" } else { "but not back" };
         let fronts = (0..bytes.len()).all(|n| is_bad(alloc, &bytes[..n], n));
-        let fronts = if fronts { "each front bad at its end" } else { "a front is not bad at its end" };
+        let fronts = if fronts {
+            "each front bad at its end"
+        } else {
+            "a front is not bad at its end"
+        };
         Ok(format!(in alloc; "{} bytes, {back}, {fronts}", bytes.len())?)
     }
 }

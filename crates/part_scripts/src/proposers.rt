@@ -63,7 +63,11 @@ fn asked(
         }
         "value" => told_batch(alloc, proposer.value()),
         "phase" => {
-            let phase = if proposer.is_accepting() { "accepting" } else { "not accepting" };
+            let phase = if proposer.is_accepting() {
+                "accepting"
+            } else {
+                "not accepting"
+            };
             Ok(format!(in alloc; "slot {}, {phase}", proposer.slot())?)
         }
         _ => Err(Stop::Words),

@@ -1,7 +1,7 @@
 // Registries: a plain one, and one that keeps its ids by time.
 use id_expiry::TimedRegistry;
 use registry_state::{Answer, Registry, Replays, Token};
-use script_lines::texts::{batch, id_of, told_answer, told_replay, told_token, token};
+use script_lines::texts::{batch, id_of, token, told_answer, told_replay, told_token};
 use script_lines::{Part, Stop, Words};
 use std::alloc::Global;
 

@@ -38,10 +38,20 @@ fn play_disk(alloc: Global, scene: &Scene, report: &mut Report) -> Result<(), Al
     match scene.name.as_str() {
         "journals" => play(alloc, OnDisk::<Gates>::new(), scene, report),
         "epochs" => play(alloc, OnDisk::<EpochJournal<MemDisk>>::new(), scene, report),
-        "offsets" => play(alloc, OnDisk::<OffsetJournal<MemDisk>>::new(), scene, report),
+        "offsets" => play(
+            alloc,
+            OnDisk::<OffsetJournal<MemDisk>>::new(),
+            scene,
+            report,
+        ),
         "retries" => play(alloc, OnDisk::<RetryLog<MemDisk>>::new(), scene, report),
         "outputs" => play(alloc, OnDisk::<OutputLog<MemDisk>>::new(), scene, report),
-        "topologies" => play(alloc, OnDisk::<TopologyJournal<MemDisk>>::new(), scene, report),
+        "topologies" => play(
+            alloc,
+            OnDisk::<TopologyJournal<MemDisk>>::new(),
+            scene,
+            report,
+        ),
         _ => report.unknown(scene),
     }
 }

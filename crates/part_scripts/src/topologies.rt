@@ -18,7 +18,11 @@ impl Kind for TopologyJournal<MemDisk> {
 
     fn told(&self, alloc: Global) -> Result<String, Stop> {
         match self.kept() {
-            Some(kept) => Ok(format!(in alloc; "{} joiners, {:?}", kept.joiners, kept.table.rows())?),
+            Some(kept) => Ok(format!(in alloc;
+                "{} joiners, {:?}",
+                kept.joiners,
+                kept.table.rows()
+            )?),
             None => Ok(format!(in alloc; "none")?),
         }
     }

@@ -5,12 +5,7 @@ use std::alloc::{AllocError, Global};
 /// What the rows of a scene work on.
 pub trait Part: Drop {
     /// What a row is answered. `text` was gathered by the lines before it.
-    fn step(
-        &mut self,
-        alloc: Global,
-        text: Vec<u8>,
-        words: &mut Words<'_>,
-    ) -> Result<String, Stop>;
+    fn step(&mut self, alloc: Global, text: Vec<u8>, words: &mut Words<'_>) -> Result<String, Stop>;
 }
 
 // What became of a line.
@@ -64,7 +59,11 @@ fn play_line<P: Part>(
         Ok(answer) => answer,
         Err(stop) => told(alloc, stop)?,
     };
-    Ok(if answer.as_str() == wanted { Played::Right } else { Played::Wrong(answer) })
+    Ok(if answer.as_str() == wanted {
+        Played::Right
+    } else {
+        Played::Wrong(answer)
+    })
 }
 
 // `| TEXT` is a line, `+ TEXT` one without its end, `& HEX` bytes, `* COUNT TEXT` a text so many times.

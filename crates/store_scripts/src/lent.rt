@@ -72,7 +72,10 @@ fn fallen(alloc: Global, words: &mut Words<'_>) -> Result<MemDisk, Stop> {
 fn calls(alloc: Global, disks: &[LentDisk<MemDisk>]) -> Result<String, Stop> {
     let mut text = String::new(alloc);
     for lent in disks {
-        put_piece(&mut text, format!(in alloc; "{}", lent.disk.calls().len())?.as_str())?;
+        put_piece(
+            &mut text,
+            format!(in alloc; "{}", lent.disk.calls().len())?.as_str(),
+        )?;
     }
     Ok(text)
 }

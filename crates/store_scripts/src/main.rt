@@ -26,5 +26,8 @@ fn main(rt: HostRuntime) -> io::Result<()> {
     for scene in &script.scenes {
         scenes::play_scene(&rt, scene, &mut report)?;
     }
-    println!(rt; "{}{} rows, {} wrong", report.text, report.rows, report.wrong)
+    println!(rt;
+        "{}{} rows, {} wrong",
+        report.text, report.rows, report.wrong
+    )
 }

@@ -144,7 +144,9 @@ fn told_refusal(alloc: Global, refusal: Refusal) -> Result<String, Stop> {
             Ok(format!(in alloc; "table {:?}, asked {:?}", kept.rows(), asked.rows())?)
         }
         Refusal::Place(misplaced) => Ok(format!(in alloc; "{misplaced:?}")?),
-        Refusal::Limit { disk, value } => Ok(format!(in alloc; "{disk:?} is at its limit {value}")?),
+        Refusal::Limit { disk, value } => Ok(format!(in alloc;
+            "{disk:?} is at its limit {value}"
+        )?),
         Refusal::Read => Ok(format!(in alloc; "the log isn't read")?),
     }
 }

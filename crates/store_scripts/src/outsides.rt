@@ -102,12 +102,7 @@ impl Part for Sources {
     }
 }
 
-fn read(
-    alloc: Global,
-    log: &mut Option<MemLog>,
-    at: u64,
-    count: usize,
-) -> Result<String, Stop> {
+fn read(alloc: Global, log: &mut Option<MemLog>, at: u64, count: usize) -> Result<String, Stop> {
     let Some(log) = log else {
         return Err(Stop::Words);
     };

@@ -9,11 +9,7 @@ use script_lines::{Report, Scene, play};
 use std::alloc::AllocError;
 
 /// Plays the scene with the part that its header names.
-pub fn play_scene(
-    rt: &HostRuntime,
-    scene: &Scene,
-    report: &mut Report,
-) -> Result<(), AllocError> {
+pub fn play_scene(rt: &HostRuntime, scene: &Scene, report: &mut Report) -> Result<(), AllocError> {
     let alloc = rt.alloc();
     match scene.name.as_str() {
         "disks" => play(alloc, Disks::new(), scene, report),
