@@ -96,10 +96,14 @@ fn asked(
     }
 }
 
-// What a turn of a node begins with, that has none open.
+// What a turn of a node begins with, that takes part and has none open.
 fn begin(alloc: Global, air: &mut Air, node: u16, wants: bool, tick: bool) -> Result<String, Stop> {
-    if usize::from(node) >= air.nodes() || air.phase(node) == Phase::Busy {
+    let nodes = air.nodes();
+    if nodes > 65_535 || usize::from(node) >= nodes || air.phase(node) == Phase::Busy {
         return Ok(format!(in alloc; "no turn")?);
+    }
+    if air.left_out(alloc)?.contains(&node) {
+        return Ok(format!(in alloc; "no part")?);
     }
     Ok(match air.begin(node, wants, tick)? {
         None => format!(in alloc; "nothing")?,
