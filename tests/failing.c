@@ -1,6 +1,6 @@
 /* A file system that fails, to be loaded before the C library (LD_PRELOAD): a tool of the tests, no part of the program.
  *
- * It counts the calls that change files below a directory, from 0: open with O_CREAT, mkdir, pwrite, fsync and fdatasync. At chosen ones it
+ * It counts the calls that change files below a directory, from 0: open for writing, mkdir, pwrite, fsync and fdatasync. At chosen ones it
  * fails, or ends or holds the process. No sync reaches the disk. In its place the library keeps, for each file, what a loss of power leaves,
  * byte by byte; tests/power.py reads that and makes the loss. What is kept outlives the process, as a machine does.
  *
@@ -191,7 +191,7 @@ int open(const char *name, int flags, ...)
     va_end(more);
     char path[PATH_MAX];
     begin();
-    if (!(flags & O_CREAT) || !find_name(name, path)) {
+    if ((flags & O_ACCMODE) == O_RDONLY || !find_name(name, path)) {
         end(0, 0);
         return REAL(open)(name, flags, mode);
     }
