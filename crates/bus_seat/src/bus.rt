@@ -11,6 +11,7 @@ ghost use Rattle.bus_seat.specs.Views.{count, flown, made_by, holding, Took, in_
 ghost use Rattle.bus_seat.specs.Seats.{bus_id, fresh, fresh_seats, Sight, gathered, TakesPart, AreSeatsOf, IsIn, Adds, Begins, Looks, next_for};
 
 use super::order::{Add, Deal, Gather, Give, Order, Take, Wait as Waiting};
+use super::round::Round;
 use super::seat::{Place, Seat, Seen};
 use super::view::{Base, View};
 use air_bus::{Air, Input, Packets, Payload};
@@ -32,12 +33,14 @@ const WAITING: usize = 2;
 /// gives the turn back. Contracts see which bus it is, and the Air that it was made with.
 ///
 /// A thread that finds the turn taken sleeps until it is given back, and doesn't spin. Who gives it back wakes one thread
-/// where one waits. Taking and giving a free turn takes a few atomic steps and no memory.
+/// where one waits. Taking and giving a free turn takes a few atomic steps and no memory. In a round a node that finds nothing
+/// to take sleeps until a packet for it is sent.
 #[derive(Drop)]
 pub struct Bus {
     table: Table<Air, View, Base, Order, Global>,
     // The numbers of the nodes that take no part.
     left_out: Vec<u16>,
+    round: Round,
 }
 
 impl Model for Bus {
@@ -63,8 +66,9 @@ impl Bus {
         ensures seats { IfOk result (λ made. made.1.items ≡ fresh_seats made.0) }
     {
         let nodes = air.nodes();
-        let base = Base::of(&air);
         let left_out = air.left_out(alloc)?;
+        let round = Round::new(alloc, nodes, left_out.len())?;
+        let base = Base::of(&air);
         let mut seats = Vec::with_capacity(alloc, nodes + 1)?;
         let mut slots = Vec::with_capacity(alloc, 1)?;
         slots.push_reserved(air);
@@ -72,7 +76,11 @@ impl Bus {
             Ok(made) => made,
             Err(Refused { slots: _ }) => return Err(AllocError),
         };
-        let bus = Bus { table, left_out };
+        let bus = Bus {
+            table,
+            left_out,
+            round,
+        };
         for node in 0..nodes as u16 {
             seats.push_reserved(bus.deal(&mut place, node));
         }
@@ -150,9 +158,42 @@ impl Bus {
         !self.left_out.contains(&node)
     }
 
-    /// Opens a turn of the seat's node, which takes part, where it has something to take, as `Air::begin` does. It takes memory for this entry
-    /// and the one that closes the turn, under the turn; with an error no entry is added.
+    /// The round in which the nodes' threads take turns.
+    pub fn round(&self) -> &Round {
+        &self.round
+    }
+
+    /// Opens a turn of the seat's node, which takes part, where it has something to take, as `Air::begin` does. In a round it
+    /// sleeps until there is something, and answers `None` only once the round has ended. It takes memory for this entry and
+    /// the one that closes the turn, under the turn; with an error no entry is added.
     pub fn begin<R: Wait>(
+        &self,
+        rt: &R,
+        seat: &mut Seat,
+        wants: bool,
+        tick: bool,
+    ) -> Result<Option<Input>, AllocError>
+        requires bus { seat.old.bus ≡ self.now }
+        requires live { TakesPart seat.old }
+        requires closed { MatchOption seat.old.number ⊥ (λ n. phase n seat.old.mine ≢ Busy) }
+        ensures kept { (seat.new.bus ≡ seat.old.bus) × (seat.new.number ≡ seat.old.number) }
+        ensures did { IfSome seat.old.number (λ n. IfOk result (λ input. Begins n wants tick seat.old input seat.new)) }
+        ensures err { OnErr result (Looks seat.old seat.new) }
+    {
+        let Some(node) = seat.node else {
+            unreachable!()
+        };
+        for _ in rt.forever() {
+            let input = self.look(rt, seat, wants, tick);
+            if !matches!(&input, Ok(None)) || !self.round.sleep(rt, node) {
+                return input;
+            }
+        }
+        unreachable!()
+    }
+
+    // Opens a turn of the seat's node where it has something to take. Else the node lies down.
+    fn look<R: Wait>(
         &self,
         rt: &R,
         seat: &mut Seat,
@@ -176,7 +217,8 @@ impl Bus {
         input
     }
 
-    /// Closes the open turn of the seat's node with its note, and sends its packets, as `Air::end` does.
+    /// Closes the open turn of the seat's node with its note, and sends its packets, as `Air::end` does. It wakes the
+    /// receivers who sleep, once the turn is given back.
     pub fn end<R: Wait>(&self, rt: &R, seat: &mut Seat, note: Option<Payload>, packets: Packets)
         requires bus { seat.old.bus ≡ self.now }
         requires busy { MatchOption seat.old.number ⊥ (λ n. phase n seat.old.mine ≡ Busy) }
@@ -190,6 +232,7 @@ impl Bus {
         self.take_turn(rt, place);
         self.end_in_hand(place, node, note, packets);
         self.leave(place, true);
+        self.round.wake_rung();
     }
 
     /// Closes the open turn of the seat's node, which went down within it, as `Air::stop` does.
@@ -318,7 +361,11 @@ impl Bus {
         ensures short { length (in_hand place.new.me.1) < 2 ^ 63 }
     {
         let air = place.slot_mut(&self.table.shared, 0);
-        air.begin(node, wants, tick)
+        let input = air.begin(node, wants, tick);
+        if matches!(&input, Ok(None)) {
+            self.round.lie_down(node);
+        }
+        input
     }
 
     fn end_in_hand(&self, place: &mut Place, node: u16, note: Option<Payload>, packets: Packets)
@@ -332,6 +379,7 @@ impl Bus {
         ensures short { length (in_hand place.new.me.1) < 2 ^ 63 }
     {
         let air = place.slot_mut(&self.table.shared, 0);
+        self.round.ring(&packets);
         air.end(node, note, packets);
     }
 

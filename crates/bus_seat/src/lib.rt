@@ -3,9 +3,11 @@
 
 mod bus;
 mod order;
+mod round;
 mod seat;
 mod view;
 
 pub use bus::Bus;
+pub use round::Round;
 pub use seat::{Place, Seat, Seen};
 pub use view::{Base, Ended, View};

@@ -42,8 +42,9 @@ struct Room<N: SiteNode> {
 }
 
 /// Runs the nodes, whose numbers are their places in the list, until all are at rest or one has a fault. A dead replica takes no
-/// turn, and isn't asked whether it rests. In a round each node takes its turns on a thread of its own, until there is none to take. Where a round ends quiet, each node that waits for an
-/// answer takes one Tick in the next.
+/// turn, and isn't asked whether it rests. In a round each node takes its turns on a thread of its own, and sleeps where there is
+/// none to take, until all sleep or one has a fault. Where a round ends quiet, each node that waits for an answer takes one Tick in
+/// the next.
 ///
 /// It takes memory for the bus and the lists before the first round, and hands the nodes back where that is wanting; in a round
 /// the bus and the nodes take theirs.
@@ -293,6 +294,7 @@ fn round<R: Threads + Wait + Sync, N: SiteNode + Send, G: Gate>(
     ensures { AllWentOn N.tells N.leads N.phase_of N.stands N.number N.spends N.grown workers.old workers.new }
 {
     let threads = workers.len().max(1);
+    bus.round().open();
     thread::for_each_mut(
         rt,
         workers,
@@ -304,7 +306,7 @@ fn round<R: Threads + Wait + Sync, N: SiteNode + Send, G: Gate>(
     );
 }
 
-// One worker's part of a round.
+// One worker's part of a round. With a fault it ends the round for all.
 fn take_part<R: Wait, N: SiteNode, G: Gate>(
     rt: &R,
     bus: &Bus,
@@ -315,10 +317,14 @@ fn take_part<R: Wait, N: SiteNode, G: Gate>(
     requires { worker.old.seat.bus ≡ bus.now }
     ensures { WentOn N.tells N.leads N.phase_of N.stands N.number N.spends N.grown worker.old worker.new }
 {
+    bus.round().enter();
     if tick {
         worker.ask_tick();
     }
     worker.work(rt, bus, gate);
+    if worker.fault().is_some() {
+        bus.round().close();
+    }
 }
 
 // Whether a worker has a fault.

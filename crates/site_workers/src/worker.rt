@@ -122,7 +122,7 @@ impl<N: SiteNode> Worker<N> {
         self.tick = self.node.unfinished();
     }
 
-    /// Takes turns of the node until there is none to take, or the node has a fault.
+    /// Takes turns of the node until there is none to take and the round has ended, or the node has a fault.
     pub fn work<R: Wait, G: Gate>(&mut self, rt: &R, bus: &Bus, gate: &G)
         requires { self.old.seat.bus ≡ bus.now }
         ensures grew { Grew self.old.seat self.new.seat }

@@ -7,7 +7,7 @@ use Rattle.bus_seat.specs.Views.{count, Sat, caught_up, off, in_hand}
 use Rattle.bus_seat.specs.Seats.{Sight, sight, TakesPart, Begins}
 use Rattle.bus_seat.proofs.Moves.{took_phase}
 use Rattle.bus_seat.proofs.Beginning.{begun}
-use Rattle.bus_seat.proofs.bus.Bus.begin.Goals as goal
+use Rattle.bus_seat.proofs.bus.Bus.look.Goals as goal
 
 pub begin_in_hand-input-requires-clause-node : goal.begin_in_hand-input-requires-clause-node
 begin_in_hand-input-requires-clause-node g c =
