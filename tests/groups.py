@@ -1,4 +1,5 @@
 """The groups of cases, in the order in which they are run and told."""
+import adapters
 import debian
 import disks
 import drills
@@ -34,6 +35,7 @@ GROUPS = [
     Group("worked", listed=worked.CASES + strict.CASES),
     Group("examples", listed=EXAMPLES),
     Group("texts", listed=texts.CASES),
+    Group("adapters", listed=adapters.CASES),
     Group("fresh", runs.fresh, 20),
     Group("growing", runs.growing, 10),
     Group("live", runs.live, 3),
