@@ -1,0 +1,110 @@
+// The checks of logs, as streams and in memory.
+ghost use Rattle.std.specs.Prelude.{false, []};
+
+use event_id::EventId;
+use log_records::{BadLine, check_queries, clicks_of};
+use mem_outside::MemLog;
+use outside::{LogFile, ReadFault};
+use photon_cli::log_check::{CheckFault, check_click_log, check_query_log};
+use script_rows::{Stop, Words};
+use std::alloc::Global;
+
+// A log in memory, of which a read gives so many bytes at most.
+#[derive(Drop)]
+struct ShortLog {
+    log: MemLog,
+    most: usize,
+}
+
+impl LogFile for ShortLog {
+    ghost tells = { false };
+
+    ghost bytes = { λ _. [] };
+
+    ghost faults = { λ short. short.log.reads.faults };
+
+    fn read_at(&mut self, at: u64, buf: &mut [u8]) -> Result<usize, ReadFault> {
+        let most = self.most.min(buf.len());
+        self.log.read_at(at, &mut buf[..most])
+    }
+}
+
+/// `KIND MOST READ..`: the check of a log of queries or of clicks, of which a read gives so many bytes at most, and those reads
+/// fail. Where MOST is `memory` the log is checked in memory.
+pub fn check(alloc: Global, bytes: &[u8], words: &mut Words<'_>) -> Result<String, Stop> {
+    let kind = words.word()?;
+    let most = words.word()?;
+    match (kind, most) {
+        ("queries", "memory") => lines_told(alloc, in_memory(check_queries(alloc, bytes))),
+        ("clicks", "memory") => clicks_in_memory(alloc, bytes),
+        ("queries", _) => {
+            let (log, checked) = check_query_log(alloc, short_log(alloc, bytes, most, words)?);
+            drop(log);
+            lines_told(alloc, checked)
+        }
+        ("clicks", _) => {
+            let (log, checked) = check_click_log(alloc, short_log(alloc, bytes, most, words)?);
+            drop(log);
+            match checked {
+                Ok(checked) => clicks_told(alloc, &checked.ids, checked.lines_end),
+                Err(fault) => fault_told(alloc, fault),
+            }
+        }
+        _ => Err(Stop::Words),
+    }
+}
+
+fn short_log(
+    alloc: Global,
+    bytes: &[u8],
+    most: &str,
+    words: &mut Words<'_>,
+) -> Result<ShortLog, Stop> {
+    Ok(ShortLog {
+        log: MemLog::new(bytes.to_vec(alloc)?, words.numbers(alloc)?),
+        most: most.parse().map_err(|_| Stop::Words)?,
+    })
+}
+
+fn in_memory<T>(checked: Result<T, BadLine>) -> Result<T, CheckFault> {
+    checked.map_err(CheckFault::Refused)
+}
+
+fn clicks_in_memory(alloc: Global, bytes: &[u8]) -> Result<String, Stop> {
+    let clicks = match in_memory(clicks_of(alloc, bytes)) {
+        Ok(clicks) => clicks,
+        Err(fault) => return fault_told(alloc, fault),
+    };
+    let mut ids = Vec::new(alloc);
+    for click in &clicks {
+        ids.push(click.id)?;
+    }
+    let feed = bytes.iter().rposition(|b| *b == b'\n');
+    clicks_told(alloc, &ids, feed.map_or(0, |at| at as u64 + 1))
+}
+
+fn lines_told(alloc: Global, checked: Result<u64, CheckFault>) -> Result<String, Stop> {
+    match checked {
+        Ok(lines) => Ok(format!(in alloc; "{lines} lines")?),
+        Err(fault) => fault_told(alloc, fault),
+    }
+}
+
+// The ids, and where the last whole line ends.
+fn clicks_told(alloc: Global, ids: &[EventId], end: u64) -> Result<String, Stop> {
+    let mut told = String::new(alloc);
+    for id in ids {
+        let text = id.to_text(alloc)?;
+        told.push_str(std::str::from_utf8(&text).map_err(|_| Stop::Words)?)?;
+        told.push(' ')?;
+    }
+    Ok(format!(in alloc; "{told}to {end}")?)
+}
+
+fn fault_told(alloc: Global, fault: CheckFault) -> Result<String, Stop> {
+    Ok(match fault {
+        CheckFault::Refused(bad) => format!(in alloc; "line {}: {:?}", bad.line, bad.why)?,
+        CheckFault::Read => format!(in alloc; "read")?,
+        CheckFault::Memory => return Err(Stop::Memory),
+    })
+}

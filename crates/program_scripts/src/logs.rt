@@ -1,0 +1,96 @@
+// The files of a run: the two logs, and a plan.
+use lossy_link::Plan;
+use mem_outside::{MemFile, MemSource};
+use photon_cli::drill_store::stops_a_joiner;
+use script_rows::{Stop, Words};
+use std::alloc::Global;
+
+/// The text that was gathered, and the files, the newest first.
+#[derive(Drop)]
+pub struct Logs {
+    alloc: Global,
+    text: Vec<u8>,
+    files: Vec<MemFile>,
+}
+
+impl Logs {
+    pub fn new(alloc: Global) -> Logs {
+        Logs {
+            alloc,
+            text: Vec::new(alloc),
+            files: Vec::new(alloc),
+        }
+    }
+
+    /// `| TEXT` gathers a line, `+ TEXT` a text without its end, `& HEX` bytes, `* COUNT TEXT` a text so many times.
+    pub fn gather(&mut self, mark: &str, text: &str) -> Result<(), Stop> {
+        let mut words = Words::new(text);
+        match mark {
+            "|" => {
+                self.text.extend_from_slice(text.as_bytes())?;
+                self.text.push(b'\n')?;
+            }
+            "+" => self.text.extend_from_slice(text.as_bytes())?,
+            "&" => self.text.extend_from_slice(&words.bytes(self.alloc)?)?,
+            _ => {
+                let count = words.number()?;
+                let text = words.word()?.repeat(self.alloc, count)?;
+                self.text.extend_from_slice(text.as_bytes())?;
+            }
+        }
+        Ok(())
+    }
+
+    /// `file NAME` makes a file of the text that was gathered; `reads NAME READ..` says which reads of it fail.
+    pub fn set(&mut self, word: &str, words: &mut Words<'_>) -> Result<(), Stop> {
+        let name = words.word()?;
+        if word == "reads" {
+            return self.fail_reads(name, words.numbers(self.alloc)?);
+        }
+        let file = MemFile {
+            name: name.to_string(self.alloc)?,
+            bytes: self.take(),
+            failing: Vec::new(self.alloc),
+        };
+        self.files.insert(0, file)?;
+        Ok(())
+    }
+
+    fn fail_reads(&mut self, name: &str, failing: Vec<u64>) -> Result<(), Stop> {
+        for file in self.files.iter_mut() {
+            if file.name.as_str() == name {
+                file.failing = failing;
+                return Ok(());
+            }
+        }
+        Err(Stop::Words)
+    }
+
+    /// The text that was gathered, which is none then.
+    pub fn take(&mut self) -> Vec<u8> {
+        std::mem::replace(&mut self.text, Vec::new(self.alloc))
+    }
+
+    /// The plan that the text is.
+    pub fn plan(&mut self) -> Result<Plan, Stop> {
+        let text = self.take();
+        Plan::read(self.alloc, &text).map_err(|_| Stop::Words)
+    }
+
+    /// Whether the plan that the text is stops no joiner's disk.
+    pub fn spares_joiners(&mut self) -> Result<bool, Stop> {
+        Ok(!stops_a_joiner(&self.plan()?))
+    }
+
+    pub fn source(&self) -> Result<MemSource, Stop> {
+        let mut files = Vec::new(self.alloc);
+        for file in &self.files {
+            files.push(MemFile {
+                name: file.name.as_str().to_string(self.alloc)?,
+                bytes: file.bytes.to_vec(self.alloc)?,
+                failing: file.failing.to_vec(self.alloc)?,
+            })?;
+        }
+        Ok(MemSource::new(files))
+    }
+}

@@ -1,0 +1,73 @@
+// What a script's commands work on.
+use crate::check::check;
+use crate::disks::Disks;
+use crate::logs::Logs;
+use crate::runs::Runs;
+use script_rows::{Stop, Words};
+use std::alloc::Global;
+use std::sync::Wait;
+use std::thread::Threads;
+
+/// The logs, the disks, and what runs leave.
+#[derive(Drop)]
+pub struct Stage {
+    alloc: Global,
+    logs: Logs,
+    disks: Disks,
+    runs: Runs,
+}
+
+impl Stage {
+    pub fn new(alloc: Global) -> Stage {
+        Stage {
+            alloc,
+            logs: Logs::new(alloc),
+            disks: Disks::new(alloc),
+            runs: Runs::new(alloc),
+        }
+    }
+
+    /// Does a line that answers nothing.
+    pub fn set(&mut self, line: &str) -> Result<(), Stop> {
+        let (word, rest) = split(line);
+        match word {
+            "|" | "+" | "&" | "*" => self.logs.gather(word, rest),
+            "file" | "reads" => self.logs.set(word, &mut Words::new(rest)),
+            "out" | "err" | "hold" | "open" | "whole" => self.runs.set(word, &mut Words::new(rest)),
+            "plan" => {
+                let plan = self.logs.plan()?;
+                self.disks.set_plan(&plan, Words::new(rest).number()?)
+            }
+            _ => self.disks.set(word, &mut Words::new(rest)),
+        }
+    }
+
+    /// What a command answers.
+    pub fn answer<R: Threads + Wait + Sync>(&mut self, rt: &R, line: &str) -> Result<String, Stop> {
+        let (word, rest) = split(line);
+        let mut words = Words::new(rest);
+        match word {
+            "photon" | "front" | "totals" | "status" | "refused" => {
+                let source = self.logs.source()?;
+                let words = Words::new(line).rest(self.alloc)?;
+                self.runs.answer(rt, &words, source, &mut self.disks.store)
+            }
+            "pairs" | "over" | "stops" | "entries" | "extra" | "limit" => self
+                .runs
+                .told(word, &mut words),
+            "gate" => self.runs.gate(&mut words),
+            "bytes" | "writes" => self.disks.answer(word, &mut words),
+            "spares" => Ok(format!(in self.alloc; "{}", self.logs.spares_joiners()?)?),
+            "check" => check(self.alloc, &self.logs.take(), &mut words),
+            _ => Err(Stop::Words),
+        }
+    }
+}
+
+// The first word, and what stands behind its space.
+fn split(line: &str) -> (&str, &str) {
+    match line.split_once(' ') {
+        Some(parts) => parts,
+        None => (line, ""),
+    }
+}

@@ -1,7 +1,0 @@
-use Rattle.std.proofs.Common.{sym, subst}
-use Rattle.site_run.specs.Numbers.{AreReady}
-use Rattle.run_tests.proofs.Adding.{one_more}
-use Rattle.run_tests.proofs.nodes_tests.add.Goals as goal
-
-pub returns-clause-ready : goal.returns-clause-ready
-returns-clause-ready c = subst (AreReady _ _) (sym c.in_ok-push.ensures.items) (one_more _ _ c.args.nodes.now.items c.args.node c.requires.ready c.requires.number c.requires.up)
