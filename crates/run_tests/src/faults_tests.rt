@@ -7,7 +7,7 @@ use std::test::Fail;
 use time_shards::Table;
 
 // A fault, its status and its line.
-#[derive(Clone, Copy)]
+#[derive(Drop)]
 struct Case {
     fault: RunFault,
     status: u8,
