@@ -22,14 +22,14 @@ pub fn carried(alloc: Global, count: u32) -> Result<u64, AllocError> {
         return Err(AllocError);
     };
     let mut air = Air::new(alloc, &[Kind::Dispatcher, Kind::Joiner], plan)?;
-    turn(&mut air, RECEIVER, false, Packets::new(alloc))?;
-    turn(&mut air, SENDER, false, Packets::new(alloc))?;
+    turn(alloc, &mut air, RECEIVER, false, Packets::new(alloc))?;
+    turn(alloc, &mut air, SENDER, false, Packets::new(alloc))?;
     for number in 0..count {
-        turn(&mut air, SENDER, true, packets(alloc, number)?)?;
+        turn(alloc, &mut air, SENDER, true, packets(alloc, number)?)?;
     }
     let mut taken: u64 = 0;
     for _ in 0..count {
-        if turn(&mut air, RECEIVER, false, Packets::new(alloc))? {
+        if turn(alloc, &mut air, RECEIVER, false, Packets::new(alloc))? {
             taken = taken.wrapping_add(1);
         }
     }
@@ -47,10 +47,19 @@ fn packets(alloc: Global, number: u32) -> Result<Packets, AllocError>
 }
 
 // Opens a turn and closes it with these packets. Whether it took a packet.
-fn turn(air: &mut Air, node: u16, wants: bool, packets: Packets) -> Result<bool, AllocError>
+fn turn(
+    alloc: Global,
+    air: &mut Air,
+    node: u16,
+    wants: bool,
+    packets: Packets,
+) -> Result<bool, AllocError>
     requires { All (λ p. p.0 < 2) packets }
 {
     if air.nodes() != NODES || usize::from(node) >= NODES || air.phase(node) == Phase::Busy {
+        return Ok(false);
+    }
+    if air.left_out(alloc)?.contains(&node) {
         return Ok(false);
     }
     let input = air.begin(node, wants, false)?;

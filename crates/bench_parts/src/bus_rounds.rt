@@ -38,13 +38,16 @@ fn parcel(alloc: Global, to: u16, mail: bool) -> Packets
     packets
 }
 
-/// Takes so many turns of the node, fewer where there is no memory.
+/// Takes so many turns of the node, fewer where there is no memory, and none of a node that takes no part.
 fn work<R: Wait>(rt: &R, alloc: Global, bus: &Bus, worker: &mut Worker, turns: u32, mail: bool)
     requires { IsReady bus.now worker.old }
     ensures ready { IsReady bus.now worker.new }
     ensures grew { Grew worker.old worker.new }
 {
     for _ in 0..turns {
+        if !bus.takes_part(&worker.seat) {
+            return;
+        }
         let Ok(Some(_)) = bus.begin(rt, &mut worker.seat, true, false) else {
             return;
         };
