@@ -41,6 +41,8 @@ def lose_power(directory, machine):
 def run_with(directory, machine, plan, batch):
     """A join in which something happens, and what it leaves; the power may go afterwards."""
     case = directory.case
+    if "drop" in plan:  # takes what a run that was killed wrote and didn't sync
+        directory.seen = stores.Store(machine.synced(directory.state), directory.joiners)
     machine.plan(plan)
     ended = case.run(directory.join_words(None, batch))
     machine.plan("")
