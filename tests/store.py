@@ -82,13 +82,13 @@ def pending_of(records):
 
 
 def read_disk(kind, data):
-    """The records of a disk, and the place of its damage or None."""
+    """The records of a disk, and the place of its damage or None: gate damage is told before a record out of order."""
     payloads, damage, _ = gate_rule(data)
     records = []
     for at, payload in payloads:
         record = fields.take_record(payload)
         if not in_order(kind, records, record):
-            return records, at
+            return records, at if damage is None else damage
         records.append(record)
     return records, damage
 
