@@ -1,12 +1,12 @@
 -- What one change of a map leaves at each key.
-use Rattle.std.proofs.Common.{◌≡◌, ℕ, Bool, true, false, ◌&&◌, ◌==◌, cond, Option, Some, None, is_some, unwrap_or, refl, ap, ◌∙◌, arith, is_eq, nat_cmp}
+use Rattle.std.proofs.Common.{◌≡◌, ℕ, Bool, true, false, ◌&&◌, ◌==◌, cond, Option, Some, None, is_some, unwrap_or, refl, ap, ◌∙◌, arith, is_eq}
 use Rattle.std.proofs.lemmas.Bool.{both_ways}
 use Rattle.std.proofs.lemmas.Bool.Decides.{nat_tests}
 use Rattle.event_id.specs.declared.id.EventId.{EventId}
 use Rattle.event_id.specs.EventId.{is_same}
 use Rattle.event_store.specs.declared.index.Process.{Process}
 use Rattle.event_store.specs.declared.index.Progress.{Progress}
-use Rattle.event_store.specs.Marks.{same_key}
+use Rattle.event_store.specs.Marks.{same_key, key_cmp}
 
 fresh : Progress
 fresh = record { lines = 0; last = 0 }
@@ -32,5 +32,6 @@ pub put_at : (o n : Option Progress) (t : Bool) (g : Progress) → n ≡ cond t 
 put_at o n false g e = rw e
 put_at o n true g e = rw e
 
-is_eq_then : (a b : ℕ) (rest : Bool) → (a == b) ≡ rest → is_eq (nat_cmp a b) ≡ rest
-is_eq_then a b rest e = grind (arith, nat_tests)
+-- keys that compare as equal are one
+pub key_eq : (p q : Process) → is_eq (key_cmp p q) ≡ same_key p q
+key_eq p q = grind (arith, nat_tests)

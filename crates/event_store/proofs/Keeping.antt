@@ -1,7 +1,6 @@
 -- The index of one line more.
 use Rattle.std.proofs.Common.{◌≡◌, ℕ, ◌+◌, ◌%◌, ◌==◌, ◌&&◌, Bool, true, false, cond, List, ◌∷◌, Option, Some, None, is_some, OnOk, Result, Ok, Err, refl, sym, ap, ◌∙◌, arith}
 use Rattle.std.specs.Option.{option_or}
-use Rattle.std.specs.HashMap as hash
 use Rattle.std.specs.BTreeMap as tree
 use Rattle.std.specs.List.{list_any}
 use Rattle.std.proofs.lemmas.Option.{none-some}
@@ -39,13 +38,13 @@ and_true : (t : Bool) → (t && true) ≡ t
 and_true true = refl
 and_true false = refl
 
-pub stray_kept : (index after : Index) (id : EventId) (place : ℕ) → ((p : Process) → progress_at after.processes p ≡ progress_at index.processes p) → after.entries ≡ index.entries → ((k : EventId) → hash.get is_same after.strays k ≡ option_or (hash.get is_same index.strays k) (cond (is_same k id) (Some place) None)) → hash.hash_map_len after.strays ≡ hash.hash_map_len index.strays + cond {A = ℕ} (is_some (hash.get is_same index.strays id)) 0 1 → (marks : List Mark) → Keeps index marks → is_in_order (ids_of marks) id ≡ false → Keeps after (record { place = place; id = id } ∷ marks)
+pub stray_kept : (index after : Index) (id : EventId) (place : ℕ) → ((p : Process) → progress_at after.processes p ≡ progress_at index.processes p) → after.entries ≡ index.entries → ((k : EventId) → tree.get id_cmp after.strays k ≡ option_or (tree.get id_cmp index.strays k) (cond (is_same k id) (Some place) None)) → tree.btree_map_len after.strays ≡ tree.btree_map_len index.strays + cond {A = ℕ} (is_some (tree.get id_cmp index.strays id)) 0 1 → (marks : List Mark) → Keeps index marks → is_in_order (ids_of marks) id ≡ false → Keeps after (record { place = place; id = id } ∷ marks)
 stray_kept index after id place moved entries at len marks keeps order = record {
   progress = λ p. moved p ∙ keeps.progress p ∙ sym (unmoved (ids_of marks) id p order);
   entries = λ k. ap (λ m. tree.get id_cmp m k) entries ∙ keeps.entries k ∙ sym (no_entry (record { place = place; id = id }) marks k order);
   strays = λ k. at k ∙ ap (λ (o : Option ℕ). option_or o (cond (is_same k id) (Some place) None)) (keeps.strays k) ∙ (rw order (ap (λ (t : Bool). option_or (stray_of marks k) (cond t (Some place) None)) (sym (and_true (is_same k id)))));
   count = let more = stray_more (ids_of marks) id order in
-      let same : cond {A = ℕ} (is_some (hash.get is_same index.strays id)) 0 1 ≡ cond {A = ℕ} (list_any (is_same id) (strays (ids_of marks))) 0 1 = ap (λ (o : Option ℕ). cond {A = ℕ} (is_some o) 0 1) (keeps.strays id) ∙ ap (λ (t : Bool). cond {A = ℕ} t 0 1) (sym (stray_any marks id)) in
+      let same : cond {A = ℕ} (is_some (tree.get id_cmp index.strays id)) 0 1 ≡ cond {A = ℕ} (list_any (is_same id) (strays (ids_of marks))) 0 1 = ap (λ (o : Option ℕ). cond {A = ℕ} (is_some o) 0 1) (keeps.strays id) ∙ ap (λ (t : Bool). cond {A = ℕ} t 0 1) (sym (stray_any marks id)) in
       let lens : tree.btree_map_len after.entries ≡ tree.btree_map_len index.entries = ap (λ m. tree.btree_map_len m) entries in
       let old = keeps.count in
       omega (arith, more, same, old, len, lens);
@@ -81,11 +80,11 @@ pub ordered_kept : (index after : Index) (id : EventId) (place : ℕ) (g : Progr
 ordered_kept index after id place g starts is starts_is moved at len strays marks keeps order = record {
   progress = λ p. moved p ∙ ap (λ (h : Progress). cond (same_key p (key_of id)) (record { lines = h.lines + 1; last = id.micros }) (progress_at index.processes p)) g_is ∙ ap (λ (h : Progress). cond (same_key p (key_of id)) (record { lines = (progress (ids_of marks) (key_of id)).lines + 1; last = id.micros }) h) (keeps.progress p) ∙ moved_on (ids_of marks) id p order;
   entries = λ k. at k ∙ ap (λ (t : Bool). cond (is_same k id && t) (Some place) (tree.get id_cmp index.entries k)) starts_begins ∙ ap (λ (o : Option ℕ). cond (is_same k id && begins (ids_of marks) id) (Some place) o) (keeps.entries k);
-  strays = λ k. ap (λ m. hash.get is_same m k) strays ∙ keeps.strays k ∙ sym (no_more (record { place = place; id = id }) marks k order);
+  strays = λ k. ap (λ m. tree.get id_cmp m k) strays ∙ keeps.strays k ∙ sym (no_more (record { place = place; id = id }) marks k order);
   count = let more = ordered_more (ids_of marks) id order in
       let same : cond {A = ℕ} starts 1 0 ≡ cond {A = ℕ} (begins (ids_of marks) id) 1 0 = ap (λ (t : Bool). cond {A = ℕ} t 1 0) starts_begins in
       let lens : tree.btree_map_len after.entries ≡ tree.btree_map_len index.entries + cond {A = ℕ} starts 1 0 = len (keeps.entries id ∙ no_own_entry marks id order) in
-      let others : hash.hash_map_len after.strays ≡ hash.hash_map_len index.strays = ap (λ m. hash.hash_map_len m) strays in
+      let others : tree.btree_map_len after.strays ≡ tree.btree_map_len index.strays = ap (λ m. tree.btree_map_len m) strays in
       let old = keeps.count in
       omega (arith, more, same, old, lens, others);
 }
@@ -100,9 +99,9 @@ pub same_kept : (index after : Index) (marks : List Mark) → ((p : Process) →
 same_kept index after marks moved entries strays keeps = record {
   progress = λ p. moved p ∙ keeps.progress p;
   entries = λ k. ap (λ m. tree.get id_cmp m k) entries ∙ keeps.entries k;
-  strays = λ k. ap (λ m. hash.get is_same m k) strays ∙ keeps.strays k;
+  strays = λ k. ap (λ m. tree.get id_cmp m k) strays ∙ keeps.strays k;
   count = let lens : tree.btree_map_len after.entries ≡ tree.btree_map_len index.entries = ap (λ m. tree.btree_map_len m) entries in
-      let others : hash.hash_map_len after.strays ≡ hash.hash_map_len index.strays = ap (λ m. hash.hash_map_len m) strays in
+      let others : tree.btree_map_len after.strays ≡ tree.btree_map_len index.strays = ap (λ m. tree.btree_map_len m) strays in
       let old = keeps.count in
       omega (arith, old, lens, others);
 }

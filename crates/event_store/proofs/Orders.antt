@@ -1,10 +1,10 @@
 -- Ids in order, and ids that are one.
-use Rattle.std.proofs.Common.{◌≡◌, ℕ, ◌+◌, ◌<◌, Bool, true, false, not, ◌&&◌, ◌||◌, ◌==◌, nat_lt, cond, List, [], ◌∷◌, refl, sym, subst, arith, ltb-true, eqb-true, eq-eqb}
+use Rattle.std.proofs.Common.{◌≡◌, ℕ, ◌+◌, ◌<◌, Bool, true, false, not, ◌&&◌, ◌||◌, ◌==◌, nat_lt, cond, List, [], ◌∷◌, refl, sym, subst, arith, ltb-true, eqb-true, eq-eqb, is_eq}
 use Rattle.std.specs.List.{list_any}
 use Rattle.std.proofs.lemmas.Bool.{and_parts, and_from, both_ways}
 use Rattle.std.proofs.lemmas.Bool.Decides.{nat_tests}
 use Rattle.event_id.specs.declared.id.EventId.{EventId}
-use Rattle.event_id.specs.EventId.{is_same}
+use Rattle.event_id.specs.EventId.{is_same, id_cmp}
 use Rattle.event_store.specs.declared.index.Process.{Process}
 use Rattle.event_store.specs.declared.index.Progress.{Progress}
 use Rattle.event_store.specs.Order.{same_process, is_in_order}
@@ -18,6 +18,10 @@ same_id a b e =
     let pid : a.pid ≡ b.pid = eqb-true a.pid b.pid q.0 in
     let micros : a.micros ≡ b.micros = eqb-true a.micros b.micros q.1 in
     λ i. record { ip = ip i; pid = pid i; micros = micros i }
+
+-- ids that compare as equal are one
+pub equal_id : (a b : EventId) → is_eq (id_cmp a b) ≡ true → a ≡ b
+equal_id a b e = same_id a b (grind (arith, nat_tests))
 
 pub same_itself : (a : EventId) → is_same a a ≡ true
 same_itself a = and_from (a.ip == a.ip) _ (eq-eqb a.ip a.ip refl) (and_from (a.pid == a.pid) _ (eq-eqb a.pid a.pid refl) (eq-eqb a.micros a.micros refl))

@@ -1,7 +1,7 @@
 -- What is known after one line more.
 use Rattle.std.proofs.Common.{◌≡◌, ℕ, ◌+◌, ◌<◌, Bool, true, false, cond, List, [], ◌∷◌, ◌++◌, Option, Some, None, MatchOption, refl, sym, ap, ◌∙◌, arith, length-append}
 use Rattle.std.specs.Option.{option_or}
-use Rattle.std.proofs.lemmas.Option.{MatchOption-at_none}
+use Rattle.std.proofs.lemmas.Option.{MatchOption-at_none, IfSome_then}
 use Rattle.event_id.specs.declared.id.EventId.{EventId}
 use Rattle.event_id.specs.EventId.{is_same}
 use Rattle.log_records.specs.declared.records.QueryRec.{QueryRec}
@@ -43,8 +43,8 @@ found_stays lines r id q is = found_append lines (r ∷ []) id ∙ ap (λ (o : O
 found_new : (lines : List (Option QueryRec)) (r : Option QueryRec) (id : EventId) → found lines id ≡ None → found (lines ++ r ∷ []) id ≡ found (r ∷ []) id
 found_new lines r id none = found_append lines (r ∷ []) id ∙ ap (λ (o : Option QueryRec). option_or o (found (r ∷ []) id)) none
 
-pub cached_more : (kept : List (EventId × QueryRec)) (lines : List (Option QueryRec)) (r : Option QueryRec) → IsCache kept lines → IsCache kept (lines ++ r ∷ [])
-cached_more kept lines r cache = λ e has. found_stays lines r e.0 e.1 (cache e has)
+pub cached_more : (kept : EventId → Option QueryRec) (lines : List (Option QueryRec)) (r : Option QueryRec) → IsCache kept lines → IsCache kept (lines ++ r ∷ [])
+cached_more kept lines r cache = λ id. IfSome_then (kept id) (cache id) (λ q is. found_stays lines r id q is)
 
 abbrev Tied : List ℕ → List (Option QueryRec) → List Mark → EventId → Type 0
 Tied log lines marks id = MatchOption (first_of marks id) (found lines id ≡ None) (λ (f : First). Starts log id f.place)
@@ -63,7 +63,7 @@ tied_with log place e (Some q) lines marks walk step id tied = here (first_of ma
     here None false is none = rw is (found_new lines (Some q) id none ∙ (rw is refl))
 
 -- one line more, with what is then kept of it
-pub grown : (log : List ℕ) (place e count : ℕ) (r : Option QueryRec) (index after : Index) (kept now : List (EventId × QueryRec)) → (h : Holds log place count index kept) → ReadsNext log place e r → Keeps after (with_line place r h.marks) → IsCache now (h.lines ++ r ∷ []) → Holds log e (count + 1) after now
+pub grown : (log : List ℕ) (place e count : ℕ) (r : Option QueryRec) (index after : Index) (kept now : EventId → Option QueryRec) → (h : Holds log place count index kept) → ReadsNext log place e r → Keeps after (with_line place r h.marks) → IsCache now (h.lines ++ r ∷ []) → Holds log e (count + 1) after now
 grown log place e count r index after kept now h step keeps cache = record {
   lines = h.lines ++ r ∷ [];
   marks = with_line place r h.marks;
@@ -79,11 +79,11 @@ grown log place e count r index after kept now h step keeps cache = record {
 }
 
 -- a new id's record is the first of it
-pub first_now : (log : List ℕ) (place count : ℕ) (index : Index) (kept : List (EventId × QueryRec)) (h : Holds log place count index kept) (q : QueryRec) → first_of h.marks q.id ≡ None → found (h.lines ++ Some q ∷ []) q.id ≡ Some q
+pub first_now : (log : List ℕ) (place count : ℕ) (index : Index) (kept : EventId → Option QueryRec) (h : Holds log place count index kept) (q : QueryRec) → first_of h.marks q.id ≡ None → found (h.lines ++ Some q ∷ []) q.id ≡ Some q
 first_now log place count index kept h q none = found_new h.lines (Some q) q.id (MatchOption-at_none (found h.lines q.id ≡ None) (λ (f : First). Starts log q.id f.place) none (h.knows.tied q.id)) ∙ own q q.id refl
 
 -- the same lines, with another form of the index
-pub reindexed : (log : List ℕ) (place count : ℕ) (index after : Index) (kept : List (EventId × QueryRec)) → ((marks : List Mark) → Keeps index marks → Keeps after marks) → Holds log place count index kept → Holds log place count after kept
+pub reindexed : (log : List ℕ) (place count : ℕ) (index after : Index) (kept : EventId → Option QueryRec) → ((marks : List Mark) → Keeps index marks → Keeps after marks) → Holds log place count index kept → Holds log place count after kept
 reindexed log place count index after kept same h = record {
   lines = h.lines;
   marks = h.marks;

@@ -1,8 +1,12 @@
 -- What a store knows of the lines that it has read.
-use Rattle.std.specs.Prelude.{ℕ, ◌≡◌, List, [], length, Option, Some, None, MatchOption, Contains}
+use Rattle.std.specs.Prelude.{ℕ, ◌≡◌, List, [], length, Option, Some, None, MatchOption, IfSome}
+use Rattle.std.specs.Option.{option_or}
+use Rattle.std.specs.BTreeMap.{get}
 use Rattle.event_id.specs.declared.id.EventId.{EventId}
+use Rattle.event_id.specs.EventId.{id_cmp}
 use Rattle.log_records.specs.declared.records.QueryRec.{QueryRec}
 use Rattle.event_store.specs.declared.index.Index.{Index}
+use Rattle.event_store.specs.declared.recent.Recent.{Recent}
 use Rattle.event_store.specs.Read.{ReadsNext, ReadsLines, AreRead}
 use Rattle.event_store.specs.Found.{found}
 use Rattle.event_store.specs.Order.{ids_onto}
@@ -19,11 +23,15 @@ pub record Knows (log : List ℕ) (place : ℕ) (index : Index) (lines : List (O
   pub tied : (id : EventId) → MatchOption (first_of marks id) (found lines id ≡ None) (λ f. Starts log id f.place)
   pub keeps : Keeps index marks
 
--- each record that is kept at hand is the first with its id
-abbrev pub IsCache : List (EventId × QueryRec) → List (Option QueryRec) → Type 0
-IsCache kept lines = (e : EventId × QueryRec) → Contains kept e → found lines e.0 ≡ Some e.1
+-- the record of an id that is kept at hand
+abbrev pub at_hand : Recent → EventId → Option QueryRec
+at_hand recent id = option_or (get id_cmp recent.newer id) (get id_cmp recent.older id)
 
-pub record Holds (log : List ℕ) (place count : ℕ) (index : Index) (kept : List (EventId × QueryRec)) : Type 0 where
+-- each record that is kept at hand is the first with its id
+abbrev pub IsCache : (EventId → Option QueryRec) → List (Option QueryRec) → Type 0
+IsCache kept lines = (id : EventId) → IfSome (kept id) (λ q. found lines id ≡ Some q)
+
+pub record Holds (log : List ℕ) (place count : ℕ) (index : Index) (kept : EventId → Option QueryRec) : Type 0 where
   pub lines : List (Option QueryRec)
   pub marks : List Mark
   pub knows : Knows log place index lines marks

@@ -1,7 +1,8 @@
 -- What an index knows of the lines with a record. In each list the last line comes first.
 use Rattle.std.specs.Prelude.{ℕ, ◌≡◌, ◌+◌, ◌%◌, ◌<◌, ◌≤◌, ◌==◌, ◌&&◌, not, Bool, true, false, List, [], ◌∷◌, if◌then◌else◌, Option, Some, None, IfSome, unwrap_or}
 use Rattle.std.specs.Option.{option_or}
-use Rattle.std.specs.HashMap as hash
+use Rattle.std.specs.Ordering.{nat_cmp, ordering_then}
+use Rattle.std.specs.declared.cmp.Ordering.{Ordering}
 use Rattle.std.specs.BTreeMap as tree
 use Rattle.event_id.specs.declared.id.EventId.{EventId}
 use Rattle.event_id.specs.EventId.{is_same, id_cmp}
@@ -22,6 +23,10 @@ ids_of (m ∷ earlier) = m.id ∷ ids_of earlier
 -- whether two processes are one
 abbrev pub same_key : Process → Process → Bool
 same_key a b = (a.ip == b.ip) && (a.pid == b.pid)
+
+-- by the address as a number, then the process id
+abbrev pub key_cmp : Process → Process → Ordering
+key_cmp a b = ordering_then (nat_cmp a.ip b.ip) (nat_cmp a.pid b.pid)
 
 abbrev pub key_of : EventId → Process
 key_of id = record { ip = id.ip; pid = id.pid }
@@ -46,15 +51,15 @@ stray_of [] k = None
 stray_of (m ∷ earlier) k = option_or (stray_of earlier k) (if is_same k m.id && not (is_in_order (ids_of earlier) m.id) then Some m.place else None)
 
 -- how far a process has come
-abbrev pub progress_at : {S : Type 0} → hash.HashMap Process Progress S → Process → Progress
-progress_at processes p = unwrap_or (hash.get same_key processes p) (record { lines = 0; last = 0 })
+abbrev pub progress_at : tree.BTreeMap Process Progress → Process → Progress
+progress_at processes p = unwrap_or (tree.get key_cmp processes p) (record { lines = 0; last = 0 })
 
 -- the index of these lines
 pub record Keeps (index : Index) (marks : List Mark) : Type 0 where
   pub progress : (p : Process) → progress_at index.processes p ≡ progress (ids_of marks) p
   pub entries : (k : EventId) → tree.get id_cmp index.entries k ≡ entry_of marks k
-  pub strays : (k : EventId) → hash.get is_same index.strays k ≡ stray_of marks k
-  pub count : tree.btree_map_len index.entries + hash.hash_map_len index.strays ≡ entries_among (ids_of marks)
+  pub strays : (k : EventId) → tree.get id_cmp index.strays k ≡ stray_of marks k
+  pub count : tree.btree_map_len index.entries + tree.btree_map_len index.strays ≡ entries_among (ids_of marks)
 
 -- the first line with an id: its place, and whether it is in order
 pub record First : Type 0 where

@@ -5,13 +5,13 @@ ghost use Rattle.event_id.specs.declared.id.EventId.{EventId as Id};
 use crate::puts::{make_room, put_entry, put_progress, put_stray};
 use event_id::EventId;
 use std::alloc::{AllocError, Global};
-use std::collections::{BTreeMap, HashMap};
+use std::collections::BTreeMap;
 
 /// Every so many in-order lines of a process one is indexed.
 pub(crate) const STRIDE: u64 = 16;
 
-/// The part of an id that is the same for all lines of a process.
-#[derive(Clone, Copy, Debug, PartialEq, Eq, Hash)]
+/// The part of an id that is the same for all lines of a process. Ordered by the address, then by the process id.
+#[derive(Clone, Copy, Debug, PartialEq, Eq, PartialOrd, Ord)]
 pub struct Process {
     pub ip: u32,
     pub pid: u32,
@@ -26,11 +26,13 @@ pub struct Progress {
 
 /// Of each process every 16th in-order line, the first included, by its id; of each id of a line that isn't in order the
 /// first such line.
+///
+/// The maps are ordered ones: whoever writes the log chooses the ids, so a hash of them could be made to collide.
 #[derive(Drop)]
 pub struct Index {
-    processes: HashMap<Process, Progress>,
+    processes: BTreeMap<Process, Progress>,
     entries: BTreeMap<EventId, u64>,
-    strays: HashMap<EventId, u64>,
+    strays: BTreeMap<EventId, u64>,
 }
 
 /// Where to look for an in-order line: from an entry up to the next one of its process, if there is one.
@@ -67,7 +69,6 @@ impl Progress {
 impl Index {
     ghost use Rattle.std.specs.Prelude.{unwrap_or, if◌then◌else◌, ◌&&◌};
     ghost use Rattle.event_store.specs.declared.index.Process.{Process as Key};
-    ghost use Rattle.std.specs.HashMap as hash;
     ghost use Rattle.std.specs.BTreeMap as tree;
     ghost use Rattle.event_id.specs.EventId.{id_cmp};
     ghost use Rattle.event_store.specs.Order.{is_in_order, same_process, entries_among};
@@ -78,9 +79,9 @@ impl Index {
         ensures { Keeps result [] }
     {
         Index {
-            processes: HashMap::new(alloc),
+            processes: BTreeMap::new(alloc),
             entries: BTreeMap::new(alloc),
-            strays: HashMap::new(alloc),
+            strays: BTreeMap::new(alloc),
         }
     }
 
@@ -93,7 +94,7 @@ impl Index {
         }
     }
 
-    /// Whether a line with the id would be in order; then no line has the id. Constant expected time.
+    /// Whether a line with the id would be in order; then no line has the id. Logarithmic time.
     pub(crate) fn is_next(&self, id: EventId) -> bool
         ensures order { (marks : List Seen) → Keeps self.now marks → result ≡ is_in_order (ids_of marks) id }
         ensures none { (marks : List Seen) → Keeps self.now marks → IsTrue result → first_of marks id ≡ None }
@@ -139,14 +140,14 @@ impl Index {
         })
     }
 
-    /// Where the first stray line with the id begins. Constant expected time.
+    /// Where the first stray line with the id begins. Logarithmic time.
     pub(crate) fn stray(&self, id: EventId) -> Option<u64>
         ensures { (marks : List Seen) → Keeps self.now marks → result ≡ stray_of marks id }
     {
         self.strays.get(&id).copied()
     }
 
-    /// One line with a record more. Logarithmic expected time.
+    /// One line with a record more. Logarithmic time.
     pub(crate) fn see(&mut self, id: EventId, place: u64) -> Result<(), AllocError>
         ensures ok { OnOk result ((marks : List Seen) → Keeps self.old marks → Keeps self.new (record { place = place; id = id } ∷ marks)) }
         ensures err { OnErr result ((marks : List Seen) → Keeps self.old marks → Keeps self.new marks) }

@@ -1,24 +1,23 @@
 // Changes of an index's maps.
 ghost use Rattle.std.specs.Prelude.{◌≡◌, ◌+◌, ℕ, Option, Some, None, is_some, IsSome, OnOk, OnErr, if◌then◌else◌, ◌&&◌};
 ghost use Rattle.std.specs.Option.{option_or};
-ghost use Rattle.std.specs.HashMap as hash;
 ghost use Rattle.std.specs.BTreeMap as tree;
 ghost use Rattle.event_id.specs.declared.id.EventId.{EventId as Id};
 ghost use Rattle.event_id.specs.EventId.{is_same, id_cmp};
 ghost use Rattle.event_store.specs.declared.index.Process.{Process as Key};
-ghost use Rattle.event_store.specs.Marks.{progress_at, same_key};
+ghost use Rattle.event_store.specs.Marks.{progress_at, same_key, key_cmp};
 
 use crate::index::{Process, Progress};
 use event_id::EventId;
 use std::alloc::AllocError;
-use std::collections::{BTreeMap, HashMap};
+use std::collections::BTreeMap;
 
 // Gives the process its place in the map. How far each has come stays.
 pub(crate) fn make_room(
-    processes: &mut HashMap<Process, Progress>,
+    processes: &mut BTreeMap<Process, Progress>,
     process: Process,
 ) -> Result<(), AllocError>
-    ensures room { OnOk result (IsSome (hash.get same_key processes.new process)) }
+    ensures room { OnOk result (IsSome (tree.get key_cmp processes.new process)) }
     ensures same { (p : Key) → progress_at processes.new p ≡ progress_at processes.old p }
 {
     if !processes.contains_key(&process) {
@@ -29,11 +28,11 @@ pub(crate) fn make_room(
 
 // Takes no memory, since the process has its place.
 pub(crate) fn put_progress(
-    processes: &mut HashMap<Process, Progress>,
+    processes: &mut BTreeMap<Process, Progress>,
     process: Process,
     progress: Progress,
 )
-    requires { IsSome (hash.get same_key processes.old process) }
+    requires { IsSome (tree.get key_cmp processes.old process) }
     ensures { (p : Key) → progress_at processes.new p ≡ (if same_key p process then progress else progress_at processes.old p) }
 {
     let _ = processes.insert(process, progress);
@@ -58,13 +57,13 @@ pub(crate) fn put_entry(
 
 // The first place of the id stays.
 pub(crate) fn put_stray(
-    strays: &mut HashMap<EventId, u64>,
+    strays: &mut BTreeMap<EventId, u64>,
     id: EventId,
     place: u64,
 ) -> Result<(), AllocError>
-    ensures ok { OnOk result ((k : Id) → hash.get is_same strays.new k ≡ option_or (hash.get is_same strays.old k) (if is_same k id then Some place else None)) }
-    ensures len { OnOk result (hash.hash_map_len strays.new ≡ hash.hash_map_len strays.old + (if is_some (hash.get is_same strays.old id) then 0 else 1)) }
-    ensures err { OnErr result (((k : Id) → hash.get is_same strays.new k ≡ hash.get is_same strays.old k) × (hash.hash_map_len strays.new ≡ hash.hash_map_len strays.old)) }
+    ensures ok { OnOk result ((k : Id) → tree.get id_cmp strays.new k ≡ option_or (tree.get id_cmp strays.old k) (if is_same k id then Some place else None)) }
+    ensures len { OnOk result (tree.btree_map_len strays.new ≡ tree.btree_map_len strays.old + (if is_some (tree.get id_cmp strays.old id) then 0 else 1)) }
+    ensures err { OnErr result (((k : Id) → tree.get id_cmp strays.new k ≡ tree.get id_cmp strays.old k) × (tree.btree_map_len strays.new ≡ tree.btree_map_len strays.old)) }
 {
     if strays.contains_key(&id) {
         return Ok(());

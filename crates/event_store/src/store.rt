@@ -1,18 +1,16 @@
 // The store, which keeps a sparse index of the lines that it has read, and a few records.
 ghost use Rattle.std.specs.Prelude.{◌<◌, ◌^◌, IsTrue};
-ghost use Rattle.event_store.specs.Held.{Holds};
+ghost use Rattle.event_store.specs.Held.{Holds, at_hand};
 
 use crate::index::Index;
 use crate::read::next_record;
-use crate::recent::{Recent, recall};
+use crate::recent::Recent;
 use crate::search::look;
 use crate::take::take_in;
 use event_id::EventId;
 use log_records::QueryRec;
-use lru::LruCache;
 use outside::LogFile;
 use std::alloc::{AllocError, Global};
-use std::num::NonZeroUsize;
 use tail_reader::Tail;
 
 /// What `advance` came to.
@@ -56,7 +54,7 @@ pub struct EventStore<L: LogFile> {
     recent: Recent,
     alloc: Global,
     ghost small: { read < 2 ^ 64 },
-    ghost held: { ∥ (IsTrue L.tells → Holds (L.bytes tail.log) tail.place read index recent.entries) ∥₁ },
+    ghost held: { ∥ (IsTrue L.tells → Holds (L.bytes tail.log) tail.place read index (at_hand recent)) ∥₁ },
 }
 
 impl<L: LogFile> EventStore<L> {
@@ -69,27 +67,21 @@ impl<L: LogFile> EventStore<L> {
     ghost use Rattle.event_store.specs.Found.{IsLookup, IsSpelled};
     ghost use Rattle.event_store.specs.Order.{entries_of};
 
-    /// A store of the log's queries, of which nothing is read yet. `cache` is how many records are kept at hand at most;
-    /// their memory is taken as they come.
+    /// A store of the log's queries, of which nothing is read yet. `cache` is how many records are kept at hand at most,
+    /// two where it is 1; their memory is taken as they come.
     pub fn new(alloc: Global, log: L, cache: u32) -> Result<EventStore<L>, (AllocError, L)>
         requires { 1 ≤ cache }
         ensures log { IfOk result (λ store. store.tail.log ≡ log) }
         ensures place { IfOk result (λ store. store.tail.place ≡ 0) }
         ensures err { IfErr result (λ e. e.1 ≡ log) }
     {
-        let Some(most) = NonZeroUsize::new(cache as usize) else {
-            return Err((AllocError, log));
-        };
-        match LruCache::sparse(alloc, most) {
-            Ok(recent) => Ok(EventStore {
-                tail: Tail::new(log, 0),
-                read: 0,
-                index: Index::new(alloc),
-                recent,
-                alloc,
-            }),
-            Err(fault) => Err((fault, log)),
-        }
+        Ok(EventStore {
+            tail: Tail::new(log, 0),
+            read: 0,
+            index: Index::new(alloc),
+            recent: Recent::new(alloc, cache),
+            alloc,
+        })
     }
 
     /// Gives the log back.
@@ -114,7 +106,7 @@ impl<L: LogFile> EventStore<L> {
         self.index.len()
     }
 
-    /// Reads the next line. A block of 4 KiB is read at a time. Logarithmic expected time beside that, and memory for an
+    /// Reads the next line. A block of 4 KiB is read at a time. Logarithmic time beside that, and memory for an
     /// entry at every 16th in-order line of a process and at each line that is out of order.
     ///
     /// A record that is in order is kept at hand, so a look-up of its id that follows reads nothing.
@@ -142,7 +134,7 @@ impl<L: LogFile> EventStore<L> {
 
     /// The first record with the id among the lines read.
     ///
-    /// Constant expected time, and nothing is read, where the id's micros are above those of all lines of its process, or
+    /// Logarithmic time, and nothing is read, where the id's micros are above those of all lines of its process, or
     /// its process has none, or the record is at hand. Else it reads again the lines between two entries of the process,
     /// found in logarithmic time, and perhaps one line more.
     pub fn lookup(&mut self, id: EventId) -> Result<Lookup, LookFault>
@@ -156,7 +148,7 @@ impl<L: LogFile> EventStore<L> {
         if self.index.is_next(id) {
             return Ok(Lookup::NotYet { read });
         }
-        if let Some(query) = recall(self.alloc, &mut self.recent, id)? {
+        if let Some(query) = self.recent.recall(self.alloc, id)? {
             return Ok(Lookup::Found(query));
         }
         match look(self.alloc, &mut self.tail, &self.index, id)? {

@@ -1,4 +1,5 @@
 use Rattle.std.proofs.Common.{◌∙◌}
+use Rattle.event_store.specs.Held.{at_hand}
 use Rattle.event_store.proofs.Holding.{held_tells, number_prop}
 use Rattle.event_store.specs.Order.{entries_of}
 use Rattle.event_store.proofs.store.EventStore.entries.Goals as goal
@@ -6,5 +7,5 @@ use Rattle.event_store.proofs.store.EventStore.entries.Goals as goal
 pub returns : goal.returns
 returns g c = record {
   entries = λ t lines walk.
-      held_tells (g.L.LogFile.bytes c.args.self.now.tail.log) c.args.self.now.tail.place c.args.self.now.read c.args.self.now.index c.args.self.now.recent.entries (number_prop c.len.result (entries_of lines)) c.args.self.now.held t lines walk (λ marks knows counts ids cache. c.len.ensures marks knows.keeps ∙ ids);
+      held_tells (g.L.LogFile.bytes c.args.self.now.tail.log) c.args.self.now.tail.place c.args.self.now.read c.args.self.now.index (at_hand c.args.self.now.recent) (number_prop c.len.result (entries_of lines)) c.args.self.now.held t lines walk (λ marks knows counts ids cache. c.len.ensures marks knows.keeps ∙ ids);
 }
