@@ -1,5 +1,5 @@
 ghost use Rattle.std.specs.Prelude.{◌≡◌};
-ghost use Rattle.id_expiry.specs.Times.{id_of, of_id};
+ghost use Rattle.id_expiry.specs.Times.{of_id};
 
 use event_id::EventId;
 
@@ -19,16 +19,5 @@ pub fn by_time(id: EventId) -> ByTime
         micros: id.micros,
         ip: id.ip,
         pid: id.pid,
-    }
-}
-
-/// The id.
-pub fn own_id(timed: ByTime) -> EventId
-    ensures { result ≡ id_of timed }
-{
-    EventId {
-        ip: timed.ip,
-        pid: timed.pid,
-        micros: timed.micros,
     }
 }

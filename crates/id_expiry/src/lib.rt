@@ -2,7 +2,6 @@
 #![tactic(auto)]
 
 mod by_time;
-mod time_order;
 mod timed;
 
 pub use timed::TimedRegistry;

@@ -1,34 +1,34 @@
-ghost use Rattle.std.specs.Prelude.{◌≡◌, ◌≤◌, ◌<◌, true, false, if◌then◌else◌, IfOk, Option};
-ghost use Rattle.std.specs.HashMap.{get, spare};
+ghost use Rattle.std.specs.Prelude.{◌≡◌, ◌≤◌, ◌<◌, ◌-◌, length, not, nat_lt, filter, Some, None, IsSome, IfSome, IfNone, IfOk, OnOk, OnErr, if◌then◌else◌, vec_capacity};
+ghost use Rattle.std.specs.BTreeMap.{get};
+ghost use Rattle.event_id.specs.declared.id.EventId.{EventId as Id};
 ghost use Rattle.event_id.specs.EventId.{is_same as same_id};
+ghost use Rattle.registry_state.specs.LookBack.{first_in, or_else};
 ghost use Rattle.registry_state.specs.Recalls.{above};
-ghost use Rattle.id_expiry.specs.TimeOrder.{ids, room as places};
-ghost use Rattle.id_expiry.specs.Times.{Orders};
+ghost use Rattle.id_expiry.specs.Times.{by_time as time_cmp, of_id};
 
-use crate::time_order::TimeOrder;
+use crate::by_time::{ByTime, by_time};
 use event_id::EventId;
 use registry_state::{Answer, Answers, Batch, Insert, Replays, Token, against, answer_each};
 use std::alloc::{AllocError, Global};
-use std::collections::HashMap;
+use std::collections::BTreeMap;
 
 /// Which token holds each id, and the bound in microseconds below which ids are too old.
 ///
-/// It answers as a plain registry does. It keeps the ids by time too, so that raising the bound finds the ids below it
-/// without a look at the others.
+/// It answers as a plain registry does. It keeps the ids in the order of their times, so that raising the bound finds the
+/// ids below it without a look at the others. The newest stand apart, in a list with reserved room, until room is made for
+/// more: an ordered map can't reserve any.
 #[derive(Debug, Drop)]
 pub struct TimedRegistry {
     bound: u64,
-    held: HashMap<EventId, Token>,
-    times: TimeOrder,
+    held: BTreeMap<ByTime, Token>,
+    newest: Vec<Insert>,
     alloc: Global,
-    // So it has no id that was dropped.
-    ghost ordered: { Orders (ids times) (get same_id held) },
 }
 
 impl TimedRegistry {
-    ghost use Rattle.std.specs.Prelude.{◌++◌, ◌∷◌, [], ◌+◌, length, OnOk, OnErr};
+    ghost use Rattle.std.specs.Prelude.{◌++◌, ◌∷◌, [], ◌+◌};
     ghost use Rattle.registry_state.specs.Registry.{answers_to, batch_of};
-    ghost use Rattle.registry_state.specs.LookBack.{bound_of, first_in, holder, or_else, replay};
+    ghost use Rattle.registry_state.specs.LookBack.{bound_of, holder, replay};
     ghost use Rattle.id_expiry.specs.Timed.{Knows, IsUnchanged, room, token_of};
 
     /// Without ids, the bound 0. It takes no memory.
@@ -37,8 +37,8 @@ impl TimedRegistry {
     {
         TimedRegistry {
             bound: 0,
-            held: HashMap::new(alloc),
-            times: TimeOrder::new(alloc),
+            held: BTreeMap::new(alloc),
+            newest: Vec::new(alloc),
             alloc,
         }
     }
@@ -46,7 +46,8 @@ impl TimedRegistry {
     /// Applies a batch, all of it or, where memory runs out, nothing: the bound rises to the batch's, ids below
     /// it are dropped, and the inserts are answered in order.
     ///
-    /// Logarithmic time an insert and an id dropped. It allocates the answers, and room for ids where there is none.
+    /// Logarithmic time an insert and an id dropped, and for each insert a look at the batch. It allocates the answers, and
+    /// room for ids where there is none.
     pub fn apply(&mut self, batch: &Batch) -> Result<Answers, AllocError>
         ensures answers { IfOk result (λ answers. (applied : _) → Knows self.old applied → answers ≡ answers_to applied batch.now) }
         ensures known { OnOk result ((applied : _) → Knows self.old applied → Knows self.new (applied ++ batch.now ∷ [])) }
@@ -61,21 +62,22 @@ impl TimedRegistry {
 
     /// Makes room for the ids of a batch, so that it can be learned. It changes nothing else.
     ///
-    /// It allocates where there isn't room for as many ids more as the batch has inserts.
+    /// Logarithmic time for each id that was learned since room was made last. It allocates their places in the order, and
+    /// where there isn't room for as many ids more as the batch has inserts.
     pub fn make_room(&mut self, batch: &Batch) -> Result<(), AllocError>
         ensures room { OnOk result (length batch.now.inserts ≤ room self.new) }
         ensures kept { room self.old ≤ room self.new }
         ensures known { (applied : _) → Knows self.old applied → Knows self.new applied }
         ensures same { IsUnchanged self.old self.new }
     {
-        let count = batch.inserts.as_slice().len();
-        self.held.reserve(count)?;
-        self.times.reserve(count)
+        put_all(&mut self.held, &self.newest)?;
+        self.newest.clear();
+        self.newest.reserve(batch.inserts.as_slice().len())
     }
 
     /// Applies a batch for whose inserts room was made. It takes no memory.
     ///
-    /// Logarithmic time an insert and an id dropped.
+    /// Logarithmic time an insert and an id dropped, and for each insert a look at those learned since room was made.
     pub fn learn(&mut self, batch: &Batch)
         requires { length batch.now.inserts ≤ room self.old }
         ensures known { (applied : _) → Knows self.old applied → Knows self.new (applied ++ batch.now ∷ []) }
@@ -89,7 +91,7 @@ impl TimedRegistry {
 
     /// Raises the bound, and drops the ids below it, as a batch of that bound without inserts does. It takes no memory.
     ///
-    /// Logarithmic time an id dropped.
+    /// Logarithmic time an id dropped, and where the bound rises a look at those learned since room was made.
     pub fn purge(&mut self, bound: u64)
         ensures known { (applied : _) → Knows self.old applied → Knows self.new (applied ++ batch_of bound [] ∷ []) }
         // The ids that stay are those that are held and not below the bound.
@@ -98,23 +100,25 @@ impl TimedRegistry {
     {
         if bound > self.bound {
             self.bound = bound;
-            drop_below(&mut self.held, &mut self.times, bound);
+            drop_below(&mut self.held, bound);
+            keep_from(&mut self.newest, bound);
         }
     }
 
     /// What the insert of the id by the token is answered now: none where the id is neither held nor below the
-    /// bound. Constant expected time.
+    /// bound. Logarithmic time, and a look at those learned since room was made.
     pub fn replay(&self, id: EventId, token: Token) -> Option<Answer>
         ensures { (applied : _) → Knows self.now applied → result ≡ replay applied id token }
     {
         if id.micros < self.bound {
             return Some(Answer::TooOld(self.bound));
         }
-        let holder = self.held.get(&id)?;
-        Some(against(token, *holder))
+        let holder = self.holder(id)?;
+        Some(against(token, holder))
     }
 
-    /// What it would be answered had the batch been applied. It takes no memory, and time linear in the batch.
+    /// What it would be answered had the batch been applied. It takes no memory, and time linear in the batch beside that
+    /// of a replay.
     pub fn replay_after(&self, batch: &Batch, id: EventId, token: Token) -> Option<Answer>
         ensures { (applied : _) → Knows self.now applied → result ≡ replay (applied ++ batch.now ∷ []) id token }
     {
@@ -126,11 +130,16 @@ impl TimedRegistry {
         Some(against(token, holder))
     }
 
-    /// The token that holds the id, none where none does or the id is below the bound. Constant expected time.
+    /// The token that holds the id, none where none does or the id is below the bound. Logarithmic time, and a look at those
+    /// learned since room was made.
     pub fn holder(&self, id: EventId) -> Option<Token>
-        ensures { (applied : _) → Knows self.now applied → result ≡ holder applied id }
+        ensures token { result ≡ token_of self.now id }
+        ensures holder { (applied : _) → Knows self.now applied → result ≡ holder applied id }
     {
-        self.held.get(&id).copied()
+        match self.held.get(&by_time(id)) {
+            Some(token) => Some(*token),
+            None => earliest(&self.newest, id),
+        }
     }
 
     /// The greatest bound of the batches applied, 0 where there was none.
@@ -144,8 +153,8 @@ impl TimedRegistry {
     fn holder_after(&self, batch: &Batch, id: EventId) -> Option<Token>
         ensures { result ≡ or_else (token_of self.now id) (first_in batch.now.inserts id) }
     {
-        match self.held.get(&id) {
-            Some(holder) => Some(*holder),
+        match self.holder(id) {
+            Some(holder) => Some(holder),
             None => batch.inserts.claimant(id),
         }
     }
@@ -156,9 +165,8 @@ impl TimedRegistry {
         ensures known { (applied : _) (bound : _) (inserts : _) → Knows self.old (applied ++ batch_of bound inserts ∷ []) → Knows self.new (applied ++ batch_of bound (inserts ++ insert ∷ []) ∷ []) }
         ensures room { room self.old ≤ room self.new + 1 }
     {
-        if insert.id.micros >= self.bound && !self.held.contains_key(&insert.id) {
-            let _ = self.held.insert(insert.id, insert.token);
-            self.times.push(insert.id);
+        if insert.id.micros >= self.bound && self.holder(insert.id).is_none() {
+            let _ = self.newest.push(insert);
         }
     }
 }
@@ -177,15 +185,68 @@ impl Replays for TimedRegistry {
     }
 }
 
-// Drops the ids below the bound, the earliest first.
-fn drop_below(held: &mut HashMap<EventId, Token>, times: &mut TimeOrder, bound: u64)
-    requires { Orders (ids times.old) (get same_id held.old) }
-    ensures kept { (id : _) → get same_id held.new id ≡ above bound id (get same_id held.old id) }
-    ensures ordered { Orders (ids times.new) (get same_id held.new) }
-    ensures spare { spare held.old ≤ spare held.new }
-    ensures places { places times.old ≤ places times.new }
+// The token of the earliest insert of the id.
+fn earliest(inserts: &[Insert], id: EventId) -> Option<Token>
+    ensures { result ≡ first_in inserts.now id }
 {
-    while let Some(id) = times.pop_below(bound) {
-        let _ = held.remove(&id);
+    for insert in inserts {
+        if insert.id == id {
+            return Some(insert.token);
+        }
+    }
+    None
+}
+
+// Puts these in, but for the ids that are there. Where memory runs out some of them are in.
+fn put_all(held: &mut BTreeMap<ByTime, Token>, inserts: &[Insert]) -> Result<(), AllocError>
+    ensures all { OnOk result ((id : Id) → get time_cmp held.new (of_id id) ≡ or_else (get time_cmp held.old (of_id id)) (first_in inserts.now id)) }
+    ensures some { (id : Id) → or_else (get time_cmp held.new (of_id id)) (first_in inserts.now id) ≡ or_else (get time_cmp held.old (of_id id)) (first_in inserts.now id) }
+{
+    for insert in inserts {
+        put(held, insert.id, insert.token)?;
+    }
+    Ok(())
+}
+
+// Gives the id to the token, unless another has it.
+fn put(held: &mut BTreeMap<ByTime, Token>, id: EventId, token: Token) -> Result<(), AllocError>
+    ensures ok { OnOk result ((i : Id) → get time_cmp held.new (of_id i) ≡ or_else (get time_cmp held.old (of_id i)) (if same_id id i then Some token else None)) }
+    ensures err { OnErr result ((i : Id) → get time_cmp held.new (of_id i) ≡ get time_cmp held.old (of_id i)) }
+{
+    let timed = by_time(id);
+    if !held.contains_key(&timed) {
+        held.insert(timed, token)?;
+    }
+    Ok(())
+}
+
+// Drops the ids below the bound, the earliest first.
+fn drop_below(held: &mut BTreeMap<ByTime, Token>, bound: u64)
+    ensures { (id : Id) → get time_cmp held.new (of_id id) ≡ above bound id (get time_cmp held.old (of_id id)) }
+{
+    while let Some(timed) = first_below(held, bound) {
+        let _ = held.remove(&timed);
+    }
+}
+
+// Drops the inserts below the bound.
+fn keep_from(inserts: &mut Vec<Insert>, bound: u64)
+    ensures items { inserts.new.items ≡ filter (λ x. not (nat_lt x.id.micros bound)) inserts.old.items }
+    ensures room { vec_capacity inserts.old - length inserts.old.items ≤ vec_capacity inserts.new - length inserts.new.items }
+{
+    inserts.retain(|insert| insert.id.micros >= bound);
+}
+
+// The earliest id, if it is below the bound.
+fn first_below(held: &BTreeMap<ByTime, Token>, bound: u64) -> Option<ByTime>
+    ensures below { IfSome result (λ t. t.micros < bound) }
+    ensures held { IfSome result (λ t. IsSome (get time_cmp held.now t)) }
+    ensures none { IfNone result ((id : Id) → IsSome (get time_cmp held.now (of_id id)) → bound ≤ id.micros) }
+{
+    let (first, _) = held.first_key_value()?;
+    if first.micros < bound {
+        Some(*first)
+    } else {
+        None
     }
 }
