@@ -1,5 +1,6 @@
 """The groups of cases, in the order in which they are run and told."""
 import adapters
+import chosen
 import debian
 import disks
 import drills
@@ -65,4 +66,5 @@ GROUPS = [
     Group("watch_growing", watch.growing, 2),
     Group("watch_live", watch.live, 1),
     Group("debian", listed=debian.CASES),
+    Group("chosen", listed=chosen.CASES),
 ]

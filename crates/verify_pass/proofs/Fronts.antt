@@ -6,8 +6,8 @@ use Rattle.std.specs.BTreeSet.{contains}
 use Rattle.event_id.specs.declared.id.EventId.{EventId}
 use Rattle.event_id.specs.EventId.{id_cmp}
 use Rattle.registry_state.specs.declared.Batch.{Batch}
-use Rattle.registry_state.specs.declared.registry.Registry.{Registry}
-use Rattle.registry_state.specs.Registry.{Knows}
+use Rattle.id_expiry.specs.declared.timed.TimedRegistry.{TimedRegistry}
+use Rattle.id_expiry.specs.Timed.{Knows}
 use Rattle.registry_state.specs.LookBack.{or_else, first_in, first_insert}
 use Rattle.registry_state.proofs.Learning.{first_insert-push}
 use Rattle.verify_pass.specs.States.{Ids, IsAt, IsWhole, HasAt, HasWhole}
@@ -41,13 +41,13 @@ one_front {V} f (x ∷ xs) (y ∷ ys) h k =
 
 -- ---- registries
 
-pub at_start : (f : ℕ → Option Batch) (state : Registry) → Knows state [] → IsAt f 0 state
+pub at_start : (f : ℕ → Option Batch) (state : TimedRegistry) → Knows state [] → IsAt f 0 state
 at_start f state k = record { applied = []; count = refl; each = none_yet f; known = k }
 
 more : (xs : List Batch) (v : Batch) (n : ℕ) → length xs ≡ n → length (xs ++ v ∷ []) ≡ n + 1
 more xs v n e = omega (arith, length-append xs (v ∷ []), e)
 
-pub at_next : (f : ℕ → Option Batch) (n : ℕ) (old mid new : Registry) (v : Batch) → f n ≡ Some v → ((applied : List Batch) → Knows old applied → Knows mid applied) → ((applied : List Batch) → Knows mid applied → Knows new (applied ++ v ∷ [])) → IsAt f n old → IsAt f (n + 1) new
+pub at_next : (f : ℕ → Option Batch) (n : ℕ) (old mid new : TimedRegistry) (v : Batch) → f n ≡ Some v → ((applied : List Batch) → Knows old applied → Knows mid applied) → ((applied : List Batch) → Knows mid applied → Knows new (applied ++ v ∷ [])) → IsAt f n old → IsAt f (n + 1) new
 at_next f n old mid new v e k l h = record {
   applied = h.applied ++ v ∷ [];
   count = more h.applied v n h.count;
@@ -55,7 +55,7 @@ at_next f n old mid new v e k l h = record {
   known = l h.applied (k h.applied h.known);
 }
 
-pub whole : (f : ℕ → Option Batch) (n : ℕ) (state : Registry) → f n ≡ None → IsAt f n state → IsWhole f state
+pub whole : (f : ℕ → Option Batch) (n : ℕ) (state : TimedRegistry) → f n ≡ None → IsAt f n state → IsWhole f state
 whole f n state e h applied front = subst (λ (vs : List Batch). Knows state vs) (one_front f h.applied applied (record { each = h.each; longest = ap f h.count ∙ e }) front) h.known
 
 -- ---- ids
@@ -85,7 +85,7 @@ has_whole f n first ids e h applied front = subst (λ (vs : List Batch). (i : Ev
 
 -- ---- the last slot
 
-pub ended : (f : ℕ → Option Batch) (n : ℕ) (old new : Registry) (m : Bool) → OnTrue m (IsAt f n old → IsAt f (n + 1) new) → OnFalse m (IsAt f n old → IsWhole f new) → f (n + 1) ≡ None → IsAt f n old → IsWhole f new
+pub ended : (f : ℕ → Option Batch) (n : ℕ) (old new : TimedRegistry) (m : Bool) → OnTrue m (IsAt f n old → IsAt f (n + 1) new) → OnFalse m (IsAt f n old → IsWhole f new) → f (n + 1) ≡ None → IsAt f n old → IsWhole f new
 ended f n old new true next stop e h = whole f (n + 1) new e (next h)
 ended f n old new false next stop e h = stop h
 

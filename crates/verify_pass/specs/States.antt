@@ -6,24 +6,24 @@ use Rattle.registry_state.specs.LookBack.{first_insert}
 use Rattle.verify_pass.specs.Chosen.{AreAt, IsFront}
 use Rattle.event_id.specs.declared.id.EventId.{EventId}
 use Rattle.registry_state.specs.declared.Batch.{Batch}
-use Rattle.registry_state.specs.declared.registry.Registry.{Registry}
-use Rattle.registry_state.specs.Registry.{Knows}
+use Rattle.id_expiry.specs.declared.timed.TimedRegistry.{TimedRegistry}
+use Rattle.id_expiry.specs.Timed.{Knows}
 use Rattle.time_shards.specs.declared.ShardRow.{ShardRow}
 use Rattle.time_shards.specs.Shards.{shard_of}
 
 -- the registry of each id's shard has applied the id's batches
-abbrev pub KnowAll : List Registry → List ShardRow → (EventId → List Batch) → Type 0
-KnowAll registries table batches = (i : EventId) (state : Registry) → slice_get registries (shard_of table i) ≡ Some state → Knows state (batches i)
+abbrev pub KnowAll : List TimedRegistry → List ShardRow → (EventId → List Batch) → Type 0
+KnowAll registries table batches = (i : EventId) (state : TimedRegistry) → slice_get registries (shard_of table i) ≡ Some state → Knows state (batches i)
 
 -- the registry has applied the values of the slots below n
-pub record IsAt (f : ℕ → Option Batch) (n : ℕ) (state : Registry) : Type 0 where
+pub record IsAt (f : ℕ → Option Batch) (n : ℕ) (state : TimedRegistry) : Type 0 where
   pub applied : List Batch
   pub count : length applied ≡ n
   pub each : AreAt f applied
   pub known : Knows state applied
 
 -- it has applied the values up to the first slot that has none
-abbrev pub IsWhole : (ℕ → Option Batch) → Registry → Type 0
+abbrev pub IsWhole : (ℕ → Option Batch) → TimedRegistry → Type 0
 IsWhole f state = (applied : List Batch) → IsFront f applied → Knows state applied
 
 abbrev pub Ids : Type 0

@@ -16,8 +16,8 @@ use crate::lines::line_for;
 use crate::states::{registries, registry_for};
 use crate::written::Written;
 use event_id::EventId;
+use id_expiry::TimedRegistry;
 use log_records::ReportLine;
-use registry_state::Registry;
 use std::alloc::{AllocError, Global};
 use time_shards::Table;
 
@@ -48,7 +48,7 @@ pub fn classify(
 fn lines_of(
     alloc: Global,
     ids: &[EventId],
-    registries: &[Registry],
+    registries: &[TimedRegistry],
     written: &Written,
     table: &Table,
 ) -> Result<Vec<ReportLine>, AllocError>

@@ -2,19 +2,19 @@
 ghost use Rattle.std.specs.Prelude.{◌≡◌, List, Option, IfOk, option_map};
 ghost use Rattle.log_records.specs.declared.report.ReportLine.TheVariants.{J};
 ghost use Rattle.registry_state.specs.declared.Batch.{Batch as Value};
-ghost use Rattle.registry_state.specs.Registry.{Knows};
+ghost use Rattle.id_expiry.specs.Timed.{Knows};
 ghost use Rattle.verify_pass.specs.Classes.{line_by, unwritten_line};
 
 use event_id::EventId;
+use id_expiry::TimedRegistry;
 use log_records::{ClickRec, QueryRec, ReportLine, Text};
-use registry_state::Registry;
 use std::alloc::{AllocError, Global};
 use turn_defs::PairRec;
 
 /// The line of an id whose first pair is given. Only a pair's texts take memory.
 pub fn line_for(
     alloc: Global,
-    registry: &Registry,
+    registry: &TimedRegistry,
     pair: Option<&PairRec>,
     id: EventId,
 ) -> Result<ReportLine, AllocError>
@@ -26,7 +26,7 @@ pub fn line_for(
     }
 }
 
-fn unwritten(registry: &Registry, id: EventId) -> ReportLine
+fn unwritten(registry: &TimedRegistry, id: EventId) -> ReportLine
     ensures { (applied : List Value) → Knows registry.now applied → result ≡ unwritten_line applied id }
 {
     if registry.holder(id).is_some() {

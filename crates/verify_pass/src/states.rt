@@ -5,7 +5,7 @@ ghost use Rattle.std.specs.List.Sorted.{IsStrictlySortedBy};
 ghost use Rattle.event_id.specs.declared.id.EventId.{EventId as Id};
 ghost use Rattle.event_id.specs.EventId.{id_cmp};
 ghost use Rattle.registry_state.specs.declared.Batch.{Batch as Value};
-ghost use Rattle.registry_state.specs.declared.registry.Registry.{Registry as State};
+ghost use Rattle.id_expiry.specs.declared.timed.TimedRegistry.{TimedRegistry as State};
 ghost use Rattle.registry_state.specs.LookBack.{first_in, first_insert};
 ghost use Rattle.time_shards.specs.Shards.{shard_of, shard_count};
 ghost use Rattle.std.specs.Bool.{OnTrue, OnFalse};
@@ -14,16 +14,21 @@ ghost use Rattle.verify_pass.specs.States.{Ids, Grows, IsAt, IsWhole, HasAt, Has
 
 use crate::chosen::Chosen;
 use event_id::EventId;
+use id_expiry::TimedRegistry;
 use paxos_defs::Place;
-use registry_state::{Insert, Registry};
+use registry_state::Insert;
 use std::alloc::{AllocError, Global};
 use std::collections::BTreeSet;
 use time_shards::Table;
 
 /// A registry for each shard, which has applied the batches that are decided in it.
 ///
-/// Constant expected time for each batch and insert, and one pass over a shard's ids where its bound rises.
-pub fn registries(alloc: Global, chosen: &Chosen, shards: u8) -> Result<Vec<Registry>, AllocError>
+/// Logarithmic time for each batch, insert and id that expires, and for each insert a look at its batch.
+pub fn registries(
+    alloc: Global,
+    chosen: &Chosen,
+    shards: u8,
+) -> Result<Vec<TimedRegistry>, AllocError>
     ensures count { IfOk result (λ v. length v.items ≡ shards) }
     ensures known { IfOk result (λ v. EndsBy chosen.now → (s : ℕ) (state : State) → slice_get v.items s ≡ Some state → IsWhole (slots chosen.now s) state) }
 {
@@ -36,7 +41,11 @@ pub fn registries(alloc: Global, chosen: &Chosen, shards: u8) -> Result<Vec<Regi
 }
 
 /// The registry of the id's shard.
-pub fn registry_for<'r>(registries: &'r [Registry], table: &Table, id: EventId) -> &'r Registry
+pub fn registry_for<'r>(
+    registries: &'r [TimedRegistry],
+    table: &Table,
+    id: EventId,
+) -> &'r TimedRegistry
     requires { length registries.now ≡ shard_count table.now }
     ensures { slice_get registries.now (shard_of table.now id) ≡ Some result.now }
 {
@@ -50,10 +59,10 @@ pub fn each_has_a_shard(table: &Table)
     let _ = table.rows();
 }
 
-fn registry(alloc: Global, chosen: &Chosen, shard: u8) -> Result<Registry, AllocError>
+fn registry(alloc: Global, chosen: &Chosen, shard: u8) -> Result<TimedRegistry, AllocError>
     ensures { IfOk result (λ state. EndsBy chosen.now → IsWhole (slots chosen.now shard) state) }
 {
-    let mut registry = Registry::new(alloc);
+    let mut registry = TimedRegistry::new(alloc);
     let last = chosen.last();
     for slot in 0..last {
         if !learn_slot(&mut registry, chosen, shard, slot)? {
@@ -66,7 +75,7 @@ fn registry(alloc: Global, chosen: &Chosen, shard: u8) -> Result<Registry, Alloc
 
 // Applies the batch of the slot, and says whether there is one.
 fn learn_slot(
-    registry: &mut Registry,
+    registry: &mut TimedRegistry,
     chosen: &Chosen,
     shard: u8,
     slot: u64,

@@ -14,7 +14,7 @@ use crate::chosen::Chosen;
 use crate::states::{each_has_a_shard, inserted, registries, registry_for};
 use crate::written::Written;
 use event_id::EventId;
-use registry_state::Registry;
+use id_expiry::TimedRegistry;
 use std::alloc::{AllocError, Global};
 use time_shards::Table;
 
@@ -43,7 +43,7 @@ pub fn missing(
 fn missing_among(
     alloc: Global,
     ids: &[EventId],
-    registries: &[Registry],
+    registries: &[TimedRegistry],
     written: &Written,
     table: &Table,
 ) -> Result<Vec<EventId>, AllocError>
@@ -68,7 +68,7 @@ fn push_if(left: &mut Vec<EventId>, id: EventId, is_left: bool) -> Result<(), Al
     Ok(())
 }
 
-fn is_missing(registries: &[Registry], written: &Written, table: &Table, id: EventId) -> bool
+fn is_missing(registries: &[TimedRegistry], written: &Written, table: &Table, id: EventId) -> bool
     requires { length registries.now ≡ shard_count table.now }
     ensures { (batches : Id → List Value) → KnowAll registries.now table.now batches → result ≡ is_missing_by (batches id) (pair_at written.now id) id }
 {

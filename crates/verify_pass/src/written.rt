@@ -10,13 +10,13 @@ ghost use Rattle.verify_pass.specs.Written.{pair_at};
 use crate::PairList;
 use event_id::EventId;
 use std::alloc::{AllocError, Global};
-use std::collections::HashMap;
+use std::collections::BTreeMap;
 use turn_defs::PairRec;
 
-/// The first pair of each id, in the order of the disks. A look-up takes constant expected time.
+/// The first pair of each id, in the order of the disks. A look-up takes logarithmic time.
 #[derive(Drop)]
 pub struct Written<'a> {
-    pairs: HashMap<EventId, &'a PairRec>,
+    pairs: BTreeMap<EventId, &'a PairRec>,
 }
 
 impl<'a> Written<'a> {
@@ -25,7 +25,7 @@ impl<'a> Written<'a> {
         ensures { IfOk result (λ written. (i : Id) → pair_at written i ≡ first_pair (flat_map (λ pairs. pairs) logs.now) i) }
     {
         let mut written = Written {
-            pairs: HashMap::new(alloc),
+            pairs: BTreeMap::new(alloc),
         };
         for log in logs {
             written.take_all(log.as_slice())?;

@@ -13,7 +13,7 @@ use Rattle.registry_state.specs.Same.{same_batch}
 use Rattle.paxos_acceptor.specs.Cells.{note_view}
 use Rattle.paxos_acceptor.specs.declared.notes.ReplicaNote.{ReplicaNote}
 use Rattle.registry_state.specs.declared.Batch.{Batch}
-use Rattle.registry_state.specs.declared.registry.Registry.{Registry}
+use Rattle.id_expiry.specs.declared.timed.TimedRegistry.{TimedRegistry}
 use Rattle.time_shards.specs.Shards.{shard_of}
 use Rattle.verify_pass.specs.Chosen.{batch_at}
 use Rattle.verify_pass.specs.Classes.{all_pairs, decided_for, first_pair, in_order, line_by}
@@ -32,7 +32,7 @@ returns c clicks same =
     let batches : EventId → List Batch = λ i. decided_for js table i in
     let found : (p : Place) → batch_at chosen p ≡ paxos.chosen same_batch (map (map note_view) js.notes.items) p = λ p. c.in_ok-chosen.ensures.batches p ∙ ap (λ (l : List (List ReplicaNote)). paxos.chosen same_batch (map (map note_view) l) p) c.deref.ensures.value in
     let known : KnowAll c.deref-4.result.now table batches = λ i state at.
-    c.in_ok-registries.ensures.known c.in_ok-chosen.ensures.last (shard_of table i) state (subst (λ (rs : List Registry). slice_get rs (shard_of table i) ≡ Some state) c.deref-4.ensures.value at) (batches i) (decided_front js.notes.items chosen (shard_of table i) found) in
+    c.in_ok-registries.ensures.known c.in_ok-chosen.ensures.last (shard_of table i) state (subst (λ (rs : List TimedRegistry). slice_get rs (shard_of table i) ≡ Some state) c.deref-4.ensures.value at) (batches i) (decided_front js.notes.items chosen (shard_of table i) found) in
     let pairs : (i : EventId) → pair_at written i ≡ first_pair (all_pairs js) i = λ i. c.in_ok-written.ensures i ∙ ap (λ (l : List (List PairRec)). first_pair (flat_map (λ (ps : List PairRec). ps) l) i) c.deref-2.ensures.value in
     let g : EventId → ReportLine = λ i. line_by (batches i) i (pair_at written i) in
     c.in_ok-lines.ensures batches known

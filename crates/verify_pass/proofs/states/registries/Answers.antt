@@ -1,6 +1,6 @@
 use Rattle.std.proofs.Common.{◌≡◌, ℕ, ◌+◌, List, [], ◌∷◌, length, length-append, Some, ⊎_elim, ap, sym, ◌∙◌, subst}
 use Rattle.std.specs.Prelude.{slice_get}
-use Rattle.registry_state.specs.declared.registry.Registry.{Registry}
+use Rattle.id_expiry.specs.declared.timed.TimedRegistry.{TimedRegistry}
 use Rattle.paxos_defs.proofs.Decided.{at_push}
 use Rattle.verify_pass.specs.Chosen.{slots}
 use Rattle.verify_pass.specs.States.{IsWhole}
@@ -16,6 +16,6 @@ loop-shard-preserved c =
           (λ k. c.loop-shard.invariant.known ends s state k)
           (λ (k : (s ≡ length old) × (x ≡ state)).
           let here : c.loop-shard.shard ≡ s = sym (k.0 ∙ c.loop-shard.invariant.count) in
-          subst (λ (z : ℕ × Registry). IsWhole (slots c.args.chosen.now z.0) z.1) (λ i. (here i, k.1 i)) (c.in_ok-registry.ensures ends))
-          (at_push old x s state (subst (λ (xs : List Registry). slice_get xs s ≡ Some state) c.in_ok-push.ensures.items at));
+          subst (λ (z : ℕ × TimedRegistry). IsWhole (slots c.args.chosen.now z.0) z.1) (λ i. (here i, k.1 i)) (c.in_ok-registry.ensures ends))
+          (at_push old x s state (subst (λ (xs : List TimedRegistry). slice_get xs s ≡ Some state) c.in_ok-push.ensures.items at));
     }

@@ -1,6 +1,6 @@
 use Rattle.std.proofs.Common.{◌≡◌, ℕ, length, Some}
 use Rattle.std.specs.Prelude.{slice_get}
-use Rattle.registry_state.specs.declared.registry.Registry.{Registry}
+use Rattle.id_expiry.specs.declared.timed.TimedRegistry.{TimedRegistry}
 use Rattle.verify_pass.specs.Chosen.{slots, EndsBy}
 use Rattle.verify_pass.specs.States.{IsWhole}
 use Rattle.verify_pass.proofs.states.registries.Given as goal
@@ -9,5 +9,5 @@ use Rattle.verify_pass.proofs.states.registries.Given as goal
 abbrev pub invariant-loop-shard : goal.invariant-loop-shard
 invariant-loop-shard l = record {
   count : length l.registries.items ≡ l.shard;
-  known : EndsBy l.chosen → (s : ℕ) (state : Registry) → slice_get l.registries.items s ≡ Some state → IsWhole (slots l.chosen s) state;
+  known : EndsBy l.chosen → (s : ℕ) (state : TimedRegistry) → slice_get l.registries.items s ≡ Some state → IsWhole (slots l.chosen s) state;
 }

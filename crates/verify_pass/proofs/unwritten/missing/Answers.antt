@@ -12,7 +12,7 @@ use Rattle.registry_state.specs.Same.{same_batch}
 use Rattle.paxos_acceptor.specs.Cells.{note_view}
 use Rattle.paxos_acceptor.specs.declared.notes.ReplicaNote.{ReplicaNote}
 use Rattle.registry_state.specs.declared.Batch.{Batch}
-use Rattle.registry_state.specs.declared.registry.Registry.{Registry}
+use Rattle.id_expiry.specs.declared.timed.TimedRegistry.{TimedRegistry}
 use Rattle.registry_state.specs.LookBack.{holder}
 use Rattle.time_shards.specs.Shards.{shard_of}
 use Rattle.verify_pass.specs.Chosen.{batch_at, slots, IsFront}
@@ -38,7 +38,7 @@ returns-clause-exactly c =
     let found : (p : Place) → batch_at chosen p ≡ paxos.chosen same_batch (map (map note_view) js.notes.items) p = λ p. c.in_ok-chosen.ensures.batches p ∙ ap (λ (l : List (List ReplicaNote)). paxos.chosen same_batch (map (map note_view) l) p) c.deref.ensures.value in
     let front : (i : EventId) → IsFront (slots chosen (shard_of table i)) (batches i) = λ i. decided_front js.notes.items chosen (shard_of table i) found in
     let known : KnowAll c.deref-4.result.now table batches = λ i state at.
-    c.in_ok-registries.ensures.known c.in_ok-chosen.ensures.last (shard_of table i) state (subst (λ (rs : List Registry). slice_get rs (shard_of table i) ≡ Some state) c.deref-4.ensures.value at) (batches i) (front i) in
+    c.in_ok-registries.ensures.known c.in_ok-chosen.ensures.last (shard_of table i) state (subst (λ (rs : List TimedRegistry). slice_get rs (shard_of table i) ≡ Some state) c.deref-4.ensures.value at) (batches i) (front i) in
     let pairs : (i : EventId) → pair_at written i ≡ first_pair (all_pairs js) i = λ i. c.in_ok-written.ensures i ∙ ap (λ (l : List (List PairRec)). first_pair (flat_map (λ (ps : List PairRec). ps) l) i) c.deref-2.ensures.value in
     let below : (i : EventId) → shard_of table i < c.shards-2.result = λ i. subst (λ (n : ℕ). shard_of table i < n) (sym c.shards-2.ensures.count) (c.each_has_a_shard.ensures i) in
     exactly c.in_ok-left.left.items ids (λ i. is_missing_by (batches i) (pair_at written i) i) (λ i. is_missing js table i) (c.in_ok-left.ensures.exactly batches known)
