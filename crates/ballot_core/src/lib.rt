@@ -19,6 +19,9 @@ pub struct Ballot {
     pub site: u8,
 }
 
+/// The last epoch: a server or a joiner that has kept it starts no more.
+pub const LAST_EPOCH: u32 = u32::MAX - 1;
+
 /// Whether `count` members are more than half of a group of `of`. Constant time, no memory.
 pub fn is_majority(count: u32, of: u32) -> bool
     requires { count ≤ of }

@@ -1,5 +1,4 @@
 -- A join in flight whose parts have spellings.
-use Rattle.std.specs.Prelude.{ℕ}
 use Rattle.event_id.specs.declared.id.EventId.{EventId}
 use Rattle.event_id.specs.EventId.{IsId}
 use Rattle.log_records.specs.Line.{IsQuery}

@@ -1,5 +1,5 @@
 -- What has spellings: what a turn takes, notes and sends.
-use Rattle.std.specs.Prelude.{ℕ, ◌<◌, List, Option, Some, None}
+use Rattle.std.specs.Prelude.{◌<◌, List, Option, Some, None}
 use Rattle.std.specs.List.{AllByRecursion}
 use Rattle.log_records.specs.Line.{IsQuery, IsClick}
 use Rattle.turn_defs.specs.Spellings.{IsNumber}

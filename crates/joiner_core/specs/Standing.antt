@@ -1,5 +1,7 @@
 -- What a joiner's core stands for, and what a turn of it answers.
 use Rattle.std.specs.Prelude.{◌≡◌, ℕ, suc, ◌-◌, ◌^◌, ◌<◌, Bool, true, false, not, ◌&&◌, nat_lt, List, ◌++◌, [], ◌∷◌, length, Option, Some, None, option_map}
+use Rattle.turn_defs.specs.declared.limits.TheConstants.{MOST_FLIGHTS}
+use Rattle.ballot_core.specs.declared.TheConstants.{LAST_EPOCH}
 use Rattle.event_id.specs.declared.id.EventId.{EventId}
 use Rattle.registry_state.specs.declared.Token.{Token}
 use Rattle.log_records.specs.declared.records.ClickRec.{ClickRec as Click}
@@ -55,7 +57,7 @@ IsReady core g n k l _ = Stands core g n k l
 
 -- a Join of a click with this id needs the click's query to be looked for
 abbrev pub needs_look_up : JoinerLive → EventId → Bool
-needs_look_up l i = not (in_flight l.flight i) && nat_lt (length l.flight) 32
+needs_look_up l i = not (in_flight l.flight i) && nat_lt (length l.flight) MOST_FLIGHTS
 
 -- the query log says so of the click's query
 abbrev pub Tells : Setting → Click → Looked → Type 0
@@ -77,7 +79,7 @@ Carries g k l (input.Packet from p) i = (i ≡ Deliver from p) × (IsJoin p → 
 
 -- a Start carries an epoch below the greatest that a disk may keep
 abbrev pub CanStart : JoinerInput → Type 0
-CanStart (input.Start e) = e < 4294967294
+CanStart (input.Start e) = e < LAST_EPOCH
 CanStart _ = Unit {0}
 
 -- the row for an input
@@ -108,7 +110,7 @@ epoch_after (Land x) old = old
 -- the core can make the change: there are room, a place and a number for a new flight, whose parts have spellings
 abbrev pub CanChange : JoinerCore → Change → Type 0
 CanChange core (Fly id w) =
-    (0 < room core.flights) × (length (flights core.flights) < 32) × (in_flight (flights core.flights) id ≡ false)
+    (0 < room core.flights) × (length (flights core.flights) < MOST_FLIGHTS) × (in_flight (flights core.flights) id ≡ false)
     × (core.number < 2 ^ 64 - 1) × IsHeld (id, w)
 CanChange core Stay = Unit {0}
 CanChange core (Begin e) = e < 2 ^ 32

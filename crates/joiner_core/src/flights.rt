@@ -1,5 +1,6 @@
 // The joins in flight, by their clicks' ids.
 ghost use Rattle.std.specs.Prelude.{◌≤◌};
+ghost use Rattle.turn_defs.specs.declared.limits.TheConstants.{MOST_FLIGHTS};
 ghost use Rattle.indexmap.specs.IndexMap.{IsUnique, index_map_len};
 ghost use Rattle.event_id.specs.EventId.{is_same as same_id};
 ghost use Rattle.std.proofs.Props.{props};
@@ -12,9 +13,6 @@ use log_records::{QueryRec, Text};
 use registry_state::{Insert, Token};
 use std::alloc::{AllocError, Global};
 use turn_defs::{Node, Packet};
-
-/// How many joins may be in flight.
-pub const MOST: usize = 32;
 
 /// A join that waits for the registry, but for its click's id.
 #[derive(Debug, Drop)]
@@ -33,7 +31,7 @@ pub struct Flights {
     waiting: IndexMap<EventId, Waiting>,
     alloc: Global,
     ghost unique: { IsUnique same_id waiting } by { Prim.hlevel props },
-    ghost few: { index_map_len waiting ≤ 32 } by { Prim.hlevel props },
+    ghost few: { index_map_len waiting ≤ MOST_FLIGHTS } by { Prim.hlevel props },
     // Their parts have spellings.
     ghost held: { AllByRecursion IsHeld waiting.entries } by { AllByRecursion-prop IsHeld (λ e. Prim.hlevel props) waiting.entries },
 }
@@ -94,7 +92,7 @@ impl Flights {
     /// Adds one, last. It takes no memory, and constant expected time.
     pub fn add(&mut self, id: EventId, waiting: Waiting)
         requires room { 0 < room self.old }
-        requires few { length (flights self.old) < 32 }
+        requires few { length (flights self.old) < MOST_FLIGHTS }
         requires new { in_flight (flights self.old) id ≡ false }
         requires held { IsHeld (id, waiting) }
         ensures { flights self.new ≡ flights self.old ++ flight_of id waiting ∷ [] }

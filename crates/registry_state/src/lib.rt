@@ -48,6 +48,9 @@ pub enum Answer {
     TooOld(u64),
 }
 
+/// A batch has at most so many inserts.
+pub const MOST_INSERTS: usize = 64;
+
 /// Inserts, in order.
 #[derive(Debug, Drop)]
 pub struct Inserts {

@@ -1,5 +1,6 @@
 -- Tables of shard counts over time, and the shard of an id.
 use Rattle.std.specs.Prelude.{ℕ, ◌≡◌, ◌≤◌, ◌<◌, ◌^◌, ◌+◌, ◌%◌, max, nat_le, ⊤, List, [], ◌∷◌, length, if◌then◌else◌}
+use Rattle.time_shards.specs.declared.TheConstants.{MAX_ROWS, MAX_SHARDS}
 use Rattle.list_words.specs.Lists.{Each}
 use Rattle.event_id.specs.declared.id.EventId.{EventId}
 use Rattle.time_shards.specs.declared.ShardRow.{ShardRow}
@@ -8,7 +9,7 @@ use Rattle.time_shards.specs.declared.ShardRow.{ShardRow}
 pub record IsRow (row : ShardRow) : Type 0 where
   pub start : row.start < 2 ^ 64
   pub some : 1 ≤ row.count
-  pub few : row.count ≤ 16
+  pub few : row.count ≤ MAX_SHARDS
 
 -- the first row, if any, starts at 0
 abbrev pub StartsAtZero : List ShardRow → Type 0
@@ -23,7 +24,7 @@ Rises (r ∷ s ∷ rs) = (r.start < s.start) × Rises (s ∷ rs)
 
 -- the rows are a table's first ones, or none
 pub record BeginsTable (rows : List ShardRow) : Type 0 where
-  pub few : length rows ≤ 4
+  pub few : length rows ≤ MAX_ROWS
   pub zero : StartsAtZero rows
   pub rising : Rises rows
   pub each : Each IsRow rows

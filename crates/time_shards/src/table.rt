@@ -1,5 +1,6 @@
 // A table, and what it says of an id.
 ghost use Rattle.std.specs.Prelude.{◌≡◌, ◌≤◌, ◌<◌, ℕ, List, take, IfOk, IfErr};
+ghost use Rattle.time_shards.specs.declared.TheConstants.{MAX_SHARDS};
 ghost use Rattle.time_shards.specs.declared.ShardRow.{ShardRow as Row};
 ghost use Rattle.time_shards.specs.Shards.{IsTable, count_at, shard_of, shard_count};
 ghost use Rattle.time_shards.specs.Text.{table_text, IsFirstBad};
@@ -24,14 +25,15 @@ impl Model for Table {
     ghost use Rattle.time_shards.specs.Shards.{IsTable};
     ghost use Rattle.time_shards.specs.Spares.{padded, IsSpareFrom};
     ghost use Rattle.time_shards.specs.Spares.{fields_back};
+    ghost use Rattle.time_shards.specs.declared.TheConstants.{MAX_ROWS};
 
     ghost Value = { List Row };
 
     ghost view = { λ t. take t.len t.rows };
 
-    ghost invariant = { λ t. (length t.rows ≡ 4) × (t.len ≤ 4) × IsTable (take t.len t.rows) × IsSpareFrom t.len t.rows };
+    ghost invariant = { λ t. (length t.rows ≡ MAX_ROWS) × (t.len ≤ MAX_ROWS) × IsTable (take t.len t.rows) × IsSpareFrom t.len t.rows };
 
-    ghost inverse = { λ rows. record { rows = padded 4 rows; len = length rows } };
+    ghost inverse = { λ rows. record { rows = padded MAX_ROWS rows; len = length rows } };
 
     ghost inverse_ok = { λ t h. fields_back (λ rows len. record { rows = rows; len = len }) t.rows t.len h.0 h.1 h.3 };
 }
@@ -90,7 +92,7 @@ impl Table {
     pub fn shards(&self) -> u8
         ensures count { result ≡ shard_count self.now }
         ensures some { 1 ≤ result }
-        ensures few { result ≤ 16 }
+        ensures few { result ≤ MAX_SHARDS }
     {
         let mut most = 0;
         for row in self.rows() {

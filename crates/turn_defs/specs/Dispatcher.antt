@@ -1,5 +1,6 @@
 -- The dispatcher's rows of the turn table. One dispatcher a site has joiners join each click of the log.
 use Rattle.std.specs.Prelude.{ℕ, ◌+◌, Bool, true, false, not, ◌&&◌, ◌||◌, ◌==◌, nat_lt, List, [], ◌∷◌, ◌++◌, length, if◌then◌else◌, Option, Some, None}
+use Rattle.turn_defs.specs.declared.limits.TheConstants.{WINDOW}
 use Rattle.log_records.specs.declared.records.ClickRec.{ClickRec as Click}
 use Rattle.log_records.specs.Lines.{ClickLine, at}
 use Rattle.list_words.specs.Lists.{has, without}
@@ -69,9 +70,9 @@ abbrev pub mark : List Fresh → ℕ → List Fresh
 mark [] p = []
 mark (f ∷ fs) p = mark_one p f ∷ mark fs p
 
--- at most 64 lines are in fresh or in trial
+-- at most so many lines are in fresh or in trial
 abbrev pub has_room : DispatcherLive → Bool
-has_room l = nat_lt (length l.fresh + length l.trying) 64
+has_room l = nat_lt (length l.fresh + length l.trying) WINDOW
 
 -- a Join goes to any one joiner of the site
 abbrev pub join : ℕ → ℕ → Click → To × Packet

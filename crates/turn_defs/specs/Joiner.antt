@@ -1,5 +1,6 @@
 -- The joiner's rows of the turn table. A joiner registers a click's id before it writes the click's pair.
 use Rattle.std.specs.Prelude.{ℕ, suc, ◌-◌, ◌^◌, Bool, false, not, ◌&&◌, ◌||◌, nat_lt, List, [], ◌∷◌, ◌++◌, length, map, find, if◌then◌else◌, Option, Some, None}
+use Rattle.turn_defs.specs.declared.limits.TheConstants.{MOST_FLIGHTS}
 use Rattle.event_id.specs.declared.id.EventId.{EventId}
 use Rattle.registry_state.specs.declared.Token.{Token}
 use Rattle.registry_state.specs.declared.Insert.{Insert}
@@ -88,12 +89,12 @@ module _ (g : Setting) (n : ℕ) (k : JoinerKept) (l : JoinerLive) where
       }
       else idle l
 
-  -- at most 32 joins are in flight, and none twice
+  -- at most so many joins are in flight, and none twice
   abbrev pub joins : ℕ → Click → Out JoinerLive
   joins p c =
       if in_flight l.flight c.id
       then idle l
-      else if nat_lt (length l.flight) 32
+      else if nat_lt (length l.flight) MOST_FLIGHTS
       then looks p c (first g.queries c.query)
       else record { note = None; packets = to_dispatcher p Busy; live = l }
 

@@ -1,6 +1,7 @@
 -- The registry server's rows of the turn table. One server a site has batches of inserts chosen by the replicas, and
 -- answers each insert from the values chosen so far.
-use Rattle.std.specs.Prelude.{ℕ, suc, ◌+◌, ◌-◌, ◌*◌, ◌^◌, max, Bool, true, false, not, ◌&&◌, ◌||◌, ◌==◌, nat_lt, nat_le, List, [], ◌∷◌, ◌++◌, length, take, if◌then◌else◌, Option, Some, None, is_some, is_none}
+use Rattle.std.specs.Prelude.{ℕ, suc, ◌+◌, ◌-◌, ◌*◌, max, Bool, true, false, not, ◌&&◌, ◌||◌, ◌==◌, nat_lt, nat_le, List, [], ◌∷◌, ◌++◌, length, take, if◌then◌else◌, Option, Some, None, is_some, is_none}
+use Rattle.turn_defs.specs.declared.limits.TheConstants.{LAST_SLOT}
 use Rattle.registry_state.specs.declared.Token.{Token}
 use Rattle.ballot_core.specs.declared.Ballot.{Ballot}
 use Rattle.registry_state.specs.declared.Insert.{Insert}
@@ -68,9 +69,9 @@ to_from r (suc n) p = (Only (Replica r), p) ∷ to_from (suc r) n p
 abbrev pub to_replicas : ℕ → Packet → List (To × Packet)
 to_replicas n p = to_from 0 n p
 
--- rounds and slots stay below 2^48
+-- the round or slot isn't the last
 abbrev pub is_below_limit : ℕ → Bool
-is_below_limit n = nat_lt n (2 ^ 48 - 1)
+is_below_limit n = nat_lt n LAST_SLOT
 
 -- whether there is no proposal
 abbrev pub is_free : Option Proposal → Bool

@@ -1,5 +1,7 @@
 -- The one spelling of each kind of field, and which values have one. Numbers stand high byte first.
 use Rattle.std.specs.Prelude.{ℕ, ◌^◌, ◌<◌, ◌≤◌, List, [], ◌∷◌, ◌++◌, length, Option, Some, None}
+use Rattle.time_shards.specs.declared.TheConstants.{MAX_SHARDS}
+use Rattle.registry_state.specs.declared.TheConstants.{MOST_INSERTS}
 use Rattle.std.specs.Int.{w16, w32, w64, to_be_bytes}
 use Rattle.event_id.specs.EventId.{packed, IsId}
 use Rattle.registry_state.specs.declared.Token.{Token}
@@ -53,7 +55,7 @@ abbrev pub place : Place → List ℕ
 place p = p.shard ∷ to_be_bytes w64 p.slot
 
 pub record IsPlace (p : Place) : Type 0 where
-  pub shard : p.shard < 16
+  pub shard : p.shard < MAX_SHARDS
   pub slot : p.slot < 2 ^ 48
 
 -- one behind the other
@@ -70,7 +72,7 @@ batch b = batch_head b.bound (length b.inserts) ++ inserts b.inserts
 
 pub record IsBatch (b : Batch) : Type 0 where
   pub bound : b.bound < 2 ^ 64
-  pub count : length b.inserts ≤ 64
+  pub count : length b.inserts ≤ MOST_INSERTS
   pub inserts : Each IsInsert b.inserts
 
 -- a flag, and of something accepted the ballot and the batch

@@ -4,10 +4,12 @@
 #![tactic(auto)]
 
 pub mod laws;
+mod limits;
 mod node;
 mod packet;
 mod pair;
 
+pub use limits::{FIRST_JOINER, LAST_SLOT, MOST_FLIGHTS, MOST_JOINERS, WINDOW};
 pub use node::{Input, Node, To};
 pub use packet::{Outcome, Packet};
 pub use pair::PairRec;
