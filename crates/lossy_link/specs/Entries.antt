@@ -4,6 +4,7 @@ use Rattle.std.specs.Option.{option_map_or}
 use Rattle.std.specs.Str.{bytes_eq}
 use Rattle.serde_json.specs.Data.{Data}
 use Rattle.serde_json.specs.Find.{get, as_str}
+use Rattle.lossy_link.specs.declared.entries.TheConstants.{MOST_ENTRIES}
 use Rattle.lossy_link.specs.declared.plan.Rule.{Rule}
 use Rattle.lossy_link.specs.declared.plan.PlanStop.{PlanStop}
 use Rattle.lossy_link.specs.declared.bad_plan.Field.{Field}
@@ -63,7 +64,7 @@ abbrev pub entry_then : {A : Type 0} → (ℕ → Field) → ℕ → Option A �
 entry_then place n None rest = bad (place n)
 entry_then place n (Some x) rest = go_on rest (λ xs. good (x ∷ xs))
 
--- the entries from number n on, at most 64 in all, or the place of the first that is none
+-- the entries from number n on, at most so many in all, or the place of the first that is none
 abbrev pub list_of : {A : Type 0} → (Data → Option A) → (ℕ → Field) → ℕ → List Data → Outcome (List A)
 list_of read place n [] = good []
-list_of read place n (d ∷ ds) = if n == 64 then bad (place 64) else entry_then place n (read d) (list_of read place (n + 1) ds)
+list_of read place n (d ∷ ds) = if n == MOST_ENTRIES then bad (place MOST_ENTRIES) else entry_then place n (read d) (list_of read place (n + 1) ds)

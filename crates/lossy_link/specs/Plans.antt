@@ -3,6 +3,7 @@ use Rattle.std.specs.Prelude.{◌≡◌, ◌<◌, ◌≤◌, ℕ, List, [], ◌�
 use Rattle.std.specs.Option.{option_map_or}
 use Rattle.serde_json.specs.Data.{Data}
 use Rattle.serde_json.specs.Read.{read}
+use Rattle.lossy_link.specs.declared.read.TheConstants.{MOST_BYTES}
 use Rattle.lossy_link.specs.declared.bad_plan.BadPlan.{BadPlan}
 use Rattle.lossy_link.specs.declared.bad_plan.BadPlan.TheVariants.{At, Memory}
 use Rattle.lossy_link.specs.declared.bad_plan.Field.{Field}
@@ -36,7 +37,7 @@ plan_of d = if has_only top_keys d
 -- ---- the bytes of a plan
 
 abbrev pub size_limit : ℕ
-size_limit = 1048576
+size_limit = MOST_BYTES
 
 -- the bytes are UTF-8, and the JSON text of the value d
 abbrev pub IsTextOf : List ℕ → Data → Type 0

@@ -6,8 +6,8 @@ use Rattle.lossy_link.specs.declared.plan.Kind.TheVariants.{Dispatcher, Joiner, 
 use Rattle.lossy_link.specs.declared.plan.Fate.{Fate}
 use Rattle.lossy_link.specs.declared.plan.Fate.TheVariants.{Deliver, Drop, Twice, Late}
 use Rattle.lossy_link.specs.declared.plan.DiskKind.TheVariants.{Output}
-use Rattle.lossy_link.specs.declared.plan.Image.{Image}
-use Rattle.lossy_link.specs.declared.plan.Image.TheVariants.{New, Noise}
+use Rattle.outside.specs.declared.image.Image.{Image}
+use Rattle.outside.specs.declared.image.Image.TheVariants.{New, Noise}
 use Rattle.lossy_link.specs.declared.plan.Rule.{Rule}
 use Rattle.lossy_link.specs.declared.bad_plan.Field.TheVariants.{Dead, Rules, Stops, Top}
 use Rattle.lossy_link.specs.Fates.{PlanView, fate_of}

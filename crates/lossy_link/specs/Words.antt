@@ -7,8 +7,8 @@ use Rattle.lossy_link.specs.declared.plan.Fate.{Fate}
 use Rattle.lossy_link.specs.declared.plan.Fate.TheVariants as fate
 use Rattle.lossy_link.specs.declared.plan.DiskKind.{DiskKind}
 use Rattle.lossy_link.specs.declared.plan.DiskKind.TheVariants as disk
-use Rattle.lossy_link.specs.declared.plan.Image.{Image}
-use Rattle.lossy_link.specs.declared.plan.Image.TheVariants as image
+use Rattle.outside.specs.declared.image.Image.{Image}
+use Rattle.outside.specs.declared.image.Image.TheVariants as image
 use Rattle.lossy_link.specs.Members.{Text}
 
 -- one kind of node, or any

@@ -11,5 +11,6 @@ pub mod rows;
 mod words;
 
 pub use bad_plan::{BadPlan, Field};
-pub use plan::{DiskKind, Fate, Image, Kind, Plan, PlanStop, Rule};
+pub use outside::Image;
+pub use plan::{DiskKind, Fate, Kind, Plan, PlanStop, Rule};
 pub use read::MOST_BYTES;

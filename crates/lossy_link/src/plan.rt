@@ -4,6 +4,7 @@ ghost use Rattle.std.specs.List.{All};
 ghost use Rattle.std.specs.Option.{option_copied};
 ghost use Rattle.lossy_link.specs.Fates.{fate_of, fits, kind_fits, ordinal_fits};
 
+use outside::Image;
 use std::alloc::Global;
 use std::marker::Model;
 
@@ -39,17 +40,6 @@ pub enum DiskKind {
     Replica,
     Epoch,
     Output,
-}
-
-/// What a disk holds when it is reopened after a stop.
-#[derive(Clone, Copy, Debug, PartialEq, Eq)]
-pub enum Image {
-    /// Length and bytes of the last sync.
-    Old,
-    /// All that was written.
-    New,
-    /// The length as written, and 0x5A for each byte written since the last sync.
-    Noise,
 }
 
 /// The fate of some packets of the links between two kinds of node. The packets of one link, from a sender to a receiver,
@@ -116,7 +106,8 @@ impl Plan {
         }
     }
 
-    pub(crate) fn new(rules: Vec<Rule>, stops: Vec<PlanStop>, dead: Option<u8>) -> Plan
+    /// The plan of these rules and stops, in which this replica is dead, if any. It takes no memory.
+    pub fn new(rules: Vec<Rule>, stops: Vec<PlanStop>, dead: Option<u8>) -> Plan
         requires { All (λ r. 0 < r.every) rules.items }
         ensures { result ≡ record { rules = rules.items; stops = stops.items; dead = dead } }
     {

@@ -2,7 +2,8 @@
 ghost use Rattle.std.specs.Prelude.{◌≡◌};
 ghost use Rattle.lossy_link.specs.Words as word;
 
-use crate::plan::{DiskKind, Fate, Image, Kind};
+use crate::plan::{DiskKind, Fate, Kind};
+use outside::Image;
 
 // The kinds of node that a word names: one kind, or any.
 pub(crate) fn kind_of(name: &str) -> Option<Option<Kind>>

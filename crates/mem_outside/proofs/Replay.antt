@@ -5,8 +5,8 @@ use Rattle.std.proofs.lemmas.List.{take-append-le, length-replicate, take_at, dr
 use Rattle.outside.specs.Disk.{Torn}
 use Rattle.mem_outside.specs.declared.call.Call.{Call}
 use Rattle.mem_outside.specs.declared.call.Call.TheVariants.{Write, Sync, FailedSync, Reopen}
-use Rattle.mem_outside.specs.declared.call.Image.{Image}
-use Rattle.mem_outside.specs.declared.call.Image.TheVariants.{Old, New, Noise}
+use Rattle.outside.specs.declared.image.Image.{Image}
+use Rattle.outside.specs.declared.image.Image.TheVariants.{Old, New, Noise}
 use Rattle.mem_outside.specs.Past.{put, State, settled, after_write, image_to_take, after, bytes_of, replay, total, state_after, IsImage}
 
 take_front : (n : ℕ) (xs ys : List ℕ) → n ≤ length xs → take n (xs ++ ys) ≡ take n xs

@@ -5,7 +5,7 @@ use Rattle.std.proofs.lemmas.List.{append-nil, take_all}
 use Rattle.outside.specs.Disk.{Torn, Follows, Within, Only, Elapses}
 use Rattle.mem_outside.specs.declared.call.Call.{Call}
 use Rattle.mem_outside.specs.declared.call.Call.TheVariants.{Write, Sync, FailedSync, Reopen}
-use Rattle.mem_outside.specs.declared.call.Image.{Image}
+use Rattle.outside.specs.declared.image.Image.{Image}
 use Rattle.mem_outside.specs.declared.contents.Contents.{Contents}
 use Rattle.mem_outside.specs.declared.disk.MemDisk.{MemDisk}
 use Rattle.mem_outside.specs.Plan.{noted_sync}

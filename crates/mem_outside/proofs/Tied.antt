@@ -5,7 +5,7 @@ use Rattle.std.proofs.lemmas.List.{append-nil, take_all, drop_all, take-append-d
 use Rattle.std.proofs.Common.{append_assoc}
 use Rattle.mem_outside.specs.declared.call.Call.{Call}
 use Rattle.mem_outside.specs.declared.call.Call.TheVariants.{Write, Sync, FailedSync, Reopen}
-use Rattle.mem_outside.specs.declared.call.Image.{Image}
+use Rattle.outside.specs.declared.image.Image.{Image}
 use Rattle.mem_outside.specs.Past.{put, chosen, State, settled, after_write, after, bytes_of, total, state_after, IsTied}
 use Rattle.mem_outside.specs.Unsynced.{IsUnsynced, IsTaken}
 use Rattle.mem_outside.proofs.Replay.{total_push}

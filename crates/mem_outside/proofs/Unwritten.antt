@@ -6,8 +6,8 @@ use Rattle.std.proofs.lemmas.Bool.Decides.{nat_tests}
 use Rattle.std.proofs.lemmas.List.{get_or_append_left, get_or-append_right, get_or-take, get_or-drop, length-take-le, length-replicate, get_or-replicate, ext_get_or}
 use Rattle.mem_outside.specs.declared.call.Call.{Call}
 use Rattle.mem_outside.specs.declared.call.Call.TheVariants.{Write, FailedSync}
-use Rattle.mem_outside.specs.declared.call.Image.{Image}
-use Rattle.mem_outside.specs.declared.call.Image.TheVariants.{Old, New, Noise}
+use Rattle.outside.specs.declared.image.Image.{Image}
+use Rattle.outside.specs.declared.image.Image.TheVariants.{Old, New, Noise}
 use Rattle.mem_outside.specs.Past.{put, chosen}
 use Rattle.mem_outside.specs.Unsynced.{covers, covered, end_of, extent, IsUnsynced, IsTaken}
 use Rattle.mem_outside.proofs.Replay.{length-put}

@@ -1,7 +1,7 @@
 //! Worked rows of the definitions.
 ghost use Rattle.std.specs.Prelude.{◌≡◌, [], ◌∷◌, Some, None, true, false};
 ghost use Rattle.mem_outside.specs.declared.call.Call.TheVariants.{Write, Sync, FailedSync, Reopen};
-ghost use Rattle.mem_outside.specs.declared.call.Image.TheVariants.{Old, New, Noise};
+ghost use Rattle.outside.specs.declared.image.Image.TheVariants.{Old, New, Noise};
 ghost use Rattle.mem_outside.specs.Past.{state_after, image_to_take};
 ghost use Rattle.mem_outside.specs.Plan.{planned, is_planned};
 ghost use Rattle.mem_outside.specs.Unsynced.{covered};

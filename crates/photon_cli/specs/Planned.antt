@@ -2,11 +2,7 @@
 use Rattle.std.specs.Prelude.{ℕ, ◌+◌, ◌*◌, ◌==◌, ◌&&◌, nat_lt, Bool, true, false, if◌then◌else◌, List, map, filter, Option, Some, None}
 use Rattle.outside.specs.declared.store.DiskName.{DiskName}
 use Rattle.outside.specs.declared.store.DiskName.TheVariants as name
-use Rattle.mem_outside.specs.declared.call.Image.{Image}
-use Rattle.mem_outside.specs.declared.call.Image.TheVariants as image
 use Rattle.mem_outside.specs.declared.disk.Fuse.{Fuse}
-use Rattle.lossy_link.specs.declared.plan.Image.{Image as PlanImage}
-use Rattle.lossy_link.specs.declared.plan.Image.TheVariants.{Old, New, Noise}
 use Rattle.lossy_link.specs.declared.plan.DiskKind.{DiskKind}
 use Rattle.lossy_link.specs.declared.plan.DiskKind.TheVariants.{Offset, Retry, Server, Replica, Epoch, Output}
 use Rattle.lossy_link.specs.declared.plan.PlanStop.{PlanStop}
@@ -45,13 +41,8 @@ is_at kind which (Some place) = same_kind kind place.0 && named_by which place.1
 abbrev pub is_for : (joiners : ℕ) → PlanStop → DiskName → Bool
 is_for joiners stop name = is_at stop.disk stop.which (place_of joiners name)
 
-abbrev pub image_of : PlanImage → Image
-image_of Old = image.Old
-image_of New = image.New
-image_of Noise = image.Noise
-
 abbrev pub fuse_of : PlanStop → Fuse
-fuse_of stop = record { call = stop.call; image = image_of stop.image }
+fuse_of stop = record { call = stop.call; image = stop.image }
 
 -- the calls of a disk that the stops name, in their order
 abbrev pub planned_for : (joiners : ℕ) → List PlanStop → DiskName → List Fuse

@@ -1,11 +1,10 @@
 -- Worked places of disks, and worked stops.
 use Rattle.std.specs.Prelude.{◌≡◌, ℕ, List, [], ◌∷◌, Option, Some, None}
 use Rattle.outside.specs.declared.store.DiskName.TheVariants as name
-use Rattle.mem_outside.specs.declared.call.Image.TheVariants as image
 use Rattle.lossy_link.specs.declared.plan.DiskKind.{DiskKind}
 use Rattle.lossy_link.specs.declared.plan.DiskKind.TheVariants.{Retry, Replica, Epoch, Output}
-use Rattle.lossy_link.specs.declared.plan.Image.{Image}
-use Rattle.lossy_link.specs.declared.plan.Image.TheVariants.{Old, New, Noise}
+use Rattle.outside.specs.declared.image.Image.{Image}
+use Rattle.outside.specs.declared.image.Image.TheVariants.{Old, New, Noise}
 use Rattle.lossy_link.specs.declared.plan.PlanStop.{PlanStop}
 use Rattle.photon_cli.specs.Planned.{place_of, planned_for}
 
@@ -28,10 +27,10 @@ abbrev pub some_stops : List PlanStop
 some_stops = stop_at Output None 3 Noise ∷ stop_at Epoch (Some 1) 0 Old ∷ stop_at Replica (Some 2) 5 New ∷ stop_at Replica None 5 Old ∷ stop_at Output (Some 8) 0 Old ∷ []
 
 pub record StopsArePlanned : Type 0 where
-  pub each_output : planned_for 2 some_stops (name.Output 1 1) ≡ record { call = 3; image = image.Noise } ∷ []
-  pub one_epoch : planned_for 2 some_stops (name.Epoch 0 1) ≡ record { call = 0; image = image.Old } ∷ []
-  pub by_the_joiners : planned_for 1 some_stops (name.Epoch 1 0) ≡ record { call = 0; image = image.Old } ∷ []
+  pub each_output : planned_for 2 some_stops (name.Output 1 1) ≡ record { call = 3; image = Noise } ∷ []
+  pub one_epoch : planned_for 2 some_stops (name.Epoch 0 1) ≡ record { call = 0; image = Old } ∷ []
+  pub by_the_joiners : planned_for 1 some_stops (name.Epoch 1 0) ≡ record { call = 0; image = Old } ∷ []
   pub no_other_epoch : planned_for 2 some_stops (name.Epoch 1 0) ≡ []
-  pub in_their_order : planned_for 2 some_stops (name.Replica 2) ≡ record { call = 5; image = image.New } ∷ record { call = 5; image = image.Old } ∷ []
-  pub all_others : planned_for 2 some_stops (name.Replica 0) ≡ record { call = 5; image = image.Old } ∷ []
+  pub in_their_order : planned_for 2 some_stops (name.Replica 2) ≡ record { call = 5; image = New } ∷ record { call = 5; image = Old } ∷ []
+  pub all_others : planned_for 2 some_stops (name.Replica 0) ≡ record { call = 5; image = Old } ∷ []
   pub none_of_the_topology : planned_for 2 some_stops name.Topology ≡ []

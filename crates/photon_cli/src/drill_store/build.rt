@@ -1,13 +1,14 @@
 // The store of a plan.
 ghost use Rattle.std.specs.Prelude.{◌≡◌, ◌≤◌, ◌++◌, ◌∷◌, [], ℕ, List, ◌&&◌, Some, IfOk, OnOk, if◌then◌else◌};
+ghost use Rattle.turn_defs.specs.declared.limits.TheConstants.{MOST_JOINERS};
 ghost use Rattle.outside.specs.declared.store.DiskName.{DiskName};
 ghost use Rattle.mem_outside.specs.Kept.{fuses_for};
 ghost use Rattle.mem_outside.specs.Plan.{is_planned};
-ghost use Rattle.photon_cli.specs.Planned.{named_by, place_of, is_at, is_for, fuse_of, image_of, planned_for};
+ghost use Rattle.photon_cli.specs.Planned.{named_by, place_of, is_at, is_for, fuse_of, planned_for};
 
 use crate::drill_store::names::{disk_at, is_named};
 use lossy_link::{Plan, PlanStop};
-use mem_outside::{Fuse, Image, MemStore, Stop};
+use mem_outside::{Fuse, MemStore, Stop};
 use outside::Store;
 use std::alloc::{AllocError, Global};
 
@@ -19,7 +20,7 @@ const MOST_OF_A_KIND: u8 = 8;
 ///
 /// It takes memory for each disk that a stop names, and time linear in the plan's stops.
 pub fn store_for(alloc: Global, plan: &Plan, joiners: u8) -> Result<MemStore, AllocError>
-    requires { joiners ≤ 4 }
+    requires { joiners ≤ MOST_JOINERS }
     ensures kept { IfOk result (λ store. store.kept.items ≡ []) }
     ensures faults { IfOk result (λ store. store.faults ≡ 0) }
     ensures stops { IfOk result (λ store. (name : DiskName) → fuses_for store.stops.items name ≡ planned_for joiners plan.now.stops name) }
@@ -33,7 +34,7 @@ pub fn store_for(alloc: Global, plan: &Plan, joiners: u8) -> Result<MemStore, Al
 
 // The stops of the disks, in the plan's order.
 fn stops_for(alloc: Global, planned: &[PlanStop], joiners: u8) -> Result<Vec<Stop>, AllocError>
-    requires { joiners ≤ 4 }
+    requires { joiners ≤ MOST_JOINERS }
     ensures { IfOk result (λ stops. (name : DiskName) → fuses_for stops.items name ≡ planned_for joiners planned.now name) }
 {
     let mut stops = Vec::new(alloc);
@@ -45,7 +46,7 @@ fn stops_for(alloc: Global, planned: &[PlanStop], joiners: u8) -> Result<Vec<Sto
 
 // Adds a stop for each disk that the plan's stop is for.
 fn add_stop(stops: &mut Vec<Stop>, stop: &PlanStop, joiners: u8) -> Result<(), AllocError>
-    requires { joiners ≤ 4 }
+    requires { joiners ≤ MOST_JOINERS }
     ensures { OnOk result ((name : DiskName) → fuses_for stops.new.items name ≡ fuses_for stops.old.items name ++ (if is_for joiners stop.now name then fuse_of stop.now ∷ [] else [])) }
 {
     for number in 0..MOST_OF_A_KIND {
@@ -61,7 +62,7 @@ fn add_disk(
     number: u8,
     joiners: u8,
 ) -> Result<(), AllocError>
-    requires { joiners ≤ 4 }
+    requires { joiners ≤ MOST_JOINERS }
     ensures { OnOk result ((name : DiskName) → fuses_for stops.new.items name ≡ fuses_for stops.old.items name ++ (if named_by stop.now.which number && is_at stop.now.disk (Some number) (place_of joiners name) then fuse_of stop.now ∷ [] else [])) }
 {
     if !is_named(stop.which, number) {
@@ -81,16 +82,6 @@ fn fuse_of(stop: &PlanStop) -> Fuse
 {
     Fuse {
         call: stop.call,
-        image: image_of(stop.image),
-    }
-}
-
-fn image_of(image: lossy_link::Image) -> Image
-    ensures { result ≡ image_of image }
-{
-    match image {
-        lossy_link::Image::Old => Image::Old,
-        lossy_link::Image::New => Image::New,
-        lossy_link::Image::Noise => Image::Noise,
+        image: stop.image,
     }
 }
