@@ -105,15 +105,3 @@ passes (x ∷ xs) h = sym (cond-true x.done (after_done (map fresh_of xs)) (fres
 pub stops : (xs : List FreshLine) → first_done (map fresh_of xs) ≡ false → map fresh_of xs ≡ after_done (map fresh_of xs)
 stops [] h = refl
 stops (x ∷ xs) h = sym (cond-false x.done (after_done (map fresh_of xs)) (fresh_of x ∷ map fresh_of xs) h)
-
-pub end_more : (e : ℕ) (x : FreshLine) (xs : List FreshLine) → x.done ≡ true → done_end e (map fresh_of (x ∷ xs)) ≡ done_end x.end (map fresh_of xs)
-end_more e x xs h = cond-true x.done (done_end x.end (map fresh_of xs)) e h
-
-pub end_here : (e : ℕ) (x : FreshLine) (xs : List FreshLine) → x.done ≡ false → done_end e (map fresh_of (x ∷ xs)) ≡ e
-end_here e x xs h = cond-false x.done (done_end x.end (map fresh_of xs)) e h
-
-pub waits_here : (x : FreshLine) (xs : List FreshLine) → x.done ≡ false → some_waits (map fresh_of (x ∷ xs)) ≡ true
-waits_here x xs h = ap (λ (b : Bool). not b || some_waits (map fresh_of xs)) h
-
-pub waits_more : (x : FreshLine) (xs : List FreshLine) → x.done ≡ true → some_waits (map fresh_of (x ∷ xs)) ≡ some_waits (map fresh_of xs)
-waits_more x xs h = ap (λ (b : Bool). not b || some_waits (map fresh_of xs)) h

@@ -20,9 +20,6 @@ use Rattle.dispatch_core.proofs.Rising.{rising_after_done, before_after_done, ri
 
 -- ---- each change keeps the order
 
-pub start_ordered : (p : ℕ) (due : List ℕ) → Distinct due → IsOrdered (record { place = p; fresh = []; due = due; trying = []; ended = false })
-start_ordered p due once = record { rising = tt; before = tt; due_once = once; trying_once = tt; apart = λ q h. refl }
-
 pub advance_ordered : (e : ℕ) (l : DispatcherLive) → IsOrdered l → IsOrdered (changed (Advance e) l)
 advance_ordered e l o = record { rising = rising_after_done 0 l.fresh o.rising; before = before_after_done l.place l.fresh o.before; due_once = o.due_once; trying_once = o.trying_once; apart = o.apart }
 
@@ -44,9 +41,6 @@ retry_ordered l o = retry_from l l.due refl o.rising o.before o.due_once o.tryin
 pub take_ordered : (f : FreshLine) (l : DispatcherLive) → f.position ≡ l.place → f.position < f.end → IsOrdered l → IsOrdered (changed (Take f) l)
 take_ordered f l here later o =
     record { rising = rising_push 0 l.fresh (fresh_of f) (omega arith) o.rising (subst (λ (n : ℕ). AreBefore l.fresh n) (sym here) o.before); before = before_push l.fresh (fresh_of f) l.place f.end (omega arith) later o.before; due_once = o.due_once; trying_once = o.trying_once; apart = o.apart }
-
-pub end_ordered : (l : DispatcherLive) → IsOrdered l → IsOrdered (changed End l)
-end_ordered l o = record { rising = o.rising; before = o.before; due_once = o.due_once; trying_once = o.trying_once; apart = o.apart }
 
 pub mark_ordered : (p : ℕ) (l : DispatcherLive) → IsOrdered l → IsOrdered (record l { fresh = mark l.fresh p })
 mark_ordered p l o = record { rising = rising_mark 0 p l.fresh o.rising; before = before_mark p l.place l.fresh o.before; due_once = o.due_once; trying_once = o.trying_once; apart = o.apart }

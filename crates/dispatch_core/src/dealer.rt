@@ -1,10 +1,7 @@
 // The joiners of a site, one after another.
 ghost use Rattle.std.specs.Prelude.{◌≡◌, ◌<◌, ◌+◌, ◌*◌, ◌%◌, ◌≤◌};
 
-use turn_defs::Node;
-
-// The number of site 0's first joiner: two dispatchers, two servers and three replicas come before.
-const FIRST_JOINER: u16 = 7;
+use turn_defs::{FIRST_JOINER, Node};
 
 // The joiner that the next Join goes to: number `next` of the site's.
 #[derive(Clone, Copy, Debug)]
@@ -29,19 +26,6 @@ impl Dealer {
         Dealer {
             site,
             joiners,
-            next: 0,
-        }
-    }
-
-    // From the first joiner on.
-    pub(crate) fn anew(self) -> Dealer
-        ensures site { result.site ≡ self.site }
-        ensures joiners { result.joiners ≡ self.joiners }
-        ensures next { result.next ≡ 0 }
-    {
-        Dealer {
-            site: self.site,
-            joiners: self.joiners,
             next: 0,
         }
     }

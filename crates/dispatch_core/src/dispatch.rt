@@ -18,7 +18,6 @@ ghost use Rattle.dispatch_core.specs.Standing.{live_of, IsOf, IsOrdered, Stands,
 ghost use Rattle.dispatch_core.specs.Standing.{IsKept, IsLineAt, click_at, IsLookedUp, AreClicksAt, Carries, Takes};
 ghost use Rattle.dispatch_core.specs.Standing.{out_of, Fits, IsTurn, HasRoom, CanKeep, first_next, Sends, IsDealt};
 
-use crate::clicks::copy_click;
 use crate::dealer::Dealer;
 use crate::line::FreshLine;
 use crate::outbox::Outbox;
@@ -29,10 +28,7 @@ use indexmap::IndexSet;
 use log_records::ClickRec;
 use std::alloc::{AllocError, Global};
 use std::collections::VecDeque;
-use turn_defs::{Outcome, Packet};
-
-// How many lines and positions in trial may be in the window.
-const WINDOW: usize = 64;
+use turn_defs::{Outcome, Packet, WINDOW};
 
 /// The dispatcher of a site: what it knows while it is up, and which positions its disks keep pending.
 ///
@@ -278,7 +274,7 @@ impl DispatchCore {
         ensures joiners { IfOk result (IsDealt self.now self.now.dealer.next) }
     {
         let done = self.pending.contains(&line.position);
-        let click = copy_click(self.alloc, &line.click)?;
+        let click = line.click.copy(self.alloc)?;
         let fresh = FreshLine::new(line.position, line.end, click, done);
         if done {
             return Ok(self.quiet(Change::Take(fresh)));

@@ -2,7 +2,6 @@
 //! settled or parked. The rows of its turns stand in `Dispatcher.antt` of `turn_defs`; `DispatchCore` carries them.
 #![tactic(auto)]
 
-mod clicks;
 mod dealer;
 mod dispatch;
 mod input;

@@ -4,7 +4,6 @@ ghost use Rattle.std.specs.List.{zip};
 ghost use Rattle.dispatch_core.specs.Outboxes.{Puts, waiting_joins};
 
 use crate::Turn;
-use crate::clicks::copy_click;
 use crate::dealer::Dealer;
 use crate::line::FreshLine;
 use crate::turns::Change;
@@ -38,7 +37,7 @@ impl Outbox {
     pub(crate) fn put(&mut self, position: u64, click: &ClickRec) -> Result<(), AllocError>
         ensures { OnOk result (Puts self.old self.new ((position, click.now) ∷ [])) }
     {
-        let click = copy_click(self.alloc, click)?;
+        let click = click.copy(self.alloc)?;
         let node = self.dealer.deal();
         self.packets.push((node, Packet::Join { position, click }))?;
         Ok(())

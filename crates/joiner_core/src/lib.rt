@@ -4,7 +4,6 @@
 //! A turn is decided first, then its note is written to a disk, then it is kept: only that changes what the joiner knows.
 #![tactic(auto)]
 
-mod copies;
 mod flights;
 mod input;
 pub mod laws;

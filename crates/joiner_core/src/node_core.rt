@@ -1,15 +1,16 @@
 // The joiner's core.
 ghost use Rattle.std.specs.Prelude.{◌<◌, ◌^◌};
+ghost use Rattle.turn_defs.specs.declared.limits.TheConstants.{MOST_FLIGHTS};
+ghost use Rattle.ballot_core.specs.declared.TheConstants.{LAST_EPOCH};
 
-use crate::copies::{copy_query, copy_text};
-use crate::flights::{Flights, MOST, Waiting};
+use crate::flights::{Flights, Waiting};
 use crate::turn::Change;
 use crate::{JoinerInput, JoinerNote, Looked, Turn};
 use event_id::EventId;
 use log_records::{ClickRec, QueryRec};
 use registry_state::{Answer, Insert, Token};
 use std::alloc::{AllocError, Global};
-use turn_defs::{Node, Outcome, Packet, PairRec};
+use turn_defs::{MOST_FLIGHTS, Node, Outcome, Packet, PairRec};
 
 /// What a joiner knows while it is up: its epoch, the number of its next token, and at most 32 joins in flight.
 ///
@@ -65,7 +66,7 @@ impl JoinerCore {
     pub fn needs_look_up(&self, id: EventId) -> bool
         ensures { (g n k l : _) → Stands self.now g n k l → result ≡ needs_look_up l id }
     {
-        !self.flights.has(id) && self.flights.len() < MOST
+        !self.flights.has(id) && self.flights.len() < MOST_FLIGHTS
     }
 
     /// Decides the turn on an input: its note and its packets, and room for what keeping it will change. Nothing else
@@ -142,7 +143,7 @@ impl JoinerCore {
 
     // Start: it notes the next epoch, in which it knows nothing yet.
     fn start(&self, epoch: u32) -> Turn
-        requires { epoch < 4294967294 }
+        requires { epoch < LAST_EPOCH }
         ensures does { Does result (Some (Epoch (epoch + 1))) [] (Begin (epoch + 1)) }
         ensures spelled { IsSpelled result }
     {
@@ -181,7 +182,7 @@ impl JoinerCore {
         if self.flights.has(click.id) {
             return Ok(self.idle());
         }
-        if self.flights.len() >= MOST {
+        if self.flights.len() >= MOST_FLIGHTS {
             return self.tell(position, Outcome::Busy);
         }
         match looked {
@@ -213,7 +214,7 @@ impl JoinerCore {
         query: &QueryRec,
     ) -> Result<Turn, AllocError>
         requires room { 0 < room self.now.flights }
-        requires few { length (flights self.now.flights) < 32 }
+        requires few { length (flights self.now.flights) < MOST_FLIGHTS }
         requires new { in_flight (flights self.now.flights) click.now.id ≡ false }
         requires spelled { IsNumber position × IsClick click.now × IsQuery query.now }
         ensures turn { IfOk result (λ turn. (g n k l : _) → Stands self.now g n k l →
@@ -241,8 +242,8 @@ impl JoinerCore {
         let waiting = Waiting {
             position,
             asked: click.query,
-            text: copy_text(self.alloc, &click.text)?,
-            query: copy_query(self.alloc, query)?,
+            text: click.text.copy(self.alloc)?,
+            query: query.copy(self.alloc)?,
             token,
         };
         let insert = Insert {
@@ -320,9 +321,9 @@ impl JoinerCore {
             click: ClickRec {
                 id,
                 query: waiting.asked,
-                text: copy_text(self.alloc, &waiting.text)?,
+                text: waiting.text.copy(self.alloc)?,
             },
-            query: copy_query(self.alloc, &waiting.query)?,
+            query: waiting.query.copy(self.alloc)?,
             token: waiting.token,
         })
     }

@@ -6,7 +6,7 @@ ghost use Rattle.log_records.specs.declared.records.ClickRec.{ClickRec as Click}
 ghost use Rattle.log_records.specs.Check.{IsLog, Refuses, IsQueryLog, IsClickLog, RefusesQuery, RefusesClick};
 
 use crate::kind::Record;
-use crate::seen::{accept, accept_record};
+use crate::seen::accept;
 use crate::{ClickRec, QueryRec, Why};
 use list_words::split_once;
 use std::alloc::Global;
@@ -48,24 +48,6 @@ pub fn check_clicks(alloc: Global, log: &[u8]) -> Result<u64, BadLine>
     count::<ClickRec>(alloc, log)
 }
 
-/// Checks a whole query log as `check_queries` does, and gives its records in their order. Their texts are copied.
-pub fn queries_of(alloc: Global, log: &[u8]) -> Result<Vec<QueryRec>, BadLine>
-    ensures found { IfOk result (λ qs. IsQueryLog log.now qs.items) }
-    ensures only { (qs : List Query) → IsQueryLog log.now qs → MatchResult result (λ v. v.items ≡ qs) (λ bad. bad.why ≡ why.Memory) }
-    ensures refused { IfErr result (λ bad. (bad.why ≡ why.Memory) ⊎ RefusesQuery log.now bad) }
-{
-    records::<QueryRec>(alloc, log)
-}
-
-/// Checks a whole click log as `check_clicks` does, and gives its records in their order. Their texts are copied.
-pub fn clicks_of(alloc: Global, log: &[u8]) -> Result<Vec<ClickRec>, BadLine>
-    ensures found { IfOk result (λ cs. IsClickLog log.now cs.items) }
-    ensures only { (cs : List Click) → IsClickLog log.now cs → MatchResult result (λ v. v.items ≡ cs) (λ bad. bad.why ≡ why.Memory) }
-    ensures refused { IfErr result (λ bad. (bad.why ≡ why.Memory) ⊎ RefusesClick log.now bad) }
-{
-    records::<ClickRec>(alloc, log)
-}
-
 fn count<R: Record>(alloc: Global, log: &[u8]) -> Result<u64, BadLine>
     ensures found { IfOk result (λ n. (rs : List R) × IsLog R.spelled R.is_record R.own_id log.now rs × (n ≡ length rs)) }
     ensures refused { IfErr result (λ bad. (bad.why ≡ why.Memory) ⊎ Refuses R.spelled R.is_record R.own_id R.whys log.now bad) }
@@ -87,33 +69,6 @@ fn count<R: Record>(alloc: Global, log: &[u8]) -> Result<u64, BadLine>
         return Err(bad(lines, Why::TooBig));
     }
     Ok(lines as u64)
-}
-
-fn records<R: Record>(alloc: Global, log: &[u8]) -> Result<Vec<R>, BadLine>
-    ensures found { IfOk result (λ rs. IsLog R.spelled R.is_record R.own_id log.now rs.items) }
-    ensures refused { IfErr result (λ bad. (bad.why ≡ why.Memory) ⊎ Refuses R.spelled R.is_record R.own_id R.whys log.now bad) }
-{
-    let mut seen = BTreeMap::new(alloc);
-    let mut records = Vec::new(alloc);
-    let mut rest = log;
-    while let Some((line, after)) = split_once(rest, b'\n') {
-        let lines = records.len();
-        if log.len() - after.len() > MAX_LOG {
-            return Err(bad(lines, Why::TooBig));
-        }
-        let record = match accept_record::<R>(alloc, &mut seen, line) {
-            Ok(record) => record,
-            Err(why) => return Err(bad(lines, why)),
-        };
-        if records.push(record).is_err() {
-            return Err(bad(lines, Why::Memory));
-        }
-        rest = after;
-    }
-    if log.len() > MAX_LOG {
-        return Err(bad(records.len(), Why::TooBig));
-    }
-    Ok(records)
 }
 
 // The line behind so many.

@@ -3,12 +3,11 @@ ghost use Rattle.std.specs.Prelude.{◌≡◌, ◌<◌, ℕ, List, length, IfOk,
 ghost use Rattle.event_id.specs.declared.id.EventId.{EventId as Id};
 ghost use Rattle.log_records.specs.declared.why.Why.{Why as WhyOf};
 ghost use Rattle.log_records.specs.declared.why.Why.TheVariants as why;
-ghost use Rattle.log_records.specs.Line.{query_line, click_line, IsQuery, IsClick, QueryWhy, ClickWhy, OrMemory};
+ghost use Rattle.log_records.specs.Line.{query_line, click_line, IsQuery, IsClick, QueryWhy, ClickWhy};
 
 use crate::lines::{click_parts, query_parts};
-use crate::{ClickRec, QueryRec, Why, read_click, read_query};
+use crate::{ClickRec, QueryRec, Why};
 use event_id::EventId;
-use std::alloc::Global;
 
 /// A kind of record, which has a line of its own in a log.
 pub trait Record: Drop {
@@ -27,14 +26,6 @@ pub trait Record: Drop {
     fn id_in(line: &[u8]) -> Result<EventId, Why>
         ensures found { IfOk result (λ id. (r : Self) × is_record r × (line.now ≡ spelled r) × (own_id r ≡ id)) }
         ensures why { IfErr result (whys line.now) };
-
-    /// The line's record.
-    fn read(alloc: Global, line: &[u8]) -> Result<Self, Why>
-        ensures found { IfOk result (λ r. is_record r × (line.now ≡ spelled r)) }
-        ensures why { IfErr result (OrMemory (whys line.now)) };
-
-    fn id(&self) -> EventId
-        ensures { result ≡ own_id self.now };
 
     /// Of a line of over 296 bytes that is the first that is wrong.
     fn long_lines()
@@ -55,14 +46,6 @@ impl Record for QueryRec {
         Ok(id)
     }
 
-    fn read(alloc: Global, line: &[u8]) -> Result<QueryRec, Why> {
-        read_query(alloc, line)
-    }
-
-    fn id(&self) -> EventId {
-        self.id
-    }
-
     fn long_lines() {}
 }
 
@@ -78,14 +61,6 @@ impl Record for ClickRec {
     fn id_in(line: &[u8]) -> Result<EventId, Why> {
         let (id, _, _) = click_parts(line)?;
         Ok(id)
-    }
-
-    fn read(alloc: Global, line: &[u8]) -> Result<ClickRec, Why> {
-        read_click(alloc, line)
-    }
-
-    fn id(&self) -> EventId {
-        self.id
     }
 
     fn long_lines() {}

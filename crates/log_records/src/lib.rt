@@ -14,7 +14,7 @@ mod text;
 mod why;
 mod write;
 
-pub use check::{BadLine, MAX_LOG, check_clicks, check_queries, clicks_of, queries_of};
+pub use check::{BadLine, MAX_LOG, check_clicks, check_queries};
 pub use kind::Record;
 pub use lines::{read_click, read_query};
 pub use records::{ClickRec, QueryRec};

@@ -39,7 +39,7 @@ fn query_of(alloc: Global, line: &[u8]) -> Result<QueryRec, Why>
     ensures why { IfErr result (OrMemory (QueryWhy line.now)) }
 {
     let (id, text) = query_parts(line)?;
-    let text = Text::copy(alloc, text)?;
+    let text = Text::of_bytes(alloc, text)?;
     Ok(QueryRec { id, text })
 }
 
@@ -48,7 +48,7 @@ fn click_of(alloc: Global, line: &[u8]) -> Result<ClickRec, Why>
     ensures why { IfErr result (OrMemory (ClickWhy line.now)) }
 {
     let (id, query, text) = click_parts(line)?;
-    let text = Text::copy(alloc, text)?;
+    let text = Text::of_bytes(alloc, text)?;
     Ok(ClickRec { id, query, text })
 }
 

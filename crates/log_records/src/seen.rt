@@ -9,7 +9,7 @@ ghost use Rattle.log_records.specs.Seen.{line_at, is_at, Keeps};
 use crate::Why;
 use crate::kind::Record;
 use event_id::EventId;
-use std::alloc::{AllocError, Global};
+use std::alloc::AllocError;
 use std::collections::BTreeMap;
 
 /// Takes in the next line, of which nothing is copied. What is told of one that isn't taken is the first that is wrong with it.
@@ -23,20 +23,6 @@ pub fn accept<'a, R: Record>(
     let id = R::id_in(line)?;
     take_in(seen, id, line)?;
     Ok(())
-}
-
-/// Takes in the next line, and reads its record.
-pub fn accept_record<'a, R: Record>(
-    alloc: Global,
-    seen: &mut BTreeMap<EventId, &'a [u8]>,
-    line: &'a [u8],
-) -> Result<R, Why>
-    ensures ok { IfOk result (λ r. R.is_record r × (line.now ≡ R.spelled r) × ((rs : List R) → Keeps R.spelled R.own_id seen.old rs → Keeps R.spelled R.own_id seen.new (rs ++ r ∷ []))) }
-    ensures why { IfErr result (λ w. (rs : List R) → Keeps R.spelled R.own_id seen.old rs → OrMemory (AfterWhy R.spelled R.is_record R.own_id R.whys rs line.now) w) }
-{
-    let record = R::read(alloc, line)?;
-    take_in(seen, record.id(), line)?;
-    Ok(record)
 }
 
 fn take_in<'a>(

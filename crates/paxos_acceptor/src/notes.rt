@@ -1,7 +1,9 @@
 // What a replica writes down, and what it answers.
+ghost use Rattle.std.specs.Prelude.{◌≡◌, IfOk};
 
 use ballot_core::Ballot;
 use registry_state::Batch;
+use std::alloc::AllocError;
 
 /// A record of a replica's journal. The slot counts the values of the shard from 0.
 #[derive(Debug, Drop)]
@@ -19,6 +21,36 @@ pub enum ReplicaNote {
         ballot: Ballot,
         batch: Batch,
     },
+}
+
+impl ReplicaNote {
+    /// The same note, by one allocation where it has a batch.
+    pub fn copy(&self) -> Result<ReplicaNote, AllocError>
+        ensures { IfOk result (λ copy. copy ≡ self.now) }
+    {
+        match self {
+            ReplicaNote::Promised {
+                shard,
+                slot,
+                ballot,
+            } => Ok(ReplicaNote::Promised {
+                shard: *shard,
+                slot: *slot,
+                ballot: *ballot,
+            }),
+            ReplicaNote::Accepted {
+                shard,
+                slot,
+                ballot,
+                batch,
+            } => Ok(ReplicaNote::Accepted {
+                shard: *shard,
+                slot: *slot,
+                ballot: *ballot,
+                batch: batch.copy()?,
+            }),
+        }
+    }
 }
 
 /// What a Prepare is answered.

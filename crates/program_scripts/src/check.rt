@@ -2,7 +2,7 @@
 ghost use Rattle.std.specs.Prelude.{false, []};
 
 use event_id::EventId;
-use log_records::{BadLine, check_queries, clicks_of};
+use log_records::{BadLine, check_clicks, check_queries, read_click};
 use mem_outside::MemLog;
 use outside::{LogFile, ReadFault};
 use photon_cli::log_check::{CheckFault, check_click_log, check_query_log};
@@ -71,16 +71,18 @@ fn in_memory<T>(checked: Result<T, BadLine>) -> Result<T, CheckFault> {
 }
 
 fn clicks_in_memory(alloc: Global, bytes: &[u8]) -> Result<String, Stop> {
-    let clicks = match in_memory(clicks_of(alloc, bytes)) {
-        Ok(clicks) => clicks,
-        Err(fault) => return fault_told(alloc, fault),
-    };
+    if let Err(fault) = in_memory(check_clicks(alloc, bytes)) {
+        return fault_told(alloc, fault);
+    }
     let mut ids = Vec::new(alloc);
-    for click in &clicks {
+    let Some(end) = bytes.iter().rposition(|b| *b == b'\n') else {
+        return clicks_told(alloc, &ids, 0);
+    };
+    for line in bytes[..end].split(|b| *b == b'\n') {
+        let click = read_click(alloc, line).map_err(|_| Stop::Words)?;
         ids.push(click.id)?;
     }
-    let feed = bytes.iter().rposition(|b| *b == b'\n');
-    clicks_told(alloc, &ids, feed.map_or(0, |at| at as u64 + 1))
+    clicks_told(alloc, &ids, end as u64 + 1)
 }
 
 fn lines_told(alloc: Global, checked: Result<u64, CheckFault>) -> Result<String, Stop> {

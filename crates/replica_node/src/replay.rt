@@ -1,5 +1,5 @@
 // What the notes of a journal make, where the journal keeps its notes.
-ghost use Rattle.std.specs.Prelude.{◌≡◌, IfOk};
+ghost use Rattle.std.specs.Prelude.{IfOk};
 ghost use Rattle.replica_node.specs.Core.{Knows};
 ghost use Rattle.site_node.specs.Replicas.{kept_of};
 
@@ -13,40 +13,9 @@ pub(crate) fn replay(alloc: Global, notes: &[ReplicaNote]) -> Result<Acceptor, A
 {
     let mut acceptor = Acceptor::new(alloc);
     for note in notes {
-        let copy = copy_of(note)?;
+        let copy = note.copy()?;
         acceptor.make_room()?;
         acceptor.keep(copy);
     }
     Ok(acceptor)
-}
-
-// The same note, by one allocation where it has a batch.
-fn copy_of(note: &ReplicaNote) -> Result<ReplicaNote, AllocError>
-    ensures { IfOk result (λ copy. copy ≡ note.now) }
-{
-    match note {
-        ReplicaNote::Promised {
-            shard,
-            slot,
-            ballot,
-        } => Ok(ReplicaNote::Promised {
-            shard: *shard,
-            slot: *slot,
-            ballot: *ballot,
-        }),
-        ReplicaNote::Accepted {
-            shard,
-            slot,
-            ballot,
-            batch,
-        } => {
-            let batch = batch.copy()?;
-            Ok(ReplicaNote::Accepted {
-                shard: *shard,
-                slot: *slot,
-                ballot: *ballot,
-                batch,
-            })
-        }
-    }
 }

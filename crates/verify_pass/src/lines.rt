@@ -7,7 +7,7 @@ ghost use Rattle.verify_pass.specs.Classes.{line_by, unwritten_line};
 
 use event_id::EventId;
 use id_expiry::TimedRegistry;
-use log_records::{ClickRec, QueryRec, ReportLine, Text};
+use log_records::ReportLine;
 use std::alloc::{AllocError, Global};
 use turn_defs::PairRec;
 
@@ -41,24 +41,8 @@ fn unwritten(registry: &TimedRegistry, id: EventId) -> ReportLine
 fn joined(alloc: Global, pair: &PairRec) -> Result<ReportLine, AllocError>
     ensures { IfOk result (λ line. line ≡ J pair.now.click pair.now.query) }
 {
-    let click = ClickRec {
-        id: pair.click.id,
-        query: pair.click.query,
-        text: copy(alloc, &pair.click.text)?,
-    };
-    let query = QueryRec {
-        id: pair.query.id,
-        text: copy(alloc, &pair.query.text)?,
-    };
-    Ok(ReportLine::J { click, query })
-}
-
-// A text that stands already is no other than a text, so only want of memory refuses its copy.
-fn copy(alloc: Global, text: &Text) -> Result<Text, AllocError>
-    ensures { IfOk result (λ copy. copy ≡ text.now) }
-{
-    match Text::read(alloc, text.as_bytes()) {
-        Ok(copy) => Ok(copy),
-        Err(_) => Err(AllocError),
-    }
+    Ok(ReportLine::J {
+        click: pair.click.copy(alloc)?,
+        query: pair.query.copy(alloc)?,
+    })
 }

@@ -2,7 +2,6 @@
 ghost use Rattle.std.specs.Prelude.{◌≡◌, ◌++◌, map, IfOk, OnOk};
 
 use crate::{Opened, SiteDisks, VoteJournal};
-use log_records::{ClickRec, QueryRec, Text};
 use output_log::OutputLog;
 use outside::Disk;
 use paxos_acceptor::ReplicaNote;
@@ -10,65 +9,12 @@ use std::alloc::{AllocError, Global};
 use turn_defs::PairRec;
 use verify_pass::{Journals, NoteList, PairList};
 
-fn copy_text(alloc: Global, text: &Text) -> Result<Text, AllocError>
-    ensures { IfOk result (λ copy. copy ≡ text.now) }
-{
-    match Text::read(alloc, text.as_bytes()) {
-        Ok(copy) => Ok(copy),
-        Err(_) => Err(AllocError),
-    }
-}
-
-fn copy_pair(alloc: Global, pair: &PairRec) -> Result<PairRec, AllocError>
-    ensures { IfOk result (λ copy. copy ≡ pair.now) }
-{
-    Ok(PairRec {
-        click: ClickRec {
-            id: pair.click.id,
-            query: pair.click.query,
-            text: copy_text(alloc, &pair.click.text)?,
-        },
-        query: QueryRec {
-            id: pair.query.id,
-            text: copy_text(alloc, &pair.query.text)?,
-        },
-        token: pair.token,
-    })
-}
-
-fn copy_note(note: &ReplicaNote) -> Result<ReplicaNote, AllocError>
-    ensures { IfOk result (λ copy. copy ≡ note.now) }
-{
-    match note {
-        ReplicaNote::Promised {
-            shard,
-            slot,
-            ballot,
-        } => Ok(ReplicaNote::Promised {
-            shard: *shard,
-            slot: *slot,
-            ballot: *ballot,
-        }),
-        ReplicaNote::Accepted {
-            shard,
-            slot,
-            ballot,
-            batch,
-        } => Ok(ReplicaNote::Accepted {
-            shard: *shard,
-            slot: *slot,
-            ballot: *ballot,
-            batch: batch.copy()?,
-        }),
-    }
-}
-
 fn copy_pairs(alloc: Global, pairs: &[PairRec]) -> Result<PairList, AllocError>
     ensures { IfOk result (λ copy. copy ≡ pairs.now) }
 {
     let mut copies = Vec::with_capacity(alloc, pairs.len())?;
     for pair in pairs {
-        copies.push(copy_pair(alloc, pair)?)?;
+        copies.push(pair.copy(alloc)?)?;
     }
     Ok(PairList::from(copies))
 }
@@ -78,7 +24,7 @@ fn copy_notes(alloc: Global, notes: &[ReplicaNote]) -> Result<NoteList, AllocErr
 {
     let mut copies = Vec::with_capacity(alloc, notes.len())?;
     for note in notes {
-        copies.push(copy_note(note)?)?;
+        copies.push(note.copy()?)?;
     }
     Ok(NoteList::from(copies))
 }

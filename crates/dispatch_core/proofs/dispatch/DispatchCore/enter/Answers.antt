@@ -1,4 +1,4 @@
-use Rattle.std.proofs.Common.{refl, ◌≡◌, ℕ, ◌∷◌, [], ◌++◌, List, Some, sym, ap, ◌∙◌, true, false, arith}
+use Rattle.std.proofs.Common.{refl, ◌≡◌, ◌∷◌, [], Some, sym, ◌∙◌, true, false, arith}
 use Rattle.std.proofs.lemmas.Result.{IfOk-weaker}
 use Rattle.std.proofs.lemmas.Bool.{cond-true, cond-false}
 use Rattle.list_words.specs.Lists.{has}

@@ -1,7 +1,5 @@
 use Rattle.std.proofs.Common.{◌≡◌, true, false, Some, None, sym, ap, ◌∙◌, rules}
-use Rattle.std.specs.Map.{lookup}
 use Rattle.std.proofs.lemmas.Bool.{cond-true, cond-false}
-use Rattle.event_id.specs.EventId.{is_same as same_id}
 use Rattle.registry_state.specs.Same.{same_token}
 use Rattle.joiner_core.specs.Flying.{flight_of}
 use Rattle.joiner_core.proofs.Flying.{held, find-lookup, held-lookup}

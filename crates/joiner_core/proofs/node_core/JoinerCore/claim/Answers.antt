@@ -1,4 +1,4 @@
-use Rattle.std.proofs.Common.{List, [], ◌∷◌, sym, subst}
+use Rattle.std.proofs.Common.{List, sym, subst}
 use Rattle.registry_state.specs.declared.Token.{Token}
 use Rattle.turn_defs.specs.Spellings.{IsToken}
 use Rattle.turn_defs.specs.declared.packet.Packet.{Packet}
