@@ -1,9 +1,7 @@
 -- A bulk run: the setting that its two logs make, and the totals of its report.
-use Rattle.std.proofs.Common.{◌≡◌, ◌⊎◌, ◌≤◌, ◌*◌, ◌^◌, inl, inr, ℕ, List, Option, Some, None, codes, length, map, false, sym, ap, subst, ◌∙◌, arith}
-use Rattle.std.specs.List.{list_any}
+use Rattle.std.proofs.Common.{◌≡◌, ◌⊎◌, ◌≤◌, ◌*◌, ◌^◌, inl, inr, ℕ, List, Option, Some, None, codes, length, map, refl, sym, ap, subst, ◌∙◌, arith}
 use Rattle.std.specs.Option.{IsSomeAnd}
 use Rattle.lossy_link.specs.Fates.{PlanView}
-use Rattle.lossy_link.specs.Plans.{IsPlanOf}
 use Rattle.log_records.specs.declared.why.Why.{Why}
 use Rattle.log_records.specs.Check.{IsQueryLog, IsClickLog}
 use Rattle.log_records.specs.Log.{HoldsQueries, HoldsClicks}
@@ -14,12 +12,11 @@ use Rattle.log_records.specs.Report.{distinct, line_of, totals}
 use Rattle.site_run.specs.declared.faults.fault.LogName.{LogName}
 use Rattle.turn_defs.specs.Setting.{Setting}
 use Rattle.dispatch_node.specs.Places.{IsLogOf}
-use Rattle.photon_cli.specs.Planned.{is_joiners}
 use Rattle.bulk_logs.specs.Bulk as logs
 use Rattle.site_run.specs.declared.ran.RunLog.{RunLog}
 use Rattle.photon_cli.specs.declared.engine.fault.Fault.{Fault}
 use Rattle.photon_cli.specs.declared.engine.fault.Fault.TheVariants as fault
-use Rattle.photon_cli.specs.Bulk.{IsBulkRun, IsBulkSetting, plan_text}
+use Rattle.photon_cli.specs.Bulk.{IsBulkRun, IsBulkSetting, bulk_plan}
 use Rattle.photon_cli.specs.Drill.{Drills, IsDrilled}
 use Rattle.photon_cli.specs.Join.{AreValid, IsAsked, Refuses}
 use Rattle.photon_cli.specs.LogFaults.{IsLogFault, IsOfBulk, IsOfRun}
@@ -76,16 +73,18 @@ module _ (told : List ℕ → Option (List ℕ)) (v : BulkValues) (few : v.count
   bulk_cause valid f refuses (inr (inr e)) = subst IsOfBulk (sym e) tt
 
   -- the run, and the totals of its lines
-  pub bulk_run : (plan : PlanView) (ran : Option RunLog) (lines : List ReportLine) → IsPlanOf plan_text plan → Drills told (values_of v) plan ran lines → IsSomeAnd ran (IsBulkRun v)
-  bulk_run plan ran lines is (g, asked, run) = within ran (IsDrilled g plan lines) (IsBulkRun v) (λ log drilled. record { setting = g; made = made g asked; plan = plan; planned = is; lines = lines; run = drilled }) run
+  pub bulk_run : (plan : PlanView) (ran : Option RunLog) (lines : List ReportLine) → plan ≡ bulk_plan → Drills told (values_of v) plan ran lines → IsSomeAnd ran (IsBulkRun v)
+  bulk_run plan ran lines is (g, asked, run) =
+      within ran (IsDrilled g plan lines) (IsBulkRun v) (λ log drilled. record { setting = g; made = made g asked; lines = lines; run = subst (λ (p : PlanView). IsDrilled g p lines log) is drilled }) run
 
-  lines_made : (plan : PlanView) (ran : Option RunLog) (lines : List ReportLine) (g : Setting) → list_any is_joiners plan.stops ≡ false → IsAsked told (values_of v) g → IsSomeAnd ran (IsDrilled g plan lines) → lines ≡ logs.lines v.seed v.count
-  lines_made plan None lines g calm asked run = absurd run
-  lines_made plan (Some log) lines g calm asked run =
+  lines_made : (ran : Option RunLog) (lines : List ReportLine) (g : Setting) → IsAsked told (values_of v) g → IsSomeAnd ran (IsDrilled g bulk_plan lines) → lines ≡ logs.lines v.seed v.count
+  lines_made None lines g asked run = absurd run
+  lines_made (Some log) lines g asked run =
       let m = made g asked in
       let clicks : map (λ (l : ClickLine). l.click) g.clicks ≡ logs.clicks v.seed v.count = ap (map (λ (l : ClickLine). l.click)) m.clicks ∙ clicks_back 0 (logs.clicks v.seed v.count) in
-      run.whole calm ∙ (λ k. map (line_of (m.queries k) (m.horizon k)) (distinct (clicks k)))
+      run.whole refl ∙ (λ k. map (line_of (m.queries k) (m.horizon k)) (distinct (clicks k)))
 
-  pub bulk_totals : (plan : PlanView) (ran : Option RunLog) (lines : List ReportLine) → list_any is_joiners plan.stops ≡ false → ((seed n : ℕ) → n ≤ 100000 → totals (logs.lines seed n) ≡ logs.totals_made n) → Drills told (values_of v) plan ran lines
+  pub bulk_totals : (plan : PlanView) (ran : Option RunLog) (lines : List ReportLine) → plan ≡ bulk_plan → ((seed n : ℕ) → n ≤ 100000 → totals (logs.lines seed n) ≡ logs.totals_made n) → Drills told (values_of v) plan ran lines
       → totals lines ≡ logs.totals_made v.count
-  bulk_totals plan ran lines calm law (g, asked, run) = ap totals (lines_made plan ran lines g calm asked run) ∙ law v.seed v.count few
+  bulk_totals plan ran lines is law (g, asked, run) =
+      ap totals (lines_made ran lines g asked (subst (λ (p : PlanView). IsSomeAnd ran (IsDrilled g p lines)) is run)) ∙ law v.seed v.count few

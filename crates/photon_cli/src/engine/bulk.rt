@@ -1,23 +1,19 @@
 // A bulk run: both logs are made from a seed, both sites run over them as in a drill, and the totals line is told.
-ghost use Rattle.std.specs.Prelude.{◌≡◌, ◌⊎◌, ℕ, List, IfErr, IfOk, OnOk, Some, codes, string_bytes, false, IsTrue, Err};
-ghost use Rattle.std.specs.List.{list_any};
+ghost use Rattle.std.specs.Prelude.{◌≡◌, ◌⊎◌, ℕ, List, IfErr, IfOk, OnOk, Some, codes, string_bytes, IsTrue, Err};
 ghost use Rattle.outside.specs.Faults.{Counts};
 ghost use Rattle.time_shards.specs.Text.{IsFirstBad};
-ghost use Rattle.lossy_link.specs.Plans.{IsPlanOf};
-ghost use Rattle.photon_cli.specs.Planned.{is_joiners};
 ghost use Rattle.mem_outside.specs.Files.{bytes_under};
 ghost use Rattle.bulk_logs.specs.Bulk.{query_log, click_log};
 ghost use Rattle.photon_cli.specs.declared.engine.fault.Fault.TheVariants as fault;
-ghost use Rattle.photon_cli.specs.Bulk.{AreBulkRanges, PrintsTotals, PrintsTotalsPrefix, bulk_values, plan_text};
+ghost use Rattle.photon_cli.specs.Bulk.{AreBulkRanges, PrintsTotals, PrintsTotalsPrefix, bulk_plan, bulk_values, rule};
 ghost use Rattle.photon_cli.specs.LogFaults.{IsOfBulk};
 
 use super::drill::drilled_lines;
 use super::fault::Fault;
-use crate::drill_store::stops_a_joiner;
 use crate::wanted::{BulkWanted, Wanted};
 use bulk_logs::laws::{report_kinds, sizes, valid_logs};
 use bulk_logs::make_logs;
-use lossy_link::Plan;
+use lossy_link::{Fate, Plan, Rule};
 use mem_outside::{MemFile, MemSource};
 use outside::{Gate, Sink};
 use report_text::write_totals;
@@ -30,19 +26,27 @@ use time_shards::Table;
 // One click in ten has a timestamp below it.
 const HORIZON: u64 = 1_000_000;
 
-const PLAN: &str =
-    "{\"rules\":[{\"from\":\"any\",\"to\":\"any\",\"first\":3,\"count\":1000,\"every\":7,\"fate\":\"drop\"},{\"from\":\"any\",\"to\":\"any\",\"first\":5,\"count\":1000,\"every\":11,\"fate\":\"twice\",\"by\":4}]}";
-
-// The plan. It has no stops.
-fn bulk_plan(alloc: Global) -> Result<Plan, Fault>
-    ensures plan { IfOk result (λ p. IsPlanOf plan_text p) }
-    ensures calm { IfOk result (λ p. list_any is_joiners p.stops ≡ false) }
-    ensures memory { IfErr result (λ f. f ≡ fault.Memory) }
+// A rule for a thousand packets of each link: the first of this ordinal, then one in so many.
+fn rule(first: u64, every: u32, fate: Fate) -> Rule
+    ensures { result ≡ rule first every fate }
 {
-    match Plan::read(alloc, PLAN.as_bytes()) {
-        Ok(plan) if !stops_a_joiner(&plan) => Ok(plan),
-        _ => Err(Fault::Memory),
+    Rule {
+        from: None,
+        to: None,
+        first,
+        count: 1000,
+        every,
+        fate,
     }
+}
+
+fn bulk_plan(alloc: Global) -> Result<Plan, AllocError>
+    ensures { IfOk result (λ p. p ≡ bulk_plan) }
+{
+    let mut rules = Vec::with_capacity(alloc, 2)?;
+    rules.push_reserved(rule(3, 7, Fate::Drop));
+    rules.push_reserved(rule(5, 11, Fate::Twice(4)));
+    Ok(Plan::new(rules, Vec::new(alloc), None))
 }
 
 fn file_of(alloc: Global, name: &str, bytes: Vec<u8>) -> Result<MemFile, AllocError>
@@ -102,9 +106,8 @@ where
     let Ok(mut files) = bulk_files(alloc, wanted.seed, wanted.clicks) else {
         return Err(Fault::Memory);
     };
-    let plan = match bulk_plan(alloc) {
-        Ok(plan) => plan,
-        Err(fault) => return Err(fault),
+    let Ok(plan) = bulk_plan(alloc) else {
+        return Err(Fault::Memory);
     };
     let asked = Wanted {
         names: Names {

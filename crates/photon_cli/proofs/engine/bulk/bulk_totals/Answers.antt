@@ -56,9 +56,9 @@ returns-in-Ok-write_totals-clause-done g c sinks =
     let run = c.in-Ok-drilled_lines.ensures.done refl in
     let lines = c.in-Ok-drilled_lines.lines.items in
     let plan = c.in-Ok-bulk_plan.plan in
-    let sums = bulk_totals told v few queries clicks c.valid_logs.ensures.queries c.valid_logs.ensures.clicks plan c.drilled_lines.new.ran.log lines c.in-Ok-bulk_plan.ensures.calm c.report_kinds.ensures.totals run in
+    let sums = bulk_totals told v few queries clicks c.valid_logs.ensures.queries c.valid_logs.ensures.clicks plan c.drilled_lines.new.ran.log lines c.in-Ok-bulk_plan.ensures c.report_kinds.ensures.totals run in
     let written = c.in-Ok-write_totals.ensures.all sinks ∙ ap (λ (ls : List ReportLine). g.K.Sink.held c.args.out.now ++ totals ls) c.deref.ensures.value ∙ ap (λ (t : List ℕ). g.K.Sink.held c.args.out.now ++ t) sums in
-    (bulk_run told v few queries clicks c.valid_logs.ensures.queries c.valid_logs.ensures.clicks plan c.drilled_lines.new.ran.log lines c.in-Ok-bulk_plan.ensures.plan run, written)
+    (bulk_run told v few queries clicks c.valid_logs.ensures.queries c.valid_logs.ensures.clicks plan c.drilled_lines.new.ran.log lines c.in-Ok-bulk_plan.ensures run, written)
 
 pub returns-in-Ok-write_totals-clause-bad_row : goal.returns-in-Ok-write_totals-clause-bad_row
 returns-in-Ok-write_totals-clause-bad_row g c n first =
@@ -76,9 +76,9 @@ returns-clause-prefix g c sinks e =
     let run = c.in-Ok-drilled_lines.ensures.done refl in
     let lines = c.in-Ok-drilled_lines.lines.items in
     let plan = c.in-Ok-bulk_plan.plan in
-    let sums = bulk_totals told v few queries clicks c.valid_logs.ensures.queries c.valid_logs.ensures.clicks plan c.drilled_lines.new.ran.log lines c.in-Ok-bulk_plan.ensures.calm c.report_kinds.ensures.totals run in
+    let sums = bulk_totals told v few queries clicks c.valid_logs.ensures.queries c.valid_logs.ensures.clicks plan c.drilled_lines.new.ran.log lines c.in-Ok-bulk_plan.ensures c.report_kinds.ensures.totals run in
     let took = subst (λ (t : List ℕ). TookPrefix (g.K.Sink.held c.args.out.now) t (g.K.Sink.held c.write_totals.new.sink)) (ap totals c.deref.ensures.value ∙ sums) (c.in-Err-write_totals.ensures.prefix sinks) in
-    (bulk_run told v few queries clicks c.valid_logs.ensures.queries c.valid_logs.ensures.clicks plan c.drilled_lines.new.ran.log lines c.in-Ok-bulk_plan.ensures.plan run, took)
+    (bulk_run told v few queries clicks c.valid_logs.ensures.queries c.valid_logs.ensures.clicks plan c.drilled_lines.new.ran.log lines c.in-Ok-bulk_plan.ensures run, took)
 
 pub returns-clause-bad_row : goal.returns-clause-bad_row
 returns-clause-bad_row g c n first =
