@@ -9,16 +9,10 @@ history, the nodes' phases and the number of open turns under a Mutex, with the 
 of three, less the same process with no turn. Where there is no rustc the Rust column is left out. Nothing is written outside a
 temporary folder.
 """
-import os
-import shutil
-import subprocess
 import sys
 import tempfile
 
-from timing import rust_program, seconds
-
-TOP = os.path.dirname(os.path.dirname(os.path.abspath(__file__)))
-CRATE = os.path.join(TOP, "crates/bench_parts")
+from shared import build_parts, rust_program, seconds
 
 RUST = r"""
 use std::sync::{Arc, Mutex};
@@ -74,13 +68,7 @@ fn main() {
 
 def main():
     turns = int(sys.argv[1]) if len(sys.argv) > 1 else 200_000
-    ours = os.path.join(CRATE, "out/bench_parts")
-    if shutil.which("rt") is not None:
-        print("building bench_parts; from nothing this takes some minutes", file=sys.stderr)
-        subprocess.run(["rt", "run", "--", "none"], cwd=CRATE, stdout=subprocess.DEVNULL, stderr=subprocess.DEVNULL, check=False)
-    if not os.path.exists(ours):
-        print("bench_parts isn't built: nothing timed")
-        return 1
+    ours = build_parts()
     with tempfile.TemporaryDirectory() as folder:
         rust = rust_program(folder, RUST)
         for threads in (1, 4, 8):

@@ -11,13 +11,10 @@ number of queries differs. A query line is read once by the check and once by ea
 memory is the check's, with 4 joiners the run's, of which each of the eight joiners has an eighth.
 """
 import os
-import subprocess
 import sys
 import tempfile
-import time
 
-TOP = os.path.dirname(os.path.dirname(os.path.abspath(__file__)))
-PHOTON = os.environ.get("PHOTON", os.path.join(TOP, "bin", "photon"))
+from shared import PHOTON, build, join_words, last_line, run
 
 
 def make_logs(folder, queries, clicks):
@@ -34,19 +31,12 @@ def make_logs(folder, queries, clicks):
 
 
 def join(program, folder, logs, clicks, joiners):
-    """Seconds of wall time, of the processors, and bytes of the largest resident set. Every click has to be joined."""
-    report, state = os.path.join(folder, "report"), tempfile.mkdtemp(dir=folder)
-    words = [program, "join", "--queries", logs[0], "--clicks", logs[1], "--state", state, "--joiners", joiners]
-    with open(report, "wb") as out:
-        began = time.perf_counter()
-        child = subprocess.Popen(words, stdout=out, stdin=subprocess.DEVNULL)
-        _, status, used = os.wait4(child.pid, 0)
-        took = time.perf_counter() - began
-    with open(report, encoding="ascii") as file:
-        last = file.read().splitlines()[-1] if status == 0 else ""
-    if last != f"= {clicks} 0 0 0":
-        sys.exit(f"bench: {program} ended with status {status} and totals {last!r}")
-    return took, used.ru_utime + used.ru_stime, 1024 * used.ru_maxrss
+    """What a join used. Every click has to be joined."""
+    report = os.path.join(folder, "report")
+    used = run(join_words(logs, tempfile.mkdtemp(dir=folder), joiners, program), report)
+    if last_line(report) != f"= {clicks} 0 0 0":
+        sys.exit(f"bench: the totals of {program} are {last_line(report)}")
+    return used
 
 
 def main():
@@ -58,21 +48,21 @@ def main():
             joiners = words[1]
         words = words[2:]
     numbers = [int(word) for word in words] or [100_000, 200, 1_000_000, 200, 1_000_000, 20_000]
-    # Builds the program where need be, so that no build is timed.
-    subprocess.run([PHOTON], stderr=subprocess.DEVNULL, stdout=subprocess.DEVNULL, check=False)
+    build()
     print(f"{'queries':>8} {'clicks':>7}  {'program':<8} {'seconds':>8} {'processor':>9} {'MB':>6}  a further query line")
     earlier = {}
     for queries, clicks in zip(numbers[::2], numbers[1::2]):
         with tempfile.TemporaryDirectory() as folder:
             logs = make_logs(folder, queries, clicks)
             for program in programs:
-                took, spent, held = join(program, folder, logs, clicks, joiners)
-                line = f"{queries:>8} {clicks:>7}  {'photon' if program == PHOTON else 'beside':<8} {took:>8.2f} {spent:>9.2f} {held / 1e6:>6.0f}"
+                used = join(program, folder, logs, clicks, joiners)
+                name = "photon" if program == PHOTON else "beside"
+                line = f"{queries:>8} {clicks:>7}  {name:<8} {used.wall:>8.2f} {used.processor:>9.2f} {used.megabytes:>6.0f}"
                 before = earlier.get((program, clicks))
                 if before and before[0] != queries:
                     further = queries - before[0]
-                    line += f"  {(held - before[2]) / further:.1f} bytes, {(spent - before[1]) / further * 1e6:.2f} us"
-                earlier[program, clicks] = queries, spent, held
+                    line += f"  {(used.megabytes - before[1].megabytes) / further * 1e6:.1f} bytes, {(used.processor - before[1].processor) / further * 1e6:.2f} us"
+                earlier[program, clicks] = queries, used
                 print(line, flush=True)
     return 0
 

@@ -12,16 +12,12 @@ process with the part `none`. Where there is no rustc the Rust column is left ou
 program's part `bus` is timed by bench/bus.py.
 """
 import os
-import shutil
-import subprocess
 import sys
 import tempfile
 import time
 
-from timing import rust_program, seconds
+from shared import build_parts, rust_program, seconds
 
-TOP = os.path.dirname(os.path.dirname(os.path.abspath(__file__)))
-CRATE = os.path.join(TOP, "crates/bench_parts")
 PARTS = ["apply", "apply_timed", "replay", "encode", "decode"]
 
 RUST = r"""
@@ -127,13 +123,7 @@ def air(program, count):
 
 def main():
     count = sys.argv[1] if len(sys.argv) > 1 else "1000000"
-    ours = os.path.join(CRATE, "out/bench_parts")
-    if shutil.which("rt") is not None:
-        print("building bench_parts; from nothing this takes some minutes", file=sys.stderr)
-        subprocess.run(["rt", "run", "--", "none"], cwd=CRATE, stdout=subprocess.DEVNULL, stderr=subprocess.DEVNULL, check=False)
-    if not os.path.exists(ours):
-        print("bench_parts isn't built: nothing timed")
-        return 1
+    ours = build_parts()
     with tempfile.TemporaryDirectory() as folder:
         rust = rust_program(folder, RUST)
         programs = [("photon", ours)] + ([("rust", rust)] if rust else [])
