@@ -17,7 +17,7 @@ and a sync, to one file and to as many at once as there are joiners. Ratios alon
 
 Printed are seconds of wall time, clicks a second, their ratio to sqlite3's, megabytes of the largest resident set, the bytes of the state and
 context switches a click. Where strace is here, a run of at most 1000 clicks counts threads and syncs, by disk, and, where valgrind is here, one
-of at most 200 rounds and turns (a turn adds two entries of under 100 bytes each to the run's history). Nothing is written outside the folder.
+of at most 200 rounds and turns. Nothing is written outside the folder.
 """
 import collections
 import os

@@ -6,9 +6,8 @@ usage: bench/parts.py [COUNT]      (default: 1000000)
 The program `bench_parts` does one part COUNT times: `apply` (inserts in batches of 64), `apply_timed` (the same where the ids
 are kept by time, under a bound that rises with each batch), `replay` (each insert asked once more, behind the applying),
 `encode` and `decode` (an Insert packet). Of the air between nodes (`air`) it sends COUNT packets, a third of them late, to one inbox, and
-takes them when all wait; told are the time a packet for a tenth of COUNT and for COUNT, and the memory an entry of the history takes
-with all else that is kept (four entries and a payload of four bytes a packet). Each is timed as a process, the best of three, less the same
-process with the part `none`. Where there is no rustc the Rust column is left out. Nothing is written outside a temporary folder. The
+takes them when all wait; told are the time a packet for a tenth of COUNT and for COUNT, and the memory that a packet of four bytes
+takes while it waits. Each is timed as a process, the best of three, less the same process with the part `none`. Where there is no rustc the Rust column is left out. Nothing is written outside a temporary folder. The
 program's part `bus` is timed by bench/bus.py.
 """
 import os
@@ -118,7 +117,7 @@ def air(program, count):
     few, many = count // 10, count
     each = {packets: (spent[packets] - spent[0]) / packets for packets in (few, many)}
     print(f"air          {each[many] * 1e6:8.2f} microseconds a packet with {many} in the inbox, {each[many] / each[few]:.2f} of that with {few}")
-    print(f"             {(memory[many] - memory[0]) / (4 * many):8.0f} bytes an entry in all")
+    print(f"             {(memory[many] - memory[0]) / many:8.0f} bytes a packet that waits")
 
 
 def main():

@@ -1,5 +1,5 @@
 -- What one entry does to all parts of an Air.
-use Rattle.std.proofs.Common.{◌≡◌, ℕ, ◌+◌, ◌<◌, ◌≤◌, ◌==◌, Bool, if◌then◌else◌, List, [], ◌∷◌, ◌++◌, length, get_or, set, refl, sym, ap, ◌∙◌, subst, arith}
+use Rattle.std.proofs.Common.{◌≡◌, ℕ, ◌+◌, ◌<◌, ◌^◌, ◌==◌, Bool, if◌then◌else◌, List, [], ◌∷◌, ◌++◌, length, get_or, set, refl, sym, ap, ◌∙◌, subst, arith, length-append}
 use Rattle.std.specs.Prelude.{Option}
 use Rattle.std.proofs.lemmas.List.{length-set, get_or_read}
 use Rattle.std.proofs.lemmas.List.Sums.{fold_push}
@@ -18,37 +18,36 @@ use Rattle.air_bus.specs.Copies.{next_copy}
 use Rattle.air_bus.specs.Waiting.{Received, received, waiting, after_entry, taken_by, nothing}
 use Rattle.air_bus.proofs.Phases.{phases_kept, open_set, aired_more}
 
-module _ (plan : PlanView) (kinds : List Kind) (phases : List Phase) (turns : ℕ) (inboxes : List Inbox) (h : List Entry) (entries room : ℕ) (was : Agrees plan kinds phases turns inboxes h entries room) where
-  -- room grew, and the inboxes hold what they held
-  pub agrees_same : (inboxes' : List Inbox) (h' : List Entry) (entries' room' : ℕ) → length inboxes' ≡ length inboxes → AllTurn inboxes inboxes' (λ n r. r) → h' ≡ h → entries' ≡ entries → room ≤ room'
-      → Agrees plan kinds phases turns inboxes' h' entries' room'
-  agrees_same inboxes' h' entries' room' many turn is count more = subst (λ hs. Agrees plan kinds phases turns inboxes' hs entries' room') (sym is) (record {
+module _ (plan : PlanView) (kinds : List Kind) (phases : List Phase) (turns : ℕ) (inboxes : List Inbox) (h : List Entry) (was : Agrees plan kinds phases turns inboxes h) where
+  -- the inboxes hold what they held
+  pub agrees_same : (inboxes' : List Inbox) → length inboxes' ≡ length inboxes → AllTurn inboxes inboxes' (λ n r. r) → Agrees plan kinds phases turns inboxes' h
+  agrees_same inboxes' many turn = record {
     phase_each = was.phase_each;
     phase_many = was.phase_many;
     counted = was.counted;
-    closes = omega (arith, was.closes, count, more);
+    closes = was.closes;
     many = many ∙ was.many;
     inbox_each = λ n d inside. turn n d (omega (arith, inside, was.many)) (length kinds) (received plan kinds n h) (was.inbox_each n d inside);
     aired = was.aired;
-  })
+  }
 
   pub wide_of : AreWide (length kinds) inboxes
   wide_of = λ k d below. (was.inbox_each k d (omega (arith, below, was.many))).width
 
   -- one entry more
-  pub agrees_more : (l : Entry) (at : ℕ) (p : Phase) (turns' : ℕ) (inboxes' : List Inbox) (h' : List Entry) (entries' room' : ℕ)
-      → at ≡ node_of l → node_of l < length kinds → phase_after l ≡ p → turns' + open_of (phase (node_of l) h) ≡ turns + open_of p → entries' + turns' ≤ room' → h' ≡ h ++ l ∷ []
+  pub agrees_more : (l : Entry) (at : ℕ) (p : Phase) (turns' : ℕ) (inboxes' : List Inbox) (h' : List Entry)
+      → at ≡ node_of l → node_of l < length kinds → phase_after l ≡ p → turns' + open_of (phase (node_of l) h) ≡ turns + open_of p → length h + 1 + turns' < 2 ^ 63 → h' ≡ h ++ l ∷ []
       → MayFollow plan kinds h l → length inboxes' ≡ length inboxes → AllTurn inboxes inboxes' (λ n r. after_entry plan kinds n r l)
-      → Agrees plan kinds (set phases at p) turns' inboxes' h' entries' room'
-  agrees_more l at p turns' inboxes' h' entries' room' here inside after count fits is may many turn =
+      → Agrees plan kinds (set phases at p) turns' inboxes' h'
+  agrees_more l at p turns' inboxes' h' here inside after count fits is may many turn =
       let below : at < length phases = omega (arith, here, inside, was.phase_many) in
       let stood : get_or phases at Down ≡ phase (node_of l) h = was.phase_each at ∙ ap (λ k. phase k h) here in
       let opened = open_set phases at p (phase (node_of l) h) below stood in
-      subst (λ hs. Agrees plan kinds (set phases at p) turns' inboxes' hs entries' room') (sym is) (record {
+      subst (λ hs. Agrees plan kinds (set phases at p) turns' inboxes' hs) (sym is) (record {
         phase_each = phases_kept phases h l at p below (sym here) after was.phase_each;
         phase_many = length-set phases at p ∙ was.phase_many;
         counted = omega (arith, opened, count, was.counted);
-        closes = fits;
+        closes = omega (arith, fits, length-append h (l ∷ []));
         many = many ∙ was.many;
         inbox_each = λ n d inside. subst (Keeps (length kinds) (get_or inboxes' n d)) (sym (fold_push (after_entry plan kinds n) nothing h l))
             (turn n d (omega (arith, inside, was.many)) (length kinds) (received plan kinds n h) (was.inbox_each n d inside));

@@ -4,6 +4,8 @@ pub mod Queues
 pub mod Waiting
 pub mod Inboxes
 pub mod History
+pub mod Trails
+pub mod Kept
 pub mod Airs
 pub mod Rows
 pub mod Laws

@@ -1,11 +1,14 @@
 //! The history of a run, and what waits between its nodes.
-ghost use Rattle.std.specs.Prelude.{◌≡◌, ◌≢◌, ℕ, ◌+◌, ◌<◌, ◌≤◌, ◌^◌, ◌↔◌, false, [], ◌∷◌, ◌++◌, length, IfOk, OnErr, IsTrue, MatchOption};
+ghost use Rattle.std.specs.Prelude.{◌≡◌, ◌≢◌, ℕ, ◌+◌, ◌<◌, ◌≤◌, ◌^◌, ◌↔◌, false, [], ◌∷◌, ◌++◌, length, IfOk, IfSome, OnErr, IsTrue, MatchOption};
+ghost use Rattle.std.specs.List.{list_any};
 ghost use Rattle.air_bus.specs.declared.entry.Entry.TheVariants.{Begin, End, Stop};
 ghost use Rattle.air_bus.specs.declared.entry.Phase.TheVariants.{Busy};
 ghost use Rattle.air_bus.specs.History.{phase, input_of, adds, IsQuiet, IsAired};
+ghost use Rattle.air_bus.specs.Kept.{is_stop_from};
 ghost use Rattle.air_bus.specs.Waiting.{is_dead, LeftOut};
 
 use crate::entry::{Entry, Input, Phase};
+use crate::history::History;
 use crate::inbox::Inbox;
 use crate::links::Links;
 use crate::nodes::{all_down, all_empty, all_idle, choose, empty_inboxes, leave};
@@ -15,36 +18,58 @@ use lossy_link::{Kind, Plan};
 use std::alloc::{AllocError, Global};
 use std::marker::Model;
 
+// No history is longer.
+const MOST_ENTRIES: usize = (1 << 63) - 1;
+
 /// What is between the nodes of a run: the history of their turns, and the packets that wait. Contracts see the kinds of
 /// the nodes, the plan and the history; the nodes have the numbers from 0 in the order of their kinds.
 ///
-/// An entry takes less than 100 bytes beside its payloads and its list of packets, and a payload's bytes are stored once:
-/// history, inboxes and answers share them. Each link from a node to a node takes 8 bytes for its count of packets.
+/// The history takes no memory, since contracts alone see it. A payload's bytes are stored once: inboxes and answers share
+/// them. Each link from a node to a node takes 8 bytes for its count of packets.
 #[derive(Drop)]
 pub struct Air {
     links: Links,
     phases: Vec<Phase>,
-    // How many turns are open. The history has room for an entry that closes each.
+    // How many turns are open. The history is short even where each is closed.
     busy: usize,
     inboxes: Vec<Inbox>,
-    history: Vec<Entry>,
+    history: History,
 }
 
 impl Model for Air {
-    ghost use Rattle.std.specs.Prelude.{vec_len, vec_capacity};
     ghost use Rattle.air_bus.specs.History.{Flight};
     ghost use Rattle.air_bus.specs.Airs.{Agrees};
 
     ghost Value = { Flight };
 
-    ghost view = { λ a. record { kinds = a.links.kinds.items; plan = a.links.plan; history = a.history.items } };
+    ghost view = { λ a. record { kinds = a.links.kinds.items; plan = a.links.plan; history = a.history } };
 
-    ghost invariant = { λ a. Agrees a.links.plan a.links.kinds.items a.phases.items a.busy a.inboxes.items a.history.items (vec_len a.history) (vec_capacity a.history) };
+    ghost invariant = { λ a. Agrees a.links.plan a.links.kinds.items a.phases.items a.busy a.inboxes.items a.history };
 }
 
 impl Air {
     /// An Air of nodes of these kinds, all down, without a turn yet. It takes memory for each node and each link.
     pub fn new(alloc: Global, nodes: &[Kind], plan: Plan) -> Result<Air, AllocError>
+        ensures { IfOk result (λ a. a ≡ record { kinds = nodes.now; plan = plan; history = [] }) }
+    {
+        Air::over(alloc, nodes, plan, None)
+    }
+
+    /// As `new`, and it keeps a record of the entries, for tests and drills. The record takes memory for each entry with its
+    /// payloads, and is given up where there is none.
+    pub fn recorded(alloc: Global, nodes: &[Kind], plan: Plan) -> Result<Air, AllocError>
+        ensures { IfOk result (λ a. a ≡ record { kinds = nodes.now; plan = plan; history = [] }) }
+    {
+        Air::over(alloc, nodes, plan, Some(Vec::new(alloc)))
+    }
+
+    fn over(
+        alloc: Global,
+        nodes: &[Kind],
+        plan: Plan,
+        entries: Option<Vec<Entry>>,
+    ) -> Result<Air, AllocError>
+        requires { IfSome entries (λ r. r.items ≡ []) }
         ensures { IfOk result (λ a. a ≡ record { kinds = nodes.now; plan = plan; history = [] }) }
     {
         let links = Links::new(alloc, nodes, plan)?;
@@ -55,7 +80,7 @@ impl Air {
             phases,
             busy: 0,
             inboxes,
-            history: Vec::new(alloc),
+            history: History::new(entries),
         })
     }
 
@@ -82,11 +107,25 @@ impl Air {
         self.phases[usize::from(node)]
     }
 
-    /// The entries so far, one of each call that opened or closed a turn, in constant time.
-    pub fn history(&self) -> &[Entry]
-        ensures { result.now ≡ self.now.history }
+    /// How many entries there are, one of each call that opened or closed a turn, in constant time.
+    pub fn entries(&self) -> usize
+        ensures { result ≡ length self.now.history }
     {
-        &self.history
+        self.history.len()
+    }
+
+    /// Whether a node from this number on has stopped, in constant time.
+    pub fn has_stop_from(&self, first: u16) -> bool
+        ensures { result ≡ list_any (is_stop_from first) self.now.history }
+    {
+        self.history.has_stop_from(first)
+    }
+
+    /// The entries, in constant time, of an Air that keeps a record of them.
+    pub fn record(&self) -> Option<&[Entry]>
+        ensures { IfSome result (λ r. r.now ≡ self.now.history) }
+    {
+        self.history.record()
     }
 
     /// Shows that each entry of the history may follow those before it.
@@ -100,9 +139,8 @@ impl Air {
     /// packets of least delay that wait for it; else a tick where `tick` is set; else its own work where it `wants`. Of
     /// the packets that are left each positive delay is then one less. Where there is nothing no turn opens.
     ///
-    /// It takes memory for this entry and for the one that closes the turn, and with an error nothing has changed. Of an
-    /// inbox of n packets it takes one in O(log n), and moves each whose delay is over to those without delay, once for
-    /// each packet, in O(log n).
+    /// With an error nothing has changed. Of an inbox of n packets it takes one in O(log n), and moves each whose delay is
+    /// over to those without delay, once for each packet, in O(log n).
     pub fn begin(&mut self, node: u16, wants: bool, tick: bool) -> Result<Option<Input>, AllocError>
         requires node { node < length self.old.kinds }
         requires live { is_dead self.old.plan.dead self.old.kinds node ≡ false }
@@ -112,8 +150,10 @@ impl Air {
         ensures err { OnErr result (self.new ≡ self.old) }
         ensures short { length self.new.history < 2 ^ 63 }
     {
-        // One place is for this entry, and one for the entry that closes the turn.
-        self.history.reserve(self.busy + 2)?;
+        // This entry comes, and later the one that closes the turn.
+        if self.history.len() + self.busy + 2 > MOST_ENTRIES {
+            return Err(AllocError);
+        }
         let at = usize::from(node);
         let phase = self.phases[at];
         let chosen = choose(&mut self.inboxes, at, phase, wants, tick)?;
@@ -123,8 +163,7 @@ impl Air {
         };
         let noted = input.share()?;
         leave(&mut self.inboxes, at, &input);
-        self.history
-            .push_reserved(Entry::Begin { node, input: noted });
+        self.history.add(Entry::Begin { node, input: noted });
         self.phases[at] = Phase::Busy;
         self.busy += 1;
         Ok(Some(input))
@@ -135,7 +174,7 @@ impl Air {
     /// node has. From the first packet on for which an inbox can't grow they are lost, and the entry tells the number of
     /// those before it; they count in their links all the same.
     ///
-    /// The history needs no memory. A packet costs O(log n) in an inbox of n, and the bytes of none are copied.
+    /// A packet costs O(log n) in an inbox of n, and the bytes of none are copied.
     pub fn end(&mut self, node: u16, note: Option<Payload>, packets: Packets)
         requires node { node < length self.old.kinds }
         requires busy { phase node self.old.history ≡ Busy }
@@ -143,7 +182,7 @@ impl Air {
         ensures short { length self.new.history < 2 ^ 63 }
     {
         let kept = send(&mut self.inboxes, &self.links, node, packets.as_slice());
-        self.history.push_reserved(Entry::End {
+        self.history.add(Entry::End {
             node,
             note,
             packets,
@@ -161,7 +200,7 @@ impl Air {
         ensures entry { self.new ≡ adds self.old (Stop node landed) }
         ensures short { length self.new.history < 2 ^ 63 }
     {
-        self.history.push_reserved(Entry::Stop { node, landed });
+        self.history.add(Entry::Stop { node, landed });
         self.phases[usize::from(node)] = Phase::Down;
         self.busy -= 1;
     }

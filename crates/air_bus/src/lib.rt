@@ -4,6 +4,7 @@
 
 mod air;
 mod entry;
+mod history;
 mod inbox;
 pub mod laws;
 mod links;
@@ -12,6 +13,7 @@ mod payload;
 mod queue;
 pub mod rows;
 mod send;
+mod trail;
 
 pub use air::Air;
 pub use entry::{Entry, Input, Phase};

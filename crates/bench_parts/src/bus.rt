@@ -17,5 +17,5 @@ pub fn entries<R: Threads + Wait + Sync>(
 ) -> Result<u64, AllocError> {
     let nodes = &NODES[..(threads as usize).min(NODES.len())];
     let (air, _, _) = run(rt, alloc, nodes, turns, false)?;
-    Ok(air.history().len() as u64)
+    Ok(air.entries() as u64)
 }

@@ -224,7 +224,7 @@ fn nodes_run_on_threads_until_all_rest(rt: HostRuntime) -> Result<(), Fail> {
         Puppet::new(alloc, 0, 3, Stops::Never, true),
         Puppet::new(alloc, 1, 5, Stops::At(3), true),
     )?;
-    let Ok(ran) = run(&rt, alloc, &kinds, plan, nodes, &OpenGate) else {
+    let Ok(ran) = run(&rt, alloc, &kinds, plan, nodes, &OpenGate, false) else {
         return Err("memory".into());
     };
     assert!(rt; ran.rest);
@@ -243,7 +243,7 @@ fn a_fault_ends_the_rounds(rt: HostRuntime) -> Result<(), Fail> {
         Puppet::new(alloc, 0, 3, Stops::Never, true),
         Puppet::new(alloc, 1, 5, Stops::Never, false),
     )?;
-    let Ok(ran) = run(&rt, alloc, &kinds, plan, nodes, &OpenGate) else {
+    let Ok(ran) = run(&rt, alloc, &kinds, plan, nodes, &OpenGate, false) else {
         return Err("memory".into());
     };
     assert!(rt; !ran.rest);

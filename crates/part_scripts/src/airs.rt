@@ -6,7 +6,8 @@ use std::alloc::Global;
 
 /// `nodes KIND..` under the plan that was gathered. `begin NODE`, `begin NODE wants`, `begin NODE wants tick`: what the turn begins
 /// with. `end NODE PACKET..`: it ends, and sends these packets, each a node and bytes, as `1=61`. `stop NODE`. `turn NODE PACKET..`
-/// begins and ends a turn, if there is something to take. `quiet`, `entries`, `kept`, `sizes`.
+/// begins and ends a turn, if there is something to take. `stops NODE`: whether a node from this number on has stopped. `quiet`,
+/// `entries`, `kept`, `sizes`.
 #[derive(Drop)]
 pub struct Airs {
     air: Option<Air>,
@@ -47,7 +48,7 @@ fn opened(alloc: Global, plan: &[u8], words: &mut Words<'_>) -> Result<Air, Stop
     for word in &mut words.left {
         kinds.push(kind(word)?)?;
     }
-    Ok(Air::new(alloc, &kinds, plan)?)
+    Ok(Air::recorded(alloc, &kinds, plan)?)
 }
 
 fn kind(word: &str) -> Result<Kind, Stop> {
@@ -90,6 +91,7 @@ fn asked(
         }
         "quiet" => Ok(format!(in alloc; "{}", air.quiet())?),
         "entries" => entries(alloc, air),
+        "stops" => Ok(format!(in alloc; "{}", air.has_stop_from(words.number()?))?),
         "kept" => kept(alloc, air),
         "sizes" => sizes(alloc),
         _ => Err(Stop::Words),
@@ -148,12 +150,12 @@ fn stop(air: &mut Air, node: u16) {
 }
 
 fn entries(alloc: Global, air: &Air) -> Result<String, Stop> {
-    Ok(format!(in alloc; "{} entries", air.history().len())?)
+    Ok(format!(in alloc; "{} entries", air.entries())?)
 }
 
 // How many packets of the last turn found room.
 fn kept(alloc: Global, air: &Air) -> Result<String, Stop> {
-    match air.history().last() {
+    match air.record().and_then(|entries| entries.last()) {
         Some(Entry::End { node, kept, .. }) => Ok(format!(in alloc; "{kept} of {node}")?),
         _ => Ok(format!(in alloc; "no end")?),
     }

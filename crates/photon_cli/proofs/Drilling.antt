@@ -11,6 +11,7 @@ use Rattle.lossy_link.specs.Fates.{PlanView}
 use Rattle.air_bus.specs.declared.entry.Entry.{Entry}
 use Rattle.air_bus.specs.declared.entry.Entry.TheVariants.{Begin, End, Stop}
 use Rattle.air_bus.specs.History.{is_of, IsAired}
+use Rattle.air_bus.specs.Kept.{is_stop_from}
 use Rattle.bus_seat.specs.Seats.{IsIn}
 use Rattle.log_records.specs.declared.report.ReportLine.{ReportLine}
 use Rattle.turn_defs.specs.Setting.{Setting}
@@ -19,7 +20,7 @@ use Rattle.site_laws.specs.Laws.{made_by}
 use Rattle.site_workers.specs.Works.{is_stop}
 use Rattle.site_run.specs.Joined.{RanAfresh}
 use Rattle.site_run.specs.declared.ran.RunLog.{RunLog}
-use Rattle.photon_cli.specs.Drill.{IsDrilled, is_late_stop}
+use Rattle.photon_cli.specs.Drill.{IsDrilled}
 
 -- an entry that may be the node's, before others: if it is, it is no stop
 one_more : (own stops rest : Bool) (e : Entry) (j : ℕ) (h : List Entry) → is_of j e ≡ own → is_stop e ≡ stops → (own ≡ true → stops ≡ false) → list_any is_stop (made_by j h) ≡ false → list_any is_stop (made_by j (e ∷ h)) ≡ false
@@ -35,12 +36,12 @@ either true b e = absurd cc
 either false b e = (refl, e)
 
 -- where no node from the seventh on has stopped, none of these has
-pub none_late : (h : List Entry) (j : ℕ) → 7 ≤ j → list_any is_late_stop h ≡ false → list_any is_stop (made_by j h) ≡ false
+pub none_late : (h : List Entry) (j : ℕ) → 7 ≤ j → list_any (is_stop_from 7) h ≡ false → list_any is_stop (made_by j h) ≡ false
 none_late [] j late none = refl
 none_late (Begin node input ∷ h) j late none = one_more (node == j) false false (Begin node input) j h refl refl (λ own. refl) (none_late h j late none)
 none_late (End node noted packets kept ∷ h) j late none = one_more (node == j) false false (End node noted packets kept) j h refl refl (λ own. refl) (none_late h j late none)
 none_late (Stop node landed ∷ h) j late none =
-    let both = either (nat_le 7 node) (list_any is_late_stop h) none in
+    let both = either (nat_le 7 node) (list_any (is_stop_from 7) h) none in
     one_more (node == j) true false (Stop node landed) j h refl refl (not_own node j late both.0) (none_late h j late both.1)
 
 -- ---- disks in memory

@@ -1,11 +1,9 @@
 -- What a drill does: both sites run over disks in memory that hold nothing at first, and a plan says what goes wrong.
-use Rattle.std.specs.Prelude.{ℕ, ◌≡◌, Bool, false, nat_le, List, ◌++◌, map, Option, IsSomeAnd}
+use Rattle.std.specs.Prelude.{ℕ, ◌≡◌, false, List, ◌++◌, map, Option, IsSomeAnd}
 use Rattle.std.specs.List.{All, list_any}
 use Rattle.lossy_link.specs.Fates.{PlanView}
 use Rattle.lossy_link.specs.Plans.{IsPlanOf, IsFirstBad}
 use Rattle.lossy_link.specs.declared.bad_plan.Field.{Field}
-use Rattle.air_bus.specs.declared.entry.Entry.{Entry}
-use Rattle.air_bus.specs.declared.entry.Entry.TheVariants.{Begin, End, Stop}
 use Rattle.air_bus.specs.History.{IsAired}
 use Rattle.bus_seat.specs.Seats.{IsIn}
 use Rattle.log_records.specs.Lines.{ClickLine}
@@ -27,12 +25,6 @@ pub record IsDrilled (g : Setting) (plan : PlanView) (lines : List ReportLine) (
   pub lists : All (IsIn log.air.history) log.seen.items
   pub aired : IsAired plan log.air.kinds log.air.history
   pub whole : list_any is_joiners plan.stops ≡ false → lines ≡ map (logs.line_of g.queries g.horizon) (logs.distinct (map (λ (l : ClickLine). l.click) g.clicks))
-
--- a node from the first joiner's number on has stopped
-abbrev pub is_late_stop : Entry → Bool
-is_late_stop (Begin node input) = false
-is_late_stop (End node noted packets kept) = false
-is_late_stop (Stop node landed) = nat_le 7 node
 
 -- Here told says what bytes are under a name.
 module _ (told : List ℕ → Option (List ℕ)) where

@@ -12,7 +12,11 @@ const PAIR: u8 = 6;
 /// the node has entries; `extra KIND KIND`: whether nodes of one kind took more packets than those of another sent them.
 pub fn told(alloc: Global, ran: &Ran, word: &str, words: &mut Words<'_>) -> Result<String, Stop> {
     let none: &[Entry] = &[];
-    let entries = ran.log.as_ref().map_or(none, |log| log.air.history());
+    let entries = ran
+        .log
+        .as_ref()
+        .and_then(|log| log.air.record())
+        .unwrap_or(none);
     let are_some = match word {
         "pairs" => return Ok(pairs(entries).to_string(alloc)?),
         "extra" => return extra(alloc, entries, words),

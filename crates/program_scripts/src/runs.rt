@@ -68,7 +68,7 @@ impl Runs {
             holds: [NO_HOLD; 2],
             last: Vec::new(alloc),
             whole: Vec::new(alloc),
-            ran: Ran::new(),
+            ran: Ran::recorded(),
             limit: false,
         }
     }
@@ -132,7 +132,7 @@ impl Runs {
         let mut source = source;
         let mut out = self.out.sink(self.alloc)?;
         let gate = HeldGate::new(self.holds, LOOKS);
-        self.ran = Ran::new();
+        self.ran = Ran::recorded();
         let status = photon(
             rt,
             self.alloc,

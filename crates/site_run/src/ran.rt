@@ -23,6 +23,8 @@ pub struct RunLog {
 #[derive(Drop)]
 pub struct Ran {
     pub log: Option<RunLog>,
+    /// Whether a run is to keep the entries of its history.
+    pub is_recorded: bool,
 }
 
 impl Ran {
@@ -30,6 +32,19 @@ impl Ran {
     pub fn new() -> Ran
         ensures { result.log ≡ None }
     {
-        Ran { log: None }
+        Ran {
+            log: None,
+            is_recorded: false,
+        }
+    }
+
+    /// Of no run. The next one keeps the entries of its history.
+    pub fn recorded() -> Ran
+        ensures { result.log ≡ None }
+    {
+        Ran {
+            log: None,
+            is_recorded: true,
+        }
     }
 }

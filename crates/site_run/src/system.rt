@@ -128,7 +128,8 @@ where
     read();
     let mut parts = parts;
     parts.disks.push_reserved(topology);
-    match run_nodes(rt, alloc, kinds(joiners), plan, nodes, gate) {
+    let is_recorded = ran.is_recorded;
+    match run_nodes(rt, alloc, kinds(joiners), plan, nodes, gate, is_recorded) {
         Ok(left) => {
             let site_workers::Ran {
                 air,

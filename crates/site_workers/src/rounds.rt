@@ -47,7 +47,7 @@ struct Room<N: SiteNode> {
 /// the next.
 ///
 /// It takes memory for the bus and the lists before the first round, and hands the nodes back where that is wanting; in a round
-/// the bus and the nodes take theirs.
+/// the bus and the nodes take theirs. A run that is recorded keeps the entries of its history too.
 pub fn run<R: Threads + Wait + Sync, N: SiteNode + Send + Drop, G: Gate>(
     rt: &R,
     alloc: Global,
@@ -55,6 +55,7 @@ pub fn run<R: Threads + Wait + Sync, N: SiteNode + Send + Drop, G: Gate>(
     plan: Plan,
     nodes: Vec<N>,
     gate: &G,
+    is_recorded: bool,
 ) -> Result<Ran<N>, (AllocError, Vec<N>)>
     requires count { length nodes.items ≡ length kinds.now }
     requires few { length kinds.now < 2 ^ 16 }
@@ -84,7 +85,7 @@ pub fn run<R: Threads + Wait + Sync, N: SiteNode + Send + Drop, G: Gate>(
         Rests N.number N.stands N.at_rest_as (slice_index_or r.nodes.items i b) (made_by i r.air.history)) }
     ensures back { IfErr result (λ e. e.1 ≡ nodes) }
 {
-    match set_up(alloc, kinds, plan) {
+    match set_up(alloc, kinds, plan, is_recorded) {
         Ok((bus, seats, room)) => Ok(run_on(rt, bus, seats, room, nodes, gate)),
         Err(error) => Err((error, nodes)),
     }
@@ -95,6 +96,7 @@ fn set_up<N: SiteNode + Drop>(
     alloc: Global,
     kinds: &[Kind],
     plan: Plan,
+    is_recorded: bool,
 ) -> Result<(Bus, Vec<Seat>, Room<N>), AllocError>
     requires few { length kinds.now < 2 ^ 16 }
     ensures air { IfOk result (λ r. r.0.base ≡ record { kinds = kinds.now; plan = plan; history = [] }) }
@@ -111,7 +113,11 @@ fn set_up<N: SiteNode + Drop>(
         nodes: Vec::with_capacity(alloc, count)?,
         seen: Vec::with_capacity(alloc, count + 1)?,
     };
-    let air = Air::new(alloc, kinds, plan)?;
+    let air = if is_recorded {
+        Air::recorded(alloc, kinds, plan)?
+    } else {
+        Air::new(alloc, kinds, plan)?
+    };
     let (bus, seats) = Bus::new(alloc, air)?;
     Ok((bus, seats, room))
 }

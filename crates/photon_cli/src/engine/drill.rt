@@ -15,7 +15,7 @@ ghost use Rattle.site_laws.specs.Laws.{made_by};
 ghost use Rattle.site_workers.specs.Works.{is_stop};
 ghost use Rattle.site_run.specs.Asked.{OfSetting};
 ghost use Rattle.photon_cli.specs.declared.engine.fault.Fault.TheVariants as fault;
-ghost use Rattle.photon_cli.specs.Drill.{is_late_stop, Drills, IsBadIn, IsDrilled, IsPlanIn, PrintsDrill, PrintsDrillPrefix};
+ghost use Rattle.photon_cli.specs.Drill.{Drills, IsBadIn, IsDrilled, IsPlanIn, PrintsDrill, PrintsDrillPrefix};
 ghost use Rattle.photon_cli.specs.Join.{AreValid, HaveIds, Refuses};
 ghost use Rattle.photon_cli.specs.LogFaults.{IsBeforeLogs, IsEarlyInDrill, IsFailedRead, IsFair, IsLogFault, IsOfRun, failed_read};
 ghost use Rattle.photon_cli.specs.Words.{AreInRanges, IsTextOf, values_in};
@@ -27,7 +27,6 @@ use super::run::run_lines;
 use crate::drill_store::{stops_a_joiner, store_for};
 use crate::log_check::CheckedLog;
 use crate::wanted::Wanted;
-use air_bus::Entry;
 use log_records::ReportLine;
 use lossy_link::Plan;
 use mem_outside::MemStore;
@@ -43,29 +42,12 @@ use time_shards::Table;
 // The number of the first joiner's node.
 const FIRST_JOINER: u16 = 7;
 
-fn is_late_stop(entry: &Entry) -> bool
-    ensures { result ≡ is_late_stop entry.now }
-{
-    match entry {
-        Entry::Stop { node, .. } => *node >= FIRST_JOINER,
-        Entry::Begin { .. } => false,
-        Entry::End { .. } => false,
-    }
-}
-
-// Whether a node from the first joiner's number on has stopped.
-fn has_late_stop(history: &[Entry]) -> bool
-    ensures { result ≡ list_any is_late_stop history.now }
-{
-    history.iter().any(is_late_stop)
-}
-
 // Whether a joiner has stopped in the run, if there was one.
 fn joiner_stopped(ran: &Ran) -> bool
     ensures { result ≡ false → IfSome ran.now.log (λ l. (j : ℕ) → 7 ≤ j → list_any is_stop (made_by j l.air.history) ≡ false) }
 {
     match &ran.log {
-        Some(log) => has_late_stop(log.air.history()),
+        Some(log) => log.air.has_stop_from(FIRST_JOINER),
         None => false,
     }
 }

@@ -30,6 +30,7 @@ pub fn run_nodes<R: Threads + Wait + Sync, N: SystemNode + Send + Drop, G: Gate>
     plan: Plan,
     nodes: Vec<N>,
     gate: &G,
+    is_recorded: bool,
 ) -> Result<Ran<N>, (AllocError, Vec<N>)>
     requires count { length nodes.items ≡ length kinds.now }
     requires few { length kinds.now < 2 ^ 16 }
@@ -59,5 +60,5 @@ pub fn run_nodes<R: Threads + Wait + Sync, N: SystemNode + Send + Drop, G: Gate>
     site_laws::aired_is_run();
     site_laws::numbers_end();
     site_laws::rest_of_states();
-    run(rt, alloc, kinds, plan, nodes, gate)
+    run(rt, alloc, kinds, plan, nodes, gate, is_recorded)
 }

@@ -2,9 +2,13 @@ use Rattle.std.proofs.Common.{rules, ◌∙◌, ap, slice_index_or, subst}
 use denote.Exit.{no as leaves_none}
 use denote.Param.{param}
 use denote.Param.Send.{param_send, param_sync, arg_send, arg_sync}
+use Rattle.site_workers.proofs.Crossing.{worker_send}
 use Rattle.site_workers.specs.Works.{WorkerView}
 use Rattle.site_workers.specs.Rounds.{WentOn}
 use Rattle.site_workers.proofs.rounds.round.Goals as goal
+
+pub for_each_mut-requires-send-T : goal.for_each_mut-requires-send-T
+for_each_mut-requires-send-T g c κs within = param_send 1 _ (arg_send _ leaves_none _ (worker_send (param 1 g.row.N) g.N.SiteNode c.type_bounds.send-N))
 
 pub for_each_mut-requires-clause-accepts : goal.for_each_mut-requires-clause-accepts
 for_each_mut-requires-clause-accepts g c κs lives k p below at =

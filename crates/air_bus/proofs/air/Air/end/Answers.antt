@@ -1,5 +1,4 @@
 use Rattle.std.proofs.Common.{◌≡◌, ◌-◌, ◌<◌, ◌≤◌, length, refl, ap, ◌∙◌, subst, arith}
-use Rattle.std.specs.Prelude.{vec_len, vec_capacity}
 use Rattle.air_bus.specs.declared.entry.Entry.TheVariants.{End}
 use Rattle.air_bus.specs.declared.entry.Phase.TheVariants.{Idle, Busy}
 use Rattle.air_bus.specs.Airs.{open_of}
@@ -13,7 +12,7 @@ use Rattle.air_bus.proofs.air.Air.end.Goals as goal
 pub invariant_of-self : goal.invariant_of-self
 invariant_of-self c =
     let a = c.self.inside in
-    let h = a.history.items in
+    let h = a.history in
     let plan = a.links.plan in
     let kinds = a.links.kinds.items in
     let ps = a.phases.items in
@@ -25,7 +24,7 @@ invariant_of-self c =
     let opened = ap open_of may in
     let few : kept ≤ length c.args.packets = omega (arith, c.send-kept.ensures.kept, ap length c.as_slice.ensures) in
     let sent = subst (λ packets. AllTurn a.inboxes.items c.send-kept.new.inboxes.items (λ n. puts plan kinds n c.args.node packets kept)) c.as_slice.ensures c.send-kept.ensures.sent in
-    agrees_more plan kinds ps a.busy a.inboxes.items h (vec_len a.history) (vec_capacity a.history) c.self.invariant
-    (End c.args.node c.args.note c.args.packets kept) c.from.result Idle (a.busy - 1) c.send-kept.new.inboxes.items c.push_reserved.new.self.items (vec_len c.push_reserved.new.self) (vec_capacity c.push_reserved.new.self)
-    c.from.ensures inside refl (omega (arith, opened, some, c.self.invariant.counted)) (omega (arith, some, c.self.invariant.counted, c.self.invariant.closes, c.push_reserved.ensures.len, c.push_reserved.ensures.capacity))
-    c.push_reserved.ensures.items (may, few) c.send-kept.ensures.nodes sent
+    agrees_more plan kinds ps a.busy a.inboxes.items h c.self.invariant
+    (End c.args.node c.args.note c.args.packets kept) c.from.result Idle (a.busy - 1) c.send-kept.new.inboxes.items c.add.new.self
+    c.from.ensures inside refl (omega (arith, opened, some, c.self.invariant.counted)) (omega (arith, some, c.self.invariant.counted, c.self.invariant.closes))
+    c.add.ensures (may, few) c.send-kept.ensures.nodes sent

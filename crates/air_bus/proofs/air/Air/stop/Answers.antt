@@ -1,5 +1,4 @@
 use Rattle.std.proofs.Common.{◌≡◌, ◌-◌, ◌<◌, length, refl, ap, ◌∙◌, arith}
-use Rattle.std.specs.Prelude.{vec_len, vec_capacity}
 use Rattle.air_bus.specs.declared.entry.Entry.TheVariants.{Stop}
 use Rattle.air_bus.specs.declared.entry.Phase.TheVariants.{Down, Busy}
 use Rattle.air_bus.specs.Airs.{open_of}
@@ -11,7 +10,7 @@ use Rattle.air_bus.proofs.air.Air.stop.Goals as goal
 pub invariant_of-self : goal.invariant_of-self
 invariant_of-self c =
     let a = c.self.inside in
-    let h = a.history.items in
+    let h = a.history in
     let kinds = a.links.kinds.items in
     let ps = a.phases.items in
     let may : phase c.args.node h ≡ Busy = ap (phase c.args.node) (ap (λ f. f.history) c.self.view_is) ∙ c.requires.busy in
@@ -19,7 +18,7 @@ invariant_of-self c =
     let below : c.args.node < length ps = omega (arith, inside, c.self.invariant.phase_many) in
     let some = busy_counts ps c.args.node below (c.self.invariant.phase_each c.args.node ∙ may) in
     let opened = ap open_of may in
-    agrees_more a.links.plan kinds ps a.busy a.inboxes.items h (vec_len a.history) (vec_capacity a.history) c.self.invariant
-    (Stop c.args.node c.args.landed) c.from.result Down (a.busy - 1) a.inboxes.items c.push_reserved.new.self.items (vec_len c.push_reserved.new.self) (vec_capacity c.push_reserved.new.self)
-    c.from.ensures inside refl (omega (arith, opened, some, c.self.invariant.counted)) (omega (arith, some, c.self.invariant.counted, c.self.invariant.closes, c.push_reserved.ensures.len, c.push_reserved.ensures.capacity))
-    c.push_reserved.ensures.items may refl (λ n d below nodes r k. k)
+    agrees_more a.links.plan kinds ps a.busy a.inboxes.items h c.self.invariant
+    (Stop c.args.node c.args.landed) c.from.result Down (a.busy - 1) a.inboxes.items c.add.new.self
+    c.from.ensures inside refl (omega (arith, opened, some, c.self.invariant.counted)) (omega (arith, some, c.self.invariant.counted, c.self.invariant.closes))
+    c.add.ensures may refl (λ n d below nodes r k. k)

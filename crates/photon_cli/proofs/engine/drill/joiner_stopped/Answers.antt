@@ -1,15 +1,13 @@
-use Rattle.std.proofs.Common.{◌≡◌, ◌≤◌, ℕ, false, Option, ap, subst, sym, ◌∙◌}
+use Rattle.std.proofs.Common.{◌≡◌, ◌≤◌, ℕ, false, Option, subst, sym, ◌∙◌}
 use Rattle.std.specs.List.{list_any}
 use Rattle.std.specs.Option.{IfSome}
 use Rattle.site_laws.specs.Laws.{made_by}
 use Rattle.site_workers.specs.Works.{is_stop}
 use Rattle.site_run.specs.declared.ran.RunLog.{RunLog}
-use Rattle.photon_cli.specs.Drill.{is_late_stop}
 use Rattle.photon_cli.proofs.Drilling.{none_late}
 use Rattle.photon_cli.proofs.engine.drill.joiner_stopped.Goals as goal
 
 pub returns-in-Some : goal.returns-in-Some
 returns-in-Some c none =
-    let h = c.in-Some.log.air.history in
-    let late : list_any is_late_stop h ≡ false = ap (list_any is_late_stop) (sym c.history.ensures) ∙ sym c.has_late_stop.ensures ∙ none in
-    subst (λ (o : Option RunLog). IfSome o (λ l. (j : ℕ) → 7 ≤ j → list_any is_stop (made_by j l.air.history) ≡ false)) (sym c.in-Some.is) (λ j lt. none_late h j lt late)
+    subst (λ (o : Option RunLog). IfSome o (λ l. (j : ℕ) → 7 ≤ j → list_any is_stop (made_by j l.air.history) ≡ false)) (sym c.in-Some.is)
+    (λ j lt. none_late c.in-Some.log.air.history j lt (sym c.has_stop_from.ensures ∙ none))
