@@ -127,13 +127,13 @@ def failed_sync(case):
 # ---- what the checks stand on
 
 def expected_calls(directory, before, name):
-    """The calls for one disk in a join, by the pages: it is opened, its end written again, and each new record is appended."""
+    """The calls for one disk in a join, by the pages: it is opened or made, its end written again, and each new record is appended."""
     old, new = before.files.get(name, b""), directory.read().files[name]
-    place = max(0, len(old) - IN_DOUBT)
-    calls = [("open", 0, 0), *([("write", place, len(old) - place)] if old else []), ("sync", 0, 0), ("sync", 0, 0)]
-    calls += [("write", 0, 1), ("sync", 0, 0)] if len(old) <= 1 else []
+    place, sync = max(0, len(old) - IN_DOUBT), ("datasync", 0, 0)
+    calls = [("open", 0, 0), ("write", place, len(old) - place) if old else ("open", 0, 0), sync]
+    calls += [("write", 0, 1), sync] if len(old) <= 1 else []
     for at, payload in stores.gate_rule(new)[0][len(before.records.get(name, [])):]:
-        calls += [("write", at, len(payload) + 5), ("sync", 0, 0), ("write", at - 1, 1), ("sync", 0, 0)]
+        calls += [("write", at, len(payload) + 5), sync, ("write", at - 1, 1), sync]
     return calls
 
 
@@ -153,7 +153,8 @@ def calls(case):
         for what, path, at, size, _ in machine.calls():
             found.setdefault(path, []).append((what, int(at), int(size)))
         disks = stores.disk_names(1)
-        others = {"": [("sync", 0, 0)], "/state": [("mkdir", 0, 0)] * (not before.files) + [("sync", 0, 0)] * len(disks)}
+        names = ("sync", 0, 0)  # once, and for each name that is made
+        others = {"": [names], "/state": [*([] if before.files else [("mkdir", 0, 0), *[names] * len(disks)]), names]}
         expected = {f"/state/{name}": expected_calls(directory, before, name) for name in disks}
         case.check_same(found, {**expected, **others}, "the calls of a join")
     case.check(any(len(data) > IN_DOUBT for data in directory.copy_files().values()), "no file is long")
@@ -170,5 +171,26 @@ def lies(case):
             raise Failed("nothing is wrong with a disk that doesn't sync")
 
 
+def last_name(case):
+    """A run is killed when it has made its last file, whose name isn't synced yet. What the next run writes there outlives a loss of power."""
+    maker = logs.Maker(case.random, odd=False)
+    maker.add_queries(4)
+    maker.add_clicks(6)
+    made = None  # the call that makes the last file
+    for attempt in range(7):
+        directory, machine = Directory(case), Machine(case)
+        directory.state = f"state.{attempt}"
+        directory.give(maker.queries, maker.clicks)
+        machine.plan(f"kill:{made}" if made else "")
+        ended = case.run(directory.join_words())
+        machine.plan("")
+        made = made or max(number for number, call in enumerate(machine.calls()) if call[0] == "open")
+        case.check_same(ended.status, -9 if attempt else 0, "the status")
+        directory.judge("after the kill")
+        directory.join()
+        machine.store = directory.seen
+        lose_power(directory, machine)
+
+
 AT_CALLS = [(str(number), at_call(number)) for number in range(200)]
-LISTED = [(function.__name__, function) for function in (calls, lies)]
+LISTED = [(function.__name__, function) for function in (calls, last_name, lies)]

@@ -2,7 +2,8 @@
  *
  * It counts the calls that change files below a directory, from 0: open for writing, mkdir, pwrite, fsync and fdatasync. At chosen ones it
  * fails, or ends or holds the process. No sync reaches the disk. In its place the library keeps, for each file, what a loss of power leaves,
- * byte by byte; tests/power.py reads that and makes the loss. What is kept outlives the process, as a machine does.
+ * byte by byte; tests/power.py reads that and makes the loss. What is kept outlives the process, as a machine does. An fdatasync keeps the
+ * bytes and the length of a file as an fsync does; of a directory it keeps nothing.
  *
  *   FAILING_BELOW  the directory, an absolute path without links
  *   FAILING_KEPT   a directory of the library's own, with a file for each file below, and `calls`, a line for each call that counts
@@ -158,7 +159,7 @@ static const char *next_call(const char *what, const char *path, long at, long s
     const char *kind = "";
     for (int i = 0; i < planned && !*kind; i++) {
         int waits = is(events[i].kind, "sync") || is(events[i].kind, "drop");
-        if (events[i].count > 0 && count >= events[i].at && (!waits || is(what, "sync"))) {
+        if (events[i].count > 0 && count >= events[i].at && (!waits || strstr(what, "sync"))) {
             events[i].count--;
             kind = events[i].kind;
         }
@@ -283,26 +284,31 @@ static void settle(int fd, struct kept *kept, int is_lost, int is_dropped)
         give_up("a file can't be put back");
 }
 
-int fsync(int fd)
+static int sync_file(int fd, const char *what)
 {
     char path[PATH_MAX];
     struct stat stat;
     begin();
     if (!find_fd(fd, path) || fstat(fd, &stat) != 0)
         return end(0, 0);
-    const char *kind = next_call("sync", path, 0, 0);
+    const char *kind = next_call(what, path, 0, 0);
     int fault = fault_of(kind), does_nothing = fault == EINTR || is(kind, "lie");
     end_process(kind);
     if (!S_ISREG(stat.st_mode) && !S_ISDIR(stat.st_mode))
         fault = EINVAL;
     else if (S_ISREG(stat.st_mode) && !does_nothing)
         settle(fd, kept_of(path, 0), fault, is(kind, "drop"));
-    else if (!does_nothing && !fault)
+    else if (!does_nothing && !fault && is(what, "sync"))
         keep_names(path);
     return end(0, fault);
 }
 
+int fsync(int fd)
+{
+    return sync_file(fd, "sync");
+}
+
 int fdatasync(int fd)
 {
-    return fsync(fd);
+    return sync_file(fd, "datasync");
 }

@@ -81,20 +81,24 @@ impl<'a, R> DirectoryDisk<'a, R> {
     }
 }
 
-/// Opens a file, writes again what may not have come to the disk, and syncs it.
-pub(crate) fn open_settled<R: Files<File = File>>(
+/// Opens a file that is there, and writes again what may not have come to the disk.
+pub(crate) fn open_again<R: Files<File = File>>(rt: &R, path: &str) -> io::Result<File> {
+    let file = open_file(rt, path, false)?;
+    write_again(&file)?;
+    Ok(file)
+}
+
+/// Opens a file, which is made where it is missing and that is asked for.
+pub(crate) fn open_file<R: Files<File = File>>(
     rt: &R,
     path: &str,
     create: bool,
 ) -> io::Result<File> {
-    let file = OpenOptions::new()
+    OpenOptions::new()
         .read(true)
         .write(true)
         .create(create)
-        .open(rt, path)?;
-    write_again(&file)?;
-    file.sync_all()?;
-    Ok(file)
+        .open(rt, path)
 }
 
 /// Writes a file's end again as it reads. Once a sync has failed, the system may show bytes that never came to the disk and
@@ -169,7 +173,7 @@ impl<R: Files<File = File>> DirectoryDisk<'_, R> {
         self.end_call(answer)
     }
 
-    /// Waits until the file is on the disk.
+    /// Waits until the disk has the file's bytes and its length. When it was written isn't waited for.
     fn settle(&mut self) -> Result<(), DiskFault>
         ensures falls { Falls (is_none self.old.file) (is_none self.new.file) result }
         ensures tally { self.new.faults ≡ tallied self.old.faults (is_err result) }
@@ -178,20 +182,20 @@ impl<R: Files<File = File>> DirectoryDisk<'_, R> {
         let Some(file) = &self.file else {
             return Err(self.fault());
         };
-        let answer = file.sync_all();
+        let answer = file.sync_data();
         self.end_call(answer)
     }
 
-    /// Opens the file anew.
+    /// Opens the file anew, and syncs it.
     fn open_anew(&mut self) -> Result<(), DiskFault>
         ensures up { OnOk result (IsSome self.new.file) }
         ensures tally { self.new.faults ≡ tallied self.old.faults (is_err result) }
         ensures path { self.new.path ≡ self.old.path }
     {
-        match open_settled(self.rt, self.path.as_str(), false) {
+        match open_again(self.rt, self.path.as_str()) {
             Ok(file) => {
                 self.file = Some(file);
-                Ok(())
+                self.settle()
             }
             Err(_) => Err(self.fault()),
         }
