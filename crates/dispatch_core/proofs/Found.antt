@@ -7,7 +7,7 @@ use Rattle.std.specs.declared.cmp.Ordering.TheVariants.{Less, Equal, Greater}
 use Rattle.std.proofs.lemmas.Cmp.{ranked}
 use Rattle.std.proofs.lemmas.Bool.{eq-eqb, ne_eqb, cond-true, cond-false, cases_lt}
 use Rattle.dispatch_core.specs.declared.line.FreshLine.{FreshLine}
-use Rattle.turn_defs.specs.Dispatcher.{first_done, done_end, after_done, waits, mark, mark_one, some_waits}
+use Rattle.turn_defs.specs.Dispatcher.{first_done, after_done, waits, mark, mark_one}
 use Rattle.dispatch_core.specs.Windows.{fresh_of, IsRisingFrom, Lacks, IsFound}
 
 -- ---- order

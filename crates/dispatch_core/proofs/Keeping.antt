@@ -15,7 +15,7 @@ use Rattle.dispatch_core.specs.declared.line.FreshLine.{FreshLine}
 use Rattle.dispatch_core.specs.declared.dispatch.DispatchCore.{DispatchCore}
 use Rattle.dispatch_core.specs.declared.dealer.Dealer.{Dealer}
 use Rattle.dispatch_core.specs.declared.turns.Change.{Change}
-use Rattle.dispatch_core.specs.declared.turns.Change.TheVariants.{Advance, Retry, Take, End}
+use Rattle.dispatch_core.specs.declared.turns.Change.TheVariants.{Advance, Retry, Take}
 use Rattle.dispatch_core.proofs.Rising.{rising_after_done, before_after_done, rising_push, before_push, rising_mark, before_mark}
 
 -- ---- each change keeps the order

@@ -189,7 +189,3 @@ stops_through S T rest whole (Err d) on b = stops_on S T rest whole d on b
 pub stops_out : {W : Type 0} (S T : List ℕ → Type 0) (rest whole : List ℕ) (stop : Stop) (r : Result W Stop) → IsErrAnd r (λ d. d ≡ stop) → ((left : ℕ) → IsBadBefore S rest left → IsBadBefore T whole left) → Stops S rest stop → IfErr r (Stops T whole)
 stops_out S T rest whole stop (Ok x) is on b = tt
 stops_out S T rest whole stop (Err d) is on b = subst (Stops T whole) (sym is) (stops_on S T rest whole stop on b)
-
-pub stops_out-same : {W : Type 0} (T : List ℕ → Type 0) (whole : List ℕ) (stop : Stop) (r : Result W Stop) → IsErrAnd r (λ d. d ≡ stop) → stop ≡ Memory → IfErr r (Stops T whole)
-stops_out-same T whole stop (Ok x) is m = tt
-stops_out-same T whole stop (Err d) is m = subst (Stops T whole) (sym (is ∙ m)) tt

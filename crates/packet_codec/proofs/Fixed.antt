@@ -236,13 +236,6 @@ place_apart x y s t p q e = place_same x y p q (front_same (place x) (place y) s
 
 -- ---- of what was read
 
-pub ballot_is : (z : List ℕ) (b : Ballot) → b.round < 2 ^ 64 → b.epoch < 2 ^ 32 → UpTo ballot_limits z → z ≡ ballot b → IsBallot b
-ballot_is z b r e h all =
-    let high : b.round / 2 ^ 56 % 256 ≤ 0 = subst (λ (x : List ℕ). get_or x 0 0 ≤ 0) all (h.each 0 (omega arith)) in
-    let next : b.round / 2 ^ 48 % 256 ≤ 0 = subst (λ (x : List ℕ). get_or x 1 0 ≤ 0) all (h.each 1 (omega arith)) in
-    let low : b.site ≤ 1 = subst (λ (x : List ℕ). get_or x 12 0 ≤ 1) all (h.each 12 (omega arith)) in
-    record { round = small_8 b.round r high next; epoch = e; site = omega arith }
-
 pub place_is : (z : List ℕ) (p : Place) → p.slot < 2 ^ 64 → UpTo place_limits z → z ≡ place p → IsPlace p
 place_is z p r h all =
     let first : p.shard ≤ 15 = subst (λ (x : List ℕ). get_or x 0 0 ≤ 15) all (h.each 0 (omega arith)) in

@@ -1,5 +1,6 @@
 // Batches.
 ghost use Rattle.std.specs.Prelude.{◌≡◌, ◌+◌, ◌*◌, ◌^◌, ◌<◌, ◌≤◌, ◌++◌, length, take, IfOk, IfErr};
+ghost use Rattle.registry_state.specs.declared.TheConstants.{MOST_INSERTS};
 ghost use Rattle.list_words.specs.Lists.{Each};
 ghost use Rattle.packet_codec.specs.Cells.{UpTo};
 ghost use Rattle.turn_defs.specs.Spellings.{insert, IsInsert, inserts, batch_head, batch, IsBatch};
@@ -52,7 +53,7 @@ impl Field for Batch {
 fn head_of(bytes: &[u8]) -> (u64, usize)
     requires { UpTo batch_limits bytes.now }
     ensures bound { result.0 < 2 ^ 64 }
-    ensures few { result.1 ≤ 64 }
+    ensures few { result.1 ≤ MOST_INSERTS }
     ensures spelled { bytes.now ≡ batch_head result.0 result.1 }
 {
     let (bound, count) = bytes.split_at(8);
