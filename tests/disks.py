@@ -141,7 +141,7 @@ def calls(case):
     """The library sees the calls of the pages and no others, over a new directory, a kept one, and one whose files are long."""
     maker = logs.Maker(case.random, odd=False)
     directory, machine = Directory(case), Machine(case)
-    for queries, clicks, text in ((4, 6, b"short"), (0, 5, b"short"), (1, 400, b"x" * 200), (0, 4, b"short")):
+    for queries, clicks, text in ((4, 6, b"short"), (0, 5, b"short"), (1, 500, b"x" * 200), (0, 4, b"short")):
         maker.text = lambda text=text: text
         maker.add_queries(queries)
         maker.add_clicks(clicks, 0)
