@@ -15,9 +15,9 @@ then once more over what that left, and then over logs of twice as many lines. B
 The pairs are counted and compared. Beside each is the disk of the folder: how many syncs a second it gives to appends, a body, a sync, a byte
 and a sync, to one file and to as many at once as there are joiners. Ratios alone count where other work runs on the machine.
 
-Printed are seconds of wall time, clicks a second, their ratio to sqlite3's, megabytes of the largest resident set, the bytes of the state and
-context switches a click. Where strace is here, a run of at most 1000 clicks counts threads and syncs, by disk, and, where valgrind is here, one
-of at most 200 rounds and turns. Nothing is written outside the folder.
+Printed are seconds of wall time, clicks a second, their ratio to sqlite3's, megabytes of the largest resident set (no less than Python's own,
+some 20), the bytes of the state and context switches a click. Where strace is here, a run of at most 1000 clicks counts threads and syncs, by
+disk, and, where valgrind is here, one of at most 200 rounds and turns. Nothing is written outside the folder.
 """
 import collections
 import os
