@@ -54,6 +54,8 @@ pub record PacketsWait : Type 0 where
   pub twice : waits (plan_of (first_ones 1 (fate.Twice 3) ∷ []) None) 1 (three_sent 3) ≡ copy 0 0 (7 ∷ []) ∷ copy 3 0 (7 ∷ []) ∷ copy 0 0 (9 ∷ []) ∷ []
   pub late : waits (plan_of (first_ones 1 (fate.Late 2) ∷ []) None) 1 (three_sent 3) ≡ copy 2 0 (7 ∷ []) ∷ copy 0 0 (9 ∷ []) ∷ []
   pub taken : waits (plan_of (first_ones 1 (fate.Late 2) ∷ []) None) 1 (three_sent 3 ++ Begin 1 (Packet 0 (9 ∷ [])) ∷ []) ≡ copy 1 0 (7 ∷ []) ∷ []
+  pub of_kinds : waits (plan_of (record (first_ones 1 fate.Drop) { from = Some Server; to = Some Joiner } ∷ []) None) 1 (three_sent 3) ≡ copy 0 0 (9 ∷ []) ∷ []
+  pub of_other_kinds : waits (plan_of (record (first_ones 1 fate.Drop) { from = Some Server; to = Some Joiner } ∷ []) None) 3 (three_sent 3) ≡ copy 0 0 (8 ∷ []) ∷ []
   pub lost_ones_count : waits (plan_of (first_ones 2 fate.Drop ∷ []) None) 1 (three_sent 0 ++ three_sent 3) ≡ copy 0 0 (7 ∷ []) ∷ copy 0 0 (9 ∷ []) ∷ []
 
 -- ---- what a turn begins with

@@ -1,5 +1,5 @@
 -- What verification says of a store's records is what the report says.
-use Rattle.std.proofs.Common.{◌≡◌, ℕ, zero, suc, ◌*◌, ◌&&◌, true, not, List, [], ◌++◌, map, Some, None, ◌↔◌, refl, sym, ap, ◌∙◌}
+use Rattle.std.proofs.Common.{◌≡◌, ℕ, zero, suc, ◌*◌, ◌&&◌, true, not, List, [], ◌++◌, Some, None, ◌↔◌, refl, sym, ap, ◌∙◌}
 use Rattle.std.specs.Prelude.{Option, IsSome, is_some}
 use Rattle.std.specs.List.{flat_map}
 use Rattle.event_id.specs.declared.id.EventId.{EventId}

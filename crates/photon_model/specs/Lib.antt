@@ -19,6 +19,5 @@ pub mod Sound
 pub mod Topology
 pub mod Facts
 pub mod Rows
-pub mod Bus
 pub mod Report
 pub mod Rest

@@ -1,5 +1,5 @@
 -- Rest, quiet points, intervals and work turns of a history.
-use Rattle.std.specs.Prelude.{◌≡◌, ◌≢◌, ◌⊎◌, ℕ, ◌<◌, Bool, true, false, not, List, [], ◌∷◌, ◌++◌, length, filter, count_by, Option, Some, None, ⊤}
+use Rattle.std.specs.Prelude.{◌≡◌, ◌≢◌, ◌⊎◌, ℕ, ◌<◌, Bool, true, false, not, ◌==◌, List, [], ◌∷◌, ◌++◌, length, filter, count_by, Option, Some, None, ⊤}
 use Rattle.list_words.specs.Lists.{Mem, has}
 use Rattle.turn_defs.specs.Setting.{Setting, IsJoiner}
 use Rattle.turn_defs.specs.declared.node.Node.{Node}
@@ -12,7 +12,14 @@ use Rattle.turn_defs.specs.Joiner.{JoinerLive, Flight, joiner_unfinished, joiner
 use Rattle.turn_defs.specs.Server.{ServerLive, server_wants, server_unfinished, server_at_rest}
 use Rattle.turn_defs.specs.Nodes.{IsNode}
 use Rattle.photon_model.specs.Runs.{World, Entry, Begin, End, Stop, sends, after, world_after}
-use Rattle.photon_model.specs.Bus.{same_node}
+
+-- whether two nodes are one
+abbrev pub same_node : Node → Node → Bool
+same_node (Dispatcher a) (Dispatcher b) = a == b
+same_node (Server a) (Server b) = a == b
+same_node (Replica a) (Replica b) = a == b
+same_node (Joiner a) (Joiner b) = a == b
+same_node _ _ = false
 
 -- a node is up, and this holds of its volatile state
 abbrev pub UpWith : {L : Type 0} → (L → Type 0) → Option L → Type 0

@@ -1,13 +1,12 @@
 //! Worked rows; how a node's own entries lead to its state, and how those of all nodes make a run.
 ghost use Rattle.photon_model.specs.Local.{LocalIsOwn};
 ghost use Rattle.photon_model.specs.Own.{ApartIsRun};
-ghost use Rattle.photon_model.specs.Rows.{StoreRows, WaitingRows};
+ghost use Rattle.photon_model.specs.Rows.{StoreRows};
 ghost use Rattle.photon_model.specs.Wanting.{OwnIsWanted};
 
 /// What the definitions compute on one click.
 pub fn worked_rows()
-    ensures waiting { WaitingRows }
-    ensures store { StoreRows }
+    ensures { StoreRows }
 {}
 
 /// A node's state in the world is the one that its own entries lead to.

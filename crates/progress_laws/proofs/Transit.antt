@@ -14,9 +14,8 @@ use Rattle.turn_defs.specs.declared.node.Input.{Input}
 use Rattle.turn_defs.specs.declared.node.Input.TheVariants.{Start, Own, Tick, Deliver}
 use Rattle.turn_defs.specs.Sent.{Sent}
 use Rattle.turn_defs.specs.Turns.{Note}
-use Rattle.photon_model.specs.Bus.{same_node}
 use Rattle.photon_model.specs.Runs.{Cell, World, Entry, Begin, End, Stop, sends, after, May}
-use Rattle.photon_model.specs.Rest.{put_in, is_out, to_live, IsQuiet, Carries}
+use Rattle.photon_model.specs.Rest.{same_node, put_in, is_out, to_live, IsQuiet, Carries}
 
 -- the input of a node's open turn
 abbrev pub opened_at : World → Node → Option Input

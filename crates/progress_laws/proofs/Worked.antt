@@ -26,10 +26,9 @@ use Rattle.turn_defs.specs.Setting.{IsJoiner, shards}
 use Rattle.turn_defs.specs.Turns.{Out, is_empty}
 use Rattle.turn_defs.specs.Dispatcher.{dispatcher_wants}
 use Rattle.turn_defs.specs.Server.{ServerLive, is_below_limit, server_wants, server_start, server_turn}
-use Rattle.photon_model.specs.Bus.{same_node}
 use Rattle.photon_model.specs.Facts.{IfUp}
 use Rattle.photon_model.specs.Runs.{Cell, World, Entry, Begin, End, Stop, Fits, WasSent, MayBegin, May, IsRun, row, dispatcher_row, server_row, replica_row, sends, after, world_after}
-use Rattle.photon_model.specs.Rest.{UpWith, BothUp, ServerWorks, IsWork, put_in, ticks_of, ticks_due, is_unfinished, to_live, Carries, IsQuiet}
+use Rattle.photon_model.specs.Rest.{same_node, UpWith, BothUp, ServerWorks, IsWork, put_in, ticks_of, ticks_due, is_unfinished, to_live, Carries, IsQuiet}
 use Rattle.progress_laws.specs.Idle.{HasNumbers, IsWithinLimits, NoWork, IsIdle}
 use Rattle.progress_laws.specs.Rows.{three, all_live, to_one, ends, plays, duel, restarts, beginning, down_again, stale, first, second, third, fourth, after_first, after_second, after_third, CarriesOnce, ThreeAreIdle}
 use Rattle.progress_laws.proofs.Transit.{opened_at, same_node-true, opens, not_out}
