@@ -1,7 +1,7 @@
 """Logs whose ids somebody chose so that a hash with a fixed seed puts them all into one place join in the time of any others.
 
 The logs are those of processes of which each has two lines: the second one, which is clicked on, is out of order. Compared is the processor
-time of two drills without faults, which touch no disk, with that of the same logs with micros by chance: with hash tables it was ten times as
+time of two drills without faults, which touch no disk, with that of the same logs with micros by chance: with hash tables it was seven times as
 much at this size, and more with more clicks.
 """
 import resource
