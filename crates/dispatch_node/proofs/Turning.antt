@@ -76,14 +76,6 @@ opened s b = record { site = s.site; node = record { setting = s.node.setting; k
 pub opened_is : (s t : DispatcherState) (n : ℕ) (b : Bytes) → SiteLeads s (Begin n b) t → opened s b ≡ t
 opened_is s t n b led = λ j. record { site = sym led.site j; node = sym led.leads.2 j }
 
--- while nothing is written
-pub quiet_moment : (p : Parts) (oi ri : List ℕ → Type 0) (s t : DispatcherState) (n : ℕ) (b : Bytes) → p.in_doubt ≡ None → StandsAt p oi ri s → SiteLeads s (Begin n b) t
-    → (p.offset_state ≡ Ready → (c : List ℕ) → oi c → offsets.Keeps p.offset c) → (p.retry_state ≡ Ready → (c : List ℕ) → ri c → pending.Keeps p.pending c) → (c : List ℕ × List ℕ) → oi c.0 × ri c.1 → KeptOn t c
-quiet_moment p oi ri s t n b none at led o r c here =
-    let holds = (quiet p oi ri s none at).0 in
-    subst (λ (x : DispatcherState). KeptOn x c) (opened_is s t n b led)
-    (s.node.kept, inl refl, subst (λ (k : DispatcherKept). OnDisks k c) holds.kept (o holds.offset_ready c.0 here.0, r holds.retry_ready c.1 here.1))
-
 -- ---- a turn that has a row
 
 -- what a turn was decided and written down as

@@ -1,14 +1,7 @@
 -- Records that are only added, and faults of two disks.
-use Rattle.std.proofs.Common.{ℕ, ◌+◌, ◌≤◌, List, arith}
-use Rattle.outside.specs.Faults.{Rose}
+use Rattle.std.proofs.Common.{ℕ, List}
 use Rattle.gate_journal.specs.Growth.{Continues}
 use Rattle.gate_journal.proofs.Growth.{continues_same}
-
-pub rose_first : (a b a' b' : ℕ) → Rose a a' → b ≤ b' → Rose (a + b) (a' + b')
-rose_first a b a' b' rose le = omega (arith, rose, le)
-
-pub rose_second : (a b a' b' : ℕ) → Rose b b' → a ≤ a' → Rose (a + b) (a' + b')
-rose_second a b a' b' rose le = omega (arith, rose, le)
 
 -- nothing new is left
 pub same_grows : (old new : List ℕ → Type 0) → ((c : List ℕ) → new c → old c) → (c : List ℕ) → new c → Continues old c

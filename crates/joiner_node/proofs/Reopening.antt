@@ -20,9 +20,6 @@ use Rattle.joiner_node.specs.declared.disks.Doubt.{Doubt}
 
 -- ---- the images of a disk that is read again
 
-pub epoch_again : (k m : JoinerKept) (image : List ℕ → Type 0) → ((c : List ℕ) → image c → EpochOr k m c) → (c : List ℕ) → epochs.KeepsAsLeft image c → EpochOr k m c
-epoch_again k m image or c (d, here, same) = ⊎_elim (λ old. inl (same ∙ old)) (λ new. inr (same ∙ new)) (or d here)
-
 pub pairs_again : (k m : JoinerKept) (image : List ℕ → Type 0) → ((c : List ℕ) → image c → PairsOr k m c) → (c : List ℕ) → IsOpened image c → PairsOr k m c
 pairs_again k m image or c (d, here, same) = ⊎_elim (λ old. inl (old.0, same ∙ old.1)) (λ new. inr (new.0, same ∙ new.1)) (or d here)
 
@@ -134,16 +131,6 @@ module _ (e : ℕ) (ps : List PairRec) (d : Doubt) (n : JoinerNote) (k : JoinerK
       (reads_either e ps d n k doubt epoch pair)
 
 -- ---- a disk of which each image has such records isn't damaged
-
-no_epoch : (e at : ℕ) → epoch_ok e ≡ Err at → ⊥
-no_epoch e at is = (cc)
-
-pub epochs_undamaged : (k m : JoinerKept) (image : List ℕ → Type 0) (tells : Bool) (old new : ℕ) (fault : JournalFault) → IsTrue tells → ((c : List ℕ) → image c → EpochOr k m c) → epochs.IsRefusedAgain tells image old new fault → IsUndamaged fault
-epochs_undamaged k m image tells old new (Damaged at) told or err =
-    let bad = err told in
-    ⊎_elim (λ keeps. no_epoch k.epoch at (sym keeps ∙ bad.2)) (λ keeps. no_epoch m.epoch at (sym keeps ∙ bad.2)) (or bad.0 bad.1)
-epochs_undamaged k m image tells old new Disk told or err = tt
-epochs_undamaged k m image tells old new Memory told or err = tt
 
 no_records : (rs : List (List ℕ)) (at : ℕ) → ok_of rs ≡ Err at → ⊥
 no_records rs at is = (cc)

@@ -141,12 +141,6 @@ ends p epoch_image pairs_image core s t n b i ready said ps sent led reads row s
     noted_bytes None = refl
     noted_bytes (Some x) = refl
 
--- a turn that couldn't be decided is open still
-pub waits_open : (p : Parts) (epoch_image pairs_image : List ℕ → Type 0) (s t : JoinerState) (n : ℕ) (b : Bytes) → LeadsTo s (Begin n b) t → p.in_doubt ≡ None → IsOf p.roster s.node.setting → s.number ≡ p.number → Serves p.core s.node.setting s.number
-    → HasRead p.log p.place s.node.setting.queries → Holds p.epoch p.written epoch_image pairs_image s.node.kept → Knows p.up p.core s.node.setting s.number s.node.kept s.node.live → StandsAt p epoch_image pairs_image t
-waits_open p epoch_image pairs_image s t n b led none of_g number serves reads holds knows =
-    subst (λ (x : JoinerState). StandsAt p epoch_image pairs_image x) (led_to s t n b led) (stands_none p epoch_image pairs_image (record { number = s.number; node = opens s.node b }) none of_g number serves reads holds knows)
-
 by_doubt : (d : Option Doubt) (o : Option JoinerNote) (p : Parts) (epoch_image pairs_image : List ℕ → Type 0) (s : JoinerState) (b : Bytes) (i : Input) → Reads s.node.setting b i → option_map note_of o ≡ (row_at s i).note → AreInDoubt d o s.node.kept
     → MayHave s.node.kept (with_note o s.node.kept) epoch_image pairs_image → StandsBy d p epoch_image pairs_image (record { number = s.number; node = opens s.node b })
 by_doubt None o p epoch_image pairs_image s b i reads noted are images = absurd are

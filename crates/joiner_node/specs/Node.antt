@@ -1,5 +1,6 @@
 -- A joiner over its disks, beside the states that its entries lead through.
 use Rattle.std.specs.Prelude.{◌≡◌, ℕ, ◌==◌, List, Bool, if◌then◌else◌, Option, Some, None, option_map}
+use Rattle.ballot_core.specs.declared.TheConstants.{LAST_EPOCH}
 use Rattle.turn_defs.specs.declared.pair.PairRec.{PairRec}
 use Rattle.air_bus.specs.declared.entry.Entry.{Entry}
 use Rattle.air_bus.specs.declared.entry.Input.{Input as Bytes}
@@ -47,7 +48,7 @@ KeepsOf s c = (k : JoinerKept) × MayHold (joiner_rows s.number) s.node k × OnD
 
 -- the kept epoch, where it is the last one and the joiner is to start
 abbrev pub spends_of : JoinerState → Bytes → Option ℕ
-spends_of s bytes.Start = if s.node.kept.epoch == 4294967294 then Some s.node.kept.epoch else None
+spends_of s bytes.Start = if s.node.kept.epoch == LAST_EPOCH then Some s.node.kept.epoch else None
 spends_of s bytes.Own = None
 spends_of s bytes.Tick = None
 spends_of s (bytes.Packet from b) = None

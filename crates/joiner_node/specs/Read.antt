@@ -1,5 +1,5 @@
 -- Which queries of a log were read, and what a look-up answers.
-use Rattle.std.specs.Prelude.{◌≡◌, ℕ, List, ◌++◌, map, length, Option, Some, None}
+use Rattle.std.specs.Prelude.{◌≡◌, ℕ, List, ◌++◌, map, length, Some, None}
 use Rattle.std.specs.List.{AllByRecursion}
 use Rattle.event_id.specs.declared.id.EventId.{EventId}
 use Rattle.log_records.specs.declared.records.QueryRec.{QueryRec as Query}

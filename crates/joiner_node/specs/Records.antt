@@ -1,5 +1,6 @@
 -- Notes as they are written.
 use Rattle.std.specs.Prelude.{◌≡◌, ℕ, ◌<◌, Option, Some, None, ⊤}
+use Rattle.ballot_core.specs.declared.TheConstants.{LAST_EPOCH}
 use Rattle.epoch_journal.specs.Epochs.{epoch_record}
 use Rattle.turn_defs.specs.declared.pair.PairRec.{PairRec}
 use Rattle.output_log.specs.Pairs.{record_of}
@@ -27,7 +28,7 @@ IsOwn (Some (written.Pair f p b)) = IsPair p × (f ≡ record_of p)
 -- the record isn't that of an epoch past the last one
 abbrev pub IsUnspent : Option Record → ℕ → Type 0
 IsUnspent None epoch = ⊤
-IsUnspent (Some (written.Epoch b)) epoch = epoch < 4294967294
+IsUnspent (Some (written.Epoch b)) epoch = epoch < LAST_EPOCH
 IsUnspent (Some (written.Pair f p b)) epoch = ⊤
 
 -- an epoch is above the kept one

@@ -1,5 +1,6 @@
 // A joiner's two disks.
 ghost use Rattle.std.specs.Prelude.{◌≡◌, None};
+ghost use Rattle.ballot_core.specs.declared.TheConstants.{LAST_EPOCH};
 ghost use Rattle.gate_journal.specs.declared.journal.JournalState.TheVariants.{Ready};
 ghost use Rattle.site_node.specs.Faults.{IsOfRestart, IsWhole};
 ghost use Rattle.joiner_node.specs.Disks.{IsUndamaged};
@@ -81,7 +82,7 @@ impl<D: Disk> Disks<D> {
     // The kept epoch.
     pub(crate) fn epoch(&self) -> u32
         ensures epoch { result ≡ self.now.epochs.epoch }
-        ensures limit { self.now.epochs.epoch ≤ 4294967294 }
+        ensures limit { self.now.epochs.epoch ≤ LAST_EPOCH }
     {
         self.epochs.epoch()
     }
@@ -163,7 +164,7 @@ impl<D: Disk> Disks<D> {
     // Raises the epoch, of which this is the record.
     fn raise(&mut self, payload: Payload) -> Result<Option<Payload>, NodeFault>
         requires up { self.old.in_doubt ≡ None }
-        requires unspent { self.old.epochs.epoch < 4294967294 }
+        requires unspent { self.old.epochs.epoch < LAST_EPOCH }
         requires room { HasRoom (D.calls_left self.old.epochs.journal.disk) (D.bytes_left self.old.epochs.journal.disk) 5 }
         ensures same { (self.new.site ≡ self.old.site) × (self.new.joiner ≡ self.old.joiner) × (self.new.log ≡ self.old.log) }
         ensures up { OnOk result (self.new.in_doubt ≡ None) }

@@ -1,8 +1,10 @@
 // What a joiner decides, and what it looks up for that.
 ghost use Rattle.std.specs.Prelude.{◌≡◌, ◌≤◌, ◌<◌, IfOk, IfErr, OnOk, OnErr};
+ghost use Rattle.ballot_core.specs.declared.TheConstants.{LAST_EPOCH};
 ghost use Rattle.joiner_node.specs.Joining.{asked_start};
 
 use crate::queries::Queries;
+use ballot_core::LAST_EPOCH;
 use event_store::LookFault;
 use joiner_core::{JoinerCore, JoinerInput, Looked, Turn};
 use log_records::ClickRec;
@@ -10,9 +12,6 @@ use outside::LogFile;
 use site_node::NodeFault;
 use std::alloc::{AllocError, Global};
 use turn_defs::{Input, Node, Packet};
-
-// The last epoch.
-const LAST: u32 = u32::MAX - 1;
 
 // The core, which counts while the joiner is up, and the query log.
 #[derive(Drop)]
@@ -77,7 +76,7 @@ impl<L: LogFile> Joining<L> {
 
     // What the turn writes and sends, where the epoch is the kept one.
     pub(crate) fn decide(&mut self, epoch: u32, input: Input) -> Result<Turn, NodeFault>
-        requires limit { epoch ≤ 4294967294 }
+        requires limit { epoch ≤ LAST_EPOCH }
         requires input { IsInput input }
         ensures up { self.new.up ≡ self.old.up }
         ensures same { IsSame self.old.core self.new.core }
@@ -88,8 +87,8 @@ impl<L: LogFile> Joining<L> {
             Answers self.new.core g n k (joiner_row g n k live input) turn) }
         ensures fits { IfOk result (λ turn. Fits self.new.core turn) }
         ensures spelled { IfOk result IsSpelled }
-        ensures spent { (last : ℕ) → IsErrOf result (NodeFault.Spent last) → (input ≡ Start) × (epoch ≡ 4294967294) × (last ≡ epoch) }
-        ensures spends { input ≡ Start → epoch ≡ 4294967294 → OnOk result ⊥ }
+        ensures spent { (last : ℕ) → IsErrOf result (NodeFault.Spent last) → (input ≡ Start) × (epoch ≡ LAST_EPOCH) × (last ≡ epoch) }
+        ensures spends { input ≡ Start → epoch ≡ LAST_EPOCH → OnOk result ⊥ }
         ensures kind { IfErr result IsOfDecision }
         ensures fault { IsErrOf result NodeFault.Read → Rose (L.faults self.old.queries.store.tail.log) (L.faults self.new.queries.store.tail.log) }
         ensures count { L.faults self.old.queries.store.tail.log ≤ L.faults self.new.queries.store.tail.log }
@@ -123,7 +122,7 @@ impl<L: LogFile> Joining<L> {
 
     // The core's input, with what is looked up for it. A Start past the last epoch is refused.
     fn asked(&mut self, epoch: u32, input: Input) -> Result<JoinerInput, NodeFault>
-        requires limit { epoch ≤ 4294967294 }
+        requires limit { epoch ≤ LAST_EPOCH }
         requires input { IsInput input }
         ensures up { self.new.up ≡ self.old.up }
         ensures same { self.new.core ≡ self.old.core }
@@ -133,8 +132,8 @@ impl<L: LogFile> Joining<L> {
         ensures carries { IsTrue L.tells → IfOk result (λ asked. (g : Setting) (n : ℕ) (k : JoinerKept) (l : JoinerLive) →
             HasRead (L.bytes self.old.queries.store.tail.log) self.old.queries.store.tail.place g.queries →
             epoch ≡ k.epoch → GoesOn self.old.core g n k l input → Carries g k l asked input) }
-        ensures spent { (last : ℕ) → IsErrOf result (NodeFault.Spent last) → (input ≡ Start) × (epoch ≡ 4294967294) × (last ≡ epoch) }
-        ensures spends { input ≡ Start → epoch ≡ 4294967294 → OnOk result ⊥ }
+        ensures spent { (last : ℕ) → IsErrOf result (NodeFault.Spent last) → (input ≡ Start) × (epoch ≡ LAST_EPOCH) × (last ≡ epoch) }
+        ensures spends { input ≡ Start → epoch ≡ LAST_EPOCH → OnOk result ⊥ }
         ensures kind { IfErr result IsOfDecision }
         ensures fault { IsErrOf result NodeFault.Read → Rose (L.faults self.old.queries.store.tail.log) (L.faults self.new.queries.store.tail.log) }
         ensures count { L.faults self.old.queries.store.tail.log ≤ L.faults self.new.queries.store.tail.log }
@@ -201,13 +200,13 @@ impl<L: LogFile> Joining<L> {
 
 // The Start above the kept epoch.
 fn start(epoch: u32) -> Result<JoinerInput, NodeFault>
-    requires { epoch ≤ 4294967294 }
+    requires { epoch ≤ LAST_EPOCH }
     ensures ok { IfOk result (λ asked. asked ≡ asked_start epoch) }
-    ensures below { OnOk result (epoch < 4294967294) }
+    ensures below { OnOk result (epoch < LAST_EPOCH) }
     ensures err { IfErr result (λ e. e ≡ NodeFault.Spent epoch) }
-    ensures spent { OnErr result (epoch ≡ 4294967294) }
+    ensures spent { OnErr result (epoch ≡ LAST_EPOCH) }
 {
-    if epoch == LAST {
+    if epoch == LAST_EPOCH {
         return Err(NodeFault::Spent(epoch));
     }
     Ok(JoinerInput::Start { epoch })

@@ -1,5 +1,6 @@
 // The joiner over its disks and the query log.
 ghost use Rattle.std.specs.Prelude.{◌≡◌, ◌<◌, ◌+◌, ◌*◌};
+ghost use Rattle.ballot_core.specs.declared.TheConstants.{LAST_EPOCH};
 ghost use Rattle.turn_defs.specs.Setting.{Setting, site_of_joiner};
 ghost use Rattle.site_node.specs.Rosters.{IsOf};
 
@@ -130,8 +131,8 @@ impl<L: LogFile, D: Disk> JoinerNode<L, D> {
         ensures own { IfOk result (λ ready. IsOwn ready.writes) }
         ensures unspent { IfOk result (λ ready. IsUnspent ready.writes self.old.disks.epochs.epoch) }
         ensures room { IfOk result (λ ready. IsRoomFor ready.writes (record { epoch_calls = D.calls_left self.new.disks.epochs.journal.disk; epoch_bytes = D.bytes_left self.new.disks.epochs.journal.disk; pair_calls = D.calls_left self.new.disks.log.journal.disk; pair_bytes = D.bytes_left self.new.disks.log.journal.disk; places = vec_capacity self.new.disks.log.pairs }) (vec_len self.new.disks.log.pairs)) }
-        ensures spent { (last : ℕ) → IsErrOf result (NodeFault.Spent last) → (input ≡ Start) × (self.old.disks.epochs.epoch ≡ 4294967294) × (last ≡ self.old.disks.epochs.epoch) }
-        ensures spends { input ≡ Start → self.old.disks.epochs.epoch ≡ 4294967294 → OnOk result ⊥ }
+        ensures spent { (last : ℕ) → IsErrOf result (NodeFault.Spent last) → (input ≡ Start) × (self.old.disks.epochs.epoch ≡ LAST_EPOCH) × (last ≡ self.old.disks.epochs.epoch) }
+        ensures spends { input ≡ Start → self.old.disks.epochs.epoch ≡ LAST_EPOCH → OnOk result ⊥ }
         ensures kind { IfErr result IsOfDecision }
         ensures fault { IsErrOf result NodeFault.Read → Rose (L.faults self.old.joining.queries.store.tail.log) (L.faults self.new.joining.queries.store.tail.log) }
         ensures epoch_count { D.faults self.new.disks.epochs.journal.disk ≡ D.faults self.old.disks.epochs.journal.disk }

@@ -105,42 +105,6 @@ named_in_verify told clicks (fault.Run f) own line = tt
 named_in_verify told clicks fault.Write own line = tt
 named_in_verify told clicks fault.Memory own line = tt
 
--- the faults of the click log's check and of a store are those of a verification
-pub log_verify : (f : Fault) → IsLogFault Clicks f → IsOfVerify f
-log_verify f (inl (line, w, e)) = subst IsOfVerify (sym e) tt
-log_verify f (inr (inl e)) = subst IsOfVerify (sym e) tt
-log_verify f (inr (inr e)) = subst IsOfVerify (sym e) tt
-
-pub run_verify : (f : Fault) → IsOfRun f → IsOfVerify f
-run_verify f (inl (c, e)) = subst IsOfVerify (sym e) tt
-run_verify f (inr e) = subst IsOfVerify (sym e) tt
-
--- what is told of a log that isn't valid
-pub unreadable : (f : Fault) → IsLogFault Clicks f → (IsFailedRead f → ⊥) → (status_of f ≡ 3) ⊎ (status_of f ≡ 8)
-unreadable f (inl (line, w, e)) read = inl (ap status_of e)
-unreadable f (inr (inl e)) read = absurd (read (inr (Clicks, e)))
-unreadable f (inr (inr e)) read = inr (ap status_of e)
-
--- ---- a store that isn't read
-
--- of a store's refusals one alone is of the log
-pub refused_read : (r : Refusal) → IsFailedRead (fault.Run (of_refusal r)) → r ≡ Read
-refused_read (OfDisks (disks.Store disk)) (inl e) = absurd cc
-refused_read (OfDisks (disks.Store disk)) (inr (log, e)) = absurd cc
-refused_read (OfDisks (disks.Damaged disk at)) (inl e) = absurd cc
-refused_read (OfDisks (disks.Damaged disk at)) (inr (log, e)) = absurd cc
-refused_read (OfDisks disks.Memory) (inl e) = absurd cc
-refused_read (OfDisks disks.Memory) (inr (log, e)) = absurd cc
-refused_read (Joiners a b) (inl e) = absurd cc
-refused_read (Joiners a b) (inr (log, e)) = absurd cc
-refused_read (Table a b) (inl e) = absurd cc
-refused_read (Table a b) (inr (log, e)) = absurd cc
-refused_read (Place p) (inl e) = absurd cc
-refused_read (Place p) (inr (log, e)) = absurd cc
-refused_read (Limit disk value) (inl e) = absurd cc
-refused_read (Limit disk value) (inr (log, e)) = absurd cc
-refused_read Read e = refl
-
 -- ---- a store that is read, by what a stop might have left of it before its directory was chosen
 
 module _ (before placed : Images) (within : (disk : DiskName) (c : List ℕ) → placed disk c → before disk c) where

@@ -1,7 +1,11 @@
 -- What a bulk run does: both logs are made from a seed, both sites run over them as in a drill, and the totals line is told.
-use Rattle.std.specs.Prelude.{ℕ, ◌≡◌, ◌<◌, ◌≤◌, List, ◌++◌, Option, IsSomeAnd, codes}
+use Rattle.std.specs.Prelude.{ℕ, ◌≡◌, ◌<◌, ◌≤◌, List, [], ◌∷◌, ◌++◌, Option, None, IsSomeAnd}
+use Rattle.turn_defs.specs.declared.limits.TheConstants.{MOST_JOINERS}
+use Rattle.registry_state.specs.declared.TheConstants.{MOST_INSERTS}
 use Rattle.lossy_link.specs.Fates.{PlanView}
-use Rattle.lossy_link.specs.Plans.{IsPlanOf}
+use Rattle.lossy_link.specs.declared.plan.Fate.{Fate}
+use Rattle.lossy_link.specs.declared.plan.Fate.TheVariants.{Drop, Twice}
+use Rattle.lossy_link.specs.declared.plan.Rule.{Rule}
 use Rattle.log_records.specs.Lines.{placed}
 use Rattle.turn_defs.specs.Setting.{Setting}
 use Rattle.bulk_logs.specs.Bulk as logs
@@ -12,10 +16,14 @@ use Rattle.photon_cli.specs.declared.wanted.BulkWanted.{BulkWanted}
 use Rattle.photon_cli.specs.Drill.{IsDrilled}
 use Rattle.photon_cli.specs.Words.{BulkValues, IsTextOf}
 
+-- a rule for a thousand packets of each link: the first of this ordinal, then one in so many
+abbrev pub rule : (first every : ℕ) → Fate → Rule
+rule first every fate = record { from = None; to = None; first = first; count = 1000; every = every; fate = fate }
+
 -- Of each link's packets from the fourth on one in seven is dropped, and of those from the sixth on one in eleven of the others
 -- comes again, four packets later.
-abbrev pub plan_text : List ℕ
-plan_text = codes "{\"rules\":[{\"from\":\"any\",\"to\":\"any\",\"first\":3,\"count\":1000,\"every\":7,\"fate\":\"drop\"},{\"from\":\"any\",\"to\":\"any\",\"first\":5,\"count\":1000,\"every\":11,\"fate\":\"twice\",\"by\":4}]}"
+abbrev pub bulk_plan : PlanView
+bulk_plan = record { rules = rule 3 7 Drop ∷ rule 5 11 (Twice 4) ∷ []; stops = []; dead = None }
 
 abbrev pub bulk_values : BulkWanted → BulkValues
 bulk_values w = record { seed = w.seed; count = w.clicks; joiners = w.joiners; shards = w.shards.now; batch = w.batch }
@@ -24,8 +32,8 @@ bulk_values w = record { seed = w.seed; count = w.clicks; joiners = w.joiners; s
 pub record AreBulkRanges (v : BulkValues) : Type 0 where
   pub count : v.count ≤ 100000
   pub some : 0 < v.joiners
-  pub few : v.joiners ≤ 4
-  pub batch : v.batch ≤ 64
+  pub few : v.joiners ≤ MOST_JOINERS
+  pub batch : v.batch ≤ MOST_INSERTS
 
 -- the setting has the records of the two logs that are made of the numbers
 pub record IsBulkSetting (v : BulkValues) (g : Setting) : Type 0 where
@@ -40,10 +48,8 @@ pub record IsBulkSetting (v : BulkValues) (g : Setting) : Type 0 where
 pub record IsBulkRun (v : BulkValues) (log : RunLog) : Type 0 where
   pub setting : Setting
   pub made : IsBulkSetting v setting
-  pub plan : PlanView
-  pub planned : IsPlanOf plan_text plan
   pub lines : List ReportLine
-  pub run : IsDrilled setting plan lines log
+  pub run : IsDrilled setting bulk_plan lines log
 
 -- the totals line was written behind what was there: whole, or a prefix of it
 abbrev pub PrintsTotals : BulkValues → Option RunLog → (old new : List ℕ) → Type 0

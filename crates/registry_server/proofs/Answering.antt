@@ -1,7 +1,8 @@
 -- The rows that look for the proposal at a place and ballot, and those that learn a value.
-use Rattle.std.proofs.Common.{◌≡◌, ℕ, ◌-◌, ◌^◌, ◌<◌, ◌≤◌, ◌&&◌, Bool, true, false, is_some, List, [], ◌∷◌, length, Some, None, refl, sym, ap, ◌∙◌, subst}
+use Rattle.std.proofs.Common.{◌≡◌, ℕ, ◌-◌, ◌<◌, ◌≤◌, ◌&&◌, Bool, true, false, is_some, List, [], ◌∷◌, length, Some, None, refl, sym, ap, ◌∙◌, subst}
+use Rattle.turn_defs.specs.declared.limits.TheConstants.{LAST_SLOT}
 use Rattle.std.specs.Prelude.{Option, option_map}
-use Rattle.std.proofs.lemmas.Bool.{cond-true, cond-false, and_from, and_left, and_right, lt-ltb, le-ltb, eq-eqb, ne_eqb, ltb-true}
+use Rattle.std.proofs.lemmas.Bool.{cond-true, cond-false, and_from, and_left, and_right, lt-ltb, le-ltb, eq-eqb, ne_eqb}
 use Rattle.ballot_core.specs.declared.Ballot.{Ballot}
 use Rattle.registry_state.specs.declared.Batch.{Batch}
 use Rattle.paxos_defs.specs.declared.Place.{Place}
@@ -18,7 +19,7 @@ use Rattle.turn_defs.specs.Setting.{Setting, shards}
 use Rattle.turn_defs.specs.Turns.{idle}
 use Rattle.turn_defs.specs.Server.{ServerKept, ServerLive, is_below_limit, is_next, to_replicas, accept_if, promised, accepted, nacked, gets_promise, gets_accepted, gets_nack, gets_chosen}
 use Rattle.registry_server.specs.Stations.{setting, sent}
-use Rattle.registry_server.specs.ShardStates.{Goes, NotLast, proposal_of, counts_promise, counts_accepted}
+use Rattle.registry_server.specs.ShardStates.{NotLast, proposal_of, counts_promise, counts_accepted}
 use Rattle.registry_server.specs.Cores.{Gives, IsStep}
 use Rattle.registry_server.specs.Rowed.{IsAt, FitsAt, accept_all, current_of, learns_behind}
 use Rattle.registry_server.specs.declared.station.Station.{Station}
@@ -51,13 +52,6 @@ module _ (g : Setting) (site : ℕ) (k : ServerKept) (l : ServerLive) (n r : ℕ
   held_proposal : (l.shards n).proposal ≡ option_map proposal_of h.proposal
   held_proposal = proposal_is h (l.shards n) at.stands
 
-  -- a slot with a proposal is below the limit
-  pub low_slot : (b : Ballot) (p : Proposer) → Some p ≡ current_of h slot b → h.next < 2 ^ 48 - 1
-  low_slot b p s =
-      let c = current_is slot h.next b h.proposal p s in
-      let goes : Goes (Some (proposal_of p)) (length (l.shards n).learned) = subst (λ (o : Option Proposer). Goes (option_map proposal_of o) (length (l.shards n).learned)) c.0 at.stands.learned.goes in
-      subst (λ m. m < 2 ^ 48 - 1) (sym next_is) (ltb-true (length (l.shards n).learned) (2 ^ 48 - 1) goes.0)
-
   module _ (b : Ballot) where
     pub promise_none : (from : ℕ) (prior : Option (Ballot × Batch)) → None ≡ current_of h slot b → gets_promise g site k l from (at_slot n slot) b prior (l.shards n) (l.shards n).proposal ≡ idle l
     promise_none from prior s =
@@ -87,11 +81,6 @@ module _ (g : Setting) (site : ℕ) (k : ServerKept) (l : ServerLive) (n r : ℕ
           row_some g (at_slot n slot) b (l.shards n) l h (λ o. gets_accepted g site k l from (at_slot n slot) b (l.shards n) o) (λ q. accepted g site k l (at_slot n slot) (l.shards n) q (on_accepted q.phase from).0 (on_accepted q.phase from).1)
           at.within next_is held_proposal (λ q. refl) p s
 
-      pub nack_some : (above : Ballot) → gets_nack g site k l (at_slot n slot) b above (l.shards n) (l.shards n).proposal ≡ nacked g site k l (at_slot n slot) (l.shards n) above
-      nack_some above =
-          row_some g (at_slot n slot) b (l.shards n) l h (λ o. gets_nack g site k l (at_slot n slot) b above (l.shards n) o) (λ q. nacked g site k l (at_slot n slot) (l.shards n) above)
-          at.within next_is held_proposal (λ q. refl) p s
-
       -- one acceptance more is counted
       pub counted_gives : (from : ℕ) (turn : Turn) (items : List (Node × Packet)) → is_some (acceptance_turn p from b).1 ≡ false → IsStep turn n r items (Accept from) → sent items ≡ []
           → Gives g site l turn (gets_accepted g site k l from (at_slot n slot) b (l.shards n) (l.shards n).proposal)
@@ -113,13 +102,13 @@ module _ (g : Setting) (site : ℕ) (k : ServerKept) (l : ServerLive) (n r : ℕ
   pub told_other : (v : Batch) → (slot ≡ h.next → ⊥) → gets_chosen g site k l (at_slot n slot) v (l.shards n) ≡ idle l
   told_other v ne = cond-false (is_next g (at_slot n slot) (l.shards n) && is_below_limit slot) _ (idle l) (and_left _ _ (and_right _ _ (ne_eqb slot (length (l.shards n).learned) (λ e. ne (e ∙ sym next_is)))))
 
-  pub told_high : (v : Batch) → 2 ^ 48 - 1 ≤ slot → gets_chosen g site k l (at_slot n slot) v (l.shards n) ≡ idle l
-  told_high v most = cond-false (is_next g (at_slot n slot) (l.shards n) && is_below_limit slot) _ (idle l) (and_right _ _ (le-ltb slot (2 ^ 48 - 1) most))
+  pub told_high : (v : Batch) → LAST_SLOT ≤ slot → gets_chosen g site k l (at_slot n slot) v (l.shards n) ≡ idle l
+  told_high v most = cond-false (is_next g (at_slot n slot) (l.shards n) && is_below_limit slot) _ (idle l) (and_right _ _ (le-ltb slot LAST_SLOT most))
 
-  pub told_gives : (v w : Batch) (turn : Turn) (items : List (Node × Packet)) → slot ≡ h.next → slot < 2 ^ 48 - 1 → w ≡ v → items ≡ [] → Gives g site l turn (learns_behind g site k l n w (sent items))
+  pub told_gives : (v w : Batch) (turn : Turn) (items : List (Node × Packet)) → slot ≡ h.next → slot < LAST_SLOT → w ≡ v → items ≡ [] → Gives g site l turn (learns_behind g site k l n w (sent items))
       → Gives g site l turn (gets_chosen g site k l (at_slot n slot) v (l.shards n))
   told_gives v w turn items e low ev ei gives =
-      let test : (is_next g (at_slot n slot) (l.shards n) && is_below_limit slot) ≡ true = and_from _ _ (and_from _ _ (lt-ltb n (shards g) at.within) (eq-eqb slot (length (l.shards n).learned) (e ∙ next_is))) (lt-ltb slot (2 ^ 48 - 1) low) in
+      let test : (is_next g (at_slot n slot) (l.shards n) && is_below_limit slot) ≡ true = and_from _ _ (and_from _ _ (lt-ltb n (shards g) at.within) (eq-eqb slot (length (l.shards n).learned) (e ∙ next_is))) (lt-ltb slot LAST_SLOT low) in
       same_row g site l turn _ _ (cond-true _ _ (idle l) test)
       (subst (λ (z : Batch). Gives g site l turn (learns_behind g site k l n z [])) ev (subst (λ (ps : List (Node × Packet)). Gives g site l turn (learns_behind g site k l n w (sent ps))) ei gives))
 

@@ -169,10 +169,6 @@ module _ {D : Type 0} (image : D → List ℕ → Type 0) (since : D → D → L
       joins image since old mid new (KeptOn t) (weaker image since old mid (image old) (KeptOn t) (λ c here. kept_still s t n b c led (durable c here)) first)
       (weaker image since mid new (OnDiskOr s.kept.disk turn.note) (KeptOn t) (λ c holds. kept_or s t n b i turn c led reads is holds) next)
 
-  -- only room was made
-  pub room_moments : (old new : D) (s t : ServerState) (n : ℕ) (b : Bytes) → Leads server_rows s (Begin n b) t → ((c : List ℕ) → image old c → OnDisk s.kept.disk c) → Throughout image since old new (image old) → Throughout image since old new (KeptOn t)
-  room_moments old new s t n b led durable all = weaker image since old new (image old) (KeptOn t) (λ c here. kept_still s t n b c led (durable c here)) all
-
   pub turn_grown : (old mid new : D) → Throughout image since old mid (image old) → ((c : List ℕ) → image new c → Continues (image mid) c) → (c : List ℕ) → image new c → Continues (image old) c
   turn_grown old mid new first next c here = continues_through (image old) (image mid) (λ d now. continues_same (image old) d (first.now d now)) c (next c here)
 

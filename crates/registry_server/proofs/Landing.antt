@@ -1,30 +1,29 @@
 -- What a server over its disk stands for.
 use Rattle.std.proofs.Common.{◌≡◌, ◌⊎◌, inl, inr, ⊎_elim, ℕ, ◌+◌, ◌==◌, Bool, true, false, cond, List, [], Option, Some, None, refl, sym, ap, ◌∙◌, subst}
+use Rattle.ballot_core.specs.declared.TheConstants.{LAST_EPOCH}
 use Rattle.std.specs.Prelude.{is_some, option_map, Result, Ok}
 use Rattle.std.specs.Result.{result_unwrap_or}
 use Rattle.std.proofs.lemmas.Bool.{cond-true, true≢false}
-use Rattle.epoch_journal.specs.Epochs.{epoch_record, Keeps, KeepsOr, IsLeft}
+use Rattle.epoch_journal.specs.Epochs.{KeepsOr, IsLeft}
 use Rattle.gate_journal.specs.declared.journal.JournalState.{JournalState}
-use Rattle.gate_journal.specs.declared.journal.JournalState.TheVariants.{Ready}
 use Rattle.air_bus.specs.declared.entry.Input.{Input as Bytes}
 use Rattle.air_bus.specs.declared.entry.Input.TheVariants as bytes
 use Rattle.turn_defs.specs.declared.node.Input.{Input}
 use Rattle.turn_defs.specs.declared.node.Input.TheVariants.{Start, Own, Tick, Deliver}
 use Rattle.turn_defs.specs.Setting.{Setting}
-use Rattle.turn_defs.specs.Turns.{land}
 use Rattle.site_node.specs.Bytes.{record_of, Reads, IsInput, IsJunk}
 use Rattle.site_node.specs.States.{MayTake}
 use Rattle.site_node.specs.declared.kind.NodeFault.{NodeFault}
 use Rattle.site_node.specs.declared.kind.NodeFault.TheVariants as fault
 use Rattle.site_node.specs.declared.roster.Roster.{Roster}
 use Rattle.site_node.specs.Rosters.{IsOf}
-use Rattle.turn_defs.specs.Server.{ServerKept, ServerLive, land_server}
+use Rattle.turn_defs.specs.Server.{ServerKept, ServerLive}
 use Rattle.registry_server.specs.Cores.{Stands, note_of}
-use Rattle.registry_server.specs.Registrars.{SiteKept, RegistrarView, ServesSite, Knows, KnowsAs, Fits, IsNextNote}
+use Rattle.registry_server.specs.Registrars.{SiteKept, RegistrarView, ServesSite, Knows, KnowsAs, Fits}
 use Rattle.registry_server.specs.declared.server_core.ServerCore.{ServerCore}
 use Rattle.registry_server.specs.declared.turn.ServerNote.{ServerNote}
 use Rattle.registry_server.specs.declared.turn.ServerNote.TheVariants as notes
-use Rattle.registry_server.specs.Node.{ServerState, recorded, Holds, HoldsOr, StandsAt, is_spent_at, spent_at, IsNotPrepared}
+use Rattle.registry_server.specs.Node.{ServerState, recorded, Holds, StandsAt, is_spent_at, spent_at, IsNotPrepared}
 
 pub none_of : {A : Type 0} (o : Option A) → is_some o ≡ false → o ≡ None
 none_of None off = refl
@@ -32,35 +31,12 @@ none_of (Some x) off = absurd (cc off)
 
 -- ---- one epoch more
 
--- the note of the next epoch, once it is on the disk
-pub holds_next : (k : ServerKept) (n : Option ServerNote) (p : List ℕ) (epoch epoch' : ℕ) (image image' : List ℕ → Type 0) (state state' : JournalState) → Some p ≡ recorded n → IsNextNote epoch n → Holds epoch image state k
-    → state' ≡ Ready → epoch' ≡ epoch + 1 → ((c : List ℕ) → image' c → Keeps epoch' c) → Holds epoch' image' state' (land land_server (option_map note_of n) k)
-holds_next k None p epoch epoch' image image' state state' e next holds ready raised durable = absurd (cc e)
-holds_next k (Some (notes.Epoch m)) p epoch epoch' image image' state state' e next holds ready raised durable =
-    let is : epoch' ≡ m = raised ∙ sym next.0 in
-    record { ready = ready; epoch = is; durable = λ c here. subst (λ (x : ℕ). Keeps x c) is (durable c here) }
-
-pub holds_none : (k : ServerKept) (n : Option ServerNote) (epoch : ℕ) (image : List ℕ → Type 0) (state : JournalState) → None ≡ recorded n → Holds epoch image state k → Holds epoch image state (land land_server (option_map note_of n) k)
-holds_none k None epoch image state e holds = holds
-holds_none k (Some (notes.Epoch m)) epoch image state e holds = absurd (cc e)
-
 some_bytes : (r s : List ℕ) → Some r ≡ Some s → r ≡ s
 some_bytes r s e = ap (λ (o : Option (List ℕ)). bytes_in o) e
   where
     bytes_in : Option (List ℕ) → List ℕ
     bytes_in None = []
     bytes_in (Some b) = b
-
--- the same, where the disk failed
-pub doubts_next : (k : ServerKept) (n : Option ServerNote) (p : List ℕ) (epoch epoch' : ℕ) (image image' : List ℕ → Type 0) (state state' : JournalState) → Some p ≡ recorded n → IsNextNote epoch n → Holds epoch image state k
-    → epoch' ≡ epoch → ((c : List ℕ) → image' c → KeepsOr epoch (epoch + 1) c) → HoldsOr (Some p) n epoch' image' state' k
-doubts_next k None p epoch epoch' image image' state state' e next holds same images = absurd (cc e)
-doubts_next k (Some (notes.Epoch m)) p epoch epoch' image image' state state' e next holds same images =
-    let is : m ≡ k.epoch + 1 = next.0 ∙ ap (λ (x : ℕ). x + 1) holds.epoch in (
-      record { images = λ c here. subst (λ (x : ℕ). KeepsOr x (x + 1) c) holds.epoch (images c here); epoch = same ∙ holds.epoch },
-      ap (λ (x : ℕ). Some (notes.Epoch x)) is,
-      some_bytes p (epoch_record m) e ∙ ap epoch_record is,
-    )
 
 -- ---- which epoch a disk keeps after a stop
 
@@ -143,9 +119,9 @@ stands_up v g k live l knows up = go v.up (subst (λ (o : Option ServerLive). Kn
 
 -- ---- spent epochs
 
-spent_start : (k : ServerKept) (epoch e : ℕ) → epoch ≡ k.epoch → e ≡ epoch → (epoch == 4294967294) ≡ true → cond (k.epoch == 4294967294) (Some k.epoch) None ≡ Some e
+spent_start : (k : ServerKept) (epoch e : ℕ) → epoch ≡ k.epoch → e ≡ epoch → (epoch == LAST_EPOCH) ≡ true → cond (k.epoch == LAST_EPOCH) (Some k.epoch) None ≡ Some e
 spent_start k epoch e same told is =
-    cond-true (k.epoch == 4294967294) (Some k.epoch) None (ap (λ n. n == 4294967294) (sym same) ∙ is) ∙ ap (λ n. Some n) (sym (told ∙ same))
+    cond-true (k.epoch == LAST_EPOCH) (Some k.epoch) None (ap (λ n. n == LAST_EPOCH) (sym same) ∙ is) ∙ ap (λ n. Some n) (sym (told ∙ same))
 
 not_spent : {P : Type 0} (epoch : ℕ) (i j : Input) → i ≡ j → is_spent_at epoch j ≡ false → is_spent_at epoch i ≡ true → P
 not_spent epoch i j is off on = absurd (true≢false (sym on ∙ ap (is_spent_at epoch) is ∙ off))
@@ -163,8 +139,8 @@ spent_told s b i f e epoch reads same why is = go b reads (subst (IsNotPrepared 
 -- where the kept epoch is the last one, a start is refused
 pub spent_input : (s : ServerState) (b : Bytes) (i : Input) (e epoch : ℕ) → Reads s.setting b i → epoch ≡ s.kept.disk.epoch → spent_at s b ≡ Some e → is_spent_at epoch i ≡ true
 spent_input s bytes.Start i e epoch reads same is =
-    let last : (s.kept.disk.epoch == 4294967294) ≡ true = go (s.kept.disk.epoch == 4294967294) is in
-    ap (is_spent_at epoch) reads ∙ ap (λ n. n == 4294967294) same ∙ last
+    let last : (s.kept.disk.epoch == LAST_EPOCH) ≡ true = go (s.kept.disk.epoch == LAST_EPOCH) is in
+    ap (is_spent_at epoch) reads ∙ ap (λ n. n == LAST_EPOCH) same ∙ last
   where
     go : (t : Bool) → cond t (Some s.kept.disk.epoch) None ≡ Some e → t ≡ true
     go true h = refl

@@ -1,6 +1,6 @@
 -- Lists of shards that stand for the states of their numbers, changed in one place.
 use Rattle.std.proofs.Common.{◌≡◌, ℕ, ◌+◌, ◌<◌, ◌≤◌, ◌==◌, false, List, [], ◌∷◌, ◌++◌, length, take, drop, get_or, set, refl, sym, ap, ◌∙◌, subst, ⊎_elim, arith}
-use Rattle.std.proofs.lemmas.Bool.{cond_both, cond-true, cond-false, cases_eq, eq-eqb, ne_eqb, eqb-true, cases_lt}
+use Rattle.std.proofs.lemmas.Bool.{cond_both, cases_eq, eqb-true, cases_lt}
 use Rattle.std.proofs.lemmas.List.{get_or-set_same, get_or-set_other, length-set, length-append, get_or_append_left, get_or_at, append-nil, take_all, drop_all}
 use Rattle.list_words.specs.Lists.{set_at}
 use Rattle.turn_defs.specs.Server.{ShardState}
@@ -13,19 +13,6 @@ set_itself {A} f n = λ i m. at m i
   where
     at : (m : ℕ) → set_at f n (f n) m ≡ f m
     at m = cond_both (m == n) (f n) (f m) (λ z. z ≡ f m) (λ e. ap f (sym (eqb-true m n e))) (λ _. refl)
-
-pub put_each : (xs : List Shard) (f : ℕ → ShardState) (i : ℕ) (v : Shard) (st : ShardState) → EachStands xs f → i < length xs → IsShard v st → EachStands (set xs i v) (set_at f i st)
-put_each xs f i v st h w k = λ s d lt. ⊎_elim (λ (e : s ≡ i). subst (λ n. IsShard (get_or (set xs i v) n d) (set_at f i st n)) (sym e) (here d)) (λ (ne : s ≡ i → ⊥). other s d (omega (arith, length-set xs i v)) ne) (cases_eq s i)
-  where
-    here : (d : Shard) → IsShard (get_or (set xs i v) i d) (set_at f i st i)
-    here d = subst (λ x. IsShard x (set_at f i st i)) (sym (get_or-set_same xs i v d w)) (subst (λ z. IsShard v z) (sym (cond-true (i == i) st (f i) (eq-eqb i i refl))) k)
-
-    other : (s : ℕ) (d : Shard) → s < length xs → (s ≡ i → ⊥) → IsShard (get_or (set xs i v) s d) (set_at f i st s)
-    other s d lt ne = subst (λ x. IsShard x (set_at f i st s)) (sym (get_or-set_other xs i s v d ne)) (subst (λ z. IsShard (get_or xs s d) z) (sym (cond-false (s == i) st (f s) (ne_eqb s i ne))) (h s d lt))
-
--- a shard that stands for the same takes another's place
-pub keep_each : (xs : List Shard) (f : ℕ → ShardState) (i : ℕ) (v : Shard) → EachStands xs f → i < length xs → IsShard v (f i) → EachStands (set xs i v) f
-keep_each xs f i v h w k = subst (λ g. EachStands (set xs i v) g) (set_itself f i) (put_each xs f i v (f i) h w k)
 
 -- one shard more
 pub push_each : (xs : List Shard) (f : ℕ → ShardState) (v : Shard) → EachStands xs f → IsShard v (f (length xs)) → EachStands (xs ++ v ∷ []) f

@@ -1,6 +1,6 @@
 -- A step of one shard as a row's turn.
-use Rattle.std.proofs.Common.{◌≡◌, ℕ, suc, ◌+◌, ◌≤◌, true, false, cond, List, [], ◌∷◌, ◌++◌, length, take, Some, None, refl, sym, ap, ◌∙◌, subst, arith}
-use Rattle.std.specs.Prelude.{Option, Bool, option_map, min, nat_le, ◌||◌}
+use Rattle.std.proofs.Common.{◌≡◌, ℕ, suc, ◌+◌, ◌≤◌, true, List, [], ◌∷◌, ◌++◌, length, take, Some, None, refl, sym, ap, ◌∙◌, subst, arith}
+use Rattle.std.specs.Prelude.{Option, option_map, min}
 use Rattle.std.proofs.lemmas.Bool.{cond-true}
 use Rattle.list_words.specs.Lists.{set_at}
 use Rattle.ballot_core.specs.declared.Ballot.{Ballot}
@@ -20,8 +20,8 @@ use Rattle.turn_defs.specs.declared.packet.Packet.TheVariants.{Prepare}
 use Rattle.turn_defs.specs.declared.node.Node.{Node}
 use Rattle.turn_defs.specs.declared.node.To.{To}
 use Rattle.turn_defs.specs.Setting.{Setting}
-use Rattle.turn_defs.specs.Turns.{Out, idle}
-use Rattle.turn_defs.specs.Server.{ServerKept, ServerLive, ShardState, queued, claimed, reply, replies, may_propose, to_replicas}
+use Rattle.turn_defs.specs.Turns.{Out}
+use Rattle.turn_defs.specs.Server.{ServerKept, ServerLive, ShardState, claimed, reply, replies, may_propose, to_replicas}
 use Rattle.registry_server.specs.Stations.{setting, sent}
 use Rattle.registry_server.specs.Replies.{each_reply}
 use Rattle.registry_server.specs.ShardStates.{IsShard, stepped, proposal_of}
@@ -30,10 +30,9 @@ use Rattle.registry_server.specs.Rowed.{IsAt, proposes_if, learns_behind}
 use Rattle.registry_server.specs.declared.station.Station.{Station}
 use Rattle.registry_server.specs.declared.shard.Shard.{Shard}
 use Rattle.registry_server.specs.declared.shard.Step.{Step}
-use Rattle.registry_server.specs.declared.shard.Step.TheVariants.{Queue, Propose, Learn}
+use Rattle.registry_server.specs.declared.shard.Step.TheVariants.{Propose, Learn}
 use Rattle.registry_server.specs.declared.turn.Change.TheVariants as change
 use Rattle.registry_server.specs.declared.turn.Turn.{Turn}
-use Rattle.registry_server.proofs.Placing.{set_itself}
 use Rattle.registry_server.proofs.Sending.{replies_each}
 
 pub queue_is : (h : Shard) (st : ShardState) → IsShard h st → st.queue ≡ waiting h.queue
@@ -62,19 +61,6 @@ module _ (g : Setting) (site : ℕ) (k : ServerKept) (l : ServerLive) (n : ℕ) 
   replayed_gives x a e en ec ep =
       subst (λ (o : Option Answer). Gives g site l turn (claimed g site k l x n (l.shards n) o)) e
       (record { note = ap (option_map note_of) en; packets = ep; live = ap (λ ch. changed g site ch l) ec })
-
-  -- one that isn't
-  pub queued_gives : (x : Insert) (r : ℕ) (items : List (Node × Packet)) → None ≡ replay (l.shards n).learned x.id x.token → IsStep turn n r items (Queue x) → sent items ≡ [] → l.round ≡ r
-      → Gives g site l turn (claimed g site k l x n (l.shards n) (replay (l.shards n).learned x.id x.token))
-  queued_gives x r items e is es er =
-      subst (λ (o : Option Answer). Gives g site l turn (claimed g site k l x n (l.shards n) o)) e
-      (go (queued (l.shards n).queue x.token || nat_le 4096 (length (l.shards n).queue)) (one_gives g site l turn n r l.round items (Queue x) [] _ is es (sym er) refl))
-    where
-      go : (b : Bool)
-          → Gives g site l turn (record { note = None; packets = []; live = record { round = l.round; shards = set_at l.shards n (record (l.shards n) { queue = cond b (l.shards n).queue ((l.shards n).queue ++ x ∷ []) }) } })
-          → Gives g site l turn (cond b (idle l) (record { note = None; packets = []; live = record { round = l.round; shards = set_at l.shards n (record (l.shards n) { queue = (l.shards n).queue ++ x ∷ [] }) } }))
-      go true h = subst (λ (f : ℕ → ShardState). Gives g site l turn (record { note = None; packets = []; live = record { round = l.round; shards = f } })) (set_itself l.shards n) h
-      go false h = h
 
   -- a value that is learned
   pub learned_gives : (h : Shard) (v : Batch) (r : ℕ) (items : List (Node × Packet)) (packets : List (To × Packet)) (told : List (Insert × Answer)) → IsAt g h n r l → IsStep turn n r items (Learn v told)

@@ -1,5 +1,7 @@
 -- Where the server's numbers, what it knows and the input have spellings, so have the row's packets and what it knows next.
-use Rattle.std.proofs.Common.{◌≡◌, ℕ, suc, ◌+◌, ◌-◌, ◌^◌, ◌<◌, ◌≤◌, ◌&&◌, ◌||◌, Bool, true, false, cond, List, [], ◌∷◌, ◌++◌, length, take, set, Option, Some, None, refl, subst, arith}
+use Rattle.std.proofs.Common.{◌≡◌, ℕ, suc, ◌+◌, ◌^◌, ◌<◌, ◌≤◌, ◌&&◌, ◌||◌, Bool, true, false, cond, List, [], ◌∷◌, ◌++◌, length, take, set, Option, Some, None, refl, subst, arith}
+use Rattle.turn_defs.specs.declared.limits.TheConstants.{LAST_SLOT}
+use Rattle.ballot_core.specs.declared.TheConstants.{LAST_EPOCH}
 use Rattle.std.specs.Prelude.{nat_lt, nat_le, All}
 use Rattle.std.proofs.lemmas.Bool.{cond_both, ltb-true, and_parts}
 use Rattle.std.proofs.lemmas.List.{length-take}
@@ -179,8 +181,8 @@ module _ (g : Setting) (site : ℕ) (plan : IsSpelledPlan g site) where
         let st = l.shards s in
         let is = live.each s in
         let few = plan.shards in
-        let round : l.round < 2 ^ 48 - 1 = ltb-true l.round (2 ^ 48 - 1) low in
-        let slot : length st.learned < 2 ^ 48 - 1 = ltb-true (length st.learned) (2 ^ 48 - 1) (and_parts _ _ (and_parts _ _ may).1).1 in
+        let round : l.round < LAST_SLOT = ltb-true l.round LAST_SLOT low in
+        let slot : length st.learned < LAST_SLOT = ltb-true (length st.learned) LAST_SLOT (and_parts _ _ (and_parts _ _ may).1).1 in
         let shard_is : s < 16 = omega arith in
         let slot_is : length st.learned < 2 ^ 48 = omega arith in
         let round_is : suc l.round < 2 ^ 48 = omega arith in
@@ -311,7 +313,7 @@ pub empty_ok : IsSpelledShard empty_shard
 empty_ok = record { learned = tt; queue = tt; proposal = tt }
 
 -- a server that begins anew
-pub start_ok : (k : ServerKept) → k.epoch < 4294967294 → IsSpelledLive (record { epoch = suc k.epoch }) (server_start k).live
+pub start_ok : (k : ServerKept) → k.epoch < LAST_EPOCH → IsSpelledLive (record { epoch = suc k.epoch }) (server_start k).live
 start_ok k low = record { epoch = omega arith; round = omega arith; each = λ s. empty_ok }
 
 pub sent_ok : (g : Setting) (rows : List (To × Packet)) (ps : List (Node × Packet)) → Sends rows → Addressed g rows ps → All (λ (p : Node × Packet). IsPacket p.1) ps

@@ -1,9 +1,10 @@
 -- What a core stands for, shard by shard.
-use Rattle.std.proofs.Common.{◌≡◌, ℕ, zero, suc, ◌+◌, ◌-◌, ◌^◌, ◌<◌, ◌≤◌, ◌&&◌, Bool, true, false, cond, List, ◌++◌, length, get_or, set, Some, None, refl, sym, ap, ◌∙◌, subst, arith}
+use Rattle.std.proofs.Common.{◌≡◌, ℕ, zero, suc, ◌+◌, ◌-◌, ◌<◌, ◌≤◌, ◌&&◌, Bool, true, false, cond, List, ◌++◌, length, get_or, Some, None, refl, sym, ap, ◌∙◌, subst, arith}
+use Rattle.turn_defs.specs.declared.limits.TheConstants.{LAST_SLOT}
 use Rattle.std.specs.Prelude.{Option}
 use Rattle.std.proofs.lemmas.Bool.{cond-true, cond-false, cond_both, and_left, le-ltb, lt-ltb}
 use Rattle.std.proofs.lemmas.Option.{same_Some}
-use Rattle.std.proofs.lemmas.List.{append-nil, append_assoc, length-set, get_or-set_same}
+use Rattle.std.proofs.lemmas.List.{append-nil, append_assoc}
 use Rattle.ballot_core.specs.declared.Ballot.{Ballot}
 use Rattle.registry_state.specs.declared.Insert.{Insert}
 use Rattle.registry_state.specs.declared.Batch.{Batch}
@@ -19,13 +20,11 @@ use Rattle.turn_defs.specs.Turns.{Out, idle}
 use Rattle.turn_defs.specs.Nodes.{Addressed}
 use Rattle.turn_defs.specs.Server.{ServerKept, ServerLive, ShardState, Proposal, first_shard, may_propose, owns, server_own, is_next, is_current, is_below_limit, gets_promise, gets_accepted, gets_nack, gets_chosen, server_gets, again, all_again}
 use Rattle.registry_server.specs.Stations.{setting}
-use Rattle.registry_server.specs.ShardStates.{IsShard, FitsStep, passes}
-use Rattle.registry_server.specs.Cores.{Stands, Gives, IsTurn, FitsChange}
-use Rattle.registry_server.specs.Rowed.{IsAt, FitsAt, number_of, proposes_if}
+use Rattle.registry_server.specs.ShardStates.{IsShard, passes}
+use Rattle.registry_server.specs.Cores.{Stands, Gives, IsTurn}
+use Rattle.registry_server.specs.Rowed.{IsAt, number_of, proposes_if}
 use Rattle.registry_server.specs.declared.shard.Shard.{Shard}
 use Rattle.registry_server.specs.declared.shard.Test.{Test}
-use Rattle.registry_server.specs.declared.turn.Change.{Change}
-use Rattle.registry_server.specs.declared.turn.Change.TheVariants as change
 use Rattle.registry_server.specs.declared.turn.Turn.{Turn}
 use Rattle.registry_server.specs.declared.server_core.ServerCore.{ServerCore}
 use Rattle.registry_server.proofs.Sending.{addressed}
@@ -119,26 +118,6 @@ module _ (core : ServerCore) (g : Setting) (k : ServerKept) (l : ServerLive) (h 
   pub for_setting : (turn : Turn) (out : Setting → Out ServerLive) → Gives (setting core.station g) core.station.site l turn (out (setting core.station g)) → Gives g core.station.site l turn (out g)
   for_setting turn out gives = subst (λ z. Gives z core.station.site l turn (out z)) (sym h.numbers) gives
 
--- a change of one shard, which took its place
-pub fits_at : (n : ℕ) (ch : Change) (xs : List Shard) (v : Shard) → n < length xs → FitsAt n ch v → FitsChange ch (set xs n v)
-fits_at n change.Nothing xs v lt f = tt
-fits_at n (change.Start shards) xs v lt f = absurd f
-fits_at n change.Tick xs v lt f = absurd f
-fits_at n (change.One s r step) xs v lt f = (
-  subst (λ m. m < length (set xs n v)) (sym f.0) (let e = length-set xs n v in omega arith),
-  λ d. subst (λ m. FitsStep step (get_or (set xs n v) m d)) (sym f.0) (subst (FitsStep step) (sym (get_or-set_same xs n v d lt)) f.1),
-)
-
--- the same, where nothing took its place
-pub fits_here : (n : ℕ) (ch : Change) (xs : List Shard) (v : Shard) → n < length xs → ((d : Shard) → get_or xs n d ≡ v) → FitsAt n ch v → FitsChange ch xs
-fits_here n change.Nothing xs v lt is f = tt
-fits_here n (change.Start shards) xs v lt is f = absurd f
-fits_here n change.Tick xs v lt is f = absurd f
-fits_here n (change.One s r step) xs v lt is f = (
-  subst (λ m. m < length xs) (sym f.0) lt,
-  λ d. subst (λ m. FitsStep step (get_or xs m d)) (sym f.0) (subst (FitsStep step) (sym (is d)) f.1),
-)
-
 -- what is sent is addressed
 pub turn_of : (g : Setting) (site : ℕ) (l : ServerLive) (turn : Turn) (out : Out ServerLive) → Gives g site l turn out → IsTurn g site l turn out
 turn_of g site l turn out h = record { note = h.note; packets = subst (λ ps. Addressed g ps turn.packets.items) h.packets (addressed g turn.packets.items); live = h.live }
@@ -153,13 +132,13 @@ first_passes P from (suc m) n e = go (P from) refl e (λ h. first_passes P (suc 
     go false off h later = later h
 
 module _ (g : Setting) (site : ℕ) (k : ServerKept) (l : ServerLive) where
-  pub own_spent : 2 ^ 48 - 1 ≤ l.round → server_own g site k l ≡ idle l
-  own_spent most = cond-false (is_below_limit l.round) _ (idle l) (le-ltb l.round (2 ^ 48 - 1) most)
+  pub own_spent : LAST_SLOT ≤ l.round → server_own g site k l ≡ idle l
+  own_spent most = cond-false (is_below_limit l.round) _ (idle l) (le-ltb l.round LAST_SLOT most)
 
   pub own_none : None ≡ first_shard (λ s. may_propose g (l.shards s)) 0 (shards g) → server_own g site k l ≡ idle l
   own_none e = cond_both (is_below_limit l.round) (owns g site k l (first_shard (λ s. may_propose g (l.shards s)) 0 (shards g))) (idle l) (λ o. o ≡ idle l) (λ _. ap (owns g site k l) (sym e)) (λ _. refl)
 
-  pub own_is : (n : ℕ) → l.round < 2 ^ 48 - 1 → Some n ≡ first_shard (λ s. may_propose g (l.shards s)) 0 (shards g) → server_own g site k l ≡ proposes_if g site k l n
+  pub own_is : (n : ℕ) → l.round < LAST_SLOT → Some n ≡ first_shard (λ s. may_propose g (l.shards s)) 0 (shards g) → server_own g site k l ≡ proposes_if g site k l n
   own_is n low e =
-      cond-true (is_below_limit l.round) _ (idle l) (lt-ltb l.round (2 ^ 48 - 1) low) ∙ ap (owns g site k l) (sym e)
+      cond-true (is_below_limit l.round) _ (idle l) (lt-ltb l.round LAST_SLOT low) ∙ ap (owns g site k l) (sym e)
       ∙ sym (cond-true (may_propose g (l.shards n)) _ (idle l) (first_passes (λ s. may_propose g (l.shards s)) 0 (shards g) n e))

@@ -1,5 +1,6 @@
 -- What the tests of a shard say.
-use Rattle.std.proofs.Common.{◌≡◌, ℕ, ◌<◌, ◌-◌, ◌^◌, ◌==◌, ◌&&◌, true, not, is_none, List, [], ◌∷◌, length, Some, None, refl, sym, ap, ◌∙◌, arith}
+use Rattle.std.proofs.Common.{◌≡◌, ℕ, ◌<◌, ◌==◌, ◌&&◌, true, not, is_none, List, [], ◌∷◌, length, Some, None, refl, sym, ap, ◌∙◌, arith}
+use Rattle.turn_defs.specs.declared.limits.TheConstants.{LAST_SLOT}
 use Rattle.std.specs.Prelude.{Bool, Option, option_map, nat_lt, ◌||◌}
 use Rattle.std.proofs.lemmas.Bool.{and_parts, ltb-true, ne_eqb}
 use Rattle.registry_state.specs.declared.Insert.{Insert}
@@ -24,7 +25,7 @@ empty_is [] = refl
 empty_is (x ∷ xs) = ne_eqb (length (x ∷ xs)) 0 (λ e. omega arith)
 
 module _ (t : Station) (g : Setting) (h : Shard) (st : ShardState) where
-  pub may_is : (free empty below low : Bool) → IsShard h st → free ≡ is_none h.proposal → empty ≡ (length (waiting h.queue) == 0) → below ≡ passes (setting t g) IsBelowHorizon st → low ≡ nat_lt h.next (2 ^ 48 - 1)
+  pub may_is : (free empty below low : Bool) → IsShard h st → free ≡ is_none h.proposal → empty ≡ (length (waiting h.queue) == 0) → below ≡ passes (setting t g) IsBelowHorizon st → low ≡ nat_lt h.next LAST_SLOT
       → ((free && not h.held) && ((not empty || below) && low)) ≡ may_propose (setting t g) st
   may_is free empty below low is ef ee eb el =
       let f : free ≡ is_free st.proposal = ef ∙ free_is h.proposal ∙ ap is_free (sym (proposal_is h st is)) in
@@ -41,6 +42,6 @@ module _ (t : Station) (g : Setting) (h : Shard) (st : ShardState) where
       let held : h.held ≡ st.held = sym (ap (λ (s : ShardState). s.held) is.is) in
       λ i. (not (f i) || held i) || (not (e i) || eb i)
 
-pub may_low : (n : ℕ) (free held empty below low : Bool) → low ≡ nat_lt n (2 ^ 48 - 1) → ((free && not held) && ((not empty || below) && low)) ≡ true → n < 2 ^ 48 - 1
+pub may_low : (n : ℕ) (free held empty below low : Bool) → low ≡ nat_lt n LAST_SLOT → ((free && not held) && ((not empty || below) && low)) ≡ true → n < LAST_SLOT
 may_low n free held empty below low el e =
-    ltb-true n (2 ^ 48 - 1) (sym el ∙ (and_parts (not empty || below) low (and_parts (free && not held) ((not empty || below) && low) e).1).1)
+    ltb-true n LAST_SLOT (sym el ∙ (and_parts (not empty || below) low (and_parts (free && not held) ((not empty || below) && low) e).1).1)

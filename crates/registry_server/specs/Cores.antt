@@ -1,5 +1,6 @@
 -- A server's core as what it stands for, and its turns as rows of the turn table.
 use Rattle.std.specs.Prelude.{◌≡◌, ℕ, ◌<◌, ◌+◌, List, length, get_or, false, Some, None, option_map, ⊤}
+use Rattle.ballot_core.specs.declared.TheConstants.{LAST_EPOCH}
 use Rattle.list_words.specs.Lists.{set_at}
 use Rattle.time_shards.specs.declared.ShardRow.{ShardRow}
 use Rattle.turn_defs.specs.Setting.{Setting}
@@ -49,7 +50,7 @@ CarriesStart (Packet from p) k = ⊥
 
 -- a start may raise the epoch
 abbrev pub MayStart : ServerInput → Type 0
-MayStart (Start e) = e < 4294967294
+MayStart (Start e) = e < LAST_EPOCH
 MayStart Own = ⊤
 MayStart Tick = ⊤
 MayStart (Packet from p) = ⊤

@@ -1,5 +1,6 @@
 -- A server over its disk, beside the states that its entries lead through.
 use Rattle.std.specs.Prelude.{◌≡◌, ◌⊎◌, ℕ, ◌+◌, ◌<◌, ◌==◌, List, Bool, true, false, if◌then◌else◌, Option, Some, None, option_map}
+use Rattle.ballot_core.specs.declared.TheConstants.{LAST_EPOCH}
 use Rattle.epoch_journal.specs.Epochs.{epoch_record, Keeps, KeepsOr}
 use Rattle.gate_journal.specs.Disk.{HasRoom}
 use Rattle.gate_journal.specs.declared.journal.JournalState.{JournalState}
@@ -56,14 +57,14 @@ KeptOn s bytes = (k : SiteKept) × MayHold server_rows s k × OnDisk k.disk byte
 
 -- a start has no epoch left
 abbrev pub is_spent_at : ℕ → Input → Bool
-is_spent_at epoch Start = epoch == 4294967294
+is_spent_at epoch Start = epoch == LAST_EPOCH
 is_spent_at epoch Own = false
 is_spent_at epoch Tick = false
 is_spent_at epoch (Deliver n p) = false
 
 -- the kept epoch, where the input would raise it past the last one
 abbrev pub spent_at : ServerState → Bytes → Option ℕ
-spent_at s bytes.Start = if s.kept.disk.epoch == 4294967294 then Some s.kept.disk.epoch else None
+spent_at s bytes.Start = if s.kept.disk.epoch == LAST_EPOCH then Some s.kept.disk.epoch else None
 spent_at s bytes.Own = None
 spent_at s bytes.Tick = None
 spent_at s (bytes.Packet from b) = None
@@ -119,7 +120,7 @@ IsRoomFor (Some r) calls_left bytes_left = HasRoom calls_left bytes_left 5
 -- a record to append is of an epoch above one that isn't the last
 abbrev pub IsBelowLast : Option (List ℕ) → ℕ → Type 0
 IsBelowLast None epoch = Unit {0}
-IsBelowLast (Some r) epoch = epoch < 4294967294
+IsBelowLast (Some r) epoch = epoch < LAST_EPOCH
 
 -- the turn's packets and its note are spelled, and it can be kept
 pub record IsReady (core : ServerCore) (epoch : ℕ) (turn : Turn) (sent : List (ℕ × List ℕ)) (framed : Option (List ℕ)) : Type 0 where

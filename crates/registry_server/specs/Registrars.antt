@@ -1,5 +1,6 @@
 -- A server that is up or down, as its rows see it.
 use Rattle.std.specs.Prelude.{◌≡◌, ◌⊎◌, ℕ, ◌+◌, ◌<◌, Bool, true, false, Option, Some, None, option_map}
+use Rattle.ballot_core.specs.declared.TheConstants.{LAST_EPOCH}
 use Rattle.turn_defs.specs.declared.node.Input.{Input}
 use Rattle.turn_defs.specs.declared.node.Input.TheVariants.{Start, Own, Tick, Deliver}
 use Rattle.turn_defs.specs.Setting.{Setting}
@@ -62,7 +63,7 @@ Fits (Some l) (Deliver n p) = Unit {0}
 
 -- a start may raise the epoch
 abbrev pub MayRaise : ℕ → Input → Type 0
-MayRaise epoch Start = epoch < 4294967294
+MayRaise epoch Start = epoch < LAST_EPOCH
 MayRaise epoch Own = Unit {0}
 MayRaise epoch Tick = Unit {0}
 MayRaise epoch (Deliver n p) = Unit {0}
@@ -70,7 +71,7 @@ MayRaise epoch (Deliver n p) = Unit {0}
 -- a note is of the epoch above this one, which isn't the last
 abbrev pub IsNextNote : ℕ → Option ServerNote → Type 0
 IsNextNote epoch None = Unit {0}
-IsNextNote epoch (Some (notes.Epoch e)) = (e ≡ epoch + 1) × (epoch < 4294967294)
+IsNextNote epoch (Some (notes.Epoch e)) = (e ≡ epoch + 1) × (epoch < LAST_EPOCH)
 
 -- the turn's note and its packets are the row's
 pub record IsRow (g : Setting) (out : Out ServerLive) (turn : Turn) : Type 0 where

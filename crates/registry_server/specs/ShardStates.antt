@@ -1,5 +1,6 @@
 -- A shard as the state that it stands for.
-use Rattle.std.specs.Prelude.{◌≡◌, ℕ, ◌<◌, ◌≤◌, ◌-◌, ◌^◌, ◌||◌, ◌++◌, ◌∷◌, [], Bool, true, false, List, length, get_or, nat_lt, nat_le, if◌then◌else◌, Option, Some, None, option_map, is_some, ⊤}
+use Rattle.std.specs.Prelude.{◌≡◌, ℕ, ◌<◌, ◌≤◌, ◌||◌, ◌++◌, ◌∷◌, [], Bool, true, false, List, length, get_or, nat_lt, nat_le, if◌then◌else◌, Option, Some, None, option_map, is_some, ⊤}
+use Rattle.turn_defs.specs.declared.limits.TheConstants.{LAST_SLOT}
 use Rattle.ballot_core.specs.declared.Ballot.{Ballot}
 use Rattle.registry_state.specs.declared.Insert.{Insert}
 use Rattle.registry_state.specs.declared.Batch.{Batch}
@@ -89,7 +90,7 @@ FitsStep (Queue x) h = (0 < places h.queue) × IsUnknown h x
 FitsStep (Propose p) h = (is_below_limit h.next ≡ true) × (is_going (phase_of p) ≡ true)
 FitsStep (Promise r prior) h = ⊤
 FitsStep (Accept r) h = NotLast r (option_map proposal_of h.proposal)
-FitsStep (Learn v told) h = (length v.inserts ≤ room h.registry) × (h.next < 2 ^ 48 - 1) × TellsAnswered h v told
+FitsStep (Learn v told) h = (length v.inserts ≤ room h.registry) × (h.next < LAST_SLOT) × TellsAnswered h v told
 FitsStep Hold h = ⊤
 
 -- what a test of a shard says

@@ -1,5 +1,7 @@
 -- What a server knows has spellings, so what it sends has them.
 use Rattle.std.specs.Prelude.{ℕ, ◌^◌, ◌<◌, ◌≤◌, length, Option, Some, None}
+use Rattle.time_shards.specs.declared.TheConstants.{MAX_SHARDS}
+use Rattle.registry_state.specs.declared.TheConstants.{MOST_INSERTS}
 use Rattle.list_words.specs.Lists.{Each}
 use Rattle.registry_state.specs.declared.Batch.{Batch}
 use Rattle.turn_defs.specs.Spellings.{IsInsert, IsBallot, IsBatch, IsPrior}
@@ -33,8 +35,8 @@ pub record IsSpelledShard (st : ShardState) : Type 0 where
 pub record IsSpelledPlan (g : Setting) (n : ℕ) : Type 0 where
   pub site : n < 2
   pub horizon : g.horizon < 2 ^ 64
-  pub batch : g.batch ≤ 64
-  pub shards : shards g ≤ 16
+  pub batch : g.batch ≤ MOST_INSERTS
+  pub shards : shards g ≤ MAX_SHARDS
 
 -- so is all that it keeps and knows
 pub record IsSpelledLive (k : ServerKept) (l : ServerLive) : Type 0 where

@@ -1,5 +1,7 @@
 // The registry server over its disk.
 ghost use Rattle.std.specs.Prelude.{◌≡◌, ◌≤◌, true, false, None};
+ghost use Rattle.registry_state.specs.declared.TheConstants.{MOST_INSERTS};
+ghost use Rattle.ballot_core.specs.declared.TheConstants.{LAST_EPOCH};
 ghost use Rattle.gate_journal.specs.declared.journal.JournalState.TheVariants.{Ready};
 ghost use Rattle.registry_server.specs.Registrars.{MayRaise};
 ghost use Rattle.registry_server.specs.Node.{is_spent_at};
@@ -8,6 +10,7 @@ use crate::notes::note_record;
 use crate::registrar::Registrar;
 use crate::turn::Turn;
 use air_bus::{Input as Begun, Packets, Payload};
+use ballot_core::LAST_EPOCH;
 use epoch_journal::{EpochJournal, RaiseFault};
 use gate_journal::JournalFault;
 use outside::{Disk, DiskName, Gate, Point};
@@ -15,9 +18,6 @@ use site_node::{Done, NodeFault, Roster, SiteNode, read_input, spell};
 use std::alloc::{AllocError, Global};
 use time_shards::Table;
 use turn_defs::Input;
-
-// No epoch follows this one.
-const LAST: u32 = u32::MAX - 1;
 
 /// A registry server over its epochs: down, up, or stopped in an open turn.
 ///
@@ -76,7 +76,7 @@ impl<D: Disk> ServerNode<D> {
         journal: EpochJournal<D>,
     ) -> Result<ServerNode<D>, EpochJournal<D>>
         requires site { site < 2 }
-        requires batch { batch ≤ 64 }
+        requires batch { batch ≤ MOST_INSERTS }
         requires ready { journal.journal.state ≡ Ready }
         ensures site { IfOk result (λ n. n.site ≡ site) }
         ensures journal { IfOk result (λ n. n.journal ≡ journal) }
@@ -336,10 +336,10 @@ impl<D: Disk> SiteNode for ServerNode<D> {
 // A start has no epoch left.
 fn is_spent(epoch: u32, input: &Input) -> bool
     ensures is { result ≡ is_spent_at epoch input.now }
-    ensures low { epoch ≤ 4294967294 → result ≡ false → MayRaise epoch input.now }
+    ensures low { epoch ≤ LAST_EPOCH → result ≡ false → MayRaise epoch input.now }
 {
     match input {
-        Input::Start => epoch == LAST,
+        Input::Start => epoch == LAST_EPOCH,
         Input::Own | Input::Tick | Input::Deliver { .. } => false,
     }
 }

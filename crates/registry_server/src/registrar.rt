@@ -1,5 +1,6 @@
 // A server that is up or down, and what it knows has spellings.
 ghost use Rattle.std.specs.Prelude.{◌≡◌};
+ghost use Rattle.registry_state.specs.declared.TheConstants.{MOST_INSERTS};
 ghost use Rattle.turn_defs.specs.Server.{ServerKept};
 ghost use Rattle.registry_server.specs.Registrars.{MayRaise};
 ghost use Rattle.registry_server.specs.Cores.{Carries, CarriesStart, MayStart};
@@ -56,7 +57,7 @@ impl Registrar {
         batch: u8,
     ) -> Result<Registrar, AllocError>
         requires site { site < 2 }
-        requires batch { batch ≤ 64 }
+        requires batch { batch ≤ MOST_INSERTS }
         ensures serves { IfOk result (λ r. (g : Setting) → IsNew g joiners horizon table batch → Serves r.core g) }
         ensures site { IfOk result (λ r. site_of r.core ≡ site) }
         ensures down { IfOk result (λ r. r.up ≡ false) }

@@ -1,5 +1,6 @@
 // The rows of a server's turns that look at one shard. Each gives the turn of the row, and says where none applies.
 ghost use Rattle.std.specs.Prelude.{◌≡◌, ◌++◌, ◌-◌, ◌<◌, ◌^◌, IfOk, OnOk, Some, option_map};
+ghost use Rattle.turn_defs.specs.declared.limits.TheConstants.{LAST_SLOT};
 ghost use Rattle.registry_state.specs.LookBack.{replay};
 ghost use Rattle.turn_defs.specs.Setting.{Setting};
 ghost use Rattle.paxos_proposer.specs.Proposals.{prior_of, promise_turn};
@@ -11,7 +12,7 @@ ghost use Rattle.registry_server.specs.Cores.{Gives};
 ghost use Rattle.registry_server.specs.Rowed.{IsAt, IsRow, IsRowOf, FitsAt, StaysShard, accept_all, proposes_if, learns_behind, current_of};
 
 use crate::packets::{ask_all, push_replies, push_reply};
-use crate::shard::{LIMIT, Shard, Step};
+use crate::shard::{Shard, Step};
 use crate::station::Station;
 use crate::turn::{Change, Turn};
 use ballot_core::Ballot;
@@ -19,7 +20,7 @@ use paxos_defs::Place;
 use paxos_proposer::Proposer;
 use registry_state::{Batch, Insert};
 use std::alloc::{AllocError, Global};
-use turn_defs::{Node, Packet};
+use turn_defs::{LAST_SLOT, Node, Packet};
 
 impl Shard {
     // An insert comes. It is answered where a learned value answers it; else it goes to the queue, where its token
@@ -58,7 +59,7 @@ impl Shard {
         round: u64,
         epoch: u32,
     ) -> Result<Turn, AllocError>
-        requires { round < 2 ^ 48 - 1 }
+        requires { round < LAST_SLOT }
         ensures row { IfOk result (λ turn. (g : Setting) (k : ServerKept) (l : ServerLive) → IsAt (setting station.now g) self.now number round l
             → epoch ≡ k.epoch → Gives (setting station.now g) station.now.site l turn (proposes_if (setting station.now g) station.now.site k l number)) }
         ensures fits { IfOk result (λ turn. FitsAt number turn.change self.now) }
@@ -128,7 +129,7 @@ impl Shard {
             return Ok(Turn::idle(station.alloc));
         };
         // A slot with a proposal is below the limit.
-        if self.next >= LIMIT {
+        if self.next >= LAST_SLOT {
             return Ok(Turn::idle(station.alloc));
         }
         let mut packets = Vec::new(station.alloc);
@@ -188,7 +189,7 @@ impl Shard {
         if slot != self.next {
             return Ok(Turn::idle(station.alloc));
         }
-        if slot >= LIMIT {
+        if slot >= LAST_SLOT {
             return Ok(Turn::idle(station.alloc));
         }
         let packets = Vec::new(station.alloc);
@@ -205,7 +206,7 @@ impl Shard {
         value: Batch,
         mut packets: Vec<(Node, Packet)>,
     ) -> Result<Turn, AllocError>
-        requires { self.old.next < 2 ^ 48 - 1 }
+        requires { self.old.next < LAST_SLOT }
         ensures row { IfOk result (λ turn. IsRow station.now self.old number round turn
             (λ g k l. learns_behind g station.now.site k l number value (sent packets.items))) }
         ensures fits { IfOk result (λ turn. FitsAt number turn.change self.new) }

@@ -1,14 +1,16 @@
 // The core: its shards, and which of them a turn is about.
 ghost use Rattle.std.specs.Prelude.{◌≡◌, length};
+ghost use Rattle.registry_state.specs.declared.TheConstants.{MOST_INSERTS};
+ghost use Rattle.ballot_core.specs.declared.TheConstants.{LAST_EPOCH};
 ghost use Rattle.time_shards.specs.Shards.{shard_count};
 
-use crate::shard::{LIMIT, Shard, Test};
+use crate::shard::{Shard, Test};
 use crate::shards::{empty_shards, release_all};
 use crate::station::Station;
 use crate::turn::{Change, ServerInput, ServerNote, Turn};
 use std::alloc::{AllocError, Global};
 use time_shards::Table;
-use turn_defs::{Node, Packet};
+use turn_defs::{LAST_SLOT, Node, Packet};
 
 /// The registry server of a site, between its turns. A turn is decided, its note written and its packets sent, and then
 /// it is kept.
@@ -46,7 +48,7 @@ impl ServerCore {
         table: Table,
         batch: u8,
     ) -> Result<ServerCore, AllocError>
-        requires { batch ≤ 64 }
+        requires { batch ≤ MOST_INSERTS }
         ensures stands { IfOk result (λ core. (g : Setting) → IsNew g joiners horizon table batch → Stands core g (record { epoch = 0 }) (record { round = 0; shards = λ s. empty_shard })) }
         ensures site { IfOk result (λ core. site_of core ≡ site) }
     {
@@ -119,7 +121,7 @@ impl ServerCore {
     pub fn wants(&self) -> bool
         ensures { (g : Setting) (k : ServerKept) (l : ServerLive) → Stands self.now g k l → result ≡ server_wants g l }
     {
-        self.round < LIMIT && self.first(Test::MayPropose).is_some()
+        self.round < LAST_SLOT && self.first(Test::MayPropose).is_some()
     }
 
     /// Whether something waits in some shard, so that it takes a tick. Linear in the shards, at most 16.
@@ -176,7 +178,7 @@ impl ServerCore {
 
     // It comes up: the next epoch is written, and nothing is known.
     fn start(&self, epoch: u32) -> Result<Turn, AllocError>
-        requires { epoch < 4294967294 }
+        requires { epoch < LAST_EPOCH }
         ensures begins { IfOk result (λ turn. (k : ServerKept) → epoch ≡ k.epoch → Begins turn k) }
         ensures start { IfOk result (λ turn. (g : Setting) (k : ServerKept) (l : ServerLive) → epoch ≡ k.epoch
             → Gives g (site_of self.now) l turn (server_start k)) }
@@ -196,7 +198,7 @@ impl ServerCore {
             → Gives g (site_of self.now) l turn (server_own g (site_of self.now) k l)) }
         ensures decided { IfOk result (λ turn. Decided self.now turn) }
     {
-        if self.round >= LIMIT {
+        if self.round >= LAST_SLOT {
             return Ok(Turn::idle(self.station.alloc));
         }
         let Some(number) = self.first(Test::MayPropose) else {

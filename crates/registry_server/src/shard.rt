@@ -1,5 +1,6 @@
 // One shard of a server, and what a kept turn does to it.
 ghost use Rattle.std.specs.Prelude.{◌≡◌, ◌-◌, ◌<◌, ◌≤◌, ◌^◌, ◌++◌, ◌∷◌, [], length, true, false, not, ◌&&◌, ◌||◌};
+ghost use Rattle.turn_defs.specs.declared.limits.TheConstants.{LAST_SLOT};
 ghost use Rattle.id_expiry.specs.Timed.{room};
 ghost use Rattle.batch_queue.specs.Queue.{room as places};
 ghost use Rattle.turn_defs.specs.Setting.{Setting};
@@ -14,9 +15,7 @@ use id_expiry::TimedRegistry;
 use paxos_proposer::Proposer;
 use registry_state::{Batch, Insert};
 use std::alloc::Global;
-
-/// Rounds and slots stay below this.
-pub(crate) const LIMIT: u64 = 0xFFFF_FFFF_FFFF;
+use turn_defs::LAST_SLOT;
 
 /// What a turn does to a shard.
 #[derive(Debug, Drop)]
@@ -84,12 +83,12 @@ impl Shard {
     // No proposal, not held back, below the limit, and an insert waits or the bound is below the horizon.
     pub(crate) fn may_propose(&self, station: &Station) -> bool
         ensures row { (g : Setting) (st : ShardState) → IsShard self.now st → result ≡ passes (setting station.now g) Test.MayPropose st }
-        ensures low { result ≡ true → self.now.next < 2 ^ 48 - 1 }
+        ensures low { result ≡ true → self.now.next < LAST_SLOT }
     {
         let free = self.proposal.is_none();
         let empty = self.queue.is_empty();
         let below = self.is_below_horizon(station);
-        let low = self.next < LIMIT;
+        let low = self.next < LAST_SLOT;
         may_begin(free, self.held, empty, below, low)
     }
 
@@ -160,7 +159,7 @@ impl Shard {
     // The value is applied, its proposal and the holding back end, and inserts that have an answer now wait no more.
     fn learn(&mut self, batch: &Batch, answered: &Answered)
         requires room { length batch.now.inserts ≤ room self.old.registry }
-        requires low { self.old.next < 2 ^ 48 - 1 }
+        requires low { self.old.next < LAST_SLOT }
         requires told { TellsAnswered self.old batch.now answered.now }
         ensures { (g : Setting) (site : _) (st : ShardState) → IsShard self.old st → IsShard self.new (stepped g site (Step.Learn batch.now answered.now) st) }
     {

@@ -1,8 +1,10 @@
 // What is fixed for a server.
 ghost use Rattle.std.specs.Prelude.{◌≤◌};
+ghost use Rattle.registry_state.specs.declared.TheConstants.{MOST_INSERTS};
 
 use std::alloc::Global;
 use time_shards::Table;
+use turn_defs::FIRST_JOINER;
 
 /// What is fixed for a server: its site, how many joiners a site has, the horizon in microseconds, the table of shards,
 /// and the most inserts of a batch.
@@ -14,11 +16,8 @@ pub(crate) struct Station {
     pub(crate) table: Table,
     pub(crate) batch: u8,
     pub(crate) alloc: Global,
-    ghost few: { batch ≤ 64 },
+    ghost few: { batch ≤ MOST_INSERTS },
 }
-
-// The number of the first joiner: two dispatchers, two servers and three replicas have the numbers below it.
-const FIRST_JOINER: u16 = 7;
 
 impl Station {
     ghost use Rattle.std.specs.Prelude.{◌≡◌, ◌≤◌, ◌-◌};

@@ -1,5 +1,5 @@
 -- Where a replica's kept notes and its input have spellings, so have the row's note and packets, and what it keeps then.
-use Rattle.std.proofs.Common.{◌≡◌, Bool, true, false, List, [], ◌∷◌, ◌++◌, Option, Some, None, sym, subst}
+use Rattle.std.proofs.Common.{Bool, true, false, List, [], ◌∷◌, ◌++◌, Option, Some, None, sym, subst}
 use Rattle.std.specs.Prelude.{All, if◌then◌else◌, ⊤}
 use Rattle.list_words.specs.Lists.{Each}
 use Rattle.ballot_core.specs.declared.Ballot.{Ballot}

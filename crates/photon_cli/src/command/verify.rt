@@ -1,5 +1,6 @@
 // The command `verify`, with its exit status.
 ghost use Rattle.std.specs.Prelude.{◌≡◌, ◌≢◌, ◌≤◌, ◌⊎◌, ℕ, List, true, false, IsSomeAnd, IsTrue};
+ghost use Rattle.turn_defs.specs.declared.limits.TheConstants.{MOST_JOINERS};
 ghost use Rattle.outside.specs.declared.store.DiskName.{DiskName};
 ghost use Rattle.outside.specs.Faults.{Counts, Rose};
 ghost use Rattle.log_records.specs.declared.records.ClickRec.{ClickRec as Click};
@@ -47,7 +48,7 @@ pub fn verify_command<F: Source, S: Store, K: Sink>(
     ensures silent { IsTrue K.tells → result ≡ 1 → K.held err.new ≡ K.held err.old }
     ensures stays { IsTrue S.Disk.tells → (disk : DiskName) → StaysAs (S.image store.old disk) (S.image store.new disk) }
     ensures sound { IsTrue S.Disk.tells → (g : Setting) → IsSoundStore g (S.image store.old) → IsSoundStore g (S.image store.new) }
-    ensures welcome { IsTrue S.Disk.tells → IsTrue F.Log.tells → (g : Setting) → IsOverLog (F.bytes files.old) clicks.now g → g.replicas ≡ 3 → g.joiners ≤ 4 → IsSoundStore g (S.image store.old) → ((s : S) → LeavesSomething g (S.image s)) → (result ≢ 7) × (result ≢ 9) }
+    ensures welcome { IsTrue S.Disk.tells → IsTrue F.Log.tells → (g : Setting) → IsOverLog (F.bytes files.old) clicks.now g → g.replicas ≡ 3 → g.joiners ≤ MOST_JOINERS → IsSoundStore g (S.image store.old) → ((s : S) → LeavesSomething g (S.image s)) → (result ≢ 7) × (result ≢ 9) }
     ensures passed { IsTrue S.Disk.tells → IsTrue F.Log.tells → (g : Setting) → IsOverLog (F.bytes files.old) clicks.now g → (result ≡ 0) ⊎ (result ≡ 1) → CanBeRead g (S.image store.old) }
     ensures caused { IsTrue F.Log.tells → (result ≡ 0) ⊎ ((result ≡ 1) ⊎ ((f : Failure) × (result ≡ status_of f) × IsToldOfVerify (F.bytes files.old) clicks.now S.Disk.tells (S.image store.old) (Rose (F.faults files.old) (F.faults files.new)) (Rose (S.faults store.old) (S.faults store.new)) f)) }
     ensures damaged { IsTrue S.Disk.tells → IsTrue F.Log.tells → (g : Setting) → IsOverLog (F.bytes files.old) clicks.now g → (disk : DiskName) → IsTaken (unasked g) (S.image store.old) disk → (WasJournal g (S.image store.old) disk → ⊥)
@@ -56,7 +57,7 @@ pub fn verify_command<F: Source, S: Store, K: Sink>(
         → (Rose (F.faults files.old) (F.faults files.new) → ⊥) → (Rose (S.faults store.old) (S.faults store.new) → ⊥) → (result ≡ 9) ⊎ ((result ≡ 7) ⊎ (result ≡ 8)) }
     ensures limited { IsTrue S.Disk.tells → IsTrue F.Log.tells → (g : Setting) → IsOverLog (F.bytes files.old) clicks.now g → IsAtLimit (unasked g) (S.image store.old)
         → (Rose (F.faults files.old) (F.faults files.new) → ⊥) → (Rose (S.faults store.old) (S.faults store.new) → ⊥) → (result ≡ 10) ⊎ ((result ≡ 9) ⊎ ((result ≡ 7) ⊎ (result ≡ 8))) }
-    ensures complete { IsTrue S.Disk.tells → IsTrue F.Log.tells → (g : Setting) → IsOverLog (F.bytes files.old) clicks.now g → g.replicas ≡ 3 → g.joiners ≤ 4 → IsSoundStore g (S.image store.old) → ((s : S) → LeavesSomething g (S.image s)) → IsBelowLimits (unasked g) (S.image store.old)
+    ensures complete { IsTrue S.Disk.tells → IsTrue F.Log.tells → (g : Setting) → IsOverLog (F.bytes files.old) clicks.now g → g.replicas ≡ 3 → g.joiners ≤ MOST_JOINERS → IsSoundStore g (S.image store.old) → ((s : S) → LeavesSomething g (S.image s)) → IsBelowLimits (unasked g) (S.image store.old)
         → (Rose (F.faults files.old) (F.faults files.new) → ⊥) → (Rose (S.faults store.old) (S.faults store.new) → ⊥) → (Rose (K.faults out.old) (K.faults out.new) → ⊥)
         → (result ≡ 0) ⊎ ((result ≡ 1) ⊎ (result ≡ 8)) }
 {

@@ -11,9 +11,10 @@ use lossy_link::{Plan, PlanStop};
 use mem_outside::{Fuse, MemStore, Stop};
 use outside::Store;
 use std::alloc::{AllocError, Global};
+use turn_defs::MOST_JOINERS;
 
-// No kind has more disks: each of two sites has at most four joiners.
-const MOST_OF_A_KIND: u8 = 8;
+// No kind has more disks: those of the joiners of two sites.
+const MOST_OF_A_KIND: u8 = 2 * MOST_JOINERS;
 
 /// An empty store in memory whose disks stop as the plan says, for so many joiners a site. A stop of a disk that such a run
 /// doesn't have stops none.

@@ -1,5 +1,6 @@
 // The disks of a run, by their kinds and their numbers among those of the kind.
 ghost use Rattle.std.specs.Prelude.{◌≡◌, ◌≤◌, ◌<◌, ◌-◌, false, nat_lt, if◌then◌else◌, Some, None};
+ghost use Rattle.turn_defs.specs.declared.limits.TheConstants.{MOST_JOINERS};
 ghost use Rattle.std.specs.Option.{option_map_or};
 ghost use Rattle.outside.specs.declared.store.DiskName.{DiskName};
 ghost use Rattle.mem_outside.specs.Kept.{same_name};
@@ -10,7 +11,7 @@ use outside::DiskName;
 
 /// The disk of this kind and number, where a run with so many joiners a site has it.
 pub fn disk_at(joiners: u8, kind: DiskKind, number: u8) -> Option<DiskName>
-    requires { joiners ≤ 4 }
+    requires { joiners ≤ MOST_JOINERS }
     ensures { (name : DiskName) → option_map_or (λ found. same_name found name) result false ≡ is_at kind (Some number) (place_of joiners name) }
 {
     let of_second = number >= joiners;

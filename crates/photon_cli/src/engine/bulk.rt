@@ -106,8 +106,9 @@ where
     let Ok(mut files) = bulk_files(alloc, wanted.seed, wanted.clicks) else {
         return Err(Fault::Memory);
     };
-    let Ok(plan) = bulk_plan(alloc) else {
-        return Err(Fault::Memory);
+    let plan = match bulk_plan(alloc) {
+        Ok(plan) => plan,
+        Err(_) => return Err(Fault::Memory),
     };
     let asked = Wanted {
         names: Names {

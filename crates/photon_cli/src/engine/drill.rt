@@ -1,5 +1,7 @@
 // A drill: both sites run over a store in memory that is empty at first, and a plan says what goes wrong.
 ghost use Rattle.std.specs.Prelude.{◌≡◌, ◌<◌, ◌≤◌, ◌⊎◌, ⊤, [], ℕ, List, false, IfErr, IfOk, IfSome, IsErrAnd, IsSomeAnd, IsTrue, OnOk, Err};
+ghost use Rattle.turn_defs.specs.declared.limits.TheConstants.{MOST_JOINERS};
+ghost use Rattle.registry_state.specs.declared.TheConstants.{MOST_INSERTS};
 ghost use Rattle.std.specs.List.{list_any};
 ghost use Rattle.outside.specs.declared.store.DiskName.{DiskName};
 ghost use Rattle.outside.specs.Faults.{Counts};
@@ -38,9 +40,7 @@ use std::alloc::Global;
 use std::sync::Wait;
 use std::thread::Threads;
 use time_shards::Table;
-
-// The number of the first joiner's node.
-const FIRST_JOINER: u16 = 7;
+use turn_defs::FIRST_JOINER;
 
 // Whether a joiner has stopped in the run, if there was one.
 fn joiner_stopped(ran: &Ran) -> bool
@@ -82,9 +82,9 @@ where
     F::Log: Drop,
     requires empty { (disk : DiskName) (c : List ℕ) → ⟦<MemStore as Store>⟧.image store.old disk c → c ≡ [] }
     requires planned { (disk : DiskName) (call : ℕ) → ⟦<MemStore as Store>⟧.stops store.old disk call ≡ is_planned (planned_for config.now.joiners plan.stops disk) call }
-    requires joiners { (0 < config.now.joiners) × (config.now.joiners ≤ 4) }
+    requires joiners { (0 < config.now.joiners) × (config.now.joiners ≤ MOST_JOINERS) }
     requires table { IsTable config.now.table }
-    requires batch { config.now.batch ≤ 64 }
+    requires batch { config.now.batch ≤ MOST_INSERTS }
     ensures drilled { IsTrue F.Log.tells → OfSetting (F.bytes files.old) names.now.queries.now names.now.clicks.now config.now clicks.now.lines_end (λ g. HaveIds g clicks.now.ids.items
         → IfOk result (λ lines. IsSomeAnd ran.new.log (IsDrilled g plan lines.items))) }
     ensures fair { IsTrue F.Log.tells → OfSetting (F.bytes files.old) names.now.queries.now names.now.clicks.now config.now clicks.now.lines_end (λ g. IfErr result (IsFair ⊤)) }

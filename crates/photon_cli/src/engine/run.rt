@@ -1,5 +1,7 @@
 // The run of both sites, and what becomes of each click by what it leaves.
 ghost use Rattle.std.specs.Prelude.{◌<◌, ◌≤◌, IfOk, IfErr, IfSome, IsSomeAnd, OnOk, IsTrue};
+ghost use Rattle.turn_defs.specs.declared.limits.TheConstants.{MOST_JOINERS};
+ghost use Rattle.registry_state.specs.declared.TheConstants.{MOST_INSERTS};
 ghost use Rattle.outside.specs.declared.store.DiskName.{DiskName};
 ghost use Rattle.outside.specs.Faults.{Rose};
 ghost use Rattle.time_shards.specs.Shards.{IsTable};
@@ -51,9 +53,9 @@ where
     G: Gate,
     F::Log: Drop,
     S::Disk: Drop,
-    requires joiners { (0 < config.now.joiners) × (config.now.joiners ≤ 4) }
+    requires joiners { (0 < config.now.joiners) × (config.now.joiners ≤ MOST_JOINERS) }
     requires table { IsTable config.now.table }
-    requires batch { config.now.batch ≤ 64 }
+    requires batch { config.now.batch ≤ MOST_INSERTS }
     ensures sound { IsTrue S.Disk.tells → IsTrue F.Log.tells → OfSetting (F.bytes files.old) names.now.queries.now names.now.clicks.now config.now clicks.now.lines_end (λ g. IsSoundStore g (S.image store.old) → IsSoundStore g (S.image store.new)) }
     ensures grown { IsTrue S.Disk.tells → IsTrue F.Log.tells → OfSetting (F.bytes files.old) names.now.queries.now names.now.clicks.now config.now clicks.now.lines_end (λ g. (disk : DiskName) → GoesOn (S.image store.old disk) (S.image store.new disk)) }
 

@@ -1,5 +1,6 @@
 // A verification: no node runs, and what the disks keep is reported.
 ghost use Rattle.std.specs.Prelude.{◌≡◌, ◌≤◌, ◌⊎◌, ℕ, List, map, None, Some, IfErr, IfOk, OnOk, IsErrAnd, IsSomeAnd, IsTrue, Err, ⊤};
+ghost use Rattle.turn_defs.specs.declared.limits.TheConstants.{MOST_JOINERS};
 ghost use Rattle.std.specs.List.{list_any};
 ghost use Rattle.outside.specs.declared.store.DiskName.{DiskName};
 ghost use Rattle.outside.specs.Faults.{Counts, Rose};
@@ -113,7 +114,7 @@ fn kept_store<F: Source, S: Store>(
     ensures cause { IfErr result IsOfRun }
     ensures caused { IsTrue S.Disk.tells → IsTrue F.Log.tells → (g : Setting) → IsOverLog (F.bytes files.old) clicks.now g → end ≡ end_from 0 g.clicks → IfErr result (HasCauseInVerify g (S.image store.old) (Rose (F.faults files.old) (F.faults files.new)) (Rose (S.faults store.old) (S.faults store.new))) }
     ensures passed { IsTrue S.Disk.tells → IsTrue F.Log.tells → (g : Setting) → IsOverLog (F.bytes files.old) clicks.now g → end ≡ end_from 0 g.clicks → OnOk result (CanBeRead g (S.image store.old)) }
-    ensures welcome { IsTrue S.Disk.tells → IsTrue F.Log.tells → (g : Setting) → IsOverLog (F.bytes files.old) clicks.now g → end ≡ end_from 0 g.clicks → g.replicas ≡ 3 → g.joiners ≤ 4 → ((s : S) → LeavesSomething g (S.image s)) → IsSoundStore g (S.image store.old) → IfErr result (IsFair ⊤) }
+    ensures welcome { IsTrue S.Disk.tells → IsTrue F.Log.tells → (g : Setting) → IsOverLog (F.bytes files.old) clicks.now g → end ≡ end_from 0 g.clicks → g.replicas ≡ 3 → g.joiners ≤ MOST_JOINERS → ((s : S) → LeavesSomething g (S.image s)) → IsSoundStore g (S.image store.old) → IfErr result (IsFair ⊤) }
     ensures log_count { Counts (F.faults files.old) (F.faults files.new) (IsErrAnd result IsFailedRead) }
     ensures count { Counts (S.faults store.old) (S.faults store.new) ((place : Place) × (result ≡ Err (fault.Run (cause.Store place)))) }
 {
@@ -154,7 +155,7 @@ pub fn verify_store<F: Source, S: Store, K: Sink>(
     ensures own { IfErr result IsOfVerify }
     ensures caused { IsTrue S.Disk.tells → IsTrue F.Log.tells → (g : Setting) → IsOverLog (F.bytes files.old) clicks.now g → IfErr result (HasCauseInVerify g (S.image store.old) (Rose (F.faults files.old) (F.faults files.new)) (Rose (S.faults store.old) (S.faults store.new))) }
     ensures passed { IsTrue S.Disk.tells → IsTrue F.Log.tells → (g : Setting) → IsOverLog (F.bytes files.old) clicks.now g → OnOk result (CanBeRead g (S.image store.old)) }
-    ensures welcome { IsTrue S.Disk.tells → IsTrue F.Log.tells → (g : Setting) → IsOverLog (F.bytes files.old) clicks.now g → g.replicas ≡ 3 → g.joiners ≤ 4 → ((s : S) → LeavesSomething g (S.image s)) → IsSoundStore g (S.image store.old) → IfErr result (IsFair ⊤) }
+    ensures welcome { IsTrue S.Disk.tells → IsTrue F.Log.tells → (g : Setting) → IsOverLog (F.bytes files.old) clicks.now g → g.replicas ≡ 3 → g.joiners ≤ MOST_JOINERS → ((s : S) → LeavesSomething g (S.image s)) → IsSoundStore g (S.image store.old) → IfErr result (IsFair ⊤) }
     ensures read { Counts (F.faults files.old) (F.faults files.new) (IsErrAnd result IsFailedRead) }
     ensures write { Counts (K.faults out.old) (K.faults out.new) (result ≡ Err fault.Write) }
     ensures disks { Counts (S.faults store.old) (S.faults store.new) ((place : Place) × (result ≡ Err (fault.Run (cause.Store place)))) }

@@ -1,7 +1,5 @@
-use Rattle.std.proofs.Common.{◌≡◌, List, ℕ, Ok, refl, sym, ◌∙◌, subst}
+use Rattle.std.proofs.Common.{◌≡◌, Ok, refl}
 use Rattle.event_store.specs.declared.store.Step.TheVariants as step
-use Rattle.event_store.specs.Read.{ReadsNext, IsAtEnd}
-use Rattle.joiner_node.specs.Read.{HasRead}
 use Rattle.joiner_node.proofs.Reading.{given, keeps, finds, more, ends}
 use Rattle.joiner_node.proofs.queries.Queries.step.Goals as goal
 

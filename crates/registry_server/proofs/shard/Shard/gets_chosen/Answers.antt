@@ -10,10 +10,10 @@ returns-then-slot-self-clause-row c = λ g k l at.
     let t = c.args.station.now in
     same_row (setting t g) t.site l c.idle.result _ _ (told_other (setting t g) t.site k l c.args.number c.args.round c.args.self.now at c.args.slot c.args.batch.now c.if-slot-self.true) (c.idle.ensures.gives (setting t g) t.site l)
 
-pub returns-then-slot-ge-LIMIT-clause-row : goal.returns-then-slot-ge-LIMIT-clause-row
-returns-then-slot-ge-LIMIT-clause-row c = λ g k l at.
+pub returns-then-slot-ge-LAST_SLOT-clause-row : goal.returns-then-slot-ge-LAST_SLOT-clause-row
+returns-then-slot-ge-LAST_SLOT-clause-row c = λ g k l at.
     let t = c.args.station.now in
-    same_row (setting t g) t.site l c.idle-then-slot-ge-LIMIT.result _ _ (told_high (setting t g) t.site k l c.args.number c.args.round c.args.self.now at c.args.slot c.args.batch.now c.if-slot-ge-LIMIT.true) (c.idle-then-slot-ge-LIMIT.ensures.gives (setting t g) t.site l)
+    same_row (setting t g) t.site l c.idle-then-slot-ge-LAST_SLOT.result _ _ (told_high (setting t g) t.site k l c.args.number c.args.round c.args.self.now at c.args.slot c.args.batch.now c.if-slot-ge-LAST_SLOT.true) (c.idle-then-slot-ge-LAST_SLOT.ensures.gives (setting t g) t.site l)
 
 pub returns-clause-row : goal.returns-clause-row
 returns-clause-row c =
