@@ -1,13 +1,14 @@
 #!/usr/bin/env python3
 """The rows of scripts that are made: what the parts have to answer by the model of the pages, never by the program.
 
-usage: tests/rows.py           checks that crates/*_scripts/stdin have these rows, and that stdout counts all rows
+usage: tests/rows.py           checks that crates/*_scripts/stdin have these rows, and that stdout counts all rows that they play
        tests/rows.py --write   makes the rows anew, and the counts
        tests/rows.py NAME      prints the rows of one place, as `registries`
 
 A place in a script begins with the line `# made by tests/rows.py: NAME` and ends with `# made: end`.
 """
 import itertools
+import math
 import random
 import sys
 from pathlib import Path
@@ -733,6 +734,33 @@ def remade(text):
     return "".join(line + "\n" for line in lines)
 
 
+def row_count(text):
+    """How many rows a script plays: those of a block once for each choice of its values."""
+    names, times, rows = [], 1, 0
+    for line in text.splitlines():
+        if line.startswith("#"):
+            continue
+        for mark, value in names:
+            line = line.replace(mark, value)
+        word, _, rest = line.partition(" ")
+        if word == "let":
+            name, _, value = rest.partition(" ")
+            names.append((f"<{name}>", value))
+        elif word == "each":
+            times = math.prod(map(set_size, rest.split()))
+        elif line == "done":
+            times = 1
+        else:
+            rows += times * (" => " in line)
+    return rows
+
+
+def set_size(word):
+    """How many values a set of a block has."""
+    first, dots, last = word.partition("..")
+    return int(last) - int(first) + 1 if dots else len(word.split("|"))
+
+
 def main(words):
     """Checks the scripts, writes them or prints the rows of one place; gives the status."""
     if words and words[0] in PLACES:
@@ -741,10 +769,8 @@ def main(words):
     wrong = 0
     for path in sorted(TOP.glob("crates/*_scripts/stdin")):
         old = path.read_text(encoding="utf-8")
-        if BEGIN not in old:
-            continue
         new = remade(old)
-        counted = f"{sum(' => ' in line and not line.startswith('#') for line in new.splitlines())} rows, 0 wrong\n"
+        counted = f"{row_count(new)} rows, 0 wrong\n"
         count = path.with_name("stdout")
         if words == ["--write"]:
             path.write_text(new, encoding="utf-8")

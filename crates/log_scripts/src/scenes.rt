@@ -1,6 +1,7 @@
 // The scenes of this script.
 use crate::bulk::Bulk;
 use crate::event_stores::Stores;
+use crate::faults::Faults;
 use crate::ids::{Ids, Order};
 use crate::logs::Logs;
 use crate::plans::Plans;
@@ -23,6 +24,7 @@ pub fn play_scene(alloc: Global, scene: &Scene, report: &mut Report) -> Result<(
         "plans" => play(alloc, Plans::new(alloc), scene, report),
         "words" => play(alloc, Asks, scene, report),
         "words that are refused" => play(alloc, Refusals, scene, report),
+        "faults" => play(alloc, Faults, scene, report),
         "made logs" => play(alloc, Bulk, scene, report),
         _ => play_log(alloc, scene, report),
     }

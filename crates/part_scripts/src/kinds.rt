@@ -1,7 +1,8 @@
 // Journals on a disk in memory, whose calls may be planned to stop.
 use gate_journal::JournalFault;
-use mem_outside::{Fuse, Image, MemDisk};
-use script_lines::{Part, Stop, Words, number_of};
+use mem_outside::MemDisk;
+use script_lines::disks::disk_of;
+use script_lines::{Part, Stop, Words};
 use std::alloc::Global;
 
 /// A kind of journal.
@@ -32,7 +33,7 @@ impl<K: Kind> OnDisk<K> {
     }
 
     fn open(&mut self, alloc: Global, words: &mut Words<'_>) -> Result<String, Stop> {
-        match K::open_on(alloc, disk(alloc, words)?) {
+        match K::open_on(alloc, disk_of(alloc, words)?) {
             Ok(journal) => {
                 let told = journal.told(alloc)?;
                 self.journal = Some(journal);
@@ -75,34 +76,4 @@ impl<K: Kind> Part for OnDisk<K> {
             Err(fault) => Ok(format!(in alloc; "{fault:?}")?),
         }
     }
-}
-
-// A disk of the bytes of the next word, with the stops of the words behind it.
-fn disk(alloc: Global, words: &mut Words<'_>) -> Result<MemDisk, Stop> {
-    let bytes = words.bytes(alloc)?;
-    let mut fuses = Vec::new(alloc);
-    for word in &mut words.left {
-        fuses.push(fuse(word)?)?;
-    }
-    if bytes.is_empty() {
-        return Ok(MemDisk::new(alloc, fuses));
-    }
-    if bytes.len() > 0xFFFF_FFFF {
-        return Err(Stop::Words);
-    }
-    Ok(MemDisk::holding(alloc, &bytes, fuses)?)
-}
-
-fn fuse(word: &str) -> Result<Fuse, Stop> {
-    let (call, name) = word.split_once('=').ok_or(Stop::Words)?;
-    let image = match name {
-        "old" => Image::Old,
-        "new" => Image::New,
-        "noise" => Image::Noise,
-        _ => return Err(Stop::Words),
-    };
-    Ok(Fuse {
-        call: number_of(call)?,
-        image,
-    })
 }

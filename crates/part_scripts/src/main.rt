@@ -21,20 +21,13 @@ mod votes;
 
 use script_lines::{Report, Script};
 use std::io;
-use std::io::{BufRead, BufReader};
 
 fn main(rt: HostRuntime) -> io::Result<()> {
     let alloc = rt.alloc();
-    let mut script = Script::new(alloc);
-    for line in BufReader::new(alloc, rt.reader())?.lines(alloc) {
-        script.add(line?)?;
-    }
+    let script = Script::read(alloc, rt.reader())?;
     let mut report = Report::new(alloc);
     for scene in &script.scenes {
         scenes::play_scene(alloc, scene, &mut report)?;
     }
-    println!(rt;
-        "{}{} rows, {} wrong",
-        report.text, report.rows, report.wrong
-    )
+    println!(rt; "{}", report.told()?)
 }

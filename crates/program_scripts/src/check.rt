@@ -1,49 +1,25 @@
 // The checks of logs, as streams and in memory.
-ghost use Rattle.std.specs.Prelude.{false, []};
-
 use event_id::EventId;
 use log_records::{BadLine, check_clicks, check_queries, read_click};
-use mem_outside::MemLog;
-use outside::{LogFile, ReadFault};
 use photon_cli::log_check::{CheckFault, check_click_log, check_query_log};
-use script_rows::{Stop, Words};
+use script_lines::{ShortLog, Stop, Words};
 use std::alloc::Global;
-
-// A log in memory, of which a read gives so many bytes at most.
-#[derive(Drop)]
-struct ShortLog {
-    log: MemLog,
-    most: usize,
-}
-
-impl LogFile for ShortLog {
-    ghost tells = { false };
-
-    ghost bytes = { λ _. [] };
-
-    ghost faults = { λ short. short.log.reads.faults };
-
-    fn read_at(&mut self, at: u64, buf: &mut [u8]) -> Result<usize, ReadFault> {
-        let most = self.most.min(buf.len());
-        self.log.read_at(at, &mut buf[..most])
-    }
-}
 
 /// `KIND MOST READ..`: the check of a log of queries or of clicks, of which a read gives so many bytes at most, and those reads
 /// fail. Where MOST is `memory` the log is checked in memory.
-pub fn check(alloc: Global, bytes: &[u8], words: &mut Words<'_>) -> Result<String, Stop> {
+pub fn check(alloc: Global, bytes: Vec<u8>, words: &mut Words<'_>) -> Result<String, Stop> {
     let kind = words.word()?;
-    let most = words.word()?;
-    match (kind, most) {
-        ("queries", "memory") => lines_told(alloc, in_memory(check_queries(alloc, bytes))),
-        ("clicks", "memory") => clicks_in_memory(alloc, bytes),
-        ("queries", _) => {
-            let (log, checked) = check_query_log(alloc, short_log(alloc, bytes, most, words)?);
+    let is_whole = words.line.ends_with(" memory");
+    match kind {
+        "queries" if is_whole => lines_told(alloc, in_memory(check_queries(alloc, &bytes))),
+        "clicks" if is_whole => clicks_in_memory(alloc, &bytes),
+        "queries" => {
+            let (log, checked) = check_query_log(alloc, ShortLog::new(alloc, bytes, words)?);
             drop(log);
             lines_told(alloc, checked)
         }
-        ("clicks", _) => {
-            let (log, checked) = check_click_log(alloc, short_log(alloc, bytes, most, words)?);
+        "clicks" => {
+            let (log, checked) = check_click_log(alloc, ShortLog::new(alloc, bytes, words)?);
             drop(log);
             match checked {
                 Ok(checked) => clicks_told(alloc, &checked.ids, checked.lines_end),
@@ -52,18 +28,6 @@ pub fn check(alloc: Global, bytes: &[u8], words: &mut Words<'_>) -> Result<Strin
         }
         _ => Err(Stop::Words),
     }
-}
-
-fn short_log(
-    alloc: Global,
-    bytes: &[u8],
-    most: &str,
-    words: &mut Words<'_>,
-) -> Result<ShortLog, Stop> {
-    Ok(ShortLog {
-        log: MemLog::new(bytes.to_vec(alloc)?, words.numbers(alloc)?),
-        most: most.parse().map_err(|_| Stop::Words)?,
-    })
 }
 
 fn in_memory<T>(checked: Result<T, BadLine>) -> Result<T, CheckFault> {

@@ -3,7 +3,8 @@ use lossy_link::Plan;
 use mem_outside::{MemDisk, MemStore};
 use outside::{Disk, DiskName, Store};
 use photon_cli::drill_store::store_for;
-use script_rows::{Stop, Words};
+use script_lines::disks::{disk_holding, disk_name, fuse};
+use script_lines::{Stop, Words};
 use std::alloc::Global;
 
 /// The store, and the stops of the next one.
@@ -23,13 +24,13 @@ impl Disks {
         }
     }
 
-    /// `stop DISK CALL:IMAGE` plans a stop for the next store, `store` makes that, which is empty, and `calm` takes its stops out;
+    /// `stop DISK CALL=IMAGE` plans a stop for the next store, `store` makes that, which is empty, and `calm` takes its stops out;
     /// `disk DISK HEX` gives it a disk with these bytes, and `cut DISK LENGTH` leaves so many of a disk's bytes.
     pub fn set(&mut self, word: &str, words: &mut Words<'_>) -> Result<(), Stop> {
         match word {
             "stop" => {
-                let name = disk_name(words)?;
-                let fuse = words.fuse()?;
+                let name = disk_name(words.word()?)?;
+                let fuse = fuse(words.word()?)?;
                 self.stops.push(mem_outside::Stop { name, fuse })?;
             }
             "store" => {
@@ -38,10 +39,10 @@ impl Disks {
             }
             "calm" => self.store.calm(),
             "disk" => {
-                let name = disk_name(words)?;
+                let name = disk_name(words.word()?)?;
                 put_bytes(self.alloc, &mut self.store, name, &words.bytes(self.alloc)?)?;
             }
-            "cut" => self.cut(disk_name(words)?, words.number()?)?,
+            "cut" => self.cut(disk_name(words.word()?)?, words.number()?)?,
             _ => return Err(Stop::Words),
         }
         Ok(())
@@ -59,7 +60,7 @@ impl Disks {
     /// `bytes DISK`: what a read of the disk gives; `writes DISK`: which of eight writes of the byte 07 fails, and what the disk
     /// holds then.
     pub fn answer(&mut self, word: &str, words: &mut Words<'_>) -> Result<String, Stop> {
-        let name = disk_name(words)?;
+        let name = disk_name(words.word()?)?;
         match word {
             "bytes" => {
                 let bytes = bytes_of(self.alloc, &mut self.store, name)?;
@@ -98,10 +99,7 @@ fn put_bytes(
     name: DiskName,
     bytes: &[u8],
 ) -> Result<(), Stop> {
-    if bytes.len() > 0xFFFF {
-        return Err(Stop::Words);
-    }
-    let disk = MemDisk::holding(alloc, bytes, Vec::new(alloc))?;
+    let disk = disk_holding(alloc, bytes, Vec::new(alloc))?;
     match store.take(alloc, name) {
         Ok(_old) => {
             store.give(name, disk);
@@ -122,22 +120,4 @@ fn first_stop(alloc: Global, disk: MemDisk) -> Result<String, Stop> {
         }
     }
     Ok("none".to_string(alloc)?)
-}
-
-/// A kind of disk, its site, and its joiner where it has one.
-pub fn disk_name(words: &mut Words<'_>) -> Result<DiskName, Stop> {
-    let kind = words.word()?;
-    if kind == "topology" {
-        return Ok(DiskName::Topology);
-    }
-    let site = words.number()?;
-    match kind {
-        "offset" => Ok(DiskName::Offset(site)),
-        "retry" => Ok(DiskName::Retry(site)),
-        "server" => Ok(DiskName::Server(site)),
-        "replica" => Ok(DiskName::Replica(site)),
-        "epoch" => Ok(DiskName::Epoch(site, words.number()?)),
-        "output" => Ok(DiskName::Output(site, words.number()?)),
-        _ => Err(Stop::Words),
-    }
 }

@@ -2,7 +2,7 @@
 use crate::runs::some_or_none;
 use air_bus::{Entry, Input, Payload};
 use photon_cli::Ran;
-use script_rows::{Stop, Words};
+use script_lines::{Stop, Words};
 use std::alloc::Global;
 
 /// The first byte of the record of a pair.

@@ -2,14 +2,14 @@
 use lossy_link::Plan;
 use mem_outside::{MemFile, MemSource};
 use photon_cli::drill_store::stops_a_joiner;
-use script_rows::{Stop, Words};
+use script_lines::Stop;
 use std::alloc::Global;
 
 /// The text that was gathered, and the files, the newest first.
 #[derive(Drop)]
 pub struct Logs {
     alloc: Global,
-    text: Vec<u8>,
+    pub text: Vec<u8>,
     files: Vec<MemFile>,
 }
 
@@ -22,31 +22,8 @@ impl Logs {
         }
     }
 
-    /// `| TEXT` gathers a line, `+ TEXT` a text without its end, `& HEX` bytes, `* COUNT TEXT` a text so many times.
-    pub fn gather(&mut self, mark: &str, text: &str) -> Result<(), Stop> {
-        let mut words = Words::new(text);
-        match mark {
-            "|" => {
-                self.text.extend_from_slice(text.as_bytes())?;
-                self.text.push(b'\n')?;
-            }
-            "+" => self.text.extend_from_slice(text.as_bytes())?,
-            "&" => self.text.extend_from_slice(&words.bytes(self.alloc)?)?,
-            _ => {
-                let count = words.number()?;
-                let text = words.word()?.repeat(self.alloc, count)?;
-                self.text.extend_from_slice(text.as_bytes())?;
-            }
-        }
-        Ok(())
-    }
-
-    /// `file NAME` makes a file of the text that was gathered; `reads NAME READ..` says which reads of it fail.
-    pub fn set(&mut self, word: &str, words: &mut Words<'_>) -> Result<(), Stop> {
-        let name = words.word()?;
-        if word == "reads" {
-            return self.fail_reads(name, words.numbers(self.alloc)?);
-        }
+    /// Makes a file of the text that was gathered.
+    pub fn file(&mut self, name: &str) -> Result<(), Stop> {
         let file = MemFile {
             name: name.to_string(self.alloc)?,
             bytes: self.take(),
@@ -56,7 +33,8 @@ impl Logs {
         Ok(())
     }
 
-    fn fail_reads(&mut self, name: &str, failing: Vec<u64>) -> Result<(), Stop> {
+    /// Has these reads of a file fail.
+    pub fn fail_reads(&mut self, name: &str, failing: Vec<u64>) -> Result<(), Stop> {
         for file in self.files.iter_mut() {
             if file.name.as_str() == name {
                 file.failing = failing;

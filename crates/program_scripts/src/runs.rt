@@ -3,7 +3,7 @@ use crate::history;
 use mem_outside::{HeldGate, Hold, LOOKS, MemSink, MemSource, MemStore};
 use outside::{Gate, Point};
 use photon_cli::{Ran, photon};
-use script_rows::{Stop, Words};
+use script_lines::{Stop, Words};
 use std::alloc::{AllocError, Global};
 use std::sync::Wait;
 use std::thread::Threads;

@@ -3,7 +3,7 @@ use crate::check::check;
 use crate::disks::Disks;
 use crate::logs::Logs;
 use crate::runs::Runs;
-use script_rows::{Stop, Words};
+use script_lines::{Stop, Words, gather};
 use std::alloc::Global;
 use std::sync::Wait;
 use std::thread::Threads;
@@ -29,45 +29,39 @@ impl Stage {
 
     /// Does a line that answers nothing.
     pub fn set(&mut self, line: &str) -> Result<(), Stop> {
-        let (word, rest) = split(line);
-        match word {
-            "|" | "+" | "&" | "*" => self.logs.gather(word, rest),
-            "file" | "reads" => self.logs.set(word, &mut Words::new(rest)),
-            "out" | "err" | "hold" | "open" | "whole" => self.runs.set(word, &mut Words::new(rest)),
+        let mut words = Words::new(line);
+        match words.word()? {
+            "|" | "+" | "&" | "*" => gather(self.alloc, &mut self.logs.text, line),
+            "file" => self.logs.file(words.word()?),
+            "reads" => self
+                .logs
+                .fail_reads(words.word()?, words.numbers(self.alloc)?),
             "plan" => {
                 let plan = self.logs.plan()?;
-                self.disks.set_plan(&plan, Words::new(rest).number()?)
+                self.disks.set_plan(&plan, words.number()?)
             }
-            _ => self.disks.set(word, &mut Words::new(rest)),
+            word @ ("out" | "err" | "hold" | "open" | "whole") => self.runs.set(word, &mut words),
+            word => self.disks.set(word, &mut words),
         }
     }
 
     /// What a command answers.
     pub fn answer<R: Threads + Wait + Sync>(&mut self, rt: &R, line: &str) -> Result<String, Stop> {
-        let (word, rest) = split(line);
-        let mut words = Words::new(rest);
-        match word {
+        let mut words = Words::new(line);
+        match words.word()? {
             "photon" | "front" | "totals" | "status" | "refused" => {
                 let source = self.logs.source()?;
                 let words = Words::new(line).rest(self.alloc)?;
                 self.runs.answer(rt, &words, source, &mut self.disks.store)
             }
-            "pairs" | "over" | "stops" | "entries" | "extra" | "limit" => self
+            word @ ("pairs" | "over" | "stops" | "entries" | "extra" | "limit") => self
                 .runs
                 .told(word, &mut words),
             "gate" => self.runs.gate(&mut words),
-            "bytes" | "writes" => self.disks.answer(word, &mut words),
+            word @ ("bytes" | "writes") => self.disks.answer(word, &mut words),
             "spares" => Ok(format!(in self.alloc; "{}", self.logs.spares_joiners()?)?),
-            "check" => check(self.alloc, &self.logs.take(), &mut words),
+            "check" => check(self.alloc, self.logs.take(), &mut words),
             _ => Err(Stop::Words),
         }
-    }
-}
-
-// The first word, and what stands behind its space.
-fn split(line: &str) -> (&str, &str) {
-    match line.split_once(' ') {
-        Some(parts) => parts,
-        None => (line, ""),
     }
 }

@@ -1,5 +1,7 @@
-//! Tests of how a run's faults are told. They stand apart, since a crate that has tests is proved a second time for them.
+//! Tests of what runs at the same time. They stand apart, since a crate that has tests is proved a second time for them.
 #![tactic(auto)]
 
 #[cfg(test)]
-mod faults_tests;
+mod held_gate_tests;
+#[cfg(test)]
+mod site_workers_tests;

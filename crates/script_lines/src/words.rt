@@ -40,6 +40,15 @@ impl<'a> Words<'a> {
         Ok(numbers)
     }
 
+    /// All words that are left.
+    pub fn rest(&mut self, alloc: Global) -> Result<Vec<String>, Stop> {
+        let mut rest = Vec::new(alloc);
+        for word in &mut self.left {
+            rest.push(word.to_string(alloc)?)?;
+        }
+        Ok(rest)
+    }
+
     /// The next word as hexadecimal bytes; `-` is none.
     pub fn bytes(&mut self, alloc: Global) -> Result<Vec<u8>, Stop> {
         bytes_of(alloc, self.word()?)

@@ -1,14 +1,14 @@
 // Stores that are directories of the machine.
-use crate::names::disk_name;
 use crate::stores::put_piece;
 use directory_store::{Directory, DirectoryDisk};
 use outside::{Disk, DiskName, Store};
+use script_lines::disks::disk_name;
 use script_lines::{Part, Stop, Words, bytes_of, number_of};
 use std::alloc::Global;
 use std::fs;
 
 /// Two stores, `first` and `second`. `place STORE DIR`; `use STORE DISK STEP..` takes a disk, makes the steps and gives it back; `hold
-/// STORE DISK` takes one that `let go` drops; `end STORE` drops a store and begins a new one; `faults STORE`. `clear DIR` takes a
+/// STORE DISK` takes one that `drop` drops; `end STORE` drops a store and begins a new one; `faults STORE`. `clear DIR` takes a
 /// directory away, `file PATH` gives a file's bytes. The steps are `len`, `sync`, `reopen`, `faults`, `write:PLACE:BYTES`,
 /// `read:PLACE:COUNT` and `remove:PATH`.
 #[derive(Drop)]
@@ -71,7 +71,7 @@ impl Part for Directories<'_> {
                 use_disk(rt, alloc, self.store(words.word()?)?, words)
             }
             "hold" => self.hold(alloc, words.word()?, disk_name(words.word()?)?),
-            "let" => {
+            "drop" => {
                 self.held = None;
                 Ok(format!(in alloc; "gone")?)
             }

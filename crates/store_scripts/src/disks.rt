@@ -1,7 +1,7 @@
 // A disk in memory.
-use crate::names::fuse;
 use mem_outside::MemDisk;
 use outside::Disk;
+use script_lines::disks::disk_of;
 use script_lines::{Part, Stop, Words};
 use std::alloc::Global;
 
@@ -35,22 +35,6 @@ impl Part for Disks {
             None => Err(Stop::Words),
         }
     }
-}
-
-/// A disk of the bytes of the next word, with the stops of the words behind it.
-pub fn disk_of(alloc: Global, words: &mut Words<'_>) -> Result<MemDisk, Stop> {
-    let bytes = words.bytes(alloc)?;
-    let mut fuses = Vec::new(alloc);
-    for word in &mut words.left {
-        fuses.push(fuse(word)?)?;
-    }
-    if bytes.is_empty() {
-        return Ok(MemDisk::new(alloc, fuses));
-    }
-    if bytes.len() > 0xFFFF_FFFF {
-        return Err(Stop::Words);
-    }
-    Ok(MemDisk::holding(alloc, &bytes, fuses)?)
 }
 
 fn asked(

@@ -1,9 +1,8 @@
 // Disks that were lent to a run, read back and given back.
-use crate::disks::disk_of;
-use crate::names::disk_name;
 use crate::stores::{put_piece, told_fault, told_journals};
 use mem_outside::{MemDisk, MemStore};
 use outside::{Disk, DiskName, Store};
+use script_lines::disks::{disk_name, disk_of};
 use script_lines::{Part, Stop, Words};
 use site_store::{LentDisk, give_all, read_back};
 use std::alloc::Global;

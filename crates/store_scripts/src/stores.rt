@@ -1,10 +1,9 @@
 // Stores of disks in memory.
-use crate::disks::disk_of;
-use crate::names::{disk_name, fuse};
 use crate::openings;
 use mem_outside::{MemStore, Stop as PlannedStop};
 use outside::{Disk, DiskName, Store};
 use paxos_acceptor::ReplicaNote;
+use script_lines::disks::{disk_name, disk_of, fuse};
 use script_lines::texts::{told_note, told_pair};
 use script_lines::{Part, Stop, Words};
 use site_store::DisksFault;

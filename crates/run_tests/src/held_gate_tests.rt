@@ -1,6 +1,4 @@
 // Threads that pass the gate as nodes.
-ghost use Rattle.std.specs.Prelude.{◌<◌};
-
 use mem_outside::{HeldGate, Hold, LOOKS};
 use outside::Gate;
 use outside::Point::{AfterEnd, BeforeAppend};
@@ -69,21 +67,14 @@ fn turns<G: Gate>(gate: &G, told: &Told, puppet: &mut Puppet) {
     gate.pass(AfterEnd, puppet.number);
 }
 
-// Runs both nodes on so many threads, and says whether each met the other.
-fn cross<R: Threads + Sync, G: Gate>(rt: &R, gate: &G, threads: usize) -> bool
-    requires { 0 < threads }
-{
+// Runs both nodes, a thread each, and says whether each met the other.
+fn cross<R: Threads + Sync, G: Gate>(rt: &R, gate: &G) -> bool {
     let told = Told {
         seven_came: AtomicBool::new(false),
         eight_ends: AtomicBool::new(false),
     };
     let mut puppets = PUPPETS;
-    thread::for_each_mut(
-        rt,
-        &mut puppets,
-        threads,
-        &|_, puppet| turns(gate, &told, puppet),
-    );
+    thread::for_each_mut(rt, &mut puppets, 2, &|_, puppet| turns(gate, &told, puppet));
     puppets[0].met && puppets[1].met
 }
 
@@ -91,48 +82,8 @@ fn cross<R: Threads + Sync, G: Gate>(rt: &R, gate: &G, threads: usize) -> bool
 fn nodes_on_two_threads_meet(rt: HostRuntime) -> Result<(), Fail> {
     for _ in 0..20 {
         let gate = HeldGate::new(CROSSING, LOOKS);
-        assert!(rt; cross(&rt, &gate, 2));
+        assert!(rt; cross(&rt, &gate));
         assert!(rt; !gate.reached_limit());
     }
-    Ok(())
-}
-
-#[test]
-fn nodes_on_one_thread_reach_the_limit(rt: HostRuntime) -> Result<(), Fail> {
-    let gate = HeldGate::new(CROSSING, 1000);
-    assert!(rt; !gate.reached_limit());
-    assert!(rt; !cross(&rt, &gate, 1));
-    assert!(rt; gate.reached_limit());
-    Ok(())
-}
-
-#[test]
-fn each_hold_tells_its_limit(rt: HostRuntime) -> Result<(), Fail> {
-    let gate = HeldGate::new(CROSSING, 1000);
-    gate.pass(BeforeAppend, 8);
-    assert!(rt; gate.reached_limit());
-    let gate = HeldGate::new(CROSSING, 1000);
-    gate.pass(BeforeAppend, 7);
-    assert!(rt; gate.reached_limit());
-    Ok(())
-}
-
-#[test]
-fn others_are_not_held(rt: HostRuntime) -> Result<(), Fail> {
-    let gate = HeldGate::new([CROSSING[0]], 0);
-    // Another node comes there, and the node comes elsewhere.
-    gate.pass(BeforeAppend, 9);
-    gate.pass(AfterEnd, 8);
-    gate.pass(AfterEnd, 7);
-    assert!(rt; !gate.reached_limit());
-    Ok(())
-}
-
-#[test]
-fn an_arrival_counts_for_good(rt: HostRuntime) -> Result<(), Fail> {
-    let gate = HeldGate::new([CROSSING[0]], 1);
-    gate.pass(BeforeAppend, 7);
-    gate.pass(BeforeAppend, 8);
-    assert!(rt; !gate.reached_limit());
     Ok(())
 }

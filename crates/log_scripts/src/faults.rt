@@ -1,0 +1,90 @@
+// Faults of a run, as they are told.
+use mem_outside::MemSink;
+use script_lines::disks::disk_name;
+use script_lines::{Part, Stop, Words};
+use site_run::{LogName, Mismatch, RunFault, StorePlace, disk_text, status};
+use std::alloc::{AllocError, AllocFailed, Global};
+use time_shards::Table;
+
+/// `tell FAULT ROOM WRITE..`: the fault's status, whether its line went out whole, to a sink with room for so many bytes of which these
+/// writes fail, how many faults the sink met, and what it took. `name DISK`: the name of a disk's file.
+#[derive(Drop)]
+pub struct Faults;
+
+impl Part for Faults {
+    fn step(
+        &mut self,
+        alloc: Global,
+        _text: Vec<u8>,
+        words: &mut Words<'_>,
+    ) -> Result<String, Stop> {
+        match words.word()? {
+            "tell" => tell(alloc, words),
+            "name" => name(alloc, words),
+            _ => Err(Stop::Words),
+        }
+    }
+}
+
+fn tell(alloc: Global, words: &mut Words<'_>) -> Result<String, Stop> {
+    let fault = fault_of(words)?;
+    let room = words.number()?;
+    let mut err = MemSink::new(alloc, room, words.numbers(alloc)?)?;
+    let told = match site_run::tell(&mut err, &fault) {
+        Ok(()) => "whole",
+        Err(_) => "cut",
+    };
+    let line = std::str::from_utf8(err.bytes()).map_err(|_| Stop::Words)?;
+    let faults = err.faults();
+    Ok(format!(in alloc; "{} {told} {faults} {line:?}", status(&fault))?)
+}
+
+// `memory` is want of it in a call that hands nothing back, `refused` in one that hands its value back.
+fn fault_of(words: &mut Words<'_>) -> Result<RunFault, Stop> {
+    Ok(match words.word()? {
+        "queries" => RunFault::Read(LogName::Queries),
+        "clicks" => RunFault::Read(LogName::Clicks),
+        "directory" => RunFault::Store(StorePlace::Directory),
+        "disk" => RunFault::Store(StorePlace::Disk(disk_name(words.word()?)?)),
+        "node" => RunFault::Store(StorePlace::Node(words.number()?)),
+        "damaged" => RunFault::Damaged {
+            disk: disk_name(words.word()?)?,
+            at: words.number()?,
+        },
+        "limit" => RunFault::Limit {
+            disk: disk_name(words.word()?)?,
+            value: words.number()?,
+        },
+        "memory" => RunFault::from(AllocError),
+        "refused" => RunFault::from(AllocFailed { value: 7u8 }),
+        kind => RunFault::Topology(mismatch(kind, words)?),
+    })
+}
+
+fn mismatch(kind: &str, words: &mut Words<'_>) -> Result<Mismatch, Stop> {
+    match kind {
+        "joiners" => Ok(Mismatch::Joiners {
+            kept: words.number()?,
+            asked: words.number()?,
+        }),
+        "table" => Ok(Mismatch::Table {
+            kept: table(words)?,
+            asked: table(words)?,
+        }),
+        "place" => Ok(Mismatch::Place {
+            disk: disk_name(words.word()?)?,
+            kept: words.number()?,
+            floor: words.number()?,
+        }),
+        _ => Err(Stop::Words),
+    }
+}
+
+fn table(words: &mut Words<'_>) -> Result<Table, Stop> {
+    Table::read(words.word()?.as_bytes()).map_err(|_| Stop::Words)
+}
+
+fn name(alloc: Global, words: &mut Words<'_>) -> Result<String, Stop> {
+    let disk = disk_name(words.word()?)?;
+    Ok(disk_text(disk).as_str().to_string(alloc)?)
+}
