@@ -5,6 +5,8 @@ use Rattle.std.specs.Result.{result_unwrap_or}
 use Rattle.std.proofs.lemmas.Bool.{le-ltb}
 use Rattle.list_words.proofs.Lists.{clash, has_push-right, has_without-self}
 use Rattle.air_bus.specs.declared.entry.Entry.TheVariants.{Stop}
+use Rattle.gate_journal.specs.Opening.{IsOpened}
+use Rattle.gate_journal.specs.Fold.{read_as}
 use Rattle.offset_journal.specs.Offsets as offsets
 use Rattle.retry_log.specs.Pending as pending
 use Rattle.turn_defs.specs.Turns.{Note, land}
@@ -64,17 +66,17 @@ has_landed n k x (inr e) takes off = e
 -- ---- images
 
 -- what was left of what was left
-pub kept_again : (oi ri oj rj : List ℕ → Type 0) (n : DispatchNote) (k : DispatcherKept) → MayKeep oi ri n k → ((c : List ℕ) → oj c → offsets.KeepsAsLeft oi c) → ((c : List ℕ) → rj c → pending.KeepsAsLeft ri c) → MayKeep oj rj n k
+pub kept_again : (oi ri oj rj : List ℕ → Type 0) (n : DispatchNote) (k : DispatcherKept) → MayKeep oi ri n k → ((c : List ℕ) → oj c → IsOpened oi c) → ((c : List ℕ) → rj c → IsOpened ri c) → MayKeep oj rj n k
 kept_again oi ri oj rj n k images a b = record {
-  offset = λ c here. let left = a c here in ⊎_elim (λ e. inl (left.2 ∙ e)) (λ e. inr (left.2 ∙ e)) (images.offset left.0 left.1);
-  pending = λ c here. let left = b c here in ⊎_elim (λ e. inl (left.2 ∙ e)) (λ e. inr (left.2 ∙ e)) (images.pending left.0 left.1);
+  offset = λ c here. let left = a c here in let same = ap (read_as offsets.offsets) left.2 in ⊎_elim (λ e. inl (same ∙ e)) (λ e. inr (same ∙ e)) (images.offset left.0 left.1);
+  pending = λ c here. let left = b c here in let same = ap (read_as pending.retries) left.2 in ⊎_elim (λ e. inl (same ∙ e)) (λ e. inr (same ∙ e)) (images.pending left.0 left.1);
 }
 
 doubt_of : (p : Parts) (oi ri : List ℕ → Type 0) (s : DispatcherState) (x : DispatchNote × List ℕ) → p.in_doubt ≡ Some x → StandsAt p oi ri s → Doubts oi ri x.0 s.node.kept s.node.setting × IsOpenAt s x.0 x.1
 doubt_of p oi ri s x some at = subst (λ (d : Option (DispatchNote × List ℕ)). StandsBy d p oi ri s) some at.by
 
 -- at each moment of a restart
-pub restart_moment : (p : Parts) (oi ri oj rj : List ℕ → Type 0) (s : DispatcherState) (x : DispatchNote × List ℕ) → p.in_doubt ≡ Some x → StandsAt p oi ri s → ((c : List ℕ) → oj c → offsets.KeepsAsLeft oi c) → ((c : List ℕ) → rj c → pending.KeepsAsLeft ri c)
+pub restart_moment : (p : Parts) (oi ri oj rj : List ℕ → Type 0) (s : DispatcherState) (x : DispatchNote × List ℕ) → p.in_doubt ≡ Some x → StandsAt p oi ri s → ((c : List ℕ) → oj c → IsOpened oi c) → ((c : List ℕ) → rj c → IsOpened ri c)
     → (c : List ℕ × List ℕ) → oj c.0 × rj c.1 → KeptOn s c
 restart_moment p oi ri oj rj s x some at a b c here =
     let by = doubt_of p oi ri s x some at in
@@ -85,7 +87,7 @@ restart_moment p oi ri oj rj s x some at a b c here =
     (kept_or x.0 s.node.kept c (images.offset c.0 here.0) (images.pending c.1 here.1))
 
 -- where it is refused the note is in doubt still
-pub still_doubted : (p q : Parts) (oi ri oj rj : List ℕ → Type 0) (s : DispatcherState) (x : DispatchNote × List ℕ) → p.in_doubt ≡ Some x → q.in_doubt ≡ Some x → IsSame p q → StandsAt p oi ri s → ((c : List ℕ) → oj c → offsets.KeepsAsLeft oi c) → ((c : List ℕ) → rj c → pending.KeepsAsLeft ri c)
+pub still_doubted : (p q : Parts) (oi ri oj rj : List ℕ → Type 0) (s : DispatcherState) (x : DispatchNote × List ℕ) → p.in_doubt ≡ Some x → q.in_doubt ≡ Some x → IsSame p q → StandsAt p oi ri s → ((c : List ℕ) → oj c → IsOpened oi c) → ((c : List ℕ) → rj c → IsOpened ri c)
     → StandsAt q oj rj s
 still_doubted p q oi ri oj rj s x some some' same at a b =
     let by = doubt_of p oi ri s x some at in

@@ -28,7 +28,7 @@ pub(crate) fn look_up<D: Disk, L: LogFile>(
 ) -> Result<DispatchInput, NodeFault>
     ensures taken { IfOk result IsTaken }
     ensures carries { IsTrue L.tells → (g : Setting) (k : DispatcherKept) (live : Option DispatcherLive) (l : DispatcherLive) →
-        IsLogOf (L.bytes clicks.old.tail.log) g → kept_as journals.now.offset.offset journals.now.retry.pending.keys ≡ k →
+        IsLogOf (L.bytes clicks.old.tail.log) g → kept_as journals.now.offset.value.offset journals.now.retry.value.pending.keys ≡ k →
         IsOf g core.now → Knows g core.now k live → IsAsked live input l →
         IfOk result (λ taken. Takes g core.now k l taken × Carries g k l taken input) }
     ensures same { IsTrue L.tells → L.bytes clicks.new.tail.log ≡ L.bytes clicks.old.tail.log }

@@ -4,6 +4,7 @@ ghost use Rattle.outside.specs.Disk.{Throughout};
 ghost use Rattle.outside.specs.Faults.{Rose};
 ghost use Rattle.gate_journal.specs.declared.journal.JournalState.TheVariants.{Ready};
 ghost use Rattle.gate_journal.specs.Growth.{Continues};
+ghost use Rattle.gate_journal.specs.Opening.{IsOpened};
 ghost use Rattle.indexmap.specs.IndexSet.{spare};
 ghost use Rattle.offset_journal.specs.Offsets as offsets;
 ghost use Rattle.retry_log.specs.Pending as pending;
@@ -18,9 +19,9 @@ use crate::notes::payload_of;
 use air_bus::Payload;
 use dispatch_core::DispatchNote;
 use gate_journal::{AppendFault, JournalFault};
-use offset_journal::OffsetJournal;
+use offset_journal::{OffsetJournal, offset_record};
 use outside::{Disk, DiskName};
-use retry_log::RetryLog;
+use retry_log::{Change, RetryLog, change_record};
 use site_node::NodeFault;
 use std::alloc::{AllocError, Global};
 
@@ -34,16 +35,16 @@ pub(crate) struct Journals<D: Disk> {
 
 impl<D: Disk> Journals<D> {
     pub(crate) fn offset(&self) -> u64
-        ensures { result ≡ self.now.offset.offset }
+        ensures { result ≡ self.now.offset.value.offset }
     {
-        self.offset.offset()
+        self.offset.value().offset()
     }
 
     // A copy of the pending positions, in the order of parking.
     pub(crate) fn pending(&self) -> Result<Vec<u64>, AllocError>
-        ensures { IfOk result (λ positions. positions.items ≡ self.now.retry.pending.keys) }
+        ensures { IfOk result (λ positions. positions.items ≡ self.now.retry.value.pending.keys) }
     {
-        Vec::from_slice(self.alloc, self.retry.pending().as_slice())
+        Vec::from_slice(self.alloc, self.retry.value().pending().as_slice())
     }
 
     // The disks, that of the offset first.
@@ -62,18 +63,18 @@ impl<D: Disk> Journals<D> {
     // Whether the note can be written: an offset above the kept one, a position that isn't pending to be parked, one that
     // is to be settled. Constant expected time.
     pub(crate) fn takes(&self, note: DispatchNote) -> bool
-        ensures { result ≡ takes_note (kept_as self.now.offset.offset self.now.retry.pending.keys) note }
+        ensures { result ≡ takes_note (kept_as self.now.offset.value.offset self.now.retry.value.pending.keys) note }
     {
         match note {
-            DispatchNote::Advance(end) => self.offset.offset() < end,
-            DispatchNote::Park(position) => !self.retry.pending().contains(&position),
-            DispatchNote::Settle(position) => self.retry.pending().contains(&position),
+            DispatchNote::Advance(end) => self.offset.value().offset() < end,
+            DispatchNote::Park(position) => !self.retry.value().pending().contains(&position),
+            DispatchNote::Settle(position) => self.retry.value().pending().contains(&position),
         }
     }
 
     // The same where there may be no note, which is taken.
     pub(crate) fn takes_any(&self, note: Option<DispatchNote>) -> bool
-        ensures { result ≡ takes_or_none (kept_as self.now.offset.offset self.now.retry.pending.keys) note }
+        ensures { result ≡ takes_or_none (kept_as self.now.offset.value.offset self.now.retry.value.pending.keys) note }
     {
         match note {
             None => true,
@@ -84,9 +85,9 @@ impl<D: Disk> Journals<D> {
     // Room for the note, on its disk.
     pub(crate) fn make_room(&mut self, note: DispatchNote) -> Result<(), AllocError>
         ensures room { OnOk result (HasRoomFor note (D.calls_left self.new.offset.journal.disk) (D.bytes_left self.new.offset.journal.disk)
-            (D.calls_left self.new.retry.journal.disk) (D.bytes_left self.new.retry.journal.disk) (spare self.new.retry.pending)) }
-        ensures kept { kept_as self.new.offset.offset self.new.retry.pending.keys
-            ≡ kept_as self.old.offset.offset self.old.retry.pending.keys }
+            (D.calls_left self.new.retry.journal.disk) (D.bytes_left self.new.retry.journal.disk) (spare self.new.retry.value.pending)) }
+        ensures kept { kept_as self.new.offset.value.offset self.new.retry.value.pending.keys
+            ≡ kept_as self.old.offset.value.offset self.old.retry.value.pending.keys }
         ensures states { (self.new.offset.journal.state ≡ self.old.offset.journal.state)
             × (self.new.retry.journal.state ≡ self.old.retry.journal.state) }
         ensures offset_at_any_moment { IsTrue D.tells → Throughout D.image D.since self.old.offset.journal.disk self.new.offset.journal.disk
@@ -107,14 +108,14 @@ impl<D: Disk> Journals<D> {
         &mut self,
         note: Option<DispatchNote>,
     ) -> Result<Option<(DispatchNote, Payload)>, AllocError>
-        requires { takes_or_none (kept_as self.old.offset.offset self.old.retry.pending.keys) note ≡ true }
+        requires { takes_or_none (kept_as self.old.offset.value.offset self.old.retry.value.pending.keys) note ≡ true }
         ensures recorded { (n : Option Note) → option_map told note ≡ n → IfOk result (IsRecorded n) }
-        ensures takes { IfOk result (IsTakenBy (kept_as self.new.offset.offset self.new.retry.pending.keys)) }
+        ensures takes { IfOk result (IsTakenBy (kept_as self.new.offset.value.offset self.new.retry.value.pending.keys)) }
         ensures room { IfOk result (λ written. IsRoomFor written
             (D.calls_left self.new.offset.journal.disk) (D.bytes_left self.new.offset.journal.disk)
-            (D.calls_left self.new.retry.journal.disk) (D.bytes_left self.new.retry.journal.disk) (spare self.new.retry.pending)) }
-        ensures kept { kept_as self.new.offset.offset self.new.retry.pending.keys
-            ≡ kept_as self.old.offset.offset self.old.retry.pending.keys }
+            (D.calls_left self.new.retry.journal.disk) (D.bytes_left self.new.retry.journal.disk) (spare self.new.retry.value.pending)) }
+        ensures kept { kept_as self.new.offset.value.offset self.new.retry.value.pending.keys
+            ≡ kept_as self.old.offset.value.offset self.old.retry.value.pending.keys }
         ensures states { (self.new.offset.journal.state ≡ self.old.offset.journal.state)
             × (self.new.retry.journal.state ≡ self.old.retry.journal.state) }
         ensures offset_at_any_moment { IsTrue D.tells → Throughout D.image D.since self.old.offset.journal.disk self.new.offset.journal.disk
@@ -134,20 +135,20 @@ impl<D: Disk> Journals<D> {
 
     // Writes the note to its disk. It takes no memory.
     pub(crate) fn append(&mut self, note: DispatchNote) -> Result<(), AppendFault>
-        requires takes { takes_note (kept_as self.old.offset.offset self.old.retry.pending.keys) note ≡ true }
+        requires takes { takes_note (kept_as self.old.offset.value.offset self.old.retry.value.pending.keys) note ≡ true }
         requires room { HasRoomFor note (D.calls_left self.old.offset.journal.disk) (D.bytes_left self.old.offset.journal.disk)
-            (D.calls_left self.old.retry.journal.disk) (D.bytes_left self.old.retry.journal.disk) (spare self.old.retry.pending) }
-        ensures kept { OnOk result (kept_as self.new.offset.offset self.new.retry.pending.keys
-            ≡ landed note (kept_as self.old.offset.offset self.old.retry.pending.keys)) }
+            (D.calls_left self.old.retry.journal.disk) (D.bytes_left self.old.retry.journal.disk) (spare self.old.retry.value.pending) }
+        ensures kept { OnOk result (kept_as self.new.offset.value.offset self.new.retry.value.pending.keys
+            ≡ landed note (kept_as self.old.offset.value.offset self.old.retry.value.pending.keys)) }
         ensures ready { self.old.offset.journal.state ≡ Ready → self.old.retry.journal.state ≡ Ready →
             OnOk result ((self.new.offset.journal.state ≡ Ready) × (self.new.retry.journal.state ≡ Ready)) }
         ensures offset_at_any_moment { IsTrue D.tells → self.old.offset.journal.state ≡ Ready →
             Throughout D.image D.since self.old.offset.journal.disk self.new.offset.journal.disk
-            (offsets.KeepsOr self.old.offset.offset (landed note (kept_as self.old.offset.offset self.old.retry.pending.keys)).offset) }
+            (offsets.KeepsOr self.old.offset.value.offset (landed note (kept_as self.old.offset.value.offset self.old.retry.value.pending.keys)).offset) }
         ensures retry_at_any_moment { IsTrue D.tells → self.old.retry.journal.state ≡ Ready →
             Throughout D.image D.since self.old.retry.journal.disk self.new.retry.journal.disk
-            (pending.KeepsOr self.old.retry.pending.keys
-            (landed note (kept_as self.old.offset.offset self.old.retry.pending.keys)).pending) }
+            (pending.KeepsOr self.old.retry.value.pending.keys
+            (landed note (kept_as self.old.offset.value.offset self.old.retry.value.pending.keys)).pending) }
         ensures offset_grows { IsTrue D.tells → self.old.offset.journal.state ≡ Ready →
             (c : List ℕ) → D.image self.new.offset.journal.disk c → Continues (D.image self.old.offset.journal.disk) c }
         ensures retry_grows { IsTrue D.tells → self.old.retry.journal.state ≡ Ready → (c : List ℕ) → D.image self.new.retry.journal.disk c →
@@ -161,21 +162,27 @@ impl<D: Disk> Journals<D> {
             × (D.faults self.old.retry.journal.disk ≤ D.faults self.new.retry.journal.disk) }
     {
         match note {
-            DispatchNote::Advance(end) => self.offset.advance(end),
-            DispatchNote::Park(position) => self.retry.park(position),
-            DispatchNote::Settle(position) => self.retry.settle(position),
+            DispatchNote::Advance(end) => self.offset.append(&offset_record(end), end),
+            DispatchNote::Park(position) => {
+                let change = Change::Park(position);
+                self.retry.append(&change_record(change), change)
+            }
+            DispatchNote::Settle(position) => {
+                let change = Change::Settle(position);
+                self.retry.append(&change_record(change), change)
+            }
         }
     }
 
     // Reads both disks as a stop left them. Linear in the files.
     pub(crate) fn reopen(&mut self, site: u8) -> Result<(), NodeFault>
         ensures ready { OnOk result ((self.new.offset.journal.state ≡ Ready) × (self.new.retry.journal.state ≡ Ready)) }
-        ensures left { IsTrue D.tells → OnOk result (offsets.IsLeft (D.image self.old.offset.journal.disk) self.new.offset.offset
-            × pending.IsLeft (D.image self.old.retry.journal.disk) self.new.retry.pending.keys) }
+        ensures left { IsTrue D.tells → OnOk result (offsets.IsLeft (D.image self.old.offset.journal.disk) self.new.offset.value.offset
+            × pending.IsLeft (D.image self.old.retry.journal.disk) self.new.retry.value.pending.keys) }
         ensures offset_at_any_moment { IsTrue D.tells → Throughout D.image D.since self.old.offset.journal.disk self.new.offset.journal.disk
-            (offsets.KeepsAsLeft (D.image self.old.offset.journal.disk)) }
+            (IsOpened (D.image self.old.offset.journal.disk)) }
         ensures retry_at_any_moment { IsTrue D.tells → Throughout D.image D.since self.old.retry.journal.disk self.new.retry.journal.disk
-            (pending.KeepsAsLeft (D.image self.old.retry.journal.disk)) }
+            (IsOpened (D.image self.old.retry.journal.disk)) }
         ensures offset_grows { IsTrue D.tells → (c : List ℕ) → D.image self.new.offset.journal.disk c →
             Continues (D.image self.old.offset.journal.disk) c }
         ensures retry_grows { IsTrue D.tells → (c : List ℕ) → D.image self.new.retry.journal.disk c →

@@ -78,7 +78,7 @@ impl<D: Disk, L: LogFile> DispatchNode<D, L> {
         ensures log { result.clicks.tail.log ≡ log }
         ensures up { result.in_doubt ≡ None }
         ensures stands { (g : Setting) → rosters.IsOf roster g → g.replicas ≡ 3 → IsLogOf (L.bytes log) g →
-            AreKeptPlaces g (kept_as offset.offset retry.pending.keys) →
+            AreKeptPlaces g (kept_as offset.value.offset retry.value.pending.keys) →
             StandsAt (record {
               site = result.site;
               roster = result.roster;
@@ -86,12 +86,12 @@ impl<D: Disk, L: LogFile> DispatchNode<D, L> {
               log = L.bytes result.clicks.tail.log;
               offset_state = result.journals.offset.journal.state;
               retry_state = result.journals.retry.journal.state;
-              offset = result.journals.offset.offset;
-              pending = result.journals.retry.pending.keys;
+              offset = result.journals.offset.value.offset;
+              pending = result.journals.retry.value.pending.keys;
               in_doubt = result.in_doubt;
             })
             (D.image result.journals.offset.journal.disk) (D.image result.journals.retry.journal.disk)
-            (down_over site g (kept_as offset.offset retry.pending.keys)) }
+            (down_over site g (kept_as offset.value.offset retry.value.pending.keys)) }
     {
         DispatchNode {
             site,
@@ -134,20 +134,20 @@ impl<D: Disk, L: LogFile> DispatchNode<D, L> {
         ensures numbers { HasSameNumbers self.old.core self.new.core }
         ensures core { StandsAs self.old.core self.new.core }
         ensures log { IsTrue L.tells → L.bytes self.new.clicks.tail.log ≡ L.bytes self.old.clicks.tail.log }
-        ensures kept { kept_as self.new.journals.offset.offset self.new.journals.retry.pending.keys
-            ≡ kept_as self.old.journals.offset.offset self.old.journals.retry.pending.keys }
+        ensures kept { kept_as self.new.journals.offset.value.offset self.new.journals.retry.value.pending.keys
+            ≡ kept_as self.old.journals.offset.value.offset self.old.journals.retry.value.pending.keys }
         ensures ready { IfOk result (λ r. IsReady self.new.core r.turn r.packets r.written) }
         ensures turn { IsTrue L.tells → (g : Setting) (k : DispatcherKept) (live : Option DispatcherLive) (l : DispatcherLive) →
             IsLogOf (L.bytes self.old.clicks.tail.log) g →
-            kept_as self.old.journals.offset.offset self.old.journals.retry.pending.keys ≡ k →
+            kept_as self.old.journals.offset.value.offset self.old.journals.retry.value.pending.keys ≡ k →
             IsOf g self.old.core → Knows g self.old.core k live → IsAsked live input l →
             IfOk result (λ r. IsTurn g self.new.core k l r.turn (out_of g self.old.core.dealer.site k l input)) }
         ensures takes { IfOk result (λ r. IsTakenBy
-            (kept_as self.new.journals.offset.offset self.new.journals.retry.pending.keys) r.written) }
+            (kept_as self.new.journals.offset.value.offset self.new.journals.retry.value.pending.keys) r.written) }
         ensures room { IfOk result (λ r. IsRoomFor r.written
             (D.calls_left self.new.journals.offset.journal.disk) (D.bytes_left self.new.journals.offset.journal.disk)
             (D.calls_left self.new.journals.retry.journal.disk) (D.bytes_left self.new.journals.retry.journal.disk)
-            (spare self.new.journals.retry.pending)) }
+            (spare self.new.journals.retry.value.pending)) }
         ensures offset_at_any_moment { IsTrue D.tells → Throughout D.image D.since self.old.journals.offset.journal.disk
             self.new.journals.offset.journal.disk (D.image self.old.journals.offset.journal.disk) }
         ensures retry_at_any_moment { IsTrue D.tells → Throughout D.image D.since self.old.journals.retry.journal.disk
@@ -175,10 +175,10 @@ impl<D: Disk, L: LogFile> DispatchNode<D, L> {
     // knows fits what its disks keep.
     fn expect_taken(&self, note: Option<DispatchNote>) -> Result<(), NodeFault>
         ensures taken { OnOk result (takes_or_none
-            (kept_as self.now.journals.offset.offset self.now.journals.retry.pending.keys) note ≡ true) }
+            (kept_as self.now.journals.offset.value.offset self.now.journals.retry.value.pending.keys) note ≡ true) }
         ensures never { (g : Setting) (k : DispatcherKept) (live : Option DispatcherLive) (l : DispatcherLive) (input : Input) →
             IsLogOf (L.bytes self.now.clicks.tail.log) g →
-            kept_as self.now.journals.offset.offset self.now.journals.retry.pending.keys ≡ k →
+            kept_as self.now.journals.offset.value.offset self.now.journals.retry.value.pending.keys ≡ k →
             Knows g self.now.core k live → IsAsked live input l →
             option_map told note ≡ (out_of g self.now.core.dealer.site k l input).note → OnErr result ⊥ }
         ensures fault { IfErr result (λ e. e ≡ NodeFault.Memory) }
@@ -194,11 +194,11 @@ impl<D: Disk, L: LogFile> DispatchNode<D, L> {
     fn finish(&mut self, ready: ReadyTurn) -> Result<Done, NodeFault>
         requires up { self.old.in_doubt ≡ None }
         requires ready { IsReady self.old.core ready.turn ready.packets ready.written }
-        requires takes { IsTakenBy (kept_as self.old.journals.offset.offset self.old.journals.retry.pending.keys) ready.written }
+        requires takes { IsTakenBy (kept_as self.old.journals.offset.value.offset self.old.journals.retry.value.pending.keys) ready.written }
         requires room { IsRoomFor ready.written
             (D.calls_left self.old.journals.offset.journal.disk) (D.bytes_left self.old.journals.offset.journal.disk)
             (D.calls_left self.old.journals.retry.journal.disk) (D.bytes_left self.old.journals.retry.journal.disk)
-            (spare self.old.journals.retry.pending) }
+            (spare self.old.journals.retry.value.pending) }
         ensures same { (self.new.site ≡ self.old.site) × (self.new.roster ≡ self.old.roster) × (self.new.clicks ≡ self.old.clicks) }
         ensures numbers { HasSameNumbers self.old.core self.new.core }
         ensures up { OnOk result (self.new.in_doubt ≡ None) }
@@ -207,14 +207,14 @@ impl<D: Disk, L: LogFile> DispatchNode<D, L> {
         ensures packets { IfOk result (λ d. d.packets ≡ ready.packets) }
         ensures stands { OnOk result ((g : Setting) (k : DispatcherKept) (l : DispatcherLive) (out : Out DispatcherLive) →
             IsTurn g self.old.core k l ready.turn out → Stands g self.new.core (land land_dispatcher out.note k) out.live) }
-        ensures kept { OnOk result (kept_as self.new.journals.offset.offset self.new.journals.retry.pending.keys
-            ≡ landed_by ready.written (kept_as self.old.journals.offset.offset self.old.journals.retry.pending.keys)) }
+        ensures kept { OnOk result (kept_as self.new.journals.offset.value.offset self.new.journals.retry.value.pending.keys
+            ≡ landed_by ready.written (kept_as self.old.journals.offset.value.offset self.old.journals.retry.value.pending.keys)) }
         ensures offset_at_any_moment { IsTrue D.tells → Throughout D.image D.since self.old.journals.offset.journal.disk
-            self.new.journals.offset.journal.disk (offsets.KeepsOr self.old.journals.offset.offset
-            (landed_by ready.written (kept_as self.old.journals.offset.offset self.old.journals.retry.pending.keys)).offset) }
+            self.new.journals.offset.journal.disk (offsets.KeepsOr self.old.journals.offset.value.offset
+            (landed_by ready.written (kept_as self.old.journals.offset.value.offset self.old.journals.retry.value.pending.keys)).offset) }
         ensures retry_at_any_moment { IsTrue D.tells → Throughout D.image D.since self.old.journals.retry.journal.disk
-            self.new.journals.retry.journal.disk (pending.KeepsOr self.old.journals.retry.pending.keys
-            (landed_by ready.written (kept_as self.old.journals.offset.offset self.old.journals.retry.pending.keys)).pending) }
+            self.new.journals.retry.journal.disk (pending.KeepsOr self.old.journals.retry.value.pending.keys
+            (landed_by ready.written (kept_as self.old.journals.offset.value.offset self.old.journals.retry.value.pending.keys)).pending) }
         ensures offset_grows { IsTrue D.tells → (c : List ℕ) → D.image self.new.journals.offset.journal.disk c →
             Continues (D.image self.old.journals.offset.journal.disk) c }
         ensures retry_grows { IsTrue D.tells → (c : List ℕ) → D.image self.new.journals.retry.journal.disk c →
@@ -241,24 +241,24 @@ impl<D: Disk, L: LogFile> DispatchNode<D, L> {
         written: Option<(DispatchNote, Payload)>,
     ) -> Result<Option<Payload>, NodeFault>
         requires up { self.old.in_doubt ≡ None }
-        requires takes { IsTakenBy (kept_as self.old.journals.offset.offset self.old.journals.retry.pending.keys) written }
+        requires takes { IsTakenBy (kept_as self.old.journals.offset.value.offset self.old.journals.retry.value.pending.keys) written }
         requires room { IsRoomFor written
             (D.calls_left self.old.journals.offset.journal.disk) (D.bytes_left self.old.journals.offset.journal.disk)
             (D.calls_left self.old.journals.retry.journal.disk) (D.bytes_left self.old.journals.retry.journal.disk)
-            (spare self.old.journals.retry.pending) }
+            (spare self.old.journals.retry.value.pending) }
         ensures same { (self.new.site ≡ self.old.site) × (self.new.roster ≡ self.old.roster) × (self.new.clicks ≡ self.old.clicks)
             × (self.new.core ≡ self.old.core) }
         ensures up { OnOk result (self.new.in_doubt ≡ None) }
         ensures doubt { OnErr result ((self.new.in_doubt ≡ written) × (is_some written ≡ true)) }
         ensures note { IfOk result (λ n. n ≡ option_map (λ w. w.1) written) }
-        ensures kept { OnOk result (kept_as self.new.journals.offset.offset self.new.journals.retry.pending.keys
-            ≡ landed_by written (kept_as self.old.journals.offset.offset self.old.journals.retry.pending.keys)) }
+        ensures kept { OnOk result (kept_as self.new.journals.offset.value.offset self.new.journals.retry.value.pending.keys
+            ≡ landed_by written (kept_as self.old.journals.offset.value.offset self.old.journals.retry.value.pending.keys)) }
         ensures offset_at_any_moment { IsTrue D.tells → Throughout D.image D.since self.old.journals.offset.journal.disk
-            self.new.journals.offset.journal.disk (offsets.KeepsOr self.old.journals.offset.offset
-            (landed_by written (kept_as self.old.journals.offset.offset self.old.journals.retry.pending.keys)).offset) }
+            self.new.journals.offset.journal.disk (offsets.KeepsOr self.old.journals.offset.value.offset
+            (landed_by written (kept_as self.old.journals.offset.value.offset self.old.journals.retry.value.pending.keys)).offset) }
         ensures retry_at_any_moment { IsTrue D.tells → Throughout D.image D.since self.old.journals.retry.journal.disk
-            self.new.journals.retry.journal.disk (pending.KeepsOr self.old.journals.retry.pending.keys
-            (landed_by written (kept_as self.old.journals.offset.offset self.old.journals.retry.pending.keys)).pending) }
+            self.new.journals.retry.journal.disk (pending.KeepsOr self.old.journals.retry.value.pending.keys
+            (landed_by written (kept_as self.old.journals.offset.value.offset self.old.journals.retry.value.pending.keys)).pending) }
         ensures offset_grows { IsTrue D.tells → (c : List ℕ) → D.image self.new.journals.offset.journal.disk c →
             Continues (D.image self.old.journals.offset.journal.disk) c }
         ensures retry_grows { IsTrue D.tells → (c : List ℕ) → D.image self.new.journals.retry.journal.disk c →
@@ -322,8 +322,8 @@ impl<D: Disk, L: LogFile> SiteNode for DispatchNode<D, L> {
       log = L.bytes node.clicks.tail.log;
       offset_state = node.journals.offset.journal.state;
       retry_state = node.journals.retry.journal.state;
-      offset = node.journals.offset.offset;
-      pending = node.journals.retry.pending.keys;
+      offset = node.journals.offset.value.offset;
+      pending = node.journals.retry.value.pending.keys;
       in_doubt = node.in_doubt;
     })
         (D.image node.journals.offset.journal.disk) (D.image node.journals.retry.journal.disk) s };

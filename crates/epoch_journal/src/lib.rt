@@ -1,8 +1,7 @@
 //! A journal of epochs, each above the one before.
 #![tactic(auto)]
 
-mod journal;
-mod reading;
+mod epochs;
 pub mod rows;
 
-pub use journal::{EpochJournal, RaiseFault};
+pub use epochs::{EpochJournal, Epochs, RaiseFault, raise};

@@ -1,50 +1,47 @@
-// A record as it is written behind a gate.
-ghost use Rattle.std.specs.Prelude.{◌≡◌, ◌≤◌, [], ◌∷◌, length, IfOk};
+// The record that is appended next, as it is written behind a gate.
+ghost use Rattle.std.specs.Prelude.{◌≡◌, ◌≤◌, ◌+◌, ◌++◌, [], ◌∷◌, length, vec_len, vec_capacity};
 ghost use Rattle.gate_journal.specs.Gate.{framed};
 
 use crate::reading::OPEN;
 use std::alloc::{AllocError, Global};
 use std::marker::Model;
 
+/// The most bytes of a payload.
+pub const LONGEST: usize = 65_535;
+
 /// A record as it stands in a file: an open gate, the payload's length as four bytes, the payload, and the next gate, which
-/// is closed. Contracts see the payload.
+/// is closed. It has room for the longest. Contracts see the payload.
 #[derive(Drop)]
 pub struct Frame {
     bytes: Vec<u8>,
 }
 
 impl Model for Frame {
-    ghost use Rattle.std.specs.Prelude.{◌≡◌, ◌≤◌, ◌∷◌, List, ℕ, length};
+    ghost use Rattle.std.specs.Prelude.{◌≡◌, ◌≤◌, ◌∷◌, List, ℕ, length, vec_capacity};
     ghost use Rattle.gate_journal.specs.Gate.{framed, payload_of};
 
     ghost Value = { List ℕ };
 
     ghost view = { λ frame. payload_of frame.bytes.items };
 
-    ghost invariant = { λ frame. (frame.bytes.items ≡ 165 ∷ framed (payload_of frame.bytes.items)) × (length (payload_of frame.bytes.items) ≤ 65535) };
+    ghost invariant = { λ frame. (frame.bytes.items ≡ 165 ∷ framed (payload_of frame.bytes.items)) × (length (payload_of frame.bytes.items) ≤ 65535) × (65541 ≤ vec_capacity frame.bytes) };
 }
 
 impl Frame {
-    /// A frame round these bytes, by one allocation.
-    pub fn new(alloc: Global, payload: &[u8]) -> Result<Frame, AllocError>
-        requires { length payload.now ≤ 65535 }
-        ensures { IfOk result (λ frame. frame ≡ payload.now) }
-    {
-        let mut bytes = Vec::with_capacity(alloc, payload.len() + 6)?;
-        bytes.push(OPEN)?;
-        bytes.extend_from_slice(&(payload.len() as u32).to_be_bytes())?;
-        bytes.extend_from_slice(payload)?;
-        bytes.push(0)?;
+    /// A frame round no byte, by one allocation.
+    pub fn new(alloc: Global) -> Result<Frame, AllocError> {
+        let mut bytes = Vec::with_capacity(alloc, LONGEST + 6)?;
+        put_frame(&mut bytes, &[]);
         Ok(Frame { bytes })
     }
 
-    /// Takes another payload of the same length. It allocates nothing.
+    /// Takes another payload. It allocates nothing.
     pub fn refill(&mut self, payload: &[u8])
-        requires { length payload.now ≡ length self.old }
+        requires { length payload.now ≤ 65535 }
         ensures { self.new ≡ payload.now }
     {
-        let end = self.bytes.len() - 1;
-        self.bytes[5..end].copy_from_slice(payload);
+        self.bytes.clear();
+        put_frame(&mut self.bytes, payload);
     }
 
     /// All the bytes, with the gate open.
@@ -68,11 +65,18 @@ impl Frame {
     {
         &self.bytes[..1]
     }
+}
 
-    /// The length of the payload.
-    pub fn len(&self) -> u64
-        ensures { result ≡ length self.now }
-    {
-        self.bytes.len() as u64 - 6
-    }
+// Puts a frame into bytes that are empty and have room for it.
+fn put_frame(bytes: &mut Vec<u8>, payload: &[u8])
+    requires empty { bytes.old.items ≡ [] }
+    requires fits { length payload.now ≤ 65535 }
+    requires room { 65541 ≤ vec_capacity bytes.old }
+    ensures framed { bytes.new.items ≡ 165 ∷ framed payload.now }
+    ensures room { 65541 ≤ vec_capacity bytes.new }
+{
+    let _ = bytes.push(OPEN);
+    let _ = bytes.extend_from_slice(&(payload.len() as u32).to_be_bytes());
+    let _ = bytes.extend_from_slice(payload);
+    let _ = bytes.push(0);
 }

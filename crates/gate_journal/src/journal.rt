@@ -3,9 +3,10 @@ ghost use Rattle.std.specs.Prelude.{◌≡◌, ◌≤◌, ◌^◌, true, false, 
 ghost use Rattle.gate_journal.specs.declared.journal.JournalState.TheVariants.{Ready};
 ghost use Rattle.gate_journal.specs.Disk.{IsSettled};
 
+use crate::JournalFault;
+use crate::frame::Frame;
 use crate::opening::{open_disk, records_of, reopen_disk};
 use crate::writing::append_record;
-use crate::{Frame, JournalFault};
 use outside::Disk;
 use std::alloc::{AllocError, Global};
 use wire_core::Bytes;
@@ -30,13 +31,14 @@ pub enum AppendFault {
 
 /// A journal on a disk. While it is ready, the disk holds all that it reads: records, and then a closed gate.
 ///
-/// Opening and reading take memory and time linear in the file. An append takes time linear in its record, four changing
+/// It has a buffer for the longest record, 64 KiB. Opening and reading take memory and time linear in the file. An append takes time linear in its record, four changing
 /// calls, and no memory.
 #[derive(Drop)]
 pub struct Journal<D: Disk> {
     disk: D,
     gate: u64,
     state: JournalState,
+    frame: Frame,
     ghost limit: { gate ≤ 2 ^ 63 },
     ghost up: { IsTrue D.tells → state ≡ Ready → D.is_down disk ≡ false },
     ghost settled: { IsTrue D.tells → state ≡ Ready → IsSettled (D.seen disk) (D.image disk) gate },
@@ -66,6 +68,10 @@ impl<D: Disk> Journal<D> {
         ensures ok_count { IfOk result (λ r. D.faults disk ≤ D.faults r.0.disk) }
         ensures err_count { IfErr result (λ e. D.faults disk ≤ D.faults e.1) }
     {
+        let frame = match Frame::new(alloc) {
+            Ok(frame) => frame,
+            Err(_) => return Err((JournalFault::Memory, disk)),
+        };
         let mut disk = disk;
         match open_disk(alloc, &mut disk) {
             Ok((payloads, gate)) => Ok((
@@ -73,6 +79,7 @@ impl<D: Disk> Journal<D> {
                     disk,
                     gate,
                     state: JournalState::Ready,
+                    frame,
                 },
                 payloads,
             )),
@@ -109,6 +116,7 @@ impl<D: Disk> Journal<D> {
 
     /// The records of a disk's bytes as they read, with no changing call.
     pub fn read_again(alloc: Global, disk: &mut D) -> Result<Vec<Bytes>, JournalFault>
+        ensures place { IfOk result (λ records. spans records.items ≤ 2 ^ 63) }
         ensures records { IsTrue D.tells → IfOk result (λ records. StandsFor records.items (D.seen disk.old)) }
         ensures err { IfErr result (λ e. IsRefused D.tells (D.seen disk.old) (D.faults disk.old) (D.faults disk.new) e) }
         ensures seen { IsTrue D.tells → D.seen disk.new ≡ D.seen disk.old }
@@ -140,16 +148,16 @@ impl<D: Disk> Journal<D> {
     }
 
     /// Appends a record. At `Ok` each image has it from now on.
-    pub fn append(&mut self, frame: &Frame) -> Result<(), AppendFault>
-        requires { HasRoom (D.calls_left self.old.disk) (D.bytes_left self.old.disk) (length frame.now) }
+    pub fn append(&mut self, payload: &[u8]) -> Result<(), AppendFault>
+        requires { HasRoom (D.calls_left self.old.disk) (D.bytes_left self.old.disk) (length payload.now) }
 
         // At every moment since the call began, each image stands for the old records, or for them and the new one.
-        ensures any_moment { IsTrue D.tells → self.old.state ≡ Ready → Throughout D.image D.since self.old.disk self.new.disk (IsOldOrNew (records (D.seen self.old.disk)) frame.now) }
+        ensures any_moment { IsTrue D.tells → self.old.state ≡ Ready → Throughout D.image D.since self.old.disk self.new.disk (IsOldOrNew (records (D.seen self.old.disk)) payload.now) }
         ensures grows { IsTrue D.tells → Throughout D.image D.since self.old.disk self.new.disk (Continues (D.image self.old.disk)) }
 
         // At `Ok` each image stands for them and the new one.
-        ensures appended { IsTrue D.tells → OnOk result (records (D.seen self.new.disk) ≡ records (D.seen self.old.disk) ++ frame.now ∷ []) }
-        ensures durable { IsTrue D.tells → OnOk result ((c : List ℕ) → D.image self.new.disk c → StandsFor (records (D.seen self.old.disk) ++ frame.now ∷ []) c) }
+        ensures appended { IsTrue D.tells → OnOk result (records (D.seen self.new.disk) ≡ records (D.seen self.old.disk) ++ payload.now ∷ []) }
+        ensures durable { IsTrue D.tells → OnOk result ((c : List ℕ) → D.image self.new.disk c → StandsFor (records (D.seen self.old.disk) ++ payload.now ∷ []) c) }
 
         // Where the disk tells its planned stops, only one of them among the four calls is a cause of the fault.
         ensures plan { IsTrue D.tells → self.old.state ≡ Ready → IsErrOf result AppendFault.Disk → StopsAmong (D.stops self.old.disk) (D.made self.old.disk) (D.made self.old.disk + 4) }
@@ -166,10 +174,11 @@ impl<D: Disk> Journal<D> {
         if self.state == JournalState::Broken {
             return Err(AppendFault::Broken);
         }
+        self.frame.refill(payload);
         let gate = self.gate;
-        match append_record(&mut self.disk, gate, frame) {
+        match append_record(&mut self.disk, gate, &self.frame) {
             Ok(()) => {
-                self.gate = gate + 5 + frame.len();
+                self.gate = gate + 5 + payload.len() as u64;
                 Ok(())
             }
             Err(_) => {

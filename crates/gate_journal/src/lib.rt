@@ -11,10 +11,13 @@ mod frame;
 mod journal;
 mod opening;
 mod reading;
+mod record;
+mod records;
 pub mod rows;
 mod writing;
 
-pub use frame::Frame;
 pub use journal::{AppendFault, Journal, JournalState};
 pub use reading::JournalFault;
+pub use record::Record;
+pub use records::RecordJournal;
 pub use wire_core::Bytes as Payload;

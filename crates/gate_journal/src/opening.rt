@@ -85,6 +85,7 @@ pub fn reopen_disk<D: Disk>(alloc: Global, disk: &mut D) -> Result<(Vec<Bytes>, 
 
 /// The records of the bytes as they read, with no changing call.
 pub fn records_of<D: Disk>(alloc: Global, disk: &mut D) -> Result<Vec<Bytes>, JournalFault>
+    ensures place { IfOk result (λ records. spans records.items ≤ 2 ^ 63) }
     ensures records { IsTrue D.tells → IfOk result (λ records. StandsFor records.items (D.seen disk.old)) }
     ensures err { IfErr result (λ e. IsRefused D.tells (D.seen disk.old) (D.faults disk.old) (D.faults disk.new) e) }
     ensures seen { IsTrue D.tells → D.seen disk.new ≡ D.seen disk.old }

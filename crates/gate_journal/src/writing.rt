@@ -6,7 +6,7 @@ ghost use Rattle.gate_journal.specs.Disk.{IsSettled, HasRoom};
 ghost use Rattle.gate_journal.specs.Gate.{records, IsOldOrNew};
 ghost use Rattle.gate_journal.specs.Growth.{HasImage};
 
-use crate::Frame;
+use crate::frame::Frame;
 use outside::{Disk, DiskFault};
 
 /// Writes bytes to a disk that holds all that it reads, and waits until it holds these too.

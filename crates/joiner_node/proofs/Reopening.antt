@@ -6,7 +6,8 @@ use Rattle.std.proofs.lemmas.List.Elements.{All-head, All-tail}
 use Rattle.gate_journal.specs.Opening.{IsOpened}
 use Rattle.gate_journal.specs.declared.reading.JournalFault.{JournalFault}
 use Rattle.gate_journal.specs.declared.reading.JournalFault.TheVariants.{Damaged, Disk, Memory}
-use Rattle.epoch_journal.specs.Epochs.{epoch_of}
+use Rattle.gate_journal.specs.Fold.{read_as}
+use Rattle.epoch_journal.specs.Epochs.{epochs as of_epochs}
 use Rattle.epoch_journal.specs.Epochs as epochs
 use Rattle.turn_defs.specs.declared.pair.PairRec.{PairRec}
 use Rattle.output_log.specs.Pairs.{record_of}

@@ -93,7 +93,7 @@ pub record Room : Type 0 where
 abbrev pub IsRoomFor : Option Record → Room → ℕ → Type 0
 IsRoomFor None r used = ⊤
 IsRoomFor (Some (written.Epoch b)) r used = HasRoom r.epoch_calls r.epoch_bytes 5
-IsRoomFor (Some (written.Pair f p b)) r used = HasRoom r.pair_calls r.pair_bytes longest × (used < r.places)
+IsRoomFor (Some (written.Pair p b)) r used = HasRoom r.pair_calls r.pair_bytes longest × (used < r.places)
 
 -- no damage was found
 abbrev pub IsUndamaged : JournalFault → Type 0

@@ -10,9 +10,9 @@ use Rattle.joiner_core.specs.declared.turn.JoinerNote.TheVariants as notes
 use Rattle.joiner_node.specs.declared.records.Record.{Record}
 use Rattle.joiner_node.specs.declared.records.Record.TheVariants as written
 
--- a pair's record, once for the disk and once for the bus
+-- a pair with its record
 abbrev pub pair_record : PairRec → Record
-pair_record p = written.Pair (record_of p) p (record_of p)
+pair_record p = written.Pair p (record_of p)
 
 abbrev pub recorded_as : Option JoinerNote → Option Record
 recorded_as None = None
@@ -23,13 +23,13 @@ recorded_as (Some (notes.Pair p)) = Some (pair_record p)
 abbrev pub IsOwn : Option Record → Type 0
 IsOwn None = ⊤
 IsOwn (Some (written.Epoch b)) = ⊤
-IsOwn (Some (written.Pair f p b)) = IsPair p × (f ≡ record_of p)
+IsOwn (Some (written.Pair p b)) = IsPair p × (b ≡ record_of p)
 
 -- the record isn't that of an epoch past the last one
 abbrev pub IsUnspent : Option Record → ℕ → Type 0
 IsUnspent None epoch = ⊤
 IsUnspent (Some (written.Epoch b)) epoch = epoch < LAST_EPOCH
-IsUnspent (Some (written.Pair f p b)) epoch = ⊤
+IsUnspent (Some (written.Pair p b)) epoch = ⊤
 
 -- an epoch is above the kept one
 abbrev pub IsAbove : Option JoinerNote → ℕ → Type 0

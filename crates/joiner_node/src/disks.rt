@@ -7,8 +7,8 @@ ghost use Rattle.joiner_node.specs.Disks.{IsUndamaged};
 
 use crate::records::Record;
 use air_bus::Payload;
-use epoch_journal::EpochJournal;
-use gate_journal::{Frame, JournalFault};
+use epoch_journal::{EpochJournal, raise};
+use gate_journal::JournalFault;
 use output_log::{OutputLog, laws};
 use outside::{Disk, DiskName};
 use site_node::NodeFault;
@@ -81,10 +81,10 @@ impl<D: Disk> Disks<D> {
 
     // The kept epoch.
     pub(crate) fn epoch(&self) -> u32
-        ensures epoch { result ≡ self.now.epochs.epoch }
-        ensures limit { self.now.epochs.epoch ≤ LAST_EPOCH }
+        ensures epoch { result ≡ self.now.epochs.value.epoch }
+        ensures limit { self.now.epochs.value.epoch ≤ LAST_EPOCH }
     {
-        self.epochs.epoch()
+        self.epochs.value().epoch()
     }
 
     // The disks, which hold the journals.
@@ -98,9 +98,9 @@ impl<D: Disk> Disks<D> {
     // Room for the record, if there is one.
     pub(crate) fn make_room(&mut self, writes: &Option<Record>) -> Result<(), AllocError>
         ensures same { (self.new.site ≡ self.old.site) × (self.new.joiner ≡ self.old.joiner) × (self.new.in_doubt ≡ self.old.in_doubt) }
-        ensures epoch { self.new.epochs.epoch ≡ self.old.epochs.epoch }
-        ensures pairs { self.new.log.pairs.items ≡ self.old.log.pairs.items }
-        ensures room { OnOk result (IsRoomFor writes.now (record { epoch_calls = D.calls_left self.new.epochs.journal.disk; epoch_bytes = D.bytes_left self.new.epochs.journal.disk; pair_calls = D.calls_left self.new.log.journal.disk; pair_bytes = D.bytes_left self.new.log.journal.disk; places = vec_capacity self.new.log.pairs }) (vec_len self.new.log.pairs)) }
+        ensures epoch { self.new.epochs.value.epoch ≡ self.old.epochs.value.epoch }
+        ensures pairs { self.new.log.value.pairs.items ≡ self.old.log.value.pairs.items }
+        ensures room { OnOk result (IsRoomFor writes.now (record { epoch_calls = D.calls_left self.new.epochs.journal.disk; epoch_bytes = D.bytes_left self.new.epochs.journal.disk; pair_calls = D.calls_left self.new.log.journal.disk; pair_bytes = D.bytes_left self.new.log.journal.disk; places = vec_capacity self.new.log.value.pairs }) (vec_len self.new.log.value.pairs)) }
         ensures epoch_moments { IsTrue D.tells → Throughout D.image D.since self.old.epochs.journal.disk self.new.epochs.journal.disk (D.image self.old.epochs.journal.disk) }
         ensures pair_moments { IsTrue D.tells → Throughout D.image D.since self.old.log.journal.disk self.new.log.journal.disk (D.image self.old.log.journal.disk) }
         ensures epoch_count { D.faults self.new.epochs.journal.disk ≡ D.faults self.old.epochs.journal.disk }
@@ -117,18 +117,18 @@ impl<D: Disk> Disks<D> {
     pub(crate) fn append(&mut self, writes: Option<Record>) -> Result<Option<Payload>, NodeFault>
         requires up { self.old.in_doubt ≡ None }
         requires whole { IsOwn writes }
-        requires unspent { IsUnspent writes self.old.epochs.epoch }
-        requires room { IsRoomFor writes (record { epoch_calls = D.calls_left self.old.epochs.journal.disk; epoch_bytes = D.bytes_left self.old.epochs.journal.disk; pair_calls = D.calls_left self.old.log.journal.disk; pair_bytes = D.bytes_left self.old.log.journal.disk; places = vec_capacity self.old.log.pairs }) (vec_len self.old.log.pairs) }
+        requires unspent { IsUnspent writes self.old.epochs.value.epoch }
+        requires room { IsRoomFor writes (record { epoch_calls = D.calls_left self.old.epochs.journal.disk; epoch_bytes = D.bytes_left self.old.epochs.journal.disk; pair_calls = D.calls_left self.old.log.journal.disk; pair_bytes = D.bytes_left self.old.log.journal.disk; places = vec_capacity self.old.log.value.pairs }) (vec_len self.old.log.value.pairs) }
         ensures same { (self.new.site ≡ self.old.site) × (self.new.joiner ≡ self.old.joiner) }
         ensures up { OnOk result (self.new.in_doubt ≡ None) }
         ensures stopped { OnErr result (is_some self.new.in_doubt ≡ true) }
         ensures kind { IfErr result (λ e. e ≡ NodeFault.Stopped) }
         ensures note { (n : Option JoinerNote) → writes ≡ recorded_as n → IfOk result (λ payload. payload ≡ option_map bytes_of n) }
-        ensures epoch { OnErr result (self.new.epochs.epoch ≡ self.old.epochs.epoch) }
-        ensures holds { IsTrue D.tells → (k : JoinerKept) (n : Option JoinerNote) → writes ≡ recorded_as n → IsNext n k → Holds self.old.epochs.epoch self.old.log.pairs.items (D.image self.old.epochs.journal.disk) (D.image self.old.log.journal.disk) k → OnOk result (Holds self.new.epochs.epoch self.new.log.pairs.items (D.image self.new.epochs.journal.disk) (D.image self.new.log.journal.disk) (with_note n k)) }
-        ensures doubts { (k : JoinerKept) (n : Option JoinerNote) → writes ≡ recorded_as n → IsNext n k → self.old.epochs.epoch ≡ k.epoch → self.old.log.pairs.items ≡ k.pairs → OnErr result (AreInDoubt self.new.in_doubt n k) }
-        ensures epoch_moments { IsTrue D.tells → (k : JoinerKept) (n : Option JoinerNote) → writes ≡ recorded_as n → IsNext n k → Holds self.old.epochs.epoch self.old.log.pairs.items (D.image self.old.epochs.journal.disk) (D.image self.old.log.journal.disk) k → Throughout D.image D.since self.old.epochs.journal.disk self.new.epochs.journal.disk (EpochOr k (with_note n k)) }
-        ensures pair_moments { IsTrue D.tells → (k : JoinerKept) (n : Option JoinerNote) → writes ≡ recorded_as n → IsNext n k → Holds self.old.epochs.epoch self.old.log.pairs.items (D.image self.old.epochs.journal.disk) (D.image self.old.log.journal.disk) k → Throughout D.image D.since self.old.log.journal.disk self.new.log.journal.disk (PairsOr k (with_note n k)) }
+        ensures epoch { OnErr result (self.new.epochs.value.epoch ≡ self.old.epochs.value.epoch) }
+        ensures holds { IsTrue D.tells → (k : JoinerKept) (n : Option JoinerNote) → writes ≡ recorded_as n → IsNext n k → Holds self.old.epochs.value.epoch self.old.log.value.pairs.items (D.image self.old.epochs.journal.disk) (D.image self.old.log.journal.disk) k → OnOk result (Holds self.new.epochs.value.epoch self.new.log.value.pairs.items (D.image self.new.epochs.journal.disk) (D.image self.new.log.journal.disk) (with_note n k)) }
+        ensures doubts { (k : JoinerKept) (n : Option JoinerNote) → writes ≡ recorded_as n → IsNext n k → self.old.epochs.value.epoch ≡ k.epoch → self.old.log.value.pairs.items ≡ k.pairs → OnErr result (AreInDoubt self.new.in_doubt n k) }
+        ensures epoch_moments { IsTrue D.tells → (k : JoinerKept) (n : Option JoinerNote) → writes ≡ recorded_as n → IsNext n k → Holds self.old.epochs.value.epoch self.old.log.value.pairs.items (D.image self.old.epochs.journal.disk) (D.image self.old.log.journal.disk) k → Throughout D.image D.since self.old.epochs.journal.disk self.new.epochs.journal.disk (EpochOr k (with_note n k)) }
+        ensures pair_moments { IsTrue D.tells → (k : JoinerKept) (n : Option JoinerNote) → writes ≡ recorded_as n → IsNext n k → Holds self.old.epochs.value.epoch self.old.log.value.pairs.items (D.image self.old.epochs.journal.disk) (D.image self.old.log.journal.disk) k → Throughout D.image D.since self.old.log.journal.disk self.new.log.journal.disk (PairsOr k (with_note n k)) }
         ensures epoch_grows { IsTrue D.tells → (c : List ℕ) → D.image self.new.epochs.journal.disk c → Continues (D.image self.old.epochs.journal.disk) c }
         ensures pair_grows { IsTrue D.tells → (c : List ℕ) → D.image self.new.log.journal.disk c → Continues (D.image self.old.log.journal.disk) c }
         ensures fault { OnErr result (Rose (D.faults self.old.epochs.journal.disk + D.faults self.old.log.journal.disk) (D.faults self.new.epochs.journal.disk + D.faults self.new.log.journal.disk)) }
@@ -138,49 +138,43 @@ impl<D: Disk> Disks<D> {
         match writes {
             None => Ok(None),
             Some(Record::Epoch(payload)) => self.raise(payload),
-            Some(
-                Record::Pair {
-                    frame,
-                    pair,
-                    payload,
-                },
-            ) => self.write(&frame, pair, payload),
+            Some(Record::Pair { pair, payload }) => self.write(pair, payload),
         }
     }
 
     // What may have landed of a record, and what is kept before it.
     fn doubt(&self, payload: Payload) -> Doubt
         ensures payload { result.payload ≡ payload }
-        ensures epoch { result.epoch ≡ self.now.epochs.epoch }
-        ensures pairs { result.pairs ≡ length self.now.log.pairs.items }
+        ensures epoch { result.epoch ≡ self.now.epochs.value.epoch }
+        ensures pairs { result.pairs ≡ length self.now.log.value.pairs.items }
     {
         Doubt {
             payload,
-            epoch: self.epochs.epoch(),
-            pairs: self.log.pairs().len() as u64,
+            epoch: self.epochs.value().epoch(),
+            pairs: self.log.value().pairs().len() as u64,
         }
     }
 
     // Raises the epoch, of which this is the record.
     fn raise(&mut self, payload: Payload) -> Result<Option<Payload>, NodeFault>
         requires up { self.old.in_doubt ≡ None }
-        requires unspent { self.old.epochs.epoch < LAST_EPOCH }
+        requires unspent { self.old.epochs.value.epoch < LAST_EPOCH }
         requires room { HasRoom (D.calls_left self.old.epochs.journal.disk) (D.bytes_left self.old.epochs.journal.disk) 5 }
         ensures same { (self.new.site ≡ self.old.site) × (self.new.joiner ≡ self.old.joiner) × (self.new.log ≡ self.old.log) }
         ensures up { OnOk result (self.new.in_doubt ≡ None) }
         ensures kind { IfErr result (λ e. e ≡ NodeFault.Stopped) }
         ensures payload { IfOk result (λ written. written ≡ Some payload) }
-        ensures doubt { OnErr result (IsLeftBehind self.new.in_doubt payload self.old.epochs.epoch self.old.log.pairs.items) }
-        ensures raised { OnOk result (self.new.epochs.epoch ≡ self.old.epochs.epoch + 1) }
-        ensures err { OnErr result (self.new.epochs.epoch ≡ self.old.epochs.epoch) }
+        ensures doubt { OnErr result (IsLeftBehind self.new.in_doubt payload self.old.epochs.value.epoch self.old.log.value.pairs.items) }
+        ensures raised { OnOk result (self.new.epochs.value.epoch ≡ self.old.epochs.value.epoch + 1) }
+        ensures err { OnErr result (self.new.epochs.value.epoch ≡ self.old.epochs.value.epoch) }
         ensures ready { OnOk result (self.new.epochs.journal.state ≡ Ready) }
-        ensures moments { IsTrue D.tells → Throughout D.image D.since self.old.epochs.journal.disk self.new.epochs.journal.disk (KeepsOr self.old.epochs.epoch (self.old.epochs.epoch + 1)) }
+        ensures moments { IsTrue D.tells → Throughout D.image D.since self.old.epochs.journal.disk self.new.epochs.journal.disk (KeepsOr self.old.epochs.value.epoch (self.old.epochs.value.epoch + 1)) }
         ensures fault { OnErr result (Rose (D.faults self.old.epochs.journal.disk) (D.faults self.new.epochs.journal.disk)) }
         ensures grows { IsTrue D.tells → (c : List ℕ) → D.image self.new.epochs.journal.disk c → Continues (D.image self.old.epochs.journal.disk) c }
         ensures count { D.faults self.old.epochs.journal.disk ≤ D.faults self.new.epochs.journal.disk }
     {
         let doubt = self.doubt(payload);
-        match self.epochs.raise() {
+        match raise(&mut self.epochs) {
             Ok(_) => Ok(Some(doubt.payload)),
             Err(_) => {
                 self.in_doubt = Some(doubt);
@@ -189,31 +183,26 @@ impl<D: Disk> Disks<D> {
         }
     }
 
-    // Writes a pair, with its record for the disk and for the bus.
-    fn write(
-        &mut self,
-        frame: &Frame,
-        pair: PairRec,
-        payload: Payload,
-    ) -> Result<Option<Payload>, NodeFault>
+    // Writes a pair, of which this is the record.
+    fn write(&mut self, pair: PairRec, payload: Payload) -> Result<Option<Payload>, NodeFault>
         requires up { self.old.in_doubt ≡ None }
-        requires whole { IsPair pair × (frame.now ≡ record_of pair) }
+        requires whole { IsPair pair × (payload ≡ record_of pair) }
         requires room { HasRoom (D.calls_left self.old.log.journal.disk) (D.bytes_left self.old.log.journal.disk) longest }
-        requires place { vec_len self.old.log.pairs < vec_capacity self.old.log.pairs }
+        requires place { vec_len self.old.log.value.pairs < vec_capacity self.old.log.value.pairs }
         ensures same { (self.new.site ≡ self.old.site) × (self.new.joiner ≡ self.old.joiner) × (self.new.epochs ≡ self.old.epochs) }
         ensures up { OnOk result (self.new.in_doubt ≡ None) }
         ensures kind { IfErr result (λ e. e ≡ NodeFault.Stopped) }
         ensures payload { IfOk result (λ written. written ≡ Some payload) }
-        ensures doubt { OnErr result (IsLeftBehind self.new.in_doubt payload self.old.epochs.epoch self.old.log.pairs.items) }
-        ensures written { OnOk result (self.new.log.pairs.items ≡ self.old.log.pairs.items ++ pair ∷ []) }
+        ensures doubt { OnErr result (IsLeftBehind self.new.in_doubt payload self.old.epochs.value.epoch self.old.log.value.pairs.items) }
+        ensures written { OnOk result (self.new.log.value.pairs.items ≡ self.old.log.value.pairs.items ++ pair ∷ []) }
         ensures ready { OnOk result (self.new.log.journal.state ≡ Ready) }
-        ensures moments { IsTrue D.tells → Throughout D.image D.since self.old.log.journal.disk self.new.log.journal.disk (pairs.KeepsOr self.old.log.pairs.items pair) }
+        ensures moments { IsTrue D.tells → Throughout D.image D.since self.old.log.journal.disk self.new.log.journal.disk (pairs.KeepsOr self.old.log.value.pairs.items pair) }
         ensures fault { OnErr result (Rose (D.faults self.old.log.journal.disk) (D.faults self.new.log.journal.disk)) }
         ensures grows { IsTrue D.tells → (c : List ℕ) → D.image self.new.log.journal.disk c → Continues (D.image self.old.log.journal.disk) c }
         ensures count { D.faults self.old.log.journal.disk ≤ D.faults self.new.log.journal.disk }
     {
         let doubt = self.doubt(payload);
-        match self.log.write(frame, pair) {
+        match self.log.append(doubt.payload.as_slice(), pair) {
             Ok(()) => Ok(Some(doubt.payload)),
             Err(_) => {
                 self.in_doubt = Some(doubt);
@@ -228,7 +217,7 @@ impl<D: Disk> Disks<D> {
         ensures same { (self.new.site ≡ self.old.site) × (self.new.joiner ≡ self.old.joiner) }
         ensures up { OnOk result (self.new.in_doubt ≡ None) }
         ensures refused { OnErr result (self.new.in_doubt ≡ self.old.in_doubt) }
-        ensures found { IsTrue D.tells → (k : JoinerKept) (n : JoinerNote) → AreInDoubt self.old.in_doubt (Some n) k → MayHave k (with_note (Some n) k) (D.image self.old.epochs.journal.disk) (D.image self.old.log.journal.disk) → IfOk result (λ landed. IsFound landed n k self.new.epochs.epoch self.new.log.pairs.items (D.image self.new.epochs.journal.disk) (D.image self.new.log.journal.disk)) }
+        ensures found { IsTrue D.tells → (k : JoinerKept) (n : JoinerNote) → AreInDoubt self.old.in_doubt (Some n) k → MayHave k (with_note (Some n) k) (D.image self.old.epochs.journal.disk) (D.image self.old.log.journal.disk) → IfOk result (λ landed. IsFound landed n k self.new.epochs.value.epoch self.new.log.value.pairs.items (D.image self.new.epochs.journal.disk) (D.image self.new.log.journal.disk)) }
         ensures epoch_moments { IsTrue D.tells → (k m : JoinerKept) → MayHave k m (D.image self.old.epochs.journal.disk) (D.image self.old.log.journal.disk) → Throughout D.image D.since self.old.epochs.journal.disk self.new.epochs.journal.disk (EpochOr k m) }
         ensures pair_moments { IsTrue D.tells → (k m : JoinerKept) → MayHave k m (D.image self.old.epochs.journal.disk) (D.image self.old.log.journal.disk) → Throughout D.image D.since self.old.log.journal.disk self.new.log.journal.disk (PairsOr k m) }
         ensures epoch_grows { IsTrue D.tells → (c : List ℕ) → D.image self.new.epochs.journal.disk c → Continues (D.image self.old.epochs.journal.disk) c }
@@ -254,18 +243,18 @@ impl<D: Disk> Disks<D> {
 
     // Whether the journals have more than was kept before the record in doubt.
     fn has_more(&self, doubt: &Doubt) -> bool
-        ensures { result ≡ has_more self.now.epochs.epoch self.now.log.pairs.items doubt.now }
+        ensures { result ≡ has_more self.now.epochs.value.epoch self.now.log.value.pairs.items doubt.now }
     {
-        let is_raised = self.epochs.epoch() != doubt.epoch;
-        is_raised || self.log.pairs().len() as u64 != doubt.pairs
+        let is_raised = self.epochs.value().epoch() != doubt.epoch;
+        is_raised || self.log.value().pairs().len() as u64 != doubt.pairs
     }
 
     fn reopen_epochs(&mut self) -> Result<(), NodeFault>
         requires waits { is_some self.old.in_doubt ≡ true }
         ensures same { (self.new.site ≡ self.old.site) × (self.new.joiner ≡ self.old.joiner) × (self.new.in_doubt ≡ self.old.in_doubt) × (self.new.log ≡ self.old.log) }
         ensures ready { OnOk result (self.new.epochs.journal.state ≡ Ready) }
-        ensures left { IsTrue D.tells → OnOk result (epochs.IsLeft (D.image self.old.epochs.journal.disk) self.new.epochs.epoch) }
-        ensures moments { IsTrue D.tells → Throughout D.image D.since self.old.epochs.journal.disk self.new.epochs.journal.disk (epochs.KeepsAsLeft (D.image self.old.epochs.journal.disk)) }
+        ensures left { IsTrue D.tells → OnOk result (epochs.IsLeft (D.image self.old.epochs.journal.disk) self.new.epochs.value.epoch) }
+        ensures moments { IsTrue D.tells → Throughout D.image D.since self.old.epochs.journal.disk self.new.epochs.journal.disk (IsOpened (D.image self.old.epochs.journal.disk)) }
         ensures grows { IsTrue D.tells → (c : List ℕ) → D.image self.new.epochs.journal.disk c → Continues (D.image self.old.epochs.journal.disk) c }
         ensures kind { IfErr result IsOfRestart }
         ensures whole { IsTrue D.tells → (k m : JoinerKept) → ((c : List ℕ) → D.image self.old.epochs.journal.disk c → EpochOr k m c) → IfErr result IsWhole }
@@ -282,7 +271,7 @@ impl<D: Disk> Disks<D> {
         requires waits { is_some self.old.in_doubt ≡ true }
         ensures same { (self.new.site ≡ self.old.site) × (self.new.joiner ≡ self.old.joiner) × (self.new.in_doubt ≡ self.old.in_doubt) × (self.new.epochs ≡ self.old.epochs) }
         ensures ready { OnOk result (self.new.log.journal.state ≡ Ready) }
-        ensures left { IsTrue D.tells → OnOk result (pairs.IsLeft (D.image self.old.log.journal.disk) self.new.log.pairs.items) }
+        ensures left { IsTrue D.tells → OnOk result (pairs.IsLeft (D.image self.old.log.journal.disk) self.new.log.value.pairs.items) }
         ensures moments { IsTrue D.tells → Throughout D.image D.since self.old.log.journal.disk self.new.log.journal.disk (IsOpened (D.image self.old.log.journal.disk)) }
         ensures grows { IsTrue D.tells → (c : List ℕ) → D.image self.new.log.journal.disk c → Continues (D.image self.old.log.journal.disk) c }
         ensures kind { IfErr result IsOfRestart }

@@ -78,8 +78,8 @@ impl<L: LogFile, D: Disk> JoinerNode<L, D> {
         ensures disks { IfOk result (λ node. (node.disks.epochs ≡ epochs) × (node.disks.log ≡ log)) }
         ensures log { IfOk result (λ node. node.joining.queries.store.tail.log ≡ queries) }
         ensures up { IfOk result (λ node. node.disks.in_doubt ≡ None) }
-        ensures stands { IsTrue D.tells → (g : Setting) (k : JoinerKept) → IsOf roster g → IsQueryLog (L.bytes queries) g.queries → epochs.epoch ≡ k.epoch → log.pairs.items ≡ k.pairs →
-            IfOk result (λ node. StandsAt (record { number = node.number; roster = node.roster; core = node.joining.core; up = node.joining.up; log = L.bytes node.joining.queries.store.tail.log; place = node.joining.queries.store.tail.place; in_doubt = node.disks.in_doubt; epoch = node.disks.epochs.epoch; written = node.disks.log.pairs.items }) (D.image node.disks.epochs.journal.disk) (D.image node.disks.log.journal.disk) (down_over node.number g k)) }
+        ensures stands { IsTrue D.tells → (g : Setting) (k : JoinerKept) → IsOf roster g → IsQueryLog (L.bytes queries) g.queries → epochs.value.epoch ≡ k.epoch → log.value.pairs.items ≡ k.pairs →
+            IfOk result (λ node. StandsAt (record { number = node.number; roster = node.roster; core = node.joining.core; up = node.joining.up; log = L.bytes node.joining.queries.store.tail.log; place = node.joining.queries.store.tail.place; in_doubt = node.disks.in_doubt; epoch = node.disks.epochs.value.epoch; written = node.disks.log.value.pairs.items }) (D.image node.disks.epochs.journal.disk) (D.image node.disks.log.journal.disk) (down_over node.number g k)) }
         ensures err { IfErr result (λ e. (e.1 ≡ epochs) × (e.2 ≡ log) × (e.3 ≡ queries)) }
     {
         let number = joiner_number(roster, site, joiner);
@@ -119,20 +119,20 @@ impl<L: LogFile, D: Disk> JoinerNode<L, D> {
         ensures same { (self.new.number ≡ self.old.number) × (self.new.roster ≡ self.old.roster) × (self.new.joining.up ≡ self.old.joining.up) × (self.new.disks.in_doubt ≡ self.old.disks.in_doubt) }
         ensures core { IsSame self.old.joining.core self.new.joining.core }
         ensures reads { IsTrue L.tells → (qs : List Query) → HasRead (L.bytes self.old.joining.queries.store.tail.log) self.old.joining.queries.store.tail.place qs → HasRead (L.bytes self.new.joining.queries.store.tail.log) self.new.joining.queries.store.tail.place qs }
-        ensures epoch { self.new.disks.epochs.epoch ≡ self.old.disks.epochs.epoch }
-        ensures pairs { self.new.disks.log.pairs.items ≡ self.old.disks.log.pairs.items }
+        ensures epoch { self.new.disks.epochs.value.epoch ≡ self.old.disks.epochs.value.epoch }
+        ensures pairs { self.new.disks.log.value.pairs.items ≡ self.old.disks.log.value.pairs.items }
         ensures epoch_moments { IsTrue D.tells → Throughout D.image D.since self.old.disks.epochs.journal.disk self.new.disks.epochs.journal.disk (D.image self.old.disks.epochs.journal.disk) }
         ensures pair_moments { IsTrue D.tells → Throughout D.image D.since self.old.disks.log.journal.disk self.new.disks.log.journal.disk (D.image self.old.disks.log.journal.disk) }
         ensures row { IsTrue L.tells → IfOk result (λ ready. (g : Setting) (n : ℕ) (k : JoinerKept) (live : Option JoinerLive) →
             HasRead (L.bytes self.old.joining.queries.store.tail.log) self.old.joining.queries.store.tail.place g.queries →
-            Serves self.old.joining.core g n → Knows self.old.joining.up self.old.joining.core g n k live → self.old.disks.epochs.epoch ≡ k.epoch → MayGet live input →
+            Serves self.old.joining.core g n → Knows self.old.joining.up self.old.joining.core g n k live → self.old.disks.epochs.value.epoch ≡ k.epoch → MayGet live input →
             IsRow self.new.joining.core g n k (joiner_row g n k live input) ready) }
         ensures fits { IfOk result (λ ready. Fits self.new.joining.core ready.turn) }
         ensures own { IfOk result (λ ready. IsOwn ready.writes) }
-        ensures unspent { IfOk result (λ ready. IsUnspent ready.writes self.old.disks.epochs.epoch) }
-        ensures room { IfOk result (λ ready. IsRoomFor ready.writes (record { epoch_calls = D.calls_left self.new.disks.epochs.journal.disk; epoch_bytes = D.bytes_left self.new.disks.epochs.journal.disk; pair_calls = D.calls_left self.new.disks.log.journal.disk; pair_bytes = D.bytes_left self.new.disks.log.journal.disk; places = vec_capacity self.new.disks.log.pairs }) (vec_len self.new.disks.log.pairs)) }
-        ensures spent { (last : ℕ) → IsErrOf result (NodeFault.Spent last) → (input ≡ Start) × (self.old.disks.epochs.epoch ≡ LAST_EPOCH) × (last ≡ self.old.disks.epochs.epoch) }
-        ensures spends { input ≡ Start → self.old.disks.epochs.epoch ≡ LAST_EPOCH → OnOk result ⊥ }
+        ensures unspent { IfOk result (λ ready. IsUnspent ready.writes self.old.disks.epochs.value.epoch) }
+        ensures room { IfOk result (λ ready. IsRoomFor ready.writes (record { epoch_calls = D.calls_left self.new.disks.epochs.journal.disk; epoch_bytes = D.bytes_left self.new.disks.epochs.journal.disk; pair_calls = D.calls_left self.new.disks.log.journal.disk; pair_bytes = D.bytes_left self.new.disks.log.journal.disk; places = vec_capacity self.new.disks.log.value.pairs }) (vec_len self.new.disks.log.value.pairs)) }
+        ensures spent { (last : ℕ) → IsErrOf result (NodeFault.Spent last) → (input ≡ Start) × (self.old.disks.epochs.value.epoch ≡ LAST_EPOCH) × (last ≡ self.old.disks.epochs.value.epoch) }
+        ensures spends { input ≡ Start → self.old.disks.epochs.value.epoch ≡ LAST_EPOCH → OnOk result ⊥ }
         ensures kind { IfErr result IsOfDecision }
         ensures fault { IsErrOf result NodeFault.Read → Rose (L.faults self.old.joining.queries.store.tail.log) (L.faults self.new.joining.queries.store.tail.log) }
         ensures epoch_count { D.faults self.new.disks.epochs.journal.disk ≡ D.faults self.old.disks.epochs.journal.disk }
@@ -156,8 +156,8 @@ impl<L: LogFile, D: Disk> JoinerNode<L, D> {
         requires up { self.old.disks.in_doubt ≡ None }
         requires fits { Fits self.old.joining.core ready.turn }
         requires own { IsOwn ready.writes }
-        requires unspent { IsUnspent ready.writes self.old.disks.epochs.epoch }
-        requires room { IsRoomFor ready.writes (record { epoch_calls = D.calls_left self.old.disks.epochs.journal.disk; epoch_bytes = D.bytes_left self.old.disks.epochs.journal.disk; pair_calls = D.calls_left self.old.disks.log.journal.disk; pair_bytes = D.bytes_left self.old.disks.log.journal.disk; places = vec_capacity self.old.disks.log.pairs }) (vec_len self.old.disks.log.pairs) }
+        requires unspent { IsUnspent ready.writes self.old.disks.epochs.value.epoch }
+        requires room { IsRoomFor ready.writes (record { epoch_calls = D.calls_left self.old.disks.epochs.journal.disk; epoch_bytes = D.bytes_left self.old.disks.epochs.journal.disk; pair_calls = D.calls_left self.old.disks.log.journal.disk; pair_bytes = D.bytes_left self.old.disks.log.journal.disk; places = vec_capacity self.old.disks.log.value.pairs }) (vec_len self.old.disks.log.value.pairs) }
         ensures same { (self.new.number ≡ self.old.number) × (self.new.roster ≡ self.old.roster) × (self.new.joining.queries ≡ self.old.joining.queries) }
         ensures core { OnErr result (self.new.joining ≡ self.old.joining) }
         ensures up { OnOk result (self.new.disks.in_doubt ≡ None) }
@@ -166,10 +166,10 @@ impl<L: LogFile, D: Disk> JoinerNode<L, D> {
         ensures packets { IfOk result (λ done. done.packets ≡ ready.packets) }
         ensures note { (n : Option JoinerNote) → ready.writes ≡ recorded_as n → IfOk result (λ done. done.note ≡ option_map bytes_of n) }
         ensures knows { OnOk result ((g : Setting) (n : ℕ) (k : JoinerKept) (l : JoinerLive) → Leads self.old.joining.core ready.turn g n k l → Knows self.new.joining.up self.new.joining.core g n k (Some l)) }
-        ensures holds { IsTrue D.tells → (k : JoinerKept) (n : Option JoinerNote) → ready.writes ≡ recorded_as n → IsNext n k → Holds self.old.disks.epochs.epoch self.old.disks.log.pairs.items (D.image self.old.disks.epochs.journal.disk) (D.image self.old.disks.log.journal.disk) k → OnOk result (Holds self.new.disks.epochs.epoch self.new.disks.log.pairs.items (D.image self.new.disks.epochs.journal.disk) (D.image self.new.disks.log.journal.disk) (with_note n k)) }
-        ensures doubts { (k : JoinerKept) (n : Option JoinerNote) → ready.writes ≡ recorded_as n → IsNext n k → self.old.disks.epochs.epoch ≡ k.epoch → self.old.disks.log.pairs.items ≡ k.pairs → OnErr result (AreInDoubt self.new.disks.in_doubt n k) }
-        ensures epoch_moments { IsTrue D.tells → (k : JoinerKept) (n : Option JoinerNote) → ready.writes ≡ recorded_as n → IsNext n k → Holds self.old.disks.epochs.epoch self.old.disks.log.pairs.items (D.image self.old.disks.epochs.journal.disk) (D.image self.old.disks.log.journal.disk) k → Throughout D.image D.since self.old.disks.epochs.journal.disk self.new.disks.epochs.journal.disk (EpochOr k (with_note n k)) }
-        ensures pair_moments { IsTrue D.tells → (k : JoinerKept) (n : Option JoinerNote) → ready.writes ≡ recorded_as n → IsNext n k → Holds self.old.disks.epochs.epoch self.old.disks.log.pairs.items (D.image self.old.disks.epochs.journal.disk) (D.image self.old.disks.log.journal.disk) k → Throughout D.image D.since self.old.disks.log.journal.disk self.new.disks.log.journal.disk (PairsOr k (with_note n k)) }
+        ensures holds { IsTrue D.tells → (k : JoinerKept) (n : Option JoinerNote) → ready.writes ≡ recorded_as n → IsNext n k → Holds self.old.disks.epochs.value.epoch self.old.disks.log.value.pairs.items (D.image self.old.disks.epochs.journal.disk) (D.image self.old.disks.log.journal.disk) k → OnOk result (Holds self.new.disks.epochs.value.epoch self.new.disks.log.value.pairs.items (D.image self.new.disks.epochs.journal.disk) (D.image self.new.disks.log.journal.disk) (with_note n k)) }
+        ensures doubts { (k : JoinerKept) (n : Option JoinerNote) → ready.writes ≡ recorded_as n → IsNext n k → self.old.disks.epochs.value.epoch ≡ k.epoch → self.old.disks.log.value.pairs.items ≡ k.pairs → OnErr result (AreInDoubt self.new.disks.in_doubt n k) }
+        ensures epoch_moments { IsTrue D.tells → (k : JoinerKept) (n : Option JoinerNote) → ready.writes ≡ recorded_as n → IsNext n k → Holds self.old.disks.epochs.value.epoch self.old.disks.log.value.pairs.items (D.image self.old.disks.epochs.journal.disk) (D.image self.old.disks.log.journal.disk) k → Throughout D.image D.since self.old.disks.epochs.journal.disk self.new.disks.epochs.journal.disk (EpochOr k (with_note n k)) }
+        ensures pair_moments { IsTrue D.tells → (k : JoinerKept) (n : Option JoinerNote) → ready.writes ≡ recorded_as n → IsNext n k → Holds self.old.disks.epochs.value.epoch self.old.disks.log.value.pairs.items (D.image self.old.disks.epochs.journal.disk) (D.image self.old.disks.log.journal.disk) k → Throughout D.image D.since self.old.disks.log.journal.disk self.new.disks.log.journal.disk (PairsOr k (with_note n k)) }
         ensures epoch_grows { IsTrue D.tells → (c : List ℕ) → D.image self.new.disks.epochs.journal.disk c → Continues (D.image self.old.disks.epochs.journal.disk) c }
         ensures pair_grows { IsTrue D.tells → (c : List ℕ) → D.image self.new.disks.log.journal.disk c → Continues (D.image self.old.disks.log.journal.disk) c }
         ensures fault { OnErr result (Rose (D.faults self.old.disks.epochs.journal.disk + D.faults self.old.disks.log.journal.disk) (D.faults self.new.disks.epochs.journal.disk + D.faults self.new.disks.log.journal.disk)) }
@@ -231,7 +231,7 @@ impl<L: LogFile, D: Disk> SiteNode for JoinerNode<L, D> {
 
     ghost waits = { λ node. is_some node.disks.in_doubt };
 
-    ghost stands = { λ node s. StandsAt (record { number = node.number; roster = node.roster; core = node.joining.core; up = node.joining.up; log = L.bytes node.joining.queries.store.tail.log; place = node.joining.queries.store.tail.place; in_doubt = node.disks.in_doubt; epoch = node.disks.epochs.epoch; written = node.disks.log.pairs.items }) (D.image node.disks.epochs.journal.disk) (D.image node.disks.log.journal.disk) s };
+    ghost stands = { λ node s. StandsAt (record { number = node.number; roster = node.roster; core = node.joining.core; up = node.joining.up; log = L.bytes node.joining.queries.store.tail.log; place = node.joining.queries.store.tail.place; in_doubt = node.disks.in_doubt; epoch = node.disks.epochs.value.epoch; written = node.disks.log.value.pairs.items }) (D.image node.disks.epochs.journal.disk) (D.image node.disks.log.journal.disk) s };
 
     ghost image = { λ node c. D.image node.disks.epochs.journal.disk c.0 × D.image node.disks.log.journal.disk c.1 };
 

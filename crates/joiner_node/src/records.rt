@@ -7,21 +7,16 @@ ghost use Rattle.joiner_core.specs.Spelled.{IsWritten};
 ghost use Rattle.joiner_node.specs.Records.{recorded_as, pair_record, IsAbove, IsOwn, IsUnspent};
 
 use air_bus::Payload;
-use gate_journal::Frame;
 use joiner_core::JoinerNote;
 use output_log::pair_frame;
 use std::alloc::{AllocError, Global};
 use turn_defs::PairRec;
 
-// What a note's disk takes, and the record as the bus takes it. The epoch journal makes its record itself.
+// What a note's disk takes, with its record, as the disk and the bus take it. The epoch journal makes its record itself.
 #[derive(Drop)]
 pub(crate) enum Record {
     Epoch(Payload),
-    Pair {
-        frame: Frame,
-        pair: PairRec,
-        payload: Payload,
-    },
+    Pair { pair: PairRec, payload: Payload },
 }
 
 // A note with its record, if there is one. An epoch that isn't above the kept one needs none. Linear in the note.
@@ -45,8 +40,8 @@ pub(crate) fn recorded(
             Ok(Some(Record::Epoch(payload)))
         }
         Some(JoinerNote::Pair(pair)) => {
-            let framed = with_frame(alloc, pair)?;
-            Ok(Some(framed))
+            let written = with_record(alloc, pair)?;
+            Ok(Some(written))
         }
     }
 }
@@ -59,24 +54,11 @@ fn epoch_payload(alloc: Global, epoch: u32) -> Result<Payload, AllocError>
     Payload::new(Vec::from_slice(alloc, &spelled)?)
 }
 
-fn with_frame(alloc: Global, pair: PairRec) -> Result<Record, AllocError>
+fn with_record(alloc: Global, pair: PairRec) -> Result<Record, AllocError>
     requires { IsPair pair }
     ensures { IfOk result (λ writes. writes ≡ pair_record pair) }
 {
-    let frame = pair_frame(alloc, &pair.click, &pair.query, pair.token)?;
-    let payload = frame_payload(alloc, &frame)?;
-    Ok(Record::Pair {
-        frame,
-        pair,
-        payload,
-    })
-}
-
-// The record that the frame is round.
-fn frame_payload(alloc: Global, frame: &Frame) -> Result<Payload, AllocError>
-    ensures { IfOk result (λ payload. payload ≡ frame.now) }
-{
-    let body = frame.body();
-    let end = body.len() - 1;
-    Payload::new(Vec::from_slice(alloc, &body[4..end])?)
+    let bytes = pair_frame(alloc, &pair.click, &pair.query, pair.token)?;
+    let payload = Payload::new(Vec::from_slice(alloc, bytes.as_slice())?)?;
+    Ok(Record::Pair { pair, payload })
 }

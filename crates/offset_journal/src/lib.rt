@@ -1,8 +1,7 @@
 //! A journal of offsets, each above the one before.
 #![tactic(auto)]
 
-mod journal;
-mod reading;
+mod offsets;
 pub mod rows;
 
-pub use journal::OffsetJournal;
+pub use offsets::{OffsetJournal, Offsets, offset_record};

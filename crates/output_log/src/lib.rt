@@ -2,11 +2,10 @@
 #![tactic(auto)]
 
 pub mod laws;
-mod log;
+mod outputs;
 mod pair;
-mod reading;
 pub mod rows;
 
-pub use log::OutputLog;
+pub use outputs::{OutputLog, Outputs};
 pub use pair::{pair_frame, read_pair};
 pub use turn_defs::PairRec;

@@ -4,7 +4,7 @@ ghost use Rattle.packet_codec.specs.Stops.{IsMemory};
 ghost use Rattle.output_log.specs.Pairs.{pair_of, fields_of, record_of, IsOther};
 ghost use Rattle.turn_defs.specs.Spellings.{IsPair};
 
-use gate_journal::Frame;
+use gate_journal::Payload;
 use log_records::{ClickRec, QueryRec};
 use packet_codec::{Field, FieldFault};
 use registry_state::Token;
@@ -18,13 +18,13 @@ const TAG: u8 = 6;
 /// The most bytes that a record has.
 pub(crate) const LONGEST: u32 = 465;
 
-/// The record of a pair as it is written to a log: the byte 06, the click, the query and the token. Two allocations.
+/// The record of a pair as it is written to a log: the byte 06, the click, the query and the token. One allocation.
 pub fn pair_frame(
     alloc: Global,
     click: &ClickRec,
     query: &QueryRec,
     token: Token,
-) -> Result<Frame, AllocError>
+) -> Result<Payload, AllocError>
     requires { IsPair (pair_of click.now query.now token) }
     ensures { IfOk result (λ frame. frame ≡ record_of (pair_of click.now query.now token)) }
 {
@@ -33,7 +33,7 @@ pub fn pair_frame(
     click.put(&mut bytes)?;
     query.put(&mut bytes)?;
     token.put(&mut bytes)?;
-    Frame::new(alloc, bytes.as_slice())
+    Ok(bytes)
 }
 
 /// The pair of a record, or None where it is no pair's. Linear in the record. It allocates the texts.

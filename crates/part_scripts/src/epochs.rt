@@ -1,6 +1,6 @@
 // Journals of epochs.
 use crate::kinds::Kind;
-use epoch_journal::EpochJournal;
+use epoch_journal::{EpochJournal, raise};
 use gate_journal::JournalFault;
 use mem_outside::MemDisk;
 use script_lines::{Stop, Words};
@@ -16,7 +16,7 @@ impl Kind for EpochJournal<MemDisk> {
     }
 
     fn told(&self, alloc: Global) -> Result<String, Stop> {
-        Ok(format!(in alloc; "epoch {}", self.epoch())?)
+        Ok(format!(in alloc; "epoch {}", self.value().epoch())?)
     }
 
     fn change(&mut self, alloc: Global, words: &mut Words<'_>) -> Result<String, Stop> {
@@ -24,7 +24,7 @@ impl Kind for EpochJournal<MemDisk> {
             return Err(Stop::Words);
         }
         self.make_room(alloc)?;
-        Ok(format!(in alloc; "{:?}", self.raise())?)
+        Ok(format!(in alloc; "{:?}", raise(self))?)
     }
 
     fn read_again(&mut self, alloc: Global) -> Result<(), JournalFault> {

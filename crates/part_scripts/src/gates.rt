@@ -1,6 +1,6 @@
 // Journals of any records.
 use crate::kinds::Kind;
-use gate_journal::{Frame, Journal, JournalFault, Payload};
+use gate_journal::{Journal, JournalFault, Payload};
 use mem_outside::MemDisk;
 use script_lines::{Stop, Words};
 use std::alloc::Global;
@@ -54,7 +54,6 @@ fn append(alloc: Global, journal: &mut Journal<MemDisk>, payload: &[u8]) -> Resu
     if payload.len() > 65535 {
         return Err(Stop::Words);
     }
-    let frame = Frame::new(alloc, payload)?;
     journal.make_room(alloc, payload.len() as u32)?;
-    Ok(format!(in alloc; "{:?}", journal.append(&frame))?)
+    Ok(format!(in alloc; "{:?}", journal.append(payload))?)
 }

@@ -2,7 +2,7 @@
 use crate::kinds::Kind;
 use gate_journal::JournalFault;
 use mem_outside::MemDisk;
-use offset_journal::OffsetJournal;
+use offset_journal::{OffsetJournal, offset_record};
 use script_lines::{Stop, Words};
 use std::alloc::Global;
 
@@ -16,7 +16,7 @@ impl Kind for OffsetJournal<MemDisk> {
     }
 
     fn told(&self, alloc: Global) -> Result<String, Stop> {
-        Ok(format!(in alloc; "offset {}", self.offset())?)
+        Ok(format!(in alloc; "offset {}", self.value().offset())?)
     }
 
     fn change(&mut self, alloc: Global, words: &mut Words<'_>) -> Result<String, Stop> {
@@ -25,10 +25,10 @@ impl Kind for OffsetJournal<MemDisk> {
         }
         let to = words.number()?;
         self.make_room(alloc)?;
-        if to <= self.offset() {
+        if to <= self.value().offset() {
             return Err(Stop::Words);
         }
-        Ok(format!(in alloc; "{:?}", self.advance(to))?)
+        Ok(format!(in alloc; "{:?}", self.append(&offset_record(to), to))?)
     }
 
     fn read_again(&mut self, alloc: Global) -> Result<(), JournalFault> {

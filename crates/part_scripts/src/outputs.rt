@@ -20,7 +20,7 @@ impl Kind for OutputLog<MemDisk> {
 
     fn told(&self, alloc: Global) -> Result<String, Stop> {
         let mut text = format!(in alloc; "pairs")?;
-        for pair in self.pairs() {
+        for pair in self.value().pairs() {
             text.push_str(" | ")?;
             text.push_str(told_pair(alloc, pair)?.as_str())?;
         }
@@ -73,11 +73,11 @@ fn write_pair(
         return Err(Stop::Words);
     };
     log.make_room(alloc)?;
-    let frame = pair_frame(alloc, &click, &query, token)?;
+    let payload = pair_frame(alloc, &click, &query, token)?;
     let pair = PairRec {
         click,
         query,
         token,
     };
-    Ok(format!(in alloc; "{:?}", log.write(&frame, pair))?)
+    Ok(format!(in alloc; "{:?}", log.append(payload.as_slice(), pair))?)
 }

@@ -2,7 +2,7 @@
 use crate::kinds::Kind;
 use gate_journal::JournalFault;
 use mem_outside::MemDisk;
-use retry_log::RetryLog;
+use retry_log::{Change, RetryLog, change_record};
 use script_lines::{Stop, Words};
 use std::alloc::Global;
 
@@ -13,19 +13,28 @@ impl Kind for RetryLog<MemDisk> {
     }
 
     fn told(&self, alloc: Global) -> Result<String, Stop> {
-        Ok(format!(in alloc; "pending {:?}", self.pending().as_slice())?)
+        Ok(format!(in alloc; "pending {:?}", self.value().pending().as_slice())?)
     }
 
     fn change(&mut self, alloc: Global, words: &mut Words<'_>) -> Result<String, Stop> {
         let command = words.word()?;
         let position = words.number()?;
         self.make_room(alloc)?;
-        let changed = match (command, self.pending().contains(&position)) {
-            ("park", false) => self.park(position),
-            ("settle", true) => self.settle(position),
+        let changed = match (command, self.value().pending().contains(&position)) {
+            ("park", false) => {
+                let change = Change::Park(position);
+                self.append(&change_record(change), change)
+            }
+            ("settle", true) => {
+                let change = Change::Settle(position);
+                self.append(&change_record(change), change)
+            }
             _ => return Err(Stop::Words),
         };
-        Ok(format!(in alloc; "{changed:?}, pending {:?}", self.pending().as_slice())?)
+        Ok(format!(in alloc;
+            "{changed:?}, pending {:?}",
+            self.value().pending().as_slice()
+        )?)
     }
 
     fn read_again(&mut self, alloc: Global) -> Result<(), JournalFault> {

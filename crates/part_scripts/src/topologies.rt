@@ -17,7 +17,7 @@ impl Kind for TopologyJournal<MemDisk> {
     }
 
     fn told(&self, alloc: Global) -> Result<String, Stop> {
-        match self.kept() {
+        match self.value().kept() {
             Some(kept) => Ok(format!(in alloc;
                 "{} joiners, {:?}",
                 kept.joiners,
@@ -35,13 +35,13 @@ impl Kind for TopologyJournal<MemDisk> {
         let Ok(table) = Table::read(words.word()?.as_bytes()) else {
             return Err(Stop::Words);
         };
-        if self.kept().is_some() || joiners == 0 || joiners > 4 {
+        if self.value().kept().is_some() || joiners == 0 || joiners > 4 {
             return Err(Stop::Words);
         }
         let topology = Topology { joiners, table };
-        let frame = topology_frame(alloc, &topology)?;
+        let payload = topology_frame(alloc, &topology)?;
         self.make_room(alloc)?;
-        Ok(format!(in alloc; "{:?}", self.write(&frame, topology))?)
+        Ok(format!(in alloc; "{:?}", self.append(payload.as_slice(), topology))?)
     }
 
     fn read_again(&mut self, alloc: Global) -> Result<(), JournalFault> {

@@ -5,7 +5,9 @@ use Rattle.outside.specs.Disk.{Throughout}
 use Rattle.outside.proofs.Moments.{joins, weaker}
 use Rattle.gate_journal.specs.Growth.{Continues}
 use Rattle.gate_journal.proofs.Growth.{continues_same, continues_through}
-use Rattle.epoch_journal.specs.Epochs.{Keeps, IsLeft, KeepsAsLeft}
+use Rattle.gate_journal.specs.Opening.{IsOpened}
+use Rattle.gate_journal.specs.Fold.{read_as}
+use Rattle.epoch_journal.specs.Epochs.{epochs, Keeps, IsLeft}
 use Rattle.gate_journal.specs.declared.journal.JournalState.{JournalState}
 use Rattle.gate_journal.specs.declared.journal.JournalState.TheVariants.{Ready}
 use Rattle.air_bus.specs.declared.entry.Input.{Input as Bytes}
@@ -173,8 +175,8 @@ module _ {D : Type 0} (image : D → List ℕ → Type 0) (since : D → D → L
   turn_grown old mid new first next c here = continues_through (image old) (image mid) (λ d now. continues_same (image old) d (first.now d now)) c (next c here)
 
   -- a disk that is read again keeps what its images keep
-  pub left_moments : (old new : D) (s : ServerState) → ((c : List ℕ) → image old c → KeptOn s c) → Throughout image since old new (KeepsAsLeft (image old)) → Throughout image since old new (KeptOn s)
-  left_moments old new s kept all = weaker image since old new (KeepsAsLeft (image old)) (KeptOn s) (λ c left. let from = kept left.0 left.1 in (from.0, from.1, left.2 ∙ from.2)) all
+  pub left_moments : (old new : D) (s : ServerState) → ((c : List ℕ) → image old c → KeptOn s c) → Throughout image since old new (IsOpened (image old)) → Throughout image since old new (KeptOn s)
+  left_moments old new s kept all = weaker image since old new (IsOpened (image old)) (KeptOn s) (λ c left. let from = kept left.0 left.1 in (from.0, from.1, ap (read_as epochs) left.2 ∙ from.2)) all
 
 -- a turn that is refused before it writes is open still
 pub still_open : (site site' : ℕ) (roster roster' : Roster) (doubt doubt' : Option (List ℕ)) (epoch epoch' : ℕ) (image image' : List ℕ → Type 0) (state state' : JournalState) (v v' : RegistrarView) (s t : ServerState) (n : ℕ) (b : Bytes) → StandsAt site roster doubt epoch image state v s → Leads server_rows s (Begin n b) t

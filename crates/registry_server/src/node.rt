@@ -11,7 +11,7 @@ use crate::registrar::Registrar;
 use crate::turn::Turn;
 use air_bus::{Input as Begun, Packets, Payload};
 use ballot_core::LAST_EPOCH;
-use epoch_journal::{EpochJournal, RaiseFault};
+use epoch_journal::{EpochJournal, RaiseFault, raise};
 use gate_journal::JournalFault;
 use outside::{Disk, DiskName, Gate, Point};
 use site_node::{Done, NodeFault, Roster, SiteNode, read_input, spell};
@@ -49,7 +49,8 @@ impl<D: Disk> ServerNode<D> {
     ghost use Rattle.outside.specs.Faults.{Rose};
     ghost use Rattle.gate_journal.specs.declared.journal.JournalState.TheVariants.{Ready};
     ghost use Rattle.gate_journal.specs.Growth.{Continues};
-    ghost use Rattle.epoch_journal.specs.Epochs.{IsLeft, Keeps, KeepsAsLeft};
+    ghost use Rattle.gate_journal.specs.Opening.{IsOpened};
+    ghost use Rattle.epoch_journal.specs.Epochs.{IsLeft, Keeps};
     ghost use Rattle.turn_defs.specs.Setting.{Setting};
     ghost use Rattle.turn_defs.specs.Turns.{land};
     ghost use Rattle.turn_defs.specs.declared.node.Input.TheVariants as given;
@@ -82,7 +83,7 @@ impl<D: Disk> ServerNode<D> {
         ensures journal { IfOk result (λ n. n.journal ≡ journal) }
         ensures up { IfOk result (λ n. n.in_doubt ≡ None) }
         ensures stands { IsTrue D.tells → (g : Setting) → IsOf roster g → IsNew g roster.joiners horizon table batch
-            → IfOk result (λ n. StandsAt n.site n.roster n.in_doubt n.journal.epoch (D.image n.journal.journal.disk) n.journal.journal.state n.registrar (down_over g site journal.epoch)) }
+            → IfOk result (λ n. StandsAt n.site n.roster n.in_doubt n.journal.value.epoch (D.image n.journal.journal.disk) n.journal.journal.state n.registrar (down_over g site journal.value.epoch)) }
         ensures refused { IfErr result (λ j. j ≡ journal) }
     {
         match Registrar::new(alloc, site, roster.joiners, horizon, table, batch) {
@@ -110,18 +111,18 @@ impl<D: Disk> ServerNode<D> {
         requires { IsInput input }
         ensures same { (self.new.site ≡ self.old.site) × (self.new.roster ≡ self.old.roster) × (self.new.in_doubt ≡ self.old.in_doubt) }
         ensures knows { (g : Setting) (k : SiteKept) (live : Option ServerLive) → Knows self.old.registrar g k live → Knows self.new.registrar g k live }
-        ensures holds { IsTrue D.tells → (k : ServerKept) → Holds self.old.journal.epoch (D.image self.old.journal.journal.disk) self.old.journal.journal.state k → Holds self.new.journal.epoch (D.image self.new.journal.journal.disk) self.new.journal.journal.state k }
+        ensures holds { IsTrue D.tells → (k : ServerKept) → Holds self.old.journal.value.epoch (D.image self.old.journal.journal.disk) self.old.journal.journal.state k → Holds self.new.journal.value.epoch (D.image self.new.journal.journal.disk) self.new.journal.journal.state k }
         ensures moments { IsTrue D.tells → Throughout D.image D.since self.old.journal.journal.disk self.new.journal.journal.disk (D.image self.old.journal.journal.disk) }
         ensures count { D.faults self.new.journal.journal.disk ≡ D.faults self.old.journal.journal.disk }
-        ensures refused { IfErr result (IsNotPrepared self.old.journal.epoch input) }
-        ensures spent { is_spent_at self.old.journal.epoch input ≡ true → OnOk result ⊥ }
-        ensures turn { IfOk result (λ r. (g : Setting) (k : SiteKept) (live : Option ServerLive) → Knows self.old.registrar g k live → self.old.journal.epoch ≡ k.disk.epoch → Fits live input → IsRow g (row_of server_rows g k live input) r.turn) }
-        ensures next { IfOk result (λ r. (g : Setting) (k : SiteKept) (live : Option ServerLive) → Knows self.old.registrar g k live → self.old.journal.epoch ≡ k.disk.epoch → Fits live input
+        ensures refused { IfErr result (IsNotPrepared self.old.journal.value.epoch input) }
+        ensures spent { is_spent_at self.old.journal.value.epoch input ≡ true → OnOk result ⊥ }
+        ensures turn { IfOk result (λ r. (g : Setting) (k : SiteKept) (live : Option ServerLive) → Knows self.old.registrar g k live → self.old.journal.value.epoch ≡ k.disk.epoch → Fits live input → IsRow g (row_of server_rows g k live input) r.turn) }
+        ensures next { IfOk result (λ r. (g : Setting) (k : SiteKept) (live : Option ServerLive) → Knows self.old.registrar g k live → self.old.journal.value.epoch ≡ k.disk.epoch → Fits live input
             → Makes self.new.registrar.core r.turn g k.disk (row_of server_rows g k live input).live) }
-        ensures ready { IfOk result (λ r. IsReady self.new.registrar.core self.new.journal.epoch r.turn r.packets r.noted) }
+        ensures ready { IfOk result (λ r. IsReady self.new.registrar.core self.new.journal.value.epoch r.turn r.packets r.noted) }
         ensures room { IfOk result (λ r. IsRoomFor r.noted (D.calls_left self.new.journal.journal.disk) (D.bytes_left self.new.journal.journal.disk)) }
     {
-        let epoch = self.journal.epoch();
+        let epoch = self.journal.value().epoch();
         if is_spent(epoch, &input) {
             return Err(NodeFault::Spent(epoch));
         }
@@ -139,8 +140,8 @@ impl<D: Disk> ServerNode<D> {
     // The disk's room for the record, if there is one.
     fn make_room(&mut self, noted: &Option<Payload>) -> Result<(), AllocError>
         ensures same { (self.new.site ≡ self.old.site) × (self.new.roster ≡ self.old.roster) × (self.new.in_doubt ≡ self.old.in_doubt) × (self.new.registrar ≡ self.old.registrar) }
-        ensures epoch { self.new.journal.epoch ≡ self.old.journal.epoch }
-        ensures holds { IsTrue D.tells → (k : ServerKept) → Holds self.old.journal.epoch (D.image self.old.journal.journal.disk) self.old.journal.journal.state k → Holds self.new.journal.epoch (D.image self.new.journal.journal.disk) self.new.journal.journal.state k }
+        ensures epoch { self.new.journal.value.epoch ≡ self.old.journal.value.epoch }
+        ensures holds { IsTrue D.tells → (k : ServerKept) → Holds self.old.journal.value.epoch (D.image self.old.journal.journal.disk) self.old.journal.journal.state k → Holds self.new.journal.value.epoch (D.image self.new.journal.journal.disk) self.new.journal.journal.state k }
         ensures moments { IsTrue D.tells → Throughout D.image D.since self.old.journal.journal.disk self.new.journal.journal.disk (D.image self.old.journal.journal.disk) }
         ensures count { D.faults self.new.journal.journal.disk ≡ D.faults self.old.journal.journal.disk }
         ensures room { OnOk result (IsRoomFor noted.now (D.calls_left self.new.journal.journal.disk) (D.bytes_left self.new.journal.journal.disk)) }
@@ -154,7 +155,7 @@ impl<D: Disk> ServerNode<D> {
     // Appends the note, if there is one, and keeps the turn. Where the disk fails the note is in doubt.
     fn finish(&mut self, ready: ReadyTurn) -> Result<Done, NodeFault>
         requires up { self.old.in_doubt ≡ None }
-        requires ready { IsReady self.old.registrar.core self.old.journal.epoch ready.turn ready.packets ready.noted }
+        requires ready { IsReady self.old.registrar.core self.old.journal.value.epoch ready.turn ready.packets ready.noted }
         requires room { IsRoomFor ready.noted (D.calls_left self.old.journal.journal.disk) (D.bytes_left self.old.journal.journal.disk) }
         ensures same { (self.new.site ≡ self.old.site) × (self.new.roster ≡ self.old.roster) }
         ensures up { OnOk result (self.new.in_doubt ≡ None) }
@@ -162,15 +163,15 @@ impl<D: Disk> ServerNode<D> {
         ensures only_stopped { OnErr result (result ≡ Err NodeFault.Stopped) }
         ensures fault { OnErr result (Rose (D.faults self.old.journal.journal.disk) (D.faults self.new.journal.journal.disk)) }
         ensures count { D.faults self.old.journal.journal.disk ≤ D.faults self.new.journal.journal.disk }
-        ensures moments { IsTrue D.tells → (k : ServerKept) → Holds self.old.journal.epoch (D.image self.old.journal.journal.disk) self.old.journal.journal.state k → Throughout D.image D.since self.old.journal.journal.disk self.new.journal.journal.disk (OnDiskOr k ready.turn.note) }
+        ensures moments { IsTrue D.tells → (k : ServerKept) → Holds self.old.journal.value.epoch (D.image self.old.journal.journal.disk) self.old.journal.journal.state k → Throughout D.image D.since self.old.journal.journal.disk self.new.journal.journal.disk (OnDiskOr k ready.turn.note) }
         ensures grows { IsTrue D.tells → (c : List ℕ) → D.image self.new.journal.journal.disk c → Continues (D.image self.old.journal.journal.disk) c }
         ensures note { IfOk result (λ d. d.note ≡ recorded ready.turn.note) }
         ensures packets { IfOk result (λ d. d.packets ≡ ready.packets) }
         ensures knows { OnOk result ((g : Setting) (k : SiteKept) (next : ServerLive) → Makes self.old.registrar.core ready.turn g k.disk next → site_of self.old.registrar.core ≡ k.site
             → Knows self.new.registrar g (record { site = k.site; disk = landed ready.turn k.disk }) (Some next)) }
         ensures registrar { OnErr result (self.new.registrar ≡ self.old.registrar) }
-        ensures holds { IsTrue D.tells → (k : ServerKept) → Holds self.old.journal.epoch (D.image self.old.journal.journal.disk) self.old.journal.journal.state k → OnOk result (Holds self.new.journal.epoch (D.image self.new.journal.journal.disk) self.new.journal.journal.state (landed ready.turn k)) }
-        ensures undone { IsTrue D.tells → (k : ServerKept) → Holds self.old.journal.epoch (D.image self.old.journal.journal.disk) self.old.journal.journal.state k → OnErr result (HoldsOr self.new.in_doubt ready.turn.note self.new.journal.epoch (D.image self.new.journal.journal.disk) self.new.journal.journal.state k) }
+        ensures holds { IsTrue D.tells → (k : ServerKept) → Holds self.old.journal.value.epoch (D.image self.old.journal.journal.disk) self.old.journal.journal.state k → OnOk result (Holds self.new.journal.value.epoch (D.image self.new.journal.journal.disk) self.new.journal.journal.state (landed ready.turn k)) }
+        ensures undone { IsTrue D.tells → (k : ServerKept) → Holds self.old.journal.value.epoch (D.image self.old.journal.journal.disk) self.old.journal.journal.state k → OnErr result (HoldsOr self.new.in_doubt ready.turn.note self.new.journal.value.epoch (D.image self.new.journal.journal.disk) self.new.journal.journal.state k) }
     {
         let ReadyTurn {
             turn,
@@ -185,24 +186,24 @@ impl<D: Disk> ServerNode<D> {
     fn append(&mut self, noted: Option<Payload>) -> Result<Option<Payload>, NodeFault>
         requires up { self.old.in_doubt ≡ None }
         requires room { IsRoomFor noted (D.calls_left self.old.journal.journal.disk) (D.bytes_left self.old.journal.journal.disk) }
-        requires low { IsBelowLast noted self.old.journal.epoch }
+        requires low { IsBelowLast noted self.old.journal.value.epoch }
         ensures same { (self.new.site ≡ self.old.site) × (self.new.roster ≡ self.old.roster) × (self.new.registrar ≡ self.old.registrar) }
         ensures up { OnOk result (self.new.in_doubt ≡ None) }
         ensures stopped { IsErrOf result NodeFault.Stopped → is_some self.new.in_doubt ≡ true }
         ensures only_stopped { OnErr result (result ≡ Err NodeFault.Stopped) }
         ensures fault { OnErr result (Rose (D.faults self.old.journal.journal.disk) (D.faults self.new.journal.journal.disk)) }
         ensures count { D.faults self.old.journal.journal.disk ≤ D.faults self.new.journal.journal.disk }
-        ensures moments { IsTrue D.tells → (k : ServerKept) (n : Option ServerNote) → noted ≡ recorded n → IsNextNote self.old.journal.epoch n → Holds self.old.journal.epoch (D.image self.old.journal.journal.disk) self.old.journal.journal.state k → Throughout D.image D.since self.old.journal.journal.disk self.new.journal.journal.disk (OnDiskOr k n) }
+        ensures moments { IsTrue D.tells → (k : ServerKept) (n : Option ServerNote) → noted ≡ recorded n → IsNextNote self.old.journal.value.epoch n → Holds self.old.journal.value.epoch (D.image self.old.journal.journal.disk) self.old.journal.journal.state k → Throughout D.image D.since self.old.journal.journal.disk self.new.journal.journal.disk (OnDiskOr k n) }
         ensures grows { IsTrue D.tells → (c : List ℕ) → D.image self.new.journal.journal.disk c → Continues (D.image self.old.journal.journal.disk) c }
         ensures note { IfOk result (λ r. r ≡ noted) }
-        ensures holds { IsTrue D.tells → (k : ServerKept) (n : Option ServerNote) → noted ≡ recorded n → IsNextNote self.old.journal.epoch n → Holds self.old.journal.epoch (D.image self.old.journal.journal.disk) self.old.journal.journal.state k
-            → OnOk result (Holds self.new.journal.epoch (D.image self.new.journal.journal.disk) self.new.journal.journal.state (land land_server (option_map note_of n) k)) }
-        ensures undone { IsTrue D.tells → (k : ServerKept) (n : Option ServerNote) → noted ≡ recorded n → IsNextNote self.old.journal.epoch n → Holds self.old.journal.epoch (D.image self.old.journal.journal.disk) self.old.journal.journal.state k
-            → OnErr result (HoldsOr self.new.in_doubt n self.new.journal.epoch (D.image self.new.journal.journal.disk) self.new.journal.journal.state k) }
+        ensures holds { IsTrue D.tells → (k : ServerKept) (n : Option ServerNote) → noted ≡ recorded n → IsNextNote self.old.journal.value.epoch n → Holds self.old.journal.value.epoch (D.image self.old.journal.journal.disk) self.old.journal.journal.state k
+            → OnOk result (Holds self.new.journal.value.epoch (D.image self.new.journal.journal.disk) self.new.journal.journal.state (land land_server (option_map note_of n) k)) }
+        ensures undone { IsTrue D.tells → (k : ServerKept) (n : Option ServerNote) → noted ≡ recorded n → IsNextNote self.old.journal.value.epoch n → Holds self.old.journal.value.epoch (D.image self.old.journal.journal.disk) self.old.journal.journal.state k
+            → OnErr result (HoldsOr self.new.in_doubt n self.new.journal.value.epoch (D.image self.new.journal.journal.disk) self.new.journal.journal.state k) }
     {
         match noted {
             None => Ok(None),
-            Some(payload) => match self.journal.raise() {
+            Some(payload) => match raise(&mut self.journal) {
                 Ok(_) => Ok(Some(payload)),
                 Err(RaiseFault::Disk) => {
                     self.in_doubt = Some(payload);
@@ -222,9 +223,9 @@ impl<D: Disk> ServerNode<D> {
         requires waits { is_some self.old.in_doubt ≡ true }
         ensures same { (self.new.site ≡ self.old.site) × (self.new.roster ≡ self.old.roster) × (self.new.registrar ≡ self.old.registrar) × (self.new.in_doubt ≡ self.old.in_doubt) }
         ensures ready { OnOk result (self.new.journal.journal.state ≡ Ready) }
-        ensures left { IsTrue D.tells → OnOk result (IsLeft (D.image self.old.journal.journal.disk) self.new.journal.epoch) }
-        ensures epoch { OnErr result (self.new.journal.epoch ≡ self.old.journal.epoch) }
-        ensures moments { IsTrue D.tells → Throughout D.image D.since self.old.journal.journal.disk self.new.journal.journal.disk (KeepsAsLeft (D.image self.old.journal.journal.disk)) }
+        ensures left { IsTrue D.tells → OnOk result (IsLeft (D.image self.old.journal.journal.disk) self.new.journal.value.epoch) }
+        ensures epoch { OnErr result (self.new.journal.value.epoch ≡ self.old.journal.value.epoch) }
+        ensures moments { IsTrue D.tells → Throughout D.image D.since self.old.journal.journal.disk self.new.journal.journal.disk (IsOpened (D.image self.old.journal.journal.disk)) }
         ensures grows { IsTrue D.tells → Throughout D.image D.since self.old.journal.journal.disk self.new.journal.journal.disk (Continues (D.image self.old.journal.journal.disk)) }
         ensures kind { IfErr result IsOfRestart }
         ensures fault { (disk : _) → IsErrOf result (NodeFault.Disk disk) → Rose (D.faults self.old.journal.journal.disk) (D.faults self.new.journal.journal.disk) }
@@ -277,7 +278,7 @@ impl<D: Disk> SiteNode for ServerNode<D> {
 
     ghost waits = { λ node. is_some node.in_doubt };
 
-    ghost stands = { λ node s. StandsAt node.site node.roster node.in_doubt node.journal.epoch (D.image node.journal.journal.disk) node.journal.journal.state node.registrar s };
+    ghost stands = { λ node s. StandsAt node.site node.roster node.in_doubt node.journal.value.epoch (D.image node.journal.journal.disk) node.journal.journal.state node.registrar s };
 
     ghost image = { λ node. D.image node.journal.journal.disk };
 
@@ -293,7 +294,7 @@ impl<D: Disk> SiteNode for ServerNode<D> {
 
     ghost phases = { phase_led server_rows };
 
-    ghost images = { λ node s tells. kept_images node.site node.roster node.in_doubt node.journal.epoch (D.image node.journal.journal.disk) node.journal.journal.state node.registrar s };
+    ghost images = { λ node s tells. kept_images node.site node.roster node.in_doubt node.journal.value.epoch (D.image node.journal.journal.disk) node.journal.journal.state node.registrar s };
 
     fn wants(&self) -> bool {
         self.registrar.wants()
@@ -324,9 +325,9 @@ impl<D: Disk> SiteNode for ServerNode<D> {
     }
 
     fn restart(&mut self) -> Result<Option<Payload>, NodeFault> {
-        let before = self.journal.epoch();
+        let before = self.journal.value().epoch();
         self.reread()?;
-        let landed = self.journal.epoch() != before;
+        let landed = self.journal.value().epoch() != before;
         self.registrar.put_down();
         let noted = self.in_doubt.take();
         if landed { Ok(noted) } else { Ok(None) }

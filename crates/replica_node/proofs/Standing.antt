@@ -28,7 +28,7 @@ use Rattle.site_node.specs.Rosters.{IsOf}
 use Rattle.turn_defs.specs.Replica.{ReplicaKept, land_replica}
 use Rattle.replica_node.specs.Core.{noted}
 use Rattle.site_node.specs.Replicas.{kept_of}
-use Rattle.replica_node.specs.Node.{VoterView, Knows, KnowsAs, Fits, counted, framed_note, Holds, OnDiskOr, IsRecord, StandsAt}
+use Rattle.replica_node.specs.Node.{VoterView, Knows, KnowsAs, Fits, counted, recorded, Holds, OnDiskOr, IsRecord, StandsAt}
 use Rattle.site_node.specs.Replicas.{ReplicaState, IsVoted, vote_record, records_of}
 use Rattle.replica_node.specs.Votes.{IsOfNotes, IsBadVote, IsUndamaged}
 use Rattle.replica_node.proofs.NoteBytes.{none_bad}
@@ -64,19 +64,19 @@ ok_same rs ss e = ap (λ (r : Result (List (List ℕ)) ℕ). result_unwrap_or r 
 
 -- ---- one note more
 
-some_first : (f p : List ℕ) (n : ReplicaNote) → Some (f, p) ≡ framed_note (Some n) → f ≡ note n
-some_first f p n e = ap (λ (o : Option (List ℕ × List ℕ)). first_of_pair o) e
+its_record : (f p : List ℕ) (n : ReplicaNote) → f ≡ p → Some p ≡ recorded (Some n) → f ≡ note n
+its_record f p n same e = same ∙ ap (λ (o : Option (List ℕ)). bytes_in o) e
   where
-    first_of_pair : Option (List ℕ × List ℕ) → List ℕ
-    first_of_pair None = []
-    first_of_pair (Some x) = x.0
+    bytes_in : Option (List ℕ) → List ℕ
+    bytes_in None = []
+    bytes_in (Some b) = b
 
-pub holds_more : (k : ReplicaKept) (n : Option ReplicaNote) (f p : List ℕ) (kept kept' : ℕ) (seen seen' : List ℕ) (image image' : List ℕ → Type 0) (state state' : JournalState) → Some (f, p) ≡ framed_note n → Holds kept seen image state k
+pub holds_more : (k : ReplicaKept) (n : Option ReplicaNote) (f p : List ℕ) (kept kept' : ℕ) (seen seen' : List ℕ) (image image' : List ℕ → Type 0) (state state' : JournalState) → f ≡ p → Some p ≡ recorded n → Holds kept seen image state k
     → state' ≡ Ready → records seen' ≡ records seen ++ f ∷ [] → ((c : List ℕ) → image' c → StandsFor (records seen ++ f ∷ []) c) → kept' ≡ min (kept + 1) (2 ^ 64 - 1) → Holds kept' seen' image' state' (land land_replica (noted n) k)
-holds_more k None f p kept kept' seen seen' image image' state state' e holds ready reads durable count = absurd (cc e)
-holds_more k (Some n) f p kept kept' seen seen' image image' state state' e holds ready reads durable count =
+holds_more k None f p kept kept' seen seen' image image' state state' same e holds ready reads durable count = absurd (cc e)
+holds_more k (Some n) f p kept kept' seen seen' image image' state state' same e holds ready reads durable count =
     let grown : records seen ++ f ∷ [] ≡ map vote_record (k.notes ++ note_view n ∷ []) =
-    ap (λ (rs : List (List ℕ)). rs ++ f ∷ []) holds.reads ∙ ap (λ (b : List ℕ). records_of k ++ b ∷ []) (some_first f p n e ∙ sym (view_record n)) ∙ sym (map-append vote_record k.notes (note_view n ∷ []))
+    ap (λ (rs : List (List ℕ)). rs ++ f ∷ []) holds.reads ∙ ap (λ (b : List ℕ). records_of k ++ b ∷ []) (its_record f p n same e ∙ sym (view_record n)) ∙ sym (map-append vote_record k.notes (note_view n ∷ []))
     in
     record {
       ready = ready;
@@ -219,10 +219,10 @@ landed_records k None r is = absurd is
 landed_records k (Some n) r is = map-append vote_record k.notes (note_view n ∷ []) ∙ ap (λ (b : List ℕ). records_of k ++ b ∷ []) (view_record n ∙ sym is)
 
 -- an append leaves the kept notes, or those and the new one
-pub append_leaves : (k : ReplicaKept) (n : Option ReplicaNote) (f p : List ℕ) (seen c : List ℕ) → Some (f, p) ≡ framed_note n → records seen ≡ records_of k → IsOldOrNew (records seen) f c → OnDiskOr k n c
-append_leaves k None f p seen c e reads either = absurd (cc e)
-append_leaves k (Some n) f p seen c e reads either =
-    let more : records seen ++ f ∷ [] ≡ records_of (land land_replica (noted (Some n)) k) = ap (λ (rs : List (List ℕ)). rs ++ f ∷ []) reads ∙ sym (landed_records k (Some n) f (some_first f p n e)) in
+pub append_leaves : (k : ReplicaKept) (n : Option ReplicaNote) (f p : List ℕ) (seen c : List ℕ) → f ≡ p → Some p ≡ recorded n → records seen ≡ records_of k → IsOldOrNew (records seen) f c → OnDiskOr k n c
+append_leaves k None f p seen c same e reads either = absurd (cc e)
+append_leaves k (Some n) f p seen c same e reads either =
+    let more : records seen ++ f ∷ [] ≡ records_of (land land_replica (noted (Some n)) k) = ap (λ (rs : List (List ℕ)). rs ++ f ∷ []) reads ∙ sym (landed_records k (Some n) f (its_record f p n same e)) in
     ⊎_elim (λ old. inl (subst (λ (rs : List (List ℕ)). StandsFor rs c) reads old)) (λ new. inr (subst (λ (rs : List (List ℕ)). StandsFor rs c) more new)) either
 
 -- notes with spellings are notes

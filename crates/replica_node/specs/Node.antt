@@ -124,23 +124,23 @@ pub record StandsAt (roster : Roster) (open_record : Option (List ℕ)) (kept : 
 abbrev pub down_over : Setting → List ReplicaNote → ReplicaState
 down_over g notes = record { setting = g; kept = kept_of notes; live = None; opened = None }
 
--- a note's record, once for the journal and once for the bus
-abbrev pub framed_note : Option ReplicaNote → Option (List ℕ × List ℕ)
-framed_note None = None
-framed_note (Some n) = Some (note n, note n)
+-- the record of a note, if there is one
+abbrev pub recorded : Option ReplicaNote → Option (List ℕ)
+recorded None = None
+recorded (Some n) = Some (note n)
 
-abbrev pub IsShort : Option (List ℕ × List ℕ) → Type 0
+abbrev pub IsShort : Option (List ℕ) → Type 0
 IsShort None = Unit {0}
-IsShort (Some r) = length r.0 ≤ 65535
+IsShort (Some r) = length r ≤ 65535
 
 -- what is left of the disk's room is enough to append the record
-abbrev pub IsRoomFor : Option (List ℕ × List ℕ) → ℕ → ℕ → Type 0
+abbrev pub IsRoomFor : Option (List ℕ) → ℕ → ℕ → Type 0
 IsRoomFor None calls_left bytes_left = Unit {0}
-IsRoomFor (Some r) calls_left bytes_left = HasRoom calls_left bytes_left (length r.0)
+IsRoomFor (Some r) calls_left bytes_left = HasRoom calls_left bytes_left (length r)
 
 -- the turn's packets and its note are spelled, and it can be kept
-pub record IsReady (core : ReplicaCore) (turn : Turn) (sent : List (ℕ × List ℕ)) (framed : Option (List ℕ × List ℕ)) : Type 0 where
+pub record IsReady (core : ReplicaCore) (turn : Turn) (sent : List (ℕ × List ℕ)) (written : Option (List ℕ)) : Type 0 where
   pub room : HasRoomFor core turn.change turn.note
   pub spelled : IsSpelledTurn core turn.change turn.note
   pub packets : AreSpelled turn.packets.items sent
-  pub noted : framed ≡ framed_note turn.note
+  pub noted : written ≡ recorded turn.note

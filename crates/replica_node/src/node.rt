@@ -11,9 +11,9 @@ ghost use Rattle.replica_node.specs.Votes.{IsOfNotes, IsUndamaged};
 
 use crate::Turn;
 use crate::voter::Voter;
-use crate::votes::{read_votes, vote_frame};
+use crate::votes::{read_votes, vote_record};
 use air_bus::{Input as Begun, Packets, Payload};
-use gate_journal::{Frame, Journal, JournalFault};
+use gate_journal::{Journal, JournalFault};
 use outside::{Disk, DiskName, Gate, Point};
 use packet_codec::Field;
 use paxos_acceptor::ReplicaNote;
@@ -44,7 +44,7 @@ pub struct ReplicaNode<D: Disk> {
 struct ReadyTurn {
     turn: Turn,
     packets: Packets,
-    framed: Option<(Frame, Payload)>,
+    written: Option<Payload>,
 }
 
 impl<D: Disk> ReplicaNode<D> {
@@ -66,7 +66,7 @@ impl<D: Disk> ReplicaNode<D> {
     ghost use Rattle.replica_node.specs.Core.{noted, IsRow, GoesOn};
     ghost use Rattle.replica_node.specs.Votes.{IsOfNotes};
     ghost use Rattle.paxos_acceptor.specs.declared.notes.ReplicaNote.{ReplicaNote};
-    ghost use Rattle.replica_node.specs.Node.{StandsAt, Holds, HoldsOr, OnDiskOr, Knows, Fits, framed_note, IsShort, IsReady, IsRoomFor, down_over};
+    ghost use Rattle.replica_node.specs.Node.{StandsAt, Holds, HoldsOr, OnDiskOr, Knows, Fits, recorded, IsShort, IsReady, IsRoomFor, down_over};
     ghost use Rattle.site_node.specs.Replicas.{replica_rows};
 
     /// A replica that is down, over a journal with these notes. It takes no memory.
@@ -113,40 +113,43 @@ impl<D: Disk> ReplicaNode<D> {
         ensures count { D.faults self.new.journal.disk ≡ D.faults self.old.journal.disk }
         ensures turn { IfOk result (λ r. (g : Setting) (k : ReplicaKept) (live : Option (Unit {0})) → Knows self.old.voter k live → Fits live input.now → IsRow g (row_of replica_rows g k live input.now) r.turn) }
         ensures next { IfOk result (λ r. (k : ReplicaKept) (live : Option (Unit {0})) → Knows self.old.voter k live → Fits live input.now → GoesOn self.new.voter.core r.turn.change k) }
-        ensures ready { IfOk result (λ r. IsReady self.new.voter.core r.turn r.packets r.framed) }
-        ensures room { IfOk result (λ r. IsRoomFor r.framed (D.calls_left self.new.journal.disk) (D.bytes_left self.new.journal.disk)) }
+        ensures ready { IfOk result (λ r. IsReady self.new.voter.core r.turn r.packets r.written) }
+        ensures room { IfOk result (λ r. IsRoomFor r.written (D.calls_left self.new.journal.disk) (D.bytes_left self.new.journal.disk)) }
     {
         let turn = self.voter.decide(input)?;
         let packets = spell(self.alloc, &turn.packets)?;
-        let framed = vote_frame(self.alloc, &turn.note)?;
-        self.make_room(&framed)?;
+        let written = vote_record(self.alloc, &turn.note)?;
+        self.make_room(&written)?;
         Ok(ReadyTurn {
             turn,
             packets,
-            framed,
+            written,
         })
     }
 
     // The disk's room for the record, if there is one.
-    fn make_room(&mut self, framed: &Option<(Frame, Payload)>) -> Result<(), AllocError>
-        requires { IsShort framed.now }
+    fn make_room(&mut self, written: &Option<Payload>) -> Result<(), AllocError>
+        requires { IsShort written.now }
         ensures same { (self.new.replica ≡ self.old.replica) × (self.new.roster ≡ self.old.roster) × (self.new.in_doubt ≡ self.old.in_doubt) × (self.new.voter ≡ self.old.voter) }
         ensures holds { IsTrue D.tells → (k : ReplicaKept) → Holds self.old.kept (D.seen self.old.journal.disk) (D.image self.old.journal.disk) self.old.journal.state k → Holds self.new.kept (D.seen self.new.journal.disk) (D.image self.new.journal.disk) self.new.journal.state k }
         ensures moments { IsTrue D.tells → Throughout D.image D.since self.old.journal.disk self.new.journal.disk (D.image self.old.journal.disk) }
         ensures count { D.faults self.new.journal.disk ≡ D.faults self.old.journal.disk }
-        ensures room { OnOk result (IsRoomFor framed.now (D.calls_left self.new.journal.disk) (D.bytes_left self.new.journal.disk)) }
+        ensures room { OnOk result (IsRoomFor written.now (D.calls_left self.new.journal.disk) (D.bytes_left self.new.journal.disk)) }
     {
-        match framed {
+        match written {
             None => Ok(()),
-            Some((frame, _)) => self.journal.make_room(self.alloc, frame.len() as u32),
+            Some(payload) => {
+                let len = payload.as_slice().len() as u32;
+                self.journal.make_room(self.alloc, len)
+            }
         }
     }
 
     // Appends the note, if there is one, and keeps the turn. Where the disk fails the note is in doubt.
     fn finish(&mut self, ready: ReadyTurn) -> Result<Done, NodeFault>
         requires up { self.old.in_doubt ≡ None }
-        requires ready { IsReady self.old.voter.core ready.turn ready.packets ready.framed }
-        requires room { IsRoomFor ready.framed (D.calls_left self.old.journal.disk) (D.bytes_left self.old.journal.disk) }
+        requires ready { IsReady self.old.voter.core ready.turn ready.packets ready.written }
+        requires room { IsRoomFor ready.written (D.calls_left self.old.journal.disk) (D.bytes_left self.old.journal.disk) }
         ensures same { (self.new.replica ≡ self.old.replica) × (self.new.roster ≡ self.old.roster) }
         ensures up { OnOk result (self.new.in_doubt ≡ None) }
         ensures stopped { IsErrOf result NodeFault.Stopped → is_some self.new.in_doubt ≡ true }
@@ -165,31 +168,31 @@ impl<D: Disk> ReplicaNode<D> {
         let ReadyTurn {
             turn,
             packets,
-            framed,
+            written,
         } = ready;
-        let note = self.append(framed)?;
+        let note = self.append(written)?;
         self.voter.keep(turn);
         Ok(Done { note, packets })
     }
 
-    fn append(&mut self, framed: Option<(Frame, Payload)>) -> Result<Option<Payload>, NodeFault>
+    fn append(&mut self, written: Option<Payload>) -> Result<Option<Payload>, NodeFault>
         requires up { self.old.in_doubt ≡ None }
-        requires room { IsRoomFor framed (D.calls_left self.old.journal.disk) (D.bytes_left self.old.journal.disk) }
+        requires room { IsRoomFor written (D.calls_left self.old.journal.disk) (D.bytes_left self.old.journal.disk) }
         ensures same { (self.new.replica ≡ self.old.replica) × (self.new.roster ≡ self.old.roster) × (self.new.voter ≡ self.old.voter) }
         ensures up { OnOk result (self.new.in_doubt ≡ None) }
         ensures stopped { IsErrOf result NodeFault.Stopped → is_some self.new.in_doubt ≡ true }
         ensures only_stopped { OnErr result (result ≡ Err NodeFault.Stopped) }
         ensures fault { OnErr result (Rose (D.faults self.old.journal.disk) (D.faults self.new.journal.disk)) }
         ensures count { D.faults self.old.journal.disk ≤ D.faults self.new.journal.disk }
-        ensures moments { IsTrue D.tells → (k : ReplicaKept) (n : Option ReplicaNote) → framed ≡ framed_note n → Holds self.old.kept (D.seen self.old.journal.disk) (D.image self.old.journal.disk) self.old.journal.state k → Throughout D.image D.since self.old.journal.disk self.new.journal.disk (OnDiskOr k n) }
+        ensures moments { IsTrue D.tells → (k : ReplicaKept) (n : Option ReplicaNote) → written ≡ recorded n → Holds self.old.kept (D.seen self.old.journal.disk) (D.image self.old.journal.disk) self.old.journal.state k → Throughout D.image D.since self.old.journal.disk self.new.journal.disk (OnDiskOr k n) }
         ensures grows { IsTrue D.tells → (k : ReplicaKept) → Holds self.old.kept (D.seen self.old.journal.disk) (D.image self.old.journal.disk) self.old.journal.state k → (c : List ℕ) → D.image self.new.journal.disk c → Continues (D.image self.old.journal.disk) c }
-        ensures note { (n : Option ReplicaNote) → framed ≡ framed_note n → IfOk result (λ r. r ≡ option_map note_spelled n) }
-        ensures holds { IsTrue D.tells → (k : ReplicaKept) (n : Option ReplicaNote) → framed ≡ framed_note n → Holds self.old.kept (D.seen self.old.journal.disk) (D.image self.old.journal.disk) self.old.journal.state k → OnOk result (Holds self.new.kept (D.seen self.new.journal.disk) (D.image self.new.journal.disk) self.new.journal.state (land land_replica (noted n) k)) }
-        ensures undone { IsTrue D.tells → (k : ReplicaKept) (n : Option ReplicaNote) → framed ≡ framed_note n → Holds self.old.kept (D.seen self.old.journal.disk) (D.image self.old.journal.disk) self.old.journal.state k → OnErr result (HoldsOr self.new.in_doubt n self.new.kept (D.seen self.new.journal.disk) (D.image self.new.journal.disk) self.new.journal.state k) }
+        ensures note { (n : Option ReplicaNote) → written ≡ recorded n → IfOk result (λ r. r ≡ option_map note_spelled n) }
+        ensures holds { IsTrue D.tells → (k : ReplicaKept) (n : Option ReplicaNote) → written ≡ recorded n → Holds self.old.kept (D.seen self.old.journal.disk) (D.image self.old.journal.disk) self.old.journal.state k → OnOk result (Holds self.new.kept (D.seen self.new.journal.disk) (D.image self.new.journal.disk) self.new.journal.state (land land_replica (noted n) k)) }
+        ensures undone { IsTrue D.tells → (k : ReplicaKept) (n : Option ReplicaNote) → written ≡ recorded n → Holds self.old.kept (D.seen self.old.journal.disk) (D.image self.old.journal.disk) self.old.journal.state k → OnErr result (HoldsOr self.new.in_doubt n self.new.kept (D.seen self.new.journal.disk) (D.image self.new.journal.disk) self.new.journal.state k) }
     {
-        match framed {
+        match written {
             None => Ok(None),
-            Some((frame, payload)) => match self.journal.append(&frame) {
+            Some(payload) => match self.journal.append(payload.as_slice()) {
                 Ok(()) => {
                     self.kept = self.kept.saturating_add(1);
                     Ok(Some(payload))
@@ -320,7 +323,7 @@ impl<D: Disk> SiteNode for ReplicaNode<D> {
             }),
             Some(input) => {
                 let ready = self.prepare(&input)?;
-                if ready.framed.is_some() {
+                if ready.written.is_some() {
                     gate.pass(Point::BeforeAppend, 4 + u16::from(self.replica));
                 }
                 self.finish(ready)

@@ -1,12 +1,12 @@
 // Notes and their records.
-ghost use Rattle.std.specs.Prelude.{◌≡◌, ◌≤◌, ◌^◌, All, map, length, IfOk, IfErr, IfSome, IfNone};
+ghost use Rattle.std.specs.Prelude.{◌≡◌, ◌≤◌, ◌^◌, All, map, IfOk, IfErr, IfSome, IfNone};
 ghost use Rattle.gate_journal.specs.Gate.{spans};
 ghost use Rattle.packet_codec.specs.Notes.{note as note_spelled, IsNote};
-ghost use Rattle.replica_node.specs.Node.{framed_note, IsNotedSo, IsShort};
+ghost use Rattle.replica_node.specs.Node.{recorded, IsNotedSo, IsShort};
 ghost use Rattle.replica_node.specs.Votes.{IsNoVote, IsBadVote};
 
 use air_bus::Payload;
-use gate_journal::{Frame, JournalFault};
+use gate_journal::JournalFault;
 use packet_codec::{Field, FieldFault};
 use paxos_acceptor::ReplicaNote;
 use std::alloc::{AllocError, Global};
@@ -49,33 +49,29 @@ pub fn read_votes(alloc: Global, records: &[Bytes]) -> Result<Vec<ReplicaNote>, 
     Ok(notes)
 }
 
-/// The record of a note, if there is one, as it is written to a journal, and as the bus takes it. Linear in the note.
-pub(crate) fn vote_frame(
+/// The record of a note, if there is one, as the journal and the bus take it. Linear in the note.
+pub(crate) fn vote_record(
     alloc: Global,
     note: &Option<ReplicaNote>,
-) -> Result<Option<(Frame, Payload)>, AllocError>
+) -> Result<Option<Payload>, AllocError>
     requires { IsNotedSo note.now }
-    ensures framed { IfOk result (λ r. r ≡ framed_note note.now) }
+    ensures recorded { IfOk result (λ r. r ≡ recorded note.now) }
     ensures short { IfOk result IsShort }
 {
     match note {
         None => Ok(None),
         Some(note) => {
-            let (frame, payload) = note_frame(alloc, note)?;
-            Ok(Some((frame, payload)))
+            let payload = note_record(alloc, note)?;
+            Ok(Some(payload))
         }
     }
 }
 
-fn note_frame(alloc: Global, note: &ReplicaNote) -> Result<(Frame, Payload), AllocError>
+fn note_record(alloc: Global, note: &ReplicaNote) -> Result<Payload, AllocError>
     requires { IsNote note.now }
-    ensures frame { IfOk result (λ r. r.0 ≡ note_spelled note.now) }
-    ensures short { IfOk result (λ r. length r.0 ≤ 65535) }
-    ensures payload { IfOk result (λ r. r.1 ≡ note_spelled note.now) }
+    ensures { IfOk result (λ r. r ≡ note_spelled note.now) }
 {
     let mut bytes = Bytes::new(alloc);
     note.put(&mut bytes)?;
-    let frame = Frame::new(alloc, bytes.as_slice())?;
-    let payload = Payload::new(bytes.as_slice().to_vec(alloc)?)?;
-    Ok((frame, payload))
+    Payload::new(bytes.as_slice().to_vec(alloc)?)
 }

@@ -1,5 +1,5 @@
 // Changes of what is pending, and their records.
-ghost use Rattle.std.specs.Prelude.{◌≡◌, ◌<◌, ◌++◌, [], ◌∷◌, true, false, None, Some, nat_eq, IfOk};
+ghost use Rattle.std.specs.Prelude.{◌≡◌, ◌<◌, ◌≤◌, ◌+◌, ◌++◌, [], ◌∷◌, true, false, None, Some, nat_eq, IfOk};
 ghost use Rattle.indexmap.specs.IndexSet.{spare, IsUnique};
 ghost use Rattle.retry_log.specs.Pending.{record_of, change_in, changed, is_among};
 
@@ -20,7 +20,7 @@ pub enum Change {
 }
 
 /// The record of a change.
-pub fn record_bytes_of(change: Change) -> [u8; 9]
+pub fn change_record(change: Change) -> [u8; 9]
     ensures { result ≡ record_of change }
 {
     let (tag, position) = match change {
@@ -32,23 +32,17 @@ pub fn record_bytes_of(change: Change) -> [u8; 9]
 }
 
 /// The change of a record, if it is one of this kind.
-pub fn read_change(record_bytes: &[u8]) -> Option<Change>
-    ensures { result ≡ change_in record_bytes.now }
+pub fn read_change(payload: &[u8]) -> Option<Change>
+    ensures { result ≡ change_in payload.now }
 {
-    if record_bytes.len() != 9 {
+    if payload.len() != 9 {
         return None;
     }
     let position = u64::from_be_bytes([
-        record_bytes[1],
-        record_bytes[2],
-        record_bytes[3],
-        record_bytes[4],
-        record_bytes[5],
-        record_bytes[6],
-        record_bytes[7],
-        record_bytes[8],
+        payload[1], payload[2], payload[3], payload[4], payload[5], payload[6], payload[7],
+        payload[8],
     ]);
-    match record_bytes[0] {
+    match payload[0] {
         PARK => Some(Change::Park(position)),
         SETTLE => Some(Change::Settle(position)),
         _ => None,
@@ -72,6 +66,7 @@ pub fn put_last(pending: &mut IndexSet<u64>, position: u64)
     requires new { is_among pending.old.keys position ≡ false }
     requires place { 0 < spare pending.old }
     ensures keys { pending.new.keys ≡ pending.old.keys ++ position ∷ [] }
+    ensures room { spare pending.old ≤ spare pending.new + 1 }
     ensures unique { IsUnique nat_eq pending.new }
 {
     let _ = pending.insert(position);

@@ -2,8 +2,8 @@
 #![tactic(auto)]
 
 mod changing;
-mod log;
-mod reading;
+mod retries;
 pub mod rows;
 
-pub use log::RetryLog;
+pub use changing::{Change, change_record};
+pub use retries::{Retries, RetryLog};

@@ -11,6 +11,7 @@ use Rattle.paxos_acceptor.specs.declared.notes.ReplicaNote.TheVariants as replic
 use Rattle.paxos_acceptor.specs.Cells.{place_of, note_view}
 use Rattle.packet_codec.specs.Notes.{note, IsNote}
 use Rattle.gate_journal.specs.Gate.{gate_rule, StandsFor}
+use Rattle.gate_journal.specs.Fold.{read_as}
 use Rattle.topology_journal.specs.declared.topology.Topology.{Topology as KeptTopology}
 use Rattle.topology_journal.specs.Topologies as journal
 use Rattle.offset_journal.specs.Offsets as offsets
@@ -41,11 +42,11 @@ topology_again kept c d e k = (k.0, sym e ∙ k.1)
 
 pub keeps_again : (g : Setting) (d : Disks) (disk : DiskName) (b c : List ℕ) → gate_rule b ≡ gate_rule c → KeepsOf g d disk b → KeepsOf g d disk c
 keeps_again g d name.Topology b c e k = tt
-keeps_again g d (name.Offset s) b c e k = ap offsets.of_records (sym e) ∙ k
-keeps_again g d (name.Retry s) b c e k = ap pending.of_records (sym e) ∙ k
-keeps_again g d (name.Server s) b c e k = ap epochs.of_records (sym e) ∙ k
+keeps_again g d (name.Offset s) b c e k = ap (read_as offsets.offsets) (sym e) ∙ k
+keeps_again g d (name.Retry s) b c e k = ap (read_as pending.retries) (sym e) ∙ k
+keeps_again g d (name.Server s) b c e k = ap (read_as epochs.epochs) (sym e) ∙ k
 keeps_again g d (name.Replica r) b c e k = (k.0, sym e ∙ k.1)
-keeps_again g d (name.Epoch s j) b c e k = ap epochs.of_records (sym e) ∙ k
+keeps_again g d (name.Epoch s j) b c e k = ap (read_as epochs.epochs) (sym e) ∙ k
 keeps_again g d (name.Output s j) b c e k = (k.0, sym e ∙ k.1)
 
 -- ---- one value for the bytes

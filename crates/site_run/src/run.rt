@@ -263,12 +263,12 @@ where
         (lend_all (λ o. o.journal.disk) disks.outputs_b.items))) disk c }
     ensures grown { IsTrue S.Disk.tells → IsTrue F.Log.tells → (g : Setting) → IsNew g config.now.joiners config.now.horizon config.now.table config.now.batch → Each (λ l. IsLogOf (F.Log.bytes l) g) logs.clicks.items → Each (λ l. IsQueryLog (F.Log.bytes l) g.queries) logs.queries_a.items → Each (λ l. IsQueryLog (F.Log.bytes l) g.queries) logs.queries_b.items
         → let opened = (disks_over (record {
-          offsets = map (λ o. o.journal.offset) disks.offsets.items;
-          pendings = map (λ r. r.journal.pending.keys) disks.retries.items;
-          epochs = map (λ e. e.journal.epoch) disks.servers.items;
+          offsets = map (λ o. o.journal.value.offset) disks.offsets.items;
+          pendings = map (λ r. r.journal.value.pending.keys) disks.retries.items;
+          epochs = map (λ e. e.journal.value.epoch) disks.servers.items;
           notes = map (λ v. v.journal.notes.items) disks.replicas.items;
-          joiner_epochs = map (λ e. e.journal.epoch) disks.epochs_a.items ++ map (λ e. e.journal.epoch) disks.epochs_b.items;
-          joiner_pairs = map (λ o. o.journal.pairs.items) disks.outputs_a.items ++ map (λ o. o.journal.pairs.items) disks.outputs_b.items;
+          joiner_epochs = map (λ e. e.journal.value.epoch) disks.epochs_a.items ++ map (λ e. e.journal.value.epoch) disks.epochs_b.items;
+          joiner_pairs = map (λ o. o.journal.value.pairs.items) disks.outputs_a.items ++ map (λ o. o.journal.value.pairs.items) disks.outputs_b.items;
         })) in ((s : ℕ) → s < 2 → AreKeptPlaces g (opened.dispatchers s)) → (s : S) → AreOut S.Disk.image (S.image s) (S.image store.old) (lend (λ t. t.journal.disk) disks.topology) (behind
         (lend_all (λ o. o.journal.disk) disks.offsets.items)
         (lend_all (λ r. r.journal.disk) disks.retries.items)
@@ -280,21 +280,21 @@ where
         (lend_all (λ o. o.journal.disk) disks.outputs_b.items)) → (disk : DiskName) → GoesOn (S.image s disk) (S.image store.new disk) }
     ensures left { IsTrue S.Disk.tells → IsTrue F.Log.tells → (g : Setting) → IsNew g config.now.joiners config.now.horizon config.now.table config.now.batch → Each (λ l. IsLogOf (F.Log.bytes l) g) logs.clicks.items → Each (λ l. IsQueryLog (F.Log.bytes l) g.queries) logs.queries_a.items → Each (λ l. IsQueryLog (F.Log.bytes l) g.queries) logs.queries_b.items
         → let opened = (disks_over (record {
-          offsets = map (λ o. o.journal.offset) disks.offsets.items;
-          pendings = map (λ r. r.journal.pending.keys) disks.retries.items;
-          epochs = map (λ e. e.journal.epoch) disks.servers.items;
+          offsets = map (λ o. o.journal.value.offset) disks.offsets.items;
+          pendings = map (λ r. r.journal.value.pending.keys) disks.retries.items;
+          epochs = map (λ e. e.journal.value.epoch) disks.servers.items;
           notes = map (λ v. v.journal.notes.items) disks.replicas.items;
-          joiner_epochs = map (λ e. e.journal.epoch) disks.epochs_a.items ++ map (λ e. e.journal.epoch) disks.epochs_b.items;
-          joiner_pairs = map (λ o. o.journal.pairs.items) disks.outputs_a.items ++ map (λ o. o.journal.pairs.items) disks.outputs_b.items;
+          joiner_epochs = map (λ e. e.journal.value.epoch) disks.epochs_a.items ++ map (λ e. e.journal.value.epoch) disks.epochs_b.items;
+          joiner_pairs = map (λ o. o.journal.value.pairs.items) disks.outputs_a.items ++ map (λ o. o.journal.value.pairs.items) disks.outputs_b.items;
         })) in ((s : ℕ) → s < 2 → AreKeptPlaces g (opened.dispatchers s)) → (d : Disks) → SameRecords g opened d → KeepsItsRecord S.Disk.image g (lend (λ t. t.journal.disk) disks.topology) → IfSome ran.new.log (λ l. HasRun g d l.air.history (S.image store.new)) }
     ensures rest { IsTrue S.Disk.tells → IsTrue F.Log.tells → (g : Setting) → IsNew g config.now.joiners config.now.horizon config.now.table config.now.batch → Each (λ l. IsLogOf (F.Log.bytes l) g) logs.clicks.items → Each (λ l. IsQueryLog (F.Log.bytes l) g.queries) logs.queries_a.items → Each (λ l. IsQueryLog (F.Log.bytes l) g.queries) logs.queries_b.items
         → let opened = (disks_over (record {
-          offsets = map (λ o. o.journal.offset) disks.offsets.items;
-          pendings = map (λ r. r.journal.pending.keys) disks.retries.items;
-          epochs = map (λ e. e.journal.epoch) disks.servers.items;
+          offsets = map (λ o. o.journal.value.offset) disks.offsets.items;
+          pendings = map (λ r. r.journal.value.pending.keys) disks.retries.items;
+          epochs = map (λ e. e.journal.value.epoch) disks.servers.items;
           notes = map (λ v. v.journal.notes.items) disks.replicas.items;
-          joiner_epochs = map (λ e. e.journal.epoch) disks.epochs_a.items ++ map (λ e. e.journal.epoch) disks.epochs_b.items;
-          joiner_pairs = map (λ o. o.journal.pairs.items) disks.outputs_a.items ++ map (λ o. o.journal.pairs.items) disks.outputs_b.items;
+          joiner_epochs = map (λ e. e.journal.value.epoch) disks.epochs_a.items ++ map (λ e. e.journal.value.epoch) disks.epochs_b.items;
+          joiner_pairs = map (λ o. o.journal.value.pairs.items) disks.outputs_a.items ++ map (λ o. o.journal.value.pairs.items) disks.outputs_b.items;
         })) in ((s : ℕ) → s < 2 → AreKeptPlaces g (opened.dispatchers s)) → (d : Disks) → SameRecords g opened d → KeepsItsRecord S.Disk.image g (lend (λ t. t.journal.disk) disks.topology) → IfOk result (λ outcome. IsSomeAnd ran.new.log (λ l. HasRested g d l.air.history (S.image store.new) (Rose (S.faults store.old) (S.faults store.new)) outcome.journals)) }
     ensures lists { IfSome ran.new.log (λ l. All (IsIn l.air.history) l.seen.items) }
     ensures aired { IfSome ran.new.log (λ l. IsAired plan l.air.kinds l.air.history) }
@@ -302,12 +302,12 @@ where
     ensures welcome { IfErr result IsWelcome }
     ensures whole { IsTrue S.Disk.tells → IsTrue F.Log.tells → (g : Setting) → IsNew g config.now.joiners config.now.horizon config.now.table config.now.batch → Each (λ l. IsLogOf (F.Log.bytes l) g) logs.clicks.items → Each (λ l. IsQueryLog (F.Log.bytes l) g.queries) logs.queries_a.items → Each (λ l. IsQueryLog (F.Log.bytes l) g.queries) logs.queries_b.items
         → let opened = (disks_over (record {
-          offsets = map (λ o. o.journal.offset) disks.offsets.items;
-          pendings = map (λ r. r.journal.pending.keys) disks.retries.items;
-          epochs = map (λ e. e.journal.epoch) disks.servers.items;
+          offsets = map (λ o. o.journal.value.offset) disks.offsets.items;
+          pendings = map (λ r. r.journal.value.pending.keys) disks.retries.items;
+          epochs = map (λ e. e.journal.value.epoch) disks.servers.items;
           notes = map (λ v. v.journal.notes.items) disks.replicas.items;
-          joiner_epochs = map (λ e. e.journal.epoch) disks.epochs_a.items ++ map (λ e. e.journal.epoch) disks.epochs_b.items;
-          joiner_pairs = map (λ o. o.journal.pairs.items) disks.outputs_a.items ++ map (λ o. o.journal.pairs.items) disks.outputs_b.items;
+          joiner_epochs = map (λ e. e.journal.value.epoch) disks.epochs_a.items ++ map (λ e. e.journal.value.epoch) disks.epochs_b.items;
+          joiner_pairs = map (λ o. o.journal.value.pairs.items) disks.outputs_a.items ++ map (λ o. o.journal.value.pairs.items) disks.outputs_b.items;
         })) in ((s : ℕ) → s < 2 → AreKeptPlaces g (opened.dispatchers s)) → KeepsItsRecord S.Disk.image g (lend (λ t. t.journal.disk) disks.topology) → IfErr result (IsOfRun g opened (Rose (S.faults store.old) (S.faults store.new))) }
     ensures stopped { IfErr result (NamesEnded ran.new.log) }
     ensures same { IsTrue F.Log.tells → (n : List ℕ) → F.bytes files.new n ≡ F.bytes files.old n }

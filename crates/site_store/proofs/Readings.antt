@@ -12,7 +12,7 @@ use Rattle.gate_journal.specs.declared.reading.JournalFault.TheVariants as journ
 use Rattle.paxos_acceptor.specs.declared.notes.ReplicaNote.{ReplicaNote}
 use Rattle.turn_defs.specs.declared.pair.PairRec.{PairRec}
 use Rattle.replica_node.specs.Votes.{IsBadVote}
-use Rattle.output_log.specs.Pairs.{FailsAt, Keeps as KeepsPairs, IsDamagedAt as IsOutputDamaged}
+use Rattle.output_log.specs.Pairs.{Keeps as KeepsPairs}
 use Rattle.site_store.specs.Opening.{IsRefusedBy}
 use Rattle.site_store.specs.Votes.{IsVotesDamaged}
 use Rattle.site_node.specs.Replicas.{KeepsNotes}
@@ -40,13 +40,6 @@ pub refused_by_notes : (tells : Bool) (seen : List ℕ) (records : List (List �
 refused_by_notes tells seen records old new (journal.Damaged at) stands bad = λ sure. inr (records, stands sure, bad)
 refused_by_notes tells seen records old new journal.Disk stands bad = absurd bad
 refused_by_notes tells seen records old new journal.Memory stands bad = tt
-
--- records of which one is no pair's
-pub refused_by_pairs : (tells : Bool) (seen : List ℕ) (records : List (List ℕ)) (old new : ℕ) (fault : JournalFault) → (IsTrue tells → StandsFor records seen) → FailsAt records fault
-    → IsRefusedBy IsOutputDamaged tells seen old new fault
-refused_by_pairs tells seen records old new (journal.Damaged at) stands bad = λ sure. inr (records, stands sure, bad)
-refused_by_pairs tells seen records old new journal.Disk stands bad = absurd bad
-refused_by_pairs tells seen records old new journal.Memory stands bad = tt
 
 -- a disk that nothing was done to
 pub untouched : {D : Type 0} (tells : Bool) (seen : D → List ℕ) (image : D → List ℕ → Type 0) (since : D → D → List ℕ → Type 0) (faults : D → ℕ)

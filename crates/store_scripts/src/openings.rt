@@ -75,7 +75,7 @@ pub fn record(alloc: Global, store: &mut MemStore, words: &mut Words<'_>) -> Res
         Ok(disks) => disks,
         Err(fault) => return told_fault(alloc, fault),
     };
-    if disks.topology.journal.kept().is_some() {
+    if disks.topology.journal.value().kept().is_some() {
         give_back(store, disks);
         return Ok(format!(in alloc; "one is kept")?);
     }

@@ -11,12 +11,8 @@ use Rattle.time_shards.specs.declared.ShardRow.{ShardRow}
 use Rattle.time_shards.specs.Shards.{IsRow, IsTable}
 use Rattle.time_shards.specs.Text.{comma, row_text, table_text}
 use Rattle.topology_journal.specs.declared.topology.Topology.{Topology}
+use Rattle.topology_journal.specs.TopologyLaws.{long}
 use Rattle.topology_journal.specs.Topologies.{topology_of, IsTopology, row_bytes, rows_bytes, topology_record, rest_text, has_front}
-
--- each row has nine bytes
-pub long : (rows : List ShardRow) → length (rows_bytes rows) ≡ 9 * length rows
-long [] = refl
-long (r ∷ rs) = let e = long rs in omega (arith, e)
 
 -- the rows' bytes, one row more
 pub bytes_more : (rows : List ShardRow) (i : ℕ) (d : ShardRow) → i < length rows → rows_bytes (take (i + 1) rows) ≡ rows_bytes (take i rows) ++ row_bytes (get_or rows i d)
@@ -118,7 +114,3 @@ one_topology t u h k e =
     let joiners : t.joiners ≡ u.joiners = ap (λ l. slice_index l 2) e in
     let table : t.table ≡ u.table = same_rows t.table u.table (row_starts t.table h.table.begins.each) (row_starts u.table k.table.begins.each) (ap (drop 4) e) in
     ap (λ j. topology_of j t.table) joiners ∙ ap (λ rows. topology_of u.joiners rows) table
-
--- a topology's record is short
-pub short : (t : Topology) → IsTopology t → length (topology_record t) ≤ 40
-short t is = omega (arith, long t.table, is.table.begins.few)

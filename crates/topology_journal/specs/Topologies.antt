@@ -1,11 +1,10 @@
 -- Records of topologies.
-use Rattle.std.specs.Prelude.{◌≡◌, ◌⊎◌, ℕ, ◌+◌, ◌*◌, ◌≤◌, List, [], ◌∷◌, ◌++◌, length, slice_index, Bool, ◌&&◌, ◌==◌, nat_le, Option, None, Some, IfSome, Err, IsTrue}
+use Rattle.std.specs.Prelude.{◌≡◌, ◌⊎◌, ℕ, ◌+◌, ◌*◌, ◌≤◌, List, [], ◌∷◌, ◌++◌, length, slice_index, Bool, ◌&&◌, ◌==◌, nat_le, Option, None, Some, IfSome, Ok, Err}
 use Rattle.std.specs.List.{flat_map}
 use Rattle.std.specs.Int.{to_be_bytes, w64}
-use Rattle.outside.specs.Faults.{Rose}
-use Rattle.gate_journal.specs.Gate.{gate_rule, StandsFor, spans}
-use Rattle.gate_journal.specs.declared.reading.JournalFault.{JournalFault}
-use Rattle.gate_journal.specs.declared.reading.JournalFault.TheVariants.{Damaged, Disk, Memory}
+use Rattle.gate_journal.specs.Gate.{gate_rule, spans}
+use Rattle.gate_journal.specs.Records.{Read}
+use Rattle.gate_journal.specs.Records as of
 use Rattle.time_shards.specs.declared.ShardRow.{ShardRow}
 use Rattle.time_shards.specs.Shards.{IsTable}
 use Rattle.time_shards.specs.Text.{comma, row_text}
@@ -60,17 +59,21 @@ abbrev pub kept_records : Option Topology → List (List ℕ)
 kept_records None = []
 kept_records (Some t) = topology_record t ∷ []
 
+-- what is read is those of this topology, or none
+abbrev pub is_kept_in : Option Topology → Read → Type 0
+is_kept_in kept read = IfSome kept IsTopology × (read ≡ Ok (kept_records kept))
+
 -- the bytes keep this topology, or none
 abbrev pub Keeps : Option Topology → List ℕ → Type 0
-Keeps kept bytes = IfSome kept IsTopology × StandsFor (kept_records kept) bytes
+Keeps = of.Keeps is_kept_in
 
 -- none, or the new one
 abbrev pub KeepsOr : Topology → List ℕ → Type 0
-KeepsOr new bytes = Keeps None bytes ⊎ Keeps (Some new) bytes
+KeepsOr new = of.KeepsOr is_kept_in None (Some new)
 
--- one of the images keeps it
-abbrev pub IsLeft : (List ℕ → Type 0) → Option Topology → Type 0
-IsLeft image kept = (c : List ℕ) × image c × Keeps kept c
+-- a topology may come where none is kept
+abbrev pub MayCome : Option Topology → Topology → Type 0
+MayCome kept t = (kept ≡ None) × IsTopology t
 
 -- The first record that can't be kept has its length at this place: the first one, which is no topology's, or the second
 -- one, whatever it is. The first record's length stands at place 1.
@@ -83,24 +86,9 @@ pub record IsOtherAt (records : List (List ℕ)) (at : ℕ) : Type 0 where
   pub parts : records ≡ kept_records kept ++ other ∷ rest
   pub place : at ≡ 1 + spans (kept_records kept)
 
--- a file is damaged at a place by its gates, or else at that of the first record that can't be kept
+-- it is damaged at a place by its gates, or else at that of the first record that can't be kept
+abbrev pub is_damaged_at : Read → ℕ → Type 0
+is_damaged_at read at = (read ≡ Err at) ⊎ ((records : List (List ℕ)) × (read ≡ Ok records) × IsOtherAt records at)
+
 abbrev pub IsDamagedAt : List ℕ → ℕ → Type 0
-IsDamagedAt bytes at = (gate_rule bytes ≡ Err at) ⊎ ((records : List (List ℕ)) × StandsFor records bytes × IsOtherAt records at)
-
--- A fault of the disk raised its count. Want of memory is free.
-abbrev pub IsRefused : Bool → List ℕ → ℕ → ℕ → JournalFault → Type 0
-IsRefused tells seen old new (Damaged at) = IsTrue tells → IsDamagedAt seen at
-IsRefused tells seen old new Disk = Rose old new
-IsRefused tells seen old new Memory = Unit {0}
-
--- the same where the disk was reopened: it was damaged in one of its images
-abbrev pub IsRefusedAgain : Bool → (List ℕ → Type 0) → ℕ → ℕ → JournalFault → Type 0
-IsRefusedAgain tells image old new (Damaged at) = IsTrue tells → (c : List ℕ) × image c × IsDamagedAt c at
-IsRefusedAgain tells image old new Disk = Rose old new
-IsRefusedAgain tells image old new Memory = Unit {0}
-
--- records that aren't none or one topology's are refused at the first other one, but for want of memory
-abbrev pub FailsAt : List (List ℕ) → JournalFault → Type 0
-FailsAt records (Damaged at) = IsOtherAt records at
-FailsAt records Disk = ⊥
-FailsAt records Memory = Unit {0}
+IsDamagedAt bytes at = is_damaged_at (gate_rule bytes) at

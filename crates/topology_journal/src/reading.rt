@@ -1,14 +1,11 @@
 // Reading records of topologies.
-ghost use Rattle.std.specs.Prelude.{◌≡◌, ◌≤◌, ◌^◌, IfOk, IfErr, IfSome, IfNone};
-ghost use Rattle.gate_journal.specs.Gate.{spans};
-ghost use Rattle.topology_journal.specs.Topologies.{IsTopology, topology_record, has_front, IsOther, kept_records, FailsAt};
+ghost use Rattle.std.specs.Prelude.{◌≡◌, IfOk, IfSome, IfNone};
+ghost use Rattle.topology_journal.specs.Topologies.{IsTopology, topology_record, has_front, IsOther};
 
 use crate::Topology;
 use crate::tables::{read_rows, table_of};
 use crate::topology::{MAX_JOINERS, TAG, VERSION};
-use gate_journal::JournalFault;
 use std::alloc::{AllocError, Global};
-use wire_core::Bytes;
 
 /// The topology of a record, or None where it is no topology's.
 pub fn read_topology(alloc: Global, payload: &[u8]) -> Result<Option<Topology>, AllocError>
@@ -38,26 +35,4 @@ fn is_front(payload: &[u8]) -> bool
         && payload[2] >= 1
         && payload[2] <= MAX_JOINERS
         && payload.len() == 4 + 9 * payload[3] as usize
-}
-
-/// The topology of the records, if there is one, or the place of the first record that can't be kept.
-pub fn read_topologies(alloc: Global, records: &[Bytes]) -> Result<Option<Topology>, JournalFault>
-    requires { spans records.now ≤ 2 ^ 63 }
-    ensures kept { IfOk result (λ kept. IfSome kept IsTopology × (records.now ≡ kept_records kept)) }
-    ensures err { IfErr result (FailsAt records.now) }
-{
-    let Some((first, rest)) = records.split_first() else {
-        return Ok(None);
-    };
-    match read_topology(alloc, first.as_slice())? {
-        None => Err(JournalFault::Damaged { at: 1 }),
-        Some(topology) => {
-            if rest.is_empty() {
-                return Ok(Some(topology));
-            }
-            Err(JournalFault::Damaged {
-                at: 6 + first.as_slice().len() as u64,
-            })
-        }
-    }
 }

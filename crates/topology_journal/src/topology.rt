@@ -2,7 +2,7 @@
 ghost use Rattle.std.specs.Prelude.{◌≡◌, ◌++◌, IfOk, OnOk};
 ghost use Rattle.topology_journal.specs.Topologies.{IsTopology, row_bytes, rows_bytes, topology_record};
 
-use gate_journal::Frame;
+use gate_journal::Payload;
 use std::alloc::{AllocError, Global};
 use time_shards::{ShardRow, Table};
 use wire_core::Bytes;
@@ -27,8 +27,8 @@ pub struct Topology {
 }
 
 /// The record of a topology as it is written to its journal: the bytes 01 and 01, the joiners, the number of rows, and of
-/// each row its start as eight bytes, the high one first, and its count. Two allocations.
-pub fn topology_frame(alloc: Global, topology: &Topology) -> Result<Frame, AllocError>
+/// each row its start as eight bytes, the high one first, and its count. One allocation.
+pub fn topology_frame(alloc: Global, topology: &Topology) -> Result<Payload, AllocError>
     requires { IsTopology topology.now }
     ensures { IfOk result (λ frame. frame ≡ topology_record topology.now) }
 {
@@ -39,7 +39,7 @@ pub fn topology_frame(alloc: Global, topology: &Topology) -> Result<Frame, Alloc
     bytes.put_u8(topology.joiners)?;
     bytes.put_u8(rows.len() as u8)?;
     put_rows(&mut bytes, rows)?;
-    Frame::new(alloc, bytes.as_slice())
+    Ok(bytes)
 }
 
 // Puts the bytes of rows behind the others.

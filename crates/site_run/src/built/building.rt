@@ -65,12 +65,12 @@ pub fn build<D: Disk, L: LogFile>(
     ensures places { IsTrue D.tells → (g : Setting) → IsNew g config.now.joiners config.now.horizon config.now.table config.now.batch
         → Each (λ l. IsLogOf (L.bytes l) g) logs.clicks.items → Each (λ l. IsQueryLog (L.bytes l) g.queries) logs.queries_a.items → Each (λ l. IsQueryLog (L.bytes l) g.queries) logs.queries_b.items
         → let d = disks_over (record {
-          offsets = map (λ o. o.journal.offset) disks.offsets.items;
-          pendings = map (λ r. r.journal.pending.keys) disks.retries.items;
-          epochs = map (λ e. e.journal.epoch) disks.servers.items;
+          offsets = map (λ o. o.journal.value.offset) disks.offsets.items;
+          pendings = map (λ r. r.journal.value.pending.keys) disks.retries.items;
+          epochs = map (λ e. e.journal.value.epoch) disks.servers.items;
           notes = map (λ v. v.journal.notes.items) disks.replicas.items;
-          joiner_epochs = map (λ e. e.journal.epoch) disks.epochs_a.items ++ map (λ e. e.journal.epoch) disks.epochs_b.items;
-          joiner_pairs = map (λ o. o.journal.pairs.items) disks.outputs_a.items ++ map (λ o. o.journal.pairs.items) disks.outputs_b.items;
+          joiner_epochs = map (λ e. e.journal.value.epoch) disks.epochs_a.items ++ map (λ e. e.journal.value.epoch) disks.epochs_b.items;
+          joiner_pairs = map (λ o. o.journal.value.pairs.items) disks.outputs_a.items ++ map (λ o. o.journal.value.pairs.items) disks.outputs_b.items;
         }) in ((s : ℕ) → s < 2 → AreKeptPlaces g (d.dispatchers s)) → IfOk result (λ b. AreDownOver ⟦<AnyNode<D, L> as SystemNode>⟧.places g d b.nodes.items) }
     // Under the names of their places they have the disks that were opened.
     ensures held { IfOk result (λ b. IsPermutation (((((((lend_all (λ o. o.journal.disk) disks.offsets.items

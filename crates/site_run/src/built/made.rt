@@ -169,7 +169,7 @@ impl<D: Disk, L: LogFile> Made<D, L> {
         ensures up { AllAt (IsUpAt ⟦<AnyNode<D, L> as SiteNode>⟧.number ⟦<AnyNode<D, L> as SiteNode>⟧.waits) self.old.nodes.items
             → AllAt (IsUpAt ⟦<AnyNode<D, L> as SiteNode>⟧.number ⟦<AnyNode<D, L> as SiteNode>⟧.waits) self.new.nodes.items }
         ensures places { IsTrue D.tells → (g : Setting) (d : Disks) → IsOf self.old.roster g → g.replicas ≡ 3 → IsLogOf (L.bytes log) g
-            → AreKeptPlaces g (kept_as offset.journal.offset retry.journal.pending.keys) → d.dispatchers site ≡ kept_as offset.journal.offset retry.journal.pending.keys
+            → AreKeptPlaces g (kept_as offset.journal.value.offset retry.journal.value.pending.keys) → d.dispatchers site ≡ kept_as offset.journal.value.offset retry.journal.value.pending.keys
             → AllAt (IsDownAt ⟦<AnyNode<D, L> as SystemNode>⟧.places g d) self.old.nodes.items
             → AllAt (IsDownAt ⟦<AnyNode<D, L> as SystemNode>⟧.places g d) self.new.nodes.items }
         ensures disks { IsPermutation
@@ -207,7 +207,7 @@ impl<D: Disk, L: LogFile> Made<D, L> {
         ensures whole { OnOk result (length self.now.nodes.items ≡ self.now.next) }
         ensures up { IfOk result (IsUpAt ⟦<AnyNode<D, L> as SiteNode>⟧.number ⟦<AnyNode<D, L> as SiteNode>⟧.waits (2 + site)) }
         ensures places { IsTrue D.tells → (g : Setting) → IsOf self.now.roster g → IsNew g self.now.roster.joiners config.now.horizon config.now.table config.now.batch
-            → IfOk result (λ n. ⟦<AnyNode<D, L> as SystemNode>⟧.places n (any_of (node.Server site) (down_with g (record { epoch = journal.epoch })))) }
+            → IfOk result (λ n. ⟦<AnyNode<D, L> as SystemNode>⟧.places n (any_of (node.Server site) (down_with g (record { epoch = journal.value.epoch })))) }
         ensures disks { (number : ℕ) → IfOk result (λ n. ⟦<AnyNode<D, L> as Parting<D, L>>⟧.disks_of self.now.roster.joiners number n ≡ of_server number journal.journal.disk) }
         ensures logs { IfOk result (λ n. ⟦<AnyNode<D, L> as Parting<D, L>>⟧.logs_of n ≡ []) }
         ensures refused { IfErr result (λ j. j ≡ journal) }
@@ -244,7 +244,7 @@ impl<D: Disk, L: LogFile> Made<D, L> {
         ensures up { AllAt (IsUpAt ⟦<AnyNode<D, L> as SiteNode>⟧.number ⟦<AnyNode<D, L> as SiteNode>⟧.waits) self.old.nodes.items
             → AllAt (IsUpAt ⟦<AnyNode<D, L> as SiteNode>⟧.number ⟦<AnyNode<D, L> as SiteNode>⟧.waits) self.new.nodes.items }
         ensures places { IsTrue D.tells → (g : Setting) (d : Disks) → IsOf self.old.roster g → IsNew g self.old.roster.joiners config.now.horizon config.now.table config.now.batch
-            → d.servers site ≡ record { epoch = epochs.journal.epoch }
+            → d.servers site ≡ record { epoch = epochs.journal.value.epoch }
             → AllAt (IsDownAt ⟦<AnyNode<D, L> as SystemNode>⟧.places g d) self.old.nodes.items
             → AllAt (IsDownAt ⟦<AnyNode<D, L> as SystemNode>⟧.places g d) self.new.nodes.items }
         ensures disks { IsPermutation
@@ -314,7 +314,7 @@ impl<D: Disk, L: LogFile> Made<D, L> {
         ensures whole { OnOk result (length self.now.nodes.items ≡ self.now.next) }
         ensures up { IfOk result (IsUpAt ⟦<AnyNode<D, L> as SiteNode>⟧.number ⟦<AnyNode<D, L> as SiteNode>⟧.waits (7 + site * self.now.roster.joiners + joiner)) }
         ensures places { IsTrue D.tells → (g : Setting) → IsOf self.now.roster g → IsQueryLog (L.bytes log) g.queries
-            → IfOk result (λ n. ⟦<AnyNode<D, L> as SystemNode>⟧.places n (any_of (node.Joiner (⟦<AnyNode<D, L> as SiteNode>⟧.number n)) (down_with g (record { epoch = epochs.epoch; pairs = outputs.pairs.items })))) }
+            → IfOk result (λ n. ⟦<AnyNode<D, L> as SystemNode>⟧.places n (any_of (node.Joiner (⟦<AnyNode<D, L> as SiteNode>⟧.number n)) (down_with g (record { epoch = epochs.value.epoch; pairs = outputs.value.pairs.items })))) }
         ensures disks { (number : ℕ) → IfOk result (λ n. ⟦<AnyNode<D, L> as Parting<D, L>>⟧.disks_of self.now.roster.joiners number n ≡ of_joiner self.now.roster.joiners number epochs.journal.disk outputs.journal.disk) }
         ensures logs { IfOk result (λ n. ⟦<AnyNode<D, L> as Parting<D, L>>⟧.logs_of n ≡ log ∷ []) }
         ensures refused { IfErr result (λ e. (e.0 ≡ epochs) × (e.1 ≡ outputs) × (e.2 ≡ log)) }
@@ -350,7 +350,7 @@ impl<D: Disk, L: LogFile> Made<D, L> {
         ensures up { AllAt (IsUpAt ⟦<AnyNode<D, L> as SiteNode>⟧.number ⟦<AnyNode<D, L> as SiteNode>⟧.waits) self.old.nodes.items
             → AllAt (IsUpAt ⟦<AnyNode<D, L> as SiteNode>⟧.number ⟦<AnyNode<D, L> as SiteNode>⟧.waits) self.new.nodes.items }
         ensures places { IsTrue D.tells → (g : Setting) (d : Disks) → IsOf self.old.roster g → IsQueryLog (L.bytes log) g.queries
-            → d.joiners self.old.next ≡ record { epoch = epochs.journal.epoch; pairs = outputs.journal.pairs.items }
+            → d.joiners self.old.next ≡ record { epoch = epochs.journal.value.epoch; pairs = outputs.journal.value.pairs.items }
             → AllAt (IsDownAt ⟦<AnyNode<D, L> as SystemNode>⟧.places g d) self.old.nodes.items
             → AllAt (IsDownAt ⟦<AnyNode<D, L> as SystemNode>⟧.places g d) self.new.nodes.items }
         ensures disks { IsPermutation
@@ -406,7 +406,7 @@ impl<D: Disk, L: LogFile> Made<D, L> {
         ensures next { self.new.next + joiner ≡ self.old.next + self.old.roster.joiners }
         ensures up { AllAt (IsUpAt ⟦<AnyNode<D, L> as SiteNode>⟧.number ⟦<AnyNode<D, L> as SiteNode>⟧.waits) self.old.nodes.items → AllAt (IsUpAt ⟦<AnyNode<D, L> as SiteNode>⟧.number ⟦<AnyNode<D, L> as SiteNode>⟧.waits) self.new.nodes.items }
         ensures places { IsTrue D.tells → (g : Setting) (d : Disks) → IsOf self.old.roster g → Each (λ l. IsQueryLog (L.bytes l) g.queries) (into_iter_items logs)
-            → AreKept d.joiners self.old.next (map (λ o. o.journal.epoch) (into_iter_items epochs)) (map (λ o. o.journal.pairs.items) (into_iter_items outputs))
+            → AreKept d.joiners self.old.next (map (λ o. o.journal.value.epoch) (into_iter_items epochs)) (map (λ o. o.journal.value.pairs.items) (into_iter_items outputs))
             → AllAt (IsDownAt ⟦<AnyNode<D, L> as SystemNode>⟧.places g d) self.old.nodes.items → AllAt (IsDownAt ⟦<AnyNode<D, L> as SystemNode>⟧.places g d) self.new.nodes.items }
         ensures disks { IsPermutation (held (⟦<AnyNode<D, L> as Parting<D, L>>⟧.disks_of self.old.roster.joiners) self.old.parts.disks.items self.old.nodes.items ++ (lend_all (λ e. e.journal.disk) (into_iter_items epochs) ++ lend_all (λ o. o.journal.disk) (into_iter_items outputs))) (held (⟦<AnyNode<D, L> as Parting<D, L>>⟧.disks_of self.new.roster.joiners) self.new.parts.disks.items self.new.nodes.items) }
         ensures logs { IsPermutation (held_logs ⟦<AnyNode<D, L> as Parting<D, L>>⟧.logs_of self.old.parts.logs.items self.old.nodes.items ++ into_iter_items logs) (held_logs ⟦<AnyNode<D, L> as Parting<D, L>>⟧.logs_of self.new.parts.logs.items self.new.nodes.items) }
@@ -447,7 +447,7 @@ impl<D: Disk, L: LogFile> Made<D, L> {
         ensures next { self.new.next ≡ self.old.next + self.old.roster.joiners }
         ensures up { AllAt (IsUpAt ⟦<AnyNode<D, L> as SiteNode>⟧.number ⟦<AnyNode<D, L> as SiteNode>⟧.waits) self.old.nodes.items → AllAt (IsUpAt ⟦<AnyNode<D, L> as SiteNode>⟧.number ⟦<AnyNode<D, L> as SiteNode>⟧.waits) self.new.nodes.items }
         ensures places { IsTrue D.tells → (g : Setting) (d : Disks) → IsOf self.old.roster g → Each (λ l. IsQueryLog (L.bytes l) g.queries) logs.items
-            → AreKept d.joiners self.old.next (map (λ o. o.journal.epoch) epochs.items) (map (λ o. o.journal.pairs.items) outputs.items)
+            → AreKept d.joiners self.old.next (map (λ o. o.journal.value.epoch) epochs.items) (map (λ o. o.journal.value.pairs.items) outputs.items)
             → AllAt (IsDownAt ⟦<AnyNode<D, L> as SystemNode>⟧.places g d) self.old.nodes.items → AllAt (IsDownAt ⟦<AnyNode<D, L> as SystemNode>⟧.places g d) self.new.nodes.items }
         ensures disks { IsPermutation (held (⟦<AnyNode<D, L> as Parting<D, L>>⟧.disks_of self.old.roster.joiners) self.old.parts.disks.items self.old.nodes.items ++ (lend_all (λ e. e.journal.disk) epochs.items ++ lend_all (λ o. o.journal.disk) outputs.items)) (held (⟦<AnyNode<D, L> as Parting<D, L>>⟧.disks_of self.new.roster.joiners) self.new.parts.disks.items self.new.nodes.items) }
         ensures logs { IsPermutation (held_logs ⟦<AnyNode<D, L> as Parting<D, L>>⟧.logs_of self.old.parts.logs.items self.old.nodes.items ++ logs.items) (held_logs ⟦<AnyNode<D, L> as Parting<D, L>>⟧.logs_of self.new.parts.logs.items self.new.nodes.items) }
@@ -478,7 +478,7 @@ impl<D: Disk, L: LogFile> Made<D, L> {
         ensures up { AllAt (IsUpAt ⟦<AnyNode<D, L> as SiteNode>⟧.number ⟦<AnyNode<D, L> as SiteNode>⟧.waits) self.old.nodes.items → AllAt (IsUpAt ⟦<AnyNode<D, L> as SiteNode>⟧.number ⟦<AnyNode<D, L> as SiteNode>⟧.waits) self.new.nodes.items }
         ensures places { IsTrue D.tells → (g : Setting) (d : Disks) → IsOf self.old.roster g → g.replicas ≡ 3 → Each (λ l. IsLogOf (L.bytes l) g) clicks.items
             → ((s : ℕ) → s < 2 → AreKeptPlaces g (d.dispatchers s))
-            → ((s : ℕ) → d.dispatchers s ≡ kept_as (slice_index_or (map (λ o. o.journal.offset) offsets.items) s 0) (slice_index_or (map (λ r. r.journal.pending.keys) retries.items) s []))
+            → ((s : ℕ) → d.dispatchers s ≡ kept_as (slice_index_or (map (λ o. o.journal.value.offset) offsets.items) s 0) (slice_index_or (map (λ r. r.journal.value.pending.keys) retries.items) s []))
             → AllAt (IsDownAt ⟦<AnyNode<D, L> as SystemNode>⟧.places g d) self.old.nodes.items → AllAt (IsDownAt ⟦<AnyNode<D, L> as SystemNode>⟧.places g d) self.new.nodes.items }
         ensures disks { IsPermutation (held (⟦<AnyNode<D, L> as Parting<D, L>>⟧.disks_of self.old.roster.joiners) self.old.parts.disks.items self.old.nodes.items ++ (lend_all (λ o. o.journal.disk) offsets.items ++ lend_all (λ r. r.journal.disk) retries.items)) (held (⟦<AnyNode<D, L> as Parting<D, L>>⟧.disks_of self.new.roster.joiners) self.new.parts.disks.items self.new.nodes.items) }
         ensures logs { IsPermutation (held_logs ⟦<AnyNode<D, L> as Parting<D, L>>⟧.logs_of self.old.parts.logs.items self.old.nodes.items ++ clicks.items) (held_logs ⟦<AnyNode<D, L> as Parting<D, L>>⟧.logs_of self.new.parts.logs.items self.new.nodes.items) }
@@ -500,7 +500,7 @@ impl<D: Disk, L: LogFile> Made<D, L> {
         ensures next { self.new.next ≡ 4 }
         ensures up { AllAt (IsUpAt ⟦<AnyNode<D, L> as SiteNode>⟧.number ⟦<AnyNode<D, L> as SiteNode>⟧.waits) self.old.nodes.items → AllAt (IsUpAt ⟦<AnyNode<D, L> as SiteNode>⟧.number ⟦<AnyNode<D, L> as SiteNode>⟧.waits) self.new.nodes.items }
         ensures places { IsTrue D.tells → (g : Setting) (d : Disks) → IsOf self.old.roster g → IsNew g self.old.roster.joiners config.now.horizon config.now.table config.now.batch
-            → ((s : ℕ) → d.servers s ≡ record { epoch = slice_index_or (map (λ o. o.journal.epoch) servers.items) s 0 })
+            → ((s : ℕ) → d.servers s ≡ record { epoch = slice_index_or (map (λ o. o.journal.value.epoch) servers.items) s 0 })
             → AllAt (IsDownAt ⟦<AnyNode<D, L> as SystemNode>⟧.places g d) self.old.nodes.items → AllAt (IsDownAt ⟦<AnyNode<D, L> as SystemNode>⟧.places g d) self.new.nodes.items }
         ensures disks { IsPermutation (held (⟦<AnyNode<D, L> as Parting<D, L>>⟧.disks_of self.old.roster.joiners) self.old.parts.disks.items self.old.nodes.items ++ lend_all (λ e. e.journal.disk) servers.items) (held (⟦<AnyNode<D, L> as Parting<D, L>>⟧.disks_of self.new.roster.joiners) self.new.parts.disks.items self.new.nodes.items) }
         ensures logs { IsPermutation (held_logs ⟦<AnyNode<D, L> as Parting<D, L>>⟧.logs_of self.old.parts.logs.items self.old.nodes.items) (held_logs ⟦<AnyNode<D, L> as Parting<D, L>>⟧.logs_of self.new.parts.logs.items self.new.nodes.items) }

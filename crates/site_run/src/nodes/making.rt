@@ -44,8 +44,8 @@ pub fn dispatcher<D: Disk, L: LogFile>(
     requires ready { (offset.journal.state ≡ Ready) × (retry.journal.state ≡ Ready) }
     ensures number { ⟦<AnyNode<D, L> as SiteNode>⟧.number result ≡ site }
     ensures up { ⟦<AnyNode<D, L> as SiteNode>⟧.waits result ≡ false }
-    ensures places { (g : Setting) → IsOf roster g → g.replicas ≡ 3 → IsLogOf (L.bytes log) g → AreKeptPlaces g (kept_as offset.offset retry.pending.keys)
-        → ⟦<AnyNode<D, L> as SystemNode>⟧.places result (any_of (node.Dispatcher site) (down_with g (kept_as offset.offset retry.pending.keys))) }
+    ensures places { (g : Setting) → IsOf roster g → g.replicas ≡ 3 → IsLogOf (L.bytes log) g → AreKeptPlaces g (kept_as offset.value.offset retry.value.pending.keys)
+        → ⟦<AnyNode<D, L> as SystemNode>⟧.places result (any_of (node.Dispatcher site) (down_with g (kept_as offset.value.offset retry.value.pending.keys))) }
 {
     let made = DispatchNode::new(alloc, site, roster, offset, retry, log);
     AnyNode {
@@ -69,7 +69,7 @@ pub fn server<D: Disk, L: LogFile>(
     ensures number { IfOk result (λ n. ⟦<AnyNode<D, L> as SiteNode>⟧.number n ≡ 2 + site) }
     ensures up { IfOk result (λ n. ⟦<AnyNode<D, L> as SiteNode>⟧.waits n ≡ false) }
     ensures places { IsTrue D.tells → (g : Setting) → IsOf roster g → IsNew g roster.joiners horizon table batch
-        → IfOk result (λ n. ⟦<AnyNode<D, L> as SystemNode>⟧.places n (any_of (node.Server site) (down_with g (record { epoch = journal.epoch })))) }
+        → IfOk result (λ n. ⟦<AnyNode<D, L> as SystemNode>⟧.places n (any_of (node.Server site) (down_with g (record { epoch = journal.value.epoch })))) }
     ensures refused { IfErr result (λ j. j ≡ journal) }
 {
     match ServerNode::new(alloc, site, roster, horizon, table, batch, journal) {
@@ -118,7 +118,7 @@ pub fn joiner<D: Disk, L: LogFile>(
     ensures up { IfOk result (λ n. ⟦<AnyNode<D, L> as SiteNode>⟧.waits n ≡ false) }
     ensures places { IsTrue D.tells → (g : Setting) → IsOf roster g → IsQueryLog (L.bytes log) g.queries
         → IfOk result (λ n. ⟦<AnyNode<D, L> as SystemNode>⟧.places n
-        (any_of (node.Joiner (⟦<AnyNode<D, L> as SiteNode>⟧.number n)) (down_with g (record { epoch = epochs.epoch; pairs = pairs.pairs.items })))) }
+        (any_of (node.Joiner (⟦<AnyNode<D, L> as SiteNode>⟧.number n)) (down_with g (record { epoch = epochs.value.epoch; pairs = pairs.value.pairs.items })))) }
     ensures back { IfErr result (λ e. (e.1 ≡ epochs) × (e.2 ≡ pairs) × (e.3 ≡ log)) }
 {
     match JoinerNode::new(alloc, site, joiner, roster, epochs, pairs, log) {

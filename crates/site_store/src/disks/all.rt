@@ -49,10 +49,10 @@ pub struct SiteDisks<D: Disk> {
 // How many joiners a site has: the kept number, or the asked one where none is kept.
 fn joiners_of<D: Disk>(topology: &TopologyJournal<D>, asked: u8) -> u8
     requires { asked ≤ 4 }
-    ensures number { result ≡ joiners_kept topology.now.kept asked }
+    ensures number { result ≡ joiners_kept topology.now.value.kept asked }
     ensures few { result ≤ 4 }
 {
-    match topology.kept() {
+    match topology.value().kept() {
         Some(kept) => kept.joiners,
         None => asked,
     }
@@ -76,21 +76,21 @@ fn open_rest<S: Store>(
     requires no_outputs_b { disks.old.outputs_b.items ≡ [] }
     ensures topology { disks.new.topology ≡ disks.old.topology }
     ensures offsets { (s : S) → (IsTrue S.Disk.tells → Stage S.Disk.image (S.image s) (S.image store.old) 1 (lend (λ t. t.journal.disk) disks.old.topology ∷ []))
-        → OnOk result (AreOpened S.Disk.tells (S.image s) (λ o. o.journal.state ≡ Ready) (λ o. KeepsOffset o.offset) offset_names disks.new.offsets.items) }
+        → OnOk result (AreOpened S.Disk.tells (S.image s) (λ o. o.journal.state ≡ Ready) (λ o. KeepsOffset o.value.offset) offset_names disks.new.offsets.items) }
     ensures retries { (s : S) → (IsTrue S.Disk.tells → Stage S.Disk.image (S.image s) (S.image store.old) 1 (lend (λ t. t.journal.disk) disks.old.topology ∷ []))
-        → OnOk result (AreOpened S.Disk.tells (S.image s) (λ r. r.journal.state ≡ Ready) (λ r. KeepsPending r.pending.keys) retry_names disks.new.retries.items) }
+        → OnOk result (AreOpened S.Disk.tells (S.image s) (λ r. r.journal.state ≡ Ready) (λ r. KeepsPending r.value.pending.keys) retry_names disks.new.retries.items) }
     ensures servers { (s : S) → (IsTrue S.Disk.tells → Stage S.Disk.image (S.image s) (S.image store.old) 1 (lend (λ t. t.journal.disk) disks.old.topology ∷ []))
-        → OnOk result (AreOpened S.Disk.tells (S.image s) (λ e. e.journal.state ≡ Ready) (λ e. KeepsEpoch e.epoch) server_names disks.new.servers.items) }
+        → OnOk result (AreOpened S.Disk.tells (S.image s) (λ e. e.journal.state ≡ Ready) (λ e. KeepsEpoch e.value.epoch) server_names disks.new.servers.items) }
     ensures replicas { (s : S) → (IsTrue S.Disk.tells → Stage S.Disk.image (S.image s) (S.image store.old) 1 (lend (λ t. t.journal.disk) disks.old.topology ∷ []))
         → OnOk result (AreOpened S.Disk.tells (S.image s) (λ v. IsReadyVotes S.Disk.tells (S.Disk.seen v.journal.disk) v.journal.state v.notes.items) (λ v. KeepsNotes v.notes.items) replica_names disks.new.replicas.items) }
     ensures epochs_a { (s : S) → (IsTrue S.Disk.tells → Stage S.Disk.image (S.image s) (S.image store.old) 1 (lend (λ t. t.journal.disk) disks.old.topology ∷ []))
-        → OnOk result (AreOpened S.Disk.tells (S.image s) (λ e. e.journal.state ≡ Ready) (λ e. KeepsEpoch e.epoch) (take joiners epoch_names_a) disks.new.epochs_a.items) }
+        → OnOk result (AreOpened S.Disk.tells (S.image s) (λ e. e.journal.state ≡ Ready) (λ e. KeepsEpoch e.value.epoch) (take joiners epoch_names_a) disks.new.epochs_a.items) }
     ensures epochs_b { (s : S) → (IsTrue S.Disk.tells → Stage S.Disk.image (S.image s) (S.image store.old) 1 (lend (λ t. t.journal.disk) disks.old.topology ∷ []))
-        → OnOk result (AreOpened S.Disk.tells (S.image s) (λ e. e.journal.state ≡ Ready) (λ e. KeepsEpoch e.epoch) (take joiners epoch_names_b) disks.new.epochs_b.items) }
+        → OnOk result (AreOpened S.Disk.tells (S.image s) (λ e. e.journal.state ≡ Ready) (λ e. KeepsEpoch e.value.epoch) (take joiners epoch_names_b) disks.new.epochs_b.items) }
     ensures outputs_a { (s : S) → (IsTrue S.Disk.tells → Stage S.Disk.image (S.image s) (S.image store.old) 1 (lend (λ t. t.journal.disk) disks.old.topology ∷ []))
-        → OnOk result (AreOpened S.Disk.tells (S.image s) (λ o. o.journal.state ≡ Ready) (λ o. KeepsPairs o.pairs.items) (take joiners output_names_a) disks.new.outputs_a.items) }
+        → OnOk result (AreOpened S.Disk.tells (S.image s) (λ o. o.journal.state ≡ Ready) (λ o. KeepsPairs o.value.pairs.items) (take joiners output_names_a) disks.new.outputs_a.items) }
     ensures outputs_b { (s : S) → (IsTrue S.Disk.tells → Stage S.Disk.image (S.image s) (S.image store.old) 1 (lend (λ t. t.journal.disk) disks.old.topology ∷ []))
-        → OnOk result (AreOpened S.Disk.tells (S.image s) (λ o. o.journal.state ≡ Ready) (λ o. KeepsPairs o.pairs.items) (take joiners output_names_b) disks.new.outputs_b.items) }
+        → OnOk result (AreOpened S.Disk.tells (S.image s) (λ o. o.journal.state ≡ Ready) (λ o. KeepsPairs o.value.pairs.items) (take joiners output_names_b) disks.new.outputs_b.items) }
     ensures lent { IsTrue S.Disk.tells → (s : S) → Stage S.Disk.image (S.image s) (S.image store.old) 1 (lend (λ t. t.journal.disk) disks.old.topology ∷ [])
         → OnOk result (IsLent S.Disk.image (S.image s) (S.image store.new) (joined (lend (λ t. t.journal.disk) disks.new.topology)
         (lend_all (λ o. o.journal.disk) disks.new.offsets.items)
@@ -150,15 +150,15 @@ pub fn open_disks<S: Store>(
 ) -> Result<SiteDisks<S::Disk>, DisksFault>
     requires { asked ≤ 4 }
     ensures topology { IfOk result (λ d. (d.topology.name ≡ name.Topology) × (d.topology.journal.journal.state ≡ Ready)) }
-    ensures kept { IsTrue S.Disk.tells → IfOk result (λ d. IsKeptIn (S.image store.old name.Topology) (KeepsTopology d.topology.journal.kept)) }
-    ensures offsets { IfOk result (λ d. AreOpened S.Disk.tells (S.image store.old) (λ o. o.journal.state ≡ Ready) (λ o. KeepsOffset o.offset) offset_names d.offsets.items) }
-    ensures retries { IfOk result (λ d. AreOpened S.Disk.tells (S.image store.old) (λ r. r.journal.state ≡ Ready) (λ r. KeepsPending r.pending.keys) retry_names d.retries.items) }
-    ensures servers { IfOk result (λ d. AreOpened S.Disk.tells (S.image store.old) (λ e. e.journal.state ≡ Ready) (λ e. KeepsEpoch e.epoch) server_names d.servers.items) }
+    ensures kept { IsTrue S.Disk.tells → IfOk result (λ d. IsKeptIn (S.image store.old name.Topology) (KeepsTopology d.topology.journal.value.kept)) }
+    ensures offsets { IfOk result (λ d. AreOpened S.Disk.tells (S.image store.old) (λ o. o.journal.state ≡ Ready) (λ o. KeepsOffset o.value.offset) offset_names d.offsets.items) }
+    ensures retries { IfOk result (λ d. AreOpened S.Disk.tells (S.image store.old) (λ r. r.journal.state ≡ Ready) (λ r. KeepsPending r.value.pending.keys) retry_names d.retries.items) }
+    ensures servers { IfOk result (λ d. AreOpened S.Disk.tells (S.image store.old) (λ e. e.journal.state ≡ Ready) (λ e. KeepsEpoch e.value.epoch) server_names d.servers.items) }
     ensures replicas { IfOk result (λ d. AreOpened S.Disk.tells (S.image store.old) (λ v. IsReadyVotes S.Disk.tells (S.Disk.seen v.journal.disk) v.journal.state v.notes.items) (λ v. KeepsNotes v.notes.items) replica_names d.replicas.items) }
-    ensures epochs_a { IfOk result (λ d. AreOpened S.Disk.tells (S.image store.old) (λ e. e.journal.state ≡ Ready) (λ e. KeepsEpoch e.epoch) (take (joiners_kept d.topology.journal.kept asked) epoch_names_a) d.epochs_a.items) }
-    ensures epochs_b { IfOk result (λ d. AreOpened S.Disk.tells (S.image store.old) (λ e. e.journal.state ≡ Ready) (λ e. KeepsEpoch e.epoch) (take (joiners_kept d.topology.journal.kept asked) epoch_names_b) d.epochs_b.items) }
-    ensures outputs_a { IfOk result (λ d. AreOpened S.Disk.tells (S.image store.old) (λ o. o.journal.state ≡ Ready) (λ o. KeepsPairs o.pairs.items) (take (joiners_kept d.topology.journal.kept asked) output_names_a) d.outputs_a.items) }
-    ensures outputs_b { IfOk result (λ d. AreOpened S.Disk.tells (S.image store.old) (λ o. o.journal.state ≡ Ready) (λ o. KeepsPairs o.pairs.items) (take (joiners_kept d.topology.journal.kept asked) output_names_b) d.outputs_b.items) }
+    ensures epochs_a { IfOk result (λ d. AreOpened S.Disk.tells (S.image store.old) (λ e. e.journal.state ≡ Ready) (λ e. KeepsEpoch e.value.epoch) (take (joiners_kept d.topology.journal.value.kept asked) epoch_names_a) d.epochs_a.items) }
+    ensures epochs_b { IfOk result (λ d. AreOpened S.Disk.tells (S.image store.old) (λ e. e.journal.state ≡ Ready) (λ e. KeepsEpoch e.value.epoch) (take (joiners_kept d.topology.journal.value.kept asked) epoch_names_b) d.epochs_b.items) }
+    ensures outputs_a { IfOk result (λ d. AreOpened S.Disk.tells (S.image store.old) (λ o. o.journal.state ≡ Ready) (λ o. KeepsPairs o.value.pairs.items) (take (joiners_kept d.topology.journal.value.kept asked) output_names_a) d.outputs_a.items) }
+    ensures outputs_b { IfOk result (λ d. AreOpened S.Disk.tells (S.image store.old) (λ o. o.journal.state ≡ Ready) (λ o. KeepsPairs o.value.pairs.items) (take (joiners_kept d.topology.journal.value.kept asked) output_names_b) d.outputs_b.items) }
 
     // What a stop may leave now, of the disks and in the store.
     ensures lent { IsTrue S.Disk.tells → IfOk result (λ d. IsLent S.Disk.image (S.image store.old) (S.image store.new) (joined (lend (λ t. t.journal.disk) d.topology)

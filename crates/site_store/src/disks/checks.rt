@@ -28,9 +28,9 @@ pub enum Misfit {
 
 /// Why the kept topology doesn't fit the asked one, if one is kept and doesn't.
 fn topology_misfit<D: Disk>(topology: &TopologyJournal<D>, asked: &Topology) -> Option<Misfit>
-    ensures { MatchOption result (IsFit topology.now.kept asked.now) (IsMisfit topology.now.kept asked.now) }
+    ensures { MatchOption result (IsFit topology.now.value.kept asked.now) (IsMisfit topology.now.value.kept asked.now) }
 {
-    let kept = topology.kept()?;
+    let kept = topology.value().kept()?;
     if kept.joiners != asked.joiners {
         return Some(Misfit::Joiners {
             kept: kept.joiners,
@@ -45,10 +45,10 @@ fn topology_misfit<D: Disk>(topology: &TopologyJournal<D>, asked: &Topology) -> 
 
 /// The first of these disks whose epoch is the last one.
 fn spent<D: Disk>(opened: &[Opened<EpochJournal<D>>]) -> Option<Misfit>
-    ensures { result ≡ first_spent (λ e. e.epoch) opened.now }
+    ensures { result ≡ first_spent (λ e. e.value.epoch) opened.now }
 {
     for one in opened {
-        if one.journal.epoch() == LAST {
+        if one.journal.value().epoch() == LAST {
             return Some(Misfit::Spent {
                 disk: one.name,
                 value: u64::from(LAST),
@@ -93,8 +93,8 @@ fn full<D: Disk>(opened: &[Opened<VoteJournal<D>>]) -> Option<Misfit>
 /// The first reason, if there is one, why opened disks can't be run as asked: the kept joiners, the kept table, and then the
 /// servers' epochs, the replicas' notes, and the epochs of the joiners of site A and of site B. Linear in disks and notes.
 pub fn first_misfit<D: Disk>(disks: &SiteDisks<D>, asked: &Topology) -> Option<Misfit>
-    ensures { IsFirstMisfit disks.now.topology.journal.kept asked.now
-        (first_spent (λ e. e.epoch) disks.now.servers.items ∷ first_full (λ v. v.notes.items) disks.now.replicas.items ∷ first_spent (λ e. e.epoch) disks.now.epochs_a.items ∷ first_spent (λ e. e.epoch) disks.now.epochs_b.items ∷ []) result }
+    ensures { IsFirstMisfit disks.now.topology.journal.value.kept asked.now
+        (first_spent (λ e. e.value.epoch) disks.now.servers.items ∷ first_full (λ v. v.notes.items) disks.now.replicas.items ∷ first_spent (λ e. e.value.epoch) disks.now.epochs_a.items ∷ first_spent (λ e. e.value.epoch) disks.now.epochs_b.items ∷ []) result }
 {
     if let Some(misfit) = topology_misfit(&disks.topology.journal, asked) {
         return Some(misfit);

@@ -33,13 +33,13 @@ pub(crate) fn open_joiners<S: Store>(
     requires no_outputs_a { outputs_a.old.items ≡ [] }
     requires no_outputs_b { outputs_b.old.items ≡ [] }
     ensures epochs_a { (s : S) (lent : List (Lent S.Disk)) → (IsTrue S.Disk.tells → Stage S.Disk.image (S.image s) (S.image store.old) 5 lent)
-        → OnOk result (AreOpened S.Disk.tells (S.image s) (λ e. e.journal.state ≡ Ready) (λ e. KeepsEpoch e.epoch) (take joiners epoch_names_a) epochs_a.new.items) }
+        → OnOk result (AreOpened S.Disk.tells (S.image s) (λ e. e.journal.state ≡ Ready) (λ e. KeepsEpoch e.value.epoch) (take joiners epoch_names_a) epochs_a.new.items) }
     ensures epochs_b { (s : S) (lent : List (Lent S.Disk)) → (IsTrue S.Disk.tells → Stage S.Disk.image (S.image s) (S.image store.old) 5 lent)
-        → OnOk result (AreOpened S.Disk.tells (S.image s) (λ e. e.journal.state ≡ Ready) (λ e. KeepsEpoch e.epoch) (take joiners epoch_names_b) epochs_b.new.items) }
+        → OnOk result (AreOpened S.Disk.tells (S.image s) (λ e. e.journal.state ≡ Ready) (λ e. KeepsEpoch e.value.epoch) (take joiners epoch_names_b) epochs_b.new.items) }
     ensures outputs_a { (s : S) (lent : List (Lent S.Disk)) → (IsTrue S.Disk.tells → Stage S.Disk.image (S.image s) (S.image store.old) 5 lent)
-        → OnOk result (AreOpened S.Disk.tells (S.image s) (λ o. o.journal.state ≡ Ready) (λ o. KeepsPairs o.pairs.items) (take joiners output_names_a) outputs_a.new.items) }
+        → OnOk result (AreOpened S.Disk.tells (S.image s) (λ o. o.journal.state ≡ Ready) (λ o. KeepsPairs o.value.pairs.items) (take joiners output_names_a) outputs_a.new.items) }
     ensures outputs_b { (s : S) (lent : List (Lent S.Disk)) → (IsTrue S.Disk.tells → Stage S.Disk.image (S.image s) (S.image store.old) 5 lent)
-        → OnOk result (AreOpened S.Disk.tells (S.image s) (λ o. o.journal.state ≡ Ready) (λ o. KeepsPairs o.pairs.items) (take joiners output_names_b) outputs_b.new.items) }
+        → OnOk result (AreOpened S.Disk.tells (S.image s) (λ o. o.journal.state ≡ Ready) (λ o. KeepsPairs o.value.pairs.items) (take joiners output_names_b) outputs_b.new.items) }
     ensures lent { IsTrue S.Disk.tells → (s : S) (lent : List (Lent S.Disk)) → Stage S.Disk.image (S.image s) (S.image store.old) 5 lent
         → OnOk result (Stage S.Disk.image (S.image s) (S.image store.new) 9 ((((lent ++ lend_all (λ e. e.journal.disk) epochs_a.new.items) ++ lend_all (λ e. e.journal.disk) epochs_b.new.items) ++ lend_all (λ o. o.journal.disk) outputs_a.new.items) ++ lend_all (λ o. o.journal.disk) outputs_b.new.items)) }
     ensures cut { IsTrue S.Disk.tells → (s : S) (lent : List (Lent S.Disk)) → Stage S.Disk.image (S.image s) (S.image store.old) 5 lent

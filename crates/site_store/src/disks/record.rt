@@ -21,10 +21,10 @@ pub fn write_topology<D: Disk>(
 ) -> Result<(), DisksFault>
     requires is_topology { IsTopology asked }
     requires ready { topology.old.journal.journal.state ≡ Ready }
-    requires none { topology.old.journal.kept ≡ None }
+    requires none { topology.old.journal.value.kept ≡ None }
     ensures name { topology.new.name ≡ topology.old.name }
-    ensures kept { OnOk result (topology.new.journal.kept ≡ Some asked) }
-    ensures none { OnErr result (topology.new.journal.kept ≡ None) }
+    ensures kept { OnOk result (topology.new.journal.value.kept ≡ Some asked) }
+    ensures none { OnErr result (topology.new.journal.value.kept ≡ None) }
     ensures ready { OnOk result (topology.new.journal.journal.state ≡ Ready) }
     ensures durable { IsTrue D.tells → OnOk result (AllKeep asked (D.image topology.new.journal.journal.disk)) }
     ensures old_or_new { IsTrue D.tells → OnErr result (StaysOrKeeps (D.image topology.old.journal.journal.disk) asked (D.image topology.new.journal.journal.disk)) }
@@ -42,13 +42,13 @@ pub fn write_topology<D: Disk>(
     ensures unwritten { IfErr result (IsUnwritten topology.old.name) }
 {
     let name = topology.name;
-    let Ok(frame) = topology_frame(alloc, &asked) else {
+    let Ok(payload) = topology_frame(alloc, &asked) else {
         return Err(DisksFault::Memory);
     };
     let Ok(()) = topology.journal.make_room(alloc) else {
         return Err(DisksFault::Memory);
     };
-    match topology.journal.write(&frame, asked) {
+    match topology.journal.append(payload.as_slice(), asked) {
         Ok(()) => Ok(()),
         Err(_) => Err(DisksFault::Store(name)),
     }

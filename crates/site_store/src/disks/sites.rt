@@ -31,11 +31,11 @@ pub(crate) fn open_sites<S: Store>(
     requires no_retries { retries.old.items ≡ [] }
     requires no_servers { servers.old.items ≡ [] }
     ensures offsets { (s : S) (lent : List (Lent S.Disk)) → (IsTrue S.Disk.tells → Stage S.Disk.image (S.image s) (S.image store.old) 1 lent)
-        → OnOk result (AreOpened S.Disk.tells (S.image s) (λ o. o.journal.state ≡ Ready) (λ o. KeepsOffset o.offset) offset_names offsets.new.items) }
+        → OnOk result (AreOpened S.Disk.tells (S.image s) (λ o. o.journal.state ≡ Ready) (λ o. KeepsOffset o.value.offset) offset_names offsets.new.items) }
     ensures retries { (s : S) (lent : List (Lent S.Disk)) → (IsTrue S.Disk.tells → Stage S.Disk.image (S.image s) (S.image store.old) 1 lent)
-        → OnOk result (AreOpened S.Disk.tells (S.image s) (λ r. r.journal.state ≡ Ready) (λ r. KeepsPending r.pending.keys) retry_names retries.new.items) }
+        → OnOk result (AreOpened S.Disk.tells (S.image s) (λ r. r.journal.state ≡ Ready) (λ r. KeepsPending r.value.pending.keys) retry_names retries.new.items) }
     ensures servers { (s : S) (lent : List (Lent S.Disk)) → (IsTrue S.Disk.tells → Stage S.Disk.image (S.image s) (S.image store.old) 1 lent)
-        → OnOk result (AreOpened S.Disk.tells (S.image s) (λ e. e.journal.state ≡ Ready) (λ e. KeepsEpoch e.epoch) server_names servers.new.items) }
+        → OnOk result (AreOpened S.Disk.tells (S.image s) (λ e. e.journal.state ≡ Ready) (λ e. KeepsEpoch e.value.epoch) server_names servers.new.items) }
     ensures lent { IsTrue S.Disk.tells → (s : S) (lent : List (Lent S.Disk)) → Stage S.Disk.image (S.image s) (S.image store.old) 1 lent
         → OnOk result (Stage S.Disk.image (S.image s) (S.image store.new) 4 (((lent ++ lend_all (λ o. o.journal.disk) offsets.new.items) ++ lend_all (λ r. r.journal.disk) retries.new.items) ++ lend_all (λ e. e.journal.disk) servers.new.items)) }
     ensures cut { IsTrue S.Disk.tells → (s : S) (lent : List (Lent S.Disk)) → Stage S.Disk.image (S.image s) (S.image store.old) 1 lent

@@ -10,9 +10,9 @@ use topology_journal::{Topology, TopologyJournal};
 
 // The table of the kept topology, if one is kept, and the asked one.
 fn both_tables<D: Disk>(topology: &TopologyJournal<D>, asked: &Topology) -> Option<Refusal>
-    ensures { result ≡ told_tables topology.now.kept asked.now }
+    ensures { result ≡ told_tables topology.now.value.kept asked.now }
 {
-    let kept = topology.kept()?;
+    let kept = topology.value().kept()?;
     Some(Refusal::Table {
         kept: kept.table,
         asked: asked.table,
@@ -24,7 +24,7 @@ fn of_topology<D: Disk>(
     asked: &Topology,
     misfit: Option<Misfit>,
 ) -> Option<Refusal>
-    ensures { result ≡ topology_refusal topology.now.kept asked.now misfit }
+    ensures { result ≡ topology_refusal topology.now.value.kept asked.now misfit }
 {
     match misfit {
         Some(Misfit::Joiners { kept, asked }) => Some(Refusal::Joiners { kept, asked }),
@@ -56,26 +56,26 @@ pub(crate) fn judge<D: Disk, L: LogFile>(
     requires offsets { length disks.now.offsets.items ≡ 2 }
     requires retries { length disks.now.retries.items ≡ 2 }
     ensures passed { IfNone result (ArePassed L.tells (L.bytes clicks.old) end asked.now (record {
-      topology = disks.now.topology.journal.kept;
-      offsets = keep_all (λ o. o.offset) disks.now.offsets.items;
-      pending = keep_all (λ r. r.pending.keys) disks.now.retries.items;
-      servers = keep_all (λ e. e.epoch) disks.now.servers.items;
+      topology = disks.now.topology.journal.value.kept;
+      offsets = keep_all (λ o. o.value.offset) disks.now.offsets.items;
+      pending = keep_all (λ r. r.value.pending.keys) disks.now.retries.items;
+      servers = keep_all (λ e. e.value.epoch) disks.now.servers.items;
       notes = keep_all (λ v. v.notes.items) disks.now.replicas.items;
-      epochs_a = keep_all (λ e. e.epoch) disks.now.epochs_a.items;
-      epochs_b = keep_all (λ e. e.epoch) disks.now.epochs_b.items;
-      pairs_a = keep_all (λ o. o.pairs.items) disks.now.outputs_a.items;
-      pairs_b = keep_all (λ o. o.pairs.items) disks.now.outputs_b.items;
+      epochs_a = keep_all (λ e. e.value.epoch) disks.now.epochs_a.items;
+      epochs_b = keep_all (λ e. e.value.epoch) disks.now.epochs_b.items;
+      pairs_a = keep_all (λ o. o.value.pairs.items) disks.now.outputs_a.items;
+      pairs_b = keep_all (λ o. o.value.pairs.items) disks.now.outputs_b.items;
     })) }
     ensures cause { IfSome result (IsCause L.tells (L.bytes clicks.old) end (L.faults clicks.old) (L.faults clicks.new) asked.now (record {
-      topology = disks.now.topology.journal.kept;
-      offsets = keep_all (λ o. o.offset) disks.now.offsets.items;
-      pending = keep_all (λ r. r.pending.keys) disks.now.retries.items;
-      servers = keep_all (λ e. e.epoch) disks.now.servers.items;
+      topology = disks.now.topology.journal.value.kept;
+      offsets = keep_all (λ o. o.value.offset) disks.now.offsets.items;
+      pending = keep_all (λ r. r.value.pending.keys) disks.now.retries.items;
+      servers = keep_all (λ e. e.value.epoch) disks.now.servers.items;
       notes = keep_all (λ v. v.notes.items) disks.now.replicas.items;
-      epochs_a = keep_all (λ e. e.epoch) disks.now.epochs_a.items;
-      epochs_b = keep_all (λ e. e.epoch) disks.now.epochs_b.items;
-      pairs_a = keep_all (λ o. o.pairs.items) disks.now.outputs_a.items;
-      pairs_b = keep_all (λ o. o.pairs.items) disks.now.outputs_b.items;
+      epochs_a = keep_all (λ e. e.value.epoch) disks.now.epochs_a.items;
+      epochs_b = keep_all (λ e. e.value.epoch) disks.now.epochs_b.items;
+      pairs_a = keep_all (λ o. o.value.pairs.items) disks.now.outputs_a.items;
+      pairs_b = keep_all (λ o. o.value.pairs.items) disks.now.outputs_b.items;
     })) }
     ensures same { IsTrue L.tells → L.bytes clicks.new ≡ L.bytes clicks.old }
     ensures count { L.faults clicks.old ≤ L.faults clicks.new }
@@ -87,10 +87,10 @@ pub(crate) fn judge<D: Disk, L: LogFile>(
     match first_misplaced(
         clicks,
         end,
-        disks.offsets[0].journal.offset(),
-        disks.offsets[1].journal.offset(),
-        disks.retries[0].journal.pending().as_slice(),
-        disks.retries[1].journal.pending().as_slice(),
+        disks.offsets[0].journal.value().offset(),
+        disks.offsets[1].journal.value().offset(),
+        disks.retries[0].journal.value().pending().as_slice(),
+        disks.retries[1].journal.value().pending().as_slice(),
     ) {
         Ok(None) => of_limit(misfit),
         Ok(Some(misplaced)) => Some(Refusal::Place(misplaced)),

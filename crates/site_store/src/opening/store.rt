@@ -51,15 +51,15 @@ pub fn open_store<S: Store, L: LogFile>(
     end: u64,
 ) -> Result<SiteDisks<S::Disk>, Refusal>
     requires { IsTopology asked }
-    ensures topology { IfOk result (λ d. (d.topology.name ≡ name.Topology) × (d.topology.journal.journal.state ≡ Ready) × (d.topology.journal.kept ≡ Some asked)) }
-    ensures offsets { IfOk result (λ d. AreOpened S.Disk.tells (S.image store.old) (λ o. o.journal.state ≡ Ready) (λ o. KeepsOffset o.offset) offset_names d.offsets.items) }
-    ensures retries { IfOk result (λ d. AreOpened S.Disk.tells (S.image store.old) (λ r. r.journal.state ≡ Ready) (λ r. KeepsPending r.pending.keys) retry_names d.retries.items) }
-    ensures servers { IfOk result (λ d. AreOpened S.Disk.tells (S.image store.old) (λ e. e.journal.state ≡ Ready) (λ e. KeepsEpoch e.epoch) server_names d.servers.items) }
+    ensures topology { IfOk result (λ d. (d.topology.name ≡ name.Topology) × (d.topology.journal.journal.state ≡ Ready) × (d.topology.journal.value.kept ≡ Some asked)) }
+    ensures offsets { IfOk result (λ d. AreOpened S.Disk.tells (S.image store.old) (λ o. o.journal.state ≡ Ready) (λ o. KeepsOffset o.value.offset) offset_names d.offsets.items) }
+    ensures retries { IfOk result (λ d. AreOpened S.Disk.tells (S.image store.old) (λ r. r.journal.state ≡ Ready) (λ r. KeepsPending r.value.pending.keys) retry_names d.retries.items) }
+    ensures servers { IfOk result (λ d. AreOpened S.Disk.tells (S.image store.old) (λ e. e.journal.state ≡ Ready) (λ e. KeepsEpoch e.value.epoch) server_names d.servers.items) }
     ensures replicas { IfOk result (λ d. AreOpened S.Disk.tells (S.image store.old) (λ v. IsReadyVotes S.Disk.tells (S.Disk.seen v.journal.disk) v.journal.state v.notes.items) (λ v. KeepsNotes v.notes.items) replica_names d.replicas.items) }
-    ensures epochs_a { IfOk result (λ d. AreOpened S.Disk.tells (S.image store.old) (λ e. e.journal.state ≡ Ready) (λ e. KeepsEpoch e.epoch) (take asked.joiners epoch_names_a) d.epochs_a.items) }
-    ensures epochs_b { IfOk result (λ d. AreOpened S.Disk.tells (S.image store.old) (λ e. e.journal.state ≡ Ready) (λ e. KeepsEpoch e.epoch) (take asked.joiners epoch_names_b) d.epochs_b.items) }
-    ensures outputs_a { IfOk result (λ d. AreOpened S.Disk.tells (S.image store.old) (λ o. o.journal.state ≡ Ready) (λ o. KeepsPairs o.pairs.items) (take asked.joiners output_names_a) d.outputs_a.items) }
-    ensures outputs_b { IfOk result (λ d. AreOpened S.Disk.tells (S.image store.old) (λ o. o.journal.state ≡ Ready) (λ o. KeepsPairs o.pairs.items) (take asked.joiners output_names_b) d.outputs_b.items) }
+    ensures epochs_a { IfOk result (λ d. AreOpened S.Disk.tells (S.image store.old) (λ e. e.journal.state ≡ Ready) (λ e. KeepsEpoch e.value.epoch) (take asked.joiners epoch_names_a) d.epochs_a.items) }
+    ensures epochs_b { IfOk result (λ d. AreOpened S.Disk.tells (S.image store.old) (λ e. e.journal.state ≡ Ready) (λ e. KeepsEpoch e.value.epoch) (take asked.joiners epoch_names_b) d.epochs_b.items) }
+    ensures outputs_a { IfOk result (λ d. AreOpened S.Disk.tells (S.image store.old) (λ o. o.journal.state ≡ Ready) (λ o. KeepsPairs o.value.pairs.items) (take asked.joiners output_names_a) d.outputs_a.items) }
+    ensures outputs_b { IfOk result (λ d. AreOpened S.Disk.tells (S.image store.old) (λ o. o.journal.state ≡ Ready) (λ o. KeepsPairs o.value.pairs.items) (take asked.joiners output_names_b) d.outputs_b.items) }
     ensures lent { IsTrue S.Disk.tells → IfOk result (λ d. IsOut asked S.Disk.image (S.image store.old) (S.image store.new) (lend (λ t. t.journal.disk) d.topology) (behind
         (lend_all (λ o. o.journal.disk) d.offsets.items)
         (lend_all (λ r. r.journal.disk) d.retries.items)
@@ -73,42 +73,42 @@ pub fn open_store<S: Store, L: LogFile>(
 
     // What the disks keep fits what was asked.
     ensures passed { IfOk result (λ d. ArePassed L.tells (L.bytes clicks.old) end asked (record {
-      topology = d.topology.journal.kept;
-      offsets = keep_all (λ o. o.offset) d.offsets.items;
-      pending = keep_all (λ r. r.pending.keys) d.retries.items;
-      servers = keep_all (λ e. e.epoch) d.servers.items;
+      topology = d.topology.journal.value.kept;
+      offsets = keep_all (λ o. o.value.offset) d.offsets.items;
+      pending = keep_all (λ r. r.value.pending.keys) d.retries.items;
+      servers = keep_all (λ e. e.value.epoch) d.servers.items;
       notes = keep_all (λ v. v.notes.items) d.replicas.items;
-      epochs_a = keep_all (λ e. e.epoch) d.epochs_a.items;
-      epochs_b = keep_all (λ e. e.epoch) d.epochs_b.items;
-      pairs_a = keep_all (λ o. o.pairs.items) d.outputs_a.items;
-      pairs_b = keep_all (λ o. o.pairs.items) d.outputs_b.items;
+      epochs_a = keep_all (λ e. e.value.epoch) d.epochs_a.items;
+      epochs_b = keep_all (λ e. e.value.epoch) d.epochs_b.items;
+      pairs_a = keep_all (λ o. o.value.pairs.items) d.outputs_a.items;
+      pairs_b = keep_all (λ o. o.value.pairs.items) d.outputs_b.items;
     })) }
     // The disks kept values that pass.
     ensures kept { IfOk result (λ d. (k : KeptValues) × AreKept S.Disk.tells (S.image store.old) asked.joiners k × ArePassed L.tells (L.bytes clicks.old) end asked k) }
     // Each record was kept by an image of its disk, and the topology or none by one of its own.
     ensures were_left { IsTrue S.Disk.tells → IfOk result (λ d. (g : Setting) (records : Disks) → IsAsked asked g → g.replicas ≡ 3 → AreRecordsOf g (record {
-      topology = d.topology.journal.kept;
-      offsets = keep_all (λ o. o.offset) d.offsets.items;
-      pending = keep_all (λ r. r.pending.keys) d.retries.items;
-      servers = keep_all (λ e. e.epoch) d.servers.items;
+      topology = d.topology.journal.value.kept;
+      offsets = keep_all (λ o. o.value.offset) d.offsets.items;
+      pending = keep_all (λ r. r.value.pending.keys) d.retries.items;
+      servers = keep_all (λ e. e.value.epoch) d.servers.items;
       notes = keep_all (λ v. v.notes.items) d.replicas.items;
-      epochs_a = keep_all (λ e. e.epoch) d.epochs_a.items;
-      epochs_b = keep_all (λ e. e.epoch) d.epochs_b.items;
-      pairs_a = keep_all (λ o. o.pairs.items) d.outputs_a.items;
-      pairs_b = keep_all (λ o. o.pairs.items) d.outputs_b.items;
+      epochs_a = keep_all (λ e. e.value.epoch) d.epochs_a.items;
+      epochs_b = keep_all (λ e. e.value.epoch) d.epochs_b.items;
+      pairs_a = keep_all (λ o. o.value.pairs.items) d.outputs_a.items;
+      pairs_b = keep_all (λ o. o.value.pairs.items) d.outputs_b.items;
     }) records
         → (t : Option StoreTopology) × AreLeft g (S.image store.old) (record { topology = t; disks = records; is_used = true })) }
     // Of a sound store, the records that they keep are a whole store, with the topology that was asked.
     ensures whole { IsTrue S.Disk.tells → IfOk result (λ d. (g : Setting) (records : Disks) → IsAsked asked g → g.replicas ≡ 3 → IsSoundStore g (S.image store.old) → AreRecordsOf g (record {
-      topology = d.topology.journal.kept;
-      offsets = keep_all (λ o. o.offset) d.offsets.items;
-      pending = keep_all (λ r. r.pending.keys) d.retries.items;
-      servers = keep_all (λ e. e.epoch) d.servers.items;
+      topology = d.topology.journal.value.kept;
+      offsets = keep_all (λ o. o.value.offset) d.offsets.items;
+      pending = keep_all (λ r. r.value.pending.keys) d.retries.items;
+      servers = keep_all (λ e. e.value.epoch) d.servers.items;
       notes = keep_all (λ v. v.notes.items) d.replicas.items;
-      epochs_a = keep_all (λ e. e.epoch) d.epochs_a.items;
-      epochs_b = keep_all (λ e. e.epoch) d.epochs_b.items;
-      pairs_a = keep_all (λ o. o.pairs.items) d.outputs_a.items;
-      pairs_b = keep_all (λ o. o.pairs.items) d.outputs_b.items;
+      epochs_a = keep_all (λ e. e.value.epoch) d.epochs_a.items;
+      epochs_b = keep_all (λ e. e.value.epoch) d.epochs_b.items;
+      pairs_a = keep_all (λ o. o.value.pairs.items) d.outputs_a.items;
+      pairs_b = keep_all (λ o. o.value.pairs.items) d.outputs_b.items;
     }) records
         → (used : Bool) × WholeSound g (record { topology = Some (topology_of g); disks = records; is_used = used })) }
 

@@ -21,9 +21,9 @@ pub(crate) fn keep_topology<D: Disk>(
 ) -> Result<(), DisksFault>
     requires is_topology { IsTopology asked }
     requires ready { topology.old.journal.journal.state ≡ Ready }
-    requires fit { IsFit topology.old.journal.kept asked }
+    requires fit { IsFit topology.old.journal.value.kept asked }
     ensures name { topology.new.name ≡ topology.old.name }
-    ensures kept { OnOk result (topology.new.journal.kept ≡ Some asked) }
+    ensures kept { OnOk result (topology.new.journal.value.kept ≡ Some asked) }
     ensures ready { OnOk result (topology.new.journal.journal.state ≡ Ready) }
     ensures durable { IsTrue D.tells → OnOk result (AllKeep asked (D.image topology.new.journal.journal.disk)) }
     ensures old_or_new { IsTrue D.tells → OnErr result (StaysOrKeeps (D.image topology.old.journal.journal.disk) asked (D.image topology.new.journal.journal.disk)) }
@@ -33,7 +33,7 @@ pub(crate) fn keep_topology<D: Disk>(
     ensures rose { IfErr result (RoseBy (D.faults topology.old.journal.journal.disk) (D.faults topology.new.journal.journal.disk)) }
     ensures unwritten { IfErr result (IsUnwritten topology.old.name) }
 {
-    if topology.journal.kept().is_some() {
+    if topology.journal.value().kept().is_some() {
         return Ok(());
     }
     write_topology(alloc, topology, asked)

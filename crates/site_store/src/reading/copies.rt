@@ -35,10 +35,10 @@ fn put_pairs<D: Disk>(
     pairs: &mut Vec<PairList>,
     outputs: &[Opened<OutputLog<D>>],
 ) -> Result<(), AllocError>
-    ensures { OnOk result (pairs.new.items ≡ pairs.old.items ++ map (λ o. o.journal.pairs.items) outputs.now) }
+    ensures { OnOk result (pairs.new.items ≡ pairs.old.items ++ map (λ o. o.journal.value.pairs.items) outputs.now) }
 {
     for output in outputs {
-        pairs.push(copy_pairs(alloc, output.journal.pairs())?)?;
+        pairs.push(copy_pairs(alloc, output.journal.value().pairs())?)?;
     }
     Ok(())
 }
@@ -64,7 +64,7 @@ pub(crate) fn journals_of<D: Disk>(
     disks: &SiteDisks<D>,
 ) -> Result<Journals, AllocError>
     ensures notes { IfOk result (λ journals. journals.notes.items ≡ map (λ v. v.journal.notes.items) disks.now.replicas.items) }
-    ensures pairs { IfOk result (λ journals. journals.pairs.items ≡ map (λ o. o.journal.pairs.items) disks.now.outputs_a.items ++ map (λ o. o.journal.pairs.items) disks.now.outputs_b.items) }
+    ensures pairs { IfOk result (λ journals. journals.pairs.items ≡ map (λ o. o.journal.value.pairs.items) disks.now.outputs_a.items ++ map (λ o. o.journal.value.pairs.items) disks.now.outputs_b.items) }
 {
     let notes = notes_of(alloc, &disks.replicas)?;
     let mut pairs = Vec::new(alloc);

@@ -21,9 +21,9 @@ fn smallest() -> Topology {
 
 // The kept topology, which fits itself. Where none is kept any one fits.
 fn fitting<D: Disk>(topology: &TopologyJournal<D>) -> Topology
-    ensures { IsFit topology.now.kept result }
+    ensures { IsFit topology.now.value.kept result }
 {
-    match topology.kept() {
+    match topology.value().kept() {
         Some(kept) => *kept,
         None => smallest(),
     }
@@ -42,7 +42,7 @@ fn of_limit(misfit: Option<Misfit>) -> Option<Refusal>
 
 // The first epoch, round or slot at its limit.
 fn limit<D: Disk>(disks: &SiteDisks<D>) -> Option<Refusal>
-    ensures { result ≡ limit_refusal (first_some (first_spent (λ e. e) (keep_all (λ e. e.epoch) disks.now.servers.items) ∷ first_full (λ n. n) (keep_all (λ v. v.notes.items) disks.now.replicas.items) ∷ first_spent (λ e. e) (keep_all (λ e. e.epoch) disks.now.epochs_a.items) ∷ first_spent (λ e. e) (keep_all (λ e. e.epoch) disks.now.epochs_b.items) ∷ [])) }
+    ensures { result ≡ limit_refusal (first_some (first_spent (λ e. e) (keep_all (λ e. e.value.epoch) disks.now.servers.items) ∷ first_full (λ n. n) (keep_all (λ v. v.notes.items) disks.now.replicas.items) ∷ first_spent (λ e. e) (keep_all (λ e. e.value.epoch) disks.now.epochs_a.items) ∷ first_spent (λ e. e) (keep_all (λ e. e.value.epoch) disks.now.epochs_b.items) ∷ [])) }
 {
     of_limit(first_misfit(disks, &fitting(&disks.topology.journal)))
 }
@@ -55,18 +55,18 @@ fn misplaced<D: Disk, L: LogFile>(
 ) -> Result<Option<Misplaced>, ReadFault>
     requires offsets { length disks.now.offsets.items ≡ 2 }
     requires retries { length disks.now.retries.items ≡ 2 }
-    ensures told { IfOk result (AreTold L.tells (L.bytes clicks.old) end (keep_all (λ o. o.offset) disks.now.offsets.items) (keep_all (λ r. r.pending.keys) disks.now.retries.items)) }
-    ensures fit { IfOk result (λ told. told ≡ None → PlacesFit L.tells (L.bytes clicks.old) end (keep_all (λ o. o.offset) disks.now.offsets.items) (keep_all (λ r. r.pending.keys) disks.now.retries.items)) }
+    ensures told { IfOk result (AreTold L.tells (L.bytes clicks.old) end (keep_all (λ o. o.value.offset) disks.now.offsets.items) (keep_all (λ r. r.value.pending.keys) disks.now.retries.items)) }
+    ensures fit { IfOk result (λ told. told ≡ None → PlacesFit L.tells (L.bytes clicks.old) end (keep_all (λ o. o.value.offset) disks.now.offsets.items) (keep_all (λ r. r.value.pending.keys) disks.now.retries.items)) }
     ensures same { IsTrue L.tells → L.bytes clicks.new ≡ L.bytes clicks.old }
     ensures count { Counts (L.faults clicks.old) (L.faults clicks.new) (IsErr result) }
 {
     first_misplaced(
         clicks,
         end,
-        disks.offsets[0].journal.offset(),
-        disks.offsets[1].journal.offset(),
-        disks.retries[0].journal.pending().as_slice(),
-        disks.retries[1].journal.pending().as_slice(),
+        disks.offsets[0].journal.value().offset(),
+        disks.offsets[1].journal.value().offset(),
+        disks.retries[0].journal.value().pending().as_slice(),
+        disks.retries[1].journal.value().pending().as_slice(),
     )
 }
 
@@ -80,26 +80,26 @@ pub(crate) fn judge<D: Disk, L: LogFile>(
     requires offsets { length disks.now.offsets.items ≡ 2 }
     requires retries { length disks.now.retries.items ≡ 2 }
     ensures fine { IfNone result (AreFine L.tells (L.bytes clicks.old) end (record {
-      topology = disks.now.topology.journal.kept;
-      offsets = keep_all (λ o. o.offset) disks.now.offsets.items;
-      pending = keep_all (λ r. r.pending.keys) disks.now.retries.items;
-      servers = keep_all (λ e. e.epoch) disks.now.servers.items;
+      topology = disks.now.topology.journal.value.kept;
+      offsets = keep_all (λ o. o.value.offset) disks.now.offsets.items;
+      pending = keep_all (λ r. r.value.pending.keys) disks.now.retries.items;
+      servers = keep_all (λ e. e.value.epoch) disks.now.servers.items;
       notes = keep_all (λ v. v.notes.items) disks.now.replicas.items;
-      epochs_a = keep_all (λ e. e.epoch) disks.now.epochs_a.items;
-      epochs_b = keep_all (λ e. e.epoch) disks.now.epochs_b.items;
-      pairs_a = keep_all (λ o. o.pairs.items) disks.now.outputs_a.items;
-      pairs_b = keep_all (λ o. o.pairs.items) disks.now.outputs_b.items;
+      epochs_a = keep_all (λ e. e.value.epoch) disks.now.epochs_a.items;
+      epochs_b = keep_all (λ e. e.value.epoch) disks.now.epochs_b.items;
+      pairs_a = keep_all (λ o. o.value.pairs.items) disks.now.outputs_a.items;
+      pairs_b = keep_all (λ o. o.value.pairs.items) disks.now.outputs_b.items;
     })) }
     ensures cause { IfSome result (IsCause L.tells (L.bytes clicks.old) end (L.faults clicks.old) (L.faults clicks.new) (record {
-      topology = disks.now.topology.journal.kept;
-      offsets = keep_all (λ o. o.offset) disks.now.offsets.items;
-      pending = keep_all (λ r. r.pending.keys) disks.now.retries.items;
-      servers = keep_all (λ e. e.epoch) disks.now.servers.items;
+      topology = disks.now.topology.journal.value.kept;
+      offsets = keep_all (λ o. o.value.offset) disks.now.offsets.items;
+      pending = keep_all (λ r. r.value.pending.keys) disks.now.retries.items;
+      servers = keep_all (λ e. e.value.epoch) disks.now.servers.items;
       notes = keep_all (λ v. v.notes.items) disks.now.replicas.items;
-      epochs_a = keep_all (λ e. e.epoch) disks.now.epochs_a.items;
-      epochs_b = keep_all (λ e. e.epoch) disks.now.epochs_b.items;
-      pairs_a = keep_all (λ o. o.pairs.items) disks.now.outputs_a.items;
-      pairs_b = keep_all (λ o. o.pairs.items) disks.now.outputs_b.items;
+      epochs_a = keep_all (λ e. e.value.epoch) disks.now.epochs_a.items;
+      epochs_b = keep_all (λ e. e.value.epoch) disks.now.epochs_b.items;
+      pairs_a = keep_all (λ o. o.value.pairs.items) disks.now.outputs_a.items;
+      pairs_b = keep_all (λ o. o.value.pairs.items) disks.now.outputs_b.items;
     })) }
     ensures same { IsTrue L.tells → L.bytes clicks.new ≡ L.bytes clicks.old }
     ensures count { L.faults clicks.old ≤ L.faults clicks.new }

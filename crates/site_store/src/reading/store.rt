@@ -26,9 +26,9 @@ use std::alloc::Global;
 use topology_journal::{Topology, TopologyJournal};
 
 fn kept_topology<D: Disk>(topology: &TopologyJournal<D>) -> Option<Topology>
-    ensures { result ≡ topology.now.kept }
+    ensures { result ≡ topology.now.value.kept }
 {
-    topology.kept().copied()
+    topology.value().kept().copied()
 }
 
 // What opened disks keep, if that fits the log and has room for more.
@@ -41,37 +41,37 @@ fn read_disks<D: Disk, L: LogFile>(
     requires offsets { length disks.now.offsets.items ≡ 2 }
     requires retries { length disks.now.retries.items ≡ 2 }
     ensures told { IfOk result (IsOfValues (record {
-      topology = disks.now.topology.journal.kept;
-      offsets = keep_all (λ o. o.offset) disks.now.offsets.items;
-      pending = keep_all (λ r. r.pending.keys) disks.now.retries.items;
-      servers = keep_all (λ e. e.epoch) disks.now.servers.items;
+      topology = disks.now.topology.journal.value.kept;
+      offsets = keep_all (λ o. o.value.offset) disks.now.offsets.items;
+      pending = keep_all (λ r. r.value.pending.keys) disks.now.retries.items;
+      servers = keep_all (λ e. e.value.epoch) disks.now.servers.items;
       notes = keep_all (λ v. v.notes.items) disks.now.replicas.items;
-      epochs_a = keep_all (λ e. e.epoch) disks.now.epochs_a.items;
-      epochs_b = keep_all (λ e. e.epoch) disks.now.epochs_b.items;
-      pairs_a = keep_all (λ o. o.pairs.items) disks.now.outputs_a.items;
-      pairs_b = keep_all (λ o. o.pairs.items) disks.now.outputs_b.items;
+      epochs_a = keep_all (λ e. e.value.epoch) disks.now.epochs_a.items;
+      epochs_b = keep_all (λ e. e.value.epoch) disks.now.epochs_b.items;
+      pairs_a = keep_all (λ o. o.value.pairs.items) disks.now.outputs_a.items;
+      pairs_b = keep_all (λ o. o.value.pairs.items) disks.now.outputs_b.items;
     })) }
     ensures fine { OnOk result (AreFine L.tells (L.bytes clicks.old) end (record {
-      topology = disks.now.topology.journal.kept;
-      offsets = keep_all (λ o. o.offset) disks.now.offsets.items;
-      pending = keep_all (λ r. r.pending.keys) disks.now.retries.items;
-      servers = keep_all (λ e. e.epoch) disks.now.servers.items;
+      topology = disks.now.topology.journal.value.kept;
+      offsets = keep_all (λ o. o.value.offset) disks.now.offsets.items;
+      pending = keep_all (λ r. r.value.pending.keys) disks.now.retries.items;
+      servers = keep_all (λ e. e.value.epoch) disks.now.servers.items;
       notes = keep_all (λ v. v.notes.items) disks.now.replicas.items;
-      epochs_a = keep_all (λ e. e.epoch) disks.now.epochs_a.items;
-      epochs_b = keep_all (λ e. e.epoch) disks.now.epochs_b.items;
-      pairs_a = keep_all (λ o. o.pairs.items) disks.now.outputs_a.items;
-      pairs_b = keep_all (λ o. o.pairs.items) disks.now.outputs_b.items;
+      epochs_a = keep_all (λ e. e.value.epoch) disks.now.epochs_a.items;
+      epochs_b = keep_all (λ e. e.value.epoch) disks.now.epochs_b.items;
+      pairs_a = keep_all (λ o. o.value.pairs.items) disks.now.outputs_a.items;
+      pairs_b = keep_all (λ o. o.value.pairs.items) disks.now.outputs_b.items;
     })) }
     ensures cause { IfErr result (IsCause L.tells (L.bytes clicks.old) end (L.faults clicks.old) (L.faults clicks.new) (record {
-      topology = disks.now.topology.journal.kept;
-      offsets = keep_all (λ o. o.offset) disks.now.offsets.items;
-      pending = keep_all (λ r. r.pending.keys) disks.now.retries.items;
-      servers = keep_all (λ e. e.epoch) disks.now.servers.items;
+      topology = disks.now.topology.journal.value.kept;
+      offsets = keep_all (λ o. o.value.offset) disks.now.offsets.items;
+      pending = keep_all (λ r. r.value.pending.keys) disks.now.retries.items;
+      servers = keep_all (λ e. e.value.epoch) disks.now.servers.items;
       notes = keep_all (λ v. v.notes.items) disks.now.replicas.items;
-      epochs_a = keep_all (λ e. e.epoch) disks.now.epochs_a.items;
-      epochs_b = keep_all (λ e. e.epoch) disks.now.epochs_b.items;
-      pairs_a = keep_all (λ o. o.pairs.items) disks.now.outputs_a.items;
-      pairs_b = keep_all (λ o. o.pairs.items) disks.now.outputs_b.items;
+      epochs_a = keep_all (λ e. e.value.epoch) disks.now.epochs_a.items;
+      epochs_b = keep_all (λ e. e.value.epoch) disks.now.epochs_b.items;
+      pairs_a = keep_all (λ o. o.value.pairs.items) disks.now.outputs_a.items;
+      pairs_b = keep_all (λ o. o.value.pairs.items) disks.now.outputs_b.items;
     })) }
     ensures same { IsTrue L.tells → L.bytes clicks.new ≡ L.bytes clicks.old }
     ensures count { L.faults clicks.old ≤ L.faults clicks.new }

@@ -11,7 +11,7 @@ use Rattle.dispatch_node.proofs.asking.look_up.Goals as goal
 pub returns-in_ok-pending-in-Start-clause-carries : goal.returns-in_ok-pending-in-Start-clause-carries
 returns-in_ok-pending-in-Start-clause-carries g c tells s k live l is kept of_g knows asked =
     let j = c.args.journals.now in
-    (of_g, (c.in-Start.is, subst (λ (o : ℕ). IsKept k o c.in_ok-pending-in-Start.pending.items) (sym c.offset.ensures) (kept_start j.offset.offset j.retry.pending.keys c.in_ok-pending-in-Start.pending.items k kept c.in_ok-pending-in-Start.ensures (distinct_of j.retry.pending.keys j.retry.unique))))
+    (of_g, (c.in-Start.is, subst (λ (o : ℕ). IsKept k o c.in_ok-pending-in-Start.pending.items) (sym c.offset.ensures) (kept_start j.offset.value.offset j.retry.value.pending.keys c.in_ok-pending-in-Start.pending.items k kept c.in_ok-pending-in-Start.ensures (distinct_of j.retry.value.pending.keys j.retry.value.unique))))
 
 pub returns-in-Own-clause-carries : goal.returns-in-Own-clause-carries
 returns-in-Own-clause-carries g c tells s k live l is kept of_g knows asked =

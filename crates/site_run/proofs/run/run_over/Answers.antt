@@ -46,14 +46,14 @@ returns-in-Ok-clause-sound g c tells log_tells gg checked is sound =
     let asked : IsAsked asked_of gg = record { joiners = is.numbers.joiners; table = is.numbers.table } in
     let topology = lend {D = g.row.S-Disk.Denot} (λ t. t.journal.disk) d.topology in
     let built = built_disks d.offsets.items d.retries.items d.servers.items d.replicas.items d.epochs_a.items d.epochs_b.items d.outputs_a.items d.outputs_b.items
-    (λ o. o.offset) (λ r. r.pending.keys) (λ e. e.epoch) (λ v. v.notes.items) (λ e. e.epoch) (λ o. o.pairs.items) in
+    (λ o. o.value.offset) (λ r. r.value.pending.keys) (λ e. e.value.epoch) (λ v. v.notes.items) (λ e. e.value.epoch) (λ o. o.value.pairs.items) in
     let records = records_so d.offsets.items d.retries.items d.servers.items d.replicas.items d.epochs_a.items d.epochs_b.items d.outputs_a.items d.outputs_b.items
-    (λ o. o.offset) (λ r. r.pending.keys) (λ e. e.epoch) (λ v. v.notes.items) (λ e. e.epoch) (λ o. o.pairs.items) d.topology.journal.kept gg is.numbers.replicas
+    (λ o. o.value.offset) (λ r. r.value.pending.keys) (λ e. e.value.epoch) (λ v. v.notes.items) (λ e. e.value.epoch) (λ o. o.value.pairs.items) d.topology.journal.value.kept gg is.numbers.replicas
     (taken_length _ _ _ _ o.epochs_a.named c.requires.joiners.1 ∙ sym is.numbers.joiners)
     (taken_length _ _ _ _ o.outputs_a.named c.requires.joiners.1 ∙ sym is.numbers.joiners) in
     let first = last_of (λ l. IsLogOf (g.F.Log.LogFile.bytes l) gg) c.args.logs.clicks.items c.take_last-read.new.logs.items c.take_last-read.result c.take_last-read.ensures.items is.clicks_are in
     let places = places_so d.offsets.items d.retries.items d.servers.items d.replicas.items d.epochs_a.items d.epochs_b.items d.outputs_a.items d.outputs_b.items
-    (λ o. o.offset) (λ r. r.pending.keys) (λ e. e.epoch) (λ v. v.notes.items) (λ e. e.epoch) (λ o. o.pairs.items) _ _ _ gg o.passed.places log_tells first is.ends in
+    (λ o. o.value.offset) (λ r. r.value.pending.keys) (λ e. e.value.epoch) (λ v. v.notes.items) (λ e. e.value.epoch) (λ o. o.value.pairs.items) _ _ _ gg o.passed.places log_tells first is.ends in
     let clicks = put_back (λ l. IsLogOf (g.F.Log.LogFile.bytes l) gg) c.args.logs.clicks.items c.take_last-read.new.logs.items c.push_reserved.new.self.items c.take_last-read.result c.open_store.new.clicks c.take_last-read.ensures.items c.push_reserved.ensures.items
     (subst (λ b. IsLogOf b gg) (sym (o.same log_tells)) first) is.clicks_are in
     let out = out_so asked_of g.S.Disk.Disk.image (g.S.Store.image c.args.store.now) (g.S.Store.image c.open_store.new.store) topology _ (o.lent tells) in
@@ -76,14 +76,14 @@ returns-in-Ok-clause-grown g c tells log_tells gg is disk =
     let asked : IsAsked asked_of gg = record { joiners = is.numbers.joiners; table = is.numbers.table } in
     let topology = lend {D = g.row.S-Disk.Denot} (λ t. t.journal.disk) d.topology in
     let built = built_disks d.offsets.items d.retries.items d.servers.items d.replicas.items d.epochs_a.items d.epochs_b.items d.outputs_a.items d.outputs_b.items
-    (λ o. o.offset) (λ r. r.pending.keys) (λ e. e.epoch) (λ v. v.notes.items) (λ e. e.epoch) (λ o. o.pairs.items) in
+    (λ o. o.value.offset) (λ r. r.value.pending.keys) (λ e. e.value.epoch) (λ v. v.notes.items) (λ e. e.value.epoch) (λ o. o.value.pairs.items) in
     let records = records_so d.offsets.items d.retries.items d.servers.items d.replicas.items d.epochs_a.items d.epochs_b.items d.outputs_a.items d.outputs_b.items
-    (λ o. o.offset) (λ r. r.pending.keys) (λ e. e.epoch) (λ v. v.notes.items) (λ e. e.epoch) (λ o. o.pairs.items) d.topology.journal.kept gg is.numbers.replicas
+    (λ o. o.value.offset) (λ r. r.value.pending.keys) (λ e. e.value.epoch) (λ v. v.notes.items) (λ e. e.value.epoch) (λ o. o.value.pairs.items) d.topology.journal.value.kept gg is.numbers.replicas
     (taken_length _ _ _ _ o.epochs_a.named c.requires.joiners.1 ∙ sym is.numbers.joiners)
     (taken_length _ _ _ _ o.outputs_a.named c.requires.joiners.1 ∙ sym is.numbers.joiners) in
     let first = last_of (λ l. IsLogOf (g.F.Log.LogFile.bytes l) gg) c.args.logs.clicks.items c.take_last-read.new.logs.items c.take_last-read.result c.take_last-read.ensures.items is.clicks_are in
     let places = places_so d.offsets.items d.retries.items d.servers.items d.replicas.items d.epochs_a.items d.epochs_b.items d.outputs_a.items d.outputs_b.items
-    (λ o. o.offset) (λ r. r.pending.keys) (λ e. e.epoch) (λ v. v.notes.items) (λ e. e.epoch) (λ o. o.pairs.items) _ _ _ gg o.passed.places log_tells first is.ends in
+    (λ o. o.value.offset) (λ r. r.value.pending.keys) (λ e. e.value.epoch) (λ v. v.notes.items) (λ e. e.value.epoch) (λ o. o.value.pairs.items) _ _ _ gg o.passed.places log_tells first is.ends in
     let clicks = put_back (λ l. IsLogOf (g.F.Log.LogFile.bytes l) gg) c.args.logs.clicks.items c.take_last-read.new.logs.items c.push_reserved.new.self.items c.take_last-read.result c.open_store.new.clicks c.take_last-read.ensures.items c.push_reserved.ensures.items
     (subst (λ b. IsLogOf b gg) (sym (o.same log_tells)) first) is.clicks_are in
     let out = out_so asked_of g.S.Disk.Disk.image (g.S.Store.image c.args.store.now) (g.S.Store.image c.open_store.new.store) topology _ (o.lent tells) in
@@ -98,14 +98,14 @@ returns-in-Ok-clause-left g c tells log_tells gg is =
     let asked : IsAsked asked_of gg = record { joiners = is.numbers.joiners; table = is.numbers.table } in
     let topology = lend {D = g.row.S-Disk.Denot} (λ t. t.journal.disk) d.topology in
     let built = built_disks d.offsets.items d.retries.items d.servers.items d.replicas.items d.epochs_a.items d.epochs_b.items d.outputs_a.items d.outputs_b.items
-    (λ o. o.offset) (λ r. r.pending.keys) (λ e. e.epoch) (λ v. v.notes.items) (λ e. e.epoch) (λ o. o.pairs.items) in
+    (λ o. o.value.offset) (λ r. r.value.pending.keys) (λ e. e.value.epoch) (λ v. v.notes.items) (λ e. e.value.epoch) (λ o. o.value.pairs.items) in
     let records = records_so d.offsets.items d.retries.items d.servers.items d.replicas.items d.epochs_a.items d.epochs_b.items d.outputs_a.items d.outputs_b.items
-    (λ o. o.offset) (λ r. r.pending.keys) (λ e. e.epoch) (λ v. v.notes.items) (λ e. e.epoch) (λ o. o.pairs.items) d.topology.journal.kept gg is.numbers.replicas
+    (λ o. o.value.offset) (λ r. r.value.pending.keys) (λ e. e.value.epoch) (λ v. v.notes.items) (λ e. e.value.epoch) (λ o. o.value.pairs.items) d.topology.journal.value.kept gg is.numbers.replicas
     (taken_length _ _ _ _ o.epochs_a.named c.requires.joiners.1 ∙ sym is.numbers.joiners)
     (taken_length _ _ _ _ o.outputs_a.named c.requires.joiners.1 ∙ sym is.numbers.joiners) in
     let first = last_of (λ l. IsLogOf (g.F.Log.LogFile.bytes l) gg) c.args.logs.clicks.items c.take_last-read.new.logs.items c.take_last-read.result c.take_last-read.ensures.items is.clicks_are in
     let places = places_so d.offsets.items d.retries.items d.servers.items d.replicas.items d.epochs_a.items d.epochs_b.items d.outputs_a.items d.outputs_b.items
-    (λ o. o.offset) (λ r. r.pending.keys) (λ e. e.epoch) (λ v. v.notes.items) (λ e. e.epoch) (λ o. o.pairs.items) _ _ _ gg o.passed.places log_tells first is.ends in
+    (λ o. o.value.offset) (λ r. r.value.pending.keys) (λ e. e.value.epoch) (λ v. v.notes.items) (λ e. e.value.epoch) (λ o. o.value.pairs.items) _ _ _ gg o.passed.places log_tells first is.ends in
     let clicks = put_back (λ l. IsLogOf (g.F.Log.LogFile.bytes l) gg) c.args.logs.clicks.items c.take_last-read.new.logs.items c.push_reserved.new.self.items c.take_last-read.result c.open_store.new.clicks c.take_last-read.ensures.items c.push_reserved.ensures.items
     (subst (λ b. IsLogOf b gg) (sym (o.same log_tells)) first) is.clicks_are in
     let out = out_so asked_of g.S.Disk.Disk.image (g.S.Store.image c.args.store.now) (g.S.Store.image c.open_store.new.store) topology _ (o.lent tells) in
@@ -122,14 +122,14 @@ returns-in-Ok-clause-rest g c tells log_tells gg is =
     let asked : IsAsked asked_of gg = record { joiners = is.numbers.joiners; table = is.numbers.table } in
     let topology = lend {D = g.row.S-Disk.Denot} (λ t. t.journal.disk) d.topology in
     let built = built_disks d.offsets.items d.retries.items d.servers.items d.replicas.items d.epochs_a.items d.epochs_b.items d.outputs_a.items d.outputs_b.items
-    (λ o. o.offset) (λ r. r.pending.keys) (λ e. e.epoch) (λ v. v.notes.items) (λ e. e.epoch) (λ o. o.pairs.items) in
+    (λ o. o.value.offset) (λ r. r.value.pending.keys) (λ e. e.value.epoch) (λ v. v.notes.items) (λ e. e.value.epoch) (λ o. o.value.pairs.items) in
     let records = records_so d.offsets.items d.retries.items d.servers.items d.replicas.items d.epochs_a.items d.epochs_b.items d.outputs_a.items d.outputs_b.items
-    (λ o. o.offset) (λ r. r.pending.keys) (λ e. e.epoch) (λ v. v.notes.items) (λ e. e.epoch) (λ o. o.pairs.items) d.topology.journal.kept gg is.numbers.replicas
+    (λ o. o.value.offset) (λ r. r.value.pending.keys) (λ e. e.value.epoch) (λ v. v.notes.items) (λ e. e.value.epoch) (λ o. o.value.pairs.items) d.topology.journal.value.kept gg is.numbers.replicas
     (taken_length _ _ _ _ o.epochs_a.named c.requires.joiners.1 ∙ sym is.numbers.joiners)
     (taken_length _ _ _ _ o.outputs_a.named c.requires.joiners.1 ∙ sym is.numbers.joiners) in
     let first = last_of (λ l. IsLogOf (g.F.Log.LogFile.bytes l) gg) c.args.logs.clicks.items c.take_last-read.new.logs.items c.take_last-read.result c.take_last-read.ensures.items is.clicks_are in
     let places = places_so d.offsets.items d.retries.items d.servers.items d.replicas.items d.epochs_a.items d.epochs_b.items d.outputs_a.items d.outputs_b.items
-    (λ o. o.offset) (λ r. r.pending.keys) (λ e. e.epoch) (λ v. v.notes.items) (λ e. e.epoch) (λ o. o.pairs.items) _ _ _ gg o.passed.places log_tells first is.ends in
+    (λ o. o.value.offset) (λ r. r.value.pending.keys) (λ e. e.value.epoch) (λ v. v.notes.items) (λ e. e.value.epoch) (λ o. o.value.pairs.items) _ _ _ gg o.passed.places log_tells first is.ends in
     let clicks = put_back (λ l. IsLogOf (g.F.Log.LogFile.bytes l) gg) c.args.logs.clicks.items c.take_last-read.new.logs.items c.push_reserved.new.self.items c.take_last-read.result c.open_store.new.clicks c.take_last-read.ensures.items c.push_reserved.ensures.items
     (subst (λ b. IsLogOf b gg) (sym (o.same log_tells)) first) is.clicks_are in
     let out = out_so asked_of g.S.Disk.Disk.image (g.S.Store.image c.args.store.now) (g.S.Store.image c.open_store.new.store) topology _ (o.lent tells) in
@@ -149,10 +149,10 @@ returns-in-Ok-clause-welcome g c tells log_tells gg is sound =
     let asked : IsAsked asked_of gg = record { joiners = is.numbers.joiners; table = is.numbers.table } in
     let topology = lend {D = g.row.S-Disk.Denot} (λ t. t.journal.disk) d.topology in
     let built = built_disks d.offsets.items d.retries.items d.servers.items d.replicas.items d.epochs_a.items d.epochs_b.items d.outputs_a.items d.outputs_b.items
-    (λ o. o.offset) (λ r. r.pending.keys) (λ e. e.epoch) (λ v. v.notes.items) (λ e. e.epoch) (λ o. o.pairs.items) in
+    (λ o. o.value.offset) (λ r. r.value.pending.keys) (λ e. e.value.epoch) (λ v. v.notes.items) (λ e. e.value.epoch) (λ o. o.value.pairs.items) in
     let first = last_of (λ l. IsLogOf (g.F.Log.LogFile.bytes l) gg) c.args.logs.clicks.items c.take_last-read.new.logs.items c.take_last-read.result c.take_last-read.ensures.items is.clicks_are in
     let places = places_so d.offsets.items d.retries.items d.servers.items d.replicas.items d.epochs_a.items d.epochs_b.items d.outputs_a.items d.outputs_b.items
-    (λ o. o.offset) (λ r. r.pending.keys) (λ e. e.epoch) (λ v. v.notes.items) (λ e. e.epoch) (λ o. o.pairs.items) _ _ _ gg o.passed.places log_tells first is.ends in
+    (λ o. o.value.offset) (λ r. r.value.pending.keys) (λ e. e.value.epoch) (λ v. v.notes.items) (λ e. e.value.epoch) (λ o. o.value.pairs.items) _ _ _ gg o.passed.places log_tells first is.ends in
     let clicks = put_back (λ l. IsLogOf (g.F.Log.LogFile.bytes l) gg) c.args.logs.clicks.items c.take_last-read.new.logs.items c.push_reserved.new.self.items c.take_last-read.result c.open_store.new.clicks c.take_last-read.ensures.items c.push_reserved.ensures.items
     (subst (λ b. IsLogOf b gg) (sym (o.same log_tells)) first) is.clicks_are in
     let keeps = keeps_so asked_of g.S.Disk.Disk.image (g.S.Store.image c.args.store.now) (g.S.Store.image c.open_store.new.store) topology _ (o.lent tells) gg asked o.topology.0 in
@@ -168,10 +168,10 @@ returns-in-Ok-clause-refused g c tells log_tells gg is =
     let asked : IsAsked asked_of gg = record { joiners = is.numbers.joiners; table = is.numbers.table } in
     let topology = lend {D = g.row.S-Disk.Denot} (λ t. t.journal.disk) d.topology in
     let built = built_disks d.offsets.items d.retries.items d.servers.items d.replicas.items d.epochs_a.items d.epochs_b.items d.outputs_a.items d.outputs_b.items
-    (λ o. o.offset) (λ r. r.pending.keys) (λ e. e.epoch) (λ v. v.notes.items) (λ e. e.epoch) (λ o. o.pairs.items) in
+    (λ o. o.value.offset) (λ r. r.value.pending.keys) (λ e. e.value.epoch) (λ v. v.notes.items) (λ e. e.value.epoch) (λ o. o.value.pairs.items) in
     let first = last_of (λ l. IsLogOf (g.F.Log.LogFile.bytes l) gg) c.args.logs.clicks.items c.take_last-read.new.logs.items c.take_last-read.result c.take_last-read.ensures.items is.clicks_are in
     let places = places_so d.offsets.items d.retries.items d.servers.items d.replicas.items d.epochs_a.items d.epochs_b.items d.outputs_a.items d.outputs_b.items
-    (λ o. o.offset) (λ r. r.pending.keys) (λ e. e.epoch) (λ v. v.notes.items) (λ e. e.epoch) (λ o. o.pairs.items) _ _ _ gg o.passed.places log_tells first is.ends in
+    (λ o. o.value.offset) (λ r. r.value.pending.keys) (λ e. e.value.epoch) (λ v. v.notes.items) (λ e. e.value.epoch) (λ o. o.value.pairs.items) _ _ _ gg o.passed.places log_tells first is.ends in
     let clicks = put_back (λ l. IsLogOf (g.F.Log.LogFile.bytes l) gg) c.args.logs.clicks.items c.take_last-read.new.logs.items c.push_reserved.new.self.items c.take_last-read.result c.open_store.new.clicks c.take_last-read.ensures.items c.push_reserved.ensures.items
     (subst (λ b. IsLogOf b gg) (sym (o.same log_tells)) first) is.clicks_are in
     let keeps = keeps_so asked_of g.S.Disk.Disk.image (g.S.Store.image c.args.store.now) (g.S.Store.image c.open_store.new.store) topology _ (o.lent tells) gg asked o.topology.0 in
@@ -181,7 +181,7 @@ returns-in-Ok-clause-refused g c tells log_tells gg is =
     let disks_rose = Rose (g.S.Store.faults c.args.store.now) (g.S.Store.faults c.run_opened.new.store) in
     let later : from_there → disks_rose = λ rose. rose_before (g.S.Store.faults c.args.store.now) (g.S.Store.faults c.open_store.new.store) (g.S.Store.faults c.run_opened.new.store) o.count rose in
     let records = records_so d.offsets.items d.retries.items d.servers.items d.replicas.items d.epochs_a.items d.epochs_b.items d.outputs_a.items d.outputs_b.items
-    (λ o. o.offset) (λ r. r.pending.keys) (λ e. e.epoch) (λ v. v.notes.items) (λ e. e.epoch) (λ o. o.pairs.items) d.topology.journal.kept gg is.numbers.replicas
+    (λ o. o.value.offset) (λ r. r.value.pending.keys) (λ e. e.value.epoch) (λ v. v.notes.items) (λ e. e.value.epoch) (λ o. o.value.pairs.items) d.topology.journal.value.kept gg is.numbers.replicas
     (taken_length _ _ _ _ o.epochs_a.named c.requires.joiners.1 ∙ sym is.numbers.joiners)
     (taken_length _ _ _ _ o.outputs_a.named c.requires.joiners.1 ∙ sym is.numbers.joiners) in
     let none = none_kept gg _ o.passed.limits built records (length-map d.servers.items _ ∙ mapped_length _ _ _ o.servers.named)

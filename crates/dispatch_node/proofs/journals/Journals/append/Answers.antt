@@ -1,4 +1,4 @@
-use Rattle.std.proofs.Common.{◌≡◌, ℕ, List, true, sym, ap, ◌∙◌, subst}
+use Rattle.std.proofs.Common.{◌≡◌, ℕ, List, true, sym, ap, ◌∙◌, subst, arith}
 use Rattle.outside.specs.Disk.{Throughout}
 use Rattle.retry_log.specs.Pending.{KeepsOr}
 use Rattle.dispatch_core.proofs.Sets.{any_has}
@@ -7,26 +7,26 @@ use Rattle.dispatch_node.specs.Kept.{kept_as, landed, takes_note}
 use Rattle.dispatch_node.proofs.Disks.{none_parked, settled, on_ok}
 use Rattle.dispatch_node.proofs.journals.Journals.append.Goals as goal
 
-pub park-requires-clause-new : goal.park-requires-clause-new
-park-requires-clause-new g c =
+pub append-requires-in-Park-clause-next : goal.append-requires-in-Park-clause-next
+append-requires-in-Park-clause-next g c =
     let j = c.args.self.now in
-    none_parked j.retry.pending.keys c.in-Park.position (subst (λ (n : DispatchNote). takes_note (kept_as j.offset.offset j.retry.pending.keys) n ≡ true) c.in-Park.is c.requires.takes)
+    (none_parked j.retry.value.pending.keys c.in-Park.position (subst (λ (n : DispatchNote). takes_note (kept_as j.offset.value.offset j.retry.value.pending.keys) n ≡ true) c.in-Park.is c.requires.takes), omega arith)
 
-pub settle-requires-clause-pending : goal.settle-requires-clause-pending
-settle-requires-clause-pending g c =
+pub append-requires-in-Settle-clause-next : goal.append-requires-in-Settle-clause-next
+append-requires-in-Settle-clause-next g c =
     let j = c.args.self.now in
-    any_has j.retry.pending.keys c.in-Settle.position ∙ subst (λ (n : DispatchNote). takes_note (kept_as j.offset.offset j.retry.pending.keys) n ≡ true) c.in-Settle.is c.requires.takes
+    (any_has j.retry.value.pending.keys c.in-Settle.position ∙ subst (λ (n : DispatchNote). takes_note (kept_as j.offset.value.offset j.retry.value.pending.keys) n ≡ true) c.in-Settle.is c.requires.takes, omega arith)
 
 pub returns-in-Settle-clause-kept : goal.returns-in-Settle-clause-kept
 returns-in-Settle-clause-kept g c =
     let j = c.args.self.now in
-    let ps = j.retry.pending.keys in
-    on_ok c.settle.result _ _ c.settle.ensures.ok
-    (λ e. ap (kept_as j.offset.offset) (e ∙ settled ps c.in-Settle.position j.retry.unique) ∙ ap (λ (n : DispatchNote). landed n (kept_as j.offset.offset ps)) (sym c.in-Settle.is))
+    let ps = j.retry.value.pending.keys in
+    on_ok c.append-in-Settle.result _ _ c.append-in-Settle.ensures.ok
+    (λ e. ap (kept_as j.offset.value.offset) (e ∙ settled ps c.in-Settle.position j.retry.value.unique) ∙ ap (λ (n : DispatchNote). landed n (kept_as j.offset.value.offset ps)) (sym c.in-Settle.is))
 
 pub returns-in-Settle-clause-retry_at_any_moment : goal.returns-in-Settle-clause-retry_at_any_moment
 returns-in-Settle-clause-retry_at_any_moment g c tells ready =
     let j = c.args.self.now in
-    let ps = j.retry.pending.keys in
-    let same = settled ps c.in-Settle.position j.retry.unique ∙ ap (λ (n : DispatchNote). (landed n (kept_as j.offset.offset ps)).pending) (sym c.in-Settle.is) in
-    subst (λ (qs : List ℕ). Throughout g.D.Disk.image g.D.Disk.since j.retry.journal.disk c.settle.new.self.journal.disk (KeepsOr ps qs)) same (c.settle.ensures.keeps tells ready)
+    let ps = j.retry.value.pending.keys in
+    let same = settled ps c.in-Settle.position j.retry.value.unique ∙ ap (λ (n : DispatchNote). (landed n (kept_as j.offset.value.offset ps)).pending) (sym c.in-Settle.is) in
+    subst (λ (qs : List ℕ). Throughout g.D.Disk.image g.D.Disk.since j.retry.journal.disk c.append-in-Settle.new.self.journal.disk (KeepsOr ps qs)) same (c.append-in-Settle.ensures.keeps tells ready)

@@ -33,8 +33,8 @@ returns-after-is_some-clause-done g c tells s t at led =
     let ready = c.in_ok-ready-in-Some.ready in
     let row = e.row told.1 set s.number k s.node.live at.reads at.serves known.1 known.0.epoch_is gets in
     let next = next_of set s.number k s.node.live i row.note row.is_note in
-    let holds = holds_within _ mid.disks.epochs.epoch _ mid.disks.log.pairs.items _ _ (g.D.Disk.image mid.disks.epochs.journal.disk) (g.D.Disk.image mid.disks.log.journal.disk) k e.epoch e.pairs (e.epoch_moments told.0).now (e.pair_moments told.0).now known.0 in
-    let p : Parts = record { number = new.number; roster = new.roster; core = new.joining.core; up = new.joining.up; log = g.L.LogFile.bytes new.joining.queries.store.tail.log; place = new.joining.queries.store.tail.place; in_doubt = new.disks.in_doubt; epoch = new.disks.epochs.epoch; written = new.disks.log.pairs.items } in
+    let holds = holds_within _ mid.disks.epochs.value.epoch _ mid.disks.log.value.pairs.items _ _ (g.D.Disk.image mid.disks.epochs.journal.disk) (g.D.Disk.image mid.disks.log.journal.disk) k e.epoch e.pairs (e.epoch_moments told.0).now (e.pair_moments told.0).now known.0 in
+    let p : Parts = record { number = new.number; roster = new.roster; core = new.joining.core; up = new.joining.up; log = g.L.LogFile.bytes new.joining.queries.store.tail.log; place = new.joining.queries.store.tail.place; in_doubt = new.disks.in_doubt; epoch = new.disks.epochs.value.epoch; written = new.disks.log.value.pairs.items } in
     all_five c.finish.result _ _ _ _ _ _ (f.note row.note row.is_record) f.packets f.knows (f.holds told.0 k row.note row.is_record next holds) f.up
     (λ d note packets knows holds up sent le.
     let stands = knows set s.number (with_note row.note k) _ row.next in
@@ -58,8 +58,8 @@ returns-after-is_some-clause-open g c tells s t at led =
     let f = c.finish.ensures in
     let row = e.row told.1 set s.number k s.node.live at.reads at.serves known.1 known.0.epoch_is gets in
     let next = next_of set s.number k s.node.live i row.note row.is_note in
-    let holds = holds_within _ mid.disks.epochs.epoch _ mid.disks.log.pairs.items _ _ (g.D.Disk.image mid.disks.epochs.journal.disk) (g.D.Disk.image mid.disks.log.journal.disk) k e.epoch e.pairs (e.epoch_moments told.0).now (e.pair_moments told.0).now known.0 in
-    let p : Parts = record { number = new.number; roster = new.roster; core = new.joining.core; up = new.joining.up; log = g.L.LogFile.bytes new.joining.queries.store.tail.log; place = new.joining.queries.store.tail.place; in_doubt = new.disks.in_doubt; epoch = new.disks.epochs.epoch; written = new.disks.log.pairs.items } in
+    let holds = holds_within _ mid.disks.epochs.value.epoch _ mid.disks.log.value.pairs.items _ _ (g.D.Disk.image mid.disks.epochs.journal.disk) (g.D.Disk.image mid.disks.log.journal.disk) k e.epoch e.pairs (e.epoch_moments told.0).now (e.pair_moments told.0).now known.0 in
+    let p : Parts = record { number = new.number; roster = new.roster; core = new.joining.core; up = new.joining.up; log = g.L.LogFile.bytes new.joining.queries.store.tail.log; place = new.joining.queries.store.tail.place; in_doubt = new.disks.in_doubt; epoch = new.disks.epochs.value.epoch; written = new.disks.log.value.pairs.items } in
     both_err c.finish.result _ _ _ f.core (f.doubts k row.note row.is_record next holds.epoch_is holds.pairs_are)
     (λ same doubts.
     stays_open p (g.D.Disk.image new.disks.epochs.journal.disk) (g.D.Disk.image new.disks.log.journal.disk) s t _ b i row.note led reads row.is_note (roster_same old.roster new.roster set (f.same.1 ∙ e.same.1) at.setting) (at.number_is ∙ sym (f.same.0 ∙ e.same.0))
@@ -82,7 +82,7 @@ returns-after-is_some-clause-moments g c tells s t at led bytes left =
     let f = c.finish.ensures in
     let row = e.row told.1 set s.number k s.node.live at.reads at.serves known.1 known.0.epoch_is gets in
     let next = next_of set s.number k s.node.live i row.note row.is_note in
-    let holds = holds_within _ mid.disks.epochs.epoch _ mid.disks.log.pairs.items _ _ (g.D.Disk.image mid.disks.epochs.journal.disk) (g.D.Disk.image mid.disks.log.journal.disk) k e.epoch e.pairs (e.epoch_moments told.0).now (e.pair_moments told.0).now known.0 in
+    let holds = holds_within _ mid.disks.epochs.value.epoch _ mid.disks.log.value.pairs.items _ _ (g.D.Disk.image mid.disks.epochs.journal.disk) (g.D.Disk.image mid.disks.log.journal.disk) k e.epoch e.pairs (e.epoch_moments told.0).now (e.pair_moments told.0).now known.0 in
     subst (λ (x : JoinerState). KeepsOf x bytes) (led_to s t _ b led)
     (keeps_open (record { number = s.number; node = record s.node { opened = _ } }) b i row.note refl reads row.is_note bytes
     (⊎_elim (λ before. ⊎_elim inl inl (known.0.images.epochs_or bytes.0 ((e.epoch_moments told.0).each bytes.0 before))) (λ now. now) ((f.epoch_moments told.0 k row.note row.is_record next holds).before old.disks.epochs.journal.disk bytes.0 left.0))
@@ -109,7 +109,7 @@ returns-in_err-ready-in-Some-clause-spent g c s at epoch is =
     let reads = rw c.in-Some.is at (c.in_ok-read_input.ensures.reads s.node.setting at.setting) in
     let p = err_from_is_err_and c.from_residual-in_err-ready-in-Some.result c.from_residual-in_err-ready-in-Some.ensures.1 in
     let same : c.in_err-ready-in-Some.field-0.0 ≡ fault.Spent epoch = let said = rw (p.1, p.2) at is in cc said in
-    spends s c.args.input.now c.in-Some.input old.disks.epochs.epoch epoch reads known.0.epoch_is (c.in_err-ready-in-Some.ensures.spent epoch (ap Err same))
+    spends s c.args.input.now c.in-Some.input old.disks.epochs.value.epoch epoch reads known.0.epoch_is (c.in_err-ready-in-Some.ensures.spent epoch (ap Err same))
 
 pub returns-in-None-clause-spends : goal.returns-in-None-clause-spends
 returns-in-None-clause-spends g c s at epoch is = spent_junk s c.args.input.now epoch (rw c.in-None.is at (c.in_ok-read_input.ensures.junk s.node.setting at.setting)) is

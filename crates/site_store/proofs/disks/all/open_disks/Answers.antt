@@ -34,32 +34,32 @@ pub returns-in-Ok-clause-epochs_a : goal.returns-in-Ok-clause-epochs_a
 returns-in-Ok-clause-epochs_a g c =
     let first = λ (tells : IsTrue g.S.Disk.Disk.tells). first_stage g.S.Disk.Disk.image (g.S.Store.image c.args.store.now) (g.S.Store.image c.open_one.new.store)
     (lend {D = g.row.S-Disk.Denot} (λ t. t.journal.disk) c.in_ok-topology.topology) name.Topology c.in_ok-topology.ensures.name refl (c.in_ok-topology.ensures.stays tells) (c.in_ok-topology.ensures.others tells) in
-    let number : c.joiners_of-joiners.result ≡ joiners_kept c.open_rest.new.disks.topology.journal.kept c.args.asked =
-    c.joiners_of-joiners.ensures.number ∙ ap (λ t. joiners_kept t.journal.kept c.args.asked) (sym c.in-Ok.ensures.topology) in
+    let number : c.joiners_of-joiners.result ≡ joiners_kept c.open_rest.new.disks.topology.journal.value.kept c.args.asked =
+    c.joiners_of-joiners.ensures.number ∙ ap (λ t. joiners_kept t.journal.value.kept c.args.asked) (sym c.in-Ok.ensures.topology) in
     rw number at (c.in-Ok.ensures.epochs_a c.args.store.now first)
 
 pub returns-in-Ok-clause-epochs_b : goal.returns-in-Ok-clause-epochs_b
 returns-in-Ok-clause-epochs_b g c =
     let first = λ (tells : IsTrue g.S.Disk.Disk.tells). first_stage g.S.Disk.Disk.image (g.S.Store.image c.args.store.now) (g.S.Store.image c.open_one.new.store)
     (lend {D = g.row.S-Disk.Denot} (λ t. t.journal.disk) c.in_ok-topology.topology) name.Topology c.in_ok-topology.ensures.name refl (c.in_ok-topology.ensures.stays tells) (c.in_ok-topology.ensures.others tells) in
-    let number : c.joiners_of-joiners.result ≡ joiners_kept c.open_rest.new.disks.topology.journal.kept c.args.asked =
-    c.joiners_of-joiners.ensures.number ∙ ap (λ t. joiners_kept t.journal.kept c.args.asked) (sym c.in-Ok.ensures.topology) in
+    let number : c.joiners_of-joiners.result ≡ joiners_kept c.open_rest.new.disks.topology.journal.value.kept c.args.asked =
+    c.joiners_of-joiners.ensures.number ∙ ap (λ t. joiners_kept t.journal.value.kept c.args.asked) (sym c.in-Ok.ensures.topology) in
     rw number at (c.in-Ok.ensures.epochs_b c.args.store.now first)
 
 pub returns-in-Ok-clause-outputs_a : goal.returns-in-Ok-clause-outputs_a
 returns-in-Ok-clause-outputs_a g c =
     let first = λ (tells : IsTrue g.S.Disk.Disk.tells). first_stage g.S.Disk.Disk.image (g.S.Store.image c.args.store.now) (g.S.Store.image c.open_one.new.store)
     (lend {D = g.row.S-Disk.Denot} (λ t. t.journal.disk) c.in_ok-topology.topology) name.Topology c.in_ok-topology.ensures.name refl (c.in_ok-topology.ensures.stays tells) (c.in_ok-topology.ensures.others tells) in
-    let number : c.joiners_of-joiners.result ≡ joiners_kept c.open_rest.new.disks.topology.journal.kept c.args.asked =
-    c.joiners_of-joiners.ensures.number ∙ ap (λ t. joiners_kept t.journal.kept c.args.asked) (sym c.in-Ok.ensures.topology) in
+    let number : c.joiners_of-joiners.result ≡ joiners_kept c.open_rest.new.disks.topology.journal.value.kept c.args.asked =
+    c.joiners_of-joiners.ensures.number ∙ ap (λ t. joiners_kept t.journal.value.kept c.args.asked) (sym c.in-Ok.ensures.topology) in
     rw number at (c.in-Ok.ensures.outputs_a c.args.store.now first)
 
 pub returns-in-Ok-clause-outputs_b : goal.returns-in-Ok-clause-outputs_b
 returns-in-Ok-clause-outputs_b g c =
     let first = λ (tells : IsTrue g.S.Disk.Disk.tells). first_stage g.S.Disk.Disk.image (g.S.Store.image c.args.store.now) (g.S.Store.image c.open_one.new.store)
     (lend {D = g.row.S-Disk.Denot} (λ t. t.journal.disk) c.in_ok-topology.topology) name.Topology c.in_ok-topology.ensures.name refl (c.in_ok-topology.ensures.stays tells) (c.in_ok-topology.ensures.others tells) in
-    let number : c.joiners_of-joiners.result ≡ joiners_kept c.open_rest.new.disks.topology.journal.kept c.args.asked =
-    c.joiners_of-joiners.ensures.number ∙ ap (λ t. joiners_kept t.journal.kept c.args.asked) (sym c.in-Ok.ensures.topology) in
+    let number : c.joiners_of-joiners.result ≡ joiners_kept c.open_rest.new.disks.topology.journal.value.kept c.args.asked =
+    c.joiners_of-joiners.ensures.number ∙ ap (λ t. joiners_kept t.journal.value.kept c.args.asked) (sym c.in-Ok.ensures.topology) in
     rw number at (c.in-Ok.ensures.outputs_b c.args.store.now first)
 
 pub returns-in-Ok-clause-lent : goal.returns-in-Ok-clause-lent
@@ -91,7 +91,7 @@ returns-in-Err-clause-first g c =
     (lend {D = g.row.S-Disk.Denot} (λ t. t.journal.disk) c.in_ok-topology.topology) name.Topology c.in_ok-topology.ensures.name refl (c.in_ok-topology.ensures.stays tells) (c.in_ok-topology.ensures.others tells) in
     let of_others = c.in-Err.ensures.first c.args.store.now first in
     inr (
-      c.in_ok-topology.topology.journal.kept,
+      c.in_ok-topology.topology.journal.value.kept,
       c.in_ok-topology.ensures.kept,
       subst (λ (n : ℕ). IsOfFirst g.S.Disk.Disk.tells (g.S.Store.image c.args.store.now) (other_names n) c.in-Err.fault) c.joiners_of-joiners.ensures.number of_others,
     )

@@ -59,28 +59,28 @@ pub returns-in-Some-clause-cause : goal.returns-in-Some-clause-cause
 returns-in-Some-clause-cause g c =
     let d = c.in-Ok.disks in
     let k : KeptValues = record {
-      topology = d.topology.journal.kept;
-      offsets = keep_all (λ o. o.offset) d.offsets.items;
-      pending = keep_all (λ r. r.pending.keys) d.retries.items;
-      servers = keep_all (λ e. e.epoch) d.servers.items;
+      topology = d.topology.journal.value.kept;
+      offsets = keep_all (λ o. o.value.offset) d.offsets.items;
+      pending = keep_all (λ r. r.value.pending.keys) d.retries.items;
+      servers = keep_all (λ e. e.value.epoch) d.servers.items;
       notes = keep_all (λ v. v.notes.items) d.replicas.items;
-      epochs_a = keep_all (λ e. e.epoch) d.epochs_a.items;
-      epochs_b = keep_all (λ e. e.epoch) d.epochs_b.items;
-      pairs_a = keep_all (λ o. o.pairs.items) d.outputs_a.items;
-      pairs_b = keep_all (λ o. o.pairs.items) d.outputs_b.items;
+      epochs_a = keep_all (λ e. e.value.epoch) d.epochs_a.items;
+      epochs_b = keep_all (λ e. e.value.epoch) d.epochs_b.items;
+      pairs_a = keep_all (λ o. o.value.pairs.items) d.outputs_a.items;
+      pairs_b = keep_all (λ o. o.value.pairs.items) d.outputs_b.items;
     } in
     let tells = g.S.Disk.Disk.tells in
     let before = g.S.Store.image c.args.store.now in
     let kept : AreKept tells before c.args.asked.joiners k = record {
       topology = c.in-Ok.ensures.kept;
-      offsets = values_in tells before _ (λ o. o.offset) (λ o. KeepsOffset o) _ d.offsets.items c.in-Ok.ensures.offsets;
-      pending = values_in tells before _ (λ r. r.pending.keys) (λ p. KeepsPending p) _ d.retries.items c.in-Ok.ensures.retries;
-      servers = values_in tells before _ (λ e. e.epoch) (λ e. KeepsEpoch e) _ d.servers.items c.in-Ok.ensures.servers;
+      offsets = values_in tells before _ (λ o. o.value.offset) (λ o. KeepsOffset o) _ d.offsets.items c.in-Ok.ensures.offsets;
+      pending = values_in tells before _ (λ r. r.value.pending.keys) (λ p. KeepsPending p) _ d.retries.items c.in-Ok.ensures.retries;
+      servers = values_in tells before _ (λ e. e.value.epoch) (λ e. KeepsEpoch e) _ d.servers.items c.in-Ok.ensures.servers;
       notes = values_in tells before _ (λ v. v.notes.items) (λ n. KeepsNotes n) _ d.replicas.items c.in-Ok.ensures.replicas;
-      epochs_a = values_in tells before _ (λ e. e.epoch) (λ e. KeepsEpoch e) _ d.epochs_a.items c.in-Ok.ensures.epochs_a;
-      epochs_b = values_in tells before _ (λ e. e.epoch) (λ e. KeepsEpoch e) _ d.epochs_b.items c.in-Ok.ensures.epochs_b;
-      pairs_a = values_in tells before _ (λ o. o.pairs.items) (λ p. KeepsPairs p) _ d.outputs_a.items c.in-Ok.ensures.outputs_a;
-      pairs_b = values_in tells before _ (λ o. o.pairs.items) (λ p. KeepsPairs p) _ d.outputs_b.items c.in-Ok.ensures.outputs_b;
+      epochs_a = values_in tells before _ (λ e. e.value.epoch) (λ e. KeepsEpoch e) _ d.epochs_a.items c.in-Ok.ensures.epochs_a;
+      epochs_b = values_in tells before _ (λ e. e.value.epoch) (λ e. KeepsEpoch e) _ d.epochs_b.items c.in-Ok.ensures.epochs_b;
+      pairs_a = values_in tells before _ (λ o. o.value.pairs.items) (λ p. KeepsPairs p) _ d.outputs_a.items c.in-Ok.ensures.outputs_a;
+      pairs_b = values_in tells before _ (λ o. o.value.pairs.items) (λ p. KeepsPairs p) _ d.outputs_b.items c.in-Ok.ensures.outputs_b;
     } in
     judged (AreKept tells before c.args.asked.joiners) (IsCause g.L.LogFile.tells (g.L.LogFile.bytes c.args.clicks.now) c.args.end (g.L.LogFile.faults c.args.clicks.now) (g.L.LogFile.faults c.judge.new.clicks) c.args.asked) k c.in-Some.refusal kept c.in-Some.ensures.cause
 
@@ -88,28 +88,28 @@ pub returns-in-Some-clause-welcome : goal.returns-in-Some-clause-welcome
 returns-in-Some-clause-welcome g c sure log_sure = λ s asked replicas log_is end_is sound.
     let d = c.in-Ok.disks in
     let k : KeptValues = record {
-      topology = d.topology.journal.kept;
-      offsets = keep_all (λ o. o.offset) d.offsets.items;
-      pending = keep_all (λ r. r.pending.keys) d.retries.items;
-      servers = keep_all (λ e. e.epoch) d.servers.items;
+      topology = d.topology.journal.value.kept;
+      offsets = keep_all (λ o. o.value.offset) d.offsets.items;
+      pending = keep_all (λ r. r.value.pending.keys) d.retries.items;
+      servers = keep_all (λ e. e.value.epoch) d.servers.items;
       notes = keep_all (λ v. v.notes.items) d.replicas.items;
-      epochs_a = keep_all (λ e. e.epoch) d.epochs_a.items;
-      epochs_b = keep_all (λ e. e.epoch) d.epochs_b.items;
-      pairs_a = keep_all (λ o. o.pairs.items) d.outputs_a.items;
-      pairs_b = keep_all (λ o. o.pairs.items) d.outputs_b.items;
+      epochs_a = keep_all (λ e. e.value.epoch) d.epochs_a.items;
+      epochs_b = keep_all (λ e. e.value.epoch) d.epochs_b.items;
+      pairs_a = keep_all (λ o. o.value.pairs.items) d.outputs_a.items;
+      pairs_b = keep_all (λ o. o.value.pairs.items) d.outputs_b.items;
     } in
     let tells = g.S.Disk.Disk.tells in
     let before = g.S.Store.image c.args.store.now in
     let kept : AreKept tells before c.args.asked.joiners k = record {
       topology = c.in-Ok.ensures.kept;
-      offsets = values_in tells before _ (λ o. o.offset) (λ o. KeepsOffset o) _ d.offsets.items c.in-Ok.ensures.offsets;
-      pending = values_in tells before _ (λ r. r.pending.keys) (λ p. KeepsPending p) _ d.retries.items c.in-Ok.ensures.retries;
-      servers = values_in tells before _ (λ e. e.epoch) (λ e. KeepsEpoch e) _ d.servers.items c.in-Ok.ensures.servers;
+      offsets = values_in tells before _ (λ o. o.value.offset) (λ o. KeepsOffset o) _ d.offsets.items c.in-Ok.ensures.offsets;
+      pending = values_in tells before _ (λ r. r.value.pending.keys) (λ p. KeepsPending p) _ d.retries.items c.in-Ok.ensures.retries;
+      servers = values_in tells before _ (λ e. e.value.epoch) (λ e. KeepsEpoch e) _ d.servers.items c.in-Ok.ensures.servers;
       notes = values_in tells before _ (λ v. v.notes.items) (λ n. KeepsNotes n) _ d.replicas.items c.in-Ok.ensures.replicas;
-      epochs_a = values_in tells before _ (λ e. e.epoch) (λ e. KeepsEpoch e) _ d.epochs_a.items c.in-Ok.ensures.epochs_a;
-      epochs_b = values_in tells before _ (λ e. e.epoch) (λ e. KeepsEpoch e) _ d.epochs_b.items c.in-Ok.ensures.epochs_b;
-      pairs_a = values_in tells before _ (λ o. o.pairs.items) (λ p. KeepsPairs p) _ d.outputs_a.items c.in-Ok.ensures.outputs_a;
-      pairs_b = values_in tells before _ (λ o. o.pairs.items) (λ p. KeepsPairs p) _ d.outputs_b.items c.in-Ok.ensures.outputs_b;
+      epochs_a = values_in tells before _ (λ e. e.value.epoch) (λ e. KeepsEpoch e) _ d.epochs_a.items c.in-Ok.ensures.epochs_a;
+      epochs_b = values_in tells before _ (λ e. e.value.epoch) (λ e. KeepsEpoch e) _ d.epochs_b.items c.in-Ok.ensures.epochs_b;
+      pairs_a = values_in tells before _ (λ o. o.value.pairs.items) (λ p. KeepsPairs p) _ d.outputs_a.items c.in-Ok.ensures.outputs_a;
+      pairs_b = values_in tells before _ (λ o. o.value.pairs.items) (λ p. KeepsPairs p) _ d.outputs_b.items c.in-Ok.ensures.outputs_b;
     } in
     welcome tells sure g.L.LogFile.tells log_sure before c.args.asked c.requires.joiners.few (g.L.LogFile.bytes c.args.clicks.now) c.args.end (g.L.LogFile.faults c.args.clicks.now) (g.L.LogFile.faults c.judge.new.clicks)
     c.read.ensures.topology c.fits.ensures.only s asked replicas log_is end_is sound k kept c.in-Some.refusal c.in-Some.ensures.cause
@@ -126,28 +126,28 @@ pub returns-in-Ok-keep_topology-clause-kept : goal.returns-in-Ok-keep_topology-c
 returns-in-Ok-keep_topology-clause-kept g c =
     let d = c.in-Ok.disks in
     let k : KeptValues = record {
-      topology = d.topology.journal.kept;
-      offsets = keep_all (λ o. o.offset) d.offsets.items;
-      pending = keep_all (λ r. r.pending.keys) d.retries.items;
-      servers = keep_all (λ e. e.epoch) d.servers.items;
+      topology = d.topology.journal.value.kept;
+      offsets = keep_all (λ o. o.value.offset) d.offsets.items;
+      pending = keep_all (λ r. r.value.pending.keys) d.retries.items;
+      servers = keep_all (λ e. e.value.epoch) d.servers.items;
       notes = keep_all (λ v. v.notes.items) d.replicas.items;
-      epochs_a = keep_all (λ e. e.epoch) d.epochs_a.items;
-      epochs_b = keep_all (λ e. e.epoch) d.epochs_b.items;
-      pairs_a = keep_all (λ o. o.pairs.items) d.outputs_a.items;
-      pairs_b = keep_all (λ o. o.pairs.items) d.outputs_b.items;
+      epochs_a = keep_all (λ e. e.value.epoch) d.epochs_a.items;
+      epochs_b = keep_all (λ e. e.value.epoch) d.epochs_b.items;
+      pairs_a = keep_all (λ o. o.value.pairs.items) d.outputs_a.items;
+      pairs_b = keep_all (λ o. o.value.pairs.items) d.outputs_b.items;
     } in
     let tells = g.S.Disk.Disk.tells in
     let before = g.S.Store.image c.args.store.now in
     let kept : AreKept tells before c.args.asked.joiners k = record {
       topology = c.in-Ok.ensures.kept;
-      offsets = values_in tells before _ (λ o. o.offset) (λ o. KeepsOffset o) _ d.offsets.items c.in-Ok.ensures.offsets;
-      pending = values_in tells before _ (λ r. r.pending.keys) (λ p. KeepsPending p) _ d.retries.items c.in-Ok.ensures.retries;
-      servers = values_in tells before _ (λ e. e.epoch) (λ e. KeepsEpoch e) _ d.servers.items c.in-Ok.ensures.servers;
+      offsets = values_in tells before _ (λ o. o.value.offset) (λ o. KeepsOffset o) _ d.offsets.items c.in-Ok.ensures.offsets;
+      pending = values_in tells before _ (λ r. r.value.pending.keys) (λ p. KeepsPending p) _ d.retries.items c.in-Ok.ensures.retries;
+      servers = values_in tells before _ (λ e. e.value.epoch) (λ e. KeepsEpoch e) _ d.servers.items c.in-Ok.ensures.servers;
       notes = values_in tells before _ (λ v. v.notes.items) (λ n. KeepsNotes n) _ d.replicas.items c.in-Ok.ensures.replicas;
-      epochs_a = values_in tells before _ (λ e. e.epoch) (λ e. KeepsEpoch e) _ d.epochs_a.items c.in-Ok.ensures.epochs_a;
-      epochs_b = values_in tells before _ (λ e. e.epoch) (λ e. KeepsEpoch e) _ d.epochs_b.items c.in-Ok.ensures.epochs_b;
-      pairs_a = values_in tells before _ (λ o. o.pairs.items) (λ p. KeepsPairs p) _ d.outputs_a.items c.in-Ok.ensures.outputs_a;
-      pairs_b = values_in tells before _ (λ o. o.pairs.items) (λ p. KeepsPairs p) _ d.outputs_b.items c.in-Ok.ensures.outputs_b;
+      epochs_a = values_in tells before _ (λ e. e.value.epoch) (λ e. KeepsEpoch e) _ d.epochs_a.items c.in-Ok.ensures.epochs_a;
+      epochs_b = values_in tells before _ (λ e. e.value.epoch) (λ e. KeepsEpoch e) _ d.epochs_b.items c.in-Ok.ensures.epochs_b;
+      pairs_a = values_in tells before _ (λ o. o.value.pairs.items) (λ p. KeepsPairs p) _ d.outputs_a.items c.in-Ok.ensures.outputs_a;
+      pairs_b = values_in tells before _ (λ o. o.value.pairs.items) (λ p. KeepsPairs p) _ d.outputs_b.items c.in-Ok.ensures.outputs_b;
     } in
     (k, kept, none_here c.judge.result _ c.in_default.not-Some c.judge.ensures.passed)
 
@@ -155,28 +155,28 @@ pub returns-in-Ok-keep_topology-clause-were_left : goal.returns-in-Ok-keep_topol
 returns-in-Ok-keep_topology-clause-were_left g c sure s records asked replicas of =
     let d = c.in-Ok.disks in
     let k : KeptValues = record {
-      topology = d.topology.journal.kept;
-      offsets = keep_all (λ o. o.offset) d.offsets.items;
-      pending = keep_all (λ r. r.pending.keys) d.retries.items;
-      servers = keep_all (λ e. e.epoch) d.servers.items;
+      topology = d.topology.journal.value.kept;
+      offsets = keep_all (λ o. o.value.offset) d.offsets.items;
+      pending = keep_all (λ r. r.value.pending.keys) d.retries.items;
+      servers = keep_all (λ e. e.value.epoch) d.servers.items;
       notes = keep_all (λ v. v.notes.items) d.replicas.items;
-      epochs_a = keep_all (λ e. e.epoch) d.epochs_a.items;
-      epochs_b = keep_all (λ e. e.epoch) d.epochs_b.items;
-      pairs_a = keep_all (λ o. o.pairs.items) d.outputs_a.items;
-      pairs_b = keep_all (λ o. o.pairs.items) d.outputs_b.items;
+      epochs_a = keep_all (λ e. e.value.epoch) d.epochs_a.items;
+      epochs_b = keep_all (λ e. e.value.epoch) d.epochs_b.items;
+      pairs_a = keep_all (λ o. o.value.pairs.items) d.outputs_a.items;
+      pairs_b = keep_all (λ o. o.value.pairs.items) d.outputs_b.items;
     } in
     let tells = g.S.Disk.Disk.tells in
     let before = g.S.Store.image c.args.store.now in
     let kept : AreKept tells before c.args.asked.joiners k = record {
       topology = c.in-Ok.ensures.kept;
-      offsets = values_in tells before _ (λ o. o.offset) (λ o. KeepsOffset o) _ d.offsets.items c.in-Ok.ensures.offsets;
-      pending = values_in tells before _ (λ r. r.pending.keys) (λ p. KeepsPending p) _ d.retries.items c.in-Ok.ensures.retries;
-      servers = values_in tells before _ (λ e. e.epoch) (λ e. KeepsEpoch e) _ d.servers.items c.in-Ok.ensures.servers;
+      offsets = values_in tells before _ (λ o. o.value.offset) (λ o. KeepsOffset o) _ d.offsets.items c.in-Ok.ensures.offsets;
+      pending = values_in tells before _ (λ r. r.value.pending.keys) (λ p. KeepsPending p) _ d.retries.items c.in-Ok.ensures.retries;
+      servers = values_in tells before _ (λ e. e.value.epoch) (λ e. KeepsEpoch e) _ d.servers.items c.in-Ok.ensures.servers;
       notes = values_in tells before _ (λ v. v.notes.items) (λ n. KeepsNotes n) _ d.replicas.items c.in-Ok.ensures.replicas;
-      epochs_a = values_in tells before _ (λ e. e.epoch) (λ e. KeepsEpoch e) _ d.epochs_a.items c.in-Ok.ensures.epochs_a;
-      epochs_b = values_in tells before _ (λ e. e.epoch) (λ e. KeepsEpoch e) _ d.epochs_b.items c.in-Ok.ensures.epochs_b;
-      pairs_a = values_in tells before _ (λ o. o.pairs.items) (λ p. KeepsPairs p) _ d.outputs_a.items c.in-Ok.ensures.outputs_a;
-      pairs_b = values_in tells before _ (λ o. o.pairs.items) (λ p. KeepsPairs p) _ d.outputs_b.items c.in-Ok.ensures.outputs_b;
+      epochs_a = values_in tells before _ (λ e. e.value.epoch) (λ e. KeepsEpoch e) _ d.epochs_a.items c.in-Ok.ensures.epochs_a;
+      epochs_b = values_in tells before _ (λ e. e.value.epoch) (λ e. KeepsEpoch e) _ d.epochs_b.items c.in-Ok.ensures.epochs_b;
+      pairs_a = values_in tells before _ (λ o. o.value.pairs.items) (λ p. KeepsPairs p) _ d.outputs_a.items c.in-Ok.ensures.outputs_a;
+      pairs_b = values_in tells before _ (λ o. o.value.pairs.items) (λ p. KeepsPairs p) _ d.outputs_b.items c.in-Ok.ensures.outputs_b;
     } in
     left_with tells sure before c.args.asked k kept (none_here c.judge.result _ c.in_default.not-Some c.judge.ensures.passed).topology c.requires.joiners.few s asked replicas records (record { dispatchers = of.dispatchers; servers = of.servers; replicas = of.replicas; joiners = of.joiners }) c.read.ensures.topology c.read.ensures.notes
 

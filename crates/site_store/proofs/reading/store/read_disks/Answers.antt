@@ -8,5 +8,5 @@ returns-in-Ok-clause-told g c =
     record {
       topology = sym c.kept_topology.ensures;
       notes = c.in-Ok.ensures.notes ∙ sym (journals_same (λ v. v.notes.items) d.replicas.items);
-      pairs = c.in-Ok.ensures.pairs ∙ both_same (λ o. o.pairs.items) d.outputs_a.items d.outputs_b.items;
+      pairs = c.in-Ok.ensures.pairs ∙ both_same (λ o. o.value.pairs.items) d.outputs_a.items d.outputs_b.items;
     }

@@ -51,15 +51,15 @@ abbrev its_values : (g : given.Over) → goal.After-give_back g → KeptValues
 its_values g c =
     let d = c.in-Ok.disks in
     record {
-      topology = d.topology.journal.kept;
-      offsets = keep_all (λ o. o.offset) d.offsets.items;
-      pending = keep_all (λ r. r.pending.keys) d.retries.items;
-      servers = keep_all (λ e. e.epoch) d.servers.items;
+      topology = d.topology.journal.value.kept;
+      offsets = keep_all (λ o. o.value.offset) d.offsets.items;
+      pending = keep_all (λ r. r.value.pending.keys) d.retries.items;
+      servers = keep_all (λ e. e.value.epoch) d.servers.items;
       notes = keep_all (λ v. v.notes.items) d.replicas.items;
-      epochs_a = keep_all (λ e. e.epoch) d.epochs_a.items;
-      epochs_b = keep_all (λ e. e.epoch) d.epochs_b.items;
-      pairs_a = keep_all (λ o. o.pairs.items) d.outputs_a.items;
-      pairs_b = keep_all (λ o. o.pairs.items) d.outputs_b.items;
+      epochs_a = keep_all (λ e. e.value.epoch) d.epochs_a.items;
+      epochs_b = keep_all (λ e. e.value.epoch) d.epochs_b.items;
+      pairs_a = keep_all (λ o. o.value.pairs.items) d.outputs_a.items;
+      pairs_b = keep_all (λ o. o.value.pairs.items) d.outputs_b.items;
     }
 
 its_kept : (g : given.Over) (c : goal.After-give_back g) → AreKept g.S.Disk.Disk.tells (g.S.Store.image c.args.store.now) 0 (its_values g c)
@@ -69,14 +69,14 @@ its_kept g c =
     let before = g.S.Store.image c.args.store.now in
     record {
       topology = c.in-Ok.ensures.kept;
-      offsets = values_in tells before _ (λ o. o.offset) (λ o. KeepsOffset o) _ d.offsets.items c.in-Ok.ensures.offsets;
-      pending = values_in tells before _ (λ r. r.pending.keys) (λ p. KeepsPending p) _ d.retries.items c.in-Ok.ensures.retries;
-      servers = values_in tells before _ (λ e. e.epoch) (λ e. KeepsEpoch e) _ d.servers.items c.in-Ok.ensures.servers;
+      offsets = values_in tells before _ (λ o. o.value.offset) (λ o. KeepsOffset o) _ d.offsets.items c.in-Ok.ensures.offsets;
+      pending = values_in tells before _ (λ r. r.value.pending.keys) (λ p. KeepsPending p) _ d.retries.items c.in-Ok.ensures.retries;
+      servers = values_in tells before _ (λ e. e.value.epoch) (λ e. KeepsEpoch e) _ d.servers.items c.in-Ok.ensures.servers;
       notes = values_in tells before _ (λ r. r.notes.items) (λ n. KeepsNotes n) _ d.replicas.items c.in-Ok.ensures.replicas;
-      epochs_a = values_in tells before _ (λ e. e.epoch) (λ e. KeepsEpoch e) _ d.epochs_a.items c.in-Ok.ensures.epochs_a;
-      epochs_b = values_in tells before _ (λ e. e.epoch) (λ e. KeepsEpoch e) _ d.epochs_b.items c.in-Ok.ensures.epochs_b;
-      pairs_a = values_in tells before _ (λ o. o.pairs.items) (λ p. KeepsPairs p) _ d.outputs_a.items c.in-Ok.ensures.outputs_a;
-      pairs_b = values_in tells before _ (λ o. o.pairs.items) (λ p. KeepsPairs p) _ d.outputs_b.items c.in-Ok.ensures.outputs_b;
+      epochs_a = values_in tells before _ (λ e. e.value.epoch) (λ e. KeepsEpoch e) _ d.epochs_a.items c.in-Ok.ensures.epochs_a;
+      epochs_b = values_in tells before _ (λ e. e.value.epoch) (λ e. KeepsEpoch e) _ d.epochs_b.items c.in-Ok.ensures.epochs_b;
+      pairs_a = values_in tells before _ (λ o. o.value.pairs.items) (λ p. KeepsPairs p) _ d.outputs_a.items c.in-Ok.ensures.outputs_a;
+      pairs_b = values_in tells before _ (λ o. o.value.pairs.items) (λ p. KeepsPairs p) _ d.outputs_b.items c.in-Ok.ensures.outputs_b;
     }
 
 pub returns-clause-kept : goal.returns-clause-kept

@@ -2,8 +2,12 @@ use Rattle.std.proofs.Common.{arith, subst, sym}
 use Rattle.site_node.specs.Rosters.{IsOf}
 use Rattle.dispatch_node.specs.Kept.{kept_as}
 use Rattle.dispatch_node.specs.Places.{AreKeptPlaces}
-use Rattle.site_run.proofs.Lists.{pairs_at, two_each, two_ones_of, two_pairs_of}
+use Rattle.site_store.specs.Kinds.{retry_names}
+use Rattle.site_run.proofs.Lists.{mapped_length, pairs_at, two_each, two_ones_of, two_pairs_of}
 use Rattle.site_run.proofs.built.made.Made.add_dispatchers.Goals as goal
+
+pub both-retry_a-requires : goal.both-retry_a-requires
+both-retry_a-requires g c = mapped_length _ c.args.retries.items retry_names c.requires.names.1
 
 pub returns-clause-up : goal.returns-clause-up
 returns-clause-up g c all = c.add_dispatcher-2.ensures.up (c.add_dispatcher.ensures.up all)

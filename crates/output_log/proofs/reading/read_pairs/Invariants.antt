@@ -1,5 +1,0 @@
-use Rattle.output_log.proofs.Turns.{Next}
-use Rattle.output_log.proofs.reading.read_pairs.Given as goal
-
-abbrev pub invariant-loop-record_bytes : goal.invariant-loop-record_bytes
-invariant-loop-record_bytes l = Next l.records l.pairs.items l.place l.record_bytes-index
