@@ -19,7 +19,7 @@ use Rattle.photon_cli.specs.declared.engine.fault.Fault.TheVariants as fault
 use Rattle.photon_cli.specs.Bulk.{IsBulkRun, IsBulkSetting, bulk_plan}
 use Rattle.photon_cli.specs.Drill.{Drills, IsDrilled}
 use Rattle.photon_cli.specs.Join.{AreValid, IsAsked, Refuses}
-use Rattle.photon_cli.specs.LogFaults.{IsLogFault, IsOfBulk, IsOfRun}
+use Rattle.photon_cli.specs.LogFaults.{IsFailedRead, IsOfLogs}
 use Rattle.photon_cli.specs.Words.{BulkValues, Values}
 use Rattle.photon_cli.proofs.Ends.{none_refused}
 use Rattle.photon_cli.proofs.Refusals.{within}
@@ -28,6 +28,16 @@ use Rattle.photon_cli.proofs.Runs.{clicks_back}
 -- what both sites of a bulk run are run for
 abbrev pub values_of : BulkValues → Values
 values_of v = record { queries = codes "queries"; clicks = codes "clicks"; horizon = 1000000; joiners = v.joiners; shards = v.shards; batch = v.batch }
+
+-- what holds of want of memory and of what was told holds of what is told
+pub without : (P : Fault → Type 0) (f r : Fault) → ((r ≡ f) × (IsFailedRead f → ⊥)) ⊎ ((r ≡ fault.Memory) × IsFailedRead f) → P fault.Memory → P f → P r
+without P f r (inl (same, other)) memory h = subst P (sym same) h
+without P f r (inr (same, read)) memory h = subst P (sym same) memory
+
+pub no_read : (f r : Fault) → ((r ≡ f) × (IsFailedRead f → ⊥)) ⊎ ((r ≡ fault.Memory) × IsFailedRead f) → IsFailedRead r → ⊥
+no_read f r (inl (same, other)) read = other (subst IsFailedRead same read)
+no_read f r (inr (same, other)) (inl e) = absurd cc
+no_read f r (inr (same, other)) (inr (log, e)) = absurd cc
 
 under : (o : Option (List ℕ)) (log : List ℕ) (P : List ℕ → Type 0) → o ≡ Some log → IsSomeAnd o P → P log
 under o log P is = subst (λ (x : Option (List ℕ)). IsSomeAnd x P) is
@@ -49,6 +59,7 @@ module _ (told : List ℕ → Option (List ℕ)) (v : BulkValues) (few : v.count
         joiners = asked.setting.numbers.joiners;
         table = asked.table;
         batch = asked.setting.numbers.batch;
+        replicas = asked.setting.numbers.replicas;
       }
 
   pub made_valid : ((seed n : ℕ) → n ≤ 2 ^ 32 → length (logs.query_log seed n) ≤ 37 * n) → ((seed n : ℕ) → n ≤ 2 ^ 32 → length (logs.click_log seed n) ≤ 62 * n) → AreValid told (codes "queries") (codes "clicks")
@@ -63,14 +74,13 @@ module _ (told : List ℕ → Option (List ℕ)) (v : BulkValues) (few : v.count
         },
       )
 
-  -- why such a run gives up
-  pub bulk_cause : AreValid told (codes "queries") (codes "clicks") → (f : Fault) → ((log : LogName) (line : ℕ) (w : Why) → f ≡ fault.Refused log line w → Refuses told (codes "queries") (codes "clicks") log (record { line = line; why = w }))
-      → ((log : LogName) × IsLogFault log f) ⊎ IsOfRun f → IsOfBulk f
-  bulk_cause valid f refuses (inl (log, inl (line, w, e))) = absurd (none_refused told (codes "queries") (codes "clicks") log (record { line = line; why = w }) valid (refuses log line w e))
-  bulk_cause valid f refuses (inl (log, inr (inl e))) = subst IsOfBulk (sym e) tt
-  bulk_cause valid f refuses (inl (log, inr (inr e))) = subst IsOfBulk (sym e) tt
-  bulk_cause valid f refuses (inr (inl (c, e))) = subst IsOfBulk (sym e) tt
-  bulk_cause valid f refuses (inr (inr e)) = subst IsOfBulk (sym e) tt
+  -- what may be wrong with the logs of such a run is want of memory, where no failed read is told
+  pub bulk_early : AreValid told (codes "queries") (codes "clicks") → (f r : Fault) → ((log : LogName) (line : ℕ) (w : Why) → f ≡ fault.Refused log line w → Refuses told (codes "queries") (codes "clicks") log (record { line = line; why = w }))
+      → ((r ≡ f) × (IsFailedRead f → ⊥)) ⊎ ((r ≡ fault.Memory) × IsFailedRead f) → IsOfLogs f → r ≡ fault.Memory
+  bulk_early valid f r refuses (inr (memory, read)) early = memory
+  bulk_early valid f r refuses (inl (same, other)) (log, inl (line, w, e)) = absurd (none_refused told (codes "queries") (codes "clicks") log (record { line = line; why = w }) valid (refuses log line w e))
+  bulk_early valid f r refuses (inl (same, other)) (log, inr (inl e)) = absurd (other (inr (log, e)))
+  bulk_early valid f r refuses (inl (same, other)) (log, inr (inr e)) = same ∙ e
 
   -- the run, and the totals of its lines
   pub bulk_run : (plan : PlanView) (ran : Option RunLog) (lines : List ReportLine) → plan ≡ bulk_plan → Drills told (values_of v) plan ran lines → IsSomeAnd ran (IsBulkRun v)

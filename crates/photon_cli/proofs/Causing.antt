@@ -1,12 +1,10 @@
 -- By what a join's fault and its cause say, how it may end.
-use Rattle.std.proofs.Common.{◌≡◌, ◌⊎◌, inl, inr, ⊎_elim, ℕ, ◌∷◌, List, Option, None, Some, refl, sym, subst, ◌∙◌}
+use Rattle.std.proofs.Common.{◌≡◌, ◌⊎◌, inl, inr, ⊎_elim, ℕ, refl, sym, subst, ◌∙◌}
 use Rattle.outside.specs.declared.store.DiskName.{DiskName}
 use Rattle.log_records.specs.declared.why.Why.{Why}
 use Rattle.site_run.specs.declared.faults.fault.LogName.{LogName}
 use Rattle.site_run.specs.declared.faults.fault.Mismatch.TheVariants as mismatch
-use Rattle.site_run.specs.declared.faults.fault.RunFault.{RunFault}
 use Rattle.site_run.specs.declared.faults.fault.RunFault.TheVariants as cause
-use Rattle.site_store.specs.declared.disks.checks.Misfit.{Misfit}
 use Rattle.turn_defs.specs.Setting.{Setting}
 use Rattle.site_laws.specs.Stores.{Images}
 use Rattle.site_run.specs.Refused.{HasPassed, IsCauseOf, IsTaken, WasJournal}

@@ -1,6 +1,6 @@
 -- A drill's history, and where a joiner has stopped in it.
 use Rattle.std.proofs.Common.{◌≡◌, ◌≤◌, ℕ, ◌==◌, Bool, true, false, ◌||◌, nat_le, List, [], ◌∷◌, Option, Some, None, refl, arith}
-use Rattle.std.specs.List.{All, list_any}
+use Rattle.std.specs.List.{list_any}
 use Rattle.std.specs.Option.{IfSome, IsSomeAnd}
 use Rattle.outside.specs.Disk.{Torn}
 use Rattle.mem_outside.specs.declared.disk.MemDisk.{MemDisk}
@@ -10,9 +10,8 @@ use Rattle.std.proofs.lemmas.Bool.Decides.{nat_tests}
 use Rattle.lossy_link.specs.Fates.{PlanView}
 use Rattle.air_bus.specs.declared.entry.Entry.{Entry}
 use Rattle.air_bus.specs.declared.entry.Entry.TheVariants.{Begin, End, Stop}
-use Rattle.air_bus.specs.History.{is_of, IsAired}
+use Rattle.air_bus.specs.History.{is_of}
 use Rattle.air_bus.specs.Kept.{is_stop_from}
-use Rattle.bus_seat.specs.Seats.{IsIn}
 use Rattle.log_records.specs.declared.report.ReportLine.{ReportLine}
 use Rattle.turn_defs.specs.Setting.{Setting}
 use Rattle.photon_cli.specs.Planned.{is_joiners}
@@ -21,6 +20,7 @@ use Rattle.site_workers.specs.Works.{is_stop}
 use Rattle.site_run.specs.Joined.{RanAfresh}
 use Rattle.site_run.specs.declared.ran.RunLog.{RunLog}
 use Rattle.photon_cli.specs.Drill.{IsDrilled}
+use Rattle.photon_cli.specs.Join.{IsHeard}
 
 -- an entry that may be the node's, before others: if it is, it is no stop
 one_more : (own stops rest : Bool) (e : Entry) (j : ℕ) (h : List Entry) → is_of j e ≡ own → is_stop e ≡ stops → (own ≡ true → stops ≡ false) → list_any is_stop (made_by j h) ≡ false → list_any is_stop (made_by j (e ∷ h)) ≡ false
@@ -61,12 +61,12 @@ something_left None = ([], refl)
 something_left (Some disk) = synced_left _ _
 
 -- what is known of a run's history
-pub drilled : (o : Option RunLog) (g : Setting) (plan : PlanView) (lines : List ReportLine) → g.replicas ≡ 3 → IsSomeAnd o (λ l. RanAfresh g l.air.history lines) → IfSome o (λ l. All (IsIn l.air.history) l.seen.items) → IfSome o (λ l. IsAired plan l.air.kinds l.air.history)
+pub drilled : (o : Option RunLog) (g : Setting) (plan : PlanView) (lines : List ReportLine) → g.replicas ≡ 3 → IsSomeAnd o (λ l. RanAfresh g l.air.history lines) → IfSome o (IsHeard plan)
     → (list_any is_joiners plan.stops ≡ false → IfSome o (λ l. (j : ℕ) → 7 ≤ j → list_any is_stop (made_by j l.air.history) ≡ false)) → IsSomeAnd o (IsDrilled g plan lines)
-drilled None g plan lines three ran lists aired spared = absurd ran
-drilled (Some log) g plan lines three ran lists aired spared = record {
+drilled None g plan lines three ran heard spared = absurd ran
+drilled (Some log) g plan lines three ran heard spared = record {
   ran = ran;
-  lists = lists;
-  aired = aired;
+  lists = heard.lists;
+  aired = heard.aired;
   whole = λ none. ran.whole (λ stopped. let calm = spared none stopped.0 (omega (arith, three, stopped.1.0)) in absurd cc);
 }

@@ -1,4 +1,4 @@
--- Commands whose words were taken for none, for want of memory: nothing was done.
+-- Words that were taken for none, for want of memory: whatever they ask for, nothing was done.
 use Rattle.std.proofs.Common.{inl, inr, ⊎_elim, ◌≡◌, ◌++◌, ℕ, List, Bool, Option, IsTrue, arith}
 use Rattle.gate_journal.proofs.Growth.{continues_same}
 use Rattle.turn_defs.specs.Setting.{Setting}
@@ -8,18 +8,20 @@ use Rattle.site_laws.specs.Stores.{Images}
 use Rattle.site_run.specs.declared.ran.RunLog.{RunLog}
 use Rattle.command_words.specs.Words.{Text}
 use Rattle.photon_cli.specs.declared.engine.fault.Fault.TheVariants as fault
-use Rattle.photon_cli.specs.Ends.{BulkEnds, DrillEnds, JoinEnds, VerifyEnds}
+use Rattle.photon_cli.specs.Ends.{BulkEnds, DrillEnds, Ends, JoinEnds, VerifyEnds}
 use Rattle.photon_cli.specs.Faults.{message}
-use Rattle.photon_cli.specs.Words.{BulkValues, Values}
+use Rattle.photon_cli.specs.Words.{BulkValues, Values, Wish, a_bulk_run, a_drill, a_join, a_verification}
 
-module _ (logs sinks : Bool) (told : List ℕ → Option (List ℕ)) (files output errors : Type 0) (ran : Option RunLog) (old err_old err_new : List ℕ) (status : ℕ)
-    (eight : status ≡ 8) (tells : IsTrue sinks → (errors → ⊥) → err_new ≡ err_old ++ message fault.Memory) where
-  pub join_forgotten : (v : Values) (disks : Bool) (before : Images) (faulted : Type 0) (leaves : Setting → Type 0)
-      → JoinEnds logs sinks told files output errors ran old old err_old err_new status v disks before before faulted leaves
-  join_forgotten v disks before faulted leaves = record {
+module _ (logs sinks disks : Bool) (told : List ℕ → Option (List ℕ)) (files output errors faulted : Type 0) (before : Images) (leaves : Setting → Type 0) (same unrun : Type 0) (ran : Option RunLog) (old err_old err_new : List ℕ) (status : ℕ)
+    (eight : status ≡ 8) (tells : IsTrue sinks → (errors → ⊥) → err_new ≡ err_old ++ message fault.Memory) (is_same : same) (is_unrun : unrun) (stays : (disk : DiskName) → StaysAs (before disk) (before disk)) where
+  join : (v : Values) → JoinEnds logs sinks told files output errors old old err_old err_new status v ran same unrun disks before before faulted leaves
+  join v = record {
     joined = λ l s d e. absurd (omega (arith, eight, e));
     afresh = λ l s d e. absurd (omega (arith, eight, e));
     ran_on = λ l d e. absurd (omega (arith, eight, e));
+    begins = inl ((is_same, is_unrun), λ e. omega (arith, eight, e));
+    history = λ d l g asked. inl is_unrun;
+    one = λ e. omega (arith, eight, e);
     row = λ e. absurd (omega (arith, eight, e));
     bad_row = λ n first. inr eight;
     lines = λ l e. absurd (omega (arith, eight, e));
@@ -38,9 +40,12 @@ module _ (logs sinks : Bool) (told : List ℕ → Option (List ℕ)) (files outp
     complete = λ d l g asked sound leaves below calm still quiet. inr eight;
   }
 
-  pub drill_forgotten : (v : Values) (file : Text) (untouched : Type 0) → untouched → DrillEnds logs sinks told files output errors ran old old err_old err_new status v file untouched
-  drill_forgotten v file untouched stays = record {
+  drill : (v : Values) (file : Text) → DrillEnds logs sinks told files output errors old old err_old err_new status v file ran unrun
+  drill v file = record {
     drilled = λ l s e. absurd (omega (arith, eight, e));
+    ran_on = λ l e. absurd (omega (arith, eight, e));
+    begins = inl (is_unrun, λ e. omega (arith, eight, e));
+    one = λ e. omega (arith, eight, e);
     refused = λ l e. absurd (omega (arith, eight, e));
     bad_row = λ n first. inr eight;
     bad_place = λ l place bad calm. inr eight;
@@ -50,14 +55,13 @@ module _ (logs sinks : Bool) (told : List ℕ → Option (List ℕ)) (files outp
     tells = λ l s calm. inr (fault.Memory, eight, tt, tells s calm);
     welcome = λ l. (λ seven. omega (arith, eight, seven), λ nine. omega (arith, eight, nine));
     complete = λ l g asked plan is calm quiet. inr (inr (inl eight));
-    store = stays;
   }
 
-  pub verify_forgotten : (clicks : Text) (disks : Bool) (before : Images) (faulted : Type 0) (leaves : Setting → Type 0) → ((disk : DiskName) → StaysAs (before disk) (before disk))
-      → VerifyEnds logs sinks told files output errors ran old old err_old err_new status clicks disks before before faulted leaves
-  verify_forgotten clicks disks before faulted leaves stays = record {
+  verify : (clicks : Text) → VerifyEnds logs sinks told files output errors old old err_old err_new status clicks same disks before before faulted leaves
+  verify clicks = record {
     whole = λ l s d e. absurd (omega (arith, eight, e));
     missing = λ l s d e. absurd (omega (arith, eight, e));
+    begins = inl ((is_same, λ e. omega (arith, eight, e), λ e. omega (arith, eight, e)), λ e. omega (arith, eight, e));
     lines = λ l e. absurd (omega (arith, eight, e));
     invalid = λ l bad calm. inr eight;
     words = λ e. omega (arith, eight, e);
@@ -75,13 +79,24 @@ module _ (logs sinks : Bool) (told : List ℕ → Option (List ℕ)) (files outp
     complete = λ d l g over replicas few sound leaves below calm still quiet. inr (inr eight);
   }
 
-  pub bulk_forgotten : (v : BulkValues) (untouched : Type 0) → untouched → BulkEnds logs sinks told files output errors ran old old err_old err_new status v untouched
-  bulk_forgotten v untouched stays = record {
+  bulk : (v : BulkValues) → BulkEnds sinks output errors old old err_old err_new status v ran unrun
+  bulk v = record {
     totals = λ s e. absurd (omega (arith, eight, e));
+    ran_on = λ e. absurd (omega (arith, eight, e));
+    begins = inl (is_unrun, λ e. omega (arith, eight, e));
     row = λ e. absurd (omega (arith, eight, e));
     bad_row = λ n first. inr eight;
+    one = λ e. omega (arith, eight, e);
     lines = λ e. omega (arith, eight, e);
+    read = λ e. omega (arith, eight, e);
+    welcome = (λ e. omega (arith, eight, e), λ e. omega (arith, eight, e));
+    complete = λ table quiet. inr (inr (inl eight));
     prefix = λ s e. absurd (omega (arith, eight, e));
     tells = λ s calm. inr (fault.Memory, eight, tt, tells s calm);
-    store = stays;
   }
+
+  pub forgotten : (w : Wish) → Ends logs sinks disks told files output errors faulted before before leaves same unrun ran old old err_old err_new status w
+  forgotten (a_join v state) = join v
+  forgotten (a_drill v plan) = (drill v plan, is_same)
+  forgotten (a_verification clicks state) = (verify clicks, is_unrun)
+  forgotten (a_bulk_run v) = (bulk v, is_same)

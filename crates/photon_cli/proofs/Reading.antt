@@ -1,5 +1,5 @@
 -- Why a verification gives up, from what reading its store tells, and how it may end.
-use Rattle.std.proofs.Common.{◌≡◌, ◌⊎◌, inl, inr, ⊎_elim, ℕ, ◌≤◌, List, Bool, IsTrue, true, Option, None, Some, refl, sym, ◌∙◌, subst, arith}
+use Rattle.std.proofs.Common.{◌≡◌, ◌⊎◌, inl, inr, ℕ, ◌≤◌, List, Bool, IsTrue, true, Option, None, Some, refl, sym, ◌∙◌, subst, arith}
 use Rattle.std.specs.Prelude.{IsSomeAnd, ⊤}
 use Rattle.outside.specs.declared.faults.StoreFault.{StoreFault}
 use Rattle.outside.specs.declared.faults.StoreFault.TheVariants as store
@@ -118,12 +118,6 @@ pub log_in_verify : (g : Setting) (before : Images) (read faulted : Type 0) (f :
 log_in_verify g before read faulted f log (inl (line, w, is)) rose = subst (HasCauseInVerify g before read faulted) (sym is) tt
 log_in_verify g before read faulted f log (inr (inl is)) rose = subst (HasCauseInVerify g before read faulted) (sym is) (rose is)
 log_in_verify g before read faulted f log (inr (inr is)) rose = subst (HasCauseInVerify g before read faulted) (sym is) tt
-
--- such a fault is told of no store
-pub log_fair : (f : Fault) (log : LogName) → IsLogFault log f → IsFair ⊤ f
-log_fair f log (inl (line, w, is)) = subst (IsFair ⊤) (sym is) tt
-log_fair f log (inr (inl is)) = subst (IsFair ⊤) (sym is) tt
-log_fair f log (inr (inr is)) = subst (IsFair ⊤) (sym is) tt
 
 -- the fault of reading the store, whose log was read before
 pub later_in_verify : (g : Setting) (before : Images) (files read faulted : Type 0) → (files → read) → (f : Fault) → HasCauseInVerify g before files faulted f → HasCauseInVerify g before read faulted f

@@ -9,6 +9,7 @@ use Rattle.site_laws.specs.Stores.{Images}
 use Rattle.site_run.specs.Left.{RunLeft}
 use Rattle.site_run.specs.declared.ran.RunLog.{RunLog}
 use Rattle.time_shards.specs.declared.ShardRow.{ShardRow}
+use Rattle.time_shards.proofs.Texts.{only_table}
 use Rattle.event_id.specs.declared.id.EventId.{EventId}
 use Rattle.log_records.specs.declared.records.QueryRec.{QueryRec}
 use Rattle.log_records.specs.declared.records.ClickRec.{ClickRec}
@@ -20,7 +21,7 @@ use Rattle.turn_defs.specs.Setting.{Setting, Checked}
 use Rattle.dispatch_node.specs.Places.{IsLogOf}
 use Rattle.site_run.specs.Asked.{IsSettingOf}
 use Rattle.photon_cli.specs.CheckedLogs.{EndsAt}
-use Rattle.photon_cli.specs.Join.{AreLogs, HasIds, IsAsked, IsHistory, config_of}
+use Rattle.photon_cli.specs.Join.{AreLogs, HasIds, IsAsked, IsHeard, IsHistory, config_of}
 use Rattle.photon_cli.specs.Words.{IsTextOf, Values}
 use Rattle.photon_cli.proofs.Refusals.{within}
 
@@ -33,11 +34,18 @@ pub known : {A : Type 0} (o : Option A) (P Q : A → Type 0) → IsSomeAnd o P �
 known None P Q h k = absurd h
 known (Some x) P Q h k = k
 
--- what is left of a run
-pub history : (o : Option RunLog) (g : Setting) (before after : Images) (plan : PlanView) → IsSomeAnd o (λ l. RunLeft g before after l.air.history) → IfSome o (λ l. All (IsIn l.air.history) l.seen.items) → IfSome o (λ l. IsAired plan l.air.kinds l.air.history)
-    → IsSomeAnd o (IsHistory g before after plan)
-history None g before after plan left lists aired = absurd left
-history (Some log) g before after plan left lists aired = record { left = left; lists = lists; aired = aired }
+-- what is left of a run, and whatever is known of it where it has begun
+pub heard : (o : Option RunLog) (plan : PlanView) → IfSome o (λ l. All (IsIn l.air.history) l.seen.items) → IfSome o (λ l. IsAired plan l.air.kinds l.air.history) → IfSome o (IsHeard plan)
+heard None plan lists aired = tt
+heard (Some log) plan lists aired = record { lists = lists; aired = aired }
+
+pub if_history : (o : Option RunLog) (g : Setting) (before after : Images) (plan : PlanView) → IfSome o (λ l. RunLeft g before after l.air.history) → IfSome o (IsHeard plan) → IfSome o (IsHistory g before after plan)
+if_history None g before after plan left heard = tt
+if_history (Some log) g before after plan left heard = record { left = left; lists = heard.lists; aired = heard.aired }
+
+pub history : (o : Option RunLog) (g : Setting) (before after : Images) (plan : PlanView) → IsSomeAnd o (λ l. RunLeft g before after l.air.history) → IfSome o (IsHeard plan) → IsSomeAnd o (IsHistory g before after plan)
+history None g before after plan left heard = absurd left
+history (Some log) g before after plan left heard = record { left = left; lists = heard.lists; aired = heard.aired }
 
 -- the setting of a log that was checked has what the law asks of it
 pub log_checked : (o : Option (List ℕ)) (g : Setting) → IsSomeAnd o (λ log. IsLogOf log g) → Checked g
@@ -96,9 +104,10 @@ ends_there (Some log) g end_ h k = k g.clicks h.lines
 
 -- the setting that is asked for is that of the run: of the table that was read, and of the click log's end
 pub run_setting : (told now : List ℕ → Option (List ℕ)) (v : Values) (table : List ShardRow) (end_ : ℕ) (g : Setting)
-    → IsAsked told v g → ((n : List ℕ) → now n ≡ told n) → table ≡ g.table → IsSomeAnd (told v.clicks) (λ log. EndsAt log end_) → IsSettingOf now v.queries v.clicks (config_of v table) end_ g
-run_setting told now v table end_ g asked same is ends =
+    → IsAsked told v g → IsTextOf v.shards table → ((n : List ℕ) → now n ≡ told n) → IsSomeAnd (told v.clicks) (λ log. EndsAt log end_) → IsSettingOf now v.queries v.clicks (config_of v table) end_ g
+run_setting told now v table end_ g asked text same ends =
     let n = asked.setting.numbers in
+    let is : table ≡ g.table = only_table v.shards table g.table text.0 asked.table.0 text.1 asked.table.1 in
     record {
       numbers = record { joiners = n.joiners; horizon = n.horizon; table = sym is; batch = n.batch; replicas = n.replicas };
       queries_are = subst (λ (o : Option (List ℕ)). IsSomeAnd o (λ log. IsQueryLog log g.queries)) (sym (same v.queries)) asked.setting.queries_are;

@@ -1,10 +1,9 @@
 -- How a verification ends at each fault.
-use Rattle.std.proofs.Common.{◌⊎◌, inl, inr, ◌≡◌, ◌≢◌, ℕ, List, [], map, nat_lt, Option, None, Some, Bool, false, IsTrue, refl, sym, ap, subst, ◌∙◌, arith}
+use Rattle.std.proofs.Common.{inl, inr, ◌≡◌, ℕ, List, [], map, nat_lt, Option, None, Some, Bool, false, IsTrue, refl, sym, ap, subst, ◌∙◌, arith}
 use Rattle.std.specs.Option.{IsSomeAnd}
 use Rattle.std.specs.List.{flat_map}
 use Rattle.std.proofs.lemmas.Bool.Decides.{nat_tests}
 use Rattle.event_id.specs.declared.id.EventId.{EventId}
-use Rattle.registry_state.specs.declared.Batch.{Batch}
 use Rattle.registry_state.specs.Same.{same_batch}
 use Rattle.log_records.specs.declared.report.ReportLine.TheVariants.{U}
 use Rattle.turn_defs.specs.declared.pair.PairRec.{PairRec}
@@ -13,11 +12,6 @@ use Rattle.paxos_acceptor.specs.Cells.{note_view}
 use Rattle.time_shards.specs.declared.ShardRow.{ShardRow}
 use Rattle.time_shards.specs.Shards.{shard_of}
 use Rattle.verify_pass.specs.Classes.{first_pair, line_by, line_of}
-use Rattle.log_records.specs.declared.why.Why.{Why}
-use Rattle.log_records.specs.Check.{RefusesClick}
-use Rattle.site_run.specs.declared.faults.fault.LogName.TheVariants.{Queries, Clicks}
-use Rattle.site_run.specs.declared.faults.fault.RunFault.TheVariants as cause
-use Rattle.command_words.specs.Words.{Text}
 use Rattle.outside.specs.declared.store.DiskName.{DiskName}
 use Rattle.outside.specs.declared.store.DiskName.TheVariants as name
 use Rattle.topology_journal.specs.Topologies.{Keeps as KeepsTopology}
@@ -44,66 +38,28 @@ use Rattle.dispatch_node.specs.Places.{IsLogOf}
 use Rattle.photon_cli.specs.Join.{HasIds}
 use Rattle.photon_cli.specs.Verify.{IsReadFrom, IsTold}
 use Rattle.photon_cli.proofs.Runs.{clicks_back}
-use Rattle.photon_cli.specs.declared.engine.fault.Fault.{Fault}
 use Rattle.photon_cli.specs.declared.engine.fault.Fault.TheVariants as fault
-use Rattle.photon_cli.specs.Faults.{status_of}
-use Rattle.photon_cli.specs.LogFaults.{IsFailedRead, IsLogFault, IsOfRun, IsOfVerify}
-use Rattle.photon_cli.specs.Told.{IsNamedInVerify}
+use Rattle.photon_cli.specs.LogFaults.{IsFailedRead}
 
-pub no_one : (f : Fault) → status_of f ≢ 1
-no_one (fault.Table n) e = omega arith
-no_one (fault.Plan place) e = omega arith
-no_one (fault.Refused Queries line w) e = omega arith
-no_one (fault.Refused Clicks line w) e = omega arith
-no_one fault.PlanRead e = omega arith
-no_one (fault.Run (cause.Read log)) e = omega arith
-no_one (fault.Run (cause.Store place)) e = omega arith
-no_one (fault.Run (cause.Damaged disk at)) e = omega arith
-no_one (fault.Run (cause.Topology what)) e = omega arith
-no_one (fault.Run (cause.Limit disk value)) e = omega arith
-no_one (fault.Run cause.Memory) e = omega arith
-no_one fault.Write e = omega arith
-no_one fault.Memory e = omega arith
+-- ---- a store that isn't read
 
-pub never_two : (f : Fault) → IsOfVerify f → status_of f ≢ 2
-never_two (fault.Table n) own e = own
-never_two (fault.Plan place) own e = own
-never_two (fault.Refused Queries line w) own e = omega arith
-never_two (fault.Refused Clicks line w) own e = omega arith
-never_two fault.PlanRead own e = omega arith
-never_two (fault.Run (cause.Read log)) own e = omega arith
-never_two (fault.Run (cause.Store place)) own e = omega arith
-never_two (fault.Run (cause.Damaged disk at)) own e = omega arith
-never_two (fault.Run (cause.Topology what)) own e = omega arith
-never_two (fault.Run (cause.Limit disk value)) own e = omega arith
-never_two (fault.Run cause.Memory) own e = omega arith
-never_two fault.Write own e = omega arith
-never_two fault.Memory own e = omega arith
-
-pub click_line : (f : Fault) → IsOfVerify f → status_of f ≡ 3 → (line : ℕ) × (w : Why) × (f ≡ fault.Refused Clicks line w)
-click_line (fault.Table n) own e = absurd own
-click_line (fault.Plan place) own e = absurd (omega arith)
-click_line (fault.Refused Queries line w) own e = absurd own
-click_line (fault.Refused Clicks line w) own e = (line, w, refl)
-click_line fault.PlanRead own e = absurd (omega arith)
-click_line (fault.Run (cause.Read log)) own e = absurd (omega arith)
-click_line (fault.Run (cause.Store place)) own e = absurd (omega arith)
-click_line (fault.Run (cause.Damaged disk at)) own e = absurd (omega arith)
-click_line (fault.Run (cause.Topology what)) own e = absurd (omega arith)
-click_line (fault.Run (cause.Limit disk value)) own e = absurd (omega arith)
-click_line (fault.Run cause.Memory) own e = absurd (omega arith)
-click_line fault.Write own e = absurd (omega arith)
-click_line fault.Memory own e = absurd (omega arith)
-
-pub named_in_verify : (told : List ℕ → Option (List ℕ)) (clicks : Text) (f : Fault) → IsOfVerify f → ((line : ℕ) (w : Why) → f ≡ fault.Refused Clicks line w → IsSomeAnd (told clicks) (λ log. RefusesClick log (record { line = line; why = w }))) → IsNamedInVerify told clicks f
-named_in_verify told clicks (fault.Table n) own line = own
-named_in_verify told clicks (fault.Plan place) own line = own
-named_in_verify told clicks (fault.Refused Queries n w) own line = own
-named_in_verify told clicks (fault.Refused Clicks n w) own line = line n w refl
-named_in_verify told clicks fault.PlanRead own line = own
-named_in_verify told clicks (fault.Run f) own line = tt
-named_in_verify told clicks fault.Write own line = tt
-named_in_verify told clicks fault.Memory own line = tt
+-- of a store's refusals one alone is of the log
+pub refused_read : (r : Refusal) → IsFailedRead (fault.Run (of_refusal r)) → r ≡ Read
+refused_read (OfDisks (disks.Store disk)) (inl e) = absurd cc
+refused_read (OfDisks (disks.Store disk)) (inr (log, e)) = absurd cc
+refused_read (OfDisks (disks.Damaged disk at)) (inl e) = absurd cc
+refused_read (OfDisks (disks.Damaged disk at)) (inr (log, e)) = absurd cc
+refused_read (OfDisks disks.Memory) (inl e) = absurd cc
+refused_read (OfDisks disks.Memory) (inr (log, e)) = absurd cc
+refused_read (Joiners a b) (inl e) = absurd cc
+refused_read (Joiners a b) (inr (log, e)) = absurd cc
+refused_read (Table a b) (inl e) = absurd cc
+refused_read (Table a b) (inr (log, e)) = absurd cc
+refused_read (Place p) (inl e) = absurd cc
+refused_read (Place p) (inr (log, e)) = absurd cc
+refused_read (Limit disk value) (inl e) = absurd cc
+refused_read (Limit disk value) (inr (log, e)) = absurd cc
+refused_read Read e = refl
 
 -- ---- a store that is read, by what a stop might have left of it before its directory was chosen
 

@@ -1,5 +1,5 @@
 -- What a bulk run does: both logs are made from a seed, both sites run over them as in a drill, and the totals line is told.
-use Rattle.std.specs.Prelude.{ℕ, ◌≡◌, ◌<◌, ◌≤◌, List, [], ◌∷◌, ◌++◌, Option, None, IsSomeAnd}
+use Rattle.std.specs.Prelude.{ℕ, ◌≡◌, ◌<◌, ◌≤◌, List, [], ◌∷◌, ◌++◌, Option, None, IfSome, IsSomeAnd}
 use Rattle.turn_defs.specs.declared.limits.TheConstants.{MOST_JOINERS}
 use Rattle.registry_state.specs.declared.TheConstants.{MOST_INSERTS}
 use Rattle.lossy_link.specs.Fates.{PlanView}
@@ -14,7 +14,8 @@ use Rattle.report_text.specs.Stream.{TookPrefix}
 use Rattle.site_run.specs.declared.ran.RunLog.{RunLog}
 use Rattle.photon_cli.specs.declared.wanted.BulkWanted.{BulkWanted}
 use Rattle.photon_cli.specs.Drill.{IsDrilled}
-use Rattle.photon_cli.specs.Words.{BulkValues, IsTextOf}
+use Rattle.photon_cli.specs.Join.{IsHeard}
+use Rattle.photon_cli.specs.Words.{BulkValues, HasTable, IsTextOf}
 
 -- a rule for a thousand packets of each link: the first of this ordinal, then one in so many
 abbrev pub rule : (first every : ℕ) → Fate → Rule
@@ -43,6 +44,7 @@ pub record IsBulkSetting (v : BulkValues) (g : Setting) : Type 0 where
   pub joiners : g.joiners ≡ v.joiners
   pub table : IsTextOf v.shards g.table
   pub batch : g.batch ≡ v.batch
+  pub replicas : g.replicas ≡ 3
 
 -- it was run from nothing under that plan, and this is the run's history
 pub record IsBulkRun (v : BulkValues) (log : RunLog) : Type 0 where
@@ -50,6 +52,10 @@ pub record IsBulkRun (v : BulkValues) (log : RunLog) : Type 0 where
   pub made : IsBulkSetting v setting
   pub lines : List ReportLine
   pub run : IsDrilled setting bulk_plan lines log
+
+-- the same of a bulk run, whose logs are always valid
+abbrev pub BeginsBulk : BulkValues → Option RunLog → Type 0
+BeginsBulk v ran = HasTable v.shards × IfSome ran (IsHeard bulk_plan)
 
 -- the totals line was written behind what was there: whole, or a prefix of it
 abbrev pub PrintsTotals : BulkValues → Option RunLog → (old new : List ℕ) → Type 0

@@ -1,5 +1,5 @@
 -- What a drill does: both sites run over disks in memory that hold nothing at first, and a plan says what goes wrong.
-use Rattle.std.specs.Prelude.{ℕ, ◌≡◌, false, List, ◌++◌, map, Option, IsSomeAnd}
+use Rattle.std.specs.Prelude.{ℕ, ◌≡◌, Bool, false, List, ◌++◌, map, Option, IfSome, IsSomeAnd, IsTrue}
 use Rattle.std.specs.List.{All, list_any}
 use Rattle.lossy_link.specs.Fates.{PlanView}
 use Rattle.lossy_link.specs.Plans.{IsPlanOf, IsFirstBad}
@@ -14,9 +14,9 @@ use Rattle.turn_defs.specs.Setting.{Setting}
 use Rattle.photon_cli.specs.Planned.{is_joiners}
 use Rattle.site_run.specs.Joined.{RanAfresh}
 use Rattle.site_run.specs.declared.ran.RunLog.{RunLog}
-use Rattle.photon_cli.specs.Join.{IsAsked}
+use Rattle.photon_cli.specs.Join.{AreValid, IsAsked, IsHeard}
 use Rattle.command_words.specs.Words.{Text}
-use Rattle.photon_cli.specs.Words.{Values}
+use Rattle.photon_cli.specs.Words.{HasTable, Values}
 
 -- These are the lines of the report of a run from nothing under this plan, and that is its history. Where no stop of the plan is of
 -- a joiner's disk all lines are those of the two logs.
@@ -39,6 +39,14 @@ module _ (told : List ℕ → Option (List ℕ)) where
   -- they are none, for this place before all others
   abbrev pub IsBadIn : Text → Field → Type 0
   IsBadIn file place = IsSomeAnd (told file) (λ bytes. IsFirstBad bytes place)
+
+  -- The same of a drill: the file's bytes are a plan, too.
+  abbrev pub BeginsDrill : (logs : Bool) → Values → Text → Option RunLog → Type 0
+  BeginsDrill logs v file ran = HasTable v.shards × (IsTrue logs → AreValid told v.queries v.clicks) × (plan : PlanView) × (IsTrue logs → IsPlanIn file plan) × IfSome ran (IsHeard plan)
+
+  -- a drill by the plan of a file was run
+  abbrev pub HasDrilled : Values → Text → Option RunLog → Type 0
+  HasDrilled v file ran = (plan : PlanView) × (lines : List ReportLine) × IsPlanIn file plan × Drills v plan ran lines
 
   -- the lines of a drill by the plan of a file were written behind what was there: whole, or a prefix of them
   abbrev pub PrintsDrill : Values → Text → Option RunLog → (old new : List ℕ) → Type 0

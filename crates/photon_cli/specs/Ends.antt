@@ -1,5 +1,5 @@
 -- How each command ends, by its exit status.
-use Rattle.std.specs.Prelude.{ℕ, ◌≡◌, ◌≢◌, ◌≤◌, ◌⊎◌, List, Bool, true, false, Option, IsSomeAnd, IsTrue}
+use Rattle.std.specs.Prelude.{ℕ, ◌≡◌, ◌≢◌, ◌≤◌, ◌⊎◌, List, Bool, true, false, Option, IfSome, IsSomeAnd, IsTrue}
 use Rattle.turn_defs.specs.declared.limits.TheConstants.{MOST_JOINERS}
 use Rattle.outside.specs.declared.store.DiskName.{DiskName}
 use Rattle.time_shards.specs.declared.ShardRow.{ShardRow}
@@ -18,26 +18,36 @@ use Rattle.site_run.specs.Refused.{HasPassed, IsTaken, WasJournal}
 use Rattle.photon_cli.specs.declared.engine.fault.Fault.{Fault}
 use Rattle.photon_cli.specs.Causes.{AreMisplaced, CanBeRead, IsAtLimit, IsBelowLimits, IsMismatched, IsOverLog, unasked}
 use Rattle.photon_cli.specs.Faults.{status_of}
-use Rattle.photon_cli.specs.Bulk.{PrintsTotals, PrintsTotalsPrefix}
-use Rattle.photon_cli.specs.Drill.{IsBadIn, IsPlanIn, PrintsDrill, PrintsDrillPrefix}
-use Rattle.photon_cli.specs.Join.{HasRun, IsAsked, IsInvalid, Prints, PrintsAfresh, PrintsPrefix, Refuses}
+use Rattle.photon_cli.specs.Bulk.{BeginsBulk, IsBulkRun, PrintsTotals, PrintsTotalsPrefix}
+use Rattle.photon_cli.specs.Drill.{BeginsDrill, HasDrilled, IsBadIn, IsPlanIn, PrintsDrill, PrintsDrillPrefix}
+use Rattle.photon_cli.specs.Join.{BeginsJoin, HasRun, IsAsked, IsHistory, IsInvalid, Prints, PrintsAfresh, PrintsPrefix, Refuses, no_plan}
 use Rattle.photon_cli.specs.Told.{IsNamedInBulk, IsNamedInDrill, IsToldOf, IsToldOfVerify, TellsBy}
-use Rattle.photon_cli.specs.Verify.{IsUnreadable, PrintsKept, PrintsKeptPrefix}
-use Rattle.photon_cli.specs.Words.{BulkValues, IsTextOf, Values}
+use Rattle.photon_cli.specs.Verify.{IsReadable, IsUnreadable, PrintsKept, PrintsKeptPrefix}
+use Rattle.photon_cli.specs.Words.{BulkValues, HasTable, IsTextOf, Values, Wish, a_bulk_run, a_drill, a_join, a_verification}
+
+-- Either it ended before all that comes before a run was found fit, and this is untouched; or it was, and the status is neither 2 nor 3.
+abbrev pub Begins : (untouched fit : Type 0) → ℕ → Type 0
+Begins untouched fit status = (untouched × (status ≢ 0)) ⊎ (fit × (status ≢ 2) × (status ≢ 3))
 
 -- What is said of bytes is said where the logs, the sinks and the disks tell what they hold. Told says what bytes are under a name;
 -- files, output, errors and faulted say that the count of faults rose of the source of logs, of the output, of the standard error
--- and of the store.
-module _ (logs sinks : Bool) (told : List ℕ → Option (List ℕ)) (files output errors : Type 0) (ran : Option RunLog) (old new err_old err_new : List ℕ) (status : ℕ) where
+-- and of the store; same says that the store that was handed in is as it was, and unrun that what is left of a run is.
+module _ (logs sinks : Bool) (told : List ℕ → Option (List ℕ)) (files output errors : Type 0) (old new err_old err_new : List ℕ) (status : ℕ) where
   -- Of a join for these values over the store. Before and after say what a stop might have left of its disks and may leave of them
   -- now; leaves says that a stop leaves something of each disk of a setting, whatever happens to the store.
-  pub record JoinEnds (v : Values) (disks : Bool) (before after : Images) (faulted : Type 0) (leaves : Setting → Type 0) : Type 0 where
+  pub record JoinEnds (v : Values) (ran : Option RunLog) (same unrun : Type 0) (disks : Bool) (before after : Images) (faulted : Type 0) (leaves : Setting → Type 0) : Type 0 where
     -- 0: both logs are valid, and where the store was sound the report of what its disks now keep was written, whole; where it was
     -- empty it is the report on the two logs, but for clicks that are missing; unless a disk met a fault none is
     pub joined : IsTrue logs → IsTrue sinks → IsTrue disks → status ≡ 0 → Prints told v before after faulted old new
     pub afresh : IsTrue logs → IsTrue sinks → IsTrue disks → status ≡ 0 → PrintsAfresh told v before after faulted old new
     -- both sites have run, and this is what is left of the run
     pub ran_on : IsTrue logs → IsTrue disks → status ≡ 0 → HasRun told v before after ran
+    -- A run begins, and the store is touched, only behind a table and two valid logs. Whatever the status, what is left of a run is
+    -- then of this one: each node's entries are those that were made with its seat, and each packet that a node took was its next.
+    pub begins : Begins (same × unrun) (BeginsJoin logs told v ran) status
+    pub history : IsTrue disks → IsTrue logs → (g : Setting) → IsAsked told v g → unrun ⊎ IfSome ran (IsHistory g before after no_plan)
+    -- 1 never
+    pub one : status ≢ 1
     -- 2: only where the shards' text is no table, and there always, but for want of memory
     pub row : status ≡ 2 → (n : ℕ) × IsFirstBad v.shards n
     pub bad_row : (n : ℕ) → IsFirstBad v.shards n → (status ≡ 2) ⊎ (status ≡ 8)
@@ -67,11 +77,16 @@ module _ (logs sinks : Bool) (told : List ℕ → Option (List ℕ)) (files outp
     pub complete : IsTrue disks → IsTrue logs → (g : Setting) → IsAsked told v g → IsSoundStore g before → leaves g → IsBelowLimits g before → (files → ⊥) → (faulted → ⊥) → (output → ⊥)
         → (status ≡ 0) ⊎ (status ≡ 8)
 
-  -- Of a drill for these values with the plan of a file; untouched says that the store which is handed in is as it was.
-  pub record DrillEnds (v : Values) (file : Text) (untouched : Type 0) : Type 0 where
+  -- Of a drill for these values with the plan of a file.
+  pub record DrillEnds (v : Values) (file : Text) (ran : Option RunLog) (unrun : Type 0) : Type 0 where
     -- 0: the logs are valid, the file's bytes are a plan, both sites have run under it from nothing, and the report of that run was
     -- written, whole; no click is missing unless a joiner's node stopped, nor where no stop of the plan is of a joiner's disk
     pub drilled : IsTrue logs → IsTrue sinks → status ≡ 0 → PrintsDrill told v file ran old new
+    pub ran_on : IsTrue logs → status ≡ 0 → HasDrilled told v file ran
+    -- a run begins only behind a table, a plan and two valid logs, and what is left of a run is then of this one, as of a join
+    pub begins : Begins unrun (BeginsDrill told logs v file ran) status
+    -- 1 never
+    pub one : status ≢ 1
     -- 2: only where the shards' text is no table or the file's bytes are no plan, and there always, but for a fault of the file or
     -- want of memory
     pub refused : IsTrue logs → status ≡ 2 → ((n : ℕ) × IsFirstBad v.shards n) ⊎ ((place : Field) × IsBadIn told file place)
@@ -89,14 +104,14 @@ module _ (logs sinks : Bool) (told : List ℕ → Option (List ℕ)) (files outp
     -- disks, or for want of memory
     pub complete : IsTrue logs → (g : Setting) → IsAsked told v g → (plan : PlanView) → IsPlanIn told file plan → (files → ⊥) → (output → ⊥)
         → (status ≡ 0) ⊎ ((status ≡ 6) ⊎ ((status ≡ 8) ⊎ (status ≡ 10)))
-    -- at every status: it runs over disks of its own
-    pub store : untouched
 
   -- Of a verification over a click log and the store in a directory; leaves as of a join.
-  pub record VerifyEnds (clicks : Text) (disks : Bool) (before after : Images) (faulted : Type 0) (leaves : Setting → Type 0) : Type 0 where
+  pub record VerifyEnds (clicks : Text) (same : Type 0) (disks : Bool) (before after : Images) (faulted : Type 0) (leaves : Setting → Type 0) : Type 0 where
     -- 0 and 1: the report of what the disks keep was written, whole; 1 exactly where a line tells a missing click
     pub whole : IsTrue logs → IsTrue sinks → IsTrue disks → status ≡ 0 → PrintsKept told clicks before false old new
     pub missing : IsTrue logs → IsTrue sinks → IsTrue disks → status ≡ 1 → PrintsKept told clicks before true old new
+    -- the store is touched only behind a valid log, and so is a report written
+    pub begins : Begins (same × (status ≢ 1) × (status ≢ 5)) (IsTrue logs → IsReadable told clicks) status
     -- 3: only where the log has a refused line, and where it isn't valid always, but for a fault of it or want of memory
     pub lines : IsTrue logs → status ≡ 3 → (bad : BadLine) × IsSomeAnd (told clicks) (λ log. RefusesClick log bad)
     pub invalid : IsTrue logs → IsUnreadable told clicks → (files → ⊥) → (status ≡ 3) ⊎ (status ≡ 8)
@@ -120,14 +135,31 @@ module _ (logs sinks : Bool) (told : List ℕ → Option (List ℕ)) (files outp
     pub complete : IsTrue disks → IsTrue logs → (g : Setting) → IsOverLog told clicks g → g.replicas ≡ 3 → g.joiners ≤ MOST_JOINERS → IsSoundStore g before → leaves g → IsBelowLimits (unasked g) before
         → (files → ⊥) → (faulted → ⊥) → (output → ⊥) → (status ≡ 0) ⊎ ((status ≡ 1) ⊎ (status ≡ 8))
 
-  -- Of a bulk run; untouched as for a drill.
-  pub record BulkEnds (v : BulkValues) (untouched : Type 0) : Type 0 where
+-- Of a bulk run.
+module _ (sinks : Bool) (output errors : Type 0) (old new err_old err_new : List ℕ) (status : ℕ) where
+  pub record BulkEnds (v : BulkValues) (ran : Option RunLog) (unrun : Type 0) : Type 0 where
     -- 0: both sites have run from nothing over the logs that are made of the numbers, and the totals line of their report was written
     pub totals : IsTrue sinks → status ≡ 0 → PrintsTotals v ran old new
-    -- 2: only where the shards' text is no table, and there always, but for want of memory; 3 never
+    pub ran_on : status ≡ 0 → IsSomeAnd ran (IsBulkRun v)
+    -- a run begins only behind a table, and what is left of a run is then of this one, as of a join
+    pub begins : Begins unrun (BeginsBulk v ran) status
+    -- 2: only where the shards' text is no table, and there always, but for want of memory; 1, 3 and 4 never, and 7 and 9 as of a drill
     pub row : status ≡ 2 → (n : ℕ) × IsFirstBad v.shards n
     pub bad_row : (n : ℕ) → IsFirstBad v.shards n → (status ≡ 2) ⊎ (status ≡ 8)
+    pub one : status ≢ 1
     pub lines : status ≢ 3
+    pub read : status ≢ 4
+    pub welcome : (status ≢ 7) × (status ≢ 9)
+    -- with a table and no fault of the output it ends with 0, or for a fault of the run's own disks, or for want of memory
+    pub complete : HasTable v.shards → (output → ⊥) → (status ≡ 0) ⊎ ((status ≡ 6) ⊎ ((status ≡ 8) ⊎ (status ≡ 10)))
     pub prefix : IsTrue sinks → status ≡ 5 → PrintsTotalsPrefix v ran old new
     pub tells : IsTrue sinks → (errors → ⊥) → TellsBy (IsNamedInBulk v) status err_old err_new
-    pub store : untouched
+
+-- How what is asked for ends, where the words are read as it.
+module _ (logs sinks disks : Bool) (told : List ℕ → Option (List ℕ)) (files output errors faulted : Type 0) (before after : Images) (leaves : Setting → Type 0) (same unrun : Type 0) (ran : Option RunLog)
+    (old new err_old err_new : List ℕ) (status : ℕ) where
+  abbrev pub Ends : Wish → Type 0
+  Ends (a_join v state) = JoinEnds logs sinks told files output errors old new err_old err_new status v ran same unrun disks before after faulted leaves
+  Ends (a_drill v plan) = DrillEnds logs sinks told files output errors old new err_old err_new status v plan ran unrun × same
+  Ends (a_verification clicks state) = VerifyEnds logs sinks told files output errors old new err_old err_new status clicks same disks before after faulted leaves × unrun
+  Ends (a_bulk_run v) = BulkEnds sinks output errors old new err_old err_new status v ran unrun × same

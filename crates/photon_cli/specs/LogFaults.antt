@@ -4,6 +4,8 @@ use Rattle.log_records.specs.declared.why.Why.{Why}
 use Rattle.log_records.specs.declared.why.Why.TheVariants as why
 use Rattle.log_records.specs.declared.check.BadLine.{BadLine}
 use Rattle.lossy_link.specs.declared.bad_plan.Field.{Field}
+use Rattle.time_shards.specs.Text.{IsFirstBad}
+use Rattle.command_words.specs.Words.{Text}
 use Rattle.site_run.specs.declared.faults.fault.LogName.{LogName}
 use Rattle.site_run.specs.declared.faults.fault.LogName.TheVariants.{Queries, Clicks}
 use Rattle.site_run.specs.declared.faults.fault.RunFault.{RunFault}
@@ -11,6 +13,7 @@ use Rattle.site_run.specs.declared.faults.fault.RunFault.TheVariants as cause
 use Rattle.site_run.specs.Causes.{IsCounted, IsWelcomeWhere}
 use Rattle.photon_cli.specs.declared.engine.fault.Fault.{Fault}
 use Rattle.photon_cli.specs.declared.engine.fault.Fault.TheVariants as fault
+use Rattle.photon_cli.specs.Words.{HasTable}
 
 -- the log couldn't be read
 abbrev pub failed_read : LogName → Fault
@@ -20,9 +23,27 @@ failed_read log = fault.Run (cause.Read log)
 abbrev pub IsLogFault : LogName → Fault → Type 0
 IsLogFault log f = ((line : ℕ) × (w : Why) × (f ≡ fault.Refused log line w)) ⊎ (f ≡ failed_read log) ⊎ (f ≡ fault.Memory)
 
--- what may be wrong before the run: the table, or a log
-abbrev pub IsEarly : Fault → Type 0
-IsEarly f = ((row : ℕ) × (f ≡ fault.Table row)) ⊎ ((log : LogName) × IsLogFault log f)
+-- the text of the shards is no table, and its first bad row is told
+abbrev pub IsRowFault : Text → Fault → Type 0
+IsRowFault shards f = (row : ℕ) × (f ≡ fault.Table row) × IsFirstBad shards row
+
+-- what may be told before the run: what is wrong with the table, or, behind a table, one of these
+abbrev pub IsEarly : (Fault → Type 0) → Text → Fault → Type 0
+IsEarly behind shards f = IsRowFault shards f ⊎ (HasTable shards × behind f)
+
+-- what may be wrong with the logs
+abbrev pub IsOfLogs : Fault → Type 0
+IsOfLogs f = (log : LogName) × IsLogFault log f
+
+-- what may be told behind all that comes before the run
+abbrev pub IsPast : Fault → Type 0
+IsPast (fault.Table row) = ⊥
+IsPast (fault.Plan place) = ⊥
+IsPast (fault.Refused log line w) = ⊥
+IsPast fault.PlanRead = ⊥
+IsPast (fault.Run f) = ⊤
+IsPast fault.Write = ⊤
+IsPast fault.Memory = ⊤
 
 -- Why the run gives up. A log's fault or a disk's comes only where the count of its source or its store has risen.
 abbrev pub IsLate : (logs disks : Type 0) → Fault → Type 0
@@ -66,9 +87,9 @@ IsToldOfPlan place f = (f ≡ fault.Plan place) ⊎ ((f ≡ fault.PlanRead) ⊎ 
 abbrev pub IsBeforeLogs : Field → Fault → Type 0
 IsBeforeLogs place f = ((row : ℕ) × (f ≡ fault.Table row)) ⊎ IsToldOfPlan place f
 
--- what may be wrong before the run: the table, the plan, or a log
-abbrev pub IsEarlyInDrill : Fault → Type 0
-IsEarlyInDrill f = ((row : ℕ) × (f ≡ fault.Table row)) ⊎ (IsPlanFault f ⊎ ((log : LogName) × IsLogFault log f))
+-- or with the plan
+abbrev pub IsOfPlanOrLogs : Fault → Type 0
+IsOfPlanOrLogs f = IsPlanFault f ⊎ IsOfLogs f
 
 -- a file couldn't be read
 abbrev pub IsFailedRead : Fault → Type 0

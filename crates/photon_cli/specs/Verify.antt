@@ -52,6 +52,10 @@ pub record IsTold (before : Images) (log : List ℕ) (kept : KeptStore) (lines :
 abbrev pub IsUnreadable : (told : List ℕ → Option (List ℕ)) → (clicks : Text) → Type 0
 IsUnreadable told clicks = IsSomeAnd (told clicks) (λ log. (cs : List ClickRec) → IsClickLog log cs → ⊥)
 
+-- it is there and is valid
+abbrev pub IsReadable : (told : List ℕ → Option (List ℕ)) → (clicks : Text) → Type 0
+IsReadable told clicks = (cs : List ClickRec) × IsSomeAnd (told clicks) (λ log. IsClickLog log cs)
+
 -- Here told says what bytes are under a name.
 module _ (told : List ℕ → Option (List ℕ)) (clicks : Text) (before : Images) where
   -- they were written behind what was there: whole, or a prefix of them

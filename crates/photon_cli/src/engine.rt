@@ -9,6 +9,7 @@ mod join;
 mod plan;
 mod read;
 mod run;
+mod table;
 mod verify;
 
 pub use bulk::bulk_totals;

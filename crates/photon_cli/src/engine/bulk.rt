@@ -1,15 +1,16 @@
 // A bulk run: both logs are made from a seed, both sites run over them as in a drill, and the totals line is told.
-ghost use Rattle.std.specs.Prelude.{◌≡◌, ◌⊎◌, ℕ, List, IfErr, IfOk, OnOk, Some, codes, string_bytes, IsTrue, Err};
+ghost use Rattle.std.specs.Prelude.{◌≡◌, ◌⊎◌, ℕ, ⊤, List, IfErr, IfOk, IsErrAnd, IsSomeAnd, OnOk, Some, codes, string_bytes, IsTrue, Err};
 ghost use Rattle.outside.specs.Faults.{Counts};
-ghost use Rattle.time_shards.specs.Text.{IsFirstBad};
 ghost use Rattle.mem_outside.specs.Files.{bytes_under};
 ghost use Rattle.bulk_logs.specs.Bulk.{query_log, click_log};
 ghost use Rattle.photon_cli.specs.declared.engine.fault.Fault.TheVariants as fault;
-ghost use Rattle.photon_cli.specs.Bulk.{AreBulkRanges, PrintsTotals, PrintsTotalsPrefix, bulk_plan, bulk_values, rule};
-ghost use Rattle.photon_cli.specs.LogFaults.{IsOfBulk};
+ghost use Rattle.photon_cli.specs.Bulk.{AreBulkRanges, BeginsBulk, IsBulkRun, PrintsTotals, PrintsTotalsPrefix, bulk_plan, bulk_values, rule};
+ghost use Rattle.photon_cli.specs.LogFaults.{IsEarly, IsFailedRead, IsFair, IsPast};
 
 use super::drill::drilled_lines;
 use super::fault::Fault;
+use super::table::table_in;
+use crate::tell::status;
 use crate::wanted::{BulkWanted, Wanted};
 use bulk_logs::laws::{report_kinds, sizes, valid_logs};
 use bulk_logs::make_logs;
@@ -21,7 +22,6 @@ use site_run::{Names, Ran};
 use std::alloc::{AllocError, Global};
 use std::sync::Wait;
 use std::thread::Threads;
-use time_shards::Table;
 
 // One click in ten has a timestamp below it.
 const HORIZON: u64 = 1_000_000;
@@ -72,6 +72,16 @@ fn bulk_files(alloc: Global, seed: u64, clicks: u32) -> Result<MemSource, AllocE
     Ok(MemSource::new(files))
 }
 
+// The logs of a bulk run lie in memory, where a read fails only for want of it. No failed read is ever met.
+fn without_reads(told: Fault) -> Fault
+    ensures { ((result ≡ told) × (IsFailedRead told → ⊥)) ⊎ ((result ≡ fault.Memory) × IsFailedRead told) }
+{
+    if status(&told) == 4 {
+        return Fault::Memory;
+    }
+    told
+}
+
 /// Makes both logs from the seed, runs both sites over them as in a drill, and writes the totals line.
 ///
 /// It keeps both logs in memory, once for each node that reads one.
@@ -88,20 +98,21 @@ where
     K: Sink,
     G: Gate,
     requires ranges { AreBulkRanges (bulk_values wanted.now) }
+    ensures ran { OnOk result (IsSomeAnd ran.new.log (IsBulkRun (bulk_values wanted.now))) }
     ensures done { IsTrue K.tells → OnOk result (PrintsTotals (bulk_values wanted.now) ran.new.log (K.held out.old) (K.held out.new)) }
     ensures prefix { IsTrue K.tells → result ≡ Err fault.Write → PrintsTotalsPrefix (bulk_values wanted.now) ran.new.log (K.held out.old) (K.held out.new) }
     ensures quiet { IsTrue K.tells → IfErr result (λ f. (f ≡ fault.Write) ⊎ (K.held out.new ≡ K.held out.old)) }
-    ensures row { (n : ℕ) → result ≡ Err (fault.Table n) → IsFirstBad (bulk_values wanted.now).shards n }
-    ensures bad_row { (n : ℕ) → IsFirstBad (bulk_values wanted.now).shards n → result ≡ Err (fault.Table n) }
-    ensures cause { IfErr result IsOfBulk }
+    ensures begins { ((ran.new ≡ ran.old) × IsErrAnd result (IsEarly (λ f. f ≡ fault.Memory) (bulk_values wanted.now).shards)) ⊎ (BeginsBulk (bulk_values wanted.now) ran.new.log × IfErr result IsPast) }
+    ensures reads { IfErr result (λ f. IsFailedRead f → ⊥) }
+    ensures fair { IfErr result (IsFair ⊤) }
     ensures write { Counts (K.faults out.old) (K.faults out.new) (result ≡ Err fault.Write) }
 {
     valid_logs();
     sizes();
     report_kinds();
-    let table = match Table::read(wanted.shards.as_bytes()) {
+    let table = match table_in(wanted.shards) {
         Ok(table) => table,
-        Err(bad) => return Err(Fault::Table { row: bad.row }),
+        Err(bad) => return Err(bad),
     };
     let Ok(mut files) = bulk_files(alloc, wanted.seed, wanted.clicks) else {
         return Err(Fault::Memory);
@@ -123,7 +134,7 @@ where
     };
     let lines = match drilled_lines(rt, alloc, &asked, table, plan, &mut files, gate, ran) {
         Ok(lines) => lines,
-        Err(fault) => return Err(fault),
+        Err(fault) => return Err(without_reads(fault)),
     };
     match write_totals(out, &lines) {
         Ok(()) => Ok(()),

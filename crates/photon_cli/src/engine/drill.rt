@@ -8,7 +8,6 @@ ghost use Rattle.outside.specs.Faults.{Counts};
 ghost use Rattle.mem_outside.specs.Plan.{is_planned};
 ghost use Rattle.photon_cli.specs.Planned.{planned_for};
 ghost use Rattle.time_shards.specs.Shards.{IsTable};
-ghost use Rattle.time_shards.specs.Text.{IsFirstBad};
 ghost use Rattle.lossy_link.specs.Fates.{PlanView};
 ghost use Rattle.lossy_link.specs.declared.bad_plan.Field.{Field as Place};
 ghost use Rattle.log_records.specs.declared.why.Why.{Why as Reason};
@@ -17,15 +16,16 @@ ghost use Rattle.site_laws.specs.Laws.{made_by};
 ghost use Rattle.site_workers.specs.Works.{is_stop};
 ghost use Rattle.site_run.specs.Asked.{OfSetting};
 ghost use Rattle.photon_cli.specs.declared.engine.fault.Fault.TheVariants as fault;
-ghost use Rattle.photon_cli.specs.Drill.{Drills, IsBadIn, IsDrilled, IsPlanIn, PrintsDrill, PrintsDrillPrefix};
-ghost use Rattle.photon_cli.specs.Join.{AreValid, HaveIds, Refuses};
-ghost use Rattle.photon_cli.specs.LogFaults.{IsBeforeLogs, IsEarlyInDrill, IsFailedRead, IsFair, IsLogFault, IsOfRun, failed_read};
+ghost use Rattle.photon_cli.specs.Drill.{BeginsDrill, Drills, HasDrilled, IsBadIn, IsDrilled, IsPlanIn, PrintsDrill, PrintsDrillPrefix};
+ghost use Rattle.photon_cli.specs.Join.{AreValid, HaveIds, IsHeard, Refuses};
+ghost use Rattle.photon_cli.specs.LogFaults.{IsBeforeLogs, IsEarly, IsFailedRead, IsFair, IsOfLogs, IsOfPlanOrLogs, IsOfRun, IsPast, failed_read};
 ghost use Rattle.photon_cli.specs.Words.{AreInRanges, IsTextOf, values_in};
 
 use super::checked::checked_logs;
 use super::fault::Fault;
 use super::plan::plan_in_file;
 use super::run::run_lines;
+use super::table::table_in;
 use crate::drill_store::{stops_a_joiner, store_for};
 use crate::log_check::CheckedLog;
 use crate::wanted::Wanted;
@@ -88,6 +88,7 @@ where
     ensures drilled { IsTrue F.Log.tells → OfSetting (F.bytes files.old) names.now.queries.now names.now.clicks.now config.now clicks.now.lines_end (λ g. HaveIds g clicks.now.ids.items
         → IfOk result (λ lines. IsSomeAnd ran.new.log (IsDrilled g plan lines.items))) }
     ensures fair { IsTrue F.Log.tells → OfSetting (F.bytes files.old) names.now.queries.now names.now.clicks.now config.now clicks.now.lines_end (λ g. IfErr result (IsFair ⊤)) }
+    ensures heard { IfSome ran.new.log (IsHeard plan) }
     ensures cause { IfErr result IsOfRun }
     ensures count { Counts (F.faults files.old) (F.faults files.new) ((log : LogKind) × (result ≡ Err (failed_read log))) }
 {
@@ -127,9 +128,9 @@ where
     ensures done { IsTrue F.Log.tells → IfOk result (λ lines. Drills (F.bytes files.old) (values_in wanted.now) plan ran.new.log lines.items) }
     ensures refused { IsTrue F.Log.tells → (log : LogKind) (line : ℕ) (w : Reason) → result ≡ Err (fault.Refused log line w)
         → Refuses (F.bytes files.old) (values_in wanted.now).queries (values_in wanted.now).clicks log (record { line = line; why = w }) }
-    ensures valid { IsTrue F.Log.tells → AreValid (F.bytes files.old) (values_in wanted.now).queries (values_in wanted.now).clicks ⊎ IsErrAnd result (λ f. (log : LogKind) × IsLogFault log f) }
+    ensures begins { ((ran.new ≡ ran.old) × IsErrAnd result IsOfLogs)
+        ⊎ ((IsTrue F.Log.tells → AreValid (F.bytes files.old) (values_in wanted.now).queries (values_in wanted.now).clicks) × IfSome ran.new.log (IsHeard plan) × IfErr result IsOfRun) }
     ensures fair { IsTrue F.Log.tells → IfErr result (IsFair ⊤) }
-    ensures cause { IfErr result (λ f. ((log : LogKind) × IsLogFault log f) ⊎ IsOfRun f) }
     ensures count { Counts (F.faults files.old) (F.faults files.new) ((log : LogKind) × (result ≡ Err (failed_read log))) }
 {
     let names = wanted.names;
@@ -173,29 +174,29 @@ where
     // Where it ends well, the report of the run was written whole; at a failed write a prefix of it went out, at any other fault
     // nothing.
     ensures done { IsTrue F.Log.tells → IsTrue K.tells → OnOk result (PrintsDrill (F.bytes files.old) (values_in wanted.now) plan.now ran.new.log (K.held out.old) (K.held out.new)) }
+    ensures ran { IsTrue F.Log.tells → OnOk result (HasDrilled (F.bytes files.old) (values_in wanted.now) plan.now ran.new.log) }
     ensures prefix { IsTrue F.Log.tells → IsTrue K.tells → result ≡ Err fault.Write → PrintsDrillPrefix (F.bytes files.old) (values_in wanted.now) plan.now ran.new.log (K.held out.old) (K.held out.new) }
     ensures quiet { IsTrue K.tells → IfErr result (λ f. (f ≡ fault.Write) ⊎ (K.held out.new ≡ K.held out.old)) }
 
-    // A refusal names the first bad row of the table, the plan's first bad place, or the first refused line.
-    ensures row { (n : ℕ) → result ≡ Err (fault.Table n) → IsFirstBad (values_in wanted.now).shards n }
-    ensures bad_row { (n : ℕ) → IsFirstBad (values_in wanted.now).shards n → result ≡ Err (fault.Table n) }
+    // Either it gave up before a run, or all that comes before one was fit. A refusal names the first bad row of the table, the plan's
+    // first bad place, or the first refused line.
+    ensures begins { ((ran.new ≡ ran.old) × IsErrAnd result (IsEarly IsOfPlanOrLogs (values_in wanted.now).shards))
+        ⊎ (BeginsDrill (F.bytes files.old) F.Log.tells (values_in wanted.now) plan.now ran.new.log × IfErr result IsPast) }
     ensures place { IsTrue F.Log.tells → (at : Place) → result ≡ Err (fault.Plan at) → IsBadIn (F.bytes files.old) plan.now at }
     ensures bad_place { IsTrue F.Log.tells → (at : Place) → IsBadIn (F.bytes files.old) plan.now at → IsErrAnd result (IsBeforeLogs at) }
     ensures good_plan { IsTrue F.Log.tells → (p : PlanView) → IsPlanIn (F.bytes files.old) plan.now p → (at : Place) → result ≡ Err (fault.Plan at) → ⊥ }
     ensures refused { IsTrue F.Log.tells → (log : LogKind) (line : ℕ) (w : Reason) → result ≡ Err (fault.Refused log line w)
         → Refuses (F.bytes files.old) (values_in wanted.now).queries (values_in wanted.now).clicks log (record { line = line; why = w }) }
-    ensures valid { IsTrue F.Log.tells → AreValid (F.bytes files.old) (values_in wanted.now).queries (values_in wanted.now).clicks ⊎ IsErrAnd result IsEarlyInDrill }
 
     // The other faults come only where a count rose, but for want of memory and what goes wrong by the plan. The store that it
     // makes is never one for another table, other places or other joiners.
     ensures fair { IsTrue F.Log.tells → IfErr result (IsFair ⊤) }
-    ensures cause { IfErr result (λ f. IsEarlyInDrill f ⊎ ((f ≡ fault.Write) ⊎ IsOfRun f)) }
     ensures read { Counts (F.faults files.old) (F.faults files.new) (IsErrAnd result IsFailedRead) }
     ensures write { Counts (K.faults out.old) (K.faults out.new) (result ≡ Err fault.Write) }
 {
-    let table = match Table::read(wanted.shards.as_bytes()) {
+    let table = match table_in(wanted.shards) {
         Ok(table) => table,
-        Err(bad) => return Err(Fault::Table { row: bad.row }),
+        Err(bad) => return Err(bad),
     };
     let plan = match plan_in_file(alloc, files, plan) {
         Ok(plan) => plan,

@@ -1,8 +1,7 @@
 // The whole join.
-ghost use Rattle.std.specs.Prelude.{◌≡◌, ◌⊎◌, ℕ, List, IfErr, IsErrAnd, OnOk, IsTrue, Err};
+ghost use Rattle.std.specs.Prelude.{◌≡◌, ◌⊎◌, ℕ, List, IfErr, IfSome, IsErrAnd, OnOk, IsTrue, Err};
 ghost use Rattle.outside.specs.declared.store.DiskName.{DiskName};
 ghost use Rattle.outside.specs.Faults.{Counts, Rose};
-ghost use Rattle.time_shards.specs.Text.{IsFirstBad};
 ghost use Rattle.log_records.specs.declared.why.Why.{Why as Reason};
 ghost use Rattle.site_run.specs.declared.faults.fault.LogName.{LogName as LogKind};
 ghost use Rattle.site_run.specs.declared.faults.fault.StorePlace.{StorePlace};
@@ -14,13 +13,14 @@ ghost use Rattle.site_store.specs.Causes.{LeavesSomething};
 ghost use Rattle.photon_cli.specs.declared.engine.fault.Fault.TheVariants as fault;
 ghost use Rattle.site_run.specs.Refused.{HasPassed};
 ghost use Rattle.photon_cli.specs.Causes.{HasCause};
-ghost use Rattle.photon_cli.specs.LogFaults.{IsEarly, IsFair, IsOfJoin, failed_read};
-ghost use Rattle.photon_cli.specs.Join.{AreValid, HasRun, IsAsked, Prints, PrintsAfresh, PrintsPrefix, Refuses};
+ghost use Rattle.photon_cli.specs.LogFaults.{IsEarly, IsFailedRead, IsFair, IsOfLogs, IsPast};
+ghost use Rattle.photon_cli.specs.Join.{BeginsJoin, HasRun, IsAsked, IsHistory, Prints, PrintsAfresh, PrintsPrefix, Refuses, no_plan};
 ghost use Rattle.photon_cli.specs.Words.{AreInRanges, values_in};
 
 use super::checked::checked_logs;
 use super::fault::Fault;
 use super::run::run_lines;
+use super::table::table_in;
 use crate::wanted::Wanted;
 use lossy_link::Plan;
 use outside::{Gate, Sink, Source, Store};
@@ -29,7 +29,6 @@ use site_run::{Config, Ran};
 use std::alloc::Global;
 use std::sync::Wait;
 use std::thread::Threads;
-use time_shards::Table;
 
 /// Joins the clicks under one name with the queries under another over a store, and writes the report.
 ///
@@ -58,22 +57,23 @@ where
     // other fault nothing.
     ensures done { IsTrue F.Log.tells → IsTrue K.tells → IsTrue S.Disk.tells → OnOk result (Prints (F.bytes files.old) (values_in wanted.now) (S.image store.old) (S.image store.new) (Rose (S.faults store.old) (S.faults store.new)) (K.held out.old) (K.held out.new)) }
     ensures afresh { IsTrue F.Log.tells → IsTrue K.tells → IsTrue S.Disk.tells → OnOk result (PrintsAfresh (F.bytes files.old) (values_in wanted.now) (S.image store.old) (S.image store.new) (Rose (S.faults store.old) (S.faults store.new)) (K.held out.old) (K.held out.new)) }
-    // Then the run's history is one of the whole system from what the disks kept, with no packet lost on purpose.
+    // Then the run's history is one of the whole system from what the disks kept, with no packet lost on purpose; and so is what is left
+    // of a run that ended otherwise.
+    ensures history { IsTrue S.Disk.tells → IsTrue F.Log.tells → (g : Setting) → IsAsked (F.bytes files.old) (values_in wanted.now) g → (ran.new ≡ ran.old) ⊎ IfSome ran.new.log (IsHistory g (S.image store.old) (S.image store.new) no_plan) }
     ensures ran { IsTrue F.Log.tells → IsTrue S.Disk.tells → OnOk result (HasRun (F.bytes files.old) (values_in wanted.now) (S.image store.old) (S.image store.new) ran.new.log) }
     ensures prefix { IsTrue F.Log.tells → IsTrue K.tells → IsTrue S.Disk.tells → result ≡ Err fault.Write
         → PrintsPrefix (F.bytes files.old) (values_in wanted.now) (S.image store.old) (S.image store.new) (Rose (S.faults store.old) (S.faults store.new)) (K.held out.old) (K.held out.new) }
     ensures quiet { IsTrue K.tells → IfErr result (λ f. (f ≡ fault.Write) ⊎ (K.held out.new ≡ K.held out.old)) }
 
-    // A refusal names the first bad row of the table, or the first refused line, of the queries before the clicks.
-    ensures row { (n : ℕ) → result ≡ Err (fault.Table n) → IsFirstBad (values_in wanted.now).shards n }
-    ensures bad_row { (n : ℕ) → IsFirstBad (values_in wanted.now).shards n → result ≡ Err (fault.Table n) }
+    // Either it gave up before the store was touched, or all that comes before the run was fit. A refusal names the first bad row of the
+    // table, or the first refused line, of the queries before the clicks.
+    ensures begins { ((store.new ≡ store.old) × (ran.new ≡ ran.old) × IsErrAnd result (IsEarly IsOfLogs (values_in wanted.now).shards))
+        ⊎ (BeginsJoin F.Log.tells (F.bytes files.old) (values_in wanted.now) ran.new.log × IfErr result IsPast) }
     ensures refused { IsTrue F.Log.tells → (log : LogKind) (line : ℕ) (w : Reason) → result ≡ Err (fault.Refused log line w)
         → Refuses (F.bytes files.old) (values_in wanted.now).queries (values_in wanted.now).clicks log (record { line = line; why = w }) }
-    ensures valid { IsTrue F.Log.tells → AreValid (F.bytes files.old) (values_in wanted.now).queries (values_in wanted.now).clicks ⊎ IsErrAnd result IsEarly }
 
-    // The other faults come only where a count rose, but for want of memory and what the disks keep. There is no plan.
-    ensures own { IfErr result IsOfJoin }
-    ensures read { Counts (F.faults files.old) (F.faults files.new) ((log : LogKind) × (result ≡ Err (failed_read log))) }
+    // The other faults come only where a count rose, but for want of memory and what the disks keep.
+    ensures read { Counts (F.faults files.old) (F.faults files.new) (IsErrAnd result IsFailedRead) }
     ensures disks { Counts (S.faults store.old) (S.faults store.new) ((place : StorePlace) × (result ≡ Err (fault.Run (cause.Store place)))) }
     ensures write { Counts (K.faults out.old) (K.faults out.new) (result ≡ Err fault.Write) }
 
@@ -85,14 +85,14 @@ where
     ensures caused { IsTrue S.Disk.tells → IsTrue F.Log.tells → (g : Setting) → IsAsked (F.bytes files.old) (values_in wanted.now) g → IfErr result (HasCause g (S.image store.old) (Rose (F.faults files.old) (F.faults files.new)) (Rose (S.faults store.old) (S.faults store.new))) }
     ensures passed { IsTrue S.Disk.tells → IsTrue F.Log.tells → (g : Setting) → IsAsked (F.bytes files.old) (values_in wanted.now) g → OnOk result (HasPassed g (S.image store.old)) }
 {
-    let table = match Table::read(wanted.shards.as_bytes()) {
+    let table = match table_in(wanted.shards) {
         Ok(table) => table,
-        Err(bad) => return Err(Fault::Table { row: bad.row }),
+        Err(bad) => return Err(bad),
     };
     let names = wanted.names;
     let clicks = match checked_logs(alloc, files, names.queries, names.clicks) {
         Ok(clicks) => clicks,
-        Err(fault) => return Err(fault),
+        Err(refused) => return Err(refused),
     };
     let config = Config {
         horizon: wanted.horizon,

@@ -12,12 +12,9 @@ ghost use Rattle.site_store.specs.Causes.{LeavesSomething};
 ghost use Rattle.site_run.specs.Asked.{OfSetting};
 ghost use Rattle.site_run.specs.Joined.{Joins, JoinsAfresh, RanAfresh};
 ghost use Rattle.site_run.specs.Left.{RunLeft};
-ghost use Rattle.air_bus.specs.History.{IsAired};
-ghost use Rattle.bus_seat.specs.Seats.{IsIn};
-ghost use Rattle.std.specs.List.{All};
 ghost use Rattle.site_run.specs.Refused.{HasPassed};
 ghost use Rattle.photon_cli.specs.Causes.{HasCause};
-ghost use Rattle.photon_cli.specs.Join.{HaveIds};
+ghost use Rattle.photon_cli.specs.Join.{HaveIds, IsHeard};
 ghost use Rattle.photon_cli.specs.LogFaults.{IsLate, IsFair};
 
 use super::fault::Fault;
@@ -66,11 +63,11 @@ where
         → IfOk result (λ lines. JoinsAfresh g (Rose (S.faults store.old) (S.faults store.new)) lines.items)) }
 
     // The run's history, and from an empty store what it means for the lines.
+    ensures left { IsTrue S.Disk.tells → IsTrue F.Log.tells → OfSetting (F.bytes files.old) names.now.queries.now names.now.clicks.now config.now clicks.now.lines_end (λ g. IfSome ran.new.log (λ l. RunLeft g (S.image store.old) (S.image store.new) l.air.history)) }
     ensures began { IsTrue S.Disk.tells → IsTrue F.Log.tells → OfSetting (F.bytes files.old) names.now.queries.now names.now.clicks.now config.now clicks.now.lines_end (λ g. OnOk result (IsSomeAnd ran.new.log (λ l. RunLeft g (S.image store.old) (S.image store.new) l.air.history))) }
     ensures ran { IsTrue S.Disk.tells → IsTrue F.Log.tells → OfSetting (F.bytes files.old) names.now.queries.now names.now.clicks.now config.now clicks.now.lines_end (λ g. HaveIds g clicks.now.ids.items → LeavesNothing g (S.image store.old)
         → IfOk result (λ lines. IsSomeAnd ran.new.log (λ l. RanAfresh g l.air.history lines.items))) }
-    ensures lists { IfSome ran.new.log (λ l. All (IsIn l.air.history) l.seen.items) }
-    ensures aired { IfSome ran.new.log (λ l. IsAired plan l.air.kinds l.air.history) }
+    ensures heard { IfSome ran.new.log (IsHeard plan) }
 
     ensures cause { IfErr result (IsLate (Rose (F.faults files.old) (F.faults files.new)) (Rose (S.faults store.old) (S.faults store.new))) }
     ensures welcome { IsTrue S.Disk.tells → IsTrue F.Log.tells → OfSetting (F.bytes files.old) names.now.queries.now names.now.clicks.now config.now clicks.now.lines_end (λ g. IsSoundStore g (S.image store.old) → IfErr result (IsFair ((s : S) → LeavesSomething g (S.image s)))) }

@@ -7,7 +7,7 @@ ghost use Rattle.outside.specs.Faults.{Counts, Rose};
 ghost use Rattle.time_shards.specs.declared.ShardRow.{ShardRow};
 ghost use Rattle.log_records.specs.declared.records.ClickRec.{ClickRec as Click};
 ghost use Rattle.log_records.specs.declared.why.Why.{Why as Reason};
-ghost use Rattle.log_records.specs.Check.{IsClickLog, RefusesClick};
+ghost use Rattle.log_records.specs.Check.{RefusesClick};
 ghost use Rattle.log_records.specs.Lines.{end_from};
 ghost use Rattle.log_records.specs.Report.{distinct, is_missing};
 ghost use Rattle.log_records.specs.declared.report.ReportLine.TheVariants.{U};
@@ -23,8 +23,8 @@ ghost use Rattle.site_run.specs.Causes.{of_place};
 ghost use Rattle.verify_pass.specs.Classes.{line_of};
 ghost use Rattle.photon_cli.specs.declared.engine.fault.Fault.TheVariants as fault;
 ghost use Rattle.photon_cli.specs.Causes.{CanBeRead, HasCauseInVerify, IsOverLog};
-ghost use Rattle.photon_cli.specs.LogFaults.{IsFailedRead, IsFair, IsLogFault, IsOfRun, IsOfVerify};
-ghost use Rattle.photon_cli.specs.Verify.{IsReadFrom, PrintsKept, PrintsKeptPrefix};
+ghost use Rattle.photon_cli.specs.LogFaults.{IsFailedRead, IsFair, IsLogFault, IsOfRun, IsPast};
+ghost use Rattle.photon_cli.specs.Verify.{IsReadFrom, IsReadable, PrintsKept, PrintsKeptPrefix};
 
 use super::checked::{clicks_in_log, open_log};
 use super::fault::Fault;
@@ -149,10 +149,10 @@ pub fn verify_store<F: Source, S: Store, K: Sink>(
     ensures prefix { IsTrue F.Log.tells → IsTrue K.tells → IsTrue S.Disk.tells → result ≡ Err fault.Write → PrintsKeptPrefix (F.bytes files.old) clicks.now (S.image store.old) (K.held out.old) (K.held out.new) }
     ensures quiet { IsTrue K.tells → IfErr result (λ f. (f ≡ fault.Write) ⊎ (K.held out.new ≡ K.held out.old)) }
     ensures refused { IsTrue F.Log.tells → (line : ℕ) (w : Reason) → result ≡ Err (fault.Refused Clicks line w) → IsSomeAnd (F.bytes files.old clicks.now) (λ log. RefusesClick log (record { line = line; why = w })) }
-    ensures valid { IsTrue F.Log.tells → ((cs : List Click) × IsSomeAnd (F.bytes files.old clicks.now) (λ log. IsClickLog log cs)) ⊎ IsErrAnd result (IsLogFault Clicks) }
+    // Either the log's check refused it, before the store was touched, or the log is valid.
+    ensures begins { ((store.new ≡ store.old) × IsErrAnd result (IsLogFault Clicks)) ⊎ ((IsTrue F.Log.tells → IsReadable (F.bytes files.old) clicks.now) × IfErr result IsPast) }
     ensures stays { IsTrue S.Disk.tells → (disk : DiskName) → StaysAs (S.image store.old disk) (S.image store.new disk) }
     ensures sound { IsTrue S.Disk.tells → (g : Setting) → IsSoundStore g (S.image store.old) → IsSoundStore g (S.image store.new) }
-    ensures own { IfErr result IsOfVerify }
     ensures caused { IsTrue S.Disk.tells → IsTrue F.Log.tells → (g : Setting) → IsOverLog (F.bytes files.old) clicks.now g → IfErr result (HasCauseInVerify g (S.image store.old) (Rose (F.faults files.old) (F.faults files.new)) (Rose (S.faults store.old) (S.faults store.new))) }
     ensures passed { IsTrue S.Disk.tells → IsTrue F.Log.tells → (g : Setting) → IsOverLog (F.bytes files.old) clicks.now g → OnOk result (CanBeRead g (S.image store.old)) }
     ensures welcome { IsTrue S.Disk.tells → IsTrue F.Log.tells → (g : Setting) → IsOverLog (F.bytes files.old) clicks.now g → g.replicas ≡ 3 → g.joiners ≤ MOST_JOINERS → ((s : S) → LeavesSomething g (S.image s)) → IsSoundStore g (S.image store.old) → IfErr result (IsFair ⊤) }
@@ -162,7 +162,7 @@ pub fn verify_store<F: Source, S: Store, K: Sink>(
 {
     let checked = match clicks_in_log(alloc, files, clicks) {
         Ok(checked) => checked,
-        Err(fault) => return Err(fault),
+        Err(refused) => return Err(refused),
     };
     let kept = match kept_store(alloc, files, store, clicks, state, checked.lines_end) {
         Ok(kept) => kept,

@@ -1,63 +1,60 @@
-use Rattle.std.proofs.Common.{◌≡◌, inr, ⊎_elim, Err, sym, ap, ◌∙◌, arith}
+use Rattle.std.proofs.Common.{◌≡◌, inl, inr, ⊎_elim, Err, refl, sym, ap, subst, ◌∙◌, arith}
+use Rattle.std.specs.Prelude.{⊤}
+use Rattle.time_shards.proofs.Texts.{none_bad}
 use Rattle.photon_cli.specs.declared.engine.fault.Fault.TheVariants as fault
 use Rattle.photon_cli.specs.Bulk.{bulk_values}
 use Rattle.photon_cli.specs.Faults.{status_of}
-use Rattle.photon_cli.proofs.Ends.{bulk_row, failed_of, named_in_bulk, never_three, no_zero, write_of}
+use Rattle.photon_cli.specs.LogFaults.{IsOfBulk}
+use Rattle.photon_cli.proofs.Statuses.{IsKnown, bad_row, bulk_own, bulk_row, bulk_two, drill_left, failed_of, fair_status, line_of, named_in_bulk, no_one, no_zero, past_status, write_of}
 use Rattle.photon_cli.proofs.command.bulk.bulk_command.Goals as goal
 
-pub returns-in-Ok-clause-bad_row : goal.returns-in-Ok-clause-bad_row
-returns-in-Ok-clause-bad_row g c n first = let e = c.in-Ok.ensures.bad_row n first in absurd cc
+pub returns-in-Ok-clause-ends : goal.returns-in-Ok-clause-ends
+returns-in-Ok-clause-ends g c =
+    let v = bulk_values c.args.wanted.now in
+    let e = c.in-Ok.ensures in
+    let fit = ⊎_elim (λ early. absurd early.1) (λ late. late.0) e.begins in
+    record {
+      totals = λ sinks zero. e.done sinks;
+      ran_on = λ zero. e.ran;
+      begins = inr (fit, λ two. omega (arith, two), λ three. omega (arith, three));
+      row = λ two. absurd (omega (arith, two));
+      bad_row = λ n first. absurd (none_bad v.shards n fit.0.0 first fit.0.1.0 fit.0.1.1);
+      one = λ one. omega (arith, one);
+      lines = λ three. omega (arith, three);
+      read = λ four. omega (arith, four);
+      welcome = (λ seven. omega (arith, seven), λ nine. omega (arith, nine));
+      complete = λ table quiet. inl refl;
+      prefix = λ sinks five. absurd (omega (arith, five));
+      tells = λ sinks calm. inl (refl, refl);
+    }
 
-pub returns-in-Err-clause-told_totals : goal.returns-in-Err-clause-told_totals
-returns-in-Err-clause-told_totals g c sinks zero = absurd (no_zero c.without_reads-fault.result (sym c.status.ensures ∙ zero))
-
-pub returns-in-Err-clause-row : goal.returns-in-Err-clause-row
-returns-in-Err-clause-row g c two =
-    let own = c.without_reads-fault.ensures.own c.in-Err.ensures.cause in
-    let is = sym c.status.ensures ∙ two in
-    let same = c.without_reads-fault.ensures.same (λ eight. omega arith) in
-    let r = bulk_row c.without_reads-fault.result own is in
-    (r.0, c.in-Err.ensures.row r.0 (ap Err (sym same ∙ r.1)))
-
-pub returns-in-Err-clause-bad_row : goal.returns-in-Err-clause-bad_row
-returns-in-Err-clause-bad_row g c n first =
-    let e = c.in-Err.ensures.bad_row n first in
-    let own : c.in-Err.fault ≡ fault.Table n = cc in
-    let kept = c.without_reads-fault.ensures.kept (λ read. ⊎_elim (λ is. absurd cc) (λ is. let no = is.1 in absurd cc) read) in
-    c.status.ensures ∙ ap status_of (kept ∙ own)
-
-pub returns-in-Err-clause-lines : goal.returns-in-Err-clause-lines
-returns-in-Err-clause-lines g c three = never_three c.without_reads-fault.result (c.without_reads-fault.ensures.own c.in-Err.ensures.cause) (sym c.status.ensures ∙ three)
-
-pub returns-in-Err-clause-read : goal.returns-in-Err-clause-read
-returns-in-Err-clause-read g c four = c.without_reads-fault.ensures.others (failed_of c.without_reads-fault.result (sym c.status.ensures ∙ four))
+pub returns-in-Err-clause-ends : goal.returns-in-Err-clause-ends
+returns-in-Err-clause-ends g c =
+    let v = bulk_values c.args.wanted.now in
+    let f = c.in-Err.fault in
+    let e = c.in-Err.ensures in
+    let known : IsKnown (λ h. h ≡ fault.Memory) v.shards f = ⊎_elim (λ early. inl early.1) (λ late. inr (late.0.0, late.1)) e.begins in
+    let own = bulk_own v.shards f known in
+    let named_row = bulk_row v.shards f known in
+    rw c.status.ensures (record {
+      totals = λ sinks zero. absurd (no_zero f zero);
+      ran_on = λ zero. absurd (no_zero f zero);
+      begins = ⊎_elim (λ early. inl (early.0, no_zero f)) (λ late. let past = past_status f late.1 in inr (late.0, past.0, past.1)) e.begins;
+      row = bulk_two v.shards f known;
+      bad_row = λ n first. inl (bad_row (λ h. h ≡ fault.Memory) v.shards f n first known);
+      one = no_one f;
+      lines = λ three. let l = line_of f three in subst IsOfBulk l.3 own;
+      read = λ four. e.reads (failed_of f four);
+      welcome = fair_status f ⊤ tt e.fair;
+      complete = λ (table, text) quiet.
+          inr
+          (drill_left f (λ n is. none_bad v.shards n table (named_row n is) text.0 text.1) (λ place is. subst IsOfBulk is own) (λ log line w is. subst IsOfBulk is own) e.reads (λ is. quiet (e.write.rose (ap Err is))) e.fair);
+      prefix = λ sinks five. e.prefix sinks (ap Err (write_of f five));
+      tells = λ sinks calm. inr (f, refl, named_in_bulk v f own named_row, c.tell.ensures sinks calm);
+    })
 
 pub returns-in-Err-clause-write : goal.returns-in-Err-clause-write
-returns-in-Err-clause-write g c = record {
-  later = c.in-Err.ensures.write.later;
-  rose = λ five.
-      let is = sym c.status.ensures ∙ five in
-      let same = c.without_reads-fault.ensures.same (λ eight. omega arith) in
-      c.in-Err.ensures.write.rose (ap Err (sym same ∙ write_of c.without_reads-fault.result is));
-}
-
-pub returns-in-Err-clause-prefix : goal.returns-in-Err-clause-prefix
-returns-in-Err-clause-prefix g c sinks five =
-    let is = sym c.status.ensures ∙ five in
-    let same = c.without_reads-fault.ensures.same (λ eight. omega arith) in
-    c.in-Err.ensures.prefix sinks (ap Err (sym same ∙ write_of c.without_reads-fault.result is))
+returns-in-Err-clause-write g c = record { later = c.in-Err.ensures.write.later; rose = λ five. c.in-Err.ensures.write.rose (ap Err (write_of c.in-Err.fault (sym c.status.ensures ∙ five))) }
 
 pub returns-in-Err-clause-quiet : goal.returns-in-Err-clause-quiet
-returns-in-Err-clause-quiet g c here some other =
-    ⊎_elim (λ is.
-    let kept = c.without_reads-fault.ensures.kept (λ read. ⊎_elim (λ e. absurd cc) (λ e. let no = e.1 in absurd cc) read) in
-    absurd (other (c.status.ensures ∙ ap status_of (kept ∙ is)))) (λ same. same) (c.in-Err.ensures.quiet here)
-
-pub returns-in-Err-clause-told : goal.returns-in-Err-clause-told
-returns-in-Err-clause-told g c here calm =
-    let f = c.without_reads-fault.result in
-    let names = named_in_bulk (bulk_values c.args.wanted.now) f (c.without_reads-fault.ensures.own c.in-Err.ensures.cause) (λ n e.
-    let is = ap status_of e in
-    let same = c.without_reads-fault.ensures.same (λ eight. omega arith) in
-    c.in-Err.ensures.row n (ap Err (sym same ∙ e))) in
-    inr (f, c.status.ensures, names, c.tell.ensures here calm)
+returns-in-Err-clause-quiet g c here some other = ⊎_elim (λ is. absurd (other (c.status.ensures ∙ ap status_of is))) (λ same. same) (c.in-Err.ensures.quiet here)

@@ -1,50 +1,58 @@
-use Rattle.std.proofs.Common.{◌≡◌, ◌++◌, ℕ, List, Option, Err, refl, sym, ap, subst, ◌∙◌}
-use Rattle.time_shards.specs.declared.BadTable.{BadTable}
-use Rattle.time_shards.specs.Text.{IsFirstBad}
+use Rattle.std.proofs.Common.{◌++◌, ℕ, List, Option, Err, inl, inr, ⊎_elim, refl, ap, subst, ◌∙◌}
+use Rattle.std.specs.Prelude.{⊤, IfSome}
+use Rattle.lossy_link.specs.Fates.{PlanView}
 use Rattle.mem_outside.specs.Files.{bytes_under}
 use Rattle.log_records.specs.declared.report.ReportLine.{ReportLine}
 use Rattle.log_records.specs.Report.{totals}
 use Rattle.report_text.specs.Stream.{TookPrefix}
-use Rattle.photon_cli.specs.declared.engine.fault.Fault.TheVariants as fault
 use Rattle.photon_cli.specs.Bulk.{bulk_values}
-use Rattle.photon_cli.proofs.Bulking.{bulk_cause, bulk_run, bulk_totals, made_valid}
+use Rattle.photon_cli.specs.Join.{IsHeard}
+use Rattle.photon_cli.specs.LogFaults.{IsFair, IsPast}
+use Rattle.photon_cli.proofs.Bulking.{bulk_early, bulk_run, bulk_totals, made_valid, no_read, without}
+use Rattle.photon_cli.proofs.Statuses.{run_past}
 use Rattle.photon_cli.proofs.engine.bulk.bulk_totals.Goals as goal
 
-pub returns-in-Err-clause-bad_row : goal.returns-in-Err-clause-bad_row
-returns-in-Err-clause-bad_row g c n first =
-    let is = c.read.ensures.told n (subst (λ (t : List ℕ). IsFirstBad t n) (sym c.as_bytes.ensures.value) first) in
-    let own = c.in-Err.is in
-    let told : BadTable = record { row = n } in
-    let same : c.in-Err.bad ≡ told = cc in
-    ap (λ (b : BadTable). Err (fault.Table b.row)) same
+pub returns-in-Err-clause-begins : goal.returns-in-Err-clause-begins
+returns-in-Err-clause-begins g c = inl (refl, inl c.in-Err.ensures.bad)
 
-pub returns-in_default-clause-bad_row : goal.returns-in_default-clause-bad_row
-returns-in_default-clause-bad_row g c n first =
-    let is = c.read.ensures.told n (subst (λ (t : List ℕ). IsFirstBad t n) (sym c.as_bytes.ensures.value) first) in
-    let own = c.in-Ok.is in
-    absurd cc
+pub returns-in_default-clause-begins : goal.returns-in_default-clause-begins
+returns-in_default-clause-begins g c = inl (refl, inr ((c.in-Ok.table, c.in-Ok.ensures.found), refl))
 
-pub returns-in-Err-bulk_plan-clause-bad_row : goal.returns-in-Err-bulk_plan-clause-bad_row
-returns-in-Err-bulk_plan-clause-bad_row g c n first =
-    let is = c.read.ensures.told n (subst (λ (t : List ℕ). IsFirstBad t n) (sym c.as_bytes.ensures.value) first) in
-    let own = c.in-Ok.is in
-    absurd cc
+pub returns-in-Err-bulk_plan-clause-begins : goal.returns-in-Err-bulk_plan-clause-begins
+returns-in-Err-bulk_plan-clause-begins g c = inl (refl, inr ((c.in-Ok.table, c.in-Ok.ensures.found), refl))
 
-pub returns-in-Err-drilled_lines-clause-bad_row : goal.returns-in-Err-drilled_lines-clause-bad_row
-returns-in-Err-drilled_lines-clause-bad_row g c n first =
-    let is = c.read.ensures.told n (subst (λ (t : List ℕ). IsFirstBad t n) (sym c.as_bytes.ensures.value) first) in
-    let own = c.in-Ok.is in
-    absurd cc
-
-pub returns-in-Err-drilled_lines-clause-cause : goal.returns-in-Err-drilled_lines-clause-cause
-returns-in-Err-drilled_lines-clause-cause g c =
+pub returns-in-Err-drilled_lines-clause-begins : goal.returns-in-Err-drilled_lines-clause-begins
+returns-in-Err-drilled_lines-clause-begins g c =
     let v = bulk_values c.args.wanted.now in
     let few = c.requires.ranges.count in
     let told : List ℕ → Option (List ℕ) = λ n. bytes_under c.in-Ok-bulk_files.files.files.items n in
     let queries = c.in-Ok-bulk_files.ensures.queries in
     let clicks = c.in-Ok-bulk_files.ensures.clicks in
     let valid = made_valid told v few queries clicks c.valid_logs.ensures.queries c.valid_logs.ensures.clicks c.sizes.ensures.queries c.sizes.ensures.clicks in
-    bulk_cause told v few queries clicks c.valid_logs.ensures.queries c.valid_logs.ensures.clicks valid c.in-Err-drilled_lines.fault (λ log line w e. c.in-Err-drilled_lines.ensures.refused refl log line w (ap Err e)) c.in-Err-drilled_lines.ensures.cause
+    let f = c.in-Err-drilled_lines.fault in
+    let memory = bulk_early told v few queries clicks c.valid_logs.ensures.queries c.valid_logs.ensures.clicks valid f c.without_reads.result (λ log line w e. c.in-Err-drilled_lines.ensures.refused refl log line w (ap Err e)) c.without_reads.ensures in
+    ⊎_elim (λ early. inl (early.0, inr ((c.in-Ok.table, c.in-Ok.ensures.found), memory early.1))) (λ late. inr (((c.in-Ok.table, c.in-Ok.ensures.found), subst (λ (p : PlanView). IfSome c.drilled_lines.new.ran.log (IsHeard p)) c.in-Ok-bulk_plan.ensures late.1), without IsPast f c.without_reads.result c.without_reads.ensures tt (run_past f late.2))) c.in-Err-drilled_lines.ensures.begins
+
+pub returns-in-Err-drilled_lines-clause-reads : goal.returns-in-Err-drilled_lines-clause-reads
+returns-in-Err-drilled_lines-clause-reads g c = no_read c.in-Err-drilled_lines.fault c.without_reads.result c.without_reads.ensures
+
+pub returns-in-Err-drilled_lines-clause-fair : goal.returns-in-Err-drilled_lines-clause-fair
+returns-in-Err-drilled_lines-clause-fair g c = without (IsFair ⊤) c.in-Err-drilled_lines.fault c.without_reads.result c.without_reads.ensures tt (c.in-Err-drilled_lines.ensures.fair refl)
+
+pub returns-clause-begins : goal.returns-clause-begins
+returns-clause-begins g c = ⊎_elim (λ early. absurd early.1) (λ late. inr (((c.in-Ok.table, c.in-Ok.ensures.found), subst (λ (p : PlanView). IfSome c.drilled_lines.new.ran.log (IsHeard p)) c.in-Ok-bulk_plan.ensures late.1), tt)) c.in-Ok-drilled_lines.ensures.begins
+
+pub returns-in-Ok-write_totals-clause-begins : goal.returns-in-Ok-write_totals-clause-begins
+returns-in-Ok-write_totals-clause-begins g c = ⊎_elim (λ early. absurd early.1) (λ late. inr (((c.in-Ok.table, c.in-Ok.ensures.found), subst (λ (p : PlanView). IfSome c.drilled_lines.new.ran.log (IsHeard p)) c.in-Ok-bulk_plan.ensures late.1), tt)) c.in-Ok-drilled_lines.ensures.begins
+
+pub returns-in-Ok-write_totals-clause-ran : goal.returns-in-Ok-write_totals-clause-ran
+returns-in-Ok-write_totals-clause-ran g c =
+    let v = bulk_values c.args.wanted.now in
+    let few = c.requires.ranges.count in
+    let told : List ℕ → Option (List ℕ) = λ n. bytes_under c.in-Ok-bulk_files.files.files.items n in
+    let queries = c.in-Ok-bulk_files.ensures.queries in
+    let clicks = c.in-Ok-bulk_files.ensures.clicks in
+    bulk_run told v few queries clicks c.valid_logs.ensures.queries c.valid_logs.ensures.clicks c.in-Ok-bulk_plan.plan c.drilled_lines.new.ran.log c.in-Ok-drilled_lines.lines.items c.in-Ok-bulk_plan.ensures (c.in-Ok-drilled_lines.ensures.done refl)
 
 pub returns-in-Ok-write_totals-clause-done : goal.returns-in-Ok-write_totals-clause-done
 returns-in-Ok-write_totals-clause-done g c sinks =
@@ -60,12 +68,6 @@ returns-in-Ok-write_totals-clause-done g c sinks =
     let written = c.in-Ok-write_totals.ensures.all sinks ∙ ap (λ (ls : List ReportLine). g.K.Sink.held c.args.out.now ++ totals ls) c.deref.ensures.value ∙ ap (λ (t : List ℕ). g.K.Sink.held c.args.out.now ++ t) sums in
     (bulk_run told v few queries clicks c.valid_logs.ensures.queries c.valid_logs.ensures.clicks plan c.drilled_lines.new.ran.log lines c.in-Ok-bulk_plan.ensures run, written)
 
-pub returns-in-Ok-write_totals-clause-bad_row : goal.returns-in-Ok-write_totals-clause-bad_row
-returns-in-Ok-write_totals-clause-bad_row g c n first =
-    let is = c.read.ensures.told n (subst (λ (t : List ℕ). IsFirstBad t n) (sym c.as_bytes.ensures.value) first) in
-    let own = c.in-Ok.is in
-    absurd cc
-
 pub returns-clause-prefix : goal.returns-clause-prefix
 returns-clause-prefix g c sinks e =
     let v = bulk_values c.args.wanted.now in
@@ -79,9 +81,3 @@ returns-clause-prefix g c sinks e =
     let sums = bulk_totals told v few queries clicks c.valid_logs.ensures.queries c.valid_logs.ensures.clicks plan c.drilled_lines.new.ran.log lines c.in-Ok-bulk_plan.ensures c.report_kinds.ensures.totals run in
     let took = subst (λ (t : List ℕ). TookPrefix (g.K.Sink.held c.args.out.now) t (g.K.Sink.held c.write_totals.new.sink)) (ap totals c.deref.ensures.value ∙ sums) (c.in-Err-write_totals.ensures.prefix sinks) in
     (bulk_run told v few queries clicks c.valid_logs.ensures.queries c.valid_logs.ensures.clicks plan c.drilled_lines.new.ran.log lines c.in-Ok-bulk_plan.ensures run, took)
-
-pub returns-clause-bad_row : goal.returns-clause-bad_row
-returns-clause-bad_row g c n first =
-    let is = c.read.ensures.told n (subst (λ (t : List ℕ). IsFirstBad t n) (sym c.as_bytes.ensures.value) first) in
-    let own = c.in-Ok.is in
-    absurd cc

@@ -6,7 +6,7 @@ use Rattle.site_laws.specs.Laws.{made_by}
 use Rattle.site_workers.specs.Works.{is_stop}
 use Rattle.site_run.specs.declared.ran.RunLog.{RunLog}
 use Rattle.photon_cli.proofs.Drilling.{drilled, something_left}
-use Rattle.photon_cli.proofs.Ends.{fair_by}
+use Rattle.photon_cli.proofs.Statuses.{fair_by}
 use Rattle.mem_outside.specs.Kept.{disk_of}
 use Rattle.photon_cli.proofs.engine.drill.drill_lines.Goals as goal
 
@@ -20,4 +20,4 @@ returns-clause-drilled g c logs s setting own =
     let ran = c.in-Ok.ensures.ran refl logs s setting own (λ disk is b now. c.requires.empty disk b now) in
     let spared : list_any is_joiners c.args.plan.stops ≡ false → IfSome c.run_lines.new.ran.log (λ (l : RunLog). (j : ℕ) → 7 ≤ j → list_any is_stop (made_by j l.air.history) ≡ false) =
     λ none. c.is_unplanned.ensures c.if-is_unplanned.false (subst (λ (b : Bool). IsTrue (not b)) (sym (c.stops_a_joiner-spared.ensures ∙ none)) refl) in
-    drilled c.run_lines.new.ran.log s c.args.plan c.in-Ok.lines.items setting.numbers.replicas ran c.run_lines.ensures.lists c.run_lines.ensures.aired spared
+    drilled c.run_lines.new.ran.log s c.args.plan c.in-Ok.lines.items setting.numbers.replicas ran c.run_lines.ensures.heard spared

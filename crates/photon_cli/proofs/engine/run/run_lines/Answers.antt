@@ -11,7 +11,7 @@ use Rattle.site_run.specs.Left.{RestLeft}
 use Rattle.site_run.specs.Joined.{RanAfresh}
 use Rattle.site_run.specs.Left.{RunLeft}
 use Rattle.photon_cli.proofs.Refusals.{within}
-use Rattle.photon_cli.proofs.Runs.{known, taken, log_checked}
+use Rattle.photon_cli.proofs.Runs.{heard, known, taken, log_checked}
 use Rattle.photon_cli.proofs.engine.run.run_lines.Goals as goal
 
 pub returns-in-Ok-classify-clause-joined : goal.returns-in-Ok-classify-clause-joined
@@ -44,3 +44,12 @@ returns-in-Ok-classify-clause-ran g c disks logs s setting own nothing =
     (λ l rest. c.means.ensures.ran s c.args.store.now c.run_sites.new.store l.air.history c.in-Ok.field-0.journals c.in-Ok-classify.lines.items (log_checked _ s setting.clicks_are) (subst (λ (t : List ShardRow). IsTable t) table c.requires.table) nothing rest
     (c.in-Ok-classify.ensures clicks (own ∙ sym c.deref.ensures.value) ∙ (λ k. map (λ (x : ClickRec). line_of c.in-Ok.field-0.journals (table k) x.id) (distinct clicks))))
     (c.in-Ok.ensures.rest disks logs s setting)
+
+pub returns-in-Err-clause-heard : goal.returns-in-Err-clause-heard
+returns-in-Err-clause-heard g c = heard c.run_sites.new.ran.log c.args.plan c.run_sites.ensures.lists c.run_sites.ensures.aired
+
+pub returns-in-Ok-classify-clause-heard : goal.returns-in-Ok-classify-clause-heard
+returns-in-Ok-classify-clause-heard g c = heard c.run_sites.new.ran.log c.args.plan c.run_sites.ensures.lists c.run_sites.ensures.aired
+
+pub returns-clause-heard : goal.returns-clause-heard
+returns-clause-heard g c = heard c.run_sites.new.ran.log c.args.plan c.run_sites.ensures.lists c.run_sites.ensures.aired

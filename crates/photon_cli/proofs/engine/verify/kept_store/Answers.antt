@@ -9,8 +9,9 @@ use Rattle.photon_cli.specs.declared.engine.fault.Fault.TheVariants as fault
 use Rattle.photon_cli.specs.Causes.{HasCauseInVerify, StopsReading}
 use Rattle.photon_cli.specs.LogFaults.{IsFair}
 use Rattle.photon_cli.specs.Verify.{IsReadFrom}
-use Rattle.photon_cli.proofs.Reading.{log_fair, log_in_verify, log_over, place_fair, place_stops, read_so, refused_so, rose_shut, welcome_so}
+use Rattle.photon_cli.proofs.Reading.{log_in_verify, log_over, place_fair, place_stops, read_so, refused_so, rose_shut, welcome_so}
 use Rattle.photon_cli.proofs.Refusals.{within}
+use Rattle.photon_cli.proofs.Statuses.{log_fair}
 use Rattle.photon_cli.proofs.Verifying.{read_before, sound_before}
 use Rattle.photon_cli.proofs.engine.verify.kept_store.Goals as goal
 

@@ -1,4 +1,4 @@
-use Rattle.std.proofs.Common.{◌++◌, ℕ, List, Option, Err, inl, ap, sym, subst, ◌∙◌}
+use Rattle.std.proofs.Common.{◌++◌, ℕ, List, Option, Err, inl, inr, refl, ap, sym, subst, ◌∙◌}
 use Rattle.std.specs.List.{list_any}
 use Rattle.std.specs.Option.{IsSomeAnd}
 use Rattle.log_records.specs.declared.report.ReportLine.{ReportLine}
@@ -9,8 +9,9 @@ use Rattle.dispatch_node.specs.Places.{IsLogOf}
 use Rattle.site_run.specs.declared.faults.fault.LogName.TheVariants.{Clicks}
 use Rattle.site_run.proofs.Counting.{rose_before}
 use Rattle.photon_cli.specs.Verify.{IsReadFrom}
-use Rattle.photon_cli.proofs.Reading.{later_in_verify, log_fair, log_in_verify}
+use Rattle.photon_cli.proofs.Reading.{later_in_verify, log_in_verify}
 use Rattle.photon_cli.proofs.Runs.{clicks_there, ends_there}
+use Rattle.photon_cli.proofs.Statuses.{log_fair, run_past}
 use Rattle.photon_cli.proofs.Verifying.{told_of}
 use Rattle.photon_cli.proofs.engine.verify.verify_store.Goals as goal
 
@@ -51,20 +52,26 @@ returns-clause-prefix g c logs sinks disks e =
       subst (λ (t : List ℕ). TookPrefix (g.K.Sink.held c.args.out.now) t (g.K.Sink.held c.write_report.new.sink)) (ap text_of c.deref-2.ensures.value) (c.in-Err-write_report.ensures.prefix sinks),
     )
 
-pub returns-in-Err-kept_store-clause-valid : goal.returns-in-Err-kept_store-clause-valid
-returns-in-Err-kept_store-clause-valid g c logs = inl (clicks_there _ _ (c.in-Ok.ensures.found logs))
+pub returns-in-Err-clause-begins : goal.returns-in-Err-clause-begins
+returns-in-Err-clause-begins g c = inl (refl, c.in-Err.ensures.fault)
 
-pub returns-in-Ok-write_report-clause-valid : goal.returns-in-Ok-write_report-clause-valid
-returns-in-Ok-write_report-clause-valid g c logs = inl (clicks_there _ _ (c.in-Ok.ensures.found logs))
+pub returns-in-Err-kept_store-clause-begins : goal.returns-in-Err-kept_store-clause-begins
+returns-in-Err-kept_store-clause-begins g c = inr ((λ logs. clicks_there _ _ (c.in-Ok.ensures.found logs)), run_past c.in-Err-kept_store.fault c.in-Err-kept_store.ensures.cause)
 
-pub returns-clause-valid : goal.returns-clause-valid
-returns-clause-valid g c logs = inl (clicks_there _ _ (c.in-Ok.ensures.found logs))
+pub returns-in_default-clause-begins : goal.returns-in_default-clause-begins
+returns-in_default-clause-begins g c = inr ((λ logs. clicks_there _ _ (c.in-Ok.ensures.found logs)), tt)
+
+pub returns-in-Ok-write_report-clause-begins : goal.returns-in-Ok-write_report-clause-begins
+returns-in-Ok-write_report-clause-begins g c = inr ((λ logs. clicks_there _ _ (c.in-Ok.ensures.found logs)), tt)
+
+pub returns-clause-begins : goal.returns-clause-begins
+returns-clause-begins g c = inr ((λ logs. clicks_there _ _ (c.in-Ok.ensures.found logs)), tt)
 
 pub returns-in-Err-clause-caused : goal.returns-in-Err-clause-caused
-returns-in-Err-clause-caused g c disks logs s over = log_in_verify s (g.S.Store.image c.args.store.now) _ _ c.in-Err.fault Clicks c.in-Err.ensures.fault (λ is. c.in-Err.ensures.count.rose (ap Err is))
+returns-in-Err-clause-caused g c disks logs s over = log_in_verify s (g.S.Store.image c.args.store.now) _ _ c.in-Err.refused Clicks c.in-Err.ensures.fault (λ is. c.in-Err.ensures.count.rose (ap Err is))
 
 pub returns-in-Err-clause-welcome : goal.returns-in-Err-clause-welcome
-returns-in-Err-clause-welcome g c disks logs s over replicas few leaves sound = log_fair c.in-Err.fault Clicks c.in-Err.ensures.fault
+returns-in-Err-clause-welcome g c disks logs s over replicas few leaves sound = log_fair c.in-Err.refused Clicks c.in-Err.ensures.fault
 
 pub returns-in-Err-kept_store-clause-caused : goal.returns-in-Err-kept_store-clause-caused
 returns-in-Err-kept_store-clause-caused g c disks logs s over =
