@@ -9,7 +9,7 @@ use Rattle.turn_defs.specs.declared.packet.Packet.{Packet}
 use Rattle.turn_defs.specs.Packets.{packet, IsPacket}
 use Rattle.packet_codec.specs.Spelled.{Packets}
 use Rattle.packet_codec.specs.Refused.{IsBadPacket}
-use Rattle.packet_codec.proofs.PacketsApart.{packet_apart}
+use Rattle.packet_codec.proofs.PacketParts.{packet_apart}
 
 pub bad_one : (bytes : List ℕ) (m n : ℕ) → IsBadPacket bytes m → IsBadPacket bytes n → m ≡ n
 bad_one bytes m n a b = let p = a.furthest n b.reaches in let q = b.furthest m a.reaches in omega arith

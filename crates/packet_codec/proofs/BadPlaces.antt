@@ -89,14 +89,6 @@ bad_agreed T S front rest n agreed back on bad = record {
         let le = bad.furthest j (record { within = in_rest; more = r.more; whole = back _ (subst T e r.whole) }) in
         omega arith
 
--- Behind a front that the spellings of T with it have, and none is shorter, a first bad byte of what follows is one of the whole.
-pub bad_behind : (T S : List ℕ → Type 0) (front rest : List ℕ) (n : ℕ)
-    → ((z : List ℕ) → T z → length front ≤ length z)
-    → ((z : List ℕ) → T (front ++ z) → S z)
-    → ((z : List ℕ) → S z → T (front ++ z))
-    → IsBadAt S rest n → IsBadAt T (front ++ rest) (length front + n)
-bad_behind T S front rest n long = bad_agreed T S front rest n (λ z s t h e. let q = front_longer front z t s (long z h) (sym e) in (q.0, q.1))
-
 -- The first byte that does not fit, or the end where bytes are missing.
 pub bad_cell : (n : ℕ) (Fits : ℕ → ℕ → Type 0) (filler : ℕ) (rest : List ℕ) (i : ℕ)
     → ((k : ℕ) → k < n → Fits k filler)
@@ -152,18 +144,6 @@ before_agreed T S whole front rest left e agreed back on b = record {
   at = length front + b.at;
   place = let p = b.place in omega (arith, ap length e, length-append front rest);
   bad = subst (λ (w : List ℕ). IsBadAt T w (length front + b.at)) (sym e) (bad_agreed T S front rest b.at agreed back on b.bad);
-}
-
-pub before_behind : (T S : List ℕ → Type 0) (whole front rest : List ℕ) (left : ℕ)
-    → whole ≡ front ++ rest
-    → ((z : List ℕ) → T z → length front ≤ length z)
-    → ((z : List ℕ) → T (front ++ z) → S z)
-    → ((z : List ℕ) → S z → T (front ++ z))
-    → IsBadBefore S rest left → IsBadBefore T whole left
-before_behind T S whole front rest left e long back on b = record {
-  at = length front + b.at;
-  place = let p = b.place in omega (arith, ap length e, length-append front rest);
-  bad = subst (λ (w : List ℕ). IsBadAt T w (length front + b.at)) (sym e) (bad_behind T S front rest b.at long back on b.bad);
 }
 
 pub before_cell : (n : ℕ) (Fits : ℕ → ℕ → Type 0) (filler : ℕ) (rest : List ℕ) (i : ℕ)

@@ -63,32 +63,6 @@ number_8 z len h = (from_be_bytes w64 z, omega (arith, h.at 0, h.at 1, h.at 2, h
 pub small_8 : (n : ℕ) → n < 2 ^ 64 → n / 2 ^ 56 % 256 ≤ 0 → n / 2 ^ 48 % 256 ≤ 0 → n < 2 ^ 48
 small_8 n h p q = omega arith
 
--- bytes cut in two
-pub record IsCut (z : List ℕ) (a b : ℕ) : Type 0 where
-  pub front : List ℕ
-  pub back : List ℕ
-  pub whole : z ≡ front ++ back
-  pub front_len : length front ≡ a
-  pub back_len : length back ≡ b
-  pub front_bytes : Bytes front
-  pub back_bytes : Bytes back
-
-pub cut : (z : List ℕ) (a b : ℕ) → length z ≡ a + b → Bytes z → IsCut z a b
-cut z a b len h = record {
-  front = take a z;
-  back = drop a z;
-  whole = sym (take-append-drop a z);
-  front_len = length-take-le a z (omega arith);
-  back_len = omega (arith, length-drop a z);
-  front_bytes = record {
-    at = λ k. ⊎_elim
-        (λ lt. subst (λ x. x < 256) (sym (get_or-take a z k 0 lt)) (h.at k))
-        (λ le. subst (λ x. x < 256) (sym (get_or_past (take a z) k 0 (omega (arith, length-take-le a z (omega arith))))) (omega arith))
-        (cases_lt k a);
-  };
-  back_bytes = record { at = λ k. subst (λ x. x < 256) (sym (get_or-drop a z k 0)) (h.at (a + k)) };
-}
-
 -- ---- any bytes
 
 pub run_bytes : (n : ℕ) (z : List ℕ) → Run n 0 255 z → Bytes z
@@ -98,6 +72,19 @@ run_bytes n z h = record {
       (λ le. subst (λ x. x < 256) (sym (get_or_past z k 0 (omega (arith, h.len)))) (omega arith))
       (cases_lt k n);
 }
+
+-- one byte
+pub run_one : (b low high : ℕ) → low ≤ b → b ≤ high → Run 1 low high (b ∷ [])
+run_one b low high p q = record { len = refl; each = go }
+  where
+    go : (k : ℕ) → k < 1 → (low ≤ get_or (b ∷ []) k 0) × (get_or (b ∷ []) k 0 ≤ high)
+    go zero lt = (p, q)
+    go (suc k) lt = absurd (omega arith)
+
+pub one_of : (z : List ℕ) → length z ≡ 1 → z ≡ get_or z 0 0 ∷ []
+one_of [] l = absurd (omega arith)
+one_of (a ∷ []) l = refl
+one_of (a ∷ b ∷ z) l = absurd (omega arith)
 
 pub run_any : (n : ℕ) (z : List ℕ) → length z ≡ n → Bytes z → Run n 0 255 z
 run_any n z len h = record { len = len; each = λ k lt. (omega arith, omega (arith, h.at k)) }

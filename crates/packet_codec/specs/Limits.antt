@@ -1,11 +1,6 @@
--- The greatest byte at each place of a spelling of a fixed length.
+-- Bytes up to a limit at each place, and numbers so.
 use Rattle.std.specs.Prelude.{ℕ, List, [], ◌∷◌}
 
-abbrev pub ballot_limits : List ℕ
-ballot_limits = 0 ∷ 0 ∷ 255 ∷ 255 ∷ 255 ∷ 255 ∷ 255 ∷ 255 ∷ 255 ∷ 255 ∷ 255 ∷ 255 ∷ 1 ∷ []
-
-abbrev pub place_limits : List ℕ
-place_limits = 15 ∷ 0 ∷ 0 ∷ 255 ∷ 255 ∷ 255 ∷ 255 ∷ 255 ∷ 255 ∷ []
-
-abbrev pub batch_limits : List ℕ
-batch_limits = 255 ∷ 255 ∷ 255 ∷ 255 ∷ 255 ∷ 255 ∷ 255 ∷ 255 ∷ 64 ∷ []
+-- 8 bytes of a number below 2^48
+abbrev pub small_limits : List ℕ
+small_limits = 0 ∷ 0 ∷ 255 ∷ 255 ∷ 255 ∷ 255 ∷ 255 ∷ 255 ∷ []

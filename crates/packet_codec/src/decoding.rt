@@ -8,7 +8,7 @@ ghost use Rattle.packet_codec.specs.Refused.{IsBadPacket, IsFault, Tells, IsMemo
 ghost use Rattle.turn_defs.specs.declared.packet.Packet.{Packet};
 
 use crate::fields::{Stop, read_tag, read_three, read_two};
-use crate::tags::{ACCEPT, ACCEPTED, CHOSEN, INSERT, JOIN, JOINED, NACK, PREPARE, PROMISE, REPLY};
+use crate::tags::{ACCEPTED, CHOSEN, INSERT, JOIN, JOINED, NACK, PREPARE, PROMISE, REPLY};
 use crate::{DecodeFault, Field};
 use ballot_core::Ballot;
 use log_records::ClickRec;
@@ -64,128 +64,77 @@ fn read_fields(alloc: Global, tag: u8, bytes: &[u8]) -> Result<(Packet, &[u8]), 
     ensures bad { IfErr result (Stops (After tag Packets) bytes.now) }
 {
     match tag {
-        JOIN => read_join(alloc, bytes),
-        JOINED => read_joined(alloc, bytes),
-        INSERT => read_insert(alloc, bytes),
-        REPLY => read_reply(alloc, bytes),
-        PREPARE => read_prepare(alloc, bytes),
-        PROMISE => read_promise(alloc, bytes),
-        NACK => read_nack(alloc, bytes),
-        ACCEPT => read_accept(alloc, bytes),
-        ACCEPTED => read_accepted(alloc, bytes),
-        _ => read_chosen(alloc, bytes),
+        JOIN => {
+            let (position, click, rest) = read_two::<u64, ClickRec>(alloc, bytes)?;
+            Ok((Packet::Join { position, click }, rest))
+        }
+        JOINED => {
+            let (position, outcome, rest) = read_two::<u64, Outcome>(alloc, bytes)?;
+            Ok((Packet::Joined { position, outcome }, rest))
+        }
+        INSERT => {
+            let (insert, rest) = Insert::read(alloc, bytes)?;
+            Ok((Packet::Insert(insert), rest))
+        }
+        REPLY => {
+            let (insert, answer, rest) = read_two::<Insert, Answer>(alloc, bytes)?;
+            Ok((Packet::Reply { insert, answer }, rest))
+        }
+        PREPARE => {
+            let (place, ballot, rest) = read_two::<Place, Ballot>(alloc, bytes)?;
+            Ok((Packet::Prepare { place, ballot }, rest))
+        }
+        ACCEPTED => {
+            let (place, ballot, rest) = read_two::<Place, Ballot>(alloc, bytes)?;
+            Ok((Packet::Accepted { place, ballot }, rest))
+        }
+        CHOSEN => {
+            let (place, batch, rest) = read_two::<Place, Batch>(alloc, bytes)?;
+            Ok((Packet::Chosen { place, batch }, rest))
+        }
+        _ => read_more(alloc, tag, bytes),
     }
 }
 
-fn read_join(alloc: Global, bytes: &[u8]) -> Result<(Packet, &[u8]), Stop>
+// The packet of this tag, for a tag whose packets have three fields.
+fn read_more(alloc: Global, tag: u8, bytes: &[u8]) -> Result<(Packet, &[u8]), Stop>
+    requires low { 0x16 ≤ tag }
+    requires high { tag ≤ 0x18 }
     ensures is { IfOk result (λ p. IsPacket p.0) }
-    ensures found { IfOk result (λ p. 0x11 ∷ bytes.now ≡ packet p.0 ++ p.1.now) }
-    ensures bad { IfErr result (Stops (After 0x11 Packets) bytes.now) }
+    ensures found { IfOk result (λ p. tag ∷ bytes.now ≡ packet p.0 ++ p.1.now) }
+    ensures bad { IfErr result (Stops (After tag Packets) bytes.now) }
 {
-    let (position, click, rest) = read_two::<u64, ClickRec>(alloc, bytes)?;
-    Ok((Packet::Join { position, click }, rest))
-}
-
-fn read_joined(alloc: Global, bytes: &[u8]) -> Result<(Packet, &[u8]), Stop>
-    ensures is { IfOk result (λ p. IsPacket p.0) }
-    ensures found { IfOk result (λ p. 0x12 ∷ bytes.now ≡ packet p.0 ++ p.1.now) }
-    ensures bad { IfErr result (Stops (After 0x12 Packets) bytes.now) }
-{
-    let (position, outcome, rest) = read_two::<u64, Outcome>(alloc, bytes)?;
-    Ok((Packet::Joined { position, outcome }, rest))
-}
-
-fn read_insert(alloc: Global, bytes: &[u8]) -> Result<(Packet, &[u8]), Stop>
-    ensures is { IfOk result (λ p. IsPacket p.0) }
-    ensures found { IfOk result (λ p. 0x13 ∷ bytes.now ≡ packet p.0 ++ p.1.now) }
-    ensures bad { IfErr result (Stops (After 0x13 Packets) bytes.now) }
-{
-    let (insert, rest) = Insert::read(alloc, bytes)?;
-    Ok((Packet::Insert(insert), rest))
-}
-
-fn read_reply(alloc: Global, bytes: &[u8]) -> Result<(Packet, &[u8]), Stop>
-    ensures is { IfOk result (λ p. IsPacket p.0) }
-    ensures found { IfOk result (λ p. 0x14 ∷ bytes.now ≡ packet p.0 ++ p.1.now) }
-    ensures bad { IfErr result (Stops (After 0x14 Packets) bytes.now) }
-{
-    let (insert, answer, rest) = read_two::<Insert, Answer>(alloc, bytes)?;
-    Ok((Packet::Reply { insert, answer }, rest))
-}
-
-fn read_prepare(alloc: Global, bytes: &[u8]) -> Result<(Packet, &[u8]), Stop>
-    ensures is { IfOk result (λ p. IsPacket p.0) }
-    ensures found { IfOk result (λ p. 0x15 ∷ bytes.now ≡ packet p.0 ++ p.1.now) }
-    ensures bad { IfErr result (Stops (After 0x15 Packets) bytes.now) }
-{
-    let (place, ballot, rest) = read_two::<Place, Ballot>(alloc, bytes)?;
-    Ok((Packet::Prepare { place, ballot }, rest))
-}
-
-fn read_promise(alloc: Global, bytes: &[u8]) -> Result<(Packet, &[u8]), Stop>
-    ensures is { IfOk result (λ p. IsPacket p.0) }
-    ensures found { IfOk result (λ p. 0x16 ∷ bytes.now ≡ packet p.0 ++ p.1.now) }
-    ensures bad { IfErr result (Stops (After 0x16 Packets) bytes.now) }
-{
-    let (place, ballot, prior, rest) = read_three::<Place, Ballot, Option<(Ballot, Batch)>>(
-        alloc, bytes,
-    )?;
-    Ok((
-        Packet::Promise {
-            place,
-            ballot,
-            prior,
-        },
-        rest,
-    ))
-}
-
-fn read_nack(alloc: Global, bytes: &[u8]) -> Result<(Packet, &[u8]), Stop>
-    ensures is { IfOk result (λ p. IsPacket p.0) }
-    ensures found { IfOk result (λ p. 0x17 ∷ bytes.now ≡ packet p.0 ++ p.1.now) }
-    ensures bad { IfErr result (Stops (After 0x17 Packets) bytes.now) }
-{
-    let (place, ballot, promised, rest) = read_three::<Place, Ballot, Ballot>(alloc, bytes)?;
-    Ok((
-        Packet::Nack {
-            place,
-            ballot,
-            promised,
-        },
-        rest,
-    ))
-}
-
-fn read_accept(alloc: Global, bytes: &[u8]) -> Result<(Packet, &[u8]), Stop>
-    ensures is { IfOk result (λ p. IsPacket p.0) }
-    ensures found { IfOk result (λ p. 0x18 ∷ bytes.now ≡ packet p.0 ++ p.1.now) }
-    ensures bad { IfErr result (Stops (After 0x18 Packets) bytes.now) }
-{
-    let (place, ballot, batch, rest) = read_three::<Place, Ballot, Batch>(alloc, bytes)?;
-    Ok((
-        Packet::Accept {
-            place,
-            ballot,
-            batch,
-        },
-        rest,
-    ))
-}
-
-fn read_accepted(alloc: Global, bytes: &[u8]) -> Result<(Packet, &[u8]), Stop>
-    ensures is { IfOk result (λ p. IsPacket p.0) }
-    ensures found { IfOk result (λ p. 0x19 ∷ bytes.now ≡ packet p.0 ++ p.1.now) }
-    ensures bad { IfErr result (Stops (After 0x19 Packets) bytes.now) }
-{
-    let (place, ballot, rest) = read_two::<Place, Ballot>(alloc, bytes)?;
-    Ok((Packet::Accepted { place, ballot }, rest))
-}
-
-fn read_chosen(alloc: Global, bytes: &[u8]) -> Result<(Packet, &[u8]), Stop>
-    ensures is { IfOk result (λ p. IsPacket p.0) }
-    ensures found { IfOk result (λ p. 0x1A ∷ bytes.now ≡ packet p.0 ++ p.1.now) }
-    ensures bad { IfErr result (Stops (After 0x1A Packets) bytes.now) }
-{
-    let (place, batch, rest) = read_two::<Place, Batch>(alloc, bytes)?;
-    Ok((Packet::Chosen { place, batch }, rest))
+    match tag {
+        PROMISE => {
+            let (place, ballot, prior, rest) = read_three::<Place, Ballot, Option<(Ballot, Batch)>>(
+                alloc, bytes,
+            )?;
+            let packet = Packet::Promise {
+                place,
+                ballot,
+                prior,
+            };
+            Ok((packet, rest))
+        }
+        NACK => {
+            let (place, ballot, promised, rest) = read_three::<Place, Ballot, Ballot>(
+                alloc, bytes,
+            )?;
+            let packet = Packet::Nack {
+                place,
+                ballot,
+                promised,
+            };
+            Ok((packet, rest))
+        }
+        _ => {
+            let (place, ballot, batch, rest) = read_three::<Place, Ballot, Batch>(alloc, bytes)?;
+            let packet = Packet::Accept {
+                place,
+                ballot,
+                batch,
+            };
+            Ok((packet, rest))
+        }
+    }
 }

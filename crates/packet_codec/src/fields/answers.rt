@@ -5,8 +5,8 @@ ghost use Rattle.turn_defs.specs.Spellings.{answer, IsAnswer};
 use crate::fields::Stop;
 use crate::fields::field::Field;
 use crate::fields::ids::token_bytes;
-use crate::fields::numbers::u64_of;
-use crate::fields::parts::{any, run, write};
+use crate::fields::parts::write;
+use crate::fields::several::read_tag;
 use registry_state::{Answer, Token};
 use std::alloc::{AllocError, Global};
 use wire_core::Bytes;
@@ -25,16 +25,18 @@ impl Field for Answer {
     }
 
     fn read(alloc: Global, bytes: &[u8]) -> Result<(Answer, &[u8]), Stop> {
-        let (tag, rest) = run(bytes, 1, 0, 2)?;
-        if tag[0] == 0 {
-            return Ok((Answer::Granted, rest));
+        let (tag, rest) = read_tag(bytes, 0, 2)?;
+        match tag {
+            0 => Ok((Answer::Granted, rest)),
+            1 => {
+                let (token, rest) = Token::read(alloc, rest)?;
+                Ok((Answer::Duplicate(token), rest))
+            }
+            _ => {
+                let (bound, rest) = u64::read(alloc, rest)?;
+                Ok((Answer::TooOld(bound), rest))
+            }
         }
-        if tag[0] == 1 {
-            let (token, rest) = Token::read(alloc, rest)?;
-            return Ok((Answer::Duplicate(token), rest));
-        }
-        let (bound, rest) = any(rest, 8)?;
-        Ok((Answer::TooOld(u64_of(bound)), rest))
     }
 
     fn told_apart() {}

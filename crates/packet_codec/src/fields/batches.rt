@@ -1,28 +1,22 @@
 // Batches.
-ghost use Rattle.std.specs.Prelude.{◌≡◌, ◌+◌, ◌*◌, ◌^◌, ◌<◌, ◌≤◌, ◌++◌, length, take, IfOk, IfErr};
+ghost use Rattle.std.specs.Prelude.{◌≡◌, ◌+◌, ◌≤◌, ◌∷◌, ◌++◌, length, take, IfOk, IfErr};
 ghost use Rattle.registry_state.specs.declared.TheConstants.{MOST_INSERTS};
 ghost use Rattle.list_words.specs.Lists.{Each};
-ghost use Rattle.packet_codec.specs.Cells.{UpTo};
-ghost use Rattle.turn_defs.specs.Spellings.{insert, IsInsert, inserts, batch_head, batch, IsBatch};
-ghost use Rattle.packet_codec.specs.Limits.{batch_limits};
-ghost use Rattle.packet_codec.specs.declared.fields.stop.Stop.TheVariants as stop;
+ghost use Rattle.packet_codec.specs.Counted.{counted, AreCounted, AreInserts};
+ghost use Rattle.packet_codec.specs.Stops.{Stops};
+ghost use Rattle.turn_defs.specs.Spellings.{IsInsert, inserts, batch, IsBatch};
 
 use crate::fields::Stop;
 use crate::fields::field::Field;
-use crate::fields::ids::{insert_bytes, insert_of};
-use crate::fields::numbers::u64_of;
-use crate::fields::parts::{any, up_to, write};
-use registry_state::{Batch, Inserts};
+use crate::fields::ids::insert_bytes;
+use crate::fields::parts::write;
+use crate::fields::several::{read_tag, read_two};
+use registry_state::{Batch, Insert, Inserts};
 use std::alloc::{AllocError, Global};
 use wire_core::Bytes;
 
-// The greatest byte at each place of a batch's head: the bound, and the count of its inserts.
-const HEAD: [u8; 9] = [255, 255, 255, 255, 255, 255, 255, 255, 64];
-
 // The longest spelling.
-const LONGEST: usize = 9 + 64 * INSERT;
-
-const INSERT: usize = 30;
+const LONGEST: usize = 9 + 64 * 30;
 
 /// The bound, the count of inserts in a byte, up to 64, and the inserts. Reading allocates the list of inserts.
 impl Field for Batch {
@@ -37,10 +31,7 @@ impl Field for Batch {
     }
 
     fn read(alloc: Global, bytes: &[u8]) -> Result<(Batch, &[u8]), Stop> {
-        let (head, rest) = up_to(bytes, &HEAD)?;
-        let (bound, count) = head_of(head);
-        let (spelled, rest) = any(rest, INSERT * count)?;
-        let inserts = inserts_of(alloc, spelled, count)?;
+        let (bound, inserts, rest) = read_two::<u64, Inserts>(alloc, bytes)?;
         Ok((Batch { bound, inserts }, rest))
     }
 
@@ -49,31 +40,44 @@ impl Field for Batch {
     fn some_value() {}
 }
 
-// The bound, and how many inserts follow.
-fn head_of(bytes: &[u8]) -> (u64, usize)
-    requires { UpTo batch_limits bytes.now }
-    ensures bound { result.0 < 2 ^ 64 }
-    ensures few { result.1 ≤ MOST_INSERTS }
-    ensures spelled { bytes.now ≡ batch_head result.0 result.1 }
-{
-    let (bound, count) = bytes.split_at(8);
-    (u64_of(bound), usize::from(count[0]))
+/// The count in a byte, up to 64, and the inserts. Reading allocates the list.
+impl Field for Inserts {
+    ghost spelled = { counted };
+
+    ghost has_spelling = { AreCounted };
+
+    fn put(&self, to: &mut Bytes) -> Result<(), AllocError> {
+        let list = self.as_slice();
+        let mut bytes = [0; LONGEST];
+        let at = write(&mut bytes, 0, &[list.len() as u8]);
+        let end = write_inserts(list, &mut bytes, at);
+        to.put_bytes(&bytes[..end])
+    }
+
+    fn read(alloc: Global, bytes: &[u8]) -> Result<(Inserts, &[u8]), Stop> {
+        let (count, rest) = read_tag(bytes, 0, 64)?;
+        read_inserts(alloc, rest, usize::from(count))
+    }
+
+    fn told_apart() {}
+
+    fn some_value() {}
 }
 
-// The inserts that fill the bytes.
-fn inserts_of(alloc: Global, bytes: &[u8], count: usize) -> Result<Inserts, Stop>
-    requires { length bytes.now ≡ 30 * count }
-    ensures ok { IfOk result (λ xs. (length xs ≡ count) × Each IsInsert xs × (bytes.now ≡ inserts xs)) }
-    ensures err { IfErr result (λ e. e ≡ stop.Memory) }
+// So many inserts, and the bytes behind them.
+fn read_inserts(alloc: Global, bytes: &[u8], count: usize) -> Result<(Inserts, &[u8]), Stop>
+    ensures is { IfOk result (λ p. (length p.0 ≡ count) × Each IsInsert p.0) }
+    ensures found { IfOk result (λ p. bytes.now ≡ inserts p.0 ++ p.1.now) }
+    ensures bad { IfErr result (Stops (AreInserts count) bytes.now) }
 {
     let mut list = Inserts::new(alloc);
     let mut rest = bytes;
     for _ in 0..count {
-        let (front, behind) = rest.split_at(INSERT);
-        list.push(insert_of(front))?;
+        let (insert, behind) = Insert::read(alloc, rest)?;
+        list.push(insert)?;
         rest = behind;
     }
-    Ok(list)
+    Ok((list, rest))
 }
 
 // Writes the spelling from `at` on, and answers the place behind it.
@@ -89,7 +93,7 @@ pub(crate) fn write_batch(b: &Batch, buf: &mut [u8], at: usize) -> usize
     write_inserts(list, buf, at)
 }
 
-fn write_inserts(list: &[registry_state::Insert], buf: &mut [u8], from: usize) -> usize
+fn write_inserts(list: &[Insert], buf: &mut [u8], from: usize) -> usize
     requires { from + length (inserts list.now) ≤ length buf.old }
     ensures end { result ≡ from + length (inserts list.now) }
     ensures text { take result buf.new ≡ take from buf.old ++ inserts list.now }

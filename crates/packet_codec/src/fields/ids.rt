@@ -1,12 +1,11 @@
 // Ids, tokens and inserts.
-ghost use Rattle.std.specs.Prelude.{◌≡◌, length};
+ghost use Rattle.std.specs.Prelude.{◌≡◌};
 ghost use Rattle.event_id.specs.EventId.{packed, IsId};
 ghost use Rattle.turn_defs.specs.Spellings.{token, IsToken, insert, IsInsert};
 
 use crate::fields::Stop;
 use crate::fields::field::Field;
-use crate::fields::numbers::{u16_of, u32_of, u64_of};
-use crate::fields::parts::any;
+use crate::fields::several::{read_three, read_two};
 use event_id::EventId;
 use registry_state::{Insert, Token};
 use std::alloc::{AllocError, Global};
@@ -22,9 +21,9 @@ impl Field for EventId {
         to.put_bytes(&self.to_bytes())
     }
 
-    fn read(_alloc: Global, bytes: &[u8]) -> Result<(EventId, &[u8]), Stop> {
-        let (front, rest) = any(bytes, 16)?;
-        Ok((id_of(front), rest))
+    fn read(alloc: Global, bytes: &[u8]) -> Result<(EventId, &[u8]), Stop> {
+        let (ip, pid, micros, rest) = read_three::<u32, u32, u64>(alloc, bytes)?;
+        Ok((EventId { ip, pid, micros }, rest))
     }
 
     fn told_apart() {}
@@ -42,9 +41,16 @@ impl Field for Token {
         to.put_bytes(&token_bytes(self))
     }
 
-    fn read(_alloc: Global, bytes: &[u8]) -> Result<(Token, &[u8]), Stop> {
-        let (front, rest) = any(bytes, 14)?;
-        Ok((token_of(front), rest))
+    fn read(alloc: Global, bytes: &[u8]) -> Result<(Token, &[u8]), Stop> {
+        let (joiner, epoch, number, rest) = read_three::<u16, u32, u64>(alloc, bytes)?;
+        Ok((
+            Token {
+                joiner,
+                epoch,
+                number,
+            },
+            rest,
+        ))
     }
 
     fn told_apart() {}
@@ -62,54 +68,14 @@ impl Field for Insert {
         to.put_bytes(&insert_bytes(self))
     }
 
-    fn read(_alloc: Global, bytes: &[u8]) -> Result<(Insert, &[u8]), Stop> {
-        let (front, rest) = any(bytes, 30)?;
-        Ok((insert_of(front), rest))
+    fn read(alloc: Global, bytes: &[u8]) -> Result<(Insert, &[u8]), Stop> {
+        let (id, token, rest) = read_two::<EventId, Token>(alloc, bytes)?;
+        Ok((Insert { id, token }, rest))
     }
 
     fn told_apart() {}
 
     fn some_value() {}
-}
-
-pub(crate) fn id_of(bytes: &[u8]) -> EventId
-    requires { length bytes.now ≡ 16 }
-    ensures is_id { IsId result }
-    ensures spelled { bytes.now ≡ packed result }
-{
-    let (ip, rest) = bytes.split_at(4);
-    let (pid, micros) = rest.split_at(4);
-    EventId {
-        ip: u32_of(ip),
-        pid: u32_of(pid),
-        micros: u64_of(micros),
-    }
-}
-
-pub(crate) fn token_of(bytes: &[u8]) -> Token
-    requires { length bytes.now ≡ 14 }
-    ensures is_token { IsToken result }
-    ensures spelled { bytes.now ≡ token result }
-{
-    let (joiner, rest) = bytes.split_at(2);
-    let (epoch, number) = rest.split_at(4);
-    Token {
-        joiner: u16_of(joiner),
-        epoch: u32_of(epoch),
-        number: u64_of(number),
-    }
-}
-
-pub(crate) fn insert_of(bytes: &[u8]) -> Insert
-    requires { length bytes.now ≡ 30 }
-    ensures is_insert { IsInsert result }
-    ensures spelled { bytes.now ≡ insert result }
-{
-    let (id, token) = bytes.split_at(16);
-    Insert {
-        id: id_of(id),
-        token: token_of(token),
-    }
 }
 
 /// The spelling of a token.

@@ -8,7 +8,8 @@ use crate::fields::Stop;
 use crate::fields::ballots::{ballot_bytes, place_bytes};
 use crate::fields::batches::write_batch;
 use crate::fields::field::Field;
-use crate::fields::parts::{run, write};
+use crate::fields::parts::write;
+use crate::fields::several::{read_tag, read_three, read_two};
 use ballot_core::Ballot;
 use paxos_acceptor::ReplicaNote;
 use paxos_defs::Place;
@@ -37,11 +38,9 @@ impl Field for ReplicaNote {
     }
 
     fn read(alloc: Global, bytes: &[u8]) -> Result<(ReplicaNote, &[u8]), Stop> {
-        let (tag, rest) = run(bytes, 1, PROMISED, ACCEPTED)?;
-        let (place, rest) = Place::read(alloc, rest)?;
-        let (ballot, rest) = Ballot::read(alloc, rest)?;
-        let Place { shard, slot } = place;
-        if tag[0] == PROMISED {
+        let (tag, rest) = read_tag(bytes, PROMISED, ACCEPTED)?;
+        if tag == PROMISED {
+            let (Place { shard, slot }, ballot, rest) = read_two::<Place, Ballot>(alloc, rest)?;
             let note = ReplicaNote::Promised {
                 shard,
                 slot,
@@ -49,7 +48,9 @@ impl Field for ReplicaNote {
             };
             return Ok((note, rest));
         }
-        let (batch, rest) = Batch::read(alloc, rest)?;
+        let (Place { shard, slot }, ballot, batch, rest) = read_three::<Place, Ballot, Batch>(
+            alloc, rest,
+        )?;
         let note = ReplicaNote::Accepted {
             shard,
             slot,

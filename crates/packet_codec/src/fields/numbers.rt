@@ -1,13 +1,57 @@
-// Numbers from their bytes.
-ghost use Rattle.std.specs.Prelude.{◌≡◌, length};
+// Numbers, high byte first.
+ghost use Rattle.std.specs.Prelude.{◌≡◌, ◌^◌, ◌<◌, ◌≤◌, [], ◌∷◌, length};
 ghost use Rattle.std.specs.Int.{w16, w32, w64, to_be_bytes};
 ghost use Rattle.turn_defs.specs.Spellings.{number, IsNumber};
 
 use crate::fields::Stop;
 use crate::fields::field::Field;
-use crate::fields::parts::any;
+use crate::fields::parts::{any, up_to};
+use crate::fields::several::read_tag;
 use std::alloc::{AllocError, Global};
 use wire_core::Bytes;
+
+/// 2 bytes. Reading takes no memory.
+impl Field for u16 {
+    ghost spelled = { to_be_bytes w16 };
+
+    ghost has_spelling = { λ n. n < 2 ^ 16 };
+
+    fn put(&self, to: &mut Bytes) -> Result<(), AllocError> {
+        to.put_u16(*self)
+    }
+
+    fn read(_alloc: Global, bytes: &[u8]) -> Result<(u16, &[u8]), Stop> {
+        let (front, rest) = any(bytes, 2)?;
+        Ok((u16::from_be_bytes([front[0], front[1]]), rest))
+    }
+
+    fn told_apart() {}
+
+    fn some_value() {}
+}
+
+/// 4 bytes. Reading takes no memory.
+impl Field for u32 {
+    ghost spelled = { to_be_bytes w32 };
+
+    ghost has_spelling = { λ n. n < 2 ^ 32 };
+
+    fn put(&self, to: &mut Bytes) -> Result<(), AllocError> {
+        to.put_u32(*self)
+    }
+
+    fn read(_alloc: Global, bytes: &[u8]) -> Result<(u32, &[u8]), Stop> {
+        let (front, rest) = any(bytes, 4)?;
+        Ok((
+            u32::from_be_bytes([front[0], front[1], front[2], front[3]]),
+            rest,
+        ))
+    }
+
+    fn told_apart() {}
+
+    fn some_value() {}
+}
 
 /// 8 bytes. Reading takes no memory.
 impl Field for u64 {
@@ -29,23 +73,62 @@ impl Field for u64 {
     fn some_value() {}
 }
 
-pub(crate) fn u16_of(bytes: &[u8]) -> u16
-    requires { length bytes.now ≡ 2 }
-    ensures { bytes.now ≡ to_be_bytes w16 result }
-{
-    u16::from_be_bytes([bytes[0], bytes[1]])
+/// A number below 2^48.
+#[derive(Drop)]
+pub(crate) struct Small {
+    pub number: u64,
 }
 
-pub(crate) fn u32_of(bytes: &[u8]) -> u32
-    requires { length bytes.now ≡ 4 }
-    ensures { bytes.now ≡ to_be_bytes w32 result }
-{
-    u32::from_be_bytes([bytes[0], bytes[1], bytes[2], bytes[3]])
+/// 8 bytes, of which the first two are 0. Reading takes no memory.
+impl Field for Small {
+    ghost spelled = { λ small. number small.number };
+
+    ghost has_spelling = { λ small. small.number < 2 ^ 48 };
+
+    fn put(&self, to: &mut Bytes) -> Result<(), AllocError> {
+        to.put_u64(self.number)
+    }
+
+    fn read(_alloc: Global, bytes: &[u8]) -> Result<(Small, &[u8]), Stop> {
+        let (front, rest) = up_to(bytes, &[0, 0, 255, 255, 255, 255, 255, 255])?;
+        let number = u64_of(front);
+        Ok((Small { number }, rest))
+    }
+
+    fn told_apart() {}
+
+    fn some_value() {}
 }
 
-pub(crate) fn u64_of(bytes: &[u8]) -> u64
+/// A byte that is at most `MOST`.
+#[derive(Drop)]
+pub(crate) struct Capped<const MOST: u8> {
+    pub byte: u8,
+}
+
+/// The byte. Reading takes no memory.
+impl<const MOST: u8> Field for Capped<MOST> {
+    ghost spelled = { λ capped. capped.byte ∷ [] };
+
+    ghost has_spelling = { λ capped. capped.byte ≤ MOST };
+
+    fn put(&self, to: &mut Bytes) -> Result<(), AllocError> {
+        to.put_u8(self.byte)
+    }
+
+    fn read(_alloc: Global, bytes: &[u8]) -> Result<(Capped<MOST>, &[u8]), Stop> {
+        let (byte, rest) = read_tag(bytes, 0, MOST)?;
+        Ok((Capped { byte }, rest))
+    }
+
+    fn told_apart() {}
+
+    fn some_value() {}
+}
+
+fn u64_of(bytes: &[u8]) -> u64
     requires { length bytes.now ≡ 8 }
-    ensures { bytes.now ≡ to_be_bytes w64 result }
+    ensures { bytes.now ≡ number result }
 {
     u64::from_be_bytes([
         bytes[0], bytes[1], bytes[2], bytes[3], bytes[4], bytes[5], bytes[6], bytes[7],

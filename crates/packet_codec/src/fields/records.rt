@@ -8,6 +8,7 @@ ghost use Rattle.turn_defs.specs.Spellings.{text, query, click};
 use crate::fields::Stop;
 use crate::fields::field::Field;
 use crate::fields::parts::{run, write};
+use crate::fields::several::{read_tag, read_three, read_two};
 use event_id::EventId;
 use log_records::{ClickRec, QueryRec, Text};
 use std::alloc::{AllocError, Global};
@@ -26,8 +27,8 @@ impl Field for Text {
     }
 
     fn read(alloc: Global, bytes: &[u8]) -> Result<(Text, &[u8]), Stop> {
-        let (len, rest) = run(bytes, 1, 0, 200)?;
-        let (spelled, rest) = run(rest, usize::from(len[0]), b' ', b'~')?;
+        let (len, rest) = read_tag(bytes, 0, 200)?;
+        let (spelled, rest) = run(rest, usize::from(len), b' ', b'~')?;
         match Text::read(alloc, spelled) {
             Ok(text) => Ok((text, rest)),
             Err(_) => Err(Stop::Memory),
@@ -53,8 +54,7 @@ impl Field for QueryRec {
     }
 
     fn read(alloc: Global, bytes: &[u8]) -> Result<(QueryRec, &[u8]), Stop> {
-        let (id, rest) = EventId::read(alloc, bytes)?;
-        let (text, rest) = <Text as Field>::read(alloc, rest)?;
+        let (id, text, rest) = read_two::<EventId, Text>(alloc, bytes)?;
         Ok((QueryRec { id, text }, rest))
     }
 
@@ -77,8 +77,7 @@ impl Field for ClickRec {
     }
 
     fn read(alloc: Global, bytes: &[u8]) -> Result<(ClickRec, &[u8]), Stop> {
-        let (id, rest) = EventId::read(alloc, bytes)?;
-        let (QueryRec { id: query, text }, rest) = QueryRec::read(alloc, rest)?;
+        let (id, query, text, rest) = read_three::<EventId, EventId, Text>(alloc, bytes)?;
         Ok((ClickRec { id, query, text }, rest))
     }
 

@@ -1,6 +1,6 @@
 use Rattle.std.proofs.Common.{length, ap, arith}
 use Rattle.registry_state.specs.declared.Insert.{Insert}
-use Rattle.packet_codec.proofs.BatchParts.{length-inserts}
+use Rattle.packet_codec.proofs.Counts.{length-inserts}
 use Rattle.packet_codec.proofs.encoding.batch_length.Goals as goal
 
 pub returns-clause-is : goal.returns-clause-is

@@ -1,4 +1,4 @@
-use Rattle.packet_codec.proofs.PacketsApart.{packet_apart, packet_one}
+use Rattle.packet_codec.proofs.PacketParts.{packet_apart, packet_one}
 use Rattle.packet_codec.proofs.rows.one_spelling.Goals as goal
 
 pub returns-clause-one : goal.returns-clause-one

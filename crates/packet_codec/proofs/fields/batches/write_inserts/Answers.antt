@@ -1,5 +1,5 @@
 use Rattle.std.proofs.Common.{ℕ, ◌++◌, List, ap, length, take, ◌∙◌, arith}
-use Rattle.packet_codec.proofs.BatchParts.{length-inserts, inserts_written}
+use Rattle.packet_codec.proofs.Counts.{length-inserts, inserts_written}
 use Rattle.packet_codec.proofs.fields.batches.write_inserts.Goals as goal
 
 pub write-at-requires : goal.write-at-requires

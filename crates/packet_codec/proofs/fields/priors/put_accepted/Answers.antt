@@ -1,5 +1,5 @@
 use Rattle.std.proofs.Common.{arith}
-use Rattle.packet_codec.proofs.BatchParts.{batch_room}
+use Rattle.packet_codec.proofs.Counts.{batch_room}
 use Rattle.packet_codec.proofs.fields.priors.put_accepted.Goals as goal
 
 pub write_batch-end-requires-clause-room : goal.write_batch-end-requires-clause-room

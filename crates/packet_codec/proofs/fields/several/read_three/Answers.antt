@@ -1,6 +1,6 @@
 use Rattle.packet_codec.specs.Bad.{Spelled, Followed}
 use Rattle.packet_codec.proofs.BadPlaces.{stops_out}
-use Rattle.packet_codec.proofs.FollowedParts.{followed_first, followed_next, some_spelling, some_followed}
+use Rattle.packet_codec.proofs.PartLaws.{followed_first, followed_next, some_spelling, some_followed}
 use Rattle.packet_codec.proofs.fields.several.read_three.Goals as goal
 
 pub returns-in_err-first-clause-bad : goal.returns-in_err-first-clause-bad

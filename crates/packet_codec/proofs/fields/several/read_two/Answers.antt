@@ -1,6 +1,6 @@
 use Rattle.packet_codec.specs.Bad.{Spelled, Followed}
 use Rattle.packet_codec.proofs.BadPlaces.{stops_out}
-use Rattle.packet_codec.proofs.FollowedParts.{followed_first, followed_next, some_spelling}
+use Rattle.packet_codec.proofs.PartLaws.{followed_first, followed_next, some_spelling}
 use Rattle.packet_codec.proofs.fields.several.read_two.Goals as goal
 
 pub returns-in_err-first-clause-bad : goal.returns-in_err-first-clause-bad

@@ -1,4 +1,4 @@
-use Rattle.packet_codec.proofs.SomeValues.{some_ballot}
+use Rattle.packet_codec.proofs.Made.{some_ballot}
 use Rattle.packet_codec.proofs.fields.ballots.BallotField.some_value.Goals as goal
 
 pub returns : goal.returns

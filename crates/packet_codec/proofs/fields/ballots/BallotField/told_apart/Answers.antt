@@ -1,4 +1,4 @@
-use Rattle.packet_codec.proofs.Fixed.{ballot_apart}
+use Rattle.packet_codec.proofs.Made.{ballot_apart}
 use Rattle.packet_codec.proofs.fields.ballots.BallotField.told_apart.Goals as goal
 
 pub returns : goal.returns

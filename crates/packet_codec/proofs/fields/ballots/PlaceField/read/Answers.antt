@@ -1,10 +1,6 @@
-use Rattle.packet_codec.specs.Bad.{Spelled}
-use Rattle.packet_codec.specs.Cells.{UpTo}
-use Rattle.turn_defs.specs.Spellings.{place, IsPlace}
-use Rattle.packet_codec.specs.Limits.{place_limits}
-use Rattle.packet_codec.proofs.BadPlaces.{stops_out}
-use Rattle.packet_codec.proofs.Fixed.{place_bad}
+use Rattle.packet_codec.proofs.PartLaws.{pair_stops}
+use Rattle.packet_codec.proofs.Made.{place_made}
 use Rattle.packet_codec.proofs.fields.ballots.PlaceField.read.Goals as goal
 
-pub returns-in_err-front-clause-bad : goal.returns-in_err-front-clause-bad
-returns-in_err-front-clause-bad c = stops_out (UpTo place_limits) (Spelled place IsPlace) c.args.bytes.now c.args.bytes.now c.in_err-front.field-0.0 c.from_residual.result c.from_residual.ensures.1 (place_bad c.args.bytes.now) c.in_err-front.ensures.bad
+pub returns-in_err-shard-clause-bad : goal.returns-in_err-shard-clause-bad
+returns-in_err-shard-clause-bad c = pair_stops _ _ _ _ _ _ _ c.args.bytes.now c.in_err-shard.field-0.0 c.from_residual.result place_made c.from_residual.ensures.1 c.in_err-shard.ensures.bad

@@ -1,4 +1,4 @@
-use Rattle.packet_codec.proofs.SomeValues.{some_place}
+use Rattle.packet_codec.proofs.Made.{some_place}
 use Rattle.packet_codec.proofs.fields.ballots.PlaceField.some_value.Goals as goal
 
 pub returns : goal.returns

@@ -1,4 +1,4 @@
-use Rattle.packet_codec.proofs.Fixed.{place_apart}
+use Rattle.packet_codec.proofs.Made.{place_apart}
 use Rattle.packet_codec.proofs.fields.ballots.PlaceField.told_apart.Goals as goal
 
 pub returns : goal.returns

@@ -1,4 +1,4 @@
-use Rattle.packet_codec.proofs.SomeValues.{some_batch}
+use Rattle.packet_codec.proofs.Made.{some_batch}
 use Rattle.packet_codec.proofs.fields.batches.BatchField.some_value.Goals as goal
 
 pub returns : goal.returns

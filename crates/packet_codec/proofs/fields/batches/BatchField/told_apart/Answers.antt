@@ -1,4 +1,4 @@
-use Rattle.packet_codec.proofs.BatchParts.{batch_apart}
+use Rattle.packet_codec.proofs.Made.{batch_apart}
 use Rattle.packet_codec.proofs.fields.batches.BatchField.told_apart.Goals as goal
 
 pub returns : goal.returns

@@ -1,4 +1,4 @@
-use Rattle.packet_codec.proofs.Fixed.{id_apart}
+use Rattle.packet_codec.proofs.Made.{id_apart}
 use Rattle.packet_codec.proofs.fields.ids.EventIdField.told_apart.Goals as goal
 
 pub returns : goal.returns

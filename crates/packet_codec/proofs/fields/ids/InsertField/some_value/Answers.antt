@@ -1,4 +1,4 @@
-use Rattle.packet_codec.proofs.SomeValues.{some_insert}
+use Rattle.packet_codec.proofs.Made.{some_insert}
 use Rattle.packet_codec.proofs.fields.ids.InsertField.some_value.Goals as goal
 
 pub returns : goal.returns

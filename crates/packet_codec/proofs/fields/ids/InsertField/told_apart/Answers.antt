@@ -1,4 +1,4 @@
-use Rattle.packet_codec.proofs.Fixed.{insert_apart}
+use Rattle.packet_codec.proofs.Made.{insert_apart}
 use Rattle.packet_codec.proofs.fields.ids.InsertField.told_apart.Goals as goal
 
 pub returns : goal.returns

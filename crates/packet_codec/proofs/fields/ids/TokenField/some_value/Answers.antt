@@ -1,4 +1,4 @@
-use Rattle.packet_codec.proofs.SomeValues.{some_token}
+use Rattle.packet_codec.proofs.Made.{some_token}
 use Rattle.packet_codec.proofs.fields.ids.TokenField.some_value.Goals as goal
 
 pub returns : goal.returns

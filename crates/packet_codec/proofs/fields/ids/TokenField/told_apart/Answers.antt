@@ -1,4 +1,4 @@
-use Rattle.packet_codec.proofs.Fixed.{token_apart}
+use Rattle.packet_codec.proofs.Made.{token_apart}
 use Rattle.packet_codec.proofs.fields.ids.TokenField.told_apart.Goals as goal
 
 pub returns : goal.returns

@@ -2,7 +2,7 @@ use Rattle.packet_codec.specs.Bad.{Spelled}
 use Rattle.packet_codec.specs.Cells.{Run}
 use Rattle.turn_defs.specs.Spellings.{number, IsNumber}
 use Rattle.packet_codec.proofs.BadPlaces.{stops_out}
-use Rattle.packet_codec.proofs.Fixed.{number_bad}
+use Rattle.packet_codec.proofs.Numbers.{number_bad}
 use Rattle.packet_codec.proofs.fields.numbers.U64Field.read.Goals as goal
 
 pub returns-in_err-front-clause-bad : goal.returns-in_err-front-clause-bad

@@ -1,4 +1,4 @@
-use Rattle.packet_codec.proofs.SomeValues.{some_click}
+use Rattle.packet_codec.proofs.Made.{some_click}
 use Rattle.packet_codec.proofs.fields.records.ClickRecField.some_value.Goals as goal
 
 pub returns : goal.returns

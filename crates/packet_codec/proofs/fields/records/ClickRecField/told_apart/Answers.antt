@@ -1,4 +1,4 @@
-use Rattle.packet_codec.proofs.TextParts.{click_apart}
+use Rattle.packet_codec.proofs.Made.{click_apart}
 use Rattle.packet_codec.proofs.fields.records.ClickRecField.told_apart.Goals as goal
 
 pub returns : goal.returns

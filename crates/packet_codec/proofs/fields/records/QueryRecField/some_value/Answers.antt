@@ -1,4 +1,4 @@
-use Rattle.packet_codec.proofs.SomeValues.{some_query}
+use Rattle.packet_codec.proofs.Made.{some_query}
 use Rattle.packet_codec.proofs.fields.records.QueryRecField.some_value.Goals as goal
 
 pub returns : goal.returns

@@ -1,4 +1,4 @@
-use Rattle.packet_codec.proofs.TextParts.{query_apart}
+use Rattle.packet_codec.proofs.Made.{query_apart}
 use Rattle.packet_codec.proofs.fields.records.QueryRecField.told_apart.Goals as goal
 
 pub returns : goal.returns

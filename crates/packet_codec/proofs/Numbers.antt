@@ -1,0 +1,96 @@
+-- Numbers as fields: where their first bad byte is, and that each has one spelling.
+use Rattle.std.proofs.Common.{◌≡◌, ℕ, ◌/◌, ◌%◌, ◌^◌, ◌<◌, ◌≤◌, List, [], ◌∷◌, ◌++◌, get_or, refl, sym, ap, ◌∙◌, subst, arith}
+use Rattle.std.specs.Int.{w16, w32, w64, to_be_bytes}
+use Rattle.packet_codec.specs.Bad.{Spelled}
+use Rattle.packet_codec.specs.Cells.{Run, UpTo}
+use Rattle.packet_codec.specs.Limits.{small_limits}
+use Rattle.packet_codec.specs.Stops.{IsBadBefore}
+use Rattle.turn_defs.specs.Spellings.{number, IsNumber}
+use Rattle.packet_codec.proofs.BadPlaces.{front_same, before_same}
+use Rattle.packet_codec.proofs.PartLaws.{IsApart}
+use Rattle.packet_codec.specs.declared.fields.numbers.Small.{Small}
+use Rattle.packet_codec.specs.declared.fields.numbers.Capped.{Capped}
+use Rattle.packet_codec.proofs.NumberBytes.{Bytes, bytes_none, bytes_cons, EachUpTo, bytes_2, bytes_4, bytes_8, same_2, same_4, same_8, number_2, number_4, number_8, small_8, run_one, one_of, run_bytes, run_any, up_to_each, up_to_bytes}
+
+-- ---- two bytes, four, and eight
+
+abbrev pub half : ℕ → List ℕ
+half n = to_be_bytes w16 n
+
+abbrev pub IsHalf : ℕ → Type 0
+IsHalf n = n < 2 ^ 16
+
+abbrev pub word : ℕ → List ℕ
+word n = to_be_bytes w32 n
+
+abbrev pub IsWord : ℕ → Type 0
+IsWord n = n < 2 ^ 32
+
+pub half_bad : (rest : List ℕ) (left : ℕ) → IsBadBefore (Run 2 0 255) rest left → IsBadBefore (Spelled half IsHalf) rest left
+half_bad rest left = before_same (Run 2 0 255) (Spelled half IsHalf) rest left (λ z h. number_2 z h.len (run_bytes 2 z h)) (λ z s. subst (Run 2 0 255) (sym s.2) (run_any 2 (half s.0) refl (bytes_2 s.0)))
+
+pub word_bad : (rest : List ℕ) (left : ℕ) → IsBadBefore (Run 4 0 255) rest left → IsBadBefore (Spelled word IsWord) rest left
+word_bad rest left = before_same (Run 4 0 255) (Spelled word IsWord) rest left (λ z h. number_4 z h.len (run_bytes 4 z h)) (λ z s. subst (Run 4 0 255) (sym s.2) (run_any 4 (word s.0) refl (bytes_4 s.0)))
+
+pub number_bad : (rest : List ℕ) (left : ℕ) → IsBadBefore (Run 8 0 255) rest left → IsBadBefore (Spelled number IsNumber) rest left
+number_bad rest left = before_same (Run 8 0 255) (Spelled number IsNumber) rest left (λ z h. number_8 z h.len (run_bytes 8 z h)) (λ z s. subst (Run 8 0 255) (sym s.2) (run_any 8 (number s.0) refl (bytes_8 s.0)))
+
+pub half_apart : IsApart half IsHalf
+half_apart x y s t p q e = same_2 x y p q (front_same (half x) (half y) s t refl e).0
+
+pub word_apart : IsApart word IsWord
+word_apart x y s t p q e = same_4 x y p q (front_same (word x) (word y) s t refl e).0
+
+pub number_apart : IsApart number IsNumber
+number_apart x y s t p q e = same_8 x y p q (front_same (number x) (number y) s t refl e).0
+
+-- ---- eight bytes of a number below 2^48
+
+abbrev pub small : Small → List ℕ
+small x = number x.number
+
+abbrev pub IsSmall : Small → Type 0
+IsSmall x = x.number < 2 ^ 48
+
+small_bytes : Bytes small_limits
+small_bytes =
+    bytes_cons _ _ (omega arith) (bytes_cons _ _ (omega arith) (bytes_cons _ _ (omega arith) (bytes_cons _ _ (omega arith)
+    (bytes_cons _ _ (omega arith) (bytes_cons _ _ (omega arith) (bytes_cons _ _ (omega arith) (bytes_cons _ _ (omega arith) bytes_none)))))))
+
+small_each : (x : Small) → IsSmall x → EachUpTo small_limits (small x)
+small_each x h = (omega arith, (omega arith, (omega arith, (omega arith, (omega arith, (omega arith, (omega arith, (omega arith, tt))))))))
+
+-- of eight bytes within the limits
+pub is_small : (z : List ℕ) (n : ℕ) → n < 2 ^ 64 → UpTo small_limits z → z ≡ number n → n < 2 ^ 48
+is_small z n lt h e =
+    let high : n / 2 ^ 56 % 256 ≤ 0 = subst (λ (x : List ℕ). get_or x 0 0 ≤ 0) e (h.each 0 (omega arith)) in
+    let next : n / 2 ^ 48 % 256 ≤ 0 = subst (λ (x : List ℕ). get_or x 1 0 ≤ 0) e (h.each 1 (omega arith)) in
+    small_8 n lt high next
+
+pub small_bad : (rest : List ℕ) (left : ℕ) → IsBadBefore (UpTo small_limits) rest left → IsBadBefore (Spelled small IsSmall) rest left
+small_bad rest left = before_same (UpTo small_limits) (Spelled small IsSmall) rest left
+    (λ z h. let n = number_8 z h.len (up_to_bytes small_limits z small_bytes h) in (record { number = n.0 }, is_small z n.0 n.1 h n.2, n.2))
+    (λ z s. subst (UpTo small_limits) (sym s.2) (up_to_each small_limits (small s.0) (small_each s.0 s.1)))
+
+pub small_apart : IsApart small IsSmall
+small_apart x y s t p q e =
+    let of : ℕ → Small = λ n. record { number = n } in
+    ap of (number_apart x.number y.number s t (omega (arith, p)) (omega (arith, q)) e)
+
+-- ---- a byte up to a limit
+
+abbrev pub capped : (most : ℕ) → Capped most → List ℕ
+capped most x = x.byte ∷ []
+
+abbrev pub IsCapped : (most : ℕ) → Capped most → Type 0
+IsCapped most x = x.byte ≤ most
+
+pub capped_bad : (most : ℕ) (rest : List ℕ) (left : ℕ) → IsBadBefore (Run 1 0 most) rest left → IsBadBefore (Spelled (capped most) (IsCapped most)) rest left
+capped_bad most rest left = before_same (Run 1 0 most) (Spelled (capped most) (IsCapped most)) rest left
+    (λ z h. (record { byte = get_or z 0 0 }, (h.each 0 (omega arith)).1, one_of z h.len))
+    (λ z s. subst (Run 1 0 most) (sym s.2) (run_one s.0.byte 0 most (omega arith) s.1))
+
+pub capped_apart : (most : ℕ) → IsApart (capped most) (IsCapped most)
+capped_apart most x y s t p q e =
+    let of : ℕ → Capped most = λ n. record { byte = n } in
+    ap of (ap (λ (z : List ℕ). get_or z 0 0) e)

@@ -1,8 +1,0 @@
-use Rattle.packet_codec.specs.Bad.{After}
-use Rattle.packet_codec.proofs.BadPlaces.{stops_out}
-use Rattle.packet_codec.specs.Spelled.{Packets}
-use Rattle.packet_codec.proofs.PacketParts.{PlaceBallot, prepare_bad}
-use Rattle.packet_codec.proofs.decoding.read_prepare.Goals as goal
-
-pub returns-in_err-place-clause-bad : goal.returns-in_err-place-clause-bad
-returns-in_err-place-clause-bad c = stops_out PlaceBallot (After 0x15 Packets) c.args.bytes.now c.args.bytes.now c.in_err-place.field-0.0 c.from_residual.result c.from_residual.ensures.1 (prepare_bad c.args.bytes.now) c.in_err-place.ensures.bad

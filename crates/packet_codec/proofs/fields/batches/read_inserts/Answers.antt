@@ -1,0 +1,34 @@
+use Rattle.std.proofs.Common.{◌≡◌, ◌++◌, [], ◌∷◌, List, ap, length, ◌∙◌, sym, subst, arith}
+use Rattle.std.proofs.lemmas.List.{length-append}
+use Rattle.registry_state.specs.declared.Insert.{Insert}
+use Rattle.list_words.specs.Lists.{Each}
+use Rattle.list_words.proofs.Lists.{each_append}
+use Rattle.turn_defs.specs.Spellings.{insert, IsInsert, inserts}
+use Rattle.packet_codec.specs.Bad.{Spelled}
+use Rattle.packet_codec.specs.Counted.{AreInserts}
+use Rattle.packet_codec.proofs.BadPlaces.{stops_out}
+use Rattle.packet_codec.proofs.Counts.{inserts_bad, inserts_read}
+use Rattle.packet_codec.proofs.Made.{insert_apart, some_insert}
+use Rattle.packet_codec.proofs.fields.batches.read_inserts.Goals as goal
+
+pub loop-preserved : goal.loop-preserved
+loop-preserved c =
+    let pushed : c.push.new.self ≡ c.loop.list ++ c.in_ok-insert.insert ∷ [] = c.in_ok-push.ensures.ok in
+    let found = c.in_ok-insert.ensures.found in
+    record {
+      so_far = inserts_read c.args.bytes.now c.loop.list c.in_ok-insert.insert c.loop.rest.now c.in_ok-insert.behind.now c.loop.invariant.so_far found.1 ∙ ap (λ (xs : List Insert). inserts xs ++ c.in_ok-insert.behind.now) (sym pushed);
+      count = omega (arith, ap (length {A = Insert}) pushed, length-append c.loop.list (c.in_ok-insert.insert ∷ []), c.loop.invariant.count);
+      each = subst (Each IsInsert) (sym pushed) (each_append IsInsert c.loop.list (c.in_ok-insert.insert ∷ []) c.loop.invariant.each (found.0, tt));
+    }
+
+pub returns-in_err-insert-clause-bad : goal.returns-in_err-insert-clause-bad
+returns-in_err-insert-clause-bad c = stops_out
+    (Spelled insert IsInsert)
+    (AreInserts c.args.count)
+    c.loop.rest.now
+    c.args.bytes.now
+    c.in_err-insert.field-0.0
+    c.from_residual.result
+    c.from_residual.ensures.1
+    (λ left. inserts_bad insert_apart some_insert c.loop.list c.args.count c.args.bytes.now c.loop.rest.now left (omega (arith, c.loop.invariant.count, c.loop-test.true)) c.loop.invariant.each c.loop.invariant.so_far)
+    c.in_err-insert.ensures.bad
