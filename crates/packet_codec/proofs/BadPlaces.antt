@@ -160,6 +160,9 @@ pub stops_on : (S T : List ℕ → Type 0) (rest whole : List ℕ) (stop : Stop)
 stops_on S T rest whole (Bad left) on b = on left b
 stops_on S T rest whole Memory on b = tt
 
+pub stops_same : (S T : List ℕ → Type 0) (rest : List ℕ) (stop : Stop) → ((z : List ℕ) → S z → T z) → ((z : List ℕ) → T z → S z) → Stops S rest stop → Stops T rest stop
+stops_same S T rest stop to from = stops_on S T rest rest stop (λ left. before_same S T rest left to from)
+
 -- in what is handed on as it is
 pub stops_through : {W : Type 0} (S T : List ℕ → Type 0) (rest whole : List ℕ) (r : Result W Stop) → ((left : ℕ) → IsBadBefore S rest left → IsBadBefore T whole left) → IfErr r (Stops S rest) → IfErr r (Stops T whole)
 stops_through S T rest whole (Ok x) on b = tt

@@ -16,8 +16,12 @@ use Rattle.log_records.specs.Line.{IsQuery, IsClick}
 use Rattle.packet_codec.specs.Counted.{counted, AreCounted}
 use Rattle.turn_defs.specs.Spellings.{number, IsNumber, token, IsToken, insert, IsInsert, ballot, IsBallot, place, IsPlace, batch, IsBatch, text, query, click}
 use Rattle.packet_codec.proofs.Counts.{text_apart, counted_apart, some_text}
-use Rattle.packet_codec.proofs.PartLaws.{IsApart, IsPair, IsTriple, pair_apart, triple_apart}
-use Rattle.packet_codec.proofs.Numbers.{half, IsHalf, word, IsWord, half_apart, word_apart, number_apart, small, IsSmall, small_apart, capped, IsCapped, capped_apart}
+use Rattle.packet_codec.specs.declared.fields.stop.Stop.{Stop}
+use Rattle.packet_codec.specs.Bad.{Spelled}
+use Rattle.packet_codec.specs.Stops.{Stops}
+use Rattle.packet_codec.proofs.PartLaws.{IsApart, Two, Three, IsPair, IsTriple, pair_bad, triple_bad, pair_apart, triple_apart}
+use Rattle.packet_codec.specs.Numbers.{half, IsHalf, word, IsWord, small, IsSmall, capped, IsCapped}
+use Rattle.packet_codec.proofs.Numbers.{half_apart, word_apart, number_apart, small_apart, capped_apart}
 
 pub id_made : IsTriple word IsWord word IsWord number IsNumber packed IsId (λ ip pid micros. record { ip = ip; pid = pid; micros = micros })
 id_made = record {
@@ -26,8 +30,11 @@ id_made = record {
   spelled = λ a b c. refl;
 }
 
+pub id_bad : (bytes : List ℕ) (stop : Stop) → Stops (Three word IsWord word IsWord number IsNumber) bytes stop → Stops (Spelled packed IsId) bytes stop
+id_bad bytes stop = triple_bad _ _ _ _ _ _ _ _ _ bytes stop id_made
+
 pub id_apart : IsApart packed IsId
-id_apart = triple_apart word IsWord word IsWord number IsNumber packed IsId (λ ip pid micros. record { ip = ip; pid = pid; micros = micros }) id_made word_apart word_apart number_apart
+id_apart = triple_apart _ _ _ _ _ _ _ _ _ id_made word_apart word_apart number_apart
 
 pub token_made : IsTriple half IsHalf word IsWord number IsNumber token IsToken (λ joiner epoch n. record { joiner = joiner; epoch = epoch; number = n })
 token_made = record {
@@ -35,6 +42,9 @@ token_made = record {
   parts = λ t h. (t.joiner, t.epoch, t.number, h.joiner, h.epoch, h.number, refl);
   spelled = λ a b c. refl;
 }
+
+pub token_bad : (bytes : List ℕ) (stop : Stop) → Stops (Three half IsHalf word IsWord number IsNumber) bytes stop → Stops (Spelled token IsToken) bytes stop
+token_bad bytes stop = triple_bad _ _ _ _ _ _ _ _ _ bytes stop token_made
 
 pub token_apart : IsApart token IsToken
 token_apart = triple_apart _ _ _ _ _ _ _ _ _ token_made half_apart word_apart number_apart
@@ -46,6 +56,9 @@ insert_made = record {
   spelled = λ a b. refl;
 }
 
+pub insert_bad : (bytes : List ℕ) (stop : Stop) → Stops (Two packed IsId token IsToken) bytes stop → Stops (Spelled insert IsInsert) bytes stop
+insert_bad bytes stop = pair_bad _ _ _ _ _ _ _ bytes stop insert_made
+
 pub insert_apart : IsApart insert IsInsert
 insert_apart = pair_apart _ _ _ _ _ _ _ insert_made id_apart token_apart
 
@@ -56,6 +69,9 @@ ballot_made = record {
   spelled = λ a b c. refl;
 }
 
+pub ballot_bad : (bytes : List ℕ) (stop : Stop) → Stops (Three small IsSmall word IsWord (capped 1) (IsCapped 1)) bytes stop → Stops (Spelled ballot IsBallot) bytes stop
+ballot_bad bytes stop = triple_bad _ _ _ _ _ _ _ _ _ bytes stop ballot_made
+
 pub ballot_apart : IsApart ballot IsBallot
 ballot_apart = triple_apart _ _ _ _ _ _ _ _ _ ballot_made small_apart word_apart (capped_apart 1)
 
@@ -65,6 +81,9 @@ place_made = record {
   parts = λ t h. (record { byte = t.shard }, record { number = t.slot }, omega (arith, h.shard), h.slot, refl);
   spelled = λ a b. refl;
 }
+
+pub place_bad : (bytes : List ℕ) (stop : Stop) → Stops (Two (capped 15) (IsCapped 15) small IsSmall) bytes stop → Stops (Spelled place IsPlace) bytes stop
+place_bad bytes stop = pair_bad _ _ _ _ _ _ _ bytes stop place_made
 
 pub place_apart : IsApart place IsPlace
 place_apart = pair_apart _ _ _ _ _ _ _ place_made (capped_apart 15) small_apart
@@ -79,6 +98,9 @@ batch_made = record {
   spelled = λ a b. refl;
 }
 
+pub batch_bad : (bytes : List ℕ) (stop : Stop) → Stops (Two number IsNumber counted AreCounted) bytes stop → Stops (Spelled batch IsBatch) bytes stop
+batch_bad bytes stop = pair_bad _ _ _ _ _ _ _ bytes stop batch_made
+
 pub batch_apart : IsApart batch IsBatch
 batch_apart = pair_apart _ _ _ _ _ _ _ batch_made number_apart inserts_apart
 
@@ -89,6 +111,9 @@ query_made = record {
   spelled = λ a b. refl;
 }
 
+pub query_bad : (bytes : List ℕ) (stop : Stop) → Stops (Two packed IsId text IsText) bytes stop → Stops (Spelled query IsQuery) bytes stop
+query_bad bytes stop = pair_bad _ _ _ _ _ _ _ bytes stop query_made
+
 pub query_apart : IsApart query IsQuery
 query_apart = pair_apart _ _ _ _ _ _ _ query_made id_apart text_apart
 
@@ -98,6 +123,9 @@ click_made = record {
   parts = λ t h. (t.id, t.query, t.text, h.id, h.query, h.text, refl);
   spelled = λ a b c. refl;
 }
+
+pub click_bad : (bytes : List ℕ) (stop : Stop) → Stops (Three packed IsId packed IsId text IsText) bytes stop → Stops (Spelled click IsClick) bytes stop
+click_bad bytes stop = triple_bad _ _ _ _ _ _ _ _ _ bytes stop click_made
 
 pub click_apart : IsApart click IsClick
 click_apart = triple_apart _ _ _ _ _ _ _ _ _ click_made id_apart id_apart text_apart

@@ -1,12 +1,13 @@
 -- Numbers as fields: where their first bad byte is, and that each has one spelling.
 use Rattle.std.proofs.Common.{◌≡◌, ℕ, ◌/◌, ◌%◌, ◌^◌, ◌<◌, ◌≤◌, List, [], ◌∷◌, ◌++◌, get_or, refl, sym, ap, ◌∙◌, subst, arith}
 use Rattle.std.specs.Int.{w16, w32, w64, to_be_bytes}
+use Rattle.packet_codec.specs.declared.fields.stop.Stop.{Stop}
 use Rattle.packet_codec.specs.Bad.{Spelled}
 use Rattle.packet_codec.specs.Cells.{Run, UpTo}
-use Rattle.packet_codec.specs.Limits.{small_limits}
-use Rattle.packet_codec.specs.Stops.{IsBadBefore}
+use Rattle.packet_codec.specs.Numbers.{half, IsHalf, word, IsWord, small, IsSmall, small_limits, capped, IsCapped}
+use Rattle.packet_codec.specs.Stops.{Stops}
 use Rattle.turn_defs.specs.Spellings.{number, IsNumber}
-use Rattle.packet_codec.proofs.BadPlaces.{front_same, before_same}
+use Rattle.packet_codec.proofs.BadPlaces.{front_same, stops_same}
 use Rattle.packet_codec.proofs.PartLaws.{IsApart}
 use Rattle.packet_codec.specs.declared.fields.numbers.Small.{Small}
 use Rattle.packet_codec.specs.declared.fields.numbers.Capped.{Capped}
@@ -14,26 +15,14 @@ use Rattle.packet_codec.proofs.NumberBytes.{Bytes, bytes_none, bytes_cons, EachU
 
 -- ---- two bytes, four, and eight
 
-abbrev pub half : ℕ → List ℕ
-half n = to_be_bytes w16 n
+pub half_bad : (bytes : List ℕ) (stop : Stop) → Stops (Run 2 0 255) bytes stop → Stops (Spelled half IsHalf) bytes stop
+half_bad bytes stop = stops_same (Run 2 0 255) (Spelled half IsHalf) bytes stop (λ z h. number_2 z h.len (run_bytes 2 z h)) (λ z s. subst (Run 2 0 255) (sym s.2) (run_any 2 (half s.0) refl (bytes_2 s.0)))
 
-abbrev pub IsHalf : ℕ → Type 0
-IsHalf n = n < 2 ^ 16
+pub word_bad : (bytes : List ℕ) (stop : Stop) → Stops (Run 4 0 255) bytes stop → Stops (Spelled word IsWord) bytes stop
+word_bad bytes stop = stops_same (Run 4 0 255) (Spelled word IsWord) bytes stop (λ z h. number_4 z h.len (run_bytes 4 z h)) (λ z s. subst (Run 4 0 255) (sym s.2) (run_any 4 (word s.0) refl (bytes_4 s.0)))
 
-abbrev pub word : ℕ → List ℕ
-word n = to_be_bytes w32 n
-
-abbrev pub IsWord : ℕ → Type 0
-IsWord n = n < 2 ^ 32
-
-pub half_bad : (rest : List ℕ) (left : ℕ) → IsBadBefore (Run 2 0 255) rest left → IsBadBefore (Spelled half IsHalf) rest left
-half_bad rest left = before_same (Run 2 0 255) (Spelled half IsHalf) rest left (λ z h. number_2 z h.len (run_bytes 2 z h)) (λ z s. subst (Run 2 0 255) (sym s.2) (run_any 2 (half s.0) refl (bytes_2 s.0)))
-
-pub word_bad : (rest : List ℕ) (left : ℕ) → IsBadBefore (Run 4 0 255) rest left → IsBadBefore (Spelled word IsWord) rest left
-word_bad rest left = before_same (Run 4 0 255) (Spelled word IsWord) rest left (λ z h. number_4 z h.len (run_bytes 4 z h)) (λ z s. subst (Run 4 0 255) (sym s.2) (run_any 4 (word s.0) refl (bytes_4 s.0)))
-
-pub number_bad : (rest : List ℕ) (left : ℕ) → IsBadBefore (Run 8 0 255) rest left → IsBadBefore (Spelled number IsNumber) rest left
-number_bad rest left = before_same (Run 8 0 255) (Spelled number IsNumber) rest left (λ z h. number_8 z h.len (run_bytes 8 z h)) (λ z s. subst (Run 8 0 255) (sym s.2) (run_any 8 (number s.0) refl (bytes_8 s.0)))
+pub number_bad : (bytes : List ℕ) (stop : Stop) → Stops (Run 8 0 255) bytes stop → Stops (Spelled number IsNumber) bytes stop
+number_bad bytes stop = stops_same (Run 8 0 255) (Spelled number IsNumber) bytes stop (λ z h. number_8 z h.len (run_bytes 8 z h)) (λ z s. subst (Run 8 0 255) (sym s.2) (run_any 8 (number s.0) refl (bytes_8 s.0)))
 
 pub half_apart : IsApart half IsHalf
 half_apart x y s t p q e = same_2 x y p q (front_same (half x) (half y) s t refl e).0
@@ -45,12 +34,6 @@ pub number_apart : IsApart number IsNumber
 number_apart x y s t p q e = same_8 x y p q (front_same (number x) (number y) s t refl e).0
 
 -- ---- eight bytes of a number below 2^48
-
-abbrev pub small : Small → List ℕ
-small x = number x.number
-
-abbrev pub IsSmall : Small → Type 0
-IsSmall x = x.number < 2 ^ 48
 
 small_bytes : Bytes small_limits
 small_bytes =
@@ -67,8 +50,8 @@ is_small z n lt h e =
     let next : n / 2 ^ 48 % 256 ≤ 0 = subst (λ (x : List ℕ). get_or x 1 0 ≤ 0) e (h.each 1 (omega arith)) in
     small_8 n lt high next
 
-pub small_bad : (rest : List ℕ) (left : ℕ) → IsBadBefore (UpTo small_limits) rest left → IsBadBefore (Spelled small IsSmall) rest left
-small_bad rest left = before_same (UpTo small_limits) (Spelled small IsSmall) rest left
+pub small_bad : (bytes : List ℕ) (stop : Stop) → Stops (UpTo small_limits) bytes stop → Stops (Spelled small IsSmall) bytes stop
+small_bad bytes stop = stops_same (UpTo small_limits) (Spelled small IsSmall) bytes stop
     (λ z h. let n = number_8 z h.len (up_to_bytes small_limits z small_bytes h) in (record { number = n.0 }, is_small z n.0 n.1 h n.2, n.2))
     (λ z s. subst (UpTo small_limits) (sym s.2) (up_to_each small_limits (small s.0) (small_each s.0 s.1)))
 
@@ -79,14 +62,8 @@ small_apart x y s t p q e =
 
 -- ---- a byte up to a limit
 
-abbrev pub capped : (most : ℕ) → Capped most → List ℕ
-capped most x = x.byte ∷ []
-
-abbrev pub IsCapped : (most : ℕ) → Capped most → Type 0
-IsCapped most x = x.byte ≤ most
-
-pub capped_bad : (most : ℕ) (rest : List ℕ) (left : ℕ) → IsBadBefore (Run 1 0 most) rest left → IsBadBefore (Spelled (capped most) (IsCapped most)) rest left
-capped_bad most rest left = before_same (Run 1 0 most) (Spelled (capped most) (IsCapped most)) rest left
+pub capped_bad : (most : ℕ) (bytes : List ℕ) (stop : Stop) → Stops (Run 1 0 most) bytes stop → Stops (Spelled (capped most) (IsCapped most)) bytes stop
+capped_bad most bytes stop = stops_same (Run 1 0 most) (Spelled (capped most) (IsCapped most)) bytes stop
     (λ z h. (record { byte = get_or z 0 0 }, (h.each 0 (omega arith)).1, one_of z h.len))
     (λ z s. subst (Run 1 0 most) (sym s.2) (run_one s.0.byte 0 most (omega arith) s.1))
 

@@ -5,7 +5,7 @@ use Rattle.packet_codec.specs.Bad.{Spelled}
 use Rattle.turn_defs.specs.Spellings.{number, IsNumber, insert, IsInsert, answer, IsAnswer, ballot, IsBallot, place, IsPlace, batch, IsBatch, prior, IsPrior, click}
 use Rattle.packet_codec.proofs.Made.{insert_apart, ballot_apart, place_apart, batch_apart, click_apart, some_number, some_insert, some_ballot, some_place, some_batch, some_click}
 use Rattle.packet_codec.proofs.Numbers.{number_apart}
-use Rattle.packet_codec.proofs.PartLaws.{IsApart, IsSum, Two, Three, two, three, two_whole, three_whole, two_same, three_same, some_spelling}
+use Rattle.packet_codec.proofs.PartLaws.{IsApart, IsSum, Two, Three, two, three, two_whole, three_whole, two_same, three_same}
 use Rattle.packet_codec.proofs.Tagged.{answer_apart, outcome_apart, prior_apart, some_answer, some_outcome, some_prior}
 use Rattle.turn_defs.specs.declared.packet.Packet.{Packet}
 use Rattle.turn_defs.specs.declared.packet.Packet.TheVariants.{Join, Joined, Insert, Reply, Prepare, Promise, Nack, Accept, Accepted, Chosen}
@@ -55,7 +55,7 @@ packet_sum = record { parts = parts; made = made; some = some }
     some : (n : ℕ) → n ≤ 9 → (z : List ℕ) × Fields n z
     some zero few = (_, two number IsNumber click IsClick some_number.0 some_click.0 some_number.1 some_click.1)
     some (suc zero) few = (_, two number IsNumber outcome IsOutcome some_number.0 some_outcome.0 some_number.1 some_outcome.1)
-    some (suc (suc zero)) few = some_spelling insert IsInsert some_insert
+    some (suc (suc zero)) few = (insert some_insert.0, (some_insert.0, some_insert.1, refl))
     some (suc (suc (suc zero))) few = (_, two insert IsInsert answer IsAnswer some_insert.0 some_answer.0 some_insert.1 some_answer.1)
     some (suc (suc (suc (suc zero)))) few = (_, two place IsPlace ballot IsBallot some_place.0 some_ballot.0 some_place.1 some_ballot.1)
     some (suc (suc (suc (suc (suc zero))))) few = (_, three place IsPlace ballot IsBallot prior IsPrior some_place.0 some_ballot.0 some_prior.0 some_place.1 some_ballot.1 some_prior.1)

@@ -6,7 +6,7 @@ use Rattle.packet_codec.specs.declared.fields.stop.Stop.{Stop}
 use Rattle.packet_codec.specs.Bad.{Spelled, Followed, After}
 use Rattle.packet_codec.specs.Cells.{Run}
 use Rattle.packet_codec.specs.Stops.{IsBadBefore, Stops}
-use Rattle.packet_codec.proofs.BadPlaces.{front_same, before_same, before_front, before_agreed, stops_out}
+use Rattle.packet_codec.proofs.BadPlaces.{front_same, before_same, before_front, before_agreed, stops_on, stops_out, stops_same}
 use Rattle.packet_codec.proofs.NumberBytes.{run_one, one_of}
 
 -- ---- one behind the other
@@ -23,12 +23,6 @@ same_first {V} spell Is v w s t apart p q e =
 
 pub followed : {V : Type 0} (spell : V → List ℕ) (Is : V → Type 0) (Next : List ℕ → Type 0) (v : V) (z : List ℕ) → Is v → Next z → Followed spell Is Next (spell v ++ z)
 followed spell Is Next v z is next = record { value = v; is = is; back = z; next = next; whole = refl }
-
-pub some_spelling : {V : Type 0} (spell : V → List ℕ) (Is : V → Type 0) → (v : V) × Is v → (z : List ℕ) × Spelled spell Is z
-some_spelling spell Is some = (spell some.0, (some.0, some.1, refl))
-
-pub some_followed : {V : Type 0} (spell : V → List ℕ) (Is : V → Type 0) (Next : List ℕ → Type 0) → (v : V) × Is v → (z : List ℕ) × Next z → (z : List ℕ) × Followed spell Is Next z
-some_followed spell Is Next some next = (spell some.0 ++ next.0, followed spell Is Next some.0 next.0 some.1 next.1)
 
 -- bad in the first
 pub followed_first : {V : Type 0} (spell : V → List ℕ) (Is : V → Type 0) (Next : List ℕ → Type 0) (rest : List ℕ) (left : ℕ)
@@ -66,6 +60,18 @@ two sa IsA sb IsB a b p q = followed sa IsA (Spelled sb IsB) a (sb b) p (b, q, r
 pub three : {A B C : Type 0} (sa : A → List ℕ) (IsA : A → Type 0) (sb : B → List ℕ) (IsB : B → Type 0) (sc : C → List ℕ) (IsC : C → Type 0) (a : A) (b : B) (c : C) → IsA a → IsB b → IsC c → Three sa IsA sb IsB sc IsC (sa a ++ (sb b ++ sc c))
 three sa IsA sb IsB sc IsC a b c p q r = followed sa IsA (Two sb IsB sc IsC) a (sb b ++ sc c) p (two sb IsB sc IsC b c q r)
 
+-- bad in the first of them
+pub two_first : {A B : Type 0} (sa : A → List ℕ) (IsA : A → Type 0) (sb : B → List ℕ) (IsB : B → Type 0) (bytes : List ℕ) (stop : Stop) → (b : B) × IsB b → Stops (Spelled sa IsA) bytes stop → Stops (Two sa IsA sb IsB) bytes stop
+two_first sa IsA sb IsB bytes stop some = stops_on (Spelled sa IsA) (Two sa IsA sb IsB) bytes bytes stop (λ left. followed_first sa IsA (Spelled sb IsB) bytes left (sb some.0, (some.0, some.1, refl)))
+
+pub three_first : {A B C : Type 0} (sa : A → List ℕ) (IsA : A → Type 0) (sb : B → List ℕ) (IsB : B → Type 0) (sc : C → List ℕ) (IsC : C → Type 0) (bytes : List ℕ) (stop : Stop) → (b : B) × IsB b → (c : C) × IsC c
+    → Stops (Spelled sa IsA) bytes stop → Stops (Three sa IsA sb IsB sc IsC) bytes stop
+three_first sa IsA sb IsB sc IsC bytes stop b c = stops_on (Spelled sa IsA) (Three sa IsA sb IsB sc IsC) bytes bytes stop (λ left. followed_first sa IsA (Two sb IsB sc IsC) bytes left (sb b.0 ++ sc c.0, two sb IsB sc IsC b.0 c.0 b.1 c.1))
+
+-- bad behind the first
+pub next_bad : {A : Type 0} (sa : A → List ℕ) (IsA : A → Type 0) (Next : List ℕ → Type 0) (a : A) (bytes rest : List ℕ) (stop : Stop) → IsApart sa IsA → IsA a → bytes ≡ sa a ++ rest → Stops Next rest stop → Stops (Followed sa IsA Next) bytes stop
+next_bad sa IsA Next a bytes rest stop apart is e = stops_on Next (Followed sa IsA Next) rest bytes stop (λ left. followed_next sa IsA Next a bytes rest left apart is e)
+
 pub two_whole : {A B : Type 0} (sa : A → List ℕ) (IsA : A → Type 0) (sb : B → List ℕ) (IsB : B → Type 0) (z : List ℕ) (f : Two sa IsA sb IsB z) → z ≡ sa f.value ++ sb f.next.0
 two_whole sa IsA sb IsB z f = f.whole ∙ ap (λ (x : List ℕ). sa f.value ++ x) f.next.2
 
@@ -91,11 +97,11 @@ pub record IsPair {A B T : Type 0} (sa : A → List ℕ) (IsA : A → Type 0) (s
   pub parts : (t : T) → Is t → (a : A) × (b : B) × IsA a × IsB b × (of a b ≡ t)
   pub spelled : (a : A) (b : B) → spell (of a b) ≡ sa a ++ sb b
 
-pub pair_stops : {A B T W : Type 0} (sa : A → List ℕ) (IsA : A → Type 0) (sb : B → List ℕ) (IsB : B → Type 0) (spell : T → List ℕ) (Is : T → Type 0) (of : A → B → T) (bytes : List ℕ) (stop : Stop) (r : Result W Stop)
-    → IsPair sa IsA sb IsB spell Is of → IsErrAnd r (λ d. d ≡ stop) → Stops (Two sa IsA sb IsB) bytes stop → IfErr r (Stops (Spelled spell Is) bytes)
-pair_stops sa IsA sb IsB spell Is of bytes stop r pair is = stops_out (Two sa IsA sb IsB) (Spelled spell Is) bytes bytes stop r is (λ left. before_same (Two sa IsA sb IsB) (Spelled spell Is) bytes left
+pub pair_bad : {A B T : Type 0} (sa : A → List ℕ) (IsA : A → Type 0) (sb : B → List ℕ) (IsB : B → Type 0) (spell : T → List ℕ) (Is : T → Type 0) (of : A → B → T) (bytes : List ℕ) (stop : Stop)
+    → IsPair sa IsA sb IsB spell Is of → Stops (Two sa IsA sb IsB) bytes stop → Stops (Spelled spell Is) bytes stop
+pair_bad sa IsA sb IsB spell Is of bytes stop pair = stops_same (Two sa IsA sb IsB) (Spelled spell Is) bytes stop
     (λ z f. (of f.value f.next.0, pair.is f.value f.next.0 f.is f.next.1, two_whole sa IsA sb IsB z f ∙ sym (pair.spelled f.value f.next.0)))
-    (λ z s. let p = pair.parts s.0 s.1 in subst (Two sa IsA sb IsB) (sym (s.2 ∙ ap spell (sym p.4) ∙ pair.spelled p.0 p.1)) (two sa IsA sb IsB p.0 p.1 p.2 p.3)))
+    (λ z s. let p = pair.parts s.0 s.1 in subst (Two sa IsA sb IsB) (sym (s.2 ∙ ap spell (sym p.4) ∙ pair.spelled p.0 p.1)) (two sa IsA sb IsB p.0 p.1 p.2 p.3))
 
 pub pair_apart : {A B T : Type 0} (sa : A → List ℕ) (IsA : A → Type 0) (sb : B → List ℕ) (IsB : B → Type 0) (spell : T → List ℕ) (Is : T → Type 0) (of : A → B → T)
     → IsPair sa IsA sb IsB spell Is of → IsApart sa IsA → IsApart sb IsB → IsApart spell Is
@@ -113,13 +119,13 @@ pub record IsTriple {A B C T : Type 0} (sa : A → List ℕ) (IsA : A → Type 0
   pub parts : (t : T) → Is t → (a : A) × (b : B) × (c : C) × IsA a × IsB b × IsC c × (of a b c ≡ t)
   pub spelled : (a : A) (b : B) (c : C) → spell (of a b c) ≡ sa a ++ (sb b ++ sc c)
 
-pub triple_stops : {A B C T W : Type 0} (sa : A → List ℕ) (IsA : A → Type 0) (sb : B → List ℕ) (IsB : B → Type 0) (sc : C → List ℕ) (IsC : C → Type 0) (spell : T → List ℕ) (Is : T → Type 0) (of : A → B → C → T) (bytes : List ℕ) (stop : Stop) (r : Result W Stop)
-    → IsTriple sa IsA sb IsB sc IsC spell Is of → IsErrAnd r (λ d. d ≡ stop) → Stops (Three sa IsA sb IsB sc IsC) bytes stop → IfErr r (Stops (Spelled spell Is) bytes)
-triple_stops sa IsA sb IsB sc IsC spell Is of bytes stop r triple is = stops_out (Three sa IsA sb IsB sc IsC) (Spelled spell Is) bytes bytes stop r is (λ left. before_same (Three sa IsA sb IsB sc IsC) (Spelled spell Is) bytes left
+pub triple_bad : {A B C T : Type 0} (sa : A → List ℕ) (IsA : A → Type 0) (sb : B → List ℕ) (IsB : B → Type 0) (sc : C → List ℕ) (IsC : C → Type 0) (spell : T → List ℕ) (Is : T → Type 0) (of : A → B → C → T) (bytes : List ℕ) (stop : Stop)
+    → IsTriple sa IsA sb IsB sc IsC spell Is of → Stops (Three sa IsA sb IsB sc IsC) bytes stop → Stops (Spelled spell Is) bytes stop
+triple_bad sa IsA sb IsB sc IsC spell Is of bytes stop triple = stops_same (Three sa IsA sb IsB sc IsC) (Spelled spell Is) bytes stop
     (λ z f.
     let n = f.next in
     (of f.value n.value n.next.0, triple.is f.value n.value n.next.0 f.is n.is n.next.1, three_whole sa IsA sb IsB sc IsC z f ∙ sym (triple.spelled f.value n.value n.next.0)))
-    (λ z s. let p = triple.parts s.0 s.1 in subst (Three sa IsA sb IsB sc IsC) (sym (s.2 ∙ ap spell (sym p.6) ∙ triple.spelled p.0 p.1 p.2)) (three sa IsA sb IsB sc IsC p.0 p.1 p.2 p.3 p.4 p.5)))
+    (λ z s. let p = triple.parts s.0 s.1 in subst (Three sa IsA sb IsB sc IsC) (sym (s.2 ∙ ap spell (sym p.6) ∙ triple.spelled p.0 p.1 p.2)) (three sa IsA sb IsB sc IsC p.0 p.1 p.2 p.3 p.4 p.5))
 
 pub triple_apart : {A B C T : Type 0} (sa : A → List ℕ) (IsA : A → Type 0) (sb : B → List ℕ) (IsB : B → Type 0) (sc : C → List ℕ) (IsC : C → Type 0) (spell : T → List ℕ) (Is : T → Type 0) (of : A → B → C → T)
     → IsTriple sa IsA sb IsB sc IsC spell Is of → IsApart sa IsA → IsApart sb IsB → IsApart sc IsC → IsApart spell Is

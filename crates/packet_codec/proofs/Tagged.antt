@@ -9,7 +9,7 @@ use Rattle.turn_defs.specs.declared.packet.Outcome.TheVariants as outcomes
 use Rattle.packet_codec.specs.Bad.{Spelled}
 use Rattle.turn_defs.specs.Spellings.{number, IsNumber, token, IsToken, ballot, IsBallot, batch, IsBatch, prior, IsPrior, answer, IsAnswer}
 use Rattle.turn_defs.specs.Packets.{outcome, IsOutcome}
-use Rattle.packet_codec.proofs.PartLaws.{IsApart, IsSum, Two, two, two_whole, two_same, some_spelling}
+use Rattle.packet_codec.proofs.PartLaws.{IsApart, IsSum, Two, two, two_whole, two_same}
 use Rattle.packet_codec.proofs.Made.{token_apart, ballot_apart, batch_apart, some_number, some_token, some_ballot, some_batch}
 use Rattle.packet_codec.proofs.Numbers.{number_apart}
 
@@ -46,8 +46,8 @@ answer_sum = record { parts = parts; made = made; some = some }
 
     some : (n : ℕ) → n ≤ 2 → (z : List ℕ) × Told n z
     some zero few = ([], refl)
-    some (suc zero) few = some_spelling token IsToken some_token
-    some (suc (suc n)) few = some_spelling number IsNumber some_number
+    some (suc zero) few = (token some_token.0, (some_token.0, some_token.1, refl))
+    some (suc (suc n)) few = (number some_number.0, (some_number.0, some_number.1, refl))
 
 pub answer_apart : IsApart answer IsAnswer
 answer_apart answers.Granted answers.Granted s t p q e = refl
@@ -87,9 +87,9 @@ outcome_sum = record { parts = parts; made = made; some = some }
 
     some : (n : ℕ) → n ≤ 4 → (z : List ℕ) × Tells n z
     some zero few = ([], refl)
-    some (suc zero) few = some_spelling token IsToken some_token
-    some (suc (suc zero)) few = some_spelling number IsNumber some_number
-    some (suc (suc (suc zero))) few = some_spelling number IsNumber some_number
+    some (suc zero) few = (token some_token.0, (some_token.0, some_token.1, refl))
+    some (suc (suc zero)) few = (number some_number.0, (some_number.0, some_number.1, refl))
+    some (suc (suc (suc zero))) few = (number some_number.0, (some_number.0, some_number.1, refl))
     some (suc (suc (suc (suc n)))) few = ([], refl)
 
 pub outcome_apart : IsApart outcome IsOutcome

@@ -24,6 +24,7 @@ const LONGEST: usize = 15;
 
 /// A tag, 0 for Written, 1 for Already with the token behind it, 2 for TooOld with the bound, 3 for NoQuery with the count
 /// of lines, 4 for Busy. Reading takes no memory.
+#[tactic(auto, using(crate::proofs::Tagged::outcome_apart, crate::proofs::Tagged::some_outcome))]
 impl Field for Outcome {
     ghost spelled = { outcome };
 

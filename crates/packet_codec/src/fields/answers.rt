@@ -13,6 +13,7 @@ use wire_core::Bytes;
 
 /// A tag, 0 for Granted, 1 for Duplicate with the token behind it, 2 for TooOld with the bound behind it. Reading takes
 /// no memory.
+#[tactic(auto, using(crate::proofs::Tagged::answer_apart, crate::proofs::Tagged::some_answer))]
 impl Field for Answer {
     ghost spelled = { answer };
 

@@ -12,6 +12,7 @@ use std::alloc::{AllocError, Global};
 use wire_core::Bytes;
 
 /// 13 bytes: the round, the epoch and the site. The round is below 2^48, the site 0 or 1. Reading takes no memory.
+#[tactic(auto, using(crate::proofs::Made::ballot_bad, crate::proofs::Made::ballot_apart, crate::proofs::Made::some_ballot))]
 impl Field for Ballot {
     ghost spelled = { ballot };
 
@@ -37,6 +38,7 @@ impl Field for Ballot {
 }
 
 /// 9 bytes: the shard and the slot. The shard is below 16, the slot below 2^48. Reading takes no memory.
+#[tactic(auto, using(crate::proofs::Made::place_bad, crate::proofs::Made::place_apart, crate::proofs::Made::some_place))]
 impl Field for Place {
     ghost spelled = { place };
 

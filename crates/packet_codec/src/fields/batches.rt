@@ -19,6 +19,7 @@ use wire_core::Bytes;
 const LONGEST: usize = 9 + 64 * 30;
 
 /// The bound, the count of inserts in a byte, up to 64, and the inserts. Reading allocates the list of inserts.
+#[tactic(auto, using(crate::proofs::Made::batch_bad, crate::proofs::Made::batch_apart, crate::proofs::Made::some_batch))]
 impl Field for Batch {
     ghost spelled = { batch };
 
@@ -41,6 +42,7 @@ impl Field for Batch {
 }
 
 /// The count in a byte, up to 64, and the inserts. Reading allocates the list.
+#[tactic(auto, using(crate::proofs::Made::inserts_apart, crate::proofs::Made::some_counted))]
 impl Field for Inserts {
     ghost spelled = { counted };
 

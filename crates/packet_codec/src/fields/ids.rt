@@ -12,6 +12,7 @@ use std::alloc::{AllocError, Global};
 use wire_core::Bytes;
 
 /// 16 bytes: the address, the process id and the timestamp. Reading takes no memory.
+#[tactic(auto, using(crate::proofs::Made::id_bad, crate::proofs::Made::id_apart, crate::proofs::Made::some_id))]
 impl Field for EventId {
     ghost spelled = { packed };
 
@@ -32,6 +33,7 @@ impl Field for EventId {
 }
 
 /// 14 bytes: the joiner, the epoch and the number. Reading takes no memory.
+#[tactic(auto, using(crate::proofs::Made::token_bad, crate::proofs::Made::token_apart, crate::proofs::Made::some_token))]
 impl Field for Token {
     ghost spelled = { token };
 
@@ -59,6 +61,7 @@ impl Field for Token {
 }
 
 /// 30 bytes: the id and the token. Reading takes no memory.
+#[tactic(auto, using(crate::proofs::Made::insert_bad, crate::proofs::Made::insert_apart, crate::proofs::Made::some_insert))]
 impl Field for Insert {
     ghost spelled = { insert };
 

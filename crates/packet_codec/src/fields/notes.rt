@@ -26,6 +26,7 @@ const LONGEST: usize = 23 + 1929;
 
 /// A tag, 7 for Promised and 8 for Accepted, the place, the ballot, and of an accepted note the batch. Reading allocates
 /// the batch's list of inserts.
+#[tactic(auto, using(crate::proofs::NoteParts::note_apart, crate::proofs::NoteParts::some_note))]
 impl Field for ReplicaNote {
     ghost spelled = { note };
 

@@ -1,6 +1,6 @@
 // Numbers, high byte first.
-ghost use Rattle.std.specs.Prelude.{◌≡◌, ◌^◌, ◌<◌, ◌≤◌, [], ◌∷◌, length};
-ghost use Rattle.std.specs.Int.{w16, w32, w64, to_be_bytes};
+ghost use Rattle.std.specs.Prelude.{◌≡◌, length};
+ghost use Rattle.packet_codec.specs.Numbers.{half, IsHalf, word, IsWord, small, IsSmall, capped, IsCapped};
 ghost use Rattle.turn_defs.specs.Spellings.{number, IsNumber};
 
 use crate::fields::Stop;
@@ -11,10 +11,11 @@ use std::alloc::{AllocError, Global};
 use wire_core::Bytes;
 
 /// 2 bytes. Reading takes no memory.
+#[tactic(auto, using(crate::proofs::Numbers::half_bad, crate::proofs::Numbers::half_apart, crate::proofs::Made::some_half))]
 impl Field for u16 {
-    ghost spelled = { to_be_bytes w16 };
+    ghost spelled = { half };
 
-    ghost has_spelling = { λ n. n < 2 ^ 16 };
+    ghost has_spelling = { IsHalf };
 
     fn put(&self, to: &mut Bytes) -> Result<(), AllocError> {
         to.put_u16(*self)
@@ -31,10 +32,11 @@ impl Field for u16 {
 }
 
 /// 4 bytes. Reading takes no memory.
+#[tactic(auto, using(crate::proofs::Numbers::word_bad, crate::proofs::Numbers::word_apart, crate::proofs::Made::some_word))]
 impl Field for u32 {
-    ghost spelled = { to_be_bytes w32 };
+    ghost spelled = { word };
 
-    ghost has_spelling = { λ n. n < 2 ^ 32 };
+    ghost has_spelling = { IsWord };
 
     fn put(&self, to: &mut Bytes) -> Result<(), AllocError> {
         to.put_u32(*self)
@@ -54,6 +56,7 @@ impl Field for u32 {
 }
 
 /// 8 bytes. Reading takes no memory.
+#[tactic(auto, using(crate::proofs::Numbers::number_bad, crate::proofs::Numbers::number_apart, crate::proofs::Made::some_number))]
 impl Field for u64 {
     ghost spelled = { number };
 
@@ -80,10 +83,11 @@ pub(crate) struct Small {
 }
 
 /// 8 bytes, of which the first two are 0. Reading takes no memory.
+#[tactic(auto, using(crate::proofs::Numbers::small_bad, crate::proofs::Numbers::small_apart, crate::proofs::Made::some_small))]
 impl Field for Small {
-    ghost spelled = { λ small. number small.number };
+    ghost spelled = { small };
 
-    ghost has_spelling = { λ small. small.number < 2 ^ 48 };
+    ghost has_spelling = { IsSmall };
 
     fn put(&self, to: &mut Bytes) -> Result<(), AllocError> {
         to.put_u64(self.number)
@@ -107,10 +111,11 @@ pub(crate) struct Capped<const MOST: u8> {
 }
 
 /// The byte. Reading takes no memory.
+#[tactic(auto, using(crate::proofs::Numbers::capped_bad, crate::proofs::Numbers::capped_apart))]
 impl<const MOST: u8> Field for Capped<MOST> {
-    ghost spelled = { λ capped. capped.byte ∷ [] };
+    ghost spelled = { capped MOST };
 
-    ghost has_spelling = { λ capped. capped.byte ≤ MOST };
+    ghost has_spelling = { IsCapped MOST };
 
     fn put(&self, to: &mut Bytes) -> Result<(), AllocError> {
         to.put_u8(self.byte)

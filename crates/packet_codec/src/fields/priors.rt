@@ -18,6 +18,7 @@ const LONGEST: usize = 14 + 1929;
 
 /// A byte 0 where nothing was accepted, else a byte 1, the ballot and the batch. Reading allocates the batch's list of
 /// inserts.
+#[tactic(auto, using(crate::proofs::Tagged::prior_apart, crate::proofs::Tagged::some_prior))]
 impl Field for Option<(Ballot, Batch)> {
     ghost spelled = { prior };
 

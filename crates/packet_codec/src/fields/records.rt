@@ -15,6 +15,7 @@ use std::alloc::{AllocError, Global};
 use wire_core::Bytes;
 
 /// The length in a byte, up to 200, and so many printable bytes. Reading copies the text, in one allocation.
+#[tactic(auto, using(crate::proofs::Counts::text_apart, crate::proofs::Counts::some_text))]
 impl Field for Text {
     ghost spelled = { text };
 
@@ -41,6 +42,7 @@ impl Field for Text {
 }
 
 /// The id and the text. Reading copies the text, in one allocation.
+#[tactic(auto, using(crate::proofs::Made::query_bad, crate::proofs::Made::query_apart, crate::proofs::Made::some_query))]
 impl Field for QueryRec {
     ghost spelled = { query };
 
@@ -64,6 +66,7 @@ impl Field for QueryRec {
 }
 
 /// The click's id, its query's, and the text. Reading copies the text, in one allocation.
+#[tactic(auto, using(crate::proofs::Made::click_bad, crate::proofs::Made::click_apart, crate::proofs::Made::some_click))]
 impl Field for ClickRec {
     ghost spelled = { click };
 

@@ -22,6 +22,7 @@ pub fn read_tag(bytes: &[u8], first: u8, last: u8) -> Result<(u8, &[u8]), Stop>
     Ok((tag[0], rest))
 }
 
+#[tactic(auto, using(crate::proofs::PartLaws::two_first, crate::proofs::PartLaws::next_bad))]
 /// Two values, and the bytes behind their spellings. Linear in the spellings.
 pub fn read_two<A: Field, B: Field>(alloc: Global, bytes: &[u8]) -> Result<(A, B, &[u8]), Stop>
     ensures first { IfOk result (λ p. A.has_spelling p.0) }
@@ -36,6 +37,7 @@ pub fn read_two<A: Field, B: Field>(alloc: Global, bytes: &[u8]) -> Result<(A, B
     Ok((first, second, rest))
 }
 
+#[tactic(auto, using(crate::proofs::PartLaws::three_first, crate::proofs::PartLaws::next_bad))]
 /// Three values, and the bytes behind their spellings. Linear in the spellings.
 pub fn read_three<A: Field, B: Field, C: Field>(
     alloc: Global,

@@ -1,8 +1,0 @@
-use Rattle.packet_codec.specs.Bad.{Spelled}
-use Rattle.packet_codec.specs.Cells.{Run}
-use Rattle.packet_codec.proofs.BadPlaces.{stops_out}
-use Rattle.packet_codec.proofs.Numbers.{half, IsHalf, half_bad}
-use Rattle.packet_codec.proofs.fields.numbers.U16Field.read.Goals as goal
-
-pub returns-in_err-front-clause-bad : goal.returns-in_err-front-clause-bad
-returns-in_err-front-clause-bad c = stops_out (Run 2 0 255) (Spelled half IsHalf) c.args.bytes.now c.args.bytes.now c.in_err-front.field-0.0 c.from_residual.result c.from_residual.ensures.1 (half_bad c.args.bytes.now) c.in_err-front.ensures.bad
