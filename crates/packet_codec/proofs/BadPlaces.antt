@@ -11,14 +11,6 @@ use Rattle.packet_codec.specs.declared.fields.stop.Stop.{Stop}
 use Rattle.packet_codec.specs.declared.fields.stop.Stop.TheVariants.{Bad, Memory}
 use Rattle.packet_codec.specs.Stops.{IsBadBefore, Stops}
 
--- two sets that are one have one first bad byte
-pub bad_same : (S T : List ℕ → Type 0) (rest : List ℕ) (n : ℕ) → ((z : List ℕ) → S z → T z) → ((z : List ℕ) → T z → S z) → IsBadAt S rest n → IsBadAt T rest n
-bad_same S T rest n to from bad = record {
-  none = λ front tail s e. bad.none front tail (from front s) e;
-  reaches = record { within = bad.reaches.within; more = bad.reaches.more; whole = to _ bad.reaches.whole };
-  furthest = λ k r. bad.furthest k (record { within = r.within; more = r.more; whole = from _ r.whole });
-}
-
 -- fronts of two equal lists
 pub front_same : (a b s t : List ℕ) → length a ≡ length b → a ++ s ≡ b ++ t → (a ≡ b) × (s ≡ t)
 front_same a b s t len e = (
@@ -34,59 +26,77 @@ front_longer a b s t le e =
     let parts = front_same a (take (length a) b) s (drop (length a) b ++ t) (sym (length-take-le (length a) b le)) whole in
     (drop (length a) b, cut ∙ ap (λ (x : List ℕ). x ++ drop (length a) b) (sym parts.0), parts.1)
 
+-- two sets that are one have one first bad byte
+pub before_same : (S T : List ℕ → Type 0) (rest : List ℕ) (left : ℕ) → ((z : List ℕ) → S z → T z) → ((z : List ℕ) → T z → S z) → IsBadBefore S rest left → IsBadBefore T rest left
+before_same S T rest left to from b = record {
+  at = b.at;
+  place = b.place;
+  bad = record {
+    none = λ front tail s e. b.bad.none front tail (from front s) e;
+    reaches = record { within = b.bad.reaches.within; more = b.bad.reaches.more; whole = to _ b.bad.reaches.whole };
+    furthest = λ k r. b.bad.furthest k (record { within = r.within; more = r.more; whole = from _ r.whole });
+  };
+}
+
 -- Where the fronts of the spellings in T are the spellings in S, a first bad byte in the front is one of the whole.
-pub bad_front : (S T : List ℕ → Type 0) (rest : List ℕ) (n : ℕ)
+pub before_front : (S T : List ℕ → Type 0) (rest : List ℕ) (left : ℕ)
     → ((z : List ℕ) → T z → (front : List ℕ) × (back : List ℕ) × S front × (z ≡ front ++ back))
     → ((front : List ℕ) → S front → (back : List ℕ) × T (front ++ back))
-    → IsBadAt S rest n → IsBadAt T rest n
-bad_front S T rest n parts some bad = record {
-  none = λ z tail t e. let p = parts z t in bad.none p.0 (p.1 ++ tail) p.2 (e ∙ ap (λ (x : List ℕ). x ++ tail) p.3 ∙ append_assoc p.0 p.1 tail);
-  reaches = let w = some _ bad.reaches.whole in record { within = bad.reaches.within; more = bad.reaches.more ++ w.0; whole = subst T (append_assoc (take n rest) bad.reaches.more w.0) w.1 };
-  furthest = λ k r. go k r (parts _ r.whole);
+    → IsBadBefore S rest left → IsBadBefore T rest left
+before_front S T rest left parts some b = record {
+  at = b.at;
+  place = b.place;
+  bad = record {
+    none = λ z tail t e. let p = parts z t in b.bad.none p.0 (p.1 ++ tail) p.2 (e ∙ ap (λ (x : List ℕ). x ++ tail) p.3 ∙ append_assoc p.0 p.1 tail);
+    reaches = let w = some _ b.bad.reaches.whole in record { within = b.bad.reaches.within; more = b.bad.reaches.more ++ w.0; whole = subst T (append_assoc (take b.at rest) b.bad.reaches.more w.0) w.1 };
+    furthest = λ k r. go k r (parts _ r.whole);
+  };
 }
   where
-    go : (k : ℕ) (r : Reaches T rest k) → (front : List ℕ) × (back : List ℕ) × S front × (take k rest ++ r.more ≡ front ++ back) → k ≤ n
+    go : (k : ℕ) (r : Reaches T rest k) → (front : List ℕ) × (back : List ℕ) × S front × (take k rest ++ r.more ≡ front ++ back) → k ≤ b.at
     go k r p =
         let len : length (take k rest) ≡ k = length-take-le k rest r.within in
         ⊎_elim
         (λ lt.
         let q = front_longer p.0 (take k rest) p.1 r.more (omega arith) (sym p.3) in
-        absurd (bad.none p.0 (q.0 ++ drop k rest) p.2 (sym (take-append-drop k rest) ∙ ap (λ (x : List ℕ). x ++ drop k rest) q.1 ∙ append_assoc p.0 q.0 (drop k rest))))
+        absurd (b.bad.none p.0 (q.0 ++ drop k rest) p.2 (sym (take-append-drop k rest) ∙ ap (λ (x : List ℕ). x ++ drop k rest) q.1 ∙ append_assoc p.0 q.0 (drop k rest))))
         (λ le.
         let q = front_longer (take k rest) p.0 r.more p.1 (omega arith) p.3 in
-        bad.furthest k (record { within = r.within; more = q.0; whole = subst S q.1 p.2 }))
+        b.bad.furthest k (record { within = r.within; more = q.0; whole = subst S q.1 p.2 }))
         (cases_lt (length p.0) k)
 
 -- Where each spelling of T that agrees with the front has it whole, a first bad byte of what follows is one of the whole.
-pub bad_agreed : (T S : List ℕ → Type 0) (front rest : List ℕ) (n : ℕ)
+pub before_agreed : (T S : List ℕ → Type 0) (whole front rest : List ℕ) (left : ℕ)
+    → whole ≡ front ++ rest
     → ((z s t : List ℕ) → T z → z ++ s ≡ front ++ t → (w : List ℕ) × (z ≡ front ++ w))
     → ((z : List ℕ) → T (front ++ z) → S z)
     → ((z : List ℕ) → S z → T (front ++ z))
-    → IsBadAt S rest n → IsBadAt T (front ++ rest) (length front + n)
-bad_agreed T S front rest n agreed back on bad = record {
-  none = λ z tail t e.
-      let q = agreed z tail rest t (sym e) in
-      let same = front_same front front rest (q.0 ++ tail) refl (e ∙ ap (λ (x : List ℕ). x ++ tail) q.1 ∙ append_assoc front q.0 tail) in
-      bad.none q.0 tail (back q.0 (subst T q.1 t)) same.1;
-  reaches = record {
-    within = let w = bad.reaches.within in omega (arith, length-append front rest);
-    more = bad.reaches.more;
-    whole =
-        let e : take (length front + n) (front ++ rest) ++ bad.reaches.more ≡ front ++ (take n rest ++ bad.reaches.more) = ap (λ (x : List ℕ). x ++ bad.reaches.more) (take-append-add front rest n) ∙ append_assoc front (take n rest) bad.reaches.more in
-        subst T (sym e) (on _ bad.reaches.whole);
-  };
-  furthest = λ k r. ⊎_elim
-      (λ lt. omega arith)
-      (λ le. far k r (k - length front) (omega arith))
-      (cases_lt k (length front));
-}
+    → IsBadBefore S rest left → IsBadBefore T whole left
+before_agreed T S whole front rest left is agreed back on b =
+    subst (λ (w : List ℕ). IsBadBefore T w left) (sym is) (record {
+      at = length front + b.at;
+      place = omega (arith, b.place, length-append front rest);
+      bad = record {
+        none = λ z tail t e.
+            let q = agreed z tail rest t (sym e) in
+            let same = front_same front front rest (q.0 ++ tail) refl (e ∙ ap (λ (x : List ℕ). x ++ tail) q.1 ∙ append_assoc front q.0 tail) in
+            b.bad.none q.0 tail (back q.0 (subst T q.1 t)) same.1;
+        reaches = record {
+          within = let w = b.bad.reaches.within in omega (arith, length-append front rest);
+          more = b.bad.reaches.more;
+          whole = subst T (sym (cut b.at b.bad.reaches.more)) (on _ b.bad.reaches.whole);
+        };
+        furthest = λ k r. ⊎_elim (λ lt. omega arith) (λ le. far k r (k - length front) (omega arith)) (cases_lt k (length front));
+      };
+    })
   where
-    far : (k : ℕ) (r : Reaches T (front ++ rest) k) (j : ℕ) → k ≡ length front + j → k ≤ length front + n
-    far k r j is =
-        let e : take k (front ++ rest) ++ r.more ≡ front ++ (take j rest ++ r.more) = ap (λ (i : ℕ). take i (front ++ rest) ++ r.more) is ∙ ap (λ (x : List ℕ). x ++ r.more) (take-append-add front rest j) ∙ append_assoc front (take j rest) r.more in
-        let w : length front + j ≤ length (front ++ rest) = subst (λ (i : ℕ). i ≤ length (front ++ rest)) is r.within in
-        let in_rest : j ≤ length rest = omega (arith, length-append front rest) in
-        let le = bad.furthest j (record { within = in_rest; more = r.more; whole = back _ (subst T e r.whole) }) in
+    cut : (j : ℕ) (more : List ℕ) → take (length front + j) (front ++ rest) ++ more ≡ front ++ (take j rest ++ more)
+    cut j more = ap (λ (x : List ℕ). x ++ more) (take-append-add front rest j) ∙ append_assoc front (take j rest) more
+
+    far : (k : ℕ) (r : Reaches T (front ++ rest) k) (j : ℕ) → k ≡ length front + j → k ≤ length front + b.at
+    far k r j e =
+        let whole : T (front ++ (take j rest ++ r.more)) = subst T (ap (λ (i : ℕ). take i (front ++ rest) ++ r.more) e ∙ cut j r.more) r.whole in
+        let le = b.bad.furthest j (record { within = omega (arith, e, r.within, length-append front rest); more = r.more; whole = back _ whole }) in
         omega arith
 
 -- The first byte that does not fit, or the end where bytes are missing.
@@ -123,29 +133,6 @@ bad_cell n Fits filler rest i fill lt le good wrong = record {
       (cases_lt i k);
 }
 
--- ---- told by how many bytes follow
-
-pub before_same : (S T : List ℕ → Type 0) (rest : List ℕ) (left : ℕ) → ((z : List ℕ) → S z → T z) → ((z : List ℕ) → T z → S z) → IsBadBefore S rest left → IsBadBefore T rest left
-before_same S T rest left to from b = record { at = b.at; place = b.place; bad = bad_same S T rest b.at to from b.bad }
-
-pub before_front : (S T : List ℕ → Type 0) (rest : List ℕ) (left : ℕ)
-    → ((z : List ℕ) → T z → (front : List ℕ) × (back : List ℕ) × S front × (z ≡ front ++ back))
-    → ((front : List ℕ) → S front → (back : List ℕ) × T (front ++ back))
-    → IsBadBefore S rest left → IsBadBefore T rest left
-before_front S T rest left parts some b = record { at = b.at; place = b.place; bad = bad_front S T rest b.at parts some b.bad }
-
-pub before_agreed : (T S : List ℕ → Type 0) (whole front rest : List ℕ) (left : ℕ)
-    → whole ≡ front ++ rest
-    → ((z s t : List ℕ) → T z → z ++ s ≡ front ++ t → (w : List ℕ) × (z ≡ front ++ w))
-    → ((z : List ℕ) → T (front ++ z) → S z)
-    → ((z : List ℕ) → S z → T (front ++ z))
-    → IsBadBefore S rest left → IsBadBefore T whole left
-before_agreed T S whole front rest left e agreed back on b = record {
-  at = length front + b.at;
-  place = let p = b.place in omega (arith, ap length e, length-append front rest);
-  bad = subst (λ (w : List ℕ). IsBadAt T w (length front + b.at)) (sym e) (bad_agreed T S front rest b.at agreed back on b.bad);
-}
-
 pub before_cell : (n : ℕ) (Fits : ℕ → ℕ → Type 0) (filler : ℕ) (rest : List ℕ) (i : ℕ)
     → ((k : ℕ) → k < n → Fits k filler)
     → i < n → i ≤ length rest
@@ -169,6 +156,6 @@ stops_through S T rest whole (Ok x) on b = tt
 stops_through S T rest whole (Err d) on b = stops_on S T rest whole d on b
 
 -- at the exit of a `?`
-pub stops_out : {W : Type 0} (S T : List ℕ → Type 0) (rest whole : List ℕ) (stop : Stop) (r : Result W Stop) → IsErrAnd r (λ d. d ≡ stop) → ((left : ℕ) → IsBadBefore S rest left → IsBadBefore T whole left) → Stops S rest stop → IfErr r (Stops T whole)
-stops_out S T rest whole stop (Ok x) is on b = tt
-stops_out S T rest whole stop (Err d) is on b = subst (Stops T whole) (sym is) (stops_on S T rest whole stop on b)
+pub stopped : {W : Type 0} (T : List ℕ → Type 0) (whole : List ℕ) (stop : Stop) (r : Result W Stop) → IsErrAnd r (λ d. d ≡ stop) → Stops T whole stop → IfErr r (Stops T whole)
+stopped T whole stop (Ok x) is bad = tt
+stopped T whole stop (Err d) is bad = subst (Stops T whole) (sym is) bad

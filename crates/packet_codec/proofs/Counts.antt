@@ -56,8 +56,8 @@ inserts_more [] x = refl
 inserts_more (y ∷ xs) x = ap (λ (z : List ℕ). insert y ++ z) (inserts_more xs x) ∙ sym (append_assoc (insert y) (inserts xs) (insert x))
 
 -- one more insert is read
-pub inserts_read : (bytes : List ℕ) (xs : List Insert) (x : Insert) (rest behind : List ℕ) → bytes ≡ inserts xs ++ rest → rest ≡ insert x ++ behind → bytes ≡ inserts (xs ++ x ∷ []) ++ behind
-inserts_read bytes xs x rest behind e f = e ∙ ap (λ (z : List ℕ). inserts xs ++ z) f ∙ sym (append_assoc (inserts xs) (insert x) behind) ∙ ap (λ (z : List ℕ). z ++ behind) (sym (inserts_more xs x))
+pub inserts_read : (bytes : List ℕ) (count : ℕ) (xs : List Insert) (x : Insert) (rest behind : List ℕ) → bytes ≡ count ∷ (inserts xs ++ rest) → rest ≡ insert x ++ behind → bytes ≡ count ∷ (inserts (xs ++ x ∷ []) ++ behind)
+inserts_read bytes count xs x rest behind e f = e ∙ ap (λ (z : List ℕ). count ∷ z) (ap (λ (z : List ℕ). inserts xs ++ z) f ∙ sym (append_assoc (inserts xs) (insert x) behind) ∙ ap (λ (z : List ℕ). z ++ behind) (sym (inserts_more xs x)))
 
 -- one more insert is written
 pub inserts_written : (text front bytes : List ℕ) (xs : List Insert) (i : ℕ) (d : Insert) → i < length xs → bytes ≡ insert (get_or xs i d) → text ≡ (front ++ inserts (take i xs)) ++ bytes → text ≡ front ++ inserts (take (i + 1) xs)

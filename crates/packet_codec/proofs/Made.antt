@@ -1,5 +1,8 @@
 -- Fields that are made of two or three others.
-use Rattle.std.proofs.Common.{ℕ, List, [], ◌≤◌, refl, arith}
+use Rattle.std.proofs.Common.{◌≡◌, ℕ, List, [], ◌∷◌, ◌++◌, ◌<◌, ◌≤◌, length, refl, arith}
+use Rattle.list_words.specs.Lists.{Each}
+use Rattle.packet_codec.specs.Cells.{Run}
+use Rattle.packet_codec.proofs.BadPlaces.{stops_on}
 use Rattle.event_id.specs.declared.id.EventId.{EventId}
 use Rattle.event_id.specs.EventId.{packed, IsId}
 use Rattle.registry_state.specs.declared.Token.{Token}
@@ -14,12 +17,12 @@ use Rattle.log_records.specs.declared.records.ClickRec.{ClickRec}
 use Rattle.log_records.specs.Text.{IsText}
 use Rattle.log_records.specs.Line.{IsQuery, IsClick}
 use Rattle.packet_codec.specs.Counted.{counted, AreCounted}
-use Rattle.turn_defs.specs.Spellings.{number, IsNumber, token, IsToken, insert, IsInsert, ballot, IsBallot, place, IsPlace, batch, IsBatch, text, query, click}
-use Rattle.packet_codec.proofs.Counts.{text_apart, counted_apart, some_text}
+use Rattle.turn_defs.specs.Spellings.{number, IsNumber, token, IsToken, insert, IsInsert, inserts, ballot, IsBallot, place, IsPlace, batch, IsBatch, text, query, click}
+use Rattle.packet_codec.proofs.Counts.{text_apart, counted_apart, counted_sum, inserts_bad, some_text}
 use Rattle.packet_codec.specs.declared.fields.stop.Stop.{Stop}
 use Rattle.packet_codec.specs.Bad.{Spelled}
 use Rattle.packet_codec.specs.Stops.{Stops}
-use Rattle.packet_codec.proofs.PartLaws.{IsApart, Two, Three, IsPair, IsTriple, pair_bad, triple_bad, pair_apart, triple_apart}
+use Rattle.packet_codec.proofs.PartLaws.{IsApart, Two, Three, IsPair, IsTriple, pair_bad, triple_bad, pair_apart, triple_apart, tag_bad, next_whole}
 use Rattle.packet_codec.specs.Numbers.{half, IsHalf, word, IsWord, small, IsSmall, capped, IsCapped}
 use Rattle.packet_codec.proofs.Numbers.{half_apart, word_apart, number_apart, small_apart, capped_apart}
 
@@ -173,3 +176,13 @@ some_query = (record { id = some_id.0; text = some_text.0 }, record { id = some_
 
 pub some_click : (x : ClickRec) × IsClick x
 some_click = (record { id = some_id.0; query = some_id.0; text = some_text.0 }, record { id = some_id.1; query = some_id.1; text = some_text.1 })
+
+-- ---- a list of inserts that can't be read
+
+pub counted_tag : (bytes : List ℕ) (stop : Stop) → Stops (Run 1 0 64) bytes stop → Stops (Spelled counted AreCounted) bytes stop
+counted_tag bytes stop = tag_bad 0 64 _ _ _ bytes stop (counted_sum some_insert)
+
+-- bad in an insert behind others
+pub counted_bad : (xs : List Insert) (count : ℕ) (bytes rest : List ℕ) (stop : Stop) → count ≤ 64 → length xs < count → Each IsInsert xs → bytes ≡ count ∷ (inserts xs ++ rest) → Stops (Spelled insert IsInsert) rest stop → Stops (Spelled counted AreCounted) bytes stop
+counted_bad xs count bytes rest stop few lt each e = stops_on (Spelled insert IsInsert) (Spelled counted AreCounted) rest bytes stop
+    (λ left bad. next_whole 0 64 _ _ _ count count bytes (inserts xs ++ rest) left (counted_sum some_insert) few (omega arith) e (inserts_bad insert_apart some_insert xs count (inserts xs ++ rest) rest left lt each refl bad))

@@ -6,7 +6,7 @@ use Rattle.packet_codec.specs.declared.fields.stop.Stop.{Stop}
 use Rattle.packet_codec.specs.Bad.{Spelled, Followed, After}
 use Rattle.packet_codec.specs.Cells.{Run}
 use Rattle.packet_codec.specs.Stops.{IsBadBefore, Stops}
-use Rattle.packet_codec.proofs.BadPlaces.{front_same, before_same, before_front, before_agreed, stops_on, stops_out, stops_same}
+use Rattle.packet_codec.proofs.BadPlaces.{front_same, before_same, before_front, before_agreed, stops_on, stops_same, stopped}
 use Rattle.packet_codec.proofs.NumberBytes.{run_one, one_of}
 
 -- ---- one behind the other
@@ -146,9 +146,9 @@ pub record IsSum {T : Type 0} (low most : ℕ) (Next : ℕ → List ℕ → Type
   pub some : (n : ℕ) → n ≤ most → (back : List ℕ) × Next n back
 
 -- bad in the tag
-pub tag_stops : {T W : Type 0} (low most : ℕ) (Next : ℕ → List ℕ → Type 0) (spell : T → List ℕ) (Is : T → Type 0) (bytes : List ℕ) (stop : Stop) (r : Result W Stop)
-    → IsSum low most Next spell Is → IsErrAnd r (λ d. d ≡ stop) → Stops (Run 1 low (low + most)) bytes stop → IfErr r (Stops (Spelled spell Is) bytes)
-tag_stops low most Next spell Is bytes stop r sum is = stops_out (Run 1 low (low + most)) (Spelled spell Is) bytes bytes stop r is (λ left. before_front (Run 1 low (low + most)) (Spelled spell Is) bytes left
+pub tag_bad : {T : Type 0} (low most : ℕ) (Next : ℕ → List ℕ → Type 0) (spell : T → List ℕ) (Is : T → Type 0) (bytes : List ℕ) (stop : Stop)
+    → IsSum low most Next spell Is → Stops (Run 1 low (low + most)) bytes stop → Stops (Spelled spell Is) bytes stop
+tag_bad low most Next spell Is bytes stop sum = stops_on (Run 1 low (low + most)) (Spelled spell Is) bytes bytes stop (λ left. before_front (Run 1 low (low + most)) (Spelled spell Is) bytes left
     (λ z s. let p = sum.parts s.0 s.1 in ((low + p.0) ∷ [], p.1, run_one (low + p.0) low (low + most) (omega arith) (omega (arith, p.2)), s.2 ∙ p.4))
     (λ front f.
     let b = f.each 0 (omega arith) in
@@ -156,6 +156,10 @@ tag_stops low most Next spell Is bytes stop r sum is = stops_out (Run 1 low (low
     let some = sum.some n (omega (arith, b.0, b.1)) in
     let tag : (low + n) ∷ [] ≡ front = ap (λ (x : ℕ). x ∷ []) (omega (arith, b.0)) ∙ sym (one_of front f.len) in
     (some.0, subst (λ (x : List ℕ). Spelled spell Is (x ++ some.0)) tag (sum.made n some.0 (omega (arith, b.0, b.1)) some.1))))
+
+pub tag_stops : {T W : Type 0} (low most : ℕ) (Next : ℕ → List ℕ → Type 0) (spell : T → List ℕ) (Is : T → Type 0) (bytes : List ℕ) (stop : Stop) (r : Result W Stop)
+    → IsSum low most Next spell Is → IsErrAnd r (λ d. d ≡ stop) → Stops (Run 1 low (low + most)) bytes stop → IfErr r (Stops (Spelled spell Is) bytes)
+tag_stops low most Next spell Is bytes stop r sum is bad = stopped (Spelled spell Is) bytes stop r is (tag_bad low most Next spell Is bytes stop sum bad)
 
 -- what may follow a tag of the sum
 pub next_after : {T : Type 0} (low most : ℕ) (Next : ℕ → List ℕ → Type 0) (spell : T → List ℕ) (Is : T → Type 0) (n : ℕ) (rest : List ℕ) (left : ℕ)
@@ -186,9 +190,9 @@ next_whole low most Next spell Is n tag bytes rest left sum few same e bad =
 
 pub next_stops : {T W : Type 0} (low most : ℕ) (Next : ℕ → List ℕ → Type 0) (spell : T → List ℕ) (Is : T → Type 0) (n tag : ℕ) (bytes rest : List ℕ) (stop : Stop) (r : Result W Stop)
     → IsSum low most Next spell Is → n ≤ most → tag ≡ low + n → bytes ≡ tag ∷ rest → IsErrAnd r (λ d. d ≡ stop) → Stops (Next n) rest stop → IfErr r (Stops (Spelled spell Is) bytes)
-next_stops low most Next spell Is n tag bytes rest stop r sum few same e is = stops_out (Next n) (Spelled spell Is) rest bytes stop r is (λ left. next_whole low most Next spell Is n tag bytes rest left sum few same e)
+next_stops low most Next spell Is n tag bytes rest stop r sum few same e is bad = stopped (Spelled spell Is) bytes stop r is (stops_on (Next n) (Spelled spell Is) rest bytes stop (λ left. next_whole low most Next spell Is n tag bytes rest left sum few same e) bad)
 
 pub after_stops : {T W : Type 0} (low most : ℕ) (Next : ℕ → List ℕ → Type 0) (spell : T → List ℕ) (Is : T → Type 0) (n tag : ℕ) (rest : List ℕ) (stop : Stop) (r : Result W Stop)
     → IsSum low most Next spell Is → n ≤ most → tag ≡ low + n → IsErrAnd r (λ d. d ≡ stop) → Stops (Next n) rest stop → IfErr r (Stops (After tag (Spelled spell Is)) rest)
-after_stops low most Next spell Is n tag rest stop r sum few same is = stops_out (Next n) (After tag (Spelled spell Is)) rest rest stop r is
-    (λ left bad. subst (λ (t : ℕ). IsBadBefore (After t (Spelled spell Is)) rest left) (sym same) (next_after low most Next spell Is n rest left sum few bad))
+after_stops low most Next spell Is n tag rest stop r sum few same is bad = stopped (After tag (Spelled spell Is)) rest stop r is (stops_on (Next n) (After tag (Spelled spell Is)) rest rest stop
+    (λ left b. subst (λ (t : ℕ). IsBadBefore (After t (Spelled spell Is)) rest left) (sym same) (next_after low most Next spell Is n rest left sum few b)) bad)

@@ -1,78 +1,29 @@
 // Packets to bytes.
-ghost use Rattle.std.specs.Prelude.{◌≡◌, ◌≤◌, ◌∷◌, ◌++◌, length, IfOk, OnOk};
-ghost use Rattle.turn_defs.specs.Spellings.{answer, batch, IsBatch, prior, IsPrior};
+ghost use Rattle.std.specs.Prelude.{◌≡◌, ◌∷◌, ◌++◌, IfOk, OnOk};
 ghost use Rattle.turn_defs.specs.Packets.{packet, IsPacket};
 
 use crate::Field;
 use crate::fields::{put_three, put_two};
-use crate::outcomes::outcome_length;
 use crate::tags::{ACCEPT, ACCEPTED, CHOSEN, INSERT, JOIN, JOINED, NACK, PREPARE, PROMISE, REPLY};
-use ballot_core::Ballot;
-use registry_state::{Answer, Batch};
 use std::alloc::{AllocError, Global};
 use turn_defs::Packet;
 use wire_core::Bytes;
 
+// The room that is made at first.
+const ROOM: usize = 64;
+
 /// The one spelling of a packet that has one: its numbers are in the ranges of its fields, its text has at most 200
-/// printable bytes, its batch at most 64 inserts. Linear in the spelling, by one allocation of the spelling's length.
+/// printable bytes, its batch at most 64 inserts. Linear in the spelling. The first allocation is for 64 bytes, which all
+/// packets have room in but those with a longer text or with inserts of a batch; past it the room is doubled.
 ///
 /// A packet is a byte that tells its kind, and its fields in order.
 pub fn encode(alloc: Global, sent: &Packet) -> Result<Bytes, AllocError>
     requires { IsPacket sent.now }
     ensures { IfOk result (λ bytes. bytes ≡ packet sent.now) }
 {
-    let mut to = Bytes::with_capacity(alloc, length_of(sent))?;
+    let mut to = Bytes::with_capacity(alloc, ROOM)?;
     put_packet(sent, &mut to)?;
     Ok(to)
-}
-
-// How many bytes the spelling has.
-fn length_of(sent: &Packet) -> usize
-    requires { IsPacket sent.now }
-    ensures { result ≡ length (packet sent.now) }
-{
-    match sent {
-        Packet::Join { click, .. } => 42 + click.text.as_bytes().len(),
-        Packet::Joined { outcome, .. } => 9 + outcome_length(outcome),
-        Packet::Insert(_) => 31,
-        Packet::Reply { answer, .. } => 31 + answer_length(answer),
-        Packet::Prepare { .. } => 23,
-        Packet::Promise { prior, .. } => 23 + prior_length(prior),
-        Packet::Nack { .. } => 36,
-        Packet::Accept { batch, .. } => 23 + batch_length(batch),
-        Packet::Accepted { .. } => 23,
-        Packet::Chosen { batch, .. } => 10 + batch_length(batch),
-    }
-}
-
-fn answer_length(a: &Answer) -> usize
-    ensures is { result ≡ length (answer a.now) }
-    ensures few { result ≤ 15 }
-{
-    match a {
-        Answer::Granted => 1,
-        Answer::Duplicate(_) => 15,
-        Answer::TooOld(_) => 9,
-    }
-}
-
-fn prior_length(p: &Option<(Ballot, Batch)>) -> usize
-    requires { IsPrior p.now }
-    ensures is { result ≡ length (prior p.now) }
-    ensures few { result ≤ 1943 }
-{
-    match p {
-        None => 1,
-        Some((_, batch)) => 14 + batch_length(batch),
-    }
-}
-
-fn batch_length(b: &Batch) -> usize
-    requires { IsBatch b.now }
-    ensures is { result ≡ length (batch b.now) }
-    ensures few { result ≤ 1929 }
-{
-    9 + 30 * b.inserts.as_slice().len()
 }
 
 // Puts the spelling behind the other bytes. After an error a front of it may stand there.

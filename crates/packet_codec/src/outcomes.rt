@@ -1,5 +1,5 @@
 // Outcomes of joins.
-ghost use Rattle.std.specs.Prelude.{◌≡◌, ◌≤◌, length, take};
+ghost use Rattle.std.specs.Prelude.{◌≡◌, ◌≤◌, take};
 ghost use Rattle.turn_defs.specs.Packets.{outcome, IsOutcome};
 
 use crate::Field;
@@ -59,18 +59,6 @@ impl Field for Outcome {
     fn told_apart() {}
 
     fn some_value() {}
-}
-
-// How many bytes the spelling has.
-pub(crate) fn outcome_length(o: &Outcome) -> usize
-    ensures is { result ≡ length (outcome o.now) }
-    ensures few { result ≤ 15 }
-{
-    match o {
-        Outcome::Written | Outcome::Busy => 1,
-        Outcome::Already(_) => 15,
-        Outcome::TooOld(_) | Outcome::NoQuery(_) => 9,
-    }
 }
 
 // Writes the spelling to the front, and answers its length.

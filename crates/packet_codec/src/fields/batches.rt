@@ -1,10 +1,7 @@
 // Batches.
-ghost use Rattle.std.specs.Prelude.{◌≡◌, ◌+◌, ◌≤◌, ◌∷◌, ◌++◌, length, take, IfOk, IfErr};
-ghost use Rattle.registry_state.specs.declared.TheConstants.{MOST_INSERTS};
-ghost use Rattle.list_words.specs.Lists.{Each};
-ghost use Rattle.packet_codec.specs.Counted.{counted, AreCounted, AreInserts};
-ghost use Rattle.packet_codec.specs.Stops.{Stops};
-ghost use Rattle.turn_defs.specs.Spellings.{IsInsert, inserts, batch, IsBatch};
+ghost use Rattle.std.specs.Prelude.{◌≡◌, ◌+◌, ◌≤◌, ◌++◌, length, take};
+ghost use Rattle.packet_codec.specs.Counted.{counted, AreCounted};
+ghost use Rattle.turn_defs.specs.Spellings.{inserts, batch, IsBatch};
 
 use crate::fields::Stop;
 use crate::fields::field::Field;
@@ -42,7 +39,7 @@ impl Field for Batch {
 }
 
 /// The count in a byte, up to 64, and the inserts. Reading allocates the list.
-#[tactic(auto, using(crate::proofs::Made::inserts_apart, crate::proofs::Made::some_counted))]
+#[tactic(auto, using(crate::proofs::Made::counted_tag, crate::proofs::Made::counted_bad, crate::proofs::Made::inserts_apart, crate::proofs::Made::some_counted))]
 impl Field for Inserts {
     ghost spelled = { counted };
 
@@ -57,29 +54,19 @@ impl Field for Inserts {
     }
 
     fn read(alloc: Global, bytes: &[u8]) -> Result<(Inserts, &[u8]), Stop> {
-        let (count, rest) = read_tag(bytes, 0, 64)?;
-        read_inserts(alloc, rest, usize::from(count))
+        let (count, mut rest) = read_tag(bytes, 0, 64)?;
+        let mut list = Inserts::new(alloc);
+        for _ in 0..count {
+            let (insert, behind) = Insert::read(alloc, rest)?;
+            list.push(insert)?;
+            rest = behind;
+        }
+        Ok((list, rest))
     }
 
     fn told_apart() {}
 
     fn some_value() {}
-}
-
-// So many inserts, and the bytes behind them.
-fn read_inserts(alloc: Global, bytes: &[u8], count: usize) -> Result<(Inserts, &[u8]), Stop>
-    ensures is { IfOk result (λ p. (length p.0 ≡ count) × Each IsInsert p.0) }
-    ensures found { IfOk result (λ p. bytes.now ≡ inserts p.0 ++ p.1.now) }
-    ensures bad { IfErr result (Stops (AreInserts count) bytes.now) }
-{
-    let mut list = Inserts::new(alloc);
-    let mut rest = bytes;
-    for _ in 0..count {
-        let (insert, behind) = Insert::read(alloc, rest)?;
-        list.push(insert)?;
-        rest = behind;
-    }
-    Ok((list, rest))
 }
 
 // Writes the spelling from `at` on, and answers the place behind it.

@@ -1,21 +1,28 @@
-use Rattle.std.proofs.Common.{arith}
+use Rattle.std.proofs.Common.{◌≡◌, ◌≤◌, ◌++◌, [], ◌∷◌, List, ap, length, ◌∙◌, sym, subst, arith}
+use Rattle.std.proofs.lemmas.List.{length-append}
+use Rattle.registry_state.specs.declared.Insert.{Insert}
+use Rattle.list_words.specs.Lists.{Each}
+use Rattle.list_words.proofs.Lists.{each_append}
+use Rattle.turn_defs.specs.Spellings.{IsInsert, inserts}
 use Rattle.packet_codec.specs.Bad.{Spelled}
-use Rattle.packet_codec.specs.Counted.{counted, AreCounted, AreInserts}
-use Rattle.packet_codec.proofs.BadPlaces.{stops_through}
-use Rattle.packet_codec.proofs.Counts.{counted_sum}
-use Rattle.packet_codec.proofs.Made.{some_insert}
-use Rattle.packet_codec.proofs.PartLaws.{tag_stops, next_whole}
+use Rattle.packet_codec.specs.Counted.{counted, AreCounted}
+use Rattle.packet_codec.proofs.BadPlaces.{stopped}
+use Rattle.packet_codec.proofs.Counts.{inserts_read}
+use Rattle.packet_codec.proofs.Made.{counted_bad}
 use Rattle.packet_codec.proofs.fields.batches.InsertsField.read.Goals as goal
 
-pub returns-in_err-count-clause-bad : goal.returns-in_err-count-clause-bad
-returns-in_err-count-clause-bad c = tag_stops 0 64 _ _ _ c.args.bytes.now c.in_err-count.field-0.0 c.from_residual.result (counted_sum some_insert) c.from_residual.ensures.1 c.in_err-count.ensures.bad
+pub loop-preserved : goal.loop-preserved
+loop-preserved c =
+    let pushed : c.push.new.self ≡ c.loop.list ++ c.in_ok-insert.insert ∷ [] = c.in_ok-push.ensures.ok in
+    let found = c.in_ok-insert.ensures.found in
+    record {
+      so_far = inserts_read c.args.bytes.now c.in_ok-count.count c.loop.list c.in_ok-insert.insert c.loop.rest.now c.in_ok-insert.behind.now c.loop.invariant.so_far found.1 ∙ ap (λ (xs : List Insert). c.in_ok-count.count ∷ (inserts xs ++ c.in_ok-insert.behind.now)) (sym pushed);
+      count = omega (arith, ap (length {A = Insert}) pushed, length-append c.loop.list (c.in_ok-insert.insert ∷ []), c.loop.invariant.count);
+      each = subst (Each IsInsert) (sym pushed) (each_append IsInsert c.loop.list (c.in_ok-insert.insert ∷ []) c.loop.invariant.each (found.0, tt));
+    }
 
-pub returns-clause-bad : goal.returns-clause-bad
-returns-clause-bad c = stops_through
-    (AreInserts c.from.result)
-    (Spelled counted AreCounted)
-    c.in_ok-count.rest.now
-    c.args.bytes.now
-    c.read_inserts.result
-    (λ left. next_whole 0 64 _ _ _ c.from.result c.in_ok-count.count c.args.bytes.now c.in_ok-count.rest.now left (counted_sum some_insert) (omega (arith, c.from.ensures, c.in_ok-count.ensures.high)) (omega (arith, c.from.ensures)) c.in_ok-count.ensures.found)
-    c.read_inserts.ensures.bad
+pub returns-in_err-insert-clause-bad : goal.returns-in_err-insert-clause-bad
+returns-in_err-insert-clause-bad c =
+    let few : c.in_ok-count.count ≤ 64 = c.in_ok-count.ensures.high in
+    let bad = counted_bad c.loop.list c.in_ok-count.count c.args.bytes.now c.loop.rest.now c.in_err-insert.field-0.0 few (omega (arith, c.loop.invariant.count, c.loop-test.true)) c.loop.invariant.each c.loop.invariant.so_far c.in_err-insert.ensures.bad in
+    stopped (Spelled counted AreCounted) c.args.bytes.now c.in_err-insert.field-0.0 c.from_residual-in_err-insert.result c.from_residual-in_err-insert.ensures.1 bad

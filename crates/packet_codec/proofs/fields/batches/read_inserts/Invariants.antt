@@ -1,7 +1,0 @@
-use Rattle.std.proofs.Common.{◌≡◌, ◌++◌, length}
-use Rattle.list_words.specs.Lists.{Each}
-use Rattle.turn_defs.specs.Spellings.{IsInsert, inserts}
-use Rattle.packet_codec.proofs.fields.batches.read_inserts.Given as goal
-
-abbrev pub invariant-loop : goal.invariant-loop
-invariant-loop l = record { so_far : l.bytes ≡ inserts l.list ++ l.rest; count : length l.list ≡ l.counter; each : Each IsInsert l.list }
