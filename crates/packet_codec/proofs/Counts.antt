@@ -1,5 +1,5 @@
 -- Texts and lists of inserts: a count in a byte, and so many behind it.
-use Rattle.std.proofs.Common.{◌≡◌, ⊎_elim, ℕ, zero, suc, ◌+◌, ◌*◌, ◌<◌, ◌≤◌, List, [], ◌∷◌, ◌++◌, length, take, drop, get_or, refl, sym, ap, ◌∙◌, subst, append_assoc, arith}
+use Rattle.std.proofs.Common.{◌≡◌, ℕ, zero, suc, ◌+◌, ◌*◌, ◌<◌, ◌≤◌, List, [], ◌∷◌, ◌++◌, length, take, drop, get_or, refl, sym, ap, ◌∙◌, subst, append_assoc, arith}
 use Rattle.std.specs.Prelude.{replicate}
 use Rattle.std.proofs.lemmas.List.{length-append, length-replicate, get_or-replicate, get_or_default, take_more}
 use Rattle.list_words.specs.Lists.{Each}
@@ -9,10 +9,10 @@ use Rattle.registry_state.specs.declared.Batch.{Batch}
 use Rattle.turn_defs.specs.Spellings.{insert, IsInsert, inserts, batch_head, batch, text}
 use Rattle.packet_codec.specs.Bad.{Spelled, Followed}
 use Rattle.packet_codec.specs.Cells.{Run}
-use Rattle.packet_codec.specs.Counted.{counted, AreCounted, AreInserts}
+use Rattle.packet_codec.specs.Counted.{counted, AreCounted}
 use Rattle.packet_codec.specs.Stops.{IsBadBefore}
 use Rattle.packet_codec.proofs.BadPlaces.{front_same, before_same}
-use Rattle.packet_codec.proofs.PartLaws.{IsApart, IsSum, same_first, followed, followed_first, followed_next}
+use Rattle.packet_codec.proofs.PartLaws.{IsApart, IsSum, same_first, followed_first, followed_next}
 
 -- ---- texts
 
@@ -64,6 +64,13 @@ pub inserts_written : (text front bytes : List ℕ) (xs : List Insert) (i : ℕ)
 inserts_written text front bytes xs i d lt e f =
     let more : inserts (take (i + 1) xs) ≡ inserts (take i xs) ++ insert (get_or xs i d) = ap inserts (take_more xs i d lt) ∙ inserts_more (take i xs) (get_or xs i d) in
     f ∙ append_assoc front (inserts (take i xs)) bytes ∙ ap (λ (z : List ℕ). front ++ (inserts (take i xs) ++ z)) e ∙ ap (λ (z : List ℕ). front ++ z) (sym more)
+
+-- so many inserts, one behind the other
+pub record AreInserts (n : ℕ) (bytes : List ℕ) : Type 0 where
+  pub list : List Insert
+  pub count : length list ≡ n
+  pub each : Each IsInsert list
+  pub whole : bytes ≡ inserts list
 
 some_inserts : (x : Insert) → IsInsert x → (n : ℕ) → (z : List ℕ) × AreInserts n z
 some_inserts x is zero = ([], record { list = []; count = refl; each = tt; whole = refl })

@@ -1,5 +1,5 @@
 -- Answers, outcomes, and what a replica accepted before: a tag, and what it says.
-use Rattle.std.proofs.Common.{◌≡◌, ℕ, zero, suc, ◌+◌, ◌≤◌, List, [], ◌∷◌, ◌++◌, drop, get_or, Option, Some, None, refl, ap, ◌∙◌, arith}
+use Rattle.std.proofs.Common.{◌≡◌, ℕ, zero, suc, ◌+◌, ◌≤◌, List, [], ◌∷◌, ◌++◌, drop, get_or, Option, Some, None, refl, ap, arith}
 use Rattle.registry_state.specs.declared.Batch.{Batch}
 use Rattle.registry_state.specs.declared.Answer.{Answer}
 use Rattle.registry_state.specs.declared.Answer.TheVariants as answers

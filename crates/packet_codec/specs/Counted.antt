@@ -1,5 +1,5 @@
 -- A batch's list of inserts, with its count before it.
-use Rattle.std.specs.Prelude.{◌≡◌, ℕ, ◌≤◌, List, ◌∷◌, length}
+use Rattle.std.specs.Prelude.{ℕ, ◌≤◌, List, ◌∷◌, length}
 use Rattle.registry_state.specs.declared.TheConstants.{MOST_INSERTS}
 use Rattle.registry_state.specs.declared.Insert.{Insert}
 use Rattle.list_words.specs.Lists.{Each}
@@ -11,10 +11,3 @@ counted xs = length xs ∷ inserts xs
 pub record AreCounted (xs : List Insert) : Type 0 where
   pub count : length xs ≤ MOST_INSERTS
   pub each : Each IsInsert xs
-
--- so many inserts, one behind the other
-pub record AreInserts (n : ℕ) (bytes : List ℕ) : Type 0 where
-  pub list : List Insert
-  pub count : length list ≡ n
-  pub each : Each IsInsert list
-  pub whole : bytes ≡ inserts list
