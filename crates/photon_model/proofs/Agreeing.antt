@@ -17,9 +17,9 @@ use Rattle.registry_state.specs.declared.Answer.TheVariants.{Granted, Duplicate,
 use Rattle.registry_state.specs.LookBack.{IsGranted, bound_of, first_insert, holder}
 use Rattle.turn_defs.specs.Setting.{Setting, Checked, shard, IsJoiner}
 use Rattle.turn_defs.specs.declared.packet.Packet.{Packet}
-use Rattle.turn_defs.specs.declared.packet.Packet.TheVariants.{Join, Joined, Insert as Claim, Reply, Prepare, Promise, Nack, Accept, Accepted, Chosen}
+use Rattle.turn_defs.specs.declared.packet.Packet.TheVariants.{Join, Joined, Insert as Claim, Reply}
 use Rattle.turn_defs.specs.declared.packet.Outcome.{Outcome}
-use Rattle.turn_defs.specs.declared.packet.Outcome.TheVariants.{Written, Already, TooOld as Late, NoQuery, Busy}
+use Rattle.turn_defs.specs.declared.packet.Outcome.TheVariants.{NoQuery, Busy}
 use Rattle.turn_defs.specs.declared.node.Node.{Node}
 use Rattle.turn_defs.specs.declared.node.Node.TheVariants.{Dispatcher, Server, Replica, Joiner}
 use Rattle.turn_defs.specs.declared.node.To.{To}
@@ -34,7 +34,7 @@ use Rattle.paxos_defs.proofs.Agreement.{agreed_one}
 use Rattle.paxos_defs.proofs.Facts.{decided_grows}
 use Rattle.paxos_defs.proofs.Places.{vote_here}
 use Rattle.paxos_defs.proofs.Votes.{has_append}
-use Rattle.turn_defs.specs.Turns.{BallotNote, Note, Advance, Park, Settle, Epoch, Output, Voted, Out, idle, land}
+use Rattle.turn_defs.specs.Turns.{BallotNote, Note, Voted, Out, idle, land}
 use Rattle.turn_defs.specs.Dispatcher.{DispatcherKept, DispatcherLive, Fresh, first_done, waits, has_room, retries, takes, with_room, dispatcher_own, fresh_joins, join_if, trying_joins, ends, parks, dispatcher_joined, dispatcher_gets, dispatcher_turn}
 use Rattle.turn_defs.specs.Joiner.{JoinerKept, JoinerLive, Flight, insert_of, is_for, in_flight, claim, looks, joins, answers, replied, joiner_gets, joiner_turn}
 use Rattle.turn_defs.specs.Server.{ServerKept, ServerLive, land_server, server_turn}
@@ -66,12 +66,7 @@ IsPlain (Join p c) = Unit {0}
 IsPlain (Joined p o) = Unit {0}
 IsPlain (Claim x) = Unit {0}
 IsPlain (Reply x a) = Unit {0}
-IsPlain (Prepare at b) = ⊥
-IsPlain (Promise at b o) = ⊥
-IsPlain (Nack at b c) = ⊥
-IsPlain (Accept at b v) = ⊥
-IsPlain (Accepted at b) = ⊥
-IsPlain (Chosen at v) = ⊥
+IsPlain _ = ⊥
 
 abbrev pub ArePlain : List (To × Packet) → Type 0
 ArePlain ps = Each (λ (a : To × Packet). IsPlain a.1) ps
@@ -81,12 +76,7 @@ plain_votes n from (Join p c) h = tt
 plain_votes n from (Joined p o) h = tt
 plain_votes n from (Claim x) h = tt
 plain_votes n from (Reply x a) h = tt
-plain_votes n from (Prepare at b) h = absurd h
-plain_votes n from (Promise at b o) h = absurd h
-plain_votes n from (Nack at b c) h = absurd h
-plain_votes n from (Accept at b v) h = absurd h
-plain_votes n from (Accepted at b) h = absurd h
-plain_votes n from (Chosen at v) h = absurd h
+plain_votes n from _ h = absurd h
 
 module _ (g : Setting) (s : ℕ) (k : DispatcherKept) (l : DispatcherLive) where
   abbrev PlainOut : Out DispatcherLive → Type 0
@@ -107,11 +97,9 @@ module _ (g : Setting) (s : ℕ) (k : DispatcherKept) (l : DispatcherLive) where
   parks_plain p = cond_both (waits l.fresh p) _ _ PlainOut (λ _. tt) (λ _. cond_both (has l.trying p) _ _ PlainOut (λ _. tt) (λ _. tt))
 
   joined_plain : (p : ℕ) (o : Outcome) → PlainOut (dispatcher_joined g s k l p o)
-  joined_plain p Written = ends_plain p
-  joined_plain p (Already h) = ends_plain p
-  joined_plain p (Late b) = ends_plain p
   joined_plain p (NoQuery m) = parks_plain p
   joined_plain p Busy = tt
+  joined_plain p _ = ends_plain p
 
   gets_plain : (p : Packet) → PlainOut (dispatcher_gets g s k l p)
   gets_plain (Joined p o) = joined_plain p o
@@ -228,48 +216,28 @@ module _ (g : Setting) (w : World) (offered : List Offer) (holds : BallotsHold g
     votes_then (Some (Voted x)) e may =
         let q = journals_noted g.replicas (λ k. (w.replicas k).kept) kept_then r x lt (ap (λ (k : ReplicaKept). k.notes) (set_here ∙ e)) set_other in
         λ i. record { journals = q i; offered = offered; epochs = now.epochs }
-    votes_then (Some (Advance n)) e may = absurd may
-    votes_then (Some (Park n)) e may = absurd may
-    votes_then (Some (Settle n)) e may = absurd may
-    votes_then (Some (Epoch n)) e may = absurd may
-    votes_then (Some (Output n)) e may = absurd may
+    votes_then _ e may = absurd may
 
     agree_then : (o : Option Note) → MayNote now r o → VotesAgree (with_note now r o)
     agree_then None may = holds.agree
     agree_then (Some (Voted x)) may = agree_noted now holds.agree r within x may
-    agree_then (Some (Advance n)) may = absurd may
-    agree_then (Some (Park n)) may = absurd may
-    agree_then (Some (Settle n)) may = absurd may
-    agree_then (Some (Epoch n)) may = absurd may
-    agree_then (Some (Output n)) may = absurd may
+    agree_then _ may = absurd may
 
     packets_then : (o : Option Note) → MayNote now r o → (from : Node) (p : Packet) → VotesOf now from p → VotesOf (with_note now r o) from p
     packets_then None may from p h = h
     packets_then (Some (Voted x)) may from p h = votes_written now _ (writes_note now holds.agree r within x may) from p h
-    packets_then (Some (Advance n)) may from p h = absurd may
-    packets_then (Some (Park n)) may from p h = absurd may
-    packets_then (Some (Settle n)) may from p h = absurd may
-    packets_then (Some (Epoch n)) may from p h = absurd may
-    packets_then (Some (Output n)) may from p h = absurd may
+    packets_then _ may from p h = absurd may
 
     servers_then : (o : Option Note) → MayNote now r o → (s e : ℕ) (l : ServerLive) → VotesOfServer now s e l → VotesOfServer (with_note now r o) s e l
     servers_then None may s e l h = h
     servers_then (Some (Voted x)) may s e l h = server_written now _ (writes_note now holds.agree r within x may) s e l h
-    servers_then (Some (Advance n)) may s e l h = absurd may
-    servers_then (Some (Park n)) may s e l h = absurd may
-    servers_then (Some (Settle n)) may s e l h = absurd may
-    servers_then (Some (Epoch n)) may s e l h = absurd may
-    servers_then (Some (Output n)) may s e l h = absurd may
+    servers_then _ may s e l h = absurd may
 
     -- what is decided stays
     decided_then : (o : Option Note) → MayNote now r o → (s : ℕ) → Begins (decided now.journals s) (decided (with_note now r o).journals s)
     decided_then None may s = begins_self (decided now.journals s)
     decided_then (Some (Voted x)) may s = decided_grows same_batch exact holds.agree.agree (agree_noted now holds.agree r within x may).agree (writes_note now holds.agree r within x may) s
-    decided_then (Some (Advance n)) may s = absurd may
-    decided_then (Some (Park n)) may s = absurd may
-    decided_then (Some (Settle n)) may s = absurd may
-    decided_then (Some (Epoch n)) may s = absurd may
-    decided_then (Some (Output n)) may s = absurd may
+    decided_then _ may s = absurd may
 
     replica_then : (o : Option Note) → c.kept ≡ land land_replica o (w.replicas r).kept → MayNote now r o → ((x : Sent) → Mem x more → VotesOf (with_note now r o) x.from x.packet) → BallotsHold g with_replica offered × ((s : ℕ) → Begins (decided_in g w s) (decided_in g with_replica s))
     replica_then o e may p = (
@@ -303,9 +271,7 @@ module _ (g : Setting) (w : World) (offered : List Offer) (holds : BallotsHold g
 
   input_votes : (n : Node) (i : Input) → WasSent w.sent n i → (from : Node) (p : Packet) → i ≡ Deliver from p → VotesOf now from p
   input_votes n (Deliver f q) m from p e = let a : f ≡ from = cc in let b : q ≡ p = cc in subst (λ (x : Node × Packet). VotesOf now x.0 x.1) (λ i. (a i, b i)) (holds.packets _ m)
-  input_votes n Start m from p e = absurd (cc)
-  input_votes n Own m from p e = absurd (cc)
-  input_votes n Tick m from p e = absurd (cc)
+  input_votes n _ m from p e = absurd (cc)
 
   replica_row_votes : (r : ℕ) → r < g.replicas → IfOpen w.sent (Replica r) (w.replicas r).opened → ReplicaVotes now r (replica_row (w.replicas r))
   replica_row_votes r lt open_ = go (w.replicas r).live (w.replicas r).opened open_
@@ -475,11 +441,7 @@ module _ (g : Setting) (c : Checked g) (old : List ℕ) (w : World) (drawn : Lis
 
 split_stops : (e : Entry) (es : List Entry) → NoJoinerStops (e ∷ es) → NoJoinerStops (e ∷ []) × NoJoinerStops es
 split_stops (Stop (Joiner j) landed) es h = absurd h
-split_stops (Stop (Dispatcher s) landed) es h = (tt, h)
-split_stops (Stop (Server s) landed) es h = (tt, h)
-split_stops (Stop (Replica r) landed) es h = (tt, h)
-split_stops (Begin m i) es h = (tt, h)
-split_stops (End m o ps k) es h = (tt, h)
+split_stops _ es h = (tt, h)
 
 pub runs : (g : Setting) → Checked g → (old : List Insert) (bounds : List ℕ) (es : List Entry) (w : World) (drawn : List Insert) (offered : List Offer) → WorldHolds g w drawn → BallotsHold g w offered → IsRun g w es →
     (d : List Insert) × (o : List Offer) × WorldHolds g (world_after g w es) d × BallotsHold g (world_after g w es) o × (Fates g old w drawn → NoJoinerStops es → Fates g old (world_after g w es) d) × (BoundsHold g bounds w offered → BoundsHold g bounds (world_after g w es) o)

@@ -17,7 +17,7 @@ use Rattle.registry_state.specs.declared.Answer.{Answer}
 use Rattle.registry_state.specs.LookBack.{replay}
 use Rattle.turn_defs.specs.Setting.{Setting, shard, shards}
 use Rattle.turn_defs.specs.declared.packet.Packet.{Packet}
-use Rattle.turn_defs.specs.declared.packet.Packet.TheVariants.{Join, Joined, Insert as Claim, Reply, Prepare, Promise, Nack, Accept, Accepted, Chosen}
+use Rattle.turn_defs.specs.declared.packet.Packet.TheVariants.{Insert as Claim, Reply, Prepare, Promise, Nack, Accept, Accepted, Chosen}
 use Rattle.paxos_defs.specs.declared.Place.{Place}
 use Rattle.turn_defs.specs.declared.node.Node.{Node}
 use Rattle.turn_defs.specs.declared.node.Node.TheVariants.{Dispatcher, Server, Replica, Joiner}
@@ -66,14 +66,7 @@ module _ (g : Setting) (site : ℕ) (k : ServerKept) (l : ServerLive) (sent : Li
   abbrev Fair : Option Place → Packet → Type 0
   Fair q (Prepare at b) = Prepared sent at b ⊎ IsDraw q at b
   Fair q (Accept at b v) = Prepared sent at b
-  Fair q (Join p c) = Unit {0}
-  Fair q (Joined p o) = Unit {0}
-  Fair q (Claim x) = Unit {0}
-  Fair q (Reply x a) = Unit {0}
-  Fair q (Promise at b o) = Unit {0}
-  Fair q (Nack at b c) = Unit {0}
-  Fair q (Accepted at b) = Unit {0}
-  Fair q (Chosen at v) = Unit {0}
+  Fair q _ = Unit {0}
 
   abbrev AreFair : Option Place → List (To × Packet) → Type 0
   AreFair q ps = Each (λ (a : To × Packet). Fair q a.1) ps
@@ -212,14 +205,7 @@ module _ (g : Setting) (site : ℕ) (k : ServerKept) (l : ServerLive) (sent : Li
 abbrev IsAnswer : Packet → Type 0
 IsAnswer (Prepare at b) = ⊥
 IsAnswer (Accept at b v) = ⊥
-IsAnswer (Promise at b o) = Unit {0}
-IsAnswer (Nack at b c) = Unit {0}
-IsAnswer (Accepted at b) = Unit {0}
-IsAnswer (Chosen at v) = Unit {0}
-IsAnswer (Join p c) = Unit {0}
-IsAnswer (Joined p o) = Unit {0}
-IsAnswer (Claim x) = Unit {0}
-IsAnswer (Reply x a) = Unit {0}
+IsAnswer _ = Unit {0}
 
 abbrev AreAnswers : List (To × Packet) → Type 0
 AreAnswers ps = Each (λ (a : To × Packet). IsAnswer a.1) ps
@@ -228,16 +214,9 @@ abbrev Answers : Out (Unit {0}) → Type 0
 Answers o = AreAnswers o.packets
 
 plain_answer : (p : Packet) → IsPlain p → IsAnswer p
-plain_answer (Join p c) h = tt
-plain_answer (Joined p o) h = tt
-plain_answer (Claim x) h = tt
-plain_answer (Reply x a) h = tt
 plain_answer (Prepare at b) h = h
 plain_answer (Accept at b v) h = h
-plain_answer (Promise at b o) h = tt
-plain_answer (Nack at b c) h = tt
-plain_answer (Accepted at b) h = tt
-plain_answer (Chosen at v) h = tt
+plain_answer _ h = tt
 
 plain_answers : (ps : List (To × Packet)) → ArePlain ps → AreAnswers ps
 plain_answers [] h = tt
@@ -404,17 +383,11 @@ module _ (g : Setting) (some : 0 < g.replicas) (w : World) (h : Drawn w) where
       go (Some l) up (Some i) a = turned l up i a
 
   drawn_after : (e : Entry) → May g w e → Drawn (after g w e)
-  drawn_after (Begin (Dispatcher s) i) m = record { alone = h.alone; owned = h.owned; rounds = h.rounds; stands = h.stands }
-  drawn_after (Begin (Replica s) i) m = record { alone = h.alone; owned = h.owned; rounds = h.rounds; stands = h.stands }
-  drawn_after (Begin (Joiner s) i) m = record { alone = h.alone; owned = h.owned; rounds = h.rounds; stands = h.stands }
   drawn_after (Begin (Server s) i) m = server_moved s (begun (w.servers s) i) (omega arith) (inr (refl, refl))
   drawn_after (End (Dispatcher s) made ps kept) m = answered (Dispatcher s) (dispatcher_row g s (w.dispatchers s)).packets ps (after g w (End (Dispatcher s) made ps kept)) m.1.2 (plain_answers (dispatcher_row g s (w.dispatchers s)).packets (dispatcher_row_plain g s (w.dispatchers s))) refl refl
   drawn_after (End (Joiner j) made ps kept) m = answered (Joiner j) (joiner_row g j (w.joiners j)).packets ps (after g w (End (Joiner j) made ps kept)) m.1.2 (plain_answers (joiner_row g j (w.joiners j)).packets (joiner_row_plain g j (w.joiners j))) refl refl
   drawn_after (End (Replica r) made ps kept) m = answered (Replica r) (replica_row (w.replicas r)).packets ps (after g w (End (Replica r) made ps kept)) m.1.2 (replica_answers (w.replicas r)) refl refl
   drawn_after (End (Server s) made ps kept) m = server_ended s made ps kept m.1.2 m.1.1
-  drawn_after (Stop (Dispatcher s) o) m = record { alone = h.alone; owned = h.owned; rounds = h.rounds; stands = h.stands }
-  drawn_after (Stop (Replica s) o) m = record { alone = h.alone; owned = h.owned; rounds = h.rounds; stands = h.stands }
-  drawn_after (Stop (Joiner s) o) m = record { alone = h.alone; owned = h.owned; rounds = h.rounds; stands = h.stands }
   drawn_after (Stop (Server s) o) m = server_moved s (stopped land_server (w.servers s) o) (epoch_up m.1.1) (inl refl)
     where
       row_of : Option ServerLive → Option Input → Out ServerLive
@@ -428,6 +401,7 @@ module _ (g : Setting) (some : 0 < g.replicas) (w : World) (h : Drawn w) where
       epoch_up : (o ≡ None) ⊎ (o ≡ (server_row g s (w.servers s)).note) → (w.servers s).kept.epoch ≤ (land land_server o (w.servers s).kept).epoch
       epoch_up (inl e) = subst (λ (q : Option Note). (w.servers s).kept.epoch ≤ (land land_server q (w.servers s).kept).epoch) (sym e) (omega arith)
       epoch_up (inr e) = subst (λ (q : Option Note). (w.servers s).kept.epoch ≤ (land land_server q (w.servers s).kept).epoch) (sym e) (row_up (w.servers s).live refl (w.servers s).opened)
+  drawn_after _ m = record { alone = h.alone; owned = h.owned; rounds = h.rounds; stands = h.stands }
 
 drawn_run : (g : Setting) → 0 < g.replicas → (es : List Entry) (w : World) → Drawn w → IsRun g w es → Drawn (world_after g w es)
 drawn_run g some [] w h r = h

@@ -16,7 +16,7 @@ use Rattle.turn_defs.specs.declared.node.Node.TheVariants.{Dispatcher, Server, R
 use Rattle.turn_defs.specs.declared.node.To.{To}
 use Rattle.turn_defs.specs.Sent.{Sent}
 use Rattle.turn_defs.specs.declared.node.Input.{Input}
-use Rattle.turn_defs.specs.declared.node.Input.TheVariants.{Start, Own, Tick, Deliver}
+use Rattle.turn_defs.specs.declared.node.Input.TheVariants.{Own, Deliver}
 use Rattle.turn_defs.specs.Turns.{Out, idle}
 use Rattle.turn_defs.specs.Joiner.{JoinerKept, JoinerLive, Flight, insert_of, is_for, in_flight, landed, looks, joins, answers, replied, joiner_gets, joiner_turn, joiner_start}
 use Rattle.photon_model.specs.Runs.{Cell, World, Entry, Begin, End, Stop, Disks, begun, stopped, joiner_row, sends, after, world_after, May, IsRun, opening}
@@ -67,10 +67,8 @@ module _ (g : Setting) (j : ℕ) (k : JoinerKept) (l : JoinerLive) where
   gets_claimed _ = λ f m. inl m
 
   turn_claimed : (i : Input) → Claimed (joiner_turn g j k l i)
-  turn_claimed Tick = λ f m. inl m
   turn_claimed (Deliver from p) = gets_claimed p
-  turn_claimed Own = λ f m. inl m
-  turn_claimed Start = λ f m. inl m
+  turn_claimed _ = λ f m. inl m
 
 -- before the row: nothing is in flight in a node that is down
 abbrev WasFlying : Option JoinerLive → Flight → Type 0
@@ -106,9 +104,6 @@ module _ (g : Setting) (w : World) (h : ClaimsSent w) where
   replaced j c new s = at_set (λ m (d : Cell JoinerKept JoinerLive). Sends (new ++ w.sent) d.live) w.joiners j c s (keeps new)
 
   claims_kept : (e : Entry) → May g w e → ClaimsSent (after g w e)
-  claims_kept (Begin (Dispatcher s) i) m = h
-  claims_kept (Begin (Server s) i) m = h
-  claims_kept (Begin (Replica r) i) m = h
   claims_kept (Begin (Joiner j) i) m = replaced j (begun (w.joiners j) i) [] (h j)
   claims_kept (End (Dispatcher s) _ ps kept) m = keeps (sends (Dispatcher s) ps)
   claims_kept (End (Server s) _ ps kept) m = keeps (sends (Server s) ps)
@@ -119,10 +114,8 @@ module _ (g : Setting) (w : World) (h : ClaimsSent w) where
       (λ x. more (sends (Joiner j) ps) (Claim (insert_of f)) (was j f x))
       (λ (x : (a : To × Packet) × Mem a (joiner_row g j (w.joiners j)).packets × (a.1 ≡ Claim (insert_of f))). let s = addressed_sent g (Joiner j) (joiner_row g j (w.joiners j)).packets ps m.1.2 x.0 x.1 in (s.0, mem_left s.0 (sends (Joiner j) ps) w.sent s.1, s.2 ∙ x.2))
       (row_claimed g j (w.joiners j) f (subst (λ (z : JoinerLive). Mem f z.flight) (sym (some_same _ l e)) q)))
-  claims_kept (Stop (Dispatcher s) _) m = h
-  claims_kept (Stop (Server s) _) m = h
-  claims_kept (Stop (Replica r) _) m = h
   claims_kept (Stop (Joiner j) o) m = replaced j (stopped Rattle.turn_defs.specs.Joiner.land_joiner (w.joiners j) o) [] (λ l e. none_some l e)
+  claims_kept _ m = h
 
 claims_run : (g : Setting) (es : List Entry) (w : World) → ClaimsSent w → IsRun g w es → ClaimsSent (world_after g w es)
 claims_run g [] w h r = h

@@ -18,7 +18,7 @@ use Rattle.turn_defs.specs.declared.node.Node.{Node}
 use Rattle.turn_defs.specs.declared.node.Node.TheVariants.{Joiner}
 use Rattle.turn_defs.specs.declared.pair.PairRec.{PairRec}
 use Rattle.turn_defs.specs.declared.node.Input.{Input}
-use Rattle.turn_defs.specs.declared.node.Input.TheVariants.{Start, Own, Tick, Deliver}
+use Rattle.turn_defs.specs.declared.node.Input.TheVariants.{Deliver}
 use Rattle.turn_defs.specs.Turns.{Note, Out, idle, land}
 use Rattle.turn_defs.specs.Joiner.{JoinerKept, JoinerLive, Flight, land_joiner, insert_of, is_for, in_flight, landed, looks, joins, answers, replied, joiner_gets, joiner_turn}
 use Rattle.photon_model.specs.Sound.{Known, values_of}
@@ -109,10 +109,8 @@ module _ (g : Setting) (n b : Known) (j : ℕ) (is_joiner : IsJoiner g j) (k : J
   gets_fate _ h = λ _. stays
 
   turn_fate : (i : Input) → HoldsOfInput g n i → Fate (joiner_turn g j k l i)
-  turn_fate Tick h = λ _. stays
   turn_fate (Deliver from p) h = gets_fate p h
-  turn_fate Own h = λ _. stays
-  turn_fate Start h = λ _. stays
+  turn_fate _ h = λ _. stays
 
 module _ (g : Setting) (c : Checked g) (old : List Insert) (w : World) (drawn : List Insert) (holds : WorldHolds g w drawn) (j : ℕ) (is_joiner : IsJoiner g j) (made : Option Note) (ps : List (Node × Packet)) (kept : ℕ) where
   abbrev out : Out JoinerLive

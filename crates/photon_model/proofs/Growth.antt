@@ -12,7 +12,7 @@ use Rattle.registry_state.specs.declared.Answer.TheVariants.{Granted, Duplicate,
 use Rattle.registry_state.specs.LookBack.{IsGranted}
 use Rattle.turn_defs.specs.Setting.{Setting}
 use Rattle.turn_defs.specs.declared.packet.Packet.{Packet}
-use Rattle.turn_defs.specs.declared.packet.Packet.TheVariants.{Join, Joined, Insert as Claim, Reply, Prepare, Promise, Nack, Accept, Accepted, Chosen}
+use Rattle.turn_defs.specs.declared.packet.Packet.TheVariants.{Joined, Insert as Claim, Reply, Promise, Accept, Chosen}
 use Rattle.turn_defs.specs.declared.packet.Outcome.{Outcome}
 use Rattle.turn_defs.specs.declared.packet.Outcome.TheVariants.{Written, Already, TooOld as Late, NoQuery, Busy}
 use Rattle.turn_defs.specs.declared.pair.PairRec.{PairRec}
@@ -78,16 +78,13 @@ module _ (g : Setting) (a b : Known) (up : Grows a b) where
   best_lasts s (Some x) h = inserts_last s x.1.inserts h
 
   pub packet_lasts : (p : Packet) → HoldsOf g a p → HoldsOf g b p
-  packet_lasts (Join p c) h = h
   packet_lasts (Joined p o) h = (h.0, h.1, outcome_lasts h.0 o h.2)
   packet_lasts (Claim x) h = up.drawn x h
   packet_lasts (Reply x r) h = reply_lasts x r h
-  packet_lasts (Prepare p c) h = h
   packet_lasts (Promise p c o) h = best_lasts p.shard o h
-  packet_lasts (Nack p c d) h = h
   packet_lasts (Accept p c v) h = inserts_last p.shard v.inserts h
-  packet_lasts (Accepted p c) h = h
   packet_lasts (Chosen p v) h = subst (λ (l : List Batch). slice_get l p.slot ≡ Some v) (sym (up.values p.shard).1) (get_front (a.values p.shard) (up.values p.shard).0 p.slot v h)
+  packet_lasts _ h = h
 
   pub dispatcher_kept_lasts : (k : DispatcherKept) → DispatcherSound g a k → DispatcherSound g b k
   dispatcher_kept_lasts k s = record { boundary = s.boundary; starts = s.starts; once = s.once; passed = λ l m lt. ⊎_elim (λ h. inl h) (λ h. inr (settled_lasts l.click.id h)) (s.passed l m lt) }

@@ -105,18 +105,7 @@ module _ (g : Setting) (landed : Node → Bool) where
   stays_closed v (Server s) o (Server t) e = cond_both (t == s) (stopped land_server (v.servers s) o) (v.servers t) (λ (d : Cell ServerKept ServerLive). d.opened ≡ None) (λ _. refl) (λ _. e)
   stays_closed v (Replica s) o (Replica t) e = cond_both (t == s) (stopped land_replica (v.replicas s) o) (v.replicas t) (λ (d : Cell ReplicaKept (Unit {0})). d.opened ≡ None) (λ _. refl) (λ _. e)
   stays_closed v (Joiner s) o (Joiner t) e = cond_both (t == s) (stopped land_joiner (v.joiners s) o) (v.joiners t) (λ (d : Cell JoinerKept JoinerLive). d.opened ≡ None) (λ _. refl) (λ _. e)
-  stays_closed v (Dispatcher s) o (Server t) e = e
-  stays_closed v (Dispatcher s) o (Replica t) e = e
-  stays_closed v (Dispatcher s) o (Joiner t) e = e
-  stays_closed v (Server s) o (Dispatcher t) e = e
-  stays_closed v (Server s) o (Replica t) e = e
-  stays_closed v (Server s) o (Joiner t) e = e
-  stays_closed v (Replica s) o (Dispatcher t) e = e
-  stays_closed v (Replica s) o (Server t) e = e
-  stays_closed v (Replica s) o (Joiner t) e = e
-  stays_closed v (Joiner s) o (Dispatcher t) e = e
-  stays_closed v (Joiner s) o (Server t) e = e
-  stays_closed v (Joiner s) o (Replica t) e = e
+  stays_closed v _ o _ e = e
 
   -- stops of these nodes one after another
   record Ends (w v : World) (ns : List Node) : Type 0 where

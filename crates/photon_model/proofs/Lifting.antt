@@ -12,7 +12,7 @@ use Rattle.turn_defs.specs.declared.node.To.{To}
 use Rattle.turn_defs.specs.Sent.{Sent}
 use Rattle.turn_defs.specs.declared.pair.PairRec.{PairRec}
 use Rattle.turn_defs.specs.declared.node.Input.{Input}
-use Rattle.turn_defs.specs.declared.node.Input.TheVariants.{Start, Own, Tick, Deliver}
+use Rattle.turn_defs.specs.declared.node.Input.TheVariants.{Own, Deliver}
 use Rattle.turn_defs.specs.Dispatcher.{DispatcherKept, DispatcherLive}
 use Rattle.turn_defs.specs.Joiner.{JoinerKept, JoinerLive}
 use Rattle.turn_defs.specs.Server.{ServerKept, ServerLive}
@@ -40,9 +40,7 @@ addressed_hold g n from (b ∷ as_) (p ∷ ps) a h x (inr m) = addressed_hold g 
 
 sent_lasts : (more sent : List Sent) (n : Node) (i : Input) → WasSent sent n i → WasSent (more ++ sent) n i
 sent_lasts more sent n (Deliver from p) h = mem_right _ more sent h
-sent_lasts more sent n Start h = h
-sent_lasts more sent n Own h = h
-sent_lasts more sent n Tick h = h
+sent_lasts more sent n _ h = h
 
 open_lasts : (more sent : List Sent) (n : Node) (o : Option Input) → IfOpen sent n o → IfOpen (more ++ sent) n o
 open_lasts more sent n None h = h
@@ -182,9 +180,7 @@ module _ (g : Setting) (w : World) (drawn : List Insert) (holds : WorldHolds g w
 
   pub input_holds : (n : Node) (i : Input) → WasSent w.sent n i → HoldsOfInput g now i
   input_holds n (Deliver from p) m = holds.packets _ m
-  input_holds n Start m = m
-  input_holds n Own m = m
-  input_holds n Tick m = m
+  input_holds n _ m = m
 
   pub dispatcher_row_keeps : Checked g → (s : ℕ) → s < 2 → DispatcherKeeps g now (w.dispatchers s).kept (dispatcher_row g s (w.dispatchers s))
   dispatcher_row_keeps c s lt = go (w.dispatchers s) (holds.dispatchers s lt)

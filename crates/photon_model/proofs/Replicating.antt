@@ -20,7 +20,7 @@ use Rattle.turn_defs.specs.declared.packet.Packet.{Packet}
 use Rattle.turn_defs.specs.declared.packet.Packet.TheVariants.{Prepare, Accept}
 use Rattle.turn_defs.specs.declared.node.Node.{Node}
 use Rattle.turn_defs.specs.declared.node.Input.{Input}
-use Rattle.turn_defs.specs.declared.node.Input.TheVariants.{Start, Own, Tick, Deliver}
+use Rattle.turn_defs.specs.declared.node.Input.TheVariants.{Deliver}
 use Rattle.turn_defs.specs.Replica.{ReplicaKept, cell_at, note_at, says, prepared, taken, replica_gets, replica_turn}
 use Rattle.photon_model.specs.Sound.{Known, InsertsOf}
 use Rattle.photon_model.specs.Facts.{HoldsOfBatch, HoldsOfBest, HoldsOf, HoldsOfInput}
@@ -111,6 +111,4 @@ module _ (g : Setting) (n : Known) where
 
 pub replica_keeps : (g : Setting) (n : Known) (k : ReplicaKept) (i : Input) → Each (InsertsOf g n) k.notes → HoldsOfInput g n i → ReplicaKeeps g n k (replica_turn k i)
 replica_keeps g n k (Deliver from p) s h = gets_keeps g n k s from p h
-replica_keeps g n k Own s h = idles g n k s
-replica_keeps g n k Tick s h = idles g n k s
-replica_keeps g n k Start s h = idles g n k s
+replica_keeps g n k _ s h = idles g n k s

@@ -1,5 +1,5 @@
 -- The empty store, longer logs, records that stay.
-use Rattle.std.proofs.Common.{◌≡◌, inl, inr, ⊎_elim, ℕ, ◌≤◌, Bool, true, false, cond, List, [], ◌∷◌, ◌++◌, Some, None, refl, sym, ap, subst, arith}
+use Rattle.std.proofs.Common.{◌≡◌, inl, inr, ⊎_elim, ℕ, ◌≤◌, Bool, true, false, cond, List, [], ◌∷◌, ◌++◌, Some, refl, sym, ap, subst, arith}
 use Rattle.std.specs.Prelude.{Option, find}
 use Rattle.std.proofs.lemmas.Bool.{true≢false}
 use Rattle.registry_state.specs.declared.Insert.{Insert}
@@ -8,9 +8,9 @@ use Rattle.log_records.specs.declared.records.ClickRec.{ClickRec as Click}
 use Rattle.log_records.specs.Lines.{ClickLine, end_from, Follow, IsBoundary}
 use Rattle.list_words.specs.Lists.{Mem, Begins, set_at}
 use Rattle.turn_defs.specs.Setting.{Setting, Checked, IsJoin}
-use Rattle.turn_defs.specs.declared.node.Node.TheVariants.{Dispatcher, Server, Replica, Joiner}
+use Rattle.turn_defs.specs.declared.node.Node.TheVariants.{Replica, Joiner}
 use Rattle.turn_defs.specs.declared.pair.PairRec.{PairRec}
-use Rattle.turn_defs.specs.Turns.{BallotNote, Note, Advance, Park, Settle, Epoch, Output, Voted, land}
+use Rattle.turn_defs.specs.Turns.{BallotNote, Note, Output, Voted, land}
 use Rattle.paxos_defs.specs.declared.Place.{Place}
 use Rattle.paxos_defs.specs.Notes.{Vote, acceptance, votes_at, votes, Has}
 use Rattle.paxos_defs.specs.Notes.Note.{Promised, Accepted}
@@ -150,22 +150,12 @@ module _ (g h : Setting) (query_log click_log more_queries more_clicks : List �
 -- ---- records that stay
 
 pairs_land : (o : Option Note) (k : JoinerKept) → Begins k.pairs (land land_joiner o k).pairs
-pairs_land None k = begins_self k.pairs
 pairs_land (Some (Output p)) k = (p ∷ [], refl)
-pairs_land (Some (Advance e)) k = begins_self k.pairs
-pairs_land (Some (Park e)) k = begins_self k.pairs
-pairs_land (Some (Settle e)) k = begins_self k.pairs
-pairs_land (Some (Epoch e)) k = begins_self k.pairs
-pairs_land (Some (Voted x)) k = begins_self k.pairs
+pairs_land _ k = begins_self k.pairs
 
 notes_land : (o : Option Note) (k : ReplicaKept) → Begins k.notes (land land_replica o k).notes
-notes_land None k = begins_self k.notes
 notes_land (Some (Voted x)) k = (x ∷ [], refl)
-notes_land (Some (Advance e)) k = begins_self k.notes
-notes_land (Some (Park e)) k = begins_self k.notes
-notes_land (Some (Settle e)) k = begins_self k.notes
-notes_land (Some (Epoch e)) k = begins_self k.notes
-notes_land (Some (Output e)) k = begins_self k.notes
+notes_land _ k = begins_self k.notes
 
 abbrev Stay : World → World → Type 0
 Stay w v = ((j : ℕ) → Begins (w.joiners j).kept.pairs (v.joiners j).kept.pairs) × ((r : ℕ) → Begins (w.replicas r).kept.notes (v.replicas r).kept.notes)
@@ -184,18 +174,13 @@ module _ (g : Setting) (w : World) where
   replica_stays r c b = at_set (λ m (d : Cell ReplicaKept (Unit {0})). Begins (w.replicas m).kept.notes d.kept.notes) w.replicas r c b same_notes
 
   one_stays : (e : Entry) → Stay w (after g w e)
-  one_stays (Begin (Dispatcher s) i) = (same_pairs, same_notes)
-  one_stays (Begin (Server s) i) = (same_pairs, same_notes)
   one_stays (Begin (Replica r) i) = (same_pairs, replica_stays r (begun (w.replicas r) i) (same_notes r))
   one_stays (Begin (Joiner j) i) = (joiner_stays j (begun (w.joiners j) i) (same_pairs j), same_notes)
-  one_stays (End (Dispatcher s) o ps kept) = (same_pairs, same_notes)
-  one_stays (End (Server s) o ps kept) = (same_pairs, same_notes)
   one_stays (End (Replica r) o ps kept) = (same_pairs, replica_stays r _ (notes_land o (w.replicas r).kept))
   one_stays (End (Joiner j) o ps kept) = (joiner_stays j _ (pairs_land o (w.joiners j).kept), same_notes)
-  one_stays (Stop (Dispatcher s) o) = (same_pairs, same_notes)
-  one_stays (Stop (Server s) o) = (same_pairs, same_notes)
   one_stays (Stop (Replica r) o) = (same_pairs, replica_stays r _ (notes_land o (w.replicas r).kept))
   one_stays (Stop (Joiner j) o) = (joiner_stays j _ (pairs_land o (w.joiners j).kept), same_notes)
+  one_stays _ = (same_pairs, same_notes)
 
 pub records_stay : (g : Setting) (w : World) (es : List Entry) → Stay w (world_after g w es)
 records_stay g w [] = (same_pairs g w, same_notes g w)

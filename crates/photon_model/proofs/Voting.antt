@@ -20,11 +20,11 @@ use Rattle.registry_state.specs.declared.Batch.{Batch}
 use Rattle.registry_state.specs.Same.{same_batch}
 use Rattle.list_words.specs.Lists.{Mem, Each}
 use Rattle.turn_defs.specs.declared.packet.Packet.{Packet}
-use Rattle.turn_defs.specs.declared.packet.Packet.TheVariants.{Join, Joined, Insert as Claim, Reply, Prepare, Promise, Nack, Accept, Accepted, Chosen}
+use Rattle.turn_defs.specs.declared.packet.Packet.TheVariants.{Prepare, Promise, Nack, Accept, Accepted}
 use Rattle.turn_defs.specs.declared.node.Node.{Node}
-use Rattle.turn_defs.specs.declared.node.Node.TheVariants.{Dispatcher, Server, Replica, Joiner}
+use Rattle.turn_defs.specs.declared.node.Node.TheVariants.{Server, Replica}
 use Rattle.turn_defs.specs.declared.node.To.{To}
-use Rattle.turn_defs.specs.Turns.{BallotNote, Note, Advance, Park, Settle, Epoch, Output, Voted, Out, idle}
+use Rattle.turn_defs.specs.Turns.{BallotNote, Note, Voted, Out, idle}
 use Rattle.turn_defs.specs.Server.{ServerLive, Proposal}
 use Rattle.turn_defs.specs.Replica.{ReplicaKept, cell_at, note_at, prepared, taken, replica_gets}
 use Rattle.list_words.proofs.Lists.{mem_right, mem_split}
@@ -34,13 +34,8 @@ use Rattle.photon_model.specs.Agreement.{IsOwned, Offer, offer, Votes, Offered, 
 
 -- the journals with what a replica writes
 abbrev pub with_note : Votes → ℕ → Option Note → Votes
-with_note n r None = n
 with_note n r (Some (Voted x)) = record { journals = noted n.journals r x; offered = n.offered; epochs = n.epochs }
-with_note n r (Some (Advance e)) = n
-with_note n r (Some (Park e)) = n
-with_note n r (Some (Settle e)) = n
-with_note n r (Some (Epoch e)) = n
-with_note n r (Some (Output e)) = n
+with_note n r _ = n
 
 -- a note of replica r that may be written
 abbrev pub MayWrite : Votes → ℕ → BallotNote → Type 0
@@ -49,11 +44,7 @@ MayWrite n r x = ((q : Place) → Suits (Offered n) n.journals r x q) × ((q : P
 abbrev pub MayNote : Votes → ℕ → Option Note → Type 0
 MayNote n r None = ⊤
 MayNote n r (Some (Voted x)) = MayWrite n r x
-MayNote n r (Some (Advance e)) = ⊥
-MayNote n r (Some (Park e)) = ⊥
-MayNote n r (Some (Settle e)) = ⊥
-MayNote n r (Some (Epoch e)) = ⊥
-MayNote n r (Some (Output e)) = ⊥
+MayNote n r _ = ⊥
 
 pub record ReplicaVotes (n : Votes) (r : ℕ) (o : Out (Unit {0})) : Type 0 where
   pub note : MayNote n r o.note
@@ -79,33 +70,21 @@ module _ (n : Votes) (js : List (List BallotNote)) (writes : (at : Place) → Wr
 
   promised_written : (from : Node) (at : Place) (b : Ballot) (o : Option (Ballot × Batch)) → PromisedBy n from at b o → PromisedBy written from at b o
   promised_written (Replica r) at b o h = grant_written (writes at) r b o h
-  promised_written (Dispatcher r) at b o h = h
-  promised_written (Server r) at b o h = h
-  promised_written (Joiner r) at b o h = h
+  promised_written _ at b o h = h
 
   accepted_written : (from : Node) (at : Place) (b : Ballot) → AcceptedBy n from at b → AcceptedBy written from at b
   accepted_written (Replica r) at b h = answer_written (writes at) r b h
-  accepted_written (Dispatcher r) at b h = h
-  accepted_written (Server r) at b h = h
-  accepted_written (Joiner r) at b h = h
+  accepted_written _ at b h = h
 
   nacked_written : (from : Node) (at : Place) (b c : Ballot) → NackedBy n from at b c → NackedBy written from at b c
   nacked_written (Replica r) at b c h = refusal_written (writes at) r b c h
-  nacked_written (Dispatcher r) at b c h = h
-  nacked_written (Server r) at b c h = h
-  nacked_written (Joiner r) at b c h = h
+  nacked_written _ at b c h = h
 
   pub votes_written : (from : Node) (p : Packet) → VotesOf n from p → VotesOf written from p
-  votes_written from (Prepare at b) h = h
   votes_written from (Promise at b o) h = promised_written from at b o h
-  votes_written from (Accept at b v) h = h
   votes_written from (Accepted at b) h = accepted_written from at b h
-  votes_written from (Join p c) h = h
-  votes_written from (Joined p o) h = h
-  votes_written from (Claim x) h = h
-  votes_written from (Reply x a) h = h
   votes_written from (Nack at b c) h = nacked_written from at b c h
-  votes_written from (Chosen at v) h = h
+  votes_written from _ h = h
 
   phase_written : (at : Place) (b : Ballot) (phase : Phase Batch) → VotesOfPhase n at b phase → VotesOfPhase written at b phase
   phase_written at b (Promising marks best) h = asking_written (writes at) b marks best h
@@ -133,33 +112,21 @@ module _ (n : Votes) (new : List Offer) (epochs : ℕ → ℕ) (up : (s : ℕ) �
 
   accepted_sent : (from : Node) (at : Place) (b : Ballot) → AcceptedBy n from at b → AcceptedBy sent from at b
   accepted_sent (Replica r) at b h = (h.0, offered_sent at b h.0 h.1, h.2)
-  accepted_sent (Dispatcher r) at b h = h
-  accepted_sent (Server r) at b h = h
-  accepted_sent (Joiner r) at b h = h
+  accepted_sent _ at b h = h
 
   promised_sent : (from : Node) (at : Place) (b : Ballot) (o : Option (Ballot × Batch)) → PromisedBy n from at b o → PromisedBy sent from at b o
-  promised_sent (Replica r) at b o h = h
-  promised_sent (Dispatcher r) at b o h = h
-  promised_sent (Server r) at b o h = h
-  promised_sent (Joiner r) at b o h = h
+  promised_sent _ at b o h = h
 
   nacked_sent : (from : Node) (at : Place) (b c : Ballot) → NackedBy n from at b c → NackedBy sent from at b c
-  nacked_sent (Replica r) at b c h = h
-  nacked_sent (Dispatcher r) at b c h = h
-  nacked_sent (Server r) at b c h = h
-  nacked_sent (Joiner r) at b c h = h
+  nacked_sent _ at b c h = h
 
   pub votes_sent : (from : Node) (p : Packet) → VotesOf n from p → VotesOf sent from p
   votes_sent from (Prepare at b) h = owned_sent b h
   votes_sent from (Promise at b o) h = promised_sent from at b o h
   votes_sent from (Accept at b v) h = offered_sent at b v h
   votes_sent from (Accepted at b) h = accepted_sent from at b h
-  votes_sent from (Join p c) h = h
-  votes_sent from (Joined p o) h = h
-  votes_sent from (Claim x) h = h
-  votes_sent from (Reply x a) h = h
   votes_sent from (Nack at b c) h = nacked_sent from at b c h
-  votes_sent from (Chosen at v) h = h
+  votes_sent from _ h = h
 
   -- none of the new values has this place and ballot
   abbrev pub AreElsewhere : Place → Ballot → Type 0

@@ -63,11 +63,9 @@ marked_now (m ∷ marks) zero lt = refl
 marked_now (m ∷ marks) (suc r) lt = marked_now marks r (omega arith)
 
 marks_stay : (marks : List Bool) (k r : ℕ) → slice_get marks r ≡ Some true → slice_get (set marks k true) r ≡ Some true
-marks_stay [] k r h = h
 marks_stay (m ∷ marks) zero zero h = refl
-marks_stay (m ∷ marks) zero (suc r) h = h
-marks_stay (m ∷ marks) (suc k) zero h = h
 marks_stay (m ∷ marks) (suc k) (suc r) h = marks_stay marks k r h
+marks_stay _ _ _ h = h
 
 pub was_marked : (marks : List Bool) (r : ℕ) → r < length marks → is_new marks r ≡ false → slice_get marks r ≡ Some true
 was_marked [] r lt e = absurd (omega (arith, lt))

@@ -58,9 +58,7 @@ module _ (g : Setting) where
 
   any : (site : ℕ) (p : Packet) → GoesRight (AnyJoiner site, p)
   any site p (Joiner j) e = e.0
-  any site p (Dispatcher n) e = absurd e
-  any site p (Server n) e = absurd e
-  any site p (Replica n) e = absurd e
+  any site p _ e = absurd e
 
   -- ---- dispatchers: to any joiner of the site
 
@@ -99,11 +97,9 @@ module _ (g : Setting) where
     parks_right p = either (d.waits l.fresh p) _ _ tt (either (has l.trying p) _ _ tt tt)
 
     joined_right : (p : ℕ) (o : Outcome) → SendsRight (d.dispatcher_joined g site k l p o)
-    joined_right p outcome.Written = ends_right p
-    joined_right p (outcome.Already h) = ends_right p
-    joined_right p (outcome.TooOld b) = ends_right p
     joined_right p (outcome.NoQuery n) = parks_right p
     joined_right p outcome.Busy = tt
+    joined_right p _ = ends_right p
 
     gets_right : (p : Packet) → SendsRight (d.dispatcher_gets g site k l p)
     gets_right (packet.Joined p o) = joined_right p o
@@ -265,22 +261,14 @@ module _ (g : Setting) where
   -- who sent it is a node of the setting
   abbrev pub ComesRight : Input → Type 0
   ComesRight (Deliver from p) = IsNode g from
-  ComesRight Start = ⊤
-  ComesRight Own = ⊤
-  ComesRight Tick = ⊤
+  ComesRight _ = ⊤
 
   pub sends_right : (n : Node) (k : KeptOf n) (live : Option (LiveOf n)) (i : Input) → IsNode g n → ComesRight i → SendsRight (row_of (rows_of n) g k live i)
-  sends_right (Dispatcher site) k None i is from = tt
   sends_right (Dispatcher site) k (Some l) i is from = dispatcher_right site k l i
-  sends_right (Server site) k None i is from = tt
   sends_right (Server site) k (Some l) i is from = server_right site k l is i
-  sends_right (Replica r) k None i is from = tt
   sends_right (Replica r) k (Some l) (Deliver sender p) is from = replica_gets_right k sender p from
-  sends_right (Replica r) k (Some l) Start is from = tt
-  sends_right (Replica r) k (Some l) Own is from = tt
-  sends_right (Replica r) k (Some l) Tick is from = tt
-  sends_right (Joiner n) k None i is from = tt
   sends_right (Joiner n) k (Some l) i is from = joiner_right n k l i
+  sends_right _ k _ _ is from = tt
 
   -- so do the nodes that were chosen for a row's packets
   pub all_right : (rows : List (To × Packet)) (ps : List (Node × Packet)) → Each GoesRight rows → Addressed g rows ps → Each (λ (p : Node × Packet). IsNode g p.0) ps

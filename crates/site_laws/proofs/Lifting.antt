@@ -45,33 +45,15 @@ put_else w (Dispatcher s) (Dispatcher t) c more ne = set_else w.dispatchers s t 
 put_else w (Server s) (Server t) c more ne = set_else w.servers s t c (λ e. ne (ap (λ k. Server k) e))
 put_else w (Replica s) (Replica t) c more ne = set_else w.replicas s t c (λ e. ne (ap (λ k. Replica k) e))
 put_else w (Joiner s) (Joiner t) c more ne = set_else w.joiners s t c (λ e. ne (ap (λ k. Joiner k) e))
-put_else w (Dispatcher s) (Server t) c more ne = refl
-put_else w (Dispatcher s) (Replica t) c more ne = refl
-put_else w (Dispatcher s) (Joiner t) c more ne = refl
-put_else w (Server s) (Dispatcher t) c more ne = refl
-put_else w (Server s) (Replica t) c more ne = refl
-put_else w (Server s) (Joiner t) c more ne = refl
-put_else w (Replica s) (Dispatcher t) c more ne = refl
-put_else w (Replica s) (Server t) c more ne = refl
-put_else w (Replica s) (Joiner t) c more ne = refl
-put_else w (Joiner s) (Dispatcher t) c more ne = refl
-put_else w (Joiner s) (Server t) c more ne = refl
-put_else w (Joiner s) (Replica t) c more ne = refl
+put_else w _ _ c more ne = refl
 
 -- what a node may do may come next
 pub may_come : (g : Setting) (w : World) (n : Node) (deed : Deed) → IsNode g n → MayDo (rows_of n) g n w.sent (cell_of w n) deed → May g w (entry_of n deed)
-may_come g w (Dispatcher s) (Begins i) is may = (is, may)
-may_come g w (Server s) (Begins i) is may = (is, may)
-may_come g w (Replica r) (Begins i) is may = (is, may)
-may_come g w (Joiner j) (Begins i) is may = (is, may)
 may_come g w (Dispatcher s) (Ends made ps kept) is may = (is, may.0, may.1)
 may_come g w (Server s) (Ends made ps kept) is may = (is, may.0, may.1)
 may_come g w (Replica r) (Ends made ps kept) is may = (is, may.0, may.1)
 may_come g w (Joiner j) (Ends made ps kept) is may = (is, may.0, may.1)
-may_come g w (Dispatcher s) (Stops landed) is may = (is, may)
-may_come g w (Server s) (Stops landed) is may = (is, may)
-may_come g w (Replica r) (Stops landed) is may = (is, may)
-may_come g w (Joiner j) (Stops landed) is may = (is, may)
+may_come g w _ _ is may = (is, may)
 
 -- and it changes that node alone
 pub after_is : (g : Setting) (w : World) (n : Node) (deed : Deed) → after g w (entry_of n deed) ≡ put w n (done (rows_of n) g (cell_of w n) deed) (sent_of n deed)

@@ -15,33 +15,26 @@ use Rattle.site_laws.specs.StoreLaws.{LongerStaysSound}
 module _ (g h : Setting) (one : IsOneTopology g h) where
   disk_onward : (disk : DiskName) → IsDisk g disk → IsDisk h disk
   disk_onward name.Topology is = tt
-  disk_onward (name.Offset s) is = is
-  disk_onward (name.Retry s) is = is
-  disk_onward (name.Server s) is = is
   disk_onward (name.Replica r) is = subst (λ n. r < n) one.replicas is
   disk_onward (name.Epoch s j) is = (is.0, subst (λ n. j < n) one.joiners is.1)
   disk_onward (name.Output s j) is = (is.0, subst (λ n. j < n) one.joiners is.1)
+  disk_onward _ is = is
 
   disk_back : (disk : DiskName) → IsDisk h disk → IsDisk g disk
   disk_back name.Topology is = tt
-  disk_back (name.Offset s) is = is
-  disk_back (name.Retry s) is = is
-  disk_back (name.Server s) is = is
   disk_back (name.Replica r) is = subst (λ n. r < n) (sym one.replicas) is
   disk_back (name.Epoch s j) is = (is.0, subst (λ n. j < n) (sym one.joiners) is.1)
   disk_back (name.Output s j) is = (is.0, subst (λ n. j < n) (sym one.joiners) is.1)
+  disk_back _ is = is
 
   number_same : (s j : ℕ) → joiner_of g s j ≡ joiner_of h s j
   number_same s j = ap (λ n. 4 + n + s * g.joiners + j) one.replicas ∙ ap (λ n. first_joiner h + s * n + j) one.joiners
 
   keeps_onward : (d : Disks) (disk : DiskName) (c : List ℕ) → KeepsOf g d disk c → KeepsOf h d disk c
   keeps_onward d name.Topology c k = tt
-  keeps_onward d (name.Offset s) c k = k
-  keeps_onward d (name.Retry s) c k = k
-  keeps_onward d (name.Server s) c k = k
-  keeps_onward d (name.Replica r) c k = k
   keeps_onward d (name.Epoch s j) c k = subst (λ n. KeepsEpoch (d.joiners n).epoch c) (number_same s j) k
   keeps_onward d (name.Output s j) c k = subst (λ n. KeepsPairs (d.joiners n).pairs c) (number_same s j) k
+  keeps_onward d _ c k = k
 
   topology_same : topology_of g ≡ topology_of h
   topology_same =

@@ -20,12 +20,9 @@ use Rattle.site_laws.proofs.Keeping.{topology_again, keeps_again}
 
 empty_keeps : (g : Setting) (disk : DiskName) → KeepsOf g empty_disks disk []
 empty_keeps g name.Topology = tt
-empty_keeps g (name.Offset s) = refl
-empty_keeps g (name.Retry s) = refl
-empty_keeps g (name.Server s) = refl
 empty_keeps g (name.Replica r) = (tt, refl)
-empty_keeps g (name.Epoch s j) = refl
 empty_keeps g (name.Output s j) = (All-nil IsPair, refl)
+empty_keeps g _ = refl
 
 pub empty_sound : ((g : Setting) → WholeSound g empty_store) → (g : Setting) (image : Images) → LeavesNothing g image → IsSoundStore g image
 empty_sound whole g image nothing b choice = (

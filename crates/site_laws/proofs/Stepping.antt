@@ -64,18 +64,14 @@ opened_some g None x b a e = none_some b e
 
 -- bytes are read as one input
 pub one_reading : OneSpelling → (g : Setting) (b : Bytes) (i j : Input) → Reads g b i → Reads g b j → i ≡ j
-one_reading one g bytes.Start i j p q = p ∙ sym q
-one_reading one g bytes.Own i j p q = p ∙ sym q
-one_reading one g bytes.Tick i j p q = p ∙ sym q
 one_reading one g (bytes.Packet from b) i j p q =
     p.5 ∙ ap (λ (m : Node). Deliver m p.1) (some_same p.0 q.0 (sym p.2 ∙ q.2)) ∙ ap (λ (x : Packet). Deliver q.0 x) (one p.1 q.1 p.3 q.3 (sym p.4 ∙ q.4)) ∙ sym q.5
+one_reading one g _ i j p q = p ∙ sym q
 
 -- its sender is a node of the setting
 comes_right : (g : Setting) → NumbersAreNodes g → (b : Bytes) (i : Input) → Reads g b i → ComesRight g i
-comes_right g numbers bytes.Start i r = subst (ComesRight g) (sym r) tt
-comes_right g numbers bytes.Own i r = subst (ComesRight g) (sym r) tt
-comes_right g numbers bytes.Tick i r = subst (ComesRight g) (sym r) tt
 comes_right g numbers (bytes.Packet from b) i r = subst (ComesRight g) (sym r.5) (numbers.back from r.0 r.2).1
+comes_right g numbers _ i r = subst (ComesRight g) (sym r) tt
 
 fits : {L : Type 0} (g : Setting) (live : Option L) (b : Bytes) (i : Input) → MayTake live b → Reads g b i → Fits live i
 fits {L} g None bytes.Start i m r = subst (λ j. Fits {L = L} None j) (sym r) tt

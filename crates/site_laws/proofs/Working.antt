@@ -33,12 +33,7 @@ keeps_topology joiners few stands = (record { joiners = few; table = is_table },
 
 no_bytes : (joiners : ℕ) (disk : DiskName) → disk ≢ name.Topology → topology_alone joiners disk ≡ []
 no_bytes joiners name.Topology other = absurd (other refl)
-no_bytes joiners (name.Offset s) other = refl
-no_bytes joiners (name.Retry s) other = refl
-no_bytes joiners (name.Server s) other = refl
-no_bytes joiners (name.Replica r) other = refl
-no_bytes joiners (name.Epoch s j) other = refl
-no_bytes joiners (name.Output s j) other = refl
+no_bytes joiners _ other = refl
 
 module _ (whole : (g : Setting) → WholeSound g empty_store) (first : TopologyComesFirst) (one : KeepOneTopology) (fits : TopologyFits) (comes : TopologyIsFirst) where
   topology_sound : KeepSound worked (topology_alone 1)
