@@ -2,50 +2,12 @@
 use Rattle.std.proofs.Common.{◌≡◌, ◌≢◌, ◌⊎◌, inl, inr, ⊎_elim, ℕ, zero, suc, ◌<◌, ◌≤◌, max, Bool, true, false, cond, ◌==◌, nat_lt, List, [], ◌∷◌, ◌++◌, length, get_or, map, Some, None, refl, sym, ap, ◌∙◌, subst, arith}
 use Rattle.std.specs.Prelude.{Option, find, slice_get}
 use Rattle.std.proofs.lemmas.Bool.{cond_both, cond-true, cond-false, eq-eqb, ne_eqb, ltb-false}
-use Rattle.event_id.specs.declared.id.EventId.{EventId}
-use Rattle.registry_state.specs.declared.Token.{Token}
-use Rattle.ballot_core.specs.declared.Ballot.{Ballot}
-use Rattle.registry_state.specs.declared.Insert.{Insert}
-use Rattle.registry_state.specs.declared.Batch.{Batch}
-use Rattle.registry_state.specs.Same.{same_batch}
-use Rattle.log_records.specs.declared.records.ClickRec.{ClickRec as Click}
-use Rattle.log_records.specs.Lines.{at}
-use Rattle.log_records.specs.Log.{first}
-use Rattle.list_words.specs.Lists.{Mem, Each, Begins, set_at, has}
-use Rattle.registry_state.specs.declared.Answer.{Answer}
-use Rattle.registry_state.specs.declared.Answer.TheVariants.{Granted, Duplicate, TooOld}
-use Rattle.registry_state.specs.LookBack.{IsGranted, bound_of, first_insert, holder}
-use Rattle.turn_defs.specs.Setting.{Setting, Checked, shard, IsJoiner}
-use Rattle.turn_defs.specs.declared.packet.Packet.{Packet}
-use Rattle.turn_defs.specs.declared.packet.Packet.TheVariants.{Join, Joined, Insert as Claim, Reply}
-use Rattle.turn_defs.specs.declared.packet.Outcome.{Outcome}
-use Rattle.turn_defs.specs.declared.packet.Outcome.TheVariants.{NoQuery, Busy}
-use Rattle.turn_defs.specs.declared.node.Node.{Node}
-use Rattle.turn_defs.specs.declared.node.Node.TheVariants.{Dispatcher, Server, Replica, Joiner}
-use Rattle.turn_defs.specs.declared.node.To.{To}
-use Rattle.turn_defs.specs.Sent.{Sent}
-use Rattle.turn_defs.specs.declared.node.Input.{Input}
-use Rattle.turn_defs.specs.declared.node.Input.TheVariants.{Start, Own, Tick, Deliver}
-use Rattle.paxos_defs.specs.declared.Place.{Place}
-use Rattle.paxos_defs.specs.Notes.{Vote, acceptance, vote_at, votes_at, votes as votes_in, Has}
-use Rattle.paxos_defs.specs.Notes.Note.{Promised, Accepted as Took}
-use Rattle.paxos_defs.specs.Agreement.{HasAccepted, OneChosen}
-use Rattle.paxos_defs.proofs.Agreement.{agreed_one}
-use Rattle.paxos_defs.proofs.Facts.{decided_grows}
-use Rattle.paxos_defs.proofs.Places.{vote_here}
-use Rattle.paxos_defs.proofs.Votes.{has_append}
-use Rattle.turn_defs.specs.Turns.{BallotNote, Note, Voted, Out, idle, land}
-use Rattle.turn_defs.specs.Dispatcher.{DispatcherKept, DispatcherLive, Fresh, first_done, waits, has_room, retries, takes, with_room, dispatcher_own, fresh_joins, join_if, trying_joins, ends, parks, dispatcher_joined, dispatcher_gets, dispatcher_turn}
-use Rattle.turn_defs.specs.Joiner.{JoinerKept, JoinerLive, Flight, insert_of, is_for, in_flight, claim, looks, joins, answers, replied, joiner_gets, joiner_turn}
-use Rattle.turn_defs.specs.Server.{ServerKept, ServerLive, land_server, server_turn}
-use Rattle.turn_defs.specs.Replica.{ReplicaKept, land_replica, replica_turn}
+use Rattle.photon_model.proofs.Words.{EventId, Token, Ballot, Insert, Batch, same_batch, Click, at, first, Mem, Each, Begins, set_at, has, Answer, Granted, Duplicate, TooOld, IsGranted, bound_of, first_insert, holder, Setting, Checked, shard, IsJoiner, Packet, Join, Joined, Claim, Reply, Outcome, NoQuery, Busy, Node, Dispatcher, Server, Replica, Joiner, To, Sent, Input, Start, Own, Tick, Deliver, Place, Vote, acceptance, vote_at, votes_at, votes_in, Has, Promised, Took, HasAccepted, OneChosen, agreed_one, decided_grows, vote_here, has_append, BallotNote, Note, Voted, Out, idle, land, DispatcherKept, DispatcherLive, Fresh, first_done, waits, has_room, retries, takes, with_room, dispatcher_own, fresh_joins, join_if, trying_joins, ends, parks, dispatcher_joined, dispatcher_gets, dispatcher_turn, JoinerKept, JoinerLive, Flight, insert_of, is_for, in_flight, claim, looks, joins, answers, replied, joiner_gets, joiner_turn, ServerKept, ServerLive, land_server, server_turn, ReplicaKept, land_replica, replica_turn, option_both, each_at, each_append, mem_left, mem_right, mem_split, at_set, at_set_if, none_some, one_granted, holder_granted, holder_first, bound_stays, Addressed}
 use Rattle.photon_model.specs.Journals.{journals, decided}
 use Rattle.photon_model.specs.Agreement.{ReplicasSound, Offer, Votes, offer, VotesOf, VotesOfServer, VotesAgree}
 use Rattle.photon_model.specs.Sound.{values_of, IsWritten, IsInsertOf, InsertsOf, Sound}
 use Rattle.photon_model.specs.Facts.{IfUp, IfOpen, known, ServerHolds, WorldHolds}
 use Rattle.photon_model.specs.Runs.{Cell, World, Entry, Begin, End, Stop, Disks, disks, begun, ended, stopped, dispatcher_row, server_row, replica_row, joiner_row, sends, after, world_after, WasSent, May, IsRun, opening}
-use Rattle.list_words.proofs.Lists.{option_both, each_at, each_append, mem_left, mem_right, mem_split, at_set, at_set_if, none_some}
-use Rattle.registry_state.proofs.LookingBack.{one_granted, holder_granted, holder_first, bound_stays}
 use Rattle.photon_model.proofs.Journals.{journals_length, journal_of, journals_noted, journals_same, accepted_note, accepted_stands, exact, decided_accepted}
 use Rattle.photon_model.specs.EveryRun.{decided_in, NoJoinerStops, IsBoundOk, HasBounds}
 use Rattle.photon_model.specs.Voting.{votes, BallotsHold}
@@ -57,7 +19,6 @@ use Rattle.photon_model.proofs.Lifting.{if_up}
 use Rattle.photon_model.proofs.Running.{step, opens}
 use Rattle.photon_model.proofs.Fates.{Fates}
 use Rattle.photon_model.proofs.Bounds.{OwnBound, PhaseBound, BoundsOf, turn_bounds}
-use Rattle.turn_defs.specs.Nodes.{Addressed}
 
 -- ---- dispatchers and joiners send nothing on ballots
 

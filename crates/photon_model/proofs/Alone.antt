@@ -2,40 +2,12 @@
 use Rattle.std.proofs.Common.{◌≡◌, ◌⊎◌, inl, inr, ⊎_elim, ℕ, zero, suc, ◌<◌, ◌≤◌, true, ◌||◌, ◌&&◌, ◌==◌, nat_lt, nat_le, List, [], ◌∷◌, ◌++◌, length, Some, None, refl, sym, ap, ◌∙◌, subst, arith}
 use Rattle.std.specs.Prelude.{Option}
 use Rattle.std.proofs.lemmas.Bool.{cond_both, eqb-true, and_parts}
-use Rattle.ballot_core.specs.declared.Ballot.{Ballot}
-use Rattle.registry_state.specs.declared.Insert.{Insert}
-use Rattle.registry_state.specs.declared.Batch.{Batch}
-use Rattle.ballot_core.specs.Ballots.{is_same as same_ballot}
-use Rattle.paxos_defs.specs.Attempts.{Phase, on_promise, on_accepted}
-use Rattle.paxos_defs.specs.Attempts.Phase.{Promising, Accepting, Ended}
-use Rattle.paxos_defs.specs.Turns.{Prepared as PrepareAnswer, Taken, on_prepare, on_accept}
-use Rattle.paxos_defs.specs.Turns.Prepared.{Grant, Refuse}
-use Rattle.paxos_defs.specs.Turns.Taken.{Take, Decline}
-use Rattle.registry_state.specs.Same.{same_batch}
-use Rattle.list_words.specs.Lists.{Mem, Each, set_at}
-use Rattle.registry_state.specs.declared.Answer.{Answer}
-use Rattle.registry_state.specs.LookBack.{replay}
-use Rattle.turn_defs.specs.Setting.{Setting, shard, shards}
-use Rattle.turn_defs.specs.declared.packet.Packet.{Packet}
-use Rattle.turn_defs.specs.declared.packet.Packet.TheVariants.{Insert as Claim, Reply, Prepare, Promise, Nack, Accept, Accepted, Chosen}
-use Rattle.paxos_defs.specs.declared.Place.{Place}
-use Rattle.turn_defs.specs.declared.node.Node.{Node}
-use Rattle.turn_defs.specs.declared.node.Node.TheVariants.{Dispatcher, Server, Replica, Joiner}
-use Rattle.turn_defs.specs.declared.node.To.{To}
-use Rattle.turn_defs.specs.declared.node.To.TheVariants.{Only}
-use Rattle.turn_defs.specs.Sent.{Sent}
-use Rattle.turn_defs.specs.declared.node.Input.{Input}
-use Rattle.turn_defs.specs.declared.node.Input.TheVariants.{Start, Own, Tick, Deliver}
-use Rattle.turn_defs.specs.Turns.{Note, Out, idle, land}
-use Rattle.turn_defs.specs.Server.{is_next, ServerKept, ServerLive, ShardState, Proposal, land_server, queued, to_from, to_replicas, is_below_limit, may_propose, first_shard, is_current, is_own_joiner, reply, reply_if, replies, claimed, owns, server_own, promised, accepted, of_phase, gets_promise, gets_accepted, gets_nack, again, all_again, from_replica, server_gets, server_turn}
-use Rattle.turn_defs.specs.Replica.{ReplicaKept, cell_at, prepared, taken, replica_gets}
+use Rattle.photon_model.proofs.Words.{Ballot, Insert, Batch, is_same as same_ballot, Phase, on_promise, on_accepted, Promising, Accepting, Ended, Prepared as PrepareAnswer, Taken, on_prepare, on_accept, Grant, Refuse, Take, Decline, same_batch, Mem, Each, set_at, Answer, replay, Setting, shard, shards, Packet, Claim, Reply, Prepare, Promise, Nack, Accept, Accepted, Chosen, Place, Node, Dispatcher, Server, Replica, Joiner, To, Only, Sent, Input, Start, Own, Tick, Deliver, Note, Out, idle, land, is_next, ServerKept, ServerLive, ShardState, Proposal, land_server, queued, to_from, to_replicas, is_below_limit, may_propose, first_shard, is_current, is_own_joiner, reply, reply_if, replies, claimed, owns, server_own, promised, accepted, of_phase, gets_promise, gets_accepted, gets_nack, again, all_again, from_replica, server_gets, server_turn, ReplicaKept, cell_at, prepared, taken, replica_gets, option_both, each_at, each_append, mem_left, mem_right, mem_split, at_set, at_set_if, some_same, none_some, Addressed}
 use Rattle.photon_model.specs.Runs.{Cell, World, Entry, Begin, End, Stop, Disks, begun, ended, stopped, dispatcher_row, joiner_row, server_row, replica_row, sends, after, world_after, May, IsRun, opening}
-use Rattle.list_words.proofs.Lists.{option_both, each_at, each_append, mem_left, mem_right, mem_split, at_set, at_set_if, some_same, none_some}
 use Rattle.photon_model.specs.Claims.{HasSent}
 use Rattle.photon_model.specs.Alone.{Prepared, BallotsAlone}
 use Rattle.photon_model.proofs.Claiming.{addressed_sent}
 use Rattle.photon_model.proofs.Agreeing.{IsPlain, ArePlain, dispatcher_row_plain, joiner_row_plain}
-use Rattle.turn_defs.specs.Nodes.{Addressed}
 
 -- a packet sent is one of the row's
 sent_addressed : (g : Setting) (from : Node) (as_ : List (To × Packet)) (ps : List (Node × Packet)) → Addressed g as_ ps → (x : Sent) → Mem x (sends from ps) → (a : To × Packet) × Mem a as_ × (a.1 ≡ x.packet)

@@ -2,27 +2,8 @@
 use Rattle.std.proofs.Common.{◌≡◌, inl, ℕ, true, ◌||◌, ◌&&◌, nat_le, List, length, set, Some, None, refl}
 use Rattle.std.specs.Prelude.{Option}
 use Rattle.std.proofs.lemmas.Bool.{cond_both}
-use Rattle.ballot_core.specs.declared.Ballot.{Ballot}
-use Rattle.registry_state.specs.declared.Batch.{Batch}
-use Rattle.ballot_core.specs.Ballots.{is_below}
-use Rattle.paxos_defs.specs.Turns.{higher, value_for}
-use Rattle.paxos_defs.specs.Attempts.{Phase, is_new, is_most, nobody, with_promise, on_promise, with_acceptance, on_accepted}
-use Rattle.paxos_defs.specs.Attempts.Phase.{Promising, Accepting, Ended}
-use Rattle.paxos_defs.specs.Facts.{IsGrant}
-use Rattle.list_words.specs.Lists.{Mem, set_at}
-use Rattle.registry_state.specs.LookBack.{replay}
-use Rattle.turn_defs.specs.Setting.{Setting, shard, shards}
-use Rattle.turn_defs.specs.declared.packet.Packet.{Packet}
-use Rattle.turn_defs.specs.declared.packet.Packet.TheVariants.{Insert as Claim, Promise, Nack, Accepted, Chosen}
-use Rattle.paxos_defs.specs.declared.Place.{Place}
-use Rattle.turn_defs.specs.declared.node.Node.{Node}
-use Rattle.turn_defs.specs.declared.node.Node.TheVariants.{Replica}
-use Rattle.turn_defs.specs.declared.node.Input.{Input}
-use Rattle.turn_defs.specs.declared.node.Input.TheVariants.{Start, Own, Tick, Deliver}
-use Rattle.turn_defs.specs.Turns.{Out, idle}
-use Rattle.turn_defs.specs.Server.{is_next, ServerKept, ServerLive, ShardState, Proposal, queued, is_below_limit, may_propose, first_shard, accepted, is_current, claimed, owns, server_own, gets_promise, gets_accepted, gets_nack, from_replica, server_gets, server_turn}
+use Rattle.photon_model.proofs.Words.{Ballot, Batch, is_below, higher, value_for, Phase, is_new, is_most, nobody, with_promise, on_promise, with_acceptance, on_accepted, Promising, Accepting, Ended, IsGrant, Mem, set_at, replay, Setting, shard, shards, Packet, Claim, Promise, Nack, Accepted, Chosen, Place, Node, Replica, Input, Start, Own, Tick, Deliver, Out, idle, is_next, ServerKept, ServerLive, ShardState, Proposal, queued, is_below_limit, may_propose, first_shard, accepted, is_current, claimed, owns, server_own, gets_promise, gets_accepted, gets_nack, from_replica, server_gets, server_turn, option_both, at_set}
 use Rattle.photon_model.specs.Agreement.{Offer, Votes, offer, VotesOf, VotesAgree}
-use Rattle.list_words.proofs.Lists.{option_both, at_set}
 use Rattle.photon_model.specs.EveryRun.{IsBoundOk}
 
 abbrev pub BestBound : Setting → List ℕ → Option (Ballot × Batch) → Type 0

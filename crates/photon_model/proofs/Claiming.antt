@@ -2,27 +2,9 @@
 use Rattle.std.proofs.Common.{◌≡◌, ◌⊎◌, inl, inr, ⊎_elim, ℕ, Bool, true, false, cond, nat_lt, List, [], ◌∷◌, ◌++◌, length, Some, None, refl, sym, ap, ◌∙◌, subst}
 use Rattle.std.specs.Prelude.{Option, find}
 use Rattle.std.proofs.lemmas.Bool.{cond_both}
-use Rattle.registry_state.specs.declared.Insert.{Insert}
-use Rattle.log_records.specs.declared.records.ClickRec.{ClickRec as Click}
-use Rattle.log_records.specs.Log.{first}
-use Rattle.list_words.specs.Lists.{Mem, set_at}
-use Rattle.registry_state.specs.declared.Answer.{Answer}
-use Rattle.registry_state.specs.declared.Answer.TheVariants.{Granted, Duplicate, TooOld}
-use Rattle.turn_defs.specs.Setting.{Setting}
-use Rattle.turn_defs.specs.declared.packet.Packet.{Packet}
-use Rattle.turn_defs.specs.declared.packet.Packet.TheVariants.{Join, Insert as Claim, Reply}
-use Rattle.turn_defs.specs.declared.node.Node.{Node}
-use Rattle.turn_defs.specs.declared.node.Node.TheVariants.{Dispatcher, Server, Replica, Joiner}
-use Rattle.turn_defs.specs.declared.node.To.{To}
-use Rattle.turn_defs.specs.Sent.{Sent}
-use Rattle.turn_defs.specs.declared.node.Input.{Input}
-use Rattle.turn_defs.specs.declared.node.Input.TheVariants.{Own, Deliver}
-use Rattle.turn_defs.specs.Turns.{Out, idle}
-use Rattle.turn_defs.specs.Joiner.{JoinerKept, JoinerLive, Flight, insert_of, is_for, in_flight, landed, looks, joins, answers, replied, joiner_gets, joiner_turn, joiner_start}
+use Rattle.photon_model.proofs.Words.{Insert, Click, first, Mem, set_at, Answer, Granted, Duplicate, TooOld, Setting, Packet, Join, Claim, Reply, Node, Dispatcher, Server, Replica, Joiner, To, Sent, Input, Own, Deliver, Out, idle, JoinerKept, JoinerLive, Flight, insert_of, is_for, in_flight, landed, looks, joins, answers, replied, joiner_gets, joiner_turn, option_both, mem_left, mem_right, mem_split, at_set, some_same, none_some, Addressed}
 use Rattle.photon_model.specs.Runs.{Cell, World, Entry, Begin, End, Stop, Disks, begun, stopped, joiner_row, sends, after, world_after, May, IsRun, opening}
-use Rattle.list_words.proofs.Lists.{option_both, mem_left, mem_right, mem_split, at_set, some_same, none_some}
 use Rattle.photon_model.specs.Claims.{HasSent, ClaimsSent}
-use Rattle.turn_defs.specs.Nodes.{Addressed}
 
 -- a packet of a row is among the packets sent
 pub addressed_sent : (g : Setting) (from : Node) (as_ : List (To × Packet)) (ps : List (Node × Packet)) → Addressed g as_ ps → (a : To × Packet) → Mem a as_ → HasSent (sends from ps) a.1

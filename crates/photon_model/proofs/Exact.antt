@@ -9,24 +9,9 @@ use Rattle.std.specs.Cmp.{IsTotalOrder, nat_cmp_total}
 use Rattle.std.proofs.lemmas.Cmp.{on_total, then_total}
 use Rattle.std.proofs.lemmas.List.{nil_from_length}
 use Rattle.std.proofs.lemmas.Bool.{cond_both, cases_lt, ltb-true, ltb-false}
-use Rattle.event_id.specs.declared.id.EventId.{EventId}
-use Rattle.event_id.specs.EventId.{id_cmp}
-use Rattle.registry_state.specs.declared.Token.{Token}
-use Rattle.registry_state.specs.declared.Batch.{Batch}
-use Rattle.registry_state.specs.LookBack.{IsGranted, bound_of, bound_at, holder, first_insert}
-use Rattle.registry_state.proofs.LookingBack.{granted_means, holder_granted}
-use Rattle.list_words.specs.Lists.{Mem}
-use Rattle.list_words.proofs.Lists.{some_same, none_some, each_at}
+use Rattle.photon_model.proofs.Words.{EventId, id_cmp, Token, Batch, IsGranted, bound_of, bound_at, holder, first_insert, granted_means, holder_granted, Mem, some_same, none_some, each_at, Query, Click, ClickLine, first, J, M, X, U, PairRec, Setting, Checked, first_joiner, shard, shard_below}
 use Rattle.time_shards.specs.Shards.{IsTable}
-use Rattle.log_records.specs.declared.records.QueryRec.{QueryRec as Query}
-use Rattle.log_records.specs.declared.records.ClickRec.{ClickRec as Click}
-use Rattle.log_records.specs.Lines.{ClickLine}
-use Rattle.log_records.specs.Log.{first}
 use Rattle.log_records.specs.Report as logs
-use Rattle.log_records.specs.declared.report.ReportLine.TheVariants.{J, M, X, U}
-use Rattle.turn_defs.specs.declared.pair.PairRec.{PairRec}
-use Rattle.turn_defs.specs.Setting.{Setting, Checked, first_joiner, shard}
-use Rattle.turn_defs.proofs.ShardsBelow.{shard_below}
 use Rattle.photon_model.specs.Sound.{SoundStore, PairSound, IsWritten, known_of, values_of}
 use Rattle.photon_model.specs.Facts.{known}
 use Rattle.photon_model.specs.Report.{all_pairs, pair_of, line_by, line_of, unwritten_line}

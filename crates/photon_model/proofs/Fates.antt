@@ -2,30 +2,10 @@
 use Rattle.std.proofs.Common.{◌≡◌, ◌≢◌, ◌⊎◌, inl, inr, ⊎_elim, ℕ, Bool, true, false, cond, ◌==◌, nat_lt, List, [], ◌∷◌, ◌++◌, length, Some, None, refl, sym, ◌∙◌, subst, arith}
 use Rattle.std.specs.Prelude.{Option, find}
 use Rattle.std.proofs.lemmas.Bool.{cond_both, cond-true, eq-eqb}
-use Rattle.event_id.specs.declared.id.EventId.{EventId}
-use Rattle.registry_state.specs.declared.Token.{Token}
-use Rattle.registry_state.specs.declared.Insert.{Insert}
-use Rattle.log_records.specs.declared.records.ClickRec.{ClickRec as Click}
-use Rattle.log_records.specs.Log.{first}
-use Rattle.list_words.specs.Lists.{Mem, Begins, set_at}
-use Rattle.registry_state.specs.declared.Answer.{Answer}
-use Rattle.registry_state.specs.declared.Answer.TheVariants.{Granted, Duplicate, TooOld}
-use Rattle.registry_state.specs.LookBack.{IsGranted, Expired}
-use Rattle.turn_defs.specs.Setting.{Setting, Checked, IsJoiner}
-use Rattle.turn_defs.specs.declared.packet.Packet.{Packet}
-use Rattle.turn_defs.specs.declared.packet.Packet.TheVariants.{Join, Reply}
-use Rattle.turn_defs.specs.declared.node.Node.{Node}
-use Rattle.turn_defs.specs.declared.node.Node.TheVariants.{Joiner}
-use Rattle.turn_defs.specs.declared.pair.PairRec.{PairRec}
-use Rattle.turn_defs.specs.declared.node.Input.{Input}
-use Rattle.turn_defs.specs.declared.node.Input.TheVariants.{Deliver}
-use Rattle.turn_defs.specs.Turns.{Note, Out, idle, land}
-use Rattle.turn_defs.specs.Joiner.{JoinerKept, JoinerLive, Flight, land_joiner, insert_of, is_for, in_flight, landed, looks, joins, answers, replied, joiner_gets, joiner_turn}
+use Rattle.photon_model.proofs.Words.{EventId, Token, Insert, Click, first, Mem, Begins, set_at, Answer, Granted, Duplicate, TooOld, IsGranted, Expired, Setting, Checked, IsJoiner, Packet, Join, Reply, Node, Joiner, PairRec, Input, Deliver, Note, Out, idle, land, JoinerKept, JoinerLive, Flight, land_joiner, insert_of, is_for, in_flight, landed, looks, joins, answers, replied, joiner_gets, joiner_turn, option_both, mem_left, mem_right, mem_split, at_set, clash, each_at, bound_stays}
 use Rattle.photon_model.specs.Sound.{Known, values_of}
 use Rattle.photon_model.specs.Facts.{HoldsOf, HoldsOfReply, HoldsOfInput, IfOpen, known, WorldHolds}
 use Rattle.photon_model.specs.Runs.{Cell, World, Begin, End, begun, ended, joiner_row, after}
-use Rattle.list_words.proofs.Lists.{option_both, mem_left, mem_right, mem_split, at_set, clash, each_at}
-use Rattle.registry_state.proofs.LookingBack.{bound_stays}
 use Rattle.photon_model.specs.Keeping.{Grows, IsFlying, IsResolved, IsDrawing, JoinerKeeps}
 use Rattle.photon_model.specs.EveryRun.{decided_in}
 use Rattle.photon_model.proofs.Growth.{begins_self, written_lasts, granted_lasts}

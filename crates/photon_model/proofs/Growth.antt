@@ -1,33 +1,9 @@
 -- Facts that last where more is known: one lemma for each kind of fact.
 use Rattle.std.proofs.Common.{◌≡◌, ◌⊎◌, inl, inr, ⊎_elim, ℕ, ◌≤◌, Bool, true, false, List, [], ◌∷◌, ◌++◌, Some, None, refl, sym, ap, ◌∙◌, subst, arith}
 use Rattle.std.specs.Prelude.{Option, MatchBool, slice_get}
-use Rattle.event_id.specs.declared.id.EventId.{EventId}
-use Rattle.registry_state.specs.declared.Token.{Token}
-use Rattle.registry_state.specs.declared.Insert.{Insert}
-use Rattle.registry_state.specs.declared.Batch.{Batch}
-use Rattle.log_records.specs.Lines.{ClickLine}
-use Rattle.list_words.specs.Lists.{Mem, Each, Begins, has}
-use Rattle.registry_state.specs.declared.Answer.{Answer}
-use Rattle.registry_state.specs.declared.Answer.TheVariants.{Granted, Duplicate, TooOld}
-use Rattle.registry_state.specs.LookBack.{IsGranted}
-use Rattle.turn_defs.specs.Setting.{Setting}
-use Rattle.turn_defs.specs.declared.packet.Packet.{Packet}
-use Rattle.turn_defs.specs.declared.packet.Packet.TheVariants.{Joined, Insert as Claim, Reply, Promise, Accept, Chosen}
-use Rattle.turn_defs.specs.declared.packet.Outcome.{Outcome}
-use Rattle.turn_defs.specs.declared.packet.Outcome.TheVariants.{Written, Already, TooOld as Late, NoQuery, Busy}
-use Rattle.turn_defs.specs.declared.pair.PairRec.{PairRec}
-use Rattle.turn_defs.specs.Turns.{BallotNote}
-use Rattle.paxos_defs.specs.Notes.Note.{Promised, Accepted as Took}
-use Rattle.paxos_defs.specs.Attempts.{Phase}
-use Rattle.paxos_defs.specs.Attempts.Phase.{Promising, Accepting, Ended}
-use Rattle.ballot_core.specs.declared.Ballot.{Ballot}
-use Rattle.turn_defs.specs.Dispatcher.{DispatcherKept, DispatcherLive, Fresh}
-use Rattle.turn_defs.specs.Joiner.{JoinerKept, JoinerLive, Flight}
-use Rattle.turn_defs.specs.Server.{ServerLive, ShardState, Proposal}
+use Rattle.photon_model.proofs.Words.{EventId, Token, Insert, Batch, ClickLine, Mem, Each, Begins, has, Answer, Granted, Duplicate, TooOld, IsGranted, Setting, Packet, Joined, Claim, Reply, Promise, Accept, Chosen, Outcome, Written, Already, Late, NoQuery, Busy, PairRec, BallotNote, Promised, Took, Phase, Promising, Accepting, Ended, Ballot, DispatcherKept, DispatcherLive, Fresh, JoinerKept, JoinerLive, Flight, ServerLive, ShardState, Proposal, each_more, granted_stays, settled_stays, bound_stays, get_front}
 use Rattle.photon_model.specs.Sound.{Known, values_of, IsWritten, IsSettled, DispatcherSound, PairSound, JoinerSound, IsInsertOf, InsertsOf}
 use Rattle.photon_model.specs.Facts.{IsTooOld, HoldsOfOutcome, HoldsOfReply, HoldsOfBest, HoldsOfPhase, HoldsOf, Covers, IsFreshSound, DispatcherHolds, FlightHolds, JoinerHolds, HoldsOfProposal, ShardHolds, ServerHolds}
-use Rattle.list_words.proofs.Lists.{each_more}
-use Rattle.registry_state.proofs.LookingBack.{granted_stays, settled_stays, bound_stays, get_front}
 use Rattle.photon_model.specs.Keeping.{Grows}
 
 pub begins_self : {A : Type 0} (xs : List A) → Begins xs xs

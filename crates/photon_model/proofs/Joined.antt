@@ -1,11 +1,7 @@
 -- The worked run, entry by entry.
 use Rattle.std.proofs.Common.{◌≡◌, inl, inr, ⊎_elim, ℕ, zero, suc, ◌<◌, true, ◌++◌, refl, subst, arith, lit<, lit≤}
 use Rattle.std.proofs.lemmas.Bool.{cases_lt}
-use Rattle.turn_defs.specs.Setting.{IsJoiner}
-use Rattle.turn_defs.specs.Rows.{worked}
-use Rattle.turn_defs.specs.Dispatcher.{dispatcher_at_rest}
-use Rattle.turn_defs.specs.Joiner.{joiner_at_rest}
-use Rattle.turn_defs.specs.Server.{server_at_rest}
+use Rattle.photon_model.proofs.Words.{IsJoiner, worked, dispatcher_at_rest, joiner_at_rest, server_at_rest}
 use Rattle.photon_model.specs.Rest.{UpWith}
 use Rattle.photon_model.specs.Runs.{IsRun, world_after, opening}
 use Rattle.photon_model.specs.Stores.{empty_disks}

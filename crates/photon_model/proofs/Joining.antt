@@ -2,34 +2,9 @@
 use Rattle.std.proofs.Common.{◌≡◌, ◌≢◌, ◌⊎◌, inl, inr, ⊎_elim, ℕ, suc, ◌-◌, ◌^◌, ◌<◌, ◌≤◌, Bool, true, false, cond, ◌==◌, nat_lt, List, [], ◌∷◌, ◌++◌, length, map, Some, None, refl, sym, ap, ◌∙◌, subst, arith}
 use Rattle.std.specs.Prelude.{Option, find}
 use Rattle.std.proofs.lemmas.Bool.{cond_both, cond-true, eqb-true, eq-eqb, or_parts, and_parts, and_from}
-use Rattle.event_id.specs.declared.id.EventId.{EventId}
-use Rattle.registry_state.specs.declared.Token.{Token}
-use Rattle.registry_state.specs.declared.Insert.{Insert}
-use Rattle.event_id.specs.EventId.{is_same as same_id}
-use Rattle.registry_state.specs.Same.{same_token}
-use Rattle.log_records.specs.declared.records.QueryRec.{QueryRec as Query}
-use Rattle.log_records.specs.declared.records.ClickRec.{ClickRec as Click}
-use Rattle.log_records.specs.Lines.{ClickLine, at, first_click, NoConflict}
-use Rattle.log_records.specs.Log.{first}
-use Rattle.list_words.specs.Lists.{Mem, Each, EachPair, set_at}
-use Rattle.turn_defs.specs.Setting.{Setting, Checked, IsJoiner}
-use Rattle.registry_state.specs.declared.Answer.{Answer}
-use Rattle.registry_state.specs.declared.Answer.TheVariants.{Granted, Duplicate, TooOld}
-use Rattle.registry_state.specs.LookBack.{IsGranted}
-use Rattle.turn_defs.specs.declared.packet.Packet.{Packet}
-use Rattle.turn_defs.specs.declared.packet.Packet.TheVariants.{Join, Reply}
-use Rattle.turn_defs.specs.declared.packet.Outcome.{Outcome}
-use Rattle.turn_defs.specs.declared.packet.Outcome.TheVariants.{NoQuery, Busy}
-use Rattle.turn_defs.specs.declared.pair.PairRec.{PairRec}
-use Rattle.turn_defs.specs.declared.node.Input.{Input}
-use Rattle.turn_defs.specs.declared.node.Input.TheVariants.{Start, Own, Tick, Deliver}
-use Rattle.turn_defs.specs.Turns.{Note, Out, idle, land}
-use Rattle.turn_defs.specs.Joiner.{JoinerKept, JoinerLive, Flight, land_joiner, insert_of, is_for, in_flight, landed, to_dispatcher, claim, next_token, looks, joins, without_flight, answers, replied, joiner_gets, joiner_tick, joiner_turn, joiner_start}
+use Rattle.photon_model.proofs.Words.{EventId, Token, Insert, same_id, same_token, Query, Click, ClickLine, at, first_click, NoConflict, first, Mem, Each, EachPair, set_at, Setting, Checked, IsJoiner, Answer, Granted, Duplicate, TooOld, IsGranted, Packet, Join, Reply, Outcome, NoQuery, Busy, PairRec, Input, Start, Own, Tick, Deliver, Note, Out, idle, land, JoinerKept, JoinerLive, Flight, land_joiner, insert_of, is_for, in_flight, landed, to_dispatcher, claim, next_token, looks, joins, without_flight, answers, replied, joiner_gets, joiner_tick, joiner_turn, joiner_start, some_same, none_some, clash, option_both, mem_left, mem_right, each_at, each_from, each_more, each_append, pairs_push, at_mem, same_id-true, same_token-true, same_id-refl, same_token-refl, same_id-false}
 use Rattle.photon_model.specs.Sound.{Known, values_of, PairSound, JoinerSound, DrawnSound}
 use Rattle.photon_model.specs.Facts.{IsTooOld, HoldsOfOutcome, HoldsOfReply, HoldsOf, HoldsOfInput, FlightHolds, JoinerHolds}
-use Rattle.list_words.proofs.Lists.{some_same, none_some, clash, option_both, mem_left, mem_right, each_at, each_from, each_more, each_append, pairs_push}
-use Rattle.log_records.proofs.LineOrder.{at_mem}
-use Rattle.registry_state.proofs.Tests.{same_id-true, same_token-true, same_id-refl, same_token-refl, same_id-false}
 use Rattle.photon_model.specs.Keeping.{PacketsHold, Grows, extended, JoinerKeeps}
 use Rattle.photon_model.proofs.Growth.{begins_self, granted_lasts, late_lasts, joiner_kept_lasts, joiner_live_lasts, flight_lasts, pair_lasts}
 

@@ -1,22 +1,9 @@
 -- The list of the replicas' journals, and the notes that votes stand in.
 use Rattle.std.proofs.Common.{◌≡◌, ◌≢◌, inl, inr, ⊎_elim, ℕ, zero, suc, ◌+◌, ◌<◌, ◌≤◌, Bool, true, false, cond, List, [], ◌∷◌, ◌++◌, length, get_or, set, Some, None, refl, sym, ap, ◌∙◌, subst, arith}
 use Rattle.std.specs.Prelude.{slice_get}
-use Rattle.ballot_core.specs.declared.Ballot.{Ballot}
+use Rattle.photon_model.proofs.Words.{Ballot, Place, is_place, Vote, promise, acceptance, vote_at, votes_at, votes_in as votes, Has, Promised, Took as Accepted, HasAccepted, JournalsAgree, IsExact, agreed_one, noted, has_split, place_true, Batch, same_batch, same_batch-true, same_batch-refl, Mem, BallotNote, ReplicaKept}
 use Rattle.ballot_core.proofs.Meets.{some_member}
-use Rattle.paxos_defs.specs.declared.Place.{Place}
-use Rattle.paxos_defs.specs.Notes.{is_place, Vote, promise, acceptance, vote_at, votes_at, votes, Has}
-use Rattle.paxos_defs.specs.Notes.Note.{Promised, Accepted}
-use Rattle.paxos_defs.specs.Agreement.{HasAccepted, JournalsAgree}
-use Rattle.paxos_defs.specs.Decided.{IsExact}
-use Rattle.paxos_defs.proofs.Agreement.{agreed_one}
 use Rattle.paxos_defs.proofs.Decided.{decided_is}
-use Rattle.paxos_defs.proofs.Places.{noted, has_split, place_true}
-use Rattle.registry_state.specs.declared.Batch.{Batch}
-use Rattle.registry_state.specs.Same.{same_batch}
-use Rattle.registry_state.proofs.Tests.{same_batch-true, same_batch-refl}
-use Rattle.list_words.specs.Lists.{Mem}
-use Rattle.turn_defs.specs.Turns.{BallotNote}
-use Rattle.turn_defs.specs.Replica.{ReplicaKept}
 use Rattle.photon_model.specs.Journals.{values_from, journals, decided}
 
 -- ---- the values of a function as a list

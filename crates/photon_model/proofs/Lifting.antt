@@ -2,25 +2,10 @@
 use Rattle.std.proofs.Common.{◌≡◌, ◌≢◌, inl, inr, ⊎_elim, ℕ, ◌<◌, ◌≤◌, Bool, true, false, cond, ◌==◌, List, [], ◌∷◌, ◌++◌, Some, None, refl, sym, ap, ◌∙◌, subst, arith}
 use Rattle.std.specs.Prelude.{Option}
 use Rattle.std.proofs.lemmas.Bool.{cond_both, eq-eqb}
-use Rattle.registry_state.specs.declared.Insert.{Insert}
-use Rattle.list_words.specs.Lists.{Mem, Each, Begins, set_at}
-use Rattle.turn_defs.specs.Setting.{Setting, Checked, IsJoiner}
-use Rattle.turn_defs.specs.declared.packet.Packet.{Packet}
-use Rattle.turn_defs.specs.declared.node.Node.{Node}
-use Rattle.turn_defs.specs.declared.node.Node.TheVariants.{Dispatcher, Server, Replica, Joiner}
-use Rattle.turn_defs.specs.declared.node.To.{To}
-use Rattle.turn_defs.specs.Sent.{Sent}
-use Rattle.turn_defs.specs.declared.pair.PairRec.{PairRec}
-use Rattle.turn_defs.specs.declared.node.Input.{Input}
-use Rattle.turn_defs.specs.declared.node.Input.TheVariants.{Own, Deliver}
-use Rattle.turn_defs.specs.Dispatcher.{DispatcherKept, DispatcherLive}
-use Rattle.turn_defs.specs.Joiner.{JoinerKept, JoinerLive}
-use Rattle.turn_defs.specs.Server.{ServerKept, ServerLive}
-use Rattle.turn_defs.specs.Replica.{ReplicaKept}
+use Rattle.photon_model.proofs.Words.{Insert, Mem, Each, Begins, set_at, Setting, Checked, IsJoiner, Packet, Node, Dispatcher, Server, Replica, Joiner, To, Sent, PairRec, Input, Own, Deliver, DispatcherKept, DispatcherLive, JoinerKept, JoinerLive, ServerKept, ServerLive, ReplicaKept, mem_right, mem_split, each_at, at_set, at_set_if, Addressed}
 use Rattle.photon_model.specs.Sound.{Known, JoinerSound}
 use Rattle.photon_model.specs.Facts.{HoldsOf, HoldsOfInput, DispatcherHolds, JoinerHolds, ServerHolds, IfUp, IfOpen, known, DispatcherFacts, JoinerFacts, ServerFacts, ReplicaFacts, WorldHolds}
 use Rattle.photon_model.specs.Runs.{Cell, World, dispatcher_row, server_row, replica_row, joiner_row, sends, WasSent}
-use Rattle.list_words.proofs.Lists.{mem_right, mem_split, each_at, at_set, at_set_if}
 use Rattle.photon_model.specs.Keeping.{Grows, PacketsHold, extended, IsDrawing, DispatcherKeeps, JoinerKeeps, ServerKeeps, ReplicaKeeps, IsChosenNow}
 use Rattle.photon_model.specs.EveryRun.{decided_in}
 use Rattle.photon_model.proofs.Growth.{begins_self, packet_lasts, dispatcher_kept_lasts, dispatcher_live_lasts, joiner_kept_lasts, joiner_live_lasts, server_lasts, notes_last}
@@ -28,7 +13,6 @@ use Rattle.photon_model.proofs.Dispatching.{dispatcher_keeps, dispatcher_start_k
 use Rattle.photon_model.proofs.Joining.{joiner_keeps, joiner_start_keeps}
 use Rattle.photon_model.proofs.Serving.{server_keeps, server_start_keeps}
 use Rattle.photon_model.proofs.Replicating.{replica_keeps}
-use Rattle.turn_defs.specs.Nodes.{Addressed}
 
 -- packets of a row, as they were sent
 pub addressed_hold : (g : Setting) (n : Known) (from : Node) (as_ : List (To × Packet)) (ps : List (Node × Packet)) → Addressed g as_ ps → PacketsHold g n as_ → (x : Sent) → Mem x (sends from ps) → HoldsOf g n x.packet

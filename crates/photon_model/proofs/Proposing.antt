@@ -2,35 +2,7 @@
 use Rattle.std.proofs.Common.{◌≡◌, ◌⊎◌, inl, inr, ⊎_elim, ℕ, zero, suc, ◌<◌, ◌≤◌, max, Bool, true, false, cond, ◌||◌, ◌&&◌, ◌==◌, nat_lt, nat_le, List, [], ◌∷◌, ◌++◌, length, set, Some, None, refl, sym, ap, ◌∙◌, subst, arith}
 use Rattle.std.specs.Prelude.{Option, slice_get}
 use Rattle.std.proofs.lemmas.Bool.{cond_both, eqb-true, and_parts}
-use Rattle.ballot_core.specs.declared.Ballot.{Ballot}
-use Rattle.ballot_core.specs.Ballots.{is_same as same_ballot}
-use Rattle.ballot_core.proofs.Order.{same_true}
-use Rattle.paxos_defs.specs.declared.Place.{Place}
-use Rattle.paxos_defs.specs.Turns.{higher, value_for}
-use Rattle.paxos_defs.specs.Attempts.{Phase, is_new, is_most, nobody, with_promise, on_promise, with_acceptance, on_accepted}
-use Rattle.paxos_defs.specs.Attempts.Phase.{Promising, Accepting, Ended}
-use Rattle.paxos_defs.specs.Facts.{IsGrant, IsOffer, IsAnswered, IsUnheard, IsAsking, IsOffering}
-use Rattle.paxos_defs.specs.Agreement.{IsSafe, IsChosen}
-use Rattle.paxos_defs.specs.Notes.{votes as votes_in}
-use Rattle.paxos_defs.proofs.Facts.{asks, offers, asks_on, asked, offers_on, accepted as accepted_chosen, offer_sent, first_offer, learns_next}
-use Rattle.registry_state.specs.declared.Insert.{Insert}
-use Rattle.registry_state.specs.declared.Batch.{Batch}
-use Rattle.registry_state.specs.declared.Answer.{Answer}
-use Rattle.registry_state.specs.LookBack.{replay}
-use Rattle.registry_state.specs.Same.{same_batch}
-use Rattle.list_words.specs.Lists.{Mem, Each, Begins, set_at}
-use Rattle.list_words.proofs.Lists.{option_both, each_append, at_set, at_set_if}
-use Rattle.turn_defs.specs.Setting.{Setting, shard, shards}
-use Rattle.turn_defs.specs.declared.packet.Packet.{Packet}
-use Rattle.turn_defs.specs.declared.packet.Packet.TheVariants.{Insert as Claim, Reply, Prepare, Promise, Nack, Accept, Accepted, Chosen}
-use Rattle.turn_defs.specs.declared.node.Node.{Node}
-use Rattle.turn_defs.specs.declared.node.Node.TheVariants.{Server, Replica, Joiner}
-use Rattle.turn_defs.specs.declared.node.To.{To}
-use Rattle.turn_defs.specs.declared.node.To.TheVariants.{Only}
-use Rattle.turn_defs.specs.declared.node.Input.{Input}
-use Rattle.turn_defs.specs.declared.node.Input.TheVariants.{Start, Own, Tick, Deliver}
-use Rattle.turn_defs.specs.Turns.{Out, idle}
-use Rattle.turn_defs.specs.Server.{is_next, ServerKept, ServerLive, ShardState, Proposal, queued, to_from, to_replicas, is_below_limit, may_propose, first_shard, is_current, is_own_joiner, reply, reply_if, replies, with_shard, claimed, owns, server_own, promised, accepted, gets_promise, gets_accepted, gets_nack, gets_chosen, of_phase, again, all_again, server_tick, from_replica, server_gets, server_turn}
+use Rattle.photon_model.proofs.Words.{Ballot, is_same as same_ballot, same_true, Place, higher, value_for, Phase, is_new, is_most, nobody, with_promise, on_promise, with_acceptance, on_accepted, Promising, Accepting, Ended, IsGrant, IsOffer, IsAnswered, IsUnheard, IsAsking, IsOffering, IsSafe, IsChosen, votes_in, asks, offers, asks_on, asked, offers_on, accepted_chosen, offer_sent, first_offer, learns_next, Insert, Batch, Answer, replay, same_batch, Mem, Each, Begins, set_at, option_both, each_append, at_set, at_set_if, Setting, shard, shards, Packet, Claim, Reply, Prepare, Promise, Nack, Accept, Accepted, Chosen, Node, Server, Replica, Joiner, To, Only, Input, Start, Own, Tick, Deliver, Out, idle, is_next, ServerKept, ServerLive, ShardState, Proposal, queued, to_from, to_replicas, is_below_limit, may_propose, first_shard, is_current, is_own_joiner, reply, reply_if, replies, with_shard, claimed, owns, server_own, promised, accepted, gets_promise, gets_accepted, gets_nack, gets_chosen, of_phase, again, all_again, server_tick, from_replica, server_gets, server_turn}
 use Rattle.photon_model.specs.Journals.{decided}
 use Rattle.photon_model.specs.Agreement.{IsOwned, Offer, Votes, offer, Offered, VotesOf, VotesOfPhase, VotesOfProposal, next_place, VotesOfServer, VotesAgree}
 use Rattle.photon_model.specs.Sound.{Known}

@@ -2,23 +2,10 @@
 use Rattle.std.proofs.Common.{◌≡◌, inl, inr, ⊎_elim, ℕ, zero, suc, ◌<◌, ◌==◌, List, [], ◌∷◌, Some, refl, sym, ap, subst, arith, lit<, lit≤}
 use Rattle.std.specs.Prelude.{if◌then◌else◌}
 use Rattle.std.proofs.lemmas.Bool.{cond_both, true≢false}
-use Rattle.list_words.specs.Lists.{Mem}
-use Rattle.list_words.proofs.Lists.{some_same, none_some}
-use Rattle.event_id.specs.declared.id.EventId.{EventId}
-use Rattle.registry_state.specs.declared.Batch.{Batch}
-use Rattle.registry_state.specs.declared.Token.{Token}
-use Rattle.registry_state.specs.LookBack.{IsGranted, bound_of, holder}
-use Rattle.log_records.specs.declared.records.QueryRec.{QueryRec}
-use Rattle.turn_defs.specs.Sent.{Sent}
-use Rattle.turn_defs.specs.declared.node.Node.{Node}
-use Rattle.turn_defs.specs.declared.node.Node.TheVariants.{Dispatcher, Server, Replica, Joiner}
-use Rattle.turn_defs.specs.declared.packet.Packet.{Packet}
+use Rattle.photon_model.proofs.Words.{Mem, some_same, none_some, EventId, Batch, Token, IsGranted, bound_of, holder, Query as QueryRec, Sent, Node, Dispatcher, Server, Replica, Joiner, Packet, PairRec, ClickLine, worked, one_line, one_batch, token, insert}
 use Rattle.turn_defs.specs.declared.packet.Packet.TheVariants as packet
-use Rattle.turn_defs.specs.declared.pair.PairRec.{PairRec}
-use Rattle.log_records.specs.Lines.{ClickLine}
 use Rattle.log_records.specs.Rows.{one_click}
 use Rattle.paxos_defs.specs.Decided as paxos
-use Rattle.turn_defs.specs.Rows.{worked, one_line, one_batch, token, insert}
 use Rattle.photon_model.specs.Rows.{store, one_pair, only_bound, accepted_by}
 use Rattle.photon_model.specs.Journals.{journals, decided}
 use Rattle.photon_model.specs.Sound.{Known, known_of, accepted_inserts, IsWritten, IsSettled}

@@ -2,29 +2,9 @@
 use Rattle.std.proofs.Common.{◌≡◌, ℕ, cond, List, [], ◌∷◌, Some, None, refl, subst}
 use Rattle.std.specs.Prelude.{Option, ⊤}
 use Rattle.std.proofs.lemmas.Bool.{cond_both}
-use Rattle.ballot_core.specs.declared.Ballot.{Ballot}
-use Rattle.ballot_core.specs.Ballots.{is_below, is_same}
-use Rattle.paxos_defs.specs.declared.Place.{Place}
-use Rattle.paxos_defs.specs.Notes.{is_place, note_from, Vote, promise, acceptance, vote_at, votes_at, Cell, blank, cell_after, cell_from}
-use Rattle.paxos_defs.specs.Notes.Note.{Promised, Accepted as Took}
-use Rattle.paxos_defs.specs.Turns.{Prepared, Taken, prepare_under, on_prepare, is_accepted, vote_anew, accept_under, on_accept}
-use Rattle.paxos_defs.specs.Turns.Prepared.{Grant, Refuse}
-use Rattle.paxos_defs.specs.Turns.Taken.{Take, Decline}
-use Rattle.paxos_defs.proofs.Places.{place_true}
-use Rattle.registry_state.specs.declared.Batch.{Batch}
-use Rattle.registry_state.specs.Same.{same_batch}
-use Rattle.list_words.specs.Lists.{Each}
-use Rattle.turn_defs.specs.Setting.{Setting}
-use Rattle.turn_defs.specs.Turns.{BallotNote, idle}
-use Rattle.turn_defs.specs.declared.packet.Packet.{Packet}
-use Rattle.turn_defs.specs.declared.packet.Packet.TheVariants.{Prepare, Accept}
-use Rattle.turn_defs.specs.declared.node.Node.{Node}
-use Rattle.turn_defs.specs.declared.node.Input.{Input}
-use Rattle.turn_defs.specs.declared.node.Input.TheVariants.{Deliver}
-use Rattle.turn_defs.specs.Replica.{ReplicaKept, cell_at, note_at, says, prepared, taken, replica_gets, replica_turn}
+use Rattle.photon_model.proofs.Words.{Ballot, is_below, is_same, Place, is_place, note_from, Vote, promise, acceptance, vote_at, votes_at, Cell, blank, cell_after, cell_from, Promised, Took, Prepared, Taken, prepare_under, on_prepare, is_accepted, vote_anew, accept_under, on_accept, Grant, Refuse, Take, Decline, place_true, Batch, same_batch, Each, Setting, BallotNote, idle, Packet, Prepare, Accept, Node, Input, Deliver, ReplicaKept, cell_at, note_at, says, prepared, taken, replica_gets, replica_turn, each_append}
 use Rattle.photon_model.specs.Sound.{Known, InsertsOf}
 use Rattle.photon_model.specs.Facts.{HoldsOfBatch, HoldsOfBest, HoldsOf, HoldsOfInput}
-use Rattle.list_words.proofs.Lists.{each_append}
 use Rattle.photon_model.specs.Keeping.{ReplicaKeeps}
 
 module _ (g : Setting) (n : Known) where

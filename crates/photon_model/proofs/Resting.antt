@@ -2,14 +2,7 @@
 use Rattle.std.proofs.Common.{◌≡◌, ⊎_elim, ℕ, zero, suc, ◌+◌, ◌<◌, ◌≤◌, Bool, true, false, cond, List, [], ◌∷◌, Some, None, refl, sym, ap, ◌∙◌, subst, arith, lit<}
 use Rattle.std.specs.Prelude.{Option, nat_lt, is_none}
 use Rattle.std.proofs.lemmas.Bool.{cases_lt, ltb-false, true≢false}
-use Rattle.registry_state.specs.LookBack.{holder, bound_of}
-use Rattle.turn_defs.specs.Setting.{Setting, Checked, shards}
-use Rattle.turn_defs.specs.Turns.{is_empty}
-use Rattle.turn_defs.specs.Joiner.{JoinerLive, joiner_at_rest}
-use Rattle.turn_defs.specs.Server.{ServerLive, first_shard, server_at_rest}
-use Rattle.list_words.specs.Lists.{Mem}
-use Rattle.event_id.specs.declared.id.EventId.{EventId}
-use Rattle.registry_state.specs.declared.Token.{Token}
+use Rattle.photon_model.proofs.Words.{holder, bound_of, Setting, Checked, shards, is_empty, JoinerLive, joiner_at_rest, ServerLive, first_shard, server_at_rest, Mem, EventId, Token}
 use Rattle.photon_model.specs.Facts.{known}
 use Rattle.photon_model.specs.Sound.{SoundStore, accepted_inserts, values_of, IsWritten, IsDrained}
 use Rattle.photon_model.specs.Rest.{UpWith, IsAtRest}

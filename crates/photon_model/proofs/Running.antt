@@ -2,32 +2,11 @@
 use Rattle.std.proofs.Common.{◌≡◌, ◌≢◌, ◌⊎◌, inl, inr, ⊎_elim, ℕ, zero, suc, ◌+◌, ◌*◌, ◌<◌, ◌≤◌, Bool, true, false, ◌==◌, List, [], ◌∷◌, ◌++◌, Some, None, refl, sym, ap, ◌∙◌, subst, arith}
 use Rattle.std.specs.Prelude.{Option, slice_get}
 use Rattle.std.proofs.lemmas.Bool.{cases_Bool, cases_lt, true≢false, and_parts}
-use Rattle.event_id.specs.declared.id.EventId.{EventId}
-use Rattle.registry_state.specs.declared.Token.{Token}
-use Rattle.registry_state.specs.declared.Insert.{Insert}
-use Rattle.event_id.specs.EventId.{is_same as same_id}
-use Rattle.log_records.specs.declared.records.QueryRec.{QueryRec as Query}
-use Rattle.log_records.specs.Lines.{ClickLine, at, end_from, Follow}
-use Rattle.log_records.specs.Log.{first}
-use Rattle.list_words.specs.Lists.{Mem, Each, EachPair, has, set_at}
-use Rattle.registry_state.specs.LookBack.{IsGranted, Expired}
-use Rattle.turn_defs.specs.Setting.{Setting, first_joiner, Checked, IsJoiner, IsJoin}
-use Rattle.turn_defs.specs.declared.node.Node.TheVariants.{Dispatcher, Server, Replica, Joiner}
-use Rattle.turn_defs.specs.declared.pair.PairRec.{PairRec}
-use Rattle.turn_defs.specs.declared.node.Input.{Input}
-use Rattle.turn_defs.specs.Turns.{Note, land, is_empty}
-use Rattle.turn_defs.specs.Dispatcher.{DispatcherKept, DispatcherLive, land_dispatcher, dispatcher_at_rest}
+use Rattle.photon_model.proofs.Words.{EventId, Token, Insert, same_id, Query, ClickLine, at, end_from, Follow, first, Mem, Each, EachPair, has, set_at, IsGranted, Expired, Setting, first_joiner, Checked, IsJoiner, IsJoin, Dispatcher, Server, Replica, Joiner, PairRec, Input, Note, land, is_empty, DispatcherLive, land_dispatcher, dispatcher_at_rest, JoinerLive, land_joiner, land_server, land_replica, each_at, some_same, none_some, at_own, within_end, one_granted, same_id-true, same_id-false}
 use Rattle.photon_model.specs.Rest.{UpWith}
-use Rattle.turn_defs.specs.Joiner.{JoinerLive, land_joiner}
-use Rattle.turn_defs.specs.Server.{land_server}
-use Rattle.turn_defs.specs.Replica.{land_replica}
 use Rattle.photon_model.specs.Sound.{Known, values_of, IsWritten, IsMissing, IsDrained, DispatcherSound, PairSound, InsertsOf, Sound}
 use Rattle.photon_model.specs.Facts.{known, IfUp, DispatcherFacts, JoinerFacts, ServerFacts, ReplicaFacts, WorldHolds}
 use Rattle.photon_model.specs.Runs.{World, Entry, Begin, End, Stop, Disks, begun, ended, stopped, dispatcher_row, server_row, replica_row, joiner_row, sends, after, May, opening}
-use Rattle.list_words.proofs.Lists.{each_at, some_same, none_some}
-use Rattle.log_records.proofs.LineOrder.{at_own, within_end}
-use Rattle.registry_state.proofs.LookingBack.{one_granted}
-use Rattle.registry_state.proofs.Tests.{same_id-true, same_id-false}
 use Rattle.photon_model.specs.Keeping.{extended, PaxosGives}
 use Rattle.photon_model.specs.EveryRun.{NoJoinerStops}
 use Rattle.photon_model.proofs.Growth.{joiner_kept_lasts, joiner_live_lasts}

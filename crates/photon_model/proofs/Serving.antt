@@ -2,33 +2,9 @@
 use Rattle.std.proofs.Common.{◌≡◌, ℕ, zero, suc, true, ◌||◌, ◌&&◌, ◌==◌, nat_lt, nat_le, List, [], ◌∷◌, ◌++◌, length, take, set, Some, None, refl, sym, ap, ◌∙◌, subst, arith}
 use Rattle.std.specs.Prelude.{Option, slice_get}
 use Rattle.std.proofs.lemmas.Bool.{cond_both, eqb-true, and_parts}
-use Rattle.ballot_core.specs.declared.Ballot.{Ballot}
-use Rattle.registry_state.specs.declared.Insert.{Insert}
-use Rattle.registry_state.specs.declared.Batch.{Batch}
-use Rattle.ballot_core.specs.Ballots.{is_below}
-use Rattle.paxos_defs.specs.Turns.{higher, value_for}
-use Rattle.paxos_defs.specs.Attempts.{Phase, is_new, is_most, nobody, with_promise, on_promise, with_acceptance, on_accepted}
-use Rattle.paxos_defs.specs.Attempts.Phase.{Promising, Accepting, Ended}
-use Rattle.list_words.specs.Lists.{Mem, Each, Begins}
-use Rattle.registry_state.specs.declared.Answer.{Answer}
-use Rattle.registry_state.specs.declared.Answer.TheVariants.{Granted, Duplicate, TooOld}
-use Rattle.registry_state.specs.LookBack.{replay}
-use Rattle.turn_defs.specs.Setting.{Setting, shard, shards}
-use Rattle.turn_defs.specs.declared.packet.Packet.{Packet}
-use Rattle.turn_defs.specs.declared.packet.Packet.TheVariants.{Insert as Claim, Reply, Prepare, Promise, Nack, Accept, Accepted, Chosen}
-use Rattle.paxos_defs.specs.declared.Place.{Place}
-use Rattle.turn_defs.specs.declared.node.Node.{Node}
-use Rattle.turn_defs.specs.declared.node.Node.TheVariants.{Replica, Joiner}
-use Rattle.turn_defs.specs.declared.node.To.{To}
-use Rattle.turn_defs.specs.declared.node.To.TheVariants.{Only}
-use Rattle.turn_defs.specs.declared.node.Input.{Input}
-use Rattle.turn_defs.specs.declared.node.Input.TheVariants.{Start, Own, Tick, Deliver}
-use Rattle.turn_defs.specs.Turns.{idle}
-use Rattle.turn_defs.specs.Server.{is_next, ServerKept, ServerLive, ShardState, Proposal, queued, to_from, to_replicas, is_below_limit, may_propose, first_shard, is_current, is_own_joiner, reply, reply_if, replies, keep_if, unanswered, learns, with_shard, claimed, owns, server_own, promised, accepted, of_phase, gets_promise, gets_accepted, gets_nack, gets_chosen, again, all_again, server_tick, from_replica, server_gets, server_turn, server_start}
+use Rattle.photon_model.proofs.Words.{Ballot, Insert, Batch, is_below, higher, value_for, Phase, is_new, is_most, nobody, with_promise, on_promise, with_acceptance, on_accepted, Promising, Accepting, Ended, Mem, Each, Begins, Answer, Granted, Duplicate, TooOld, replay, Setting, shard, shards, Packet, Claim, Reply, Prepare, Promise, Nack, Accept, Accepted, Chosen, Place, Node, Replica, Joiner, To, Only, Input, Start, Own, Tick, Deliver, idle, is_next, ServerKept, ServerLive, ShardState, Proposal, queued, to_from, to_replicas, is_below_limit, may_propose, first_shard, is_current, is_own_joiner, reply, reply_if, replies, keep_if, unanswered, learns, with_shard, claimed, owns, server_own, promised, accepted, of_phase, gets_promise, gets_accepted, gets_nack, gets_chosen, again, all_again, server_tick, from_replica, server_gets, server_turn, server_start, some_same, none_some, option_both, each_append, at_set, Replays, replay_means, granted_stays, bound_stays}
 use Rattle.photon_model.specs.Sound.{Known, values_of, IsInsertOf}
 use Rattle.photon_model.specs.Facts.{HoldsOfReply, HoldsOfBatch, HoldsOfBest, HoldsOfPhase, HoldsOf, HoldsOfInput, HoldsOfProposal, ShardHolds, ServerHolds}
-use Rattle.list_words.proofs.Lists.{some_same, none_some, option_both, each_append, at_set}
-use Rattle.registry_state.proofs.LookingBack.{Replays, replay_means, granted_stays, bound_stays}
 use Rattle.photon_model.specs.Keeping.{PacketsHold, ServerKeeps, IsChosenNow}
 
 -- a list that begins another goes on with what stands there

@@ -1,16 +1,7 @@
 -- The report of a store names the missing ids, and no other.
 use Rattle.std.proofs.Common.{◌≡◌, inl, inr, ⊎_elim, ℕ, zero, suc, ◌+◌, ◌*◌, ◌<◌, ◌≤◌, Bool, true, false, cond, List, [], ◌∷◌, Some, None, refl, sym, ap, ◌∙◌, subst, arith}
 use Rattle.std.specs.Prelude.{Option, find, is_some, nat_lt}
-use Rattle.event_id.specs.declared.id.EventId.{EventId}
-use Rattle.event_id.specs.EventId.{is_same as same_id}
-use Rattle.registry_state.specs.declared.Token.{Token}
-use Rattle.registry_state.specs.LookBack.{holder, bound_of}
-use Rattle.registry_state.proofs.Tests.{same_id-true, same_id-false}
-use Rattle.list_words.specs.Lists.{Mem}
-use Rattle.list_words.proofs.Lists.{none_some, mem_left, mem_right, mem_split}
-use Rattle.log_records.specs.declared.report.ReportLine.TheVariants.{M, X, U}
-use Rattle.turn_defs.specs.declared.pair.PairRec.{PairRec}
-use Rattle.turn_defs.specs.Setting.{Setting, first_joiner}
+use Rattle.photon_model.proofs.Words.{EventId, same_id, Token, holder, bound_of, same_id-true, same_id-false, Mem, none_some, mem_left, mem_right, mem_split, M, X, U, PairRec, Setting, first_joiner}
 use Rattle.photon_model.specs.Sound.{IsWritten, IsMissing, known_of}
 use Rattle.photon_model.specs.Report.{pairs_from, all_pairs, decided_for, pair_of, line_by, line_of}
 use Rattle.photon_model.specs.Runs.{Disks}

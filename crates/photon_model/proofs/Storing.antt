@@ -2,27 +2,11 @@
 use Rattle.std.proofs.Common.{◌≡◌, inl, inr, ⊎_elim, ℕ, ◌≤◌, Bool, true, false, cond, List, [], ◌∷◌, ◌++◌, Some, refl, sym, ap, subst, arith}
 use Rattle.std.specs.Prelude.{Option, find}
 use Rattle.std.proofs.lemmas.Bool.{true≢false}
-use Rattle.registry_state.specs.declared.Insert.{Insert}
-use Rattle.log_records.specs.declared.records.QueryRec.{QueryRec as Query}
-use Rattle.log_records.specs.declared.records.ClickRec.{ClickRec as Click}
-use Rattle.log_records.specs.Lines.{ClickLine, end_from, Follow, IsBoundary}
-use Rattle.list_words.specs.Lists.{Mem, Begins, set_at}
-use Rattle.turn_defs.specs.Setting.{Setting, Checked, IsJoin}
-use Rattle.turn_defs.specs.declared.node.Node.TheVariants.{Replica, Joiner}
-use Rattle.turn_defs.specs.declared.pair.PairRec.{PairRec}
-use Rattle.turn_defs.specs.Turns.{BallotNote, Note, Output, Voted, land}
-use Rattle.paxos_defs.specs.declared.Place.{Place}
-use Rattle.paxos_defs.specs.Notes.{Vote, acceptance, votes_at, votes, Has}
-use Rattle.paxos_defs.specs.Notes.Note.{Promised, Accepted}
-use Rattle.paxos_defs.specs.Agreement.{NeverFall}
-use Rattle.registry_state.specs.declared.Batch.{Batch}
+use Rattle.photon_model.proofs.Words.{Insert, Query, Click, ClickLine, end_from, Follow, IsBoundary, Mem, Begins, set_at, Setting, Checked, IsJoin, Replica, Joiner, PairRec, BallotNote, Note, Output, Voted, land, Place, Vote, acceptance, votes_at, votes_in as votes, Has, Promised, Took as Accepted, NeverFall, Batch, JoinerKept, JoinerLive, land_joiner, ReplicaKept, land_replica, none_some, mem_left, mem_split, each_more, at_set}
 use Rattle.photon_model.specs.Journals.{journals}
 use Rattle.photon_model.proofs.Journals.{journal_beyond, votes_of}
-use Rattle.turn_defs.specs.Joiner.{JoinerKept, JoinerLive, land_joiner}
-use Rattle.turn_defs.specs.Replica.{ReplicaKept, land_replica}
 use Rattle.photon_model.specs.Sound.{Known, known_of, DispatcherSound, PairSound, DrawnSound, InsertsOf, Sound, SoundStore, accepted_inserts}
 use Rattle.photon_model.specs.Runs.{Cell, World, Entry, Begin, End, Stop, Disks, begun, after, world_after}
-use Rattle.list_words.proofs.Lists.{none_some, mem_left, mem_split, each_more, at_set}
 use Rattle.photon_model.specs.Topology.{Store, WholeSound}
 use Rattle.photon_model.specs.Stores.{empty_disks, ReadIsChecked, IsLonger}
 use Rattle.log_records.proofs.Places.{queries_begin, lines_begin, lines_follow}

@@ -2,16 +2,7 @@
 use Rattle.std.proofs.Common.{◌≡◌, ℕ, zero, suc, ◌*◌, ◌&&◌, true, not, List, [], ◌++◌, Some, None, ◌↔◌, refl, sym, ap, ◌∙◌}
 use Rattle.std.specs.Prelude.{Option, IsSome, is_some}
 use Rattle.std.specs.List.{flat_map}
-use Rattle.event_id.specs.declared.id.EventId.{EventId}
-use Rattle.list_words.proofs.Lists.{none_some}
-use Rattle.registry_state.specs.declared.Token.{Token}
-use Rattle.registry_state.specs.declared.Batch.{Batch}
-use Rattle.registry_state.specs.Same.{same_batch}
-use Rattle.registry_state.specs.LookBack.{holder}
-use Rattle.paxos_defs.specs.Decided.{decided}
-use Rattle.turn_defs.specs.declared.pair.PairRec.{PairRec}
-use Rattle.turn_defs.specs.Setting.{Setting, first_joiner, shard}
-use Rattle.turn_defs.specs.Turns.{BallotNote}
+use Rattle.photon_model.proofs.Words.{EventId, none_some, Token, Batch, same_batch, holder, decided, PairRec, Setting, first_joiner, shard, BallotNote}
 use Rattle.photon_model.specs.Journals.{values_from}
 use Rattle.photon_model.specs.Report as report
 use Rattle.photon_model.specs.Report.{pairs_from, decided_for, pair_of}

@@ -1,33 +1,9 @@
 -- Each row of a replica keeps the facts on ballots, and these facts last where more is written or sent.
 use Rattle.std.proofs.Common.{◌≡◌, ◌≢◌, ⊎_elim, ℕ, ◌<◌, ◌≤◌, Bool, true, false, List, [], ◌∷◌, ◌++◌, length, get_or, Some, None, refl, sym, ap, ◌∙◌, subst, arith}
 use Rattle.std.specs.Prelude.{Option, ⊤}
-use Rattle.ballot_core.specs.declared.Ballot.{Ballot}
-use Rattle.paxos_defs.specs.declared.Place.{Place}
-use Rattle.paxos_defs.specs.Notes.{is_place, note_of, Vote, acceptance, vote_at, votes_at, votes as votes_in, Has, cell_of}
-use Rattle.paxos_defs.specs.Agreement.{HasAccepted}
-use Rattle.paxos_defs.specs.Turns.{Prepared, Taken, on_prepare, on_accept}
-use Rattle.paxos_defs.specs.Turns.Prepared.{Grant, Refuse}
-use Rattle.paxos_defs.specs.Turns.Taken.{Take, Decline}
-use Rattle.paxos_defs.specs.Attempts.{Phase}
-use Rattle.paxos_defs.specs.Attempts.Phase.{Promising, Accepting, Ended}
-use Rattle.paxos_defs.specs.Facts.{IsOffer, IsUnheard, Writes}
-use Rattle.paxos_defs.proofs.Votes.{has_last}
+use Rattle.photon_model.proofs.Words.{Ballot, Place, is_place, note_of, Vote, acceptance, vote_at, votes_at, votes_in, Has, cell_of, HasAccepted, Prepared, Taken, on_prepare, on_accept, Grant, Refuse, Take, Decline, Phase, Promising, Accepting, Ended, IsOffer, IsUnheard, Writes, has_last, noted, has_split, place_true, vote_here, vote_elsewhere, votes_noted, votes_others, Suits, vote_suits, note_writes, note_agrees, grant_written, refusal_written, offer_written, answer_written, asking_written, offering_written, asking_sent, offering_sent, Batch, same_batch, Mem, Each, Packet, Prepare, Promise, Nack, Accept, Accepted, Node, Server, Replica, To, BallotNote, Note, Voted, Out, idle, ServerLive, Proposal, ReplicaKept, cell_at, note_at, prepared, taken, replica_gets, mem_right, mem_split}
 use Rattle.paxos_defs.proofs.Cells.{Knows, cell_knows}
-use Rattle.paxos_defs.proofs.Places.{noted, has_split, place_true, vote_here, vote_elsewhere, votes_noted, votes_others}
 use Rattle.paxos_defs.proofs.Turns.{after, PreparedHolds, IsPromiseVote, prepare_holds, TakenHolds, IsAcceptanceVote, accept_holds}
-use Rattle.paxos_defs.proofs.Facts.{Suits, vote_suits, note_writes, note_agrees, grant_written, refusal_written, offer_written, answer_written, asking_written, offering_written, asking_sent, offering_sent}
-use Rattle.registry_state.specs.declared.Batch.{Batch}
-use Rattle.registry_state.specs.Same.{same_batch}
-use Rattle.list_words.specs.Lists.{Mem, Each}
-use Rattle.turn_defs.specs.declared.packet.Packet.{Packet}
-use Rattle.turn_defs.specs.declared.packet.Packet.TheVariants.{Prepare, Promise, Nack, Accept, Accepted}
-use Rattle.turn_defs.specs.declared.node.Node.{Node}
-use Rattle.turn_defs.specs.declared.node.Node.TheVariants.{Server, Replica}
-use Rattle.turn_defs.specs.declared.node.To.{To}
-use Rattle.turn_defs.specs.Turns.{BallotNote, Note, Voted, Out, idle}
-use Rattle.turn_defs.specs.Server.{ServerLive, Proposal}
-use Rattle.turn_defs.specs.Replica.{ReplicaKept, cell_at, note_at, prepared, taken, replica_gets}
-use Rattle.list_words.proofs.Lists.{mem_right, mem_split}
 use Rattle.photon_model.specs.Agreement.{IsOwned, Offer, offer, Votes, Offered, PromisedBy, AcceptedBy, NackedBy, VotesOf, VotesOfPhase, VotesOfProposal, next_place, VotesOfServer, VotesAgree}
 
 -- ---- what a row is to keep

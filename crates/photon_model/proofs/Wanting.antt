@@ -2,12 +2,7 @@
 use Rattle.std.proofs.Common.{◌≡◌, ℕ, Bool, true, false, cond, ◌&&◌, List, [], ◌∷◌, Some, None, refl, sym, ◌∙◌, subst}
 use Rattle.std.specs.Prelude.{Option, is_some, not, ◌||◌}
 use Rattle.std.proofs.lemmas.Bool.{cond_both, or_parts, true≢false}
-use Rattle.log_records.specs.Lines.{at}
-use Rattle.turn_defs.specs.Setting.{Setting, shards}
-use Rattle.turn_defs.specs.Turns.{idle, is_empty}
-use Rattle.turn_defs.specs.declared.node.Input.TheVariants.{Own}
-use Rattle.turn_defs.specs.Dispatcher.{DispatcherKept, DispatcherLive, first_done, has_room, with_room, takes, advances, dispatcher_turn, dispatcher_wants}
-use Rattle.turn_defs.specs.Server.{ServerKept, ServerLive, is_below_limit, may_propose, first_shard, owns, server_turn, server_wants}
+use Rattle.photon_model.proofs.Words.{at, Setting, shards, idle, is_empty, Own, DispatcherKept, DispatcherLive, first_done, has_room, with_room, takes, advances, dispatcher_turn, dispatcher_wants, ServerKept, ServerLive, is_below_limit, may_propose, first_shard, owns, server_turn, server_wants}
 use Rattle.photon_model.specs.Wanting.{OwnIsWanted}
 
 -- of a false choice that begins with true the rest is false

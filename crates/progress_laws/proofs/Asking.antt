@@ -2,23 +2,7 @@
 use Rattle.std.proofs.Common.{◌≡◌, ◌⊎◌, inl, inr, ⊎_elim, ℕ, zero, suc, ◌+◌, ◌<◌, ◌≤◌, Bool, true, cond, ◌==◌, List, length, set, Some, None, refl, sym, ap, ◌∙◌, subst, arith}
 use Rattle.std.specs.Prelude.{Option}
 use Rattle.std.proofs.lemmas.Bool.{cond_both, cond-true, eq-eqb, lt-ltb, and_from, cases_lt}
-use Rattle.ballot_core.specs.declared.Ballot.{Ballot}
-use Rattle.registry_state.specs.declared.Batch.{Batch}
-use Rattle.paxos_defs.specs.declared.Place.{Place}
-use Rattle.paxos_defs.specs.Turns.{higher, value_for}
-use Rattle.paxos_defs.specs.Attempts.{Phase, is_new, is_most, nobody, with_promise, on_promise, with_acceptance, on_accepted}
-use Rattle.paxos_defs.specs.Attempts.Phase.{Promising, Accepting, Ended}
-use Rattle.list_words.specs.Lists.{Mem, set_at}
-use Rattle.list_words.proofs.Lists.{option_both, none_some, some_same, mem_left, mem_right}
-use Rattle.turn_defs.specs.Setting.{Setting, shards}
-use Rattle.turn_defs.specs.Turns.{Out, idle}
-use Rattle.turn_defs.specs.declared.packet.Packet.{Packet}
-use Rattle.turn_defs.specs.declared.packet.Packet.TheVariants.{Prepare, Nack, Accept}
-use Rattle.turn_defs.specs.declared.node.Node.TheVariants.{Replica}
-use Rattle.turn_defs.specs.declared.node.To.{To}
-use Rattle.turn_defs.specs.declared.node.To.TheVariants.{Only}
-use Rattle.turn_defs.specs.declared.node.Input.TheVariants.{Own, Tick, Deliver}
-use Rattle.turn_defs.specs.Server.{ServerKept, ServerLive, ShardState, Proposal, is_current, learns, promised, accepted, of_phase, again, all_again, gets_promise, gets_accepted, gets_nack, server_turn}
+use Rattle.photon_model.proofs.Words.{Ballot, Batch, Place, higher, value_for, Phase, is_new, is_most, nobody, with_promise, on_promise, with_acceptance, on_accepted, Promising, Accepting, Ended, Mem, set_at, option_both, none_some, some_same, mem_left, mem_right, Setting, shards, Out, idle, Packet, Prepare, Nack, Accept, Replica, To, Only, Own, Tick, Deliver, ServerKept, ServerLive, ShardState, Proposal, is_current, learns, promised, accepted, of_phase, again, all_again, gets_promise, gets_accepted, gets_nack, server_turn}
 use Rattle.progress_laws.specs.Moves.{next_of}
 use Rattle.progress_laws.proofs.Phases.{IsOpen, IsAnswer, HasMark, question, PhaseGoes, promises_no_more, marked_now, was_marked, same_self, promise_goes, promise_open, mem_to}
 use Rattle.progress_laws.proofs.Turning.{AsksAll, IsKept, promised_turns}

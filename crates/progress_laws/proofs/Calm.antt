@@ -1,20 +1,7 @@
 -- One entry of an interval in which nothing is done; what is left to do in a server's shards stays so.
 use Rattle.std.proofs.Common.{◌≡◌, ◌⊎◌, inl, inr, ⊎_elim, ℕ, ◌≤◌, Bool, false, List, ◌∷◌, Some, refl, sym, ap, ◌∙◌, subst, []}
 use Rattle.std.specs.Prelude.{Option}
-use Rattle.list_words.specs.Lists.{Mem}
-use Rattle.turn_defs.specs.Setting.{Setting}
-use Rattle.turn_defs.specs.Nodes.{IsTo, Addressed}
-use Rattle.turn_defs.specs.Turns.{Note, land}
-use Rattle.turn_defs.specs.Replica.{land_replica}
-use Rattle.turn_defs.specs.declared.packet.Packet.{Packet}
-use Rattle.turn_defs.specs.declared.node.Node.{Node}
-use Rattle.turn_defs.specs.declared.node.To.{To}
-use Rattle.turn_defs.specs.declared.node.To.TheVariants.{Only}
-use Rattle.turn_defs.specs.declared.node.Input.{Input}
-use Rattle.turn_defs.specs.declared.node.Input.TheVariants.{Tick, Deliver}
-use Rattle.turn_defs.specs.declared.node.Node.TheVariants.{Server, Replica, Joiner}
-use Rattle.turn_defs.specs.Sent.{Sent}
-use Rattle.turn_defs.specs.Server.{ServerLive, server_start, server_turn}
+use Rattle.photon_model.proofs.Words.{Mem, Setting, IsTo, Addressed, Note, land, land_replica, Packet, Node, To, Only, Input, Tick, Deliver, Server, Replica, Joiner, Sent, ServerLive, server_start, server_turn}
 use Rattle.photon_model.specs.Runs.{World, Entry, End, row, server_row, replica_row, after, world_after, May, IsRun}
 use Rattle.photon_model.specs.Rest.{BothUp, JoinerWorks, ServerWorks, IsWork, is_out, Carries}
 use Rattle.progress_laws.specs.Idle.{HasNumbers, IsWithinLimits, NoWork, IsIdle}

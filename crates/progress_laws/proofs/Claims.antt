@@ -3,22 +3,7 @@ use Rattle.std.proofs.Common.{◌≡◌, inl, inr, ⊎_elim, ℕ, ◌+◌, ◌*�
 use Rattle.std.specs.Prelude.{Option, not, ◌⊎◌}
 use Rattle.std.proofs.lemmas.Bool.{cond_both, and_from, le-leb, lt-ltb, eq-eqb}
 use Rattle.time_shards.specs.Shards.{IsTable}
-use Rattle.registry_state.specs.declared.Answer.{Answer}
-use Rattle.registry_state.specs.declared.Insert.{Insert}
-use Rattle.list_words.specs.Lists.{Mem}
-use Rattle.list_words.proofs.Lists.{some_same}
-use Rattle.turn_defs.specs.Setting.{Setting, IsJoiner, first_joiner, site_of_joiner, shard}
-use Rattle.turn_defs.specs.Turns.{Out, is_empty}
-use Rattle.turn_defs.proofs.ShardsBelow.{shard_below}
-use Rattle.turn_defs.specs.declared.packet.Packet.TheVariants.{Insert as Claim, Reply}
-use Rattle.turn_defs.specs.declared.node.Node.{Node}
-use Rattle.turn_defs.specs.declared.node.Node.TheVariants.{Server, Joiner}
-use Rattle.turn_defs.specs.declared.node.To.TheVariants.{Only}
-use Rattle.turn_defs.specs.declared.node.Input.{Input}
-use Rattle.turn_defs.specs.declared.node.Input.TheVariants.{Tick, Deliver}
-use Rattle.turn_defs.specs.Sent.{Sent}
-use Rattle.turn_defs.specs.Joiner.{JoinerLive, Flight, insert_of, joiner_start, joiner_turn, joiner_unfinished}
-use Rattle.turn_defs.specs.Server.{ServerLive, is_own_joiner, server_start, server_turn}
+use Rattle.photon_model.proofs.Words.{Answer, Insert, Mem, some_same, Setting, IsJoiner, first_joiner, site_of_joiner, shard, Out, is_empty, shard_below, Claim, Reply, Node, Server, Joiner, Only, Input, Tick, Deliver, Sent, JoinerLive, Flight, insert_of, joiner_start, joiner_turn, joiner_unfinished, ServerLive, is_own_joiner, server_start, server_turn}
 use Rattle.photon_model.specs.Runs.{World, Entry, row, server_row, joiner_row, after, world_after}
 use Rattle.photon_model.specs.Rest.{UpWith, JoinerWorks, IsQuiet, if_up, is_unfinished}
 use Rattle.progress_laws.specs.Idle.{IsIdle}

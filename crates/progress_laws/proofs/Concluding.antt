@@ -2,22 +2,8 @@
 use Rattle.std.proofs.Common.{◌≡◌, ◌⊎◌, inl, inr, ⊎_elim, ℕ, zero, suc, ◌+◌, ◌*◌, ◌<◌, ◌≤◌, Bool, true, false, not, ◌||◌, List, [], length, Some, None, refl, sym, ap, ◌∙◌, subst, arith}
 use Rattle.std.specs.Prelude.{Option}
 use Rattle.std.proofs.lemmas.Bool.{true≢false, cases_Bool, cases_lt, or_left, or_right}
-use Rattle.ballot_core.specs.declared.Ballot.{Ballot}
-use Rattle.ballot_core.specs.Ballots.{IsUpTo}
-use Rattle.ballot_core.specs.Majority.{Majority}
-use Rattle.ballot_core.proofs.Order.{upto_trans, not_above}
+use Rattle.photon_model.proofs.Words.{Ballot, IsUpTo, Majority, upto_trans, not_above, Batch, Place, none_some, some_same, Setting, IsJoiner, first_joiner, shards, site_of_joiner, IsNode, Node, Dispatcher, Server, Replica, Joiner, Deliver, DispatcherLive, dispatcher_at_rest, JoinerLive, joiner_at_rest, ServerLive, ShardState, is_free, server_at_rest}
 use Rattle.time_shards.specs.Shards.{IsTable}
-use Rattle.registry_state.specs.declared.Batch.{Batch}
-use Rattle.paxos_defs.specs.declared.Place.{Place}
-use Rattle.list_words.proofs.Lists.{none_some, some_same}
-use Rattle.turn_defs.specs.Setting.{Setting, IsJoiner, first_joiner, shards, site_of_joiner}
-use Rattle.turn_defs.specs.Nodes.{IsNode}
-use Rattle.turn_defs.specs.declared.node.Node.{Node}
-use Rattle.turn_defs.specs.declared.node.Node.TheVariants.{Dispatcher, Server, Replica, Joiner}
-use Rattle.turn_defs.specs.declared.node.Input.TheVariants.{Deliver}
-use Rattle.turn_defs.specs.Dispatcher.{DispatcherLive, dispatcher_at_rest}
-use Rattle.turn_defs.specs.Joiner.{JoinerLive, joiner_at_rest}
-use Rattle.turn_defs.specs.Server.{ServerLive, ShardState, is_free, server_at_rest}
 use Rattle.photon_model.specs.EveryRun.{AllFactsHold}
 use Rattle.photon_model.specs.Runs.{World, Entry, Disks, world_after, opening}
 use Rattle.photon_model.specs.Rest.{UpWith, IsAtRest, IsQuiet}

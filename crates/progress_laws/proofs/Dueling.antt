@@ -5,26 +5,7 @@ use Rattle.std.proofs.lemmas.Cmp.{ranked}
 use Rattle.std.specs.Ordering.{nat_cmp, ordering_then, MatchOrdering}
 use Rattle.std.specs.declared.cmp.Ordering.{Ordering}
 use Rattle.std.specs.declared.cmp.Ordering.TheVariants.{Less, Equal, Greater}
-use Rattle.ballot_core.specs.declared.Ballot.{Ballot}
-use Rattle.ballot_core.specs.Ballots.{IsBelow, IsUpTo}
-use Rattle.ballot_core.proofs.Order.{not_above}
-use Rattle.registry_state.specs.declared.Batch.{Batch}
-use Rattle.paxos_defs.specs.declared.Place.{Place}
-use Rattle.list_words.specs.Lists.{Each}
-use Rattle.list_words.proofs.Lists.{none_some, some_same}
-use Rattle.turn_defs.specs.Setting.{Setting}
-use Rattle.turn_defs.specs.Nodes.{IsNode}
-use Rattle.turn_defs.specs.Sent.{Sent}
-use Rattle.turn_defs.specs.Turns.{Out, land}
-use Rattle.turn_defs.specs.declared.packet.Packet.{Packet}
-use Rattle.turn_defs.specs.declared.packet.Packet.TheVariants.{Prepare, Accept, Nack}
-use Rattle.turn_defs.specs.declared.node.Node.{Node}
-use Rattle.turn_defs.specs.declared.node.Node.TheVariants.{Dispatcher, Server, Replica, Joiner}
-use Rattle.turn_defs.specs.declared.node.To.{To}
-use Rattle.turn_defs.specs.declared.node.Input.{Input}
-use Rattle.turn_defs.specs.declared.node.Input.TheVariants.{Tick, Deliver}
-use Rattle.turn_defs.specs.Server.{ServerLive, server_turn}
-use Rattle.turn_defs.specs.Replica.{ReplicaKept, cell_at, land_replica, replica_turn}
+use Rattle.photon_model.proofs.Words.{Ballot, IsBelow, IsUpTo, not_above, Batch, Place, Each, none_some, some_same, Setting, IsNode, Sent, Out, land, Packet, Prepare, Accept, Nack, Node, Dispatcher, Server, Replica, Joiner, To, Input, Tick, Deliver, ServerLive, server_turn, ReplicaKept, cell_at, land_replica, replica_turn}
 use Rattle.photon_model.specs.Runs.{World, Entry, End, dispatcher_row, server_row, replica_row, joiner_row, after, May}
 use Rattle.photon_model.proofs.Agreeing.{IsPlain, dispatcher_row_plain, joiner_row_plain}
 use Rattle.progress_laws.specs.Moves.{next_of, promise_at}

@@ -2,15 +2,7 @@
 use Rattle.std.proofs.Common.{◌≡◌, ◌⊎◌, inl, inr, ℕ, Bool, true, false, cond, ◌==◌, List, Some, None, refl, sym, ap, ◌∙◌, subst}
 use Rattle.std.specs.Prelude.{Option}
 use Rattle.std.proofs.lemmas.Bool.{eqb-true, cond-true, eq-eqb}
-use Rattle.list_words.specs.Lists.{set_at}
-use Rattle.turn_defs.specs.Setting.{Setting}
-use Rattle.turn_defs.specs.declared.packet.Packet.{Packet}
-use Rattle.turn_defs.specs.declared.node.Node.{Node}
-use Rattle.turn_defs.specs.declared.node.Node.TheVariants.{Dispatcher, Server, Replica, Joiner}
-use Rattle.turn_defs.specs.declared.node.Input.{Input}
-use Rattle.turn_defs.specs.declared.node.Input.TheVariants.{Own}
-use Rattle.turn_defs.specs.Turns.{Note, Out, idle, land}
-use Rattle.turn_defs.specs.Replica.{ReplicaKept, land_replica, replica_start, replica_turn}
+use Rattle.photon_model.proofs.Words.{set_at, Setting, Packet, Node, Dispatcher, Server, Replica, Joiner, Input, Own, Note, Out, idle, land, ReplicaKept, land_replica, replica_start, replica_turn}
 use Rattle.photon_model.specs.Runs.{World, Entry, Begin, End, Stop, row, begun, dispatcher_row, server_row, replica_row, joiner_row, dispatcher_ended, server_ended, replica_ended, joiner_ended, after, Cell, May}
 use Rattle.photon_model.specs.Rest.{BothUp}
 use Rattle.progress_laws.proofs.Transit.{opened_at, EndsTurn, NotStopped}

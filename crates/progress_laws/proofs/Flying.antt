@@ -2,24 +2,7 @@
 use Rattle.std.proofs.Common.{◌≡◌, ◌⊎◌, inl, inr, ⊎_elim, ℕ, Bool, true, false, cond, nat_lt, List, ◌∷◌, length, map, Some, None, refl, sym, ap, ◌∙◌, []}
 use Rattle.std.specs.Prelude.{find}
 use Rattle.std.proofs.lemmas.Bool.{cond_both, true≢false, and_from}
-use Rattle.registry_state.specs.declared.Insert.{Insert}
-use Rattle.registry_state.proofs.Tests.{same_id-refl, same_token-refl}
-use Rattle.registry_state.specs.declared.Answer.{Answer}
-use Rattle.registry_state.specs.declared.Answer.TheVariants.{Granted, Duplicate, TooOld}
-use Rattle.log_records.specs.declared.records.ClickRec.{ClickRec as Click}
-use Rattle.log_records.specs.Log.{first}
-use Rattle.list_words.specs.Lists.{Mem}
-use Rattle.list_words.proofs.Lists.{option_both, mem_left, mem_split, none_some}
-use Rattle.turn_defs.specs.Setting.{Setting, site_of_joiner}
-use Rattle.turn_defs.specs.declared.packet.Packet.{Packet}
-use Rattle.turn_defs.specs.declared.packet.Packet.TheVariants.{Join, Insert as Claim, Reply}
-use Rattle.turn_defs.specs.declared.node.Node.{Node}
-use Rattle.turn_defs.specs.declared.node.Node.TheVariants.{Server}
-use Rattle.turn_defs.specs.declared.node.To.TheVariants.{Only}
-use Rattle.turn_defs.specs.declared.node.Input.{Input}
-use Rattle.turn_defs.specs.declared.node.Input.TheVariants.{Start, Own, Tick, Deliver}
-use Rattle.turn_defs.specs.Turns.{Out, idle}
-use Rattle.turn_defs.specs.Joiner.{JoinerKept, JoinerLive, Flight, insert_of, is_for, in_flight, landed, without_flight, looks, joins, answers, replied, joiner_gets, joiner_turn}
+use Rattle.photon_model.proofs.Words.{Insert, same_id-refl, same_token-refl, Answer, Granted, Duplicate, TooOld, Click, first, Mem, option_both, mem_left, mem_split, none_some, Setting, site_of_joiner, Packet, Join, Claim, Reply, Node, Server, Only, Input, Start, Own, Tick, Deliver, Out, idle, JoinerKept, JoinerLive, Flight, insert_of, is_for, in_flight, landed, without_flight, looks, joins, answers, replied, joiner_gets, joiner_turn}
 use Rattle.photon_model.specs.Rest.{JoinerWorks}
 
 pub is_own : (f : Flight) → is_for (insert_of f) f ≡ true

@@ -2,16 +2,7 @@
 use Rattle.std.proofs.Common.{◌≡◌, ◌⊎◌, inl, inr, ⊎_elim, ℕ, zero, suc, ◌<◌, ◌≤◌, Bool, true, false, ◌==◌, length, Some, None, refl, sym, ap, ◌∙◌, subst, arith, lit<}
 use Rattle.std.specs.Prelude.{Option}
 use Rattle.std.proofs.lemmas.Bool.{eqb-true, eq-eqb, true≢false}
-use Rattle.ballot_core.specs.declared.Ballot.{Ballot}
-use Rattle.ballot_core.specs.Ballots.{IsBelow, IsUpTo}
-use Rattle.ballot_core.proofs.Order.{compared, upto_trans}
-use Rattle.paxos_defs.specs.declared.Place.{Place}
-use Rattle.list_words.proofs.Lists.{none_some, some_same}
-use Rattle.turn_defs.specs.Setting.{Setting}
-use Rattle.turn_defs.specs.declared.packet.Packet.{Packet}
-use Rattle.turn_defs.specs.declared.packet.Packet.TheVariants.{Prepare, Accept, Nack}
-use Rattle.turn_defs.specs.declared.node.Node.{Node}
-use Rattle.turn_defs.specs.Server.{ServerLive, ShardState}
+use Rattle.photon_model.proofs.Words.{Ballot, IsBelow, IsUpTo, compared, upto_trans, Place, none_some, some_same, Setting, Packet, Prepare, Accept, Nack, Node, ServerLive, ShardState}
 use Rattle.photon_model.specs.Runs.{World}
 use Rattle.photon_model.specs.Rest.{is_out}
 use Rattle.photon_model.proofs.Agreeing.{IsPlain}

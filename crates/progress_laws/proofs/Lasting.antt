@@ -1,14 +1,7 @@
 -- What each turn of a server keeps of its shards holds after every run.
 use Rattle.std.proofs.Common.{◌≡◌, inl, inr, ⊎_elim, ℕ, true, List, [], ◌∷◌, Some, None, sym, ap, ◌∙◌}
 use Rattle.std.specs.Prelude.{Option}
-use Rattle.ballot_core.specs.declared.Ballot.{Ballot}
-use Rattle.list_words.specs.Lists.{set_at}
-use Rattle.list_words.proofs.Lists.{at_set, none_some}
-use Rattle.turn_defs.specs.Setting.{Setting}
-use Rattle.turn_defs.specs.Turns.{Out}
-use Rattle.turn_defs.specs.declared.node.Node.TheVariants.{Server}
-use Rattle.turn_defs.specs.declared.node.Input.{Input}
-use Rattle.turn_defs.specs.Server.{ServerKept, ServerLive, ShardState, land_server, empty_shard, server_start, server_turn}
+use Rattle.photon_model.proofs.Words.{Ballot, set_at, at_set, none_some, Setting, Out, Server, Input, ServerKept, ServerLive, ShardState, land_server, empty_shard, server_start, server_turn}
 use Rattle.photon_model.specs.Facts.{IfUp}
 use Rattle.photon_model.specs.Runs.{Cell, World, Entry, Begin, End, Stop, Disks, begun, stopped, row, server_row, server_ended, after, world_after, opening}
 use Rattle.progress_laws.specs.Moves.{is_left}

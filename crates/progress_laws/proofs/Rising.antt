@@ -2,26 +2,7 @@
 use Rattle.std.proofs.Common.{◌≡◌, ◌⊎◌, inl, inr, Bool, true, false, cond, ◌∷◌, ◌++◌, Some, None, refl, ap, ◌∙◌, subst, []}
 use Rattle.std.specs.Prelude.{Option}
 use Rattle.std.proofs.lemmas.Bool.{cond_both, cond-true, cond-false}
-use Rattle.ballot_core.specs.declared.Ballot.{Ballot}
-use Rattle.ballot_core.specs.Ballots.{IsBelow, IsUpTo, is_below, is_same}
-use Rattle.ballot_core.proofs.Order.{below_true, below_false}
-use Rattle.registry_state.specs.declared.Batch.{Batch}
-use Rattle.registry_state.specs.Same.{same_batch}
-use Rattle.paxos_defs.specs.declared.Place.{Place}
-use Rattle.paxos_defs.specs.Notes.{is_place, Vote, promise, acceptance, Cell, cell_of, cell_after, votes_at, note_of}
-use Rattle.paxos_defs.specs.Turns.{Prepared, Taken, prepare_under, on_prepare, is_accepted, vote_anew, accept_under, on_accept}
-use Rattle.paxos_defs.specs.Turns.Prepared.{Grant, Refuse}
-use Rattle.paxos_defs.specs.Turns.Taken.{Take, Decline}
-use Rattle.paxos_defs.proofs.Places.{place_true, cell_noted}
-use Rattle.list_words.specs.Lists.{Each}
-use Rattle.turn_defs.specs.Turns.{land}
-use Rattle.turn_defs.specs.declared.packet.Packet.{Packet}
-use Rattle.turn_defs.specs.declared.packet.Packet.TheVariants.{Prepare, Nack, Accept}
-use Rattle.turn_defs.specs.declared.node.Node.{Node}
-use Rattle.turn_defs.specs.declared.node.To.{To}
-use Rattle.turn_defs.specs.declared.node.Input.{Input}
-use Rattle.turn_defs.specs.declared.node.Input.TheVariants.{Deliver}
-use Rattle.turn_defs.specs.Replica.{ReplicaKept, cell_at, note_at, land_replica, prepared, taken, replica_turn}
+use Rattle.photon_model.proofs.Words.{Ballot, IsBelow, IsUpTo, is_below, is_same, below_true, below_false, Batch, same_batch, Place, is_place, Vote, promise, acceptance, Cell, cell_of, cell_after, votes_at, note_of, Prepared, Taken, prepare_under, on_prepare, is_accepted, vote_anew, accept_under, on_accept, Grant, Refuse, Take, Decline, place_true, cell_noted, Each, land, Packet, Prepare, Nack, Accept, Node, To, Input, Deliver, ReplicaKept, cell_at, note_at, land_replica, prepared, taken, replica_turn}
 
 -- the input asks at the place with the ballot
 abbrev pub AsksAt : Input → Place → Ballot → Type 0

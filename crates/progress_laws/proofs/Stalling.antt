@@ -3,13 +3,7 @@ use Rattle.std.proofs.Common.{◌≡◌, inl, inr, ⊎_elim, ℕ, zero, suc, ◌
 use Rattle.std.specs.Prelude.{not, is_none, is_some, ◌⊎◌}
 use Rattle.std.proofs.lemmas.Bool.{true≢false, cases_lt, and_cases, and_from, or_parts, or_left, or_right, eq-eqb, not_from_false, not-false}
 use Rattle.time_shards.specs.Shards.{IsTable}
-use Rattle.registry_state.specs.LookBack.{bound_of}
-use Rattle.list_words.specs.Lists.{Mem, has}
-use Rattle.turn_defs.specs.Setting.{Setting, IsJoiner, shards, site_of_joiner}
-use Rattle.turn_defs.specs.Turns.{is_empty}
-use Rattle.turn_defs.specs.Dispatcher.{DispatcherLive, Fresh, waits, first_done, has_room, dispatcher_wants, dispatcher_at_rest}
-use Rattle.turn_defs.specs.Joiner.{JoinerLive, Flight, joiner_at_rest}
-use Rattle.turn_defs.specs.Server.{ServerLive, first_shard, is_free, is_below_limit, may_propose, server_wants, server_at_rest, ShardState}
+use Rattle.photon_model.proofs.Words.{bound_of, Mem, has, Setting, IsJoiner, shards, site_of_joiner, is_empty, DispatcherLive, Fresh, waits, first_done, has_room, dispatcher_wants, dispatcher_at_rest, JoinerLive, Flight, joiner_at_rest, ServerLive, first_shard, is_free, is_below_limit, may_propose, server_wants, server_at_rest, ShardState}
 use Rattle.photon_model.specs.Facts.{IfUp}
 use Rattle.photon_model.specs.Runs.{World, Entry, after, world_after}
 use Rattle.photon_model.specs.Rest.{UpWith}

@@ -3,13 +3,7 @@ use Rattle.std.proofs.Common.{◌≡◌, ◌⊎◌, inl, inr, ⊎_elim, ℕ, ◌
 use Rattle.std.specs.Prelude.{filter}
 use Rattle.std.proofs.lemmas.Bool.{true≢false}
 use Rattle.std.proofs.lemmas.List.Sums.{length-filter}
-use Rattle.list_words.specs.Lists.{Mem}
-use Rattle.list_words.proofs.Lists.{none_some}
-use Rattle.turn_defs.specs.Setting.{Setting}
-use Rattle.turn_defs.specs.Nodes.{IsNode}
-use Rattle.turn_defs.specs.declared.node.Node.{Node}
-use Rattle.turn_defs.specs.declared.node.Input.TheVariants.{Tick}
-use Rattle.turn_defs.specs.Sent.{Sent}
+use Rattle.photon_model.proofs.Words.{Mem, none_some, Setting, IsNode, Node, Tick, Sent}
 use Rattle.photon_model.specs.Runs.{World, Entry, Begin, after, May}
 use Rattle.photon_model.specs.Rest.{is_tick_of, ticks_due, is_unfinished, is_out, IsQuiet, IsInterval}
 use Rattle.progress_laws.proofs.Transit.{opened_at, CarriesOne, EndsTurn, HasTick, same_node-true, opens, stays_open, quiet_closed, carries_not_stopped}

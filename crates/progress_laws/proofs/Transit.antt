@@ -2,18 +2,7 @@
 use Rattle.std.proofs.Common.{◌≡◌, ◌⊎◌, inl, inr, ⊎_elim, ℕ, Bool, true, false, cond, ◌==◌, List, ◌∷◌, ◌++◌, Some, None, refl, sym, ap, ◌∙◌, subst, []}
 use Rattle.std.specs.Prelude.{Option, filter, not}
 use Rattle.std.proofs.lemmas.Bool.{eqb-true, eq-eqb, true≢false, cond-true, cond-false}
-use Rattle.list_words.specs.Lists.{Mem, Each}
-use Rattle.list_words.proofs.Lists.{mem_left, mem_right, mem_split, none_some, some_same}
-use Rattle.turn_defs.specs.Setting.{Setting}
-use Rattle.turn_defs.specs.Nodes.{IsNode, IsTo, Addressed}
-use Rattle.turn_defs.specs.declared.packet.Packet.{Packet}
-use Rattle.turn_defs.specs.declared.node.Node.{Node}
-use Rattle.turn_defs.specs.declared.node.Node.TheVariants.{Dispatcher, Server, Replica, Joiner}
-use Rattle.turn_defs.specs.declared.node.To.{To}
-use Rattle.turn_defs.specs.declared.node.Input.{Input}
-use Rattle.turn_defs.specs.declared.node.Input.TheVariants.{Start, Own, Tick, Deliver}
-use Rattle.turn_defs.specs.Sent.{Sent}
-use Rattle.turn_defs.specs.Turns.{Note}
+use Rattle.photon_model.proofs.Words.{Mem, Each, mem_left, mem_right, mem_split, none_some, some_same, Setting, IsNode, IsTo, Addressed, Packet, Node, Dispatcher, Server, Replica, Joiner, To, Input, Start, Own, Tick, Deliver, Sent, Note}
 use Rattle.photon_model.specs.Runs.{Cell, World, Entry, Begin, End, Stop, sends, after, May}
 use Rattle.photon_model.specs.Rest.{same_node, put_in, is_out, to_live, IsQuiet, Carries}
 

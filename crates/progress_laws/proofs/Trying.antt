@@ -3,27 +3,7 @@ use Rattle.std.proofs.Common.{◌≡◌, ◌⊎◌, inl, inr, ⊎_elim, ℕ, ◌
 use Rattle.std.specs.Prelude.{Option, not}
 use Rattle.std.proofs.lemmas.Bool.{cond_both, cond-true, cond-false, true≢false, cases_Bool, and_parts, or_cases, or_left, or_right, or_from, and_right, eqb-true, lt-ltb, not_from_true}
 use Rattle.time_shards.specs.Shards.{IsTable}
-use Rattle.event_id.specs.declared.id.EventId.{EventId}
-use Rattle.log_records.specs.declared.records.ClickRec.{ClickRec as Click}
-use Rattle.log_records.specs.Lines.{ClickLine, at}
-use Rattle.log_records.specs.Log.{first}
-use Rattle.list_words.specs.Lists.{Mem, has}
-use Rattle.list_words.proofs.Lists.{mem_left, mem_right, option_both, has_without-self}
-use Rattle.turn_defs.specs.Setting.{Setting, IsJoiner, site_of_joiner}
-use Rattle.turn_defs.specs.Nodes.{IsTo}
-use Rattle.turn_defs.specs.Turns.{Note, Out, idle, is_empty}
-use Rattle.turn_defs.specs.declared.packet.Packet.{Packet}
-use Rattle.turn_defs.specs.declared.packet.Packet.TheVariants.{Join, Joined}
-use Rattle.turn_defs.specs.declared.packet.Outcome.TheVariants.{NoQuery}
-use Rattle.turn_defs.specs.declared.node.Node.{Node}
-use Rattle.turn_defs.specs.declared.node.Node.TheVariants.{Dispatcher, Server, Replica, Joiner}
-use Rattle.turn_defs.specs.declared.node.To.{To}
-use Rattle.turn_defs.specs.declared.node.To.TheVariants.{Only, AnyJoiner}
-use Rattle.turn_defs.specs.declared.node.Input.{Input}
-use Rattle.turn_defs.specs.declared.node.Input.TheVariants.{Tick, Deliver}
-use Rattle.turn_defs.specs.Sent.{Sent}
-use Rattle.turn_defs.specs.Dispatcher.{DispatcherKept, DispatcherLive, Fresh, waits, mark, mark_one, join, fresh_joins, join_if, trying_joins, dispatcher_start, dispatcher_turn, dispatcher_unfinished, some_waits}
-use Rattle.turn_defs.specs.Joiner.{JoinerKept, JoinerLive, Flight, in_flight, looks, joiner_start, joiner_turn}
+use Rattle.photon_model.proofs.Words.{EventId, Click, ClickLine, at, first, Mem, has, mem_left, mem_right, option_both, has_without-self, Setting, IsJoiner, site_of_joiner, IsTo, Note, Out, idle, is_empty, Packet, Join, Joined, NoQuery, Node, Dispatcher, Server, Replica, Joiner, To, Only, AnyJoiner, Input, Tick, Deliver, Sent, DispatcherKept, DispatcherLive, Fresh, waits, mark, mark_one, join, fresh_joins, join_if, trying_joins, dispatcher_start, dispatcher_turn, dispatcher_unfinished, some_waits, JoinerKept, JoinerLive, Flight, in_flight, looks, joiner_start, joiner_turn}
 use Rattle.photon_model.specs.Runs.{World, Entry, End, row, dispatcher_row, joiner_row, after, world_after}
 use Rattle.photon_model.specs.Rest.{DispatcherWorks, IsWork, if_up, IsQuiet, is_out}
 use Rattle.photon_model.specs.Facts.{IfUp}

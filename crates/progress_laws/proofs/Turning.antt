@@ -3,29 +3,7 @@ use Rattle.std.proofs.Common.{subst, ◌+◌, ◌≡◌, ◌⊎◌, inl, inr, �
 use Rattle.std.specs.Prelude.{Option, not}
 use Rattle.std.proofs.lemmas.Bool.{cond_both, true≢false, and_parts, eqb-true}
 use Rattle.std.proofs.lemmas.List.{length-append, length-replicate}
-use Rattle.ballot_core.specs.declared.Ballot.{Ballot}
-use Rattle.ballot_core.specs.Ballots.{is_same}
-use Rattle.ballot_core.proofs.Order.{same_true}
-use Rattle.registry_state.specs.declared.Insert.{Insert}
-use Rattle.registry_state.specs.declared.Batch.{Batch}
-use Rattle.registry_state.specs.declared.Answer.{Answer}
-use Rattle.registry_state.specs.LookBack.{bound_of, replay}
-use Rattle.paxos_defs.specs.declared.Place.{Place}
-use Rattle.paxos_defs.specs.Attempts.{Phase, nobody, on_promise, on_accepted}
-use Rattle.paxos_defs.specs.Attempts.Phase.{Promising, Accepting, Ended}
-use Rattle.list_words.specs.Lists.{Mem, Each, set_at}
-use Rattle.list_words.proofs.Lists.{at_set, each_append, mem_left, none_some, some_same, option_both}
-use Rattle.turn_defs.specs.Setting.{Setting, shard, shards}
-use Rattle.turn_defs.specs.Turns.{Out, idle, is_empty}
-use Rattle.turn_defs.specs.declared.packet.Packet.{Packet}
-use Rattle.turn_defs.specs.declared.packet.Packet.TheVariants.{Reply, Prepare, Promise, Nack, Accept, Accepted, Chosen}
-use Rattle.turn_defs.specs.declared.node.Node.{Node}
-use Rattle.turn_defs.specs.declared.node.Node.TheVariants.{Dispatcher, Server, Replica, Joiner}
-use Rattle.turn_defs.specs.declared.node.To.{To}
-use Rattle.turn_defs.specs.declared.node.To.TheVariants.{Only}
-use Rattle.turn_defs.specs.declared.node.Input.{Input}
-use Rattle.turn_defs.specs.declared.node.Input.TheVariants.{Start, Own, Tick, Deliver}
-use Rattle.turn_defs.specs.Server.{ServerKept, ServerLive, ShardState, Proposal, queued, to_from, to_replicas, is_below_limit, is_free, may_propose, first_shard, is_next, is_current, is_own_joiner, reply, reply_if, replies, learns, claimed, owns, server_own, goes_on, promised, accepted, nacked, gets_promise, gets_accepted, gets_nack, of_phase, again, all_again, server_gets, server_turn}
+use Rattle.photon_model.proofs.Words.{Ballot, is_same, same_true, Insert, Batch, Answer, bound_of, replay, Place, Phase, nobody, on_promise, on_accepted, Promising, Accepting, Ended, Mem, Each, set_at, at_set, each_append, mem_left, none_some, some_same, option_both, Setting, shard, shards, Out, idle, is_empty, Packet, Reply, Prepare, Promise, Nack, Accept, Accepted, Chosen, Node, Dispatcher, Server, Replica, Joiner, To, Only, Input, Start, Own, Tick, Deliver, ServerKept, ServerLive, ShardState, Proposal, queued, to_from, to_replicas, is_below_limit, is_free, may_propose, first_shard, is_next, is_current, is_own_joiner, reply, reply_if, replies, learns, claimed, owns, server_own, goes_on, promised, accepted, nacked, gets_promise, gets_accepted, gets_nack, of_phase, again, all_again, server_gets, server_turn}
 use Rattle.progress_laws.specs.Moves.{is_left, next_of}
 use Rattle.progress_laws.proofs.Phases.{IsOpen, IfOpen, question, PhaseGoes, phase_same, nobody_open, promise_goes, accepted_goes, promise_open, accepted_open, mem_to}
 use Rattle.progress_laws.proofs.Ending.{set_own}

@@ -2,19 +2,7 @@
 use Rattle.std.proofs.Common.{◌≡◌, ◌⊎◌, inl, inr, ⊎_elim, ℕ, ◌<◌, true, ◌||◌, ◌==◌, nat_lt, nat_le, List, ◌∷◌, ◌++◌, length, Some, None, refl, sym, ap, ◌∙◌, subst, []}
 use Rattle.std.specs.Prelude.{Option, not}
 use Rattle.std.proofs.lemmas.Bool.{cond_both, cond-true, eq-eqb, or_cases, or_left, or_right, true≢false}
-use Rattle.registry_state.specs.declared.Insert.{Insert}
-use Rattle.registry_state.specs.declared.Token.{Token}
-use Rattle.registry_state.specs.declared.Answer.{Answer}
-use Rattle.registry_state.specs.LookBack.{bound_of, replay}
-use Rattle.list_words.specs.Lists.{Mem}
-use Rattle.list_words.proofs.Lists.{mem_right}
-use Rattle.turn_defs.specs.Setting.{Setting, shard, shards}
-use Rattle.turn_defs.specs.Turns.{Out, idle, is_empty}
-use Rattle.turn_defs.specs.declared.packet.Packet.TheVariants.{Reply}
-use Rattle.turn_defs.specs.declared.node.Node.{Node}
-use Rattle.turn_defs.specs.declared.node.Node.TheVariants.{Joiner}
-use Rattle.turn_defs.specs.declared.node.To.TheVariants.{Only}
-use Rattle.turn_defs.specs.Server.{ServerKept, ServerLive, ShardState, queued, is_own_joiner, claimed, server_gets}
+use Rattle.photon_model.proofs.Words.{Insert, Token, Answer, bound_of, replay, Mem, mem_right, Setting, shard, shards, Out, idle, is_empty, Reply, Node, Joiner, Only, ServerKept, ServerLive, ShardState, queued, is_own_joiner, claimed, server_gets}
 use Rattle.photon_model.specs.Runs.{World}
 use Rattle.progress_laws.specs.Moves.{is_left}
 use Rattle.progress_laws.proofs.Turning.{Same}

@@ -2,30 +2,7 @@
 use Rattle.std.proofs.Common.{◌≡◌, inl, ⊎_elim, ℕ, zero, suc, ◌<◌, Bool, true, false, cond, ◌&&◌, nat_lt, List, [], ◌∷◌, ◌++◌, length, Some, None, refl, sym, ap, ◌∙◌, subst, arith, lit<}
 use Rattle.std.specs.Prelude.{⊤, not, is_some, filter, Option}
 use Rattle.std.proofs.lemmas.Bool.{true≢false, and_parts, ltb-true}
-use Rattle.ballot_core.specs.declared.Ballot.{Ballot}
-use Rattle.ballot_core.specs.Ballots.{is_same}
-use Rattle.ballot_core.proofs.Order.{same_true}
-use Rattle.registry_state.specs.Same.{same_batch}
-use Rattle.registry_state.proofs.Tests.{same_batch-true}
-use Rattle.paxos_defs.specs.declared.Place.{Place}
-use Rattle.paxos_defs.specs.Notes.{is_place}
-use Rattle.paxos_defs.proofs.Places.{place_true}
-use Rattle.list_words.specs.Lists.{Mem, option_or_else}
-use Rattle.list_words.proofs.Lists.{mem_right, none_some, some_same}
-use Rattle.turn_defs.specs.declared.packet.Packet.{Packet}
-use Rattle.turn_defs.specs.declared.packet.Packet.TheVariants.{Prepare, Promise, Nack, Accept, Accepted, Chosen}
-use Rattle.turn_defs.specs.declared.node.Node.{Node}
-use Rattle.turn_defs.specs.declared.node.Node.TheVariants.{Dispatcher, Server, Replica, Joiner}
-use Rattle.turn_defs.specs.declared.node.To.{To}
-use Rattle.turn_defs.specs.declared.node.To.TheVariants.{Only, AnyJoiner}
-use Rattle.turn_defs.specs.declared.node.Input.{Input}
-use Rattle.turn_defs.specs.declared.node.Input.TheVariants.{Start, Deliver}
-use Rattle.turn_defs.specs.Nodes.{IsNode, Addressed}
-use Rattle.turn_defs.specs.Sent.{Sent}
-use Rattle.turn_defs.specs.Setting.{IsJoiner, shards}
-use Rattle.turn_defs.specs.Turns.{Out, is_empty}
-use Rattle.turn_defs.specs.Dispatcher.{dispatcher_wants}
-use Rattle.turn_defs.specs.Server.{ServerLive, is_below_limit, server_wants, server_start, server_turn}
+use Rattle.photon_model.proofs.Words.{Ballot, is_same, same_true, same_batch, same_batch-true, Place, is_place, place_true, Mem, option_or_else, mem_right, none_some, some_same, Packet, Prepare, Promise, Nack, Accept, Accepted, Chosen, Node, Dispatcher, Server, Replica, Joiner, To, Only, AnyJoiner, Input, Start, Deliver, IsNode, Addressed, Sent, IsJoiner, shards, Out, is_empty, dispatcher_wants, ServerLive, is_below_limit, server_wants, server_start, server_turn}
 use Rattle.photon_model.specs.Facts.{IfUp}
 use Rattle.photon_model.specs.Runs.{Cell, World, Entry, Begin, End, Stop, Fits, WasSent, MayBegin, May, IsRun, row, dispatcher_row, server_row, replica_row, sends, after, world_after}
 use Rattle.photon_model.specs.Rest.{same_node, UpWith, BothUp, ServerWorks, IsWork, put_in, ticks_of, ticks_due, is_unfinished, to_live, Carries, IsQuiet}

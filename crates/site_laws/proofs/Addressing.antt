@@ -2,41 +2,12 @@
 use Rattle.std.proofs.Common.{◌≡◌, ℕ, zero, suc, ◌+◌, ◌-◌, ◌<◌, ◌≤◌, Bool, true, false, List, [], ◌∷◌, ◌++◌, map, find, Option, Some, None, subst, arith, ◌&&◌, ◌||◌, ◌==◌, ◌^◌, ◌*◌, length}
 use Rattle.std.specs.Prelude.{nat_lt, nat_le, if◌then◌else◌, ⊤}
 use Rattle.std.proofs.lemmas.Bool.{cond_both, ltb-true, leb-true, and_parts}
-use Rattle.list_words.specs.Lists.{Each, has}
-use Rattle.list_words.proofs.Lists.{each_append}
-use Rattle.log_records.specs.Lines.{ClickLine, at}
-use Rattle.log_records.specs.declared.records.ClickRec.{ClickRec as Click}
-use Rattle.log_records.specs.declared.records.QueryRec.{QueryRec as Query}
-use Rattle.log_records.specs.Log.{first}
-use Rattle.registry_state.specs.declared.Insert.{Insert}
-use Rattle.registry_state.specs.declared.Batch.{Batch}
-use Rattle.registry_state.specs.declared.Answer.{Answer}
-use Rattle.registry_state.specs.declared.Answer.TheVariants.{Granted, Duplicate, TooOld}
-use Rattle.registry_state.specs.LookBack.{replay}
-use Rattle.ballot_core.specs.declared.Ballot.{Ballot}
-use Rattle.paxos_defs.specs.declared.Place.{Place}
-use Rattle.paxos_defs.specs.Attempts.{Phase, on_promise, on_accepted}
-use Rattle.paxos_defs.specs.Attempts.Phase.{Promising, Accepting, Ended}
-use Rattle.turn_defs.specs.declared.packet.Packet.{Packet}
+use Rattle.photon_model.proofs.Words.{Each, has, each_append, ClickLine, at, Click, Query, first, Insert, Batch, Answer, Granted, Duplicate, TooOld, replay, Ballot, Place, Phase, on_promise, on_accepted, Promising, Accepting, Ended, Packet, Outcome, Node, Dispatcher, Server, Replica, Joiner, To, Only, AnyJoiner, Input, Start, Own, Tick, Deliver, Setting, first_joiner, shard, shards, site_of_joiner, IsNode, IsTo, Addressed, Out, DispatcherKept, DispatcherLive, Fresh, JoinerKept, JoinerLive, Flight, ServerKept, ServerLive, ShardState, Proposal, ReplicaKept, replica_gets}
 use Rattle.turn_defs.specs.declared.packet.Packet.TheVariants as packet
-use Rattle.turn_defs.specs.declared.packet.Outcome.{Outcome}
 use Rattle.turn_defs.specs.declared.packet.Outcome.TheVariants as outcome
-use Rattle.turn_defs.specs.declared.node.Node.{Node}
-use Rattle.turn_defs.specs.declared.node.Node.TheVariants.{Dispatcher, Server, Replica, Joiner}
-use Rattle.turn_defs.specs.declared.node.To.{To}
-use Rattle.turn_defs.specs.declared.node.To.TheVariants.{Only, AnyJoiner}
-use Rattle.turn_defs.specs.declared.node.Input.{Input}
-use Rattle.turn_defs.specs.declared.node.Input.TheVariants.{Start, Own, Tick, Deliver}
-use Rattle.turn_defs.specs.Setting.{Setting, first_joiner, shard, shards, site_of_joiner}
-use Rattle.turn_defs.specs.Nodes.{IsNode, IsTo, Addressed}
-use Rattle.turn_defs.specs.Turns.{Out}
 use Rattle.turn_defs.specs.Dispatcher as d
-use Rattle.turn_defs.specs.Dispatcher.{DispatcherKept, DispatcherLive, Fresh}
 use Rattle.turn_defs.specs.Joiner as j
-use Rattle.turn_defs.specs.Joiner.{JoinerKept, JoinerLive, Flight}
 use Rattle.turn_defs.specs.Server as s
-use Rattle.turn_defs.specs.Server.{ServerKept, ServerLive, ShardState, Proposal}
-use Rattle.turn_defs.specs.Replica.{ReplicaKept, replica_gets}
 use Rattle.site_node.specs.States.{row_of}
 use Rattle.site_laws.specs.Kinds.{KeptOf, LiveOf, rows_of}
 

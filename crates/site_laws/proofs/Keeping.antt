@@ -2,10 +2,9 @@
 use Rattle.std.proofs.Common.{◌≡◌, ℕ, ◌<◌, List, [], ◌∷◌, ◌++◌, Option, Some, None, Result, Ok, refl, sym, ◌∙◌, ap, subst}
 use Rattle.std.specs.Prelude.{map, All}
 use Rattle.std.proofs.lemmas.List.Elements.{All-head, All-tail}
-use Rattle.list_words.specs.Lists.{Each}
+use Rattle.photon_model.proofs.Words.{Each, Promised, Took as Accepted, PairRec, IsPair, Node, Dispatcher, Server, Replica, Joiner, Setting, IsNode, BallotNote, ReplicaKept}
 use Rattle.outside.specs.declared.store.DiskName.{DiskName}
 use Rattle.outside.specs.declared.store.DiskName.TheVariants as name
-use Rattle.paxos_defs.specs.Notes.Note.{Promised, Accepted}
 use Rattle.paxos_acceptor.specs.declared.notes.ReplicaNote.{ReplicaNote}
 use Rattle.paxos_acceptor.specs.declared.notes.ReplicaNote.TheVariants as replica
 use Rattle.paxos_acceptor.specs.Cells.{place_of, note_view}
@@ -17,15 +16,7 @@ use Rattle.topology_journal.specs.Topologies as journal
 use Rattle.offset_journal.specs.Offsets as offsets
 use Rattle.retry_log.specs.Pending as pending
 use Rattle.epoch_journal.specs.Epochs as epochs
-use Rattle.turn_defs.specs.declared.pair.PairRec.{PairRec}
 use Rattle.output_log.specs.Pairs as pairs
-use Rattle.turn_defs.specs.Spellings.{IsPair}
-use Rattle.turn_defs.specs.declared.node.Node.{Node}
-use Rattle.turn_defs.specs.declared.node.Node.TheVariants.{Dispatcher, Server, Replica, Joiner}
-use Rattle.turn_defs.specs.Setting.{Setting}
-use Rattle.turn_defs.specs.Nodes.{IsNode}
-use Rattle.turn_defs.specs.Turns.{BallotNote}
-use Rattle.turn_defs.specs.Replica.{ReplicaKept}
 use Rattle.site_node.specs.Replicas.{IsVoted, vote_record}
 use Rattle.site_node.proofs.Replicas.{views_ok}
 use Rattle.photon_model.specs.Runs.{Disks}

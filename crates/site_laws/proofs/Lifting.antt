@@ -1,13 +1,7 @@
 -- What one node does, in the world of all.
 use Rattle.std.proofs.Common.{◌≡◌, ◌≢◌, ⊎_elim, ℕ, ◌≤◌, cond, List, ◌++◌, None, refl, sym, ap, ◌∙◌, eq-eqb, ne_eqb}
 use Rattle.std.proofs.lemmas.Bool.{cases_lt}
-use Rattle.list_words.specs.Lists.{set_at}
-use Rattle.turn_defs.specs.Setting.{Setting}
-use Rattle.list_words.proofs.Lists.{none_some}
-use Rattle.turn_defs.specs.Nodes.{IsNode, node_of, node_count, NumbersAreNodes}
-use Rattle.turn_defs.specs.Sent.{Sent}
-use Rattle.turn_defs.specs.declared.node.Node.{Node}
-use Rattle.turn_defs.specs.declared.node.Node.TheVariants.{Dispatcher, Server, Replica, Joiner}
+use Rattle.photon_model.proofs.Words.{set_at, Setting, none_some, IsNode, node_of, node_count, NumbersAreNodes, Sent, Node, Dispatcher, Server, Replica, Joiner}
 use Rattle.photon_model.specs.Runs.{Cell, World, Disks, after, May, down, opening}
 use Rattle.site_laws.specs.Kinds.{KeptOf, LiveOf, rows_of, cell_of, kept_of}
 use Rattle.site_laws.proofs.Stepping.{Deed, Begins, Ends, Stops, entry_of, sent_of, MayDo, done}

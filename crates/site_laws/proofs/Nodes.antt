@@ -1,21 +1,6 @@
 -- What is sound is so by the records of the setting's nodes alone.
 use Rattle.std.proofs.Common.{◌≡◌, ◌⊎◌, inl, inr, ⊎_elim, ℕ, ◌+◌, ◌<◌, ◌≤◌, List, ◌∷◌, refl, sym, ◌∙◌, ap, subst, arith, zero, suc}
-use Rattle.event_id.specs.declared.id.EventId.{EventId}
-use Rattle.registry_state.specs.declared.Insert.{Insert}
-use Rattle.registry_state.specs.declared.Batch.{Batch}
-use Rattle.registry_state.specs.LookBack.{IsGranted, Registered, Expired}
-use Rattle.list_words.specs.Lists.{Mem, Each}
-use Rattle.list_words.proofs.Lists.{each_more}
-use Rattle.paxos_defs.specs.Notes.Note.{Promised, Accepted}
-use Rattle.paxos_defs.specs.Agreement.{JournalsAgree}
-use Rattle.turn_defs.specs.declared.pair.PairRec.{PairRec}
-use Rattle.turn_defs.specs.declared.node.Node.TheVariants.{Dispatcher, Server, Replica, Joiner}
-use Rattle.turn_defs.specs.Setting.{Setting, shard}
-use Rattle.turn_defs.specs.Turns.{BallotNote}
-use Rattle.turn_defs.specs.Dispatcher.{DispatcherKept}
-use Rattle.turn_defs.specs.Joiner.{JoinerKept}
-use Rattle.turn_defs.specs.Server.{ServerKept}
-use Rattle.turn_defs.specs.Replica.{ReplicaKept}
+use Rattle.photon_model.proofs.Words.{EventId, Insert, Batch, IsGranted, Registered, Expired, Mem, Each, each_more, Promised, Took as Accepted, JournalsAgree, PairRec, Dispatcher, Server, Replica, Joiner, Setting, shard, BallotNote, DispatcherKept, JoinerKept, ServerKept, ReplicaKept}
 use Rattle.photon_model.specs.Journals.{values_from, journals, decided}
 use Rattle.photon_model.specs.Agreement.{AreOwned}
 use Rattle.photon_model.specs.Runs.{Disks}

@@ -2,13 +2,11 @@
 use Rattle.std.proofs.Common.{◌≡◌, ◌≢◌, ⊎_elim, ℕ, Bool, List, [], Option, Some, None, refl, sym, ◌∙◌, ap, subst}
 use Rattle.std.specs.Result.{result_unwrap_or}
 use Rattle.std.proofs.lemmas.List.Elements.{All-nil}
-use Rattle.list_words.proofs.Lists.{some_same, none_some}
+use Rattle.photon_model.proofs.Words.{some_same, none_some, IsPair, Setting}
 use Rattle.outside.specs.declared.store.DiskName.{DiskName}
 use Rattle.outside.specs.declared.store.DiskName.TheVariants as name
 use Rattle.gate_journal.specs.Gate.{gate_rule, records}
 use Rattle.gate_journal.specs.Opening.{IsOpened}
-use Rattle.turn_defs.specs.Spellings.{IsPair}
-use Rattle.turn_defs.specs.Setting.{Setting}
 use Rattle.photon_model.specs.Topology.{Topology, topology_of, Store, WholeSound}
 use Rattle.photon_model.specs.Stores.{empty_disks, empty_store, TopologyComesFirst}
 use Rattle.site_laws.specs.Stores.{Bytes, Images, IsDisk, IsChoice, KeepsTopology, KeepsOf, IsFit, KeepSound, IsSoundStore, AreLeft, SameRecords}

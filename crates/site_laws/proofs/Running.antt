@@ -1,18 +1,11 @@
 -- What a run leaves of a store's disks.
 use Rattle.std.proofs.Common.{◌≡◌, ⊎_elim, ℕ, ◌<◌, true, Option, refl, sym, ◌∙◌, subst}
-use Rattle.list_words.specs.Lists.{Each}
-use Rattle.list_words.proofs.Lists.{some_same}
+use Rattle.photon_model.proofs.Words.{Each, some_same, Node, Dispatcher, Server, Replica, Joiner, Setting, IsNode, JoinerKept, ReplicaKept}
 use Rattle.outside.specs.declared.store.DiskName.TheVariants as name
 use Rattle.offset_journal.specs.Offsets.{Keeps as KeepsOffset}
 use Rattle.retry_log.specs.Pending.{Keeps as KeepsPending}
 use Rattle.epoch_journal.specs.Epochs.{Keeps as KeepsEpoch}
 use Rattle.output_log.specs.Pairs.{Keeps as KeepsPairs}
-use Rattle.turn_defs.specs.declared.node.Node.{Node}
-use Rattle.turn_defs.specs.declared.node.Node.TheVariants.{Dispatcher, Server, Replica, Joiner}
-use Rattle.turn_defs.specs.Setting.{Setting}
-use Rattle.turn_defs.specs.Nodes.{IsNode}
-use Rattle.turn_defs.specs.Joiner.{JoinerKept}
-use Rattle.turn_defs.specs.Replica.{ReplicaKept}
 use Rattle.site_node.specs.Replicas.{IsVoted, replica_rows}
 use Rattle.site_node.proofs.Replicas.{row_landed_ok}
 use Rattle.site_node.proofs.Replicas.{input_ok, row_ok}

@@ -1,7 +1,7 @@
 -- The worked history of a dispatcher that comes up.
 use Rattle.std.proofs.Common.{◌≡◌, ◌≢◌, inl, ℕ, zero, suc, false, cond, List, [], ◌∷◌, None, refl, sym, ap, ◌∙◌, subst, arith, ne_eqb}
 use Rattle.std.proofs.lemmas.List.Elements.{All-nil}
-use Rattle.list_words.proofs.Lists.{none_some}
+use Rattle.photon_model.proofs.Words.{none_some, IsNode, node_number, node_of, worked, Packet, IsPacket, Node, Dispatcher, Server, Replica, Joiner, Start}
 use Rattle.lossy_link.specs.declared.plan.Kind.{Kind}
 use Rattle.lossy_link.specs.Fates.{PlanView}
 use Rattle.air_bus.specs.declared.entry.Input.TheVariants as bytes
@@ -11,13 +11,6 @@ use Rattle.air_bus.specs.declared.entry.Phase.TheVariants.{Down, Busy}
 use Rattle.air_bus.specs.History.{IsAired}
 use Rattle.air_bus.specs.Waiting.{is_dead}
 use Rattle.air_bus.proofs.Phases.{aired_more, aired_none}
-use Rattle.turn_defs.specs.Nodes.{IsNode, node_number, node_of}
-use Rattle.turn_defs.specs.Rows.{worked}
-use Rattle.turn_defs.specs.declared.packet.Packet.{Packet}
-use Rattle.turn_defs.specs.Packets.{IsPacket}
-use Rattle.turn_defs.specs.declared.node.Node.{Node}
-use Rattle.turn_defs.specs.declared.node.Node.TheVariants.{Dispatcher, Server, Replica, Joiner}
-use Rattle.turn_defs.specs.declared.node.Input.TheVariants.{Start}
 use Rattle.site_node.specs.Bytes.{AreSpelled}
 use Rattle.site_node.specs.States.{Path}
 use Rattle.photon_model.specs.Stores.{empty_disks}

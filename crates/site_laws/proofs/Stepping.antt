@@ -2,17 +2,7 @@
 use Rattle.std.proofs.Common.{◌≡◌, inl, inr, ⊎_elim, ℕ, ◌≤◌, List, [], length, Option, Some, None, refl, sym, ap, ◌∙◌, subst}
 use Rattle.std.specs.Prelude.{⊤}
 use Rattle.std.proofs.lemmas.List.{length-map}
-use Rattle.list_words.specs.Lists.{Each}
-use Rattle.list_words.proofs.Lists.{some_same, none_some}
-use Rattle.turn_defs.specs.Setting.{Setting}
-use Rattle.turn_defs.specs.Nodes.{IsNode, node_of, Addressed, NumbersAreNodes}
-use Rattle.turn_defs.specs.Turns.{Note, Out}
-use Rattle.turn_defs.specs.declared.packet.Packet.{Packet}
-use Rattle.turn_defs.specs.Packets.{packet, IsPacket}
-use Rattle.turn_defs.specs.Sent.{Sent}
-use Rattle.turn_defs.specs.declared.node.Node.{Node}
-use Rattle.turn_defs.specs.declared.node.Input.{Input}
-use Rattle.turn_defs.specs.declared.node.Input.TheVariants.{Deliver}
+use Rattle.photon_model.proofs.Words.{Each, some_same, none_some, Setting, IsNode, node_of, Addressed, NumbersAreNodes, Note, Out, Packet, packet, IsPacket, Sent, Node, Input, Deliver}
 use Rattle.air_bus.specs.declared.entry.Input.{Input as Bytes}
 use Rattle.air_bus.specs.declared.entry.Input.TheVariants as bytes
 use Rattle.air_bus.specs.declared.entry.Entry.{Entry as BusEntry}

@@ -1,9 +1,6 @@
 use Rattle.std.proofs.Common.{List, map, subst, sym}
-use Rattle.log_records.specs.declared.records.ClickRec.{ClickRec as Click}
-use Rattle.log_records.specs.Lines.{ClickLine}
+use Rattle.photon_model.proofs.Words.{Click, ClickLine, JournalsAgree, BallotNote}
 use Rattle.log_records.specs.Report.{distinct}
-use Rattle.paxos_defs.specs.Agreement.{JournalsAgree}
-use Rattle.turn_defs.specs.Turns.{BallotNote}
 use Rattle.photon_model.proofs.Verifying.{pair, found, line, missing}
 use Rattle.photon_model.proofs.verification.Goals as goal
 
