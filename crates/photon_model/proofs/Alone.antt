@@ -3,6 +3,7 @@ use Rattle.std.proofs.Common.{◌≡◌, ◌⊎◌, inl, inr, ⊎_elim, ℕ, zer
 use Rattle.std.specs.Prelude.{Option}
 use Rattle.std.proofs.lemmas.Bool.{cond_both, eqb-true, and_parts}
 use Rattle.photon_model.proofs.Words.{Ballot, Insert, Batch, is_same as same_ballot, Phase, on_promise, on_accepted, Promising, Accepting, Ended, Prepared as PrepareAnswer, Taken, on_prepare, on_accept, Grant, Refuse, Take, Decline, same_batch, Mem, Each, set_at, Answer, replay, Setting, shard, shards, Packet, Claim, Reply, Prepare, Promise, Nack, Accept, Accepted, Chosen, Place, Node, Dispatcher, Server, Replica, Joiner, To, Only, Sent, Input, Start, Own, Tick, Deliver, Note, Out, idle, land, is_next, ServerKept, ServerLive, ShardState, Proposal, land_server, queued, to_from, to_replicas, is_below_limit, may_propose, first_shard, is_current, is_own_joiner, reply, reply_if, replies, claimed, owns, server_own, promised, accepted, of_phase, gets_promise, gets_accepted, gets_nack, again, all_again, from_replica, server_gets, server_turn, ReplicaKept, cell_at, prepared, taken, replica_gets, option_both, each_at, each_append, mem_left, mem_right, mem_split, at_set, at_set_if, some_same, none_some, Addressed}
+use Rattle.photon_model.proofs.ServerRows.{next_at, current_at, replicas_each, reply_each, replies_each, tick_each, every_row}
 use Rattle.photon_model.specs.Runs.{Cell, World, Entry, Begin, End, Stop, Disks, begun, ended, stopped, dispatcher_row, joiner_row, server_row, replica_row, sends, after, world_after, May, IsRun, opening}
 use Rattle.photon_model.specs.Claims.{HasSent}
 use Rattle.photon_model.specs.Alone.{Prepared, BallotsAlone}
@@ -17,13 +18,10 @@ sent_addressed g from (b ∷ as_) [] h x m = absurd m
 sent_addressed g from (b ∷ as_) (p ∷ ps) h x (inl e) = (b, inl refl, h.0.1 ∙ ap (λ (z : Sent). z.packet) e)
 sent_addressed g from (b ∷ as_) (p ∷ ps) h x (inr m) = let i = sent_addressed g from as_ ps h.1 x m in (i.0, inr i.1, i.2)
 
-abbrev next_place : ℕ → ShardState → Place
-next_place s st = record { shard = s; slot = length st.learned }
-
 -- a shard's proposal was prepared
 abbrev Stands : List Sent → ℕ → ShardState → Option Proposal → Type 0
 Stands sent t st None = Unit {0}
-Stands sent t st (Some p) = Prepared sent (next_place t st) p.ballot
+Stands sent t st (Some p) = Prepared sent (next_at t st) p.ballot
 
 -- ---- a server's rows: what they prepare is new or was prepared
 
@@ -45,7 +43,7 @@ module _ (g : Setting) (site : ℕ) (k : ServerKept) (l : ServerLive) (sent : Li
 
   abbrev NowStands : List (To × Packet) → ℕ → ShardState → Option Proposal → Type 0
   NowStands ps t st None = Unit {0}
-  NowStands ps t st (Some p) = Prepared sent (next_place t st) p.ballot ⊎ ((a : To × Packet) × Mem a ps × (a.1 ≡ Prepare (next_place t st) p.ballot))
+  NowStands ps t st (Some p) = Prepared sent (next_at t st) p.ballot ⊎ ((a : To × Packet) × Mem a ps × (a.1 ≡ Prepare (next_at t st) p.ballot))
 
   record Fairly (o : Out ServerLive) : Type 0 where
     pub silent : o.note ≡ None
@@ -64,113 +62,57 @@ module _ (g : Setting) (site : ℕ) (k : ServerKept) (l : ServerLive) (sent : Li
     still : (o : Out ServerLive) → o.note ≡ None → AreFair None o.packets → l.round ≤ o.live.round → ((t : ℕ) → Stands sent t (o.live.shards t) (o.live.shards t).proposal) → Fairly o
     still o e p r s = record { silent = e; draw = None; packets = p; round = r; higher_ = λ q e. none_some q e; stands = λ t. to_now o.packets t (o.live.shards t) (o.live.shards t).proposal (s t) }
 
-    idles : Fairly (idle l)
-    idles = still (idle l) refl tt (omega arith) holds
-
     sets : (s : ℕ) (st : ShardState) → Stands sent s st st.proposal → (t : ℕ) → Stands sent t (set_at l.shards s st t) (set_at l.shards s st t).proposal
     sets s st h = at_set (λ t (u : ShardState). Stands sent t u u.proposal) l.shards s st h holds
 
-    reply_fair : (x : Insert) (a : Answer) → AreFair None (reply g site x a)
-    reply_fair x a = cond_both (is_own_joiner g site x.token.joiner) ((Only (Joiner x.token.joiner), Reply x a) ∷ []) [] (AreFair None) (λ _. (tt, tt)) (λ _. tt)
+    stood : (s : ℕ) (p : Proposal) → (l.shards s).proposal ≡ Some p → Prepared sent (next_at s (l.shards s)) p.ballot
+    stood s p e = subst (Stands sent s (l.shards s)) e (holds s)
 
     replies_fair : (vs : List Batch) (xs : List Insert) → AreFair None (replies g site vs xs)
-    replies_fair vs [] = tt
-    replies_fair vs (x ∷ xs) = each_append (λ (a : To × Packet). Fair None a.1) (reply_if g site x (replay vs x.id x.token)) (replies g site vs xs) (option_both (replay vs x.id x.token) (reply_if g site x) (AreFair None) (λ a _. reply_fair x a) (λ _. tt)) (replies_fair vs xs)
-
-    claim_fair : (x : Insert) → Fairly (claimed g site k l x (shard g x.id) (l.shards (shard g x.id)) (replay (l.shards (shard g x.id)).learned x.id x.token))
-    claim_fair x =
-        option_both (replay (l.shards (shard g x.id)).learned x.id x.token) (claimed g site k l x (shard g x.id) (l.shards (shard g x.id))) Fairly
-        (λ a _. still _ refl (reply_fair x a) (omega arith) holds)
-        (λ _. cond_both (queued (l.shards (shard g x.id)).queue x.token || nat_le 4096 (length (l.shards (shard g x.id)).queue)) (idle l) _ Fairly (λ _. idles) (λ _. still _ refl tt (omega arith) (sets (shard g x.id) _ (holds (shard g x.id)))))
-
-    from_fair : (q : Option Place) (r m : ℕ) (p : Packet) → Fair q p → AreFair q (to_from r m p)
-    from_fair q r zero p h = tt
-    from_fair q r (suc m) p h = (h, from_fair q (suc r) m p h)
+    replies_fair vs xs = replies_each g site (λ (a : To × Packet). Fair None a.1) vs xs (λ x a m e t. tt)
 
     -- with a replica, what is sent to each is sent
     first_sent : (r m : ℕ) (p : Packet) → 0 < m → (a : To × Packet) × Mem a (to_from r m p) × (a.1 ≡ p)
     first_sent r zero p lt = absurd (omega arith)
     first_sent r (suc m) p lt = ((Only (Replica r), p), inl refl, refl)
 
-    own_fair : 0 < g.replicas → Fairly (server_own g site k l)
-    own_fair some =
-        cond_both (is_below_limit l.round) _ (idle l) Fairly
-        (λ _. option_both (first_shard (λ s. may_propose g (l.shards s)) 0 (shards g)) (owns g site k l) Fairly
-        (λ s _. record {
+    draw_fair : 0 < g.replicas → (s : ℕ) → Fairly (owns g site k l (Some s))
+    draw_fair some s =
+        record {
           silent = refl;
-          draw = Some (next_place s (l.shards s));
-          packets = from_fair (Some (next_place s (l.shards s))) 0 g.replicas (Prepare (next_place s (l.shards s)) drawn) (inr (refl, refl));
+          draw = Some (next_at s (l.shards s));
+          packets = replicas_each g site (λ (a : To × Packet). Fair (Some (next_at s (l.shards s))) a.1) (Prepare (next_at s (l.shards s)) drawn) (λ i lt. inr (refl, refl));
           round = omega arith;
           higher_ = λ q e. omega arith;
-          stands = at_set (λ t (u : ShardState). NowStands (to_replicas g.replicas (Prepare (next_place s (l.shards s)) drawn)) t u u.proposal) l.shards s _ (inr (first_sent 0 g.replicas (Prepare (next_place s (l.shards s)) drawn) some)) (λ t. to_now (to_replicas g.replicas (Prepare (next_place s (l.shards s)) drawn)) t (l.shards t) (l.shards t).proposal (holds t));
-        })
-        (λ _. idles))
-        (λ _. idles)
-
-    current : (at : Place) (b : Ballot) (p : Proposal) → is_current g at b (l.shards at.shard) p ≡ true → at ≡ next_place at.shard (l.shards at.shard)
-    current at b p h =
-        let u = and_parts (nat_lt at.shard (shards g) && (at.slot == length (l.shards at.shard).learned)) (same_ballot p.ballot b) h in
-        let e = eqb-true at.slot (length (l.shards at.shard).learned) (and_parts (nat_lt at.shard (shards g)) (at.slot == length (l.shards at.shard).learned) u.0).1 in
-        λ i. record { shard = at.shard; slot = e i }
-
-    promise_fair : (r : ℕ) (at : Place) (b : Ballot) (o : Option (Ballot × Batch)) → Fairly (gets_promise g site k l r at b o (l.shards at.shard) (l.shards at.shard).proposal)
-    promise_fair r at b o = go (l.shards at.shard).proposal (holds at.shard)
+          stands = at_set (λ t (u : ShardState). NowStands asked t u u.proposal) l.shards s _ (inr (first_sent 0 g.replicas (Prepare (next_at s (l.shards s)) drawn) some)) (λ t. to_now asked t (l.shards t) (l.shards t).proposal (holds t));
+        }
       where
-        turned : (p : Proposal) → Prepared sent (next_place at.shard (l.shards at.shard)) p.ballot → at ≡ next_place at.shard (l.shards at.shard) → (t : Phase Batch × Option Batch) → Fairly (promised g site k l at (l.shards at.shard) p t)
-        turned p x e (phase, None) = still _ refl tt (omega arith) (sets at.shard _ x)
-        turned p x e (phase, Some v) = still _ refl (from_fair None 0 g.replicas (Accept at p.ballot v) (subst (λ (q : Place). Prepared sent q p.ballot) (sym e) x)) (omega arith) (sets at.shard _ x)
+        asked : List (To × Packet)
+        asked = to_replicas g.replicas (Prepare (next_at s (l.shards s)) drawn)
 
-        go : (q : Option Proposal) → Stands sent at.shard (l.shards at.shard) q → Fairly (gets_promise g site k l r at b o (l.shards at.shard) q)
-        go None x = idles
-        go (Some p) x = cond_both (is_current g at b (l.shards at.shard) p) _ (idle l) Fairly (λ t. turned p x (current at b p t) (on_promise p.own p.phase r o)) (λ _. idles)
+    promise_fair : (at : Place) (p : Proposal) → (l.shards at.shard).proposal ≡ Some p → at ≡ next_at at.shard (l.shards at.shard) → (t : Phase Batch × Option Batch) → Fairly (promised g site k l at (l.shards at.shard) p t)
+    promise_fair at p e here (phase, None) = still _ refl tt (omega arith) (sets at.shard _ (stood at.shard p e))
+    promise_fair at p e here (phase, Some v) =
+        still _ refl (replicas_each g site (λ (a : To × Packet). Fair None a.1) (Accept at p.ballot v) (λ i lt. subst (λ (q : Place). Prepared sent q p.ballot) (sym here) (stood at.shard p e))) (omega arith) (sets at.shard _ (stood at.shard p e))
 
-    accepted_fair : (r : ℕ) (at : Place) (b : Ballot) → Fairly (gets_accepted g site k l r at b (l.shards at.shard) (l.shards at.shard).proposal)
-    accepted_fair r at b = go (l.shards at.shard).proposal (holds at.shard)
-      where
-        turned : (p : Proposal) → Prepared sent (next_place at.shard (l.shards at.shard)) p.ballot → (phase : Phase Batch) (o : Option Batch) → Fairly (accepted g site k l at (l.shards at.shard) p phase o)
-        turned p x phase None = still _ refl tt (omega arith) (sets at.shard _ x)
-        turned p x phase (Some v) = still _ refl (tt, replies_fair ((l.shards at.shard).learned ++ v ∷ []) (l.shards at.shard).queue) (omega arith) (sets at.shard _ tt)
-
-        go : (q : Option Proposal) → Stands sent at.shard (l.shards at.shard) q → Fairly (gets_accepted g site k l r at b (l.shards at.shard) q)
-        go None x = idles
-        go (Some p) x = cond_both (is_current g at b (l.shards at.shard) p) _ (idle l) Fairly (λ _. turned p x (on_accepted p.phase r).0 (on_accepted p.phase r).1) (λ _. idles)
-
-    nack_fair : (at : Place) (b above : Ballot) → Fairly (gets_nack g site k l at b above (l.shards at.shard) (l.shards at.shard).proposal)
-    nack_fair at b above = option_both (l.shards at.shard).proposal (gets_nack g site k l at b above (l.shards at.shard)) Fairly (λ p _. cond_both (is_current g at b (l.shards at.shard) p) _ (idle l) Fairly (λ _. still _ refl tt (omega arith) (sets at.shard _ tt)) (λ _. idles)) (λ _. idles)
-
-    again_fair : (s : ℕ) → AreFair None (again g site k l s (l.shards s) (l.shards s).proposal)
-    again_fair s = go (l.shards s).proposal (holds s)
-      where
-        phase : (b : Ballot) (q : Phase Batch) → Prepared sent (next_place s (l.shards s)) b → AreFair None (of_phase g site k l (next_place s (l.shards s)) b q)
-        phase b (Promising marks best) x = from_fair None 0 g.replicas (Prepare (next_place s (l.shards s)) b) (inl x)
-        phase b (Accepting v marks) x = from_fair None 0 g.replicas (Accept (next_place s (l.shards s)) b v) x
-        phase b Ended x = tt
-
-        go : (q : Option Proposal) → Stands sent s (l.shards s) q → AreFair None (again g site k l s (l.shards s) q)
-        go None x = tt
-        go (Some p) x = phase p.ballot p.phase x
-
-    all_fair : (from m : ℕ) → AreFair None (all_again g site k l from m)
-    all_fair from zero = tt
-    all_fair from (suc m) = each_append (λ (a : To × Packet). Fair None a.1) (again g site k l from (l.shards from) (l.shards from).proposal) (all_again g site k l (suc from) m) (again_fair from) (all_fair (suc from) m)
-
-    replica_fair : (r : ℕ) (p : Packet) → Fairly (from_replica g site k l r p)
-    replica_fair r (Promise at b o) = promise_fair r at b o
-    replica_fair r (Accepted at b) = accepted_fair r at b
-    replica_fair r (Nack at b above) = nack_fair at b above
-    replica_fair r _ = idles
-
-    gets_fair : (from : Node) (p : Packet) → Fairly (server_gets g site k l from p)
-    gets_fair from (Claim x) = claim_fair x
-    gets_fair from (Chosen at v) = cond_both (is_next g at (l.shards at.shard) && is_below_limit at.slot) _ (idle l) Fairly (λ _. still _ refl (replies_fair ((l.shards at.shard).learned ++ v ∷ []) (l.shards at.shard).queue) (omega arith) (sets at.shard _ tt)) (λ _. idles)
-    gets_fair (Replica r) p = replica_fair r p
-    gets_fair _ _ = idles
+    accepted_fair : (at : Place) (p : Proposal) → (l.shards at.shard).proposal ≡ Some p → (phase : Phase Batch) (o : Option Batch) → Fairly (accepted g site k l at (l.shards at.shard) p phase o)
+    accepted_fair at p e phase None = still _ refl tt (omega arith) (sets at.shard _ (stood at.shard p e))
+    accepted_fair at p e phase (Some v) = still _ refl (tt, replies_fair ((l.shards at.shard).learned ++ v ∷ []) (l.shards at.shard).queue) (omega arith) (sets at.shard _ tt)
 
     turn_fair : 0 < g.replicas → (i : Input) → Fairly (server_turn g site k l i)
-    turn_fair some Own = own_fair some
-    turn_fair some Tick = still _ refl (all_fair 0 (shards g)) (omega arith) holds
-    turn_fair some (Deliver from p) = gets_fair from p
-    turn_fair some Start = idles
+    turn_fair some =
+        every_row g site k l (λ i o. Fairly o)
+        (record {
+          idles = λ i. still (idle l) refl tt (omega arith) holds;
+          ticks = still _ refl (tick_each g site (λ (a : To × Packet). Fair None a.1) k l (λ s p marks best e f i lt. inl (stood s p e)) (λ s p v marks e f i lt. stood s p e)) (omega arith) holds;
+          draws = λ s may. draw_fair some s;
+          answers = λ from x a e. still _ refl (reply_each g site (λ (b : To × Packet). Fair None b.1) x a (λ t. tt)) (omega arith) holds;
+          queues = λ from x. still _ refl tt (omega arith) (sets (shard g x.id) _ (holds (shard g x.id)));
+          learns_of = λ from at v e. still _ refl (replies_fair ((l.shards at.shard).learned ++ v ∷ []) (l.shards at.shard).queue) (omega arith) (sets at.shard _ tt);
+          promises = λ r at b o p e c. promise_fair at p e (current_at g at b (l.shards at.shard) p c).0 (on_promise p.own p.phase r o);
+          accepts = λ r at b p e c. accepted_fair at p e (on_accepted p.phase r).0 (on_accepted p.phase r).1;
+          refuses = λ r at b above p e c. still _ refl tt (omega arith) (sets at.shard _ tt);
+        })
 
 -- ---- replicas say nothing of the kind
 
@@ -333,7 +275,7 @@ module _ (g : Setting) (some : 0 < g.replicas) (w : World) (h : Drawn w) where
 
       now_sent : (u : ℕ) (st : ShardState) (q : Option Proposal) → NowStands g s k l w.sent o.packets u st q → Stands (sends (Server s) ps ++ w.sent) u st q
       now_sent u st None x = x
-      now_sent u st (Some p) x = ⊎_elim (λ y. more (sends (Server s) ps) (Prepare (next_place u st) p.ballot) y) (λ (y : (a : To × Packet) × Mem a o.packets × (a.1 ≡ Prepare (next_place u st) p.ballot)). let z = addressed_sent g (Server s) o.packets ps ad y.0 y.1 in (z.0, mem_left z.0 (sends (Server s) ps) w.sent z.1, z.2 ∙ y.2)) x
+      now_sent u st (Some p) x = ⊎_elim (λ y. more (sends (Server s) ps) (Prepare (next_at u st) p.ballot) y) (λ (y : (a : To × Packet) × Mem a o.packets × (a.1 ≡ Prepare (next_at u st) p.ballot)). let z = addressed_sent g (Server s) o.packets ps ad y.0 y.1 in (z.0, mem_left z.0 (sends (Server s) ps) w.sent z.1, z.2 ∙ y.2)) x
 
   server_ended : (s : ℕ) (made : Option Note) (ps : List (Node × Packet)) (kept : ℕ) → Addressed g (server_row g s (w.servers s)).packets ps → made ≡ (server_row g s (w.servers s)).note → Drawn (after g w (End (Server s) made ps kept))
   server_ended s made ps kept ad e = subst (λ (q : Option Note). Drawn (after g w (End (Server s) q ps kept))) (sym e) (go (w.servers s).live refl (w.servers s).opened ad)

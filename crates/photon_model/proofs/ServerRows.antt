@@ -1,0 +1,111 @@
+-- The rows of a server: what holds of each row's case holds of every turn.
+use Rattle.std.proofs.Common.{◌≡◌, ℕ, zero, suc, ◌+◌, ◌<◌, Bool, true, false, cond, ◌||◌, ◌&&◌, ◌==◌, nat_lt, nat_le, List, [], ◌∷◌, ◌++◌, length, Some, None, refl, sym, ap, ◌∙◌, subst, inl, inr, arith}
+use Rattle.std.specs.Prelude.{Option}
+use Rattle.std.proofs.lemmas.Bool.{cond_both, eqb-true, and_parts}
+use Rattle.photon_model.proofs.Words.{Setting, shard, shards, Ballot, Batch, Insert, Place, Answer, replay, Phase, on_promise, on_accepted, Promising, Accepting, Ended, Mem, Each, Packet, Claim, Reply, Prepare, Promise, Nack, Accept, Accepted, Chosen, Node, Server, Replica, Joiner, To, Only, Input, Start, Own, Tick, Deliver, Out, idle, is_next, ServerKept, ServerLive, ShardState, Proposal, queued, to_from, to_replicas, is_below_limit, may_propose, first_shard, is_current, is_own_joiner, reply, reply_if, replies, with_shard, learns, claimed, owns, server_own, promised, accepted, nacked, gets_promise, gets_accepted, gets_nack, gets_chosen, of_phase, again, all_again, server_tick, from_replica, server_gets, server_turn, option_both, each_append, none_some, some_same, is_same, same_true}
+
+-- the next place of a shard
+abbrev pub next_at : ℕ → ShardState → Place
+next_at s st = record { shard = s; slot = length st.learned }
+
+first_passes : (test : ℕ → Bool) (from n k : ℕ) → first_shard test from n ≡ Some k → test k ≡ true
+first_passes test from zero k e = none_some k e
+first_passes test from (suc n) k e = go (test from) refl e (first_passes test (suc from) n k)
+  where
+    go : (b : Bool) → test from ≡ b → cond b (Some from) (first_shard test (suc from) n) ≡ Some k → (first_shard test (suc from) n ≡ Some k → test k ≡ true) → test k ≡ true
+    go true t q ih = ap test (sym (some_same from k q)) ∙ t
+    go false t q ih = ih q
+
+-- a current packet is of the proposal's place and ballot
+pub current_at : (g : Setting) (at : Place) (b : Ballot) (st : ShardState) (p : Proposal) → is_current g at b st p ≡ true → (at ≡ next_at at.shard st) × (b ≡ p.ballot)
+current_at g at b st p h =
+    let u = and_parts (is_next g at st) (is_same p.ballot b) h in
+    let e = eqb-true at.slot (length st.learned) (and_parts (nat_lt at.shard (shards g)) (at.slot == length st.learned) u.0).1 in
+    ((λ i. record { shard = at.shard; slot = e i }), sym (same_true p.ballot b u.1))
+
+-- ---- the packets of a row
+
+module _ (g : Setting) (site : ℕ) (P : To × Packet → Type 0) where
+  from_each : (r m : ℕ) (p : Packet) → ((i : ℕ) → i < r + m → P (Only (Replica i), p)) → Each P (to_from r m p)
+  from_each r zero p h = tt
+  from_each r (suc m) p h = (h r (omega arith), from_each (suc r) m p (λ i lt. h i (omega arith)))
+
+  pub replicas_each : (p : Packet) → ((i : ℕ) → i < g.replicas → P (Only (Replica i), p)) → Each P (to_replicas g.replicas p)
+  replicas_each p h = from_each 0 g.replicas p (λ i lt. h i (omega arith))
+
+  pub reply_each : (x : Insert) (a : Answer) → (is_own_joiner g site x.token.joiner ≡ true → P (Only (Joiner x.token.joiner), Reply x a)) → Each P (reply g site x a)
+  reply_each x a h = cond_both (is_own_joiner g site x.token.joiner) ((Only (Joiner x.token.joiner), Reply x a) ∷ []) [] (Each P) (λ t. (h t, tt)) (λ _. tt)
+
+  pub replies_each : (vs : List Batch) (xs : List Insert) → ((x : Insert) (a : Answer) → Mem x xs → replay vs x.id x.token ≡ Some a → is_own_joiner g site x.token.joiner ≡ true → P (Only (Joiner x.token.joiner), Reply x a)) → Each P (replies g site vs xs)
+  replies_each vs [] h = tt
+  replies_each vs (x ∷ xs) h =
+      each_append P (reply_if g site x (replay vs x.id x.token)) (replies g site vs xs)
+      (option_both (replay vs x.id x.token) (reply_if g site x) (Each P) (λ a e. reply_each x a (h x a (inl refl) e)) (λ _. tt))
+      (replies_each vs xs (λ y a m. h y a (inr m)))
+
+  -- a Tick sends the question of each proposal again
+  module _ (k : ServerKept) (l : ServerLive) (asks : (s : ℕ) (p : Proposal) (marks : List Bool) (best : Option (Ballot × Batch)) → (l.shards s).proposal ≡ Some p → p.phase ≡ Promising marks best → (i : ℕ) → i < g.replicas → P (Only (Replica i), Prepare (next_at s (l.shards s)) p.ballot))
+      (offers : (s : ℕ) (p : Proposal) (v : Batch) (marks : List Bool) → (l.shards s).proposal ≡ Some p → p.phase ≡ Accepting v marks → (i : ℕ) → i < g.replicas → P (Only (Replica i), Accept (next_at s (l.shards s)) p.ballot v)) where
+    again_each : (s : ℕ) → Each P (again g site k l s (l.shards s) (l.shards s).proposal)
+    again_each s = option_both (l.shards s).proposal (again g site k l s (l.shards s)) (Each P) (λ p e. of p e p.phase refl) (λ _. tt)
+      where
+        of : (p : Proposal) → (l.shards s).proposal ≡ Some p → (q : Phase Batch) → p.phase ≡ q → Each P (of_phase g site k l (next_at s (l.shards s)) p.ballot q)
+        of p e (Promising marks best) f = replicas_each (Prepare (next_at s (l.shards s)) p.ballot) (asks s p marks best e f)
+        of p e (Accepting v marks) f = replicas_each (Accept (next_at s (l.shards s)) p.ballot v) (offers s p v marks e f)
+        of p e Ended f = tt
+
+    all_each : (from m : ℕ) → Each P (all_again g site k l from m)
+    all_each from zero = tt
+    all_each from (suc m) = each_append P (again g site k l from (l.shards from) (l.shards from).proposal) (all_again g site k l (suc from) m) (again_each from) (all_each (suc from) m)
+
+    pub tick_each : Each P (server_tick g site k l).packets
+    tick_each = all_each 0 (shards g)
+
+-- ---- the rows
+
+module _ (g : Setting) (site : ℕ) (k : ServerKept) (l : ServerLive) where
+  -- what each row makes of its input
+  pub record Rows (P : Input → Out ServerLive → Type 0) : Type 0 where
+    pub idles : (i : Input) → P i (idle l)
+    pub ticks : P Tick (server_tick g site k l)
+    pub draws : (s : ℕ) → may_propose g (l.shards s) ≡ true → P Own (owns g site k l (Some s))
+    pub answers : (from : Node) (x : Insert) (a : Answer) → replay (l.shards (shard g x.id)).learned x.id x.token ≡ Some a → P (Deliver from (Claim x)) (record { note = None; packets = reply g site x a; live = l })
+    pub queues : (from : Node) (x : Insert) → P (Deliver from (Claim x)) (record { note = None; packets = []; live = with_shard g site k l (shard g x.id) (record (l.shards (shard g x.id)) { queue = (l.shards (shard g x.id)).queue ++ x ∷ [] }) })
+    pub learns_of : (from : Node) (at : Place) (v : Batch) → at.slot ≡ length (l.shards at.shard).learned → P (Deliver from (Chosen at v)) (record { note = None; packets = replies g site ((l.shards at.shard).learned ++ v ∷ []) (l.shards at.shard).queue; live = with_shard g site k l at.shard (learns g site (l.shards at.shard) v) })
+    pub promises : (r : ℕ) (at : Place) (b : Ballot) (o : Option (Ballot × Batch)) (p : Proposal) → (l.shards at.shard).proposal ≡ Some p → is_current g at b (l.shards at.shard) p ≡ true → P (Deliver (Replica r) (Promise at b o)) (promised g site k l at (l.shards at.shard) p (on_promise p.own p.phase r o))
+    pub accepts : (r : ℕ) (at : Place) (b : Ballot) (p : Proposal) → (l.shards at.shard).proposal ≡ Some p → is_current g at b (l.shards at.shard) p ≡ true → P (Deliver (Replica r) (Accepted at b)) (accepted g site k l at (l.shards at.shard) p (on_accepted p.phase r).0 (on_accepted p.phase r).1)
+    pub refuses : (r : ℕ) (at : Place) (b above : Ballot) (p : Proposal) → (l.shards at.shard).proposal ≡ Some p → is_current g at b (l.shards at.shard) p ≡ true → P (Deliver (Replica r) (Nack at b above)) (nacked g site k l at (l.shards at.shard) above)
+
+  module _ (P : Input → Out ServerLive → Type 0) (h : Rows P) where
+    own : P Own (server_own g site k l)
+    own =
+        cond_both (is_below_limit l.round) _ (idle l) (P Own)
+        (λ _. option_both (first_shard (λ s. may_propose g (l.shards s)) 0 (shards g)) (owns g site k l) (P Own) (λ s e. h.draws s (first_passes (λ s. may_propose g (l.shards s)) 0 (shards g) s e)) (λ _. h.idles Own))
+        (λ _. h.idles Own)
+
+    -- the packet is current, or the server is idle
+    if_so : (i : Input) (b : Bool) (x : Out ServerLive) → (b ≡ true → P i x) → P i (cond b x (idle l))
+    if_so i b x f = cond_both b x (idle l) (P i) f (λ _. h.idles i)
+
+    heard : (r : ℕ) (p : Packet) → P (Deliver (Replica r) p) (from_replica g site k l r p)
+    heard r (Promise at b o) = option_both (l.shards at.shard).proposal (gets_promise g site k l r at b o (l.shards at.shard)) (P (Deliver (Replica r) (Promise at b o))) (λ p e. if_so _ _ _ (λ c. h.promises r at b o p e c)) (λ _. h.idles _)
+    heard r (Accepted at b) = option_both (l.shards at.shard).proposal (gets_accepted g site k l r at b (l.shards at.shard)) (P (Deliver (Replica r) (Accepted at b))) (λ p e. if_so _ _ _ (λ c. h.accepts r at b p e c)) (λ _. h.idles _)
+    heard r (Nack at b above) = option_both (l.shards at.shard).proposal (gets_nack g site k l at b above (l.shards at.shard)) (P (Deliver (Replica r) (Nack at b above))) (λ p e. if_so _ _ _ (λ c. h.refuses r at b above p e c)) (λ _. h.idles _)
+    heard r p = h.idles (Deliver (Replica r) p)
+
+    gets : (from : Node) (p : Packet) → P (Deliver from p) (server_gets g site k l from p)
+    gets from (Claim x) =
+        option_both (replay (l.shards (shard g x.id)).learned x.id x.token) (claimed g site k l x (shard g x.id) (l.shards (shard g x.id))) (P (Deliver from (Claim x)))
+        (λ a e. h.answers from x a e)
+        (λ _. cond_both (queued (l.shards (shard g x.id)).queue x.token || nat_le 4096 (length (l.shards (shard g x.id)).queue)) (idle l) _ (P (Deliver from (Claim x))) (λ _. h.idles _) (λ _. h.queues from x))
+    gets from (Chosen at v) =
+        if_so _ (is_next g at (l.shards at.shard) && is_below_limit at.slot) _
+        (λ t. h.learns_of from at v (eqb-true at.slot (length (l.shards at.shard).learned) (and_parts (nat_lt at.shard (shards g)) (at.slot == length (l.shards at.shard).learned) (and_parts (is_next g at (l.shards at.shard)) (is_below_limit at.slot) t).0).1))
+    gets (Replica r) p = heard r p
+    gets from p = h.idles (Deliver from p)
+
+    pub every_row : (i : Input) → P i (server_turn g site k l i)
+    every_row Own = own
+    every_row Tick = h.ticks
+    every_row (Deliver from p) = gets from p
+    every_row Start = h.idles Start
