@@ -1,8 +1,8 @@
 -- The rows of a server: what holds of each row's case holds of every turn.
-use Rattle.std.proofs.Common.{◌≡◌, ℕ, zero, suc, ◌+◌, ◌<◌, Bool, true, false, cond, ◌||◌, ◌&&◌, ◌==◌, nat_lt, nat_le, List, [], ◌∷◌, ◌++◌, length, Some, None, refl, sym, ap, ◌∙◌, subst, inl, inr, arith}
+use Rattle.std.proofs.Common.{◌≡◌, ℕ, zero, suc, ◌+◌, ◌<◌, Bool, true, false, cond, ◌||◌, ◌&&◌, ◌==◌, nat_lt, nat_le, List, [], ◌∷◌, ◌++◌, length, set, Some, None, refl, sym, ap, ◌∙◌, subst, inl, inr, arith}
 use Rattle.std.specs.Prelude.{Option}
 use Rattle.std.proofs.lemmas.Bool.{cond_both, eqb-true, and_parts}
-use Rattle.photon_model.proofs.Words.{Setting, shard, shards, Ballot, Batch, Insert, Place, Answer, replay, Phase, on_promise, on_accepted, Promising, Accepting, Ended, Mem, Each, Packet, Claim, Reply, Prepare, Promise, Nack, Accept, Accepted, Chosen, Node, Server, Replica, Joiner, To, Only, Input, Start, Own, Tick, Deliver, Out, idle, is_next, ServerKept, ServerLive, ShardState, Proposal, queued, to_from, to_replicas, is_below_limit, may_propose, first_shard, is_current, is_own_joiner, reply, reply_if, replies, with_shard, learns, claimed, owns, server_own, promised, accepted, nacked, gets_promise, gets_accepted, gets_nack, gets_chosen, of_phase, again, all_again, server_tick, from_replica, server_gets, server_turn, option_both, each_append, none_some, some_same, is_same, same_true}
+use Rattle.photon_model.proofs.Words.{Setting, shard, shards, Ballot, Batch, Insert, Place, Answer, replay, Phase, on_promise, on_accepted, Promising, Accepting, Ended, Mem, Each, Packet, Claim, Reply, Prepare, Promise, Nack, Accept, Accepted, Chosen, Node, Server, Replica, Joiner, To, Only, Input, Start, Own, Tick, Deliver, Out, idle, is_next, ServerKept, ServerLive, ShardState, Proposal, queued, to_from, to_replicas, is_below_limit, may_propose, first_shard, is_current, is_own_joiner, reply, reply_if, replies, with_shard, learns, claimed, owns, server_own, promised, accepted, nacked, gets_promise, gets_accepted, gets_nack, gets_chosen, of_phase, again, all_again, server_tick, from_replica, server_gets, server_turn, option_both, each_append, none_some, some_same, is_same, is_below, same_true, higher, value_for, is_new, is_most, nobody, with_promise, with_acceptance}
 
 -- the next place of a shard
 abbrev pub next_at : ℕ → ShardState → Place
@@ -109,3 +109,29 @@ module _ (g : Setting) (site : ℕ) (k : ServerKept) (l : ServerLive) where
     every_row Tick = h.ticks
     every_row (Deliver from p) = gets from p
     every_row Start = h.idles Start
+
+-- ---- what an answer makes of a phase
+
+pub higher_both : (P : Option (Ballot × Batch) → Type 0) (a b : Option (Ballot × Batch)) → P a → P b → P (higher a b)
+higher_both P None b h i = i
+higher_both P (Some x) None h i = h
+higher_both P (Some x) (Some y) h i = cond_both (is_below x.0 y.0) (Some y) (Some x) P (λ _. i) (λ _. h)
+
+pub promise_cases :
+    (own : Batch) (r : ℕ) (o : Option (Ballot × Batch)) (P : Phase Batch → Phase Batch × Option Batch → Type 0) → ((y : Phase Batch) → P y (y, None)) →
+    ((marks : List Bool) (best : Option (Ballot × Batch)) → is_most (set marks r true) ≡ true → P (Promising marks best) (Accepting (value_for own (higher best o)) (nobody (length (set marks r true))), Some (value_for own (higher best o)))) →
+    ((marks : List Bool) (best : Option (Ballot × Batch)) → P (Promising marks best) (Promising (set marks r true) (higher best o), None)) → (y : Phase Batch) → P y (on_promise own y r o)
+promise_cases own r o P same sent more (Promising marks best) =
+    cond_both (is_new marks r) (with_promise own (set marks r true) (higher best o)) (Promising marks best, None) (P (Promising marks best))
+    (λ _. cond_both (is_most (set marks r true)) (Accepting (value_for own (higher best o)) (nobody (length (set marks r true))), Some (value_for own (higher best o))) (Promising (set marks r true) (higher best o), None) (P (Promising marks best)) (sent marks best) (λ _. more marks best))
+    (λ _. same (Promising marks best))
+promise_cases own r o P same sent more y = same y
+
+pub accept_cases :
+    (r : ℕ) (P : Phase Batch → Phase Batch × Option Batch → Type 0) → ((y : Phase Batch) → P y (y, None)) → ((v : Batch) (marks : List Bool) → is_most (set marks r true) ≡ true → P (Accepting v marks) (Ended, Some v)) →
+    ((v : Batch) (marks : List Bool) → P (Accepting v marks) (Accepting v (set marks r true), None)) → (y : Phase Batch) → P y (on_accepted y r)
+accept_cases r P same learned more (Accepting v marks) =
+    cond_both (is_new marks r) (with_acceptance v (set marks r true)) (Accepting v marks, None) (P (Accepting v marks))
+    (λ _. cond_both (is_most (set marks r true)) (Ended, Some v) (Accepting v (set marks r true), None) (P (Accepting v marks)) (learned v marks) (λ _. more v marks))
+    (λ _. same (Accepting v marks))
+accept_cases r P same learned more y = same y
