@@ -1,8 +1,7 @@
 -- A ballot is drawn for one place alone.
-use Rattle.std.proofs.Common.{◌≡◌, ◌⊎◌, inl, inr, ⊎_elim, ℕ, zero, suc, ◌<◌, ◌≤◌, true, ◌||◌, ◌&&◌, ◌==◌, nat_lt, nat_le, List, [], ◌∷◌, ◌++◌, length, Some, None, refl, sym, ap, ◌∙◌, subst, arith}
+use Rattle.std.proofs.Common.{◌≡◌, ◌⊎◌, inl, inr, ⊎_elim, ℕ, zero, suc, ◌<◌, ◌≤◌, List, [], ◌∷◌, ◌++◌, Some, None, refl, sym, ap, ◌∙◌, subst, arith}
 use Rattle.std.specs.Prelude.{Option}
-use Rattle.std.proofs.lemmas.Bool.{cond_both, eqb-true, and_parts}
-use Rattle.photon_model.proofs.Words.{Ballot, Insert, Batch, is_same as same_ballot, Phase, on_promise, on_accepted, Promising, Accepting, Ended, Prepared as PrepareAnswer, Taken, on_prepare, on_accept, Grant, Refuse, Take, Decline, same_batch, Mem, Each, set_at, Answer, replay, Setting, shard, shards, Packet, Claim, Reply, Prepare, Promise, Nack, Accept, Accepted, Chosen, Place, Node, Dispatcher, Server, Replica, Joiner, To, Only, Sent, Input, Start, Own, Tick, Deliver, Note, Out, idle, land, is_next, ServerKept, ServerLive, ShardState, Proposal, land_server, queued, to_from, to_replicas, is_below_limit, may_propose, first_shard, is_current, is_own_joiner, reply, reply_if, replies, claimed, owns, server_own, promised, accepted, of_phase, gets_promise, gets_accepted, gets_nack, again, all_again, from_replica, server_gets, server_turn, ReplicaKept, cell_at, prepared, taken, replica_gets, option_both, each_at, each_append, mem_left, mem_right, mem_split, at_set, at_set_if, some_same, none_some, Addressed}
+use Rattle.photon_model.proofs.Words.{Ballot, Insert, Batch, Phase, on_promise, on_accepted, Prepared as PrepareAnswer, Taken, on_prepare, on_accept, Grant, Refuse, Take, Decline, same_batch, Mem, Each, set_at, Setting, shard, Packet, Prepare, Accept, Place, Node, Dispatcher, Server, Replica, Joiner, To, Only, Sent, Input, Start, Own, Tick, Deliver, Note, Out, idle, land, ServerKept, ServerLive, ShardState, Proposal, land_server, to_from, to_replicas, replies, owns, promised, accepted, server_turn, ReplicaKept, cell_at, prepared, taken, replica_gets, each_at, mem_left, mem_right, mem_split, at_set, at_set_if, some_same, none_some, Addressed}
 use Rattle.photon_model.proofs.ServerRows.{next_at, current_at, replicas_each, reply_each, replies_each, tick_each, every_row}
 use Rattle.photon_model.specs.Runs.{Cell, World, Entry, Begin, End, Stop, Disks, begun, ended, stopped, dispatcher_row, joiner_row, server_row, replica_row, sends, after, world_after, May, IsRun, opening}
 use Rattle.photon_model.specs.Claims.{HasSent}

@@ -1,8 +1,7 @@
 -- Each bound that is offered is the horizon, or stood in an accepted record before the run.
-use Rattle.std.proofs.Common.{◌≡◌, inl, ℕ, true, ◌||◌, ◌&&◌, nat_le, List, length, set, Some, None, refl, subst}
+use Rattle.std.proofs.Common.{◌≡◌, inl, ℕ, List, Some, None, refl, subst}
 use Rattle.std.specs.Prelude.{Option}
-use Rattle.std.proofs.lemmas.Bool.{cond_both}
-use Rattle.photon_model.proofs.Words.{Ballot, Batch, is_below, higher, value_for, Phase, is_new, is_most, nobody, with_promise, on_promise, with_acceptance, on_accepted, Promising, Accepting, Ended, IsGrant, Mem, set_at, replay, Setting, shard, shards, Packet, Claim, Promise, Nack, Accepted, Chosen, Place, Node, Replica, Input, Start, Own, Tick, Deliver, Out, idle, is_next, ServerKept, ServerLive, ShardState, Proposal, queued, is_below_limit, may_propose, first_shard, accepted, is_current, claimed, owns, server_own, gets_promise, gets_accepted, gets_nack, from_replica, server_gets, server_turn, option_both, at_set}
+use Rattle.photon_model.proofs.Words.{Ballot, Batch, higher, value_for, Phase, on_promise, on_accepted, Promising, Accepting, Ended, IsGrant, Mem, set_at, Setting, shard, Packet, Promise, Place, Node, Replica, Input, Deliver, ServerKept, ServerLive, ShardState, Proposal, accepted, server_turn, at_set}
 use Rattle.photon_model.proofs.ServerRows.{every_row, higher_both, promise_cases, accept_cases}
 use Rattle.photon_model.specs.Agreement.{Offer, Votes, offer, VotesOf, VotesAgree}
 use Rattle.photon_model.specs.EveryRun.{IsBoundOk}

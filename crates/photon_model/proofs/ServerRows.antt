@@ -1,8 +1,8 @@
 -- The rows of a server: what holds of each row's case holds of every turn.
-use Rattle.std.proofs.Common.{◌≡◌, ℕ, zero, suc, ◌+◌, ◌<◌, Bool, true, false, cond, ◌||◌, ◌&&◌, ◌==◌, nat_lt, nat_le, List, [], ◌∷◌, ◌++◌, length, set, Some, None, refl, sym, ap, ◌∙◌, subst, inl, inr, arith}
+use Rattle.std.proofs.Common.{◌≡◌, ℕ, zero, suc, ◌+◌, ◌<◌, Bool, true, false, cond, ◌||◌, ◌&&◌, ◌==◌, nat_lt, nat_le, List, [], ◌∷◌, ◌++◌, length, set, Some, None, refl, sym, ap, ◌∙◌, inl, inr, arith}
 use Rattle.std.specs.Prelude.{Option}
 use Rattle.std.proofs.lemmas.Bool.{cond_both, eqb-true, and_parts}
-use Rattle.photon_model.proofs.Words.{Setting, shard, shards, Ballot, Batch, Insert, Place, Answer, replay, Phase, on_promise, on_accepted, Promising, Accepting, Ended, Mem, Each, Packet, Claim, Reply, Prepare, Promise, Nack, Accept, Accepted, Chosen, Node, Server, Replica, Joiner, To, Only, Input, Start, Own, Tick, Deliver, Out, idle, is_next, ServerKept, ServerLive, ShardState, Proposal, queued, to_from, to_replicas, is_below_limit, may_propose, first_shard, is_current, is_own_joiner, reply, reply_if, replies, with_shard, learns, claimed, owns, server_own, promised, accepted, nacked, gets_promise, gets_accepted, gets_nack, gets_chosen, of_phase, again, all_again, server_tick, from_replica, server_gets, server_turn, option_both, each_append, none_some, some_same, is_same, is_below, same_true, higher, value_for, is_new, is_most, nobody, with_promise, with_acceptance}
+use Rattle.photon_model.proofs.Words.{Setting, shard, shards, Ballot, Batch, Insert, Place, Answer, replay, Phase, on_promise, on_accepted, Promising, Accepting, Ended, Mem, Each, Packet, Claim, Reply, Prepare, Promise, Nack, Accept, Accepted, Chosen, Node, Replica, Joiner, To, Only, Input, Start, Own, Tick, Deliver, Out, idle, is_next, ServerKept, ServerLive, ShardState, Proposal, queued, to_from, to_replicas, is_below_limit, may_propose, first_shard, is_current, is_own_joiner, reply, reply_if, replies, with_shard, learns, claimed, owns, server_own, promised, accepted, nacked, gets_promise, gets_accepted, gets_nack, of_phase, again, all_again, server_tick, from_replica, server_gets, server_turn, option_both, each_append, none_some, some_same, is_same, is_below, same_true, higher, value_for, is_new, is_most, nobody, with_promise, with_acceptance}
 
 -- the next place of a shard
 abbrev pub next_at : ℕ → ShardState → Place

@@ -1,8 +1,7 @@
 -- Each row of a registry server keeps its facts.
-use Rattle.std.proofs.Common.{◌≡◌, ℕ, zero, suc, true, ◌||◌, ◌&&◌, ◌==◌, nat_lt, nat_le, List, [], ◌∷◌, ◌++◌, length, take, set, Some, None, refl, sym, ap, ◌∙◌, subst, arith}
+use Rattle.std.proofs.Common.{◌≡◌, ℕ, zero, suc, List, [], ◌∷◌, ◌++◌, length, take, Some, None, refl, sym, ap, ◌∙◌, subst, arith}
 use Rattle.std.specs.Prelude.{Option, slice_get}
-use Rattle.std.proofs.lemmas.Bool.{cond_both, eqb-true, and_parts}
-use Rattle.photon_model.proofs.Words.{goes_on, each_at, Ballot, Insert, Batch, is_below, higher, value_for, Phase, is_new, is_most, nobody, with_promise, on_promise, with_acceptance, on_accepted, Promising, Accepting, Ended, Mem, Each, Begins, Answer, Granted, Duplicate, TooOld, replay, Setting, shard, shards, Packet, Claim, Reply, Prepare, Promise, Nack, Accept, Accepted, Chosen, Place, Node, Replica, Joiner, To, Only, Input, Start, Own, Tick, Deliver, idle, is_next, ServerKept, ServerLive, ShardState, Proposal, queued, to_from, to_replicas, is_below_limit, may_propose, first_shard, is_current, is_own_joiner, reply, reply_if, replies, keep_if, unanswered, learns, with_shard, claimed, owns, server_own, promised, accepted, of_phase, gets_promise, gets_accepted, gets_nack, gets_chosen, again, all_again, server_tick, from_replica, server_gets, server_turn, server_start, some_same, none_some, option_both, each_append, at_set, Replays, replay_means, granted_stays, bound_stays}
+use Rattle.photon_model.proofs.Words.{goes_on, each_at, Ballot, Insert, Batch, higher, value_for, Phase, on_promise, on_accepted, Each, Begins, Answer, Granted, Duplicate, TooOld, replay, Setting, shard, Packet, Prepare, Accept, Place, To, Input, ServerKept, ServerLive, ShardState, Proposal, replies, keep_if, unanswered, learns, with_shard, promised, accepted, server_turn, server_start, some_same, none_some, option_both, each_append, at_set, Replays, replay_means, granted_stays, bound_stays}
 use Rattle.photon_model.proofs.ServerRows.{next_at, current_at, replicas_each, reply_each, replies_each, tick_each, every_row, higher_both, promise_cases, accept_cases}
 use Rattle.photon_model.specs.Sound.{Known, values_of, IsInsertOf}
 use Rattle.photon_model.specs.Facts.{HoldsOfReply, HoldsOfBatch, HoldsOfBest, HoldsOfPhase, HoldsOf, HoldsOfInput, HoldsOfProposal, ShardHolds, ServerHolds}
