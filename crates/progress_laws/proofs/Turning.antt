@@ -1,9 +1,10 @@
 -- What a server's turn makes of each of its shards, and what it asks.
-use Rattle.std.proofs.Common.{subst, ◌+◌, ◌≡◌, ◌⊎◌, inl, inr, ℕ, zero, suc, ◌<◌, ◌≤◌, max, Bool, true, false, cond, ◌||◌, ◌&&◌, ◌==◌, nat_lt, nat_le, List, ◌∷◌, ◌++◌, length, take, Some, None, refl, sym, ap, ◌∙◌, arith, ◌-◌, []}
+use Rattle.std.proofs.Common.{subst, ◌+◌, ◌≡◌, ◌⊎◌, inl, inr, ℕ, suc, ◌<◌, ◌≤◌, max, Bool, true, false, ◌||◌, ◌&&◌, nat_lt, List, ◌∷◌, ◌++◌, length, take, Some, None, refl, sym, ap, ◌∙◌, arith, ◌-◌, []}
 use Rattle.std.specs.Prelude.{Option, not}
-use Rattle.std.proofs.lemmas.Bool.{cond_both, true≢false, and_parts, eqb-true}
+use Rattle.std.proofs.lemmas.Bool.{true≢false, and_parts}
 use Rattle.std.proofs.lemmas.List.{length-append, length-replicate}
-use Rattle.photon_model.proofs.Words.{Ballot, is_same, same_true, Insert, Batch, Answer, bound_of, replay, Place, Phase, nobody, on_promise, on_accepted, Promising, Accepting, Ended, Mem, Each, set_at, at_set, each_append, mem_left, none_some, some_same, option_both, Setting, shard, shards, Out, idle, is_empty, Packet, Reply, Prepare, Promise, Nack, Accept, Accepted, Chosen, Node, Dispatcher, Server, Replica, Joiner, To, Only, Input, Start, Own, Tick, Deliver, ServerKept, ServerLive, ShardState, Proposal, queued, to_from, to_replicas, is_below_limit, is_free, may_propose, first_shard, is_next, is_current, is_own_joiner, reply, reply_if, replies, learns, claimed, owns, server_own, goes_on, promised, accepted, nacked, gets_promise, gets_accepted, gets_nack, of_phase, again, all_again, server_gets, server_turn}
+use Rattle.photon_model.proofs.Words.{server_tick, Ballot, Insert, Batch, bound_of, Place, Phase, nobody, on_promise, on_accepted, Promising, Accepting, Mem, Each, set_at, at_set, mem_left, none_some, some_same, Setting, shard, Out, is_empty, Packet, Prepare, Promise, Nack, Accept, Accepted, Chosen, Server, Replica, To, Only, Input, Own, Deliver, ServerKept, ServerLive, ShardState, Proposal, to_replicas, is_below_limit, is_free, may_propose, reply, replies, learns, owns, goes_on, promised, accepted, nacked, server_turn}
+use Rattle.photon_model.proofs.ServerRows.{current_at, replicas_each, reply_each, replies_each, tick_each, every_row}
 use Rattle.progress_laws.specs.Moves.{is_left, next_of}
 use Rattle.progress_laws.proofs.Phases.{IsOpen, IfOpen, question, PhaseGoes, phase_same, nobody_open, promise_goes, accepted_goes, promise_open, accepted_open, mem_to}
 use Rattle.progress_laws.proofs.Ending.{set_own}
@@ -49,14 +50,6 @@ AllAsk f ps = Each (λ (a : To × Packet). Asks f a.1) ps
 is_none : (o : Option Proposal) → is_free o ≡ true → o ≡ None
 is_none None e = refl
 is_none (Some p) e = absurd (true≢false (sym e))
-
-first_passes : (test : ℕ → Bool) (from n k : ℕ) → first_shard test from n ≡ Some k → test k ≡ true
-first_passes test from zero k e = none_some k e
-first_passes test from (suc n) k e = go (test from) refl e (first_passes test (suc from) n k)
-  where
-    go : (b : Bool) → test from ≡ b → cond b (Some from) (first_shard test (suc from) n) ≡ Some k → (first_shard test (suc from) n ≡ Some k → test k ≡ true) → test k ≡ true
-    go true t q ih = ap test (sym (some_same from k q)) ∙ t
-    go false t q ih = ih q
 
 module _ (g : Setting) (site : ℕ) (k : ServerKept) (l : ServerLive) where
   -- an attempt is drawn in the next round, where something is left to do
@@ -127,29 +120,14 @@ module _ (g : Setting) (site : ℕ) (k : ServerKept) (l : ServerLive) where
   stays : (i : Input) (ps : List (To × Packet)) → AllAsk l.shards ps → Turns i (record { note = None; packets = ps; live = l })
   stays i ps asks = record { rounds = omega arith; each = same i l.round; asks = asks; follows = λ n. still n (l.shards n) ps refl refl; opens = λ h. h }
 
-  idles : (i : Input) → Turns i (idle l)
-  idles i = stays i [] tt
-
-  reply_asks : (f : ℕ → ShardState) (x : Insert) (a : Answer) → AllAsk f (reply g site x a)
-  reply_asks f x a = cond_both (is_own_joiner g site x.token.joiner) ((Only (Joiner x.token.joiner), Reply x a) ∷ []) [] (AllAsk f) (λ _. (tt, tt)) (λ _. tt)
-
   replies_ask : (f : ℕ → ShardState) (vs : List Batch) (xs : List Insert) → AllAsk f (replies g site vs xs)
-  replies_ask f vs [] = tt
-  replies_ask f vs (x ∷ xs) = each_append (λ (a : To × Packet). Asks f a.1) (reply_if g site x (replay vs x.id x.token)) (replies g site vs xs) (option_both (replay vs x.id x.token) (reply_if g site x) (AllAsk f) (λ a _. reply_asks f x a) (λ _. tt)) (replies_ask f vs xs)
+  replies_ask f vs xs = replies_each g site (λ (a : To × Packet). Asks f a.1) vs xs (λ x a m e t. tt)
 
-  to_from_asks : (f : ℕ → ShardState) (r m : ℕ) (p : Packet) → Asks f p → AllAsk f (to_from r m p)
-  to_from_asks f r zero p h = tt
-  to_from_asks f r (suc m) p h = (h, to_from_asks f (suc r) m p h)
+  question_asks : (f : ℕ → ShardState) (p : Packet) → Asks f p → AllAsk f (to_replicas g.replicas p)
+  question_asks f p h = replicas_each g site (λ (a : To × Packet). Asks f a.1) p (λ i lt. h)
 
   learned : (i : Input) → teaches i ≡ true → (ps : List (To × Packet)) (s : ℕ) (v : Batch) → AllAsk (set_at l.shards s (learns g site (l.shards s) v)) ps → Turns i (record { note = None; packets = ps; live = record { round = l.round; shards = set_at l.shards s (learns g site (l.shards s) v) } })
   learned i tells ps s v asks = sets i ps l.round s (learns g site (l.shards s) v) (omega arith) (inr (let long : length ((l.shards s).learned ++ v ∷ []) ≡ length (l.shards s).learned + 1 = length-append (l.shards s).learned (v ∷ []) in omega (arith, long), refl, tells)) asks (gone s (learns g site (l.shards s) v) ps refl) (λ h. tt)
-
-  claimed_turns : (i : Input) (x : Insert) (s : ℕ) (o : Option Answer) → Turns i (claimed g site k l x s (l.shards s) o)
-  claimed_turns i x s (Some a) = stays i (reply g site x a) (reply_asks l.shards x a)
-  claimed_turns i x s None =
-      cond_both (queued (l.shards s).queue x.token || nat_le 4096 (length (l.shards s).queue)) (idle l) _ (Turns i) (λ _. idles i)
-      (λ _. sets i [] l.round s (record (l.shards s) { queue = (l.shards s).queue ++ x ∷ [] }) (omega arith) (inl ((refl, λ y m. mem_left y (l.shards s).queue (x ∷ []) m), inl (refl, λ h. h))) tt
-      (still s (record (l.shards s) { queue = (l.shards s).queue ++ x ∷ [] }) [] refl refl) (λ h. h s))
 
   -- an attempt stands at its place where its shard is set
   stands_at : (at : Place) (st : ShardState) (b : Ballot) → next_of at.shard st ≡ at → ballot_in st.proposal ≡ Some b → Stands (set_at l.shards at.shard st) at b
@@ -158,23 +136,17 @@ module _ (g : Setting) (site : ℕ) (k : ServerKept) (l : ServerLive) where
   abbrev drawn : Ballot
   drawn = record { round = suc l.round; epoch = k.epoch; site = site }
 
-  owns_turns : (i : Input) → Turns i (server_own g site k l)
-  owns_turns i =
-      cond_both (is_below_limit l.round) _ (idle l) (Turns i)
-      (λ _. option_both (first_shard (λ s. may_propose g (l.shards s)) 0 (shards g)) (owns g site k l) (Turns i) (λ s e. draws s (first_passes (λ s. may_propose g (l.shards s)) 0 (shards g) s e)) (λ _. idles i))
-      (λ _. idles i)
-    where
-      draws : (s : ℕ) → may_propose g (l.shards s) ≡ true → Turns i (owns g site k l (Some s))
-      draws s may =
-          let parts = and_parts (is_free (l.shards s).proposal && not (l.shards s).held) ((not (is_empty (l.shards s).queue) || nat_lt (bound_of (l.shards s).learned) g.horizon) && is_below_limit (length (l.shards s).learned)) may in
-          let free = is_none (l.shards s).proposal (and_parts (is_free (l.shards s).proposal) (not (l.shards s).held) parts.0).0 in
-          let left = (and_parts (not (is_empty (l.shards s).queue) || nat_lt (bound_of (l.shards s).learned) g.horizon) (is_below_limit (length (l.shards s).learned)) parts.1).0 in
-          let st : ShardState = record (l.shards s) { proposal = Some (record { ballot = drawn; own = record { bound = g.horizon; inserts = take g.batch (l.shards s).queue }; phase = Promising (nobody g.replicas) None }) } in
-          sets i (to_replicas g.replicas (Prepare (next_of s (l.shards s)) drawn)) (suc l.round) s st (omega arith)
-          (inl ((refl, λ x m. m), inr (inl (drawn, ap ballot_in free, left, refl, refl))))
-          (to_from_asks (set_at l.shards s st) 0 g.replicas (Prepare (next_of s (l.shards s)) drawn) (stands_at (next_of s (l.shards s)) st drawn refl refl))
-          (λ p q. inl (λ r lt. subst (λ (x : Proposal). Mem (Only (Replica r), question (next_of s (l.shards s)) x.ballot x.phase) (to_replicas g.replicas (Prepare (next_of s (l.shards s)) drawn))) (some_same _ p q) (mem_to r 0 g.replicas (Prepare (next_of s (l.shards s)) drawn) (omega arith) (omega arith))))
-          (λ h. (length-replicate g.replicas false, nobody_open g.replicas))
+  draws : (s : ℕ) → may_propose g (l.shards s) ≡ true → Turns Own (owns g site k l (Some s))
+  draws s may =
+      let parts = and_parts (is_free (l.shards s).proposal && not (l.shards s).held) ((not (is_empty (l.shards s).queue) || nat_lt (bound_of (l.shards s).learned) g.horizon) && is_below_limit (length (l.shards s).learned)) may in
+      let free = is_none (l.shards s).proposal (and_parts (is_free (l.shards s).proposal) (not (l.shards s).held) parts.0).0 in
+      let left = (and_parts (not (is_empty (l.shards s).queue) || nat_lt (bound_of (l.shards s).learned) g.horizon) (is_below_limit (length (l.shards s).learned)) parts.1).0 in
+      let st : ShardState = record (l.shards s) { proposal = Some (record { ballot = drawn; own = record { bound = g.horizon; inserts = take g.batch (l.shards s).queue }; phase = Promising (nobody g.replicas) None }) } in
+      sets Own (to_replicas g.replicas (Prepare (next_of s (l.shards s)) drawn)) (suc l.round) s st (omega arith)
+      (inl ((refl, λ x m. m), inr (inl (drawn, ap ballot_in free, left, refl, refl))))
+      (question_asks (set_at l.shards s st) (Prepare (next_of s (l.shards s)) drawn) (stands_at (next_of s (l.shards s)) st drawn refl refl))
+      (λ p q. inl (λ r lt. subst (λ (x : Proposal). Mem (Only (Replica r), question (next_of s (l.shards s)) x.ballot x.phase) (to_replicas g.replicas (Prepare (next_of s (l.shards s)) drawn))) (some_same _ p q) (mem_to r 0 g.replicas (Prepare (next_of s (l.shards s)) drawn) (omega arith) (omega arith))))
+      (λ h. (length-replicate g.replicas false, nobody_open g.replicas))
 
   -- an attempt goes on to a phase
   abbrev with_phase : Place → Proposal → Phase Batch → ShardState
@@ -187,11 +159,6 @@ module _ (g : Setting) (site : ℕ) (k : ServerKept) (l : ServerLive) where
   keeps : (at : Place) (p : Proposal) (phase : Phase Batch) (ps : List (To × Packet)) → (l.shards at.shard).proposal ≡ Some p → PhaseGoes p.phase phase → Follows at.shard (with_phase at p phase) ps
   keeps at p phase ps e goes x q = inr (p, e, refl, ap (λ (y : Proposal). y.ballot) (sym (some_same _ x q)), subst (λ (y : Proposal). PhaseGoes p.phase y.phase) (some_same _ x q) goes)
 
-  at_is : (at : Place) (b : Ballot) (p : Proposal) → is_current g at b (l.shards at.shard) p ≡ true → (next_of at.shard (l.shards at.shard) ≡ at) × (p.ballot ≡ b)
-  at_is at b p e =
-      let both = and_parts (is_next g at (l.shards at.shard)) (is_same p.ballot b) e in
-      (ap (λ x. record { shard = at.shard; slot = x }) (sym (eqb-true at.slot (length (l.shards at.shard).learned) (and_parts (nat_lt at.shard (shards g)) (at.slot == length (l.shards at.shard).learned) both.0).1)), same_true p.ballot b both.1)
-
   -- with a value all are asked to accept it
   abbrev IsPromiseTurn : Phase Batch → Phase Batch → Option Batch → Type 0
   IsPromiseTurn was phase o = ((o ≡ None) × PhaseGoes was phase) ⊎ ((v : Batch) × (marks : List Bool) × (o ≡ Some v) × (phase ≡ Accepting v marks))
@@ -202,7 +169,7 @@ module _ (g : Setting) (site : ℕ) (k : ServerKept) (l : ServerLive) where
   promised_turns i at p e next phase (Some v) (inl h) opens = none_some v (sym h.0)
   promised_turns i at p e next phase (Some v) (inr (u, marks, is, h)) opens =
       goes i at p phase (to_replicas g.replicas (Accept at p.ballot v)) e opens
-      (to_from_asks (set_at l.shards at.shard (with_phase at p phase)) 0 g.replicas (Accept at p.ballot v) (stands_at at (with_phase at p phase) p.ballot next refl))
+      (question_asks (set_at l.shards at.shard (with_phase at p phase)) (Accept at p.ballot v) (stands_at at (with_phase at p phase) p.ballot next refl))
       (λ x q. inl (λ r lt. subst (λ (y : Proposal). Mem (Only (Replica r), question (next_of at.shard (l.shards at.shard)) y.ballot y.phase) (to_replicas g.replicas (Accept at p.ballot v))) (some_same _ x q)
       (subst (λ (y : Phase Batch). Mem (Only (Replica r), question (next_of at.shard (l.shards at.shard)) p.ballot y) (to_replicas g.replicas (Accept at p.ballot v))) (sym (h ∙ ap (λ z. Accepting z marks) (some_same u v (sym is))))
       (subst (λ (y : Place). Mem (Only (Replica r), Accept y p.ballot v) (to_replicas g.replicas (Accept at p.ballot v))) (sym next) (mem_to r 0 g.replicas (Accept at p.ballot v) (omega arith) (omega arith))))))
@@ -217,48 +184,28 @@ module _ (g : Setting) (site : ℕ) (k : ServerKept) (l : ServerLive) where
       (inl ((refl, λ x m. m), inr (inr (r, b, c, ap (λ (q : Place). Deliver (Replica r) (Nack q b c)) (sym next), ap ballot_in e ∙ ap Some same, refl, omega arith)))) tt
       (gone at.shard (record (l.shards at.shard) { proposal = None; held = true }) [] refl) (λ h. tt)
 
-  gets_turns : (from : Node) (p : Packet) → Turns (Deliver from p) (server_gets g site k l from p)
-  gets_turns from (packet.Insert x) = claimed_turns (Deliver from (packet.Insert x)) x (shard g x.id) (replay (l.shards (shard g x.id)).learned x.id x.token)
-  gets_turns from (Chosen at v) =
-      cond_both (is_next g at (l.shards at.shard) && is_below_limit at.slot) _ (idle l) (Turns (Deliver from (Chosen at v)))
-      (λ _. learned (Deliver from (Chosen at v)) refl (replies g site ((l.shards at.shard).learned ++ v ∷ []) (l.shards at.shard).queue) at.shard v (replies_ask (set_at l.shards at.shard (learns g site (l.shards at.shard) v)) ((l.shards at.shard).learned ++ v ∷ []) (l.shards at.shard).queue))
-      (λ _. idles (Deliver from (Chosen at v)))
-  gets_turns (Replica r) (Promise at b prior) =
-      option_both (l.shards at.shard).proposal (gets_promise g site k l r at b prior (l.shards at.shard)) (Turns (Deliver (Replica r) (Promise at b prior)))
-      (λ p e. cond_both (is_current g at b (l.shards at.shard) p) _ (idle l) (Turns (Deliver (Replica r) (Promise at b prior)))
-      (λ c. promised_turns (Deliver (Replica r) (Promise at b prior)) at p e (at_is at b p c).0 (on_promise p.own p.phase r prior).0 (on_promise p.own p.phase r prior).1 (promise_goes p.own p.phase r prior) (promise_open g.replicas p.own p.phase r prior))
-      (λ _. idles (Deliver (Replica r) (Promise at b prior))))
-      (λ _. idles (Deliver (Replica r) (Promise at b prior)))
-  gets_turns (Replica r) (Accepted at b) =
-      option_both (l.shards at.shard).proposal (gets_accepted g site k l r at b (l.shards at.shard)) (Turns (Deliver (Replica r) (Accepted at b)))
-      (λ p e. cond_both (is_current g at b (l.shards at.shard) p) _ (idle l) (Turns (Deliver (Replica r) (Accepted at b)))
-      (λ _. accepted_turns (Deliver (Replica r) (Accepted at b)) refl at p e (on_accepted p.phase r).0 (on_accepted p.phase r).1 (accepted_goes p.phase r) (λ n o. accepted_open g.replicas p.phase r o n))
-      (λ _. idles (Deliver (Replica r) (Accepted at b))))
-      (λ _. idles (Deliver (Replica r) (Accepted at b)))
-  gets_turns (Replica r) (Nack at b c) =
-      option_both (l.shards at.shard).proposal (gets_nack g site k l at b c (l.shards at.shard)) (Turns (Deliver (Replica r) (Nack at b c)))
-      (λ p e. cond_both (is_current g at b (l.shards at.shard) p) _ (idle l) (Turns (Deliver (Replica r) (Nack at b c))) (λ h. nacked_turns r at b c p e (at_is at b p h)) (λ _. idles (Deliver (Replica r) (Nack at b c))))
-      (λ _. idles (Deliver (Replica r) (Nack at b c)))
-  gets_turns (Replica r) p = idles (Deliver (Replica r) p)
-  gets_turns (Dispatcher r) p = idles (Deliver (Dispatcher r) p)
-  gets_turns (Server r) p = idles (Deliver (Server r) p)
-  gets_turns (Joiner r) p = idles (Deliver (Joiner r) p)
-
-  -- a Tick asks again for each attempt
-  again_asks : (n : ℕ) → AllAsk (λ s. record (l.shards s) { held = false }) (again g site k l n (l.shards n) (l.shards n).proposal)
-  again_asks n = option_both (l.shards n).proposal (again g site k l n (l.shards n)) (AllAsk (λ s. record (l.shards s) { held = false })) (λ p e. by_phase p.ballot p.phase (ap ballot_in e)) (λ _. tt)
-    where
-      by_phase : (b : Ballot) (y : Phase Batch) → ballot_in (l.shards n).proposal ≡ Some b → AllAsk (λ s. record (l.shards s) { held = false }) (of_phase g site k l (next_of n (l.shards n)) b y)
-      by_phase b (Promising marks best) e = to_from_asks (λ s. record (l.shards s) { held = false }) 0 g.replicas (Prepare (next_of n (l.shards n)) b) (refl, e)
-      by_phase b (Accepting v marks) e = to_from_asks (λ s. record (l.shards s) { held = false }) 0 g.replicas (Accept (next_of n (l.shards n)) b v) (refl, e)
-      by_phase b Ended e = tt
-
-  all_ask : (from m : ℕ) → AllAsk (λ s. record (l.shards s) { held = false }) (all_again g site k l from m)
-  all_ask from zero = tt
-  all_ask from (suc m) = each_append (λ (a : To × Packet). Asks (λ s. record (l.shards s) { held = false }) a.1) (again g site k l from (l.shards from) (l.shards from).proposal) (all_again g site k l (suc from) m) (again_asks from) (all_ask (suc from) m)
+  abbrev not_held : ℕ → ShardState
+  not_held s = record (l.shards s) { held = false }
 
   pub turns : (i : Input) → Turns i (server_turn g site k l i)
-  turns Own = owns_turns Own
-  turns Tick = record { rounds = omega arith; each = λ n. inl ((refl, λ x m. m), inl (refl, λ h. refl)); asks = all_ask 0 (shards g); follows = λ n. still n (record (l.shards n) { held = false }) (server_turn g site k l Tick).packets refl refl; opens = λ h. h }
-  turns (Deliver from p) = gets_turns from p
-  turns Start = idles Start
+  turns =
+      every_row g site k l (λ i o. Turns i o)
+      (record {
+        idles = λ i. stays i [] tt;
+        ticks = record {
+          rounds = omega arith;
+          each = λ n. inl ((refl, λ x m. m), inl (refl, λ h. refl));
+          asks = tick_each g site (λ (a : To × Packet). Asks not_held a.1) k l (λ s p marks best e f i lt. (refl, ap ballot_in e)) (λ s p v marks e f i lt. (refl, ap ballot_in e));
+          follows = λ n. still n (not_held n) (server_tick g site k l).packets refl refl;
+          opens = λ h. h;
+        };
+        draws = draws;
+        answers = λ from x a e. stays (Deliver from (packet.Insert x)) (reply g site x a) (reply_each g site (λ (b : To × Packet). Asks l.shards b.1) x a (λ t. tt));
+        queues = λ from x. let s = shard g x.id in
+            sets (Deliver from (packet.Insert x)) [] l.round s (record (l.shards s) { queue = (l.shards s).queue ++ x ∷ [] }) (omega arith) (inl ((refl, λ y m. mem_left y (l.shards s).queue (x ∷ []) m), inl (refl, λ h. h))) tt
+            (still s (record (l.shards s) { queue = (l.shards s).queue ++ x ∷ [] }) [] refl refl) (λ h. h s);
+        learns_of = λ from at v e. learned (Deliver from (Chosen at v)) refl (replies g site ((l.shards at.shard).learned ++ v ∷ []) (l.shards at.shard).queue) at.shard v (replies_ask (set_at l.shards at.shard (learns g site (l.shards at.shard) v)) ((l.shards at.shard).learned ++ v ∷ []) (l.shards at.shard).queue);
+        promises = λ r at b o p e c. promised_turns (Deliver (Replica r) (Promise at b o)) at p e (sym (current_at g at b (l.shards at.shard) p c).0) (on_promise p.own p.phase r o).0 (on_promise p.own p.phase r o).1 (promise_goes p.own p.phase r o) (promise_open g.replicas p.own p.phase r o);
+        accepts = λ r at b p e c. accepted_turns (Deliver (Replica r) (Accepted at b)) refl at p e (on_accepted p.phase r).0 (on_accepted p.phase r).1 (accepted_goes p.phase r) (λ n o. accepted_open g.replicas p.phase r o n);
+        refuses = λ r at b above p e c. let is = current_at g at b (l.shards at.shard) p c in nacked_turns r at b above p e (sym is.0, sym is.1);
+      })
