@@ -1,8 +1,10 @@
 -- Each entry keeps the facts on ballots, and gives what the other facts need of Paxos; so all facts hold after every run.
-use Rattle.std.proofs.Common.{◌≡◌, ◌≢◌, ◌⊎◌, inl, inr, ⊎_elim, ℕ, zero, suc, ◌<◌, ◌≤◌, max, Bool, true, false, cond, ◌==◌, nat_lt, List, [], ◌∷◌, ◌++◌, length, get_or, map, Some, None, refl, sym, ap, ◌∙◌, subst, arith}
-use Rattle.std.specs.Prelude.{Option, find, slice_get}
+use Rattle.std.proofs.Common.{◌≡◌, ◌≢◌, ◌⊎◌, inl, inr, ⊎_elim, ℕ, zero, suc, ◌<◌, ◌≤◌, max, Bool, true, false, cond, ◌==◌, nat_lt, List, [], ◌∷◌, ◌++◌, length, get_or, Some, None, refl, sym, ap, ◌∙◌, subst, arith}
+use Rattle.std.specs.Prelude.{Option, slice_get}
 use Rattle.std.proofs.lemmas.Bool.{cond_both, cond-true, cond-false, eq-eqb, ne_eqb, ltb-false}
-use Rattle.photon_model.proofs.Words.{EventId, Token, Ballot, Insert, Batch, same_batch, Click, at, first, Mem, Each, Begins, set_at, has, Answer, Granted, Duplicate, TooOld, IsGranted, bound_of, first_insert, holder, Setting, Checked, shard, IsJoiner, Packet, Join, Joined, Claim, Reply, Outcome, NoQuery, Busy, Node, Dispatcher, Server, Replica, Joiner, To, Sent, Input, Start, Own, Tick, Deliver, Place, Vote, acceptance, vote_at, votes_at, votes_in, Has, Promised, Took, HasAccepted, OneChosen, agreed_one, decided_grows, vote_here, has_append, BallotNote, Note, Voted, Out, idle, land, DispatcherKept, DispatcherLive, Fresh, first_done, waits, has_room, retries, takes, with_room, dispatcher_own, fresh_joins, join_if, trying_joins, ends, parks, dispatcher_joined, dispatcher_gets, dispatcher_turn, JoinerKept, JoinerLive, Flight, insert_of, is_for, in_flight, claim, looks, joins, answers, replied, joiner_gets, joiner_turn, ServerKept, ServerLive, land_server, server_turn, ReplicaKept, land_replica, replica_turn, option_both, each_at, each_append, mem_left, mem_right, mem_split, at_set, at_set_if, none_some, one_granted, holder_granted, holder_first, bound_stays, Addressed}
+use Rattle.photon_model.proofs.Words.{EventId, Token, Ballot, Insert, Batch, same_batch, at, Mem, Each, Begins, set_at, IsGranted, bound_of, first_insert, holder, Setting, Checked, shard, IsJoiner, Packet, Join, Joined, Claim, Reply, Node, Dispatcher, Server, Replica, Joiner, To, Sent, Input, Start, Own, Tick, Deliver, Place, Vote, acceptance, vote_at, votes_at, votes_in, Has, Promised, Took, HasAccepted, OneChosen, agreed_one, decided_grows, vote_here, has_append, BallotNote, Note, Voted, idle, land, DispatcherKept, DispatcherLive, dispatcher_turn, JoinerKept, JoinerLive, Flight, joiner_turn, ServerKept, ServerLive, land_server, server_turn, ReplicaKept, land_replica, replica_turn, each_at, mem_left, mem_right, mem_split, at_set, at_set_if, none_some, one_granted, holder_granted, holder_first, bound_stays, Addressed}
+use Rattle.photon_model.proofs.DispatcherRows.{each_packet as each_join}
+use Rattle.photon_model.proofs.JoinerRows.{each_packet}
 use Rattle.photon_model.specs.Journals.{journals, decided}
 use Rattle.photon_model.specs.Agreement.{ReplicasSound, Offer, Votes, offer, VotesOf, VotesOfServer, VotesAgree}
 use Rattle.photon_model.specs.Sound.{values_of, IsWritten, IsInsertOf, InsertsOf, Sound}
@@ -39,88 +41,27 @@ plain_votes n from (Claim x) h = tt
 plain_votes n from (Reply x a) h = tt
 plain_votes n from _ h = absurd h
 
-module _ (g : Setting) (s : ℕ) (k : DispatcherKept) (l : DispatcherLive) where
-  abbrev PlainOut : Out DispatcherLive → Type 0
-  PlainOut o = ArePlain o.packets
-
-  fresh_plain : (fs : List Fresh) → ArePlain (fresh_joins g s k l fs)
-  fresh_plain [] = tt
-  fresh_plain (f ∷ fs) = let r = fresh_plain fs in cond_both f.done _ _ ArePlain (λ _. r) (λ _. (tt, r))
-
-  trying_plain : (ps : List ℕ) → ArePlain (trying_joins g s k l ps)
-  trying_plain [] = tt
-  trying_plain (p ∷ ps) = let r = trying_plain ps in option_both (at g.clicks p) (λ o. join_if g s k l p o (trying_joins g s k l ps)) ArePlain (λ x _. (tt, r)) (λ _. r)
-
-  ends_plain : (p : ℕ) → PlainOut (ends g s k l p)
-  ends_plain p = cond_both (waits l.fresh p) _ _ PlainOut (λ _. tt) (λ _. cond_both (has l.trying p) _ _ PlainOut (λ _. tt) (λ _. tt))
-
-  parks_plain : (p : ℕ) → PlainOut (parks g s k l p)
-  parks_plain p = cond_both (waits l.fresh p) _ _ PlainOut (λ _. tt) (λ _. cond_both (has l.trying p) _ _ PlainOut (λ _. tt) (λ _. tt))
-
-  joined_plain : (p : ℕ) (o : Outcome) → PlainOut (dispatcher_joined g s k l p o)
-  joined_plain p (NoQuery m) = parks_plain p
-  joined_plain p Busy = tt
-  joined_plain p _ = ends_plain p
-
-  gets_plain : (p : Packet) → PlainOut (dispatcher_gets g s k l p)
-  gets_plain (Joined p o) = joined_plain p o
-  gets_plain _ = tt
-
-  own_plain : PlainOut (dispatcher_own g s k l)
-  own_plain = cond_both (first_done l.fresh) _ _ PlainOut (λ _. tt) (λ _. cond_both (has_room l) _ _ PlainOut (λ _. roomy l.due) (λ _. tt))
-    where
-      roomy : (due : List ℕ) → PlainOut (with_room g s k l due)
-      roomy (p ∷ ps) = option_both (at g.clicks p) (retries g s k l p ps) PlainOut (λ x _. (tt, tt)) (λ _. tt)
-      roomy [] = cond_both l.ended (idle l) _ PlainOut (λ _. tt) (λ _. option_both (at g.clicks l.place) (takes g s k l) PlainOut (λ x _. cond_both (has k.pending x.place) _ _ PlainOut (λ _. tt) (λ _. (tt, tt))) (λ _. tt))
-
-  turn_plain : (i : Input) → PlainOut (dispatcher_turn g s k l i)
-  turn_plain Own = own_plain
-  turn_plain Tick = each_append (λ (a : To × Packet). IsPlain a.1) (fresh_joins g s k l l.fresh) (trying_joins g s k l l.trying) (fresh_plain l.fresh) (trying_plain l.trying)
-  turn_plain (Deliver from p) = gets_plain p
-  turn_plain Start = tt
-
-module _ (g : Setting) (j : ℕ) (k : JoinerKept) (l : JoinerLive) where
-  abbrev PlainJoin : Out JoinerLive → Type 0
-  PlainJoin o = ArePlain o.packets
-
-  answers_plain : (x : Insert) (f : Flight) (a : Answer) → PlainJoin (answers g j k l x f a)
-  answers_plain x f Granted = (tt, tt)
-  answers_plain x f (Duplicate h) = (tt, tt)
-  answers_plain x f (TooOld b) = (tt, tt)
-
-  joins_plain : (p : ℕ) (c : Click) → PlainJoin (joins g j k l p c)
-  joins_plain p c = cond_both (in_flight l.flight c.id) (idle l) _ PlainJoin (λ _. tt) (λ _. cond_both (nat_lt (length l.flight) 32) _ _ PlainJoin (λ _. option_both (first g.queries c.query) (looks g j k l p c) PlainJoin (λ q _. cond_both (nat_lt l.number _) _ (idle l) PlainJoin (λ _. (tt, tt)) (λ _. tt)) (λ _. (tt, tt))) (λ _. (tt, tt)))
-
-  claims_plain : (fs : List Flight) → ArePlain (map (λ (f : Flight). claim g j k l (insert_of f)) fs)
-  claims_plain [] = tt
-  claims_plain (f ∷ fs) = (tt, claims_plain fs)
-
-  joiner_gets_plain : (p : Packet) → PlainJoin (joiner_gets g j k l p)
-  joiner_gets_plain (Join p c) = joins_plain p c
-  joiner_gets_plain (Reply x a) = option_both (find (is_for x) l.flight) (replied g j k l x a) PlainJoin (λ f _. answers_plain x f a) (λ _. tt)
-  joiner_gets_plain _ = tt
-
-  joiner_plain : (i : Input) → PlainJoin (joiner_turn g j k l i)
-  joiner_plain Tick = claims_plain l.flight
-  joiner_plain (Deliver from p) = joiner_gets_plain p
-  joiner_plain Own = tt
-  joiner_plain Start = tt
-
 pub dispatcher_row_plain : (g : Setting) (s : ℕ) (c : Cell DispatcherKept DispatcherLive) → ArePlain (dispatcher_row g s c).packets
 dispatcher_row_plain g s c = go c.live c.opened
   where
+    plain : (l : DispatcherLive) (i : Input) → ArePlain (dispatcher_turn g s c.kept l i).packets
+    plain l = each_join g s c.kept l (λ (a : To × Packet). IsPlain a.1) (λ p x. tt)
+
     go : (l : Option DispatcherLive) (o : Option Input) → ArePlain (dispatcher_row g s (record { kept = c.kept; live = l; opened = o })).packets
     go None o = tt
-    go (Some l) None = turn_plain g s c.kept l Own
-    go (Some l) (Some i) = turn_plain g s c.kept l i
+    go (Some l) None = plain l Own
+    go (Some l) (Some i) = plain l i
 
 pub joiner_row_plain : (g : Setting) (j : ℕ) (c : Cell JoinerKept JoinerLive) → ArePlain (joiner_row g j c).packets
 joiner_row_plain g j c = go c.live c.opened
   where
+    plain : (l : JoinerLive) (i : Input) → ArePlain (joiner_turn g j c.kept l i).packets
+    plain l = each_packet g j c.kept l (λ (a : To × Packet). IsPlain a.1) (λ p o. tt) (λ x. tt)
+
     go : (l : Option JoinerLive) (o : Option Input) → ArePlain (joiner_row g j (record { kept = c.kept; live = l; opened = o })).packets
     go None o = tt
-    go (Some l) None = joiner_plain g j c.kept l Own
-    go (Some l) (Some i) = joiner_plain g j c.kept l i
+    go (Some l) None = plain l Own
+    go (Some l) (Some i) = plain l i
 
 -- packets of a row, as they were sent
 addressed_votes : (g : Setting) (n : Votes) (from : Node) (as_ : List (To × Packet)) (ps : List (Node × Packet)) → Addressed g as_ ps → Each (λ (a : To × Packet). VotesOf n from a.1) as_ → (x : Sent) → Mem x (sends from ps) → VotesOf n x.from x.packet
