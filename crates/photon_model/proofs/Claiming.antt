@@ -1,8 +1,8 @@
 -- Each join in flight has sent its insert.
-use Rattle.std.proofs.Common.{◌≡◌, ◌⊎◌, inl, inr, ⊎_elim, ℕ, Bool, true, false, cond, nat_lt, List, [], ◌∷◌, ◌++◌, length, Some, None, refl, sym, ap, ◌∙◌, subst}
-use Rattle.std.specs.Prelude.{Option, find}
-use Rattle.std.proofs.lemmas.Bool.{cond_both}
-use Rattle.photon_model.proofs.Words.{Insert, Click, first, Mem, set_at, Answer, Granted, Duplicate, TooOld, Setting, Packet, Join, Claim, Reply, Node, Dispatcher, Server, Replica, Joiner, To, Sent, Input, Own, Deliver, Out, idle, JoinerKept, JoinerLive, Flight, insert_of, is_for, in_flight, landed, looks, joins, answers, replied, joiner_gets, joiner_turn, option_both, mem_left, mem_right, mem_split, at_set, some_same, none_some, Addressed}
+use Rattle.std.proofs.Common.{◌≡◌, ◌⊎◌, inl, inr, ⊎_elim, ℕ, List, [], ◌∷◌, ◌++◌, Some, None, refl, sym, ap, ◌∙◌, subst}
+use Rattle.std.specs.Prelude.{Option}
+use Rattle.photon_model.proofs.Words.{Insert, Mem, set_at, Answer, Granted, Duplicate, TooOld, Setting, Packet, Claim, Node, Dispatcher, Server, Replica, Joiner, To, Sent, Input, Own, Out, JoinerKept, JoinerLive, Flight, insert_of, answers, joiner_turn, mem_left, mem_right, mem_split, at_set, some_same, none_some, Addressed}
+use Rattle.photon_model.proofs.JoinerRows.{landed_before, every_row}
 use Rattle.photon_model.specs.Runs.{Cell, World, Entry, Begin, End, Stop, Disks, begun, stopped, joiner_row, sends, after, world_after, May, IsRun, opening}
 use Rattle.photon_model.specs.Claims.{HasSent, ClaimsSent}
 
@@ -18,39 +18,22 @@ module _ (g : Setting) (j : ℕ) (k : JoinerKept) (l : JoinerLive) where
   abbrev Claimed : Out JoinerLive → Type 0
   Claimed o = (f : Flight) → Mem f o.live.flight → Mem f l.flight ⊎ ((a : To × Packet) × Mem a o.packets × (a.1 ≡ Claim (insert_of f)))
 
-  landed_before : (fs : List Flight) (x : Insert) (f : Flight) → Mem f (landed fs x) → Mem f fs
-  landed_before [] x f m = m
-  landed_before (y ∷ fs) x f m = go (landed_before fs x f) (is_for x y) m
-    where
-      go : (Mem f (landed fs x) → Mem f fs) → (t : Bool) → Mem f (cond t (landed fs x) (y ∷ landed fs x)) → (y ≡ f) ⊎ Mem f fs
-      go ih true q = inr (ih q)
-      go ih false (inl q) = inl q
-      go ih false (inr q) = inr (ih q)
-
   answers_claimed : (x : Insert) (y : Flight) (a : Answer) → Claimed (answers g j k l x y a)
-  answers_claimed x y Granted f m = inl (landed_before l.flight x f m)
-  answers_claimed x y (Duplicate h) f m = inl (landed_before l.flight x f m)
-  answers_claimed x y (TooOld b) f m = inl (landed_before l.flight x f m)
-
-  joins_claimed : (p : ℕ) (c : Click) → Claimed (joins g j k l p c)
-  joins_claimed p c =
-      cond_both (in_flight l.flight c.id) (idle l) _ Claimed (λ _ f m. inl m)
-      (λ _. cond_both (nat_lt (length l.flight) 32) _ _ Claimed
-      (λ _. option_both (first g.queries c.query) (looks g j k l p c) Claimed
-      (λ q _. cond_both (nat_lt l.number _) _ (idle l) Claimed
-      (λ _ f m. ⊎_elim (λ r. inl r) (λ r. ⊎_elim (λ e. inr (_, inl refl, ap (λ (z : Flight). Claim (insert_of z)) e)) (λ e. absurd e) r) (mem_split f l.flight _ m))
-      (λ _ f m. inl m))
-      (λ _ f m. inl m))
-      (λ _ f m. inl m))
-
-  gets_claimed : (p : Packet) → Claimed (joiner_gets g j k l p)
-  gets_claimed (Join p c) = joins_claimed p c
-  gets_claimed (Reply x a) = option_both (find (is_for x) l.flight) (replied g j k l x a) Claimed (λ y _. answers_claimed x y a) (λ _ f m. inl m)
-  gets_claimed _ = λ f m. inl m
+  answers_claimed x y Granted f m = inl ((landed_before l.flight x f m).0)
+  answers_claimed x y (Duplicate h) f m = inl ((landed_before l.flight x f m).0)
+  answers_claimed x y (TooOld b) f m = inl ((landed_before l.flight x f m).0)
 
   turn_claimed : (i : Input) → Claimed (joiner_turn g j k l i)
-  turn_claimed (Deliver from p) = gets_claimed p
-  turn_claimed _ = λ f m. inl m
+  turn_claimed =
+      every_row g j k l (λ i o. Claimed o)
+      (record {
+        idles = λ i f m. inl m;
+        ticks = λ f m. inl m;
+        begins = λ from p c q free e f m. ⊎_elim (λ r. inl r) (λ r. ⊎_elim (λ e. inr (_, inl refl, ap (λ (z : Flight). Claim (insert_of z)) e)) (λ e. absurd e) r) (mem_split f l.flight _ m);
+        misses = λ from p c e f m. inl m;
+        is_busy = λ from p c f m. inl m;
+        is_answered = λ from x a y m is. answers_claimed x y a;
+      })
 
 -- before the row: nothing is in flight in a node that is down
 abbrev WasFlying : Option JoinerLive → Flight → Type 0

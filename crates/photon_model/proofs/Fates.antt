@@ -1,15 +1,16 @@
 -- What becomes of a drawn token while its joiner doesn't stop: its join is in flight, or has ended.
-use Rattle.std.proofs.Common.{◌≡◌, ◌≢◌, ◌⊎◌, inl, inr, ⊎_elim, ℕ, Bool, true, false, cond, ◌==◌, nat_lt, List, [], ◌∷◌, ◌++◌, length, Some, None, refl, sym, ◌∙◌, subst, arith}
-use Rattle.std.specs.Prelude.{Option, find}
-use Rattle.std.proofs.lemmas.Bool.{cond_both, cond-true, eq-eqb}
-use Rattle.photon_model.proofs.Words.{EventId, Token, Insert, Click, first, Mem, Begins, set_at, Answer, Granted, Duplicate, TooOld, IsGranted, Expired, Setting, Checked, IsJoiner, Packet, Join, Reply, Node, Joiner, PairRec, Input, Deliver, Note, Out, idle, land, JoinerKept, JoinerLive, Flight, land_joiner, insert_of, is_for, in_flight, landed, looks, joins, answers, replied, joiner_gets, joiner_turn, option_both, mem_left, mem_right, mem_split, at_set, clash, each_at, bound_stays}
+use Rattle.std.proofs.Common.{◌≡◌, ◌≢◌, ◌⊎◌, inl, inr, ⊎_elim, ℕ, Bool, true, false, ◌==◌, List, ◌++◌, Some, None, refl, sym, ◌∙◌, subst, arith}
+use Rattle.std.specs.Prelude.{Option}
+use Rattle.std.proofs.lemmas.Bool.{cond-true, eq-eqb}
+use Rattle.photon_model.proofs.Words.{EventId, Token, Insert, Mem, Begins, set_at, Answer, Granted, Duplicate, TooOld, IsGranted, Expired, Setting, Checked, IsJoiner, Packet, Node, Joiner, PairRec, Input, Note, Out, land, JoinerKept, JoinerLive, Flight, land_joiner, insert_of, is_for, landed, answers, joiner_turn, mem_left, mem_right, mem_split, at_set, clash, each_at, bound_stays}
 use Rattle.photon_model.specs.Sound.{Known, values_of}
-use Rattle.photon_model.specs.Facts.{HoldsOf, HoldsOfReply, HoldsOfInput, IfOpen, known, WorldHolds}
+use Rattle.photon_model.specs.Facts.{HoldsOfReply, HoldsOfInput, IfOpen, known, WorldHolds}
 use Rattle.photon_model.specs.Runs.{Cell, World, Begin, End, begun, ended, joiner_row, after}
 use Rattle.photon_model.specs.Keeping.{Grows, IsFlying, IsResolved, IsDrawing, JoinerKeeps}
 use Rattle.photon_model.specs.EveryRun.{decided_in}
 use Rattle.photon_model.proofs.Growth.{begins_self, written_lasts, granted_lasts}
-use Rattle.photon_model.proofs.Joining.{find_flight, for_means}
+use Rattle.photon_model.proofs.JoinerRows.{landed_or, every_row}
+use Rattle.photon_model.proofs.Joining.{for_means}
 use Rattle.photon_model.proofs.Lifting.{input_holds}
 
 -- each drawn token is an old one, or in flight, or its join has ended
@@ -44,16 +45,6 @@ module _ (g : Setting) (n b : Known) (j : ℕ) (is_joiner : IsJoiner g j) (k : J
   stays : IsFlying (Some l) (insert_of f) ⊎ IsResolved g b (insert_of f)
   stays = inl (f, here, refl)
 
-  not_landed : (fs : List Flight) (x : Insert) → Mem f fs → is_for x f ≡ false → Mem f (landed fs x)
-  not_landed [] x m e = absurd m
-  not_landed (y ∷ fs) x m e = go (λ q. not_landed fs x q e) (is_for x y) refl m
-    where
-      go : (Mem f fs → Mem f (landed fs x)) → (t : Bool) → is_for x y ≡ t → (y ≡ f) ⊎ Mem f fs → Mem f (cond t (landed fs x) (y ∷ landed fs x))
-      go ih true q (inl s) = absurd (clash (is_for x f) (subst (λ (z : Flight). is_for x z ≡ true) s q) e)
-      go ih true q (inr s) = ih s
-      go ih false q (inl s) = inl s
-      go ih false q (inr s) = inr (ih s)
-
   -- f's own reply ends its join
   replies : (x : Insert) (y : Flight) → is_for x y ≡ true → (a : Answer) → HoldsOfReply g n x a → is_for x f ≡ true → ((p : PairRec) → Mem p (land land_joiner (answers g j k l x y a).note k).pairs → Mem p (b.pairs j)) → IsResolved g b (insert_of f)
   replies x y is_y Granted h is_f more = inl (inl (j, record { click = y.click; query = y.query; token = y.token }, is_joiner, more _ (mem_right _ k.pairs _ (inl refl)), (for_means x y is_y).0 ∙ sym (for_means x f is_f).0))
@@ -74,23 +65,19 @@ module _ (g : Setting) (n b : Known) (j : ℕ) (is_joiner : IsJoiner g j) (k : J
 
       go : (t : Bool) → is_for x f ≡ t → IsFlying (Some (answers g j k l x y a).live) (insert_of f) ⊎ IsResolved g b (insert_of f)
       go true e = inr (replies x y is_y a h e more)
-      go false e = inl (left a (not_landed l.flight x here e))
-
-  joins_fate : (p : ℕ) (c : Click) → Fate (joins g j k l p c)
-  joins_fate p c =
-      cond_both (in_flight l.flight c.id) (idle l) _ Fate (λ _ _. stays)
-      (λ _. cond_both (nat_lt (length l.flight) 32) _ _ Fate
-      (λ _. option_both (first g.queries c.query) (looks g j k l p c) Fate (λ q _. cond_both (nat_lt l.number _) _ (idle l) Fate (λ _ _. inl (f, mem_left f l.flight _ here, refl)) (λ _ _. stays)) (λ _ _. stays))
-      (λ _ _. stays))
-
-  gets_fate : (p : Packet) → HoldsOf g n p → Fate (joiner_gets g j k l p)
-  gets_fate (Join p c) h = joins_fate p c
-  gets_fate (Reply x a) h = option_both (find (is_for x) l.flight) (replied g j k l x a) Fate (λ y e. answer_fate x y (find_flight x l.flight y e).1 a h) (λ _ _. stays)
-  gets_fate _ h = λ _. stays
+      go false e = inl (left a (⊎_elim (λ m. m) (λ t. clash (is_for x f) t e) (landed_or l.flight x f here)))
 
   turn_fate : (i : Input) → HoldsOfInput g n i → Fate (joiner_turn g j k l i)
-  turn_fate (Deliver from p) h = gets_fate p h
-  turn_fate _ h = λ _. stays
+  turn_fate =
+      every_row g j k l (λ i o. HoldsOfInput g n i → Fate o)
+      (record {
+        idles = λ i h more. stays;
+        ticks = λ h more. stays;
+        begins = λ from p x q free e h more. inl (f, mem_left f l.flight _ here, refl);
+        misses = λ from p x e h more. stays;
+        is_busy = λ from p x h more. stays;
+        is_answered = λ from x a y m is h. answer_fate x y is a h;
+      })
 
 module _ (g : Setting) (c : Checked g) (old : List Insert) (w : World) (drawn : List Insert) (holds : WorldHolds g w drawn) (j : ℕ) (is_joiner : IsJoiner g j) (made : Option Note) (ps : List (Node × Packet)) (kept : ℕ) where
   abbrev out : Out JoinerLive

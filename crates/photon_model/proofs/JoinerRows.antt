@@ -1,8 +1,8 @@
 -- The rows of a joiner: what holds of each row's case holds of every turn.
-use Rattle.std.proofs.Common.{◌≡◌, ◌⊎◌, inl, inr, ℕ, suc, ◌-◌, ◌^◌, Bool, true, false, cond, nat_lt, List, [], ◌∷◌, ◌++◌, length, map, Some, None, refl, subst}
+use Rattle.std.proofs.Common.{◌≡◌, ◌⊎◌, inl, inr, ℕ, suc, ◌-◌, ◌^◌, Bool, true, false, cond, nat_lt, List, [], ◌∷◌, ◌++◌, length, map, Some, None, refl, sym, ap, ◌∙◌, subst, ⊎_elim}
 use Rattle.std.specs.Prelude.{find}
 use Rattle.std.proofs.lemmas.Bool.{cond_both}
-use Rattle.photon_model.proofs.Words.{Setting, site_of_joiner, Insert, Query, Click, first, Mem, Each, Answer, Packet, Join, Joined, Reply, Claim, Outcome, NoQuery, Busy, Granted, Duplicate, TooOld, Node, Dispatcher, Server, To, Only, Input, Tick, Deliver, Out, idle, JoinerKept, JoinerLive, Flight, insert_of, is_for, in_flight, to_dispatcher, claim, next_token, looks, answers, replied, joiner_tick, joiner_turn, option_both, some_same, none_some}
+use Rattle.photon_model.proofs.Words.{landed, Setting, site_of_joiner, Insert, Query, Click, first, Mem, Each, Answer, Packet, Join, Joined, Reply, Claim, Outcome, NoQuery, Busy, Granted, Duplicate, TooOld, Node, Dispatcher, Server, To, Only, Input, Tick, Deliver, Out, idle, JoinerKept, JoinerLive, Flight, insert_of, is_for, in_flight, to_dispatcher, claim, next_token, looks, answers, replied, joiner_tick, joiner_turn, option_both, some_same, none_some}
 
 pub find_flight : (x : Insert) (fs : List Flight) (f : Flight) → find (is_for x) fs ≡ Some f → Mem f fs × (is_for x f ≡ true)
 find_flight x [] f e = none_some f e
@@ -12,15 +12,39 @@ find_flight x (y ∷ fs) f e = go (find_flight x fs f) (is_for x y) refl e
     go ih true t r = let s = some_same y f r in (inl s, subst (λ (z : Flight). is_for x z ≡ true) s t)
     go ih false t r = let i = ih r in (inr i.0, i.1)
 
+-- a flight of another insert stays
+pub landed_or : (fs : List Flight) (x : Insert) (f : Flight) → Mem f fs → Mem f (landed fs x) ⊎ (is_for x f ≡ true)
+landed_or [] x f m = absurd m
+landed_or (y ∷ fs) x f m = go (is_for x y) refl m (landed_or fs x f)
+  where
+    go : (b : Bool) → is_for x y ≡ b → (y ≡ f) ⊎ Mem f fs → (Mem f fs → Mem f (landed fs x) ⊎ (is_for x f ≡ true)) → Mem f (cond b (landed fs x) (y ∷ landed fs x)) ⊎ (is_for x f ≡ true)
+    go true t (inl e) ih = inr (ap (is_for x) (sym e) ∙ t)
+    go true t (inr k) ih = ih k
+    go false t (inl e) ih = inl (inl e)
+    go false t (inr k) ih = ⊎_elim (λ q. inl (inr q)) (λ q. inr q) (ih k)
+
+pub landed_before : (fs : List Flight) (x : Insert) (f : Flight) → Mem f (landed fs x) → Mem f fs × (is_for x f ≡ false)
+landed_before [] x f m = absurd m
+landed_before (y ∷ fs) x f m = go (is_for x y) refl m (landed_before fs x f)
+  where
+    go : (b : Bool) → is_for x y ≡ b → Mem f (cond b (landed fs x) (y ∷ landed fs x)) → (Mem f (landed fs x) → Mem f fs × (is_for x f ≡ false)) → ((y ≡ f) ⊎ Mem f fs) × (is_for x f ≡ false)
+    go true t q ih = let h = ih q in (inr h.0, h.1)
+    go false t (inl e) ih = (inl e, ap (is_for x) (sym e) ∙ t)
+    go false t (inr q) ih = let h = ih q in (inr h.0, h.1)
+
 module _ (g : Setting) (j : ℕ) (k : JoinerKept) (l : JoinerLive) where
   abbrev pub new_flight : ℕ → Click → Query → Flight
   new_flight p c q = record { position = p; click = c; query = q; token = next_token g j k l }
+
+  -- a join begins, and its insert is sent
+  abbrev pub begun_join : ℕ → Click → Query → Out JoinerLive
+  begun_join p c q = record { note = None; packets = claim g j k l (insert_of (new_flight p c q)) ∷ []; live = record { number = suc l.number; flight = l.flight ++ new_flight p c q ∷ [] } }
 
   -- what each row makes of its input
   pub record Rows (P : Input → Out JoinerLive → Type 0) : Type 0 where
     pub idles : (i : Input) → P i (idle l)
     pub ticks : P Tick (joiner_tick g j k l)
-    pub begins : (from : Node) (p : ℕ) (c : Click) (q : Query) → in_flight l.flight c.id ≡ false → first g.queries c.query ≡ Some q → P (Deliver from (Join p c)) (record { note = None; packets = claim g j k l (insert_of (new_flight p c q)) ∷ []; live = record { number = suc l.number; flight = l.flight ++ new_flight p c q ∷ [] } })
+    pub begins : (from : Node) (p : ℕ) (c : Click) (q : Query) → in_flight l.flight c.id ≡ false → first g.queries c.query ≡ Some q → P (Deliver from (Join p c)) (begun_join p c q)
     pub misses : (from : Node) (p : ℕ) (c : Click) → first g.queries c.query ≡ None → P (Deliver from (Join p c)) (record { note = None; packets = to_dispatcher g j k l p (NoQuery (length g.queries)); live = l })
     pub is_busy : (from : Node) (p : ℕ) (c : Click) → P (Deliver from (Join p c)) (record { note = None; packets = to_dispatcher g j k l p Busy; live = l })
     pub is_answered : (from : Node) (x : Insert) (a : Answer) (f : Flight) → Mem f l.flight → is_for x f ≡ true → P (Deliver from (Reply x a)) (answers g j k l x f a)

@@ -1,10 +1,11 @@
 -- Each row of a joiner keeps its facts.
-use Rattle.std.proofs.Common.{◌≡◌, ◌≢◌, ◌⊎◌, inl, inr, ⊎_elim, ℕ, suc, ◌-◌, ◌^◌, ◌<◌, ◌≤◌, Bool, true, false, cond, ◌==◌, nat_lt, List, [], ◌∷◌, ◌++◌, length, map, Some, None, refl, sym, ap, ◌∙◌, subst, arith}
-use Rattle.std.specs.Prelude.{Option, find}
+use Rattle.std.proofs.Common.{◌≡◌, ◌≢◌, ◌⊎◌, inl, inr, ⊎_elim, ℕ, suc, ◌<◌, ◌≤◌, Bool, true, false, cond, ◌==◌, List, [], ◌∷◌, ◌++◌, length, map, Some, None, refl, sym, ap, ◌∙◌, subst, arith}
+use Rattle.std.specs.Prelude.{Option}
 use Rattle.std.proofs.lemmas.Bool.{cond_both, cond-true, eqb-true, eq-eqb, or_parts, and_parts, and_from}
-use Rattle.photon_model.proofs.Words.{EventId, Token, Insert, same_id, same_token, Query, Click, ClickLine, at, first_click, NoConflict, first, Mem, Each, EachPair, set_at, Setting, Checked, IsJoiner, Answer, Granted, Duplicate, TooOld, IsGranted, Packet, Join, Reply, Outcome, NoQuery, Busy, PairRec, Input, Start, Own, Tick, Deliver, Note, Out, idle, land, JoinerKept, JoinerLive, Flight, land_joiner, insert_of, is_for, in_flight, landed, to_dispatcher, claim, next_token, looks, joins, without_flight, answers, replied, joiner_gets, joiner_tick, joiner_turn, joiner_start, some_same, none_some, clash, option_both, mem_left, mem_right, each_at, each_from, each_more, each_append, pairs_push, at_mem, same_id-true, same_token-true, same_id-refl, same_token-refl, same_id-false}
+use Rattle.photon_model.proofs.Words.{EventId, Token, Insert, same_id, same_token, Query, Click, ClickLine, at, first_click, NoConflict, first, Mem, Each, EachPair, set_at, Setting, Checked, IsJoiner, Answer, Granted, Duplicate, TooOld, IsGranted, Outcome, NoQuery, Busy, PairRec, Input, Note, Out, idle, land, JoinerKept, JoinerLive, Flight, land_joiner, insert_of, is_for, in_flight, landed, to_dispatcher, claim, next_token, without_flight, answers, joiner_turn, joiner_start, clash, mem_left, mem_right, each_at, each_from, each_more, each_append, pairs_push, at_mem, same_id-true, same_token-true, same_id-refl, same_token-refl, same_id-false}
+use Rattle.photon_model.proofs.JoinerRows.{begun_join, every_row}
 use Rattle.photon_model.specs.Sound.{Known, values_of, PairSound, JoinerSound, DrawnSound}
-use Rattle.photon_model.specs.Facts.{IsTooOld, HoldsOfOutcome, HoldsOfReply, HoldsOf, HoldsOfInput, FlightHolds, JoinerHolds}
+use Rattle.photon_model.specs.Facts.{IsTooOld, HoldsOfOutcome, HoldsOfReply, HoldsOfInput, FlightHolds, JoinerHolds}
 use Rattle.photon_model.specs.Keeping.{PacketsHold, Grows, extended, JoinerKeeps}
 use Rattle.photon_model.proofs.Growth.{begins_self, granted_lasts, late_lasts, joiner_kept_lasts, joiner_live_lasts, flight_lasts, pair_lasts}
 
@@ -17,14 +18,6 @@ first_of (x ∷ ls) all l sub nc here m = go (λ h. first_of ls all l (λ y z. s
     go ih true e h = (x, refl, nc x l (sub x (inl refl)) here (sym (same_id-true l.click.id x.click.id e)))
     go ih false e (inl s) = absurd (same_id-false l.click.id x.click.id e (ap (λ (y : ClickLine). y.click.id) (sym s)))
     go ih false e (inr h) = ih h
-
-pub find_flight : (x : Insert) (fs : List Flight) (f : Flight) → find (is_for x) fs ≡ Some f → Mem f fs × (is_for x f ≡ true)
-find_flight x [] f e = none_some f e
-find_flight x (y ∷ fs) f e = go (find_flight x fs f) (is_for x y) refl e
-  where
-    go : (find (is_for x) fs ≡ Some f → Mem f fs × (is_for x f ≡ true)) → (b : Bool) → is_for x y ≡ b → cond b (Some y) (find (is_for x) fs) ≡ Some f → ((y ≡ f) ⊎ Mem f fs) × (is_for x f ≡ true)
-    go ih true t r = let s = some_same y f r in (inl s, subst (λ (z : Flight). is_for x z ≡ true) s t)
-    go ih false t r = let i = ih r in (inr i.0, i.1)
 
 pub for_means : (x : Insert) (f : Flight) → is_for x f ≡ true → (f.click.id ≡ x.id) × (f.token ≡ x.token)
 for_means x f h = let p = and_parts (same_id f.click.id x.id) (same_token f.token x.token) h in (same_id-true f.click.id x.id p.0, same_token-true f.token x.token p.1)
@@ -91,67 +84,52 @@ module _ (g : Setting) (n : Known) (epochs : ℕ → ℕ) (j : ℕ) (k : JoinerK
   live_same : JoinerHolds g same j k l
   live_same = joiner_live_lasts g n same same_up j k l (λ x m _. m) holds
 
-  idles : JoinerKeeps g n j k (idle l)
-  idles = quiet (idle l) refl live_same tt
-
   -- a joiner's answer alone
   tells : (p : ℕ) (o : Outcome) (line : ClickLine) → at g.clicks p ≡ Some line → HoldsOfOutcome g same line o → JoinerHolds g same j k l → JoinerKeeps g n j k (record { note = None; packets = to_dispatcher g j k l p o; live = l })
   tells p o line e h live = quiet _ refl live ((line, e, h), tt)
 
-  look_keeps : (p : ℕ) (x : Click) (line : ClickLine) → at g.clicks p ≡ Some line → line.click ≡ x → in_flight l.flight x.id ≡ false → JoinerKeeps g n j k (looks g j k l p x (first g.queries x.query))
-  look_keeps p x line e same_click free = option_both (first g.queries x.query) (looks g j k l p x) (JoinerKeeps g n j k) found none
+  -- a join begins
+  begin_keeps : (p : ℕ) (x : Click) (line : ClickLine) → at g.clicks p ≡ Some line → line.click ≡ x → in_flight l.flight x.id ≡ false → (q : Query) → first g.queries x.query ≡ Some q → JoinerKeeps g n j k (begun_join g j k l p x q)
+  begin_keeps p x line e same_click free q at_q =
+      record {
+        new = drawn ∷ [];
+        flying = λ a m. ⊎_elim (λ q. (new_flight, mem_right new_flight l.flight (new_flight ∷ []) (inl refl), q)) (λ q. absurd q) m;
+        one = λ a b m o. ⊎_elim (λ u. ⊎_elim (λ v. sym u ∙ v) (λ v. absurd v) o) (λ u. absurd u) m;
+        drawing = (record { joinable = (line, inside, ap (λ (y : Click). y.id) same_click, (q, subst (λ (y : Click). first g.queries y.query ≡ Some q) (sym same_click) at_q)); joiner = refl; epoch = refl; unused = λ y m s. unused y m s }, tt);
+        epoch = omega arith;
+        more = λ y m. m;
+        kept = joiner_kept_lasts g n now up j k sound;
+        live = record {
+          flights = each_append (FlightHolds g now j k.epoch (suc l.number)) l.flight (new_flight ∷ []) (each_more (FlightHolds g n j k.epoch l.number) (FlightHolds g now j k.epoch (suc l.number)) l.flight (flight_lasts g n now up j k.epoch l.number (suc l.number) (omega arith)) holds.flights)
+              (record { own_query = (paired, at_q); line = (line, e, same_click); claimed = inl refl; joiner = refl; epoch = refl; number = omega arith }, tt);
+          unused = λ y m a b. ⊎_elim (λ (u : drawn ≡ y). subst (λ (z : Insert). z.token.number < suc l.number) u (omega arith)) (λ (u : Mem y n.drawn). let r = holds.unused y u a b in omega arith) m;
+          ids_differ = pairs_push (λ (a b : Flight). a.click.id ≢ b.click.id) l.flight new_flight holds.ids_differ (not_in_flight l.flight x.id free);
+          unwritten = each_append (λ (f : Flight). Each (λ (r : PairRec). r.token ≢ f.token) k.pairs) l.flight (new_flight ∷ []) holds.unwritten (each_from (λ (r : PairRec). r.token ≢ next_token g j k l) k.pairs (λ r m. unused (record { id = r.click.id; token = r.token }) (each_at (PairSound g n j k.epoch) k.pairs sound.pairs r m).drawn), tt);
+        };
+        packets = (inl refl, tt);
+      }
     where
-      none : first g.queries x.query ≡ None → JoinerKeeps g n j k (looks g j k l p x None)
-      none q = tells p (NoQuery (length g.queries)) line e (refl, subst (λ (y : Click). first g.queries y.query ≡ None) (sym same_click) q) live_same
+      drawn : Insert
+      drawn = record { id = x.id; token = next_token g j k l }
 
-      found : (q : Query) → first g.queries x.query ≡ Some q → JoinerKeeps g n j k (looks g j k l p x (Some q))
-      found q at_q =
-          cond_both (nat_lt l.number (2 ^ 64 - 1)) _ (idle l) (JoinerKeeps g n j k)
-          (λ _. record {
-            new = drawn ∷ [];
-            flying = λ a m. ⊎_elim (λ q. (new_flight, mem_right new_flight l.flight (new_flight ∷ []) (inl refl), q)) (λ q. absurd q) m;
-            one = λ a b m o. ⊎_elim (λ u. ⊎_elim (λ v. sym u ∙ v) (λ v. absurd v) o) (λ u. absurd u) m;
-            drawing = (record { joinable = (line, inside, ap (λ (y : Click). y.id) same_click, (q, subst (λ (y : Click). first g.queries y.query ≡ Some q) (sym same_click) at_q)); joiner = refl; epoch = refl; unused = λ y m s. unused y m s }, tt);
-            epoch = omega arith;
-            more = λ y m. m;
-            kept = joiner_kept_lasts g n now up j k sound;
-            live = record {
-              flights = each_append (FlightHolds g now j k.epoch (suc l.number)) l.flight (new_flight ∷ []) (each_more (FlightHolds g n j k.epoch l.number) (FlightHolds g now j k.epoch (suc l.number)) l.flight (flight_lasts g n now up j k.epoch l.number (suc l.number) (omega arith)) holds.flights)
-                  (record { own_query = (paired, at_q); line = (line, e, same_click); claimed = inl refl; joiner = refl; epoch = refl; number = omega arith }, tt);
-              unused = λ y m a b. ⊎_elim (λ (u : drawn ≡ y). subst (λ (z : Insert). z.token.number < suc l.number) u (omega arith)) (λ (u : Mem y n.drawn). let r = holds.unused y u a b in omega arith) m;
-              ids_differ = pairs_push (λ (a b : Flight). a.click.id ≢ b.click.id) l.flight new_flight holds.ids_differ (not_in_flight l.flight x.id free);
-              unwritten = each_append (λ (f : Flight). Each (λ (r : PairRec). r.token ≢ f.token) k.pairs) l.flight (new_flight ∷ []) holds.unwritten (each_from (λ (r : PairRec). r.token ≢ next_token g j k l) k.pairs (λ r m. unused (record { id = r.click.id; token = r.token }) (each_at (PairSound g n j k.epoch) k.pairs sound.pairs r m).drawn), tt);
-            };
-            packets = (inl refl, tt);
-          })
-          (λ _. idles)
-        where
-          drawn : Insert
-          drawn = record { id = x.id; token = next_token g j k l }
+      now : Known
+      now = extended n j k.pairs (drawn ∷ [])
 
-          now : Known
-          now = extended n j k.pairs (drawn ∷ [])
+      new_flight : Flight
+      new_flight = record { position = p; click = x; query = q; token = next_token g j k l }
 
-          new_flight : Flight
-          new_flight = record { position = p; click = x; query = q; token = next_token g j k l }
+      up : Grows n now
+      up = grows_extended n j k.pairs k.pairs (drawn ∷ []) own (λ r m. m)
 
-          up : Grows n now
-          up = grows_extended n j k.pairs k.pairs (drawn ∷ []) own (λ r m. m)
+      inside : Mem line g.clicks
+      inside = (at_mem g.clicks p line e).0
 
-          inside : Mem line g.clicks
-          inside = (at_mem g.clicks p line e).0
+      paired : (m : ClickLine) × (first_click g.clicks x.id ≡ Some m) × (m.click ≡ x)
+      paired = let f = first_of g.clicks g.clicks line (λ m h. h) c.no_conflict inside inside in (f.0, subst (λ (y : Click). first_click g.clicks y.id ≡ Some f.0) same_click f.1, f.2 ∙ same_click)
 
-          paired : (m : ClickLine) × (first_click g.clicks x.id ≡ Some m) × (m.click ≡ x)
-          paired = let f = first_of g.clicks g.clicks line (λ m h. h) c.no_conflict inside inside in (f.0, subst (λ (y : Click). first_click g.clicks y.id ≡ Some f.0) same_click f.1, f.2 ∙ same_click)
-
-          -- no drawn insert has the next token
-          unused : (y : Insert) → Mem y n.drawn → y.token ≢ next_token g j k l
-          unused y m s = let r = holds.unused y m (ap (λ (t : Token). t.joiner) s) (ap (λ (t : Token). t.epoch) s) in let u : y.token.number ≡ l.number = ap (λ (t : Token). t.number) s in absurd (omega arith)
-
-  join_keeps : (p : ℕ) (x : Click) → HoldsOf g n (Join p x) → JoinerKeeps g n j k (joins g j k l p x)
-  join_keeps p x h =
-      cond_both (in_flight l.flight x.id) (idle l) _ (JoinerKeeps g n j k) (λ _. idles)
-      (λ free. cond_both (nat_lt (length l.flight) 32) _ _ (JoinerKeeps g n j k) (λ _. look_keeps p x h.0 h.1 h.2 free) (λ _. tells p Busy h.0 h.1 tt live_same))
+      -- no drawn insert has the next token
+      unused : (y : Insert) → Mem y n.drawn → y.token ≢ next_token g j k l
+      unused y m s = let r = holds.unused y m (ap (λ (t : Token). t.joiner) s) (ap (λ (t : Token). t.epoch) s) in let u : y.token.number ≡ l.number = ap (λ (t : Token). t.number) s in absurd (omega arith)
 
   -- a flight ends without a pair
   module _ (x : Insert) (f : Flight) (here : Mem f l.flight) (is : is_for x f ≡ true) where
@@ -221,26 +199,21 @@ module _ (g : Setting) (n : Known) (epochs : ℕ → ℕ) (j : ℕ) (k : JoinerK
             let i : y.click.id ≡ f.click.id = drawing.one_id (insert_of y) (insert_of f) w.claimed flight_of.claimed (sym s) in
             clash (is_for x y) (and_from (same_id y.click.id x.id) (same_token y.token x.token) (subst (λ (z : EventId). same_id y.click.id z ≡ true) (i ∙ means.0) (same_id-refl y.click.id)) (subst (λ (z : Token). same_token y.token z ≡ true) (sym s ∙ means.1) (same_token-refl y.token))) off
 
-  reply_keeps : (x : Insert) (a : Answer) → HoldsOfReply g n x a → JoinerKeeps g n j k (replied g j k l x a (find (is_for x) l.flight))
-  reply_keeps x a h = option_both (find (is_for x) l.flight) (replied g j k l x a) (JoinerKeeps g n j k) (λ f e. let m = find_flight x l.flight f e in answer_keeps x f m.0 m.1 a h) (λ _. idles)
-
-  gets_keeps : (p : Packet) → HoldsOf g n p → JoinerKeeps g n j k (joiner_gets g j k l p)
-  gets_keeps (Join p x) h = join_keeps p x h
-  gets_keeps (Reply x a) h = reply_keeps x a h
-  gets_keeps _ h = idles
-
   claims_hold : (fs : List Flight) → Each (FlightHolds g same j k.epoch l.number) fs → PacketsHold g same (map (λ (f : Flight). claim g j k l (insert_of f)) fs)
   claims_hold [] h = tt
   claims_hold (f ∷ fs) h = (h.0.claimed, claims_hold fs h.1)
 
-  tick_keeps : JoinerKeeps g n j k (joiner_tick g j k l)
-  tick_keeps = quiet _ refl live_same (claims_hold l.flight live_same.flights)
-
   pub turn_keeps : (i : Input) → HoldsOfInput g n i → JoinerKeeps g n j k (joiner_turn g j k l i)
-  turn_keeps Tick h = tick_keeps
-  turn_keeps (Deliver from p) h = gets_keeps p h
-  turn_keeps Own h = idles
-  turn_keeps Start h = idles
+  turn_keeps =
+      every_row g j k l (λ i o. HoldsOfInput g n i → JoinerKeeps g n j k o)
+      (record {
+        idles = λ i h. quiet (idle l) refl live_same tt;
+        ticks = λ h. quiet _ refl live_same (claims_hold l.flight live_same.flights);
+        begins = λ from p x q free e h. begin_keeps p x h.0 h.1 h.2 free q e;
+        misses = λ from p x e h. tells p (NoQuery (length g.queries)) h.0 h.1 (refl, subst (λ (y : Click). first g.queries y.query ≡ None) (sym h.2) e) live_same;
+        is_busy = λ from p x h. tells p Busy h.0 h.1 tt live_same;
+        is_answered = λ from x a f m is h. answer_keeps x f m is a h;
+      })
 
 pub joiner_keeps : (g : Setting) (n : Known) (epochs : ℕ → ℕ) (j : ℕ) (k : JoinerKept) (l : JoinerLive) (i : Input) → Checked g → IsJoiner g j → n.pairs j ≡ k.pairs → DrawnSound g n epochs → JoinerSound g n j k → JoinerHolds g n j k l → HoldsOfInput g n i → JoinerKeeps g n j k (joiner_turn g j k l i)
 joiner_keeps g n epochs j k l i c is own d s h x = turn_keeps g n epochs j k l c is own d s h i x

@@ -1,32 +1,13 @@
 -- A joiner's turn: what is in flight after it was so before, or its insert is sent; and what ends a flight is work.
-use Rattle.std.proofs.Common.{◌≡◌, ◌⊎◌, inl, inr, ⊎_elim, ℕ, Bool, true, false, cond, nat_lt, List, ◌∷◌, length, map, Some, None, refl, sym, ap, ◌∙◌, []}
+use Rattle.std.proofs.Common.{◌≡◌, ◌⊎◌, inl, inr, ⊎_elim, ℕ, Bool, true, false, cond, List, ◌∷◌, map, Some, None, refl, sym, ap, ◌∙◌, []}
 use Rattle.std.specs.Prelude.{find}
-use Rattle.std.proofs.lemmas.Bool.{cond_both, true≢false, and_from}
-use Rattle.photon_model.proofs.Words.{Insert, same_id-refl, same_token-refl, Answer, Granted, Duplicate, TooOld, Click, first, Mem, option_both, mem_left, mem_split, none_some, Setting, site_of_joiner, Packet, Join, Claim, Reply, Node, Server, Only, Input, Start, Own, Tick, Deliver, Out, idle, JoinerKept, JoinerLive, Flight, insert_of, is_for, in_flight, landed, without_flight, looks, joins, answers, replied, joiner_gets, joiner_turn}
+use Rattle.std.proofs.lemmas.Bool.{true≢false, and_from}
+use Rattle.photon_model.proofs.JoinerRows.{landed_or, landed_before, every_row}
+use Rattle.photon_model.proofs.Words.{Insert, same_id-refl, same_token-refl, Answer, Granted, Duplicate, TooOld, Mem, option_both, mem_left, mem_split, none_some, Setting, site_of_joiner, Claim, Reply, Node, Server, Only, Input, Tick, Deliver, Out, idle, JoinerKept, JoinerLive, Flight, insert_of, is_for, landed, without_flight, answers, replied, joiner_turn}
 use Rattle.photon_model.specs.Rest.{JoinerWorks}
 
 pub is_own : (f : Flight) → is_for (insert_of f) f ≡ true
 is_own f = and_from _ _ (same_id-refl f.click.id) (same_token-refl f.token)
-
--- a flight of another insert stays
-landed_or : (fs : List Flight) (x : Insert) (f : Flight) → Mem f fs → Mem f (landed fs x) ⊎ (is_for x f ≡ true)
-landed_or [] x f m = absurd m
-landed_or (y ∷ fs) x f m = go (is_for x y) refl m (landed_or fs x f)
-  where
-    go : (b : Bool) → is_for x y ≡ b → (y ≡ f) ⊎ Mem f fs → (Mem f fs → Mem f (landed fs x) ⊎ (is_for x f ≡ true)) → Mem f (cond b (landed fs x) (y ∷ landed fs x)) ⊎ (is_for x f ≡ true)
-    go true t (inl e) ih = inr (ap (is_for x) (sym e) ∙ t)
-    go true t (inr k) ih = ih k
-    go false t (inl e) ih = inl (inl e)
-    go false t (inr k) ih = ⊎_elim (λ q. inl (inr q)) (λ q. inr q) (ih k)
-
-landed_before : (fs : List Flight) (x : Insert) (f : Flight) → Mem f (landed fs x) → Mem f fs × (is_for x f ≡ false)
-landed_before [] x f m = absurd m
-landed_before (y ∷ fs) x f m = go (is_for x y) refl m (landed_before fs x f)
-  where
-    go : (b : Bool) → is_for x y ≡ b → Mem f (cond b (landed fs x) (y ∷ landed fs x)) → (Mem f (landed fs x) → Mem f fs × (is_for x f ≡ false)) → ((y ≡ f) ⊎ Mem f fs) × (is_for x f ≡ false)
-    go true t q ih = let h = ih q in (inr h.0, h.1)
-    go false t (inl e) ih = (inl e, ap (is_for x) (sym e) ∙ t)
-    go false t (inr q) ih = let h = ih q in (inr h.0, h.1)
 
 not_found : (fs : List Flight) (x : Insert) (f : Flight) → Mem f fs → is_for x f ≡ true → find (is_for x) fs ≡ None → ⊥
 not_found [] x f m t n = m
@@ -68,27 +49,20 @@ module _ (g : Setting) (j : ℕ) (k : JoinerKept) (l : JoinerLive) where
   answers_both x y (Duplicate h) = (λ f m. inl (landed_before l.flight x f m).0, without x)
   answers_both x y (TooOld b) = (λ f m. inl (landed_before l.flight x f m).0, without x)
 
-  joins_both : (p : ℕ) (c : Click) → Both (joins g j k l p c)
-  joins_both p c =
-      cond_both (in_flight l.flight c.id) (idle l) _ Both (λ _. same)
-      (λ _. cond_both (nat_lt (length l.flight) 32) _ _ Both
-      (λ _. option_both (first g.queries c.query) (looks g j k l p c) Both
-      (λ q _. cond_both (nat_lt l.number _) _ (idle l) Both
-      (λ _. (λ f m. ⊎_elim (λ r. inl r) (λ r. ⊎_elim (λ e. inr (ap (λ (z : Flight). z.token.joiner) (sym e), inl (ap (λ (z : Flight). (Only (Server (site_of_joiner g j)), Claim (insert_of z))) e))) (λ e. absurd e) r) (mem_split f l.flight _ m), λ f m. inl (mem_left f l.flight _ m)))
-      (λ _. same))
-      (λ _. (λ f m. inl m, λ f m. inl m)))
-      (λ _. (λ f m. inl m, λ f m. inl m)))
-
-  gets_both : (p : Packet) → Both (joiner_gets g j k l p)
-  gets_both (Join p c) = joins_both p c
-  gets_both (Reply x a) = option_both (find (is_for x) l.flight) (replied g j k l x a) Both (λ y _. answers_both x y a) (λ _. same)
-  gets_both _ = same
-
   pub turn_both : (i : Input) → Both (joiner_turn g j k l i)
-  turn_both Tick = (λ f m. inl m, λ f m. inl m)
-  turn_both (Deliver from p) = gets_both p
-  turn_both Own = same
-  turn_both Start = same
+  turn_both =
+      every_row g j k l (λ i o. Both o)
+      (record {
+        idles = λ i. same;
+        ticks = (λ f m. inl m, λ f m. inl m);
+        begins = λ from p c q free e. (
+          λ f m. ⊎_elim (λ r. inl r) (λ r. ⊎_elim (λ e. inr (ap (λ (z : Flight). z.token.joiner) (sym e), inl (ap (λ (z : Flight). (Only (Server (site_of_joiner g j)), Claim (insert_of z))) e))) (λ e. absurd e) r) (mem_split f l.flight _ m),
+          λ f m. inl (mem_left f l.flight _ m),
+        );
+        misses = λ from p c e. (λ f m. inl m, λ f m. inl m);
+        is_busy = λ from p c. (λ f m. inl m, λ f m. inl m);
+        is_answered = λ from x a y m is. answers_both x y a;
+      })
 
   -- a Tick sends the insert of each flight again
   pub tick_sends : (f : Flight) → Mem f l.flight → Sends f (joiner_turn g j k l Tick)
