@@ -62,7 +62,7 @@ none_left P o none = subst (λ (x : Option RunLog). IfSome x P) (sym none) tt
 
 -- ---- a store that isn't opened
 
-pub refusal_counted : (r : Refusal) (tells : Bool) (log : List ℕ) (end_ old new store_old store_new : ℕ) (asked : Asked) (kept : KeptValues → Type 0) (logs stores : Type 0)
+pub refusal_counted : (r : Refusal) (tells : Bool) (log : List ℕ) (end_ old new store_old store_new : ℕ) (asked : Option Asked) (kept : KeptValues → Type 0) (logs stores : Type 0)
     → IfDisks (RoseBy store_old store_new) r → (Rose store_old store_new → stores) → IfJudged kept (IsCause tells log end_ old new asked) r → (Rose old new → logs) → IsCounted logs stores (of_refusal r)
 refusal_counted (OfDisks (disks.Store disk)) tells log end_ old new store_old store_new asked kept logs stores rose to_stores judged to_logs = to_stores rose
 refusal_counted (OfDisks (disks.Damaged disk at)) tells log end_ old new store_old store_new asked kept logs stores rose to_stores judged to_logs = tt

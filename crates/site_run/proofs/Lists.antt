@@ -8,7 +8,7 @@ use Rattle.std.proofs.lemmas.Bool.{cases_lt}
 use Rattle.std.proofs.Math.Seq.{get_or-append_seam}
 use Rattle.list_words.specs.Lists.{Each}
 use Rattle.site_run.specs.Naming.{all_from}
-use Rattle.site_run.specs.Placed.{AllAt, AreNamed}
+use Rattle.site_run.specs.Placed.{AllAt}
 
 -- ---- at the end
 
@@ -232,13 +232,7 @@ no_pairs f h os rs h0 no_os no_rs = subst (λ l. IsPermutation (h0 ++ (map f l +
 pub no_ones : {X : Type 0} (xs : List X) (h0 : List X) → length xs ≡ 0 → IsPermutation (h0 ++ xs) h0
 no_ones xs h0 none = subst (λ l. IsPermutation (h0 ++ l) h0) (sym (no_items xs none)) (subst (λ l. IsPermutation l h0) (sym (append-nil h0)) (IsPermutation-refl h0))
 
-pub front_named : {X O : Type 0} (f : O → X) (name_at : ℕ → X) (i : ℕ) (os rest : List O) (o : O) → os ≡ o ∷ rest → AreNamed name_at i (map f os) → (f o ≡ name_at i) × AreNamed name_at (i + 1) (map f rest)
-front_named f name_at i os rest o is named = subst (λ l. AreNamed name_at i (map f l)) is named
-
 -- ---- lists that are the same
-
-pub named_same : {X O : Type 0} (f : O → X) (name_at : ℕ → X) (i : ℕ) (os os' : List O) → os' ≡ os → AreNamed name_at i (map f os) → AreNamed name_at i (map f os')
-named_same f name_at i os os' is named = subst (λ l. AreNamed name_at i (map f l)) (sym is) named
 
 pub each_same : {X : Type 0} (P : X → Type 0) (xs xs' : List X) → xs' ≡ xs → Each P xs → Each P xs'
 each_same P xs xs' is all = subst (Each P) (sym is) all

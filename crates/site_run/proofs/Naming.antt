@@ -1,18 +1,7 @@
--- The names of joiners' disks, and what disks keep by the lists of what journals keep.
-use Rattle.std.proofs.Common.{◌≡◌, ℕ, suc, zero, ◌+◌, ◌-◌, ◌*◌, ◌<◌, nat_lt, true, false, cond, List, [], ◌∷◌, take, sym, ap, ◌∙◌, subst, arith}
+-- The names of joiners' disks.
+use Rattle.std.proofs.Common.{◌≡◌, ℕ, suc, zero, ◌+◌, ◌-◌, ◌*◌, ◌<◌, nat_lt, true, false, cond, ap, ◌∙◌, arith}
 use Rattle.std.proofs.lemmas.Bool.{lt-ltb, le-ltb}
 use Rattle.site_run.specs.Naming.{place_of, site_of, joiner_of}
-use Rattle.site_run.specs.Placed.{AreNamed}
-
-named_take : {X : Type 0} (f : ℕ → X) (i j : ℕ) (xs : List X) → AreNamed f i xs → AreNamed f i (take j xs)
-named_take f i zero [] all = tt
-named_take f i zero (x ∷ xs) all = tt
-named_take f i (suc j) [] all = tt
-named_take f i (suc j) (x ∷ xs) all = (all.0, named_take f (i + 1) j xs all.1)
-
--- names that are the first so many of all
-pub named_of : {X : Type 0} (f : ℕ → X) (j : ℕ) (all names : List X) → names ≡ take j all → AreNamed f 0 all → AreNamed f 0 names
-named_of f j all names is named = subst (AreNamed f 0) (sym is) (named_take f 0 j all named)
 
 -- the site and the place there of a joiner's number
 pub site_named : (j n site joiner : ℕ) → site < 2 → joiner < j → n ≡ 7 + site * j + joiner → (site_of j n ≡ site) × (joiner_of j n ≡ joiner)

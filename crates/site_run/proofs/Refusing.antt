@@ -1,11 +1,12 @@
 -- Why a run over a store gives up, from what opening it tells and what a run of its nodes does.
 use Rattle.std.specs.Prelude.{IsTrue, Result, Ok, Err, OnOk, IfErr}
-use Rattle.std.proofs.Common.{◌≡◌, ◌≢◌, inl, inr, ⊎_elim, ℕ, zero, suc, ◌+◌, ◌-◌, ◌<◌, ◌==◌, if◌then◌else◌, List, [], ◌∷◌, ◌++◌, map, take, length, Bool, true, false, Option, Some, None, refl, sym, ◌∙◌, ap, subst, arith}
+use Rattle.std.proofs.Common.{◌≡◌, ◌≢◌, inl, inr, ⊎_elim, ℕ, zero, suc, ◌+◌, ◌-◌, ◌<◌, ◌≤◌, ◌==◌, if◌then◌else◌, List, [], ◌∷◌, ◌++◌, map, take, length, Bool, true, false, Option, Some, None, refl, sym, ◌∙◌, ap, subst, arith}
 use Rattle.std.proofs.lemmas.Bool.{eq-eqb, cases_lt}
-use Rattle.list_words.specs.Lists.{Each}
-use Rattle.list_words.proofs.Lists.{each_at, each_more, each_append}
+use Rattle.list_words.specs.Lists.{Each, Mem}
+use Rattle.list_words.proofs.Lists.{each_at, each_more}
 use Rattle.outside.specs.Faults.{Rose}
 use Rattle.outside.specs.declared.store.DiskName.{DiskName}
+use Rattle.outside.specs.declared.store.DiskName.TheVariants as name
 use Rattle.outside.specs.declared.faults.StoreFault.{StoreFault}
 use Rattle.outside.specs.declared.faults.StoreFault.TheVariants as store
 use Rattle.topology_journal.specs.declared.topology.Topology.{Topology}
@@ -20,18 +21,19 @@ use Rattle.site_run.specs.declared.faults.fault.RunFault.TheVariants as fault
 use Rattle.site_store.specs.declared.disks.checks.Misfit.{Misfit}
 use Rattle.site_store.specs.declared.disks.checks.Misfit.TheVariants as misfit
 use Rattle.site_store.specs.declared.disks.fault.DisksFault.TheVariants as disks
-use Rattle.site_store.specs.declared.disks.opened.Opened.{Opened}
-use Rattle.site_store.specs.Misfits.{IsFit, IsMisfit, first_spent, first_full, first_some}
-use Rattle.site_store.specs.Opening.{KeepsLeft, RoseBy, WasDamaged}
+use Rattle.site_store.specs.Misfits.{IsFit, IsMisfit, limit_at, limit_in, or_else}
+use Rattle.site_store.specs.Opening.{RoseBy, WasDamaged}
 use Rattle.gate_journal.specs.Images.{IsKeptIn}
-use Rattle.site_store.specs.Kinds.{joiners_kept, offset_names, retry_names, server_names, replica_names, epoch_names_a, epoch_names_b, output_names_a, output_names_b}
-use Rattle.site_store.specs.Refusals.{IsJournalOf, IsOfFirstDisk, site_names, joiner_names, other_names}
-use Rattle.site_store.proofs.Lending.{each_take}
-use Rattle.site_laws.specs.Stores.{Images, joiner_of}
+use Rattle.site_store.specs.Kinds.{joiners_kept}
+use Rattle.site_store.specs.Refusals.{IsJournalOf, IsOfFirstDisk, other_names}
+use Rattle.site_laws.specs.Stores.{Images, IsDisk, joiner_of}
 use Rattle.site_store.specs.declared.opening.refusal.Refusal.{Refusal}
 use Rattle.site_store.specs.declared.opening.refusal.Refusal.TheVariants.{Disks as OfDisks, Joiners, Table, Place, Limit, Read}
 use Rattle.site_store.specs.Leaving.{IsAsked}
-use Rattle.site_store.specs.Records.{KeptValues, AreIn, AreKept, AreRecordsOf, value_at, of_site}
+use Rattle.site_store.specs.Records.{EpochIs, KeptDisk, KeptValues, KeepsAs, IsKept, AreKept, Says, AreRecordsOf}
+use Rattle.site_store.specs.Records as kinds
+use Rattle.site_store.proofs.Names.{all_named}
+use Rattle.site_store.proofs.Values.{at_name, was_journal}
 use Rattle.site_store.specs.Causes.{ArePassed, IsCause, IsOtherTable, IfDisks, IfJudged, first_limit}
 use Rattle.site_run.specs.Causes.{of_refusal, of_place, IsCounted, IsWelcomeWhere}
 use Rattle.site_run.specs.Logs.{IsOfLogs}
@@ -63,7 +65,7 @@ module _ (g : Setting) (before : Images) (asked : Topology) (is : IsAsked asked 
   fits_so : (k : KeptValues) → IsFit k.topology asked → IsFit k.topology (asked_of g)
   fits_so k fit = subst (IsFit k.topology) same_asked fit
 
-  pub passed_so : (k : KeptValues) → AreKept tells before asked.joiners k → ArePassed log_tells log end_ asked k → HasPassed g before
+  pub passed_so : (k : KeptValues) → AreKept tells before asked.joiners k → ArePassed log_tells log end_ (Some asked) k → HasPassed g before
   passed_so k are passed = (k, kept_so k are, record { topology = fits_so k passed.topology; places = passed.places log_sure g log_is end_is; limits = passed.limits })
 
   first_so : (disk : DiskName) (at : ℕ) → IsOfFirstDisk tells before asked.joiners (disks.Damaged disk at) → IsOfFirstDisk true before g.joiners (disks.Damaged disk at)
@@ -71,7 +73,7 @@ module _ (g : Setting) (before : Images) (asked : Topology) (is : IsAsked asked 
 
   module _ (old new store_old store_new : ℕ) (read faulted : Type 0) (to_read : Rose old new → read) (to_faulted : Rose store_old store_new → faulted) where
     pub refused_so : (r : Refusal) → IfDisks (IsOfFirstDisk tells before asked.joiners) r → IfDisks (RoseBy store_old store_new) r → IfDisks (WasDamaged before) r
-        → IfJudged (AreKept tells before asked.joiners) (IsCause log_tells log end_ old new asked) r → IsCauseOf g before read faulted (of_refusal r)
+        → IfJudged (AreKept tells before asked.joiners) (IsCause log_tells log end_ old new (Some asked)) r → IsCauseOf g before read faulted (of_refusal r)
     refused_so (OfDisks (disks.Store disk)) first rose was judged = to_faulted rose
     refused_so (OfDisks (disks.Damaged disk at)) first rose was judged = record { damaged = was; first = first_so disk at first }
     refused_so (OfDisks disks.Memory) first rose was judged = tt
@@ -87,17 +89,17 @@ rest_none : (b : Bool) (m : Misfit) (rest : Option Misfit) → (if b then Some m
 rest_none true m rest is = absurd (cc is)
 rest_none false m rest is = (refl, is)
 
-both_none : (m : Option Misfit) (ms : List (Option Misfit)) → first_some (m ∷ ms) ≡ None → (m ≡ None) × (first_some ms ≡ None)
-both_none None ms is = (refl, is)
-both_none (Some m) ms is = absurd (cc is)
+both_none : (m later : Option Misfit) → or_else m later ≡ None → (m ≡ None) × (later ≡ None)
+both_none None later is = (refl, is)
+both_none (Some m) later is = absurd (cc is)
 
-none_spent : (all : List (Opened ℕ)) → first_spent (λ e. e) all ≡ None → (i : ℕ) → i < length all → value_at all i 0 ≢ 4294967294
-none_spent [] none i below is = absurd (omega (arith, below))
-none_spent (o ∷ os) none zero below is =
-    let rest = rest_none (o.journal == 4294967294) (misfit.Spent o.name 4294967294) (first_spent (λ e. e) os) none in
-    absurd (cc (sym (eq-eqb o.journal 4294967294 is) ∙ rest.0))
-none_spent (o ∷ os) none (suc i) below is =
-    none_spent os (rest_none (o.journal == 4294967294) (misfit.Spent o.name 4294967294) (first_spent (λ e. e) os) none).1 i (omega (arith, below)) is
+none_at : (disks : List KeptDisk) → limit_in disks ≡ None → (d : KeptDisk) → Mem d disks → limit_at d.name d.kept ≡ None
+none_at [] none d m = absurd m
+none_at (o ∷ os) none d (inl is) = subst (λ (x : KeptDisk). limit_at x.name x.kept ≡ None) is (both_none (limit_at o.name o.kept) (limit_in os) none).0
+none_at (o ∷ os) none d (inr m) = none_at os (both_none (limit_at o.name o.kept) (limit_in os) none).1 d m
+
+not_last : (n : DiskName) (epoch : ℕ) → limit_at n (EpochIs epoch) ≡ None → epoch ≢ 4294967294
+not_last n epoch none last = absurd (cc (sym (eq-eqb epoch 4294967294 last) ∙ (rest_none (epoch == 4294967294) (misfit.Spent n 4294967294) None none).0))
 
 -- a joiner's number by its site and its place there
 record IsPlacedAs (g : Setting) (n : ℕ) : Type 0 where
@@ -114,28 +116,20 @@ placed_as g n is =
     (λ high. record { site = 1; place = n - (first_joiner g + g.joiners); is_site = omega arith; within = omega (arith, high, is.1); number = omega (arith, high) })
     (cases_lt n (first_joiner g + g.joiners))
 
-module _ (g : Setting) (k : KeptValues) (limits : first_limit k ≡ None) (d : Disks) (records : AreRecordsOf g k d) (servers : length k.servers ≡ 2) (epochs_a : length k.epochs_a ≡ g.joiners) (epochs_b : length k.epochs_b ≡ g.joiners) where
-  first_none : (first_spent (λ e. e) k.servers ≡ None) × (first_some (first_full (λ n. n) k.notes ∷ first_spent (λ e. e) k.epochs_a ∷ first_spent (λ e. e) k.epochs_b ∷ []) ≡ None)
-  first_none = both_none (first_spent (λ e. e) k.servers) (first_full (λ n. n) k.notes ∷ first_spent (λ e. e) k.epochs_a ∷ first_spent (λ e. e) k.epochs_b ∷ []) limits
-
-  later_none : (first_spent (λ e. e) k.epochs_a ≡ None) × (first_spent (λ e. e) k.epochs_b ≡ None)
-  later_none =
-      let replicas = both_none (first_full (λ n. n) k.notes) (first_spent (λ e. e) k.epochs_a ∷ first_spent (λ e. e) k.epochs_b ∷ []) first_none.1 in
-      let first = both_none (first_spent (λ e. e) k.epochs_a) (first_spent (λ e. e) k.epochs_b ∷ []) replicas.1 in
-      (first.0, (both_none (first_spent (λ e. e) k.epochs_b) [] first.1).0)
-
-  of_joiner : (s j : ℕ) → s < 2 → j < g.joiners → value_at (of_site s k.epochs_a k.epochs_b) j 0 ≢ 4294967294
-  of_joiner zero j site below = none_spent k.epochs_a later_none.0 j (omega (arith, below, epochs_a))
-  of_joiner (suc zero) j site below = none_spent k.epochs_b later_none.1 j (omega (arith, below, epochs_b))
-  of_joiner (suc (suc s)) j site below = absurd (omega (arith, site))
+module _ (g : Setting) (disks : List KeptDisk) (limits : limit_in disks ≡ None) (d : Disks) (records : AreRecordsOf g disks d) (n : ℕ) (few : n ≤ 4) (three : g.replicas ≡ 3) (same : g.joiners ≡ n) (named : map (λ (k : KeptDisk). k.name) disks ≡ other_names n) where
+  of_disk : (disk : DiskName) (epoch : ℕ) → IsDisk g disk → disk ≢ name.Topology → ((kept : kinds.Kept) → Says g d disk kept → kept ≡ EpochIs epoch) → epoch ≢ 4294967294
+  of_disk disk epoch here other said =
+      let o = at_name disks disk (subst (λ (l : List DiskName). Mem disk l) (sym named) (all_named n few g three same disk here other)) in
+      let says = subst (λ (m : DiskName). Says g d m o.0.kept) o.2 (each_at (λ (k : KeptDisk). Says g d k.name k.kept) disks records o.0 o.1) in
+      not_last o.0.name epoch (subst (λ k. limit_at o.0.name k ≡ None) (said o.0.kept says) (none_at disks limits o.0 o.1))
 
   pub none_kept : (epoch : ℕ) → epoch ≡ 4294967294 → OneKept g d epoch → ⊥
   none_kept epoch last (Dispatcher s, is, kept) = kept
-  none_kept epoch last (Server s, is, kept) = none_spent k.servers first_none.0 s (omega (arith, is, servers)) (sym (ap (λ x. x.epoch) (records.servers s is)) ∙ kept ∙ last)
+  none_kept epoch last (Server s, is, kept) = of_disk (name.Server s) ((d.servers s).epoch) is (λ e. cc e) (λ k says. says) (kept ∙ last)
   none_kept epoch last (Replica r, is, kept) = kept
-  none_kept epoch last (Joiner n, is, kept) =
-      let p = placed_as g n is in
-      of_joiner p.site p.place p.is_site p.within (sym (ap (λ x. x.epoch) (records.joiners p.site p.place p.is_site p.within)) ∙ ap (λ m. (d.joiners m).epoch) p.number ∙ kept ∙ last)
+  none_kept epoch last (Joiner j, is, kept) =
+      let p = placed_as g j is in
+      of_disk (name.Epoch p.site p.place) ((d.joiners (joiner_of g p.site p.place)).epoch) (p.is_site, p.within) (λ e. cc e) (λ k says. says) (ap (λ m. (d.joiners m).epoch) p.number ∙ kept ∙ last)
 
 -- ---- of a run of the nodes
 
@@ -193,24 +187,12 @@ module _ (g : Setting) (before placed : Images) (within : (disk : DiskName) (c :
   kept_within : (disk : DiskName) (keeps : List ℕ → Type 0) → IsKeptIn (placed disk) keeps → IsKeptIn (before disk) keeps
   kept_within disk keeps kept = (kept.0, within disk kept.0 kept.1, kept.2)
 
-  values_within : {X : Type 0} (keeps : X → List ℕ → Type 0) (names : List DiskName) (values : List (Opened X)) → AreIn true placed keeps names values → AreIn true before keeps names values
-  values_within keeps names values are = record {
-    named = are.named;
-    ready = are.ready;
-    kept = λ sure. each_more (KeepsLeft placed keeps) (KeepsLeft before keeps) values (λ o kept. kept_within o.name (keeps o.journal) kept) (are.kept sure);
-  }
-
   all_within : (k : KeptValues) → Kept g placed k → Kept g before k
   all_within k are = record {
     topology = λ sure. kept_within _ _ (are.topology sure);
-    offsets = values_within _ _ _ are.offsets;
-    pending = values_within _ _ _ are.pending;
-    servers = values_within _ _ _ are.servers;
-    notes = values_within _ _ _ are.notes;
-    epochs_a = values_within _ _ _ are.epochs_a;
-    epochs_b = values_within _ _ _ are.epochs_b;
-    pairs_a = values_within _ _ _ are.pairs_a;
-    pairs_b = values_within _ _ _ are.pairs_b;
+    named = are.named;
+    kinds = are.kinds;
+    kept = λ sure. each_more (IsKept placed) (IsKept before) k.disks (λ o kept. kept_within o.name (KeepsAs o.kept) kept) (are.kept sure);
   }
 
   pub passed_within : HasPassed g placed → HasPassed g before
@@ -245,38 +227,10 @@ module _ (before : Images) where
   abbrev Was : DiskName → Type 0
   Was name = IsKeptIn (before name) (IsJournalOf name)
 
-  module _ {X : Type 0} (keeps : X → List ℕ → Type 0) where
-    -- what is kept under a name is of its kind
-    abbrev IsOfKind : DiskName → Type 0
-    IsOfKind name = (x : X) (c : List ℕ) → keeps x c → IsJournalOf name c
-
-    were_of : (values : List (Opened X)) → Each (KeepsLeft before keeps) values → Each IsOfKind (map (λ o. o.name) values) → Each Was (map (λ o. o.name) values)
-    were_of [] kept kinds = tt
-    were_of (o ∷ os) kept kinds = ((kept.0.0, kept.0.1, kinds.0 o.journal kept.0.0 kept.0.2), were_of os kept.1 kinds.1)
-
-    were : (names : List DiskName) (values : List (Opened X)) → AreIn true before keeps names values → Each IsOfKind names → Each Was names
-    were names values are kinds = subst (Each Was) are.named (were_of values (are.kept refl) (subst (Each IsOfKind) (sym are.named) kinds))
-
-  all_were : (asked : ℕ) (k : KeptValues) → AreKept true before asked k → Each Was (other_names (joiners_kept k.topology asked))
-  all_were asked k are =
-      let n = joiners_kept k.topology asked in
-      let offsets = were _ offset_names k.offsets are.offsets ((λ x c h. (x, h)), ((λ x c h. (x, h)), tt)) in
-      let pending = were _ retry_names k.pending are.pending ((λ x c h. (x, h)), ((λ x c h. (x, h)), tt)) in
-      let servers = were _ server_names k.servers are.servers ((λ x c h. (x, h)), ((λ x c h. (x, h)), tt)) in
-      let notes = were _ replica_names k.notes are.notes ((λ x c h. (x, h)), ((λ x c h. (x, h)), ((λ x c h. (x, h)), tt))) in
-      let epochs_a = were _ (take n epoch_names_a) k.epochs_a are.epochs_a (each_take _ n epoch_names_a ((λ x c h. (x, h)), ((λ x c h. (x, h)), ((λ x c h. (x, h)), ((λ x c h. (x, h)), tt))))) in
-      let epochs_b = were _ (take n epoch_names_b) k.epochs_b are.epochs_b (each_take _ n epoch_names_b ((λ x c h. (x, h)), ((λ x c h. (x, h)), ((λ x c h. (x, h)), ((λ x c h. (x, h)), tt))))) in
-      let pairs_a = were _ (take n output_names_a) k.pairs_a are.pairs_a (each_take _ n output_names_a ((λ x c h. (x, h)), ((λ x c h. (x, h)), ((λ x c h. (x, h)), ((λ x c h. (x, h)), tt))))) in
-      let pairs_b = were _ (take n output_names_b) k.pairs_b are.pairs_b (each_take _ n output_names_b ((λ x c h. (x, h)), ((λ x c h. (x, h)), ((λ x c h. (x, h)), ((λ x c h. (x, h)), tt))))) in
-      let sites = each_append Was (offset_names ++ retry_names) server_names (each_append Was offset_names retry_names offsets pending) servers in
-      let joiners = each_append Was ((take n epoch_names_a ++ take n epoch_names_b) ++ take n output_names_a) (take n output_names_b)
-      (each_append Was (take n epoch_names_a ++ take n epoch_names_b) (take n output_names_a) (each_append Was (take n epoch_names_a) (take n epoch_names_b) epochs_a epochs_b) pairs_a) pairs_b in
-      each_append Was (site_names ++ replica_names) (joiner_names n) (each_append Was site_names replica_names sites notes) joiners
-
 pub kept_are_journals : (g : Setting) (before : Images) → KeptAreJournals g before
 kept_are_journals g before k disk are taken =
     let topology = are.topology refl in
     ⊎_elim
     (λ is. subst (Was before) is (topology.0, topology.1, (k.topology, topology.2)))
-    (λ among. each_at (Was before) (other_names (joiners_kept k.topology g.joiners)) (all_were before g.joiners k are) disk among)
+    (λ among. was_journal before k.disks disk are.kinds (are.kept refl) (subst (λ (l : List DiskName). Mem disk l) (sym are.named) among))
     (taken k.topology topology)

@@ -1,6 +1,6 @@
 -- Why a run over a store gives up, by what a stop might have left of its disks before it.
-use Rattle.std.specs.Prelude.{◌≡◌, ◌⊎◌, ℕ, List, [], ◌∷◌, true, Option, None, Some, IsSomeAnd, ⊤}
-use Rattle.list_words.specs.Lists.{Mem}
+use Rattle.std.specs.Prelude.{◌≡◌, ◌⊎◌, ℕ, ◌∷◌, true, Option, None, Some, IsSomeAnd, ⊤}
+use Rattle.list_words.specs.Lists.{Each, Mem}
 use Rattle.outside.specs.declared.store.DiskName.{DiskName}
 use Rattle.outside.specs.declared.store.DiskName.TheVariants as name
 use Rattle.topology_journal.specs.declared.topology.Topology.{Topology}
@@ -15,8 +15,6 @@ use Rattle.turn_defs.specs.declared.node.Node.{Node}
 use Rattle.turn_defs.specs.declared.node.Node.TheVariants.{Dispatcher, Server, Replica, Joiner}
 use Rattle.turn_defs.specs.Setting.{Setting}
 use Rattle.turn_defs.specs.Nodes.{IsNode}
-use Rattle.dispatch_node.specs.Kept.{kept_as}
-use Rattle.dispatch_node.specs.Places.{AreKeptPlaces}
 use Rattle.site_store.specs.declared.disks.checks.Misfit.TheVariants as misfit
 use Rattle.site_store.specs.declared.disks.fault.DisksFault.TheVariants as disks
 use Rattle.site_store.specs.Kinds.{joiners_kept}
@@ -25,11 +23,11 @@ use Rattle.site_store.specs.Opening.{IsDamagedIn}
 use Rattle.gate_journal.specs.Images.{IsKeptIn}
 use Rattle.site_store.specs.Refusals.{IsJournalOf, IsOfFirstDisk, other_names}
 use Rattle.site_store.specs.declared.places.misplaced.Misplaced.{Misplaced}
-use Rattle.site_store.specs.Kept.{IsFirst, all_kept}
+use Rattle.site_store.specs.Kept.{Fits, IsFirst, all_kept}
 use Rattle.photon_model.specs.Runs.{Disks}
 use Rattle.site_workers.specs.Works.{stop_count}
 use Rattle.site_laws.specs.Stores.{Images}
-use Rattle.site_store.specs.Records.{KeptValues, AreKept, value_at}
+use Rattle.site_store.specs.Records.{KeptValues, AreKept}
 use Rattle.site_store.specs.Causes.{IsOtherTable, first_limit}
 use Rattle.site_run.specs.declared.ran.RunLog.{RunLog}
 
@@ -37,13 +35,13 @@ use Rattle.site_run.specs.declared.ran.RunLog.{RunLog}
 abbrev pub asked_of : Setting → Topology
 asked_of g = record { joiners = g.joiners; table = g.table }
 
--- the places of the click log that both dispatchers' disks keep fit the log
+-- the places of the click log that its disks keep fit the log
 abbrev pub PlacesFit : Setting → KeptValues → Type 0
-PlacesFit g k = AreKeptPlaces g (kept_as (value_at k.offsets 0 0) (value_at k.pending 0 [])) × AreKeptPlaces g (kept_as (value_at k.offsets 1 0) (value_at k.pending 1 []))
+PlacesFit g k = Each (Fits g.clicks) (all_kept k.disks)
 
 -- the first of these places that doesn't fit
 abbrev pub IsFirstMisplaced : Setting → KeptValues → Misplaced → Type 0
-IsFirstMisplaced g k told = IsFirst g.clicks (all_kept (value_at k.offsets 0 0) (value_at k.offsets 1 0) (value_at k.pending 0 []) (value_at k.pending 1 [])) told
+IsFirstMisplaced g k told = IsFirst g.clicks (all_kept k.disks) told
 
 -- These values can be run: no other topology is kept than the setting's, the places fit, and no epoch, round or slot is at its
 -- limit.

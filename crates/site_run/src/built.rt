@@ -4,6 +4,7 @@ mod config;
 mod made;
 mod parting;
 mod parts;
+mod taking;
 
 pub use building::{Built, build};
 pub use config::{Config, Logs};

@@ -3,27 +3,23 @@ ghost use Rattle.std.specs.Prelude.{◌≡◌, ◌<◌, ◌≤◌, ◌+◌, ◌*
 ghost use Rattle.std.specs.List.{All};
 ghost use Rattle.list_words.specs.Lists.{Each, Mem};
 ghost use Rattle.outside.specs.declared.store.DiskName.{DiskName};
-ghost use Rattle.outside.specs.declared.store.DiskName.TheVariants as name;
 ghost use Rattle.outside.specs.Faults.{Rose};
 ghost use Rattle.time_shards.specs.Shards.{IsTable};
 ghost use Rattle.air_bus.specs.History.{IsAired};
 ghost use Rattle.bus_seat.specs.Seats.{IsIn};
 ghost use Rattle.turn_defs.specs.Setting.{Setting, Checked};
 ghost use Rattle.photon_model.specs.Runs.{Disks};
-ghost use Rattle.gate_journal.specs.declared.journal.JournalState.TheVariants.{Ready};
 ghost use Rattle.log_records.specs.Check.{IsQueryLog};
 ghost use Rattle.dispatch_node.specs.Places.{IsLogOf, AreKeptPlaces};
 ghost use Rattle.registry_server.specs.Cores.{IsNew};
-ghost use Rattle.site_store.specs.Kinds.{offset_names, retry_names, server_names, replica_names, epoch_names_a, epoch_names_b, output_names_a, output_names_b};
-ghost use Rattle.site_store.specs.Lent.{MayBeLeft, lend, lend_all};
+ghost use Rattle.site_store.specs.Refusals.{other_names};
+ghost use Rattle.site_store.specs.Records.{AreRecordsOf, kept_all, lent_all, topology_lent};
+ghost use Rattle.site_store.specs.Lent.{MayBeLeft};
 ghost use Rattle.gate_journal.specs.Images.{GoesOn};
-ghost use Rattle.site_store.specs.Votes.{IsReadyVotes};
 ghost use Rattle.site_laws.specs.Stores.{IsSoundStore, SameRecords};
-ghost use Rattle.site_store.specs.Leaving.{behind};
 ghost use Rattle.site_store.specs.Causes.{LeavesSomething};
 ghost use Rattle.site_run.specs.Running.{AreDownOver};
 ghost use Rattle.site_run.specs.Naming.{as_lent, all_from};
-ghost use Rattle.site_run.specs.Placed.{disks_over};
 ghost use Rattle.site_run.specs.Laws.{KeepsItsRecord};
 ghost use Rattle.site_run.specs.Asked.{OfSetting, IsSettingOver, IsRosterOf};
 ghost use Rattle.site_run.specs.Out.{AreOut};
@@ -40,10 +36,10 @@ use crate::sources::{open_logs, shut_logs};
 use crate::system::run_system;
 use crate::{Config, Names, Outcome, Ran, RunFault, StorePlace};
 use lossy_link::Plan;
-use outside::{Gate, Source, Store, StoreFault};
+use outside::{DiskName, Gate, Source, Store, StoreFault};
 use site_laws::stores::topology_first;
 use site_node::SiteNode;
-use site_store::{LentDisk, Opened, SiteDisks, open_store};
+use site_store::{LentDisk, OpenStore, open_store};
 use std::alloc::Global;
 use std::sync::Wait;
 use std::thread::Threads;
@@ -198,10 +194,10 @@ where
     let mut logs = logs;
     let mut read = take_last(&mut logs.clicks);
     match open_store(alloc, store, asked, &mut read, end) {
-        Ok(disks) => {
+        Ok(opened) => {
             logs.clicks.push_reserved(read);
             run_opened(
-                rt, alloc, config, files, store, plan, gate, ran, disks, logs, room,
+                rt, alloc, config, files, store, plan, gate, ran, opened, logs, room,
             )
         }
         Err(refusal) => {
@@ -222,7 +218,7 @@ fn run_opened<R, F, S, G>(
     plan: Plan,
     gate: &G,
     ran: &mut Ran,
-    disks: SiteDisks<S::Disk>,
+    opened: OpenStore<S::Disk>,
     logs: Logs<F::Log>,
     room: Room<S::Disk, F::Log>,
 ) -> Result<Outcome, RunFault>
@@ -238,83 +234,31 @@ where
     requires node_room { (room.nodes.items ≡ []) × (7 + 2 * config.now.joiners ≤ vec_capacity room.nodes) }
     requires disk_room { (room.parts.disks.items ≡ []) × (15 + 4 * config.now.joiners ≤ vec_capacity room.parts.disks) }
     requires log_room { (room.parts.logs.items ≡ []) × (7 + 2 * config.now.joiners ≤ vec_capacity room.parts.logs) }
-    requires offsets { (map (λ o. o.name) disks.offsets.items ≡ offset_names) × Each (λ o. o.journal.journal.state ≡ Ready) disks.offsets.items }
-    requires retries { (map (λ r. r.name) disks.retries.items ≡ retry_names) × Each (λ r. r.journal.journal.state ≡ Ready) disks.retries.items }
-    requires servers { (map (λ e. e.name) disks.servers.items ≡ server_names) × Each (λ e. e.journal.journal.state ≡ Ready) disks.servers.items }
-    requires replicas { (map (λ v. v.name) disks.replicas.items ≡ replica_names) × Each (λ v. IsReadyVotes S.Disk.tells (S.Disk.seen v.journal.journal.disk) v.journal.journal.state v.journal.notes.items) disks.replicas.items }
-    requires epochs_a { (map (λ e. e.name) disks.epochs_a.items ≡ take config.now.joiners epoch_names_a) × Each (λ e. e.journal.journal.state ≡ Ready) disks.epochs_a.items }
-    requires epochs_b { (map (λ e. e.name) disks.epochs_b.items ≡ take config.now.joiners epoch_names_b) × Each (λ e. e.journal.journal.state ≡ Ready) disks.epochs_b.items }
-    requires outputs_a { (map (λ o. o.name) disks.outputs_a.items ≡ take config.now.joiners output_names_a) × Each (λ o. o.journal.journal.state ≡ Ready) disks.outputs_a.items }
-    requires outputs_b { (map (λ o. o.name) disks.outputs_b.items ≡ take config.now.joiners output_names_b) × Each (λ o. o.journal.journal.state ≡ Ready) disks.outputs_b.items }
+    requires named { map (λ o. o.name) opened.disks.items ≡ other_names config.now.joiners }
     requires clicks { length logs.clicks.items ≡ 2 }
     requires queries { (length logs.queries_a.items ≡ config.now.joiners) × (length logs.queries_b.items ≡ config.now.joiners) }
     requires places { 10 + 4 * config.now.joiners ≤ S.places_left store.old }
-    requires named { disks.topology.name ≡ name.Topology }
     requires none { ran.old.log ≡ None }
     // Where no run began each disk is given back as it was.
-    ensures idle { IsTrue S.Disk.tells → ran.new.log ≡ None → (disk : DiskName) (c : List ℕ) → S.image store.new disk c → MayBeLeft S.Disk.image (S.image store.old) ((lend (λ t. t.journal.disk) disks.topology) ∷ (behind
-        (lend_all (λ o. o.journal.disk) disks.offsets.items)
-        (lend_all (λ r. r.journal.disk) disks.retries.items)
-        (lend_all (λ e. e.journal.disk) disks.servers.items)
-        (lend_all (λ v. v.journal.disk) disks.replicas.items)
-        (lend_all (λ e. e.journal.disk) disks.epochs_a.items)
-        (lend_all (λ e. e.journal.disk) disks.epochs_b.items)
-        (lend_all (λ o. o.journal.disk) disks.outputs_a.items)
-        (lend_all (λ o. o.journal.disk) disks.outputs_b.items))) disk c }
+    ensures idle { IsTrue S.Disk.tells → ran.new.log ≡ None → (disk : DiskName) (c : List ℕ) → S.image store.new disk c → MayBeLeft S.Disk.image (S.image store.old) (topology_lent opened.topology.journal.disk ∷ lent_all opened.disks.items) disk c }
     ensures grown { IsTrue S.Disk.tells → IsTrue F.Log.tells → (g : Setting) → IsNew g config.now.joiners config.now.horizon config.now.table config.now.batch → Each (λ l. IsLogOf (F.Log.bytes l) g) logs.clicks.items → Each (λ l. IsQueryLog (F.Log.bytes l) g.queries) logs.queries_a.items → Each (λ l. IsQueryLog (F.Log.bytes l) g.queries) logs.queries_b.items
-        → let opened = (disks_over (record {
-          offsets = map (λ o. o.journal.value.offset) disks.offsets.items;
-          pendings = map (λ r. r.journal.value.pending.keys) disks.retries.items;
-          epochs = map (λ e. e.journal.value.epoch) disks.servers.items;
-          notes = map (λ v. v.journal.notes.items) disks.replicas.items;
-          joiner_epochs = map (λ e. e.journal.value.epoch) disks.epochs_a.items ++ map (λ e. e.journal.value.epoch) disks.epochs_b.items;
-          joiner_pairs = map (λ o. o.journal.value.pairs.items) disks.outputs_a.items ++ map (λ o. o.journal.value.pairs.items) disks.outputs_b.items;
-        })) in ((s : ℕ) → s < 2 → AreKeptPlaces g (opened.dispatchers s)) → (s : S) → AreOut S.Disk.image (S.image s) (S.image store.old) (lend (λ t. t.journal.disk) disks.topology) (behind
-        (lend_all (λ o. o.journal.disk) disks.offsets.items)
-        (lend_all (λ r. r.journal.disk) disks.retries.items)
-        (lend_all (λ e. e.journal.disk) disks.servers.items)
-        (lend_all (λ v. v.journal.disk) disks.replicas.items)
-        (lend_all (λ e. e.journal.disk) disks.epochs_a.items)
-        (lend_all (λ e. e.journal.disk) disks.epochs_b.items)
-        (lend_all (λ o. o.journal.disk) disks.outputs_a.items)
-        (lend_all (λ o. o.journal.disk) disks.outputs_b.items)) → (disk : DiskName) → GoesOn (S.image s disk) (S.image store.new disk) }
+        → (d : Disks) → AreRecordsOf g (kept_all opened.disks.items) d → ((s : ℕ) → s < 2 → AreKeptPlaces g (d.dispatchers s)) → (s : S) → AreOut S.Disk.image (S.image s) (S.image store.old) (topology_lent opened.topology.journal.disk) (lent_all opened.disks.items) → (disk : DiskName) → GoesOn (S.image s disk) (S.image store.new disk) }
     ensures left { IsTrue S.Disk.tells → IsTrue F.Log.tells → (g : Setting) → IsNew g config.now.joiners config.now.horizon config.now.table config.now.batch → Each (λ l. IsLogOf (F.Log.bytes l) g) logs.clicks.items → Each (λ l. IsQueryLog (F.Log.bytes l) g.queries) logs.queries_a.items → Each (λ l. IsQueryLog (F.Log.bytes l) g.queries) logs.queries_b.items
-        → let opened = (disks_over (record {
-          offsets = map (λ o. o.journal.value.offset) disks.offsets.items;
-          pendings = map (λ r. r.journal.value.pending.keys) disks.retries.items;
-          epochs = map (λ e. e.journal.value.epoch) disks.servers.items;
-          notes = map (λ v. v.journal.notes.items) disks.replicas.items;
-          joiner_epochs = map (λ e. e.journal.value.epoch) disks.epochs_a.items ++ map (λ e. e.journal.value.epoch) disks.epochs_b.items;
-          joiner_pairs = map (λ o. o.journal.value.pairs.items) disks.outputs_a.items ++ map (λ o. o.journal.value.pairs.items) disks.outputs_b.items;
-        })) in ((s : ℕ) → s < 2 → AreKeptPlaces g (opened.dispatchers s)) → (d : Disks) → SameRecords g opened d → KeepsItsRecord S.Disk.image g (lend (λ t. t.journal.disk) disks.topology) → IfSome ran.new.log (λ l. HasRun g d l.air.history (S.image store.new)) }
+        → (d : Disks) → AreRecordsOf g (kept_all opened.disks.items) d → ((s : ℕ) → s < 2 → AreKeptPlaces g (d.dispatchers s)) → (e : Disks) → SameRecords g d e → KeepsItsRecord S.Disk.image g (topology_lent opened.topology.journal.disk) → IfSome ran.new.log (λ l. HasRun g e l.air.history (S.image store.new)) }
     ensures rest { IsTrue S.Disk.tells → IsTrue F.Log.tells → (g : Setting) → IsNew g config.now.joiners config.now.horizon config.now.table config.now.batch → Each (λ l. IsLogOf (F.Log.bytes l) g) logs.clicks.items → Each (λ l. IsQueryLog (F.Log.bytes l) g.queries) logs.queries_a.items → Each (λ l. IsQueryLog (F.Log.bytes l) g.queries) logs.queries_b.items
-        → let opened = (disks_over (record {
-          offsets = map (λ o. o.journal.value.offset) disks.offsets.items;
-          pendings = map (λ r. r.journal.value.pending.keys) disks.retries.items;
-          epochs = map (λ e. e.journal.value.epoch) disks.servers.items;
-          notes = map (λ v. v.journal.notes.items) disks.replicas.items;
-          joiner_epochs = map (λ e. e.journal.value.epoch) disks.epochs_a.items ++ map (λ e. e.journal.value.epoch) disks.epochs_b.items;
-          joiner_pairs = map (λ o. o.journal.value.pairs.items) disks.outputs_a.items ++ map (λ o. o.journal.value.pairs.items) disks.outputs_b.items;
-        })) in ((s : ℕ) → s < 2 → AreKeptPlaces g (opened.dispatchers s)) → (d : Disks) → SameRecords g opened d → KeepsItsRecord S.Disk.image g (lend (λ t. t.journal.disk) disks.topology) → IfOk result (λ outcome. IsSomeAnd ran.new.log (λ l. HasRested g d l.air.history (S.image store.new) (Rose (S.faults store.old) (S.faults store.new)) outcome.journals)) }
+        → (d : Disks) → AreRecordsOf g (kept_all opened.disks.items) d → ((s : ℕ) → s < 2 → AreKeptPlaces g (d.dispatchers s)) → (e : Disks) → SameRecords g d e → KeepsItsRecord S.Disk.image g (topology_lent opened.topology.journal.disk) → IfOk result (λ outcome. IsSomeAnd ran.new.log (λ l. HasRested g e l.air.history (S.image store.new) (Rose (S.faults store.old) (S.faults store.new)) outcome.journals)) }
     ensures lists { IfSome ran.new.log (λ l. All (IsIn l.air.history) l.seen.items) }
     ensures aired { IfSome ran.new.log (λ l. IsAired plan l.air.kinds l.air.history) }
     ensures cause { IfErr result (IsCounted (Rose (F.faults files.old) (F.faults files.new)) (Rose (S.faults store.old) (S.faults store.new))) }
     ensures welcome { IfErr result IsWelcome }
     ensures whole { IsTrue S.Disk.tells → IsTrue F.Log.tells → (g : Setting) → IsNew g config.now.joiners config.now.horizon config.now.table config.now.batch → Each (λ l. IsLogOf (F.Log.bytes l) g) logs.clicks.items → Each (λ l. IsQueryLog (F.Log.bytes l) g.queries) logs.queries_a.items → Each (λ l. IsQueryLog (F.Log.bytes l) g.queries) logs.queries_b.items
-        → let opened = (disks_over (record {
-          offsets = map (λ o. o.journal.value.offset) disks.offsets.items;
-          pendings = map (λ r. r.journal.value.pending.keys) disks.retries.items;
-          epochs = map (λ e. e.journal.value.epoch) disks.servers.items;
-          notes = map (λ v. v.journal.notes.items) disks.replicas.items;
-          joiner_epochs = map (λ e. e.journal.value.epoch) disks.epochs_a.items ++ map (λ e. e.journal.value.epoch) disks.epochs_b.items;
-          joiner_pairs = map (λ o. o.journal.value.pairs.items) disks.outputs_a.items ++ map (λ o. o.journal.value.pairs.items) disks.outputs_b.items;
-        })) in ((s : ℕ) → s < 2 → AreKeptPlaces g (opened.dispatchers s)) → KeepsItsRecord S.Disk.image g (lend (λ t. t.journal.disk) disks.topology) → IfErr result (IsOfRun g opened (Rose (S.faults store.old) (S.faults store.new))) }
+        → (d : Disks) → AreRecordsOf g (kept_all opened.disks.items) d → ((s : ℕ) → s < 2 → AreKeptPlaces g (d.dispatchers s)) → KeepsItsRecord S.Disk.image g (topology_lent opened.topology.journal.disk) → IfErr result (IsOfRun g d (Rose (S.faults store.old) (S.faults store.new))) }
     ensures stopped { IfErr result (NamesEnded ran.new.log) }
     ensures same { IsTrue F.Log.tells → (n : List ℕ) → F.bytes files.new n ≡ F.bytes files.old n }
     ensures file_count { F.faults files.old ≤ F.faults files.new }
     ensures store_count { S.faults store.old ≤ S.faults store.new }
 {
-    match build(alloc, config, disks, logs, room) {
+    match build(alloc, config, opened, logs, room) {
         Ok(built) => run_built(
             rt,
             alloc,
@@ -360,22 +304,21 @@ where
     requires room { (15 + 4 * joiners ≤ vec_capacity built.parts.disks) × (7 + 2 * joiners ≤ vec_capacity built.parts.logs) }
     requires places { 10 + 4 * joiners ≤ S.places_left store.old }
     requires disks { 1 + length (all_from (⟦<AnyNode<S::Disk, F::Log> as Parting<S::Disk, F::Log>>⟧.disks_of joiners) 0 built.nodes.items) ≤ 10 + 4 * joiners }
-    requires named { built.topology.name ≡ name.Topology }
     requires none { ran.old.log ≡ None }
     // Where no run began each disk is given back as it was.
-    ensures idle { IsTrue S.Disk.tells → ran.new.log ≡ None → (disk : DiskName) (c : List ℕ) → S.image store.new disk c → MayBeLeft S.Disk.image (S.image store.old) ((lend (λ t. t.journal.disk) built.topology) ∷ (all_from (⟦<AnyNode<S::Disk, F::Log> as Parting<S::Disk, F::Log>>⟧.disks_of joiners) 0 built.nodes.items)) disk c }
+    ensures idle { IsTrue S.Disk.tells → ran.new.log ≡ None → (disk : DiskName) (c : List ℕ) → S.image store.new disk c → MayBeLeft S.Disk.image (S.image store.old) ((topology_lent built.topology.journal.disk) ∷ (all_from (⟦<AnyNode<S::Disk, F::Log> as Parting<S::Disk, F::Log>>⟧.disks_of joiners) 0 built.nodes.items)) disk c }
     ensures grown { IsTrue S.Disk.tells → IsTrue F.Log.tells → (g : Setting) (d : Disks) (s : S) → IsRosterOf g joiners → AreDownOver ⟦<AnyNode<S::Disk, F::Log> as SystemNode>⟧.places g d built.nodes.items
-        → AreOut S.Disk.image (S.image s) (S.image store.old) (lend (λ t. t.journal.disk) built.topology) (all_from (⟦<AnyNode<S::Disk, F::Log> as Parting<S::Disk, F::Log>>⟧.disks_of joiners) 0 built.nodes.items) → (disk : DiskName) → GoesOn (S.image s disk) (S.image store.new disk) }
+        → AreOut S.Disk.image (S.image s) (S.image store.old) (topology_lent built.topology.journal.disk) (all_from (⟦<AnyNode<S::Disk, F::Log> as Parting<S::Disk, F::Log>>⟧.disks_of joiners) 0 built.nodes.items) → (disk : DiskName) → GoesOn (S.image s disk) (S.image store.new disk) }
     ensures left { IsTrue S.Disk.tells → IsTrue F.Log.tells → (g : Setting) (d e : Disks) → IsRosterOf g joiners → AreDownOver ⟦<AnyNode<S::Disk, F::Log> as SystemNode>⟧.places g d built.nodes.items
-        → SameRecords g d e → KeepsItsRecord S.Disk.image g (lend (λ t. t.journal.disk) built.topology) → IfSome ran.new.log (λ l. HasRun g e l.air.history (S.image store.new)) }
+        → SameRecords g d e → KeepsItsRecord S.Disk.image g (topology_lent built.topology.journal.disk) → IfSome ran.new.log (λ l. HasRun g e l.air.history (S.image store.new)) }
     ensures rest { IsTrue S.Disk.tells → IsTrue F.Log.tells → (g : Setting) (d e : Disks) → IsRosterOf g joiners → AreDownOver ⟦<AnyNode<S::Disk, F::Log> as SystemNode>⟧.places g d built.nodes.items
-        → SameRecords g d e → KeepsItsRecord S.Disk.image g (lend (λ t. t.journal.disk) built.topology) → IfOk result (λ outcome. IsSomeAnd ran.new.log (λ l. HasRested g e l.air.history (S.image store.new) (Rose (S.faults store.old) (S.faults store.new)) outcome.journals)) }
+        → SameRecords g d e → KeepsItsRecord S.Disk.image g (topology_lent built.topology.journal.disk) → IfOk result (λ outcome. IsSomeAnd ran.new.log (λ l. HasRested g e l.air.history (S.image store.new) (Rose (S.faults store.old) (S.faults store.new)) outcome.journals)) }
     ensures lists { IfSome ran.new.log (λ l. All (IsIn l.air.history) l.seen.items) }
     ensures aired { IfSome ran.new.log (λ l. IsAired plan l.air.kinds l.air.history) }
     ensures cause { IfErr result (IsCounted (Rose (F.faults files.old) (F.faults files.new)) (Rose (S.faults store.old) (S.faults store.new))) }
     ensures welcome { IfErr result IsWelcome }
     ensures whole { IsTrue S.Disk.tells → IsTrue F.Log.tells → (g : Setting) (d : Disks) → IsRosterOf g joiners → AreDownOver ⟦<AnyNode<S::Disk, F::Log> as SystemNode>⟧.places g d built.nodes.items
-        → KeepsItsRecord S.Disk.image g (lend (λ t. t.journal.disk) built.topology) → IfErr result (IsOfRun g d (Rose (S.faults store.old) (S.faults store.new))) }
+        → KeepsItsRecord S.Disk.image g (topology_lent built.topology.journal.disk) → IfErr result (IsOfRun g d (Rose (S.faults store.old) (S.faults store.new))) }
     ensures stopped { IfErr result (NamesEnded ran.new.log) }
     ensures same { IsTrue F.Log.tells → (n : List ℕ) → F.bytes files.new n ≡ F.bytes files.old n }
     ensures file_count { F.faults files.old ≤ F.faults files.new }
@@ -388,10 +331,9 @@ where
         nodes,
         parts,
     } = built;
-    let Opened { name, journal } = topology;
     let topology = LentDisk {
-        name,
-        disk: journal.into_disk(),
+        name: DiskName::Topology,
+        disk: topology.into_disk(),
     };
     run_system(
         rt, alloc, joiners, files, store, plan, gate, ran, topology, nodes, parts,

@@ -1,5 +1,5 @@
 -- Of a sound store no disk is told as damaged.
-use Rattle.std.proofs.Common.{◌≡◌, inl, inr, ℕ, zero, suc, ◌<◌, ◌≤◌, List, [], ◌∷◌, ◌++◌, take, map, Bool, IsTrue, Option, Some, None, refl, sym, ◌∙◌, ap, subst, arith}
+use Rattle.std.proofs.Common.{◌≡◌, inl, inr, ℕ, ◌≤◌, List, [], ◌∷◌, map, Bool, IsTrue, Option, Some, None, refl, sym, ◌∙◌, ap, subst, arith}
 use Rattle.std.specs.Prelude.{All}
 use Rattle.std.proofs.lemmas.List.Elements.{All-nil, All-cons}
 use Rattle.list_words.specs.Lists.{Each}
@@ -16,15 +16,16 @@ use Rattle.turn_defs.specs.Setting.{Setting}
 use Rattle.turn_defs.specs.Turns.{BallotNote}
 use Rattle.turn_defs.specs.Replica.{ReplicaKept}
 use Rattle.site_node.specs.Replicas.{IsVoted, vote_record}
-use Rattle.site_store.specs.Kinds.{joiners_kept, damaged_by, replica_names, epoch_names_a, epoch_names_b, output_names_a, output_names_b}
+use Rattle.site_store.specs.Kinds.{joiners_kept, damaged_by}
 use Rattle.site_store.specs.Opening.{WasDamaged}
 use Rattle.gate_journal.specs.Images.{IsKeptIn}
-use Rattle.site_store.specs.Refusals.{IsJournalOf, IsFirst, IsOfFirstDisk, site_names, other_names}
+use Rattle.site_store.specs.Refusals.{IsJournalOf, IsFirst, IsOfFirstDisk, other_names}
 use Rattle.site_node.specs.Replicas.{KeepsNotes}
 use Rattle.site_store.specs.Written.{IsUnwritten}
 use Rattle.site_store.specs.declared.disks.fault.DisksFault.{DisksFault}
 use Rattle.site_store.specs.declared.disks.fault.DisksFault.TheVariants as disks
-use Rattle.site_store.proofs.Lending.{each_back, each_both}
+use Rattle.site_store.proofs.Lending.{each_back}
+use Rattle.site_store.proofs.Names.{others_are}
 use Rattle.site_store.proofs.SameNames.{same_or_not}
 use Rattle.site_store.proofs.Undamaged.{undamaged}
 use Rattle.photon_model.specs.Topology.{Topology as PlainTopology, Store}
@@ -32,39 +33,11 @@ use Rattle.site_laws.specs.Stores.{Bytes, IsDisk, KeepsTopology, KeepsVotes, Hol
 use Rattle.site_laws.specs.StoreLaws.{ReadTopologyIsKept, TopologyFits}
 use Rattle.site_laws.proofs.Naming.{choose}
 use Rattle.site_store.specs.declared.opening.refusal.Refusal.TheVariants.{Disks}
-use Rattle.site_store.specs.Leaving.{IsAsked}
 use Rattle.site_store.specs.Causes.{LeavesSomething, IsWelcome}
 
 -- ---- the disks that are opened are the setting's
 
 module _ (g : Setting) where
-  joiners_are : (named : ℕ → DiskName) → ((j : ℕ) → j < g.joiners → IsDisk g (named j)) → (n : ℕ) → n ≤ g.joiners → n ≤ 4 → Each (IsDisk g) (take n (named 0 ∷ named 1 ∷ named 2 ∷ named 3 ∷ []))
-  joiners_are named is zero le few = tt
-  joiners_are named is (suc zero) le few = (is 0 (omega (arith, le)), tt)
-  joiners_are named is (suc (suc zero)) le few = (is 0 (omega (arith, le)), (is 1 (omega (arith, le)), tt))
-  joiners_are named is (suc (suc (suc zero))) le few = (is 0 (omega (arith, le)), (is 1 (omega (arith, le)), (is 2 (omega (arith, le)), tt)))
-  joiners_are named is (suc (suc (suc (suc zero)))) le few = (is 0 (omega (arith, le)), (is 1 (omega (arith, le)), (is 2 (omega (arith, le)), (is 3 (omega (arith, le)), tt))))
-  joiners_are named is (suc (suc (suc (suc (suc n))))) le few = absurd (omega (arith, few))
-
-  sites_are : Each (IsDisk g) site_names
-  sites_are = (omega arith, (omega arith, (omega arith, (omega arith, (omega arith, (omega arith, tt))))))
-
-  replicas_are : g.replicas ≡ 3 → Each (IsDisk g) replica_names
-  replicas_are three = (omega (arith, three), (omega (arith, three), (omega (arith, three), tt)))
-
-  others_are : g.replicas ≡ 3 → (n : ℕ) → n ≤ g.joiners → n ≤ 4 → Each (IsDisk g) (other_names n)
-  others_are three n le few =
-      let ea = joiners_are (λ j. name.Epoch 0 j) (λ j lt. (omega arith, lt)) n le few in
-      let eb = joiners_are (λ j. name.Epoch 1 j) (λ j lt. (omega arith, lt)) n le few in
-      let oa = joiners_are (λ j. name.Output 0 j) (λ j lt. (omega arith, lt)) n le few in
-      let ob = joiners_are (λ j. name.Output 1 j) (λ j lt. (omega arith, lt)) n le few in
-      let xa = take n epoch_names_a in
-      let xb = take n epoch_names_b in
-      let ya = take n output_names_a in
-      let yb = take n output_names_b in
-      let joiners = each_both (IsDisk g) ((xa ++ xb) ++ ya) yb (each_both (IsDisk g) (xa ++ xb) ya (each_both (IsDisk g) xa xb ea eb) oa) ob in
-      each_both (IsDisk g) (site_names ++ replica_names) (((xa ++ xb) ++ ya) ++ yb) (each_both (IsDisk g) site_names replica_names sites_are (replicas_are three)) joiners
-
   first_is : (tells : Bool) (image : DiskName → List ℕ → Type 0) (names : List DiskName) (disk : DiskName) → Each (IsDisk g) names → IsFirst tells image names disk → IsDisk g disk
   first_is tells image names disk all first = (each_back (IsDisk g) first.front (disk ∷ first.rest) (subst (Each (IsDisk g)) first.order all)).0
 
@@ -124,32 +97,33 @@ module _ (g : Setting) (image : DiskName → List ℕ → Type 0) (some : Leaves
   never_damaged at damaged = undamaged disk c at (subst (IsJournalOf disk) chosen_is (journal_is g chosen.0 all_sound.0 all_sound.1 disk here)) damaged
 
 -- a topology that is kept has as many joiners as the setting
-kept_joiners : ReadTopologyIsKept → TopologyFits → (g : Setting) (image : DiskName → List ℕ → Type 0) → LeavesSomething g image → IsSoundStore g image → (kept : Option Topology) (asked : ℕ) → asked ≡ g.joiners
-    → IsKeptIn (image name.Topology) (Keeps kept) → joiners_kept kept asked ≡ g.joiners
+pub kept_joiners : ReadTopologyIsKept → TopologyFits → (g : Setting) (image : DiskName → List ℕ → Type 0) → LeavesSomething g image → IsSoundStore g image → (kept : Option Topology) (asked : ℕ) → asked ≤ g.joiners
+    → IsKeptIn (image name.Topology) (Keeps kept) → joiners_kept kept asked ≤ g.joiners
 kept_joiners read fits g image some sound None asked is kept_in = is
 kept_joiners read fits g image some sound (Some t) asked is (c, now, keeps) =
     let b = (chosen g image some sound name.Topology tt c now).0 in
     let kept : KeepsTopology (Some (record { joiners = t.joiners; table = t.table })) (b name.Topology) =
     subst (λ (x : List ℕ). KeepsTopology (Some (record { joiners = t.joiners; table = t.table })) x) (sym (chosen_is g image some sound name.Topology tt c now)) (read (Some t) c keeps) in
-    ap (λ (u : PlainTopology). u.joiners) (fits g b (record { joiners = t.joiners; table = t.table }) (all_sound g image some sound name.Topology tt c now) kept)
+    let same : t.joiners ≡ g.joiners = ap (λ (u : PlainTopology). u.joiners) (fits g b (record { joiners = t.joiners; table = t.table }) (all_sound g image some sound name.Topology tt c now) kept) in
+    omega (arith, same)
 
 -- ---- what isn't told of a sound store
 
-module _ (tells : Bool) (sure : IsTrue tells) (image : DiskName → List ℕ → Type 0) (asked : Topology) (few : asked.joiners ≤ 4) (read : ReadTopologyIsKept) (fits : TopologyFits)
-    (g : Setting) (is : IsAsked asked g) (replicas : g.replicas ≡ 3) (sound : IsSoundStore g image) where
-  is_disk : (disk : DiskName) (at : ℕ) → LeavesSomething g image → IsOfFirstDisk tells image asked.joiners (disks.Damaged disk at) → IsDisk g disk
+module _ (tells : Bool) (sure : IsTrue tells) (image : DiskName → List ℕ → Type 0) (asked : ℕ) (read : ReadTopologyIsKept) (fits : TopologyFits) (g : Setting) (le : asked ≤ g.joiners) (few : g.joiners ≤ 4)
+    (replicas : g.replicas ≡ 3) (sound : IsSoundStore g image) where
+  is_disk : (disk : DiskName) (at : ℕ) → LeavesSomething g image → IsOfFirstDisk tells image asked (disks.Damaged disk at) → IsDisk g disk
   is_disk disk at some (inl topology) = subst (IsDisk g) (sym topology) tt
   is_disk disk at some (inr (kept, kept_in, first)) =
-      let same = kept_joiners read fits g image some sound kept asked.joiners (sym is.joiners) (kept_in sure) in
-      first_is g tells image (other_names (joiners_kept kept asked.joiners)) disk (others_are g replicas (joiners_kept kept asked.joiners) (omega (arith, same)) (omega (arith, same, few, is.joiners))) first
+      let n_le = kept_joiners read fits g image some sound kept asked le (kept_in sure) in
+      first_is g tells image (other_names (joiners_kept kept asked)) disk (others_are g replicas (joiners_kept kept asked) n_le (omega (arith, n_le, few))) first
 
-  pub no_damage : (fault : DisksFault) → IsOfFirstDisk tells image asked.joiners fault → WasDamaged image fault → IsWelcome g image (Disks fault)
+  pub no_damage : (fault : DisksFault) → IsOfFirstDisk tells image asked fault → WasDamaged image fault → IsWelcome g image (Disks fault)
   no_damage (disks.Store disk) first was = tt
   no_damage (disks.Damaged disk at) first (c, now, damaged) = λ some. never_damaged g image some sound disk (is_disk disk at some first) c now at damaged
   no_damage disks.Memory first was = tt
 
 -- and a record that isn't written isn't damaged
-pub unwritten_welcome : (g : Setting) (image : DiskName → List ℕ → Type 0) (disk : DiskName) (fault : DisksFault) → IsUnwritten disk fault → IsWelcome g image (Disks fault)
-unwritten_welcome g image disk (disks.Store of) is = tt
-unwritten_welcome g image disk (disks.Damaged of at) is = absurd is
-unwritten_welcome g image disk disks.Memory is = tt
+pub unwritten_welcome : (g : Setting) (image : DiskName → List ℕ → Type 0) (fault : DisksFault) → IsUnwritten fault → IsWelcome g image (Disks fault)
+unwritten_welcome g image (disks.Store of) is = tt
+unwritten_welcome g image (disks.Damaged of at) is = absurd is
+unwritten_welcome g image disks.Memory is = tt

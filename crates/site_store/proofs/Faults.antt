@@ -4,6 +4,8 @@ use Rattle.outside.specs.declared.store.DiskName.{DiskName}
 use Rattle.outside.specs.Faults.{added}
 use Rattle.gate_journal.specs.declared.reading.JournalFault.{JournalFault}
 use Rattle.gate_journal.specs.declared.reading.JournalFault.TheVariants.{Damaged, Disk, Memory}
+use Rattle.site_store.specs.declared.disks.fault.DisksFault.{DisksFault}
+use Rattle.site_store.specs.declared.disks.fault.DisksFault.TheVariants as disks
 use Rattle.site_store.specs.Kinds.{damaged_by}
 use Rattle.site_store.specs.Opening.{IsRefusedBy, told_by, RoseBy, IsOf, WasDamaged}
 
@@ -24,3 +26,9 @@ pub told_damaged : (before : DiskName → List ℕ → Type 0) (name : DiskName)
 told_damaged before name (Damaged at) is_damaged tells bytes old new sure refused agrees left = (bytes, left, agrees bytes at (refused sure))
 told_damaged before name Disk is_damaged tells bytes old new sure refused agrees left = tt
 told_damaged before name Memory is_damaged tells bytes old new sure refused agrees left = tt
+
+-- a fault that raised the count in between raised it over the whole time
+pub rose_on : (fault : DisksFault) (old mid last new : ℕ) → old ≤ mid → last ≤ new → RoseBy mid last fault → RoseBy old new fault
+rose_on (disks.Store name) old mid last new first rest rose = omega (arith, first, rest, rose)
+rose_on (disks.Damaged name at) old mid last new first rest rose = tt
+rose_on disks.Memory old mid last new first rest rose = tt

@@ -1,26 +1,23 @@
 pub mod SameNames
 pub mod Stays
-pub mod Lending
+pub mod Worked
 pub mod Faults
+pub mod Lending
+pub mod Names
+pub mod Values
 pub mod Refusals
 pub mod Undamaged
-pub mod Handing
+pub mod Boundaries
+pub mod Stretches
+pub mod Telling
 pub mod Walking
 pub mod Readings
-mod Stretches
-mod Boundaries
-mod Telling
-mod Worked
-mod Leaving
-mod Values
-mod Causes
-mod Images
-mod Whole
-mod Welcome
+pub mod Handing
+pub mod Taking
+pub mod Causes
+pub mod Leaving
 pub mod Damage
-mod ReadValues
-mod Reasons
-mod ReadImages
-mod ReadTelling
-mod ReadWelcome
-mod Blank
+pub mod Sound
+pub mod Recorded
+pub mod Report
+pub mod Blank

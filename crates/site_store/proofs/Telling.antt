@@ -1,18 +1,21 @@
 -- The first place that doesn't fit, of lists put together.
-use Rattle.std.proofs.Common.{◌≡◌, ◌≢◌, ⊎_elim, ◌↔◌, ℕ, ◌+◌, ◌==◌, true, false, ◌<◌, List, [], ◌∷◌, ◌++◌, length, take, drop, get_or, Option, Some, None, refl, sym, ap, subst, ◌∙◌, append_assoc, arith}
+use Rattle.std.proofs.Common.{zero, suc, ◌≤◌, ◌≡◌, ◌≢◌, inl, inr, ⊎_elim, ℕ, ◌+◌, ◌==◌, true, false, ◌<◌, List, [], ◌∷◌, ◌++◌, length, take, drop, get_or, map, Option, Some, None, refl, sym, ap, subst, ◌∙◌, append_assoc, arith}
 use Rattle.std.proofs.lemmas.Bool.{eqb-true, eq-eqb, or_cases, or_left, or_right}
 use Rattle.std.proofs.lemmas.List.{map-append, take_more, drop_more, take-append-drop}
-use Rattle.list_words.specs.Lists.{Each, has}
-use Rattle.list_words.proofs.Lists.{clash, none_some, each_append}
+use Rattle.list_words.specs.Lists.{Each, Mem, has}
+use Rattle.list_words.proofs.Lists.{clash, each_append}
 use Rattle.outside.specs.declared.store.DiskName.{DiskName}
-use Rattle.outside.specs.declared.store.DiskName.TheVariants.{Retry}
+use Rattle.outside.specs.declared.store.DiskName.TheVariants.{Offset, Retry}
 use Rattle.log_records.specs.Lines.{ClickLine}
 use Rattle.turn_defs.specs.Setting.{Setting}
-use Rattle.dispatch_node.specs.Kept.{kept_as}
 use Rattle.dispatch_node.specs.Places.{AreKeptPlaces}
 use Rattle.site_store.specs.Floors.{IsFloorOf}
-use Rattle.site_store.specs.Kept.{FitsOn, KeptPlace, Fits, IsStart, on_disk, all_kept, IsFirst, IsTold}
+use Rattle.photon_model.specs.Runs.{Disks}
+use Rattle.site_store.specs.Records.{Kept, OffsetIs, PendingAre, KeptDisk, OpenView, kept_all, Says, AreRecordsOf}
+use Rattle.site_store.specs.Kept.{FitsOn, KeptPlace, Fits, IsStart, on_disk, places_at, all_kept, IsFirst, IsTold}
 use Rattle.site_store.specs.declared.places.misplaced.Misplaced.{Misplaced}
+use Rattle.site_store.proofs.Lending.{each_mem}
+use Rattle.site_store.proofs.Values.{at_name}
 
 -- what has P isn't above its floor
 pub floor_misfit : (P : ℕ → Type 0) (kept floor : ℕ) → IsFloorOf P kept floor → floor ≢ kept → P kept → ⊥
@@ -65,7 +68,7 @@ module _ (ls : List ClickLine) where
       subst (λ (places : List KeptPlace). IsFirst ls places m) (sym is)
       (first_later (on_disk disk (take i ps)) _ m before (first_longer (on_disk disk (get_or ps i 0 ∷ [])) (on_disk disk (drop (i + 1) ps)) m this))
 
--- ---- all of them
+-- ---- those of several disks
 
 each_behind : (P : KeptPlace → Type 0) (xs ys : List KeptPlace) → Each P (xs ++ ys) → Each P ys
 each_behind P [] ys h = h
@@ -75,34 +78,60 @@ each_before : (P : KeptPlace → Type 0) (xs ys : List KeptPlace) → Each P (xs
 each_before P [] ys h = tt
 each_before P (x ∷ xs) ys h = (h.0, each_before P xs ys h.1)
 
+-- what is told isn't kept where all fit
+pub first_clash : (ls : List ClickLine) (xs : List KeptPlace) (m : Misplaced) → IsFirst ls xs m → Each (Fits ls) xs → ⊥
+first_clash ls xs m h all =
+    let apart = subst (Each (Fits ls)) h.order all in
+    h.misfit (each_behind (Fits ls) h.before _ apart).0
+
+-- the places of a disk among these fit where all do
+pub fit_at : (ls : List ClickLine) (disks : List KeptDisk) (d : KeptDisk) → Each (Fits ls) (all_kept disks) → Mem d disks → Each (Fits ls) (places_at d.name d.kept)
+fit_at ls [] d all m = absurd m
+fit_at ls (o ∷ os) d all (inl e) = subst (λ (x : KeptDisk). Each (Fits ls) (places_at x.name x.kept)) e (each_before (Fits ls) (places_at o.name o.kept) (all_kept os) all)
+fit_at ls (o ∷ os) d all (inr m) = fit_at ls os d (each_behind (Fits ls) (places_at o.name o.kept) (all_kept os) all) m
+
+-- all fit where those of each disk do
+pub all_fit : (ls : List ClickLine) (disks : List KeptDisk) → ((d : KeptDisk) → Mem d disks → Each (Fits ls) (places_at d.name d.kept)) → Each (Fits ls) (all_kept disks)
+all_fit ls [] each = tt
+all_fit ls (d ∷ ds) each = each_append (Fits ls) (places_at d.name d.kept) (all_kept ds) (each d (inl refl)) (all_fit ls ds (λ o m. each o (inr m)))
+
+-- of open disks, one more
+module _ {D : Type 0} (ls : List ClickLine) (disks : List (OpenView D)) (i : ℕ) (d or : OpenView D) (is : d ≡ get_or disks i or) (lt : i < length disks) where
+  cut : all_kept (kept_all (drop i disks)) ≡ places_at d.name d.kept ++ all_kept (kept_all (drop (i + 1) disks))
+  cut = ap (λ (os : List (OpenView D)). all_kept (kept_all os)) (drop_more disks i or lt) ∙ ap (λ (o : OpenView D). places_at o.name o.kept ++ all_kept (kept_all (drop (i + 1) disks))) (sym is)
+
+  pub next_told : (told : Option Misplaced) → Each (Fits ls) (places_at d.name d.kept) → IsTold ls (all_kept (kept_all (drop (i + 1) disks))) told → IsTold ls (all_kept (kept_all (drop i disks))) told
+  next_told told fit h = subst (λ (places : List KeptPlace). IsTold ls places told) (sym cut) (told_later ls (places_at d.name d.kept) _ told fit h)
+
+  pub here_told : (m : Misplaced) → IsFirst ls (places_at d.name d.kept) m → IsFirst ls (all_kept (kept_all (drop i disks))) m
+  here_told m h = subst (λ (places : List KeptPlace). IsFirst ls places m) (sym cut) (first_longer ls (places_at d.name d.kept) _ m h)
+
+pub none_left : {D : Type 0} (ls : List ClickLine) (disks : List (OpenView D)) (i : ℕ) → length disks ≤ i → Each (Fits ls) (all_kept (kept_all (drop i disks)))
+none_left ls [] zero le = tt
+none_left ls [] (suc i) le = tt
+none_left ls (d ∷ ds) zero le = absurd (omega (arith, le))
+none_left ls (d ∷ ds) (suc i) le = none_left ls ds i (omega (arith, le))
+
 module _ (ls : List ClickLine) (site : ℕ) where
   starts_of : (ps : List ℕ) → Each (Fits ls) (on_disk (Retry site) ps) → (p : ℕ) → has ps p ≡ true → IsStart ls p
   starts_of [] h p e = clash false e refl
   starts_of (q ∷ ps) h p e = ⊎_elim (λ here. subst (IsStart ls) (eqb-true q p here) h.0) (λ later. starts_of ps h.1 p later) (or_cases (q == p) (has ps p) e)
 
-  of_starts : (ps : List ℕ) → ((p : ℕ) → has ps p ≡ true → IsStart ls p) → Each (Fits ls) (on_disk (Retry site) ps)
+  pub of_starts : (ps : List ℕ) → ((p : ℕ) → has ps p ≡ true → IsStart ls p) → Each (Fits ls) (on_disk (Retry site) ps)
   of_starts [] h = tt
   of_starts (q ∷ ps) h = (h q (or_left (q == q) (has ps q) (eq-eqb q q refl)), of_starts ps (λ p e. h p (or_right (q == p) (has ps p) e)))
 
--- what is told isn't kept where all fit
-first_clash : (ls : List ClickLine) (xs : List KeptPlace) (m : Misplaced) → IsFirst ls xs m → Each (Fits ls) xs → ⊥
-first_clash ls xs m h all =
-    let apart = subst (Each (Fits ls)) h.order all in
-    h.misfit (each_behind (Fits ls) h.before _ apart).0
-
-module _ (g : Setting) (offset_a offset_b : ℕ) (pending_a pending_b : List ℕ) where
-  all_are : Each (Fits g.clicks) (all_kept offset_a offset_b pending_a pending_b) → AreKeptPlaces g (kept_as offset_a pending_a) × AreKeptPlaces g (kept_as offset_b pending_b)
-  all_are h =
-      let xs = on_disk (Retry 0) pending_a in
-      let ys = on_disk (Retry 1) pending_b in (
-        record { offset = h.0; pending = starts_of g.clicks 0 pending_a (each_before (Fits g.clicks) xs ys h.1.1) },
-        record { offset = h.1.0; pending = starts_of g.clicks 1 pending_b (each_behind (Fits g.clicks) xs ys h.1.1) },
-      )
-
-  are_all : AreKeptPlaces g (kept_as offset_a pending_a) → AreKeptPlaces g (kept_as offset_b pending_b) → Each (Fits g.clicks) (all_kept offset_a offset_b pending_a pending_b)
-  are_all a b = (a.offset, (b.offset, each_append (Fits g.clicks) (on_disk (Retry 0) pending_a) (on_disk (Retry 1) pending_b) (of_starts g.clicks 0 pending_a a.pending) (of_starts g.clicks 1 pending_b b.pending)))
-
-  -- none is told exactly where all fit
-  pub told_fit : (told : Option Misplaced) → IsTold g.clicks (all_kept offset_a offset_b pending_a pending_b) told → (told ≡ None) ↔ (AreKeptPlaces g (kept_as offset_a pending_a) × AreKeptPlaces g (kept_as offset_b pending_b))
-  told_fit None h = (λ none. all_are h, λ fit. refl)
-  told_fit (Some m) h = (λ none. none_some m (sym none), λ fit. absurd (first_clash g.clicks _ m h (are_all fit.0 fit.1)))
+-- then those of a site's dispatcher do
+pub site_fits : (g : Setting) (disks : List KeptDisk) (d : Disks) (s : ℕ) → AreRecordsOf g disks d → Each (Fits g.clicks) (all_kept disks) → Mem (Offset s) (map (λ o. o.name) disks) → Mem (Retry s) (map (λ o. o.name) disks)
+    → AreKeptPlaces g (d.dispatchers s)
+site_fits g disks d s says all here there =
+    let o = at_name disks (Offset s) here in
+    let r = at_name disks (Retry s) there in
+    let offset : o.0.kept ≡ OffsetIs (d.dispatchers s).offset = subst (λ (n : DiskName). Says g d n o.0.kept) o.2 (each_mem (λ (x : KeptDisk). Says g d x.name x.kept) o.0 disks says o.1) in
+    let pending : r.0.kept ≡ PendingAre (d.dispatchers s).pending = subst (λ (n : DiskName). Says g d n r.0.kept) r.2 (each_mem (λ (x : KeptDisk). Says g d x.name x.kept) r.0 disks says r.1) in
+    let one = subst (λ (n : DiskName). Each (Fits g.clicks) (places_at n o.0.kept)) o.2 (fit_at g.clicks disks o.0 all o.1) in
+    let two = subst (λ (n : DiskName). Each (Fits g.clicks) (places_at n r.0.kept)) r.2 (fit_at g.clicks disks r.0 all r.1) in
+    record {
+      offset = (subst (λ (k : Kept). Each (Fits g.clicks) (places_at (Offset s) k)) offset one).0;
+      pending = starts_of g.clicks s (d.dispatchers s).pending (subst (λ (k : Kept). Each (Fits g.clicks) (places_at (Retry s) k)) pending two);
+    }

@@ -1,76 +1,85 @@
--- What opened journals keep, as plain values.
-use Rattle.std.proofs.Common.{◌≡◌, ◌↔◌, ◌∙◌, ℕ, zero, suc, ◌<◌, ◌==◌, List, [], ◌∷◌, map, length, get_or, Bool, IsTrue, if◌then◌else◌, refl, sym, ap, subst, None, arith}
-use Rattle.std.specs.Bool.{⊤}
-use Rattle.std.specs.List.{list_any}
-use Rattle.list_words.specs.Lists.{Each}
+-- What the disk of a name keeps.
+use Rattle.std.proofs.Common.{◌≡◌, ◌≢◌, ◌⊎◌, inl, inr, ℕ, List, [], ◌∷◌, ◌++◌, map, refl, sym, ◌∙◌, ap, subst}
+use Rattle.std.specs.Prelude.{flat_map}
+use Rattle.list_words.specs.Lists.{Each, EachPair, Mem}
 use Rattle.outside.specs.declared.store.DiskName.{DiskName}
-use Rattle.paxos_acceptor.specs.declared.notes.ReplicaNote.{ReplicaNote}
-use Rattle.site_store.specs.declared.disks.opened.Opened.{Opened}
-use Rattle.site_store.specs.declared.disks.checks.Misfit.{Misfit}
-use Rattle.site_store.specs.declared.disks.checks.Misfit.TheVariants.{Spent}
-use Rattle.std.specs.Prelude.{Option, Some}
-use Rattle.log_records.specs.Lines.{end_from}
-use Rattle.turn_defs.specs.Setting.{Setting}
-use Rattle.dispatch_node.specs.Kept.{kept_as}
-use Rattle.dispatch_node.specs.Places.{IsLogOf, AreKeptPlaces}
-use Rattle.site_store.specs.declared.places.misplaced.Misplaced.{Misplaced}
-use Rattle.site_store.specs.Kept.{KeptPlace, all_kept, IsTold}
-use Rattle.site_store.specs.Causes.{AreTold, PlacesFit}
-use Rattle.site_store.specs.Misfits.{first_spent, first_full, is_full_note}
-use Rattle.site_store.specs.Opening.{AreOpened, KeepsLeft}
-use Rattle.site_store.specs.Records.{keep_all, AreIn, value_at}
+use Rattle.outside.specs.declared.store.DiskName.TheVariants as name
+use Rattle.gate_journal.specs.Images.{IsKeptIn}
+use Rattle.site_store.specs.Refusals.{IsJournalOf, WereJournals}
+use Rattle.site_store.specs.Records.{Kept, KeptDisk, OpenView, KeepsAs, IsOfKind, IsKept, kept_by, kept_all}
+use Rattle.site_store.proofs.Lending.{each_mem}
+use Rattle.site_store.proofs.SameNames.{same_or_not}
 
-pub names_same : {J X : Type 0} (what : J → X) (all : List (Opened J)) → map (λ o. o.name) (keep_all what all) ≡ map (λ o. o.name) all
-names_same what [] = refl
-names_same {J} {X} what (o ∷ os) = ap (λ (ns : List DiskName). o.name ∷ ns) (names_same what os)
+-- the disk of a name that is among theirs
+pub at_name : (disks : List KeptDisk) (n : DiskName) → Mem n (map (λ d. d.name) disks) → (d : KeptDisk) × Mem d disks × (d.name ≡ n)
+at_name [] n m = absurd m
+at_name (d ∷ ds) n (inl e) = (d, inl refl, e)
+at_name (d ∷ ds) n (inr m) = let x = at_name ds n m in (x.0, inr x.1, x.2)
 
-all_tt : {X : Type 0} (values : List (Opened X)) → Each (λ v. ⊤) values
-all_tt [] = tt
-all_tt (v ∷ vs) = (tt, all_tt vs)
+-- there is one of this name or none
+pub find_name : (disks : List KeptDisk) (n : DiskName) → ((d : KeptDisk) × Mem d disks × (d.name ≡ n)) ⊎ ((d : KeptDisk) → Mem d disks → d.name ≡ n → ⊥)
+find_name [] n = inr (λ d m e. absurd m)
+find_name (d ∷ ds) n = elim (same_or_not d.name n) [
+  | inl same ↦ inl (d, inl refl, same)
+  | inr not ↦ elim (find_name ds n) [
+    | inl found ↦ inl (found.0, inr found.1, found.2)
+    | inr none ↦ inr (λ o m e. elim m [ inl here ↦ not (ap (λ (x : KeptDisk). x.name) here ∙ e) | inr later ↦ none o later e ])
+  ]
+]
 
-each_kept : {J X : Type 0} (before : DiskName → List ℕ → Type 0) (what : J → X) (keeps : X → List ℕ → Type 0) (all : List (Opened J))
-    → Each (KeepsLeft before (λ j. keeps (what j))) all → Each (KeepsLeft before keeps) (keep_all what all)
-each_kept before what keeps [] h = tt
-each_kept before what keeps (o ∷ os) h = (h.0, each_kept before what keeps os h.1)
+pub named_mem : (disks : List KeptDisk) (d : KeptDisk) → Mem d disks → Mem d.name (map (λ d. d.name) disks)
+named_mem [] d m = absurd m
+named_mem (o ∷ os) d (inl e) = inl (ap (λ (x : KeptDisk). x.name) e)
+named_mem (o ∷ os) d (inr m) = inr (named_mem os d m)
 
-pub values_in : {J X : Type 0} (tells : Bool) (before : DiskName → List ℕ → Type 0) (is_ready : J → Type 0) (what : J → X) (keeps : X → List ℕ → Type 0) (names : List DiskName) (all : List (Opened J))
-    → AreOpened tells before is_ready (λ j. keeps (what j)) names all → AreIn tells before keeps names (keep_all what all)
-values_in tells before is_ready what keeps names all h = record {
-  named = names_same what all ∙ h.named;
-  ready = all_tt (keep_all what all);
-  kept = λ sure. each_kept before what keeps all (h.kept sure);
-}
+-- where names differ, one name is one disk's
+pub one_named : (disks : List KeptDisk) → EachPair (λ one other. one ≢ other) (map (λ d. d.name) disks) → (a b : KeptDisk) → Mem a disks → Mem b disks → a.name ≡ b.name → a ≡ b
+one_named [] apart a b m k e = absurd m
+one_named (o ∷ os) apart a b (inl m) (inl k) e = sym m ∙ k
+one_named (o ∷ os) apart a b (inl m) (inr k) e = absurd (each_mem (λ (n : DiskName). o.name ≢ n) b.name _ apart.0 (named_mem os b k) (ap (λ (x : KeptDisk). x.name) m ∙ e))
+one_named (o ∷ os) apart a b (inr m) (inl k) e = absurd (each_mem (λ (n : DiskName). o.name ≢ n) a.name _ apart.0 (named_mem os a m) (ap (λ (x : KeptDisk). x.name) k ∙ sym e))
+one_named (o ∷ os) apart a b (inr m) (inr k) e = one_named os apart.1 a b m k e
 
-pub value_is : {J X : Type 0} (what : J → X) (all : List (Opened J)) (i : ℕ) (d : Opened J) (or : X) → i < length all → value_at (keep_all what all) i or ≡ what (get_or all i d).journal
-value_is what [] i d or lt = absurd (omega (arith, lt))
-value_is what (o ∷ os) zero d or lt = refl
-value_is what (o ∷ os) (suc i) d or lt = value_is what os i d or (omega (arith, lt))
+-- ---- what it keeps is a journal of its kind
 
-pub value_here : {J X : Type 0} (what : J → X) (all : List (Opened J)) (i : ℕ) (o : Opened J) (or : X) → i < length all → o ≡ get_or all i o → value_at (keep_all what all) i or ≡ what o.journal
-value_here {J} {X} what all i o or lt is = value_is what all i o or lt ∙ ap (λ (x : Opened J). what x.journal) (sym is)
+pub journal_of : (n : DiskName) (kept : Kept) (c : List ℕ) → IsOfKind n kept → KeepsAs kept c → IsJournalOf n c
+journal_of name.Topology kept c (v, is) keeps = (v, subst (λ (k : Kept). KeepsAs k c) is keeps)
+journal_of (name.Offset s) kept c (v, is) keeps = (v, subst (λ (k : Kept). KeepsAs k c) is keeps)
+journal_of (name.Retry s) kept c (v, is) keeps = (v, subst (λ (k : Kept). KeepsAs k c) is keeps)
+journal_of (name.Server s) kept c (v, is) keeps = (v, subst (λ (k : Kept). KeepsAs k c) is keeps)
+journal_of (name.Replica r) kept c (v, is) keeps = (v, subst (λ (k : Kept). KeepsAs k c) is keeps)
+journal_of (name.Epoch s j) kept c (v, is) keeps = (v, subst (λ (k : Kept). KeepsAs k c) is keeps)
+journal_of (name.Output s j) kept c (v, is) keeps = (v, subst (λ (k : Kept). KeepsAs k c) is keeps)
 
-pub spent_same : {J : Type 0} (epoch : J → ℕ) (all : List (Opened J)) → first_spent (λ e. e) (keep_all epoch all) ≡ first_spent epoch all
-spent_same epoch [] = refl
-spent_same epoch (o ∷ os) = ap (λ (rest : Option Misfit). if epoch o.journal == 4294967294 then Some (Spent o.name 4294967294) else rest) (spent_same epoch os)
+-- the disk of a name was a journal of its kind
+pub was_journal : (before : DiskName → List ℕ → Type 0) (disks : List KeptDisk) (n : DiskName) → Each (λ d. IsOfKind d.name d.kept) disks → Each (IsKept before) disks → Mem n (map (λ d. d.name) disks)
+    → IsKeptIn (before n) (IsJournalOf n)
+was_journal before [] n kinds kept m = absurd m
+was_journal before (d ∷ ds) n kinds kept (inl e) =
+    let x = kept.0 in subst (λ (n : DiskName). IsKeptIn (before n) (IsJournalOf n)) e (x.0, x.1, journal_of d.name d.kept x.0 kinds.0 x.2)
+was_journal before (d ∷ ds) n kinds kept (inr m) = was_journal before ds n kinds.1 kept.1 m
 
-pub full_same : {J : Type 0} (notes : J → List ReplicaNote) (all : List (Opened J)) → first_full (λ n. n) (keep_all notes all) ≡ first_full notes all
-full_same notes [] = refl
-full_same notes (o ∷ os) = ap (λ (rest : Option Misfit). if list_any is_full_note (notes o.journal) then Some (Spent o.name 281474976710655) else rest) (full_same notes os)
+-- ---- open disks
 
--- what is told of the dispatchers' places, as numbers and as kept values
-module _ (tells : Bool) (log : List ℕ) (end_ a b : ℕ) (p q : List ℕ) (offsets : List (Opened ℕ)) (pending : List (Opened (List ℕ)))
-    (a_is : value_at offsets 0 0 ≡ a) (b_is : value_at offsets 1 0 ≡ b) (p_is : value_at pending 0 [] ≡ p) (q_is : value_at pending 1 [] ≡ q) where
-  pub are_told : (told : Option Misplaced) → (IsTrue tells → (g : Setting) → IsLogOf log g → end_ ≡ end_from 0 g.clicks → IsTold g.clicks (all_kept a b p q) told) → AreTold tells log end_ offsets pending told
-  are_told told h sure g is end_is =
-      let same : all_kept (value_at offsets 0 0) (value_at offsets 1 0) (value_at pending 0 []) (value_at pending 1 []) ≡ all_kept a b p q =
-      ap (λ x. all_kept x (value_at offsets 1 0) (value_at pending 0 []) (value_at pending 1 [])) a_is ∙ ap (λ x. all_kept a x (value_at pending 0 []) (value_at pending 1 [])) b_is
-      ∙ ap (λ x. all_kept a b x (value_at pending 1 [])) p_is ∙ ap (λ x. all_kept a b p x) q_is in
-      subst (λ (places : List KeptPlace). IsTold g.clicks places told) (sym same) (h sure g is end_is)
+pub names_kept : {D : Type 0} (all : List (OpenView D)) → map (λ d. d.name) (kept_all all) ≡ map (λ o. o.name) all
+names_kept [] = refl
+names_kept {D} (o ∷ os) = ap (λ (ns : List DiskName). o.name ∷ ns) (names_kept os)
 
-  pub places_fit : (told : Option Misplaced) → told ≡ None
-      → (IsTrue tells → (g : Setting) → IsLogOf log g → end_ ≡ end_from 0 g.clicks → (told ≡ None) ↔ (AreKeptPlaces g (kept_as a p) × AreKeptPlaces g (kept_as b q))) → PlacesFit tells log end_ offsets pending
-  places_fit told none h sure g is end_is =
-      let fit = (h sure g is end_is).0 none in
-      let first : kept_as (value_at offsets 0 0) (value_at pending 0 []) ≡ kept_as a p = ap (λ x. kept_as x (value_at pending 0 [])) a_is ∙ ap (λ x. kept_as a x) p_is in
-      let second : kept_as (value_at offsets 1 0) (value_at pending 1 []) ≡ kept_as b q = ap (λ x. kept_as x (value_at pending 1 [])) b_is ∙ ap (λ x. kept_as b x) q_is in
-      (subst (AreKeptPlaces g) (sym first) fit.0, subst (AreKeptPlaces g) (sym second) fit.1)
+pub each_kept : {D : Type 0} (P : KeptDisk → Type 0) (all : List (OpenView D)) → Each (λ o. P (kept_by o)) all → Each P (kept_all all)
+each_kept P [] h = tt
+each_kept P (o ∷ os) h = (h.0, each_kept P os h.1)
+
+pub were_journals : {D : Type 0} (before : DiskName → List ℕ → Type 0) (all : List (OpenView D)) (names : List DiskName) → map (λ o. o.name) all ≡ names → Each (λ o. IsOfKind o.name o.kept) all
+    → Each (λ o. IsKept before (kept_by o)) all → WereJournals before names
+were_journals {D} before all names named kinds kept = subst (WereJournals before) named (each_were all kinds kept)
+  where
+    each_were : (all : List (OpenView D)) → Each (λ o. IsOfKind o.name o.kept) all → Each (λ o. IsKept before (kept_by o)) all → WereJournals before (map (λ o. o.name) all)
+    each_were [] kinds kept = tt
+    each_were (o ∷ os) kinds kept = let x = kept.0 in ((x.0, x.1, journal_of o.name o.kept x.0 kinds.0 x.2), each_were os kinds.1 kept.1)
+
+-- ---- lists that the names give
+
+-- what each disk gives by what it keeps is what its name gives
+pub by_names : {X : Type 0} (f : Kept → List X) (h : DiskName → List X) (disks : List KeptDisk) → Each (λ d. f d.kept ≡ h d.name) disks → flat_map (λ (d : KeptDisk). f d.kept) disks ≡ flat_map h (map (λ d. d.name) disks)
+by_names f h [] is = refl
+by_names {X} f h (d ∷ ds) is = ap (λ (xs : List X). xs ++ flat_map (λ (d : KeptDisk). f d.kept) ds) is.0 ∙ ap (λ (xs : List X). h d.name ++ xs) (by_names f h ds is.1)

@@ -5,6 +5,7 @@ use Rattle.outside.specs.declared.store.DiskName.{DiskName}
 use Rattle.outside.specs.declared.store.DiskName.TheVariants.{Topology, Offset, Retry, Server, Replica, Epoch, Output}
 use Rattle.log_records.specs.Lines.{ClickLine, at, IsBoundary}
 use Rattle.site_store.specs.Floors.{IsFloorOf}
+use Rattle.site_store.specs.Records.{Kept, TopologyIs, OffsetIs, PendingAre, EpochIs, NotesAre, PairsAre, KeptDisk}
 use Rattle.site_store.specs.declared.places.misplaced.Misplaced.{Misplaced}
 
 -- a whole line starts at p
@@ -33,10 +34,19 @@ Fits ls k = FitsOn ls k.disk k.kept
 abbrev pub on_disk : DiskName → List ℕ → List KeptPlace
 on_disk disk places = map (λ p. record { disk = disk; kept = p }) places
 
--- all of them, in the order in which they are looked at
-abbrev pub all_kept : (offset_a offset_b : ℕ) (pending_a pending_b : List ℕ) → List KeptPlace
-all_kept offset_a offset_b pending_a pending_b =
-    on_disk (Offset 0) (offset_a ∷ []) ++ (on_disk (Offset 1) (offset_b ∷ []) ++ (on_disk (Retry 0) pending_a ++ on_disk (Retry 1) pending_b))
+-- the places that a disk keeps
+abbrev pub places_at : DiskName → Kept → List KeptPlace
+places_at disk (TopologyIs topology) = []
+places_at disk (OffsetIs offset) = on_disk disk (offset ∷ [])
+places_at disk (PendingAre positions) = on_disk disk positions
+places_at disk (EpochIs epoch) = []
+places_at disk (NotesAre notes) = []
+places_at disk (PairsAre pairs) = []
+
+-- those of all disks, in order
+abbrev pub all_kept : List KeptDisk → List KeptPlace
+all_kept [] = []
+all_kept (d ∷ ds) = places_at d.name d.kept ++ all_kept ds
 
 -- the first of these places that doesn't fit, with its floor
 pub record IsFirst (ls : List ClickLine) (places : List KeptPlace) (told : Misplaced) : Type 0 where

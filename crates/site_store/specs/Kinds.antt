@@ -1,5 +1,5 @@
 -- The kinds of journal by the names of their disks.
-use Rattle.std.specs.Prelude.{◌≡◌, ℕ, List, [], ◌∷◌, Err, ◌==◌, if◌then◌else◌, Option, None, Some}
+use Rattle.std.specs.Prelude.{◌≡◌, ℕ, List, [], ◌∷◌, Err, Option, None, Some}
 use Rattle.outside.specs.declared.store.DiskName.{DiskName}
 use Rattle.outside.specs.declared.store.DiskName.TheVariants as name
 use Rattle.site_store.specs.Votes.{IsVotesDamaged}
@@ -19,16 +19,6 @@ damaged_by (name.Server site) bytes at = epoch_of bytes ≡ Err at
 damaged_by (name.Replica replica) bytes at = IsVotesDamaged bytes at
 damaged_by (name.Epoch site joiner) bytes at = epoch_of bytes ≡ Err at
 damaged_by (name.Output site joiner) bytes at = IsOutputDamaged bytes at
-
--- the place of a name's kind in the order in which disks are opened
-abbrev pub kind_of : DiskName → ℕ
-kind_of name.Topology = 0
-kind_of (name.Offset site) = 1
-kind_of (name.Retry site) = 2
-kind_of (name.Server site) = 3
-kind_of (name.Replica replica) = 4
-kind_of (name.Epoch site joiner) = if site == 0 then 5 else 6
-kind_of (name.Output site joiner) = if site == 0 then 7 else 8
 
 -- the names of each kind, in order; of a joiner's there are as many as a site has joiners
 abbrev pub offset_names : List DiskName

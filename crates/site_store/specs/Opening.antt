@@ -1,15 +1,12 @@
 -- What opening the disks of a store does.
-use Rattle.std.specs.Prelude.{◌≡◌, ℕ, List, map, Bool, IsTrue}
-use Rattle.list_words.specs.Lists.{Each}
+use Rattle.std.specs.Prelude.{◌≡◌, ℕ, List, Bool, IsTrue}
 use Rattle.outside.specs.declared.store.DiskName.{DiskName}
 use Rattle.outside.specs.Faults.{Rose}
-use Rattle.gate_journal.specs.Images.{IsKeptIn}
 use Rattle.gate_journal.specs.declared.reading.JournalFault.{JournalFault}
 use Rattle.gate_journal.specs.declared.reading.JournalFault.TheVariants as journal
 use Rattle.site_store.specs.Kinds.{damaged_by}
 use Rattle.site_store.specs.declared.disks.fault.DisksFault.{DisksFault}
 use Rattle.site_store.specs.declared.disks.fault.DisksFault.TheVariants as disks
-use Rattle.site_store.specs.declared.disks.opened.Opened.{Opened}
 
 -- A file is damaged as its kind reads it. A fault of the disk raised its count. Want of memory is free.
 abbrev pub IsRefusedBy : (List ℕ → ℕ → Type 0) → Bool → List ℕ → (old new : ℕ) → JournalFault → Type 0
@@ -22,17 +19,6 @@ abbrev pub told_by : DiskName → JournalFault → DisksFault
 told_by name (journal.Damaged at) = disks.Damaged name at
 told_by name journal.Disk = disks.Store name
 told_by name journal.Memory = disks.Memory
-
--- it keeps what might have been left of its disk before
-abbrev pub KeepsLeft : {J : Type 0} → (DiskName → List ℕ → Type 0) → (J → List ℕ → Type 0) → Opened J → Type 0
-KeepsLeft before keeps o = IsKeptIn (before o.name) (keeps o.journal)
-
--- Journals that were opened from the disks of these names, in order. Each is ready, and keeps what might have been left of
--- its disk before.
-pub record AreOpened {J : Type 0} (tells : Bool) (before : DiskName → List ℕ → Type 0) (is_ready : J → Type 0) (keeps : J → List ℕ → Type 0) (names : List DiskName) (opened : List (Opened J)) : Type 0 where
-  pub named : map (λ o. o.name) opened ≡ names
-  pub ready : Each (λ o. is_ready o.journal) opened
-  pub kept : IsTrue tells → Each (KeepsLeft before keeps) opened
 
 -- a fault of the store raised its count
 abbrev pub RoseBy : (old new : ℕ) → DisksFault → Type 0

@@ -1,5 +1,6 @@
--- What the journals of a store's disks keep, in plain values, and the records of a setting's nodes.
-use Rattle.std.specs.Prelude.{◌≡◌, ℕ, ◌<◌, ◌==◌, List, map, take, get_or, [], Bool, IsTrue, if◌then◌else◌, Option, ⊤}
+-- What the disks of a store keep, each under its name, and the records of a setting's nodes.
+use Rattle.std.specs.Prelude.{◌≡◌, ℕ, List, map, Bool, IsTrue, Option, ⊤}
+use Rattle.list_words.specs.Lists.{Each}
 use Rattle.outside.specs.declared.store.DiskName.{DiskName}
 use Rattle.outside.specs.declared.store.DiskName.TheVariants as name
 use Rattle.topology_journal.specs.declared.topology.Topology.{Topology}
@@ -11,63 +12,99 @@ use Rattle.turn_defs.specs.declared.pair.PairRec.{PairRec}
 use Rattle.output_log.specs.Pairs.{Keeps as KeepsPairs}
 use Rattle.paxos_acceptor.specs.declared.notes.ReplicaNote.{ReplicaNote}
 use Rattle.turn_defs.specs.Setting.{Setting}
-use Rattle.dispatch_node.specs.Kept.{kept_as}
-use Rattle.site_node.specs.Replicas.{kept_of}
-use Rattle.site_store.specs.declared.disks.opened.Opened.{Opened}
-use Rattle.site_store.specs.Kinds.{joiners_kept, offset_names, retry_names, server_names, replica_names, epoch_names_a, epoch_names_b, output_names_a, output_names_b}
-use Rattle.site_store.specs.Opening.{AreOpened}
 use Rattle.gate_journal.specs.Images.{IsKeptIn}
-use Rattle.site_node.specs.Replicas.{KeepsNotes}
+use Rattle.site_node.specs.Replicas.{KeepsNotes, kept_of}
+use Rattle.site_store.specs.Kinds.{joiners_kept}
+use Rattle.site_store.specs.Refusals.{other_names}
+use Rattle.site_store.specs.Lent.{Lent}
 use Rattle.photon_model.specs.Runs.{Disks}
 use Rattle.site_laws.specs.Stores.{joiner_of}
 
--- what each of these journals keeps, under the name of its disk
-abbrev pub keep : {J X : Type 0} → (J → X) → Opened J → Opened X
-keep what o = record { name = o.name; journal = what o.journal }
+-- what a journal keeps, by its kind
+pub data Kept : Type 0 where
+  TopologyIs : Option Topology → Kept
+  OffsetIs : ℕ → Kept
+  PendingAre : List ℕ → Kept
+  EpochIs : ℕ → Kept
+  NotesAre : List ReplicaNote → Kept
+  PairsAre : List PairRec → Kept
 
-abbrev pub keep_all : {J X : Type 0} → (J → X) → List (Opened J) → List (Opened X)
-keep_all what all = map (keep what) all
+-- the bytes of a file keep this
+abbrev pub KeepsAs : Kept → List ℕ → Type 0
+KeepsAs (TopologyIs topology) bytes = KeepsTopology topology bytes
+KeepsAs (OffsetIs offset) bytes = KeepsOffset offset bytes
+KeepsAs (PendingAre positions) bytes = KeepsPending positions bytes
+KeepsAs (EpochIs epoch) bytes = KeepsEpoch epoch bytes
+KeepsAs (NotesAre notes) bytes = KeepsNotes notes bytes
+KeepsAs (PairsAre pairs) bytes = KeepsPairs pairs bytes
 
--- what the disks of a store keep, by kind
+-- the disk of this name keeps records of this kind
+abbrev pub IsOfKind : DiskName → Kept → Type 0
+IsOfKind name.Topology kept = (topology : Option Topology) × (kept ≡ TopologyIs topology)
+IsOfKind (name.Offset site) kept = (offset : ℕ) × (kept ≡ OffsetIs offset)
+IsOfKind (name.Retry site) kept = (positions : List ℕ) × (kept ≡ PendingAre positions)
+IsOfKind (name.Server site) kept = (epoch : ℕ) × (kept ≡ EpochIs epoch)
+IsOfKind (name.Replica replica) kept = (notes : List ReplicaNote) × (kept ≡ NotesAre notes)
+IsOfKind (name.Epoch site joiner) kept = (epoch : ℕ) × (kept ≡ EpochIs epoch)
+IsOfKind (name.Output site joiner) kept = (pairs : List PairRec) × (kept ≡ PairsAre pairs)
+
+-- the disk of a name, and what it keeps
+pub record KeptDisk : Type 0 where
+  pub name : DiskName
+  pub kept : Kept
+
+-- the same with the disk itself, which is open
+pub record OpenView (D : Type 0) : Type 0 where
+  pub name : DiskName
+  pub disk : D
+  pub kept : Kept
+
+abbrev pub kept_by : {D : Type 0} → OpenView D → KeptDisk
+kept_by o = record { name = o.name; kept = o.kept }
+
+abbrev pub lent_by : {D : Type 0} → OpenView D → Lent D
+lent_by o = record { name = o.name; disk = o.disk }
+
+abbrev pub kept_all : {D : Type 0} → List (OpenView D) → List KeptDisk
+kept_all disks = map kept_by disks
+
+abbrev pub lent_all : {D : Type 0} → List (OpenView D) → List (Lent D)
+lent_all disks = map lent_by disks
+
+-- the disk of the topology
+abbrev pub topology_lent : {D : Type 0} → D → Lent D
+topology_lent disk = record { name = name.Topology; disk = disk }
+
+-- what the disks of a store keep: that of the topology, and the others in the order of their names
 pub record KeptValues : Type 0 where
   pub topology : Option Topology
-  pub offsets : List (Opened ℕ)
-  pub pending : List (Opened (List ℕ))
-  pub servers : List (Opened ℕ)
-  pub notes : List (Opened (List ReplicaNote))
-  pub epochs_a : List (Opened ℕ)
-  pub epochs_b : List (Opened ℕ)
-  pub pairs_a : List (Opened (List PairRec))
-  pub pairs_b : List (Opened (List PairRec))
+  pub disks : List KeptDisk
 
--- what the disks of these names keep, in order, each in an image of its own
-abbrev pub AreIn : {X : Type 0} → Bool → (DiskName → List ℕ → Type 0) → (X → List ℕ → Type 0) → List DiskName → List (Opened X) → Type 0
-AreIn tells before keeps names values = AreOpened tells before (λ _. ⊤) keeps names values
+abbrev pub values_of : {D : Type 0} → Option Topology → List (OpenView D) → KeptValues
+values_of topology disks = record { topology = topology; disks = kept_all disks }
 
--- the disks keep these values, with as many joiners as are kept, or else as are asked for
+-- one of the disk's images keeps what it is said to keep
+abbrev pub IsKept : (DiskName → List ℕ → Type 0) → KeptDisk → Type 0
+IsKept before d = IsKeptIn (before d.name) (KeepsAs d.kept)
+
+-- The disks keep these values, with as many joiners as are kept, or else as are asked for: each disk records of its kind, which
+-- one of its images has.
 pub record AreKept (tells : Bool) (before : DiskName → List ℕ → Type 0) (asked : ℕ) (k : KeptValues) : Type 0 where
   pub topology : IsTrue tells → IsKeptIn (before name.Topology) (KeepsTopology k.topology)
-  pub offsets : AreIn tells before (λ o. KeepsOffset o) offset_names k.offsets
-  pub pending : AreIn tells before (λ p. KeepsPending p) retry_names k.pending
-  pub servers : AreIn tells before (λ e. KeepsEpoch e) server_names k.servers
-  pub notes : AreIn tells before (λ n. KeepsNotes n) replica_names k.notes
-  pub epochs_a : AreIn tells before (λ e. KeepsEpoch e) (take (joiners_kept k.topology asked) epoch_names_a) k.epochs_a
-  pub epochs_b : AreIn tells before (λ e. KeepsEpoch e) (take (joiners_kept k.topology asked) epoch_names_b) k.epochs_b
-  pub pairs_a : AreIn tells before (λ p. KeepsPairs p) (take (joiners_kept k.topology asked) output_names_a) k.pairs_a
-  pub pairs_b : AreIn tells before (λ p. KeepsPairs p) (take (joiners_kept k.topology asked) output_names_b) k.pairs_b
+  pub named : map (λ d. d.name) k.disks ≡ other_names (joiners_kept k.topology asked)
+  pub kinds : Each (λ d. IsOfKind d.name d.kept) k.disks
+  pub kept : IsTrue tells → Each (IsKept before) k.disks
 
--- the value at a place
-abbrev pub value_at : {X : Type 0} → List (Opened X) → ℕ → X → X
-value_at values i or = get_or (map (λ o. o.journal) values) i or
+-- the records of the setting's nodes say this of the disk of a name; of the topology they say nothing
+abbrev pub Says : Setting → Disks → DiskName → Kept → Type 0
+Says g d name.Topology kept = ⊤
+Says g d (name.Offset s) kept = kept ≡ OffsetIs (d.dispatchers s).offset
+Says g d (name.Retry s) kept = kept ≡ PendingAre (d.dispatchers s).pending
+Says g d (name.Server s) kept = kept ≡ EpochIs (d.servers s).epoch
+Says g d (name.Replica r) kept = (notes : List ReplicaNote) × (kept ≡ NotesAre notes) × (d.replicas r ≡ kept_of notes)
+Says g d (name.Epoch s j) kept = kept ≡ EpochIs (d.joiners (joiner_of g s j)).epoch
+Says g d (name.Output s j) kept = kept ≡ PairsAre (d.joiners (joiner_of g s j)).pairs
 
--- site A's or site B's
-abbrev pub of_site : {X : Type 0} → ℕ → X → X → X
-of_site site a b = if site == 0 then a else b
-
--- the records of the setting's nodes are these values
-pub record AreRecordsOf (g : Setting) (k : KeptValues) (d : Disks) : Type 0 where
-  pub dispatchers : (s : ℕ) → s < 2 → d.dispatchers s ≡ kept_as (value_at k.offsets s 0) (value_at k.pending s [])
-  pub servers : (s : ℕ) → s < 2 → d.servers s ≡ record { epoch = value_at k.servers s 0 }
-  pub replicas : (r : ℕ) → r < 3 → d.replicas r ≡ kept_of (value_at k.notes r [])
-  pub joiners : (s j : ℕ) → s < 2 → j < g.joiners
-      → d.joiners (joiner_of g s j) ≡ record { epoch = value_at (of_site s k.epochs_a k.epochs_b) j 0; pairs = value_at (of_site s k.pairs_a k.pairs_b) j [] }
+-- the records of the setting's nodes are what these disks keep
+abbrev pub AreRecordsOf : Setting → List KeptDisk → Disks → Type 0
+AreRecordsOf g disks d = Each (λ o. Says g d o.name o.kept) disks

@@ -1,6 +1,6 @@
 -- What the topology's disk may hold once it was written to.
 use Rattle.std.specs.Prelude.{◌≡◌, ◌⊎◌, ℕ, List, Some, ⊤}
-use Rattle.outside.specs.declared.store.DiskName.{DiskName}
+use Rattle.outside.specs.declared.store.DiskName.TheVariants as name
 use Rattle.gate_journal.specs.Opening.{IsOpened}
 use Rattle.topology_journal.specs.declared.topology.Topology.{Topology}
 use Rattle.topology_journal.specs.Topologies.{Keeps}
@@ -15,8 +15,8 @@ AllKeep asked image = (c : List ℕ) → image c → Keeps (Some asked) c
 abbrev pub StaysOrKeeps : (List ℕ → Type 0) → Topology → (List ℕ → Type 0) → Type 0
 StaysOrKeeps old asked new = (c : List ℕ) → new c → IsOpened old c ⊎ Keeps (Some asked) c
 
--- a record isn't written for want of memory, or because the disk of this name failed
-abbrev pub IsUnwritten : DiskName → DisksFault → Type 0
-IsUnwritten name (disks.Store of) = of ≡ name
-IsUnwritten name (disks.Damaged of at) = ⊥
-IsUnwritten name disks.Memory = ⊤
+-- the topology's record isn't written for want of memory, or because its disk failed
+abbrev pub IsUnwritten : DisksFault → Type 0
+IsUnwritten (disks.Store of) = of ≡ name.Topology
+IsUnwritten (disks.Damaged of at) = ⊥
+IsUnwritten disks.Memory = ⊤

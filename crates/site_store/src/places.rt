@@ -4,5 +4,6 @@ mod feeds;
 mod misplaced;
 pub mod rows;
 
-pub use check::first_misplaced;
+pub(crate) use check::first_misplaced;
+pub use check::{misplaced_offset, misplaced_pending};
 pub use misplaced::Misplaced;

@@ -1,6 +1,5 @@
 // A store that is read for verification: no node runs, and what the journals of its disks stand for doesn't change.
 mod copies;
-mod judging;
 mod kept;
 mod store;
 

@@ -1,10 +1,14 @@
 // Whole stores: opened, refused, written and read.
+ghost use Rattle.std.specs.Prelude.{◌<◌};
+
 use crate::stores::{told_fault, told_journals};
 use mem_outside::{MemLog, MemStore};
+use outside::DiskName;
 use script_lines::{Stop, Words};
 use site_laws::stores::{empty_store, left, longer, opened, run, stays, topology_first};
 use site_store::{
-    KeptStore, Refusal, first_misfit, give_back, open_disks, open_store, read_store, write_topology,
+    KeptStore, Refusal, first_limit, give_back, open_disks, open_store, read_store,
+    topology_misfit, write_topology,
 };
 use std::alloc::Global;
 use time_shards::Table;
@@ -21,6 +25,21 @@ pub fn laws() {
     left::<MemStore>();
 }
 
+// The place of a disk's kind among those that are counted.
+fn kind_of(name: DiskName) -> usize
+    ensures { result < 8 }
+{
+    match name {
+        DiskName::Topology => 0,
+        DiskName::Offset(_) => 0,
+        DiskName::Retry(_) => 1,
+        DiskName::Server(_) => 2,
+        DiskName::Replica(_) => 3,
+        DiskName::Epoch(site, _) => if site == 0 { 4 } else { 5 },
+        DiskName::Output(site, _) => if site == 0 { 6 } else { 7 },
+    }
+}
+
 /// `counts JOINERS`: how many journals are opened, by kind, all of which are given back.
 pub fn counts(alloc: Global, store: &mut MemStore, joiners: u8) -> Result<String, Stop> {
     if joiners > 4 {
@@ -30,16 +49,11 @@ pub fn counts(alloc: Global, store: &mut MemStore, joiners: u8) -> Result<String
         Ok(disks) => disks,
         Err(fault) => return told_fault(alloc, fault),
     };
-    let counts = [
-        disks.offsets.len(),
-        disks.retries.len(),
-        disks.servers.len(),
-        disks.replicas.len(),
-        disks.epochs_a.len(),
-        disks.epochs_b.len(),
-        disks.outputs_a.len(),
-        disks.outputs_b.len(),
-    ];
+    let mut counts = [0u8; 8];
+    for disk in &disks.disks {
+        let kind = kind_of(disk.name());
+        counts[kind] = counts[kind].saturating_add(1);
+    }
     give_back(store, disks);
     Ok(format!(in alloc; "{counts:?}")?)
 }
@@ -57,7 +71,11 @@ pub fn misfit(alloc: Global, store: &mut MemStore, words: &mut Words<'_>) -> Res
         Ok(disks) => disks,
         Err(fault) => return told_fault(alloc, fault),
     };
-    let misfit = first_misfit(&disks, &Topology { joiners, table });
+    let asked = Topology { joiners, table };
+    let misfit = match topology_misfit(&disks.topology, &asked) {
+        Some(misfit) => Some(misfit),
+        None => first_limit(&disks.disks),
+    };
     give_back(store, disks);
     Ok(format!(in alloc; "{misfit:?}")?)
 }
@@ -75,7 +93,7 @@ pub fn record(alloc: Global, store: &mut MemStore, words: &mut Words<'_>) -> Res
         Ok(disks) => disks,
         Err(fault) => return told_fault(alloc, fault),
     };
-    if disks.topology.journal.value().kept().is_some() {
+    if disks.topology.value().kept().is_some() {
         give_back(store, disks);
         return Ok(format!(in alloc; "one is kept")?);
     }

@@ -1,7 +1,7 @@
 // Places that a store keeps of the click log.
-use outside::DiskName;
+use outside::{DiskName, ReadFault};
 use script_lines::{Part, ShortLog, Stop, Words, number_of};
-use site_store::first_misplaced;
+use site_store::{Misplaced, misplaced_offset, misplaced_pending};
 use std::alloc::Global;
 
 /// Each row is the end of the last whole line of the log that was gathered, the kept offsets of both sites, the pending positions
@@ -23,7 +23,7 @@ impl Part for Places {
         let pending_a = list(alloc, words.word()?)?;
         let pending_b = list(alloc, words.word()?)?;
         let mut log = ShortLog::new(alloc, text, words)?;
-        match first_misplaced(&mut log, end, offset_a, offset_b, &pending_a, &pending_b) {
+        match first_misplaced(&mut log, end, [offset_a, offset_b], &pending_a, &pending_b) {
             Ok(None) => Ok(format!(in alloc; "all fit")?),
             Ok(Some(misplaced)) => {
                 let (kept, floor) = (misplaced.kept, misplaced.floor);
@@ -33,6 +33,25 @@ impl Part for Places {
             Err(_) => Ok(format!(in alloc; "{} fault", log.faults())?),
         }
     }
+}
+
+fn first_misplaced(
+    log: &mut ShortLog,
+    end: u64,
+    offsets: [u64; 2],
+    pending_a: &[u64],
+    pending_b: &[u64],
+) -> Result<Option<Misplaced>, ReadFault> {
+    if let Some(misplaced) = misplaced_offset(log, end, 0, offsets[0])? {
+        return Ok(Some(misplaced));
+    }
+    if let Some(misplaced) = misplaced_offset(log, end, 1, offsets[1])? {
+        return Ok(Some(misplaced));
+    }
+    if let Some(misplaced) = misplaced_pending(log, end, 0, pending_a)? {
+        return Ok(Some(misplaced));
+    }
+    misplaced_pending(log, end, 1, pending_b)
 }
 
 fn list(alloc: Global, word: &str) -> Result<Vec<u64>, Stop> {

@@ -2,40 +2,33 @@
 ghost use Rattle.std.specs.Prelude.{◌≡◌, ◌≤◌, ◌<◌, ◌+◌, ◌*◌, ◌++◌, [], ◌∷◌, ℕ, length, map, slice_index_or, vec_capacity, IsTrue, IfOk, IfErr, OnOk, ◌↔◌, All};
 ghost use Rattle.std.specs.List.Sorted.{IsPermutation};
 ghost use Rattle.gate_journal.specs.declared.journal.JournalState.TheVariants.{Ready};
-ghost use Rattle.gate_journal.specs.Gate.{StandsFor};
-ghost use Rattle.packet_codec.specs.Notes.{IsNote, note as note_spelled};
 ghost use Rattle.log_records.specs.Check.{IsQueryLog};
 ghost use Rattle.outside.specs.declared.store.DiskName.TheVariants as name;
 ghost use Rattle.turn_defs.specs.Setting.{Setting};
 ghost use Rattle.photon_model.specs.Runs.{Disks};
 ghost use Rattle.site_node.specs.Rosters.{IsOf};
-ghost use Rattle.dispatch_node.specs.Kept.{kept_as};
 ghost use Rattle.dispatch_node.specs.Places.{IsLogOf, AreKeptPlaces};
 ghost use Rattle.registry_server.specs.Cores.{IsNew};
-ghost use Rattle.site_node.specs.Replicas.{kept_of};
 ghost use Rattle.turn_defs.specs.declared.node.Node.TheVariants as node;
 ghost use Rattle.site_run.specs.AnyNodes.{any_of, down_with};
-ghost use Rattle.site_store.specs.Lent.{lend, lend_all};
-ghost use Rattle.site_store.specs.Kinds.{offset_names, retry_names, server_names, replica_names};
-ghost use Rattle.site_store.specs.Votes.{IsReadyVotes};
-ghost use Rattle.site_run.specs.Naming.{as_lent, all_from, held, held_logs, of_server, of_joiner};
-ghost use Rattle.list_words.specs.Lists.{Each};
+ghost use Rattle.site_store.specs.Records.{Says, topology_lent};
+ghost use Rattle.site_run.specs.Naming.{as_lent, all_from, held, all_held, held_logs, of_server, of_joiner, IsLess, site_disks, joiner_disks};
+ghost use Rattle.list_words.specs.Lists.{Each, Mem};
 ghost use Rattle.std.specs.Vec.Iter.{into_iter_items};
-ghost use Rattle.site_run.specs.Placed.{AllAt, AreKept, AreNamed, IsDownAt, IsUpAt};
+ghost use Rattle.site_run.specs.Placed.{AllAt, IsDownAt, IsUpAt};
 
+use crate::built::taking::take_disk;
 use crate::built::{Built, Config, Parting, Parts, Room, apart};
 use crate::nodes::{AnyNode, SystemNode};
 use dispatch_node::DispatchNode;
 use epoch_journal::EpochJournal;
 use joiner_node::JoinerNode;
-use offset_journal::OffsetJournal;
 use output_log::OutputLog;
 use outside::{Disk, DiskName, LogFile};
 use registry_server::ServerNode;
 use replica_node::ReplicaNode;
-use retry_log::RetryLog;
 use site_node::{Roster, SiteNode};
-use site_store::{LentDisk, Opened, VoteJournal};
+use site_store::{LentDisk, OpenDisk, VoteJournal};
 use site_workers::Either;
 use std::alloc::Global;
 use std::vec::IntoIter;
@@ -150,44 +143,32 @@ impl<D: Disk, L: LogFile> Made<D, L> {
     }
 
     // Makes the dispatcher of a site over its journals and the click log.
-    pub(crate) fn add_dispatcher(
-        &mut self,
-        site: u8,
-        offset: Opened<OffsetJournal<D>>,
-        retry: Opened<RetryLog<D>>,
-        log: L,
-    )
+    pub(crate) fn add_dispatcher(&mut self, site: u8, rest: &mut Vec<OpenDisk<D>>, log: L)
         requires site { site < 2 }
         requires joiners { 0 < self.old.roster.joiners }
         requires next { self.old.next ≡ site }
         requires whole { length self.old.nodes.items ≡ self.old.next }
-        requires names { (offset.name ≡ name.Offset site) × (retry.name ≡ name.Retry site) }
-        requires ready { (offset.journal.journal.state ≡ Ready) × (retry.journal.journal.state ≡ Ready) }
+        requires there { Mem (name.Offset site) (map (λ o. o.name) rest.old.items) × Mem (name.Retry site) (map (λ o. o.name) rest.old.items) }
         ensures roster { self.new.roster ≡ self.old.roster }
         ensures next { self.new.next ≡ self.old.next + 1 }
         ensures whole { length self.new.nodes.items ≡ self.new.next }
+        ensures taken { IsLess (name.Offset site ∷ name.Retry site ∷ []) rest.old.items rest.new.items }
         ensures up { AllAt (IsUpAt ⟦<AnyNode<D, L> as SiteNode>⟧.number ⟦<AnyNode<D, L> as SiteNode>⟧.waits) self.old.nodes.items
             → AllAt (IsUpAt ⟦<AnyNode<D, L> as SiteNode>⟧.number ⟦<AnyNode<D, L> as SiteNode>⟧.waits) self.new.nodes.items }
         ensures places { IsTrue D.tells → (g : Setting) (d : Disks) → IsOf self.old.roster g → g.replicas ≡ 3 → IsLogOf (L.bytes log) g
-            → AreKeptPlaces g (kept_as offset.journal.value.offset retry.journal.value.pending.keys) → d.dispatchers site ≡ kept_as offset.journal.value.offset retry.journal.value.pending.keys
+            → AreKeptPlaces g (d.dispatchers site) → Each (λ o. Says g d o.name o.kept) rest.old.items
             → AllAt (IsDownAt ⟦<AnyNode<D, L> as SystemNode>⟧.places g d) self.old.nodes.items
             → AllAt (IsDownAt ⟦<AnyNode<D, L> as SystemNode>⟧.places g d) self.new.nodes.items }
         ensures disks { IsPermutation
-            (held (⟦<AnyNode<D, L> as Parting<D, L>>⟧.disks_of self.old.roster.joiners) self.old.parts.disks.items self.old.nodes.items ++ lend (λ o. o.journal.disk) offset ∷ lend (λ r. r.journal.disk) retry ∷ [])
-            (held (⟦<AnyNode<D, L> as Parting<D, L>>⟧.disks_of self.new.roster.joiners) self.new.parts.disks.items self.new.nodes.items) }
+            (all_held (⟦<AnyNode<D, L> as Parting<D, L>>⟧.disks_of self.old.roster.joiners) self.old.parts.disks.items self.old.nodes.items rest.old.items)
+            (all_held (⟦<AnyNode<D, L> as Parting<D, L>>⟧.disks_of self.new.roster.joiners) self.new.parts.disks.items self.new.nodes.items rest.new.items) }
         ensures logs { IsPermutation
             (held_logs ⟦<AnyNode<D, L> as Parting<D, L>>⟧.logs_of self.old.parts.logs.items self.old.nodes.items ++ log ∷ [])
             (held_logs ⟦<AnyNode<D, L> as Parting<D, L>>⟧.logs_of self.new.parts.logs.items self.new.nodes.items) }
     {
         node_numbers();
-        let Opened {
-            name: _,
-            journal: offset,
-        } = offset;
-        let Opened {
-            name: _,
-            journal: retry,
-        } = retry;
+        let offset = take_disk(rest, DiskName::Offset(site)).into_offset();
+        let retry = take_disk(rest, DiskName::Retry(site)).into_retry();
         let node = DispatchNode::new(self.alloc, site, self.roster, offset, retry, log);
         self.take(AnyNode {
             node: Either::First(Either::First(node)),
@@ -233,68 +214,67 @@ impl<D: Disk, L: LogFile> Made<D, L> {
     }
 
     // Makes the server of a site over its journal, or leaves its disk.
-    pub(crate) fn add_server(&mut self, site: u8, config: &Config, epochs: Opened<EpochJournal<D>>)
+    pub(crate) fn add_server(&mut self, site: u8, config: &Config, rest: &mut Vec<OpenDisk<D>>)
         requires site { site < 2 }
         requires next { self.old.next ≡ 2 + site }
         requires batch { config.now.batch ≤ 64 }
-        requires name { epochs.name ≡ name.Server site }
-        requires ready { epochs.journal.journal.state ≡ Ready }
+        requires there { Mem (name.Server site) (map (λ o. o.name) rest.old.items) }
         ensures roster { self.new.roster ≡ self.old.roster }
         ensures next { self.new.next ≡ self.old.next + 1 }
+        ensures taken { IsLess (name.Server site ∷ []) rest.old.items rest.new.items }
         ensures up { AllAt (IsUpAt ⟦<AnyNode<D, L> as SiteNode>⟧.number ⟦<AnyNode<D, L> as SiteNode>⟧.waits) self.old.nodes.items
             → AllAt (IsUpAt ⟦<AnyNode<D, L> as SiteNode>⟧.number ⟦<AnyNode<D, L> as SiteNode>⟧.waits) self.new.nodes.items }
         ensures places { IsTrue D.tells → (g : Setting) (d : Disks) → IsOf self.old.roster g → IsNew g self.old.roster.joiners config.now.horizon config.now.table config.now.batch
-            → d.servers site ≡ record { epoch = epochs.journal.value.epoch }
+            → Each (λ o. Says g d o.name o.kept) rest.old.items
             → AllAt (IsDownAt ⟦<AnyNode<D, L> as SystemNode>⟧.places g d) self.old.nodes.items
             → AllAt (IsDownAt ⟦<AnyNode<D, L> as SystemNode>⟧.places g d) self.new.nodes.items }
         ensures disks { IsPermutation
-            (held (⟦<AnyNode<D, L> as Parting<D, L>>⟧.disks_of self.old.roster.joiners) self.old.parts.disks.items self.old.nodes.items ++ lend (λ e. e.journal.disk) epochs ∷ [])
-            (held (⟦<AnyNode<D, L> as Parting<D, L>>⟧.disks_of self.new.roster.joiners) self.new.parts.disks.items self.new.nodes.items) }
+            (all_held (⟦<AnyNode<D, L> as Parting<D, L>>⟧.disks_of self.old.roster.joiners) self.old.parts.disks.items self.old.nodes.items rest.old.items)
+            (all_held (⟦<AnyNode<D, L> as Parting<D, L>>⟧.disks_of self.new.roster.joiners) self.new.parts.disks.items self.new.nodes.items rest.new.items) }
         ensures logs { IsPermutation
             (held_logs ⟦<AnyNode<D, L> as Parting<D, L>>⟧.logs_of self.old.parts.logs.items self.old.nodes.items)
             (held_logs ⟦<AnyNode<D, L> as Parting<D, L>>⟧.logs_of self.new.parts.logs.items self.new.nodes.items) }
     {
         node_numbers();
-        let Opened { name, journal } = epochs;
+        let journal = take_disk(rest, DiskName::Server(site)).into_server();
         match self.server(site, config, journal) {
             Ok(made) => self.take(made),
-            Err(journal) => self.leave(name, journal.into_disk()),
+            Err(journal) => self.leave(DiskName::Server(site), journal.into_disk()),
         }
     }
 
     // Makes a replica over its journal, or leaves its disk where a node before it wasn't made.
-    pub(crate) fn add_replica(&mut self, replica: u8, votes: Opened<VoteJournal<D>>)
+    pub(crate) fn add_replica(&mut self, replica: u8, rest: &mut Vec<OpenDisk<D>>)
         requires replica { replica < 3 }
         requires replicas { self.old.roster.replicas ≡ 3 }
         requires next { self.old.next ≡ 4 + replica }
-        requires name { votes.name ≡ name.Replica replica }
-        requires notes { All IsNote votes.journal.notes.items }
-        requires ready { votes.journal.journal.state ≡ Ready }
+        requires there { Mem (name.Replica replica) (map (λ o. o.name) rest.old.items) }
         ensures roster { self.new.roster ≡ self.old.roster }
         ensures next { self.new.next ≡ self.old.next + 1 }
+        ensures taken { IsLess (name.Replica replica ∷ []) rest.old.items rest.new.items }
         ensures up { AllAt (IsUpAt ⟦<AnyNode<D, L> as SiteNode>⟧.number ⟦<AnyNode<D, L> as SiteNode>⟧.waits) self.old.nodes.items
             → AllAt (IsUpAt ⟦<AnyNode<D, L> as SiteNode>⟧.number ⟦<AnyNode<D, L> as SiteNode>⟧.waits) self.new.nodes.items }
-        ensures places { IsTrue D.tells → (g : Setting) (d : Disks) → IsOf self.old.roster g → StandsFor (map note_spelled votes.journal.notes.items) (D.seen votes.journal.journal.disk)
-            → d.replicas replica ≡ kept_of votes.journal.notes.items
+        ensures places { IsTrue D.tells → (g : Setting) (d : Disks) → IsOf self.old.roster g
+            → Each (λ o. Says g d o.name o.kept) rest.old.items
             → AllAt (IsDownAt ⟦<AnyNode<D, L> as SystemNode>⟧.places g d) self.old.nodes.items
             → AllAt (IsDownAt ⟦<AnyNode<D, L> as SystemNode>⟧.places g d) self.new.nodes.items }
         ensures disks { IsPermutation
-            (held (⟦<AnyNode<D, L> as Parting<D, L>>⟧.disks_of self.old.roster.joiners) self.old.parts.disks.items self.old.nodes.items ++ lend (λ v. v.journal.disk) votes ∷ [])
-            (held (⟦<AnyNode<D, L> as Parting<D, L>>⟧.disks_of self.new.roster.joiners) self.new.parts.disks.items self.new.nodes.items) }
+            (all_held (⟦<AnyNode<D, L> as Parting<D, L>>⟧.disks_of self.old.roster.joiners) self.old.parts.disks.items self.old.nodes.items rest.old.items)
+            (all_held (⟦<AnyNode<D, L> as Parting<D, L>>⟧.disks_of self.new.roster.joiners) self.new.parts.disks.items self.new.nodes.items rest.new.items) }
         ensures logs { IsPermutation
             (held_logs ⟦<AnyNode<D, L> as Parting<D, L>>⟧.logs_of self.old.parts.logs.items self.old.nodes.items)
             (held_logs ⟦<AnyNode<D, L> as Parting<D, L>>⟧.logs_of self.new.parts.logs.items self.new.nodes.items) }
     {
         node_numbers();
-        let Opened { name, journal } = votes;
-        let VoteJournal { journal, notes } = journal;
+        let votes = take_disk(rest, DiskName::Replica(replica)).into_votes();
+        let VoteJournal { journal, notes } = votes;
         if self.is_whole() {
             let made = ReplicaNode::new(self.alloc, replica, self.roster, journal, notes);
             self.take(AnyNode {
                 node: Either::Second(Either::First(made)),
             });
         } else {
-            self.leave(name, journal.into_disk());
+            self.leave(DiskName::Replica(replica), journal.into_disk());
         }
     }
 
@@ -335,49 +315,42 @@ impl<D: Disk, L: LogFile> Made<D, L> {
         &mut self,
         site: u8,
         joiner: u8,
-        epochs: Opened<EpochJournal<D>>,
-        outputs: Opened<OutputLog<D>>,
+        rest: &mut Vec<OpenDisk<D>>,
         log: L,
     )
         requires site { site < 2 }
         requires joiner { joiner < self.old.roster.joiners }
         requires replicas { self.old.roster.replicas ≡ 3 }
         requires next { self.old.next ≡ 7 + site * self.old.roster.joiners + joiner }
-        requires names { (epochs.name ≡ name.Epoch site joiner) × (outputs.name ≡ name.Output site joiner) }
-        requires ready { (epochs.journal.journal.state ≡ Ready) × (outputs.journal.journal.state ≡ Ready) }
+        requires there { Mem (name.Epoch site joiner) (map (λ o. o.name) rest.old.items) × Mem (name.Output site joiner) (map (λ o. o.name) rest.old.items) }
         ensures roster { self.new.roster ≡ self.old.roster }
         ensures next { self.new.next ≡ self.old.next + 1 }
+        ensures taken { IsLess (name.Epoch site joiner ∷ name.Output site joiner ∷ []) rest.old.items rest.new.items }
         ensures up { AllAt (IsUpAt ⟦<AnyNode<D, L> as SiteNode>⟧.number ⟦<AnyNode<D, L> as SiteNode>⟧.waits) self.old.nodes.items
             → AllAt (IsUpAt ⟦<AnyNode<D, L> as SiteNode>⟧.number ⟦<AnyNode<D, L> as SiteNode>⟧.waits) self.new.nodes.items }
         ensures places { IsTrue D.tells → (g : Setting) (d : Disks) → IsOf self.old.roster g → IsQueryLog (L.bytes log) g.queries
-            → d.joiners self.old.next ≡ record { epoch = epochs.journal.value.epoch; pairs = outputs.journal.value.pairs.items }
+            → Each (λ o. Says g d o.name o.kept) rest.old.items
             → AllAt (IsDownAt ⟦<AnyNode<D, L> as SystemNode>⟧.places g d) self.old.nodes.items
             → AllAt (IsDownAt ⟦<AnyNode<D, L> as SystemNode>⟧.places g d) self.new.nodes.items }
         ensures disks { IsPermutation
-            (held (⟦<AnyNode<D, L> as Parting<D, L>>⟧.disks_of self.old.roster.joiners) self.old.parts.disks.items self.old.nodes.items ++ lend (λ e. e.journal.disk) epochs ∷ lend (λ o. o.journal.disk) outputs ∷ [])
-            (held (⟦<AnyNode<D, L> as Parting<D, L>>⟧.disks_of self.new.roster.joiners) self.new.parts.disks.items self.new.nodes.items) }
+            (all_held (⟦<AnyNode<D, L> as Parting<D, L>>⟧.disks_of self.old.roster.joiners) self.old.parts.disks.items self.old.nodes.items rest.old.items)
+            (all_held (⟦<AnyNode<D, L> as Parting<D, L>>⟧.disks_of self.new.roster.joiners) self.new.parts.disks.items self.new.nodes.items rest.new.items) }
         ensures logs { IsPermutation
             (held_logs ⟦<AnyNode<D, L> as Parting<D, L>>⟧.logs_of self.old.parts.logs.items self.old.nodes.items ++ log ∷ [])
             (held_logs ⟦<AnyNode<D, L> as Parting<D, L>>⟧.logs_of self.new.parts.logs.items self.new.nodes.items) }
     {
         node_numbers();
-        let Opened {
-            name: epochs_name,
-            journal: epochs,
-        } = epochs;
-        let Opened {
-            name: outputs_name,
-            journal: outputs,
-        } = outputs;
+        let epochs = take_disk(rest, DiskName::Epoch(site, joiner)).into_epochs();
+        let outputs = take_disk(rest, DiskName::Output(site, joiner)).into_output();
         match self.joiner(site, joiner, epochs, outputs, log) {
             Ok(made) => self.take(made),
             Err((epochs, outputs, log)) => {
                 let epochs = LentDisk {
-                    name: epochs_name,
+                    name: DiskName::Epoch(site, joiner),
                     disk: epochs.into_disk(),
                 };
                 let outputs = LentDisk {
-                    name: outputs_name,
+                    name: DiskName::Output(site, joiner),
                     disk: outputs.into_disk(),
                 };
                 self.leave_joiner(epochs, outputs, log);
@@ -385,156 +358,114 @@ impl<D: Disk, L: LogFile> Made<D, L> {
         }
     }
 
-    // Makes the joiners of a site from this place on, over what is left of the lists.
+    // Makes the joiners of a site from this place on, over what is left of the logs.
     fn add_joiners_from(
         &mut self,
         site: u8,
         joiner: u8,
-        epochs: IntoIter<Opened<EpochJournal<D>>>,
-        outputs: IntoIter<Opened<OutputLog<D>>>,
+        rest: &mut Vec<OpenDisk<D>>,
         logs: IntoIter<L>,
     )
         requires site { site < 2 }
         requires replicas { self.old.roster.replicas ≡ 3 }
         requires joiner { joiner ≤ self.old.roster.joiners }
         requires next { self.old.next ≡ 7 + site * self.old.roster.joiners + joiner }
-        requires counts { (length (into_iter_items epochs) + joiner ≡ self.old.roster.joiners) × (length (into_iter_items outputs) + joiner ≡ self.old.roster.joiners) × (length (into_iter_items logs) + joiner ≡ self.old.roster.joiners) }
-        requires epochs { AreNamed (name.Epoch site) joiner (map (λ o. o.name) (into_iter_items epochs)) }
-        requires outputs { AreNamed (name.Output site) joiner (map (λ o. o.name) (into_iter_items outputs)) }
-        requires ready { Each (λ o. o.journal.journal.state ≡ Ready) (into_iter_items epochs) × Each (λ o. o.journal.journal.state ≡ Ready) (into_iter_items outputs) }
+        requires count { length (into_iter_items logs) + joiner ≡ self.old.roster.joiners }
+        requires there { (j : ℕ) → joiner ≤ j → j < self.old.roster.joiners → Mem (name.Epoch site j) (map (λ o. o.name) rest.old.items) × Mem (name.Output site j) (map (λ o. o.name) rest.old.items) }
         ensures roster { self.new.roster ≡ self.old.roster }
         ensures next { self.new.next + joiner ≡ self.old.next + self.old.roster.joiners }
-        ensures up { AllAt (IsUpAt ⟦<AnyNode<D, L> as SiteNode>⟧.number ⟦<AnyNode<D, L> as SiteNode>⟧.waits) self.old.nodes.items → AllAt (IsUpAt ⟦<AnyNode<D, L> as SiteNode>⟧.number ⟦<AnyNode<D, L> as SiteNode>⟧.waits) self.new.nodes.items }
+        ensures taken { IsLess (joiner_disks site joiner (length (into_iter_items logs))) rest.old.items rest.new.items }
+        ensures up { AllAt (IsUpAt ⟦<AnyNode<D, L> as SiteNode>⟧.number ⟦<AnyNode<D, L> as SiteNode>⟧.waits) self.old.nodes.items
+            → AllAt (IsUpAt ⟦<AnyNode<D, L> as SiteNode>⟧.number ⟦<AnyNode<D, L> as SiteNode>⟧.waits) self.new.nodes.items }
         ensures places { IsTrue D.tells → (g : Setting) (d : Disks) → IsOf self.old.roster g → Each (λ l. IsQueryLog (L.bytes l) g.queries) (into_iter_items logs)
-            → AreKept d.joiners self.old.next (map (λ o. o.journal.value.epoch) (into_iter_items epochs)) (map (λ o. o.journal.value.pairs.items) (into_iter_items outputs))
-            → AllAt (IsDownAt ⟦<AnyNode<D, L> as SystemNode>⟧.places g d) self.old.nodes.items → AllAt (IsDownAt ⟦<AnyNode<D, L> as SystemNode>⟧.places g d) self.new.nodes.items }
-        ensures disks { IsPermutation (held (⟦<AnyNode<D, L> as Parting<D, L>>⟧.disks_of self.old.roster.joiners) self.old.parts.disks.items self.old.nodes.items ++ (lend_all (λ e. e.journal.disk) (into_iter_items epochs) ++ lend_all (λ o. o.journal.disk) (into_iter_items outputs))) (held (⟦<AnyNode<D, L> as Parting<D, L>>⟧.disks_of self.new.roster.joiners) self.new.parts.disks.items self.new.nodes.items) }
-        ensures logs { IsPermutation (held_logs ⟦<AnyNode<D, L> as Parting<D, L>>⟧.logs_of self.old.parts.logs.items self.old.nodes.items ++ into_iter_items logs) (held_logs ⟦<AnyNode<D, L> as Parting<D, L>>⟧.logs_of self.new.parts.logs.items self.new.nodes.items) }
+            → Each (λ o. Says g d o.name o.kept) rest.old.items
+            → AllAt (IsDownAt ⟦<AnyNode<D, L> as SystemNode>⟧.places g d) self.old.nodes.items
+            → AllAt (IsDownAt ⟦<AnyNode<D, L> as SystemNode>⟧.places g d) self.new.nodes.items }
+        ensures disks { IsPermutation
+            (all_held (⟦<AnyNode<D, L> as Parting<D, L>>⟧.disks_of self.old.roster.joiners) self.old.parts.disks.items self.old.nodes.items rest.old.items)
+            (all_held (⟦<AnyNode<D, L> as Parting<D, L>>⟧.disks_of self.new.roster.joiners) self.new.parts.disks.items self.new.nodes.items rest.new.items) }
+        ensures logs { IsPermutation
+            (held_logs ⟦<AnyNode<D, L> as Parting<D, L>>⟧.logs_of self.old.parts.logs.items self.old.nodes.items ++ into_iter_items logs)
+            (held_logs ⟦<AnyNode<D, L> as Parting<D, L>>⟧.logs_of self.new.parts.logs.items self.new.nodes.items) }
     {
-        let (mut epochs, mut outputs, mut logs) = (epochs, outputs, logs);
-        let Some(epoch) = epochs.next() else {
-            epochs.destroy_empty();
-            outputs.destroy_empty();
+        let mut logs = logs;
+        let Some(log) = logs.next() else {
             logs.destroy_empty();
             return;
         };
-        let Some(output) = outputs.next() else {
-            unreachable!()
-        };
-        let Some(log) = logs.next() else {
-            unreachable!()
-        };
-        self.add_joiner(site, joiner, epoch, output, log);
-        self.add_joiners_from(site, joiner + 1, epochs, outputs, logs);
+        self.add_joiner(site, joiner, rest, log);
+        self.add_joiners_from(site, joiner + 1, rest, logs);
     }
 
     // Makes the joiners of a site.
-    pub(crate) fn add_joiners(
-        &mut self,
-        site: u8,
-        epochs: Vec<Opened<EpochJournal<D>>>,
-        outputs: Vec<Opened<OutputLog<D>>>,
-        logs: Vec<L>,
-    )
+    pub(crate) fn add_joiners(&mut self, site: u8, rest: &mut Vec<OpenDisk<D>>, logs: Vec<L>)
         requires site { site < 2 }
         requires replicas { self.old.roster.replicas ≡ 3 }
         requires next { self.old.next ≡ 7 + site * self.old.roster.joiners }
-        requires counts { (length epochs.items ≡ self.old.roster.joiners) × (length outputs.items ≡ self.old.roster.joiners) × (length logs.items ≡ self.old.roster.joiners) }
-        requires epochs { AreNamed (name.Epoch site) 0 (map (λ o. o.name) epochs.items) }
-        requires outputs { AreNamed (name.Output site) 0 (map (λ o. o.name) outputs.items) }
-        requires ready { Each (λ o. o.journal.journal.state ≡ Ready) epochs.items × Each (λ o. o.journal.journal.state ≡ Ready) outputs.items }
+        requires count { length logs.items ≡ self.old.roster.joiners }
+        requires there { (j : ℕ) → j < self.old.roster.joiners → Mem (name.Epoch site j) (map (λ o. o.name) rest.old.items) × Mem (name.Output site j) (map (λ o. o.name) rest.old.items) }
         ensures roster { self.new.roster ≡ self.old.roster }
         ensures next { self.new.next ≡ self.old.next + self.old.roster.joiners }
-        ensures up { AllAt (IsUpAt ⟦<AnyNode<D, L> as SiteNode>⟧.number ⟦<AnyNode<D, L> as SiteNode>⟧.waits) self.old.nodes.items → AllAt (IsUpAt ⟦<AnyNode<D, L> as SiteNode>⟧.number ⟦<AnyNode<D, L> as SiteNode>⟧.waits) self.new.nodes.items }
+        ensures taken { IsLess (joiner_disks site 0 self.old.roster.joiners) rest.old.items rest.new.items }
+        ensures up { AllAt (IsUpAt ⟦<AnyNode<D, L> as SiteNode>⟧.number ⟦<AnyNode<D, L> as SiteNode>⟧.waits) self.old.nodes.items
+            → AllAt (IsUpAt ⟦<AnyNode<D, L> as SiteNode>⟧.number ⟦<AnyNode<D, L> as SiteNode>⟧.waits) self.new.nodes.items }
         ensures places { IsTrue D.tells → (g : Setting) (d : Disks) → IsOf self.old.roster g → Each (λ l. IsQueryLog (L.bytes l) g.queries) logs.items
-            → AreKept d.joiners self.old.next (map (λ o. o.journal.value.epoch) epochs.items) (map (λ o. o.journal.value.pairs.items) outputs.items)
-            → AllAt (IsDownAt ⟦<AnyNode<D, L> as SystemNode>⟧.places g d) self.old.nodes.items → AllAt (IsDownAt ⟦<AnyNode<D, L> as SystemNode>⟧.places g d) self.new.nodes.items }
-        ensures disks { IsPermutation (held (⟦<AnyNode<D, L> as Parting<D, L>>⟧.disks_of self.old.roster.joiners) self.old.parts.disks.items self.old.nodes.items ++ (lend_all (λ e. e.journal.disk) epochs.items ++ lend_all (λ o. o.journal.disk) outputs.items)) (held (⟦<AnyNode<D, L> as Parting<D, L>>⟧.disks_of self.new.roster.joiners) self.new.parts.disks.items self.new.nodes.items) }
-        ensures logs { IsPermutation (held_logs ⟦<AnyNode<D, L> as Parting<D, L>>⟧.logs_of self.old.parts.logs.items self.old.nodes.items ++ logs.items) (held_logs ⟦<AnyNode<D, L> as Parting<D, L>>⟧.logs_of self.new.parts.logs.items self.new.nodes.items) }
+            → Each (λ o. Says g d o.name o.kept) rest.old.items
+            → AllAt (IsDownAt ⟦<AnyNode<D, L> as SystemNode>⟧.places g d) self.old.nodes.items
+            → AllAt (IsDownAt ⟦<AnyNode<D, L> as SystemNode>⟧.places g d) self.new.nodes.items }
+        ensures disks { IsPermutation
+            (all_held (⟦<AnyNode<D, L> as Parting<D, L>>⟧.disks_of self.old.roster.joiners) self.old.parts.disks.items self.old.nodes.items rest.old.items)
+            (all_held (⟦<AnyNode<D, L> as Parting<D, L>>⟧.disks_of self.new.roster.joiners) self.new.parts.disks.items self.new.nodes.items rest.new.items) }
+        ensures logs { IsPermutation
+            (held_logs ⟦<AnyNode<D, L> as Parting<D, L>>⟧.logs_of self.old.parts.logs.items self.old.nodes.items ++ logs.items)
+            (held_logs ⟦<AnyNode<D, L> as Parting<D, L>>⟧.logs_of self.new.parts.logs.items self.new.nodes.items) }
     {
-        self.add_joiners_from(
-            site,
-            0,
-            epochs.into_iter(),
-            outputs.into_iter(),
-            logs.into_iter(),
-        );
+        self.add_joiners_from(site, 0, rest, logs.into_iter());
     }
 
-    // Makes the dispatchers of both sites.
-    pub(crate) fn add_dispatchers(
+    // Makes the dispatchers, the servers and the replicas.
+    pub(crate) fn add_sites(
         &mut self,
-        offsets: Vec<Opened<OffsetJournal<D>>>,
-        retries: Vec<Opened<RetryLog<D>>>,
+        config: &Config,
+        rest: &mut Vec<OpenDisk<D>>,
         clicks: Vec<L>,
     )
         requires joiners { 0 < self.old.roster.joiners }
-        requires next { (self.old.next ≡ 0) × (length self.old.nodes.items ≡ 0) }
-        requires names { (map (λ o. o.name) offsets.items ≡ offset_names) × (map (λ r. r.name) retries.items ≡ retry_names) }
-        requires ready { Each (λ o. o.journal.journal.state ≡ Ready) offsets.items × Each (λ r. r.journal.journal.state ≡ Ready) retries.items }
-        requires clicks { length clicks.items ≡ 2 }
-        ensures roster { self.new.roster ≡ self.old.roster }
-        ensures next { self.new.next ≡ 2 }
-        ensures up { AllAt (IsUpAt ⟦<AnyNode<D, L> as SiteNode>⟧.number ⟦<AnyNode<D, L> as SiteNode>⟧.waits) self.old.nodes.items → AllAt (IsUpAt ⟦<AnyNode<D, L> as SiteNode>⟧.number ⟦<AnyNode<D, L> as SiteNode>⟧.waits) self.new.nodes.items }
-        ensures places { IsTrue D.tells → (g : Setting) (d : Disks) → IsOf self.old.roster g → g.replicas ≡ 3 → Each (λ l. IsLogOf (L.bytes l) g) clicks.items
-            → ((s : ℕ) → s < 2 → AreKeptPlaces g (d.dispatchers s))
-            → ((s : ℕ) → d.dispatchers s ≡ kept_as (slice_index_or (map (λ o. o.journal.value.offset) offsets.items) s 0) (slice_index_or (map (λ r. r.journal.value.pending.keys) retries.items) s []))
-            → AllAt (IsDownAt ⟦<AnyNode<D, L> as SystemNode>⟧.places g d) self.old.nodes.items → AllAt (IsDownAt ⟦<AnyNode<D, L> as SystemNode>⟧.places g d) self.new.nodes.items }
-        ensures disks { IsPermutation (held (⟦<AnyNode<D, L> as Parting<D, L>>⟧.disks_of self.old.roster.joiners) self.old.parts.disks.items self.old.nodes.items ++ (lend_all (λ o. o.journal.disk) offsets.items ++ lend_all (λ r. r.journal.disk) retries.items)) (held (⟦<AnyNode<D, L> as Parting<D, L>>⟧.disks_of self.new.roster.joiners) self.new.parts.disks.items self.new.nodes.items) }
-        ensures logs { IsPermutation (held_logs ⟦<AnyNode<D, L> as Parting<D, L>>⟧.logs_of self.old.parts.logs.items self.old.nodes.items ++ clicks.items) (held_logs ⟦<AnyNode<D, L> as Parting<D, L>>⟧.logs_of self.new.parts.logs.items self.new.nodes.items) }
-    {
-        let (offset_a, offset_b) = both(offsets);
-        let (retry_a, retry_b) = both(retries);
-        let (clicks_a, clicks_b) = both(clicks);
-        self.add_dispatcher(0, offset_a, retry_a, clicks_a);
-        self.add_dispatcher(1, offset_b, retry_b, clicks_b);
-    }
-
-    // Makes the servers of both sites, or leaves their disks.
-    pub(crate) fn add_servers(&mut self, config: &Config, servers: Vec<Opened<EpochJournal<D>>>)
-        requires next { self.old.next ≡ 2 }
-        requires batch { config.now.batch ≤ 64 }
-        requires names { map (λ o. o.name) servers.items ≡ server_names }
-        requires ready { Each (λ o. o.journal.journal.state ≡ Ready) servers.items }
-        ensures roster { self.new.roster ≡ self.old.roster }
-        ensures next { self.new.next ≡ 4 }
-        ensures up { AllAt (IsUpAt ⟦<AnyNode<D, L> as SiteNode>⟧.number ⟦<AnyNode<D, L> as SiteNode>⟧.waits) self.old.nodes.items → AllAt (IsUpAt ⟦<AnyNode<D, L> as SiteNode>⟧.number ⟦<AnyNode<D, L> as SiteNode>⟧.waits) self.new.nodes.items }
-        ensures places { IsTrue D.tells → (g : Setting) (d : Disks) → IsOf self.old.roster g → IsNew g self.old.roster.joiners config.now.horizon config.now.table config.now.batch
-            → ((s : ℕ) → d.servers s ≡ record { epoch = slice_index_or (map (λ o. o.journal.value.epoch) servers.items) s 0 })
-            → AllAt (IsDownAt ⟦<AnyNode<D, L> as SystemNode>⟧.places g d) self.old.nodes.items → AllAt (IsDownAt ⟦<AnyNode<D, L> as SystemNode>⟧.places g d) self.new.nodes.items }
-        ensures disks { IsPermutation (held (⟦<AnyNode<D, L> as Parting<D, L>>⟧.disks_of self.old.roster.joiners) self.old.parts.disks.items self.old.nodes.items ++ lend_all (λ e. e.journal.disk) servers.items) (held (⟦<AnyNode<D, L> as Parting<D, L>>⟧.disks_of self.new.roster.joiners) self.new.parts.disks.items self.new.nodes.items) }
-        ensures logs { IsPermutation (held_logs ⟦<AnyNode<D, L> as Parting<D, L>>⟧.logs_of self.old.parts.logs.items self.old.nodes.items) (held_logs ⟦<AnyNode<D, L> as Parting<D, L>>⟧.logs_of self.new.parts.logs.items self.new.nodes.items) }
-    {
-        let (epochs_a, epochs_b) = both(servers);
-        self.add_server(0, config, epochs_a);
-        self.add_server(1, config, epochs_b);
-    }
-
-    // Makes the replicas, or leaves their disks.
-    pub(crate) fn add_replicas(&mut self, replicas: Vec<Opened<VoteJournal<D>>>)
         requires replicas { self.old.roster.replicas ≡ 3 }
-        requires next { self.old.next ≡ 4 }
-        requires names { map (λ o. o.name) replicas.items ≡ replica_names }
-        requires ready { Each (λ v. IsReadyVotes D.tells (D.seen v.journal.journal.disk) v.journal.journal.state v.journal.notes.items) replicas.items }
+        requires next { (self.old.next ≡ 0) × (length self.old.nodes.items ≡ 0) }
+        requires batch { config.now.batch ≤ 64 }
+        requires clicks { length clicks.items ≡ 2 }
+        requires there { Each (λ n. Mem n (map (λ o. o.name) rest.old.items)) site_disks }
         ensures roster { self.new.roster ≡ self.old.roster }
         ensures next { self.new.next ≡ 7 }
-        ensures up { AllAt (IsUpAt ⟦<AnyNode<D, L> as SiteNode>⟧.number ⟦<AnyNode<D, L> as SiteNode>⟧.waits) self.old.nodes.items → AllAt (IsUpAt ⟦<AnyNode<D, L> as SiteNode>⟧.number ⟦<AnyNode<D, L> as SiteNode>⟧.waits) self.new.nodes.items }
-        ensures places { IsTrue D.tells → (g : Setting) (d : Disks) → IsOf self.old.roster g
-            → ((k : ℕ) → d.replicas k ≡ kept_of (slice_index_or (map (λ o. o.journal.notes.items) replicas.items) k []))
-            → AllAt (IsDownAt ⟦<AnyNode<D, L> as SystemNode>⟧.places g d) self.old.nodes.items → AllAt (IsDownAt ⟦<AnyNode<D, L> as SystemNode>⟧.places g d) self.new.nodes.items }
-        ensures disks { IsPermutation (held (⟦<AnyNode<D, L> as Parting<D, L>>⟧.disks_of self.old.roster.joiners) self.old.parts.disks.items self.old.nodes.items ++ lend_all (λ v. v.journal.disk) replicas.items) (held (⟦<AnyNode<D, L> as Parting<D, L>>⟧.disks_of self.new.roster.joiners) self.new.parts.disks.items self.new.nodes.items) }
-        ensures logs { IsPermutation (held_logs ⟦<AnyNode<D, L> as Parting<D, L>>⟧.logs_of self.old.parts.logs.items self.old.nodes.items) (held_logs ⟦<AnyNode<D, L> as Parting<D, L>>⟧.logs_of self.new.parts.logs.items self.new.nodes.items) }
+        ensures taken { IsLess site_disks rest.old.items rest.new.items }
+        ensures up { AllAt (IsUpAt ⟦<AnyNode<D, L> as SiteNode>⟧.number ⟦<AnyNode<D, L> as SiteNode>⟧.waits) self.old.nodes.items
+            → AllAt (IsUpAt ⟦<AnyNode<D, L> as SiteNode>⟧.number ⟦<AnyNode<D, L> as SiteNode>⟧.waits) self.new.nodes.items }
+        ensures places { IsTrue D.tells → (g : Setting) (d : Disks) → IsOf self.old.roster g → g.replicas ≡ 3 → IsNew g self.old.roster.joiners config.now.horizon config.now.table config.now.batch
+            → Each (λ l. IsLogOf (L.bytes l) g) clicks.items → ((s : ℕ) → s < 2 → AreKeptPlaces g (d.dispatchers s)) → Each (λ o. Says g d o.name o.kept) rest.old.items
+            → AllAt (IsDownAt ⟦<AnyNode<D, L> as SystemNode>⟧.places g d) self.old.nodes.items
+            → AllAt (IsDownAt ⟦<AnyNode<D, L> as SystemNode>⟧.places g d) self.new.nodes.items }
+        ensures disks { IsPermutation
+            (all_held (⟦<AnyNode<D, L> as Parting<D, L>>⟧.disks_of self.old.roster.joiners) self.old.parts.disks.items self.old.nodes.items rest.old.items)
+            (all_held (⟦<AnyNode<D, L> as Parting<D, L>>⟧.disks_of self.new.roster.joiners) self.new.parts.disks.items self.new.nodes.items rest.new.items) }
+        ensures logs { IsPermutation
+            (held_logs ⟦<AnyNode<D, L> as Parting<D, L>>⟧.logs_of self.old.parts.logs.items self.old.nodes.items ++ clicks.items)
+            (held_logs ⟦<AnyNode<D, L> as Parting<D, L>>⟧.logs_of self.new.parts.logs.items self.new.nodes.items) }
     {
-        let (first, second, third) = three(replicas);
-        self.add_replica(0, first);
-        self.add_replica(1, second);
-        self.add_replica(2, third);
+        let (clicks_a, clicks_b) = both(clicks);
+        self.add_dispatcher(0, rest, clicks_a);
+        self.add_dispatcher(1, rest, clicks_b);
+        self.add_server(0, config, rest);
+        self.add_server(1, config, rest);
+        self.add_replica(0, rest);
+        self.add_replica(1, rest);
+        self.add_replica(2, rest);
     }
 
     // All nodes, where each was made; else all that they were to be made of, with the topology's disk.
     pub(crate) fn end(
         self,
-        topology: Opened<TopologyJournal<D>>,
+        topology: TopologyJournal<D>,
     ) -> Result<Built<D, L>, Parts<D, L>>
         requires all { self.next ≡ 7 + 2 * self.roster.joiners }
         ensures count { IfOk result (λ b. length b.nodes.items ≡ 7 + 2 * self.roster.joiners) }
@@ -543,7 +474,7 @@ impl<D: Disk, L: LogFile> Made<D, L> {
         ensures none { IfOk result (λ b. (b.parts.disks.items ≡ []) × (b.parts.logs.items ≡ [])) }
         ensures room { IfOk result (λ b. (15 + 4 * self.roster.joiners ≤ vec_capacity b.parts.disks) × (7 + 2 * self.roster.joiners ≤ vec_capacity b.parts.logs)) }
         ensures whole { IfOk result (λ b. held (⟦<AnyNode<D, L> as Parting<D, L>>⟧.disks_of self.roster.joiners) self.parts.disks.items self.nodes.items ≡ all_from (⟦<AnyNode<D, L> as Parting<D, L>>⟧.disks_of self.roster.joiners) 0 b.nodes.items) }
-        ensures disks { IfErr result (λ p. map as_lent p.disks.items ≡ held (⟦<AnyNode<D, L> as Parting<D, L>>⟧.disks_of self.roster.joiners) self.parts.disks.items self.nodes.items ++ lend (λ t. t.journal.disk) topology ∷ []) }
+        ensures disks { IfErr result (λ p. map as_lent p.disks.items ≡ held (⟦<AnyNode<D, L> as Parting<D, L>>⟧.disks_of self.roster.joiners) self.parts.disks.items self.nodes.items ++ topology_lent topology.journal.disk ∷ []) }
         ensures logs { IfErr result (λ p. p.logs.items ≡ held_logs ⟦<AnyNode<D, L> as Parting<D, L>>⟧.logs_of self.parts.logs.items self.nodes.items) }
     {
         let Made {
@@ -560,9 +491,8 @@ impl<D: Disk, L: LogFile> Made<D, L> {
                 parts,
             });
         }
-        let Opened { name, journal } = topology;
         let mut parts = apart(nodes, roster.joiners, parts);
-        parts.put(name, journal.into_disk());
+        parts.put(DiskName::Topology, topology.into_disk());
         Err(parts)
     }
 }
@@ -581,23 +511,4 @@ fn both<T>(items: Vec<T>) -> (T, T)
     };
     items.destroy_empty();
     (first, second)
-}
-
-// The three of a list.
-fn three<T>(items: Vec<T>) -> (T, T, T)
-    requires { length items.items ≡ 3 }
-    ensures { items.items ≡ result.0 ∷ result.1 ∷ result.2 ∷ [] }
-{
-    let mut items = items.into_iter();
-    let Some(first) = items.next() else {
-        unreachable!()
-    };
-    let Some(second) = items.next() else {
-        unreachable!()
-    };
-    let Some(third) = items.next() else {
-        unreachable!()
-    };
-    items.destroy_empty();
-    (first, second, third)
 }

@@ -1,10 +1,10 @@
 // Whether opened disks fit what was asked.
-ghost use Rattle.std.specs.Prelude.{◌≡◌, [], ◌∷◌, MatchOption};
+ghost use Rattle.std.specs.Prelude.{◌≡◌, MatchOption};
 ghost use Rattle.std.specs.List.{list_any};
-ghost use Rattle.site_store.specs.Misfits.{IsFit, IsMisfit, is_full_note, first_spent, first_full, IsFirstMisfit};
+ghost use Rattle.site_store.specs.Records.{kept_all};
+ghost use Rattle.site_store.specs.Misfits.{IsFit, IsMisfit, is_full_note, limit_at, limit_in};
 
-use crate::disks::{Opened, SiteDisks, VoteJournal};
-use epoch_journal::EpochJournal;
+use crate::disks::{AnyJournal, OpenDisk};
 use outside::{Disk, DiskName};
 use paxos_acceptor::ReplicaNote;
 use topology_journal::{Topology, TopologyJournal};
@@ -27,7 +27,7 @@ pub enum Misfit {
 }
 
 /// Why the kept topology doesn't fit the asked one, if one is kept and doesn't.
-fn topology_misfit<D: Disk>(topology: &TopologyJournal<D>, asked: &Topology) -> Option<Misfit>
+pub fn topology_misfit<D: Disk>(topology: &TopologyJournal<D>, asked: &Topology) -> Option<Misfit>
     ensures { MatchOption result (IsFit topology.now.value.kept asked.now) (IsMisfit topology.now.value.kept asked.now) }
 {
     let kept = topology.value().kept()?;
@@ -39,21 +39,6 @@ fn topology_misfit<D: Disk>(topology: &TopologyJournal<D>, asked: &Topology) -> 
     }
     if kept.table.rows() != asked.table.rows() {
         return Some(Misfit::Table);
-    }
-    None
-}
-
-/// The first of these disks whose epoch is the last one.
-fn spent<D: Disk>(opened: &[Opened<EpochJournal<D>>]) -> Option<Misfit>
-    ensures { result ≡ first_spent (λ e. e.value.epoch) opened.now }
-{
-    for one in opened {
-        if one.journal.value().epoch() == LAST {
-            return Some(Misfit::Spent {
-                disk: one.name,
-                value: u64::from(LAST),
-            });
-        }
     }
     None
 }
@@ -75,38 +60,33 @@ fn are_full(notes: &[ReplicaNote]) -> bool
     notes.iter().any(|note| is_full(note))
 }
 
-/// The first of these disks that notes the last round or the last slot.
-fn full<D: Disk>(opened: &[Opened<VoteJournal<D>>]) -> Option<Misfit>
-    ensures { result ≡ first_full (λ v. v.notes.items) opened.now }
+// Whether this disk's epoch is the last one, or a round or a slot that it notes is.
+fn limit<D: Disk>(disk: &OpenDisk<D>) -> Option<Misfit>
+    ensures { result ≡ limit_at disk.now.name disk.now.kept }
 {
-    for one in opened {
-        if are_full(&one.journal.notes) {
-            return Some(Misfit::Spent {
-                disk: one.name,
-                value: LAST_PLACE,
-            });
+    let (spent, value) = match &disk.journal {
+        AnyJournal::Epoch(journal) => (journal.value().epoch() == LAST, u64::from(LAST)),
+        AnyJournal::Votes(journal) => (are_full(&journal.notes), LAST_PLACE),
+        _ => (false, 0),
+    };
+    if !spent {
+        return None;
+    }
+    Some(Misfit::Spent {
+        disk: disk.name,
+        value,
+    })
+}
+
+/// The first of these disks, if there is one, whose epoch is the last one, or that notes the last round or the last slot. Linear
+/// in disks and notes.
+pub fn first_limit<D: Disk>(disks: &[OpenDisk<D>]) -> Option<Misfit>
+    ensures { result ≡ limit_in (kept_all disks.now) }
+{
+    for disk in disks {
+        if let Some(misfit) = limit(disk) {
+            return Some(misfit);
         }
     }
     None
-}
-
-/// The first reason, if there is one, why opened disks can't be run as asked: the kept joiners, the kept table, and then the
-/// servers' epochs, the replicas' notes, and the epochs of the joiners of site A and of site B. Linear in disks and notes.
-pub fn first_misfit<D: Disk>(disks: &SiteDisks<D>, asked: &Topology) -> Option<Misfit>
-    ensures { IsFirstMisfit disks.now.topology.journal.value.kept asked.now
-        (first_spent (λ e. e.value.epoch) disks.now.servers.items ∷ first_full (λ v. v.notes.items) disks.now.replicas.items ∷ first_spent (λ e. e.value.epoch) disks.now.epochs_a.items ∷ first_spent (λ e. e.value.epoch) disks.now.epochs_b.items ∷ []) result }
-{
-    if let Some(misfit) = topology_misfit(&disks.topology.journal, asked) {
-        return Some(misfit);
-    }
-    if let Some(misfit) = spent(&disks.servers) {
-        return Some(misfit);
-    }
-    if let Some(misfit) = full(&disks.replicas) {
-        return Some(misfit);
-    }
-    if let Some(misfit) = spent(&disks.epochs_a) {
-        return Some(misfit);
-    }
-    spent(&disks.epochs_b)
 }

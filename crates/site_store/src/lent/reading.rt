@@ -1,14 +1,13 @@
 // Reading disks back.
 ghost use Rattle.std.specs.Prelude.{◌≡◌, ◌++◌, IsTrue, IfOk, IfErr, OnOk};
 ghost use Rattle.output_log.specs.Pairs.{Keeps as KeepsPairs};
-ghost use Rattle.site_store.specs.Opening.{told_by};
 ghost use Rattle.site_node.specs.Replicas.{KeepsNotes};
 ghost use Rattle.site_store.specs.ReadBack.{EachWith, OneWith, replicas, outputs, notes_in, pairs_in, AreReadFrom, AreAmongImages, IsReadAs, IsAnImage, IsOnlyRead, IsToldBy};
 
 use crate::DisksFault;
+use crate::disks::opening::told;
 use crate::lent::LentDisk;
 use crate::lent::records::{notes_again, pairs_again};
-use gate_journal::JournalFault;
 use outside::{Disk, DiskName};
 use std::alloc::{AllocError, Global};
 use verify_pass::{Journals, NoteList, PairList};
@@ -20,17 +19,6 @@ pub(crate) enum ReadAs {
     Pairs(PairList),
     /// It isn't read.
     Neither,
-}
-
-// The fault of a disk that isn't read.
-fn told(name: DiskName, fault: JournalFault) -> DisksFault
-    ensures { result ≡ told_by name fault }
-{
-    match fault {
-        JournalFault::Damaged { at } => DisksFault::Damaged { disk: name, at },
-        JournalFault::Disk => DisksFault::Store(name),
-        JournalFault::Memory => DisksFault::Memory,
-    }
 }
 
 /// Reads a replica's disk or an output's again, and no other.

@@ -1,36 +1,27 @@
 // A store opened for a run of both sites.
-ghost use Rattle.std.specs.Prelude.{◌≡◌, ◌≢◌, ◌≤◌, ◌+◌, Bool, length, take, Some, Option, IsTrue, true, IfOk, IfErr, OnErr};
+ghost use Rattle.std.specs.Prelude.{◌≡◌, ◌≢◌, ◌≤◌, ◌+◌, Bool, length, map, Some, Option, IsTrue, true, IfOk, IfErr, OnErr};
 ghost use Rattle.outside.specs.declared.store.DiskName.{DiskName};
 ghost use Rattle.outside.specs.declared.store.DiskName.TheVariants as name;
-ghost use Rattle.gate_journal.specs.declared.journal.JournalState.TheVariants.{Ready};
+ghost use Rattle.gate_journal.specs.Images.{StaysAs, GoesOn};
+ghost use Rattle.topology_journal.specs.declared.topology.Topology.{Topology as KeptTopology};
 ghost use Rattle.topology_journal.specs.Topologies.{IsTopology};
-ghost use Rattle.epoch_journal.specs.Epochs.{Keeps as KeepsEpoch};
-ghost use Rattle.offset_journal.specs.Offsets.{Keeps as KeepsOffset};
-ghost use Rattle.retry_log.specs.Pending.{Keeps as KeepsPending};
-ghost use Rattle.output_log.specs.Pairs.{Keeps as KeepsPairs};
 ghost use Rattle.log_records.specs.Lines.{end_from};
 ghost use Rattle.turn_defs.specs.Setting.{Setting};
 ghost use Rattle.dispatch_node.specs.Places.{IsLogOf};
-ghost use Rattle.site_store.specs.Votes.{IsReadyVotes};
-ghost use Rattle.site_node.specs.Replicas.{KeepsNotes};
-ghost use Rattle.site_store.specs.Kinds.{offset_names, retry_names, server_names, replica_names, epoch_names_a, epoch_names_b, output_names_a, output_names_b};
-ghost use Rattle.site_store.specs.Lent.{lend, lend_all};
-ghost use Rattle.gate_journal.specs.Images.{StaysAs, GoesOn};
-ghost use Rattle.site_store.specs.Refusals.{IsOfFirstDisk};
-ghost use Rattle.site_store.specs.Opening.{AreOpened, RoseBy, WasDamaged};
 ghost use Rattle.photon_model.specs.Runs.{Disks};
 ghost use Rattle.photon_model.specs.Topology.{Topology as StoreTopology, topology_of, WholeSound};
 ghost use Rattle.site_laws.specs.Stores.{IsSoundStore, AreLeft};
 ghost use Rattle.site_store.specs.declared.disks.fault.DisksFault.TheVariants.{Store as StoreFailed};
 ghost use Rattle.site_store.specs.declared.opening.refusal.Refusal.TheVariants.{Disks as OfDisks};
-ghost use Rattle.site_store.specs.Records.{keep_all, KeptValues, AreKept, AreRecordsOf};
-ghost use Rattle.site_store.specs.Leaving.{behind, IsOut, StayOrAsked, IsAsked};
+ghost use Rattle.site_store.specs.Refusals.{IsOfFirstDisk, other_names};
+ghost use Rattle.site_store.specs.Opening.{RoseBy, WasDamaged};
+ghost use Rattle.site_store.specs.Records.{AreKept, AreRecordsOf, values_of, kept_all, lent_all, topology_lent};
+ghost use Rattle.site_store.specs.Leaving.{IsOut, StayOrAsked, IsAsked};
 ghost use Rattle.site_store.specs.Causes.{ArePassed, IsCause, IfDisks, IfJudged, IsWelcome};
 
-use crate::opening::Refusal;
-use crate::opening::judging::judge;
 use crate::opening::topology::keep_topology;
-use crate::{SiteDisks, give_back, open_disks};
+use crate::opening::{Refusal, open_for};
+use crate::{OpenStore, give_back};
 use outside::{LogFile, Store};
 use photon_model::whole_stores;
 use site_laws::stores::{fits, opened, read, stays, topology_first};
@@ -49,67 +40,20 @@ pub fn open_store<S: Store, L: LogFile>(
     asked: Topology,
     clicks: &mut L,
     end: u64,
-) -> Result<SiteDisks<S::Disk>, Refusal>
+) -> Result<OpenStore<S::Disk>, Refusal>
     requires { IsTopology asked }
-    ensures topology { IfOk result (λ d. (d.topology.name ≡ name.Topology) × (d.topology.journal.journal.state ≡ Ready) × (d.topology.journal.value.kept ≡ Some asked)) }
-    ensures offsets { IfOk result (λ d. AreOpened S.Disk.tells (S.image store.old) (λ o. o.journal.state ≡ Ready) (λ o. KeepsOffset o.value.offset) offset_names d.offsets.items) }
-    ensures retries { IfOk result (λ d. AreOpened S.Disk.tells (S.image store.old) (λ r. r.journal.state ≡ Ready) (λ r. KeepsPending r.value.pending.keys) retry_names d.retries.items) }
-    ensures servers { IfOk result (λ d. AreOpened S.Disk.tells (S.image store.old) (λ e. e.journal.state ≡ Ready) (λ e. KeepsEpoch e.value.epoch) server_names d.servers.items) }
-    ensures replicas { IfOk result (λ d. AreOpened S.Disk.tells (S.image store.old) (λ v. IsReadyVotes S.Disk.tells (S.Disk.seen v.journal.disk) v.journal.state v.notes.items) (λ v. KeepsNotes v.notes.items) replica_names d.replicas.items) }
-    ensures epochs_a { IfOk result (λ d. AreOpened S.Disk.tells (S.image store.old) (λ e. e.journal.state ≡ Ready) (λ e. KeepsEpoch e.value.epoch) (take asked.joiners epoch_names_a) d.epochs_a.items) }
-    ensures epochs_b { IfOk result (λ d. AreOpened S.Disk.tells (S.image store.old) (λ e. e.journal.state ≡ Ready) (λ e. KeepsEpoch e.value.epoch) (take asked.joiners epoch_names_b) d.epochs_b.items) }
-    ensures outputs_a { IfOk result (λ d. AreOpened S.Disk.tells (S.image store.old) (λ o. o.journal.state ≡ Ready) (λ o. KeepsPairs o.value.pairs.items) (take asked.joiners output_names_a) d.outputs_a.items) }
-    ensures outputs_b { IfOk result (λ d. AreOpened S.Disk.tells (S.image store.old) (λ o. o.journal.state ≡ Ready) (λ o. KeepsPairs o.value.pairs.items) (take asked.joiners output_names_b) d.outputs_b.items) }
-    ensures lent { IsTrue S.Disk.tells → IfOk result (λ d. IsOut asked S.Disk.image (S.image store.old) (S.image store.new) (lend (λ t. t.journal.disk) d.topology) (behind
-        (lend_all (λ o. o.journal.disk) d.offsets.items)
-        (lend_all (λ r. r.journal.disk) d.retries.items)
-        (lend_all (λ e. e.journal.disk) d.servers.items)
-        (lend_all (λ v. v.journal.disk) d.replicas.items)
-        (lend_all (λ e. e.journal.disk) d.epochs_a.items)
-        (lend_all (λ e. e.journal.disk) d.epochs_b.items)
-        (lend_all (λ o. o.journal.disk) d.outputs_a.items)
-        (lend_all (λ o. o.journal.disk) d.outputs_b.items))) }
-    ensures places { IfOk result (λ d. S.places_left store.old + (1 + (length d.offsets.items + length d.retries.items + length d.servers.items + length d.replicas.items + length d.epochs_a.items + length d.epochs_b.items + length d.outputs_a.items + length d.outputs_b.items)) ≤ S.places_left store.new) }
+    ensures topology { IfOk result (λ d. d.topology.value.kept ≡ Some asked) }
+    ensures named { IfOk result (λ d. map (λ o. o.name) d.disks.items ≡ other_names asked.joiners) }
+    // What the disks kept fits what is asked, and but for the topology they keep it.
+    ensures kept { IfOk result (λ d. (t : Option KeptTopology) × AreKept S.Disk.tells (S.image store.old) asked.joiners (values_of t d.disks.items) × ArePassed L.tells (L.bytes clicks.old) end (Some asked) (values_of t d.disks.items)) }
+    ensures lent { IsTrue S.Disk.tells → IfOk result (λ d. IsOut asked S.Disk.image (S.image store.old) (S.image store.new) (topology_lent d.topology.journal.disk) (lent_all d.disks.items)) }
+    ensures places { IfOk result (λ d. S.places_left store.old + (1 + length d.disks.items) ≤ S.places_left store.new) }
 
-    // What the disks keep fits what was asked.
-    ensures passed { IfOk result (λ d. ArePassed L.tells (L.bytes clicks.old) end asked (record {
-      topology = d.topology.journal.value.kept;
-      offsets = keep_all (λ o. o.value.offset) d.offsets.items;
-      pending = keep_all (λ r. r.value.pending.keys) d.retries.items;
-      servers = keep_all (λ e. e.value.epoch) d.servers.items;
-      notes = keep_all (λ v. v.notes.items) d.replicas.items;
-      epochs_a = keep_all (λ e. e.value.epoch) d.epochs_a.items;
-      epochs_b = keep_all (λ e. e.value.epoch) d.epochs_b.items;
-      pairs_a = keep_all (λ o. o.value.pairs.items) d.outputs_a.items;
-      pairs_b = keep_all (λ o. o.value.pairs.items) d.outputs_b.items;
-    })) }
-    // The disks kept values that pass.
-    ensures kept { IfOk result (λ d. (k : KeptValues) × AreKept S.Disk.tells (S.image store.old) asked.joiners k × ArePassed L.tells (L.bytes clicks.old) end asked k) }
     // Each record was kept by an image of its disk, and the topology or none by one of its own.
-    ensures were_left { IsTrue S.Disk.tells → IfOk result (λ d. (g : Setting) (records : Disks) → IsAsked asked g → g.replicas ≡ 3 → AreRecordsOf g (record {
-      topology = d.topology.journal.value.kept;
-      offsets = keep_all (λ o. o.value.offset) d.offsets.items;
-      pending = keep_all (λ r. r.value.pending.keys) d.retries.items;
-      servers = keep_all (λ e. e.value.epoch) d.servers.items;
-      notes = keep_all (λ v. v.notes.items) d.replicas.items;
-      epochs_a = keep_all (λ e. e.value.epoch) d.epochs_a.items;
-      epochs_b = keep_all (λ e. e.value.epoch) d.epochs_b.items;
-      pairs_a = keep_all (λ o. o.value.pairs.items) d.outputs_a.items;
-      pairs_b = keep_all (λ o. o.value.pairs.items) d.outputs_b.items;
-    }) records
+    ensures were_left { IsTrue S.Disk.tells → IfOk result (λ d. (g : Setting) (records : Disks) → IsAsked asked g → g.replicas ≡ 3 → AreRecordsOf g (kept_all d.disks.items) records
         → (t : Option StoreTopology) × AreLeft g (S.image store.old) (record { topology = t; disks = records; is_used = true })) }
     // Of a sound store, the records that they keep are a whole store, with the topology that was asked.
-    ensures whole { IsTrue S.Disk.tells → IfOk result (λ d. (g : Setting) (records : Disks) → IsAsked asked g → g.replicas ≡ 3 → IsSoundStore g (S.image store.old) → AreRecordsOf g (record {
-      topology = d.topology.journal.value.kept;
-      offsets = keep_all (λ o. o.value.offset) d.offsets.items;
-      pending = keep_all (λ r. r.value.pending.keys) d.retries.items;
-      servers = keep_all (λ e. e.value.epoch) d.servers.items;
-      notes = keep_all (λ v. v.notes.items) d.replicas.items;
-      epochs_a = keep_all (λ e. e.value.epoch) d.epochs_a.items;
-      epochs_b = keep_all (λ e. e.value.epoch) d.epochs_b.items;
-      pairs_a = keep_all (λ o. o.value.pairs.items) d.outputs_a.items;
-      pairs_b = keep_all (λ o. o.value.pairs.items) d.outputs_b.items;
-    }) records
+    ensures whole { IsTrue S.Disk.tells → IfOk result (λ d. (g : Setting) (records : Disks) → IsAsked asked g → g.replicas ≡ 3 → IsSoundStore g (S.image store.old) → AreRecordsOf g (kept_all d.disks.items) records
         → (used : Bool) × WholeSound g (record { topology = Some (topology_of g); disks = records; is_used = used })) }
 
     // After a refusal.
@@ -120,7 +64,7 @@ pub fn open_store<S: Store, L: LogFile>(
     ensures first { IfErr result (IfDisks (IsOfFirstDisk S.Disk.tells (S.image store.old) asked.joiners)) }
     ensures rose { IfErr result (IfDisks (RoseBy (S.faults store.old) (S.faults store.new))) }
     ensures damaged { IsTrue S.Disk.tells → IfErr result (IfDisks (WasDamaged (S.image store.old))) }
-    ensures cause { IfErr result (IfJudged (AreKept S.Disk.tells (S.image store.old) asked.joiners) (IsCause L.tells (L.bytes clicks.old) end (L.faults clicks.old) (L.faults clicks.new) asked)) }
+    ensures cause { IfErr result (IfJudged (AreKept S.Disk.tells (S.image store.old) asked.joiners) (IsCause L.tells (L.bytes clicks.old) end (L.faults clicks.old) (L.faults clicks.new) (Some asked))) }
     // Of a sound store nothing that it keeps is refused, and no disk is told as damaged.
     ensures welcome { IsTrue S.Disk.tells → IsTrue L.tells → IfErr result (λ r. (g : Setting) → IsAsked asked g → g.replicas ≡ 3 → IsLogOf (L.bytes clicks.old) g → end ≡ end_from 0 g.clicks
         → IsSoundStore g (S.image store.old) → IsWelcome g (S.image store.old) r) }
@@ -135,18 +79,18 @@ pub fn open_store<S: Store, L: LogFile>(
     read();
     fits();
     whole_stores();
-    let mut disks = match open_disks(alloc, store, asked.joiners) {
-        Ok(disks) => disks,
-        Err(fault) => return Err(Refusal::Disks(fault)),
+    let wanted = Some(Topology {
+        joiners: asked.joiners,
+        table: asked.table,
+    });
+    let mut open = match open_for(alloc, store, &wanted, clicks, end) {
+        Ok(open) => open,
+        Err(refusal) => return Err(refusal),
     };
-    if let Some(refusal) = judge(&disks, &asked, clicks, end) {
-        give_back(store, disks);
-        return Err(refusal);
-    }
-    match keep_topology(alloc, &mut disks.topology, asked) {
-        Ok(()) => Ok(disks),
+    match keep_topology(alloc, &mut open.topology, asked) {
+        Ok(()) => Ok(open),
         Err(fault) => {
-            give_back(store, disks);
+            give_back(store, open);
             Err(Refusal::Disks(fault))
         }
     }

@@ -8,7 +8,7 @@ ghost use Rattle.site_store.specs.Misfits.{IsFit};
 ghost use Rattle.site_store.specs.Opening.{RoseBy};
 ghost use Rattle.site_store.specs.Written.{AllKeep, StaysOrKeeps, IsUnwritten};
 
-use crate::{DisksFault, Opened, write_topology};
+use crate::{DisksFault, write_topology};
 use outside::Disk;
 use std::alloc::Global;
 use topology_journal::{Topology, TopologyJournal};
@@ -16,24 +16,22 @@ use topology_journal::{Topology, TopologyJournal};
 /// Writes the asked topology where none is kept.
 pub(crate) fn keep_topology<D: Disk>(
     alloc: Global,
-    topology: &mut Opened<TopologyJournal<D>>,
+    topology: &mut TopologyJournal<D>,
     asked: Topology,
 ) -> Result<(), DisksFault>
     requires is_topology { IsTopology asked }
-    requires ready { topology.old.journal.journal.state ≡ Ready }
-    requires fit { IsFit topology.old.journal.value.kept asked }
-    ensures name { topology.new.name ≡ topology.old.name }
-    ensures kept { OnOk result (topology.new.journal.value.kept ≡ Some asked) }
-    ensures ready { OnOk result (topology.new.journal.journal.state ≡ Ready) }
-    ensures durable { IsTrue D.tells → OnOk result (AllKeep asked (D.image topology.new.journal.journal.disk)) }
-    ensures old_or_new { IsTrue D.tells → OnErr result (StaysOrKeeps (D.image topology.old.journal.journal.disk) asked (D.image topology.new.journal.journal.disk)) }
-    ensures stays { IsTrue D.tells → IsErrOf result Memory → StaysAs (D.image topology.old.journal.journal.disk) (D.image topology.new.journal.journal.disk) }
-    ensures grows { IsTrue D.tells → GoesOn (D.image topology.old.journal.journal.disk) (D.image topology.new.journal.journal.disk) }
-    ensures count { D.faults topology.old.journal.journal.disk ≤ D.faults topology.new.journal.journal.disk }
-    ensures rose { IfErr result (RoseBy (D.faults topology.old.journal.journal.disk) (D.faults topology.new.journal.journal.disk)) }
-    ensures unwritten { IfErr result (IsUnwritten topology.old.name) }
+    requires ready { topology.old.journal.state ≡ Ready }
+    requires fit { IsFit topology.old.value.kept asked }
+    ensures kept { OnOk result (topology.new.value.kept ≡ Some asked) }
+    ensures durable { IsTrue D.tells → OnOk result (AllKeep asked (D.image topology.new.journal.disk)) }
+    ensures old_or_new { IsTrue D.tells → OnErr result (StaysOrKeeps (D.image topology.old.journal.disk) asked (D.image topology.new.journal.disk)) }
+    ensures stays { IsTrue D.tells → IsErrOf result Memory → StaysAs (D.image topology.old.journal.disk) (D.image topology.new.journal.disk) }
+    ensures grows { IsTrue D.tells → GoesOn (D.image topology.old.journal.disk) (D.image topology.new.journal.disk) }
+    ensures count { D.faults topology.old.journal.disk ≤ D.faults topology.new.journal.disk }
+    ensures rose { IfErr result (RoseBy (D.faults topology.old.journal.disk) (D.faults topology.new.journal.disk)) }
+    ensures unwritten { IfErr result IsUnwritten }
 {
-    if topology.journal.value().kept().is_some() {
+    if topology.value().kept().is_some() {
         return Ok(());
     }
     write_topology(alloc, topology, asked)

@@ -1,19 +1,20 @@
 // The kept places, against the lines of the click log.
-ghost use Rattle.std.specs.Prelude.{◌≡◌, ◌↔◌, [], ◌∷◌, List, None, IfOk, IsErr, IsTrue};
+ghost use Rattle.std.specs.Prelude.{◌≡◌, [], ◌∷◌, List, IfOk, IsErr, IsTrue};
 ghost use Rattle.outside.specs.Faults.{Counts};
 ghost use Rattle.outside.specs.declared.store.DiskName.TheVariants.{Offset, Retry};
 ghost use Rattle.log_records.specs.Lines.{ClickLine, HoldsLines, end_from};
-ghost use Rattle.turn_defs.specs.Setting.{Setting};
-ghost use Rattle.dispatch_node.specs.Kept.{kept_as};
-ghost use Rattle.dispatch_node.specs.Places.{IsLogOf, AreKeptPlaces};
-ghost use Rattle.site_store.specs.Kept.{on_disk, all_kept, IsTold};
+ghost use Rattle.site_store.specs.Causes.{AreTold};
+ghost use Rattle.site_store.specs.Kept.{on_disk, places_at, IsTold};
+ghost use Rattle.site_store.specs.Records.{kept_all};
 
+use crate::disks::{AnyJournal, OpenDisk};
 use crate::places::Misplaced;
 use crate::places::feeds::floor_below;
-use outside::{DiskName, LogFile, ReadFault};
+use outside::{Disk, DiskName, LogFile, ReadFault};
 
-// An offset fits where a line may start. `end` is the end of the last whole line.
-fn misplaced_offset<L: LogFile>(
+/// The offset of a site, where it doesn't fit the click log. It reads at most 512 bytes of a log that was checked. An offset fits
+/// where a line may start. `end` is the end of the last whole line.
+pub fn misplaced_offset<L: LogFile>(
     log: &mut L,
     end: u64,
     site: u8,
@@ -58,8 +59,9 @@ fn misplaced_position<L: LogFile>(
     }))
 }
 
-// The first pending position of a site that doesn't fit.
-fn misplaced_pending<L: LogFile>(
+/// The first of a site's pending positions, in the order of parking, that doesn't fit the click log. It reads at most 512 bytes for
+/// each of a log that was checked. A position fits where a whole line starts. `end` is the end of the last whole line.
+pub fn misplaced_pending<L: LogFile>(
     log: &mut L,
     end: u64,
     site: u8,
@@ -78,36 +80,51 @@ fn misplaced_pending<L: LogFile>(
     Ok(None)
 }
 
-/// The first place that doesn't fit the click log, if there is one, of those that the dispatchers keep: the offset of site A
-/// and that of site B, then the positions pending at site A and those pending at site B, in the order of parking. `end` is the
-/// end of the last whole line. An offset fits at the log's beginning and at the end of a whole line, a position where a whole
-/// line starts.
-///
-/// It reads at most 512 bytes for each place of a log that was checked, with one call where a read gives all that it is asked
-/// for, and allocates nothing.
-pub fn first_misplaced<L: LogFile>(
+// The first place that this disk keeps and that doesn't fit.
+fn misplaced_on<D: Disk, L: LogFile>(
+    disk: &OpenDisk<D>,
     log: &mut L,
     end: u64,
-    offset_a: u64,
-    offset_b: u64,
-    pending_a: &[u64],
-    pending_b: &[u64],
 ) -> Result<Option<Misplaced>, ReadFault>
-    ensures first { IsTrue L.tells → (g : Setting) → IsLogOf (L.bytes log.old) g → end ≡ end_from 0 g.clicks
-        → IfOk result (IsTold g.clicks (all_kept offset_a offset_b pending_a.now pending_b.now)) }
-    ensures fit { IsTrue L.tells → (g : Setting) → IsLogOf (L.bytes log.old) g → end ≡ end_from 0 g.clicks
-        → IfOk result (λ told. (told ≡ None) ↔ (AreKeptPlaces g (kept_as offset_a pending_a.now) × AreKeptPlaces g (kept_as offset_b pending_b.now))) }
+    ensures told { IsTrue L.tells → (ls : List ClickLine) → HoldsLines (L.bytes log.old) ls → end ≡ end_from 0 ls
+        → IfOk result (IsTold ls (places_at disk.now.name disk.now.kept)) }
     ensures same { IsTrue L.tells → L.bytes log.new ≡ L.bytes log.old }
     ensures count { Counts (L.faults log.old) (L.faults log.new) (IsErr result) }
 {
-    if let Some(misplaced) = misplaced_offset(log, end, 0, offset_a)? {
-        return Ok(Some(misplaced));
+    match &disk.journal {
+        AnyJournal::Offset(journal) => match disk.name {
+            DiskName::Offset(site) => misplaced_offset(log, end, site, journal.value().offset()),
+            _ => unreachable!(),
+        },
+        AnyJournal::Retry(journal) => match disk.name {
+            DiskName::Retry(site) => {
+                misplaced_pending(log, end, site, journal.value().pending().as_slice())
+            }
+            _ => unreachable!(),
+        },
+        _ => Ok(None),
     }
-    if let Some(misplaced) = misplaced_offset(log, end, 1, offset_b)? {
-        return Ok(Some(misplaced));
+}
+
+/// The first place that doesn't fit the click log, if there is one, of those that these disks keep, in their order. `end` is the end
+/// of the last whole line. An offset fits at the log's beginning and at the end of a whole line, a position where a whole line
+/// starts.
+///
+/// It reads at most 512 bytes for each place of a log that was checked, with one call where a read gives all that it is asked
+/// for, and allocates nothing.
+pub(crate) fn first_misplaced<D: Disk, L: LogFile>(
+    disks: &[OpenDisk<D>],
+    log: &mut L,
+    end: u64,
+) -> Result<Option<Misplaced>, ReadFault>
+    ensures first { IfOk result (AreTold L.tells (L.bytes log.old) end (kept_all disks.now)) }
+    ensures same { IsTrue L.tells → L.bytes log.new ≡ L.bytes log.old }
+    ensures count { Counts (L.faults log.old) (L.faults log.new) (IsErr result) }
+{
+    for disk in disks {
+        if let Some(misplaced) = misplaced_on(disk, log, end)? {
+            return Ok(Some(misplaced));
+        }
     }
-    if let Some(misplaced) = misplaced_pending(log, end, 0, pending_a)? {
-        return Ok(Some(misplaced));
-    }
-    misplaced_pending(log, end, 1, pending_b)
+    Ok(None)
 }

@@ -1,8 +1,9 @@
 // Copies of what opened journals keep.
-ghost use Rattle.std.specs.Prelude.{◌≡◌, ◌++◌, map, IfOk, OnOk};
+ghost use Rattle.std.specs.Prelude.{◌≡◌, ◌++◌, flat_map, IfOk, OnOk};
+ghost use Rattle.site_store.specs.Reading.{notes_at, pairs_at};
+ghost use Rattle.site_store.specs.Records.{kept_all};
 
-use crate::{Opened, SiteDisks, VoteJournal};
-use output_log::OutputLog;
+use crate::{AnyJournal, OpenDisk};
 use outside::Disk;
 use paxos_acceptor::ReplicaNote;
 use std::alloc::{AllocError, Global};
@@ -29,46 +30,38 @@ fn copy_notes(alloc: Global, notes: &[ReplicaNote]) -> Result<NoteList, AllocErr
     Ok(NoteList::from(copies))
 }
 
-// Puts the pairs of each output behind those of the others.
-fn put_pairs<D: Disk>(
+// Puts what this disk keeps of notes and pairs behind the others.
+fn put_records<D: Disk>(
     alloc: Global,
-    pairs: &mut Vec<PairList>,
-    outputs: &[Opened<OutputLog<D>>],
+    journals: &mut Journals,
+    disk: &OpenDisk<D>,
 ) -> Result<(), AllocError>
-    ensures { OnOk result (pairs.new.items ≡ pairs.old.items ++ map (λ o. o.journal.value.pairs.items) outputs.now) }
+    ensures notes { OnOk result (journals.new.notes.items ≡ journals.old.notes.items ++ notes_at disk.now.kept) }
+    ensures pairs { OnOk result (journals.new.pairs.items ≡ journals.old.pairs.items ++ pairs_at disk.now.kept) }
 {
-    for output in outputs {
-        pairs.push(copy_pairs(alloc, output.journal.value().pairs())?)?;
+    match &disk.journal {
+        AnyJournal::Votes(journal) => journals.notes.push(copy_notes(alloc, &journal.notes)?)?,
+        AnyJournal::Output(journal) => journals.pairs.push(copy_pairs(alloc, journal.value().pairs())?)?,
+        _ => {}
     }
     Ok(())
 }
 
-// The notes of each replica.
-fn notes_of<D: Disk>(
-    alloc: Global,
-    replicas: &[Opened<VoteJournal<D>>],
-) -> Result<Vec<NoteList>, AllocError>
-    ensures { IfOk result (λ notes. notes.items ≡ map (λ v. v.journal.notes.items) replicas.now) }
-{
-    let mut notes = Vec::with_capacity(alloc, replicas.len())?;
-    for replica in replicas {
-        notes.push(copy_notes(alloc, &replica.journal.notes)?)?;
-    }
-    Ok(notes)
-}
-
-/// The records of the replicas and of the outputs, those of site A first. Linear in the records, in time and memory: the journals
-/// keep theirs, so that there are two copies until the disks are given back. No disk is read.
+/// The notes and the pairs that these disks keep, in their order. Linear in the records, in time and memory: the journals keep
+/// theirs, so that there are two copies until the disks are given back. No disk is read.
 pub(crate) fn journals_of<D: Disk>(
     alloc: Global,
-    disks: &SiteDisks<D>,
+    disks: &[OpenDisk<D>],
 ) -> Result<Journals, AllocError>
-    ensures notes { IfOk result (λ journals. journals.notes.items ≡ map (λ v. v.journal.notes.items) disks.now.replicas.items) }
-    ensures pairs { IfOk result (λ journals. journals.pairs.items ≡ map (λ o. o.journal.value.pairs.items) disks.now.outputs_a.items ++ map (λ o. o.journal.value.pairs.items) disks.now.outputs_b.items) }
+    ensures notes { IfOk result (λ journals. journals.notes.items ≡ flat_map (λ d. notes_at d.kept) (kept_all disks.now)) }
+    ensures pairs { IfOk result (λ journals. journals.pairs.items ≡ flat_map (λ d. pairs_at d.kept) (kept_all disks.now)) }
 {
-    let notes = notes_of(alloc, &disks.replicas)?;
-    let mut pairs = Vec::new(alloc);
-    put_pairs(alloc, &mut pairs, &disks.outputs_a)?;
-    put_pairs(alloc, &mut pairs, &disks.outputs_b)?;
-    Ok(Journals { notes, pairs })
+    let mut journals = Journals {
+        notes: Vec::new(alloc),
+        pairs: Vec::new(alloc),
+    };
+    for disk in disks {
+        put_records(alloc, &mut journals, disk)?;
+    }
+    Ok(journals)
 }

@@ -1,5 +1,5 @@
 // A store read for verification.
-ghost use Rattle.std.specs.Prelude.{◌≡◌, ◌≤◌, Some, None, length, IsTrue, IfOk, IfErr, OnOk};
+ghost use Rattle.std.specs.Prelude.{◌≡◌, ◌≤◌, Some, None, IsTrue, IfOk, IfErr};
 ghost use Rattle.outside.specs.declared.store.DiskName.{DiskName};
 ghost use Rattle.topology_journal.specs.declared.topology.Topology.{Topology as KeptTopology};
 ghost use Rattle.log_records.specs.Lines.{end_from};
@@ -9,20 +9,20 @@ ghost use Rattle.gate_journal.specs.Images.{StaysAs, GoesOn};
 ghost use Rattle.site_store.specs.Refusals.{IsOfFirstDisk};
 ghost use Rattle.site_store.specs.Opening.{RoseBy, WasDamaged};
 ghost use Rattle.site_laws.specs.Stores.{IsSoundStore};
-ghost use Rattle.site_store.specs.Records.{keep_all, AreKept};
+ghost use Rattle.site_store.specs.Records.{AreKept, values_of};
 ghost use Rattle.site_store.specs.Leaving.{IsAsked};
 ghost use Rattle.site_store.specs.Causes.{IfDisks, IfJudged, IsWelcome, LeavesSomething};
-ghost use Rattle.site_store.specs.Reading.{AreFine, IsOfValues, IsRead, IsCause};
+ghost use Rattle.site_store.specs.Reading.{IsOfValues, IsRead, IsCause};
 ghost use Rattle.site_store.specs.Telling.{Tells, KeepsNothing};
 
+use crate::opening::open_for;
 use crate::reading::KeptStore;
 use crate::reading::copies::journals_of;
-use crate::reading::judging::judge;
-use crate::{DisksFault, Refusal, SiteDisks, give_back, open_disks};
+use crate::{DisksFault, OpenStore, Refusal, give_back};
 use outside::{Disk, LogFile, Store};
 use photon_model::verification;
 use site_laws::stores::{fits, once, opened, read, stays};
-use std::alloc::Global;
+use std::alloc::{AllocError, Global};
 use topology_journal::{Topology, TopologyJournal};
 
 fn kept_topology<D: Disk>(topology: &TopologyJournal<D>) -> Option<Topology>
@@ -31,61 +31,14 @@ fn kept_topology<D: Disk>(topology: &TopologyJournal<D>) -> Option<Topology>
     topology.value().kept().copied()
 }
 
-// What opened disks keep, if that fits the log and has room for more.
-fn read_disks<D: Disk, L: LogFile>(
-    alloc: Global,
-    disks: &SiteDisks<D>,
-    clicks: &mut L,
-    end: u64,
-) -> Result<KeptStore, Refusal>
-    requires offsets { length disks.now.offsets.items ≡ 2 }
-    requires retries { length disks.now.retries.items ≡ 2 }
-    ensures told { IfOk result (IsOfValues (record {
-      topology = disks.now.topology.journal.value.kept;
-      offsets = keep_all (λ o. o.value.offset) disks.now.offsets.items;
-      pending = keep_all (λ r. r.value.pending.keys) disks.now.retries.items;
-      servers = keep_all (λ e. e.value.epoch) disks.now.servers.items;
-      notes = keep_all (λ v. v.notes.items) disks.now.replicas.items;
-      epochs_a = keep_all (λ e. e.value.epoch) disks.now.epochs_a.items;
-      epochs_b = keep_all (λ e. e.value.epoch) disks.now.epochs_b.items;
-      pairs_a = keep_all (λ o. o.value.pairs.items) disks.now.outputs_a.items;
-      pairs_b = keep_all (λ o. o.value.pairs.items) disks.now.outputs_b.items;
-    })) }
-    ensures fine { OnOk result (AreFine L.tells (L.bytes clicks.old) end (record {
-      topology = disks.now.topology.journal.value.kept;
-      offsets = keep_all (λ o. o.value.offset) disks.now.offsets.items;
-      pending = keep_all (λ r. r.value.pending.keys) disks.now.retries.items;
-      servers = keep_all (λ e. e.value.epoch) disks.now.servers.items;
-      notes = keep_all (λ v. v.notes.items) disks.now.replicas.items;
-      epochs_a = keep_all (λ e. e.value.epoch) disks.now.epochs_a.items;
-      epochs_b = keep_all (λ e. e.value.epoch) disks.now.epochs_b.items;
-      pairs_a = keep_all (λ o. o.value.pairs.items) disks.now.outputs_a.items;
-      pairs_b = keep_all (λ o. o.value.pairs.items) disks.now.outputs_b.items;
-    })) }
-    ensures cause { IfErr result (IsCause L.tells (L.bytes clicks.old) end (L.faults clicks.old) (L.faults clicks.new) (record {
-      topology = disks.now.topology.journal.value.kept;
-      offsets = keep_all (λ o. o.value.offset) disks.now.offsets.items;
-      pending = keep_all (λ r. r.value.pending.keys) disks.now.retries.items;
-      servers = keep_all (λ e. e.value.epoch) disks.now.servers.items;
-      notes = keep_all (λ v. v.notes.items) disks.now.replicas.items;
-      epochs_a = keep_all (λ e. e.value.epoch) disks.now.epochs_a.items;
-      epochs_b = keep_all (λ e. e.value.epoch) disks.now.epochs_b.items;
-      pairs_a = keep_all (λ o. o.value.pairs.items) disks.now.outputs_a.items;
-      pairs_b = keep_all (λ o. o.value.pairs.items) disks.now.outputs_b.items;
-    })) }
-    ensures same { IsTrue L.tells → L.bytes clicks.new ≡ L.bytes clicks.old }
-    ensures count { L.faults clicks.old ≤ L.faults clicks.new }
+// What an open store keeps.
+fn kept_in<D: Disk>(alloc: Global, opened: &OpenStore<D>) -> Result<KeptStore, AllocError>
+    ensures { IfOk result (IsOfValues (values_of opened.now.topology.value.kept opened.now.disks.items)) }
 {
-    match judge(disks, clicks, end) {
-        Some(refusal) => Err(refusal),
-        None => match journals_of(alloc, disks) {
-            Ok(journals) => Ok(KeptStore {
-                topology: kept_topology(&disks.topology.journal),
-                journals,
-            }),
-            Err(_) => Err(Refusal::Disks(DisksFault::Memory)),
-        },
-    }
+    Ok(KeptStore {
+        topology: kept_topology(&opened.topology),
+        journals: journals_of(alloc, &opened.disks)?,
+    })
 }
 
 /// Reads what a store keeps, over a click log whose last whole line ends at `end`, and gives all its disks back. The store is
@@ -130,11 +83,14 @@ pub fn read_store<S: Store, L: LogFile>(
     read();
     fits();
     verification();
-    let disks = match open_disks(alloc, store, 0) {
-        Ok(disks) => disks,
-        Err(fault) => return Err(Refusal::Disks(fault)),
+    let open = match open_for(alloc, store, &None, clicks, end) {
+        Ok(open) => open,
+        Err(refusal) => return Err(refusal),
     };
-    let read = read_disks(alloc, &disks, clicks, end);
-    give_back(store, disks);
-    read
+    let kept = kept_in(alloc, &open);
+    give_back(store, open);
+    match kept {
+        Ok(kept) => Ok(kept),
+        Err(_) => Err(Refusal::Disks(DisksFault::Memory)),
+    }
 }

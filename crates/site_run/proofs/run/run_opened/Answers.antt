@@ -1,6 +1,6 @@
 use Rattle.std.proofs.Common.{◌≡◌, ◌+◌, ◌*◌, length, map, sym, ap, subst, arith}
 use Rattle.std.proofs.lemmas.List.{length-map}
-use Rattle.site_store.specs.Lent.{lend}
+use Rattle.site_store.specs.Records.{topology_lent}
 use Rattle.site_run.specs.Naming.{as_lent}
 use Rattle.site_run.specs.Asked.{IsRosterOf}
 use Rattle.site_run.specs.Laws.{KeepsItsRecord}
@@ -12,53 +12,44 @@ use Rattle.site_run.proofs.run.run_opened.Goals as goal
 
 pub run_built-requires-clause-disks : goal.run_built-requires-clause-disks
 run_built-requires-clause-disks g c κs within =
-    let d = c.args.disks in
-    fits_behind {D = g.row.S-Disk.Denot} d.offsets.items d.retries.items d.servers.items d.replicas.items d.epochs_a.items d.epochs_b.items d.outputs_a.items d.outputs_b.items c.args.config.now.joiners
-    (λ o. o.journal.disk) (λ r. r.journal.disk) (λ e. e.journal.disk) (λ v. v.journal.disk) (λ e. e.journal.disk) (λ o. o.journal.disk)
-    c.requires.offsets.0 c.requires.retries.0 c.requires.servers.0 c.requires.replicas.0 c.requires.epochs_a.0 c.requires.epochs_b.0 c.requires.outputs_a.0 c.requires.outputs_b.0
-    c.requires.joiners.1 _ c.in-Ok.ensures.held
+    fits_behind {D = g.row.S-Disk.Denot} c.args.opened.disks.items c.args.config.now.joiners c.requires.joiners.1 c.requires.named _ c.in-Ok.ensures.held
 
 pub returns-in-Ok-clause-idle : goal.returns-in-Ok-clause-idle
 returns-in-Ok-clause-idle g c tells none disk bytes now =
     let image = g.S.Disk.Disk.image in
     let inside = g.S.Store.image c.args.store.now in
-    let topology = lend {D = g.row.S-Disk.Denot} (λ t. t.journal.disk) c.args.disks.topology in
-    let same = ap (lend {D = g.row.S-Disk.Denot} (λ t. t.journal.disk)) c.in-Ok.ensures.topology in
+    let topology = topology_lent {D = g.row.S-Disk.Denot} c.args.opened.topology.journal.disk in
+    let same = ap (λ t. topology_lent {D = g.row.S-Disk.Denot} t.journal.disk) c.in-Ok.ensures.topology in
     may_behind image inside topology _ _ c.in-Ok.ensures.held disk bytes (may_same image inside _ _ _ disk bytes same (c.run_built.ensures.idle tells none disk bytes now))
 
 pub returns-in-Ok-clause-grown : goal.returns-in-Ok-clause-grown
-returns-in-Ok-clause-grown g c tells log_tells gg new clicks qa qb places s out =
+returns-in-Ok-clause-grown g c tells log_tells gg new clicks qa qb d records places s out =
     let image = g.S.Disk.Disk.image in
     let inside = g.S.Store.image c.args.store.now in
-    let topology = lend {D = g.row.S-Disk.Denot} (λ t. t.journal.disk) c.args.disks.topology in
-    let same = ap (lend {D = g.row.S-Disk.Denot} (λ t. t.journal.disk)) c.in-Ok.ensures.topology in
+    let topology = topology_lent {D = g.row.S-Disk.Denot} c.args.opened.topology.journal.disk in
+    let same = ap (λ t. topology_lent {D = g.row.S-Disk.Denot} t.journal.disk) c.in-Ok.ensures.topology in
     let roster : IsRosterOf gg c.args.config.now.joiners = record { joiners_are = new.joiners; replicas = new.replicas } in
-    c.run_built.ensures.grown tells log_tells gg _ s roster (c.in-Ok.ensures.places tells gg new clicks qa qb places)
+    c.run_built.ensures.grown tells log_tells gg _ s roster (c.in-Ok.ensures.places tells gg d new clicks qa qb records places)
     (out_same image (g.S.Store.image s) inside _ _ _ (sym same) (moved_out image (g.S.Store.image s) inside topology _ _ c.in-Ok.ensures.held out))
 
 pub returns-in-Ok-clause-left : goal.returns-in-Ok-clause-left
-returns-in-Ok-clause-left g c tells log_tells gg new clicks qa qb places d records kept =
+returns-in-Ok-clause-left g c tells log_tells gg new clicks qa qb d records places e same_records kept =
     let image = g.S.Disk.Disk.image in
-    let same = ap (lend {D = g.row.S-Disk.Denot} (λ t. t.journal.disk)) c.in-Ok.ensures.topology in
+    let same = ap (λ t. topology_lent {D = g.row.S-Disk.Denot} t.journal.disk) c.in-Ok.ensures.topology in
     let roster : IsRosterOf gg c.args.config.now.joiners = record { joiners_are = new.joiners; replicas = new.replicas } in
-    c.run_built.ensures.left tells log_tells gg _ d roster (c.in-Ok.ensures.places tells gg new clicks qa qb places) records (subst (λ t. KeepsItsRecord image gg t) (sym same) kept)
+    c.run_built.ensures.left tells log_tells gg _ e roster (c.in-Ok.ensures.places tells gg d new clicks qa qb records places) same_records (subst (λ t. KeepsItsRecord image gg t) (sym same) kept)
 
 pub returns-in-Ok-clause-rest : goal.returns-in-Ok-clause-rest
-returns-in-Ok-clause-rest g c tells log_tells gg new clicks qa qb places d records kept =
+returns-in-Ok-clause-rest g c tells log_tells gg new clicks qa qb d records places e same_records kept =
     let image = g.S.Disk.Disk.image in
-    let same = ap (lend {D = g.row.S-Disk.Denot} (λ t. t.journal.disk)) c.in-Ok.ensures.topology in
+    let same = ap (λ t. topology_lent {D = g.row.S-Disk.Denot} t.journal.disk) c.in-Ok.ensures.topology in
     let roster : IsRosterOf gg c.args.config.now.joiners = record { joiners_are = new.joiners; replicas = new.replicas } in
-    c.run_built.ensures.rest tells log_tells gg _ d roster (c.in-Ok.ensures.places tells gg new clicks qa qb places) records (subst (λ t. KeepsItsRecord image gg t) (sym same) kept)
+    c.run_built.ensures.rest tells log_tells gg _ e roster (c.in-Ok.ensures.places tells gg d new clicks qa qb records places) same_records (subst (λ t. KeepsItsRecord image gg t) (sym same) kept)
 
 pub give_parts-requires-after_bounds : goal.give_parts-requires-after_bounds
 give_parts-requires-after_bounds g c =
-    let d = c.args.disks in
-    let topology = lend {D = g.row.S-Disk.Denot} (λ t. t.journal.disk) d.topology in
     let back = c.in-Err.parts.disks.items in
-    let many : length (map as_lent back) ≡ 10 + 4 * c.args.config.now.joiners = room_for {D = g.row.S-Disk.Denot} d.offsets.items d.retries.items d.servers.items d.replicas.items d.epochs_a.items d.epochs_b.items d.outputs_a.items d.outputs_b.items c.args.config.now.joiners
-    (λ o. o.journal.disk) (λ r. r.journal.disk) (λ e. e.journal.disk) (λ v. v.journal.disk) (λ e. e.journal.disk) (λ o. o.journal.disk)
-    c.requires.offsets.0 c.requires.retries.0 c.requires.servers.0 c.requires.replicas.0 c.requires.epochs_a.0 c.requires.epochs_b.0 c.requires.outputs_a.0 c.requires.outputs_b.0
-    c.requires.joiners.1 topology (map as_lent back) c.in-Err.ensures.disks in
+    let many : length (map as_lent back) ≡ 10 + 4 * c.args.config.now.joiners = room_for {D = g.row.S-Disk.Denot} c.args.opened.disks.items c.args.config.now.joiners c.requires.joiners.1 c.requires.named _ (map as_lent back) c.in-Err.ensures.disks in
     omega (arith, many, length-map back as_lent, c.requires.places)
 
 pub returns-in-Err-clause-idle : goal.returns-in-Err-clause-idle
@@ -66,17 +57,17 @@ returns-in-Err-clause-idle g c tells none disk bytes now =
     may_moved g.S.Disk.Disk.image (g.S.Store.image c.args.store.now) _ _ c.in-Err.ensures.disks disk bytes (c.give_parts.ensures.left tells disk bytes now)
 
 pub returns-in-Err-clause-grown : goal.returns-in-Err-clause-grown
-returns-in-Err-clause-grown g c tells log_tells gg new clicks qa qb places s out disk bytes now =
+returns-in-Err-clause-grown g c tells log_tells gg new clicks qa qb d records places s out disk bytes now =
     let image = g.S.Disk.Disk.image in
     let inside = g.S.Store.image c.args.store.now in
     given_goes_on image (g.S.Store.image s) inside _ _ out disk bytes (may_moved image inside _ _ c.in-Err.ensures.disks disk bytes (c.give_parts.ensures.left tells disk bytes now))
 
 pub returns-in-Err-clause-left : goal.returns-in-Err-clause-left
-returns-in-Err-clause-left g c tells log_tells gg new clicks qa qb places d same kept = none_left (λ l. HasRun gg d l.air.history (g.S.Store.image c.give_parts.new.store)) _ c.requires.none
+returns-in-Err-clause-left g c tells log_tells gg new clicks qa qb d records places e same kept = none_left (λ l. HasRun gg e l.air.history (g.S.Store.image c.give_parts.new.store)) _ c.requires.none
 
 pub returns-in-Ok-clause-whole : goal.returns-in-Ok-clause-whole
-returns-in-Ok-clause-whole g c tells log_tells gg new clicks qa qb places kept =
+returns-in-Ok-clause-whole g c tells log_tells gg new clicks qa qb d records places kept =
     let image = g.S.Disk.Disk.image in
-    let same = ap (lend {D = g.row.S-Disk.Denot} (λ t. t.journal.disk)) c.in-Ok.ensures.topology in
+    let same = ap (λ t. topology_lent {D = g.row.S-Disk.Denot} t.journal.disk) c.in-Ok.ensures.topology in
     let roster : IsRosterOf gg c.args.config.now.joiners = record { joiners_are = new.joiners; replicas = new.replicas } in
-    c.run_built.ensures.whole tells log_tells gg _ roster (c.in-Ok.ensures.places tells gg new clicks qa qb places) (subst (λ t. KeepsItsRecord image gg t) (sym same) kept)
+    c.run_built.ensures.whole tells log_tells gg _ roster (c.in-Ok.ensures.places tells gg d new clicks qa qb records places) (subst (λ t. KeepsItsRecord image gg t) (sym same) kept)

@@ -1,6 +1,5 @@
 use Rattle.std.proofs.Common.{arith, Some, true, inl, [], ◌∷◌, refl, sym, ◌∙◌, subst}
 use Rattle.std.specs.Prelude.{IfErr}
-use Rattle.std.proofs.lemmas.List.{length-map}
 use Rattle.std.proofs.lemmas.Result.{IfErr-weaker}
 use Rattle.list_words.specs.Lists.{Mem}
 use Rattle.list_words.proofs.Lists.{mem_right}
@@ -8,27 +7,25 @@ use Rattle.topology_journal.specs.declared.topology.Topology.{Topology}
 use Rattle.dispatch_node.specs.Places.{IsLogOf}
 use Rattle.outside.specs.Faults.{Rose}
 use Rattle.photon_model.specs.Topology.{topology_of}
-use Rattle.site_store.specs.Lent.{lend}
-use Rattle.site_run.proofs.Lists.{mapped_length, taken_length}
 use Rattle.site_store.specs.Leaving.{IsAsked}
+use Rattle.site_store.specs.Records.{kept_all, topology_lent, values_of}
+use Rattle.site_store.proofs.Recorded.{records_of}
+use Rattle.site_store.proofs.Values.{names_kept}
 use Rattle.site_store.specs.Causes.{LeavesSomething}
 use Rattle.site_run.specs.Causes.{IsCounted, IsWelcomeWhere}
 use Rattle.site_run.specs.Refused.{IsCauseOf, IsOfRun}
 use Rattle.site_run.specs.Left.{RunLeft}
 use Rattle.site_run.proofs.Counting.{rose_before, some_rose}
 use Rattle.site_run.proofs.Opened.{count_opened}
-use Rattle.site_run.proofs.Entering.{built_disks, records_so, places_so, others_apart, out_so, keeps_so, still_sound}
+use Rattle.site_run.proofs.Entering.{records_so, places_so, all_apart, out_so, keeps_so, still_sound}
 use Rattle.site_run.proofs.Entered.{run_left, rest_left, rest_earlier, run_sound, none_left, counted_more, refusal_counted, refusal_welcome, last_of, put_back}
 use Rattle.site_run.proofs.Refusing.{on_ok_of, err_both, passed_so, refused_so, none_kept, cause_so, welcome_so, refusal_unnamed}
 use Rattle.site_run.proofs.run.run_over.Goals as goal
 
 pub run_opened-requires-clause-places : goal.run_opened-requires-clause-places
 run_opened-requires-clause-places g c κs within =
-    let d = c.in-Ok.disks in
-    let o = c.in-Ok.ensures in
-    let many = count_opened d.offsets.items d.retries.items d.servers.items d.replicas.items d.epochs_a.items d.epochs_b.items d.outputs_a.items d.outputs_b.items c.args.config.now.joiners
-    o.offsets.named o.retries.named o.servers.named o.replicas.named o.epochs_a.named o.epochs_b.named o.outputs_a.named o.outputs_b.named c.requires.joiners.1 in
-    omega (arith, many, o.places)
+    let many = count_opened c.in-Ok.opened.disks.items _ c.requires.joiners.1 c.in-Ok.ensures.named in
+    omega (arith, many, c.in-Ok.ensures.places)
 
 pub returns-in-Ok-clause-cause : goal.returns-in-Ok-clause-cause
 returns-in-Ok-clause-cause g c =
@@ -40,153 +37,123 @@ returns-in-Ok-clause-cause g c =
 
 pub returns-in-Ok-clause-sound : goal.returns-in-Ok-clause-sound
 returns-in-Ok-clause-sound g c tells log_tells gg checked is sound =
-    let d = c.in-Ok.disks in
+    let d = c.in-Ok.opened in
     let asked_of : Topology = record { joiners = c.args.config.now.joiners; table = c.args.config.now.table } in
     let o = c.in-Ok.ensures in
     let asked : IsAsked asked_of gg = record { joiners = is.numbers.joiners; table = is.numbers.table } in
-    let topology = lend {D = g.row.S-Disk.Denot} (λ t. t.journal.disk) d.topology in
-    let built = built_disks d.offsets.items d.retries.items d.servers.items d.replicas.items d.epochs_a.items d.epochs_b.items d.outputs_a.items d.outputs_b.items
-    (λ o. o.value.offset) (λ r. r.value.pending.keys) (λ e. e.value.epoch) (λ v. v.notes.items) (λ e. e.value.epoch) (λ o. o.value.pairs.items) in
-    let records = records_so d.offsets.items d.retries.items d.servers.items d.replicas.items d.epochs_a.items d.epochs_b.items d.outputs_a.items d.outputs_b.items
-    (λ o. o.value.offset) (λ r. r.value.pending.keys) (λ e. e.value.epoch) (λ v. v.notes.items) (λ e. e.value.epoch) (λ o. o.value.pairs.items) d.topology.journal.value.kept gg is.numbers.replicas
-    (taken_length _ _ _ _ o.epochs_a.named c.requires.joiners.1 ∙ sym is.numbers.joiners)
-    (taken_length _ _ _ _ o.outputs_a.named c.requires.joiners.1 ∙ sym is.numbers.joiners) in
+    let topology = topology_lent {D = g.row.S-Disk.Denot} d.topology.journal.disk in
+    let built = records_of gg (kept_all {D = g.row.S-Disk.Denot} d.disks.items) in
+    let records = records_so d.disks.items _ c.requires.joiners.1 o.named gg is.numbers.replicas is.numbers.joiners o.kept.1.kinds in
     let first = last_of (λ l. IsLogOf (g.F.Log.LogFile.bytes l) gg) c.args.logs.clicks.items c.take_last-read.new.logs.items c.take_last-read.result c.take_last-read.ensures.items is.clicks_are in
-    let places = places_so d.offsets.items d.retries.items d.servers.items d.replicas.items d.epochs_a.items d.epochs_b.items d.outputs_a.items d.outputs_b.items
-    (λ o. o.value.offset) (λ r. r.value.pending.keys) (λ e. e.value.epoch) (λ v. v.notes.items) (λ e. e.value.epoch) (λ o. o.value.pairs.items) _ _ _ gg o.passed.places log_tells first is.ends in
+    let places = places_so d.disks.items _ c.requires.joiners.1 o.named gg built records (o.kept.2.places log_tells gg first is.ends) in
     let clicks = put_back (λ l. IsLogOf (g.F.Log.LogFile.bytes l) gg) c.args.logs.clicks.items c.take_last-read.new.logs.items c.push_reserved.new.self.items c.take_last-read.result c.open_store.new.clicks c.take_last-read.ensures.items c.push_reserved.ensures.items
     (subst (λ b. IsLogOf b gg) (sym (o.same log_tells)) first) is.clicks_are in
     let out = out_so asked_of g.S.Disk.Disk.image (g.S.Store.image c.args.store.now) (g.S.Store.image c.open_store.new.store) topology _ (o.lent tells) in
-    let keeps = keeps_so asked_of g.S.Disk.Disk.image (g.S.Store.image c.args.store.now) (g.S.Store.image c.open_store.new.store) topology _ (o.lent tells) gg asked o.topology.0 in
-    let apart = others_apart {D = g.row.S-Disk.Denot} d.offsets.items d.retries.items d.servers.items d.replicas.items d.epochs_a.items d.epochs_b.items d.outputs_a.items d.outputs_b.items c.args.config.now.joiners
-    (λ o. o.journal.disk) (λ r. r.journal.disk) (λ e. e.journal.disk) (λ v. v.journal.disk) (λ e. e.journal.disk) (λ o. o.journal.disk)
-    o.offsets.named o.retries.named o.servers.named o.replicas.named o.epochs_a.named o.epochs_b.named o.outputs_a.named o.outputs_b.named in
+    let keeps = keeps_so asked_of g.S.Disk.Disk.image (g.S.Store.image c.args.store.now) (g.S.Store.image c.open_store.new.store) topology _ (o.lent tells) gg asked refl in
+    let apart = all_apart d.disks.items _ c.requires.joiners.1 o.named in
     let after = g.S.Store.image c.run_opened.new.store in
     let whole = o.whole tells gg built asked is.numbers.replicas sound records in
     run_sound c.run_opened.new.ran.log gg after (record { topology = Some (topology_of gg); disks = built; is_used = whole.0 }) checked whole.1 refl (c.run.ensures gg c.run_opened.new.store)
-    (λ none. still_sound asked_of g.S.Disk.Disk.image (g.S.Store.image c.args.store.now) (g.S.Store.image c.open_store.new.store) topology _ (o.lent tells) o.topology.0 apart after
+    (λ none. still_sound asked_of g.S.Disk.Disk.image (g.S.Store.image c.args.store.now) (g.S.Store.image c.open_store.new.store) topology _ (o.lent tells) refl apart after
     (λ disk bytes now. c.run_opened.ensures.idle tells none disk bytes now) gg asked (c.topology_first.ensures gg c.args.store.now c.run_opened.new.store) sound)
-    (c.run_opened.ensures.left tells log_tells gg is.numbers clicks is.queries_a_are is.queries_b_are places built (λ n among. refl) keeps)
+    (c.run_opened.ensures.left tells log_tells gg is.numbers clicks is.queries_a_are is.queries_b_are built records places built (λ n among. refl) keeps)
 
 pub returns-in-Ok-clause-grown : goal.returns-in-Ok-clause-grown
 returns-in-Ok-clause-grown g c tells log_tells gg is disk =
-    let d = c.in-Ok.disks in
+    let d = c.in-Ok.opened in
     let asked_of : Topology = record { joiners = c.args.config.now.joiners; table = c.args.config.now.table } in
     let o = c.in-Ok.ensures in
     let asked : IsAsked asked_of gg = record { joiners = is.numbers.joiners; table = is.numbers.table } in
-    let topology = lend {D = g.row.S-Disk.Denot} (λ t. t.journal.disk) d.topology in
-    let built = built_disks d.offsets.items d.retries.items d.servers.items d.replicas.items d.epochs_a.items d.epochs_b.items d.outputs_a.items d.outputs_b.items
-    (λ o. o.value.offset) (λ r. r.value.pending.keys) (λ e. e.value.epoch) (λ v. v.notes.items) (λ e. e.value.epoch) (λ o. o.value.pairs.items) in
-    let records = records_so d.offsets.items d.retries.items d.servers.items d.replicas.items d.epochs_a.items d.epochs_b.items d.outputs_a.items d.outputs_b.items
-    (λ o. o.value.offset) (λ r. r.value.pending.keys) (λ e. e.value.epoch) (λ v. v.notes.items) (λ e. e.value.epoch) (λ o. o.value.pairs.items) d.topology.journal.value.kept gg is.numbers.replicas
-    (taken_length _ _ _ _ o.epochs_a.named c.requires.joiners.1 ∙ sym is.numbers.joiners)
-    (taken_length _ _ _ _ o.outputs_a.named c.requires.joiners.1 ∙ sym is.numbers.joiners) in
+    let topology = topology_lent {D = g.row.S-Disk.Denot} d.topology.journal.disk in
+    let built = records_of gg (kept_all {D = g.row.S-Disk.Denot} d.disks.items) in
+    let records = records_so d.disks.items _ c.requires.joiners.1 o.named gg is.numbers.replicas is.numbers.joiners o.kept.1.kinds in
     let first = last_of (λ l. IsLogOf (g.F.Log.LogFile.bytes l) gg) c.args.logs.clicks.items c.take_last-read.new.logs.items c.take_last-read.result c.take_last-read.ensures.items is.clicks_are in
-    let places = places_so d.offsets.items d.retries.items d.servers.items d.replicas.items d.epochs_a.items d.epochs_b.items d.outputs_a.items d.outputs_b.items
-    (λ o. o.value.offset) (λ r. r.value.pending.keys) (λ e. e.value.epoch) (λ v. v.notes.items) (λ e. e.value.epoch) (λ o. o.value.pairs.items) _ _ _ gg o.passed.places log_tells first is.ends in
+    let places = places_so d.disks.items _ c.requires.joiners.1 o.named gg built records (o.kept.2.places log_tells gg first is.ends) in
     let clicks = put_back (λ l. IsLogOf (g.F.Log.LogFile.bytes l) gg) c.args.logs.clicks.items c.take_last-read.new.logs.items c.push_reserved.new.self.items c.take_last-read.result c.open_store.new.clicks c.take_last-read.ensures.items c.push_reserved.ensures.items
     (subst (λ b. IsLogOf b gg) (sym (o.same log_tells)) first) is.clicks_are in
     let out = out_so asked_of g.S.Disk.Disk.image (g.S.Store.image c.args.store.now) (g.S.Store.image c.open_store.new.store) topology _ (o.lent tells) in
-    let keeps = keeps_so asked_of g.S.Disk.Disk.image (g.S.Store.image c.args.store.now) (g.S.Store.image c.open_store.new.store) topology _ (o.lent tells) gg asked o.topology.0 in
-    c.run_opened.ensures.grown tells log_tells gg is.numbers clicks is.queries_a_are is.queries_b_are places c.args.store.now out disk
+    let keeps = keeps_so asked_of g.S.Disk.Disk.image (g.S.Store.image c.args.store.now) (g.S.Store.image c.open_store.new.store) topology _ (o.lent tells) gg asked refl in
+    c.run_opened.ensures.grown tells log_tells gg is.numbers clicks is.queries_a_are is.queries_b_are built records places c.args.store.now out disk
 
 pub returns-in-Ok-clause-left : goal.returns-in-Ok-clause-left
 returns-in-Ok-clause-left g c tells log_tells gg is =
-    let d = c.in-Ok.disks in
+    let d = c.in-Ok.opened in
     let asked_of : Topology = record { joiners = c.args.config.now.joiners; table = c.args.config.now.table } in
     let o = c.in-Ok.ensures in
     let asked : IsAsked asked_of gg = record { joiners = is.numbers.joiners; table = is.numbers.table } in
-    let topology = lend {D = g.row.S-Disk.Denot} (λ t. t.journal.disk) d.topology in
-    let built = built_disks d.offsets.items d.retries.items d.servers.items d.replicas.items d.epochs_a.items d.epochs_b.items d.outputs_a.items d.outputs_b.items
-    (λ o. o.value.offset) (λ r. r.value.pending.keys) (λ e. e.value.epoch) (λ v. v.notes.items) (λ e. e.value.epoch) (λ o. o.value.pairs.items) in
-    let records = records_so d.offsets.items d.retries.items d.servers.items d.replicas.items d.epochs_a.items d.epochs_b.items d.outputs_a.items d.outputs_b.items
-    (λ o. o.value.offset) (λ r. r.value.pending.keys) (λ e. e.value.epoch) (λ v. v.notes.items) (λ e. e.value.epoch) (λ o. o.value.pairs.items) d.topology.journal.value.kept gg is.numbers.replicas
-    (taken_length _ _ _ _ o.epochs_a.named c.requires.joiners.1 ∙ sym is.numbers.joiners)
-    (taken_length _ _ _ _ o.outputs_a.named c.requires.joiners.1 ∙ sym is.numbers.joiners) in
+    let topology = topology_lent {D = g.row.S-Disk.Denot} d.topology.journal.disk in
+    let built = records_of gg (kept_all {D = g.row.S-Disk.Denot} d.disks.items) in
+    let records = records_so d.disks.items _ c.requires.joiners.1 o.named gg is.numbers.replicas is.numbers.joiners o.kept.1.kinds in
     let first = last_of (λ l. IsLogOf (g.F.Log.LogFile.bytes l) gg) c.args.logs.clicks.items c.take_last-read.new.logs.items c.take_last-read.result c.take_last-read.ensures.items is.clicks_are in
-    let places = places_so d.offsets.items d.retries.items d.servers.items d.replicas.items d.epochs_a.items d.epochs_b.items d.outputs_a.items d.outputs_b.items
-    (λ o. o.value.offset) (λ r. r.value.pending.keys) (λ e. e.value.epoch) (λ v. v.notes.items) (λ e. e.value.epoch) (λ o. o.value.pairs.items) _ _ _ gg o.passed.places log_tells first is.ends in
+    let places = places_so d.disks.items _ c.requires.joiners.1 o.named gg built records (o.kept.2.places log_tells gg first is.ends) in
     let clicks = put_back (λ l. IsLogOf (g.F.Log.LogFile.bytes l) gg) c.args.logs.clicks.items c.take_last-read.new.logs.items c.push_reserved.new.self.items c.take_last-read.result c.open_store.new.clicks c.take_last-read.ensures.items c.push_reserved.ensures.items
     (subst (λ b. IsLogOf b gg) (sym (o.same log_tells)) first) is.clicks_are in
     let out = out_so asked_of g.S.Disk.Disk.image (g.S.Store.image c.args.store.now) (g.S.Store.image c.open_store.new.store) topology _ (o.lent tells) in
-    let keeps = keeps_so asked_of g.S.Disk.Disk.image (g.S.Store.image c.args.store.now) (g.S.Store.image c.open_store.new.store) topology _ (o.lent tells) gg asked o.topology.0 in
+    let keeps = keeps_so asked_of g.S.Disk.Disk.image (g.S.Store.image c.args.store.now) (g.S.Store.image c.open_store.new.store) topology _ (o.lent tells) gg asked refl in
     let kept = o.were_left tells gg built asked is.numbers.replicas records in
     run_left c.run_opened.new.ran.log gg (g.S.Store.image c.args.store.now) (g.S.Store.image c.run_opened.new.store) (record { topology = kept.0; disks = built; is_used = true }) kept.1
-    (λ d' same. c.run_opened.ensures.left tells log_tells gg is.numbers clicks is.queries_a_are is.queries_b_are places d' same keeps)
+    (λ d' same. c.run_opened.ensures.left tells log_tells gg is.numbers clicks is.queries_a_are is.queries_b_are built records places d' same keeps)
 
 pub returns-in-Ok-clause-rest : goal.returns-in-Ok-clause-rest
 returns-in-Ok-clause-rest g c tells log_tells gg is =
-    let d = c.in-Ok.disks in
+    let d = c.in-Ok.opened in
     let asked_of : Topology = record { joiners = c.args.config.now.joiners; table = c.args.config.now.table } in
     let o = c.in-Ok.ensures in
     let asked : IsAsked asked_of gg = record { joiners = is.numbers.joiners; table = is.numbers.table } in
-    let topology = lend {D = g.row.S-Disk.Denot} (λ t. t.journal.disk) d.topology in
-    let built = built_disks d.offsets.items d.retries.items d.servers.items d.replicas.items d.epochs_a.items d.epochs_b.items d.outputs_a.items d.outputs_b.items
-    (λ o. o.value.offset) (λ r. r.value.pending.keys) (λ e. e.value.epoch) (λ v. v.notes.items) (λ e. e.value.epoch) (λ o. o.value.pairs.items) in
-    let records = records_so d.offsets.items d.retries.items d.servers.items d.replicas.items d.epochs_a.items d.epochs_b.items d.outputs_a.items d.outputs_b.items
-    (λ o. o.value.offset) (λ r. r.value.pending.keys) (λ e. e.value.epoch) (λ v. v.notes.items) (λ e. e.value.epoch) (λ o. o.value.pairs.items) d.topology.journal.value.kept gg is.numbers.replicas
-    (taken_length _ _ _ _ o.epochs_a.named c.requires.joiners.1 ∙ sym is.numbers.joiners)
-    (taken_length _ _ _ _ o.outputs_a.named c.requires.joiners.1 ∙ sym is.numbers.joiners) in
+    let topology = topology_lent {D = g.row.S-Disk.Denot} d.topology.journal.disk in
+    let built = records_of gg (kept_all {D = g.row.S-Disk.Denot} d.disks.items) in
+    let records = records_so d.disks.items _ c.requires.joiners.1 o.named gg is.numbers.replicas is.numbers.joiners o.kept.1.kinds in
     let first = last_of (λ l. IsLogOf (g.F.Log.LogFile.bytes l) gg) c.args.logs.clicks.items c.take_last-read.new.logs.items c.take_last-read.result c.take_last-read.ensures.items is.clicks_are in
-    let places = places_so d.offsets.items d.retries.items d.servers.items d.replicas.items d.epochs_a.items d.epochs_b.items d.outputs_a.items d.outputs_b.items
-    (λ o. o.value.offset) (λ r. r.value.pending.keys) (λ e. e.value.epoch) (λ v. v.notes.items) (λ e. e.value.epoch) (λ o. o.value.pairs.items) _ _ _ gg o.passed.places log_tells first is.ends in
+    let places = places_so d.disks.items _ c.requires.joiners.1 o.named gg built records (o.kept.2.places log_tells gg first is.ends) in
     let clicks = put_back (λ l. IsLogOf (g.F.Log.LogFile.bytes l) gg) c.args.logs.clicks.items c.take_last-read.new.logs.items c.push_reserved.new.self.items c.take_last-read.result c.open_store.new.clicks c.take_last-read.ensures.items c.push_reserved.ensures.items
     (subst (λ b. IsLogOf b gg) (sym (o.same log_tells)) first) is.clicks_are in
     let out = out_so asked_of g.S.Disk.Disk.image (g.S.Store.image c.args.store.now) (g.S.Store.image c.open_store.new.store) topology _ (o.lent tells) in
-    let keeps = keeps_so asked_of g.S.Disk.Disk.image (g.S.Store.image c.args.store.now) (g.S.Store.image c.open_store.new.store) topology _ (o.lent tells) gg asked o.topology.0 in
+    let keeps = keeps_so asked_of g.S.Disk.Disk.image (g.S.Store.image c.args.store.now) (g.S.Store.image c.open_store.new.store) topology _ (o.lent tells) gg asked refl in
     let kept = o.were_left tells gg built asked is.numbers.replicas records in
     rest_earlier gg (g.S.Store.image c.args.store.now) (g.S.Store.image c.args.store.now) (g.S.Store.image c.run_opened.new.store) (λ disk b now. now) c.run_opened.result c.run_opened.new.ran.log _ _
     (λ rose. rose_before (g.S.Store.faults c.args.store.now) (g.S.Store.faults c.open_store.new.store) (g.S.Store.faults c.run_opened.new.store) o.count rose)
     (rest_left c.run_opened.result c.run_opened.new.ran.log gg (g.S.Store.image c.args.store.now) (g.S.Store.image c.run_opened.new.store) (record { topology = kept.0; disks = built; is_used = true })
     (Rose (g.S.Store.faults c.open_store.new.store) (g.S.Store.faults c.run_opened.new.store)) kept.1
-    (λ d' same. c.run_opened.ensures.rest tells log_tells gg is.numbers clicks is.queries_a_are is.queries_b_are places d' same keeps))
+    (λ d' same. c.run_opened.ensures.rest tells log_tells gg is.numbers clicks is.queries_a_are is.queries_b_are built records places d' same keeps))
 
 pub returns-in-Ok-clause-welcome : goal.returns-in-Ok-clause-welcome
 returns-in-Ok-clause-welcome g c tells log_tells gg is sound =
-    let d = c.in-Ok.disks in
+    let d = c.in-Ok.opened in
     let asked_of : Topology = record { joiners = c.args.config.now.joiners; table = c.args.config.now.table } in
     let o = c.in-Ok.ensures in
     let asked : IsAsked asked_of gg = record { joiners = is.numbers.joiners; table = is.numbers.table } in
-    let topology = lend {D = g.row.S-Disk.Denot} (λ t. t.journal.disk) d.topology in
-    let built = built_disks d.offsets.items d.retries.items d.servers.items d.replicas.items d.epochs_a.items d.epochs_b.items d.outputs_a.items d.outputs_b.items
-    (λ o. o.value.offset) (λ r. r.value.pending.keys) (λ e. e.value.epoch) (λ v. v.notes.items) (λ e. e.value.epoch) (λ o. o.value.pairs.items) in
+    let topology = topology_lent {D = g.row.S-Disk.Denot} d.topology.journal.disk in
+    let built = records_of gg (kept_all {D = g.row.S-Disk.Denot} d.disks.items) in
+    let records = records_so d.disks.items _ c.requires.joiners.1 o.named gg is.numbers.replicas is.numbers.joiners o.kept.1.kinds in
     let first = last_of (λ l. IsLogOf (g.F.Log.LogFile.bytes l) gg) c.args.logs.clicks.items c.take_last-read.new.logs.items c.take_last-read.result c.take_last-read.ensures.items is.clicks_are in
-    let places = places_so d.offsets.items d.retries.items d.servers.items d.replicas.items d.epochs_a.items d.epochs_b.items d.outputs_a.items d.outputs_b.items
-    (λ o. o.value.offset) (λ r. r.value.pending.keys) (λ e. e.value.epoch) (λ v. v.notes.items) (λ e. e.value.epoch) (λ o. o.value.pairs.items) _ _ _ gg o.passed.places log_tells first is.ends in
+    let places = places_so d.disks.items _ c.requires.joiners.1 o.named gg built records (o.kept.2.places log_tells gg first is.ends) in
     let clicks = put_back (λ l. IsLogOf (g.F.Log.LogFile.bytes l) gg) c.args.logs.clicks.items c.take_last-read.new.logs.items c.push_reserved.new.self.items c.take_last-read.result c.open_store.new.clicks c.take_last-read.ensures.items c.push_reserved.ensures.items
     (subst (λ b. IsLogOf b gg) (sym (o.same log_tells)) first) is.clicks_are in
-    let keeps = keeps_so asked_of g.S.Disk.Disk.image (g.S.Store.image c.args.store.now) (g.S.Store.image c.open_store.new.store) topology _ (o.lent tells) gg asked o.topology.0 in
+    let keeps = keeps_so asked_of g.S.Disk.Disk.image (g.S.Store.image c.args.store.now) (g.S.Store.image c.open_store.new.store) topology _ (o.lent tells) gg asked refl in
     let from_there = Rose (g.S.Store.faults c.open_store.new.store) (g.S.Store.faults c.run_opened.new.store) in
-    let whole : IfErr c.run_opened.result (IsOfRun gg built from_there) = c.run_opened.ensures.whole tells log_tells gg is.numbers clicks is.queries_a_are is.queries_b_are places keeps in
+    let whole : IfErr c.run_opened.result (IsOfRun gg built from_there) = c.run_opened.ensures.whole tells log_tells gg is.numbers clicks is.queries_a_are is.queries_b_are built records places keeps in
     IfErr-weaker c.run_opened.result _ _ (λ f of. welcome_so gg built from_there _ f of) whole
 
 pub returns-in-Ok-clause-refused : goal.returns-in-Ok-clause-refused
 returns-in-Ok-clause-refused g c tells log_tells gg is =
-    let d = c.in-Ok.disks in
+    let d = c.in-Ok.opened in
     let asked_of : Topology = record { joiners = c.args.config.now.joiners; table = c.args.config.now.table } in
     let o = c.in-Ok.ensures in
     let asked : IsAsked asked_of gg = record { joiners = is.numbers.joiners; table = is.numbers.table } in
-    let topology = lend {D = g.row.S-Disk.Denot} (λ t. t.journal.disk) d.topology in
-    let built = built_disks d.offsets.items d.retries.items d.servers.items d.replicas.items d.epochs_a.items d.epochs_b.items d.outputs_a.items d.outputs_b.items
-    (λ o. o.value.offset) (λ r. r.value.pending.keys) (λ e. e.value.epoch) (λ v. v.notes.items) (λ e. e.value.epoch) (λ o. o.value.pairs.items) in
+    let topology = topology_lent {D = g.row.S-Disk.Denot} d.topology.journal.disk in
+    let built = records_of gg (kept_all {D = g.row.S-Disk.Denot} d.disks.items) in
+    let records = records_so d.disks.items _ c.requires.joiners.1 o.named gg is.numbers.replicas is.numbers.joiners o.kept.1.kinds in
     let first = last_of (λ l. IsLogOf (g.F.Log.LogFile.bytes l) gg) c.args.logs.clicks.items c.take_last-read.new.logs.items c.take_last-read.result c.take_last-read.ensures.items is.clicks_are in
-    let places = places_so d.offsets.items d.retries.items d.servers.items d.replicas.items d.epochs_a.items d.epochs_b.items d.outputs_a.items d.outputs_b.items
-    (λ o. o.value.offset) (λ r. r.value.pending.keys) (λ e. e.value.epoch) (λ v. v.notes.items) (λ e. e.value.epoch) (λ o. o.value.pairs.items) _ _ _ gg o.passed.places log_tells first is.ends in
+    let places = places_so d.disks.items _ c.requires.joiners.1 o.named gg built records (o.kept.2.places log_tells gg first is.ends) in
     let clicks = put_back (λ l. IsLogOf (g.F.Log.LogFile.bytes l) gg) c.args.logs.clicks.items c.take_last-read.new.logs.items c.push_reserved.new.self.items c.take_last-read.result c.open_store.new.clicks c.take_last-read.ensures.items c.push_reserved.ensures.items
     (subst (λ b. IsLogOf b gg) (sym (o.same log_tells)) first) is.clicks_are in
-    let keeps = keeps_so asked_of g.S.Disk.Disk.image (g.S.Store.image c.args.store.now) (g.S.Store.image c.open_store.new.store) topology _ (o.lent tells) gg asked o.topology.0 in
+    let keeps = keeps_so asked_of g.S.Disk.Disk.image (g.S.Store.image c.args.store.now) (g.S.Store.image c.open_store.new.store) topology _ (o.lent tells) gg asked refl in
     let from_there = Rose (g.S.Store.faults c.open_store.new.store) (g.S.Store.faults c.run_opened.new.store) in
-    let whole : IfErr c.run_opened.result (IsOfRun gg built from_there) = c.run_opened.ensures.whole tells log_tells gg is.numbers clicks is.queries_a_are is.queries_b_are places keeps in
+    let whole : IfErr c.run_opened.result (IsOfRun gg built from_there) = c.run_opened.ensures.whole tells log_tells gg is.numbers clicks is.queries_a_are is.queries_b_are built records places keeps in
     let logs_rose = Rose (g.F.Source.faults c.args.files.now) (g.F.Source.faults c.run_opened.new.files) in
     let disks_rose = Rose (g.S.Store.faults c.args.store.now) (g.S.Store.faults c.run_opened.new.store) in
     let later : from_there → disks_rose = λ rose. rose_before (g.S.Store.faults c.args.store.now) (g.S.Store.faults c.open_store.new.store) (g.S.Store.faults c.run_opened.new.store) o.count rose in
-    let records = records_so d.offsets.items d.retries.items d.servers.items d.replicas.items d.epochs_a.items d.epochs_b.items d.outputs_a.items d.outputs_b.items
-    (λ o. o.value.offset) (λ r. r.value.pending.keys) (λ e. e.value.epoch) (λ v. v.notes.items) (λ e. e.value.epoch) (λ o. o.value.pairs.items) d.topology.journal.value.kept gg is.numbers.replicas
-    (taken_length _ _ _ _ o.epochs_a.named c.requires.joiners.1 ∙ sym is.numbers.joiners)
-    (taken_length _ _ _ _ o.outputs_a.named c.requires.joiners.1 ∙ sym is.numbers.joiners) in
-    let none = none_kept gg _ o.passed.limits built records (length-map d.servers.items _ ∙ mapped_length _ _ _ o.servers.named)
-    (length-map d.epochs_a.items _ ∙ taken_length _ _ _ _ o.epochs_a.named c.requires.joiners.1 ∙ sym is.numbers.joiners)
-    (length-map d.epochs_b.items _ ∙ taken_length _ _ _ _ o.epochs_b.named c.requires.joiners.1 ∙ sym is.numbers.joiners) in
+    let none = none_kept gg (kept_all {D = g.row.S-Disk.Denot} d.disks.items) o.kept.2.limits built records _ c.requires.joiners.1 is.numbers.replicas is.numbers.joiners (names_kept d.disks.items ∙ o.named) in
     err_both (IsCounted logs_rose from_there) (IsOfRun gg built from_there) (IsCauseOf gg (g.S.Store.image c.args.store.now) logs_rose disks_rose) c.run_opened.result (IfErr-weaker c.run_opened.result _ _ (λ f is. counted_more f logs_rose from_there logs_rose from_there (λ rose. rose) (λ rose. rose) is) c.run_opened.ensures.cause) whole
     (λ f counted of. cause_so gg (g.S.Store.image c.args.store.now) built logs_rose disks_rose from_there f none later (counted_more f logs_rose from_there logs_rose disks_rose (λ rose. rose) later counted) of)
 
@@ -197,7 +164,7 @@ returns-in-Ok-clause-passed g c tells log_tells gg is =
     let asked : IsAsked asked_of gg = record { joiners = is.numbers.joiners; table = is.numbers.table } in
     let first = last_of (λ l. IsLogOf (g.F.Log.LogFile.bytes l) gg) c.args.logs.clicks.items c.take_last-read.new.logs.items c.take_last-read.result c.take_last-read.ensures.items is.clicks_are in
     let kept = o.kept in
-    on_ok_of c.run_opened.result (passed_so gg (g.S.Store.image c.args.store.now) asked_of asked g.S.Disk.Disk.tells g.F.Log.LogFile.tells tells log_tells (g.F.Log.LogFile.bytes c.take_last-read.result) c.args.end first is.ends kept.0 kept.1 kept.2)
+    on_ok_of c.run_opened.result (passed_so gg (g.S.Store.image c.args.store.now) asked_of asked g.S.Disk.Disk.tells g.F.Log.LogFile.tells tells log_tells (g.F.Log.LogFile.bytes c.take_last-read.result) c.args.end first is.ends (values_of {D = g.row.S-Disk.Denot} kept.0 c.in-Ok.opened.disks.items) kept.1 kept.2)
 
 pub returns-in-Err-clause-refused : goal.returns-in-Err-clause-refused
 returns-in-Err-clause-refused g c tells log_tells gg is =
@@ -226,7 +193,7 @@ pub returns-in-Err-clause-cause : goal.returns-in-Err-clause-cause
 returns-in-Err-clause-cause g c =
     let logs_rose = Rose (g.F.Source.faults c.args.files.now) (g.F.Source.faults c.shut_logs.new.files) in
     let disks_rose = Rose (g.S.Store.faults c.args.store.now) (g.S.Store.faults c.open_store.new.store) in
-    subst (λ f. IsCounted logs_rose disks_rose f) (sym c.fault_of_refusal.ensures) (refusal_counted c.in-Err.refusal _ _ _ _ _ _ _ _ _ logs_rose disks_rose c.in-Err.ensures.rose (λ rose. rose) c.in-Err.ensures.cause
+    subst (λ f. IsCounted logs_rose disks_rose f) (sym c.fault_of_refusal.ensures) (refusal_counted c.in-Err.refusal g.F.Log.LogFile.tells (g.F.Log.LogFile.bytes c.take_last-read.result) c.args.end (g.F.Log.LogFile.faults c.take_last-read.result) (g.F.Log.LogFile.faults c.open_store.new.clicks) _ _ (Some (record { joiners = c.args.config.now.joiners; table = c.args.config.now.table })) _ logs_rose disks_rose c.in-Err.ensures.rose (λ rose. rose) c.in-Err.ensures.cause
     (λ rose. c.shut_logs.ensures.clicks c.open_store.new.clicks (subst (Mem c.open_store.new.clicks) (sym c.push_reserved-in-Err.ensures.items) (mem_right c.open_store.new.clicks c.take_last-read.new.logs.items (c.open_store.new.clicks ∷ []) (inl refl))) (some_rose _ _ rose)))
 
 pub returns-in-Err-clause-welcome : goal.returns-in-Err-clause-welcome

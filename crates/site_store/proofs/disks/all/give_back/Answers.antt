@@ -1,23 +1,12 @@
-use Rattle.std.proofs.Common.{[], ◌∷◌, inl, subst}
+use Rattle.std.proofs.Common.{subst}
 use Rattle.outside.specs.Disk.{Within}
-use Rattle.site_store.specs.Lent.{lend}
-use Rattle.site_store.proofs.Lending.{given}
+use Rattle.outside.specs.declared.store.DiskName.TheVariants as name
+use Rattle.site_store.proofs.Lending.{given_first}
 use Rattle.site_store.proofs.disks.all.give_back.Goals as goal
 
 pub returns-clause-left : goal.returns-clause-left
-returns-clause-left g c tells name bytes now =
+returns-clause-left g c tells =
     let image = g.S.Store.image in
     let left = g.S.Disk.Disk.image in
-    let topology = c.args.disks.topology in
-    let first = lend {D = g.row.S-Disk.Denot} (λ t. t.journal.disk) topology in
-    let images = subst (λ (d : g.row.S-Disk.Denot). Within (left d) (image c.give.new.self topology.name)) c.into_disk.ensures (c.give.ensures.images tells) in
-    let so = given left (image c.give_each-8.new.store) (image c.give.new.self) [] first images (c.give.ensures.others tells) name bytes (inl (tt, now)) in
-    c.give_each.ensures.left tells _ name bytes (
-    c.give_each-2.ensures.left tells _ name bytes (
-    c.give_each-3.ensures.left tells _ name bytes (
-    c.give_each-4.ensures.left tells _ name bytes (
-    c.give_each-5.ensures.left tells _ name bytes (c.give_each-6.ensures.left tells _ name bytes (c.give_each-7.ensures.left tells _ name bytes (c.give_each-8.ensures.left tells (first ∷ []) name bytes so)))
-    )
-    )
-    )
-    )
+    let images = subst (λ d. Within (left d) (image c.give.new.self name.Topology)) c.into_disk.ensures (c.give.ensures.images tells) in
+    given_first left (image c.args.store.now) (image c.give_each.new.store) (image c.give.new.self) _ _ (c.give_each.ensures.left tells) images (c.give.ensures.others tells)

@@ -1,97 +1,65 @@
-use Rattle.std.proofs.Common.{◌≡◌, ◌∙◌, ℕ, inl, inr, refl, sym, ap, subst, IsTrue}
+use Rattle.std.proofs.Common.{inr, ap, sym, ◌∙◌, subst, arith}
 use Rattle.outside.specs.declared.store.DiskName.TheVariants as name
-use Rattle.site_store.specs.Kinds.{joiners_kept}
-use Rattle.site_store.specs.Lent.{lend}
+use Rattle.gate_journal.specs.Images.{StaysAs, IsKeptIn}
+use Rattle.site_store.specs.Records.{IsOfKind, IsKept, KeepsAs}
 use Rattle.site_store.specs.Refusals.{IsOfFirst, other_names}
-use Rattle.site_store.proofs.Lending.{first_stage, stays_as, handed_on}
+use Rattle.site_store.proofs.Faults.{rose_on}
+use Rattle.site_store.proofs.Lending.{first_lent, lacks_by_names}
+use Rattle.site_store.proofs.Names.{not_topology}
+use Rattle.site_store.proofs.Taking.{kept_before, back_again, first_before, damaged_before}
+use Rattle.site_store.proofs.Values.{names_kept, each_kept}
 use Rattle.site_store.proofs.disks.all.open_disks.Goals as goal
 
-pub returns-in-Ok-clause-offsets : goal.returns-in-Ok-clause-offsets
-returns-in-Ok-clause-offsets g c =
-    let first = λ (tells : IsTrue g.S.Disk.Disk.tells). first_stage g.S.Disk.Disk.image (g.S.Store.image c.args.store.now) (g.S.Store.image c.open_one.new.store)
-    (lend {D = g.row.S-Disk.Denot} (λ t. t.journal.disk) c.in_ok-topology.topology) name.Topology c.in_ok-topology.ensures.name refl (c.in_ok-topology.ensures.stays tells) (c.in_ok-topology.ensures.others tells) in
-    c.in-Ok.ensures.offsets c.args.store.now first
-
-pub returns-in-Ok-clause-retries : goal.returns-in-Ok-clause-retries
-returns-in-Ok-clause-retries g c =
-    let first = λ (tells : IsTrue g.S.Disk.Disk.tells). first_stage g.S.Disk.Disk.image (g.S.Store.image c.args.store.now) (g.S.Store.image c.open_one.new.store)
-    (lend {D = g.row.S-Disk.Denot} (λ t. t.journal.disk) c.in_ok-topology.topology) name.Topology c.in_ok-topology.ensures.name refl (c.in_ok-topology.ensures.stays tells) (c.in_ok-topology.ensures.others tells) in
-    c.in-Ok.ensures.retries c.args.store.now first
-
-pub returns-in-Ok-clause-servers : goal.returns-in-Ok-clause-servers
-returns-in-Ok-clause-servers g c =
-    let first = λ (tells : IsTrue g.S.Disk.Disk.tells). first_stage g.S.Disk.Disk.image (g.S.Store.image c.args.store.now) (g.S.Store.image c.open_one.new.store)
-    (lend {D = g.row.S-Disk.Denot} (λ t. t.journal.disk) c.in_ok-topology.topology) name.Topology c.in_ok-topology.ensures.name refl (c.in_ok-topology.ensures.stays tells) (c.in_ok-topology.ensures.others tells) in
-    c.in-Ok.ensures.servers c.args.store.now first
-
-pub returns-in-Ok-clause-replicas : goal.returns-in-Ok-clause-replicas
-returns-in-Ok-clause-replicas g c =
-    let first = λ (tells : IsTrue g.S.Disk.Disk.tells). first_stage g.S.Disk.Disk.image (g.S.Store.image c.args.store.now) (g.S.Store.image c.open_one.new.store)
-    (lend {D = g.row.S-Disk.Denot} (λ t. t.journal.disk) c.in_ok-topology.topology) name.Topology c.in_ok-topology.ensures.name refl (c.in_ok-topology.ensures.stays tells) (c.in_ok-topology.ensures.others tells) in
-    c.in-Ok.ensures.replicas c.args.store.now first
-
-pub returns-in-Ok-clause-epochs_a : goal.returns-in-Ok-clause-epochs_a
-returns-in-Ok-clause-epochs_a g c =
-    let first = λ (tells : IsTrue g.S.Disk.Disk.tells). first_stage g.S.Disk.Disk.image (g.S.Store.image c.args.store.now) (g.S.Store.image c.open_one.new.store)
-    (lend {D = g.row.S-Disk.Denot} (λ t. t.journal.disk) c.in_ok-topology.topology) name.Topology c.in_ok-topology.ensures.name refl (c.in_ok-topology.ensures.stays tells) (c.in_ok-topology.ensures.others tells) in
-    let number : c.joiners_of-joiners.result ≡ joiners_kept c.open_rest.new.disks.topology.journal.value.kept c.args.asked =
-    c.joiners_of-joiners.ensures.number ∙ ap (λ t. joiners_kept t.journal.value.kept c.args.asked) (sym c.in-Ok.ensures.topology) in
-    rw number at (c.in-Ok.ensures.epochs_a c.args.store.now first)
-
-pub returns-in-Ok-clause-epochs_b : goal.returns-in-Ok-clause-epochs_b
-returns-in-Ok-clause-epochs_b g c =
-    let first = λ (tells : IsTrue g.S.Disk.Disk.tells). first_stage g.S.Disk.Disk.image (g.S.Store.image c.args.store.now) (g.S.Store.image c.open_one.new.store)
-    (lend {D = g.row.S-Disk.Denot} (λ t. t.journal.disk) c.in_ok-topology.topology) name.Topology c.in_ok-topology.ensures.name refl (c.in_ok-topology.ensures.stays tells) (c.in_ok-topology.ensures.others tells) in
-    let number : c.joiners_of-joiners.result ≡ joiners_kept c.open_rest.new.disks.topology.journal.value.kept c.args.asked =
-    c.joiners_of-joiners.ensures.number ∙ ap (λ t. joiners_kept t.journal.value.kept c.args.asked) (sym c.in-Ok.ensures.topology) in
-    rw number at (c.in-Ok.ensures.epochs_b c.args.store.now first)
-
-pub returns-in-Ok-clause-outputs_a : goal.returns-in-Ok-clause-outputs_a
-returns-in-Ok-clause-outputs_a g c =
-    let first = λ (tells : IsTrue g.S.Disk.Disk.tells). first_stage g.S.Disk.Disk.image (g.S.Store.image c.args.store.now) (g.S.Store.image c.open_one.new.store)
-    (lend {D = g.row.S-Disk.Denot} (λ t. t.journal.disk) c.in_ok-topology.topology) name.Topology c.in_ok-topology.ensures.name refl (c.in_ok-topology.ensures.stays tells) (c.in_ok-topology.ensures.others tells) in
-    let number : c.joiners_of-joiners.result ≡ joiners_kept c.open_rest.new.disks.topology.journal.value.kept c.args.asked =
-    c.joiners_of-joiners.ensures.number ∙ ap (λ t. joiners_kept t.journal.value.kept c.args.asked) (sym c.in-Ok.ensures.topology) in
-    rw number at (c.in-Ok.ensures.outputs_a c.args.store.now first)
-
-pub returns-in-Ok-clause-outputs_b : goal.returns-in-Ok-clause-outputs_b
-returns-in-Ok-clause-outputs_b g c =
-    let first = λ (tells : IsTrue g.S.Disk.Disk.tells). first_stage g.S.Disk.Disk.image (g.S.Store.image c.args.store.now) (g.S.Store.image c.open_one.new.store)
-    (lend {D = g.row.S-Disk.Denot} (λ t. t.journal.disk) c.in_ok-topology.topology) name.Topology c.in_ok-topology.ensures.name refl (c.in_ok-topology.ensures.stays tells) (c.in_ok-topology.ensures.others tells) in
-    let number : c.joiners_of-joiners.result ≡ joiners_kept c.open_rest.new.disks.topology.journal.value.kept c.args.asked =
-    c.joiners_of-joiners.ensures.number ∙ ap (λ t. joiners_kept t.journal.value.kept c.args.asked) (sym c.in-Ok.ensures.topology) in
-    rw number at (c.in-Ok.ensures.outputs_b c.args.store.now first)
+pub returns-in-Ok-clause-kept : goal.returns-in-Ok-clause-kept
+returns-in-Ok-clause-kept g c =
+    let before = g.S.Store.image c.args.store.now in
+    let mid = g.S.Store.image c.open_one.new.store in
+    let all = c.in-Ok.disks.items in
+    let few = c.joiners_of.ensures.few in
+    let away = lacks_by_names name.Topology all _ c.in-Ok.ensures.named (not_topology _ few) in
+    record {
+      topology = λ sure. subst (λ k. IsKeptIn (before name.Topology) (KeepsAs k)) c.into_topology-topology.ensures.kept (c.in_ok-open_one.ensures.kept sure);
+      named = names_kept all ∙ c.in-Ok.ensures.named ∙ ap other_names c.joiners_of.ensures.number;
+      kinds = each_kept (λ d. IsOfKind d.name d.kept) all c.in-Ok.ensures.kinds;
+      kept = λ sure. each_kept (IsKept before) all (kept_before before mid name.Topology (c.in_ok-open_one.ensures.others sure) all away (c.in-Ok.ensures.kept sure));
+    }
 
 pub returns-in-Ok-clause-lent : goal.returns-in-Ok-clause-lent
 returns-in-Ok-clause-lent g c tells =
-    let first = λ (tells : IsTrue g.S.Disk.Disk.tells). first_stage g.S.Disk.Disk.image (g.S.Store.image c.args.store.now) (g.S.Store.image c.open_one.new.store)
-    (lend {D = g.row.S-Disk.Denot} (λ t. t.journal.disk) c.in_ok-topology.topology) name.Topology c.in_ok-topology.ensures.name refl (c.in_ok-topology.ensures.stays tells) (c.in_ok-topology.ensures.others tells) in
-    c.in-Ok.ensures.lent tells c.args.store.now (first tells)
+    let image = g.S.Store.image in
+    let left = g.S.Disk.Disk.image in
+    let before = image c.args.store.now in
+    let away = lacks_by_names name.Topology c.in-Ok.disks.items _ c.in-Ok.ensures.named (not_topology _ c.joiners_of.ensures.few) in
+    let stays = subst (λ d. StaysAs (before name.Topology) (left d)) c.into_topology-topology.ensures.disk (c.in_ok-open_one.ensures.stays tells) in
+    first_lent left before (image c.open_one.new.store) (image c.open_others.new.store) _ _ stays (c.in_ok-open_one.ensures.others tells) (c.in-Ok.ensures.lent tells) away
 
 pub returns-in-Err-clause-back : goal.returns-in-Err-clause-back
 returns-in-Err-clause-back g c tells =
-    let first = λ (tells : IsTrue g.S.Disk.Disk.tells). first_stage g.S.Disk.Disk.image (g.S.Store.image c.args.store.now) (g.S.Store.image c.open_one.new.store)
-    (lend {D = g.row.S-Disk.Denot} (λ t. t.journal.disk) c.in_ok-topology.topology) name.Topology c.in_ok-topology.ensures.name refl (c.in_ok-topology.ensures.stays tells) (c.in_ok-topology.ensures.others tells) in
     let image = g.S.Store.image in
-    stays_as g.S.Disk.Disk.image (image c.args.store.now) (image c.open_rest.new.store) (image c.give_back.new.store) _ (c.in-Err.ensures.cut tells c.args.store.now (first tells)) (c.give_back.ensures.left tells)
-
-pub returns-in-Err-clause-damaged : goal.returns-in-Err-clause-damaged
-returns-in-Err-clause-damaged g c tells =
-    let first = λ (tells : IsTrue g.S.Disk.Disk.tells). first_stage g.S.Disk.Disk.image (g.S.Store.image c.args.store.now) (g.S.Store.image c.open_one.new.store)
-    (lend {D = g.row.S-Disk.Denot} (λ t. t.journal.disk) c.in_ok-topology.topology) name.Topology c.in_ok-topology.ensures.name refl (c.in_ok-topology.ensures.stays tells) (c.in_ok-topology.ensures.others tells) in
-    c.in-Err.ensures.damaged tells c.args.store.now (first tells)
-
-pub returns-in_err-topology-clause-first : goal.returns-in_err-topology-clause-first
-returns-in_err-topology-clause-first g c =
-    handed_on c.from_residual.result c.in_err-topology.field-0.0 _ c.from_residual.ensures.1 (inl c.in_err-topology.ensures.of)
+    let left = g.S.Disk.Disk.image in
+    let before = image c.args.store.now in
+    let stays = subst (λ d. StaysAs (before name.Topology) (left d)) (c.into_topology-topology.ensures.disk ∙ sym c.into_disk.ensures) (c.in_ok-open_one.ensures.stays tells) in
+    back_again before (image c.open_one.new.store) name.Topology (c.in_ok-open_one.ensures.others tells) (image c.open_others.new.store) (image c.give.new.self) _ stays (c.in-Err.ensures.back tells)
+    (c.give.ensures.images tells) (c.give.ensures.others tells)
 
 pub returns-in-Err-clause-first : goal.returns-in-Err-clause-first
 returns-in-Err-clause-first g c =
-    let first = λ (tells : IsTrue g.S.Disk.Disk.tells). first_stage g.S.Disk.Disk.image (g.S.Store.image c.args.store.now) (g.S.Store.image c.open_one.new.store)
-    (lend {D = g.row.S-Disk.Denot} (λ t. t.journal.disk) c.in_ok-topology.topology) name.Topology c.in_ok-topology.ensures.name refl (c.in_ok-topology.ensures.stays tells) (c.in_ok-topology.ensures.others tells) in
-    let of_others = c.in-Err.ensures.first c.args.store.now first in
+    let tells = g.S.Disk.Disk.tells in
+    let before = g.S.Store.image c.args.store.now in
+    let kept = c.into_topology-topology.result.kept in
+    let first = first_before tells before (g.S.Store.image c.open_one.new.store) name.Topology c.in_ok-open_one.ensures.others _ c.in-Err.fault (not_topology _ c.joiners_of.ensures.few) c.in-Err.ensures.first in
     inr (
-      c.in_ok-topology.topology.journal.value.kept,
-      c.in_ok-topology.ensures.kept,
-      subst (λ (n : ℕ). IsOfFirst g.S.Disk.Disk.tells (g.S.Store.image c.args.store.now) (other_names n) c.in-Err.fault) c.joiners_of-joiners.ensures.number of_others,
+      kept,
+      (λ sure. subst (λ k. IsKeptIn (before name.Topology) (KeepsAs k)) c.into_topology-topology.ensures.kept (c.in_ok-open_one.ensures.kept sure)),
+      subst (λ n. IsOfFirst tells before (other_names n) c.in-Err.fault) c.joiners_of.ensures.number first,
     )
+
+pub returns-in-Err-clause-rose : goal.returns-in-Err-clause-rose
+returns-in-Err-clause-rose g c =
+    rose_on c.in-Err.fault _ _ _ _ c.open_one.ensures.count (omega (arith, c.give.ensures.count)) c.in-Err.ensures.rose
+
+pub returns-in-Err-clause-damaged : goal.returns-in-Err-clause-damaged
+returns-in-Err-clause-damaged g c sure =
+    let before = g.S.Store.image c.args.store.now in
+    let mid = g.S.Store.image c.open_one.new.store in
+    damaged_before before mid name.Topology (c.in_ok-open_one.ensures.others sure) g.S.Disk.Disk.tells _ c.in-Err.fault (not_topology _ c.joiners_of.ensures.few) c.in-Err.ensures.first (c.in-Err.ensures.damaged sure)

@@ -1,74 +1,37 @@
-use Rattle.std.proofs.Common.{ℕ, List, Some, ◌∷◌, [], ◌++◌, ◌≡◌, subst, sym}
-use Rattle.std.proofs.lemmas.Result.{IfOk-weaker}
-use Rattle.outside.specs.declared.store.DiskName.TheVariants.{Offset, Retry}
-use Rattle.log_records.specs.Lines.{ClickLine, HoldsLines}
-use Rattle.site_store.specs.Kept.{on_disk, IsTold}
-use Rattle.site_store.proofs.Telling.{first_longer, first_later, told_later, none_told, told_fit}
+use Rattle.std.proofs.Common.{None, Some, ◌∙◌, sym, subst, arith}
+use Rattle.log_records.specs.Lines.{HoldsLines}
+use Rattle.site_store.specs.Kept.{places_at, IsTold}
+use Rattle.site_store.proofs.Telling.{next_told, here_told, none_left, none_told}
 use Rattle.site_store.proofs.places.check.first_misplaced.Goals as goal
-
--- in another state of the log
-moved : (ls : List ClickLine) (now old : List ℕ) → now ≡ old → HoldsLines old ls → HoldsLines now ls
-moved ls now old same h = subst (λ (log : List ℕ). HoldsLines log ls) (sym same) h
 
 pub returns-in-Some-clause-first : goal.returns-in-Some-clause-first
 returns-in-Some-clause-first g c = λ t s is end_is.
-    let ls = s.clicks in
-    let h = is.lines in
-    let one = subst (IsTold ls (on_disk (Offset 0) (c.args.offset_a ∷ []))) c.in-Some.is (c.in_ok-misplaced.ensures.told t ls h end_is) in
-    first_longer ls (on_disk (Offset 0) (c.args.offset_a ∷ [])) _ c.in-Some.misplaced one
+    let inv = c.loop-disk.invariant in
+    let d = c.disk-item.result in
+    let lines = subst (λ log. HoldsLines log s.clicks) (sym (inv.same t)) is.lines in
+    let one = subst (IsTold s.clicks (places_at d.name d.kept)) c.in-Some.is (c.in_ok-misplaced.ensures.told t s.clicks lines end_is) in
+    inv.told t s.clicks is.lines end_is (Some c.in-Some.misplaced) (here_told s.clicks c.args.disks.now c.loop-disk.disk-index d _ c.disk-item.is c.loop-disk-test.true c.in-Some.misplaced one)
 
-pub returns-in-Some-clause-fit : goal.returns-in-Some-clause-fit
-returns-in-Some-clause-fit g c = λ t s is end_is. told_fit s c.args.offset_a c.args.offset_b c.args.pending_a.now c.args.pending_b.now (Some c.in-Some.misplaced) (returns-in-Some-clause-first g c t s is end_is)
+pub returns-in-Some-clause-same : goal.returns-in-Some-clause-same
+returns-in-Some-clause-same g c t = c.misplaced_on.ensures.same t ∙ c.loop-disk.invariant.same t
 
-pub returns-in-Some-2-clause-first : goal.returns-in-Some-2-clause-first
-returns-in-Some-2-clause-first g c = λ t s is end_is.
-    let ls = s.clicks in
-    let h = is.lines in
-    let xs = on_disk (Offset 0) (c.args.offset_a ∷ []) in
-    let ys = on_disk (Offset 1) (c.args.offset_b ∷ []) in
-    let fit = none_told ls xs c.in_ok-misplaced.field-0 c.in_default.not-Some (c.in_ok-misplaced.ensures.told t ls h end_is) in
-    let here = moved ls _ _ (c.in_ok-misplaced.ensures.same t) h in
-    let two = subst (IsTold ls ys) c.in-Some-2.is (c.in_ok-misplaced-2.ensures.told t ls here end_is) in
-    first_later ls xs _ c.in-Some-2.misplaced fit (first_longer ls ys _ c.in-Some-2.misplaced two)
+pub returns-in-Some-clause-count : goal.returns-in-Some-clause-count
+returns-in-Some-clause-count g c = record { later = omega (arith, c.loop-disk.invariant.count, c.misplaced_on.ensures.count.later); rose = λ e. absurd (cc e) }
 
-pub returns-in-Some-2-clause-fit : goal.returns-in-Some-2-clause-fit
-returns-in-Some-2-clause-fit g c = λ t s is end_is. told_fit s c.args.offset_a c.args.offset_b c.args.pending_a.now c.args.pending_b.now (Some c.in-Some-2.misplaced) (returns-in-Some-2-clause-first g c t s is end_is)
-
-pub returns-in-Some-3-clause-first : goal.returns-in-Some-3-clause-first
-returns-in-Some-3-clause-first g c = λ t s is end_is.
-    let ls = s.clicks in
-    let h = is.lines in
-    let xs = on_disk (Offset 0) (c.args.offset_a ∷ []) in
-    let ys = on_disk (Offset 1) (c.args.offset_b ∷ []) in
-    let zs = on_disk (Retry 0) c.args.pending_a.now in
-    let fit = none_told ls xs c.in_ok-misplaced.field-0 c.in_default.not-Some (c.in_ok-misplaced.ensures.told t ls h end_is) in
-    let here = moved ls _ _ (c.in_ok-misplaced.ensures.same t) h in
-    let fit-2 = none_told ls ys c.in_ok-misplaced-2.field-0 c.in_default-2.not-Some (c.in_ok-misplaced-2.ensures.told t ls here end_is) in
-    let here-2 = moved ls _ _ (c.in_ok-misplaced-2.ensures.same t) here in
-    let three = subst (IsTold ls zs) c.in-Some-3.is (c.in_ok-misplaced-3.ensures.told t ls here-2 end_is) in
-    first_later ls xs _ c.in-Some-3.misplaced fit (first_later ls ys _ c.in-Some-3.misplaced fit-2 (first_longer ls zs _ c.in-Some-3.misplaced three))
-
-pub returns-in-Some-3-clause-fit : goal.returns-in-Some-3-clause-fit
-returns-in-Some-3-clause-fit g c = λ t s is end_is. told_fit s c.args.offset_a c.args.offset_b c.args.pending_a.now c.args.pending_b.now (Some c.in-Some-3.misplaced) (returns-in-Some-3-clause-first g c t s is end_is)
+pub loop-disk-preserved : goal.loop-disk-preserved
+loop-disk-preserved g c =
+    let inv = c.loop-disk.invariant in
+    let d = c.disk-item.result in
+    record {
+      told = λ t ls h end_is told rest. (
+          let lines = subst (λ log. HoldsLines log ls) (sym (inv.same t)) h in
+          let fit = none_told ls (places_at d.name d.kept) c.in_ok-misplaced.field-0 c.in_default.not-Some (c.in_ok-misplaced.ensures.told t ls lines end_is) in
+          inv.told t ls h end_is told (next_told ls c.args.disks.now c.loop-disk.disk-index d _ c.disk-item.is c.loop-disk-test.true told fit rest)
+          );
+      same = λ t. c.misplaced_on.ensures.same t ∙ inv.same t;
+      count = omega (arith, inv.count, c.misplaced_on.ensures.count.later);
+    }
 
 pub returns-clause-first : goal.returns-clause-first
 returns-clause-first g c = λ t s is end_is.
-    let ls = s.clicks in
-    let h = is.lines in
-    let xs = on_disk (Offset 0) (c.args.offset_a ∷ []) in
-    let ys = on_disk (Offset 1) (c.args.offset_b ∷ []) in
-    let zs = on_disk (Retry 0) c.args.pending_a.now in
-    let fit = none_told ls xs c.in_ok-misplaced.field-0 c.in_default.not-Some (c.in_ok-misplaced.ensures.told t ls h end_is) in
-    let here = moved ls _ _ (c.in_ok-misplaced.ensures.same t) h in
-    let fit-2 = none_told ls ys c.in_ok-misplaced-2.field-0 c.in_default-2.not-Some (c.in_ok-misplaced-2.ensures.told t ls here end_is) in
-    let here-2 = moved ls _ _ (c.in_ok-misplaced-2.ensures.same t) here in
-    let fit-3 = none_told ls zs c.in_ok-misplaced-3.field-0 c.in_default-3.not-Some (c.in_ok-misplaced-3.ensures.told t ls here-2 end_is) in
-    let here-3 = moved ls _ _ (c.in_ok-misplaced-3.ensures.same t) here-2 in
-    let ws = on_disk (Retry 1) c.args.pending_b.now in
-    IfOk-weaker c.misplaced_pending-2.result _ _
-    (λ told is. told_later ls xs (ys ++ (zs ++ ws)) told fit (told_later ls ys (zs ++ ws) told fit-2 (told_later ls zs ws told fit-3 is)))
-    (c.misplaced_pending-2.ensures.told t ls here-3 end_is)
-
-pub returns-clause-fit : goal.returns-clause-fit
-returns-clause-fit g c = λ t s is end_is.
-    IfOk-weaker c.misplaced_pending-2.result _ _ (told_fit s c.args.offset_a c.args.offset_b c.args.pending_a.now c.args.pending_b.now) (returns-clause-first g c t s is end_is)
+    c.loop-disk.invariant.told t s.clicks is.lines end_is None (none_left s.clicks c.args.disks.now c.loop-disk.disk-index (omega (arith, c.loop-disk-test.false)))

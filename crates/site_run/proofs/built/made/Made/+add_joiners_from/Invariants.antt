@@ -3,4 +3,4 @@ use Rattle.std.specs.Vec.Iter.{into_iter_items}
 use Rattle.site_run.proofs.built.made.Made.+add_joiners_from.Given as goal
 
 abbrev pub decreases-add_joiners_from : goal.decreases-add_joiners_from
-decreases-add_joiners_from g l = length (into_iter_items l.epochs)
+decreases-add_joiners_from g l = length (into_iter_items l.logs)

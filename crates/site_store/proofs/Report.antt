@@ -1,0 +1,167 @@
+-- What the journals that a store is read as say is the report of records that its disks kept.
+use Rattle.std.proofs.Common.{◌≡◌, ℕ, zero, suc, ◌+◌, ◌*◌, ◌<◌, ◌≤◌, List, [], ◌∷◌, ◌++◌, map, Bool, IsTrue, true, Option, Some, None, refl, sym, ◌∙◌, ap, subst, arith}
+use Rattle.std.specs.Prelude.{IfSome, flat_map}
+use Rattle.std.proofs.lemmas.List.{map-append}
+use Rattle.list_words.specs.Lists.{Each}
+use Rattle.outside.specs.declared.store.DiskName.{DiskName}
+use Rattle.outside.specs.declared.store.DiskName.TheVariants as name
+use Rattle.turn_defs.specs.declared.pair.PairRec.{PairRec}
+use Rattle.paxos_acceptor.specs.Cells.{note_view}
+use Rattle.topology_journal.specs.declared.topology.Topology.{Topology}
+use Rattle.topology_journal.specs.Topologies.{IsTopology}
+use Rattle.turn_defs.specs.Setting.{Setting, first_joiner}
+use Rattle.turn_defs.specs.Turns.{BallotNote}
+use Rattle.turn_defs.specs.Replica.{ReplicaKept}
+use Rattle.site_store.specs.Kinds.{joiners_kept}
+use Rattle.photon_model.specs.Journals.{journals, values_from}
+use Rattle.photon_model.specs.Runs.{Disks}
+use Rattle.photon_model.specs.Topology.{Store}
+use Rattle.photon_model.specs.Verification.{AreOf, TellsTheReport}
+use Rattle.site_laws.specs.Stores.{joiner_of}
+use Rattle.site_laws.specs.StoreLaws.{ReadTopologyIsKept, ReadNotesAreKept, OpenedIsWhole}
+use Rattle.site_store.specs.Records.{Kept, KeptDisk, KeptValues, IsOfKind, AreKept, Says, AreRecordsOf}
+use Rattle.site_store.specs.Refusals.{other_names}
+use Rattle.site_store.specs.Leaving.{IsAsked}
+use Rattle.site_store.specs.Causes.{ArePassed}
+use Rattle.site_store.specs.declared.reading.kept.KeptStore.{KeptStore}
+use Rattle.site_store.specs.Reading.{notes_at, pairs_at, IsOfValues, IsRead}
+use Rattle.site_store.specs.Telling.{Tells}
+use Rattle.site_store.proofs.Names.{others_apart, others_are}
+use Rattle.site_store.proofs.Recorded.{left_with, records_of, are_records}
+use Rattle.site_store.proofs.Values.{by_names}
+
+-- ---- lists as the values of a function
+
+values_same : {X : Type 0} (f h : ℕ → X) (a b n : ℕ) → ((i : ℕ) → i < n → f (a + i) ≡ h (b + i)) → values_from f a n ≡ values_from h b n
+values_same f h a b zero same = refl
+values_same {X} f h a b (suc n) same =
+    let here : f a ≡ h b = ap f (omega arith) ∙ same 0 (omega arith) ∙ ap h (omega arith) in
+    ap (λ (x : X). x ∷ values_from f (suc a) n) here ∙ ap (λ (xs : List X). h b ∷ xs) (values_same f h (suc a) (suc b) n (λ i lt. ap f (omega arith) ∙ same (suc i) (omega (arith, lt)) ∙ ap h (omega arith)))
+
+values_both : {X : Type 0} (f : ℕ → X) (a n m : ℕ) → values_from f a n ++ values_from f (a + n) m ≡ values_from f a (n + m)
+values_both {X} f a zero m = ap (λ k. values_from f k m) (omega arith) ∙ ap (values_from f a) (omega arith)
+values_both {X} f a (suc n) m =
+    let next : suc a + n ≡ a + suc n = omega arith in
+    let last : suc (n + m) ≡ suc n + m = omega arith in
+    ap (λ (xs : List X). f a ∷ xs) (ap (λ k. values_from f (suc a) n ++ values_from f k m) (sym next) ∙ values_both f (suc a) n m) ∙ ap (values_from f a) last
+
+each_two : {A : Type 0} (P Q R : A → Type 0) (xs : List A) → ((x : A) → P x → Q x → R x) → Each P xs → Each Q xs → Each R xs
+each_two P Q R [] f h k = tt
+each_two P Q R (x ∷ xs) f h k = (f x h.0 k.0, each_two P Q R xs f h.1 k.1)
+
+map_flat : {A X Y : Type 0} (f : A → List X) (v : X → Y) (as_ : List A) → map v (flat_map f as_) ≡ flat_map (λ a. map v (f a)) as_
+map_flat f v [] = refl
+map_flat {A} {X} {Y} f v (a ∷ as_) = map-append v (f a) (flat_map f as_) ∙ ap (λ (ys : List Y). map v (f a) ++ ys) (map_flat f v as_)
+
+-- ---- by the names of the disks
+
+module _ (g : Setting) (d : Disks) where
+  abbrev notes_by : DiskName → List (List BallotNote)
+  notes_by (name.Replica r) = (d.replicas r).notes ∷ []
+  notes_by other = []
+
+  abbrev pairs_by : DiskName → List (List PairRec)
+  pairs_by (name.Output s j) = (d.joiners (joiner_of g s j)).pairs ∷ []
+  pairs_by other = []
+
+  notes_said : (n : DiskName) (kept : Kept) → IsOfKind n kept → Says g d n kept → map (map note_view) (notes_at kept) ≡ notes_by n
+  notes_said name.Topology kept (v, is) says = ap (λ (k : Kept). map (map note_view) (notes_at k)) is
+  notes_said (name.Offset s) kept (v, is) says = ap (λ (k : Kept). map (map note_view) (notes_at k)) is
+  notes_said (name.Retry s) kept (v, is) says = ap (λ (k : Kept). map (map note_view) (notes_at k)) is
+  notes_said (name.Server s) kept (v, is) says = ap (λ (k : Kept). map (map note_view) (notes_at k)) is
+  notes_said (name.Replica r) kept own (notes, is, same) = ap (λ (k : Kept). map (map note_view) (notes_at k)) is ∙ ap (λ (k : ReplicaKept). k.notes ∷ []) (sym same)
+  notes_said (name.Epoch s j) kept (v, is) says = ap (λ (k : Kept). map (map note_view) (notes_at k)) is
+  notes_said (name.Output s j) kept (v, is) says = ap (λ (k : Kept). map (map note_view) (notes_at k)) is
+
+  pairs_said : (n : DiskName) (kept : Kept) → IsOfKind n kept → Says g d n kept → pairs_at kept ≡ pairs_by n
+  pairs_said name.Topology kept (v, is) says = ap pairs_at is
+  pairs_said (name.Offset s) kept (v, is) says = ap pairs_at is
+  pairs_said (name.Retry s) kept (v, is) says = ap pairs_at is
+  pairs_said (name.Server s) kept (v, is) says = ap pairs_at is
+  pairs_said (name.Replica r) kept (v, is) says = ap pairs_at is
+  pairs_said (name.Epoch s j) kept (v, is) says = ap pairs_at is
+  pairs_said (name.Output s j) kept own says = ap pairs_at says
+
+  three_named : (n : ℕ) → n ≤ 4 → flat_map notes_by (other_names n) ≡ journals 3 d.replicas
+  three_named zero few = refl
+  three_named (suc zero) few = refl
+  three_named (suc (suc zero)) few = refl
+  three_named (suc (suc (suc zero))) few = refl
+  three_named (suc (suc (suc (suc zero)))) few = refl
+  three_named (suc (suc (suc (suc (suc n))))) few = absurd (omega (arith, few))
+
+  abbrev of_site : ℕ → ℕ → List PairRec
+  of_site s j = (d.joiners (joiner_of g s j)).pairs
+
+  both_named : (n : ℕ) → n ≤ 4 → flat_map pairs_by (other_names n) ≡ values_from (of_site 0) 0 n ++ values_from (of_site 1) 0 n
+  both_named zero few = refl
+  both_named (suc zero) few = refl
+  both_named (suc (suc zero)) few = refl
+  both_named (suc (suc (suc zero))) few = refl
+  both_named (suc (suc (suc (suc zero)))) few = refl
+  both_named (suc (suc (suc (suc (suc n))))) few = absurd (omega (arith, few))
+
+  module _ (disks : List KeptDisk) (named : map (λ o. o.name) disks ≡ other_names g.joiners) (kinds : Each (λ o. IsOfKind o.name o.kept) disks) (of : AreRecordsOf g disks d) (few : g.joiners ≤ 4) where
+    pub notes_are : g.replicas ≡ 3 → map (map note_view) (flat_map (λ o. notes_at o.kept) disks) ≡ journals g.replicas d.replicas
+    notes_are three =
+        let by = each_two (λ (o : KeptDisk). IsOfKind o.name o.kept) (λ (o : KeptDisk). Says g d o.name o.kept) (λ (o : KeptDisk). map (map note_view) (notes_at o.kept) ≡ notes_by o.name) disks (λ o kind says. notes_said o.name o.kept kind says) kinds of in
+        map_flat (λ (o : KeptDisk). notes_at o.kept) (map note_view) disks ∙ by_names (λ k. map (map note_view) (notes_at k)) notes_by disks by ∙ ap (flat_map notes_by) named ∙ three_named g.joiners few ∙ ap (λ n. journals n d.replicas) (sym three)
+
+    pub pairs_are : flat_map (λ o. pairs_at o.kept) disks ≡ values_from (λ j. (d.joiners j).pairs) (first_joiner g) (2 * g.joiners)
+    pairs_are =
+        let f : ℕ → List PairRec = λ j. (d.joiners j).pairs in
+        let n = g.joiners in
+        let by = each_two (λ (o : KeptDisk). IsOfKind o.name o.kept) (λ (o : KeptDisk). Says g d o.name o.kept) (λ (o : KeptDisk). pairs_at o.kept ≡ pairs_by o.name) disks (λ o kind says. pairs_said o.name o.kept kind says) kinds of in
+        let first : values_from (of_site 0) 0 n ≡ values_from f (first_joiner g) n = values_same (of_site 0) f 0 (first_joiner g) n (λ i lt. ap f (omega arith)) in
+        let second : values_from (of_site 1) 0 n ≡ values_from f (first_joiner g + n) n = values_same (of_site 1) f 0 (first_joiner g + n) n (λ i lt. ap f (omega arith)) in
+        by_names pairs_at pairs_by disks by ∙ ap (flat_map pairs_by) named ∙ both_named n few
+        ∙ ap (λ (xs : List (List PairRec)). xs ++ values_from (of_site 1) 0 n) first ∙ ap (λ (xs : List (List PairRec)). values_from f (first_joiner g) n ++ xs) second
+        ∙ values_both f (first_joiner g) n n ∙ ap (values_from f (first_joiner g)) (omega arith)
+
+-- ---- of a store that is read
+
+module _ (tells : Bool) (sure : IsTrue tells) (image : DiskName → List ℕ → Type 0) (v : KeptValues) (kept : AreKept tells image 0 v) (t : Topology) (topology_is : v.topology ≡ Some t)
+    (g : Setting) (is : IsAsked t g) (replicas : g.replicas ≡ 3) where
+  many_are : joiners_kept v.topology 0 ≡ g.joiners
+  many_are = ap (λ (o : Option Topology). joiners_kept o 0) topology_is ∙ sym is.joiners
+
+  few : g.joiners ≤ 4
+  few =
+      let x = kept.topology sure in
+      let fine : IsTopology t = subst (λ (o : Option Topology). IfSome o IsTopology) topology_is x.2.0 in
+      omega (arith, fine.joiners.few, is.joiners)
+
+  abbrev its : Disks
+  its = records_of g v.disks
+
+  named : map (λ d. d.name) v.disks ≡ other_names g.joiners
+  named = kept.named ∙ ap other_names many_are
+
+  of : AreRecordsOf g v.disks its
+  of = are_records g v.disks (other_names g.joiners) named (others_apart g.joiners few) (others_are g replicas g.joiners (omega arith) few) kept.kinds
+
+  tells_of : (k : KeptStore) → IsOfValues v k → ReadTopologyIsKept → ReadNotesAreKept → OpenedIsWhole g image → TellsTheReport → Tells g image k.journals
+  tells_of k told topology read whole report =
+      let left = left_with tells sure image 0 v kept g many_are few replicas its of topology read in
+      let store : Store = record { topology = left.0; disks = its; is_used = true } in
+      let are : AreOf g its k.journals = record {
+        notes = ap (map (map note_view)) told.notes ∙ notes_are g its v.disks named kept.kinds of few replicas;
+        pairs = told.pairs ∙ pairs_are g its v.disks named kept.kinds of few;
+      } in
+      record {
+        store = store;
+        left = left.1;
+        are = are;
+        lines = report g its k.journals are;
+        whole = λ sound. let x = whole store sound left.1 in (x.0, x.1);
+      }
+
+-- what was read, of what the disks keep
+pub ok_read : (tells : Bool) (before : DiskName → List ℕ → Type 0) (log_tells : Bool) (log : List ℕ) (end_ : ℕ) (v : KeptValues) → AreKept tells before 0 v → ArePassed log_tells log end_ None v → (k : KeptStore) → IsOfValues v k
+    → IsRead tells before log_tells log end_ k
+ok_read tells before log_tells log end_ v kept fine k told = record { values = v; kept = kept; told = told; fine = fine }
+
+pub read_tells : (tells : Bool) → IsTrue tells → (before : DiskName → List ℕ → Type 0) (log_tells : Bool) (log : List ℕ) (end_ : ℕ) → ReadTopologyIsKept → ReadNotesAreKept → ((g : Setting) → OpenedIsWhole g before) → TellsTheReport
+    → (k : KeptStore) → IsRead tells before log_tells log end_ k → (t : Topology) (g : Setting) → k.topology ≡ Some t → IsAsked t g → g.replicas ≡ 3 → Tells g before k.journals
+read_tells tells sure before log_tells log end_ topology read whole report k is t g kept asked replicas =
+    tells_of tells sure before is.values is.kept t (is.told.topology ∙ kept) g asked replicas k is.told topology read (whole g) report

@@ -1,0 +1,157 @@
+-- What a sound store keeps isn't refused: no topology, no place of the click log, and no disk as damaged.
+use Rattle.std.proofs.Common.{◌≡◌, ◌≢◌, inl, inr, ℕ, ◌≤◌, List, map, Bool, IsTrue, true, Option, Some, None, refl, sym, ◌∙◌, ap, subst, arith}
+use Rattle.list_words.specs.Lists.{Each, EachPair, Mem, has}
+use Rattle.outside.specs.declared.store.DiskName.{DiskName}
+use Rattle.outside.specs.declared.store.DiskName.TheVariants as name
+use Rattle.offset_journal.specs.Offsets.{Keeps as KeepsOffset, offset_of}
+use Rattle.retry_log.specs.Pending.{Keeps as KeepsPending, pending_of}
+use Rattle.log_records.specs.Lines.{end_from, IsBoundary}
+use Rattle.topology_journal.specs.declared.topology.Topology.{Topology}
+use Rattle.topology_journal.specs.Topologies.{Keeps}
+use Rattle.turn_defs.specs.Setting.{Setting}
+use Rattle.dispatch_node.specs.Places.{IsLogOf}
+use Rattle.site_store.specs.Kinds.{joiners_kept}
+use Rattle.site_store.specs.Misfits.{IsMisfit}
+use Rattle.site_store.specs.declared.disks.checks.Misfit.TheVariants as misfit
+use Rattle.site_store.specs.Kept.{Fits, places_at, all_kept}
+use Rattle.photon_model.specs.Topology.{Topology as PlainTopology, topology_of}
+use Rattle.site_laws.specs.Stores.{Bytes, IsDisk, KeepsTopology, KeepSound, IsSoundStore}
+use Rattle.site_laws.specs.StoreLaws.{topology_read, ReadTopologyIsKept, TopologyFits}
+use Rattle.site_laws.proofs.Naming.{choose}
+use Rattle.site_laws.proofs.Keeping.{one_value}
+use Rattle.site_store.specs.Refusals.{IsOfFirstDisk}
+use Rattle.site_store.specs.Opening.{WasDamaged}
+use Rattle.site_store.specs.declared.opening.refusal.Refusal.{Refusal}
+use Rattle.site_store.specs.declared.opening.refusal.Refusal.TheVariants.{Disks, Joiners, Table, Place, Limit, Read}
+use Rattle.site_store.specs.Records.{Kept, KeptDisk, KeptValues, KeepsAs, IsOfKind, IsKept, AreKept}
+use Rattle.site_store.specs.Leaving.{IsAsked}
+use Rattle.site_store.specs.Causes.{IfDisks, IfJudged, IsOtherTable, IsCause, LeavesSomething, IsWelcome}
+use Rattle.site_store.proofs.Damage.{kept_joiners, no_damage}
+use Rattle.site_store.proofs.Leaving.{joiners_same}
+use Rattle.site_store.proofs.Lending.{each_mem}
+use Rattle.site_store.proofs.Names.{others_apart, others_are, not_topology, all_named}
+use Rattle.site_store.proofs.SameNames.{same_or_not}
+use Rattle.site_store.proofs.Telling.{all_fit, first_clash, of_starts}
+use Rattle.site_store.proofs.Values.{at_name, find_name, named_mem, one_named}
+
+module _ (tells : Bool) (sure : IsTrue tells) (image : DiskName → List ℕ → Type 0) (asked : ℕ) (k : KeptValues) (kept : AreKept tells image asked k) (g : Setting) where
+  abbrev many : ℕ
+  many = joiners_kept k.topology asked
+
+  -- with as many joiners kept as the setting has, each of its disks was opened
+  pub something : many ≡ g.joiners → g.joiners ≤ 4 → g.replicas ≡ 3 → LeavesSomething g image
+  something same few three disk here = elim (same_or_not disk name.Topology) [
+    | inl is ↦ let x = kept.topology sure in (x.0, subst (λ (n : DiskName). image n x.0) (sym is) x.1)
+    | inr not ↦
+        let d = at_name k.disks disk (subst (Mem disk) (sym kept.named) (all_named many (omega (arith, same, few)) g three (sym same) disk here not)) in
+        let x = each_mem (IsKept image) d.0 k.disks (kept.kept sure) d.1 in
+        (x.0, subst (λ (n : DiskName). image n x.0) d.2 x.1)
+  ]
+
+  module _ (few : many ≤ 4) (some : LeavesSomething g image) (sound : IsSoundStore g image) where
+    no_topology : (d : KeptDisk) → Mem d k.disks → d.name ≢ name.Topology
+    no_topology d among = each_mem (λ (n : DiskName). n ≢ name.Topology) d.name _ (subst (Each (λ (n : DiskName). n ≢ name.Topology)) (sym kept.named) (not_topology many few)) (named_mem k.disks d among)
+
+    -- what the chosen bytes of a disk keep
+    abbrev Was : DiskName → List ℕ → Type 0
+    Was disk c = ((d : KeptDisk) → Mem d k.disks → d.name ≡ disk → KeepsAs d.kept c) × (disk ≡ name.Topology → Keeps k.topology c)
+
+    pub one_each : (disk : DiskName) → IsDisk g disk → (c : List ℕ) × (image disk c × Was disk c)
+    one_each disk here = elim (same_or_not disk name.Topology) [
+      | inl is ↦
+          let x = kept.topology sure in
+          (x.0, (subst (λ (n : DiskName). image n x.0) (sym is) x.1, (λ d among named. absurd (no_topology d among (named ∙ is)), λ e. x.2)))
+      | inr not ↦ elim (find_name k.disks disk) [
+        | inl found ↦
+            let x = each_mem (IsKept image) found.0 k.disks (kept.kept sure) found.1 in
+            let apart : EachPair (λ one other. one ≢ other) (map (λ d. d.name) k.disks) = subst (EachPair (λ one other. one ≢ other)) (sym kept.named) (others_apart many few) in
+            (x.0, (subst (λ (n : DiskName). image n x.0) found.2 x.1, (λ d among named. subst (λ (o : KeptDisk). KeepsAs o.kept x.0) (one_named k.disks apart found.0 d found.1 among (found.2 ∙ sym named)) x.2, λ e. absurd (not e))))
+        | inr none ↦ let x = some disk here in (x.0, (x.1, (λ d among named. absurd (none d among named), λ e. absurd (not e))))
+      ]
+    ]
+
+    abbrev pub chosen : (b : Bytes) × ((disk : DiskName) → IsDisk g disk → image disk (b disk) × Was disk (b disk))
+    chosen = choose g (λ disk c. image disk c × Was disk c) one_each
+
+    pub all_sound : KeepSound g chosen.0
+    all_sound = sound chosen.0 (λ disk here. (chosen.1 disk here).0)
+
+    pub topology_held : Keeps k.topology (chosen.0 name.Topology)
+    topology_held = (chosen.1 name.Topology tt).1.1 refl
+
+    pub held : (d : KeptDisk) → Mem d k.disks → IsDisk g d.name → KeepsAs d.kept (chosen.0 d.name)
+    held d among here = (chosen.1 d.name here).1.0 d among refl
+
+    pub topology_is : ReadTopologyIsKept → TopologyFits → (t : Topology) → k.topology ≡ Some t → record { joiners = t.joiners; table = t.table } ≡ topology_of g
+    topology_is read fits t is =
+        let keeps : KeepsTopology (topology_read k.topology) (chosen.0 name.Topology) = read k.topology (chosen.0 name.Topology) topology_held in
+        fits g chosen.0 (record { joiners = t.joiners; table = t.table }) all_sound (subst (λ (x : Option Topology). KeepsTopology (topology_read x) (chosen.0 name.Topology)) is keeps)
+
+    fits_at : (n : DiskName) (kd : Kept) → IsOfKind n kd → IsDisk g n → KeepsAs kd (chosen.0 n) → Each (Fits g.clicks) (places_at n kd)
+    fits_at name.Topology kd (v, is) here keeps = subst (λ (x : Kept). Each (Fits g.clicks) (places_at name.Topology x)) (sym is) tt
+    fits_at (name.Offset s) kd (v, is) here keeps =
+        let own : KeepsOffset v (chosen.0 (name.Offset s)) = subst (λ (x : Kept). KeepsAs x (chosen.0 (name.Offset s))) is keeps in
+        let same = one_value (offset_of (chosen.0 (name.Offset s))) _ _ (all_sound.1.records (name.Offset s) here) own in
+        subst (λ (x : Kept). Each (Fits g.clicks) (places_at (name.Offset s) x)) (sym is) (subst (IsBoundary g.clicks) same (all_sound.2.records.dispatchers s here).boundary, tt)
+    fits_at (name.Retry s) kd (v, is) here keeps =
+        let own : KeepsPending v (chosen.0 (name.Retry s)) = subst (λ (x : Kept). KeepsAs x (chosen.0 (name.Retry s))) is keeps in
+        let same = one_value (pending_of (chosen.0 (name.Retry s))) _ _ (all_sound.1.records (name.Retry s) here) own in
+        subst (λ (x : Kept). Each (Fits g.clicks) (places_at (name.Retry s) x)) (sym is)
+        (of_starts g.clicks s v (λ p e. (all_sound.2.records.dispatchers s here).starts p (subst (λ (ps : List ℕ). has ps p ≡ true) (sym same) e)))
+    fits_at (name.Server s) kd (v, is) here keeps = subst (λ (x : Kept). Each (Fits g.clicks) (places_at (name.Server s) x)) (sym is) tt
+    fits_at (name.Replica r) kd (v, is) here keeps = subst (λ (x : Kept). Each (Fits g.clicks) (places_at (name.Replica r) x)) (sym is) tt
+    fits_at (name.Epoch s j) kd (v, is) here keeps = subst (λ (x : Kept). Each (Fits g.clicks) (places_at (name.Epoch s j) x)) (sym is) tt
+    fits_at (name.Output s j) kd (v, is) here keeps = subst (λ (x : Kept). Each (Fits g.clicks) (places_at (name.Output s j) x)) (sym is) tt
+
+    pub are_disks : g.replicas ≡ 3 → many ≤ g.joiners → (d : KeptDisk) → Mem d k.disks → IsDisk g d.name
+    are_disks three le d among = each_mem (IsDisk g) d.name _ (subst (Each (IsDisk g)) (sym kept.named) (others_are g three many le few)) (named_mem k.disks d among)
+
+    pub places_fit : g.replicas ≡ 3 → many ≤ g.joiners → Each (Fits g.clicks) (all_kept k.disks)
+    places_fit three le = all_fit g.clicks k.disks (λ d among.
+        let here = are_disks three le d among in
+        fits_at d.name d.kept (each_mem (λ (o : KeptDisk). IsOfKind o.name o.kept) d k.disks kept.kinds among) here (held d among here))
+
+-- ---- what is refused of a sound store
+
+module _ (tells : Bool) (sure : IsTrue tells) (log_tells : Bool) (log_sure : IsTrue log_tells) (image : DiskName → List ℕ → Type 0) (log : List ℕ) (end_ old new : ℕ) (read : ReadTopologyIsKept) (fits : TopologyFits)
+    (g : Setting) (replicas : g.replicas ≡ 3) (few : g.joiners ≤ 4) (log_is : IsLogOf log g) (end_is : end_ ≡ end_from 0 g.clicks) (sound : IsSoundStore g image) where
+  -- where a setting's topology is asked
+  module _ (asked : Topology) (is : IsAsked asked g) where
+    abbrev AreIn : KeptValues → Type 0
+    AreIn k = AreKept tells image asked.joiners k
+
+    some_left : (k : KeptValues) → AreIn k → joiners_kept k.topology asked.joiners ≡ asked.joiners → LeavesSomething g image
+    some_left k are same = something tells sure image asked.joiners k are g (same ∙ sym is.joiners) few replicas
+
+    no_table : (k : KeptValues) (kept wanted : List _) → AreIn k → IsOtherTable k.topology asked kept wanted → ⊥
+    no_table k kept wanted are (t, kept_is, same, old_is, new_is, other) =
+        let many : joiners_kept k.topology asked.joiners ≡ asked.joiners = ap (λ (x : Option Topology). joiners_kept x asked.joiners) kept_is ∙ same in
+        let some = some_left k are many in
+        other (ap (λ (u : PlainTopology). u.table) (topology_is tells sure image asked.joiners k are g (omega (arith, many, is.joiners, few)) some sound read fits t kept_is) ∙ is.table)
+
+    no_joiners : (k : KeptValues) (kept wanted : ℕ) → AreIn k → IsMisfit k.topology asked (misfit.Joiners kept wanted) → LeavesSomething g image → ⊥
+    no_joiners k kept wanted are (t, kept_is, old_is, new_is, other) some =
+        let le = kept_joiners read fits g image some sound k.topology asked.joiners (omega (arith, is.joiners)) (are.topology sure) in
+        other (ap (λ (u : PlainTopology). u.joiners) (topology_is tells sure image asked.joiners k are g (omega (arith, le, few)) some sound read fits t kept_is) ∙ is.joiners)
+
+    pub welcome : (r : Refusal) → IfDisks (IsOfFirstDisk tells image asked.joiners) r → IfDisks (WasDamaged image) r → IfJudged (AreKept tells image asked.joiners) (IsCause log_tells log end_ old new (Some asked)) r → IsWelcome g image r
+    welcome (Disks fault) first was why = no_damage tells sure image asked.joiners read fits g (omega (arith, is.joiners)) few replicas sound fault first was
+    welcome (Joiners kept wanted) first was (k, are, why) = no_joiners k kept wanted are why
+    welcome (Table kept wanted) first was (k, are, why) = no_table k kept wanted are why
+    welcome (Place told) first was (k, are, why) =
+        let many = joiners_same k.topology asked why.0 in
+        let some = some_left k are many in
+        first_clash g.clicks _ told (why.1 log_sure g log_is end_is) (places_fit tells sure image asked.joiners k are g (omega (arith, many, is.joiners, few)) some sound replicas (omega (arith, many, is.joiners)))
+    welcome (Limit disk value) first was why = tt
+    welcome Read first was why = tt
+
+  -- where nothing is asked
+  pub welcome_read : LeavesSomething g image → (r : Refusal) → IfDisks (IsOfFirstDisk tells image 0) r → IfDisks (WasDamaged image) r → IfJudged (AreKept tells image 0) (IsCause log_tells log end_ old new None) r → IsWelcome g image r
+  welcome_read some (Disks fault) first was why = no_damage tells sure image 0 read fits g (omega arith) few replicas sound fault first was
+  welcome_read some (Joiners kept wanted) first was (k, are, why) = absurd why
+  welcome_read some (Table kept wanted) first was (k, are, why) = absurd why
+  welcome_read some (Place told) first was (k, are, why) =
+      let le = kept_joiners read fits g image some sound k.topology 0 (omega arith) (are.topology sure) in
+      first_clash g.clicks _ told (why.1 log_sure g log_is end_is) (places_fit tells sure image 0 k are g (omega (arith, le, few)) some sound replicas le)
+  welcome_read some (Limit disk value) first was why = tt
+  welcome_read some Read first was why = tt

@@ -1,0 +1,92 @@
+use Rattle.std.proofs.Common.{rules, ◌≡◌, ◌≢◌, ◌<◌, length, get_or, subst, sym, ◌∙◌, arith}
+use Rattle.list_words.specs.Lists.{Each, EachPair}
+use Rattle.outside.specs.declared.store.DiskName.{DiskName}
+use Rattle.site_store.specs.Lent.{Lacks, IsLent}
+use Rattle.site_store.specs.Opening.{IsOf}
+use Rattle.site_store.specs.Records.{IsOfKind, IsKept, kept_by, lent_all}
+use Rattle.site_store.specs.Refusals.{IsOfFirst}
+use Rattle.site_store.proofs.Faults.{rose_on}
+use Rattle.site_store.proofs.Lending.{names_more, each_more, opened_more, keeps_first, lacks_next, length_more, cut_back, damaged_first}
+use Rattle.site_store.proofs.Names.{others_apart}
+use Rattle.site_store.proofs.Values.{were_journals}
+use Rattle.site_store.proofs.Refusals.{first_at}
+use Rattle.site_store.proofs.disks.opening.open_others.Goals as goal
+
+pub loop-i-init : goal.loop-i-init
+loop-i-init g c =
+    let image = g.S.Store.image c.args.store.now in
+    let none = c.in-Ok-with_capacity.ensures.items in
+    record {
+      names = search rules;
+      many = search rules;
+      room = search rules;
+      kinds = subst (Each (λ o. IsOfKind o.name o.kept)) (sym none) tt;
+      lent = λ tells. subst (λ l. IsLent g.S.Disk.Disk.image image image (lent_all l)) (sym none) (record { out = tt; others = λ name lacks c now. now });
+      kept = λ tells. subst (Each (λ o. IsKept image (kept_by o))) (sym none) tt;
+      places = search rules;
+      count = omega arith;
+    }
+
+pub loop-i-preserved : goal.loop-i-preserved
+loop-i-preserved g c =
+    let image = g.S.Store.image in
+    let left = g.S.Disk.Disk.image in
+    let before = image c.args.store.now in
+    let mid = image c.loop-i.store in
+    let names = c.in-Ok.names.items in
+    let i = c.loop-i.i in
+    let items = c.loop-i.disks.items in
+    let now = c.push_reserved.new.self.items in
+    let one = c.in-Ok-open_one.one in
+    let inv = c.loop-i.invariant in
+    let more = c.push_reserved.ensures.items in
+    let e = c.in-Ok-open_one.ensures in
+    let name = c.index.result.now in
+    let is : name ≡ get_or names i name = c.index.ensures in
+    let lt : i < length names = omega (arith, c.loop-i-test.true) in
+    let apart = subst (EachPair (λ one other. one ≢ other)) (sym c.in-Ok.ensures) (others_apart c.args.joiners c.requires.few) in
+    let lacks : Lacks (lent_all items) name = subst (Lacks (lent_all items)) (sym is) (lacks_next names i name items apart inv.names lt) in
+    record {
+      names = names_more names i name items now one inv.names lt (e.name ∙ is) more;
+      many = omega (arith, inv.many, c.push_reserved.ensures.len);
+      room = omega (arith, inv.room, c.push_reserved.ensures.capacity);
+      kinds = each_more (λ o. IsOfKind o.name o.kept) items now one inv.kinds (subst (λ (n : DiskName). IsOfKind n one.kept) (sym e.name) e.kind) more;
+      lent = λ tells. opened_more left before mid (image c.open_one.new.store) name items now one (inv.lent tells) lacks e.name (e.stays tells) (e.others tells) more;
+      kept = λ tells. each_more (λ o. IsKept before (kept_by o)) items now one (inv.kept tells) (keeps_first left before mid items one name (inv.lent tells) lacks e.name (e.kept tells)) more;
+      places = omega (arith, inv.places, e.place, length_more items now one more);
+      count = omega (arith, inv.count, c.open_one.ensures.count);
+    }
+
+pub returns-in-Err-clause-back : goal.returns-in-Err-clause-back
+returns-in-Err-clause-back g c tells =
+    let image = g.S.Store.image in
+    cut_back g.S.Disk.Disk.image (image c.args.store.now) (image c.loop-i.store) (image c.open_one.new.store) (image c.give_each.new.store) _ (c.loop-i.invariant.lent tells) (c.in-Err.ensures.back tells) (c.give_each.ensures.left tells)
+
+pub returns-in-Err-clause-first : goal.returns-in-Err-clause-first
+returns-in-Err-clause-first g c =
+    let tells = g.S.Disk.Disk.tells in
+    let before = g.S.Store.image c.args.store.now in
+    let names = c.in-Ok.names.items in
+    let name = c.index.result.now in
+    let is : name ≡ get_or names c.loop-i.i name = c.index.ensures in
+    let inv = c.loop-i.invariant in
+    let lt : c.loop-i.i < length names = omega (arith, c.loop-i-test.true) in
+    subst (λ ns. IsOfFirst tells before ns c.in-Err.fault) c.in-Ok.ensures
+    (first_at tells before names c.loop-i.i name c.in-Err.fault lt (subst (λ (n : DiskName). IsOf n c.in-Err.fault) is c.in-Err.ensures.of)
+    (λ sure. were_journals before c.loop-i.disks.items _ inv.names inv.kinds (inv.kept sure)))
+
+pub returns-in-Err-clause-rose : goal.returns-in-Err-clause-rose
+returns-in-Err-clause-rose g c = rose_on c.in-Err.fault _ _ _ _ c.loop-i.invariant.count c.give_each.ensures.count c.in-Err.ensures.rose
+
+pub returns-in-Err-clause-damaged : goal.returns-in-Err-clause-damaged
+returns-in-Err-clause-damaged g c tells =
+    let image = g.S.Store.image in
+    let names = c.in-Ok.names.items in
+    let name = c.index.result.now in
+    let is : name ≡ get_or names c.loop-i.i name = c.index.ensures in
+    let items = c.loop-i.disks.items in
+    let so = c.loop-i.invariant.lent tells in
+    let lt : c.loop-i.i < length names = omega (arith, c.loop-i-test.true) in
+    let apart = subst (EachPair (λ one other. one ≢ other)) (sym c.in-Ok.ensures) (others_apart c.args.joiners c.requires.few) in
+    let lacks : Lacks (lent_all items) name = subst (Lacks (lent_all items)) (sym is) (lacks_next names c.loop-i.i name items apart c.loop-i.invariant.names lt) in
+    damaged_first (image c.args.store.now) (image c.loop-i.store) name c.in-Err.fault c.in-Err.ensures.of (so.others name lacks) (c.in-Err.ensures.damaged tells)

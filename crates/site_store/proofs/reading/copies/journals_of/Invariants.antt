@@ -1,0 +1,12 @@
+use Rattle.std.proofs.Common.{◌≡◌, ◌++◌, drop}
+use Rattle.std.specs.Prelude.{flat_map}
+use Rattle.site_store.specs.Reading.{notes_at, pairs_at}
+use Rattle.site_store.specs.Records.{kept_all}
+use Rattle.site_store.proofs.reading.copies.journals_of.Given as goal
+
+abbrev pub invariant-loop-disk : goal.invariant-loop-disk
+invariant-loop-disk g l =
+    record {
+      notes : l.journals.notes.items ++ flat_map (λ d. notes_at d.kept) (kept_all (drop l.disk-index l.disks)) ≡ flat_map (λ d. notes_at d.kept) (kept_all l.disks);
+      pairs : l.journals.pairs.items ++ flat_map (λ d. pairs_at d.kept) (kept_all (drop l.disk-index l.disks)) ≡ flat_map (λ d. pairs_at d.kept) (kept_all l.disks);
+    }
