@@ -40,7 +40,6 @@ each_parts : {A : Type 0} (P : A → Type 0) (xs ys : List A) → Each P (xs ++ 
 each_parts P [] ys h = (tt, h)
 each_parts P (x ∷ xs) ys h = let more = each_parts P xs ys h.1 in ((h.0, more.0), more.1)
 
-
 module _ {D : Type 0} where
   abbrev names : List (OpenView D) → List DiskName
   names xs = map (λ (o : OpenView D). o.name) xs

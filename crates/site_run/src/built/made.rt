@@ -311,13 +311,7 @@ impl<D: Disk, L: LogFile> Made<D, L> {
     }
 
     // Makes the joiner of this place at a site over its journals and the query log, or leaves its disks and the log.
-    pub(crate) fn add_joiner(
-        &mut self,
-        site: u8,
-        joiner: u8,
-        rest: &mut Vec<OpenDisk<D>>,
-        log: L,
-    )
+    pub(crate) fn add_joiner(&mut self, site: u8, joiner: u8, rest: &mut Vec<OpenDisk<D>>, log: L)
         requires site { site < 2 }
         requires joiner { joiner < self.old.roster.joiners }
         requires replicas { self.old.roster.replicas ≡ 3 }
@@ -424,12 +418,7 @@ impl<D: Disk, L: LogFile> Made<D, L> {
     }
 
     // Makes the dispatchers, the servers and the replicas.
-    pub(crate) fn add_sites(
-        &mut self,
-        config: &Config,
-        rest: &mut Vec<OpenDisk<D>>,
-        clicks: Vec<L>,
-    )
+    pub(crate) fn add_sites(&mut self, config: &Config, rest: &mut Vec<OpenDisk<D>>, clicks: Vec<L>)
         requires joiners { 0 < self.old.roster.joiners }
         requires replicas { self.old.roster.replicas ≡ 3 }
         requires next { (self.old.next ≡ 0) × (length self.old.nodes.items ≡ 0) }
@@ -463,10 +452,7 @@ impl<D: Disk, L: LogFile> Made<D, L> {
     }
 
     // All nodes, where each was made; else all that they were to be made of, with the topology's disk.
-    pub(crate) fn end(
-        self,
-        topology: TopologyJournal<D>,
-    ) -> Result<Built<D, L>, Parts<D, L>>
+    pub(crate) fn end(self, topology: TopologyJournal<D>) -> Result<Built<D, L>, Parts<D, L>>
         requires all { self.next ≡ 7 + 2 * self.roster.joiners }
         ensures count { IfOk result (λ b. length b.nodes.items ≡ 7 + 2 * self.roster.joiners) }
         ensures nodes { IfOk result (λ b. b.nodes.items ≡ self.nodes.items) }

@@ -41,7 +41,9 @@ fn put_records<D: Disk>(
 {
     match &disk.journal {
         AnyJournal::Votes(journal) => journals.notes.push(copy_notes(alloc, &journal.notes)?)?,
-        AnyJournal::Output(journal) => journals.pairs.push(copy_pairs(alloc, journal.value().pairs())?)?,
+        AnyJournal::Output(journal) => journals
+            .pairs
+            .push(copy_pairs(alloc, journal.value().pairs())?)?,
         _ => {}
     }
     Ok(())

@@ -43,8 +43,7 @@ pub add_joiners_from-requires : goal.add_joiners_from-requires
 add_joiners_from-requires g t c κs within =
     let size = ap length c.in-Some.ensures.items in
     let joiners = ap (λ r. r.joiners) c.add_joiner.ensures.roster in
-    let at : 7 + c.args.site * c.add_joiner.new.self.roster.joiners + (c.args.joiner + 1) ≡ 7 + c.args.site * c.args.self.now.roster.joiners + c.args.joiner + 1 = ap (λ k. 7 + c.args.site * k + (c.args.joiner + 1)) joiners ∙ omega arith in
-    (
+    let at : 7 + c.args.site * c.add_joiner.new.self.roster.joiners + (c.args.joiner + 1) ≡ 7 + c.args.site * c.args.self.now.roster.joiners + c.args.joiner + 1 = ap (λ k. 7 + c.args.site * k + (c.args.joiner + 1)) joiners ∙ omega arith in (
       search rules,
       (within.0, (within.1, (c.requires.site, (ap (λ r. r.replicas) c.add_joiner.ensures.roster ∙ c.requires.replicas, (omega (arith, size, c.requires.count, joiners), (omega (arith, c.add_joiner.ensures.next, c.requires.next, at), (omega (arith, size, c.requires.count, joiners), joiners_there _ _ _ _ _ _ (omega arith) c.add_joiner.ensures.taken (λ k least lt. c.requires.there k least (omega (arith, lt, joiners)))))))))),
     )

@@ -8,7 +8,7 @@ use Rattle.site_run.proofs.Taken.{dispatcher_said, less_each, less_more, less_on
 use Rattle.site_run.proofs.built.made.Made.add_dispatcher.Goals as goal
 
 pub take_disk-requires-2 : goal.take_disk-requires-2
-take_disk-requires-2 g c = record { there = (less_one _ _ _ _ c.take_disk.ensures.name c.take_disk.ensures.taken).others _ ((λ e. cc e), tt) c.requires.there.1; }
+take_disk-requires-2 g c = record { there = (less_one _ _ _ _ c.take_disk.ensures.name c.take_disk.ensures.taken).others _ ((λ e. cc e), tt) c.requires.there.1 }
 
 pub returns-clause-taken : goal.returns-clause-taken
 returns-clause-taken g c = less_more _ _ _ _ _ (less_one _ _ _ _ c.take_disk.ensures.name c.take_disk.ensures.taken) (less_one _ _ _ _ c.take_disk-2.ensures.name c.take_disk-2.ensures.taken)
