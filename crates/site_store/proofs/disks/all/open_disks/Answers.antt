@@ -46,7 +46,7 @@ pub returns-in-Err-clause-first : goal.returns-in-Err-clause-first
 returns-in-Err-clause-first g c =
     let tells = g.S.Disk.Disk.tells in
     let before = g.S.Store.image c.args.store.now in
-    let kept = c.into_topology-topology.result.kept in
+    let kept = c.into_topology-topology.result.value.kept in
     let first = first_before tells before (g.S.Store.image c.open_one.new.store) name.Topology c.in_ok-open_one.ensures.others _ c.in-Err.fault (not_topology _ c.joiners_of.ensures.few) c.in-Err.ensures.first in
     inr (
       kept,
