@@ -16,14 +16,13 @@ use Rattle.site_run.specs.declared.faults.fault.Mismatch.{Mismatch}
 use Rattle.site_run.specs.declared.faults.fault.Mismatch.TheVariants as mismatch
 use Rattle.site_run.specs.declared.faults.fault.RunFault.TheVariants as cause
 use Rattle.site_store.specs.declared.disks.fault.DisksFault.TheVariants as disks
-use Rattle.site_store.specs.declared.disks.opened.Opened.{Opened}
-use Rattle.site_store.specs.Opening.{KeepsLeft, RoseBy, WasDamaged}
+use Rattle.site_store.specs.Opening.{RoseBy, WasDamaged}
 use Rattle.gate_journal.specs.Images.{IsKeptIn}
 use Rattle.site_store.specs.Refusals.{IsOfFirstDisk}
 use Rattle.site_laws.specs.Stores.{Images}
 use Rattle.site_store.specs.declared.opening.refusal.Refusal.{Refusal}
 use Rattle.site_store.specs.declared.opening.refusal.Refusal.TheVariants.{Disks as OfDisks, Joiners, Table, Place, Limit, Read}
-use Rattle.site_store.specs.Records.{KeptValues, AreIn, AreKept}
+use Rattle.site_store.specs.Records.{KeptValues, KeepsAs, IsKept, AreKept}
 use Rattle.site_store.specs.Causes.{IfDisks, IfJudged, IsWelcome, LeavesSomething}
 use Rattle.site_store.specs.declared.reading.kept.KeptStore.{KeptStore}
 use Rattle.site_store.specs.Reading.{IsCause, IsRead}
@@ -42,24 +41,12 @@ module _ (before placed : Images) (within : (disk : DiskName) (c : List ℕ) →
   kept_within : (disk : DiskName) (keeps : List ℕ → Type 0) → IsKeptIn (placed disk) keeps → IsKeptIn (before disk) keeps
   kept_within disk keeps kept = (kept.0, within disk kept.0 kept.1, kept.2)
 
-  values_within : {X : Type 0} (keeps : X → List ℕ → Type 0) (names : List DiskName) (values : List (Opened X)) → AreIn true placed keeps names values → AreIn true before keeps names values
-  values_within keeps names values are = record {
-    named = are.named;
-    ready = are.ready;
-    kept = λ sure. each_more (KeepsLeft placed keeps) (KeepsLeft before keeps) values (λ o kept. kept_within o.name (keeps o.journal) kept) (are.kept sure);
-  }
-
   all_within : (joiners : ℕ) (k : KeptValues) → AreKept true placed joiners k → AreKept true before joiners k
   all_within joiners k are = record {
     topology = λ sure. kept_within _ _ (are.topology sure);
-    offsets = values_within _ _ _ are.offsets;
-    pending = values_within _ _ _ are.pending;
-    servers = values_within _ _ _ are.servers;
-    notes = values_within _ _ _ are.notes;
-    epochs_a = values_within _ _ _ are.epochs_a;
-    epochs_b = values_within _ _ _ are.epochs_b;
-    pairs_a = values_within _ _ _ are.pairs_a;
-    pairs_b = values_within _ _ _ are.pairs_b;
+    named = are.named;
+    kinds = are.kinds;
+    kept = λ sure. each_more (IsKept placed) (IsKept before) k.disks (λ o kept. kept_within o.name (KeepsAs o.kept) kept) (are.kept sure);
   }
 
   module _ (g : Setting) (tells log_tells : Bool) (sure : IsTrue tells) (log_sure : IsTrue log_tells) (log : List ℕ) (end_ : ℕ) (log_is : IsLogOf log g) (end_is : end_ ≡ end_from 0 g.clicks) where
