@@ -2,18 +2,12 @@
 use Rattle.std.proofs.Common.{◌≡◌, ◌≢◌, ◌⊎◌, inl, inr, ⊎_elim, ℕ, zero, suc, ◌<◌, ◌≤◌, max, Bool, true, false, cond, ◌==◌, nat_lt, List, [], ◌∷◌, ◌++◌, length, get_or, Some, None, refl, sym, ap, ◌∙◌, subst, arith}
 use Rattle.std.specs.Prelude.{Option, slice_get}
 use Rattle.std.proofs.lemmas.Bool.{cond_both, cond-true, cond-false, eq-eqb, ne_eqb, ltb-false}
-use Rattle.photon_model.proofs.Words.{EventId, Token, Ballot, Insert, Batch, same_batch, at, Mem, Each, Begins, set_at, IsGranted, bound_of, first_insert, holder, Setting, Checked, shard, IsJoiner, Packet, Join, Joined, Claim, Reply, Node, Dispatcher, Server, Replica, Joiner, To, Sent, Input, Start, Own, Tick, Deliver, Place, Vote, acceptance, vote_at, votes_at, votes_in, Has, Promised, Took, HasAccepted, OneChosen, agreed_one, decided_grows, vote_here, has_append, BallotNote, Note, Voted, idle, land, DispatcherKept, DispatcherLive, dispatcher_turn, JoinerKept, JoinerLive, Flight, joiner_turn, ServerKept, ServerLive, land_server, server_turn, ReplicaKept, land_replica, replica_turn, each_at, mem_left, mem_right, mem_split, at_set, at_set_if, none_some, one_granted, holder_granted, holder_first, bound_stays, Addressed}
+use Rattle.photon_model.proofs.Words.{EventId, Token, Ballot, Insert, Batch, same_batch, at, Mem, Each, Begins, set_at, IsGranted, bound_of, first_insert, holder, Setting, Checked, shard, IsJoiner, Packet, Join, Joined, Claim, Reply, Node, Dispatcher, Server, Replica, Joiner, To, Sent, Input, Start, Own, Tick, Deliver, Place, Vote, acceptance, vote_at, votes_at, votes_in, Has, Promised, Took, HasAccepted, OneChosen, agreed_one, decided_grows, vote_here, has_append, BallotNote, Note, Voted, idle, land, DispatcherKept, DispatcherLive, dispatcher_turn, JoinerKept, JoinerLive, Flight, joiner_turn, ServerKept, ServerLive, land_server, server_turn, ReplicaKept, land_replica, replica_turn, each_at, mem_left, mem_right, mem_split, at_set, at_set_if, none_some, one_granted, holder_granted, holder_first, bound_stays, Addressed, journals, ReplicasSound, Offer, Votes, offer, VotesOf, VotesOfServer, VotesAgree, values_of, IsWritten, IsInsertOf, InsertsOf, Sound, IfUp, IfOpen, known, ServerHolds, WorldHolds, World, Entry, Begin, End, Stop, Disks, disks, begun, ended, stopped, dispatcher_row, server_row, replica_row, joiner_row, sends, after, world_after, WasSent, May, IsRun, opening, decided_in, NoJoinerStops, IsBoundOk, HasBounds, IsFlying, IsResolved, IsChosenNow, PaxosGives, Cell}
 use Rattle.photon_model.proofs.DispatcherRows.{each_packet as each_join}
 use Rattle.photon_model.proofs.JoinerRows.{each_packet}
-use Rattle.photon_model.specs.Journals.{journals, decided}
-use Rattle.photon_model.specs.Agreement.{ReplicasSound, Offer, Votes, offer, VotesOf, VotesOfServer, VotesAgree}
-use Rattle.photon_model.specs.Sound.{values_of, IsWritten, IsInsertOf, InsertsOf, Sound}
-use Rattle.photon_model.specs.Facts.{IfUp, IfOpen, known, ServerHolds, WorldHolds}
-use Rattle.photon_model.specs.Runs.{Cell, World, Entry, Begin, End, Stop, Disks, disks, begun, ended, stopped, dispatcher_row, server_row, replica_row, joiner_row, sends, after, world_after, WasSent, May, IsRun, opening}
+use Rattle.photon_model.specs.Journals.{decided}
 use Rattle.photon_model.proofs.Journals.{journals_length, journal_of, journals_noted, journals_same, accepted_note, accepted_stands, exact, decided_accepted}
-use Rattle.photon_model.specs.EveryRun.{decided_in, NoJoinerStops, IsBoundOk, HasBounds}
 use Rattle.photon_model.specs.Voting.{votes, BallotsHold}
-use Rattle.photon_model.specs.Keeping.{IsFlying, IsResolved, IsChosenNow, PaxosGives}
 use Rattle.photon_model.proofs.Growth.{begins_self}
 use Rattle.photon_model.proofs.Voting.{with_note, MayNote, ReplicaVotes, offering, ServerVotes, sent, votes_sent, owned_sent, server_sent, votes_written, server_written, writes_note, agree_noted, idles, gets_votes}
 use Rattle.photon_model.proofs.Proposing.{chosen_now, turn_votes}

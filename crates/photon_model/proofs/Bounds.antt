@@ -1,10 +1,8 @@
 -- Each bound that is offered is the horizon, or stood in an accepted record before the run.
 use Rattle.std.proofs.Common.{◌≡◌, inl, ℕ, List, Some, None, refl, subst}
 use Rattle.std.specs.Prelude.{Option}
-use Rattle.photon_model.proofs.Words.{Ballot, Batch, higher, value_for, Phase, on_promise, on_accepted, Promising, Accepting, Ended, IsGrant, Mem, set_at, Setting, shard, Packet, Promise, Place, Node, Replica, Input, Deliver, ServerKept, ServerLive, ShardState, Proposal, accepted, server_turn, at_set}
+use Rattle.photon_model.proofs.Words.{Ballot, Batch, higher, value_for, Phase, on_promise, on_accepted, Promising, Accepting, Ended, IsGrant, Mem, set_at, Setting, shard, Packet, Promise, Place, Node, Replica, Input, Deliver, ServerKept, ServerLive, ShardState, Proposal, accepted, server_turn, at_set, Offer, Votes, offer, VotesOf, VotesAgree, IsBoundOk}
 use Rattle.photon_model.proofs.ServerRows.{every_row, higher_both, promise_cases, accept_cases}
-use Rattle.photon_model.specs.Agreement.{Offer, Votes, offer, VotesOf, VotesAgree}
-use Rattle.photon_model.specs.EveryRun.{IsBoundOk}
 
 abbrev pub BestBound : Setting → List ℕ → Option (Ballot × Batch) → Type 0
 BestBound g old None = Unit {0}
@@ -39,7 +37,7 @@ module _ (g : Setting) (old : List ℕ) (site : ℕ) (n : Votes) (agree : VotesA
 
   promise_phase : (own : Batch) (phase : Phase Batch) (r : ℕ) (o : Option (Ballot × Batch)) → IsBoundOk g old own.bound → PhaseBound g old phase → BestBound g old o → PhaseBound g old (on_promise own phase r o).0
   promise_phase own phase r o h i q =
-      promise_cases own r o (λ y t. PhaseBound g old y → PhaseBound g old t.0) (λ y x. x) (λ marks best most x. value_bound own (higher best o) h (higher_both (BestBound g old) best o x q)) (λ marks best x. higher_both (BestBound g old) best o x q) phase i
+      promise_cases own r o (λ y t. PhaseBound g old y → PhaseBound g old t.0) (λ y x. x) (λ marks best most x. value_bound own (higher best o) h (higher_both (BestBound g old) best o x q)) (λ marks best few x. higher_both (BestBound g old) best o x q) phase i
 
   accepted_bounds : (at : Place) (p : Proposal) → IsBoundOk g old p.own.bound → (phase : Phase Batch) → PhaseBound g old phase → (o : Option Batch) → BoundsOf g old (accepted g site k l at (l.shards at.shard) p phase o).live
   accepted_bounds at p h phase i None = sets at.shard _ (h, i)
@@ -56,6 +54,6 @@ module _ (g : Setting) (old : List ℕ) (site : ℕ) (n : Votes) (agree : VotesA
         queues = λ from x v. sets (shard g x.id) _ (holds (shard g x.id));
         learns_of = λ from at x e v. sets at.shard _ tt;
         promises = λ r at b o p e c v. let h = stood at.shard p e in sets at.shard _ (h.0, promise_phase p.own p.phase r o h.0 h.1 (grant_bound r at b o (v (Replica r) (Promise at b o) refl)));
-        accepts = λ r at b p e c v. let h = stood at.shard p e in accepted_bounds at p h.0 (on_accepted p.phase r).0 (accept_cases r (λ y t. PhaseBound g old y → PhaseBound g old t.0) (λ y x. x) (λ u marks most x. tt) (λ u marks x. x) p.phase h.1) (on_accepted p.phase r).1;
+        accepts = λ r at b p e c v. let h = stood at.shard p e in accepted_bounds at p h.0 (on_accepted p.phase r).0 (accept_cases r (λ y t. PhaseBound g old y → PhaseBound g old t.0) (λ y x. x) (λ u marks most x. tt) (λ u marks few x. x) p.phase h.1) (on_accepted p.phase r).1;
         refuses = λ r at b above p e c v. sets at.shard _ tt;
       })

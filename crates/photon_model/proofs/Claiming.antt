@@ -1,9 +1,8 @@
 -- Each join in flight has sent its insert.
 use Rattle.std.proofs.Common.{◌≡◌, ◌⊎◌, inl, inr, ⊎_elim, ℕ, List, [], ◌∷◌, ◌++◌, Some, None, refl, sym, ap, ◌∙◌, subst}
 use Rattle.std.specs.Prelude.{Option}
-use Rattle.photon_model.proofs.Words.{Insert, Mem, set_at, Answer, Granted, Duplicate, TooOld, Setting, Packet, Claim, Node, Dispatcher, Server, Replica, Joiner, To, Sent, Input, Own, Out, JoinerKept, JoinerLive, Flight, insert_of, answers, joiner_turn, mem_left, mem_right, mem_split, at_set, some_same, none_some, Addressed}
+use Rattle.photon_model.proofs.Words.{Insert, Mem, set_at, Answer, Granted, Duplicate, TooOld, Setting, Packet, Claim, Node, Dispatcher, Server, Replica, Joiner, To, Sent, Input, Own, Out, JoinerKept, JoinerLive, Flight, insert_of, answers, joiner_turn, mem_left, mem_right, mem_split, at_set, some_same, none_some, Addressed, World, Entry, Begin, End, Stop, Disks, begun, stopped, joiner_row, sends, after, world_after, May, IsRun, opening, Cell}
 use Rattle.photon_model.proofs.JoinerRows.{landed_before, every_row}
-use Rattle.photon_model.specs.Runs.{Cell, World, Entry, Begin, End, Stop, Disks, begun, stopped, joiner_row, sends, after, world_after, May, IsRun, opening}
 use Rattle.photon_model.specs.Claims.{HasSent, ClaimsSent}
 
 -- a packet of a row is among the packets sent

@@ -2,10 +2,7 @@
 use Rattle.std.proofs.Common.{◌≡◌, ◌⊎◌, inl, inr, ⊎_elim, ℕ, ◌<◌, Bool, true, false, not, cond, ◌||◌, ◌&&◌, ◌==◌, List, [], ◌∷◌, ◌++◌, Some, None, refl, sym, ◌∙◌, subst, arith}
 use Rattle.std.specs.Prelude.{MatchBool}
 use Rattle.std.proofs.lemmas.Bool.{cond_both, eqb-true, eqb-false, eq-eqb, or_cases, and_parts, true≢false, not-true, cases_eq}
-use Rattle.photon_model.proofs.Words.{ClickLine, at, IsBoundary, first, Mem, Each, Distinct, has, without, Setting, Checked, Packet, Joined, Outcome, Written, Already, Late, NoQuery, Busy, To, Input, Start, Own, Tick, Deliver, Park, Settle, idle, DispatcherKept, DispatcherLive, Fresh, done_end, after_done, first_done, waits, mark_one, mark, has_room, advances, retries, taken_line as taken, takes, with_room, dispatcher_own, fresh_joins, join_if, trying_joins, dispatcher_tick, ends, parks, dispatcher_joined, dispatcher_gets, dispatcher_turn, dispatcher_start, some_same, clash, option_both, each_append, has_push-or, has_push-left, has_push-right, has_push-false, has_without-true, has_without, has_without-false, has_without-self, distinct_push, distinct_without, at_mem, at_own, before_end, granted_settles}
-use Rattle.photon_model.specs.Sound.{Known, values_of, IsSettled, HasNoQuery, DispatcherSound}
-use Rattle.photon_model.specs.Facts.{HoldsOfOutcome, HoldsOf, HoldsOfInput, IsLineOf, Covers, IsFreshSound, DispatcherHolds}
-use Rattle.photon_model.specs.Keeping.{PacketsHold, DispatcherKeeps}
+use Rattle.photon_model.proofs.Words.{ClickLine, at, IsBoundary, first, Mem, Each, Distinct, has, without, Setting, Checked, Packet, Joined, Outcome, Written, Already, Late, NoQuery, Busy, To, Input, Start, Own, Tick, Deliver, Park, Settle, idle, DispatcherKept, DispatcherLive, Fresh, done_end, after_done, first_done, waits, mark_one, mark, has_room, advances, retries, taken_line as taken, takes, with_room, dispatcher_own, fresh_joins, join_if, trying_joins, dispatcher_tick, ends, parks, dispatcher_joined, dispatcher_gets, dispatcher_turn, dispatcher_start, some_same, clash, option_both, each_append, has_push-or, has_push-left, has_push-right, has_push-false, has_without-true, has_without, has_without-false, has_without-self, distinct_push, distinct_without, at_mem, at_own, before_end, granted_settles, Known, values_of, IsSettled, HasNoQuery, DispatcherSound, HoldsOfOutcome, HoldsOf, HoldsOfInput, IsLineOf, Covers, IsFreshSound, DispatcherHolds, PacketsHold, DispatcherKeeps}
 
 module _ (g : Setting) (n : Known) where
   -- an outcome that ends a join settles its id

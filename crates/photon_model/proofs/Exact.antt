@@ -9,16 +9,9 @@ use Rattle.std.specs.Cmp.{IsTotalOrder, nat_cmp_total}
 use Rattle.std.proofs.lemmas.Cmp.{on_total, then_total}
 use Rattle.std.proofs.lemmas.List.{nil_from_length}
 use Rattle.std.proofs.lemmas.Bool.{cond_both, cases_lt, ltb-true, ltb-false}
-use Rattle.photon_model.proofs.Words.{EventId, id_cmp, Token, Batch, IsGranted, bound_of, bound_at, holder, first_insert, granted_means, holder_granted, Mem, some_same, none_some, each_at, Query, Click, ClickLine, first, J, M, X, U, PairRec, Setting, Checked, first_joiner, shard, shard_below}
+use Rattle.photon_model.proofs.Words.{EventId, id_cmp, Token, Batch, IsGranted, bound_of, bound_at, holder, first_insert, granted_means, holder_granted, Mem, some_same, none_some, each_at, Query, Click, ClickLine, first, J, M, X, U, PairRec, Setting, Checked, first_joiner, shard, shard_below, SoundStore, PairSound, IsWritten, known_of, values_of, known, all_pairs, pair_of, line_by, line_of, unwritten_line, IsAtRest, World, Entry, Disks, disks, world_after, IsRun, opening, empty_disks, AllFactsHold, HasBounds, RestLeaves, decided_in}
 use Rattle.time_shards.specs.Shards.{IsTable}
 use Rattle.log_records.specs.Report as logs
-use Rattle.photon_model.specs.Sound.{SoundStore, PairSound, IsWritten, known_of, values_of}
-use Rattle.photon_model.specs.Facts.{known}
-use Rattle.photon_model.specs.Report.{all_pairs, pair_of, line_by, line_of, unwritten_line}
-use Rattle.photon_model.specs.Rest.{IsAtRest}
-use Rattle.photon_model.specs.Runs.{World, Entry, Disks, disks, world_after, IsRun, opening}
-use Rattle.photon_model.specs.Stores.{empty_disks}
-use Rattle.photon_model.specs.EveryRun.{AllFactsHold, HasBounds, RestLeaves, decided_in}
 use Rattle.photon_model.specs.Exact.{IsExact, AtRestFromEmpty, ClicksAreExact, ReportIsExact}
 use Rattle.photon_model.proofs.Storing.{empty_sound}
 use Rattle.photon_model.proofs.Closing.{sound_closes}

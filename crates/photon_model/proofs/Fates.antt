@@ -2,12 +2,7 @@
 use Rattle.std.proofs.Common.{◌≡◌, ◌≢◌, ◌⊎◌, inl, inr, ⊎_elim, ℕ, Bool, true, false, ◌==◌, List, ◌++◌, Some, None, refl, sym, ◌∙◌, subst, arith}
 use Rattle.std.specs.Prelude.{Option}
 use Rattle.std.proofs.lemmas.Bool.{cond-true, eq-eqb}
-use Rattle.photon_model.proofs.Words.{EventId, Token, Insert, Mem, Begins, set_at, Answer, Granted, Duplicate, TooOld, IsGranted, Expired, Setting, Checked, IsJoiner, Packet, Node, Joiner, PairRec, Input, Note, Out, land, JoinerKept, JoinerLive, Flight, land_joiner, insert_of, is_for, landed, answers, joiner_turn, mem_left, mem_right, mem_split, at_set, clash, each_at, bound_stays}
-use Rattle.photon_model.specs.Sound.{Known, values_of}
-use Rattle.photon_model.specs.Facts.{HoldsOfReply, HoldsOfInput, IfOpen, known, WorldHolds}
-use Rattle.photon_model.specs.Runs.{Cell, World, Begin, End, begun, ended, joiner_row, after}
-use Rattle.photon_model.specs.Keeping.{Grows, IsFlying, IsResolved, IsDrawing, JoinerKeeps}
-use Rattle.photon_model.specs.EveryRun.{decided_in}
+use Rattle.photon_model.proofs.Words.{EventId, Token, Insert, Mem, Begins, set_at, Answer, Granted, Duplicate, TooOld, IsGranted, Expired, Setting, Checked, IsJoiner, Packet, Node, Joiner, PairRec, Input, Note, Out, land, JoinerKept, JoinerLive, Flight, land_joiner, insert_of, is_for, landed, answers, joiner_turn, mem_left, mem_right, mem_split, at_set, clash, each_at, bound_stays, Known, values_of, HoldsOfReply, HoldsOfInput, IfOpen, known, WorldHolds, World, Begin, End, begun, ended, joiner_row, after, Grows, IsFlying, IsResolved, IsDrawing, JoinerKeeps, decided_in, Cell}
 use Rattle.photon_model.proofs.Growth.{begins_self, written_lasts, granted_lasts}
 use Rattle.photon_model.proofs.JoinerRows.{landed_or, every_row}
 use Rattle.photon_model.proofs.Joining.{for_means}

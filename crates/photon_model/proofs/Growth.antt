@@ -1,10 +1,7 @@
 -- Facts that last where more is known: one lemma for each kind of fact.
 use Rattle.std.proofs.Common.{◌≡◌, ◌⊎◌, inl, inr, ⊎_elim, ℕ, ◌≤◌, Bool, true, false, List, [], ◌∷◌, ◌++◌, Some, None, refl, sym, ap, ◌∙◌, subst, arith}
 use Rattle.std.specs.Prelude.{Option, MatchBool, slice_get}
-use Rattle.photon_model.proofs.Words.{EventId, Token, Insert, Batch, ClickLine, Mem, Each, Begins, has, Answer, Granted, Duplicate, TooOld, IsGranted, Setting, Packet, Joined, Claim, Reply, Promise, Accept, Chosen, Outcome, Written, Already, Late, NoQuery, Busy, PairRec, BallotNote, Promised, Took, Phase, Promising, Accepting, Ended, Ballot, DispatcherKept, DispatcherLive, Fresh, JoinerKept, JoinerLive, Flight, ServerLive, ShardState, Proposal, each_more, granted_stays, settled_stays, bound_stays, get_front}
-use Rattle.photon_model.specs.Sound.{Known, values_of, IsWritten, IsSettled, DispatcherSound, PairSound, JoinerSound, IsInsertOf, InsertsOf}
-use Rattle.photon_model.specs.Facts.{IsTooOld, HoldsOfOutcome, HoldsOfReply, HoldsOfBest, HoldsOfPhase, HoldsOf, Covers, IsFreshSound, DispatcherHolds, FlightHolds, JoinerHolds, HoldsOfProposal, ShardHolds, ServerHolds}
-use Rattle.photon_model.specs.Keeping.{Grows}
+use Rattle.photon_model.proofs.Words.{EventId, Token, Insert, Batch, ClickLine, Mem, Each, Begins, has, Answer, Granted, Duplicate, TooOld, IsGranted, Setting, Packet, Joined, Claim, Reply, Promise, Accept, Chosen, Outcome, Written, Already, Late, NoQuery, Busy, PairRec, BallotNote, Promised, Took, Phase, Promising, Accepting, Ended, Ballot, DispatcherKept, DispatcherLive, Fresh, JoinerKept, JoinerLive, Flight, ServerLive, ShardState, Proposal, each_more, granted_stays, settled_stays, bound_stays, get_front, Known, values_of, IsWritten, IsSettled, DispatcherSound, PairSound, JoinerSound, IsInsertOf, InsertsOf, IsTooOld, HoldsOfOutcome, HoldsOfReply, HoldsOfBest, HoldsOfPhase, HoldsOf, Covers, IsFreshSound, DispatcherHolds, FlightHolds, JoinerHolds, HoldsOfProposal, ShardHolds, ServerHolds, Grows}
 
 pub begins_self : {A : Type 0} (xs : List A) → Begins xs xs
 begins_self xs = ([], go xs)

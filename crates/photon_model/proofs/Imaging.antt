@@ -2,10 +2,7 @@
 use Rattle.std.proofs.Common.{◌≡◌, ◌⊎◌, inl, inr, ⊎_elim, ℕ, zero, suc, ◌+◌, ◌*◌, ◌<◌, ◌≤◌, Bool, true, false, cond, ◌&&◌, ◌==◌, List, [], ◌∷◌, ◌++◌, Some, None, refl, sym, ap, ◌∙◌, subst, arith, lit<}
 use Rattle.std.specs.Prelude.{Option, is_some}
 use Rattle.std.proofs.lemmas.Bool.{cases_lt, cond_both, eqb-true, eqb-false}
-use Rattle.photon_model.proofs.Words.{Mem, Each, set_at, Setting, first_joiner, Checked, IsJoiner, Node, Dispatcher, Server, Replica, Joiner, Input, Note, Out, land, DispatcherKept, DispatcherLive, land_dispatcher, JoinerKept, JoinerLive, land_joiner, ServerKept, ServerLive, land_server, ReplicaKept, land_replica, at_set, none_some, each_append, mem_left, mem_right, IsNode}
-use Rattle.photon_model.specs.Sound.{SoundStore}
-use Rattle.photon_model.specs.Runs.{Cell, World, Entry, Begin, End, Stop, Disks, disks, begun, ended, stopped, dispatcher_row, server_row, replica_row, joiner_row, after, world_after, May, IsRun, opening}
-use Rattle.photon_model.specs.Images.{left_by, image}
+use Rattle.photon_model.proofs.Words.{Mem, Each, set_at, Setting, first_joiner, Checked, IsJoiner, Node, Dispatcher, Server, Replica, Joiner, Input, Note, Out, land, DispatcherKept, DispatcherLive, land_dispatcher, JoinerKept, JoinerLive, land_joiner, ServerKept, ServerLive, land_server, ReplicaKept, land_replica, at_set, none_some, each_append, mem_left, mem_right, IsNode, SoundStore, World, Entry, Begin, End, Stop, Disks, disks, begun, ended, stopped, dispatcher_row, server_row, replica_row, joiner_row, after, world_after, May, IsRun, opening, left_by, image, Cell}
 use Rattle.photon_model.proofs.Closing.{runs_keep_stores}
 
 -- the note that has landed

@@ -1,10 +1,7 @@
 -- The worked run, entry by entry.
 use Rattle.std.proofs.Common.{◌≡◌, inl, inr, ⊎_elim, ℕ, zero, suc, ◌<◌, true, ◌++◌, refl, subst, arith, lit<, lit≤}
 use Rattle.std.proofs.lemmas.Bool.{cases_lt}
-use Rattle.photon_model.proofs.Words.{IsJoiner, worked, dispatcher_at_rest, joiner_at_rest, server_at_rest}
-use Rattle.photon_model.specs.Rest.{UpWith}
-use Rattle.photon_model.specs.Runs.{IsRun, world_after, opening}
-use Rattle.photon_model.specs.Stores.{empty_disks}
+use Rattle.photon_model.proofs.Words.{IsJoiner, worked, dispatcher_at_rest, joiner_at_rest, server_at_rest, UpWith, IsRun, world_after, opening, empty_disks}
 use Rattle.photon_model.specs.Example.{entries, comes_up, asks, registers, writes, other_site, asked, at_the_end, ClickIsJoined}
 use Rattle.photon_model.proofs.Imaging.{run_append}
 

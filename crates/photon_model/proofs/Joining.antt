@@ -2,11 +2,8 @@
 use Rattle.std.proofs.Common.{◌≡◌, ◌≢◌, ◌⊎◌, inl, inr, ⊎_elim, ℕ, suc, ◌<◌, ◌≤◌, Bool, true, false, cond, ◌==◌, List, [], ◌∷◌, ◌++◌, length, map, Some, None, refl, sym, ap, ◌∙◌, subst, arith}
 use Rattle.std.specs.Prelude.{Option}
 use Rattle.std.proofs.lemmas.Bool.{cond_both, cond-true, eqb-true, eq-eqb, or_parts, and_parts, and_from}
-use Rattle.photon_model.proofs.Words.{EventId, Token, Insert, same_id, same_token, Query, Click, ClickLine, at, first_click, NoConflict, first, Mem, Each, EachPair, set_at, Setting, Checked, IsJoiner, Answer, Granted, Duplicate, TooOld, IsGranted, Outcome, NoQuery, Busy, PairRec, Input, Note, Out, idle, land, JoinerKept, JoinerLive, Flight, land_joiner, insert_of, is_for, in_flight, landed, to_dispatcher, claim, next_token, without_flight, answers, joiner_turn, joiner_start, clash, mem_left, mem_right, each_at, each_from, each_more, each_append, pairs_push, at_mem, same_id-true, same_token-true, same_id-refl, same_token-refl, same_id-false}
+use Rattle.photon_model.proofs.Words.{EventId, Token, Insert, same_id, same_token, Query, Click, ClickLine, at, first_click, NoConflict, first, Mem, Each, EachPair, set_at, Setting, Checked, IsJoiner, Answer, Granted, Duplicate, TooOld, IsGranted, Outcome, NoQuery, Busy, PairRec, Input, Note, Out, idle, land, JoinerKept, JoinerLive, Flight, land_joiner, insert_of, is_for, in_flight, landed, to_dispatcher, claim, next_token, without_flight, answers, joiner_turn, joiner_start, clash, mem_left, mem_right, each_at, each_from, each_more, each_append, pairs_push, at_mem, same_id-true, same_token-true, same_id-refl, same_token-refl, same_id-false, Known, values_of, PairSound, JoinerSound, DrawnSound, IsTooOld, HoldsOfOutcome, HoldsOfReply, HoldsOfInput, FlightHolds, JoinerHolds, PacketsHold, Grows, extended, JoinerKeeps}
 use Rattle.photon_model.proofs.JoinerRows.{begun_join, every_row}
-use Rattle.photon_model.specs.Sound.{Known, values_of, PairSound, JoinerSound, DrawnSound}
-use Rattle.photon_model.specs.Facts.{IsTooOld, HoldsOfOutcome, HoldsOfReply, HoldsOfInput, FlightHolds, JoinerHolds}
-use Rattle.photon_model.specs.Keeping.{PacketsHold, Grows, extended, JoinerKeeps}
 use Rattle.photon_model.proofs.Growth.{begins_self, granted_lasts, late_lasts, joiner_kept_lasts, joiner_live_lasts, flight_lasts, pair_lasts}
 
 -- the first click with the id of a line is a line with the same click

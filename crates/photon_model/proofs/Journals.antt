@@ -1,10 +1,10 @@
 -- The list of the replicas' journals, and the notes that votes stand in.
 use Rattle.std.proofs.Common.{◌≡◌, ◌≢◌, inl, inr, ⊎_elim, ℕ, zero, suc, ◌+◌, ◌<◌, ◌≤◌, Bool, true, false, cond, List, [], ◌∷◌, ◌++◌, length, get_or, set, Some, None, refl, sym, ap, ◌∙◌, subst, arith}
 use Rattle.std.specs.Prelude.{slice_get}
-use Rattle.photon_model.proofs.Words.{Ballot, Place, is_place, Vote, promise, acceptance, vote_at, votes_at, votes_in as votes, Has, Promised, Took as Accepted, HasAccepted, JournalsAgree, IsExact, agreed_one, noted, has_split, place_true, Batch, same_batch, same_batch-true, same_batch-refl, Mem, BallotNote, ReplicaKept}
+use Rattle.photon_model.proofs.Words.{Ballot, Place, is_place, Vote, promise, acceptance, vote_at, votes_at, votes_in as votes, Has, Promised, Took as Accepted, HasAccepted, JournalsAgree, IsExact, agreed_one, noted, has_split, place_true, Batch, same_batch, same_batch-true, same_batch-refl, Mem, BallotNote, ReplicaKept, values_from, journals}
 use Rattle.ballot_core.proofs.Meets.{some_member}
 use Rattle.paxos_defs.proofs.Decided.{decided_is}
-use Rattle.photon_model.specs.Journals.{values_from, journals, decided}
+use Rattle.photon_model.specs.Journals.{decided}
 
 -- ---- the values of a function as a list
 

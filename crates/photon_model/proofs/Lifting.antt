@@ -2,12 +2,7 @@
 use Rattle.std.proofs.Common.{◌≡◌, ◌≢◌, inl, inr, ⊎_elim, ℕ, ◌<◌, ◌≤◌, Bool, true, false, cond, ◌==◌, List, [], ◌∷◌, ◌++◌, Some, None, refl, sym, ap, ◌∙◌, subst, arith}
 use Rattle.std.specs.Prelude.{Option}
 use Rattle.std.proofs.lemmas.Bool.{cond_both, eq-eqb}
-use Rattle.photon_model.proofs.Words.{Insert, Mem, Each, Begins, set_at, Setting, Checked, IsJoiner, Packet, Node, Dispatcher, Server, Replica, Joiner, To, Sent, PairRec, Input, Own, Deliver, DispatcherKept, DispatcherLive, JoinerKept, JoinerLive, ServerKept, ServerLive, ReplicaKept, mem_right, mem_split, each_at, at_set, at_set_if, Addressed}
-use Rattle.photon_model.specs.Sound.{Known, JoinerSound}
-use Rattle.photon_model.specs.Facts.{HoldsOf, HoldsOfInput, DispatcherHolds, JoinerHolds, ServerHolds, IfUp, IfOpen, known, DispatcherFacts, JoinerFacts, ServerFacts, ReplicaFacts, WorldHolds}
-use Rattle.photon_model.specs.Runs.{Cell, World, dispatcher_row, server_row, replica_row, joiner_row, sends, WasSent}
-use Rattle.photon_model.specs.Keeping.{Grows, PacketsHold, extended, IsDrawing, DispatcherKeeps, JoinerKeeps, ServerKeeps, ReplicaKeeps, IsChosenNow}
-use Rattle.photon_model.specs.EveryRun.{decided_in}
+use Rattle.photon_model.proofs.Words.{Insert, Mem, Each, Begins, set_at, Setting, Checked, IsJoiner, Packet, Node, Dispatcher, Server, Replica, Joiner, To, Sent, PairRec, Input, Own, Deliver, DispatcherKept, DispatcherLive, JoinerKept, JoinerLive, ServerKept, ServerLive, ReplicaKept, mem_right, mem_split, each_at, at_set, at_set_if, Addressed, Known, JoinerSound, HoldsOf, HoldsOfInput, DispatcherHolds, JoinerHolds, ServerHolds, IfUp, IfOpen, known, DispatcherFacts, JoinerFacts, ServerFacts, ReplicaFacts, WorldHolds, World, dispatcher_row, server_row, replica_row, joiner_row, sends, WasSent, Grows, PacketsHold, extended, IsDrawing, DispatcherKeeps, JoinerKeeps, ServerKeeps, ReplicaKeeps, IsChosenNow, decided_in, Cell}
 use Rattle.photon_model.proofs.Growth.{begins_self, packet_lasts, dispatcher_kept_lasts, dispatcher_live_lasts, joiner_kept_lasts, joiner_live_lasts, server_lasts, notes_last}
 use Rattle.photon_model.proofs.Dispatching.{dispatcher_keeps, dispatcher_start_keeps}
 use Rattle.photon_model.proofs.Joining.{joiner_keeps, joiner_start_keeps}

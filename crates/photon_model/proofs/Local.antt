@@ -1,8 +1,7 @@
 -- A node's state in the world is that of its own entries.
 use Rattle.std.proofs.Common.{◌≡◌, ℕ, Bool, true, false, cond, ◌==◌, List, [], ◌∷◌, refl, sym, ap, ◌∙◌}
 use Rattle.std.proofs.lemmas.Bool.{eqb-true}
-use Rattle.photon_model.proofs.Words.{set_at, Setting, Dispatcher, Server, Replica, Joiner, DispatcherKept, DispatcherLive, land_dispatcher, JoinerKept, JoinerLive, land_joiner, ServerKept, ServerLive, land_server, ReplicaKept, land_replica}
-use Rattle.photon_model.specs.Runs.{Cell, World, Entry, Begin, End, Stop, begun, ended, stopped, dispatcher_row, server_row, replica_row, joiner_row, after, world_after}
+use Rattle.photon_model.proofs.Words.{set_at, Setting, Dispatcher, Server, Replica, Joiner, DispatcherKept, DispatcherLive, land_dispatcher, JoinerKept, JoinerLive, land_joiner, ServerKept, ServerLive, land_server, ReplicaKept, land_replica, World, Entry, Begin, End, Stop, begun, ended, stopped, dispatcher_row, server_row, replica_row, joiner_row, after, world_after, Cell}
 use Rattle.photon_model.specs.Local.{dispatcher_entry, dispatcher_local, server_entry, server_local, replica_entry, replica_local, joiner_entry, joiner_local}
 
 -- a cell changed at n, read at m, where the change is a function of the cell

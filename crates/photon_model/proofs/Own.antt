@@ -1,7 +1,6 @@
 -- What nodes do by themselves, and what is delivered, make a run.
 use Rattle.std.proofs.Common.{◌≡◌, ℕ, List, [], ◌∷◌, ◌++◌, refl, sym, subst}
-use Rattle.photon_model.proofs.Words.{Setting, IsNode, Dispatcher, Server, Replica, Joiner, Sent, DispatcherKept, DispatcherLive, JoinerKept, JoinerLive, ServerKept, ServerLive, ReplicaKept}
-use Rattle.photon_model.specs.Runs.{Cell, World, Entry, Begin, End, Stop, after, May}
+use Rattle.photon_model.proofs.Words.{Setting, IsNode, Dispatcher, Server, Replica, Joiner, Sent, DispatcherKept, DispatcherLive, JoinerKept, JoinerLive, ServerKept, ServerLive, ReplicaKept, World, Entry, Begin, End, Stop, after, May, Cell}
 use Rattle.photon_model.specs.Own.{DispatcherDoes, ServerDoes, ReplicaDoes, JoinerDoes, DispatcherTurns, ServerTurns, ReplicaTurns, JoinerTurns, sent_by, Delivers, IsAired, node_in, ApartIsRun}
 use Rattle.photon_model.proofs.Local.{dispatcher_one, server_one, replica_one, joiner_one}
 

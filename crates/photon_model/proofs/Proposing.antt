@@ -2,14 +2,10 @@
 use Rattle.std.proofs.Common.{◌≡◌, ◌⊎◌, inl, inr, ⊎_elim, ℕ, suc, ◌<◌, ◌≤◌, max, Bool, true, false, cond, ◌==◌, List, [], ◌∷◌, ◌++◌, length, set, Some, None, refl, sym, ap, ◌∙◌, subst, arith}
 use Rattle.std.specs.Prelude.{Option, slice_get}
 use Rattle.std.proofs.lemmas.Bool.{cond_both, eqb-true, and_parts}
-use Rattle.photon_model.proofs.Words.{Ballot, Place, higher, value_for, Phase, is_new, is_most, nobody, on_promise, with_acceptance, on_accepted, Promising, Accepting, Ended, IsGrant, IsOffer, IsAnswered, IsUnheard, IsAsking, IsOffering, IsSafe, IsChosen, votes_in, asks, offers, asks_on, asked, offers_on, accepted_chosen, offer_sent, first_offer, learns_next, Insert, Batch, same_batch, Mem, Each, Begins, set_at, at_set, at_set_if, Setting, shard, Packet, Prepare, Promise, Accept, Accepted, Node, Server, Replica, To, Input, Deliver, Out, idle, ServerKept, ServerLive, ShardState, Proposal, to_replicas, is_current, replies, with_shard, owns, promised, accepted, server_turn}
+use Rattle.photon_model.proofs.Words.{Ballot, Place, higher, value_for, Phase, is_new, is_most, nobody, on_promise, with_acceptance, on_accepted, Promising, Accepting, Ended, IsGrant, IsOffer, IsAnswered, IsUnheard, IsAsking, IsOffering, IsSafe, IsChosen, votes_in, asks, offers, asks_on, asked, offers_on, accepted_chosen, offer_sent, first_offer, learns_next, Insert, Batch, same_batch, Mem, Each, Begins, set_at, at_set, at_set_if, Setting, shard, Packet, Prepare, Promise, Accept, Accepted, Node, Server, Replica, To, Input, Deliver, Out, idle, ServerKept, ServerLive, ShardState, Proposal, to_replicas, is_current, replies, with_shard, owns, promised, accepted, server_turn, IsOwned, Offer, Votes, offer, Offered, VotesOf, VotesOfPhase, VotesOfProposal, next_place, VotesOfServer, VotesAgree, Known, ServerHolds, IsChosenNow}
 use Rattle.photon_model.proofs.ServerRows.{current_at, replicas_each, reply_each, replies_each, tick_each, every_row, promise_cases, accept_cases}
 use Rattle.photon_model.specs.Journals.{decided}
-use Rattle.photon_model.specs.Agreement.{IsOwned, Offer, Votes, offer, Offered, VotesOf, VotesOfPhase, VotesOfProposal, next_place, VotesOfServer, VotesAgree}
-use Rattle.photon_model.specs.Sound.{Known}
-use Rattle.photon_model.specs.Facts.{ServerHolds}
 use Rattle.photon_model.proofs.Journals.{exact}
-use Rattle.photon_model.specs.Keeping.{IsChosenNow}
 use Rattle.photon_model.proofs.Voting.{ServerVotes, offering, proposal_sent}
 
 -- a list that begins another with one value more
@@ -145,13 +141,13 @@ module _ (n : Votes) (agree : VotesAgree n) where
           promise_cases p.own r o (λ y t. VotesOfPhase n (here at.shard) p.ballot y → Keeps (promised g site k l at (l.shards at.shard) p t)) quietly
           (λ marks best most f. let next = asks_on r o f grant in
           (refl, sends_value at.shard at p (value_for p.own (higher best o)) (length (set marks r true)) refl at_here.0 next.members a.site_is a.epoch_is a.round_is next.unheard (asked p.own (agree.agree (here at.shard)) next most)))
-          (λ marks best f. quietly (Promising (set marks r true) (higher best o)) (asks_on r o f grant)) p.phase a.phase
+          (λ marks best few f. quietly (Promising (set marks r true) (higher best o)) (asks_on r o f grant)) p.phase a.phase
 
       accepted_votes : (r : ℕ) → IsAnswered n.journals (Offered n) r at b → Keeps (accepted g site k l at (l.shards at.shard) p (on_accepted p.phase r).0 (on_accepted p.phase r).1)
       accepted_votes r h =
           accept_cases r (λ y t. VotesOfPhase n (here at.shard) p.ballot y → Keeps (accepted g site k l at (l.shards at.shard) p t.0 t.1)) quietly
           (λ v marks most f. quiet _ refl (sets at.shard _ tt) (tt, replies_votes ((l.shards at.shard).learned ++ v ∷ []) (l.shards at.shard).queue))
-          (λ v marks f. quietly (Accepting v (set marks r true)) (offers_on r v (agree.offers (offer (here at.shard) p.ballot v) f.offered) f (moved (λ x y. IsAnswered n.journals (Offered n) r x y) at b p at_here h))) p.phase (stood at.shard p e).phase
+          (λ v marks few f. quietly (Accepting v (set marks r true)) (offers_on r v (agree.offers (offer (here at.shard) p.ballot v) f.offered) f (moved (λ x y. IsAnswered n.journals (Offered n) r x y) at b p at_here h))) p.phase (stood at.shard p e).phase
 
     -- where an Accepted makes a majority, the value is decided
     pub chosen_now : (m : Known) → ((s : ℕ) → m.values s ≡ decided n.journals s) → ServerHolds g m l → (i : Input) → ((r : ℕ) (p : Packet) → i ≡ Deliver (Replica r) p → VotesOf n (Replica r) p) → IsChosenNow g m l i

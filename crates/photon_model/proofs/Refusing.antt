@@ -2,14 +2,12 @@
 use Rattle.std.proofs.Common.{◌≡◌, inl, inr, ⊎_elim, ℕ, zero, suc, ◌<◌, ◌==◌, List, [], ◌∷◌, Some, refl, sym, ap, subst, arith, lit<, lit≤}
 use Rattle.std.specs.Prelude.{if◌then◌else◌}
 use Rattle.std.proofs.lemmas.Bool.{cond_both, true≢false}
-use Rattle.photon_model.proofs.Words.{Mem, some_same, none_some, EventId, Batch, Token, IsGranted, bound_of, holder, Query as QueryRec, Sent, Node, Dispatcher, Server, Replica, Joiner, Packet, PairRec, ClickLine, worked, one_line, one_batch, token, insert}
+use Rattle.photon_model.proofs.Words.{Mem, some_same, none_some, EventId, Batch, Token, IsGranted, bound_of, holder, Query as QueryRec, Sent, Node, Dispatcher, Server, Replica, Joiner, Packet, PairRec, ClickLine, worked, one_line, one_batch, token, insert, journals, Known, known_of, accepted_inserts, IsWritten, IsSettled, opening}
 use Rattle.turn_defs.specs.declared.packet.Packet.TheVariants as packet
 use Rattle.log_records.specs.Rows.{one_click}
 use Rattle.paxos_defs.specs.Decided as paxos
 use Rattle.photon_model.specs.Rows.{store, one_pair, only_bound, accepted_by}
-use Rattle.photon_model.specs.Journals.{journals, decided}
-use Rattle.photon_model.specs.Sound.{Known, known_of, accepted_inserts, IsWritten, IsSettled}
-use Rattle.photon_model.specs.Runs.{opening}
+use Rattle.photon_model.specs.Journals.{decided}
 use Rattle.photon_model.specs.Example.{accept, prepare, asked, at_offset, RunsAreStrict, StoresAreStrict, second_pair}
 use Rattle.photon_model.proofs.Joined.{asks_run, joiner_7}
 use Rattle.photon_model.proofs.Running.{opens, written_once}

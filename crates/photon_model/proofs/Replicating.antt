@@ -2,10 +2,7 @@
 use Rattle.std.proofs.Common.{◌≡◌, ℕ, cond, List, [], ◌∷◌, Some, None, refl, subst}
 use Rattle.std.specs.Prelude.{Option, ⊤}
 use Rattle.std.proofs.lemmas.Bool.{cond_both}
-use Rattle.photon_model.proofs.Words.{Ballot, is_below, is_same, Place, is_place, note_from, Vote, promise, acceptance, vote_at, votes_at, Cell, blank, cell_after, cell_from, Promised, Took, Prepared, Taken, prepare_under, on_prepare, is_accepted, vote_anew, accept_under, on_accept, Grant, Refuse, Take, Decline, place_true, Batch, same_batch, Each, Setting, BallotNote, idle, Packet, Prepare, Accept, Node, Input, Deliver, ReplicaKept, cell_at, note_at, says, prepared, taken, replica_gets, replica_turn, each_append}
-use Rattle.photon_model.specs.Sound.{Known, InsertsOf}
-use Rattle.photon_model.specs.Facts.{HoldsOfBatch, HoldsOfBest, HoldsOf, HoldsOfInput}
-use Rattle.photon_model.specs.Keeping.{ReplicaKeeps}
+use Rattle.photon_model.proofs.Words.{Ballot, is_below, is_same, Place, is_place, note_from, Vote, promise, acceptance, vote_at, votes_at, VotesCell as Cell, blank, cell_after, cell_from, Promised, Took, Prepared, Taken, prepare_under, on_prepare, is_accepted, vote_anew, accept_under, on_accept, Grant, Refuse, Take, Decline, place_true, Batch, same_batch, Each, Setting, BallotNote, idle, Packet, Prepare, Accept, Node, Input, Deliver, ReplicaKept, cell_at, note_at, says, prepared, taken, replica_gets, replica_turn, each_append, Known, InsertsOf, HoldsOfBatch, HoldsOfBest, HoldsOf, HoldsOfInput, ReplicaKeeps}
 
 module _ (g : Setting) (n : Known) where
   -- what a vote accepts holds

@@ -2,12 +2,7 @@
 use Rattle.std.proofs.Common.{◌≡◌, ⊎_elim, ℕ, zero, suc, ◌+◌, ◌<◌, ◌≤◌, Bool, true, false, cond, List, [], ◌∷◌, Some, None, refl, sym, ap, ◌∙◌, subst, arith, lit<}
 use Rattle.std.specs.Prelude.{Option, nat_lt, is_none}
 use Rattle.std.proofs.lemmas.Bool.{cases_lt, ltb-false, true≢false}
-use Rattle.photon_model.proofs.Words.{holder, bound_of, Setting, Checked, shards, is_empty, JoinerLive, joiner_at_rest, ServerLive, first_shard, server_at_rest, Mem, EventId, Token}
-use Rattle.photon_model.specs.Facts.{known}
-use Rattle.photon_model.specs.Sound.{SoundStore, accepted_inserts, values_of, IsWritten, IsDrained}
-use Rattle.photon_model.specs.Rest.{UpWith, IsAtRest}
-use Rattle.photon_model.specs.Runs.{World, Entry, Disks, world_after, IsRun, opening}
-use Rattle.photon_model.specs.EveryRun.{decided_in, HasBounds, IsBoundOk, NoJoinerStops, RestLeaves}
+use Rattle.photon_model.proofs.Words.{holder, bound_of, Setting, Checked, shards, is_empty, JoinerLive, joiner_at_rest, ServerLive, first_shard, server_at_rest, Mem, EventId, Token, known, SoundStore, accepted_inserts, values_of, IsWritten, IsDrained, UpWith, IsAtRest, World, Entry, Disks, world_after, IsRun, opening, decided_in, HasBounds, IsBoundOk, NoJoinerStops, RestLeaves}
 use Rattle.photon_model.proofs.Running.{rest_drained}
 use Rattle.photon_model.proofs.Agreeing.{every_run_holds, missing_is_old, bound_is_ok}
 

@@ -120,18 +120,18 @@ higher_both P (Some x) (Some y) h i = cond_both (is_below x.0 y.0) (Some y) (Som
 pub promise_cases :
     (own : Batch) (r : ℕ) (o : Option (Ballot × Batch)) (P : Phase Batch → Phase Batch × Option Batch → Type 0) → ((y : Phase Batch) → P y (y, None)) →
     ((marks : List Bool) (best : Option (Ballot × Batch)) → is_most (set marks r true) ≡ true → P (Promising marks best) (Accepting (value_for own (higher best o)) (nobody (length (set marks r true))), Some (value_for own (higher best o)))) →
-    ((marks : List Bool) (best : Option (Ballot × Batch)) → P (Promising marks best) (Promising (set marks r true) (higher best o), None)) → (y : Phase Batch) → P y (on_promise own y r o)
+    ((marks : List Bool) (best : Option (Ballot × Batch)) → is_most (set marks r true) ≡ false → P (Promising marks best) (Promising (set marks r true) (higher best o), None)) → (y : Phase Batch) → P y (on_promise own y r o)
 promise_cases own r o P same sent more (Promising marks best) =
     cond_both (is_new marks r) (with_promise own (set marks r true) (higher best o)) (Promising marks best, None) (P (Promising marks best))
-    (λ _. cond_both (is_most (set marks r true)) (Accepting (value_for own (higher best o)) (nobody (length (set marks r true))), Some (value_for own (higher best o))) (Promising (set marks r true) (higher best o), None) (P (Promising marks best)) (sent marks best) (λ _. more marks best))
+    (λ _. cond_both (is_most (set marks r true)) (Accepting (value_for own (higher best o)) (nobody (length (set marks r true))), Some (value_for own (higher best o))) (Promising (set marks r true) (higher best o), None) (P (Promising marks best)) (sent marks best) (more marks best))
     (λ _. same (Promising marks best))
 promise_cases own r o P same sent more y = same y
 
 pub accept_cases :
     (r : ℕ) (P : Phase Batch → Phase Batch × Option Batch → Type 0) → ((y : Phase Batch) → P y (y, None)) → ((v : Batch) (marks : List Bool) → is_most (set marks r true) ≡ true → P (Accepting v marks) (Ended, Some v)) →
-    ((v : Batch) (marks : List Bool) → P (Accepting v marks) (Accepting v (set marks r true), None)) → (y : Phase Batch) → P y (on_accepted y r)
+    ((v : Batch) (marks : List Bool) → is_most (set marks r true) ≡ false → P (Accepting v marks) (Accepting v (set marks r true), None)) → (y : Phase Batch) → P y (on_accepted y r)
 accept_cases r P same learned more (Accepting v marks) =
     cond_both (is_new marks r) (with_acceptance v (set marks r true)) (Accepting v marks, None) (P (Accepting v marks))
-    (λ _. cond_both (is_most (set marks r true)) (Ended, Some v) (Accepting v (set marks r true), None) (P (Accepting v marks)) (learned v marks) (λ _. more v marks))
+    (λ _. cond_both (is_most (set marks r true)) (Ended, Some v) (Accepting v (set marks r true), None) (P (Accepting v marks)) (learned v marks) (more v marks))
     (λ _. same (Accepting v marks))
 accept_cases r P same learned more y = same y

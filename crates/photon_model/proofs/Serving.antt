@@ -1,11 +1,8 @@
 -- Each row of a registry server keeps its facts.
 use Rattle.std.proofs.Common.{◌≡◌, ℕ, zero, suc, List, [], ◌∷◌, ◌++◌, length, take, Some, None, refl, sym, ap, ◌∙◌, subst, arith}
 use Rattle.std.specs.Prelude.{Option, slice_get}
-use Rattle.photon_model.proofs.Words.{goes_on, each_at, Ballot, Insert, Batch, higher, value_for, Phase, on_promise, on_accepted, Each, Begins, Answer, Granted, Duplicate, TooOld, replay, Setting, shard, Packet, Prepare, Accept, Place, To, Input, ServerKept, ServerLive, ShardState, Proposal, replies, keep_if, unanswered, learns, with_shard, promised, accepted, server_turn, server_start, some_same, none_some, option_both, each_append, at_set, Replays, replay_means, granted_stays, bound_stays}
+use Rattle.photon_model.proofs.Words.{goes_on, each_at, Ballot, Insert, Batch, higher, value_for, Phase, on_promise, on_accepted, Each, Begins, Answer, Granted, Duplicate, TooOld, replay, Setting, shard, Packet, Prepare, Accept, Place, To, Input, ServerKept, ServerLive, ShardState, Proposal, replies, keep_if, unanswered, learns, with_shard, promised, accepted, server_turn, server_start, some_same, none_some, option_both, each_append, at_set, Replays, replay_means, granted_stays, bound_stays, Known, values_of, IsInsertOf, HoldsOfReply, HoldsOfBatch, HoldsOfBest, HoldsOfPhase, HoldsOf, HoldsOfInput, HoldsOfProposal, ShardHolds, ServerHolds, PacketsHold, ServerKeeps, IsChosenNow}
 use Rattle.photon_model.proofs.ServerRows.{next_at, current_at, replicas_each, reply_each, replies_each, tick_each, every_row, higher_both, promise_cases, accept_cases}
-use Rattle.photon_model.specs.Sound.{Known, values_of, IsInsertOf}
-use Rattle.photon_model.specs.Facts.{HoldsOfReply, HoldsOfBatch, HoldsOfBest, HoldsOfPhase, HoldsOf, HoldsOfInput, HoldsOfProposal, ShardHolds, ServerHolds}
-use Rattle.photon_model.specs.Keeping.{PacketsHold, ServerKeeps, IsChosenNow}
 
 -- a list that begins another goes on with what stands there
 begins_next : (xs ys : List Batch) (v : Batch) → Begins xs ys → slice_get ys (length xs) ≡ Some v → Begins (xs ++ v ∷ []) ys
@@ -75,7 +72,7 @@ module _ (g : Setting) (n : Known) where
       promise_turn s own phase r o h i q =
           promise_cases own r o (λ y t. HoldsOfPhase g n s y → OfTurn s t) (λ y x. x)
           (λ marks best most x. let v = value_holds s own (higher best o) h (higher_both (HoldsOfBest g n s) best o x q) in (v, v))
-          (λ marks best x. higher_both (HoldsOfBest g n s) best o x q) phase i
+          (λ marks best few x. higher_both (HoldsOfBest g n s) best o x q) phase i
 
       promise_keeps : (at : Place) (p : Proposal) → HoldsOfBatch g n at.shard p.own → (t : Phase Batch × Option Batch) → OfTurn at.shard t → ServerKeeps g n (promised g site k l at (l.shards at.shard) p t)
       promise_keeps at p own (phase, None) i = record { live = goes at.shard p phase own i; packets = tt }
@@ -112,7 +109,7 @@ module _ (g : Setting) (n : Known) where
             learns_of = λ from at v e x c. let h = learned_holds at.shard v (subst (λ t. slice_get (n.values at.shard) t ≡ Some v) e x) in record { live = h.0; packets = h.1 };
             promises = λ r at b o p e t x c. let h = stood at.shard p e in promise_keeps at p h.0 (on_promise p.own p.phase r o) (promise_turn at.shard p.own p.phase r o h.0 h.1 x);
             accepts = λ r at b p e t x c. let h = stood at.shard p e in
-                accepted_keeps at p h.0 (on_accepted p.phase r).0 (accept_cases r (λ y u. HoldsOfPhase g n at.shard y → HoldsOfPhase g n at.shard u.0) (λ y z. z) (λ v marks most z. tt) (λ v marks z. z) p.phase h.1) (on_accepted p.phase r).1
+                accepted_keeps at p h.0 (on_accepted p.phase r).0 (accept_cases r (λ y u. HoldsOfPhase g n at.shard y → HoldsOfPhase g n at.shard u.0) (λ y z. z) (λ v marks most z. tt) (λ v marks few z. z) p.phase h.1) (on_accepted p.phase r).1
                 (ap (λ (q : Place). q.slot) (current_at g at b (l.shards at.shard) p t).0) (λ v q. c at b r p v refl e t q);
             refuses = λ r at b above p e t x c. record { live = at_set (ShardHolds g n) l.shards at.shard _ (record { learned = (holds at.shard).learned; queue = (holds at.shard).queue; proposal = tt }) holds; packets = tt };
           })

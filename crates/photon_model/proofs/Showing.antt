@@ -1,10 +1,7 @@
 -- The report of a store names the missing ids, and no other.
 use Rattle.std.proofs.Common.{◌≡◌, inl, inr, ⊎_elim, ℕ, zero, suc, ◌+◌, ◌*◌, ◌<◌, ◌≤◌, Bool, true, false, cond, List, [], ◌∷◌, Some, None, refl, sym, ap, ◌∙◌, subst, arith}
 use Rattle.std.specs.Prelude.{Option, find, is_some, nat_lt}
-use Rattle.photon_model.proofs.Words.{EventId, same_id, Token, holder, bound_of, same_id-true, same_id-false, Mem, none_some, mem_left, mem_right, mem_split, M, X, U, PairRec, Setting, first_joiner}
-use Rattle.photon_model.specs.Sound.{IsWritten, IsMissing, known_of}
-use Rattle.photon_model.specs.Report.{pairs_from, all_pairs, decided_for, pair_of, line_by, line_of}
-use Rattle.photon_model.specs.Runs.{Disks}
+use Rattle.photon_model.proofs.Words.{EventId, same_id, Token, holder, bound_of, same_id-true, same_id-false, Mem, none_some, mem_left, mem_right, mem_split, M, X, U, PairRec, Setting, first_joiner, IsWritten, IsMissing, known_of, pairs_from, all_pairs, decided_for, pair_of, line_by, line_of, Disks}
 
 -- a pair of so many joiners' logs stands in one of them
 pub from_log : (d : Disks) (from n : ℕ) (p : PairRec) → Mem p (pairs_from d from n) → (j : ℕ) × (from ≤ j) × (j < from + n) × Mem p (d.joiners j).pairs

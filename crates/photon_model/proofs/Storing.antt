@@ -2,13 +2,8 @@
 use Rattle.std.proofs.Common.{◌≡◌, inl, inr, ⊎_elim, ℕ, ◌≤◌, Bool, true, false, cond, List, [], ◌∷◌, ◌++◌, Some, refl, sym, ap, subst, arith}
 use Rattle.std.specs.Prelude.{Option, find}
 use Rattle.std.proofs.lemmas.Bool.{true≢false}
-use Rattle.photon_model.proofs.Words.{Insert, Query, Click, ClickLine, end_from, Follow, IsBoundary, Mem, Begins, set_at, Setting, Checked, IsJoin, Replica, Joiner, PairRec, BallotNote, Note, Output, Voted, land, Place, Vote, acceptance, votes_at, votes_in as votes, Has, Promised, Took as Accepted, NeverFall, Batch, JoinerKept, JoinerLive, land_joiner, ReplicaKept, land_replica, none_some, mem_left, mem_split, each_more, at_set}
-use Rattle.photon_model.specs.Journals.{journals}
+use Rattle.photon_model.proofs.Words.{Insert, Query, Click, ClickLine, end_from, Follow, IsBoundary, Mem, Begins, set_at, Setting, Checked, IsJoin, Replica, Joiner, PairRec, BallotNote, Note, Output, Voted, land, Place, Vote, acceptance, votes_at, votes_in as votes, Has, Promised, Took as Accepted, NeverFall, Batch, JoinerKept, JoinerLive, land_joiner, ReplicaKept, land_replica, none_some, mem_left, mem_split, each_more, at_set, journals, Known, known_of, DispatcherSound, PairSound, DrawnSound, InsertsOf, Sound, SoundStore, accepted_inserts, World, Entry, Begin, End, Stop, Disks, begun, after, world_after, Store, WholeSound, empty_disks, ReadIsChecked, IsLonger, Cell}
 use Rattle.photon_model.proofs.Journals.{journal_beyond, votes_of}
-use Rattle.photon_model.specs.Sound.{Known, known_of, DispatcherSound, PairSound, DrawnSound, InsertsOf, Sound, SoundStore, accepted_inserts}
-use Rattle.photon_model.specs.Runs.{Cell, World, Entry, Begin, End, Stop, Disks, begun, after, world_after}
-use Rattle.photon_model.specs.Topology.{Store, WholeSound}
-use Rattle.photon_model.specs.Stores.{empty_disks, ReadIsChecked, IsLonger}
 use Rattle.log_records.proofs.Places.{queries_begin, lines_begin, lines_follow}
 use Rattle.photon_model.proofs.Growth.{begins_self, begins_again}
 

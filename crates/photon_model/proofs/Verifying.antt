@@ -2,12 +2,8 @@
 use Rattle.std.proofs.Common.{◌≡◌, ℕ, zero, suc, ◌*◌, ◌&&◌, true, not, List, [], ◌++◌, Some, None, ◌↔◌, refl, sym, ap, ◌∙◌}
 use Rattle.std.specs.Prelude.{Option, IsSome, is_some}
 use Rattle.std.specs.List.{flat_map}
-use Rattle.photon_model.proofs.Words.{EventId, none_some, Token, Batch, same_batch, holder, decided, PairRec, Setting, first_joiner, shard, BallotNote}
-use Rattle.photon_model.specs.Journals.{values_from}
+use Rattle.photon_model.proofs.Words.{EventId, none_some, Token, Batch, same_batch, holder, decided, PairRec, Setting, first_joiner, shard, BallotNote, values_from, pairs_from, decided_for, pair_of, Disks, IsWritten, IsMissing, known_of}
 use Rattle.photon_model.specs.Report as report
-use Rattle.photon_model.specs.Report.{pairs_from, decided_for, pair_of}
-use Rattle.photon_model.specs.Runs.{Disks}
-use Rattle.photon_model.specs.Sound.{IsWritten, IsMissing, known_of}
 use Rattle.verify_pass.specs.declared.journals.Journals.{Journals}
 use Rattle.verify_pass.specs.Classes as classes
 use Rattle.photon_model.specs.Verification.{AreOf}

@@ -1,10 +1,9 @@
 -- Each row of a replica keeps the facts on ballots, and these facts last where more is written or sent.
 use Rattle.std.proofs.Common.{◌≡◌, ◌≢◌, ⊎_elim, ℕ, ◌<◌, ◌≤◌, Bool, true, false, List, [], ◌∷◌, ◌++◌, length, get_or, Some, None, refl, sym, ap, ◌∙◌, subst, arith}
 use Rattle.std.specs.Prelude.{Option, ⊤}
-use Rattle.photon_model.proofs.Words.{Ballot, Place, is_place, note_of, Vote, acceptance, vote_at, votes_at, votes_in, Has, cell_of, HasAccepted, Prepared, Taken, on_prepare, on_accept, Grant, Refuse, Take, Decline, Phase, Promising, Accepting, Ended, IsOffer, IsUnheard, Writes, has_last, noted, has_split, place_true, vote_here, vote_elsewhere, votes_noted, votes_others, Suits, vote_suits, note_writes, note_agrees, grant_written, refusal_written, offer_written, answer_written, asking_written, offering_written, asking_sent, offering_sent, Batch, same_batch, Mem, Each, Packet, Prepare, Promise, Nack, Accept, Accepted, Node, Server, Replica, To, BallotNote, Note, Voted, Out, idle, ServerLive, Proposal, ReplicaKept, cell_at, note_at, prepared, taken, replica_gets, mem_right, mem_split}
+use Rattle.photon_model.proofs.Words.{Ballot, Place, is_place, note_of, Vote, acceptance, vote_at, votes_at, votes_in, Has, cell_of, HasAccepted, Prepared, Taken, on_prepare, on_accept, Grant, Refuse, Take, Decline, Phase, Promising, Accepting, Ended, IsOffer, IsUnheard, Writes, has_last, noted, has_split, place_true, vote_here, vote_elsewhere, votes_noted, votes_others, Suits, vote_suits, note_writes, note_agrees, grant_written, refusal_written, offer_written, answer_written, asking_written, offering_written, asking_sent, offering_sent, Batch, same_batch, Mem, Each, Packet, Prepare, Promise, Nack, Accept, Accepted, Node, Server, Replica, To, BallotNote, Note, Voted, Out, idle, ServerLive, Proposal, ReplicaKept, cell_at, note_at, prepared, taken, replica_gets, mem_right, mem_split, IsOwned, Offer, offer, Votes, Offered, PromisedBy, AcceptedBy, NackedBy, VotesOf, VotesOfPhase, VotesOfProposal, next_place, VotesOfServer, VotesAgree}
 use Rattle.paxos_defs.proofs.Cells.{Knows, cell_knows}
 use Rattle.paxos_defs.proofs.Turns.{after, PreparedHolds, IsPromiseVote, prepare_holds, TakenHolds, IsAcceptanceVote, accept_holds}
-use Rattle.photon_model.specs.Agreement.{IsOwned, Offer, offer, Votes, Offered, PromisedBy, AcceptedBy, NackedBy, VotesOf, VotesOfPhase, VotesOfProposal, next_place, VotesOfServer, VotesAgree}
 
 -- ---- what a row is to keep
 

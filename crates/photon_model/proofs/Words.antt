@@ -1,4 +1,16 @@
--- The words of the law: what its proofs take from the crates below, under one name each.
+-- The words of the law: what its proofs take from its definitions and from the crates below, under one name each.
+pub use Rattle.photon_model.specs.Agreement.{AcceptedBy, AreOwned, IsOwned, NackedBy, Offer, Offered, PromisedBy, ReplicasSound, Votes, VotesAgree, VotesOf, VotesOfPhase, VotesOfProposal, VotesOfServer, next_place, offer}
+pub use Rattle.photon_model.specs.EveryRun.{AllFactsHold, HasBounds, IsBoundOk, NoJoinerStops, RestLeaves, decided_in}
+pub use Rattle.photon_model.specs.Facts.{Covers, DispatcherFacts, DispatcherHolds, FlightHolds, HoldsOf, HoldsOfBatch, HoldsOfBest, HoldsOfInput, HoldsOfOutcome, HoldsOfPhase, HoldsOfProposal, HoldsOfReply, IfOpen, IfUp, IsFreshSound, IsLineOf, IsTooOld, JoinerFacts, JoinerHolds, ReplicaFacts, ServerFacts, ServerHolds, ShardHolds, WorldHolds, known}
+pub use Rattle.photon_model.specs.Images.{ImagesAreRuns, image, left_by}
+pub use Rattle.photon_model.specs.Journals.{journals, values_from}
+pub use Rattle.photon_model.specs.Keeping.{DispatcherKeeps, Grows, IsChosenNow, IsDrawing, IsFlying, IsResolved, JoinerKeeps, PacketsHold, PaxosGives, ReplicaKeeps, ServerKeeps, extended}
+pub use Rattle.photon_model.specs.Report.{all_pairs, decided_for, line_by, line_of, pair_of, pairs_from, unwritten_line}
+pub use Rattle.photon_model.specs.Rest.{BothUp, Carries, DispatcherWorks, IsAtRest, IsInterval, IsQuiet, IsWork, JoinerWorks, ServerWorks, UpWith, if_up, is_out, is_tick_of, is_unfinished, put_in, same_node, ticks_due, ticks_of, to_live}
+pub use Rattle.photon_model.specs.Runs.{Cell, Begin, Disks, End, Entry, Fits, IsRun, IsTurn, May, MayBegin, MayStop, Stop, WasSent, World, after, begun, disks, dispatcher_ended, dispatcher_row, down, ended, joiner_ended, joiner_row, opening, replica_ended, replica_row, row, sends, server_ended, server_row, stopped, world_after}
+pub use Rattle.photon_model.specs.Sound.{DispatcherSound, DrawnSound, HasNoQuery, InsertsOf, IsDrained, IsInsertOf, IsMissing, IsSettled, IsWritten, JoinerSound, Known, PairSound, Sound, SoundStore, accepted_inserts, inserts_in, inserts_of, known_of, values_of}
+pub use Rattle.photon_model.specs.Stores.{IsLonger, ReadIsChecked, RunsKeepWhole, TopologyComesFirst, empty_disks, empty_store}
+pub use Rattle.photon_model.specs.Topology.{IsBlank, Store, Topology, WholeSound, topology_of}
 pub use Rattle.turn_defs.proofs.ShardsBelow.{shard_below}
 pub use Rattle.turn_defs.specs.Dispatcher.{DispatcherKept, DispatcherLive, Fresh, advances, after_done, dispatcher_at_rest, dispatcher_gets, dispatcher_joined, dispatcher_own, dispatcher_start, dispatcher_tick, dispatcher_turn, dispatcher_unfinished, dispatcher_wants, done_end, ends, first_done, fresh_joins, has_room, join, join_if, land_dispatcher, mark, mark_one, parks, retries, some_waits, taken as taken_line, takes, trying_joins, waits, with_room}
 pub use Rattle.turn_defs.specs.Joiner.{Flight, JoinerKept, JoinerLive, answers, claim, in_flight, insert_of, is_for, joiner_at_rest, joiner_gets, joiner_start, joiner_tick, joiner_turn, joiner_unfinished, joins, land_joiner, landed, looks, next_token, replied, to_dispatcher, without_flight}
@@ -40,7 +52,7 @@ pub use Rattle.paxos_defs.specs.Attempts.{Phase, is_most, is_new, nobody, on_acc
 pub use Rattle.paxos_defs.specs.Attempts.Phase.{Accepting, Ended, Promising}
 pub use Rattle.paxos_defs.specs.Decided.{IsExact, decided}
 pub use Rattle.paxos_defs.specs.Facts.{IsAnswered, IsAsking, IsGrant, IsOffer, IsOffering, IsUnheard, Writes}
-pub use Rattle.paxos_defs.specs.Notes.{Cell, Has, Vote, acceptance, blank, cell_after, cell_from, cell_of, is_place, note_from, note_of, promise, vote_at, votes as votes_in, votes_at}
+pub use Rattle.paxos_defs.specs.Notes.{Cell as VotesCell, Has, Vote, acceptance, blank, cell_after, cell_from, cell_of, is_place, note_from, note_of, promise, vote_at, votes as votes_in, votes_at}
 pub use Rattle.paxos_defs.specs.Notes.Note.{Accepted as Took, Promised}
 pub use Rattle.paxos_defs.specs.Turns.{Prepared, Taken, accept_under, higher, is_accepted, on_accept, on_prepare, prepare_under, value_for, vote_anew}
 pub use Rattle.paxos_defs.specs.Turns.Prepared.{Grant, Refuse}

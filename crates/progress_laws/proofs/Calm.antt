@@ -1,9 +1,7 @@
 -- One entry of an interval in which nothing is done; what is left to do in a server's shards stays so.
 use Rattle.std.proofs.Common.{◌≡◌, ◌⊎◌, inl, inr, ⊎_elim, ℕ, ◌≤◌, Bool, false, List, ◌∷◌, Some, refl, sym, ap, ◌∙◌, subst, []}
 use Rattle.std.specs.Prelude.{Option}
-use Rattle.photon_model.proofs.Words.{Mem, Setting, IsTo, Addressed, Note, land, land_replica, Packet, Node, To, Only, Input, Tick, Deliver, Server, Replica, Joiner, Sent, ServerLive, server_start, server_turn}
-use Rattle.photon_model.specs.Runs.{World, Entry, End, row, server_row, replica_row, after, world_after, May, IsRun}
-use Rattle.photon_model.specs.Rest.{BothUp, JoinerWorks, ServerWorks, IsWork, is_out, Carries}
+use Rattle.photon_model.proofs.Words.{Mem, Setting, IsTo, Addressed, Note, land, land_replica, Packet, Node, To, Only, Input, Tick, Deliver, Server, Replica, Joiner, Sent, ServerLive, server_start, server_turn, World, Entry, End, row, server_row, replica_row, after, world_after, May, IsRun, BothUp, JoinerWorks, ServerWorks, IsWork, is_out, Carries}
 use Rattle.progress_laws.specs.Idle.{HasNumbers, IsWithinLimits, NoWork, IsIdle}
 use Rattle.progress_laws.proofs.Transit.{opened_at, CarriesOne, Underway, HasTick, NotStopped, carries_one, carries_not_stopped, sent_underway, addressed, stays_underway}
 use Rattle.progress_laws.proofs.Waiting.{IsLeftAt, still_left}

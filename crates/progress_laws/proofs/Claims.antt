@@ -3,9 +3,7 @@ use Rattle.std.proofs.Common.{◌≡◌, inl, inr, ⊎_elim, ℕ, ◌+◌, ◌*�
 use Rattle.std.specs.Prelude.{Option, not, ◌⊎◌}
 use Rattle.std.proofs.lemmas.Bool.{cond_both, and_from, le-leb, lt-ltb, eq-eqb}
 use Rattle.time_shards.specs.Shards.{IsTable}
-use Rattle.photon_model.proofs.Words.{Answer, Insert, Mem, some_same, Setting, IsJoiner, first_joiner, site_of_joiner, shard, Out, is_empty, shard_below, Claim, Reply, Node, Server, Joiner, Only, Input, Tick, Deliver, Sent, JoinerLive, Flight, insert_of, joiner_start, joiner_turn, joiner_unfinished, ServerLive, is_own_joiner, server_start, server_turn}
-use Rattle.photon_model.specs.Runs.{World, Entry, row, server_row, joiner_row, after, world_after}
-use Rattle.photon_model.specs.Rest.{UpWith, JoinerWorks, IsQuiet, if_up, is_unfinished}
+use Rattle.photon_model.proofs.Words.{Answer, Insert, Mem, some_same, Setting, IsJoiner, first_joiner, site_of_joiner, shard, Out, is_empty, shard_below, Claim, Reply, Node, Server, Joiner, Only, Input, Tick, Deliver, Sent, JoinerLive, Flight, insert_of, joiner_start, joiner_turn, joiner_unfinished, ServerLive, is_own_joiner, server_start, server_turn, World, Entry, row, server_row, joiner_row, after, world_after, UpWith, JoinerWorks, IsQuiet, if_up, is_unfinished}
 use Rattle.progress_laws.specs.Idle.{IsIdle}
 use Rattle.progress_laws.proofs.Transit.{opened_at, Underway, arrives, HasTick}
 use Rattle.progress_laws.proofs.Waiting.{IsLeftAt, Heard, insert_heard, waits_left}

@@ -2,11 +2,8 @@
 use Rattle.std.proofs.Common.{◌≡◌, ◌⊎◌, inl, inr, ⊎_elim, ℕ, zero, suc, ◌+◌, ◌*◌, ◌<◌, ◌≤◌, Bool, true, false, not, ◌||◌, List, [], length, Some, None, refl, sym, ap, ◌∙◌, subst, arith}
 use Rattle.std.specs.Prelude.{Option}
 use Rattle.std.proofs.lemmas.Bool.{true≢false, cases_Bool, cases_lt, or_left, or_right}
-use Rattle.photon_model.proofs.Words.{Ballot, IsUpTo, Majority, upto_trans, not_above, Batch, Place, none_some, some_same, Setting, IsJoiner, first_joiner, shards, site_of_joiner, IsNode, Node, Dispatcher, Server, Replica, Joiner, Deliver, DispatcherLive, dispatcher_at_rest, JoinerLive, joiner_at_rest, ServerLive, ShardState, is_free, server_at_rest}
+use Rattle.photon_model.proofs.Words.{Ballot, IsUpTo, Majority, upto_trans, not_above, Batch, Place, none_some, some_same, Setting, IsJoiner, first_joiner, shards, site_of_joiner, IsNode, Node, Dispatcher, Server, Replica, Joiner, Deliver, DispatcherLive, dispatcher_at_rest, JoinerLive, joiner_at_rest, ServerLive, ShardState, is_free, server_at_rest, AllFactsHold, World, Entry, Disks, world_after, opening, UpWith, IsAtRest, IsQuiet}
 use Rattle.time_shards.specs.Shards.{IsTable}
-use Rattle.photon_model.specs.EveryRun.{AllFactsHold}
-use Rattle.photon_model.specs.Runs.{World, Entry, Disks, world_after, opening}
-use Rattle.photon_model.specs.Rest.{UpWith, IsAtRest, IsQuiet}
 use Rattle.progress_laws.specs.Idle.{IsIdle}
 use Rattle.progress_laws.specs.Moves.{is_left, next_of, promise_at, IsHeldAt, IsRefusedFrom, RestOrRefused, LeftIsRefused, HeldIsRefused}
 use Rattle.progress_laws.proofs.Transit.{opened_at, HasTick, quiet_closed}

@@ -5,8 +5,7 @@ use Rattle.std.proofs.lemmas.Cmp.{ranked}
 use Rattle.std.specs.Ordering.{nat_cmp, ordering_then, MatchOrdering}
 use Rattle.std.specs.declared.cmp.Ordering.{Ordering}
 use Rattle.std.specs.declared.cmp.Ordering.TheVariants.{Less, Equal, Greater}
-use Rattle.photon_model.proofs.Words.{Ballot, IsBelow, IsUpTo, not_above, Batch, Place, Each, none_some, some_same, Setting, IsNode, Sent, Out, land, Packet, Prepare, Accept, Nack, Node, Dispatcher, Server, Replica, Joiner, To, Input, Tick, Deliver, ServerLive, server_turn, ReplicaKept, cell_at, land_replica, replica_turn}
-use Rattle.photon_model.specs.Runs.{World, Entry, End, dispatcher_row, server_row, replica_row, joiner_row, after, May}
+use Rattle.photon_model.proofs.Words.{Ballot, IsBelow, IsUpTo, not_above, Batch, Place, Each, none_some, some_same, Setting, IsNode, Sent, Out, land, Packet, Prepare, Accept, Nack, Node, Dispatcher, Server, Replica, Joiner, To, Input, Tick, Deliver, ServerLive, server_turn, ReplicaKept, cell_at, land_replica, replica_turn, World, Entry, End, dispatcher_row, server_row, replica_row, joiner_row, after, May}
 use Rattle.photon_model.proofs.Agreeing.{IsPlain, dispatcher_row_plain, joiner_row_plain}
 use Rattle.progress_laws.specs.Moves.{next_of, promise_at}
 use Rattle.progress_laws.proofs.Transit.{opened_at, Underway, HasTick, IsSent, was_underway, sent_has}

@@ -2,9 +2,7 @@
 use Rattle.std.proofs.Common.{◌≡◌, ◌⊎◌, inl, inr, ℕ, Bool, true, false, cond, ◌==◌, List, Some, None, refl, sym, ap, ◌∙◌, subst}
 use Rattle.std.specs.Prelude.{Option}
 use Rattle.std.proofs.lemmas.Bool.{eqb-true, cond-true, eq-eqb}
-use Rattle.photon_model.proofs.Words.{set_at, Setting, Packet, Node, Dispatcher, Server, Replica, Joiner, Input, Own, Note, Out, idle, land, ReplicaKept, land_replica, replica_start, replica_turn}
-use Rattle.photon_model.specs.Runs.{World, Entry, Begin, End, Stop, row, begun, dispatcher_row, server_row, replica_row, joiner_row, dispatcher_ended, server_ended, replica_ended, joiner_ended, after, Cell, May}
-use Rattle.photon_model.specs.Rest.{BothUp}
+use Rattle.photon_model.proofs.Words.{set_at, Setting, Packet, Node, Dispatcher, Server, Replica, Joiner, Input, Own, Note, Out, idle, land, ReplicaKept, land_replica, replica_start, replica_turn, World, Entry, Begin, End, Stop, row, begun, dispatcher_row, server_row, replica_row, joiner_row, dispatcher_ended, server_ended, replica_ended, joiner_ended, after, May, BothUp, Cell}
 use Rattle.progress_laws.proofs.Transit.{opened_at, EndsTurn, NotStopped}
 
 -- the entry is an End of the node

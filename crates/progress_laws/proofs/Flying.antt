@@ -3,8 +3,7 @@ use Rattle.std.proofs.Common.{◌≡◌, ◌⊎◌, inl, inr, ⊎_elim, ℕ, Boo
 use Rattle.std.specs.Prelude.{find}
 use Rattle.std.proofs.lemmas.Bool.{true≢false, and_from}
 use Rattle.photon_model.proofs.JoinerRows.{landed_or, landed_before, every_row}
-use Rattle.photon_model.proofs.Words.{Insert, same_id-refl, same_token-refl, Answer, Granted, Duplicate, TooOld, Mem, option_both, mem_left, mem_split, none_some, Setting, site_of_joiner, Claim, Reply, Node, Server, Only, Input, Tick, Deliver, Out, idle, JoinerKept, JoinerLive, Flight, insert_of, is_for, landed, without_flight, answers, replied, joiner_turn}
-use Rattle.photon_model.specs.Rest.{JoinerWorks}
+use Rattle.photon_model.proofs.Words.{Insert, same_id-refl, same_token-refl, Answer, Granted, Duplicate, TooOld, Mem, option_both, mem_left, mem_split, none_some, Setting, site_of_joiner, Claim, Reply, Node, Server, Only, Input, Tick, Deliver, Out, idle, JoinerKept, JoinerLive, Flight, insert_of, is_for, landed, without_flight, answers, replied, joiner_turn, JoinerWorks}
 
 pub is_own : (f : Flight) → is_for (insert_of f) f ≡ true
 is_own f = and_from _ _ (same_id-refl f.click.id) (same_token-refl f.token)

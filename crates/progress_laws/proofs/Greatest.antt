@@ -2,9 +2,7 @@
 use Rattle.std.proofs.Common.{◌≡◌, ◌⊎◌, inl, inr, ⊎_elim, ℕ, zero, suc, ◌<◌, ◌≤◌, Bool, true, false, ◌==◌, length, Some, None, refl, sym, ap, ◌∙◌, subst, arith, lit<}
 use Rattle.std.specs.Prelude.{Option}
 use Rattle.std.proofs.lemmas.Bool.{eqb-true, eq-eqb, true≢false}
-use Rattle.photon_model.proofs.Words.{Ballot, IsBelow, IsUpTo, compared, upto_trans, Place, none_some, some_same, Setting, Packet, Prepare, Accept, Nack, Node, ServerLive, ShardState}
-use Rattle.photon_model.specs.Runs.{World}
-use Rattle.photon_model.specs.Rest.{is_out}
+use Rattle.photon_model.proofs.Words.{Ballot, IsBelow, IsUpTo, compared, upto_trans, Place, none_some, some_same, Setting, Packet, Prepare, Accept, Nack, Node, ServerLive, ShardState, World, is_out}
 use Rattle.photon_model.proofs.Agreeing.{IsPlain}
 use Rattle.progress_laws.specs.Moves.{is_left, next_of, promise_at}
 use Rattle.progress_laws.proofs.Turning.{ballot_in, Stands, Asks}

@@ -1,9 +1,7 @@
 -- What each turn of a server keeps of its shards holds after every run.
 use Rattle.std.proofs.Common.{◌≡◌, inl, inr, ⊎_elim, ℕ, true, List, [], ◌∷◌, Some, None, sym, ap, ◌∙◌}
 use Rattle.std.specs.Prelude.{Option}
-use Rattle.photon_model.proofs.Words.{Ballot, set_at, at_set, none_some, Setting, Out, Server, Input, ServerKept, ServerLive, ShardState, land_server, empty_shard, server_start, server_turn}
-use Rattle.photon_model.specs.Facts.{IfUp}
-use Rattle.photon_model.specs.Runs.{Cell, World, Entry, Begin, End, Stop, Disks, begun, stopped, row, server_row, server_ended, after, world_after, opening}
+use Rattle.photon_model.proofs.Words.{Ballot, set_at, at_set, none_some, Setting, Out, Server, Input, ServerKept, ServerLive, ShardState, land_server, empty_shard, server_start, server_turn, IfUp, World, Entry, Begin, End, Stop, Disks, begun, stopped, row, server_row, server_ended, after, world_after, opening, Cell}
 use Rattle.progress_laws.specs.Moves.{is_left}
 use Rattle.progress_laws.proofs.Ending.{row_up}
 use Rattle.progress_laws.proofs.Turning.{ballot_in, Fate, Turns, turns}

@@ -2,9 +2,8 @@
 use Rattle.std.proofs.Common.{◌≡◌, ⊎_elim, ℕ, zero, suc, ◌+◌, ◌<◌, ◌≤◌, Bool, true, false, cond, nat_le, List, [], ◌∷◌, ◌++◌, length, Some, None, refl, sym, ap, ◌∙◌, subst, arith}
 use Rattle.std.specs.Prelude.{Option, if◌then◌else◌}
 use Rattle.std.proofs.lemmas.Bool.{cond-true, cond-false, true≢false, cases_lt, le-leb, leb-true, lt-leb}
-use Rattle.photon_model.proofs.Words.{Ballot, Majority, Place, Setting}
+use Rattle.photon_model.proofs.Words.{Ballot, Majority, Place, Setting, World, Entry, Disks, after, world_after, IsRun, opening}
 use Rattle.time_shards.specs.Shards.{IsTable}
-use Rattle.photon_model.specs.Runs.{World, Entry, Disks, after, world_after, IsRun, opening}
 use Rattle.progress_laws.specs.Idle.{AreIdle}
 use Rattle.progress_laws.specs.Moves.{live_among, promise_at, IsHeldAt, Refusal, RestOrRefused, HeldIsRefused, WorkMovesOn, WorkMovesOnBy}
 

@@ -2,10 +2,7 @@
 use Rattle.std.proofs.Common.{◌≡◌, ◌⊎◌, inl, inr, ⊎_elim, ℕ, zero, suc, ◌+◌, ◌*◌, ◌<◌, ◌≤◌, Bool, true, false, cond, ◌||◌, nat_lt, List, ◌∷◌, length, Some, None, refl, sym, ap, ◌∙◌, subst, arith, []}
 use Rattle.std.specs.Prelude.{Option, not, is_some, slice_get}
 use Rattle.std.proofs.lemmas.Bool.{true≢false, cases_lt, lt-ltb, or_left}
-use Rattle.photon_model.proofs.Words.{Ballot, marked, Majority, Batch, same_batch, bound_of, Place, Prepared, Taken, on_prepare, on_accept, Grant, Refuse, Take, Decline, Phase, is_most, Promising, Accepting, Ended, Mem, none_some, some_same, Setting, shards, Out, is_empty, Packet, Node, Server, Replica, Only, Input, Tick, Deliver, Sent, ServerKept, ServerLive, Proposal, first_shard, is_free, shard_unfinished, server_unfinished, server_start, server_turn, ReplicaKept, cell_at, prepared, taken, replica_start, replica_turn}
-use Rattle.photon_model.specs.Facts.{IfUp}
-use Rattle.photon_model.specs.Runs.{World, Entry, Disks, row, server_row, replica_row, after, world_after, opening}
-use Rattle.photon_model.specs.Rest.{if_up, is_unfinished}
+use Rattle.photon_model.proofs.Words.{Ballot, marked, Majority, Batch, same_batch, bound_of, Place, Prepared, Taken, on_prepare, on_accept, Grant, Refuse, Take, Decline, Phase, is_most, Promising, Accepting, Ended, Mem, none_some, some_same, Setting, shards, Out, is_empty, Packet, Node, Server, Replica, Only, Input, Tick, Deliver, Sent, ServerKept, ServerLive, Proposal, first_shard, is_free, shard_unfinished, server_unfinished, server_start, server_turn, ReplicaKept, cell_at, prepared, taken, replica_start, replica_turn, IfUp, World, Entry, Disks, row, server_row, replica_row, after, world_after, opening, if_up, is_unfinished}
 use Rattle.progress_laws.specs.Idle.{IsIdle}
 use Rattle.progress_laws.specs.Moves.{next_of}
 use Rattle.progress_laws.proofs.Transit.{opened_at, Underway, arrives, HasTick}

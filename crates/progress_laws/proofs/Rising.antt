@@ -2,7 +2,7 @@
 use Rattle.std.proofs.Common.{◌≡◌, ◌⊎◌, inl, inr, Bool, true, false, cond, ◌∷◌, ◌++◌, Some, None, refl, ap, ◌∙◌, subst, []}
 use Rattle.std.specs.Prelude.{Option}
 use Rattle.std.proofs.lemmas.Bool.{cond_both, cond-true, cond-false}
-use Rattle.photon_model.proofs.Words.{Ballot, IsBelow, IsUpTo, is_below, is_same, below_true, below_false, Batch, same_batch, Place, is_place, Vote, promise, acceptance, Cell, cell_of, cell_after, votes_at, note_of, Prepared, Taken, prepare_under, on_prepare, is_accepted, vote_anew, accept_under, on_accept, Grant, Refuse, Take, Decline, place_true, cell_noted, Each, land, Packet, Prepare, Nack, Accept, Node, To, Input, Deliver, ReplicaKept, cell_at, note_at, land_replica, prepared, taken, replica_turn}
+use Rattle.photon_model.proofs.Words.{Ballot, IsBelow, IsUpTo, is_below, is_same, below_true, below_false, Batch, same_batch, Place, is_place, Vote, promise, acceptance, VotesCell as Cell, cell_of, cell_after, votes_at, note_of, Prepared, Taken, prepare_under, on_prepare, is_accepted, vote_anew, accept_under, on_accept, Grant, Refuse, Take, Decline, place_true, cell_noted, Each, land, Packet, Prepare, Nack, Accept, Node, To, Input, Deliver, ReplicaKept, cell_at, note_at, land_replica, prepared, taken, replica_turn}
 
 -- the input asks at the place with the ballot
 abbrev pub AsksAt : Input → Place → Ballot → Type 0

@@ -3,10 +3,7 @@ use Rattle.std.proofs.Common.{◌≡◌, inl, inr, ⊎_elim, ℕ, zero, suc, ◌
 use Rattle.std.specs.Prelude.{not, is_none, is_some, ◌⊎◌}
 use Rattle.std.proofs.lemmas.Bool.{true≢false, cases_lt, and_cases, and_from, or_parts, or_left, or_right, eq-eqb, not_from_false, not-false}
 use Rattle.time_shards.specs.Shards.{IsTable}
-use Rattle.photon_model.proofs.Words.{bound_of, Mem, has, Setting, IsJoiner, shards, site_of_joiner, is_empty, DispatcherLive, Fresh, waits, first_done, has_room, dispatcher_wants, dispatcher_at_rest, JoinerLive, Flight, joiner_at_rest, ServerLive, first_shard, is_free, is_below_limit, may_propose, server_wants, server_at_rest, ShardState}
-use Rattle.photon_model.specs.Facts.{IfUp}
-use Rattle.photon_model.specs.Runs.{World, Entry, after, world_after}
-use Rattle.photon_model.specs.Rest.{UpWith}
+use Rattle.photon_model.proofs.Words.{bound_of, Mem, has, Setting, IsJoiner, shards, site_of_joiner, is_empty, DispatcherLive, Fresh, waits, first_done, has_room, dispatcher_wants, dispatcher_at_rest, JoinerLive, Flight, joiner_at_rest, ServerLive, first_shard, is_free, is_below_limit, may_propose, server_wants, server_at_rest, ShardState, IfUp, World, Entry, after, world_after, UpWith}
 use Rattle.progress_laws.specs.Idle.{IsIdle, HasNumbers, IsWithinLimits}
 use Rattle.progress_laws.specs.Moves.{is_left}
 use Rattle.progress_laws.proofs.Waiting.{IsLeftAt}

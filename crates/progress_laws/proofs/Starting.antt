@@ -1,8 +1,6 @@
 -- What the facts say at the start of an interval: whose tokens are in flight, and which positions have a line.
 use Rattle.std.proofs.Common.{List, subst}
-use Rattle.photon_model.proofs.Words.{Insert, each_at, Setting}
-use Rattle.photon_model.specs.Facts.{known, IfUp, FlightHolds, JoinerHolds, DispatcherHolds, WorldHolds}
-use Rattle.photon_model.specs.Runs.{World}
+use Rattle.photon_model.proofs.Words.{Insert, each_at, Setting, known, IfUp, FlightHolds, JoinerHolds, DispatcherHolds, WorldHolds, World}
 use Rattle.progress_laws.proofs.Claims.{HasOwnTokens}
 use Rattle.progress_laws.proofs.Trying.{HasLines}
 

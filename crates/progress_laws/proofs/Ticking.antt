@@ -3,9 +3,7 @@ use Rattle.std.proofs.Common.{◌≡◌, ◌⊎◌, inl, inr, ⊎_elim, ℕ, ◌
 use Rattle.std.specs.Prelude.{filter}
 use Rattle.std.proofs.lemmas.Bool.{true≢false}
 use Rattle.std.proofs.lemmas.List.Sums.{length-filter}
-use Rattle.photon_model.proofs.Words.{Mem, none_some, Setting, IsNode, Node, Tick, Sent}
-use Rattle.photon_model.specs.Runs.{World, Entry, Begin, after, May}
-use Rattle.photon_model.specs.Rest.{is_tick_of, ticks_due, is_unfinished, is_out, IsQuiet, IsInterval}
+use Rattle.photon_model.proofs.Words.{Mem, none_some, Setting, IsNode, Node, Tick, Sent, World, Entry, Begin, after, May, is_tick_of, ticks_due, is_unfinished, is_out, IsQuiet, IsInterval}
 use Rattle.progress_laws.proofs.Transit.{opened_at, CarriesOne, EndsTurn, HasTick, same_node-true, opens, stays_open, quiet_closed, carries_not_stopped}
 
 is_tick : (n : Node) (e : Entry) → is_tick_of n e ≡ true → e ≡ Begin n Tick

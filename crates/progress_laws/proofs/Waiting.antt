@@ -2,8 +2,7 @@
 use Rattle.std.proofs.Common.{◌≡◌, ◌⊎◌, inl, inr, ⊎_elim, ℕ, ◌<◌, true, ◌||◌, ◌==◌, nat_lt, nat_le, List, ◌∷◌, ◌++◌, length, Some, None, refl, sym, ap, ◌∙◌, subst, []}
 use Rattle.std.specs.Prelude.{Option, not}
 use Rattle.std.proofs.lemmas.Bool.{cond_both, cond-true, eq-eqb, or_cases, or_left, or_right, true≢false}
-use Rattle.photon_model.proofs.Words.{Insert, Token, Answer, bound_of, replay, Mem, mem_right, Setting, shard, shards, Out, idle, is_empty, Reply, Node, Joiner, Only, ServerKept, ServerLive, ShardState, queued, is_own_joiner, claimed, server_gets}
-use Rattle.photon_model.specs.Runs.{World}
+use Rattle.photon_model.proofs.Words.{Insert, Token, Answer, bound_of, replay, Mem, mem_right, Setting, shard, shards, Out, idle, is_empty, Reply, Node, Joiner, Only, ServerKept, ServerLive, ShardState, queued, is_own_joiner, claimed, server_gets, World}
 use Rattle.progress_laws.specs.Moves.{is_left}
 use Rattle.progress_laws.proofs.Turning.{Same}
 use Rattle.turn_defs.specs.declared.packet.Packet.TheVariants as packet

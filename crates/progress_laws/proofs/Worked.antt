@@ -2,10 +2,7 @@
 use Rattle.std.proofs.Common.{◌≡◌, inl, ⊎_elim, ℕ, zero, suc, ◌<◌, Bool, true, false, cond, ◌&&◌, nat_lt, List, [], ◌∷◌, ◌++◌, length, Some, None, refl, sym, ap, ◌∙◌, subst, arith, lit<}
 use Rattle.std.specs.Prelude.{⊤, not, is_some, filter, Option}
 use Rattle.std.proofs.lemmas.Bool.{true≢false, and_parts, ltb-true}
-use Rattle.photon_model.proofs.Words.{Ballot, is_same, same_true, same_batch, same_batch-true, Place, is_place, place_true, Mem, option_or_else, mem_right, none_some, some_same, Packet, Prepare, Promise, Nack, Accept, Accepted, Chosen, Node, Dispatcher, Server, Replica, Joiner, To, Only, AnyJoiner, Input, Start, Deliver, IsNode, Addressed, Sent, IsJoiner, shards, Out, is_empty, dispatcher_wants, ServerLive, is_below_limit, server_wants, server_start, server_turn}
-use Rattle.photon_model.specs.Facts.{IfUp}
-use Rattle.photon_model.specs.Runs.{Cell, World, Entry, Begin, End, Stop, Fits, WasSent, MayBegin, May, IsRun, row, dispatcher_row, server_row, replica_row, sends, after, world_after}
-use Rattle.photon_model.specs.Rest.{same_node, UpWith, BothUp, ServerWorks, IsWork, put_in, ticks_of, ticks_due, is_unfinished, to_live, Carries, IsQuiet}
+use Rattle.photon_model.proofs.Words.{Ballot, is_same, same_true, same_batch, same_batch-true, Place, is_place, place_true, Mem, option_or_else, mem_right, none_some, some_same, Packet, Prepare, Promise, Nack, Accept, Accepted, Chosen, Node, Dispatcher, Server, Replica, Joiner, To, Only, AnyJoiner, Input, Start, Deliver, IsNode, Addressed, Sent, IsJoiner, shards, Out, is_empty, dispatcher_wants, ServerLive, is_below_limit, server_wants, server_start, server_turn, IfUp, World, Entry, Begin, End, Stop, Fits, WasSent, MayBegin, May, IsRun, row, dispatcher_row, server_row, replica_row, sends, after, world_after, same_node, UpWith, BothUp, ServerWorks, IsWork, put_in, ticks_of, ticks_due, is_unfinished, to_live, Carries, IsQuiet, Cell}
 use Rattle.progress_laws.specs.Idle.{HasNumbers, IsWithinLimits, NoWork, IsIdle}
 use Rattle.progress_laws.specs.Rows.{three, all_live, to_one, ends, plays, duel, restarts, beginning, down_again, stale, first, second, third, fourth, after_first, after_second, after_third, CarriesOnce, ThreeAreIdle}
 use Rattle.progress_laws.proofs.Transit.{opened_at, same_node-true, opens, not_out}

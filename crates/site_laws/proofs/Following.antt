@@ -3,7 +3,7 @@ use Rattle.std.proofs.Common.{◌≡◌, ◌≢◌, ◌⊎◌, inl, inr, ⊎_eli
 use Rattle.std.specs.Prelude.{All}
 use Rattle.std.proofs.lemmas.Bool.{eqb-true, eqb-false}
 use Rattle.std.proofs.lemmas.List.Elements.{All-head, All-tail}
-use Rattle.photon_model.proofs.Words.{Mem, mem_left, mem_right, mem_split, each_at, some_same, none_some, Setting, IsNode, node_number, node_of, NumbersAreNodes, Packet, packet, IsPacket, Sent, Node, Input, Start, Own, Tick, Deliver}
+use Rattle.photon_model.proofs.Words.{Mem, mem_left, mem_right, mem_split, each_at, some_same, none_some, Setting, IsNode, node_number, node_of, NumbersAreNodes, Packet, packet, IsPacket, Sent, Node, Input, Start, Own, Tick, Deliver, World, Entry, Disks, after, world_after, sends, WasSent, May, IsRun, opening}
 use Rattle.air_bus.specs.declared.entry.Input.{Input as Bytes}
 use Rattle.air_bus.specs.declared.entry.Input.TheVariants as bytes
 use Rattle.air_bus.specs.declared.entry.Entry.{Entry as BusEntry}
@@ -12,7 +12,6 @@ use Rattle.air_bus.specs.History.{node_of as number_in}
 use Rattle.air_bus.specs.Laws.{Sent as BusSent, sent, sent_by, sent_to, DeliveredWasSent}
 use Rattle.site_node.specs.Bytes.{addressed, Reads}
 use Rattle.site_node.specs.States.{Path}
-use Rattle.photon_model.specs.Runs.{World, Entry, Disks, after, world_after, sends, WasSent, May, IsRun, opening}
 use Rattle.site_laws.specs.Kinds.{StateOf, rows_of, cell_of}
 use Rattle.site_laws.specs.Meaning.{Means, AllMean, OpenedAs, StandsFor}
 use Rattle.site_laws.specs.Laws.{made_by, EachWalked, IsRunOf}

@@ -2,7 +2,7 @@
 use Rattle.std.proofs.Common.{◌≡◌, ℕ, ◌<◌, List, [], ◌∷◌, ◌++◌, Option, Some, None, Result, Ok, refl, sym, ◌∙◌, ap, subst}
 use Rattle.std.specs.Prelude.{map, All}
 use Rattle.std.proofs.lemmas.List.Elements.{All-head, All-tail}
-use Rattle.photon_model.proofs.Words.{Each, Promised, Took as Accepted, PairRec, IsPair, Node, Dispatcher, Server, Replica, Joiner, Setting, IsNode, BallotNote, ReplicaKept}
+use Rattle.photon_model.proofs.Words.{Each, Promised, Took as Accepted, PairRec, IsPair, Node, Dispatcher, Server, Replica, Joiner, Setting, IsNode, BallotNote, ReplicaKept, Disks, Topology}
 use Rattle.outside.specs.declared.store.DiskName.{DiskName}
 use Rattle.outside.specs.declared.store.DiskName.TheVariants as name
 use Rattle.paxos_acceptor.specs.declared.notes.ReplicaNote.{ReplicaNote}
@@ -19,8 +19,6 @@ use Rattle.epoch_journal.specs.Epochs as epochs
 use Rattle.output_log.specs.Pairs as pairs
 use Rattle.site_node.specs.Replicas.{IsVoted, vote_record}
 use Rattle.site_node.proofs.Replicas.{views_ok}
-use Rattle.photon_model.specs.Runs.{Disks}
-use Rattle.photon_model.specs.Topology.{Topology}
 use Rattle.site_laws.specs.Kinds.{kept_of}
 use Rattle.site_laws.specs.Stores.{Bytes, joiner_of, KeepsTopology, KeepsVotes, KeepsOf, HoldsRecords}
 use Rattle.site_laws.specs.StoreLaws.{KeepOneTopology, HoldSameRecords, ReadTopologyIsKept, ReadNotesAreKept}

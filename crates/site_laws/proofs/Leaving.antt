@@ -1,15 +1,11 @@
 -- What all disks may hold is an image of the model's world after the run.
 use Rattle.std.proofs.Common.{◌≡◌, ⊎_elim, Bool, true, false, ◌&&◌, List, [], ◌∷◌, ◌++◌, Option, Some, None, refl, sym, ap, ◌∙◌, subst}
 use Rattle.std.specs.Prelude.{is_some, if◌then◌else◌}
-use Rattle.photon_model.proofs.Words.{Setting, IsNode, Note, Out, land, Node, Dispatcher, Server, Replica, Joiner, Input}
+use Rattle.photon_model.proofs.Words.{Setting, IsNode, Note, Out, land, Node, Dispatcher, Server, Replica, Joiner, Input, World, Entry, Begin, End, Stop, Disks, disks, after, world_after, May, IsRun, down, opening, WholeSound, RunsKeepWhole, left_by, image, ImagesAreRuns, Cell}
 use Rattle.air_bus.specs.declared.entry.Input.{Input as Bytes}
 use Rattle.air_bus.specs.declared.entry.Entry.{Entry as BusEntry}
 use Rattle.site_node.specs.Bytes.{Reads}
 use Rattle.site_node.specs.States.{State, Rows, MayHold, row_of}
-use Rattle.photon_model.specs.Runs.{Cell, World, Entry, Begin, End, Stop, Disks, disks, after, world_after, May, IsRun, down, opening}
-use Rattle.photon_model.specs.Topology.{WholeSound}
-use Rattle.photon_model.specs.Stores.{RunsKeepWhole}
-use Rattle.photon_model.specs.Images.{left_by, image, ImagesAreRuns}
 use Rattle.site_laws.specs.Kinds.{StateOf, rows_of, cell_of, kept_of}
 use Rattle.site_laws.specs.Meaning.{StandsFor}
 use Rattle.site_laws.specs.Choosing.{is_node_or}

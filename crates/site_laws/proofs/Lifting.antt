@@ -1,8 +1,7 @@
 -- What one node does, in the world of all.
 use Rattle.std.proofs.Common.{◌≡◌, ◌≢◌, ⊎_elim, ℕ, ◌≤◌, cond, List, ◌++◌, None, refl, sym, ap, ◌∙◌, eq-eqb, ne_eqb}
 use Rattle.std.proofs.lemmas.Bool.{cases_lt}
-use Rattle.photon_model.proofs.Words.{set_at, Setting, none_some, IsNode, node_of, node_count, NumbersAreNodes, Sent, Node, Dispatcher, Server, Replica, Joiner}
-use Rattle.photon_model.specs.Runs.{Cell, World, Disks, after, May, down, opening}
+use Rattle.photon_model.proofs.Words.{set_at, Setting, none_some, IsNode, node_of, node_count, NumbersAreNodes, Sent, Node, Dispatcher, Server, Replica, Joiner, World, Disks, after, May, down, opening, Cell}
 use Rattle.site_laws.specs.Kinds.{KeptOf, LiveOf, rows_of, cell_of, kept_of}
 use Rattle.site_laws.proofs.Stepping.{Deed, Begins, Ends, Stops, entry_of, sent_of, MayDo, done}
 

@@ -1,11 +1,7 @@
 -- What is sound is so by the records of the setting's nodes alone.
 use Rattle.std.proofs.Common.{◌≡◌, ◌⊎◌, inl, inr, ⊎_elim, ℕ, ◌+◌, ◌<◌, ◌≤◌, List, ◌∷◌, refl, sym, ◌∙◌, ap, subst, arith, zero, suc}
-use Rattle.photon_model.proofs.Words.{EventId, Insert, Batch, IsGranted, Registered, Expired, Mem, Each, each_more, Promised, Took as Accepted, JournalsAgree, PairRec, Dispatcher, Server, Replica, Joiner, Setting, shard, BallotNote, DispatcherKept, JoinerKept, ServerKept, ReplicaKept}
-use Rattle.photon_model.specs.Journals.{values_from, journals, decided}
-use Rattle.photon_model.specs.Agreement.{AreOwned}
-use Rattle.photon_model.specs.Runs.{Disks}
-use Rattle.photon_model.specs.Sound.{Known, IsWritten, IsSettled, DispatcherSound, PairSound, JoinerSound, DrawnSound, InsertsOf, known_of, Sound, inserts_of, accepted_inserts, SoundStore}
-use Rattle.photon_model.specs.Topology.{IsBlank}
+use Rattle.photon_model.proofs.Words.{EventId, Insert, Batch, IsGranted, Registered, Expired, Mem, Each, each_more, Promised, Took as Accepted, JournalsAgree, PairRec, Dispatcher, Server, Replica, Joiner, Setting, shard, BallotNote, DispatcherKept, JoinerKept, ServerKept, ReplicaKept, values_from, journals, AreOwned, Disks, Known, IsWritten, IsSettled, DispatcherSound, PairSound, JoinerSound, DrawnSound, InsertsOf, known_of, Sound, inserts_of, accepted_inserts, SoundStore, IsBlank}
+use Rattle.photon_model.specs.Journals.{decided}
 use Rattle.site_laws.specs.Stores.{SameRecords}
 use Rattle.site_laws.specs.StoreLaws.{SameIsSound, SameIsWhole}
 

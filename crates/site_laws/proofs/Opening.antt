@@ -2,13 +2,11 @@
 use Rattle.std.proofs.Common.{◌≡◌, ◌≢◌, ⊎_elim, ℕ, Bool, List, [], Option, Some, None, refl, sym, ◌∙◌, ap, subst}
 use Rattle.std.specs.Result.{result_unwrap_or}
 use Rattle.std.proofs.lemmas.List.Elements.{All-nil}
-use Rattle.photon_model.proofs.Words.{some_same, none_some, IsPair, Setting}
+use Rattle.photon_model.proofs.Words.{some_same, none_some, IsPair, Setting, Topology, topology_of, Store, WholeSound, empty_disks, empty_store, TopologyComesFirst}
 use Rattle.outside.specs.declared.store.DiskName.{DiskName}
 use Rattle.outside.specs.declared.store.DiskName.TheVariants as name
 use Rattle.gate_journal.specs.Gate.{gate_rule, records}
 use Rattle.gate_journal.specs.Opening.{IsOpened}
-use Rattle.photon_model.specs.Topology.{Topology, topology_of, Store, WholeSound}
-use Rattle.photon_model.specs.Stores.{empty_disks, empty_store, TopologyComesFirst}
 use Rattle.site_laws.specs.Stores.{Bytes, Images, IsDisk, IsChoice, KeepsTopology, KeepsOf, IsFit, KeepSound, IsSoundStore, AreLeft, SameRecords}
 use Rattle.site_laws.specs.StoreLaws.{KeepOneTopology, HoldSameRecords, SameIsWhole, LeavesNothing, TopologyIsFirst, TopologyFits, StaysSound, IsTopologyWritten, WrittenIsSound}
 use Rattle.site_laws.proofs.Naming.{choose, by_topology}

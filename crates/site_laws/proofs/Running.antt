@@ -1,6 +1,6 @@
 -- What a run leaves of a store's disks.
 use Rattle.std.proofs.Common.{◌≡◌, ⊎_elim, ℕ, ◌<◌, true, Option, refl, sym, ◌∙◌, subst}
-use Rattle.photon_model.proofs.Words.{Each, some_same, Node, Dispatcher, Server, Replica, Joiner, Setting, IsNode, JoinerKept, ReplicaKept}
+use Rattle.photon_model.proofs.Words.{Each, some_same, Node, Dispatcher, Server, Replica, Joiner, Setting, IsNode, JoinerKept, ReplicaKept, Disks, Topology, topology_of}
 use Rattle.outside.specs.declared.store.DiskName.TheVariants as name
 use Rattle.offset_journal.specs.Offsets.{Keeps as KeepsOffset}
 use Rattle.retry_log.specs.Pending.{Keeps as KeepsPending}
@@ -10,8 +10,6 @@ use Rattle.site_node.specs.Replicas.{IsVoted, replica_rows}
 use Rattle.site_node.proofs.Replicas.{row_landed_ok}
 use Rattle.site_node.proofs.Replicas.{input_ok, row_ok}
 use Rattle.site_node.specs.States.{MayHold, row}
-use Rattle.photon_model.specs.Runs.{Disks}
-use Rattle.photon_model.specs.Topology.{Topology, topology_of}
 use Rattle.site_laws.specs.Kinds.{KeptOf, StateOf, rows_of, kept_of}
 use Rattle.site_laws.specs.Choosing.{all_left}
 use Rattle.site_laws.specs.Laws.{MayLeave, LeftIsWhole}

@@ -1,7 +1,7 @@
 -- The worked history of a dispatcher that comes up.
 use Rattle.std.proofs.Common.{◌≡◌, ◌≢◌, inl, ℕ, zero, suc, false, cond, List, [], ◌∷◌, None, refl, sym, ap, ◌∙◌, subst, arith, ne_eqb}
 use Rattle.std.proofs.lemmas.List.Elements.{All-nil}
-use Rattle.photon_model.proofs.Words.{none_some, IsNode, node_number, node_of, worked, Packet, IsPacket, Node, Dispatcher, Server, Replica, Joiner, Start}
+use Rattle.photon_model.proofs.Words.{none_some, IsNode, node_number, node_of, worked, Packet, IsPacket, Node, Dispatcher, Server, Replica, Joiner, Start, empty_disks}
 use Rattle.lossy_link.specs.declared.plan.Kind.{Kind}
 use Rattle.lossy_link.specs.Fates.{PlanView}
 use Rattle.air_bus.specs.declared.entry.Input.TheVariants as bytes
@@ -13,7 +13,6 @@ use Rattle.air_bus.specs.Waiting.{is_dead}
 use Rattle.air_bus.proofs.Phases.{aired_more, aired_none}
 use Rattle.site_node.specs.Bytes.{AreSpelled}
 use Rattle.site_node.specs.States.{Path}
-use Rattle.photon_model.specs.Stores.{empty_disks}
 use Rattle.site_laws.specs.Kinds.{rows_of, down_over}
 use Rattle.site_laws.specs.Laws.{made_by}
 use Rattle.site_laws.specs.Example.{on_the_bus, up_dispatcher, stands_at, DispatcherComesUp, DownIsStrict}

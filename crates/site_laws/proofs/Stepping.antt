@@ -2,7 +2,7 @@
 use Rattle.std.proofs.Common.{◌≡◌, inl, inr, ⊎_elim, ℕ, ◌≤◌, List, [], length, Option, Some, None, refl, sym, ap, ◌∙◌, subst}
 use Rattle.std.specs.Prelude.{⊤}
 use Rattle.std.proofs.lemmas.List.{length-map}
-use Rattle.photon_model.proofs.Words.{Each, some_same, none_some, Setting, IsNode, node_of, Addressed, NumbersAreNodes, Note, Out, Packet, packet, IsPacket, Sent, Node, Input, Deliver}
+use Rattle.photon_model.proofs.Words.{Each, some_same, none_some, Setting, IsNode, node_of, Addressed, NumbersAreNodes, Note, Out, Packet, packet, IsPacket, Sent, Node, Input, Deliver, Entry, Begin, End, Stop, begun, ended, stopped, row, sends, Fits, WasSent, MayBegin, IsTurn, MayStop, Cell}
 use Rattle.air_bus.specs.declared.entry.Input.{Input as Bytes}
 use Rattle.air_bus.specs.declared.entry.Input.TheVariants as bytes
 use Rattle.air_bus.specs.declared.entry.Entry.{Entry as BusEntry}
@@ -10,7 +10,6 @@ use Rattle.air_bus.specs.declared.entry.Entry.TheVariants as bus
 use Rattle.air_bus.specs.History.{node_of as number_in}
 use Rattle.site_node.specs.Bytes.{IsNoted, addressed, Reads}
 use Rattle.site_node.specs.States.{State, Rows, MayTake, row_of, Leads, IsDone, IsIdle}
-use Rattle.photon_model.specs.Runs.{Cell, Entry, Begin, End, Stop, begun, ended, stopped, row, sends, Fits, WasSent, MayBegin, IsTurn, MayStop}
 use Rattle.site_laws.specs.Meaning.{Means, OpenedAs}
 use Rattle.site_laws.proofs.Addressing.{SendsRight, ComesRight, all_right}
 
