@@ -1,7 +1,7 @@
 -- Each join in flight has sent its insert.
 use Rattle.std.proofs.Common.{◌≡◌, ◌⊎◌, inl, inr, ⊎_elim, ℕ, List, [], ◌∷◌, ◌++◌, Some, None, refl, sym, ap, ◌∙◌, subst}
 use Rattle.std.specs.Prelude.{Option}
-use Rattle.photon_model.proofs.Words.{Insert, Mem, set_at, Answer, Granted, Duplicate, TooOld, Setting, Packet, Claim, Node, Dispatcher, Server, Replica, Joiner, To, Sent, Input, Own, Out, JoinerKept, JoinerLive, Flight, insert_of, answers, joiner_turn, mem_left, mem_right, mem_split, at_set, some_same, none_some, Addressed, World, Entry, Begin, End, Stop, Disks, begun, stopped, joiner_row, sends, after, world_after, May, IsRun, opening, Cell}
+use Rattle.photon_model.proofs.Words.{Insert, Mem, set_at, Answer, Granted, Setting, Packet, Claim, Node, Dispatcher, Server, Replica, Joiner, To, Sent, Input, Own, Out, JoinerKept, JoinerLive, Flight, insert_of, answers, joiner_turn, mem_left, mem_right, mem_split, at_set, some_same, none_some, Addressed, World, Entry, Begin, End, Stop, Disks, begun, stopped, joiner_row, sends, after, world_after, May, IsRun, opening, Cell}
 use Rattle.photon_model.proofs.JoinerRows.{landed_before, every_row}
 use Rattle.photon_model.specs.Claims.{HasSent, ClaimsSent}
 
@@ -19,8 +19,7 @@ module _ (g : Setting) (j : ℕ) (k : JoinerKept) (l : JoinerLive) where
 
   answers_claimed : (x : Insert) (y : Flight) (a : Answer) → Claimed (answers g j k l x y a)
   answers_claimed x y Granted f m = inl ((landed_before l.flight x f m).0)
-  answers_claimed x y (Duplicate h) f m = inl ((landed_before l.flight x f m).0)
-  answers_claimed x y (TooOld b) f m = inl ((landed_before l.flight x f m).0)
+  answers_claimed x y _ f m = inl ((landed_before l.flight x f m).0)
 
   turn_claimed : (i : Input) → Claimed (joiner_turn g j k l i)
   turn_claimed =

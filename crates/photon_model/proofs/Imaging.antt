@@ -192,9 +192,7 @@ outside_closed g (e ∷ es) w r n no_ h = outside_closed g es (after g w e) r.1 
 
 opening_closed : (d : Disks) (n : Node) → opened_of (opening d) n ≡ None
 opening_closed d (Dispatcher s) = refl
-opening_closed d (Server s) = refl
-opening_closed d (Replica s) = refl
-opening_closed d (Joiner s) = refl
+opening_closed d _ = refl
 
 is_node_or_not : (g : Setting) (n : Node) → IsNode g n ⊎ (IsNode g n → ⊥)
 is_node_or_not g (Dispatcher s) = ⊎_elim (λ a. inl a) (λ a. inr (λ b. absurd (omega arith))) (cases_lt s 2)

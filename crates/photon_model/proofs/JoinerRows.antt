@@ -2,7 +2,7 @@
 use Rattle.std.proofs.Common.{◌≡◌, ◌⊎◌, inl, inr, ℕ, suc, ◌-◌, ◌^◌, Bool, true, false, cond, nat_lt, List, [], ◌∷◌, ◌++◌, length, map, Some, None, refl, sym, ap, ◌∙◌, subst, ⊎_elim}
 use Rattle.std.specs.Prelude.{find}
 use Rattle.std.proofs.lemmas.Bool.{cond_both}
-use Rattle.photon_model.proofs.Words.{landed, Setting, site_of_joiner, Insert, Query, Click, first, Mem, Each, Answer, Packet, Join, Joined, Reply, Claim, Outcome, NoQuery, Busy, Granted, Duplicate, TooOld, Node, Dispatcher, Server, To, Only, Input, Tick, Deliver, Out, idle, JoinerKept, JoinerLive, Flight, insert_of, is_for, in_flight, to_dispatcher, claim, next_token, looks, answers, replied, joiner_tick, joiner_turn, option_both, some_same, none_some}
+use Rattle.photon_model.proofs.Words.{landed, Setting, site_of_joiner, Insert, Query, Click, first, Mem, Each, Answer, Packet, Join, Joined, Reply, Claim, Outcome, NoQuery, Busy, Granted, Node, Dispatcher, Server, To, Only, Input, Tick, Deliver, Out, idle, JoinerKept, JoinerLive, Flight, insert_of, is_for, in_flight, to_dispatcher, claim, next_token, looks, answers, replied, joiner_tick, joiner_turn, option_both, some_same, none_some}
 
 pub find_flight : (x : Insert) (fs : List Flight) (f : Flight) → find (is_for x) fs ≡ Some f → Mem f fs × (is_for x f ≡ true)
 find_flight x [] f e = none_some f e
@@ -68,8 +68,7 @@ module _ (g : Setting) (j : ℕ) (k : JoinerKept) (l : JoinerLive) where
 
     answer_told : (x : Insert) (f : Flight) (a : Answer) → Each P (answers g j k l x f a).packets
     answer_told x f Granted = (tells f.position _, tt)
-    answer_told x f (Duplicate h) = (tells f.position _, tt)
-    answer_told x f (TooOld b) = (tells f.position _, tt)
+    answer_told x f _ = (tells f.position _, tt)
 
     pub each_packet : (i : Input) → Each P (joiner_turn g j k l i).packets
     each_packet =

@@ -4,22 +4,18 @@ use Rattle.std.proofs.lemmas.Bool.{eqb-true}
 use Rattle.photon_model.proofs.Words.{set_at, Setting, Dispatcher, Server, Replica, Joiner, DispatcherKept, DispatcherLive, land_dispatcher, JoinerKept, JoinerLive, land_joiner, ServerKept, ServerLive, land_server, ReplicaKept, land_replica, World, Entry, Begin, End, Stop, begun, ended, stopped, dispatcher_row, server_row, replica_row, joiner_row, after, world_after, Cell}
 use Rattle.photon_model.specs.Local.{dispatcher_entry, dispatcher_local, server_entry, server_local, replica_entry, replica_local, joiner_entry, joiner_local}
 
--- a cell changed at n, read at m, where the change is a function of the cell
-set_own : {A : Type 0} (f : ℕ → A) (change : A → A) (n m : ℕ) → set_at f n (change (f n)) m ≡ cond (m == n) (change (f m)) (f m)
+-- a cell changed at n, read at m, where the change is a function of the number and the cell
+set_own : {A : Type 0} (f : ℕ → A) (change : ℕ → A → A) (n m : ℕ) → set_at f n (change n (f n)) m ≡ cond (m == n) (change m (f m)) (f m)
 set_own f change n m = go (m == n) refl
   where
-    go : (b : Bool) → (m == n) ≡ b → cond b (change (f n)) (f m) ≡ cond b (change (f m)) (f m)
-    go true e = ap (λ k. change (f k)) (sym (eqb-true m n e))
+    go : (b : Bool) → (m == n) ≡ b → cond b (change n (f n)) (f m) ≡ cond b (change m (f m)) (f m)
+    go true e = ap (λ k. change k (f k)) (sym (eqb-true m n e))
     go false e = refl
 
 pub dispatcher_one : (g : Setting) (w : World) (n : ℕ) (e : Entry) → (after g w e).dispatchers n ≡ dispatcher_entry g n (w.dispatchers n) e
-dispatcher_one g w n (Begin (Dispatcher m) i) = set_own w.dispatchers (λ c. begun c i) m n
-dispatcher_one g w n (End (Dispatcher m) made ps kept) = go (n == m) refl
-  where
-    go : (b : Bool) → (n == m) ≡ b → cond b (ended land_dispatcher (w.dispatchers m) made (dispatcher_row g m (w.dispatchers m)).live) (w.dispatchers n) ≡ cond b (ended land_dispatcher (w.dispatchers n) made (dispatcher_row g n (w.dispatchers n)).live) (w.dispatchers n)
-    go true e = ap (λ k. ended land_dispatcher (w.dispatchers k) made (dispatcher_row g k (w.dispatchers k)).live) (sym (eqb-true n m e))
-    go false e = refl
-dispatcher_one g w n (Stop (Dispatcher m) landed) = set_own w.dispatchers (λ c. stopped land_dispatcher c landed) m n
+dispatcher_one g w n (Begin (Dispatcher m) i) = set_own w.dispatchers (λ k c. begun c i) m n
+dispatcher_one g w n (End (Dispatcher m) made ps kept) = set_own w.dispatchers (λ k c. ended land_dispatcher c made (dispatcher_row g k c).live) m n
+dispatcher_one g w n (Stop (Dispatcher m) landed) = set_own w.dispatchers (λ k c. stopped land_dispatcher c landed) m n
 dispatcher_one g w n _ = refl
 
 pub dispatcher_is_own : (g : Setting) (w : World) (es : List Entry) (n : ℕ) → (world_after g w es).dispatchers n ≡ dispatcher_local g n (w.dispatchers n) es
@@ -27,13 +23,9 @@ dispatcher_is_own g w [] n = refl
 dispatcher_is_own g w (e ∷ es) n = dispatcher_is_own g (after g w e) es n ∙ ap (λ (c : Cell DispatcherKept DispatcherLive). dispatcher_local g n c es) (dispatcher_one g w n e)
 
 pub server_one : (g : Setting) (w : World) (n : ℕ) (e : Entry) → (after g w e).servers n ≡ server_entry g n (w.servers n) e
-server_one g w n (Begin (Server m) i) = set_own w.servers (λ c. begun c i) m n
-server_one g w n (End (Server m) made ps kept) = go (n == m) refl
-  where
-    go : (b : Bool) → (n == m) ≡ b → cond b (ended land_server (w.servers m) made (server_row g m (w.servers m)).live) (w.servers n) ≡ cond b (ended land_server (w.servers n) made (server_row g n (w.servers n)).live) (w.servers n)
-    go true e = ap (λ k. ended land_server (w.servers k) made (server_row g k (w.servers k)).live) (sym (eqb-true n m e))
-    go false e = refl
-server_one g w n (Stop (Server m) landed) = set_own w.servers (λ c. stopped land_server c landed) m n
+server_one g w n (Begin (Server m) i) = set_own w.servers (λ k c. begun c i) m n
+server_one g w n (End (Server m) made ps kept) = set_own w.servers (λ k c. ended land_server c made (server_row g k c).live) m n
+server_one g w n (Stop (Server m) landed) = set_own w.servers (λ k c. stopped land_server c landed) m n
 server_one g w n _ = refl
 
 pub server_is_own : (g : Setting) (w : World) (es : List Entry) (n : ℕ) → (world_after g w es).servers n ≡ server_local g n (w.servers n) es
@@ -41,13 +33,9 @@ server_is_own g w [] n = refl
 server_is_own g w (e ∷ es) n = server_is_own g (after g w e) es n ∙ ap (λ (c : Cell ServerKept ServerLive). server_local g n c es) (server_one g w n e)
 
 pub replica_one : (g : Setting) (w : World) (n : ℕ) (e : Entry) → (after g w e).replicas n ≡ replica_entry g n (w.replicas n) e
-replica_one g w n (Begin (Replica m) i) = set_own w.replicas (λ c. begun c i) m n
-replica_one g w n (End (Replica m) made ps kept) = go (n == m) refl
-  where
-    go : (b : Bool) → (n == m) ≡ b → cond b (ended land_replica (w.replicas m) made (replica_row (w.replicas m)).live) (w.replicas n) ≡ cond b (ended land_replica (w.replicas n) made (replica_row (w.replicas n)).live) (w.replicas n)
-    go true e = ap (λ k. ended land_replica (w.replicas k) made (replica_row (w.replicas k)).live) (sym (eqb-true n m e))
-    go false e = refl
-replica_one g w n (Stop (Replica m) landed) = set_own w.replicas (λ c. stopped land_replica c landed) m n
+replica_one g w n (Begin (Replica m) i) = set_own w.replicas (λ k c. begun c i) m n
+replica_one g w n (End (Replica m) made ps kept) = set_own w.replicas (λ k c. ended land_replica c made (replica_row c).live) m n
+replica_one g w n (Stop (Replica m) landed) = set_own w.replicas (λ k c. stopped land_replica c landed) m n
 replica_one g w n _ = refl
 
 pub replica_is_own : (g : Setting) (w : World) (es : List Entry) (n : ℕ) → (world_after g w es).replicas n ≡ replica_local g n (w.replicas n) es
@@ -55,13 +43,9 @@ replica_is_own g w [] n = refl
 replica_is_own g w (e ∷ es) n = replica_is_own g (after g w e) es n ∙ ap (λ (c : Cell ReplicaKept (Unit {0})). replica_local g n c es) (replica_one g w n e)
 
 pub joiner_one : (g : Setting) (w : World) (n : ℕ) (e : Entry) → (after g w e).joiners n ≡ joiner_entry g n (w.joiners n) e
-joiner_one g w n (Begin (Joiner m) i) = set_own w.joiners (λ c. begun c i) m n
-joiner_one g w n (End (Joiner m) made ps kept) = go (n == m) refl
-  where
-    go : (b : Bool) → (n == m) ≡ b → cond b (ended land_joiner (w.joiners m) made (joiner_row g m (w.joiners m)).live) (w.joiners n) ≡ cond b (ended land_joiner (w.joiners n) made (joiner_row g n (w.joiners n)).live) (w.joiners n)
-    go true e = ap (λ k. ended land_joiner (w.joiners k) made (joiner_row g k (w.joiners k)).live) (sym (eqb-true n m e))
-    go false e = refl
-joiner_one g w n (Stop (Joiner m) landed) = set_own w.joiners (λ c. stopped land_joiner c landed) m n
+joiner_one g w n (Begin (Joiner m) i) = set_own w.joiners (λ k c. begun c i) m n
+joiner_one g w n (End (Joiner m) made ps kept) = set_own w.joiners (λ k c. ended land_joiner c made (joiner_row g k c).live) m n
+joiner_one g w n (Stop (Joiner m) landed) = set_own w.joiners (λ k c. stopped land_joiner c landed) m n
 joiner_one g w n _ = refl
 
 pub joiner_is_own : (g : Setting) (w : World) (es : List Entry) (n : ℕ) → (world_after g w es).joiners n ≡ joiner_local g n (w.joiners n) es

@@ -29,17 +29,9 @@ may_come g w (Stop (Joiner j) landed) p = (p.node, p.joiners j refl)
 -- what was sent after an entry
 sent_after : (g : Setting) (w : World) (e : Entry) → (after g w e).sent ≡ sent_by e ++ w.sent
 sent_after g w (Begin (Dispatcher s) i) = refl
-sent_after g w (Begin (Server s) i) = refl
-sent_after g w (Begin (Replica r) i) = refl
-sent_after g w (Begin (Joiner j) i) = refl
 sent_after g w (End (Dispatcher s) o ps kept) = refl
-sent_after g w (End (Server s) o ps kept) = refl
-sent_after g w (End (Replica r) o ps kept) = refl
-sent_after g w (End (Joiner j) o ps kept) = refl
 sent_after g w (Stop (Dispatcher s) landed) = refl
-sent_after g w (Stop (Server s) landed) = refl
-sent_after g w (Stop (Replica r) landed) = refl
-sent_after g w (Stop (Joiner j) landed) = refl
+sent_after g w _ = refl
 
 pub apart_is_run : ApartIsRun
 apart_is_run g w [] h = tt

@@ -45,8 +45,7 @@ module _ (g : Setting) (j : ℕ) (k : JoinerKept) (l : JoinerLive) where
 
   answers_both : (x : Insert) (y : Flight) (a : Answer) → Both (answers g j k l x y a)
   answers_both x y Granted = (λ f m. inl (landed_before l.flight x f m).0, without x)
-  answers_both x y (Duplicate h) = (λ f m. inl (landed_before l.flight x f m).0, without x)
-  answers_both x y (TooOld b) = (λ f m. inl (landed_before l.flight x f m).0, without x)
+  answers_both x y _ = (λ f m. inl (landed_before l.flight x f m).0, without x)
 
   pub turn_both : (i : Input) → Both (joiner_turn g j k l i)
   turn_both =

@@ -72,9 +72,7 @@ opened_ended g w _ o ps kept _ = refl
 -- a turn begins where none is open
 begins_closed : (g : Setting) (w : World) (m : Node) (i : Input) → May g w (Begin m i) → opened_at w m ≡ None
 begins_closed g w (Dispatcher s) i m = m.1.0
-begins_closed g w (Server s) i m = m.1.0
-begins_closed g w (Replica s) i m = m.1.0
-begins_closed g w (Joiner s) i m = m.1.0
+begins_closed g w _ i m = m.1.0
 
 -- no turn stops
 abbrev pub NotStopped : Entry → Type 0

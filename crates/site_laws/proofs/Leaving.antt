@@ -52,14 +52,7 @@ may_be g w (Dispatcher s) (Begins i) may = may.0
 may_be g w (Server s) (Begins i) may = may.0
 may_be g w (Replica r) (Begins i) may = may.0
 may_be g w (Joiner j) (Begins i) may = may.0
-may_be g w (Dispatcher s) (Ends made ps kept) may = may.0
-may_be g w (Server s) (Ends made ps kept) may = may.0
-may_be g w (Replica r) (Ends made ps kept) may = may.0
-may_be g w (Joiner j) (Ends made ps kept) may = may.0
-may_be g w (Dispatcher s) (Stops landed) may = may.0
-may_be g w (Server s) (Stops landed) may = may.0
-may_be g w (Replica r) (Stops landed) may = may.0
-may_be g w (Joiner j) (Stops landed) may = may.0
+may_be g w _ _ may = may.0
 
 module _ (g : Setting) (n : Node) (none : IsNode g n → ⊥) where
   deed_still : (w : World) (m : Node) (deed : Deed) → May g w (entry_of m deed) → cell_of (after g w (entry_of m deed)) n ≡ cell_of w n

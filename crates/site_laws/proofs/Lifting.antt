@@ -3,7 +3,7 @@ use Rattle.std.proofs.Common.{◌≡◌, ◌≢◌, ⊎_elim, ℕ, ◌≤◌, co
 use Rattle.std.proofs.lemmas.Bool.{cases_lt}
 use Rattle.photon_model.proofs.Words.{set_at, Setting, none_some, IsNode, node_of, node_count, NumbersAreNodes, Sent, Node, Dispatcher, Server, Replica, Joiner, World, Disks, after, May, down, opening, Cell}
 use Rattle.site_laws.specs.Kinds.{KeptOf, LiveOf, rows_of, cell_of, kept_of}
-use Rattle.site_laws.proofs.Stepping.{Deed, Begins, Ends, Stops, entry_of, sent_of, MayDo, done}
+use Rattle.site_laws.proofs.Stepping.{Deed, Begins, Ends, entry_of, sent_of, MayDo, done}
 
 abbrev pub CellOf : Node → Type 0
 CellOf n = Cell (KeptOf n) (LiveOf n)
@@ -17,9 +17,7 @@ put w (Joiner j) c more = record w { joiners = set_at w.joiners j c; sent = more
 
 pub put_sent : (w : World) (n : Node) (c : CellOf n) (more : List Sent) → (put w n c more).sent ≡ more ++ w.sent
 put_sent w (Dispatcher s) c more = refl
-put_sent w (Server s) c more = refl
-put_sent w (Replica r) c more = refl
-put_sent w (Joiner j) c more = refl
+put_sent w _ c more = refl
 
 set_here : {A : Type 0} (f : ℕ → A) (n : ℕ) (v : A) → set_at f n v n ≡ v
 set_here f n v = ap (λ b. cond b v (f n)) (eq-eqb n n refl)
@@ -54,21 +52,12 @@ after_is g w (Dispatcher s) (Begins i) = refl
 after_is g w (Server s) (Begins i) = refl
 after_is g w (Replica r) (Begins i) = refl
 after_is g w (Joiner j) (Begins i) = refl
-after_is g w (Dispatcher s) (Ends made ps kept) = refl
-after_is g w (Server s) (Ends made ps kept) = refl
-after_is g w (Replica r) (Ends made ps kept) = refl
-after_is g w (Joiner j) (Ends made ps kept) = refl
-after_is g w (Dispatcher s) (Stops landed) = refl
-after_is g w (Server s) (Stops landed) = refl
-after_is g w (Replica r) (Stops landed) = refl
-after_is g w (Joiner j) (Stops landed) = refl
+after_is g w _ _ = refl
 
 -- at the opening each node is down over its records
 pub cell_opening : (d : Disks) (n : Node) → cell_of (opening d) n ≡ down (kept_of d n)
 cell_opening d (Dispatcher s) = refl
-cell_opening d (Server s) = refl
-cell_opening d (Replica r) = refl
-cell_opening d (Joiner j) = refl
+cell_opening d _ = refl
 
 -- a number that no node has is none below their count
 pub beyond : (g : Setting) → NumbersAreNodes g → (m : ℕ) → node_of g m ≡ None → node_count g ≤ m
