@@ -2,6 +2,7 @@
 use Rattle.std.proofs.Common.{◌≡◌, ◌⊎◌, inl, inr, ⊎_elim, ℕ, zero, suc, ◌+◌, ◌*◌, ◌<◌, ◌≤◌, Bool, true, false, cond, ◌&&◌, ◌==◌, List, [], ◌∷◌, ◌++◌, Some, None, refl, sym, ap, ◌∙◌, subst, arith, lit<}
 use Rattle.std.specs.Prelude.{Option, is_some}
 use Rattle.std.proofs.lemmas.Bool.{cases_lt, cond_both, eqb-true, eqb-false}
+use Rattle.photon_model.proofs.Worlds.{opened_at, run_append, after_append}
 use Rattle.photon_model.proofs.Words.{Mem, Each, set_at, Setting, first_joiner, Checked, IsJoiner, Node, Dispatcher, Server, Replica, Joiner, Input, Note, Out, land, DispatcherKept, DispatcherLive, land_dispatcher, JoinerKept, JoinerLive, land_joiner, ServerKept, ServerLive, land_server, ReplicaKept, land_replica, at_set, none_some, each_append, mem_left, mem_right, IsNode, SoundStore, World, Entry, Begin, End, Stop, Disks, disks, begun, ended, stopped, dispatcher_row, server_row, replica_row, joiner_row, after, world_after, May, IsRun, opening, left_by, image, Cell}
 use Rattle.photon_model.proofs.Closing.{runs_keep_stores}
 
@@ -33,13 +34,6 @@ module _ (K L : Type 0) (f : Note → K → K) (row_of : ℕ → Cell K L → Ou
 
 -- ---- all nodes
 
--- the input of a node's open turn
-abbrev opened_of : World → Node → Option Input
-opened_of w (Dispatcher s) = (w.dispatchers s).opened
-opened_of w (Server s) = (w.servers s).opened
-opened_of w (Replica r) = (w.replicas r).opened
-opened_of w (Joiner j) = (w.joiners j).opened
-
 module _ (g : Setting) (landed : Node → Bool) where
   record AllStopped (w v : World) : Type 0 where
     pub dispatchers : Stopped DispatcherKept DispatcherLive land_dispatcher (dispatcher_row g) (λ s. landed (Dispatcher s)) w.dispatchers v.dispatchers
@@ -58,26 +52,26 @@ module _ (g : Setting) (landed : Node → Bool) where
   stop_if n o (Some i) = Stop n o ∷ []
 
   abbrev stop_of : World → Node → List Entry
-  stop_of w n = stop_if n (note_of w n) (opened_of w n)
+  stop_of w n = stop_if n (note_of w n) (opened_at w n)
 
   one_of : {L : Type 0} (b : Bool) (o : Out L) → (landed_of b o ≡ None) ⊎ (landed_of b o ≡ o.note)
   one_of true o = inr refl
   one_of false o = inl refl
 
-  may_stop : (w : World) (n : Node) (i : Input) → IsNode g n → opened_of w n ≡ Some i → May g w (Stop n (note_of w n))
+  may_stop : (w : World) (n : Node) (i : Input) → IsNode g n → opened_at w n ≡ Some i → May g w (Stop n (note_of w n))
   may_stop w (Dispatcher s) i k e = (k, ((i, e), one_of (landed (Dispatcher s)) (dispatcher_row g s (w.dispatchers s))))
   may_stop w (Server s) i k e = (k, ((i, e), one_of (landed (Server s)) (server_row g s (w.servers s))))
   may_stop w (Replica r) i k e = (k, ((i, e), one_of (landed (Replica r)) (replica_row (w.replicas r))))
   may_stop w (Joiner j) i k e = (k, ((i, e), one_of (landed (Joiner j)) (joiner_row g j (w.joiners j))))
 
-  stop_keeps : (w v : World) (n : Node) (i : Input) → opened_of v n ≡ Some i → AllStopped w v → AllStopped w (after g v (Stop n (note_of v n)))
+  stop_keeps : (w v : World) (n : Node) (i : Input) → opened_at v n ≡ Some i → AllStopped w v → AllStopped w (after g v (Stop n (note_of v n)))
   stop_keeps w v (Dispatcher s) i e h = record { dispatchers = stops_one DispatcherKept DispatcherLive land_dispatcher (dispatcher_row g) (λ s. landed (Dispatcher s)) w.dispatchers v.dispatchers s i e h.dispatchers; servers = h.servers; replicas = h.replicas; joiners = h.joiners }
   stop_keeps w v (Server s) i e h = record { dispatchers = h.dispatchers; servers = stops_one ServerKept ServerLive land_server (server_row g) (λ s. landed (Server s)) w.servers v.servers s i e h.servers; replicas = h.replicas; joiners = h.joiners }
   stop_keeps w v (Replica r) i e h = record { dispatchers = h.dispatchers; servers = h.servers; replicas = stops_one ReplicaKept (Unit {0}) land_replica (λ r c. replica_row c) (λ r. landed (Replica r)) w.replicas v.replicas r i e h.replicas; joiners = h.joiners }
   stop_keeps w v (Joiner j) i e h = record { dispatchers = h.dispatchers; servers = h.servers; replicas = h.replicas; joiners = stops_one JoinerKept JoinerLive land_joiner (joiner_row g) (λ j. landed (Joiner j)) w.joiners v.joiners j i e h.joiners }
 
   -- a stopped node is closed, and the others stay closed
-  stop_closes : (v : World) (n : Node) (o : Option Note) → opened_of (after g v (Stop n o)) n ≡ None
+  stop_closes : (v : World) (n : Node) (o : Option Note) → opened_at (after g v (Stop n o)) n ≡ None
   stop_closes v (Dispatcher s) o = closed v.dispatchers s (stopped land_dispatcher (v.dispatchers s) o) refl
     where
       closed : {K L : Type 0} (F : ℕ → Cell K L) (n : ℕ) (c : Cell K L) → c.opened ≡ None → (set_at F n c n).opened ≡ None
@@ -86,7 +80,7 @@ module _ (g : Setting) (landed : Node → Bool) where
   stop_closes v (Replica r) o = cond_both (r == r) (stopped land_replica (v.replicas r) o) (v.replicas r) (λ (d : Cell ReplicaKept (Unit {0})). d.opened ≡ None) (λ _. refl) (λ t. absurd (eqb-false r r t refl))
   stop_closes v (Joiner j) o = cond_both (j == j) (stopped land_joiner (v.joiners j) o) (v.joiners j) (λ (d : Cell JoinerKept JoinerLive). d.opened ≡ None) (λ _. refl) (λ t. absurd (eqb-false j j t refl))
 
-  stays_closed : (v : World) (n : Node) (o : Option Note) (m : Node) → opened_of v m ≡ None → opened_of (after g v (Stop n o)) m ≡ None
+  stays_closed : (v : World) (n : Node) (o : Option Note) (m : Node) → opened_at v m ≡ None → opened_at (after g v (Stop n o)) m ≡ None
   stays_closed v (Dispatcher s) o (Dispatcher t) e = cond_both (t == s) (stopped land_dispatcher (v.dispatchers s) o) (v.dispatchers t) (λ (d : Cell DispatcherKept DispatcherLive). d.opened ≡ None) (λ _. refl) (λ _. e)
   stays_closed v (Server s) o (Server t) e = cond_both (t == s) (stopped land_server (v.servers s) o) (v.servers t) (λ (d : Cell ServerKept ServerLive). d.opened ≡ None) (λ _. refl) (λ _. e)
   stays_closed v (Replica s) o (Replica t) e = cond_both (t == s) (stopped land_replica (v.replicas s) o) (v.replicas t) (λ (d : Cell ReplicaKept (Unit {0})). d.opened ≡ None) (λ _. refl) (λ _. e)
@@ -98,21 +92,21 @@ module _ (g : Setting) (landed : Node → Bool) where
     pub entries : List Entry
     pub run : IsRun g v entries
     pub stopped_all : AllStopped w (world_after g v entries)
-    pub closed : (m : Node) → Mem m ns ⊎ (opened_of v m ≡ None) → opened_of (world_after g v entries) m ≡ None
+    pub closed : (m : Node) → Mem m ns ⊎ (opened_at v m ≡ None) → opened_at (world_after g v entries) m ≡ None
 
   ends : (w v : World) (ns : List Node) → Each (IsNode g) ns → AllStopped w v → Ends w v ns
   ends w v [] k h = record { entries = []; run = tt; stopped_all = h; closed = λ m x. ⊎_elim (λ q. absurd q) (λ q. q) x }
-  ends w v (n ∷ ns) k h = go (opened_of v n) refl (ends w v ns k.1 h) (λ i e. ends w (after g v (Stop n (note_of v n))) ns k.1 (stop_keeps w v n i e h))
+  ends w v (n ∷ ns) k h = go (opened_at v n) refl (ends w v ns k.1 h) (λ i e. ends w (after g v (Stop n (note_of v n))) ns k.1 (stop_keeps w v n i e h))
     where
-      go : (o : Option Input) → opened_of v n ≡ o → Ends w v ns → ((i : Input) → opened_of v n ≡ Some i → Ends w (after g v (Stop n (note_of v n))) ns) → Ends w v (n ∷ ns)
-      go None e here later = record { entries = here.entries; run = here.run; stopped_all = here.stopped_all; closed = λ m x. ⊎_elim (λ q. ⊎_elim (λ s. here.closed m (inr (subst (λ (z : Node). opened_of v z ≡ None) s e))) (λ s. here.closed m (inl s)) q) (λ q. here.closed m (inr q)) x }
+      go : (o : Option Input) → opened_at v n ≡ o → Ends w v ns → ((i : Input) → opened_at v n ≡ Some i → Ends w (after g v (Stop n (note_of v n))) ns) → Ends w v (n ∷ ns)
+      go None e here later = record { entries = here.entries; run = here.run; stopped_all = here.stopped_all; closed = λ m x. ⊎_elim (λ q. ⊎_elim (λ s. here.closed m (inr (subst (λ (z : Node). opened_at v z ≡ None) s e))) (λ s. here.closed m (inl s)) q) (λ q. here.closed m (inr q)) x }
       go (Some i) e here later =
           let z = later i e in
           record {
             entries = Stop n (note_of v n) ∷ z.entries;
             run = (may_stop v n i k.0 e, z.run);
             stopped_all = z.stopped_all;
-            closed = λ m x. ⊎_elim (λ q. ⊎_elim (λ s. z.closed m (inr (subst (λ (y : Node). opened_of (after g v (Stop n (note_of v n))) y ≡ None) s (stop_closes v n (note_of v n))))) (λ s. z.closed m (inl s)) q) (λ q. z.closed m (inr (stays_closed v n (note_of v n) m q))) x;
+            closed = λ m x. ⊎_elim (λ q. ⊎_elim (λ s. z.closed m (inr (subst (λ (y : Node). opened_at (after g v (Stop n (note_of v n))) y ≡ None) s (stop_closes v n (note_of v n))))) (λ s. z.closed m (inl s)) q) (λ q. z.closed m (inr (stays_closed v n (note_of v n) m q))) x;
           }
 
 -- ---- the nodes there are
@@ -163,17 +157,9 @@ node_in g (Server (suc (suc s))) k = absurd (omega arith)
 node_in g (Replica r) k = inr (inr (inr (inr (mem_left (Replica r) (replicas_from 0 g.replicas) (joiners_from (first_joiner g) (2 * g.joiners)) (replica_in 0 g.replicas r (omega arith) (omega arith))))))
 node_in g (Joiner j) k = inr (inr (inr (inr (mem_right (Joiner j) (replicas_from 0 g.replicas) (joiners_from (first_joiner g) (2 * g.joiners)) (joiner_in (first_joiner g) (2 * g.joiners) j k.0 k.1)))))
 
-pub run_append : (g : Setting) (xs ys : List Entry) (w : World) → IsRun g w xs → IsRun g (world_after g w xs) ys → IsRun g w (xs ++ ys)
-run_append g [] ys w a b = b
-run_append g (x ∷ xs) ys w a b = (a.0, run_append g xs ys (after g w x) a.1 b)
-
-after_append : (g : Setting) (xs ys : List Entry) (w : World) → world_after g w (xs ++ ys) ≡ world_after g (world_after g w xs) ys
-after_append g [] ys w = refl
-after_append g (x ∷ xs) ys w = after_append g xs ys (after g w x)
-
 -- ---- nodes that the setting doesn't have stay closed
 
-stays_outside : (g : Setting) (w : World) (e : Entry) → May g w e → (n : Node) → (IsNode g n → ⊥) → opened_of w n ≡ None → opened_of (after g w e) n ≡ None
+stays_outside : (g : Setting) (w : World) (e : Entry) → May g w e → (n : Node) → (IsNode g n → ⊥) → opened_at w n ≡ None → opened_at (after g w e) n ≡ None
 stays_outside g w (Begin (Dispatcher s) i) m (Dispatcher t) no_ h = cond_both (t == s) (begun (w.dispatchers s) i) (w.dispatchers t) (λ (c : Cell DispatcherKept DispatcherLive). c.opened ≡ None) (λ e. absurd (no_ (subst (λ k. k < 2) (sym (eqb-true t s e)) m.0))) (λ _. h)
 stays_outside g w (Begin (Server s) i) m (Server t) no_ h = cond_both (t == s) (begun (w.servers s) i) (w.servers t) (λ (c : Cell ServerKept ServerLive). c.opened ≡ None) (λ e. absurd (no_ (subst (λ k. k < 2) (sym (eqb-true t s e)) m.0))) (λ _. h)
 stays_outside g w (Begin (Replica s) i) m (Replica t) no_ h = cond_both (t == s) (begun (w.replicas s) i) (w.replicas t) (λ (c : Cell ReplicaKept (Unit {0})). c.opened ≡ None) (λ e. absurd (no_ (subst (λ k. k < g.replicas) (sym (eqb-true t s e)) m.0))) (λ _. h)
@@ -186,11 +172,11 @@ stays_outside g w (Stop n o) m t no_ h = stays_closed g (λ _. true) w n o t h
 stays_outside g w (Begin n i) m t no_ h = h
 stays_outside g w (End n o ps k) m t no_ h = h
 
-outside_closed : (g : Setting) (es : List Entry) (w : World) → IsRun g w es → (n : Node) → (IsNode g n → ⊥) → opened_of w n ≡ None → opened_of (world_after g w es) n ≡ None
+outside_closed : (g : Setting) (es : List Entry) (w : World) → IsRun g w es → (n : Node) → (IsNode g n → ⊥) → opened_at w n ≡ None → opened_at (world_after g w es) n ≡ None
 outside_closed g [] w r n no_ h = h
 outside_closed g (e ∷ es) w r n no_ h = outside_closed g es (after g w e) r.1 n no_ (stays_outside g w e r.0 n no_ h)
 
-opening_closed : (d : Disks) (n : Node) → opened_of (opening d) n ≡ None
+opening_closed : (d : Disks) (n : Node) → opened_at (opening d) n ≡ None
 opening_closed d (Dispatcher s) = refl
 opening_closed d _ = refl
 
@@ -211,7 +197,7 @@ module _ (g : Setting) (d : Disks) (es : List Entry) (landed : Node → Bool) (r
   abbrev later : World
   later = world_after g now stops.entries
 
-  closed : (n : Node) → opened_of later n ≡ None
+  closed : (n : Node) → opened_at later n ≡ None
   closed n = ⊎_elim (λ is. stops.closed n (inl (node_in g n is))) (λ no_. stops.closed n (inr (outside_closed g es (opening d) r n no_ (opening_closed d n)))) (is_node_or_not g n)
 
   -- what they leave is the image

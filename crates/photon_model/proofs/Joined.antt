@@ -1,9 +1,9 @@
 -- The worked run, entry by entry.
-use Rattle.std.proofs.Common.{◌≡◌, inl, inr, ⊎_elim, ℕ, zero, suc, ◌<◌, true, ◌++◌, refl, subst, arith, lit<, lit≤}
+use Rattle.std.proofs.Common.{◌≡◌, inl, inr, ⊎_elim, ℕ, true, ◌++◌, refl, subst, arith, lit<, lit≤}
 use Rattle.std.proofs.lemmas.Bool.{cases_lt}
 use Rattle.photon_model.proofs.Words.{IsJoiner, worked, dispatcher_at_rest, joiner_at_rest, server_at_rest, UpWith, IsRun, world_after, opening, empty_disks}
 use Rattle.photon_model.specs.Example.{entries, comes_up, asks, registers, writes, other_site, asked, at_the_end, ClickIsJoined}
-use Rattle.photon_model.proofs.Imaging.{run_append}
+use Rattle.photon_model.proofs.Worlds.{run_append, of_two}
 
 pub joiner_7 : IsJoiner worked 7
 joiner_7 = (lit≤ tt, lit< tt)
@@ -220,11 +220,6 @@ joiner_is P a b j is =
     ⊎_elim (λ lt. subst P (let e : 7 ≡ j = omega arith in e) a) (λ ge. subst P (let e : 8 ≡ j = omega arith in e) b) (cases_lt j 8)
 
 -- and two sites
-site_is : (P : ℕ → Type 0) → P 0 → P 1 → (s : ℕ) → s < 2 → P s
-site_is P a b zero lt = a
-site_is P a b (suc zero) lt = b
-site_is P a b (suc (suc s)) lt = absurd (omega arith)
-
 pub click_is_joined : ClickIsJoined
 click_is_joined =
     record {
@@ -232,8 +227,8 @@ click_is_joined =
       written = refl;
       not_again = refl;
       at_rest = record {
-        dispatchers = site_is (λ s. UpWith (λ l. dispatcher_at_rest l ≡ true) (at_the_end.dispatchers s).live) refl refl;
+        dispatchers = of_two (λ s. UpWith (λ l. dispatcher_at_rest l ≡ true) (at_the_end.dispatchers s).live) refl refl;
         joiners = joiner_is (λ j. UpWith (λ l. joiner_at_rest l ≡ true) (at_the_end.joiners j).live) refl refl;
-        servers = site_is (λ s. UpWith (λ l. server_at_rest worked l ≡ true) (at_the_end.servers s).live) refl refl;
+        servers = of_two (λ s. UpWith (λ l. server_at_rest worked l ≡ true) (at_the_end.servers s).live) refl refl;
       };
     }

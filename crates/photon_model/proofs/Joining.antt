@@ -1,8 +1,9 @@
 -- Each row of a joiner keeps its facts.
 use Rattle.std.proofs.Common.{◌≡◌, ◌≢◌, ◌⊎◌, inl, inr, ⊎_elim, ℕ, suc, ◌<◌, ◌≤◌, Bool, true, false, cond, ◌==◌, List, [], ◌∷◌, ◌++◌, length, map, Some, None, refl, sym, ap, ◌∙◌, subst, arith}
 use Rattle.std.specs.Prelude.{Option}
-use Rattle.std.proofs.lemmas.Bool.{cond_both, cond-true, eqb-true, eq-eqb, or_parts, and_parts, and_from}
-use Rattle.photon_model.proofs.Words.{EventId, Token, Insert, same_id, same_token, Query, Click, ClickLine, at, first_click, NoConflict, first, Mem, Each, EachPair, set_at, Setting, Checked, IsJoiner, Answer, Granted, Duplicate, TooOld, IsGranted, Outcome, NoQuery, Busy, PairRec, Input, Note, Out, idle, land, JoinerKept, JoinerLive, Flight, land_joiner, insert_of, is_for, in_flight, landed, to_dispatcher, claim, next_token, without_flight, answers, joiner_turn, joiner_start, clash, mem_left, mem_right, each_at, each_from, each_more, each_append, pairs_push, at_mem, same_id-true, same_token-true, same_id-refl, same_token-refl, same_id-false, Known, values_of, PairSound, JoinerSound, DrawnSound, IsTooOld, HoldsOfOutcome, HoldsOfReply, HoldsOfInput, FlightHolds, JoinerHolds, PacketsHold, Grows, extended, JoinerKeeps}
+use Rattle.std.proofs.lemmas.Bool.{cond_both, eqb-true, or_parts, and_parts, and_from}
+use Rattle.photon_model.proofs.Worlds.{set_own}
+use Rattle.photon_model.proofs.Words.{EventId, Token, Insert, same_id, same_token, Query, Click, ClickLine, at, first_click, NoConflict, first, Mem, Each, EachPair, Setting, Checked, IsJoiner, Answer, Granted, Duplicate, TooOld, IsGranted, Outcome, NoQuery, Busy, PairRec, Input, Note, Out, idle, land, JoinerKept, JoinerLive, Flight, land_joiner, insert_of, is_for, in_flight, landed, to_dispatcher, claim, next_token, without_flight, answers, joiner_turn, joiner_start, clash, mem_left, mem_right, each_at, each_from, each_more, each_append, pairs_push, at_mem, same_id-true, same_token-true, same_id-refl, same_token-refl, same_id-false, Known, values_of, PairSound, JoinerSound, DrawnSound, IsTooOld, HoldsOfOutcome, HoldsOfReply, HoldsOfInput, FlightHolds, JoinerHolds, PacketsHold, Grows, extended, JoinerKeeps}
 use Rattle.photon_model.proofs.JoinerRows.{begun_join, every_row}
 use Rattle.photon_model.proofs.Growth.{begins_self, granted_lasts, late_lasts, joiner_kept_lasts, joiner_live_lasts, flight_lasts, pair_lasts}
 
@@ -39,9 +40,6 @@ each_both P Q R (x ∷ xs) h p q = (h x p.0 q.0, each_both P Q R xs h p.1 q.1)
 not_in_flight : (fs : List Flight) (i : EventId) → in_flight fs i ≡ false → Each (λ (f : Flight). f.click.id ≢ i) fs
 not_in_flight [] i h = tt
 not_in_flight (f ∷ fs) i h = let o = or_parts (same_id f.click.id i) (in_flight fs i) h in (same_id-false f.click.id i o.0, not_in_flight fs i o.1)
-
-set_own : {A : Type 0} (f : ℕ → A) (j : ℕ) (v : A) → set_at f j v j ≡ v
-set_own f j v = cond-true (j == j) v (f j) (eq-eqb j j refl)
 
 -- what is known grows
 pub grows_extended : (n : Known) (j : ℕ) (old pairs : List PairRec) (new : List Insert) → n.pairs j ≡ old → ((p : PairRec) → Mem p old → Mem p pairs) → Grows n (extended n j pairs new)
@@ -175,7 +173,7 @@ module _ (g : Setting) (n : Known) (epochs : ℕ → ℕ) (j : ℕ) (k : JoinerK
                 (landed_other l.flight x)
                 (landed_each _ l.flight x (each_both _ _ _ l.flight (λ y a b. (a, b)) holds.flights holds.unwritten));
           };
-          packets = ((line, flight_of.line.1, (j, pair, is_joiner, subst (λ (r : List PairRec). Mem pair r) (sym (set_own n.pairs j (k.pairs ++ pair ∷ []))) (mem_right pair k.pairs (pair ∷ []) (inl refl)), sym (ap (λ (y : Click). y.id) flight_of.line.2))), tt);
+          packets = ((line, flight_of.line.1, (j, pair, is_joiner, subst (λ (r : List PairRec). Mem pair r) (sym (set_own (λ (x : List PairRec). x) n.pairs j (k.pairs ++ pair ∷ []))) (mem_right pair k.pairs (pair ∷ []) (inl refl)), sym (ap (λ (y : Click). y.id) flight_of.line.2))), tt);
         }
       where
         now : Known

@@ -1,7 +1,8 @@
 -- What rest leaves.
-use Rattle.std.proofs.Common.{◌≡◌, ⊎_elim, ℕ, zero, suc, ◌+◌, ◌<◌, ◌≤◌, Bool, true, false, cond, List, [], ◌∷◌, Some, None, refl, sym, ap, ◌∙◌, subst, arith, lit<}
-use Rattle.std.specs.Prelude.{Option, nat_lt, is_none}
+use Rattle.std.proofs.Common.{◌≡◌, ⊎_elim, ℕ, zero, suc, ◌+◌, ◌<◌, ◌≤◌, Bool, true, false, cond, List, [], ◌∷◌, Some, refl, sym, ap, ◌∙◌, subst, arith, lit<}
+use Rattle.std.specs.Prelude.{nat_lt, is_none}
 use Rattle.std.proofs.lemmas.Bool.{cases_lt, ltb-false, true≢false}
+use Rattle.photon_model.proofs.Worlds.{up_is}
 use Rattle.photon_model.proofs.Words.{holder, bound_of, Setting, Checked, shards, is_empty, JoinerLive, joiner_at_rest, ServerLive, first_shard, server_at_rest, Mem, EventId, Token, known, SoundStore, accepted_inserts, values_of, IsWritten, IsDrained, UpWith, IsAtRest, World, Entry, Disks, world_after, IsRun, opening, decided_in, HasBounds, IsBoundOk, NoJoinerStops, RestLeaves}
 use Rattle.photon_model.proofs.Running.{rest_drained}
 use Rattle.photon_model.proofs.Agreeing.{every_run_holds, missing_is_old, bound_is_ok}
@@ -14,10 +15,6 @@ none_passes test from (suc n) e k a b = go (test from) refl e (none_passes test 
     go : (b : Bool) → test from ≡ b → is_none (cond b (Some from) (first_shard test (suc from) n)) ≡ true → (is_none (first_shard test (suc from) n) ≡ true → (k : ℕ) → suc from ≤ k → k < suc from + n → test k ≡ false) → test k ≡ false
     go true t q ih = absurd (true≢false (sym q))
     go false t q ih = ⊎_elim (λ lt. ih q k lt (omega arith)) (λ ge. ap test (let same : k ≡ from = omega arith in same) ∙ t) (cases_lt from k)
-
-up_with : {L : Type 0} (P : L → Type 0) (o : Option L) → UpWith P o → (l : L) × (o ≡ Some l) × P l
-up_with P None u = absurd u
-up_with P (Some l) u = (l, refl, u)
 
 no_flights : (l : JoinerLive) → joiner_at_rest l ≡ true → l.flight ≡ []
 no_flights l = go l.flight
@@ -37,7 +34,7 @@ rest_is_done g d es old c s has_ r rest = record { drained = drained; bounds = b
 
     bounds : (shard : ℕ) → shard < shards g → (g.horizon ≤ bound_of (decided_in g w shard)) × IsBoundOk g old (bound_of (decided_in g w shard))
     bounds shard lt =
-        let u = up_with (λ (l : ServerLive). server_at_rest g l ≡ true) (w.servers 0).live (rest.servers 0 (lit< tt)) in
+        let u = up_is (λ (l : ServerLive). server_at_rest g l ≡ true) (w.servers 0).live (rest.servers 0 (lit< tt)) in
         let e = none_passes (λ k. nat_lt (bound_of (u.0.shards k).learned) g.horizon) 0 (shards g) u.2 shard (omega arith) (omega arith) in
         bound_is_ok g d (accepted_inserts g d) old es c s has_ r 0 shard u.0 (lit< tt) u.1 (ltb-false (bound_of (u.0.shards shard).learned) g.horizon e)
 

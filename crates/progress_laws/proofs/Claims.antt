@@ -3,7 +3,8 @@ use Rattle.std.proofs.Common.{◌≡◌, inl, inr, ⊎_elim, ℕ, ◌+◌, ◌*�
 use Rattle.std.specs.Prelude.{Option, not, ◌⊎◌}
 use Rattle.std.proofs.lemmas.Bool.{cond_both, and_from, le-leb, lt-ltb, eq-eqb}
 use Rattle.time_shards.specs.Shards.{IsTable}
-use Rattle.photon_model.proofs.Words.{Answer, Insert, Mem, some_same, Setting, IsJoiner, first_joiner, site_of_joiner, shard, Out, is_empty, shard_below, Claim, Reply, Node, Server, Joiner, Only, Input, Tick, Deliver, Sent, JoinerLive, Flight, insert_of, joiner_start, joiner_turn, joiner_unfinished, ServerLive, is_own_joiner, server_start, server_turn, World, Entry, row, server_row, joiner_row, after, world_after, UpWith, JoinerWorks, IsQuiet, if_up, is_unfinished}
+use Rattle.photon_model.proofs.Worlds.{up_is}
+use Rattle.photon_model.proofs.Words.{Answer, Insert, Mem, some_same, Setting, IsJoiner, first_joiner, site_of_joiner, shard, Out, is_empty, shard_below, Claim, Reply, Node, Server, Joiner, Only, Input, Tick, Deliver, Sent, JoinerLive, Flight, insert_of, joiner_start, joiner_turn, joiner_unfinished, ServerLive, is_own_joiner, server_start, server_turn, World, Entry, row, server_row, joiner_row, after, world_after, JoinerWorks, IsQuiet, if_up, is_unfinished}
 use Rattle.progress_laws.specs.Idle.{IsIdle}
 use Rattle.progress_laws.proofs.Transit.{opened_at, Underway, arrives, HasTick}
 use Rattle.progress_laws.proofs.Waiting.{IsLeftAt, Heard, insert_heard, waits_left}
@@ -39,10 +40,6 @@ HasFlight g w s = (j : ℕ) × (l : JoinerLive) × (f : Flight) × IsJoiner g j 
 -- each token in flight is of its joiner
 abbrev pub HasOwnTokens : Setting → World → Type 0
 HasOwnTokens g w = (j : ℕ) → IsJoiner g j → (l : JoinerLive) → (w.joiners j).live ≡ Some l → (f : Flight) → Mem f l.flight → f.token.joiner ≡ j
-
-pub up_is : {L : Type 0} (P : L → Type 0) (o : Option L) → UpWith P o → (l : L) × (o ≡ Some l) × P l
-up_is P None u = absurd u
-up_is P (Some l) u = (l, refl, u)
 
 pub site_below : (g : Setting) (j : ℕ) → site_of_joiner g j < 2
 site_below g j = cond_both (nat_lt j (first_joiner g + g.joiners)) 0 1 (λ s. s < 2) (λ _. lit< tt) (λ _. lit< tt)

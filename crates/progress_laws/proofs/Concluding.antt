@@ -12,7 +12,8 @@ use Rattle.progress_laws.proofs.Turning.{ballot_in, Same}
 use Rattle.progress_laws.proofs.Waiting.{IsLeftAt, still_left}
 use Rattle.progress_laws.proofs.Lasting.{OfAllShards, HasCause, no_cause, cause_kept, after_run}
 use Rattle.progress_laws.proofs.Calm.{along_idle, server_waits}
-use Rattle.progress_laws.proofs.Claims.{HasOwnTokens, site_below, up_is}
+use Rattle.progress_laws.proofs.Claims.{HasOwnTokens, site_below}
+use Rattle.photon_model.proofs.Worlds.{up_is}
 use Rattle.progress_laws.proofs.Trying.{HasLines}
 use Rattle.progress_laws.proofs.Stalling.{Stalls, stalls}
 use Rattle.progress_laws.proofs.Phases.{AreOpen}

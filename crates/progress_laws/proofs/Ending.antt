@@ -1,7 +1,8 @@
 -- What a node knows after one entry: the same, or what its turn's row says.
 use Rattle.std.proofs.Common.{◌≡◌, ◌⊎◌, inl, inr, ℕ, Bool, true, false, cond, ◌==◌, List, Some, None, refl, sym, ap, ◌∙◌, subst}
 use Rattle.std.specs.Prelude.{Option}
-use Rattle.std.proofs.lemmas.Bool.{eqb-true, cond-true, eq-eqb}
+use Rattle.std.proofs.lemmas.Bool.{eqb-true}
+use Rattle.photon_model.proofs.Worlds.{set_own}
 use Rattle.photon_model.proofs.Words.{set_at, Setting, Packet, Node, Dispatcher, Server, Replica, Joiner, Input, Own, Note, Out, idle, land, ReplicaKept, land_replica, replica_start, replica_turn, World, Entry, Begin, End, Stop, row, begun, dispatcher_row, server_row, replica_row, joiner_row, dispatcher_ended, server_ended, replica_ended, joiner_ended, after, May, BothUp, Cell}
 use Rattle.progress_laws.proofs.Transit.{opened_at, EndsTurn, NotStopped}
 
@@ -70,9 +71,6 @@ ends_open w (Begin m j) n i t = absurd t
 ends_open w (Stop m landed) n i t = absurd t
 
 -- a changed cell, read where it changed
-pub set_own : {A B : Type 0} (part : A → B) (f : ℕ → A) (n : ℕ) (v : A) → part (set_at f n v n) ≡ part v
-set_own part f n v = ap part (cond-true (n == n) v (f n) (eq-eqb n n refl))
-
 -- what an End leaves a server
 pub server_now : (g : Setting) (w : World) (e : Entry) (s : ℕ) → IsEnd e (Server s) → ((after g w e).servers s).live ≡ Some (server_row g s (w.servers s)).live
 server_now g w e s (o, ps, kept, q) = subst (λ (x : Entry). ((after g w x).servers s).live ≡ Some (server_row g s (w.servers s)).live) (sym q) (set_own (λ c. c.live) w.servers s (server_ended g s (w.servers s) o))

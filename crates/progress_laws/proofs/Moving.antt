@@ -2,6 +2,7 @@
 use Rattle.std.proofs.Common.{◌≡◌, ⊎_elim, ℕ, zero, suc, ◌+◌, ◌<◌, ◌≤◌, Bool, true, false, cond, nat_le, List, [], ◌∷◌, ◌++◌, length, Some, None, refl, sym, ap, ◌∙◌, subst, arith}
 use Rattle.std.specs.Prelude.{Option, if◌then◌else◌}
 use Rattle.std.proofs.lemmas.Bool.{cond-true, cond-false, true≢false, cases_lt, le-leb, leb-true, lt-leb}
+use Rattle.photon_model.proofs.Worlds.{run_append}
 use Rattle.photon_model.proofs.Words.{Ballot, Majority, Place, Setting, World, Entry, Disks, after, world_after, IsRun, opening}
 use Rattle.time_shards.specs.Shards.{IsTable}
 use Rattle.progress_laws.specs.Idle.{AreIdle}
@@ -88,10 +89,6 @@ live_at_most dead (suc k) = let more = live_at_most dead k in let one = term (de
 
 -- ---- worlds that a run leads to
 
-runs_on : (g : Setting) (h es : List Entry) (w : World) → IsRun g w h → IsRun g (world_after g w h) es → IsRun g w (h ++ es)
-runs_on g [] es w a b = b
-runs_on g (e ∷ h) es w a b = (a.0, runs_on g h es (after g w e) a.1 b)
-
 after_both : (g : Setting) (h es : List Entry) (w : World) → world_after g (world_after g w h) es ≡ world_after g w (h ++ es)
 after_both g [] es w = refl
 after_both g (e ∷ h) es w = after_both g h es (after g w e)
@@ -108,7 +105,7 @@ module _ (g : Setting) (d : Disks) (again : (h : List Entry) → IsRun g (openin
         let x = again h run dead es table most idle.0 s n at held in
         let less = counts_down g dead w (world_after g w es) at n x.1 x.3 in
         let joined = after_both g h es (opening d) in
-        chain more (h ++ es) at x.0 x.1 (runs_on g h es (opening d) run idle.0.run)
+        chain more (h ++ es) at x.0 x.1 (run_append g h es (opening d) run idle.0.run)
         (subst (λ u. IsHeldAt g u x.0 at x.1) joined x.2)
         (subst (λ u. from_among dead u at x.1 g.replicas < length more) joined (omega (arith, below, less)))
         (subst (λ u. AreIdle g dead u more) joined idle.1)
@@ -122,7 +119,7 @@ module _ (g : Setting) (d : Disks) (again : (h : List Entry) → IsRun g (openin
       let less = counts_down g dead w (world_after g w es) x.0 0 x.1.1 x.1.3 in
       let few = at_most_live dead w x.0 0 g.replicas in
       let joined = after_both g h es (opening d) in
-      chain dead table most more (h ++ es) x.0 x.1.0 x.1.1 (runs_on g h es (opening d) run idle.0.run)
+      chain dead table most more (h ++ es) x.0 x.1.0 x.1.1 (run_append g h es (opening d) run idle.0.run)
       (subst (λ u. IsHeldAt g u x.1.0 x.0 x.1.1) joined x.1.2)
       (subst (λ u. from_among dead u x.0 x.1.1 g.replicas < length more) joined (omega (arith, less, few, long)))
       (subst (λ u. AreIdle g dead u more) joined idle.1)))

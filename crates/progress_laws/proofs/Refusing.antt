@@ -13,7 +13,7 @@ use Rattle.progress_laws.proofs.Ticking.{comes, passes}
 use Rattle.progress_laws.proofs.Lasting.{lasts, after_run}
 use Rattle.progress_laws.proofs.Ending.{IsEnd, server_now, server_live, replica_live, row_up}
 use Rattle.progress_laws.proofs.Calm.{Step, step_goes, along_idle, server_waits, row_sent_to, goes_on, tick_goes_on}
-use Rattle.progress_laws.proofs.Claims.{up_is}
+use Rattle.photon_model.proofs.Worlds.{up_is}
 
 module _ (g : Setting) (dead : ℕ → Bool) (w : World) (air : List Sent) (es : List Entry) where
   -- With a replica an attempt goes on: it is counted, or the question is underway to it, or its answer to the server, or the

@@ -7,7 +7,8 @@ use Rattle.photon_model.proofs.Words.{bound_of, Mem, has, Setting, IsJoiner, sha
 use Rattle.progress_laws.specs.Idle.{IsIdle, HasNumbers, IsWithinLimits}
 use Rattle.progress_laws.specs.Moves.{is_left}
 use Rattle.progress_laws.proofs.Waiting.{IsLeftAt}
-use Rattle.progress_laws.proofs.Claims.{HasFlight, HasOwnTokens, up_is, flight_stays, asks}
+use Rattle.progress_laws.proofs.Claims.{HasFlight, HasOwnTokens, flight_stays, asks}
+use Rattle.photon_model.proofs.Worlds.{up_is}
 use Rattle.progress_laws.proofs.Trying.{HasLines, IsLineAt, IsTried, HasTried, tries}
 use Rattle.progress_laws.proofs.Calm.{along_idle, left_stays}
 

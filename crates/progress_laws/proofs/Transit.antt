@@ -2,14 +2,8 @@
 use Rattle.std.proofs.Common.{◌≡◌, ◌⊎◌, inl, inr, ⊎_elim, ℕ, Bool, true, false, cond, ◌==◌, List, ◌∷◌, ◌++◌, Some, None, refl, sym, ap, ◌∙◌, subst, []}
 use Rattle.std.specs.Prelude.{Option, filter, not}
 use Rattle.std.proofs.lemmas.Bool.{eqb-true, eq-eqb, true≢false, cond-true, cond-false}
+pub use Rattle.photon_model.proofs.Worlds.{opened_at}
 use Rattle.photon_model.proofs.Words.{Mem, Each, mem_left, mem_right, mem_split, none_some, some_same, Setting, IsNode, IsTo, Addressed, Packet, Node, Dispatcher, Server, Replica, Joiner, To, Input, Start, Own, Tick, Deliver, Sent, Note, World, Entry, Begin, End, Stop, sends, after, May, same_node, put_in, is_out, to_live, IsQuiet, Carries, Cell}
-
--- the input of a node's open turn
-abbrev pub opened_at : World → Node → Option Input
-opened_at w (Dispatcher s) = (w.dispatchers s).opened
-opened_at w (Server s) = (w.servers s).opened
-opened_at w (Replica r) = (w.replicas r).opened
-opened_at w (Joiner j) = (w.joiners j).opened
 
 -- what is on its way after one more entry
 abbrev pub CarriesOne : (ℕ → Bool) → List Sent → Entry → List Sent → Type 0

@@ -6,7 +6,8 @@ use Rattle.time_shards.specs.Shards.{IsTable}
 use Rattle.photon_model.proofs.Words.{EventId, Click, ClickLine, at, first, Mem, has, mem_left, mem_right, option_both, has_without-self, Setting, IsJoiner, site_of_joiner, IsTo, Note, Out, idle, is_empty, Packet, Join, Joined, NoQuery, Node, Dispatcher, Server, Replica, Joiner, To, Only, AnyJoiner, Input, Tick, Deliver, Sent, DispatcherKept, DispatcherLive, Fresh, waits, mark, mark_one, join, fresh_joins, join_if, trying_joins, dispatcher_start, dispatcher_turn, dispatcher_unfinished, some_waits, JoinerKept, JoinerLive, Flight, in_flight, looks, joiner_start, joiner_turn, World, Entry, End, row, dispatcher_row, joiner_row, after, world_after, DispatcherWorks, IsWork, if_up, IsQuiet, is_out, IfUp}
 use Rattle.progress_laws.specs.Idle.{IsIdle}
 use Rattle.progress_laws.proofs.Transit.{opened_at, Underway, HasTick, arrives}
-use Rattle.progress_laws.proofs.Claims.{HasFlight, flight_stays, up_is}
+use Rattle.progress_laws.proofs.Claims.{HasFlight, flight_stays}
+use Rattle.photon_model.proofs.Worlds.{up_is}
 use Rattle.progress_laws.proofs.Ticking.{comes, passes}
 use Rattle.progress_laws.proofs.Ending.{IsEnd, joiner_now, dispatcher_now, joiner_live, dispatcher_live, both_up}
 use Rattle.progress_laws.proofs.Calm.{Step, step_goes, along_idle, row_sent, row_sent_to, goes_on, tick_goes_on}

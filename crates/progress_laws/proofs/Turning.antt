@@ -7,7 +7,7 @@ use Rattle.photon_model.proofs.Words.{server_tick, Ballot, Insert, Batch, bound_
 use Rattle.photon_model.proofs.ServerRows.{current_at, replicas_each, reply_each, replies_each, tick_each, every_row}
 use Rattle.progress_laws.specs.Moves.{is_left, next_of}
 use Rattle.progress_laws.proofs.Phases.{IsOpen, IfOpen, question, PhaseGoes, phase_same, nobody_open, promise_goes, accepted_goes, promise_open, accepted_open, mem_to}
-use Rattle.progress_laws.proofs.Ending.{set_own}
+use Rattle.photon_model.proofs.Worlds.{set_own}
 use Rattle.turn_defs.specs.declared.packet.Packet.TheVariants as packet
 
 -- the ballot of a shard's attempt

@@ -2,6 +2,7 @@
 use Rattle.std.proofs.Common.{◌≡◌, inl, ⊎_elim, ℕ, zero, suc, ◌<◌, Bool, true, false, cond, ◌&&◌, nat_lt, List, [], ◌∷◌, ◌++◌, length, Some, None, refl, sym, ap, ◌∙◌, subst, arith, lit<}
 use Rattle.std.specs.Prelude.{⊤, not, is_some, filter, Option}
 use Rattle.std.proofs.lemmas.Bool.{true≢false, and_parts, ltb-true}
+use Rattle.photon_model.proofs.Worlds.{of_two}
 use Rattle.photon_model.proofs.Words.{Ballot, is_same, same_true, same_batch, same_batch-true, Place, is_place, place_true, Mem, option_or_else, mem_right, none_some, some_same, Packet, Prepare, Promise, Nack, Accept, Accepted, Chosen, Node, Dispatcher, Server, Replica, Joiner, To, Only, AnyJoiner, Input, Start, Deliver, IsNode, Addressed, Sent, IsJoiner, shards, Out, is_empty, dispatcher_wants, ServerLive, is_below_limit, server_wants, server_start, server_turn, IfUp, World, Entry, Begin, End, Stop, Fits, WasSent, MayBegin, May, IsRun, row, dispatcher_row, server_row, replica_row, sends, after, world_after, same_node, UpWith, BothUp, ServerWorks, IsWork, put_in, ticks_of, ticks_due, is_unfinished, to_live, Carries, IsQuiet, Cell}
 use Rattle.progress_laws.specs.Idle.{HasNumbers, IsWithinLimits, NoWork, IsIdle}
 use Rattle.progress_laws.specs.Rows.{three, all_live, to_one, ends, plays, duel, restarts, beginning, down_again, stale, first, second, third, fourth, after_first, after_second, after_third, CarriesOnce, ThreeAreIdle}
@@ -214,11 +215,6 @@ carried (Stop n o ∷ es) air e = absurd (true≢false (sym e))
 
 -- ---- the setting's nodes
 
-two : (P : ℕ → Type 0) → P 0 → P 1 → (s : ℕ) → s < 2 → P s
-two P a b zero lt = a
-two P a b (suc zero) lt = b
-two P a b (suc (suc s)) lt = absurd (omega (arith, lt))
-
 each_of_three : (P : ℕ → Type 0) → P 0 → P 1 → P 2 → (r : ℕ) → r < 3 → P r
 each_of_three P a b c zero lt = a
 each_of_three P a b c (suc zero) lt = b
@@ -270,7 +266,7 @@ are_calm w [] = are_low w
 are_calm w (e ∷ es) = are_low w && (is_calm w e && are_calm (after three w e) es)
 
 numbers : (w : World) → are_low w ≡ true → HasNumbers three w
-numbers w e = record { rounds = two _ a.0 b.0; slots = two _ a.1 b.1; tokens = λ j is. absurd (no_joiner j is) }
+numbers w e = record { rounds = of_two _ a.0 b.0; slots = of_two _ a.1 b.1; tokens = λ j is. absurd (no_joiner j is) }
   where
     h : (is_low (w.servers 0).live ≡ true) × (is_low (w.servers 1).live ≡ true)
     h = and_parts (is_low (w.servers 0).live) (is_low (w.servers 1).live) e
@@ -316,22 +312,22 @@ abbrev after_fourth : World
 after_fourth = world_after three after_third (plays after_third fourth)
 
 quiet_stale : IsQuiet three all_live stale
-quiet_stale = quiet_at stale (two _ (refl, refl) (refl, refl)) (two _ (refl, refl) (refl, refl)) (each_of_three _ (refl, tt) (refl, tt) (refl, tt))
+quiet_stale = quiet_at stale (of_two _ (refl, refl) (refl, refl)) (of_two _ (refl, refl) (refl, refl)) (each_of_three _ (refl, tt) (refl, tt) (refl, tt))
 
 quiet_after_first : IsQuiet three all_live after_first
-quiet_after_first = quiet_at after_first (two _ (refl, refl) (refl, refl)) (two _ (refl, refl) (refl, refl)) (each_of_three _ (refl, tt) (refl, tt) (refl, tt))
+quiet_after_first = quiet_at after_first (of_two _ (refl, refl) (refl, refl)) (of_two _ (refl, refl) (refl, refl)) (each_of_three _ (refl, tt) (refl, tt) (refl, tt))
 
 quiet_after_second : IsQuiet three all_live after_second
-quiet_after_second = quiet_at after_second (two _ (refl, refl) (refl, refl)) (two _ (refl, refl) (refl, refl)) (each_of_three _ (refl, tt) (refl, tt) (refl, tt))
+quiet_after_second = quiet_at after_second (of_two _ (refl, refl) (refl, refl)) (of_two _ (refl, refl) (refl, refl)) (each_of_three _ (refl, tt) (refl, tt) (refl, tt))
 
 quiet_after_third : IsQuiet three all_live after_third
-quiet_after_third = quiet_at after_third (two _ (refl, refl) (refl, refl)) (two _ (refl, refl) (refl, refl)) (each_of_three _ (refl, tt) (refl, tt) (refl, tt))
+quiet_after_third = quiet_at after_third (of_two _ (refl, refl) (refl, refl)) (of_two _ (refl, refl) (refl, refl)) (each_of_three _ (refl, tt) (refl, tt) (refl, tt))
 
 quiet_after_fourth : IsQuiet three all_live after_fourth
-quiet_after_fourth = quiet_at after_fourth (two _ (refl, refl) (refl, refl)) (two _ (refl, refl) (refl, refl)) (each_of_three _ (refl, tt) (refl, tt) (refl, tt))
+quiet_after_fourth = quiet_at after_fourth (of_two _ (refl, refl) (refl, refl)) (of_two _ (refl, refl) (refl, refl)) (each_of_three _ (refl, tt) (refl, tt) (refl, tt))
 
 ticks_first : (n : Node) → IsNode three n → ticks_of n (plays stale first) ≡ ticks_due (is_unfinished three stale n)
-ticks_first = each_node _ (two _ refl refl) (two _ refl refl) (λ r. refl) (λ j. refl)
+ticks_first = each_node _ (of_two _ refl refl) (of_two _ refl refl) (λ r. refl) (λ j. refl)
 
 idle_first : IsIdle three all_live stale (plays stale first)
 idle_first =
@@ -344,7 +340,7 @@ idle_first =
     }
 
 ticks_second : (n : Node) → IsNode three n → ticks_of n (plays after_first second) ≡ ticks_due (is_unfinished three after_first n)
-ticks_second = each_node _ (two _ refl refl) (two _ refl refl) (λ r. refl) (λ j. refl)
+ticks_second = each_node _ (of_two _ refl refl) (of_two _ refl refl) (λ r. refl) (λ j. refl)
 
 idle_second : IsIdle three all_live after_first (plays after_first second)
 idle_second =
@@ -357,7 +353,7 @@ idle_second =
     }
 
 ticks_third : (n : Node) → IsNode three n → ticks_of n (plays after_second third) ≡ ticks_due (is_unfinished three after_second n)
-ticks_third = each_node _ (two _ refl refl) (two _ refl refl) (λ r. refl) (λ j. refl)
+ticks_third = each_node _ (of_two _ refl refl) (of_two _ refl refl) (λ r. refl) (λ j. refl)
 
 idle_third : IsIdle three all_live after_second (plays after_second third)
 idle_third =
@@ -370,7 +366,7 @@ idle_third =
     }
 
 ticks_fourth : (n : Node) → IsNode three n → ticks_of n (plays after_third fourth) ≡ ticks_due (is_unfinished three after_third n)
-ticks_fourth = each_node _ (two _ refl refl) (two _ refl refl) (λ r. refl) (λ j. refl)
+ticks_fourth = each_node _ (of_two _ refl refl) (of_two _ refl refl) (λ r. refl) (λ j. refl)
 
 pub three_are_idle : ThreeAreIdle
 three_are_idle =
@@ -383,5 +379,5 @@ three_are_idle =
       goes_on = played fourth after_third refl;
       last = record { starts = quiet_after_third; ends = quiet_after_fourth; carries = carried (plays after_third fourth) [] refl; ticks = ticks_fourth };
       works = λ h. h.1.1.1.1.1.1.1.1.1.1.1.1.1.1.1.1.1.1.1.1.1.1.1.0 (0, lit< tt);
-      rests = record { dispatchers = two _ refl refl; joiners = λ j is. absurd (no_joiner j is); servers = two _ refl refl };
+      rests = record { dispatchers = of_two _ refl refl; joiners = λ j is. absurd (no_joiner j is); servers = of_two _ refl refl };
     }
