@@ -147,7 +147,9 @@ impl SiteNode for Puppet {
         }
         let is_start = matches!(input, Input::Start);
         let packets = self.packets(is_start)?;
-        self.sends = self.sends.saturating_sub(packets.as_slice().len() as u32);
+        if !packets.as_slice().is_empty() {
+            self.sends = self.sends.saturating_sub(1);
+        }
         if is_start {
             self.starts = self.starts.saturating_add(1);
         } else {
