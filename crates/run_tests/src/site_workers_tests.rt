@@ -267,7 +267,15 @@ fn ran_two<R: Threads + Wait + Sync>(
     )?;
     add(&mut nodes, Either::Second(second))?;
     let kinds = [Kind::Joiner, Kind::Server];
-    match run(rt, alloc, &kinds, Plan::empty(alloc), nodes, &OpenGate, false) {
+    match run(
+        rt,
+        alloc,
+        &kinds,
+        Plan::empty(alloc),
+        nodes,
+        &OpenGate,
+        false,
+    ) {
         Ok(ran) => Ok((ran.rest, ran.seen.len(), told(&ran))),
         Err(_) => Err("memory".into()),
     }

@@ -1,4 +1,4 @@
-use Rattle.std.proofs.Common.{◌≡◌, length, false}
+use Rattle.std.proofs.Common.{◌≡◌, length}
 use Rattle.run_tests.specs.Puppets.{AreReady}
 use Rattle.run_tests.specs.declared.site_workers_tests.Puppet.{Puppet}
 use Rattle.run_tests.proofs.site_workers_tests.round.Given as goal
