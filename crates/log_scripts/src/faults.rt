@@ -26,39 +26,49 @@ impl Part for Faults {
     }
 }
 
+// `memory` is want of it in a call that hands nothing back, `refused` in one that hands its value back.
 fn tell(alloc: Global, words: &mut Words<'_>) -> Result<String, Stop> {
-    let fault = fault_of(words)?;
+    match words.word()? {
+        "queries" => told(alloc, &RunFault::Read(LogName::Queries), words),
+        "clicks" => told(alloc, &RunFault::Read(LogName::Clicks), words),
+        "directory" => told(alloc, &RunFault::Store(StorePlace::Directory), words),
+        "disk" => {
+            let disk = disk_name(words.word()?)?;
+            told(alloc, &RunFault::Store(StorePlace::Disk(disk)), words)
+        }
+        "node" => {
+            let node = words.number()?;
+            told(alloc, &RunFault::Store(StorePlace::Node(node)), words)
+        }
+        "damaged" => {
+            let disk = disk_name(words.word()?)?;
+            let at = words.number()?;
+            told(alloc, &RunFault::Damaged { disk, at }, words)
+        }
+        "limit" => {
+            let disk = disk_name(words.word()?)?;
+            let value = words.number()?;
+            told(alloc, &RunFault::Limit { disk, value }, words)
+        }
+        "memory" => told(alloc, &RunFault::from(AllocError), words),
+        "refused" => told(alloc, &RunFault::from(AllocFailed { value: 7u8 }), words),
+        kind => {
+            let what = mismatch(kind, words)?;
+            told(alloc, &RunFault::Topology(what), words)
+        }
+    }
+}
+
+fn told(alloc: Global, fault: &RunFault, words: &mut Words<'_>) -> Result<String, Stop> {
     let room = words.number()?;
     let mut err = MemSink::new(alloc, room, words.numbers(alloc)?)?;
-    let told = match site_run::tell(&mut err, &fault) {
+    let told = match site_run::tell(&mut err, fault) {
         Ok(()) => "whole",
         Err(_) => "cut",
     };
     let line = std::str::from_utf8(err.bytes()).map_err(|_| Stop::Words)?;
     let faults = err.faults();
-    Ok(format!(in alloc; "{} {told} {faults} {line:?}", status(&fault))?)
-}
-
-// `memory` is want of it in a call that hands nothing back, `refused` in one that hands its value back.
-fn fault_of(words: &mut Words<'_>) -> Result<RunFault, Stop> {
-    Ok(match words.word()? {
-        "queries" => RunFault::Read(LogName::Queries),
-        "clicks" => RunFault::Read(LogName::Clicks),
-        "directory" => RunFault::Store(StorePlace::Directory),
-        "disk" => RunFault::Store(StorePlace::Disk(disk_name(words.word()?)?)),
-        "node" => RunFault::Store(StorePlace::Node(words.number()?)),
-        "damaged" => RunFault::Damaged {
-            disk: disk_name(words.word()?)?,
-            at: words.number()?,
-        },
-        "limit" => RunFault::Limit {
-            disk: disk_name(words.word()?)?,
-            value: words.number()?,
-        },
-        "memory" => RunFault::from(AllocError),
-        "refused" => RunFault::from(AllocFailed { value: 7u8 }),
-        kind => RunFault::Topology(mismatch(kind, words)?),
-    })
+    Ok(format!(in alloc; "{} {told} {faults} {line:?}", status(fault))?)
 }
 
 fn mismatch(kind: &str, words: &mut Words<'_>) -> Result<Mismatch, Stop> {
