@@ -4,9 +4,8 @@ use Rattle.clap.specs.Values.{kind_of}
 use Rattle.clap.specs.Kinds.{HasKind, IsAmong, Kinds}
 use Rattle.clap.specs.declared.error.Error.{Error}
 use Rattle.clap.specs.declared.error.kind.ErrorKind.TheVariants.{OutOfMemory}
-use Rattle.command_words.specs.Words.{AsksFor, Command, HasValues, IsFaultOf, IsRefusedBy, Pairs, Text, given, name_of}
+use Rattle.command_words.specs.Words.{Command, IsFaultOf, IsFound, IsRefusedBy, Pairs, Text, Wish, given, name_of}
 use Rattle.command_words.specs.Clap.{number_in, text_in}
-use Rattle.command_words.specs.declared.asked.Asked.{Asked}
 use Rattle.command_words.specs.declared.asked.WordsFault.{WordsFault}
 use Rattle.command_words.specs.declared.asked.WordsFault.TheVariants.{Memory, Refused}
 use Rattle.command_words.proofs.Walks.{first_given, one_given, pair_rows}
@@ -32,6 +31,6 @@ texts_are pairs = λ i n. first_given pairs n i
 numbers_are : (pairs : Pairs) → number_in (pair_rows pairs) ≡ given pairs
 numbers_are pairs = λ i n. one_given pairs n i
 
-pub asks_for : (asked : Asked) (c : Command) (pairs : Pairs) → HasValues asked (name_of c) (text_in (pair_rows pairs)) (number_in (pair_rows pairs)) → AsksFor asked c pairs
-asks_for asked c pairs h = subst (λ (t : Text → Option Text). HasValues asked (name_of c) t (given pairs)) (texts_are pairs)
-    (subst (λ (t : Text → Option Text). HasValues asked (name_of c) (text_in (pair_rows pairs)) t) (numbers_are pairs) h)
+pub asks_for : (w : Wish) (c : Command) (pairs : Pairs) → IsFound w (name_of c) (text_in (pair_rows pairs)) (number_in (pair_rows pairs)) → IsFound w (name_of c) (given pairs) (given pairs)
+asks_for w c pairs h = subst (λ (t : Text → Option Text). IsFound w (name_of c) t (given pairs)) (texts_are pairs)
+    (subst (λ (t : Text → Option Text). IsFound w (name_of c) (text_in (pair_rows pairs)) t) (numbers_are pairs) h)

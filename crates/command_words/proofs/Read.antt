@@ -15,11 +15,9 @@ use Rattle.clap.specs.Takes.{is_given}
 use Rattle.clap.specs.Faults.{built_fault, check_fault, entered_fault, fault_of, level_fault, walk_fault}
 use Rattle.clap.specs.declared.builder.value_parser.ValueParser.TheVariants as vp
 use Rattle.clap.proofs.ValueTestLemmas.{accepts-Accepts}
-use Rattle.command_words.specs.Words.{Command, HasAll, HasValues, IsInRanges, Opt, Text, bulk, drill, join, name_of, number, number_of, number_or, options_of, some_text, text_or, verify}
-use Rattle.command_words.specs.declared.asked.Asked.{Asked}
-use Rattle.command_words.specs.declared.asked.Asked.TheVariants.{Bulk, Drill, Join, Verify}
+use Rattle.command_words.specs.Words.{AreInRanges, AreValues, AskFor, Command, HasAll, HasNodes, HasRun, IsFound, IsInRanges, Opt, Text, Values, Wish, a_bulk_run, a_drill, a_join, a_verification, batch, bulk, command_of, drill, horizon, join, joiners, name_of, number, number_of, number_or, options_of, shards, some_text, text_or, verify}
 use Rattle.command_words.specs.Clap.{number_in, photon_app, text_in}
-use Rattle.command_words.proofs.Walks.{Known, full_rule, reads_as_written}
+use Rattle.command_words.proofs.Walks.{AllKnown, Known, full_rule, reads_as_written}
 use Rattle.command_words.proofs.Levels.{ready, sub}
 use Rattle.command_words.proofs.Taken.{AreGood, Holds, IsGood, IsOwn, level_holds, or_nil}
 use Rattle.clap.specs.declared.builder.value_parser.Reading.{Reading}
@@ -213,19 +211,31 @@ there : (o : Option Text) (P : Text → Type 0) → IsSome o → IfSome o P → 
 there None P some h = absurd (true≢false (sym some))
 there (Some t) P some h = h
 
+has_nodes : (rules : List Rule) (rows : List Row) → AreGood rules rows → AllKnown rules (joiners ∷ shards ∷ batch ∷ []) → HasNodes (text_in rows) (number_in rows)
+has_nodes rules rows good k =
+    (number_reads rules rows (codes "joiners") 1 4 false k.0 good, text_has_some rules rows (codes "shards") false k.1.0 good, number_reads rules rows (codes "batch") 1 64 false k.1.1.0 good)
+
+has_run : (c : Command) (words : List Text) → Holds (sub c) words → is_given (codes "queries") (rows_after (sub c).rules [] words) ≡ true → is_given (codes "clicks") (rows_after (sub c).rules [] words) ≡ true
+    → AllKnown (sub c).rules (horizon ∷ joiners ∷ shards ∷ batch ∷ []) → HasRun (text_in (rows_after (sub c).rules [] words)) (number_in (rows_after (sub c).rules [] words))
+has_run c words h queries clicks k =
+    let rows = rows_after (sub c).rules [] words in (
+      text_is_given (sub c).rules rows (codes "queries") h.good queries,
+      text_is_given (sub c).rules rows (codes "clicks") h.good clicks,
+      number_reads (sub c).rules rows (codes "horizon") 0 18446744073709551615 false k.0 h.good,
+      has_nodes (sub c).rules rows h.good k.1,
+    )
+
 pub has_values : (c : Command) (words : List Text) → Holds (sub c) words → HasAll c (text_in (rows_after (sub c).rules [] words)) (number_in (rows_after (sub c).rules [] words))
 has_values join words h =
-    let c = join in
-    let rows = rows_after (sub c).rules [] words in
-    let k = (ready c).known in
-    let n = needs c words h in
-    (text_is_given (sub c).rules rows (codes "queries") h.good (n.0 refl), text_is_given (sub c).rules rows (codes "clicks") h.good (n.1.0 refl), text_is_given (sub c).rules rows (codes "state") h.good (n.1.1.0 refl), number_reads (sub c).rules rows (codes "horizon") 0 18446744073709551615 false (k.1.1.1.0) h.good, number_reads (sub c).rules rows (codes "joiners") 1 4 false (k.1.1.1.1.0) h.good, text_has_some (sub c).rules rows (codes "shards") false (k.1.1.1.1.1.0) h.good, number_reads (sub c).rules rows (codes "batch") 1 64 false (k.1.1.1.1.1.1.0) h.good)
+    let rows = rows_after (sub join).rules [] words in
+    let k = (ready join).known in
+    let n = needs join words h in
+    (has_run join words h (n.0 refl) (n.1.0 refl) k.1.1.1, text_is_given (sub join).rules rows (codes "state") h.good (n.1.1.0 refl))
 has_values drill words h =
-    let c = drill in
-    let rows = rows_after (sub c).rules [] words in
-    let k = (ready c).known in
-    let n = needs c words h in
-    (text_is_given (sub c).rules rows (codes "queries") h.good (n.0 refl), text_is_given (sub c).rules rows (codes "clicks") h.good (n.1.0 refl), text_is_given (sub c).rules rows (codes "plan") h.good (n.1.1.0 refl), number_reads (sub c).rules rows (codes "horizon") 0 18446744073709551615 false (k.1.1.1.0) h.good, number_reads (sub c).rules rows (codes "joiners") 1 4 false (k.1.1.1.1.0) h.good, text_has_some (sub c).rules rows (codes "shards") false (k.1.1.1.1.1.0) h.good, number_reads (sub c).rules rows (codes "batch") 1 64 false (k.1.1.1.1.1.1.0) h.good)
+    let rows = rows_after (sub drill).rules [] words in
+    let k = (ready drill).known in
+    let n = needs drill words h in
+    (has_run drill words h (n.0 refl) (n.1.0 refl) k.1.1.1, text_is_given (sub drill).rules rows (codes "plan") h.good (n.1.1.0 refl))
 has_values verify words h =
     let c = verify in
     let rows = rows_after (sub c).rules [] words in
@@ -238,7 +248,7 @@ has_values bulk words h =
     let n = needs c words h in
     let seed = there (number_in rows (codes "seed")) (IsUnsignedIn 0 18446744073709551615) (number_is_given (sub c).rules rows (codes "seed") h.good (n.0 refl)) (number_reads (sub c).rules rows (codes "seed") 0 18446744073709551615 true (k.0) h.good) in
     let clicks = there (number_in rows (codes "clicks")) (IsUnsignedIn 0 100000) (number_is_given (sub c).rules rows (codes "clicks") h.good (n.1.0 refl)) (number_reads (sub c).rules rows (codes "clicks") 0 100000 true (k.1.0) h.good) in
-    (seed, clicks, number_reads (sub c).rules rows (codes "joiners") 1 4 false (k.1.1.0) h.good, text_has_some (sub c).rules rows (codes "shards") false (k.1.1.1.0) h.good, number_reads (sub c).rules rows (codes "batch") 1 64 false (k.1.1.1.1.0) h.good)
+    (seed, clicks, has_nodes (sub c).rules rows h.good k.1.1)
 
 number_within : (low high or : ℕ) (o : Option Text) → low ≤ or → or ≤ high → IfSome o (IsUnsignedIn low high) → (low ≤ number_or or o) × (number_or or o ≤ high)
 number_within low high or None least most h = (least, most)
@@ -254,19 +264,6 @@ needed_within low high n (Some t) is h =
     let same : n ≡ number_or 0 (Some t) = cc in
     rw same h.3
 
--- the command that is asked for
-abbrev pub command_of : Asked → Command
-command_of (Join queries clicks state floor workers table most) = join
-command_of (Drill queries clicks plan floor workers table most) = drill
-command_of (Verify clicks state) = verify
-command_of (Bulk seed clicks workers table most) = bulk
-
-name_is : (asked : Asked) (name : Text) (text_at number_at : Text → Option Text) → HasValues asked name text_at number_at → name ≡ name_of (command_of asked)
-name_is (Join queries clicks state floor workers table most) name text_at number_at v = v.0
-name_is (Drill queries clicks plan floor workers table most) name text_at number_at v = v.0
-name_is (Verify clicks state) name text_at number_at v = v.0
-name_is (Bulk seed clicks workers table most) name text_at number_at v = v.0
-
 -- a name has one command: its first letter tells
 abbrev by_letter : Text → Command
 by_letter [] = join
@@ -278,30 +275,33 @@ letter_tells drill = refl
 letter_tells verify = refl
 letter_tells bulk = refl
 
-own_within : (asked : Asked) (name : Text) (text_at number_at : Text → Option Text) → HasValues asked name text_at number_at → HasAll (command_of asked) text_at number_at → IsInRanges asked
-own_within (Join queries clicks state floor workers table most) name text_at number_at v h =
-    let w = number_within 1 4 1 (number_at (codes "joiners")) (omega arith) (omega arith) h.4 in
-    let t = text_within (codes "0:4") (text_at (codes "shards")) (omega arith) h.5 in
-    let m = number_within 1 64 64 (number_at (codes "batch")) (omega arith) (omega arith) h.6 in
-    (rw v.5 w.0, rw v.5 w.1, rw v.6 t, rw v.7 m.0, rw v.7 m.1)
-own_within (Drill queries clicks plan floor workers table most) name text_at number_at v h =
-    let w = number_within 1 4 1 (number_at (codes "joiners")) (omega arith) (omega arith) h.4 in
-    let t = text_within (codes "0:4") (text_at (codes "shards")) (omega arith) h.5 in
-    let m = number_within 1 64 64 (number_at (codes "batch")) (omega arith) (omega arith) h.6 in
-    (rw v.5 w.0, rw v.5 w.1, rw v.6 t, rw v.7 m.0, rw v.7 m.1)
-own_within (Verify clicks state) name text_at number_at v h = tt
-own_within (Bulk seed clicks workers table most) name text_at number_at v h =
-    let c = needed_within 0 100000 clicks (number_at (codes "clicks")) v.2 h.1 in
-    let w = number_within 1 4 1 (number_at (codes "joiners")) (omega arith) (omega arith) h.2 in
-    let t = text_within (codes "0:4") (text_at (codes "shards")) (omega arith) h.3 in
-    let m = number_within 1 64 64 (number_at (codes "batch")) (omega arith) (omega arith) h.4 in
-    (c, rw v.3 w.0, rw v.3 w.1, rw v.4 t, rw v.5 m.0, rw v.5 m.1)
+nodes_within : (joiners batch : ℕ) (shards : Text) (text_at number_at : Text → Option Text) → joiners ≡ number_or 1 (number_at (codes "joiners")) → shards ≡ text_or (codes "0:4") (text_at (codes "shards"))
+    → batch ≡ number_or 64 (number_at (codes "batch")) → HasNodes text_at number_at → (0 < joiners) × (joiners ≤ 4) × (0 < length shards) × (0 < batch) × (batch ≤ 64)
+nodes_within joiners batch shards text_at number_at is table most h =
+    let w = number_within 1 4 1 (number_at (codes "joiners")) (omega arith) (omega arith) h.0 in
+    let t = text_within (codes "0:4") (text_at (codes "shards")) (omega arith) h.1 in
+    let m = number_within 1 64 64 (number_at (codes "batch")) (omega arith) (omega arith) h.2 in
+    (rw is w.0, rw is w.1, rw table t, rw most m.0, rw most m.1)
 
--- values under a command's name are asked for by that command
-pub command_is : (asked : Asked) (c : Command) (text_at number_at : Text → Option Text) → HasValues asked (name_of c) text_at number_at → c ≡ command_of asked
-command_is asked c text_at number_at v = sym (letter_tells c) ∙ (ap by_letter (name_is asked (name_of c) text_at number_at v) ∙ letter_tells (command_of asked))
+run_within : (v : Values) (text_at number_at : Text → Option Text) → AreValues v text_at number_at → HasRun text_at number_at → AreInRanges v
+run_within v text_at number_at is h =
+    let n = nodes_within v.joiners v.batch v.shards text_at number_at is.joiners is.shards is.batch h.3 in
+    record { some = n.0; few = n.1; shards = n.2; least = n.3; batch = n.4 }
+
+own_within : (w : Wish) (text_at number_at : Text → Option Text) → AskFor w text_at number_at → HasAll (command_of w) text_at number_at → IsInRanges w
+own_within (a_join v state) text_at number_at is h = run_within v text_at number_at is.0 h.0
+own_within (a_drill v plan) text_at number_at is h = run_within v text_at number_at is.0 h.0
+own_within (a_verification clicks state) text_at number_at is h = tt
+own_within (a_bulk_run v) text_at number_at is h =
+    let c = needed_within 0 100000 v.count (number_at (codes "clicks")) is.count h.1 in
+    let n = nodes_within v.joiners v.batch v.shards text_at number_at is.joiners is.shards is.batch h.2 in
+    record { count = c; some = n.0; few = n.1; shards = n.2; least = n.3; batch = n.4 }
+
+-- no two commands have one name
+pub same_command : (a b : Command) → name_of a ≡ name_of b → a ≡ b
+same_command a b same = sym (letter_tells a) ∙ (ap by_letter same ∙ letter_tells b)
 
 -- what is asked for by values that may be read
-pub in_range : (asked : Asked) (c : Command) (text_at number_at : Text → Option Text) → HasValues asked (name_of c) text_at number_at → HasAll c text_at number_at → IsInRanges asked
-in_range asked c text_at number_at v h =
-    own_within asked (name_of c) text_at number_at v (subst (λ (d : Command). HasAll d text_at number_at) (command_is asked c text_at number_at v) h)
+pub in_range : (w : Wish) (c : Command) (text_at number_at : Text → Option Text) → IsFound w (name_of c) text_at number_at → HasAll c text_at number_at → IsInRanges w
+in_range w c text_at number_at found h =
+    own_within w text_at number_at found.1 (subst (λ (d : Command). HasAll d text_at number_at) (same_command c (command_of w) found.0) h)

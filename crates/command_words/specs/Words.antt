@@ -11,6 +11,8 @@ use Rattle.clap.specs.declared.error.Error.{Error}
 use Rattle.clap.specs.declared.error.kind.ErrorKind.TheVariants.{OutOfMemory}
 use Rattle.command_words.specs.declared.asked.WordsFault.{WordsFault}
 use Rattle.command_words.specs.declared.asked.WordsFault.TheVariants.{Memory, Refused}
+use Rattle.command_words.specs.declared.asked.RunOptions.{RunOptions}
+use Rattle.command_words.specs.declared.asked.BulkOptions.{BulkOptions}
 use Rattle.command_words.specs.declared.asked.Asked.{Asked}
 use Rattle.command_words.specs.declared.asked.Asked.TheVariants.{Join, Drill, Verify, Bulk}
 
@@ -139,52 +141,118 @@ number_of value = option_map (λ t. digits_value 10 (without_leading_plus t)) va
 abbrev pub text_or : Text → Option Text → Text
 text_or t value = unwrap_or value t
 
--- the command of that name, with the values that an option has as a text and as a number
-abbrev pub HasValues : Asked → Text → (Text → Option Text) → (Text → Option Text) → Type 0
-HasValues (Join queries clicks state floor workers table most) name text_at number_at =
-    (name ≡ codes "join") × (text_at (codes "queries") ≡ Some queries.now) × (text_at (codes "clicks") ≡ Some clicks.now)
-    × (text_at (codes "state") ≡ Some state.now) × (floor ≡ number_or 0 (number_at (codes "horizon")))
-    × (workers ≡ number_or 1 (number_at (codes "joiners"))) × (table.now ≡ text_or (codes "0:4") (text_at (codes "shards")))
-    × (most ≡ number_or 64 (number_at (codes "batch")))
-HasValues (Drill queries clicks plan floor workers table most) name text_at number_at =
-    (name ≡ codes "drill") × (text_at (codes "queries") ≡ Some queries.now) × (text_at (codes "clicks") ≡ Some clicks.now)
-    × (text_at (codes "plan") ≡ Some plan.now) × (floor ≡ number_or 0 (number_at (codes "horizon")))
-    × (workers ≡ number_or 1 (number_at (codes "joiners"))) × (table.now ≡ text_or (codes "0:4") (text_at (codes "shards")))
-    × (most ≡ number_or 64 (number_at (codes "batch")))
-HasValues (Verify clicks state) name text_at number_at =
-    (name ≡ codes "verify") × (text_at (codes "clicks") ≡ Some clicks.now) × (text_at (codes "state") ≡ Some state.now)
-HasValues (Bulk seed clicks workers table most) name text_at number_at =
-    (name ≡ codes "bulk") × (number_of (number_at (codes "seed")) ≡ Some seed) × (number_of (number_at (codes "clicks")) ≡ Some clicks)
-    × (workers ≡ number_or 1 (number_at (codes "joiners"))) × (table.now ≡ text_or (codes "0:4") (text_at (codes "shards")))
-    × (most ≡ number_or 64 (number_at (codes "batch")))
+-- what both sites are run for: the names of the two logs, the horizon in microseconds, how many joiners a site has, the text of
+-- the table of shards, and the most inserts of a batch
+pub record Values : Type 0 where
+  pub queries : Text
+  pub clicks : Text
+  pub horizon : ℕ
+  pub joiners : ℕ
+  pub shards : Text
+  pub batch : ℕ
 
--- what is asked for lies in the ranges of its options
-abbrev pub IsInRanges : Asked → Type 0
-IsInRanges (Join queries clicks state floor workers table most) = (1 ≤ workers) × (workers ≤ 4) × (0 < length table.now) × (1 ≤ most) × (most ≤ 64)
-IsInRanges (Drill queries clicks plan floor workers table most) = (1 ≤ workers) × (workers ≤ 4) × (0 < length table.now) × (1 ≤ most) × (most ≤ 64)
-IsInRanges (Verify clicks state) = ⊤
-IsInRanges (Bulk seed clicks workers table most) = (clicks ≤ 100000) × (1 ≤ workers) × (workers ≤ 4) × (0 < length table.now) × (1 ≤ most) × (most ≤ 64)
+-- what a bulk run is made from, and run for
+pub record BulkValues : Type 0 where
+  pub seed : ℕ
+  pub count : ℕ
+  pub joiners : ℕ
+  pub shards : Text
+  pub batch : ℕ
+
+-- what the words of a command ask for: a join of these values over the state's directory, a drill with the plan of a file, a
+-- verification of a click log over the state's directory, a bulk run
+pub data Wish : Type 0 where
+  a_join : (v : Values) (state : Text) → Wish
+  a_drill : (v : Values) (plan : Text) → Wish
+  a_verification : (clicks state : Text) → Wish
+  a_bulk_run : (v : BulkValues) → Wish
+
+abbrev pub command_of : Wish → Command
+command_of (a_join v state) = join
+command_of (a_drill v plan) = drill
+command_of (a_verification clicks state) = verify
+command_of (a_bulk_run v) = bulk
+
+abbrev pub values_in : RunOptions → Values
+values_in o = record { queries = o.queries.now; clicks = o.clicks.now; horizon = o.horizon; joiners = o.joiners; shards = o.shards.now; batch = o.batch }
+
+abbrev pub bulk_values : BulkOptions → BulkValues
+bulk_values o = record { seed = o.seed; count = o.clicks; joiners = o.joiners; shards = o.shards.now; batch = o.batch }
+
+-- what the words were read as
+abbrev pub wish_of : Asked → Wish
+wish_of (Join run state) = a_join (values_in run) state.now
+wish_of (Drill run plan) = a_drill (values_in run) plan.now
+wish_of (Verify clicks state) = a_verification clicks.now state.now
+wish_of (Bulk run) = a_bulk_run (bulk_values run)
+
+-- the values that an option has as a text and as a number are these
+pub record AreValues (v : Values) (text_at number_at : Text → Option Text) : Type 0 where
+  pub queries : text_at (codes "queries") ≡ Some v.queries
+  pub clicks : text_at (codes "clicks") ≡ Some v.clicks
+  pub horizon : v.horizon ≡ number_or 0 (number_at (codes "horizon"))
+  pub joiners : v.joiners ≡ number_or 1 (number_at (codes "joiners"))
+  pub shards : v.shards ≡ text_or (codes "0:4") (text_at (codes "shards"))
+  pub batch : v.batch ≡ number_or 64 (number_at (codes "batch"))
+
+pub record AreBulkValues (v : BulkValues) (text_at number_at : Text → Option Text) : Type 0 where
+  pub seed : number_of (number_at (codes "seed")) ≡ Some v.seed
+  pub count : number_of (number_at (codes "clicks")) ≡ Some v.count
+  pub joiners : v.joiners ≡ number_or 1 (number_at (codes "joiners"))
+  pub shards : v.shards ≡ text_or (codes "0:4") (text_at (codes "shards"))
+  pub batch : v.batch ≡ number_or 64 (number_at (codes "batch"))
+
+-- the options ask for this
+abbrev pub AskFor : Wish → (text_at number_at : Text → Option Text) → Type 0
+AskFor (a_join v state) text_at number_at = AreValues v text_at number_at × (text_at (codes "state") ≡ Some state)
+AskFor (a_drill v plan) text_at number_at = AreValues v text_at number_at × (text_at (codes "plan") ≡ Some plan)
+AskFor (a_verification clicks state) text_at number_at = (text_at (codes "clicks") ≡ Some clicks) × (text_at (codes "state") ≡ Some state)
+AskFor (a_bulk_run v) text_at number_at = AreBulkValues v text_at number_at
+
+-- the command of that name, with these options, asks for this
+abbrev pub IsFound : Wish → Text → (text_at number_at : Text → Option Text) → Type 0
+IsFound w name text_at number_at = (name ≡ name_of (command_of w)) × AskFor w text_at number_at
+
+-- the values lie in the ranges of their options
+pub record AreInRanges (v : Values) : Type 0 where
+  pub some : 0 < v.joiners
+  pub few : v.joiners ≤ 4
+  pub shards : 0 < length v.shards
+  pub least : 0 < v.batch
+  pub batch : v.batch ≤ 64
+
+pub record AreBulkRanges (v : BulkValues) : Type 0 where
+  pub count : v.count ≤ 100000
+  pub some : 0 < v.joiners
+  pub few : v.joiners ≤ 4
+  pub shards : 0 < length v.shards
+  pub least : 0 < v.batch
+  pub batch : v.batch ≤ 64
+
+abbrev pub IsInRanges : Wish → Type 0
+IsInRanges (a_join v state) = AreInRanges v
+IsInRanges (a_drill v plan) = AreInRanges v
+IsInRanges (a_verification clicks state) = ⊤
+IsInRanges (a_bulk_run v) = AreBulkRanges v
 
 -- a number that may be read: digits, which may have a plus before them, within the range
 abbrev pub IsReadable : ℕ → ℕ → Text → Type 0
 IsReadable low high t = IsUnsignedIn low high t
 
--- each value that a command needs is there, each number that is there may be read, and the table is not empty
-abbrev pub HasAll : Command → (Text → Option Text) → (Text → Option Text) → Type 0
-HasAll join text_at number_at = IsSome (text_at (codes "queries")) × IsSome (text_at (codes "clicks")) × IsSome (text_at (codes "state"))
-    × IfSome (number_at (codes "horizon")) (IsReadable 0 18446744073709551615) × IfSome (number_at (codes "joiners")) (IsReadable 1 4)
-    × IfSome (text_at (codes "shards")) (λ t. 0 < length t) × IfSome (number_at (codes "batch")) (IsReadable 1 64)
-HasAll drill text_at number_at = IsSome (text_at (codes "queries")) × IsSome (text_at (codes "clicks")) × IsSome (text_at (codes "plan"))
-    × IfSome (number_at (codes "horizon")) (IsReadable 0 18446744073709551615) × IfSome (number_at (codes "joiners")) (IsReadable 1 4)
-    × IfSome (text_at (codes "shards")) (λ t. 0 < length t) × IfSome (number_at (codes "batch")) (IsReadable 1 64)
-HasAll verify text_at number_at = IsSome (text_at (codes "clicks")) × IsSome (text_at (codes "state"))
-HasAll bulk text_at number_at = IsSomeAnd (number_at (codes "seed")) (IsReadable 0 18446744073709551615) × IsSomeAnd (number_at (codes "clicks")) (IsReadable 0 100000)
-    × IfSome (number_at (codes "joiners")) (IsReadable 1 4) × IfSome (text_at (codes "shards")) (λ t. 0 < length t)
-    × IfSome (number_at (codes "batch")) (IsReadable 1 64)
+-- each number that is there may be read, and the table is not empty
+abbrev pub HasNodes : (text_at number_at : Text → Option Text) → Type 0
+HasNodes text_at number_at = IfSome (number_at (codes "joiners")) (IsReadable 1 4) × IfSome (text_at (codes "shards")) (λ t. 0 < length t) × IfSome (number_at (codes "batch")) (IsReadable 1 64)
 
--- plain words ask for this
-abbrev pub AsksFor : Asked → Command → Pairs → Type 0
-AsksFor asked command pairs = HasValues asked (name_of command) (given pairs) (given pairs)
+-- so of a run, and both logs are named
+abbrev pub HasRun : (text_at number_at : Text → Option Text) → Type 0
+HasRun text_at number_at = IsSome (text_at (codes "queries")) × IsSome (text_at (codes "clicks")) × IfSome (number_at (codes "horizon")) (IsReadable 0 18446744073709551615) × HasNodes text_at number_at
+
+-- each value that a command needs is there
+abbrev pub HasAll : Command → (text_at number_at : Text → Option Text) → Type 0
+HasAll join text_at number_at = HasRun text_at number_at × IsSome (text_at (codes "state"))
+HasAll drill text_at number_at = HasRun text_at number_at × IsSome (text_at (codes "plan"))
+HasAll verify text_at number_at = IsSome (text_at (codes "clicks")) × IsSome (text_at (codes "state"))
+HasAll bulk text_at number_at = IsSomeAnd (number_at (codes "seed")) (IsReadable 0 18446744073709551615) × IsSomeAnd (number_at (codes "clicks")) (IsReadable 0 100000) × HasNodes text_at number_at
 
 -- memory ran out, or the error has one of the kinds
 abbrev pub IsRefusedBy : Kinds → WordsFault → Type 0

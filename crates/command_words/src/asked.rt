@@ -3,45 +3,41 @@ ghost use Rattle.std.specs.Prelude.{◌≡◌};
 
 use std::alloc::AllocError;
 
+/// What both sites are run for: two logs by their names. Ids whose microseconds lie below the horizon are too old. A site
+/// has so many joiners, and a batch so many inserts at most. The shards are the text of a table as it was written, which
+/// is not read here.
+#[derive(Clone, Copy, Debug)]
+pub struct RunOptions<'a> {
+    pub queries: &'a str,
+    pub clicks: &'a str,
+    pub horizon: u64,
+    pub joiners: u8,
+    pub shards: &'a str,
+    pub batch: u8,
+}
+
+/// What a bulk run is for: logs with so many clicks, at most 100,000, that the program makes from the seed. The rest is as
+/// in a run.
+#[derive(Clone, Copy, Debug)]
+pub struct BulkOptions<'a> {
+    pub seed: u64,
+    pub clicks: u32,
+    pub joiners: u8,
+    pub shards: &'a str,
+    pub batch: u8,
+}
+
 /// A command with the values of its options.
 #[derive(Clone, Copy, Debug)]
 pub enum Asked<'a> {
-    /// Join the logs of these names over the directory of that name. Ids whose microseconds lie below the
-    /// horizon are too old. A site has so many joiners, and a batch so many inserts at most. The shards are the
-    /// text of a table as it was written, which is not read here.
-    Join {
-        queries: &'a str,
-        clicks: &'a str,
-        state: &'a str,
-        horizon: u64,
-        joiners: u8,
-        shards: &'a str,
-        batch: u8,
-    },
-    /// Join the logs of these names in a run with the losses and stops of the plan of that name. The rest is as in
-    /// a join.
-    Drill {
-        queries: &'a str,
-        clicks: &'a str,
-        plan: &'a str,
-        horizon: u64,
-        joiners: u8,
-        shards: &'a str,
-        batch: u8,
-    },
+    /// Join over the directory of that name.
+    Join { run: RunOptions<'a>, state: &'a str },
+    /// Join in a run with the losses and stops of the plan of that name.
+    Drill { run: RunOptions<'a>, plan: &'a str },
     /// Check what the directory of that name keeps against the log of clicks.
-    Verify {
-        clicks: &'a str,
-        state: &'a str,
-    },
-    /// Join logs with so many clicks, at most 100,000, that the program makes from the seed. The rest is as in a join.
-    Bulk {
-        seed: u64,
-        clicks: u32,
-        joiners: u8,
-        shards: &'a str,
-        batch: u8,
-    },
+    Verify { clicks: &'a str, state: &'a str },
+    /// Join logs that the program makes.
+    Bulk { run: BulkOptions<'a> },
 }
 
 /// Why the words were not read.

@@ -5,5 +5,5 @@ mod asked;
 mod commands;
 mod parse;
 
-pub use asked::{Asked, WordsFault};
+pub use asked::{Asked, BulkOptions, RunOptions, WordsFault};
 pub use parse::parse_words;

@@ -4,11 +4,11 @@ ghost use Rattle.clap.specs.Matches.{found_of};
 ghost use Rattle.clap.specs.Walk.{Row, rows_of};
 ghost use Rattle.clap.specs.Simple.{subcommand_of, subcommand_rows_of};
 ghost use Rattle.clap.specs.Faults.{fault_of};
-ghost use Rattle.command_words.specs.Words.{Command, Pairs, IsPlain, IsFaultOf, IsRefusedBy, name_of, AsksFor, HasAll, HasValues, IsInRanges, join, drill, verify, bulk, IsReadable, number_of, number_or, text_or, texts};
+ghost use Rattle.command_words.specs.Words.{AreValues, Command, Pairs, IsPlain, IsFaultOf, IsFound, IsRefusedBy, name_of, given, HasAll, HasRun, IsInRanges, join, drill, verify, bulk, IsReadable, number_of, number_or, text_or, texts, values_in, wish_of};
 ghost use Rattle.command_words.specs.Clap.{photon_app, text_in, number_in};
 ghost use Rattle.command_words.specs.declared.asked.WordsFault.TheVariants.{Memory, Refused};
 
-use crate::asked::{Asked, WordsFault};
+use crate::asked::{Asked, BulkOptions, RunOptions, WordsFault};
 use crate::commands::photon;
 use clap::ArgMatches;
 use clap::error::ErrorKind;
@@ -99,38 +99,41 @@ fn batch(found: &ArgMatches<'_>) -> Option<u8>
     small(found, "batch", 64)
 }
 
-fn join<'a>(found: &ArgMatches<'a>) -> Option<Asked<'a>>
-    ensures value { IfSome result (λ a. HasValues a (codes "join") (text_in (rows_of (found_of found.now))) (number_in (rows_of (found_of found.now)))) }
-    ensures reads { HasAll join (text_in (rows_of (found_of found.now))) (number_in (rows_of (found_of found.now))) → IsSome result }
+/// What both sites are run for.
+fn run<'a>(found: &ArgMatches<'a>) -> Option<RunOptions<'a>>
+    ensures value { IfSome result (λ r. AreValues (values_in r) (text_in (rows_of (found_of found.now))) (number_in (rows_of (found_of found.now)))) }
+    ensures reads { HasRun (text_in (rows_of (found_of found.now))) (number_in (rows_of (found_of found.now))) → IsSome result }
 {
-    Some(Asked::Join {
+    Some(RunOptions {
         queries: text(found, "queries")?,
         clicks: text(found, "clicks")?,
-        state: text(found, "state")?,
         horizon: number(found, "horizon", 0)?,
         joiners: joiners(found)?,
         shards: shards(found),
         batch: batch(found)?,
     })
+}
+
+fn join<'a>(found: &ArgMatches<'a>) -> Option<Asked<'a>>
+    ensures value { IfSome result (λ a. IsFound (wish_of a) (codes "join") (text_in (rows_of (found_of found.now))) (number_in (rows_of (found_of found.now)))) }
+    ensures reads { HasAll join (text_in (rows_of (found_of found.now))) (number_in (rows_of (found_of found.now))) → IsSome result }
+{
+    let run = run(found)?;
+    let state = text(found, "state")?;
+    Some(Asked::Join { run, state })
 }
 
 fn drill<'a>(found: &ArgMatches<'a>) -> Option<Asked<'a>>
-    ensures value { IfSome result (λ a. HasValues a (codes "drill") (text_in (rows_of (found_of found.now))) (number_in (rows_of (found_of found.now)))) }
+    ensures value { IfSome result (λ a. IsFound (wish_of a) (codes "drill") (text_in (rows_of (found_of found.now))) (number_in (rows_of (found_of found.now)))) }
     ensures reads { HasAll drill (text_in (rows_of (found_of found.now))) (number_in (rows_of (found_of found.now))) → IsSome result }
 {
-    Some(Asked::Drill {
-        queries: text(found, "queries")?,
-        clicks: text(found, "clicks")?,
-        plan: text(found, "plan")?,
-        horizon: number(found, "horizon", 0)?,
-        joiners: joiners(found)?,
-        shards: shards(found),
-        batch: batch(found)?,
-    })
+    let run = run(found)?;
+    let plan = text(found, "plan")?;
+    Some(Asked::Drill { run, plan })
 }
 
 fn verify<'a>(found: &ArgMatches<'a>) -> Option<Asked<'a>>
-    ensures value { IfSome result (λ a. HasValues a (codes "verify") (text_in (rows_of (found_of found.now))) (number_in (rows_of (found_of found.now)))) }
+    ensures value { IfSome result (λ a. IsFound (wish_of a) (codes "verify") (text_in (rows_of (found_of found.now))) (number_in (rows_of (found_of found.now)))) }
     ensures reads { HasAll verify (text_in (rows_of (found_of found.now))) (number_in (rows_of (found_of found.now))) → IsSome result }
 {
     let clicks = text(found, "clicks")?;
@@ -139,21 +142,22 @@ fn verify<'a>(found: &ArgMatches<'a>) -> Option<Asked<'a>>
 }
 
 fn bulk<'a>(found: &ArgMatches<'a>) -> Option<Asked<'a>>
-    ensures value { IfSome result (λ a. HasValues a (codes "bulk") (text_in (rows_of (found_of found.now))) (number_in (rows_of (found_of found.now)))) }
+    ensures value { IfSome result (λ a. IsFound (wish_of a) (codes "bulk") (text_in (rows_of (found_of found.now))) (number_in (rows_of (found_of found.now)))) }
     ensures reads { HasAll bulk (text_in (rows_of (found_of found.now))) (number_in (rows_of (found_of found.now))) → IsSome result }
 {
-    Some(Asked::Bulk {
+    let run = BulkOptions {
         seed: needed(found, "seed")?,
         clicks: needed_count(found, "clicks")?,
         joiners: joiners(found)?,
         shards: shards(found),
         batch: batch(found)?,
-    })
+    };
+    Some(Asked::Bulk { run })
 }
 
 /// The command that the parse found.
 fn asked_of<'a>(matches: &ArgMatches<'a>) -> Option<Asked<'a>>
-    ensures value { IfSome result (λ a. IsSomeAnd (subcommand_rows_of matches.now) (λ p. HasValues a p.0 (text_in p.1) (number_in p.1))) }
+    ensures value { IfSome result (λ a. IsSomeAnd (subcommand_rows_of matches.now) (λ p. IsFound (wish_of a) p.0 (text_in p.1) (number_in p.1))) }
     ensures reads { (command : Command) (rows : List Row) → subcommand_rows_of matches.now ≡ Some (name_of command, rows) → HasAll command (text_in rows) (number_in rows) → IsSome result }
 {
     let (name, found) = matches.subcommand()?;
@@ -170,9 +174,9 @@ fn asked_of<'a>(matches: &ArgMatches<'a>) -> Option<Asked<'a>>
 ///
 /// In time linear in the words; it allocates what clap keeps of them, and the values are borrowed from them.
 pub fn parse_words<'a>(alloc: Global, words: &'a [String]) -> Result<Asked<'a>, WordsFault>
-    ensures plain { (command : Command) (pairs : Pairs) → IsPlain (texts words.entry.now) command pairs → MatchResult result (λ a. AsksFor a command pairs) (λ f. f ≡ Memory) }
-    ensures found { IfOk result (λ a. IsSomeAnd (subcommand_of photon_app (texts words.entry.now)) (λ p. HasValues a p.0 (text_in p.1) (number_in p.1))) }
-    ensures ranges { IfOk result IsInRanges }
+    ensures plain { (command : Command) (pairs : Pairs) → IsPlain (texts words.entry.now) command pairs → MatchResult result (λ a. IsFound (wish_of a) (name_of command) (given pairs) (given pairs)) (λ f. f ≡ Memory) }
+    ensures found { IfOk result (λ a. IsSomeAnd (subcommand_of photon_app (texts words.entry.now)) (λ p. IsFound (wish_of a) p.0 (text_in p.1) (number_in p.1))) }
+    ensures ranges { IfOk result (λ a. IsInRanges (wish_of a)) }
     ensures taken { IfOk result (λ _. fault_of photon_app (texts words.entry.now) ≡ []) }
     ensures refused { IfErr result (IsRefusedBy (fault_of photon_app (texts words.entry.now))) }
 {

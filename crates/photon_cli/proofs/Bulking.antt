@@ -14,13 +14,13 @@ use Rattle.turn_defs.specs.Setting.{Setting}
 use Rattle.dispatch_node.specs.Places.{IsLogOf}
 use Rattle.bulk_logs.specs.Bulk as logs
 use Rattle.site_run.specs.declared.ran.RunLog.{RunLog}
+use Rattle.command_words.specs.Words.{BulkValues, Values}
 use Rattle.photon_cli.specs.declared.engine.fault.Fault.{Fault}
 use Rattle.photon_cli.specs.declared.engine.fault.Fault.TheVariants as fault
 use Rattle.photon_cli.specs.Bulk.{IsBulkRun, IsBulkSetting, bulk_plan}
 use Rattle.photon_cli.specs.Drill.{Drills, IsDrilled}
 use Rattle.photon_cli.specs.Join.{AreValid, IsAsked, Refuses}
 use Rattle.photon_cli.specs.LogFaults.{IsFailedRead, IsOfLogs}
-use Rattle.photon_cli.specs.Words.{BulkValues, Values}
 use Rattle.photon_cli.proofs.Ends.{none_refused}
 use Rattle.photon_cli.proofs.Refusals.{within}
 use Rattle.photon_cli.proofs.Runs.{clicks_back}

@@ -20,9 +20,10 @@ use Rattle.log_records.proofs.Places.{lines_follow}
 use Rattle.turn_defs.specs.Setting.{Setting, Checked}
 use Rattle.dispatch_node.specs.Places.{IsLogOf}
 use Rattle.site_run.specs.Asked.{IsSettingOf}
+use Rattle.command_words.specs.Words.{Values}
 use Rattle.photon_cli.specs.CheckedLogs.{EndsAt}
 use Rattle.photon_cli.specs.Join.{AreLogs, HasIds, IsAsked, IsHeard, IsHistory, config_of}
-use Rattle.photon_cli.specs.Words.{IsTextOf, Values}
+use Rattle.photon_cli.specs.Words.{IsTextOf}
 use Rattle.photon_cli.proofs.Refusals.{within}
 
 pub taken : {A : Type 0} (o : Option A) (P : A → Type 0) → IsSomeAnd o P → (x : A) × P x

@@ -5,7 +5,7 @@ use Rattle.std.specs.Option.{IsSomeAnd}
 use Rattle.time_shards.specs.Text.{IsFirstBad}
 use Rattle.time_shards.proofs.Texts.{none_bad}
 use Rattle.outside.specs.declared.store.DiskName.{DiskName}
-use Rattle.command_words.specs.Words.{Text}
+use Rattle.command_words.specs.Words.{BulkValues, Text, Values}
 use Rattle.log_records.specs.declared.why.Why.{Why}
 use Rattle.log_records.specs.Check.{RefusesClick}
 use Rattle.lossy_link.specs.declared.bad_plan.Field.{Field}
@@ -22,7 +22,7 @@ use Rattle.photon_cli.specs.Join.{Refuses}
 use Rattle.photon_cli.specs.Faults.{status_of}
 use Rattle.photon_cli.specs.Drill.{IsBadIn}
 use Rattle.photon_cli.specs.LogFaults.{IsBeforeLogs, IsEarly, IsFailedRead, IsFair, IsLate, IsLogFault, IsOfBulk, IsOfJoin, IsOfLogs, IsOfPlanOrLogs, IsOfRun, IsOfVerify, IsPast, IsPlanFault, failed_read}
-use Rattle.photon_cli.specs.Words.{BulkValues, HasTable, Values}
+use Rattle.photon_cli.specs.Words.{HasTable}
 use Rattle.photon_cli.specs.Told.{IsNamed, IsNamedInBulk, IsNamedInDrill, IsNamedInVerify}
 
 -- ---- the fault of a status

@@ -1,7 +1,5 @@
 -- What a bulk run does: both logs are made from a seed, both sites run over them as in a drill, and the totals line is told.
-use Rattle.std.specs.Prelude.{ℕ, ◌≡◌, ◌<◌, ◌≤◌, List, [], ◌∷◌, ◌++◌, Option, None, IfSome, IsSomeAnd}
-use Rattle.turn_defs.specs.declared.limits.TheConstants.{MOST_JOINERS}
-use Rattle.registry_state.specs.declared.TheConstants.{MOST_INSERTS}
+use Rattle.std.specs.Prelude.{ℕ, ◌≡◌, List, [], ◌∷◌, ◌++◌, Option, None, IfSome, IsSomeAnd}
 use Rattle.lossy_link.specs.Fates.{PlanView}
 use Rattle.lossy_link.specs.declared.plan.Fate.{Fate}
 use Rattle.lossy_link.specs.declared.plan.Fate.TheVariants.{Drop, Twice}
@@ -12,10 +10,10 @@ use Rattle.bulk_logs.specs.Bulk as logs
 use Rattle.log_records.specs.declared.report.ReportLine.{ReportLine}
 use Rattle.report_text.specs.Stream.{TookPrefix}
 use Rattle.site_run.specs.declared.ran.RunLog.{RunLog}
-use Rattle.photon_cli.specs.declared.wanted.BulkWanted.{BulkWanted}
+use Rattle.command_words.specs.Words.{BulkValues}
 use Rattle.photon_cli.specs.Drill.{IsDrilled}
 use Rattle.photon_cli.specs.Join.{IsHeard}
-use Rattle.photon_cli.specs.Words.{BulkValues, HasTable, IsTextOf}
+use Rattle.photon_cli.specs.Words.{HasTable, IsTextOf}
 
 -- a rule for a thousand packets of each link: the first of this ordinal, then one in so many
 abbrev pub rule : (first every : ℕ) → Fate → Rule
@@ -25,16 +23,6 @@ rule first every fate = record { from = None; to = None; first = first; count = 
 -- comes again, four packets later.
 abbrev pub bulk_plan : PlanView
 bulk_plan = record { rules = rule 3 7 Drop ∷ rule 5 11 (Twice 4) ∷ []; stops = []; dead = None }
-
-abbrev pub bulk_values : BulkWanted → BulkValues
-bulk_values w = record { seed = w.seed; count = w.clicks; joiners = w.joiners; shards = w.shards.now; batch = w.batch }
-
--- the values lie in the ranges of their options
-pub record AreBulkRanges (v : BulkValues) : Type 0 where
-  pub count : v.count ≤ 100000
-  pub some : 0 < v.joiners
-  pub few : v.joiners ≤ MOST_JOINERS
-  pub batch : v.batch ≤ MOST_INSERTS
 
 -- the setting has the records of the two logs that are made of the numbers
 pub record IsBulkSetting (v : BulkValues) (g : Setting) : Type 0 where

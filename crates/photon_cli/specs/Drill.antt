@@ -15,8 +15,8 @@ use Rattle.photon_cli.specs.Planned.{is_joiners}
 use Rattle.site_run.specs.Joined.{RanAfresh}
 use Rattle.site_run.specs.declared.ran.RunLog.{RunLog}
 use Rattle.photon_cli.specs.Join.{AreValid, IsAsked, IsHeard}
-use Rattle.command_words.specs.Words.{Text}
-use Rattle.photon_cli.specs.Words.{HasTable, Values}
+use Rattle.command_words.specs.Words.{Text, Values}
+use Rattle.photon_cli.specs.Words.{HasTable}
 
 -- These are the lines of the report of a run from nothing under this plan, and that is its history. Where no stop of the plan is of
 -- a joiner's disk all lines are those of the two logs.

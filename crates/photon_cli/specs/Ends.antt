@@ -6,7 +6,7 @@ use Rattle.time_shards.specs.declared.ShardRow.{ShardRow}
 use Rattle.time_shards.specs.Text.{IsFirstBad}
 use Rattle.lossy_link.specs.Fates.{PlanView}
 use Rattle.lossy_link.specs.declared.bad_plan.Field.{Field}
-use Rattle.command_words.specs.Words.{Text}
+use Rattle.command_words.specs.Words.{BulkValues, Text, Values, Wish, a_bulk_run, a_drill, a_join, a_verification}
 use Rattle.log_records.specs.declared.check.BadLine.{BadLine}
 use Rattle.site_run.specs.declared.faults.fault.LogName.{LogName}
 use Rattle.turn_defs.specs.Setting.{Setting}
@@ -23,7 +23,7 @@ use Rattle.photon_cli.specs.Drill.{BeginsDrill, HasDrilled, IsBadIn, IsPlanIn, P
 use Rattle.photon_cli.specs.Join.{BeginsJoin, HasRun, IsAsked, IsHistory, IsInvalid, Prints, PrintsAfresh, PrintsPrefix, Refuses, no_plan}
 use Rattle.photon_cli.specs.Told.{IsNamedInBulk, IsNamedInDrill, IsToldOf, IsToldOfVerify, TellsBy}
 use Rattle.photon_cli.specs.Verify.{IsReadable, IsUnreadable, PrintsKept, PrintsKeptPrefix}
-use Rattle.photon_cli.specs.Words.{BulkValues, HasTable, IsTextOf, Values, Wish, a_bulk_run, a_drill, a_join, a_verification}
+use Rattle.photon_cli.specs.Words.{HasTable, IsTextOf}
 
 -- Either it ended before all that comes before a run was found fit, and this is untouched; or it was, and the status is neither 2 nor 3.
 abbrev pub Begins : (untouched fit : Type 0) → ℕ → Type 0

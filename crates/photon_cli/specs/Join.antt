@@ -24,7 +24,8 @@ use Rattle.site_run.specs.Asked.{IsSettingOf}
 use Rattle.site_run.specs.Joined.{Joins, JoinsAfresh}
 use Rattle.site_run.specs.Left.{RunLeft}
 use Rattle.site_run.specs.declared.ran.RunLog.{RunLog}
-use Rattle.photon_cli.specs.Words.{HasTable, IsTextOf, Values}
+use Rattle.command_words.specs.Words.{Values}
+use Rattle.photon_cli.specs.Words.{HasTable, IsTextOf}
 
 -- Here told says what bytes are under a name.
 module _ (told : List ℕ → Option (List ℕ)) (queries clicks : List ℕ) where

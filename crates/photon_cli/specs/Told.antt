@@ -3,7 +3,7 @@ use Rattle.std.specs.Prelude.{ℕ, ◌≡◌, ◌⊎◌, List, ◌++◌, Bool, I
 use Rattle.log_records.specs.Check.{RefusesClick}
 use Rattle.site_run.specs.declared.faults.fault.LogName.TheVariants.{Queries, Clicks}
 use Rattle.time_shards.specs.Text.{IsFirstBad}
-use Rattle.command_words.specs.Words.{Text}
+use Rattle.command_words.specs.Words.{BulkValues, Text, Values}
 use Rattle.turn_defs.specs.Setting.{Setting}
 use Rattle.site_laws.specs.Stores.{Images}
 use Rattle.photon_cli.specs.declared.engine.fault.Fault.{Fault}
@@ -11,7 +11,6 @@ use Rattle.photon_cli.specs.declared.engine.fault.Fault.TheVariants as fault
 use Rattle.photon_cli.specs.Drill.{IsBadIn}
 use Rattle.photon_cli.specs.Causes.{HasCause, HasCauseInVerify, IsOverLog}
 use Rattle.photon_cli.specs.Join.{IsAsked, Refuses}
-use Rattle.photon_cli.specs.Words.{BulkValues, Values}
 use Rattle.photon_cli.specs.Faults.{status_of, message}
 
 -- nothing is told at status 0, else the text of a fault of this status that is named so

@@ -2,13 +2,13 @@
 ghost use Rattle.std.specs.Prelude.{◌≡◌, ◌≢◌, ◌⊎◌, IsTrue};
 ghost use Rattle.outside.specs.Faults.{Counts, Rose};
 ghost use Rattle.photon_cli.specs.declared.engine.fault.Fault.{Fault as Failure};
-ghost use Rattle.photon_cli.specs.Bulk.{AreBulkRanges, bulk_values};
+ghost use Rattle.command_words.specs.Words.{AreBulkRanges, bulk_values};
 ghost use Rattle.photon_cli.specs.Ends.{BulkEnds};
 ghost use Rattle.photon_cli.specs.Faults.{status_of};
 
 use crate::engine::bulk_totals;
 use crate::tell::{status, tell};
-use crate::wanted::BulkWanted;
+use command_words::BulkOptions;
 use outside::{Gate, Sink};
 use site_run::Ran;
 use std::alloc::Global;
@@ -19,7 +19,7 @@ use std::thread::Threads;
 pub fn bulk_command<R, K, G>(
     rt: &R,
     alloc: Global,
-    wanted: &BulkWanted<'_>,
+    wanted: &BulkOptions<'_>,
     out: &mut K,
     err: &mut K,
     gate: &G,

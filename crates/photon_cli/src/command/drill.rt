@@ -4,11 +4,11 @@ ghost use Rattle.outside.specs.Faults.{Counts, Rose};
 ghost use Rattle.photon_cli.specs.declared.engine.fault.Fault.{Fault as Failure};
 ghost use Rattle.photon_cli.specs.Ends.{DrillEnds};
 ghost use Rattle.photon_cli.specs.Faults.{status_of};
-ghost use Rattle.photon_cli.specs.Words.{AreInRanges, values_in};
+ghost use Rattle.command_words.specs.Words.{AreInRanges, values_in};
 
 use crate::engine::drill_logs;
 use crate::tell::{status, tell};
-use crate::wanted::Wanted;
+use command_words::RunOptions;
 use outside::{Gate, Sink, Source};
 use site_run::Ran;
 use std::alloc::Global;
@@ -19,7 +19,7 @@ use std::thread::Threads;
 pub fn drill_command<R, F, K, G>(
     rt: &R,
     alloc: Global,
-    wanted: &Wanted<'_>,
+    wanted: &RunOptions<'_>,
     plan: &str,
     files: &mut F,
     out: &mut K,

@@ -5,22 +5,23 @@ ghost use Rattle.site_store.specs.Causes.{LeavesSomething};
 ghost use Rattle.photon_cli.specs.declared.engine.fault.Fault.{Fault as Failure};
 ghost use Rattle.photon_cli.specs.Ends.{JoinEnds};
 ghost use Rattle.photon_cli.specs.Faults.{status_of};
-ghost use Rattle.photon_cli.specs.Words.{AreInRanges, values_in};
+ghost use Rattle.command_words.specs.Words.{AreInRanges, values_in};
 
 use crate::engine::join_logs;
 use crate::tell::{status, tell};
-use crate::wanted::Wanted;
+use command_words::RunOptions;
 use outside::{Gate, Sink, Source, Store};
 use site_run::Ran;
 use std::alloc::Global;
 use std::sync::Wait;
 use std::thread::Threads;
 
-/// Joins the two logs of these names over the store, and answers the exit status.
+/// Joins the two logs of these names over the store of that name, and answers the exit status.
 pub fn join_command<R, F, S, K, G>(
     rt: &R,
     alloc: Global,
-    wanted: &Wanted<'_>,
+    wanted: &RunOptions<'_>,
+    state: &str,
     files: &mut F,
     store: &mut S,
     out: &mut K,
@@ -45,7 +46,7 @@ where
     ensures write { Counts (K.faults out.old) (K.faults out.new) (result ≡ 5) }
     ensures quiet { IsTrue K.tells → result ≢ 0 → result ≢ 5 → K.held out.new ≡ K.held out.old }
 {
-    match join_logs(rt, alloc, wanted, files, store, out, gate, ran) {
+    match join_logs(rt, alloc, wanted, state, files, store, out, gate, ran) {
         Ok(()) => 0,
         Err(fault) => {
             tell(err, &fault);

@@ -4,16 +4,17 @@ ghost use Rattle.outside.specs.Faults.{Counts};
 ghost use Rattle.mem_outside.specs.Files.{bytes_under};
 ghost use Rattle.bulk_logs.specs.Bulk.{query_log, click_log};
 ghost use Rattle.photon_cli.specs.declared.engine.fault.Fault.TheVariants as fault;
-ghost use Rattle.photon_cli.specs.Bulk.{AreBulkRanges, BeginsBulk, IsBulkRun, PrintsTotals, PrintsTotalsPrefix, bulk_plan, bulk_values, rule};
+ghost use Rattle.command_words.specs.Words.{AreBulkRanges, bulk_values};
+ghost use Rattle.photon_cli.specs.Bulk.{BeginsBulk, IsBulkRun, PrintsTotals, PrintsTotalsPrefix, bulk_plan, rule};
 ghost use Rattle.photon_cli.specs.LogFaults.{IsEarly, IsFailedRead, IsFair, IsPast};
 
 use super::drill::drilled_lines;
 use super::fault::Fault;
 use super::table::table_in;
 use crate::tell::status;
-use crate::wanted::{BulkWanted, Wanted};
 use bulk_logs::laws::{report_kinds, sizes, valid_logs};
 use bulk_logs::make_logs;
+use command_words::{BulkOptions, RunOptions};
 use lossy_link::{Fate, Plan, Rule};
 use mem_outside::{MemFile, MemSource};
 use outside::{Gate, Sink};
@@ -88,7 +89,7 @@ fn without_reads(told: Fault) -> Fault
 pub fn bulk_totals<R, K, G>(
     rt: &R,
     alloc: Global,
-    wanted: &BulkWanted<'_>,
+    wanted: &BulkOptions<'_>,
     out: &mut K,
     gate: &G,
     ran: &mut Ran,
@@ -121,12 +122,9 @@ where
         Ok(plan) => plan,
         Err(_) => return Err(Fault::Memory),
     };
-    let asked = Wanted {
-        names: Names {
-            queries: "queries",
-            clicks: "clicks",
-            state: "",
-        },
+    let asked = RunOptions {
+        queries: "queries",
+        clicks: "clicks",
         horizon: HORIZON,
         joiners: wanted.joiners,
         shards: wanted.shards,

@@ -19,7 +19,8 @@ ghost use Rattle.photon_cli.specs.declared.engine.fault.Fault.TheVariants as fau
 ghost use Rattle.photon_cli.specs.Drill.{BeginsDrill, Drills, HasDrilled, IsBadIn, IsDrilled, IsPlanIn, PrintsDrill, PrintsDrillPrefix};
 ghost use Rattle.photon_cli.specs.Join.{AreValid, HaveIds, IsHeard, Refuses};
 ghost use Rattle.photon_cli.specs.LogFaults.{IsBeforeLogs, IsEarly, IsFailedRead, IsFair, IsOfLogs, IsOfPlanOrLogs, IsOfRun, IsPast, failed_read};
-ghost use Rattle.photon_cli.specs.Words.{AreInRanges, IsTextOf, values_in};
+ghost use Rattle.command_words.specs.Words.{AreInRanges, values_in};
+ghost use Rattle.photon_cli.specs.Words.{IsTextOf};
 
 use super::checked::checked_logs;
 use super::fault::Fault;
@@ -28,7 +29,7 @@ use super::run::run_lines;
 use super::table::table_in;
 use crate::drill_store::{stops_a_joiner, store_for};
 use crate::log_check::CheckedLog;
-use crate::wanted::Wanted;
+use command_words::RunOptions;
 use log_records::ReportLine;
 use lossy_link::Plan;
 use mem_outside::MemStore;
@@ -111,7 +112,7 @@ where
 pub fn drilled_lines<R, F, G>(
     rt: &R,
     alloc: Global,
-    wanted: &Wanted<'_>,
+    wanted: &RunOptions<'_>,
     table: Table,
     plan: Plan,
     files: &mut F,
@@ -133,13 +134,17 @@ where
     ensures fair { IsTrue F.Log.tells → IfErr result (IsFair ⊤) }
     ensures count { Counts (F.faults files.old) (F.faults files.new) ((log : LogKind) × (result ≡ Err (failed_read log))) }
 {
-    let names = wanted.names;
-    let clicks = match checked_logs(alloc, files, names.queries, names.clicks) {
+    let clicks = match checked_logs(alloc, files, wanted.queries, wanted.clicks) {
         Ok(clicks) => clicks,
         Err(fault) => return Err(fault),
     };
     let Ok(mut store) = store_for(alloc, &plan, wanted.joiners) else {
         return Err(Fault::Memory);
+    };
+    let names = Names {
+        queries: wanted.queries,
+        clicks: wanted.clicks,
+        state: "",
     };
     let config = Config {
         horizon: wanted.horizon,
@@ -156,7 +161,7 @@ where
 pub fn drill_logs<R, F, K, G>(
     rt: &R,
     alloc: Global,
-    wanted: &Wanted<'_>,
+    wanted: &RunOptions<'_>,
     plan: &str,
     files: &mut F,
     out: &mut K,

@@ -15,28 +15,29 @@ ghost use Rattle.site_run.specs.Refused.{HasPassed};
 ghost use Rattle.photon_cli.specs.Causes.{HasCause};
 ghost use Rattle.photon_cli.specs.LogFaults.{IsEarly, IsFailedRead, IsFair, IsOfLogs, IsPast};
 ghost use Rattle.photon_cli.specs.Join.{BeginsJoin, HasRun, IsAsked, IsHistory, Prints, PrintsAfresh, PrintsPrefix, Refuses, no_plan};
-ghost use Rattle.photon_cli.specs.Words.{AreInRanges, values_in};
+ghost use Rattle.command_words.specs.Words.{AreInRanges, values_in};
 
 use super::checked::checked_logs;
 use super::fault::Fault;
 use super::run::run_lines;
 use super::table::table_in;
-use crate::wanted::Wanted;
+use command_words::RunOptions;
 use lossy_link::Plan;
 use outside::{Gate, Sink, Source, Store};
 use report_text::write_report;
-use site_run::{Config, Ran};
+use site_run::{Config, Names, Ran};
 use std::alloc::Global;
 use std::sync::Wait;
 use std::thread::Threads;
 
-/// Joins the clicks under one name with the queries under another over a store, and writes the report.
+/// Joins the clicks under one name with the queries under another over the store of that name, and writes the report.
 ///
 /// It reads both logs whole first, in pieces of 64 KiB, and keeps the distinct ids of one log at a time, and those of the clicks to the end.
 pub fn join_logs<R, F, S, K, G>(
     rt: &R,
     alloc: Global,
-    wanted: &Wanted<'_>,
+    wanted: &RunOptions<'_>,
+    state: &str,
     files: &mut F,
     store: &mut S,
     out: &mut K,
@@ -89,10 +90,14 @@ where
         Ok(table) => table,
         Err(bad) => return Err(bad),
     };
-    let names = wanted.names;
-    let clicks = match checked_logs(alloc, files, names.queries, names.clicks) {
+    let clicks = match checked_logs(alloc, files, wanted.queries, wanted.clicks) {
         Ok(clicks) => clicks,
         Err(refused) => return Err(refused),
+    };
+    let names = Names {
+        queries: wanted.queries,
+        clicks: wanted.clicks,
+        state,
     };
     let config = Config {
         horizon: wanted.horizon,

@@ -5,7 +5,7 @@ use Rattle.clap.specs.Simple.{App, is_simple, subcommand_of, subcommand_rows_of}
 use Rattle.clap.specs.Takes.{takes}
 use Rattle.clap.specs.Faults.{fault_of, is_simple_and_free}
 use Rattle.clap.specs.Kinds.{HasKind}
-use Rattle.command_words.specs.Words.{Text, HasValues, texts}
+use Rattle.command_words.specs.Words.{IsFound, Text, texts, wish_of}
 use Rattle.command_words.specs.Clap.{photon_app, text_in, number_in}
 use Rattle.command_words.proofs.Levels.{plain_gives}
 use Rattle.command_words.proofs.Plain.{asks_for, by_kinds, for_memory}
@@ -27,14 +27,14 @@ pub returns-in-Some-clause-plain : goal.returns-in-Some-clause-plain
 returns-in-Some-clause-plain c = λ command pairs plain.
     let sub_is : subcommand_rows_of c.in-Ok.matches ≡ subcommand_of photon_app (texts c.args.words.now)
     = (c.in-Ok.ensures.ok.2 (ap is_simple c.in_ok-command.ensures)).1 ∙ ap (λ (a : App). subcommand_of a (texts c.args.words.now)) c.in_ok-command.ensures in
-    asks_for c.in-Some.asked command pairs
-    (subst (λ (o : Option (Text × List Row)). IsSomeAnd o (λ p. HasValues c.in-Some.asked p.0 (text_in p.1) (number_in p.1))) (sub_is ∙ (plain_gives _ command pairs plain).found) c.in-Some.ensures.value)
+    asks_for (wish_of c.in-Some.asked) command pairs
+    (subst (λ (o : Option (Text × List Row)). IsSomeAnd o (λ p. IsFound (wish_of c.in-Some.asked) p.0 (text_in p.1) (number_in p.1))) (sub_is ∙ (plain_gives _ command pairs plain).found) c.in-Some.ensures.value)
 
 pub returns-in-Some-clause-found : goal.returns-in-Some-clause-found
 returns-in-Some-clause-found c =
     let sub_is : subcommand_rows_of c.in-Ok.matches ≡ subcommand_of photon_app (texts c.args.words.now)
     = (c.in-Ok.ensures.ok.2 (ap is_simple c.in_ok-command.ensures)).1 ∙ ap (λ (a : App). subcommand_of a (texts c.args.words.now)) c.in_ok-command.ensures in
-    subst (λ (o : Option (Text × List Row)). IsSomeAnd o (λ p. HasValues c.in-Some.asked p.0 (text_in p.1) (number_in p.1))) sub_is c.in-Some.ensures.value
+    subst (λ (o : Option (Text × List Row)). IsSomeAnd o (λ p. IsFound (wish_of c.in-Some.asked) p.0 (text_in p.1) (number_in p.1))) sub_is c.in-Some.ensures.value
 
 pub returns-in-Some-clause-ranges : goal.returns-in-Some-clause-ranges
 returns-in-Some-clause-ranges c =
@@ -43,8 +43,8 @@ returns-in-Some-clause-ranges c =
     let none : fault_of photon_app (texts c.args.words.now) ≡ []
     = ap (λ (a : App). fault_of a (texts c.args.words.now)) (sym c.in_ok-command.ensures) ∙ c.in-Ok.ensures.kinds (ap is_simple_and_free c.in_ok-command.ensures) in
     let got = taken (texts c.args.words.now) none in
-    in_range c.in-Some.asked got.command _ _
-    (subst (λ (o : Option (Text × List Row)). IsSomeAnd o (λ p. HasValues c.in-Some.asked p.0 (text_in p.1) (number_in p.1))) (sub_is ∙ got.found) c.in-Some.ensures.value)
+    in_range (wish_of c.in-Some.asked) got.command _ _
+    (subst (λ (o : Option (Text × List Row)). IsSomeAnd o (λ p. IsFound (wish_of c.in-Some.asked) p.0 (text_in p.1) (number_in p.1))) (sub_is ∙ got.found) c.in-Some.ensures.value)
     (has_values got.command got.rest got.holds)
 
 pub returns-in-Some-clause-taken : goal.returns-in-Some-clause-taken

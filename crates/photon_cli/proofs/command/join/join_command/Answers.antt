@@ -4,11 +4,11 @@ use Rattle.log_records.specs.declared.why.Why.{Why}
 use Rattle.site_run.specs.declared.faults.fault.LogName.{LogName}
 use Rattle.site_run.proofs.Refusing.{kept_are_journals}
 use Rattle.turn_defs.specs.Setting.{Setting}
+use Rattle.command_words.specs.Words.{values_in}
 use Rattle.photon_cli.specs.declared.engine.fault.Fault.TheVariants as fault
 use Rattle.photon_cli.specs.Faults.{status_of}
 use Rattle.photon_cli.specs.Join.{IsAsked}
 use Rattle.photon_cli.specs.LogFaults.{IsOfLogs}
-use Rattle.photon_cli.specs.Words.{values_in}
 use Rattle.photon_cli.proofs.Causing.{damage_told, ends_well, limit_told, mismatch_told}
 use Rattle.photon_cli.proofs.Ends.{asked_valid, none_refused, not_invalid}
 use Rattle.photon_cli.proofs.Statuses.{IsKnown, bad_row, early_left, failed_of, fair_status, join_own, join_row, join_two, line_of, named, no_one, no_zero, past_status, place_of, write_of}

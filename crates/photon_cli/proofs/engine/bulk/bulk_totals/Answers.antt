@@ -5,7 +5,7 @@ use Rattle.mem_outside.specs.Files.{bytes_under}
 use Rattle.log_records.specs.declared.report.ReportLine.{ReportLine}
 use Rattle.log_records.specs.Report.{totals}
 use Rattle.report_text.specs.Stream.{TookPrefix}
-use Rattle.photon_cli.specs.Bulk.{bulk_values}
+use Rattle.command_words.specs.Words.{bulk_values}
 use Rattle.photon_cli.specs.Join.{IsHeard}
 use Rattle.photon_cli.specs.LogFaults.{IsFair, IsPast}
 use Rattle.photon_cli.proofs.Bulking.{bulk_early, bulk_run, bulk_totals, made_valid, no_read, without}

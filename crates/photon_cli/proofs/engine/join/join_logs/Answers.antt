@@ -6,8 +6,8 @@ use Rattle.log_records.specs.declared.report.ReportLine.{ReportLine}
 use Rattle.log_records.specs.Report.{text_of}
 use Rattle.report_text.specs.Stream.{TookPrefix}
 use Rattle.site_run.proofs.Counting.{rose_before}
+use Rattle.command_words.specs.Words.{values_in}
 use Rattle.photon_cli.specs.Join.{IsHeard, no_plan}
-use Rattle.photon_cli.specs.Words.{values_in}
 use Rattle.photon_cli.proofs.Causing.{later_caused, log_caused}
 use Rattle.photon_cli.proofs.Runs.{history, if_history, is_asked, placed_ids, run_setting, setting_of}
 use Rattle.photon_cli.proofs.Statuses.{late_run, run_past}

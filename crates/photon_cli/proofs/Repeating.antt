@@ -1,0 +1,41 @@
+-- What call after call keeps of a store.
+use Rattle.std.proofs.Common.{List, [], ◌∷◌, inl, inr, subst}
+use Rattle.outside.specs.declared.store.DiskName.{DiskName}
+use Rattle.gate_journal.specs.Images.{GoesOn}
+use Rattle.turn_defs.specs.Setting.{Setting, Checked}
+use Rattle.photon_model.specs.EveryRun.{AfterEveryRun}
+use Rattle.photon_model.specs.Headline.{IsOutputOnce}
+use Rattle.photon_model.specs.Stores.{ReadIsChecked}
+use Rattle.site_laws.specs.StoreLaws.{HoldSameRecords, LongerStaysSound, SameIsSound}
+use Rattle.site_laws.specs.Stores.{Images, IsSoundStore}
+use Rattle.site_run.proofs.Outing.{goes_on_through, goes_on_within}
+use Rattle.photon_cli.specs.Again.{AreCalls, AreOutputOnce, Call, IsLater, setting_after, store_after}
+
+module _ {S : Type 0} (image : S → Images) where
+  -- the store stays sound from call to call
+  pub sound_after : ((s : S) → LongerStaysSound (image s)) → (g : Setting) (s : S) (calls : List (Call S)) → IsSoundStore g (image s) → AreCalls image g s calls → IsSoundStore (setting_after image g calls) (image (store_after image s calls))
+  sound_after longer g s [] sound are = sound
+  sound_after longer g s (c ∷ cs) sound are = sound_after longer c.setting c.left cs (are.1.sound (later are.0)) are.2
+    where
+      later : IsLater g c.setting → IsSoundStore c.setting (image s)
+      later (inl same) = subst (λ h. IsSoundStore h (image s)) same sound
+      later (inr l) = longer s g c.setting l.0 l.1 l.2 l.3 l.4 sound
+
+  -- and its logs checked
+  pub checked_after : ReadIsChecked → (g : Setting) (s : S) (calls : List (Call S)) → Checked g → AreCalls image g s calls → Checked (setting_after image g calls)
+  checked_after checks g s [] checked are = checked
+  checked_after checks g s (c ∷ cs) checked are = checked_after checks c.setting c.left cs (later are.0) are.2
+    where
+      later : IsLater g c.setting → Checked c.setting
+      later (inl same) = subst Checked same checked
+      later (inr l) = checks c.setting _ _ l.4.after
+
+  pub grown_after : (g : Setting) (s : S) (calls : List (Call S)) → AreCalls image g s calls → (disk : DiskName) → GoesOn (image s disk) (image (store_after image s calls) disk)
+  grown_after g s [] are disk = goes_on_within _ _ (λ c here. here)
+  grown_after g s (c ∷ cs) are disk = goes_on_through _ _ _ (are.1.grown disk) (grown_after c.setting c.left cs are.2 disk)
+
+-- a sound store outputs each click once
+pub output_once : (g : Setting) (image : Images) → HoldSameRecords → SameIsSound → AfterEveryRun IsOutputOnce → Checked g → IsSoundStore g image → AreOutputOnce g image
+output_once g image one same once checked sound b choice d holds =
+    let kept = sound b choice in
+    once g d [] checked (same g kept.0.disks d (one g b kept.0.disks d kept.1.records holds) kept.2.records) tt

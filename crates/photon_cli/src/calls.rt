@@ -1,0 +1,36 @@
+// Call after call over one store.
+ghost use Rattle.std.specs.Prelude.{◌≡◌, ℕ, List, IsTrue};
+ghost use Rattle.outside.specs.declared.store.DiskName.{DiskName};
+ghost use Rattle.outside.specs.Faults.{Rose};
+ghost use Rattle.command_words.specs.Words.{Text, Values, a_join, a_verification};
+ghost use Rattle.gate_journal.specs.Images.{GoesOn};
+ghost use Rattle.turn_defs.specs.Setting.{Checked, Setting};
+ghost use Rattle.site_laws.specs.Stores.{IsSoundStore};
+ghost use Rattle.site_run.specs.declared.ran.Ran.{Ran};
+ghost use Rattle.site_store.specs.Causes.{LeavesSomething};
+ghost use Rattle.photon_cli.specs.Again.{AreCalls, AreOutputOnce, Call, Keeps, setting_after, store_after};
+ghost use Rattle.photon_cli.specs.Ends.{Ends};
+ghost use Rattle.photon_cli.specs.Join.{IsAsked};
+
+use outside::{Sink, Source, Store};
+
+/// Where `photon` is called again and again over one store, whatever stopped the calls, and each join is of the logs of the one
+/// before or of longer ones, no click is output twice over all calls, and no record is lost.
+pub fn again<F: Source, S: Store, K: Sink>()
+    ensures join { (files later : F) (before after : S) (out out_later err err_later : K) (ran ran_later : Ran) (status : ℕ) (v : Values) (state : Text) (g : Setting) → IsTrue F.Log.tells → IsTrue S.Disk.tells → IsAsked (F.bytes files) v g
+        → Ends F.Log.tells K.tells S.Disk.tells (F.bytes files) (Rose (F.faults files) (F.faults later)) (Rose (K.faults out) (K.faults out_later)) (Rose (K.faults err) (K.faults err_later)) (Rose (S.faults before) (S.faults after))
+        (S.image before) (S.image after) (λ h. (s : S) → LeavesSomething h (S.image s)) (after ≡ before) (ran_later ≡ ran) ran_later.log (K.held out) (K.held out_later) (K.held err) (K.held err_later) status (a_join v state)
+        → Keeps g (S.image before) (S.image after) }
+    ensures verification { (files later : F) (before after : S) (out out_later err err_later : K) (ran ran_later : Ran) (status : ℕ) (clicks state : Text) (g : Setting) → IsTrue S.Disk.tells
+        → Ends F.Log.tells K.tells S.Disk.tells (F.bytes files) (Rose (F.faults files) (F.faults later)) (Rose (K.faults out) (K.faults out_later)) (Rose (K.faults err) (K.faults err_later)) (Rose (S.faults before) (S.faults after))
+        (S.image before) (S.image after) (λ h. (s : S) → LeavesSomething h (S.image s)) (after ≡ before) (ran_later ≡ ran) ran_later.log (K.held out) (K.held out_later) (K.held err) (K.held err_later) status (a_verification clicks state)
+        → Keeps g (S.image before) (S.image after) }
+    ensures once { (g : Setting) (s : S) (calls : List (Call S)) → Checked g → IsSoundStore g (S.image s) → AreCalls S.image g s calls → AreOutputOnce (setting_after S.image g calls) (S.image (store_after S.image s calls)) }
+    ensures grown { (g : Setting) (s : S) (calls : List (Call S)) → AreCalls S.image g s calls → (disk : DiskName) → GoesOn (S.image s disk) (S.image (store_after S.image s calls) disk) }
+{
+    site_laws::stores::once();
+    site_laws::stores::same();
+    site_laws::stores::longer::<S>();
+    photon_model::stores();
+    photon_model::headline();
+}
