@@ -1,35 +1,22 @@
--- Replicas and proposers, every packet that was ever sent, and what may happen to them.
-use Rattle.std.specs.Prelude.{ℕ, Bool, if◌then◌else◌, ◌&&◌, ◌||◌, ◌==◌, nat_lt, List, [], ◌∷◌, ◌++◌, length, get_or, set, slice_get, Option, Some, None}
+-- Replicas and proposers, and what may happen to them.
+use Rattle.std.specs.Prelude.{ℕ, Bool, if◌then◌else◌, ◌||◌, List, [], ◌∷◌, length, slice_get, Option, Some, None}
+use Rattle.list_words.specs.Lists.{Each}
 use Rattle.ballot_core.specs.declared.Ballot.{Ballot}
 use Rattle.ballot_core.specs.Ballots.{is_same}
 use Rattle.paxos_defs.specs.declared.Place.{Place}
-use Rattle.paxos_defs.specs.Notes.{is_place, Note, note_of, is_noted, Vote, votes, Cell, cell_after, cell_of}
+use Rattle.paxos_defs.specs.Notes.{is_place, Note, is_noted}
 use Rattle.paxos_defs.specs.Agreement.{IsChosen, JournalsAgree}
-use Rattle.paxos_defs.specs.Turns.{Prepared, Taken, on_prepare, on_accept}
-use Rattle.paxos_defs.specs.Turns.Prepared.{Grant, Refuse}
-use Rattle.paxos_defs.specs.Turns.Taken.{Take, Decline}
 use Rattle.paxos_defs.specs.Attempts.{Phase, Attempt, nobody, on_promise, on_accepted}
 use Rattle.paxos_defs.specs.Attempts.Phase.{Promising, Ended}
-
--- Promise, Nack and Accepted name the replica that sent them. A Promise has what it accepted before, a Nack the ballot that it promised.
-pub data Packet (V : Type 0) : Type 0 where
-  Prepare : Place → Ballot → Packet V
-  Promise : ℕ → Place → Ballot → Option (Ballot × V) → Packet V
-  Nack : ℕ → Place → Ballot → Ballot → Packet V
-  Accept : Place → Ballot → V → Packet V
-  Accepted : ℕ → Place → Ballot → Packet V
+use Rattle.paxos_world.specs.Replicas.{Packet, Replicas, restored, sent, arrives, restarts}
+use Rattle.paxos_world.specs.Replicas.Packet.{Prepare, Promise, Nack, Accept, Accepted}
 
 pub record World (V : Type 0) : Type 0 where
-  -- the notes of each replica, which outlive a restart
-  pub journals : List (List (Note V))
-  -- what each replica keeps in memory of a place
-  pub cells : ℕ → Place → Cell V
+  pub replicas : Replicas V
   -- the ballots that were drawn, now or before
   pub drawn : Ballot → Bool
   -- the attempt at each ballot that was drawn now
   pub attempts : Ballot → Option (Attempt V)
-  -- every packet that was ever sent
-  pub packets : List (Packet V)
   -- what proposers have learned
   pub learned : List (Place × V)
 
@@ -43,92 +30,37 @@ pub data Event (V : Type 0) : Type 0 where
   ReplicaRestarts : ℕ → Event V
   ProposerRestarts : Ballot → Event V
 
--- The journals that earlier runs left, all of whose packets are lost.
 abbrev pub opened : {V : Type 0} → List (List (Note V)) → World V
-opened journals =
-    record {
-      journals = journals;
-      cells = λ r p. cell_of (votes journals p r);
-      drawn = λ b. is_noted b journals;
-      attempts = λ b. None;
-      packets = [];
-      learned = [];
-    }
+opened journals = record { replicas = restored journals; drawn = λ b. is_noted b journals; attempts = λ b. None; learned = [] }
 
-abbrev pub sent : {V : Type 0} → World V → Packet V → World V
-sent w x = record w { packets = x ∷ w.packets }
-
--- replica r casts a vote at p: the note is written, and remembered
-abbrev pub casts : {V : Type 0} → World V → ℕ → Place → Option (Vote V) → World V
-casts w r p None = w
-casts w r p (Some x) =
-    record w {
-      journals = set w.journals r (get_or w.journals r [] ++ note_of p x ∷ []);
-      cells = λ k q. if k == r && is_place p q then cell_after (w.cells r p) x else w.cells k q;
-    }
-
-abbrev pub prepared : {V : Type 0} → ℕ → Place → Ballot → Prepared V → Packet V
-prepared r p b (Grant prior) = Promise r p b prior
-prepared r p b (Refuse promised) = Nack r p b promised
-
-abbrev pub taken : {V : Type 0} → ℕ → Place → Ballot → Taken → Packet V
-taken r p b Take = Accepted r p b
-taken r p b (Decline promised) = Nack r p b promised
-
--- the note first, then the answer
-abbrev pub prepares : {V : Type 0} → World V → ℕ → Place → Ballot → Option (Vote V) × Prepared V → World V
-prepares w r p b turn = sent (casts w r p turn.0) (prepared r p b turn.1)
-
-abbrev pub accepts : {V : Type 0} → World V → ℕ → Place → Ballot → Option (Vote V) × Taken → World V
-accepts w r p b turn = sent (casts w r p turn.0) (taken r p b turn.1)
-
--- a packet comes to replica r
-abbrev pub comes : {V : Type 0} → (V → V → Bool) → World V → ℕ → Option (Packet V) → World V
-comes same w r None = w
-comes same w r (Some (Prepare p b)) = prepares w r p b (on_prepare (w.cells r p) b)
-comes same w r (Some (Accept p b v)) = accepts w r p b (on_accept same (w.cells r p) b v)
-comes same w r (Some (Promise s p b prior)) = w
-comes same w r (Some (Nack s p b promised)) = w
-comes same w r (Some (Accepted s p b)) = w
+abbrev pub sends : {V : Type 0} → World V → Packet V → World V
+sends w x = record w { replicas = sent w.replicas x }
 
 -- the attempt at b comes to this phase
 abbrev pub goes_on : {V : Type 0} → World V → Ballot → Attempt V → Phase V → World V
 goes_on w b a phase = record w { attempts = λ c. if is_same c b then Some (record a { phase = phase }) else w.attempts c }
 
-abbrev pub accept_sent : {V : Type 0} → World V → Place → Ballot → Option V → World V
-accept_sent w p b None = w
-accept_sent w p b (Some v) = sent w (Accept p b v)
-
-abbrev pub learns : {V : Type 0} → World V → Place → Option V → World V
-learns w p None = w
-learns w p (Some v) = record w { learned = (p, v) ∷ w.learned }
-
+-- with a value, all are asked to accept it
 abbrev pub promise_counted : {V : Type 0} → World V → Ballot → Attempt V → Phase V × Option V → World V
-promise_counted w b a turn = accept_sent (goes_on w b a turn.0) a.place b turn.1
+promise_counted w b a (phase, None) = goes_on w b a phase
+promise_counted w b a (phase, Some v) = sends (goes_on w b a phase) (Accept a.place b v)
 
+-- with a value, it is learned
 abbrev pub acceptance_counted : {V : Type 0} → World V → Ballot → Attempt V → Phase V × Option V → World V
-acceptance_counted w b a turn = learns (goes_on w b a turn.0) a.place turn.1
+acceptance_counted w b a (phase, None) = goes_on w b a phase
+acceptance_counted w b a (phase, Some v) = record (goes_on w b a phase) { learned = (a.place, v) ∷ w.learned }
 
--- the answer of replica r comes to the proposer of the attempt at b, if it speaks of its place
-abbrev pub promise_returns : {V : Type 0} → World V → ℕ → Place → Ballot → Option (Ballot × V) → Option (Attempt V) → World V
-promise_returns w r p b prior None = w
-promise_returns w r p b prior (Some a) = if is_place p a.place then promise_counted w b a (on_promise a.own a.phase r prior) else w
+-- an answer to an attempt, if there is one
+abbrev pub counts : {V : Type 0} → World V → (Attempt V → World V) → Option (Attempt V) → World V
+counts w f None = w
+counts w f (Some a) = f a
 
-abbrev pub acceptance_returns : {V : Type 0} → World V → ℕ → Place → Ballot → Option (Attempt V) → World V
-acceptance_returns w r p b None = w
-acceptance_returns w r p b (Some a) = if is_place p a.place then acceptance_counted w b a (on_accepted a.phase r) else w
-
-abbrev pub ends : {V : Type 0} → World V → Ballot → Option (Attempt V) → World V
-ends w b None = w
-ends w b (Some a) = goes_on w b a Ended
-
+-- the answer of replica r comes to the proposer of the attempt at its ballot, if it speaks of its place
 abbrev pub returns : {V : Type 0} → World V → Option (Packet V) → World V
-returns w None = w
-returns w (Some (Promise r p b prior)) = promise_returns w r p b prior (w.attempts b)
-returns w (Some (Accepted r p b)) = acceptance_returns w r p b (w.attempts b)
-returns w (Some (Nack r p b promised)) = ends w b (w.attempts b)
-returns w (Some (Prepare p b)) = w
-returns w (Some (Accept p b v)) = w
+returns w (Some (Promise r p b prior)) = counts w (λ a. if is_place p a.place then promise_counted w b a (on_promise a.own a.phase r prior) else w) (w.attempts b)
+returns w (Some (Accepted r p b)) = counts w (λ a. if is_place p a.place then acceptance_counted w b a (on_accepted a.phase r) else w) (w.attempts b)
+returns w (Some (Nack r p b promised)) = counts w (λ a. goes_on w b a Ended) (w.attempts b)
+returns w _ = w
 
 -- the ballot is drawn
 abbrev pub draws : {V : Type 0} → World V → Ballot → World V
@@ -136,18 +68,15 @@ draws w b = record w { drawn = λ c. is_same c b || w.drawn c }
 
 -- a proposal at a ballot that wasn't drawn before
 abbrev pub proposes : {V : Type 0} → World V → Place → Ballot → V → World V
-proposes w p b own = sent (goes_on (draws w b) b (record { place = p; own = own; phase = Ended }) (Promising (nobody (length w.journals)) None)) (Prepare p b)
-
--- memory is made from the journal
-abbrev pub restarts : {V : Type 0} → World V → ℕ → World V
-restarts w r = record w { cells = λ k p. if k == r then cell_of (votes w.journals p r) else w.cells k p }
+proposes w p b own =
+    sends (goes_on (draws w b) b (record { place = p; own = own; phase = Ended }) (Promising (nobody (length w.replicas.journals)) None)) (Prepare p b)
 
 abbrev pub happens : {V : Type 0} → (V → V → Bool) → World V → Event V → World V
 happens same w (Proposes p b own) = if w.drawn b then w else proposes w p b own
-happens same w (Comes r which) = if nat_lt r (length w.journals) then comes same w r (slice_get w.packets which) else w
-happens same w (Returns which) = returns w (slice_get w.packets which)
-happens same w (ReplicaRestarts r) = restarts w r
-happens same w (ProposerRestarts b) = ends w b (w.attempts b)
+happens same w (Comes r which) = record w { replicas = arrives same w.replicas r which }
+happens same w (Returns which) = returns w (slice_get w.replicas.packets which)
+happens same w (ReplicaRestarts r) = record w { replicas = restarts w.replicas r }
+happens same w (ProposerRestarts b) = counts w (λ a. goes_on w b a Ended) (w.attempts b)
 
 -- a whole run
 abbrev pub run : {V : Type 0} → (V → V → Bool) → List (Event V) → World V → World V
@@ -155,12 +84,8 @@ run same [] w = w
 run same (e ∷ es) w = run same es (happens same w e)
 
 -- what proposers have learned is chosen
-abbrev pub Learned : {V : Type 0} → List (List (Note V)) → List (Place × V) → Type 0
-Learned journals [] = Unit {0}
-Learned journals (x ∷ xs) = IsChosen journals x.0 x.1 × Learned journals xs
-
 abbrev pub AllChosen : {V : Type 0} → World V → Type 0
-AllChosen w = Learned w.journals w.learned
+AllChosen {V} w = Each (λ (x : Place × V). IsChosen w.replicas.journals x.0 x.1) w.learned
 
 -- P holds of the first journals and of the world after every run from them, where the first journals agree, and
 -- whatever test on values the replicas use.

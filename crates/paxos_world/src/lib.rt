@@ -16,10 +16,10 @@ ghost use Rattle.paxos_world.specs.Example.{two_proposals, first_place};
 /// so, what was decided begins what is decided, and what a proposer has learned is chosen.
 pub fn agreement<V>()
     ensures begins { (replicas : ℕ) → JournalsAgree {V = V} (replicate replicas []) }
-    ensures agree { EveryRun {V = V} (λ first world. JournalsAgree world.journals) }
-    ensures one_chosen { EveryRun {V = V} (λ first world. OneChosen world.journals) }
-    ensures kept { EveryRun {V = V} (λ first world. (p : Place) (v : V) → IsChosen first p v → IsChosen world.journals p v) }
-    ensures decided { EveryRun {V = V} (λ first world. (same : V → V → Bool) (shard : ℕ) → IsExact same → Begins (decided same first shard) (decided same world.journals shard)) }
+    ensures agree { EveryRun {V = V} (λ first world. JournalsAgree world.replicas.journals) }
+    ensures one_chosen { EveryRun {V = V} (λ first world. OneChosen world.replicas.journals) }
+    ensures kept { EveryRun {V = V} (λ first world. (p : Place) (v : V) → IsChosen first p v → IsChosen world.replicas.journals p v) }
+    ensures decided { EveryRun {V = V} (λ first world. (same : V → V → Bool) (shard : ℕ) → IsExact same → Begins (decided same first shard) (decided same world.replicas.journals shard)) }
     ensures learned { EveryRun {V = V} (λ first world. AllChosen world) }
 {}
 

@@ -10,9 +10,9 @@ ghost use Rattle.paxos_world.specs.ServersExample.{first_slot};
 /// Whatever is proposed, lost, repeated or reordered, and whenever replicas and servers stop: journals that agree still
 /// do, what was decided begins what is decided, and what each server has learned begins the decided list.
 pub fn learning<V>()
-    ensures agree { EveryRun {V = V} (λ first world. JournalsAgree world.journals) }
-    ensures decided { EveryRun {V = V} (λ first world. (same : V → V → Bool) (shard : ℕ) → IsExact same → Begins (decided same first shard) (decided same world.journals shard)) }
-    ensures learned { EveryRun {V = V} (λ first world. (same : V → V → Bool) (shard server : ℕ) → IsExact same → Begins (learned_of (world.servers server).live shard) (decided same world.journals shard)) }
+    ensures agree { EveryRun {V = V} (λ first world. JournalsAgree world.replicas.journals) }
+    ensures decided { EveryRun {V = V} (λ first world. (same : V → V → Bool) (shard : ℕ) → IsExact same → Begins (decided same first shard) (decided same world.replicas.journals shard)) }
+    ensures learned { EveryRun {V = V} (λ first world. (same : V → V → Bool) (shard server : ℕ) → IsExact same → Begins (learned_of (world.servers server).live shard) (decided same world.replicas.journals shard)) }
 {}
 
 /// The law speaks of runs in which values are learned: here both servers learn one.

@@ -2,7 +2,7 @@ use Rattle.paxos_defs.specs.Decided.{decided}
 use Rattle.paxos_defs.proofs.Agreement.{agreed_one}
 use Rattle.paxos_defs.proofs.Decided.{decided_is, decided_begin, chosen_begin}
 use Rattle.paxos_world.specs.ServersWorld.{run, opened, learned_of}
-use Rattle.paxos_world.proofs.ServersRuns.{after_run, learned_chosen}
+use Rattle.paxos_world.proofs.Learners.{after_run, learned_chosen}
 use Rattle.paxos_world.proofs.servers.learning.Goals as goal
 
 pub returns-clause-agree : goal.returns-clause-agree
@@ -12,12 +12,12 @@ pub returns-clause-decided : goal.returns-clause-decided
 returns-clause-decided g c test journals epochs events agree kept same shard exact =
     let after = run test events (opened journals epochs) in
     let holds = after_run test journals epochs events agree kept in
-    let one = agreed_one after.journals holds.agree in
-    decided_begin journals after.journals shard (decided same journals shard) (decided same after.journals shard) one (decided_is same exact journals (agreed_one journals agree) shard) (decided_is same exact after.journals one shard) holds.kept
+    let one = agreed_one after.replicas.journals holds.agree in
+    decided_begin journals after.replicas.journals shard (decided same journals shard) (decided same after.replicas.journals shard) one (decided_is same exact journals (agreed_one journals agree) shard) (decided_is same exact after.replicas.journals one shard) holds.kept
 
 pub returns-clause-learned : goal.returns-clause-learned
 returns-clause-learned g c test journals epochs events agree kept same shard s exact =
     let after = run test events (opened journals epochs) in
     let holds = after_run test journals epochs events agree kept in
-    let one = agreed_one after.journals holds.agree in
-    chosen_begin after.journals shard (learned_of (after.servers s).live shard) (decided same after.journals shard) one (decided_is same exact after.journals one shard) (learned_chosen after.journals after.packets s (after.servers s).epoch (after.servers s).live shard (holds.servers s).live)
+    let one = agreed_one after.replicas.journals holds.agree in
+    chosen_begin after.replicas.journals shard (learned_of (after.servers s).live shard) (decided same after.replicas.journals shard) one (decided_is same exact after.replicas.journals one shard) (learned_chosen after.replicas.journals after.replicas.packets s (after.servers s).epoch (after.servers s).live shard (holds.rest s).live)

@@ -1,0 +1,187 @@
+-- Each event of replicas and proposers keeps what holds, and so does each run.
+use Rattle.std.proofs.Common.{◌≡◌, ℕ, zero, suc, List, [], ◌∷◌, length, get_or, replicate, Bool, true, false, cond, ◌||◌, Option, Some, None, inl, refl, sym, ap, ◌∙◌, subst}
+use Rattle.std.specs.Prelude.{slice_get}
+use Rattle.std.proofs.lemmas.Bool.{cond_both}
+use Rattle.list_words.specs.Lists.{Mem, Each}
+use Rattle.list_words.proofs.Lists.{each_more, none_some}
+use Rattle.ballot_core.specs.declared.Ballot.{Ballot}
+use Rattle.ballot_core.specs.Ballots.{is_same}
+use Rattle.ballot_core.proofs.Order.{same_true, same_false}
+use Rattle.paxos_defs.specs.declared.Place.{Place}
+use Rattle.paxos_defs.specs.Notes.{is_place, is_noted, Note, Vote, acceptance, votes, Has}
+use Rattle.paxos_defs.specs.Agreement.{IsChosen, JournalsAgree, NeverFall}
+use Rattle.paxos_defs.specs.Attempts.{Phase, Attempt, nobody, on_promise, on_accepted}
+use Rattle.paxos_defs.specs.Attempts.Phase.{Promising, Ended}
+use Rattle.paxos_defs.specs.Facts.{IsGrant, IsAnswered, IsUnheard, Writes}
+use Rattle.paxos_defs.proofs.Places.{place_true, not_noted}
+use Rattle.paxos_defs.proofs.Facts.{unheard_written, chosen_written, unheard_sent, asks, offers}
+use Rattle.paxos_world.specs.Replicas.{Packet}
+use Rattle.paxos_world.specs.Replicas.Packet.{Prepare, Promise, Nack, Accept, Accepted}
+use Rattle.paxos_world.specs.World.{World, Event, opened, goes_on, promise_counted, acceptance_counted, counts, returns, draws, proposes, happens, run}
+use Rattle.paxos_world.specs.World.Event.{Proposes, Comes, Returns, ReplicaRestarts, ProposerRestarts}
+use Rattle.paxos_world.proofs.Replicas.{Offered, Stands, Holds, IsQuiet, Lasts, stands_written, accept_came, stands_sent, Asked, promise_counts, Learned, acceptance_counts, holds_restored, was_sent, holds_with, holds_offered, holds_sent, arrives_holds, restarts_holds}
+
+-- A ballot that wasn't drawn was never heard of, and one that was drawn may have an attempt.
+abbrev pub BallotStands : {V : Type 0} → List (List (Note V)) → List (Packet V) → Ballot → Bool → Option (Attempt V) → Type 0
+BallotStands js ps b false o = ((p : Place) → IsUnheard js (Offered ps) p b) × (o ≡ None)
+BallotStands js ps b true None = Unit {0}
+BallotStands js ps b true (Some a) = Stands js ps a.place b a.phase
+
+-- what holds of the proposers
+pub record Proposers {V : Type 0} (drawn : Ballot → Bool) (attempts : Ballot → Option (Attempt V)) (values : List (Place × V)) (js : List (List (Note V))) (ps : List (Packet V)) : Type 0 where
+  pub ballots : (b : Ballot) → BallotStands js ps b (drawn b) (attempts b)
+  pub learned : Each (λ (x : Place × V). IsChosen js x.0 x.1) values
+
+abbrev pub WorldHolds : {V : Type 0} → List (List (Note V)) → World V → Type 0
+WorldHolds first w = Holds first (Proposers w.drawn w.attempts w.learned) w.replicas
+
+module _ {V : Type 0} (js : List (List (Note V))) (ps : List (Packet V)) (b : Ballot) where
+  ballot_written : (js' : List (List (Note V))) → ((q : Place) → Writes (Offered ps) js js' q) → (drawn : Bool) (o : Option (Attempt V)) → BallotStands js ps b drawn o → BallotStands js' ps b drawn o
+  ballot_written js' writes false o h = ((λ p. unheard_written (writes p) b (h.0 p)), h.1)
+  ballot_written js' writes true None h = tt
+  ballot_written js' writes true (Some a) h = stands_written ps writes a.place b a.phase h
+
+  ballot_sent : (x : Packet V) (drawn : Bool) (o : Option (Attempt V)) → ((p : Place) → IsQuiet x p b) → BallotStands js ps b drawn o → BallotStands js (x ∷ ps) b drawn o
+  ballot_sent x false o quiet h = ((λ p. unheard_sent js p b (accept_came js ps x p b (quiet p)) (h.0 p)), h.1)
+  ballot_sent x true None quiet h = tt
+  ballot_sent x true (Some a) quiet h = stands_sent js ps x a.place b a.phase (quiet a.place) h
+
+lasts : {V : Type 0} (w : World V) → Lasts (Proposers w.drawn w.attempts w.learned)
+lasts {V} w =
+    record {
+      written = λ js js' ps writes h. record {
+        ballots = λ b. ballot_written js ps b js' writes (w.drawn b) (w.attempts b) (h.ballots b);
+        learned = each_more _ _ w.learned (λ x. chosen_written (writes x.0) x.1) h.learned;
+      };
+      sent = λ js ps x quiet h. record { ballots = λ b. ballot_sent js ps b x (w.drawn b) (w.attempts b) (λ p. quiet p b) (h.ballots b); learned = h.learned };
+    }
+
+-- ---- at the start
+
+holds_opened : {V : Type 0} (journals : List (List (Note V))) → JournalsAgree journals → WorldHolds journals (opened journals)
+holds_opened {V} journals agree = holds_restored journals _ agree (record { ballots = λ b. ballot b (is_noted b journals) refl; learned = tt })
+  where
+    ballot : (b : Ballot) (t : Bool) → is_noted b journals ≡ t → BallotStands journals [] b t None
+    ballot b true e = tt
+    ballot b false e = ((λ p. record { not_offered = λ v s. s; not_accepted = λ r v h. not_noted b journals e p r v h }), refl)
+
+no_notes : {V : Type 0} (n r : ℕ) → get_or (replicate n []) r [] ≡ (let none : List (Note V) = [] in none)
+no_notes zero r = refl
+no_notes (suc n) zero = refl
+no_notes (suc n) (suc r) = no_notes n r
+
+-- journals without notes agree
+pub empty_agree : {V : Type 0} (n : ℕ) → JournalsAgree {V = V} (replicate n [])
+empty_agree {V} n p =
+    record {
+      rising = λ r. subst (λ (ys : List (Vote V)). NeverFall ys) (sym (no_votes r)) tt;
+      one_value = λ r b v h. absurd (nothing r (acceptance b v) h);
+      safe = λ r b v h. absurd (nothing r (acceptance b v) h);
+    }
+  where
+    no_votes : (r : ℕ) → votes {V = V} (replicate n []) p r ≡ []
+    no_votes r = ap (λ (notes : List (Note V)). votes (notes ∷ []) p 0) (no_notes n r)
+
+    nothing : (r : ℕ) (x : Vote V) → Has (votes {V = V} (replicate n []) p r) x → ⊥
+    nothing r x h = subst (λ (ys : List (Vote V)). Has ys x) (no_votes r) h
+
+-- ---- the proposers' events
+
+-- a ballot that was drawn has this attempt, and the others theirs
+attempt_set : {V : Type 0} (w : World V) (b : Ballot) (a : Attempt V) (js : List (List (Note V))) (ps : List (Packet V)) → w.drawn b ≡ true → Stands js ps a.place b a.phase → ((c : Ballot) → is_same c b ≡ false → BallotStands js ps c (w.drawn c) (w.attempts c)) → (c : Ballot) → BallotStands js ps c (w.drawn c) (cond (is_same c b) (Some a) (w.attempts c))
+attempt_set w b a js ps drawn stands others c =
+    cond_both (is_same c b) (Some a) (w.attempts c) (BallotStands js ps c (w.drawn c))
+    (λ e. let same = same_true c b e in subst (λ t. BallotStands js ps c t (Some a)) (sym (ap w.drawn same ∙ drawn)) (subst (λ z. Stands js ps a.place z a.phase) (sym same) stands))
+    (others c)
+
+module _ {V : Type 0} {first : List (List (Note V))} where
+  holds_goes_on : (w : World V) (b : Ballot) (a : Attempt V) (phase : Phase V) → WorldHolds first w → w.drawn b ≡ true → Stands w.replicas.journals w.replicas.packets a.place b phase → WorldHolds first (goes_on w b a phase)
+  holds_goes_on w b a phase h drawn stands =
+      holds_with w.replicas h (record { ballots = attempt_set w b (record a { phase = phase }) w.replicas.journals w.replicas.packets drawn stands (λ c _. h.rest.ballots c); learned = h.rest.learned })
+
+  promise_holds : (w : World V) (b : Ballot) (a : Attempt V) (t : Phase V × Option V) → WorldHolds first w → w.drawn b ≡ true → Asked w.replicas.journals w.replicas.packets a.place b t → WorldHolds first (promise_counted w b a t)
+  promise_holds w b a (phase, None) h drawn stands = holds_goes_on w b a phase h drawn stands
+  promise_holds w b a (phase, Some v) h drawn (is, unheard, safe) =
+      holds_offered w.replicas a.place b v h unheard safe
+      (record { ballots = attempt_set w b (record a { phase = phase }) js (x ∷ ps) drawn (subst (Stands js (x ∷ ps) a.place b) (sym is) (offers v (inl refl))) others; learned = h.rest.learned })
+    where
+      js : List (List (Note V))
+      js = w.replicas.journals
+
+      ps : List (Packet V)
+      ps = w.replicas.packets
+
+      x : Packet V
+      x = Accept a.place b v
+
+      others : (c : Ballot) → is_same c b ≡ false → BallotStands js (x ∷ ps) c (w.drawn c) (w.attempts c)
+      others c e = ballot_sent js ps c x (w.drawn c) (w.attempts c) (λ p u k. same_false c b e (cc)) (h.rest.ballots c)
+
+  acceptance_holds : (w : World V) (b : Ballot) (a : Attempt V) (t : Phase V × Option V) → WorldHolds first w → w.drawn b ≡ true → Learned w.replicas.journals w.replicas.packets a.place b t → WorldHolds first (acceptance_counted w b a t)
+  acceptance_holds w b a (phase, None) h drawn stands = holds_goes_on w b a phase h drawn stands
+  acceptance_holds w b a (phase, Some v) h drawn (stands, chosen) =
+      let next = holds_goes_on w b a phase h drawn stands in holds_with w.replicas next (record { ballots = next.rest.ballots; learned = (chosen, next.rest.learned) })
+
+  counts_holds : (w : World V) (b : Ballot) (f : Attempt V → World V) → WorldHolds first w → ((a : Attempt V) → w.drawn b ≡ true → Stands w.replicas.journals w.replicas.packets a.place b a.phase → WorldHolds first (f a)) → WorldHolds first (counts w f (w.attempts b))
+  counts_holds w b f h holds = go (w.drawn b) (w.attempts b) holds (h.rest.ballots b)
+    where
+      go : (d : Bool) (o : Option (Attempt V)) → ((a : Attempt V) → d ≡ true → Stands w.replicas.journals w.replicas.packets a.place b a.phase → WorldHolds first (f a)) → BallotStands w.replicas.journals w.replicas.packets b d o → WorldHolds first (counts w f o)
+      go d None holds stands = h
+      go true (Some a) holds stands = holds a refl stands
+      go false (Some a) holds stands = none_some a (sym stands.1)
+
+  ends_holds : (w : World V) (b : Ballot) → WorldHolds first w → WorldHolds first (counts w (λ a. goes_on w b a Ended) (w.attempts b))
+  ends_holds w b h = counts_holds w b _ h (λ a drawn stands. holds_goes_on w b a Ended h drawn tt)
+
+  returns_holds : (w : World V) (o : Option (Packet V)) → WorldHolds first w → ((x : Packet V) → o ≡ Some x → Mem x w.replicas.packets) → WorldHolds first (returns w o)
+  returns_holds w (Some (Promise r p b prior)) h s =
+      counts_holds w b _ h (λ a drawn stands. cond_both (is_place p a.place) _ w (WorldHolds first)
+      (λ e. promise_holds w b a (on_promise a.own a.phase r prior) h drawn
+      (promise_counts w.replicas h a.place b a.own a.phase r prior stands (subst (λ q. IsGrant w.replicas.journals r q b prior) (place_true p a.place e) (h.facts (Promise r p b prior) (s (Promise r p b prior) refl)))))
+      (λ _. h))
+  returns_holds w (Some (Accepted r p b)) h s =
+      counts_holds w b _ h (λ a drawn stands. cond_both (is_place p a.place) _ w (WorldHolds first)
+      (λ e. acceptance_holds w b a (on_accepted a.phase r) h drawn
+      (acceptance_counts w.replicas h a.place b a.phase r stands (subst (λ q. IsAnswered w.replicas.journals (Offered w.replicas.packets) r q b) (place_true p a.place e) (h.facts (Accepted r p b) (s (Accepted r p b) refl)))))
+      (λ _. h))
+  returns_holds w (Some (Nack r p b promised)) h s = ends_holds w b h
+  returns_holds w _ h s = h
+
+  -- a ballot is drawn
+  holds_draws : (w : World V) (b : Ballot) → WorldHolds first w → w.drawn b ≡ false → WorldHolds first (draws w b)
+  holds_draws w b h fresh = holds_with w.replicas h (record { ballots = λ c. ballot c (is_same c b) refl; learned = h.rest.learned })
+    where
+      none : w.attempts b ≡ None
+      none = (subst (λ t. BallotStands w.replicas.journals w.replicas.packets b t (w.attempts b)) fresh (h.rest.ballots b)).1
+
+      ballot : (c : Ballot) (t : Bool) → is_same c b ≡ t → BallotStands w.replicas.journals w.replicas.packets c (t || w.drawn c) (w.attempts c)
+      ballot c false e = h.rest.ballots c
+      ballot c true e = subst (BallotStands w.replicas.journals w.replicas.packets c true) (sym (ap w.attempts (same_true c b e) ∙ none)) tt
+
+  proposes_holds : (w : World V) (p : Place) (b : Ballot) (own : V) → WorldHolds first w → w.drawn b ≡ false → WorldHolds first (proposes w p b own)
+  proposes_holds w p b own h fresh =
+      let a : Attempt V = record { place = p; own = own; phase = Ended } in
+      let phase : Phase V = Promising (nobody (length w.replicas.journals)) None in
+      let unheard = (subst (λ t. BallotStands w.replicas.journals w.replicas.packets b t (w.attempts b)) fresh (h.rest.ballots b)).0 p in
+      holds_sent (lasts (goes_on (draws w b) b a phase)) w.replicas (Prepare p b) (holds_goes_on (draws w b) b a phase (holds_draws w b h fresh) (mine (is_same b b) refl) (asks unheard)) quiet tt
+    where
+      quiet : (q : Place) (c : Ballot) → IsQuiet {V = V} (Prepare p b) q c
+      quiet q c v e = cc
+
+      mine : (t : Bool) → is_same b b ≡ t → (t || w.drawn b) ≡ true
+      mine true e = refl
+      mine false e = absurd (same_false b b e refl)
+
+  happens_holds : (same : V → V → Bool) (w : World V) (e : Event V) → WorldHolds first w → WorldHolds first (happens same w e)
+  happens_holds same w (Proposes p b own) h = cond_both (w.drawn b) w (proposes w p b own) (WorldHolds first) (λ _. h) (proposes_holds w p b own h)
+  happens_holds same w (Comes r which) h = arrives_holds (lasts w) same w.replicas r which h
+  happens_holds same w (Returns which) h = returns_holds w (slice_get w.replicas.packets which) h (was_sent w.replicas.packets which)
+  happens_holds same w (ReplicaRestarts r) h = restarts_holds w.replicas r h
+  happens_holds same w (ProposerRestarts b) h = ends_holds w b h
+
+  run_holds : (same : V → V → Bool) (events : List (Event V)) (w : World V) → WorldHolds first w → WorldHolds first (run same events w)
+  run_holds same [] w h = h
+  run_holds same (e ∷ es) w h = run_holds same es (happens same w e) (happens_holds same w e h)
+
+pub after_run : {V : Type 0} (same : V → V → Bool) (journals : List (List (Note V))) (events : List (Event V)) → JournalsAgree journals → WorldHolds journals (run same events (opened journals))
+after_run same journals events agree = run_holds same events (opened journals) (holds_opened journals agree)

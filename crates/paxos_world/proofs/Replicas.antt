@@ -1,0 +1,269 @@
+-- What holds of replicas and packets in both worlds, and how each of their turns keeps it.
+use Rattle.std.proofs.Common.{◌≡◌, ℕ, zero, suc, ◌<◌, List, [], ◌∷◌, length, set, Bool, true, false, cond, ◌&&◌, ◌==◌, Option, Some, None, inl, inr, ⊎_elim, refl, sym, ap, ◌∙◌, subst, arith}
+use Rattle.std.specs.Prelude.{slice_get, nat_lt}
+use Rattle.std.proofs.lemmas.Bool.Decides.{nat_tests}
+use Rattle.std.proofs.lemmas.Bool.{cond_both, ltb-true}
+use Rattle.list_words.specs.Lists.{Mem}
+use Rattle.list_words.proofs.Lists.{none_some, some_same}
+use Rattle.ballot_core.specs.declared.Ballot.{Ballot}
+use Rattle.paxos_defs.specs.declared.Place.{Place}
+use Rattle.paxos_defs.specs.Notes.{is_place, Note, note_of, Vote, acceptance, votes, cell_after, blank, cell_of}
+use Rattle.paxos_defs.specs.Agreement.{HasAccepted, IsChosen, IsOnly, IsSafe, JournalsAgree, Rises}
+use Rattle.paxos_defs.specs.Turns.{Prepared, Taken, on_prepare, on_accept, higher, value_for}
+use Rattle.paxos_defs.specs.Turns.Prepared.{Grant, Refuse}
+use Rattle.paxos_defs.specs.Turns.Taken.{Take, Decline}
+use Rattle.paxos_defs.specs.Attempts.{Phase, is_new, is_most, nobody, on_promise, on_accepted}
+use Rattle.paxos_defs.specs.Attempts.Phase.{Promising, Accepting, Ended}
+use Rattle.paxos_defs.specs.Facts.{IsGrant, IsRefusal, IsOffer, IsAnswered, IsUnheard, IsAsking, IsOffering, Writes}
+use Rattle.paxos_defs.proofs.Cells.{Knows, cell_knows, cell_push}
+use Rattle.paxos_defs.proofs.Places.{noted, note_casts, note_elsewhere, place_true}
+use Rattle.paxos_defs.proofs.Turns.{after, PreparedHolds, IsPromiseVote, prepare_holds, IsAcceptanceVote, TakenHolds, accept_holds}
+use Rattle.paxos_defs.proofs.Facts.{grant_written, refusal_written, offer_written, answer_written, asking_written, offering_written, chosen_written, offer_sent, asking_sent, offering_sent, first_offer, vote_suits, note_writes, note_agrees, asks_on, asked, offers_on, accepted}
+use Rattle.paxos_world.specs.Replicas.{Packet, Replicas, restored, sent, casts, prepared, taken, comes, arrives, restarts}
+use Rattle.paxos_world.specs.Replicas.Packet.{Prepare, Promise, Nack, Accept, Accepted, Chosen}
+
+abbrev pub Offered : {V : Type 0} → List (Packet V) → Place → Ballot → V → Type 0
+Offered ps p b v = Mem (Accept p b v) ps
+
+-- the lasting fact behind a packet
+abbrev pub Fact : {V : Type 0} → List (List (Note V)) → List (Packet V) → Packet V → Type 0
+Fact js ps (Prepare p b) = Unit {0}
+Fact js ps (Promise r p b prior) = IsGrant js r p b prior
+Fact js ps (Nack r p b promised) = IsRefusal js r p b promised
+Fact js ps (Accept p b v) = IsOffer js (Offered ps) p b v
+Fact js ps (Accepted r p b) = IsAnswered js (Offered ps) r p b
+Fact js ps (Chosen p v) = IsChosen js p v
+
+abbrev pub Stands : {V : Type 0} → List (List (Note V)) → List (Packet V) → Place → Ballot → Phase V → Type 0
+Stands js ps p b (Promising marks best) = IsAsking js (Offered ps) p b marks best
+Stands js ps p b (Accepting v marks) = IsOffering js (Offered ps) p b v marks
+Stands js ps p b Ended = Unit {0}
+
+-- What holds of replicas that were restored from the first journals, and of the rest of the world.
+pub record Holds {V : Type 0} (first : List (List (Note V))) (Rest : List (List (Note V)) → List (Packet V) → Type 0) (a : Replicas V) : Type 0 where
+  pub agree : JournalsAgree a.journals
+  pub remembered : (r : ℕ) (p : Place) → a.cells r p ≡ cell_of (votes a.journals p r)
+  pub facts : (x : Packet V) → Mem x a.packets → Fact a.journals a.packets x
+  -- what was chosen stays so
+  pub kept : (p : Place) (v : V) → IsChosen first p v → IsChosen a.journals p v
+  pub rest : Rest a.journals a.packets
+
+-- the packet isn't an Accept at this ballot of this place
+abbrev pub IsQuiet : {V : Type 0} → Packet V → Place → Ballot → Type 0
+IsQuiet {V} x p b = (v : V) → x ≡ Accept p b v → ⊥
+
+-- the rest lasts while votes are written, and while packets are sent that offer nothing
+pub record Lasts {V : Type 0} (Rest : List (List (Note V)) → List (Packet V) → Type 0) : Type 0 where
+  pub written : (js js' : List (List (Note V))) (ps : List (Packet V)) → ((q : Place) → Writes (Offered ps) js js' q) → Rest js ps → Rest js' ps
+  pub sent : (js : List (List (Note V))) (ps : List (Packet V)) (x : Packet V) → ((p : Place) (b : Ballot) → IsQuiet x p b) → Rest js ps → Rest js (x ∷ ps)
+
+module _ {V : Type 0} (ps : List (Packet V)) {js js' : List (List (Note V))} (writes : (q : Place) → Writes (Offered ps) js js' q) where
+  fact_written : (x : Packet V) → Fact js ps x → Fact js' ps x
+  fact_written (Prepare p b) h = tt
+  fact_written (Promise r p b prior) h = grant_written (writes p) r b prior h
+  fact_written (Nack r p b promised) h = refusal_written (writes p) r b promised h
+  fact_written (Accept p b v) h = offer_written (writes p) b v h
+  fact_written (Accepted r p b) h = answer_written (writes p) r b h
+  fact_written (Chosen p v) h = chosen_written (writes p) v h
+
+  pub stands_written : (p : Place) (b : Ballot) (phase : Phase V) → Stands js ps p b phase → Stands js' ps p b phase
+  stands_written p b (Promising marks best) h = asking_written (writes p) b marks best h
+  stands_written p b (Accepting v marks) h = offering_written (writes p) b v marks h
+  stands_written p b Ended h = tt
+
+module _ {V : Type 0} (js : List (List (Note V))) (ps : List (Packet V)) (x : Packet V) where
+  pub accept_came : (p : Place) (b : Ballot) → IsQuiet x p b → (v : V) → Offered (x ∷ ps) p b v → Offered ps p b v
+  accept_came p b quiet v (inl e) = absurd (quiet v e)
+  accept_came p b quiet v (inr s) = s
+
+  pub stands_sent : (p : Place) (b : Ballot) (phase : Phase V) → IsQuiet x p b → Stands js ps p b phase → Stands js (x ∷ ps) p b phase
+  stands_sent p b (Promising marks best) quiet h = asking_sent js p b marks best (accept_came p b quiet) h
+  stands_sent p b (Accepting v marks) quiet h = offering_sent js p b v marks (λ s. inr s) h
+  stands_sent p b Ended quiet h = tt
+
+  -- a packet's fact is kept, where no second value is sent at its ballot
+  fact_sent : (y : Packet V) → ((p : Place) (b : Ballot) (v : V) → y ≡ Accept p b v → (w : V) → x ≡ Accept p b w → w ≡ v) → Fact js ps y → Fact js (x ∷ ps) y
+  fact_sent (Accept p b v) fits h = offer_sent js p b v (λ w s. ⊎_elim (λ (e : x ≡ Accept p b w). inr (fits p b v refl w e)) (λ (o : Offered ps p b w). inl o) s) h
+  fact_sent (Accepted r p b) fits h = (h.0, inr h.1, h.2)
+  fact_sent (Prepare p b) fits h = tt
+  fact_sent (Promise r p b prior) fits h = h
+  fact_sent (Nack r p b promised) fits h = h
+  fact_sent (Chosen p v) fits h = h
+
+-- ---- what is counted
+
+-- a counted promise leaves a phase that stands, or a safe value to send, of whose ballot nothing was heard
+abbrev pub Asked : {V : Type 0} → List (List (Note V)) → List (Packet V) → Place → Ballot → Phase V × Option V → Type 0
+Asked js ps p b (phase, None) = Stands js ps p b phase
+Asked js ps p b (phase, Some v) = (phase ≡ Accepting v (nobody (length js))) × IsUnheard js (Offered ps) p b × IsSafe (length js) (votes js p) b v
+
+-- a counted acceptance leaves one, or a chosen value
+abbrev pub Learned : {V : Type 0} → List (List (Note V)) → List (Packet V) → Place → Ballot → Phase V × Option V → Type 0
+Learned js ps p b (phase, None) = Stands js ps p b phase
+Learned js ps p b (phase, Some v) = Stands js ps p b phase × IsChosen js p v
+
+module _ {V : Type 0} {first : List (List (Note V))} {Rest : List (List (Note V)) → List (Packet V) → Type 0} (a : Replicas V) (h : Holds first Rest a) (p : Place) (b : Ballot) where
+  pub promise_counts : (own : V) (phase : Phase V) (r : ℕ) (prior : Option (Ballot × V)) → Stands a.journals a.packets p b phase → IsGrant a.journals r p b prior → Asked a.journals a.packets p b (on_promise own phase r prior)
+  promise_counts own (Promising marks best) r prior stands grant =
+      let next = asks_on r prior stands grant in
+      cond_both (is_new marks r) _ _ (Asked a.journals a.packets p b)
+      (λ _. cond_both (is_most (set marks r true)) _ _ (Asked a.journals a.packets p b)
+      (λ most. (ap (λ n. Accepting (value_for own (higher best prior)) (nobody n)) next.members, next.unheard, asked own (h.agree p) next most))
+      (λ _. next))
+      (λ _. stands)
+  promise_counts own (Accepting v marks) r prior stands grant = stands
+  promise_counts own Ended r prior stands grant = tt
+
+  pub acceptance_counts : (phase : Phase V) (r : ℕ) → Stands a.journals a.packets p b phase → IsAnswered a.journals (Offered a.packets) r p b → Learned a.journals a.packets p b (on_accepted phase r)
+  acceptance_counts (Promising marks best) r stands answer = stands
+  acceptance_counts (Accepting v marks) r stands answer =
+      let next = offers_on r v (h.facts (Accept p b v) stands.offered) stands answer in
+      cond_both (is_new marks r) _ _ (Learned a.journals a.packets p b)
+      (λ _. cond_both (is_most (set marks r true)) _ _ (Learned a.journals a.packets p b) (λ most. (tt, accepted v next most)) (λ _. next))
+      (λ _. stands)
+  acceptance_counts Ended r stands answer = tt
+
+-- ---- replicas
+
+pub holds_restored : {V : Type 0} (journals : List (List (Note V))) (Rest : List (List (Note V)) → List (Packet V) → Type 0) → JournalsAgree journals → Rest journals [] → Holds journals Rest (restored journals)
+holds_restored journals Rest agree rest = record { agree = agree; remembered = λ r p. refl; facts = λ x s. absurd s; kept = λ p v c. c; rest = rest }
+
+pub was_sent : {V : Type 0} (ps : List (Packet V)) (k : ℕ) (x : Packet V) → slice_get ps k ≡ Some x → Mem x ps
+was_sent [] k x e = none_some x e
+was_sent (y ∷ ps) zero x e = inl (some_same y x e)
+was_sent (y ∷ ps) (suc k) x e = inr (was_sent ps k x e)
+
+module _ {V : Type 0} {first : List (List (Note V))} {Rest : List (List (Note V)) → List (Packet V) → Type 0} where
+  -- the rest of the world changes
+  pub holds_with : {Now : List (List (Note V)) → List (Packet V) → Type 0} (a : Replicas V) → Holds first Rest a → Now a.journals a.packets → Holds first Now a
+  holds_with a h rest = record { agree = h.agree; remembered = h.remembered; facts = h.facts; kept = h.kept; rest = rest }
+
+  -- The value of an attempt is sent, of which nothing was heard before.
+  pub holds_offered : {Now : List (List (Note V)) → List (Packet V) → Type 0} (a : Replicas V) (p : Place) (b : Ballot) (v : V) → Holds first Rest a → IsUnheard a.journals (Offered a.packets) p b → IsSafe (length a.journals) (votes a.journals p) b v → Now a.journals (Accept p b v ∷ a.packets) → Holds first Now (sent a (Accept p b v))
+  holds_offered {Now} a p b v h unheard safe rest = record { agree = h.agree; remembered = h.remembered; facts = facts; kept = h.kept; rest = rest }
+    where
+      x : Packet V
+      x = Accept p b v
+
+      same_value : (u : V) → Accept p b v ≡ Accept p b u → u ≡ v
+      same_value u e = cc
+
+      others : (q : Place) (c : Ballot) (u w : V) → Offered a.packets q c u → x ≡ Accept q c w → Offered a.packets p b u
+      others q c u w s e = let place : q ≡ p = cc in let ballot : c ≡ b = cc in subst (λ (z : Place × Ballot). Offered a.packets z.0 z.1 u) (λ i. (place i, ballot i)) s
+
+      facts : (y : Packet V) → Mem y (x ∷ a.packets) → Fact a.journals (x ∷ a.packets) y
+      facts y (inl e) = subst (Fact a.journals (x ∷ a.packets)) e (first_offer a.journals p b v (λ u s. ⊎_elim (λ (e : x ≡ Accept p b u). inr (same_value u e)) (λ (o : Offered a.packets p b u). inl o) s) unheard safe)
+      facts y (inr s) = fact_sent a.journals a.packets x y (λ q c u is w e. absurd (unheard.not_offered u (others q c u w (subst (λ z. Mem z a.packets) is s) e))) (h.facts y s)
+
+module _ {V : Type 0} (a : Replicas V) (r : ℕ) (p : Place) (b : Ballot) where
+  -- the vote that a turn casts: no other is above it, and what it accepts was sent
+  abbrev IsCast : Option (Vote V) → Type 0
+  IsCast None = Unit {0}
+  IsCast (Some x) = Rises (votes a.journals p r) x × ((c : Ballot) (v : V) → acceptance c v ≡ x → Offered a.packets p c v)
+
+  promise_cast : (vote : Option (Vote V)) → IsPromiseVote (votes a.journals p r) b vote → IsCast vote
+  promise_cast None fits = tt
+  promise_cast (Some x) fits = (fits.0, λ c v e. none_some v (sym (ap (λ (z : Vote V). z.value) (e ∙ fits.1))))
+
+  acceptance_cast : (v : V) → Offered a.packets p b v → (vote : Option (Vote V)) → IsAcceptanceVote (votes a.journals p r) b v vote → IsCast vote
+  acceptance_cast v s None fits = tt
+  acceptance_cast v s (Some x) fits = (fits.0, λ c u e. told c u (e ∙ fits.1))
+    where
+      told : (c : Ballot) (u : V) → acceptance c u ≡ acceptance b v → Offered a.packets p c u
+      told c u e = let ballot = ap (λ (z : Vote V). z.ballot) e in let same : u ≡ v = some_same u v (ap (λ (z : Vote V). z.value) e) in subst (λ (z : Ballot × V). Offered a.packets p z.0 z.1) (λ i. (sym ballot i, sym same i)) s
+
+  still_offered : (vote : Option (Vote V)) (v : V) → Offered a.packets p b v → Offered (casts a r p vote).packets p b v
+  still_offered None v s = s
+  still_offered (Some x) v s = s
+
+  prepared_quiet : (t : Prepared V) (q : Place) (c : Ballot) → IsQuiet (prepared r p b t) q c
+  prepared_quiet (Grant prior) q c v e = cc
+  prepared_quiet (Refuse promised) q c v e = cc
+
+  taken_quiet : (t : Taken) (q : Place) (c : Ballot) → IsQuiet {V = V} (taken r p b t) q c
+  taken_quiet Take q c v e = cc
+  taken_quiet (Decline promised) q c v e = cc
+
+  prepared_fact : (t : Prepared V) → PreparedHolds (votes a.journals p r) b t → Fact a.journals a.packets (prepared r p b t)
+  prepared_fact (Grant prior) h = h
+  prepared_fact (Refuse promised) h = h
+
+  taken_fact : (v : V) (t : Taken) → Offered a.packets p b v → IsOnly (votes a.journals p) b v → TakenHolds (votes a.journals p r) b t → Fact a.journals a.packets (taken r p b t)
+  taken_fact v Take s only h = (v, s, subst (HasAccepted (votes a.journals p r) b) (only r h.0 h.1) h.1)
+  taken_fact v (Decline promised) s only h = h
+
+module _ {V : Type 0} {first : List (List (Note V))} {Rest : List (List (Note V)) → List (Packet V) → Type 0} (lasts : Lasts Rest) where
+  pub holds_sent : (a : Replicas V) (x : Packet V) → Holds first Rest a → ((p : Place) (b : Ballot) → IsQuiet x p b) → Fact a.journals a.packets x → Holds first Rest (sent a x)
+  holds_sent a x h quiet fact = record { agree = h.agree; remembered = h.remembered; facts = facts; kept = h.kept; rest = lasts.sent a.journals a.packets x quiet h.rest }
+    where
+      last : (y : Packet V) → Fact a.journals a.packets y → Fact a.journals (x ∷ a.packets) y
+      last y = fact_sent a.journals a.packets x y (λ p b v _ u e. absurd (quiet p b u e))
+
+      facts : (y : Packet V) → Mem y (x ∷ a.packets) → Fact a.journals (x ∷ a.packets) y
+      facts y (inl e) = subst (Fact a.journals (x ∷ a.packets)) e (last x fact)
+      facts y (inr s) = last y (h.facts y s)
+
+  holds_casts : (a : Replicas V) (r : ℕ) (p : Place) (x : Vote V) → Holds first Rest a → r < length a.journals → Rises (votes a.journals p r) x → ((b : Ballot) (v : V) → acceptance b v ≡ x → Offered a.packets p b v) → Holds first Rest (casts a r p (Some x))
+  holds_casts a r p x h within rises told =
+      let suits = vote_suits (Offered a.packets) a.journals r p x rises (λ b v e. (told b v e, h.facts (Accept p b v) (told b v e))) in
+      let writes = λ (q : Place). note_writes (Offered a.packets) a.journals r (note_of p x) q within (suits q) in
+      record {
+        agree = λ q. note_agrees (Offered a.packets) a.journals r (note_of p x) q within (suits q) (h.agree q);
+        remembered = λ k q. remembered k q (k == r) (is_place p q) refl refl;
+        facts = λ y s. fact_written a.packets writes y (h.facts y s);
+        kept = λ q v c. chosen_written (writes q) v (h.kept q v c);
+        rest = lasts.written a.journals (noted a.journals r (note_of p x)) a.packets writes h.rest;
+      }
+    where
+      apart : (k : ℕ) (q : Place) → is_place p q ≡ false → a.cells k q ≡ cell_of (votes (noted a.journals r (note_of p x)) q k)
+      apart k q f = h.remembered k q ∙ ap (λ ys. cell_of ys) (sym (note_elsewhere a.journals r p q x within f k))
+
+      remembered : (k : ℕ) (q : Place) (s t : Bool) → (k == r) ≡ s → is_place p q ≡ t → cond (s && t) (cell_after (a.cells r p) x) (a.cells k q) ≡ cell_of (votes (noted a.journals r (note_of p x)) q k)
+      remembered k q true true e f =
+          let same : k ≡ r = grind (arith, nat_tests) in
+          let one = note_casts a.journals r p x within rises in
+          subst (λ (z : ℕ × Place). cell_after (a.cells r p) x ≡ cell_of (votes (noted a.journals r (note_of p x)) z.1 z.0)) (λ i. (sym same i, place_true p q f i))
+          (ap (λ c. cell_after c x) (h.remembered r p) ∙ sym (cell_push blank (votes a.journals p r) x) ∙ ap (λ ys. cell_of ys) (sym one.cast.is))
+      remembered k q true false e f = apart k q f
+      remembered k q false false e f = apart k q f
+      remembered k q false true e f =
+          let one = note_casts a.journals r p x within rises in
+          let apart : k ≡ r → ⊥ = λ same. grind (arith, nat_tests) in
+          subst (λ (z : Place). a.cells k z ≡ cell_of (votes (noted a.journals r (note_of p x)) z k)) (place_true p q f)
+          (h.remembered k p ∙ ap (λ ys. cell_of ys) (sym (⊎_elim (λ (same : votes (noted a.journals r (note_of p x)) p k ≡ votes a.journals p k). same) (λ (same : k ≡ r). absurd (apart same)) (one.others k))))
+
+  -- a turn casts its vote, and answers
+  answers_holds : (a : Replicas V) (r : ℕ) (p : Place) (b : Ballot) (vote : Option (Vote V)) (x : Packet V) → Holds first Rest a → r < length a.journals → IsCast a r p b vote → ((q : Place) (c : Ballot) → IsQuiet x q c) → (Holds first Rest (casts a r p vote) → votes (casts a r p vote).journals p r ≡ after (votes a.journals p r) vote → Fact (casts a r p vote).journals (casts a r p vote).packets x) → Holds first Rest (sent (casts a r p vote) x)
+  answers_holds a r p b None x h within cast quiet fact = holds_sent a x h quiet (fact h refl)
+  answers_holds a r p b (Some y) x h within cast quiet fact =
+      let next = holds_casts a r p y h within cast.0 cast.1 in
+      holds_sent (casts a r p (Some y)) x next quiet (fact next (note_casts a.journals r p y within cast.0).cast.is)
+
+  knows : (a : Replicas V) → Holds first Rest a → (r : ℕ) (p : Place) → Knows (votes a.journals p r) (a.cells r p)
+  knows a h r p = subst (Knows (votes a.journals p r)) (sym (h.remembered r p)) (cell_knows (votes a.journals p r) ((h.agree p).rising r))
+
+  comes_holds : (same : V → V → Bool) (a : Replicas V) (r : ℕ) (o : Option (Packet V)) → Holds first Rest a → r < length a.journals → ((x : Packet V) → o ≡ Some x → Mem x a.packets) → Holds first Rest (comes same a r o)
+  comes_holds same a r (Some (Prepare p b)) h within s =
+      let turn = prepare_holds (votes a.journals p r) (a.cells r p) b (knows a h r p) in
+      let t = (on_prepare (a.cells r p) b).1 in
+      answers_holds a r p b (on_prepare (a.cells r p) b).0 (prepared r p b t) h within (promise_cast a r p b (on_prepare (a.cells r p) b).0 turn.0) (prepared_quiet a r p b t)
+      (λ next e. prepared_fact (casts a r p (on_prepare (a.cells r p) b).0) r p b t (subst (λ ys. PreparedHolds ys b t) (sym e) turn.1))
+  comes_holds same a r (Some (Accept p b v)) h within s =
+      let turn = accept_holds same (votes a.journals p r) (a.cells r p) b v (knows a h r p) in
+      let t = (on_accept same (a.cells r p) b v).1 in
+      let vote = (on_accept same (a.cells r p) b v).0 in
+      let told = still_offered a r p b vote v (s (Accept p b v) refl) in
+      answers_holds a r p b vote (taken r p b t) h within (acceptance_cast a r p b v (s (Accept p b v) refl) vote turn.0) (taken_quiet a r p b t)
+      (λ next e. taken_fact (casts a r p vote) r p b v t told (next.facts (Accept p b v) told).only (subst (λ ys. TakenHolds ys b t) (sym e) turn.1))
+  comes_holds same a r _ h within s = h
+
+  pub arrives_holds : (same : V → V → Bool) (a : Replicas V) (r which : ℕ) → Holds first Rest a → Holds first Rest (arrives same a r which)
+  arrives_holds same a r which h =
+      cond_both (nat_lt r (length a.journals)) _ a (Holds first Rest) (λ e. comes_holds same a r (slice_get a.packets which) h (ltb-true r (length a.journals) e) (was_sent a.packets which)) (λ _. h)
+
+pub restarts_holds : {V : Type 0} {first : List (List (Note V))} {Rest : List (List (Note V)) → List (Packet V) → Type 0} (a : Replicas V) (r : ℕ) → Holds first Rest a → Holds first Rest (restarts a r)
+restarts_holds a r h = record { agree = h.agree; remembered = λ k p. remembered k p (k == r) refl; facts = h.facts; kept = h.kept; rest = h.rest }
+  where
+    remembered : (k : ℕ) (p : Place) (t : Bool) → (k == r) ≡ t → cond t (cell_of (votes a.journals p r)) (a.cells k p) ≡ cell_of (votes a.journals p k)
+    remembered k p true e = let same : k ≡ r = grind (arith, nat_tests) in ap (λ j. cell_of (votes a.journals p j)) (sym same)
+    remembered k p false e = h.remembered k p
