@@ -2,16 +2,15 @@
 use Rattle.std.proofs.Common.{◌≡◌, ◌⊎◌, inl, inr, ⊎_elim, ℕ, zero, suc, ◌+◌, ◌*◌, ◌<◌, ◌≤◌, Bool, true, false, not, ◌||◌, List, [], length, Some, None, refl, sym, ap, ◌∙◌, subst, arith}
 use Rattle.std.specs.Prelude.{Option}
 use Rattle.std.proofs.lemmas.Bool.{true≢false, cases_Bool, cases_lt, or_left, or_right}
-use Rattle.photon_model.proofs.Words.{Ballot, IsUpTo, Majority, upto_trans, not_above, Batch, Place, none_some, some_same, Setting, IsJoiner, first_joiner, shards, site_of_joiner, IsNode, Node, Dispatcher, Server, Replica, Joiner, Deliver, DispatcherLive, dispatcher_at_rest, JoinerLive, joiner_at_rest, ServerLive, ShardState, is_free, server_at_rest, AllFactsHold, World, Entry, Disks, world_after, opening, UpWith, IsAtRest, IsQuiet}
+use Rattle.photon_model.proofs.Words.{Ballot, IsUpTo, Majority, upto_trans, not_above, Batch, Place, none_some, some_same, Setting, IsJoiner, first_joiner, shards, site_of_joiner, IsNode, Node, Dispatcher, Server, Replica, Joiner, Tick, Deliver, DispatcherLive, dispatcher_at_rest, JoinerLive, joiner_at_rest, ServerLive, ShardState, is_free, server_at_rest, AllFactsHold, World, Entry, Disks, world_after, opening, UpWith, IsAtRest, IsQuiet}
 use Rattle.time_shards.specs.Shards.{IsTable}
 use Rattle.progress_laws.specs.Idle.{IsIdle}
 use Rattle.progress_laws.specs.Moves.{is_left, next_of, promise_at, IsHeldAt, IsRefusedFrom, RestOrRefused, LeftIsRefused, HeldIsRefused}
-use Rattle.progress_laws.proofs.Transit.{opened_at, HasTick, quiet_closed}
-use Rattle.progress_laws.proofs.Ticking.{comes, passes}
+use Rattle.progress_laws.proofs.Moments.{opened_at, along_idle, Pending, quiet_closed, none_pending, comes, SitesUp}
 use Rattle.progress_laws.proofs.Turning.{ballot_in, Same}
 use Rattle.progress_laws.proofs.Waiting.{IsLeftAt, still_left}
 use Rattle.progress_laws.proofs.Lasting.{OfAllShards, HasCause, no_cause, cause_kept, after_run}
-use Rattle.progress_laws.proofs.Calm.{along_idle, server_waits}
+use Rattle.progress_laws.proofs.Calm.{server_waits}
 use Rattle.progress_laws.proofs.Claims.{HasOwnTokens, site_below}
 use Rattle.photon_model.proofs.Worlds.{up_is}
 use Rattle.progress_laws.proofs.Trying.{HasLines}
@@ -49,7 +48,7 @@ module _ (g : Setting) (dead : ℕ → Bool) (table : IsTable g.table) (most : M
   all : Stalls g dead w es
   all = stalls g dead table w es i own lines
 
-  servers_up : (s : ℕ) → s < 2 → (l : ServerLive) × ((w.servers s).live ≡ Some l)
+  servers_up : SitesUp w
   servers_up s lt = let u = up_is _ (w.servers s).live (i.interval.starts.servers s lt).1 in (u.0, u.1)
 
   -- ---- one place, and a server that has something to do there
@@ -71,14 +70,14 @@ module _ (g : Setting) (dead : ℕ → Bool) (table : IsTable g.table) (most : M
         all_made : MoreOfBoth g dead w at w None
         all_made = with_both g dead w at w None servers_up causes (λ u e. none_some u e)
 
-        waits : HasTick w es (Server site) ⊎ ((l.shards at.shard).held ≡ false)
+        waits : Pending w [] es (Server site) Tick ⊎ ((l.shards at.shard).held ≡ false)
         waits =
             ⊎_elim
-            (λ held. inl (comes g dead w es (Server site) i.interval lt (unfinished_at g w site l is_up at.shard below (or_left (not (is_free (l.shards at.shard).proposal) || (l.shards at.shard).held) _ (or_right (not (is_free (l.shards at.shard).proposal)) (l.shards at.shard).held held)))))
+            (λ held. inl (comes g dead w es i.interval (Server site) lt (unfinished_at g w site l is_up at.shard below (or_left (not (is_free (l.shards at.shard).proposal) || (l.shards at.shard).held) _ (or_right (not (is_free (l.shards at.shard).proposal)) (l.shards at.shard).held held)))))
             (λ free. inr free)
             (cases_Bool (l.shards at.shard).held)
 
-        by_ballot : (o : Option Ballot) → ballot_in (l.shards at.shard).proposal ≡ o → low ≡ 0 → IsTrying g dead w at site low w es all_made.0
+        by_ballot : (o : Option Ballot) → ballot_in (l.shards at.shard).proposal ≡ o → low ≡ 0 → IsTrying g dead w at site low w [] es all_made.0
         by_ballot None e zero_ = inl (l, is_up, place, e, omega (arith, zero_), waits)
         by_ballot (Some b) e zero_ = inr (raised all_made.0 b low (all_made.3 site lt l is_up b (place, e)) (omega (arith, zero_)))
 
@@ -87,7 +86,7 @@ module _ (g : Setting) (dead : ℕ → Bool) (table : IsTable g.table) (most : M
     refused_from start left = by_trying ends.trying
       where
         ends : Duel g dead w at site low v [] []
-        ends = along_idle g dead (Duel g dead w at site low) (λ w' air next e es step h. duel_goes_on g dead w at site low w' air next e es step h lt) es w i (begins start)
+        ends = along_idle g dead (Duel g dead w at site low) (λ w' air next e es step h. duel_goes_on g dead w at site low step h lt) es w i (begins start)
 
         none_stands : (s : ℕ) → s < 2 → (m : ServerLive) → (v.servers s).live ≡ Some m → (m.shards at.shard).proposal ≡ None
         none_stands s slt m now = no_attempt g dead w es most i open_ s slt m now at.shard below
@@ -132,11 +131,11 @@ module _ (g : Setting) (dead : ℕ → Bool) (table : IsTable g.table) (most : M
             other q (inl same) = inl same
             other q (inr (b, now_is, k, from_old)) = inr (λ b' e. let same : b'.round ≡ b.round = ap (λ (x : Ballot). x.round) (some_same b' b (sym e ∙ now_is)) in let low_ = upto_round b u (at_most b k) in omega (arith, same, low_, above, round_up))
 
-        by_trying : IsTrying g dead w at site low v [] ends.most → IsRefusedFrom g dead w v at low
+        by_trying : IsTrying g dead w at site low v [] [] ends.most → IsRefusedFrom g dead w v at low
         by_trying (inr (u, is, le)) = by_made u is le (ends.made u is)
         by_trying (inl (m, now, here, none, le, waits)) =
             absurd (⊎_elim
-            (λ t. passes g dead v (Server site) i.interval.ends lt refl t)
+            (λ t. none_pending g dead v i.interval.ends (Server site) lt refl Tick t)
             (λ free. true≢false (sym (held_back site lt m now (left m now)) ∙ free))
             waits)
 
@@ -148,7 +147,7 @@ module _ (g : Setting) (dead : ℕ → Bool) (table : IsTable g.table) (most : M
   stays_in : (P : ShardState → Type 0) → ((st now : ShardState) → Same st now → P st → P now) → (s k : ℕ) → HasIn P s k w → HasIn P s k v
   stays_in P keeps s k h =
       along_idle g dead (λ x air es. HasIn P s k x)
-      (λ x air next e es step h. let m = server_waits g dead x air next e step s h.0 h.1 in (m.0, m.1, keeps (h.0.shards k) (m.0.shards k) (m.2 k) h.2))
+      (λ x air next e es step h. let m = server_waits step s h.0 h.1 in (m.0, m.1, keeps (h.0.shards k) (m.0.shards k) (m.2 k) h.2))
       es w i h
 
   -- a server that is held ends held, by a promise not below the round that it drew

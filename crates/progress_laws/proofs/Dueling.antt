@@ -5,17 +5,16 @@ use Rattle.std.proofs.lemmas.Cmp.{ranked}
 use Rattle.std.specs.Ordering.{nat_cmp, ordering_then, MatchOrdering}
 use Rattle.std.specs.declared.cmp.Ordering.{Ordering}
 use Rattle.std.specs.declared.cmp.Ordering.TheVariants.{Less, Equal, Greater}
-use Rattle.photon_model.proofs.Words.{Ballot, IsBelow, IsUpTo, not_above, Batch, Place, Each, none_some, some_same, Setting, IsNode, Sent, Out, land, Packet, Prepare, Accept, Nack, Node, Dispatcher, Server, Replica, Joiner, To, Input, Tick, Deliver, ServerLive, server_turn, ReplicaKept, cell_at, land_replica, replica_turn, World, Entry, End, dispatcher_row, server_row, replica_row, joiner_row, after, May}
+use Rattle.photon_model.proofs.Words.{Ballot, IsBelow, IsUpTo, not_above, Batch, Place, Each, none_some, some_same, Setting, IsNode, Sent, Out, land, Packet, Prepare, Accept, Nack, Node, Dispatcher, Server, Replica, Joiner, To, Input, Tick, Deliver, ServerLive, ReplicaKept, cell_at, land_replica, World, Entry, server_row, replica_row, after}
 use Rattle.photon_model.proofs.Agreeing.{IsPlain, dispatcher_row_plain, joiner_row_plain}
 use Rattle.progress_laws.specs.Moves.{next_of, promise_at}
-use Rattle.progress_laws.proofs.Transit.{opened_at, Underway, HasTick, IsSent, was_underway, sent_has}
-use Rattle.progress_laws.proofs.Ending.{IsEnd, server_now, server_live, replica_turns}
+use Rattle.progress_laws.proofs.Moments.{opened_at, IsEnd, Step, Pending, IsSent, SitesUp, turned, ended_own, lives, sites_up, ends, kept_after, by_row, goes, was_pending, each_of_row}
 use Rattle.progress_laws.proofs.Turning.{ballot_in, Same, Fate, Keeps, Asks}
 use Rattle.progress_laws.proofs.Waiting.{still_left}
 use Rattle.progress_laws.proofs.Lasting.{OfAllShards, HasCause, no_cause, cause_kept, lasts}
 use Rattle.progress_laws.proofs.Rising.{AsksAt, Says, says, Rises, rises, after_turn}
-use Rattle.progress_laws.proofs.Calm.{Step, step_goes, CalmTurn, calm_turn, server_waits, replica_kept, tick_goes_on}
-use Rattle.progress_laws.proofs.Greatest.{UpTo, Promised, promised_more, promised_is, Fine, fine_grows, plain_fine, asks_fine, IsRefusedBy, IsMade, AttemptUpTo, BothUp, MoreOfBoth, with_both}
+use Rattle.progress_laws.proofs.Calm.{CalmTurn, calm_turn}
+use Rattle.progress_laws.proofs.Greatest.{UpTo, Promised, promised_more, promised_is, Fine, fine_grows, plain_fine, asks_fine, IsRefusedBy, IsMade, AttemptUpTo, MoreOfBoth, with_both}
 
 -- the rounds of ballots in order
 pub below_round : (a b : Ballot) → IsBelow a b → a.round ≤ b.round
@@ -37,31 +36,28 @@ raised (Some u) b low h le = let r = upto_round b u h in (u, refl, omega (arith,
 
 module _ (g : Setting) (dead : ℕ → Bool) (old : World) (at : Place) (site low : ℕ) where
   -- The server has a Tick or isn't held, with no attempt, and will draw no round below `low`; or an attempt has one.
-  abbrev pub IsTrying : World → List Entry → Option Ballot → Type 0
-  IsTrying w es m =
-      ((l : ServerLive) × ((w.servers site).live ≡ Some l) × (next_of at.shard (l.shards at.shard) ≡ at) × (ballot_in (l.shards at.shard).proposal ≡ None) × (low ≤ suc l.round) × (HasTick w es (Server site) ⊎ ((l.shards at.shard).held ≡ false)))
+  abbrev pub IsTrying : World → List Sent → List Entry → Option Ballot → Type 0
+  IsTrying w air es m =
+      ((l : ServerLive) × ((w.servers site).live ≡ Some l) × (next_of at.shard (l.shards at.shard) ≡ at) × (ballot_in (l.shards at.shard).proposal ≡ None) × (low ≤ suc l.round) × (Pending w air es (Server site) Tick ⊎ ((l.shards at.shard).held ≡ false)))
       ⊎ ((u : Ballot) × (m ≡ Some u) × (low ≤ u.round))
 
   -- what is known of the greatest attempt so far
   pub record Duel (w : World) (air : List Sent) (es : List Entry) : Type 0 where
     pub most : Option Ballot
-    pub up : BothUp g dead old at w
+    pub up : SitesUp w
     pub causes : OfAllShards (HasCause g) w
     pub promises : (r : ℕ) → r < g.replicas → dead r ≡ false → Promised most (promise_at old r at) (promise_at w r at)
-    pub packets : (x : Sent) → IsNode g x.to → Underway w air x → Fine g dead old at most x.to x.packet
+    pub packets : (x : Sent) → IsNode g x.to → Pending w air es x.to (Deliver x.from x.packet) → Fine g dead old at most x.to x.packet
     pub attempts : (s : ℕ) → s < 2 → (l : ServerLive) → (w.servers s).live ≡ Some l → AttemptUpTo g dead old at most l
     pub made : (u : Ballot) → most ≡ Some u → IsMade g dead old at w u
-    pub trying : IsTrying w es most
+    pub trying : IsTrying w air es most
 
-  module _ (w : World) (air next : List Sent) (e : Entry) (es : List Entry) (step : Step g dead w air next e) (h : Duel w air (e ∷ es)) where
+  module _ {w : World} {air next : List Sent} {e : Entry} {es : List Entry} (step : Step g dead w air next e es) (h : Duel w air (e ∷ es)) where
     abbrev w' : World
     w' = after g w e
 
     abbrev row_of : ℕ → Out ServerLive
     row_of s = server_row g s (w.servers s)
-
-    up_after : BothUp g dead old at w'
-    up_after s lt = let u = h.up s lt in let v = server_waits g dead w air next e step s u.0 u.1 in (v.0, v.1)
 
     next_after : (s : ℕ) (l : ServerLive) → Same (l.shards at.shard) ((row_of s).live.shards at.shard) → next_of at.shard (l.shards at.shard) ≡ at → next_of at.shard ((row_of s).live.shards at.shard) ≡ at
     next_after s l same is = ap (λ (vs : List Batch). record { shard = at.shard; slot = length vs }) same.0 ∙ is
@@ -79,25 +75,20 @@ module _ (g : Setting) (dead : ℕ → Bool) (old : World) (at : Place) (site lo
       where
         go : IsMade g dead old at w u → IsMade g dead old at w' u
         go (s, l, lt, up, place, left, fate) =
-            ⊎_elim
-            (λ same. (s, l, lt, same ∙ up, place, left, fate))
-            (λ (q : IsEnd e (Server s) × ((w'.servers s).live ≡ Some (row_of s).live)).
-            let t = calm_turn g dead w air next e step s l up q.0 in
-            (s, (row_of s).live, lt, q.1, next_after s l (t.each at.shard).0 place, still_left g (l.shards at.shard) ((row_of s).live.shards at.shard) (t.each at.shard).0 left, turned t (t.each at.shard).1 fate))
-            (server_live g w e s (step_goes g dead w air next e step))
+            lives step (Server s) (λ same. (s, l, lt, same ∙ up, place, left, fate))
+            (λ end now.
+            let t = calm_turn step s l up end in
+            (s, (row_of s).live, lt, now, next_after s l (t.each at.shard).0 place, still_left g (l.shards at.shard) ((row_of s).live.shards at.shard) (t.each at.shard).0 left, turned t (t.each at.shard).1 fate))
           where
-            later : CalmTurn g w s l → IsRefusedBy g dead old at u l.round → IsRefusedBy g dead old at u (row_of s).live.round
-            later t (r, c, lt, live, was, below, le) = (r, c, lt, live, was, below, let more = t.rounds in omega (arith, le, more))
-
             turned : (t : CalmTurn g w s l) → Fate g s (w.servers s).kept l t.input (row_of s).live.round at.shard (l.shards at.shard) ((row_of s).live.shards at.shard) → (ballot_in (l.shards at.shard).proposal ≡ Some u) ⊎ IsRefusedBy g dead old at u l.round → (ballot_in ((row_of s).live.shards at.shard).proposal ≡ Some u) ⊎ IsRefusedBy g dead old at u (row_of s).live.round
-            turned t f (inr refused) = inr (later t refused)
+            turned t f (inr (r, c, lt, live, was, below, le)) = inr (r, c, lt, live, was, below, let more = t.rounds in omega (arith, le, more))
             turned t (inl k) (inl stands) = inl (k.0 ∙ stands)
             turned t (inr (inl d)) (inl stands) = none_some u (sym d.1 ∙ stands)
             turned t (inr (inr (r, b, c, input, was, gone, le))) (inl stands) =
                 inr (refused s lt u is r c (row_of s).live.round (t.opened ∙ ap Some (input ∙ ap (λ q. Deliver (Replica r) (Nack q b c)) place ∙ ap (λ x. Deliver (Replica r) (Nack at x c)) (some_same b u (sym was ∙ stands)))) le)
 
     new : MoreOfBoth g dead old at w' h.most
-    new = with_both g dead old at w' h.most up_after (lasts g (HasCause g) (no_cause g) (cause_kept g) w e h.causes) made_after
+    new = with_both g dead old at w' h.most (sites_up step h.up) (lasts g (HasCause g) (no_cause g) (cause_kept g) w e h.causes) made_after
 
     -- ---- promises
 
@@ -109,12 +100,10 @@ module _ (g : Setting) (dead : ℕ → Bool) (old : World) (at : Place) (site lo
     promise_after : (r : ℕ) → r < g.replicas → dead r ≡ false → Promised h.most (promise_at old r at) (promise_at w' r at)
     promise_after r lt live =
         ⊎_elim by_same
-        (λ (q : IsEnd e (Replica r) × ((w'.replicas r).kept ≡ land land_replica (replica_row (w.replicas r)).note (w.replicas r).kept)). ⊎_elim
-        (λ (t : (i : Input) × ((w.replicas r).opened ≡ Some i) × (replica_row (w.replicas r) ≡ replica_turn (w.replicas r).kept i)).
-        risen t.0 t.1 (q.1 ∙ ap (λ (o : Out (Unit {0})). land land_replica o.note (w.replicas r).kept) t.2) (rises (w.replicas r).kept at t.0))
-        (λ none. by_same (q.1 ∙ ap (λ (o : Out (Unit {0})). land land_replica o.note (w.replicas r).kept) none))
-        (replica_turns (w.replicas r)))
-        (replica_kept g dead w air next e step r)
+        (λ (q : IsEnd e (Replica r) × ((w'.replicas r).kept ≡ land land_replica (replica_row (w.replicas r)).note (w.replicas r).kept)).
+        by_row step (Replica r) q.0 (λ (o : Out (Unit {0})). (w'.replicas r).kept ≡ land land_replica o.note (w.replicas r).kept → Promised h.most (promise_at old r at) (promise_at w' r at))
+        (λ _. by_same) (λ _ _ i o kept. risen i o kept (rises (w.replicas r).kept at i)) q.1)
+        (kept_after step (Replica r))
       where
         now_is : (k : ReplicaKept) → (w'.replicas r).kept ≡ k → promise_at w' r at ≡ (cell_at k at).promised
         now_is k same = ap (λ (k : ReplicaKept). (cell_at k at).promised) same
@@ -135,79 +124,66 @@ module _ (g : Setting) (dead : ℕ → Bool) (old : World) (at : Place) (site lo
     says_fine r lt i o to (Accept p b v) s = absurd s
     says_fine r lt i o to _ s = tt
 
+    -- what a row says of each of its packets
     sent_fine : (x : Sent) → IsSent dead e x → Fine g dead old at new.0 x.to x.packet
-    sent_fine x (Dispatcher s, o, ps, kept, q, m, live) =
-        plain_fine g dead old at new.0 x.to x.packet (sent_has g (Dispatcher s) IsPlain (dispatcher_row g s (w.dispatchers s)).packets ps (subst (λ (y : Entry). May g w y) q step.may).1.2 (dispatcher_row_plain g s (w.dispatchers s)) x m)
-    sent_fine x (Joiner j, o, ps, kept, q, m, live) =
-        plain_fine g dead old at new.0 x.to x.packet (sent_has g (Joiner j) IsPlain (joiner_row g j (w.joiners j)).packets ps (subst (λ (y : Entry). May g w y) q step.may).1.2 (joiner_row_plain g j (w.joiners j)) x m)
+    sent_fine x (Dispatcher s, o, ps, kept, q, m, live) = plain_fine g dead old at new.0 x.to x.packet (each_of_row step IsPlain (Dispatcher s) (o, ps, kept, q) (dispatcher_row_plain g s (w.dispatchers s)) x m)
+    sent_fine x (Joiner j, o, ps, kept, q, m, live) = plain_fine g dead old at new.0 x.to x.packet (each_of_row step IsPlain (Joiner j) (o, ps, kept, q) (joiner_row_plain g j (w.joiners j)) x m)
     sent_fine x (Server s, o, ps, kept, q, m, live) =
-        let may : May g w (End (Server s) o ps kept) = subst (λ (y : Entry). May g w y) q step.may in
-        let u = h.up s may.0 in
-        let t = calm_turn g dead w air next e step s u.0 u.1 (o, ps, kept, q) in
-        asks_fine g dead old at (row_of s).live.shards new.0 x.to live (new.3 s may.0 (row_of s).live (server_now g w e s (o, ps, kept, q))) x.packet
-        (sent_has g (Server s) (Asks (row_of s).live.shards) (row_of s).packets ps may.1.2 t.asks x m)
+        let end : IsEnd e (Server s) = (o, ps, kept, q) in
+        let lt : s < 2 = (ends step (Server s) end).0 in
+        let u = h.up s lt in
+        asks_fine g dead old at (row_of s).live.shards new.0 x.to live (new.3 s lt (row_of s).live (ended_own g w e (Server s) end)) x.packet
+        (each_of_row step (Asks (row_of s).live.shards) (Server s) end (calm_turn step s u.0 u.1 end).asks x m)
     sent_fine x (Replica r, o, ps, kept, q, m, live) =
-        let may : May g w (End (Replica r) o ps kept) = subst (λ (y : Entry). May g w y) q step.may in
-        ⊎_elim
-        (λ (t : (i : Input) × ((w.replicas r).opened ≡ Some i) × (replica_row (w.replicas r) ≡ replica_turn (w.replicas r).kept i)).
-        fine_grows g dead old at h.most new.0 new.1 x.to x.packet
-        (says_fine r may.0 t.0 t.1 x.to x.packet (sent_has g (Replica r) (Says (w.replicas r).kept at t.0) (replica_row (w.replicas r)).packets ps may.1.2 (subst (λ (o : Out (Unit {0})). Each (λ (a : To × Packet). Says (w.replicas r).kept at t.0 a.1) o.packets) (sym t.2) (says (w.replicas r).kept at t.0)) x m)))
-        (λ none. absurd (sent_has g (Replica r) (λ p. ⊥) (replica_row (w.replicas r)).packets ps may.1.2 (subst (λ (o : Out (Unit {0})). Each (λ (a : To × Packet). ⊥) o.packets) (sym none) tt) x m))
-        (replica_turns (w.replicas r))
-
-    packets_after : (x : Sent) → IsNode g x.to → Underway w' next x → Fine g dead old at new.0 x.to x.packet
-    packets_after x is u = ⊎_elim (λ k. fine_grows g dead old at h.most new.0 new.1 x.to x.packet (h.packets x is k)) (sent_fine x) (was_underway g dead w air next e x step.carries u)
+        let end : IsEnd e (Replica r) = (o, ps, kept, q) in
+        by_row step (Replica r) end (λ (out : Out (Unit {0})). out ≡ replica_row (w.replicas r) → Fine g dead old at new.0 x.to x.packet)
+        (λ _ is. absurd (each_of_row step (λ p. ⊥) (Replica r) end (subst (λ (o : Out (Unit {0})). Each (λ (a : To × Packet). ⊥) o.packets) is tt) x m))
+        (λ _ _ i o is. fine_grows g dead old at h.most new.0 new.1 x.to x.packet
+        (says_fine r (ends step (Replica r) end).0 i o x.to x.packet
+        (each_of_row step (Says (w.replicas r).kept at i) (Replica r) end (subst (λ (o : Out (Unit {0})). Each (λ (a : To × Packet). Says (w.replicas r).kept at i a.1) o.packets) is (says (w.replicas r).kept at i)) x m)))
+        refl
 
     -- ---- the server that is to try
 
-    trying_after : site < 2 → IsTrying w' es new.0
+    trying_after : site < 2 → IsTrying w' next es new.0
     trying_after lt = go h.trying
       where
-        go : IsTrying w (e ∷ es) h.most → IsTrying w' es new.0
+        go : IsTrying w air (e ∷ es) h.most → IsTrying w' next es new.0
         go (inr (u, is, le)) = inr (raised new.0 u low (new.1 u (subst (λ o. UpTo o u) (sym is) (inr refl))) le)
-        go (inl (l, up, place, none, le, waits)) = ⊎_elim by_tick (λ free. moved (inr free)) waits
+        go (inl (l, up, place, none, le, waits)) = ⊎_elim (λ t. goes step (Server site) Tick t (λ t. moved (inl t)) (λ end o. ended end (λ _. inr (ticked end o)))) (λ free. moved (inr free)) waits
           where
-            ended : IsEnd e (Server site) → (Keeps (l.shards at.shard) ((row_of site).live.shards at.shard) → HasTick w' es (Server site) ⊎ (((row_of site).live.shards at.shard).held ≡ false)) → IsTrying w' es new.0
+            ended : IsEnd e (Server site) → (Keeps (l.shards at.shard) ((row_of site).live.shards at.shard) → Pending w' next es (Server site) Tick ⊎ (((row_of site).live.shards at.shard).held ≡ false)) → IsTrying w' next es new.0
             ended end waits = by_fate (t.each at.shard).1
               where
                 t : CalmTurn g w site l
-                t = calm_turn g dead w air next e step site l up end
+                t = calm_turn step site l up end
+
+                now : (w'.servers site).live ≡ Some (row_of site).live
+                now = ended_own g w e (Server site) end
 
                 place_now : next_of at.shard ((row_of site).live.shards at.shard) ≡ at
                 place_now = next_after site l (t.each at.shard).0 place
 
-                by_fate : Fate g site (w.servers site).kept l t.input (row_of site).live.round at.shard (l.shards at.shard) ((row_of site).live.shards at.shard) → IsTrying w' es new.0
-                by_fate (inl k) = inl ((row_of site).live, server_now g w e site end, place_now, k.0 ∙ none, (let more = t.rounds in omega (arith, le, more)), waits k)
-                by_fate (inr (inl (b, was, left, is, round))) = inr (raised new.0 b low (new.3 site lt (row_of site).live (server_now g w e site end) b (place_now, is)) (omega (arith, le, round)))
+                by_fate : Fate g site (w.servers site).kept l t.input (row_of site).live.round at.shard (l.shards at.shard) ((row_of site).live.shards at.shard) → IsTrying w' next es new.0
+                by_fate (inl k) = inl ((row_of site).live, now, place_now, k.0 ∙ none, (let more = t.rounds in omega (arith, le, more)), waits k)
+                by_fate (inr (inl (b, was, left, is, round))) = inr (raised new.0 b low (new.3 site lt (row_of site).live now b (place_now, is)) (omega (arith, le, round)))
                 by_fate (inr (inr (r, b, c, input, was, gone, up_to))) = none_some b (sym none ∙ was)
 
             -- a Tick holds nothing back
             ticked : IsEnd e (Server site) → opened_at w (Server site) ≡ Some Tick → ((row_of site).live.shards at.shard).held ≡ false
-            ticked end o =
-                let t = calm_turn g dead w air next e step site l up end in
-                subst (λ (o : Out ServerLive). (o.live.shards at.shard).held ≡ false) (sym (t.row_is ∙ ap (server_turn g site (w.servers site).kept l) (some_same t.input Tick (sym t.opened ∙ o)))) refl
+            ticked end o = subst (λ (o : Out ServerLive). (o.live.shards at.shard).held ≡ false) (sym (turned g w (Server site) l Tick up o)) refl
 
-            moved : HasTick w' es (Server site) ⊎ ((l.shards at.shard).held ≡ false) → IsTrying w' es new.0
-            moved waits =
-                ⊎_elim
-                (λ same. inl (l, same ∙ up, place, none, le, waits))
-                (λ (q : IsEnd e (Server site) × ((w'.servers site).live ≡ Some (row_of site).live)). ended q.0 (λ k. ⊎_elim (λ t. inl t) (λ free. inr (k.1 free)) waits))
-                (server_live g w e site (step_goes g dead w air next e step))
-
-            by_tick : HasTick w (e ∷ es) (Server site) → IsTrying w' es new.0
-            by_tick k =
-                ⊎_elim (λ t. moved (inl t))
-                (λ (q : IsEnd e (Server site) × (opened_at w (Server site) ≡ Some Tick)). ended q.0 (λ k. inr (ticked q.0 q.1)))
-                (tick_goes_on g dead w air next e step es (Server site) k)
+            moved : Pending w' next es (Server site) Tick ⊎ ((l.shards at.shard).held ≡ false) → IsTrying w' next es new.0
+            moved waits = lives step (Server site) (λ same. inl (l, same ∙ up, place, none, le, waits)) (λ end _. ended end (λ k. ⊎_elim (λ t. inl t) (λ free. inr (k.1 free)) waits))
 
     pub duel_goes_on : site < 2 → Duel w' next es
     duel_goes_on lt =
         record {
           most = new.0;
-          up = up_after;
+          up = sites_up step h.up;
           causes = lasts g (HasCause g) (no_cause g) (cause_kept g) w e h.causes;
           promises = λ r lt live. promised_grows (promise_at old r at) (promise_at w' r at) (promise_after r lt live);
-          packets = packets_after;
+          packets = λ x is u. ⊎_elim (λ k. fine_grows g dead old at h.most new.0 new.1 x.to x.packet (h.packets x is k)) (sent_fine x) (was_pending step x u);
           attempts = new.3;
           made = new.2;
           trying = trying_after lt;

@@ -22,13 +22,14 @@ mem_map f [] x m = absurd m
 mem_map f (y ∷ xs) x (inl e) = inl (ap f e)
 mem_map f (y ∷ xs) x (inr m) = inr (mem_map f xs x m)
 
-module _ (g : Setting) (j : ℕ) (k : JoinerKept) (l : JoinerLive) where
-  abbrev pub Sends : Flight → Out JoinerLive → Type 0
-  Sends f o = Mem (Only (Server (site_of_joiner g j)), Claim (insert_of f)) o.packets
+-- its insert is sent to the site's server
+abbrev pub Sends : Setting → ℕ → Flight → Out JoinerLive → Type 0
+Sends g j f o = Mem (Only (Server (site_of_joiner g j)), Claim (insert_of f)) o.packets
 
+module _ (g : Setting) (j : ℕ) (k : JoinerKept) (l : JoinerLive) where
   -- in flight after the row: so before, or begun now, with its insert sent
   abbrev pub Begun : Out JoinerLive → Type 0
-  Begun o = (f : Flight) → Mem f o.live.flight → Mem f l.flight ⊎ ((f.token.joiner ≡ j) × Sends f o)
+  Begun o = (f : Flight) → Mem f o.live.flight → Mem f l.flight ⊎ ((f.token.joiner ≡ j) × Sends g j f o)
 
   -- what was in flight still is, or the row is work
   abbrev pub Flies : Out JoinerLive → Type 0
@@ -63,7 +64,7 @@ module _ (g : Setting) (j : ℕ) (k : JoinerKept) (l : JoinerLive) where
       })
 
   -- a Tick sends the insert of each flight again
-  pub tick_sends : (f : Flight) → Mem f l.flight → Sends f (joiner_turn g j k l Tick)
+  pub tick_sends : (f : Flight) → Mem f l.flight → Sends g j f (joiner_turn g j k l Tick)
   tick_sends f m = mem_map (λ (y : Flight). (Only (Server (site_of_joiner g j)), Claim (insert_of y))) l.flight f m
 
   -- the answer of what is in flight is work

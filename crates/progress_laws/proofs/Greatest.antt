@@ -1,9 +1,11 @@
 -- The greatest attempt of an idle interval at a place: a replica refuses it by a promise that is older than the interval.
-use Rattle.std.proofs.Common.{◌≡◌, ◌⊎◌, inl, inr, ⊎_elim, ℕ, zero, suc, ◌<◌, ◌≤◌, Bool, true, false, ◌==◌, length, Some, None, refl, sym, ap, ◌∙◌, subst, arith, lit<}
+use Rattle.std.proofs.Common.{◌≡◌, ◌⊎◌, inl, inr, ⊎_elim, ℕ, ◌<◌, ◌≤◌, Bool, true, false, ◌==◌, length, Some, None, refl, sym, ap, ◌∙◌, subst, lit<}
 use Rattle.std.specs.Prelude.{Option}
 use Rattle.std.proofs.lemmas.Bool.{eqb-true, eq-eqb, true≢false}
 use Rattle.photon_model.proofs.Words.{Ballot, IsBelow, IsUpTo, compared, upto_trans, Place, none_some, some_same, Setting, Packet, Prepare, Accept, Nack, Node, ServerLive, ShardState, World, is_out}
 use Rattle.photon_model.proofs.Agreeing.{IsPlain}
+use Rattle.photon_model.proofs.Worlds.{of_two}
+use Rattle.progress_laws.proofs.Moments.{SitesUp}
 use Rattle.progress_laws.specs.Moves.{is_left, next_of, promise_at}
 use Rattle.progress_laws.proofs.Turning.{ballot_in, Stands, Asks}
 use Rattle.progress_laws.proofs.Lasting.{OfShards, OfAllShards, HasCause}
@@ -103,14 +105,11 @@ module _ (g : Setting) (dead : ℕ → Bool) (old : World) (at : Place) where
       by_ballot None e = keep (λ c h. none_some c (sym e ∙ h.1))
       by_ballot (Some b) e = by_slot b e (length (l.shards at.shard).learned == at.slot) refl
 
-  abbrev pub BothUp : World → Type 0
-  BothUp w = (s : ℕ) → s < 2 → (l : ServerLive) × ((w.servers s).live ≡ Some l)
-
   abbrev pub MoreOfBoth : World → Option Ballot → Type 0
   MoreOfBoth w m = (n : Option Ballot) × Grows m n × ((u : Ballot) → n ≡ Some u → IsMade w u) × ((s : ℕ) → s < 2 → (l : ServerLive) → (w.servers s).live ≡ Some l → AttemptUpTo n l)
 
   -- with both servers' attempts
-  pub with_both : (w : World) (m : Option Ballot) → BothUp w → OfAllShards (HasCause g) w → ((u : Ballot) → m ≡ Some u → IsMade w u) → MoreOfBoth w m
+  pub with_both : (w : World) (m : Option Ballot) → SitesUp w → OfAllShards (HasCause g) w → ((u : Ballot) → m ≡ Some u → IsMade w u) → MoreOfBoth w m
   with_both w m up cause made = (b.0, λ x h. b.1 x (a.1 x h), b.2, each)
     where
       causes : (s : ℕ) (l : ServerLive) → (w.servers s).live ≡ Some l → HasCause g (l.shards at.shard)
@@ -123,6 +122,7 @@ module _ (g : Setting) (dead : ℕ → Bool) (old : World) (at : Place) where
       b = let u = up 1 (lit< tt) in with_one w a.0 1 u.0 (lit< tt) u.1 (causes 1 u.0 u.1) a.2
 
       each : (s : ℕ) → s < 2 → (l : ServerLive) → (w.servers s).live ≡ Some l → AttemptUpTo b.0 l
-      each zero lt l e = subst (AttemptUpTo b.0) (some_same (up 0 (lit< tt)).0 l (sym (up 0 (lit< tt)).1 ∙ e)) (λ c h. b.1 c (a.3 c h))
-      each (suc zero) lt l e = subst (AttemptUpTo b.0) (some_same (up 1 (lit< tt)).0 l (sym (up 1 (lit< tt)).1 ∙ e)) b.3
-      each (suc (suc s)) lt l e = absurd (omega (arith, lt))
+      each =
+          of_two (λ s. (l : ServerLive) → (w.servers s).live ≡ Some l → AttemptUpTo b.0 l)
+          (λ l e. subst (AttemptUpTo b.0) (some_same _ l (sym (up 0 (lit< tt)).1 ∙ e)) (λ c h. b.1 c (a.3 c h)))
+          (λ l e. subst (AttemptUpTo b.0) (some_same _ l (sym (up 1 (lit< tt)).1 ∙ e)) b.3)

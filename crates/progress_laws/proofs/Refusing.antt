@@ -2,30 +2,34 @@
 use Rattle.std.proofs.Common.{◌≡◌, ◌⊎◌, inl, inr, ⊎_elim, ℕ, zero, suc, ◌+◌, ◌*◌, ◌<◌, ◌≤◌, Bool, true, false, cond, ◌||◌, nat_lt, List, ◌∷◌, length, Some, None, refl, sym, ap, ◌∙◌, subst, arith, []}
 use Rattle.std.specs.Prelude.{Option, not, is_some, slice_get}
 use Rattle.std.proofs.lemmas.Bool.{true≢false, cases_lt, lt-ltb, or_left}
-use Rattle.photon_model.proofs.Words.{Ballot, marked, Majority, Batch, same_batch, bound_of, Place, Prepared, Taken, on_prepare, on_accept, Grant, Refuse, Take, Decline, Phase, is_most, Promising, Accepting, Ended, Mem, none_some, some_same, Setting, shards, Out, is_empty, Packet, Node, Server, Replica, Only, Input, Tick, Deliver, Sent, ServerKept, ServerLive, Proposal, first_shard, is_free, shard_unfinished, server_unfinished, server_start, server_turn, ReplicaKept, cell_at, prepared, taken, replica_start, replica_turn, IfUp, World, Entry, Disks, row, server_row, replica_row, after, world_after, opening, if_up, is_unfinished}
+use Rattle.photon_model.proofs.Words.{Ballot, marked, Majority, Batch, same_batch, bound_of, Place, Prepared, Taken, on_prepare, on_accept, Grant, Refuse, Take, Decline, Phase, is_most, Promising, Accepting, Ended, Mem, some_same, Setting, shards, Out, is_empty, Packet, Node, Server, Replica, Only, Input, Tick, Deliver, Sent, ServerKept, ServerLive, Proposal, first_shard, is_free, shard_unfinished, server_unfinished, server_turn, ReplicaKept, cell_at, prepared, taken, replica_turn, IfUp, World, Entry, Disks, server_row, after, world_after, opening, if_up, is_unfinished}
 use Rattle.progress_laws.specs.Idle.{IsIdle}
 use Rattle.progress_laws.specs.Moves.{next_of}
-use Rattle.progress_laws.proofs.Transit.{opened_at, Underway, arrives, HasTick}
-use Rattle.progress_laws.proofs.Phases.{IsOpen, IfOpen, AreOpen, question, IsAnswer, HasMark, PhaseGoes}
+use Rattle.progress_laws.proofs.Moments.{opened_at, IsEnd, Step, along_idle, Pending, none_pending, comes, SitesUp, turned, ended_own, lives, up_after, sites_up, by_turn, goes, row_sent_to}
+use Rattle.std.proofs.lemmas.Option.{slice_get_within}
+use Rattle.progress_laws.proofs.Phases.{IsOpen, IfOpen, AreOpen, question, IsAnswer, HasMark}
 use Rattle.progress_laws.proofs.Asking.{Counts, answer_counts, tick_asks}
 use Rattle.progress_laws.proofs.Turning.{AsksAll, IsKept, AllFollow, LiveOpen, turns}
-use Rattle.progress_laws.proofs.Ticking.{comes, passes}
 use Rattle.progress_laws.proofs.Lasting.{lasts, after_run}
-use Rattle.progress_laws.proofs.Ending.{IsEnd, server_now, server_live, replica_live, row_up}
-use Rattle.progress_laws.proofs.Calm.{Step, step_goes, along_idle, server_waits, row_sent_to, goes_on, tick_goes_on}
 use Rattle.photon_model.proofs.Worlds.{up_is}
+
+-- the question is underway to a replica
+abbrev IsAsked : World → List Sent → List Entry → ℕ → ℕ → Place → Ballot → Phase Batch → Type 0
+IsAsked w air es s r at b y = Pending w air es (Replica r) (Deliver (Server s) (question at b y))
+
+-- its answer is underway to the server
+abbrev IsAnswered : World → List Sent → List Entry → ℕ → ℕ → Place → Ballot → Phase Batch → Type 0
+IsAnswered w air es s r at b y = (q : Packet) × IsAnswer at b y q × Pending w air es (Server s) (Deliver (Replica r) q)
 
 module _ (g : Setting) (dead : ℕ → Bool) (w : World) (air : List Sent) (es : List Entry) where
   -- With a replica an attempt goes on: it is counted, or the question is underway to it, or its answer to the server, or the
   -- server has a Tick.
   abbrev pub AttemptGoesOn : ℕ → Place → Proposal → ℕ → Type 0
-  AttemptGoesOn s at p r =
-      (HasMark r p.phase ⊎ Underway w air (record { from = Server s; to = Replica r; packet = question at p.ballot p.phase }))
-      ⊎ (((q : Packet) × IsAnswer at p.ballot p.phase q × Underway w air (record { from = Replica r; to = Server s; packet = q })) ⊎ HasTick w es (Server s))
+  AttemptGoesOn s at p r = (HasMark r p.phase ⊎ IsAsked w air es s r at p.ballot p.phase) ⊎ (IsAnswered w air es s r at p.ballot p.phase ⊎ Pending w air es (Server s) Tick)
 
   -- Servers and replicas that take part are up, and each attempt at a shard of the table goes on with each such replica.
   pub record AttemptsGoOn : Type 0 where
-    pub servers : (s : ℕ) → s < 2 → (l : ServerLive) × ((w.servers s).live ≡ Some l)
+    pub servers : SitesUp w
     pub replicas : (r : ℕ) → r < g.replicas → dead r ≡ false → (u : Unit {0}) × ((w.replicas r).live ≡ Some u)
     pub open_ : AreOpen g w
     pub each :
@@ -58,24 +62,14 @@ replica_answers n k from at b (Promising marks best) o = (prepared at b (on_prep
 replica_answers n k from at b (Accepting v marks) o = (taken at b (on_accept same_batch (cell_at k at) b v).1, accept_answers at b v marks (on_accept same_batch (cell_at k at) b v).1, inl refl)
 replica_answers n k from at b Ended o = absurd o
 
-module _ (g : Setting) (dead : ℕ → Bool) (w : World) (air next : List Sent) (e : Entry) (es : List Entry) (step : Step g dead w air next e) where
-  abbrev w' : World
-  w' = after g w e
-
-  abbrev IsAsked : ℕ → ℕ → Place → Ballot → Phase Batch → World → List Sent → Type 0
-  IsAsked s r at b y v sent = Underway v sent (record { from = Server s; to = Replica r; packet = question at b y })
-
-  abbrev IsAnswered : ℕ → ℕ → Place → Ballot → Phase Batch → World → List Sent → Type 0
-  IsAnswered s r at b y v sent = (q : Packet) × IsAnswer at b y q × Underway v sent (record { from = Replica r; to = Server s; packet = q })
-
-  question_moves : (s r : ℕ) (at : Place) (b : Ballot) (y : Phase Batch) → IsOpen g.replicas y → (u : Unit {0}) → (w.replicas r).live ≡ Some u → IsAsked s r at b y w air → IsAsked s r at b y w' next ⊎ IsAnswered s r at b y w' next
+module _ {g : Setting} {dead : ℕ → Bool} {w : World} {air next : List Sent} {e : Entry} {es : List Entry} (step : Step g dead w air next e es) where
+  -- a replica's open question is answered
+  question_moves : (s r : ℕ) (at : Place) (b : Ballot) (y : Phase Batch) → IsOpen g.replicas y → (u : Unit {0}) → (w.replicas r).live ≡ Some u → IsAsked w air (e ∷ es) s r at b y → IsAsked (after g w e) next es s r at b y ⊎ IsAnswered (after g w e) next es s r at b y
   question_moves s r at b y o u up asked =
-      ⊎_elim (λ k. inl k)
-      (λ (h : IsEnd e (Replica r) × (opened_at w (Replica r) ≡ Some (Deliver (Server s) (question at b y)))).
-      let row_is : replica_row (w.replicas r) ≡ replica_turn (w.replicas r).kept (Deliver (Server s) (question at b y)) = ap (λ (x : Option (Unit {0})). row replica_start (λ k l i. replica_turn k i) (w.replicas r).kept x (w.replicas r).opened) up ∙ ap (λ (x : Option Input). row replica_start (λ k l i. replica_turn k i) (w.replicas r).kept (Some u) x) h.1 in
+      goes step (Replica r) (Deliver (Server s) (question at b y)) asked (λ k. inl k)
+      (λ end opened.
       let a = replica_answers g.replicas (w.replicas r).kept (Server s) at b y o in
-      inr (a.0, a.1, row_sent_to g dead w air next e step (Replica r) (replica_row (w.replicas r)).packets (λ o ps kept q. q.1.2) h.0 (Server s) a.0 (subst (λ (x : Out (Unit {0})). Mem (Only (Server s), a.0) x.packets) (sym row_is) a.2) refl))
-      (goes_on g dead w air next e step (record { from = Server s; to = Replica r; packet = question at b y }) asked)
+      inr (a.0, a.1, row_sent_to step (Replica r) end (Server s) a.0 (subst (λ (x : Out (Unit {0})). Mem (Only (Server s), a.0) x.packets) (sym (turned g w (Replica r) u (Deliver (Server s) (question at b y)) up opened)) a.2) refl))
 
   -- ---- a server's turn
 
@@ -83,96 +77,65 @@ module _ (g : Setting) (dead : ℕ → Bool) (w : World) (air next : List Sent) 
     abbrev r_out : Out ServerLive
     r_out = server_row g s (w.servers s)
 
+    -- a proposal of the row goes on
+    abbrev RowGoesOn : Proposal → Type 0
+    RowGoesOn p = AttemptGoesOn g dead (after g w e) next es s (next_of k (r_out.live.shards k)) p r
+
     opens_of : (p : Proposal) → (l.shards k).proposal ≡ Some p → IsOpen g.replicas p.phase
     opens_of p q = subst (IfOpen g.replicas) q (subst (IfUp (λ (l : ServerLive). (k : ℕ) → IfOpen g.replicas (l.shards k).proposal)) up (h.open_ s) k)
 
-    asked_all : IsEnd e (Server s) → (p : Proposal) → AsksAll g s (w.servers s).kept l k (r_out.live.shards k) p r_out.packets → AttemptGoesOn g dead w' next es s (next_of k (r_out.live.shards k)) p r
-    asked_all end p all = inl (inr (row_sent_to g dead w air next e step (Server s) r_out.packets (λ o ps kept q. q.1.2) end (Replica r) (question (next_of k (r_out.live.shards k)) p.ballot p.phase) (all r is) live))
+    asked_all : IsEnd e (Server s) → (p : Proposal) → AsksAll g s (w.servers s).kept l k (r_out.live.shards k) p r_out.packets → RowGoesOn p
+    asked_all end p all = inl (inr (row_sent_to step (Server s) end (Replica r) (question (next_of k (r_out.live.shards k)) p.ballot p.phase) (all r is) live))
 
-    row_of : (i : Input) → opened_at w (Server s) ≡ Some i → r_out ≡ server_turn g s (w.servers s).kept l i
-    row_of i o = ap (λ (x : Option ServerLive). row server_start (server_turn g s) (w.servers s).kept x (w.servers s).opened) up ∙ ap (λ (x : Option Input). row server_start (server_turn g s) (w.servers s).kept (Some l) x) o
-
-    follows : AllFollow g s (w.servers s).kept l r_out
-    follows =
-        subst (λ (o : Option ServerLive). AllFollow g s (w.servers s).kept l (row server_start (server_turn g s) (w.servers s).kept o (w.servers s).opened)) (sym up)
-        (row_up server_start (server_turn g s) (w.servers s).kept l (AllFollow g s (w.servers s).kept l) (λ i. (turns g s (w.servers s).kept l i).follows) (w.servers s).opened)
-
-    -- the turn took an answer to the attempt
-    counted : IsEnd e (Server s) → (old : Proposal) (stands : (l.shards k).proposal ≡ Some old) (q : Packet) → IsAnswer (next_of k (l.shards k)) old.ballot old.phase q → opened_at w (Server s) ≡ Some (Deliver (Replica r) q) → (p : Proposal) → (r_out.live.shards k).proposal ≡ Some p → AttemptGoesOn g dead w' next es s (next_of k (r_out.live.shards k)) p r
-    counted end old stands q a o p now =
-        ⊎_elim (λ all. asked_all end p all) (λ m. inl (inl m))
-        (subst (λ (x : Out ServerLive). Counts g s (w.servers s).kept l k below old stands (opens_of old stands) r x) (sym (row_of (Deliver (Replica r) q) o)) (answer_counts g s (w.servers s).kept l k below old stands (opens_of old stands) r is q a) p now)
-
-    -- the turn took a Tick
-    ticked : IsEnd e (Server s) → (old : Proposal) (stands : (l.shards k).proposal ≡ Some old) → opened_at w (Server s) ≡ Some Tick → (p : Proposal) → (r_out.live.shards k).proposal ≡ Some p → AttemptGoesOn g dead w' next es s (next_of k (r_out.live.shards k)) p r
-    ticked end old stands o p now = asked_all end p (subst (λ (x : Out ServerLive). (x.live.shards k).proposal ≡ Some p → AsksAll g s (w.servers s).kept l k (x.live.shards k) p x.packets) (sym (row_of Tick o)) asks now)
+    -- the attempt goes on, unless the server's turn ends; then this is what becomes of it
+    unless_ended : (p : Proposal) → (l.shards k).proposal ≡ Some p → {X : Type 0} → (AttemptGoesOn g dead (after g w e) next es s (next_of k (l.shards k)) p r → X) → (IsEnd e (Server s) → ((q : Packet) × IsAnswer (next_of k (l.shards k)) p.ballot p.phase q × (opened_at w (Server s) ≡ Some (Deliver (Replica r) q))) ⊎ (opened_at w (Server s) ≡ Some Tick) → X) → X
+    unless_ended p stands {X} still ended = go (h.each s lt l up k below p stands r is live)
       where
-        asks : (l.shards k).proposal ≡ Some p → AsksAll g s (w.servers s).kept l k ((server_turn g s (w.servers s).kept l Tick).live.shards k) p (server_turn g s (w.servers s).kept l Tick).packets
-        asks q = tick_asks g s (w.servers s).kept l k below p q (opens_of p q)
+        go : AttemptGoesOn g dead w air (e ∷ es) s (next_of k (l.shards k)) p r → X
+        go (inl (inl m)) = still (inl (inl m))
+        go (inl (inr u)) = let v = h.replicas r is live in ⊎_elim (λ y. still (inl (inr y))) (λ y. still (inr (inl y))) (question_moves s r (next_of k (l.shards k)) p.ballot p.phase (opens_of p stands) v.0 v.1 u)
+        go (inr (inl (q, a, u))) = goes step (Server s) (Deliver (Replica r) q) u (λ y. still (inr (inl (q, a, y)))) (λ end o. ended end (inl (q, a, o)))
+        go (inr (inr t)) = goes step (Server s) Tick t (λ y. still (inr (inr y))) (λ end o. ended end (inr o))
+
+    -- the turn took an answer to the attempt, or a Tick
+    took : IsEnd e (Server s) → (old : Proposal) (stands : (l.shards k).proposal ≡ Some old) → ((q : Packet) × IsAnswer (next_of k (l.shards k)) old.ballot old.phase q × (opened_at w (Server s) ≡ Some (Deliver (Replica r) q))) ⊎ (opened_at w (Server s) ≡ Some Tick) → (p : Proposal) → (r_out.live.shards k).proposal ≡ Some p → RowGoesOn p
+    took end old stands (inl (q, a, o)) p now =
+        ⊎_elim (λ all. asked_all end p all) (λ m. inl (inl m))
+        (subst (λ (x : Out ServerLive). Counts g s (w.servers s).kept l k below old stands (opens_of old stands) r x) (sym (turned g w (Server s) l (Deliver (Replica r) q) up o)) (answer_counts g s (w.servers s).kept l k below old stands (opens_of old stands) r is q a) p now)
+    took end old stands (inr o) p now = asked_all end p (subst (λ (x : Out ServerLive). (x.live.shards k).proposal ≡ Some p → AsksAll g s (w.servers s).kept l k (x.live.shards k) p x.packets) (sym (turned g w (Server s) l Tick up o)) (λ q. tick_asks g s (w.servers s).kept l k below p q (opens_of p q)) now)
 
     -- what becomes of it in the server's turn
-    ended : IsEnd e (Server s) → (p : Proposal) → (r_out.live.shards k).proposal ≡ Some p → AttemptGoesOn g dead w' next es s (next_of k (r_out.live.shards k)) p r
-    ended end p now = ⊎_elim (λ all. asked_all end p all) (λ (x : IsKept g s (w.servers s).kept l k (r_out.live.shards k) p). kept x.0 x.1 x.2 x.3 x.4 (h.each s lt l up k below x.0 x.1 r is live)) (follows k p now)
+    ended : IsEnd e (Server s) → (p : Proposal) → (r_out.live.shards k).proposal ≡ Some p → RowGoesOn p
+    ended end p now = ⊎_elim (λ all. asked_all end p all) kept (follows k p now)
       where
-        kept : (old : Proposal) → (l.shards k).proposal ≡ Some old → (r_out.live.shards k).learned ≡ (l.shards k).learned → p.ballot ≡ old.ballot → PhaseGoes old.phase p.phase → AttemptGoesOn g dead w air (e ∷ es) s (next_of k (l.shards k)) old r → AttemptGoesOn g dead w' next es s (next_of k (r_out.live.shards k)) p r
-        kept old stands learned ballot goes x = go x
+        follows : AllFollow g s (w.servers s).kept l r_out
+        follows = by_turn step (Server s) l up end (AllFollow g s (w.servers s).kept l) (λ i _. (turns g s (w.servers s).kept l i).follows)
+
+        kept : IsKept g s (w.servers s).kept l k (r_out.live.shards k) p → RowGoesOn p
+        kept (old, stands, learned, ballot, goes) = unless_ended old stands still (λ end x. took end old stands x p now)
           where
             at_is : next_of k (l.shards k) ≡ next_of k (r_out.live.shards k)
             at_is = ap (λ (vs : List Batch). record { shard = k; slot = length vs }) (sym learned)
 
-            still_asked : IsAsked s r (next_of k (l.shards k)) old.ballot old.phase w' next → AttemptGoesOn g dead w' next es s (next_of k (r_out.live.shards k)) p r
-            still_asked u = inl (inr (subst (λ (q : Packet). Underway w' next (record { from = Server s; to = Replica r; packet = q })) (ap (λ a. question a old.ballot old.phase) at_is ∙ ap (λ b. question (next_of k (r_out.live.shards k)) b old.phase) (sym ballot) ∙ goes.asks (next_of k (r_out.live.shards k)) p.ballot) u))
+            still : AttemptGoesOn g dead (after g w e) next es s (next_of k (l.shards k)) old r → RowGoesOn p
+            still (inl (inl m)) = inl (inl (goes.marks r m))
+            still (inl (inr u)) = inl (inr (subst (λ (q : Packet). Pending (after g w e) next es (Replica r) (Deliver (Server s) q)) (ap (λ a. question a old.ballot old.phase) at_is ∙ ap (λ b. question (next_of k (r_out.live.shards k)) b old.phase) (sym ballot) ∙ goes.asks (next_of k (r_out.live.shards k)) p.ballot) u))
+            still (inr (inl (q, a, u))) = inr (inl (q, goes.hears (next_of k (r_out.live.shards k)) p.ballot q (subst (λ b. IsAnswer (next_of k (r_out.live.shards k)) b old.phase q) (sym ballot) (subst (λ at. IsAnswer at old.ballot old.phase q) at_is a)), u))
+            still (inr (inr t)) = inr (inr t)
 
-            still_answered : IsAnswered s r (next_of k (l.shards k)) old.ballot old.phase w' next → AttemptGoesOn g dead w' next es s (next_of k (r_out.live.shards k)) p r
-            still_answered (q, a, u) = inr (inl (q, goes.hears (next_of k (r_out.live.shards k)) p.ballot q (subst (λ b. IsAnswer (next_of k (r_out.live.shards k)) b old.phase q) (sym ballot) (subst (λ at. IsAnswer at old.ballot old.phase q) at_is a)), u))
-
-            go : AttemptGoesOn g dead w air (e ∷ es) s (next_of k (l.shards k)) old r → AttemptGoesOn g dead w' next es s (next_of k (r_out.live.shards k)) p r
-            go (inl (inl m)) = inl (inl (goes.marks r m))
-            go (inl (inr u)) = let v = h.replicas r is live in ⊎_elim still_asked still_answered (question_moves s r (next_of k (l.shards k)) old.ballot old.phase (opens_of old stands) v.0 v.1 u)
-            go (inr (inl (q, a, u))) =
-                ⊎_elim (λ y. still_answered (q, a, y))
-                (λ (y : IsEnd e (Server s) × (opened_at w (Server s) ≡ Some (Deliver (Replica r) q))). counted y.0 old stands q a y.1 p now)
-                (goes_on g dead w air next e step (record { from = Replica r; to = Server s; packet = q }) u)
-            go (inr (inr t)) =
-                ⊎_elim (λ y. inr (inr y))
-                (λ (y : IsEnd e (Server s) × (opened_at w (Server s) ≡ Some Tick)). ticked y.0 old stands y.1 p now)
-                (tick_goes_on g dead w air next e step es (Server s) t)
-
-    -- or while it has none
-    unmoved : (p : Proposal) → (l.shards k).proposal ≡ Some p → ((IsEnd e (Server s)) → AttemptGoesOn g dead w' next es s (next_of k (l.shards k)) p r) → AttemptGoesOn g dead w' next es s (next_of k (l.shards k)) p r
-    unmoved p stands at_end = go (h.each s lt l up k below p stands r is live)
-      where
-        go : AttemptGoesOn g dead w air (e ∷ es) s (next_of k (l.shards k)) p r → AttemptGoesOn g dead w' next es s (next_of k (l.shards k)) p r
-        go (inl (inl m)) = inl (inl m)
-        go (inl (inr u)) = let v = h.replicas r is live in ⊎_elim (λ y. inl (inr y)) (λ y. inr (inl y)) (question_moves s r (next_of k (l.shards k)) p.ballot p.phase (opens_of p stands) v.0 v.1 u)
-        go (inr (inl (q, a, u))) =
-            ⊎_elim (λ y. inr (inl (q, a, y)))
-            (λ (y : IsEnd e (Server s) × (opened_at w (Server s) ≡ Some (Deliver (Replica r) q))). at_end y.0)
-            (goes_on g dead w air next e step (record { from = Replica r; to = Server s; packet = q }) u)
-        go (inr (inr t)) =
-            ⊎_elim (λ y. inr (inr y))
-            (λ (y : IsEnd e (Server s) × (opened_at w (Server s) ≡ Some Tick)). at_end y.0)
-            (tick_goes_on g dead w air next e step es (Server s) t)
-
-  pub attempts_go_on : AttemptsGoOn g dead w air (e ∷ es) → AttemptsGoOn g dead w' next es
+  pub attempts_go_on : AttemptsGoOn g dead w air (e ∷ es) → AttemptsGoOn g dead (after g w e) next es
   attempts_go_on h =
       record {
-        servers = λ s lt. let u = h.servers s lt in let v = server_waits g dead w air next e step s u.0 u.1 in (v.0, v.1);
-        replicas = λ r lt live. let u = h.replicas r lt live in ⊎_elim
-            (λ same. (u.0, same ∙ u.1))
-            (λ (q : IsEnd e (Replica r) × ((w'.replicas r).live ≡ Some (replica_row (w.replicas r)).live)). ((replica_row (w.replicas r)).live, q.1))
-            (replica_live g w e r (step_goes g dead w air next e step));
+        servers = sites_up step h.servers;
+        replicas = λ r lt live. let u = h.replicas r lt live in up_after step (Replica r) u.0 u.1;
         open_ = open_kept g w e h.open_;
         each = λ s lt l now k below p stands r is live.
             let u = h.servers s lt in
-            let at_end : IsEnd e (Server s) → AttemptGoesOn g dead w' next es s (next_of k (l.shards k)) p r = λ end. (
-            let l_is : (server_row g s (w.servers s)).live ≡ l = some_same _ l (sym (server_now g w e s end) ∙ now) in
-            subst (λ (m : ServerLive). (m.shards k).proposal ≡ Some p → AttemptGoesOn g dead w' next es s (next_of k (m.shards k)) p r) l_is (ended h s lt u.0 u.1 k below r is live end p) stands
+            let at_end : IsEnd e (Server s) → AttemptGoesOn g dead (after g w e) next es s (next_of k (l.shards k)) p r = λ end. (
+            let l_is : (server_row g s (w.servers s)).live ≡ l = some_same _ l (sym (ended_own g w e (Server s) end) ∙ now) in
+            subst (λ (m : ServerLive). (m.shards k).proposal ≡ Some p → AttemptGoesOn g dead (after g w e) next es s (next_of k (m.shards k)) p r) l_is (ended h s lt u.0 u.1 k below r is live end p) stands
             ) in
-            ⊎_elim
-            (λ same. unmoved h s lt l (sym same ∙ now) k below r is live p stands at_end)
-            (λ (q : IsEnd e (Server s) × ((w'.servers s).live ≡ Some (server_row g s (w.servers s)).live)). at_end q.0)
-            (server_live g w e s (step_goes g dead w air next e step));
+            lives step (Server s) (λ same. unless_ended h s lt l (sym same ∙ now) k below r is live p stands (λ y. y) (λ end _. at_end end)) (λ end _. at_end end);
       }
 
 -- ---- along an interval
@@ -200,11 +163,6 @@ more_marked (x ∷ xs) (y ∷ ys) e h = go x y (h 0) (more_marked xs ys (omega (
     go false true f le = omega (arith, le)
     go false false f le = le
 
-in_range : (xs : List Bool) (r : ℕ) (b : Bool) → slice_get xs r ≡ Some b → r < length xs
-in_range [] r b e = none_some b e
-in_range (x ∷ xs) zero b e = omega arith
-in_range (x ∷ xs) (suc r) b e = let h = in_range xs r b e in omega (arith, h)
-
 module _ (g : Setting) (dead : ℕ → Bool) (w : World) (es : List Entry) (most : Majority g.replicas (λ r. dead r ≡ false)) (i : IsIdle g dead w es) where
   unfinished : (s : ℕ) (l : ServerLive) → (w.servers s).live ≡ Some l → (k : ℕ) → k < shards g → (p : Proposal) → (l.shards k).proposal ≡ Some p → is_unfinished g w (Server s) ≡ true
   unfinished s l up k below p stands = unfinished_at g w s l up k below (or_left (not (is_free (l.shards k).proposal) || (l.shards k).held) (not (is_empty (l.shards k).queue) || nat_lt (bound_of (l.shards k).learned) g.horizon) (or_left (not (is_free (l.shards k).proposal)) (l.shards k).held (ap (λ o. not (is_free o)) stands)))
@@ -215,14 +173,14 @@ module _ (g : Setting) (dead : ℕ → Bool) (w : World) (es : List Entry) (most
         servers = λ s lt. let u = up_is _ (w.servers s).live (i.interval.starts.servers s lt).1 in (u.0, u.1);
         replicas = λ r lt live. let u = up_is _ (w.replicas r).live (i.interval.starts.replicas r lt live).1 in (u.0, u.1);
         open_ = o;
-        each = λ s lt l up k below p stands r is live. inr (inr (comes g dead w es (Server s) i.interval lt (unfinished s l up k below p stands)));
+        each = λ s lt l up k below p stands r is live. inr (inr (comes g dead w es i.interval (Server s) lt (unfinished s l up k below p stands)));
       }
 
   abbrev v : World
   v = world_after g w es
 
   ends : AreOpen g w → AttemptsGoOn g dead v [] []
-  ends o = along_idle g dead (AttemptsGoOn g dead) (λ w air next e es step h. attempts_go_on g dead w air next e es step h) es w i (begins o)
+  ends o = along_idle g dead (AttemptsGoOn g dead) (λ w air next e es step. attempts_go_on step) es w i (begins o)
 
   -- at the quiet end each replica that takes part is counted, so a majority is
   no_majority : (p : Proposal) → IsOpen g.replicas p.phase → ((r : ℕ) → r < g.replicas → dead r ≡ false → HasMark r p.phase) → ⊥
@@ -232,7 +190,7 @@ module _ (g : Setting) (dead : ℕ → Bool) (w : World) (es : List Entry) (most
       too_many marks n few h =
           let members = most.members in
           let more = most.more in
-          let le = more_marked most.marks marks (members ∙ sym n) (λ r q. h r (let lt = in_range most.marks r true q in omega (arith, lt, members)) (most.each r q)) in
+          let le = more_marked most.marks marks (members ∙ sym n) (λ r q. h r (let lt = slice_get_within most.marks r true q in omega (arith, lt, members)) (most.each r q)) in
           true≢false (sym (lt-ltb (length marks) (2 * marked marks) (omega (arith, n, more, le))) ∙ few)
 
       go : (y : Phase Batch) → IsOpen g.replicas y → ((r : ℕ) → r < g.replicas → dead r ≡ false → HasMark r y) → ⊥
@@ -252,6 +210,6 @@ module _ (g : Setting) (dead : ℕ → Bool) (w : World) (es : List Entry) (most
             where
               only : AttemptGoesOn g dead v [] [] s (next_of k (l.shards k)) p r → HasMark r p.phase
               only (inl (inl m)) = m
-              only (inl (inr u)) = absurd (arrives g dead v (record { from = Server s; to = Replica r; packet = question (next_of k (l.shards k)) p.ballot p.phase }) i.interval.ends is live u)
-              only (inr (inl (q, a, u))) = absurd (arrives g dead v (record { from = Replica r; to = Server s; packet = q }) i.interval.ends lt refl u)
-              only (inr (inr t)) = absurd (passes g dead v (Server s) i.interval.ends lt refl t)
+              only (inl (inr u)) = absurd (none_pending g dead v i.interval.ends (Replica r) is live _ u)
+              only (inr (inl (q, a, u))) = absurd (none_pending g dead v i.interval.ends (Server s) lt refl _ u)
+              only (inr (inr t)) = absurd (none_pending g dead v i.interval.ends (Server s) lt refl Tick t)

@@ -10,7 +10,8 @@ use Rattle.progress_laws.proofs.Waiting.{IsLeftAt}
 use Rattle.progress_laws.proofs.Claims.{HasFlight, HasOwnTokens, flight_stays, asks}
 use Rattle.photon_model.proofs.Worlds.{up_is}
 use Rattle.progress_laws.proofs.Trying.{HasLines, IsLineAt, IsTried, HasTried, tries}
-use Rattle.progress_laws.proofs.Calm.{along_idle, left_stays}
+use Rattle.progress_laws.proofs.Calm.{left_stays}
+use Rattle.progress_laws.proofs.Moments.{along_idle}
 
 -- an attempt at the shard's next slot stands, or was refused since the last Tick
 abbrev pub IsAttempted : ShardState → Type 0
@@ -70,10 +71,10 @@ module _ (g : Setting) (dead : ℕ → Bool) (table : IsTable g.table) (w : Worl
   v = world_after g w es
 
   left : (s : ℕ) → IsLeftAt g w s → IsLeftAt g (world_after g w es) s
-  left s = along_idle g dead (λ w air es. IsLeftAt g w s) (λ w air next e es step. left_stays g dead w air next e step s) es w i
+  left s = along_idle g dead (λ w air es. IsLeftAt g w s) (λ w air next e es step. left_stays step s) es w i
 
   flight : (s : ℕ) → HasFlight g w s → HasFlight g (world_after g w es) s
-  flight s = along_idle g dead (λ w air es. HasFlight g w s) (λ w air next e es step. flight_stays g dead table w air next e es step s) es w i
+  flight s = along_idle g dead (λ w air es. HasFlight g w s) (λ w air next e es step. flight_stays step s) es w i
 
   server_left : (s : ℕ) → UpWith (λ l. server_at_rest g l ≡ false) (w.servers s).live → IsLeftAt g w s
   server_left s u =
@@ -127,6 +128,6 @@ module _ (g : Setting) (dead : ℕ → Bool) (table : IsTable g.table) (w : Worl
         flight = flight;
         servers = λ s u. left s (server_left s u);
         joiners = λ j is u. asks g dead table w es i own (site_of_joiner g j) (flight (site_of_joiner g j) (joiner_flies j is u));
-        dispatchers = λ s lt u. let t = dispatcher_tried s lt u in asks g dead table w es i own s (tries g dead table w es i s t.0 lt t.1);
+        dispatchers = λ s lt u. let t = dispatcher_tried s lt u in asks g dead table w es i own s (tries g dead w es i s t.0 lt t.1);
         attempted = attempted;
       }

@@ -2,15 +2,11 @@
 use Rattle.std.proofs.Common.{◌≡◌, ◌⊎◌, inl, inr, ⊎_elim, ℕ, ◌<◌, Bool, true, false, cond, ◌&&◌, ◌==◌, nat_lt, ◌-◌, ◌^◌, List, ◌∷◌, length, Some, None, refl, sym, ap, ◌∙◌, subst, lit<, []}
 use Rattle.std.specs.Prelude.{Option, not}
 use Rattle.std.proofs.lemmas.Bool.{cond_both, cond-true, cond-false, true≢false, cases_Bool, and_parts, or_cases, or_left, or_right, or_from, and_right, eqb-true, lt-ltb, not_from_true}
-use Rattle.time_shards.specs.Shards.{IsTable}
-use Rattle.photon_model.proofs.Words.{EventId, Click, ClickLine, at, first, Mem, has, mem_left, mem_right, option_both, has_without-self, Setting, IsJoiner, site_of_joiner, IsTo, Note, Out, idle, is_empty, Packet, Join, Joined, NoQuery, Node, Dispatcher, Server, Replica, Joiner, To, Only, AnyJoiner, Input, Tick, Deliver, Sent, DispatcherKept, DispatcherLive, Fresh, waits, mark, mark_one, join, fresh_joins, join_if, trying_joins, dispatcher_start, dispatcher_turn, dispatcher_unfinished, some_waits, JoinerKept, JoinerLive, Flight, in_flight, looks, joiner_start, joiner_turn, World, Entry, End, row, dispatcher_row, joiner_row, after, world_after, DispatcherWorks, IsWork, if_up, IsQuiet, is_out, IfUp}
+use Rattle.photon_model.proofs.Words.{clash, Click, ClickLine, at, first, Mem, has, mem_left, mem_right, option_both, has_without-self, Setting, IsJoiner, site_of_joiner, IsTo, Note, Out, idle, is_empty, Packet, Join, Joined, NoQuery, Node, Dispatcher, Server, Replica, Joiner, To, Only, AnyJoiner, Input, Tick, Deliver, Sent, DispatcherKept, DispatcherLive, Fresh, waits, mark, mark_one, join, fresh_joins, join_if, trying_joins, dispatcher_turn, dispatcher_unfinished, some_waits, JoinerKept, JoinerLive, Flight, in_flight, looks, joiner_turn, World, Entry, dispatcher_row, joiner_row, after, world_after, DispatcherWorks, if_up, is_out, IfUp}
 use Rattle.progress_laws.specs.Idle.{IsIdle}
-use Rattle.progress_laws.proofs.Transit.{opened_at, Underway, HasTick, arrives}
+use Rattle.progress_laws.proofs.Moments.{opened_at, IsEnd, Step, along_idle, Pending, none_pending, comes, turned, ended_own, lives, up_after, no_work, goes, row_sent, row_sent_to}
 use Rattle.progress_laws.proofs.Claims.{HasFlight, flight_stays}
 use Rattle.photon_model.proofs.Worlds.{up_is}
-use Rattle.progress_laws.proofs.Ticking.{comes, passes}
-use Rattle.progress_laws.proofs.Ending.{IsEnd, joiner_now, dispatcher_now, joiner_live, dispatcher_live, both_up}
-use Rattle.progress_laws.proofs.Calm.{Step, step_goes, along_idle, row_sent, row_sent_to, goes_on, tick_goes_on}
 
 -- ---- what becomes of a line that a dispatcher has tried
 
@@ -28,18 +24,22 @@ HasTried g w s p = (l : DispatcherLive) × ((w.dispatchers s).live ≡ Some l) �
 module _ (g : Setting) (w : World) (air : List Sent) (es : List Entry) where
   -- a Join for the position is underway to a joiner of the site
   abbrev pub IsJoinUnderway : ℕ → ℕ → Type 0
-  IsJoinUnderway s p = (j : ℕ) × (from : Node) × (c : Click) × IsJoiner g j × (site_of_joiner g j ≡ s) × Underway w air (record { from = from; to = Joiner j; packet = Join p c })
+  IsJoinUnderway s p = (j : ℕ) × (from : Node) × (c : Click) × IsJoiner g j × (site_of_joiner g j ≡ s) × Pending w air es (Joiner j) (Deliver from (Join p c))
 
   -- a joiner told the dispatcher that it has no query yet
   abbrev pub IsTold : ℕ → ℕ → Type 0
-  IsTold s p = (from : Node) × (n : ℕ) × Underway w air (record { from = from; to = Dispatcher s; packet = Joined p (NoQuery n) })
+  IsTold s p = (from : Node) × (n : ℕ) × Pending w air es (Dispatcher s) (Deliver from (Joined p (NoQuery n)))
 
-  -- The joiners are up, and the position's join goes on: the dispatcher has a Tick, or a Join is underway, or a joiner of the
-  -- site has a join in flight, or the dispatcher is told that there is no query yet.
+  -- the dispatcher has a Tick, or a Join is underway, or a joiner of the site has a join in flight, or the dispatcher is told
+  -- that there is no query yet
+  abbrev pub TrialGoes : ℕ → ℕ → Type 0
+  TrialGoes s p = (Pending w air es (Dispatcher s) Tick ⊎ IsJoinUnderway s p) ⊎ (HasFlight g w s ⊎ IsTold s p)
+
+  -- the joiners are up, and the position's join goes on
   pub record TrialGoesOn (s p : ℕ) : Type 0 where
     pub up : (j : ℕ) → IsJoiner g j → (l : JoinerLive) × ((w.joiners j).live ≡ Some l)
     pub tried : HasTried g w s p
-    pub goes : (HasTick w es (Dispatcher s) ⊎ IsJoinUnderway s p) ⊎ (HasFlight g w s ⊎ IsTold s p)
+    pub goes : TrialGoes s p
 
 -- each position in trial is that of a line
 abbrev pub HasLines : Setting → World → Type 0
@@ -98,119 +98,78 @@ module _ (g : Setting) (site : ℕ) (k : DispatcherKept) (l : DispatcherLive) wh
 
 -- ---- a joiner's turn that takes a Join
 
-module _ (g : Setting) (j : ℕ) (k : JoinerKept) (l : JoinerLive) where
-  -- a join is in flight then, or the dispatcher is told that there is no query yet
-  abbrev Taken : ℕ → Out JoinerLive → Type 0
-  Taken p o = ((f : Flight) × Mem f o.live.flight) ⊎ ((n : ℕ) × Mem (Only (Dispatcher (site_of_joiner g j)), Joined p (NoQuery n)) o.packets)
+-- a join is in flight then, or the dispatcher is told that there is no query yet
+abbrev Taken : Setting → ℕ → ℕ → Out JoinerLive → Type 0
+Taken g j p o = ((f : Flight) × Mem f o.live.flight) ⊎ ((n : ℕ) × Mem (Only (Dispatcher (site_of_joiner g j)), Joined p (NoQuery n)) o.packets)
 
-  some_flight : (fs : List Flight) (i : EventId) → in_flight fs i ≡ true → (f : Flight) × Mem f fs
-  some_flight [] i e = absurd (true≢false (sym e))
-  some_flight (f ∷ fs) i e = (f, inl refl)
+join_taken : (g : Setting) (j : ℕ) (k : JoinerKept) (l : JoinerLive) (p : ℕ) (c : Click) (from : Node) → l.number < 2 ^ 64 - 1 → Taken g j p (joiner_turn g j k l (Deliver from (Join p c)))
+join_taken g j k l p c from low =
+    cond_both (in_flight l.flight c.id) (idle l) _ (Taken g j p) (λ e. inl (some_flight l.flight e))
+    (λ _. cond_both (nat_lt (length l.flight) 32) _ _ (Taken g j p)
+    (λ _. option_both (first g.queries c.query) (looks g j k l p c) (Taken g j p)
+    (λ q _. cond_both (nat_lt l.number (2 ^ 64 - 1)) _ (idle l) (Taken g j p)
+    (λ _. inl (record { position = p; click = c; query = q; token = record { joiner = j; epoch = k.epoch; number = l.number } }, mem_right _ l.flight _ (inl refl)))
+    (λ e. clash (nat_lt l.number (2 ^ 64 - 1)) (lt-ltb l.number (2 ^ 64 - 1) low) e))
+    (λ _. inr (length g.queries, inl refl)))
+    (λ e. inl (many_flights l.flight e)))
+  where
+    some_flight : (fs : List Flight) → in_flight fs c.id ≡ true → (f : Flight) × Mem f fs
+    some_flight [] e = clash false e refl
+    some_flight (f ∷ fs) e = (f, inl refl)
 
-  many_flights : (fs : List Flight) → nat_lt (length fs) 32 ≡ false → (f : Flight) × Mem f fs
-  many_flights [] e = absurd (true≢false (sym (lt-ltb 0 32 (lit< tt)) ∙ e))
-  many_flights (f ∷ fs) e = (f, inl refl)
+    many_flights : (fs : List Flight) → nat_lt (length fs) 32 ≡ false → (f : Flight) × Mem f fs
+    many_flights [] e = clash (nat_lt 0 32) (lt-ltb 0 32 (lit< tt)) e
+    many_flights (f ∷ fs) e = (f, inl refl)
 
-  join_taken : (p : ℕ) (c : Click) (from : Node) → l.number < 2 ^ 64 - 1 → Taken p (joiner_turn g j k l (Deliver from (Join p c)))
-  join_taken p c from low =
-      cond_both (in_flight l.flight c.id) (idle l) _ (Taken p) (λ e. inl (some_flight l.flight c.id e))
-      (λ _. cond_both (nat_lt (length l.flight) 32) _ _ (Taken p)
-      (λ _. option_both (first g.queries c.query) (looks g j k l p c) (Taken p)
-      (λ q _. cond_both (nat_lt l.number (2 ^ 64 - 1)) _ (idle l) (Taken p)
-      (λ _. inl (record { position = p; click = c; query = q; token = record { joiner = j; epoch = k.epoch; number = l.number } }, mem_right _ l.flight _ (inl refl)))
-      (λ e. absurd (true≢false (sym (lt-ltb l.number (2 ^ 64 - 1) low) ∙ e))))
-      (λ _. inr (length g.queries, inl refl)))
-      (λ e. inl (many_flights l.flight e)))
-
-module _ (g : Setting) (dead : ℕ → Bool) (table : IsTable g.table) (w : World) (air next : List Sent) (e : Entry) (es : List Entry) (step : Step g dead w air next e) where
-  dispatcher_works : (s : ℕ) (l : DispatcherLive) → (w.dispatchers s).live ≡ Some l → IsEnd e (Dispatcher s) → ((o : Option Note) → DispatcherWorks l (dispatcher_row g s (w.dispatchers s)).live o) → ⊥
-  dispatcher_works s l up (o, ps, kept, q) works =
-      step.idle (subst (λ (x : Entry). IsWork g w x) (sym q)
-      (both_up (λ a b. DispatcherWorks a b o) (w.dispatchers s).live ((after g w (End (Dispatcher s) o ps kept)).dispatchers s).live l (dispatcher_row g s (w.dispatchers s)).live up (dispatcher_now g w (End (Dispatcher s) o ps kept) s (o, ps, kept, refl)) (works o)))
-
-  dispatcher_row_of : (s : ℕ) (l : DispatcherLive) → (w.dispatchers s).live ≡ Some l → (i : Input) → opened_at w (Dispatcher s) ≡ Some i → dispatcher_row g s (w.dispatchers s) ≡ dispatcher_turn g s (w.dispatchers s).kept l i
-  dispatcher_row_of s l up i o = ap (λ (x : Option DispatcherLive). row dispatcher_start (dispatcher_turn g s) (w.dispatchers s).kept x (w.dispatchers s).opened) up ∙ ap (λ (x : Option Input). row dispatcher_start (dispatcher_turn g s) (w.dispatchers s).kept (Some l) x) o
-
-  joiner_row_of : (j : ℕ) (l : JoinerLive) → (w.joiners j).live ≡ Some l → (i : Input) → opened_at w (Joiner j) ≡ Some i → joiner_row g j (w.joiners j) ≡ joiner_turn g j (w.joiners j).kept l i
-  joiner_row_of j l up i o = ap (λ (x : Option JoinerLive). row joiner_start (joiner_turn g j) (w.joiners j).kept x (w.joiners j).opened) up ∙ ap (λ (x : Option Input). row joiner_start (joiner_turn g j) (w.joiners j).kept (Some l) x) o
-
-  tried_stays : (s p : ℕ) → HasTried g w s p → HasTried g (after g w e) s p
-  tried_stays s p (l, up, t) =
-      ⊎_elim (λ same. (l, same ∙ up, t))
-      (λ (h : IsEnd e (Dispatcher s) × (((after g w e).dispatchers s).live ≡ Some (dispatcher_row g s (w.dispatchers s)).live)). ⊎_elim
-      (λ k. ((dispatcher_row g s (w.dispatchers s)).live, h.1, k))
-      (λ works. absurd (dispatcher_works s l up h.0 works))
-      (either (dispatcher_row g s (w.dispatchers s)).live))
-      (dispatcher_live g w e s (step_goes g dead w air next e step))
+module _ {g : Setting} {dead : ℕ → Bool} {w : World} {air next : List Sent} {e : Entry} {es : List Entry} (step : Step g dead w air next e es) (s p : ℕ) where
+  tried_stays : HasTried g w s p → HasTried g (after g w e) s p
+  tried_stays (l, up, t) =
+      lives step (Dispatcher s) (λ same. (l, same ∙ up, t))
+      (λ end now. ⊎_elim (λ k. ((dispatcher_row g s (w.dispatchers s)).live, now, k)) (λ works. absurd (no_work step (Dispatcher s) l up end works)) (either (dispatcher_row g s (w.dispatchers s)).live t))
     where
-      either : (b : DispatcherLive) → IsTried g b p ⊎ ((o : Option Note) → DispatcherWorks l b o)
-      either b = kinds t
-        where
-          kinds : IsTried g l p → IsTried g b p ⊎ ((o : Option Note) → DispatcherWorks l b o)
-          kinds (inl t) = ⊎_elim (λ k. inl (inl k)) (λ k. inr (λ o. inl (inr (p, t, k)))) (cases_Bool (waits b.fresh p))
-          kinds (inr t) = ⊎_elim (λ k. inl (inr (k, t.1))) (λ k. inr (λ o. inr (inl (p, t.0, k)))) (cases_Bool (has b.trying p))
+      either : (b : DispatcherLive) → IsTried g l p → IsTried g b p ⊎ ((o : Option Note) → DispatcherWorks l b o)
+      either b (inl t) = ⊎_elim (λ k. inl (inl k)) (λ k. inr (λ o. inl (inr (p, t, k)))) (cases_Bool (waits b.fresh p))
+      either b (inr t) = ⊎_elim (λ k. inl (inr (k, t.1))) (λ k. inr (λ o. inr (inl (p, t.0, k)))) (cases_Bool (has b.trying p))
 
   -- a Join goes to a joiner of the site
-  to_joiner : (s p : ℕ) (c : Click) (to : Node) → IsTo g (AnyJoiner s) to → (is_out dead to ≡ false → Underway (after g w e) next (record { from = Dispatcher s; to = to; packet = Join p c })) → IsJoinUnderway g (after g w e) next es s p
-  to_joiner s p c (Joiner j) is u = (j, Dispatcher s, c, is.0, is.1, u refl)
-  to_joiner s p c (Dispatcher j) is u = absurd is
-  to_joiner s p c (Server j) is u = absurd is
-  to_joiner s p c (Replica j) is u = absurd is
-
-  abbrev Goes : ℕ → ℕ → Type 0
-  Goes s p = (HasTick (after g w e) es (Dispatcher s) ⊎ IsJoinUnderway g (after g w e) next es s p) ⊎ (HasFlight g (after g w e) s ⊎ IsTold g (after g w e) next es s p)
+  to_joiner : (c : Click) (to : Node) → IsTo g (AnyJoiner s) to → (is_out dead to ≡ false → Pending (after g w e) next es to (Deliver (Dispatcher s) (Join p c))) → IsJoinUnderway g (after g w e) next es s p
+  to_joiner c (Joiner j) is u = (j, Dispatcher s, c, is.0, is.1, u refl)
+  to_joiner c (Dispatcher j) is u = absurd is
+  to_joiner c (Server j) is u = absurd is
+  to_joiner c (Replica j) is u = absurd is
 
   -- a joiner took the Join
-  taken : (s p j : ℕ) (c : Click) (from : Node) → IsJoiner g j → site_of_joiner g j ≡ s → (l : JoinerLive) → (w.joiners j).live ≡ Some l → IsEnd e (Joiner j) → opened_at w (Joiner j) ≡ Some (Deliver from (Join p c)) → HasFlight g (after g w e) s ⊎ IsTold g (after g w e) next es s p
-  taken s p j c from is site l up end o =
+  taken : (j : ℕ) (c : Click) (from : Node) → IsJoiner g j → site_of_joiner g j ≡ s → (l : JoinerLive) → (w.joiners j).live ≡ Some l → IsEnd e (Joiner j) → opened_at w (Joiner j) ≡ Some (Deliver from (Join p c)) → HasFlight g (after g w e) s ⊎ IsTold g (after g w e) next es s p
+  taken j c from is site l up end o =
       ⊎_elim
-      (λ (f : (f : Flight) × Mem f (joiner_row g j (w.joiners j)).live.flight). inl (j, (joiner_row g j (w.joiners j)).live, f.0, is, site, joiner_now g w e j end, f.1))
-      (λ (n : (n : ℕ) × Mem (Only (Dispatcher (site_of_joiner g j)), Joined p (NoQuery n)) (joiner_row g j (w.joiners j)).packets). inr (
-        Joiner j,
-        n.0,
-        subst (λ t. Underway (after g w e) next (record { from = Joiner j; to = Dispatcher t; packet = Joined p (NoQuery n.0) })) site
-            (row_sent_to g dead w air next e step (Joiner j) (joiner_row g j (w.joiners j)).packets (λ o ps kept q. q.1.2) end (Dispatcher (site_of_joiner g j)) (Joined p (NoQuery n.0)) n.1 refl),
-      ))
-      (subst (Taken g j (w.joiners j).kept l p) (sym (joiner_row_of j l up (Deliver from (Join p c)) o)) (join_taken g j (w.joiners j).kept l p c from low))
+      (λ f. inl (j, (joiner_row g j (w.joiners j)).live, f.0, is, site, ended_own g w e (Joiner j) end, f.1))
+      (λ n. inr (Joiner j, n.0, subst (λ t. Pending (after g w e) next es (Dispatcher t) (Deliver (Joiner j) (Joined p (NoQuery n.0)))) site (row_sent_to step (Joiner j) end (Dispatcher (site_of_joiner g j)) (Joined p (NoQuery n.0)) n.1 refl)))
+      there
     where
-      low : l.number < 2 ^ 64 - 1
-      low = subst (IfUp (λ (x : JoinerLive). x.number < 2 ^ 64 - 1)) up (step.limits.tokens j is)
+      there : Taken g j p (joiner_row g j (w.joiners j))
+      there = subst (Taken g j p) (sym (turned g w (Joiner j) l (Deliver from (Join p c)) up o)) (join_taken g j (w.joiners j).kept l p c from (subst (IfUp (λ (x : JoinerLive). x.number < 2 ^ 64 - 1)) up (step.limits.tokens j is)))
 
-  moves : (s p : ℕ) → TrialGoesOn g w air (e ∷ es) s p → Goes s p
-  moves s p h = go h.goes
+  pub trial_goes_on : TrialGoesOn g w air (e ∷ es) s p → TrialGoesOn g (after g w e) next es s p
+  trial_goes_on h = record { up = λ j is. let u = h.up j is in up_after step (Joiner j) u.0 u.1; tried = tried_stays h.tried; goes = moves h.goes }
     where
-      go : (HasTick w (e ∷ es) (Dispatcher s) ⊎ IsJoinUnderway g w air (e ∷ es) s p) ⊎ (HasFlight g w s ⊎ IsTold g w air (e ∷ es) s p) → Goes s p
-      go (inl (inl t)) =
-          ⊎_elim (λ k. inl (inl k))
-          (λ (q : IsEnd e (Dispatcher s) × (opened_at w (Dispatcher s) ≡ Some Tick)).
-          let l = h.tried.0 in
+      l : DispatcherLive
+      l = h.tried.0
+
+      row_of : (i : Input) → opened_at w (Dispatcher s) ≡ Some i → dispatcher_row g s (w.dispatchers s) ≡ dispatcher_turn g s (w.dispatchers s).kept l i
+      row_of i o = turned g w (Dispatcher s) l i h.tried.1 o
+
+      moves : TrialGoes g w air (e ∷ es) s p → TrialGoes g (after g w e) next es s p
+      moves (inl (inl t)) =
+          goes step (Dispatcher s) Tick t (λ k. inl (inl k))
+          (λ end o.
           let c = tick_sends g s (w.dispatchers s).kept l p h.tried.2 in
-          let row_is = dispatcher_row_of s l h.tried.1 Tick q.1 in
-          let x = row_sent g dead w air next e step (Dispatcher s) (dispatcher_row g s (w.dispatchers s)).packets (λ o ps kept q. q.1.2) q.0 (AnyJoiner s, Join p c.0) (subst (λ (o : Out DispatcherLive). Mem (AnyJoiner s, Join p c.0) o.packets) (sym row_is) c.1) in
-          inl (inr (to_joiner s p c.0 x.0 x.1 x.2)))
-          (tick_goes_on g dead w air next e step es (Dispatcher s) t)
-      go (inl (inr (j, from, c, is, site, u))) =
-          ⊎_elim (λ k. inl (inr (j, from, c, is, site, k)))
-          (λ (q : IsEnd e (Joiner j) × (opened_at w (Joiner j) ≡ Some (Deliver from (Join p c)))). let v = h.up j is in inr (taken s p j c from is site v.0 v.1 q.0 q.1))
-          (goes_on g dead w air next e step (record { from = from; to = Joiner j; packet = Join p c }) u)
-      go (inr (inl f)) = inr (inl (flight_stays g dead table w air next e es step s f))
-      go (inr (inr (from, n, u))) =
-          ⊎_elim (λ k. inr (inr (from, n, k)))
-          (λ (q : IsEnd e (Dispatcher s) × (opened_at w (Dispatcher s) ≡ Some (Deliver from (Joined p (NoQuery n))))).
-          let row_is = dispatcher_row_of s h.tried.0 h.tried.1 (Deliver from (Joined p (NoQuery n))) q.1 in
-          absurd (dispatcher_works s h.tried.0 h.tried.1 q.0 (λ o. subst (λ (x : Out DispatcherLive). DispatcherWorks h.tried.0 x.live o) (sym row_is) (told_works g s (w.dispatchers s).kept h.tried.0 p n from o h.tried.2))))
-          (goes_on g dead w air next e step (record { from = from; to = Dispatcher s; packet = Joined p (NoQuery n) }) u)
-
-  pub trial_goes_on : (s p : ℕ) → TrialGoesOn g w air (e ∷ es) s p → TrialGoesOn g (after g w e) next es s p
-  trial_goes_on s p h =
-      record {
-        up = λ j is. let u = h.up j is in ⊎_elim
-            (λ same. (u.0, same ∙ u.1))
-            (λ (q : IsEnd e (Joiner j) × (((after g w e).joiners j).live ≡ Some (joiner_row g j (w.joiners j)).live)). ((joiner_row g j (w.joiners j)).live, q.1))
-            (joiner_live g w e j (step_goes g dead w air next e step));
-        tried = tried_stays s p h.tried;
-        goes = moves s p h;
-      }
+          let x = row_sent step (Dispatcher s) end (AnyJoiner s, Join p c.0) (subst (λ (o : Out DispatcherLive). Mem (AnyJoiner s, Join p c.0) o.packets) (sym (row_of Tick o)) c.1) in
+          inl (inr (to_joiner c.0 x.0 x.1 x.2)))
+      moves (inl (inr (j, from, c, is, site, u))) = goes step (Joiner j) (Deliver from (Join p c)) u (λ k. inl (inr (j, from, c, is, site, k))) (λ end o. let v = h.up j is in inr (taken j c from is site v.0 v.1 end o))
+      moves (inr (inl f)) = inr (inl (flight_stays step s f))
+      moves (inr (inr (from, n, u))) =
+          goes step (Dispatcher s) (Deliver from (Joined p (NoQuery n))) u (λ k. inr (inr (from, n, k)))
+          (λ end o. absurd (no_work step (Dispatcher s) l h.tried.1 end (λ x. subst (λ (y : Out DispatcherLive). DispatcherWorks l y.live x) (sym (row_of (Deliver from (Joined p (NoQuery n))) o)) (told_works g s (w.dispatchers s).kept l p n from x h.tried.2))))
 
 -- ---- along an interval
 
@@ -229,23 +188,22 @@ tried_unfinished g l p (inr t) = or_right (some_waits l.fresh) _ (some l.trying 
     some [] e = absurd (true≢false (sym e))
     some (x ∷ ps) e = refl
 
-module _ (g : Setting) (dead : ℕ → Bool) (table : IsTable g.table) (w : World) (es : List Entry) (i : IsIdle g dead w es) where
-  begins : (s p : ℕ) → s < 2 → HasTried g w s p → TrialGoesOn g w [] es s p
-  begins s p lt t =
-      record {
-        up = λ j is. let u = up_is _ (w.joiners j).live (i.interval.starts.joiners j is).1 in (u.0, u.1);
-        tried = t;
-        goes = inl (inl (comes g dead w es (Dispatcher s) i.interval lt (ap (λ (o : Option DispatcherLive). if_up dispatcher_unfinished o) t.1 ∙ tried_unfinished g t.0 p t.2)));
-      }
+pub tries : (g : Setting) (dead : ℕ → Bool) (w : World) (es : List Entry) → IsIdle g dead w es → (s p : ℕ) → s < 2 → HasTried g w s p → HasFlight g (world_after g w es) s
+tries g dead w es i s p lt t = only (along_idle g dead (λ w air es. TrialGoesOn g w air es s p) (λ w air next e es step. trial_goes_on step s p) es w i begins).goes
+  where
+    v : World
+    v = world_after g w es
 
-  pub tries : (s p : ℕ) → s < 2 → HasTried g w s p → HasFlight g (world_after g w es) s
-  tries s p lt t = only (along_idle g dead (λ w air es. TrialGoesOn g w air es s p) (λ w air next e es step h. trial_goes_on g dead table w air next e es step s p h) es w i (begins s p lt t)).goes
-    where
-      q : IsQuiet g dead (world_after g w es)
-      q = i.interval.ends
+    begins : TrialGoesOn g w [] es s p
+    begins =
+        record {
+          up = λ j is. let u = up_is _ (w.joiners j).live (i.interval.starts.joiners j is).1 in (u.0, u.1);
+          tried = t;
+          goes = inl (inl (comes g dead w es i.interval (Dispatcher s) lt (ap (λ (o : Option DispatcherLive). if_up dispatcher_unfinished o) t.1 ∙ tried_unfinished g t.0 p t.2)));
+        }
 
-      only : (HasTick (world_after g w es) [] (Dispatcher s) ⊎ IsJoinUnderway g (world_after g w es) [] [] s p) ⊎ (HasFlight g (world_after g w es) s ⊎ IsTold g (world_after g w es) [] [] s p) → HasFlight g (world_after g w es) s
-      only (inl (inl t)) = absurd (passes g dead (world_after g w es) (Dispatcher s) q lt refl t)
-      only (inl (inr (j, from, c, is, site, u))) = absurd (arrives g dead (world_after g w es) (record { from = from; to = Joiner j; packet = Join p c }) q is refl u)
-      only (inr (inl f)) = f
-      only (inr (inr (from, n, u))) = absurd (arrives g dead (world_after g w es) (record { from = from; to = Dispatcher s; packet = Joined p (NoQuery n) }) q lt refl u)
+    only : TrialGoes g v [] [] s p → HasFlight g v s
+    only (inl (inl t)) = absurd (none_pending g dead v i.interval.ends (Dispatcher s) lt refl Tick t)
+    only (inl (inr (j, from, c, is, site, u))) = absurd (none_pending g dead v i.interval.ends (Joiner j) is refl _ u)
+    only (inr (inl f)) = f
+    only (inr (inr (from, n, u))) = absurd (none_pending g dead v i.interval.ends (Dispatcher s) lt refl _ u)

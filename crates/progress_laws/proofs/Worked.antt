@@ -1,13 +1,12 @@
 -- The worked intervals, computed.
 use Rattle.std.proofs.Common.{◌≡◌, inl, ⊎_elim, ℕ, zero, suc, ◌<◌, Bool, true, false, cond, ◌&&◌, nat_lt, List, [], ◌∷◌, ◌++◌, length, Some, None, refl, sym, ap, ◌∙◌, subst, arith, lit<}
 use Rattle.std.specs.Prelude.{⊤, not, is_some, filter, Option}
-use Rattle.std.proofs.lemmas.Bool.{true≢false, and_parts, ltb-true}
+use Rattle.std.proofs.lemmas.Bool.{true≢false, and_parts, ltb-true, not-true}
 use Rattle.photon_model.proofs.Worlds.{of_two}
-use Rattle.photon_model.proofs.Words.{Ballot, is_same, same_true, same_batch, same_batch-true, Place, is_place, place_true, Mem, option_or_else, mem_right, none_some, some_same, Packet, Prepare, Promise, Nack, Accept, Accepted, Chosen, Node, Dispatcher, Server, Replica, Joiner, To, Only, AnyJoiner, Input, Start, Deliver, IsNode, Addressed, Sent, IsJoiner, shards, Out, is_empty, dispatcher_wants, ServerLive, is_below_limit, server_wants, server_start, server_turn, IfUp, World, Entry, Begin, End, Stop, Fits, WasSent, MayBegin, May, IsRun, row, dispatcher_row, server_row, replica_row, sends, after, world_after, same_node, UpWith, BothUp, ServerWorks, IsWork, put_in, ticks_of, ticks_due, is_unfinished, to_live, Carries, IsQuiet, Cell}
+use Rattle.photon_model.proofs.Words.{clash, joiner_row, Ballot, is_same, same_true, same_batch, same_batch-true, Place, is_place, place_true, Mem, option_or_else, mem_right, none_some, some_same, Packet, Prepare, Promise, Nack, Accept, Accepted, Chosen, Node, Dispatcher, Server, Replica, Joiner, To, Only, AnyJoiner, Input, Start, Deliver, IsNode, Addressed, Sent, IsJoiner, shards, Out, is_empty, dispatcher_wants, ServerLive, is_below_limit, server_wants, server_turn, IfUp, World, Entry, Begin, End, Stop, Fits, WasSent, MayBegin, May, IsRun, dispatcher_row, server_row, replica_row, sends, after, world_after, same_node, UpWith, BothUp, ServerWorks, IsWork, put_in, ticks_of, ticks_due, is_unfinished, to_live, Carries, IsQuiet, Cell}
 use Rattle.progress_laws.specs.Idle.{HasNumbers, IsWithinLimits, NoWork, IsIdle}
 use Rattle.progress_laws.specs.Rows.{three, all_live, to_one, ends, plays, duel, restarts, beginning, down_again, stale, first, second, third, fourth, after_first, after_second, after_third, CarriesOnce, ThreeAreIdle}
-use Rattle.progress_laws.proofs.Transit.{opened_at, same_node-true, opens, not_out}
-use Rattle.progress_laws.proofs.Ending.{server_now}
+use Rattle.progress_laws.proofs.Moments.{at_node, row_at, same_node-true, begun_own, ended_own, turned}
 use Rattle.progress_laws.proofs.Turning.{teaches, turns}
 
 -- nothing is taken out of an empty list
@@ -153,44 +152,45 @@ addressed [] e = tt
 addressed ((Only n, p) ∷ ps) e = ((refl, refl), addressed ps e)
 addressed ((AnyJoiner s, p) ∷ ps) e = absurd (true≢false (sym e))
 
-abbrev can_begin : World → Node → Input → Bool
-can_begin w (Dispatcher s) i = nat_lt s 2 && may_begin (w.dispatchers s) w.sent (Dispatcher s) i
-can_begin w (Server s) i = nat_lt s 2 && may_begin (w.servers s) w.sent (Server s) i
-can_begin w (Replica r) i = nat_lt r 3 && may_begin (w.replicas r) w.sent (Replica r) i
-can_begin w (Joiner j) i = false
+abbrev is_node : Node → Bool
+is_node (Dispatcher s) = nat_lt s 2
+is_node (Server s) = nat_lt s 2
+is_node (Replica r) = nat_lt r 3
+is_node (Joiner j) = false
 
-abbrev can_end : World → Node → Bool
-can_end w (Dispatcher s) = all_to_one (dispatcher_row three s (w.dispatchers s)).packets
-can_end w (Server s) = all_to_one (server_row three s (w.servers s)).packets
-can_end w (Replica r) = all_to_one (replica_row (w.replicas r)).packets
-can_end w (Joiner j) = false
+node_is : (n : Node) → is_node n ≡ true → IsNode three n
+node_is (Dispatcher s) e = ltb-true s 2 e
+node_is (Server s) e = ltb-true s 2 e
+node_is (Replica r) e = ltb-true r 3 e
+node_is (Joiner j) e = clash false e refl
 
-begins_at : (w : World) (n : Node) (i : Input) → can_begin w n i ≡ true → IsNode three n × May three w (Begin n i)
-begins_at w (Dispatcher s) i e = let h = and_parts (nat_lt s 2) (may_begin (w.dispatchers s) w.sent (Dispatcher s) i) e in let lt = ltb-true s 2 h.0 in (lt, (lt, begins (w.dispatchers s) w.sent (Dispatcher s) i h.1))
-begins_at w (Server s) i e = let h = and_parts (nat_lt s 2) (may_begin (w.servers s) w.sent (Server s) i) e in let lt = ltb-true s 2 h.0 in (lt, (lt, begins (w.servers s) w.sent (Server s) i h.1))
-begins_at w (Replica r) i e = let h = and_parts (nat_lt r 3) (may_begin (w.replicas r) w.sent (Replica r) i) e in let lt = ltb-true r 3 h.0 in (lt, (lt, begins (w.replicas r) w.sent (Replica r) i h.1))
-begins_at w (Joiner j) i e = absurd (true≢false (sym e))
+may_start : (w : World) (n : Node) (i : Input) → IsNode three n → MayBegin (at_node w n) w.sent n i → May three w (Begin n i)
+may_start w (Dispatcher s) i is m = (is, m)
+may_start w (Server s) i is m = (is, m)
+may_start w (Replica r) i is m = (is, m)
+may_start w (Joiner j) i is m = (is, m)
 
-ends_at : (w : World) (n : Node) → IsNode three n → (i : Input) → opened_at w n ≡ Some i → can_end w n ≡ true → May three w (ends w n)
-ends_at w (Dispatcher s) is i o e = (is, ((i, o), refl, addressed (dispatcher_row three s (w.dispatchers s)).packets e), omega arith)
-ends_at w (Server s) is i o e = (is, ((i, o), refl, addressed (server_row three s (w.servers s)).packets e), omega arith)
-ends_at w (Replica r) is i o e = (is, ((i, o), refl, addressed (replica_row (w.replicas r)).packets e), omega arith)
-ends_at w (Joiner j) is i o e = absurd (true≢false (sym e))
+may_end : (w : World) (n : Node) (i : Input) → IsNode three n → (at_node w n).opened ≡ Some i → all_to_one (row_at three w n).packets ≡ true → May three w (ends w n)
+may_end w (Dispatcher s) i is o e = (is, ((i, o), refl, addressed (dispatcher_row three s (w.dispatchers s)).packets e), omega arith)
+may_end w (Server s) i is o e = (is, ((i, o), refl, addressed (server_row three s (w.servers s)).packets e), omega arith)
+may_end w (Replica r) i is o e = (is, ((i, o), refl, addressed (replica_row (w.replicas r)).packets e), omega arith)
+may_end w (Joiner j) i is o e = (is, ((i, o), refl, addressed (joiner_row three j (w.joiners j)).packets e), omega arith)
 
 abbrev begun : World → Node → Input → World
 begun w n i = after three w (Begin n i)
 
 abbrev are_played : World → List (Node × Input) → Bool
 are_played w [] = true
-are_played w ((n, i) ∷ ts) = can_begin w n i && (can_end (begun w n i) n && are_played (after three (begun w n i) (ends (begun w n i) n)) ts)
+are_played w ((n, i) ∷ ts) = (is_node n && may_begin (at_node w n) w.sent n i) && (all_to_one (row_at three (begun w n i) n).packets && are_played (after three (begun w n i) (ends (begun w n i) n)) ts)
 
 played : (ts : List (Node × Input)) (w : World) → are_played w ts ≡ true → IsRun three w (plays w ts)
 played [] w e = tt
 played ((n, i) ∷ ts) w e =
-    let a = and_parts (can_begin w n i) (can_end (begun w n i) n && are_played (after three (begun w n i) (ends (begun w n i) n)) ts) e in
-    let b = and_parts (can_end (begun w n i) n) (are_played (after three (begun w n i) (ends (begun w n i) n)) ts) a.1 in
-    let h = begins_at w n i a.0 in
-    (h.1, (ends_at (begun w n i) n h.0 i (opens three w n i) b.0, played ts (after three (begun w n i) (ends (begun w n i) n)) b.1))
+    let a = and_parts (is_node n && may_begin (at_node w n) w.sent n i) (all_to_one (row_at three (begun w n i) n).packets && are_played (after three (begun w n i) (ends (begun w n i) n)) ts) e in
+    let b = and_parts (all_to_one (row_at three (begun w n i) n).packets) (are_played (after three (begun w n i) (ends (begun w n i) n)) ts) a.1 in
+    let h = and_parts (is_node n) (may_begin (at_node w n) w.sent n i) a.0 in
+    let is = node_is n h.0 in
+    (may_start w n i is (begins (at_node w n) w.sent n i h.1), (may_end (begun w n i) n i is (ap (λ c. c.opened) (begun_own three w n i)) b.0, played ts (after three (begun w n i) (ends (begun w n i) n)) b.1))
 
 -- ---- what is carried
 
@@ -288,9 +288,8 @@ no_work w (End (Server s) o ps kept) c works = go (w.servers s).live refl (w.ser
     go None up i open_ c = true≢false (sym c)
     go (Some l) up None open_ c = true≢false (sym c)
     go (Some l) up (Some i) open_ c =
-        let row_is : server_row three s (w.servers s) ≡ server_turn three s (w.servers s).kept l i = ap (λ (x : Option ServerLive). row server_start (server_turn three s) (w.servers s).kept x (w.servers s).opened) up ∙ ap (λ (x : Option Input). row server_start (server_turn three s) (w.servers s).kept (Some l) x) open_ in
-        let now_is = server_now three w (End (Server s) o ps kept) s (o, ps, kept, refl) ∙ ap (λ (x : Out ServerLive). Some x.live) row_is in
-        learns l i (not_out (teaches i) c) (subst (λ (x : Option ServerLive). BothUp ServerWorks (Some l) x) now_is (subst (λ (x : Option ServerLive). BothUp ServerWorks x ((after three w (End (Server s) o ps kept)).servers s).live) up works))
+        let now_is = ended_own three w (End (Server s) o ps kept) (Server s) (o, ps, kept, refl) ∙ ap (λ (x : Out ServerLive). Some x.live) (turned three w (Server s) l i up open_) in
+        learns l i (not-true (teaches i) c) (subst (λ (x : Option ServerLive). BothUp ServerWorks (Some l) x) now_is (subst (λ (x : Option ServerLive). BothUp ServerWorks x ((after three w (End (Server s) o ps kept)).servers s).live) up works))
 no_work w (End (Dispatcher s) o ps kept) c works = absurd (true≢false (sym c))
 no_work w (End (Joiner s) o ps kept) c works = absurd (true≢false (sym c))
 no_work w _ c works = works

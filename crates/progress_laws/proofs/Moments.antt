@@ -1,0 +1,360 @@
+-- One entry of an interval in which nothing is done: what it makes of a node, and of what a node is to take.
+use Rattle.std.proofs.Common.{◌≡◌, ◌⊎◌, inl, inr, ⊎_elim, ℕ, ◌<◌, Bool, true, false, cond, ◌==◌, List, [], ◌∷◌, ◌++◌, length, Some, None, refl, sym, ap, ◌∙◌, subst, arith}
+use Rattle.std.specs.Prelude.{Option, filter, not}
+use Rattle.std.proofs.lemmas.Bool.{cond_both, cond-true, eqb-true, eq-eqb, not-true}
+use Rattle.std.proofs.lemmas.List.Sums.{length-filter}
+use Rattle.photon_model.proofs.Words.{Mem, Each, clash, mem_left, mem_right, mem_split, none_some, some_same, set_at, Setting, IsNode, IsTo, Addressed, Packet, Node, Dispatcher, Server, Replica, Joiner, To, Only, Input, Start, Own, Tick, Deliver, Sent, Note, Out, land, DispatcherKept, DispatcherLive, land_dispatcher, dispatcher_start, dispatcher_turn, ServerKept, ServerLive, land_server, server_start, server_turn, ReplicaKept, land_replica, replica_start, replica_turn, JoinerKept, JoinerLive, land_joiner, joiner_start, joiner_turn, World, Entry, Begin, End, Stop, begun, ended, row, sends, after, world_after, May, IsTurn, IsRun, same_node, put_in, is_tick_of, ticks_due, is_unfinished, is_out, to_live, IsQuiet, IsInterval, Carries, BothUp, DispatcherWorks, JoinerWorks, ServerWorks, IsWork, Cell}
+use Rattle.progress_laws.specs.Idle.{HasNumbers, IsWithinLimits, NoWork, IsIdle}
+
+-- ---- a node, of whatever kind
+
+abbrev pub KeptOf : Node → Type 0
+KeptOf (Dispatcher s) = DispatcherKept
+KeptOf (Server s) = ServerKept
+KeptOf (Replica r) = ReplicaKept
+KeptOf (Joiner j) = JoinerKept
+
+abbrev pub LiveOf : Node → Type 0
+LiveOf (Dispatcher s) = DispatcherLive
+LiveOf (Server s) = ServerLive
+LiveOf (Replica r) = Unit {0}
+LiveOf (Joiner j) = JoinerLive
+
+abbrev pub at_node : World → (n : Node) → Cell (KeptOf n) (LiveOf n)
+at_node w (Dispatcher s) = w.dispatchers s
+at_node w (Server s) = w.servers s
+at_node w (Replica r) = w.replicas r
+at_node w (Joiner j) = w.joiners j
+
+abbrev pub opened_at : World → Node → Option Input
+opened_at w n = (at_node w n).opened
+
+abbrev pub land_at : (n : Node) → Note → KeptOf n → KeptOf n
+land_at (Dispatcher s) = land_dispatcher
+land_at (Server s) = land_server
+land_at (Replica r) = land_replica
+land_at (Joiner j) = land_joiner
+
+abbrev pub start_at : (n : Node) → KeptOf n → Out (LiveOf n)
+start_at (Dispatcher s) = dispatcher_start
+start_at (Server s) = server_start
+start_at (Replica r) = replica_start
+start_at (Joiner j) = joiner_start
+
+abbrev pub turn_at : Setting → (n : Node) → KeptOf n → LiveOf n → Input → Out (LiveOf n)
+turn_at g (Dispatcher s) = dispatcher_turn g s
+turn_at g (Server s) = server_turn g s
+turn_at g (Replica r) = λ k l i. replica_turn k i
+turn_at g (Joiner j) = joiner_turn g j
+
+abbrev pub row_at : Setting → World → (n : Node) → Out (LiveOf n)
+row_at g w n = row (start_at n) (turn_at g n) (at_node w n).kept (at_node w n).live (at_node w n).opened
+
+abbrev pub WorksAt : (n : Node) → Option Note → LiveOf n → LiveOf n → Type 0
+WorksAt (Dispatcher s) o a b = DispatcherWorks a b o
+WorksAt (Server s) o a b = ServerWorks a b
+WorksAt (Replica r) o a b = ⊥
+WorksAt (Joiner j) o a b = JoinerWorks a b
+
+pub same_node-true : (a b : Node) → same_node a b ≡ true → a ≡ b
+same_node-true (Dispatcher a) (Dispatcher b) e = ap Dispatcher (eqb-true a b e)
+same_node-true (Server a) (Server b) e = ap Server (eqb-true a b e)
+same_node-true (Replica a) (Replica b) e = ap Replica (eqb-true a b e)
+same_node-true (Joiner a) (Joiner b) e = ap Joiner (eqb-true a b e)
+same_node-true _ _ e = clash false e refl
+
+same_node-self : (a : Node) → same_node a a ≡ true
+same_node-self (Dispatcher a) = eq-eqb a a refl
+same_node-self (Server a) = eq-eqb a a refl
+same_node-self (Replica a) = eq-eqb a a refl
+same_node-self (Joiner a) = eq-eqb a a refl
+
+-- ---- what an entry makes of a node
+
+-- the entry is an End of the node
+abbrev pub IsEnd : Entry → Node → Type 0
+IsEnd e n = (o : Option Note) × (ps : List (Node × Packet)) × (kept : ℕ) × (e ≡ End n o ps kept)
+
+-- a family that is set at one number, read at another
+set_is : {A : Type 0} (f v : ℕ → A) (n m : ℕ) → set_at f n (v n) m ≡ cond (m == n) (v m) (f m)
+set_is f v n m = go (m == n) refl
+  where
+    go : (b : Bool) → (m == n) ≡ b → cond b (v n) (f m) ≡ cond b (v m) (f m)
+    go true e = ap v (sym (eqb-true m n e))
+    go false e = refl
+
+module _ (g : Setting) (w : World) where
+  begun_is : (m : Node) (i : Input) (n : Node) → at_node (after g w (Begin m i)) n ≡ cond (same_node n m) (begun (at_node w n) i) (at_node w n)
+  begun_is (Dispatcher t) i (Dispatcher s) = set_is w.dispatchers (λ k. begun (w.dispatchers k) i) t s
+  begun_is (Server t) i (Server s) = set_is w.servers (λ k. begun (w.servers k) i) t s
+  begun_is (Replica t) i (Replica s) = set_is w.replicas (λ k. begun (w.replicas k) i) t s
+  begun_is (Joiner t) i (Joiner s) = set_is w.joiners (λ k. begun (w.joiners k) i) t s
+  begun_is _ i _ = refl
+
+  ended_is : (m : Node) (o : Option Note) (ps : List (Node × Packet)) (kept : ℕ) (n : Node) → at_node (after g w (End m o ps kept)) n ≡ cond (same_node n m) (ended (land_at n) (at_node w n) o (row_at g w n).live) (at_node w n)
+  ended_is (Dispatcher t) o ps kept (Dispatcher s) = set_is w.dispatchers (λ k. ended land_dispatcher (w.dispatchers k) o (row_at g w (Dispatcher k)).live) t s
+  ended_is (Server t) o ps kept (Server s) = set_is w.servers (λ k. ended land_server (w.servers k) o (row_at g w (Server k)).live) t s
+  ended_is (Replica t) o ps kept (Replica s) = set_is w.replicas (λ k. ended land_replica (w.replicas k) o (row_at g w (Replica k)).live) t s
+  ended_is (Joiner t) o ps kept (Joiner s) = set_is w.joiners (λ k. ended land_joiner (w.joiners k) o (row_at g w (Joiner k)).live) t s
+  ended_is _ o ps kept _ = refl
+
+  pub begun_own : (n : Node) (i : Input) → at_node (after g w (Begin n i)) n ≡ begun (at_node w n) i
+  begun_own n i = begun_is n i n ∙ cond-true (same_node n n) _ _ (same_node-self n)
+
+  -- what an End leaves its node
+  pub ended_own : (e : Entry) (n : Node) → IsEnd e n → (at_node (after g w e) n).live ≡ Some (row_at g w n).live
+  ended_own e n (o, ps, kept, q) = ap (λ x. (at_node (after g w x) n).live) q ∙ ap (λ (c : Cell (KeptOf n) (LiveOf n)). c.live) (ended_is n o ps kept n ∙ cond-true (same_node n n) _ _ (same_node-self n))
+
+  -- the row of a node that is up, with its open turn's input
+  pub turned : (n : Node) (l : LiveOf n) (i : Input) → (at_node w n).live ≡ Some l → opened_at w n ≡ Some i → row_at g w n ≡ turn_at g n (at_node w n).kept l i
+  turned n l i up o = ap (λ x. row (start_at n) (turn_at g n) (at_node w n).kept x (at_node w n).opened) up ∙ ap (λ x. row (start_at n) (turn_at g n) (at_node w n).kept (Some l) x) o
+
+  may_begin : (n : Node) (i : Input) → May g w (Begin n i) → opened_at w n ≡ None
+  may_begin (Dispatcher s) i m = m.1.0
+  may_begin (Server s) i m = m.1.0
+  may_begin (Replica r) i m = m.1.0
+  may_begin (Joiner j) i m = m.1.0
+
+  may_end : (n : Node) (o : Option Note) (ps : List (Node × Packet)) (kept : ℕ) → May g w (End n o ps kept) → IsNode g n × IsTurn g (at_node w n) (row_at g w n) o ps
+  may_end (Dispatcher s) o ps kept m = (m.0, m.1)
+  may_end (Server s) o ps kept m = (m.0, m.1)
+  may_end (Replica r) o ps kept m = (m.0, m.1)
+  may_end (Joiner j) o ps kept m = (m.0, m.1)
+
+  is_work : (n : Node) (l : LiveOf n) → (at_node w n).live ≡ Some l → (o : Option Note) (ps : List (Node × Packet)) (kept : ℕ) → WorksAt n o l (row_at g w n).live → IsWork g w (End n o ps kept)
+  is_work n l up o ps kept works = go n l (both (WorksAt n o) _ _ l _ up (ended_own (End n o ps kept) n (o, ps, kept, refl)) works) works
+    where
+      both : {L : Type 0} (R : L → L → Type 0) (x y : Option L) (a b : L) → x ≡ Some a → y ≡ Some b → R a b → BothUp R x y
+      both R x y a b p q r = subst (λ z. BothUp R z y) (sym p) (subst (λ z. BothUp R (Some a) z) (sym q) r)
+
+      go : (n : Node) (l : LiveOf n) → BothUp (WorksAt n o) (at_node w n).live (at_node (after g w (End n o ps kept)) n).live → WorksAt n o l (row_at g w n).live → IsWork g w (End n o ps kept)
+      go (Dispatcher s) l b works = b
+      go (Server s) l b works = b
+      go (Replica r) l b works = works
+      go (Joiner j) l b works = b
+
+-- ---- one entry of an interval
+
+-- what is on its way after one more entry
+abbrev pub CarriesOne : (ℕ → Bool) → List Sent → Entry → List Sent → Type 0
+CarriesOne dead air (Begin n (Deliver from p)) next = put_in (record { from = from; to = n; packet = p }) next air
+CarriesOne dead air (Begin n i) next = next ≡ air
+CarriesOne dead air (End n _ ps kept) next = next ≡ filter (to_live dead) (sends n ps) ++ air
+CarriesOne dead air (Stop n landed) next = ⊥
+
+-- it may come, what is on its way goes on, it is no work, and numbers can grow before it
+pub record Step (g : Setting) (dead : ℕ → Bool) (w : World) (air next : List Sent) (e : Entry) (es : List Entry) : Type 0 where
+  pub may : May g w e
+  pub carries : CarriesOne dead air e next
+  pub idle : IsWork g w e → ⊥
+  pub limits : HasNumbers g w
+
+-- what each entry of an interval keeps holds at its end, if nothing is done in it
+pub along_idle : (g : Setting) (dead : ℕ → Bool) (P : World → List Sent → List Entry → Type 0) → ((w : World) (air next : List Sent) (e : Entry) (es : List Entry) → Step g dead w air next e es → P w air (e ∷ es) → P (after g w e) next es) → (es : List Entry) (w : World) → IsIdle g dead w es → P w [] es → P (world_after g w es) [] []
+along_idle g dead P step es w i p = go es w [] i.run i.interval.carries i.limits i.no_work p
+  where
+    one : (air : List Sent) (e : Entry) (es : List Entry) → Carries dead air (e ∷ es) → (next : List Sent) × CarriesOne dead air e next × Carries dead next es
+    one air (Begin n (Deliver from p)) es c = c
+    one air (Begin n _) es c = (air, refl, c)
+    one air (End n _ ps kept) es c = (filter (to_live dead) (sends n ps) ++ air, refl, c)
+    one air (Stop n landed) es c = absurd c
+
+    go : (es : List Entry) (w : World) (air : List Sent) → IsRun g w es → Carries dead air es → IsWithinLimits g w es → NoWork g w es → P w air es → P (world_after g w es) [] []
+    go [] w air r c l n p = subst (λ a. P w a []) c p
+    go (e ∷ es) w air r c l n p = let o = one air e es c in go es (after g w e) o.0 r.1 o.2 l.1 n.1 (step w air o.0 e es (record { may = r.0; carries = o.1; idle = n.0; limits = l.0 }) p)
+
+-- ---- what a node is to take
+
+-- a packet that is on its way to it, or a Tick that is to come
+abbrev pub IsDue : List Sent → List Entry → Node → Input → Type 0
+IsDue air es n (Deliver from p) = Mem (record { from = from; to = n; packet = p }) air
+IsDue air es n Tick = Mem (Begin n Tick) es
+IsDue air es n Start = ⊥
+IsDue air es n Own = ⊥
+
+-- or its open turn took it
+abbrev pub Pending : World → List Sent → List Entry → Node → Input → Type 0
+Pending w air es n i = IsDue air es n i ⊎ (opened_at w n ≡ Some i)
+
+-- the entry sends it to a node that takes part
+abbrev pub IsSent : (ℕ → Bool) → Entry → Sent → Type 0
+IsSent dead e x = (n : Node) × (o : Option Note) × (ps : List (Node × Packet)) × (kept : ℕ) × (e ≡ End n o ps kept) × Mem x (sends n ps) × (is_out dead x.to ≡ false)
+
+-- a packet of a row is sent to a node that its address means
+addressed : (g : Setting) (from : Node) (as_ : List (To × Packet)) (ps : List (Node × Packet)) → Addressed g as_ ps → (a : To × Packet) → Mem a as_ → (to : Node) × IsTo g a.0 to × Mem (record { from = from; to = to; packet = a.1 }) (sends from ps)
+addressed g from [] ps h a m = absurd m
+addressed g from (b ∷ as_) [] h a m = absurd h
+addressed g from (b ∷ as_) (p ∷ ps) h a (inl e) = (p.0, subst (λ (z : To × Packet). IsTo g z.0 p.0) e h.0.0, inl (ap (λ q. record { from = from; to = p.0; packet = q }) (sym h.0.1 ∙ ap (λ (z : To × Packet). z.1) e)))
+addressed g from (b ∷ as_) (p ∷ ps) h a (inr m) = let i = addressed g from as_ ps h.1 a m in (i.0, i.1, inr i.2)
+
+-- what holds of each packet of a row holds of what is sent
+each_sent : (g : Setting) (from : Node) (P : Packet → Type 0) (as_ : List (To × Packet)) (ps : List (Node × Packet)) → Addressed g as_ ps → Each (λ (a : To × Packet). P a.1) as_ → (x : Sent) → Mem x (sends from ps) → P x.packet
+each_sent g from P [] [] h each x m = absurd m
+each_sent g from P [] (p ∷ ps) h each x m = absurd h
+each_sent g from P (b ∷ as_) [] h each x m = absurd m
+each_sent g from P (b ∷ as_) (p ∷ ps) h each x (inl e) = subst P (h.0.1 ∙ ap (λ (z : Sent). z.packet) e) each.0
+each_sent g from P (b ∷ as_) (p ∷ ps) h each x (inr m) = each_sent g from P as_ ps h.1 each.1 x m
+
+module _ (dead : ℕ → Bool) (x : Sent) where
+  passing : (xs : List Sent) → Mem x xs → to_live dead x ≡ true → Mem x (filter (to_live dead) xs)
+  passing [] m t = absurd m
+  passing (y ∷ xs) m t =
+      cond_both (to_live dead y) (y ∷ filter (to_live dead) xs) (filter (to_live dead) xs) (Mem x)
+      (λ e. ⊎_elim (λ s. inl s) (λ k. inr (passing xs k t)) m)
+      (λ e. ⊎_elim (λ s. clash (to_live dead x) t (ap (to_live dead) (sym s) ∙ e)) (λ k. passing xs k t) m)
+
+  passed : (xs : List Sent) → Mem x (filter (to_live dead) xs) → Mem x xs × (to_live dead x ≡ true)
+  passed [] m = absurd m
+  passed (y ∷ xs) m =
+      cond_both (to_live dead y) (y ∷ filter (to_live dead) xs) (filter (to_live dead) xs) (λ zs. Mem x zs → Mem x (y ∷ xs) × (to_live dead x ≡ true))
+      (λ e. ⊎_elim (λ s. (inl s, ap (to_live dead) (sym s) ∙ e)) (λ k. let h = passed xs k in (inr h.0, h.1)))
+      (λ e k. let h = passed xs k in (inr h.0, h.1)) m
+
+  -- an element of a list stays, but for the one taken out
+  put_out : (y : Sent) (xs ys : List Sent) → put_in y xs ys → Mem x ys → (y ≡ x) ⊎ Mem x xs
+  put_out y xs ys (front, back, a, b) m =
+      ⊎_elim (λ l. inr (subst (Mem x) (sym a) (mem_left x front back l)))
+      (λ r. ⊎_elim (λ e. inl e) (λ k. inr (subst (Mem x) (sym a) (mem_right x front back k))) r)
+      (mem_split x front (y ∷ back) (subst (Mem x) b m))
+
+  put_back : (y : Sent) (xs ys : List Sent) → put_in y xs ys → (y ≡ x) ⊎ Mem x xs → Mem x ys
+  put_back y xs ys (front, back, a, b) (inl e) = subst (Mem x) (sym b) (mem_right x front (y ∷ back) (inl e))
+  put_back y xs ys (front, back, a, b) (inr m) = subst (Mem x) (sym b) (⊎_elim (λ l. mem_left x front (y ∷ back) l) (λ r. mem_right x front (y ∷ back) (inr r)) (mem_split x front back (subst (Mem x) a m)))
+
+  air_stays : (air next : List Sent) (e : Entry) → CarriesOne dead air e next → Mem x air → Mem x next ⊎ (e ≡ Begin x.to (Deliver x.from x.packet))
+  air_stays air next (Begin n (Deliver from p)) c m = ⊎_elim (λ s. inr (ap (λ (y : Sent). Begin y.to (Deliver y.from y.packet)) s)) (λ k. inl k) (put_out _ next air c m)
+  air_stays air next (Begin n _) c m = inl (subst (Mem x) (sym c) m)
+  air_stays air next (End n _ ps kept) c m = inl (subst (Mem x) (sym c) (mem_right x (filter (to_live dead) (sends n ps)) air m))
+  air_stays air next (Stop n landed) c m = absurd c
+
+  was_in_air : (air next : List Sent) (e : Entry) → CarriesOne dead air e next → Mem x next → Mem x air ⊎ IsSent dead e x
+  was_in_air air next (Begin n (Deliver from p)) c m = inl (put_back _ next air c (inr m))
+  was_in_air air next (Begin n _) c m = inl (subst (Mem x) c m)
+  was_in_air air next (End n o ps kept) c m =
+      ⊎_elim (λ k. let h = passed (sends n ps) k in inr (n, o, ps, kept, refl, h.0, not-true (is_out dead x.to) h.1)) (λ k. inl k)
+      (mem_split x (filter (to_live dead) (sends n ps)) air (subst (Mem x) c m))
+  was_in_air air next (Stop n landed) c m = absurd c
+
+-- where a node that takes part stands quiet, no turn is open, and it is to take nothing
+pub quiet_closed : (g : Setting) (dead : ℕ → Bool) (w : World) → IsQuiet g dead w → (n : Node) → IsNode g n → is_out dead n ≡ false → opened_at w n ≡ None
+quiet_closed g dead w q (Dispatcher s) is live = (q.dispatchers s is).0
+quiet_closed g dead w q (Server s) is live = (q.servers s is).0
+quiet_closed g dead w q (Replica r) is live = (q.replicas r is live).0
+quiet_closed g dead w q (Joiner j) is live = (q.joiners j is).0
+
+pub none_pending : (g : Setting) (dead : ℕ → Bool) (w : World) → IsQuiet g dead w → (n : Node) → IsNode g n → is_out dead n ≡ false → (i : Input) → Pending w [] [] n i → ⊥
+none_pending g dead w q n is live i (inr o) = none_some i (sym (quiet_closed g dead w q n is live) ∙ o)
+none_pending g dead w q n is live (Deliver from p) (inl m) = m
+none_pending g dead w q n is live Tick (inl m) = m
+none_pending g dead w q n is live Start (inl m) = m
+none_pending g dead w q n is live Own (inl m) = m
+
+-- a node that is unfinished where an interval begins has a Tick
+pub comes : (g : Setting) (dead : ℕ → Bool) (w : World) (es : List Entry) → IsInterval g dead w es → (n : Node) → IsNode g n → is_unfinished g w n ≡ true → Pending w [] es n Tick
+comes g dead w es i n is u = let one : length (filter (is_tick_of n) es) ≡ 1 = length-filter (is_tick_of n) es ∙ i.ticks n is ∙ ap ticks_due u in inl (some_tick es (omega (arith, one)))
+  where
+    is_tick : (e : Entry) → is_tick_of n e ≡ true → e ≡ Begin n Tick
+    is_tick (Begin m Tick) t = ap (λ k. Begin k Tick) (sym (same_node-true n m t))
+    is_tick _ t = clash false t refl
+
+    some_tick : (es : List Entry) → 0 < length (filter (is_tick_of n) es) → Mem (Begin n Tick) es
+    some_tick [] h = absurd (omega arith)
+    some_tick (e ∷ es) h =
+        cond_both (is_tick_of n e) (e ∷ filter (is_tick_of n) es) (filter (is_tick_of n) es) (λ xs. 0 < length xs → Mem (Begin n Tick) (e ∷ es)) (λ t _. inl (is_tick e t)) (λ _ k. inr (some_tick es k)) h
+
+-- both servers are up
+abbrev pub SitesUp : World → Type 0
+SitesUp w = (s : ℕ) → s < 2 → (l : ServerLive) × ((w.servers s).live ≡ Some l)
+
+module _ {g : Setting} {dead : ℕ → Bool} {w : World} {air next : List Sent} {e : Entry} {es : List Entry} (step : Step g dead w air next e es) where
+  -- nothing, or its turn begins or ends
+  cell_after : (n : Node) (P : Cell (KeptOf n) (LiveOf n) → Type 0) → P (at_node w n) → ((i : Input) → e ≡ Begin n i → P (begun (at_node w n) i)) → ((o : Option Note) (ps : List (Node × Packet)) (kept : ℕ) → e ≡ End n o ps kept → P (ended (land_at n) (at_node w n) o (row_at g w n).live)) → P (at_node (after g w e) n)
+  cell_after n P same begins ends = go e step.carries begins ends
+    where
+      go : (e : Entry) → CarriesOne dead air e next → ((i : Input) → e ≡ Begin n i → P (begun (at_node w n) i)) → ((o : Option Note) (ps : List (Node × Packet)) (kept : ℕ) → e ≡ End n o ps kept → P (ended (land_at n) (at_node w n) o (row_at g w n).live)) → P (at_node (after g w e) n)
+      go (Begin m i) c begins ends = subst P (sym (begun_is g w m i n)) (cond_both (same_node n m) _ _ P (λ t. begins i (ap (λ k. Begin k i) (sym (same_node-true n m t)))) (λ _. same))
+      go (End m o ps kept) c begins ends = subst P (sym (ended_is g w m o ps kept n)) (cond_both (same_node n m) _ _ P (λ t. ends o ps kept (ap (λ k. End k o ps kept) (sym (same_node-true n m t)))) (λ _. same))
+      go (Stop m landed) c begins ends = absurd c
+
+  live_after : (n : Node) → ((at_node (after g w e) n).live ≡ (at_node w n).live) ⊎ (IsEnd e n × ((at_node (after g w e) n).live ≡ Some (row_at g w n).live))
+  live_after n = cell_after n (λ c. (c.live ≡ (at_node w n).live) ⊎ (IsEnd e n × (c.live ≡ Some (row_at g w n).live))) (inl refl) (λ i q. inl refl) (λ o ps kept q. inr ((o, ps, kept, q), refl))
+
+  -- a node knows what it knew, or what its row says
+  pub lives : {X : Type 0} (n : Node) → ((at_node (after g w e) n).live ≡ (at_node w n).live → X) → (IsEnd e n → (at_node (after g w e) n).live ≡ Some (row_at g w n).live → X) → X
+  lives n same ended = ⊎_elim same (λ q. ended q.0 q.1) (live_after n)
+
+  pub up_after : (n : Node) (l : LiveOf n) → (at_node w n).live ≡ Some l → (m : LiveOf n) × ((at_node (after g w e) n).live ≡ Some m)
+  up_after n l up = lives n (λ same. (l, same ∙ up)) (λ end now. ((row_at g w n).live, now))
+
+  pub sites_up : SitesUp w → SitesUp (after g w e)
+  sites_up up s lt = let u = up s lt in up_after (Server s) u.0 u.1
+
+  -- what its End may be: that of the open turn, with its row's note and packets
+  pub ends : (n : Node) (end : IsEnd e n) → IsNode g n × IsTurn g (at_node w n) (row_at g w n) end.0 end.1
+  ends n (o, ps, kept, q) = may_end g w n o ps kept (subst (May g w) q step.may)
+
+  -- what a node's disk holds: the same, or its row's note besides
+  pub kept_after : (n : Node) → ((at_node (after g w e) n).kept ≡ (at_node w n).kept) ⊎ (IsEnd e n × ((at_node (after g w e) n).kept ≡ land (land_at n) (row_at g w n).note (at_node w n).kept))
+  kept_after n =
+      cell_after n (λ c. (c.kept ≡ (at_node w n).kept) ⊎ (IsEnd e n × (c.kept ≡ land (land_at n) (row_at g w n).note (at_node w n).kept))) (inl refl) (λ i q. inl refl)
+      (λ o ps kept q. inr ((o, ps, kept, q), ap (λ x. land (land_at n) x (at_node w n).kept) (ends n (o, ps, kept, q)).1.1))
+
+  -- a row's cases, where its turn ends
+  pub by_row : (n : Node) → IsEnd e n → (P : Out (LiveOf n) → Type 0) → ((at_node w n).live ≡ None → P (start_at n (at_node w n).kept)) → ((l : LiveOf n) → (at_node w n).live ≡ Some l → (i : Input) → opened_at w n ≡ Some i → P (turn_at g n (at_node w n).kept l i)) → P (row_at g w n)
+  by_row n end P starts turns = go (at_node w n).live starts turns
+    where
+      go : (o : Option (LiveOf n)) → (o ≡ None → P (start_at n (at_node w n).kept)) → ((l : LiveOf n) → o ≡ Some l → (i : Input) → opened_at w n ≡ Some i → P (turn_at g n (at_node w n).kept l i)) → P (row (start_at n) (turn_at g n) (at_node w n).kept o (at_node w n).opened)
+      go None starts turns = starts refl
+      go (Some l) starts turns = let i = (ends n end).1.0 in subst (λ x. P (row (start_at n) (turn_at g n) (at_node w n).kept (Some l) x)) (sym i.1) (turns l refl i.0 i.1)
+
+  pub by_turn : (n : Node) (l : LiveOf n) → (at_node w n).live ≡ Some l → IsEnd e n → (P : Out (LiveOf n) → Type 0) → ((i : Input) → opened_at w n ≡ Some i → P (turn_at g n (at_node w n).kept l i)) → P (row_at g w n)
+  by_turn n l up end P each = let i = (ends n end).1.0 in subst P (sym (turned g w n l i.0 up i.1)) (each i.0 i.1)
+
+  -- the row of the turn that ends is no work
+  pub no_work : (n : Node) (l : LiveOf n) → (at_node w n).live ≡ Some l → IsEnd e n → ((o : Option Note) → WorksAt n o l (row_at g w n).live) → ⊥
+  no_work n l up (o, ps, kept, q) works = step.idle (subst (IsWork g w) (sym q) (is_work g w n l up o ps kept (works o)))
+
+  -- an open turn stays open until its End
+  stays_open : (n : Node) (i : Input) → opened_at w n ≡ Some i → (opened_at (after g w e) n ≡ Some i) ⊎ (IsEnd e n × (opened_at w n ≡ Some i))
+  stays_open n i o = cell_after n (λ c. (c.opened ≡ Some i) ⊎ (IsEnd e n × (opened_at w n ≡ Some i))) (inl o) (λ j q. none_some i (sym (may_begin g w n j (subst (May g w) q step.may)) ∙ o)) (λ o' ps kept q. inr ((o', ps, kept, q), o))
+
+  begins : (n : Node) (i : Input) → e ≡ Begin n i → opened_at (after g w e) n ≡ Some i
+  begins n i q = ap (λ x. opened_at (after g w x) n) q ∙ ap (λ (c : Cell (KeptOf n) (LiveOf n)). c.opened) (begun_own g w n i)
+
+  goes_on : (n : Node) (i : Input) → Pending w air (e ∷ es) n i → Pending (after g w e) next es n i ⊎ (IsEnd e n × (opened_at w n ≡ Some i))
+  goes_on n i (inr o) = ⊎_elim (λ k. inl (inr k)) (λ k. inr k) (stays_open n i o)
+  goes_on n (Deliver from p) (inl m) = ⊎_elim (λ k. inl (inl k)) (λ q. inl (inr (begins n (Deliver from p) q))) (air_stays dead (record { from = from; to = n; packet = p }) air next e step.carries m)
+  goes_on n Tick (inl (inl q)) = inl (inr (begins n Tick q))
+  goes_on n Tick (inl (inr m)) = inl (inl m)
+  goes_on n Start (inl m) = absurd m
+  goes_on n Own (inl m) = absurd m
+
+  -- what a node is to take it is still, or the entry ends the turn that took it
+  pub goes : {X : Type 0} (n : Node) (i : Input) → Pending w air (e ∷ es) n i → (Pending (after g w e) next es n i → X) → (IsEnd e n → opened_at w n ≡ Some i → X) → X
+  goes n i u still ended = ⊎_elim still (λ q. ended q.0 q.1) (goes_on n i u)
+
+  -- a packet that is on its way after the entry was so before, or the entry sends it
+  pub was_pending : (x : Sent) → Pending (after g w e) next es x.to (Deliver x.from x.packet) → Pending w air (e ∷ es) x.to (Deliver x.from x.packet) ⊎ IsSent dead e x
+  was_pending x (inl m) = ⊎_elim (λ k. inl (inl k)) (λ k. inr k) (was_in_air dead x air next e step.carries m)
+  was_pending x (inr o) =
+      inl (cell_after x.to (λ c. c.opened ≡ Some i → Pending w air (e ∷ es) x.to i) (λ o. inr o)
+      (λ j q o. inl (put_back dead x x next air (subst (λ (y : Entry). CarriesOne dead air y next) (q ∙ ap (Begin x.to) (some_same j i o)) step.carries) (inl refl)))
+      (λ o ps kept q k. none_some i k) o)
+    where
+      i : Input
+      i = Deliver x.from x.packet
+
+  -- a packet of a row is to be taken after the End, where its node takes part
+  pub row_sent : (n : Node) → IsEnd e n → (a : To × Packet) → Mem a (row_at g w n).packets → (to : Node) × IsTo g a.0 to × (is_out dead to ≡ false → Pending (after g w e) next es to (Deliver n a.1))
+  row_sent n (o, ps, kept, q) a m =
+      let s = addressed g n (row_at g w n).packets ps (ends n (o, ps, kept, q)).1.2 a m in
+      (s.0, s.1, λ live. inl (subst (Mem _) (sym (subst (λ (x : Entry). CarriesOne dead air x next) q step.carries)) (mem_left _ (filter (to_live dead) (sends n ps)) air (passing dead _ (sends n ps) s.2 (ap not live)))))
+
+  -- to one node
+  pub row_sent_to : (n : Node) → IsEnd e n → (to : Node) (p : Packet) → Mem (Only to, p) (row_at g w n).packets → is_out dead to ≡ false → Pending (after g w e) next es to (Deliver n p)
+  row_sent_to n end to p m live =
+      let s = row_sent n end (Only to, p) m in
+      subst (λ (x : Node). Pending (after g w e) next es x (Deliver n p)) (sym s.1) (s.2 (subst (λ (x : Node). is_out dead x ≡ false) s.1 live))
+
+  pub each_of_row : (P : Packet → Type 0) (n : Node) (end : IsEnd e n) → Each (λ (a : To × Packet). P a.1) (row_at g w n).packets → (x : Sent) → Mem x (sends n end.1) → P x.packet
+  each_of_row P n end each = each_sent g n P (row_at g w n).packets end.1 (ends n end).1.2 each
