@@ -217,7 +217,7 @@ module _ (dead : ℕ → Bool) (x : Sent) where
       (λ r. ⊎_elim (λ e. inl e) (λ k. inr (subst (Mem x) (sym a) (mem_right x front back k))) r)
       (mem_split x front (y ∷ back) (subst (Mem x) b m))
 
-  put_back : (y : Sent) (xs ys : List Sent) → put_in y xs ys → (y ≡ x) ⊎ Mem x xs → Mem x ys
+  pub put_back : (y : Sent) (xs ys : List Sent) → put_in y xs ys → (y ≡ x) ⊎ Mem x xs → Mem x ys
   put_back y xs ys (front, back, a, b) (inl e) = subst (Mem x) (sym b) (mem_right x front (y ∷ back) (inl e))
   put_back y xs ys (front, back, a, b) (inr m) = subst (Mem x) (sym b) (⊎_elim (λ l. mem_left x front (y ∷ back) l) (λ r. mem_right x front (y ∷ back) (inr r)) (mem_split x front back (subst (Mem x) a m)))
 

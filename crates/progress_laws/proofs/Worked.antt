@@ -1,12 +1,12 @@
 -- The worked intervals, computed.
-use Rattle.std.proofs.Common.{◌≡◌, inl, ⊎_elim, ℕ, zero, suc, ◌<◌, Bool, true, false, cond, ◌&&◌, nat_lt, List, [], ◌∷◌, ◌++◌, length, Some, None, refl, sym, ap, ◌∙◌, subst, arith, lit<}
+use Rattle.std.proofs.Common.{◌≡◌, inl, ⊎_elim, ℕ, zero, suc, ◌<◌, Bool, true, false, nat_lt, ◌==◌, List, [], ◌∷◌, ◌++◌, length, Some, None, refl, sym, ap, ◌∙◌, subst, arith, lit<}
 use Rattle.std.specs.Prelude.{⊤, not, is_some, filter, Option}
-use Rattle.std.proofs.lemmas.Bool.{true≢false, and_parts, ltb-true, not-true}
+use Rattle.std.proofs.lemmas.Bool.{true≢false, ltb-true, eqb-true, not-true}
 use Rattle.photon_model.proofs.Worlds.{of_two}
-use Rattle.photon_model.proofs.Words.{clash, joiner_row, Ballot, is_same, same_true, same_batch, same_batch-true, Place, is_place, place_true, Mem, option_or_else, mem_right, none_some, some_same, Packet, Prepare, Promise, Nack, Accept, Accepted, Chosen, Node, Dispatcher, Server, Replica, Joiner, To, Only, AnyJoiner, Input, Start, Deliver, IsNode, Addressed, Sent, IsJoiner, shards, Out, is_empty, dispatcher_wants, ServerLive, is_below_limit, server_wants, server_turn, IfUp, World, Entry, Begin, End, Stop, Fits, WasSent, MayBegin, May, IsRun, dispatcher_row, server_row, replica_row, sends, after, world_after, same_node, UpWith, BothUp, ServerWorks, IsWork, put_in, ticks_of, ticks_due, is_unfinished, to_live, Carries, IsQuiet, Cell}
+use Rattle.photon_model.proofs.Words.{Batch, Note, IsInterval, clash, Ballot, is_same, same_true, same_batch, same_batch-true, Place, is_place, place_true, Mem, mem_right, Packet, Prepare, Promise, Nack, Accept, Accepted, Chosen, Node, Dispatcher, Server, Replica, Joiner, To, Only, AnyJoiner, Input, Start, Deliver, IsNode, Addressed, Sent, IsJoiner, shards, Out, dispatcher_wants, ServerLive, is_below_limit, server_wants, server_turn, IfUp, World, Entry, Begin, End, Stop, Fits, WasSent, MayBegin, May, IsRun, sends, after, world_after, same_node, UpWith, BothUp, ServerWorks, IsWork, put_in, ticks_of, ticks_due, is_unfinished, to_live, Carries, IsQuiet, Cell}
 use Rattle.progress_laws.specs.Idle.{HasNumbers, IsWithinLimits, NoWork, IsIdle}
 use Rattle.progress_laws.specs.Rows.{three, all_live, to_one, ends, plays, duel, restarts, beginning, down_again, stale, first, second, third, fourth, after_first, after_second, after_third, CarriesOnce, ThreeAreIdle}
-use Rattle.progress_laws.proofs.Moments.{at_node, row_at, same_node-true, begun_own, ended_own, turned}
+use Rattle.progress_laws.proofs.Moments.{put_back, at_node, row_at, same_node-true, begun_own, ended_own, turned}
 use Rattle.progress_laws.proofs.Turning.{teaches, turns}
 
 -- nothing is taken out of an empty list
@@ -37,132 +37,92 @@ carries_once =
       twice = λ (rest, p, (rest', q, c)). none_out _ rest' (subst (λ (a : List Sent). put_in _ rest' a) (one_out _ _ rest p) q);
     }
 
+-- ---- what computes to a proof, or to nothing
+
+got : {A : Type 0} (o : Option A) → is_some o ≡ true → A
+got None e = clash false e refl
+got (Some a) e = a
+
+abbrev if_true : {A : Type 0} (b : Bool) → (b ≡ true → A) → Option A
+if_true true f = Some (f refl)
+if_true false f = None
+
+abbrev with_one : {A B : Type 0} → Option A → (A → B) → Option B
+with_one None f = None
+with_one (Some a) f = Some (f a)
+
+abbrev with_two : {A B C : Type 0} → Option A → Option B → (A → B → C) → Option C
+with_two None b f = None
+with_two (Some a) b f = with_one b (f a)
+
+abbrev with_three : {A B C D : Type 0} → Option A → Option B → Option C → (A → B → C → D) → Option D
+with_three None b c f = None
+with_three (Some a) b c f = with_two b c (f a)
+
+abbrev with_four : {A B C D E : Type 0} → Option A → Option B → Option C → Option D → (A → B → C → D → E) → Option E
+with_four None b c d f = None
+with_four (Some a) b c d f = with_three b c d (f a)
+
+abbrev or_else : {A : Type 0} → Option A → Option A → Option A
+or_else None b = b
+or_else (Some a) b = Some a
+
 -- ---- packets compared
 
-abbrev same_packet : Packet → Packet → Bool
-same_packet (Prepare p b) (Prepare q c) = is_place p q && is_same b c
-same_packet (Promise p b None) (Promise q c None) = is_place p q && is_same b c
-same_packet (Nack p b above) (Nack q c other) = (is_place p q && is_same b c) && is_same above other
-same_packet (Accept p b v) (Accept q c w) = (is_place p q && is_same b c) && same_batch v w
-same_packet (Accepted p b) (Accepted q c) = is_place p q && is_same b c
-same_packet (Chosen p v) (Chosen q w) = is_place p q && same_batch v w
-same_packet _ _ = false
+abbrev try_place : (p q : Place) → Option (p ≡ q)
+try_place p q = if_true (is_place p q) (place_true p q)
 
-same_both : (P : Place → Ballot → Packet) (p q : Place) (b c : Ballot) → (is_place p q && is_same b c) ≡ true → P p b ≡ P q c
-same_both P p q b c e = let h = and_parts (is_place p q) (is_same b c) e in ap (λ x. P x b) (place_true p q h.0) ∙ ap (P q) (same_true b c h.1)
+abbrev try_ballot : (b c : Ballot) → Option (b ≡ c)
+try_ballot b c = if_true (is_same b c) (same_true b c)
 
-same_packet-true : (x y : Packet) → same_packet x y ≡ true → x ≡ y
-same_packet-true (Prepare p b) (Prepare q c) e = same_both Prepare p q b c e
-same_packet-true (Promise p b None) (Promise q c None) e = same_both (λ p b. Promise p b None) p q b c e
-same_packet-true (Nack p b above) (Nack q c other) e =
-    let h = and_parts (is_place p q && is_same b c) (is_same above other) e in
-    same_both (λ p b. Nack p b above) p q b c h.0 ∙ ap (Nack q c) (same_true above other h.1)
-same_packet-true (Accept p b v) (Accept q c w) e =
-    let h = and_parts (is_place p q && is_same b c) (same_batch v w) e in
-    same_both (λ p b. Accept p b v) p q b c h.0 ∙ ap (Accept q c) (same_batch-true v w h.1)
-same_packet-true (Accepted p b) (Accepted q c) e = same_both Accepted p q b c e
-same_packet-true (Chosen p v) (Chosen q w) e = let h = and_parts (is_place p q) (same_batch v w) e in ap (λ x. Chosen x v) (place_true p q h.0) ∙ ap (Chosen q) (same_batch-true v w h.1)
-same_packet-true _ _ e = absurd (true≢false (sym e))
+abbrev try_batch : (v w : Batch) → Option (v ≡ w)
+try_batch v w = if_true (same_batch v w) (same_batch-true v w)
 
-abbrev same_sent : Sent → Sent → Bool
-same_sent x y = (same_node x.from y.from && same_node x.to y.to) && same_packet x.packet y.packet
+abbrev try_node : (a b : Node) → Option (a ≡ b)
+try_node a b = if_true (same_node a b) (same_node-true a b)
 
-same_sent-true : (x y : Sent) → same_sent x y ≡ true → x ≡ y
-same_sent-true x y e =
-    let h = and_parts (same_node x.from y.from && same_node x.to y.to) (same_packet x.packet y.packet) e in
-    let n = and_parts (same_node x.from y.from) (same_node x.to y.to) h.0 in
-    let a = same_node-true x.from y.from n.0 in
-    let b = same_node-true x.to y.to n.1 in
-    let c = same_packet-true x.packet y.packet h.1 in
-    λ i. record { from = a i; to = b i; packet = c i }
+abbrev try_packet : (x y : Packet) → Option (x ≡ y)
+try_packet (Prepare p b) (Prepare q c) = with_two (try_place p q) (try_ballot b c) (λ e f i. Prepare (e i) (f i))
+try_packet (Promise p b None) (Promise q c None) = with_two (try_place p q) (try_ballot b c) (λ e f i. Promise (e i) (f i) None)
+try_packet (Nack p b above) (Nack q c other) = with_three (try_place p q) (try_ballot b c) (try_ballot above other) (λ e f h i. Nack (e i) (f i) (h i))
+try_packet (Accept p b v) (Accept q c w) = with_three (try_place p q) (try_ballot b c) (try_batch v w) (λ e f h i. Accept (e i) (f i) (h i))
+try_packet (Accepted p b) (Accepted q c) = with_two (try_place p q) (try_ballot b c) (λ e f i. Accepted (e i) (f i))
+try_packet (Chosen p v) (Chosen q w) = with_two (try_place p q) (try_batch v w) (λ e f i. Chosen (e i) (f i))
+try_packet _ _ = None
 
 -- the list without the first such packet
-abbrev behind : Sent → Option (List Sent) → Option (List Sent)
-behind y None = None
-behind y (Some ys) = Some (y ∷ ys)
-
-abbrev without_one : Sent → List Sent → Option (List Sent)
-without_one x [] = None
-without_one x (y ∷ ys) = cond (same_sent y x) (Some ys) (behind y (without_one x ys))
-
-put_one : (x : Sent) (xs rest : List Sent) → without_one x xs ≡ Some rest → put_in x rest xs
-put_one x [] rest e = none_some rest e
-put_one x (y ∷ ys) rest e = go (same_sent y x) refl (without_one x ys) e (put_one x ys)
-  where
-    go : (b : Bool) → same_sent y x ≡ b → (o : Option (List Sent)) → cond b (Some ys) (behind y o) ≡ Some rest → ((more : List Sent) → o ≡ Some more → put_in x more ys) → put_in x rest (y ∷ ys)
-    go true t o q ih = ([], rest, refl, (λ i. same_sent-true y x t i ∷ some_same ys rest q i))
-    go false t None q ih = none_some rest q
-    go false t (Some more) q ih =
-        let h = ih more refl in
-        (y ∷ h.0, h.1, sym (some_same (y ∷ more) rest q) ∙ ap (λ zs. y ∷ zs) h.2, ap (λ zs. y ∷ zs) h.3)
-
-is_in : (x : Sent) (xs : List Sent) → is_some (without_one x xs) ≡ true → Mem x xs
-is_in x xs e = go (without_one x xs) refl e
-  where
-    go : (o : Option (List Sent)) → without_one x xs ≡ o → is_some o ≡ true → Mem x xs
-    go None q t = absurd (true≢false (sym t))
-    go (Some rest) q t = let h = put_one x xs rest q in subst (Mem x) (sym h.3) (mem_right x h.0 (x ∷ h.1) (inl refl))
+abbrev take_out : (x : Sent) (ys : List Sent) → Option ((rest : List Sent) × put_in x rest ys)
+take_out x [] = None
+take_out x (y ∷ ys) =
+    or_else (with_three (try_node y.from x.from) (try_node y.to x.to) (try_packet y.packet x.packet) (λ a b c. (ys, ([], ys, refl, λ i. record { from = a i; to = b i; packet = c i } ∷ ys))))
+    (with_one (take_out x ys) (λ (rest, (front, back, a, b)). (y ∷ rest, (y ∷ front, back, ap (λ zs. y ∷ zs) a, ap (λ zs. y ∷ zs) b))))
 
 -- ---- what is played is a run
 
-abbrev is_fit : {L : Type 0} → Option L → Input → Bool
-is_fit None Start = true
-is_fit None _ = false
-is_fit (Some l) Start = false
-is_fit (Some l) _ = true
+abbrev try_fit : {L : Type 0} (o : Option L) (i : Input) → Option (Fits o i)
+try_fit None Start = Some tt
+try_fit None _ = None
+try_fit (Some l) Start = None
+try_fit (Some l) _ = Some tt
 
-fits : {L : Type 0} (o : Option L) (i : Input) → is_fit o i ≡ true → Fits o i
-fits None Start e = tt
-fits None _ e = absurd (true≢false (sym e))
-fits (Some l) Start e = absurd (true≢false (sym e))
-fits (Some l) _ e = tt
+abbrev try_sent : (sent : List Sent) (n : Node) (i : Input) → Option (WasSent sent n i)
+try_sent sent n (Deliver from p) = with_one (take_out (record { from = from; to = n; packet = p }) sent) (λ (rest, p). put_back all_live _ _ rest sent p (inl refl))
+try_sent sent n _ = Some tt
 
-abbrev is_sent : List Sent → Node → Input → Bool
-is_sent sent n (Deliver from p) = is_some (without_one (record { from = from; to = n; packet = p }) sent)
-is_sent sent n _ = true
+abbrev try_closed : (o : Option Input) → Option (o ≡ None)
+try_closed None = Some refl
+try_closed (Some i) = None
 
-was_sent : (sent : List Sent) (n : Node) (i : Input) → is_sent sent n i ≡ true → WasSent sent n i
-was_sent sent n (Deliver from p) e = is_in (record { from = from; to = n; packet = p }) sent e
-was_sent sent n _ e = tt
+abbrev try_addressed : (ps : List (To × Packet)) → Option (Addressed three ps (to_one ps))
+try_addressed [] = Some tt
+try_addressed ((Only n, p) ∷ ps) = with_one (try_addressed ps) (λ h. ((refl, refl), h))
+try_addressed ((AnyJoiner s, p) ∷ ps) = None
 
-abbrev is_closed : Option Input → Bool
-is_closed None = true
-is_closed (Some i) = false
-
-closed : (o : Option Input) → is_closed o ≡ true → o ≡ None
-closed None e = refl
-closed (Some i) e = absurd (true≢false (sym e))
-
-abbrev may_begin : {K L : Type 0} → Cell K L → List Sent → Node → Input → Bool
-may_begin c sent n i = is_closed c.opened && (is_fit c.live i && is_sent sent n i)
-
-begins : {K L : Type 0} (c : Cell K L) (sent : List Sent) (n : Node) (i : Input) → may_begin c sent n i ≡ true → MayBegin c sent n i
-begins c sent n i e =
-    let a = and_parts (is_closed c.opened) (is_fit c.live i && is_sent sent n i) e in
-    let b = and_parts (is_fit c.live i) (is_sent sent n i) a.1 in
-    (closed c.opened a.0, fits c.live i b.0, was_sent sent n i b.1)
-
-abbrev all_to_one : List (To × Packet) → Bool
-all_to_one [] = true
-all_to_one ((Only n, p) ∷ ps) = all_to_one ps
-all_to_one ((AnyJoiner s, p) ∷ ps) = false
-
-addressed : (ps : List (To × Packet)) → all_to_one ps ≡ true → Addressed three ps (to_one ps)
-addressed [] e = tt
-addressed ((Only n, p) ∷ ps) e = ((refl, refl), addressed ps e)
-addressed ((AnyJoiner s, p) ∷ ps) e = absurd (true≢false (sym e))
-
-abbrev is_node : Node → Bool
-is_node (Dispatcher s) = nat_lt s 2
-is_node (Server s) = nat_lt s 2
-is_node (Replica r) = nat_lt r 3
-is_node (Joiner j) = false
-
-node_is : (n : Node) → is_node n ≡ true → IsNode three n
-node_is (Dispatcher s) e = ltb-true s 2 e
-node_is (Server s) e = ltb-true s 2 e
-node_is (Replica r) e = ltb-true r 3 e
-node_is (Joiner j) e = clash false e refl
+abbrev try_member : (n : Node) → Option (IsNode three n)
+try_member (Dispatcher s) = if_true (nat_lt s 2) (ltb-true s 2)
+try_member (Server s) = if_true (nat_lt s 2) (ltb-true s 2)
+try_member (Replica r) = if_true (nat_lt r 3) (ltb-true r 3)
+try_member (Joiner j) = None
 
 may_start : (w : World) (n : Node) (i : Input) → IsNode three n → MayBegin (at_node w n) w.sent n i → May three w (Begin n i)
 may_start w (Dispatcher s) i is m = (is, m)
@@ -170,48 +130,37 @@ may_start w (Server s) i is m = (is, m)
 may_start w (Replica r) i is m = (is, m)
 may_start w (Joiner j) i is m = (is, m)
 
-may_end : (w : World) (n : Node) (i : Input) → IsNode three n → (at_node w n).opened ≡ Some i → all_to_one (row_at three w n).packets ≡ true → May three w (ends w n)
-may_end w (Dispatcher s) i is o e = (is, ((i, o), refl, addressed (dispatcher_row three s (w.dispatchers s)).packets e), omega arith)
-may_end w (Server s) i is o e = (is, ((i, o), refl, addressed (server_row three s (w.servers s)).packets e), omega arith)
-may_end w (Replica r) i is o e = (is, ((i, o), refl, addressed (replica_row (w.replicas r)).packets e), omega arith)
-may_end w (Joiner j) i is o e = (is, ((i, o), refl, addressed (joiner_row three j (w.joiners j)).packets e), omega arith)
+may_end : (w : World) (n : Node) (i : Input) → IsNode three n → (at_node w n).opened ≡ Some i → Addressed three (row_at three w n).packets (to_one (row_at three w n).packets) → May three w (ends w n)
+may_end w (Dispatcher s) i is o a = (is, ((i, o), refl, a), omega arith)
+may_end w (Server s) i is o a = (is, ((i, o), refl, a), omega arith)
+may_end w (Replica r) i is o a = (is, ((i, o), refl, a), omega arith)
+may_end w (Joiner j) i is o a = (is, ((i, o), refl, a), omega arith)
 
 abbrev begun : World → Node → Input → World
 begun w n i = after three w (Begin n i)
 
-abbrev are_played : World → List (Node × Input) → Bool
-are_played w [] = true
-are_played w ((n, i) ∷ ts) = (is_node n && may_begin (at_node w n) w.sent n i) && (all_to_one (row_at three (begun w n i) n).packets && are_played (after three (begun w n i) (ends (begun w n i) n)) ts)
+abbrev try_turn : (w : World) (n : Node) (i : Input) → Option (May three w (Begin n i) × May three (begun w n i) (ends (begun w n i) n))
+try_turn w n i =
+    with_three (try_member n) (with_three (try_closed (at_node w n).opened) (try_fit (at_node w n).live i) (try_sent w.sent n i) (λ a b c. (let m : MayBegin (at_node w n) w.sent n i = (a, b, c) in m))) (try_addressed (row_at three (begun w n i) n).packets)
+    (λ is m a. (may_start w n i is m, may_end (begun w n i) n i is (ap (λ c. c.opened) (begun_own three w n i)) a))
 
-played : (ts : List (Node × Input)) (w : World) → are_played w ts ≡ true → IsRun three w (plays w ts)
-played [] w e = tt
-played ((n, i) ∷ ts) w e =
-    let a = and_parts (is_node n && may_begin (at_node w n) w.sent n i) (all_to_one (row_at three (begun w n i) n).packets && are_played (after three (begun w n i) (ends (begun w n i) n)) ts) e in
-    let b = and_parts (all_to_one (row_at three (begun w n i) n).packets) (are_played (after three (begun w n i) (ends (begun w n i) n)) ts) a.1 in
-    let h = and_parts (is_node n) (may_begin (at_node w n) w.sent n i) a.0 in
-    let is = node_is n h.0 in
-    (may_start w n i is (begins (at_node w n) w.sent n i h.1), (may_end (begun w n i) n i is (ap (λ c. c.opened) (begun_own three w n i)) b.0, played ts (after three (begun w n i) (ends (begun w n i) n)) b.1))
+abbrev try_played : (ts : List (Node × Input)) (w : World) → Option (IsRun three w (plays w ts))
+try_played [] w = Some tt
+try_played ((n, i) ∷ ts) w = with_two (try_turn w n i) (try_played ts (after three (begun w n i) (ends (begun w n i) n))) (λ t r. (t.0, (t.1, r)))
 
 -- ---- what is carried
 
-abbrev is_carried : List Sent → List Entry → Bool
-is_carried air [] = is_empty air
-is_carried air (Begin n (Deliver from p) ∷ es) = option_or_else false (λ rest. is_carried rest es) (without_one (record { from = from; to = n; packet = p }) air)
-is_carried air (Begin n _ ∷ es) = is_carried air es
-is_carried air (End n o ps kept ∷ es) = is_carried (filter (to_live all_live) (sends n ps) ++ air) es
-is_carried air (Stop n o ∷ es) = false
+abbrev try_rest : (n from : Node) (p : Packet) (es : List Entry) (air : List Sent) → ((rest : List Sent) → Option (Carries all_live rest es)) → Option ((rest : List Sent) × put_in (record { from = from; to = n; packet = p }) rest air) → Option (Carries all_live air (Begin n (Deliver from p) ∷ es))
+try_rest n from p es air more None = None
+try_rest n from p es air more (Some (rest, put)) = with_one (more rest) (λ c. (rest, put, c))
 
-carried : (es : List Entry) (air : List Sent) → is_carried air es ≡ true → Carries all_live air es
-carried [] [] e = refl
-carried [] (x ∷ air) e = absurd (true≢false (sym e))
-carried (Begin n (Deliver from p) ∷ es) air e = go (without_one (record { from = from; to = n; packet = p }) air) refl e (carried es)
-  where
-    go : (o : Option (List Sent)) → without_one (record { from = from; to = n; packet = p }) air ≡ o → option_or_else false (λ rest. is_carried rest es) o ≡ true → ((rest : List Sent) → is_carried rest es ≡ true → Carries all_live rest es) → (rest : List Sent) × put_in (record { from = from; to = n; packet = p }) rest air × Carries all_live rest es
-    go None q t ih = absurd (true≢false (sym t))
-    go (Some rest) q t ih = (rest, put_one (record { from = from; to = n; packet = p }) air rest q, ih rest t)
-carried (Begin n _ ∷ es) air e = carried es air e
-carried (End n o ps kept ∷ es) air e = carried es (filter (to_live all_live) (sends n ps) ++ air) e
-carried (Stop n o ∷ es) air e = absurd (true≢false (sym e))
+abbrev try_carried : (es : List Entry) (air : List Sent) → Option (Carries all_live air es)
+try_carried [] [] = Some refl
+try_carried [] (x ∷ air) = None
+try_carried (Begin n (Deliver from p) ∷ es) air = try_rest n from p es air (try_carried es) (take_out (record { from = from; to = n; packet = p }) air)
+try_carried (Begin n _ ∷ es) air = try_carried es air
+try_carried (End n o ps kept ∷ es) air = try_carried es (filter (to_live all_live) (sends n ps) ++ air)
+try_carried (Stop n o ∷ es) air = None
 
 -- ---- the setting's nodes
 
@@ -224,159 +173,117 @@ each_of_three P a b c (suc (suc (suc r))) lt = absurd (omega (arith, lt))
 no_joiner : (j : ℕ) → IsJoiner three j → ⊥
 no_joiner j is = let a = is.0 in let b = is.1 in omega (arith, a, b)
 
-each_node : (P : Node → Type 0) → ((s : ℕ) → s < 2 → P (Dispatcher s)) → ((s : ℕ) → s < 2 → P (Server s)) → ((r : ℕ) → P (Replica r)) → ((j : ℕ) → P (Joiner j)) → (n : Node) → IsNode three n → P n
-each_node P d s r j (Dispatcher n) is = d n is
-each_node P d s r j (Server n) is = s n is
-each_node P d s r j (Replica n) is = r n
-each_node P d s r j (Joiner n) is = j n
-
-abbrev HasSlots : ServerLive → Type 0
-HasSlots l = (k : ℕ) → k < shards three → is_below_limit (length (l.shards k).learned) ≡ true
+each_node : (P : Node → Type 0) → ((s : ℕ) → s < 2 → P (Dispatcher s)) → ((s : ℕ) → s < 2 → P (Server s)) → ((r : ℕ) → r < 3 → P (Replica r)) → (n : Node) → IsNode three n → P n
+each_node P d s r (Dispatcher n) is = d n is
+each_node P d s r (Server n) is = s n is
+each_node P d s r (Replica n) is = r n is
+each_node P d s r (Joiner n) is = absurd (no_joiner n is)
 
 at_zero : (P : ℕ → Type 0) → P 0 → (k : ℕ) → k < 1 → P k
 at_zero P p zero lt = p
 at_zero P p (suc k) lt = absurd (omega (arith, lt))
 
--- ---- limits and work, computed along a history
+abbrev try_two : (P : ℕ → Type 0) → ((s : ℕ) → Option (P s)) → Option ((s : ℕ) → s < 2 → P s)
+try_two P f = with_two (f 0) (f 1) (of_two P)
 
-abbrev is_low : Option ServerLive → Bool
-is_low None = false
-is_low (Some l) = is_below_limit l.round && is_below_limit (length (l.shards 0).learned)
+abbrev try_three : (P : ℕ → Type 0) → ((r : ℕ) → Option (P r)) → Option ((r : ℕ) → r < 3 → P r)
+try_three P f = with_three (f 0) (f 1) (f 2) (each_of_three P)
 
-low_is : (o : Option ServerLive) → is_low o ≡ true → IfUp (λ (l : ServerLive). is_below_limit l.round ≡ true) o × IfUp HasSlots o
-low_is None e = absurd (true≢false (sym e))
-low_is (Some l) e = let h = and_parts (is_below_limit l.round) (is_below_limit (length (l.shards 0).learned)) e in (h.0, at_zero _ h.1)
+-- ---- limits and work, along a history
 
--- a server's open turn takes nothing that teaches it a value
-abbrev idles : Option ServerLive → Option Input → Bool
-idles (Some l) (Some i) = not (teaches i)
-idles _ _ = false
+abbrev HasSlots : ServerLive → Type 0
+HasSlots l = (k : ℕ) → k < shards three → is_below_limit (length (l.shards k).learned) ≡ true
 
-abbrev is_calm : World → Entry → Bool
-is_calm w (End (Server s) o ps kept) = idles (w.servers s).live (w.servers s).opened
-is_calm w (End (Dispatcher s) o ps kept) = false
-is_calm w (End (Joiner s) o ps kept) = false
-is_calm w _ = true
+abbrev try_low : (o : Option ServerLive) → Option (IfUp (λ (l : ServerLive). (is_below_limit l.round ≡ true) × HasSlots l) o)
+try_low None = Some tt
+try_low (Some l) = with_two (if_true (is_below_limit l.round) (λ e. e)) (if_true (is_below_limit (length (l.shards 0).learned)) (λ e. e)) (λ a b. (a, at_zero (λ k. is_below_limit (length (l.shards k).learned) ≡ true) b))
 
-abbrev are_low : World → Bool
-are_low w = is_low (w.servers 0).live && is_low (w.servers 1).live
-
-abbrev are_calm : World → List Entry → Bool
-are_calm w [] = are_low w
-are_calm w (e ∷ es) = are_low w && (is_calm w e && are_calm (after three w e) es)
-
-numbers : (w : World) → are_low w ≡ true → HasNumbers three w
-numbers w e = record { rounds = of_two _ a.0 b.0; slots = of_two _ a.1 b.1; tokens = λ j is. absurd (no_joiner j is) }
+numbers : (w : World) → ((s : ℕ) → s < 2 → IfUp (λ (l : ServerLive). (is_below_limit l.round ≡ true) × HasSlots l) (w.servers s).live) → HasNumbers three w
+numbers w h = record { rounds = λ s lt. (parts (w.servers s).live (h s lt)).0; slots = λ s lt. (parts (w.servers s).live (h s lt)).1; tokens = λ j is. absurd (no_joiner j is) }
   where
-    h : (is_low (w.servers 0).live ≡ true) × (is_low (w.servers 1).live ≡ true)
-    h = and_parts (is_low (w.servers 0).live) (is_low (w.servers 1).live) e
+    parts : (o : Option ServerLive) → IfUp (λ (l : ServerLive). (is_below_limit l.round ≡ true) × HasSlots l) o → IfUp (λ (l : ServerLive). is_below_limit l.round ≡ true) o × IfUp HasSlots o
+    parts None h = (tt, tt)
+    parts (Some l) h = h
 
-    a : IfUp (λ (l : ServerLive). is_below_limit l.round ≡ true) (w.servers 0).live × IfUp HasSlots (w.servers 0).live
-    a = low_is (w.servers 0).live h.0
+abbrev try_numbers : (w : World) → Option (HasNumbers three w)
+try_numbers w = with_one (try_two (λ s. IfUp (λ (l : ServerLive). (is_below_limit l.round ≡ true) × HasSlots l) (w.servers s).live) (λ s. try_low (w.servers s).live)) (numbers w)
 
-    b : IfUp (λ (l : ServerLive). is_below_limit l.round ≡ true) (w.servers 1).live × IfUp HasSlots (w.servers 1).live
-    b = low_is (w.servers 1).live h.1
-
-no_work : (w : World) (e : Entry) → is_calm w e ≡ true → IsWork three w e → ⊥
-no_work w (End (Server s) o ps kept) c works = go (w.servers s).live refl (w.servers s).opened refl c
+-- a server's turn that takes nothing that teaches it a value is no work
+no_work : (w : World) (s : ℕ) (o : Option Note) (ps : List (Node × Packet)) (kept : ℕ) (l : ServerLive) (i : Input) → (w.servers s).live ≡ Some l → (w.servers s).opened ≡ Some i → teaches i ≡ false → IsWork three w (End (Server s) o ps kept) → ⊥
+no_work w s o ps kept l i up open_ none works =
+    learns (subst (λ (x : Option ServerLive). BothUp ServerWorks (Some l) x) now_is (subst (λ (x : Option ServerLive). BothUp ServerWorks x ((after three w (End (Server s) o ps kept)).servers s).live) up works))
   where
-    learns : (l : ServerLive) (i : Input) → teaches i ≡ false → ServerWorks l (server_turn three s (w.servers s).kept l i).live → ⊥
-    learns l i none (n, lt) =
-        ⊎_elim (λ same. let e = ap length same.0.0 in omega (arith, e, lt)) (λ h. true≢false (sym h.2 ∙ none)) ((turns three s (w.servers s).kept l i).each n)
+    now_is : ((after three w (End (Server s) o ps kept)).servers s).live ≡ Some (server_turn three s (w.servers s).kept l i).live
+    now_is = ended_own three w (End (Server s) o ps kept) (Server s) (o, ps, kept, refl) ∙ ap (λ (x : Out ServerLive). Some x.live) (turned three w (Server s) l i up open_)
 
-    go : (l : Option ServerLive) → (w.servers s).live ≡ l → (i : Option Input) → (w.servers s).opened ≡ i → idles l i ≡ true → ⊥
-    go None up i open_ c = true≢false (sym c)
-    go (Some l) up None open_ c = true≢false (sym c)
-    go (Some l) up (Some i) open_ c =
-        let now_is = ended_own three w (End (Server s) o ps kept) (Server s) (o, ps, kept, refl) ∙ ap (λ (x : Out ServerLive). Some x.live) (turned three w (Server s) l i up open_) in
-        learns l i (not-true (teaches i) c) (subst (λ (x : Option ServerLive). BothUp ServerWorks (Some l) x) now_is (subst (λ (x : Option ServerLive). BothUp ServerWorks x ((after three w (End (Server s) o ps kept)).servers s).live) up works))
-no_work w (End (Dispatcher s) o ps kept) c works = absurd (true≢false (sym c))
-no_work w (End (Joiner s) o ps kept) c works = absurd (true≢false (sym c))
-no_work w _ c works = works
+    learns : ServerWorks l (server_turn three s (w.servers s).kept l i).live → ⊥
+    learns (n, lt) = ⊎_elim (λ same. let e = ap length same.0.0 in omega (arith, e, lt)) (λ h. clash (teaches i) h.2 none) ((turns three s (w.servers s).kept l i).each n)
 
-calm : (es : List Entry) (w : World) → are_calm w es ≡ true → IsWithinLimits three w es × NoWork three w es
-calm [] w e = (numbers w e, tt)
-calm (x ∷ es) w e =
-    let a = and_parts (are_low w) (is_calm w x && are_calm (after three w x) es) e in
-    let b = and_parts (is_calm w x) (are_calm (after three w x) es) a.1 in
-    let rest = calm es (after three w x) b.1 in
-    ((numbers w a.0, rest.0), (no_work w x b.0, rest.1))
+abbrev try_idle_turn : (w : World) (s : ℕ) (o : Option Note) (ps : List (Node × Packet)) (kept : ℕ) (l : Option ServerLive) → (w.servers s).live ≡ l → (i : Option Input) → (w.servers s).opened ≡ i → Option (IsWork three w (End (Server s) o ps kept) → ⊥)
+try_idle_turn w s o ps kept (Some l) up (Some i) open_ = if_true (not (teaches i)) (λ e. no_work w s o ps kept l i up open_ (not-true (teaches i) e))
+try_idle_turn w s o ps kept _ up _ open_ = None
+
+abbrev try_no_work : (w : World) (e : Entry) → Option (IsWork three w e → ⊥)
+try_no_work w (End (Server s) o ps kept) = try_idle_turn w s o ps kept (w.servers s).live refl (w.servers s).opened refl
+try_no_work w (End (Dispatcher s) o ps kept) = None
+try_no_work w (End (Joiner s) o ps kept) = None
+try_no_work w _ = Some (λ works. works)
+
+abbrev try_calm : (es : List Entry) (w : World) → Option (IsWithinLimits three w es × NoWork three w es)
+try_calm [] w = with_one (try_numbers w) (λ n. (n, tt))
+try_calm (e ∷ es) w = with_three (try_numbers w) (try_no_work w e) (try_calm es (after three w e)) (λ n i c. ((n, c.0), (i, c.1)))
 
 -- ---- the intervals
 
-quiet_at : (w : World) → ((s : ℕ) → s < 2 → ((w.dispatchers s).opened ≡ None) × UpWith (λ l. dispatcher_wants l ≡ false) (w.dispatchers s).live) → ((s : ℕ) → s < 2 → ((w.servers s).opened ≡ None) × UpWith (λ l. server_wants three l ≡ false) (w.servers s).live) → ((r : ℕ) → r < 3 → ((w.replicas r).opened ≡ None) × UpWith (λ l. ⊤) (w.replicas r).live) → IsQuiet three all_live w
-quiet_at w ds ss rs = record { dispatchers = ds; servers = ss; joiners = λ j is. absurd (no_joiner j is); replicas = λ r lt live. rs r lt; silent = λ r lt out. absurd (true≢false (sym out)) }
+abbrev try_wants : {L : Type 0} (wants : L → Bool) (o : Option L) → Option (UpWith (λ l. wants l ≡ false) o)
+try_wants wants None = None
+try_wants wants (Some l) = if_true (not (wants l)) (not-true (wants l))
 
-abbrev after_fourth : World
-after_fourth = world_after three after_third (plays after_third fourth)
+abbrev try_still : {K L : Type 0} (wants : L → Bool) (c : Cell K L) → Option ((c.opened ≡ None) × UpWith (λ l. wants l ≡ false) c.live)
+try_still wants c = with_two (try_closed c.opened) (try_wants wants c.live) (λ a b. (a, b))
 
-quiet_stale : IsQuiet three all_live stale
-quiet_stale = quiet_at stale (of_two _ (refl, refl) (refl, refl)) (of_two _ (refl, refl) (refl, refl)) (each_of_three _ (refl, tt) (refl, tt) (refl, tt))
+quiet : (w : World) → ((s : ℕ) → s < 2 → ((w.dispatchers s).opened ≡ None) × UpWith (λ l. dispatcher_wants l ≡ false) (w.dispatchers s).live) → ((s : ℕ) → s < 2 → ((w.servers s).opened ≡ None) × UpWith (λ l. server_wants three l ≡ false) (w.servers s).live) → ((r : ℕ) → r < 3 → ((w.replicas r).opened ≡ None) × UpWith (λ l. false ≡ false) (w.replicas r).live) → IsQuiet three all_live w
+quiet w ds ss rs = record { dispatchers = ds; servers = ss; joiners = λ j is. absurd (no_joiner j is); replicas = λ r lt live. ((rs r lt).0, up (w.replicas r).live (rs r lt).1); silent = λ r lt out. clash false out refl }
+  where
+    up : (o : Option (Unit {0})) → UpWith (λ l. false ≡ false) o → UpWith (λ l. ⊤) o
+    up None u = u
+    up (Some l) u = tt
 
-quiet_after_first : IsQuiet three all_live after_first
-quiet_after_first = quiet_at after_first (of_two _ (refl, refl) (refl, refl)) (of_two _ (refl, refl) (refl, refl)) (each_of_three _ (refl, tt) (refl, tt) (refl, tt))
+abbrev try_quiet : (w : World) → Option (IsQuiet three all_live w)
+try_quiet w =
+    with_three
+    (try_two (λ s. ((w.dispatchers s).opened ≡ None) × UpWith (λ l. dispatcher_wants l ≡ false) (w.dispatchers s).live) (λ s. try_still dispatcher_wants (w.dispatchers s)))
+    (try_two (λ s. ((w.servers s).opened ≡ None) × UpWith (λ l. server_wants three l ≡ false) (w.servers s).live) (λ s. try_still (server_wants three) (w.servers s)))
+    (try_three (λ r. ((w.replicas r).opened ≡ None) × UpWith (λ l. false ≡ false) (w.replicas r).live) (λ r. try_still (λ _. false) (w.replicas r)))
+    (quiet w)
 
-quiet_after_second : IsQuiet three all_live after_second
-quiet_after_second = quiet_at after_second (of_two _ (refl, refl) (refl, refl)) (of_two _ (refl, refl) (refl, refl)) (each_of_three _ (refl, tt) (refl, tt) (refl, tt))
+abbrev HasTicks : World → List Entry → Node → Type 0
+HasTicks w es n = ticks_of n es ≡ ticks_due (is_unfinished three w n)
 
-quiet_after_third : IsQuiet three all_live after_third
-quiet_after_third = quiet_at after_third (of_two _ (refl, refl) (refl, refl)) (of_two _ (refl, refl) (refl, refl)) (each_of_three _ (refl, tt) (refl, tt) (refl, tt))
+abbrev try_ticks : (w : World) (es : List Entry) → Option ((n : Node) → IsNode three n → HasTicks w es n)
+try_ticks w es =
+    with_three
+    (try_two (λ s. HasTicks w es (Dispatcher s)) (λ s. if_true (ticks_of (Dispatcher s) es == ticks_due (is_unfinished three w (Dispatcher s))) (eqb-true _ _)))
+    (try_two (λ s. HasTicks w es (Server s)) (λ s. if_true (ticks_of (Server s) es == ticks_due (is_unfinished three w (Server s))) (eqb-true _ _)))
+    (try_three (λ r. HasTicks w es (Replica r)) (λ r. if_true (ticks_of (Replica r) es == 0) (eqb-true _ _)))
+    (each_node (HasTicks w es))
 
-quiet_after_fourth : IsQuiet three all_live after_fourth
-quiet_after_fourth = quiet_at after_fourth (of_two _ (refl, refl) (refl, refl)) (of_two _ (refl, refl) (refl, refl)) (each_of_three _ (refl, tt) (refl, tt) (refl, tt))
+abbrev try_interval : (w : World) (es : List Entry) → Option (IsInterval three all_live w es)
+try_interval w es = with_four (try_quiet w) (try_quiet (world_after three w es)) (try_carried es []) (try_ticks w es) (λ q r c t. record { starts = q; ends = r; carries = c; ticks = t })
 
-ticks_first : (n : Node) → IsNode three n → ticks_of n (plays stale first) ≡ ticks_due (is_unfinished three stale n)
-ticks_first = each_node _ (of_two _ refl refl) (of_two _ refl refl) (λ r. refl) (λ j. refl)
-
-idle_first : IsIdle three all_live stale (plays stale first)
-idle_first =
-    let h = calm (plays stale first) stale refl in
-    record {
-      run = played first stale refl;
-      interval = record { starts = quiet_stale; ends = quiet_after_first; carries = carried (plays stale first) [] refl; ticks = ticks_first };
-      limits = h.0;
-      no_work = h.1;
-    }
-
-ticks_second : (n : Node) → IsNode three n → ticks_of n (plays after_first second) ≡ ticks_due (is_unfinished three after_first n)
-ticks_second = each_node _ (of_two _ refl refl) (of_two _ refl refl) (λ r. refl) (λ j. refl)
-
-idle_second : IsIdle three all_live after_first (plays after_first second)
-idle_second =
-    let h = calm (plays after_first second) after_first refl in
-    record {
-      run = played second after_first refl;
-      interval = record { starts = quiet_after_first; ends = quiet_after_second; carries = carried (plays after_first second) [] refl; ticks = ticks_second };
-      limits = h.0;
-      no_work = h.1;
-    }
-
-ticks_third : (n : Node) → IsNode three n → ticks_of n (plays after_second third) ≡ ticks_due (is_unfinished three after_second n)
-ticks_third = each_node _ (of_two _ refl refl) (of_two _ refl refl) (λ r. refl) (λ j. refl)
-
-idle_third : IsIdle three all_live after_second (plays after_second third)
-idle_third =
-    let h = calm (plays after_second third) after_second refl in
-    record {
-      run = played third after_second refl;
-      interval = record { starts = quiet_after_second; ends = quiet_after_third; carries = carried (plays after_second third) [] refl; ticks = ticks_third };
-      limits = h.0;
-      no_work = h.1;
-    }
-
-ticks_fourth : (n : Node) → IsNode three n → ticks_of n (plays after_third fourth) ≡ ticks_due (is_unfinished three after_third n)
-ticks_fourth = each_node _ (of_two _ refl refl) (of_two _ refl refl) (λ r. refl) (λ j. refl)
+abbrev try_idle : (w : World) (ts : List (Node × Input)) → Option (IsIdle three all_live w (plays w ts))
+try_idle w ts = with_three (try_played ts w) (try_interval w (plays w ts)) (try_calm (plays w ts) w) (λ r i c. record { run = r; interval = i; limits = c.0; no_work = c.1 })
 
 pub three_are_idle : ThreeAreIdle
 three_are_idle =
     record {
-      first_lives = played duel beginning refl;
+      first_lives = got (try_played duel beginning) refl;
       stop = ((lit< tt, (refl, tt, tt)), ((lit< tt, ((_, refl), inl refl)), ((lit< tt, (refl, tt, tt)), ((lit< tt, ((_, refl), inl refl)), tt))));
-      second_lives = played restarts down_again refl;
-      idle = (idle_first, (idle_second, (idle_third, tt)));
+      second_lives = got (try_played restarts down_again) refl;
+      idle = (got (try_idle stale first) refl, (got (try_idle after_first second) refl, (got (try_idle after_second third) refl, tt)));
       work_is_left = λ r. true≢false (sym (r.servers 0 (lit< tt)));
-      goes_on = played fourth after_third refl;
-      last = record { starts = quiet_after_third; ends = quiet_after_fourth; carries = carried (plays after_third fourth) [] refl; ticks = ticks_fourth };
+      goes_on = got (try_played fourth after_third) refl;
+      last = got (try_interval after_third (plays after_third fourth)) refl;
       works = λ h. h.1.1.1.1.1.1.1.1.1.1.1.1.1.1.1.1.1.1.1.1.1.1.1.0 (0, lit< tt);
       rests = record { dispatchers = of_two _ refl refl; joiners = λ j is. absurd (no_joiner j is); servers = of_two _ refl refl };
     }
