@@ -276,12 +276,9 @@ module _ {g : Setting} {dead : ℕ → Bool} {w : World} {air next : List Sent} 
       go (End m o ps kept) c begins ends = subst P (sym (ended_is g w m o ps kept n)) (cond_both (same_node n m) _ _ P (λ t. ends o ps kept (ap (λ k. End k o ps kept) (sym (same_node-true n m t)))) (λ _. same))
       go (Stop m landed) c begins ends = absurd c
 
-  live_after : (n : Node) → ((at_node (after g w e) n).live ≡ (at_node w n).live) ⊎ (IsEnd e n × ((at_node (after g w e) n).live ≡ Some (row_at g w n).live))
-  live_after n = cell_after n (λ c. (c.live ≡ (at_node w n).live) ⊎ (IsEnd e n × (c.live ≡ Some (row_at g w n).live))) (inl refl) (λ i q. inl refl) (λ o ps kept q. inr ((o, ps, kept, q), refl))
-
   -- a node knows what it knew, or what its row says
   pub lives : {X : Type 0} (n : Node) → ((at_node (after g w e) n).live ≡ (at_node w n).live → X) → (IsEnd e n → (at_node (after g w e) n).live ≡ Some (row_at g w n).live → X) → X
-  lives n same ended = ⊎_elim same (λ q. ended q.0 q.1) (live_after n)
+  lives {X} n same ended = cell_after n (λ c. (c.live ≡ (at_node w n).live → X) → (IsEnd e n → c.live ≡ Some (row_at g w n).live → X) → X) (λ s _. s refl) (λ i q s _. s refl) (λ o ps kept q _ d. d (o, ps, kept, q) refl) same ended
 
   pub up_after : (n : Node) (l : LiveOf n) → (at_node w n).live ≡ Some l → (m : LiveOf n) × ((at_node (after g w e) n).live ≡ Some m)
   up_after n l up = lives n (λ same. (l, same ∙ up)) (λ end now. ((row_at g w n).live, now))

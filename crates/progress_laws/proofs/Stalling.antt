@@ -1,11 +1,12 @@
 -- Where nothing is done in an interval that does not begin at rest, a slot is attempted.
-use Rattle.std.proofs.Common.{◌≡◌, inl, inr, ⊎_elim, ℕ, zero, suc, ◌+◌, ◌<◌, ◌≤◌, Bool, true, false, cond, ◌||◌, ◌&&◌, ◌==◌, nat_lt, List, ◌∷◌, length, Some, refl, sym, ap, ◌∙◌, subst, arith, []}
+use Rattle.std.proofs.Common.{◌≡◌, inl, inr, ⊎_elim, ℕ, zero, suc, ◌+◌, ◌<◌, Bool, true, false, ◌||◌, ◌&&◌, ◌==◌, nat_lt, List, ◌∷◌, length, Some, refl, sym, ap, ◌∙◌, subst, arith, []}
 use Rattle.std.specs.Prelude.{not, is_none, is_some, ◌⊎◌}
-use Rattle.std.proofs.lemmas.Bool.{true≢false, cases_lt, and_cases, and_from, or_parts, or_left, or_right, eq-eqb, not_from_false, not-false}
+use Rattle.std.proofs.lemmas.Bool.{cond_both, true≢false, and_cases, and_from, or_parts, or_left, or_right, eq-eqb, not_from_false, not-false}
 use Rattle.time_shards.specs.Shards.{IsTable}
 use Rattle.photon_model.proofs.Words.{bound_of, Mem, has, Setting, IsJoiner, shards, site_of_joiner, is_empty, DispatcherLive, Fresh, waits, first_done, has_room, dispatcher_wants, dispatcher_at_rest, JoinerLive, Flight, joiner_at_rest, ServerLive, first_shard, is_free, is_below_limit, may_propose, server_wants, server_at_rest, ShardState, IfUp, World, Entry, after, world_after, UpWith}
 use Rattle.progress_laws.specs.Idle.{IsIdle, HasNumbers, IsWithinLimits}
 use Rattle.progress_laws.specs.Moves.{is_left}
+use Rattle.progress_laws.proofs.Refusing.{none_passes}
 use Rattle.progress_laws.proofs.Waiting.{IsLeftAt}
 use Rattle.progress_laws.proofs.Claims.{HasFlight, HasOwnTokens, flight_stays, asks}
 use Rattle.photon_model.proofs.Worlds.{up_is}
@@ -31,19 +32,9 @@ pub record Stalls (g : Setting) (dead : ℕ → Bool) (w : World) (es : List Ent
 -- the first number that passes a test, or none
 some_passes : (test : ℕ → Bool) (from n : ℕ) → is_none (first_shard test from n) ≡ false → (k : ℕ) × (k < from + n) × (test k ≡ true)
 some_passes test from zero e = absurd (true≢false e)
-some_passes test from (suc n) e = go (test from) refl e (some_passes test (suc from) n)
-  where
-    go : (b : Bool) → test from ≡ b → is_none (cond b (Some from) (first_shard test (suc from) n)) ≡ false → (is_none (first_shard test (suc from) n) ≡ false → (k : ℕ) × (k < suc from + n) × (test k ≡ true)) → (k : ℕ) × (k < from + suc n) × (test k ≡ true)
-    go true t q ih = (from, omega arith, t)
-    go false t q ih = let h = ih q in let lt = h.1 in (h.0, omega arith, h.2)
-
-none_passes : (test : ℕ → Bool) (from n : ℕ) → is_some (first_shard test from n) ≡ false → (k : ℕ) → from ≤ k → k < from + n → test k ≡ false
-none_passes test from zero e k a b = absurd (omega arith)
-none_passes test from (suc n) e k a b = go (test from) refl e (none_passes test (suc from) n)
-  where
-    go : (b : Bool) → test from ≡ b → is_some (cond b (Some from) (first_shard test (suc from) n)) ≡ false → (is_some (first_shard test (suc from) n) ≡ false → (k : ℕ) → suc from ≤ k → k < suc from + n → test k ≡ false) → test k ≡ false
-    go true t q ih = absurd (true≢false q)
-    go false t q ih = ⊎_elim (λ lt. ih q k lt (omega arith)) (λ ge. ap test (let same : k ≡ from = omega arith in same) ∙ t) (cases_lt from k)
+some_passes test from (suc n) e =
+    cond_both (test from) (Some from) (first_shard test (suc from) n) (λ o. is_none o ≡ false → (k : ℕ) × (k < from + suc n) × (test k ≡ true)) (λ t _. (from, omega arith, t))
+    (λ _ q. let h = some_passes test (suc from) n q in let lt = h.1 in (h.0, omega arith, h.2)) e
 
 -- a quiet dispatcher that is not at rest has tried a line
 tried : (g : Setting) (l : DispatcherLive) → ((p : ℕ) → has l.trying p ≡ true → IsLineAt g p) → dispatcher_wants l ≡ false → dispatcher_at_rest l ≡ false → (p : ℕ) × IsTried g l p

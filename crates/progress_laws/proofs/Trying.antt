@@ -1,5 +1,5 @@
 -- In an interval in which nothing is done a line that a dispatcher has tried gets a joiner of its site a join in flight.
-use Rattle.std.proofs.Common.{◌≡◌, ◌⊎◌, inl, inr, ⊎_elim, ℕ, ◌<◌, Bool, true, false, cond, ◌&&◌, ◌==◌, nat_lt, ◌-◌, ◌^◌, List, ◌∷◌, length, Some, None, refl, sym, ap, ◌∙◌, subst, lit<, []}
+use Rattle.std.proofs.Common.{◌≡◌, ◌⊎◌, inl, inr, ⊎_elim, ℕ, ◌<◌, Bool, true, false, ◌&&◌, ◌==◌, nat_lt, ◌-◌, ◌^◌, List, ◌∷◌, length, Some, None, refl, sym, ap, ◌∙◌, subst, lit<, []}
 use Rattle.std.specs.Prelude.{Option, not}
 use Rattle.std.proofs.lemmas.Bool.{cond_both, cond-true, cond-false, true≢false, cases_Bool, and_parts, or_cases, or_left, or_right, or_from, and_right, eqb-true, lt-ltb, not_from_true}
 use Rattle.photon_model.proofs.Words.{clash, Click, ClickLine, at, first, Mem, has, mem_left, mem_right, option_both, has_without-self, Setting, IsJoiner, site_of_joiner, IsTo, Note, Out, idle, is_empty, Packet, Join, Joined, NoQuery, Node, Dispatcher, Server, Replica, Joiner, To, Only, AnyJoiner, Input, Tick, Deliver, Sent, DispatcherKept, DispatcherLive, Fresh, waits, mark, mark_one, join, fresh_joins, join_if, trying_joins, dispatcher_turn, dispatcher_unfinished, some_waits, JoinerKept, JoinerLive, Flight, in_flight, looks, joiner_turn, World, Entry, dispatcher_row, joiner_row, after, world_after, DispatcherWorks, if_up, is_out, IfUp}
@@ -70,13 +70,10 @@ module _ (g : Setting) (site : ℕ) (k : DispatcherKept) (l : DispatcherLive) wh
 
   fresh_sends : (fs : List Fresh) (p : ℕ) → waits fs p ≡ true → SendsJoin p (fresh_joins g site k l fs)
   fresh_sends [] p e = absurd (true≢false (sym e))
-  fresh_sends (f ∷ fs) p e = go f.done refl (or_cases ((f.position == p) && not f.done) (waits fs p) e) (fresh_sends fs p)
-    where
-      go : (b : Bool) → f.done ≡ b → (((f.position == p) && not f.done) ≡ true) ⊎ (waits fs p ≡ true) → (waits fs p ≡ true → SendsJoin p (fresh_joins g site k l fs)) → SendsJoin p (cond b (fresh_joins g site k l fs) (join site f.position f.click ∷ fresh_joins g site k l fs))
-      go true d (inl q) ih = absurd (true≢false (sym (and_parts (f.position == p) (not f.done) q).1 ∙ not_from_true f.done d))
-      go true d (inr q) ih = ih q
-      go false d (inl q) ih = (f.click, inl (ap (λ x. (AnyJoiner site, Join x f.click)) (eqb-true f.position p (and_parts (f.position == p) (not f.done) q).0)))
-      go false d (inr q) ih = let h = ih q in (h.0, inr h.1)
+  fresh_sends (f ∷ fs) p e =
+      cond_both f.done (fresh_joins g site k l fs) (join site f.position f.click ∷ fresh_joins g site k l fs) (SendsJoin p)
+      (λ d. ⊎_elim (λ q. clash (not f.done) (and_parts (f.position == p) (not f.done) q).1 (not_from_true f.done d)) (λ q. fresh_sends fs p q) (or_cases ((f.position == p) && not f.done) (waits fs p) e))
+      (λ _. ⊎_elim (λ q. (f.click, inl (ap (λ x. (AnyJoiner site, Join x f.click)) (eqb-true f.position p (and_parts (f.position == p) (not f.done) q).0)))) (λ q. let h = fresh_sends fs p q in (h.0, inr h.1)) (or_cases ((f.position == p) && not f.done) (waits fs p) e))
 
   trying_sends : (ps : List ℕ) (p : ℕ) → has ps p ≡ true → IsLineAt g p → SendsJoin p (trying_joins g site k l ps)
   trying_sends [] p e line = absurd (true≢false (sym e))
