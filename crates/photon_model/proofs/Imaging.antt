@@ -1,91 +1,55 @@
 -- Stops of all nodes after a run are a run, and leave what an image holds.
-use Rattle.std.proofs.Common.{◌≡◌, ◌⊎◌, inl, inr, ⊎_elim, ℕ, zero, suc, ◌+◌, ◌*◌, ◌<◌, ◌≤◌, Bool, true, false, cond, ◌&&◌, ◌==◌, List, [], ◌∷◌, ◌++◌, Some, None, refl, sym, ap, ◌∙◌, subst, arith, lit<}
+use Rattle.std.proofs.Common.{◌≡◌, ◌⊎◌, inl, inr, ⊎_elim, ℕ, zero, suc, ◌+◌, ◌*◌, ◌<◌, ◌≤◌, Bool, true, cond, ◌&&◌, List, [], ◌∷◌, ◌++◌, Some, None, refl, sym, ap, ◌∙◌, subst, arith, lit<}
 use Rattle.std.specs.Prelude.{Option, is_some}
-use Rattle.std.proofs.lemmas.Bool.{cases_lt, cond_both, eqb-true, eqb-false}
+use Rattle.std.proofs.lemmas.Bool.{cases_lt, cond_both}
 use Rattle.photon_model.proofs.Worlds.{opened_at, run_append, after_append}
-use Rattle.photon_model.proofs.Words.{Mem, Each, set_at, Setting, first_joiner, Checked, IsJoiner, Node, Dispatcher, Server, Replica, Joiner, Input, Note, Out, land, DispatcherKept, DispatcherLive, land_dispatcher, JoinerKept, JoinerLive, land_joiner, ServerKept, ServerLive, land_server, ReplicaKept, land_replica, at_set, none_some, each_append, mem_left, mem_right, IsNode, SoundStore, World, Entry, Begin, End, Stop, Disks, disks, begun, ended, stopped, dispatcher_row, server_row, replica_row, joiner_row, after, world_after, May, IsRun, opening, left_by, image, Cell}
+use Rattle.photon_model.proofs.Local.{same_node-true, same_node-self, own_one}
+use Rattle.photon_model.specs.Local.{own_entry}
+use Rattle.photon_model.proofs.Words.{KeptOf, LiveOf, at_node, land_at, row_of, same_node, clash, Mem, Each, Setting, first_joiner, Checked, Node, Dispatcher, Server, Replica, Joiner, Input, Note, land, none_some, each_append, mem_left, mem_right, IsNode, SoundStore, World, Entry, Begin, End, Stop, Disks, disks, begun, stopped, after, world_after, May, IsRun, opening, left_by, image, Cell}
 use Rattle.photon_model.proofs.Closing.{runs_keep_stores}
 
--- the note that has landed
-abbrev landed_of : {L : Type 0} → Bool → Out L → Option Note
-landed_of b o = cond b o.note None
-
--- ---- one kind of node
-
-module _ (K L : Type 0) (f : Note → K → K) (row_of : ℕ → Cell K L → Out L) (landed : ℕ → Bool) where
-  -- each node is as it was, or has stopped
-  abbrev Stopped : (ℕ → Cell K L) → (ℕ → Cell K L) → Type 0
-  Stopped F V = (n : ℕ) → (V n ≡ F n) ⊎ (((V n).opened ≡ None) × ((V n).kept ≡ left_by f (row_of n (F n)) (landed n) (F n)))
-
-  stops_one : (F V : ℕ → Cell K L) (m : ℕ) (i : Input) → (V m).opened ≡ Some i → Stopped F V → Stopped F (set_at V m (stopped f (V m) (landed_of (landed m) (row_of m (V m)))))
-  stops_one F V m i open_ h =
-      at_set (λ n (c : Cell K L). (c ≡ F n) ⊎ ((c.opened ≡ None) × (c.kept ≡ left_by f (row_of n (F n)) (landed n) (F n)))) V m (stopped f (V m) (landed_of (landed m) (row_of m (V m))))
-      (inr (refl, ⊎_elim (λ e. here (V m) e open_) (λ x. none_some i (sym x.0 ∙ open_)) (h m))) h
-    where
-      here : (c : Cell K L) → c ≡ F m → c.opened ≡ Some i → land f (landed_of (landed m) (row_of m c)) c.kept ≡ left_by f (row_of m (F m)) (landed m) (F m)
-      here c e o = ap (λ (x : Cell K L). land f (landed_of (landed m) (row_of m x)) x.kept) e ∙ ap (λ b. land f (cond (b && landed m) (row_of m (F m)).note None) (F m).kept) (sym (ap (λ (x : Option Input). is_some x) (sym (ap (λ (x : Cell K L). x.opened) e) ∙ o)))
-
-  -- at the end, of a node that is closed
-  left_is : (F V : ℕ → Cell K L) (n : ℕ) → Stopped F V → (V n).opened ≡ None → (V n).kept ≡ left_by f (row_of n (F n)) (landed n) (F n)
-  left_is F V n h closed = ⊎_elim (λ e. same (V n) e closed) (λ x. x.1) (h n)
-    where
-      same : (c : Cell K L) → c ≡ F n → c.opened ≡ None → c.kept ≡ left_by f (row_of n (F n)) (landed n) (F n)
-      same c e o = ap (λ (x : Cell K L). x.kept) e ∙ ap (λ b. land f (cond (b && landed n) (row_of n (F n)).note None) (F n).kept) (sym (ap (λ (x : Option Input). is_some x) (sym (ap (λ (x : Cell K L). x.opened) e) ∙ o)))
-
--- ---- all nodes
-
 module _ (g : Setting) (landed : Node → Bool) where
-  record AllStopped (w v : World) : Type 0 where
-    pub dispatchers : Stopped DispatcherKept DispatcherLive land_dispatcher (dispatcher_row g) (λ s. landed (Dispatcher s)) w.dispatchers v.dispatchers
-    pub servers : Stopped ServerKept ServerLive land_server (server_row g) (λ s. landed (Server s)) w.servers v.servers
-    pub replicas : Stopped ReplicaKept (Unit {0}) land_replica (λ r c. replica_row c) (λ r. landed (Replica r)) w.replicas v.replicas
-    pub joiners : Stopped JoinerKept JoinerLive land_joiner (joiner_row g) (λ j. landed (Joiner j)) w.joiners v.joiners
+  -- what a stop of the node leaves
+  abbrev left_at : World → (n : Node) → KeptOf n
+  left_at w n = left_by (land_at n) (row_of g n (at_node w n)) (landed n) (at_node w n)
+
+  -- the cell is as it was, or has stopped
+  abbrev IsStopped : World → (n : Node) → Cell (KeptOf n) (LiveOf n) → Type 0
+  IsStopped w n c = (c ≡ at_node w n) ⊎ ((c.opened ≡ None) × (c.kept ≡ left_at w n))
+
+  abbrev AllStopped : World → World → Type 0
+  AllStopped w v = (n : Node) → IsStopped w n (at_node v n)
 
   abbrev note_of : World → Node → Option Note
-  note_of w (Dispatcher s) = landed_of (landed (Dispatcher s)) (dispatcher_row g s (w.dispatchers s))
-  note_of w (Server s) = landed_of (landed (Server s)) (server_row g s (w.servers s))
-  note_of w (Replica r) = landed_of (landed (Replica r)) (replica_row (w.replicas r))
-  note_of w (Joiner j) = landed_of (landed (Joiner j)) (joiner_row g j (w.joiners j))
-
-  abbrev stop_if : Node → Option Note → Option Input → List Entry
-  stop_if n o None = []
-  stop_if n o (Some i) = Stop n o ∷ []
-
-  abbrev stop_of : World → Node → List Entry
-  stop_of w n = stop_if n (note_of w n) (opened_at w n)
-
-  one_of : {L : Type 0} (b : Bool) (o : Out L) → (landed_of b o ≡ None) ⊎ (landed_of b o ≡ o.note)
-  one_of true o = inr refl
-  one_of false o = inl refl
+  note_of w n = cond (landed n) (row_of g n (at_node w n)).note None
 
   may_stop : (w : World) (n : Node) (i : Input) → IsNode g n → opened_at w n ≡ Some i → May g w (Stop n (note_of w n))
-  may_stop w (Dispatcher s) i k e = (k, ((i, e), one_of (landed (Dispatcher s)) (dispatcher_row g s (w.dispatchers s))))
-  may_stop w (Server s) i k e = (k, ((i, e), one_of (landed (Server s)) (server_row g s (w.servers s))))
-  may_stop w (Replica r) i k e = (k, ((i, e), one_of (landed (Replica r)) (replica_row (w.replicas r))))
-  may_stop w (Joiner j) i k e = (k, ((i, e), one_of (landed (Joiner j)) (joiner_row g j (w.joiners j))))
+  may_stop w n i k e = (k, ((i, e), cond_both (landed n) (row_of g n (at_node w n)).note None (λ x. (x ≡ None) ⊎ (x ≡ (row_of g n (at_node w n)).note)) (λ _. inr refl) (λ _. inl refl)))
+
+  -- what is left of a cell with this turn, if any
+  left_of : (w : World) (n : Node) (o : Option Input) (c : Cell (KeptOf n) (LiveOf n)) → c ≡ at_node w n → c.opened ≡ o → land (land_at n) (cond (is_some o && landed n) (row_of g n c).note None) c.kept ≡ left_at w n
+  left_of w n o c same e =
+      ap (λ (x : Cell (KeptOf n) (LiveOf n)). land (land_at n) (cond (is_some o && landed n) (row_of g n x).note None) x.kept) same
+      ∙ ap (λ (x : Option Input). land (land_at n) (cond (is_some x && landed n) (row_of g n (at_node w n)).note None) (at_node w n).kept) (sym e ∙ ap (λ (x : Cell (KeptOf n) (LiveOf n)). x.opened) same)
 
   stop_keeps : (w v : World) (n : Node) (i : Input) → opened_at v n ≡ Some i → AllStopped w v → AllStopped w (after g v (Stop n (note_of v n)))
-  stop_keeps w v (Dispatcher s) i e h = record { dispatchers = stops_one DispatcherKept DispatcherLive land_dispatcher (dispatcher_row g) (λ s. landed (Dispatcher s)) w.dispatchers v.dispatchers s i e h.dispatchers; servers = h.servers; replicas = h.replicas; joiners = h.joiners }
-  stop_keeps w v (Server s) i e h = record { dispatchers = h.dispatchers; servers = stops_one ServerKept ServerLive land_server (server_row g) (λ s. landed (Server s)) w.servers v.servers s i e h.servers; replicas = h.replicas; joiners = h.joiners }
-  stop_keeps w v (Replica r) i e h = record { dispatchers = h.dispatchers; servers = h.servers; replicas = stops_one ReplicaKept (Unit {0}) land_replica (λ r c. replica_row c) (λ r. landed (Replica r)) w.replicas v.replicas r i e h.replicas; joiners = h.joiners }
-  stop_keeps w v (Joiner j) i e h = record { dispatchers = h.dispatchers; servers = h.servers; replicas = h.replicas; joiners = stops_one JoinerKept JoinerLive land_joiner (joiner_row g) (λ j. landed (Joiner j)) w.joiners v.joiners j i e h.joiners }
+  stop_keeps w v n i e h m =
+      subst (IsStopped w m) (sym (own_one g v m (Stop n (note_of v n))))
+      (cond_both (same_node m n) (stopped (land_at m) (at_node v m) (note_of v n)) (at_node v m) (IsStopped w m) (λ t. subst (λ k. IsStopped w k (stopped (land_at k) (at_node v k) (note_of v n))) (sym (same_node-true m n t)) here) (λ _. h m))
+    where
+      here : IsStopped w n (stopped (land_at n) (at_node v n) (note_of v n))
+      here = inr (refl, ⊎_elim (λ same. left_of w n (Some i) (at_node v n) same e) (λ x. none_some i (sym x.0 ∙ e)) (h n))
+
+  -- at the end, of a node that is closed
+  left_is : (w v : World) (n : Node) → AllStopped w v → opened_at v n ≡ None → (at_node v n).kept ≡ left_at w n
+  left_is w v n h closed = ⊎_elim (λ same. left_of w n None (at_node v n) same closed) (λ x. x.1) (h n)
 
   -- a stopped node is closed, and the others stay closed
-  stop_closes : (v : World) (n : Node) (o : Option Note) → opened_at (after g v (Stop n o)) n ≡ None
-  stop_closes v (Dispatcher s) o = closed v.dispatchers s (stopped land_dispatcher (v.dispatchers s) o) refl
-    where
-      closed : {K L : Type 0} (F : ℕ → Cell K L) (n : ℕ) (c : Cell K L) → c.opened ≡ None → (set_at F n c n).opened ≡ None
-      closed F n c e = cond_both (n == n) c (F n) (λ d. d.opened ≡ None) (λ _. e) (λ t. absurd (eqb-false n n t refl))
-  stop_closes v (Server s) o = cond_both (s == s) (stopped land_server (v.servers s) o) (v.servers s) (λ (d : Cell ServerKept ServerLive). d.opened ≡ None) (λ _. refl) (λ t. absurd (eqb-false s s t refl))
-  stop_closes v (Replica r) o = cond_both (r == r) (stopped land_replica (v.replicas r) o) (v.replicas r) (λ (d : Cell ReplicaKept (Unit {0})). d.opened ≡ None) (λ _. refl) (λ t. absurd (eqb-false r r t refl))
-  stop_closes v (Joiner j) o = cond_both (j == j) (stopped land_joiner (v.joiners j) o) (v.joiners j) (λ (d : Cell JoinerKept JoinerLive). d.opened ≡ None) (λ _. refl) (λ t. absurd (eqb-false j j t refl))
-
-  stays_closed : (v : World) (n : Node) (o : Option Note) (m : Node) → opened_at v m ≡ None → opened_at (after g v (Stop n o)) m ≡ None
-  stays_closed v (Dispatcher s) o (Dispatcher t) e = cond_both (t == s) (stopped land_dispatcher (v.dispatchers s) o) (v.dispatchers t) (λ (d : Cell DispatcherKept DispatcherLive). d.opened ≡ None) (λ _. refl) (λ _. e)
-  stays_closed v (Server s) o (Server t) e = cond_both (t == s) (stopped land_server (v.servers s) o) (v.servers t) (λ (d : Cell ServerKept ServerLive). d.opened ≡ None) (λ _. refl) (λ _. e)
-  stays_closed v (Replica s) o (Replica t) e = cond_both (t == s) (stopped land_replica (v.replicas s) o) (v.replicas t) (λ (d : Cell ReplicaKept (Unit {0})). d.opened ≡ None) (λ _. refl) (λ _. e)
-  stays_closed v (Joiner s) o (Joiner t) e = cond_both (t == s) (stopped land_joiner (v.joiners s) o) (v.joiners t) (λ (d : Cell JoinerKept JoinerLive). d.opened ≡ None) (λ _. refl) (λ _. e)
-  stays_closed v _ o _ e = e
+  stop_closes : (v : World) (n : Node) (o : Option Note) (m : Node) → (n ≡ m) ⊎ (opened_at v m ≡ None) → opened_at (after g v (Stop n o)) m ≡ None
+  stop_closes v n o m x =
+      subst (λ (c : Cell (KeptOf m) (LiveOf m)). c.opened ≡ None) (sym (own_one g v m (Stop n o)))
+      (cond_both (same_node m n) (stopped (land_at m) (at_node v m) o) (at_node v m) (λ (c : Cell (KeptOf m) (LiveOf m)). c.opened ≡ None) (λ _. refl)
+      (λ t. ⊎_elim (λ s. clash (same_node m n) (subst (λ k. same_node m k ≡ true) (sym s) (same_node-self m)) t) (λ q. q) x))
 
   -- stops of these nodes one after another
   record Ends (w v : World) (ns : List Node) : Type 0 where
@@ -106,45 +70,37 @@ module _ (g : Setting) (landed : Node → Bool) where
             entries = Stop n (note_of v n) ∷ z.entries;
             run = (may_stop v n i k.0 e, z.run);
             stopped_all = z.stopped_all;
-            closed = λ m x. ⊎_elim (λ q. ⊎_elim (λ s. z.closed m (inr (subst (λ (y : Node). opened_at (after g v (Stop n (note_of v n))) y ≡ None) s (stop_closes v n (note_of v n))))) (λ s. z.closed m (inl s)) q) (λ q. z.closed m (inr (stays_closed v n (note_of v n) m q))) x;
+            closed = λ m x. ⊎_elim (λ q. ⊎_elim (λ s. z.closed m (inr (stop_closes v n (note_of v n) m (inl s)))) (λ s. z.closed m (inl s)) q) (λ q. z.closed m (inr (stop_closes v n (note_of v n) m (inr q)))) x;
           }
 
 -- ---- the nodes there are
 
-joiners_from : ℕ → ℕ → List Node
-joiners_from j zero = []
-joiners_from j (suc n) = Joiner j ∷ joiners_from (suc j) n
+nodes_from : (ℕ → Node) → ℕ → ℕ → List Node
+nodes_from kind from zero = []
+nodes_from kind from (suc n) = kind from ∷ nodes_from kind (suc from) n
 
-joiner_in : (from n j : ℕ) → from ≤ j → j < from + n → Mem (Joiner j) (joiners_from from n)
-unfolding joiners_from
-joiner_in from zero j a b = absurd (omega arith)
-joiner_in from (suc n) j a b = ⊎_elim (λ lt. inr (joiner_in (suc from) n j lt (omega arith))) (λ ge. inl (ap (λ t. Joiner t) (let e : from ≡ j = omega arith in e))) (cases_lt from j)
+in_from : (kind : ℕ → Node) (from n j : ℕ) → from ≤ j → j < from + n → Mem (kind j) (nodes_from kind from n)
+unfolding nodes_from
+in_from kind from zero j a b = absurd (omega arith)
+in_from kind from (suc n) j a b = ⊎_elim (λ lt. inr (in_from kind (suc from) n j lt (omega arith))) (λ ge. inl (ap kind (let e : from ≡ j = omega arith in e))) (cases_lt from j)
 
-are_joiners : (g : Setting) (from n : ℕ) → first_joiner g ≤ from → from + n ≤ first_joiner g + 2 * g.joiners → Each (IsNode g) (joiners_from from n)
-unfolding joiners_from
-are_joiners g from zero a b = tt
-are_joiners g from (suc n) a b = ((a, omega arith), are_joiners g (suc from) n (omega arith) (omega arith))
+are_from : (g : Setting) (kind : ℕ → Node) (from n : ℕ) → ((j : ℕ) → from ≤ j → j < from + n → IsNode g (kind j)) → Each (IsNode g) (nodes_from kind from n)
+unfolding nodes_from
+are_from g kind from zero h = tt
+are_from g kind from (suc n) h = (h from (omega arith) (omega arith), are_from g kind (suc from) n (λ j a b. h j (omega (arith, a)) (omega (arith, b))))
 
-replicas_from : ℕ → ℕ → List Node
-replicas_from r zero = []
-replicas_from r (suc n) = Replica r ∷ replicas_from (suc r) n
+abbrev replicas_of : Setting → List Node
+replicas_of g = nodes_from Replica 0 g.replicas
 
-replica_in : (from n r : ℕ) → from ≤ r → r < from + n → Mem (Replica r) (replicas_from from n)
-unfolding replicas_from
-replica_in from zero r a b = absurd (omega arith)
-replica_in from (suc n) r a b = ⊎_elim (λ lt. inr (replica_in (suc from) n r lt (omega arith))) (λ ge. inl (ap (λ t. Replica t) (let e : from ≡ r = omega arith in e))) (cases_lt from r)
-
-are_replicas : (g : Setting) (from n : ℕ) → from + n ≤ g.replicas → Each (IsNode g) (replicas_from from n)
-unfolding replicas_from
-are_replicas g from zero b = tt
-are_replicas g from (suc n) b = (omega arith, are_replicas g (suc from) n (omega arith))
+abbrev joiners_of : Setting → List Node
+joiners_of g = nodes_from Joiner (first_joiner g) (2 * g.joiners)
 
 all_nodes : Setting → List Node
-all_nodes g = Dispatcher 0 ∷ Dispatcher 1 ∷ Server 0 ∷ Server 1 ∷ (replicas_from 0 g.replicas ++ joiners_from (first_joiner g) (2 * g.joiners))
+all_nodes g = Dispatcher 0 ∷ Dispatcher 1 ∷ Server 0 ∷ Server 1 ∷ (replicas_of g ++ joiners_of g)
 
 are_nodes : (g : Setting) → Each (IsNode g) (all_nodes g)
 unfolding all_nodes
-are_nodes g = (lit< tt, (lit< tt, (lit< tt, (lit< tt, each_append (IsNode g) (replicas_from 0 g.replicas) (joiners_from (first_joiner g) (2 * g.joiners)) (are_replicas g 0 g.replicas (omega arith)) (are_joiners g (first_joiner g) (2 * g.joiners) (omega arith) (omega arith))))))
+are_nodes g = (lit< tt, (lit< tt, (lit< tt, (lit< tt, each_append (IsNode g) (replicas_of g) (joiners_of g) (are_from g Replica 0 g.replicas (λ j a b. omega (arith, b))) (are_from g Joiner (first_joiner g) (2 * g.joiners) (λ j a b. (a, b)))))))
 
 node_in : (g : Setting) (n : Node) → IsNode g n → Mem n (all_nodes g)
 unfolding all_nodes
@@ -154,23 +110,21 @@ node_in g (Dispatcher (suc (suc s))) k = absurd (omega arith)
 node_in g (Server zero) k = inr (inr (inl refl))
 node_in g (Server (suc zero)) k = inr (inr (inr (inl refl)))
 node_in g (Server (suc (suc s))) k = absurd (omega arith)
-node_in g (Replica r) k = inr (inr (inr (inr (mem_left (Replica r) (replicas_from 0 g.replicas) (joiners_from (first_joiner g) (2 * g.joiners)) (replica_in 0 g.replicas r (omega arith) (omega arith))))))
-node_in g (Joiner j) k = inr (inr (inr (inr (mem_right (Joiner j) (replicas_from 0 g.replicas) (joiners_from (first_joiner g) (2 * g.joiners)) (joiner_in (first_joiner g) (2 * g.joiners) j k.0 k.1)))))
+node_in g (Replica r) k = inr (inr (inr (inr (mem_left (Replica r) (replicas_of g) (joiners_of g) (in_from Replica 0 g.replicas r (omega arith) (omega arith))))))
+node_in g (Joiner j) k = inr (inr (inr (inr (mem_right (Joiner j) (replicas_of g) (joiners_of g) (in_from Joiner (first_joiner g) (2 * g.joiners) j k.0 k.1)))))
 
 -- ---- nodes that the setting doesn't have stay closed
 
+abbrev IsClosed : {K L : Type 0} → Cell K L → Type 0
+IsClosed c = c.opened ≡ None
+
 stays_outside : (g : Setting) (w : World) (e : Entry) → May g w e → (n : Node) → (IsNode g n → ⊥) → opened_at w n ≡ None → opened_at (after g w e) n ≡ None
-stays_outside g w (Begin (Dispatcher s) i) m (Dispatcher t) no_ h = cond_both (t == s) (begun (w.dispatchers s) i) (w.dispatchers t) (λ (c : Cell DispatcherKept DispatcherLive). c.opened ≡ None) (λ e. absurd (no_ (subst (λ k. k < 2) (sym (eqb-true t s e)) m.0))) (λ _. h)
-stays_outside g w (Begin (Server s) i) m (Server t) no_ h = cond_both (t == s) (begun (w.servers s) i) (w.servers t) (λ (c : Cell ServerKept ServerLive). c.opened ≡ None) (λ e. absurd (no_ (subst (λ k. k < 2) (sym (eqb-true t s e)) m.0))) (λ _. h)
-stays_outside g w (Begin (Replica s) i) m (Replica t) no_ h = cond_both (t == s) (begun (w.replicas s) i) (w.replicas t) (λ (c : Cell ReplicaKept (Unit {0})). c.opened ≡ None) (λ e. absurd (no_ (subst (λ k. k < g.replicas) (sym (eqb-true t s e)) m.0))) (λ _. h)
-stays_outside g w (Begin (Joiner s) i) m (Joiner t) no_ h = cond_both (t == s) (begun (w.joiners s) i) (w.joiners t) (λ (c : Cell JoinerKept JoinerLive). c.opened ≡ None) (λ e. absurd (no_ (subst (IsJoiner g) (sym (eqb-true t s e)) m.0))) (λ _. h)
-stays_outside g w (End (Dispatcher s) o ps k) m (Dispatcher t) no_ h = cond_both (t == s) (ended land_dispatcher (w.dispatchers s) o (dispatcher_row g s (w.dispatchers s)).live) (w.dispatchers t) (λ (c : Cell DispatcherKept DispatcherLive). c.opened ≡ None) (λ _. refl) (λ _. h)
-stays_outside g w (End (Server s) o ps k) m (Server t) no_ h = cond_both (t == s) (ended land_server (w.servers s) o (server_row g s (w.servers s)).live) (w.servers t) (λ (c : Cell ServerKept ServerLive). c.opened ≡ None) (λ _. refl) (λ _. h)
-stays_outside g w (End (Replica s) o ps k) m (Replica t) no_ h = cond_both (t == s) (ended land_replica (w.replicas s) o (replica_row (w.replicas s)).live) (w.replicas t) (λ (c : Cell ReplicaKept (Unit {0})). c.opened ≡ None) (λ _. refl) (λ _. h)
-stays_outside g w (End (Joiner s) o ps k) m (Joiner t) no_ h = cond_both (t == s) (ended land_joiner (w.joiners s) o (joiner_row g s (w.joiners s)).live) (w.joiners t) (λ (c : Cell JoinerKept JoinerLive). c.opened ≡ None) (λ _. refl) (λ _. h)
-stays_outside g w (Stop n o) m t no_ h = stays_closed g (λ _. true) w n o t h
-stays_outside g w (Begin n i) m t no_ h = h
-stays_outside g w (End n o ps k) m t no_ h = h
+stays_outside g w e m n no_ h = subst IsClosed (sym (own_one g w n e)) (go e m)
+  where
+    go : (e : Entry) → May g w e → IsClosed (own_entry g n (at_node w n) e)
+    go (Begin k i) m = cond_both (same_node n k) (begun (at_node w n) i) (at_node w n) IsClosed (λ t. absurd (no_ (subst (IsNode g) (sym (same_node-true n k t)) m.0))) (λ _. h)
+    go (End k o ps kept) m = cond_both (same_node n k) _ (at_node w n) IsClosed (λ _. refl) (λ _. h)
+    go (Stop k o) m = cond_both (same_node n k) _ (at_node w n) IsClosed (λ _. refl) (λ _. h)
 
 outside_closed : (g : Setting) (es : List Entry) (w : World) → IsRun g w es → (n : Node) → (IsNode g n → ⊥) → opened_at w n ≡ None → opened_at (world_after g w es) n ≡ None
 outside_closed g [] w r n no_ h = h
@@ -192,7 +146,7 @@ module _ (g : Setting) (d : Disks) (es : List Entry) (landed : Node → Bool) (r
 
   -- the stops
   stops : Ends g landed now now (all_nodes g)
-  stops = ends g landed now now (all_nodes g) (are_nodes g) (record { dispatchers = λ n. inl refl; servers = λ n. inl refl; replicas = λ n. inl refl; joiners = λ n. inl refl })
+  stops = ends g landed now now (all_nodes g) (are_nodes g) (λ n. inl refl)
 
   abbrev later : World
   later = world_after g now stops.entries
@@ -203,11 +157,8 @@ module _ (g : Setting) (d : Disks) (es : List Entry) (landed : Node → Bool) (r
   -- what they leave is the image
   is_image : disks later ≡ image g now landed
   is_image =
-      let a : (n : ℕ) → (later.dispatchers n).kept ≡ (image g now landed).dispatchers n = λ n. left_is DispatcherKept DispatcherLive land_dispatcher (dispatcher_row g) (λ s. landed (Dispatcher s)) now.dispatchers later.dispatchers n stops.stopped_all.dispatchers (closed (Dispatcher n)) in
-      let b : (n : ℕ) → (later.servers n).kept ≡ (image g now landed).servers n = λ n. left_is ServerKept ServerLive land_server (server_row g) (λ s. landed (Server s)) now.servers later.servers n stops.stopped_all.servers (closed (Server n)) in
-      let u : (n : ℕ) → (later.replicas n).kept ≡ (image g now landed).replicas n = λ n. left_is ReplicaKept (Unit {0}) land_replica (λ r c. replica_row c) (λ r. landed (Replica r)) now.replicas later.replicas n stops.stopped_all.replicas (closed (Replica n)) in
-      let v : (n : ℕ) → (later.joiners n).kept ≡ (image g now landed).joiners n = λ n. left_is JoinerKept JoinerLive land_joiner (joiner_row g) (λ j. landed (Joiner j)) now.joiners later.joiners n stops.stopped_all.joiners (closed (Joiner n)) in
-      λ i. record { dispatchers = λ n. a n i; servers = λ n. b n i; replicas = λ n. u n i; joiners = λ n. v n i }
+      let left : (n : Node) → (at_node later n).kept ≡ left_at g landed now n = λ n. left_is g landed now later n stops.stopped_all (closed n) in
+      λ i. record { dispatchers = λ s. left (Dispatcher s) i; servers = λ s. left (Server s) i; replicas = λ r. left (Replica r) i; joiners = λ j. left (Joiner j) i }
 
   pub image_is_run : (all : List Entry) × IsRun g (opening d) (es ++ all) × (disks (world_after g (opening d) (es ++ all)) ≡ image g now landed)
   image_is_run = (stops.entries, run_append g es stops.entries (opening d) r stops.run, ap (λ (x : World). disks x) (after_append g es stops.entries (opening d)) ∙ is_image)

@@ -7,7 +7,7 @@ pub use Rattle.photon_model.specs.Journals.{journals, values_from}
 pub use Rattle.photon_model.specs.Keeping.{DispatcherKeeps, Grows, IsChosenNow, IsDrawing, IsFlying, IsResolved, JoinerKeeps, PacketsHold, PaxosGives, ReplicaKeeps, ServerKeeps, extended}
 pub use Rattle.photon_model.specs.Report.{all_pairs, decided_for, line_by, line_of, pair_of, pairs_from, unwritten_line}
 pub use Rattle.photon_model.specs.Rest.{BothUp, Carries, DispatcherWorks, IsAtRest, IsInterval, IsQuiet, IsWork, JoinerWorks, ServerWorks, UpWith, if_up, is_out, is_tick_of, is_unfinished, put_in, same_node, ticks_due, ticks_of, to_live}
-pub use Rattle.photon_model.specs.Runs.{Cell, Begin, Disks, End, Entry, Fits, IsRun, IsTurn, May, MayBegin, MayStop, Stop, WasSent, World, after, begun, disks, dispatcher_ended, dispatcher_row, down, ended, joiner_ended, joiner_row, opening, replica_ended, replica_row, row, sends, server_ended, server_row, stopped, world_after}
+pub use Rattle.photon_model.specs.Runs.{Cell, KeptOf, LiveOf, at_node, land_at, row_of, start_at, turn_at, Begin, Disks, End, Entry, Fits, IsRun, IsTurn, May, MayBegin, MayStop, Stop, WasSent, World, after, begun, disks, dispatcher_ended, dispatcher_row, down, ended, joiner_ended, joiner_row, opening, replica_ended, replica_row, row, sends, server_ended, server_row, stopped, world_after}
 pub use Rattle.photon_model.specs.Sound.{DispatcherSound, DrawnSound, HasNoQuery, InsertsOf, IsDrained, IsInsertOf, IsMissing, IsSettled, IsWritten, JoinerSound, Known, PairSound, Sound, SoundStore, accepted_inserts, inserts_in, inserts_of, known_of, values_of}
 pub use Rattle.photon_model.specs.Stores.{IsLonger, ReadIsChecked, RunsKeepWhole, TopologyComesFirst, empty_disks, empty_store}
 pub use Rattle.photon_model.specs.Topology.{IsBlank, Store, Topology, WholeSound, topology_of}

@@ -1,14 +1,11 @@
 -- Of worlds and their cells.
 use Rattle.std.proofs.Common.{◌≡◌, ℕ, zero, suc, ◌<◌, ◌==◌, List, [], ◌∷◌, ◌++◌, Option, Some, None, refl, ap, arith}
 use Rattle.std.proofs.lemmas.Bool.{cond-true, eq-eqb}
-use Rattle.photon_model.proofs.Words.{Setting, Node, Dispatcher, Server, Replica, Joiner, Input, World, Entry, after, world_after, IsRun, UpWith, set_at}
+use Rattle.photon_model.proofs.Words.{at_node, Setting, Node, Input, World, Entry, after, world_after, IsRun, UpWith, set_at}
 
 -- the input of a node's open turn
 abbrev pub opened_at : World → Node → Option Input
-opened_at w (Dispatcher s) = (w.dispatchers s).opened
-opened_at w (Server s) = (w.servers s).opened
-opened_at w (Replica r) = (w.replicas r).opened
-opened_at w (Joiner j) = (w.joiners j).opened
+opened_at w n = (at_node w n).opened
 
 pub run_append : (g : Setting) (xs ys : List Entry) (w : World) → IsRun g w xs → IsRun g (world_after g w xs) ys → IsRun g w (xs ++ ys)
 run_append g [] ys w a b = b

@@ -6,15 +6,10 @@ use Rattle.turn_defs.specs.Nodes.{IsNode}
 use Rattle.turn_defs.specs.Turns.{Note, Out}
 use Rattle.turn_defs.specs.declared.packet.Packet.{Packet}
 use Rattle.turn_defs.specs.declared.node.Node.{Node}
-use Rattle.turn_defs.specs.declared.node.Node.TheVariants.{Dispatcher, Server, Replica, Joiner}
 use Rattle.turn_defs.specs.declared.node.Input.{Input}
 use Rattle.turn_defs.specs.Sent.{Sent}
-use Rattle.turn_defs.specs.Dispatcher.{DispatcherKept, DispatcherLive}
-use Rattle.turn_defs.specs.Joiner.{JoinerKept, JoinerLive}
-use Rattle.turn_defs.specs.Server.{ServerKept, ServerLive}
-use Rattle.turn_defs.specs.Replica.{ReplicaKept}
-use Rattle.photon_model.specs.Runs.{Cell, World, Entry, Begin, End, Stop, sends, Fits, WasSent, IsTurn, MayStop, IsRun, dispatcher_row, server_row, replica_row, joiner_row}
-use Rattle.photon_model.specs.Local.{dispatcher_entry, server_entry, replica_entry, joiner_entry}
+use Rattle.photon_model.specs.Runs.{Cell, World, Entry, Begin, End, Stop, sends, Fits, WasSent, IsTurn, MayStop, IsRun, KeptOf, LiveOf, at_node, row_of}
+use Rattle.photon_model.specs.Local.{own_entry}
 
 -- ---- by itself
 
@@ -26,46 +21,15 @@ abbrev pub EndsOwn : {K L : Type 0} → Setting → Cell K L → Out L → Optio
 EndsOwn g c out o ps kept = IsTurn g c out o ps × (kept ≤ length ps)
 
 -- the entry, if it is one of this node
-abbrev pub DispatcherDoes : Setting → ℕ → Cell DispatcherKept DispatcherLive → Entry → Type 0
-DispatcherDoes g n c (Begin (Dispatcher m) i) = m ≡ n → BeginsOwn c i
-DispatcherDoes g n c (End (Dispatcher m) o ps kept) = m ≡ n → EndsOwn g c (dispatcher_row g n c) o ps kept
-DispatcherDoes g n c (Stop (Dispatcher m) landed) = m ≡ n → MayStop c (dispatcher_row g n c) landed
-DispatcherDoes g n c _ = ⊤
-
-abbrev pub ServerDoes : Setting → ℕ → Cell ServerKept ServerLive → Entry → Type 0
-ServerDoes g n c (Begin (Server m) i) = m ≡ n → BeginsOwn c i
-ServerDoes g n c (End (Server m) o ps kept) = m ≡ n → EndsOwn g c (server_row g n c) o ps kept
-ServerDoes g n c (Stop (Server m) landed) = m ≡ n → MayStop c (server_row g n c) landed
-ServerDoes g n c _ = ⊤
-
-abbrev pub ReplicaDoes : Setting → ℕ → Cell ReplicaKept (Unit {0}) → Entry → Type 0
-ReplicaDoes g n c (Begin (Replica m) i) = m ≡ n → BeginsOwn c i
-ReplicaDoes g n c (End (Replica m) o ps kept) = m ≡ n → EndsOwn g c (replica_row c) o ps kept
-ReplicaDoes g n c (Stop (Replica m) landed) = m ≡ n → MayStop c (replica_row c) landed
-ReplicaDoes g n c _ = ⊤
-
-abbrev pub JoinerDoes : Setting → ℕ → Cell JoinerKept JoinerLive → Entry → Type 0
-JoinerDoes g n c (Begin (Joiner m) i) = m ≡ n → BeginsOwn c i
-JoinerDoes g n c (End (Joiner m) o ps kept) = m ≡ n → EndsOwn g c (joiner_row g n c) o ps kept
-JoinerDoes g n c (Stop (Joiner m) landed) = m ≡ n → MayStop c (joiner_row g n c) landed
-JoinerDoes g n c _ = ⊤
+abbrev pub Does : Setting → (n : Node) → Cell (KeptOf n) (LiveOf n) → Entry → Type 0
+Does g n c (Begin m i) = m ≡ n → BeginsOwn c i
+Does g n c (End m o ps kept) = m ≡ n → EndsOwn g c (row_of g n c) o ps kept
+Does g n c (Stop m landed) = m ≡ n → MayStop c (row_of g n c) landed
 
 -- from a state on, the node's entries are turns of its own states
-abbrev pub DispatcherTurns : Setting → ℕ → Cell DispatcherKept DispatcherLive → List Entry → Type 0
-DispatcherTurns g n c [] = ⊤
-DispatcherTurns g n c (e ∷ es) = DispatcherDoes g n c e × DispatcherTurns g n (dispatcher_entry g n c e) es
-
-abbrev pub ServerTurns : Setting → ℕ → Cell ServerKept ServerLive → List Entry → Type 0
-ServerTurns g n c [] = ⊤
-ServerTurns g n c (e ∷ es) = ServerDoes g n c e × ServerTurns g n (server_entry g n c e) es
-
-abbrev pub ReplicaTurns : Setting → ℕ → Cell ReplicaKept (Unit {0}) → List Entry → Type 0
-ReplicaTurns g n c [] = ⊤
-ReplicaTurns g n c (e ∷ es) = ReplicaDoes g n c e × ReplicaTurns g n (replica_entry g n c e) es
-
-abbrev pub JoinerTurns : Setting → ℕ → Cell JoinerKept JoinerLive → List Entry → Type 0
-JoinerTurns g n c [] = ⊤
-JoinerTurns g n c (e ∷ es) = JoinerDoes g n c e × JoinerTurns g n (joiner_entry g n c e) es
+abbrev pub Turns : Setting → (n : Node) → Cell (KeptOf n) (LiveOf n) → List Entry → Type 0
+Turns g n c [] = ⊤
+Turns g n c (e ∷ es) = Does g n c e × Turns g n (own_entry g n c e) es
 
 -- ---- together
 
@@ -96,10 +60,7 @@ AreOfNodes g [] = ⊤
 AreOfNodes g (e ∷ es) = IsNode g (node_in e) × AreOfNodes g es
 
 pub record TakenApart (g : Setting) (w : World) (es : List Entry) : Type 0 where
-  pub dispatchers : (n : ℕ) → DispatcherTurns g n (w.dispatchers n) es
-  pub servers : (n : ℕ) → ServerTurns g n (w.servers n) es
-  pub replicas : (n : ℕ) → ReplicaTurns g n (w.replicas n) es
-  pub joiners : (n : ℕ) → JoinerTurns g n (w.joiners n) es
+  pub turns : (n : Node) → Turns g n (at_node w n) es
   pub aired : IsAired w.sent es
   pub nodes : AreOfNodes g es
 

@@ -64,6 +64,46 @@ replica_row c = row replica_start (λ k l i. replica_turn k i) c.kept c.live c.o
 abbrev pub joiner_row : Setting → ℕ → Cell JoinerKept JoinerLive → Out JoinerLive
 joiner_row g n c = row joiner_start (joiner_turn g n) c.kept c.live c.opened
 
+-- the same of a node of any kind: what it keeps and knows, its cell, how its notes land, and its rows
+abbrev pub KeptOf : Node → Type 0
+KeptOf (Dispatcher s) = DispatcherKept
+KeptOf (Server s) = ServerKept
+KeptOf (Replica r) = ReplicaKept
+KeptOf (Joiner j) = JoinerKept
+
+abbrev pub LiveOf : Node → Type 0
+LiveOf (Dispatcher s) = DispatcherLive
+LiveOf (Server s) = ServerLive
+LiveOf (Replica r) = Unit {0}
+LiveOf (Joiner j) = JoinerLive
+
+abbrev pub at_node : World → (n : Node) → Cell (KeptOf n) (LiveOf n)
+at_node w (Dispatcher s) = w.dispatchers s
+at_node w (Server s) = w.servers s
+at_node w (Replica r) = w.replicas r
+at_node w (Joiner j) = w.joiners j
+
+abbrev pub land_at : (n : Node) → Note → KeptOf n → KeptOf n
+land_at (Dispatcher s) = land_dispatcher
+land_at (Server s) = land_server
+land_at (Replica r) = land_replica
+land_at (Joiner j) = land_joiner
+
+abbrev pub start_at : (n : Node) → KeptOf n → Out (LiveOf n)
+start_at (Dispatcher s) = dispatcher_start
+start_at (Server s) = server_start
+start_at (Replica r) = replica_start
+start_at (Joiner j) = joiner_start
+
+abbrev pub turn_at : Setting → (n : Node) → KeptOf n → LiveOf n → Input → Out (LiveOf n)
+turn_at g (Dispatcher s) = dispatcher_turn g s
+turn_at g (Server s) = server_turn g s
+turn_at g (Replica r) = λ k l i. replica_turn k i
+turn_at g (Joiner j) = joiner_turn g j
+
+abbrev pub row_of : Setting → (n : Node) → Cell (KeptOf n) (LiveOf n) → Out (LiveOf n)
+row_of g n c = row (start_at n) (turn_at g n) c.kept c.live c.opened
+
 -- a node once its turn ends with a note, and the row's next state
 abbrev pub dispatcher_ended : Setting → ℕ → Cell DispatcherKept DispatcherLive → Option Note → Cell DispatcherKept DispatcherLive
 dispatcher_ended g s c note = ended land_dispatcher c note (dispatcher_row g s c).live
@@ -132,18 +172,9 @@ MayStop c out landed = ((i : Input) × (c.opened ≡ Some i)) × ((landed ≡ No
 
 -- the entry may come next
 abbrev pub May : Setting → World → Entry → Type 0
-May g w (Begin (Dispatcher s) i) = IsNode g (Dispatcher s) × MayBegin (w.dispatchers s) w.sent (Dispatcher s) i
-May g w (Begin (Server s) i) = IsNode g (Server s) × MayBegin (w.servers s) w.sent (Server s) i
-May g w (Begin (Replica r) i) = IsNode g (Replica r) × MayBegin (w.replicas r) w.sent (Replica r) i
-May g w (Begin (Joiner j) i) = IsNode g (Joiner j) × MayBegin (w.joiners j) w.sent (Joiner j) i
-May g w (End (Dispatcher s) note ps kept) = IsNode g (Dispatcher s) × IsTurn g (w.dispatchers s) (dispatcher_row g s (w.dispatchers s)) note ps × (kept ≤ length ps)
-May g w (End (Server s) note ps kept) = IsNode g (Server s) × IsTurn g (w.servers s) (server_row g s (w.servers s)) note ps × (kept ≤ length ps)
-May g w (End (Replica r) note ps kept) = IsNode g (Replica r) × IsTurn g (w.replicas r) (replica_row (w.replicas r)) note ps × (kept ≤ length ps)
-May g w (End (Joiner j) note ps kept) = IsNode g (Joiner j) × IsTurn g (w.joiners j) (joiner_row g j (w.joiners j)) note ps × (kept ≤ length ps)
-May g w (Stop (Dispatcher s) landed) = IsNode g (Dispatcher s) × MayStop (w.dispatchers s) (dispatcher_row g s (w.dispatchers s)) landed
-May g w (Stop (Server s) landed) = IsNode g (Server s) × MayStop (w.servers s) (server_row g s (w.servers s)) landed
-May g w (Stop (Replica r) landed) = IsNode g (Replica r) × MayStop (w.replicas r) (replica_row (w.replicas r)) landed
-May g w (Stop (Joiner j) landed) = IsNode g (Joiner j) × MayStop (w.joiners j) (joiner_row g j (w.joiners j)) landed
+May g w (Begin n i) = IsNode g n × MayBegin (at_node w n) w.sent n i
+May g w (End n note ps kept) = IsNode g n × IsTurn g (at_node w n) (row_of g n (at_node w n)) note ps × (kept ≤ length ps)
+May g w (Stop n landed) = IsNode g n × MayStop (at_node w n) (row_of g n (at_node w n)) landed
 
 -- each front of the history may be followed by its next entry
 abbrev pub IsRun : Setting → World → List Entry → Type 0

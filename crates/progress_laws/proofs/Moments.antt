@@ -1,54 +1,18 @@
 -- One entry of an interval in which nothing is done: what it makes of a node, and of what a node is to take.
-use Rattle.std.proofs.Common.{◌≡◌, ◌⊎◌, inl, inr, ⊎_elim, ℕ, ◌<◌, Bool, true, false, cond, ◌==◌, List, [], ◌∷◌, ◌++◌, length, Some, None, refl, sym, ap, ◌∙◌, subst, arith}
+use Rattle.std.proofs.Common.{◌≡◌, ◌⊎◌, inl, inr, ⊎_elim, ℕ, ◌<◌, Bool, true, false, List, [], ◌∷◌, ◌++◌, length, Some, None, refl, sym, ap, ◌∙◌, subst, arith}
 use Rattle.std.specs.Prelude.{Option, filter, not}
-use Rattle.std.proofs.lemmas.Bool.{cond_both, cond-true, eqb-true, eq-eqb, not-true}
+use Rattle.std.proofs.lemmas.Bool.{cond_both, cond-true, not-true}
 use Rattle.std.proofs.lemmas.List.Sums.{length-filter}
-use Rattle.photon_model.proofs.Words.{Mem, Each, clash, mem_left, mem_right, mem_split, none_some, some_same, set_at, Setting, IsNode, IsTo, Addressed, Packet, Node, Dispatcher, Server, Replica, Joiner, To, Only, Input, Start, Own, Tick, Deliver, Sent, Note, Out, land, DispatcherKept, DispatcherLive, land_dispatcher, dispatcher_start, dispatcher_turn, ServerKept, ServerLive, land_server, server_start, server_turn, ReplicaKept, land_replica, replica_start, replica_turn, JoinerKept, JoinerLive, land_joiner, joiner_start, joiner_turn, World, Entry, Begin, End, Stop, begun, ended, row, sends, after, world_after, May, IsTurn, IsRun, same_node, put_in, is_tick_of, ticks_due, is_unfinished, is_out, to_live, IsQuiet, IsInterval, Carries, BothUp, DispatcherWorks, JoinerWorks, ServerWorks, IsWork, Cell}
+use Rattle.photon_model.proofs.Words.{Mem, Each, clash, mem_left, mem_right, mem_split, none_some, some_same, Setting, IsNode, IsTo, Addressed, Packet, Node, Dispatcher, Server, Replica, Joiner, To, Only, Input, Start, Own, Tick, Deliver, Sent, Note, Out, land, ServerLive, World, Entry, Begin, End, Stop, begun, ended, row, sends, after, world_after, May, IsTurn, IsRun, same_node, put_in, is_tick_of, ticks_due, is_unfinished, is_out, to_live, IsQuiet, IsInterval, Carries, BothUp, DispatcherWorks, JoinerWorks, ServerWorks, IsWork, Cell, KeptOf, LiveOf, at_node, land_at, start_at, turn_at, row_of}
+pub use Rattle.photon_model.proofs.Worlds.{opened_at}
+use Rattle.photon_model.proofs.Local.{same_node-true, same_node-self, own_one}
+use Rattle.photon_model.specs.Local.{own_entry}
 use Rattle.progress_laws.specs.Idle.{HasNumbers, IsWithinLimits, NoWork, IsIdle}
 
 -- ---- a node, of whatever kind
 
-abbrev pub KeptOf : Node → Type 0
-KeptOf (Dispatcher s) = DispatcherKept
-KeptOf (Server s) = ServerKept
-KeptOf (Replica r) = ReplicaKept
-KeptOf (Joiner j) = JoinerKept
-
-abbrev pub LiveOf : Node → Type 0
-LiveOf (Dispatcher s) = DispatcherLive
-LiveOf (Server s) = ServerLive
-LiveOf (Replica r) = Unit {0}
-LiveOf (Joiner j) = JoinerLive
-
-abbrev pub at_node : World → (n : Node) → Cell (KeptOf n) (LiveOf n)
-at_node w (Dispatcher s) = w.dispatchers s
-at_node w (Server s) = w.servers s
-at_node w (Replica r) = w.replicas r
-at_node w (Joiner j) = w.joiners j
-
-abbrev pub opened_at : World → Node → Option Input
-opened_at w n = (at_node w n).opened
-
-abbrev pub land_at : (n : Node) → Note → KeptOf n → KeptOf n
-land_at (Dispatcher s) = land_dispatcher
-land_at (Server s) = land_server
-land_at (Replica r) = land_replica
-land_at (Joiner j) = land_joiner
-
-abbrev pub start_at : (n : Node) → KeptOf n → Out (LiveOf n)
-start_at (Dispatcher s) = dispatcher_start
-start_at (Server s) = server_start
-start_at (Replica r) = replica_start
-start_at (Joiner j) = joiner_start
-
-abbrev pub turn_at : Setting → (n : Node) → KeptOf n → LiveOf n → Input → Out (LiveOf n)
-turn_at g (Dispatcher s) = dispatcher_turn g s
-turn_at g (Server s) = server_turn g s
-turn_at g (Replica r) = λ k l i. replica_turn k i
-turn_at g (Joiner j) = joiner_turn g j
-
 abbrev pub row_at : Setting → World → (n : Node) → Out (LiveOf n)
-row_at g w n = row (start_at n) (turn_at g n) (at_node w n).kept (at_node w n).live (at_node w n).opened
+row_at g w n = row_of g n (at_node w n)
 
 abbrev pub WorksAt : (n : Node) → Option Note → LiveOf n → LiveOf n → Type 0
 WorksAt (Dispatcher s) o a b = DispatcherWorks a b o
@@ -56,70 +20,23 @@ WorksAt (Server s) o a b = ServerWorks a b
 WorksAt (Replica r) o a b = ⊥
 WorksAt (Joiner j) o a b = JoinerWorks a b
 
-pub same_node-true : (a b : Node) → same_node a b ≡ true → a ≡ b
-same_node-true (Dispatcher a) (Dispatcher b) e = ap Dispatcher (eqb-true a b e)
-same_node-true (Server a) (Server b) e = ap Server (eqb-true a b e)
-same_node-true (Replica a) (Replica b) e = ap Replica (eqb-true a b e)
-same_node-true (Joiner a) (Joiner b) e = ap Joiner (eqb-true a b e)
-same_node-true _ _ e = clash false e refl
-
-same_node-self : (a : Node) → same_node a a ≡ true
-same_node-self (Dispatcher a) = eq-eqb a a refl
-same_node-self (Server a) = eq-eqb a a refl
-same_node-self (Replica a) = eq-eqb a a refl
-same_node-self (Joiner a) = eq-eqb a a refl
-
 -- ---- what an entry makes of a node
 
 -- the entry is an End of the node
 abbrev pub IsEnd : Entry → Node → Type 0
 IsEnd e n = (o : Option Note) × (ps : List (Node × Packet)) × (kept : ℕ) × (e ≡ End n o ps kept)
 
--- a family that is set at one number, read at another
-set_is : {A : Type 0} (f v : ℕ → A) (n m : ℕ) → set_at f n (v n) m ≡ cond (m == n) (v m) (f m)
-set_is f v n m = go (m == n) refl
-  where
-    go : (b : Bool) → (m == n) ≡ b → cond b (v n) (f m) ≡ cond b (v m) (f m)
-    go true e = ap v (sym (eqb-true m n e))
-    go false e = refl
-
 module _ (g : Setting) (w : World) where
-  begun_is : (m : Node) (i : Input) (n : Node) → at_node (after g w (Begin m i)) n ≡ cond (same_node n m) (begun (at_node w n) i) (at_node w n)
-  begun_is (Dispatcher t) i (Dispatcher s) = set_is w.dispatchers (λ k. begun (w.dispatchers k) i) t s
-  begun_is (Server t) i (Server s) = set_is w.servers (λ k. begun (w.servers k) i) t s
-  begun_is (Replica t) i (Replica s) = set_is w.replicas (λ k. begun (w.replicas k) i) t s
-  begun_is (Joiner t) i (Joiner s) = set_is w.joiners (λ k. begun (w.joiners k) i) t s
-  begun_is _ i _ = refl
-
-  ended_is : (m : Node) (o : Option Note) (ps : List (Node × Packet)) (kept : ℕ) (n : Node) → at_node (after g w (End m o ps kept)) n ≡ cond (same_node n m) (ended (land_at n) (at_node w n) o (row_at g w n).live) (at_node w n)
-  ended_is (Dispatcher t) o ps kept (Dispatcher s) = set_is w.dispatchers (λ k. ended land_dispatcher (w.dispatchers k) o (row_at g w (Dispatcher k)).live) t s
-  ended_is (Server t) o ps kept (Server s) = set_is w.servers (λ k. ended land_server (w.servers k) o (row_at g w (Server k)).live) t s
-  ended_is (Replica t) o ps kept (Replica s) = set_is w.replicas (λ k. ended land_replica (w.replicas k) o (row_at g w (Replica k)).live) t s
-  ended_is (Joiner t) o ps kept (Joiner s) = set_is w.joiners (λ k. ended land_joiner (w.joiners k) o (row_at g w (Joiner k)).live) t s
-  ended_is _ o ps kept _ = refl
-
   pub begun_own : (n : Node) (i : Input) → at_node (after g w (Begin n i)) n ≡ begun (at_node w n) i
-  begun_own n i = begun_is n i n ∙ cond-true (same_node n n) _ _ (same_node-self n)
+  begun_own n i = own_one g w n (Begin n i) ∙ cond-true (same_node n n) _ _ (same_node-self n)
 
   -- what an End leaves its node
   pub ended_own : (e : Entry) (n : Node) → IsEnd e n → (at_node (after g w e) n).live ≡ Some (row_at g w n).live
-  ended_own e n (o, ps, kept, q) = ap (λ x. (at_node (after g w x) n).live) q ∙ ap (λ (c : Cell (KeptOf n) (LiveOf n)). c.live) (ended_is n o ps kept n ∙ cond-true (same_node n n) _ _ (same_node-self n))
+  ended_own e n (o, ps, kept, q) = ap (λ x. (at_node (after g w x) n).live) q ∙ ap (λ (c : Cell (KeptOf n) (LiveOf n)). c.live) (own_one g w n (End n o ps kept) ∙ cond-true (same_node n n) _ _ (same_node-self n))
 
   -- the row of a node that is up, with its open turn's input
   pub turned : (n : Node) (l : LiveOf n) (i : Input) → (at_node w n).live ≡ Some l → opened_at w n ≡ Some i → row_at g w n ≡ turn_at g n (at_node w n).kept l i
   turned n l i up o = ap (λ x. row (start_at n) (turn_at g n) (at_node w n).kept x (at_node w n).opened) up ∙ ap (λ x. row (start_at n) (turn_at g n) (at_node w n).kept (Some l) x) o
-
-  may_begin : (n : Node) (i : Input) → May g w (Begin n i) → opened_at w n ≡ None
-  may_begin (Dispatcher s) i m = m.1.0
-  may_begin (Server s) i m = m.1.0
-  may_begin (Replica r) i m = m.1.0
-  may_begin (Joiner j) i m = m.1.0
-
-  may_end : (n : Node) (o : Option Note) (ps : List (Node × Packet)) (kept : ℕ) → May g w (End n o ps kept) → IsNode g n × IsTurn g (at_node w n) (row_at g w n) o ps
-  may_end (Dispatcher s) o ps kept m = (m.0, m.1)
-  may_end (Server s) o ps kept m = (m.0, m.1)
-  may_end (Replica r) o ps kept m = (m.0, m.1)
-  may_end (Joiner j) o ps kept m = (m.0, m.1)
 
   is_work : (n : Node) (l : LiveOf n) → (at_node w n).live ≡ Some l → (o : Option Note) (ps : List (Node × Packet)) (kept : ℕ) → WorksAt n o l (row_at g w n).live → IsWork g w (End n o ps kept)
   is_work n l up o ps kept works = go n l (both (WorksAt n o) _ _ l _ up (ended_own (End n o ps kept) n (o, ps, kept, refl)) works) works
@@ -269,11 +186,11 @@ SitesUp w = (s : ℕ) → s < 2 → (l : ServerLive) × ((w.servers s).live ≡ 
 module _ {g : Setting} {dead : ℕ → Bool} {w : World} {air next : List Sent} {e : Entry} {es : List Entry} (step : Step g dead w air next e es) where
   -- nothing, or its turn begins or ends
   cell_after : (n : Node) (P : Cell (KeptOf n) (LiveOf n) → Type 0) → P (at_node w n) → ((i : Input) → e ≡ Begin n i → P (begun (at_node w n) i)) → ((o : Option Note) (ps : List (Node × Packet)) (kept : ℕ) → e ≡ End n o ps kept → P (ended (land_at n) (at_node w n) o (row_at g w n).live)) → P (at_node (after g w e) n)
-  cell_after n P same begins ends = go e step.carries begins ends
+  cell_after n P same begins ends = subst P (sym (own_one g w n e)) (go e step.carries begins ends)
     where
-      go : (e : Entry) → CarriesOne dead air e next → ((i : Input) → e ≡ Begin n i → P (begun (at_node w n) i)) → ((o : Option Note) (ps : List (Node × Packet)) (kept : ℕ) → e ≡ End n o ps kept → P (ended (land_at n) (at_node w n) o (row_at g w n).live)) → P (at_node (after g w e) n)
-      go (Begin m i) c begins ends = subst P (sym (begun_is g w m i n)) (cond_both (same_node n m) _ _ P (λ t. begins i (ap (λ k. Begin k i) (sym (same_node-true n m t)))) (λ _. same))
-      go (End m o ps kept) c begins ends = subst P (sym (ended_is g w m o ps kept n)) (cond_both (same_node n m) _ _ P (λ t. ends o ps kept (ap (λ k. End k o ps kept) (sym (same_node-true n m t)))) (λ _. same))
+      go : (e : Entry) → CarriesOne dead air e next → ((i : Input) → e ≡ Begin n i → P (begun (at_node w n) i)) → ((o : Option Note) (ps : List (Node × Packet)) (kept : ℕ) → e ≡ End n o ps kept → P (ended (land_at n) (at_node w n) o (row_at g w n).live)) → P (own_entry g n (at_node w n) e)
+      go (Begin m i) c begins ends = cond_both (same_node n m) _ _ P (λ t. begins i (ap (λ k. Begin k i) (sym (same_node-true n m t)))) (λ _. same)
+      go (End m o ps kept) c begins ends = cond_both (same_node n m) _ _ P (λ t. ends o ps kept (ap (λ k. End k o ps kept) (sym (same_node-true n m t)))) (λ _. same)
       go (Stop m landed) c begins ends = absurd c
 
   -- a node knows what it knew, or what its row says
@@ -288,7 +205,7 @@ module _ {g : Setting} {dead : ℕ → Bool} {w : World} {air next : List Sent} 
 
   -- what its End may be: that of the open turn, with its row's note and packets
   pub ends : (n : Node) (end : IsEnd e n) → IsNode g n × IsTurn g (at_node w n) (row_at g w n) end.0 end.1
-  ends n (o, ps, kept, q) = may_end g w n o ps kept (subst (May g w) q step.may)
+  ends n (o, ps, kept, q) = let m : May g w (End n o ps kept) = subst (May g w) q step.may in (m.0, m.1)
 
   -- what a node's disk holds: the same, or its row's note besides
   pub kept_after : (n : Node) → ((at_node (after g w e) n).kept ≡ (at_node w n).kept) ⊎ (IsEnd e n × ((at_node (after g w e) n).kept ≡ land (land_at n) (row_at g w n).note (at_node w n).kept))
@@ -313,7 +230,7 @@ module _ {g : Setting} {dead : ℕ → Bool} {w : World} {air next : List Sent} 
 
   -- an open turn stays open until its End
   stays_open : (n : Node) (i : Input) → opened_at w n ≡ Some i → (opened_at (after g w e) n ≡ Some i) ⊎ (IsEnd e n × (opened_at w n ≡ Some i))
-  stays_open n i o = cell_after n (λ c. (c.opened ≡ Some i) ⊎ (IsEnd e n × (opened_at w n ≡ Some i))) (inl o) (λ j q. none_some i (sym (may_begin g w n j (subst (May g w) q step.may)) ∙ o)) (λ o' ps kept q. inr ((o', ps, kept, q), o))
+  stays_open n i o = cell_after n (λ c. (c.opened ≡ Some i) ⊎ (IsEnd e n × (opened_at w n ≡ Some i))) (inl o) (λ j q. let m : May g w (Begin n j) = subst (May g w) q step.may in none_some i (sym m.1.0 ∙ o)) (λ o' ps kept q. inr ((o', ps, kept, q), o))
 
   begins : (n : Node) (i : Input) → e ≡ Begin n i → opened_at (after g w e) n ≡ Some i
   begins n i q = ap (λ x. opened_at (after g w x) n) q ∙ ap (λ (c : Cell (KeptOf n) (LiveOf n)). c.opened) (begun_own g w n i)

@@ -3,10 +3,11 @@ use Rattle.std.proofs.Common.{◌≡◌, inl, ⊎_elim, ℕ, zero, suc, ◌<◌,
 use Rattle.std.specs.Prelude.{⊤, not, is_some, filter, Option}
 use Rattle.std.proofs.lemmas.Bool.{true≢false, ltb-true, eqb-true, not-true}
 use Rattle.photon_model.proofs.Worlds.{of_two}
-use Rattle.photon_model.proofs.Words.{Batch, Note, IsInterval, clash, Ballot, is_same, same_true, same_batch, same_batch-true, Place, is_place, place_true, Mem, mem_right, Packet, Prepare, Promise, Nack, Accept, Accepted, Chosen, Node, Dispatcher, Server, Replica, Joiner, To, Only, AnyJoiner, Input, Start, Deliver, IsNode, Addressed, Sent, IsJoiner, shards, Out, dispatcher_wants, ServerLive, is_below_limit, server_wants, server_turn, IfUp, World, Entry, Begin, End, Stop, Fits, WasSent, MayBegin, May, IsRun, sends, after, world_after, same_node, UpWith, BothUp, ServerWorks, IsWork, put_in, ticks_of, ticks_due, is_unfinished, to_live, Carries, IsQuiet, Cell}
+use Rattle.photon_model.proofs.Words.{at_node, Batch, Note, IsInterval, clash, Ballot, is_same, same_true, same_batch, same_batch-true, Place, is_place, place_true, Mem, mem_right, Packet, Prepare, Promise, Nack, Accept, Accepted, Chosen, Node, Dispatcher, Server, Replica, Joiner, To, Only, AnyJoiner, Input, Start, Deliver, IsNode, Addressed, Sent, IsJoiner, shards, Out, dispatcher_wants, ServerLive, is_below_limit, server_wants, server_turn, IfUp, World, Entry, Begin, End, Stop, Fits, WasSent, MayBegin, May, IsRun, sends, after, world_after, same_node, UpWith, BothUp, ServerWorks, IsWork, put_in, ticks_of, ticks_due, is_unfinished, to_live, Carries, IsQuiet, Cell}
 use Rattle.progress_laws.specs.Idle.{HasNumbers, IsWithinLimits, NoWork, IsIdle}
 use Rattle.progress_laws.specs.Rows.{three, all_live, to_one, ends, plays, duel, restarts, beginning, down_again, stale, first, second, third, fourth, after_first, after_second, after_third, CarriesOnce, ThreeAreIdle}
-use Rattle.progress_laws.proofs.Moments.{put_back, at_node, row_at, same_node-true, begun_own, ended_own, turned}
+use Rattle.progress_laws.proofs.Moments.{put_back, row_at, begun_own, ended_own, turned}
+use Rattle.photon_model.proofs.Local.{same_node-true}
 use Rattle.progress_laws.proofs.Turning.{teaches, turns}
 
 -- nothing is taken out of an empty list
@@ -124,25 +125,20 @@ try_member (Server s) = if_true (nat_lt s 2) (ltb-true s 2)
 try_member (Replica r) = if_true (nat_lt r 3) (ltb-true r 3)
 try_member (Joiner j) = None
 
-may_start : (w : World) (n : Node) (i : Input) → IsNode three n → MayBegin (at_node w n) w.sent n i → May three w (Begin n i)
-may_start w (Dispatcher s) i is m = (is, m)
-may_start w (Server s) i is m = (is, m)
-may_start w (Replica r) i is m = (is, m)
-may_start w (Joiner j) i is m = (is, m)
+abbrev begun : World → Node → Input → World
+begun w n i = after three w (Begin n i)
 
+-- the node's open turn ends as its row says
 may_end : (w : World) (n : Node) (i : Input) → IsNode three n → (at_node w n).opened ≡ Some i → Addressed three (row_at three w n).packets (to_one (row_at three w n).packets) → May three w (ends w n)
 may_end w (Dispatcher s) i is o a = (is, ((i, o), refl, a), omega arith)
 may_end w (Server s) i is o a = (is, ((i, o), refl, a), omega arith)
 may_end w (Replica r) i is o a = (is, ((i, o), refl, a), omega arith)
 may_end w (Joiner j) i is o a = (is, ((i, o), refl, a), omega arith)
 
-abbrev begun : World → Node → Input → World
-begun w n i = after three w (Begin n i)
-
 abbrev try_turn : (w : World) (n : Node) (i : Input) → Option (May three w (Begin n i) × May three (begun w n i) (ends (begun w n i) n))
 try_turn w n i =
     with_three (try_member n) (with_three (try_closed (at_node w n).opened) (try_fit (at_node w n).live i) (try_sent w.sent n i) (λ a b c. (let m : MayBegin (at_node w n) w.sent n i = (a, b, c) in m))) (try_addressed (row_at three (begun w n i) n).packets)
-    (λ is m a. (may_start w n i is m, may_end (begun w n i) n i is (ap (λ c. c.opened) (begun_own three w n i)) a))
+    (λ is m a. ((is, m), may_end (begun w n i) n i is (ap (λ c. c.opened) (begun_own three w n i)) a))
 
 abbrev try_played : (ts : List (Node × Input)) (w : World) → Option (IsRun three w (plays w ts))
 try_played [] w = Some tt
