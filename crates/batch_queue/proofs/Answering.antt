@@ -1,19 +1,7 @@
 -- What is answered, among all that wait or among a part, and what is left.
 use Rattle.std.proofs.Common.{◌≡◌, ◌≤◌, ◌||◌, ◌&&◌, Bool, true, false, not, cond, nat_lt, filter, List, [], ◌∷◌, ◌++◌, Some, None, refl, sym, ap, ◌∙◌, subst, arith}
 use Rattle.std.specs.Prelude.{Option, is_some, option_to_list}
-use Rattle.std.specs.Option.{option_map}
-use Rattle.std.specs.List.{AllByRecursion, list_any, cons_option}
-use Rattle.std.proofs.lemmas.Bool.{ltb-false, true≢false}
-use Rattle.event_id.specs.declared.id.EventId.{EventId}
-use Rattle.event_id.specs.EventId.{is_same as same_id}
-use Rattle.registry_state.specs.declared.Token.{Token}
-use Rattle.registry_state.specs.declared.Insert.{Insert}
-use Rattle.registry_state.specs.declared.Batch.{Batch}
-use Rattle.registry_state.specs.declared.Answer.{Answer}
-use Rattle.registry_state.specs.declared.Answer.TheVariants.{TooOld}
-use Rattle.registry_state.specs.LookBack.{bound_of, first_in, first_insert, replay, replay_held}
-use Rattle.registry_state.proofs.Tests.{same_id-true, same_id-refl}
-use Rattle.batch_queue.specs.Waiting.{answered, unanswered, replays, IsUnanswered}
+use Rattle.batch_queue.proofs.Words.{option_map, AllByRecursion, list_any, cons_option, ltb-false, true≢false, EventId, same_id, Token, Insert, Batch, Answer, TooOld, bound_of, first_in, first_insert, replay, replay_held, same_id-true, same_id-refl, answered, unanswered, replays, IsUnanswered}
 use Rattle.batch_queue.proofs.Claims.{none_ahead}
 
 -- the insert with its answer, where it has one

@@ -1,15 +1,7 @@
 -- The ids of a batch, and what the batch doesn't answer.
 use Rattle.std.proofs.Common.{◌≡◌, ◌≤◌, ◌||◌, Bool, true, false, nat_lt, cond, List, [], ◌∷◌, ◌++◌, Some, None, refl, sym, ap, ◌∙◌, arith}
 use Rattle.std.specs.Prelude.{Option, is_some}
-use Rattle.std.proofs.lemmas.Bool.{ltb-false, le-ltb, cond-false}
-use Rattle.event_id.specs.declared.id.EventId.{EventId}
-use Rattle.event_id.specs.EventId.{is_same as same_id}
-use Rattle.registry_state.specs.declared.Token.{Token}
-use Rattle.registry_state.specs.declared.Insert.{Insert}
-use Rattle.registry_state.specs.declared.Batch.{Batch}
-use Rattle.registry_state.specs.declared.Answer.TheVariants.{TooOld}
-use Rattle.registry_state.specs.LookBack.{bound_of, first_in, first_insert, or_else, replay, replay_held}
-use Rattle.registry_state.proofs.Learning.{bound_of-push, first_insert-push, nobody}
+use Rattle.batch_queue.proofs.Words.{ltb-false, le-ltb, cond-false, EventId, same_id, Token, Insert, Batch, TooOld, bound_of, first_in, first_insert, or_else, replay, replay_held, bound_of-push, first_insert-push, nobody}
 
 -- one id more is in the set
 pub one_more : (before after whole : Bool) (x : Insert) (rest : List Insert) (i : EventId) → after ≡ cond (same_id x.id i) true before → (before || is_some (first_in (x ∷ rest) i)) ≡ whole → (after || is_some (first_in rest i)) ≡ whole

@@ -1,13 +1,7 @@
 -- A map from ids to groups, with one insert more or without an id.
 use Rattle.std.proofs.Common.{◌≡◌, ℕ, Bool, true, false, cond, List, [], ◌∷◌, ◌++◌, refl, sym, ap, ◌∙◌}
 use Rattle.std.specs.Prelude.{Option, Some, None, unwrap_or, Result, Ok, Err, OnErr, is_err}
-use Rattle.std.proofs.lemmas.Bool.{true≢false}
-use Rattle.std.proofs.lemmas.List.{append-nil}
-use Rattle.event_id.specs.declared.id.EventId.{EventId}
-use Rattle.event_id.specs.EventId.{is_same as same_id}
-use Rattle.registry_state.specs.declared.Insert.{Insert}
-use Rattle.registry_state.proofs.Tests.{same_id-true}
-use Rattle.batch_queue.specs.Numbered.{with_id}
+use Rattle.batch_queue.proofs.Words.{true≢false, append-nil, EventId, same_id, Insert, same_id-true, with_id}
 use Rattle.batch_queue.proofs.Numbered.{same_id-flip}
 
 abbrev pub Group : Type 0

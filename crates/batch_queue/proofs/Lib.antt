@@ -1,3 +1,4 @@
+pub mod Words
 pub mod Numbered
 pub mod Groups
 pub mod Waiting

@@ -1,18 +1,6 @@
 -- Numbered inserts: one more, and those of an id taken out or put together.
 use Rattle.std.proofs.Common.{◌≡◌, ℕ, suc, ◌≤◌, ◌<◌, ◌||◌, Bool, true, false, not, cond, List, [], ◌∷◌, ◌++◌, filter, take, ◌+◌, refl, sym, ap, ◌∙◌, subst, arith}
-use Rattle.std.specs.Ordering.{nat_cmp, match_ordering, is_eq}
-use Rattle.std.specs.declared.cmp.Ordering.{Ordering}
-use Rattle.std.specs.declared.cmp.Ordering.TheVariants.{Less, Equal, Greater}
-use Rattle.std.specs.Cmp.{nat_cmp_is}
-use Rattle.std.specs.Map.{values_of, remove_entry}
-use Rattle.std.specs.BTreeMap.{insert_entry, is_at}
-use Rattle.std.specs.List.{list_any}
-use Rattle.std.proofs.lemmas.List.{append_assoc}
-use Rattle.event_id.specs.declared.id.EventId.{EventId}
-use Rattle.event_id.specs.EventId.{is_same as same_id}
-use Rattle.registry_state.specs.declared.Insert.{Insert}
-use Rattle.registry_state.proofs.Tests.{same_id-true, same_id-refl}
-use Rattle.batch_queue.specs.Numbered.{IsNumbered, with_id, without, with_all}
+use Rattle.batch_queue.proofs.Words.{nat_cmp, match_ordering, is_eq, Ordering, Less, Equal, Greater, nat_cmp_is, values_of, remove_entry, insert_entry, is_at, list_any, append_assoc, EventId, same_id, Insert, same_id-true, same_id-refl, IsNumbered, with_id, without, with_all}
 
 less : (m n : ℕ) → m < n → nat_cmp m n ≡ Less
 less m n lt = sym (nat_cmp_is m n Less lt)

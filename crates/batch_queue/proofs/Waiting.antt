@@ -1,14 +1,7 @@
 -- Lists of waiting inserts: tokens, one more, fewer.
 use Rattle.std.proofs.Common.{◌≡◌, ◌<◌, Bool, true, false, not, cond, filter, List, [], ◌∷◌, ◌++◌, ◌||◌, ◌&&◌, map, arith, refl, sym, ap, ◌∙◌, subst}
 use Rattle.std.specs.Prelude.{Option, Some, None}
-use Rattle.std.specs.List.{AllByRecursion}
-use Rattle.std.proofs.lemmas.Bool.{cond-true, cond-false, true≢false}
-use Rattle.std.proofs.lemmas.Map.Keys.{IsDistinct-head, IsDistinct-tail, IsDistinct-cons}
-use Rattle.registry_state.specs.declared.Token.{Token}
-use Rattle.registry_state.specs.declared.Insert.{Insert}
-use Rattle.registry_state.specs.Same.{same_token}
-use Rattle.registry_state.proofs.Tests.{same_token-true, same_token-refl}
-use Rattle.batch_queue.specs.Waiting.{has_token, with_last, IsOnce, room_beside}
+use Rattle.batch_queue.proofs.Words.{AllByRecursion, cond-true, cond-false, true≢false, IsDistinct-head, IsDistinct-tail, IsDistinct-cons, Token, Insert, same_token, same_token-true, same_token-refl, has_token, with_last, IsOnce, room_beside}
 
 pub put-there : (xs : List Insert) (x : Insert) → has_token xs x.token ≡ true → with_last xs x ≡ xs
 put-there xs x there = cond-true (has_token xs x.token) xs (xs ++ x ∷ []) there

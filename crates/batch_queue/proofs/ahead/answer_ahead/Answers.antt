@@ -1,5 +1,5 @@
 use Rattle.std.proofs.Common.{◌≡◌, is_some, false, sym, ◌∙◌, rules}
-use Rattle.registry_state.specs.LookBack.{first_in, replay}
+use Rattle.batch_queue.proofs.Words.{first_in, replay}
 use Rattle.batch_queue.proofs.Claims.{none_ahead}
 use Rattle.batch_queue.proofs.ahead.answer_ahead.Goals as goal
 

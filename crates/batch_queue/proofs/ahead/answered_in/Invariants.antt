@@ -1,7 +1,5 @@
 use Rattle.std.proofs.Common.{◌≡◌, List, [], ◌∷◌, ◌++◌}
-use Rattle.std.specs.Map.{values_of}
-use Rattle.registry_state.specs.declared.Batch.{Batch}
-use Rattle.batch_queue.specs.Waiting.{answered, replays}
+use Rattle.batch_queue.proofs.Words.{values_of, Batch, answered, replays}
 use Rattle.batch_queue.proofs.ahead.answered_in.Given as goal
 
 -- those so far, and those that are left

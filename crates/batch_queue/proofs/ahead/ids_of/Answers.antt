@@ -1,9 +1,5 @@
 use Rattle.std.proofs.Common.{◌||◌, List, is_some, sym, ap, ◌∙◌, arith}
-use Rattle.std.proofs.lemmas.List.{drop_more}
-use Rattle.std.specs.HashSet.{contains}
-use Rattle.event_id.specs.EventId.{is_same as same_id}
-use Rattle.registry_state.specs.declared.Insert.{Insert}
-use Rattle.registry_state.specs.LookBack.{first_in}
+use Rattle.batch_queue.proofs.Words.{drop_more, contains, same_id, Insert, first_in}
 use Rattle.batch_queue.proofs.Claims.{one_more}
 use Rattle.batch_queue.proofs.ahead.ids_of.Goals as goal
 

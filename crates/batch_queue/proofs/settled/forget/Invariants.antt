@@ -1,10 +1,5 @@
 use Rattle.std.proofs.Common.{◌≡◌, ◌&&◌, drop, not}
-use Rattle.std.specs.Map.{values_of}
-use Rattle.std.specs.HashSet.{contains}
-use Rattle.registry_state.specs.declared.Token.{Token}
-use Rattle.registry_state.specs.Same.{same_token}
-use Rattle.batch_queue.specs.Waiting.{has_token}
-use Rattle.batch_queue.specs.Numbered.{without}
+use Rattle.batch_queue.proofs.Words.{values_of, contains, Token, same_token, has_token, without}
 use Rattle.batch_queue.proofs.settled.forget.Given as goal
 
 -- what is out, and what is left to take out

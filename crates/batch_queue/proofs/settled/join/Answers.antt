@@ -1,10 +1,6 @@
 use Rattle.std.proofs.Common.{◌≡◌, ◌++◌, ◌∷◌, [], List, rules, Some, None, sym, ap, ◌∙◌}
 use Rattle.std.specs.Prelude.{unwrap_or}
-use Rattle.std.specs.Map.{lookup}
-use Rattle.std.specs.HashMap.{get}
-use Rattle.event_id.specs.declared.id.EventId.{EventId}
-use Rattle.event_id.specs.EventId.{is_same as same_id}
-use Rattle.batch_queue.specs.Numbered.{with_id}
+use Rattle.batch_queue.proofs.Words.{lookup, get, EventId, same_id, with_id}
 use Rattle.batch_queue.proofs.Groups.{Group, written_same, written_new, err_weaker}
 use Rattle.batch_queue.proofs.settled.join.Goals as goal
 

@@ -1,7 +1,5 @@
 use Rattle.std.proofs.Common.{ℕ, ◌+◌, List, drop, sym, ap, ◌∙◌}
-use Rattle.std.proofs.lemmas.List.{drop_more}
-use Rattle.registry_state.specs.declared.Insert.{Insert}
-use Rattle.batch_queue.specs.Numbered.{with_all}
+use Rattle.batch_queue.proofs.Words.{drop_more, Insert, with_all}
 use Rattle.batch_queue.proofs.settled.pick.Goals as goal
 
 pub loop-number-preserved : goal.loop-number-preserved

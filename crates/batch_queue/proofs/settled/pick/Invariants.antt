@@ -1,5 +1,5 @@
 use Rattle.std.proofs.Common.{◌≡◌, drop}
-use Rattle.batch_queue.specs.Numbered.{with_all}
+use Rattle.batch_queue.proofs.Words.{with_all}
 use Rattle.batch_queue.proofs.settled.pick.Given as goal
 
 -- what is picked, and what is left to pick

@@ -1,12 +1,6 @@
 use Rattle.std.proofs.Common.{◌≤◌, ◌++◌, ◌∷◌, [], List, arith, rules, ap, ◌∙◌}
 use Rattle.std.specs.Prelude.{option_to_list}
-use Rattle.std.specs.HashSet.{contains}
-use Rattle.std.proofs.lemmas.Result.{IfOk-weaker}
-use Rattle.event_id.specs.EventId.{is_same as same_id}
-use Rattle.registry_state.specs.declared.Insert.{Insert}
-use Rattle.registry_state.specs.LookBack.{bound_of}
-use Rattle.batch_queue.specs.Queue.{settled}
-use Rattle.batch_queue.specs.Waiting.{answered, replays}
+use Rattle.batch_queue.proofs.Words.{contains, IfOk-weaker, same_id, Insert, bound_of, settled, answered, replays}
 use Rattle.batch_queue.proofs.Answering.{among_ids}
 use Rattle.batch_queue.proofs.queue.BatchQueue.answered.Goals as goal
 

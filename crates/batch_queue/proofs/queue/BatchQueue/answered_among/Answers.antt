@@ -1,6 +1,5 @@
 use Rattle.std.proofs.Common.{◌++◌, ◌∷◌, [], ◌∙◌}
-use Rattle.std.specs.Map.{values_of}
-use Rattle.batch_queue.specs.Waiting.{replays}
+use Rattle.batch_queue.proofs.Words.{values_of, replays}
 use Rattle.batch_queue.proofs.Answering.{and_newest}
 use Rattle.batch_queue.proofs.queue.BatchQueue.answered_among.Goals as goal
 

@@ -1,8 +1,5 @@
 use Rattle.std.proofs.Common.{List, sym, ap, ◌∙◌}
-use Rattle.std.proofs.lemmas.List.{drop_all}
-use Rattle.registry_state.specs.declared.Insert.{Insert}
-use Rattle.registry_state.specs.declared.Answer.{Answer}
-use Rattle.batch_queue.specs.Queue.{waiting}
+use Rattle.batch_queue.proofs.Words.{drop_all, Insert, Answer, waiting}
 use Rattle.batch_queue.proofs.Answering.{dropped, dropped_answered}
 use Rattle.batch_queue.proofs.queue.BatchQueue.drop_answered.Goals as goal
 

@@ -1,5 +1,5 @@
 use Rattle.std.proofs.Common.{◌≡◌, ◌≤◌, drop}
-use Rattle.batch_queue.specs.Queue.{waiting, room}
+use Rattle.batch_queue.proofs.Words.{waiting, room}
 use Rattle.batch_queue.proofs.Answering.{dropped}
 use Rattle.batch_queue.proofs.queue.BatchQueue.drop_answered.Given as goal
 

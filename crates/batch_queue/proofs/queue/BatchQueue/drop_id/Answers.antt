@@ -1,10 +1,6 @@
 use Rattle.std.proofs.Common.{◌≡◌, ◌≤◌, ◌++◌, List, length, not, filter, refl, arith, sym, subst, ◌∙◌}
 use Rattle.std.specs.Prelude.{option_to_list}
-use Rattle.std.proofs.lemmas.List.Filters.{length-filter_both}
-use Rattle.event_id.specs.EventId.{is_same as same_id}
-use Rattle.registry_state.specs.declared.Insert.{Insert}
-use Rattle.batch_queue.specs.Queue.{settled, waiting}
-use Rattle.batch_queue.specs.Waiting.{IsOnce}
+use Rattle.batch_queue.proofs.Words.{length-filter_both, same_id, Insert, settled, waiting, IsOnce}
 use Rattle.batch_queue.proofs.Waiting.{once_part}
 use Rattle.batch_queue.proofs.Answering.{left-append}
 use Rattle.batch_queue.proofs.queue.BatchQueue.drop_id.Goals as goal

@@ -1,8 +1,6 @@
 use Rattle.std.proofs.Common.{◌++◌, subst}
 use Rattle.std.specs.Prelude.{Option, option_to_list}
-use Rattle.registry_state.specs.declared.Insert.{Insert}
-use Rattle.batch_queue.specs.Queue.{settled}
-use Rattle.batch_queue.specs.Waiting.{IsOnce}
+use Rattle.batch_queue.proofs.Words.{Insert, settled, IsOnce}
 use Rattle.batch_queue.proofs.Waiting.{once_last}
 use Rattle.batch_queue.proofs.queue.BatchQueue.make_room.Goals as goal
 

@@ -1,8 +1,6 @@
 use Rattle.std.proofs.Common.{◌≡◌, ◌∷◌, [], length, false, rules, arith}
 use Rattle.std.specs.Prelude.{option_to_list}
-use Rattle.std.proofs.lemmas.List.{length-append}
-use Rattle.batch_queue.specs.Queue.{settled}
-use Rattle.batch_queue.specs.Waiting.{has_token}
+use Rattle.batch_queue.proofs.Words.{length-append, settled, has_token}
 use Rattle.batch_queue.proofs.Waiting.{once_push}
 use Rattle.batch_queue.proofs.queue.BatchQueue.put.Goals as goal
 

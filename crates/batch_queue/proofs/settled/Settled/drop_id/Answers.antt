@@ -1,11 +1,6 @@
 use Rattle.std.proofs.Common.{◌≡◌, ◌&&◌, [], List, not, filter, cond, rules, sym, ap, subst, ◌∙◌}
 use Rattle.std.specs.Prelude.{Option, Some, None, unwrap_or}
-use Rattle.std.specs.Map.{values_of}
-use Rattle.std.specs.HashMap.{get}
-use Rattle.event_id.specs.EventId.{is_same as same_id}
-use Rattle.registry_state.specs.declared.Insert.{Insert}
-use Rattle.batch_queue.specs.Waiting.{has_token, IsOnce}
-use Rattle.batch_queue.specs.Numbered.{IsNumbered, with_id, without}
+use Rattle.batch_queue.proofs.Words.{values_of, get, same_id, Insert, has_token, IsOnce, IsNumbered, with_id, without}
 use Rattle.batch_queue.proofs.Groups.{Group, taken_out}
 use Rattle.batch_queue.proofs.Numbered.{filtered, without_filter, with_id-less, none_gone, values-filter}
 use Rattle.batch_queue.proofs.Waiting.{tokens_left, once_part}

@@ -1,7 +1,5 @@
 use Rattle.std.proofs.Common.{◌++◌, List, take, ap, ◌∙◌}
-use Rattle.std.specs.Map.{values_of}
-use Rattle.registry_state.specs.declared.Insert.{Insert}
-use Rattle.batch_queue.specs.Queue.{settled}
+use Rattle.batch_queue.proofs.Words.{values_of, Insert, settled}
 use Rattle.batch_queue.proofs.Numbered.{front_turn}
 use Rattle.batch_queue.proofs.settled.Settled.front.Goals as goal
 

@@ -1,6 +1,5 @@
 use Rattle.std.proofs.Common.{◌≡◌, ◌++◌, take}
-use Rattle.std.specs.Map.{values_of}
-use Rattle.batch_queue.specs.Queue.{settled}
+use Rattle.batch_queue.proofs.Words.{values_of, settled}
 use Rattle.batch_queue.proofs.settled.Settled.front.Given as goal
 
 -- those so far, and those that are left

@@ -1,8 +1,5 @@
 use Rattle.std.proofs.Common.{◌≡◌, [], List, rules, sym, ap, ◌∙◌}
-use Rattle.std.specs.Map.{values_of}
-use Rattle.std.specs.HashSet.{contains}
-use Rattle.event_id.specs.declared.id.EventId.{EventId}
-use Rattle.event_id.specs.EventId.{is_same as same_id}
+use Rattle.batch_queue.proofs.Words.{values_of, contains, EventId, same_id}
 use Rattle.batch_queue.proofs.Numbered.{picked, picked_is, values-filter}
 use Rattle.batch_queue.proofs.settled.Settled.of_ids.Goals as goal
 

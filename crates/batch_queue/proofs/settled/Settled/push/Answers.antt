@@ -1,14 +1,6 @@
 use Rattle.std.proofs.Common.{◌≡◌, ◌+◌, ◌++◌, ◌∷◌, [], ℕ, suc, List, true, cond, rules, arith, sym, ap, subst, ◌∙◌}
 use Rattle.std.specs.Prelude.{is_err}
-use Rattle.std.specs.Ordering.{nat_cmp}
-use Rattle.std.specs.Map.{values_of, remove_entry}
-use Rattle.std.specs.BTreeMap.{is_at}
-use Rattle.event_id.specs.declared.id.EventId.{EventId}
-use Rattle.registry_state.specs.declared.Insert.{Insert}
-use Rattle.registry_state.specs.Same.{same_token}
-use Rattle.registry_state.proofs.Learning.{succeeded}
-use Rattle.batch_queue.specs.Waiting.{has_token, IsOnce}
-use Rattle.batch_queue.specs.Numbered.{IsNumbered, with_id, group_at}
+use Rattle.batch_queue.proofs.Words.{nat_cmp, values_of, remove_entry, is_at, EventId, Insert, same_token, succeeded, has_token, IsOnce, IsNumbered, with_id, group_at}
 use Rattle.batch_queue.proofs.Groups.{failed}
 use Rattle.batch_queue.proofs.Numbered.{insert_last, remove_last, pushed, with_id-push, values-push}
 use Rattle.batch_queue.proofs.Waiting.{tokens_push, once_push}
