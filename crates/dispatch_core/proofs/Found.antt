@@ -1,14 +1,6 @@
 -- What a search in the window finds, and what the leading done lines are.
 use Rattle.std.proofs.Common.{◌≡◌, ◌≢◌, ⊎_elim, ℕ, suc, zero, ◌+◌, ◌<◌, ◌≤◌, Bool, true, false, not, ◌&&◌, ◌||◌, ◌==◌, List, [], ◌∷◌, map, length, get_or, set, drop, Result, Ok, Err, refl, sym, ap, ◌∙◌, arith}
-use Rattle.std.specs.List.Sorted.{IsPartitionPoint, IsBinarySearchResult}
-use Rattle.std.specs.Ordering.{nat_cmp, ordering_index}
-use Rattle.std.specs.declared.cmp.Ordering.{Ordering}
-use Rattle.std.specs.declared.cmp.Ordering.TheVariants.{Less, Equal, Greater}
-use Rattle.std.proofs.lemmas.Cmp.{ranked}
-use Rattle.std.proofs.lemmas.Bool.{eq-eqb, ne_eqb, cond-true, cond-false, cases_lt}
-use Rattle.dispatch_core.specs.declared.line.FreshLine.{FreshLine}
-use Rattle.turn_defs.specs.Dispatcher.{first_done, after_done, waits, mark, mark_one}
-use Rattle.dispatch_core.specs.Windows.{fresh_of, IsRisingFrom, Lacks, IsFound}
+use Rattle.dispatch_core.proofs.Words.{IsPartitionPoint, IsBinarySearchResult, nat_cmp, ordering_index, Ordering, Less, Equal, Greater, ranked, eq-eqb, ne_eqb, cond-true, cond-false, cases_lt, FreshLine, first_done, after_done, waits, mark, mark_one, fresh_of, IsRisingFrom, Lacks, IsFound}
 
 -- ---- order
 

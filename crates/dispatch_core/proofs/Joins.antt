@@ -1,25 +1,6 @@
 -- Joins that are dealt to the joiners of a site.
 use Rattle.std.proofs.Common.{◌≡◌, ℕ, zero, suc, ◌+◌, ◌*◌, ◌%◌, ◌<◌, ◌≤◌, Bool, true, false, cond, nat_lt, List, [], ◌∷◌, ◌++◌, map, Option, Some, None, refl, sym, ap, subst, ◌∙◌, arith}
-use Rattle.std.specs.List.{zip}
-use Rattle.std.specs.Option.{option_map}
-use Rattle.std.proofs.lemmas.Bool.{lt-ltb, le-ltb, cond-true, cond-false}
-use Rattle.std.proofs.lemmas.List.{append_assoc, append-nil, map-append}
-use Rattle.log_records.specs.declared.records.ClickRec.{ClickRec as Click}
-use Rattle.log_records.specs.Lines.{ClickLine, at}
-use Rattle.turn_defs.specs.declared.packet.Packet.{Packet}
-use Rattle.turn_defs.specs.declared.packet.Packet.TheVariants.{Join}
-use Rattle.turn_defs.specs.declared.node.Node.{Node}
-use Rattle.turn_defs.specs.declared.node.To.{To}
-use Rattle.turn_defs.specs.declared.node.To.TheVariants.{AnyJoiner}
-use Rattle.turn_defs.specs.Setting.{Setting}
-use Rattle.turn_defs.specs.Nodes.{IsTo, Addressed}
-use Rattle.turn_defs.specs.Dispatcher.{DispatcherKept, DispatcherLive, Fresh, join, fresh_joins, trying_joins, join_if}
-use Rattle.dispatch_core.specs.Windows.{fresh_of}
-use Rattle.dispatch_core.specs.Dealing.{joiner_at, dealt, next_after, GoInTurn}
-use Rattle.dispatch_core.specs.Outboxes.{Puts, waiting_joins}
-use Rattle.dispatch_core.specs.Standing.{AreClicksAt}
-use Rattle.dispatch_core.specs.declared.line.FreshLine.{FreshLine}
-use Rattle.dispatch_core.specs.declared.outbox.Outbox.{Outbox}
+use Rattle.dispatch_core.proofs.Words.{zip, option_map, lt-ltb, le-ltb, cond-true, cond-false, append_assoc, append-nil, map-append, Click, ClickLine, at, Packet, Join, Node, To, AnyJoiner, Setting, IsTo, Addressed, DispatcherKept, DispatcherLive, Fresh, join, fresh_joins, trying_joins, join_if, fresh_of, joiner_at, dealt, next_after, GoInTurn, Puts, waiting_joins, AreClicksAt, FreshLine, Outbox}
 
 -- ---- one list behind another
 

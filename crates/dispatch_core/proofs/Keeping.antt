@@ -1,21 +1,6 @@
 -- What the core stands for once a change is kept.
 use Rattle.std.proofs.Common.{◌≡◌, ℕ, ◌<◌, true, false, ◌==◌, List, [], ◌∷◌, ◌++◌, take, drop, nat_eq, refl, sym, ap, subst, ◌∙◌, arith}
-use Rattle.std.proofs.lemmas.Bool.{eq-eqb, or_left, or_right}
-use Rattle.std.proofs.lemmas.List.{append-nil}
-use Rattle.list_words.specs.Lists.{has, without, Distinct}
-use Rattle.list_words.proofs.Lists.{clash, has_push-false, has_without-false, distinct_push, distinct_without}
-use Rattle.indexmap.specs.IndexSet.{contains}
-use Rattle.turn_defs.specs.Setting.{Setting}
-use Rattle.turn_defs.specs.Turns.{land}
-use Rattle.turn_defs.specs.Dispatcher.{DispatcherKept, DispatcherLive, land_dispatcher, mark}
-use Rattle.dispatch_core.specs.Windows.{fresh_of, IsRising, AreBefore}
-use Rattle.dispatch_core.specs.Changes.{note_of, changed}
-use Rattle.dispatch_core.specs.Standing.{live_of, IsOf, IsOrdered, Stands, Fits, IsAlike}
-use Rattle.dispatch_core.specs.declared.line.FreshLine.{FreshLine}
-use Rattle.dispatch_core.specs.declared.dispatch.DispatchCore.{DispatchCore}
-use Rattle.dispatch_core.specs.declared.dealer.Dealer.{Dealer}
-use Rattle.dispatch_core.specs.declared.turns.Change.{Change}
-use Rattle.dispatch_core.specs.declared.turns.Change.TheVariants.{Advance, Retry, Take}
+use Rattle.dispatch_core.proofs.Words.{eq-eqb, or_left, or_right, append-nil, has, without, Distinct, clash, has_push-false, has_without-false, distinct_push, distinct_without, contains, Setting, land, DispatcherKept, DispatcherLive, land_dispatcher, mark, fresh_of, IsRising, AreBefore, note_of, changed, live_of, IsOf, IsOrdered, Stands, Fits, IsAlike, FreshLine, DispatchCore, Dealer, Change, Advance, Retry, Take}
 use Rattle.dispatch_core.proofs.Rising.{rising_after_done, before_after_done, rising_push, before_push, rising_mark, before_mark}
 
 -- ---- each change keeps the order

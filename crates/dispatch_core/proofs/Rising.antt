@@ -1,7 +1,6 @@
 -- Windows whose positions rise, and what a row makes of them.
 use Rattle.std.proofs.Common.{◌≡◌, ℕ, ◌+◌, ◌<◌, ◌≤◌, Bool, true, false, cond, ◌==◌, List, [], ◌∷◌, ◌++◌, refl, sym, subst, arith}
-use Rattle.turn_defs.specs.Dispatcher.{Fresh, after_done, mark, mark_one}
-use Rattle.dispatch_core.specs.Windows.{IsRisingFrom, AreBefore}
+use Rattle.dispatch_core.proofs.Words.{Fresh, after_done, mark, mark_one, IsRisingFrom, AreBefore}
 
 pub rising_weaker : (a b : ℕ) (fs : List Fresh) → b ≤ a → IsRisingFrom a fs → IsRisingFrom b fs
 rising_weaker a b [] le h = tt

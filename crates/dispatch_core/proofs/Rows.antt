@@ -1,27 +1,6 @@
 -- From what the core's parts say to the rows of the turn table.
 use Rattle.std.proofs.Common.{◌≡◌, ℕ, ◌<◌, ◌%◌, Bool, true, false, cond, List, [], ◌∷◌, ◌++◌, map, nat_eq, sym, ap, subst, ◌∙◌, arith}
-use Rattle.std.specs.List.{list_any}
-use Rattle.std.proofs.lemmas.Bool.{cond-true, cond-false}
-use Rattle.log_records.specs.declared.records.ClickRec.{ClickRec as Click}
-use Rattle.turn_defs.specs.declared.packet.Packet.{Packet}
-use Rattle.turn_defs.specs.declared.node.Node.{Node}
-use Rattle.list_words.specs.Lists.{has, Each}
-use Rattle.turn_defs.specs.Setting.{Setting}
-use Rattle.turn_defs.specs.Nodes.{Addressed}
-use Rattle.turn_defs.specs.Turns.{Out}
-use Rattle.turn_defs.specs.Dispatcher.{DispatcherKept, DispatcherLive, waits}
-use Rattle.dispatch_core.specs.Windows.{fresh_of, IsRising}
-use Rattle.dispatch_core.specs.Dealing.{dealt, next_after, GoInTurn}
-use Rattle.dispatch_core.specs.Changes.{note_of, changed}
-use Rattle.dispatch_core.specs.Outboxes.{Puts}
-use Rattle.dispatch_core.specs.Spelled.{IsJoin, ArePackets}
-use Rattle.dispatch_core.specs.Standing.{IsOf, Stands, Fits, IsTurn, Sends, IsDealt}
-use Rattle.dispatch_core.specs.declared.dispatch.DispatchCore.{DispatchCore}
-use Rattle.dispatch_core.specs.declared.turns.Turn.{Turn}
-use Rattle.dispatch_core.specs.declared.line.FreshLine.{FreshLine}
-use Rattle.dispatch_core.specs.declared.turns.Change.{Change}
-use Rattle.dispatch_core.specs.declared.turns.Change.TheVariants.{Take}
-use Rattle.dispatch_core.specs.declared.outbox.Outbox.{Outbox}
+use Rattle.dispatch_core.proofs.Words.{list_any, cond-true, cond-false, Click, Packet, Node, has, Each, Setting, Addressed, Out, DispatcherKept, DispatcherLive, waits, fresh_of, IsRising, dealt, next_after, GoInTurn, note_of, changed, Puts, IsJoin, ArePackets, IsOf, Stands, Fits, IsTurn, Sends, IsDealt, DispatchCore, Turn, FreshLine, Change, Take, Outbox}
 use Rattle.dispatch_core.proofs.Joins.{joined, addressed, in_turn, next_below}
 use Rattle.dispatch_core.proofs.Sets.{any_has}
 use Rattle.dispatch_core.proofs.Spelled.{dealt_spelled}

@@ -1,12 +1,6 @@
 -- Sets of positions, and lists of them.
 use Rattle.std.proofs.Common.{◌≡◌, ℕ, Bool, true, false, cond, ◌||◌, ◌==◌, nat_eq, List, [], ◌∷◌, ◌++◌, take, refl, sym, ap, subst, ◌∙◌}
-use Rattle.std.specs.List.{list_any}
-use Rattle.std.specs.Set.{remove_key}
-use Rattle.std.proofs.lemmas.Cmp.{nat_eq_equiv}
-use Rattle.std.proofs.lemmas.Bool.{eqb-true, eqb-false, eq-eqb, or_parts, or_left, cond-false}
-use Rattle.indexmap.specs.IndexSet.{insert_key}
-use Rattle.list_words.specs.Lists.{has, without, Distinct}
-use Rattle.list_words.proofs.Lists.{has_push, has_without, has_without-false, has_without-self}
+use Rattle.dispatch_core.proofs.Words.{list_any, remove_key, nat_eq_equiv, eqb-true, eqb-false, eq-eqb, or_parts, or_left, cond-false, insert_key, has, without, Distinct, has_push, has_without, has_without-false, has_without-self}
 
 pub any_has : (xs : List ℕ) (p : ℕ) → list_any (nat_eq p) xs ≡ has xs p
 any_has [] p = refl

@@ -1,18 +1,6 @@
 -- Joins that have spellings, and the packets that they are.
 use Rattle.std.proofs.Common.{ℕ, ◌+◌, ◌%◌, ◌^◌, ◌<◌, Bool, true, false, cond, List, [], ◌∷◌, All}
-use Rattle.std.specs.List.{zip}
-use Rattle.std.proofs.lemmas.List.Elements.{All-nil, All-cons, All-head, All-tail}
-use Rattle.list_words.specs.Lists.{Each}
-use Rattle.log_records.specs.declared.records.ClickRec.{ClickRec as Click}
-use Rattle.log_records.specs.Line.{IsClick}
-use Rattle.turn_defs.specs.declared.packet.Packet.{Packet}
-use Rattle.turn_defs.specs.declared.packet.Packet.TheVariants.{Join}
-use Rattle.turn_defs.specs.declared.node.Node.{Node}
-use Rattle.turn_defs.specs.Packets.{IsPacket}
-use Rattle.dispatch_core.specs.Dealing.{joiner_at, dealt}
-use Rattle.dispatch_core.specs.Outboxes.{waiting_joins}
-use Rattle.dispatch_core.specs.Spelled.{IsJoin, ArePackets}
-use Rattle.dispatch_core.specs.declared.line.FreshLine.{FreshLine}
+use Rattle.dispatch_core.proofs.Words.{zip, All-nil, All-cons, All-head, All-tail, Each, Click, IsClick, Packet, Join, Node, IsPacket, joiner_at, dealt, waiting_joins, IsJoin, ArePackets, FreshLine}
 
 abbrev IsSpelled : Node × Packet → Type 0
 IsSpelled p = IsPacket p.1

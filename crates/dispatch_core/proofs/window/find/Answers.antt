@@ -1,7 +1,5 @@
 use Rattle.std.proofs.Common.{◌≡◌, ◌<◌, ℕ, Ok, length, rules, arith, subst, Result}
-use Rattle.std.specs.List.Sorted.{IsSearchInRange}
-use Rattle.std.proofs.lemmas.List.Sorted.{answers_always}
-use Rattle.dispatch_core.specs.declared.line.FreshLine.{FreshLine}
+use Rattle.dispatch_core.proofs.Words.{IsSearchInRange, answers_always, FreshLine}
 use Rattle.dispatch_core.proofs.Found.{found}
 use Rattle.dispatch_core.proofs.window.find.Goals as goal
 

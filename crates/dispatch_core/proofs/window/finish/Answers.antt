@@ -1,6 +1,5 @@
 use Rattle.std.proofs.Common.{ap, sym, true}
-use Rattle.dispatch_core.specs.Windows.{fresh_of}
-use Rattle.dispatch_core.specs.declared.line.FreshLine.{FreshLine}
+use Rattle.dispatch_core.proofs.Words.{fresh_of, FreshLine}
 use Rattle.dispatch_core.proofs.Found.{mark_at, lacks_mark}
 use Rattle.dispatch_core.proofs.window.finish.Goals as goal
 

@@ -1,7 +1,5 @@
 use Rattle.std.proofs.Common.{◌≡◌, map}
-use Rattle.std.specs.VecDeque.Iter.{deque_iter_rest}
-use Rattle.turn_defs.specs.Dispatcher.{some_waits}
-use Rattle.dispatch_core.specs.Windows.{fresh_of}
+use Rattle.dispatch_core.proofs.Words.{deque_iter_rest, some_waits, fresh_of}
 use Rattle.dispatch_core.proofs.window.has_waiting.Given as goal
 
 abbrev pub invariant-loop-line : goal.invariant-loop-line

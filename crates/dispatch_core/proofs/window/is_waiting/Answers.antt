@@ -1,5 +1,5 @@
 use Rattle.std.proofs.Common.{not, ap, sym, ◌∙◌}
-use Rattle.dispatch_core.specs.declared.line.FreshLine.{FreshLine}
+use Rattle.dispatch_core.proofs.Words.{FreshLine}
 use Rattle.dispatch_core.proofs.Found.{waits_at, lacks_waits}
 use Rattle.dispatch_core.proofs.window.is_waiting.Goals as goal
 

@@ -1,7 +1,5 @@
 use Rattle.std.proofs.Common.{◌≡◌, map}
-use Rattle.std.specs.VecDeque.{deque_len}
-use Rattle.turn_defs.specs.Dispatcher.{after_done}
-use Rattle.dispatch_core.specs.Windows.{fresh_of}
+use Rattle.dispatch_core.proofs.Words.{deque_len, after_done, fresh_of}
 use Rattle.dispatch_core.proofs.window.pass_done.Given as goal
 
 abbrev pub invariant-leaving : goal.invariant-leaving

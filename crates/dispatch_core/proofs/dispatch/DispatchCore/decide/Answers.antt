@@ -1,9 +1,5 @@
 use Rattle.std.proofs.Common.{subst, sym, IfOk}
-use Rattle.turn_defs.specs.declared.node.Input.{Input}
-use Rattle.turn_defs.specs.Dispatcher.{dispatcher_own, dispatcher_gets}
-use Rattle.dispatch_core.specs.Standing.{Takes, Carries, IsTurn, out_of}
-use Rattle.dispatch_core.specs.declared.dealer.Dealer.{Dealer}
-use Rattle.dispatch_core.specs.declared.input.DispatchInput.{DispatchInput}
+use Rattle.dispatch_core.proofs.Words.{Input, dispatcher_own, dispatcher_gets, Takes, Carries, IsTurn, out_of, Dealer, DispatchInput}
 use Rattle.dispatch_core.proofs.Keeping.{alike_stands}
 use Rattle.dispatch_core.proofs.dispatch.DispatchCore.decide.Goals as goal
 

@@ -1,9 +1,5 @@
 use Rattle.std.proofs.Common.{refl, ◌≡◌, ◌∷◌, [], Some, sym, ◌∙◌, true, false, arith}
-use Rattle.std.proofs.lemmas.Result.{IfOk-weaker}
-use Rattle.std.proofs.lemmas.Bool.{cond-true, cond-false}
-use Rattle.list_words.specs.Lists.{has}
-use Rattle.turn_defs.specs.Dispatcher.{takes}
-use Rattle.dispatch_core.specs.declared.turns.Change.TheVariants.{Take}
+use Rattle.dispatch_core.proofs.Words.{IfOk-weaker, cond-true, cond-false, has, takes, Take}
 use Rattle.dispatch_core.proofs.Rows.{row_of, as_out, entered_live}
 use Rattle.dispatch_core.proofs.dispatch.DispatchCore.enter.Goals as goal
 

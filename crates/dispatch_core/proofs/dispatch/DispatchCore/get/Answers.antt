@@ -1,9 +1,5 @@
 use Rattle.std.proofs.Common.{◌≡◌, ℕ, ◌∙◌, ap, ◌⊎◌, inl, inr}
-use Rattle.registry_state.specs.declared.Token.{Token}
-use Rattle.turn_defs.specs.declared.packet.Outcome.{Outcome}
-use Rattle.turn_defs.specs.declared.packet.Outcome.TheVariants.{Written, Already, TooOld}
-use Rattle.turn_defs.specs.Setting.{Setting}
-use Rattle.turn_defs.specs.Dispatcher.{DispatcherKept, DispatcherLive, dispatcher_gets, dispatcher_joined, ends, parks}
+use Rattle.dispatch_core.proofs.Words.{Token, Outcome, Written, Already, TooOld, Setting, DispatcherKept, DispatcherLive, dispatcher_gets, dispatcher_joined, ends, parks}
 use Rattle.dispatch_core.proofs.Rows.{as_out}
 use Rattle.dispatch_core.proofs.dispatch.DispatchCore.get.Goals as goal
 

@@ -1,8 +1,5 @@
 use Rattle.std.proofs.Common.{Option, refl, subst}
-use Rattle.turn_defs.specs.Turns.{Note, land}
-use Rattle.turn_defs.specs.Dispatcher.{DispatcherLive, land_dispatcher}
-use Rattle.dispatch_core.specs.Changes.{note_of}
-use Rattle.dispatch_core.specs.Standing.{Stands}
+use Rattle.dispatch_core.proofs.Words.{Note, land, DispatcherLive, land_dispatcher, note_of, Stands}
 use Rattle.dispatch_core.proofs.Keeping.{turned}
 use Rattle.dispatch_core.proofs.dispatch.DispatchCore.keep.Goals as goal
 

@@ -1,5 +1,5 @@
 use Rattle.std.proofs.Common.{◌∙◌}
-use Rattle.dispatch_core.specs.Standing.{live_of}
+use Rattle.dispatch_core.proofs.Words.{live_of}
 use Rattle.dispatch_core.proofs.Sets.{removed}
 use Rattle.dispatch_core.proofs.dispatch.DispatchCore.leave_trial.Goals as goal
 

@@ -1,8 +1,5 @@
 use Rattle.std.proofs.Common.{◌∙◌, refl, nat_eq}
-use Rattle.indexmap.specs.IndexSet.{contains}
-use Rattle.dispatch_core.specs.Changes.{changed}
-use Rattle.dispatch_core.specs.Standing.{live_of}
-use Rattle.dispatch_core.specs.declared.turns.Change.TheVariants.{Advance, Retry, Take, Finish, Park, Settle, Leave}
+use Rattle.dispatch_core.proofs.Words.{contains, changed, live_of, Advance, Retry, Take, Finish, Park, Settle, Leave}
 use Rattle.dispatch_core.proofs.Sets.{one_more, one_less}
 use Rattle.dispatch_core.proofs.Keeping.{makes, kept_as, same_pending, ordered_core, advance_ordered, retry_ordered, take_ordered, mark_ordered, leave_ordered}
 use Rattle.dispatch_core.proofs.dispatch.DispatchCore.make.Goals as goal

@@ -1,7 +1,5 @@
 use Rattle.std.proofs.Common.{[], refl, ◌∙◌}
-use Rattle.list_words.specs.Lists.{has}
-use Rattle.turn_defs.specs.Dispatcher.{waits, parks}
-use Rattle.dispatch_core.specs.declared.turns.Change.TheVariants.{Nothing, Leave}
+use Rattle.dispatch_core.proofs.Words.{has, waits, parks, Nothing, Leave}
 use Rattle.dispatch_core.proofs.Rows.{row_of, as_out, second, third, waits_as, tried_as}
 use Rattle.dispatch_core.proofs.dispatch.DispatchCore.park.Goals as goal
 

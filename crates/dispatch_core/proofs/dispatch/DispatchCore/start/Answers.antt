@@ -1,10 +1,5 @@
 use Rattle.std.proofs.Common.{◌≡◌, ◌≤◌, ◌∙◌, List, [], ℕ, ap, refl, subst, sym, take, nat_eq, length, get_or, arith, false}
-use Rattle.std.proofs.lemmas.List.{take_more, take_all}
-use Rattle.indexmap.specs.IndexSet.{contains}
-use Rattle.list_words.specs.Lists.{has}
-use Rattle.turn_defs.specs.declared.packet.Packet.{Packet}
-use Rattle.turn_defs.specs.declared.node.Node.{Node}
-use Rattle.turn_defs.specs.Nodes.{Addressed}
+use Rattle.dispatch_core.proofs.Words.{take_more, take_all, contains, has, Packet, Node, Addressed}
 use Rattle.dispatch_core.proofs.Sets.{one_more}
 use Rattle.dispatch_core.proofs.dispatch.DispatchCore.start.Goals as goal
 

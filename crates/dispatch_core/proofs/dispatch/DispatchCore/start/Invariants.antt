@@ -1,6 +1,5 @@
 use Rattle.std.proofs.Common.{◌≡◌, ℕ, nat_eq, take}
-use Rattle.list_words.specs.Lists.{has}
-use Rattle.indexmap.specs.IndexSet.{contains}
+use Rattle.dispatch_core.proofs.Words.{has, contains}
 use Rattle.dispatch_core.proofs.dispatch.DispatchCore.start.Given as goal
 
 abbrev pub invariant-loop-position : goal.invariant-loop-position

@@ -1,13 +1,5 @@
 use Rattle.std.proofs.Common.{List, ◌++◌, ap, refl, sym, subst, ℕ, ◌<◌, ◌^◌}
-use Rattle.std.specs.List.{zip}
-use Rattle.std.proofs.lemmas.List.Elements.{All-same}
-use Rattle.list_words.proofs.Lists.{each_append}
-use Rattle.log_records.specs.declared.records.ClickRec.{ClickRec as Click}
-use Rattle.turn_defs.specs.Dispatcher.{DispatcherLive, dispatcher_tick}
-use Rattle.dispatch_core.specs.Outboxes.{Puts, waiting_joins}
-use Rattle.dispatch_core.specs.Spelled.{IsJoin}
-use Rattle.dispatch_core.specs.Standing.{Sends}
-use Rattle.dispatch_core.specs.declared.turns.Change.TheVariants.{Nothing}
+use Rattle.dispatch_core.proofs.Words.{zip, All-same, each_append, Click, DispatcherLive, dispatcher_tick, Puts, waiting_joins, IsJoin, Sends, Nothing}
 use Rattle.dispatch_core.proofs.Joins.{puts_more, tick_are}
 use Rattle.dispatch_core.proofs.Spelled.{waiting_spelled, zip_spelled}
 use Rattle.dispatch_core.proofs.Rows.{row_of, sends_of, dealt_of}

@@ -1,5 +1,4 @@
-use Rattle.registry_state.proofs.Learning.{succeeded}
-use Rattle.dispatch_core.specs.Standing.{live_of}
+use Rattle.dispatch_core.proofs.Words.{succeeded, live_of}
 use Rattle.dispatch_core.proofs.Sets.{tried}
 use Rattle.dispatch_core.proofs.dispatch.DispatchCore.try_first.Goals as goal
 

@@ -1,9 +1,5 @@
 use Rattle.std.proofs.Common.{List, subst, sym, ◌∷◌, [], ℕ, refl, ◌≡◌, ◌⊎◌, ⊎_elim, inl, inr}
-use Rattle.std.specs.List.{zip}
-use Rattle.std.specs.Slice.Iter.{iter_rest}
-use Rattle.std.proofs.lemmas.List.{nil_from_length}
-use Rattle.log_records.specs.declared.records.ClickRec.{ClickRec as Click}
-use Rattle.dispatch_core.specs.Outboxes.{Puts}
+use Rattle.dispatch_core.proofs.Words.{zip, iter_rest, nil_from_length, Click, Puts}
 use Rattle.dispatch_core.proofs.Joins.{puts_none, puts_more}
 use Rattle.dispatch_core.proofs.outbox.Outbox.put_trying.Goals as goal
 

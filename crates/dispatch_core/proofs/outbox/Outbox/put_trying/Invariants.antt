@@ -1,7 +1,4 @@
-use Rattle.std.specs.List.{zip}
-use Rattle.std.specs.Slice.Iter.{iter_rest}
-use Rattle.dispatch_core.specs.Outboxes.{Puts}
-use Rattle.dispatch_core.specs.declared.outbox.Outbox.{Outbox}
+use Rattle.dispatch_core.proofs.Words.{zip, iter_rest, Puts, Outbox}
 use Rattle.dispatch_core.proofs.outbox.Outbox.put_trying.Given as goal
 
 -- what comes of the Joins that are left comes of all

@@ -1,9 +1,5 @@
 use Rattle.std.proofs.Common.{List, subst, sym, ap, ◌∙◌, ◌∷◌, [], ℕ}
-use Rattle.std.proofs.lemmas.List.{nil_from_length}
-use Rattle.std.specs.VecDeque.Iter.{deque_iter_rest}
-use Rattle.log_records.specs.declared.records.ClickRec.{ClickRec as Click}
-use Rattle.dispatch_core.specs.declared.line.FreshLine.{FreshLine}
-use Rattle.dispatch_core.specs.Outboxes.{Puts, waiting_joins}
+use Rattle.dispatch_core.proofs.Words.{nil_from_length, deque_iter_rest, Click, FreshLine, Puts, waiting_joins}
 use Rattle.dispatch_core.proofs.Joins.{puts_none, puts_more, waiting_more}
 use Rattle.dispatch_core.proofs.outbox.Outbox.put_waiting.Goals as goal
 

@@ -1,6 +1,4 @@
-use Rattle.std.specs.VecDeque.Iter.{deque_iter_rest}
-use Rattle.dispatch_core.specs.Outboxes.{Puts, waiting_joins}
-use Rattle.dispatch_core.specs.declared.outbox.Outbox.{Outbox}
+use Rattle.dispatch_core.proofs.Words.{deque_iter_rest, Puts, waiting_joins, Outbox}
 use Rattle.dispatch_core.proofs.outbox.Outbox.put_waiting.Given as goal
 
 -- what comes of the Joins that are left comes of all
