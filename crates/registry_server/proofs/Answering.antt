@@ -1,33 +1,8 @@
 -- The rows that look for the proposal at a place and ballot, and those that learn a value.
 use Rattle.std.proofs.Common.{◌≡◌, ℕ, ◌-◌, ◌<◌, ◌≤◌, ◌&&◌, Bool, true, false, is_some, List, [], ◌∷◌, length, Some, None, refl, sym, ap, ◌∙◌, subst}
-use Rattle.turn_defs.specs.declared.limits.TheConstants.{LAST_SLOT}
 use Rattle.std.specs.Prelude.{Option, option_map}
-use Rattle.std.proofs.lemmas.Bool.{cond-true, cond-false, and_from, and_left, and_right, lt-ltb, le-ltb, eq-eqb, ne_eqb}
-use Rattle.ballot_core.specs.declared.Ballot.{Ballot}
-use Rattle.registry_state.specs.declared.Batch.{Batch}
-use Rattle.paxos_defs.specs.declared.Place.{Place}
-use Rattle.paxos_defs.specs.Attempts.{Phase, on_promise, on_accepted}
-use Rattle.paxos_proposer.specs.declared.proposer.Proposer.{Proposer}
-use Rattle.paxos_proposer.specs.Proposals.{ballot_of, own_of, phase_of, promise_turn, acceptance_turn}
-use Rattle.turn_defs.specs.declared.packet.Packet.{Packet}
-use Rattle.turn_defs.specs.declared.packet.Packet.TheVariants.{Accept as AcceptPacket, Chosen}
-use Rattle.turn_defs.specs.declared.node.Node.{Node}
-use Rattle.turn_defs.specs.declared.node.Node.TheVariants.{Server}
-use Rattle.turn_defs.specs.declared.node.To.{To}
-use Rattle.turn_defs.specs.declared.node.To.TheVariants.{Only}
-use Rattle.turn_defs.specs.Setting.{Setting, shards}
-use Rattle.turn_defs.specs.Turns.{idle}
-use Rattle.turn_defs.specs.Server.{ServerKept, ServerLive, is_below_limit, is_next, to_replicas, accept_if, promised, accepted, nacked, gets_promise, gets_accepted, gets_nack, gets_chosen}
-use Rattle.registry_server.specs.Stations.{setting, sent}
-use Rattle.registry_server.specs.ShardStates.{NotLast, proposal_of, counts_promise, counts_accepted}
-use Rattle.registry_server.specs.Cores.{Gives, IsStep}
-use Rattle.registry_server.specs.Rowed.{IsAt, FitsAt, accept_all, current_of, learns_behind}
-use Rattle.registry_server.specs.declared.station.Station.{Station}
-use Rattle.registry_server.specs.declared.shard.Shard.{Shard}
-use Rattle.registry_server.specs.declared.shard.Step.TheVariants.{Promise, Accept}
-use Rattle.registry_server.specs.declared.turn.Change.{Change}
+use Rattle.registry_server.proofs.Words.{LAST_SLOT, cond-true, cond-false, and_from, and_left, and_right, lt-ltb, le-ltb, eq-eqb, ne_eqb, Ballot, Batch, Place, Phase, on_promise, on_accepted, Proposer, ballot_of, own_of, phase_of, promise_turn, acceptance_turn, Packet, AcceptPacket, Chosen, Node, Server, To, Only, Setting, shards, idle, ServerKept, ServerLive, is_below_limit, is_next, to_replicas, accept_if, promised, accepted, nacked, gets_promise, gets_accepted, gets_nack, gets_chosen, setting, sent, NotLast, proposal_of, counts_promise, counts_accepted, Gives, IsStep, IsAt, FitsAt, accept_all, current_of, learns_behind, Station, Shard, Promise, Accept, Change, Turn}
 use Rattle.registry_server.specs.declared.turn.Change.TheVariants as change
-use Rattle.registry_server.specs.declared.turn.Turn.{Turn}
 use Rattle.registry_server.proofs.Going.{current_is, is_turn, is_acceptance, accepted_value, row_some, row_none}
 use Rattle.registry_server.proofs.Rowing.{proposal_is, one_gives, same_row}
 

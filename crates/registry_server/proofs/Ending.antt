@@ -1,30 +1,7 @@
 -- A turn of a server over its disk, and its restart, as the states' entries.
 use Rattle.std.proofs.Common.{◌≡◌, inl, inr, ⊎_elim, ℕ, ◌+◌, ◌≤◌, true, false, List, [], length, Option, Some, None, refl, sym, ap, ◌∙◌, subst}
 use Rattle.std.specs.Prelude.{is_some, option_map, Result, Ok, Err, IfOk, OnOk, OnErr}
-use Rattle.outside.specs.Disk.{Throughout}
-use Rattle.outside.proofs.Moments.{joins, weaker}
-use Rattle.gate_journal.specs.Growth.{Continues}
-use Rattle.gate_journal.proofs.Growth.{continues_same, continues_through}
-use Rattle.gate_journal.specs.Opening.{IsOpened}
-use Rattle.gate_journal.specs.Fold.{read_as}
-use Rattle.epoch_journal.specs.Epochs.{epochs, Keeps, IsLeft}
-use Rattle.gate_journal.specs.declared.journal.JournalState.{JournalState}
-use Rattle.gate_journal.specs.declared.journal.JournalState.TheVariants.{Ready}
-use Rattle.air_bus.specs.declared.entry.Input.{Input as Bytes}
-use Rattle.air_bus.specs.declared.entry.Entry.TheVariants.{Begin, End, Stop}
-use Rattle.turn_defs.specs.declared.node.Input.{Input}
-use Rattle.turn_defs.specs.Turns.{Note, land}
-use Rattle.site_node.specs.Bytes.{AreSpelled, Reads, IsJunk, record_of}
-use Rattle.site_node.specs.States.{Leads, row, written, closes}
-use Rattle.site_node.specs.declared.roster.Roster.{Roster}
-use Rattle.site_node.specs.Rosters.{IsOf}
-use Rattle.turn_defs.specs.Server.{ServerLive, land_server}
-use Rattle.registry_server.specs.Cores.{Serves, note_of, site_of}
-use Rattle.registry_server.specs.Registrars.{SiteKept, RegistrarView, ServesSite, Knows, IsRow, landed, server_rows}
-use Rattle.registry_server.specs.declared.server_core.ServerCore.{ServerCore}
-use Rattle.registry_server.specs.declared.turn.ServerNote.{ServerNote}
-use Rattle.registry_server.specs.declared.turn.Turn.{Turn}
-use Rattle.registry_server.specs.Node.{ServerState, recorded, Holds, HoldsOr, OnDisk, OnDiskOr, KeptOn, StandsAt}
+use Rattle.registry_server.proofs.Words.{Throughout, joins, weaker, Continues, continues_same, continues_through, IsOpened, read_as, epochs, Keeps, IsLeft, JournalState, Ready, Bytes, Begin, End, Stop, Input, Note, land, AreSpelled, Reads, IsJunk, record_of, Leads, row, written, closes, Roster, IsOf, ServerLive, land_server, Serves, note_of, site_of, SiteKept, RegistrarView, ServesSite, Knows, IsRow, landed, server_rows, ServerCore, ServerNote, Turn, ServerState, recorded, Holds, HoldsOr, OnDisk, OnDiskOr, KeptOn, StandsAt}
 use Rattle.registry_server.proofs.Landing.{down_stands, left_of, up_of, noted_bytes, moved}
 
 pub all_five : {T E : Type 0} (r : Result T E) (A B Q : T → Type 0) (C D F : Type 0) → IfOk r A → IfOk r B → OnOk r C → OnOk r D → OnOk r F → ((x : T) → A x → B x → C → D → F → Q x) → IfOk r Q

@@ -1,26 +1,7 @@
 -- A proposal goes on until a majority has accepted its value.
 use Rattle.std.proofs.Common.{◌≡◌, ℕ, ◌<◌, ◌==◌, ◌&&◌, true, false, cond, is_some, List, length, set, Some, None, refl, sym, ap, ◌∙◌, subst, ⊎_elim}
 use Rattle.std.specs.Prelude.{Option, option_map, Bool}
-use Rattle.std.proofs.lemmas.Bool.{cond_both, cond-true, cond-false, and_parts, and_from, and_left, and_right, lt-ltb, eq-eqb, eqb-true, and_cases, false_from_ne_true}
-use Rattle.std.proofs.lemmas.Option.{cond_some, none-some}
-use Rattle.std.proofs.lemmas.Cmp.{tied_itself}
-use Rattle.std.specs.Ordering.{is_eq}
-use Rattle.ballot_core.specs.declared.Ballot.{Ballot}
-use Rattle.ballot_core.specs.Ballots.{is_same}
-use Rattle.ballot_core.proofs.Order.{ballots_total, same_true}
-use Rattle.registry_state.specs.declared.Batch.{Batch}
-use Rattle.paxos_defs.specs.declared.Place.{Place}
-use Rattle.paxos_defs.specs.Turns.{higher, value_for}
-use Rattle.paxos_defs.specs.Attempts.{Phase, is_new, is_most, nobody, with_promise, on_promise, with_acceptance, on_accepted}
-use Rattle.paxos_defs.specs.Attempts.Phase.{Promising, Accepting, Ended}
-use Rattle.paxos_proposer.specs.declared.proposer.Proposer.{Proposer}
-use Rattle.paxos_proposer.specs.Proposals.{ballot_of, own_of, phase_of, promise_turn, acceptance_turn, IsSameProposal}
-use Rattle.turn_defs.specs.Setting.{Setting, shards}
-use Rattle.turn_defs.specs.Turns.{Out, idle}
-use Rattle.turn_defs.specs.Server.{ServerLive, ShardState, Proposal, is_current}
-use Rattle.registry_server.specs.ShardStates.{proposal_of, is_going, counts_promise, counts_accepted}
-use Rattle.registry_server.specs.Rowed.{current_in, current_of}
-use Rattle.registry_server.specs.declared.shard.Shard.{Shard}
+use Rattle.registry_server.proofs.Words.{cond_both, cond-true, cond-false, and_parts, and_from, and_left, and_right, lt-ltb, eq-eqb, eqb-true, and_cases, false_from_ne_true, cond_some, none-some, tied_itself, is_eq, Ballot, is_same, ballots_total, same_true, Batch, Place, higher, value_for, Phase, is_new, is_most, nobody, with_promise, on_promise, with_acceptance, on_accepted, Promising, Accepting, Ended, Proposer, ballot_of, own_of, phase_of, promise_turn, acceptance_turn, IsSameProposal, Setting, shards, Out, idle, ServerLive, ShardState, Proposal, is_current, proposal_of, is_going, counts_promise, counts_accepted, current_in, current_of, Shard}
 
 pub same_itself : (b : Ballot) → is_same b b ≡ true
 same_itself b = ap is_eq (tied_itself ballots_total b)

@@ -1,22 +1,8 @@
 -- Packets that no row answers.
 use Rattle.std.proofs.Common.{◌≡◌, ◌∙◌, ℕ, refl, sym, subst}
 use Rattle.std.specs.Prelude.{Option, Some, None}
-use Rattle.ballot_core.specs.declared.Ballot.{Ballot}
-use Rattle.registry_state.specs.declared.Insert.{Insert}
-use Rattle.registry_state.specs.declared.Batch.{Batch}
-use Rattle.paxos_defs.specs.declared.Place.{Place}
-use Rattle.turn_defs.specs.declared.packet.Packet.{Packet}
+use Rattle.registry_server.proofs.Words.{Ballot, Insert, Batch, Place, Packet, Node, Dispatcher, Server, Replica, Joiner, Setting, shard, idle, same_Some, replay, ServerKept, ServerLive, claimed, gets_promise, gets_accepted, gets_nack, gets_chosen, from_replica, server_gets, Gives, Turn, number_of}
 use Rattle.turn_defs.specs.declared.packet.Packet.TheVariants as packet
-use Rattle.turn_defs.specs.declared.node.Node.{Node}
-use Rattle.turn_defs.specs.declared.node.Node.TheVariants.{Dispatcher, Server, Replica, Joiner}
-use Rattle.turn_defs.specs.Setting.{Setting, shard}
-use Rattle.turn_defs.specs.Turns.{idle}
-use Rattle.std.proofs.lemmas.Option.{same_Some}
-use Rattle.registry_state.specs.LookBack.{replay}
-use Rattle.turn_defs.specs.Server.{ServerKept, ServerLive, claimed, gets_promise, gets_accepted, gets_nack, gets_chosen, from_replica, server_gets}
-use Rattle.registry_server.specs.Cores.{Gives}
-use Rattle.registry_server.specs.declared.turn.Turn.{Turn}
-use Rattle.registry_server.specs.Rowed.{number_of}
 
 module _ (g : Setting) (site : ℕ) (k : ServerKept) (l : ServerLive) where
   pub unheard : (r : ℕ) (p : Packet) → ((at : Place) (b : Ballot) (prior : Option (Ballot × Batch)) → p ≡ packet.Promise at b prior → ⊥) → ((at : Place) (b : Ballot) → p ≡ packet.Accepted at b → ⊥) → ((at : Place) (b above : Ballot) → p ≡ packet.Nack at b above → ⊥)
@@ -24,58 +10,18 @@ module _ (g : Setting) (site : ℕ) (k : ServerKept) (l : ServerLive) where
   unheard r (packet.Promise at b prior) x y z = absurd (x at b prior refl)
   unheard r (packet.Accepted at b) x y z = absurd (y at b refl)
   unheard r (packet.Nack at b above) x y z = absurd (z at b above refl)
-  unheard r (packet.Join position click) x y z = refl
-  unheard r (packet.Joined position outcome) x y z = refl
-  unheard r (packet.Insert v) x y z = refl
-  unheard r (packet.Reply v a) x y z = refl
-  unheard r (packet.Prepare at b) x y z = refl
-  unheard r (packet.Accept at b v) x y z = refl
-  unheard r (packet.Chosen at v) x y z = refl
+  unheard r _ x y z = refl
 
   pub from_one : (r : ℕ) (p : Packet) → ((v : Insert) → p ≡ packet.Insert v → ⊥) → ((at : Place) (v : Batch) → p ≡ packet.Chosen at v → ⊥) → server_gets g site k l (Replica r) p ≡ from_replica g site k l r p
   from_one r (packet.Insert v) x y = absurd (x v refl)
   from_one r (packet.Chosen at v) x y = absurd (y at v refl)
-  from_one r (packet.Promise at b prior) x y = refl
-  from_one r (packet.Accepted at b) x y = refl
-  from_one r (packet.Nack at b above) x y = refl
-  from_one r (packet.Join position click) x y = refl
-  from_one r (packet.Joined position outcome) x y = refl
-  from_one r (packet.Reply v a) x y = refl
-  from_one r (packet.Prepare at b) x y = refl
-  from_one r (packet.Accept at b v) x y = refl
+  from_one r _ x y = refl
 
   pub from_none : (from : Node) (p : Packet) → ((v : Insert) → p ≡ packet.Insert v → ⊥) → ((at : Place) (v : Batch) → p ≡ packet.Chosen at v → ⊥) → ((r : ℕ) → from ≡ Replica r → ⊥) → server_gets g site k l from p ≡ idle l
   from_none (Replica r) p x y z = absurd (z r refl)
-  from_none (Dispatcher s) (packet.Insert v) x y z = absurd (x v refl)
-  from_none (Dispatcher s) (packet.Chosen at v) x y z = absurd (y at v refl)
-  from_none (Dispatcher s) (packet.Promise at b prior) x y z = refl
-  from_none (Dispatcher s) (packet.Accepted at b) x y z = refl
-  from_none (Dispatcher s) (packet.Nack at b above) x y z = refl
-  from_none (Dispatcher s) (packet.Join position click) x y z = refl
-  from_none (Dispatcher s) (packet.Joined position outcome) x y z = refl
-  from_none (Dispatcher s) (packet.Reply v a) x y z = refl
-  from_none (Dispatcher s) (packet.Prepare at b) x y z = refl
-  from_none (Dispatcher s) (packet.Accept at b v) x y z = refl
-  from_none (Server s) (packet.Insert v) x y z = absurd (x v refl)
-  from_none (Server s) (packet.Chosen at v) x y z = absurd (y at v refl)
-  from_none (Server s) (packet.Promise at b prior) x y z = refl
-  from_none (Server s) (packet.Accepted at b) x y z = refl
-  from_none (Server s) (packet.Nack at b above) x y z = refl
-  from_none (Server s) (packet.Join position click) x y z = refl
-  from_none (Server s) (packet.Joined position outcome) x y z = refl
-  from_none (Server s) (packet.Reply v a) x y z = refl
-  from_none (Server s) (packet.Prepare at b) x y z = refl
-  from_none (Server s) (packet.Accept at b v) x y z = refl
-  from_none (Joiner s) (packet.Insert v) x y z = absurd (x v refl)
-  from_none (Joiner s) (packet.Chosen at v) x y z = absurd (y at v refl)
-  from_none (Joiner s) (packet.Promise at b prior) x y z = refl
-  from_none (Joiner s) (packet.Accepted at b) x y z = refl
-  from_none (Joiner s) (packet.Nack at b above) x y z = refl
-  from_none (Joiner s) (packet.Join position click) x y z = refl
-  from_none (Joiner s) (packet.Joined position outcome) x y z = refl
-  from_none (Joiner s) (packet.Reply v a) x y z = refl
-  from_none (Joiner s) (packet.Prepare at b) x y z = refl
-  from_none (Joiner s) (packet.Accept at b v) x y z = refl
+  from_none _ (packet.Insert v) x y z = absurd (x v refl)
+  from_none _ (packet.Chosen at v) x y z = absurd (y at v refl)
+  from_none _ _ x y z = refl
 
   -- a packet that is about no shard
   pub about_none : (from : Node) (p : Packet) → number_of g p ≡ None → server_gets g site k l from p ≡ idle l
@@ -84,26 +30,8 @@ module _ (g : Setting) (site : ℕ) (k : ServerKept) (l : ServerLive) where
   about_none from (packet.Promise at b prior) e = absurd (cc)
   about_none from (packet.Accepted at b) e = absurd (cc)
   about_none from (packet.Nack at b above) e = absurd (cc)
-  about_none (Replica r) (packet.Join position click) e = refl
-  about_none (Dispatcher s) (packet.Join position click) e = refl
-  about_none (Server s) (packet.Join position click) e = refl
-  about_none (Joiner s) (packet.Join position click) e = refl
-  about_none (Replica r) (packet.Joined position outcome) e = refl
-  about_none (Dispatcher s) (packet.Joined position outcome) e = refl
-  about_none (Server s) (packet.Joined position outcome) e = refl
-  about_none (Joiner s) (packet.Joined position outcome) e = refl
-  about_none (Replica r) (packet.Reply v a) e = refl
-  about_none (Dispatcher s) (packet.Reply v a) e = refl
-  about_none (Server s) (packet.Reply v a) e = refl
-  about_none (Joiner s) (packet.Reply v a) e = refl
-  about_none (Replica r) (packet.Prepare at b) e = refl
-  about_none (Dispatcher s) (packet.Prepare at b) e = refl
-  about_none (Server s) (packet.Prepare at b) e = refl
-  about_none (Joiner s) (packet.Prepare at b) e = refl
-  about_none (Replica r) (packet.Accept at b v) e = refl
-  about_none (Dispatcher s) (packet.Accept at b v) e = refl
-  about_none (Server s) (packet.Accept at b v) e = refl
-  about_none (Joiner s) (packet.Accept at b v) e = refl
+  about_none (Replica r) _ e = refl
+  about_none _ _ e = refl
 
   -- a packet that is about this shard
   module _ (n : ℕ) (turn : Turn) (p : Packet) (about : number_of g p ≡ Some n) where

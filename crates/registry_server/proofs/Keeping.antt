@@ -1,21 +1,8 @@
 -- What each step leaves in a shard.
 use Rattle.std.proofs.Common.{◌≡◌, ℕ, ◌+◌, false, List, [], ◌∷◌, ◌++◌, length, None, sym, ap, ◌∙◌, subst, arith}
 use Rattle.std.specs.Prelude.{option_map}
-use Rattle.std.proofs.lemmas.List.{length-append}
-use Rattle.registry_state.specs.declared.Insert.{Insert}
-use Rattle.registry_state.specs.declared.Batch.{Batch}
-use Rattle.registry_state.specs.declared.Answer.{Answer}
-use Rattle.registry_state.specs.LookBack.{replay}
-use Rattle.id_expiry.specs.declared.timed.TimedRegistry.{TimedRegistry}
+use Rattle.registry_server.proofs.Words.{length-append, Insert, Batch, Answer, replay, TimedRegistry, BatchQueue, waiting, left_of, replays, IsUnanswered, Setting, ShardState, Proposal, unanswered, IsShard, stepped, proposal_of, put_last, Shard, Queue, Learn}
 use Rattle.id_expiry.specs.Timed.{Knows}
-use Rattle.batch_queue.specs.declared.queue.BatchQueue.{BatchQueue}
-use Rattle.batch_queue.specs.Queue.{waiting}
-use Rattle.batch_queue.specs.Waiting.{unanswered as left_of, replays, IsUnanswered}
-use Rattle.turn_defs.specs.Setting.{Setting}
-use Rattle.turn_defs.specs.Server.{ShardState, Proposal, unanswered}
-use Rattle.registry_server.specs.ShardStates.{IsShard, stepped, proposal_of, put_last}
-use Rattle.registry_server.specs.declared.shard.Shard.{Shard}
-use Rattle.registry_server.specs.declared.shard.Step.TheVariants.{Queue, Learn}
 use Rattle.registry_server.proofs.Rowing.{queue_is, proposal_is}
 use Rattle.registry_server.proofs.Sending.{unanswered_left}
 use Rattle.registry_server.proofs.Unanswered.{none_left, put_unanswered}

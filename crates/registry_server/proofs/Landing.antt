@@ -1,29 +1,10 @@
 -- What a server over its disk stands for.
 use Rattle.std.proofs.Common.{◌≡◌, ◌⊎◌, inl, inr, ⊎_elim, ℕ, ◌+◌, ◌==◌, Bool, true, false, cond, List, [], Option, Some, None, refl, sym, ap, ◌∙◌, subst}
-use Rattle.ballot_core.specs.declared.TheConstants.{LAST_EPOCH}
 use Rattle.std.specs.Prelude.{is_some, option_map, Result, Ok}
-use Rattle.std.specs.Result.{result_unwrap_or}
-use Rattle.std.proofs.lemmas.Bool.{cond-true, true≢false}
-use Rattle.epoch_journal.specs.Epochs.{KeepsOr, IsLeft}
-use Rattle.gate_journal.specs.declared.journal.JournalState.{JournalState}
-use Rattle.air_bus.specs.declared.entry.Input.{Input as Bytes}
+use Rattle.registry_server.proofs.Words.{LAST_EPOCH, result_unwrap_or, cond-true, true≢false, KeepsOr, IsLeft, JournalState, Bytes, Input, Start, Own, Tick, Deliver, Setting, record_of, Reads, IsInput, IsJunk, MayTake, NodeFault, Roster, IsOf, ServerKept, ServerLive, Stands, note_of, SiteKept, RegistrarView, ServesSite, Knows, KnowsAs, Fits, ServerCore, ServerNote, ServerState, recorded, Holds, StandsAt, is_spent_at, spent_at, IsNotPrepared}
 use Rattle.air_bus.specs.declared.entry.Input.TheVariants as bytes
-use Rattle.turn_defs.specs.declared.node.Input.{Input}
-use Rattle.turn_defs.specs.declared.node.Input.TheVariants.{Start, Own, Tick, Deliver}
-use Rattle.turn_defs.specs.Setting.{Setting}
-use Rattle.site_node.specs.Bytes.{record_of, Reads, IsInput, IsJunk}
-use Rattle.site_node.specs.States.{MayTake}
-use Rattle.site_node.specs.declared.kind.NodeFault.{NodeFault}
 use Rattle.site_node.specs.declared.kind.NodeFault.TheVariants as fault
-use Rattle.site_node.specs.declared.roster.Roster.{Roster}
-use Rattle.site_node.specs.Rosters.{IsOf}
-use Rattle.turn_defs.specs.Server.{ServerKept, ServerLive}
-use Rattle.registry_server.specs.Cores.{Stands, note_of}
-use Rattle.registry_server.specs.Registrars.{SiteKept, RegistrarView, ServesSite, Knows, KnowsAs, Fits}
-use Rattle.registry_server.specs.declared.server_core.ServerCore.{ServerCore}
-use Rattle.registry_server.specs.declared.turn.ServerNote.{ServerNote}
 use Rattle.registry_server.specs.declared.turn.ServerNote.TheVariants as notes
-use Rattle.registry_server.specs.Node.{ServerState, recorded, Holds, StandsAt, is_spent_at, spent_at, IsNotPrepared}
 
 pub none_of : {A : Type 0} (o : Option A) → is_some o ≡ false → o ≡ None
 none_of None off = refl

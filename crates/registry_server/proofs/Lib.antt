@@ -1,3 +1,4 @@
+pub mod Words
 pub mod Placing
 pub mod Sending
 pub mod Queueing

@@ -1,11 +1,6 @@
 -- Lists of shards that stand for the states of their numbers, changed in one place.
 use Rattle.std.proofs.Common.{◌≡◌, ℕ, ◌+◌, ◌<◌, ◌≤◌, ◌==◌, false, List, [], ◌∷◌, ◌++◌, length, take, drop, get_or, set, refl, sym, ap, ◌∙◌, subst, ⊎_elim, arith}
-use Rattle.std.proofs.lemmas.Bool.{cond_both, cases_eq, eqb-true, cases_lt}
-use Rattle.std.proofs.lemmas.List.{get_or-set_same, get_or-set_other, length-set, length-append, get_or_append_left, get_or_at, append-nil, take_all, drop_all}
-use Rattle.list_words.specs.Lists.{set_at}
-use Rattle.turn_defs.specs.Server.{ShardState}
-use Rattle.registry_server.specs.ShardStates.{IsShard, EachStands}
-use Rattle.registry_server.specs.declared.shard.Shard.{Shard}
+use Rattle.registry_server.proofs.Words.{cond_both, cases_eq, eqb-true, cases_lt, get_or-set_same, get_or-set_other, length-set, length-append, get_or_append_left, get_or_at, append-nil, take_all, drop_all, set_at, ShardState, IsShard, EachStands, Shard}
 
 -- a function with its own value put in one place is itself
 pub set_itself : {A : Type 0} (f : ℕ → A) (n : ℕ) → set_at f n (f n) ≡ f

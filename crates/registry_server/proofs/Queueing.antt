@@ -1,15 +1,7 @@
 -- A queue that puts an insert in, as the turn table says it.
 use Rattle.std.proofs.Common.{◌≡◌, ℕ, ◌≤◌, ◌==◌, ◌&&◌, true, false, cond, List, [], ◌∷◌, ◌++◌, length, Ok, Err, refl, sym, ap, ◌∙◌, ⊎_elim, arith}
 use Rattle.std.specs.Prelude.{Bool, Result, OnOk, OnErr, IfErr, IsErr, nat_le, ◌||◌}
-use Rattle.std.proofs.lemmas.Bool.{cond-true, cond-false, cases_eq, eq-eqb, ne_eqb, le-leb, leb-true, or_right, or_left, false≢true}
-use Rattle.registry_state.specs.declared.Token.{Token}
-use Rattle.registry_state.specs.declared.Insert.{Insert}
-use Rattle.registry_state.specs.Same.{same_token}
-use Rattle.batch_queue.specs.Waiting.{has_token, with_last, HasNoPlace}
-use Rattle.batch_queue.specs.declared.queue.Put.{Put}
-use Rattle.batch_queue.specs.declared.queue.Put.TheVariants.{Full}
-use Rattle.turn_defs.specs.Server.{queued}
-use Rattle.registry_server.specs.ShardStates.{put_last}
+use Rattle.registry_server.proofs.Words.{cond-true, cond-false, cases_eq, eq-eqb, ne_eqb, le-leb, leb-true, or_right, or_left, false≢true, Token, Insert, same_token, has_token, with_last, HasNoPlace, Put, Full, queued, put_last}
 
 eqb_comm : (m n : ℕ) → (m == n) ≡ (n == m)
 eqb_comm m n = ⊎_elim (λ (e : m ≡ n). eq-eqb m n e ∙ sym (eq-eqb n m (sym e))) (λ (ne : m ≡ n → ⊥). ne_eqb m n ne ∙ sym (ne_eqb n m (λ e. ne (sym e)))) (cases_eq m n)

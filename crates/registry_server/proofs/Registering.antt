@@ -1,23 +1,7 @@
 -- What a registrar decides and keeps.
 use Rattle.std.proofs.Common.{◌≡◌, inl, inr, ⊎_elim, ℕ, Bool, true, false, Option, Some, None, refl, sym, ap, ◌∙◌, subst}
 use Rattle.std.specs.Prelude.{All, option_map, Result, Ok, Err, IfOk}
-use Rattle.turn_defs.specs.declared.packet.Packet.{Packet}
-use Rattle.turn_defs.specs.declared.node.Node.{Node}
-use Rattle.turn_defs.specs.declared.node.Input.{Input}
-use Rattle.turn_defs.specs.declared.node.Input.TheVariants.{Start, Own, Tick, Deliver}
-use Rattle.turn_defs.specs.Packets.{IsPacket}
-use Rattle.turn_defs.specs.Setting.{Setting}
-use Rattle.turn_defs.specs.Turns.{Note, Out, land}
-use Rattle.site_node.specs.Bytes.{IsInput}
-use Rattle.site_node.specs.States.{row_of}
-use Rattle.turn_defs.specs.Server.{ServerKept, ServerLive, land_server, server_start, server_turn}
-use Rattle.registry_server.specs.Cores.{Stands, Serves, Begins, IsTurn, Carries, CarriesStart, changed, note_of, site_of}
-use Rattle.registry_server.specs.Spelled.{IsSpelledPlan, IsSpelledLive}
-use Rattle.registry_server.specs.Registrars.{SiteKept, KnowsAs, Knows, Fits, MayRaise, IsNextNote, IsRow, Makes, IsSpelledCore, IsSpelledTurn, landed, server_rows}
-use Rattle.registry_server.specs.declared.server_core.ServerCore.{ServerCore}
-use Rattle.registry_server.specs.declared.turn.ServerInput.{ServerInput}
-use Rattle.registry_server.specs.declared.turn.ServerNote.{ServerNote}
-use Rattle.registry_server.specs.declared.turn.Turn.{Turn}
+use Rattle.registry_server.proofs.Words.{Packet, Node, Input, Start, Own, Tick, Deliver, IsPacket, Setting, Note, Out, land, IsInput, row_of, ServerKept, ServerLive, land_server, server_start, server_turn, Stands, Serves, Begins, IsTurn, Carries, CarriesStart, changed, note_of, site_of, IsSpelledPlan, IsSpelledLive, SiteKept, KnowsAs, Knows, Fits, MayRaise, IsNextNote, IsRow, Makes, IsSpelledCore, IsSpelledTurn, landed, server_rows, ServerCore, ServerInput, ServerNote, Turn}
 use Rattle.registry_server.proofs.Spelling.{Sends, start_ok, turn_ok, sent_ok}
 
 -- the turn that the core decides on an input, where the disk has this epoch

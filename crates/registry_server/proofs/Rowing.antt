@@ -1,38 +1,8 @@
 -- A step of one shard as a row's turn.
 use Rattle.std.proofs.Common.{◌≡◌, ℕ, suc, ◌+◌, ◌≤◌, true, List, [], ◌∷◌, ◌++◌, length, take, Some, None, refl, sym, ap, ◌∙◌, subst, arith}
 use Rattle.std.specs.Prelude.{Option, option_map, min}
-use Rattle.std.proofs.lemmas.Bool.{cond-true}
-use Rattle.list_words.specs.Lists.{set_at}
-use Rattle.ballot_core.specs.declared.Ballot.{Ballot}
-use Rattle.registry_state.specs.declared.Insert.{Insert}
-use Rattle.registry_state.specs.declared.Batch.{Batch}
-use Rattle.registry_state.specs.declared.Answer.{Answer}
-use Rattle.registry_state.specs.LookBack.{replay}
-use Rattle.registry_state.specs.Registry.{batch_of}
-use Rattle.batch_queue.specs.Queue.{waiting}
-use Rattle.batch_queue.specs.Waiting.{answered}
-use Rattle.paxos_defs.specs.Attempts.{nobody}
-use Rattle.paxos_defs.specs.Attempts.Phase.{Promising}
-use Rattle.paxos_proposer.specs.declared.proposer.Proposer.{Proposer}
-use Rattle.paxos_proposer.specs.Proposals.{ballot_of, own_of, phase_of}
-use Rattle.turn_defs.specs.declared.packet.Packet.{Packet}
-use Rattle.turn_defs.specs.declared.packet.Packet.TheVariants.{Prepare}
-use Rattle.turn_defs.specs.declared.node.Node.{Node}
-use Rattle.turn_defs.specs.declared.node.To.{To}
-use Rattle.turn_defs.specs.Setting.{Setting}
-use Rattle.turn_defs.specs.Turns.{Out}
-use Rattle.turn_defs.specs.Server.{ServerKept, ServerLive, ShardState, claimed, reply, replies, may_propose, to_replicas}
-use Rattle.registry_server.specs.Stations.{setting, sent}
-use Rattle.registry_server.specs.Replies.{each_reply}
-use Rattle.registry_server.specs.ShardStates.{IsShard, stepped, proposal_of}
-use Rattle.registry_server.specs.Cores.{Gives, IsStep, note_of, changed}
-use Rattle.registry_server.specs.Rowed.{IsAt, proposes_if, learns_behind}
-use Rattle.registry_server.specs.declared.station.Station.{Station}
-use Rattle.registry_server.specs.declared.shard.Shard.{Shard}
-use Rattle.registry_server.specs.declared.shard.Step.{Step}
-use Rattle.registry_server.specs.declared.shard.Step.TheVariants.{Propose, Learn}
+use Rattle.registry_server.proofs.Words.{cond-true, set_at, Ballot, Insert, Batch, Answer, replay, batch_of, waiting, answered, nobody, Promising, Proposer, ballot_of, own_of, phase_of, Packet, Prepare, Node, To, Setting, Out, ServerKept, ServerLive, ShardState, claimed, reply, replies, may_propose, to_replicas, setting, sent, each_reply, IsShard, stepped, proposal_of, Gives, IsStep, note_of, changed, IsAt, proposes_if, learns_behind, Station, Shard, Step, Propose, Learn, Turn}
 use Rattle.registry_server.specs.declared.turn.Change.TheVariants as change
-use Rattle.registry_server.specs.declared.turn.Turn.{Turn}
 use Rattle.registry_server.proofs.Sending.{replies_each}
 
 pub queue_is : (h : Shard) (st : ShardState) → IsShard h st → st.queue ≡ waiting h.queue

@@ -1,23 +1,7 @@
 -- Packets, put behind one another.
 use Rattle.std.proofs.Common.{◌≡◌, ℕ, suc, ◌+◌, ◌-◌, ◌<◌, ◌≤◌, List, [], ◌∷◌, ◌++◌, length, take, get_or, refl, sym, ap, ◌∙◌, Some, None, cond, not, is_some, arith}
 use Rattle.std.specs.Prelude.{Option, option_map}
-use Rattle.std.specs.List.{cons_option}
-use Rattle.std.proofs.lemmas.List.{map-append, append_assoc, append-nil, take_more}
-use Rattle.registry_state.specs.declared.Insert.{Insert}
-use Rattle.registry_state.specs.declared.Batch.{Batch}
-use Rattle.registry_state.specs.declared.Answer.{Answer}
-use Rattle.registry_state.specs.LookBack.{replay}
-use Rattle.batch_queue.specs.Waiting.{answered, unanswered as left_of}
-use Rattle.turn_defs.specs.declared.packet.Packet.{Packet}
-use Rattle.turn_defs.specs.declared.node.Node.{Node}
-use Rattle.turn_defs.specs.declared.node.Node.TheVariants.{Replica}
-use Rattle.turn_defs.specs.declared.node.To.{To}
-use Rattle.turn_defs.specs.declared.node.To.TheVariants.{Only}
-use Rattle.turn_defs.specs.Setting.{Setting}
-use Rattle.turn_defs.specs.Nodes.{Addressed}
-use Rattle.turn_defs.specs.Server.{to_from, reply, reply_if, replies, keep_if, unanswered}
-use Rattle.registry_server.specs.Stations.{sent}
-use Rattle.registry_server.specs.Replies.{each_reply}
+use Rattle.registry_server.proofs.Words.{cons_option, map-append, append_assoc, append-nil, take_more, Insert, Batch, Answer, replay, answered, left_of, Packet, Node, Replica, To, Only, Setting, Addressed, to_from, reply, reply_if, replies, keep_if, unanswered, sent, each_reply}
 
 pub sent_push : (ps : List (Node × Packet)) (p : Node × Packet) → sent (ps ++ p ∷ []) ≡ sent ps ++ (Only p.0, p.1) ∷ []
 sent_push ps p = map-append (λ (q : Node × Packet). (Only q.0, q.1)) ps (p ∷ [])

@@ -1,45 +1,8 @@
 -- Where the server's numbers, what it knows and the input have spellings, so have the row's packets and what it knows next.
 use Rattle.std.proofs.Common.{◌≡◌, ℕ, suc, ◌+◌, ◌^◌, ◌<◌, ◌≤◌, ◌&&◌, ◌||◌, Bool, true, false, cond, List, [], ◌∷◌, ◌++◌, length, take, set, Option, Some, None, refl, subst, arith}
-use Rattle.turn_defs.specs.declared.limits.TheConstants.{LAST_SLOT}
-use Rattle.ballot_core.specs.declared.TheConstants.{LAST_EPOCH}
 use Rattle.std.specs.Prelude.{nat_lt, nat_le, All}
-use Rattle.std.proofs.lemmas.Bool.{cond_both, ltb-true, and_parts}
-use Rattle.std.proofs.lemmas.List.{length-take}
-use Rattle.std.proofs.lemmas.List.Elements.{All-nil, All-cons}
-use Rattle.std.proofs.lemmas.Option.{same_Some}
-use Rattle.list_words.specs.Lists.{Each}
-use Rattle.list_words.proofs.Lists.{each_append, at_set}
-use Rattle.event_id.specs.declared.id.EventId.{EventId}
-use Rattle.event_id.specs.EventId.{is_same as same_id}
-use Rattle.ballot_core.specs.declared.Ballot.{Ballot}
-use Rattle.ballot_core.specs.Ballots.{is_below}
-use Rattle.registry_state.specs.declared.Token.{Token}
-use Rattle.registry_state.specs.declared.Insert.{Insert}
-use Rattle.registry_state.specs.declared.Batch.{Batch}
-use Rattle.registry_state.specs.declared.Answer.{Answer}
-use Rattle.registry_state.specs.declared.Answer.TheVariants.{Granted, Duplicate, TooOld}
-use Rattle.registry_state.specs.Same.{same_token}
-use Rattle.registry_state.specs.LookBack.{bound_of, first_in, first_insert, or_else, replay, replay_held}
-use Rattle.turn_defs.specs.Spellings.{IsToken, IsInsert, IsAnswer, IsPlace, IsBallot, IsBatch, IsPrior}
-use Rattle.paxos_defs.specs.declared.Place.{Place}
-use Rattle.paxos_defs.specs.Turns.{higher, value_for}
-use Rattle.paxos_defs.specs.Attempts.{Phase, is_new, is_most, nobody, with_promise, on_promise, with_acceptance, on_accepted}
-use Rattle.paxos_defs.specs.Attempts.Phase.{Promising, Accepting, Ended}
-use Rattle.turn_defs.specs.declared.packet.Packet.{Packet}
+use Rattle.registry_server.proofs.Words.{LAST_SLOT, LAST_EPOCH, cond_both, ltb-true, and_parts, length-take, All-nil, All-cons, same_Some, Each, each_append, at_set, EventId, same_id, Ballot, is_below, Token, Insert, Batch, Answer, Granted, Duplicate, TooOld, same_token, bound_of, first_in, first_insert, or_else, replay, replay_held, IsToken, IsInsert, IsAnswer, IsPlace, IsBallot, IsBatch, IsPrior, Place, higher, value_for, Phase, is_new, is_most, nobody, with_promise, on_promise, with_acceptance, on_accepted, Promising, Accepting, Ended, Packet, Node, Dispatcher, Server, Replica, Joiner, Input, Start, Own, Tick, Deliver, To, Only, IsPacket, Setting, shard, shards, Addressed, Out, idle, ServerKept, ServerLive, ShardState, Proposal, empty_shard, queued, to_from, is_below_limit, may_propose, first_shard, is_next, is_current, is_own_joiner, reply, reply_if, replies, keep_if, unanswered, learns, with_shard, claimed, proposes, owns, server_own, goes_on, accept_if, promised, accepted, nacked, gets_promise, gets_accepted, gets_nack, gets_chosen, of_phase, again, all_again, server_tick, server_gets, server_turn, server_start, IsSpelledPhase, IsSpelledProposal, IsSpelledIf, IsSpelledShard, IsSpelledPlan, IsSpelledLive, IsInput}
 use Rattle.turn_defs.specs.declared.packet.Packet.TheVariants as packet
-use Rattle.turn_defs.specs.declared.node.Node.{Node}
-use Rattle.turn_defs.specs.declared.node.Node.TheVariants.{Dispatcher, Server, Replica, Joiner}
-use Rattle.turn_defs.specs.declared.node.Input.{Input}
-use Rattle.turn_defs.specs.declared.node.Input.TheVariants.{Start, Own, Tick, Deliver}
-use Rattle.turn_defs.specs.declared.node.To.{To}
-use Rattle.turn_defs.specs.declared.node.To.TheVariants.{Only}
-use Rattle.turn_defs.specs.Packets.{IsPacket}
-use Rattle.turn_defs.specs.Setting.{Setting, shard, shards}
-use Rattle.turn_defs.specs.Nodes.{Addressed}
-use Rattle.turn_defs.specs.Turns.{Out, idle}
-use Rattle.turn_defs.specs.Server.{ServerKept, ServerLive, ShardState, Proposal, empty_shard, queued, to_from, is_below_limit, may_propose, first_shard, is_next, is_current, is_own_joiner, reply, reply_if, replies, keep_if, unanswered, learns, with_shard, claimed, proposes, owns, server_own, goes_on, accept_if, promised, accepted, nacked, gets_promise, gets_accepted, gets_nack, gets_chosen, of_phase, again, all_again, server_tick, server_gets, server_turn, server_start}
-use Rattle.registry_server.specs.Spelled.{IsSpelledPhase, IsSpelledProposal, IsSpelledIf, IsSpelledShard, IsSpelledPlan, IsSpelledLive}
-use Rattle.site_node.specs.Bytes.{IsInput}
 
 abbrev pub Sends : List (To × Packet) → Type 0
 Sends ps = Each (λ (p : To × Packet). IsPacket p.1) ps

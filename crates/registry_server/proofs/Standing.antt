@@ -1,32 +1,8 @@
 -- What a core stands for, shard by shard.
 use Rattle.std.proofs.Common.{◌≡◌, ℕ, zero, suc, ◌+◌, ◌-◌, ◌<◌, ◌≤◌, ◌&&◌, Bool, true, false, cond, List, ◌++◌, length, get_or, Some, None, refl, sym, ap, ◌∙◌, subst, arith}
-use Rattle.turn_defs.specs.declared.limits.TheConstants.{LAST_SLOT}
 use Rattle.std.specs.Prelude.{Option}
-use Rattle.std.proofs.lemmas.Bool.{cond-true, cond-false, cond_both, and_left, le-ltb, lt-ltb}
-use Rattle.std.proofs.lemmas.Option.{same_Some}
-use Rattle.std.proofs.lemmas.List.{append-nil, append_assoc}
-use Rattle.ballot_core.specs.declared.Ballot.{Ballot}
-use Rattle.registry_state.specs.declared.Insert.{Insert}
-use Rattle.registry_state.specs.declared.Batch.{Batch}
-use Rattle.time_shards.specs.Shards.{shard_count}
-use Rattle.paxos_defs.specs.declared.Place.{Place}
-use Rattle.turn_defs.specs.declared.packet.Packet.{Packet}
+use Rattle.registry_server.proofs.Words.{LAST_SLOT, cond-true, cond-false, cond_both, and_left, le-ltb, lt-ltb, same_Some, append-nil, append_assoc, Ballot, Insert, Batch, shard_count, Place, Packet, Node, Dispatcher, Server, Replica, Joiner, To, Setting, shards, Out, idle, Addressed, ServerKept, ServerLive, ShardState, Proposal, first_shard, may_propose, owns, server_own, is_next, is_current, is_below_limit, gets_promise, gets_accepted, gets_nack, gets_chosen, server_gets, again, all_again, setting, IsShard, passes, Stands, Gives, IsTurn, IsAt, number_of, proposes_if, Shard, Test, Turn, ServerCore}
 use Rattle.turn_defs.specs.declared.packet.Packet.TheVariants as packet
-use Rattle.turn_defs.specs.declared.node.Node.{Node}
-use Rattle.turn_defs.specs.declared.node.Node.TheVariants.{Dispatcher, Server, Replica, Joiner}
-use Rattle.turn_defs.specs.declared.node.To.{To}
-use Rattle.turn_defs.specs.Setting.{Setting, shards}
-use Rattle.turn_defs.specs.Turns.{Out, idle}
-use Rattle.turn_defs.specs.Nodes.{Addressed}
-use Rattle.turn_defs.specs.Server.{ServerKept, ServerLive, ShardState, Proposal, first_shard, may_propose, owns, server_own, is_next, is_current, is_below_limit, gets_promise, gets_accepted, gets_nack, gets_chosen, server_gets, again, all_again}
-use Rattle.registry_server.specs.Stations.{setting}
-use Rattle.registry_server.specs.ShardStates.{IsShard, passes}
-use Rattle.registry_server.specs.Cores.{Stands, Gives, IsTurn}
-use Rattle.registry_server.specs.Rowed.{IsAt, number_of, proposes_if}
-use Rattle.registry_server.specs.declared.shard.Shard.{Shard}
-use Rattle.registry_server.specs.declared.shard.Test.{Test}
-use Rattle.registry_server.specs.declared.turn.Turn.{Turn}
-use Rattle.registry_server.specs.declared.server_core.ServerCore.{ServerCore}
 use Rattle.registry_server.proofs.Sending.{addressed}
 
 -- the first number that passes a test, one further
@@ -84,22 +60,12 @@ module _ (g : Setting) (site : ℕ) (k : ServerKept) (l : ServerLive) where
     beyond from (packet.Insert x) e in_table = let w = in_table x refl in absurd (omega arith)
     beyond from (packet.Chosen at v) e in_table = off_chosen at v (l.shards at.shard) (same_Some _ _ e)
     beyond (Replica r) (packet.Promise at b prior) e in_table = off_promise r at b prior (l.shards at.shard) (l.shards at.shard).proposal (same_Some _ _ e)
-    beyond (Dispatcher s) (packet.Promise at b prior) e in_table = refl
-    beyond (Server s) (packet.Promise at b prior) e in_table = refl
-    beyond (Joiner s) (packet.Promise at b prior) e in_table = refl
+    beyond _ (packet.Promise at b prior) e in_table = refl
     beyond (Replica r) (packet.Accepted at b) e in_table = off_accepted r at b (l.shards at.shard) (l.shards at.shard).proposal (same_Some _ _ e)
-    beyond (Dispatcher s) (packet.Accepted at b) e in_table = refl
-    beyond (Server s) (packet.Accepted at b) e in_table = refl
-    beyond (Joiner s) (packet.Accepted at b) e in_table = refl
+    beyond _ (packet.Accepted at b) e in_table = refl
     beyond (Replica r) (packet.Nack at b above) e in_table = off_nack at b above (l.shards at.shard) (l.shards at.shard).proposal (same_Some _ _ e)
-    beyond (Dispatcher s) (packet.Nack at b above) e in_table = refl
-    beyond (Server s) (packet.Nack at b above) e in_table = refl
-    beyond (Joiner s) (packet.Nack at b above) e in_table = refl
-    beyond from (packet.Join position click) e in_table = absurd (cc)
-    beyond from (packet.Joined position outcome) e in_table = absurd (cc)
-    beyond from (packet.Reply x a) e in_table = absurd (cc)
-    beyond from (packet.Prepare at b) e in_table = absurd (cc)
-    beyond from (packet.Accept at b v) e in_table = absurd (cc)
+    beyond _ (packet.Nack at b above) e in_table = refl
+    beyond _ _ e in_table = absurd (cc)
 
 module _ (core : ServerCore) (g : Setting) (k : ServerKept) (l : ServerLive) (h : Stands core g k l) where
   pub table_shards : shard_count core.station.table ≡ shards g

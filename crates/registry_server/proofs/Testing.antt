@@ -1,19 +1,7 @@
 -- What the tests of a shard say.
 use Rattle.std.proofs.Common.{◌≡◌, ℕ, ◌<◌, ◌==◌, ◌&&◌, true, not, is_none, List, [], ◌∷◌, length, Some, None, refl, sym, ap, ◌∙◌, arith}
-use Rattle.turn_defs.specs.declared.limits.TheConstants.{LAST_SLOT}
 use Rattle.std.specs.Prelude.{Bool, Option, option_map, nat_lt, ◌||◌}
-use Rattle.std.proofs.lemmas.Bool.{and_parts, ltb-true, ne_eqb}
-use Rattle.registry_state.specs.declared.Insert.{Insert}
-use Rattle.batch_queue.specs.Queue.{waiting}
-use Rattle.paxos_proposer.specs.declared.proposer.Proposer.{Proposer}
-use Rattle.turn_defs.specs.Setting.{Setting}
-use Rattle.turn_defs.specs.Turns.{is_empty}
-use Rattle.turn_defs.specs.Server.{ShardState, may_propose, shard_unfinished, is_free, is_below_limit}
-use Rattle.registry_server.specs.Stations.{setting}
-use Rattle.registry_server.specs.ShardStates.{IsShard, passes, proposal_of}
-use Rattle.registry_server.specs.declared.station.Station.{Station}
-use Rattle.registry_server.specs.declared.shard.Shard.{Shard}
-use Rattle.registry_server.specs.declared.shard.Test.TheVariants.{IsBelowHorizon}
+use Rattle.registry_server.proofs.Words.{LAST_SLOT, and_parts, ltb-true, ne_eqb, Insert, waiting, Proposer, Setting, is_empty, ShardState, may_propose, shard_unfinished, is_free, is_below_limit, setting, IsShard, passes, proposal_of, Station, Shard, IsBelowHorizon}
 use Rattle.registry_server.proofs.Rowing.{queue_is, proposal_is}
 
 free_is : (o : Option Proposer) → is_none o ≡ is_free (option_map proposal_of o)

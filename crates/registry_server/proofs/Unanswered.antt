@@ -1,14 +1,8 @@
 -- Inserts that wait and have no answer, one more and those that are left.
 use Rattle.std.proofs.Common.{◌≡◌, true, false, cond, not, List, [], ◌∷◌, ◌++◌, length, Some, None, refl, ap, ◌∙◌}
 use Rattle.std.specs.Prelude.{Bool, Option, option_map, is_some, nat_le, ◌||◌}
-use Rattle.std.specs.List.{cons_option}
-use Rattle.registry_state.specs.declared.Insert.{Insert}
-use Rattle.registry_state.specs.declared.Batch.{Batch}
-use Rattle.registry_state.specs.declared.Answer.{Answer}
-use Rattle.batch_queue.specs.Waiting.{answered, unanswered, replays, IsUnanswered}
-use Rattle.batch_queue.proofs.Answering.{answered-append}
-use Rattle.turn_defs.specs.Server.{queued}
-use Rattle.registry_server.specs.ShardStates.{put_last}
+use Rattle.registry_server.proofs.Words.{cons_option, Insert, Batch, Answer, answered, replays, IsUnanswered, answered-append, queued, put_last}
+use Rattle.batch_queue.specs.Waiting.{unanswered}
 
 -- none of those that are left has an answer
 pub none_left : (f : Insert → Option Answer) (xs : List Insert) → answered f (unanswered f xs) ≡ []

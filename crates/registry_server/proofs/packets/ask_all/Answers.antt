@@ -1,8 +1,5 @@
 use Rattle.std.proofs.Common.{◌++◌, ◌∷◌, [], ap, ◌∙◌}
-use Rattle.turn_defs.specs.declared.packet.Packet.{Packet}
-use Rattle.turn_defs.specs.declared.node.Node.TheVariants.{Replica}
-use Rattle.turn_defs.specs.declared.node.To.TheVariants.{Only}
-use Rattle.registry_server.specs.Stations.{sent, request}
+use Rattle.registry_server.proofs.Words.{Packet, Replica, Only, sent, request}
 use Rattle.registry_server.proofs.Sending.{sent_push, asked_turn, asked_all}
 use Rattle.registry_server.proofs.packets.ask_all.Goals as goal
 

@@ -1,6 +1,5 @@
 use Rattle.std.proofs.Common.{◌≡◌, ◌++◌, ◌-◌}
-use Rattle.turn_defs.specs.Server.{to_from, to_replicas}
-use Rattle.registry_server.specs.Stations.{sent, request}
+use Rattle.registry_server.proofs.Words.{to_from, to_replicas, sent, request}
 use Rattle.registry_server.proofs.packets.ask_all.Given as goal
 
 -- those asked so far, and those that are left

@@ -1,10 +1,5 @@
 use Rattle.std.proofs.Common.{◌++◌, List, ap, ◌∙◌}
-use Rattle.std.proofs.lemmas.List.{take_all}
-use Rattle.registry_state.specs.declared.Insert.{Insert}
-use Rattle.registry_state.specs.declared.Answer.{Answer}
-use Rattle.registry_state.specs.declared.Answer.TheVariants.{Granted}
-use Rattle.registry_server.specs.Stations.{setting, sent}
-use Rattle.registry_server.specs.Replies.{each_reply}
+use Rattle.registry_server.proofs.Words.{take_all, Insert, Answer, Granted, setting, sent, each_reply}
 use Rattle.registry_server.proofs.Sending.{replied_more}
 use Rattle.registry_server.proofs.packets.push_replies.Goals as goal
 

@@ -1,7 +1,5 @@
 use Rattle.std.proofs.Common.{◌≡◌, ◌++◌, take}
-use Rattle.turn_defs.specs.Setting.{Setting}
-use Rattle.registry_server.specs.Stations.{setting, sent}
-use Rattle.registry_server.specs.Replies.{each_reply}
+use Rattle.registry_server.proofs.Words.{Setting, setting, sent, each_reply}
 use Rattle.registry_server.proofs.packets.push_replies.Given as goal
 
 -- the Replies so far

@@ -1,9 +1,5 @@
 use Rattle.std.proofs.Common.{◌≡◌, ◌++◌, true, false, List, ap, sym, ◌∙◌, rules}
-use Rattle.std.proofs.lemmas.Bool.{cond-true, cond-false}
-use Rattle.std.proofs.lemmas.List.{append-nil}
-use Rattle.turn_defs.specs.declared.packet.Packet.{Packet}
-use Rattle.turn_defs.specs.declared.node.To.{To}
-use Rattle.registry_server.specs.Stations.{sent}
+use Rattle.registry_server.proofs.Words.{cond-true, cond-false, append-nil, Packet, To, sent}
 use Rattle.registry_server.proofs.Sending.{sent_push}
 use Rattle.registry_server.proofs.packets.push_reply.Goals as goal
 

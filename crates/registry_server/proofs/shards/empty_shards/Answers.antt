@@ -1,7 +1,5 @@
 use Rattle.std.proofs.Common.{List, sym, subst, arith}
-use Rattle.turn_defs.specs.Server.{empty_shard}
-use Rattle.registry_server.specs.ShardStates.{EachStands}
-use Rattle.registry_server.specs.declared.shard.Shard.{Shard}
+use Rattle.registry_server.proofs.Words.{empty_shard, EachStands, Shard}
 use Rattle.registry_server.proofs.Placing.{push_each}
 use Rattle.registry_server.proofs.shards.empty_shards.Goals as goal
 

@@ -1,6 +1,5 @@
 use Rattle.std.proofs.Common.{◌≡◌, length}
-use Rattle.turn_defs.specs.Server.{empty_shard}
-use Rattle.registry_server.specs.ShardStates.{EachStands}
+use Rattle.registry_server.proofs.Words.{empty_shard, EachStands}
 use Rattle.registry_server.proofs.shards.empty_shards.Given as goal
 
 abbrev pub invariant-loop : goal.invariant-loop

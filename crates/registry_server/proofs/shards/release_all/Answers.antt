@@ -1,6 +1,5 @@
 use Rattle.std.proofs.Common.{◌≡◌, ◌<◌, ◌≤◌, false, List, length, sym, ap, ◌∙◌, subst, arith}
-use Rattle.registry_server.specs.ShardStates.{IsShard, EachStands}
-use Rattle.registry_server.specs.declared.shard.Shard.{Shard}
+use Rattle.registry_server.proofs.Words.{IsShard, EachStands, Shard}
 use Rattle.registry_server.proofs.Placing.{Released, released_none, released_more, released_all, written_back}
 use Rattle.registry_server.proofs.shards.release_all.Goals as goal
 

@@ -1,6 +1,5 @@
 use Rattle.std.proofs.Common.{ap, sym, subst, ◌∙◌}
-use Rattle.registry_server.specs.Cores.{site_of}
-use Rattle.registry_server.specs.Registrars.{RegistrarView, Makes, landed}
+use Rattle.registry_server.proofs.Words.{site_of, RegistrarView, Makes, landed}
 use Rattle.registry_server.proofs.Landing.{knows_up}
 use Rattle.registry_server.proofs.node.ServerNode.finish.Goals as goal
 

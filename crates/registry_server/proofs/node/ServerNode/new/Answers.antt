@@ -1,5 +1,5 @@
 use Rattle.std.proofs.Common.{refl}
-use Rattle.registry_server.specs.Registrars.{SiteKept}
+use Rattle.registry_server.proofs.Words.{SiteKept}
 use Rattle.registry_server.proofs.Landing.{down_stands}
 use Rattle.registry_server.proofs.node.ServerNode.new.Goals as goal
 

@@ -1,10 +1,5 @@
 use Rattle.std.proofs.Common.{◌≡◌, ℕ, List, Option, Some, ap, sym, ◌∙◌, subst, rules}
-use Rattle.epoch_journal.specs.declared.epochs.Epochs.{Epochs}
-use Rattle.air_bus.specs.declared.entry.Input.{Input as Bytes}
-use Rattle.site_node.specs.States.{Stops}
-use Rattle.registry_server.specs.Registrars.{RegistrarView, server_rows}
-use Rattle.registry_server.specs.Node.{StandsAt}
-use Rattle.registry_server.specs.Kept.{kept_images}
+use Rattle.registry_server.proofs.Words.{Epochs, Bytes, Stops, RegistrarView, server_rows, StandsAt, kept_images}
 use Rattle.registry_server.proofs.Ending.{Found, nothing_landed, note_landed, left_moments}
 use Rattle.registry_server.proofs.node.ServerNodeSiteNode.restart.Goals as goal
 

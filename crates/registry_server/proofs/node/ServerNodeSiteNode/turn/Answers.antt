@@ -1,5 +1,5 @@
 use Rattle.std.proofs.Common.{sym, ◌∙◌, subst, rules}
-use Rattle.registry_server.specs.Registrars.{RegistrarView, Knows}
+use Rattle.registry_server.proofs.Words.{RegistrarView, Knows}
 use Rattle.registry_server.proofs.Landing.{none_of, quiet, fits_of, spent_told, spent_input, junk_unspent}
 use Rattle.registry_server.proofs.Ending.{idles, ends, stays_open, still_open, all_five, both_err, on_err, turn_moments, turn_grown}
 use Rattle.registry_server.proofs.node.ServerNodeSiteNode.turn.Goals as goal

@@ -1,7 +1,5 @@
 use Rattle.std.proofs.Common.{sym, subst}
-use Rattle.std.proofs.lemmas.Result.{IfOk-weaker}
-use Rattle.registry_server.specs.Spelled.{IsSpelledPlan}
-use Rattle.registry_server.specs.Registrars.{RegistrarView, Knows}
+use Rattle.registry_server.proofs.Words.{IfOk-weaker, IsSpelledPlan, RegistrarView, Knows}
 use Rattle.registry_server.proofs.Registering.{decides, stays, goes, fit}
 use Rattle.registry_server.proofs.registrar.Registrar.decide.Goals as goal
 

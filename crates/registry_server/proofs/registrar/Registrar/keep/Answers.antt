@@ -1,8 +1,5 @@
 use Rattle.std.proofs.Common.{ap, sym, subst, ◌∙◌}
-use Rattle.registry_server.specs.Cores.{site_of}
-use Rattle.registry_server.specs.Spelled.{IsSpelledPlan}
-use Rattle.registry_server.specs.Registrars.{RegistrarView, Makes, landed}
-use Rattle.registry_server.specs.declared.server_core.ServerCore.{ServerCore}
+use Rattle.registry_server.proofs.Words.{site_of, IsSpelledPlan, RegistrarView, Makes, landed, ServerCore}
 use Rattle.registry_server.proofs.Registering.{keeps}
 use Rattle.registry_server.proofs.registrar.Registrar.keep.Goals as goal
 

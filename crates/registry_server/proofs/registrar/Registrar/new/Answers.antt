@@ -1,6 +1,5 @@
 use Rattle.std.proofs.Common.{ℕ, ◌<◌, ◌≤◌, ◌^◌, refl, sym, subst, arith, rules}
-use Rattle.turn_defs.specs.Setting.{Setting}
-use Rattle.turn_defs.specs.Rows.{worked}
+use Rattle.registry_server.proofs.Words.{Setting, worked}
 use Rattle.registry_server.proofs.Spelling.{empty_ok}
 use Rattle.registry_server.proofs.registrar.Registrar.new.Goals as goal
 

@@ -1,7 +1,5 @@
 use Rattle.std.proofs.Common.{ap, sym, subst}
-use Rattle.registry_server.specs.Cores.{Stands}
-use Rattle.registry_server.specs.Registrars.{RegistrarView}
-use Rattle.registry_server.specs.declared.server_core.ServerCore.{ServerCore}
+use Rattle.registry_server.proofs.Words.{Stands, RegistrarView, ServerCore}
 use Rattle.registry_server.proofs.registrar.Registrar.wants.Goals as goal
 
 pub returns : goal.returns

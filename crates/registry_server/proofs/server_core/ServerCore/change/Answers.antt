@@ -1,7 +1,5 @@
 use Rattle.std.proofs.Common.{◌≡◌, sym, subst}
-use Rattle.registry_server.specs.ShardStates.{EachStands}
-use Rattle.registry_server.specs.Cores.{changed}
-use Rattle.registry_server.specs.declared.turn.Change.{Change}
+use Rattle.registry_server.proofs.Words.{EachStands, changed, Change}
 use Rattle.registry_server.proofs.server_core.ServerCore.change.Goals as goal
 
 pub returns-in-Tick-clause-kept : goal.returns-in-Tick-clause-kept

@@ -1,9 +1,5 @@
 use Rattle.std.proofs.Common.{sym, subst}
-use Rattle.std.proofs.lemmas.Result.{IfOk-weaker}
-use Rattle.turn_defs.specs.declared.node.Input.{Input}
-use Rattle.turn_defs.specs.Server.{server_turn, server_start}
-use Rattle.registry_server.specs.Cores.{IsTurn, Carries, CarriesStart}
-use Rattle.registry_server.specs.declared.turn.ServerInput.{ServerInput}
+use Rattle.registry_server.proofs.Words.{IfOk-weaker, Input, server_turn, server_start, IsTurn, Carries, CarriesStart, ServerInput}
 use Rattle.registry_server.proofs.Standing.{turn_of}
 use Rattle.registry_server.proofs.server_core.ServerCore.decide.Goals as goal
 

@@ -1,7 +1,5 @@
 use Rattle.std.proofs.Common.{◌≡◌, ◌-◌, ◌<◌, length, get_or, sym, ap, ◌∙◌, arith}
-use Rattle.turn_defs.specs.Setting.{shards}
-use Rattle.turn_defs.specs.Server.{first_shard}
-use Rattle.registry_server.specs.ShardStates.{passes}
+use Rattle.registry_server.proofs.Words.{shards, first_shard, passes}
 use Rattle.registry_server.proofs.Standing.{first_more, first_found, first_none, table_shards, test_at}
 use Rattle.registry_server.proofs.server_core.ServerCore.first.Goals as goal
 

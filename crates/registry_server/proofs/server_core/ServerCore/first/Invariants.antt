@@ -1,8 +1,5 @@
 use Rattle.std.proofs.Common.{◌≡◌, ◌-◌}
-use Rattle.turn_defs.specs.Setting.{Setting, shards}
-use Rattle.turn_defs.specs.Server.{ServerKept, ServerLive, first_shard}
-use Rattle.registry_server.specs.ShardStates.{passes}
-use Rattle.registry_server.specs.Cores.{Stands}
+use Rattle.registry_server.proofs.Words.{Setting, shards, ServerKept, ServerLive, first_shard, passes, Stands}
 use Rattle.registry_server.proofs.server_core.ServerCore.first.Given as goal
 
 -- none before this number passes

@@ -1,6 +1,5 @@
 use Rattle.std.proofs.Common.{◌≡◌, ◌<◌, ◌≤◌, Some, None, sym, subst, arith}
-use Rattle.turn_defs.specs.Setting.{Setting, shards}
-use Rattle.registry_server.specs.Rowed.{number_of}
+use Rattle.registry_server.proofs.Words.{Setting, shards, number_of}
 use Rattle.registry_server.proofs.Rowing.{same_row}
 use Rattle.registry_server.proofs.Hearing.{about_none}
 use Rattle.registry_server.proofs.Standing.{beyond, table_shards}

@@ -1,9 +1,6 @@
 use Rattle.std.proofs.Common.{◌≡◌, ℕ, ◌+◌, sym, ap, ◌∙◌, subst}
 use Rattle.std.specs.Prelude.{option_map}
-use Rattle.turn_defs.specs.Turns.{land}
-use Rattle.turn_defs.specs.Server.{ServerKept, land_server}
-use Rattle.registry_server.specs.Stations.{setting}
-use Rattle.registry_server.specs.Cores.{Stands, changed, note_of}
+use Rattle.registry_server.proofs.Words.{land, ServerKept, land_server, setting, Stands, changed, note_of}
 use Rattle.registry_server.proofs.server_core.ServerCore.keep.Goals as goal
 
 pub returns-clause-kept : goal.returns-clause-kept

@@ -1,7 +1,5 @@
 use Rattle.std.proofs.Common.{◌<◌, ◌≤◌, get_or, subst, ap, ◌∙◌}
-use Rattle.turn_defs.specs.declared.limits.TheConstants.{LAST_SLOT}
-use Rattle.std.proofs.lemmas.Result.{IfOk-weaker}
-use Rattle.registry_server.specs.Rowed.{proposes_if}
+use Rattle.registry_server.proofs.Words.{LAST_SLOT, IfOk-weaker, proposes_if}
 use Rattle.registry_server.proofs.Rowing.{same_row}
 use Rattle.registry_server.proofs.Standing.{own_spent, own_none, own_is, is_at, for_setting}
 use Rattle.registry_server.proofs.server_core.ServerCore.own.Goals as goal

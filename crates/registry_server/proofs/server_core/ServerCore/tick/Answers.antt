@@ -1,7 +1,5 @@
 use Rattle.std.proofs.Common.{◌≡◌, ◌++◌, ◌-◌, ◌<◌, length, get_or, refl, sym, subst, ap, ◌∙◌, arith}
-use Rattle.turn_defs.specs.Setting.{Setting, shards}
-use Rattle.turn_defs.specs.Server.{again, all_again}
-use Rattle.registry_server.specs.Stations.{sent}
+use Rattle.registry_server.proofs.Words.{Setting, shards, again, all_again, sent}
 use Rattle.registry_server.proofs.Standing.{again_more, again_all, table_shards, stands_at}
 use Rattle.registry_server.proofs.server_core.ServerCore.tick.Goals as goal
 

@@ -1,8 +1,5 @@
 use Rattle.std.proofs.Common.{◌≡◌, ◌-◌, ◌++◌}
-use Rattle.turn_defs.specs.Setting.{Setting, shards}
-use Rattle.turn_defs.specs.Server.{ServerKept, ServerLive, all_again}
-use Rattle.registry_server.specs.Stations.{sent}
-use Rattle.registry_server.specs.Cores.{Stands}
+use Rattle.registry_server.proofs.Words.{Setting, shards, ServerKept, ServerLive, all_again, sent, Stands}
 use Rattle.registry_server.proofs.server_core.ServerCore.tick.Given as goal
 
 -- the packets so far, and those of the shards that are left

@@ -1,7 +1,5 @@
 use Rattle.std.proofs.Common.{◌≡◌, ◌&&◌, ◌^◌, ◌-◌, true, is_some, sym, subst, ap, ◌∙◌}
-use Rattle.std.proofs.lemmas.Bool.{lt-ltb}
-use Rattle.turn_defs.specs.Setting.{shards}
-use Rattle.turn_defs.specs.Server.{first_shard, may_propose, is_below_limit}
+use Rattle.registry_server.proofs.Words.{lt-ltb, shards, first_shard, may_propose, is_below_limit}
 use Rattle.registry_server.proofs.server_core.ServerCore.wants.Goals as goal
 
 pub returns-then-self-lt-LAST_SLOT : goal.returns-then-self-lt-LAST_SLOT

@@ -1,8 +1,5 @@
 use Rattle.std.proofs.Common.{◌++◌, List, refl, ap, ◌∙◌}
-use Rattle.turn_defs.specs.declared.packet.Packet.{Packet}
-use Rattle.turn_defs.specs.declared.node.Node.{Node}
-use Rattle.turn_defs.specs.Server.{reply}
-use Rattle.registry_server.specs.Stations.{setting, sent}
+use Rattle.registry_server.proofs.Words.{Packet, Node, reply, setting, sent}
 use Rattle.registry_server.proofs.Rowing.{replayed_gives}
 use Rattle.registry_server.proofs.shard.Shard.claimed.Goals as goal
 

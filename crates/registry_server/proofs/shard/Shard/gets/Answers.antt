@@ -1,10 +1,5 @@
 use Rattle.std.proofs.Common.{sym, subst, ap, ◌∙◌}
-use Rattle.std.proofs.lemmas.Result.{IfOk-weaker}
-use Rattle.turn_defs.specs.declared.node.Node.{Node}
-use Rattle.turn_defs.specs.Server.{server_gets}
-use Rattle.registry_server.specs.Stations.{setting}
-use Rattle.registry_server.specs.Rowed.{FitsAt}
-use Rattle.registry_server.specs.declared.turn.Change.{Change}
+use Rattle.registry_server.proofs.Words.{IfOk-weaker, Node, server_gets, setting, FitsAt, Change}
 use Rattle.registry_server.proofs.Rowing.{same_row}
 use Rattle.registry_server.proofs.Hearing.{from_one, from_none, heard_insert, heard_chosen}
 use Rattle.registry_server.proofs.shard.Shard.gets.Goals as goal

@@ -1,12 +1,5 @@
 use Rattle.std.proofs.Common.{◌≡◌, ◌++◌, ◌∷◌, [], List, true, false, sym, ap, ◌∙◌, rules}
-use Rattle.paxos_defs.specs.declared.Place.{Place}
-use Rattle.turn_defs.specs.declared.packet.Packet.{Packet}
-use Rattle.turn_defs.specs.declared.packet.Packet.TheVariants.{Chosen}
-use Rattle.turn_defs.specs.declared.node.Node.{Node}
-use Rattle.turn_defs.specs.declared.node.Node.TheVariants.{Server}
-use Rattle.turn_defs.specs.declared.node.To.TheVariants.{Only}
-use Rattle.std.proofs.lemmas.Result.{IfOk-weaker}
-use Rattle.registry_server.specs.Stations.{setting, sent}
+use Rattle.registry_server.proofs.Words.{Place, Packet, Chosen, Node, Server, Only, IfOk-weaker, setting, sent}
 use Rattle.registry_server.proofs.Rowing.{same_row}
 use Rattle.registry_server.proofs.Answering.{accepted_none, counted_gives, accept_fits, chosen_gives}
 use Rattle.registry_server.proofs.shard.Shard.gets_accepted.Goals as goal

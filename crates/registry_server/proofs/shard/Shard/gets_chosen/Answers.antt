@@ -1,6 +1,5 @@
 use Rattle.std.proofs.Common.{arith}
-use Rattle.std.proofs.lemmas.Result.{IfOk-weaker}
-use Rattle.registry_server.specs.Stations.{setting}
+use Rattle.registry_server.proofs.Words.{IfOk-weaker, setting}
 use Rattle.registry_server.proofs.Rowing.{same_row}
 use Rattle.registry_server.proofs.Answering.{told_other, told_high, told_gives}
 use Rattle.registry_server.proofs.shard.Shard.gets_chosen.Goals as goal

@@ -1,4 +1,4 @@
-use Rattle.registry_server.specs.Stations.{setting}
+use Rattle.registry_server.proofs.Words.{setting}
 use Rattle.registry_server.proofs.Rowing.{same_row}
 use Rattle.registry_server.proofs.Answering.{nack_none}
 use Rattle.registry_server.proofs.shard.Shard.gets_nack.Goals as goal

@@ -1,10 +1,6 @@
 use Rattle.std.proofs.Common.{subst}
 use Rattle.std.specs.Prelude.{Option}
-use Rattle.ballot_core.specs.declared.Ballot.{Ballot}
-use Rattle.registry_state.specs.declared.Batch.{Batch}
-use Rattle.registry_server.specs.Cores.{IsStep}
-use Rattle.registry_server.specs.declared.shard.Step.TheVariants.{Promise}
-use Rattle.registry_server.specs.Stations.{setting}
+use Rattle.registry_server.proofs.Words.{Ballot, Batch, IsStep, Promise, setting}
 use Rattle.registry_server.proofs.Rowing.{same_row}
 use Rattle.registry_server.proofs.Answering.{promise_none, promise_gives}
 use Rattle.registry_server.proofs.shard.Shard.gets_promise.Goals as goal

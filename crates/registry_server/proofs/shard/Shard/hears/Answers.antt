@@ -1,8 +1,5 @@
 use Rattle.std.proofs.Common.{sym, subst}
-use Rattle.std.proofs.lemmas.Result.{IfOk-weaker}
-use Rattle.registry_server.specs.Stations.{setting}
-use Rattle.registry_server.specs.Rowed.{FitsAt}
-use Rattle.registry_server.specs.declared.turn.Change.{Change}
+use Rattle.registry_server.proofs.Words.{IfOk-weaker, setting, FitsAt, Change}
 use Rattle.registry_server.proofs.Rowing.{same_row}
 use Rattle.registry_server.proofs.Hearing.{unheard, heard_promise, heard_accepted, heard_nack}
 use Rattle.registry_server.proofs.shard.Shard.hears.Goals as goal

@@ -1,6 +1,5 @@
 use Rattle.std.proofs.Common.{sym, subst}
-use Rattle.registry_server.specs.ShardStates.{IsShard, stepped}
-use Rattle.registry_server.specs.declared.shard.Step.{Step}
+use Rattle.registry_server.proofs.Words.{IsShard, stepped, Step}
 use Rattle.registry_server.proofs.shard.Shard.keep.Goals as goal
 
 pub returns-in-Queue : goal.returns-in-Queue

@@ -1,8 +1,5 @@
 use Rattle.std.proofs.Common.{◌++◌, List, ap, ◌∙◌}
-use Rattle.registry_state.specs.declared.Insert.{Insert}
-use Rattle.registry_state.specs.declared.Answer.{Answer}
-use Rattle.registry_server.specs.Replies.{each_reply}
-use Rattle.registry_server.specs.Stations.{setting, sent}
+use Rattle.registry_server.proofs.Words.{Insert, Answer, each_reply, setting, sent}
 use Rattle.registry_server.proofs.Rowing.{learned_gives}
 use Rattle.registry_server.proofs.shard.Shard.learned.Goals as goal
 

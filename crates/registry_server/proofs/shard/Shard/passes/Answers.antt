@@ -1,7 +1,5 @@
 use Rattle.std.proofs.Common.{ap, sym, ◌∙◌}
-use Rattle.registry_server.specs.Stations.{setting}
-use Rattle.registry_server.specs.ShardStates.{passes}
-use Rattle.registry_server.specs.declared.shard.Test.{Test}
+use Rattle.registry_server.proofs.Words.{setting, passes, Test}
 use Rattle.registry_server.proofs.shard.Shard.passes.Goals as goal
 
 pub returns-in-MayPropose : goal.returns-in-MayPropose

@@ -1,15 +1,6 @@
 use Rattle.std.proofs.Common.{◌++◌, List, ap, sym, ◌∙◌, ◌≡◌, true, false, ◌+◌, ◌≤◌, take, rules, arith}
 use Rattle.std.specs.Prelude.{min}
-use Rattle.ballot_core.specs.declared.Ballot.{Ballot}
-use Rattle.paxos_defs.specs.declared.Place.{Place}
-use Rattle.registry_state.specs.Registry.{batch_of}
-use Rattle.batch_queue.specs.Queue.{waiting}
-use Rattle.turn_defs.specs.declared.packet.Packet.TheVariants.{Prepare}
-use Rattle.turn_defs.specs.Server.{to_replicas}
-use Rattle.std.proofs.lemmas.Bool.{cond-false}
-use Rattle.turn_defs.specs.declared.packet.Packet.{Packet}
-use Rattle.turn_defs.specs.declared.node.Node.{Node}
-use Rattle.registry_server.specs.Stations.{setting, sent}
+use Rattle.registry_server.proofs.Words.{Ballot, Place, batch_of, waiting, Prepare, to_replicas, cond-false, Packet, Node, setting, sent}
 use Rattle.registry_server.proofs.Rowing.{proposed_gives, same_row}
 use Rattle.registry_server.proofs.shard.Shard.propose.Goals as goal
 

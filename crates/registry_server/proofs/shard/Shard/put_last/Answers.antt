@@ -1,5 +1,5 @@
 use Rattle.std.proofs.Common.{arith}
-use Rattle.batch_queue.specs.Queue.{waiting}
+use Rattle.registry_server.proofs.Words.{waiting}
 use Rattle.registry_server.proofs.Queueing.{put_is}
 use Rattle.registry_server.proofs.Keeping.{queue_kept}
 use Rattle.registry_server.proofs.shard.Shard.put_last.Goals as goal

@@ -1,0 +1,93 @@
+-- The words of this crate's proofs: what they take from its definitions and from the crates below, under one name each.
+pub use Rattle.air_bus.specs.declared.entry.Entry.TheVariants.{Begin, End, Stop}
+pub use Rattle.air_bus.specs.declared.entry.Input.{Input as Bytes}
+pub use Rattle.ballot_core.proofs.Order.{ballots_total, same_true}
+pub use Rattle.ballot_core.specs.Ballots.{is_below, is_same}
+pub use Rattle.ballot_core.specs.declared.Ballot.{Ballot}
+pub use Rattle.ballot_core.specs.declared.TheConstants.{LAST_EPOCH}
+pub use Rattle.batch_queue.proofs.Answering.{answered-append}
+pub use Rattle.batch_queue.specs.Queue.{waiting}
+pub use Rattle.batch_queue.specs.Waiting.{HasNoPlace, IsUnanswered, answered, has_token, replays, unanswered as left_of, with_last}
+pub use Rattle.batch_queue.specs.declared.queue.BatchQueue.{BatchQueue}
+pub use Rattle.batch_queue.specs.declared.queue.Put.{Put}
+pub use Rattle.batch_queue.specs.declared.queue.Put.TheVariants.{Full}
+pub use Rattle.epoch_journal.specs.Epochs.{IsLeft, Keeps, KeepsOr, epochs}
+pub use Rattle.epoch_journal.specs.declared.epochs.Epochs.{Epochs}
+pub use Rattle.event_id.specs.EventId.{is_same as same_id}
+pub use Rattle.event_id.specs.declared.id.EventId.{EventId}
+pub use Rattle.gate_journal.proofs.Growth.{continues_same, continues_through}
+pub use Rattle.gate_journal.specs.Fold.{read_as}
+pub use Rattle.gate_journal.specs.Growth.{Continues}
+pub use Rattle.gate_journal.specs.Opening.{IsOpened}
+pub use Rattle.gate_journal.specs.declared.journal.JournalState.{JournalState}
+pub use Rattle.gate_journal.specs.declared.journal.JournalState.TheVariants.{Ready}
+pub use Rattle.id_expiry.specs.declared.timed.TimedRegistry.{TimedRegistry}
+pub use Rattle.list_words.proofs.Lists.{at_set, each_append}
+pub use Rattle.list_words.specs.Lists.{Each, set_at}
+pub use Rattle.outside.proofs.Moments.{joins, weaker}
+pub use Rattle.outside.specs.Disk.{Throughout}
+pub use Rattle.paxos_defs.specs.Attempts.{Phase, is_most, is_new, nobody, on_accepted, on_promise, with_acceptance, with_promise}
+pub use Rattle.paxos_defs.specs.Attempts.Phase.{Accepting, Ended, Promising}
+pub use Rattle.paxos_defs.specs.Turns.{higher, value_for}
+pub use Rattle.paxos_defs.specs.declared.Place.{Place}
+pub use Rattle.paxos_proposer.specs.Proposals.{IsSameProposal, acceptance_turn, ballot_of, own_of, phase_of, promise_turn}
+pub use Rattle.paxos_proposer.specs.declared.proposer.Proposer.{Proposer}
+pub use Rattle.registry_server.specs.Cores.{Begins, Carries, CarriesStart, Gives, IsStep, IsTurn, Serves, Stands, changed, note_of, site_of}
+pub use Rattle.registry_server.specs.Kept.{kept_images}
+pub use Rattle.registry_server.specs.Node.{Holds, HoldsOr, IsNotPrepared, KeptOn, OnDisk, OnDiskOr, ServerState, StandsAt, is_spent_at, recorded, spent_at}
+pub use Rattle.registry_server.specs.Registrars.{Fits, IsNextNote, IsRow, IsSpelledCore, IsSpelledTurn, Knows, KnowsAs, Makes, MayRaise, RegistrarView, ServesSite, SiteKept, landed, server_rows}
+pub use Rattle.registry_server.specs.Replies.{each_reply}
+pub use Rattle.registry_server.specs.Rowed.{FitsAt, IsAt, accept_all, current_in, current_of, learns_behind, number_of, proposes_if}
+pub use Rattle.registry_server.specs.ShardStates.{EachStands, IsShard, NotLast, counts_accepted, counts_promise, is_going, passes, proposal_of, put_last, stepped}
+pub use Rattle.registry_server.specs.Spelled.{IsSpelledIf, IsSpelledLive, IsSpelledPhase, IsSpelledPlan, IsSpelledProposal, IsSpelledShard}
+pub use Rattle.registry_server.specs.Stations.{request, sent, setting}
+pub use Rattle.registry_server.specs.declared.server_core.ServerCore.{ServerCore}
+pub use Rattle.registry_server.specs.declared.shard.Shard.{Shard}
+pub use Rattle.registry_server.specs.declared.shard.Step.{Step}
+pub use Rattle.registry_server.specs.declared.shard.Step.TheVariants.{Accept, Learn, Promise, Propose, Queue}
+pub use Rattle.registry_server.specs.declared.shard.Test.{Test}
+pub use Rattle.registry_server.specs.declared.shard.Test.TheVariants.{IsBelowHorizon}
+pub use Rattle.registry_server.specs.declared.station.Station.{Station}
+pub use Rattle.registry_server.specs.declared.turn.Change.{Change}
+pub use Rattle.registry_server.specs.declared.turn.ServerInput.{ServerInput}
+pub use Rattle.registry_server.specs.declared.turn.ServerNote.{ServerNote}
+pub use Rattle.registry_server.specs.declared.turn.Turn.{Turn}
+pub use Rattle.registry_state.specs.LookBack.{bound_of, first_in, first_insert, or_else, replay, replay_held}
+pub use Rattle.registry_state.specs.Registry.{batch_of}
+pub use Rattle.registry_state.specs.Same.{same_token}
+pub use Rattle.registry_state.specs.declared.Answer.{Answer}
+pub use Rattle.registry_state.specs.declared.Answer.TheVariants.{Duplicate, Granted, TooOld}
+pub use Rattle.registry_state.specs.declared.Batch.{Batch}
+pub use Rattle.registry_state.specs.declared.Insert.{Insert}
+pub use Rattle.registry_state.specs.declared.Token.{Token}
+pub use Rattle.site_node.specs.Bytes.{AreSpelled, IsInput, IsJunk, Reads, record_of}
+pub use Rattle.site_node.specs.Rosters.{IsOf}
+pub use Rattle.site_node.specs.States.{Leads, MayTake, Stops, closes, row, row_of, written}
+pub use Rattle.site_node.specs.declared.kind.NodeFault.{NodeFault}
+pub use Rattle.site_node.specs.declared.roster.Roster.{Roster}
+pub use Rattle.std.proofs.lemmas.Bool.{and_cases, and_from, and_left, and_parts, and_right, cases_eq, cases_lt, cond-false, cond-true, cond_both, eq-eqb, eqb-true, false_from_ne_true, false≢true, le-leb, le-ltb, leb-true, lt-ltb, ltb-true, ne_eqb, or_left, or_right, true≢false}
+pub use Rattle.std.proofs.lemmas.Cmp.{tied_itself}
+pub use Rattle.std.proofs.lemmas.List.{append-nil, append_assoc, drop_all, get_or-set_other, get_or-set_same, get_or_append_left, get_or_at, length-append, length-set, length-take, map-append, take_all, take_more}
+pub use Rattle.std.proofs.lemmas.List.Elements.{All-cons, All-nil}
+pub use Rattle.std.proofs.lemmas.Option.{cond_some, none-some, same_Some}
+pub use Rattle.std.proofs.lemmas.Result.{IfOk-weaker}
+pub use Rattle.std.specs.List.{cons_option}
+pub use Rattle.std.specs.Ordering.{is_eq}
+pub use Rattle.std.specs.Result.{result_unwrap_or}
+pub use Rattle.time_shards.specs.Shards.{shard_count}
+pub use Rattle.turn_defs.specs.Nodes.{Addressed}
+pub use Rattle.turn_defs.specs.Packets.{IsPacket}
+pub use Rattle.turn_defs.specs.Rows.{worked}
+pub use Rattle.turn_defs.specs.Server.{Proposal, ServerKept, ServerLive, ShardState, accept_if, accepted, again, all_again, claimed, empty_shard, first_shard, from_replica, gets_accepted, gets_chosen, gets_nack, gets_promise, goes_on, is_below_limit, is_current, is_free, is_next, is_own_joiner, keep_if, land_server, learns, may_propose, nacked, of_phase, owns, promised, proposes, queued, replies, reply, reply_if, server_gets, server_own, server_start, server_tick, server_turn, shard_unfinished, to_from, to_replicas, unanswered, with_shard}
+pub use Rattle.turn_defs.specs.Setting.{Setting, shard, shards}
+pub use Rattle.turn_defs.specs.Spellings.{IsAnswer, IsBallot, IsBatch, IsInsert, IsPlace, IsPrior, IsToken}
+pub use Rattle.turn_defs.specs.Turns.{Note, Out, idle, is_empty, land}
+pub use Rattle.turn_defs.specs.declared.limits.TheConstants.{LAST_SLOT}
+pub use Rattle.turn_defs.specs.declared.node.Input.{Input}
+pub use Rattle.turn_defs.specs.declared.node.Input.TheVariants.{Deliver, Own, Start, Tick}
+pub use Rattle.turn_defs.specs.declared.node.Node.{Node}
+pub use Rattle.turn_defs.specs.declared.node.Node.TheVariants.{Dispatcher, Joiner, Replica, Server}
+pub use Rattle.turn_defs.specs.declared.node.To.{To}
+pub use Rattle.turn_defs.specs.declared.node.To.TheVariants.{Only}
+pub use Rattle.turn_defs.specs.declared.packet.Packet.{Packet}
+pub use Rattle.turn_defs.specs.declared.packet.Packet.TheVariants.{Accept as AcceptPacket, Chosen, Prepare}
