@@ -26,11 +26,3 @@ none_ahead vs v i t le unclaimed unanswered = go (nat_lt i.micros (bound_of vs))
         let young : bound_of (vs ++ v ∷ []) ≤ i.micros = omega (arith, bound_of-push vs v, ltb-false i.micros (bound_of vs) e) in
         let held : first_insert (vs ++ v ∷ []) i ≡ None = first_insert-push vs v i ∙ ap (λ (o : Option Token). or_else o (first_in v.inserts i)) f ∙ nobody (first_in v.inserts i) unclaimed in
         sym (cond-false (nat_lt i.micros (bound_of (vs ++ v ∷ []))) (Some (TooOld (bound_of (vs ++ v ∷ [])))) (replay_held t (first_insert (vs ++ v ∷ []) i)) (le-ltb i.micros (bound_of (vs ++ v ∷ [])) young) ∙ ap (replay_held t) held)
-
--- the set holds nothing at first, and nothing is left at the end
-pub none_before : (x whole : Bool) → x ≡ false → whole ≡ whole → (x || whole) ≡ whole
-none_before x whole e r = ap (λ b. b || whole) e
-
-pub none_behind : (x whole : Bool) → (x || false) ≡ whole → x ≡ whole
-none_behind true whole h = h
-none_behind false whole h = h

@@ -3,17 +3,6 @@ use Rattle.std.proofs.Common.{◌≡◌, ◌<◌, Bool, true, false, not, cond, 
 use Rattle.std.specs.Prelude.{Option, Some, None}
 use Rattle.batch_queue.proofs.Words.{AllByRecursion, cond-true, cond-false, true≢false, IsDistinct-head, IsDistinct-tail, IsDistinct-cons, Token, Insert, same_token, same_token-true, same_token-refl, has_token, with_last, IsOnce, room_beside}
 
-pub put-there : (xs : List Insert) (x : Insert) → has_token xs x.token ≡ true → with_last xs x ≡ xs
-put-there xs x there = cond-true (has_token xs x.token) xs (xs ++ x ∷ []) there
-
-pub put-new : (xs : List Insert) (x : Insert) → has_token xs x.token ≡ false → with_last xs x ≡ xs ++ x ∷ []
-put-new xs x new = cond-false (has_token xs x.token) xs (xs ++ x ∷ []) new
-
--- where there is room none stands apart
-pub none_apart : (newest : Option Insert) → 0 < room_beside newest → newest ≡ None
-none_apart None h = refl
-none_apart (Some x) h = absurd (omega arith)
-
 -- ---- tokens
 
 pub same_token-flip : (a b : Token) → same_token a b ≡ same_token b a
@@ -77,15 +66,6 @@ tokens_left p (x ∷ xs) t once = go (p x) (same_token t x.token) refl (tokens_l
     go true false e r = ap (λ s. (s || all) && not (s || gone)) e ∙ r
     go false true e r = ap (λ s. (s || all) && not gone) e ∙ ap (λ g. not g) (part_none p xs t (rest_none x xs t once e)) ∙ sym (ap (λ s. s || left) e)
     go false false e r = ap (λ s. (s || all) && not gone) e ∙ r ∙ sym (ap (λ s. s || left) e)
-
--- one more of those gone
-pub tokens_gone : (old now gone rest : Bool) (s : Bool) → now ≡ cond s false old → ((now && not rest) ≡ gone) → gone ≡ gone → ((old && not (s || rest)) ≡ gone)
-tokens_gone old now gone rest true e r k = go old ∙ sym (ap (λ n. n && not rest) e) ∙ r
-  where
-    go : (b : Bool) → (b && false) ≡ (false && not rest)
-    go true = refl
-    go false = refl
-tokens_gone old now gone rest false e r k = sym (ap (λ n. n && not rest) e) ∙ r
 
 -- ---- no token twice
 

@@ -93,7 +93,3 @@ mark_at a p (x ∷ xs) (suc i) d y h lt e f =
 pub passes : (xs : List FreshLine) → first_done (map fresh_of xs) ≡ true → after_done (map fresh_of (drop 1 xs)) ≡ after_done (map fresh_of xs)
 passes [] h = refl
 passes (x ∷ xs) h = sym (cond-true x.done (after_done (map fresh_of xs)) (fresh_of x ∷ map fresh_of xs) h)
-
-pub stops : (xs : List FreshLine) → first_done (map fresh_of xs) ≡ false → map fresh_of xs ≡ after_done (map fresh_of xs)
-stops [] h = refl
-stops (x ∷ xs) h = sym (cond-false x.done (after_done (map fresh_of xs)) (fresh_of x ∷ map fresh_of xs) h)

@@ -1,39 +1,18 @@
 -- What a turn takes carries what the disks, the log and the core say.
 use Rattle.std.proofs.Common.{◌≡◌, inl, ◌<◌, ℕ, zero, suc, length, get_or, arith, Bool, true, false, ◌==◌, List, [], ◌∷◌, ◌++◌, Option, Some, None, refl, sym, ap, ◌∙◌, subst}
 use Rattle.std.specs.Prelude.{cond, is_ok, is_err, Result, Ok, Err}
-use Rattle.std.specs.Option.{option_map}
-use Rattle.log_records.specs.Lines.{ClickLine}
-use Rattle.std.proofs.lemmas.Bool.{eq-eqb, or_left, or_right}
-use Rattle.list_words.specs.Lists.{has, Distinct}
-use Rattle.list_words.proofs.Lists.{clash}
-use Rattle.log_records.specs.declared.records.ClickRec.{ClickRec as Click}
-use Rattle.turn_defs.specs.declared.node.Input.{Input}
-use Rattle.turn_defs.specs.declared.node.Input.TheVariants.{Start, Own, Tick, Deliver}
-use Rattle.turn_defs.specs.Setting.{Setting}
-use Rattle.turn_defs.specs.Dispatcher.{DispatcherKept, DispatcherLive, dispatcher_looks}
-use Rattle.dispatch_core.specs.Standing.{live_of, Stands, IsKept, IsLineAt, click_at, IsLookedUp, AreClicksAt}
-use Rattle.dispatch_core.specs.declared.dispatch.DispatchCore.{DispatchCore}
-use Rattle.dispatch_core.specs.declared.input.TakenLine.{TakenLine}
-use Rattle.dispatch_node.specs.Kept.{kept_as}
-use Rattle.dispatch_node.specs.Node.{IsAsked, Knows}
-use Rattle.dispatch_node.specs.Places.{IsReadable, StartsAt, AreLivePlaces}
+use Rattle.dispatch_node.proofs.Words.{option_map, ClickLine, eq-eqb, or_left, or_right, has, Distinct, clash, Click, Input, Start, Setting, DispatcherKept, DispatcherLive, dispatcher_looks, live_of, Stands, IsKept, IsLineAt, click_at, IsLookedUp, AreClicksAt, DispatchCore, TakenLine, kept_as, IsAsked, Knows, IsReadable, StartsAt, AreLivePlaces}
 
 -- any input but a Start
 abbrev pub IsUp : Input → Type 0
 IsUp Start = ⊥
-IsUp Own = Unit {0}
-IsUp Tick = Unit {0}
-IsUp (Deliver from p) = Unit {0}
+IsUp _ = Unit {0}
 
 pub knows_up : (g : Setting) (core : DispatchCore) (k : DispatcherKept) (live : Option DispatcherLive) (l : DispatcherLive) (i : Input) → IsUp i → IsAsked live i l → Knows g core k live → Stands g core k l × AreLivePlaces g l
 knows_up g core k None l Start up is knows = absurd up
-knows_up g core k None l Own up is knows = absurd is
-knows_up g core k None l Tick up is knows = absurd is
-knows_up g core k None l (Deliver from p) up is knows = absurd is
+knows_up g core k None l _ up is knows = absurd is
 knows_up g core k (Some m) l Start up is knows = absurd up
-knows_up g core k (Some m) l Own up is knows = subst (λ (x : DispatcherLive). Stands g core k x × AreLivePlaces g x) is (knows.0, knows.1)
-knows_up g core k (Some m) l Tick up is knows = subst (λ (x : DispatcherLive). Stands g core k x × AreLivePlaces g x) is (knows.0, knows.1)
-knows_up g core k (Some m) l (Deliver from p) up is knows = subst (λ (x : DispatcherLive). Stands g core k x × AreLivePlaces g x) is (knows.0, knows.1)
+knows_up g core k (Some m) l _ up is knows = subst (λ (x : DispatcherLive). Stands g core k x × AreLivePlaces g x) is (knows.0, knows.1)
 
 pub kept_start : (o : ℕ) (ps qs : List ℕ) (k : DispatcherKept) → kept_as o ps ≡ k → qs ≡ ps → Distinct ps → IsKept k o qs
 kept_start o ps qs k is same once = record {

@@ -1,31 +1,17 @@
 -- A row's note is one that the disks take, and what is known goes on to fit what they keep.
 use Rattle.std.proofs.Common.{◌≡◌, ◌⊎◌, inl, inr, ⊎_elim, ℕ, ◌<◌, ◌≤◌, Bool, true, false, not, cond, ◌&&◌, ◌==◌, List, [], ◌∷◌, ◌++◌, Option, Some, None, refl, sym, ◌∙◌, ap, subst, arith}
 use Rattle.std.specs.Prelude.{option_map}
-use Rattle.std.proofs.lemmas.Bool.{eqb-true, eq-eqb, lt-ltb, or_left, or_right}
-use Rattle.list_words.specs.Lists.{Mem, has, without}
-use Rattle.list_words.proofs.Lists.{clash, option_both, has_push-or, has_push-left, has_push-false, has_without-true, has_without, has_without-false}
-use Rattle.log_records.specs.Lines.{ClickLine, at, Follow}
-use Rattle.log_records.proofs.LineOrder.{at_mem}
-use Rattle.turn_defs.specs.declared.node.Input.{Input}
-use Rattle.turn_defs.specs.declared.node.Input.TheVariants.{Start, Own, Tick, Deliver}
-use Rattle.turn_defs.specs.declared.packet.Packet.{Packet}
+use Rattle.dispatch_node.proofs.Words.{eqb-true, eq-eqb, lt-ltb, or_left, or_right, Mem, has, without, clash, option_both, cond_both, each_append, has_push-or, has_push-left, has_push-false, has_without-true, has_without, has_without-false, ClickLine, at, Follow, at_mem, Input, Start, Own, Tick, Deliver, Packet, Outcome, NoQuery, Busy, Setting, Note, Out, land, idle, DispatcherKept, DispatcherLive, Fresh, land_dispatcher, done_end, after_done, first_done, waits, mark, has_room, with_room, advances, retries, takes, taken, ends, parks, dispatcher_own, dispatcher_gets, dispatcher_joined, dispatcher_turn, dispatcher_start, told, DispatchNote, takes_note, takes_or_none, AreInOrder, Follows, IsRowTaken, IsEntry, AreKeptPlaces, AreLivePlaces}
 use Rattle.turn_defs.specs.declared.packet.Packet.TheVariants as packet
-use Rattle.turn_defs.specs.declared.packet.Outcome.{Outcome}
-use Rattle.turn_defs.specs.declared.packet.Outcome.TheVariants.{Written, Already, TooOld, NoQuery, Busy}
-use Rattle.turn_defs.specs.Setting.{Setting}
-use Rattle.turn_defs.specs.Turns.{Note, Settle, Out, land, idle}
-use Rattle.turn_defs.specs.Dispatcher.{DispatcherKept, DispatcherLive, Fresh, land_dispatcher, done_end, after_done, first_done, waits, mark, has_room, with_room, advances, retries, takes, taken, ends, parks, dispatcher_own, dispatcher_gets, dispatcher_joined, dispatcher_turn, dispatcher_start}
-use Rattle.dispatch_core.specs.Changes.{told}
-use Rattle.dispatch_core.specs.declared.turns.DispatchNote.{DispatchNote}
+use Rattle.turn_defs.specs.Turns.{Settle}
 use Rattle.dispatch_core.specs.declared.turns.DispatchNote.TheVariants as kind
-use Rattle.dispatch_node.specs.Kept.{takes_note, takes_or_none}
-use Rattle.dispatch_node.specs.Follows.{AreInOrder, Follows, IsRowTaken}
-use Rattle.dispatch_node.proofs.Places.{and_left, or_cases, by_bool}
+use Rattle.dispatch_node.proofs.Places.{and_left, or_cases, pushed, left_out, end_boundary, after_each, mark_each, waits_start}
 
--- what a row leaves
-pub record FollowsOn (k : DispatcherKept) (out : Out DispatcherLive) : Type 0 where
+-- what a row leaves: the disks take its note, and what is known then fits what they keep then, at places of the log
+pub record GoesOn (g : Setting) (k : DispatcherKept) (out : Out DispatcherLive) : Type 0 where
   pub taken : IsRowTaken k out.note
-  pub live : Follows (land land_dispatcher out.note k) out.live
+  pub fits : Follows (land land_dispatcher out.note k) out.live
+  pub places : AreKeptPlaces g k → AreKeptPlaces g (land land_dispatcher out.note k) × AreLivePlaces g out.live
 
 -- ---- the window's order
 
@@ -115,125 +101,146 @@ not_empty [] p l f m = absurd m
 not_empty (x ∷ ls) p l f (inl e) = subst (λ (y : ClickLine). y.place < y.end_) e (let a = f.0 in let b = f.1 in omega arith)
 not_empty (x ∷ ls) p l f (inr m) = not_empty ls x.end_ l f.2 m
 
-module _ (g : Setting) (site : ℕ) (k : DispatcherKept) (l : DispatcherLive) (lines : Follow 0 g.clicks) (apart : (p : ℕ) → has l.due p ≡ true → has l.trying p ≡ false) (fits : Follows k l) where
+module _ (g : Setting) (site : ℕ) (k : DispatcherKept) (l : DispatcherLive) (lines : Follow 0 g.clicks) (apart : (p : ℕ) → has l.due p ≡ true → has l.trying p ≡ false) (fits : Follows k l) (live : AreLivePlaces g l) where
   abbrev Out_ : Out DispatcherLive → Type 0
-  Out_ out = FollowsOn k out
+  Out_ out = GoesOn g k out
 
   idles : Out_ (idle l)
-  idles = record { taken = tt; live = fits }
+  idles = record { taken = tt; fits = fits; places = λ kept. (kept, live) }
 
   advance : first_done l.fresh ≡ true → Out_ (advances g site k l)
   advance done = record {
     taken = end_beyond k.offset l.fresh l.place fits.fresh done;
-    live = record { fresh = order_after k.offset l.fresh l.place fits.fresh; waiting = λ p w. fits.waiting p (waits_after l.fresh p w); due = fits.due; trying = fits.trying };
+    fits = record { fresh = order_after k.offset l.fresh l.place fits.fresh; waiting = λ p w. fits.waiting p (waits_after l.fresh p w); due = fits.due; trying = fits.trying };
+    places = λ kept. (
+      record { offset = end_boundary g k.offset l.fresh kept.offset live.fresh; pending = kept.pending },
+      record { place = live.place; fresh = after_each g l.fresh live.fresh; due = live.due; trying = live.trying },
+    );
   }
 
   retry : (p : ℕ) (ps : List ℕ) → l.due ≡ p ∷ ps → Out_ (retries g site k l p ps (at g.clicks p))
   retry p ps due =
       let own : has l.due p ≡ true = subst (λ (ds : List ℕ). has ds p ≡ true) (sym due) (or_left (p == p) (has ps p) (eq-eqb p p refl)) in
+      let still : (q : ℕ) → has ps q ≡ true → has l.due q ≡ true = λ q h. subst (λ (ds : List ℕ). has ds q ≡ true) (sym due) (or_right (p == q) (has ps q) h) in
       option_both (at g.clicks p) (retries g site k l p ps) Out_
       (λ c found. record {
         taken = tt;
-        live = record {
+        fits = record {
           fresh = fits.fresh;
           waiting = fits.waiting;
-          due = λ q h. fits.due q (subst (λ (ds : List ℕ). has ds q ≡ true) (sym due) (or_right (p == q) (has ps q) h));
+          due = λ q h. fits.due q (still q h);
           trying = λ q h. ⊎_elim (λ old. fits.trying q old) (λ new. subst (λ (n : ℕ). has k.pending n ≡ true) new (fits.due p own)) (has_push-or l.trying p q h);
         };
+        places = λ kept. (kept, record { place = live.place; fresh = live.fresh; due = λ q h. live.due q (still q h); trying = pushed g l.trying p live.trying (c, found) });
       })
       (λ none. idles)
 
-  entered : (c : ClickLine) (done : Bool) → at g.clicks l.place ≡ Some c → (done ≡ false → has k.pending c.place ≡ false) → Follows k (taken g site k l c done)
+  entered : (c : ClickLine) (done : Bool) → at g.clicks l.place ≡ Some c → (done ≡ false → has k.pending c.place ≡ false) → Follows k (taken g site k l c done) × AreLivePlaces g (taken g site k l c done)
   entered c done found none =
       let mem = at_mem g.clicks l.place c found in
-      record {
-        fresh = order_push k.offset l.fresh l.place (record { position = c.place; end_ = c.end_; click = c.click; done = done }) fits.fresh mem.1 (not_empty g.clicks 0 c lines mem.0);
-        waiting = λ q w.
-            ⊎_elim (λ old. fits.waiting q old) (λ new. subst (λ (n : ℕ). has k.pending n ≡ false) new.0 (none new.1))
-            (waits_push l.fresh (record { position = c.place; end_ = c.end_; click = c.click; done = done }) q w);
-        due = fits.due;
-        trying = fits.trying;
-      }
+      let own : at g.clicks c.place ≡ Some c = subst (λ (p : ℕ). at g.clicks p ≡ Some c) (sym mem.1) found in
+      let entry : Fresh = record { position = c.place; end_ = c.end_; click = c.click; done = done } in (
+        record {
+          fresh = order_push k.offset l.fresh l.place entry fits.fresh mem.1 (not_empty g.clicks 0 c lines mem.0);
+          waiting = λ q w. ⊎_elim (λ old. fits.waiting q old) (λ new. subst (λ (n : ℕ). has k.pending n ≡ false) new.0 (none new.1)) (waits_push l.fresh entry q w);
+          due = fits.due;
+          trying = fits.trying;
+        },
+        record { place = inr (c, mem.0, refl); fresh = each_append (IsEntry g) l.fresh (entry ∷ []) live.fresh (own, tt); due = live.due; trying = live.trying },
+      )
 
   take_line : Out_ (takes g site k l (at g.clicks l.place))
   take_line =
       option_both (at g.clicks l.place) (takes g site k l) Out_
       (λ c found.
-      by_bool Out_ (has k.pending c.place) _ _ (λ t. record { taken = tt; live = entered c true found (λ e. clash true refl e) }) (λ f. record { taken = tt; live = entered c false found (λ e. f) }))
-      (λ none. record { taken = tt; live = record { fresh = fits.fresh; waiting = fits.waiting; due = fits.due; trying = fits.trying } })
+      cond_both (has k.pending c.place) _ _ Out_
+      (λ t. let e = entered c true found (λ e. clash true refl e) in record { taken = tt; fits = e.0; places = λ kept. (kept, e.1) })
+      (λ f. let e = entered c false found (λ e. f) in record { taken = tt; fits = e.0; places = λ kept. (kept, e.1) }))
+      (λ none. record {
+        taken = tt;
+        fits = record { fresh = fits.fresh; waiting = fits.waiting; due = fits.due; trying = fits.trying };
+        places = λ kept. (kept, record { place = live.place; fresh = live.fresh; due = live.due; trying = live.trying });
+      })
 
   room : (due : List ℕ) → l.due ≡ due → Out_ (with_room g site k l due)
-  room [] e = by_bool Out_ l.ended _ _ (λ t. idles) (λ f. take_line)
+  room [] e = cond_both l.ended _ _ Out_ (λ t. idles) (λ f. take_line)
   room (p ∷ ps) e = retry p ps e
 
   own : Out_ (dispatcher_own g site k l)
-  own = by_bool Out_ (first_done l.fresh) _ _ (λ t. advance t) (λ f. by_bool Out_ (has_room l) _ _ (λ t. room l.due refl) (λ f'. idles))
+  own = cond_both (first_done l.fresh) _ _ Out_ (λ t. advance t) (λ f. cond_both (has_room l) _ _ Out_ (λ t. room l.due refl) (λ f'. idles))
+
+  marked : (p : ℕ) → AreLivePlaces g (record l { fresh = mark l.fresh p })
+  marked p = record { place = live.place; fresh = mark_each g l.fresh p live.fresh; due = live.due; trying = live.trying }
+
+  tried : (p : ℕ) → AreLivePlaces g (record l { trying = without l.trying p })
+  tried p = record { place = live.place; fresh = live.fresh; due = live.due; trying = left_out g l.trying p live.trying }
 
   end_join : (p : ℕ) → Out_ (ends g site k l p)
   end_join p =
-      by_bool Out_ (waits l.fresh p) _ _
-      (λ t. record { taken = tt; live = record { fresh = order_mark k.offset p l.fresh l.place fits.fresh; waiting = λ q w. fits.waiting q (waits_mark l.fresh p q w).0; due = fits.due; trying = fits.trying } })
-      (λ f. by_bool Out_ (has l.trying p) _ _ settle (λ f'. idles))
+      cond_both (waits l.fresh p) _ _ Out_
+      (λ t. record {
+        taken = tt;
+        fits = record { fresh = order_mark k.offset p l.fresh l.place fits.fresh; waiting = λ q w. fits.waiting q (waits_mark l.fresh p q w).0; due = fits.due; trying = fits.trying };
+        places = λ kept. (kept, marked p);
+      })
+      (λ f. cond_both (has l.trying p) _ _ Out_ settle (λ f'. idles))
     where
       settle : has l.trying p ≡ true → Out_ (record { note = Some (Settle p); packets = []; live = record l { trying = without l.trying p } })
       settle t = record {
         taken = fits.trying p t;
-        live = record {
+        fits = record {
           fresh = fits.fresh;
           waiting = λ q w. has_without-false k.pending p q (fits.waiting q w);
           due = λ q h. has_without k.pending p q (fits.due q h) (λ same. clash (has l.trying p) t (apart p (subst (λ (n : ℕ). has l.due n ≡ true) same h)));
           trying = λ q h. let w = has_without-true l.trying p q h in has_without k.pending p q (fits.trying q w.0) w.1;
         };
+        places = λ kept. (record { offset = kept.offset; pending = left_out g k.pending p kept.pending }, tried p);
       }
 
   park : (p : ℕ) → Out_ (parks g site k l p)
   park p =
-      by_bool Out_ (waits l.fresh p) _ _
+      cond_both (waits l.fresh p) _ _ Out_
       (λ t. record {
         taken = fits.waiting p t;
-        live = record {
+        fits = record {
           fresh = order_mark k.offset p l.fresh l.place fits.fresh;
           waiting = λ q w. let m = waits_mark l.fresh p q w in has_push-false k.pending p q (fits.waiting q m.0) (λ same. m.1 (sym same));
           due = λ q h. has_push-left k.pending p q (fits.due q h);
           trying = λ q h. has_push-left k.pending p q (fits.trying q h);
         };
+        places = λ kept. (record { offset = kept.offset; pending = pushed g k.pending p kept.pending (waits_start g l.fresh p live.fresh t) }, marked p);
       })
       (λ f.
-      by_bool Out_ (has l.trying p) _ _
-      (λ t. record { taken = tt; live = record { fresh = fits.fresh; waiting = fits.waiting; due = fits.due; trying = λ q h. fits.trying q (has_without-true l.trying p q h).0 } })
+      cond_both (has l.trying p) _ _ Out_
+      (λ t. record {
+        taken = tt;
+        fits = record { fresh = fits.fresh; waiting = fits.waiting; due = fits.due; trying = λ q h. fits.trying q (has_without-true l.trying p q h).0 };
+        places = λ kept. (kept, tried p);
+      })
       (λ f'. idles))
 
   joined : (p : ℕ) (o : Outcome) → Out_ (dispatcher_joined g site k l p o)
-  joined p Written = end_join p
-  joined p (Already h) = end_join p
-  joined p (TooOld b) = end_join p
   joined p (NoQuery n) = park p
   joined p Busy = idles
+  joined p _ = end_join p
 
   gets : (p : Packet) → Out_ (dispatcher_gets g site k l p)
   gets (packet.Joined p o) = joined p o
-  gets (packet.Join p c) = idles
-  gets (packet.Insert x) = idles
-  gets (packet.Reply x a) = idles
-  gets (packet.Prepare p b) = idles
-  gets (packet.Promise p b v) = idles
-  gets (packet.Nack p b c) = idles
-  gets (packet.Accept p b v) = idles
-  gets (packet.Accepted p b) = idles
-  gets (packet.Chosen p v) = idles
+  gets _ = idles
 
   -- a turn of a node that is up
-  pub turn_follows : (i : Input) → Out_ (dispatcher_turn g site k l i)
-  turn_follows Start = idles
-  turn_follows Own = own
-  turn_follows Tick = record { taken = tt; live = fits }
-  turn_follows (Deliver from p) = gets p
+  pub turn_goes : (i : Input) → Out_ (dispatcher_turn g site k l i)
+  turn_goes Start = idles
+  turn_goes Own = own
+  turn_goes Tick = record { taken = tt; fits = fits; places = λ kept. (kept, live) }
+  turn_goes (Deliver from p) = gets p
 
 -- it comes up
-pub start_follows : (k : DispatcherKept) → FollowsOn k (dispatcher_start k)
-start_follows k = record {
+pub start_goes : (g : Setting) (k : DispatcherKept) → GoesOn g k (dispatcher_start k)
+start_goes g k = record {
   taken = tt;
-  live = record { fresh = omega arith; waiting = λ p w. clash false w refl; due = λ p h. h; trying = λ p h. clash false h refl };
+  fits = record { fresh = omega arith; waiting = λ p w. clash false w refl; due = λ p h. h; trying = λ p h. clash false h refl };
+  places = λ kept. (kept, record { place = kept.offset; fresh = tt; due = kept.pending; trying = λ p h. clash false h refl });
 }
 
 -- ---- notes as the core has them

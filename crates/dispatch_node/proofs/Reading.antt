@@ -1,31 +1,9 @@
 -- What a reader of a checked log finds where a line starts, or where the last one ends.
 use Rattle.std.proofs.Common.{◌≡◌, ◌⊎◌, inl, inr, ⊎_elim, ℕ, suc, ◌+◌, ◌<◌, ◌≤◌, ◌^◌, List, [], ◌∷◌, ◌++◌, length, drop, Option, Some, None, refl, sym, ap, ◌∙◌, subst, arith}
-use Rattle.std.specs.List.{AllByRecursion}
-use Rattle.std.proofs.Math.Seq.{drop-append_seam}
-use Rattle.std.proofs.lemmas.List.{take_all}
-use Rattle.list_words.specs.Bytes.{Lacks}
-use Rattle.list_words.proofs.Splits.{split_same, lacks_none}
-use Rattle.list_words.specs.Lists.{Mem}
-use Rattle.log_records.specs.declared.records.ClickRec.{ClickRec as Click}
-use Rattle.log_records.specs.declared.why.Why.TheVariants as why
-use Rattle.log_records.specs.Line.{click_line, IsClick}
-use Rattle.log_records.specs.Log.{line_feed}
-use Rattle.log_records.specs.Lines.{ClickLine, at, placed, end_from, Follow}
-use Rattle.log_records.proofs.Grammar.{click_right}
-use Rattle.log_records.proofs.Reading.{click_lacks}
-use Rattle.log_records.proofs.LineOrder.{at_mem, at_own, within_end}
-use Rattle.log_records.proofs.Places.{lines_follow, lines_stand, lines_end}
 use Rattle.std.specs.Prelude.{Result, IfOk}
-use Rattle.std.proofs.lemmas.Result.{IfOk-weaker}
-use Rattle.tail_reader.specs.Buffered.{behind}
-use Rattle.tail_reader.specs.Next.{IsNext}
-use Rattle.tail_reader.specs.declared.tail.Next.{Next}
-use Rattle.tail_reader.specs.declared.tail.Next.TheVariants.{Line, Long, End}
-use Rattle.site_node.specs.declared.kind.NodeFault.{NodeFault}
-use Rattle.dispatch_core.specs.Standing.{IsLineAt}
-use Rattle.dispatch_core.specs.declared.input.TakenLine.{TakenLine}
-use Rattle.turn_defs.specs.Setting.{Setting}
-use Rattle.dispatch_node.specs.Places.{IsLogOf, IsReadable}
+use Rattle.dispatch_node.proofs.Words.{AllByRecursion, drop-append_seam, take_all, Lacks, split_same, lacks_none, Mem, Click, click_line, IsClick, line_feed, ClickLine, at, placed, end_from, Follow, click_right, click_lacks, at_mem, at_own, within_end, lines_follow, lines_stand, lines_end, IfOk-weaker, behind, IsNext, Next, Line, Long, NodeFault, IsLineAt, TakenLine, Setting, IsLogOf, IsReadable}
+use Rattle.log_records.specs.declared.why.Why.TheVariants as why
+use Rattle.tail_reader.specs.declared.tail.Next.TheVariants.{End}
 
 -- a line starts at p, or p is where the last one ends
 abbrev IsHere : List ClickLine → ℕ → ℕ → Type 0

@@ -1,24 +1,10 @@
 -- What a stop leaves of a dispatcher's disks, and its restart as an entry.
-use Rattle.std.proofs.Common.{◌≡◌, ◌⊎◌, inl, inr, ⊎_elim, ℕ, true, false, not, List, [], Option, Some, None, Result, Ok, refl, sym, ap, ◌∙◌, subst, arith}
+use Rattle.std.proofs.Common.{◌≡◌, ◌⊎◌, inl, inr, ⊎_elim, ℕ, true, false, not, List, Option, Some, None, Result, Ok, refl, sym, ap, ◌∙◌, subst, arith}
 use Rattle.std.specs.Prelude.{option_map}
-use Rattle.std.specs.Result.{result_unwrap_or}
-use Rattle.std.proofs.lemmas.Bool.{le-ltb}
-use Rattle.list_words.proofs.Lists.{clash, has_push-right, has_without-self}
-use Rattle.air_bus.specs.declared.entry.Entry.TheVariants.{Stop}
-use Rattle.gate_journal.specs.Opening.{IsOpened}
-use Rattle.gate_journal.specs.Fold.{read_as}
+use Rattle.dispatch_node.proofs.Words.{result_unwrap_or, le-ltb, clash, has_push-right, has_without-self, Stop, IsOpened, Fold, read_as, folds_to, gate_rule, Note, land, record_of, row, written, closes, DispatcherKept, land_dispatcher, DispatchNote, Advance, Park, Settle, landed, kept_as, takes_note, Holds, MayKeep, DispatcherState, SiteLeads, Parts, IsOpenAt, Doubts, StandsAt, StandsBy, dispatcher_rows, AreKeptPlaces, KeptOn, kept_or}
+use Rattle.gate_journal.specs.Records as of
 use Rattle.offset_journal.specs.Offsets as offsets
 use Rattle.retry_log.specs.Pending as pending
-use Rattle.turn_defs.specs.Turns.{Note, land}
-use Rattle.site_node.specs.Bytes.{record_of}
-use Rattle.site_node.specs.States.{row, written, closes}
-use Rattle.turn_defs.specs.Dispatcher.{DispatcherKept, land_dispatcher}
-use Rattle.dispatch_core.specs.declared.turns.DispatchNote.{DispatchNote}
-use Rattle.dispatch_core.specs.declared.turns.DispatchNote.TheVariants.{Advance, Park, Settle}
-use Rattle.dispatch_node.specs.Kept.{landed, kept_as, takes_note, Holds, MayKeep}
-use Rattle.dispatch_node.specs.Node.{DispatcherState, SiteLeads, Parts, IsOpenAt, Doubts, StandsAt, StandsBy, dispatcher_rows}
-use Rattle.dispatch_node.specs.Places.{AreKeptPlaces}
-use Rattle.dispatch_node.specs.Images.{KeptOn, kept_or}
 use Rattle.dispatch_node.proofs.Turning.{IsSame, stands_again}
 
 -- a note that was written isn't taken again
@@ -28,31 +14,25 @@ taken_once (Park p) k = ap not (has_push-right k.pending p)
 taken_once (Settle p) k = has_without-self k.pending p
 
 -- bytes keep one offset, and one list of positions
-ok_of : {A : Type 0} (d a b : A) (r : Result A ℕ) → r ≡ Ok a → r ≡ Ok b → a ≡ b
-ok_of {A} d a b r e f = ap (λ (x : Result A ℕ). result_unwrap_or x d) (sym e ∙ f)
+ok_of : {A : Type 0} (a b : A) (r : Result A ℕ) → r ≡ Ok a → r ≡ Ok b → a ≡ b
+ok_of {A} a b r e f = ap (λ (x : Result A ℕ). result_unwrap_or x a) (sym e ∙ f)
 
 -- what was read again is what the disk kept, or that with the note
-offset_left : (oi : List ℕ → Type 0) (old new now : ℕ) → ((c : List ℕ) → oi c → offsets.KeepsOr old new c) → offsets.IsLeft oi now → (now ≡ old) ⊎ (now ≡ new)
-offset_left oi old new now images left =
-    ⊎_elim (λ e. inl (ok_of 0 now old (offsets.offset_of left.0) left.2 e)) (λ e. inr (ok_of 0 now new (offsets.offset_of left.0) left.2 e)) (images left.0 left.1)
-
-pending_left : (ri : List ℕ → Type 0) (old new now : List ℕ) → ((c : List ℕ) → ri c → pending.KeepsOr old new c) → pending.IsLeft ri now → (now ≡ old) ⊎ (now ≡ new)
-pending_left ri old new now images left =
-    ⊎_elim (λ e. inl (ok_of [] now old (pending.pending_of left.0) left.2 e)) (λ e. inr (ok_of [] now new (pending.pending_of left.0) left.2 e)) (images left.0 left.1)
+left_of : {V : Type 0} (format : Fold V) (image : List ℕ → Type 0) (old new now : V) → ((c : List ℕ) → image c → of.KeepsOr (folds_to format) old new c) → of.IsLeft (folds_to format) image now → (now ≡ old) ⊎ (now ≡ new)
+left_of format image old new now images left =
+    let read = read_as format (gate_rule left.0) in
+    ⊎_elim (λ e. inl (ok_of now old read left.2 e)) (λ e. inr (ok_of now new read left.2 e)) (images left.0 left.1)
 
 left_kept : (n : DispatchNote) (k : DispatcherKept) (o : ℕ) (ps : List ℕ) → (o ≡ k.offset) ⊎ (o ≡ (landed n k).offset) → (ps ≡ k.pending) ⊎ (ps ≡ (landed n k).pending) → (kept_as o ps ≡ k) ⊎ (kept_as o ps ≡ landed n k)
 left_kept (Advance e) k o ps a b =
     let same : ps ≡ k.pending = ⊎_elim (λ h. h) (λ h. h) b in
     ⊎_elim (λ old. inl (λ i. kept_as (old i) (same i))) (λ new. inr (λ i. kept_as (new i) (same i))) a
-left_kept (Park p) k o ps a b =
-    let same : o ≡ k.offset = ⊎_elim (λ h. h) (λ h. h) a in
-    ⊎_elim (λ old. inl (λ i. kept_as (same i) (old i))) (λ new. inr (λ i. kept_as (same i) (new i))) b
-left_kept (Settle p) k o ps a b =
+left_kept _ k o ps a b =
     let same : o ≡ k.offset = ⊎_elim (λ h. h) (λ h. h) a in
     ⊎_elim (λ old. inl (λ i. kept_as (same i) (old i))) (λ new. inr (λ i. kept_as (same i) (new i))) b
 
 pub found : (oi ri : List ℕ → Type 0) (n : DispatchNote) (k : DispatcherKept) (o : ℕ) (ps : List ℕ) → MayKeep oi ri n k → offsets.IsLeft oi o → pending.IsLeft ri ps → (kept_as o ps ≡ k) ⊎ (kept_as o ps ≡ landed n k)
-found oi ri n k o ps images a b = left_kept n k o ps (offset_left oi k.offset (landed n k).offset o images.offset a) (pending_left ri k.pending (landed n k).pending ps images.pending b)
+found oi ri n k o ps images a b = left_kept n k o ps (left_of offsets.offsets oi k.offset (landed n k).offset o images.offset a) (left_of pending.retries ri k.pending (landed n k).pending ps images.pending b)
 
 -- the disk takes the note still: it isn't there
 pub not_landed : (n : DispatchNote) (k found_kept : DispatcherKept) → (found_kept ≡ k) ⊎ (found_kept ≡ landed n k) → takes_note found_kept n ≡ true → found_kept ≡ k

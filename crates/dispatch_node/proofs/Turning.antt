@@ -1,28 +1,11 @@
 -- A turn of a dispatcher over its disks, and its restart, as the states' entries.
 use Rattle.std.proofs.Common.{◌≡◌, ◌⊎◌, inl, inr, ⊎_elim, ℕ, ◌≤◌, true, List, [], length, Option, Some, None, refl, sym, ap, ◌∙◌, subst}
-use Rattle.std.specs.Prelude.{is_some, option_map, Result, Ok, Err, IfOk, OnOk, OnErr}
-use Rattle.air_bus.specs.declared.entry.Input.{Input as Bytes}
-use Rattle.air_bus.specs.declared.entry.Entry.TheVariants.{Begin, End}
-use Rattle.turn_defs.specs.declared.node.Input.{Input}
-use Rattle.gate_journal.specs.declared.journal.JournalState.TheVariants.{Ready}
+use Rattle.std.specs.Prelude.{is_some, option_map, Result, Ok, Err, OnErr}
+use Rattle.dispatch_node.proofs.Words.{ends_idle, ends_done, MayTake, Continues, continues_same, continues_through, IsOf, live_of, Bytes, Begin, End, Input, Setting, Note, Out, land, record_of, AreSpelled, Reads, IsJunk, State, Leads, row, written, closes, DispatcherKept, DispatcherLive, land_dispatcher, told, note_of, IsTurn, Stands, out_of, DispatchCore, Turn, DispatchNote, kept_as, takes_note, Holds, MayKeep, DispatcherState, SiteLeads, Knows, IsAsked, Parts, StandsAt, StandsBy, IsRecorded, IsTakenBy, landed_by, dispatcher_rows, IsLogOf, AreKeptPlaces, KeptOn, OnDisks, kept_or}
 use Rattle.offset_journal.specs.Offsets as offsets
 use Rattle.retry_log.specs.Pending as pending
-use Rattle.turn_defs.specs.Setting.{Setting}
-use Rattle.turn_defs.specs.Turns.{Note, Out, land}
-use Rattle.site_node.specs.Bytes.{record_of, AreSpelled, Reads, IsJunk}
-use Rattle.site_node.specs.States.{State, Leads, row, written, closes}
 use Rattle.site_node.specs.Rosters as rosters
-use Rattle.turn_defs.specs.Dispatcher.{DispatcherKept, DispatcherLive, land_dispatcher}
-use Rattle.dispatch_core.specs.Changes.{told, note_of}
-use Rattle.dispatch_core.specs.Standing.{IsTurn, Stands, out_of}
-use Rattle.dispatch_core.specs.declared.dispatch.DispatchCore.{DispatchCore}
-use Rattle.dispatch_core.specs.declared.turns.Turn.{Turn}
-use Rattle.dispatch_core.specs.declared.turns.DispatchNote.{DispatchNote}
-use Rattle.dispatch_node.specs.Kept.{kept_as, takes_note, Holds, MayKeep}
-use Rattle.dispatch_node.specs.Node.{DispatcherState, SiteLeads, Knows, IsAsked, Parts, StandsAt, StandsBy, IsRecorded, IsTakenBy, landed_by, dispatcher_rows}
-use Rattle.dispatch_node.specs.Places.{IsLogOf, AreKeptPlaces}
-use Rattle.dispatch_node.specs.Images.{KeptOn, OnDisks, kept_or}
-use Rattle.dispatch_node.proofs.Standing.{up_of, row_is, row_places, row_follows, landed_is}
+use Rattle.dispatch_node.proofs.Standing.{live_or, asked_at, row_is, row_goes, landed_is}
 
 -- the same node, whatever its core, its disks and its journals are
 pub record IsSame (p q : Parts) : Type 0 where
@@ -56,16 +39,10 @@ by_none p oi ri s none by = subst (λ (d : Option (DispatchNote × List ℕ)). S
 pub idles : (p : Parts) (oi ri : List ℕ → Type 0) (s t : DispatcherState) (n : ℕ) (b : Bytes) (ps : List (ℕ × List ℕ)) (sent : ℕ) → p.in_doubt ≡ None → StandsAt p oi ri s → SiteLeads s (Begin n b) t → IsJunk s.node.setting b → ps ≡ [] → sent ≤ length ps
     → (u : DispatcherState) × SiteLeads t (End n None ps sent) u × StandsAt p oi ri u
 idles p oi ri s t n b ps sent none at led junk empty le =
-    let g = s.node.setting in
-    let up = up_of g s.node.live b led.leads.1 junk in
-    let node : State DispatcherKept DispatcherLive = record { setting = g; kept = s.node.kept; live = s.node.live; opened = None } in
+    let node = closes s.node s.node.kept s.node.live in
     let u : DispatcherState = record { site = s.site; node = node } in (
       u,
-      record {
-        site = sym led.site;
-        leads = subst (λ (x : State DispatcherKept DispatcherLive). Leads (dispatcher_rows t.site) x (End n None ps sent) node) (sym led.leads.2)
-            (b, refl, le, inr (record { junk = junk; no_note = refl; no_packets = empty; knows = up.0; up = up.1; state = ap (λ (l : Option DispatcherLive). record { setting = g; kept = s.node.kept; live = l; opened = None }) up.1 }));
-      },
+      record { site = sym led.site; leads = ends_idle (dispatcher_rows t.site) s.node t.node n b ps sent led.leads le junk empty },
       stands_again p p oi ri oi ri s node at (record { site = refl; roster = refl; own_core = refl; joiners = refl; log = refl }) refl at.places (by_none p oi ri u none (quiet p oi ri s none at)),
     )
 
@@ -85,6 +62,14 @@ pub record IsDecided (s : DispatcherState) (site : ℕ) (b : Bytes) (i : Input) 
   pub asked : IsAsked s.node.live i l
   pub turn_is : IsTurn s.node.setting core s.node.kept l turn (out_of s.node.setting site s.node.kept l i)
   pub recorded : IsRecorded (note_of turn.change) written_note
+
+pub decides : (p : Parts) (oi ri : List ℕ → Type 0) (s : DispatcherState) (b : Bytes) (i : Input) (core : DispatchCore) (turn : Turn) (w : Option (DispatchNote × List ℕ)) → p.in_doubt ≡ None → StandsAt p oi ri s → MayTake s.node.live b → Reads s.node.setting b i
+    → ((g : Setting) (k : DispatcherKept) (live : Option DispatcherLive) (l : DispatcherLive) → IsLogOf p.log g → kept_as p.offset p.pending ≡ k → IsOf g p.core → Knows g p.core k live → IsAsked live i l → IsTurn g core k l turn (out_of g p.core.dealer.site k l i)) → IsRecorded (note_of turn.change) w
+    → IsDecided s p.core.dealer.site b i (live_or (live_of p.core) s.node.live) core turn w
+decides p oi ri s b i core turn w none at may reads row recorded =
+    let known = quiet p oi ri s none at in
+    let asked = asked_at s.node.setting (live_of p.core) s.node.live b i reads may in
+    record { site_is = at.own_core ∙ at.site; reads = reads; asked = asked; turn_is = row s.node.setting s.node.kept s.node.live _ at.log known.0.kept at.core known.1 asked; recorded = recorded }
 
 module _ (s : DispatcherState) (site : ℕ) (b : Bytes) (i : Input) (l : DispatcherLive) (core : DispatchCore) (turn : Turn) (w : Option (DispatchNote × List ℕ)) (d : IsDecided s site b i l core turn w) where
   abbrev here : Out DispatcherLive
@@ -126,31 +111,16 @@ ends p q oi ri oj rj s t n site b i l core turn w said ps ready sent at led same
     let node : State DispatcherKept DispatcherLive = closes s.node k (Some out.live) in
     let u : DispatcherState = record { site = s.site; node = node } in
     let knows = (quiet p oi ri s none at).1 in
-    let places = row_places g s.site p.core s.node.kept s.node.live l i d.asked at.places knows in
-    let follows = row_follows g s.site p.log p.core s.node.kept s.node.live l i at.log d.asked knows in (
+    let goes = row_goes g s.site p.log p.core s.node.kept s.node.live l i at.log d.asked knows in
+    let places = goes.places at.places in (
       u,
       record {
         site = sym led.site;
         leads = subst (λ (m : ℕ). Leads (dispatcher_rows m) t.node (End n said ps sent) node) (sym led.site)
-            (subst (λ (x : State DispatcherKept DispatcherLive). Leads (dispatcher_rows s.site) x (End n said ps sent) node) (sym led.leads.2) (
-              b,
-              refl,
-              le,
-              inl (
-                i,
-                d.reads,
-                record {
-                  noted = said_is ∙ (row_note s site b i l core turn w d).bytes;
-                  packets = turn.packets.items;
-                  spelled = subst (AreSpelled turn.packets.items) (sym ps_is) spelled;
-                  sent = is.packets;
-                  state = refl;
-                },
-              ),
-            ));
+            (ends_done (dispatcher_rows s.site) s.node t.node n b ps sent led.leads le i said turn.packets.items d.reads (said_is ∙ (row_note s site b i l core turn w d).bytes) (subst (AreSpelled turn.packets.items) (sym ps_is) spelled) is.packets);
       },
-      stands_again p q oi ri oj rj s node at same refl places.kept
-          (by_none q oj rj u none' (subst (λ (x : DispatcherKept). Holds q.offset_state q.retry_state q.offset q.pending x) (row_lands s site b i l core turn w d) holds, (stands out is, places.live, follows.live))),
+      stands_again p q oi ri oj rj s node at same refl places.0
+          (by_none q oj rj u none' (subst (λ (x : DispatcherKept). Holds q.offset_state q.retry_state q.offset q.pending x) (row_lands s site b i l core turn w d) holds, (stands out is, places.1, goes.fits))),
     )
 
 -- the turn isn't done, and nothing but room has changed
@@ -175,7 +145,7 @@ doubted p q oi ri oj rj s t n site b i l core turn x at led same none some d tak
     let k = s.node.kept in
     let u = opened s b in
     let note = row_note s site b i l core turn (Some x) d in
-    let places = (row_places g s.site p.core k s.node.live l i d.asked at.places (quiet p oi ri s none at).1).kept in
+    let places = ((row_goes g s.site p.log p.core k s.node.live l i at.log d.asked (quiet p oi ri s none at).1).places at.places).0 in
     let by : StandsBy (Some x) q oj rj u = (
       record { images = images; takes = takes; places = subst (λ (m : Option Note). AreKeptPlaces g (land land_dispatcher m k)) (sym note.note_is) places },
       record { begun = b; opened = refl; input = i; reads = d.reads; noted = sym note.note_is; bytes_are = some_bytes x.1 (record_of (told x.0)) (note.bytes ∙ ap (option_map record_of) (sym note.note_is)) },
@@ -188,16 +158,6 @@ doubted p q oi ri oj rj s t n site b i l core turn x at led same none some d tak
 
     some_bytes : (r r' : List ℕ) → Some r ≡ Some r' → r ≡ r'
     some_bytes r r' e = ap bytes_in e
-
--- ---- results
-
-pub all_five : {T E : Type 0} (r : Result T E) (A B Q : T → Type 0) (C D F : Type 0) → IfOk r A → IfOk r B → OnOk r C → OnOk r D → OnOk r F → ((x : T) → A x → B x → C → D → F → Q x) → IfOk r Q
-all_five (Ok x) A B Q C D F a b c d f go = go x a b c d f
-all_five (Err e) A B Q C D F a b c d f go = tt
-
-pub on_err : {T E : Type 0} (r : Result T E) (A Q : Type 0) → OnErr r A → (A → Q) → OnErr r Q
-on_err (Ok x) A Q a go = tt
-on_err (Err e) A Q a go = go a
 
 -- ---- what a written note makes
 
@@ -221,13 +181,14 @@ images_at w x o ps oj rj k e same a b =
     })
 
 -- at a moment before the append the disk keeps what it kept; from then on that, or that with the note
-pub offset_at : {B : Type 0} (w : Option (DispatchNote × List ℕ)) (old mid : DispatcherKept) (k : DispatcherKept) (c : List ℕ) → old ≡ k → mid ≡ old → (B → offsets.Keeps old.offset c) → B ⊎ offsets.KeepsOr mid.offset (landed_by w mid).offset c → offsets.KeepsOr k.offset (landed_by w k).offset c
-offset_at w old mid k c is same before both =
-    ⊎_elim (λ b. inl (subst (λ (x : DispatcherKept). offsets.Keeps x.offset c) is (before b))) (λ now. subst (λ (x : DispatcherKept). offsets.KeepsOr x.offset (landed_by w x).offset c) (same ∙ is) now) both
+pub part_at : {V B : Type 0} (keeps : V → List ℕ → Type 0) (part : DispatcherKept → V) (w : Option (DispatchNote × List ℕ)) (old mid k : DispatcherKept) (c : List ℕ) → old ≡ k → mid ≡ old → (B → keeps (part old) c) → B ⊎ (keeps (part mid) c ⊎ keeps (part (landed_by w mid)) c)
+    → keeps (part k) c ⊎ keeps (part (landed_by w k)) c
+part_at keeps part w old mid k c is same before both =
+    ⊎_elim (λ b. inl (subst (λ (x : DispatcherKept). keeps (part x) c) is (before b))) (λ now. subst (λ (x : DispatcherKept). keeps (part x) c ⊎ keeps (part (landed_by w x)) c) (same ∙ is) now) both
 
-pub pending_at : {B : Type 0} (w : Option (DispatchNote × List ℕ)) (old mid : DispatcherKept) (k : DispatcherKept) (c : List ℕ) → old ≡ k → mid ≡ old → (B → pending.Keeps old.pending c) → B ⊎ pending.KeepsOr mid.pending (landed_by w mid).pending c → pending.KeepsOr k.pending (landed_by w k).pending c
-pending_at w old mid k c is same before both =
-    ⊎_elim (λ b. inl (subst (λ (x : DispatcherKept). pending.Keeps x.pending c) is (before b))) (λ now. subst (λ (x : DispatcherKept). pending.KeepsOr x.pending (landed_by w x).pending c) (same ∙ is) now) both
+-- a disk goes on where only room is made before it goes on
+pub grows_through : (a b c : List ℕ → Type 0) → ((x : List ℕ) → b x → a x) → ((x : List ℕ) → c x → Continues b x) → (x : List ℕ) → c x → Continues a x
+grows_through a b c made grown x now = continues_through a b (λ y here. continues_same a y (made y here)) x (grown x now)
 
 pub if_err : {T E : Type 0} (r : Result T E) (Q : Type 0) → Q → OnErr r Q
 if_err (Ok x) Q q = tt

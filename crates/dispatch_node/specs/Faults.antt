@@ -4,16 +4,13 @@ use Rattle.outside.specs.declared.store.DiskName.{DiskName}
 use Rattle.gate_journal.specs.declared.reading.JournalFault.{JournalFault}
 use Rattle.gate_journal.specs.declared.reading.JournalFault.TheVariants as journal
 use Rattle.site_node.specs.declared.kind.NodeFault.{NodeFault}
-use Rattle.site_node.specs.declared.kind.NodeFault.TheVariants.{Stopped, Disk, Damaged, Read, Spent, Memory}
+use Rattle.site_node.specs.declared.kind.NodeFault.TheVariants.{Disk, Damaged, Read, Memory}
 
 -- a log couldn't be read, or there was no memory
 abbrev pub IsReadFault : NodeFault → Type 0
-IsReadFault Stopped = ⊥
-IsReadFault (Disk disk) = ⊥
-IsReadFault (Damaged disk at) = ⊥
 IsReadFault Read = ⊤
-IsReadFault (Spent e) = ⊥
 IsReadFault Memory = ⊤
+IsReadFault _ = ⊥
 
 -- what a node tells of a journal that isn't opened
 abbrev pub fault_told : DiskName → JournalFault → NodeFault

@@ -9,7 +9,7 @@ use Rattle.turn_defs.specs.Turns.{Note, land}
 use Rattle.site_node.specs.States.{written, MayHold}
 use Rattle.turn_defs.specs.Dispatcher.{DispatcherKept, land_dispatcher}
 use Rattle.dispatch_core.specs.declared.turns.DispatchNote.{DispatchNote}
-use Rattle.dispatch_core.specs.declared.turns.DispatchNote.TheVariants.{Advance, Park, Settle}
+use Rattle.dispatch_core.specs.declared.turns.DispatchNote.TheVariants.{Advance}
 use Rattle.dispatch_node.specs.Kept.{landed, kept_as}
 use Rattle.dispatch_node.specs.Node.{DispatcherState, Parts, StandsAt, StandsBy, dispatcher_rows}
 
@@ -30,10 +30,7 @@ pub kept_or : (n : DispatchNote) (k : DispatcherKept) (c : List ℕ × List ℕ)
 kept_or (Advance e) k c o p =
     let same : pending.Keeps k.pending c.1 = ⊎_elim (λ h. h) (λ h. h) p in
     ⊎_elim (λ old. inl (old, same)) (λ new. inr (new, same)) o
-kept_or (Park q) k c o p =
-    let same : offsets.Keeps k.offset c.0 = ⊎_elim (λ h. h) (λ h. h) o in
-    ⊎_elim (λ old. inl (same, old)) (λ new. inr (same, new)) p
-kept_or (Settle q) k c o p =
+kept_or _ k c o p =
     let same : offsets.Keeps k.offset c.0 = ⊎_elim (λ h. h) (λ h. h) o in
     ⊎_elim (λ old. inl (same, old)) (λ new. inr (same, new)) p
 

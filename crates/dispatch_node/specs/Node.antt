@@ -4,7 +4,7 @@ use Rattle.gate_journal.specs.declared.journal.JournalState.{JournalState}
 use Rattle.air_bus.specs.declared.entry.Input.{Input as Bytes}
 use Rattle.air_bus.specs.declared.entry.Entry.{Entry}
 use Rattle.turn_defs.specs.declared.node.Input.{Input}
-use Rattle.turn_defs.specs.declared.node.Input.TheVariants.{Start, Own, Tick, Deliver}
+use Rattle.turn_defs.specs.declared.node.Input.TheVariants.{Start}
 use Rattle.turn_defs.specs.Setting.{Setting}
 use Rattle.turn_defs.specs.Turns.{Note}
 use Rattle.site_node.specs.Bytes.{record_of, AreSpelled, Reads}
@@ -52,13 +52,9 @@ Knows g core k (Some l) = Stands g core k l × AreLivePlaces g l × Follows k l
 -- a node that is down takes Start, whatever its core holds, and one that is up doesn't
 abbrev pub IsAsked : Option DispatcherLive → Input → DispatcherLive → Type 0
 IsAsked None Start l = Unit {0}
-IsAsked None Own l = ⊥
-IsAsked None Tick l = ⊥
-IsAsked None (Deliver from p) l = ⊥
+IsAsked None _ l = ⊥
 IsAsked (Some m) Start l = ⊥
-IsAsked (Some m) Own l = m ≡ l
-IsAsked (Some m) Tick l = m ≡ l
-IsAsked (Some m) (Deliver from p) l = m ≡ l
+IsAsked (Some m) _ l = m ≡ l
 
 -- what a node is made of, but for the images of its disks
 pub record Parts : Type 0 where

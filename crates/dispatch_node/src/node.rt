@@ -51,11 +51,10 @@ impl<D: Disk, L: LogFile> DispatchNode<D, L> {
     ghost use Rattle.offset_journal.specs.Offsets as offsets;
     ghost use Rattle.retry_log.specs.Pending as pending;
     ghost use Rattle.turn_defs.specs.Setting.{Setting};
-    ghost use Rattle.turn_defs.specs.Turns.{Out, land};
     ghost use Rattle.site_node.specs.Rosters as rosters;
     ghost use Rattle.dispatch_core.specs.Changes.{told};
-    ghost use Rattle.turn_defs.specs.Dispatcher.{DispatcherKept, DispatcherLive, land_dispatcher};
-    ghost use Rattle.dispatch_core.specs.Standing.{HasSameNumbers, IsOf, IsTurn, Stands, StandsAs, out_of};
+    ghost use Rattle.turn_defs.specs.Dispatcher.{DispatcherKept, DispatcherLive};
+    ghost use Rattle.dispatch_core.specs.Standing.{HasSameNumbers, IsOf, IsTurn, StandsAs, out_of};
     ghost use Rattle.dispatch_node.specs.Faults.{IsReadFault};
     ghost use Rattle.dispatch_node.specs.Kept.{kept_as, takes_or_none};
     ghost use Rattle.dispatch_node.specs.Places.{AreKeptPlaces, IsLogOf};
@@ -190,52 +189,7 @@ impl<D: Disk, L: LogFile> DispatchNode<D, L> {
         }
     }
 
-    // Appends the note, if there is one, and keeps the turn. Where the disk fails the note is in doubt.
-    fn finish(&mut self, ready: ReadyTurn) -> Result<Done, NodeFault>
-        requires up { self.old.in_doubt ≡ None }
-        requires ready { IsReady self.old.core ready.turn ready.packets ready.written }
-        requires takes { IsTakenBy (kept_as self.old.journals.offset.value.offset self.old.journals.retry.value.pending.keys) ready.written }
-        requires room { IsRoomFor ready.written
-            (D.calls_left self.old.journals.offset.journal.disk) (D.bytes_left self.old.journals.offset.journal.disk)
-            (D.calls_left self.old.journals.retry.journal.disk) (D.bytes_left self.old.journals.retry.journal.disk)
-            (spare self.old.journals.retry.value.pending) }
-        ensures same { (self.new.site ≡ self.old.site) × (self.new.roster ≡ self.old.roster) × (self.new.clicks ≡ self.old.clicks) }
-        ensures numbers { HasSameNumbers self.old.core self.new.core }
-        ensures up { OnOk result (self.new.in_doubt ≡ None) }
-        ensures doubt { OnErr result ((self.new.in_doubt ≡ ready.written) × (is_some ready.written ≡ true)) }
-        ensures note { IfOk result (λ d. d.note ≡ option_map (λ w. w.1) ready.written) }
-        ensures packets { IfOk result (λ d. d.packets ≡ ready.packets) }
-        ensures stands { OnOk result ((g : Setting) (k : DispatcherKept) (l : DispatcherLive) (out : Out DispatcherLive) →
-            IsTurn g self.old.core k l ready.turn out → Stands g self.new.core (land land_dispatcher out.note k) out.live) }
-        ensures kept { OnOk result (kept_as self.new.journals.offset.value.offset self.new.journals.retry.value.pending.keys
-            ≡ landed_by ready.written (kept_as self.old.journals.offset.value.offset self.old.journals.retry.value.pending.keys)) }
-        ensures offset_at_any_moment { IsTrue D.tells → Throughout D.image D.since self.old.journals.offset.journal.disk
-            self.new.journals.offset.journal.disk (offsets.KeepsOr self.old.journals.offset.value.offset
-            (landed_by ready.written (kept_as self.old.journals.offset.value.offset self.old.journals.retry.value.pending.keys)).offset) }
-        ensures retry_at_any_moment { IsTrue D.tells → Throughout D.image D.since self.old.journals.retry.journal.disk
-            self.new.journals.retry.journal.disk (pending.KeepsOr self.old.journals.retry.value.pending.keys
-            (landed_by ready.written (kept_as self.old.journals.offset.value.offset self.old.journals.retry.value.pending.keys)).pending) }
-        ensures offset_grows { IsTrue D.tells → (c : List ℕ) → D.image self.new.journals.offset.journal.disk c →
-            Continues (D.image self.old.journals.offset.journal.disk) c }
-        ensures retry_grows { IsTrue D.tells → (c : List ℕ) → D.image self.new.journals.retry.journal.disk c →
-            Continues (D.image self.old.journals.retry.journal.disk) c }
-        ensures fault { IfErr result (λ e. e ≡ NodeFault.Stopped) }
-        ensures rose { OnErr result (Rose (D.faults self.old.journals.offset.journal.disk) (D.faults self.new.journals.offset.journal.disk)
-            ⊎ Rose (D.faults self.old.journals.retry.journal.disk) (D.faults self.new.journals.retry.journal.disk)) }
-        ensures counts { (D.faults self.old.journals.offset.journal.disk ≤ D.faults self.new.journals.offset.journal.disk)
-            × (D.faults self.old.journals.retry.journal.disk ≤ D.faults self.new.journals.retry.journal.disk) }
-    {
-        let ReadyTurn {
-            turn,
-            packets,
-            written,
-        } = ready;
-        let note = self.append(written)?;
-        self.core.keep(turn);
-        Ok(Done { note, packets })
-    }
-
-    // Appends the note, if there is one, and gives its record.
+    // Appends the note, if there is one, and gives its record. Where the disk fails the note is in doubt.
     fn append(
         &mut self,
         written: Option<(DispatchNote, Payload)>,
@@ -371,7 +325,14 @@ impl<D: Disk, L: LogFile> SiteNode for DispatchNode<D, L> {
                 if ready.written.is_some() {
                     gate.pass(Point::BeforeAppend, u16::from(self.site));
                 }
-                self.finish(ready)
+                let ReadyTurn {
+                    turn,
+                    packets,
+                    written,
+                } = ready;
+                let note = self.append(written)?;
+                self.core.keep(turn);
+                Ok(Done { note, packets })
             }
         }
     }

@@ -1,16 +1,8 @@
 -- A turn of a server over its disk, and its restart, as the states' entries.
 use Rattle.std.proofs.Common.{◌≡◌, inl, inr, ⊎_elim, ℕ, ◌+◌, ◌≤◌, true, false, List, [], length, Option, Some, None, refl, sym, ap, ◌∙◌, subst}
-use Rattle.std.specs.Prelude.{is_some, option_map, Result, Ok, Err, IfOk, OnOk, OnErr}
-use Rattle.registry_server.proofs.Words.{Throughout, joins, weaker, Continues, continues_same, continues_through, IsOpened, read_as, epochs, Keeps, IsLeft, JournalState, Ready, Bytes, Begin, End, Stop, Input, Note, land, AreSpelled, Reads, IsJunk, record_of, Leads, row, written, closes, Roster, IsOf, ServerLive, land_server, Serves, note_of, site_of, SiteKept, RegistrarView, ServesSite, Knows, IsRow, landed, server_rows, ServerCore, ServerNote, Turn, ServerState, recorded, Holds, HoldsOr, OnDisk, OnDiskOr, KeptOn, StandsAt}
-use Rattle.registry_server.proofs.Landing.{down_stands, left_of, up_of, noted_bytes, moved}
-
-pub all_five : {T E : Type 0} (r : Result T E) (A B Q : T → Type 0) (C D F : Type 0) → IfOk r A → IfOk r B → OnOk r C → OnOk r D → OnOk r F → ((x : T) → A x → B x → C → D → F → Q x) → IfOk r Q
-all_five (Ok x) A B Q C D F a b c d f go = go x a b c d f
-all_five (Err e) A B Q C D F a b c d f go = tt
-
-pub both_err : {T E : Type 0} (r : Result T E) (A B Q : Type 0) → OnErr r A → OnErr r B → (A → B → Q) → OnErr r Q
-both_err (Ok x) A B Q a b go = tt
-both_err (Err e) A B Q a b go = go a b
+use Rattle.std.specs.Prelude.{is_some, option_map, Result, Ok, Err, OnErr}
+use Rattle.registry_server.proofs.Words.{ends_idle, ends_done, Throughout, joins, weaker, Continues, continues_same, continues_through, IsOpened, read_as, epochs, Keeps, IsLeft, JournalState, Ready, Bytes, Begin, End, Stop, Input, Note, land, AreSpelled, Reads, IsJunk, record_of, Leads, row, written, closes, Roster, IsOf, land_server, Serves, note_of, site_of, SiteKept, RegistrarView, ServesSite, Knows, IsRow, landed, server_rows, ServerCore, ServerNote, Turn, ServerState, recorded, Holds, HoldsOr, OnDisk, OnDiskOr, KeptOn, StandsAt}
+use Rattle.registry_server.proofs.Landing.{down_stands, left_of, noted_bytes, moved}
 
 -- what is kept once the row's note is written
 landed_is : (k : SiteKept) (o : Option ServerNote) (n : Option Note) → option_map note_of o ≡ n → record { site = k.site; disk = land land_server (option_map note_of o) k.disk } ≡ land server_rows.lands n k
@@ -36,12 +28,7 @@ kept_still s t n b c led holds = subst (λ (x : ServerState). KeptOn x c) (sym l
 pub idles : (site : ℕ) (roster : Roster) (doubt : Option (List ℕ)) (epoch : ℕ) (image : List ℕ → Type 0) (state : JournalState) (v : RegistrarView) (s t : ServerState) (n : ℕ) (b : Bytes) (ps : List (ℕ × List ℕ)) (sent : ℕ) → doubt ≡ None → StandsAt site roster doubt epoch image state v s
     → Leads server_rows s (Begin n b) t → IsJunk s.setting b → ps ≡ [] → sent ≤ length ps → (u : ServerState) × Leads server_rows t (End n None ps sent) u × StandsAt site roster doubt epoch image state v u
 idles site roster doubt epoch image state v s t n b ps sent none at led junk empty le =
-    let up = up_of s.setting s.live b led.1 junk in (
-      record { setting = s.setting; kept = s.kept; live = s.live; opened = None },
-      subst (λ (x : ServerState). Leads server_rows x (End n None ps sent) (record { setting = s.setting; kept = s.kept; live = s.live; opened = None })) (sym led.2)
-          (b, refl, le, inr (record { junk = junk; no_note = refl; no_packets = empty; knows = up.0; up = up.1; state = ap (λ (l : Option ServerLive). record { setting = s.setting; kept = s.kept; live = l; opened = None }) up.1 })),
-      moved site roster doubt epoch image state v s None none at,
-    )
+    (closes s s.kept s.live, ends_idle server_rows s t n b ps sent led le junk empty, moved site roster doubt epoch image state v s None none at)
 
 -- a turn that is done
 pub ends : (site site' : ℕ) (roster roster' : Roster) (doubt doubt' : Option (List ℕ)) (epoch epoch' : ℕ) (image image' : List ℕ → Type 0) (state state' : JournalState) (v v' : RegistrarView) (s t : ServerState) (n : ℕ) (b : Bytes) (i : Input) (turn : Turn) (said : Option (List ℕ)) (ps ready : List (ℕ × List ℕ)) (sent : ℕ)
@@ -54,22 +41,7 @@ ends site site' roster roster' doubt doubt' epoch epoch' image image' state stat
     let u : ServerState = record { setting = s.setting; kept = k; live = Some out.live; opened = None } in
     let kept : record { site = s.kept.site; disk = landed turn s.kept.disk } ≡ k = landed_is s.kept turn.note out.note is.note in (
       u,
-      subst (λ (x : ServerState). Leads server_rows x (End n said ps sent) u) (sym led.2) (
-        b,
-        refl,
-        le,
-        inl (
-          i,
-          reads,
-          record {
-            noted = said_is ∙ noted_bytes turn.note ∙ ap (option_map record_of) is.note;
-            packets = turn.packets.items;
-            spelled = subst (AreSpelled turn.packets.items) (sym ps_is) spelled;
-            sent = is.packets;
-            state = refl;
-          },
-        ),
-      ),
+      ends_done server_rows s t n b ps sent led le i said turn.packets.items reads (said_is ∙ noted_bytes turn.note ∙ ap (option_map record_of) is.note) (subst (AreSpelled turn.packets.items) (sym ps_is) spelled) is.packets,
       subst (λ (d : Option (List ℕ)). StandsAt site' roster' d epoch' image' state' v' u) (sym none)
           (record {
             setting = subst (λ (r : Roster). IsOf r s.setting) (sym same) at.setting;

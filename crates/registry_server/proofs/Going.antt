@@ -1,26 +1,10 @@
 -- A proposal goes on until a majority has accepted its value.
 use Rattle.std.proofs.Common.{◌≡◌, ℕ, ◌<◌, ◌==◌, ◌&&◌, true, false, cond, is_some, List, length, set, Some, None, refl, sym, ap, ◌∙◌, subst, ⊎_elim}
 use Rattle.std.specs.Prelude.{Option, option_map, Bool}
-use Rattle.registry_server.proofs.Words.{cond_both, cond-true, cond-false, and_parts, and_from, and_left, and_right, lt-ltb, eq-eqb, eqb-true, and_cases, false_from_ne_true, cond_some, none-some, tied_itself, is_eq, Ballot, is_same, ballots_total, same_true, Batch, Place, higher, value_for, Phase, is_new, is_most, nobody, with_promise, on_promise, with_acceptance, on_accepted, Promising, Accepting, Ended, Proposer, ballot_of, own_of, phase_of, promise_turn, acceptance_turn, IsSameProposal, Setting, shards, Out, idle, ServerLive, ShardState, Proposal, is_current, proposal_of, is_going, counts_promise, counts_accepted, current_in, current_of, Shard}
+use Rattle.registry_server.proofs.Words.{cond_both, cond-true, cond-false, and_parts, and_from, and_left, and_right, lt-ltb, eq-eqb, eqb-true, and_cases, false_from_ne_true, cond_some, none-some, tied_itself, is_eq, Ballot, is_same, ballots_total, same_true, Batch, Place, Phase, is_new, is_most, on_promise, with_acceptance, on_accepted, Promising, Accepting, Ended, Proposer, ballot_of, own_of, phase_of, promise_turn, acceptance_turn, Setting, shards, Out, idle, ServerLive, ShardState, Proposal, is_current, proposal_of, current_in, current_of, Shard}
 
 pub same_itself : (b : Ballot) → is_same b b ≡ true
 same_itself b = ap is_eq (tied_itself ballots_total b)
-
-pub promise_goes : (own : Batch) (phase : Phase Batch) (r : ℕ) (prior : Option (Ballot × Batch)) → is_going phase ≡ true → is_going (on_promise own phase r prior).0 ≡ true
-promise_goes own (Promising marks best) r prior h =
-    cond_both (is_new marks r) (with_promise own (set marks r true) (higher best prior)) (Promising marks best, None) (λ (t : Phase Batch × Option Batch). is_going t.0 ≡ true)
-    (λ _. cond_both (is_most (set marks r true)) (Accepting (value_for own (higher best prior)) (nobody (length (set marks r true))), Some (value_for own (higher best prior))) (Promising (set marks r true) (higher best prior), None) (λ (t : Phase Batch × Option Batch). is_going t.0 ≡ true) (λ _. refl) (λ _. refl))
-    (λ _. refl)
-promise_goes own (Accepting v marks) r prior h = refl
-promise_goes own Ended r prior h = h
-
-pub accepted_goes : (phase : Phase Batch) (r : ℕ) → is_going phase ≡ true → is_some (on_accepted phase r).1 ≡ false → is_going (on_accepted phase r).0 ≡ true
-accepted_goes (Promising marks best) r h n = refl
-accepted_goes (Accepting v marks) r h n =
-    cond_both (is_new marks r) (with_acceptance v (set marks r true)) (Accepting v marks, None) (λ (t : Phase Batch × Option Batch). is_some t.1 ≡ false → is_going t.0 ≡ true)
-    (λ _. cond_both (is_most (set marks r true)) (Ended, Some v) (Accepting v (set marks r true), None) (λ (t : Phase Batch × Option Batch). is_some t.1 ≡ false → is_going t.0 ≡ true) (λ _ e. absurd (cc)) (λ _ e. refl))
-    (λ _ e. refl) n
-accepted_goes Ended r h n = h
 
 -- the value that a majority accepted
 pub accepted_value : (phase : Phase Batch) (r : ℕ) (w : Batch) → is_some (on_accepted phase r).1 ≡ true → ((marks : List Bool) (v : Batch) → phase ≡ Accepting v marks → w ≡ v) → (on_accepted phase r).1 ≡ Some w
@@ -30,19 +14,6 @@ accepted_value (Accepting v marks) r w h is =
     (λ _. cond_both (is_most (set marks r true)) (Ended, Some v) (Accepting v (set marks r true), None) (λ (t : Phase Batch × Option Batch). is_some t.1 ≡ true → t.1 ≡ Some w) (λ _ e. ap (λ (z : Batch). Some z) (sym (is marks v refl))) (λ _ e. absurd (cc)))
     (λ _ e. absurd (cc)) h
 accepted_value Ended r w h is = absurd (cc)
-
--- one more answer is counted, at the proposal's own ballot
-pub counted_promise : (p q : Proposer) (r : ℕ) (prior : Option (Ballot × Batch)) → IsSameProposal p q → phase_of q ≡ (promise_turn p r (ballot_of p) prior).0 → proposal_of q ≡ counts_promise r prior (proposal_of p)
-counted_promise p q r prior same phase =
-    let turn : promise_turn p r (ballot_of p) prior ≡ on_promise (own_of p) (phase_of p) r prior = cond-true (is_same (ballot_of p) (ballot_of p)) _ _ (same_itself (ballot_of p)) in
-    let e : phase_of q ≡ (on_promise (own_of p) (phase_of p) r prior).0 = phase ∙ ap (λ (t : Phase Batch × Option Batch). t.0) turn in
-    λ i. record { ballot = same.ballot i; own = same.own i; phase = e i }
-
-pub counted_accepted : (p q : Proposer) (r : ℕ) → IsSameProposal p q → phase_of q ≡ (acceptance_turn p r (ballot_of p)).0 → proposal_of q ≡ counts_accepted r (proposal_of p)
-counted_accepted p q r same phase =
-    let turn : acceptance_turn p r (ballot_of p) ≡ on_accepted (phase_of p) r = cond-true (is_same (ballot_of p) (ballot_of p)) _ _ (same_itself (ballot_of p)) in
-    let e : phase_of q ≡ (on_accepted (phase_of p) r).0 = phase ∙ ap (λ (t : Phase Batch × Option Batch). t.0) turn in
-    λ i. record { ballot = same.ballot i; own = same.own i; phase = e i }
 
 -- the proposal at a slot and ballot
 pub current_is : (slot next : ℕ) (b : Ballot) (o : Option Proposer) (p : Proposer) → Some p ≡ current_in slot b next o → (o ≡ Some p) × (slot ≡ next) × (ballot_of p ≡ b)

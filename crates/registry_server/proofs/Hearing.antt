@@ -1,7 +1,7 @@
 -- Packets that no row answers.
 use Rattle.std.proofs.Common.{◌≡◌, ◌∙◌, ℕ, refl, sym, subst}
 use Rattle.std.specs.Prelude.{Option, Some, None}
-use Rattle.registry_server.proofs.Words.{Ballot, Insert, Batch, Place, Packet, Node, Dispatcher, Server, Replica, Joiner, Setting, shard, idle, same_Some, replay, ServerKept, ServerLive, claimed, gets_promise, gets_accepted, gets_nack, gets_chosen, from_replica, server_gets, Gives, Turn, number_of}
+use Rattle.registry_server.proofs.Words.{Ballot, Insert, Batch, Place, Packet, Node, Replica, Setting, shard, idle, same_Some, replay, ServerKept, ServerLive, claimed, gets_promise, gets_accepted, gets_nack, gets_chosen, from_replica, server_gets, Gives, Turn, number_of}
 use Rattle.turn_defs.specs.declared.packet.Packet.TheVariants as packet
 
 module _ (g : Setting) (site : ℕ) (k : ServerKept) (l : ServerLive) where

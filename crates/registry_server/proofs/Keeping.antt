@@ -1,7 +1,6 @@
 -- What each step leaves in a shard.
 use Rattle.std.proofs.Common.{◌≡◌, ℕ, ◌+◌, false, List, [], ◌∷◌, ◌++◌, length, None, sym, ap, ◌∙◌, subst, arith}
-use Rattle.std.specs.Prelude.{option_map}
-use Rattle.registry_server.proofs.Words.{length-append, Insert, Batch, Answer, replay, TimedRegistry, BatchQueue, waiting, left_of, replays, IsUnanswered, Setting, ShardState, Proposal, unanswered, IsShard, stepped, proposal_of, put_last, Shard, Queue, Learn}
+use Rattle.registry_server.proofs.Words.{length-append, Insert, Batch, Answer, replay, TimedRegistry, BatchQueue, waiting, left_of, replays, IsUnanswered, Setting, ShardState, unanswered, IsShard, stepped, put_last, Shard, Queue, Learn}
 use Rattle.id_expiry.specs.Timed.{Knows}
 use Rattle.registry_server.proofs.Rowing.{queue_is, proposal_is}
 use Rattle.registry_server.proofs.Sending.{unanswered_left}
@@ -17,12 +16,6 @@ module _ (g : Setting) (site : ℕ) (h : Shard) (st : ShardState) (is : IsShard 
         learned = record { known = is.learned.known; next = is.learned.next; goes = is.learned.goes; waits = subst (IsUnanswered st.learned) (sym e) (put_unanswered st.learned (waiting h.queue) x is.learned.waits unknown) };
         is = λ i. record { learned = st.learned; queue = (ap (λ (xs : List Insert). put_last xs x) (queue_is h st is) ∙ sym e) i; proposal = proposal_is h st is i; held = held_is h st is i };
       }
-
-  -- without a proposal no answer counts
-  pub none_kept : (f : Proposal → Proposal) → h.proposal ≡ None → IsShard h (record st { proposal = option_map f st.proposal })
-  none_kept f e =
-      let n : st.proposal ≡ None = proposal_is h st is ∙ ap (option_map proposal_of) e in
-      subst (IsShard h) (λ i. record st { proposal = (n ∙ ap (option_map f) (sym n)) i }) is
 
   pub learn_kept : (v : Batch) (told : List (Insert × Answer)) (next : ℕ) (registry : TimedRegistry) (q : BatchQueue) → next ≡ h.next + 1 → Knows registry (st.learned ++ v ∷ []) → waiting q ≡ left_of (λ x. replay (st.learned ++ v ∷ []) x.id x.token) (waiting h.queue)
       → IsShard (record { next = next; registry = registry; queue = q; proposal = None; held = false }) (stepped g site (Learn v told) st)

@@ -1,23 +1,10 @@
 -- What a server over its disk stands for.
-use Rattle.std.proofs.Common.{◌≡◌, ◌⊎◌, inl, inr, ⊎_elim, ℕ, ◌+◌, ◌==◌, Bool, true, false, cond, List, [], Option, Some, None, refl, sym, ap, ◌∙◌, subst}
+use Rattle.std.proofs.Common.{◌≡◌, ◌⊎◌, inl, inr, ⊎_elim, ℕ, ◌+◌, ◌==◌, Bool, true, false, cond, List, Option, Some, None, refl, sym, ap, ◌∙◌, subst}
 use Rattle.std.specs.Prelude.{is_some, option_map, Result, Ok}
-use Rattle.registry_server.proofs.Words.{LAST_EPOCH, result_unwrap_or, cond-true, true≢false, KeepsOr, IsLeft, JournalState, Bytes, Input, Start, Own, Tick, Deliver, Setting, record_of, Reads, IsInput, IsJunk, MayTake, NodeFault, Roster, IsOf, ServerKept, ServerLive, Stands, note_of, SiteKept, RegistrarView, ServesSite, Knows, KnowsAs, Fits, ServerCore, ServerNote, ServerState, recorded, Holds, StandsAt, is_spent_at, spent_at, IsNotPrepared}
+use Rattle.registry_server.proofs.Words.{none_of, LAST_EPOCH, result_unwrap_or, cond-true, true≢false, KeepsOr, IsLeft, JournalState, Bytes, Input, Start, Own, Tick, Deliver, Setting, record_of, Reads, IsJunk, MayTake, NodeFault, Roster, IsOf, ServerKept, ServerLive, Stands, note_of, SiteKept, RegistrarView, ServesSite, Knows, KnowsAs, Fits, landed, site_of, Turn, ServerCore, ServerNote, ServerState, recorded, Holds, StandsAt, is_spent_at, spent_at, IsNotPrepared}
 use Rattle.air_bus.specs.declared.entry.Input.TheVariants as bytes
 use Rattle.site_node.specs.declared.kind.NodeFault.TheVariants as fault
 use Rattle.registry_server.specs.declared.turn.ServerNote.TheVariants as notes
-
-pub none_of : {A : Type 0} (o : Option A) → is_some o ≡ false → o ≡ None
-none_of None off = refl
-none_of (Some x) off = absurd (cc off)
-
--- ---- one epoch more
-
-some_bytes : (r s : List ℕ) → Some r ≡ Some s → r ≡ s
-some_bytes r s e = ap (λ (o : Option (List ℕ)). bytes_in o) e
-  where
-    bytes_in : Option (List ℕ) → List ℕ
-    bytes_in None = []
-    bytes_in (Some b) = b
 
 -- ---- which epoch a disk keeps after a stop
 
@@ -33,28 +20,13 @@ left_of k image epoch images left =
 
 -- ---- inputs
 
-pub input_ok : (g : Setting) (b : Bytes) (i : Input) → Reads g b i → IsInput i
-input_ok g bytes.Start i reads = subst IsInput (sym reads) tt
-input_ok g bytes.Own i reads = subst IsInput (sym reads) tt
-input_ok g bytes.Tick i reads = subst IsInput (sym reads) tt
-input_ok g (bytes.Packet from p) i reads = subst IsInput (sym reads.5) reads.3
-
 pub fits_of : (g : Setting) (live : Option ServerLive) (b : Bytes) (i : Input) → Reads g b i → MayTake live b → Fits live i
 fits_of g None bytes.Start i reads may = subst (Fits None) (sym reads) tt
-fits_of g None bytes.Own i reads may = absurd may
-fits_of g None bytes.Tick i reads may = absurd may
-fits_of g None (bytes.Packet from p) i reads may = absurd may
+fits_of g None _ i reads may = absurd may
 fits_of g (Some l) bytes.Start i reads may = absurd may
 fits_of g (Some l) bytes.Own i reads may = subst (Fits (Some l)) (sym reads) tt
 fits_of g (Some l) bytes.Tick i reads may = subst (Fits (Some l)) (sym reads) tt
 fits_of g (Some l) (bytes.Packet from p) i reads may = subst (Fits (Some l)) (sym reads.5) tt
-
-pub up_of : (g : Setting) (live : Option ServerLive) (b : Bytes) → MayTake live b → IsJunk g b → (l : ServerLive) × (live ≡ Some l)
-up_of g None bytes.Start may junk = absurd (junk Start refl)
-up_of g None bytes.Own may junk = absurd may
-up_of g None bytes.Tick may junk = absurd may
-up_of g None (bytes.Packet from p) may junk = absurd may
-up_of g (Some l) b may junk = (l, refl)
 
 pub noted_bytes : (o : Option ServerNote) → recorded o ≡ option_map record_of (option_map note_of o)
 noted_bytes None = refl
@@ -90,6 +62,14 @@ pub knows_up : (u : Bool) (core : ServerCore) (g : Setting) (k : ServerKept) (l 
 knows_up true core g k l e stands = stands
 knows_up false core g k l e stands = absurd (cc e)
 
+-- what it knows once a turn is kept
+pub keeps_knows : (core : ServerCore) (v : RegistrarView) (g : Setting) (k : SiteKept) (next : ServerLive) (turn : Turn) → site_of core ≡ k.site → site_of v.core ≡ site_of core → v.up ≡ true → Stands v.core g (landed turn k.disk) next
+    → Knows v g (record { site = k.site; disk = landed turn k.disk }) (Some next)
+keeps_knows core v g k next turn site stays up stands = record {
+  serves = record { site = stays ∙ site; setting = stands.numbers };
+  by = knows_up v.up v.core g (landed turn k.disk) next up stands;
+}
+
 -- what a node that is up knows
 pub stands_up : (v : RegistrarView) (g : Setting) (k : SiteKept) (live : Option ServerLive) (l : ServerLive) → Knows v g k live → live ≡ Some l → Stands v.core g k.disk l
 stands_up v g k live l knows up = go v.up (subst (λ (o : Option ServerLive). KnowsAs v.up v.core g k.disk o) up knows.by)
@@ -97,6 +77,9 @@ stands_up v g k live l knows up = go v.up (subst (λ (o : Option ServerLive). Kn
     go : (u : Bool) → KnowsAs u v.core g k.disk (Some l) → Stands v.core g k.disk l
     go true by = by
     go false by = absurd by
+
+pub up_stands : (site : ℕ) (roster : Roster) (doubt : Option (List ℕ)) (epoch : ℕ) (image : List ℕ → Type 0) (state : JournalState) (v : RegistrarView) (s : ServerState) (l : ServerLive) → is_some doubt ≡ false → StandsAt site roster doubt epoch image state v s → s.live ≡ Some l → Stands v.core s.setting s.kept.disk l
+up_stands site roster doubt epoch image state v s l waits at up = stands_up v s.setting s.kept s.live l (quiet site roster doubt epoch image state v s (none_of doubt waits) at).1 up
 
 -- ---- spent epochs
 
@@ -126,13 +109,9 @@ spent_input s bytes.Start i e epoch reads same is =
     go : (t : Bool) → cond t (Some s.kept.disk.epoch) None ≡ Some e → t ≡ true
     go true h = refl
     go false h = absurd (cc h)
-spent_input s bytes.Own i e epoch reads same is = absurd (cc is)
-spent_input s bytes.Tick i e epoch reads same is = absurd (cc is)
-spent_input s (bytes.Packet from p) i e epoch reads same is = absurd (cc is)
+spent_input s _ i e epoch reads same is = absurd (cc is)
 
 -- what no packet spells is no start
 pub junk_unspent : (s : ServerState) (b : Bytes) (e : ℕ) → IsJunk s.setting b → spent_at s b ≡ Some e → ⊥
 junk_unspent s bytes.Start e junk is = junk Start refl
-junk_unspent s bytes.Own e junk is = absurd (cc is)
-junk_unspent s bytes.Tick e junk is = absurd (cc is)
-junk_unspent s (bytes.Packet from p) e junk is = absurd (cc is)
+junk_unspent s _ e junk is = absurd (cc is)

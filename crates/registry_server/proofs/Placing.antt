@@ -1,13 +1,6 @@
 -- Lists of shards that stand for the states of their numbers, changed in one place.
-use Rattle.std.proofs.Common.{◌≡◌, ℕ, ◌+◌, ◌<◌, ◌≤◌, ◌==◌, false, List, [], ◌∷◌, ◌++◌, length, take, drop, get_or, set, refl, sym, ap, ◌∙◌, subst, ⊎_elim, arith}
-use Rattle.registry_server.proofs.Words.{cond_both, cases_eq, eqb-true, cases_lt, get_or-set_same, get_or-set_other, length-set, length-append, get_or_append_left, get_or_at, append-nil, take_all, drop_all, set_at, ShardState, IsShard, EachStands, Shard}
-
--- a function with its own value put in one place is itself
-pub set_itself : {A : Type 0} (f : ℕ → A) (n : ℕ) → set_at f n (f n) ≡ f
-set_itself {A} f n = λ i m. at m i
-  where
-    at : (m : ℕ) → set_at f n (f n) m ≡ f m
-    at m = cond_both (m == n) (f n) (f m) (λ z. z ≡ f m) (λ e. ap f (sym (eqb-true m n e))) (λ _. refl)
+use Rattle.std.proofs.Common.{◌≡◌, ℕ, ◌+◌, ◌<◌, ◌≤◌, false, List, [], ◌∷◌, ◌++◌, length, take, drop, get_or, set, refl, sym, ap, ◌∙◌, subst, ⊎_elim, arith}
+use Rattle.registry_server.proofs.Words.{cases_eq, cases_lt, get_or-set_same, get_or-set_other, length-set, length-append, get_or_append_left, get_or_at, append-nil, take_all, drop_all, ShardState, IsShard, EachStands, Shard}
 
 -- one shard more
 pub push_each : (xs : List Shard) (f : ℕ → ShardState) (v : Shard) → EachStands xs f → IsShard v (f (length xs)) → EachStands (xs ++ v ∷ []) f

@@ -1,7 +1,7 @@
 -- Where the server's numbers, what it knows and the input have spellings, so have the row's packets and what it knows next.
 use Rattle.std.proofs.Common.{◌≡◌, ℕ, suc, ◌+◌, ◌^◌, ◌<◌, ◌≤◌, ◌&&◌, ◌||◌, Bool, true, false, cond, List, [], ◌∷◌, ◌++◌, length, take, set, Option, Some, None, refl, subst, arith}
 use Rattle.std.specs.Prelude.{nat_lt, nat_le, All}
-use Rattle.registry_server.proofs.Words.{LAST_SLOT, LAST_EPOCH, cond_both, ltb-true, and_parts, length-take, All-nil, All-cons, same_Some, Each, each_append, at_set, EventId, same_id, Ballot, is_below, Token, Insert, Batch, Answer, Granted, Duplicate, TooOld, same_token, bound_of, first_in, first_insert, or_else, replay, replay_held, IsToken, IsInsert, IsAnswer, IsPlace, IsBallot, IsBatch, IsPrior, Place, higher, value_for, Phase, is_new, is_most, nobody, with_promise, on_promise, with_acceptance, on_accepted, Promising, Accepting, Ended, Packet, Node, Dispatcher, Server, Replica, Joiner, Input, Start, Own, Tick, Deliver, To, Only, IsPacket, Setting, shard, shards, Addressed, Out, idle, ServerKept, ServerLive, ShardState, Proposal, empty_shard, queued, to_from, is_below_limit, may_propose, first_shard, is_next, is_current, is_own_joiner, reply, reply_if, replies, keep_if, unanswered, learns, with_shard, claimed, proposes, owns, server_own, goes_on, accept_if, promised, accepted, nacked, gets_promise, gets_accepted, gets_nack, gets_chosen, of_phase, again, all_again, server_tick, server_gets, server_turn, server_start, IsSpelledPhase, IsSpelledProposal, IsSpelledIf, IsSpelledShard, IsSpelledPlan, IsSpelledLive, IsInput}
+use Rattle.registry_server.proofs.Words.{LAST_SLOT, LAST_EPOCH, cond_both, ltb-true, and_parts, length-take, All-nil, All-cons, same_Some, Each, each_append, at_set, EventId, same_id, Ballot, is_below, Token, Insert, Batch, Answer, Granted, Duplicate, TooOld, same_token, bound_of, first_in, first_insert, or_else, replay, replay_held, IsToken, IsInsert, IsAnswer, IsPlace, IsBallot, IsBatch, IsPrior, Place, higher, value_for, Phase, is_new, is_most, nobody, with_promise, on_promise, with_acceptance, on_accepted, Promising, Accepting, Ended, Packet, Node, Replica, Joiner, Input, Start, Own, Tick, Deliver, To, Only, IsPacket, Setting, shard, shards, Addressed, Out, idle, ServerKept, ServerLive, ShardState, Proposal, empty_shard, queued, to_from, is_below_limit, may_propose, first_shard, is_next, is_current, is_own_joiner, reply, reply_if, replies, keep_if, unanswered, learns, with_shard, claimed, proposes, owns, server_own, goes_on, accept_if, promised, accepted, nacked, gets_promise, gets_accepted, gets_nack, gets_chosen, of_phase, again, all_again, server_tick, server_gets, server_turn, server_start, IsSpelledPhase, IsSpelledProposal, IsSpelledIf, IsSpelledShard, IsSpelledPlan, IsSpelledLive, IsInput}
 use Rattle.turn_defs.specs.declared.packet.Packet.TheVariants as packet
 
 abbrev pub Sends : List (To × Packet) → Type 0
@@ -262,9 +262,7 @@ module _ (g : Setting) (site : ℕ) (plan : IsSpelledPlan g site) where
     gets_ok (Replica r) (packet.Accepted at b) is = gets_accepted_ok r at b (l.shards at.shard).proposal is.0 (live.each at.shard).proposal
     gets_ok (Replica r) (packet.Nack at b above) is = gets_nack_ok at b above (l.shards at.shard).proposal is.2
     gets_ok (Replica r) _ is = idle_ok
-    gets_ok (Server n) _ is = idle_ok
-    gets_ok (Joiner n) _ is = idle_ok
-    gets_ok (Dispatcher n) _ is = idle_ok
+    gets_ok _ _ is = idle_ok
 
     pub turn_ok : (i : Input) → IsInput i → IsSpelledOut k (server_turn g site k l i)
     turn_ok Own is = own_row_ok

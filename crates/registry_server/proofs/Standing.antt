@@ -1,7 +1,7 @@
 -- What a core stands for, shard by shard.
 use Rattle.std.proofs.Common.{◌≡◌, ℕ, zero, suc, ◌+◌, ◌-◌, ◌<◌, ◌≤◌, ◌&&◌, Bool, true, false, cond, List, ◌++◌, length, get_or, Some, None, refl, sym, ap, ◌∙◌, subst, arith}
 use Rattle.std.specs.Prelude.{Option}
-use Rattle.registry_server.proofs.Words.{LAST_SLOT, cond-true, cond-false, cond_both, and_left, le-ltb, lt-ltb, same_Some, append-nil, append_assoc, Ballot, Insert, Batch, shard_count, Place, Packet, Node, Dispatcher, Server, Replica, Joiner, To, Setting, shards, Out, idle, Addressed, ServerKept, ServerLive, ShardState, Proposal, first_shard, may_propose, owns, server_own, is_next, is_current, is_below_limit, gets_promise, gets_accepted, gets_nack, gets_chosen, server_gets, again, all_again, setting, IsShard, passes, Stands, Gives, IsTurn, IsAt, number_of, proposes_if, Shard, Test, Turn, ServerCore}
+use Rattle.registry_server.proofs.Words.{LAST_SLOT, cond-true, cond-false, cond_both, and_left, le-ltb, lt-ltb, same_Some, append-nil, append_assoc, Ballot, Insert, Batch, shard_count, Place, Packet, Node, Replica, To, Setting, shards, Out, idle, Addressed, ServerKept, ServerLive, ShardState, Proposal, first_shard, may_propose, owns, server_own, is_next, is_current, is_below_limit, gets_promise, gets_accepted, gets_nack, gets_chosen, server_gets, again, all_again, setting, IsShard, passes, Stands, Gives, IsTurn, IsAt, number_of, proposes_if, Shard, Test, Turn, ServerCore}
 use Rattle.turn_defs.specs.declared.packet.Packet.TheVariants as packet
 use Rattle.registry_server.proofs.Sending.{addressed}
 

@@ -30,7 +30,7 @@ pub use Rattle.paxos_defs.specs.Attempts.{Phase, is_most, is_new, nobody, on_acc
 pub use Rattle.paxos_defs.specs.Attempts.Phase.{Accepting, Ended, Promising}
 pub use Rattle.paxos_defs.specs.Turns.{higher, value_for}
 pub use Rattle.paxos_defs.specs.declared.Place.{Place}
-pub use Rattle.paxos_proposer.specs.Proposals.{IsSameProposal, acceptance_turn, ballot_of, own_of, phase_of, promise_turn}
+pub use Rattle.paxos_proposer.specs.Proposals.{acceptance_turn, ballot_of, own_of, phase_of, promise_turn}
 pub use Rattle.paxos_proposer.specs.declared.proposer.Proposer.{Proposer}
 pub use Rattle.registry_server.specs.Cores.{Begins, Carries, CarriesStart, Gives, IsStep, IsTurn, Serves, Stands, changed, note_of, site_of}
 pub use Rattle.registry_server.specs.Kept.{kept_images}
@@ -38,7 +38,7 @@ pub use Rattle.registry_server.specs.Node.{Holds, HoldsOr, IsNotPrepared, KeptOn
 pub use Rattle.registry_server.specs.Registrars.{Fits, IsNextNote, IsRow, IsSpelledCore, IsSpelledTurn, Knows, KnowsAs, Makes, MayRaise, RegistrarView, ServesSite, SiteKept, landed, server_rows}
 pub use Rattle.registry_server.specs.Replies.{each_reply}
 pub use Rattle.registry_server.specs.Rowed.{FitsAt, IsAt, accept_all, current_in, current_of, learns_behind, number_of, proposes_if}
-pub use Rattle.registry_server.specs.ShardStates.{EachStands, IsShard, NotLast, counts_accepted, counts_promise, is_going, passes, proposal_of, put_last, stepped}
+pub use Rattle.registry_server.specs.ShardStates.{EachStands, IsShard, NotLast, counts_accepted, counts_promise, passes, proposal_of, put_last, stepped}
 pub use Rattle.registry_server.specs.Spelled.{IsSpelledIf, IsSpelledLive, IsSpelledPhase, IsSpelledPlan, IsSpelledProposal, IsSpelledShard}
 pub use Rattle.registry_server.specs.Stations.{request, sent, setting}
 pub use Rattle.registry_server.specs.declared.server_core.ServerCore.{ServerCore}
@@ -60,6 +60,7 @@ pub use Rattle.registry_state.specs.declared.Answer.TheVariants.{Duplicate, Gran
 pub use Rattle.registry_state.specs.declared.Batch.{Batch}
 pub use Rattle.registry_state.specs.declared.Insert.{Insert}
 pub use Rattle.registry_state.specs.declared.Token.{Token}
+pub use Rattle.site_node.proofs.Turns.{ends_done, ends_idle, none_of}
 pub use Rattle.site_node.specs.Bytes.{AreSpelled, IsInput, IsJunk, Reads, record_of}
 pub use Rattle.site_node.specs.Rosters.{IsOf}
 pub use Rattle.site_node.specs.States.{Leads, MayTake, Stops, closes, row, row_of, written}
@@ -86,7 +87,7 @@ pub use Rattle.turn_defs.specs.declared.limits.TheConstants.{LAST_SLOT}
 pub use Rattle.turn_defs.specs.declared.node.Input.{Input}
 pub use Rattle.turn_defs.specs.declared.node.Input.TheVariants.{Deliver, Own, Start, Tick}
 pub use Rattle.turn_defs.specs.declared.node.Node.{Node}
-pub use Rattle.turn_defs.specs.declared.node.Node.TheVariants.{Dispatcher, Joiner, Replica, Server}
+pub use Rattle.turn_defs.specs.declared.node.Node.TheVariants.{Joiner, Replica, Server}
 pub use Rattle.turn_defs.specs.declared.node.To.{To}
 pub use Rattle.turn_defs.specs.declared.node.To.TheVariants.{Only}
 pub use Rattle.turn_defs.specs.declared.packet.Packet.{Packet}

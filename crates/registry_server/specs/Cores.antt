@@ -44,16 +44,12 @@ Carries (Packet from p) i = i ≡ input.Deliver from p
 
 abbrev pub CarriesStart : ServerInput → ServerKept → Type 0
 CarriesStart (Start e) k = e ≡ k.epoch
-CarriesStart Own k = ⊥
-CarriesStart Tick k = ⊥
-CarriesStart (Packet from p) k = ⊥
+CarriesStart _ k = ⊥
 
 -- a start may raise the epoch
 abbrev pub MayStart : ServerInput → Type 0
 MayStart (Start e) = e < LAST_EPOCH
-MayStart Own = ⊤
-MayStart Tick = ⊤
-MayStart (Packet from p) = ⊤
+MayStart _ = ⊤
 
 -- the note as a record of the server's disk
 abbrev pub note_of : ServerNote → Note
@@ -72,10 +68,8 @@ abbrev pub Serves : ServerCore → Setting → Type 0
 Serves core g = g ≡ setting core.station g
 
 abbrev pub IsStart : Change → Type 0
-IsStart change.Nothing = ⊥
 IsStart (change.Start shards) = ⊤
-IsStart change.Tick = ⊥
-IsStart (change.One s round step) = ⊥
+IsStart _ = ⊥
 
 -- the turn notes the epoch above the one on the disk, and the server begins anew
 pub record Begins (turn : Turn) (k : ServerKept) : Type 0 where

@@ -8,7 +8,7 @@ use Rattle.gate_journal.specs.declared.journal.JournalState.TheVariants.{Ready}
 use Rattle.air_bus.specs.declared.entry.Input.{Input as Bytes}
 use Rattle.air_bus.specs.declared.entry.Input.TheVariants as bytes
 use Rattle.turn_defs.specs.declared.node.Input.{Input}
-use Rattle.turn_defs.specs.declared.node.Input.TheVariants.{Start, Own, Tick, Deliver}
+use Rattle.turn_defs.specs.declared.node.Input.TheVariants.{Start}
 use Rattle.turn_defs.specs.Setting.{Setting}
 use Rattle.turn_defs.specs.Turns.{Epoch, land}
 use Rattle.site_node.specs.Bytes.{AreSpelled, Reads}
@@ -58,25 +58,18 @@ KeptOn s bytes = (k : SiteKept) × MayHold server_rows s k × OnDisk k.disk byte
 -- a start has no epoch left
 abbrev pub is_spent_at : ℕ → Input → Bool
 is_spent_at epoch Start = epoch == LAST_EPOCH
-is_spent_at epoch Own = false
-is_spent_at epoch Tick = false
-is_spent_at epoch (Deliver n p) = false
+is_spent_at epoch _ = false
 
 -- the kept epoch, where the input would raise it past the last one
 abbrev pub spent_at : ServerState → Bytes → Option ℕ
 spent_at s bytes.Start = if s.kept.disk.epoch == LAST_EPOCH then Some s.kept.disk.epoch else None
-spent_at s bytes.Own = None
-spent_at s bytes.Tick = None
-spent_at s (bytes.Packet from b) = None
+spent_at s _ = None
 
 -- why a turn isn't prepared
 abbrev pub IsNotPrepared : ℕ → Input → NodeFault → Type 0
 IsNotPrepared epoch i (fault.Spent e) = (e ≡ epoch) × (is_spent_at epoch i ≡ true)
 IsNotPrepared epoch i fault.Memory = Unit {0}
-IsNotPrepared epoch i fault.Stopped = ⊥
-IsNotPrepared epoch i (fault.Disk disk) = ⊥
-IsNotPrepared epoch i (fault.Damaged disk at) = ⊥
-IsNotPrepared epoch i fault.Read = ⊥
+IsNotPrepared epoch i _ = ⊥
 
 -- each image keeps the kept epoch or the one above it
 pub record Doubts (e : ℕ) (image : List ℕ → Type 0) (k : ServerKept) : Type 0 where

@@ -2,7 +2,7 @@
 use Rattle.std.specs.Prelude.{◌≡◌, ◌⊎◌, ℕ, ◌+◌, ◌<◌, Bool, true, false, Option, Some, None, option_map}
 use Rattle.ballot_core.specs.declared.TheConstants.{LAST_EPOCH}
 use Rattle.turn_defs.specs.declared.node.Input.{Input}
-use Rattle.turn_defs.specs.declared.node.Input.TheVariants.{Start, Own, Tick, Deliver}
+use Rattle.turn_defs.specs.declared.node.Input.TheVariants.{Start}
 use Rattle.turn_defs.specs.Setting.{Setting}
 use Rattle.turn_defs.specs.Nodes.{Addressed}
 use Rattle.turn_defs.specs.Turns.{Out, land}
@@ -53,20 +53,14 @@ pub record Knows (v : RegistrarView) (g : Setting) (k : SiteKept) (live : Option
 -- a node that is down takes Start, and one that is up doesn't
 abbrev pub Fits : Option ServerLive → Input → Type 0
 Fits None Start = Unit {0}
-Fits None Own = ⊥
-Fits None Tick = ⊥
-Fits None (Deliver n p) = ⊥
+Fits None _ = ⊥
 Fits (Some l) Start = ⊥
-Fits (Some l) Own = Unit {0}
-Fits (Some l) Tick = Unit {0}
-Fits (Some l) (Deliver n p) = Unit {0}
+Fits (Some l) _ = Unit {0}
 
 -- a start may raise the epoch
 abbrev pub MayRaise : ℕ → Input → Type 0
 MayRaise epoch Start = epoch < LAST_EPOCH
-MayRaise epoch Own = Unit {0}
-MayRaise epoch Tick = Unit {0}
-MayRaise epoch (Deliver n p) = Unit {0}
+MayRaise epoch _ = Unit {0}
 
 -- a note is of the epoch above this one, which isn't the last
 abbrev pub IsNextNote : ℕ → Option ServerNote → Type 0

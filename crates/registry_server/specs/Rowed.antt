@@ -55,11 +55,7 @@ number_of g (packet.Chosen at v) = Some at.shard
 number_of g (packet.Promise at b prior) = Some at.shard
 number_of g (packet.Accepted at b) = Some at.shard
 number_of g (packet.Nack at b above) = Some at.shard
-number_of g (packet.Join position click) = None
-number_of g (packet.Joined position outcome) = None
-number_of g (packet.Reply x a) = None
-number_of g (packet.Prepare at b) = None
-number_of g (packet.Accept at b v) = None
+number_of g _ = None
 
 -- the proposal, where it is at the slot and the ballot
 abbrev pub current_in : ℕ → Ballot → ℕ → Option Proposer → Option Proposer

@@ -59,8 +59,8 @@ impl<D: Disk> ServerNode<D> {
     ghost use Rattle.site_node.specs.States.{row_of};
     ghost use Rattle.site_node.specs.Faults.{IsOfRestart, IsWhole};
     ghost use Rattle.turn_defs.specs.Server.{ServerKept, ServerLive, land_server};
-    ghost use Rattle.registry_server.specs.Cores.{IsNew, note_of, site_of};
-    ghost use Rattle.registry_server.specs.Registrars.{SiteKept, Knows, Fits, IsNextNote, IsRow, Makes, landed, server_rows};
+    ghost use Rattle.registry_server.specs.Cores.{IsNew, note_of};
+    ghost use Rattle.registry_server.specs.Registrars.{SiteKept, Knows, Fits, IsNextNote, IsRow, Makes, server_rows};
     ghost use Rattle.registry_server.specs.declared.turn.ServerNote.{ServerNote};
     ghost use Rattle.registry_server.specs.Node.{StandsAt, Holds, HoldsOr, OnDiskOr, recorded, IsReady, IsRoomFor, IsBelowLast, IsNotPrepared, down_over};
 
@@ -152,37 +152,7 @@ impl<D: Disk> ServerNode<D> {
         }
     }
 
-    // Appends the note, if there is one, and keeps the turn. Where the disk fails the note is in doubt.
-    fn finish(&mut self, ready: ReadyTurn) -> Result<Done, NodeFault>
-        requires up { self.old.in_doubt ≡ None }
-        requires ready { IsReady self.old.registrar.core self.old.journal.value.epoch ready.turn ready.packets ready.noted }
-        requires room { IsRoomFor ready.noted (D.calls_left self.old.journal.journal.disk) (D.bytes_left self.old.journal.journal.disk) }
-        ensures same { (self.new.site ≡ self.old.site) × (self.new.roster ≡ self.old.roster) }
-        ensures up { OnOk result (self.new.in_doubt ≡ None) }
-        ensures stopped { IsErrOf result NodeFault.Stopped → is_some self.new.in_doubt ≡ true }
-        ensures only_stopped { OnErr result (result ≡ Err NodeFault.Stopped) }
-        ensures fault { OnErr result (Rose (D.faults self.old.journal.journal.disk) (D.faults self.new.journal.journal.disk)) }
-        ensures count { D.faults self.old.journal.journal.disk ≤ D.faults self.new.journal.journal.disk }
-        ensures moments { IsTrue D.tells → (k : ServerKept) → Holds self.old.journal.value.epoch (D.image self.old.journal.journal.disk) self.old.journal.journal.state k → Throughout D.image D.since self.old.journal.journal.disk self.new.journal.journal.disk (OnDiskOr k ready.turn.note) }
-        ensures grows { IsTrue D.tells → (c : List ℕ) → D.image self.new.journal.journal.disk c → Continues (D.image self.old.journal.journal.disk) c }
-        ensures note { IfOk result (λ d. d.note ≡ recorded ready.turn.note) }
-        ensures packets { IfOk result (λ d. d.packets ≡ ready.packets) }
-        ensures knows { OnOk result ((g : Setting) (k : SiteKept) (next : ServerLive) → Makes self.old.registrar.core ready.turn g k.disk next → site_of self.old.registrar.core ≡ k.site
-            → Knows self.new.registrar g (record { site = k.site; disk = landed ready.turn k.disk }) (Some next)) }
-        ensures registrar { OnErr result (self.new.registrar ≡ self.old.registrar) }
-        ensures holds { IsTrue D.tells → (k : ServerKept) → Holds self.old.journal.value.epoch (D.image self.old.journal.journal.disk) self.old.journal.journal.state k → OnOk result (Holds self.new.journal.value.epoch (D.image self.new.journal.journal.disk) self.new.journal.journal.state (landed ready.turn k)) }
-        ensures undone { IsTrue D.tells → (k : ServerKept) → Holds self.old.journal.value.epoch (D.image self.old.journal.journal.disk) self.old.journal.journal.state k → OnErr result (HoldsOr self.new.in_doubt ready.turn.note self.new.journal.value.epoch (D.image self.new.journal.journal.disk) self.new.journal.journal.state k) }
-    {
-        let ReadyTurn {
-            turn,
-            packets,
-            noted,
-        } = ready;
-        let note = self.append(noted)?;
-        self.registrar.keep(turn);
-        Ok(Done { note, packets })
-    }
-
+    // Appends the note, if there is one. Where the disk fails the note is in doubt.
     fn append(&mut self, noted: Option<Payload>) -> Result<Option<Payload>, NodeFault>
         requires up { self.old.in_doubt ≡ None }
         requires room { IsRoomFor noted (D.calls_left self.old.journal.journal.disk) (D.bytes_left self.old.journal.journal.disk) }
@@ -297,15 +267,15 @@ impl<D: Disk> SiteNode for ServerNode<D> {
     ghost images = { λ node s tells. kept_images node.site node.roster node.in_doubt node.journal.value.epoch (D.image node.journal.journal.disk) node.journal.journal.state node.registrar s };
 
     fn wants(&self) -> bool {
-        self.registrar.wants()
+        self.registrar.core().wants()
     }
 
     fn unfinished(&self) -> bool {
-        self.registrar.unfinished()
+        self.registrar.core().unfinished()
     }
 
     fn at_rest(&self) -> bool {
-        self.registrar.at_rest()
+        self.registrar.core().at_rest()
     }
 
     fn turn<G: Gate>(&mut self, input: &Begun, gate: &G) -> Result<Done, NodeFault> {
@@ -319,7 +289,14 @@ impl<D: Disk> SiteNode for ServerNode<D> {
                 if ready.noted.is_some() {
                     gate.pass(Point::BeforeAppend, 2 + u16::from(self.site));
                 }
-                self.finish(ready)
+                let ReadyTurn {
+                    turn,
+                    packets,
+                    noted,
+                } = ready;
+                let note = self.append(noted)?;
+                self.registrar.keep(turn);
+                Ok(Done { note, packets })
             }
         }
     }

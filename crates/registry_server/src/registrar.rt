@@ -43,7 +43,7 @@ impl Registrar {
     ghost use Rattle.site_node.specs.Bytes.{IsInput};
     ghost use Rattle.site_node.specs.States.{row_of};
     ghost use Rattle.turn_defs.specs.Setting.{Setting};
-    ghost use Rattle.turn_defs.specs.Server.{ServerKept, ServerLive, server_at_rest, server_unfinished, server_wants};
+    ghost use Rattle.turn_defs.specs.Server.{ServerKept, ServerLive};
     ghost use Rattle.registry_server.specs.Cores.{Stands, Serves, Decided, IsNew, site_of};
     ghost use Rattle.registry_server.specs.Registrars.{SiteKept, Knows, Fits, MayRaise, IsNextNote, IsRow, Makes, IsSpelledTurn, landed, server_rows};
 
@@ -97,25 +97,11 @@ impl Registrar {
         self.up = true;
     }
 
-    // What its core says.
-    pub(crate) fn wants(&self) -> bool
-        ensures { (g : Setting) (k : ServerKept) (l : ServerLive) → Stands self.now.core g k l → result ≡ server_wants g l }
+    // The core, which says what the server wants.
+    pub(crate) fn core(&self) -> &ServerCore
+        ensures { result.now ≡ self.now.core }
     {
-        self.core.wants()
-    }
-
-    // The same.
-    pub(crate) fn unfinished(&self) -> bool
-        ensures { (g : Setting) (k : ServerKept) (l : ServerLive) → Stands self.now.core g k l → result ≡ server_unfinished g l }
-    {
-        self.core.unfinished()
-    }
-
-    // The same.
-    pub(crate) fn at_rest(&self) -> bool
-        ensures { (g : Setting) (k : ServerKept) (l : ServerLive) → Stands self.now.core g k l → result ≡ server_at_rest g l }
-    {
-        self.core.at_rest()
+        &self.core
     }
 
     // It is down until its next start.

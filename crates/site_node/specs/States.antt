@@ -30,13 +30,9 @@ pub record Rows (K L : Type 0) : Type 0 where
 -- a node that is down starts, and one that is up doesn't
 abbrev pub MayTake : {L : Type 0} → Option L → Bytes → Type 0
 MayTake None bytes.Start = ⊤
-MayTake None bytes.Own = ⊥
-MayTake None bytes.Tick = ⊥
-MayTake None (bytes.Packet from b) = ⊥
+MayTake None _ = ⊥
 MayTake (Some l) bytes.Start = ⊥
-MayTake (Some l) bytes.Own = ⊤
-MayTake (Some l) bytes.Tick = ⊤
-MayTake (Some l) (bytes.Packet from b) = ⊤
+MayTake (Some l) _ = ⊤
 
 -- where a state stands on the bus
 abbrev pub up_phase : {L : Type 0} → Option L → Phase

@@ -1,9 +1,5 @@
 use Rattle.std.proofs.Common.{ℕ, sym, subst}
-use Rattle.std.proofs.lemmas.Result.{IfOk-weaker}
-use Rattle.turn_defs.specs.declared.node.Input.{Input}
-use Rattle.turn_defs.specs.declared.node.Input.TheVariants.{Own, Tick, Deliver}
-use Rattle.dispatch_core.specs.Standing.{Carries, IsKept}
-use Rattle.dispatch_node.specs.Node.{IsAsked}
+use Rattle.dispatch_node.proofs.Words.{IfOk-weaker, Input, Own, Tick, Deliver, Carries, IsKept, IsAsked}
 use Rattle.dispatch_node.proofs.Disks.{distinct_of}
 use Rattle.dispatch_node.proofs.Carried.{knows_up, kept_start, trying_start, trying_found}
 use Rattle.dispatch_node.proofs.asking.look_up.Goals as goal

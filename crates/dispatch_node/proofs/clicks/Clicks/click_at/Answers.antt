@@ -1,6 +1,5 @@
 use Rattle.std.proofs.Common.{inr, subst, Option}
-use Rattle.dispatch_core.specs.Standing.{IsLineAt}
-use Rattle.dispatch_core.specs.declared.input.TakenLine.{TakenLine}
+use Rattle.dispatch_node.proofs.Words.{IsLineAt, TakenLine}
 use Rattle.dispatch_node.proofs.Carried.{click_of_line, click_of_none}
 use Rattle.dispatch_node.proofs.clicks.Clicks.click_at.Goals as goal
 

@@ -1,7 +1,5 @@
 use Rattle.std.proofs.Common.{ℕ, List, take, get_or, sym, ◌∙◌, subst, arith}
-use Rattle.std.proofs.lemmas.List.{take_more, take_all}
-use Rattle.dispatch_core.specs.Standing.{AreClicksAt}
-use Rattle.dispatch_node.specs.Places.{IsLogOf}
+use Rattle.dispatch_node.proofs.Words.{take_more, take_all, AreClicksAt, IsLogOf}
 use Rattle.dispatch_node.proofs.Carried.{has_at}
 use Rattle.dispatch_node.proofs.clicks.Clicks.clicks_at.Goals as goal
 

@@ -1,10 +1,6 @@
 use Rattle.std.proofs.Common.{◌≡◌, ◌≤◌, ℕ, true, take}
 use Rattle.std.specs.Prelude.{All, IsTrue}
-use Rattle.list_words.specs.Lists.{has}
-use Rattle.log_records.specs.Line.{IsClick}
-use Rattle.turn_defs.specs.Setting.{Setting}
-use Rattle.dispatch_core.specs.Standing.{AreClicksAt}
-use Rattle.dispatch_node.specs.Places.{IsLogOf, StartsAt}
+use Rattle.dispatch_node.proofs.Words.{has, IsClick, Setting, AreClicksAt, IsLogOf, StartsAt}
 use Rattle.dispatch_node.proofs.clicks.Clicks.clicks_at.Given as goal
 
 -- the clicks of the first positions

@@ -1,6 +1,5 @@
 use Rattle.std.proofs.Common.{◌≡◌, List, ◌++◌, ◌∷◌, [], Option, sym, ◌∙◌, subst}
-use Rattle.log_records.specs.declared.records.ClickRec.{ClickRec as Click}
-use Rattle.dispatch_core.specs.Standing.{AreClicksAt, click_at}
+use Rattle.dispatch_node.proofs.Words.{Click, AreClicksAt, click_at}
 use Rattle.dispatch_node.proofs.Carried.{clicks_more, pushed_items}
 use Rattle.dispatch_node.proofs.clicks.Clicks.put_click.Goals as goal
 

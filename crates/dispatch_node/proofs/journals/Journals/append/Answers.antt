@@ -1,9 +1,5 @@
 use Rattle.std.proofs.Common.{◌≡◌, ℕ, List, true, sym, ap, ◌∙◌, subst, arith}
-use Rattle.outside.specs.Disk.{Throughout}
-use Rattle.retry_log.specs.Pending.{KeepsOr}
-use Rattle.dispatch_core.proofs.Sets.{any_has}
-use Rattle.dispatch_core.specs.declared.turns.DispatchNote.{DispatchNote}
-use Rattle.dispatch_node.specs.Kept.{kept_as, landed, takes_note}
+use Rattle.dispatch_node.proofs.Words.{Throughout, KeepsOr, any_has, DispatchNote, kept_as, landed, takes_note}
 use Rattle.dispatch_node.proofs.Disks.{none_parked, settled, on_ok}
 use Rattle.dispatch_node.proofs.journals.Journals.append.Goals as goal
 

@@ -1,8 +1,5 @@
 use Rattle.std.proofs.Common.{not, nat_eq, sym, ap, ◌∙◌}
-use Rattle.retry_log.specs.declared.retries.Retries.{Retries}
-use Rattle.indexmap.specs.IndexSet.{contains}
-use Rattle.dispatch_core.proofs.Sets.{any_has}
-use Rattle.dispatch_node.specs.Kept.{kept_as, takes_note}
+use Rattle.dispatch_node.proofs.Words.{Retries, contains, any_has, kept_as, takes_note}
 use Rattle.dispatch_node.proofs.journals.Journals.takes.Goals as goal
 
 pub returns-in-Park : goal.returns-in-Park

@@ -1,7 +1,5 @@
 use Rattle.std.proofs.Common.{◌∙◌, ap}
-use Rattle.list_words.proofs.Lists.{clash}
-use Rattle.turn_defs.specs.Dispatcher.{DispatcherKept}
-use Rattle.dispatch_node.specs.Kept.{takes_or_none}
+use Rattle.dispatch_node.proofs.Words.{clash, DispatcherKept, takes_or_none}
 use Rattle.dispatch_node.proofs.Standing.{row_taken}
 use Rattle.dispatch_node.proofs.node.DispatchNode.expect_taken.Goals as goal
 

@@ -1,8 +1,5 @@
 use Rattle.std.proofs.Common.{List, subst}
-use Rattle.turn_defs.specs.declared.packet.Packet.{Packet}
-use Rattle.turn_defs.specs.declared.node.Node.{Node}
-use Rattle.site_node.specs.Bytes.{AreSpelled}
-use Rattle.dispatch_core.specs.Changes.{note_of}
+use Rattle.dispatch_node.proofs.Words.{Packet, Node, AreSpelled, note_of}
 use Rattle.dispatch_node.proofs.node.DispatchNode.prepare.Goals as goal
 
 pub returns-clause-ready : goal.returns-clause-ready

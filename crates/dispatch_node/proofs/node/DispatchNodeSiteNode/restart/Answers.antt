@@ -1,5 +1,5 @@
 use Rattle.std.proofs.Common.{rules, refl, sym, ◌∙◌}
-use Rattle.dispatch_node.specs.Images.{one_of}
+use Rattle.dispatch_node.proofs.Words.{one_of}
 use Rattle.dispatch_node.proofs.Turning.{some_of, if_err}
 use Rattle.dispatch_node.proofs.Restarting.{nothing_landed, note_landed, restart_moment, still_doubted, doubt_kept}
 use Rattle.dispatch_node.proofs.node.DispatchNodeSiteNode.restart.Goals as goal

@@ -42,30 +42,19 @@ returns-else-landed-clause-stopped g c tells s at =
     )
 
 pub returns-then-landed-clause-moments : goal.returns-then-landed-clause-moments
-returns-then-landed-clause-moments g c tells s at bytes left =
-    let d = g.D.Disk in
-    let old = c.args.self.now in
-    let was = d.image old.journal.journal.disk in
-    (left_moments d.image d.since old.journal.journal.disk c.reread.new.self.journal.journal.disk s (kept_images old.site old.roster old.in_doubt old.journal.value.epoch was old.journal.journal.state old.registrar s at) (c.reread.ensures.moments tells)).each bytes left
+returns-then-landed-clause-moments g c tells s at =
+    (left_moments g.D.Disk.image g.D.Disk.since c.args.self.now.journal.journal.disk c.reread.new.self.journal.journal.disk s (kept_images _ _ _ _ _ _ _ s at) (c.reread.ensures.moments tells)).each
 
 pub returns-else-landed-clause-moments : goal.returns-else-landed-clause-moments
-returns-else-landed-clause-moments g c tells s at bytes left =
-    let d = g.D.Disk in
-    let old = c.args.self.now in
-    let was = d.image old.journal.journal.disk in
-    (left_moments d.image d.since old.journal.journal.disk c.reread.new.self.journal.journal.disk s (kept_images old.site old.roster old.in_doubt old.journal.value.epoch was old.journal.journal.state old.registrar s at) (c.reread.ensures.moments tells)).each bytes left
+returns-else-landed-clause-moments g c tells s at =
+    (left_moments g.D.Disk.image g.D.Disk.since c.args.self.now.journal.journal.disk c.reread.new.self.journal.journal.disk s (kept_images _ _ _ _ _ _ _ s at) (c.reread.ensures.moments tells)).each
 
 pub returns-in_err-reread-clause-moments : goal.returns-in_err-reread-clause-moments
-returns-in_err-reread-clause-moments g c tells s at bytes left =
-    let d = g.D.Disk in
-    let old = c.args.self.now in
-    let was = d.image old.journal.journal.disk in
-    (left_moments d.image d.since old.journal.journal.disk c.reread.new.self.journal.journal.disk s (kept_images old.site old.roster old.in_doubt old.journal.value.epoch was old.journal.journal.state old.registrar s at) (c.reread.ensures.moments tells)).each bytes left
+returns-in_err-reread-clause-moments g c tells s at =
+    (left_moments g.D.Disk.image g.D.Disk.since c.args.self.now.journal.journal.disk c.reread.new.self.journal.journal.disk s (kept_images _ _ _ _ _ _ _ s at) (c.reread.ensures.moments tells)).each
 
 pub returns-in_err-reread-clause-whole : goal.returns-in_err-reread-clause-whole
 returns-in_err-reread-clause-whole g c tells s at =
-    let old = c.args.self.now in
-    let was = g.D.Disk.image old.journal.journal.disk in
-    let images = kept_images old.site old.roster old.in_doubt old.journal.value.epoch was old.journal.journal.state old.registrar s at in
+    let images = kept_images _ _ _ _ _ _ _ s at in
     let whole = c.in_err-reread.ensures.whole tells (λ b here. let kept = images b here in (kept.0.disk.epoch, kept.2)) in
     search rules

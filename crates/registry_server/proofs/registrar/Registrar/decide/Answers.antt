@@ -1,7 +1,18 @@
 use Rattle.std.proofs.Common.{sym, subst}
+use Rattle.std.specs.Prelude.{IfOk}
 use Rattle.registry_server.proofs.Words.{IfOk-weaker, IsSpelledPlan, RegistrarView, Knows}
-use Rattle.registry_server.proofs.Registering.{decides, stays, goes, fit}
+use Rattle.registry_server.proofs.Registering.{Decides, IsFit, decides, stays, goes, fit}
 use Rattle.registry_server.proofs.registrar.Registrar.decide.Goals as goal
+use Rattle.registry_server.proofs.registrar.Registrar.decide.Goals.{Joined-taken}
+
+decided : (c : Joined-taken) → IfOk c.decide.result (Decides c.self.inside.core c.decide.new.self c.args.epoch c.args.input)
+decided c =
+    let taken = c.taken_as-taken in
+    let e = c.decide.ensures in
+    decides c.decide.result _ _ _ _ taken.result taken.ensures.start taken.ensures.other e.start e.begins e.turn e.same e.serves e.site
+
+fits : (c : Joined-taken) → IfOk c.decide.result (IsFit c.self.inside.core c.decide.new.self c.args.epoch)
+fits c = IfOk-weaker c.decide.result _ _ (λ turn d. fit c.self.inside.core c.decide.new.self c.args.epoch turn c.args.input c.self.invariant c.requires.spelled c.requires.low d) (decided c)
 
 pub returns-clause-same : goal.returns-clause-same
 returns-clause-same c = λ g k live knows.
@@ -9,55 +20,22 @@ returns-clause-same c = λ g k live knows.
 
 pub returns-clause-turn : goal.returns-clause-turn
 returns-clause-turn c =
-    let old = c.self.inside.core in
-    let new = c.decide.new.self in
-    let epoch = c.args.epoch in
-    let i = c.args.input in
-    let taken = c.taken_as-taken in
-    let all = decides c.decide.result old new epoch i taken.result taken.ensures.start taken.ensures.other c.decide.ensures.start c.decide.ensures.begins c.decide.ensures.turn c.decide.ensures.same c.decide.ensures.serves c.decide.ensures.site in
     IfOk-weaker c.decide.result _ _
-    (λ turn d g k live knows same fits. (goes old new epoch turn i c.self.inside.up g k live d (subst (λ (v : RegistrarView). Knows v g k live) (sym c.self.view_is) knows) same fits).row) all
+    (λ turn d g k live knows same fits. (goes c.self.inside.core c.decide.new.self c.args.epoch turn c.args.input c.self.inside.up g k live d (subst (λ (v : RegistrarView). Knows v g k live) (sym c.self.view_is) knows) same fits).row) (decided c)
 
 pub returns-clause-next : goal.returns-clause-next
 returns-clause-next c =
-    let old = c.self.inside.core in
-    let new = c.decide.new.self in
-    let epoch = c.args.epoch in
-    let i = c.args.input in
-    let taken = c.taken_as-taken in
-    let all = decides c.decide.result old new epoch i taken.result taken.ensures.start taken.ensures.other c.decide.ensures.start c.decide.ensures.begins c.decide.ensures.turn c.decide.ensures.same c.decide.ensures.serves c.decide.ensures.site in
     IfOk-weaker c.decide.result _ _
-    (λ turn d g k live knows same fits. (goes old new epoch turn i c.self.inside.up g k live d (subst (λ (v : RegistrarView). Knows v g k live) (sym c.self.view_is) knows) same fits).makes) all
+    (λ turn d g k live knows same fits. (goes c.self.inside.core c.decide.new.self c.args.epoch turn c.args.input c.self.inside.up g k live d (subst (λ (v : RegistrarView). Knows v g k live) (sym c.self.view_is) knows) same fits).makes) (decided c)
 
 pub returns-clause-packets : goal.returns-clause-packets
-returns-clause-packets c =
-    let old = c.self.inside.core in
-    let new = c.decide.new.self in
-    let epoch = c.args.epoch in
-    let i = c.args.input in
-    let taken = c.taken_as-taken in
-    let all = decides c.decide.result old new epoch i taken.result taken.ensures.start taken.ensures.other c.decide.ensures.start c.decide.ensures.begins c.decide.ensures.turn c.decide.ensures.same c.decide.ensures.serves c.decide.ensures.site in
-    IfOk-weaker c.decide.result _ _ (λ turn d. (fit old new epoch turn i c.self.invariant c.requires.spelled c.requires.low d).packets) all
+returns-clause-packets c = IfOk-weaker c.decide.result _ _ (λ turn fit. fit.packets) (fits c)
 
 pub returns-clause-spelled : goal.returns-clause-spelled
-returns-clause-spelled c =
-    let old = c.self.inside.core in
-    let new = c.decide.new.self in
-    let epoch = c.args.epoch in
-    let i = c.args.input in
-    let taken = c.taken_as-taken in
-    let all = decides c.decide.result old new epoch i taken.result taken.ensures.start taken.ensures.other c.decide.ensures.start c.decide.ensures.begins c.decide.ensures.turn c.decide.ensures.same c.decide.ensures.serves c.decide.ensures.site in
-    IfOk-weaker c.decide.result _ _ (λ turn d. (fit old new epoch turn i c.self.invariant c.requires.spelled c.requires.low d).spelled) all
+returns-clause-spelled c = IfOk-weaker c.decide.result _ _ (λ turn fit. fit.spelled) (fits c)
 
 pub returns-clause-noted : goal.returns-clause-noted
-returns-clause-noted c =
-    let old = c.self.inside.core in
-    let new = c.decide.new.self in
-    let epoch = c.args.epoch in
-    let i = c.args.input in
-    let taken = c.taken_as-taken in
-    let all = decides c.decide.result old new epoch i taken.result taken.ensures.start taken.ensures.other c.decide.ensures.start c.decide.ensures.begins c.decide.ensures.turn c.decide.ensures.same c.decide.ensures.serves c.decide.ensures.site in
-    IfOk-weaker c.decide.result _ _ (λ turn d. (fit old new epoch turn i c.self.invariant c.requires.spelled c.requires.low d).noted) all
+returns-clause-noted c = IfOk-weaker c.decide.result _ _ (λ turn fit. fit.noted) (fits c)
 
 pub invariant_of-self : goal.invariant_of-self
 invariant_of-self c =

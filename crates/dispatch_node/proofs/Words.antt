@@ -1,0 +1,70 @@
+-- The words of this crate's proofs: what they take from its definitions and from the crates below, under one name each.
+pub use Rattle.air_bus.specs.declared.entry.Entry.TheVariants.{Begin, End, Stop}
+pub use Rattle.air_bus.specs.declared.entry.Input.{Input as Bytes}
+pub use Rattle.dispatch_core.proofs.Sets.{any_has, removed}
+pub use Rattle.dispatch_core.specs.Changes.{note_of, told}
+pub use Rattle.dispatch_core.specs.Standing.{AreClicksAt, Carries, IsKept, IsLineAt, IsLookedUp, IsOf, IsTurn, Stands, click_at, live_of, out_of}
+pub use Rattle.dispatch_core.specs.declared.dispatch.DispatchCore.{DispatchCore}
+pub use Rattle.dispatch_core.specs.declared.input.TakenLine.{TakenLine}
+pub use Rattle.dispatch_core.specs.declared.turns.DispatchNote.{DispatchNote}
+pub use Rattle.dispatch_core.specs.declared.turns.DispatchNote.TheVariants.{Advance, Park, Settle}
+pub use Rattle.dispatch_core.specs.declared.turns.Turn.{Turn}
+pub use Rattle.dispatch_node.specs.Faults.{fault_told}
+pub use Rattle.dispatch_node.specs.Follows.{AreInOrder, Follows, IsRowTaken}
+pub use Rattle.dispatch_node.specs.Images.{KeptOn, OnDisks, kept_or, one_of}
+pub use Rattle.dispatch_node.specs.Kept.{Holds, MayKeep, kept_as, landed, takes_note, takes_or_none}
+pub use Rattle.dispatch_node.specs.Node.{DispatcherState, Doubts, IsAsked, IsOpenAt, IsRecorded, IsTakenBy, Knows, Parts, SiteLeads, StandsAt, StandsBy, dispatcher_rows, landed_by}
+pub use Rattle.dispatch_node.specs.Places.{AreKeptPlaces, AreLivePlaces, IsEntry, IsLogOf, IsReadable, StartsAt}
+pub use Rattle.gate_journal.proofs.Growth.{continues_same, continues_through}
+pub use Rattle.gate_journal.specs.Fold.{Fold, fails_at, folds_to, read_as}
+pub use Rattle.gate_journal.specs.Gate.{gate_rule}
+pub use Rattle.gate_journal.specs.Growth.{Continues}
+pub use Rattle.gate_journal.specs.Opening.{IsOpened}
+pub use Rattle.gate_journal.specs.Records.{Read as Payloads}
+pub use Rattle.gate_journal.specs.declared.reading.JournalFault.{JournalFault}
+pub use Rattle.indexmap.specs.IndexSet.{contains}
+pub use Rattle.list_words.proofs.Lists.{clash, each_append, has_push-false, has_push-left, has_push-or, has_push-right, has_without, has_without-false, has_without-self, has_without-true, option_both}
+pub use Rattle.list_words.proofs.Splits.{lacks_none, split_same}
+pub use Rattle.list_words.specs.Bytes.{Lacks}
+pub use Rattle.list_words.specs.Lists.{Distinct, Each, Mem, has, without}
+pub use Rattle.log_records.proofs.Grammar.{click_right}
+pub use Rattle.log_records.proofs.LineOrder.{at_mem, at_own, within_end}
+pub use Rattle.log_records.proofs.Places.{lines_end, lines_follow, lines_stand}
+pub use Rattle.log_records.proofs.Reading.{click_lacks}
+pub use Rattle.log_records.specs.Line.{IsClick, click_line}
+pub use Rattle.log_records.specs.Lines.{ClickLine, Follow, IsBoundary, at, end_from, placed}
+pub use Rattle.log_records.specs.Log.{line_feed}
+pub use Rattle.log_records.specs.declared.records.ClickRec.{ClickRec as Click}
+pub use Rattle.outside.specs.Disk.{Throughout}
+pub use Rattle.outside.specs.Faults.{Rose}
+pub use Rattle.outside.specs.declared.store.DiskName.{DiskName}
+pub use Rattle.retry_log.specs.Pending.{KeepsOr}
+pub use Rattle.retry_log.specs.declared.retries.Retries.{Retries}
+pub use Rattle.site_node.proofs.Turns.{ends_done, ends_idle, none_of}
+pub use Rattle.site_node.specs.Bytes.{AreSpelled, IsJunk, Reads, record_of}
+pub use Rattle.site_node.specs.Faults.{IsOfRestart, IsWhole}
+pub use Rattle.site_node.specs.States.{Leads, MayTake, State, closes, row, row_of, written}
+pub use Rattle.site_node.specs.declared.kind.NodeFault.{NodeFault}
+pub use Rattle.site_node.specs.declared.kind.NodeFault.TheVariants.{Damaged, Disk, Memory}
+pub use Rattle.std.proofs.Math.Seq.{drop-append_seam}
+pub use Rattle.std.proofs.lemmas.Bool.{cond_both, eq-eqb, eqb-true, le-ltb, lt-ltb, or_left, or_right}
+pub use Rattle.std.proofs.lemmas.Cmp.{nat_eq_equiv}
+pub use Rattle.std.proofs.lemmas.List.{take_all, take_more}
+pub use Rattle.std.proofs.lemmas.Result.{IfOk-weaker}
+pub use Rattle.std.specs.List.{AllByRecursion}
+pub use Rattle.std.specs.Option.{option_map}
+pub use Rattle.std.specs.Result.{result_unwrap_or}
+pub use Rattle.std.specs.Set.{remove_key}
+pub use Rattle.tail_reader.specs.Buffered.{behind}
+pub use Rattle.tail_reader.specs.Next.{IsNext}
+pub use Rattle.tail_reader.specs.declared.tail.Next.{Next}
+pub use Rattle.tail_reader.specs.declared.tail.Next.TheVariants.{Line, Long}
+pub use Rattle.turn_defs.specs.Dispatcher.{DispatcherKept, DispatcherLive, Fresh, advances, after_done, dispatcher_gets, dispatcher_joined, dispatcher_looks, dispatcher_own, dispatcher_start, dispatcher_turn, done_end, ends, first_done, has_room, land_dispatcher, mark, parks, retries, taken, takes, waits, with_room}
+pub use Rattle.turn_defs.specs.Setting.{Setting}
+pub use Rattle.turn_defs.specs.Turns.{Note, Out, idle, land}
+pub use Rattle.turn_defs.specs.declared.node.Input.{Input}
+pub use Rattle.turn_defs.specs.declared.node.Input.TheVariants.{Deliver, Own, Start, Tick}
+pub use Rattle.turn_defs.specs.declared.node.Node.{Node}
+pub use Rattle.turn_defs.specs.declared.packet.Outcome.{Outcome}
+pub use Rattle.turn_defs.specs.declared.packet.Outcome.TheVariants.{Busy, NoQuery}
+pub use Rattle.turn_defs.specs.declared.packet.Packet.{Packet}

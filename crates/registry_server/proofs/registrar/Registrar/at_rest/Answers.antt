@@ -1,6 +1,0 @@
-use Rattle.std.proofs.Common.{ap, sym, subst}
-use Rattle.registry_server.proofs.Words.{Stands, RegistrarView, ServerCore}
-use Rattle.registry_server.proofs.registrar.Registrar.at_rest.Goals as goal
-
-pub returns : goal.returns
-returns c = λ g k l stands. c.at_rest.ensures g k l (subst (λ (x : ServerCore). Stands x g k l) (sym (ap (λ (v : RegistrarView). v.core) c.self.view_is)) stands)
