@@ -1,19 +1,42 @@
 -- What one line more says of an id.
-use Rattle.std.proofs.Common.{◌≡◌, ℕ, ◌<◌, ◌≤◌, List, [], ◌∷◌, Option, Some, None, true, false, is_some, IfSome, IfNone, refl, sym, ap, ◌∙◌, subst, arith}
+use Rattle.std.proofs.Common.{◌≡◌, ℕ, ◌<◌, ◌≤◌, List, [], ◌∷◌, ◌++◌, length, Bool, Option, Some, None, true, false, is_some, refl, sym, ap, ◌∙◌, subst, arith}
 use Rattle.std.specs.Option.{option_or}
 use Rattle.std.proofs.lemmas.Bool.{both_ways}
+use Rattle.list_words.proofs.Splits.{split_same}
 use Rattle.event_id.specs.declared.id.EventId.{EventId}
+use Rattle.event_id.specs.EventId.{is_same, spell}
 use Rattle.log_records.specs.declared.records.QueryRec.{QueryRec}
-use Rattle.event_store.specs.Read.{ReadsNext, ReadsLines, IsAtEnd}
+use Rattle.log_records.specs.Line.{space}
+use Rattle.tail_reader.specs.declared.tail.Next.TheVariants.{Line, Long}
+use Rattle.tail_reader.specs.Buffered.{line_feed}
+use Rattle.tail_reader.specs.Next.{IsNext}
+use Rattle.event_store.specs.Read.{ReadsAs, ReadsNext, ReadsLines}
 use Rattle.event_store.specs.Found.{found}
 use Rattle.event_store.proofs.Changes.{no_value}
-use Rattle.event_store.proofs.Walks.{next_same, next_not_end, next_beyond, walk_done, found_cons}
+use Rattle.event_store.proofs.Orders.{same_id}
+use Rattle.event_store.proofs.Refused.{long_line}
+use Rattle.event_store.proofs.Walks.{next_same, next_beyond, walk_done, found_cons}
 
-pub looked : (log : List ℕ) (place new next : ℕ) (line : Option (Option QueryRec)) (read : Option QueryRec) (id : EventId) (result : Option QueryRec) → IfSome line (λ r. ReadsNext log place new r) → IfNone line (IsAtEnd log place) → IfSome line (λ r. result ≡ found (r ∷ []) id) → ReadsNext log place next read → (new ≡ next) × (result ≡ found (read ∷ []) id)
-looked log place new next None read id result some none is step = absurd (next_not_end log place next read step none)
-looked log place new next (Some r) read id result some none is step =
-    let one = next_same log place new next r read some step in
-    (one.0, is ∙ ap (λ (x : Option QueryRec). found (x ∷ []) id) one.1)
+-- the line that is handed out is the next one
+pub handed_out : (log : List ℕ) (place p e next : ℕ) (line : List ℕ) (read : Option QueryRec) → IsNext log place (Line p e) line → ReadsNext log place next read → (e ≡ next) × ReadsAs line read
+handed_out log place p e next line read (is_place, ends, short, lacks, stands) (line', rest', is', lacks', ends', reads) =
+    let parts = split_same line_feed line stands.0 line' rest' lacks lacks' (sym stands.1 ∙ is') in
+    (omega (arith, ends, ends', ap length parts.0), subst (λ (l : List ℕ). ReadsAs l read) (sym parts.0) reads)
+
+-- a line that is too long is none
+pub passed_over : (log : List ℕ) (place p e next : ℕ) (line : List ℕ) (read : Option QueryRec) (id : EventId) → IsNext log place (Long p e) line → ReadsNext log place next read → (e ≡ next) × (None ≡ found (read ∷ []) id)
+passed_over log place p e next line read id told step =
+    let one = next_same log place e next None read (long_line log place p e told) step in
+    (one.0, ap (λ (x : Option QueryRec). found (x ∷ []) id) one.1)
+
+-- a line that doesn't begin with the id's text hasn't the id
+pub not_begun : (line text : List ℕ) (id : EventId) (read : Option QueryRec) (begins : Bool) → text ≡ spell id → ((rest : List ℕ) → line ≡ text ++ rest → begins ≡ true) → begins ≡ false → ReadsAs line read → None ≡ found (read ∷ []) id
+not_begun line text id None begins is only not reads = refl
+not_begun line text id (Some q) begins is only not reads = here (is_same id q.id) refl
+  where
+    here : (t : Bool) → is_same id q.id ≡ t → None ≡ found (Some q ∷ []) id
+    here false other = rw other refl
+    here true same = absurd (both_ways begins not (only (space ∷ q.text) (reads.1 ∙ ap (λ (i : EventId). spell i ++ space ∷ q.text) (sym (same_id id q.id same)) ∙ ap (λ (t : List ℕ). t ++ space ∷ q.text) (sym is))))
 
 a_value : {A : Type 0} (o : Option A) → is_some o ≡ true → (x : A) × (o ≡ Some x)
 a_value None e = absurd (both_ways false refl e)

@@ -14,7 +14,7 @@ use Rattle.tail_reader.specs.Buffered.{line_feed}
 use Rattle.event_store.specs.Read.{ReadsAs, ReadsNext, ReadsLines, IsAtEnd}
 use Rattle.event_store.specs.Found.{records, found}
 
-read_same : (line : List ℕ) (r s : Option QueryRec) → ReadsAs line r → ReadsAs line s → r ≡ s
+pub read_same : (line : List ℕ) (r s : Option QueryRec) → ReadsAs line r → ReadsAs line s → r ≡ s
 read_same line None None a b = refl
 read_same line None (Some q) a b = absurd (a q b.0 b.1)
 read_same line (Some q) None a b = absurd (b q a.0 a.1)

@@ -45,9 +45,10 @@ pub fn next_record<L: LogFile>(
     }
 }
 
-// The record that the line is, or none.
-fn read_line(alloc: Global, line: &[u8]) -> Result<Option<QueryRec>, LookFault>
+/// The record that the line is, or none.
+pub fn read_line(alloc: Global, line: &[u8]) -> Result<Option<QueryRec>, LookFault>
     ensures line { IfOk result (ReadsAs line.now) }
+    ensures spelled { IfOk result (λ read. IfSome read IsQuery) }
     ensures err { IfErr result (λ e. e ≡ fault.Memory) }
 {
     match read_query(alloc, line) {

@@ -1,5 +1,24 @@
-use Rattle.event_store.proofs.Looking.{looked}
+use Rattle.std.proofs.Common.{◌∙◌, []}
+use Rattle.std.proofs.lemmas.Result.{IfOk-weaker}
+use Rattle.event_store.proofs.Looking.{handed_out, passed_over}
+use Rattle.event_store.proofs.Walks.{next_not_end}
 use Rattle.event_store.proofs.scan.look_at.Goals as goal
 
-pub returns-clause-line : goal.returns-clause-line
-returns-clause-line g c = λ t next read step. looked (g.L.LogFile.bytes c.args.tail.now.log) c.args.tail.now.place c.next_record.new.tail.place next c.in_ok-line.line read c.args.id c.with_id.result (c.in_ok-line.ensures.line t) (c.in_ok-line.ensures.end t) c.with_id.ensures.found step
+pub returns-in-Line-clause-line : goal.returns-in-Line-clause-line
+returns-in-Line-clause-line g c = λ t next read step.
+    let told = rw c.in-Line.is at (c.in-Ok.ensures.next t) in
+    let place = rw c.in-Line.is at c.in-Ok.ensures.place in
+    let out = handed_out (g.L.LogFile.bytes c.args.tail.now.log) c.args.tail.now.place _ _ next _ read told step in
+    IfOk-weaker c.in_line.result _ _ (λ q is. (place ∙ out.0, is)) (c.in_line.ensures.found read (rw c.line.ensures out.1))
+
+pub returns-in-Long-clause-line : goal.returns-in-Long-clause-line
+returns-in-Long-clause-line g c = λ t next read step.
+    let told = rw c.in-Long.is at (c.in-Ok.ensures.next t) in
+    let place = rw c.in-Long.is at c.in-Ok.ensures.place in
+    let over = passed_over (g.L.LogFile.bytes c.args.tail.now.log) c.args.tail.now.place _ _ next [] read c.args.id told step in
+    (place ∙ over.0, over.1)
+
+pub returns-in-End-clause-line : goal.returns-in-End-clause-line
+returns-in-End-clause-line g c = λ t next read step.
+    let told = rw c.in-End.is at (c.in-Ok.ensures.next t) in
+    absurd (next_not_end (g.L.LogFile.bytes c.args.tail.now.log) c.args.tail.now.place next read step told.1)

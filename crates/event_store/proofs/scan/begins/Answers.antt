@@ -1,0 +1,6 @@
+use Rattle.std.proofs.lemmas.Bool.Decides.{Decides-eqb}
+use Rattle.std.proofs.lemmas.Slice.Eq.{starts_is}
+use Rattle.event_store.proofs.scan.begins.Goals as goal
+
+pub returns : goal.returns
+returns c = (starts_is Decides-eqb c.args.line.now c.args.text.now c.starts_with.result c.starts_with.ensures.value).1
