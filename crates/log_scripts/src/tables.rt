@@ -2,9 +2,10 @@
 use script_lines::texts::id_of;
 use script_lines::{Part, Stop, Words};
 use std::alloc::Global;
-use time_shards::{ShardRow, Table};
+use time_shards::{MAX_SHARDS, ShardRow, Table};
 
-/// `table TEXT`: the rows of a table, and its most shards. `shard TABLE ID`: the shard of an id.
+/// `table TEXT`: the rows of a table, and its most shards. `add TABLE START COUNT`: the table with one more row.
+/// `shard TABLE ID`: the shard of an id.
 #[derive(Drop)]
 pub struct Tables;
 
@@ -21,6 +22,7 @@ impl Part for Tables {
                 text.extend_from_slice(words.behind().as_bytes())?;
                 table(alloc, &text)
             }
+            "add" => add(alloc, words),
             "shard" => shard(alloc, words),
             _ => Err(Stop::Words),
         }
@@ -44,6 +46,21 @@ fn told(alloc: Global, table: &Table) -> Result<String, Stop> {
 
 fn row_text(alloc: Global, row: ShardRow) -> Result<String, Stop> {
     Ok(format!(in alloc; " {} from {}", row.count, row.start)?)
+}
+
+fn add(alloc: Global, words: &mut Words<'_>) -> Result<String, Stop> {
+    let Ok(table) = Table::read(words.word()?.as_bytes()) else {
+        return Err(Stop::Words);
+    };
+    let start = words.number()?;
+    let count = words.number()?;
+    if count == 0 || count > MAX_SHARDS {
+        return Err(Stop::Words);
+    }
+    match table.add(start, count) {
+        Ok(table) => told(alloc, &table),
+        Err(fault) => Ok(format!(in alloc; "{fault:?}")?),
+    }
 }
 
 fn shard(alloc: Global, words: &mut Words<'_>) -> Result<String, Stop> {

@@ -7,10 +7,10 @@ use script_lines::{Part, Stop, Words};
 use std::alloc::Global;
 use time_shards::Table;
 use turn_defs::PairRec;
-use verify_pass::{Journals, NoteList, PairList, classify, missing};
+use verify_pass::{Journals, NoteList, PairList, TooSoon, classify, missing, too_soon};
 
 /// `note ..` is of the next replica, which `replica` ends; `pair TOKEN CLICK / QUERY` is of the next output, which `output` ends.
-/// `classify TABLE ID..` and `missing TABLE` are asked of the ended ones.
+/// `classify TABLE ID..`, `missing TABLE` and `soon START` are asked of the ended ones.
 #[derive(Drop)]
 pub struct Votes {
     notes: Vec<ReplicaNote>,
@@ -63,6 +63,7 @@ impl Part for Votes {
             "output" => self.end_output(alloc),
             "classify" => classes(alloc, &self.journals, words),
             "missing" => unwritten(alloc, &self.journals, words),
+            "soon" => soon(alloc, &self.journals, words.number()?),
             _ => Err(Stop::Words),
         }
     }
@@ -112,6 +113,17 @@ fn unwritten(alloc: Global, journals: &Journals, words: &mut Words<'_>) -> Resul
         put(&mut text, told_id(alloc, *id)?.as_str())?;
     }
     Ok(text)
+}
+
+fn soon(alloc: Global, journals: &Journals, start: u64) -> Result<String, Stop> {
+    match too_soon(journals, start) {
+        Some(TooSoon::Bound(bound)) => Ok(format!(in alloc; "bound {bound}")?),
+        Some(TooSoon::Id(id)) => {
+            let id = told_id(alloc, id)?;
+            Ok(format!(in alloc; "id {id}")?)
+        }
+        None => Ok(format!(in alloc; "none")?),
+    }
 }
 
 // One more, behind a comma.

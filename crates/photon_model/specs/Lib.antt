@@ -3,6 +3,7 @@ pub mod Voting
 pub mod EveryRun
 pub mod Headline
 pub mod Stores
+pub mod Adding
 pub mod Claims
 pub mod Images
 pub mod Alone

@@ -10,6 +10,7 @@ ghost use Rattle.photon_model.specs.Headline.{DecidesOnce, ForgetsNothing, HasOw
 ghost use Rattle.turn_defs.specs.Setting.{Setting};
 ghost use Rattle.photon_model.specs.Topology.{WholeSound};
 ghost use Rattle.photon_model.specs.Stores.{LongerKeepsStores, LongerKeepsWhole, ReadIsChecked, ReadIsOver, RecordsStay, RunsKeepStores, RunsKeepWhole, SoundCloses, TopologyComesFirst, empty_store};
+ghost use Rattle.photon_model.specs.Adding.{MovesUnsettled, RowKeepsReport, RowKeepsStores, RowKeepsWhole};
 ghost use Rattle.photon_model.specs.Exact.{AtRestFromEmpty, ClicksAreExact, ReportIsExact};
 ghost use Rattle.photon_model.specs.Example.{ClickIsJoined, RunsAreStrict, StoresAreStrict};
 ghost use Rattle.photon_model.specs.Claims.{EveryClaimSent};
@@ -76,6 +77,15 @@ pub fn whole_stores()
     ensures topology { TopologyComesFirst }
     ensures runs { RunsKeepWhole }
     ensures longer { LongerKeepsWhole }
+{}
+
+/// A row may be put behind a table's rows where nothing that any replica accepted forbids its start: the ids that it moves to
+/// other shards aren't settled, a sound store stays sound, and its report the same.
+pub fn added_rows()
+    ensures moved { MovesUnsettled }
+    ensures stores { RowKeepsStores }
+    ensures report { RowKeepsReport }
+    ensures whole { RowKeepsWhole }
 {}
 
 /// Each join in flight has sent its insert.

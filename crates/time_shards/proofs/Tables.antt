@@ -1,6 +1,6 @@
 -- Rows of a table.
-use Rattle.std.proofs.Common.{◌≡◌, ℕ, ◌<◌, ◌≤◌, true, false, List, [], ◌∷◌, ◌++◌, refl, arith}
-use Rattle.std.specs.Prelude.{nat_le}
+use Rattle.std.proofs.Common.{◌≡◌, ℕ, ◌<◌, ◌≤◌, true, false, List, [], ◌∷◌, ◌++◌, refl, ap, arith}
+use Rattle.std.specs.Prelude.{nat_le, if◌then◌else◌}
 use Rattle.std.proofs.lemmas.Bool.{lt-leb, le-leb}
 use Rattle.std.proofs.lemmas.List.{length-append}
 use Rattle.list_words.specs.Lists.{Each}
@@ -51,6 +51,11 @@ none_later [] count micros h = refl
 none_later (x ∷ xs) count micros h =
     let above : nat_le x.start micros ≡ false = lt-leb x.start micros h.0 in
     rw above refl
+
+-- a row that starts later doesn't count
+pub count_before : (xs : List ShardRow) (row : ShardRow) (count micros : ℕ) → micros < row.start → count_at count (xs ++ row ∷ []) micros ≡ count_at count xs micros
+count_before [] row count micros lt = none_later (row ∷ []) count micros (lt, tt)
+count_before (x ∷ xs) row count micros lt = ap (λ (n : ℕ). if nat_le x.start micros then n else count) (count_before xs row x.count micros lt)
 
 -- the count is that of the last row that doesn't start later
 pub count_of_last : (xs later : List ShardRow) (row : ShardRow) (count micros : ℕ) → Rises (xs ++ row ∷ later) → row.start ≤ micros → Each (λ next. micros < next.start) later → count_at count (xs ++ row ∷ later) micros ≡ row.count

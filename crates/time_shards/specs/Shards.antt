@@ -1,9 +1,11 @@
 -- Tables of shard counts over time, and the shard of an id.
-use Rattle.std.specs.Prelude.{ℕ, ◌≡◌, ◌≤◌, ◌<◌, ◌^◌, ◌+◌, ◌%◌, max, nat_le, ⊤, List, [], ◌∷◌, length, if◌then◌else◌}
+use Rattle.std.specs.Prelude.{ℕ, ◌≡◌, ◌≤◌, ◌<◌, ◌^◌, ◌+◌, ◌%◌, ◌==◌, max, nat_le, ⊤, List, [], ◌∷◌, ◌++◌, length, if◌then◌else◌, Result, Ok, Err}
 use Rattle.time_shards.specs.declared.TheConstants.{MAX_ROWS, MAX_SHARDS}
 use Rattle.list_words.specs.Lists.{Each}
 use Rattle.event_id.specs.declared.id.EventId.{EventId}
 use Rattle.time_shards.specs.declared.ShardRow.{ShardRow}
+use Rattle.time_shards.specs.declared.AddFault.{AddFault}
+use Rattle.time_shards.specs.declared.AddFault.TheVariants.{Rows, Start}
 
 -- a row by itself: the start is a timestamp, and the count is 1 to 16
 pub record IsRow (row : ShardRow) : Type 0 where
@@ -47,3 +49,13 @@ shard_of table id = (id.ip + id.pid + id.micros) % count_at 1 table id.micros
 abbrev pub shard_count : List ShardRow → ℕ
 shard_count [] = 0
 shard_count (r ∷ rs) = max r.count (shard_count rs)
+
+-- the start of the last row
+abbrev pub last_start : List ShardRow → ℕ
+last_start [] = 0
+last_start (r ∷ []) = r.start
+last_start (r ∷ s ∷ rs) = last_start (s ∷ rs)
+
+-- the rows with one more behind them, or why it can't stand there: there are four, or it doesn't start later than the last one
+abbrev pub added : List ShardRow → ShardRow → Result (List ShardRow) AddFault
+added rows row = if length rows == MAX_ROWS then Err Rows else if nat_le row.start (last_start rows) then Err (Start (last_start rows)) else Ok (rows ++ row ∷ [])

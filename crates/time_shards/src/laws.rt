@@ -24,6 +24,11 @@ pub fn last_row()
         → count_at 1 (earlier ++ row ∷ later) micros ≡ row.count }
 {}
 
+/// A row that is put behind the others leaves each earlier id in its shard.
+pub fn added_row()
+    ensures { (table : List Row) (row : Row) (id : Id) → id.micros < row.start → shard_of (table ++ row ∷ []) id ≡ shard_of table id }
+{}
+
 /// The table `0:4,3000:8`, and ids just before its second row and at it.
 pub fn worked_rows()
     ensures text { table_text (record { start = 0; count = 4 } ∷ record { start = 3000; count = 8 } ∷ []) ≡ codes "0:4,3000:8" }

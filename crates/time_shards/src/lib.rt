@@ -25,3 +25,12 @@ pub struct ShardRow {
 pub struct BadTable {
     pub row: u8,
 }
+
+/// A row can't be put behind a table's rows.
+#[derive(Clone, Copy, Debug, PartialEq, Eq)]
+pub enum AddFault {
+    /// There are as many rows as a table may have.
+    Rows,
+    /// The row doesn't start later than the last one, which starts here.
+    Start { last: u64 },
+}

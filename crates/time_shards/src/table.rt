@@ -2,11 +2,11 @@
 ghost use Rattle.std.specs.Prelude.{◌≡◌, ◌≤◌, ◌<◌, ℕ, List, take, IfOk, IfErr};
 ghost use Rattle.time_shards.specs.declared.TheConstants.{MAX_SHARDS};
 ghost use Rattle.time_shards.specs.declared.ShardRow.{ShardRow as Row};
-ghost use Rattle.time_shards.specs.Shards.{IsTable, count_at, shard_of, shard_count};
+ghost use Rattle.time_shards.specs.Shards.{IsTable, added, count_at, shard_of, shard_count};
 ghost use Rattle.time_shards.specs.Text.{table_text, IsFirstBad};
 
 use crate::text::next_row;
-use crate::{BadTable, MAX_ROWS, ShardRow};
+use crate::{AddFault, BadTable, MAX_ROWS, ShardRow};
 use event_id::EventId;
 use std::marker::Model;
 
@@ -76,6 +76,28 @@ impl Table {
         ensures table { IsTable self.now }
     {
         &self.rows[..self.len]
+    }
+
+    /// The table with a row behind its others. It allocates nothing.
+    pub fn add(&self, start: u64, count: u8) -> Result<Table, AddFault>
+        requires some { 1 ≤ count }
+        requires few { count ≤ MAX_SHARDS }
+        ensures added { result ≡ added self.now (record { start = start; count = count }) }
+        ensures table { IfOk result IsTable }
+    {
+        if self.len == MAX_ROWS {
+            return Err(AddFault::Rows);
+        }
+        let last = self.rows[self.len - 1].start;
+        if start <= last {
+            return Err(AddFault::Start { last });
+        }
+        let mut rows = self.rows;
+        rows[self.len] = ShardRow { start, count };
+        Ok(Table {
+            rows,
+            len: self.len + 1,
+        })
     }
 
     /// The shard of an id, from 0: the sum of address, process id and timestamp, which may exceed 64 bits, modulo the

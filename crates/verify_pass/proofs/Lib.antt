@@ -6,3 +6,4 @@ pub mod Marks
 pub mod Pushes
 pub mod Shards
 pub mod Whole
+pub mod Starting

@@ -3,4 +3,5 @@ pub mod Chosen
 pub mod Classes
 pub mod Written
 pub mod States
+pub mod TooSoon
 pub mod Rows

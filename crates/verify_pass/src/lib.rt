@@ -9,10 +9,12 @@ mod group;
 mod journals;
 pub mod laws;
 mod lines;
+mod starts;
 mod states;
 mod unwritten;
 mod written;
 
 pub use classes::classify;
 pub use journals::{Journals, NoteList, PairList};
+pub use starts::{TooSoon, too_soon};
 pub use unwritten::missing;

@@ -1,0 +1,120 @@
+-- What forbids a start, batch by batch.
+use Rattle.std.proofs.Common.{◌≡◌, ⊎_elim, ℕ, ◌<◌, ◌≤◌, Bool, List, [], ◌∷◌, ◌++◌, map, Option, Some, None, refl, sym, ◌∙◌, ap, arith, lt-ltb}
+use Rattle.std.specs.Prelude.{max, if◌then◌else◌}
+use Rattle.std.specs.Option.{option_map}
+use Rattle.std.specs.List.{flat_map, fold}
+use Rattle.std.proofs.lemmas.Grind.{flat_map-append}
+use Rattle.std.proofs.lemmas.List.{append-nil, map-append}
+use Rattle.std.proofs.lemmas.Bool.{cases_lt, le-ltb}
+use Rattle.std.proofs.lemmas.List.Sums.{fold-append}
+use Rattle.list_words.specs.Lists.{Each}
+use Rattle.list_words.proofs.Lists.{each_at, each_from, each_append, mem_left, mem_right}
+use Rattle.paxos_defs.specs.Notes.{Note}
+use Rattle.paxos_acceptor.specs.Cells.{note_view}
+use Rattle.paxos_acceptor.specs.declared.notes.ReplicaNote.{ReplicaNote}
+use Rattle.event_id.specs.declared.id.EventId.{EventId}
+use Rattle.registry_state.specs.declared.Insert.{Insert}
+use Rattle.registry_state.specs.declared.Batch.{Batch}
+use Rattle.registry_state.specs.LookBack.{bound_of}
+use Rattle.verify_pass.specs.declared.starts.Latest.{Latest}
+use Rattle.verify_pass.specs.declared.starts.TooSoon.{TooSoon}
+use Rattle.verify_pass.specs.declared.starts.TooSoon.TheVariants.{Bound, Id}
+use Rattle.verify_pass.specs.TooSoon.{all_batches, batches_in, batches_of, inserts_of, lesser, least_with, least_from, too_soon_for, taken, IsEarlier, IsBefore}
+
+abbrev pub latest : ℕ → Option EventId → Latest
+latest bound id = record { bound = bound; id = id }
+
+-- what is found of batches is the greatest bound, and the least id of all inserts
+pub taken_all : (start : ℕ) (l : Latest) (vs : List Batch) → fold (taken start) l vs ≡ latest (max l.bound (bound_of vs)) (least_from start l.id (inserts_of vs))
+taken_all start l [] = ap (λ (n : ℕ). latest n l.id) (let e : l.bound ≡ max l.bound 0 = omega arith in e)
+taken_all start l (v ∷ vs) =
+    taken_all start (taken start l v) vs
+    ∙ ap (λ (n : ℕ). latest n (least_from start (least_from start l.id v.inserts) (inserts_of vs))) (let e : max (max l.bound v.bound) (bound_of vs) ≡ max l.bound (max v.bound (bound_of vs)) = omega arith in e)
+    ∙ ap (λ (o : Option EventId). latest (max l.bound (max v.bound (bound_of vs))) o) (sym (fold-append (least_with start) l.id v.inserts (inserts_of vs)))
+
+-- what is found with the batches of one thing more
+fold_more : {X : Type 0} (f : X → List Batch) (start : ℕ) (l : Latest) (xs : List X) (x : X) → fold (taken start) (fold (taken start) l (flat_map f xs)) (f x) ≡ fold (taken start) l (flat_map f (xs ++ x ∷ []))
+fold_more f start l xs x =
+    sym (fold-append (taken start) l (flat_map f xs) (f x))
+    ∙ ap (λ (vs : List Batch). fold (taken start) l (flat_map f xs ++ vs)) (sym (append-nil (f x)))
+    ∙ ap (fold (taken start) l) (sym (flat_map-append f xs (x ∷ [])))
+
+pub notes_more : (start : ℕ) (l : Latest) (ns : List ReplicaNote) (n : ReplicaNote)
+    → fold (taken start) (fold (taken start) l (batches_in (map note_view ns))) (batches_of (note_view n)) ≡ fold (taken start) l (batches_in (map note_view (ns ++ n ∷ [])))
+notes_more start l ns n = fold_more batches_of start l (map note_view ns) (note_view n) ∙ ap (λ (xs : List (Note Batch)). fold (taken start) l (batches_in xs)) (sym (map-append note_view ns (n ∷ [])))
+
+pub journals_more : (start : ℕ) (l : Latest) (js : List (List ReplicaNote)) (ns : List ReplicaNote)
+    → fold (taken start) (fold (taken start) l (all_batches (map (map note_view) js))) (batches_in (map note_view ns)) ≡ fold (taken start) l (all_batches (map (map note_view) (js ++ ns ∷ [])))
+journals_more start l js ns = fold_more batches_in start l (map (map note_view) js) (map note_view ns) ∙ ap (λ (xs : List (List (Note Batch))). fold (taken start) l (all_batches xs)) (sym (map-append (map note_view) js (ns ∷ [])))
+
+-- an insert that is earlier than the start, and another one
+passes : (start : ℕ) (o : Option EventId) (x : Insert) (xs : List Insert) → x.id.micros < start → least_from start o (x ∷ xs) ≡ least_from start o xs
+passes start o x xs lt = ap (λ (b : Bool). least_from start (if b then o else Some (lesser o x.id)) xs) (lt-ltb x.id.micros start lt)
+
+takes : (start : ℕ) (o : Option EventId) (x : Insert) (xs : List Insert) → start ≤ x.id.micros → least_from start o (x ∷ xs) ≡ least_from start (Some (lesser o x.id)) xs
+takes start o x xs le = ap (λ (b : Bool). least_from start (if b then o else Some (lesser o x.id)) xs) (le-ltb x.id.micros start le)
+
+some_none : {A : Type 0} (x : A) → ◌≡◌ {A = Option A} (Some x) None → ⊥
+some_none x e = (cc)
+
+stays : (start : ℕ) (i : EventId) (xs : List Insert) → least_from start (Some i) xs ≡ None → ⊥
+stays start i [] e = some_none i e
+stays start i (x ∷ xs) e =
+    ⊎_elim (λ lt. stays start i xs (sym (passes start (Some i) x xs lt) ∙ e)) (λ le. stays start (lesser (Some i) x.id) xs (sym (takes start (Some i) x xs le) ∙ e)) (cases_lt x.id.micros start)
+
+none_each : (start : ℕ) (xs : List Insert) → least_from start None xs ≡ None → Each (IsEarlier start) xs
+none_each start [] e = tt
+none_each start (x ∷ xs) e =
+    ⊎_elim (λ lt. (lt, none_each start xs (sym (passes start None x xs lt) ∙ e))) (λ le. absurd (stays start (lesser None x.id) xs (sym (takes start None x xs le) ∙ e))) (cases_lt x.id.micros start)
+
+each_none : (start : ℕ) (xs : List Insert) → Each (IsEarlier start) xs → least_from start None xs ≡ None
+each_none start [] h = refl
+each_none start (x ∷ xs) h = passes start None x xs h.0 ∙ each_none start xs h.1
+
+each_before : (start : ℕ) (vs : List Batch) → bound_of vs ≤ start → Each (IsEarlier start) (inserts_of vs) → Each (IsBefore start) vs
+each_before start [] b h = tt
+each_before start (v ∷ vs) b h =
+    let own = each_from (IsEarlier start) v.inserts (λ x m. each_at (IsEarlier start) (v.inserts ++ inserts_of vs) h x (mem_left x v.inserts (inserts_of vs) m)) in
+    let others = each_from (IsEarlier start) (inserts_of vs) (λ x m. each_at (IsEarlier start) (v.inserts ++ inserts_of vs) h x (mem_right x v.inserts (inserts_of vs) m)) in
+    ((omega arith, own), each_before start vs (omega arith) others)
+
+before_each : (start : ℕ) (vs : List Batch) → Each (IsBefore start) vs → (bound_of vs ≤ start) × Each (IsEarlier start) (inserts_of vs)
+before_each start [] h = (omega arith, tt)
+before_each start (v ∷ vs) h =
+    let rest = before_each start vs h.1 in
+    let le = rest.0 in
+    let own = h.0.0 in
+    (omega arith, each_append (IsEarlier start) v.inserts (inserts_of vs) h.0.1 rest.1)
+
+abbrev told : List Batch → ℕ → Bool → Option TooSoon
+told vs start above = if above then Some (Bound (bound_of vs)) else option_map Id (least_from start None (inserts_of vs))
+
+none_mapped : (o : Option EventId) → option_map Id o ≡ None → o ≡ None
+none_mapped None e = refl
+none_mapped (Some i) e = absurd (some_none (Id i) e)
+
+-- nothing forbids a start exactly where each bound and each insert lies before it
+pub none_before : (vs : List Batch) (start : ℕ) → too_soon_for vs start ≡ None → Each (IsBefore start) vs
+none_before vs start e =
+    ⊎_elim (λ lt. absurd (some_none (Bound (bound_of vs)) (sym (ap (told vs start) (lt-ltb start (bound_of vs) lt)) ∙ e)))
+    (λ le. each_before start vs le (none_each start (inserts_of vs) (none_mapped (least_from start None (inserts_of vs)) (sym (ap (told vs start) (le-ltb start (bound_of vs) le)) ∙ e))))
+    (cases_lt start (bound_of vs))
+
+pub before_none : (vs : List Batch) (start : ℕ) → Each (IsBefore start) vs → too_soon_for vs start ≡ None
+before_none vs start h =
+    let parts = before_each start vs h in
+    ap (told vs start) (le-ltb start (bound_of vs) parts.0) ∙ ap (option_map Id) (each_none start (inserts_of vs) parts.1)
+
+-- what is found of all batches is told
+module _ (vs : List Batch) (start : ℕ) (l : Latest) (is : l ≡ fold (taken start) (latest 0 None) vs) where
+  found : l ≡ latest (bound_of vs) (least_from start None (inserts_of vs))
+  found = is ∙ taken_all start (latest 0 None) vs ∙ ap (λ (n : ℕ). latest n (least_from start None (inserts_of vs))) (let e : max 0 (bound_of vs) ≡ bound_of vs = omega arith in e)
+
+  bound_is : l.bound ≡ bound_of vs
+  bound_is = ap (λ (x : Latest). x.bound) found
+
+  pub tells_bound : start < l.bound → Some (Bound l.bound) ≡ too_soon_for vs start
+  tells_bound lt = ap (λ (n : ℕ). Some (Bound n)) bound_is ∙ sym (ap (told vs start) (lt-ltb start (bound_of vs) (omega (arith, lt, bound_is))))
+
+  pub tells_id : l.bound ≤ start → option_map Id l.id ≡ too_soon_for vs start
+  tells_id le = ap (λ (x : Latest). option_map Id x.id) found ∙ sym (ap (told vs start) (le-ltb start (bound_of vs) (omega (arith, le, bound_is))))
