@@ -1,8 +1,8 @@
 // Faults of a run, as they are told.
 use mem_outside::MemSink;
+use run_fault::{LogName, Mismatch, Misplaced, RunFault, StorePlace, disk_text, status};
 use script_lines::disks::disk_name;
 use script_lines::{Part, Stop, Words};
-use site_run::{LogName, Mismatch, RunFault, StorePlace, disk_text, status};
 use std::alloc::{AllocError, AllocFailed, Global};
 use time_shards::Table;
 
@@ -62,7 +62,7 @@ fn tell(alloc: Global, words: &mut Words<'_>) -> Result<String, Stop> {
 fn told(alloc: Global, fault: &RunFault, words: &mut Words<'_>) -> Result<String, Stop> {
     let room = words.number()?;
     let mut err = MemSink::new(alloc, room, words.numbers(alloc)?)?;
-    let told = match site_run::tell(&mut err, fault) {
+    let told = match run_fault::tell(&mut err, fault) {
         Ok(()) => "whole",
         Err(_) => "cut",
     };
@@ -81,11 +81,11 @@ fn mismatch(kind: &str, words: &mut Words<'_>) -> Result<Mismatch, Stop> {
             kept: table(words)?,
             asked: table(words)?,
         }),
-        "place" => Ok(Mismatch::Place {
+        "place" => Ok(Mismatch::Place(Misplaced {
             disk: disk_name(words.word()?)?,
             kept: words.number()?,
             floor: words.number()?,
-        }),
+        })),
         _ => Err(Stop::Words),
     }
 }

@@ -9,14 +9,14 @@ use Rattle.log_records.specs.Lines.{ClickLine, placed}
 use Rattle.log_records.proofs.Reading.{clicks_same, queries_same}
 use Rattle.log_records.specs.declared.report.ReportLine.{ReportLine}
 use Rattle.log_records.specs.Report.{distinct, line_of, totals}
-use Rattle.site_run.specs.declared.faults.fault.LogName.{LogName}
+use Rattle.command_words.specs.Words.{BulkValues, Values}
+use Rattle.run_fault.specs.declared.fault.LogName.{LogName}
 use Rattle.turn_defs.specs.Setting.{Setting}
 use Rattle.dispatch_node.specs.Places.{IsLogOf}
 use Rattle.bulk_logs.specs.Bulk as logs
 use Rattle.site_run.specs.declared.ran.RunLog.{RunLog}
-use Rattle.command_words.specs.Words.{BulkValues, Values}
-use Rattle.photon_cli.specs.declared.engine.fault.Fault.{Fault}
-use Rattle.photon_cli.specs.declared.engine.fault.Fault.TheVariants as fault
+use Rattle.run_fault.specs.declared.fault.RunFault.{RunFault}
+use Rattle.run_fault.specs.declared.fault.RunFault.TheVariants as fault
 use Rattle.photon_cli.specs.Bulk.{IsBulkRun, IsBulkSetting, bulk_plan}
 use Rattle.photon_cli.specs.Drill.{Drills, IsDrilled}
 use Rattle.photon_cli.specs.Join.{AreValid, IsAsked, Refuses}
@@ -30,11 +30,11 @@ abbrev pub values_of : BulkValues → Values
 values_of v = record { queries = codes "queries"; clicks = codes "clicks"; horizon = 1000000; joiners = v.joiners; shards = v.shards; batch = v.batch }
 
 -- what holds of want of memory and of what was told holds of what is told
-pub without : (P : Fault → Type 0) (f r : Fault) → ((r ≡ f) × (IsFailedRead f → ⊥)) ⊎ ((r ≡ fault.Memory) × IsFailedRead f) → P fault.Memory → P f → P r
+pub without : (P : RunFault → Type 0) (f r : RunFault) → ((r ≡ f) × (IsFailedRead f → ⊥)) ⊎ ((r ≡ fault.Memory) × IsFailedRead f) → P fault.Memory → P f → P r
 without P f r (inl (same, other)) memory h = subst P (sym same) h
 without P f r (inr (same, read)) memory h = subst P (sym same) memory
 
-pub no_read : (f r : Fault) → ((r ≡ f) × (IsFailedRead f → ⊥)) ⊎ ((r ≡ fault.Memory) × IsFailedRead f) → IsFailedRead r → ⊥
+pub no_read : (f r : RunFault) → ((r ≡ f) × (IsFailedRead f → ⊥)) ⊎ ((r ≡ fault.Memory) × IsFailedRead f) → IsFailedRead r → ⊥
 no_read f r (inl (same, other)) read = other (subst IsFailedRead same read)
 no_read f r (inr (same, other)) (inl e) = absurd cc
 no_read f r (inr (same, other)) (inr (log, e)) = absurd cc
@@ -75,7 +75,7 @@ module _ (told : List ℕ → Option (List ℕ)) (v : BulkValues) (few : v.count
       )
 
   -- what may be wrong with the logs of such a run is want of memory, where no failed read is told
-  pub bulk_early : AreValid told (codes "queries") (codes "clicks") → (f r : Fault) → ((log : LogName) (line : ℕ) (w : Why) → f ≡ fault.Refused log line w → Refuses told (codes "queries") (codes "clicks") log (record { line = line; why = w }))
+  pub bulk_early : AreValid told (codes "queries") (codes "clicks") → (f r : RunFault) → ((log : LogName) (line : ℕ) (w : Why) → f ≡ fault.Refused log line w → Refuses told (codes "queries") (codes "clicks") log (record { line = line; why = w }))
       → ((r ≡ f) × (IsFailedRead f → ⊥)) ⊎ ((r ≡ fault.Memory) × IsFailedRead f) → IsOfLogs f → r ≡ fault.Memory
   bulk_early valid f r refuses (inr (memory, read)) early = memory
   bulk_early valid f r refuses (inl (same, other)) (log, inl (line, w, e)) = absurd (none_refused told (codes "queries") (codes "clicks") log (record { line = line; why = w }) valid (refuses log line w e))

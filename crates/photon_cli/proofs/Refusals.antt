@@ -4,9 +4,9 @@ use Rattle.std.specs.Option.{IsSomeAnd}
 use Rattle.log_records.specs.declared.why.Why.{Why}
 use Rattle.log_records.specs.declared.why.Why.TheVariants as why
 use Rattle.log_records.specs.declared.check.BadLine.{BadLine}
-use Rattle.site_run.specs.declared.faults.fault.LogName.{LogName}
-use Rattle.photon_cli.specs.declared.engine.fault.Fault.{Fault}
-use Rattle.photon_cli.specs.declared.engine.fault.Fault.TheVariants as fault
+use Rattle.run_fault.specs.declared.fault.LogName.{LogName}
+use Rattle.run_fault.specs.declared.fault.RunFault.{RunFault}
+use Rattle.run_fault.specs.declared.fault.RunFault.TheVariants as fault
 use Rattle.photon_cli.specs.LogFaults.{IsLogFault, refusal, refusal_of}
 
 pub within : {A : Type 0} (o : Option A) (P Q : A → Type 0) → ((x : A) → P x → Q x) → IsSomeAnd o P → IsSomeAnd o Q
@@ -46,7 +46,7 @@ told_line log bad line w P e h =
     subst P same (⊎_elim (λ m. absurd (t.0 m)) (λ p. p) h)
 
 -- a refused line is of the log that was read
-pub same_log : (own log : LogName) (f : Fault) (line : ℕ) (w : Why) → IsLogFault own f → f ≡ fault.Refused log line w → own ≡ log
+pub same_log : (own log : LogName) (f : RunFault) (line : ℕ) (w : Why) → IsLogFault own f → f ≡ fault.Refused log line w → own ≡ log
 same_log own log f line w (inl (n, v, e)) h = cc
 same_log own log f line w (inr (inl e)) h = absurd cc
 same_log own log f line w (inr (inr e)) h = absurd cc

@@ -5,23 +5,22 @@ use Rattle.std.specs.Option.{IsSomeAnd}
 use Rattle.time_shards.specs.Text.{IsFirstBad}
 use Rattle.time_shards.proofs.Texts.{none_bad}
 use Rattle.outside.specs.declared.store.DiskName.{DiskName}
-use Rattle.command_words.specs.Words.{BulkValues, Text, Values}
 use Rattle.log_records.specs.declared.why.Why.{Why}
 use Rattle.log_records.specs.Check.{RefusesClick}
 use Rattle.lossy_link.specs.declared.bad_plan.Field.{Field}
-use Rattle.site_run.specs.declared.faults.fault.LogName.{LogName}
-use Rattle.site_run.specs.declared.faults.fault.LogName.TheVariants.{Queries, Clicks}
-use Rattle.site_run.specs.declared.faults.fault.StorePlace.{StorePlace}
-use Rattle.site_run.specs.declared.faults.fault.Mismatch.{Mismatch}
-use Rattle.site_run.specs.declared.faults.fault.Mismatch.TheVariants as mismatch
-use Rattle.site_run.specs.declared.faults.fault.RunFault.{RunFault}
-use Rattle.site_run.specs.declared.faults.fault.RunFault.TheVariants as cause
-use Rattle.photon_cli.specs.declared.engine.fault.Fault.{Fault}
-use Rattle.photon_cli.specs.declared.engine.fault.Fault.TheVariants as fault
+use Rattle.command_words.specs.Words.{BulkValues, Text, Values}
+use Rattle.run_fault.specs.declared.fault.LogName.{LogName}
+use Rattle.run_fault.specs.declared.fault.LogName.TheVariants.{Queries, Clicks}
+use Rattle.run_fault.specs.declared.fault.StorePlace.{StorePlace}
+use Rattle.run_fault.specs.declared.fault.Mismatch.{Mismatch}
+use Rattle.run_fault.specs.declared.fault.Mismatch.TheVariants as mismatch
+use Rattle.run_fault.specs.declared.fault.RunFault.{RunFault}
+use Rattle.run_fault.specs.declared.fault.RunFault.TheVariants as fault
+use Rattle.run_fault.specs.Causes.{IsWelcome}
 use Rattle.photon_cli.specs.Join.{Refuses}
-use Rattle.photon_cli.specs.Faults.{status_of}
+use Rattle.run_fault.specs.Faults.{status_of}
 use Rattle.photon_cli.specs.Drill.{IsBadIn}
-use Rattle.photon_cli.specs.LogFaults.{IsBeforeLogs, IsEarly, IsFailedRead, IsFair, IsLate, IsLogFault, IsOfBulk, IsOfJoin, IsOfLogs, IsOfPlanOrLogs, IsOfRun, IsOfVerify, IsPast, IsPlanFault, failed_read}
+use Rattle.photon_cli.specs.LogFaults.{IsBeforeLogs, IsEarly, IsFailedRead, IsLogFault, IsOfBulk, IsOfJoin, IsOfLogs, IsOfPlanOrLogs, IsOfRun, IsOfVerify, IsPast, IsPlanFault, failed_read}
 use Rattle.photon_cli.specs.Words.{HasTable}
 use Rattle.photon_cli.specs.Told.{IsNamed, IsNamedInBulk, IsNamedInDrill, IsNamedInVerify}
 
@@ -32,143 +31,110 @@ choose true P Q = P
 choose false P Q = Q
 
 -- which faults have this status
-abbrev Of : ℕ → Fault → Type 0
+abbrev Of : ℕ → RunFault → Type 0
 Of n f =
     choose (n == 2) (((row : ℕ) × (f ≡ fault.Table row)) ⊎ ((place : Field) × (f ≡ fault.Plan place)))
     (choose (n == 3) ((log : LogName) × (line : ℕ) × (w : Why) × (f ≡ fault.Refused log line w))
     (choose (n == 4) (IsFailedRead f)
     (choose (n == 5) (f ≡ fault.Write)
-    (choose (n == 6) ((place : StorePlace) × (f ≡ fault.Run (cause.Store place)))
-    (choose (n == 7) ((disk : DiskName) × (at : ℕ) × (f ≡ fault.Run (cause.Damaged disk at)))
-    (choose (n == 9) ((what : Mismatch) × (f ≡ fault.Run (cause.Topology what)))
-    (choose (n == 10) ((disk : DiskName) × (value : ℕ) × (f ≡ fault.Run (cause.Limit disk value)))
-    ((n ≡ 8) × ((f ≡ fault.Memory) ⊎ (f ≡ fault.Run cause.Memory))))))))))
+    (choose (n == 6) ((place : StorePlace) × (f ≡ (fault.Store place)))
+    (choose (n == 7) ((disk : DiskName) × (at : ℕ) × (f ≡ (fault.Damaged disk at)))
+    (choose (n == 9) ((what : Mismatch) × (f ≡ (fault.Topology what)))
+    (choose (n == 10) ((disk : DiskName) × (value : ℕ) × (f ≡ (fault.Limit disk value)))
+    ((n ≡ 8) × (f ≡ fault.Memory)))))))))
 
-means : (f : Fault) → Of (status_of f) f
+means : (f : RunFault) → Of (status_of f) f
 means (fault.Table n) = inl (n, refl)
 means (fault.Plan place) = inr (place, refl)
 means (fault.Refused log line w) = (log, line, w, refl)
 means fault.PlanRead = inl refl
-means (fault.Run (cause.Read log)) = inr (log, refl)
-means (fault.Run (cause.Store place)) = (place, refl)
-means (fault.Run (cause.Damaged disk at)) = (disk, at, refl)
-means (fault.Run (cause.Topology what)) = (what, refl)
-means (fault.Run (cause.Limit disk value)) = (disk, value, refl)
-means (fault.Run cause.Memory) = (refl, inr refl)
+means (fault.Read log) = inr (log, refl)
+means (fault.Store place) = (place, refl)
+means (fault.Damaged disk at) = (disk, at, refl)
+means (fault.Topology what) = (what, refl)
+means (fault.Limit disk value) = (disk, value, refl)
 means fault.Write = refl
-means fault.Memory = (refl, inl refl)
+means fault.Memory = (refl, refl)
 
-fault_of : (f : Fault) (n : ℕ) → status_of f ≡ n → Of n f
+fault_of : (f : RunFault) (n : ℕ) → status_of f ≡ n → Of n f
 fault_of f n e = subst (λ (k : ℕ). Of k f) e (means f)
 
-pub no_zero : (f : Fault) → status_of f ≢ 0
+pub no_zero : (f : RunFault) → status_of f ≢ 0
 no_zero f e = let eight : 0 ≡ 8 = (fault_of f 0 e).0 in omega (arith, eight)
 
-pub no_one : (f : Fault) → status_of f ≢ 1
+pub no_one : (f : RunFault) → status_of f ≢ 1
 no_one f e = let eight : 1 ≡ 8 = (fault_of f 1 e).0 in omega (arith, eight)
 
 -- the table's first bad row, or the plan's first bad place
-pub two_of : (f : Fault) → status_of f ≡ 2 → ((n : ℕ) × (f ≡ fault.Table n)) ⊎ ((place : Field) × (f ≡ fault.Plan place))
+pub two_of : (f : RunFault) → status_of f ≡ 2 → ((n : ℕ) × (f ≡ fault.Table n)) ⊎ ((place : Field) × (f ≡ fault.Plan place))
 two_of f e = fault_of f 2 e
 
-pub line_of : (f : Fault) → status_of f ≡ 3 → (log : LogName) × (line : ℕ) × (w : Why) × (f ≡ fault.Refused log line w)
+pub line_of : (f : RunFault) → status_of f ≡ 3 → (log : LogName) × (line : ℕ) × (w : Why) × (f ≡ fault.Refused log line w)
 line_of f e = fault_of f 3 e
 
-pub four_of : (f : Fault) → IsFailedRead f → status_of f ≡ 4
+pub four_of : (f : RunFault) → IsFailedRead f → status_of f ≡ 4
 four_of f (inl e) = ap status_of e
 four_of f (inr (log, e)) = ap status_of e
 
-pub failed_of : (f : Fault) → status_of f ≡ 4 → IsFailedRead f
+pub failed_of : (f : RunFault) → status_of f ≡ 4 → IsFailedRead f
 failed_of f e = fault_of f 4 e
 
-pub write_of : (f : Fault) → status_of f ≡ 5 → f ≡ fault.Write
+pub write_of : (f : RunFault) → status_of f ≡ 5 → f ≡ fault.Write
 write_of f e = fault_of f 5 e
 
-pub place_of : (f : Fault) → status_of f ≡ 6 → (place : StorePlace) × (f ≡ fault.Run (cause.Store place))
+pub place_of : (f : RunFault) → status_of f ≡ 6 → (place : StorePlace) × (f ≡ (fault.Store place))
 place_of f e = fault_of f 6 e
 
 -- ---- what is told of a store
 
-unwelcome : (what : Mismatch) (holds : Type 0) → holds → IsFair holds (fault.Run (cause.Topology what)) → ⊥
+unwelcome : (what : Mismatch) (holds : Type 0) → holds → IsWelcome holds (fault.Topology what) → ⊥
 unwelcome (mismatch.Joiners kept asked) holds x h = h x
-unwelcome (mismatch.Table kept asked) holds x h = h
-unwelcome (mismatch.Place disk kept floor) holds x h = h
+unwelcome _ holds x h = h
 
-pub fair_status : (f : Fault) (holds : Type 0) → holds → IsFair holds f → (status_of f ≢ 7) × (status_of f ≢ 9)
+pub fair_status : (f : RunFault) (holds : Type 0) → holds → IsWelcome holds f → (status_of f ≢ 7) × (status_of f ≢ 9)
 fair_status f holds x h = (
-  λ seven. let told = fault_of f 7 seven in subst (IsFair holds) told.2 h x,
-  λ nine. let told = fault_of f 9 nine in unwelcome told.0 holds x (subst (IsFair holds) told.1 h),
+  λ seven. let told = fault_of f 7 seven in subst (IsWelcome holds) told.2 h x,
+  λ nine. let told = fault_of f 9 nine in unwelcome told.0 holds x (subst (IsWelcome holds) told.1 h),
 )
 
--- the same where it holds
-pub fair_by : (f : Fault) (holds : Type 0) → holds → IsFair holds f → IsFair ⊤ f
-fair_by (fault.Table n) holds x h = tt
-fair_by (fault.Plan place) holds x h = tt
-fair_by (fault.Refused log line w) holds x h = tt
-fair_by fault.PlanRead holds x h = tt
-fair_by (fault.Run (cause.Read log)) holds x h = tt
-fair_by (fault.Run (cause.Store place)) holds x h = tt
-fair_by (fault.Run (cause.Damaged disk at)) holds x h = absurd (h x)
-fair_by (fault.Run (cause.Topology (mismatch.Joiners kept asked))) holds x h = absurd (h x)
-fair_by (fault.Run (cause.Topology (mismatch.Table kept asked))) holds x h = absurd h
-fair_by (fault.Run (cause.Topology (mismatch.Place disk kept floor))) holds x h = absurd h
-fair_by (fault.Run (cause.Limit disk value)) holds x h = tt
-fair_by (fault.Run cause.Memory) holds x h = tt
-fair_by fault.Write holds x h = tt
-fair_by fault.Memory holds x h = tt
-
 -- what is wrong with a log or a plan tells nothing of a store
-pub log_fair : (f : Fault) (log : LogName) → IsLogFault log f → IsFair ⊤ f
-log_fair f log (inl (line, w, e)) = subst (IsFair ⊤) (sym e) tt
-log_fair f log (inr (inl e)) = subst (IsFair ⊤) (sym e) tt
-log_fair f log (inr (inr e)) = subst (IsFair ⊤) (sym e) tt
+pub log_fair : (f : RunFault) (log : LogName) → IsLogFault log f → IsWelcome ⊤ f
+log_fair f log (inl (line, w, e)) = subst (IsWelcome ⊤) (sym e) tt
+log_fair f log (inr (inl e)) = subst (IsWelcome ⊤) (sym e) tt
+log_fair f log (inr (inr e)) = subst (IsWelcome ⊤) (sym e) tt
 
-pub plan_fair : (f : Fault) → IsPlanFault f → IsFair ⊤ f
-plan_fair f (inl (place, e)) = subst (IsFair ⊤) (sym e) tt
-plan_fair f (inr (inl e)) = subst (IsFair ⊤) (sym e) tt
-plan_fair f (inr (inr e)) = subst (IsFair ⊤) (sym e) tt
+pub plan_fair : (f : RunFault) → IsPlanFault f → IsWelcome ⊤ f
+plan_fair f (inl (place, e)) = subst (IsWelcome ⊤) (sym e) tt
+plan_fair f (inr (inl e)) = subst (IsWelcome ⊤) (sym e) tt
+plan_fair f (inr (inr e)) = subst (IsWelcome ⊤) (sym e) tt
 
 -- ---- when a fault is told
 
--- what holds of each fault that is told behind all that comes before a run holds of this one
-pub past : (P : Fault → Type 0) → ((c : RunFault) → P (fault.Run c)) → P fault.Write → P fault.Memory → (f : Fault) → IsPast f → P f
-past P run write memory (fault.Table n) h = absurd h
-past P run write memory (fault.Plan place) h = absurd h
-past P run write memory (fault.Refused log line w) h = absurd h
-past P run write memory fault.PlanRead h = absurd h
-past P run write memory (fault.Run c) h = run c
-past P run write memory fault.Write h = write
-past P run write memory fault.Memory h = memory
-
 -- of each that is told of a log
-of_log : (P : Fault → Type 0) (log : LogName) → ((line : ℕ) (w : Why) → P (fault.Refused log line w)) → P (failed_read log) → P fault.Memory → (f : Fault) → IsLogFault log f → P f
+of_log : (P : RunFault → Type 0) (log : LogName) → ((line : ℕ) (w : Why) → P (fault.Refused log line w)) → P (failed_read log) → P fault.Memory → (f : RunFault) → IsLogFault log f → P f
 of_log P log refused read memory f (inl (line, w, e)) = subst P (sym e) (refused line w)
 of_log P log refused read memory f (inr (inl e)) = subst P (sym e) read
 of_log P log refused read memory f (inr (inr e)) = subst P (sym e) memory
 
 -- a run's fault is told behind all that comes before the run
-pub late_run : (f : Fault) (logs disks : Type 0) → IsLate logs disks f → IsOfRun f
-late_run (fault.Table n) logs disks h = absurd h
-late_run (fault.Plan place) logs disks h = absurd h
-late_run (fault.Refused log line w) logs disks h = absurd h
-late_run fault.PlanRead logs disks h = absurd h
-late_run (fault.Run c) logs disks h = inl (c, refl)
-late_run fault.Write logs disks h = absurd h
-late_run fault.Memory logs disks h = inr refl
-
-pub run_past : (f : Fault) → IsOfRun f → IsPast f
-run_past f (inl (c, e)) = subst IsPast (sym e) tt
-run_past f (inr e) = subst IsPast (sym e) tt
+pub run_past : (f : RunFault) → IsOfRun f → IsPast f
+run_past (fault.Read log) h = tt
+run_past (fault.Store place) h = tt
+run_past (fault.Damaged disk at) h = tt
+run_past (fault.Topology what) h = tt
+run_past (fault.Limit disk value) h = tt
+run_past fault.Memory h = tt
+run_past _ h = absurd h
 
 -- none of these is of status 2 or 3
-pub past_status : (f : Fault) → IsPast f → (status_of f ≢ 2) × (status_of f ≢ 3)
+pub past_status : (f : RunFault) → IsPast f → (status_of f ≢ 2) × (status_of f ≢ 3)
 past_status f h = (
   λ two. ⊎_elim (λ row. subst IsPast row.1 h) (λ place. subst IsPast place.1 h) (two_of f two),
   λ three. let told = line_of f three in subst IsPast told.3 h,
 )
 
 -- A fault is told before the run, or, behind a table, later.
-module _ (behind : Fault → Type 0) (shards : Text) (f : Fault) where
+module _ (behind : RunFault → Type 0) (shards : Text) (f : RunFault) where
   abbrev pub IsKnown : Type 0
   IsKnown = IsEarly behind shards f ⊎ (HasTable shards × IsPast f)
 
@@ -187,42 +153,53 @@ module _ (behind : Fault → Type 0) (shards : Text) (f : Fault) where
 -- ---- of a join
 
 -- what is wrong with a log names no row
-log_row : (log : LogName) (f : Fault) (n : ℕ) → f ≡ fault.Table n → IsLogFault log f → ⊥
+log_row : (log : LogName) (f : RunFault) (n : ℕ) → f ≡ fault.Table n → IsLogFault log f → ⊥
 log_row log f n is (inl (line, w, e)) = cc (sym is ∙ e)
 log_row log f n is (inr (inl e)) = cc (sym is ∙ e)
 log_row log f n is (inr (inr e)) = cc (sym is ∙ e)
 
-pub join_row : (shards : Text) (f : Fault) → IsKnown IsOfLogs shards f → (n : ℕ) → f ≡ fault.Table n → IsFirstBad shards n
+pub join_row : (shards : Text) (f : RunFault) → IsKnown IsOfLogs shards f → (n : ℕ) → f ≡ fault.Table n → IsFirstBad shards n
 join_row shards f known n is = row_of IsOfLogs shards f (λ m e (log, h). log_row log f m e h) known n is
 
-pub join_own : (shards : Text) (f : Fault) → IsKnown IsOfLogs shards f → IsOfJoin f
+past_join : (f : RunFault) → IsPast f → IsOfJoin f
+past_join (fault.Plan place) h = h
+past_join fault.PlanRead h = h
+past_join _ h = tt
+
+pub join_own : (shards : Text) (f : RunFault) → IsKnown IsOfLogs shards f → IsOfJoin f
 join_own shards f (inl (inl (row, e, first))) = subst IsOfJoin (sym e) tt
 join_own shards f (inl (inr (table, (log, h)))) = of_log IsOfJoin log (λ line w. tt) tt tt f h
-join_own shards f (inr (table, h)) = past IsOfJoin (λ c. tt) tt tt f h
+join_own shards f (inr (table, h)) = past_join f h
 
-pub join_two : (shards : Text) (f : Fault) → IsKnown IsOfLogs shards f → status_of f ≡ 2 → (n : ℕ) × IsFirstBad shards n
+-- what names neither a row nor a line is told behind all that
+pub join_past : (f : RunFault) → IsOfJoin f → ((n : ℕ) → f ≡ fault.Table n → ⊥) → ((log : LogName) (line : ℕ) (w : Why) → f ≡ fault.Refused log line w → ⊥) → IsPast f
+join_past (fault.Table n) own row line = row n refl
+join_past (fault.Plan place) own row line = own
+join_past (fault.Refused log n w) own row line = line log n w refl
+join_past fault.PlanRead own row line = own
+join_past _ own row line = tt
+
+pub join_two : (shards : Text) (f : RunFault) → IsKnown IsOfLogs shards f → status_of f ≡ 2 → (n : ℕ) × IsFirstBad shards n
 join_two shards f known two = ⊎_elim (λ row. (row.0, join_row shards f known row.0 row.1)) (λ place. absurd (subst IsOfJoin place.1 (join_own shards f known))) (two_of f two)
 
 -- what is told before the run behind a table, but for a read
-pub early_left : (shards : Text) (f : Fault) → IsEarly IsOfLogs shards f → HasTable shards → (IsFailedRead f → ⊥) → (status_of f ≡ 3) ⊎ (status_of f ≡ 8)
+pub early_left : (shards : Text) (f : RunFault) → IsEarly IsOfLogs shards f → HasTable shards → (IsFailedRead f → ⊥) → (status_of f ≡ 3) ⊎ (status_of f ≡ 8)
 early_left shards f (inl (row, e, first)) (table, text) read = absurd (none_bad shards row table first text.0 text.1)
 early_left shards f (inr (other, (log, inl (line, w, e)))) table read = inl (ap status_of e)
 early_left shards f (inr (other, (log, inr (inl e)))) table read = absurd (read (inr (log, e)))
 early_left shards f (inr (other, (log, inr (inr e)))) table read = inr (ap status_of e)
 
-pub named : (told : List ℕ → Option (List ℕ)) (v : Values) (f : Fault) → IsOfJoin f → ((n : ℕ) → f ≡ fault.Table n → IsFirstBad v.shards n)
+pub named : (told : List ℕ → Option (List ℕ)) (v : Values) (f : RunFault) → IsOfJoin f → ((n : ℕ) → f ≡ fault.Table n → IsFirstBad v.shards n)
     → ((log : LogName) (line : ℕ) (w : Why) → f ≡ fault.Refused log line w → Refuses told v.queries v.clicks log (record { line = line; why = w })) → IsNamed told v f
 named told v (fault.Table n) own row line = row n refl
 named told v (fault.Plan place) own row line = own
 named told v (fault.Refused log n w) own row line = line log n w refl
 named told v fault.PlanRead own row line = own
-named told v (fault.Run f) own row line = tt
-named told v fault.Write own row line = tt
-named told v fault.Memory own row line = tt
+named told v _ own row line = tt
 
 -- ---- of a drill
 
-pub drill_row : (shards : Text) (f : Fault) → IsKnown IsOfPlanOrLogs shards f → (n : ℕ) → f ≡ fault.Table n → IsFirstBad shards n
+pub drill_row : (shards : Text) (f : RunFault) → IsKnown IsOfPlanOrLogs shards f → (n : ℕ) → f ≡ fault.Table n → IsFirstBad shards n
 drill_row shards f known n is = row_of IsOfPlanOrLogs shards f (λ m e h. never m e h) known n is
   where
     never : (m : ℕ) → f ≡ fault.Table m → IsOfPlanOrLogs f → ⊥
@@ -232,7 +209,7 @@ drill_row shards f known n is = row_of IsOfPlanOrLogs shards f (λ m e h. never 
     never m e (inr (log, h)) = log_row log f m e h
 
 -- what is told before the run behind a table, but for a read
-pub drill_early : (shards : Text) (f : Fault) → IsEarly IsOfPlanOrLogs shards f → HasTable shards → (IsFailedRead f → ⊥) → (status_of f ≡ 2) ⊎ ((status_of f ≡ 3) ⊎ (status_of f ≡ 8))
+pub drill_early : (shards : Text) (f : RunFault) → IsEarly IsOfPlanOrLogs shards f → HasTable shards → (IsFailedRead f → ⊥) → (status_of f ≡ 2) ⊎ ((status_of f ≡ 3) ⊎ (status_of f ≡ 8))
 drill_early shards f (inl (row, e, first)) (table, text) read = absurd (none_bad shards row table first text.0 text.1)
 drill_early shards f (inr (other, inl (inl (place, e)))) table read = inl (ap status_of e)
 drill_early shards f (inr (other, inl (inr (inl e)))) table read = absurd (read (inl e))
@@ -240,100 +217,109 @@ drill_early shards f (inr (other, inl (inr (inr e)))) table read = inr (inr (ap 
 drill_early shards f (inr (other, inr (log, h))) table read = inr (early_left shards f (inr (other, (log, h))) table read)
 
 -- what is told where the plan is bad
-pub plan_left : (f : Fault) (place : Field) → IsBeforeLogs place f → (IsFailedRead f → ⊥) → (status_of f ≡ 2) ⊎ (status_of f ≡ 8)
+pub plan_left : (f : RunFault) (place : Field) → IsBeforeLogs place f → (IsFailedRead f → ⊥) → (status_of f ≡ 2) ⊎ (status_of f ≡ 8)
 plan_left f place (inl (n, e)) read = inl (ap status_of e)
 plan_left f place (inr (inl e)) read = inl (ap status_of e)
 plan_left f place (inr (inr (inl e))) read = absurd (read (inl e))
 plan_left f place (inr (inr (inr e))) read = inr (ap status_of e)
 
 -- what is left of a drill where no count rose and nothing is refused
-pub drill_left : (f : Fault) → ((n : ℕ) → f ≡ fault.Table n → ⊥) → ((place : Field) → f ≡ fault.Plan place → ⊥) → ((log : LogName) (line : ℕ) (w : Why) → f ≡ fault.Refused log line w → ⊥) → (IsFailedRead f → ⊥) → (f ≡ fault.Write → ⊥) → IsFair ⊤ f
+pub drill_left : (f : RunFault) → ((n : ℕ) → f ≡ fault.Table n → ⊥) → ((place : Field) → f ≡ fault.Plan place → ⊥) → ((log : LogName) (line : ℕ) (w : Why) → f ≡ fault.Refused log line w → ⊥) → (IsFailedRead f → ⊥) → (f ≡ fault.Write → ⊥) → IsWelcome ⊤ f
     → (status_of f ≡ 6) ⊎ ((status_of f ≡ 8) ⊎ (status_of f ≡ 10))
 drill_left (fault.Table n) row bad line read write fair = absurd (row n refl)
 drill_left (fault.Plan at) row bad line read write fair = absurd (bad at refl)
 drill_left (fault.Refused log n w) row bad line read write fair = absurd (line log n w refl)
 drill_left fault.PlanRead row bad line read write fair = absurd (read (inl refl))
-drill_left (fault.Run (cause.Read log)) row bad line read write fair = absurd (read (inr (log, refl)))
-drill_left (fault.Run (cause.Store at)) row bad line read write fair = inl refl
-drill_left (fault.Run (cause.Damaged disk at)) row bad line read write fair = absurd (fair tt)
-drill_left (fault.Run (cause.Topology (mismatch.Joiners kept asked))) row bad line read write fair = absurd (fair tt)
-drill_left (fault.Run (cause.Topology (mismatch.Table kept asked))) row bad line read write fair = absurd fair
-drill_left (fault.Run (cause.Topology (mismatch.Place disk kept floor))) row bad line read write fair = absurd fair
-drill_left (fault.Run (cause.Limit disk value)) row bad line read write fair = inr (inr refl)
-drill_left (fault.Run cause.Memory) row bad line read write fair = inr (inl refl)
+drill_left (fault.Read log) row bad line read write fair = absurd (read (inr (log, refl)))
+drill_left (fault.Store at) row bad line read write fair = inl refl
+drill_left (fault.Damaged disk at) row bad line read write fair = absurd (fair tt)
+drill_left (fault.Topology (mismatch.Joiners kept asked)) row bad line read write fair = absurd (fair tt)
+drill_left (fault.Topology what) row bad line read write fair = absurd fair
+drill_left (fault.Limit disk value) row bad line read write fair = inr (inr refl)
 drill_left fault.Write row bad line read write fair = absurd (write refl)
 drill_left fault.Memory row bad line read write fair = inr (inl refl)
 
-pub named_in_drill : (told : List ℕ → Option (List ℕ)) (v : Values) (file : Text) (f : Fault) → ((n : ℕ) → f ≡ fault.Table n → IsFirstBad v.shards n) → ((place : Field) → f ≡ fault.Plan place → IsBadIn told file place)
+pub named_in_drill : (told : List ℕ → Option (List ℕ)) (v : Values) (file : Text) (f : RunFault) → ((n : ℕ) → f ≡ fault.Table n → IsFirstBad v.shards n) → ((place : Field) → f ≡ fault.Plan place → IsBadIn told file place)
     → ((log : LogName) (line : ℕ) (w : Why) → f ≡ fault.Refused log line w → Refuses told v.queries v.clicks log (record { line = line; why = w })) → IsNamedInDrill told v file f
 named_in_drill told v file (fault.Table n) row bad line = row n refl
 named_in_drill told v file (fault.Plan place) row bad line = bad place refl
 named_in_drill told v file (fault.Refused log n w) row bad line = line log n w refl
-named_in_drill told v file fault.PlanRead row bad line = tt
-named_in_drill told v file (fault.Run f) row bad line = tt
-named_in_drill told v file fault.Write row bad line = tt
-named_in_drill told v file fault.Memory row bad line = tt
+named_in_drill told v file _ row bad line = tt
 
 -- ---- of a bulk run
 
-pub bulk_row : (shards : Text) (f : Fault) → IsKnown (λ e. e ≡ fault.Memory) shards f → (n : ℕ) → f ≡ fault.Table n → IsFirstBad shards n
+pub bulk_row : (shards : Text) (f : RunFault) → IsKnown (λ e. e ≡ fault.Memory) shards f → (n : ℕ) → f ≡ fault.Table n → IsFirstBad shards n
 bulk_row shards f known n is = row_of (λ e. e ≡ fault.Memory) shards f (λ m e h. cc (sym e ∙ h)) known n is
 
-pub bulk_own : (shards : Text) (f : Fault) → IsKnown (λ e. e ≡ fault.Memory) shards f → IsOfBulk f
+past_bulk : (f : RunFault) → IsPast f → IsOfBulk f
+past_bulk (fault.Plan place) h = h
+past_bulk (fault.Refused log line w) h = h
+past_bulk fault.PlanRead h = h
+past_bulk _ h = tt
+
+pub bulk_own : (shards : Text) (f : RunFault) → IsKnown (λ e. e ≡ fault.Memory) shards f → IsOfBulk f
 bulk_own shards f (inl (inl (row, e, first))) = subst IsOfBulk (sym e) tt
 bulk_own shards f (inl (inr (table, e))) = subst IsOfBulk (sym e) tt
-bulk_own shards f (inr (table, h)) = past IsOfBulk (λ c. tt) tt tt f h
+bulk_own shards f (inr (table, h)) = past_bulk f h
 
-pub bulk_two : (shards : Text) (f : Fault) → IsKnown (λ e. e ≡ fault.Memory) shards f → status_of f ≡ 2 → (n : ℕ) × IsFirstBad shards n
+pub bulk_two : (shards : Text) (f : RunFault) → IsKnown (λ e. e ≡ fault.Memory) shards f → status_of f ≡ 2 → (n : ℕ) × IsFirstBad shards n
 bulk_two shards f known two = ⊎_elim (λ row. (row.0, bulk_row shards f known row.0 row.1)) (λ place. absurd (subst IsOfBulk place.1 (bulk_own shards f known))) (two_of f two)
 
-pub named_in_bulk : (v : BulkValues) (f : Fault) → IsOfBulk f → ((n : ℕ) → f ≡ fault.Table n → IsFirstBad v.shards n) → IsNamedInBulk v f
+pub named_in_bulk : (v : BulkValues) (f : RunFault) → IsOfBulk f → ((n : ℕ) → f ≡ fault.Table n → IsFirstBad v.shards n) → IsNamedInBulk v f
 named_in_bulk v (fault.Table n) own row = row n refl
 named_in_bulk v (fault.Plan place) own row = own
 named_in_bulk v (fault.Refused log n w) own row = own
 named_in_bulk v fault.PlanRead own row = own
-named_in_bulk v (fault.Run f) own row = tt
-named_in_bulk v fault.Write own row = tt
-named_in_bulk v fault.Memory own row = tt
+named_in_bulk v _ own row = tt
 
 -- ---- of a verification
 
-pub log_verify : (f : Fault) → IsLogFault Clicks f → IsOfVerify f
+pub log_verify : (f : RunFault) → IsLogFault Clicks f → IsOfVerify f
 log_verify f h = of_log IsOfVerify Clicks (λ line w. tt) tt tt f h
 
-pub past_verify : (f : Fault) → IsPast f → IsOfVerify f
-past_verify f h = past IsOfVerify (λ c. tt) tt tt f h
+pub past_verify : (f : RunFault) → IsPast f → IsOfVerify f
+past_verify (fault.Table n) h = h
+past_verify (fault.Plan place) h = h
+past_verify (fault.Refused log line w) h = absurd h
+past_verify fault.PlanRead h = h
+past_verify _ h = tt
 
-pub never_two : (f : Fault) → IsOfVerify f → status_of f ≢ 2
+pub verify_past : (f : RunFault) → IsOfVerify f → ((line : ℕ) (w : Why) → f ≡ fault.Refused Clicks line w → ⊥) → IsPast f
+verify_past (fault.Table n) own line = own
+verify_past (fault.Plan place) own line = own
+verify_past (fault.Refused Queries n w) own line = own
+verify_past (fault.Refused Clicks n w) own line = line n w refl
+verify_past fault.PlanRead own line = own
+verify_past _ own line = tt
+
+pub never_two : (f : RunFault) → IsOfVerify f → status_of f ≢ 2
 never_two f own two = ⊎_elim (λ row. subst IsOfVerify row.1 own) (λ place. subst IsOfVerify place.1 own) (two_of f two)
 
 of_clicks : (log : LogName) (line : ℕ) (w : Why) → IsOfVerify (fault.Refused log line w) → log ≡ Clicks
 of_clicks Queries line w own = absurd own
 of_clicks Clicks line w own = refl
 
-pub click_line : (f : Fault) → IsOfVerify f → status_of f ≡ 3 → (line : ℕ) × (w : Why) × (f ≡ fault.Refused Clicks line w)
+pub click_line : (f : RunFault) → IsOfVerify f → status_of f ≡ 3 → (line : ℕ) × (w : Why) × (f ≡ fault.Refused Clicks line w)
 click_line f own three =
     let told = line_of f three in
     let log : told.0 ≡ Clicks = of_clicks told.0 told.1 told.2 (subst IsOfVerify told.3 own) in
     (told.1, told.2, subst (λ (l : LogName). f ≡ fault.Refused l told.1 told.2) log told.3)
 
-pub never_written : (f : Fault) → IsLogFault Clicks f → f ≡ fault.Write → ⊥
+pub never_written : (f : RunFault) → IsLogFault Clicks f → f ≡ fault.Write → ⊥
 never_written f (inl (line, w, e)) is = cc (sym is ∙ e)
 never_written f (inr (inl e)) is = cc (sym is ∙ e)
 never_written f (inr (inr e)) is = cc (sym is ∙ e)
 
 -- what is told of a log that isn't valid
-pub unreadable : (f : Fault) → IsLogFault Clicks f → (IsFailedRead f → ⊥) → (status_of f ≡ 3) ⊎ (status_of f ≡ 8)
+pub unreadable : (f : RunFault) → IsLogFault Clicks f → (IsFailedRead f → ⊥) → (status_of f ≡ 3) ⊎ (status_of f ≡ 8)
 unreadable f (inl (line, w, e)) read = inl (ap status_of e)
 unreadable f (inr (inl e)) read = absurd (read (inr (Clicks, e)))
 unreadable f (inr (inr e)) read = inr (ap status_of e)
 
-pub named_in_verify : (told : List ℕ → Option (List ℕ)) (clicks : Text) (f : Fault) → IsOfVerify f → ((line : ℕ) (w : Why) → f ≡ fault.Refused Clicks line w → IsSomeAnd (told clicks) (λ log. RefusesClick log (record { line = line; why = w }))) → IsNamedInVerify told clicks f
+pub named_in_verify : (told : List ℕ → Option (List ℕ)) (clicks : Text) (f : RunFault) → IsOfVerify f → ((line : ℕ) (w : Why) → f ≡ fault.Refused Clicks line w → IsSomeAnd (told clicks) (λ log. RefusesClick log (record { line = line; why = w }))) → IsNamedInVerify told clicks f
 named_in_verify told clicks (fault.Table n) own line = own
 named_in_verify told clicks (fault.Plan place) own line = own
 named_in_verify told clicks (fault.Refused Queries n w) own line = own
 named_in_verify told clicks (fault.Refused Clicks n w) own line = line n w refl
 named_in_verify told clicks fault.PlanRead own line = own
-named_in_verify told clicks (fault.Run f) own line = tt
-named_in_verify told clicks fault.Write own line = tt
-named_in_verify told clicks fault.Memory own line = tt
+named_in_verify told clicks _ own line = tt

@@ -1,5 +1,5 @@
 -- How a verification ends at each fault.
-use Rattle.std.proofs.Common.{inl, inr, ◌≡◌, ℕ, List, [], map, nat_lt, Option, None, Some, Bool, false, IsTrue, refl, sym, ap, subst, ◌∙◌, arith}
+use Rattle.std.proofs.Common.{◌≡◌, ℕ, List, [], map, nat_lt, Option, None, Some, Bool, false, IsTrue, refl, sym, ap, subst, ◌∙◌, arith}
 use Rattle.std.specs.Option.{IsSomeAnd}
 use Rattle.std.specs.List.{flat_map}
 use Rattle.std.proofs.lemmas.Bool.Decides.{nat_tests}
@@ -17,15 +17,11 @@ use Rattle.outside.specs.declared.store.DiskName.TheVariants as name
 use Rattle.topology_journal.specs.Topologies.{Keeps as KeepsTopology}
 use Rattle.turn_defs.specs.Setting.{Setting}
 use Rattle.photon_model.specs.Topology.{Store}
-use Rattle.site_store.specs.declared.disks.fault.DisksFault.TheVariants as disks
 use Rattle.site_laws.specs.Stores.{AreLeft, Images, IsSoundStore}
-use Rattle.site_store.specs.declared.opening.refusal.Refusal.{Refusal}
-use Rattle.site_store.specs.declared.opening.refusal.Refusal.TheVariants.{Disks as OfDisks, Joiners, Table, Place, Limit, Read}
 use Rattle.site_store.specs.Leaving.{IsAsked as HasTopology}
 use Rattle.site_store.specs.declared.reading.kept.KeptStore.{KeptStore}
 use Rattle.site_store.specs.Reading.{IsRead}
 use Rattle.site_store.specs.Telling.{Tells}
-use Rattle.site_run.specs.Causes.{of_refusal}
 use Rattle.verify_pass.specs.declared.journals.Journals.{Journals}
 use Rattle.topology_journal.specs.declared.topology.Topology.{Topology as KeptTopology}
 use Rattle.log_records.specs.declared.records.ClickRec.{ClickRec}
@@ -38,28 +34,6 @@ use Rattle.dispatch_node.specs.Places.{IsLogOf}
 use Rattle.photon_cli.specs.Join.{HasIds}
 use Rattle.photon_cli.specs.Verify.{IsReadFrom, IsTold}
 use Rattle.photon_cli.proofs.Runs.{clicks_back}
-use Rattle.photon_cli.specs.declared.engine.fault.Fault.TheVariants as fault
-use Rattle.photon_cli.specs.LogFaults.{IsFailedRead}
-
--- ---- a store that isn't read
-
--- of a store's refusals one alone is of the log
-pub refused_read : (r : Refusal) → IsFailedRead (fault.Run (of_refusal r)) → r ≡ Read
-refused_read (OfDisks (disks.Store disk)) (inl e) = absurd cc
-refused_read (OfDisks (disks.Store disk)) (inr (log, e)) = absurd cc
-refused_read (OfDisks (disks.Damaged disk at)) (inl e) = absurd cc
-refused_read (OfDisks (disks.Damaged disk at)) (inr (log, e)) = absurd cc
-refused_read (OfDisks disks.Memory) (inl e) = absurd cc
-refused_read (OfDisks disks.Memory) (inr (log, e)) = absurd cc
-refused_read (Joiners a b) (inl e) = absurd cc
-refused_read (Joiners a b) (inr (log, e)) = absurd cc
-refused_read (Table a b) (inl e) = absurd cc
-refused_read (Table a b) (inr (log, e)) = absurd cc
-refused_read (Place p) (inl e) = absurd cc
-refused_read (Place p) (inr (log, e)) = absurd cc
-refused_read (Limit disk value) (inl e) = absurd cc
-refused_read (Limit disk value) (inr (log, e)) = absurd cc
-refused_read Read e = refl
 
 -- ---- a store that is read, by what a stop might have left of it before its directory was chosen
 

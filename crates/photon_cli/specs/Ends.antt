@@ -8,16 +8,16 @@ use Rattle.lossy_link.specs.Fates.{PlanView}
 use Rattle.lossy_link.specs.declared.bad_plan.Field.{Field}
 use Rattle.command_words.specs.Words.{BulkValues, Text, Values, Wish, a_bulk_run, a_drill, a_join, a_verification}
 use Rattle.log_records.specs.declared.check.BadLine.{BadLine}
-use Rattle.site_run.specs.declared.faults.fault.LogName.{LogName}
+use Rattle.run_fault.specs.declared.fault.LogName.{LogName}
 use Rattle.turn_defs.specs.Setting.{Setting}
 use Rattle.log_records.specs.Check.{RefusesClick}
 use Rattle.gate_journal.specs.Images.{GoesOn, StaysAs}
 use Rattle.site_laws.specs.Stores.{Images, IsSoundStore}
 use Rattle.site_run.specs.declared.ran.RunLog.{RunLog}
 use Rattle.site_run.specs.Refused.{HasPassed, IsTaken, WasJournal}
-use Rattle.photon_cli.specs.declared.engine.fault.Fault.{Fault}
+use Rattle.run_fault.specs.declared.fault.RunFault.{RunFault}
 use Rattle.photon_cli.specs.Causes.{AreMisplaced, CanBeRead, IsAtLimit, IsBelowLimits, IsMismatched, IsOverLog, unasked}
-use Rattle.photon_cli.specs.Faults.{status_of}
+use Rattle.run_fault.specs.Faults.{status_of}
 use Rattle.photon_cli.specs.Bulk.{BeginsBulk, IsBulkRun, PrintsTotals, PrintsTotalsPrefix}
 use Rattle.photon_cli.specs.Drill.{BeginsDrill, HasDrilled, IsBadIn, IsPlanIn, PrintsDrill, PrintsDrillPrefix}
 use Rattle.photon_cli.specs.Join.{BeginsJoin, HasRun, IsAsked, IsHistory, IsInvalid, Prints, PrintsAfresh, PrintsPrefix, Refuses, no_plan}
@@ -65,7 +65,7 @@ module _ (logs sinks : Bool) (told : List ℕ → Option (List ℕ)) (files outp
     pub limited : IsTrue disks → IsTrue logs → (g : Setting) → IsAsked told v g → IsAtLimit g before → (files → ⊥) → (faulted → ⊥) → (status ≡ 10) ⊎ ((status ≡ 9) ⊎ ((status ≡ 7) ⊎ (status ≡ 8)))
     -- 0 only where what the disks kept can be run; any other is of a fault, which names a line or a row that is so, or has its cause
     pub passed : IsTrue disks → IsTrue logs → (g : Setting) → IsAsked told v g → status ≡ 0 → HasPassed g before
-    pub caused : IsTrue logs → (status ≡ 0) ⊎ ((f : Fault) × (status ≡ status_of f) × IsToldOf told v disks before files faulted f)
+    pub caused : IsTrue logs → (status ≡ 0) ⊎ ((f : RunFault) × (status ≡ status_of f) × IsToldOf told v disks before files faulted f)
     -- what went out before a fault of the output is a prefix of the report
     pub prefix : IsTrue logs → IsTrue sinks → IsTrue disks → status ≡ 5 → PrintsPrefix told v before after faulted old new
     -- what is told, unless the standard error has a fault
@@ -125,7 +125,7 @@ module _ (logs sinks : Bool) (told : List ℕ → Option (List ℕ)) (files outp
     pub limited : IsTrue disks → IsTrue logs → (g : Setting) → IsOverLog told clicks g → IsAtLimit (unasked g) before → (files → ⊥) → (faulted → ⊥) → (status ≡ 10) ⊎ ((status ≡ 9) ⊎ ((status ≡ 7) ⊎ (status ≡ 8)))
     -- 0 and 1 only where what the disks kept can be read; any other is of a fault that has its cause
     pub passed : IsTrue disks → IsTrue logs → (g : Setting) → IsOverLog told clicks g → (status ≡ 0) ⊎ (status ≡ 1) → CanBeRead g before
-    pub caused : IsTrue logs → (status ≡ 0) ⊎ ((status ≡ 1) ⊎ ((f : Fault) × (status ≡ status_of f) × IsToldOfVerify told clicks disks before files faulted f))
+    pub caused : IsTrue logs → (status ≡ 0) ⊎ ((status ≡ 1) ⊎ ((f : RunFault) × (status ≡ status_of f) × IsToldOfVerify told clicks disks before files faulted f))
     pub prefix : IsTrue logs → IsTrue sinks → IsTrue disks → status ≡ 5 → PrintsKeptPrefix told clicks before old new
     pub tells : IsTrue logs → IsTrue sinks → (errors → ⊥) → ((status ≡ 1) × (err_new ≡ err_old)) ⊎ TellsBy (IsToldOfVerify told clicks disks before files faulted) status err_old err_new
     -- at every status each disk stands for what it stood for, and a sound store stays sound

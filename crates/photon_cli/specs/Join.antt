@@ -14,8 +14,8 @@ use Rattle.log_records.specs.Lines.{ClickLine, end_from}
 use Rattle.log_records.specs.declared.report.ReportLine.{ReportLine}
 use Rattle.log_records.specs.Report.{text_of}
 use Rattle.report_text.specs.Stream.{TookPrefix}
-use Rattle.site_run.specs.declared.faults.fault.LogName.{LogName}
-use Rattle.site_run.specs.declared.faults.fault.LogName.TheVariants.{Queries, Clicks}
+use Rattle.run_fault.specs.declared.fault.LogName.{LogName}
+use Rattle.run_fault.specs.declared.fault.LogName.TheVariants.{Queries, Clicks}
 use Rattle.turn_defs.specs.Setting.{Setting}
 use Rattle.site_run.specs.declared.built.config.Config.{Config}
 use Rattle.site_laws.specs.Stores.{Images, IsSoundStore}

@@ -1,70 +1,62 @@
 -- What the program tells on standard error.
 use Rattle.std.specs.Prelude.{ℕ, ◌≡◌, ◌⊎◌, List, ◌++◌, Bool, IsTrue, Option, IsSomeAnd, ⊤}
 use Rattle.log_records.specs.Check.{RefusesClick}
-use Rattle.site_run.specs.declared.faults.fault.LogName.TheVariants.{Queries, Clicks}
-use Rattle.time_shards.specs.Text.{IsFirstBad}
 use Rattle.command_words.specs.Words.{BulkValues, Text, Values}
+use Rattle.run_fault.specs.declared.fault.LogName.TheVariants.{Queries, Clicks}
+use Rattle.time_shards.specs.Text.{IsFirstBad}
 use Rattle.turn_defs.specs.Setting.{Setting}
 use Rattle.site_laws.specs.Stores.{Images}
-use Rattle.photon_cli.specs.declared.engine.fault.Fault.{Fault}
-use Rattle.photon_cli.specs.declared.engine.fault.Fault.TheVariants as fault
+use Rattle.run_fault.specs.declared.fault.RunFault.{RunFault}
+use Rattle.run_fault.specs.declared.fault.RunFault.TheVariants as fault
 use Rattle.photon_cli.specs.Drill.{IsBadIn}
-use Rattle.photon_cli.specs.Causes.{HasCause, HasCauseInVerify, IsOverLog}
+use Rattle.site_run.specs.Refused.{IsCauseOf}
+use Rattle.photon_cli.specs.Causes.{HasCauseInVerify, IsOverLog}
 use Rattle.photon_cli.specs.Join.{IsAsked, Refuses}
-use Rattle.photon_cli.specs.Faults.{status_of, message}
+use Rattle.run_fault.specs.Faults.{status_of, message}
 
 -- nothing is told at status 0, else the text of a fault of this status that is named so
-abbrev pub TellsBy : (Fault → Type 0) → ℕ → List ℕ → List ℕ → Type 0
-TellsBy named status old new = ((status ≡ 0) × (new ≡ old)) ⊎ ((f : Fault) × (status ≡ status_of f) × named f × (new ≡ old ++ message f))
+abbrev pub TellsBy : (RunFault → Type 0) → ℕ → List ℕ → List ℕ → Type 0
+TellsBy named status old new = ((status ≡ 0) × (new ≡ old)) ⊎ ((f : RunFault) × (status ≡ status_of f) × named f × (new ≡ old ++ message f))
 
 -- Here told says what bytes are under a name.
 module _ (told : List ℕ → Option (List ℕ)) where
   -- Of a join: a fault that names a line names the first that is refused, and one that names a row the table's first bad one. It
   -- has no plan.
-  abbrev pub IsNamed : Values → Fault → Type 0
+  abbrev pub IsNamed : Values → RunFault → Type 0
   IsNamed v (fault.Table row) = IsFirstBad v.shards row
   IsNamed v (fault.Plan place) = ⊥
   IsNamed v (fault.Refused log line w) = Refuses told v.queries v.clicks log (record { line = line; why = w })
   IsNamed v fault.PlanRead = ⊥
-  IsNamed v (fault.Run cause) = ⊤
-  IsNamed v fault.Write = ⊤
-  IsNamed v fault.Memory = ⊤
+  IsNamed v _ = ⊤
 
   -- and where the disks tell what they hold it has its cause, whatever setting the values ask for
-  abbrev pub IsToldOf : Values → (disks : Bool) → Images → (files faulted : Type 0) → Fault → Type 0
-  IsToldOf v disks before files faulted f = IsNamed v f × (IsTrue disks → (g : Setting) → IsAsked told v g → HasCause g before files faulted f)
+  abbrev pub IsToldOf : Values → (disks : Bool) → Images → (files faulted : Type 0) → RunFault → Type 0
+  IsToldOf v disks before files faulted f = IsNamed v f × (IsTrue disks → (g : Setting) → IsAsked told v g → IsCauseOf g before files faulted f)
 
   -- the same of a drill, and one that names a place of the plan names its first bad one
-  abbrev pub IsNamedInDrill : Values → Text → Fault → Type 0
+  abbrev pub IsNamedInDrill : Values → Text → RunFault → Type 0
   IsNamedInDrill v file (fault.Table row) = IsFirstBad v.shards row
   IsNamedInDrill v file (fault.Plan place) = IsBadIn told file place
   IsNamedInDrill v file (fault.Refused log line w) = Refuses told v.queries v.clicks log (record { line = line; why = w })
-  IsNamedInDrill v file fault.PlanRead = ⊤
-  IsNamedInDrill v file (fault.Run cause) = ⊤
-  IsNamedInDrill v file fault.Write = ⊤
-  IsNamedInDrill v file fault.Memory = ⊤
+  IsNamedInDrill v file _ = ⊤
 
   -- of a verification, which has neither a table, nor a plan, nor queries
-  abbrev pub IsNamedInVerify : Text → Fault → Type 0
+  abbrev pub IsNamedInVerify : Text → RunFault → Type 0
   IsNamedInVerify clicks (fault.Table row) = ⊥
   IsNamedInVerify clicks (fault.Plan place) = ⊥
   IsNamedInVerify clicks (fault.Refused Queries line w) = ⊥
   IsNamedInVerify clicks (fault.Refused Clicks line w) = IsSomeAnd (told clicks) (λ log. RefusesClick log (record { line = line; why = w }))
   IsNamedInVerify clicks fault.PlanRead = ⊥
-  IsNamedInVerify clicks (fault.Run cause) = ⊤
-  IsNamedInVerify clicks fault.Write = ⊤
-  IsNamedInVerify clicks fault.Memory = ⊤
+  IsNamedInVerify clicks _ = ⊤
 
   -- and where the disks tell what they hold it has its cause, whatever setting is over the log
-  abbrev pub IsToldOfVerify : Text → (disks : Bool) → Images → (files faulted : Type 0) → Fault → Type 0
+  abbrev pub IsToldOfVerify : Text → (disks : Bool) → Images → (files faulted : Type 0) → RunFault → Type 0
   IsToldOfVerify clicks disks before files faulted f = IsNamedInVerify clicks f × (IsTrue disks → (g : Setting) → IsOverLog told clicks g → HasCauseInVerify g before files faulted f)
 
 -- of a bulk run, which reads no file
-abbrev pub IsNamedInBulk : BulkValues → Fault → Type 0
+abbrev pub IsNamedInBulk : BulkValues → RunFault → Type 0
 IsNamedInBulk v (fault.Table row) = IsFirstBad v.shards row
 IsNamedInBulk v (fault.Plan place) = ⊥
 IsNamedInBulk v (fault.Refused log line w) = ⊥
 IsNamedInBulk v fault.PlanRead = ⊥
-IsNamedInBulk v (fault.Run cause) = ⊤
-IsNamedInBulk v fault.Write = ⊤
-IsNamedInBulk v fault.Memory = ⊤
+IsNamedInBulk v _ = ⊤

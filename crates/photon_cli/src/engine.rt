@@ -4,7 +4,6 @@
 mod bulk;
 mod checked;
 mod drill;
-mod fault;
 mod join;
 mod plan;
 mod read;
@@ -14,6 +13,5 @@ mod verify;
 
 pub use bulk::bulk_totals;
 pub use drill::drill_logs;
-pub use fault::Fault;
 pub use join::join_logs;
 pub use verify::verify_store;

@@ -1,6 +1,6 @@
 -- What a run leaves, by what its parts do.
 use Rattle.std.specs.Prelude.{IfSome, IsSomeAnd, IfOk}
-use Rattle.std.proofs.Common.{◌≡◌, inl, ℕ, List, [], ◌∷◌, ◌++◌, Bool, Option, None, Some, Result, Ok, Err, refl, sym, subst}
+use Rattle.std.proofs.Common.{◌≡◌, inl, ℕ, List, [], ◌∷◌, ◌++◌, Option, None, Some, Result, Ok, Err, refl, sym, subst}
 use Rattle.list_words.specs.Lists.{Each, Mem}
 use Rattle.list_words.proofs.Lists.{mem_left, mem_right, each_at, each_from, each_more, each_append}
 use Rattle.outside.specs.declared.store.DiskName.{DiskName}
@@ -8,33 +8,26 @@ use Rattle.outside.specs.declared.store.DiskName.TheVariants as name
 use Rattle.outside.specs.declared.faults.StoreFault.{StoreFault}
 use Rattle.outside.specs.declared.faults.StoreFault.TheVariants as store
 use Rattle.air_bus.specs.declared.entry.Entry.{Entry as BusEntry}
-use Rattle.outside.specs.Faults.{Rose}
-use Rattle.topology_journal.specs.declared.topology.Topology.{Topology as Asked}
 use Rattle.log_records.specs.Check.{IsQueryLog}
 use Rattle.turn_defs.specs.Setting.{Setting, Checked}
 use Rattle.dispatch_node.specs.Places.{IsLogOf}
 use Rattle.photon_model.specs.Runs.{Disks}
 use Rattle.photon_model.specs.Topology.{topology_of, Store, WholeSound}
 use Rattle.photon_model.specs.Stores.{ReadIsChecked}
-use Rattle.site_run.specs.declared.faults.fault.RunFault.{RunFault}
-use Rattle.site_run.specs.declared.faults.fault.RunFault.TheVariants as fault
-use Rattle.site_run.specs.declared.faults.fault.Mismatch.TheVariants as mismatch
-use Rattle.site_store.specs.declared.disks.fault.DisksFault.TheVariants as disks
-use Rattle.site_store.specs.Opening.{RoseBy}
+use Rattle.run_fault.specs.declared.fault.RunFault.{RunFault}
+use Rattle.run_fault.specs.declared.fault.RunFault.TheVariants as fault
+use Rattle.run_fault.specs.declared.fault.Mismatch.TheVariants as mismatch
+use Rattle.run_fault.specs.Causes.{IsCounted, IsWelcome}
+use Rattle.run_fault.specs.Faults.{of_place}
 use Rattle.gate_journal.specs.Images.{IsKeptIn}
 use Rattle.site_laws.specs.Stores.{Images, AreLeft, IsSoundStore, SameRecords, KeepsOf, KeepsTopology}
 use Rattle.site_laws.specs.StoreLaws.{RunStaysSound}
-use Rattle.site_store.specs.declared.opening.refusal.Refusal.{Refusal}
-use Rattle.site_store.specs.declared.opening.refusal.Refusal.TheVariants.{Disks as OfDisks, Joiners, Table, Place, Limit, Read}
-use Rattle.site_store.specs.Records.{KeptValues}
-use Rattle.site_store.specs.Causes.{IfJudged, IfDisks, IsCause, LeavesSomething, IsWelcome as OpensWelcome}
 use Rattle.verify_pass.specs.declared.journals.Journals.{Journals}
 use Rattle.site_run.specs.declared.ran.Outcome.{Outcome}
 use Rattle.site_run.specs.declared.ran.RunLog.{RunLog}
 use Rattle.site_run.specs.declared.built.config.Config.{Config}
 use Rattle.site_run.specs.Asked.{IsSettingOf, IsSettingOver}
 use Rattle.site_run.specs.Logs.{IsOfLogs}
-use Rattle.site_run.specs.Causes.{of_refusal, of_place, IsCounted, IsWelcomeWhere}
 use Rattle.site_run.specs.Left.{HasRun, HasRested, RunLeft, RestLeft}
 
 -- ---- where a run began, and where none did
@@ -59,29 +52,6 @@ run_sound (Some l) g after s checked whole topology law none run = law s l.air.h
 
 pub none_left : (P : RunLog → Type 0) (o : Option RunLog) → o ≡ None → IfSome o P
 none_left P o none = subst (λ (x : Option RunLog). IfSome x P) (sym none) tt
-
--- ---- a store that isn't opened
-
-pub refusal_counted : (r : Refusal) (tells : Bool) (log : List ℕ) (end_ old new store_old store_new : ℕ) (asked : Option Asked) (kept : KeptValues → Type 0) (logs stores : Type 0)
-    → IfDisks (RoseBy store_old store_new) r → (Rose store_old store_new → stores) → IfJudged kept (IsCause tells log end_ old new asked) r → (Rose old new → logs) → IsCounted logs stores (of_refusal r)
-refusal_counted (OfDisks (disks.Store disk)) tells log end_ old new store_old store_new asked kept logs stores rose to_stores judged to_logs = to_stores rose
-refusal_counted (OfDisks (disks.Damaged disk at)) tells log end_ old new store_old store_new asked kept logs stores rose to_stores judged to_logs = tt
-refusal_counted (OfDisks disks.Memory) tells log end_ old new store_old store_new asked kept logs stores rose to_stores judged to_logs = tt
-refusal_counted (Joiners a b) tells log end_ old new store_old store_new asked kept logs stores rose to_stores judged to_logs = tt
-refusal_counted (Table a b) tells log end_ old new store_old store_new asked kept logs stores rose to_stores judged to_logs = tt
-refusal_counted (Place p) tells log end_ old new store_old store_new asked kept logs stores rose to_stores judged to_logs = tt
-refusal_counted (Limit disk value) tells log end_ old new store_old store_new asked kept logs stores rose to_stores judged to_logs = tt
-refusal_counted Read tells log end_ old new store_old store_new asked kept logs stores rose to_stores judged to_logs = to_logs judged.2.1
-
-pub refusal_welcome : (r : Refusal) (g : Setting) (image : Images) → OpensWelcome g image r → IsWelcomeWhere (LeavesSomething g image) (of_refusal r)
-refusal_welcome (OfDisks (disks.Store disk)) g image welcome = tt
-refusal_welcome (OfDisks (disks.Damaged disk at)) g image welcome = welcome
-refusal_welcome (OfDisks disks.Memory) g image welcome = tt
-refusal_welcome (Joiners a b) g image welcome = welcome
-refusal_welcome (Table a b) g image welcome = absurd welcome
-refusal_welcome (Place p) g image welcome = absurd welcome
-refusal_welcome (Limit disk value) g image welcome = tt
-refusal_welcome Read g image welcome = tt
 
 -- ---- the log that is read and put back
 
@@ -117,25 +87,19 @@ checked_so law g (Some a) (Some b) of_a of_b = law g a b (record { queries = of_
 
 pub logs_counted : (f : RunFault) (rose stores : Type 0) → IsOfLogs rose f → IsCounted rose stores f
 logs_counted (fault.Read log) rose stores of = of
-logs_counted (fault.Store place) rose stores of = absurd of
-logs_counted (fault.Damaged disk at) rose stores of = tt
-logs_counted (fault.Topology what) rose stores of = tt
-logs_counted (fault.Limit disk value) rose stores of = tt
 logs_counted fault.Memory rose stores of = tt
+logs_counted _ rose stores of = absurd of
 
-pub logs_welcome : (f : RunFault) (rose holds : Type 0) → IsOfLogs rose f → IsWelcomeWhere holds f
+pub logs_welcome : (f : RunFault) (rose holds : Type 0) → IsOfLogs rose f → IsWelcome holds f
 logs_welcome (fault.Read log) rose holds of = tt
-logs_welcome (fault.Store place) rose holds of = tt
-logs_welcome (fault.Damaged disk at) rose holds of = absurd of
-logs_welcome (fault.Topology what) rose holds of = absurd of
-logs_welcome (fault.Limit disk value) rose holds of = tt
 logs_welcome fault.Memory rose holds of = tt
+logs_welcome _ rose holds of = absurd of
 
 pub place_counted : (f : StoreFault) (logs stores : Type 0) → (f ≡ store.Disk → stores) → IsCounted logs stores (of_place f)
 place_counted store.Disk logs stores rose = rose refl
 place_counted store.Memory logs stores rose = tt
 
-pub place_welcome : (f : StoreFault) (holds : Type 0) → IsWelcomeWhere holds (of_place f)
+pub place_welcome : (f : StoreFault) (holds : Type 0) → IsWelcome holds (of_place f)
 place_welcome store.Disk holds = tt
 place_welcome store.Memory holds = tt
 
@@ -148,16 +112,13 @@ counted_more (fault.Damaged disk at) logs stores logs_too stores_too more_logs m
 counted_more (fault.Topology what) logs stores logs_too stores_too more_logs more_stores is = tt
 counted_more (fault.Limit disk value) logs stores logs_too stores_too more_logs more_stores is = tt
 counted_more fault.Memory logs stores logs_too stores_too more_logs more_stores is = tt
+counted_more _ logs stores logs_too stores_too more_logs more_stores is = absurd is
 
-pub welcome_where : (f : RunFault) (holds less : Type 0) → (less → holds) → IsWelcomeWhere holds f → IsWelcomeWhere less f
-welcome_where (fault.Read log) holds less from is = tt
-welcome_where (fault.Store place) holds less from is = tt
+pub welcome_where : (f : RunFault) (holds less : Type 0) → (less → holds) → IsWelcome holds f → IsWelcome less f
 welcome_where (fault.Damaged disk at) holds less from is = λ l. is (from l)
 welcome_where (fault.Topology (mismatch.Joiners kept asked)) holds less from is = λ l. is (from l)
-welcome_where (fault.Topology (mismatch.Table kept asked)) holds less from is = absurd is
-welcome_where (fault.Topology (mismatch.Place disk kept floor)) holds less from is = absurd is
-welcome_where (fault.Limit disk value) holds less from is = tt
-welcome_where fault.Memory holds less from is = tt
+welcome_where (fault.Topology what) holds less from is = absurd is
+welcome_where _ holds less from is = tt
 
 -- ---- from a store that was placed to the one before
 

@@ -1,6 +1,6 @@
 -- The fault that is told: the first node's that has one.
 use Rattle.std.proofs.Common.{◌≡◌, ℕ, suc, List, ◌∷◌, Option, None, Some, refl, sym, ap, ◌∙◌}
-use Rattle.site_run.specs.declared.faults.fault.RunFault.{RunFault}
+use Rattle.run_fault.specs.declared.fault.RunFault.{RunFault}
 use Rattle.site_node.specs.declared.kind.NodeFault.{NodeFault}
 use Rattle.site_run.specs.Settled.{told_of, or_else, first_fault}
 

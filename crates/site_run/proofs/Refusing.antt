@@ -1,10 +1,9 @@
 -- Why a run over a store gives up, from what opening it tells and what a run of its nodes does.
-use Rattle.std.specs.Prelude.{IsTrue, Result, Ok, Err, OnOk, IfErr}
-use Rattle.std.proofs.Common.{◌≡◌, ◌≢◌, inl, inr, ⊎_elim, ℕ, zero, suc, ◌+◌, ◌-◌, ◌<◌, ◌≤◌, ◌==◌, if◌then◌else◌, List, [], ◌∷◌, ◌++◌, map, take, length, Bool, true, false, Option, Some, None, refl, sym, ◌∙◌, ap, subst, arith}
+use Rattle.std.specs.Prelude.{IsTrue, Result, Ok, Err, OnOk, IfErr, ⊤}
+use Rattle.std.proofs.Common.{◌≡◌, ◌≢◌, inl, inr, ⊎_elim, ℕ, ◌+◌, ◌-◌, ◌<◌, ◌≤◌, ◌==◌, if◌then◌else◌, List, [], ◌∷◌, map, Bool, true, false, Option, Some, None, refl, sym, ◌∙◌, ap, subst, arith}
 use Rattle.std.proofs.lemmas.Bool.{eq-eqb, cases_lt}
-use Rattle.list_words.specs.Lists.{Each, Mem}
-use Rattle.list_words.proofs.Lists.{each_at, each_more}
-use Rattle.outside.specs.Faults.{Rose}
+use Rattle.list_words.specs.Lists.{Mem}
+use Rattle.list_words.proofs.Lists.{each_at}
 use Rattle.outside.specs.declared.store.DiskName.{DiskName}
 use Rattle.outside.specs.declared.store.DiskName.TheVariants as name
 use Rattle.outside.specs.declared.faults.StoreFault.{StoreFault}
@@ -15,29 +14,25 @@ use Rattle.turn_defs.specs.declared.node.Node.TheVariants.{Dispatcher, Server, R
 use Rattle.turn_defs.specs.Setting.{Setting, IsJoiner, first_joiner}
 use Rattle.dispatch_node.specs.Places.{IsLogOf}
 use Rattle.photon_model.specs.Runs.{Disks}
-use Rattle.site_run.specs.declared.faults.fault.StorePlace.TheVariants as place
-use Rattle.site_run.specs.declared.faults.fault.RunFault.{RunFault}
-use Rattle.site_run.specs.declared.faults.fault.RunFault.TheVariants as fault
-use Rattle.site_store.specs.declared.disks.checks.Misfit.{Misfit}
-use Rattle.site_store.specs.declared.disks.checks.Misfit.TheVariants as misfit
-use Rattle.site_store.specs.declared.disks.fault.DisksFault.TheVariants as disks
-use Rattle.site_store.specs.Misfits.{IsFit, IsMisfit, limit_at, limit_in, or_else}
-use Rattle.site_store.specs.Opening.{RoseBy, WasDamaged}
+use Rattle.run_fault.specs.declared.fault.StorePlace.TheVariants as place
+use Rattle.run_fault.specs.declared.fault.RunFault.{RunFault}
+use Rattle.run_fault.specs.declared.fault.RunFault.TheVariants as fault
+use Rattle.run_fault.specs.declared.fault.Misplaced.{Misplaced}
+use Rattle.run_fault.specs.Causes.{IsCounted, IsWelcome}
+use Rattle.run_fault.specs.Faults.{of_place}
+use Rattle.site_store.specs.Misfits.{limit_at, limit_in, or_else}
 use Rattle.gate_journal.specs.Images.{IsKeptIn}
-use Rattle.site_store.specs.Kinds.{joiners_kept}
-use Rattle.site_store.specs.Refusals.{IsJournalOf, IsOfFirstDisk, other_names}
+use Rattle.site_store.specs.Refusals.{IsJournalOf, other_names}
 use Rattle.site_laws.specs.Stores.{Images, IsDisk, joiner_of}
-use Rattle.site_store.specs.declared.opening.refusal.Refusal.{Refusal}
-use Rattle.site_store.specs.declared.opening.refusal.Refusal.TheVariants.{Disks as OfDisks, Joiners, Table, Place, Limit, Read}
 use Rattle.site_store.specs.Leaving.{IsAsked}
-use Rattle.site_store.specs.Records.{EpochIs, KeptDisk, KeptValues, KeepsAs, IsKept, AreKept, Says, AreRecordsOf}
+use Rattle.site_store.specs.Records.{EpochIs, KeptDisk, KeptValues, AreKept, Says, AreRecordsOf}
 use Rattle.site_store.specs.Records as kinds
 use Rattle.site_store.proofs.Names.{all_named}
 use Rattle.site_store.proofs.Values.{at_name, was_journal}
-use Rattle.site_store.specs.Causes.{ArePassed, IsCause, IsOtherTable, IfDisks, IfJudged, first_limit}
-use Rattle.site_run.specs.Causes.{of_refusal, of_place, IsCounted, IsWelcomeWhere}
+use Rattle.site_store.specs.Causes.{AreTold, ArePassed, HasCause, HasFailed, HasPassed as PassesFor, IsCause, IsUnread}
+use Rattle.site_store.proofs.Causes.{cause_more, failed_rose, passed_more, unread_rose}
 use Rattle.site_run.specs.Logs.{IsOfLogs}
-use Rattle.site_run.specs.Refused.{asked_of, Kept, HasPassed, IsCauseOf, KeptAreJournals, OneKept, IsOfRun}
+use Rattle.site_run.specs.Refused.{asked_of, HasPassed, IsCauseOf, KeptAreJournals, OneKept, IsOfRun, TellsPlaces}
 
 -- ---- what is known of a result
 
@@ -59,37 +54,42 @@ module _ (g : Setting) (before : Images) (asked : Topology) (is : IsAsked asked 
   same_asked : asked ≡ asked_of g
   same_asked i = record { joiners = sym is.joiners i; table = sym is.table i }
 
-  kept_so : (k : KeptValues) → AreKept tells before asked.joiners k → Kept g before k
-  kept_so k are = subst (λ j. AreKept true before j k) (sym is.joiners) (subst (λ t. AreKept t before asked.joiners k) sure are)
-
-  fits_so : (k : KeptValues) → IsFit k.topology asked → IsFit k.topology (asked_of g)
-  fits_so k fit = subst (IsFit k.topology) same_asked fit
+  over_log : (disks : List KeptDisk) (told : Option Misplaced) → AreTold log_tells log end_ disks told → TellsPlaces g disks told
+  over_log disks told against = against log_sure g log_is end_is
 
   pub passed_so : (k : KeptValues) → AreKept tells before asked.joiners k → ArePassed log_tells log end_ (Some asked) k → HasPassed g before
-  passed_so k are passed = (k, kept_so k are, record { topology = fits_so k passed.topology; places = passed.places log_sure g log_is end_is; limits = passed.limits })
+  passed_so k are passed =
+      subst (λ t. PassesFor t before (Some (asked_of g)) (TellsPlaces g)) sure
+      (subst (λ (a : Topology). PassesFor tells before (Some a) (TellsPlaces g)) same_asked
+      (passed_more tells (Some asked) before before (λ disk c now. now) (AreTold log_tells log end_) (TellsPlaces g) over_log (k, are, passed)))
 
-  first_so : (disk : DiskName) (at : ℕ) → IsOfFirstDisk tells before asked.joiners (disks.Damaged disk at) → IsOfFirstDisk true before g.joiners (disks.Damaged disk at)
-  first_so disk at first = subst (λ j. IsOfFirstDisk true before j (disks.Damaged disk at)) (sym is.joiners) (subst (λ t. IsOfFirstDisk t before asked.joiners (disks.Damaged disk at)) sure first)
+  pub refused_so : (rose store_rose read faulted : Type 0) → (rose → read) → (store_rose → faulted) → (f : RunFault) → IsCause tells before store_rose log_tells log end_ rose (Some asked) f → IsCauseOf g before read faulted f
+  refused_so rose store_rose read faulted to_read to_faulted f cause =
+      subst (λ t. HasCause t before (Some (asked_of g)) (TellsPlaces g) (λ l. read) (λ at. faulted) faulted ⊤ f) sure
+      (subst (λ (a : Topology). HasCause tells before (Some a) (TellsPlaces g) (λ l. read) (λ at. faulted) faulted ⊤ f) same_asked
+      (cause_more tells (Some asked) before before (λ disk c now. now) (AreTold log_tells log end_) (TellsPlaces g) over_log
+      (IsUnread tells before (Some asked) (AreTold log_tells log end_) rose) (λ l. read) (HasFailed tells before (Some asked) (AreTold log_tells log end_) store_rose) (λ at. faulted) ⊥ faulted ⊥ ⊤
+      (λ l is. to_read (unread_rose tells before (Some asked) (AreTold log_tells log end_) rose l is)) (λ at is. to_faulted (failed_rose tells before (Some asked) (AreTold log_tells log end_) store_rose at is)) (λ x. absurd x) (λ x. absurd x) f cause))
 
-  module _ (old new store_old store_new : ℕ) (read faulted : Type 0) (to_read : Rose old new → read) (to_faulted : Rose store_old store_new → faulted) where
-    pub refused_so : (r : Refusal) → IfDisks (IsOfFirstDisk tells before asked.joiners) r → IfDisks (RoseBy store_old store_new) r → IfDisks (WasDamaged before) r
-        → IfJudged (AreKept tells before asked.joiners) (IsCause log_tells log end_ old new (Some asked)) r → IsCauseOf g before read faulted (of_refusal r)
-    refused_so (OfDisks (disks.Store disk)) first rose was judged = to_faulted rose
-    refused_so (OfDisks (disks.Damaged disk at)) first rose was judged = record { damaged = was; first = first_so disk at first }
-    refused_so (OfDisks disks.Memory) first rose was judged = tt
-    refused_so (Joiners a b) first rose was (k, are, why) = (k, kept_so k are, subst (λ t. IsMisfit k.topology t (misfit.Joiners a b)) same_asked why)
-    refused_so (Table a b) first rose was (k, are, why) = (k, kept_so k are, subst (λ t. IsOtherTable k.topology t a b) same_asked why)
-    refused_so (Place p) first rose was (k, are, why) = (k, kept_so k are, (fits_so k why.0, why.1 log_sure g log_is end_is))
-    refused_so (Limit disk value) first rose was (k, are, why) = inl (k, kept_so k are, (fits_so k why.0, why.1 log_sure g log_is end_is, why.2))
-    refused_so Read first rose was (k, are, why) = to_read why.1
+-- its count rose, of the logs or of the disks
+pub refusal_counted : (tells : Bool) (before : Images) (rose : Type 0) (log_tells : Bool) (log : List ℕ) (end_ : ℕ) (read : Type 0) (asked : Option Topology) (logs stores : Type 0) → (read → logs) → (rose → stores)
+    → (f : RunFault) → IsCause tells before rose log_tells log end_ read asked f → IsCounted logs stores f
+refusal_counted tells before rose log_tells log end_ read asked logs stores to_logs to_stores (fault.Read l) is = to_logs (unread_rose tells before asked (AreTold log_tells log end_) read l is)
+refusal_counted tells before rose log_tells log end_ read asked logs stores to_logs to_stores (fault.Store at) is = to_stores (failed_rose tells before asked (AreTold log_tells log end_) rose at is)
+refusal_counted tells before rose log_tells log end_ read asked logs stores to_logs to_stores (fault.Damaged disk at) is = tt
+refusal_counted tells before rose log_tells log end_ read asked logs stores to_logs to_stores (fault.Topology what) is = tt
+refusal_counted tells before rose log_tells log end_ read asked logs stores to_logs to_stores (fault.Limit disk value) is = tt
+refusal_counted tells before rose log_tells log end_ read asked logs stores to_logs to_stores fault.Memory is = tt
+refusal_counted tells before rose log_tells log end_ read asked logs stores to_logs to_stores fault.Write is = absurd is.0
+refusal_counted tells before rose log_tells log end_ read asked logs stores to_logs to_stores _ is = absurd is
 
 -- ---- no epoch that was opened is the last one
 
-rest_none : (b : Bool) (m : Misfit) (rest : Option Misfit) → (if b then Some m else rest) ≡ None → (b ≡ false) × (rest ≡ None)
+rest_none : (b : Bool) (m : RunFault) (rest : Option RunFault) → (if b then Some m else rest) ≡ None → (b ≡ false) × (rest ≡ None)
 rest_none true m rest is = absurd (cc is)
 rest_none false m rest is = (refl, is)
 
-both_none : (m later : Option Misfit) → or_else m later ≡ None → (m ≡ None) × (later ≡ None)
+both_none : (m later : Option RunFault) → or_else m later ≡ None → (m ≡ None) × (later ≡ None)
 both_none None later is = (refl, is)
 both_none (Some m) later is = absurd (cc is)
 
@@ -99,7 +99,7 @@ none_at (o ∷ os) none d (inl is) = subst (λ (x : KeptDisk). limit_at x.name x
 none_at (o ∷ os) none d (inr m) = none_at os (both_none (limit_at o.name o.kept) (limit_in os) none).1 d m
 
 not_last : (n : DiskName) (epoch : ℕ) → limit_at n (EpochIs epoch) ≡ None → epoch ≢ 4294967294
-not_last n epoch none last = absurd (cc (sym (eq-eqb epoch 4294967294 last) ∙ (rest_none (epoch == 4294967294) (misfit.Spent n 4294967294) None none).0))
+not_last n epoch none last = absurd (cc (sym (eq-eqb epoch 4294967294 last) ∙ (rest_none (epoch == 4294967294) (fault.Limit n 4294967294) None none).0))
 
 -- a joiner's number by its site and its place there
 record IsPlacedAs (g : Setting) (n : ℕ) : Type 0 where
@@ -137,29 +137,24 @@ module _ (g : Setting) (disks : List KeptDisk) (limits : limit_in disks ≡ None
 pub cause_so : (g : Setting) (before : Images) (d : Disks) (read faulted rose : Type 0) (f : RunFault) → ((epoch : ℕ) → epoch ≡ 4294967294 → OneKept g d epoch → ⊥) → (rose → faulted) → IsCounted read faulted f → IsOfRun g d rose f → IsCauseOf g before read faulted f
 cause_so g before d read faulted rose (fault.Read log) none more counted of = counted
 cause_so g before d read faulted rose (fault.Store place) none more counted of = counted
-cause_so g before d read faulted rose (fault.Damaged disk at) none more counted of = absurd of
-cause_so g before d read faulted rose (fault.Topology what) none more counted of = absurd of
 cause_so g before d read faulted rose (fault.Limit disk value) none more counted of = ⊎_elim (λ one. absurd (none value of.0 one)) (λ r. inr (more r, of.0)) of.1
 cause_so g before d read faulted rose fault.Memory none more counted of = tt
+cause_so g before d read faulted rose _ none more counted of = absurd of
 
 -- and it is none for which a sound store would be refused
-pub welcome_so : (g : Setting) (d : Disks) (rose holds : Type 0) (f : RunFault) → IsOfRun g d rose f → IsWelcomeWhere holds f
+pub welcome_so : (g : Setting) (d : Disks) (rose holds : Type 0) (f : RunFault) → IsOfRun g d rose f → IsWelcome holds f
 welcome_so g d rose holds (fault.Read log) of = tt
 welcome_so g d rose holds (fault.Store place) of = tt
-welcome_so g d rose holds (fault.Damaged disk at) of = absurd of
-welcome_so g d rose holds (fault.Topology what) of = absurd of
 welcome_so g d rose holds (fault.Limit disk value) of = tt
 welcome_so g d rose holds fault.Memory of = tt
+welcome_so g d rose holds _ of = absurd of
 
 -- ---- of logs that aren't opened, and a store that isn't placed
 
 pub logs_cause : (g : Setting) (before : Images) (rose read faulted : Type 0) (f : RunFault) → (rose → read) → IsOfLogs rose f → IsCauseOf g before read faulted f
 logs_cause g before rose read faulted (fault.Read log) more of = more of
-logs_cause g before rose read faulted (fault.Store place) more of = absurd of
-logs_cause g before rose read faulted (fault.Damaged disk at) more of = absurd of
-logs_cause g before rose read faulted (fault.Topology what) more of = absurd of
-logs_cause g before rose read faulted (fault.Limit disk value) more of = absurd of
 logs_cause g before rose read faulted fault.Memory more of = tt
+logs_cause g before rose read faulted _ more of = absurd of
 
 pub place_cause : (g : Setting) (before : Images) (read faulted : Type 0) (f : StoreFault) → (f ≡ store.Disk → faulted) → IsCauseOf g before read faulted (of_place f)
 place_cause g before read faulted store.Disk rose = rose refl
@@ -167,15 +162,8 @@ place_cause g before read faulted store.Memory rose = tt
 
 -- ---- what isn't opened or placed names no node
 
-pub refusal_unnamed : (r : Refusal) (n : ℕ) → of_refusal r ≡ fault.Store (place.Node n) → ⊥
-refusal_unnamed (OfDisks (disks.Store disk)) n is = absurd (cc is)
-refusal_unnamed (OfDisks (disks.Damaged disk at)) n is = absurd (cc is)
-refusal_unnamed (OfDisks disks.Memory) n is = absurd (cc is)
-refusal_unnamed (Joiners a b) n is = absurd (cc is)
-refusal_unnamed (Table a b) n is = absurd (cc is)
-refusal_unnamed (Place p) n is = absurd (cc is)
-refusal_unnamed (Limit disk value) n is = absurd (cc is)
-refusal_unnamed Read n is = absurd (cc is)
+pub refusal_unnamed : (tells : Bool) (before : Images) (rose : Type 0) (log_tells : Bool) (log : List ℕ) (end_ : ℕ) (read : Type 0) (asked : Option Topology) (f : RunFault) (n : ℕ) → IsCause tells before rose log_tells log end_ read asked f → f ≡ fault.Store (place.Node n) → ⊥
+refusal_unnamed tells before rose log_tells log end_ read asked f n cause is = subst (IsCause tells before rose log_tells log end_ read asked) is cause
 
 pub place_unnamed : (f : StoreFault) (n : ℕ) → of_place f ≡ fault.Store (place.Node n) → ⊥
 place_unnamed store.Disk n is = absurd (cc is)
@@ -184,41 +172,12 @@ place_unnamed store.Memory n is = absurd (cc is)
 -- ---- from a store that was placed to the one before
 
 module _ (g : Setting) (before placed : Images) (within : (disk : DiskName) (c : List ℕ) → placed disk c → before disk c) where
-  kept_within : (disk : DiskName) (keeps : List ℕ → Type 0) → IsKeptIn (placed disk) keeps → IsKeptIn (before disk) keeps
-  kept_within disk keeps kept = (kept.0, within disk kept.0 kept.1, kept.2)
-
-  all_within : (k : KeptValues) → Kept g placed k → Kept g before k
-  all_within k are = record {
-    topology = λ sure. kept_within _ _ (are.topology sure);
-    named = are.named;
-    kinds = are.kinds;
-    kept = λ sure. each_more (IsKept placed) (IsKept before) k.disks (λ o kept. kept_within o.name (KeepsAs o.kept) kept) (are.kept sure);
-  }
-
   pub passed_within : HasPassed g placed → HasPassed g before
-  passed_within (k, are, passes) = (k, all_within k are, passes)
-
-  first_within : (disk : DiskName) (at : ℕ) → IsOfFirstDisk true placed g.joiners (disks.Damaged disk at) → IsOfFirstDisk true before g.joiners (disks.Damaged disk at)
-  first_within disk at (inl topology) = inl topology
-  first_within disk at (inr (kept, kept_in, first)) = inr (
-    kept,
-    λ sure. kept_within _ _ (kept_in sure),
-    record {
-      front = first.front;
-      rest = first.rest;
-      order = first.order;
-      opened = λ sure. each_more (λ name. IsKeptIn (placed name) (IsJournalOf name)) (λ name. IsKeptIn (before name) (IsJournalOf name)) first.front (λ name kept. kept_within name (IsJournalOf name) kept) (first.opened sure);
-    },
-  )
+  passed_within = passed_more true (Some (asked_of g)) placed before within (TellsPlaces g) (TellsPlaces g) (λ disks m told. told)
 
   pub cause_within : (files read faulted rose : Type 0) → (files → read) → (rose → faulted) → (f : RunFault) → IsCauseOf g placed files rose f → IsCauseOf g before read faulted f
-  cause_within files read faulted rose earlier more (fault.Read log) cause = earlier cause
-  cause_within files read faulted rose earlier more (fault.Store place) cause = more cause
-  cause_within files read faulted rose earlier more (fault.Damaged disk at) cause = record { damaged = kept_within disk _ cause.damaged; first = first_within disk at cause.first }
-  cause_within files read faulted rose earlier more (fault.Topology what) (k, are, unfit) = (k, all_within k are, unfit)
-  cause_within files read faulted rose earlier more (fault.Limit disk value) cause =
-      ⊎_elim (λ (k, are, unfit). inl (k, all_within k are, unfit)) (λ late. inr (more late.0, late.1)) cause
-  cause_within files read faulted rose earlier more fault.Memory cause = tt
+  cause_within files read faulted rose earlier more =
+      cause_more true (Some (asked_of g)) placed before within (TellsPlaces g) (TellsPlaces g) (λ disks m told. told) (λ log. files) (λ log. read) (λ at. rose) (λ at. faulted) rose faulted ⊤ ⊤ (λ log. earlier) (λ at. more) more (λ x. x)
 
 -- ---- what is kept of a disk that is opened is a journal of its kind
 

@@ -20,8 +20,8 @@ use Rattle.site_node.specs.declared.kind.NodeFault.TheVariants as node
 use Rattle.photon_model.specs.Runs.{World, Disks, disks, world_after, opening}
 use Rattle.photon_model.specs.EveryRun.{NoJoinerStops}
 use Rattle.photon_model.specs.Verification.{AreOf}
-use Rattle.site_run.specs.declared.faults.fault.StorePlace.TheVariants as at
-use Rattle.site_run.specs.declared.faults.fault.RunFault.{RunFault}
+use Rattle.run_fault.specs.declared.fault.StorePlace.TheVariants as at
+use Rattle.run_fault.specs.declared.fault.RunFault.{RunFault}
 use Rattle.site_store.specs.Kinds.{damaged_by}
 use Rattle.site_store.specs.Refusals.{IsJournalOf}
 use Rattle.site_store.proofs.Undamaged.{undamaged}
@@ -40,7 +40,8 @@ use Rattle.site_laws.specs.Stores.{Images, IsDisk, AreKept, KeepsOf, KeepsTopolo
 use Rattle.verify_pass.specs.declared.journals.Journals.{Journals}
 use Rattle.site_run.specs.Asked.{IsRosterOf}
 use Rattle.site_store.proofs.Damage.{notes_kept as votes_are_notes}
-use Rattle.site_run.specs.Causes.{of_node, IsCounted, IsOfDisks, IsWelcome}
+use Rattle.run_fault.specs.Causes.{IsCounted}
+use Rattle.site_run.specs.Causes.{of_node, IsOfDisks, IsPastOpening}
 use Rattle.site_run.specs.Refused.{IsOfRun, OneKept}
 use Rattle.site_run.specs.Held.{HoldsAs, HasGoneOn, HaveGoneOn}
 use Rattle.site_run.specs.Laws.{AllHold, AreHeld, AreMet, IsLeftBy, KeepsItsRecord, NoneStops}
@@ -57,7 +58,7 @@ use Rattle.site_run.proofs.Outing.{given_goes_on, gone_out}
 use Rattle.site_run.proofs.Places.{at_place}
 use Rattle.site_run.proofs.ReadBack.{read_is}
 use Rattle.site_run.proofs.Reading.{all_keep}
-use Rattle.site_run.specs.declared.faults.fault.RunFault.TheVariants as run
+use Rattle.run_fault.specs.declared.fault.RunFault.TheVariants as run
 
 -- ---- a node with no open turn
 
@@ -222,12 +223,10 @@ module _ {N D : Type 0} (image : D → List ℕ → Type 0) (places : N → AnyS
 
     -- so a fault of reading them back is none of damage
     pub read_back_of : (faulted : Type 0) (f : RunFault) → (tells : Bool) → IsTrue tells → IsOfDisks tells image (topology ∷ all_from disks_at 0 ws) faulted f → IsOfRun g d faulted f
-    read_back_of faulted (run.Read log) tells sure of = tt
     read_back_of faulted (run.Store place) tells sure of = tt
     read_back_of faulted (run.Damaged disk at) tells sure of = let x = of sure in never_damaged disk at x.0 x.1 x.2
-    read_back_of faulted (run.Topology what) tells sure of = absurd of
-    read_back_of faulted (run.Limit disk value) tells sure of = absurd of
     read_back_of faulted run.Memory tells sure of = tt
+    read_back_of faulted _ tells sure of = absurd of
 
   module _ {L : Type 0} (disk_faults : D → ℕ) (log_faults : L → ℕ) (faults read_faults : N → ℕ) (logs_of : N → List L) (met : AreMet disk_faults log_faults faults read_faults disks_of logs_of)
       (stopped : (i : ℕ) (b : N × Option NodeFault) → i < length ws → HasMet faults (slice_index_or ws i b).0 (slice_index_or ws i b).1 (made_by i h)) (faulted : Type 0)
@@ -319,7 +318,7 @@ module _ {N D : Type 0} (image : D → List ℕ → Type 0) (places : N → AnyS
 module _ {N D L : Type 0} (disk_faults : D → ℕ) (log_faults : L → ℕ) (faults read_faults : N → ℕ) (disks_of : ℕ → ℕ → N → List (Lent D)) (logs_of : N → List L) (met : AreMet disk_faults log_faults faults read_faults disks_of logs_of)
     (joiners : ℕ) (logs_rose disks_rose : Type 0) where
   node_fault : (i : ℕ) (v : N) (f : NodeFault) → IsCaused faults read_faults v (Some f) → ((l : Lent D) → Mem l (disks_of joiners i v) → 1 ≤ disk_faults l.disk → disks_rose) → ((l : L) → Mem l (logs_of v) → 1 ≤ log_faults l → logs_rose)
-      → IsCounted logs_rose disks_rose (of_node joiners i f) × IsWelcome (of_node joiners i f)
+      → IsCounted logs_rose disks_rose (of_node joiners i f) × IsPastOpening (of_node joiners i f)
   node_fault i v node.Stopped caused rise reads = (let l = met.disks joiners i v (caused.stopped refl) in rise l.0 l.1 l.2, tt)
   node_fault i v (node.Disk disk) caused rise reads = (let l = met.disks joiners i v (caused.disk disk refl) in rise l.0 l.1 l.2, tt)
   node_fault i v (node.Damaged disk at) caused rise reads = (tt, tt)
@@ -328,16 +327,16 @@ module _ {N D L : Type 0} (disk_faults : D → ℕ) (log_faults : L → ℕ) (fa
   node_fault i v node.Memory caused rise reads = (tt, tt)
 
   fault_step : (i : ℕ) (v : N) (o : Option NodeFault) (rest : Option RunFault) (f : RunFault) → IsCaused faults read_faults v o → ((l : Lent D) → Mem l (disks_of joiners i v) → 1 ≤ disk_faults l.disk → disks_rose)
-      → ((l : L) → Mem l (logs_of v) → 1 ≤ log_faults l → logs_rose) → (rest ≡ Some f → IsCounted logs_rose disks_rose f × IsWelcome f) → or_else (told_of joiners i o) rest ≡ Some f → IsCounted logs_rose disks_rose f × IsWelcome f
+      → ((l : L) → Mem l (logs_of v) → 1 ≤ log_faults l → logs_rose) → (rest ≡ Some f → IsCounted logs_rose disks_rose f × IsPastOpening f) → or_else (told_of joiners i o) rest ≡ Some f → IsCounted logs_rose disks_rose f × IsPastOpening f
   fault_step i v None rest f caused rise reads later is = later is
   fault_step i v (Some nf) rest f caused rise reads later is =
       let same : of_node joiners i nf ≡ f = cc is in
-      subst (λ x. IsCounted logs_rose disks_rose x × IsWelcome x) same (node_fault i v nf caused rise reads)
+      subst (λ x. IsCounted logs_rose disks_rose x × IsPastOpening x) same (node_fault i v nf caused rise reads)
 
   fault_from : (i : ℕ) (ws : List (N × Option NodeFault)) → Each (λ (w : N × Option NodeFault). IsCaused faults read_faults w.0 w.1) ws
       → ((l : Lent D) → Mem l (all_from (λ k (w : N × Option NodeFault). disks_of joiners k w.0) i ws) → 1 ≤ disk_faults l.disk → disks_rose)
       → ((l : L) → Mem l (all_from (λ k (w : N × Option NodeFault). logs_of w.0) i ws) → 1 ≤ log_faults l → logs_rose)
-      → (f : RunFault) → first_fault joiners i ws ≡ Some f → IsCounted logs_rose disks_rose f × IsWelcome f
+      → (f : RunFault) → first_fault joiners i ws ≡ Some f → IsCounted logs_rose disks_rose f × IsPastOpening f
   fault_from i [] caused rise reads f is = absurd (cc is)
   fault_from i (w ∷ ws) caused rise reads f is =
       fault_step i w.0 w.1 (first_fault joiners (suc i) ws) f caused.0
@@ -353,20 +352,16 @@ module _ {N D L : Type 0} (disk_faults : D → ℕ) (log_faults : L → ℕ) (fa
   pub fault_told : (ws : List (N × Option NodeFault)) → AreCaused faults read_faults ws
       → ((l : Lent D) → Mem l (all_from (λ k (w : N × Option NodeFault). disks_of joiners k w.0) 0 ws) → 1 ≤ disk_faults l.disk → disks_rose)
       → ((l : L) → Mem l (all_from (λ k (w : N × Option NodeFault). logs_of w.0) 0 ws) → 1 ≤ log_faults l → logs_rose)
-      → (f : RunFault) → first_fault joiners 0 ws ≡ Some f → IsCounted logs_rose disks_rose f × IsWelcome f
+      → (f : RunFault) → first_fault joiners 0 ws ≡ Some f → IsCounted logs_rose disks_rose f × IsPastOpening f
   fault_told ws caused rise reads f is = fault_from 0 ws (recursion_from_All (λ (w : N × Option NodeFault). IsCaused faults read_faults w.0 w.1) ws caused) rise reads f is
 
 -- ---- a fault of the disks
 
-pub disks_counted : {D : Type 0} (tells : Bool) (image : D → List ℕ → Type 0) (lent : List (Lent D)) (logs_rose disks_rose : Type 0) (f : RunFault) → IsOfDisks tells image lent disks_rose f → IsCounted logs_rose disks_rose f × IsWelcome f
-disks_counted tells image lent logs_rose disks_rose (run.Read log) of = absurd of
-disks_counted tells image lent logs_rose disks_rose (run.Store at.Directory) of = absurd of
+pub disks_counted : {D : Type 0} (tells : Bool) (image : D → List ℕ → Type 0) (lent : List (Lent D)) (logs_rose disks_rose : Type 0) (f : RunFault) → IsOfDisks tells image lent disks_rose f → IsCounted logs_rose disks_rose f × IsPastOpening f
 disks_counted tells image lent logs_rose disks_rose (run.Store (at.Disk disk)) of = (of, tt)
-disks_counted tells image lent logs_rose disks_rose (run.Store (at.Node number)) of = absurd of
 disks_counted tells image lent logs_rose disks_rose (run.Damaged disk at) of = (tt, tt)
-disks_counted tells image lent logs_rose disks_rose (run.Topology what) of = absurd of
-disks_counted tells image lent logs_rose disks_rose (run.Limit disk value) of = absurd of
 disks_counted tells image lent logs_rose disks_rose run.Memory of = (tt, tt)
+disks_counted tells image lent logs_rose disks_rose _ of = absurd of
 
 -- and of no node
 pub disks_alone : {D : Type 0} (tells : Bool) (image : D → List ℕ → Type 0) (lent : List (Lent D)) (disks_rose P : Type 0) (f : RunFault) (n : ℕ) → IsOfDisks tells image lent disks_rose f → f ≡ run.Store (at.Node n) → P

@@ -4,14 +4,15 @@ use Rattle.std.proofs.Common.{◌≡◌, inl, inr, ⊎_elim, ℕ, zero, suc, ◌
 use Rattle.std.proofs.lemmas.List.{append-nil}
 use Rattle.list_words.specs.Lists.{Mem, Each}
 use Rattle.outside.specs.declared.store.DiskName.{DiskName}
-use Rattle.site_store.specs.declared.disks.fault.DisksFault.{DisksFault}
-use Rattle.site_store.specs.declared.disks.fault.DisksFault.TheVariants as disks
+use Rattle.run_fault.specs.declared.fault.StorePlace.TheVariants as place
+use Rattle.run_fault.specs.declared.fault.RunFault.{RunFault}
+use Rattle.run_fault.specs.declared.fault.RunFault.TheVariants as fault
 use Rattle.site_store.specs.Kinds.{damaged_by}
 use Rattle.site_store.specs.Lent.{Lent, Lacks, IsOfOne, MayBeLeft}
 use Rattle.site_store.specs.declared.lent.disk.LentDisk.{LentDisk}
 use Rattle.site_store.specs.ReadBack.{EachWith, OneWith, AreReadFrom, IsOnlyRead, IsToldBy, AreAmongImages}
 use Rattle.site_run.specs.Naming.{as_lent}
-use Rattle.site_run.specs.Causes.{of_disks, IsOfDisks}
+use Rattle.site_run.specs.Causes.{IsOfDisks}
 use Rattle.site_run.specs.Settled.{AreKeptIn}
 
 -- ---- a list that was changed in place, as long as before
@@ -88,14 +89,14 @@ module _ {D : Type 0} (tells : Bool) (seen : D → List ℕ) (image : D → List
 
   -- a fault of reading is one of a disk
   told_store : (disk : DiskName) (olds news : List (LentDisk D)) (rose : Type 0) → ((l : Lent D) → Mem l (map as_lent news) → 1 ≤ faults l.disk → rose)
-      → OneWith (λ old new. IsToldBy tells image faults old new (disks.Store disk)) olds news → rose
+      → OneWith (λ old new. IsToldBy tells image faults old new (fault.Store (place.Disk disk))) olds news → rose
   told_store disk [] news rose rises one = absurd one
   told_store disk (o ∷ olds) [] rose rises one = absurd one
   told_store disk (o ∷ olds) (n ∷ news) rose rises one =
       ⊎_elim (λ here. rises (as_lent n) (inl refl) (omega (arith, here.1))) (λ later. told_store disk olds news rose (λ l among some. rises l (inr among) some) later) one
 
   -- or of bytes that may be left of one
-  told_damaged : (disk : DiskName) (at : ℕ) (olds news : List (LentDisk D)) → OneWith (λ old new. IsToldBy tells image faults old new (disks.Damaged disk at)) olds news → IsTrue tells
+  told_damaged : (disk : DiskName) (at : ℕ) (olds news : List (LentDisk D)) → OneWith (λ old new. IsToldBy tells image faults old new (fault.Damaged disk at)) olds news → IsTrue tells
       → (c : List ℕ) × IsOfOne image (map as_lent olds) disk c × damaged_by disk c at
   told_damaged disk at [] news one sure = absurd one
   told_damaged disk at (o ∷ olds) [] one sure = absurd one
@@ -105,11 +106,17 @@ module _ {D : Type 0} (tells : Bool) (seen : D → List ℕ) (image : D → List
       (λ later. let r = told_damaged disk at olds news later sure in (r.0, record { one = r.1.one; among = inr r.1.among; named = r.1.named; may = r.1.may }, r.2))
       one
 
-  pub told_counted : (fault : DisksFault) (olds news : List (LentDisk D)) (rose : Type 0) → ((l : Lent D) → Mem l (map as_lent news) → 1 ≤ faults l.disk → rose)
-      → OneWith (λ old new. IsToldBy tells image faults old new fault) olds news → IsOfDisks tells image (map as_lent olds) rose (of_disks fault)
-  told_counted (disks.Store disk) olds news rose rises one = told_store disk olds news rose rises one
-  told_counted (disks.Damaged disk at) olds news rose rises one = told_damaged disk at olds news one
-  told_counted disks.Memory olds news rose rises one = tt
+  none_told : (olds news : List (LentDisk D)) → OneWith (λ old new. ⊥) olds news → ⊥
+  none_told [] news one = one
+  none_told (o ∷ olds) [] one = one
+  none_told (o ∷ olds) (n ∷ news) one = ⊎_elim (λ here. here) (λ later. none_told olds news later) one
+
+  pub told_counted : (f : RunFault) (olds news : List (LentDisk D)) (rose : Type 0) → ((l : Lent D) → Mem l (map as_lent news) → 1 ≤ faults l.disk → rose)
+      → OneWith (λ old new. IsToldBy tells image faults old new f) olds news → IsOfDisks tells image (map as_lent olds) rose f
+  told_counted (fault.Store (place.Disk disk)) olds news rose rises one = told_store disk olds news rose rises one
+  told_counted (fault.Damaged disk at) olds news rose rises one = told_damaged disk at olds news one
+  told_counted fault.Memory olds news rose rises one = tt
+  told_counted _ olds news rose rises one = absurd (none_told olds news one)
 
   -- ---- what was read
 

@@ -1,65 +1,41 @@
 -- Why a run over a store gives up, by what a stop might have left of its disks before it.
-use Rattle.std.specs.Prelude.{◌≡◌, ◌⊎◌, ℕ, ◌∷◌, true, Option, None, Some, IsSomeAnd, ⊤}
-use Rattle.list_words.specs.Lists.{Each, Mem}
+use Rattle.std.specs.Prelude.{◌≡◌, ◌⊎◌, ℕ, List, ◌∷◌, true, Option, None, Some, IsSomeAnd, ⊤}
+use Rattle.list_words.specs.Lists.{Mem}
 use Rattle.outside.specs.declared.store.DiskName.{DiskName}
 use Rattle.outside.specs.declared.store.DiskName.TheVariants as name
 use Rattle.topology_journal.specs.declared.topology.Topology.{Topology}
 use Rattle.topology_journal.specs.Topologies.{Keeps as KeepsTopology}
 use Rattle.air_bus.specs.declared.entry.Entry.{Entry as BusEntry}
 use Rattle.bus_seat.specs.Views.{made_by}
-use Rattle.site_run.specs.declared.faults.fault.StorePlace.TheVariants as place
-use Rattle.site_run.specs.declared.faults.fault.Mismatch.TheVariants as mismatch
-use Rattle.site_run.specs.declared.faults.fault.RunFault.{RunFault}
-use Rattle.site_run.specs.declared.faults.fault.RunFault.TheVariants as fault
+use Rattle.run_fault.specs.declared.fault.StorePlace.TheVariants as place
+use Rattle.run_fault.specs.declared.fault.Misplaced.{Misplaced}
+use Rattle.run_fault.specs.declared.fault.RunFault.{RunFault}
+use Rattle.run_fault.specs.declared.fault.RunFault.TheVariants as fault
 use Rattle.turn_defs.specs.declared.node.Node.{Node}
 use Rattle.turn_defs.specs.declared.node.Node.TheVariants.{Dispatcher, Server, Replica, Joiner}
 use Rattle.turn_defs.specs.Setting.{Setting}
 use Rattle.turn_defs.specs.Nodes.{IsNode}
-use Rattle.site_store.specs.declared.disks.checks.Misfit.TheVariants as misfit
-use Rattle.site_store.specs.declared.disks.fault.DisksFault.TheVariants as disks
 use Rattle.site_store.specs.Kinds.{joiners_kept}
-use Rattle.site_store.specs.Misfits.{IsFit, IsMisfit}
-use Rattle.site_store.specs.Opening.{IsDamagedIn}
 use Rattle.gate_journal.specs.Images.{IsKeptIn}
-use Rattle.site_store.specs.Refusals.{IsJournalOf, IsOfFirstDisk, other_names}
-use Rattle.site_store.specs.declared.places.misplaced.Misplaced.{Misplaced}
-use Rattle.site_store.specs.Kept.{Fits, IsFirst, all_kept}
+use Rattle.site_store.specs.Refusals.{IsJournalOf, other_names}
+use Rattle.site_store.specs.Kept.{IsTold, all_kept}
 use Rattle.photon_model.specs.Runs.{Disks}
 use Rattle.site_workers.specs.Works.{stop_count}
 use Rattle.site_laws.specs.Stores.{Images}
-use Rattle.site_store.specs.Records.{KeptValues, AreKept}
-use Rattle.site_store.specs.Causes.{IsOtherTable, first_limit}
+use Rattle.site_store.specs.Records.{KeptDisk, KeptValues, AreKept}
+use Rattle.site_store.specs.Causes.{HasCause, HasPassed as PassesFor}
 use Rattle.site_run.specs.declared.ran.RunLog.{RunLog}
 
 -- the topology that a setting asks for
 abbrev pub asked_of : Setting → Topology
 asked_of g = record { joiners = g.joiners; table = g.table }
 
--- the places of the click log that its disks keep fit the log
+-- what is told of the places of the click log that its disks keep: the first that doesn't fit, or none
+abbrev pub TellsPlaces : Setting → List KeptDisk → Option Misplaced → Type 0
+TellsPlaces g disks told = IsTold g.clicks (all_kept disks) told
+
 abbrev pub PlacesFit : Setting → KeptValues → Type 0
-PlacesFit g k = Each (Fits g.clicks) (all_kept k.disks)
-
--- the first of these places that doesn't fit
-abbrev pub IsFirstMisplaced : Setting → KeptValues → Misplaced → Type 0
-IsFirstMisplaced g k told = IsFirst g.clicks (all_kept k.disks) told
-
--- These values can be run: no other topology is kept than the setting's, the places fit, and no epoch, round or slot is at its
--- limit.
-pub record Passes (g : Setting) (k : KeptValues) : Type 0 where
-  pub topology : IsFit k.topology (asked_of g)
-  pub places : PlacesFit g k
-  pub limits : first_limit k ≡ None
-
--- why these values can't be run: the first of the topology, the places and the limits that is wrong
-abbrev pub IsUnfit : Setting → KeptValues → RunFault → Type 0
-IsUnfit g k (fault.Read log) = ⊥
-IsUnfit g k (fault.Store at) = ⊥
-IsUnfit g k (fault.Damaged disk at) = ⊥
-IsUnfit g k (fault.Topology (mismatch.Joiners kept asked)) = IsMisfit k.topology (asked_of g) (misfit.Joiners kept asked)
-IsUnfit g k (fault.Topology (mismatch.Table kept asked)) = IsOtherTable k.topology (asked_of g) kept asked
-IsUnfit g k (fault.Topology (mismatch.Place disk kept floor)) = IsFit k.topology (asked_of g) × IsFirstMisplaced g k (record { disk = disk; kept = kept; floor = floor })
-IsUnfit g k (fault.Limit disk value) = IsFit k.topology (asked_of g) × PlacesFit g k × (first_limit k ≡ Some (misfit.Spent disk value))
-IsUnfit g k fault.Memory = ⊥
+PlacesFit g k = TellsPlaces g k.disks None
 
 -- ---- of a store, by what a stop might have left of its disks
 
@@ -70,22 +46,12 @@ module _ (g : Setting) (before : Images) where
 
   -- they kept values that can be run
   abbrev pub HasPassed : Type 0
-  HasPassed = (k : KeptValues) × Kept k × Passes g k
-
-  -- the disk was damaged at this place, and each that is opened before it was a journal of its kind
-  pub record IsFirstDamaged (disk : DiskName) (at : ℕ) : Type 0 where
-    pub damaged : IsDamagedIn before disk at
-    pub first : IsOfFirstDisk true before g.joiners (disks.Damaged disk at)
+  HasPassed = PassesFor true before (Some (asked_of g)) (TellsPlaces g)
 
   -- Why a run gives up. Read and faulted say that the count of the logs' faults rose, and that of the disks'. A limit is told of
   -- what the disks kept, or of a node that began anew, and so met a fault, in its last epoch.
   abbrev pub IsCauseOf : (read faulted : Type 0) → RunFault → Type 0
-  IsCauseOf read faulted (fault.Read log) = read
-  IsCauseOf read faulted (fault.Store at) = faulted
-  IsCauseOf read faulted (fault.Damaged disk at) = IsFirstDamaged disk at
-  IsCauseOf read faulted (fault.Topology what) = (k : KeptValues) × Kept k × IsUnfit g k (fault.Topology what)
-  IsCauseOf read faulted (fault.Limit disk value) = ((k : KeptValues) × Kept k × IsUnfit g k (fault.Limit disk value)) ⊎ (faulted × (value ≡ 4294967294))
-  IsCauseOf read faulted fault.Memory = ⊤
+  IsCauseOf read faulted f = HasCause true before (Some (asked_of g)) (TellsPlaces g) (λ log. read) (λ at. faulted) faulted ⊤ f
 
   -- ---- disks that are opened
 
@@ -119,10 +85,9 @@ OneKept g d epoch = (n : Node) × IsNode g n × KeptEpoch d n epoch
 abbrev pub IsOfRun : Setting → Disks → Type 0 → RunFault → Type 0
 IsOfRun g d faulted (fault.Read log) = ⊤
 IsOfRun g d faulted (fault.Store at) = ⊤
-IsOfRun g d faulted (fault.Damaged disk at) = ⊥
-IsOfRun g d faulted (fault.Topology what) = ⊥
 IsOfRun g d faulted (fault.Limit disk value) = (value ≡ 4294967294) × (OneKept g d value ⊎ faulted)
 IsOfRun g d faulted fault.Memory = ⊤
+IsOfRun g d faulted _ = ⊥
 
 -- where a fault names a node, that node has stopped eight times, by the run's history
 abbrev pub NamesEnded : Option RunLog → RunFault → Type 0

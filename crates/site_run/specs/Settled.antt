@@ -1,6 +1,6 @@
 -- What the end of a run makes of its nodes and disks.
 use Rattle.std.specs.Prelude.{ℕ, suc, List, [], ◌∷◌, Bool, IsTrue, Option, None, Some, filter}
-use Rattle.site_run.specs.declared.faults.fault.RunFault.{RunFault}
+use Rattle.run_fault.specs.declared.fault.RunFault.{RunFault}
 use Rattle.site_node.specs.declared.kind.NodeFault.{NodeFault}
 use Rattle.site_store.specs.Lent.{Lent}
 use Rattle.site_store.specs.ReadBack.{EachWith, is_replica, is_output}

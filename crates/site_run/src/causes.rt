@@ -1,39 +1,10 @@
-// What is told of the faults of disks, stores and nodes.
+// What is told of the faults of nodes.
 ghost use Rattle.std.specs.Prelude.{◌≡◌, ◌<◌};
-ghost use Rattle.site_run.specs.Causes.{of_disks, of_refusal, of_node, log_of, epochs_of};
+ghost use Rattle.site_run.specs.Causes.{of_node, log_of, epochs_of};
 
-use crate::{LogName, Mismatch, RunFault, StorePlace};
+use crate::{LogName, RunFault, StorePlace};
 use outside::DiskName;
 use site_node::NodeFault;
-use site_store::{DisksFault, Refusal};
-
-pub(crate) fn fault_of_disks(fault: DisksFault) -> RunFault
-    ensures { result ≡ of_disks fault }
-{
-    match fault {
-        DisksFault::Store(disk) => RunFault::Store(StorePlace::Disk(disk)),
-        DisksFault::Damaged { disk, at } => RunFault::Damaged { disk, at },
-        DisksFault::Memory => RunFault::Memory,
-    }
-}
-
-/// What is told of a store that is refused.
-pub fn fault_of_refusal(refusal: Refusal) -> RunFault
-    ensures { result ≡ of_refusal refusal }
-{
-    match refusal {
-        Refusal::Disks(fault) => fault_of_disks(fault),
-        Refusal::Joiners { kept, asked } => RunFault::Topology(Mismatch::Joiners { kept, asked }),
-        Refusal::Table { kept, asked } => RunFault::Topology(Mismatch::Table { kept, asked }),
-        Refusal::Place(place) => RunFault::Topology(Mismatch::Place {
-            disk: place.disk,
-            kept: place.kept,
-            floor: place.floor,
-        }),
-        Refusal::Limit { disk, value } => RunFault::Limit { disk, value },
-        Refusal::Read => RunFault::Read(LogName::Clicks),
-    }
-}
 
 // The log that a node reads.
 fn log_read(number: u8) -> LogName

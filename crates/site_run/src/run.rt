@@ -24,19 +24,19 @@ ghost use Rattle.site_run.specs.Laws.{KeepsItsRecord};
 ghost use Rattle.site_run.specs.Asked.{OfSetting, IsSettingOver, IsRosterOf};
 ghost use Rattle.site_run.specs.Out.{AreOut};
 ghost use Rattle.site_run.specs.Left.{HasRun, HasRested, RunLeft, RestLeft};
-ghost use Rattle.site_run.specs.Causes.{IsCounted, IsWelcome, IsWelcomeWhere, of_place};
+ghost use Rattle.run_fault.specs.Causes.{IsCounted, IsWelcome};
+ghost use Rattle.site_run.specs.Causes.{IsPastOpening};
 ghost use Rattle.site_run.specs.Refused.{HasPassed, IsCauseOf, IsOfRun, NamesEnded};
 
 use crate::built::{Built, Logs, Parting, Room, build};
-use crate::causes::fault_of_refusal;
 use crate::disk_laws::{all_held, all_met};
 use crate::nodes::{AnyNode, SystemNode};
 use crate::settle::give_parts;
 use crate::sources::{open_logs, shut_logs};
 use crate::system::run_system;
-use crate::{Config, Names, Outcome, Ran, RunFault, StorePlace};
+use crate::{Config, Names, Outcome, Ran, RunFault};
 use lossy_link::Plan;
-use outside::{DiskName, Gate, Source, Store, StoreFault};
+use outside::{DiskName, Gate, Source, Store};
 use site_laws::stores::topology_first;
 use site_node::SiteNode;
 use site_store::{LentDisk, OpenStore, open_store};
@@ -93,7 +93,7 @@ where
     // times, or couldn't be reopened. A sound store isn't refused for the table or the places that it keeps, nor, where a stop leaves
     // something of each disk, for its number of joiners or for a damaged disk.
     ensures cause { IfErr result (IsCounted (Rose (F.faults files.old) (F.faults files.new)) (Rose (S.faults store.old) (S.faults store.new))) }
-    ensures welcome { IsTrue S.Disk.tells → IsTrue F.Log.tells → OfSetting (F.bytes files.old) names.now.queries.now names.now.clicks.now config.now end (λ g. IsSoundStore g (S.image store.old) → IfErr result (IsWelcomeWhere ((s : S) → LeavesSomething g (S.image s)))) }
+    ensures welcome { IsTrue S.Disk.tells → IsTrue F.Log.tells → OfSetting (F.bytes files.old) names.now.queries.now names.now.clicks.now config.now end (λ g. IsSoundStore g (S.image store.old) → IfErr result (IsWelcome ((s : S) → LeavesSomething g (S.image s)))) }
     ensures refused { IsTrue S.Disk.tells → IsTrue F.Log.tells → OfSetting (F.bytes files.old) names.now.queries.now names.now.clicks.now config.now end (λ g. IfErr result (IsCauseOf g (S.image store.old) (Rose (F.faults files.old) (F.faults files.new)) (Rose (S.faults store.old) (S.faults store.new)))) }
     ensures passed { IsTrue S.Disk.tells → IsTrue F.Log.tells → OfSetting (F.bytes files.old) names.now.queries.now names.now.clicks.now config.now end (λ g. OnOk result (HasPassed g (S.image store.old))) }
     ensures stopped { IfErr result (NamesEnded ran.new.log) }
@@ -112,20 +112,11 @@ where
     };
     if let Err(fault) = store.place(alloc, names.state) {
         shut_logs(files, logs);
-        return Err(not_placed(fault));
+        return Err(RunFault::from(fault));
     }
     run_over(
         rt, alloc, config, end, files, store, plan, gate, ran, logs, room,
     )
-}
-
-fn not_placed(fault: StoreFault) -> RunFault
-    ensures { result ≡ of_place fault }
-{
-    match fault {
-        StoreFault::Disk => RunFault::Store(StorePlace::Directory),
-        StoreFault::Memory => RunFault::Memory,
-    }
 }
 
 // Takes the last of some logs out.
@@ -177,7 +168,7 @@ where
     ensures lists { IfSome ran.new.log (λ l. All (IsIn l.air.history) l.seen.items) }
     ensures aired { IfSome ran.new.log (λ l. IsAired plan l.air.kinds l.air.history) }
     ensures cause { IfErr result (IsCounted (Rose (F.faults files.old) (F.faults files.new)) (Rose (S.faults store.old) (S.faults store.new))) }
-    ensures welcome { IsTrue S.Disk.tells → IsTrue F.Log.tells → (g : Setting) → IsSettingOver F.Log.bytes logs.clicks.items logs.queries_a.items logs.queries_b.items config.now end g → IsSoundStore g (S.image store.old) → IfErr result (IsWelcomeWhere (LeavesSomething g (S.image store.old))) }
+    ensures welcome { IsTrue S.Disk.tells → IsTrue F.Log.tells → (g : Setting) → IsSettingOver F.Log.bytes logs.clicks.items logs.queries_a.items logs.queries_b.items config.now end g → IsSoundStore g (S.image store.old) → IfErr result (IsWelcome (LeavesSomething g (S.image store.old))) }
     ensures refused { IsTrue S.Disk.tells → IsTrue F.Log.tells → (g : Setting) → IsSettingOver F.Log.bytes logs.clicks.items logs.queries_a.items logs.queries_b.items config.now end g → IfErr result (IsCauseOf g (S.image store.old) (Rose (F.faults files.old) (F.faults files.new)) (Rose (S.faults store.old) (S.faults store.new))) }
     ensures passed { IsTrue S.Disk.tells → IsTrue F.Log.tells → (g : Setting) → IsSettingOver F.Log.bytes logs.clicks.items logs.queries_a.items logs.queries_b.items config.now end g → OnOk result (HasPassed g (S.image store.old)) }
     ensures stopped { IfErr result (NamesEnded ran.new.log) }
@@ -200,10 +191,10 @@ where
                 rt, alloc, config, files, store, plan, gate, ran, opened, logs, room,
             )
         }
-        Err(refusal) => {
+        Err(fault) => {
             logs.clicks.push_reserved(read);
             shut_logs(files, logs);
-            Err(fault_of_refusal(refusal))
+            Err(fault)
         }
     }
 }
@@ -250,7 +241,7 @@ where
     ensures lists { IfSome ran.new.log (λ l. All (IsIn l.air.history) l.seen.items) }
     ensures aired { IfSome ran.new.log (λ l. IsAired plan l.air.kinds l.air.history) }
     ensures cause { IfErr result (IsCounted (Rose (F.faults files.old) (F.faults files.new)) (Rose (S.faults store.old) (S.faults store.new))) }
-    ensures welcome { IfErr result IsWelcome }
+    ensures welcome { IfErr result IsPastOpening }
     ensures whole { IsTrue S.Disk.tells → IsTrue F.Log.tells → (g : Setting) → IsNew g config.now.joiners config.now.horizon config.now.table config.now.batch → Each (λ l. IsLogOf (F.Log.bytes l) g) logs.clicks.items → Each (λ l. IsQueryLog (F.Log.bytes l) g.queries) logs.queries_a.items → Each (λ l. IsQueryLog (F.Log.bytes l) g.queries) logs.queries_b.items
         → (d : Disks) → AreRecordsOf g (kept_all opened.disks.items) d → ((s : ℕ) → s < 2 → AreKeptPlaces g (d.dispatchers s)) → KeepsItsRecord S.Disk.image g (topology_lent opened.topology.journal.disk) → IfErr result (IsOfRun g d (Rose (S.faults store.old) (S.faults store.new))) }
     ensures stopped { IfErr result (NamesEnded ran.new.log) }
@@ -316,7 +307,7 @@ where
     ensures lists { IfSome ran.new.log (λ l. All (IsIn l.air.history) l.seen.items) }
     ensures aired { IfSome ran.new.log (λ l. IsAired plan l.air.kinds l.air.history) }
     ensures cause { IfErr result (IsCounted (Rose (F.faults files.old) (F.faults files.new)) (Rose (S.faults store.old) (S.faults store.new))) }
-    ensures welcome { IfErr result IsWelcome }
+    ensures welcome { IfErr result IsPastOpening }
     ensures whole { IsTrue S.Disk.tells → IsTrue F.Log.tells → (g : Setting) (d : Disks) → IsRosterOf g joiners → AreDownOver ⟦<AnyNode<S::Disk, F::Log> as SystemNode>⟧.places g d built.nodes.items
         → KeepsItsRecord S.Disk.image g (topology_lent built.topology.journal.disk) → IfErr result (IsOfRun g d (Rose (S.faults store.old) (S.faults store.new))) }
     ensures stopped { IfErr result (NamesEnded ran.new.log) }

@@ -12,12 +12,12 @@ ghost use Rattle.site_run.specs.Causes.{IsOfDisks};
 ghost use Rattle.site_run.specs.Settled.{told_of, or_else, first_fault, lent_replicas, lent_outputs, AreKeptIn};
 
 use crate::built::{Parting, Parts};
-use crate::causes::{fault_of_disks, fault_of_node};
+use crate::causes::fault_of_node;
 use crate::sources::shut_all;
 use crate::{Outcome, RunFault};
 use outside::{Disk, Source, Store};
 use site_node::NodeFault;
-use site_store::{DisksFault, LentDisk, give_all, read_back};
+use site_store::{LentDisk, give_all, read_back};
 use std::alloc::Global;
 use verify_pass::Journals;
 
@@ -90,7 +90,7 @@ fn first_of(
 fn read_disks<D: Disk>(
     alloc: Global,
     disks: Vec<LentDisk<D>>,
-) -> (Vec<LentDisk<D>>, Result<Journals, DisksFault>)
+) -> (Vec<LentDisk<D>>, Result<Journals, RunFault>)
     ensures same { EachWith (IsOnlyRead D.tells D.seen D.image D.since D.faults) disks.items result.0.items }
     ensures count { length result.0.items ≡ length disks.items }
     ensures notes { IfOk result.1 (λ journals. AreReadFrom D.tells D.seen KeepsNotes (replicas disks.items) journals.notes.items) }
@@ -132,7 +132,7 @@ pub(crate) fn settle<F: Source, S: Store>(
     }
     match read {
         Ok(journals) => Ok(Outcome { journals }),
-        Err(fault) => Err(fault_of_disks(fault)),
+        Err(fault) => Err(fault),
     }
 }
 

@@ -14,7 +14,8 @@ ghost use Rattle.site_laws.specs.Stores.{SameRecords};
 ghost use Rattle.site_run.specs.Running.{AreDownOver};
 ghost use Rattle.site_run.specs.Naming.{as_lent, all_from};
 ghost use Rattle.site_run.specs.Asked.{IsRosterOf};
-ghost use Rattle.site_run.specs.Causes.{IsCounted, IsWelcome};
+ghost use Rattle.run_fault.specs.Causes.{IsCounted};
+ghost use Rattle.site_run.specs.Causes.{IsPastOpening};
 ghost use Rattle.site_run.specs.Refused.{IsOfRun, NamesEnded};
 ghost use Rattle.site_run.specs.Laws.{AreHeld, AreMet, KeepsItsRecord};
 ghost use Rattle.site_run.specs.Left.{HasRun, HasRested};
@@ -112,7 +113,7 @@ where
     ensures lists { IfSome ran.new.log (λ l. All (IsIn l.air.history) l.seen.items) }
     ensures aired { IfSome ran.new.log (λ l. IsAired plan l.air.kinds l.air.history) }
     ensures cause { AreMet S.Disk.faults F.Log.faults N.faults N.log_faults N.disks_of N.logs_of
-        → IfErr result (λ f. IsCounted (Rose (F.faults files.old) (F.faults files.new)) (Rose (S.faults store.old) (S.faults store.new)) f × IsWelcome f) }
+        → IfErr result (λ f. IsCounted (Rose (F.faults files.old) (F.faults files.new)) (Rose (S.faults store.old) (S.faults store.new)) f × IsPastOpening f) }
     // No disk is told as damaged, and a limit only of a node in its last epoch, which it kept at first or came to after a fault.
     ensures whole { IsTrue S.Disk.tells → IsTrue N.tells → (g : Setting) (d : Disks) → IsRosterOf g joiners → AreHeld S.Disk.image N.places N.grown N.disks_of
         → AreMet S.Disk.faults F.Log.faults N.faults N.log_faults N.disks_of N.logs_of → AreDownOver N.places g d nodes.items → KeepsItsRecord S.Disk.image g (as_lent topology)

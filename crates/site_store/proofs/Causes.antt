@@ -1,127 +1,166 @@
--- Why kept values aren't run or read: the first of the topology, the places and the limits that is wrong.
-use Rattle.std.proofs.Common.{◌≡◌, ◌≢◌, inl, ℕ, ◌≤◌, List, [], ◌∷◌, ◌==◌, if◌then◌else◌, true, false, Bool, Option, Some, None, refl, sym, ap, arith}
+-- Why a store isn't opened, read or run over.
+use Rattle.std.proofs.Common.{◌≡◌, ◌≢◌, inl, inr, ⊎_elim, ℕ, ◌≤◌, List, [], ◌∷◌, ◌==◌, if◌then◌else◌, true, false, Bool, Option, Some, None, refl, sym, ◌∙◌, ap, subst, arith}
 use Rattle.std.specs.Prelude.{IfSome, IfNone, MatchOption}
 use Rattle.std.specs.List.{list_any}
-use Rattle.list_words.proofs.Lists.{some_same, none_some}
+use Rattle.list_words.proofs.Lists.{some_same, none_some, each_more}
 use Rattle.outside.specs.declared.store.DiskName.{DiskName}
 use Rattle.outside.specs.declared.store.DiskName.TheVariants as name
-use Rattle.outside.specs.Faults.{added}
+use Rattle.outside.specs.Faults.{Rose, added}
 use Rattle.topology_journal.specs.declared.topology.Topology.{Topology}
-use Rattle.site_store.specs.declared.disks.checks.Misfit.{Misfit}
-use Rattle.site_store.specs.declared.disks.checks.Misfit.TheVariants as misfit
-use Rattle.site_store.specs.declared.disks.fault.DisksFault.{DisksFault}
-use Rattle.site_store.specs.declared.disks.fault.DisksFault.TheVariants.{Store, Damaged, Memory}
+use Rattle.gate_journal.specs.Images.{IsKeptIn}
+use Rattle.run_fault.specs.declared.fault.LogName.{LogName}
+use Rattle.run_fault.specs.declared.fault.LogName.TheVariants.{Clicks}
+use Rattle.run_fault.specs.declared.fault.StorePlace.{StorePlace}
+use Rattle.run_fault.specs.declared.fault.StorePlace.TheVariants as place
+use Rattle.run_fault.specs.declared.fault.Mismatch.TheVariants as mismatch
+use Rattle.run_fault.specs.declared.fault.Misplaced.{Misplaced}
+use Rattle.run_fault.specs.declared.fault.RunFault.{RunFault}
+use Rattle.run_fault.specs.declared.fault.RunFault.TheVariants as fault
 use Rattle.site_store.specs.Misfits.{IsFitFor, is_full_note, limit_at, or_else, limit_in}
-use Rattle.site_store.specs.Opening.{RoseBy, WasDamaged}
-use Rattle.site_store.specs.Refusals.{IsOfFirstDisk}
+use Rattle.site_store.specs.Opening.{IsUnopened}
+use Rattle.site_store.specs.Refusals.{IsFirstDisk, IsJournalOf}
 use Rattle.site_store.specs.Written.{IsUnwritten}
-use Rattle.site_store.specs.declared.opening.refusal.Refusal.{Refusal}
-use Rattle.site_store.specs.declared.opening.refusal.Refusal.TheVariants.{Disks, Joiners, Table, Place, Limit, Read}
-use Rattle.site_store.specs.Records.{Kept, TopologyIs, OffsetIs, PendingAre, EpochIs, NotesAre, PairsAre, KeptDisk, KeptValues}
-use Rattle.site_store.specs.Reading as reading
-use Rattle.site_store.specs.Causes.{ArePassed, IfJudged, IsCause, IsOther, IsOtherThan, IsLimit, PlacesFit, first_limit}
+use Rattle.site_store.specs.Records.{Kept, TopologyIs, OffsetIs, PendingAre, EpochIs, NotesAre, PairsAre, KeptDisk, KeptValues, KeepsAs, IsKept, AreKept}
+use Rattle.site_store.specs.Causes.{AreTold, ArePassed, HasCause, HasFailed, HasPassed, IsCause, IsOther, IsUnfit, IsUnread, first_limit, joiners_asked}
 
--- ---- a record that isn't written
+-- ---- why a store isn't opened
 
-pub unwritten_rose : (fault : DisksFault) (fresh n old mid new : ℕ) → IsUnwritten fault → RoseBy fresh n fault → old ≤ mid → added mid n ≤ new → RoseBy old new fault
-unwritten_rose (Store of) fresh n old mid new is rose le counted = omega (arith, rose, le, counted)
-unwritten_rose (Damaged of at) fresh n old mid new is rose le counted = absurd is
-unwritten_rose Memory fresh n old mid new is rose le counted = tt
+module _ (tells : Bool) (before : DiskName → List ℕ → Type 0) (log_tells : Bool) (log : List ℕ) (end_ : ℕ) (read : Type 0) (asked : Option Topology) where
+  -- a disk isn't opened
+  pub unopened_cause : (old new : ℕ) (f : RunFault) → IsUnopened tells before old new (IsFirstDisk tells before (joiners_asked asked)) f → IsCause tells before (Rose old new) log_tells log end_ read asked f
+  unopened_cause old new (fault.Store (place.Disk disk)) is = is
+  unopened_cause old new (fault.Damaged disk at) is = is
+  unopened_cause old new fault.Memory is = tt
+  unopened_cause old new _ is = absurd is
 
-pub unwritten_damaged : (before : DiskName → List ℕ → Type 0) (fault : DisksFault) → IsUnwritten fault → WasDamaged before fault
-unwritten_damaged before (Store of) is = tt
-unwritten_damaged before (Damaged of at) is = absurd is
-unwritten_damaged before Memory is = tt
+  -- the topology's record isn't written
+  pub unwritten_cause : (fresh n old mid new : ℕ) (f : RunFault) → IsUnwritten fresh n f → old ≤ mid → added mid n ≤ new → IsCause tells before (Rose old new) log_tells log end_ read asked f
+  unwritten_cause fresh n old mid new (fault.Store (place.Disk disk)) (is, rose) le counted = (inl is, omega (arith, rose, le, counted))
+  unwritten_cause fresh n old mid new fault.Memory is le counted = tt
+  unwritten_cause fresh n old mid new _ is le counted = absurd is
 
-pub unwritten_first : (tells : Bool) (before : DiskName → List ℕ → Type 0) (asked : ℕ) (fault : DisksFault) → IsUnwritten fault → IsOfFirstDisk tells before asked fault
-unwritten_first tells before asked (Store of) is = inl is
-unwritten_first tells before asked (Damaged of at) is = absurd is
-unwritten_first tells before asked Memory is = inl tt
+  -- what was opened can't be run or read
+  pub judged : (faulted : Type 0) (k : KeptValues) (f : RunFault) → AreKept tells before (joiners_asked asked) k → IsUnfit asked (AreTold log_tells log end_) read k f → IsCause tells before faulted log_tells log end_ read asked f
+  judged faulted k (fault.Topology (mismatch.Joiners kept wanted)) is why = (k, is, why)
+  judged faulted k (fault.Topology (mismatch.Table kept wanted)) is why = (k, is, why)
+  judged faulted k (fault.Topology (mismatch.Place told)) is why = (k, is, why)
+  judged faulted k (fault.Limit disk value) is why = inl (k, is, why)
+  judged faulted k (fault.Read Clicks) is why = (k, is, why)
+  judged faulted k _ is why = absurd why
+
+-- a log that wasn't read, or a disk that failed, raised its count
+module _ (tells : Bool) (before : DiskName → List ℕ → Type 0) (asked : Option Topology) (told : List KeptDisk → Option Misplaced → Type 0) (rose : Type 0) where
+  pub unread_rose : (log : LogName) → IsUnread tells before asked told rose log → rose
+  unread_rose Clicks is = is.2.1
+  unread_rose _ is = absurd is.2
+
+  pub failed_rose : (at : StorePlace) → HasFailed tells before asked told rose at → rose
+  failed_rose (place.Disk disk) is = is.1
+  failed_rose _ is = absurd is
 
 -- but for a fault of the topology's disk memory was wanting
-pub unwritten_memory : (P : Type 0) (fault : DisksFault) → IsUnwritten fault → Disks fault ≢ Disks (Store name.Topology) → (fault ≡ Memory → P) → P
-unwritten_memory P (Store of) is other from = absurd (other (ap (λ (n : DiskName). Disks (Store n)) is))
-unwritten_memory P (Damaged of at) is other from = absurd is
-unwritten_memory P Memory is other from = from refl
+pub unwritten_memory : (P : Type 0) (f : RunFault) (old new : ℕ) → IsUnwritten old new f → f ≢ fault.Store (place.Disk name.Topology) → (f ≡ fault.Memory → P) → P
+unwritten_memory P (fault.Store (place.Disk disk)) old new (is, rose) other from = absurd (other (ap (λ (n : DiskName). fault.Store (place.Disk n)) is))
+unwritten_memory P fault.Memory old new is other from = from refl
+unwritten_memory P _ old new is other from = absurd is
 
 -- ---- values that aren't run
-
-pub judged : (kept : KeptValues → Type 0) (cause : KeptValues → Refusal → Type 0) (k : KeptValues) (r : Refusal) → kept k → cause k r → IfJudged kept cause r
-judged kept cause k (Disks fault) is why = tt
-judged kept cause k (Joiners old new) is why = (k, is, why)
-judged kept cause k (Table old new) is why = (k, is, why)
-judged kept cause k (Place told) is why = (k, is, why)
-judged kept cause k (Limit disk value) is why = (k, is, why)
-judged kept cause k Read is why = (k, is, why)
-
--- another topology is kept
-module _ (tells : Bool) (log : List ℕ) (end_ old new : ℕ) (k : KeptValues) where
-  other_than : (asked : Topology) (r : Refusal) → IsOtherThan k.topology asked r → IsCause tells log end_ old new (Some asked) k r
-  other_than asked (Disks fault) is = absurd is
-  other_than asked (Joiners kept wanted) is = is
-  other_than asked (Table kept wanted) is = is
-  other_than asked (Place told) is = absurd is
-  other_than asked (Limit disk value) is = absurd is
-  other_than asked Read is = absurd is
-
-  pub other_cause : (asked : Option Topology) (r : Refusal) → IsOther k.topology asked r → IsCause tells log end_ old new asked k r
-  other_cause None r is = absurd is
-  other_cause (Some asked) r is = other_than asked r is
-
-  -- a limit
-  pub limit_cause : (asked : Option Topology) (r : Refusal) → IsFitFor k.topology asked → PlacesFit tells log end_ k.disks → IsLimit (first_limit k) r → IsCause tells log end_ old new asked k r
-  limit_cause asked (Disks fault) fit places is = absurd is
-  limit_cause asked (Joiners kept wanted) fit places is = absurd is
-  limit_cause asked (Table kept wanted) fit places is = absurd is
-  limit_cause asked (Place told) fit places is = absurd is
-  limit_cause asked (Limit disk value) fit places is = (fit, places, is)
-  limit_cause asked Read fit places is = absurd is
 
 -- what is told where nothing was
 pub none_is : {A P : Type 0} (told : Option A) (Q : A → Type 0) → ((x : A) → told ≡ Some x → ⊥) → MatchOption told P Q → P
 none_is None Q not h = h
 none_is (Some x) Q not h = absurd (not x refl)
 
--- ---- limits
-
 if_some : {A : Type 0} (b : Bool) (x m : A) → (if b then Some x else None) ≡ Some m → m ≡ x
 if_some true x m e = sym (some_same x m e)
 if_some false x m e = none_some m e
 
 -- a disk at its limit is told as such
-limit_at_is : (n : DiskName) (kept : Kept) (m : Misfit) → limit_at n kept ≡ Some m → (value : ℕ) × (m ≡ misfit.Spent n value)
-limit_at_is n (TopologyIs t) m e = none_some m e
-limit_at_is n (OffsetIs offset) m e = none_some m e
-limit_at_is n (PendingAre positions) m e = none_some m e
-limit_at_is n (EpochIs epoch) m e = (4294967294, if_some (epoch == 4294967294) (misfit.Spent n 4294967294) m e)
-limit_at_is n (NotesAre notes) m e = (281474976710655, if_some (list_any is_full_note notes) (misfit.Spent n 281474976710655) m e)
-limit_at_is n (PairsAre pairs) m e = none_some m e
+limit_at_is : (n : DiskName) (kept : Kept) (f : RunFault) → limit_at n kept ≡ Some f → (disk : DiskName) × (value : ℕ) × (f ≡ fault.Limit disk value)
+limit_at_is n (TopologyIs t) f e = none_some f e
+limit_at_is n (OffsetIs offset) f e = none_some f e
+limit_at_is n (PendingAre positions) f e = none_some f e
+limit_at_is n (EpochIs epoch) f e = (n, 4294967294, if_some (epoch == 4294967294) (fault.Limit n 4294967294) f e)
+limit_at_is n (NotesAre notes) f e = (n, 281474976710655, if_some (list_any is_full_note notes) (fault.Limit n 281474976710655) f e)
+limit_at_is n (PairsAre pairs) f e = none_some f e
 
-first_or_later : (P : Type 0) (one later : Option Misfit) (m : Misfit) → (one ≡ Some m → P) → (later ≡ Some m → P) → or_else one later ≡ Some m → P
-first_or_later P None later m f h e = h e
-first_or_later P (Some x) later m f h e = f e
+first_or_later : (P : Type 0) (one later : Option RunFault) (f : RunFault) → (one ≡ Some f → P) → (later ≡ Some f → P) → or_else one later ≡ Some f → P
+first_or_later P None later f here behind e = behind e
+first_or_later P (Some x) later f here behind e = here e
 
 -- and nothing else is
-pub limit_spent : (disks : List KeptDisk) (m : Misfit) → limit_in disks ≡ Some m → ((disk : DiskName) (value : ℕ) → m ≡ misfit.Spent disk value → ⊥) → ⊥
-limit_spent [] m e not = none_some m e
-limit_spent (d ∷ ds) m e not = first_or_later ⊥ (limit_at d.name d.kept) (limit_in ds) m (λ here. let x = limit_at_is d.name d.kept m here in not d.name x.0 x.1) (λ later. limit_spent ds m later not) e
+limit_is : (disks : List KeptDisk) (f : RunFault) → limit_in disks ≡ Some f → (disk : DiskName) × (value : ℕ) × (f ≡ fault.Limit disk value)
+limit_is [] f e = none_some f e
+limit_is (d ∷ ds) f e = first_or_later _ (limit_at d.name d.kept) (limit_in ds) f (limit_at_is d.name d.kept f) (limit_is ds f) e
 
--- what the limits tell
-module _ (tells : Bool) (log : List ℕ) (end_ old new : ℕ) (asked : Option Topology) (k : KeptValues) (fit : IsFitFor k.topology asked) (places : PlacesFit tells log end_ k.disks) where
-  pub passed_for : (told : Option Refusal) → MatchOption told (first_limit k ≡ None) (IsLimit (first_limit k)) → IfNone told (ArePassed tells log end_ asked k)
-  passed_for None h = record { topology = fit; places = places; limits = h }
-  passed_for (Some r) h = tt
+-- another topology is kept
+pub other_unfit : (tells : Bool) (log : List ℕ) (end_ : ℕ) (asked : Option Topology) (rose : Type 0) (k : KeptValues) (f : RunFault) → IsOther k.topology asked f → IsUnfit asked (AreTold tells log end_) rose k f
+other_unfit tells log end_ None rose k f is = absurd is
+other_unfit tells log end_ (Some asked) rose k (fault.Topology (mismatch.Joiners kept wanted)) is = is
+other_unfit tells log end_ (Some asked) rose k (fault.Topology (mismatch.Table kept wanted)) is = is
+other_unfit tells log end_ (Some asked) rose k _ is = absurd is
 
-  pub limit_for : (told : Option Refusal) → MatchOption told (first_limit k ≡ None) (IsLimit (first_limit k)) → IfSome told (IsCause tells log end_ old new asked k)
-  limit_for None h = tt
-  limit_for (Some r) h = limit_cause tells log end_ old new k asked r fit places h
+module _ (tells : Bool) (log : List ℕ) (end_ : ℕ) (asked : Option Topology) (k : KeptValues) where
+  -- what the limits tell
+  module _ (fit : IsFitFor k.topology asked) (places : AreTold tells log end_ k.disks None) where
+    pub passed_for : (told : Option RunFault) → told ≡ first_limit k → IfNone told (ArePassed tells log end_ asked k)
+    passed_for None e = record { topology = fit; places = places; limits = sym e }
+    passed_for (Some f) e = tt
 
--- ---- of a verification
+    pub limit_for : (rose : Type 0) (told : Option RunFault) → told ≡ first_limit k → IfSome told (IsUnfit asked (AreTold tells log end_) rose k)
+    limit_for rose None e = tt
+    limit_for rose (Some f) e =
+        let x = limit_is k.disks f (sym e) in
+        subst (λ (h : RunFault). IsUnfit asked (AreTold tells log end_) rose k h) (sym x.2) (fit, places, sym e ∙ ap Some x.2)
 
-pub read_causes : (kept : KeptValues → Type 0) (tells : Bool) (log : List ℕ) (end_ old new : ℕ) (r : Refusal) → IfJudged kept (IsCause tells log end_ old new None) r → IfJudged kept (reading.IsCause tells log end_ old new) r
-read_causes kept tells log end_ old new (Disks fault) why = tt
-read_causes kept tells log end_ old new (Joiners a b) (k, is, why) = absurd why
-read_causes kept tells log end_ old new (Table a b) (k, is, why) = absurd why
-read_causes kept tells log end_ old new (Place told) (k, is, why) = (k, is, why.1)
-read_causes kept tells log end_ old new (Limit disk value) (k, is, why) = (k, is, (why.1, why.2))
-read_causes kept tells log end_ old new Read (k, is, why) = (k, is, why.1)
+-- ---- a cause of more
+
+-- from a store that was placed to the one before, by what is told of the places and more
+module _ (tells : Bool) (asked : Option Topology) (placed before : DiskName → List ℕ → Type 0) (within : (disk : DiskName) (c : List ℕ) → placed disk c → before disk c)
+    (places told : List KeptDisk → Option Misplaced → Type 0) (more : (disks : List KeptDisk) (m : Option Misplaced) → places disks m → told disks m) where
+  kept_within : (disk : DiskName) (keeps : List ℕ → Type 0) → IsKeptIn (placed disk) keeps → IsKeptIn (before disk) keeps
+  kept_within disk keeps kept = (kept.0, within disk kept.0 kept.1, kept.2)
+
+  all_within : (k : KeptValues) → AreKept tells placed (joiners_asked asked) k → AreKept tells before (joiners_asked asked) k
+  all_within k are = record {
+    topology = λ sure. kept_within _ _ (are.topology sure);
+    named = are.named;
+    kinds = are.kinds;
+    kept = λ sure. each_more (IsKept placed) (IsKept before) k.disks (λ o kept. kept_within o.name (KeepsAs o.kept) kept) (are.kept sure);
+  }
+
+  pub passed_more : HasPassed tells placed asked places → HasPassed tells before asked told
+  passed_more (k, are, passes) = (k, all_within k are, record { topology = passes.topology; places = more _ _ passes.places; limits = passes.limits })
+
+  unfit_more : (k : KeptValues) (f : RunFault) → IsUnfit asked places ⊥ k f → IsUnfit asked told ⊥ k f
+  unfit_more k (fault.Topology (mismatch.Joiners kept wanted)) why = why
+  unfit_more k (fault.Topology (mismatch.Table kept wanted)) why = why
+  unfit_more k (fault.Topology (mismatch.Place p)) why = (why.0, more _ _ why.1)
+  unfit_more k (fault.Limit disk value) why = (why.0, more _ _ why.1, why.2)
+  unfit_more k (fault.Read Clicks) why = absurd why.1
+  unfit_more k _ why = absurd why
+
+  first_within : (disk : DiskName) → IsFirstDisk tells placed (joiners_asked asked) disk → IsFirstDisk tells before (joiners_asked asked) disk
+  first_within disk (inl topology) = inl topology
+  first_within disk (inr (kept, kept_in, first)) = inr (
+    kept,
+    λ sure. kept_within _ _ (kept_in sure),
+    record {
+      front = first.front;
+      rest = first.rest;
+      order = first.order;
+      opened = λ sure. each_more (λ name. IsKeptIn (placed name) (IsJournalOf name)) (λ name. IsKeptIn (before name) (IsJournalOf name)) first.front (λ name kept. kept_within name (IsJournalOf name) kept) (first.opened sure);
+    },
+  )
+
+  pub cause_more : (files read : LogName → Type 0) (was failed : StorePlace → Type 0) (rose late few early : Type 0) → ((log : LogName) → files log → read log) → ((at : StorePlace) → was at → failed at) → (rose → late) → (few → early)
+      → (f : RunFault) → HasCause tells placed asked places files was rose few f → HasCause tells before asked told read failed late early f
+  cause_more files read was failed rose late few early reads fails lates earlier (fault.Read log) cause = reads log cause
+  cause_more files read was failed rose late few early reads fails lates earlier (fault.Store at) cause = fails at cause
+  cause_more files read was failed rose late few early reads fails lates earlier (fault.Damaged disk at) (first, was_so) = (first_within disk first, λ sure. kept_within disk _ (was_so sure))
+  cause_more files read was failed rose late few early reads fails lates earlier (fault.Topology what) (k, are, why) = (k, all_within k are, unfit_more k (fault.Topology what) why)
+  cause_more files read was failed rose late few early reads fails lates earlier (fault.Limit disk value) cause =
+      ⊎_elim (λ (k, are, why). inl (k, all_within k are, unfit_more k (fault.Limit disk value) why)) (λ x. inr (lates x.0, x.1)) cause
+  cause_more files read was failed rose late few early reads fails lates earlier fault.Write (own, passed) = (earlier own, passed_more passed)
+  cause_more files read was failed rose late few early reads fails lates earlier fault.Memory cause = tt
+  cause_more files read was failed rose late few early reads fails lates earlier _ cause = earlier cause

@@ -17,13 +17,15 @@ use Rattle.turn_defs.specs.Turns.{BallotNote}
 use Rattle.turn_defs.specs.Replica.{ReplicaKept}
 use Rattle.site_node.specs.Replicas.{IsVoted, vote_record}
 use Rattle.site_store.specs.Kinds.{joiners_kept, damaged_by}
-use Rattle.site_store.specs.Opening.{WasDamaged}
+use Rattle.site_store.specs.Opening.{IsDamagedIn}
 use Rattle.gate_journal.specs.Images.{IsKeptIn}
-use Rattle.site_store.specs.Refusals.{IsJournalOf, IsFirst, IsOfFirstDisk, other_names}
+use Rattle.site_store.specs.Refusals.{IsJournalOf, IsFirst, IsFirstDisk, other_names}
 use Rattle.site_node.specs.Replicas.{KeepsNotes}
 use Rattle.site_store.specs.Written.{IsUnwritten}
-use Rattle.site_store.specs.declared.disks.fault.DisksFault.{DisksFault}
-use Rattle.site_store.specs.declared.disks.fault.DisksFault.TheVariants as disks
+use Rattle.run_fault.specs.declared.fault.StorePlace.TheVariants as place
+use Rattle.run_fault.specs.declared.fault.RunFault.{RunFault}
+use Rattle.run_fault.specs.declared.fault.RunFault.TheVariants as fault
+use Rattle.run_fault.specs.Causes.{IsWelcome}
 use Rattle.site_store.proofs.Lending.{each_back}
 use Rattle.site_store.proofs.Names.{others_are}
 use Rattle.site_store.proofs.SameNames.{same_or_not}
@@ -32,8 +34,7 @@ use Rattle.photon_model.specs.Topology.{Topology as PlainTopology, Store}
 use Rattle.site_laws.specs.Stores.{Bytes, IsDisk, KeepsTopology, KeepsVotes, Holds, KeepSound, IsSoundStore}
 use Rattle.site_laws.specs.StoreLaws.{ReadTopologyIsKept, TopologyFits}
 use Rattle.site_laws.proofs.Naming.{choose}
-use Rattle.site_store.specs.declared.opening.refusal.Refusal.TheVariants.{Disks}
-use Rattle.site_store.specs.Causes.{LeavesSomething, IsWelcome}
+use Rattle.site_store.specs.Causes.{LeavesSomething}
 
 -- ---- the disks that are opened are the setting's
 
@@ -111,19 +112,17 @@ kept_joiners read fits g image some sound (Some t) asked is (c, now, keeps) =
 
 module _ (tells : Bool) (sure : IsTrue tells) (image : DiskName → List ℕ → Type 0) (asked : ℕ) (read : ReadTopologyIsKept) (fits : TopologyFits) (g : Setting) (le : asked ≤ g.joiners) (few : g.joiners ≤ 4)
     (replicas : g.replicas ≡ 3) (sound : IsSoundStore g image) where
-  is_disk : (disk : DiskName) (at : ℕ) → LeavesSomething g image → IsOfFirstDisk tells image asked (disks.Damaged disk at) → IsDisk g disk
-  is_disk disk at some (inl topology) = subst (IsDisk g) (sym topology) tt
-  is_disk disk at some (inr (kept, kept_in, first)) =
+  is_disk : (disk : DiskName) → LeavesSomething g image → IsFirstDisk tells image asked disk → IsDisk g disk
+  is_disk disk some (inl topology) = subst (IsDisk g) (sym topology) tt
+  is_disk disk some (inr (kept, kept_in, first)) =
       let n_le = kept_joiners read fits g image some sound kept asked le (kept_in sure) in
       first_is g tells image (other_names (joiners_kept kept asked)) disk (others_are g replicas (joiners_kept kept asked) n_le (omega (arith, n_le, few))) first
 
-  pub no_damage : (fault : DisksFault) → IsOfFirstDisk tells image asked fault → WasDamaged image fault → IsWelcome g image (Disks fault)
-  no_damage (disks.Store disk) first was = tt
-  no_damage (disks.Damaged disk at) first (c, now, damaged) = λ some. never_damaged g image some sound disk (is_disk disk at some first) c now at damaged
-  no_damage disks.Memory first was = tt
+  pub no_damage : (disk : DiskName) (at : ℕ) → IsFirstDisk tells image asked disk → (IsTrue tells → IsDamagedIn image disk at) → LeavesSomething g image → ⊥
+  no_damage disk at first was some = let (c, now, damaged) = was sure in never_damaged g image some sound disk (is_disk disk some first) c now at damaged
 
 -- and a record that isn't written isn't damaged
-pub unwritten_welcome : (g : Setting) (image : DiskName → List ℕ → Type 0) (fault : DisksFault) → IsUnwritten fault → IsWelcome g image (Disks fault)
-unwritten_welcome g image (disks.Store of) is = tt
-unwritten_welcome g image (disks.Damaged of at) is = absurd is
-unwritten_welcome g image disks.Memory is = tt
+pub unwritten_welcome : (holds : Type 0) (f : RunFault) (old new : ℕ) → IsUnwritten old new f → IsWelcome holds f
+unwritten_welcome holds (fault.Store (place.Disk disk)) old new is = tt
+unwritten_welcome holds fault.Memory old new is = tt
+unwritten_welcome holds _ old new is = absurd is

@@ -1,34 +1,28 @@
 -- Why a journal isn't opened, as the fault of its disk.
 use Rattle.std.proofs.Common.{◌≡◌, ◌≤◌, ℕ, List, Bool, IsTrue, refl, arith}
 use Rattle.outside.specs.declared.store.DiskName.{DiskName}
+use Rattle.outside.specs.Disk.{Within}
 use Rattle.outside.specs.Faults.{added}
 use Rattle.gate_journal.specs.declared.reading.JournalFault.{JournalFault}
 use Rattle.gate_journal.specs.declared.reading.JournalFault.TheVariants.{Damaged, Disk, Memory}
-use Rattle.site_store.specs.declared.disks.fault.DisksFault.{DisksFault}
-use Rattle.site_store.specs.declared.disks.fault.DisksFault.TheVariants as disks
+use Rattle.run_fault.specs.declared.fault.StorePlace.TheVariants as place
+use Rattle.run_fault.specs.declared.fault.RunFault.{RunFault}
+use Rattle.run_fault.specs.declared.fault.RunFault.TheVariants as fault
 use Rattle.site_store.specs.Kinds.{damaged_by}
-use Rattle.site_store.specs.Opening.{IsRefusedBy, told_by, RoseBy, IsOf, WasDamaged}
+use Rattle.site_store.specs.Opening.{IsRefusedBy, told_by, IsUnopened}
 
-pub told_rose : (name : DiskName) (fault : JournalFault) (is_damaged : List ℕ → ℕ → Type 0) (tells : Bool) (seen : List ℕ) (met n old mid new : ℕ)
-    → IsRefusedBy is_damaged tells seen met n fault → old ≤ mid → new ≡ added mid n → RoseBy old new (told_by name fault)
-told_rose name (Damaged at) is_damaged tells seen met n old mid new refused le is = tt
-told_rose name Disk is_damaged tells seen met n old mid new refused le is = omega (arith, refused, le, is)
-told_rose name Memory is_damaged tells seen met n old mid new refused le is = tt
+-- a disk that was taken is refused: it was damaged, or its count is among the store's
+pub told_unopened : (before : DiskName → List ℕ → Type 0) (name : DiskName) (f : JournalFault) (tells : Bool) (seen : List ℕ) (met n old mid new : ℕ)
+    → IsRefusedBy (damaged_by name) tells seen met n f → old ≤ mid → new ≡ added mid n → (IsTrue tells → before name seen) → IsUnopened tells before old new (λ disk. disk ≡ name) (told_by name f)
+told_unopened before name (Damaged at) tells seen met n old mid new refused le is left = (refl, λ sure. (seen, left sure, refused sure))
+told_unopened before name Disk tells seen met n old mid new refused le is left = (refl, omega (arith, refused, le, is))
+told_unopened before name Memory tells seen met n old mid new refused le is left = tt
 
-pub told_of : (name : DiskName) (fault : JournalFault) → IsOf name (told_by name fault)
-told_of name (Damaged at) = refl
-told_of name Disk = refl
-told_of name Memory = tt
-
--- bytes that might have been left are damaged
-pub told_damaged : (before : DiskName → List ℕ → Type 0) (name : DiskName) (fault : JournalFault) (is_damaged : List ℕ → ℕ → Type 0) (tells : Bool) (bytes : List ℕ) (old new : ℕ) → IsTrue tells
-    → IsRefusedBy is_damaged tells bytes old new fault → ((bytes : List ℕ) (at : ℕ) → is_damaged bytes at → damaged_by name bytes at) → before name bytes → WasDamaged before (told_by name fault)
-told_damaged before name (Damaged at) is_damaged tells bytes old new sure refused agrees left = (bytes, left, agrees bytes at (refused sure))
-told_damaged before name Disk is_damaged tells bytes old new sure refused agrees left = tt
-told_damaged before name Memory is_damaged tells bytes old new sure refused agrees left = tt
-
--- a fault that raised the count in between raised it over the whole time
-pub rose_on : (fault : DisksFault) (old mid last new : ℕ) → old ≤ mid → last ≤ new → RoseBy mid last fault → RoseBy old new fault
-rose_on (disks.Store name) old mid last new first rest rose = omega (arith, first, rest, rose)
-rose_on (disks.Damaged name at) old mid last new first rest rose = tt
-rose_on disks.Memory old mid last new first rest rose = tt
+-- a fault of one of some disks, told of more of them and over a longer time
+pub unopened_more : (tells : Bool) (before mid : DiskName → List ℕ → Type 0) (old first last new : ℕ) (P Q : DiskName → Type 0) (f : RunFault)
+    → old ≤ first → last ≤ new → ((disk : DiskName) → P disk → Q disk) → (IsTrue tells → (disk : DiskName) → P disk → Within (before disk) (mid disk)) → IsUnopened tells mid first last P f → IsUnopened tells before old new Q f
+unopened_more tells before mid old first last new P Q (fault.Store (place.Disk disk)) le rest more within (named, rose) = (more disk named, omega (arith, rose, le, rest))
+unopened_more tells before mid old first last new P Q (fault.Damaged disk at) le rest more within (named, was) =
+    (more disk named, λ sure. let x = was sure in (x.0, within sure disk named x.0 x.1, x.2))
+unopened_more tells before mid old first last new P Q fault.Memory le rest more within is = tt
+unopened_more tells before mid old first last new P Q _ le rest more within is = absurd is

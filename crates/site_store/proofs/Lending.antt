@@ -9,9 +9,6 @@ use Rattle.gate_journal.specs.Opening.{IsOpened}
 use Rattle.gate_journal.specs.Images.{StaysAs, IsKeptIn}
 use Rattle.site_store.specs.Lent.{Lent, Lacks, IsLent, MayBeLeft}
 use Rattle.site_store.specs.Records.{OpenView, KeepsAs, IsKept, kept_by, lent_by, lent_all}
-use Rattle.site_store.specs.declared.disks.fault.DisksFault.{DisksFault}
-use Rattle.site_store.specs.declared.disks.fault.DisksFault.TheVariants.{Store, Damaged, Memory}
-use Rattle.site_store.specs.Opening.{IsOf, WasDamaged}
 use Rattle.site_store.proofs.SameNames.{same_or_not}
 use Rattle.site_store.proofs.Stays.{opened_same}
 
@@ -183,10 +180,3 @@ pub names_more : {D : Type 0} (names : List DiskName) (i : ℕ) (d : DiskName) (
 names_more {D} names i d all now one so lt named is =
     ap (map (λ (o : OpenView D). o.name)) is ∙ map-append (λ (o : OpenView D). o.name) all (one ∷ []) ∙ ap (λ (l : List DiskName). l ++ one.name ∷ []) so ∙ ap (λ (n : DiskName). take i names ++ n ∷ []) named
     ∙ sym (take_more names i d lt)
-
--- a disk that was damaged when it was taken was so at first
-pub damaged_first : (before mid : DiskName → List ℕ → Type 0) (name : DiskName) (fault : DisksFault) → IsOf name fault → Within (before name) (mid name) → WasDamaged mid fault → WasDamaged before fault
-damaged_first before mid name (Store of) is within was = tt
-damaged_first before mid name (Damaged of at) is within was =
-    (was.0, subst (λ (n : DiskName). before n was.0) (sym is) (within was.0 (subst (λ (n : DiskName). mid n was.0) is was.1)), was.2)
-damaged_first before mid name Memory is within was = tt

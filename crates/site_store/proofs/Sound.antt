@@ -12,20 +12,19 @@ use Rattle.turn_defs.specs.Setting.{Setting}
 use Rattle.dispatch_node.specs.Places.{IsLogOf}
 use Rattle.site_store.specs.Kinds.{joiners_kept}
 use Rattle.site_store.specs.Misfits.{IsMisfit}
-use Rattle.site_store.specs.declared.disks.checks.Misfit.TheVariants as misfit
+use Rattle.run_fault.specs.declared.fault.Mismatch.TheVariants as mismatch
+use Rattle.run_fault.specs.declared.fault.RunFault.{RunFault}
+use Rattle.run_fault.specs.declared.fault.RunFault.TheVariants as fault
+use Rattle.run_fault.specs.Causes.{IsWelcome}
 use Rattle.site_store.specs.Kept.{Fits, places_at, all_kept}
 use Rattle.photon_model.specs.Topology.{Topology as PlainTopology, topology_of}
 use Rattle.site_laws.specs.Stores.{Bytes, IsDisk, KeepsTopology, KeepSound, IsSoundStore}
 use Rattle.site_laws.specs.StoreLaws.{topology_read, ReadTopologyIsKept, TopologyFits}
 use Rattle.site_laws.proofs.Naming.{choose}
 use Rattle.site_laws.proofs.Keeping.{one_value}
-use Rattle.site_store.specs.Refusals.{IsOfFirstDisk}
-use Rattle.site_store.specs.Opening.{WasDamaged}
-use Rattle.site_store.specs.declared.opening.refusal.Refusal.{Refusal}
-use Rattle.site_store.specs.declared.opening.refusal.Refusal.TheVariants.{Disks, Joiners, Table, Place, Limit, Read}
 use Rattle.site_store.specs.Records.{Kept, KeptDisk, KeptValues, KeepsAs, IsOfKind, IsKept, AreKept}
 use Rattle.site_store.specs.Leaving.{IsAsked}
-use Rattle.site_store.specs.Causes.{IfDisks, IfJudged, IsOtherTable, IsCause, LeavesSomething, IsWelcome}
+use Rattle.site_store.specs.Causes.{IsCause, LeavesSomething}
 use Rattle.site_store.proofs.Damage.{kept_joiners, no_damage}
 use Rattle.site_store.proofs.Leaving.{joiners_same}
 use Rattle.site_store.proofs.Lending.{each_mem}
@@ -113,7 +112,7 @@ module _ (tells : Bool) (sure : IsTrue tells) (image : DiskName → List ℕ →
 
 -- ---- what is refused of a sound store
 
-module _ (tells : Bool) (sure : IsTrue tells) (log_tells : Bool) (log_sure : IsTrue log_tells) (image : DiskName → List ℕ → Type 0) (log : List ℕ) (end_ old new : ℕ) (read : ReadTopologyIsKept) (fits : TopologyFits)
+module _ (tells : Bool) (sure : IsTrue tells) (log_tells : Bool) (log_sure : IsTrue log_tells) (image : DiskName → List ℕ → Type 0) (log : List ℕ) (end_ : ℕ) (faulted rose : Type 0) (read : ReadTopologyIsKept) (fits : TopologyFits)
     (g : Setting) (replicas : g.replicas ≡ 3) (few : g.joiners ≤ 4) (log_is : IsLogOf log g) (end_is : end_ ≡ end_from 0 g.clicks) (sound : IsSoundStore g image) where
   -- where a setting's topology is asked
   module _ (asked : Topology) (is : IsAsked asked g) where
@@ -123,35 +122,33 @@ module _ (tells : Bool) (sure : IsTrue tells) (log_tells : Bool) (log_sure : IsT
     some_left : (k : KeptValues) → AreIn k → joiners_kept k.topology asked.joiners ≡ asked.joiners → LeavesSomething g image
     some_left k are same = something tells sure image asked.joiners k are g (same ∙ sym is.joiners) few replicas
 
-    no_table : (k : KeptValues) (kept wanted : List _) → AreIn k → IsOtherTable k.topology asked kept wanted → ⊥
+    no_table : (k : KeptValues) (kept wanted : List _) → AreIn k → IsMisfit k.topology asked (fault.Topology (mismatch.Table kept wanted)) → ⊥
     no_table k kept wanted are (t, kept_is, same, old_is, new_is, other) =
         let many : joiners_kept k.topology asked.joiners ≡ asked.joiners = ap (λ (x : Option Topology). joiners_kept x asked.joiners) kept_is ∙ same in
         let some = some_left k are many in
         other (ap (λ (u : PlainTopology). u.table) (topology_is tells sure image asked.joiners k are g (omega (arith, many, is.joiners, few)) some sound read fits t kept_is) ∙ is.table)
 
-    no_joiners : (k : KeptValues) (kept wanted : ℕ) → AreIn k → IsMisfit k.topology asked (misfit.Joiners kept wanted) → LeavesSomething g image → ⊥
+    no_joiners : (k : KeptValues) (kept wanted : ℕ) → AreIn k → IsMisfit k.topology asked (fault.Topology (mismatch.Joiners kept wanted)) → LeavesSomething g image → ⊥
     no_joiners k kept wanted are (t, kept_is, old_is, new_is, other) some =
         let le = kept_joiners read fits g image some sound k.topology asked.joiners (omega (arith, is.joiners)) (are.topology sure) in
         other (ap (λ (u : PlainTopology). u.joiners) (topology_is tells sure image asked.joiners k are g (omega (arith, le, few)) some sound read fits t kept_is) ∙ is.joiners)
 
-    pub welcome : (r : Refusal) → IfDisks (IsOfFirstDisk tells image asked.joiners) r → IfDisks (WasDamaged image) r → IfJudged (AreKept tells image asked.joiners) (IsCause log_tells log end_ old new (Some asked)) r → IsWelcome g image r
-    welcome (Disks fault) first was why = no_damage tells sure image asked.joiners read fits g (omega (arith, is.joiners)) few replicas sound fault first was
-    welcome (Joiners kept wanted) first was (k, are, why) = no_joiners k kept wanted are why
-    welcome (Table kept wanted) first was (k, are, why) = no_table k kept wanted are why
-    welcome (Place told) first was (k, are, why) =
+    pub welcome : (f : RunFault) → IsCause tells image faulted log_tells log end_ rose (Some asked) f → IsWelcome (LeavesSomething g image) f
+    welcome (fault.Damaged disk at) (first, was) = no_damage tells sure image asked.joiners read fits g (omega (arith, is.joiners)) few replicas sound disk at first was
+    welcome (fault.Topology (mismatch.Joiners kept wanted)) (k, are, why) = no_joiners k kept wanted are why
+    welcome (fault.Topology (mismatch.Table kept wanted)) (k, are, why) = no_table k kept wanted are why
+    welcome (fault.Topology (mismatch.Place told)) (k, are, why) =
         let many = joiners_same k.topology asked why.0 in
         let some = some_left k are many in
         first_clash g.clicks _ told (why.1 log_sure g log_is end_is) (places_fit tells sure image asked.joiners k are g (omega (arith, many, is.joiners, few)) some sound replicas (omega (arith, many, is.joiners)))
-    welcome (Limit disk value) first was why = tt
-    welcome Read first was why = tt
+    welcome _ why = tt
 
   -- where nothing is asked
-  pub welcome_read : LeavesSomething g image → (r : Refusal) → IfDisks (IsOfFirstDisk tells image 0) r → IfDisks (WasDamaged image) r → IfJudged (AreKept tells image 0) (IsCause log_tells log end_ old new None) r → IsWelcome g image r
-  welcome_read some (Disks fault) first was why = no_damage tells sure image 0 read fits g (omega arith) few replicas sound fault first was
-  welcome_read some (Joiners kept wanted) first was (k, are, why) = absurd why
-  welcome_read some (Table kept wanted) first was (k, are, why) = absurd why
-  welcome_read some (Place told) first was (k, are, why) =
+  pub welcome_read : LeavesSomething g image → (f : RunFault) → IsCause tells image faulted log_tells log end_ rose None f → IsWelcome (LeavesSomething g image) f
+  welcome_read some (fault.Damaged disk at) (first, was) = no_damage tells sure image 0 read fits g (omega arith) few replicas sound disk at first was
+  welcome_read some (fault.Topology (mismatch.Joiners kept wanted)) (k, are, why) = absurd why
+  welcome_read some (fault.Topology (mismatch.Table kept wanted)) (k, are, why) = absurd why
+  welcome_read some (fault.Topology (mismatch.Place told)) (k, are, why) =
       let le = kept_joiners read fits g image some sound k.topology 0 (omega arith) (are.topology sure) in
       first_clash g.clicks _ told (why.1 log_sure g log_is end_is) (places_fit tells sure image 0 k are g (omega (arith, le, few)) some sound replicas le)
-  welcome_read some (Limit disk value) first was why = tt
-  welcome_read some Read first was why = tt
+  welcome_read some _ why = tt

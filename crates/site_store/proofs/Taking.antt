@@ -5,12 +5,9 @@ use Rattle.outside.specs.declared.store.DiskName.{DiskName}
 use Rattle.outside.specs.Disk.{Within}
 use Rattle.gate_journal.specs.Opening.{IsOpened}
 use Rattle.gate_journal.specs.Images.{StaysAs}
-use Rattle.site_store.specs.declared.disks.fault.DisksFault.{DisksFault}
-use Rattle.site_store.specs.declared.disks.fault.DisksFault.TheVariants.{Store, Damaged, Memory}
 use Rattle.site_store.specs.Lent.{Lacks}
-use Rattle.site_store.specs.Opening.{WasDamaged}
 use Rattle.site_store.specs.Records.{OpenView, IsKept, kept_by, lent_all}
-use Rattle.site_store.specs.Refusals.{WereJournals, IsFirst, IsOfFirst}
+use Rattle.site_store.specs.Refusals.{WereJournals, IsFirst}
 use Rattle.site_store.proofs.Lending.{each_front, each_back}
 use Rattle.site_store.proofs.SameNames.{same_or_not}
 
@@ -33,25 +30,16 @@ module _ (before mid : DiskName → List ℕ → Type 0) (name : DiskName) (othe
   journals_before [] away were = tt
   journals_before (n ∷ ns) away were = let x = were.0 in ((x.0, others n away.0 x.0 x.1, x.2), journals_before ns away.1 were.1)
 
-  -- a disk that is told as damaged was so at first
-  pub damaged_before : (tells : Bool) (names : List DiskName) (fault : DisksFault) → Each (λ n. n ≢ name) names → IsOfFirst tells mid names fault → WasDamaged mid fault → WasDamaged before fault
-  damaged_before tells names (Store n) away first was = tt
-  damaged_before tells names (Damaged n at) away first was =
-      let other = (each_back (λ (m : DiskName). m ≢ name) first.front (n ∷ first.rest) (subst (Each (λ (m : DiskName). m ≢ name)) first.order away)).0 in
-      (was.0, others n other was.0 was.1, was.2)
-  damaged_before tells names Memory away first was = tt
+-- none of these is the disk of this name
+pub first_other : (tells : Bool) (image : DiskName → List ℕ → Type 0) (name : DiskName) (names : List DiskName) (n : DiskName) → Each (λ m. m ≢ name) names → IsFirst tells image names n → n ≢ name
+first_other tells image name names n away first = (each_back (λ (m : DiskName). m ≢ name) first.front (n ∷ first.rest) (subst (Each (λ (m : DiskName). m ≢ name)) first.order away)).0
 
 module _ (tells : Bool) (before mid : DiskName → List ℕ → Type 0) (name : DiskName) (others : IsTrue tells → (other : DiskName) → other ≢ name → Within (before other) (mid other)) where
-  first_name_before : (names : List DiskName) (n : DiskName) → Each (λ n. n ≢ name) names → IsFirst tells mid names n → IsFirst tells before names n
-  first_name_before names n away first = record {
+  -- the first that wasn't opened, in front of which all were journals at first
+  pub first_before : (names : List DiskName) (n : DiskName) → Each (λ n. n ≢ name) names → IsFirst tells mid names n → IsFirst tells before names n
+  first_before names n away first = record {
     front = first.front;
     rest = first.rest;
     order = first.order;
     opened = λ sure. journals_before before mid name (others sure) first.front (each_front (λ (m : DiskName). m ≢ name) first.front (n ∷ first.rest) (subst (Each (λ (m : DiskName). m ≢ name)) first.order away)) (first.opened sure);
   }
-
-  -- the first that wasn't opened, in front of which all were journals at first
-  pub first_before : (names : List DiskName) (fault : DisksFault) → Each (λ n. n ≢ name) names → IsOfFirst tells mid names fault → IsOfFirst tells before names fault
-  first_before names (Store n) away first = first_name_before names n away first
-  first_before names (Damaged n at) away first = first_name_before names n away first
-  first_before names Memory away first = tt

@@ -13,7 +13,7 @@ use Rattle.site_store.specs.Floors.{IsFloorOf}
 use Rattle.photon_model.specs.Runs.{Disks}
 use Rattle.site_store.specs.Records.{Kept, OffsetIs, PendingAre, KeptDisk, OpenView, kept_all, Says, AreRecordsOf}
 use Rattle.site_store.specs.Kept.{FitsOn, KeptPlace, Fits, IsStart, on_disk, places_at, all_kept, IsFirst, IsTold}
-use Rattle.site_store.specs.declared.places.misplaced.Misplaced.{Misplaced}
+use Rattle.run_fault.specs.declared.fault.Misplaced.{Misplaced}
 use Rattle.site_store.proofs.Lending.{each_mem}
 use Rattle.site_store.proofs.Values.{at_name}
 

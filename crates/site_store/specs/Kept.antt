@@ -6,7 +6,7 @@ use Rattle.outside.specs.declared.store.DiskName.TheVariants.{Topology, Offset, 
 use Rattle.log_records.specs.Lines.{ClickLine, at, IsBoundary}
 use Rattle.site_store.specs.Floors.{IsFloorOf}
 use Rattle.site_store.specs.Records.{Kept, TopologyIs, OffsetIs, PendingAre, EpochIs, NotesAre, PairsAre, KeptDisk}
-use Rattle.site_store.specs.declared.places.misplaced.Misplaced.{Misplaced}
+use Rattle.run_fault.specs.declared.fault.Misplaced.{Misplaced}
 
 -- a whole line starts at p
 abbrev pub IsStart : List ClickLine → ℕ → Type 0

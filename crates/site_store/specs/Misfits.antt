@@ -6,18 +6,19 @@ use Rattle.paxos_acceptor.specs.declared.notes.ReplicaNote.{ReplicaNote}
 use Rattle.paxos_acceptor.specs.declared.notes.ReplicaNote.TheVariants.{Promised, Accepted}
 use Rattle.topology_journal.specs.declared.topology.Topology.{Topology}
 use Rattle.site_store.specs.Records.{Kept, TopologyIs, OffsetIs, PendingAre, EpochIs, NotesAre, PairsAre, KeptDisk}
-use Rattle.site_store.specs.declared.disks.checks.Misfit.{Misfit}
-use Rattle.site_store.specs.declared.disks.checks.Misfit.TheVariants.{Joiners, Table, Spent}
+use Rattle.run_fault.specs.declared.fault.Mismatch.TheVariants as mismatch
+use Rattle.run_fault.specs.declared.fault.RunFault.{RunFault}
+use Rattle.run_fault.specs.declared.fault.RunFault.TheVariants as fault
 
 -- nothing else than the asked topology is kept
 abbrev pub IsFit : Option Topology → Topology → Type 0
 IsFit kept asked = (t : Topology) → kept ≡ Some t → t ≡ asked
 
--- a topology is kept with another number of joiners, or with the same one and another table
-abbrev pub IsMisfit : Option Topology → Topology → Misfit → Type 0
-IsMisfit kept asked (Joiners old new) = (t : Topology) × (kept ≡ Some t) × (old ≡ t.joiners) × (new ≡ asked.joiners) × (t.joiners ≢ asked.joiners)
-IsMisfit kept asked Table = (t : Topology) × (kept ≡ Some t) × (t.joiners ≡ asked.joiners) × (t.table ≢ asked.table)
-IsMisfit kept asked (Spent disk value) = ⊥
+-- a topology is kept with another number of joiners, or with the same one and another table, and both are told
+abbrev pub IsMisfit : Option Topology → Topology → RunFault → Type 0
+IsMisfit kept asked (fault.Topology (mismatch.Joiners old new)) = (t : Topology) × (kept ≡ Some t) × (old ≡ t.joiners) × (new ≡ asked.joiners) × (t.joiners ≢ asked.joiners)
+IsMisfit kept asked (fault.Topology (mismatch.Table old new)) = (t : Topology) × (kept ≡ Some t) × (t.joiners ≡ asked.joiners) × (old ≡ t.table) × (new ≡ asked.table) × (t.table ≢ asked.table)
+IsMisfit kept asked _ = ⊥
 
 -- where nothing is asked, whatever is kept fits
 abbrev pub IsFitFor : Option Topology → Option Topology → Type 0
@@ -30,19 +31,19 @@ is_full_note (Promised shard slot b) = (slot == 281474976710655) || (b.round == 
 is_full_note (Accepted shard slot b v) = (slot == 281474976710655) || (b.round == 281474976710655)
 
 -- a disk whose epoch is the last one, or that has such a note
-abbrev pub limit_at : DiskName → Kept → Option Misfit
+abbrev pub limit_at : DiskName → Kept → Option RunFault
 limit_at name (TopologyIs topology) = None
 limit_at name (OffsetIs offset) = None
 limit_at name (PendingAre positions) = None
-limit_at name (EpochIs epoch) = if epoch == 4294967294 then Some (Spent name 4294967294) else None
-limit_at name (NotesAre notes) = if list_any is_full_note notes then Some (Spent name 281474976710655) else None
+limit_at name (EpochIs epoch) = if epoch == 4294967294 then Some (fault.Limit name 4294967294) else None
+limit_at name (NotesAre notes) = if list_any is_full_note notes then Some (fault.Limit name 281474976710655) else None
 limit_at name (PairsAre pairs) = None
 
-abbrev pub or_else : Option Misfit → Option Misfit → Option Misfit
+abbrev pub or_else : Option RunFault → Option RunFault → Option RunFault
 or_else None later = later
 or_else (Some m) later = Some m
 
 -- the first disk that is at its limit
-abbrev pub limit_in : List KeptDisk → Option Misfit
+abbrev pub limit_in : List KeptDisk → Option RunFault
 limit_in [] = None
 limit_in (d ∷ ds) = or_else (limit_at d.name d.kept) (limit_in ds)

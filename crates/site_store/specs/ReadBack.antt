@@ -10,8 +10,8 @@ use Rattle.turn_defs.specs.declared.pair.PairRec.{PairRec}
 use Rattle.output_log.specs.Pairs.{Keeps as KeepsPairs}
 use Rattle.site_store.specs.Kinds.{damaged_by}
 use Rattle.site_node.specs.Replicas.{KeepsNotes}
-use Rattle.site_store.specs.declared.disks.fault.DisksFault.{DisksFault}
-use Rattle.site_store.specs.declared.disks.fault.DisksFault.TheVariants.{Store, Damaged, Memory}
+use Rattle.run_fault.specs.declared.fault.RunFault.{RunFault}
+use Rattle.run_fault.specs.Causes.{IsOfDisk}
 use Rattle.site_store.specs.declared.lent.disk.LentDisk.{LentDisk}
 use Rattle.site_store.specs.declared.lent.reading.ReadAs.{ReadAs}
 use Rattle.site_store.specs.declared.lent.reading.ReadAs.TheVariants.{Notes, Pairs, Neither}
@@ -62,10 +62,9 @@ pub record IsOnlyRead {D : Type 0} (tells : Bool) (seen : D → List ℕ) (image
 
 -- A fault is of this disk: its count rose, or a stop might have left bytes of it that are damaged as its kind reads them. Want of
 -- memory is free.
-abbrev pub IsToldBy : {D : Type 0} → Bool → (D → List ℕ → Type 0) → (D → ℕ) → (old new : LentDisk D) → DisksFault → Type 0
-IsToldBy tells image faults old new (Store name) = (old.name ≡ name) × Rose (faults old.disk) (faults new.disk)
-IsToldBy tells image faults old new (Damaged name at) = (old.name ≡ name) × (IsTrue tells → (c : List ℕ) × image old.disk c × damaged_by name c at)
-IsToldBy tells image faults old new Memory = Unit {0}
+abbrev pub IsToldBy : {D : Type 0} → Bool → (D → List ℕ → Type 0) → (D → ℕ) → (old new : LentDisk D) → RunFault → Type 0
+IsToldBy tells image faults old new f =
+    IsOfDisk (λ name. (old.name ≡ name) × Rose (faults old.disk) (faults new.disk)) (λ name at. (old.name ≡ name) × (IsTrue tells → (c : List ℕ) × image old.disk c × damaged_by name c at)) f
 
 -- what one disk is read as, by its name
 abbrev pub IsReadAs : {D : Type 0} → Bool → (D → List ℕ) → LentDisk D → ReadAs → Type 0

@@ -1,15 +1,10 @@
--- What a store is read as, and why it isn't.
-use Rattle.std.specs.Prelude.{◌≡◌, ℕ, List, [], ◌∷◌, flat_map, Bool, None, Some}
+-- What a store is read as.
+use Rattle.std.specs.Prelude.{◌≡◌, ℕ, List, [], ◌∷◌, flat_map, Bool, None}
 use Rattle.outside.specs.declared.store.DiskName.{DiskName}
-use Rattle.outside.specs.Faults.{Rose}
 use Rattle.turn_defs.specs.declared.pair.PairRec.{PairRec}
 use Rattle.paxos_acceptor.specs.declared.notes.ReplicaNote.{ReplicaNote}
-use Rattle.site_store.specs.declared.disks.checks.Misfit.TheVariants.{Spent}
-use Rattle.site_store.specs.declared.disks.fault.DisksFault.TheVariants.{Memory}
-use Rattle.site_store.specs.declared.opening.refusal.Refusal.{Refusal}
-use Rattle.site_store.specs.declared.opening.refusal.Refusal.TheVariants.{Disks, Joiners, Table, Place, Limit, Read}
 use Rattle.site_store.specs.Records.{Kept, TopologyIs, OffsetIs, PendingAre, EpochIs, NotesAre, PairsAre, KeptValues, AreKept}
-use Rattle.site_store.specs.Causes.{AreTold, PlacesFit, ArePassed, first_limit}
+use Rattle.site_store.specs.Causes.{ArePassed}
 use Rattle.site_store.specs.declared.reading.kept.KeptStore.{KeptStore}
 
 -- the notes that a disk keeps, and the pairs
@@ -41,13 +36,3 @@ pub record IsRead (tells : Bool) (before : DiskName → List ℕ → Type 0) (lo
   pub kept : AreKept tells before 0 values
   pub told : IsOfValues values k
   pub fine : ArePassed log_tells log end_ None values
-
--- Why kept values aren't read: a place doesn't fit the log, or all do and something is at its limit, or the log met a fault. Want
--- of memory is free. Nothing is asked that they might not fit.
-abbrev pub IsCause : Bool → List ℕ → ℕ → (old new : ℕ) → KeptValues → Refusal → Type 0
-IsCause tells log end_ old new v (Disks fault) = fault ≡ Memory
-IsCause tells log end_ old new v (Joiners kept wanted) = ⊥
-IsCause tells log end_ old new v (Table kept wanted) = ⊥
-IsCause tells log end_ old new v (Place told) = AreTold tells log end_ v.disks (Some told)
-IsCause tells log end_ old new v (Limit disk value) = PlacesFit tells log end_ v.disks × (first_limit v ≡ Some (Spent disk value))
-IsCause tells log end_ old new v Read = Rose old new

@@ -12,11 +12,8 @@ use Rattle.retry_log.specs.Pending.{Keeps as KeepsPending}
 use Rattle.turn_defs.specs.declared.pair.PairRec.{PairRec}
 use Rattle.output_log.specs.Pairs.{Keeps as KeepsPairs}
 use Rattle.site_store.specs.Kinds.{joiners_kept, offset_names, retry_names, server_names, replica_names, epoch_names_a, epoch_names_b, output_names_a, output_names_b}
-use Rattle.site_store.specs.Opening.{IsOf}
 use Rattle.gate_journal.specs.Images.{IsKeptIn}
 use Rattle.site_node.specs.Replicas.{KeepsNotes}
-use Rattle.site_store.specs.declared.disks.fault.DisksFault.{DisksFault}
-use Rattle.site_store.specs.declared.disks.fault.DisksFault.TheVariants as disks
 
 -- a file under this name is a journal of its kind
 abbrev pub IsJournalOf : DiskName → List ℕ → Type 0
@@ -39,12 +36,6 @@ pub record IsFirst (tells : Bool) (before : DiskName → List ℕ → Type 0) (n
   pub order : names ≡ front ++ name ∷ rest
   pub opened : IsTrue tells → WereJournals before front
 
--- the fault is of the first of these disks that wasn't opened
-abbrev pub IsOfFirst : Bool → (DiskName → List ℕ → Type 0) → List DiskName → DisksFault → Type 0
-IsOfFirst tells before names (disks.Store name) = IsFirst tells before names name
-IsOfFirst tells before names (disks.Damaged name at) = IsFirst tells before names name
-IsOfFirst tells before names disks.Memory = Unit {0}
-
 -- the names of the disks in the order in which they are opened: those of the sites, and with so many joiners those of the joiners
 abbrev pub site_names : List DiskName
 site_names = offset_names ++ retry_names ++ server_names
@@ -56,9 +47,9 @@ joiner_names joiners = take joiners epoch_names_a ++ take joiners epoch_names_b 
 abbrev pub other_names : ℕ → List DiskName
 other_names joiners = site_names ++ replica_names ++ joiner_names joiners
 
--- The fault is of the topology's disk. Or this may have kept a topology or none, with its number of joiners or the asked one,
--- and the fault is of the first of the other disks that wasn't opened.
-abbrev pub IsOfFirstDisk : Bool → (DiskName → List ℕ → Type 0) → ℕ → DisksFault → Type 0
-IsOfFirstDisk tells before asked fault =
-    IsOf name.Topology fault
-    ⊎ ((kept : Option Topology) × (IsTrue tells → IsKeptIn (before name.Topology) (KeepsTopology kept)) × IsOfFirst tells before (other_names (joiners_kept kept asked)) fault)
+-- The disk is the topology's. Or this may have kept a topology or none, with its number of joiners or the asked one, and the disk is
+-- the first of the others that wasn't opened.
+abbrev pub IsFirstDisk : Bool → (DiskName → List ℕ → Type 0) → ℕ → DiskName → Type 0
+IsFirstDisk tells before asked disk =
+    (disk ≡ name.Topology)
+    ⊎ ((kept : Option Topology) × (IsTrue tells → IsKeptIn (before name.Topology) (KeepsTopology kept)) × IsFirst tells before (other_names (joiners_kept kept asked)) disk)

@@ -1,11 +1,12 @@
 -- What the topology's disk may hold once it was written to.
-use Rattle.std.specs.Prelude.{◌≡◌, ◌⊎◌, ℕ, List, Some, ⊤}
+use Rattle.std.specs.Prelude.{◌≡◌, ◌⊎◌, ℕ, List, Some}
 use Rattle.outside.specs.declared.store.DiskName.TheVariants as name
+use Rattle.outside.specs.Faults.{Rose}
 use Rattle.gate_journal.specs.Opening.{IsOpened}
 use Rattle.topology_journal.specs.declared.topology.Topology.{Topology}
 use Rattle.topology_journal.specs.Topologies.{Keeps}
-use Rattle.site_store.specs.declared.disks.fault.DisksFault.{DisksFault}
-use Rattle.site_store.specs.declared.disks.fault.DisksFault.TheVariants as disks
+use Rattle.run_fault.specs.declared.fault.RunFault.{RunFault}
+use Rattle.run_fault.specs.Causes.{IsOfDisk}
 
 -- each image keeps this topology
 abbrev pub AllKeep : Topology → (List ℕ → Type 0) → Type 0
@@ -16,7 +17,5 @@ abbrev pub StaysOrKeeps : (List ℕ → Type 0) → Topology → (List ℕ → T
 StaysOrKeeps old asked new = (c : List ℕ) → new c → IsOpened old c ⊎ Keeps (Some asked) c
 
 -- the topology's record isn't written for want of memory, or because its disk failed
-abbrev pub IsUnwritten : DisksFault → Type 0
-IsUnwritten (disks.Store of) = of ≡ name.Topology
-IsUnwritten (disks.Damaged of at) = ⊥
-IsUnwritten disks.Memory = ⊤
+abbrev pub IsUnwritten : (old new : ℕ) → RunFault → Type 0
+IsUnwritten old new f = IsOfDisk (λ disk. (disk ≡ name.Topology) × Rose old new) (λ disk at. ⊥) f

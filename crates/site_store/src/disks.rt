@@ -2,7 +2,6 @@
 mod all;
 mod asking;
 mod checks;
-mod fault;
 pub mod laws;
 mod names;
 mod open_disk;
@@ -12,8 +11,7 @@ mod votes;
 
 pub use all::{OpenStore, give_back, open_disks};
 pub use asking::ask;
-pub use checks::{Misfit, first_limit, topology_misfit};
-pub use fault::DisksFault;
+pub use checks::{first_limit, topology_misfit};
 pub use open_disk::{AnyJournal, OpenDisk};
 pub use record::write_topology;
 pub use votes::VoteJournal;

@@ -9,10 +9,10 @@ pub mod places;
 mod reading;
 
 pub use disks::{
-    AnyJournal, DisksFault, Misfit, OpenDisk, OpenStore, VoteJournal, ask, first_limit, give_back,
-    open_disks, topology_misfit, write_topology,
+    AnyJournal, OpenDisk, OpenStore, VoteJournal, ask, first_limit, give_back, open_disks,
+    topology_misfit, write_topology,
 };
 pub use lent::{LentDisk, give_all, read_back};
-pub use opening::{Refusal, open_store};
-pub use places::{Misplaced, misplaced_offset, misplaced_pending};
+pub use opening::open_store;
+pub use places::{misplaced_offset, misplaced_pending};
 pub use reading::{KeptStore, read_store};

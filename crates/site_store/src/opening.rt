@@ -1,10 +1,8 @@
 // A store opened for a run of both sites: its disks, what they keep against what is asked, and its topology's record.
 mod asked;
 mod judging;
-mod refusal;
 mod store;
 mod topology;
 
 pub(crate) use asked::open_for;
-pub use refusal::Refusal;
 pub use store::open_store;

@@ -7,8 +7,8 @@ use outside::DiskName;
 use script_lines::{Stop, Words};
 use site_laws::stores::{empty_store, left, longer, opened, run, stays, topology_first};
 use site_store::{
-    KeptStore, Refusal, first_limit, give_back, open_disks, open_store, read_store,
-    topology_misfit, write_topology,
+    KeptStore, first_limit, give_back, open_disks, open_store, read_store, topology_misfit,
+    write_topology,
 };
 use std::alloc::Global;
 use time_shards::Table;
@@ -77,7 +77,10 @@ pub fn misfit(alloc: Global, store: &mut MemStore, words: &mut Words<'_>) -> Res
         None => first_limit(&disks.disks),
     };
     give_back(store, disks);
-    Ok(format!(in alloc; "{misfit:?}")?)
+    match misfit {
+        Some(fault) => told_fault(alloc, fault),
+        None => Ok(format!(in alloc; "None")?),
+    }
 }
 
 /// `record JOINERS TABLE` writes the record of a topology to a store that keeps none.
@@ -99,7 +102,10 @@ pub fn record(alloc: Global, store: &mut MemStore, words: &mut Words<'_>) -> Res
     }
     let written = write_topology(alloc, &mut disks.topology, Topology { joiners, table });
     give_back(store, disks);
-    Ok(format!(in alloc; "{written:?}")?)
+    match written {
+        Ok(()) => Ok(format!(in alloc; "Ok(())")?),
+        Err(fault) => told_fault(alloc, fault),
+    }
 }
 
 /// `open JOINERS TABLE END READ..`: the store is opened over the click log that was gathered, whose last whole line ends there and
@@ -124,7 +130,7 @@ pub fn open(
             give_back(store, disks);
             Ok(format!(in alloc; "open")?)
         }
-        Err(refusal) => told_refusal(alloc, refusal),
+        Err(fault) => told_fault(alloc, fault),
     }
 }
 
@@ -139,7 +145,7 @@ pub fn read(
     let mut clicks = MemLog::new(clicks, words.numbers(alloc)?);
     match read_store(alloc, store, &mut clicks, end) {
         Ok(kept) => told_kept(alloc, &kept),
-        Err(refusal) => told_refusal(alloc, refusal),
+        Err(fault) => told_fault(alloc, fault),
     }
 }
 
@@ -151,20 +157,5 @@ fn told_kept(alloc: Global, kept: &KeptStore) -> Result<String, Stop> {
             Ok(format!(in alloc; "{joiners} joiners, {rows:?} {journals}")?)
         }
         None => Ok(format!(in alloc; "no topology {journals}")?),
-    }
-}
-
-fn told_refusal(alloc: Global, refusal: Refusal) -> Result<String, Stop> {
-    match refusal {
-        Refusal::Disks(fault) => told_fault(alloc, fault),
-        Refusal::Joiners { kept, asked } => Ok(format!(in alloc; "joiners {kept}, asked {asked}")?),
-        Refusal::Table { kept, asked } => {
-            Ok(format!(in alloc; "table {:?}, asked {:?}", kept.rows(), asked.rows())?)
-        }
-        Refusal::Place(misplaced) => Ok(format!(in alloc; "{misplaced:?}")?),
-        Refusal::Limit { disk, value } => Ok(format!(in alloc;
-            "{disk:?} is at its limit {value}"
-        )?),
-        Refusal::Read => Ok(format!(in alloc; "the log isn't read")?),
     }
 }

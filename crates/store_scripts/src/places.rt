@@ -1,7 +1,8 @@
 // Places that a store keeps of the click log.
 use outside::{DiskName, ReadFault};
+use run_fault::Misplaced;
 use script_lines::{Part, ShortLog, Stop, Words, number_of};
-use site_store::{Misplaced, misplaced_offset, misplaced_pending};
+use site_store::{misplaced_offset, misplaced_pending};
 use std::alloc::Global;
 
 /// Each row is the end of the last whole line of the log that was gathered, the kept offsets of both sites, the pending positions

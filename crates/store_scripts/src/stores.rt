@@ -1,12 +1,12 @@
 // Stores of disks in memory.
 use crate::openings;
-use mem_outside::{MemStore, Stop as PlannedStop};
+use mem_outside::{MemSink, MemStore, Stop as PlannedStop};
 use outside::{Disk, DiskName, Store};
 use paxos_acceptor::ReplicaNote;
+use run_fault::{RunFault, tell};
 use script_lines::disks::{disk_name, disk_of, fuse};
 use script_lines::texts::{told_note, told_pair};
 use script_lines::{Part, Stop, Words};
-use site_store::DisksFault;
 use std::alloc::Global;
 use turn_defs::PairRec;
 use verify_pass::Journals;
@@ -104,9 +104,14 @@ fn write(alloc: Global, store: &mut MemStore, words: &mut Words<'_>) -> Result<S
     Ok(written?)
 }
 
-/// A fault of disks.
-pub fn told_fault(alloc: Global, fault: DisksFault) -> Result<String, Stop> {
-    Ok(format!(in alloc; "{fault:?}")?)
+/// A fault's line, without its line feed.
+pub fn told_fault(alloc: Global, fault: RunFault) -> Result<String, Stop> {
+    let mut err = MemSink::new(alloc, 256, Vec::new(alloc))?;
+    let Ok(()) = tell(&mut err, &fault) else {
+        return Err(Stop::Memory);
+    };
+    let line = std::str::from_utf8(err.bytes()).map_err(|_| Stop::Words)?;
+    Ok(line.trim_end().to_string(alloc)?)
 }
 
 /// The notes of each replica, and the pairs of each output.

@@ -1,13 +1,13 @@
 // The command `bulk`, with its exit status.
 ghost use Rattle.std.specs.Prelude.{◌≡◌, ◌≢◌, ◌⊎◌, IsTrue};
 ghost use Rattle.outside.specs.Faults.{Counts, Rose};
-ghost use Rattle.photon_cli.specs.declared.engine.fault.Fault.{Fault as Failure};
 ghost use Rattle.command_words.specs.Words.{AreBulkRanges, bulk_values};
+ghost use Rattle.run_fault.specs.declared.fault.RunFault.{RunFault as Failure};
 ghost use Rattle.photon_cli.specs.Ends.{BulkEnds};
-ghost use Rattle.photon_cli.specs.Faults.{status_of};
+ghost use Rattle.run_fault.specs.Faults.{status_of};
 
 use crate::engine::bulk_totals;
-use crate::tell::{status, tell};
+use crate::tell::give_up;
 use command_words::BulkOptions;
 use outside::{Gate, Sink};
 use site_run::Ran;
@@ -38,9 +38,6 @@ where
 {
     match bulk_totals(rt, alloc, wanted, out, gate, ran) {
         Ok(()) => 0,
-        Err(fault) => {
-            tell(err, &fault);
-            status(&fault)
-        }
+        Err(fault) => give_up(err, &fault),
     }
 }

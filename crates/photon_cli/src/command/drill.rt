@@ -1,13 +1,13 @@
 // The command `drill`, with its exit status.
 ghost use Rattle.std.specs.Prelude.{◌≡◌, ◌≢◌, ◌⊎◌, IsTrue};
 ghost use Rattle.outside.specs.Faults.{Counts, Rose};
-ghost use Rattle.photon_cli.specs.declared.engine.fault.Fault.{Fault as Failure};
-ghost use Rattle.photon_cli.specs.Ends.{DrillEnds};
-ghost use Rattle.photon_cli.specs.Faults.{status_of};
 ghost use Rattle.command_words.specs.Words.{AreInRanges, values_in};
+ghost use Rattle.run_fault.specs.declared.fault.RunFault.{RunFault as Failure};
+ghost use Rattle.photon_cli.specs.Ends.{DrillEnds};
+ghost use Rattle.run_fault.specs.Faults.{status_of};
 
 use crate::engine::drill_logs;
-use crate::tell::{status, tell};
+use crate::tell::give_up;
 use command_words::RunOptions;
 use outside::{Gate, Sink, Source};
 use site_run::Ran;
@@ -43,9 +43,6 @@ where
 {
     match drill_logs(rt, alloc, wanted, plan, files, out, gate, ran) {
         Ok(()) => 0,
-        Err(fault) => {
-            tell(err, &fault);
-            status(&fault)
-        }
+        Err(fault) => give_up(err, &fault),
     }
 }

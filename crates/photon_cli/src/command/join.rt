@@ -2,13 +2,13 @@
 ghost use Rattle.std.specs.Prelude.{◌≡◌, ◌≢◌, ◌⊎◌, IsTrue};
 ghost use Rattle.outside.specs.Faults.{Counts, Rose};
 ghost use Rattle.site_store.specs.Causes.{LeavesSomething};
-ghost use Rattle.photon_cli.specs.declared.engine.fault.Fault.{Fault as Failure};
-ghost use Rattle.photon_cli.specs.Ends.{JoinEnds};
-ghost use Rattle.photon_cli.specs.Faults.{status_of};
 ghost use Rattle.command_words.specs.Words.{AreInRanges, values_in};
+ghost use Rattle.run_fault.specs.declared.fault.RunFault.{RunFault as Failure};
+ghost use Rattle.photon_cli.specs.Ends.{JoinEnds};
+ghost use Rattle.run_fault.specs.Faults.{status_of};
 
 use crate::engine::join_logs;
-use crate::tell::{status, tell};
+use crate::tell::give_up;
 use command_words::RunOptions;
 use outside::{Gate, Sink, Source, Store};
 use site_run::Ran;
@@ -48,9 +48,6 @@ where
 {
     match join_logs(rt, alloc, wanted, state, files, store, out, gate, ran) {
         Ok(()) => 0,
-        Err(fault) => {
-            tell(err, &fault);
-            status(&fault)
-        }
+        Err(fault) => give_up(err, &fault),
     }
 }

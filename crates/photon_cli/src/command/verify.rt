@@ -2,12 +2,12 @@
 ghost use Rattle.std.specs.Prelude.{◌≡◌, ◌≢◌, ◌⊎◌, IsTrue};
 ghost use Rattle.outside.specs.Faults.{Counts, Rose};
 ghost use Rattle.site_store.specs.Causes.{LeavesSomething};
-ghost use Rattle.photon_cli.specs.declared.engine.fault.Fault.{Fault as Failure};
+ghost use Rattle.run_fault.specs.declared.fault.RunFault.{RunFault as Failure};
 ghost use Rattle.photon_cli.specs.Ends.{VerifyEnds};
-ghost use Rattle.photon_cli.specs.Faults.{status_of};
+ghost use Rattle.run_fault.specs.Faults.{status_of};
 
 use crate::engine::verify_store;
-use crate::tell::{status, tell};
+use crate::tell::give_up;
 use outside::{Sink, Source, Store};
 use std::alloc::Global;
 
@@ -32,9 +32,6 @@ pub fn verify_command<F: Source, S: Store, K: Sink>(
     match verify_store(alloc, files, store, clicks, state, out) {
         Ok(true) => 1,
         Ok(false) => 0,
-        Err(fault) => {
-            tell(err, &fault);
-            status(&fault)
-        }
+        Err(fault) => give_up(err, &fault),
     }
 }

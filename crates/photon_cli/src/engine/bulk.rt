@@ -3,15 +3,14 @@ ghost use Rattle.std.specs.Prelude.{◌≡◌, ◌⊎◌, ℕ, ⊤, List, IfErr,
 ghost use Rattle.outside.specs.Faults.{Counts};
 ghost use Rattle.mem_outside.specs.Files.{bytes_under};
 ghost use Rattle.bulk_logs.specs.Bulk.{query_log, click_log};
-ghost use Rattle.photon_cli.specs.declared.engine.fault.Fault.TheVariants as fault;
 ghost use Rattle.command_words.specs.Words.{AreBulkRanges, bulk_values};
+ghost use Rattle.run_fault.specs.declared.fault.RunFault.TheVariants as fault;
+ghost use Rattle.run_fault.specs.Causes.{IsWelcome};
 ghost use Rattle.photon_cli.specs.Bulk.{BeginsBulk, IsBulkRun, PrintsTotals, PrintsTotalsPrefix, bulk_plan, rule};
-ghost use Rattle.photon_cli.specs.LogFaults.{IsEarly, IsFailedRead, IsFair, IsPast};
+ghost use Rattle.photon_cli.specs.LogFaults.{IsEarly, IsFailedRead, IsPast};
 
 use super::drill::drilled_lines;
-use super::fault::Fault;
 use super::table::table_in;
-use crate::tell::status;
 use bulk_logs::laws::{report_kinds, sizes, valid_logs};
 use bulk_logs::make_logs;
 use command_words::{BulkOptions, RunOptions};
@@ -19,7 +18,7 @@ use lossy_link::{Fate, Plan, Rule};
 use mem_outside::{MemFile, MemSource};
 use outside::{Gate, Sink};
 use report_text::write_totals;
-use site_run::{Names, Ran};
+use site_run::{Ran, RunFault, status};
 use std::alloc::{AllocError, Global};
 use std::sync::Wait;
 use std::thread::Threads;
@@ -74,11 +73,11 @@ fn bulk_files(alloc: Global, seed: u64, clicks: u32) -> Result<MemSource, AllocE
 }
 
 // The logs of a bulk run lie in memory, where a read fails only for want of it. No failed read is ever met.
-fn without_reads(told: Fault) -> Fault
+fn without_reads(told: RunFault) -> RunFault
     ensures { ((result ≡ told) × (IsFailedRead told → ⊥)) ⊎ ((result ≡ fault.Memory) × IsFailedRead told) }
 {
     if status(&told) == 4 {
-        return Fault::Memory;
+        return RunFault::Memory;
     }
     told
 }
@@ -93,7 +92,7 @@ pub fn bulk_totals<R, K, G>(
     out: &mut K,
     gate: &G,
     ran: &mut Ran,
-) -> Result<(), Fault>
+) -> Result<(), RunFault>
 where
     R: Threads + Wait + Sync,
     K: Sink,
@@ -105,7 +104,7 @@ where
     ensures quiet { IsTrue K.tells → IfErr result (λ f. (f ≡ fault.Write) ⊎ (K.held out.new ≡ K.held out.old)) }
     ensures begins { ((ran.new ≡ ran.old) × IsErrAnd result (IsEarly (λ f. f ≡ fault.Memory) (bulk_values wanted.now).shards)) ⊎ (BeginsBulk (bulk_values wanted.now) ran.new.log × IfErr result IsPast) }
     ensures reads { IfErr result (λ f. IsFailedRead f → ⊥) }
-    ensures fair { IfErr result (IsFair ⊤) }
+    ensures fair { IfErr result (IsWelcome ⊤) }
     ensures write { Counts (K.faults out.old) (K.faults out.new) (result ≡ Err fault.Write) }
 {
     valid_logs();
@@ -116,11 +115,11 @@ where
         Err(bad) => return Err(bad),
     };
     let Ok(mut files) = bulk_files(alloc, wanted.seed, wanted.clicks) else {
-        return Err(Fault::Memory);
+        return Err(RunFault::Memory);
     };
     let plan = match bulk_plan(alloc) {
         Ok(plan) => plan,
-        Err(_) => return Err(Fault::Memory),
+        Err(_) => return Err(RunFault::Memory),
     };
     let asked = RunOptions {
         queries: "queries",
@@ -136,6 +135,6 @@ where
     };
     match write_totals(out, &lines) {
         Ok(()) => Ok(()),
-        Err(_) => Err(Fault::Write),
+        Err(_) => Err(RunFault::Write),
     }
 }

@@ -8,13 +8,12 @@ ghost use Rattle.log_records.specs.Check.{IsQueryLog, IsClickLog, RefusesQuery, 
 ghost use Rattle.log_records.specs.declared.check.BadLine.{BadLine as Bad};
 ghost use Rattle.photon_cli.specs.declared.log_check.check.CheckFault.TheVariants as check_fault;
 ghost use Rattle.photon_cli.specs.CheckedLogs.{EndsAt};
-ghost use Rattle.site_run.specs.declared.faults.fault.LogName.{LogName as LogKind};
-ghost use Rattle.site_run.specs.declared.faults.fault.LogName.TheVariants.{Queries, Clicks};
-ghost use Rattle.photon_cli.specs.declared.engine.fault.Fault.TheVariants as fault;
+ghost use Rattle.run_fault.specs.declared.fault.LogName.{LogName as LogKind};
+ghost use Rattle.run_fault.specs.declared.fault.LogName.TheVariants.{Queries, Clicks};
+ghost use Rattle.run_fault.specs.declared.fault.RunFault.TheVariants as fault;
 ghost use Rattle.photon_cli.specs.Join.{AreLogs, HasIds, Refuses};
 ghost use Rattle.photon_cli.specs.LogFaults.{IsLogFault, failed_read, refusal_of};
 
-use super::fault::Fault;
 use crate::log_check::{CheckFault, CheckedLog, check_click_log, check_query_log};
 use log_records::{BadLine, Why};
 use outside::{OpenFault, Source};
@@ -27,7 +26,7 @@ pub fn open_log<F: Source>(
     files: &mut F,
     name: &str,
     log: LogName,
-) -> Result<F::Log, Fault>
+) -> Result<F::Log, RunFault>
     ensures bytes { IsTrue F.Log.tells → IfOk result (λ file. IsSomeAnd (F.bytes files.old name.now) (λ bytes. F.Log.bytes file ≡ bytes)) }
     ensures fresh { IfOk result (λ file. F.Log.faults file ≡ 0) }
     ensures same { IsTrue F.Log.tells → (n : List ℕ) → F.bytes files.new n ≡ F.bytes files.old n }
@@ -36,8 +35,8 @@ pub fn open_log<F: Source>(
 {
     match files.open(alloc, name) {
         Ok(file) => Ok(file),
-        Err(OpenFault::Read) => Err(Fault::Run(RunFault::Read(log))),
-        Err(OpenFault::Memory) => Err(Fault::Memory),
+        Err(OpenFault::Read) => Err(RunFault::Read(log)),
+        Err(OpenFault::Memory) => Err(RunFault::Memory),
     }
 }
 
@@ -54,7 +53,7 @@ fn checked_queries<F: Source>(alloc: Global, files: &mut F, file: F::Log) -> Res
 }
 
 /// Checks the whole query log, line by line. No more than a line of it is held in memory.
-pub fn check_queries_in<F: Source>(alloc: Global, files: &mut F, name: &str) -> Result<(), Fault>
+pub fn check_queries_in<F: Source>(alloc: Global, files: &mut F, name: &str) -> Result<(), RunFault>
     ensures found { IsTrue F.Log.tells → OnOk result (IsSomeAnd (F.bytes files.old name.now) (λ log. (qs : List Query) × IsQueryLog log qs)) }
     ensures refused { IsTrue F.Log.tells → (line : ℕ) (w : Reason) → result ≡ Err (fault.Refused Queries line w) → IsSomeAnd (F.bytes files.old name.now) (λ log. RefusesQuery log (record { line = line; why = w })) }
     ensures same { IsTrue F.Log.tells → (n : List ℕ) → F.bytes files.new n ≡ F.bytes files.old n }
@@ -65,8 +64,8 @@ pub fn check_queries_in<F: Source>(alloc: Global, files: &mut F, name: &str) -> 
     match checked_queries(alloc, files, file) {
         Ok(_) => Ok(()),
         Err(CheckFault::Refused(bad)) => Err(refused(LogName::Queries, bad)),
-        Err(CheckFault::Read) => Err(Fault::Run(RunFault::Read(LogName::Queries))),
-        Err(CheckFault::Memory) => Err(Fault::Memory),
+        Err(CheckFault::Read) => Err(RunFault::Read(LogName::Queries)),
+        Err(CheckFault::Memory) => Err(RunFault::Memory),
     }
 }
 
@@ -93,7 +92,7 @@ pub fn clicks_in_log<F: Source>(
     alloc: Global,
     files: &mut F,
     name: &str,
-) -> Result<CheckedLog, Fault>
+) -> Result<CheckedLog, RunFault>
     ensures found { IsTrue F.Log.tells → IfOk result (λ checked. IsSomeAnd (F.bytes files.old name.now) (λ log. HasIds log checked.ids.items)) }
     ensures end { IsTrue F.Log.tells → IfOk result (λ checked. IsSomeAnd (F.bytes files.old name.now) (λ log. EndsAt log checked.lines_end)) }
     ensures refused { IsTrue F.Log.tells → (line : ℕ) (w : Reason) → result ≡ Err (fault.Refused Clicks line w) → IsSomeAnd (F.bytes files.old name.now) (λ log. RefusesClick log (record { line = line; why = w })) }
@@ -105,8 +104,8 @@ pub fn clicks_in_log<F: Source>(
     match checked_clicks(alloc, files, file) {
         Ok(checked) => Ok(checked),
         Err(CheckFault::Refused(bad)) => Err(refused(LogName::Clicks, bad)),
-        Err(CheckFault::Read) => Err(Fault::Run(RunFault::Read(LogName::Clicks))),
-        Err(CheckFault::Memory) => Err(Fault::Memory),
+        Err(CheckFault::Read) => Err(RunFault::Read(LogName::Clicks)),
+        Err(CheckFault::Memory) => Err(RunFault::Memory),
     }
 }
 
@@ -116,7 +115,7 @@ pub fn checked_logs<F: Source>(
     files: &mut F,
     queries: &str,
     clicks: &str,
-) -> Result<CheckedLog, Fault>
+) -> Result<CheckedLog, RunFault>
     ensures valid { IsTrue F.Log.tells → IfOk result (λ checked. (qs : List Query) × (cs : List Click) × AreLogs (F.bytes files.old) queries.now clicks.now qs cs × (checked.ids.items ≡ map (λ (c : Click). c.id) cs)) }
     ensures end { IsTrue F.Log.tells → IfOk result (λ checked. IsSomeAnd (F.bytes files.old clicks.now) (λ log. EndsAt log checked.lines_end)) }
     ensures refused { IsTrue F.Log.tells → (log : LogKind) (line : ℕ) (w : Reason) → result ≡ Err (fault.Refused log line w)
@@ -130,12 +129,12 @@ pub fn checked_logs<F: Source>(
     Ok(checked)
 }
 
-fn refused(log: LogName, bad: BadLine) -> Fault
+fn refused(log: LogName, bad: BadLine) -> RunFault
     ensures { result ≡ refusal_of log bad }
 {
     match bad.why {
-        Why::Memory => Fault::Memory,
-        why => Fault::Refused {
+        Why::Memory => RunFault::Memory,
+        why => RunFault::Refused {
             log,
             line: bad.line,
             why,

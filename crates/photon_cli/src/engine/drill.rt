@@ -6,24 +6,24 @@ ghost use Rattle.std.specs.List.{list_any};
 ghost use Rattle.outside.specs.declared.store.DiskName.{DiskName};
 ghost use Rattle.outside.specs.Faults.{Counts};
 ghost use Rattle.mem_outside.specs.Plan.{is_planned};
+ghost use Rattle.command_words.specs.Words.{AreInRanges, values_in};
+ghost use Rattle.run_fault.specs.Causes.{IsWelcome};
 ghost use Rattle.photon_cli.specs.Planned.{planned_for};
 ghost use Rattle.time_shards.specs.Shards.{IsTable};
 ghost use Rattle.lossy_link.specs.Fates.{PlanView};
 ghost use Rattle.lossy_link.specs.declared.bad_plan.Field.{Field as Place};
 ghost use Rattle.log_records.specs.declared.why.Why.{Why as Reason};
-ghost use Rattle.site_run.specs.declared.faults.fault.LogName.{LogName as LogKind};
+ghost use Rattle.run_fault.specs.declared.fault.LogName.{LogName as LogKind};
 ghost use Rattle.site_laws.specs.Laws.{made_by};
 ghost use Rattle.site_workers.specs.Works.{is_stop};
 ghost use Rattle.site_run.specs.Asked.{OfSetting};
-ghost use Rattle.photon_cli.specs.declared.engine.fault.Fault.TheVariants as fault;
+ghost use Rattle.run_fault.specs.declared.fault.RunFault.TheVariants as fault;
 ghost use Rattle.photon_cli.specs.Drill.{BeginsDrill, Drills, HasDrilled, IsBadIn, IsDrilled, IsPlanIn, PrintsDrill, PrintsDrillPrefix};
 ghost use Rattle.photon_cli.specs.Join.{AreValid, HaveIds, IsHeard, Refuses};
-ghost use Rattle.photon_cli.specs.LogFaults.{IsBeforeLogs, IsEarly, IsFailedRead, IsFair, IsOfLogs, IsOfPlanOrLogs, IsOfRun, IsPast, failed_read};
-ghost use Rattle.command_words.specs.Words.{AreInRanges, values_in};
+ghost use Rattle.photon_cli.specs.LogFaults.{IsBeforeLogs, IsEarly, IsFailedRead, IsOfLogs, IsOfPlanOrLogs, IsOfRun, IsPast, failed_read};
 ghost use Rattle.photon_cli.specs.Words.{IsTextOf};
 
 use super::checked::checked_logs;
-use super::fault::Fault;
 use super::plan::plan_in_file;
 use super::run::run_lines;
 use super::table::table_in;
@@ -36,7 +36,7 @@ use mem_outside::MemStore;
 use outside::{Gate, Sink, Source, Store};
 use report_text::write_report;
 use site_laws::stores::empty_store;
-use site_run::{Config, Names, Ran};
+use site_run::{Config, Names, Ran, RunFault};
 use std::alloc::Global;
 use std::sync::Wait;
 use std::thread::Threads;
@@ -75,7 +75,7 @@ fn drill_lines<R, F, G>(
     store: &mut MemStore,
     gate: &G,
     ran: &mut Ran,
-) -> Result<Vec<ReportLine>, Fault>
+) -> Result<Vec<ReportLine>, RunFault>
 where
     R: Threads + Wait + Sync,
     F: Source,
@@ -88,7 +88,7 @@ where
     requires batch { config.now.batch ≤ MOST_INSERTS }
     ensures drilled { IsTrue F.Log.tells → OfSetting (F.bytes files.old) names.now.queries.now names.now.clicks.now config.now clicks.now.lines_end (λ g. HaveIds g clicks.now.ids.items
         → IfOk result (λ lines. IsSomeAnd ran.new.log (IsDrilled g plan lines.items))) }
-    ensures fair { IsTrue F.Log.tells → OfSetting (F.bytes files.old) names.now.queries.now names.now.clicks.now config.now clicks.now.lines_end (λ g. IfErr result (IsFair ⊤)) }
+    ensures fair { IsTrue F.Log.tells → OfSetting (F.bytes files.old) names.now.queries.now names.now.clicks.now config.now clicks.now.lines_end (λ g. IfErr result (IsWelcome ⊤)) }
     ensures heard { IfSome ran.new.log (IsHeard plan) }
     ensures cause { IfErr result IsOfRun }
     ensures count { Counts (F.faults files.old) (F.faults files.new) ((log : LogKind) × (result ≡ Err (failed_read log))) }
@@ -102,7 +102,7 @@ where
         Err(fault) => return Err(fault),
     };
     if is_unplanned(spared, ran) {
-        return Err(Fault::Memory);
+        return Err(RunFault::Memory);
     }
     Ok(lines)
 }
@@ -118,7 +118,7 @@ pub fn drilled_lines<R, F, G>(
     files: &mut F,
     gate: &G,
     ran: &mut Ran,
-) -> Result<Vec<ReportLine>, Fault>
+) -> Result<Vec<ReportLine>, RunFault>
 where
     R: Threads + Wait + Sync,
     F: Source,
@@ -131,7 +131,7 @@ where
         → Refuses (F.bytes files.old) (values_in wanted.now).queries (values_in wanted.now).clicks log (record { line = line; why = w }) }
     ensures begins { ((ran.new ≡ ran.old) × IsErrAnd result IsOfLogs)
         ⊎ ((IsTrue F.Log.tells → AreValid (F.bytes files.old) (values_in wanted.now).queries (values_in wanted.now).clicks) × IfSome ran.new.log (IsHeard plan) × IfErr result IsOfRun) }
-    ensures fair { IsTrue F.Log.tells → IfErr result (IsFair ⊤) }
+    ensures fair { IsTrue F.Log.tells → IfErr result (IsWelcome ⊤) }
     ensures count { Counts (F.faults files.old) (F.faults files.new) ((log : LogKind) × (result ≡ Err (failed_read log))) }
 {
     let clicks = match checked_logs(alloc, files, wanted.queries, wanted.clicks) {
@@ -139,7 +139,7 @@ where
         Err(fault) => return Err(fault),
     };
     let Ok(mut store) = store_for(alloc, &plan, wanted.joiners) else {
-        return Err(Fault::Memory);
+        return Err(RunFault::Memory);
     };
     let names = Names {
         queries: wanted.queries,
@@ -167,7 +167,7 @@ pub fn drill_logs<R, F, K, G>(
     out: &mut K,
     gate: &G,
     ran: &mut Ran,
-) -> Result<(), Fault>
+) -> Result<(), RunFault>
 where
     R: Threads + Wait + Sync,
     F: Source,
@@ -195,7 +195,7 @@ where
 
     // The other faults come only where a count rose, but for want of memory and what goes wrong by the plan. The store that it
     // makes is never one for another table, other places or other joiners.
-    ensures fair { IsTrue F.Log.tells → IfErr result (IsFair ⊤) }
+    ensures fair { IsTrue F.Log.tells → IfErr result (IsWelcome ⊤) }
     ensures read { Counts (F.faults files.old) (F.faults files.new) (IsErrAnd result IsFailedRead) }
     ensures write { Counts (K.faults out.old) (K.faults out.new) (result ≡ Err fault.Write) }
 {
@@ -213,6 +213,6 @@ where
     };
     match write_report(out, &lines) {
         Ok(()) => Ok(()),
-        Err(_) => Err(Fault::Write),
+        Err(_) => Err(RunFault::Write),
     }
 }

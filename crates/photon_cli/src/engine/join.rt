@@ -3,29 +3,27 @@ ghost use Rattle.std.specs.Prelude.{◌≡◌, ◌⊎◌, ℕ, List, IfErr, IfSo
 ghost use Rattle.outside.specs.declared.store.DiskName.{DiskName};
 ghost use Rattle.outside.specs.Faults.{Counts, Rose};
 ghost use Rattle.log_records.specs.declared.why.Why.{Why as Reason};
-ghost use Rattle.site_run.specs.declared.faults.fault.LogName.{LogName as LogKind};
-ghost use Rattle.site_run.specs.declared.faults.fault.StorePlace.{StorePlace};
-ghost use Rattle.site_run.specs.declared.faults.fault.RunFault.TheVariants as cause;
+ghost use Rattle.run_fault.specs.declared.fault.LogName.{LogName as LogKind};
+ghost use Rattle.run_fault.specs.declared.fault.StorePlace.{StorePlace};
 ghost use Rattle.turn_defs.specs.Setting.{Setting};
 ghost use Rattle.gate_journal.specs.Images.{GoesOn};
 ghost use Rattle.site_laws.specs.Stores.{IsSoundStore};
 ghost use Rattle.site_store.specs.Causes.{LeavesSomething};
-ghost use Rattle.photon_cli.specs.declared.engine.fault.Fault.TheVariants as fault;
-ghost use Rattle.site_run.specs.Refused.{HasPassed};
-ghost use Rattle.photon_cli.specs.Causes.{HasCause};
-ghost use Rattle.photon_cli.specs.LogFaults.{IsEarly, IsFailedRead, IsFair, IsOfLogs, IsPast};
+ghost use Rattle.run_fault.specs.declared.fault.RunFault.TheVariants as fault;
+ghost use Rattle.site_run.specs.Refused.{HasPassed, IsCauseOf};
+ghost use Rattle.run_fault.specs.Causes.{IsWelcome};
+ghost use Rattle.photon_cli.specs.LogFaults.{IsEarly, IsFailedRead, IsOfLogs, IsPast};
 ghost use Rattle.photon_cli.specs.Join.{BeginsJoin, HasRun, IsAsked, IsHistory, Prints, PrintsAfresh, PrintsPrefix, Refuses, no_plan};
 ghost use Rattle.command_words.specs.Words.{AreInRanges, values_in};
 
 use super::checked::checked_logs;
-use super::fault::Fault;
 use super::run::run_lines;
 use super::table::table_in;
 use command_words::RunOptions;
 use lossy_link::Plan;
 use outside::{Gate, Sink, Source, Store};
 use report_text::write_report;
-use site_run::{Config, Names, Ran};
+use site_run::{Config, Names, Ran, RunFault};
 use std::alloc::Global;
 use std::sync::Wait;
 use std::thread::Threads;
@@ -43,7 +41,7 @@ pub fn join_logs<R, F, S, K, G>(
     out: &mut K,
     gate: &G,
     ran: &mut Ran,
-) -> Result<(), Fault>
+) -> Result<(), RunFault>
 where
     R: Threads + Wait + Sync,
     F: Source,
@@ -75,15 +73,15 @@ where
 
     // The other faults come only where a count rose, but for want of memory and what the disks keep.
     ensures read { Counts (F.faults files.old) (F.faults files.new) (IsErrAnd result IsFailedRead) }
-    ensures disks { Counts (S.faults store.old) (S.faults store.new) ((place : StorePlace) × (result ≡ Err (fault.Run (cause.Store place)))) }
+    ensures disks { Counts (S.faults store.old) (S.faults store.new) ((place : StorePlace) × (result ≡ Err (fault.Store place))) }
     ensures write { Counts (K.faults out.old) (K.faults out.new) (result ≡ Err fault.Write) }
 
     // A sound store stays sound, loses no records, and is welcome where a stop leaves something of each disk.
     ensures sound { IsTrue S.Disk.tells → IsTrue F.Log.tells → (g : Setting) → IsAsked (F.bytes files.old) (values_in wanted.now) g → IsSoundStore g (S.image store.old) → IsSoundStore g (S.image store.new) }
     ensures grown { IsTrue S.Disk.tells → IsTrue F.Log.tells → (g : Setting) → IsAsked (F.bytes files.old) (values_in wanted.now) g → (disk : DiskName) → GoesOn (S.image store.old disk) (S.image store.new disk) }
-    ensures welcome { IsTrue S.Disk.tells → IsTrue F.Log.tells → (g : Setting) → IsAsked (F.bytes files.old) (values_in wanted.now) g → IsSoundStore g (S.image store.old) → IfErr result (IsFair ((s : S) → LeavesSomething g (S.image s))) }
+    ensures welcome { IsTrue S.Disk.tells → IsTrue F.Log.tells → (g : Setting) → IsAsked (F.bytes files.old) (values_in wanted.now) g → IsSoundStore g (S.image store.old) → IfErr result (IsWelcome ((s : S) → LeavesSomething g (S.image s))) }
     // Each fault of the run has its cause, and where the report was to be written the disks had kept what can be run.
-    ensures caused { IsTrue S.Disk.tells → IsTrue F.Log.tells → (g : Setting) → IsAsked (F.bytes files.old) (values_in wanted.now) g → IfErr result (HasCause g (S.image store.old) (Rose (F.faults files.old) (F.faults files.new)) (Rose (S.faults store.old) (S.faults store.new))) }
+    ensures caused { IsTrue S.Disk.tells → IsTrue F.Log.tells → (g : Setting) → IsAsked (F.bytes files.old) (values_in wanted.now) g → IfErr result (IsCauseOf g (S.image store.old) (Rose (F.faults files.old) (F.faults files.new)) (Rose (S.faults store.old) (S.faults store.new))) }
     ensures passed { IsTrue S.Disk.tells → IsTrue F.Log.tells → (g : Setting) → IsAsked (F.bytes files.old) (values_in wanted.now) g → OnOk result (HasPassed g (S.image store.old)) }
 {
     let table = match table_in(wanted.shards) {
@@ -114,6 +112,6 @@ where
     };
     match write_report(out, &lines) {
         Ok(()) => Ok(()),
-        Err(_) => Err(Fault::Write),
+        Err(_) => Err(RunFault::Write),
     }
 }

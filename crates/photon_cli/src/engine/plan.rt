@@ -4,27 +4,26 @@ ghost use Rattle.outside.specs.Faults.{Counts};
 ghost use Rattle.lossy_link.specs.Fates.{PlanView};
 ghost use Rattle.lossy_link.specs.Plans.{size_limit};
 ghost use Rattle.lossy_link.specs.declared.bad_plan.Field.{Field as Place};
-ghost use Rattle.photon_cli.specs.declared.engine.fault.Fault.TheVariants as fault;
-ghost use Rattle.photon_cli.specs.declared.engine.read.ReadError.TheVariants.{Read};
+ghost use Rattle.run_fault.specs.declared.fault.RunFault.TheVariants as fault;
+ghost use Rattle.outside.specs.declared.faults.OpenFault.TheVariants.{Read};
 ghost use Rattle.photon_cli.specs.Drill.{IsBadIn, IsPlanIn};
 ghost use Rattle.photon_cli.specs.LogFaults.{IsPlanFault, IsToldOfPlan};
 
-use super::fault::Fault;
-use super::read::{ReadError, read_front};
+use super::read::read_front;
 use lossy_link::{BadPlan, MOST_BYTES, Plan};
 use outside::{OpenFault, Source};
+use site_run::RunFault;
 use std::alloc::Global;
 
 // The bytes of the file of that name, and of more than a plan may have the first byte too many.
-fn read_file<F: Source>(alloc: Global, files: &mut F, name: &str) -> Result<Vec<u8>, ReadError>
+fn read_file<F: Source>(alloc: Global, files: &mut F, name: &str) -> Result<Vec<u8>, OpenFault>
     ensures bytes { IsTrue F.Log.tells → IfOk result (λ v. IsSomeAnd (F.bytes files.old name.now) (λ bytes. v.items ≡ take (size_limit + 1) bytes)) }
     ensures same { IsTrue F.Log.tells → (n : List ℕ) → F.bytes files.new n ≡ F.bytes files.old n }
     ensures count { Counts (F.faults files.old) (F.faults files.new) (result ≡ Err Read) }
 {
     let mut file = match files.open(alloc, name) {
         Ok(file) => file,
-        Err(OpenFault::Read) => return Err(ReadError::Read),
-        Err(OpenFault::Memory) => return Err(ReadError::Memory),
+        Err(fault) => return Err(fault),
     };
     let read = read_front(alloc, &mut file, MOST_BYTES + 1);
     files.shut(file);
@@ -33,7 +32,7 @@ fn read_file<F: Source>(alloc: Global, files: &mut F, name: &str) -> Result<Vec<
 
 /// The plan that the file of that name holds. It reads the file in pieces of 64 KiB, and no further than to the first byte that
 /// a plan hasn't.
-pub fn plan_in_file<F: Source>(alloc: Global, files: &mut F, name: &str) -> Result<Plan, Fault>
+pub fn plan_in_file<F: Source>(alloc: Global, files: &mut F, name: &str) -> Result<Plan, RunFault>
     ensures plan { IsTrue F.Log.tells → IfOk result (λ p. IsPlanIn (F.bytes files.old) name.now p) }
     ensures place { IsTrue F.Log.tells → (at : Place) → result ≡ Err (fault.Plan at) → IsBadIn (F.bytes files.old) name.now at }
     ensures refused { IsTrue F.Log.tells → (at : Place) → IsBadIn (F.bytes files.old) name.now at → IsErrAnd result (IsToldOfPlan at) }
@@ -44,12 +43,12 @@ pub fn plan_in_file<F: Source>(alloc: Global, files: &mut F, name: &str) -> Resu
 {
     let bytes = match read_file(alloc, files, name) {
         Ok(bytes) => bytes,
-        Err(ReadError::Read) => return Err(Fault::PlanRead),
-        Err(ReadError::Memory) => return Err(Fault::Memory),
+        Err(OpenFault::Read) => return Err(RunFault::PlanRead),
+        Err(OpenFault::Memory) => return Err(RunFault::Memory),
     };
     match Plan::read(alloc, &bytes) {
         Ok(plan) => Ok(plan),
-        Err(BadPlan::At(place)) => Err(Fault::Plan(place)),
-        Err(BadPlan::Memory) => Err(Fault::Memory),
+        Err(BadPlan::At(place)) => Err(RunFault::Plan(place)),
+        Err(BadPlan::Memory) => Err(RunFault::Memory),
     }
 }

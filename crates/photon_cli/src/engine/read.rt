@@ -1,24 +1,16 @@
 // The front of a log, read into memory.
 ghost use Rattle.std.specs.Prelude.{◌≡◌, ◌≤◌, ◌<◌, ◌+◌, ◌++◌, ◌^◌, ℕ, List, length, take, drop, vec_len, IfOk, IsTrue, Err};
 ghost use Rattle.outside.specs.Faults.{Counts};
-ghost use Rattle.photon_cli.specs.declared.engine.read.ReadError.TheVariants.{Read};
+ghost use Rattle.outside.specs.declared.faults.OpenFault.TheVariants.{Read};
 
-use outside::{LogFile, ReadFault};
-use std::alloc::{AllocError, Global};
+use outside::{LogFile, OpenFault};
+use std::alloc::Global;
 
 /// How many bytes are asked for at once.
 const PIECE: usize = 1 << 16;
 
-/// Why a log isn't read whole.
-#[derive(Clone, Copy, Debug, PartialEq, Eq)]
-pub enum ReadError {
-    Read,
-    /// There was no memory. No clause says when.
-    Memory,
-}
-
 /// The first bytes of the log, at most so many, which it reads in pieces of 64 KiB. It reads no byte behind them.
-pub fn read_front<L: LogFile>(alloc: Global, log: &mut L, most: usize) -> Result<Vec<u8>, ReadError>
+pub fn read_front<L: LogFile>(alloc: Global, log: &mut L, most: usize) -> Result<Vec<u8>, OpenFault>
     ensures bytes { IsTrue L.tells → IfOk result (λ v. v.items ≡ take most (L.bytes log.old)) }
     ensures same { IsTrue L.tells → L.bytes log.new ≡ L.bytes log.old }
     ensures count { Counts (L.faults log.old) (L.faults log.new) (result ≡ Err Read) }
@@ -35,7 +27,7 @@ pub fn read_front<L: LogFile>(alloc: Global, log: &mut L, most: usize) -> Result
 
 // Reads the next piece behind the bytes, of which there are at most so many then, and answers its length: 0 exactly at the
 // log's end.
-fn read_piece<L: LogFile>(log: &mut L, bytes: &mut Vec<u8>, most: usize) -> Result<usize, ReadError>
+fn read_piece<L: LogFile>(log: &mut L, bytes: &mut Vec<u8>, most: usize) -> Result<usize, OpenFault>
     requires { length bytes.old.items < most }
     ensures len { IfOk result (λ n. (length bytes.new.items ≡ length bytes.old.items + n) × (length bytes.new.items ≤ most)) }
     ensures piece { IsTrue L.tells → IfOk result (λ n. let rest = drop (length bytes.old.items) (L.bytes log.old) in (n ≤ length rest) × (bytes.new.items ≡ bytes.old.items ++ take n rest)) }
@@ -46,13 +38,13 @@ fn read_piece<L: LogFile>(log: &mut L, bytes: &mut Vec<u8>, most: usize) -> Resu
     let len = bytes.len();
     let room = PIECE.min(most - len);
     if bytes.resize(len + room, 0).is_err() {
-        return Err(ReadError::Memory);
+        return Err(OpenFault::Memory);
     }
     match log.read_at(len as u64, &mut bytes[len..]) {
         Ok(n) => {
             bytes.truncate(len + n);
             Ok(n)
         }
-        Err(_) => Err(ReadError::Read),
+        Err(_) => Err(OpenFault::Read),
     }
 }

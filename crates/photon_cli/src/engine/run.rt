@@ -12,18 +12,16 @@ ghost use Rattle.site_store.specs.Causes.{LeavesSomething};
 ghost use Rattle.site_run.specs.Asked.{OfSetting};
 ghost use Rattle.site_run.specs.Joined.{Joins, JoinsAfresh, RanAfresh};
 ghost use Rattle.site_run.specs.Left.{RunLeft};
-ghost use Rattle.site_run.specs.Refused.{HasPassed};
-ghost use Rattle.photon_cli.specs.Causes.{HasCause};
+ghost use Rattle.site_run.specs.Refused.{HasPassed, IsCauseOf};
+ghost use Rattle.run_fault.specs.Causes.{IsCounted, IsWelcome};
 ghost use Rattle.photon_cli.specs.Join.{HaveIds, IsHeard};
-ghost use Rattle.photon_cli.specs.LogFaults.{IsLate, IsFair};
 
-use super::fault::Fault;
 use crate::log_check::CheckedLog;
 use log_records::ReportLine;
 use lossy_link::Plan;
 use outside::{Gate, Source, Store};
 use site_run::meaning::means;
-use site_run::{Config, Names, Outcome, Ran, run_sites};
+use site_run::{Config, Names, Outcome, Ran, RunFault, run_sites};
 use std::alloc::Global;
 use std::sync::Wait;
 use std::thread::Threads;
@@ -42,7 +40,7 @@ pub fn run_lines<R, F, S, G>(
     store: &mut S,
     gate: &G,
     ran: &mut Ran,
-) -> Result<Vec<ReportLine>, Fault>
+) -> Result<Vec<ReportLine>, RunFault>
 where
     R: Threads + Wait + Sync,
     F: Source,
@@ -69,9 +67,9 @@ where
         → IfOk result (λ lines. IsSomeAnd ran.new.log (λ l. RanAfresh g l.air.history lines.items))) }
     ensures heard { IfSome ran.new.log (IsHeard plan) }
 
-    ensures cause { IfErr result (IsLate (Rose (F.faults files.old) (F.faults files.new)) (Rose (S.faults store.old) (S.faults store.new))) }
-    ensures welcome { IsTrue S.Disk.tells → IsTrue F.Log.tells → OfSetting (F.bytes files.old) names.now.queries.now names.now.clicks.now config.now clicks.now.lines_end (λ g. IsSoundStore g (S.image store.old) → IfErr result (IsFair ((s : S) → LeavesSomething g (S.image s)))) }
-    ensures caused { IsTrue S.Disk.tells → IsTrue F.Log.tells → OfSetting (F.bytes files.old) names.now.queries.now names.now.clicks.now config.now clicks.now.lines_end (λ g. IfErr result (HasCause g (S.image store.old) (Rose (F.faults files.old) (F.faults files.new)) (Rose (S.faults store.old) (S.faults store.new)))) }
+    ensures cause { IfErr result (IsCounted (Rose (F.faults files.old) (F.faults files.new)) (Rose (S.faults store.old) (S.faults store.new))) }
+    ensures welcome { IsTrue S.Disk.tells → IsTrue F.Log.tells → OfSetting (F.bytes files.old) names.now.queries.now names.now.clicks.now config.now clicks.now.lines_end (λ g. IsSoundStore g (S.image store.old) → IfErr result (IsWelcome ((s : S) → LeavesSomething g (S.image s)))) }
+    ensures caused { IsTrue S.Disk.tells → IsTrue F.Log.tells → OfSetting (F.bytes files.old) names.now.queries.now names.now.clicks.now config.now clicks.now.lines_end (λ g. IfErr result (IsCauseOf g (S.image store.old) (Rose (F.faults files.old) (F.faults files.new)) (Rose (S.faults store.old) (S.faults store.new)))) }
     ensures passed { IsTrue S.Disk.tells → IsTrue F.Log.tells → OfSetting (F.bytes files.old) names.now.queries.now names.now.clicks.now config.now clicks.now.lines_end (λ g. OnOk result (HasPassed g (S.image store.old))) }
     ensures file_count { F.faults files.old ≤ F.faults files.new }
     ensures store_count { S.faults store.old ≤ S.faults store.new }
@@ -90,10 +88,10 @@ where
         ran,
     ) {
         Ok(Outcome { journals }) => journals,
-        Err(cause) => return Err(Fault::Run(cause)),
+        Err(fault) => return Err(fault),
     };
     match classify(alloc, &clicks.ids, &journals, &config.table) {
         Ok(lines) => Ok(lines),
-        Err(_) => Err(Fault::Memory),
+        Err(_) => Err(RunFault::Memory),
     }
 }

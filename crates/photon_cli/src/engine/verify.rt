@@ -11,28 +11,26 @@ ghost use Rattle.log_records.specs.Check.{RefusesClick};
 ghost use Rattle.log_records.specs.Lines.{end_from};
 ghost use Rattle.log_records.specs.Report.{distinct, is_missing};
 ghost use Rattle.log_records.specs.declared.report.ReportLine.TheVariants.{U};
-ghost use Rattle.site_run.specs.declared.faults.fault.LogName.TheVariants.{Clicks};
-ghost use Rattle.site_run.specs.declared.faults.fault.StorePlace.{StorePlace as Place};
-ghost use Rattle.site_run.specs.declared.faults.fault.RunFault.TheVariants as cause;
+ghost use Rattle.run_fault.specs.declared.fault.LogName.TheVariants.{Clicks};
+ghost use Rattle.run_fault.specs.declared.fault.StorePlace.{StorePlace as Place};
 ghost use Rattle.topology_journal.specs.declared.topology.Topology.{Topology as KeptTopology};
 ghost use Rattle.turn_defs.specs.Setting.{Setting};
 ghost use Rattle.gate_journal.specs.Images.{StaysAs};
 ghost use Rattle.site_laws.specs.Stores.{IsSoundStore};
 ghost use Rattle.site_store.specs.Causes.{LeavesSomething};
-ghost use Rattle.site_run.specs.Causes.{of_place};
 ghost use Rattle.verify_pass.specs.Classes.{line_of};
-ghost use Rattle.photon_cli.specs.declared.engine.fault.Fault.TheVariants as fault;
+ghost use Rattle.run_fault.specs.declared.fault.RunFault.TheVariants as fault;
+ghost use Rattle.run_fault.specs.Causes.{IsWelcome};
 ghost use Rattle.photon_cli.specs.Causes.{CanBeRead, HasCauseInVerify, IsOverLog};
-ghost use Rattle.photon_cli.specs.LogFaults.{IsFailedRead, IsFair, IsLogFault, IsOfRun, IsPast};
+ghost use Rattle.photon_cli.specs.LogFaults.{IsFailedRead, IsLogFault, IsOfRun, IsPast};
 ghost use Rattle.photon_cli.specs.Verify.{IsReadFrom, IsReadable, PrintsKept, PrintsKeptPrefix};
 
 use super::checked::{clicks_in_log, open_log};
-use super::fault::Fault;
 use event_id::EventId;
 use log_records::ReportLine;
-use outside::{Sink, Source, Store, StoreFault};
+use outside::{Sink, Source, Store};
 use report_text::write_report;
-use site_run::{LogName, RunFault, StorePlace, fault_of_refusal};
+use site_run::{LogName, RunFault};
 use site_store::{KeptStore, read_store};
 use std::alloc::{AllocError, Global};
 use time_shards::Table;
@@ -90,15 +88,6 @@ fn kept_lines(
     }
 }
 
-fn fault_of_place(cause: StoreFault) -> Fault
-    ensures { result ≡ fault.Run (of_place cause) }
-{
-    match cause {
-        StoreFault::Disk => Fault::Run(RunFault::Store(StorePlace::Directory)),
-        StoreFault::Memory => Fault::Run(RunFault::Memory),
-    }
-}
-
 // Reads what the store in this directory keeps, over the click log of that name, whose last whole line ends at `end`.
 fn kept_store<F: Source, S: Store>(
     alloc: Global,
@@ -107,16 +96,16 @@ fn kept_store<F: Source, S: Store>(
     clicks: &str,
     state: &str,
     end: u64,
-) -> Result<KeptStore, Fault>
+) -> Result<KeptStore, RunFault>
     ensures read { IsTrue S.Disk.tells → IsTrue F.Log.tells → IfOk result (λ k. IsSomeAnd (F.bytes files.old clicks.now) (λ log. IsReadFrom (S.image store.old) log k)) }
     ensures stays { IsTrue S.Disk.tells → (disk : DiskName) → StaysAs (S.image store.old disk) (S.image store.new disk) }
     ensures sound { IsTrue S.Disk.tells → (g : Setting) → IsSoundStore g (S.image store.old) → IsSoundStore g (S.image store.new) }
     ensures cause { IfErr result IsOfRun }
     ensures caused { IsTrue S.Disk.tells → IsTrue F.Log.tells → (g : Setting) → IsOverLog (F.bytes files.old) clicks.now g → end ≡ end_from 0 g.clicks → IfErr result (HasCauseInVerify g (S.image store.old) (Rose (F.faults files.old) (F.faults files.new)) (Rose (S.faults store.old) (S.faults store.new))) }
     ensures passed { IsTrue S.Disk.tells → IsTrue F.Log.tells → (g : Setting) → IsOverLog (F.bytes files.old) clicks.now g → end ≡ end_from 0 g.clicks → OnOk result (CanBeRead g (S.image store.old)) }
-    ensures welcome { IsTrue S.Disk.tells → IsTrue F.Log.tells → (g : Setting) → IsOverLog (F.bytes files.old) clicks.now g → end ≡ end_from 0 g.clicks → g.replicas ≡ 3 → g.joiners ≤ MOST_JOINERS → ((s : S) → LeavesSomething g (S.image s)) → IsSoundStore g (S.image store.old) → IfErr result (IsFair ⊤) }
+    ensures welcome { IsTrue S.Disk.tells → IsTrue F.Log.tells → (g : Setting) → IsOverLog (F.bytes files.old) clicks.now g → end ≡ end_from 0 g.clicks → g.replicas ≡ 3 → g.joiners ≤ MOST_JOINERS → ((s : S) → LeavesSomething g (S.image s)) → IsSoundStore g (S.image store.old) → IfErr result (IsWelcome ⊤) }
     ensures log_count { Counts (F.faults files.old) (F.faults files.new) (IsErrAnd result IsFailedRead) }
-    ensures count { Counts (S.faults store.old) (S.faults store.new) ((place : Place) × (result ≡ Err (fault.Run (cause.Store place)))) }
+    ensures count { Counts (S.faults store.old) (S.faults store.new) ((place : Place) × (result ≡ Err (fault.Store place))) }
 {
     let mut log = match open_log(alloc, files, clicks, LogName::Clicks) {
         Ok(log) => log,
@@ -124,13 +113,13 @@ fn kept_store<F: Source, S: Store>(
     };
     if let Err(fault) = store.place(alloc, state) {
         files.shut(log);
-        return Err(fault_of_place(fault));
+        return Err(RunFault::from(fault));
     }
     let read = read_store(alloc, store, &mut log, end);
     files.shut(log);
     match read {
         Ok(kept) => Ok(kept),
-        Err(refusal) => Err(Fault::Run(fault_of_refusal(refusal))),
+        Err(fault) => Err(fault),
     }
 }
 
@@ -144,7 +133,7 @@ pub fn verify_store<F: Source, S: Store, K: Sink>(
     clicks: &str,
     state: &str,
     out: &mut K,
-) -> Result<bool, Fault>
+) -> Result<bool, RunFault>
     ensures done { IsTrue F.Log.tells → IsTrue K.tells → IsTrue S.Disk.tells → IfOk result (λ missing. PrintsKept (F.bytes files.old) clicks.now (S.image store.old) missing (K.held out.old) (K.held out.new)) }
     ensures prefix { IsTrue F.Log.tells → IsTrue K.tells → IsTrue S.Disk.tells → result ≡ Err fault.Write → PrintsKeptPrefix (F.bytes files.old) clicks.now (S.image store.old) (K.held out.old) (K.held out.new) }
     ensures quiet { IsTrue K.tells → IfErr result (λ f. (f ≡ fault.Write) ⊎ (K.held out.new ≡ K.held out.old)) }
@@ -155,10 +144,10 @@ pub fn verify_store<F: Source, S: Store, K: Sink>(
     ensures sound { IsTrue S.Disk.tells → (g : Setting) → IsSoundStore g (S.image store.old) → IsSoundStore g (S.image store.new) }
     ensures caused { IsTrue S.Disk.tells → IsTrue F.Log.tells → (g : Setting) → IsOverLog (F.bytes files.old) clicks.now g → IfErr result (HasCauseInVerify g (S.image store.old) (Rose (F.faults files.old) (F.faults files.new)) (Rose (S.faults store.old) (S.faults store.new))) }
     ensures passed { IsTrue S.Disk.tells → IsTrue F.Log.tells → (g : Setting) → IsOverLog (F.bytes files.old) clicks.now g → OnOk result (CanBeRead g (S.image store.old)) }
-    ensures welcome { IsTrue S.Disk.tells → IsTrue F.Log.tells → (g : Setting) → IsOverLog (F.bytes files.old) clicks.now g → g.replicas ≡ 3 → g.joiners ≤ MOST_JOINERS → ((s : S) → LeavesSomething g (S.image s)) → IsSoundStore g (S.image store.old) → IfErr result (IsFair ⊤) }
+    ensures welcome { IsTrue S.Disk.tells → IsTrue F.Log.tells → (g : Setting) → IsOverLog (F.bytes files.old) clicks.now g → g.replicas ≡ 3 → g.joiners ≤ MOST_JOINERS → ((s : S) → LeavesSomething g (S.image s)) → IsSoundStore g (S.image store.old) → IfErr result (IsWelcome ⊤) }
     ensures read { Counts (F.faults files.old) (F.faults files.new) (IsErrAnd result IsFailedRead) }
     ensures write { Counts (K.faults out.old) (K.faults out.new) (result ≡ Err fault.Write) }
-    ensures disks { Counts (S.faults store.old) (S.faults store.new) ((place : Place) × (result ≡ Err (fault.Run (cause.Store place)))) }
+    ensures disks { Counts (S.faults store.old) (S.faults store.new) ((place : Place) × (result ≡ Err (fault.Store place))) }
 {
     let checked = match clicks_in_log(alloc, files, clicks) {
         Ok(checked) => checked,
@@ -169,10 +158,10 @@ pub fn verify_store<F: Source, S: Store, K: Sink>(
         Err(fault) => return Err(fault),
     };
     let Ok(lines) = kept_lines(alloc, &checked.ids, &kept) else {
-        return Err(Fault::Memory);
+        return Err(RunFault::Memory);
     };
     match write_report(out, &lines) {
         Ok(()) => Ok(has_missing(&lines)),
-        Err(_) => Err(Fault::Write),
+        Err(_) => Err(RunFault::Write),
     }
 }

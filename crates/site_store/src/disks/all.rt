@@ -7,12 +7,13 @@ ghost use Rattle.gate_journal.specs.Images.{StaysAs};
 ghost use Rattle.site_store.specs.Kinds.{joiners_kept};
 ghost use Rattle.site_store.specs.Lent.{IsLent, MayBeLeft};
 ghost use Rattle.site_store.specs.Records.{AreKept, values_of, lent_all, topology_lent};
-ghost use Rattle.site_store.specs.Refusals.{IsOfFirstDisk};
-ghost use Rattle.site_store.specs.Opening.{RoseBy, WasDamaged};
+ghost use Rattle.site_store.specs.Refusals.{IsFirstDisk};
+ghost use Rattle.site_store.specs.Opening.{IsUnopened};
 
+use crate::disks::OpenDisk;
 use crate::disks::opening::{give_each, open_one, open_others};
-use crate::disks::{DisksFault, OpenDisk};
 use outside::{Disk, DiskName, Store};
+use run_fault::RunFault;
 use std::alloc::Global;
 use topology_journal::TopologyJournal;
 
@@ -43,7 +44,7 @@ pub fn open_disks<S: Store>(
     alloc: Global,
     store: &mut S,
     asked: u8,
-) -> Result<OpenStore<S::Disk>, DisksFault>
+) -> Result<OpenStore<S::Disk>, RunFault>
     requires { asked ≤ 4 }
     ensures ready { IfOk result (λ d. d.topology.journal.state ≡ Ready) }
     ensures kept { IfOk result (λ d. AreKept S.Disk.tells (S.image store.old) asked (values_of d.topology.value.kept d.disks.items)) }
@@ -51,9 +52,7 @@ pub fn open_disks<S: Store>(
     ensures lent { IsTrue S.Disk.tells → IfOk result (λ d. IsLent S.Disk.image (S.image store.old) (S.image store.new) (topology_lent d.topology.journal.disk ∷ lent_all d.disks.items)) }
     ensures back { IsTrue S.Disk.tells → OnErr result ((name : DiskName) → StaysAs (S.image store.old name) (S.image store.new name)) }
     ensures places { IfOk result (λ d. S.places_left store.old + (1 + length d.disks.items) ≤ S.places_left store.new) }
-    ensures first { IfErr result (IsOfFirstDisk S.Disk.tells (S.image store.old) asked) }
-    ensures rose { IfErr result (RoseBy (S.faults store.old) (S.faults store.new)) }
-    ensures damaged { IsTrue S.Disk.tells → IfErr result (WasDamaged (S.image store.old)) }
+    ensures first { IfErr result (IsUnopened S.Disk.tells (S.image store.old) (S.faults store.old) (S.faults store.new) (IsFirstDisk S.Disk.tells (S.image store.old) asked)) }
     ensures count { S.faults store.old ≤ S.faults store.new }
 {
     let topology = open_one(alloc, store, DiskName::Topology)?.into_topology();

@@ -5,8 +5,9 @@ ghost use Rattle.site_store.specs.Records.{kept_all};
 ghost use Rattle.site_store.specs.Misfits.{IsFit, IsMisfit, is_full_note, limit_at, limit_in};
 
 use crate::disks::{AnyJournal, OpenDisk};
-use outside::{Disk, DiskName};
+use outside::Disk;
 use paxos_acceptor::ReplicaNote;
+use run_fault::{Mismatch, RunFault};
 use topology_journal::{Topology, TopologyJournal};
 
 /// The last epoch: no run can begin behind it.
@@ -15,30 +16,22 @@ const LAST: u32 = u32::MAX - 1;
 /// The last round of a ballot, and the last slot of a shard.
 const LAST_PLACE: u64 = (1 << 48) - 1;
 
-/// Why opened disks can't be run as asked.
-#[derive(Clone, Copy, Debug, PartialEq, Eq)]
-pub enum Misfit {
-    /// The kept number of joiners isn't the asked one.
-    Joiners { kept: u8, asked: u8 },
-    /// The kept table isn't the asked one.
-    Table,
-    /// The epoch that this disk keeps is the last one, or a round or a slot that it notes is.
-    Spent { disk: DiskName, value: u64 },
-}
-
 /// Why the kept topology doesn't fit the asked one, if one is kept and doesn't.
-pub fn topology_misfit<D: Disk>(topology: &TopologyJournal<D>, asked: &Topology) -> Option<Misfit>
+pub fn topology_misfit<D: Disk>(topology: &TopologyJournal<D>, asked: &Topology) -> Option<RunFault>
     ensures { MatchOption result (IsFit topology.now.value.kept asked.now) (IsMisfit topology.now.value.kept asked.now) }
 {
     let kept = topology.value().kept()?;
     if kept.joiners != asked.joiners {
-        return Some(Misfit::Joiners {
+        return Some(RunFault::Topology(Mismatch::Joiners {
             kept: kept.joiners,
             asked: asked.joiners,
-        });
+        }));
     }
     if kept.table.rows() != asked.table.rows() {
-        return Some(Misfit::Table);
+        return Some(RunFault::Topology(Mismatch::Table {
+            kept: kept.table,
+            asked: asked.table,
+        }));
     }
     None
 }
@@ -61,7 +54,7 @@ fn are_full(notes: &[ReplicaNote]) -> bool
 }
 
 // Whether this disk's epoch is the last one, or a round or a slot that it notes is.
-fn limit<D: Disk>(disk: &OpenDisk<D>) -> Option<Misfit>
+fn limit<D: Disk>(disk: &OpenDisk<D>) -> Option<RunFault>
     ensures { result ≡ limit_at disk.now.name disk.now.kept }
 {
     let (spent, value) = match &disk.journal {
@@ -72,7 +65,7 @@ fn limit<D: Disk>(disk: &OpenDisk<D>) -> Option<Misfit>
     if !spent {
         return None;
     }
-    Some(Misfit::Spent {
+    Some(RunFault::Limit {
         disk: disk.name,
         value,
     })
@@ -80,12 +73,12 @@ fn limit<D: Disk>(disk: &OpenDisk<D>) -> Option<Misfit>
 
 /// The first of these disks, if there is one, whose epoch is the last one, or that notes the last round or the last slot. Linear
 /// in disks and notes.
-pub fn first_limit<D: Disk>(disks: &[OpenDisk<D>]) -> Option<Misfit>
+pub fn first_limit<D: Disk>(disks: &[OpenDisk<D>]) -> Option<RunFault>
     ensures { result ≡ limit_in (kept_all disks.now) }
 {
     for disk in disks {
-        if let Some(misfit) = limit(disk) {
-            return Some(misfit);
+        if let Some(fault) = limit(disk) {
+            return Some(fault);
         }
     }
     None

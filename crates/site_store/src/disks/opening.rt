@@ -8,23 +8,24 @@ ghost use Rattle.outside.specs.declared.faults.StoreFault.TheVariants.{Disk};
 ghost use Rattle.gate_journal.specs.Images.{StaysAs, IsKeptIn};
 ghost use Rattle.site_store.specs.Lent.{IsLent, MayBeLeft};
 ghost use Rattle.site_store.specs.Records.{IsOfKind, KeepsAs, IsKept, kept_by, lent_all};
-ghost use Rattle.site_store.specs.Refusals.{IsOfFirst, other_names};
-ghost use Rattle.site_store.specs.Opening.{told_by, RoseBy, IsOf, WasDamaged};
+ghost use Rattle.site_store.specs.Refusals.{IsFirst, other_names};
+ghost use Rattle.site_store.specs.Opening.{told_by, IsUnopened};
 
 use crate::disks::names::names_of;
-use crate::disks::{DisksFault, OpenDisk, ask};
+use crate::disks::{OpenDisk, ask};
 use gate_journal::JournalFault;
 use outside::{DiskName, Store, StoreFault};
+use run_fault::{RunFault, StorePlace};
 use std::alloc::Global;
 
 // The fault of a disk that isn't opened.
-pub(crate) fn told(name: DiskName, fault: JournalFault) -> DisksFault
+pub(crate) fn told(name: DiskName, fault: JournalFault) -> RunFault
     ensures { result ≡ told_by name fault }
 {
     match fault {
-        JournalFault::Damaged { at } => DisksFault::Damaged { disk: name, at },
-        JournalFault::Disk => DisksFault::Store(name),
-        JournalFault::Memory => DisksFault::Memory,
+        JournalFault::Damaged { at } => RunFault::Damaged { disk: name, at },
+        JournalFault::Disk => RunFault::Store(StorePlace::Disk(name)),
+        JournalFault::Memory => RunFault::Memory,
     }
 }
 
@@ -53,7 +54,7 @@ pub(crate) fn open_one<S: Store>(
     alloc: Global,
     store: &mut S,
     name: DiskName,
-) -> Result<OpenDisk<S::Disk>, DisksFault>
+) -> Result<OpenDisk<S::Disk>, RunFault>
     ensures name { IfOk result (λ o. o.name ≡ name) }
     ensures kind { IfOk result (λ o. IsOfKind name o.kept) }
     ensures kept { IsTrue S.Disk.tells → IfOk result (λ o. IsKeptIn (S.image store.old name) (KeepsAs o.kept)) }
@@ -63,9 +64,7 @@ pub(crate) fn open_one<S: Store>(
     ensures place { OnOk result (S.places_left store.old + 1 ≤ S.places_left store.new) }
     ensures no_place { OnErr result (S.places_left store.old ≤ S.places_left store.new) }
     ensures count { S.faults store.old ≤ S.faults store.new }
-    ensures rose { IfErr result (RoseBy (S.faults store.old) (S.faults store.new)) }
-    ensures of { IfErr result (IsOf name) }
-    ensures damaged { IsTrue S.Disk.tells → IfErr result (WasDamaged (S.image store.old)) }
+    ensures err { IfErr result (IsUnopened S.Disk.tells (S.image store.old) (S.faults store.old) (S.faults store.new) (λ disk. disk ≡ name)) }
 {
     match take_one(alloc, store, name) {
         Ok(disk) => match OpenDisk::open(alloc, name, disk) {
@@ -75,8 +74,8 @@ pub(crate) fn open_one<S: Store>(
                 Err(told(name, fault))
             }
         },
-        Err(StoreFault::Disk) => Err(DisksFault::Store(name)),
-        Err(StoreFault::Memory) => Err(DisksFault::Memory),
+        Err(StoreFault::Disk) => Err(RunFault::Store(StorePlace::Disk(name))),
+        Err(StoreFault::Memory) => Err(RunFault::Memory),
     }
 }
 
@@ -101,7 +100,7 @@ pub(crate) fn open_others<S: Store>(
     alloc: Global,
     store: &mut S,
     joiners: u8,
-) -> Result<Vec<OpenDisk<S::Disk>>, DisksFault>
+) -> Result<Vec<OpenDisk<S::Disk>>, RunFault>
     requires few { joiners ≤ 4 }
     ensures named { IfOk result (λ d. map (λ o. o.name) d.items ≡ other_names joiners) }
     ensures kinds { IfOk result (λ d. Each (λ o. IsOfKind o.name o.kept) d.items) }
@@ -110,16 +109,14 @@ pub(crate) fn open_others<S: Store>(
     ensures back { IsTrue S.Disk.tells → OnErr result ((name : DiskName) → StaysAs (S.image store.old name) (S.image store.new name)) }
     ensures places { IfOk result (λ d. S.places_left store.old + length d.items ≤ S.places_left store.new) }
     ensures place { OnErr result (S.places_left store.old ≤ S.places_left store.new) }
-    ensures first { IfErr result (IsOfFirst S.Disk.tells (S.image store.old) (other_names joiners)) }
-    ensures rose { IfErr result (RoseBy (S.faults store.old) (S.faults store.new)) }
-    ensures damaged { IsTrue S.Disk.tells → IfErr result (WasDamaged (S.image store.old)) }
+    ensures first { IfErr result (IsUnopened S.Disk.tells (S.image store.old) (S.faults store.old) (S.faults store.new) (IsFirst S.Disk.tells (S.image store.old) (other_names joiners))) }
     ensures count { S.faults store.old ≤ S.faults store.new }
 {
     let Ok(names) = names_of(alloc, joiners) else {
-        return Err(DisksFault::Memory);
+        return Err(RunFault::Memory);
     };
     let Ok(mut disks) = Vec::with_capacity(alloc, names.len()) else {
-        return Err(DisksFault::Memory);
+        return Err(RunFault::Memory);
     };
     for i in 0..names.len() {
         match open_one(alloc, store, names[i]) {

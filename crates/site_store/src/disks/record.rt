@@ -3,12 +3,11 @@ ghost use Rattle.std.specs.Prelude.{◌≡◌, ◌≤◌, None, Some, IsTrue, On
 ghost use Rattle.gate_journal.specs.declared.journal.JournalState.TheVariants.{Ready};
 ghost use Rattle.topology_journal.specs.Topologies.{IsTopology};
 ghost use Rattle.gate_journal.specs.Images.{StaysAs, GoesOn};
-ghost use Rattle.site_store.specs.declared.disks.fault.DisksFault.TheVariants.{Memory};
+ghost use Rattle.run_fault.specs.declared.fault.RunFault.TheVariants.{Memory};
 ghost use Rattle.site_store.specs.Written.{AllKeep, StaysOrKeeps, IsUnwritten};
-ghost use Rattle.site_store.specs.Opening.{RoseBy};
 
-use crate::disks::DisksFault;
 use outside::{Disk, DiskName};
+use run_fault::{RunFault, StorePlace};
 use std::alloc::Global;
 use topology_journal::{Topology, TopologyJournal, topology_frame};
 
@@ -17,7 +16,7 @@ pub fn write_topology<D: Disk>(
     alloc: Global,
     topology: &mut TopologyJournal<D>,
     asked: Topology,
-) -> Result<(), DisksFault>
+) -> Result<(), RunFault>
     requires is_topology { IsTopology asked }
     requires ready { topology.old.journal.state ≡ Ready }
     requires none { topology.old.value.kept ≡ None }
@@ -35,17 +34,16 @@ pub fn write_topology<D: Disk>(
 
     ensures grows { IsTrue D.tells → GoesOn (D.image topology.old.journal.disk) (D.image topology.new.journal.disk) }
     ensures count { D.faults topology.old.journal.disk ≤ D.faults topology.new.journal.disk }
-    ensures rose { IfErr result (RoseBy (D.faults topology.old.journal.disk) (D.faults topology.new.journal.disk)) }
-    ensures unwritten { IfErr result IsUnwritten }
+    ensures unwritten { IfErr result (IsUnwritten (D.faults topology.old.journal.disk) (D.faults topology.new.journal.disk)) }
 {
     let Ok(payload) = topology_frame(alloc, &asked) else {
-        return Err(DisksFault::Memory);
+        return Err(RunFault::Memory);
     };
     let Ok(()) = topology.make_room(alloc) else {
-        return Err(DisksFault::Memory);
+        return Err(RunFault::Memory);
     };
     match topology.append(payload.as_slice(), asked) {
         Ok(()) => Ok(()),
-        Err(_) => Err(DisksFault::Store(DiskName::Topology)),
+        Err(_) => Err(RunFault::Store(StorePlace::Disk(DiskName::Topology))),
     }
 }

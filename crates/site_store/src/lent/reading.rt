@@ -4,11 +4,11 @@ ghost use Rattle.output_log.specs.Pairs.{Keeps as KeepsPairs};
 ghost use Rattle.site_node.specs.Replicas.{KeepsNotes};
 ghost use Rattle.site_store.specs.ReadBack.{EachWith, OneWith, replicas, outputs, notes_in, pairs_in, AreReadFrom, AreAmongImages, IsReadAs, IsAnImage, IsOnlyRead, IsToldBy};
 
-use crate::DisksFault;
 use crate::disks::opening::told;
 use crate::lent::LentDisk;
 use crate::lent::records::{notes_again, pairs_again};
 use outside::{Disk, DiskName};
+use run_fault::RunFault;
 use std::alloc::{AllocError, Global};
 use verify_pass::{Journals, NoteList, PairList};
 
@@ -22,7 +22,7 @@ pub(crate) enum ReadAs {
 }
 
 /// Reads a replica's disk or an output's again, and no other.
-fn read_one<D: Disk>(alloc: Global, lent: &mut LentDisk<D>) -> Result<ReadAs, DisksFault>
+fn read_one<D: Disk>(alloc: Global, lent: &mut LentDisk<D>) -> Result<ReadAs, RunFault>
     ensures read { IfOk result (IsReadAs D.tells D.seen lent.old) }
     ensures left { IfOk result (IsAnImage D.tells D.seen D.image lent.old) }
     ensures same { IsOnlyRead D.tells D.seen D.image D.since D.faults lent.old lent.new }
@@ -56,7 +56,7 @@ fn put(journals: &mut Journals, read: ReadAs) -> Result<(), AllocError>
 
 /// Reads each replica's disk and each output's again, in order, with no changing call: a list of notes for each replica, and
 /// a list of pairs for each output. The first disk that can't be read ends it. Linear in the files, in time and memory.
-pub fn read_back<D: Disk>(alloc: Global, disks: &mut [LentDisk<D>]) -> Result<Journals, DisksFault>
+pub fn read_back<D: Disk>(alloc: Global, disks: &mut [LentDisk<D>]) -> Result<Journals, RunFault>
     ensures notes { IfOk result (λ journals. AreReadFrom D.tells D.seen KeepsNotes (replicas disks.old) journals.notes.items) }
     ensures pairs { IfOk result (λ journals. AreReadFrom D.tells D.seen KeepsPairs (outputs disks.old) journals.pairs.items) }
     // What they are read from is what a stop may leave of them.
@@ -75,7 +75,7 @@ pub fn read_back<D: Disk>(alloc: Global, disks: &mut [LentDisk<D>]) -> Result<Jo
             Err(fault) => return Err(fault),
         };
         let Ok(()) = put(&mut journals, read) else {
-            return Err(DisksFault::Memory);
+            return Err(RunFault::Memory);
         };
     }
     Ok(journals)

@@ -1,19 +1,18 @@
 // A store whose disks are opened and judged, for a run with what is asked, or for a verification, which asks nothing.
 ghost use Rattle.std.specs.Prelude.{◌≡◌, ◌≤◌, ◌+◌, ◌∷◌, length, IsTrue, IfOk, IfErr, IfSome, OnErr};
 ghost use Rattle.outside.specs.declared.store.DiskName.{DiskName};
+ghost use Rattle.outside.specs.Faults.{Rose};
 ghost use Rattle.gate_journal.specs.declared.journal.JournalState.TheVariants.{Ready};
 ghost use Rattle.gate_journal.specs.Images.{StaysAs};
 ghost use Rattle.topology_journal.specs.Topologies.{IsTopology};
 ghost use Rattle.site_store.specs.Lent.{IsLent};
 ghost use Rattle.site_store.specs.Records.{AreKept, values_of, lent_all, topology_lent};
-ghost use Rattle.site_store.specs.Refusals.{IsOfFirstDisk};
-ghost use Rattle.site_store.specs.Opening.{RoseBy, WasDamaged};
-ghost use Rattle.site_store.specs.Causes.{ArePassed, IsCause, IfDisks, IfJudged, joiners_asked};
+ghost use Rattle.site_store.specs.Causes.{ArePassed, IsCause, joiners_asked};
 
-use crate::opening::Refusal;
 use crate::opening::judging::judge;
 use crate::{OpenStore, give_back, open_disks};
 use outside::{LogFile, Store};
+use run_fault::RunFault;
 use std::alloc::Global;
 use topology_journal::Topology;
 
@@ -37,7 +36,7 @@ pub(crate) fn open_for<S: Store, L: LogFile>(
     asked: &Option<Topology>,
     clicks: &mut L,
     end: u64,
-) -> Result<OpenStore<S::Disk>, Refusal>
+) -> Result<OpenStore<S::Disk>, RunFault>
     requires { IfSome asked.now IsTopology }
     ensures ready { IfOk result (λ d. d.topology.journal.state ≡ Ready) }
     ensures kept { IfOk result (λ d. AreKept S.Disk.tells (S.image store.old) (joiners_asked asked.now) (values_of d.topology.value.kept d.disks.items)) }
@@ -47,10 +46,7 @@ pub(crate) fn open_for<S: Store, L: LogFile>(
 
     // After a refusal.
     ensures back { IsTrue S.Disk.tells → OnErr result ((disk : DiskName) → StaysAs (S.image store.old disk) (S.image store.new disk)) }
-    ensures first { IfErr result (IfDisks (IsOfFirstDisk S.Disk.tells (S.image store.old) (joiners_asked asked.now))) }
-    ensures rose { IfErr result (IfDisks (RoseBy (S.faults store.old) (S.faults store.new))) }
-    ensures damaged { IsTrue S.Disk.tells → IfErr result (IfDisks (WasDamaged (S.image store.old))) }
-    ensures cause { IfErr result (IfJudged (AreKept S.Disk.tells (S.image store.old) (joiners_asked asked.now)) (IsCause L.tells (L.bytes clicks.old) end (L.faults clicks.old) (L.faults clicks.new) asked.now)) }
+    ensures cause { IfErr result (IsCause S.Disk.tells (S.image store.old) (Rose (S.faults store.old) (S.faults store.new)) L.tells (L.bytes clicks.old) end (Rose (L.faults clicks.old) (L.faults clicks.new)) asked.now) }
 
     ensures same { IsTrue L.tells → L.bytes clicks.new ≡ L.bytes clicks.old }
     ensures count { S.faults store.old ≤ S.faults store.new }
@@ -58,13 +54,13 @@ pub(crate) fn open_for<S: Store, L: LogFile>(
 {
     let open = match open_disks(alloc, store, joiners_of(asked)) {
         Ok(open) => open,
-        Err(fault) => return Err(Refusal::Disks(fault)),
+        Err(fault) => return Err(fault),
     };
     match judge(&open, asked, clicks, end) {
         None => Ok(open),
-        Some(refusal) => {
+        Some(fault) => {
             give_back(store, open);
-            Err(refusal)
+            Err(fault)
         }
     }
 }

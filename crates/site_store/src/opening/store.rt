@@ -2,6 +2,7 @@
 ghost use Rattle.std.specs.Prelude.{◌≡◌, ◌≢◌, ◌≤◌, ◌+◌, Bool, length, map, Some, Option, IsTrue, true, IfOk, IfErr, OnErr};
 ghost use Rattle.outside.specs.declared.store.DiskName.{DiskName};
 ghost use Rattle.outside.specs.declared.store.DiskName.TheVariants as name;
+ghost use Rattle.outside.specs.Faults.{Rose};
 ghost use Rattle.gate_journal.specs.Images.{StaysAs, GoesOn};
 ghost use Rattle.topology_journal.specs.declared.topology.Topology.{Topology as KeptTopology};
 ghost use Rattle.topology_journal.specs.Topologies.{IsTopology};
@@ -11,19 +12,20 @@ ghost use Rattle.dispatch_node.specs.Places.{IsLogOf};
 ghost use Rattle.photon_model.specs.Runs.{Disks};
 ghost use Rattle.photon_model.specs.Topology.{Topology as StoreTopology, topology_of, WholeSound};
 ghost use Rattle.site_laws.specs.Stores.{IsSoundStore, AreLeft};
-ghost use Rattle.site_store.specs.declared.disks.fault.DisksFault.TheVariants.{Store as StoreFailed};
-ghost use Rattle.site_store.specs.declared.opening.refusal.Refusal.TheVariants.{Disks as OfDisks};
-ghost use Rattle.site_store.specs.Refusals.{IsOfFirstDisk, other_names};
-ghost use Rattle.site_store.specs.Opening.{RoseBy, WasDamaged};
+ghost use Rattle.run_fault.specs.declared.fault.StorePlace.TheVariants.{Disk as OfDisk};
+ghost use Rattle.run_fault.specs.declared.fault.RunFault.TheVariants.{Store as StoreFailed};
+ghost use Rattle.run_fault.specs.Causes.{IsWelcome};
+ghost use Rattle.site_store.specs.Refusals.{other_names};
 ghost use Rattle.site_store.specs.Records.{AreKept, AreRecordsOf, values_of, kept_all, lent_all, topology_lent};
 ghost use Rattle.site_store.specs.Leaving.{IsOut, StayOrAsked, IsAsked};
-ghost use Rattle.site_store.specs.Causes.{ArePassed, IsCause, IfDisks, IfJudged, IsWelcome};
+ghost use Rattle.site_store.specs.Causes.{ArePassed, IsCause, LeavesSomething};
 
+use crate::opening::open_for;
 use crate::opening::topology::keep_topology;
-use crate::opening::{Refusal, open_for};
 use crate::{OpenStore, give_back};
 use outside::{LogFile, Store};
 use photon_model::whole_stores;
+use run_fault::RunFault;
 use site_laws::stores::{fits, opened, read, stays, topology_first};
 use std::alloc::Global;
 use topology_journal::Topology;
@@ -40,7 +42,7 @@ pub fn open_store<S: Store, L: LogFile>(
     asked: Topology,
     clicks: &mut L,
     end: u64,
-) -> Result<OpenStore<S::Disk>, Refusal>
+) -> Result<OpenStore<S::Disk>, RunFault>
     requires { IsTopology asked }
     ensures topology { IfOk result (λ d. d.topology.value.kept ≡ Some asked) }
     ensures named { IfOk result (λ d. map (λ o. o.name) d.disks.items ≡ other_names asked.joiners) }
@@ -58,16 +60,13 @@ pub fn open_store<S: Store, L: LogFile>(
 
     // After a refusal.
     ensures left { IsTrue S.Disk.tells → OnErr result (StayOrAsked asked (S.image store.old) (S.image store.new)) }
-    ensures back { IsTrue S.Disk.tells → IfErr result (λ r. r ≢ OfDisks (StoreFailed name.Topology) → (disk : DiskName) → StaysAs (S.image store.old disk) (S.image store.new disk)) }
+    ensures back { IsTrue S.Disk.tells → IfErr result (λ f. f ≢ StoreFailed (OfDisk name.Topology) → (disk : DiskName) → StaysAs (S.image store.old disk) (S.image store.new disk)) }
     ensures sound { IsTrue S.Disk.tells → OnErr result ((g : Setting) → IsAsked asked g → IsSoundStore g (S.image store.old) → IsSoundStore g (S.image store.new)) }
     ensures grown { IsTrue S.Disk.tells → OnErr result ((disk : DiskName) → GoesOn (S.image store.old disk) (S.image store.new disk)) }
-    ensures first { IfErr result (IfDisks (IsOfFirstDisk S.Disk.tells (S.image store.old) asked.joiners)) }
-    ensures rose { IfErr result (IfDisks (RoseBy (S.faults store.old) (S.faults store.new))) }
-    ensures damaged { IsTrue S.Disk.tells → IfErr result (IfDisks (WasDamaged (S.image store.old))) }
-    ensures cause { IfErr result (IfJudged (AreKept S.Disk.tells (S.image store.old) asked.joiners) (IsCause L.tells (L.bytes clicks.old) end (L.faults clicks.old) (L.faults clicks.new) (Some asked))) }
+    ensures cause { IfErr result (IsCause S.Disk.tells (S.image store.old) (Rose (S.faults store.old) (S.faults store.new)) L.tells (L.bytes clicks.old) end (Rose (L.faults clicks.old) (L.faults clicks.new)) (Some asked)) }
     // Of a sound store nothing that it keeps is refused, and no disk is told as damaged.
-    ensures welcome { IsTrue S.Disk.tells → IsTrue L.tells → IfErr result (λ r. (g : Setting) → IsAsked asked g → g.replicas ≡ 3 → IsLogOf (L.bytes clicks.old) g → end ≡ end_from 0 g.clicks
-        → IsSoundStore g (S.image store.old) → IsWelcome g (S.image store.old) r) }
+    ensures welcome { IsTrue S.Disk.tells → IsTrue L.tells → IfErr result (λ f. (g : Setting) → IsAsked asked g → g.replicas ≡ 3 → IsLogOf (L.bytes clicks.old) g → end ≡ end_from 0 g.clicks
+        → IsSoundStore g (S.image store.old) → IsWelcome (LeavesSomething g (S.image store.old)) f) }
 
     ensures same { IsTrue L.tells → L.bytes clicks.new ≡ L.bytes clicks.old }
     ensures count { S.faults store.old ≤ S.faults store.new }
@@ -85,13 +84,13 @@ pub fn open_store<S: Store, L: LogFile>(
     });
     let mut open = match open_for(alloc, store, &wanted, clicks, end) {
         Ok(open) => open,
-        Err(refusal) => return Err(refusal),
+        Err(fault) => return Err(fault),
     };
     match keep_topology(alloc, &mut open.topology, asked) {
         Ok(()) => Ok(open),
         Err(fault) => {
             give_back(store, open);
-            Err(Refusal::Disks(fault))
+            Err(fault)
         }
     }
 }

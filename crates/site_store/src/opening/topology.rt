@@ -2,14 +2,14 @@
 ghost use Rattle.std.specs.Prelude.{◌≡◌, ◌≤◌, Some, IsTrue, OnOk, OnErr, IfErr, IsErrOf};
 ghost use Rattle.gate_journal.specs.declared.journal.JournalState.TheVariants.{Ready};
 ghost use Rattle.topology_journal.specs.Topologies.{IsTopology};
-ghost use Rattle.site_store.specs.declared.disks.fault.DisksFault.TheVariants.{Memory};
+ghost use Rattle.run_fault.specs.declared.fault.RunFault.TheVariants.{Memory};
 ghost use Rattle.gate_journal.specs.Images.{StaysAs, GoesOn};
 ghost use Rattle.site_store.specs.Misfits.{IsFit};
-ghost use Rattle.site_store.specs.Opening.{RoseBy};
 ghost use Rattle.site_store.specs.Written.{AllKeep, StaysOrKeeps, IsUnwritten};
 
-use crate::{DisksFault, write_topology};
+use crate::write_topology;
 use outside::Disk;
+use run_fault::RunFault;
 use std::alloc::Global;
 use topology_journal::{Topology, TopologyJournal};
 
@@ -18,7 +18,7 @@ pub(crate) fn keep_topology<D: Disk>(
     alloc: Global,
     topology: &mut TopologyJournal<D>,
     asked: Topology,
-) -> Result<(), DisksFault>
+) -> Result<(), RunFault>
     requires is_topology { IsTopology asked }
     requires ready { topology.old.journal.state ≡ Ready }
     requires fit { IsFit topology.old.value.kept asked }
@@ -28,8 +28,7 @@ pub(crate) fn keep_topology<D: Disk>(
     ensures stays { IsTrue D.tells → IsErrOf result Memory → StaysAs (D.image topology.old.journal.disk) (D.image topology.new.journal.disk) }
     ensures grows { IsTrue D.tells → GoesOn (D.image topology.old.journal.disk) (D.image topology.new.journal.disk) }
     ensures count { D.faults topology.old.journal.disk ≤ D.faults topology.new.journal.disk }
-    ensures rose { IfErr result (RoseBy (D.faults topology.old.journal.disk) (D.faults topology.new.journal.disk)) }
-    ensures unwritten { IfErr result IsUnwritten }
+    ensures unwritten { IfErr result (IsUnwritten (D.faults topology.old.journal.disk) (D.faults topology.new.journal.disk)) }
 {
     if topology.value().kept().is_some() {
         return Ok(());

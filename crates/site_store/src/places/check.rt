@@ -8,9 +8,9 @@ ghost use Rattle.site_store.specs.Kept.{on_disk, places_at, IsTold};
 ghost use Rattle.site_store.specs.Records.{kept_all};
 
 use crate::disks::{AnyJournal, OpenDisk};
-use crate::places::Misplaced;
 use crate::places::feeds::floor_below;
 use outside::{Disk, DiskName, LogFile, ReadFault};
+use run_fault::Misplaced;
 
 /// The offset of a site, where it doesn't fit the click log. It reads at most 512 bytes of a log that was checked. An offset fits
 /// where a line may start. `end` is the end of the last whole line.

@@ -1,26 +1,27 @@
 // A store read for verification.
 ghost use Rattle.std.specs.Prelude.{◌≡◌, ◌≤◌, Some, None, IsTrue, IfOk, IfErr};
 ghost use Rattle.outside.specs.declared.store.DiskName.{DiskName};
+ghost use Rattle.outside.specs.Faults.{Rose};
+ghost use Rattle.run_fault.specs.Causes.{IsWelcome};
 ghost use Rattle.topology_journal.specs.declared.topology.Topology.{Topology as KeptTopology};
 ghost use Rattle.log_records.specs.Lines.{end_from};
 ghost use Rattle.turn_defs.specs.Setting.{Setting};
 ghost use Rattle.dispatch_node.specs.Places.{IsLogOf};
 ghost use Rattle.gate_journal.specs.Images.{StaysAs, GoesOn};
-ghost use Rattle.site_store.specs.Refusals.{IsOfFirstDisk};
-ghost use Rattle.site_store.specs.Opening.{RoseBy, WasDamaged};
 ghost use Rattle.site_laws.specs.Stores.{IsSoundStore};
-ghost use Rattle.site_store.specs.Records.{AreKept, values_of};
+ghost use Rattle.site_store.specs.Records.{values_of};
 ghost use Rattle.site_store.specs.Leaving.{IsAsked};
-ghost use Rattle.site_store.specs.Causes.{IfDisks, IfJudged, IsWelcome, LeavesSomething};
-ghost use Rattle.site_store.specs.Reading.{IsOfValues, IsRead, IsCause};
+ghost use Rattle.site_store.specs.Causes.{IsCause, LeavesSomething};
+ghost use Rattle.site_store.specs.Reading.{IsOfValues, IsRead};
 ghost use Rattle.site_store.specs.Telling.{Tells, KeepsNothing};
 
 use crate::opening::open_for;
 use crate::reading::KeptStore;
 use crate::reading::copies::journals_of;
-use crate::{DisksFault, OpenStore, Refusal, give_back};
+use crate::{OpenStore, give_back};
 use outside::{Disk, LogFile, Store};
 use photon_model::verification;
+use run_fault::RunFault;
 use site_laws::stores::{fits, once, opened, read, stays};
 use std::alloc::{AllocError, Global};
 use topology_journal::{Topology, TopologyJournal};
@@ -52,7 +53,7 @@ pub fn read_store<S: Store, L: LogFile>(
     store: &mut S,
     clicks: &mut L,
     end: u64,
-) -> Result<KeptStore, Refusal>
+) -> Result<KeptStore, RunFault>
     ensures kept { IfOk result (IsRead S.Disk.tells (S.image store.old) L.tells (L.bytes clicks.old) end) }
     // With the kept topology, and three replicas: of records that the disks kept verification tells the report.
     ensures report { IsTrue S.Disk.tells → IfOk result (λ k. (t : KeptTopology) (g : Setting) → k.topology ≡ Some t → IsAsked t g → g.replicas ≡ 3 → Tells g (S.image store.old) k.journals) }
@@ -64,14 +65,11 @@ pub fn read_store<S: Store, L: LogFile>(
     ensures grown { IsTrue S.Disk.tells → (disk : DiskName) → GoesOn (S.image store.old disk) (S.image store.new disk) }
     ensures sound { IsTrue S.Disk.tells → (g : Setting) → IsSoundStore g (S.image store.old) → IsSoundStore g (S.image store.new) }
 
-    ensures first { IfErr result (IfDisks (IsOfFirstDisk S.Disk.tells (S.image store.old) 0)) }
-    ensures rose { IfErr result (IfDisks (RoseBy (S.faults store.old) (S.faults store.new))) }
-    ensures damaged { IsTrue S.Disk.tells → IfErr result (IfDisks (WasDamaged (S.image store.old))) }
-    ensures cause { IfErr result (IfJudged (AreKept S.Disk.tells (S.image store.old) 0) (IsCause L.tells (L.bytes clicks.old) end (L.faults clicks.old) (L.faults clicks.new))) }
+    ensures cause { IfErr result (IsCause S.Disk.tells (S.image store.old) (Rose (S.faults store.old) (S.faults store.new)) L.tells (L.bytes clicks.old) end (Rose (L.faults clicks.old) (L.faults clicks.new)) None) }
 
     // A sound store is refused neither for a place nor for a damaged disk, if a stop leaves something of each of its disks.
     ensures welcome { IsTrue S.Disk.tells → IsTrue L.tells → (g : Setting) → IsLogOf (L.bytes clicks.old) g → end ≡ end_from 0 g.clicks → g.replicas ≡ 3 → g.joiners ≤ 4 → LeavesSomething g (S.image store.old) → IsSoundStore g (S.image store.old)
-        → IfErr result (IsWelcome g (S.image store.old)) }
+        → IfErr result (IsWelcome (LeavesSomething g (S.image store.old))) }
 
     ensures same { IsTrue L.tells → L.bytes clicks.new ≡ L.bytes clicks.old }
     ensures count { S.faults store.old ≤ S.faults store.new }
@@ -85,12 +83,12 @@ pub fn read_store<S: Store, L: LogFile>(
     verification();
     let open = match open_for(alloc, store, &None, clicks, end) {
         Ok(open) => open,
-        Err(refusal) => return Err(refusal),
+        Err(fault) => return Err(fault),
     };
     let kept = kept_in(alloc, &open);
     give_back(store, open);
     match kept {
         Ok(kept) => Ok(kept),
-        Err(_) => Err(Refusal::Disks(DisksFault::Memory)),
+        Err(_) => Err(RunFault::Memory),
     }
 }

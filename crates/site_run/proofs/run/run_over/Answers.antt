@@ -11,15 +11,14 @@ use Rattle.site_store.specs.Leaving.{IsAsked}
 use Rattle.site_store.specs.Records.{kept_all, topology_lent, values_of}
 use Rattle.site_store.proofs.Recorded.{records_of}
 use Rattle.site_store.proofs.Values.{names_kept}
-use Rattle.site_store.specs.Causes.{LeavesSomething}
-use Rattle.site_run.specs.Causes.{IsCounted, IsWelcomeWhere}
+use Rattle.run_fault.specs.Causes.{IsCounted}
 use Rattle.site_run.specs.Refused.{IsCauseOf, IsOfRun}
 use Rattle.site_run.specs.Left.{RunLeft}
 use Rattle.site_run.proofs.Counting.{rose_before, some_rose}
 use Rattle.site_run.proofs.Opened.{count_opened}
 use Rattle.site_run.proofs.Entering.{records_so, places_so, all_apart, out_so, keeps_so, still_sound}
-use Rattle.site_run.proofs.Entered.{run_left, rest_left, rest_earlier, run_sound, none_left, counted_more, refusal_counted, refusal_welcome, last_of, put_back}
-use Rattle.site_run.proofs.Refusing.{on_ok_of, err_both, passed_so, refused_so, none_kept, cause_so, welcome_so, refusal_unnamed}
+use Rattle.site_run.proofs.Entered.{run_left, rest_left, rest_earlier, run_sound, none_left, counted_more, last_of, put_back}
+use Rattle.site_run.proofs.Refusing.{on_ok_of, err_both, passed_so, refused_so, none_kept, cause_so, welcome_so, refusal_counted, refusal_unnamed}
 use Rattle.site_run.proofs.run.run_over.Goals as goal
 
 pub run_opened-requires-clause-places : goal.run_opened-requires-clause-places
@@ -175,10 +174,9 @@ returns-in-Err-clause-refused g c tells log_tells gg is =
     let image = g.S.Store.image c.args.store.now in
     let logs_rose = Rose (g.F.Source.faults c.args.files.now) (g.F.Source.faults c.shut_logs.new.files) in
     let disks_rose = Rose (g.S.Store.faults c.args.store.now) (g.S.Store.faults c.open_store.new.store) in
-    subst (λ f. IsCauseOf gg image logs_rose disks_rose f) (sym c.fault_of_refusal.ensures)
-    (refused_so gg image asked_of asked g.S.Disk.Disk.tells g.F.Log.LogFile.tells tells log_tells (g.F.Log.LogFile.bytes c.take_last-read.result) c.args.end first is.ends _ _ _ _ logs_rose disks_rose
+    refused_so gg image asked_of asked g.S.Disk.Disk.tells g.F.Log.LogFile.tells tells log_tells (g.F.Log.LogFile.bytes c.take_last-read.result) c.args.end first is.ends _ _ logs_rose disks_rose
     (λ rose. c.shut_logs.ensures.clicks c.open_store.new.clicks (subst (Mem c.open_store.new.clicks) (sym c.push_reserved-in-Err.ensures.items) (mem_right c.open_store.new.clicks c.take_last-read.new.logs.items (c.open_store.new.clicks ∷ []) (inl refl))) (some_rose _ _ rose))
-    (λ rose. rose) c.in-Err.refusal e.first e.rose (e.damaged tells) e.cause)
+    (λ rose. rose) c.in-Err.fault e.cause
 
 pub returns-in-Err-clause-sound : goal.returns-in-Err-clause-sound
 returns-in-Err-clause-sound g c tells log_tells gg checked is sound = c.in-Err.ensures.sound tells gg (record { joiners = is.numbers.joiners; table = is.numbers.table }) sound
@@ -193,8 +191,9 @@ pub returns-in-Err-clause-cause : goal.returns-in-Err-clause-cause
 returns-in-Err-clause-cause g c =
     let logs_rose = Rose (g.F.Source.faults c.args.files.now) (g.F.Source.faults c.shut_logs.new.files) in
     let disks_rose = Rose (g.S.Store.faults c.args.store.now) (g.S.Store.faults c.open_store.new.store) in
-    subst (λ f. IsCounted logs_rose disks_rose f) (sym c.fault_of_refusal.ensures) (refusal_counted c.in-Err.refusal g.F.Log.LogFile.tells (g.F.Log.LogFile.bytes c.take_last-read.result) c.args.end (g.F.Log.LogFile.faults c.take_last-read.result) (g.F.Log.LogFile.faults c.open_store.new.clicks) _ _ (Some (record { joiners = c.args.config.now.joiners; table = c.args.config.now.table })) _ logs_rose disks_rose c.in-Err.ensures.rose (λ rose. rose) c.in-Err.ensures.cause
-    (λ rose. c.shut_logs.ensures.clicks c.open_store.new.clicks (subst (Mem c.open_store.new.clicks) (sym c.push_reserved-in-Err.ensures.items) (mem_right c.open_store.new.clicks c.take_last-read.new.logs.items (c.open_store.new.clicks ∷ []) (inl refl))) (some_rose _ _ rose)))
+    refusal_counted g.S.Disk.Disk.tells (g.S.Store.image c.args.store.now) _ g.F.Log.LogFile.tells (g.F.Log.LogFile.bytes c.take_last-read.result) c.args.end _ (Some (record { joiners = c.args.config.now.joiners; table = c.args.config.now.table })) logs_rose disks_rose
+    (λ rose. c.shut_logs.ensures.clicks c.open_store.new.clicks (subst (Mem c.open_store.new.clicks) (sym c.push_reserved-in-Err.ensures.items) (mem_right c.open_store.new.clicks c.take_last-read.new.logs.items (c.open_store.new.clicks ∷ []) (inl refl))) (some_rose _ _ rose))
+    (λ rose. rose) c.in-Err.fault c.in-Err.ensures.cause
 
 pub returns-in-Err-clause-welcome : goal.returns-in-Err-clause-welcome
 returns-in-Err-clause-welcome g c tells log_tells gg is sound =
@@ -202,8 +201,8 @@ returns-in-Err-clause-welcome g c tells log_tells gg is sound =
     let asked_of : Topology = record { joiners = c.args.config.now.joiners; table = c.args.config.now.table } in
     let asked : IsAsked asked_of gg = record { joiners = is.numbers.joiners; table = is.numbers.table } in
     let first = last_of (λ l. IsLogOf (g.F.Log.LogFile.bytes l) gg) c.args.logs.clicks.items c.take_last-read.new.logs.items c.take_last-read.result c.take_last-read.ensures.items is.clicks_are in
-    let image = g.S.Store.image c.args.store.now in
-    subst (λ f. IsWelcomeWhere (LeavesSomething gg image) f) (sym c.fault_of_refusal.ensures) (refusal_welcome c.in-Err.refusal gg image (e.welcome tells log_tells gg asked is.numbers.replicas first is.ends sound))
+    e.welcome tells log_tells gg asked is.numbers.replicas first is.ends sound
 
 pub returns-in-Err-clause-stopped : goal.returns-in-Err-clause-stopped
-returns-in-Err-clause-stopped g c n is = absurd (refusal_unnamed c.in-Err.refusal n (sym c.fault_of_refusal.ensures ∙ is))
+returns-in-Err-clause-stopped g c n is =
+    absurd (refusal_unnamed g.S.Disk.Disk.tells (g.S.Store.image c.args.store.now) _ g.F.Log.LogFile.tells (g.F.Log.LogFile.bytes c.take_last-read.result) c.args.end _ (Some (record { joiners = c.args.config.now.joiners; table = c.args.config.now.table })) c.in-Err.fault n c.in-Err.ensures.cause is)

@@ -1,6 +1,6 @@
 use Rattle.std.proofs.Common.{◌∙◌, ap, Err, ℕ, List, sym, subst}
 use Rattle.outside.specs.declared.store.DiskName.{DiskName}
-use Rattle.site_run.specs.Causes.{IsCounted, IsWelcomeWhere}
+use Rattle.run_fault.specs.Causes.{IsCounted, IsWelcome}
 use Rattle.site_run.specs.Refused.{IsCauseOf}
 use Rattle.site_run.proofs.Refusing.{ok_weaker, passed_within, cause_within, place_cause, place_unnamed}
 use Rattle.std.proofs.lemmas.Result.{IfErr-weaker}
@@ -15,12 +15,12 @@ pub returns-in-Err-place-clause-cause : goal.returns-in-Err-place-clause-cause
 returns-in-Err-place-clause-cause g c =
     let logs_rose = Rose (g.F.Source.faults c.args.files.now) (g.F.Source.faults c.shut_logs.new.files) in
     let disks_rose = Rose (g.S.Store.faults c.args.store.now) (g.S.Store.faults c.place.new.self) in
-    subst (λ f. IsCounted logs_rose disks_rose f) (sym c.not_placed.ensures) (place_counted c.in-Err-place.fault logs_rose disks_rose (λ is. c.in-Err-place.ensures.count.rose (ap Err is)))
+    subst (λ f. IsCounted logs_rose disks_rose f) (sym c.from.ensures) (place_counted c.in-Err-place.fault logs_rose disks_rose (λ is. c.in-Err-place.ensures.count.rose (ap Err is)))
 
 pub returns-in-Err-place-clause-welcome : goal.returns-in-Err-place-clause-welcome
 returns-in-Err-place-clause-welcome g c tells log_tells gg is sound =
     let some : Type 0 = (s : g.row.S.Denot) → LeavesSomething gg (g.S.Store.image s) in
-    subst (λ f. IsWelcomeWhere some f) (sym c.not_placed.ensures) (place_welcome c.in-Err-place.fault some)
+    subst (λ f. IsWelcome some f) (sym c.from.ensures) (place_welcome c.in-Err-place.fault some)
 
 pub returns-in-Err-place-clause-same : goal.returns-in-Err-place-clause-same
 returns-in-Err-place-clause-same g c log_tells n = c.shut_logs.ensures.same log_tells n ∙ c.open_logs.ensures.same log_tells n
@@ -137,8 +137,8 @@ pub returns-in-Err-place-clause-refused : goal.returns-in-Err-place-clause-refus
 returns-in-Err-place-clause-refused g c tells log_tells gg is =
     let logs_rose = Rose (g.F.Source.faults c.args.files.now) (g.F.Source.faults c.shut_logs.new.files) in
     let disks_rose = Rose (g.S.Store.faults c.args.store.now) (g.S.Store.faults c.place.new.self) in
-    subst (λ f. IsCauseOf gg (g.S.Store.image c.args.store.now) logs_rose disks_rose f) (sym c.not_placed.ensures)
+    subst (λ f. IsCauseOf gg (g.S.Store.image c.args.store.now) logs_rose disks_rose f) (sym c.from.ensures)
     (place_cause gg (g.S.Store.image c.args.store.now) logs_rose disks_rose c.in-Err-place.fault (λ is. c.in-Err-place.ensures.count.rose (ap Err is)))
 
 pub returns-in-Err-place-clause-stopped : goal.returns-in-Err-place-clause-stopped
-returns-in-Err-place-clause-stopped g c = λ n is. absurd (place_unnamed c.in-Err-place.fault n (sym c.not_placed.ensures ∙ is))
+returns-in-Err-place-clause-stopped g c = λ n is. absurd (place_unnamed c.in-Err-place.fault n (sym c.from.ensures ∙ is))

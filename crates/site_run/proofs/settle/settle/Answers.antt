@@ -1,10 +1,9 @@
-use Rattle.std.proofs.Common.{rules, inr, map, subst, sym}
+use Rattle.std.proofs.Common.{rules, inr, map}
 use Rattle.output_log.specs.Pairs.{Keeps as KeepsPairs}
 use Rattle.site_node.specs.Replicas.{KeepsNotes}
 use Rattle.site_store.specs.ReadBack.{is_replica, is_output}
 use Rattle.outside.specs.Faults.{Rose}
 use Rattle.site_run.specs.Naming.{as_lent}
-use Rattle.site_run.specs.Causes.{IsOfDisks}
 use Rattle.site_run.proofs.Settling.{left_read, met_read, told_counted, kept_in, ok_of, on_ok, err_of}
 use Rattle.site_run.proofs.settle.settle.Goals as goal
 
@@ -58,6 +57,5 @@ returns-in-Err-clause-told g c =
     let lent = map as_lent c.args.parts.disks.items in
     inr (
       search rules,
-      subst (λ f. IsOfDisks d.tells d.image lent rose f) (sym c.fault_of_disks.ensures)
-          (told_counted d.tells d.seen d.image d.since d.faults c.in-Err.fault c.args.parts.disks.items _ rose c.give_parts.ensures.disks (err_of _ c.read_disks-disks.result.1 c.in-Err.fault c.in-Err.is c.read_disks-disks.ensures.err)),
+      told_counted d.tells d.seen d.image d.since d.faults c.in-Err.fault c.args.parts.disks.items _ rose c.give_parts.ensures.disks (err_of _ c.read_disks-disks.result.1 c.in-Err.fault c.in-Err.is c.read_disks-disks.ensures.err),
     )

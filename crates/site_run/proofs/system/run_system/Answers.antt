@@ -10,7 +10,8 @@ use Rattle.site_node.specs.Replicas.{KeepsNotes}
 use Rattle.site_laws.specs.Laws.{made_by}
 use Rattle.site_workers.specs.Works.{stop_count}
 use Rattle.site_run.specs.Naming.{as_lent, all_from}
-use Rattle.site_run.specs.Causes.{IsCounted, IsOfDisks, IsWelcome}
+use Rattle.run_fault.specs.Causes.{IsCounted}
+use Rattle.site_run.specs.Causes.{IsOfDisks, IsPastOpening}
 use Rattle.site_run.specs.Refused.{IsOfRun}
 use Rattle.site_run.specs.Settled.{AreKeptIn, lent_replicas, lent_outputs}
 use Rattle.site_run.proofs.Opened.{down_too}
@@ -95,7 +96,7 @@ returns-in-Ok-clause-cause g c met =
     fault_told g.S.Disk.Disk.faults g.F.Log.LogFile.faults n.faults n.log_faults disks_of g.N.Parting.logs_of met c.args.joiners logs_rose disks_rose ws c.in-Ok.ensures.caused
     (λ l among some. c.end_run.ensures.disks is.1 l (mem_right l (map as_lent c.push_reserved.new.self.items) (all_from (λ i w. disks_of c.args.joiners i w.0) 0 ws) among) some)
     (λ l among some. c.end_run.ensures.logs l (mem_right l c.args.parts.logs.items (all_from (λ i w. g.N.Parting.logs_of w.0) 0 ws) among) some) f is.0)
-    (λ others. ⊎_elim (λ memory. subst (λ x. IsCounted logs_rose disks_rose x × IsWelcome x) (sym memory) (tt, tt)) (λ of. disks_counted g.S.Disk.Disk.tells g.S.Disk.Disk.image (map as_lent c.push_reserved.new.self.items ++ all_from (λ i w. disks_of c.args.joiners i w.0) 0 ws) logs_rose disks_rose f of.1) others) told)
+    (λ others. ⊎_elim (λ memory. subst (λ x. IsCounted logs_rose disks_rose x × IsPastOpening x) (sym memory) (tt, tt)) (λ of. disks_counted g.S.Disk.Disk.tells g.S.Disk.Disk.image (map as_lent c.push_reserved.new.self.items ++ all_from (λ i w. disks_of c.args.joiners i w.0) 0 ws) logs_rose disks_rose f of.1) others) told)
     c.end_run.ensures.told
 
 pub returns-in-Ok-clause-whole : goal.returns-in-Ok-clause-whole

@@ -2,8 +2,8 @@ use Rattle.std.proofs.Common.{◌≡◌, inl, inr, ⊎_elim, Err, refl, sym, ap,
 use Rattle.std.specs.Prelude.{⊤}
 use Rattle.time_shards.proofs.Texts.{none_bad}
 use Rattle.command_words.specs.Words.{bulk_values}
-use Rattle.photon_cli.specs.declared.engine.fault.Fault.TheVariants as fault
-use Rattle.photon_cli.specs.Faults.{status_of}
+use Rattle.run_fault.specs.declared.fault.RunFault.TheVariants as fault
+use Rattle.run_fault.specs.Faults.{status_of}
 use Rattle.photon_cli.specs.LogFaults.{IsOfBulk}
 use Rattle.photon_cli.proofs.Statuses.{IsKnown, bad_row, bulk_own, bulk_row, bulk_two, drill_left, failed_of, fair_status, line_of, named_in_bulk, no_one, no_zero, past_status, write_of}
 use Rattle.photon_cli.proofs.command.bulk.bulk_command.Goals as goal
@@ -36,7 +36,7 @@ returns-in-Err-clause-ends g c =
     let known : IsKnown (λ h. h ≡ fault.Memory) v.shards f = ⊎_elim (λ early. inl early.1) (λ late. inr (late.0.0, late.1)) e.begins in
     let own = bulk_own v.shards f known in
     let named_row = bulk_row v.shards f known in
-    rw c.status.ensures (record {
+    rw c.give_up.ensures.status (record {
       totals = λ sinks zero. absurd (no_zero f zero);
       ran_on = λ zero. absurd (no_zero f zero);
       begins = ⊎_elim (λ early. inl (early.0, no_zero f)) (λ late. let past = past_status f late.1 in inr (late.0, past.0, past.1)) e.begins;
@@ -50,11 +50,11 @@ returns-in-Err-clause-ends g c =
           inr
           (drill_left f (λ n is. none_bad v.shards n table (named_row n is) text.0 text.1) (λ place is. subst IsOfBulk is own) (λ log line w is. subst IsOfBulk is own) e.reads (λ is. quiet (e.write.rose (ap Err is))) e.fair);
       prefix = λ sinks five. e.prefix sinks (ap Err (write_of f five));
-      tells = λ sinks calm. inr (f, refl, named_in_bulk v f own named_row, c.tell.ensures sinks calm);
+      tells = λ sinks calm. inr (f, refl, named_in_bulk v f own named_row, c.give_up.ensures.told sinks calm);
     })
 
 pub returns-in-Err-clause-write : goal.returns-in-Err-clause-write
-returns-in-Err-clause-write g c = record { later = c.in-Err.ensures.write.later; rose = λ five. c.in-Err.ensures.write.rose (ap Err (write_of c.in-Err.fault (sym c.status.ensures ∙ five))) }
+returns-in-Err-clause-write g c = record { later = c.in-Err.ensures.write.later; rose = λ five. c.in-Err.ensures.write.rose (ap Err (write_of c.in-Err.fault (sym c.give_up.ensures.status ∙ five))) }
 
 pub returns-in-Err-clause-quiet : goal.returns-in-Err-clause-quiet
-returns-in-Err-clause-quiet g c here some other = ⊎_elim (λ is. absurd (other (c.status.ensures ∙ ap status_of is))) (λ same. same) (c.in-Err.ensures.quiet here)
+returns-in-Err-clause-quiet g c here some other = ⊎_elim (λ is. absurd (other (c.give_up.ensures.status ∙ ap status_of is))) (λ same. same) (c.in-Err.ensures.quiet here)

@@ -2,7 +2,7 @@ use Rattle.std.proofs.Common.{inl, inr, ⊎_elim, Err, refl, sym, ap, ◌∙◌,
 use Rattle.std.specs.Prelude.{⊤}
 use Rattle.time_shards.proofs.Texts.{none_bad}
 use Rattle.command_words.specs.Words.{values_in}
-use Rattle.photon_cli.specs.Faults.{status_of}
+use Rattle.run_fault.specs.Faults.{status_of}
 use Rattle.photon_cli.specs.LogFaults.{IsOfPlanOrLogs}
 use Rattle.photon_cli.proofs.Ends.{asked_valid, none_refused, not_invalid}
 use Rattle.photon_cli.proofs.Statuses.{IsKnown, bad_row, drill_early, drill_left, drill_row, failed_of, fair_status, line_of, named_in_drill, no_one, no_zero, past_status, plan_left, two_of, write_of}
@@ -38,7 +38,7 @@ returns-in-Err-clause-ends g c =
     let e = c.in-Err.ensures in
     let known : IsKnown IsOfPlanOrLogs v.shards f = ⊎_elim (λ early. inl early.1) (λ late. inr (late.0.0, late.1)) e.begins in
     let row = drill_row v.shards f known in
-    rw c.status.ensures (record {
+    rw c.give_up.ensures.status (record {
       drilled = λ logs sinks zero. absurd (no_zero f zero);
       ran_on = λ logs zero. absurd (no_zero f zero);
       begins = ⊎_elim (λ early. inl (early.0, no_zero f)) (λ late. let past = past_status f late.1 in inr (late.0, past.0, past.1)) e.begins;
@@ -51,7 +51,7 @@ returns-in-Err-clause-ends g c =
           ⊎_elim (λ early. drill_early v.shards f early.1 (table, text) (λ failed. calm (e.read.rose failed))) (λ late. absurd (not_invalid told v.queries v.clicks log (late.0.1 logs) invalid)) e.begins;
       prefix = λ logs sinks five. e.prefix logs sinks (ap Err (write_of f five));
       tells = λ logs sinks calm.
-          inr (f, refl, named_in_drill told v c.args.plan.now f row (λ place is. e.place logs place (ap Err is)) (λ log line w is. e.refused logs log line w (ap Err is)), c.tell.ensures sinks calm);
+          inr (f, refl, named_in_drill told v c.args.plan.now f row (λ place is. e.place logs place (ap Err is)) (λ log line w is. e.refused logs log line w (ap Err is)), c.give_up.ensures.told sinks calm);
       welcome = λ logs. fair_status f ⊤ tt (e.fair logs);
       complete = λ logs s asked p is calm quiet.
           inr
@@ -64,10 +64,10 @@ returns-in-Err-clause-ends g c =
     })
 
 pub returns-in-Err-clause-read : goal.returns-in-Err-clause-read
-returns-in-Err-clause-read g c = record { later = c.in-Err.ensures.read.later; rose = λ four. c.in-Err.ensures.read.rose (failed_of c.in-Err.fault (sym c.status.ensures ∙ four)) }
+returns-in-Err-clause-read g c = record { later = c.in-Err.ensures.read.later; rose = λ four. c.in-Err.ensures.read.rose (failed_of c.in-Err.fault (sym c.give_up.ensures.status ∙ four)) }
 
 pub returns-in-Err-clause-write : goal.returns-in-Err-clause-write
-returns-in-Err-clause-write g c = record { later = c.in-Err.ensures.write.later; rose = λ five. c.in-Err.ensures.write.rose (ap Err (write_of c.in-Err.fault (sym c.status.ensures ∙ five))) }
+returns-in-Err-clause-write g c = record { later = c.in-Err.ensures.write.later; rose = λ five. c.in-Err.ensures.write.rose (ap Err (write_of c.in-Err.fault (sym c.give_up.ensures.status ∙ five))) }
 
 pub returns-in-Err-clause-quiet : goal.returns-in-Err-clause-quiet
-returns-in-Err-clause-quiet g c here some other = ⊎_elim (λ is. absurd (other (c.status.ensures ∙ ap status_of is))) (λ same. same) (c.in-Err.ensures.quiet here)
+returns-in-Err-clause-quiet g c here some other = ⊎_elim (λ is. absurd (other (c.give_up.ensures.status ∙ ap status_of is))) (λ same. same) (c.in-Err.ensures.quiet here)

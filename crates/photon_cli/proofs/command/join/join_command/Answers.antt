@@ -1,17 +1,18 @@
-use Rattle.std.proofs.Common.{◌≡◌, ℕ, inl, inr, ⊎_elim, Err, IsTrue, refl, sym, ap, ◌∙◌, arith}
+use Rattle.std.proofs.Common.{◌≡◌, ℕ, Some, inl, inr, ⊎_elim, Err, IsTrue, refl, sym, ap, ◌∙◌, arith}
 use Rattle.time_shards.proofs.Texts.{none_bad}
 use Rattle.log_records.specs.declared.why.Why.{Why}
-use Rattle.site_run.specs.declared.faults.fault.LogName.{LogName}
+use Rattle.command_words.specs.Words.{values_in}
+use Rattle.run_fault.specs.declared.fault.LogName.{LogName}
+use Rattle.site_run.specs.Refused.{TellsPlaces, asked_of}
 use Rattle.site_run.proofs.Refusing.{kept_are_journals}
 use Rattle.turn_defs.specs.Setting.{Setting}
-use Rattle.command_words.specs.Words.{values_in}
-use Rattle.photon_cli.specs.declared.engine.fault.Fault.TheVariants as fault
-use Rattle.photon_cli.specs.Faults.{status_of}
+use Rattle.run_fault.specs.declared.fault.RunFault.TheVariants as fault
+use Rattle.run_fault.specs.Faults.{status_of}
 use Rattle.photon_cli.specs.Join.{IsAsked}
 use Rattle.photon_cli.specs.LogFaults.{IsOfLogs}
 use Rattle.photon_cli.proofs.Causing.{damage_told, ends_well, limit_told, mismatch_told}
 use Rattle.photon_cli.proofs.Ends.{asked_valid, none_refused, not_invalid}
-use Rattle.photon_cli.proofs.Statuses.{IsKnown, bad_row, early_left, failed_of, fair_status, join_own, join_row, join_two, line_of, named, no_one, no_zero, past_status, place_of, write_of}
+use Rattle.photon_cli.proofs.Statuses.{IsKnown, bad_row, early_left, failed_of, fair_status, join_own, join_past, join_row, join_two, line_of, named, no_one, no_zero, past_status, place_of, write_of}
 use Rattle.photon_cli.proofs.command.join.join_command.Goals as goal
 
 pub returns-in-Ok-clause-ends : goal.returns-in-Ok-clause-ends
@@ -58,8 +59,9 @@ returns-in-Err-clause-ends g c =
     let no_row = λ (s : Setting) (asked : IsAsked told v s) (n : ℕ) (is : f ≡ fault.Table n). none_bad v.shards n s.table (join_row v.shards f known n is) asked.table.0 asked.table.1 in
     let no_line = λ (logs : IsTrue g.F.Log.LogFile.tells) (s : Setting) (asked : IsAsked told v s) (log : LogName) (line : ℕ) (w : Why) (is : f ≡ fault.Refused log line w).
     none_refused told v.queries v.clicks log (record { line = line; why = w }) (asked_valid told v s asked) (e.refused logs log line w (ap Err is)) in
+    let past = λ (logs : IsTrue g.F.Log.LogFile.tells) (s : Setting) (asked : IsAsked told v s). join_past f own (no_row s asked) (no_line logs s asked) in
     let names = λ (logs : IsTrue g.F.Log.LogFile.tells). named told v f own (join_row v.shards f known) (λ log line w is. e.refused logs log line w (ap Err is)) in
-    rw c.status.ensures (record {
+    rw c.give_up.ensures.status (record {
       joined = λ logs sinks disks zero. absurd (no_zero f zero);
       afresh = λ logs sinks disks zero. absurd (no_zero f zero);
       ran_on = λ logs disks zero. absurd (no_zero f zero);
@@ -73,24 +75,24 @@ returns-in-Err-clause-ends g c =
           ⊎_elim (λ early. early_left v.shards f early.2 (table, text) (λ read. calm (e.read.rose read))) (λ late. absurd (not_invalid told v.queries v.clicks log (late.0.1 logs) invalid)) e.begins;
       stopped = λ six. let place = place_of f six in e.disks.rose (place.0, ap Err place.1);
       welcome = λ disks logs s asked sound leaves. fair_status f _ leaves (e.welcome disks logs s asked sound);
-      damaged = λ disks logs s asked disk taken none calm still. damage_told s before _ _ calm still f own (no_row s asked) (no_line logs s asked) (e.caused disks logs s asked) disk taken none;
-      mismatched = λ disks logs s asked other calm still. mismatch_told s before _ _ calm still f own (no_row s asked) (no_line logs s asked) (e.caused disks logs s asked) other;
-      limited = λ disks logs s asked at calm still. limit_told s before _ _ calm still f own (no_row s asked) (no_line logs s asked) (e.caused disks logs s asked) at;
+      damaged = λ disks logs s asked disk taken none calm still. damage_told before (Some (asked_of s)) (TellsPlaces s) _ _ _ calm still still f (past logs s asked) (e.caused disks logs s asked) (λ k kept. none (kept_are_journals s before k disk kept taken));
+      mismatched = λ disks logs s asked other calm still. mismatch_told before (Some (asked_of s)) (TellsPlaces s) _ _ _ calm still still f (past logs s asked) (e.caused disks logs s asked) other;
+      limited = λ disks logs s asked at calm still. limit_told before (Some (asked_of s)) (TellsPlaces s) _ _ _ calm still still f (past logs s asked) (e.caused disks logs s asked) at;
       passed = λ disks logs s asked zero. absurd (no_zero f zero);
       caused = λ logs. inr (f, refl, (names logs, λ disks s asked. e.caused disks logs s asked));
       prefix = λ logs sinks disks five. e.prefix logs sinks disks (ap Err (write_of f five));
-      tells = λ logs sinks calm. inr (f, refl, (names logs, λ disks s asked. e.caused disks logs s asked), c.tell.ensures sinks calm);
+      tells = λ logs sinks calm. inr (f, refl, (names logs, λ disks s asked. e.caused disks logs s asked), c.give_up.ensures.told sinks calm);
       sound = e.sound;
       grown = e.grown;
       complete = λ disks logs s asked sound leaves below calm still quiet.
-          inr (ends_well s before _ _ calm still f own (no_row s asked) (no_line logs s asked) (e.caused disks logs s asked) _ leaves below (λ is. quiet (e.write.rose (ap Err is))) (e.welcome disks logs s asked sound));
+          inr (ends_well before (Some (asked_of s)) (TellsPlaces s) _ _ _ calm still still f (past logs s asked) (e.caused disks logs s asked) _ leaves below (λ is. quiet (e.write.rose (ap Err is))) (e.welcome disks logs s asked sound));
     })
 
 pub returns-in-Err-clause-read : goal.returns-in-Err-clause-read
-returns-in-Err-clause-read g c = record { later = c.in-Err.ensures.read.later; rose = λ four. c.in-Err.ensures.read.rose (failed_of c.in-Err.fault (sym c.status.ensures ∙ four)) }
+returns-in-Err-clause-read g c = record { later = c.in-Err.ensures.read.later; rose = λ four. c.in-Err.ensures.read.rose (failed_of c.in-Err.fault (sym c.give_up.ensures.status ∙ four)) }
 
 pub returns-in-Err-clause-write : goal.returns-in-Err-clause-write
-returns-in-Err-clause-write g c = record { later = c.in-Err.ensures.write.later; rose = λ five. c.in-Err.ensures.write.rose (ap Err (write_of c.in-Err.fault (sym c.status.ensures ∙ five))) }
+returns-in-Err-clause-write g c = record { later = c.in-Err.ensures.write.later; rose = λ five. c.in-Err.ensures.write.rose (ap Err (write_of c.in-Err.fault (sym c.give_up.ensures.status ∙ five))) }
 
 pub returns-in-Err-clause-quiet : goal.returns-in-Err-clause-quiet
-returns-in-Err-clause-quiet g c here some other = ⊎_elim (λ is. absurd (other (c.status.ensures ∙ ap status_of is))) (λ same. same) (c.in-Err.ensures.quiet here)
+returns-in-Err-clause-quiet g c here some other = ⊎_elim (λ is. absurd (other (c.give_up.ensures.status ∙ ap status_of is))) (λ same. same) (c.in-Err.ensures.quiet here)

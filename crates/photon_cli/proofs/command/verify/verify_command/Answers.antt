@@ -1,16 +1,18 @@
-use Rattle.std.proofs.Common.{◌≡◌, ℕ, inl, inr, ⊎_elim, Bool, true, false, Err, IsTrue, refl, sym, ap, subst, ◌∙◌, arith}
+use Rattle.std.proofs.Common.{◌≡◌, ℕ, inl, inr, ⊎_elim, Bool, true, false, None, Err, IsTrue, refl, sym, ap, subst, ◌∙◌, arith}
 use Rattle.log_records.specs.declared.why.Why.{Why}
 use Rattle.turn_defs.specs.Setting.{Setting}
-use Rattle.site_run.specs.declared.faults.fault.LogName.TheVariants.{Clicks}
+use Rattle.run_fault.specs.declared.fault.LogName.TheVariants.{Clicks}
+use Rattle.std.specs.Prelude.{⊤}
+use Rattle.site_run.specs.Refused.{TellsPlaces}
 use Rattle.site_run.proofs.Refusing.{kept_are_journals}
-use Rattle.photon_cli.specs.declared.engine.fault.Fault.TheVariants as fault
+use Rattle.run_fault.specs.declared.fault.RunFault.TheVariants as fault
 use Rattle.photon_cli.specs.Causes.{IsOverLog, unasked}
-use Rattle.photon_cli.specs.Faults.{status_of}
+use Rattle.run_fault.specs.Faults.{status_of}
 use Rattle.photon_cli.specs.LogFaults.{IsOfVerify}
 use Rattle.photon_cli.specs.Verify.{PrintsKept}
-use Rattle.photon_cli.proofs.Reading.{damage_read, ends_read, limit_read, place_read}
+use Rattle.photon_cli.proofs.Causing.{damage_told, ends_well, limit_told, mismatch_told}
 use Rattle.photon_cli.proofs.Ends.{not_readable, over_valid}
-use Rattle.photon_cli.proofs.Statuses.{click_line, failed_of, fair_status, log_verify, named_in_verify, never_two, never_written, no_one, no_zero, past_status, past_verify, place_of, unreadable, write_of}
+use Rattle.photon_cli.proofs.Statuses.{click_line, failed_of, fair_status, log_verify, named_in_verify, never_two, never_written, no_one, no_zero, past_status, past_verify, place_of, unreadable, verify_past, write_of}
 use Rattle.photon_cli.proofs.command.verify.verify_command.Goals as goal
 
 pub returns-in-Ok-true-clause-ends : goal.returns-in-Ok-true-clause-ends
@@ -32,8 +34,8 @@ returns-in-Ok-true-clause-ends g c =
       stopped = λ six. absurd (omega (arith, six));
       welcome = λ disks logs s over replicas few sound leaves. (λ seven. omega (arith, seven), λ nine. omega (arith, nine));
       damaged = λ disks logs s over disk taken none calm still. let read = e.passed disks logs s over in absurd (none (kept_are_journals (unasked s) before read.0 disk read.1 taken));
-      misplaced = λ disks logs s over other calm still. let read = e.passed disks logs s over in absurd (other read.0 read.1 read.2);
-      limited = λ disks logs s over at calm still. let read = e.passed disks logs s over in absurd (at read.0 read.1 read.3);
+      misplaced = λ disks logs s over other calm still. let read = e.passed disks logs s over in absurd (other read.0 read.1 read.2.places);
+      limited = λ disks logs s over at calm still. let read = e.passed disks logs s over in absurd (at read.0 read.1 read.2.limits);
       passed = λ disks logs s over ended. e.passed disks logs s over;
       caused = λ logs. inr (inl refl);
       prefix = λ logs sinks disks five. absurd (omega (arith, five));
@@ -62,8 +64,8 @@ returns-in-Ok-false-clause-ends g c =
       stopped = λ six. absurd (omega (arith, six));
       welcome = λ disks logs s over replicas few sound leaves. (λ seven. omega (arith, seven), λ nine. omega (arith, nine));
       damaged = λ disks logs s over disk taken none calm still. let read = e.passed disks logs s over in absurd (none (kept_are_journals (unasked s) before read.0 disk read.1 taken));
-      misplaced = λ disks logs s over other calm still. let read = e.passed disks logs s over in absurd (other read.0 read.1 read.2);
-      limited = λ disks logs s over at calm still. let read = e.passed disks logs s over in absurd (at read.0 read.1 read.3);
+      misplaced = λ disks logs s over other calm still. let read = e.passed disks logs s over in absurd (other read.0 read.1 read.2.places);
+      limited = λ disks logs s over at calm still. let read = e.passed disks logs s over in absurd (at read.0 read.1 read.2.limits);
       passed = λ disks logs s over ended. e.passed disks logs s over;
       caused = λ logs. inl refl;
       prefix = λ logs sinks disks five. absurd (omega (arith, five));
@@ -82,8 +84,9 @@ returns-in-Err-clause-ends g c =
     let e = c.in-Err.ensures in
     let own : IsOfVerify f = ⊎_elim (λ early. log_verify f early.1) (λ late. past_verify f late.1) e.begins in
     let no_line = λ (logs : IsTrue g.F.Log.LogFile.tells) (s : Setting) (over : IsOverLog told clicks s) (line : ℕ) (w : Why) (is : f ≡ fault.Refused Clicks line w). over_valid (told clicks) s over (record { line = line; why = w }) (e.refused logs line w (ap Err is)) in
+    let past = λ (logs : IsTrue g.F.Log.LogFile.tells) (s : Setting) (over : IsOverLog told clicks s). verify_past f own (no_line logs s over) in
     let names = λ (logs : IsTrue g.F.Log.LogFile.tells). named_in_verify told clicks f own (λ line w is. e.refused logs line w (ap Err is)) in
-    rw c.status.ensures (record {
+    rw c.give_up.ensures.status (record {
       whole = λ logs sinks disks zero. absurd (no_zero f zero);
       missing = λ logs sinks disks one. absurd (no_one f one);
       begins = ⊎_elim (λ early. inl ((early.0, no_one f, λ five. never_written f early.1 (write_of f five)), no_zero f)) (λ late. let past = past_status f late.1 in inr (late.0, past.0, past.1)) e.begins;
@@ -92,24 +95,24 @@ returns-in-Err-clause-ends g c =
       words = never_two f own;
       stopped = λ six. let place = place_of f six in e.disks.rose (place.0, ap Err place.1);
       welcome = λ disks logs s over replicas few sound leaves. fair_status f _ tt (e.welcome disks logs s over replicas few leaves sound);
-      damaged = λ disks logs s over disk taken none calm still. damage_read s before _ _ calm still f own (no_line logs s over) (e.caused disks logs s over) disk taken none;
-      misplaced = λ disks logs s over other calm still. place_read s before _ _ calm still f own (no_line logs s over) (e.caused disks logs s over) other;
-      limited = λ disks logs s over at calm still. limit_read s before _ _ calm still f own (no_line logs s over) (e.caused disks logs s over) at;
+      damaged = λ disks logs s over disk taken none calm still. damage_told before None (TellsPlaces s) _ ⊥ _ calm still (λ l. l) f (past logs s over) (e.caused disks logs s over) (λ k kept. none (kept_are_journals (unasked s) before k disk kept taken));
+      misplaced = λ disks logs s over other calm still. mismatch_told before None (TellsPlaces s) _ ⊥ _ calm still (λ l. l) f (past logs s over) (e.caused disks logs s over) (λ k kept fit. other k kept);
+      limited = λ disks logs s over at calm still. limit_told before None (TellsPlaces s) _ ⊥ _ calm still (λ l. l) f (past logs s over) (e.caused disks logs s over) at;
       passed = λ disks logs s over ended. absurd (⊎_elim (no_zero f) (no_one f) ended);
       caused = λ logs. inr (inr (f, refl, (names logs, λ disks s over. e.caused disks logs s over)));
       prefix = λ logs sinks disks five. e.prefix logs sinks disks (ap Err (write_of f five));
-      tells = λ logs sinks calm. inr (inr (f, refl, (names logs, λ disks s over. e.caused disks logs s over), c.tell.ensures sinks calm));
+      tells = λ logs sinks calm. inr (inr (f, refl, (names logs, λ disks s over. e.caused disks logs s over), c.give_up.ensures.told sinks calm));
       stays = e.stays;
       sound = e.sound;
       complete = λ disks logs s over replicas few sound leaves below calm still quiet.
-          inr (inr (ends_read s before _ _ calm still f own (no_line logs s over) (e.caused disks logs s over) below (λ is. quiet (e.write.rose (ap Err is))) (e.welcome disks logs s over replicas few leaves sound)));
+          inr (inr (ends_well before None (TellsPlaces s) _ ⊥ _ calm still (λ l. l) f (past logs s over) (e.caused disks logs s over) ⊤ tt below (λ is. quiet (e.write.rose (ap Err is))) (e.welcome disks logs s over replicas few leaves sound)));
     })
 
 pub returns-in-Err-clause-read : goal.returns-in-Err-clause-read
-returns-in-Err-clause-read g c = record { later = c.in-Err.ensures.read.later; rose = λ four. c.in-Err.ensures.read.rose (failed_of c.in-Err.fault (sym c.status.ensures ∙ four)) }
+returns-in-Err-clause-read g c = record { later = c.in-Err.ensures.read.later; rose = λ four. c.in-Err.ensures.read.rose (failed_of c.in-Err.fault (sym c.give_up.ensures.status ∙ four)) }
 
 pub returns-in-Err-clause-write : goal.returns-in-Err-clause-write
-returns-in-Err-clause-write g c = record { later = c.in-Err.ensures.write.later; rose = λ five. c.in-Err.ensures.write.rose (ap Err (write_of c.in-Err.fault (sym c.status.ensures ∙ five))) }
+returns-in-Err-clause-write g c = record { later = c.in-Err.ensures.write.later; rose = λ five. c.in-Err.ensures.write.rose (ap Err (write_of c.in-Err.fault (sym c.give_up.ensures.status ∙ five))) }
 
 pub returns-in-Err-clause-quiet : goal.returns-in-Err-clause-quiet
-returns-in-Err-clause-quiet g c here some one other = ⊎_elim (λ is. absurd (other (c.status.ensures ∙ ap status_of is))) (λ same. same) (c.in-Err.ensures.quiet here)
+returns-in-Err-clause-quiet g c here some one other = ⊎_elim (λ is. absurd (other (c.give_up.ensures.status ∙ ap status_of is))) (λ same. same) (c.in-Err.ensures.quiet here)

@@ -7,7 +7,8 @@ use Rattle.log_records.specs.Report.{totals}
 use Rattle.report_text.specs.Stream.{TookPrefix}
 use Rattle.command_words.specs.Words.{bulk_values}
 use Rattle.photon_cli.specs.Join.{IsHeard}
-use Rattle.photon_cli.specs.LogFaults.{IsFair, IsPast}
+use Rattle.run_fault.specs.Causes.{IsWelcome}
+use Rattle.photon_cli.specs.LogFaults.{IsPast}
 use Rattle.photon_cli.proofs.Bulking.{bulk_early, bulk_run, bulk_totals, made_valid, no_read, without}
 use Rattle.photon_cli.proofs.Statuses.{run_past}
 use Rattle.photon_cli.proofs.engine.bulk.bulk_totals.Goals as goal
@@ -37,7 +38,7 @@ pub returns-in-Err-drilled_lines-clause-reads : goal.returns-in-Err-drilled_line
 returns-in-Err-drilled_lines-clause-reads g c = no_read c.in-Err-drilled_lines.fault c.without_reads.result c.without_reads.ensures
 
 pub returns-in-Err-drilled_lines-clause-fair : goal.returns-in-Err-drilled_lines-clause-fair
-returns-in-Err-drilled_lines-clause-fair g c = without (IsFair ⊤) c.in-Err-drilled_lines.fault c.without_reads.result c.without_reads.ensures tt (c.in-Err-drilled_lines.ensures.fair refl)
+returns-in-Err-drilled_lines-clause-fair g c = without (IsWelcome ⊤) c.in-Err-drilled_lines.fault c.without_reads.result c.without_reads.ensures tt (c.in-Err-drilled_lines.ensures.fair refl)
 
 pub returns-clause-begins : goal.returns-clause-begins
 returns-clause-begins g c = ⊎_elim (λ early. absurd early.1) (λ late. inr (((c.in-Ok.table, c.in-Ok.ensures.found), subst (λ (p : PlanView). IfSome c.drilled_lines.new.ran.log (IsHeard p)) c.in-Ok-bulk_plan.ensures late.1), tt)) c.in-Ok-drilled_lines.ensures.begins

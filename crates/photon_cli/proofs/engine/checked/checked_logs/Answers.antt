@@ -4,9 +4,9 @@ use Rattle.std.proofs.lemmas.Result.{err_from_is_err_and}
 use Rattle.log_records.specs.declared.records.QueryRec.{QueryRec}
 use Rattle.log_records.specs.Check.{IsQueryLog, RefusesClick}
 use Rattle.log_records.specs.declared.check.BadLine.{BadLine}
-use Rattle.site_run.specs.declared.faults.fault.LogName.{LogName}
-use Rattle.site_run.specs.declared.faults.fault.LogName.TheVariants.{Queries, Clicks}
-use Rattle.photon_cli.specs.declared.engine.fault.Fault.TheVariants as fault
+use Rattle.run_fault.specs.declared.fault.LogName.{LogName}
+use Rattle.run_fault.specs.declared.fault.LogName.TheVariants.{Queries, Clicks}
+use Rattle.run_fault.specs.declared.fault.RunFault.TheVariants as fault
 use Rattle.photon_cli.specs.Join.{HasIds, Refuses}
 use Rattle.photon_cli.proofs.Refusals.{same_log}
 use Rattle.photon_cli.proofs.Runs.{both_logs}

@@ -2,8 +2,8 @@ use Rattle.std.proofs.Common.{◌≡◌, List, ℕ, Err, inr, ap, subst, sym, �
 use Rattle.log_records.specs.declared.check.BadLine.{BadLine}
 use Rattle.log_records.specs.Check.{IsClickLog, RefusesClick}
 use Rattle.photon_cli.specs.CheckedLogs.{EndsAt}
-use Rattle.photon_cli.specs.declared.engine.fault.Fault.TheVariants as fault
-use Rattle.site_run.specs.declared.faults.fault.LogName.TheVariants.{Clicks}
+use Rattle.run_fault.specs.declared.fault.RunFault.TheVariants as fault
+use Rattle.run_fault.specs.declared.fault.LogName.TheVariants.{Clicks}
 use Rattle.photon_cli.specs.Join.{HasIds}
 use Rattle.photon_cli.specs.LogFaults.{IsLogFault}
 use Rattle.photon_cli.proofs.Refusals.{within, refusal_kind, told_line}

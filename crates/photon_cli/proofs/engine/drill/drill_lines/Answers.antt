@@ -1,19 +1,20 @@
 use Rattle.std.proofs.Common.{◌≡◌, ◌≤◌, ℕ, Bool, false, not, IsTrue, refl, subst, sym, ◌∙◌}
 use Rattle.std.specs.List.{list_any}
 use Rattle.std.specs.Option.{IfSome}
+use Rattle.std.specs.Prelude.{⊤}
 use Rattle.photon_cli.specs.Planned.{is_joiners}
 use Rattle.site_laws.specs.Laws.{made_by}
 use Rattle.site_workers.specs.Works.{is_stop}
 use Rattle.site_run.specs.declared.ran.RunLog.{RunLog}
 use Rattle.photon_cli.proofs.Drilling.{drilled, something_left}
-use Rattle.photon_cli.proofs.Statuses.{fair_by}
+use Rattle.site_run.proofs.Entered.{welcome_where}
 use Rattle.mem_outside.specs.Kept.{disk_of}
 use Rattle.photon_cli.proofs.engine.drill.drill_lines.Goals as goal
 
 pub returns-in-Err-clause-fair : goal.returns-in-Err-clause-fair
 returns-in-Err-clause-fair g c logs s setting =
     let sound = c.empty_store.ensures s c.args.store.now (λ disk is b now. c.requires.empty disk b now) in
-    fair_by c.in-Err.fault _ (λ store disk is. something_left (disk_of store.kept.items disk)) (c.in-Err.ensures.welcome refl logs s setting sound)
+    welcome_where c.in-Err.fault _ ⊤ (λ x store disk is. something_left (disk_of store.kept.items disk)) (c.in-Err.ensures.welcome refl logs s setting sound)
 
 pub returns-clause-drilled : goal.returns-clause-drilled
 returns-clause-drilled g c logs s setting own =

@@ -1,6 +1,6 @@
 use Rattle.std.proofs.Common.{◌≡◌, ⊎_elim, inl, inr, ℕ, List, Option, Err, refl, ap, subst}
 use Rattle.command_words.specs.Words.{values_in}
-use Rattle.photon_cli.specs.declared.engine.fault.Fault.TheVariants as fault
+use Rattle.run_fault.specs.declared.fault.RunFault.TheVariants as fault
 use Rattle.photon_cli.specs.Drill.{Drills}
 use Rattle.photon_cli.specs.Join.{AreValid, Refuses}
 use Rattle.photon_cli.proofs.Statuses.{plan_fair, run_past}

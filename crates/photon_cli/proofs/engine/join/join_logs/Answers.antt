@@ -1,16 +1,19 @@
-use Rattle.std.proofs.Common.{◌++◌, List, inl, inr, Err, refl, ap, subst, ◌∙◌}
+use Rattle.std.proofs.Common.{◌++◌, List, Some, inl, inr, Err, refl, ap, subst, ◌∙◌}
 use Rattle.std.specs.Option.{IfSome}
+use Rattle.std.specs.Prelude.{⊤}
 use Rattle.lossy_link.specs.Fates.{PlanView}
 use Rattle.outside.specs.Faults.{Rose}
 use Rattle.log_records.specs.declared.report.ReportLine.{ReportLine}
 use Rattle.log_records.specs.Report.{text_of}
 use Rattle.report_text.specs.Stream.{TookPrefix}
+use Rattle.site_run.specs.Refused.{TellsPlaces, asked_of}
 use Rattle.site_run.proofs.Counting.{rose_before}
+use Rattle.site_run.proofs.Entered.{counted_more}
 use Rattle.command_words.specs.Words.{values_in}
 use Rattle.photon_cli.specs.Join.{IsHeard, no_plan}
 use Rattle.photon_cli.proofs.Causing.{later_caused, log_caused}
 use Rattle.photon_cli.proofs.Runs.{history, if_history, is_asked, placed_ids, run_setting, setting_of}
-use Rattle.photon_cli.proofs.Statuses.{late_run, run_past}
+use Rattle.photon_cli.proofs.Statuses.{run_past}
 use Rattle.photon_cli.proofs.engine.join.join_logs.Goals as goal
 
 pub returns-in-Err-clause-begins : goal.returns-in-Err-clause-begins
@@ -32,12 +35,14 @@ returns-in-Err-checked_logs-clause-history g c disks logs s asked =
 pub returns-in-Err-checked_logs-clause-caused : goal.returns-in-Err-checked_logs-clause-caused
 returns-in-Err-checked_logs-clause-caused g c disks logs s asked =
     let e = c.in-Err-checked_logs.ensures in
-    log_caused s (g.S.Store.image c.args.store.now) _ _ c.in-Err-checked_logs.refused e.fault.0 e.fault.1 (λ is. e.count.rose (e.fault.0, ap Err is))
+    let faulted = Rose (g.S.Store.faults c.args.store.now) (g.S.Store.faults c.args.store.now) in
+    let read = Rose (g.F.Source.faults c.args.files.now) (g.F.Source.faults c.checked_logs.new.files) in
+    log_caused (g.S.Store.image c.args.store.now) (Some (asked_of s)) (TellsPlaces s) faulted faulted read c.in-Err-checked_logs.refused e.fault.0 e.fault.1 (λ is. e.count.rose (e.fault.0, ap Err is))
 
 pub returns-in-Err-run_lines-clause-begins : goal.returns-in-Err-run_lines-clause-begins
 returns-in-Err-run_lines-clause-begins g c =
     let ours = subst (λ (p : PlanView). IfSome c.run_lines.new.ran.log (IsHeard p)) c.empty-plan.ensures c.run_lines.ensures.heard in
-    inr (((c.in-Ok.table, c.in-Ok.ensures.found), (λ logs. let x = c.in-Ok-checked_logs.ensures.valid logs in (x.0, x.1, x.2)), ours), run_past c.in-Err-run_lines.fault (late_run c.in-Err-run_lines.fault _ _ c.in-Err-run_lines.ensures.cause))
+    inr (((c.in-Ok.table, c.in-Ok.ensures.found), (λ logs. let x = c.in-Ok-checked_logs.ensures.valid logs in (x.0, x.1, x.2)), ours), run_past c.in-Err-run_lines.fault (counted_more c.in-Err-run_lines.fault _ _ ⊤ ⊤ (λ rose. tt) (λ rose. tt) c.in-Err-run_lines.ensures.cause))
 
 pub returns-in-Err-run_lines-clause-history : goal.returns-in-Err-run_lines-clause-history
 returns-in-Err-run_lines-clause-history g c disks logs s asked =
@@ -101,11 +106,14 @@ returns-in-Err-run_lines-clause-caused g c disks logs s asked =
     let first = g.F.Source.faults c.args.files.now in
     let mid = g.F.Source.faults c.checked_logs.new.files in
     let last = g.F.Source.faults c.run_lines.new.files in
-    later_caused s (g.S.Store.image c.args.store.now) (Rose mid last) (Rose first last) _ (λ rose. rose_before first mid last c.checked_logs.ensures.count.later rose) c.in-Err-run_lines.fault (c.in-Err-run_lines.ensures.caused disks logs s setting)
+    let faulted = Rose (g.S.Store.faults c.args.store.now) (g.S.Store.faults c.run_lines.new.store) in
+    later_caused (g.S.Store.image c.args.store.now) (Some (asked_of s)) (TellsPlaces s) faulted faulted (Rose mid last) (Rose first last) (λ rose. rose_before first mid last c.checked_logs.ensures.count.later rose) c.in-Err-run_lines.fault (c.in-Err-run_lines.ensures.caused disks logs s setting)
 
 pub returns-clause-caused : goal.returns-clause-caused
-returns-clause-caused g c disks logs s asked =
-    c.in-Ok-run_lines.ensures.passed disks logs s (run_setting (g.F.Source.bytes c.args.files.now) (g.F.Source.bytes c.checked_logs.new.files) (values_in c.args.wanted.now) c.in-Ok.table c.in-Ok-checked_logs.clicks.lines_end s asked c.in-Ok.ensures.found (c.in-Ok-checked_logs.ensures.same logs) (c.in-Ok-checked_logs.ensures.end logs))
+returns-clause-caused g c disks logs s asked = (
+  tt,
+  c.in-Ok-run_lines.ensures.passed disks logs s (run_setting (g.F.Source.bytes c.args.files.now) (g.F.Source.bytes c.checked_logs.new.files) (values_in c.args.wanted.now) c.in-Ok.table c.in-Ok-checked_logs.clicks.lines_end s asked c.in-Ok.ensures.found (c.in-Ok-checked_logs.ensures.same logs) (c.in-Ok-checked_logs.ensures.end logs)),
+)
 
 pub returns-in-Ok-write_report-clause-passed : goal.returns-in-Ok-write_report-clause-passed
 returns-in-Ok-write_report-clause-passed g c disks logs s asked =

@@ -1,15 +1,19 @@
-use Rattle.std.proofs.Common.{◌≡◌, inr, List, ℕ, Err, sym, ap, subst}
+use Rattle.std.proofs.Common.{◌≡◌, inr, List, ℕ, None, Err, sym, ap, subst, arith}
 use Rattle.std.specs.Prelude.{⊤}
 use Rattle.outside.specs.Faults.{Rose}
 use Rattle.outside.specs.declared.store.DiskName.{DiskName}
-use Rattle.site_run.specs.declared.faults.fault.LogName.TheVariants.{Clicks}
-use Rattle.site_run.specs.declared.faults.fault.RunFault.{RunFault}
+use Rattle.run_fault.specs.declared.fault.LogName.TheVariants.{Clicks}
 use Rattle.site_run.proofs.Counting.{rose_before}
-use Rattle.photon_cli.specs.declared.engine.fault.Fault.TheVariants as fault
-use Rattle.photon_cli.specs.Causes.{HasCauseInVerify, StopsReading}
-use Rattle.photon_cli.specs.LogFaults.{IsFair}
+use Rattle.run_fault.specs.declared.fault.RunFault.TheVariants as fault
+use Rattle.run_fault.specs.Causes.{IsWelcome}
+use Rattle.site_store.specs.Causes.{AreTold, IsCause}
+use Rattle.site_store.proofs.Causes.{failed_rose}
+use Rattle.site_run.specs.Refused.{TellsPlaces}
+use Rattle.site_run.proofs.Entered.{welcome_where}
+use Rattle.photon_cli.specs.Causes.{HasCauseInVerify}
 use Rattle.photon_cli.specs.Verify.{IsReadFrom}
-use Rattle.photon_cli.proofs.Reading.{log_in_verify, log_over, place_fair, place_stops, read_so, refused_so, rose_shut, welcome_so}
+use Rattle.photon_cli.proofs.Causing.{log_caused}
+use Rattle.photon_cli.proofs.Reading.{log_over, place_fair, place_stops, read_rose, read_so, refused_so, rose_shut}
 use Rattle.photon_cli.proofs.Refusals.{within}
 use Rattle.photon_cli.proofs.Statuses.{log_fair}
 use Rattle.photon_cli.proofs.Verifying.{read_before, sound_before}
@@ -36,18 +40,21 @@ returns-in-Err-read-clause-sound g c here s sound =
     c.read_store-read.ensures.sound here s (sound_before (g.S.Store.image c.args.store.now) (g.S.Store.image c.place.new.self) (λ disk b now. c.place.ensures.same here disk b now) s sound)
 
 pub returns-in-Err-clause-caused : goal.returns-in-Err-clause-caused
-returns-in-Err-clause-caused g c disks logs s over end = log_in_verify s (g.S.Store.image c.args.store.now) _ _ c.in-Err.fault Clicks (inr c.in-Err.ensures.fault) (λ is. c.in-Err.ensures.count.rose (ap Err is))
+returns-in-Err-clause-caused g c disks logs s over end =
+    let faulted = Rose (g.S.Store.faults c.args.store.now) (g.S.Store.faults c.args.store.now) in
+    let read = Rose (g.F.Source.faults c.args.files.now) (g.F.Source.faults c.open_log.new.files) in
+    log_caused (g.S.Store.image c.args.store.now) None (TellsPlaces s) faulted ⊥ read c.in-Err.fault Clicks (inr c.in-Err.ensures.fault) (λ is. c.in-Err.ensures.count.rose (ap Err is))
 
 pub returns-in-Err-clause-welcome : goal.returns-in-Err-clause-welcome
 returns-in-Err-clause-welcome g c disks logs s over end replicas few leaves sound = log_fair c.in-Err.fault Clicks (inr c.in-Err.ensures.fault)
 
 pub returns-in-Err-place-clause-caused : goal.returns-in-Err-place-clause-caused
 returns-in-Err-place-clause-caused g c disks logs s over end =
-    subst (HasCauseInVerify s (g.S.Store.image c.args.store.now) _ _) (sym c.fault_of_place.ensures)
+    subst (HasCauseInVerify s (g.S.Store.image c.args.store.now) _ _) (sym c.from.ensures)
     (place_stops s (g.S.Store.image c.args.store.now) _ _ c.in-Err-place.fault (λ is. c.in-Err-place.ensures.count.rose (ap Err is)))
 
 pub returns-in-Err-place-clause-welcome : goal.returns-in-Err-place-clause-welcome
-returns-in-Err-place-clause-welcome g c disks logs s over end replicas few leaves sound = subst (IsFair ⊤) (sym c.fault_of_place.ensures) (place_fair c.in-Err-place.fault)
+returns-in-Err-place-clause-welcome g c disks logs s over end replicas few leaves sound = subst (IsWelcome ⊤) (sym c.from.ensures) (place_fair c.in-Err-place.fault)
 
 pub returns-in-Err-read-clause-caused : goal.returns-in-Err-read-clause-caused
 returns-in-Err-read-clause-caused g c disks logs s over end =
@@ -63,12 +70,11 @@ returns-in-Err-read-clause-caused g c disks logs s over end =
     let store_placed = g.S.Store.faults c.place.new.self in
     let store_new = g.S.Store.faults c.read_store-read.new.store in
     let e = c.in-Err-read.ensures in
-    subst (λ (f : RunFault). StopsReading s before (Rose first last) (Rose store_old store_new) f) (sym c.fault_of_refusal.ensures)
-    (refused_so before placed inside s g.S.Disk.Disk.tells g.F.Log.LogFile.tells disks logs bytes c.args.end (log_over (g.F.Source.bytes c.args.files.now c.args.clicks.now) bytes s (c.in-Ok.ensures.bytes logs) over) end
-    old new store_placed store_new (Rose first last) (Rose store_old store_new)
+    refused_so before placed inside s g.S.Disk.Disk.tells g.F.Log.LogFile.tells disks logs bytes c.args.end (log_over (g.F.Source.bytes c.args.files.now c.args.clicks.now) bytes s (c.in-Ok.ensures.bytes logs) over) end
+    (Rose old new) (Rose store_placed store_new) (Rose first last) (Rose store_old store_new)
     (λ rose. rose_shut first (g.F.Source.faults c.open_log.new.files) last old new c.in-Ok.ensures.fresh c.open_log.ensures.count.later c.shut-2.ensures.count rose)
     (λ rose. rose_before store_old store_placed store_new c.place.ensures.count.later rose)
-    c.in-Err-read.refusal e.first e.rose (e.damaged disks) e.cause)
+    c.in-Err-read.fault e.cause
 
 pub returns-in-Ok-read-clause-passed : goal.returns-in-Ok-read-clause-passed
 returns-in-Ok-read-clause-passed g c disks logs s over end =
@@ -87,5 +93,33 @@ returns-in-Err-read-clause-welcome g c disks logs s over end replicas few leaves
     let bytes = g.F.Log.LogFile.bytes c.in-Ok.log in
     let log_is = log_over (g.F.Source.bytes c.args.files.now c.args.clicks.now) bytes s (c.in-Ok.ensures.bytes logs) over in
     let some = leaves c.place.new.self in
-    subst (λ (f : RunFault). IsFair ⊤ (fault.Run f)) (sym c.fault_of_refusal.ensures)
-    (welcome_so s placed some c.in-Err-read.refusal (c.in-Err-read.ensures.welcome disks logs s log_is end replicas few some (sound_before before placed inside s sound)))
+    welcome_where c.in-Err-read.fault _ ⊤ (λ x. some) (c.in-Err-read.ensures.welcome disks logs s log_is end replicas few some (sound_before before placed inside s sound))
+
+pub returns-in-Err-read-clause-log_count : goal.returns-in-Err-read-clause-log_count
+returns-in-Err-read-clause-log_count g c =
+    let first = g.F.Source.faults c.args.files.now in
+    let last = g.F.Source.faults c.shut-2.new.self in
+    let old = g.F.Log.LogFile.faults c.in-Ok.log in
+    let new = g.F.Log.LogFile.faults c.read_store-read.new.clicks in
+    record {
+      later = omega (arith, c.open_log.ensures.count.later, c.shut-2.ensures.count);
+      rose = λ failed. rose_shut first (g.F.Source.faults c.open_log.new.files) last old new c.in-Ok.ensures.fresh c.open_log.ensures.count.later c.shut-2.ensures.count
+          (read_rose g.S.Disk.Disk.tells (g.S.Store.image c.place.new.self) _ g.F.Log.LogFile.tells (g.F.Log.LogFile.bytes c.in-Ok.log) c.args.end (Rose old new) c.in-Err-read.fault c.in-Err-read.ensures.cause failed);
+    }
+
+pub returns-in-Err-read-clause-count : goal.returns-in-Err-read-clause-count
+returns-in-Err-read-clause-count g c =
+    let tells = g.S.Disk.Disk.tells in
+    let placed = g.S.Store.image c.place.new.self in
+    let log = g.F.Log.LogFile in
+    let bytes = log.bytes c.in-Ok.log in
+    let old = g.S.Store.faults c.place.new.self in
+    let new = g.S.Store.faults c.read_store-read.new.store in
+    let read = Rose (log.faults c.in-Ok.log) (log.faults c.read_store-read.new.clicks) in
+    record {
+      later = omega (arith, c.place.ensures.count.later, c.read_store-read.ensures.count);
+      rose = λ (place, is).
+          let same : c.in-Err-read.fault ≡ fault.Store place = cc in
+          rose_before (g.S.Store.faults c.args.store.now) old new c.place.ensures.count.later
+          (failed_rose tells placed None (AreTold log.tells bytes c.args.end) (Rose old new) place (subst (IsCause tells placed (Rose old new) log.tells bytes c.args.end read None) same c.in-Err-read.ensures.cause));
+    }

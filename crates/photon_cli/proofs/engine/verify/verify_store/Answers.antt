@@ -1,4 +1,4 @@
-use Rattle.std.proofs.Common.{◌++◌, ℕ, List, Option, Err, inl, inr, refl, ap, sym, subst, ◌∙◌}
+use Rattle.std.proofs.Common.{◌++◌, ℕ, List, Option, None, Err, inl, inr, refl, ap, sym, subst, ◌∙◌}
 use Rattle.std.specs.List.{list_any}
 use Rattle.std.specs.Option.{IsSomeAnd}
 use Rattle.log_records.specs.declared.report.ReportLine.{ReportLine}
@@ -6,10 +6,11 @@ use Rattle.log_records.specs.Report.{is_missing, text_of}
 use Rattle.report_text.specs.Stream.{TookPrefix}
 use Rattle.outside.specs.Faults.{Rose}
 use Rattle.dispatch_node.specs.Places.{IsLogOf}
-use Rattle.site_run.specs.declared.faults.fault.LogName.TheVariants.{Clicks}
+use Rattle.run_fault.specs.declared.fault.LogName.TheVariants.{Clicks}
 use Rattle.site_run.proofs.Counting.{rose_before}
 use Rattle.photon_cli.specs.Verify.{IsReadFrom}
-use Rattle.photon_cli.proofs.Reading.{later_in_verify, log_in_verify}
+use Rattle.site_run.specs.Refused.{TellsPlaces}
+use Rattle.photon_cli.proofs.Causing.{later_caused, log_caused}
 use Rattle.photon_cli.proofs.Runs.{clicks_there, ends_there}
 use Rattle.photon_cli.proofs.Statuses.{log_fair, run_past}
 use Rattle.photon_cli.proofs.Verifying.{told_of}
@@ -68,7 +69,10 @@ pub returns-clause-begins : goal.returns-clause-begins
 returns-clause-begins g c = inr ((λ logs. clicks_there _ _ (c.in-Ok.ensures.found logs)), tt)
 
 pub returns-in-Err-clause-caused : goal.returns-in-Err-clause-caused
-returns-in-Err-clause-caused g c disks logs s over = log_in_verify s (g.S.Store.image c.args.store.now) _ _ c.in-Err.refused Clicks c.in-Err.ensures.fault (λ is. c.in-Err.ensures.count.rose (ap Err is))
+returns-in-Err-clause-caused g c disks logs s over =
+    let faulted = Rose (g.S.Store.faults c.args.store.now) (g.S.Store.faults c.args.store.now) in
+    let read = Rose (g.F.Source.faults c.args.files.now) (g.F.Source.faults c.clicks_in_log.new.files) in
+    log_caused (g.S.Store.image c.args.store.now) None (TellsPlaces s) faulted ⊥ read c.in-Err.refused Clicks c.in-Err.ensures.fault (λ is. c.in-Err.ensures.count.rose (ap Err is))
 
 pub returns-in-Err-clause-welcome : goal.returns-in-Err-clause-welcome
 returns-in-Err-clause-welcome g c disks logs s over replicas few leaves sound = log_fair c.in-Err.refused Clicks c.in-Err.ensures.fault
@@ -82,7 +86,8 @@ returns-in-Err-kept_store-clause-caused g c disks logs s over =
     let first = g.F.Source.faults c.args.files.now in
     let mid = g.F.Source.faults c.clicks_in_log.new.files in
     let last = g.F.Source.faults c.kept_store.new.files in
-    later_in_verify s (g.S.Store.image c.args.store.now) (Rose mid last) (Rose first last) _ (λ rose. rose_before first mid last c.clicks_in_log.ensures.count.later rose) c.in-Err-kept_store.fault (c.in-Err-kept_store.ensures.caused disks logs s here end)
+    let faulted = Rose (g.S.Store.faults c.args.store.now) (g.S.Store.faults c.kept_store.new.store) in
+    later_caused (g.S.Store.image c.args.store.now) None (TellsPlaces s) faulted ⊥ (Rose mid last) (Rose first last) (λ rose. rose_before first mid last c.clicks_in_log.ensures.count.later rose) c.in-Err-kept_store.fault (c.in-Err-kept_store.ensures.caused disks logs s here end)
 
 pub returns-in-Err-kept_store-clause-welcome : goal.returns-in-Err-kept_store-clause-welcome
 returns-in-Err-kept_store-clause-welcome g c disks logs s over replicas few leaves sound =
@@ -98,7 +103,7 @@ returns-clause-caused g c disks logs s over =
     let clicks = c.args.clicks.now in
     let here = subst (λ (o : Option (List ℕ)). IsSomeAnd o (λ log. IsLogOf log s)) (sym (c.in-Ok.ensures.same logs clicks)) over in
     let end = ends_there (told clicks) s c.in-Ok.checked.lines_end over (c.in-Ok.ensures.end logs) in
-    c.in-Ok-kept_store.ensures.passed disks logs s here end
+    (tt, c.in-Ok-kept_store.ensures.passed disks logs s here end)
 
 pub returns-in-Ok-write_report-clause-passed : goal.returns-in-Ok-write_report-clause-passed
 returns-in-Ok-write_report-clause-passed g c disks logs s over =

@@ -1,12 +1,14 @@
-use Rattle.std.proofs.Common.{inr, ap, sym, ◌∙◌, subst, arith}
+use Rattle.std.proofs.Common.{◌≡◌, inl, inr, ℕ, ap, sym, ◌∙◌, subst, arith}
+use Rattle.outside.specs.declared.store.DiskName.{DiskName}
 use Rattle.outside.specs.declared.store.DiskName.TheVariants as name
 use Rattle.gate_journal.specs.Images.{StaysAs, IsKeptIn}
 use Rattle.site_store.specs.Records.{IsOfKind, IsKept, KeepsAs}
-use Rattle.site_store.specs.Refusals.{IsOfFirst, other_names}
-use Rattle.site_store.proofs.Faults.{rose_on}
+use Rattle.site_store.specs.Refusals.{IsFirst, IsFirstDisk, other_names}
+use Rattle.site_store.proofs.Faults.{unopened_more}
 use Rattle.site_store.proofs.Lending.{first_lent, lacks_by_names}
 use Rattle.site_store.proofs.Names.{not_topology}
-use Rattle.site_store.proofs.Taking.{kept_before, back_again, first_before, damaged_before}
+use Rattle.site_store.proofs.Taking.{kept_before, back_again, first_before, first_other}
+use Rattle.site_store.proofs.Readings.{handed_on}
 use Rattle.site_store.proofs.Values.{names_kept, each_kept}
 use Rattle.site_store.proofs.disks.all.open_disks.Goals as goal
 
@@ -46,20 +48,21 @@ pub returns-in-Err-clause-first : goal.returns-in-Err-clause-first
 returns-in-Err-clause-first g c =
     let tells = g.S.Disk.Disk.tells in
     let before = g.S.Store.image c.args.store.now in
-    let kept = c.into_topology-topology.result.value.kept in
-    let first = first_before tells before (g.S.Store.image c.open_one.new.store) name.Topology c.in_ok-open_one.ensures.others _ c.in-Err.fault (not_topology _ c.joiners_of.ensures.few) c.in-Err.ensures.first in
-    inr (
-      kept,
-      (λ sure. subst (λ k. IsKeptIn (before name.Topology) (KeepsAs k)) c.into_topology-topology.ensures.kept (c.in_ok-open_one.ensures.kept sure)),
-      subst (λ n. IsOfFirst tells before (other_names n) c.in-Err.fault) c.joiners_of.ensures.number first,
-    )
-
-pub returns-in-Err-clause-rose : goal.returns-in-Err-clause-rose
-returns-in-Err-clause-rose g c =
-    rose_on c.in-Err.fault _ _ _ _ c.open_one.ensures.count (omega (arith, c.give.ensures.count)) c.in-Err.ensures.rose
-
-pub returns-in-Err-clause-damaged : goal.returns-in-Err-clause-damaged
-returns-in-Err-clause-damaged g c sure =
-    let before = g.S.Store.image c.args.store.now in
     let mid = g.S.Store.image c.open_one.new.store in
-    damaged_before before mid name.Topology (c.in_ok-open_one.ensures.others sure) g.S.Disk.Disk.tells _ c.in-Err.fault (not_topology _ c.joiners_of.ensures.few) c.in-Err.ensures.first (c.in-Err.ensures.damaged sure)
+    let n = c.joiners_of.result in
+    let away = not_topology n c.joiners_of.ensures.few in
+    let others = c.in_ok-open_one.ensures.others in
+    unopened_more tells before mid _ _ _ _ (IsFirst tells mid (other_names n)) (IsFirstDisk tells before c.args.asked) c.in-Err.fault c.open_one.ensures.count (omega (arith, c.give.ensures.count))
+    (λ disk first. inr (
+      c.into_topology-topology.result.value.kept,
+      (λ sure. subst (λ k. IsKeptIn (before name.Topology) (KeepsAs k)) c.into_topology-topology.ensures.kept (c.in_ok-open_one.ensures.kept sure)),
+      subst (λ (m : ℕ). IsFirst tells before (other_names m) disk) c.joiners_of.ensures.number (first_before tells before mid name.Topology others (other_names n) disk away first),
+    ))
+    (λ sure disk first. others sure disk (first_other tells mid name.Topology (other_names n) disk away first)) c.in-Err.ensures.first
+
+pub returns-in_err-open_one-clause-first : goal.returns-in_err-open_one-clause-first
+returns-in_err-open_one-clause-first g c =
+    let tells = g.S.Disk.Disk.tells in
+    let before = g.S.Store.image c.args.store.now in
+    handed_on c.from_residual.result c.in_err-open_one.field-0.0 _ c.from_residual.ensures.1
+    (unopened_more tells before before _ _ _ _ (λ (disk : DiskName). disk ≡ name.Topology) (IsFirstDisk tells before c.args.asked) c.in_err-open_one.field-0.0 (omega arith) (omega arith) (λ disk is. inl is) (λ sure disk is bytes now. now) c.in_err-open_one.ensures.err)

@@ -1,12 +1,12 @@
-use Rattle.std.proofs.Common.{rules, ◌≡◌, ◌≢◌, ◌<◌, length, get_or, subst, sym, ◌∙◌, arith}
+use Rattle.std.proofs.Common.{rules, ◌≡◌, ◌≢◌, ◌<◌, List, length, get_or, subst, sym, ◌∙◌, arith}
 use Rattle.list_words.specs.Lists.{Each, EachPair}
 use Rattle.outside.specs.declared.store.DiskName.{DiskName}
+use Rattle.outside.specs.Disk.{Within}
 use Rattle.site_store.specs.Lent.{Lacks, IsLent}
-use Rattle.site_store.specs.Opening.{IsOf}
 use Rattle.site_store.specs.Records.{IsOfKind, IsKept, kept_by, lent_all}
-use Rattle.site_store.specs.Refusals.{IsOfFirst}
-use Rattle.site_store.proofs.Faults.{rose_on}
-use Rattle.site_store.proofs.Lending.{names_more, each_more, opened_more, keeps_first, lacks_next, length_more, cut_back, damaged_first}
+use Rattle.site_store.specs.Refusals.{IsFirst, other_names}
+use Rattle.site_store.proofs.Faults.{unopened_more}
+use Rattle.site_store.proofs.Lending.{names_more, each_more, opened_more, keeps_first, lacks_next, length_more, cut_back}
 use Rattle.site_store.proofs.Names.{others_apart}
 use Rattle.site_store.proofs.Values.{were_journals}
 use Rattle.site_store.proofs.Refusals.{first_at}
@@ -65,28 +65,19 @@ returns-in-Err-clause-back g c tells =
 pub returns-in-Err-clause-first : goal.returns-in-Err-clause-first
 returns-in-Err-clause-first g c =
     let tells = g.S.Disk.Disk.tells in
-    let before = g.S.Store.image c.args.store.now in
-    let names = c.in-Ok.names.items in
-    let name = c.index.result.now in
-    let is : name ≡ get_or names c.loop-i.i name = c.index.ensures in
-    let inv = c.loop-i.invariant in
-    let lt : c.loop-i.i < length names = omega (arith, c.loop-i-test.true) in
-    subst (λ ns. IsOfFirst tells before ns c.in-Err.fault) c.in-Ok.ensures
-    (first_at tells before names c.loop-i.i name c.in-Err.fault lt (subst (λ (n : DiskName). IsOf n c.in-Err.fault) is c.in-Err.ensures.of)
-    (λ sure. were_journals before c.loop-i.disks.items _ inv.names inv.kinds (inv.kept sure)))
-
-pub returns-in-Err-clause-rose : goal.returns-in-Err-clause-rose
-returns-in-Err-clause-rose g c = rose_on c.in-Err.fault _ _ _ _ c.loop-i.invariant.count c.give_each.ensures.count c.in-Err.ensures.rose
-
-pub returns-in-Err-clause-damaged : goal.returns-in-Err-clause-damaged
-returns-in-Err-clause-damaged g c tells =
     let image = g.S.Store.image in
+    let before = image c.args.store.now in
+    let mid = image c.loop-i.store in
     let names = c.in-Ok.names.items in
+    let i = c.loop-i.i in
     let name = c.index.result.now in
-    let is : name ≡ get_or names c.loop-i.i name = c.index.ensures in
+    let is : name ≡ get_or names i name = c.index.ensures in
     let items = c.loop-i.disks.items in
-    let so = c.loop-i.invariant.lent tells in
-    let lt : c.loop-i.i < length names = omega (arith, c.loop-i-test.true) in
+    let inv = c.loop-i.invariant in
+    let lt : i < length names = omega (arith, c.loop-i-test.true) in
     let apart = subst (EachPair (λ one other. one ≢ other)) (sym c.in-Ok.ensures) (others_apart c.args.joiners c.requires.few) in
-    let lacks : Lacks (lent_all items) name = subst (Lacks (lent_all items)) (sym is) (lacks_next names c.loop-i.i name items apart c.loop-i.invariant.names lt) in
-    damaged_first (image c.args.store.now) (image c.loop-i.store) name c.in-Err.fault c.in-Err.ensures.of (so.others name lacks) (c.in-Err.ensures.damaged tells)
+    let lacks : Lacks (lent_all items) name = subst (Lacks (lent_all items)) (sym is) (lacks_next names i name items apart inv.names lt) in
+    let first : IsFirst tells before names (get_or names i name) = first_at tells before names i name lt (λ sure. were_journals before items _ inv.names inv.kinds (inv.kept sure)) in
+    unopened_more tells before mid _ _ _ _ (λ (disk : DiskName). disk ≡ name) (IsFirst tells before (other_names c.args.joiners)) c.in-Err.fault inv.count c.give_each.ensures.count
+    (λ disk named. subst (λ (ns : List DiskName). IsFirst tells before ns disk) c.in-Ok.ensures (subst (IsFirst tells before names) (sym (named ∙ is)) first))
+    (λ sure disk named. subst (λ (n : DiskName). Within (before n) (mid n)) (sym named) ((inv.lent sure).others name lacks)) c.in-Err.ensures.err

@@ -1,7 +1,8 @@
 use Rattle.std.proofs.Common.{subst}
-use Rattle.site_store.specs.Causes.{IsCause, joiners_asked}
+use Rattle.site_store.specs.Opening.{IsUnopened}
+use Rattle.site_store.specs.Refusals.{IsFirstDisk}
 use Rattle.site_store.specs.Records.{AreKept, values_of}
-use Rattle.site_store.proofs.Causes.{judged}
+use Rattle.site_store.proofs.Causes.{judged, unopened_cause}
 use Rattle.site_store.proofs.Lending.{stays_as}
 use Rattle.site_store.proofs.opening.asked.open_for.Goals as goal
 
@@ -17,4 +18,14 @@ returns-in-Some-clause-cause g c =
     let before = g.S.Store.image c.args.store.now in
     let k = values_of c.in-Ok.open.topology.value.kept c.in-Ok.open.disks.items in
     let kept = subst (λ n. AreKept tells before n k) c.joiners_of.ensures.number c.in-Ok.ensures.kept in
-    judged (AreKept tells before (joiners_asked c.args.asked.now)) (IsCause log.tells (log.bytes c.args.clicks.now) c.args.end (log.faults c.args.clicks.now) (log.faults c.judge.new.clicks) c.args.asked.now) k c.in-Some.refusal kept c.in-Some.ensures.cause
+    judged tells before log.tells (log.bytes c.args.clicks.now) c.args.end _ c.args.asked.now _ k c.in-Some.fault kept c.in-Some.ensures.cause
+
+pub returns-in-Err-clause-cause : goal.returns-in-Err-clause-cause
+returns-in-Err-clause-cause g c =
+    let log = g.L.LogFile in
+    let tells = g.S.Disk.Disk.tells in
+    let before = g.S.Store.image c.args.store.now in
+    let old = g.S.Store.faults c.args.store.now in
+    let new = g.S.Store.faults c.open_disks.new.store in
+    unopened_cause tells before log.tells (log.bytes c.args.clicks.now) c.args.end _ c.args.asked.now old new c.in-Err.fault
+    (subst (λ n. IsUnopened tells before old new (IsFirstDisk tells before n) c.in-Err.fault) c.joiners_of.ensures.number c.in-Err.ensures.first)

@@ -1,6 +1,5 @@
-use Rattle.std.proofs.Common.{◌≡◌, None, Some, subst}
-use Rattle.std.specs.Prelude.{MatchOption}
-use Rattle.site_store.specs.Causes.{AreTold, PlacesFit, IsLimit}
+use Rattle.std.proofs.Common.{None, Some, subst, ap, ◌∙◌}
+use Rattle.site_store.specs.Causes.{AreTold}
 use Rattle.site_store.specs.Misfits.{limit_in}
 use Rattle.site_store.specs.Records.{kept_all, values_of}
 use Rattle.site_store.proofs.Causes.{none_is, passed_for, limit_for}
@@ -11,22 +10,20 @@ returns-in-Ok-None-clause-passed g c =
     let log = g.L.LogFile in
     let k = values_of c.args.opened.now.topology.value.kept c.args.opened.now.disks.items in
     let fit = none_is c.other.result _ c.in_default.not-Some c.other.ensures in
-    let places : PlacesFit log.tells (log.bytes c.args.clicks.now) c.args.end k.disks =
+    let places : AreTold log.tells (log.bytes c.args.clicks.now) c.args.end k.disks None =
     subst (λ xs. AreTold log.tells (log.bytes c.args.clicks.now) c.args.end (kept_all xs) None) c.deref.ensures.value
     (subst (AreTold log.tells (log.bytes c.args.clicks.now) c.args.end (kept_all c.deref.result.now)) c.in-Ok-None.field-0-is c.in-Ok-None.ensures.first) in
-    passed_for log.tells (log.bytes c.args.clicks.now) c.args.end 0 0 c.args.asked.now k fit places c.at_limit.result
-    (subst (λ xs. MatchOption c.at_limit.result (limit_in (kept_all xs) ≡ None) (IsLimit (limit_in (kept_all xs)))) c.deref-in-Ok-None.ensures.value c.at_limit.ensures)
+    passed_for log.tells (log.bytes c.args.clicks.now) c.args.end c.args.asked.now k fit places c.first_limit.result (c.first_limit.ensures ∙ ap (λ xs. limit_in (kept_all xs)) c.deref-in-Ok-None.ensures.value)
 
 pub returns-in-Ok-None-clause-cause : goal.returns-in-Ok-None-clause-cause
 returns-in-Ok-None-clause-cause g c =
     let log = g.L.LogFile in
     let k = values_of c.args.opened.now.topology.value.kept c.args.opened.now.disks.items in
     let fit = none_is c.other.result _ c.in_default.not-Some c.other.ensures in
-    let places : PlacesFit log.tells (log.bytes c.args.clicks.now) c.args.end k.disks =
+    let places : AreTold log.tells (log.bytes c.args.clicks.now) c.args.end k.disks None =
     subst (λ xs. AreTold log.tells (log.bytes c.args.clicks.now) c.args.end (kept_all xs) None) c.deref.ensures.value
     (subst (AreTold log.tells (log.bytes c.args.clicks.now) c.args.end (kept_all c.deref.result.now)) c.in-Ok-None.field-0-is c.in-Ok-None.ensures.first) in
-    limit_for log.tells (log.bytes c.args.clicks.now) c.args.end (log.faults c.args.clicks.now) (log.faults c.first_misplaced.new.log) c.args.asked.now k fit places c.at_limit.result
-    (subst (λ xs. MatchOption c.at_limit.result (limit_in (kept_all xs) ≡ None) (IsLimit (limit_in (kept_all xs)))) c.deref-in-Ok-None.ensures.value c.at_limit.ensures)
+    limit_for log.tells (log.bytes c.args.clicks.now) c.args.end c.args.asked.now k fit places _ c.first_limit.result (c.first_limit.ensures ∙ ap (λ xs. limit_in (kept_all xs)) c.deref-in-Ok-None.ensures.value)
 
 pub returns-in-Ok-Some-clause-cause : goal.returns-in-Ok-Some-clause-cause
 returns-in-Ok-Some-clause-cause g c =

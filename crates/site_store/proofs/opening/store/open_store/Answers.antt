@@ -1,7 +1,7 @@
-use Rattle.std.proofs.Common.{Err, refl, ap, ◌∙◌, sym, arith}
+use Rattle.std.proofs.Common.{Err, Some, refl, ap, ◌∙◌, sym, arith}
 use Rattle.site_store.specs.Records.{values_of, topology_lent}
 use Rattle.site_store.specs.Refusals.{other_names}
-use Rattle.site_store.proofs.Causes.{unwritten_rose, unwritten_damaged, unwritten_first, unwritten_memory}
+use Rattle.site_store.proofs.Causes.{unwritten_cause, unwritten_memory}
 use Rattle.site_store.proofs.Damage.{unwritten_welcome}
 use Rattle.site_store.proofs.Leaving.{back_stays, back_grown, back_written, out_for, all_stay, all_grow, topology_written, joiners_same}
 use Rattle.site_store.proofs.Recorded.{left_with, whole_with}
@@ -25,8 +25,8 @@ pub returns-in-Err-clause-welcome : goal.returns-in-Err-clause-welcome
 returns-in-Err-clause-welcome g c sure log_sure = λ s asked replicas log_is end_is sound.
     let log = g.L.LogFile in
     let few = c.requires.joiners.few in
-    welcome g.S.Disk.Disk.tells sure log.tells log_sure (g.S.Store.image c.args.store.now) (log.bytes c.args.clicks.now) c.args.end (log.faults c.args.clicks.now) (log.faults c.open_for.new.clicks)
-    c.read.ensures.topology c.fits.ensures.only s replicas (omega (arith, few, asked.joiners)) log_is end_is sound c.args.asked asked c.in-Err.refusal c.in-Err.ensures.first (c.in-Err.ensures.damaged sure) c.in-Err.ensures.cause
+    welcome g.S.Disk.Disk.tells sure log.tells log_sure (g.S.Store.image c.args.store.now) (log.bytes c.args.clicks.now) c.args.end _ _
+    c.read.ensures.topology c.fits.ensures.only s replicas (omega (arith, few, asked.joiners)) log_is end_is sound c.args.asked asked c.in-Err.fault c.in-Err.ensures.cause
 
 pub returns-in-Ok-keep_topology-clause-named : goal.returns-in-Ok-keep_topology-clause-named
 returns-in-Ok-keep_topology-clause-named g c =
@@ -65,7 +65,7 @@ pub returns-in-Err-keep_topology-clause-back : goal.returns-in-Err-keep_topology
 returns-in-Err-keep_topology-clause-back g c tells other =
     let image = g.S.Store.image in
     let e = c.in-Err-keep_topology.ensures in
-    unwritten_memory _ c.in-Err-keep_topology.fault e.unwritten other
+    unwritten_memory _ c.in-Err-keep_topology.fault _ _ e.unwritten other
     (λ is. back_stays g.S.Disk.Disk.image (image c.args.store.now) (image c.open_for.new.store) (topology_lent c.in-Ok.open.topology.journal.disk) (topology_lent c.keep_topology.new.topology.journal.disk) _
     (c.in-Ok.ensures.lent tells) refl (image c.give_back.new.store) (c.give_back.ensures.left tells) (e.stays tells (ap Err is)))
 
@@ -82,17 +82,12 @@ returns-in-Err-keep_topology-clause-grown g c tells =
     back_grown g.S.Disk.Disk.image (image c.args.store.now) (image c.open_for.new.store) (topology_lent c.in-Ok.open.topology.journal.disk) (topology_lent c.keep_topology.new.topology.journal.disk) _
     (c.in-Ok.ensures.lent tells) refl (image c.give_back.new.store) (c.give_back.ensures.left tells) (c.in-Err-keep_topology.ensures.grows tells)
 
-pub returns-in-Err-keep_topology-clause-first : goal.returns-in-Err-keep_topology-clause-first
-returns-in-Err-keep_topology-clause-first g c =
-    unwritten_first g.S.Disk.Disk.tells (g.S.Store.image c.args.store.now) c.args.asked.joiners c.in-Err-keep_topology.fault c.in-Err-keep_topology.ensures.unwritten
-
-pub returns-in-Err-keep_topology-clause-rose : goal.returns-in-Err-keep_topology-clause-rose
-returns-in-Err-keep_topology-clause-rose g c =
-    unwritten_rose c.in-Err-keep_topology.fault _ _ _ _ _ c.in-Err-keep_topology.ensures.unwritten c.in-Err-keep_topology.ensures.rose c.in-Ok.ensures.count c.give_back.ensures.counted
-
-pub returns-in-Err-keep_topology-clause-damaged : goal.returns-in-Err-keep_topology-clause-damaged
-returns-in-Err-keep_topology-clause-damaged g c tells = unwritten_damaged (g.S.Store.image c.args.store.now) c.in-Err-keep_topology.fault c.in-Err-keep_topology.ensures.unwritten
+pub returns-in-Err-keep_topology-clause-cause : goal.returns-in-Err-keep_topology-clause-cause
+returns-in-Err-keep_topology-clause-cause g c =
+    let log = g.L.LogFile in
+    unwritten_cause g.S.Disk.Disk.tells (g.S.Store.image c.args.store.now) log.tells (log.bytes c.args.clicks.now) c.args.end _ (Some c.args.asked) _ _ _ _ _ c.in-Err-keep_topology.fault c.in-Err-keep_topology.ensures.unwritten
+    c.in-Ok.ensures.count c.give_back.ensures.counted
 
 pub returns-in-Err-keep_topology-clause-welcome : goal.returns-in-Err-keep_topology-clause-welcome
 returns-in-Err-keep_topology-clause-welcome g c sure log_sure = λ s asked replicas log_is end_is sound.
-    unwritten_welcome s (g.S.Store.image c.args.store.now) c.in-Err-keep_topology.fault c.in-Err-keep_topology.ensures.unwritten
+    unwritten_welcome _ c.in-Err-keep_topology.fault _ _ c.in-Err-keep_topology.ensures.unwritten

@@ -2,7 +2,7 @@ use Rattle.std.proofs.Common.{◌≡◌, ◌≤◌, List, drop, Option, IsTrue}
 use Rattle.log_records.specs.Lines.{ClickLine, HoldsLines, end_from}
 use Rattle.site_store.specs.Kept.{all_kept, IsTold}
 use Rattle.site_store.specs.Records.{kept_all}
-use Rattle.site_store.specs.declared.places.misplaced.Misplaced.{Misplaced}
+use Rattle.run_fault.specs.declared.fault.Misplaced.{Misplaced}
 use Rattle.site_store.proofs.places.check.first_misplaced.Given as goal
 
 abbrev pub invariant-loop-disk : goal.invariant-loop-disk

@@ -12,8 +12,8 @@ returns-in-Err-clause-sound g c tells s sound = c.stays.ensures s c.args.store.n
 pub returns-in-Err-clause-welcome : goal.returns-in-Err-clause-welcome
 returns-in-Err-clause-welcome g c sure log_sure s log_is end_is replicas few some sound =
     let log = g.L.LogFile in
-    welcome_read g.S.Disk.Disk.tells sure log.tells log_sure (g.S.Store.image c.args.store.now) (log.bytes c.args.clicks.now) c.args.end (log.faults c.args.clicks.now) (log.faults c.open_for.new.clicks)
-    c.read.ensures.topology c.fits.ensures.only s replicas few log_is end_is sound some c.in-Err.refusal c.in-Err.ensures.first (c.in-Err.ensures.damaged sure) c.in-Err.ensures.cause
+    welcome_read g.S.Disk.Disk.tells sure log.tells log_sure (g.S.Store.image c.args.store.now) (log.bytes c.args.clicks.now) c.args.end _ _
+    c.read.ensures.topology c.fits.ensures.only s replicas few log_is end_is sound some c.in-Err.fault c.in-Err.ensures.cause
 
 pub returns-in-Ok-kept-clause-report : goal.returns-in-Ok-kept-clause-report
 returns-in-Ok-kept-clause-report g c sure =

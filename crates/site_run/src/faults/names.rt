@@ -1,2 +1,0 @@
-// The names of disks.
-pub use directory_store::{NAME_ROOM, disk_text};
