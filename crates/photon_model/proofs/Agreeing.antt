@@ -2,7 +2,8 @@
 use Rattle.std.proofs.Common.{◌≡◌, ◌≢◌, ◌⊎◌, inl, inr, ⊎_elim, ℕ, zero, suc, ◌<◌, ◌≤◌, max, Bool, true, false, cond, ◌==◌, nat_lt, List, [], ◌∷◌, ◌++◌, length, get_or, Some, None, refl, sym, ap, ◌∙◌, subst, arith}
 use Rattle.std.specs.Prelude.{Option, slice_get}
 use Rattle.std.proofs.lemmas.Bool.{cond_both, cond-true, cond-false, eq-eqb, ne_eqb, ltb-false}
-use Rattle.photon_model.proofs.Words.{EventId, Token, Ballot, Insert, Batch, same_batch, at, Mem, Each, Begins, set_at, IsGranted, bound_of, first_insert, holder, Setting, Checked, shard, IsJoiner, Packet, Join, Joined, Claim, Reply, Node, Dispatcher, Server, Replica, Joiner, To, Sent, Input, Start, Own, Tick, Deliver, Place, Vote, acceptance, vote_at, votes_at, votes_in, Has, Promised, Took, HasAccepted, OneChosen, agreed_one, decided_grows, vote_here, has_append, BallotNote, Note, Voted, idle, land, DispatcherKept, DispatcherLive, dispatcher_turn, JoinerKept, JoinerLive, Flight, joiner_turn, ServerKept, ServerLive, land_server, server_turn, ReplicaKept, land_replica, replica_turn, each_at, mem_left, mem_right, mem_split, at_set, at_set_if, none_some, one_granted, holder_granted, holder_first, bound_stays, Addressed, journals, ReplicasSound, Offer, Votes, offer, VotesOf, VotesOfServer, VotesAgree, values_of, IsWritten, IsInsertOf, InsertsOf, Sound, IfUp, IfOpen, known, ServerHolds, WorldHolds, World, Entry, Begin, End, Stop, Disks, disks, begun, ended, stopped, dispatcher_row, server_row, replica_row, joiner_row, sends, after, world_after, WasSent, May, IsRun, opening, decided_in, NoJoinerStops, IsBoundOk, HasBounds, IsFlying, IsResolved, IsChosenNow, PaxosGives, Cell}
+use Rattle.photon_model.proofs.Worlds.{row_by}
+use Rattle.photon_model.proofs.Words.{Out, dispatcher_start, joiner_start, EventId, Token, Ballot, Insert, Batch, same_batch, at, Mem, Each, Begins, set_at, IsGranted, bound_of, first_insert, holder, Setting, Checked, shard, IsJoiner, Packet, Join, Joined, Claim, Reply, Node, Dispatcher, Server, Replica, Joiner, To, Sent, Input, Start, Own, Tick, Deliver, Place, Vote, acceptance, vote_at, votes_at, votes_in, Has, Promised, Took, HasAccepted, OneChosen, agreed_one, decided_grows, vote_here, has_append, BallotNote, Note, Voted, idle, land, DispatcherKept, DispatcherLive, dispatcher_turn, JoinerKept, JoinerLive, Flight, joiner_turn, ServerKept, ServerLive, land_server, server_turn, ReplicaKept, land_replica, replica_turn, each_at, mem_left, mem_right, mem_split, at_set, at_set_if, none_some, one_granted, holder_granted, holder_first, bound_stays, Addressed, journals, ReplicasSound, Offer, Votes, offer, VotesOf, VotesOfServer, VotesAgree, values_of, IsWritten, IsInsertOf, InsertsOf, Sound, IfUp, IfOpen, known, ServerHolds, WorldHolds, World, Entry, Begin, End, Stop, Disks, disks, begun, ended, stopped, dispatcher_row, server_row, replica_row, joiner_row, sends, after, world_after, WasSent, May, IsRun, opening, decided_in, NoJoinerStops, IsBoundOk, HasBounds, IsFlying, IsResolved, IsChosenNow, PaxosGives, Cell}
 use Rattle.photon_model.proofs.DispatcherRows.{each_packet as each_join}
 use Rattle.photon_model.proofs.JoinerRows.{each_packet}
 use Rattle.photon_model.specs.Journals.{decided}
@@ -36,26 +37,10 @@ plain_votes n from (Reply x a) h = tt
 plain_votes n from _ h = absurd h
 
 pub dispatcher_row_plain : (g : Setting) (s : ℕ) (c : Cell DispatcherKept DispatcherLive) → ArePlain (dispatcher_row g s c).packets
-dispatcher_row_plain g s c = go c.live c.opened
-  where
-    plain : (l : DispatcherLive) (i : Input) → ArePlain (dispatcher_turn g s c.kept l i).packets
-    plain l = each_join g s c.kept l (λ (a : To × Packet). IsPlain a.1) (λ p x. tt)
-
-    go : (l : Option DispatcherLive) (o : Option Input) → ArePlain (dispatcher_row g s (record { kept = c.kept; live = l; opened = o })).packets
-    go None o = tt
-    go (Some l) None = plain l Own
-    go (Some l) (Some i) = plain l i
+dispatcher_row_plain g s c = row_by dispatcher_start (dispatcher_turn g s) c.kept c.live c.opened (λ (o : Out DispatcherLive). ArePlain o.packets) tt (λ l _ i _. each_join g s c.kept l (λ (a : To × Packet). IsPlain a.1) (λ p x. tt) i)
 
 pub joiner_row_plain : (g : Setting) (j : ℕ) (c : Cell JoinerKept JoinerLive) → ArePlain (joiner_row g j c).packets
-joiner_row_plain g j c = go c.live c.opened
-  where
-    plain : (l : JoinerLive) (i : Input) → ArePlain (joiner_turn g j c.kept l i).packets
-    plain l = each_packet g j c.kept l (λ (a : To × Packet). IsPlain a.1) (λ p o. tt) (λ x. tt)
-
-    go : (l : Option JoinerLive) (o : Option Input) → ArePlain (joiner_row g j (record { kept = c.kept; live = l; opened = o })).packets
-    go None o = tt
-    go (Some l) None = plain l Own
-    go (Some l) (Some i) = plain l i
+joiner_row_plain g j c = row_by joiner_start (joiner_turn g j) c.kept c.live c.opened (λ (o : Out JoinerLive). ArePlain o.packets) tt (λ l _ i _. each_packet g j c.kept l (λ (a : To × Packet). IsPlain a.1) (λ p o. tt) (λ x. tt) i)
 
 -- packets of a row, as they were sent
 addressed_votes : (g : Setting) (n : Votes) (from : Node) (as_ : List (To × Packet)) (ps : List (Node × Packet)) → Addressed g as_ ps → Each (λ (a : To × Packet). VotesOf n from a.1) as_ → (x : Sent) → Mem x (sends from ps) → VotesOf n x.from x.packet

@@ -1,20 +1,14 @@
 -- A ballot is drawn for one place alone.
 use Rattle.std.proofs.Common.{◌≡◌, ◌⊎◌, inl, inr, ⊎_elim, ℕ, zero, suc, ◌<◌, ◌≤◌, List, [], ◌∷◌, ◌++◌, Some, None, refl, sym, ap, ◌∙◌, subst, arith}
 use Rattle.std.specs.Prelude.{Option}
-use Rattle.photon_model.proofs.Words.{Ballot, Insert, Batch, Phase, on_promise, on_accepted, Prepared as PrepareAnswer, Taken, on_prepare, on_accept, Grant, Refuse, Take, Decline, same_batch, Mem, Each, set_at, Setting, shard, Packet, Prepare, Accept, Place, Node, Dispatcher, Server, Replica, Joiner, To, Only, Sent, Input, Start, Own, Tick, Deliver, Note, Out, idle, land, ServerKept, ServerLive, ShardState, Proposal, land_server, to_from, to_replicas, replies, owns, promised, accepted, server_turn, ReplicaKept, cell_at, prepared, taken, replica_gets, each_at, mem_left, mem_right, mem_split, at_set, at_set_if, some_same, none_some, Addressed, World, Entry, Begin, End, Stop, Disks, begun, ended, stopped, dispatcher_row, joiner_row, server_row, replica_row, sends, after, world_after, May, IsRun, opening, Cell}
+use Rattle.photon_model.proofs.Words.{replica_start, replica_turn, Ballot, Insert, Batch, Phase, on_promise, on_accepted, Prepared as PrepareAnswer, Taken, on_prepare, on_accept, Grant, Refuse, Take, Decline, same_batch, Mem, Each, set_at, Setting, shard, Packet, Prepare, Accept, Place, Node, Dispatcher, Server, Replica, Joiner, To, Only, Sent, Input, Own, Deliver, Note, Out, idle, land, ServerKept, ServerLive, ShardState, Proposal, land_server, to_from, to_replicas, replies, owns, promised, accepted, server_turn, ReplicaKept, cell_at, prepared, taken, replica_gets, each_at, mem_left, mem_right, mem_split, at_set, at_set_if, some_same, none_some, Addressed, World, Entry, Begin, End, Stop, Disks, begun, ended, stopped, dispatcher_row, joiner_row, server_row, replica_row, sends, after, world_after, May, IsRun, opening, Cell}
 use Rattle.photon_model.proofs.ServerRows.{next_at, current_at, replicas_each, reply_each, replies_each, tick_each, every_row}
 use Rattle.photon_model.specs.Claims.{HasSent}
 use Rattle.photon_model.specs.Alone.{Prepared, BallotsAlone}
 use Rattle.photon_model.proofs.Claiming.{addressed_sent}
+use Rattle.photon_model.proofs.Finding.{sent_addressed}
+use Rattle.photon_model.proofs.Worlds.{landed_either, row_by}
 use Rattle.photon_model.proofs.Agreeing.{IsPlain, ArePlain, dispatcher_row_plain, joiner_row_plain}
-
--- a packet sent is one of the row's
-sent_addressed : (g : Setting) (from : Node) (as_ : List (To × Packet)) (ps : List (Node × Packet)) → Addressed g as_ ps → (x : Sent) → Mem x (sends from ps) → (a : To × Packet) × Mem a as_ × (a.1 ≡ x.packet)
-sent_addressed g from [] [] h x m = absurd m
-sent_addressed g from [] (p ∷ ps) h x m = absurd h
-sent_addressed g from (b ∷ as_) [] h x m = absurd m
-sent_addressed g from (b ∷ as_) (p ∷ ps) h x (inl e) = (b, inl refl, h.0.1 ∙ ap (λ (z : Sent). z.packet) e)
-sent_addressed g from (b ∷ as_) (p ∷ ps) h x (inr m) = let i = sent_addressed g from as_ ps h.1 x m in (i.0, inr i.1, i.2)
 
 -- a shard's proposal was prepared
 abbrev Stands : List Sent → ℕ → ShardState → Option Proposal → Type 0
@@ -148,15 +142,11 @@ gets_answers k from (Accept at b v) = (taken_answer at b (on_accept same_batch (
 gets_answers k from _ = tt
 
 replica_answers : (c : Cell ReplicaKept (Unit {0})) → Answers (replica_row c)
-replica_answers c = go c.live c.opened
+replica_answers c = row_by replica_start (λ k l i. replica_turn k i) c.kept c.live c.opened Answers tt (λ _ _ i _. turn i)
   where
-    go : (l : Option (Unit {0})) (o : Option Input) → Answers (replica_row (record { kept = c.kept; live = l; opened = o }))
-    go None o = tt
-    go (Some l) None = tt
-    go (Some l) (Some (Deliver from p)) = gets_answers c.kept from p
-    go (Some l) (Some Start) = tt
-    go (Some l) (Some Own) = tt
-    go (Some l) (Some Tick) = tt
+    turn : (i : Input) → Answers (replica_turn c.kept i)
+    turn (Deliver from p) = gets_answers c.kept from p
+    turn _ = tt
 
 -- ---- the world
 
@@ -311,8 +301,7 @@ module _ (g : Setting) (some : 0 < g.replicas) (w : World) (h : Drawn w) where
       row_up (Some l) e (Some i) = subst (λ (q : Option Note). (w.servers s).kept.epoch ≤ (land land_server q (w.servers s).kept).epoch) (sym (turn_fair g s (w.servers s).kept l w.sent (h.stands s l e) some i).silent) (omega arith)
 
       epoch_up : (o ≡ None) ⊎ (o ≡ (server_row g s (w.servers s)).note) → (w.servers s).kept.epoch ≤ (land land_server o (w.servers s).kept).epoch
-      epoch_up (inl e) = subst (λ (q : Option Note). (w.servers s).kept.epoch ≤ (land land_server q (w.servers s).kept).epoch) (sym e) (omega arith)
-      epoch_up (inr e) = subst (λ (q : Option Note). (w.servers s).kept.epoch ≤ (land land_server q (w.servers s).kept).epoch) (sym e) (row_up (w.servers s).live refl (w.servers s).opened)
+      epoch_up how = landed_either (λ (k : ServerKept). (w.servers s).kept.epoch ≤ k.epoch) land_server (w.servers s).kept _ o how (omega arith) (row_up (w.servers s).live refl (w.servers s).opened)
   drawn_after _ m = record { alone = h.alone; owned = h.owned; rounds = h.rounds; stands = h.stands }
 
 drawn_run : (g : Setting) → 0 < g.replicas → (es : List Entry) (w : World) → Drawn w → IsRun g w es → Drawn (world_after g w es)

@@ -1,16 +1,15 @@
 -- Each join in flight has sent its insert.
 use Rattle.std.proofs.Common.{◌≡◌, ◌⊎◌, inl, inr, ⊎_elim, ℕ, List, [], ◌∷◌, ◌++◌, Some, None, refl, sym, ap, ◌∙◌, subst}
 use Rattle.std.specs.Prelude.{Option}
-use Rattle.photon_model.proofs.Words.{Insert, Mem, set_at, Answer, Granted, Setting, Packet, Claim, Node, Dispatcher, Server, Replica, Joiner, To, Sent, Input, Own, Out, JoinerKept, JoinerLive, Flight, insert_of, answers, joiner_turn, mem_left, mem_right, mem_split, at_set, some_same, none_some, Addressed, World, Entry, Begin, End, Stop, Disks, begun, stopped, joiner_row, sends, after, world_after, May, IsRun, opening, Cell}
+use Rattle.photon_model.proofs.Worlds.{row_by}
+use Rattle.photon_model.proofs.Words.{joiner_start, Insert, Mem, set_at, Answer, Granted, Setting, Packet, Claim, Node, Dispatcher, Server, Replica, Joiner, To, Sent, Input, Out, JoinerKept, JoinerLive, Flight, insert_of, answers, joiner_turn, mem_left, mem_right, mem_split, at_set, some_same, none_some, Addressed, World, Entry, Begin, End, Stop, Disks, begun, stopped, joiner_row, sends, after, world_after, May, IsRun, opening, Cell}
+use Rattle.photon_model.proofs.Finding.{addressed}
 use Rattle.photon_model.proofs.JoinerRows.{landed_before, every_row}
 use Rattle.photon_model.specs.Claims.{HasSent, ClaimsSent}
 
 -- a packet of a row is among the packets sent
 pub addressed_sent : (g : Setting) (from : Node) (as_ : List (To × Packet)) (ps : List (Node × Packet)) → Addressed g as_ ps → (a : To × Packet) → Mem a as_ → HasSent (sends from ps) a.1
-addressed_sent g from [] ps h a m = absurd m
-addressed_sent g from (b ∷ as_) [] h a m = absurd h
-addressed_sent g from (b ∷ as_) (p ∷ ps) h a (inl e) = (record { from = from; to = p.0; packet = p.1 }, inl refl, sym h.0.1 ∙ ap (λ (z : To × Packet). z.1) e)
-addressed_sent g from (b ∷ as_) (p ∷ ps) h a (inr m) = let i = addressed_sent g from as_ ps h.1 a m in (i.0, inr i.1, i.2)
+addressed_sent g from as_ ps h a m = let i = addressed g from as_ ps h a m in (record { from = from; to = i.0; packet = a.1 }, i.2, refl)
 
 -- what is in flight after a row was so before, or its insert is sent
 module _ (g : Setting) (j : ℕ) (k : JoinerKept) (l : JoinerLive) where
@@ -39,12 +38,9 @@ WasFlying None f = ⊥
 WasFlying (Some l) f = Mem f l.flight
 
 row_claimed : (g : Setting) (j : ℕ) (c : Cell JoinerKept JoinerLive) (f : Flight) → Mem f (joiner_row g j c).live.flight → WasFlying c.live f ⊎ ((a : To × Packet) × Mem a (joiner_row g j c).packets × (a.1 ≡ Claim (insert_of f)))
-row_claimed g j c f m = go c.live c.opened m
-  where
-    go : (l : Option JoinerLive) (o : Option Input) → Mem f (joiner_row g j (record { kept = c.kept; live = l; opened = o })).live.flight → WasFlying l f ⊎ ((a : To × Packet) × Mem a (joiner_row g j (record { kept = c.kept; live = l; opened = o })).packets × (a.1 ≡ Claim (insert_of f)))
-    go None o m = absurd m
-    go (Some l) None m = turn_claimed g j c.kept l Own f m
-    go (Some l) (Some i) m = turn_claimed g j c.kept l i f m
+row_claimed g j c f =
+    row_by joiner_start (joiner_turn g j) c.kept c.live c.opened (λ (o : Out JoinerLive). Mem f o.live.flight → WasFlying c.live f ⊎ ((a : To × Packet) × Mem a o.packets × (a.1 ≡ Claim (insert_of f))))
+    (λ m. absurd m) (λ l up i _ m. ⊎_elim (λ q. inl (subst (λ o. WasFlying o f) (sym up) q)) (λ q. inr q) (turn_claimed g j c.kept l i f m))
 
 module _ (g : Setting) (w : World) (h : ClaimsSent w) where
   abbrev Sends : List Sent → Option JoinerLive → Type 0

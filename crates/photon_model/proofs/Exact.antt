@@ -1,6 +1,6 @@
 -- From the empty store, at rest, the report is that of the two logs, but for missing clicks.
-use Rattle.std.proofs.Common.{◌≡◌, ◌⊎◌, inl, inr, ⊎_elim, ℕ, zero, suc, ◌*◌, ◌<◌, ◌≤◌, Bool, true, false, cond, List, [], ◌∷◌, map, Some, None, refl, sym, ap, ◌∙◌, subst, arith, lit<}
-use Rattle.std.specs.Prelude.{Option, slice_get, find, is_some, nat_lt}
+use Rattle.std.proofs.Common.{◌≡◌, ◌⊎◌, inl, inr, ⊎_elim, ℕ, zero, suc, ◌*◌, ◌<◌, ◌≤◌, cond, List, [], ◌∷◌, map, Some, None, refl, sym, ap, ◌∙◌, subst, arith, lit<}
+use Rattle.std.specs.Prelude.{Option, slice_get, is_some, nat_lt}
 use Rattle.std.specs.declared.cmp.Ordering.{Ordering}
 use Rattle.std.specs.declared.cmp.Ordering.TheVariants.{Less, Equal, Greater}
 use Rattle.std.specs.FinMap as finite
@@ -18,15 +18,8 @@ use Rattle.photon_model.proofs.Closing.{sound_closes}
 use Rattle.photon_model.proofs.Running.{drained}
 use Rattle.photon_model.proofs.Agreeing.{every_run_holds, granted_drawn, decided_bound}
 use Rattle.photon_model.proofs.Resting.{rest_is_done}
+use Rattle.photon_model.proofs.Finding.{find_some}
 use Rattle.photon_model.proofs.Showing.{from_log, to_log, found, not_found}
-
-find_mem : {A : Type 0} (test : A → Bool) (xs : List A) (x : A) → find test xs ≡ Some x → Mem x xs
-find_mem test [] x e = none_some x e
-find_mem {A} test (y ∷ xs) x e = go (test y) e (find_mem test xs x)
-  where
-    go : (b : Bool) → cond b (Some y) (find test xs) ≡ Some x → (find test xs ≡ Some x → Mem x xs) → (y ≡ x) ⊎ Mem x xs
-    go true q ih = inl (some_same y x q)
-    go false q ih = inr (ih q)
 
 -- a value's bound is not above the bound up to it
 bound_within : (vs : List Batch) (k : ℕ) (v : Batch) → slice_get vs k ≡ Some v → v.bound ≤ bound_at vs k
@@ -92,7 +85,7 @@ module _ (g : Setting) (es : List Entry) (c : Checked g) (t : IsTable g.table) (
         let s = each_at (PairSound g (known g w facts.0) x.0 (w.joiners x.0).kept.epoch) (w.joiners x.0).kept.pairs (facts.2.joiners x.0 (x.1, x.2)).kept.pairs p x.3 in
         let granted = subst (λ (k : EventId). IsGranted (values_of g (known g w facts.0) k) k p.token) f.1 s.granted in
         let line = s.own_query.0 in
-        let same = one_click p.click (line.0, find_mem _ g.clicks line.0 line.1, line.2) f.1 in
+        let same = one_click p.click (line.0, (find_some _ g.clicks line.0 line.1).0, line.2) f.1 in
         ap (λ (k : Click). J k p.query) same ∙ sym (logs_young (granted_young p.token granted) (Some p.query) (ap (λ (k : Click). first g.queries k.query) (sym same) ∙ s.own_query.1))
 
     no_pair : pair_of g d i ≡ None → IsWritten g (known_of g d []) i → ⊥

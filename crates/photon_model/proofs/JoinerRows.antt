@@ -1,36 +1,25 @@
 -- The rows of a joiner: what holds of each row's case holds of every turn.
-use Rattle.std.proofs.Common.{◌≡◌, ◌⊎◌, inl, inr, ℕ, suc, ◌-◌, ◌^◌, Bool, true, false, cond, nat_lt, List, [], ◌∷◌, ◌++◌, length, map, Some, None, refl, sym, ap, ◌∙◌, subst, ⊎_elim}
+use Rattle.std.proofs.Common.{◌≡◌, ◌⊎◌, inl, inr, ℕ, suc, ◌-◌, ◌^◌, true, false, nat_lt, List, [], ◌∷◌, ◌++◌, length, map, Some, None, sym, ap, ◌∙◌, ⊎_elim}
 use Rattle.std.specs.Prelude.{find}
 use Rattle.std.proofs.lemmas.Bool.{cond_both}
-use Rattle.photon_model.proofs.Words.{landed, Setting, site_of_joiner, Insert, Query, Click, first, Mem, Each, Answer, Packet, Join, Joined, Reply, Claim, Outcome, NoQuery, Busy, Granted, Node, Dispatcher, Server, To, Only, Input, Tick, Deliver, Out, idle, JoinerKept, JoinerLive, Flight, insert_of, is_for, in_flight, to_dispatcher, claim, next_token, looks, answers, replied, joiner_tick, joiner_turn, option_both, some_same, none_some}
+use Rattle.photon_model.proofs.Finding.{find_some}
+use Rattle.photon_model.proofs.Words.{landed, Setting, site_of_joiner, Insert, Query, Click, first, Mem, Each, Answer, Packet, Join, Joined, Reply, Claim, Outcome, NoQuery, Busy, Granted, Node, Dispatcher, Server, To, Only, Input, Tick, Deliver, Out, idle, JoinerKept, JoinerLive, Flight, insert_of, is_for, in_flight, to_dispatcher, claim, next_token, looks, answers, replied, joiner_tick, joiner_turn, option_both}
 
 pub find_flight : (x : Insert) (fs : List Flight) (f : Flight) → find (is_for x) fs ≡ Some f → Mem f fs × (is_for x f ≡ true)
-find_flight x [] f e = none_some f e
-find_flight x (y ∷ fs) f e = go (find_flight x fs f) (is_for x y) refl e
-  where
-    go : (find (is_for x) fs ≡ Some f → Mem f fs × (is_for x f ≡ true)) → (b : Bool) → is_for x y ≡ b → cond b (Some y) (find (is_for x) fs) ≡ Some f → ((y ≡ f) ⊎ Mem f fs) × (is_for x f ≡ true)
-    go ih true t r = let s = some_same y f r in (inl s, subst (λ (z : Flight). is_for x z ≡ true) s t)
-    go ih false t r = let i = ih r in (inr i.0, i.1)
+find_flight x = find_some (is_for x)
 
 -- a flight of another insert stays
 pub landed_or : (fs : List Flight) (x : Insert) (f : Flight) → Mem f fs → Mem f (landed fs x) ⊎ (is_for x f ≡ true)
 landed_or [] x f m = absurd m
-landed_or (y ∷ fs) x f m = go (is_for x y) refl m (landed_or fs x f)
-  where
-    go : (b : Bool) → is_for x y ≡ b → (y ≡ f) ⊎ Mem f fs → (Mem f fs → Mem f (landed fs x) ⊎ (is_for x f ≡ true)) → Mem f (cond b (landed fs x) (y ∷ landed fs x)) ⊎ (is_for x f ≡ true)
-    go true t (inl e) ih = inr (ap (is_for x) (sym e) ∙ t)
-    go true t (inr k) ih = ih k
-    go false t (inl e) ih = inl (inl e)
-    go false t (inr k) ih = ⊎_elim (λ q. inl (inr q)) (λ q. inr q) (ih k)
+landed_or (y ∷ fs) x f m =
+    cond_both (is_for x y) (landed fs x) (y ∷ landed fs x) (λ zs. Mem f zs ⊎ (is_for x f ≡ true)) (λ t. ⊎_elim (λ e. inr (ap (is_for x) (sym e) ∙ t)) (λ k. landed_or fs x f k) m)
+    (λ _. ⊎_elim (λ e. inl (inl e)) (λ k. ⊎_elim (λ q. inl (inr q)) (λ q. inr q) (landed_or fs x f k)) m)
 
 pub landed_before : (fs : List Flight) (x : Insert) (f : Flight) → Mem f (landed fs x) → Mem f fs × (is_for x f ≡ false)
 landed_before [] x f m = absurd m
-landed_before (y ∷ fs) x f m = go (is_for x y) refl m (landed_before fs x f)
-  where
-    go : (b : Bool) → is_for x y ≡ b → Mem f (cond b (landed fs x) (y ∷ landed fs x)) → (Mem f (landed fs x) → Mem f fs × (is_for x f ≡ false)) → ((y ≡ f) ⊎ Mem f fs) × (is_for x f ≡ false)
-    go true t q ih = let h = ih q in (inr h.0, h.1)
-    go false t (inl e) ih = (inl e, ap (is_for x) (sym e) ∙ t)
-    go false t (inr q) ih = let h = ih q in (inr h.0, h.1)
+landed_before (y ∷ fs) x f m =
+    cond_both (is_for x y) (landed fs x) (y ∷ landed fs x) (λ zs. Mem f zs → Mem f (y ∷ fs) × (is_for x f ≡ false)) (λ _ q. let h = landed_before fs x f q in (inr h.0, h.1))
+    (λ t. ⊎_elim (λ e. (inl e, ap (is_for x) (sym e) ∙ t)) (λ q. let h = landed_before fs x f q in (inr h.0, h.1))) m
 
 module _ (g : Setting) (j : ℕ) (k : JoinerKept) (l : JoinerLive) where
   abbrev pub new_flight : ℕ → Click → Query → Flight

@@ -1,9 +1,11 @@
 -- From one node's row to the whole world: the other nodes' facts last.
-use Rattle.std.proofs.Common.{◌≡◌, ◌≢◌, inl, inr, ⊎_elim, ℕ, ◌<◌, ◌≤◌, Bool, true, false, cond, ◌==◌, List, [], ◌∷◌, ◌++◌, Some, None, refl, sym, ap, ◌∙◌, subst, arith}
-use Rattle.std.specs.Prelude.{Option}
+use Rattle.std.proofs.Common.{◌≡◌, ◌≢◌, inl, inr, ⊎_elim, ℕ, ◌<◌, ◌≤◌, Bool, true, false, cond, ◌==◌, List, ◌++◌, Some, None, refl, sym, ap, ◌∙◌, subst, arith}
+use Rattle.std.specs.Prelude.{Option, ◌⊎◌}
 use Rattle.std.proofs.lemmas.Bool.{cond_both, eq-eqb}
-use Rattle.photon_model.proofs.Words.{Insert, Mem, Each, Begins, set_at, Setting, Checked, IsJoiner, Packet, Node, Dispatcher, Server, Replica, Joiner, To, Sent, PairRec, Input, Own, Deliver, DispatcherKept, DispatcherLive, JoinerKept, JoinerLive, ServerKept, ServerLive, ReplicaKept, mem_right, mem_split, each_at, at_set, at_set_if, Addressed, Known, JoinerSound, HoldsOf, HoldsOfInput, DispatcherHolds, JoinerHolds, ServerHolds, IfUp, IfOpen, known, DispatcherFacts, JoinerFacts, ServerFacts, ReplicaFacts, WorldHolds, World, dispatcher_row, server_row, replica_row, joiner_row, sends, WasSent, Grows, PacketsHold, extended, IsDrawing, DispatcherKeeps, JoinerKeeps, ServerKeeps, ReplicaKeeps, IsChosenNow, decided_in, Cell}
+use Rattle.photon_model.proofs.Worlds.{row_by}
+use Rattle.photon_model.proofs.Words.{dispatcher_start, dispatcher_turn, joiner_start, joiner_turn, replica_start, replica_turn, Insert, Mem, Each, Begins, set_at, Setting, Checked, IsJoiner, Packet, Node, Dispatcher, Server, Replica, Joiner, To, Sent, PairRec, Input, Own, Deliver, DispatcherKept, DispatcherLive, JoinerKept, JoinerLive, ServerKept, ServerLive, ReplicaKept, mem_right, mem_split, each_at, at_set, at_set_if, Addressed, Known, JoinerSound, HoldsOf, HoldsOfInput, DispatcherHolds, JoinerHolds, ServerHolds, IfUp, IfOpen, known, DispatcherFacts, JoinerFacts, ServerFacts, ReplicaFacts, WorldHolds, World, dispatcher_row, server_row, replica_row, joiner_row, sends, WasSent, Grows, PacketsHold, extended, IsDrawing, DispatcherKeeps, JoinerKeeps, ServerKeeps, ReplicaKeeps, IsChosenNow, decided_in, Cell}
 use Rattle.photon_model.proofs.Growth.{begins_self, packet_lasts, dispatcher_kept_lasts, dispatcher_live_lasts, joiner_kept_lasts, joiner_live_lasts, server_lasts, notes_last}
+use Rattle.photon_model.proofs.Finding.{sent_addressed}
 use Rattle.photon_model.proofs.Dispatching.{dispatcher_keeps, dispatcher_start_keeps}
 use Rattle.photon_model.proofs.Joining.{joiner_keeps, joiner_start_keeps}
 use Rattle.photon_model.proofs.Serving.{server_keeps, server_start_keeps}
@@ -11,11 +13,7 @@ use Rattle.photon_model.proofs.Replicating.{replica_keeps}
 
 -- packets of a row, as they were sent
 pub addressed_hold : (g : Setting) (n : Known) (from : Node) (as_ : List (To × Packet)) (ps : List (Node × Packet)) → Addressed g as_ ps → PacketsHold g n as_ → (x : Sent) → Mem x (sends from ps) → HoldsOf g n x.packet
-addressed_hold g n from [] [] a h x m = absurd m
-addressed_hold g n from [] (p ∷ ps) a h x m = absurd a
-addressed_hold g n from (b ∷ as_) [] a h x m = absurd m
-addressed_hold g n from (b ∷ as_) (p ∷ ps) a h x (inl e) = subst (λ (y : Sent). HoldsOf g n y.packet) e (subst (HoldsOf g n) a.0.1 h.0)
-addressed_hold g n from (b ∷ as_) (p ∷ ps) a h x (inr m) = addressed_hold g n from as_ ps a.1 h.1 x m
+addressed_hold g n from as_ ps a h x m = let s = sent_addressed g from as_ ps a x m in subst (HoldsOf g n) s.2 (each_at (λ (b : To × Packet). HoldsOf g n b.1) as_ h s.0 s.1)
 
 sent_lasts : (more sent : List Sent) (n : Node) (i : Input) → WasSent sent n i → WasSent (more ++ sent) n i
 sent_lasts more sent n (Deliver from p) h = mem_right _ more sent h
@@ -134,11 +132,7 @@ module _ (g : Setting) (w : World) (drawn : List Insert) (holds : WorldHolds g w
         same = record { values = λ s. begins_self (now.values s); pairs = λ m q h. both m q h; drawn = λ x m. m }
           where
             both : (m : ℕ) (q : PairRec) → Mem q (set_at (λ i. (w.joiners i).kept.pairs) j c.kept.pairs m) → Mem q (set_at w.joiners j c m).kept.pairs
-            both m q h = go (m == j) h
-              where
-                go : (t : Bool) → Mem q (cond t c.kept.pairs (w.joiners m).kept.pairs) → Mem q (cond t c (w.joiners m)).kept.pairs
-                go true h = h
-                go false h = h
+            both m q = cond_both (m == j) c (w.joiners m) (λ (d : Cell JoinerKept JoinerLive). Mem q (cond (m == j) c.kept.pairs (w.joiners m).kept.pairs) → Mem q d.kept.pairs) (λ e h. subst (λ b. Mem q (cond b c.kept.pairs (w.joiners m).kept.pairs)) e h) (λ e h. subst (λ b. Mem q (cond b c.kept.pairs (w.joiners m).kept.pairs)) e h)
 
         draw : (x : Insert) → Mem x new → IsDrawing g now j c.kept.epoch x
         draw x m = each_at (IsDrawing g now j c.kept.epoch) new draws x m
@@ -161,24 +155,24 @@ module _ (g : Setting) (w : World) (drawn : List Insert) (holds : WorldHolds g w
   input_holds n (Deliver from p) m = holds.packets _ m
   input_holds n _ m = m
 
+  turn_holds : (n : Node) (o : Option Input) → IfOpen w.sent n o → (i : Input) → (o ≡ Some i) ⊎ (i ≡ Own) → HoldsOfInput g now i
+  turn_holds n o h i (inl e) = input_holds n i (subst (IfOpen w.sent n) e h)
+  turn_holds n o h i (inr e) = subst (HoldsOfInput g now) (sym e) tt
+
   pub dispatcher_row_keeps : Checked g → (s : ℕ) → s < 2 → DispatcherKeeps g now (w.dispatchers s).kept (dispatcher_row g s (w.dispatchers s))
-  dispatcher_row_keeps c s lt = go (w.dispatchers s) (holds.dispatchers s lt)
-    where
-      go : (d : Cell DispatcherKept DispatcherLive) → DispatcherFacts g now w.sent s d → DispatcherKeeps g now d.kept (dispatcher_row g s d)
-      go d f = up d.live f.live d.opened f.opened
-        where
-          up : (l : Option DispatcherLive) → IfUp (DispatcherHolds g now d.kept) l → (o : Option Input) → IfOpen w.sent (Dispatcher s) o → DispatcherKeeps g now d.kept (dispatcher_row g s (record { kept = d.kept; live = l; opened = o }))
-          up None h o i = dispatcher_start_keeps g now d.kept f.kept
-          up (Some l) h None i = dispatcher_keeps g now s d.kept l Own c f.kept h tt
-          up (Some l) h (Some x) i = dispatcher_keeps g now s d.kept l x c f.kept h (input_holds (Dispatcher s) x i)
+  dispatcher_row_keeps c s lt =
+      let k = (w.dispatchers s).kept in
+      let f = holds.dispatchers s lt in
+      row_by dispatcher_start (dispatcher_turn g s) k (w.dispatchers s).live (w.dispatchers s).opened (DispatcherKeeps g now k) (dispatcher_start_keeps g now k f.kept)
+      (λ l up i is. dispatcher_keeps g now s k l i c f.kept (subst (IfUp (DispatcherHolds g now k)) up f.live) (turn_holds (Dispatcher s) (w.dispatchers s).opened f.opened i is))
 
   pub joiner_row_keeps : Checked g → (j : ℕ) → IsJoiner g j → JoinerKeeps g now j (w.joiners j).kept (joiner_row g j (w.joiners j))
-  joiner_row_keeps c j is = up (w.joiners j).live (holds.joiners j is).live (w.joiners j).opened (holds.joiners j is).opened
-    where
-      up : (l : Option JoinerLive) → IfUp (JoinerHolds g now j (w.joiners j).kept) l → (o : Option Input) → IfOpen w.sent (Joiner j) o → JoinerKeeps g now j (w.joiners j).kept (joiner_row g j (record { kept = (w.joiners j).kept; live = l; opened = o }))
-      up None h o i = joiner_start_keeps g now (λ m. (w.joiners m).kept.epoch) j (w.joiners j).kept refl refl holds.drawing (holds.joiners j is).kept
-      up (Some l) h None i = joiner_keeps g now (λ m. (w.joiners m).kept.epoch) j (w.joiners j).kept l Own c is refl holds.drawing (holds.joiners j is).kept h tt
-      up (Some l) h (Some x) i = joiner_keeps g now (λ m. (w.joiners m).kept.epoch) j (w.joiners j).kept l x c is refl holds.drawing (holds.joiners j is).kept h (input_holds (Joiner j) x i)
+  joiner_row_keeps c j is =
+      let k = (w.joiners j).kept in
+      let f = holds.joiners j is in
+      let epochs = λ (m : ℕ). (w.joiners m).kept.epoch in
+      row_by joiner_start (joiner_turn g j) k (w.joiners j).live (w.joiners j).opened (JoinerKeeps g now j k) (joiner_start_keeps g now epochs j k refl refl holds.drawing f.kept)
+      (λ l up i at. joiner_keeps g now epochs j k l i c is refl holds.drawing f.kept (subst (IfUp (JoinerHolds g now j k)) up f.live) (turn_holds (Joiner j) (w.joiners j).opened f.opened i at))
 
   pub server_row_keeps : ((l : ServerLive) (i : Input) → (s : ℕ) → s < 2 → (w.servers s).live ≡ Some l → (w.servers s).opened ≡ Some i → IsChosenNow g now l i) → (s : ℕ) → s < 2 → ServerKeeps g now (server_row g s (w.servers s))
   server_row_keeps chosen s lt = up (w.servers s).live refl (holds.servers s lt).live (w.servers s).opened refl (holds.servers s lt).opened
@@ -189,9 +183,7 @@ module _ (g : Setting) (w : World) (drawn : List Insert) (holds : WorldHolds g w
       up (Some l) e h (Some x) u i = server_keeps g now s (w.servers s).kept l x h (input_holds (Server s) x i) (chosen l x s lt e u)
 
   pub replica_row_keeps : (r : ℕ) → r < g.replicas → ReplicaKeeps g now (w.replicas r).kept (replica_row (w.replicas r))
-  replica_row_keeps r lt = up (w.replicas r).live (w.replicas r).opened (holds.replicas r lt).opened
-    where
-      up : (l : Option (Unit {0})) → (o : Option Input) → IfOpen w.sent (Replica r) o → ReplicaKeeps g now (w.replicas r).kept (replica_row (record { kept = (w.replicas r).kept; live = l; opened = o }))
-      up None o i = record { kept = (holds.replicas r lt).kept; packets = tt }
-      up (Some l) None i = replica_keeps g now (w.replicas r).kept Own (holds.replicas r lt).kept tt
-      up (Some l) (Some x) i = replica_keeps g now (w.replicas r).kept x (holds.replicas r lt).kept (input_holds (Replica r) x i)
+  replica_row_keeps r lt =
+      let f = holds.replicas r lt in
+      row_by replica_start (λ k l i. replica_turn k i) (w.replicas r).kept (w.replicas r).live (w.replicas r).opened (ReplicaKeeps g now (w.replicas r).kept) (record { kept = f.kept; packets = tt })
+      (λ _ _ i is. replica_keeps g now (w.replicas r).kept i f.kept (turn_holds (Replica r) (w.replicas r).opened f.opened i is))

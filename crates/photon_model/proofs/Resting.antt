@@ -1,20 +1,18 @@
 -- What rest leaves.
-use Rattle.std.proofs.Common.{◌≡◌, ⊎_elim, ℕ, zero, suc, ◌+◌, ◌<◌, ◌≤◌, Bool, true, false, cond, List, [], ◌∷◌, Some, refl, sym, ap, ◌∙◌, subst, arith, lit<}
+use Rattle.std.proofs.Common.{◌≡◌, ℕ, ◌<◌, ◌≤◌, true, List, [], ◌∷◌, Some, refl, sym, subst, arith, lit<}
 use Rattle.std.specs.Prelude.{nat_lt, is_none}
-use Rattle.std.proofs.lemmas.Bool.{cases_lt, ltb-false, true≢false}
+use Rattle.std.proofs.lemmas.Bool.{ltb-false, true≢false}
+use Rattle.std.specs.Prelude.{Option}
+use Rattle.std.proofs.Common.{None}
+use Rattle.photon_model.proofs.Finding.{first_none}
 use Rattle.photon_model.proofs.Worlds.{up_is}
-use Rattle.photon_model.proofs.Words.{holder, bound_of, Setting, Checked, shards, is_empty, JoinerLive, joiner_at_rest, ServerLive, first_shard, server_at_rest, Mem, EventId, Token, known, SoundStore, accepted_inserts, values_of, IsWritten, IsDrained, UpWith, IsAtRest, World, Entry, Disks, world_after, IsRun, opening, decided_in, HasBounds, IsBoundOk, NoJoinerStops, RestLeaves}
+use Rattle.photon_model.proofs.Words.{holder, bound_of, Setting, Checked, shards, is_empty, JoinerLive, joiner_at_rest, ServerLive, server_at_rest, Mem, EventId, Token, known, SoundStore, accepted_inserts, values_of, IsWritten, IsDrained, UpWith, IsAtRest, World, Entry, Disks, world_after, IsRun, opening, decided_in, HasBounds, IsBoundOk, NoJoinerStops, RestLeaves}
 use Rattle.photon_model.proofs.Running.{rest_drained}
 use Rattle.photon_model.proofs.Agreeing.{every_run_holds, missing_is_old, bound_is_ok}
 
--- where no number is the first that passes a test, none passes it
-none_passes : (test : ℕ → Bool) (from n : ℕ) → is_none (first_shard test from n) ≡ true → (k : ℕ) → from ≤ k → k < from + n → test k ≡ false
-none_passes test from zero e k a b = absurd (omega arith)
-none_passes test from (suc n) e k a b = go (test from) refl e (none_passes test (suc from) n)
-  where
-    go : (b : Bool) → test from ≡ b → is_none (cond b (Some from) (first_shard test (suc from) n)) ≡ true → (is_none (first_shard test (suc from) n) ≡ true → (k : ℕ) → suc from ≤ k → k < suc from + n → test k ≡ false) → test k ≡ false
-    go true t q ih = absurd (true≢false (sym q))
-    go false t q ih = ⊎_elim (λ lt. ih q k lt (omega arith)) (λ ge. ap test (let same : k ≡ from = omega arith in same) ∙ t) (cases_lt from k)
+none_is : {A : Type 0} (o : Option A) → is_none o ≡ true → o ≡ None
+none_is None e = refl
+none_is (Some x) e = absurd (true≢false (sym e))
 
 no_flights : (l : JoinerLive) → joiner_at_rest l ≡ true → l.flight ≡ []
 no_flights l = go l.flight
@@ -35,7 +33,7 @@ rest_is_done g d es old c s has_ r rest = record { drained = drained; bounds = b
     bounds : (shard : ℕ) → shard < shards g → (g.horizon ≤ bound_of (decided_in g w shard)) × IsBoundOk g old (bound_of (decided_in g w shard))
     bounds shard lt =
         let u = up_is (λ (l : ServerLive). server_at_rest g l ≡ true) (w.servers 0).live (rest.servers 0 (lit< tt)) in
-        let e = none_passes (λ k. nat_lt (bound_of (u.0.shards k).learned) g.horizon) 0 (shards g) u.2 shard (omega arith) (omega arith) in
+        let e = first_none (λ k. nat_lt (bound_of (u.0.shards k).learned) g.horizon) 0 (shards g) (none_is _ u.2) shard (omega arith) (omega arith) in
         bound_is_ok g d (accepted_inserts g d) old es c s has_ r 0 shard u.0 (lit< tt) u.1 (ltb-false (bound_of (u.0.shards shard).learned) g.horizon e)
 
     missing : NoJoinerStops es → (i : EventId) (h : Token) → holder (values_of g (known g w []) i) i ≡ Some h → (IsWritten g (known g w []) i → ⊥) → Mem (record { id = i; token = h }) (accepted_inserts g d)

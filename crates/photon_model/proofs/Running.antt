@@ -1,11 +1,14 @@
 -- Each entry of a run keeps all facts, and so they hold after every run.
-use Rattle.std.proofs.Common.{◌≡◌, ◌≢◌, ◌⊎◌, inl, inr, ⊎_elim, ℕ, zero, suc, ◌+◌, ◌*◌, ◌<◌, ◌≤◌, Bool, true, false, ◌==◌, List, [], ◌∷◌, ◌++◌, Some, None, refl, sym, ap, ◌∙◌, subst, arith}
+use Rattle.std.proofs.Common.{◌≡◌, ◌≢◌, ◌⊎◌, inl, inr, ⊎_elim, ℕ, zero, suc, ◌+◌, ◌*◌, ◌<◌, ◌≤◌, true, ◌==◌, List, [], ◌∷◌, ◌++◌, Some, None, refl, sym, ap, ◌∙◌, subst, arith}
 use Rattle.std.specs.Prelude.{Option, slice_get}
 use Rattle.std.proofs.lemmas.Bool.{cases_Bool, cases_lt, true≢false, and_parts}
-use Rattle.photon_model.proofs.Words.{EventId, Token, Insert, same_id, Query, ClickLine, at, end_from, Follow, first, Mem, Each, EachPair, has, set_at, IsGranted, Expired, Setting, first_joiner, Checked, IsJoiner, IsJoin, Dispatcher, Server, Replica, Joiner, PairRec, Input, Note, land, is_empty, DispatcherLive, land_dispatcher, dispatcher_at_rest, JoinerLive, land_joiner, land_server, land_replica, each_at, some_same, none_some, at_own, within_end, one_granted, same_id-true, same_id-false, UpWith, Known, values_of, IsWritten, IsMissing, IsDrained, DispatcherSound, PairSound, InsertsOf, Sound, known, IfUp, WorldHolds, World, Entry, Begin, End, Stop, Disks, begun, ended, stopped, dispatcher_row, server_row, replica_row, joiner_row, sends, after, May, opening, extended, PaxosGives, NoJoinerStops}
+use Rattle.photon_model.proofs.Words.{ReplicaKept, EventId, Token, Insert, same_id, Query, ClickLine, at, end_from, Follow, first, Mem, Each, EachPair, has, set_at, IsGranted, Expired, Setting, first_joiner, Checked, IsJoiner, IsJoin, Dispatcher, Server, Replica, Joiner, PairRec, Input, Note, land, is_empty, DispatcherLive, land_dispatcher, dispatcher_at_rest, JoinerLive, land_joiner, land_server, land_replica, each_at, some_same, none_some, at_own, within_end, one_granted, UpWith, Known, values_of, IsWritten, IsMissing, IsDrained, DispatcherSound, PairSound, InsertsOf, Sound, known, IfUp, WorldHolds, World, Entry, Begin, End, Stop, Disks, begun, ended, stopped, dispatcher_row, server_row, replica_row, joiner_row, sends, after, May, opening, extended, PaxosGives, NoJoinerStops}
 use Rattle.photon_model.proofs.Growth.{joiner_kept_lasts, joiner_live_lasts}
 use Rattle.photon_model.proofs.Joining.{grows_extended}
 use Rattle.photon_model.proofs.Fates.{Fates, fates_decided, fates_begun, fates_ended}
+use Rattle.photon_model.proofs.Showing.{found, not_found}
+use Rattle.std.specs.Prelude.{find}
+use Rattle.photon_model.proofs.Worlds.{landed_either}
 use Rattle.photon_model.proofs.Lifting.{addressed_hold, dispatcher_replaced, server_replaced, replica_replaced, joiner_replaced, dispatcher_row_keeps, joiner_row_keeps, server_row_keeps, replica_row_keeps}
 use Rattle.photon_model.specs.Headline.{PairAt}
 
@@ -62,35 +65,12 @@ module _ (g : Setting) (c : Checked g) (old : List Insert) (w : World) (drawn : 
         λ t _. fates_ended g c old w drawn holds j m.0 made ps kept k m.1.1 t,
       )
   step (Stop (Dispatcher s) landed) m p =
-      let k = dispatcher_row_keeps g w drawn holds c s m.0 in (
-        drawn,
-        dispatcher_replaced g w drawn holds s (stopped land_dispatcher (w.dispatchers s) landed) []
-            (record {
-              kept = ⊎_elim
-                  (λ (e : landed ≡ None). subst (λ (q : Option Note). DispatcherSound g (known g w drawn) (land land_dispatcher q (w.dispatchers s).kept)) (sym e) (holds.dispatchers s m.0).kept)
-                  (λ (e : landed ≡ (dispatcher_row g s (w.dispatchers s)).note). subst (λ (q : Option Note). DispatcherSound g (known g w drawn) (land land_dispatcher q (w.dispatchers s).kept)) (sym e) k.kept)
-                  m.1.1;
-              live = tt;
-              opened = tt;
-            })
-            (λ x q. absurd q),
-        λ t _. t,
-      )
+      let kept = landed_either (DispatcherSound g (known g w drawn)) land_dispatcher (w.dispatchers s).kept (dispatcher_row g s (w.dispatchers s)).note landed m.1.1 (holds.dispatchers s m.0).kept (dispatcher_row_keeps g w drawn holds c s m.0).kept in
+      (drawn, dispatcher_replaced g w drawn holds s (stopped land_dispatcher (w.dispatchers s) landed) [] (record { kept = kept; live = tt; opened = tt }) (λ x q. absurd q), λ t _. t)
   step (Stop (Server s) landed) m p = (drawn, server_replaced g w drawn holds s (stopped land_server (w.servers s) landed) [] (record { live = tt; opened = tt }) (λ x q. absurd q), λ t _. t)
   step (Stop (Replica r) landed) m p =
-      let k = replica_row_keeps g w drawn holds r m.0 in (
-        drawn,
-        replica_replaced g w drawn holds r (stopped land_replica (w.replicas r) landed) [] p.grows
-            (record {
-              kept = ⊎_elim
-                  (λ (e : landed ≡ None). subst (λ (q : Option Note). Each (InsertsOf g (known g w drawn)) (land land_replica q (w.replicas r).kept).notes) (sym e) (holds.replicas r m.0).kept)
-                  (λ (e : landed ≡ (replica_row (w.replicas r)).note). subst (λ (q : Option Note). Each (InsertsOf g (known g w drawn)) (land land_replica q (w.replicas r).kept).notes) (sym e) k.kept)
-                  m.1.1;
-              opened = tt;
-            })
-            (λ x q. absurd q),
-        λ t _. fates_decided g old w drawn (after g w (Stop (Replica r) landed)) refl p.grows t,
-      )
+      let kept = landed_either (λ (k : ReplicaKept). Each (InsertsOf g (known g w drawn)) k.notes) land_replica (w.replicas r).kept (replica_row (w.replicas r)).note landed m.1.1 (holds.replicas r m.0).kept (replica_row_keeps g w drawn holds r m.0).kept in
+      (drawn, replica_replaced g w drawn holds r (stopped land_replica (w.replicas r) landed) [] p.grows (record { kept = kept; opened = tt }) (λ x q. absurd q), λ t _. fates_decided g old w drawn (after g w (Stop (Replica r) landed)) refl p.grows t)
   step (Stop (Joiner j) landed) m p =
       let k = joiner_row_keeps g w drawn holds c j m.0 in
       ⊎_elim
@@ -117,13 +97,11 @@ opens g d drawn s =
 -- ---- what the facts say of clicks
 
 find_pair : (ps : List PairRec) (i : EventId) → ((p : PairRec) × Mem p ps × (p.click.id ≡ i)) ⊎ ((p : PairRec) → Mem p ps → p.click.id ≡ i → ⊥)
-find_pair [] i = inr (λ p m e. m)
-find_pair (x ∷ ps) i = go (same_id x.click.id i) refl (find_pair ps i)
+find_pair ps i = go (find (λ (q : PairRec). same_id q.click.id i) ps) refl
   where
-    go : (b : Bool) → same_id x.click.id i ≡ b → ((p : PairRec) × Mem p ps × (p.click.id ≡ i)) ⊎ ((p : PairRec) → Mem p ps → p.click.id ≡ i → ⊥) → ((p : PairRec) × Mem p (x ∷ ps) × (p.click.id ≡ i)) ⊎ ((p : PairRec) → Mem p (x ∷ ps) → p.click.id ≡ i → ⊥)
-    go true e h = inl (x, inl refl, same_id-true x.click.id i e)
-    go false e (inl h) = inl (h.0, inr h.1, h.2)
-    go false e (inr h) = inr (λ p m q. ⊎_elim (λ (u : x ≡ p). same_id-false x.click.id i e (ap (λ (y : PairRec). y.click.id) u ∙ q)) (λ u. h p u q) m)
+    go : (o : Option PairRec) → find (λ (q : PairRec). same_id q.click.id i) ps ≡ o → ((p : PairRec) × Mem p ps × (p.click.id ≡ i)) ⊎ ((p : PairRec) → Mem p ps → p.click.id ≡ i → ⊥)
+    go (Some p) e = let h = found ps i p e in inl (p, h.0, h.1)
+    go None e = inr (λ p m same. not_found ps i p e m same)
 
 find_joiner : (f : ℕ → List PairRec) (i : EventId) (from m : ℕ) → ((j : ℕ) × (p : PairRec) × (from ≤ j) × (j < from + m) × Mem p (f j) × (p.click.id ≡ i)) ⊎ ((j : ℕ) (p : PairRec) → from ≤ j → j < from + m → Mem p (f j) → p.click.id ≡ i → ⊥)
 find_joiner f i from zero = inr (λ j p a b. absurd (omega arith))

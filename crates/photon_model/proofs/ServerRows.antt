@@ -1,20 +1,13 @@
 -- The rows of a server: what holds of each row's case holds of every turn.
-use Rattle.std.proofs.Common.{◌≡◌, ℕ, zero, suc, ◌+◌, ◌<◌, Bool, true, false, cond, ◌||◌, ◌&&◌, ◌==◌, nat_lt, nat_le, List, [], ◌∷◌, ◌++◌, length, set, Some, None, refl, sym, ap, ◌∙◌, inl, inr, arith}
+use Rattle.std.proofs.Common.{◌≡◌, ℕ, zero, suc, ◌+◌, ◌<◌, Bool, true, false, cond, ◌||◌, ◌&&◌, ◌==◌, nat_lt, nat_le, List, [], ◌∷◌, ◌++◌, length, set, Some, None, refl, sym, inl, inr, arith}
 use Rattle.std.specs.Prelude.{Option}
 use Rattle.std.proofs.lemmas.Bool.{cond_both, eqb-true, and_parts}
-use Rattle.photon_model.proofs.Words.{Setting, shard, shards, Ballot, Batch, Insert, Place, Answer, replay, Phase, on_promise, on_accepted, Promising, Accepting, Ended, Mem, Each, Packet, Claim, Reply, Prepare, Promise, Nack, Accept, Accepted, Chosen, Node, Replica, Joiner, To, Only, Input, Start, Own, Tick, Deliver, Out, idle, is_next, ServerKept, ServerLive, ShardState, Proposal, queued, to_from, to_replicas, is_below_limit, may_propose, first_shard, is_current, is_own_joiner, reply, reply_if, replies, with_shard, learns, claimed, owns, server_own, promised, accepted, nacked, gets_promise, gets_accepted, gets_nack, of_phase, again, all_again, server_tick, from_replica, server_gets, server_turn, option_both, each_append, none_some, some_same, is_same, is_below, same_true, higher, value_for, is_new, is_most, nobody, with_promise, with_acceptance}
+use Rattle.photon_model.proofs.Words.{Setting, shard, shards, Ballot, Batch, Insert, Place, Answer, replay, Phase, on_promise, on_accepted, Promising, Accepting, Ended, Mem, Each, Packet, Claim, Reply, Prepare, Promise, Nack, Accept, Accepted, Chosen, Node, Replica, Joiner, To, Only, Input, Start, Own, Tick, Deliver, Out, idle, is_next, ServerKept, ServerLive, ShardState, Proposal, queued, to_from, to_replicas, is_below_limit, may_propose, first_shard, is_current, is_own_joiner, reply, reply_if, replies, with_shard, learns, claimed, owns, server_own, promised, accepted, nacked, gets_promise, gets_accepted, gets_nack, of_phase, again, all_again, server_tick, from_replica, server_gets, server_turn, option_both, each_append, is_same, is_below, same_true, higher, value_for, is_new, is_most, nobody, with_promise, with_acceptance}
+use Rattle.photon_model.proofs.Finding.{first_is}
 
 -- the next place of a shard
 abbrev pub next_at : ℕ → ShardState → Place
 next_at s st = record { shard = s; slot = length st.learned }
-
-first_passes : (test : ℕ → Bool) (from n k : ℕ) → first_shard test from n ≡ Some k → test k ≡ true
-first_passes test from zero k e = none_some k e
-first_passes test from (suc n) k e = go (test from) refl e (first_passes test (suc from) n k)
-  where
-    go : (b : Bool) → test from ≡ b → cond b (Some from) (first_shard test (suc from) n) ≡ Some k → (first_shard test (suc from) n ≡ Some k → test k ≡ true) → test k ≡ true
-    go true t q ih = ap test (sym (some_same from k q)) ∙ t
-    go false t q ih = ih q
 
 -- a current packet is of the proposal's place and ballot
 pub current_at : (g : Setting) (at : Place) (b : Ballot) (st : ShardState) (p : Proposal) → is_current g at b st p ≡ true → (at ≡ next_at at.shard st) × (b ≡ p.ballot)
@@ -80,7 +73,7 @@ module _ (g : Setting) (site : ℕ) (k : ServerKept) (l : ServerLive) where
     own : P Own (server_own g site k l)
     own =
         cond_both (is_below_limit l.round) _ (idle l) (P Own)
-        (λ _. option_both (first_shard (λ s. may_propose g (l.shards s)) 0 (shards g)) (owns g site k l) (P Own) (λ s e. h.draws s (first_passes (λ s. may_propose g (l.shards s)) 0 (shards g) s e)) (λ _. h.idles Own))
+        (λ _. option_both (first_shard (λ s. may_propose g (l.shards s)) 0 (shards g)) (owns g site k l) (P Own) (λ s e. h.draws s (first_is (λ s. may_propose g (l.shards s)) 0 (shards g) s e).1) (λ _. h.idles Own))
         (λ _. h.idles Own)
 
     -- the packet is current, or the server is idle

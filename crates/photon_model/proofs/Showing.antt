@@ -1,7 +1,8 @@
 -- The report of a store names the missing ids, and no other.
-use Rattle.std.proofs.Common.{◌≡◌, inl, inr, ⊎_elim, ℕ, zero, suc, ◌+◌, ◌*◌, ◌<◌, ◌≤◌, Bool, true, false, cond, List, [], ◌∷◌, Some, None, refl, sym, ap, ◌∙◌, subst, arith}
+use Rattle.std.proofs.Common.{◌≡◌, ⊎_elim, ℕ, zero, suc, ◌+◌, ◌*◌, ◌<◌, ◌≤◌, Bool, true, false, cond, List, [], Some, None, refl, sym, ap, ◌∙◌, subst, arith}
 use Rattle.std.specs.Prelude.{Option, find, is_some, nat_lt}
-use Rattle.photon_model.proofs.Words.{EventId, same_id, Token, holder, bound_of, same_id-true, same_id-false, Mem, none_some, mem_left, mem_right, mem_split, M, X, U, PairRec, Setting, first_joiner, IsWritten, IsMissing, known_of, pairs_from, all_pairs, decided_for, pair_of, line_by, line_of, Disks}
+use Rattle.photon_model.proofs.Words.{EventId, same_id, Token, holder, bound_of, same_id-true, same_id-refl, Mem, none_some, mem_left, mem_right, mem_split, M, X, U, PairRec, Setting, first_joiner, IsWritten, IsMissing, known_of, pairs_from, all_pairs, decided_for, pair_of, line_by, line_of, Disks}
+use Rattle.photon_model.proofs.Finding.{find_some, find_none}
 
 -- a pair of so many joiners' logs stands in one of them
 pub from_log : (d : Disks) (from n : ℕ) (p : PairRec) → Mem p (pairs_from d from n) → (j : ℕ) × (from ≤ j) × (j < from + n) × Mem p (d.joiners j).pairs
@@ -19,20 +20,10 @@ to_log d from (suc n) j p a b m =
 
 -- the first pair of an id is one of it, and where there is none no pair is
 pub found : (ps : List PairRec) (i : EventId) (p : PairRec) → find (λ (q : PairRec). same_id q.click.id i) ps ≡ Some p → Mem p ps × (p.click.id ≡ i)
-found [] i p e = none_some p e
-found (x ∷ ps) i p e = go (same_id x.click.id i) refl e (found ps i p)
-  where
-    go : (b : Bool) → same_id x.click.id i ≡ b → cond b (Some x) (find (λ (q : PairRec). same_id q.click.id i) ps) ≡ Some p → (find (λ (q : PairRec). same_id q.click.id i) ps ≡ Some p → Mem p ps × (p.click.id ≡ i)) → Mem p (x ∷ ps) × (p.click.id ≡ i)
-    go true t e ih = let s : x ≡ p = cc in (inl s, ap (λ (q : PairRec). q.click.id) (sym s) ∙ same_id-true x.click.id i t)
-    go false t e ih = let h = ih e in (inr h.0, h.1)
+found ps i p e = let h = find_some (λ (q : PairRec). same_id q.click.id i) ps p e in (h.0, same_id-true p.click.id i h.1)
 
 pub not_found : (ps : List PairRec) (i : EventId) (p : PairRec) → find (λ (q : PairRec). same_id q.click.id i) ps ≡ None → Mem p ps → p.click.id ≡ i → ⊥
-not_found [] i p e m same = m
-not_found (x ∷ ps) i p e m same = go (same_id x.click.id i) refl e (λ f k. not_found ps i p f k same)
-  where
-    go : (b : Bool) → same_id x.click.id i ≡ b → cond b (Some x) (find (λ (q : PairRec). same_id q.click.id i) ps) ≡ None → (find (λ (q : PairRec). same_id q.click.id i) ps ≡ None → Mem p ps → ⊥) → ⊥
-    go true t e ih = none_some x (sym e)
-    go false t e ih = ⊎_elim (λ s. same_id-false x.click.id i t (ap (λ (q : PairRec). q.click.id) s ∙ same)) (λ k. ih e k) m
+not_found ps i p e m same = find_none (λ (q : PairRec). same_id q.click.id i) ps p e m (ap (same_id p.click.id) (sym same) ∙ same_id-refl p.click.id)
 
 module _ (g : Setting) (d : Disks) (i : EventId) where
   abbrev Unwritten : Type 0

@@ -1,7 +1,7 @@
 -- Of worlds and their cells.
-use Rattle.std.proofs.Common.{◌≡◌, ℕ, zero, suc, ◌<◌, ◌==◌, List, [], ◌∷◌, ◌++◌, Option, Some, None, refl, ap, arith}
+use Rattle.std.proofs.Common.{◌≡◌, ◌⊎◌, inl, inr, ⊎_elim, sym, subst, ℕ, zero, suc, ◌<◌, ◌==◌, List, [], ◌∷◌, ◌++◌, Option, Some, None, refl, ap, arith}
 use Rattle.std.proofs.lemmas.Bool.{cond-true, eq-eqb}
-use Rattle.photon_model.proofs.Words.{at_node, Setting, Node, Input, World, Entry, after, world_after, IsRun, UpWith, set_at}
+use Rattle.photon_model.proofs.Words.{Out, Own, row, Note, land, at_node, Setting, Node, Input, World, Entry, after, world_after, IsRun, UpWith, set_at}
 
 -- the input of a node's open turn
 abbrev pub opened_at : World → Node → Option Input
@@ -28,3 +28,13 @@ pub of_two : (P : ℕ → Type 0) → P 0 → P 1 → (s : ℕ) → s < 2 → P 
 of_two P a b zero lt = a
 of_two P a b (suc zero) lt = b
 of_two P a b (suc (suc s)) lt = absurd (omega (arith, lt))
+
+-- a stop leaves what its note makes of the records, or the records
+pub landed_either : {K : Type 0} (P : K → Type 0) (f : Note → K → K) (k : K) (note landed : Option Note) → (landed ≡ None) ⊎ (landed ≡ note) → P k → P (land f note k) → P (land f landed k)
+landed_either P f k note landed how here there = ⊎_elim (λ e. subst (λ q. P (land f q k)) (sym e) here) (λ e. subst (λ q. P (land f q k)) (sym e) there) how
+
+-- the row of a node that is down, or up with its open turn's input
+pub row_by : {K L : Type 0} (start : K → Out L) (turn : K → L → Input → Out L) (k : K) (l : Option L) (o : Option Input) (P : Out L → Type 0) → P (start k) → ((x : L) → l ≡ Some x → (i : Input) → (o ≡ Some i) ⊎ (i ≡ Own) → P (turn k x i)) → P (row start turn k l o)
+row_by start turn k None o P down up = down
+row_by start turn k (Some x) None P down up = up x refl Own (inr refl)
+row_by start turn k (Some x) (Some i) P down up = up x refl i (inl refl)

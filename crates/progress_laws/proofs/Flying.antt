@@ -1,18 +1,13 @@
 -- A joiner's turn: what is in flight after it was so before, or its insert is sent; and what ends a flight is work.
-use Rattle.std.proofs.Common.{◌≡◌, ◌⊎◌, inl, inr, ⊎_elim, ℕ, true, List, ◌∷◌, map, Some, None, sym, ap, ◌∙◌, []}
+use Rattle.std.proofs.Common.{◌≡◌, ◌⊎◌, inl, inr, ⊎_elim, ℕ, true, List, ◌∷◌, map, sym, ap, ◌∙◌, []}
 use Rattle.std.specs.Prelude.{find}
-use Rattle.std.proofs.lemmas.Bool.{true≢false, and_from, cond_both}
+use Rattle.std.proofs.lemmas.Bool.{true≢false, and_from}
+use Rattle.photon_model.proofs.Finding.{find_none}
 use Rattle.photon_model.proofs.JoinerRows.{landed_or, landed_before, every_row}
-use Rattle.photon_model.proofs.Words.{clash, Insert, same_id-refl, same_token-refl, Answer, Granted, Mem, option_both, mem_left, mem_split, none_some, Setting, site_of_joiner, Claim, Reply, Node, Server, Only, Input, Tick, Deliver, Out, idle, JoinerKept, JoinerLive, Flight, insert_of, is_for, landed, without_flight, answers, replied, joiner_turn, JoinerWorks}
+use Rattle.photon_model.proofs.Words.{Insert, same_id-refl, same_token-refl, Answer, Granted, Mem, option_both, mem_left, mem_split, Setting, site_of_joiner, Claim, Reply, Node, Server, Only, Input, Tick, Deliver, Out, idle, JoinerKept, JoinerLive, Flight, insert_of, is_for, landed, without_flight, answers, replied, joiner_turn, JoinerWorks}
 
 pub is_own : (f : Flight) → is_for (insert_of f) f ≡ true
 is_own f = and_from _ _ (same_id-refl f.click.id) (same_token-refl f.token)
-
-not_found : (fs : List Flight) (x : Insert) (f : Flight) → Mem f fs → is_for x f ≡ true → find (is_for x) fs ≡ None → ⊥
-not_found [] x f m t n = m
-not_found (y ∷ fs) x f m t n =
-    cond_both (is_for x y) (Some y) (find (is_for x) fs) (λ o. o ≡ None → ⊥) (λ _ e. none_some y (sym e))
-    (λ q e. ⊎_elim (λ s. clash (is_for x f) t (ap (is_for x) (sym s) ∙ q)) (λ k. not_found fs x f k t e) m) n
 
 mem_map : {A B : Type 0} (f : A → B) (xs : List A) (x : A) → Mem x xs → Mem (f x) (map f xs)
 mem_map f [] x m = absurd m
@@ -69,7 +64,7 @@ module _ (g : Setting) (j : ℕ) (k : JoinerKept) (l : JoinerLive) where
   reply_works f from a m =
       option_both (find (is_for (insert_of f)) l.flight) (replied g j k l (insert_of f) a) (λ o. JoinerWorks l o.live)
       (λ y _. ends y a)
-      (λ n. absurd (not_found l.flight (insert_of f) f m (is_own f) n))
+      (λ n. absurd (find_none (is_for (insert_of f)) l.flight f n m (is_own f)))
     where
       gone : JoinerWorks l (without_flight g j k l (insert_of f))
       gone = (f, m, λ q. true≢false (sym (is_own f) ∙ (landed_before l.flight (insert_of f) f q).1))

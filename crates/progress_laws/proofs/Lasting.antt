@@ -1,7 +1,10 @@
 -- What each turn of a server keeps of its shards holds after every run.
-use Rattle.std.proofs.Common.{◌≡◌, inl, inr, ⊎_elim, ℕ, true, List, [], ◌∷◌, Some, None, sym, ap, ◌∙◌}
+use Rattle.std.proofs.Common.{◌≡◌, inl, inr, ⊎_elim, ℕ, true, List, [], ◌∷◌, Some, sym, ap, ◌∙◌}
 use Rattle.std.specs.Prelude.{Option}
-use Rattle.photon_model.proofs.Words.{Ballot, set_at, at_set, none_some, Setting, Server, Input, Own, ServerKept, ServerLive, ShardState, land_server, empty_shard, server_start, server_turn, IfUp, World, Entry, Begin, End, Stop, Disks, begun, stopped, row, server_row, server_ended, after, world_after, opening, Cell}
+use Rattle.photon_model.proofs.Words.{Ballot, set_at, at_set, none_some, Setting, Server, Input, ServerKept, ServerLive, ShardState, land_server, empty_shard, server_start, server_turn, IfUp, World, Entry, Begin, End, Stop, Disks, begun, stopped, server_row, server_ended, after, world_after, opening, Cell}
+use Rattle.std.proofs.Common.{subst}
+use Rattle.photon_model.proofs.Worlds.{row_by}
+use Rattle.photon_model.proofs.Words.{Out}
 use Rattle.progress_laws.specs.Moves.{is_left}
 use Rattle.progress_laws.proofs.Turning.{ballot_in, Fate, Turns, turns}
 use Rattle.progress_laws.proofs.Waiting.{still_left}
@@ -16,12 +19,7 @@ OfAllShards P w = (s : ℕ) → OfShards P (w.servers s).live
 
 module _ (g : Setting) (P : ShardState → Type 0) (empty : P empty_shard) (keeps : (s : ℕ) (k : ServerKept) (l : ServerLive) → ((n : ℕ) → P (l.shards n)) → (i : Input) (n : ℕ) → P ((server_turn g s k l i).live.shards n)) where
   row_has : (w : World) (s : ℕ) → OfAllShards P w → (n : ℕ) → P ((server_row g s (w.servers s)).live.shards n)
-  row_has w s h = go (w.servers s).live (w.servers s).opened (h s)
-    where
-      go : (o : Option ServerLive) (i : Option Input) → OfShards P o → (n : ℕ) → P ((row server_start (server_turn g s) (w.servers s).kept o i).live.shards n)
-      go None i h = λ n. empty
-      go (Some l) None h = keeps s (w.servers s).kept l h Own
-      go (Some l) (Some i) h = keeps s (w.servers s).kept l h i
+  row_has w s h = row_by server_start (server_turn g s) (w.servers s).kept (w.servers s).live (w.servers s).opened (λ (o : Out ServerLive). (n : ℕ) → P (o.live.shards n)) (λ n. empty) (λ l up i _. keeps s (w.servers s).kept l (subst (OfShards P) up (h s)) i)
 
   changed : (w : World) (m : ℕ) (c : Cell ServerKept ServerLive) → OfShards P c.live → OfAllShards P w → OfAllShards P (record w { servers = set_at w.servers m c })
   changed w m c now h = at_set (λ s (c : Cell ServerKept ServerLive). OfShards P c.live) w.servers m c now h

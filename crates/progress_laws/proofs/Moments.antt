@@ -3,8 +3,9 @@ use Rattle.std.proofs.Common.{◌≡◌, ◌⊎◌, inl, inr, ⊎_elim, ℕ, ◌
 use Rattle.std.specs.Prelude.{Option, filter, not}
 use Rattle.std.proofs.lemmas.Bool.{cond_both, cond-true, not-true}
 use Rattle.std.proofs.lemmas.List.Sums.{length-filter}
-use Rattle.photon_model.proofs.Words.{Mem, Each, clash, mem_left, mem_right, mem_split, none_some, some_same, Setting, IsNode, IsTo, Addressed, Packet, Node, Dispatcher, Server, Replica, Joiner, To, Only, Input, Start, Own, Tick, Deliver, Sent, Note, Out, land, ServerLive, World, Entry, Begin, End, Stop, begun, ended, row, sends, after, world_after, May, IsTurn, IsRun, same_node, put_in, is_tick_of, ticks_due, is_unfinished, is_out, to_live, IsQuiet, IsInterval, Carries, BothUp, DispatcherWorks, JoinerWorks, ServerWorks, IsWork, Cell, KeptOf, LiveOf, at_node, land_at, start_at, turn_at, row_of}
+use Rattle.photon_model.proofs.Words.{Mem, Each, each_at, clash, mem_left, mem_right, mem_split, none_some, some_same, Setting, IsNode, IsTo, Packet, Node, Dispatcher, Server, Replica, Joiner, To, Only, Input, Start, Own, Tick, Deliver, Sent, Note, Out, land, ServerLive, World, Entry, Begin, End, Stop, begun, ended, row, sends, after, world_after, May, IsTurn, IsRun, same_node, put_in, is_tick_of, ticks_due, is_unfinished, is_out, to_live, IsQuiet, IsInterval, Carries, BothUp, DispatcherWorks, JoinerWorks, ServerWorks, IsWork, Cell, KeptOf, LiveOf, at_node, land_at, start_at, turn_at, row_of}
 pub use Rattle.photon_model.proofs.Worlds.{opened_at}
+use Rattle.photon_model.proofs.Finding.{addressed, sent_addressed}
 use Rattle.photon_model.proofs.Local.{same_node-true, same_node-self, own_one}
 use Rattle.photon_model.specs.Local.{own_entry}
 use Rattle.progress_laws.specs.Idle.{HasNumbers, IsWithinLimits, NoWork, IsIdle}
@@ -96,21 +97,6 @@ Pending w air es n i = IsDue air es n i ⊎ (opened_at w n ≡ Some i)
 -- the entry sends it to a node that takes part
 abbrev pub IsSent : (ℕ → Bool) → Entry → Sent → Type 0
 IsSent dead e x = (n : Node) × (o : Option Note) × (ps : List (Node × Packet)) × (kept : ℕ) × (e ≡ End n o ps kept) × Mem x (sends n ps) × (is_out dead x.to ≡ false)
-
--- a packet of a row is sent to a node that its address means
-addressed : (g : Setting) (from : Node) (as_ : List (To × Packet)) (ps : List (Node × Packet)) → Addressed g as_ ps → (a : To × Packet) → Mem a as_ → (to : Node) × IsTo g a.0 to × Mem (record { from = from; to = to; packet = a.1 }) (sends from ps)
-addressed g from [] ps h a m = absurd m
-addressed g from (b ∷ as_) [] h a m = absurd h
-addressed g from (b ∷ as_) (p ∷ ps) h a (inl e) = (p.0, subst (λ (z : To × Packet). IsTo g z.0 p.0) e h.0.0, inl (ap (λ q. record { from = from; to = p.0; packet = q }) (sym h.0.1 ∙ ap (λ (z : To × Packet). z.1) e)))
-addressed g from (b ∷ as_) (p ∷ ps) h a (inr m) = let i = addressed g from as_ ps h.1 a m in (i.0, i.1, inr i.2)
-
--- what holds of each packet of a row holds of what is sent
-each_sent : (g : Setting) (from : Node) (P : Packet → Type 0) (as_ : List (To × Packet)) (ps : List (Node × Packet)) → Addressed g as_ ps → Each (λ (a : To × Packet). P a.1) as_ → (x : Sent) → Mem x (sends from ps) → P x.packet
-each_sent g from P [] [] h each x m = absurd m
-each_sent g from P [] (p ∷ ps) h each x m = absurd h
-each_sent g from P (b ∷ as_) [] h each x m = absurd m
-each_sent g from P (b ∷ as_) (p ∷ ps) h each x (inl e) = subst P (h.0.1 ∙ ap (λ (z : Sent). z.packet) e) each.0
-each_sent g from P (b ∷ as_) (p ∷ ps) h each x (inr m) = each_sent g from P as_ ps h.1 each.1 x m
 
 module _ (dead : ℕ → Bool) (x : Sent) where
   passing : (xs : List Sent) → Mem x xs → to_live dead x ≡ true → Mem x (filter (to_live dead) xs)
@@ -271,4 +257,4 @@ module _ {g : Setting} {dead : ℕ → Bool} {w : World} {air next : List Sent} 
       subst (λ (x : Node). Pending (after g w e) next es x (Deliver n p)) (sym s.1) (s.2 (subst (λ (x : Node). is_out dead x ≡ false) s.1 live))
 
   pub each_of_row : (P : Packet → Type 0) (n : Node) (end : IsEnd e n) → Each (λ (a : To × Packet). P a.1) (row_at g w n).packets → (x : Sent) → Mem x (sends n end.1) → P x.packet
-  each_of_row P n end each = each_sent g n P (row_at g w n).packets end.1 (ends n end).1.2 each
+  each_of_row P n end each x m = let a = sent_addressed g n (row_at g w n).packets end.1 (ends n end).1.2 x m in subst P a.2 (each_at (λ (b : To × Packet). P b.1) (row_at g w n).packets each a.0 a.1)

@@ -1,8 +1,9 @@
 -- Where more than half of the replicas take part, each attempt ends in an interval in which nothing is done.
-use Rattle.std.proofs.Common.{◌≡◌, ◌⊎◌, inl, inr, ⊎_elim, ℕ, zero, suc, ◌+◌, ◌*◌, ◌<◌, ◌≤◌, Bool, true, false, ◌||◌, nat_lt, List, ◌∷◌, length, Some, None, refl, sym, ap, ◌∙◌, subst, arith, []}
+use Rattle.std.proofs.Common.{◌≡◌, ◌⊎◌, inl, inr, ⊎_elim, ℕ, suc, ◌*◌, ◌<◌, ◌≤◌, Bool, true, false, ◌||◌, nat_lt, List, ◌∷◌, length, Some, None, refl, sym, ap, ◌∙◌, subst, arith, []}
 use Rattle.std.specs.Prelude.{Option, not, is_some, slice_get}
-use Rattle.std.proofs.lemmas.Bool.{true≢false, cases_Bool, cond_both, cases_lt, lt-ltb, or_left}
+use Rattle.std.proofs.lemmas.Bool.{true≢false, lt-ltb, or_left}
 use Rattle.photon_model.proofs.Words.{Ballot, marked, Majority, Batch, same_batch, bound_of, Place, Prepared, Taken, on_prepare, on_accept, Grant, Refuse, Take, Decline, Phase, is_most, Promising, Accepting, Ended, Mem, some_same, Setting, shards, Out, is_empty, Packet, Node, Server, Replica, Only, Input, Tick, Deliver, Sent, ServerKept, ServerLive, Proposal, first_shard, is_free, shard_unfinished, server_unfinished, server_turn, ReplicaKept, cell_at, prepared, taken, replica_turn, IfUp, World, Entry, Disks, server_row, after, world_after, opening, if_up, is_unfinished}
+use Rattle.photon_model.proofs.Finding.{first_none}
 use Rattle.progress_laws.specs.Idle.{IsIdle}
 use Rattle.progress_laws.specs.Moves.{next_of}
 use Rattle.progress_laws.proofs.Moments.{opened_at, IsEnd, Step, along_idle, Pending, none_pending, comes, SitesUp, turned, ended_own, lives, up_after, sites_up, by_turn, goes, row_sent_to}
@@ -140,14 +141,12 @@ module _ {g : Setting} {dead : ℕ → Bool} {w : World} {air next : List Sent} 
 
 -- ---- along an interval
 
-pub none_passes : (test : ℕ → Bool) (from n : ℕ) → is_some (first_shard test from n) ≡ false → (k : ℕ) → from ≤ k → k < from + n → test k ≡ false
-none_passes test from zero e k a b = absurd (omega arith)
-none_passes test from (suc n) e k a b =
-    cond_both (test from) (Some from) (first_shard test (suc from) n) (λ o. is_some o ≡ false → test k ≡ false) (λ _ q. absurd (true≢false q))
-    (λ t q. ⊎_elim (λ lt. none_passes test (suc from) n q k lt (omega arith)) (λ ge. ap test (let same : k ≡ from = omega arith in same) ∙ t) (cases_lt from k)) e
-
 some_found : (test : ℕ → Bool) (n k : ℕ) → k < n → test k ≡ true → is_some (first_shard test 0 n) ≡ true
-some_found test n k b t = ⊎_elim (λ e. e) (λ e. absurd (true≢false (sym t ∙ none_passes test 0 n e k (omega arith) (omega arith)))) (cases_Bool (is_some (first_shard test 0 n)))
+some_found test n k b t = go (first_shard test 0 n) refl
+  where
+    go : (o : Option ℕ) → first_shard test 0 n ≡ o → is_some o ≡ true
+    go (Some x) e = refl
+    go None e = absurd (true≢false (sym t ∙ first_none test 0 n e k (omega arith) (omega arith)))
 
 -- a server with such a shard is unfinished
 pub unfinished_at : (g : Setting) (w : World) (s : ℕ) (l : ServerLive) → (w.servers s).live ≡ Some l → (k : ℕ) → k < shards g → shard_unfinished g (l.shards k) ≡ true → is_unfinished g w (Server s) ≡ true

@@ -1,12 +1,14 @@
 -- Where nothing is done in an interval that does not begin at rest, a slot is attempted.
-use Rattle.std.proofs.Common.{◌≡◌, inl, inr, ⊎_elim, ℕ, zero, suc, ◌+◌, ◌<◌, Bool, true, false, ◌||◌, ◌&&◌, ◌==◌, nat_lt, List, ◌∷◌, length, Some, refl, sym, ap, ◌∙◌, subst, arith, []}
+use Rattle.std.proofs.Common.{◌≡◌, inl, inr, ⊎_elim, ℕ, ◌+◌, ◌<◌, Bool, true, false, ◌||◌, ◌&&◌, ◌==◌, nat_lt, List, ◌∷◌, length, Some, refl, sym, ap, ◌∙◌, subst, arith, []}
 use Rattle.std.specs.Prelude.{not, is_none, is_some, ◌⊎◌}
-use Rattle.std.proofs.lemmas.Bool.{cond_both, true≢false, and_cases, and_from, or_parts, or_left, or_right, eq-eqb, not_from_false, not-false}
+use Rattle.std.proofs.lemmas.Bool.{true≢false, and_cases, and_from, or_parts, or_left, or_right, eq-eqb, not_from_false, not-false}
 use Rattle.time_shards.specs.Shards.{IsTable}
 use Rattle.photon_model.proofs.Words.{bound_of, Mem, has, Setting, IsJoiner, shards, site_of_joiner, is_empty, DispatcherLive, Fresh, waits, first_done, has_room, dispatcher_wants, dispatcher_at_rest, JoinerLive, Flight, joiner_at_rest, ServerLive, first_shard, is_free, is_below_limit, may_propose, server_wants, server_at_rest, ShardState, IfUp, World, Entry, after, world_after, UpWith}
 use Rattle.progress_laws.specs.Idle.{IsIdle, HasNumbers, IsWithinLimits}
 use Rattle.progress_laws.specs.Moves.{is_left}
-use Rattle.progress_laws.proofs.Refusing.{none_passes}
+use Rattle.std.specs.Prelude.{Option}
+use Rattle.std.proofs.Common.{None}
+use Rattle.photon_model.proofs.Finding.{first_is, first_none}
 use Rattle.progress_laws.proofs.Waiting.{IsLeftAt}
 use Rattle.progress_laws.proofs.Claims.{HasFlight, HasOwnTokens, flight_stays, asks}
 use Rattle.photon_model.proofs.Worlds.{up_is}
@@ -30,11 +32,16 @@ pub record Stalls (g : Setting) (dead : ℕ → Bool) (w : World) (es : List Ent
   pub attempted : (s : ℕ) → s < 2 → (l : ServerLive) → ((world_after g w es).servers s).live ≡ Some l → (k : ℕ) → k < shards g → is_left g (l.shards k) ≡ true → IsAttempted (l.shards k)
 
 -- the first number that passes a test, or none
-some_passes : (test : ℕ → Bool) (from n : ℕ) → is_none (first_shard test from n) ≡ false → (k : ℕ) × (k < from + n) × (test k ≡ true)
-some_passes test from zero e = absurd (true≢false e)
-some_passes test from (suc n) e =
-    cond_both (test from) (Some from) (first_shard test (suc from) n) (λ o. is_none o ≡ false → (k : ℕ) × (k < from + suc n) × (test k ≡ true)) (λ t _. (from, omega arith, t))
-    (λ _ q. let h = some_passes test (suc from) n q in let lt = h.1 in (h.0, omega arith, h.2)) e
+some_passes : (test : ℕ → Bool) (n : ℕ) → is_none (first_shard test 0 n) ≡ false → (k : ℕ) × (k < n) × (test k ≡ true)
+some_passes test n e = go (first_shard test 0 n) refl e
+  where
+    go : (o : Option ℕ) → first_shard test 0 n ≡ o → is_none o ≡ false → (k : ℕ) × (k < n) × (test k ≡ true)
+    go (Some k) q e = let h = first_is test 0 n k q in let lt = h.0 in (k, omega (arith, lt), h.1)
+    go None q e = absurd (true≢false e)
+
+not_some : {A : Type 0} (o : Option A) → is_some o ≡ false → o ≡ None
+not_some None e = refl
+not_some (Some x) e = absurd (true≢false e)
 
 -- a quiet dispatcher that is not at rest has tried a line
 tried : (g : Setting) (l : DispatcherLive) → ((p : ℕ) → has l.trying p ≡ true → IsLineAt g p) → dispatcher_wants l ≡ false → dispatcher_at_rest l ≡ false → (p : ℕ) × IsTried g l p
@@ -70,9 +77,8 @@ module _ (g : Setting) (dead : ℕ → Bool) (table : IsTable g.table) (w : Worl
   server_left : (s : ℕ) → UpWith (λ l. server_at_rest g l ≡ false) (w.servers s).live → IsLeftAt g w s
   server_left s u =
       let x = up_is (λ (l : ServerLive). server_at_rest g l ≡ false) (w.servers s).live u in
-      let k = some_passes (λ k. nat_lt (bound_of (x.0.shards k).learned) g.horizon) 0 (shards g) x.2 in
-      let lt = k.1 in
-      (x.0, x.1, (k.0, omega arith, or_right (not (is_empty (x.0.shards k.0).queue)) (nat_lt (bound_of (x.0.shards k.0).learned) g.horizon) k.2))
+      let k = some_passes (λ k. nat_lt (bound_of (x.0.shards k).learned) g.horizon) (shards g) x.2 in
+      (x.0, x.1, (k.0, k.1, or_right (not (is_empty (x.0.shards k.0).queue)) (nat_lt (bound_of (x.0.shards k.0).learned) g.horizon) k.2))
 
   joiner_flies : (j : ℕ) → IsJoiner g j → UpWith (λ l. joiner_at_rest l ≡ false) (w.joiners j).live → HasFlight g w (site_of_joiner g j)
   joiner_flies j is u = let x = up_is (λ (l : JoinerLive). joiner_at_rest l ≡ false) (w.joiners j).live u in let f = some x.0.flight x.2 in (j, x.0, f.0, is, refl, x.1, f.1)
@@ -94,7 +100,7 @@ module _ (g : Setting) (dead : ℕ → Bool) (table : IsTable g.table) (w : Worl
       (λ none. ⊎_elim
       (λ busy. ⊎_elim (λ a. inl a) (λ a. inr (not_held a)) (and_cases (is_free (l.shards k).proposal) (not (l.shards k).held) busy))
       (λ idle. ⊎_elim (λ a. absurd (true≢false (sym rest ∙ a))) (λ a. absurd (true≢false (sym slot ∙ a))) (and_cases (is_left g (l.shards k)) (is_below_limit (length (l.shards k).learned)) idle))
-      (and_cases (is_free (l.shards k).proposal && not (l.shards k).held) _ (none_passes (λ k. may_propose g (l.shards k)) 0 (shards g) none k (omega arith) (omega arith))))
+      (and_cases (is_free (l.shards k).proposal && not (l.shards k).held) _ (first_none (λ k. may_propose g (l.shards k)) 0 (shards g) (not_some _ none) k (omega arith) (omega arith))))
       (and_cases (is_below_limit l.round) (is_some (first_shard (λ k. may_propose g (l.shards k)) 0 (shards g))) calm)
     where
       numbers : HasNumbers g (world_after g w es)
