@@ -25,14 +25,13 @@ abbrev pub IsUndrawn : {V : Type 0} → ℕ → ℕ → Option (Live V) → Ball
 IsUndrawn s e None b = (b.site ≡ s) × (e < b.epoch)
 IsUndrawn s e (Some l) b = (b.site ≡ s) × ((e < b.epoch) ⊎ ((e ≡ b.epoch) × (l.round < b.round)))
 
-pub record ProposalHolds {V : Type 0} (s e greatest : ℕ) (a : Proposal V) : Type 0 where
-  pub site : a.ballot.site ≡ s
-  pub epoch : a.ballot.epoch ≡ e
-  pub round : a.ballot.round ≤ greatest
+-- a ballot that server s has drawn in the epoch, of no higher round
+abbrev pub IsDrawn : ℕ → ℕ → ℕ → Ballot → Type 0
+IsDrawn s e greatest b = (b.site ≡ s) × (b.epoch ≡ e) × (b.round ≤ greatest)
 
 abbrev pub ProposalStands : {V : Type 0} → List (List (Note V)) → List (Packet V) → ℕ → ℕ → ℕ → Place → Option (Proposal V) → Type 0
 ProposalStands js ps s e round p None = Unit {0}
-ProposalStands js ps s e round p (Some a) = ProposalHolds s e round a × Stands js ps p a.ballot a.phase
+ProposalStands js ps s e round p (Some a) = IsDrawn s e round a.ballot × Stands js ps p a.ballot a.phase
 
 -- each value is chosen in its slot
 abbrev pub AreChosen : {V : Type 0} → List (List (Note V)) → ℕ → List V → Type 0
@@ -61,7 +60,7 @@ WorldHolds first w = Holds first (ServersStand w.servers) w.replicas
 
 proposal_lasts : {V : Type 0} (js js' : List (List (Note V))) (ps ps' : List (Packet V)) (s e round : ℕ) (p : Place) (o : Option (Proposal V)) → ((a : Proposal V) → a.ballot.site ≡ s → Stands js ps p a.ballot a.phase → Stands js' ps' p a.ballot a.phase) → ProposalStands js ps s e round p o → ProposalStands js' ps' s e round p o
 proposal_lasts js js' ps ps' s e round p None stands h = tt
-proposal_lasts js js' ps ps' s e round p (Some a) stands h = (h.0, stands a h.0.site h.1)
+proposal_lasts js js' ps ps' s e round p (Some a) stands h = (h.0, stands a h.0.0 h.1)
 
 module _ {V : Type 0} (js js' : List (List (Note V))) (ps ps' : List (Packet V)) (s : ℕ) (unheard : (b : Ballot) → b.site ≡ s → (p : Place) → IsUnheard js (Offered ps) p b → IsUnheard js' (Offered ps') p b) (chosen : (p : Place) (v : V) → IsChosen js p v → IsChosen js' p v) where
   -- a server stands on, where its proposals do
@@ -88,7 +87,7 @@ lasts servers =
 
 later_proposal : {V : Type 0} (js : List (List (Note V))) (ps : List (Packet V)) (s e round next : ℕ) (p : Place) (o : Option (Proposal V)) → round ≤ next → ProposalStands js ps s e round p o → ProposalStands js ps s e next p o
 later_proposal js ps s e round next p None le h = tt
-later_proposal js ps s e round next p (Some a) le h = (record { site = h.0.site; epoch = h.0.epoch; round = omega (arith, h.0.round) }, h.1)
+later_proposal js ps s e round next p (Some a) le h = ((h.0.0, h.0.1, omega (arith, h.0.2)), h.1)
 
 weaker : (e : ℕ) (b : Ballot) (round next : ℕ) → round ≤ next → (e < b.epoch) ⊎ ((e ≡ b.epoch) × (next < b.round)) → (e < b.epoch) ⊎ ((e ≡ b.epoch) × (round < b.round))
 weaker e b round next le (inl h) = inl h
@@ -137,14 +136,14 @@ module _ {V : Type 0} {first : List (List (Note V))} (w : World V) (s : ℕ) (l 
     p = next_place l shard
 
     -- the proposal comes to a phase that stands
-    phase_holds : (a : Proposal V) (phase : Phase V) → ProposalHolds s e l.round a → Stands js ps p a.ballot phase → WorldHolds first (phase_after w s l shard a phase)
-    phase_holds a phase holds stands = holds_goes_on l.round shard _ (omega arith) (record { learned = (lived shard).learned; proposal = (record { site = holds.site; epoch = holds.epoch; round = holds.round }, stands) })
+    phase_holds : (a : Proposal V) (phase : Phase V) → IsDrawn s e l.round a.ballot → Stands js ps p a.ballot phase → WorldHolds first (phase_after w s l shard a phase)
+    phase_holds a phase holds stands = holds_goes_on l.round shard _ (omega arith) (record { learned = (lived shard).learned; proposal = (holds, stands) })
 
     -- a value is learned
     learns_holds : (v : V) → IsChosen js p v → WorldHolds first (learns w s l shard v)
     learns_holds v chosen = holds_goes_on l.round shard _ (omega arith) (record { learned = learns_more js shard (l.shards shard).learned v (lived shard).learned chosen; proposal = tt })
 
-    promise_holds : (a : Proposal V) (t : Phase V × Option V) → ProposalHolds s e l.round a → Asked js ps p a.ballot t → WorldHolds first (promise_counted w s l shard a t)
+    promise_holds : (a : Proposal V) (t : Phase V × Option V) → IsDrawn s e l.round a.ballot → Asked js ps p a.ballot t → WorldHolds first (promise_counted w s l shard a t)
     promise_holds a (phase, None) holds stands = phase_holds a phase holds stands
     promise_holds a (phase, Some v) holds (is_phase, unheard, safe) =
         holds_offered w.replicas p a.ballot v h unheard safe (λ k. at_set_if (λ k. Unit {0}) (ServerStands js (x ∷ ps)) w.servers s next mine (λ k _ apart. others k apart) k tt)
@@ -165,8 +164,8 @@ module _ {V : Type 0} {first : List (List (Note V))} (w : World V) (s : ℕ) (l 
         its_ballot q c u k = cc
 
         fresh : (b : Ballot) → (e < b.epoch) ⊎ ((e ≡ b.epoch) × (l.round < b.round)) → (q : Place) → IsQuiet x q b
-        fresh b (inl above) q c k = let same = ap (λ (z : Ballot). z.epoch) (its_ballot q b c k) in let of_server = holds.epoch in omega (arith, same, of_server, above)
-        fresh b (inr above) q c k = let same = ap (λ (z : Ballot). z.round) (its_ballot q b c k) in let known = holds.round in omega (arith, same, known, above.1)
+        fresh b (inl above) q c k = let same = ap (λ (z : Ballot). z.epoch) (its_ballot q b c k) in let of_server = holds.1 in omega (arith, same, of_server, above)
+        fresh b (inr above) q c k = let same = ap (λ (z : Ballot). z.round) (its_ballot q b c k) in let known = holds.2 in omega (arith, same, known, above.1)
 
         elsewhere : (k : ℕ) → k ≢ shard → ShardStands js (x ∷ ps) s e l.round k (l.shards k)
         elsewhere k apart =
@@ -181,7 +180,7 @@ module _ {V : Type 0} {first : List (List (Note V))} (w : World V) (s : ℕ) (l 
             record {
               undrawn = λ b u q. unheard_sent js q b (accept_came js ps x q b (fresh b u.1 q)) (unheard_yet b u.0 u.1 q);
               live = λ k. at_set_if (λ k. Unit {0}) (ShardStands js (x ∷ ps) s e l.round) l.shards shard st
-                  (record { learned = (lived shard).learned; proposal = (record { site = holds.site; epoch = holds.epoch; round = holds.round }, subst (Stands js (x ∷ ps) p a.ballot) (sym is_phase) (offers v (inl refl))) })
+                  (record { learned = (lived shard).learned; proposal = (holds, subst (Stands js (x ∷ ps) p a.ballot) (sym is_phase) (offers v (inl refl))) })
                   (λ k _ apart. elsewhere k apart) k tt;
             }
 
@@ -191,16 +190,16 @@ module _ {V : Type 0} {first : List (List (Note V))} (w : World V) (s : ℕ) (l 
             (λ l' k' a' at. stands_sent js ps x (next_place l' k') a'.ballot a'.phase (quiet (next_place l' k') a'.ballot at)) (h.rest k)
           where
             quiet : (q : Place) (b : Ballot) → b.site ≡ k → IsQuiet x q b
-            quiet q b at u i = apart (sym at ∙ sym (ap (λ (z : Ballot). z.site) (its_ballot q b u i)) ∙ holds.site)
+            quiet q b at u i = apart (sym at ∙ sym (ap (λ (z : Ballot). z.site) (its_ballot q b u i)) ∙ holds.0)
 
-    acceptance_holds : (a : Proposal V) (t : Phase V × Option V) → ProposalHolds s e l.round a → Learned js ps p a.ballot t → WorldHolds first (acceptance_counted w s l shard a t)
+    acceptance_holds : (a : Proposal V) (t : Phase V × Option V) → IsDrawn s e l.round a.ballot → Learned js ps p a.ballot t → WorldHolds first (acceptance_counted w s l shard a t)
     acceptance_holds a (phase, None) holds stands = phase_holds a phase holds stands
     acceptance_holds a (phase, Some v) holds (stands, chosen) = holds_sent (lasts _) w.replicas (Chosen p v) (learns_holds v chosen) quiet chosen
       where
         quiet : (q : Place) (c : Ballot) → IsQuiet (Chosen p v) q c
         quiet q c u e = cc
 
-  counts_holds : (p : Place) (b : Ballot) (f : Proposal V → World V) → ((a : Proposal V) → ProposalHolds s e l.round a → Stands js ps (next_place l p.shard) a.ballot a.phase → p ≡ next_place l p.shard → b ≡ a.ballot → WorldHolds first (f a)) → WorldHolds first (counts w l p b f (l.shards p.shard).proposal)
+  counts_holds : (p : Place) (b : Ballot) (f : Proposal V → World V) → ((a : Proposal V) → IsDrawn s e l.round a.ballot → Stands js ps (next_place l p.shard) a.ballot a.phase → p ≡ next_place l p.shard → b ≡ a.ballot → WorldHolds first (f a)) → WorldHolds first (counts w l p b f (l.shards p.shard).proposal)
   counts_holds p b f holds = go (l.shards p.shard).proposal (lived p.shard).proposal
     where
       go : (o : Option (Proposal V)) → ProposalStands js ps s e l.round (next_place l p.shard) o → WorldHolds first (counts w l p b f o)
@@ -234,7 +233,7 @@ module _ {V : Type 0} {first : List (List (Note V))} (w : World V) (s : ℕ) (l 
       let b : Ballot = record { round = suc l.round; epoch = e; site = s } in
       holds_sent (lasts _) w.replicas (Prepare (next_place l shard) b)
       (holds_goes_on (suc l.round) shard _ (omega arith)
-      (record { learned = (lived shard).learned; proposal = (record { site = refl; epoch = refl; round = omega arith }, asks (unheard_yet b refl (inr (refl, omega arith)) (next_place l shard))) }))
+      (record { learned = (lived shard).learned; proposal = ((refl, refl, omega arith), asks (unheard_yet b refl (inr (refl, omega arith)) (next_place l shard))) }))
       (quiet b) tt
     where
       quiet : (b : Ballot) (q : Place) (c : Ballot) → IsQuiet {V = V} (Prepare (next_place l shard) b) q c

@@ -1,15 +1,14 @@
 -- In an interval in which nothing is done each join in flight goes on, so that at the end its server has something to do.
 use Rattle.std.proofs.Common.{◌≡◌, inl, inr, ⊎_elim, ℕ, ◌+◌, ◌*◌, ◌<◌, Bool, true, nat_lt, List, ◌∷◌, Some, refl, sym, ap, ◌∙◌, subst, lit<, []}
-use Rattle.std.specs.Prelude.{Option, not, ◌⊎◌}
+use Rattle.std.specs.Prelude.{Option, ◌⊎◌}
 use Rattle.std.proofs.lemmas.Bool.{cond_both, and_from, le-leb, lt-ltb, eq-eqb}
 use Rattle.time_shards.specs.Shards.{IsTable}
 use Rattle.photon_model.proofs.Worlds.{up_is}
-use Rattle.photon_model.proofs.Words.{Answer, Mem, some_same, Setting, IsJoiner, first_joiner, site_of_joiner, shard, Out, is_empty, shard_below, Claim, Reply, Node, Server, Joiner, Only, Tick, Deliver, Sent, JoinerLive, Flight, insert_of, joiner_unfinished, ServerLive, is_own_joiner, World, Entry, server_row, joiner_row, after, world_after, JoinerWorks, if_up}
+use Rattle.photon_model.proofs.Words.{Answer, Mem, some_same, Setting, IsJoiner, first_joiner, site_of_joiner, shard, Out, shard_below, Claim, Reply, Node, Server, Joiner, Only, Tick, Deliver, Sent, JoinerLive, Flight, insert_of, joiner_unfinished, ServerLive, is_own_joiner, World, Entry, server_row, joiner_row, after, world_after, JoinerWorks, if_up}
 use Rattle.progress_laws.specs.Idle.{IsIdle}
 use Rattle.progress_laws.proofs.Moments.{opened_at, IsEnd, Step, along_idle, Pending, none_pending, comes, SitesUp, turned, ended_own, lives, sites_up, by_row, by_turn, no_work, goes, row_sent_to}
-use Rattle.progress_laws.proofs.Waiting.{IsLeftAt, Heard, insert_heard, waits_left}
+use Rattle.progress_laws.proofs.Waiting.{some_empty, IsLeftAt, Heard, insert_heard, waits_left, left_stays}
 use Rattle.progress_laws.proofs.Flying.{turn_both, Sends, tick_sends, reply_works}
-use Rattle.progress_laws.proofs.Calm.{left_stays}
 
 -- ---- what becomes of a join in flight, at a moment of an interval
 
@@ -107,15 +106,11 @@ asks g dead table w es i own s (j, l, f, is, site, up, m) = subst (IsLeftAt g v)
     v : World
     v = world_after g w es
 
-    unfinished : (fs : List Flight) (f : Flight) → Mem f fs → not (is_empty fs) ≡ true
-    unfinished [] f m = absurd m
-    unfinished (y ∷ fs) f m = refl
-
     begins : FlightsGoOn g w [] es
     begins =
         record {
           up = λ s lt. let u = up_is _ (w.servers s).live (i.interval.starts.servers s lt).1 in (u.0, u.1);
-          each = λ j is l up f m. (own j is l up f m, inl (inl (comes g dead w es i.interval (Joiner j) is (ap (λ (o : Option JoinerLive). if_up joiner_unfinished o) up ∙ unfinished l.flight f m))));
+          each = λ j is l up f m. (own j is l up f m, inl (inl (comes g dead w es i.interval (Joiner j) is (ap (λ (o : Option JoinerLive). if_up joiner_unfinished o) up ∙ some_empty l.flight f m))));
         }
 
     only : GoesOn g v [] [] j f → IsLeftAt g v (site_of_joiner g j)

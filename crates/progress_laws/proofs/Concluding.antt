@@ -2,22 +2,20 @@
 use Rattle.std.proofs.Common.{◌≡◌, ◌⊎◌, inl, inr, ⊎_elim, ℕ, zero, suc, ◌+◌, ◌*◌, ◌<◌, ◌≤◌, Bool, true, false, not, ◌||◌, List, [], length, Some, None, refl, sym, ap, ◌∙◌, subst, arith}
 use Rattle.std.specs.Prelude.{Option}
 use Rattle.std.proofs.lemmas.Bool.{true≢false, cases_Bool, cases_lt, or_left, or_right}
-use Rattle.photon_model.proofs.Words.{Ballot, IsUpTo, Majority, upto_trans, not_above, Batch, Place, none_some, some_same, Setting, IsJoiner, first_joiner, shards, site_of_joiner, IsNode, Node, Dispatcher, Server, Replica, Joiner, Tick, Deliver, DispatcherLive, dispatcher_at_rest, JoinerLive, joiner_at_rest, ServerLive, ShardState, is_free, server_at_rest, AllFactsHold, World, Entry, Disks, world_after, opening, UpWith, IsAtRest, IsQuiet}
+use Rattle.photon_model.proofs.Words.{Ballot, IsUpTo, Majority, upto_trans, not_above, Batch, Place, none_some, some_same, Setting, IsJoiner, first_joiner, shards, site_of_joiner, IsNode, Node, Dispatcher, Server, Replica, Joiner, Tick, Deliver, DispatcherLive, dispatcher_at_rest, JoinerLive, joiner_at_rest, ServerLive, ShardState, is_free, server_at_rest, AllFactsHold, World, Entry, Disks, world_after, opening, UpWith, IsAtRest, IsQuiet, Insert, each_at, known, IfUp, FlightHolds, JoinerHolds, DispatcherHolds, WorldHolds}
 use Rattle.time_shards.specs.Shards.{IsTable}
 use Rattle.progress_laws.specs.Idle.{IsIdle}
 use Rattle.progress_laws.specs.Moves.{is_left, next_of, promise_at, IsHeldAt, IsRefusedFrom, RestOrRefused, LeftIsRefused, HeldIsRefused}
 use Rattle.progress_laws.proofs.Moments.{opened_at, along_idle, Pending, quiet_closed, none_pending, comes, SitesUp}
 use Rattle.progress_laws.proofs.Turning.{ballot_in, Same}
-use Rattle.progress_laws.proofs.Waiting.{IsLeftAt, still_left}
+use Rattle.progress_laws.proofs.Waiting.{IsLeftAt, still_left, server_waits}
 use Rattle.progress_laws.proofs.Lasting.{OfAllShards, HasCause, no_cause, cause_kept, after_run}
-use Rattle.progress_laws.proofs.Calm.{server_waits}
 use Rattle.progress_laws.proofs.Claims.{HasOwnTokens, site_below}
 use Rattle.photon_model.proofs.Worlds.{up_is}
 use Rattle.progress_laws.proofs.Trying.{HasLines}
 use Rattle.progress_laws.proofs.Stalling.{Stalls, stalls}
 use Rattle.progress_laws.proofs.Phases.{AreOpen}
 use Rattle.progress_laws.proofs.Refusing.{unfinished_at, no_attempt, every_attempt_open}
-use Rattle.progress_laws.proofs.Starting.{own_tokens, lines}
 use Rattle.progress_laws.proofs.Greatest.{UpTo, Promised, IsMade, MoreOfBoth, with_both}
 use Rattle.progress_laws.proofs.Dueling.{Duel, IsTrying, duel_goes_on, below_round, upto_round, raised}
 use Rattle.progress_laws.proofs.Rising.{IsPromiseUpTo}
@@ -205,6 +203,16 @@ module _ (g : Setting) (dead : ℕ → Bool) (table : IsTable g.table) (most : M
       (λ s lt. ⊎_elim (λ t. inl t) (λ f. inr (some_refused s lt (all.dispatchers s lt f))) (tested _ dispatcher_at_rest (w.dispatchers s).live (i.interval.starts.dispatchers s lt).1)))
 
 -- ---- after every run
+
+module _ (g : Setting) (w : World) (drawn : List Insert) (h : WorldHolds g w drawn) where
+  own_tokens : HasOwnTokens g w
+  own_tokens j is l up f m = let live = subst (IfUp (JoinerHolds g (known g w drawn) j (w.joiners j).kept)) up (h.joiners j is).live in (each_at (FlightHolds g (known g w drawn) j (w.joiners j).kept.epoch l.number) l.flight live.flights f m).joiner
+
+  lines : HasLines g w
+  lines s lt l up p t =
+      let f = h.dispatchers s lt in
+      let live = subst (IfUp (DispatcherHolds g (known g w drawn) (w.dispatchers s).kept)) up f.live in
+      f.kept.starts p (live.trying_pending p t)
 
 module _ (g : Setting) (d : Disks) (es : List Entry) (facts : AllFactsHold g (world_after g (opening d) es)) where
   causes_after : OfAllShards (HasCause g) (world_after g (opening d) es)

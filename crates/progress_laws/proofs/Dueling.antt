@@ -10,10 +10,9 @@ use Rattle.photon_model.proofs.Agreeing.{IsPlain, dispatcher_row_plain, joiner_r
 use Rattle.progress_laws.specs.Moves.{next_of, promise_at}
 use Rattle.progress_laws.proofs.Moments.{opened_at, IsEnd, Step, Pending, IsSent, SitesUp, turned, ended_own, lives, sites_up, ends, kept_after, by_row, goes, was_pending, each_of_row}
 use Rattle.progress_laws.proofs.Turning.{ballot_in, Same, Fate, Keeps, Asks}
-use Rattle.progress_laws.proofs.Waiting.{still_left}
+use Rattle.progress_laws.proofs.Waiting.{still_left, CalmTurn, calm_turn}
 use Rattle.progress_laws.proofs.Lasting.{OfAllShards, HasCause, no_cause, cause_kept, lasts}
 use Rattle.progress_laws.proofs.Rising.{AsksAt, Says, says, Rises, rises, after_turn}
-use Rattle.progress_laws.proofs.Calm.{CalmTurn, calm_turn}
 use Rattle.progress_laws.proofs.Greatest.{UpTo, Promised, promised_more, promised_is, Fine, fine_grows, plain_fine, asks_fine, IsRefusedBy, IsMade, AttemptUpTo, MoreOfBoth, with_both}
 
 -- the rounds of ballots in order

@@ -1,10 +1,8 @@
 -- What each turn of a server keeps of its shards holds after every run.
-use Rattle.std.proofs.Common.{◌≡◌, inl, inr, ⊎_elim, ℕ, true, List, [], ◌∷◌, Some, sym, ap, ◌∙◌}
+use Rattle.std.proofs.Common.{◌≡◌, inl, inr, ⊎_elim, ℕ, true, List, [], ◌∷◌, Some, sym, ap, ◌∙◌, subst}
 use Rattle.std.specs.Prelude.{Option}
-use Rattle.photon_model.proofs.Words.{Ballot, set_at, at_set, none_some, Setting, Server, Input, ServerKept, ServerLive, ShardState, land_server, empty_shard, server_start, server_turn, IfUp, World, Entry, Begin, End, Stop, Disks, begun, stopped, server_row, server_ended, after, world_after, opening, Cell}
-use Rattle.std.proofs.Common.{subst}
+use Rattle.photon_model.proofs.Words.{Ballot, set_at, at_set, none_some, Setting, Server, Input, ServerKept, ServerLive, ShardState, land_server, empty_shard, server_start, server_turn, IfUp, World, Entry, Begin, End, Stop, Disks, begun, stopped, server_row, server_ended, after, world_after, opening, Cell, Out}
 use Rattle.photon_model.proofs.Worlds.{row_by}
-use Rattle.photon_model.proofs.Words.{Out}
 use Rattle.progress_laws.specs.Moves.{is_left}
 use Rattle.progress_laws.proofs.Turning.{ballot_in, Fate, Turns, turns}
 use Rattle.progress_laws.proofs.Waiting.{still_left}

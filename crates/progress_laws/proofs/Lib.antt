@@ -1,6 +1,5 @@
 pub mod Asking
 pub mod Phases
-pub mod Calm
 pub mod Claims
 pub mod Flying
 pub mod Lasting
@@ -15,5 +14,4 @@ pub mod Dueling
 pub mod Stalling
 pub mod Concluding
 pub mod Moving
-pub mod Starting
 pub mod Worked

@@ -226,8 +226,7 @@ module _ {g : Setting} {dead : ℕ → Bool} {w : World} {air next : List Sent} 
   goes_on n (Deliver from p) (inl m) = ⊎_elim (λ k. inl (inl k)) (λ q. inl (inr (begins n (Deliver from p) q))) (air_stays dead (record { from = from; to = n; packet = p }) air next e step.carries m)
   goes_on n Tick (inl (inl q)) = inl (inr (begins n Tick q))
   goes_on n Tick (inl (inr m)) = inl (inl m)
-  goes_on n Start (inl m) = absurd m
-  goes_on n Own (inl m) = absurd m
+  goes_on n _ (inl m) = absurd m
 
   -- what a node is to take it is still, or the entry ends the turn that took it
   pub goes : {X : Type 0} (n : Node) (i : Input) → Pending w air (e ∷ es) n i → (Pending (after g w e) next es n i → X) → (IsEnd e n → opened_at w n ≡ Some i → X) → X

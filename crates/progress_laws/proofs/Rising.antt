@@ -38,15 +38,14 @@ prepare_is c b (Some p) =
     (λ e. (tt, (refl, below_true b p e)))
     (λ e. cond_both (is_same p b) (None, Grant c.accepted) (Some (promise b), Grant c.accepted) (λ (t : Option (Vote Batch) × Prepared Batch). IsVote (Some p) b t.0 × IsRefused (Some p) b t.1) (λ _. (tt, tt)) (λ _. ((refl, below_false b p e), tt)))
 
+anew : (c : Cell Batch) (b : Ballot) (v : Batch) (o : Option Ballot) → IsPromiseUpTo o b → IsVote o b (vote_anew same_batch c b v).0 × IsDeclined o b (vote_anew same_batch c b v).1
+anew c b v o h = cond_both (is_accepted same_batch b v c.accepted) (None, Take) (Some (acceptance b v), Take) (λ (t : Option (Vote Batch) × Taken). IsVote o b t.0 × IsDeclined o b t.1) (λ _. (tt, tt)) (λ _. ((refl, h), tt))
+
 accept_is : (c : Cell Batch) (b : Ballot) (v : Batch) (o : Option Ballot) → IsVote o b (accept_under same_batch c b v o).0 × IsDeclined o b (accept_under same_batch c b v o).1
-accept_is c b v None = anew tt
-  where
-    anew : IsPromiseUpTo None b → IsVote None b (vote_anew same_batch c b v).0 × IsDeclined None b (vote_anew same_batch c b v).1
-    anew h = cond_both (is_accepted same_batch b v c.accepted) (None, Take) (Some (acceptance b v), Take) (λ (t : Option (Vote Batch) × Taken). IsVote None b t.0 × IsDeclined None b t.1) (λ _. (tt, tt)) (λ _. ((refl, h), tt))
+accept_is c b v None = anew c b v None tt
 accept_is c b v (Some p) =
     cond_both (is_below b p) (None, Decline p) (vote_anew same_batch c b v) (λ (t : Option (Vote Batch) × Taken). IsVote (Some p) b t.0 × IsDeclined (Some p) b t.1)
-    (λ e. (tt, (refl, below_true b p e)))
-    (λ e. cond_both (is_accepted same_batch b v c.accepted) (None, Take) (Some (acceptance b v), Take) (λ (t : Option (Vote Batch) × Taken). IsVote (Some p) b t.0 × IsDeclined (Some p) b t.1) (λ _. (tt, tt)) (λ _. ((refl, below_false b p e), tt)))
+    (λ e. (tt, (refl, below_true b p e))) (λ e. anew c b v (Some p) (below_false b p e))
 
 module _ (k : ReplicaKept) (at : Place) where
   -- the promise after a note of a vote

@@ -1,31 +1,25 @@
 -- Where nothing is done in an interval that does not begin at rest, a slot is attempted.
-use Rattle.std.proofs.Common.{◌≡◌, inl, inr, ⊎_elim, ℕ, ◌+◌, ◌<◌, Bool, true, false, ◌||◌, ◌&&◌, ◌==◌, nat_lt, List, ◌∷◌, length, Some, refl, sym, ap, ◌∙◌, subst, arith, []}
-use Rattle.std.specs.Prelude.{not, is_none, is_some, ◌⊎◌}
+use Rattle.std.proofs.Common.{◌≡◌, inl, inr, ⊎_elim, ℕ, ◌+◌, ◌<◌, Bool, true, false, ◌||◌, ◌&&◌, ◌==◌, nat_lt, List, ◌∷◌, length, Some, refl, sym, ap, ◌∙◌, subst, arith, [], None}
+use Rattle.std.specs.Prelude.{not, is_none, is_some, ◌⊎◌, Option}
 use Rattle.std.proofs.lemmas.Bool.{true≢false, and_cases, and_from, or_parts, or_left, or_right, eq-eqb, not_from_false, not-false}
 use Rattle.time_shards.specs.Shards.{IsTable}
 use Rattle.photon_model.proofs.Words.{bound_of, Mem, has, Setting, IsJoiner, shards, site_of_joiner, is_empty, DispatcherLive, Fresh, waits, first_done, has_room, dispatcher_wants, dispatcher_at_rest, JoinerLive, Flight, joiner_at_rest, ServerLive, first_shard, is_free, is_below_limit, may_propose, server_wants, server_at_rest, ShardState, IfUp, World, Entry, after, world_after, UpWith}
 use Rattle.progress_laws.specs.Idle.{IsIdle, HasNumbers, IsWithinLimits}
 use Rattle.progress_laws.specs.Moves.{is_left}
-use Rattle.std.specs.Prelude.{Option}
-use Rattle.std.proofs.Common.{None}
 use Rattle.photon_model.proofs.Finding.{first_is, first_none}
-use Rattle.progress_laws.proofs.Waiting.{IsLeftAt}
+use Rattle.progress_laws.proofs.Waiting.{IsLeftAt, left_stays}
 use Rattle.progress_laws.proofs.Claims.{HasFlight, HasOwnTokens, flight_stays, asks}
 use Rattle.photon_model.proofs.Worlds.{up_is}
 use Rattle.progress_laws.proofs.Trying.{HasLines, IsLineAt, IsTried, HasTried, tries}
-use Rattle.progress_laws.proofs.Calm.{left_stays}
 use Rattle.progress_laws.proofs.Moments.{along_idle}
 
 -- an attempt at the shard's next slot stands, or was refused since the last Tick
 abbrev pub IsAttempted : ShardState → Type 0
 IsAttempted st = (is_free st.proposal ≡ false) ⊎ (st.held ≡ true)
 
--- Where nothing is done in an interval: what is left at a server where it begins is left where it ends, and so is a join in
--- flight; a node that is not at rest where it begins leaves something at its site's server where it ends; and where
--- something is left there, a slot was attempted.
+-- Where nothing is done in an interval: a node that is not at rest where it begins leaves something at its site's server
+-- where it ends; and where something is left there, a slot was attempted.
 pub record Stalls (g : Setting) (dead : ℕ → Bool) (w : World) (es : List Entry) : Type 0 where
-  pub left : (s : ℕ) → IsLeftAt g w s → IsLeftAt g (world_after g w es) s
-  pub flight : (s : ℕ) → HasFlight g w s → HasFlight g (world_after g w es) s
   pub servers : (s : ℕ) → UpWith (λ l. server_at_rest g l ≡ false) (w.servers s).live → IsLeftAt g (world_after g w es) s
   pub joiners : (j : ℕ) → IsJoiner g j → UpWith (λ l. joiner_at_rest l ≡ false) (w.joiners j).live → IsLeftAt g (world_after g w es) (site_of_joiner g j)
   pub dispatchers : (s : ℕ) → s < 2 → UpWith (λ l. dispatcher_at_rest l ≡ false) (w.dispatchers s).live → IsLeftAt g (world_after g w es) s
@@ -67,12 +61,6 @@ limits_end g (e ∷ es) w l = limits_end g es (after g w e) l.1
 module _ (g : Setting) (dead : ℕ → Bool) (table : IsTable g.table) (w : World) (es : List Entry) (i : IsIdle g dead w es) (own : HasOwnTokens g w) (lines : HasLines g w) where
   abbrev v : World
   v = world_after g w es
-
-  left : (s : ℕ) → IsLeftAt g w s → IsLeftAt g (world_after g w es) s
-  left s = along_idle g dead (λ w air es. IsLeftAt g w s) (λ w air next e es step. left_stays step s) es w i
-
-  flight : (s : ℕ) → HasFlight g w s → HasFlight g (world_after g w es) s
-  flight s = along_idle g dead (λ w air es. HasFlight g w s) (λ w air next e es step. flight_stays step s) es w i
 
   server_left : (s : ℕ) → UpWith (λ l. server_at_rest g l ≡ false) (w.servers s).live → IsLeftAt g w s
   server_left s u =
@@ -121,10 +109,8 @@ module _ (g : Setting) (dead : ℕ → Bool) (table : IsTable g.table) (w : Worl
   pub stalls : Stalls g dead w es
   stalls =
       record {
-        left = left;
-        flight = flight;
-        servers = λ s u. left s (server_left s u);
-        joiners = λ j is u. asks g dead table w es i own (site_of_joiner g j) (flight (site_of_joiner g j) (joiner_flies j is u));
+        servers = λ s u. along_idle g dead (λ w air es. IsLeftAt g w s) (λ w air next e es step. left_stays step s) es w i (server_left s u);
+        joiners = λ j is u. let s = site_of_joiner g j in asks g dead table w es i own s (along_idle g dead (λ w air es. HasFlight g w s) (λ w air next e es step. flight_stays step s) es w i (joiner_flies j is u));
         dispatchers = λ s lt u. let t = dispatcher_tried s lt u in asks g dead table w es i own s (tries g dead w es i s t.0 lt t.1);
         attempted = attempted;
       }

@@ -1,8 +1,8 @@
 -- In an interval in which nothing is done a line that a dispatcher has tried gets a joiner of its site a join in flight.
 use Rattle.std.proofs.Common.{◌≡◌, ◌⊎◌, inl, inr, ⊎_elim, ℕ, ◌<◌, Bool, true, false, ◌&&◌, ◌==◌, nat_lt, ◌-◌, ◌^◌, List, ◌∷◌, length, Some, None, refl, sym, ap, ◌∙◌, subst, lit<, []}
 use Rattle.std.specs.Prelude.{Option, not}
-use Rattle.std.proofs.lemmas.Bool.{cond_both, cond-true, cond-false, true≢false, cases_Bool, and_parts, or_cases, or_left, or_right, or_from, and_right, eqb-true, lt-ltb, not_from_true}
-use Rattle.photon_model.proofs.Words.{clash, Click, ClickLine, at, first, Mem, has, mem_left, mem_right, option_both, has_without-self, Setting, IsJoiner, site_of_joiner, IsTo, Note, Out, idle, is_empty, Packet, Join, Joined, NoQuery, Node, Dispatcher, Server, Replica, Joiner, To, Only, AnyJoiner, Input, Tick, Deliver, Sent, DispatcherKept, DispatcherLive, Fresh, waits, mark, mark_one, join, fresh_joins, join_if, trying_joins, dispatcher_turn, dispatcher_unfinished, some_waits, JoinerKept, JoinerLive, Flight, in_flight, looks, joiner_turn, World, Entry, dispatcher_row, joiner_row, after, world_after, DispatcherWorks, if_up, is_out, IfUp}
+use Rattle.std.proofs.lemmas.Bool.{cond_both, true≢false, cases_Bool, and_parts, or_cases, or_left, or_right, or_from, and_right, eqb-true, lt-ltb, not_from_true}
+use Rattle.photon_model.proofs.Words.{clash, Click, ClickLine, at, first, Mem, has, mem_left, mem_right, option_both, has_without-self, Setting, IsJoiner, site_of_joiner, IsTo, Note, Out, idle, is_empty, Packet, Join, Joined, NoQuery, Node, Dispatcher, Joiner, To, Only, AnyJoiner, Input, Tick, Deliver, Sent, DispatcherKept, DispatcherLive, Fresh, waits, mark, join, fresh_joins, join_if, trying_joins, dispatcher_turn, dispatcher_unfinished, some_waits, JoinerKept, JoinerLive, Flight, in_flight, looks, joiner_turn, World, Entry, dispatcher_row, joiner_row, after, world_after, DispatcherWorks, if_up, is_out, IfUp}
 use Rattle.progress_laws.specs.Idle.{IsIdle}
 use Rattle.progress_laws.proofs.Moments.{opened_at, IsEnd, Step, along_idle, Pending, none_pending, comes, turned, ended_own, lives, up_after, no_work, goes, row_sent, row_sent_to}
 use Rattle.progress_laws.proofs.Claims.{HasFlight, flight_stays}
@@ -49,11 +49,8 @@ HasLines g w = (s : ℕ) → s < 2 → (l : DispatcherLive) → (w.dispatchers s
 
 marked_waits : (fs : List Fresh) (p : ℕ) → waits (mark fs p) p ≡ false
 marked_waits [] p = refl
-marked_waits (f ∷ fs) p = or_from _ _ (go (f.position == p) refl) (marked_waits fs p)
-  where
-    go : (b : Bool) → (f.position == p) ≡ b → (((mark_one p f).position == p) && not (mark_one p f).done) ≡ false
-    go true e = subst (λ (x : Fresh). ((x.position == p) && not x.done) ≡ false) (sym (cond-true (f.position == p) (record f { done = true }) f e)) (and_right (f.position == p) false refl)
-    go false e = subst (λ (x : Fresh). ((x.position == p) && not x.done) ≡ false) (sym (cond-false (f.position == p) (record f { done = true }) f e)) (ap (λ t. t && not f.done) e)
+marked_waits (f ∷ fs) p =
+    or_from _ _ (cond_both (f.position == p) (record f { done = true }) f (λ (x : Fresh). ((x.position == p) && not x.done) ≡ false) (λ _. and_right (f.position == p) false refl) (λ e. ap (λ t. t && not f.done) e)) (marked_waits fs p)
 
 module _ (g : Setting) (site : ℕ) (k : DispatcherKept) (l : DispatcherLive) where
   -- a joiner's word that there is no query yet ends a trial
@@ -77,17 +74,14 @@ module _ (g : Setting) (site : ℕ) (k : DispatcherKept) (l : DispatcherLive) wh
 
   trying_sends : (ps : List ℕ) (p : ℕ) → has ps p ≡ true → IsLineAt g p → SendsJoin p (trying_joins g site k l ps)
   trying_sends [] p e line = absurd (true≢false (sym e))
-  trying_sends (q ∷ ps) p e line = go (or_cases (q == p) (has ps p) e) (λ h. trying_sends ps p h line)
+  trying_sends (q ∷ ps) p e line =
+      ⊎_elim
+      (λ h. let same = eqb-true q p h in subst (λ o. SendsJoin p (join_if g site k l q o (trying_joins g site k l ps))) (sym (ap (at g.clicks) same ∙ line.1)) (line.0.click, inl (ap (λ x. (AnyJoiner site, Join x line.0.click)) same)))
+      (λ h. more (at g.clicks q) (trying_sends ps p h line)) (or_cases (q == p) (has ps p) e)
     where
       more : (o : Option ClickLine) → SendsJoin p (trying_joins g site k l ps) → SendsJoin p (join_if g site k l q o (trying_joins g site k l ps))
       more None h = h
       more (Some c) h = (h.0, inr h.1)
-
-      go : ((q == p) ≡ true) ⊎ (has ps p ≡ true) → (has ps p ≡ true → SendsJoin p (trying_joins g site k l ps)) → SendsJoin p (join_if g site k l q (at g.clicks q) (trying_joins g site k l ps))
-      go (inl h) ih =
-          let same = eqb-true q p h in
-          subst (λ o. SendsJoin p (join_if g site k l q o (trying_joins g site k l ps))) (sym (ap (at g.clicks) same ∙ line.1)) (line.0.click, inl (ap (λ x. (AnyJoiner site, Join x line.0.click)) same))
-      go (inr h) ih = more (at g.clicks q) (ih h)
 
   tick_sends : (p : ℕ) → IsTried g l p → SendsJoin p (dispatcher_turn g site k l Tick).packets
   tick_sends p (inl t) = let h = fresh_sends l.fresh p t in (h.0, mem_left _ (fresh_joins g site k l l.fresh) (trying_joins g site k l l.trying) h.1)
@@ -131,9 +125,7 @@ module _ {g : Setting} {dead : ℕ → Bool} {w : World} {air next : List Sent} 
   -- a Join goes to a joiner of the site
   to_joiner : (c : Click) (to : Node) → IsTo g (AnyJoiner s) to → (is_out dead to ≡ false → Pending (after g w e) next es to (Deliver (Dispatcher s) (Join p c))) → IsJoinUnderway g (after g w e) next es s p
   to_joiner c (Joiner j) is u = (j, Dispatcher s, c, is.0, is.1, u refl)
-  to_joiner c (Dispatcher j) is u = absurd is
-  to_joiner c (Server j) is u = absurd is
-  to_joiner c (Replica j) is u = absurd is
+  to_joiner c _ is u = absurd is
 
   -- a joiner took the Join
   taken : (j : ℕ) (c : Click) (from : Node) → IsJoiner g j → site_of_joiner g j ≡ s → (l : JoinerLive) → (w.joiners j).live ≡ Some l → IsEnd e (Joiner j) → opened_at w (Joiner j) ≡ Some (Deliver from (Join p c)) → HasFlight g (after g w e) s ⊎ IsTold g (after g w e) next es s p

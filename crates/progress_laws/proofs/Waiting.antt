@@ -1,21 +1,19 @@
--- What is left to do at a server stays so where nothing is learned; and an insert that comes is answered, or waits.
-use Rattle.std.proofs.Common.{◌≡◌, ◌⊎◌, inl, inr, ⊎_elim, ℕ, ◌<◌, true, ◌||◌, ◌==◌, nat_lt, nat_le, List, ◌∷◌, ◌++◌, length, Some, None, refl, sym, ap, ◌∙◌, subst, []}
+-- What is left to do at a server stays so where nothing is learned, as in an interval in which nothing is done; and an insert
+-- that comes is answered, or waits.
+use Rattle.std.proofs.Common.{◌≡◌, ⊎_elim, ℕ, ◌≤◌, Bool, List, Some, refl, sym, ◌∙◌, subst, ◌⊎◌, inl, inr, ◌<◌, true, ◌||◌, ◌==◌, nat_lt, nat_le, ◌∷◌, ◌++◌, length, None, ap, []}
+use Rattle.photon_model.proofs.Words.{Setting, Input, Server, Sent, ServerLive, server_turn, World, Entry, server_row, after, Insert, Token, Answer, bound_of, replay, Mem, mem_right, shard, shards, Out, idle, is_empty, Reply, Node, Joiner, Only, ServerKept, ShardState, queued, is_own_joiner, claimed, server_gets}
+use Rattle.progress_laws.proofs.Moments.{opened_at, IsEnd, Step, turned, lives, ends, no_work}
+use Rattle.progress_laws.proofs.Turning.{Same, Fate, AllAsk, Turns, turns}
 use Rattle.std.specs.Prelude.{Option, not}
 use Rattle.std.proofs.lemmas.Bool.{cond_both, cond-true, eq-eqb, or_cases, or_left, or_right, true≢false}
-use Rattle.photon_model.proofs.Words.{Insert, Token, Answer, bound_of, replay, Mem, mem_right, Setting, shard, shards, Out, idle, is_empty, Reply, Node, Joiner, Only, ServerKept, ServerLive, ShardState, queued, is_own_joiner, claimed, server_gets, World}
 use Rattle.progress_laws.specs.Moves.{is_left}
-use Rattle.progress_laws.proofs.Turning.{Same}
 use Rattle.turn_defs.specs.declared.packet.Packet.TheVariants as packet
-
--- something is left to do in a shard of the table
-abbrev pub IsLeftIn : Setting → ServerLive → Type 0
-IsLeftIn g l = (k : ℕ) × (k < shards g) × (is_left g (l.shards k) ≡ true)
 
 -- the site's server is up, and something is left to do in one of its shards
 abbrev pub IsLeftAt : Setting → World → ℕ → Type 0
-IsLeftAt g w s = (l : ServerLive) × ((w.servers s).live ≡ Some l) × IsLeftIn g l
+IsLeftAt g w s = (l : ServerLive) × ((w.servers s).live ≡ Some l) × ((k : ℕ) × (k < shards g) × (is_left g (l.shards k) ≡ true))
 
-some_empty : (xs : List Insert) (x : Insert) → Mem x xs → not (is_empty xs) ≡ true
+pub some_empty : {A : Type 0} (xs : List A) (x : A) → Mem x xs → not (is_empty xs) ≡ true
 some_empty [] x m = absurd m
 some_empty (y ∷ xs) x m = refl
 
@@ -56,3 +54,37 @@ module _ (g : Setting) (site : ℕ) (k : ServerKept) (l : ServerLive) where
           cond_both (queued (l.shards s).queue x.token || nat_le 4096 (length (l.shards s).queue)) (idle l) _ (Heard x)
           (λ e. inr (queued_some (l.shards s).queue x.token e))
           (λ _. inr (x, subst (λ (c : ShardState). Mem x c.queue) (sym (cond-true (s == s) (record (l.shards s) { queue = (l.shards s).queue ++ x ∷ [] }) (l.shards s) (eq-eqb s s refl))) (mem_right x (l.shards s).queue (x ∷ []) (inl refl))))
+
+-- ---- in an interval in which nothing is done
+
+-- a server's turn that learns nothing
+pub record CalmTurn (g : Setting) (w : World) (s : ℕ) (l : ServerLive) : Type 0 where
+  pub input : Input
+  pub opened : opened_at w (Server s) ≡ Some input
+  pub row_is : server_row g s (w.servers s) ≡ server_turn g s (w.servers s).kept l input
+  pub rounds : l.round ≤ (server_row g s (w.servers s)).live.round
+  pub each : (n : ℕ) → Same (l.shards n) ((server_row g s (w.servers s)).live.shards n) × Fate g s (w.servers s).kept l input (server_row g s (w.servers s)).live.round n (l.shards n) ((server_row g s (w.servers s)).live.shards n)
+  pub asks : AllAsk (server_row g s (w.servers s)).live.shards (server_row g s (w.servers s)).packets
+
+module _ {g : Setting} {dead : ℕ → Bool} {w : World} {air next : List Sent} {e : Entry} {es : List Entry} (step : Step g dead w air next e es) (s : ℕ) where
+  pub calm_turn : (l : ServerLive) → (w.servers s).live ≡ Some l → IsEnd e (Server s) → CalmTurn g w s l
+  calm_turn l up end =
+      let i = (ends step (Server s) end).1.0 in
+      let is : server_row g s (w.servers s) ≡ server_turn g s (w.servers s).kept l i.0 = turned g w (Server s) l i.0 up i.1 in
+      let all : Turns g s (w.servers s).kept l i.0 (server_row g s (w.servers s)) = subst (Turns g s (w.servers s).kept l i.0) (sym is) (turns g s (w.servers s).kept l i.0) in
+      record {
+        input = i.0;
+        opened = i.1;
+        row_is = is;
+        rounds = all.rounds;
+        each = λ n. ⊎_elim (λ h. h) (λ h. absurd (no_work step (Server s) l up end (λ _. (n, h.0)))) (all.each n);
+        asks = all.asks;
+      }
+
+  -- a server that is up stays so, and what waits goes on to wait
+  pub server_waits : (l : ServerLive) → (w.servers s).live ≡ Some l → (m : ServerLive) × (((after g w e).servers s).live ≡ Some m) × ((k : ℕ) → Same (l.shards k) (m.shards k))
+  server_waits l up =
+      lives step (Server s) (λ same. (l, same ∙ up, λ k. (refl, λ x q. q))) (λ end now. ((server_row g s (w.servers s)).live, now, λ k. ((calm_turn l up end).each k).0))
+
+  pub left_stays : IsLeftAt g w s → IsLeftAt g (after g w e) s
+  left_stays (l, up, (k, lt, left)) = let m = server_waits l up in (m.0, m.1, (k, lt, still_left g (l.shards k) (m.0.shards k) (m.2 k) left))

@@ -3,39 +3,25 @@ use Rattle.std.proofs.Common.{◌≡◌, inl, ⊎_elim, ℕ, zero, suc, ◌<◌,
 use Rattle.std.specs.Prelude.{⊤, not, is_some, filter, Option}
 use Rattle.std.proofs.lemmas.Bool.{true≢false, ltb-true, eqb-true, not-true}
 use Rattle.photon_model.proofs.Worlds.{of_two}
-use Rattle.photon_model.proofs.Words.{at_node, Batch, Note, IsInterval, clash, Ballot, is_same, same_true, same_batch, same_batch-true, Place, is_place, place_true, Mem, mem_right, Packet, Prepare, Promise, Nack, Accept, Accepted, Chosen, Node, Dispatcher, Server, Replica, Joiner, To, Only, AnyJoiner, Input, Start, Deliver, IsNode, Addressed, Sent, IsJoiner, shards, Out, dispatcher_wants, ServerLive, is_below_limit, server_wants, server_turn, IfUp, World, Entry, Begin, End, Stop, Fits, WasSent, MayBegin, May, IsRun, sends, after, world_after, same_node, UpWith, BothUp, ServerWorks, IsWork, put_in, ticks_of, ticks_due, is_unfinished, to_live, Carries, IsQuiet, Cell}
+use Rattle.photon_model.proofs.Words.{at_node, Note, IsInterval, clash, Ballot, is_same, same_true, same_batch, same_batch-true, Place, is_place, place_true, Packet, Prepare, Promise, Nack, Accept, Accepted, Chosen, Node, Dispatcher, Server, Replica, Joiner, To, Only, AnyJoiner, Input, Start, Deliver, IsNode, Addressed, Sent, IsJoiner, shards, Out, dispatcher_wants, ServerLive, is_below_limit, server_wants, server_turn, IfUp, World, Entry, Begin, End, Stop, Fits, WasSent, MayBegin, May, IsRun, sends, after, world_after, same_node, UpWith, BothUp, ServerWorks, IsWork, put_in, ticks_of, ticks_due, is_unfinished, to_live, Carries, IsQuiet, Cell}
+use Rattle.std.proofs.lemmas.List.{length-append}
 use Rattle.progress_laws.specs.Idle.{HasNumbers, IsWithinLimits, NoWork, IsIdle}
 use Rattle.progress_laws.specs.Rows.{three, all_live, to_one, ends, plays, duel, restarts, beginning, down_again, stale, first, second, third, fourth, after_first, after_second, after_third, CarriesOnce, ThreeAreIdle}
 use Rattle.progress_laws.proofs.Moments.{put_back, row_at, begun_own, ended_own, turned}
 use Rattle.photon_model.proofs.Local.{same_node-true}
 use Rattle.progress_laws.proofs.Turning.{teaches, turns}
 
--- nothing is taken out of an empty list
-none_out : (x : Sent) (rest : List Sent) → put_in x rest [] → ⊥
-none_out x rest (front, back, a, b) = subst (Mem x) (sym b) (mem_right x front (x ∷ back) (inl refl))
-
--- what is taken out of one leaves none
-one_out : (x y : Sent) (rest : List Sent) → put_in x rest (y ∷ []) → rest ≡ []
-one_out x y rest ([], back, a, b) = a ∙ none back b
-  where
-    none : (back : List Sent) → y ∷ [] ≡ x ∷ back → back ≡ []
-    none [] e = refl
-    none (z ∷ zs) e = cc
-one_out x y rest (z ∷ front, back, a, b) = absurd (none_out x (front ++ back) (front, back, refl, tail))
-  where
-    tail : [] ≡ front ++ x ∷ back
-    tail = cc
-
-empty_not : (x : Sent) (xs : List Sent) → x ∷ xs ≡ [] → ⊥
-empty_not x xs e = cc
+-- a list is longer than what is left of it
+longer : (x : Sent) (rest ys : List Sent) → put_in x rest ys → length ys ≡ suc (length rest)
+longer x rest ys (front, back, a, b) = let p = ap length a in let q = ap length b in let r = length-append front back in let t = length-append front (x ∷ back) in omega (arith, p, q, r, t)
 
 pub carries_once : CarriesOnce
 carries_once =
     record {
       once = ([], ([], [], refl, refl), refl);
-      never = λ e. empty_not _ [] e;
-      before = λ (rest, p, c). none_out _ rest p;
-      twice = λ (rest, p, (rest', q, c)). none_out _ rest' (subst (λ (a : List Sent). put_in _ rest' a) (one_out _ _ rest p) q);
+      never = λ e. (let q : 1 ≡ 0 = ap length e in absurd (omega (arith, q)));
+      before = λ (rest, p, c). (let q : 0 ≡ suc (length rest) = longer _ rest _ p in absurd (omega (arith, q)));
+      twice = λ (rest, p, (rest', q, c)). (let a : 1 ≡ suc (length rest) = longer _ rest _ p in let b = longer _ rest' rest q in absurd (omega (arith, a, b)));
     }
 
 -- ---- what computes to a proof, or to nothing
@@ -76,26 +62,20 @@ try_place p q = if_true (is_place p q) (place_true p q)
 abbrev try_ballot : (b c : Ballot) → Option (b ≡ c)
 try_ballot b c = if_true (is_same b c) (same_true b c)
 
-abbrev try_batch : (v w : Batch) → Option (v ≡ w)
-try_batch v w = if_true (same_batch v w) (same_batch-true v w)
-
-abbrev try_node : (a b : Node) → Option (a ≡ b)
-try_node a b = if_true (same_node a b) (same_node-true a b)
-
 abbrev try_packet : (x y : Packet) → Option (x ≡ y)
 try_packet (Prepare p b) (Prepare q c) = with_two (try_place p q) (try_ballot b c) (λ e f i. Prepare (e i) (f i))
 try_packet (Promise p b None) (Promise q c None) = with_two (try_place p q) (try_ballot b c) (λ e f i. Promise (e i) (f i) None)
 try_packet (Nack p b above) (Nack q c other) = with_three (try_place p q) (try_ballot b c) (try_ballot above other) (λ e f h i. Nack (e i) (f i) (h i))
-try_packet (Accept p b v) (Accept q c w) = with_three (try_place p q) (try_ballot b c) (try_batch v w) (λ e f h i. Accept (e i) (f i) (h i))
+try_packet (Accept p b v) (Accept q c w) = with_three (try_place p q) (try_ballot b c) (if_true (same_batch v w) (same_batch-true v w)) (λ e f h i. Accept (e i) (f i) (h i))
 try_packet (Accepted p b) (Accepted q c) = with_two (try_place p q) (try_ballot b c) (λ e f i. Accepted (e i) (f i))
-try_packet (Chosen p v) (Chosen q w) = with_two (try_place p q) (try_batch v w) (λ e f i. Chosen (e i) (f i))
+try_packet (Chosen p v) (Chosen q w) = with_two (try_place p q) (if_true (same_batch v w) (same_batch-true v w)) (λ e f i. Chosen (e i) (f i))
 try_packet _ _ = None
 
 -- the list without the first such packet
 abbrev take_out : (x : Sent) (ys : List Sent) → Option ((rest : List Sent) × put_in x rest ys)
 take_out x [] = None
 take_out x (y ∷ ys) =
-    or_else (with_three (try_node y.from x.from) (try_node y.to x.to) (try_packet y.packet x.packet) (λ a b c. (ys, ([], ys, refl, λ i. record { from = a i; to = b i; packet = c i } ∷ ys))))
+    or_else (with_three (if_true (same_node y.from x.from) (same_node-true _ _)) (if_true (same_node y.to x.to) (same_node-true _ _)) (try_packet y.packet x.packet) (λ a b c. (ys, ([], ys, refl, λ i. record { from = a i; to = b i; packet = c i } ∷ ys))))
     (with_one (take_out x ys) (λ (rest, (front, back, a, b)). (y ∷ rest, (y ∷ front, back, ap (λ zs. y ∷ zs) a, ap (λ zs. y ∷ zs) b))))
 
 -- ---- what is played is a run
@@ -130,10 +110,7 @@ begun w n i = after three w (Begin n i)
 
 -- the node's open turn ends as its row says
 may_end : (w : World) (n : Node) (i : Input) → IsNode three n → (at_node w n).opened ≡ Some i → Addressed three (row_at three w n).packets (to_one (row_at three w n).packets) → May three w (ends w n)
-may_end w (Dispatcher s) i is o a = (is, ((i, o), refl, a), omega arith)
-may_end w (Server s) i is o a = (is, ((i, o), refl, a), omega arith)
-may_end w (Replica r) i is o a = (is, ((i, o), refl, a), omega arith)
-may_end w (Joiner j) i is o a = (is, ((i, o), refl, a), omega arith)
+may_end w n i is o a = (is, ((i, o), refl, a), omega arith)
 
 abbrev try_turn : (w : World) (n : Node) (i : Input) → Option (May three w (Begin n i) × May three (begun w n i) (ends (begun w n i) n))
 try_turn w n i =

@@ -8,13 +8,13 @@ use Rattle.turn_defs.specs.Turns.{Out}
 use Rattle.turn_defs.specs.declared.packet.Packet.{Packet}
 use Rattle.turn_defs.specs.declared.packet.Packet.TheVariants.{Prepare, Promise, Nack, Accept, Accepted, Chosen}
 use Rattle.turn_defs.specs.declared.node.Node.{Node}
-use Rattle.turn_defs.specs.declared.node.Node.TheVariants.{Dispatcher, Server, Replica, Joiner}
+use Rattle.turn_defs.specs.declared.node.Node.TheVariants.{Dispatcher, Server, Replica}
 use Rattle.turn_defs.specs.declared.node.To.{To}
 use Rattle.turn_defs.specs.declared.node.To.TheVariants.{Only, AnyJoiner}
 use Rattle.turn_defs.specs.declared.node.Input.{Input}
 use Rattle.turn_defs.specs.declared.node.Input.TheVariants.{Start, Own, Tick, Deliver}
 use Rattle.photon_model.specs.Stores.{empty_disks}
-use Rattle.photon_model.specs.Runs.{World, Entry, Begin, End, Stop, dispatcher_row, server_row, replica_row, joiner_row, after, world_after, IsRun, opening}
+use Rattle.photon_model.specs.Runs.{World, Entry, Begin, End, Stop, at_node, row_of, after, world_after, IsRun, opening}
 use Rattle.photon_model.specs.Rest.{IsAtRest, Carries, IsInterval}
 use Rattle.progress_laws.specs.Idle.{NoWork, AreIdle}
 
@@ -65,10 +65,7 @@ ends_by n o = End n o.note (to_one o.packets) (length (to_one o.packets))
 
 -- the node's open turn ends as its row says
 abbrev pub ends : World → Node → Entry
-ends w (Dispatcher s) = ends_by (Dispatcher s) (dispatcher_row three s (w.dispatchers s))
-ends w (Server s) = ends_by (Server s) (server_row three s (w.servers s))
-ends w (Replica r) = ends_by (Replica r) (replica_row (w.replicas r))
-ends w (Joiner j) = ends_by (Joiner j) (joiner_row three j (w.joiners j))
+ends w n = ends_by n (row_of three n (at_node w n))
 
 -- turns that begin with these inputs, one after the other
 abbrev pub plays : World → List (Node × Input) → List Entry
