@@ -62,9 +62,9 @@ def put_batch(batch):
     return number(batch[0]) + number(len(batch[1]), 1) + b"".join(put_insert(insert) for insert in batch[1])
 
 
-def put_topology(joiners, rows):
+def put_topology(joiners, rows, version=1):
     """The topology's fields, its version in front."""
-    return bytes([1, joiners, len(rows)]) + b"".join(number(start) + number(count, 1) for start, count in rows)
+    return bytes([version, joiners, len(rows)]) + b"".join(number(start) + number(count, 1) for start, count in rows)
 
 
 PUT = {
@@ -148,9 +148,9 @@ class Reader:
         return (bound, tuple((self.id(), self.token()) for _ in range(count)))
 
     def topology(self):
-        """The next topology: version, joiners, table."""
+        """The next topology: joiners, table, version."""
         version, joiners, count = self.number(1), self.number(1), self.number(1)
-        if version != 1 or not 1 <= joiners <= 4 or not 1 <= count <= 4:
+        if not 1 <= version <= 2 or not 1 <= joiners <= 4 or not 1 <= count <= 4:
             raise BadField
         rows = []
         for _ in range(count):
@@ -158,7 +158,7 @@ class Reader:
             if not model.may_follow(rows, start, shards):
                 raise BadField
             rows.append((start, shards))
-        return joiners, tuple(rows)
+        return joiners, tuple(rows), version
 
 
 TAKE = {

@@ -375,15 +375,18 @@ def random_record(chance, kind, before):
     if kind == "output":
         query = (0x0a000001, 7, chance.randrange(99))
         return ("pair", ((0x0a000002, 9, chance.randrange(99)), query, chance.choice(logs.WORDS)), (query, chance.choice([b"", b"~ ~"])), (7, 1, chance.randrange(9)))
-    return ("topology", chance.randint(1, 4), logs.random_table(chance, 1000))
+    if before and chance.random() < 0.8:
+        start = min(logs.LATEST, before[-1][2][-1][0] + chance.choice([0, 1, 1000]))
+        return ("topology", before[-1][1], (*before[-1][2], (start, chance.randint(1, 16))), chance.choice([1, 2, 2, 2]))
+    return ("topology", chance.randint(1, 4), logs.random_table(chance, 1000), chance.choice([1, 2]))
 
 
 def told_topology(records):
     """The topology of a disk."""
     if not records:
         return "none"
-    rows = ", ".join(f"ShardRow {{ start: {start}, count: {count} }}" for start, count in records[0][2])
-    return f"{records[0][1]} joiners, [{rows}]"
+    rows = ", ".join(f"ShardRow {{ start: {start}, count: {count} }}" for start, count in records[-1][2])
+    return f"{records[-1][1]} joiners, [{rows}]"
 
 
 def told_pair(pair):

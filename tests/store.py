@@ -60,7 +60,7 @@ def in_order(kind, before, record):
     if record is None or record[0] not in KINDS_OF_DISK[kind]:
         return False
     if kind == "topology":
-        return not before
+        return not before or record[3] == 2 and record[1] == before[-1][1] and record[2][:-1] == before[-1][2]
     if kind == "offset":
         return record[1] > (before[-1][1] if before else 0)
     if kind in ("server", "epoch"):
@@ -102,7 +102,7 @@ class Store:
         """From the bytes of its files by their names; `joiners` counts where no topology is kept."""
         self.files = files
         topology = read_disk("topology", files.get("topology", b""))[0]
-        self.topology = topology[0][1:] if topology else None
+        self.topology = topology[-1][1:3] if topology else None
         self.joiners = self.topology[0] if self.topology else joiners or 0
         self.records, self.damage = {}, None
         for name in disk_names(self.joiners):

@@ -35,7 +35,7 @@ SPELLED = {
     "query": fields.put_query(QUERY), "click": fields.put_click(CLICK),
     "retry": stores.framed([fields.put_record(("park", 0)), fields.put_record(("park", 36))]),
 }
-RECORDS = [("topology", 2, ((0, 4), (3000, 8))), ("epoch", 1), ("offset", 36), ("park", 36), ("settle", 36), ("pair", CLICK, QUERY, TOKEN),
+RECORDS = [("topology", 2, ((0, 4), (3000, 8)), 1), ("epoch", 1), ("offset", 36), ("park", 36), ("settle", 36), ("pair", CLICK, QUERY, TOKEN),
            ("promised", (3, 0), (1, 1, 0)), ("accepted", (3, 0), (1, 1, 0), BATCH)]
 
 

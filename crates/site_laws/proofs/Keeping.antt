@@ -1,6 +1,6 @@
 -- Bytes keep one store, and that by what they stand for alone.
 use Rattle.std.proofs.Common.{◌≡◌, ℕ, ◌<◌, List, [], ◌∷◌, ◌++◌, Option, Some, None, Result, Ok, refl, sym, ◌∙◌, ap, subst}
-use Rattle.std.specs.Prelude.{map, All}
+use Rattle.std.specs.Prelude.{map, All, option_map}
 use Rattle.std.proofs.lemmas.List.Elements.{All-head, All-tail}
 use Rattle.photon_model.proofs.Words.{Each, Promised, Took as Accepted, PairRec, IsPair, Node, Dispatcher, Server, Replica, Joiner, Setting, IsNode, BallotNote, ReplicaKept, Disks, Topology}
 use Rattle.outside.specs.declared.store.DiskName.{DiskName}
@@ -27,7 +27,7 @@ use Rattle.site_laws.proofs.Naming.{seat_of}
 -- ---- what two bytes keep that stand for the same
 
 pub topology_again : (kept : Option Topology) (c d : List ℕ) → gate_rule c ≡ gate_rule d → KeepsTopology kept c → KeepsTopology kept d
-topology_again kept c d e k = (k.0, sym e ∙ k.1)
+topology_again kept c d e k = ap (read_as journal.topologies) (sym e) ∙ k
 
 pub keeps_again : (g : Setting) (d : Disks) (disk : DiskName) (b c : List ℕ) → gate_rule b ≡ gate_rule c → KeepsOf g d disk b → KeepsOf g d disk c
 keeps_again g d name.Topology b c e k = tt
@@ -110,27 +110,19 @@ one_pairs apart p q c a b =
 
 -- ---- the topology
 
-abbrev pub TopologiesApart : Type 0
-TopologiesApart = (t u : KeptTopology) → journal.IsTopology t → journal.IsTopology u → journal.topology_record t ≡ journal.topology_record u → t ≡ u
+abbrev as_kept : Option Topology → Option KeptTopology
+as_kept kept = option_map (λ (t : Topology). journal.topology_of t.joiners t.table) kept
 
-pub keep_one_topology : TopologiesApart → KeepOneTopology
-keep_one_topology apart None None c a b = refl
-keep_one_topology apart None (Some u) c a b = absurd (none_there (journal.topology_record (journal.topology_of u.joiners u.table)) (one_value (gate_rule c) _ _ a.1 b.1))
+pub keep_one_topology : KeepOneTopology
+keep_one_topology t u c a b = from_read t u (one_value (read_as journal.topologies (gate_rule c)) _ _ a b)
   where
-    none_there : (r : List ℕ) → [] ≡ r ∷ [] → ⊥
-    none_there r e = cc
-keep_one_topology apart (Some t) None c a b = absurd (none_here (journal.topology_record (journal.topology_of t.joiners t.table)) (one_value (gate_rule c) _ _ a.1 b.1))
-  where
-    none_here : (r : List ℕ) → r ∷ [] ≡ [] → ⊥
-    none_here r e = cc
-keep_one_topology apart (Some t) (Some u) c a b =
-    let j = journal.topology_of t.joiners t.table in
-    let k = journal.topology_of u.joiners u.table in
-    let one : journal.topology_record j ≡ journal.topology_record k = first_same _ _ (one_value (gate_rule c) _ _ a.1 b.1) in
-    ap (λ (x : KeptTopology). Some (record { joiners = x.joiners; table = x.table })) (apart j k a.0 b.0 one)
-  where
-    first_same : (x y : List ℕ) → x ∷ [] ≡ y ∷ [] → x ≡ y
-    first_same x y e = cc
+    from_read : (t u : Option Topology) → as_kept t ≡ as_kept u → t ≡ u
+    from_read None None e = refl
+    from_read None (Some u) e = absurd (cc)
+    from_read (Some t) None e = absurd (cc)
+    from_read (Some t) (Some u) e =
+        let same : journal.topology_of t.joiners t.table ≡ journal.topology_of u.joiners u.table = cc in
+        ap (λ (x : KeptTopology). Some (record { joiners = x.joiners; table = x.table })) same
 
 -- ---- what was read
 

@@ -24,7 +24,7 @@ pub empty_sound : ((g : Setting) → WholeSound g empty_store) → (g : Setting)
 empty_sound whole g image nothing b choice = (
   empty_store,
   record {
-    topology = topology_again None [] (b name.Topology) (stands name.Topology tt) (tt, refl);
+    topology = topology_again None [] (b name.Topology) (stands name.Topology tt) refl;
     records = λ disk is. keeps_again g empty_disks disk [] (b disk) (stands disk is) (empty_keeps g disk);
     used = λ disk is other some. absurd (some (ap records (no_bytes disk is)));
   },

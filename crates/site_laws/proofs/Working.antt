@@ -1,9 +1,12 @@
 -- Which bytes keep a sound store, worked out.
-use Rattle.std.proofs.Common.{◌≡◌, ◌≢◌, inr, ℕ, [], ◌∷◌, Some, refl, sym, ◌∙◌, ap, subst, lit<, lit≤}
+use Rattle.std.proofs.Common.{◌≡◌, ◌≢◌, inr, ℕ, [], ◌∷◌, Option, Some, None, Result, Ok, refl, sym, ◌∙◌, ap, subst, lit<, lit≤}
 use Rattle.outside.specs.declared.store.DiskName.{DiskName}
 use Rattle.outside.specs.declared.store.DiskName.TheVariants as name
 use Rattle.gate_journal.specs.Gate.{gate_rule, records, StandsFor}
+use Rattle.gate_journal.specs.Fold.{read_as}
+use Rattle.topology_journal.specs.declared.topology.Topology.{Topology as KeptTopology}
 use Rattle.topology_journal.specs.Topologies as journal
+use Rattle.topology_journal.specs.TopologyLaws.{comes_next}
 use Rattle.time_shards.specs.Shards.{IsTable}
 use Rattle.output_log.specs.Pairs.{record_of}
 use Rattle.output_log.specs.Rows.{a_pair}
@@ -14,7 +17,6 @@ use Rattle.photon_model.specs.Stores.{empty_store, TopologyComesFirst}
 use Rattle.site_laws.specs.Stores.{Bytes, Images, KeepsTopology, KeepSound}
 use Rattle.site_laws.specs.StoreLaws.{KeepOneTopology, TopologyIsFirst, TopologyFits}
 use Rattle.site_laws.specs.StoreExample.{topology_alone, pair_alone, SoundBytes}
-use Rattle.site_laws.proofs.Keeping.{one_value}
 use Rattle.site_laws.proofs.Opening.{empty_sound, written_sound}
 
 -- these bytes alone
@@ -29,7 +31,10 @@ is_table = record {
 
 keeps_topology : (joiners : ℕ) → journal.HasJoiners (journal.topology_of joiners worked.table) → StandsFor (journal.topology_record (journal.topology_of joiners worked.table) ∷ []) (topology_alone joiners name.Topology)
     → KeepsTopology (Some (record { joiners = joiners; table = worked.table })) (topology_alone joiners name.Topology)
-keeps_topology joiners few stands = (record { joiners = few; table = is_table }, stands)
+keeps_topology joiners few stands = ap (read_as journal.topologies) stands ∙ comes_next None (journal.topology_of joiners worked.table) [] (refl, record { joiners = few; table = is_table }) refl
+
+not_kept : (t : KeptTopology) → ◌≡◌ {A = Result (Option KeptTopology) ℕ} (Ok None) (Ok (Some t)) → ⊥
+not_kept t e = (cc)
 
 no_bytes : (joiners : ℕ) (disk : DiskName) → disk ≢ name.Topology → topology_alone joiners disk ≡ []
 no_bytes joiners name.Topology other = absurd (other refl)
@@ -57,7 +62,7 @@ module _ (whole : (g : Setting) → WholeSound g empty_store) (first : TopologyC
   pair_first : KeepSound worked pair_alone → ⊥
   pair_first x =
       let keeps = comes worked pair_alone (name.Output 0 0) x (lit< tt, lit< tt) (λ e. cc) (λ none. absurd (cc (sym has_pair ∙ none))) in
-      absurd (cc (one_value (gate_rule []) [] (journal.topology_record (journal.topology_of 1 worked.table) ∷ []) refl keeps.1))
+      absurd (not_kept (journal.topology_of 1 worked.table) keeps)
 
   pub worked_bytes : SoundBytes
   worked_bytes = record { topology = topology_sound; no_other_topology = other_topology; no_record_before = pair_first }

@@ -22,7 +22,6 @@ pub fn once()
     ensures topology { KeepOneTopology }
     ensures records { HoldSameRecords }
 {
-    topology_journal::laws::told_apart();
     output_log::laws::told_apart();
     ReplicaNote::told_apart();
 }

@@ -7,6 +7,7 @@ pub mod Names
 pub mod Values
 pub mod Refusals
 pub mod Undamaged
+mod Unkept
 pub mod Boundaries
 pub mod Stretches
 pub mod Telling

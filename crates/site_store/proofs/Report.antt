@@ -9,6 +9,7 @@ use Rattle.turn_defs.specs.declared.pair.PairRec.{PairRec}
 use Rattle.paxos_acceptor.specs.Cells.{note_view}
 use Rattle.topology_journal.specs.declared.topology.Topology.{Topology}
 use Rattle.topology_journal.specs.Topologies.{IsTopology}
+use Rattle.topology_journal.proofs.Standing.{kept_is}
 use Rattle.turn_defs.specs.Setting.{Setting, first_joiner}
 use Rattle.turn_defs.specs.Turns.{BallotNote}
 use Rattle.turn_defs.specs.Replica.{ReplicaKept}
@@ -128,7 +129,7 @@ module _ (tells : Bool) (sure : IsTrue tells) (image : DiskName → List ℕ →
   few : g.joiners ≤ 4
   few =
       let x = kept.topology sure in
-      let fine : IsTopology t = subst (λ (o : Option Topology). IfSome o IsTopology) topology_is x.2.0 in
+      let fine : IsTopology t = subst (λ (o : Option Topology). IfSome o IsTopology) topology_is (kept_is v.topology x.0 x.2) in
       omega (arith, fine.joiners.few, is.joiners)
 
   abbrev its : Disks

@@ -1,14 +1,14 @@
 -- A journal of its kind isn't damaged.
-use Rattle.std.proofs.Common.{◌≡◌, inl, inr, ℕ, List, [], ◌∷◌, ◌++◌, refl, sym, ◌∙◌, Option, Some, None, Result, Ok, Err}
-use Rattle.std.specs.Prelude.{map, All, IfSome}
+use Rattle.std.proofs.Common.{◌≡◌, inl, inr, ℕ, List, [], ◌∷◌, ◌++◌, sym, ◌∙◌, Result, Ok, Err}
+use Rattle.std.specs.Prelude.{map, All}
 use Rattle.std.proofs.lemmas.List.Elements.{All-head, All-tail}
 use Rattle.outside.specs.declared.store.DiskName.{DiskName}
 use Rattle.outside.specs.declared.store.DiskName.TheVariants as name
 use Rattle.paxos_acceptor.specs.declared.notes.ReplicaNote.{ReplicaNote}
 use Rattle.packet_codec.specs.Notes.{note, IsNote}
 use Rattle.gate_journal.specs.Gate.{gate_rule}
-use Rattle.topology_journal.specs.declared.topology.Topology.{Topology}
-use Rattle.topology_journal.specs.Topologies as topologies
+use Rattle.gate_journal.specs.Fold.{read_as}
+use Rattle.topology_journal.specs.Topologies.{topologies}
 use Rattle.epoch_journal.specs.Epochs.{epoch_of}
 use Rattle.offset_journal.specs.Offsets.{offset_of}
 use Rattle.retry_log.specs.Pending.{pending_of}
@@ -54,22 +54,9 @@ pairs_fine ps c at k (inl e) = read_or_not (gate_rule c) (map pairs.record_of ps
 pairs_fine ps c at k (inr (records, stands, bad)) =
     all_spelled IsPair pairs.record_of ps bad.pairs bad.other bad.rest k.0 bad.is_other (one_reading (gate_rule c) (map pairs.record_of ps) records k.1 stands ∙ bad.parts)
 
--- no other record stands behind none or one topology's
-no_other : (kept first : Option Topology) (other : List ℕ) (rest : List (List ℕ)) → IfSome kept topologies.IsTopology → (first ≡ None → topologies.IsOther other)
-    → topologies.kept_records kept ≡ topologies.kept_records first ++ other ∷ rest → ⊥
-no_other None None other rest is none e = never_none other rest e
-no_other None (Some u) other rest is none e = never_none (topologies.topology_record u) (other ∷ rest) e
-no_other (Some t) None other rest is none e = none refl t is (sym (first_is (topologies.topology_record t) other [] rest e))
-no_other (Some t) (Some u) other rest is none e = never_none other rest (rest_is (topologies.topology_record t) (topologies.topology_record u) [] (other ∷ rest) e)
-
-topology_fine : (kept : Option Topology) (c : List ℕ) (at : ℕ) → topologies.Keeps kept c → topologies.IsDamagedAt c at → ⊥
-topology_fine kept c at k (inl e) = read_or_not (gate_rule c) (topologies.kept_records kept) at k.1 e
-topology_fine kept c at k (inr (records, stands, bad)) =
-    no_other kept bad.kept bad.other bad.rest k.0 bad.is_other (one_reading (gate_rule c) (topologies.kept_records kept) records k.1 stands ∙ bad.parts)
-
 -- no bytes are both a journal of the disk's kind and damaged
 pub undamaged : (disk : DiskName) (c : List ℕ) (at : ℕ) → IsJournalOf disk c → damaged_by disk c at → ⊥
-undamaged name.Topology c at j damaged = topology_fine j.0 c at j.1 damaged
+undamaged name.Topology c at j damaged = read_or_not (read_as topologies (gate_rule c)) j.0 at j.1 damaged
 undamaged (name.Offset s) c at j damaged = read_or_not (offset_of c) j.0 at j.1 damaged
 undamaged (name.Retry s) c at j damaged = read_or_not (pending_of c) j.0 at j.1 damaged
 undamaged (name.Server s) c at j damaged = read_or_not (epoch_of c) j.0 at j.1 damaged

@@ -1,3 +1,4 @@
+pub mod Deciding
 pub mod Spares
 pub mod Tables
 pub mod Texts

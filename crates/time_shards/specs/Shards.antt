@@ -1,5 +1,5 @@
 -- Tables of shard counts over time, and the shard of an id.
-use Rattle.std.specs.Prelude.{ℕ, ◌≡◌, ◌≤◌, ◌<◌, ◌^◌, ◌+◌, ◌%◌, ◌==◌, max, nat_le, ⊤, List, [], ◌∷◌, ◌++◌, length, if◌then◌else◌, Result, Ok, Err}
+use Rattle.std.specs.Prelude.{ℕ, ◌≡◌, ◌≤◌, ◌<◌, ◌^◌, ◌+◌, ◌%◌, Bool, true, false, ◌==◌, ◌&&◌, max, nat_lt, nat_le, ⊤, List, [], ◌∷◌, ◌++◌, length, if◌then◌else◌, Result, Ok, Err}
 use Rattle.time_shards.specs.declared.TheConstants.{MAX_ROWS, MAX_SHARDS}
 use Rattle.list_words.specs.Lists.{Each}
 use Rattle.event_id.specs.declared.id.EventId.{EventId}
@@ -35,6 +35,18 @@ pub record BeginsTable (rows : List ShardRow) : Type 0 where
 pub record IsTable (rows : List ShardRow) : Type 0 where
   pub some : 1 ≤ length rows
   pub begins : BeginsTable rows
+
+-- whether a row is one, whether rows may stand behind one of this start, and whether they are a table
+abbrev pub is_row : ShardRow → Bool
+is_row row = nat_lt row.start (2 ^ 64) && (nat_le 1 row.count && nat_le row.count MAX_SHARDS)
+
+abbrev pub go_on : ℕ → List ShardRow → Bool
+go_on start [] = true
+go_on start (r ∷ rs) = nat_lt start r.start && (is_row r && go_on r.start rs)
+
+abbrev pub is_table : List ShardRow → Bool
+is_table [] = false
+is_table (r ∷ rs) = (r.start == 0) && (is_row r && (go_on r.start rs && nat_le (length (r ∷ rs)) MAX_ROWS))
 
 -- the count of the last row whose start is not above the timestamp
 abbrev pub count_at : ℕ → List ShardRow → ℕ → ℕ

@@ -1,10 +1,15 @@
 //! Laws over tables, their texts and the rows they choose.
-ghost use Rattle.std.specs.Prelude.{◌≡◌, ◌≤◌, ◌<◌, ◌++◌, ◌∷◌, ℕ, List, [], codes};
+ghost use Rattle.std.specs.Prelude.{◌≡◌, ◌≤◌, ◌<◌, ◌++◌, ◌∷◌, ◌↔◌, ℕ, List, [], true, codes};
 ghost use Rattle.list_words.specs.Lists.{Each};
 ghost use Rattle.event_id.specs.declared.id.EventId.{EventId as Id};
 ghost use Rattle.time_shards.specs.declared.ShardRow.{ShardRow as Row};
-ghost use Rattle.time_shards.specs.Shards.{IsTable, count_at, shard_of, shard_count};
+ghost use Rattle.time_shards.specs.Shards.{IsTable, is_table, count_at, shard_of, shard_count};
 ghost use Rattle.time_shards.specs.Text.{table_text, IsFirstBad};
+
+/// Whether rows are a table is told exactly.
+pub fn decided()
+    ensures { (rows : List Row) → (is_table rows ≡ true) ↔ IsTable rows }
+{}
 
 /// No two tables have one text.
 pub fn one_text()

@@ -1,12 +1,13 @@
 -- Records of topologies.
-use Rattle.std.specs.Prelude.{◌≡◌, ◌⊎◌, ℕ, ◌+◌, ◌*◌, ◌≤◌, List, [], ◌∷◌, ◌++◌, length, slice_index, Bool, ◌&&◌, ◌==◌, nat_le, Option, None, Some, IfSome, Ok, Err}
+use Rattle.std.specs.Prelude.{◌≡◌, ℕ, zero, suc, ◌+◌, ◌*◌, ◌≤◌, List, [], ◌∷◌, ◌++◌, length, drop, slice_index, Bool, true, false, ◌&&◌, ◌==◌, nat_le, if◌then◌else◌, Option, None, Some}
 use Rattle.std.specs.List.{flat_map}
-use Rattle.std.specs.Int.{to_be_bytes, w64}
-use Rattle.gate_journal.specs.Gate.{gate_rule, spans}
-use Rattle.gate_journal.specs.Records.{Read}
+use Rattle.std.specs.Int.{from_be_bytes, to_be_bytes, w64}
+use Rattle.std.specs.Option.{option_map}
+use Rattle.gate_journal.specs.Gate.{gate_rule}
+use Rattle.gate_journal.specs.Fold.{Fold, folds_to, fails_at}
 use Rattle.gate_journal.specs.Records as of
 use Rattle.time_shards.specs.declared.ShardRow.{ShardRow}
-use Rattle.time_shards.specs.Shards.{IsTable}
+use Rattle.time_shards.specs.Shards.{IsTable, is_table}
 use Rattle.time_shards.specs.Text.{comma, row_text}
 use Rattle.topology_journal.specs.declared.topology.Topology.{Topology}
 
@@ -36,59 +37,80 @@ rows_bytes rows = flat_map row_bytes rows
 abbrev pub rest_text : List ShardRow → List ℕ
 rest_text rows = flat_map (λ row. comma ∷ row_text row) rows
 
--- the record of a topology: its tag, the version, the joiners, the number of rows, and the rows
+-- the record of a topology in a version: its tag, the version, the joiners, the number of rows, and the rows
+abbrev pub record_of : ℕ → Topology → List ℕ
+record_of version t = 1 ∷ version ∷ t.joiners ∷ length t.table ∷ rows_bytes t.table
+
+-- a record as it is written
 abbrev pub topology_record : Topology → List ℕ
-topology_record t = 1 ∷ 1 ∷ t.joiners ∷ length t.table ∷ rows_bytes t.table
+topology_record t = record_of 1 t
 
 -- the most bytes that a topology's record has
 abbrev pub longest : ℕ
 longest = 40
 
--- the bytes before the rows are a topology's, and as many stand behind them as so many rows have
+-- ---- reading
+
+-- the row that the first nine bytes are, and the rows that so many times nine bytes are
+abbrev pub row_in : List ℕ → ShardRow
+row_in bytes = record { start = from_be_bytes w64 bytes; count = slice_index bytes 8 }
+
+abbrev pub rows_in : ℕ → List ℕ → List ShardRow
+rows_in zero bytes = []
+rows_in (suc n) bytes = row_in bytes ∷ rows_in n (drop 9 bytes)
+
+-- the bytes before the rows are those of a record in version 1 or 2, and as many stand behind them as so many rows have
 abbrev pub has_front : List ℕ → Bool
 has_front bytes =
-    nat_le 4 (length bytes) && (slice_index bytes 0 == 1) && (slice_index bytes 1 == 1) && nat_le 1 (slice_index bytes 2) && nat_le (slice_index bytes 2) 4
-    && (length bytes == 4 + 9 * slice_index bytes 3)
+    nat_le 4 (length bytes) && (slice_index bytes 0 == 1) && nat_le 1 (slice_index bytes 1) && nat_le (slice_index bytes 1) 2 && nat_le 1 (slice_index bytes 2)
+    && nat_le (slice_index bytes 2) 4 && (length bytes == 4 + 9 * slice_index bytes 3)
 
--- no topology has this record
-abbrev pub IsOther : List ℕ → Type 0
-IsOther record_bytes = (t : Topology) → IsTopology t → record_bytes ≡ topology_record t → ⊥
+-- a record that was read: its version, and its topology
+abbrev pub read_as_table : List ℕ → List ShardRow → Option (ℕ × Topology)
+read_as_table bytes table = if is_table table then Some (slice_index bytes 1, topology_of (slice_index bytes 2) table) else None
 
--- the records that keep a topology, or none
-abbrev pub kept_records : Option Topology → List (List ℕ)
-kept_records None = []
-kept_records (Some t) = topology_record t ∷ []
+abbrev pub read_in : List ℕ → Option (ℕ × Topology)
+read_in bytes = if has_front bytes then read_as_table bytes (rows_in (slice_index bytes 3) (drop 4 bytes)) else None
 
--- what is read is those of this topology, or none
-abbrev pub is_kept_in : Option Topology → Read → Type 0
-is_kept_in kept read = IfSome kept IsTopology × (read ≡ Ok (kept_records kept))
+-- whether the second rows are the first ones and one more
+abbrev pub one_more : List ShardRow → List ShardRow → Bool
+one_more [] (s ∷ []) = true
+one_more (r ∷ rs) (s ∷ ss) = (r.start == s.start) && ((r.count == s.count) && one_more rs ss)
+one_more _ _ = false
+
+-- whether a topology is the first one with a row more
+abbrev pub is_longer : Topology → Topology → Bool
+is_longer t u = (t.joiners == u.joiners) && one_more t.table u.table
+
+-- the topology that a record puts in the place of the kept one, if it may come next: the first one may be in version 1 or 2, and
+-- each later one is in version 2, of the topology before with a row more
+abbrev pub follows : Option Topology → ℕ × Topology → Option Topology
+follows None read = Some read.1
+follows (Some kept) read = if (read.0 == 2) && is_longer kept read.1 then Some read.1 else None
+
+abbrev pub follows_read : Option Topology → Option (ℕ × Topology) → Option Topology
+follows_read kept None = None
+follows_read kept (Some read) = follows kept read
+
+abbrev pub next_topology : Option Topology → List ℕ → Option Topology
+next_topology kept bytes = follows_read kept (read_in bytes)
+
+-- with no record there is no topology, and the last record's is kept
+abbrev pub topologies : Fold (Option Topology)
+topologies = record { start = None; next = λ kept bytes. option_map (λ (t : Topology). Some t) (next_topology kept bytes) }
 
 -- the bytes keep this topology, or none
 abbrev pub Keeps : Option Topology → List ℕ → Type 0
-Keeps = of.Keeps is_kept_in
+Keeps = of.Keeps (folds_to topologies)
 
 -- none, or the new one
 abbrev pub KeepsOr : Topology → List ℕ → Type 0
-KeepsOr new = of.KeepsOr is_kept_in None (Some new)
+KeepsOr new = of.KeepsOr (folds_to topologies) None (Some new)
 
 -- a topology may come where none is kept
 abbrev pub MayCome : Option Topology → Topology → Type 0
 MayCome kept t = (kept ≡ None) × IsTopology t
 
--- The first record that can't be kept has its length at this place: the first one, which is no topology's, or the second
--- one, whatever it is. The first record's length stands at place 1.
-pub record IsOtherAt (records : List (List ℕ)) (at : ℕ) : Type 0 where
-  pub kept : Option Topology
-  pub other : List ℕ
-  pub rest : List (List ℕ)
-  pub is_kept : IfSome kept IsTopology
-  pub is_other : kept ≡ None → IsOther other
-  pub parts : records ≡ kept_records kept ++ other ∷ rest
-  pub place : at ≡ 1 + spans (kept_records kept)
-
--- it is damaged at a place by its gates, or else at that of the first record that can't be kept
-abbrev pub is_damaged_at : Read → ℕ → Type 0
-is_damaged_at read at = (read ≡ Err at) ⊎ ((records : List (List ℕ)) × (read ≡ Ok records) × IsOtherAt records at)
-
+-- it is damaged at a place by its gates, or else at that of the first record that may not come next
 abbrev pub IsDamagedAt : List ℕ → ℕ → Type 0
-IsDamagedAt bytes at = is_damaged_at (gate_rule bytes) at
+IsDamagedAt bytes at = fails_at topologies (gate_rule bytes) at

@@ -4,12 +4,14 @@ ghost use Rattle.std.proofs.Props.{props};
 ghost use Rattle.topology_journal.specs.Topologies.{HasJoiners};
 
 use crate::Topology;
-use crate::reading::read_topology;
+use crate::reading::next_topology;
 use crate::topology::LONGEST;
 use gate_journal::{Record, RecordJournal};
 use std::alloc::{AllocError, Global};
 
-/// The topology that a disk keeps, or none on a new disk. Its record is written once, and is up to 40 bytes.
+/// The topology that a disk keeps, that of its last record, or none on a new disk. A record is up to 40 bytes.
+///
+/// The first record is in version 1 or 2. Each later one is in version 2, and is of the topology before with a row more.
 #[derive(Drop)]
 pub struct Topologies {
     kept: Option<Topology>,
@@ -40,12 +42,12 @@ impl Topologies {
 
 impl Record for Topologies {
     ghost use Rattle.std.specs.Prelude.{◌≡◌, ◌≤◌, ℕ, Option, Some};
-    ghost use Rattle.std.specs.Coded.{Coded-set, coded_result, coded_list, coded_ℕ, ×_prop};
-    ghost use Rattle.std.proofs.Common.{arith, inl, refl};
-    ghost use Rattle.std.proofs.Props.{props};
+    ghost use Rattle.std.proofs.Common.{arith, refl};
+    ghost use Rattle.gate_journal.specs.Fold.{folds_to, fails_at};
+    ghost use Rattle.gate_journal.specs.FoldLaws.{once};
     ghost use Rattle.topology_journal.specs.declared.topology.Topology.{Topology};
-    ghost use Rattle.topology_journal.specs.Topologies.{topology_record, longest, is_kept_in, is_damaged_at, MayCome};
-    ghost use Rattle.topology_journal.specs.TopologyLaws.{kept_once, comes_next as topology_comes_next, fits as topology_fits};
+    ghost use Rattle.topology_journal.specs.Topologies.{topology_record, longest, topologies, MayCome};
+    ghost use Rattle.topology_journal.specs.TopologyLaws.{coded_kept, comes_next as topology_comes_next, fits as topology_fits};
 
     type One = Topology;
 
@@ -55,11 +57,11 @@ impl Record for Topologies {
 
     ghost Kept = { Option Topology };
 
-    ghost keeps = { is_kept_in };
+    ghost keeps = { folds_to topologies };
 
-    ghost damaged = { is_damaged_at };
+    ghost damaged = { fails_at topologies };
 
-    ghost keeps_once = { kept_once };
+    ghost keeps_once = { once topologies coded_kept };
 
     ghost kept = { λ t. t.kept };
 
@@ -78,10 +80,7 @@ impl Record for Topologies {
     }
 
     fn take(&mut self, alloc: Global, payload: &[u8]) -> Result<bool, AllocError> {
-        if self.kept.is_some() {
-            return Ok(false);
-        }
-        match read_topology(alloc, payload)? {
+        match next_topology(alloc, &self.kept, payload)? {
             Some(topology) => {
                 self.kept = Some(topology);
                 Ok(true)
@@ -106,5 +105,5 @@ impl Record for Topologies {
 
     ghost comes_next = { topology_comes_next };
 
-    ghost gates_first = { λ _. inl refl };
+    ghost gates_first = { λ _. refl };
 }

@@ -1,8 +1,7 @@
-//! A journal of one record: how many joiners a site has, and the table of shards.
+//! A journal whose last record counts: how many joiners a site has, and the table of shards.
 #![tactic(auto)]
 
 mod kept;
-pub mod laws;
 mod reading;
 pub mod rows;
 mod tables;

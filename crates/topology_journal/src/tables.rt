@@ -26,7 +26,8 @@ pub fn table_of(alloc: Global, rows: &[ShardRow]) -> Result<Option<Table>, Alloc
     }
 }
 
-fn has_rows(table: &Table, rows: &[ShardRow]) -> bool
+/// Whether these are the table's rows.
+pub fn has_rows(table: &Table, rows: &[ShardRow]) -> bool
     ensures { IsTrue result ↔ (table.now ≡ rows.now) }
 {
     table.rows() == rows

@@ -10,8 +10,10 @@ use wire_core::Bytes;
 /// The first byte of a record.
 pub(crate) const TAG: u8 = 1;
 
-/// The second byte of a record.
+/// The second byte of a record: the version in which it is written, and the last one that is read.
 pub(crate) const VERSION: u8 = 1;
+
+pub(crate) const LAST_VERSION: u8 = 2;
 
 /// The most joiners of a site.
 pub(crate) const MAX_JOINERS: u8 = 4;
