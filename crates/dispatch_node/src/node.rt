@@ -267,6 +267,8 @@ impl<D: Disk, L: LogFile> SiteNode for DispatchNode<D, L> {
 
     ghost number = { λ node. node.site };
 
+    ghost disk_count = { λ _. 2 };
+
     ghost waits = { λ node. is_some node.in_doubt };
 
     ghost stands = { λ node s. StandsAt (record {

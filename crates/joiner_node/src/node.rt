@@ -229,6 +229,8 @@ impl<L: LogFile, D: Disk> SiteNode for JoinerNode<L, D> {
 
     ghost number = { λ node. node.number };
 
+    ghost disk_count = { λ _. 2 };
+
     ghost waits = { λ node. is_some node.disks.in_doubt };
 
     ghost stands = { λ node s. StandsAt (record { number = node.number; roster = node.roster; core = node.joining.core; up = node.joining.up; log = L.bytes node.joining.queries.store.tail.log; place = node.joining.queries.store.tail.place; in_doubt = node.disks.in_doubt; epoch = node.disks.epochs.value.epoch; written = node.disks.log.value.pairs.items }) (D.image node.disks.epochs.journal.disk) (D.image node.disks.log.journal.disk) s };

@@ -246,6 +246,8 @@ impl<D: Disk> SiteNode for ServerNode<D> {
 
     ghost number = { λ node. 2 + node.site };
 
+    ghost disk_count = { λ _. 1 };
+
     ghost waits = { λ node. is_some node.in_doubt };
 
     ghost stands = { λ node s. StandsAt node.site node.roster node.in_doubt node.journal.value.epoch (D.image node.journal.journal.disk) node.journal.journal.state node.registrar s };

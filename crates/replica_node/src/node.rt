@@ -283,6 +283,8 @@ impl<D: Disk> SiteNode for ReplicaNode<D> {
 
     ghost number = { λ node. 4 + node.replica };
 
+    ghost disk_count = { λ _. 1 };
+
     ghost waits = { λ node. is_some node.in_doubt };
 
     ghost stands = { λ node s. StandsAt node.roster node.in_doubt node.kept (D.seen node.journal.disk) (D.image node.journal.disk) node.journal.state node.voter s };

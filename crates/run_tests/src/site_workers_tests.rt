@@ -102,6 +102,8 @@ impl SiteNode for Puppet {
 
     ghost number = { λ node. node.number };
 
+    ghost disk_count = { λ _. 0 };
+
     ghost waits = { λ node. node.waits };
 
     ghost stands = { λ node s. Unit {0} };

@@ -1,5 +1,5 @@
 -- Laws of the states that a node's entries lead through.
-use Rattle.std.proofs.Common.{◌≡◌, ◌≢◌, ⊎_elim, ℕ, Bool, true, false, List, [], ◌∷◌, ◌++◌, Option, Some, None, refl, sym, ap, subst}
+use Rattle.std.proofs.Common.{◌≡◌, ◌≢◌, ⊎_elim, ℕ, Bool, true, false, Option, Some, None, refl, ap, subst}
 use Rattle.std.specs.Bool.{⊤}
 use Rattle.air_bus.specs.declared.entry.Entry.{Entry}
 use Rattle.air_bus.specs.declared.entry.Entry.TheVariants.{Begin, End, Stop}
@@ -9,12 +9,7 @@ use Rattle.air_bus.specs.declared.entry.Phase.TheVariants.{Busy}
 use Rattle.air_bus.specs.Copies.{Copy}
 use Rattle.air_bus.specs.Inputs.{packet_input}
 use Rattle.air_bus.specs.History.{next_input, phase_after}
-use Rattle.site_node.specs.States.{State, Rows, Leads, Path, MayTake, up_phase, phase_by, state_phase, opens}
-
--- one more entry at the end of a path
-pub path_more : {K L : Type 0} (rows : Rows K L) (s t u : State K L) (es : List Entry) (e : Entry) → Path rows s es t → Leads rows t e u → Path rows s (es ++ e ∷ []) u
-path_more rows s t u [] e p l = (u, subst (λ v. Leads rows v e u) (sym p) l, refl)
-path_more rows s t u (d ∷ es) e p l = (p.0, p.1, path_more rows p.0 t u es e p.2 l)
+use Rattle.site_node.specs.States.{State, Rows, Leads, MayTake, up_phase, phase_by, state_phase, opens}
 
 -- an entry leaves a state where it says
 pub phase_led : {K L : Type 0} (rows : Rows K L) (s t : State K L) (e : Entry) → Leads rows s e t → state_phase t ≡ phase_after e

@@ -85,6 +85,9 @@ pub trait SiteNode {
     /// Its number on the bus.
     ghost number: { Self → ℕ };
 
+    /// How many disks it has.
+    ghost disk_count: { Self → ℕ };
+
     /// Whether it waits for `restart`.
     ghost waits: { Self → Bool };
 
@@ -131,6 +134,7 @@ pub trait SiteNode {
     fn turn<G: Gate>(&mut self, input: &Input, gate: &G) -> Result<Done, NodeFault>
         requires up { waits self.old ≡ false }
         ensures number { number self.new ≡ number self.old }
+        ensures disks { disk_count self.new ≡ disk_count self.old }
         ensures waits { waits self.new ≡ was_stopped result }
         // A turn that is done is one that may end so, however many of its packets found room.
         ensures done { IsTrue tells → (s t : State) → stands self.old s → leads s (Begin (number self.old) input.now) t → IfOk result (λ d. (kept : ℕ) → kept ≤ length d.packets → (u : State) × leads t (End (number self.old) d.note d.packets kept) u × stands self.new u) }
@@ -153,6 +157,7 @@ pub trait SiteNode {
     fn restart(&mut self) -> Result<Option<Payload>, NodeFault>
         requires { waits self.old ≡ true }
         ensures number { number self.new ≡ number self.old }
+        ensures disks { disk_count self.new ≡ disk_count self.old }
         ensures up { OnOk result (waits self.new ≡ false) }
         ensures refused { OnErr result (waits self.new ≡ true) }
         ensures stopped { IsTrue tells → (s : State) → stands self.old s → IfOk result (λ landed. (t : State) × leads s (Stop (number self.old) landed) t × stands self.new t) }

@@ -21,8 +21,5 @@ pub front_or_last : {A : Type 0} (x : A) (all rest : List A) (one : A) → all �
 front_or_last x all rest one cut among =
     ⊎_elim (λ m. inl m) (λ m. inr (⊎_elim (λ is. is) (λ no_more. absurd no_more) m)) (mem_split x rest (one ∷ []) (subst (Mem x) cut among))
 
-pub no_element : {A : Type 0} (x : A) (xs : List A) → xs ≡ [] → Mem x xs → ⊥
-no_element x xs none among = subst (Mem x) none among
-
 pub some_rose : (old new : ℕ) → Rose old new → 1 ≤ new
 some_rose old new rose = omega (arith, rose)

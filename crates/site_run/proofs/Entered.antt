@@ -26,7 +26,7 @@ use Rattle.verify_pass.specs.declared.journals.Journals.{Journals}
 use Rattle.site_run.specs.declared.ran.Outcome.{Outcome}
 use Rattle.site_run.specs.declared.ran.RunLog.{RunLog}
 use Rattle.site_run.specs.declared.built.config.Config.{Config}
-use Rattle.site_run.specs.Asked.{IsSettingOf, IsSettingOver}
+use Rattle.site_run.specs.Asked.{AreLogsOf, IsSettingOf, IsSettingOver}
 use Rattle.site_run.specs.Logs.{IsOfLogs}
 use Rattle.site_run.specs.Left.{HasRun, HasRested, RunLeft, RestLeft}
 
@@ -58,9 +58,19 @@ none_left P o none = subst (λ (x : Option RunLog). IfSome x P) (sym none) tt
 pub last_of : {A : Type 0} (P : A → Type 0) (items rest : List A) (last : A) → items ≡ rest ++ last ∷ [] → Each P items → P last
 last_of P items rest last is all = each_at P items all last (subst (Mem last) (sym is) (mem_right last rest (last ∷ []) (inl refl)))
 
-pub put_back : {A : Type 0} (P : A → Type 0) (items rest new : List A) (last next : A) → items ≡ rest ++ last ∷ [] → new ≡ rest ++ next ∷ [] → P next → Each P items → Each P new
+put_back : {A : Type 0} (P : A → Type 0) (items rest new : List A) (last next : A) → items ≡ rest ++ last ∷ [] → new ≡ rest ++ next ∷ [] → P next → Each P items → Each P new
 put_back P items rest new last next is now good all =
     subst (Each P) (sym now) (each_append P rest (next ∷ []) (each_from P rest (λ x among. each_at P items all x (subst (Mem x) (sym is) (mem_left x rest (last ∷ []) among)))) (good, tt))
+
+-- the logs are the setting's still
+pub over_back : {L : Type 0} (bytes : L → List ℕ) (config : Config) (g : Setting) (items rest new queries_a queries_b : List L) (last next : L) → items ≡ rest ++ last ∷ [] → new ≡ rest ++ next ∷ [] → IsLogOf (bytes next) g
+    → AreLogsOf bytes items queries_a queries_b config g → AreLogsOf bytes new queries_a queries_b config g
+over_back {L} bytes config g items rest new queries_a queries_b last next is now good all = record {
+  numbers = all.numbers;
+  clicks_are = put_back (λ (l : L). IsLogOf (bytes l) g) items rest new last next is now good all.clicks_are;
+  queries_a_are = all.queries_a_are;
+  queries_b_are = all.queries_b_are;
+}
 
 -- ---- the setting of logs that are open
 
@@ -71,10 +81,12 @@ pub over_so : {L : Type 0} (bytes : L → List ℕ) (told : List ℕ → Option 
     → Each (λ (l : L). told clicks ≡ Some (bytes l)) click_logs → Each (λ (l : L). told queries ≡ Some (bytes l)) logs_a → Each (λ (l : L). told queries ≡ Some (bytes l)) logs_b
     → IsSettingOf told queries clicks config end_ g → IsSettingOver bytes click_logs logs_a logs_b config end_ g
 over_so {L} bytes told queries clicks config end_ g click_logs logs_a logs_b of_clicks of_a of_b is = record {
-  numbers = is.numbers;
-  clicks_are = each_more (λ (l : L). told clicks ≡ Some (bytes l)) (λ (l : L). IsLogOf (bytes l) g) click_logs (λ l same. some_at (λ log. IsLogOf log g) (told clicks) (bytes l) same is.clicks_are) of_clicks;
-  queries_a_are = each_more (λ (l : L). told queries ≡ Some (bytes l)) (λ (l : L). IsQueryLog (bytes l) g.queries) logs_a (λ l same. some_at (λ log. IsQueryLog log g.queries) (told queries) (bytes l) same is.queries_are) of_a;
-  queries_b_are = each_more (λ (l : L). told queries ≡ Some (bytes l)) (λ (l : L). IsQueryLog (bytes l) g.queries) logs_b (λ l same. some_at (λ log. IsQueryLog log g.queries) (told queries) (bytes l) same is.queries_are) of_b;
+  logs = record {
+    numbers = is.numbers;
+    clicks_are = each_more (λ (l : L). told clicks ≡ Some (bytes l)) (λ (l : L). IsLogOf (bytes l) g) click_logs (λ l same. some_at (λ log. IsLogOf log g) (told clicks) (bytes l) same is.clicks_are) of_clicks;
+    queries_a_are = each_more (λ (l : L). told queries ≡ Some (bytes l)) (λ (l : L). IsQueryLog (bytes l) g.queries) logs_a (λ l same. some_at (λ log. IsQueryLog log g.queries) (told queries) (bytes l) same is.queries_are) of_a;
+    queries_b_are = each_more (λ (l : L). told queries ≡ Some (bytes l)) (λ (l : L). IsQueryLog (bytes l) g.queries) logs_b (λ l same. some_at (λ log. IsQueryLog log g.queries) (told queries) (bytes l) same is.queries_are) of_b;
+  };
   ends = is.ends;
 }
 

@@ -4,10 +4,6 @@ use Rattle.run_fault.specs.declared.fault.RunFault.{RunFault}
 use Rattle.site_node.specs.declared.kind.NodeFault.{NodeFault}
 use Rattle.site_run.specs.Settled.{told_of, or_else, first_fault}
 
-pub or_none : (f : Option RunFault) → or_else f None ≡ f
-or_none None = refl
-or_none (Some f) = refl
-
 or_through : (a b c : Option RunFault) → or_else (or_else a b) c ≡ or_else a (or_else b c)
 or_through None b c = refl
 or_through (Some f) b c = refl

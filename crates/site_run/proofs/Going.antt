@@ -1,5 +1,5 @@
 -- Disks that have gone on, step by step and place by place.
-use Rattle.std.proofs.Common.{◌≡◌, ℕ, zero, suc, ◌+◌, ◌<◌, List, [], ◌∷◌, ◌++◌, length, refl, ap, ◌∙◌, subst, arith}
+use Rattle.std.proofs.Common.{◌≡◌, ℕ, zero, suc, ◌+◌, ◌<◌, List, [], ◌∷◌, ◌++◌, length, refl, ◌∙◌, subst, arith}
 use Rattle.std.specs.Prelude.{slice_index_or}
 use Rattle.gate_journal.specs.Growth.{Continues}
 use Rattle.gate_journal.proofs.Growth.{continues_same, continues_through}
@@ -29,12 +29,6 @@ module _ {A : Type 0} (R : A → A → Type 0) where
   with_through through (x ∷ xs) [] zs a b = absurd a
   with_through through (x ∷ xs) (y ∷ ys) [] a b = absurd b
   with_through through (x ∷ xs) (y ∷ ys) (z ∷ zs) a b = (through x y z a.0 b.0, with_through through xs ys zs a.1 b.1)
-
-  pub with_length : (xs ys : List A) → EachWith R xs ys → length ys ≡ length xs
-  with_length [] [] a = refl
-  with_length [] (y ∷ ys) a = absurd a
-  with_length (x ∷ xs) [] a = absurd a
-  with_length (x ∷ xs) (y ∷ ys) a = ap suc (with_length xs ys a.1)
 
   with_append : (ws xs ys zs : List A) → EachWith R ws xs → EachWith R ys zs → EachWith R (ws ++ ys) (xs ++ zs)
   with_append [] [] ys zs a b = b

@@ -1,5 +1,5 @@
 -- Each node is at the place of its number.
-use Rattle.std.proofs.Common.{◌≡◌, ℕ, suc, zero, ◌+◌, ◌*◌, ◌<◌, Bool, List, length, Some, refl, sym, ap, ◌∙◌, subst, arith}
+use Rattle.std.proofs.Common.{◌≡◌, ℕ, suc, zero, ◌+◌, ◌*◌, ◌<◌, List, length, Some, refl, sym, ap, ◌∙◌, subst, arith}
 use Rattle.turn_defs.specs.declared.node.Node.{Node}
 use Rattle.turn_defs.specs.declared.node.Node.TheVariants.{Dispatcher, Server, Replica, Joiner}
 use Rattle.turn_defs.specs.Setting.{Setting, IsJoiner}
@@ -14,7 +14,7 @@ use Rattle.turn_defs.specs.Replica.{ReplicaKept}
 use Rattle.turn_defs.specs.Joiner.{JoinerKept}
 use Rattle.site_run.specs.AnyNodes.{AnyState, any_of, down_with}
 use Rattle.site_run.specs.Running.{AreDownOver}
-use Rattle.site_run.specs.Placed.{AllAt, IsDownAt, IsUpAt}
+use Rattle.site_run.specs.Placed.{AllAt, IsDownAt}
 
 some_same : (m n : Node) → Some m ≡ Some n → m ≡ n
 some_same m n is = cc is
@@ -39,9 +39,6 @@ module _ {N : Type 0} (places : N → AnyState → Type 0) (g : Setting) (d : Di
 
   pub joiner_at : (j i : ℕ) → IsJoiner g j → i ≡ j → (node : N) (k : JoinerKept) → d.joiners i ≡ k → places node (any_of (Joiner j) (down_with g k)) → IsDownAt places g d i node
   joiner_at j i is at node k kept down = down_at places g d law (Joiner j) is i at node (subst (λ x. places node (any_of (Joiner j) (down_with g x))) (sym (ap d.joiners (sym at) ∙ kept)) down)
-
-pub up_at : {N : Type 0} (number : N → ℕ) (waits : N → Bool) (i j : ℕ) (node : N) → i ≡ j → IsUpAt number waits j node → IsUpAt number waits i node
-up_at number waits i j node is up = subst (λ k. IsUpAt number waits k node) (sym is) up
 
 -- a joiner's number, by its site and its place there, is one of the setting's
 pub is_joiner : (g : Setting) (r : Roster) (site joiner n : ℕ) → IsOf r g → r.replicas ≡ 3 → site < 2 → joiner < r.joiners → n ≡ 7 + site * r.joiners + joiner → IsJoiner g n

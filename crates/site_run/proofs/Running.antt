@@ -1,7 +1,7 @@
 -- From what a run leaves of each node to what it leaves of the store.
 use Rattle.std.specs.Prelude.{IsTrue, IsSome, option_map}
 use Rattle.std.specs.List.{list_any}
-use Rattle.std.proofs.Common.{◌≡◌, ◌≢◌, ◌⊎◌, inl, inr, ⊎_elim, ℕ, zero, suc, ◌+◌, ◌<◌, ◌≤◌, List, [], ◌∷◌, ◌++◌, length, map, slice_index_or, Bool, true, false, Option, None, Some, refl, sym, ap, ◌∙◌, subst, arith}
+use Rattle.std.proofs.Common.{◌≡◌, ◌≢◌, ◌⊎◌, inl, inr, ⊎_elim, ℕ, zero, suc, ◌+◌, ◌<◌, ◌≤◌, List, [], ◌∷◌, ◌++◌, length, map, slice_index_or, Bool, true, false, Option, None, Some, refl, sym, ap, ◌∙◌, subst, arith, length-append}
 use Rattle.std.proofs.lemmas.List.Elements.{recursion_from_All}
 use Rattle.list_words.specs.Lists.{Mem, Each}
 use Rattle.list_words.proofs.Lists.{mem_left, mem_right, some_same}
@@ -43,7 +43,7 @@ use Rattle.site_store.proofs.Damage.{notes_kept as votes_are_notes}
 use Rattle.run_fault.specs.Causes.{IsCounted}
 use Rattle.site_run.specs.Causes.{of_node, IsOfDisks, IsPastOpening}
 use Rattle.site_run.specs.Refused.{IsOfRun, OneKept}
-use Rattle.site_run.specs.Held.{HoldsAs, HasGoneOn, HaveGoneOn}
+use Rattle.site_run.specs.Held.{HoldsAs, HaveGoneOn}
 use Rattle.site_run.specs.Laws.{AllHold, AreHeld, AreMet, IsLeftBy, KeepsItsRecord, NoneStops}
 use Rattle.site_run.specs.Left.{HasRun, HasRested}
 use Rattle.site_run.specs.Out.{AreOut}
@@ -52,7 +52,7 @@ use Rattle.output_log.specs.Pairs.{Keeps as KeepsPairs}
 use Rattle.site_node.specs.Replicas.{KeepsNotes}
 use Rattle.site_laws.specs.StoreLaws.{HoldSameRecords, ReadNotesAreKept}
 use Rattle.site_run.specs.Settled.{told_of, or_else, first_fault, lent_replicas, lent_outputs, AreKeptIn}
-use Rattle.site_run.proofs.Going.{with_length, all_nodes_gone_on}
+use Rattle.site_run.proofs.Going.{all_nodes_gone_on}
 use Rattle.site_run.proofs.Keeping.{keeps, none_lacks, disk_there, topology_image}
 use Rattle.site_run.proofs.Outing.{given_goes_on, gone_out}
 use Rattle.site_run.proofs.Places.{at_place}
@@ -264,6 +264,20 @@ module _ {N D : Type 0} (image : D → List ℕ → Type 0) (places : N → AnyS
         let at = t.told b in
         subst (IsOfRun g d faulted) (sym at.2) (node_told n.0 back.1 b at.0 (subst (λ k. (slice_index_or ws k b).1 ≡ Some at.0) (sym back.0) at.1) t.number)
 
+-- ---- how many disks there are
+
+-- as many as there were, where each node has as many as it had
+pub same_count : {N X : Type 0} (f : ℕ → N → List X) (count : N → ℕ) → ((k : ℕ) (v : N) → length (f k v) ≡ count v) → (k : ℕ) (vs : List N) (ws : List (N × Option NodeFault)) → length ws ≡ length vs
+    → ((i : ℕ) (a : N) (b : N × Option NodeFault) → i < length vs → count (slice_index_or ws i b).0 ≡ count (slice_index_or vs i a)) → length (all_from (λ i (w : N × Option NodeFault). f i w.0) k ws) ≡ length (all_from f k vs)
+same_count f count each k [] [] long same = refl
+same_count f count each k [] (w ∷ ws) long same = absurd (omega (arith, long))
+same_count f count each k (v ∷ vs) [] long same = absurd (omega (arith, long))
+same_count {N} f count each k (v ∷ vs) (w ∷ ws) long same =
+    let others = same_count f count each (suc k) vs ws (omega (arith, long)) (λ i a b below. same (suc i) a b (omega (arith, below))) in
+    let first = same 0 v w (omega arith) in
+    let behind = length-append (f k w.0) (all_from (λ i (x : N × Option NodeFault). f i x.0) (suc k) ws) in
+    omega (arith, behind, length-append (f k v) (all_from f (suc k) vs), each k w.0, each k v, first, others)
+
 -- ---- how the disks have gone on
 
 same_from : {N X : Type 0} (f : ℕ → N → List X) (i : ℕ) (ws : List (N × Option NodeFault)) → all_from f i (map (λ (w : N × Option NodeFault). w.0) ws) ≡ all_from (λ k (w : N × Option NodeFault). f k w.0) i ws
@@ -298,16 +312,6 @@ module _ {N D : Type 0} (image : D → List ℕ → Type 0) (places : N → AnyS
       let grows = grew n is a b in
       subst (λ (w : N). HaveGoneOn image (disks_of joiners (node_number n) (slice_index_or vs (node_number n) a)) (disks_of joiners (node_number n) w)) (sym (at_first ws (node_number n) c b below))
       (laws.gone_on joiners (node_number n) grows.0 (slice_index_or vs (node_number n) a) (slice_index_or ws (node_number n) b).0 grows.1)))
-
-  -- there are as many as there were
-  pub same_count : length news ≡ length olds
-  same_count = with_length (HasGoneOn image) olds news have_gone_on
-
-  -- and the topology's besides
-  pub all_fit : (topology : Lent D) (all : List (Lent D)) (room : ℕ) → all ≡ topology ∷ news → 1 + length olds ≤ room → length all ≤ room
-  all_fit topology all room is fit =
-      let long : length all ≡ suc (length news) = ap length is in
-      omega (arith, long, same_count, fit)
 
   pub goes_on : (topology : Lent D) (before inside after : Images) → AreOut image before inside topology olds
       → ((disk : DiskName) (c : List ℕ) → after disk c → MayBeLeft image inside (topology ∷ news) disk c) → (disk : DiskName) → GoesOn (before disk) (after disk)

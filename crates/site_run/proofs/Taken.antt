@@ -2,7 +2,7 @@
 use Rattle.std.proofs.Common.{◌≡◌, ◌≢◌, inl, inr, ℕ, zero, suc, ◌+◌, ◌-◌, ◌*◌, ◌<◌, ◌≤◌, List, [], ◌∷◌, ◌++◌, length, map, take, drop, get_or, Some, Bool, true, false, ◌&&◌, nat_lt, ltb-true, refl, sym, ◌∙◌, ap, subst, append_assoc, arith}
 use Rattle.std.specs.Prelude.{remove}
 use Rattle.std.specs.List.Sorted.{IsPermutation}
-use Rattle.std.proofs.lemmas.List.{append-nil, map-append, take-append-drop, drop_more}
+use Rattle.std.proofs.lemmas.List.{append-nil, take-append-drop, drop_more}
 use Rattle.std.proofs.lemmas.List.Sorted.{IsPermutation-trans, IsPermutation-refl, IsPermutation-middle, IsPermutation-append_comm, IsPermutation-append_left, IsPermutation-append_right, IsPermutation-map}
 use Rattle.list_words.specs.Lists.{Each, Mem}
 use Rattle.list_words.proofs.Lists.{each_at, each_from}
@@ -11,8 +11,6 @@ use Rattle.outside.specs.declared.store.DiskName.TheVariants as name
 use Rattle.paxos_acceptor.specs.declared.notes.ReplicaNote.{ReplicaNote}
 use Rattle.turn_defs.specs.declared.pair.PairRec.{PairRec}
 use Rattle.turn_defs.specs.Setting.{Setting}
-use Rattle.turn_defs.specs.Dispatcher.{DispatcherKept}
-use Rattle.turn_defs.specs.Server.{ServerKept}
 use Rattle.turn_defs.specs.Joiner.{JoinerKept}
 use Rattle.dispatch_node.specs.Kept.{kept_as}
 use Rattle.site_node.specs.declared.roster.Roster.{Roster}
@@ -43,19 +41,6 @@ each_parts P (x ∷ xs) ys h = let more = each_parts P xs ys h.1 in ((h.0, more.
 module _ {D : Type 0} where
   abbrev names : List (OpenView D) → List DiskName
   names xs = map (λ (o : OpenView D). o.name) xs
-
-  -- of the first, which has another name, it isn't
-  pub still_there : (n : DiskName) (xs : List (OpenView D)) (i : ℕ) (d : OpenView D) → i < length xs → (get_or xs i d).name ≢ n → Mem n (names (drop i xs)) → Mem n (names (drop (i + 1) xs))
-  still_there n xs i d lt other m = elim (subst (λ (l : List (OpenView D)). Mem n (names l)) (drop_more xs i d lt) m) [
-    | inl here ↦ absurd (other here)
-    | inr later ↦ later
-  ]
-
-  pub none_there : (n : DiskName) (xs : List (OpenView D)) (i : ℕ) → length xs ≤ i → Mem n (names (drop i xs)) → ⊥
-  none_there n [] zero le m = m
-  none_there n [] (suc i) le m = m
-  none_there n (x ∷ xs) zero le m = absurd (omega (arith, le))
-  none_there n (x ∷ xs) (suc i) le m = none_there n xs i (omega (arith, le)) m
 
   within_parts : (front back : List (OpenView D)) (one o : OpenView D) → Mem o (front ++ back) → Mem o (front ++ one ∷ back)
   within_parts [] back one o m = inr m

@@ -17,11 +17,14 @@ pub record IsSettingOf (told : List ℕ → Option (List ℕ)) (queries clicks :
   pub ends : end_ ≡ end_from 0 g.clicks
 
 -- the same of the logs that are open: the click log, and the query log at site A and at site B, each opened so many times
-pub record IsSettingOver {L : Type 0} (bytes : L → List ℕ) (clicks queries_a queries_b : List L) (config : Config) (end_ : ℕ) (g : Setting) : Type 0 where
+pub record AreLogsOf {L : Type 0} (bytes : L → List ℕ) (clicks queries_a queries_b : List L) (config : Config) (g : Setting) : Type 0 where
   pub numbers : IsNew g config.joiners config.horizon config.table config.batch
   pub clicks_are : Each (λ l. IsLogOf (bytes l) g) clicks
   pub queries_a_are : Each (λ l. IsQueryLog (bytes l) g.queries) queries_a
   pub queries_b_are : Each (λ l. IsQueryLog (bytes l) g.queries) queries_b
+
+pub record IsSettingOver {L : Type 0} (bytes : L → List ℕ) (clicks queries_a queries_b : List L) (config : Config) (end_ : ℕ) (g : Setting) : Type 0 where
+  pub logs : AreLogsOf bytes clicks queries_a queries_b config g
   pub ends : end_ ≡ end_from 0 g.clicks
 
 -- P holds of each setting of such logs under names

@@ -1,8 +1,6 @@
 // Both sites: their nodes over disks as one kind, and their run on threads.
 mod any_node;
-mod making;
 mod run;
 
 pub use any_node::{AnyNode, SystemNode};
-pub use making::{dispatcher, joiner, replica, server};
 pub use run::run_nodes;

@@ -1,7 +1,7 @@
 // The run.
-ghost use Rattle.std.specs.Prelude.{◌≡◌, ◌<◌, ◌≤◌, ◌+◌, ◌*◌, ◌++◌, ◌∷◌, ◌⊎◌, [], ℕ, List, None, Some, length, map, slice_index_or, vec_len, vec_capacity, take, false, IsTrue, IfOk, IfErr, OnOk, IfSome, IsSomeAnd};
+ghost use Rattle.std.specs.Prelude.{◌≡◌, ◌<◌, ◌≤◌, ◌+◌, ◌*◌, ◌++◌, ◌∷◌, [], ℕ, List, None, Some, length, map, vec_len, vec_capacity, take, IsTrue, IfOk, IfErr, OnOk, IfSome, IsSomeAnd};
 ghost use Rattle.std.specs.List.{All};
-ghost use Rattle.list_words.specs.Lists.{Each, Mem};
+ghost use Rattle.list_words.specs.Lists.{Mem};
 ghost use Rattle.outside.specs.declared.store.DiskName.{DiskName};
 ghost use Rattle.outside.specs.Faults.{Rose};
 ghost use Rattle.time_shards.specs.Shards.{IsTable};
@@ -9,28 +9,23 @@ ghost use Rattle.air_bus.specs.History.{IsAired};
 ghost use Rattle.bus_seat.specs.Seats.{IsIn};
 ghost use Rattle.turn_defs.specs.Setting.{Setting, Checked};
 ghost use Rattle.photon_model.specs.Runs.{Disks};
-ghost use Rattle.log_records.specs.Check.{IsQueryLog};
-ghost use Rattle.dispatch_node.specs.Places.{IsLogOf, AreKeptPlaces};
-ghost use Rattle.registry_server.specs.Cores.{IsNew};
+ghost use Rattle.dispatch_node.specs.Places.{AreKeptPlaces};
 ghost use Rattle.site_store.specs.Refusals.{other_names};
 ghost use Rattle.site_store.specs.Records.{AreRecordsOf, kept_all, lent_all, topology_lent};
 ghost use Rattle.site_store.specs.Lent.{MayBeLeft};
 ghost use Rattle.gate_journal.specs.Images.{GoesOn};
 ghost use Rattle.site_laws.specs.Stores.{IsSoundStore, SameRecords};
 ghost use Rattle.site_store.specs.Causes.{LeavesSomething};
-ghost use Rattle.site_run.specs.Running.{AreDownOver};
-ghost use Rattle.site_run.specs.Naming.{as_lent, all_from};
 ghost use Rattle.site_run.specs.Laws.{KeepsItsRecord};
-ghost use Rattle.site_run.specs.Asked.{OfSetting, IsSettingOver, IsRosterOf};
+ghost use Rattle.site_run.specs.Asked.{OfSetting, IsSettingOver, AreLogsOf};
 ghost use Rattle.site_run.specs.Out.{AreOut};
 ghost use Rattle.site_run.specs.Left.{HasRun, HasRested, RunLeft, RestLeft};
 ghost use Rattle.run_fault.specs.Causes.{IsCounted, IsWelcome};
 ghost use Rattle.site_run.specs.Causes.{IsPastOpening};
 ghost use Rattle.site_run.specs.Refused.{HasPassed, IsCauseOf, IsOfRun, NamesEnded};
 
-use crate::built::{Built, Logs, Parting, Room, build};
+use crate::built::{Built, Logs, Room, build};
 use crate::disk_laws::{all_held, all_met};
-use crate::nodes::{AnyNode, SystemNode};
 use crate::settle::give_parts;
 use crate::sources::{open_logs, shut_logs};
 use crate::system::run_system;
@@ -38,7 +33,6 @@ use crate::{Config, Names, Outcome, Ran, RunFault};
 use lossy_link::Plan;
 use outside::{DiskName, Gate, Source, Store};
 use site_laws::stores::topology_first;
-use site_node::SiteNode;
 use site_store::{LentDisk, OpenStore, open_store};
 use std::alloc::Global;
 use std::sync::Wait;
@@ -232,84 +226,18 @@ where
     requires none { ran.old.log ≡ None }
     // Where no run began each disk is given back as it was.
     ensures idle { IsTrue S.Disk.tells → ran.new.log ≡ None → (disk : DiskName) (c : List ℕ) → S.image store.new disk c → MayBeLeft S.Disk.image (S.image store.old) (topology_lent opened.topology.journal.disk ∷ lent_all opened.disks.items) disk c }
-    ensures grown { IsTrue S.Disk.tells → IsTrue F.Log.tells → (g : Setting) → IsNew g config.now.joiners config.now.horizon config.now.table config.now.batch → Each (λ l. IsLogOf (F.Log.bytes l) g) logs.clicks.items → Each (λ l. IsQueryLog (F.Log.bytes l) g.queries) logs.queries_a.items → Each (λ l. IsQueryLog (F.Log.bytes l) g.queries) logs.queries_b.items
+    ensures grown { IsTrue S.Disk.tells → IsTrue F.Log.tells → (g : Setting) → AreLogsOf F.Log.bytes logs.clicks.items logs.queries_a.items logs.queries_b.items config.now g
         → (d : Disks) → AreRecordsOf g (kept_all opened.disks.items) d → ((s : ℕ) → s < 2 → AreKeptPlaces g (d.dispatchers s)) → (s : S) → AreOut S.Disk.image (S.image s) (S.image store.old) (topology_lent opened.topology.journal.disk) (lent_all opened.disks.items) → (disk : DiskName) → GoesOn (S.image s disk) (S.image store.new disk) }
-    ensures left { IsTrue S.Disk.tells → IsTrue F.Log.tells → (g : Setting) → IsNew g config.now.joiners config.now.horizon config.now.table config.now.batch → Each (λ l. IsLogOf (F.Log.bytes l) g) logs.clicks.items → Each (λ l. IsQueryLog (F.Log.bytes l) g.queries) logs.queries_a.items → Each (λ l. IsQueryLog (F.Log.bytes l) g.queries) logs.queries_b.items
+    ensures left { IsTrue S.Disk.tells → IsTrue F.Log.tells → (g : Setting) → AreLogsOf F.Log.bytes logs.clicks.items logs.queries_a.items logs.queries_b.items config.now g
         → (d : Disks) → AreRecordsOf g (kept_all opened.disks.items) d → ((s : ℕ) → s < 2 → AreKeptPlaces g (d.dispatchers s)) → (e : Disks) → SameRecords g d e → KeepsItsRecord S.Disk.image g (topology_lent opened.topology.journal.disk) → IfSome ran.new.log (λ l. HasRun g e l.air.history (S.image store.new)) }
-    ensures rest { IsTrue S.Disk.tells → IsTrue F.Log.tells → (g : Setting) → IsNew g config.now.joiners config.now.horizon config.now.table config.now.batch → Each (λ l. IsLogOf (F.Log.bytes l) g) logs.clicks.items → Each (λ l. IsQueryLog (F.Log.bytes l) g.queries) logs.queries_a.items → Each (λ l. IsQueryLog (F.Log.bytes l) g.queries) logs.queries_b.items
+    ensures rest { IsTrue S.Disk.tells → IsTrue F.Log.tells → (g : Setting) → AreLogsOf F.Log.bytes logs.clicks.items logs.queries_a.items logs.queries_b.items config.now g
         → (d : Disks) → AreRecordsOf g (kept_all opened.disks.items) d → ((s : ℕ) → s < 2 → AreKeptPlaces g (d.dispatchers s)) → (e : Disks) → SameRecords g d e → KeepsItsRecord S.Disk.image g (topology_lent opened.topology.journal.disk) → IfOk result (λ outcome. IsSomeAnd ran.new.log (λ l. HasRested g e l.air.history (S.image store.new) (Rose (S.faults store.old) (S.faults store.new)) outcome.journals)) }
     ensures lists { IfSome ran.new.log (λ l. All (IsIn l.air.history) l.seen.items) }
     ensures aired { IfSome ran.new.log (λ l. IsAired plan l.air.kinds l.air.history) }
     ensures cause { IfErr result (IsCounted (Rose (F.faults files.old) (F.faults files.new)) (Rose (S.faults store.old) (S.faults store.new))) }
     ensures welcome { IfErr result IsPastOpening }
-    ensures whole { IsTrue S.Disk.tells → IsTrue F.Log.tells → (g : Setting) → IsNew g config.now.joiners config.now.horizon config.now.table config.now.batch → Each (λ l. IsLogOf (F.Log.bytes l) g) logs.clicks.items → Each (λ l. IsQueryLog (F.Log.bytes l) g.queries) logs.queries_a.items → Each (λ l. IsQueryLog (F.Log.bytes l) g.queries) logs.queries_b.items
+    ensures whole { IsTrue S.Disk.tells → IsTrue F.Log.tells → (g : Setting) → AreLogsOf F.Log.bytes logs.clicks.items logs.queries_a.items logs.queries_b.items config.now g
         → (d : Disks) → AreRecordsOf g (kept_all opened.disks.items) d → ((s : ℕ) → s < 2 → AreKeptPlaces g (d.dispatchers s)) → KeepsItsRecord S.Disk.image g (topology_lent opened.topology.journal.disk) → IfErr result (IsOfRun g d (Rose (S.faults store.old) (S.faults store.new))) }
-    ensures stopped { IfErr result (NamesEnded ran.new.log) }
-    ensures same { IsTrue F.Log.tells → (n : List ℕ) → F.bytes files.new n ≡ F.bytes files.old n }
-    ensures file_count { F.faults files.old ≤ F.faults files.new }
-    ensures store_count { S.faults store.old ≤ S.faults store.new }
-{
-    match build(alloc, config, opened, logs, room) {
-        Ok(built) => run_built(
-            rt,
-            alloc,
-            config.joiners,
-            files,
-            store,
-            plan,
-            gate,
-            ran,
-            built,
-        ),
-        Err(parts) => {
-            give_parts(files, store, parts);
-            Err(RunFault::Memory)
-        }
-    }
-}
-
-// Runs the nodes, and gives all back.
-fn run_built<R, F, S, G>(
-    rt: &R,
-    alloc: Global,
-    joiners: u8,
-    files: &mut F,
-    store: &mut S,
-    plan: Plan,
-    gate: &G,
-    ran: &mut Ran,
-    built: Built<S::Disk, F::Log>,
-) -> Result<Outcome, RunFault>
-where
-    R: Threads + Wait + Sync,
-    F: Source,
-    S: Store,
-    G: Gate,
-    F::Log: Drop,
-    S::Disk: Drop,
-    requires joiners { (0 < joiners) × (joiners ≤ 4) }
-    requires count { length built.nodes.items ≡ 7 + 2 * joiners }
-    requires numbers { (i : ℕ) (d : _) → i < length built.nodes.items → ⟦<AnyNode<S::Disk, F::Log> as SiteNode>⟧.number (slice_index_or built.nodes.items i d) ≡ i }
-    requires up { All (λ n. ⟦<AnyNode<S::Disk, F::Log> as SiteNode>⟧.waits n ≡ false) built.nodes.items }
-    requires empty { (built.parts.disks.items ≡ []) × (built.parts.logs.items ≡ []) }
-    requires room { (15 + 4 * joiners ≤ vec_capacity built.parts.disks) × (7 + 2 * joiners ≤ vec_capacity built.parts.logs) }
-    requires places { 10 + 4 * joiners ≤ S.places_left store.old }
-    requires disks { 1 + length (all_from (⟦<AnyNode<S::Disk, F::Log> as Parting<S::Disk, F::Log>>⟧.disks_of joiners) 0 built.nodes.items) ≤ 10 + 4 * joiners }
-    requires none { ran.old.log ≡ None }
-    // Where no run began each disk is given back as it was.
-    ensures idle { IsTrue S.Disk.tells → ran.new.log ≡ None → (disk : DiskName) (c : List ℕ) → S.image store.new disk c → MayBeLeft S.Disk.image (S.image store.old) ((topology_lent built.topology.journal.disk) ∷ (all_from (⟦<AnyNode<S::Disk, F::Log> as Parting<S::Disk, F::Log>>⟧.disks_of joiners) 0 built.nodes.items)) disk c }
-    ensures grown { IsTrue S.Disk.tells → IsTrue F.Log.tells → (g : Setting) (d : Disks) (s : S) → IsRosterOf g joiners → AreDownOver ⟦<AnyNode<S::Disk, F::Log> as SystemNode>⟧.places g d built.nodes.items
-        → AreOut S.Disk.image (S.image s) (S.image store.old) (topology_lent built.topology.journal.disk) (all_from (⟦<AnyNode<S::Disk, F::Log> as Parting<S::Disk, F::Log>>⟧.disks_of joiners) 0 built.nodes.items) → (disk : DiskName) → GoesOn (S.image s disk) (S.image store.new disk) }
-    ensures left { IsTrue S.Disk.tells → IsTrue F.Log.tells → (g : Setting) (d e : Disks) → IsRosterOf g joiners → AreDownOver ⟦<AnyNode<S::Disk, F::Log> as SystemNode>⟧.places g d built.nodes.items
-        → SameRecords g d e → KeepsItsRecord S.Disk.image g (topology_lent built.topology.journal.disk) → IfSome ran.new.log (λ l. HasRun g e l.air.history (S.image store.new)) }
-    ensures rest { IsTrue S.Disk.tells → IsTrue F.Log.tells → (g : Setting) (d e : Disks) → IsRosterOf g joiners → AreDownOver ⟦<AnyNode<S::Disk, F::Log> as SystemNode>⟧.places g d built.nodes.items
-        → SameRecords g d e → KeepsItsRecord S.Disk.image g (topology_lent built.topology.journal.disk) → IfOk result (λ outcome. IsSomeAnd ran.new.log (λ l. HasRested g e l.air.history (S.image store.new) (Rose (S.faults store.old) (S.faults store.new)) outcome.journals)) }
-    ensures lists { IfSome ran.new.log (λ l. All (IsIn l.air.history) l.seen.items) }
-    ensures aired { IfSome ran.new.log (λ l. IsAired plan l.air.kinds l.air.history) }
-    ensures cause { IfErr result (IsCounted (Rose (F.faults files.old) (F.faults files.new)) (Rose (S.faults store.old) (S.faults store.new))) }
-    ensures welcome { IfErr result IsPastOpening }
-    ensures whole { IsTrue S.Disk.tells → IsTrue F.Log.tells → (g : Setting) (d : Disks) → IsRosterOf g joiners → AreDownOver ⟦<AnyNode<S::Disk, F::Log> as SystemNode>⟧.places g d built.nodes.items
-        → KeepsItsRecord S.Disk.image g (topology_lent built.topology.journal.disk) → IfErr result (IsOfRun g d (Rose (S.faults store.old) (S.faults store.new))) }
     ensures stopped { IfErr result (NamesEnded ran.new.log) }
     ensures same { IsTrue F.Log.tells → (n : List ℕ) → F.bytes files.new n ≡ F.bytes files.old n }
     ensures file_count { F.faults files.old ≤ F.faults files.new }
@@ -317,16 +245,25 @@ where
 {
     all_held::<S::Disk, F::Log>();
     all_met::<S::Disk, F::Log>();
-    let Built {
-        topology,
-        nodes,
-        parts,
-    } = built;
-    let topology = LentDisk {
-        name: DiskName::Topology,
-        disk: topology.into_disk(),
-    };
-    run_system(
-        rt, alloc, joiners, files, store, plan, gate, ran, topology, nodes, parts,
-    )
+    match build(alloc, config, opened, logs, room) {
+        Ok(built) => {
+            let Built {
+                topology,
+                nodes,
+                parts,
+            } = built;
+            let topology = LentDisk {
+                name: DiskName::Topology,
+                disk: topology.into_disk(),
+            };
+            let joiners = config.joiners;
+            run_system(
+                rt, alloc, joiners, files, store, plan, gate, ran, topology, nodes, parts,
+            )
+        }
+        Err(parts) => {
+            give_parts(files, store, parts);
+            Err(RunFault::Memory)
+        }
+    }
 }

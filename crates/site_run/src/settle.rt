@@ -51,7 +51,6 @@ pub(crate) fn part_all<D, L, N: Parting<D, L>>(
     requires log_room { length parts.logs.items + length nodes.items ≤ vec_capacity parts.logs }
     ensures disks { map as_lent result.0.disks.items ≡ map as_lent parts.disks.items ++ all_from (λ i w. N.disks_of joiners i w.0) 0 nodes.items }
     ensures logs { result.0.logs.items ≡ parts.logs.items ++ all_from (λ i w. N.logs_of w.0) 0 nodes.items }
-    ensures count { length result.0.disks.items ≤ length parts.disks.items + 2 * length nodes.items }
     ensures fault { result.1 ≡ first_fault joiners 0 nodes.items }
 {
     let mut parts = parts;
@@ -134,42 +133,4 @@ pub(crate) fn settle<F: Source, S: Store>(
         Ok(journals) => Ok(Outcome { journals }),
         Err(fault) => Err(fault),
     }
-}
-
-/// Takes the nodes that a run leaves apart, reads the journals back, and gives all back. The first node's fault is told, else one
-/// of reading. The store has so many places; a run leaves no more disks than that, though of disks that don't tell what they
-/// hold no contract of a node says so: what had no place would be dropped, as where memory is wanting.
-pub(crate) fn end_run<F: Source, S: Store, N: Parting<S::Disk, F::Log>>(
-    alloc: Global,
-    files: &mut F,
-    store: &mut S,
-    joiners: u8,
-    parts: Parts<S::Disk, F::Log>,
-    nodes: Vec<(N, Option<NodeFault>)>,
-    places: usize,
-) -> Result<Outcome, RunFault>
-where
-    S::Disk: Drop,
-    requires few { length nodes.items ≤ 255 }
-    requires disk_room { length parts.disks.items + 2 * length nodes.items ≤ vec_capacity parts.disks }
-    requires log_room { length parts.logs.items + length nodes.items ≤ vec_capacity parts.logs }
-    requires places { places ≤ S.places_left store.old }
-    ensures left { IsTrue S.Disk.tells → length (map as_lent parts.disks.items ++ all_from (λ i w. N.disks_of joiners i w.0) 0 nodes.items) ≤ places → (name : DiskName) (c : List ℕ) → S.image store.new name c → MayBeLeft S.Disk.image (S.image store.old) (map as_lent parts.disks.items ++ all_from (λ i w. N.disks_of joiners i w.0) 0 nodes.items) name c }
-    ensures notes { IfOk result (λ outcome. AreKeptIn S.Disk.tells S.Disk.image KeepsNotes (lent_replicas (map as_lent parts.disks.items ++ all_from (λ i w. N.disks_of joiners i w.0) 0 nodes.items)) outcome.journals.notes.items) }
-    ensures pairs { IfOk result (λ outcome. AreKeptIn S.Disk.tells S.Disk.image KeepsPairs (lent_outputs (map as_lent parts.disks.items ++ all_from (λ i w. N.disks_of joiners i w.0) 0 nodes.items)) outcome.journals.pairs.items) }
-    ensures whole { IfOk result (λ outcome. first_fault joiners 0 nodes.items ≡ None) }
-    ensures told { IfErr result (λ f. ((first_fault joiners 0 nodes.items ≡ Some f) × (length (map as_lent parts.disks.items ++ all_from (λ i w. N.disks_of joiners i w.0) 0 nodes.items) ≤ places)) ⊎ ((f ≡ RunFault.Memory) ⊎ ((first_fault joiners 0 nodes.items ≡ None) × IsOfDisks S.Disk.tells S.Disk.image (map as_lent parts.disks.items ++ all_from (λ i w. N.disks_of joiners i w.0) 0 nodes.items) (Rose (S.faults store.old) (S.faults store.new)) f))) }
-    ensures disks { length (map as_lent parts.disks.items ++ all_from (λ i w. N.disks_of joiners i w.0) 0 nodes.items) ≤ places → (l : Lent S.Disk) → Mem l (map as_lent parts.disks.items ++ all_from (λ i w. N.disks_of joiners i w.0) 0 nodes.items) → 1 ≤ S.Disk.faults l.disk → Rose (S.faults store.old) (S.faults store.new) }
-    ensures logs { (l : F.Log) → Mem l (parts.logs.items ++ all_from (λ i w. N.logs_of w.0) 0 nodes.items) → 1 ≤ F.Log.faults l → Rose (F.faults files.old) (F.faults files.new) }
-    ensures same { IsTrue F.Log.tells → (n : List ℕ) → F.bytes files.new n ≡ F.bytes files.old n }
-    ensures file_count { F.faults files.old ≤ F.faults files.new }
-    ensures store_count { S.faults store.old ≤ S.faults store.new }
-{
-    let (mut parts, fault) = part_all(nodes, joiners, parts);
-    if places < parts.disks.len() {
-        parts.disks.truncate(places);
-        give_parts(files, store, parts);
-        return Err(RunFault::Memory);
-    }
-    settle(alloc, files, store, parts, fault)
 }

@@ -24,7 +24,7 @@ ghost use Rattle.site_run.specs.Out.{AreOut};
 use crate::built::{Parting, Parts, apart};
 use crate::disk_laws::none_stops;
 use crate::nodes::{SystemNode, run_nodes};
-use crate::settle::{end_run, give_parts};
+use crate::settle::{give_parts, part_all, settle};
 use crate::{Outcome, Ran, RunFault, RunLog};
 use lossy_link::{Kind, Plan};
 use outside::{Gate, Source, Store};
@@ -62,14 +62,6 @@ fn kinds(joiners: u8) -> &'static [Kind]
     &KINDS[..7 + 2 * usize::from(joiners)]
 }
 
-// How many disks a store has, with so many joiners a site.
-fn disk_count(joiners: u8) -> usize
-    requires { joiners ≤ 4 }
-    ensures { result ≡ 10 + 4 * joiners }
-{
-    10 + 4 * usize::from(joiners)
-}
-
 /// Runs nodes until all are at rest or one has a fault, takes them apart, reads the journals back, and gives all back with the
 /// topology's disk. `ran` gets the history, nothing where there was no memory to begin.
 pub(crate) fn run_system<R, F, S, G, N>(
@@ -98,8 +90,7 @@ where
     requires up { All (λ n. N.waits n ≡ false) nodes.items }
     requires empty { (parts.disks.items ≡ []) × (parts.logs.items ≡ []) }
     requires room { (15 + 4 * joiners ≤ vec_capacity parts.disks) × (7 + 2 * joiners ≤ vec_capacity parts.logs) }
-    requires places { 10 + 4 * joiners ≤ S.places_left store.old }
-    requires disks { 1 + length (all_from (N.disks_of joiners) 0 nodes.items) ≤ 10 + 4 * joiners }
+    requires places { 1 + length (all_from (N.disks_of joiners) 0 nodes.items) ≤ S.places_left store.old }
     requires none { ran.old.log ≡ None }
     // Where no run began each disk is given back as it was.
     ensures idle { IsTrue S.Disk.tells → ran.new.log ≡ None → (disk : DiskName) (c : List ℕ) → S.image store.new disk c → MayBeLeft S.Disk.image (S.image store.old) (as_lent topology ∷ all_from (N.disks_of joiners) 0 nodes.items) disk c }
@@ -139,15 +130,8 @@ where
                 ..
             } = left;
             ran.log = Some(RunLog { air, seen });
-            end_run(
-                alloc,
-                files,
-                store,
-                joiners,
-                parts,
-                nodes,
-                disk_count(joiners),
-            )
+            let (parts, fault) = part_all(nodes, joiners, parts);
+            settle(alloc, files, store, parts, fault)
         }
         Err(back) => {
             let (_, nodes) = back;

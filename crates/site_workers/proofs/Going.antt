@@ -4,8 +4,8 @@ use Rattle.std.specs.Prelude.{All, IsTrue, IsSome}
 use mathlib.Core.Logic.{dite}
 use mathlib.Core.List.{map-append}
 use native.Mathlib.Decide.{ℕ_discrete}
-use Rattle.std.proofs.lemmas.List.{append-nil, length-map, get_or-map, get_or_append_left, get_or_push, ext_get_or}
-use Rattle.std.proofs.Common.{length-append}
+use Rattle.std.proofs.lemmas.List.{length-map, get_or-map, get_or_append_left, get_or_push, ext_get_or}
+use Rattle.std.proofs.Common.{[], length-append}
 use Rattle.air_bus.specs.declared.entry.Entry.{Entry}
 use Rattle.air_bus.specs.declared.entry.Input.{Input}
 use Rattle.air_bus.specs.declared.entry.Phase.{Phase}
@@ -14,32 +14,24 @@ use Rattle.bus_seat.specs.Views.{count, made_by}
 use Rattle.bus_seat.specs.Seats.{BusId, Sight, fresh, fresh_to, fresh_seats, tag, TakesPart, AreSeatsOf, IsIn}
 use Rattle.bus_seat.proofs.Closing.{snoc_injective, fresh_count}
 use Rattle.site_node.specs.declared.kind.NodeFault.{NodeFault}
-use Rattle.site_workers.specs.Works.{WorkerView, LeadsOn, GrowsOn, Grew, HasMet}
+use Rattle.site_workers.specs.Works.{WorkerView, LeadsOn, GrowsOn, HasMet}
 use Rattle.site_workers.specs.Rounds.{WentOn, AllWentOn, Walked, WentFar, Rests, OneHasFault, HasFault}
-use Rattle.site_workers.proofs.Stepping.{leads_on, leads_nowhere, grows_on, grows_nowhere, grew_on}
+use Rattle.site_workers.proofs.Stepping.{leads_on, grows_on, grew_on}
 
-grew_nowhere : (s : Sight) → Grew s s
-grew_nowhere s = record { bus = refl; number = refl; seen = ([], append-nil s.seen); mine = ([], append-nil s.mine) }
-
-module _ {N S : Type 0} (tells : Bool) (leads : S → Entry → S → Type 0) (phase_of : S → Phase) (stands : N → S → Type 0) (number : N → ℕ) (spends : S → Input → Option ℕ) (grown : N → N → Type 0) where
+module _ {N S : Type 0} (tells : Bool) (leads : S → Entry → S → Type 0) (phase_of : S → Phase) (stands : N → S → Type 0) (number : N → ℕ) (spends : S → Input → Option ℕ) (grown : N → N → Type 0) (disk_count : N → ℕ) where
   abbrev Went : WorkerView N → WorkerView N → Type 0
-  Went = WentOn tells leads phase_of stands number spends grown
+  Went = WentOn tells leads phase_of stands number spends grown disk_count
 
   abbrev AllWent : List (WorkerView N) → List (WorkerView N) → Type 0
-  AllWent = AllWentOn tells leads phase_of stands number spends grown
-
-  pub went_nowhere : (v : WorkerView N) → Went v v
-  went_nowhere v = record { grew = grew_nowhere v.seat; leads_on = λ t. leads_nowhere leads phase_of stands number spends v.node v.fault v.seat.mine; grows_on = λ t. grows_nowhere leads phase_of stands number spends grown v.node v.fault v.seat.mine }
+  AllWent = AllWentOn tells leads phase_of stands number spends grown disk_count
 
   pub went_on : (u v w : WorkerView N) → Went u v → Went v w → Went u w
   went_on u v w a b = record {
     grew = grew_on u.seat v.seat w.seat a.grew b.grew;
+    disks = b.disks ∙ a.disks;
     leads_on = λ t. leads_on leads phase_of stands number spends u.node v.node w.node u.fault v.fault w.fault u.seat.mine v.seat.mine w.seat.mine (a.leads_on t) (b.leads_on t);
     grows_on = λ t. grows_on leads phase_of stands number spends grown u.node v.node w.node u.fault v.fault u.seat.mine v.seat.mine (a.leads_on t) (a.grows_on t) (b.grows_on t);
   }
-
-  pub all_nowhere : (vs : List (WorkerView N)) → AllWent vs vs
-  all_nowhere vs = record { count = refl; each = λ i d l. went_nowhere (slice_index_or vs i d) }
 
   pub all_on : (us vs ws : List (WorkerView N)) → AllWent us vs → AllWent vs ws → AllWent us ws
   all_on us vs ws a b = record {
@@ -80,7 +72,7 @@ front_count bus front is = ap length is ∙ fresh_count bus (count bus.base)
 pub front_at : (bus : BusId) (front : List Sight) (i : ℕ) (d : Sight) → front ≡ fresh_to bus (count bus.base) → i < (count bus.base) → get_or front i d ≡ fresh bus (Some i)
 front_at bus front i d is l = ap (λ (xs : List Sight). get_or xs i d) is ∙ fresh_at bus (count bus.base) i d l
 
-module _ {N S : Type 0} (tells : Bool) (leads : S → Entry → S → Type 0) (phase_of : S → Phase) (stands : N → S → Type 0) (number : N → ℕ) (spends : S → Input → Option ℕ) (grown : N → N → Type 0)
+module _ {N S : Type 0} (tells : Bool) (leads : S → Entry → S → Type 0) (phase_of : S → Phase) (stands : N → S → Type 0) (number : N → ℕ) (spends : S → Input → Option ℕ) (grown : N → N → Type 0) (disk_count : N → ℕ)
     (bus : BusId) (nodes : List N) (front : List Sight) (ws us : List (WorkerView N))
     (nodes_are : map (λ (w : WorkerView N). w.node) ws ≡ nodes) (seats_are : map (λ (w : WorkerView N). w.seat) ws ≡ front) (front_is : front ≡ fresh_to bus (count bus.base)) where
   hired_count : length ws ≡ (count bus.base)
@@ -98,7 +90,7 @@ module _ {N S : Type 0} (tells : Bool) (leads : S → Entry → S → Type 0) (p
   pub hired_buses : (i : ℕ) (d : WorkerView N) → i < length ws → (get_or ws i d).seat.bus ≡ bus
   hired_buses i d l = ap (λ (s : Sight). s.bus) (hired_seat i d l)
 
-  module _ (went : AllWentOn tells leads phase_of stands number spends grown ws us) where
+  module _ (went : AllWentOn tells leads phase_of stands number spends grown disk_count ws us) where
     ended_tag : (i : ℕ) (d : WorkerView N) → i < length us → tag (get_or us i d).seat ≡ (bus, Some i)
     ended_tag i d l =
         let inside : i < length ws = omega (arith, l, went.count) in
@@ -182,6 +174,12 @@ module _ {N S : Type 0} (tells : Bool) (leads : S → Entry → S → Type 0) (p
             subst (λ (n : N). GrowsOn leads phase_of stands number spends grown n None [] w.node) (hired_node i d a l) from
             in
             subst (λ (x : N × Option NodeFault). GrowsOn leads phase_of stands number spends grown (get_or nodes i a) None [] x.0) (sym (left_at i d b inside)) at
+
+        -- and has as many as it had
+        pub all_disks : (i : ℕ) (a : N) (b : N × Option NodeFault) → i < length ws → disk_count (get_or left i b).0 ≡ disk_count (get_or nodes i a)
+        all_disks i a b l =
+            let d = some_of ws i l in
+            ap (λ (x : N × Option NodeFault). disk_count x.0) (left_at i d b (omega (arith, l, went.count))) ∙ (went.each i d l).disks ∙ ap disk_count (hired_node i d a l)
 
         abbrev parted : WorkerView N → N × Option NodeFault
         parted w = (w.node, w.fault)

@@ -4,15 +4,13 @@ use Rattle.std.specs.Prelude.{IfSome}
 use mathlib.Core.List.{IsPrefix}
 use Rattle.std.specs.List.{list_any}
 use Rattle.std.proofs.lemmas.Bool.{ltb-true, ltb-false}
-use Rattle.std.proofs.lemmas.List.{append-nil}
 use Rattle.std.proofs.lemmas.List.Elements.{filter-append}
 use Rattle.outside.specs.declared.store.DiskName.{DiskName}
-use Rattle.outside.specs.Faults.{Rose}
 use Rattle.air_bus.specs.declared.entry.Entry.{Entry}
-use Rattle.air_bus.specs.declared.entry.Entry.TheVariants.{Begin, End, Stop}
+use Rattle.air_bus.specs.declared.entry.Entry.TheVariants.{Begin, End}
 use Rattle.air_bus.specs.declared.entry.Input.{Input}
 use Rattle.air_bus.specs.declared.entry.Phase.{Phase}
-use Rattle.air_bus.specs.declared.entry.Phase.TheVariants.{Down, Idle, Busy}
+use Rattle.air_bus.specs.declared.entry.Phase.TheVariants.{Busy}
 use Rattle.air_bus.specs.Copies.{Copy}
 use Rattle.air_bus.specs.History.{phase, phase_after, node_of, next_input}
 use Rattle.air_bus.proofs.Phases.{phase_here}
@@ -25,10 +23,6 @@ use Rattle.site_workers.specs.Works.{WorkerView, Path, StandsAt, LeadsOn, Reache
 pub none_of : {A : Type 0} (o : Option A) (b : Bool) → b ≡ is_some o → b ≡ false → o ≡ None
 none_of None b is off = refl
 none_of (Some x) b is off = absurd (cc (is, off))
-
--- a count that rose isn't 0
-pub rose_some : (old new : ℕ) → Rose old new → 1 ≤ new
-rose_some old new rose = omega (arith, rose)
 
 -- one path after another
 path_on : {S : Type 0} (leads : S → Entry → S → Type 0) (s t u : S) (es fs : List Entry) → Path leads s es t → Path leads t fs u → Path leads s (es ++ fs) u
@@ -60,18 +54,12 @@ module _ {N S : Type 0} (leads : S → Entry → S → Type 0) (phase_of : S →
       → LeadsOn leads phase_of stands number spends u.node u.fault u.seat.mine w after new
   leads_from v u w after new is led = subst (λ (x : WorkerView N). LeadsOn leads phase_of stands number spends x.node x.fault x.seat.mine w after new) is led
 
-  pub leads_nowhere : (v : N) (before : Option NodeFault) (old : List Entry) → LeadsOn leads phase_of stands number spends v before old v before old
-  leads_nowhere v before old s at = ([], s, sym (append-nil old), refl, at)
-
 -- some steps after some others
 pub reached_on : {N : Type 0} (grown : N → N → Type 0) (u v w : N) (k n : ℕ) → Reached grown k u v → Reached grown n v w → (m : ℕ) × Reached grown m u w
 reached_on grown u v w k zero first next = (k, subst (Reached grown k u) next first)
 reached_on grown u v w k (suc n) first next = let before = reached_on grown u v next.0 k n first next.1 in (suc before.0, (next.0, before.1, next.2))
 
--- one step, and two
-pub reached_one : {N : Type 0} (grown : N → N → Type 0) (v w : N) → grown v w → (k : ℕ) × Reached grown k v w
-reached_one grown v w g = (1, (v, refl, g))
-
+-- two steps
 pub reached_two : {N : Type 0} (grown : N → N → Type 0) (u v w : N) → grown u v → grown v w → (k : ℕ) × Reached grown k u w
 reached_two grown u v w g h = (2, (v, (u, refl, g), h))
 
@@ -83,9 +71,6 @@ module _ {N S : Type 0} (leads : S → Entry → S → Type 0) (phase_of : S →
       let a = first s at in
       let b = next there.1 there.4 in
       reached_on grown v x w a.0 b.0 a.1 b.1
-
-  pub grows_nowhere : (v : N) (before : Option NodeFault) (old : List Entry) → GrowsOn leads phase_of stands number spends grown v before old v
-  grows_nowhere v before old s at = (0, refl)
 
   -- of the same worker, seen by its parts
   pub grows_from : (v u : WorkerView N) (w : N) → v ≡ u → GrowsOn leads phase_of stands number spends grown v.node v.fault v.seat.mine w → GrowsOn leads phase_of stands number spends grown u.node u.fault u.seat.mine w
@@ -116,9 +101,6 @@ module _ (n : ℕ) (v w : Sight) (i : Input) (wants tick : Bool) (whose : v.numb
   pub given : (p : Phase) → p ≡ phase n v.mine → next_input p next tick wants ≡ Some i
   unfolding next
   given p is = ap (λ q. next_input q next tick wants) is ∙ begins.3
-
-  pub has_opened : phase n w.mine ≡ Busy
-  has_opened = ap (phase n) grew ∙ phase_here v.mine (Begin n i) n refl
 
   pub saw : IsPrefix v.seen w.seen
   saw = (begins.0 ++ Begin n i ∷ [], sym (begins.1 ∙ append_assoc v.seen begins.0 (Begin n i ∷ [])))
@@ -151,15 +133,6 @@ ended_by n v w noted packets is did =
     let t = subst (λ o. IfSome o (λ m. (kept : ℕ) × (kept ≤ length packets) × Adds v (End m noted packets kept) w)) is did in
     (t.0, t.1, adds_closes n v w (End n noted packets t.0) refl t.2)
 
-pub stopped_by : (n : ℕ) (v w : Sight) (landed : Option (List ℕ)) → v.number ≡ Some n → IfSome v.number (λ m. Adds v (Stop m landed) w) → Closed n v w (Stop n landed)
-stopped_by n v w landed is did = adds_closes n v w (Stop n landed) refl (subst (λ o. IfSome o (λ m. Adds v (Stop m landed) w)) is did)
-
-pub idle_up : Idle ≢ Busy
-idle_up e = absurd (cc e)
-
-pub idle_down : Down ≢ Busy
-idle_down e = absurd (cc e)
-
 pub not_open : (p q : Phase) → p ≡ q → q ≢ Busy → p ≢ Busy
 not_open p q is ne busy = ne (sym is ∙ busy)
 
@@ -170,9 +143,6 @@ counted_more es e = ap length (filter-append is_stop es (e ∷ [])) ∙ length-a
 
 pub counted_same : (new old : List Entry) (e : Entry) → new ≡ old ++ e ∷ [] → stop_count (e ∷ []) ≡ 0 → stop_count new ≡ stop_count old
 counted_same new old e is none = let more = ap stop_count is ∙ counted_more old e in omega (arith, more, none)
-
-pub counted_one : (new old : List Entry) (e : Entry) → new ≡ old ++ e ∷ [] → stop_count (e ∷ []) ≡ 1 → stop_count new ≡ stop_count old + 1
-counted_one new old e is one = let more = ap stop_count is ∙ counted_more old e in omega (arith, more, one)
 
 -- ---- what is told of a fault
 

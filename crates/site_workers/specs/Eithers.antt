@@ -1,5 +1,5 @@
 -- A node of one of two kinds: what is said of the one, or of the other.
-use Rattle.std.proofs.Common.{◌≡◌, ◌≢◌, ◌⊎◌, inl, inr, ℕ, Bool, true, false, ◌&&◌, Option, Some, refl}
+use Rattle.std.proofs.Common.{◌≡◌, ◌≢◌, ◌⊎◌, inl, inr, ℕ, Bool, true, false, ◌&&◌, List, length, Option, Some, refl}
 use Rattle.std.specs.Prelude.{IsTrue}
 use Rattle.air_bus.specs.declared.entry.Entry.{Entry}
 use Rattle.air_bus.specs.declared.entry.Entry.TheVariants.{Begin}
@@ -16,6 +16,11 @@ use Rattle.site_workers.specs.declared.either.Either.TheVariants as node
 abbrev pub by : {A B C : Type 0} → (A → C) → (B → C) → Either A B → C
 by f g (node.First a) = f a
 by f g (node.Second b) = g b
+
+-- as many of each as it has
+pub counted : {A B X : Type 0} (f : A → List X) (g : B → List X) (m : A → ℕ) (n : B → ℕ) → ((a : A) → length (f a) ≡ m a) → ((b : B) → length (g b) ≡ n b) → (v : Either A B) → length (by f g v) ≡ by m n v
+counted f g m n first second (node.First a) = first a
+counted f g m n first second (node.Second b) = second b
 
 -- what is said of a node and one thing more, which is of its kind
 abbrev pub at : {A B S T : Type 0} → (A → S → Type 0) → (B → T → Type 0) → Either A B → S ⊎ T → Type 0

@@ -36,6 +36,8 @@ impl<A: SiteNode, B: SiteNode> SiteNode for Either<A, B> {
 
     ghost number = { either.by A.number B.number };
 
+    ghost disk_count = { either.by A.disk_count B.disk_count };
+
     ghost waits = { either.by A.waits B.waits };
 
     ghost stands = { either.at A.stands B.stands };

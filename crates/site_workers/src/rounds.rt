@@ -74,6 +74,8 @@ pub fn run<R: Threads + Wait + Sync, N: SiteNode + Send + Drop, G: Gate>(
     // And its disks, whatever a stop leaves of them, have gone on from where they were.
     ensures grown { IsTrue N.tells → IfOk result (λ r. (i : ℕ) (a : N) (b : _) → i < length nodes.items →
         WentFar N.leads N.phase_of N.stands N.number N.spends N.grown (slice_index_or nodes.items i a) (slice_index_or r.nodes.items i b)) }
+    // It has as many disks as it had.
+    ensures disks { IfOk result (λ r. (i : ℕ) (a : N) (b : _) → i < length nodes.items → N.disk_count (slice_index_or r.nodes.items i b).0 ≡ N.disk_count (slice_index_or nodes.items i a)) }
     // A node has a fault where not all are at rest. Its cause is met where it is one of disks or of a log.
     ensures fault { IfOk result (λ r. r.rest ≡ false → HasFault r.nodes.items) }
     ensures caused { IfOk result (λ r. AreCaused N.faults N.log_faults r.nodes.items) }
@@ -149,6 +151,7 @@ fn run_on<R: Threads + Wait + Sync, N: SiteNode + Send + Drop, G: Gate>(
         Walked N.leads N.phase_of N.stands N.number N.spends (slice_index_or nodes.items i a) (slice_index_or result.nodes.items i b) i result.air.history }
     ensures grown { IsTrue N.tells → (i : ℕ) (a : N) (b : _) → i < length nodes.items →
         WentFar N.leads N.phase_of N.stands N.number N.spends N.grown (slice_index_or nodes.items i a) (slice_index_or result.nodes.items i b) }
+    ensures disks { (i : ℕ) (a : N) (b : _) → i < length nodes.items → N.disk_count (slice_index_or result.nodes.items i b).0 ≡ N.disk_count (slice_index_or nodes.items i a) }
     ensures fault { result.rest ≡ false → HasFault result.nodes.items }
     ensures caused { AreCaused N.faults N.log_faults result.nodes.items }
     ensures met { (i : ℕ) (b : _) → i < length nodes.items → HasMet N.faults (slice_index_or result.nodes.items i b).0 (slice_index_or result.nodes.items i b).1 (made_by i result.air.history) }
@@ -252,7 +255,7 @@ fn rounds_of<R: Threads + Wait + Sync, N: SiteNode + Send + Drop, G: Gate>(
     requires buses { All (λ (w : WorkerView N). w.seat.bus ≡ bus.now) workers.items }
     requires last { last.old.bus ≡ bus.now }
     ensures last { (last.new.bus ≡ last.old.bus) × (last.new.number ≡ last.old.number) }
-    ensures went { AllWentOn N.tells N.leads N.phase_of N.stands N.number N.spends N.grown workers.items result.0.items }
+    ensures went { AllWentOn N.tells N.leads N.phase_of N.stands N.number N.spends N.grown N.disk_count workers.items result.0.items }
     ensures rest { IsTrue result.1 → All (λ (w : WorkerView N). TakesPart w.seat → Rests N.number N.stands N.at_rest_as (w.node, w.fault) w.seat.mine) result.0.items }
     ensures fault { result.1 ≡ false → OneHasFault result.0.items }
 {
@@ -270,7 +273,7 @@ fn rounds<R: Threads + Wait + Sync, N: SiteNode + Send, G: Gate>(
     requires buses { All (λ (w : WorkerView N). w.seat.bus ≡ bus.now) workers.old }
     requires last { last.old.bus ≡ bus.now }
     ensures last { (last.new.bus ≡ last.old.bus) × (last.new.number ≡ last.old.number) }
-    ensures went { AllWentOn N.tells N.leads N.phase_of N.stands N.number N.spends N.grown workers.old workers.new }
+    ensures went { AllWentOn N.tells N.leads N.phase_of N.stands N.number N.spends N.grown N.disk_count workers.old workers.new }
     ensures rest { IsTrue result → All (λ (w : WorkerView N). TakesPart w.seat → Rests N.number N.stands N.at_rest_as (w.node, w.fault) w.seat.mine) workers.new }
     ensures fault { result ≡ false → OneHasFault workers.new }
 {
@@ -297,7 +300,7 @@ fn round<R: Threads + Wait + Sync, N: SiteNode + Send, G: Gate>(
     tick: bool,
 )
     requires { All (λ (w : WorkerView N). w.seat.bus ≡ bus.now) workers.old }
-    ensures { AllWentOn N.tells N.leads N.phase_of N.stands N.number N.spends N.grown workers.old workers.new }
+    ensures { AllWentOn N.tells N.leads N.phase_of N.stands N.number N.spends N.grown N.disk_count workers.old workers.new }
 {
     let threads = workers.len().max(1);
     bus.round().open();
@@ -307,7 +310,7 @@ fn round<R: Threads + Wait + Sync, N: SiteNode + Send, G: Gate>(
         threads,
         &|_, worker: &mut Worker<N>|
             requires { worker.old.seat.bus ≡ bus.now }
-            ensures { WentOn N.tells N.leads N.phase_of N.stands N.number N.spends N.grown worker.old worker.new }
+            ensures { WentOn N.tells N.leads N.phase_of N.stands N.number N.spends N.grown N.disk_count worker.old worker.new }
         { take_part(rt, bus, gate, worker, tick) },
     );
 }
@@ -321,7 +324,7 @@ fn take_part<R: Wait, N: SiteNode, G: Gate>(
     tick: bool,
 )
     requires { worker.old.seat.bus ≡ bus.now }
-    ensures { WentOn N.tells N.leads N.phase_of N.stands N.number N.spends N.grown worker.old worker.new }
+    ensures { WentOn N.tells N.leads N.phase_of N.stands N.number N.spends N.grown N.disk_count worker.old worker.new }
 {
     bus.round().enter();
     if tick {

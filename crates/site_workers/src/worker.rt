@@ -126,6 +126,7 @@ impl<N: SiteNode> Worker<N> {
     pub fn work<R: Wait, G: Gate>(&mut self, rt: &R, bus: &Bus, gate: &G)
         requires { self.old.seat.bus ≡ bus.now }
         ensures grew { Grew self.old.seat self.new.seat }
+        ensures disks { N.disk_count self.new.node ≡ N.disk_count self.old.node }
         ensures leads { IsTrue N.tells → LeadsOn N.leads N.phase_of N.stands N.number N.spends self.old.node self.old.fault self.old.seat.mine self.new.node self.new.fault self.new.seat.mine }
         ensures grows { IsTrue N.tells → GrowsOn N.leads N.phase_of N.stands N.number N.spends N.grown self.old.node self.old.fault self.old.seat.mine self.new.node }
     {
@@ -141,6 +142,7 @@ impl<N: SiteNode> Worker<N> {
     pub fn step<R: Wait, G: Gate>(&mut self, rt: &R, bus: &Bus, gate: &G) -> bool
         requires { self.old.seat.bus ≡ bus.now }
         ensures grew { Grew self.old.seat self.new.seat }
+        ensures disks { N.disk_count self.new.node ≡ N.disk_count self.old.node }
         ensures leads { IsTrue N.tells → LeadsOn N.leads N.phase_of N.stands N.number N.spends self.old.node self.old.fault self.old.seat.mine self.new.node self.new.fault self.new.seat.mine }
         ensures grows { IsTrue N.tells → GrowsOn N.leads N.phase_of N.stands N.number N.spends N.grown self.old.node self.old.fault self.old.seat.mine self.new.node }
     {
@@ -208,6 +210,7 @@ fn close<N: SiteNode, R: Wait, G: Gate>(
     requires up { N.waits node.old ≡ false }
     requires busy { phase (N.number node.old) seat.old.mine ≡ Busy }
     ensures number { N.number node.new ≡ N.number node.old }
+    ensures disks { N.disk_count node.new ≡ N.disk_count node.old }
     ensures grew { Grew seat.old seat.new }
     ensures idle { OnOk result (IsIdle (N.number node.new) (N.waits node.new) seat.new) }
     ensures same { OnErr result (seat.new ≡ seat.old) }

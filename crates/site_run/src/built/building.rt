@@ -3,13 +3,12 @@ ghost use Rattle.std.specs.Prelude.{◌≡◌, ◌≤◌, ◌<◌, ◌+◌, ◌*
 ghost use Rattle.std.specs.List.{All};
 ghost use Rattle.std.specs.List.Sorted.{IsPermutation};
 ghost use Rattle.list_words.specs.Lists.{Each};
-ghost use Rattle.log_records.specs.Check.{IsQueryLog};
 ghost use Rattle.turn_defs.specs.Setting.{Setting};
 ghost use Rattle.photon_model.specs.Runs.{Disks};
-ghost use Rattle.dispatch_node.specs.Places.{IsLogOf, AreKeptPlaces};
-ghost use Rattle.registry_server.specs.Cores.{IsNew};
+ghost use Rattle.dispatch_node.specs.Places.{AreKeptPlaces};
 ghost use Rattle.site_store.specs.Refusals.{other_names};
 ghost use Rattle.site_store.specs.Records.{AreRecordsOf, kept_all, lent_all, topology_lent};
+ghost use Rattle.site_run.specs.Asked.{AreLogsOf};
 ghost use Rattle.site_run.specs.Running.{AreDownOver};
 ghost use Rattle.site_run.specs.Naming.{as_lent, all_from};
 
@@ -53,8 +52,7 @@ pub fn build<D: Disk, L: LogFile>(
     ensures numbers { IfOk result (λ b. (i : ℕ) (d : _) → i < length b.nodes.items → ⟦<AnyNode<D, L> as SiteNode>⟧.number (slice_index_or b.nodes.items i d) ≡ i) }
     ensures up { IfOk result (λ b. All (λ n. ⟦<AnyNode<D, L> as SiteNode>⟧.waits n ≡ false) b.nodes.items) }
     // Each node is down over what its own disks keep.
-    ensures places { IsTrue D.tells → (g : Setting) (d : Disks) → IsNew g config.now.joiners config.now.horizon config.now.table config.now.batch
-        → Each (λ l. IsLogOf (L.bytes l) g) logs.clicks.items → Each (λ l. IsQueryLog (L.bytes l) g.queries) logs.queries_a.items → Each (λ l. IsQueryLog (L.bytes l) g.queries) logs.queries_b.items
+    ensures places { IsTrue D.tells → (g : Setting) (d : Disks) → AreLogsOf L.bytes logs.clicks.items logs.queries_a.items logs.queries_b.items config.now g
         → AreRecordsOf g (kept_all opened.disks.items) d → ((s : ℕ) → s < 2 → AreKeptPlaces g (d.dispatchers s)) → IfOk result (λ b. AreDownOver ⟦<AnyNode<D, L> as SystemNode>⟧.places g d b.nodes.items) }
     // Under the names of their places they have the disks that were opened.
     ensures held { IfOk result (λ b. IsPermutation (lent_all opened.disks.items) (all_from (⟦<AnyNode<D, L> as Parting<D, L>>⟧.disks_of config.now.joiners) 0 b.nodes.items)) }

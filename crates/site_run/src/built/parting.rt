@@ -1,5 +1,5 @@
 // Nodes are taken apart.
-ghost use Rattle.std.specs.Prelude.{◌≡◌, ◌≤◌, ◌<◌, ◌+◌, ◌*◌, ◌++◌, [], ◌∷◌, ℕ, List, map, length, vec_len, vec_capacity};
+ghost use Rattle.std.specs.Prelude.{◌≡◌, ◌≤◌, ◌<◌, ◌+◌, ◌*◌, ◌++◌, [], ◌∷◌, ℕ, List, map, length, vec_len, vec_capacity, refl};
 ghost use Rattle.site_store.specs.Lent.{Lent};
 ghost use Rattle.site_run.specs.Naming.{as_lent, all_from, of_dispatcher, of_server, of_replica, of_joiner, place_of, site_of, joiner_of};
 ghost use Rattle.site_workers.specs.Eithers as either;
@@ -7,10 +7,11 @@ ghost use Rattle.site_workers.specs.Eithers as either;
 use crate::built::Parts;
 use crate::nodes::AnyNode;
 use outside::{Disk, DiskName, LogFile};
+use site_node::SiteNode;
 use site_workers::Either;
 
 /// A kind of node that is taken apart into disks under their names, and logs.
-pub trait Parting<D, L> {
+pub trait Parting<D, L>: SiteNode {
     /// Its disks under the names that it has with so many joiners a site and this number.
     ghost disks_of: { ℕ → ℕ → Self → List (Lent D) };
 
@@ -27,6 +28,9 @@ pub trait Parting<D, L> {
         ensures log_count { length parts.new.logs.items ≤ length parts.old.logs.items + 1 }
         ensures disk_room { vec_capacity parts.new.disks ≡ vec_capacity parts.old.disks }
         ensures log_room { vec_capacity parts.new.logs ≡ vec_capacity parts.old.logs };
+
+    /// There are as many of its disks under their names as it has.
+    ghost counted: { (joiners number : ℕ) (node : Self) → length (disks_of joiners number node) ≡ Self.disk_count node };
 }
 
 /// The name of a joiner's disk, by its number.
@@ -47,6 +51,10 @@ impl<D: Disk, L: LogFile> Parting<D, L> for AnyNode<D, L> {
         (either.by (λ r. of_replica number r.journal.disk) (λ j. of_joiner joiners number j.disks.epochs.journal.disk j.disks.log.journal.disk)) any.node };
 
     ghost logs_of = { λ any. either.by (either.by (λ d. d.clicks.tail.log ∷ []) (λ s. [])) (either.by (λ r. []) (λ j. j.joining.queries.store.tail.log ∷ [])) any.node };
+
+    ghost counted = { λ joiners number any. either.counted _ _ _ _
+        (either.counted _ _ _ _ (λ d. refl) (λ s. refl))
+        (either.counted _ _ _ _ (λ r. refl) (λ j. refl)) any.node };
 
     fn part(self, joiners: u8, number: u8, parts: &mut Parts<D, L>) {
         match self.node {

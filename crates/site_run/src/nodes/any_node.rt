@@ -46,6 +46,8 @@ impl<D: Disk, L: LogFile> SiteNode for AnyNode<D, L> {
 
     ghost number = { λ any. ⟦<Nested<D, L> as SiteNode>⟧.number any.node };
 
+    ghost disk_count = { λ any. ⟦<Nested<D, L> as SiteNode>⟧.disk_count any.node };
+
     ghost waits = { λ any. ⟦<Nested<D, L> as SiteNode>⟧.waits any.node };
 
     ghost stands = { λ any. ⟦<Nested<D, L> as SiteNode>⟧.stands any.node };

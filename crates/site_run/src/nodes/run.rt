@@ -42,6 +42,7 @@ pub fn run_nodes<R: Threads + Wait + Sync, N: SystemNode + Send + Drop, G: Gate>
     // The history begins with all that was seen with a seat, and has of its number just what was made with it.
     ensures lists { IfOk result (λ r. All (IsIn r.air.history) r.seen.items) }
     ensures count { IfOk result (λ r. length r.nodes.items ≡ length nodes.items) }
+    ensures disks { IfOk result (λ r. (i : ℕ) (a : N) (b : _) → i < length nodes.items → N.disk_count (slice_index_or r.nodes.items i b).0 ≡ N.disk_count (slice_index_or nodes.items i a)) }
     // The history is a run of the whole system, from whatever records its nodes were opened over.
     ensures run { IsTrue N.tells → (g : Setting) (d : Disks) → node_count g ≡ length kinds.now → DeadAreReplicas g plan kinds.now → AreDownOver N.places g d nodes.items
         → IfOk result (λ r. IsRunFrom N.places g d r.air.history r.nodes.items r.rest) }

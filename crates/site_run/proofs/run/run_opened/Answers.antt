@@ -1,50 +1,58 @@
-use Rattle.std.proofs.Common.{◌≡◌, ◌+◌, ◌*◌, length, map, sym, ap, subst, arith}
+use Rattle.std.proofs.Common.{◌≡◌, ◌+◌, ◌*◌, length, map, sym, ap, ◌∙◌, subst, arith}
 use Rattle.std.proofs.lemmas.List.{length-map}
+use Rattle.std.proofs.lemmas.Result.{IfErr-weaker}
 use Rattle.site_store.specs.Records.{topology_lent}
 use Rattle.site_run.specs.Naming.{as_lent}
 use Rattle.site_run.specs.Asked.{IsRosterOf}
 use Rattle.site_run.specs.Laws.{KeepsItsRecord}
 use Rattle.site_run.specs.Left.{HasRun}
 use Rattle.site_run.proofs.Entered.{none_left}
+use Rattle.site_run.proofs.Holding.{all_tell}
 use Rattle.site_run.proofs.Opened.{room_for, fits_behind, may_same, out_same}
 use Rattle.site_run.proofs.Outing.{moved_out, may_moved, may_behind, given_goes_on}
 use Rattle.site_run.proofs.run.run_opened.Goals as goal
 
-pub run_built-requires-clause-disks : goal.run_built-requires-clause-disks
-run_built-requires-clause-disks g c κs within =
-    fits_behind {D = g.row.S-Disk.Denot} c.args.opened.disks.items c.args.config.now.joiners c.requires.joiners.1 c.requires.named _ c.in-Ok.ensures.held
+pub run_system-requires-clause-places : goal.run_system-requires-clause-places
+run_system-requires-clause-places g c κs within =
+    omega (arith, fits_behind {D = g.row.S-Disk.Denot} c.args.opened.disks.items c.args.config.now.joiners c.requires.joiners.1 c.requires.named _ c.in-Ok.ensures.held, c.requires.places)
 
 pub returns-in-Ok-clause-idle : goal.returns-in-Ok-clause-idle
 returns-in-Ok-clause-idle g c tells none disk bytes now =
     let image = g.S.Disk.Disk.image in
     let inside = g.S.Store.image c.args.store.now in
     let topology = topology_lent {D = g.row.S-Disk.Denot} c.args.opened.topology.journal.disk in
-    let same = ap (λ t. topology_lent {D = g.row.S-Disk.Denot} t.journal.disk) c.in-Ok.ensures.topology in
-    may_behind image inside topology _ _ c.in-Ok.ensures.held disk bytes (may_same image inside _ _ _ disk bytes same (c.run_built.ensures.idle tells none disk bytes now))
+    let same = ap (λ x. topology_lent {D = g.row.S-Disk.Denot} x) c.into_disk.ensures ∙ ap (λ t. topology_lent {D = g.row.S-Disk.Denot} t.journal.disk) c.in-Ok.ensures.topology in
+    may_behind image inside topology _ _ c.in-Ok.ensures.held disk bytes (may_same image inside _ _ _ disk bytes same (c.run_system.ensures.idle tells none disk bytes now))
 
 pub returns-in-Ok-clause-grown : goal.returns-in-Ok-clause-grown
-returns-in-Ok-clause-grown g c tells log_tells gg new clicks qa qb d records places s out =
+returns-in-Ok-clause-grown g c tells log_tells gg over d records places s out =
     let image = g.S.Disk.Disk.image in
     let inside = g.S.Store.image c.args.store.now in
     let topology = topology_lent {D = g.row.S-Disk.Denot} c.args.opened.topology.journal.disk in
-    let same = ap (λ t. topology_lent {D = g.row.S-Disk.Denot} t.journal.disk) c.in-Ok.ensures.topology in
-    let roster : IsRosterOf gg c.args.config.now.joiners = record { joiners_are = new.joiners; replicas = new.replicas } in
-    c.run_built.ensures.grown tells log_tells gg _ s roster (c.in-Ok.ensures.places tells gg d new clicks qa qb records places)
+    let same = ap (λ x. topology_lent {D = g.row.S-Disk.Denot} x) c.into_disk.ensures ∙ ap (λ t. topology_lent {D = g.row.S-Disk.Denot} t.journal.disk) c.in-Ok.ensures.topology in
+    let roster : IsRosterOf gg c.args.config.now.joiners = record { joiners_are = over.numbers.joiners; replicas = over.numbers.replicas } in
+    c.run_system.ensures.grown tells (all_tell g.S.Disk.Disk.tells g.F.Log.LogFile.tells tells log_tells) gg _ s roster (c.all_held.ensures tells log_tells) (c.in-Ok.ensures.places tells gg d over records places)
     (out_same image (g.S.Store.image s) inside _ _ _ (sym same) (moved_out image (g.S.Store.image s) inside topology _ _ c.in-Ok.ensures.held out))
 
 pub returns-in-Ok-clause-left : goal.returns-in-Ok-clause-left
-returns-in-Ok-clause-left g c tells log_tells gg new clicks qa qb d records places e same_records kept =
+returns-in-Ok-clause-left g c tells log_tells gg over d records places e same_records kept =
     let image = g.S.Disk.Disk.image in
-    let same = ap (λ t. topology_lent {D = g.row.S-Disk.Denot} t.journal.disk) c.in-Ok.ensures.topology in
-    let roster : IsRosterOf gg c.args.config.now.joiners = record { joiners_are = new.joiners; replicas = new.replicas } in
-    c.run_built.ensures.left tells log_tells gg _ e roster (c.in-Ok.ensures.places tells gg d new clicks qa qb records places) same_records (subst (λ t. KeepsItsRecord image gg t) (sym same) kept)
+    let same = ap (λ x. topology_lent {D = g.row.S-Disk.Denot} x) c.into_disk.ensures ∙ ap (λ t. topology_lent {D = g.row.S-Disk.Denot} t.journal.disk) c.in-Ok.ensures.topology in
+    let roster : IsRosterOf gg c.args.config.now.joiners = record { joiners_are = over.numbers.joiners; replicas = over.numbers.replicas } in
+    c.run_system.ensures.left tells (all_tell g.S.Disk.Disk.tells g.F.Log.LogFile.tells tells log_tells) gg _ e roster (c.all_held.ensures tells log_tells) (c.in-Ok.ensures.places tells gg d over records places) same_records (subst (λ t. KeepsItsRecord image gg t) (sym same) kept)
 
 pub returns-in-Ok-clause-rest : goal.returns-in-Ok-clause-rest
-returns-in-Ok-clause-rest g c tells log_tells gg new clicks qa qb d records places e same_records kept =
+returns-in-Ok-clause-rest g c tells log_tells gg over d records places e same_records kept =
     let image = g.S.Disk.Disk.image in
-    let same = ap (λ t. topology_lent {D = g.row.S-Disk.Denot} t.journal.disk) c.in-Ok.ensures.topology in
-    let roster : IsRosterOf gg c.args.config.now.joiners = record { joiners_are = new.joiners; replicas = new.replicas } in
-    c.run_built.ensures.rest tells log_tells gg _ e roster (c.in-Ok.ensures.places tells gg d new clicks qa qb records places) same_records (subst (λ t. KeepsItsRecord image gg t) (sym same) kept)
+    let same = ap (λ x. topology_lent {D = g.row.S-Disk.Denot} x) c.into_disk.ensures ∙ ap (λ t. topology_lent {D = g.row.S-Disk.Denot} t.journal.disk) c.in-Ok.ensures.topology in
+    let roster : IsRosterOf gg c.args.config.now.joiners = record { joiners_are = over.numbers.joiners; replicas = over.numbers.replicas } in
+    c.run_system.ensures.rest tells (all_tell g.S.Disk.Disk.tells g.F.Log.LogFile.tells tells log_tells) gg _ e roster (c.all_held.ensures tells log_tells) c.all_met.ensures (c.in-Ok.ensures.places tells gg d over records places) same_records (subst (λ t. KeepsItsRecord image gg t) (sym same) kept)
+
+pub returns-in-Ok-clause-cause : goal.returns-in-Ok-clause-cause
+returns-in-Ok-clause-cause g c = IfErr-weaker c.run_system.result _ _ (λ f both. both.0) (c.run_system.ensures.cause c.all_met.ensures)
+
+pub returns-in-Ok-clause-welcome : goal.returns-in-Ok-clause-welcome
+returns-in-Ok-clause-welcome g c = IfErr-weaker c.run_system.result _ _ (λ f both. both.1) (c.run_system.ensures.cause c.all_met.ensures)
 
 pub give_parts-requires-after_bounds : goal.give_parts-requires-after_bounds
 give_parts-requires-after_bounds g c =
@@ -57,17 +65,17 @@ returns-in-Err-clause-idle g c tells none disk bytes now =
     may_moved g.S.Disk.Disk.image (g.S.Store.image c.args.store.now) _ _ c.in-Err.ensures.disks disk bytes (c.give_parts.ensures.left tells disk bytes now)
 
 pub returns-in-Err-clause-grown : goal.returns-in-Err-clause-grown
-returns-in-Err-clause-grown g c tells log_tells gg new clicks qa qb d records places s out disk bytes now =
+returns-in-Err-clause-grown g c tells log_tells gg over d records places s out disk bytes now =
     let image = g.S.Disk.Disk.image in
     let inside = g.S.Store.image c.args.store.now in
     given_goes_on image (g.S.Store.image s) inside _ _ out disk bytes (may_moved image inside _ _ c.in-Err.ensures.disks disk bytes (c.give_parts.ensures.left tells disk bytes now))
 
 pub returns-in-Err-clause-left : goal.returns-in-Err-clause-left
-returns-in-Err-clause-left g c tells log_tells gg new clicks qa qb d records places e same kept = none_left (λ l. HasRun gg e l.air.history (g.S.Store.image c.give_parts.new.store)) _ c.requires.none
+returns-in-Err-clause-left g c tells log_tells gg over d records places e same kept = none_left (λ l. HasRun gg e l.air.history (g.S.Store.image c.give_parts.new.store)) _ c.requires.none
 
 pub returns-in-Ok-clause-whole : goal.returns-in-Ok-clause-whole
-returns-in-Ok-clause-whole g c tells log_tells gg new clicks qa qb d records places kept =
+returns-in-Ok-clause-whole g c tells log_tells gg over d records places kept =
     let image = g.S.Disk.Disk.image in
-    let same = ap (λ t. topology_lent {D = g.row.S-Disk.Denot} t.journal.disk) c.in-Ok.ensures.topology in
-    let roster : IsRosterOf gg c.args.config.now.joiners = record { joiners_are = new.joiners; replicas = new.replicas } in
-    c.run_built.ensures.whole tells log_tells gg _ roster (c.in-Ok.ensures.places tells gg d new clicks qa qb records places) (subst (λ t. KeepsItsRecord image gg t) (sym same) kept)
+    let same = ap (λ x. topology_lent {D = g.row.S-Disk.Denot} x) c.into_disk.ensures ∙ ap (λ t. topology_lent {D = g.row.S-Disk.Denot} t.journal.disk) c.in-Ok.ensures.topology in
+    let roster : IsRosterOf gg c.args.config.now.joiners = record { joiners_are = over.numbers.joiners; replicas = over.numbers.replicas } in
+    c.run_system.ensures.whole tells (all_tell g.S.Disk.Disk.tells g.F.Log.LogFile.tells tells log_tells) gg _ roster (c.all_held.ensures tells log_tells) c.all_met.ensures (c.in-Ok.ensures.places tells gg d over records places) (subst (λ t. KeepsItsRecord image gg t) (sym same) kept)

@@ -1,4 +1,5 @@
 use Rattle.std.proofs.Common.{◌≡◌, ⊎_elim, ℕ, ◌+◌, ◌*◌, ◌<◌, ◌++◌, length, map, sym, ap, ◌∙◌, subst, arith}
+use Rattle.std.proofs.lemmas.List.{length-map}
 use Rattle.std.proofs.lemmas.Result.{IfErr-weaker}
 use Rattle.list_words.specs.Lists.{Mem}
 use Rattle.list_words.proofs.Lists.{mem_right}
@@ -17,13 +18,24 @@ use Rattle.site_run.specs.Settled.{AreKeptIn, lent_replicas, lent_outputs}
 use Rattle.site_run.proofs.Opened.{down_too}
 use Rattle.site_run.proofs.Dead.{dead_replicas}
 use Rattle.site_run.proofs.Outing.{given_goes_on}
-use Rattle.site_run.proofs.Running.{all_fit, goes_on, has_run, rests, no_stops, fault_told, first_told, first_ended, disks_alone, read_back_of, at_rest, disks_counted}
+use Rattle.site_run.proofs.Running.{same_count, goes_on, has_run, rests, no_stops, fault_told, first_told, first_ended, disks_alone, read_back_of, at_rest, disks_counted}
 use Rattle.site_run.proofs.Settling.{in_front, ok_three}
 use Rattle.site_run.proofs.system.run_system.Goals as goal
 
 -- the number of nodes
 counted : (joiners replicas nodes j : ℕ) → nodes ≡ 7 + 2 * j → joiners ≡ j → replicas ≡ 3 → nodes ≡ 4 + replicas + 2 * joiners
 counted joiners replicas nodes j is same three = omega (arith, is, same, three)
+
+pub settle-requires-after_bounds : goal.settle-requires-after_bounds
+settle-requires-after_bounds g c =
+    let disks_of = g.N.Parting.disks_of in
+    let ws = c.in-Ok.left.nodes.items in
+    let items = c.part_all-parts.result.0.disks.items in
+    let front = in_front c.args.parts.disks.items c.push_reserved.new.self.items c.args.topology (all_from (λ i w. disks_of c.args.joiners i w.0) 0 ws) c.requires.empty.0 c.push_reserved.ensures.items in
+    let many = ap length (c.part_all-parts.ensures.disks ∙ front) in
+    let laws = g.met.N.Parting g.world.𝓛 g.world.𝓜 g.world.𝓡 ((λ s x. x), (λ x. x), (λ x. x), λ x. x) in
+    let same = same_count (disks_of c.args.joiners) g.N.SiteNode.disk_count (laws.counted c.args.joiners) 0 c.args.nodes.items ws c.in-Ok.ensures.count c.in-Ok.ensures.disks in
+    omega (arith, many, length-map items as_lent, same, c.requires.places)
 
 pub returns-in-Ok-clause-grown : goal.returns-in-Ok-clause-grown
 returns-in-Ok-clause-grown g c tells node_tells gg d s roster held down out disk bytes now =
@@ -33,11 +45,10 @@ returns-in-Ok-clause-grown g c tells node_tells gg d s roster held down out disk
     let ws = c.in-Ok.left.nodes.items in
     let count : length c.args.nodes.items ≡ node_count gg = counted gg.joiners gg.replicas (length c.args.nodes.items) c.args.joiners c.requires.count roster.joiners_are roster.replicas in
     let front = in_front c.args.parts.disks.items c.push_reserved.new.self.items c.args.topology (all_from (λ i w. disks_of c.args.joiners i w.0) 0 ws) c.requires.empty.0 c.push_reserved.ensures.items in
-    let fits = all_fit image g.N.SystemNode.places g.N.SiteNode.grown disks_of held gg c.args.joiners (c.node_numbers.ensures gg) c.args.nodes.items ws count c.in-Ok.ensures.count
-    (c.in-Ok.ensures.grown node_tells gg d (sym count ∙ c.requires.count ∙ sym c.kinds.ensures.count) down) (as_lent c.args.topology) (map as_lent c.push_reserved.new.self.items ++ all_from (λ i w. disks_of c.args.joiners i w.0) 0 ws) c.disk_count.result front (omega (arith, c.requires.disks, c.disk_count.ensures)) in
+    let whole = c.part_all-parts.ensures.disks ∙ front in
     goes_on image g.N.SystemNode.places g.N.SiteNode.grown disks_of held gg c.args.joiners (c.node_numbers.ensures gg) c.args.nodes.items ws count c.in-Ok.ensures.count
-    (c.in-Ok.ensures.grown node_tells gg d (sym count ∙ c.requires.count ∙ sym c.kinds.ensures.count) down) (as_lent c.args.topology) (g.S.Store.image s) inside (g.S.Store.image c.end_run.new.store) out
-    (λ name b here. subst (λ l. MayBeLeft image inside l name b) front (c.end_run.ensures.left tells fits name b here)) disk bytes now
+    (c.in-Ok.ensures.grown node_tells gg d (sym count ∙ c.requires.count ∙ sym c.kinds.ensures.count) down) (as_lent c.args.topology) (g.S.Store.image s) inside (g.S.Store.image c.settle.new.store) out
+    (λ name b here. subst (λ l. MayBeLeft image inside l name b) whole (c.settle.ensures.left tells name b here)) disk bytes now
 
 pub returns-in-Ok-clause-left : goal.returns-in-Ok-clause-left
 returns-in-Ok-clause-left g c tells node_tells gg d e roster held down same kept =
@@ -47,105 +58,100 @@ returns-in-Ok-clause-left g c tells node_tells gg d e roster held down same kept
     let ws = c.in-Ok.left.nodes.items in
     let count : length c.args.nodes.items ≡ node_count gg = counted gg.joiners gg.replicas (length c.args.nodes.items) c.args.joiners c.requires.count roster.joiners_are roster.replicas in
     let front = in_front c.args.parts.disks.items c.push_reserved.new.self.items c.args.topology (all_from (λ i w. disks_of c.args.joiners i w.0) 0 ws) c.requires.empty.0 c.push_reserved.ensures.items in
-    let fits = all_fit image g.N.SystemNode.places g.N.SiteNode.grown disks_of held gg c.args.joiners (c.node_numbers.ensures gg) c.args.nodes.items ws count c.in-Ok.ensures.count
-    (c.in-Ok.ensures.grown node_tells gg d (sym count ∙ c.requires.count ∙ sym c.kinds.ensures.count) down) (as_lent c.args.topology) (map as_lent c.push_reserved.new.self.items ++ all_from (λ i w. disks_of c.args.joiners i w.0) 0 ws) c.disk_count.result front (omega (arith, c.requires.disks, c.disk_count.ensures)) in
+    let whole = c.part_all-parts.ensures.disks ∙ front in
     has_run image g.N.SystemNode.places g.N.SiteNode.grown disks_of held gg c.args.joiners roster (c.node_numbers.ensures gg) e c.in-Ok.left.air.history ws c.in-Ok.left.rest
-    (c.in-Ok.ensures.run node_tells gg e (sym count ∙ c.requires.count ∙ sym c.kinds.ensures.count) (dead_replicas gg c.args.plan _ roster.replicas c.kinds.ensures.replicas) (down_too g.N.SystemNode.places gg d e c.args.nodes.items same down)) (c.in-Ok.ensures.count ∙ count) (as_lent c.args.topology) kept inside (g.S.Store.image c.end_run.new.store)
-    (λ name b here. subst (λ l. MayBeLeft image inside l name b) front (c.end_run.ensures.left tells fits name b here))
+    (c.in-Ok.ensures.run node_tells gg e (sym count ∙ c.requires.count ∙ sym c.kinds.ensures.count) (dead_replicas gg c.args.plan _ roster.replicas c.kinds.ensures.replicas) (down_too g.N.SystemNode.places gg d e c.args.nodes.items same down)) (c.in-Ok.ensures.count ∙ count) (as_lent c.args.topology) kept inside (g.S.Store.image c.settle.new.store)
+    (λ name b here. subst (λ l. MayBeLeft image inside l name b) whole (c.settle.ensures.left tells name b here))
 
 pub returns-in-Ok-clause-rest : goal.returns-in-Ok-clause-rest
 returns-in-Ok-clause-rest g c tells node_tells gg d e roster held met down same kept =
     let image = g.S.Disk.Disk.image in
     let inside = g.S.Store.image c.args.store.now in
-    let after = g.S.Store.image c.end_run.new.store in
+    let after = g.S.Store.image c.settle.new.store in
     let n = g.N.SiteNode in
     let disks_of = g.N.Parting.disks_of in
     let ws = c.in-Ok.left.nodes.items in
     let h = c.in-Ok.left.air.history in
-    let rose = Rose (g.S.Store.faults c.args.store.now) (g.S.Store.faults c.end_run.new.store) in
+    let rose = Rose (g.S.Store.faults c.args.store.now) (g.S.Store.faults c.settle.new.store) in
     let numbers = c.node_numbers.ensures gg in
     let topology = as_lent c.args.topology in
     let count : length c.args.nodes.items ≡ node_count gg = counted gg.joiners gg.replicas (length c.args.nodes.items) c.args.joiners c.requires.count roster.joiners_are roster.replicas in
     let left = c.in-Ok.ensures.run node_tells gg e (sym count ∙ c.requires.count ∙ sym c.kinds.ensures.count) (dead_replicas gg c.args.plan _ roster.replicas c.kinds.ensures.replicas) (down_too g.N.SystemNode.places gg d e c.args.nodes.items same down) in
     let front = in_front c.args.parts.disks.items c.push_reserved.new.self.items c.args.topology (all_from (λ i w. disks_of c.args.joiners i w.0) 0 ws) c.requires.empty.0 c.push_reserved.ensures.items in
-    let fits = all_fit image g.N.SystemNode.places g.N.SiteNode.grown disks_of held gg c.args.joiners (c.node_numbers.ensures gg) c.args.nodes.items ws count c.in-Ok.ensures.count
-    (c.in-Ok.ensures.grown node_tells gg d (sym count ∙ c.requires.count ∙ sym c.kinds.ensures.count) down) (as_lent c.args.topology) (map as_lent c.push_reserved.new.self.items ++ all_from (λ i w. disks_of c.args.joiners i w.0) 0 ws) c.disk_count.result front (omega (arith, c.requires.disks, c.disk_count.ensures)) in
-    ok_three _ _ _ _ c.end_run.result c.end_run.ensures.notes c.end_run.ensures.pairs c.end_run.ensures.whole
+    let whole = c.part_all-parts.ensures.disks ∙ front in
+    ok_three _ _ _ _ c.settle.result c.settle.ensures.notes c.settle.ensures.pairs c.settle.ensures.whole
     (λ outcome notes pairs none.
     rests image g.N.SystemNode.places n.grown disks_of held gg c.args.joiners roster numbers e h ws c.in-Ok.left.rest left (c.in-Ok.ensures.count ∙ count) topology kept inside after
-    (λ name b here. subst (λ l. MayBeLeft image inside l name b) front (c.end_run.ensures.left tells fits name b here))
-    (at_rest c.args.joiners ws c.in-Ok.left.rest c.in-Ok.ensures.fault none) c.once.ensures.records c.read.ensures.notes g.S.Disk.Disk.tells tells outcome.journals
-    (subst (λ l. AreKeptIn g.S.Disk.Disk.tells image KeepsNotes (lent_replicas l) outcome.journals.notes.items) front notes) (subst (λ l. AreKeptIn g.S.Disk.Disk.tells image KeepsPairs (lent_outputs l) outcome.journals.pairs.items) front pairs) rose
+    (λ name b here. subst (λ l. MayBeLeft image inside l name b) whole (c.settle.ensures.left tells name b here))
+    (at_rest c.args.joiners ws c.in-Ok.left.rest c.in-Ok.ensures.fault (sym c.part_all-parts.ensures.fault ∙ none)) c.once.ensures.records c.read.ensures.notes g.S.Disk.Disk.tells tells outcome.journals
+    (subst (λ l. AreKeptIn g.S.Disk.Disk.tells image KeepsNotes (lent_replicas l) outcome.journals.notes.items) whole notes) (subst (λ l. AreKeptIn g.S.Disk.Disk.tells image KeepsPairs (lent_outputs l) outcome.journals.pairs.items) whole pairs) rose
     (no_stops image g.N.SystemNode.places n.grown disks_of held gg c.args.joiners roster numbers e h ws c.in-Ok.left.rest left (c.in-Ok.ensures.count ∙ count) topology kept inside after
-    (λ name b here. subst (λ l. MayBeLeft image inside l name b) front (c.end_run.ensures.left tells fits name b here))
+    (λ name b here. subst (λ l. MayBeLeft image inside l name b) whole (c.settle.ensures.left tells name b here))
     g.S.Disk.Disk.faults g.F.Log.LogFile.faults n.faults n.log_faults g.N.Parting.logs_of met c.none_stops.ensures
     (λ i b below. c.in-Ok.ensures.met i b (subst (λ k. i < k) c.in-Ok.ensures.count below)) rose
-    (λ l among some. c.end_run.ensures.disks fits l (subst (Mem l) (sym front) among) some)))
+    (λ l among some. c.settle.ensures.disks l (subst (Mem l) (sym whole) among) some)))
 
 pub returns-in-Ok-clause-cause : goal.returns-in-Ok-clause-cause
 returns-in-Ok-clause-cause g c met =
     let n = g.N.SiteNode in
     let disks_of = g.N.Parting.disks_of in
     let ws = c.in-Ok.left.nodes.items in
-    let logs_rose = Rose (g.F.Source.faults c.args.files.now) (g.F.Source.faults c.end_run.new.files) in
-    let disks_rose = Rose (g.S.Store.faults c.args.store.now) (g.S.Store.faults c.end_run.new.store) in
-    IfErr-weaker c.end_run.result _ _
+    let logs_rose = Rose (g.F.Source.faults c.args.files.now) (g.F.Source.faults c.settle.new.files) in
+    let disks_rose = Rose (g.S.Store.faults c.args.store.now) (g.S.Store.faults c.settle.new.store) in
+    IfErr-weaker c.settle.result _ _
     (λ f told.
     ⊎_elim
     (λ is.
     fault_told g.S.Disk.Disk.faults g.F.Log.LogFile.faults n.faults n.log_faults disks_of g.N.Parting.logs_of met c.args.joiners logs_rose disks_rose ws c.in-Ok.ensures.caused
-    (λ l among some. c.end_run.ensures.disks is.1 l (mem_right l (map as_lent c.push_reserved.new.self.items) (all_from (λ i w. disks_of c.args.joiners i w.0) 0 ws) among) some)
-    (λ l among some. c.end_run.ensures.logs l (mem_right l c.args.parts.logs.items (all_from (λ i w. g.N.Parting.logs_of w.0) 0 ws) among) some) f is.0)
-    (λ others. ⊎_elim (λ memory. subst (λ x. IsCounted logs_rose disks_rose x × IsPastOpening x) (sym memory) (tt, tt)) (λ of. disks_counted g.S.Disk.Disk.tells g.S.Disk.Disk.image (map as_lent c.push_reserved.new.self.items ++ all_from (λ i w. disks_of c.args.joiners i w.0) 0 ws) logs_rose disks_rose f of.1) others) told)
-    c.end_run.ensures.told
+    (λ l among some. c.settle.ensures.disks l (subst (Mem l) (sym c.part_all-parts.ensures.disks) (mem_right l (map as_lent c.push_reserved.new.self.items) (all_from (λ i w. disks_of c.args.joiners i w.0) 0 ws) among)) some)
+    (λ l among some. c.settle.ensures.logs l (subst (Mem l) (sym c.part_all-parts.ensures.logs) (mem_right l c.args.parts.logs.items (all_from (λ i w. g.N.Parting.logs_of w.0) 0 ws) among)) some) f (sym c.part_all-parts.ensures.fault ∙ is))
+    (λ of. disks_counted g.S.Disk.Disk.tells g.S.Disk.Disk.image (map as_lent c.part_all-parts.result.0.disks.items) logs_rose disks_rose f of.1)
+    told)
+    c.settle.ensures.told
 
 pub returns-in-Ok-clause-whole : goal.returns-in-Ok-clause-whole
 returns-in-Ok-clause-whole g c tells node_tells gg d roster held met down kept =
     let image = g.S.Disk.Disk.image in
     let inside = g.S.Store.image c.args.store.now in
-    let after = g.S.Store.image c.end_run.new.store in
+    let after = g.S.Store.image c.settle.new.store in
     let n = g.N.SiteNode in
     let disks_of = g.N.Parting.disks_of in
     let ws = c.in-Ok.left.nodes.items in
     let h = c.in-Ok.left.air.history in
-    let rose = Rose (g.S.Store.faults c.args.store.now) (g.S.Store.faults c.end_run.new.store) in
+    let rose = Rose (g.S.Store.faults c.args.store.now) (g.S.Store.faults c.settle.new.store) in
     let numbers = c.node_numbers.ensures gg in
     let topology = as_lent c.args.topology in
-    let all = map as_lent c.push_reserved.new.self.items ++ all_from (λ i w. disks_of c.args.joiners i w.0) 0 ws in
     let count : length c.args.nodes.items ≡ node_count gg = counted gg.joiners gg.replicas (length c.args.nodes.items) c.args.joiners c.requires.count roster.joiners_are roster.replicas in
     let left = c.in-Ok.ensures.run node_tells gg d (sym count ∙ c.requires.count ∙ sym c.kinds.ensures.count) (dead_replicas gg c.args.plan _ roster.replicas c.kinds.ensures.replicas) down in
     let front = in_front c.args.parts.disks.items c.push_reserved.new.self.items c.args.topology (all_from (λ i w. disks_of c.args.joiners i w.0) 0 ws) c.requires.empty.0 c.push_reserved.ensures.items in
-    let fits = all_fit image g.N.SystemNode.places n.grown disks_of held gg c.args.joiners numbers c.args.nodes.items ws count c.in-Ok.ensures.count
-    (c.in-Ok.ensures.grown node_tells gg d (sym count ∙ c.requires.count ∙ sym c.kinds.ensures.count) down) topology all c.disk_count.result front (omega (arith, c.requires.disks, c.disk_count.ensures)) in
-    IfErr-weaker c.end_run.result _ _
+    let whole = c.part_all-parts.ensures.disks ∙ front in
+    IfErr-weaker c.settle.result _ _
     (λ f told.
     ⊎_elim
     (λ is.
     first_told image g.N.SystemNode.places n.grown disks_of held gg c.args.joiners roster numbers d h ws c.in-Ok.left.rest left (c.in-Ok.ensures.count ∙ count) topology kept inside after
-    (λ name b here. subst (λ l. MayBeLeft image inside l name b) front (c.end_run.ensures.left tells fits name b here))
+    (λ name b here. subst (λ l. MayBeLeft image inside l name b) whole (c.settle.ensures.left tells name b here))
     g.S.Disk.Disk.faults g.F.Log.LogFile.faults n.faults n.log_faults g.N.Parting.logs_of met
     (λ i b below. c.in-Ok.ensures.met i b (subst (λ k. i < k) c.in-Ok.ensures.count below)) rose
-    (λ l among some. c.end_run.ensures.disks fits l (subst (Mem l) (sym front) among) some) f is.0)
-    (λ others.
-    ⊎_elim (λ memory. subst (IsOfRun gg d rose) (sym memory) tt)
+    (λ l among some. c.settle.ensures.disks l (subst (Mem l) (sym whole) among) some) f (sym c.part_all-parts.ensures.fault ∙ is))
     (λ of.
     read_back_of image g.N.SystemNode.places n.grown disks_of held gg c.args.joiners roster numbers d h ws c.in-Ok.left.rest left (c.in-Ok.ensures.count ∙ count) topology kept inside after
-    (λ name b here. subst (λ l. MayBeLeft image inside l name b) front (c.end_run.ensures.left tells fits name b here))
-    (at_rest c.args.joiners ws c.in-Ok.left.rest c.in-Ok.ensures.fault of.0) rose f g.S.Disk.Disk.tells tells
-    (subst (λ l. IsOfDisks g.S.Disk.Disk.tells image l rose f) front of.1))
-    others)
+    (λ name b here. subst (λ l. MayBeLeft image inside l name b) whole (c.settle.ensures.left tells name b here))
+    (at_rest c.args.joiners ws c.in-Ok.left.rest c.in-Ok.ensures.fault (sym c.part_all-parts.ensures.fault ∙ of.0)) rose f g.S.Disk.Disk.tells tells
+    (subst (λ l. IsOfDisks g.S.Disk.Disk.tells image l rose f) whole of.1))
     told)
-    c.end_run.ensures.told
+    c.settle.ensures.told
 
 pub returns-in-Ok-clause-stopped : goal.returns-in-Ok-clause-stopped
 returns-in-Ok-clause-stopped g c =
     let ws = c.in-Ok.left.nodes.items in
     let h = c.in-Ok.left.air.history in
-    IfErr-weaker c.end_run.result _ _
+    IfErr-weaker c.settle.result _ _
     (λ f told n named.
-    ⊎_elim (λ is. first_ended g.N.SiteNode.faults c.args.joiners h ws (λ i b below. c.in-Ok.ensures.met i b (subst (λ k. i < k) c.in-Ok.ensures.count below)) f n is.0 named)
-    (λ others. ⊎_elim (λ memory. absurd (cc (sym memory ∙ named))) (λ of. disks_alone _ _ _ _ (stop_count (made_by n h) ≡ 8) f n of.1 named) others) told)
-    c.end_run.ensures.told
+    ⊎_elim (λ is. first_ended g.N.SiteNode.faults c.args.joiners h ws (λ i b below. c.in-Ok.ensures.met i b (subst (λ k. i < k) c.in-Ok.ensures.count below)) f n (sym c.part_all-parts.ensures.fault ∙ is) named)
+    (λ of. disks_alone _ _ _ _ (stop_count (made_by n h) ≡ 8) f n of.1 named)
+    told)
+    c.settle.ensures.told
 
 pub returns-in-Err-clause-idle : goal.returns-in-Err-clause-idle
 returns-in-Err-clause-idle g c tells none disk bytes now =

@@ -51,7 +51,8 @@ returns-clause-up g c =
     IfOk-weaker c.end.result _ _ (λ b is i d below. ((subst (AllAt _) (sym is) all).at i d below).up) c.end.ensures.nodes
 
 pub returns-clause-places : goal.returns-clause-places
-returns-clause-places g c tells gg d new clicks qa qb records places =
+returns-clause-places g c tells gg d over records places =
+    let new = over.numbers in
     let P = λ (o : OpenView g.row.D.Denot). Says gg d o.name o.kept in
     let r0 = c.new-made.ensures.roster in
     let of0 : IsOf c.new-made.result.roster gg = record { replicas = new.replicas ∙ sym r0.0; joiners = new.joiners ∙ sym r0.1 } in
@@ -62,7 +63,7 @@ returns-clause-places g c tells gg d new clicks qa qb records places =
     let says0 = each_unmap (λ (k : KeptDisk). Says gg d k.name k.kept) _ _ records in
     let says1 = less_each P _ _ _ c.add_sites.ensures.taken says0 in
     let says2 = less_each P _ _ _ c.add_joiners.ensures.taken says1 in
-    let all = c.add_joiners-2.ensures.places tells gg d of2 qb says2 (c.add_joiners.ensures.places tells gg d of1 qa says1 (c.add_sites.ensures.places tells gg d of0 new.replicas new0 clicks places says0 (all_none _ _ c.new-made.ensures.none.0))) in
+    let all = c.add_joiners-2.ensures.places tells gg d of2 over.queries_b_are says2 (c.add_joiners.ensures.places tells gg d of1 over.queries_a_are says1 (c.add_sites.ensures.places tells gg d of0 new.replicas new0 over.clicks_are places says0 (all_none _ _ c.new-made.ensures.none.0))) in
     ok_both c.end.result _ _ _ c.end.ensures.nodes c.end.ensures.count (λ b is len. is_down_over _ gg _ (c.node_numbers.ensures gg) _ (omega (arith, len, of3.joiners, new.replicas)) (subst (AllAt _) (sym is) all))
 
 pub returns-clause-held : goal.returns-clause-held

@@ -1,3 +1,4 @@
+use Rattle.std.proofs.Common.{◌∙◌}
 use Rattle.site_workers.proofs.Stepping.{grew_on, leads_on, grows_on}
 use Rattle.site_workers.proofs.worker.Worker.work.Goals as goal
 
@@ -7,7 +8,7 @@ returns-then-not-step-clause-leads g c tells =
     let old = c.args.self.now in
     let mid = c.loop.self in
     let new = c.step.new.self in
-    leads_on m.leads m.phase_of m.stands m.number m.spends old.node mid.node new.node old.fault mid.fault new.fault old.seat.mine mid.seat.mine new.seat.mine (c.loop.invariant.1 tells) (c.step.ensures.leads tells)
+    leads_on m.leads m.phase_of m.stands m.number m.spends old.node mid.node new.node old.fault mid.fault new.fault old.seat.mine mid.seat.mine new.seat.mine (c.loop.invariant.2 tells) (c.step.ensures.leads tells)
 
 pub returns-then-not-step-clause-grows : goal.returns-then-not-step-clause-grows
 returns-then-not-step-clause-grows g c tells =
@@ -15,7 +16,7 @@ returns-then-not-step-clause-grows g c tells =
     let old = c.args.self.now in
     let mid = c.loop.self in
     let new = c.step.new.self in
-    grows_on m.leads m.phase_of m.stands m.number m.spends m.grown old.node mid.node new.node old.fault mid.fault old.seat.mine mid.seat.mine (c.loop.invariant.1 tells) (c.loop.invariant.2 tells) (c.step.ensures.grows tells)
+    grows_on m.leads m.phase_of m.stands m.number m.spends m.grown old.node mid.node new.node old.fault mid.fault old.seat.mine mid.seat.mine (c.loop.invariant.2 tells) (c.loop.invariant.3 tells) (c.step.ensures.grows tells)
 
 pub loop-preserved : goal.loop-preserved
 loop-preserved g c =
@@ -24,6 +25,7 @@ loop-preserved g c =
     let mid = c.loop.self in
     let new = c.step.new.self in (
       grew_on old.seat mid.seat new.seat c.loop.invariant.0 c.step.ensures.grew,
-      λ tells. leads_on m.leads m.phase_of m.stands m.number m.spends old.node mid.node new.node old.fault mid.fault new.fault old.seat.mine mid.seat.mine new.seat.mine (c.loop.invariant.1 tells) (c.step.ensures.leads tells),
-      λ tells. grows_on m.leads m.phase_of m.stands m.number m.spends m.grown old.node mid.node new.node old.fault mid.fault old.seat.mine mid.seat.mine (c.loop.invariant.1 tells) (c.loop.invariant.2 tells) (c.step.ensures.grows tells),
+      c.step.ensures.disks ∙ c.loop.invariant.1,
+      λ tells. leads_on m.leads m.phase_of m.stands m.number m.spends old.node mid.node new.node old.fault mid.fault new.fault old.seat.mine mid.seat.mine new.seat.mine (c.loop.invariant.2 tells) (c.step.ensures.leads tells),
+      λ tells. grows_on m.leads m.phase_of m.stands m.number m.spends m.grown old.node mid.node new.node old.fault mid.fault old.seat.mine mid.seat.mine (c.loop.invariant.2 tells) (c.loop.invariant.3 tells) (c.step.ensures.grows tells),
     )
