@@ -3,11 +3,8 @@ use Rattle.std.proofs.Common.{◌≡◌, ◌⊎◌, inl, inr, ⊎_elim, ℕ, ◌
 use Rattle.std.specs.Prelude.{All, IsTrue, Result, Ok, Err}
 use Rattle.std.proofs.lemmas.Bool.Decides.{nat_tests}
 use Rattle.std.proofs.lemmas.List.Elements.{All-head, All-tail}
-use Rattle.gate_journal.specs.Opening.{IsOpened}
 use Rattle.gate_journal.specs.declared.reading.JournalFault.{JournalFault}
 use Rattle.gate_journal.specs.declared.reading.JournalFault.TheVariants.{Damaged, Disk, Memory}
-use Rattle.gate_journal.specs.Fold.{read_as}
-use Rattle.epoch_journal.specs.Epochs.{epochs as of_epochs}
 use Rattle.epoch_journal.specs.Epochs as epochs
 use Rattle.turn_defs.specs.declared.pair.PairRec.{PairRec}
 use Rattle.output_log.specs.Pairs.{record_of}
@@ -20,9 +17,6 @@ use Rattle.joiner_node.specs.Disks.{EpochOr, PairsOr, Holds, with_note, InDoubt,
 use Rattle.joiner_node.specs.declared.disks.Doubt.{Doubt}
 
 -- ---- the images of a disk that is read again
-
-pub pairs_again : (k m : JoinerKept) (image : List ℕ → Type 0) → ((c : List ℕ) → image c → PairsOr k m c) → (c : List ℕ) → IsOpened image c → PairsOr k m c
-pairs_again k m image or c (d, here, same) = ⊎_elim (λ old. inl (old.0, same ∙ old.1)) (λ new. inr (new.0, same ∙ new.1)) (or d here)
 
 -- ---- what is read
 

@@ -172,15 +172,6 @@ both_tell false b h = absurd (cc h)
 pub serves_same : (old new : JoinerCore) (g : Setting) (n : ℕ) → IsSame old new → Serves old g n → Serves new g n
 serves_same old new g n same serves = record { node = same.node ∙ serves.node; site = same.site ∙ serves.site }
 
-pub knows_same : (up up' : Bool) (old new : JoinerCore) (g : Setting) (n : ℕ) (k : JoinerKept) (live : Option JoinerLive) → up' ≡ up → IsSame old new → Knows up old g n k live → Knows up' new g n k live
-knows_same up up' old new g n k live e same knows = subst (λ (x : Bool). Knows x new g n k live) (sym e) (go up live knows)
-  where
-    go : (u : Bool) (l : Option JoinerLive) → Knows u old g n k l → Knows u new g n k l
-    go true (Some l) stands = record { serves = serves_same old new g n same stands.serves; epoch = same.epoch ∙ stands.epoch; live = same.live ∙ stands.live }
-    go true None stands = absurd stands
-    go false (Some l) stands = absurd stands
-    go false None stands = tt
-
 pub serves_of : (up : Bool) (core : JoinerCore) (g : Setting) (n : ℕ) (k : JoinerKept) (l : JoinerLive) → Knows up core g n k (Some l) → Serves core g n
 serves_of true core g n k l knows = knows.serves
 serves_of false core g n k l knows = absurd knows

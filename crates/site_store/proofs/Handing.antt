@@ -38,9 +38,6 @@ others_stay {D} left before after lent name lacks may c now = elim (may c now) [
 pub record OutOrRose {D : Type 0} (faults : D → ℕ) (all out : List (LentDisk D)) (old new : ℕ) : Type 0 where
   pub each : (d : Lent D) → Mem d (all_lent all) → 1 ≤ faults d.disk → Mem d (all_lent out) ⊎ Rose old new
 
-pub all_out : {D : Type 0} (faults : D → ℕ) (all out : List (LentDisk D)) (old new : ℕ) → out ≡ all → OutOrRose faults all out old new
-all_out {D} faults all out old new is = record { each = λ d among met. inl (subst (λ (l : List (LentDisk D)). Mem d (all_lent l)) (sym is) among) }
-
 rose_by : (old mid new more : ℕ) → old ≤ mid → 1 ≤ more → new ≡ added mid more → Rose old new
 rose_by old mid new more later met is = omega (arith, later, met, is)
 

@@ -8,9 +8,6 @@ use Rattle.site_store.specs.Floors.{NoneBetween, IsFloorFrom, IsFloorOf, IsBehin
 
 -- ---- any numbers
 
-pub none_within : (P : ℕ → Type 0) (n : ℕ) → NoneBetween P n n
-none_within P n m low high is = absurd (omega arith)
-
 pub none_joined : (P : ℕ → Type 0) (a b c : ℕ) → NoneBetween P a b → NoneBetween P b c → NoneBetween P a c
 none_joined P a b c f g n low high is = ⊎_elim (λ past. g n past high is) (λ within. f n low within is) (cases_lt b n)
 

@@ -1,7 +1,7 @@
 -- The first place that doesn't fit, of lists put together.
 use Rattle.std.proofs.Common.{zero, suc, ◌≤◌, ◌≡◌, ◌≢◌, inl, inr, ⊎_elim, ℕ, ◌+◌, ◌==◌, true, false, ◌<◌, List, [], ◌∷◌, ◌++◌, length, take, drop, get_or, map, Option, Some, None, refl, sym, ap, subst, ◌∙◌, append_assoc, arith}
 use Rattle.std.proofs.lemmas.Bool.{eqb-true, eq-eqb, or_cases, or_left, or_right}
-use Rattle.std.proofs.lemmas.List.{map-append, take_more, drop_more, take-append-drop}
+use Rattle.std.proofs.lemmas.List.{map-append, drop_more, take-append-drop}
 use Rattle.list_words.specs.Lists.{Each, Mem, has}
 use Rattle.list_words.proofs.Lists.{clash, each_append}
 use Rattle.outside.specs.declared.store.DiskName.{DiskName}
@@ -55,11 +55,6 @@ module _ (ls : List ClickLine) where
   pub none_told : (xs : List KeptPlace) (told : Option Misplaced) → ((m : Misplaced) → told ≡ Some m → ⊥) → IsTold ls xs told → Each (Fits ls) xs
   none_told xs None apart h = h
   none_told xs (Some m) apart h = absurd (apart m refl)
-
-  pub fit_more : (disk : DiskName) (ps : List ℕ) (i : ℕ) → i < length ps → Each (Fits ls) (on_disk disk (take i ps)) → Each (Fits ls) (on_disk disk (get_or ps i 0 ∷ [])) → Each (Fits ls) (on_disk disk (take (i + 1) ps))
-  fit_more disk ps i lt before this =
-      let is = ap (on_disk disk) (take_more ps i 0 lt) ∙ map-append _ (take i ps) (get_or ps i 0 ∷ []) in
-      subst (Each (Fits ls)) (sym is) (each_append (Fits ls) (on_disk disk (take i ps)) _ before this)
 
   pub first_here : (disk : DiskName) (ps : List ℕ) (i : ℕ) (m : Misplaced) → i < length ps → Each (Fits ls) (on_disk disk (take i ps)) → IsFirst ls (on_disk disk (get_or ps i 0 ∷ [])) m → IsFirst ls (on_disk disk ps) m
   first_here disk ps i m lt before this =
