@@ -18,10 +18,6 @@ and_false : (b : Bool) → (b && false) ≡ false
 and_false true = refl
 and_false false = refl
 
-and_true : (b : Bool) → (b && true) ≡ b
-and_true true = refl
-and_true false = refl
-
 one_of : (same named : Bool) (fuse : Fuse) → one_if ((same && named) && false) fuse ++ one_if (named && (same && true)) fuse ≡ one_if ((same && named) && true) fuse
 one_of true true fuse = refl
 one_of true false fuse = refl

@@ -1,5 +1,5 @@
 -- Refused lines, as faults.
-use Rattle.std.proofs.Common.{◌≡◌, ◌⊎◌, inl, inr, ⊎_elim, ℕ, List, Option, Some, None, refl, sym, ap, subst, ◌∙◌}
+use Rattle.std.proofs.Common.{◌≡◌, ◌⊎◌, inl, inr, ⊎_elim, ℕ, Option, Some, None, refl, ap, subst, ◌∙◌}
 use Rattle.std.specs.Option.{IsSomeAnd}
 use Rattle.log_records.specs.declared.why.Why.{Why}
 use Rattle.log_records.specs.declared.why.Why.TheVariants as why
@@ -12,11 +12,6 @@ use Rattle.photon_cli.specs.LogFaults.{IsLogFault, refusal, refusal_of}
 pub within : {A : Type 0} (o : Option A) (P Q : A → Type 0) → ((x : A) → P x → Q x) → IsSomeAnd o P → IsSomeAnd o Q
 within None P Q f h = h
 within (Some x) P Q f h = f x h
-
--- what holds of the bytes under a name holds of those that were read
-pub of_bytes : (o : Option (List ℕ)) (own : List ℕ) (P : List ℕ → Type 0) → IsSomeAnd o (λ b. own ≡ b) → IsSomeAnd o P → P own
-of_bytes None own P h k = absurd h
-of_bytes (Some b) own P h k = subst P (sym h) k
 
 pub refusal_kind : (log : LogName) (n : ℕ) (w : Why) → IsLogFault log (refusal log n w)
 refusal_kind log n why.TooLong = inl (n, why.TooLong, refl)
