@@ -1,13 +1,15 @@
-//! Plays the script of whole runs of the program, over logs, sinks and disks in memory. It tells each row that isn't answered as wanted, and
-//! then how many there were.
+//! Plays the script of whole runs of the program, over logs, sinks and disks in memory. It tells the traces that were asked for, each row
+//! that isn't answered as wanted, and then how many there were.
 #![tactic(auto)]
 
 mod check;
 mod disks;
 mod history;
 mod logs;
+mod packets;
 mod runs;
 mod stage;
+mod trace;
 
 use script_lines::{Report, Scene, Script};
 use stage::Stage;
@@ -24,7 +26,7 @@ fn main(rt: HostRuntime) -> io::Result<()> {
     for scene in &script.scenes {
         play(&rt, &mut stage, scene, &mut report)?;
     }
-    println!(rt; "{}", report.told()?)
+    println!(rt; "{}{}", stage.trace, report.told()?)
 }
 
 fn play<R: Threads + Wait + Sync>(

@@ -1,5 +1,7 @@
 // Runs of the program, and what they leave.
 use crate::history;
+use crate::trace::trace;
+use lossy_link::Plan;
 use mem_outside::{HeldGate, Hold, LOOKS, MemSink, MemSource, MemStore};
 use outside::{Gate, Point};
 use photon_cli::{Ran, photon};
@@ -155,6 +157,11 @@ impl Runs {
             return Ok(some_or_none(self.alloc, self.limit)?);
         }
         history::told(self.alloc, &self.ran, word, words)
+    }
+
+    /// The lines of the last run, whose packets went by this plan.
+    pub fn trace(&self, plan: &Plan) -> Result<String, Stop> {
+        trace(self.alloc, &self.ran, plan)
     }
 
     /// `gate LOOKS`, and then nodes that come to points: whether one went on at this limit of looks.

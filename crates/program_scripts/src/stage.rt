@@ -15,6 +15,8 @@ pub struct Stage {
     logs: Logs,
     disks: Disks,
     runs: Runs,
+    /// What the lines `trace` have told.
+    pub trace: String,
 }
 
 impl Stage {
@@ -24,6 +26,7 @@ impl Stage {
             logs: Logs::new(alloc),
             disks: Disks::new(alloc),
             runs: Runs::new(alloc),
+            trace: String::new(alloc),
         }
     }
 
@@ -39,6 +42,11 @@ impl Stage {
             "plan" => {
                 let plan = self.logs.plan()?;
                 self.disks.set_plan(&plan, words.number()?)
+            }
+            "trace" => {
+                let plan = self.logs.plan()?;
+                self.trace.push_str(self.runs.trace(&plan)?.as_str())?;
+                Ok(())
             }
             word @ ("out" | "err" | "hold" | "open" | "whole") => self.runs.set(word, &mut words),
             word => self.disks.set(word, &mut words),
