@@ -11,6 +11,7 @@ import odd
 import runs
 import strict
 import texts
+import traces
 import watch
 import worked
 
@@ -46,6 +47,7 @@ GROUPS = [
     Group("misfits", journals.misfits, 30),
     Group("drills", drills.drill, 40, [("many_joiners", drills.many_joiners)]),
     Group("plans", drills.plans, 50),
+    Group("traces", listed=traces.CASES),
     Group("bulk", drills.bulk, 10),
     Group("kills", kills.kill, 20),
     Group("full_disk", kills.full_disk, 10),
