@@ -1,5 +1,5 @@
 -- The first line with an id, by its place and by what an index says.
-use Rattle.std.proofs.Common.{◌≡◌, ℕ, ◌<◌, ◌≤◌, Bool, true, false, List, [], ◌∷◌, Option, Some, None, IfOk, Result, Ok, Err, is_some, unwrap_or, refl, sym, ap, ◌∙◌, subst, arith}
+use Rattle.std.proofs.Common.{◌≡◌, ℕ, ◌<◌, ◌≤◌, Bool, true, false, List, [], ◌∷◌, Option, Some, None, IfOk, Result, Ok, Err, option_map, is_some, unwrap_or, refl, sym, ap, ◌∙◌, subst, arith}
 use Rattle.std.specs.Option.{option_or}
 use Rattle.std.proofs.lemmas.Option.{none-some, MatchOption-at_some, MatchOption-at_none, same_Some}
 use Rattle.std.proofs.lemmas.Bool.{both_ways}
@@ -9,7 +9,7 @@ use Rattle.log_records.specs.declared.records.QueryRec.{QueryRec}
 use Rattle.event_store.specs.declared.index.Index.{Index}
 use Rattle.event_store.specs.Read.{ReadsNext, ReadsLines}
 use Rattle.event_store.specs.Found.{found}
-use Rattle.event_store.specs.Marks.{Mark, First, first_of, stray_of, Begins, IsStray, IsSegment}
+use Rattle.event_store.specs.Marks.{Mark, First, first_of, place_of, stray_of, Begins, IsStray, IsSegment}
 use Rattle.event_store.specs.Held.{Starts, Knows}
 use Rattle.event_store.proofs.Orders.{same_itself}
 use Rattle.event_store.proofs.Changes.{no_value}
@@ -102,16 +102,26 @@ module _ (log : List ℕ) (place : ℕ) (index : Index) (lines : List (Option Qu
       here None e = sym (absent log place index lines marks knows id e)
       here (Some f) e = absurd (none-some f.place (none ∙ stray_first marks id f e (stray f e)))
 
+  -- from the place where it begins the first line with the id is found
+  first_found : (id : EventId) (f : First) (s : ℕ) (r : Option QueryRec) → first_of marks id ≡ Some f → f.place ≡ s → ((mid : List (Option QueryRec)) → ReadsLines log s place mid → r ≡ found mid id) → r ≡ found lines id
+  first_found id f s r e at scanned =
+      let st = starts log place index lines marks knows id f e in
+      let on = walk_on log 0 f.place place st.0 lines st.1 knows.walk (omega (arith, first_below place marks id f knows.falls e)) in
+      scanned on.0 (subst (λ (n : ℕ). ReadsLines log n place on.0) at on.2) ∙ sym (ap (λ (l : List (Option QueryRec)). found l id) on.1 ∙ found_append st.0 on.0 id ∙ ap (λ (o : Option QueryRec). option_or o (found on.0 id)) st.2)
+
   pub stray_found : (id : EventId) (s : ℕ) (r : Option QueryRec) → IsStray marks id → Some s ≡ stray_of marks id → ((mid : List (Option QueryRec)) → ReadsLines log s place mid → r ≡ found mid id) → r ≡ found lines id
   stray_found id s r stray some scanned = here (first_of marks id) refl
     where
       here : (o : Option First) → first_of marks id ≡ o → r ≡ found lines id
       here None e = absurd (none-some s (sym (some ∙ no_stray marks id e)))
-      here (Some f) e =
-          let at : f.place ≡ s = same_Some f.place s (sym (some ∙ stray_first marks id f e (stray f e))) in
-          let st = starts log place index lines marks knows id f e in
-          let on = walk_on log 0 f.place place st.0 lines st.1 knows.walk (omega (arith, first_below place marks id f knows.falls e)) in
-          scanned on.0 (subst (λ (n : ℕ). ReadsLines log n place on.0) at on.2) ∙ sym (ap (λ (l : List (Option QueryRec)). found l id) on.1 ∙ found_append st.0 on.0 id ∙ ap (λ (o : Option QueryRec). option_or o (found on.0 id)) st.2)
+      here (Some f) e = first_found id f s r e (same_Some f.place s (sym (some ∙ stray_first marks id f e (stray f e)))) scanned
+
+  pub known_found : (id : EventId) (s : ℕ) (r : Option QueryRec) → place_of marks id ≡ Some s → ((mid : List (Option QueryRec)) → ReadsLines log s place mid → r ≡ found mid id) → r ≡ found lines id
+  known_found id s r some scanned = here (first_of marks id) refl some
+    where
+      here : (o : Option First) → first_of marks id ≡ o → option_map (λ (f : First). f.place) o ≡ Some s → r ≡ found lines id
+      here None e is = absurd (none-some s is)
+      here (Some f) e is = first_found id f s r e (same_Some f.place s is) scanned
 
 -- what a scan finds, through its result
 pub ok_all : {M T E : Type 0} (W : M → Type 0) (Q : M → T → Type 0) (P : T → Type 0) (r : Result T E) → ((m : M) → W m → IfOk r (Q m)) → ((q : T) → ((m : M) → W m → Q m q) → P q) → IfOk r P

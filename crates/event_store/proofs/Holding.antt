@@ -10,53 +10,53 @@ use Rattle.event_store.specs.declared.index.Index.{Index}
 use Rattle.event_store.specs.Read.{ReadsNext, AreRead}
 use Rattle.event_store.specs.Found.{found}
 use Rattle.event_store.specs.Order.{entries_among, entries_of}
-use Rattle.event_store.specs.Marks.{Mark, Keeps, ids_of}
+use Rattle.event_store.specs.Marks.{Mark, Keeps, place_of, ids_of}
 use Rattle.event_store.specs.Held.{Knows, IsCache, Holds}
 use Rattle.event_store.proofs.Walks.{walk_same, walk_beyond}
 
 -- nothing is read yet, and nothing is at hand
-pub held_none : {T : Type 0} (log : T → List ℕ) (index : Index) (kept : EventId → Option QueryRec) → Keeps index [] → ((id : EventId) → kept id ≡ None) → ∥ ((t : T) → Holds (log t) 0 0 index kept) ∥₁
+pub held_none : {T : Type 0} (log : T → List ℕ) (index : Index) (kept : EventId → Option ℕ) → Keeps index [] → ((id : EventId) → kept id ≡ None) → ∥ ((t : T) → Holds (log t) 0 0 index kept) ∥₁
 held_none log index kept keeps none = ∣ (λ t. record {
   lines = [];
   marks = [];
   knows = record { walk = refl; falls = tt; tied = λ id. refl; keeps = keeps };
   counts = refl;
   ids = refl;
-  cached = λ id. subst (λ (o : Option QueryRec). IfSome o (λ q. found [] id ≡ Some q)) (sym (none id)) tt;
+  cached = λ id. subst (λ (o : Option ℕ). IfSome o (λ s. place_of [] id ≡ Some s)) (sym (none id)) tt;
 }) ∣₁
 
 -- the same log, and the same place
-pub held_on : {T : Type 0} (log now : List ℕ) (place at count : ℕ) (index : Index) (kept : EventId → Option QueryRec) → ∥ (T → Holds log place count index kept) ∥₁ → (T → now ≡ log) → at ≡ place → ∥ (T → Holds now at count index kept) ∥₁
+pub held_on : {T : Type 0} (log now : List ℕ) (place at count : ℕ) (index : Index) (kept : EventId → Option ℕ) → ∥ (T → Holds log place count index kept) ∥₁ → (T → now ≡ log) → at ≡ place → ∥ (T → Holds now at count index kept) ∥₁
 held_on {T} log now place at count index kept held same stays = ∥∥₁_map held (λ (f : T → Holds log place count index kept) (t : T). subst (λ (l : List ℕ). Holds l at count index kept) (sym (same t)) (subst (λ (p : ℕ). Holds log p count index kept) (sym stays) (f t)))
 
-recached : (log : List ℕ) (place count : ℕ) (index : Index) (kept now : EventId → Option QueryRec) → ((lines : List (Option QueryRec)) → IsCache kept lines → IsCache now lines) → Holds log place count index kept → Holds log place count index now
+recached : (log : List ℕ) (place count : ℕ) (index : Index) (kept now : EventId → Option ℕ) → ((marks : List Mark) → IsCache kept marks → IsCache now marks) → Holds log place count index kept → Holds log place count index now
 recached log place count index kept now keeps h = record {
   lines = h.lines;
   marks = h.marks;
   knows = h.knows;
   counts = h.counts;
   ids = h.ids;
-  cached = keeps h.lines h.cached;
+  cached = keeps h.marks h.cached;
 }
 
 -- the same with other records at hand
-pub held_cache : {T : Type 0} (log : List ℕ) (place count : ℕ) (index : Index) (kept now : EventId → Option QueryRec) → ∥ (T → Holds log place count index kept) ∥₁ → ((lines : List (Option QueryRec)) → IsCache kept lines → IsCache now lines) → ∥ (T → Holds log place count index now) ∥₁
+pub held_cache : {T : Type 0} (log : List ℕ) (place count : ℕ) (index : Index) (kept now : EventId → Option ℕ) → ∥ (T → Holds log place count index kept) ∥₁ → ((marks : List Mark) → IsCache kept marks → IsCache now marks) → ∥ (T → Holds log place count index now) ∥₁
 held_cache {T} log place count index kept now held keeps = ∥∥₁_map held (λ (f : T → Holds log place count index kept) (t : T). recached log place count index kept now keeps (f t))
 
 -- one line more, or none: what is known of one state is known of the next one
-pub held_next : {T : Type 0} (log log' : List ℕ) (place at count n : ℕ) (index index' : Index) (kept kept' : EventId → Option QueryRec) → ∥ (T → Holds log place count index kept) ∥₁ → (T → Holds log place count index kept → Holds log' at n index' kept') → ∥ (T → Holds log' at n index' kept') ∥₁
+pub held_next : {T : Type 0} (log log' : List ℕ) (place at count n : ℕ) (index index' : Index) (kept kept' : EventId → Option ℕ) → ∥ (T → Holds log place count index kept) ∥₁ → (T → Holds log place count index kept → Holds log' at n index' kept') → ∥ (T → Holds log' at n index' kept') ∥₁
 held_next {T} log log' place at count n index index' kept kept' held f = ∥∥₁_map held (λ (g : T → Holds log place count index kept) (t : T). f t (g t))
 
 -- the count of lines fits
-pub count_fits : (log : List ℕ) (place count : ℕ) (index : Index) (kept : EventId → Option QueryRec) → Holds log place count index kept → count ≤ place
+pub count_fits : (log : List ℕ) (place count : ℕ) (index : Index) (kept : EventId → Option ℕ) → Holds log place count index kept → count ≤ place
 count_fits log place count index kept h = let l = walk_beyond log 0 place h.lines h.knows.walk in let n = h.counts in omega (arith, l, n)
 
 -- a fact of the lines read that has no two proofs
-pub held_tells : {T P : Type 0} (log : List ℕ) (place count : ℕ) (index : Index) (kept : EventId → Option QueryRec) → IsProp P → ∥ (T → Holds log place count index kept) ∥₁ → T → (lines : List (Option QueryRec)) → AreRead log place lines → ((marks : List Mark) → Knows log place index lines marks → count ≡ length lines → entries_among (ids_of marks) ≡ entries_of lines → IsCache kept lines → P) → P
+pub held_tells : {T P : Type 0} (log : List ℕ) (place count : ℕ) (index : Index) (kept : EventId → Option ℕ) → IsProp P → ∥ (T → Holds log place count index kept) ∥₁ → T → (lines : List (Option QueryRec)) → AreRead log place lines → ((marks : List Mark) → Knows log place index lines marks → count ≡ length lines → entries_among (ids_of marks) ≡ entries_of lines → IsCache kept marks → P) → P
 held_tells {T} {P} log place count index kept prop held t lines walk use_it = ∥∥₁_elim held prop (λ (f : T → Holds log place count index kept). at_once (f t))
   where
-    there : (ls : List (Option QueryRec)) → lines ≡ ls → ((marks : List Mark) → Knows log place index ls marks → count ≡ length ls → entries_among (ids_of marks) ≡ entries_of ls → IsCache kept ls → P)
-    there ls same = subst (λ (xs : List (Option QueryRec)). ((marks : List Mark) → Knows log place index xs marks → count ≡ length xs → entries_among (ids_of marks) ≡ entries_of xs → IsCache kept xs → P)) same use_it
+    there : (ls : List (Option QueryRec)) → lines ≡ ls → ((marks : List Mark) → Knows log place index ls marks → count ≡ length ls → entries_among (ids_of marks) ≡ entries_of ls → IsCache kept marks → P)
+    there ls same = subst (λ (xs : List (Option QueryRec)). ((marks : List Mark) → Knows log place index xs marks → count ≡ length xs → entries_among (ids_of marks) ≡ entries_of xs → IsCache kept marks → P)) same use_it
 
     at_once : Holds log place count index kept → P
     at_once h = there h.lines (walk_same log 0 place lines h.lines walk h.knows.walk) h.marks h.knows h.counts (ap entries_among h.ids) h.cached
@@ -88,7 +88,7 @@ end_fits log place e r (line, rest, is, lacks, ends, reads) =
     omega (arith, whole, back, front, parts, ends)
 
 -- the count of one line more
-pub one_more : (log : List ℕ) (place count n : ℕ) (index : Index) (kept : EventId → Option QueryRec) → Holds log place (count + 1) index kept → place ≤ 2 ^ 40 → n ≡ min (count + 1) (2 ^ 64 - 1) → Holds log place n index kept
+pub one_more : (log : List ℕ) (place count n : ℕ) (index : Index) (kept : EventId → Option ℕ) → Holds log place (count + 1) index kept → place ≤ 2 ^ 40 → n ≡ min (count + 1) (2 ^ 64 - 1) → Holds log place n index kept
 one_more log place count n index kept h le is =
     let l = count_fits log place (count + 1) index kept h in
     let same : count + 1 ≡ n = omega (arith, l, le, is) in

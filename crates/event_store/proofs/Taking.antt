@@ -1,7 +1,7 @@
 -- What is known after one line more.
-use Rattle.std.proofs.Common.{◌≡◌, ℕ, ◌+◌, ◌<◌, Bool, true, false, cond, List, [], ◌∷◌, ◌++◌, Option, Some, None, MatchOption, refl, sym, ap, ◌∙◌, arith, length-append}
+use Rattle.std.proofs.Common.{◌≡◌, ℕ, ◌+◌, ◌<◌, Bool, true, false, cond, List, [], ◌∷◌, ◌++◌, Option, Some, None, MatchOption, option_map, refl, sym, ap, ◌∙◌, arith, length-append}
 use Rattle.std.specs.Option.{option_or}
-use Rattle.std.proofs.lemmas.Option.{MatchOption-at_none, IfSome_then}
+use Rattle.std.proofs.lemmas.Option.{none-some, IfSome_then}
 use Rattle.event_id.specs.declared.id.EventId.{EventId}
 use Rattle.event_id.specs.EventId.{is_same}
 use Rattle.log_records.specs.declared.records.QueryRec.{QueryRec}
@@ -9,11 +9,10 @@ use Rattle.event_store.specs.declared.index.Index.{Index}
 use Rattle.event_store.specs.Read.{ReadsNext, AreRead}
 use Rattle.event_store.specs.Found.{found}
 use Rattle.event_store.specs.Order.{ids_onto}
-use Rattle.event_store.specs.Marks.{Mark, First, Keeps, as_first, first_of, ids_of, Falls}
+use Rattle.event_store.specs.Marks.{Mark, First, Keeps, as_first, first_of, place_of, ids_of, Falls}
 use Rattle.event_store.specs.Held.{Starts, IsCache, Holds}
-use Rattle.event_store.proofs.Orders.{same_id}
+use Rattle.event_store.proofs.Orders.{same_id, same_itself}
 use Rattle.event_store.proofs.Walks.{next_beyond, walk_push, found_append}
-use Rattle.event_store.proofs.Firsts.{own}
 
 -- the line among those with a record
 abbrev pub with_line : ℕ → Option QueryRec → List Mark → List Mark
@@ -37,14 +36,16 @@ ids_with : (place : ℕ) (r : Option QueryRec) (marks : List Mark) → ids_of (w
 ids_with place None marks = refl
 ids_with place (Some q) marks = refl
 
-found_stays : (lines : List (Option QueryRec)) (r : Option QueryRec) (id : EventId) (q : QueryRec) → found lines id ≡ Some q → found (lines ++ r ∷ []) id ≡ Some q
-found_stays lines r id q is = found_append lines (r ∷ []) id ∙ ap (λ (o : Option QueryRec). option_or o (found (r ∷ []) id)) is
-
 found_new : (lines : List (Option QueryRec)) (r : Option QueryRec) (id : EventId) → found lines id ≡ None → found (lines ++ r ∷ []) id ≡ found (r ∷ []) id
 found_new lines r id none = found_append lines (r ∷ []) id ∙ ap (λ (o : Option QueryRec). option_or o (found (r ∷ []) id)) none
 
-pub cached_more : (kept : EventId → Option QueryRec) (lines : List (Option QueryRec)) (r : Option QueryRec) → IsCache kept lines → IsCache kept (lines ++ r ∷ [])
-cached_more kept lines r cache = λ id. IfSome_then (kept id) (cache id) (λ q is. found_stays lines r id q is)
+place_stays : (first more : Option First) (s : ℕ) → option_map (λ (f : First). f.place) first ≡ Some s → option_map (λ (f : First). f.place) (option_or first more) ≡ Some s
+place_stays None more s is = absurd (none-some s is)
+place_stays (Some f) more s is = is
+
+pub cached_more : (kept : EventId → Option ℕ) (marks : List Mark) (place : ℕ) (r : Option QueryRec) → IsCache kept marks → IsCache kept (with_line place r marks)
+cached_more kept marks place None cache = cache
+cached_more kept marks place (Some q) cache = λ id. IfSome_then (kept id) (cache id) (λ s is. place_stays (first_of marks id) _ s is)
 
 abbrev Tied : List ℕ → List (Option QueryRec) → List Mark → EventId → Type 0
 Tied log lines marks id = MatchOption (first_of marks id) (found lines id ≡ None) (λ (f : First). Starts log id f.place)
@@ -63,7 +64,7 @@ tied_with log place e (Some q) lines marks walk step id tied = here (first_of ma
     here None false is none = rw is (found_new lines (Some q) id none ∙ (rw is refl))
 
 -- one line more, with what is then kept of it
-pub grown : (log : List ℕ) (place e count : ℕ) (r : Option QueryRec) (index after : Index) (kept now : EventId → Option QueryRec) → (h : Holds log place count index kept) → ReadsNext log place e r → Keeps after (with_line place r h.marks) → IsCache now (h.lines ++ r ∷ []) → Holds log e (count + 1) after now
+pub grown : (log : List ℕ) (place e count : ℕ) (r : Option QueryRec) (index after : Index) (kept now : EventId → Option ℕ) → (h : Holds log place count index kept) → ReadsNext log place e r → Keeps after (with_line place r h.marks) → IsCache now (with_line place r h.marks) → Holds log e (count + 1) after now
 grown log place e count r index after kept now h step keeps cache = record {
   lines = h.lines ++ r ∷ [];
   marks = with_line place r h.marks;
@@ -78,12 +79,12 @@ grown log place e count r index after kept now h step keeps cache = record {
   cached = cache;
 }
 
--- a new id's record is the first of it
-pub first_now : (log : List ℕ) (place count : ℕ) (index : Index) (kept : EventId → Option QueryRec) (h : Holds log place count index kept) (q : QueryRec) → first_of h.marks q.id ≡ None → found (h.lines ++ Some q ∷ []) q.id ≡ Some q
-first_now log place count index kept h q none = found_new h.lines (Some q) q.id (MatchOption-at_none (found h.lines q.id ≡ None) (λ (f : First). Starts log q.id f.place) none (h.knows.tied q.id)) ∙ own q q.id refl
+-- a new id's line is the first of it
+pub first_now : (place : ℕ) (q : QueryRec) (marks : List Mark) → first_of marks q.id ≡ None → place_of (record { place = place; id = q.id } ∷ marks) q.id ≡ Some place
+first_now place q marks none = rw (none, same_itself q.id) refl
 
 -- the same lines, with another form of the index
-pub reindexed : (log : List ℕ) (place count : ℕ) (index after : Index) (kept : EventId → Option QueryRec) → ((marks : List Mark) → Keeps index marks → Keeps after marks) → Holds log place count index kept → Holds log place count after kept
+pub reindexed : (log : List ℕ) (place count : ℕ) (index after : Index) (kept : EventId → Option ℕ) → ((marks : List Mark) → Keeps index marks → Keeps after marks) → Holds log place count index kept → Holds log place count after kept
 reindexed log place count index after kept same h = record {
   lines = h.lines;
   marks = h.marks;

@@ -10,7 +10,7 @@ use Rattle.event_store.specs.declared.recent.Recent.{Recent}
 use Rattle.event_store.specs.Read.{ReadsNext, ReadsLines, AreRead}
 use Rattle.event_store.specs.Found.{found}
 use Rattle.event_store.specs.Order.{ids_onto}
-use Rattle.event_store.specs.Marks.{Mark, Keeps, first_of, ids_of, Falls}
+use Rattle.event_store.specs.Marks.{Mark, Keeps, first_of, place_of, ids_of, Falls}
 
 -- the first line with the id begins at the place
 abbrev pub Starts : List ℕ → EventId → ℕ → Type 0
@@ -23,18 +23,18 @@ pub record Knows (log : List ℕ) (place : ℕ) (index : Index) (lines : List (O
   pub tied : (id : EventId) → MatchOption (first_of marks id) (found lines id ≡ None) (λ f. Starts log id f.place)
   pub keeps : Keeps index marks
 
--- the record of an id that is kept at hand
-abbrev pub at_hand : Recent → EventId → Option QueryRec
+-- the place that is at hand for an id
+abbrev pub at_hand : Recent → EventId → Option ℕ
 at_hand recent id = option_or (get id_cmp recent.newer id) (get id_cmp recent.older id)
 
--- each record that is kept at hand is the first with its id
-abbrev pub IsCache : (EventId → Option QueryRec) → List (Option QueryRec) → Type 0
-IsCache kept lines = (id : EventId) → IfSome (kept id) (λ q. found lines id ≡ Some q)
+-- each place at hand is that of the first line with the id
+abbrev pub IsCache : (EventId → Option ℕ) → List Mark → Type 0
+IsCache kept marks = (id : EventId) → IfSome (kept id) (λ s. place_of marks id ≡ Some s)
 
-pub record Holds (log : List ℕ) (place count : ℕ) (index : Index) (kept : EventId → Option QueryRec) : Type 0 where
+pub record Holds (log : List ℕ) (place count : ℕ) (index : Index) (kept : EventId → Option ℕ) : Type 0 where
   pub lines : List (Option QueryRec)
   pub marks : List Mark
   pub knows : Knows log place index lines marks
   pub counts : count ≡ length lines
   pub ids : ids_of marks ≡ ids_onto [] lines
-  pub cached : IsCache kept lines
+  pub cached : IsCache kept marks

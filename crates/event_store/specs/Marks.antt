@@ -1,5 +1,5 @@
 -- What an index knows of the lines with a record. In each list the last line comes first.
-use Rattle.std.specs.Prelude.{ℕ, ◌≡◌, ◌+◌, ◌%◌, ◌<◌, ◌≤◌, ◌==◌, ◌&&◌, not, Bool, true, false, List, [], ◌∷◌, if◌then◌else◌, Option, Some, None, IfSome, unwrap_or}
+use Rattle.std.specs.Prelude.{ℕ, ◌≡◌, ◌+◌, ◌%◌, ◌<◌, ◌≤◌, ◌==◌, ◌&&◌, not, Bool, true, false, List, [], ◌∷◌, if◌then◌else◌, Option, Some, None, IfSome, option_map, unwrap_or}
 use Rattle.std.specs.Option.{option_or}
 use Rattle.std.specs.Ordering.{nat_cmp, ordering_then}
 use Rattle.std.specs.declared.cmp.Ordering.{Ordering}
@@ -72,6 +72,10 @@ as_first m earlier = record { place = m.place; ordered = is_in_order (ids_of ear
 abbrev pub first_of : List Mark → EventId → Option First
 first_of [] k = None
 first_of (m ∷ earlier) k = option_or (first_of earlier k) (if is_same k m.id then Some (as_first m earlier) else None)
+
+-- and where it begins
+abbrev pub place_of : List Mark → EventId → Option ℕ
+place_of marks k = option_map (λ f. f.place) (first_of marks k)
 
 -- the places fall, from below this one
 abbrev pub Falls : ℕ → List Mark → Type 0

@@ -1,4 +1,4 @@
-// The store, which keeps a sparse index of the lines that it has read, and a few records.
+// The store, which keeps a sparse index of the lines that it has read, and the places of some.
 ghost use Rattle.std.specs.Prelude.{◌<◌, ◌^◌, IsTrue};
 ghost use Rattle.event_store.specs.Held.{Holds, at_hand};
 
@@ -44,8 +44,7 @@ pub enum LookFault {
 ///
 /// An id is of a process, by its address and process id. A line is in order where its micros are above those of each
 /// earlier line of its process. Of each process every 16th in-order line is indexed, by its id and its place; of each id
-/// that other lines have, the first of them. So an in-order log takes a few bytes a line, and no record but those of the
-/// cache.
+/// that other lines have, the first of them. So an in-order log takes a few bytes a line beside the cache, and no record.
 #[derive(Drop)]
 pub struct EventStore<L: LogFile> {
     tail: Tail<L>,
@@ -67,8 +66,8 @@ impl<L: LogFile> EventStore<L> {
     ghost use Rattle.event_store.specs.Found.{IsLookup, IsSpelled};
     ghost use Rattle.event_store.specs.Order.{entries_of};
 
-    /// A store of the log's queries, of which nothing is read yet. `cache` is how many records are kept at hand at most,
-    /// two where it is 1; their memory is taken as they come.
+    /// A store of the log's queries, of which nothing is read yet. `cache` is of how many lines the places are kept at hand at
+    /// most, two where it is 1; their memory is taken as they come.
     pub fn new(alloc: Global, log: L, cache: u32) -> Result<EventStore<L>, (AllocError, L)>
         requires { 1 ≤ cache }
         ensures log { IfOk result (λ store. store.tail.log ≡ log) }
@@ -109,7 +108,7 @@ impl<L: LogFile> EventStore<L> {
     /// Reads the next line. A block of 4 KiB is read at a time. Logarithmic time beside that, and memory for an
     /// entry at every 16th in-order line of a process and at each line that is out of order.
     ///
-    /// A record that is in order is kept at hand, so a look-up of its id that follows reads nothing.
+    /// Where a record in order begins is kept at hand, so a look-up of its id that follows reads its line alone.
     pub fn advance(&mut self) -> Result<Step, LookFault>
         ensures line { IsTrue L.tells → result ≡ Ok step.Line → (read : Option Query) × ReadsNext (L.bytes self.old.tail.log) self.old.tail.place self.new.tail.place read }
         ensures end { IsTrue L.tells → result ≡ Ok step.End → IsAtEnd (L.bytes self.old.tail.log) self.old.tail.place }
@@ -135,8 +134,8 @@ impl<L: LogFile> EventStore<L> {
     /// The first record with the id among the lines read.
     ///
     /// Logarithmic time, and nothing is read, where the id's micros are above those of all lines of its process, or
-    /// its process has none, or the record is at hand. Else it reads again the lines between two entries of the process,
-    /// found in logarithmic time, and perhaps one line more.
+    /// its process has none; one line is read where its place is at hand. Else it reads again the lines between two entries
+    /// of the process, found in logarithmic time, and perhaps one line more.
     pub fn lookup(&mut self, id: EventId) -> Result<Lookup, LookFault>
         ensures found { IsTrue L.tells → (lines : List (Option Query)) → AreRead (L.bytes self.old.tail.log) self.old.tail.place lines → IfOk result (IsLookup lines id) }
         ensures spelled { IfOk result IsSpelled }
@@ -148,10 +147,8 @@ impl<L: LogFile> EventStore<L> {
         if self.index.is_next(id) {
             return Ok(Lookup::NotYet { read });
         }
-        if let Some(query) = self.recent.recall(self.alloc, id)? {
-            return Ok(Lookup::Found(query));
-        }
-        match look(self.alloc, &mut self.tail, &self.index, id)? {
+        let known = self.recent.recall(id);
+        match look(self.alloc, &mut self.tail, &self.index, known, id)? {
             Some(query) => Ok(Lookup::Found(query)),
             None => Ok(Lookup::NotYet { read }),
         }

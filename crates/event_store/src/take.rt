@@ -24,6 +24,6 @@ pub(crate) fn take_in(
     };
     let is_next = index.is_next(query.id);
     index.see(query.id, place)?;
-    recent.remember(is_next, query);
+    recent.remember(is_next, query.id, place);
     Ok(())
 }
