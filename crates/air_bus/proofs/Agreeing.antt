@@ -1,21 +1,7 @@
 -- What one entry does to all parts of an Air.
 use Rattle.std.proofs.Common.{◌≡◌, ℕ, ◌+◌, ◌<◌, ◌^◌, ◌==◌, Bool, if◌then◌else◌, List, [], ◌∷◌, ◌++◌, length, get_or, set, refl, sym, ap, ◌∙◌, subst, arith, length-append}
 use Rattle.std.specs.Prelude.{Option}
-use Rattle.std.proofs.lemmas.List.{length-set, get_or_read}
-use Rattle.std.proofs.lemmas.List.Sums.{fold_push}
-use Rattle.lossy_link.specs.declared.plan.Kind.{Kind}
-use Rattle.lossy_link.specs.Fates.{PlanView}
-use Rattle.air_bus.specs.declared.entry.Entry.{Entry}
-use Rattle.air_bus.specs.declared.entry.Entry.TheVariants.{Begin}
-use Rattle.air_bus.specs.declared.entry.Input.{Input}
-use Rattle.air_bus.specs.declared.entry.Phase.{Phase}
-use Rattle.air_bus.specs.declared.entry.Phase.TheVariants.{Down}
-use Rattle.air_bus.specs.declared.inbox.Inbox.{Inbox}
-use Rattle.air_bus.specs.Airs.{Agrees, open_of}
-use Rattle.air_bus.specs.History.{MayFollow, node_of, phase, phase_after, next_input}
-use Rattle.air_bus.specs.Inboxes.{Keeps, AllTurn, AreWide}
-use Rattle.air_bus.specs.Copies.{next_copy}
-use Rattle.air_bus.specs.Waiting.{Received, received, waiting, after_entry, taken_by, nothing}
+use Rattle.air_bus.proofs.Words.{length-set, get_or_read, fold_push, Kind, PlanView, Entry, Begin, Input, Phase, Down, Inbox, Agrees, open_of, MayFollow, node_of, phase, phase_after, next_input, Keeps, AllTurn, next_copy, Received, received, waiting, after_entry, taken_by, nothing}
 use Rattle.air_bus.proofs.Phases.{phases_kept, open_set, aired_more}
 
 module _ (plan : PlanView) (kinds : List Kind) (phases : List Phase) (turns : ℕ) (inboxes : List Inbox) (h : List Entry) (was : Agrees plan kinds phases turns inboxes h) where
@@ -30,9 +16,6 @@ module _ (plan : PlanView) (kinds : List Kind) (phases : List Phase) (turns : �
     inbox_each = λ n d inside. turn n d (omega (arith, inside, was.many)) (length kinds) (received plan kinds n h) (was.inbox_each n d inside);
     aired = was.aired;
   }
-
-  pub wide_of : AreWide (length kinds) inboxes
-  wide_of = λ k d below. (was.inbox_each k d (omega (arith, below, was.many))).width
 
   -- one entry more
   pub agrees_more : (l : Entry) (at : ℕ) (p : Phase) (turns' : ℕ) (inboxes' : List Inbox) (h' : List Entry)

@@ -1,24 +1,7 @@
 -- What follows for an aired history.
 use Rattle.std.proofs.Common.{◌≡◌, ◌≢◌, inl, inr, ℕ, ◌-◌, ◌==◌, ◌++◌, Bool, true, false, List, [], ◌∷◌, map, Some, None, fold, refl, sym, ap, subst, append_assoc}
 use Rattle.std.specs.Prelude.{Option, option_map, find, nat_lt}
-use Rattle.std.proofs.lemmas.Bool.{cond_both, eqb-true}
-use Rattle.list_words.specs.Lists.{Mem, Each}
-use Rattle.list_words.proofs.Lists.{mem_left, mem_right, each_append, each_more, each_from}
-use Rattle.lossy_link.specs.declared.plan.Kind.{Kind}
-use Rattle.lossy_link.specs.declared.plan.Fate.{Fate}
-use Rattle.lossy_link.specs.declared.plan.Fate.TheVariants.{Deliver, Drop, Twice, Late}
-use Rattle.lossy_link.specs.Fates.{PlanView}
-use Rattle.air_bus.specs.declared.entry.Input.{Input}
-use Rattle.air_bus.specs.declared.entry.Input.TheVariants.{Start, Tick, Own, Packet}
-use Rattle.air_bus.specs.declared.entry.Entry.{Entry}
-use Rattle.air_bus.specs.declared.entry.Entry.TheVariants.{Begin, End, Stop}
-use Rattle.air_bus.specs.declared.entry.Phase.{Phase}
-use Rattle.air_bus.specs.declared.entry.Phase.TheVariants.{Down, Idle, Busy}
-use Rattle.air_bus.specs.Copies.{Copy, copies_of, take_out, sooner, least_of, next_copy}
-use Rattle.air_bus.specs.Inputs.{packet_input, or_other}
-use Rattle.air_bus.specs.Waiting.{Received, nothing, link_fate, ordinal, arriving, puts_one, one_packet, puts, taken_by, after_entry, waiting}
-use Rattle.air_bus.specs.History.{MayFollow, next_input, node_of, phase}
-use Rattle.air_bus.specs.Laws.{IsStart, Fits, Sent, sent_to, sent_by, sent}
+use Rattle.air_bus.proofs.Words.{cond_both, eqb-true, Mem, Each, mem_left, mem_right, each_append, each_more, each_from, Kind, Fate, Deliver, Drop, Twice, Late, PlanView, Input, Start, Tick, Own, Packet, Entry, Begin, End, Stop, Phase, Down, Idle, Busy, Copy, copies_of, take_out, sooner, least_of, next_copy, packet_input, or_other, Received, nothing, link_fate, ordinal, arriving, puts_one, one_packet, puts, taken_by, after_entry, waiting, MayFollow, next_input, node_of, phase, IsStart, Fits, Sent, sent_to, sent_by, sent}
 
 -- ---- turns alternate
 

@@ -1,11 +1,6 @@
 -- An Air may go to another thread. The prover shows this by itself of a struct whose fields' types it knows, but not of a type that leads back to itself.
 use Rattle.std.proofs.Common.{ℕ, zero, suc, ◌+◌, List, length}
-use mir.Val.{Val}
-use base.Shift.{Keyless}
-use denote.RattleType.{RattleType}
-use denote.Model.Knot.{stage}
-use denote.Param.Send.{IsSend, sendable}
-use Rattle.std.proofs.Crossing.{crosses}
+use Rattle.air_bus.proofs.Words.{Val, Keyless, RattleType, stage, IsSend, sendable, crosses}
 use Rattle.air_bus.specs.contracts.air.Air as air
 use Rattle.air_bus.specs.contracts.history.History as history
 use Rattle.air_bus.specs.contracts.trail.Trail as trail

@@ -1,10 +1,7 @@
 -- The first copy of least delay, where it is known.
 use Rattle.std.proofs.Common.{◌≡◌, ℕ, ◌<◌, ◌≤◌, ◌==◌, cond, if◌then◌else◌, List, [], ◌∷◌, ◌++◌, map, Some, sym, ap, ◌∙◌, arith}
 use Rattle.std.specs.Prelude.{nat_lt, find}
-use Rattle.std.proofs.lemmas.Bool.{cond_both, ltb-true, ltb-false, eq-eqb, ne_eqb}
-use Rattle.list_words.specs.Lists.{Each}
-use Rattle.list_words.proofs.Lists.{each_append, each_more}
-use Rattle.air_bus.specs.Copies.{Copy, least_delay, least_of, take_out, next_copy, left_by, sooner}
+use Rattle.air_bus.proofs.Words.{cond_both, ltb-true, ltb-false, eq-eqb, ne_eqb, Each, each_append, each_more, Copy, least_delay, least_of, take_out, next_copy, left_by, sooner}
 
 pub least_keeps : (m d : ℕ) (cs : List Copy) → d ≤ m → Each (λ (c : Copy). d ≤ c.delay) cs → d ≤ least_delay m cs
 least_keeps m d [] l e = l

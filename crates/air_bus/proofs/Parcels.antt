@@ -1,23 +1,7 @@
 -- What a queue's parcels do when one is put, ripens or is taken.
 use Rattle.std.proofs.Common.{◌≡◌, ◌⊎◌, ⊎_elim, inl, inr, ℕ, ◌+◌, ◌-◌, ◌<◌, ◌≤◌, ◌==◌, ◌&&◌, ◌||◌, Bool, true, false, cond, List, [], ◌∷◌, ◌++◌, ◌↔◌, length, get_or, map, Some, None, refl, sym, ap, ◌∙◌, subst, arith}
 use Rattle.std.specs.Prelude.{Option, IsSome, IfSome, option_map, nat_le, nat_lt, sum_by}
-use Rattle.std.specs.List.{All}
-use Rattle.std.specs.declared.cmp.Ordering.{Ordering}
-use Rattle.std.specs.declared.cmp.Ordering.TheVariants.{Less, Equal, Greater}
-use Rattle.std.specs.Borrow.{Bor}
-use Rattle.std.specs.Ordering.{nat_cmp, on, flip_args, then_cmp, ordering_then, is_lt}
-use Rattle.std.specs.BinaryHeap.{IsUpperBound}
-use Rattle.std.proofs.lemmas.List.Elements.{All-from_recursion}
-use Rattle.std.specs.Str.{bytes_eq}
-use Rattle.std.proofs.lemmas.Bool.{true≢false, leb-true, ltb-true, ltb-false, le-leb, lt-ltb, eqb-true, eqb-false, eq-eqb, cases_lt, and_parts, and_from, or_left, or_right, or_cases}
-use Rattle.std.proofs.lemmas.Slice.Eq.{bytes_eq-Decides}
-use Rattle.std.proofs.lemmas.List.{map-append, length-map}
-use Rattle.std.proofs.lemmas.List.Sums.{sum_by-append, sum_by-cons, sum_by-le, get_or-le-sum_by}
-use Rattle.list_words.specs.Lists.{Each, EachPair}
-use Rattle.list_words.proofs.Lists.{each_append, each_more, pairs_push}
-use Rattle.air_bus.specs.declared.queue.Parcel.{Parcel}
-use Rattle.air_bus.specs.Copies.{Copy, next_copy, left_by, sooner}
-use Rattle.air_bus.specs.Queues.{copy_at, AreTogether, Stands}
+use Rattle.air_bus.proofs.Words.{All, Ordering, Less, Equal, Greater, Bor, nat_cmp, on, flip_args, then_cmp, ordering_then, is_lt, IsUpperBound, All-from_recursion, bytes_eq, true≢false, leb-true, ltb-true, ltb-false, le-leb, lt-ltb, eqb-true, eqb-false, eq-eqb, cases_lt, and_parts, and_from, or_left, or_right, or_cases, bytes_eq-Decides, map-append, length-map, sum_by-append, sum_by-cons, sum_by-le, get_or-le-sum_by, Each, EachPair, each_append, each_more, pairs_push, Parcel, Copy, next_copy, left_by, sooner, copy_at, AreTogether, Stands}
 use Rattle.air_bus.proofs.Least.{next_is, left_is}
 
 -- the order of a heap: what is due later is less, and so is what arrived later
@@ -137,9 +121,6 @@ each_together t ready late ps together r l =
     each_zero t ps (omega (arith, together.each (λ (p : Parcel). miss (t p)), sum_zero t ready r, sum_zero t late l))
 
 -- ---- what stands
-
-pub none_stand : (taken next : ℕ) → Stands taken next [] [] []
-none_stand taken next = record { parcels = []; together = record { each = λ f. refl }; ascend = tt; arrived = tt; copies_is = refl }
 
 -- there are as many copies as parcels in the heaps
 count_stand : (taken next : ℕ) (ready late : List Parcel) (copies : List Copy) → Stands taken next ready late copies → length ready + length late ≡ length copies

@@ -1,16 +1,7 @@
 -- What one entry changes.
 use Rattle.std.proofs.Common.{◌⊎◌, inl, inr, ⊎_elim, length-append, arith, refl, ◌≡◌, ◌≢◌, ℕ, ◌+◌, ◌<◌, ◌≤◌, List, [], ◌∷◌, ◌++◌, length, get_or, set, if◌then◌else◌, sym, ap, ◌∙◌, subst, get_or-set_other, get_or-set_same, eq-eqb, ne_eqb}
-use mathlib.Core.Logic.{dite}
-use native.Mathlib.Decide.{ℕ_discrete}
-use Rattle.std.proofs.lemmas.List.Sums.{fold_push, sum_by-set, get_or-le-sum_by}
 use Rattle.std.specs.Prelude.{sum_by}
-use Rattle.air_bus.specs.declared.entry.Entry.{Entry}
-use Rattle.air_bus.specs.declared.entry.Phase.{Phase}
-use Rattle.air_bus.specs.declared.entry.Phase.TheVariants.{Down, Idle, Busy}
-use Rattle.lossy_link.specs.declared.plan.Kind.{Kind}
-use Rattle.lossy_link.specs.Fates.{PlanView}
-use Rattle.air_bus.specs.Airs.{open_of}
-use Rattle.air_bus.specs.History.{MayFollow, IsAired, node_of, phase_after, phase_step, phase}
+use Rattle.air_bus.proofs.Words.{dite, ℕ_discrete, fold_push, sum_by-set, get_or-le-sum_by, Entry, Phase, Down, Idle, Busy, Kind, PlanView, open_of, MayFollow, IsAired, node_of, phase_after, phase_step, phase}
 
 pub phase_here : (h : List Entry) (e : Entry) (n : ℕ) → node_of e ≡ n → phase n (h ++ e ∷ []) ≡ phase_after e
 phase_here h e n is = fold_push (phase_step n) Down h e ∙ ap (λ b. if b then phase_after e else phase n h) (eq-eqb _ _ is)

@@ -1,16 +1,7 @@
 -- What the packets of an end do to the inboxes.
-use Rattle.std.proofs.Common.{◌≡◌, ℕ, suc, zero, ◌+◌, ◌-◌, ◌<◌, ◌≤◌, ◌==◌, Bool, true, false, if◌then◌else◌, List, [], ◌∷◌, length, get_or, set, take, drop, fold, refl, sym, ap, ◌∙◌, subst, arith, get_or-set_other, get_or-set_same, eq-eqb, ne_eqb}
+use Rattle.std.proofs.Common.{◌≡◌, ℕ, suc, zero, ◌+◌, ◌-◌, ◌<◌, ◌==◌, Bool, true, false, if◌then◌else◌, List, [], ◌∷◌, length, get_or, set, take, drop, fold, refl, sym, ap, ◌∙◌, subst, arith, get_or-set_other, get_or-set_same, eq-eqb, ne_eqb}
 use Rattle.std.specs.Prelude.{nat_lt}
-use Rattle.std.proofs.lemmas.Bool.{lt-ltb}
-use Rattle.std.proofs.lemmas.List.{get_or_read, length-set}
-use Rattle.std.proofs.lemmas.List.Sums.{fold_more}
-use mathlib.Core.Logic.{dite}
-use native.Mathlib.Decide.{ℕ_discrete}
-use Rattle.lossy_link.specs.declared.plan.Kind.{Kind}
-use Rattle.lossy_link.specs.Fates.{PlanView}
-use Rattle.air_bus.specs.declared.inbox.Inbox.{Inbox}
-use Rattle.air_bus.specs.Inboxes.{Keeps, Turns, AllTurn, AreWide}
-use Rattle.air_bus.specs.Waiting.{Received, puts, puts_one, one_packet}
+use Rattle.air_bus.proofs.Words.{lt-ltb, get_or_read, fold_more, dite, ℕ_discrete, Kind, PlanView, Inbox, Keeps, Turns, AllTurn, Received, puts, puts_one, one_packet}
 
 module _ (plan : PlanView) (kinds : List Kind) where
   -- the first so many are put, and the others are lost
@@ -52,11 +43,6 @@ module _ (plan : PlanView) (kinds : List Kind) where
       → AllTurn olds (set olds at new) (λ n r. one_packet plan kinds n from is_kept r p)
   turn_one from is_kept olds at p x new here below read turn = turn_step from is_kept olds olds at p.0 p.1 x new (λ n r. r) here refl (omega (arith, below, here)) read turn (λ n d inside nodes r k. k)
 
-  -- and one to a number that no node has
-  pub turn_none : (from : ℕ) (is_kept : Bool) (olds : List Inbox) (p : ℕ × List ℕ) → length olds ≤ p.0 → AllTurn olds olds (λ n r. one_packet plan kinds n from is_kept r p)
-  turn_none from is_kept olds p past = λ n d below nodes r k.
-      subst (Keeps nodes (get_or olds n d)) (ap (λ b. if b then puts_one plan kinds n from p.1 is_kept r else r) (sym (ne_eqb p.0 n (λ e. omega (arith, past, below, e))))) k
-
   -- a loop's step: the packet at i goes where it goes
   pub step_more : (from : ℕ) (is_kept : Bool) (olds mids news : List Inbox) (p : ℕ × List ℕ) (ps : List (ℕ × List ℕ)) (i : ℕ)
       → i < length ps → p ≡ get_or ps i p → length mids ≡ length olds → AllTurn mids news (λ n r. one_packet plan kinds n from is_kept r p)
@@ -95,11 +81,3 @@ turn_at olds at x new f inside read turn = λ n d below nodes r k.
     (λ other.
     let change : r ≡ (if at == n then f r else r) = ap (λ b. if b then f r else r) (sym (ne_eqb at n (λ e. other (sym e)))) in
     subst (λ i. Keeps nodes i (if at == n then f r else r)) (sym (get_or-set_other olds at n new d other)) (subst (Keeps nodes (get_or olds n d)) change k))
-
--- the counts stay as wide
-pub wide_set : (nodes : ℕ) (mids : List Inbox) (at : ℕ) (x new : Inbox) → at < length mids → x ≡ get_or mids at x → length new.sent.items ≡ length x.sent.items → AreWide nodes mids → AreWide nodes (set mids at new)
-wide_set nodes mids at x new inside read width wide = λ k d below. dite (ℕ_discrete k at)
-    (λ is.
-    let old : length x.sent.items ≡ nodes = subst (λ (i : Inbox). length i.sent.items ≡ nodes) (sym read) (wide at x inside) in
-    subst (λ (i : Inbox). length i.sent.items ≡ nodes) (sym (ap (λ m. get_or (set mids at new) m d) is ∙ get_or-set_same mids at new d inside)) (width ∙ old))
-    (λ other. subst (λ (i : Inbox). length i.sent.items ≡ nodes) (sym (get_or-set_other mids at k new d other)) (wide k d (omega (arith, below, length-set mids at new))))

@@ -1,15 +1,7 @@
 -- A dead replica has no entry.
-use Rattle.std.proofs.Common.{◌≡◌, ℕ, Bool, true, false, List, [], ◌∷◌, ◌++◌, append_assoc, refl, sym, ◌∙◌, ap, ne_eqb}
+use Rattle.std.proofs.Common.{◌≡◌, ℕ, true, List, [], ◌∷◌, ◌++◌, append_assoc, refl, sym, ◌∙◌, ap, ne_eqb}
 use Rattle.std.specs.Prelude.{filter}
-use mathlib.Core.Logic.{dite}
-use native.Mathlib.Decide.{ℕ_discrete}
-use Rattle.air_bus.specs.declared.entry.Entry.{Entry}
-use Rattle.air_bus.specs.declared.entry.Entry.TheVariants.{Begin, End, Stop}
-use Rattle.air_bus.specs.declared.entry.Phase.TheVariants.{Down, Busy}
-use Rattle.lossy_link.specs.declared.plan.Kind.{Kind}
-use Rattle.lossy_link.specs.Fates.{PlanView}
-use Rattle.air_bus.specs.History.{MayFollow, IsAired, node_of, is_of, phase}
-use Rattle.air_bus.specs.Waiting.{is_dead}
+use Rattle.air_bus.proofs.Words.{Entry, Begin, End, Stop, Down, Kind, PlanView, MayFollow, IsAired, node_of, is_of, phase, is_dead}
 use Rattle.air_bus.proofs.Phases.{phase_else}
 
 module _ (plan : PlanView) (kinds : List Kind) (n : ℕ) (dead : is_dead plan.dead kinds n ≡ true) where

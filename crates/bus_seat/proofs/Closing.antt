@@ -9,7 +9,6 @@ use Rattle.atomic_table.specs.Seated.{TableId}
 use Rattle.air_bus.specs.declared.entry.Entry.{Entry}
 use mathlib.Core.Option.{some, some-injective}
 use lib.ListN.{get_elem?}
-use Rattle.std.proofs.lemmas.List.{length-map}
 use Rattle.atomic_table.specs.Table.{Final, Seen}
 use Rattle.air_bus.specs.History.{Flight}
 use Rattle.bus_seat.specs.declared.view.View.{View}
@@ -99,9 +98,6 @@ told_in log bus n ss same all = told_each log ss (subst (All Numbered) (sym same
 pub fresh_count : (bus : BusId) (n : ℕ) → length (fresh_to bus n) ≡ n
 fresh_count bus zero = refl
 fresh_count bus (suc n) = omega (arith, length-append (fresh_to bus n) (fresh bus (Some n) ∷ []), fresh_count bus n)
-
-pub seats_count : (bus : BusId) (front : List Sight) → map tag front ≡ map tag (fresh_to bus (count bus.base)) → length front ≡ (count bus.base)
-seats_count bus front same = omega (arith, length-map front tag, length-map (fresh_to bus (count bus.base)) tag, ap length same, fresh_count bus (count bus.base))
 
 -- what the closed table has
 pub closed_seats : (bus : BusId) (table : TableId) (front : List Sight) (run : Sight) (m : Sat) (v : View) (id : ℕ) (base : Flight) (ws : List ℕ) (xs : List Flight) (air : Flight) → base ≡ bus.base → AreSeatsOf bus (front ++ run ∷ []) → sight table m.0 ≡ run

@@ -1,8 +1,8 @@
 -- Each step keeps the rule.
-use Rattle.std.proofs.Common.{◌≡◌, ◌≢◌, ◌⊎◌, ℕ, zero, suc, ◌+◌, ◌%◌, ◌^◌, ◌<◌, ◌≤◌, eqb, Bool, true, false, true≢false, List, [], ◌∷◌, ◌++◌, length, set, drop, get_or, Some, None, Option, IfSome, IsSome, is_some, refl, sym, ap, ◌∙◌, subst, inr, ⊎_elim, arith, append_assoc, append-nil, length-append, length-set, get_or-set_same, get_or-set_other, mod-eq_of_lt}
+use Rattle.std.proofs.Common.{◌≡◌, ◌≢◌, ◌⊎◌, ℕ, suc, ◌+◌, ◌%◌, ◌^◌, ◌<◌, ◌≤◌, eqb, Bool, true, false, true≢false, List, [], ◌∷◌, ◌++◌, length, set, drop, get_or, Some, None, Option, IfSome, IsSome, is_some, refl, sym, ap, ◌∙◌, subst, inr, ⊎_elim, arith, append_assoc, append-nil, length-append, length-set, get_or-set_same, get_or-set_other, mod-eq_of_lt}
 use Rattle.std.specs.Prelude.{sum_by, All}
 use mathlib.Core.Logic.{dite}
-use mathlib.Core.Option.{some, none, some-ne-none, some-injective}
+use mathlib.Core.Option.{some, none, some-injective}
 use mathlib.Core.Option.{Option as maybe}
 use mathlib.Core.List.{IsPrefix}
 use native.Mathlib.Decide.{ℕ_discrete, dec_le}
@@ -11,14 +11,14 @@ use lib.Seq.{set-get_or, drop-append_seam}
 use prog.Atomic.{either}
 use Rattle.std.proofs.lemmas.List.Elements.{All-nil, All-cons, All-head, All-tail, All-append}
 use Rattle.std.proofs.lemmas.List.Sums.{sum_by-cons}
-use Rattle.atomic_table.specs.Table.{State, Act, step, keeps, takes, gives, Valid, stepped, carried_after, rest, Allows, Splits, Joins, opening, Final, Seen}
+use Rattle.atomic_table.specs.Table.{State, Act, step, keeps, takes, gives, Valid, stepped, carried_after, rest, Allows, Splits, Joins, Final, Seen}
 use Rattle.atomic_table.proofs.Lists.{at_set, at_snoc, set_here, set_else, set_again, exchanged}
 use Rattle.air_bus.specs.declared.entry.Entry.{Entry}
 use Rattle.air_bus.specs.History.{Flight, node_of, phase}
 use Rattle.bus_seat.proofs.Made.{made_here, made_else, phase_made}
 use Rattle.bus_seat.specs.declared.view.View.{View}
 use Rattle.bus_seat.specs.declared.view.Ended.{Ended}
-use Rattle.bus_seat.specs.Views.{flown, made_by, ended, own, told, named, turn_of, gives_of, runner, blank, dealt, newcomer, joined, after, Sat, Took, taken, same, caught_up, added, off, given, one_if, some_one}
+use Rattle.bus_seat.specs.Views.{flown, made_by, ended, own, told, named, turn_of, gives_of, blank, dealt, newcomer, joined, after, Sat, Took, taken, same, caught_up, added, off, given, one_if, some_one}
 use Rattle.bus_seat.specs.Rule.{IsTold, Fits, Orderly}
 use Rattle.bus_seat.proofs.Fronts.{prefix_longer}
 use Rattle.bus_seat.proofs.Sums.{sum_set, sum_push, term_le, two_le, named_own, named_here, named_else, named_append, not_named}
@@ -329,38 +329,6 @@ counts_waiting base slots id m f s o wide at small =
           (λ j u _ e. o.each_view j u e) (λ n. refl) refl o.fresh,
       refl,
     )
-
--- an Air without a history is that with the empty one
-at_first : (f : Flight) → f.history ≡ [] → f ≡ flown f []
-at_first f is = ap (flown f) is
-
-pub starts : (base : Flight) → base.history ≡ [] → Orderly base (opening (0 ∷ 0 ∷ 0 ∷ []) (base ∷ []) (runner base))
-starts base none_yet = record {
-  log = [];
-  next = 0;
-  three_words = refl;
-  one_slot = refl;
-  counted = refl;
-  turns = refl;
-  one_turn = omega arith;
-  home = λ _. ap (λ (f : Flight). some (some f)) (at_first base none_yet);
-  each_view = one;
-  once = λ n l. absurd (omega arith);
-  never = λ n l. refl;
-  one_giver = omega arith;
-  fresh = λ n l. refl;
-}
-  where
-    one : (j : ℕ) (v : View) → get_elem? (runner base ∷ []) j ≡ some v → Fits base 0 [] v
-    one zero v e = subst (Fits base 0 []) (some-injective _ _ e) record {
-      based = λ _. refl;
-      saw = ([], refl);
-      tells = All-nil (IsTold []);
-      gives = refl;
-      whole = λ z. absurd (nothing_on z);
-      may = λ z. absurd (nothing_on z);
-    }
-    one (suc j) v e = absurd (some-ne-none v (sym e))
 
 abbrev Holder : List View → Type 0
 Holder l = (j : ℕ) × (u : View) × (get_elem? l j ≡ some u) × (u.turn ≡ true)

@@ -14,9 +14,6 @@ use Rattle.command_words.proofs.Walks.{IsReady, Takes, level_takes, pair_rows}
 abbrev pub sub : Command → Shape
 sub c = built_leaf (inherited (with_leaf_noted (marked_built photon_app.top)) (shape_of_command c))
 
-subs_are : (built photon_app).subs ≡ sub join ∷ sub drill ∷ sub verify ∷ sub bulk ∷ []
-subs_are = refl
-
 sub_found : (c : Command) → find (λ s. answers_to (name_of c) (label_of s)) (built photon_app).subs ≡ Some (sub c)
 sub_found join = refl
 sub_found drill = refl

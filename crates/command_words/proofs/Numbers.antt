@@ -8,7 +8,7 @@ use Rattle.clap.specs.Matches.{TriesOne, one_text}
 use Rattle.clap.specs.Walk.{one_of, rows_of}
 use Rattle.clap.specs.declared.parser.matches.Found.{Found}
 use Rattle.clap.proofs.WalkLemmas.{one_text-rows}
-use Rattle.command_words.specs.Words.{IsNumber, IsReadable, Text, number_of, number_or}
+use Rattle.command_words.specs.Words.{IsReadable, Text, number_of, number_or}
 
 -- digits have no plus before them
 pub no_plus : (ds : Text) → AllDigits 10 ds → without_leading_plus ds ≡ ds
@@ -16,13 +16,6 @@ no_plus [] h = refl
 no_plus (d ∷ ds) h =
     let plus : (d == 43) ≡ false = ne_eqb _ _ (λ e. omega (arith, digit_from_value d h.0)) in
     ap (λ (b : Bool). drop (cond b 1 0) (d ∷ ds)) plus
-
--- a number of plain words may be read
-pub as_readable : (low high : ℕ) (t : Text) → high < 2 ^ 64 → IsNumber low high t → IsReadable low high t
-as_readable low high t fits n =
-    let own = no_plus t n.2 in
-    let below : digits_value 10 t < 2 ^ 64 = omega arith in
-    rw own ((n.0, n.2), below, n.3, n.4)
 
 if_there : (o : Option Text) (P : Text → Type 0) → IsSomeAnd o P → IfSome o P
 if_there None P h = tt

@@ -31,9 +31,6 @@ or_nil (k ∷ ks) b e = cc
 
 -- ---- rows
 
-accepted : Rule → Text → Bool
-accepted a v = accepts a.ignore_case (parser_of_value a.parser) v
-
 -- the row's values passed the parser of its argument
 pub record IsGood (c : List Rule) (r : Row) : Type 0 where
   pub rule : Rule

@@ -1,14 +1,6 @@
 -- How many entries one line more makes.
 use Rattle.std.proofs.Common.{◌≡◌, ℕ, ◌+◌, ◌/◌, ◌%◌, ◌<◌, Bool, true, false, ◌==◌, cond, List, [], ◌∷◌, length, sum_by, count_by, refl, sym, ap, ◌∙◌, arith}
-use Rattle.std.specs.List.{list_any}
-use Rattle.std.proofs.lemmas.Bool.{both_ways, or_parts, or_left, or_right}
-use Rattle.std.proofs.lemmas.Bool.Decides.{nat_tests}
-use Rattle.std.proofs.lemmas.List.Sums.{sum_by-cons}
-use Rattle.event_id.specs.declared.id.EventId.{EventId}
-use Rattle.event_id.specs.EventId.{is_same}
-use Rattle.event_store.specs.declared.index.Process.{Process}
-use Rattle.event_store.specs.Order.{same_process, is_in_order, in_order, strays, run_length, distinct, entries_among}
-use Rattle.event_store.specs.Marks.{same_key, key_of, progress, begins}
+use Rattle.event_store.proofs.Words.{list_any, both_ways, or_parts, or_left, or_right, nat_tests, sum_by-cons, EventId, is_same, Process, same_process, is_in_order, in_order, strays, run_length, distinct, entries_among, same_key, key_of, progress, begins}
 use Rattle.event_store.proofs.Orders.{keys_one, key_itself}
 use Rattle.event_store.proofs.Changes.{key_flips}
 

@@ -1,16 +1,6 @@
 -- The first line with an id, by its place and by what an index says.
 use Rattle.std.proofs.Common.{◌≡◌, ℕ, ◌<◌, ◌≤◌, Bool, true, false, List, [], ◌∷◌, Option, Some, None, IfOk, Result, Ok, Err, option_map, is_some, unwrap_or, refl, sym, ap, ◌∙◌, subst, arith}
-use Rattle.std.specs.Option.{option_or}
-use Rattle.std.proofs.lemmas.Option.{none-some, MatchOption-at_some, MatchOption-at_none, same_Some}
-use Rattle.std.proofs.lemmas.Bool.{both_ways}
-use Rattle.event_id.specs.declared.id.EventId.{EventId}
-use Rattle.event_id.specs.EventId.{is_same}
-use Rattle.log_records.specs.declared.records.QueryRec.{QueryRec}
-use Rattle.event_store.specs.declared.index.Index.{Index}
-use Rattle.event_store.specs.Read.{ReadsNext, ReadsLines}
-use Rattle.event_store.specs.Found.{found}
-use Rattle.event_store.specs.Marks.{Mark, First, first_of, place_of, stray_of, Begins, IsStray, IsSegment}
-use Rattle.event_store.specs.Held.{Starts, Knows}
+use Rattle.event_store.proofs.Words.{option_or, none-some, MatchOption-at_some, MatchOption-at_none, same_Some, both_ways, EventId, is_same, QueryRec, Index, ReadsNext, ReadsLines, found, Mark, First, first_of, place_of, stray_of, Begins, IsStray, IsSegment, Starts, Knows}
 use Rattle.event_store.proofs.Orders.{same_itself}
 use Rattle.event_store.proofs.Changes.{no_value}
 use Rattle.event_store.proofs.Marking.{first_below, stray_first, no_stray, or_none}

@@ -1,17 +1,6 @@
 -- What a store holds, after a call.
 use Rattle.std.proofs.Common.{◌≡◌, ℕ, ◌+◌, ◌-◌, ◌^◌, ◌≤◌, min, true, false, List, [], ◌∷◌, length, take, length-drop, length-take, length-append, Result, Ok, Err, OnOk, OnErr, is_err, Option, Some, None, IfSome, refl, sym, ap, subst, arith}
-use Rattle.std.proofs.Props.{props}
-use Rattle.std.proofs.lemmas.Bool.{both_ways}
-use Rattle.tail_reader.specs.Buffered.{line_feed}
-use mathlib.Core.Logic.{∥∥₁_elim, ∥∥₁_map}
-use Rattle.event_id.specs.declared.id.EventId.{EventId}
-use Rattle.log_records.specs.declared.records.QueryRec.{QueryRec}
-use Rattle.event_store.specs.declared.index.Index.{Index}
-use Rattle.event_store.specs.Read.{ReadsNext, AreRead}
-use Rattle.event_store.specs.Found.{found}
-use Rattle.event_store.specs.Order.{entries_among, entries_of}
-use Rattle.event_store.specs.Marks.{Mark, Keeps, place_of, ids_of}
-use Rattle.event_store.specs.Held.{Knows, IsCache, Holds}
+use Rattle.event_store.proofs.Words.{props, both_ways, line_feed, ∥∥₁_elim, ∥∥₁_map, EventId, QueryRec, Index, ReadsNext, AreRead, found, entries_among, entries_of, Mark, Keeps, place_of, ids_of, Knows, IsCache, Holds}
 use Rattle.event_store.proofs.Walks.{walk_same, walk_beyond}
 
 -- nothing is read yet, and nothing is at hand
@@ -28,20 +17,6 @@ held_none log index kept keeps none = ∣ (λ t. record {
 -- the same log, and the same place
 pub held_on : {T : Type 0} (log now : List ℕ) (place at count : ℕ) (index : Index) (kept : EventId → Option ℕ) → ∥ (T → Holds log place count index kept) ∥₁ → (T → now ≡ log) → at ≡ place → ∥ (T → Holds now at count index kept) ∥₁
 held_on {T} log now place at count index kept held same stays = ∥∥₁_map held (λ (f : T → Holds log place count index kept) (t : T). subst (λ (l : List ℕ). Holds l at count index kept) (sym (same t)) (subst (λ (p : ℕ). Holds log p count index kept) (sym stays) (f t)))
-
-recached : (log : List ℕ) (place count : ℕ) (index : Index) (kept now : EventId → Option ℕ) → ((marks : List Mark) → IsCache kept marks → IsCache now marks) → Holds log place count index kept → Holds log place count index now
-recached log place count index kept now keeps h = record {
-  lines = h.lines;
-  marks = h.marks;
-  knows = h.knows;
-  counts = h.counts;
-  ids = h.ids;
-  cached = keeps h.marks h.cached;
-}
-
--- the same with other records at hand
-pub held_cache : {T : Type 0} (log : List ℕ) (place count : ℕ) (index : Index) (kept now : EventId → Option ℕ) → ∥ (T → Holds log place count index kept) ∥₁ → ((marks : List Mark) → IsCache kept marks → IsCache now marks) → ∥ (T → Holds log place count index now) ∥₁
-held_cache {T} log place count index kept now held keeps = ∥∥₁_map held (λ (f : T → Holds log place count index kept) (t : T). recached log place count index kept now keeps (f t))
 
 -- one line more, or none: what is known of one state is known of the next one
 pub held_next : {T : Type 0} (log log' : List ℕ) (place at count n : ℕ) (index index' : Index) (kept kept' : EventId → Option ℕ) → ∥ (T → Holds log place count index kept) ∥₁ → (T → Holds log place count index kept → Holds log' at n index' kept') → ∥ (T → Holds log' at n index' kept') ∥₁

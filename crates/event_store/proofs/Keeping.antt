@@ -1,16 +1,7 @@
 -- The index of one line more.
 use Rattle.std.proofs.Common.{◌≡◌, ℕ, ◌+◌, ◌%◌, ◌==◌, ◌&&◌, Bool, true, false, cond, List, ◌∷◌, Option, Some, None, is_some, OnOk, Result, Ok, Err, refl, sym, ap, ◌∙◌, arith}
-use Rattle.std.specs.Option.{option_or}
 use Rattle.std.specs.BTreeMap as tree
-use Rattle.std.specs.List.{list_any}
-use Rattle.std.proofs.lemmas.Option.{none-some}
-use Rattle.event_id.specs.declared.id.EventId.{EventId}
-use Rattle.event_id.specs.EventId.{is_same, id_cmp}
-use Rattle.event_store.specs.declared.index.Process.{Process}
-use Rattle.event_store.specs.declared.index.Progress.{Progress}
-use Rattle.event_store.specs.declared.index.Index.{Index}
-use Rattle.event_store.specs.Order.{is_in_order, strays}
-use Rattle.event_store.specs.Marks.{Mark, Keeps, ids_of, same_key, key_of, progress, progress_at, begins, entry_of, stray_of}
+use Rattle.event_store.proofs.Words.{option_or, list_any, none-some, EventId, is_same, id_cmp, Process, Progress, Index, is_in_order, strays, Mark, Keeps, ids_of, same_key, key_of, progress, progress_at, begins, entry_of, stray_of}
 use Rattle.event_store.proofs.Orders.{keys_one}
 use Rattle.event_store.proofs.Marking.{entry_first, no_first, stray_any}
 use Rattle.event_store.proofs.Counting.{stray_more, ordered_more}
@@ -94,14 +85,3 @@ ordered_kept index after id place g starts is starts_is moved at len strays mark
 
     starts_begins : starts ≡ begins (ids_of marks) id
     starts_begins = starts_is ∙ ap (λ (h : Progress). h.lines % 16 == 0) (is ∙ keeps.progress (key_of id)) ∙ sym (begins_is (ids_of marks) id order)
-
-pub same_kept : (index after : Index) (marks : List Mark) → ((p : Process) → progress_at after.processes p ≡ progress_at index.processes p) → after.entries ≡ index.entries → after.strays ≡ index.strays → Keeps index marks → Keeps after marks
-same_kept index after marks moved entries strays keeps = record {
-  progress = λ p. moved p ∙ keeps.progress p;
-  entries = λ k. ap (λ m. tree.get id_cmp m k) entries ∙ keeps.entries k;
-  strays = λ k. ap (λ m. tree.get id_cmp m k) strays ∙ keeps.strays k;
-  count = let lens : tree.btree_map_len after.entries ≡ tree.btree_map_len index.entries = ap (λ m. tree.btree_map_len m) entries in
-      let others : tree.btree_map_len after.strays ≡ tree.btree_map_len index.strays = ap (λ m. tree.btree_map_len m) strays in
-      let old = keeps.count in
-      omega (arith, old, lens, others);
-}

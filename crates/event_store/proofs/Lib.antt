@@ -1,3 +1,4 @@
+pub mod Words
 pub mod Refused
 pub mod Orders
 pub mod Marking

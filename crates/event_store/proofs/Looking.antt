@@ -1,17 +1,6 @@
 -- What one line more says of an id.
 use Rattle.std.proofs.Common.{◌≡◌, ℕ, ◌<◌, ◌≤◌, List, [], ◌∷◌, ◌++◌, length, Bool, Option, Some, None, true, false, is_some, refl, sym, ap, ◌∙◌, subst, arith}
-use Rattle.std.specs.Option.{option_or}
-use Rattle.std.proofs.lemmas.Bool.{both_ways}
-use Rattle.list_words.proofs.Splits.{split_same}
-use Rattle.event_id.specs.declared.id.EventId.{EventId}
-use Rattle.event_id.specs.EventId.{is_same, spell}
-use Rattle.log_records.specs.declared.records.QueryRec.{QueryRec}
-use Rattle.log_records.specs.Line.{space}
-use Rattle.tail_reader.specs.declared.tail.Next.TheVariants.{Line, Long}
-use Rattle.tail_reader.specs.Buffered.{line_feed}
-use Rattle.tail_reader.specs.Next.{IsNext}
-use Rattle.event_store.specs.Read.{ReadsAs, ReadsNext, ReadsLines}
-use Rattle.event_store.specs.Found.{found}
+use Rattle.event_store.proofs.Words.{option_or, both_ways, split_same, EventId, is_same, spell, QueryRec, space, Line, Long, line_feed, IsNext, ReadsAs, ReadsNext, ReadsLines, found}
 use Rattle.event_store.proofs.Changes.{no_value}
 use Rattle.event_store.proofs.Orders.{same_id}
 use Rattle.event_store.proofs.Refused.{long_line}

@@ -1,14 +1,6 @@
 -- Where the first line with an id stands, and what an index says of it.
 use Rattle.std.proofs.Common.{◌≡◌, ◌≢◌, ℕ, ◌<◌, ◌≤◌, ◌%◌, ◌⊎◌, inl, inr, ⊎_elim, Bool, true, false, not, ◌&&◌, ◌==◌, cond, List, [], ◌∷◌, Option, Some, None, is_some, refl, sym, ap, ◌∙◌, subst, arith, eq-eqb}
-use Rattle.std.specs.Option.{option_or}
-use Rattle.std.specs.List.{list_any}
-use Rattle.std.proofs.lemmas.Bool.{and_parts, and_from, cases_eq, or_left, or_right, cond-true}
-use Rattle.std.proofs.lemmas.Option.{none-some, same_Some, cond_some}
-use Rattle.event_id.specs.declared.id.EventId.{EventId}
-use Rattle.event_id.specs.EventId.{is_same}
-use Rattle.event_store.specs.declared.index.Process.{Process}
-use Rattle.event_store.specs.Order.{same_process, is_in_order, strays}
-use Rattle.event_store.specs.Marks.{Mark, First, as_first, ids_of, same_key, key_of, progress, begins, entry_of, stray_of, first_of, Falls}
+use Rattle.event_store.proofs.Words.{option_or, list_any, and_parts, and_from, cases_eq, or_left, or_right, cond-true, none-some, same_Some, cond_some, EventId, is_same, Process, same_process, is_in_order, strays, Mark, First, as_first, ids_of, same_key, key_of, progress, begins, entry_of, stray_of, first_of, Falls}
 use Rattle.event_store.proofs.Orders.{same_id, same_itself, keys_one, key_itself, above}
 
 or_some : {A : Type 0} (a b : Option A) (x : A) → option_or a b ≡ Some x → (a ≡ Some x) ⊎ ((a ≡ None) × (b ≡ Some x))

@@ -1,14 +1,6 @@
 -- Ids in order, and ids that are one.
 use Rattle.std.proofs.Common.{◌≡◌, ℕ, ◌+◌, ◌<◌, Bool, true, false, not, ◌&&◌, ◌||◌, ◌==◌, nat_lt, cond, List, [], ◌∷◌, refl, sym, subst, arith, ltb-true, eqb-true, eq-eqb, is_eq}
-use Rattle.std.specs.List.{list_any}
-use Rattle.std.proofs.lemmas.Bool.{and_parts, and_from, both_ways}
-use Rattle.std.proofs.lemmas.Bool.Decides.{nat_tests}
-use Rattle.event_id.specs.declared.id.EventId.{EventId}
-use Rattle.event_id.specs.EventId.{is_same, id_cmp}
-use Rattle.event_store.specs.declared.index.Process.{Process}
-use Rattle.event_store.specs.declared.index.Progress.{Progress}
-use Rattle.event_store.specs.Order.{same_process, is_in_order}
-use Rattle.event_store.specs.Marks.{same_key, key_of, progress}
+use Rattle.event_store.proofs.Words.{list_any, and_parts, and_from, both_ways, nat_tests, EventId, is_same, id_cmp, Process, Progress, same_process, is_in_order, same_key, key_of, progress}
 
 pub same_id : (a b : EventId) → is_same a b ≡ true → a ≡ b
 same_id a b e =

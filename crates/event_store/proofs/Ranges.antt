@@ -1,15 +1,6 @@
 -- Ids of one process between two others.
-use Rattle.std.proofs.Common.{◌≡◌, ℕ, ◌<◌, ◌≤◌, ◌⊎◌, inl, inr, true, false, ◌==◌, subst, arith, eq-eqb, nat_cmp, is_gt, Ordering, Less, Equal, Greater}
-use Rattle.std.specs.Ordering.{ordering_then}
-use Rattle.std.proofs.lemmas.Bool.{and_from, and_parts}
-use Rattle.std.proofs.lemmas.Bool.Decides.{nat_tests}
-use Rattle.event_id.specs.declared.id.EventId.{EventId}
-use Rattle.event_id.specs.EventId.{id_cmp}
-use Rattle.event_store.specs.Order.{same_process}
-
--- a's number is below b's, or they are equal and P
-At : ℕ → ℕ → Type 0 → Type 0
-At a b P = (a < b) ⊎ ((a ≡ b) × P)
+use Rattle.std.proofs.Common.{◌≡◌, ℕ, ◌<◌, ◌≤◌, ◌⊎◌, inl, inr, true, false, ◌==◌, arith, eq-eqb, nat_cmp, is_gt, Ordering, Less, Equal, Greater}
+use Rattle.event_store.proofs.Words.{ordering_then, and_from, nat_tests, EventId, id_cmp, same_process}
 
 first_of_two : (a b : ℕ) (rest : Ordering) → is_gt (ordering_then (nat_cmp a b) rest) ≡ false → (a < b) ⊎ ((a ≡ b) × (is_gt rest ≡ false))
 first_of_two a b Less h = grind (arith, nat_tests)
@@ -23,9 +14,6 @@ at_once : (a : ℕ) (rest : Ordering) → ordering_then (nat_cmp a a) rest ≡ r
 at_once a Less = grind (arith, nat_tests)
 at_once a Equal = grind (arith, nat_tests)
 at_once a Greater = grind (arith, nat_tests)
-
-up_to : (a b : ℕ) → a ≤ b → is_gt (nat_cmp a b) ≡ false
-up_to a b h = grind (arith, nat_tests)
 
 -- not above, as numbers
 not_above : (a b : EventId) → is_gt (id_cmp a b) ≡ false → (a.ip < b.ip) ⊎ ((a.ip ≡ b.ip) × ((a.pid < b.pid) ⊎ ((a.pid ≡ b.pid) × (a.micros ≤ b.micros))))
@@ -45,14 +33,3 @@ between lo hi k ip pid from up =
     let same_ip : k.ip ≡ hi.ip = omega (arith, f, t) in
     let same_pid : k.pid ≡ hi.pid = omega (arith, f, t) in
     (and_from (k.ip == hi.ip) (k.pid == hi.pid) (eq-eqb k.ip hi.ip same_ip) (eq-eqb k.pid hi.pid same_pid), omega (arith, f, t), omega (arith, f, t))
-
-pub within : (a b : EventId) → same_process a b ≡ true → a.micros ≤ b.micros → is_gt (id_cmp a b) ≡ false
-within a b same le =
-    let p = and_parts (a.ip == b.ip) (a.pid == b.pid) same in
-    here a.ip b.ip a.pid b.pid (eqb_is a.ip b.ip p.0) (eqb_is a.pid b.pid p.1)
-  where
-    eqb_is : (x y : ℕ) → (x == y) ≡ true → x ≡ y
-    eqb_is x y e = grind (arith, nat_tests)
-
-    here : (x y u v : ℕ) → x ≡ y → u ≡ v → is_gt (ordering_then (nat_cmp x y) (ordering_then (nat_cmp u v) (nat_cmp a.micros b.micros))) ≡ false
-    here x y u v e f = subst (λ (z : ℕ). is_gt (ordering_then (nat_cmp x z) (ordering_then (nat_cmp u v) (nat_cmp a.micros b.micros))) ≡ false) e (rw (at_once x) (subst (λ (z : ℕ). is_gt (ordering_then (nat_cmp u z) (nat_cmp a.micros b.micros)) ≡ false) f (rw (at_once u) (up_to a.micros b.micros le))))

@@ -1,10 +1,6 @@
 -- The places at hand.
 use Rattle.std.proofs.Common.{◌≡◌, ℕ, Bool, true, false, cond, List, Option, Some, IfSome, Result, Ok, Err, OnOk, OnErr, is_eq, refl, sym, subst}
-use Rattle.std.specs.Option.{option_or}
-use Rattle.event_id.specs.declared.id.EventId.{EventId}
-use Rattle.event_id.specs.EventId.{id_cmp}
-use Rattle.event_store.specs.Marks.{Mark, place_of}
-use Rattle.event_store.specs.Held.{IsCache}
+use Rattle.event_store.proofs.Words.{option_or, EventId, id_cmp, Mark, place_of, IsCache}
 use Rattle.event_store.proofs.Orders.{equal_id}
 
 abbrev Kept : Type 0

@@ -1,13 +1,7 @@
 -- Lines that are no record's.
 use Rattle.std.proofs.Common.{◌≡◌, ℕ, ◌+◌, ◌<◌, List, ◌∷◌, ◌++◌, length, ap, arith}
 use Rattle.std.specs.Prelude.{None}
-use Rattle.std.proofs.lemmas.List.{length-append}
-use Rattle.list_words.specs.Bytes.{Lacks}
-use Rattle.event_id.specs.EventId.{spell}
-use Rattle.event_id.proofs.Spelling.{length-spell-le}
-use Rattle.log_records.specs.Line.{space}
-use Rattle.tail_reader.specs.Buffered.{line_feed, behind}
-use Rattle.event_store.specs.Read.{ReadsAs, ReadsNext}
+use Rattle.event_store.proofs.Words.{length-append, Lacks, spell, length-spell-le, space, line_feed, behind, ReadsAs, ReadsNext}
 
 -- a line that is too long is no record's
 pub too_long : (line : List ℕ) → 296 < length line → ReadsAs line None

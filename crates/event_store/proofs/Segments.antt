@@ -1,10 +1,6 @@
 -- What the entries around an id say of the lines between them.
 use Rattle.std.proofs.Common.{◌≡◌, ℕ, ◌<◌, ◌≤◌, Bool, true, false, List, Option, Some, None, IfSome, refl, sym, ◌∙◌, subst, arith}
-use Rattle.std.proofs.lemmas.Option.{none-some}
-use Rattle.event_id.specs.declared.id.EventId.{EventId}
-use Rattle.event_store.specs.declared.index.Process.{Process}
-use Rattle.event_store.specs.Order.{same_process}
-use Rattle.event_store.specs.Marks.{Mark, same_key, key_of, entry_of, Falls, Begins, IsStray, IsSegment}
+use Rattle.event_store.proofs.Words.{none-some, EventId, Process, same_process, Mark, same_key, key_of, entry_of, Falls, Begins, IsStray, IsSegment}
 use Rattle.event_store.proofs.Orders.{key_itself, keys_one}
 use Rattle.event_store.proofs.Marking.{entry_first, from_entry, before_entry, has_entry}
 

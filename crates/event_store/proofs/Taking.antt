@@ -1,16 +1,6 @@
 -- What is known after one line more.
 use Rattle.std.proofs.Common.{◌≡◌, ℕ, ◌+◌, ◌<◌, Bool, true, false, cond, List, [], ◌∷◌, ◌++◌, Option, Some, None, MatchOption, option_map, refl, sym, ap, ◌∙◌, arith, length-append}
-use Rattle.std.specs.Option.{option_or}
-use Rattle.std.proofs.lemmas.Option.{none-some, IfSome_then}
-use Rattle.event_id.specs.declared.id.EventId.{EventId}
-use Rattle.event_id.specs.EventId.{is_same}
-use Rattle.log_records.specs.declared.records.QueryRec.{QueryRec}
-use Rattle.event_store.specs.declared.index.Index.{Index}
-use Rattle.event_store.specs.Read.{ReadsNext, AreRead}
-use Rattle.event_store.specs.Found.{found}
-use Rattle.event_store.specs.Order.{ids_onto}
-use Rattle.event_store.specs.Marks.{Mark, First, Keeps, as_first, first_of, place_of, ids_of, Falls}
-use Rattle.event_store.specs.Held.{Starts, IsCache, Holds}
+use Rattle.event_store.proofs.Words.{option_or, none-some, IfSome_then, EventId, is_same, QueryRec, Index, ReadsNext, AreRead, found, ids_onto, Mark, First, Keeps, as_first, first_of, place_of, ids_of, Falls, Starts, IsCache, Holds}
 use Rattle.event_store.proofs.Orders.{same_id, same_itself}
 use Rattle.event_store.proofs.Walks.{next_beyond, walk_push, found_append}
 
@@ -82,14 +72,3 @@ grown log place e count r index after kept now h step keeps cache = record {
 -- a new id's line is the first of it
 pub first_now : (place : ℕ) (q : QueryRec) (marks : List Mark) → first_of marks q.id ≡ None → place_of (record { place = place; id = q.id } ∷ marks) q.id ≡ Some place
 first_now place q marks none = rw (none, same_itself q.id) refl
-
--- the same lines, with another form of the index
-pub reindexed : (log : List ℕ) (place count : ℕ) (index after : Index) (kept : EventId → Option ℕ) → ((marks : List Mark) → Keeps index marks → Keeps after marks) → Holds log place count index kept → Holds log place count after kept
-reindexed log place count index after kept same h = record {
-  lines = h.lines;
-  marks = h.marks;
-  knows = record { walk = h.knows.walk; falls = h.knows.falls; tied = h.knows.tied; keeps = same h.marks h.knows.keeps };
-  counts = h.counts;
-  ids = h.ids;
-  cached = h.cached;
-}

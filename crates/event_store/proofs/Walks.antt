@@ -1,18 +1,6 @@
 -- Lines read one after another, of which there is one way.
 use Rattle.std.proofs.Common.{◌≡◌, ℕ, ◌+◌, ◌<◌, ◌≤◌, List, [], ◌∷◌, ◌++◌, length, Option, Some, None, refl, sym, ap, ◌∙◌, subst, arith, append-nil}
-use Rattle.std.specs.Option.{option_or}
-use Rattle.std.proofs.lemmas.List.Folds.{find-append}
-use Rattle.std.proofs.lemmas.List.Elements.{filter_map-append}
-use Rattle.list_words.specs.Bytes.{Lacks}
-use Rattle.list_words.proofs.Splits.{split_same, lacks_none}
-use Rattle.event_id.specs.declared.id.EventId.{EventId}
-use Rattle.event_id.specs.EventId.{is_same}
-use Rattle.log_records.specs.declared.records.QueryRec.{QueryRec}
-use Rattle.log_records.proofs.Grammar.{query_same}
-use Rattle.log_records.specs.Log.{first}
-use Rattle.tail_reader.specs.Buffered.{line_feed}
-use Rattle.event_store.specs.Read.{ReadsAs, ReadsNext, ReadsLines, IsAtEnd}
-use Rattle.event_store.specs.Found.{records, found}
+use Rattle.event_store.proofs.Words.{option_or, find-append, filter_map-append, Lacks, split_same, lacks_none, EventId, is_same, QueryRec, query_same, first, line_feed, ReadsAs, ReadsNext, ReadsLines, IsAtEnd, records, found}
 
 pub read_same : (line : List ℕ) (r s : Option QueryRec) → ReadsAs line r → ReadsAs line s → r ≡ s
 read_same line None None a b = refl

@@ -1,9 +1,9 @@
 -- One turn of the loop that reads the records of a kind, and one record more.
-use Rattle.std.proofs.Common.{add-one, ◌≡◌, inl, inr, ℕ, ◌+◌, ◌<◌, List, [], ◌∷◌, ◌++◌, length, take, drop, get_or, refl, sym, ◌∙◌, ap, subst, arith, Ok}
+use Rattle.std.proofs.Common.{add-one, ◌≡◌, ℕ, ◌+◌, ◌<◌, List, [], ◌∷◌, ◌++◌, length, take, drop, get_or, refl, sym, ◌∙◌, ap, subst, arith, Ok}
 use Rattle.std.proofs.lemmas.List.{take_more, take-append-drop}
 use Rattle.std.proofs.Math.Seq.{drop-cons}
-use Rattle.gate_journal.specs.Gate.{spans, StandsFor, IsOldOrNew}
-use Rattle.gate_journal.specs.Records.{Read, Keeps, KeepsOr}
+use Rattle.gate_journal.specs.Gate.{spans, StandsFor}
+use Rattle.gate_journal.specs.Records.{Read, Keeps}
 
 module _ {V : Type 0} (keeps : V → Read → Type 0) where
   pub record Next (rs : List (List ℕ)) (value : V) (place i : ℕ) : Type 0 where
@@ -36,15 +36,6 @@ module _ {V : Type 0} (keeps : V → Read → Type 0) where
       ap (λ (p : List ℕ). take i rs ++ p ∷ drop (i + 1) rs) is ∙ ap (λ (l : List (List ℕ)). take i rs ++ l) (sym (cut rs i d lt)) ∙ take-append-drop i rs in
       subst (λ (n : ℕ). damaged (Ok rs) n) (sym so.place_is) (subst (λ (l : List (List ℕ)). damaged (Ok l) (1 + spans (take i rs))) whole (wrong (take i rs) (drop (i + 1) rs) so.so_far))
 
-  -- bytes that stand for payloads keep what the payloads keep
-  pub keeps_of : (ps : List (List ℕ)) (value : V) (c : List ℕ) → StandsFor ps c → keeps value (Ok ps) → Keeps keeps value c
-  keeps_of ps value c stands kept = subst (λ (r : Read). keeps value r) (sym stands) kept
-
   -- and so the payloads keep what the bytes keep
   pub kept_as : (ps : List (List ℕ)) (value : V) (c : List ℕ) → StandsFor ps c → Keeps keeps value c → keeps value (Ok ps)
   kept_as ps value c stands kept = subst (λ (r : Read). keeps value r) stands kept
-
-  -- an append, seen as values
-  pub keeps_or : (ps : List (List ℕ)) (payload : List ℕ) (old new : V) (c : List ℕ) → keeps old (Ok ps) → keeps new (Ok (ps ++ payload ∷ [])) → IsOldOrNew ps payload c → KeepsOr keeps old new c
-  keeps_or ps payload old new c before after (inl stands) = inl (keeps_of ps old c stands before)
-  keeps_or ps payload old new c before after (inr stands) = inr (keeps_of (ps ++ payload ∷ []) new c stands after)

@@ -1,6 +1,6 @@
 -- The token of each id, in the order by time or among the newest.
 use Rattle.std.proofs.Common.{◌≡◌, ℕ, ◌≤◌, ◌<◌, Bool, true, false, not, cond, nat_lt, List, [], ◌∷◌, ◌++◌, take, drop, ◌+◌, filter, Option, None, Some, IsSome, is_some, is_eq, is_gt, refl, sym, ap, ◌∙◌, arith}
-use Rattle.std.proofs.lemmas.Bool.{true≢false, ltb-true, ltb-false}
+use Rattle.std.proofs.lemmas.Bool.{ltb-true, ltb-false}
 use Rattle.std.proofs.lemmas.Bool.Decides.{nat_tests}
 use Rattle.std.proofs.lemmas.List.{take-append-drop}
 use Rattle.event_id.specs.declared.id.EventId.{EventId}
@@ -71,18 +71,6 @@ given was id t none i = go (same_id id i) refl
   where
     go : (b : Bool) → same_id id i ≡ b → cond b (Some t) (was i) ≡ or_else (was i) (cond b (Some t) None)
     go true e = ap (λ o. or_else o (Some t)) (sym (ap was (sym (same_id-true id i e)) ∙ nobody (was id) none))
-    go false e = sym (or_none (was i))
-
--- an id that somebody has stays
-pub taken : (was : Held) (id : EventId) (t : Token) → is_some (was id) ≡ true → (i : EventId) → was i ≡ or_else (was i) (cond (same_id id i) (Some t) None)
-taken was id t some i = go (same_id id i) refl
-  where
-    kept : (o : Option Token) → is_some o ≡ true → o ≡ or_else o (Some t)
-    kept None e = absurd (true≢false (sym e))
-    kept (Some h) e = refl
-
-    go : (b : Bool) → same_id id i ≡ b → was i ≡ or_else (was i) (cond b (Some t) None)
-    go true e = kept (was i) (ap (λ (j : EventId). is_some (was j)) (sym (same_id-true id i e)) ∙ some)
     go false e = sym (or_none (was i))
 
 -- where no id below the bound has a token, and the others have theirs

@@ -43,9 +43,6 @@ other_line None line apart = absurd (apart refl)
 other_line (Some x) line apart = (x, refl, apart)
 
 module _ {R : Type 0} (line_of : R → List ℕ) (id_of : R → EventId) where
-  pub keeps_none : (seen : Seen) → ((k : EventId) → line_at seen k ≡ None) → Keeps line_of id_of seen []
-  keeps_none seen empty = record { each = λ r in_none. absurd (omega (arith, in_none.1)); only = λ k line e. none_some line (sym (empty k) ∙ e) }
-
   module _ (old new : Seen) (rs : List R) (r : R) (id : EventId) (line : List ℕ) (is_line : line ≡ line_of r) (is_id : id_of r ≡ id) (same : unwrap_or (line_at old id) line ≡ line) (kept : line_at new id ≡ Some line) (others : (k : EventId) → is_at id k ≡ false → line_at new k ≡ line_at old k) (keeps : Keeps line_of id_of old rs) where
     each_kept : (x : R) → Contains (rs ++ r ∷ []) x → line_at new (id_of x) ≡ Some (line_of x)
     each_kept x among =

@@ -92,6 +92,3 @@ module _ {R : Type 0} (line_of : R → List ℕ) (id_of : R → EventId) where
     -- one line more
     pub keeps_push : Keeps line_of id_of new (rs ++ r ∷ [])
     keeps_push = record { each = each }
-
-  pub keeps_none : (places : Places) → ((k : EventId) → place_at places k ≡ None) → Keeps line_of id_of places []
-  keeps_none places empty = record { each = empty }

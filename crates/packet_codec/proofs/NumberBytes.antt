@@ -1,7 +1,7 @@
 -- Numbers and their bytes.
-use Rattle.std.proofs.Common.{◌≡◌, ⊎_elim, ℕ, zero, suc, ◌-◌, ◌/◌, ◌%◌, ◌^◌, ◌<◌, ◌≤◌, List, [], ◌∷◌, ◌++◌, length, get_or, refl, sym, ap, ◌∙◌, subst, arith}
+use Rattle.std.proofs.Common.{◌≡◌, ⊎_elim, ℕ, zero, suc, ◌-◌, ◌/◌, ◌%◌, ◌^◌, ◌<◌, ◌≤◌, List, [], ◌∷◌, length, get_or, refl, sym, ap, ◌∙◌, subst, arith}
 use Rattle.std.specs.Int.{w16, w32, w64, to_be_bytes, from_be_bytes}
-use Rattle.std.proofs.lemmas.List.{get_or_past, get_or-append_right, get_or_append_left}
+use Rattle.std.proofs.lemmas.List.{get_or_past}
 use Rattle.std.proofs.lemmas.Nat.{be_bytes_2, be_bytes_4, be_bytes_8, from_be_bytes-to_be_bytes_2, from_be_bytes-to_be_bytes_4, from_be_bytes-to_be_bytes_8}
 use Rattle.std.proofs.lemmas.Bool.{cases_lt}
 use Rattle.packet_codec.specs.Cells.{Run, UpTo}
@@ -19,14 +19,6 @@ bytes_cons b z h t = record { at = go }
     go : (k : ℕ) → get_or (b ∷ z) k 0 < 256
     go zero = h
     go (suc k) = t.at k
-
-pub bytes_append : (x y : List ℕ) → Bytes x → Bytes y → Bytes (x ++ y)
-bytes_append x y p q = record {
-  at = λ k. ⊎_elim
-      (λ lt. subst (λ b. b < 256) (sym (get_or_append_left x y 0 k lt)) (p.at k))
-      (λ le. subst (λ b. b < 256) (sym (get_or-append_right x y (length x) k 0 refl le)) (q.at (k - length x)))
-      (cases_lt k (length x));
-}
 
 pub bytes_2 : (n : ℕ) → Bytes (to_be_bytes w16 n)
 bytes_2 n = bytes_cons _ _ (omega arith) (bytes_cons _ _ (omega arith) bytes_none)

@@ -1,26 +1,9 @@
 -- A bulk run: the setting that its two logs make, and the totals of its report.
 use Rattle.std.proofs.Common.{◌≡◌, ◌⊎◌, ◌≤◌, ◌*◌, ◌^◌, inl, inr, ℕ, List, Option, Some, None, codes, length, map, refl, sym, ap, subst, ◌∙◌, arith}
-use Rattle.std.specs.Option.{IsSomeAnd}
-use Rattle.lossy_link.specs.Fates.{PlanView}
-use Rattle.log_records.specs.declared.why.Why.{Why}
-use Rattle.log_records.specs.Check.{IsQueryLog, IsClickLog}
-use Rattle.log_records.specs.Log.{HoldsQueries, HoldsClicks}
-use Rattle.log_records.specs.Lines.{ClickLine, placed}
-use Rattle.log_records.proofs.Reading.{clicks_same, queries_same}
-use Rattle.log_records.specs.declared.report.ReportLine.{ReportLine}
-use Rattle.log_records.specs.Report.{distinct, line_of, totals}
-use Rattle.command_words.specs.Words.{BulkValues, Values}
-use Rattle.run_fault.specs.declared.fault.LogName.{LogName}
-use Rattle.turn_defs.specs.Setting.{Setting}
-use Rattle.dispatch_node.specs.Places.{IsLogOf}
+use Rattle.photon_cli.proofs.Words.{IsSomeAnd, PlanView, Why, IsQueryLog, IsClickLog, HoldsQueries, HoldsClicks, ClickLine, placed, clicks_same, queries_same, ReportLine, distinct, totals, BulkValues, Values, LogName, Setting, IsLogOf, RunLog, RunFault, IsBulkRun, IsBulkSetting, bulk_plan, Drills, IsDrilled, AreValid, IsAsked, Refuses, IsFailedRead, IsOfLogs}
+use Rattle.log_records.specs.Report.{line_of}
 use Rattle.bulk_logs.specs.Bulk as logs
-use Rattle.site_run.specs.declared.ran.RunLog.{RunLog}
-use Rattle.run_fault.specs.declared.fault.RunFault.{RunFault}
 use Rattle.run_fault.specs.declared.fault.RunFault.TheVariants as fault
-use Rattle.photon_cli.specs.Bulk.{IsBulkRun, IsBulkSetting, bulk_plan}
-use Rattle.photon_cli.specs.Drill.{Drills, IsDrilled}
-use Rattle.photon_cli.specs.Join.{AreValid, IsAsked, Refuses}
-use Rattle.photon_cli.specs.LogFaults.{IsFailedRead, IsOfLogs}
 use Rattle.photon_cli.proofs.Ends.{none_refused}
 use Rattle.photon_cli.proofs.Refusals.{within}
 use Rattle.photon_cli.proofs.Runs.{clicks_back}

@@ -1,20 +1,10 @@
 -- By what a fault and its cause say, how a join or a verification may end.
 use Rattle.std.proofs.Common.{◌≡◌, ◌≢◌, ◌⊎◌, inl, inr, ⊎_elim, List, true, Option, None, refl, sym, subst, ◌∙◌}
 use Rattle.std.specs.Prelude.{⊤}
-use Rattle.topology_journal.specs.declared.topology.Topology.{Topology}
-use Rattle.run_fault.specs.declared.fault.LogName.{LogName}
+use Rattle.photon_cli.proofs.Words.{Topology, LogName, Misplaced, RunFault, IsWelcome, status_of, Images, IsFitFor, KeptDisk, KeptValues, HasCause, first_limit, cause_more, IsLogFault, IsPast, failed_read}
 use Rattle.run_fault.specs.declared.fault.Mismatch.TheVariants as mismatch
-use Rattle.run_fault.specs.declared.fault.Misplaced.{Misplaced}
-use Rattle.run_fault.specs.declared.fault.RunFault.{RunFault}
 use Rattle.run_fault.specs.declared.fault.RunFault.TheVariants as fault
-use Rattle.run_fault.specs.Causes.{IsWelcome}
-use Rattle.run_fault.specs.Faults.{status_of}
-use Rattle.site_laws.specs.Stores.{Images}
-use Rattle.site_store.specs.Misfits.{IsFitFor}
-use Rattle.site_store.specs.Records.{KeptDisk, KeptValues}
-use Rattle.site_store.specs.Causes.{HasCause, Keeps, first_limit}
-use Rattle.site_store.proofs.Causes.{cause_more}
-use Rattle.photon_cli.specs.LogFaults.{IsLogFault, IsPast, failed_read}
+use Rattle.site_store.specs.Causes.{Keeps}
 
 -- what might have been left before, what is asked, what is told of the places, and when a log's fault, a disk's, and a node's limit is
 module _ (before : Images) (asked : Option Topology) (told : List KeptDisk → Option Misplaced → Type 0) (faulted late : Type 0) where

@@ -1,31 +1,11 @@
 -- Whole logs.
 use Rattle.std.proofs.Common.{◌≡◌, ◌≢◌, inl, inr, ℕ, suc, ◌+◌, ◌-◌, ◌^◌, ◌<◌, ◌≤◌, min, IsTrue, Bool, true, false, None, Result, Ok, Err, List, [], ◌∷◌, ◌++◌, length, map, refl, sym, ap, subst, ◌∙◌, arith}
 use Rattle.std.specs.Prelude.{if◌then◌else◌, ◌↔◌, IfOk}
-use Rattle.std.proofs.lemmas.Bool.{cases_lt}
-use Rattle.std.proofs.lemmas.List.{map_push, take_all, length-append, length-map}
-use Rattle.list_words.specs.Bytes.{Lacks}
-use Rattle.list_words.proofs.Splits.{lacks_none}
-use Rattle.event_id.specs.declared.id.EventId.{EventId}
-use Rattle.log_records.specs.declared.records.QueryRec.{QueryRec}
-use Rattle.log_records.specs.declared.records.ClickRec.{ClickRec}
-use Rattle.log_records.specs.declared.why.Why.{Why}
+use Rattle.photon_cli.proofs.Words.{cases_lt, map_push, take_all, length-append, length-map, Lacks, lacks_none, EventId, QueryRec, ClickRec, Why, BadLine, query_line, click_line, IsQuery, IsClick, OrMemory, placed, end_from, line_feed, whole, limit, IsLog, NextWhy, IsQueryLog, IsClickLog, clicks_same, queries_found, clicks_found, Places, place_at, Keeps, Step, Lines, CheckFault, SoFar, AtEnd, WrongNext, IsStep, EndsAt, kept, AreLines, IsChecked, length-one}
 use Rattle.log_records.specs.declared.why.Why.TheVariants as why
-use Rattle.log_records.specs.declared.check.BadLine.{BadLine}
-use Rattle.log_records.specs.Line.{query_line, click_line, IsQuery, IsClick, OrMemory}
-use Rattle.log_records.specs.Lines.{placed, end_from}
-use Rattle.log_records.specs.Log.{line_feed, whole}
-use Rattle.log_records.specs.Check.{limit, IsLog, NextWhy, Refuses, IsQueryLog, IsClickLog}
-use Rattle.log_records.proofs.Reading.{clicks_same}
-use Rattle.log_records.proofs.WholeLogs.{queries_found, clicks_found}
-use Rattle.log_records.specs.FirstPlaces.{Places, place_at, Keeps}
-use Rattle.photon_cli.specs.declared.log_check.step.Step.{Step}
+use Rattle.log_records.specs.Check.{Refuses}
 use Rattle.photon_cli.specs.declared.log_check.step.Step.TheVariants as step
-use Rattle.photon_cli.specs.declared.log_check.lines.Lines.{Lines}
-use Rattle.photon_cli.specs.declared.log_check.check.CheckFault.{CheckFault}
-use Rattle.photon_cli.specs.ReadLines.{SoFar, AtEnd, WrongNext, IsStep}
-use Rattle.photon_cli.specs.CheckedLogs.{EndsAt, kept, AreLines, IsChecked}
 use Rattle.photon_cli.proofs.LogCuts.{first_or_none, take_line, behind_front, length-whole}
-use Rattle.log_records.proofs.FirstPlaces.{length-one}
 
 kept_push : (keep : Bool) (ids : List EventId) (id : EventId) → kept keep ids ++ (if keep then id ∷ [] else []) ≡ kept keep (ids ++ id ∷ [])
 kept_push true ids id = refl

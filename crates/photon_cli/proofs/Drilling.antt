@@ -1,26 +1,6 @@
 -- A drill's history, and where a joiner has stopped in it.
 use Rattle.std.proofs.Common.{◌≡◌, ◌≤◌, ℕ, ◌==◌, Bool, true, false, ◌||◌, nat_le, List, [], ◌∷◌, Option, Some, None, refl, arith}
-use Rattle.std.specs.List.{list_any}
-use Rattle.std.specs.Option.{IfSome, IsSomeAnd}
-use Rattle.outside.specs.Disk.{Torn}
-use Rattle.mem_outside.specs.declared.disk.MemDisk.{MemDisk}
-use Rattle.mem_outside.specs.Kept.{ImageIn}
-use Rattle.mem_outside.specs.Past.{IsImage}
-use Rattle.std.proofs.lemmas.Bool.Decides.{nat_tests}
-use Rattle.lossy_link.specs.Fates.{PlanView}
-use Rattle.air_bus.specs.declared.entry.Entry.{Entry}
-use Rattle.air_bus.specs.declared.entry.Entry.TheVariants.{Begin, End, Stop}
-use Rattle.air_bus.specs.History.{is_of}
-use Rattle.air_bus.specs.Kept.{is_stop_from}
-use Rattle.log_records.specs.declared.report.ReportLine.{ReportLine}
-use Rattle.turn_defs.specs.Setting.{Setting}
-use Rattle.photon_cli.specs.Planned.{is_joiners}
-use Rattle.site_laws.specs.Laws.{made_by}
-use Rattle.site_workers.specs.Works.{is_stop}
-use Rattle.site_run.specs.Joined.{RanAfresh}
-use Rattle.site_run.specs.declared.ran.RunLog.{RunLog}
-use Rattle.photon_cli.specs.Drill.{IsDrilled}
-use Rattle.photon_cli.specs.Join.{IsHeard}
+use Rattle.photon_cli.proofs.Words.{list_any, IfSome, IsSomeAnd, Torn, MemDisk, ImageIn, IsImage, nat_tests, PlanView, Entry, Begin, End, Stop, is_of, is_stop_from, ReportLine, Setting, is_joiners, made_by, is_stop, RanAfresh, RunLog, IsDrilled, IsHeard}
 
 -- an entry that may be the node's, before others: if it is, it is no stop
 one_more : (own stops rest : Bool) (e : Entry) (j : ℕ) (h : List Entry) → is_of j e ≡ own → is_stop e ≡ stops → (own ≡ true → stops ≡ false) → list_any is_stop (made_by j h) ≡ false → list_any is_stop (made_by j (e ∷ h)) ≡ false

@@ -1,15 +1,7 @@
 -- Words that were taken for none, for want of memory: whatever they ask for, nothing was done.
 use Rattle.std.proofs.Common.{inl, inr, ⊎_elim, ◌≡◌, ◌++◌, ℕ, List, Bool, Option, IsTrue, arith}
-use Rattle.gate_journal.proofs.Growth.{continues_same}
-use Rattle.turn_defs.specs.Setting.{Setting}
-use Rattle.outside.specs.declared.store.DiskName.{DiskName}
-use Rattle.gate_journal.specs.Images.{StaysAs}
-use Rattle.site_laws.specs.Stores.{Images}
-use Rattle.site_run.specs.declared.ran.RunLog.{RunLog}
-use Rattle.command_words.specs.Words.{BulkValues, Text, Values, Wish, a_bulk_run, a_drill, a_join, a_verification}
+use Rattle.photon_cli.proofs.Words.{continues_same, Setting, DiskName, StaysAs, Images, RunLog, BulkValues, Text, Values, Wish, a_bulk_run, a_drill, a_join, a_verification, BulkEnds, DrillEnds, Ends, JoinEnds, VerifyEnds, message}
 use Rattle.run_fault.specs.declared.fault.RunFault.TheVariants as fault
-use Rattle.photon_cli.specs.Ends.{BulkEnds, DrillEnds, Ends, JoinEnds, VerifyEnds}
-use Rattle.run_fault.specs.Faults.{message}
 
 module _ (logs sinks disks : Bool) (told : List ℕ → Option (List ℕ)) (files output errors faulted : Type 0) (before : Images) (leaves : Setting → Type 0) (same unrun : Type 0) (ran : Option RunLog) (old err_old err_new : List ℕ) (status : ℕ)
     (eight : status ≡ 8) (tells : IsTrue sinks → (errors → ⊥) → err_new ≡ err_old ++ message fault.Memory) (is_same : same) (is_unrun : unrun) (stays : (disk : DiskName) → StaysAs (before disk) (before disk)) where

@@ -1,12 +1,7 @@
 -- The fuses of one disk in a list of stops, and those that a plan has for it.
 use Rattle.std.proofs.Common.{◌≡◌, ◌⊎◌, inl, inr, List, [], ◌∷◌, ◌++◌, Bool, true, false, ◌&&◌, if◌then◌else◌, refl, sym, ◌∙◌, ap, ℕ, ◌+◌, ◌<◌, length, get_or, drop, append_assoc}
-use Rattle.std.proofs.lemmas.List.{drop_more}
-use Rattle.outside.specs.declared.store.DiskName.{DiskName}
+use Rattle.photon_cli.proofs.Words.{drop_more, DiskName, Fuse, same_name, fuses_for, PlanStop, is_for, fuse_of, planned_for}
 use Rattle.mem_outside.specs.declared.store.Stop.{Stop}
-use Rattle.mem_outside.specs.declared.disk.Fuse.{Fuse}
-use Rattle.mem_outside.specs.Kept.{same_name, fuses_for}
-use Rattle.lossy_link.specs.declared.plan.PlanStop.{PlanStop}
-use Rattle.photon_cli.specs.Planned.{is_for, fuse_of, planned_for}
 
 cases_bool : (b : Bool) → (b ≡ true) ⊎ (b ≡ false)
 cases_bool true = inl refl

@@ -1,13 +1,7 @@
 -- The lines of a log, and where its bytes are read.
 use Rattle.std.proofs.Common.{◌≡◌, ◌≢◌, ◌⊎◌, inl, inr, ℕ, ◌+◌, ◌-◌, ◌<◌, ◌≤◌, false, eqb, List, [], ◌∷◌, ◌++◌, length, take, drop, refl, sym, ap, ◌∙◌, append_assoc, arith}
-use Rattle.std.proofs.lemmas.Bool.{cases_Bool, eqb-true}
-use Rattle.std.proofs.lemmas.Bool.Decides.{nat_tests}
-use Rattle.std.proofs.lemmas.List.{drop-take, drop_at, take-append-drop, length-take, length-append}
-use Rattle.std.proofs.Math.Seq.{take-append-add}
-use Rattle.list_words.specs.Bytes.{Lacks}
-use Rattle.tail_reader.specs.Buffered.{limit, behind}
-use Rattle.log_records.specs.Log.{line_feed, whole}
-use Rattle.log_records.proofs.FirstPlaces.{length-one}
+use Rattle.photon_cli.proofs.Words.{cases_Bool, eqb-true, nat_tests, drop-take, drop_at, take-append-drop, length-take, length-append, take-append-add, Lacks, behind, line_feed, whole, length-one}
+use Rattle.tail_reader.specs.Buffered.{limit}
 
 apart : (byte x : ℕ) → eqb x byte ≡ false → x ≢ byte
 apart byte x e same = grind (arith, nat_tests)

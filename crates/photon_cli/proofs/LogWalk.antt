@@ -1,30 +1,10 @@
 -- One line more of a log.
 use Rattle.std.proofs.Common.{◌≡◌, ◌≢◌, inl, inr, ℕ, ◌+◌, ◌<◌, ◌≤◌, Option, Some, None, Result, Ok, Err, List, [], ◌∷◌, ◌++◌, length, map, Contains, refl, sym, ap, subst, ◌∙◌, append_assoc, arith}
-use Rattle.std.specs.List.{AllByRecursion}
-use Rattle.std.specs.Result.{IfOk}
-use Rattle.outside.specs.declared.faults.ReadFault.{ReadFault}
-use Rattle.std.proofs.lemmas.List.{map-append, append-nil, length-append}
-use Rattle.std.proofs.lemmas.List.Elements.{Contains-push_cases, Contains-append_right}
-use Rattle.list_words.specs.Bytes.{Lacks}
-use Rattle.list_words.proofs.Splits.{split_same, lacks_none}
-use Rattle.outside.specs.Faults.{Counts}
-use Rattle.tail_reader.specs.Buffered.{behind}
-use Rattle.tail_reader.specs.Next.{IsNext}
+use Rattle.photon_cli.proofs.Words.{AllByRecursion, IfOk, ReadFault, map-append, append-nil, length-append, Contains-push_cases, Contains-append_right, Lacks, split_same, lacks_none, Counts, behind, IsNext, EventId, Why, OrMemory, line_feed, whole, AreRecords, limit, AfterWhy, one_more, Places, first_place, seen_of, Keeps, Step, SoFar, AtEnd, WrongNext, IsStep, length-one, found, none_found}
 use Rattle.tail_reader.specs.declared.tail.Next.TheVariants as next
-use Rattle.event_id.specs.declared.id.EventId.{EventId}
-use Rattle.log_records.specs.declared.why.Why.{Why}
 use Rattle.log_records.specs.declared.why.Why.TheVariants as why
-use Rattle.log_records.specs.Line.{OrMemory}
-use Rattle.log_records.specs.Log.{line_feed, whole, AreRecords}
-use Rattle.log_records.specs.Check.{limit, AfterWhy}
-use Rattle.log_records.proofs.Reading.{one_more}
-use Rattle.log_records.specs.FirstPlaces.{Places, first_place, seen_of, Keeps}
-use Rattle.photon_cli.specs.declared.log_check.step.Step.{Step}
 use Rattle.log_records.specs.declared.stream.Seen.TheVariants as seen
-use Rattle.photon_cli.specs.ReadLines.{SoFar, AtEnd, WrongNext, IsStep}
 use Rattle.photon_cli.proofs.LogCuts.{line_there, reads_line, whole_split}
-use Rattle.log_records.proofs.FirstPlaces.{length-one}
-use Rattle.log_records.proofs.FirstPlaces.{found, none_found}
 
 one_line : (line : List ℕ) → line ++ line_feed ∷ [] ≡ whole (line ∷ [])
 one_line line = sym (append-nil (line ++ line_feed ∷ []))

@@ -1,10 +1,6 @@
 -- Disks of a kind, by their numbers.
 use Rattle.std.proofs.Common.{◌≡◌, inl, inr, ℕ, ◌+◌, List, [], ◌∷◌, ◌++◌, Bool, true, false, ◌&&◌, ◌==◌, nat_lt, if◌then◌else◌, Option, Some, None, refl, ◌∙◌, ap, arith, append_assoc}
-use Rattle.std.proofs.lemmas.Bool.{cases_lt}
-use Rattle.std.proofs.lemmas.Bool.Decides.{nat_tests}
-use Rattle.mem_outside.specs.declared.disk.Fuse.{Fuse}
-use Rattle.lossy_link.specs.declared.plan.DiskKind.{DiskKind}
-use Rattle.photon_cli.specs.Planned.{named_by, is_at, same_kind}
+use Rattle.photon_cli.proofs.Words.{cases_lt, nat_tests, Fuse, DiskKind, named_by, is_at, same_kind}
 
 -- the place is among the first so many
 abbrev pub is_below : ℕ → Option (DiskKind × ℕ) → Bool

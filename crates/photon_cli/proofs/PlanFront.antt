@@ -1,11 +1,6 @@
 -- What the front of a plan's file tells of the file.
 use Rattle.std.proofs.Common.{◌≡◌, ℕ, ◌<◌, ◌≤◌, ⊎_elim, List, Option, Some, None, length, take, sym, subst, arith}
-use Rattle.std.specs.Option.{IsSomeAnd}
-use Rattle.std.proofs.lemmas.Bool.{cases_lt}
-use Rattle.std.proofs.lemmas.List.{take_all, length-take}
-use Rattle.lossy_link.specs.Fates.{PlanView}
-use Rattle.lossy_link.specs.Outcome.{Outcome}
-use Rattle.lossy_link.specs.Plans.{HasOutcome, too_long, no_text, a_value, size_limit}
+use Rattle.photon_cli.proofs.Words.{IsSomeAnd, cases_lt, take_all, length-take, PlanView, Outcome, HasOutcome, too_long, no_text, a_value, size_limit}
 
 -- a text that is longer than a plan may be has one outcome, whatever its end
 long_one : (bytes other : List ℕ) (o : Outcome PlanView) → size_limit < length bytes → size_limit < length other → HasOutcome bytes o → HasOutcome other o

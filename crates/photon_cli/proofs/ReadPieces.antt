@@ -1,7 +1,6 @@
 -- Bytes that are read piece by piece.
 use Rattle.std.proofs.Common.{◌≡◌, ℕ, ◌+◌, ◌<◌, ◌≤◌, List, ◌++◌, length, take, drop, refl, sym, ap, subst, ◌∙◌, append_assoc, arith}
-use Rattle.std.proofs.Math.Seq.{take-add}
-use Rattle.std.proofs.lemmas.List.{append-nil, take_at, drop_at, take_all, take-take, take-append-le, length-append, length-take-le}
+use Rattle.photon_cli.proofs.Words.{take-add, append-nil, take_at, drop_at, take_all, take-take, take-append-le, length-append, length-take-le}
 
 -- what was read so far, and a piece of what follows
 pub piece_next : (bytes now read new : List ℕ) (n : ℕ) → now ≡ bytes → read ≡ take (length read) bytes → (n ≤ length (drop (length read) now)) × (new ≡ read ++ take n (drop (length read) now)) → new ≡ take (length new) bytes

@@ -1,26 +1,8 @@
 -- Why a verification gives up, from what reading its store tells.
 use Rattle.std.proofs.Common.{◌≡◌, inl, inr, ℕ, ◌≤◌, List, Bool, IsTrue, Option, None, Some, refl, sym, subst, arith}
 use Rattle.std.specs.Prelude.{IsSomeAnd, ⊤}
-use Rattle.outside.specs.declared.faults.StoreFault.{StoreFault}
+use Rattle.photon_cli.proofs.Words.{StoreFault, Rose, added, DiskName, end_from, Setting, IsLogOf, Misplaced, RunFault, IsWelcome, of_place, Images, KeptDisk, AreTold, HasCause, HasFailed, PassesFor, IsCause, IsUnread, KeptStore, IsRead, cause_more, failed_rose, passed_more, unread_rose, TellsPlaces, CanBeRead, HasCauseInVerify, IsFailedRead}
 use Rattle.outside.specs.declared.faults.StoreFault.TheVariants as store
-use Rattle.outside.specs.Faults.{Rose, added}
-use Rattle.outside.specs.declared.store.DiskName.{DiskName}
-use Rattle.log_records.specs.Lines.{end_from}
-use Rattle.turn_defs.specs.Setting.{Setting}
-use Rattle.dispatch_node.specs.Places.{IsLogOf}
-use Rattle.run_fault.specs.declared.fault.Misplaced.{Misplaced}
-use Rattle.run_fault.specs.declared.fault.RunFault.{RunFault}
-use Rattle.run_fault.specs.Causes.{IsWelcome}
-use Rattle.run_fault.specs.Faults.{of_place}
-use Rattle.site_laws.specs.Stores.{Images}
-use Rattle.site_store.specs.Records.{KeptDisk}
-use Rattle.site_store.specs.Causes.{AreTold, HasCause, HasFailed, HasPassed as PassesFor, IsCause, IsUnread}
-use Rattle.site_store.specs.declared.reading.kept.KeptStore.{KeptStore}
-use Rattle.site_store.specs.Reading.{IsRead}
-use Rattle.site_store.proofs.Causes.{cause_more, failed_rose, passed_more, unread_rose}
-use Rattle.site_run.specs.Refused.{TellsPlaces}
-use Rattle.photon_cli.specs.Causes.{CanBeRead, HasCauseInVerify}
-use Rattle.photon_cli.specs.LogFaults.{IsFailedRead}
 
 -- ---- of a store that is read
 

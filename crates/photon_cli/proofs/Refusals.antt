@@ -1,13 +1,8 @@
 -- Refused lines, as faults.
 use Rattle.std.proofs.Common.{◌≡◌, ◌⊎◌, inl, inr, ⊎_elim, ℕ, Option, Some, None, refl, ap, subst, ◌∙◌}
-use Rattle.std.specs.Option.{IsSomeAnd}
-use Rattle.log_records.specs.declared.why.Why.{Why}
+use Rattle.photon_cli.proofs.Words.{IsSomeAnd, Why, BadLine, LogName, RunFault, IsLogFault, refusal, refusal_of}
 use Rattle.log_records.specs.declared.why.Why.TheVariants as why
-use Rattle.log_records.specs.declared.check.BadLine.{BadLine}
-use Rattle.run_fault.specs.declared.fault.LogName.{LogName}
-use Rattle.run_fault.specs.declared.fault.RunFault.{RunFault}
 use Rattle.run_fault.specs.declared.fault.RunFault.TheVariants as fault
-use Rattle.photon_cli.specs.LogFaults.{IsLogFault, refusal, refusal_of}
 
 pub within : {A : Type 0} (o : Option A) (P Q : A → Type 0) → ((x : A) → P x → Q x) → IsSomeAnd o P → IsSomeAnd o Q
 within None P Q f h = h

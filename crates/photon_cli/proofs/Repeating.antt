@@ -1,15 +1,6 @@
 -- What call after call keeps of a store.
 use Rattle.std.proofs.Common.{List, [], ◌∷◌, inl, inr, subst}
-use Rattle.outside.specs.declared.store.DiskName.{DiskName}
-use Rattle.gate_journal.specs.Images.{GoesOn}
-use Rattle.turn_defs.specs.Setting.{Setting, Checked}
-use Rattle.photon_model.specs.EveryRun.{AfterEveryRun}
-use Rattle.photon_model.specs.Headline.{IsOutputOnce}
-use Rattle.photon_model.specs.Stores.{ReadIsChecked}
-use Rattle.site_laws.specs.StoreLaws.{HoldSameRecords, LongerStaysSound, SameIsSound}
-use Rattle.site_laws.specs.Stores.{Images, IsSoundStore}
-use Rattle.site_run.proofs.Outing.{goes_on_through, goes_on_within}
-use Rattle.photon_cli.specs.Again.{AreCalls, AreOutputOnce, Call, IsLater, setting_after, store_after}
+use Rattle.photon_cli.proofs.Words.{DiskName, GoesOn, Setting, Checked, AfterEveryRun, IsOutputOnce, ReadIsChecked, HoldSameRecords, LongerStaysSound, SameIsSound, Images, IsSoundStore, goes_on_through, goes_on_within, AreCalls, AreOutputOnce, Call, IsLater, setting_after, store_after}
 
 module _ {S : Type 0} (image : S → Images) where
   -- the store stays sound from call to call

@@ -1,29 +1,6 @@
 -- What a run that has come to rest gives the report, and the setting that it is of.
 use Rattle.std.proofs.Common.{◌≡◌, ℕ, suc, ◌+◌, List, [], ◌∷◌, map, Option, Some, None, refl, sym, ap, ◌∙◌, length, subst}
-use Rattle.std.specs.List.{All}
-use Rattle.std.specs.Option.{IfSome, IsSomeAnd}
-use Rattle.lossy_link.specs.Fates.{PlanView}
-use Rattle.air_bus.specs.History.{IsAired}
-use Rattle.bus_seat.specs.Seats.{IsIn}
-use Rattle.site_laws.specs.Stores.{Images}
-use Rattle.site_run.specs.Left.{RunLeft}
-use Rattle.site_run.specs.declared.ran.RunLog.{RunLog}
-use Rattle.time_shards.specs.declared.ShardRow.{ShardRow}
-use Rattle.time_shards.proofs.Texts.{only_table}
-use Rattle.event_id.specs.declared.id.EventId.{EventId}
-use Rattle.log_records.specs.declared.records.QueryRec.{QueryRec}
-use Rattle.log_records.specs.declared.records.ClickRec.{ClickRec}
-use Rattle.log_records.specs.Check.{IsQueryLog, IsClickLog}
-use Rattle.log_records.specs.Line.{click_line}
-use Rattle.log_records.specs.Lines.{ClickLine, placed, end_from}
-use Rattle.log_records.proofs.Places.{lines_follow}
-use Rattle.turn_defs.specs.Setting.{Setting, Checked}
-use Rattle.dispatch_node.specs.Places.{IsLogOf}
-use Rattle.site_run.specs.Asked.{IsSettingOf}
-use Rattle.command_words.specs.Words.{Values}
-use Rattle.photon_cli.specs.CheckedLogs.{EndsAt}
-use Rattle.photon_cli.specs.Join.{AreLogs, HasIds, IsAsked, IsHeard, IsHistory, config_of}
-use Rattle.photon_cli.specs.Words.{IsTextOf}
+use Rattle.photon_cli.proofs.Words.{All, IfSome, IsSomeAnd, PlanView, IsAired, IsIn, Images, RunLeft, RunLog, ShardRow, only_table, EventId, QueryRec, ClickRec, IsQueryLog, IsClickLog, click_line, ClickLine, placed, end_from, lines_follow, Setting, Checked, IsLogOf, IsSettingOf, Values, EndsAt, AreLogs, HasIds, IsAsked, IsHeard, IsHistory, config_of, IsTextOf}
 use Rattle.photon_cli.proofs.Refusals.{within}
 
 pub taken : {A : Type 0} (o : Option A) (P : A → Type 0) → IsSomeAnd o P → (x : A) × P x

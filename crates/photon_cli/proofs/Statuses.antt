@@ -1,28 +1,10 @@
 -- What the status of a fault says of it, and what a fault is named by where it is known when it was told.
 use Rattle.std.proofs.Common.{◌⊎◌, inl, inr, ⊎_elim, ◌≡◌, ◌≢◌, ◌==◌, Bool, true, false, ℕ, List, Option, refl, sym, ap, subst, ◌∙◌, arith}
 use Rattle.std.specs.Prelude.{⊤}
-use Rattle.std.specs.Option.{IsSomeAnd}
+use Rattle.photon_cli.proofs.Words.{IsSomeAnd, none_bad, DiskName, Why, RefusesClick, Field, BulkValues, Text, Values, LogName, Queries, Clicks, StorePlace, Mismatch, RunFault, IsWelcome, Refuses, status_of, IsBadIn, IsBeforeLogs, IsEarly, IsFailedRead, IsLogFault, IsOfBulk, IsOfJoin, IsOfLogs, IsOfPlanOrLogs, IsOfRun, IsOfVerify, IsPast, IsPlanFault, failed_read, HasTable, IsNamed, IsNamedInBulk, IsNamedInDrill, IsNamedInVerify}
 use Rattle.time_shards.specs.Text.{IsFirstBad}
-use Rattle.time_shards.proofs.Texts.{none_bad}
-use Rattle.outside.specs.declared.store.DiskName.{DiskName}
-use Rattle.log_records.specs.declared.why.Why.{Why}
-use Rattle.log_records.specs.Check.{RefusesClick}
-use Rattle.lossy_link.specs.declared.bad_plan.Field.{Field}
-use Rattle.command_words.specs.Words.{BulkValues, Text, Values}
-use Rattle.run_fault.specs.declared.fault.LogName.{LogName}
-use Rattle.run_fault.specs.declared.fault.LogName.TheVariants.{Queries, Clicks}
-use Rattle.run_fault.specs.declared.fault.StorePlace.{StorePlace}
-use Rattle.run_fault.specs.declared.fault.Mismatch.{Mismatch}
 use Rattle.run_fault.specs.declared.fault.Mismatch.TheVariants as mismatch
-use Rattle.run_fault.specs.declared.fault.RunFault.{RunFault}
 use Rattle.run_fault.specs.declared.fault.RunFault.TheVariants as fault
-use Rattle.run_fault.specs.Causes.{IsWelcome}
-use Rattle.photon_cli.specs.Join.{Refuses}
-use Rattle.run_fault.specs.Faults.{status_of}
-use Rattle.photon_cli.specs.Drill.{IsBadIn}
-use Rattle.photon_cli.specs.LogFaults.{IsBeforeLogs, IsEarly, IsFailedRead, IsLogFault, IsOfBulk, IsOfJoin, IsOfLogs, IsOfPlanOrLogs, IsOfRun, IsOfVerify, IsPast, IsPlanFault, failed_read}
-use Rattle.photon_cli.specs.Words.{HasTable}
-use Rattle.photon_cli.specs.Told.{IsNamed, IsNamedInBulk, IsNamedInDrill, IsNamedInVerify}
 
 -- ---- the fault of a status
 
@@ -71,10 +53,6 @@ two_of f e = fault_of f 2 e
 
 pub line_of : (f : RunFault) → status_of f ≡ 3 → (log : LogName) × (line : ℕ) × (w : Why) × (f ≡ fault.Refused log line w)
 line_of f e = fault_of f 3 e
-
-pub four_of : (f : RunFault) → IsFailedRead f → status_of f ≡ 4
-four_of f (inl e) = ap status_of e
-four_of f (inr (log, e)) = ap status_of e
 
 pub failed_of : (f : RunFault) → status_of f ≡ 4 → IsFailedRead f
 failed_of f e = fault_of f 4 e

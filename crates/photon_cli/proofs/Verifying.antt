@@ -1,38 +1,8 @@
 -- How a verification ends at each fault.
 use Rattle.std.proofs.Common.{◌≡◌, ℕ, List, [], map, nat_lt, Option, None, Some, Bool, false, IsTrue, refl, sym, ap, subst, ◌∙◌, arith}
-use Rattle.std.specs.Option.{IsSomeAnd}
-use Rattle.std.specs.List.{flat_map}
-use Rattle.std.proofs.lemmas.Bool.Decides.{nat_tests}
-use Rattle.event_id.specs.declared.id.EventId.{EventId}
-use Rattle.registry_state.specs.Same.{same_batch}
-use Rattle.log_records.specs.declared.report.ReportLine.TheVariants.{U}
-use Rattle.turn_defs.specs.declared.pair.PairRec.{PairRec}
+use Rattle.photon_cli.proofs.Words.{IsSomeAnd, flat_map, nat_tests, EventId, same_batch, U, PairRec, note_view, ShardRow, shard_of, first_pair, line_by, line_of, DiskName, KeepsTopology, Setting, Store, AreLeft, Images, IsSoundStore, HasTopology, KeptStore, IsRead, Tells, Journals, KeptTopology, ClickRec, IsClickLog, ClickLine, clicks_same, ReportLine, distinct, IsLogOf, HasIds, IsReadFrom, IsTold}
 use Rattle.paxos_defs.specs.Decided.{decided}
-use Rattle.paxos_acceptor.specs.Cells.{note_view}
-use Rattle.time_shards.specs.declared.ShardRow.{ShardRow}
-use Rattle.time_shards.specs.Shards.{shard_of}
-use Rattle.verify_pass.specs.Classes.{first_pair, line_by, line_of}
-use Rattle.outside.specs.declared.store.DiskName.{DiskName}
 use Rattle.outside.specs.declared.store.DiskName.TheVariants as name
-use Rattle.topology_journal.specs.Topologies.{Keeps as KeepsTopology}
-use Rattle.turn_defs.specs.Setting.{Setting}
-use Rattle.photon_model.specs.Topology.{Store}
-use Rattle.site_laws.specs.Stores.{AreLeft, Images, IsSoundStore}
-use Rattle.site_store.specs.Leaving.{IsAsked as HasTopology}
-use Rattle.site_store.specs.declared.reading.kept.KeptStore.{KeptStore}
-use Rattle.site_store.specs.Reading.{IsRead}
-use Rattle.site_store.specs.Telling.{Tells}
-use Rattle.verify_pass.specs.declared.journals.Journals.{Journals}
-use Rattle.topology_journal.specs.declared.topology.Topology.{Topology as KeptTopology}
-use Rattle.log_records.specs.declared.records.ClickRec.{ClickRec}
-use Rattle.log_records.specs.Check.{IsClickLog}
-use Rattle.log_records.specs.Lines.{ClickLine}
-use Rattle.log_records.proofs.Reading.{clicks_same}
-use Rattle.log_records.specs.declared.report.ReportLine.{ReportLine}
-use Rattle.log_records.specs.Report.{distinct}
-use Rattle.dispatch_node.specs.Places.{IsLogOf}
-use Rattle.photon_cli.specs.Join.{HasIds}
-use Rattle.photon_cli.specs.Verify.{IsReadFrom, IsTold}
 use Rattle.photon_cli.proofs.Runs.{clicks_back}
 
 -- ---- a store that is read, by what a stop might have left of it before its directory was chosen

@@ -1,3 +1,4 @@
+pub mod Words
 pub mod Noting
 pub mod NoteBytes
 pub mod Spelled

@@ -1,19 +1,7 @@
 -- Reading a journal's notes, and one note more.
 use Rattle.std.proofs.Common.{rules, add-one, ◌≡◌, ℕ, ◌+◌, ◌<◌, ◌≤◌, List, [], ◌∷◌, ◌++◌, length, take, drop, get_or, refl, sym, ◌∙◌, ap, arith, length-append}
 use Rattle.std.specs.Prelude.{map, All}
-use Rattle.std.proofs.lemmas.List.{map-append, take_more, take-append-drop}
-use Rattle.std.proofs.lemmas.List.Elements.{All-push, All-same, All-head, All-tail}
-use Rattle.std.proofs.Math.Seq.{drop-cons}
-use Rattle.registry_state.specs.declared.Batch.{Batch}
-use Rattle.ballot_core.specs.declared.Ballot.{Ballot}
-use Rattle.paxos_acceptor.specs.Cells.{place_of}
-use Rattle.paxos_acceptor.specs.declared.notes.ReplicaNote.{ReplicaNote}
-use Rattle.paxos_acceptor.specs.declared.notes.ReplicaNote.TheVariants.{Promised, Accepted}
-use Rattle.turn_defs.specs.Spellings.{batch, place, ballot}
-use Rattle.packet_codec.specs.Notes.{note, IsNote}
-use Rattle.packet_codec.proofs.NoteParts.{note_room}
-use Rattle.gate_journal.specs.Gate.{spans}
-use Rattle.replica_node.specs.Votes.{IsNoVote, IsFirstBad}
+use Rattle.replica_node.proofs.Words.{map-append, take_more, take-append-drop, All-push, All-same, All-head, All-tail, drop-cons, Batch, Ballot, place_of, ReplicaNote, Promised, Accepted, batch, place, ballot, note, IsNote, note_room, spans, IsNoVote, IsFirstBad}
 
 pub record Next (rs : List (List ℕ)) (notes : List ReplicaNote) (place i : ℕ) : Type 0 where
   pub are_notes : All IsNote notes

@@ -1,26 +1,9 @@
 -- What an acceptor knows after a note more, and its turns as rows.
 use Rattle.std.proofs.Common.{◌≡◌, List, [], ◌∷◌, ◌++◌, Option, Some, None, refl, sym, ap, ◌∙◌, subst}
 use Rattle.std.specs.Prelude.{option_map}
-use Rattle.std.proofs.lemmas.List.{map-append}
-use Rattle.registry_state.specs.declared.Batch.{Batch}
-use Rattle.paxos_defs.specs.declared.Place.{Place}
-use Rattle.paxos_defs.specs.Notes.{Vote, promise, acceptance, note_from}
-use Rattle.paxos_defs.proofs.Places.{cell_noted}
-use Rattle.paxos_acceptor.specs.declared.notes.ReplicaNote.{ReplicaNote}
-use Rattle.paxos_acceptor.specs.declared.notes.ReplicaNote.TheVariants.{Promised, Accepted}
-use Rattle.paxos_acceptor.specs.declared.acceptor.Acceptor.{Acceptor}
+use Rattle.replica_node.proofs.Words.{map-append, Batch, Place, Vote, promise, acceptance, note_from, cell_noted, ReplicaNote, Promised, Accepted, Acceptor, place_of, note_view, note_for, note_by, cell_with, BallotNote, Voted, Setting, Addressed, Packet, Node, Turn, ReplicaKept, cell_at, note_at, land_replica, says, IsRow, Knows, noted, kept_of}
 use Rattle.paxos_acceptor.specs.Cells as cells
-use Rattle.paxos_acceptor.specs.Cells.{place_of, note_view, note_for, note_by, cell_with}
-use Rattle.turn_defs.specs.Turns.{BallotNote, Voted}
-use Rattle.turn_defs.specs.Setting.{Setting}
-use Rattle.turn_defs.specs.Nodes.{Addressed}
-use Rattle.turn_defs.specs.declared.packet.Packet.{Packet}
-use Rattle.turn_defs.specs.declared.node.Node.{Node}
 use Rattle.turn_defs.specs.declared.node.To.TheVariants.{Only}
-use Rattle.replica_node.specs.declared.turn.Turn.{Turn}
-use Rattle.turn_defs.specs.Replica.{ReplicaKept, cell_at, note_at, land_replica, says}
-use Rattle.replica_node.specs.Core.{IsRow, Knows, noted}
-use Rattle.site_node.specs.Replicas.{kept_of}
 
 -- the kept notes, with one more behind them
 abbrev pub with_note : ReplicaKept → ReplicaNote → ReplicaKept

@@ -1,22 +1,8 @@
 -- Where the kept notes and the input have spellings, so have the row's note and packets.
 use Rattle.std.proofs.Common.{◌≡◌, List, [], ◌∷◌, ◌++◌, Option, Some, None, sym, subst}
 use Rattle.std.specs.Prelude.{All, if◌then◌else◌, ⊤}
-use Rattle.std.proofs.lemmas.List.Elements.{All-nil, All-cons}
-use Rattle.list_words.specs.Lists.{Each}
-use Rattle.paxos_acceptor.specs.declared.notes.ReplicaNote.{ReplicaNote}
+use Rattle.replica_node.proofs.Words.{All-nil, All-cons, Each, ReplicaNote, Packet, Node, To, IsPacket, Setting, Addressed, Note, land, ReplicaKept, land_replica, noted, IsRowNote, each_push, IsNotedSo, IsVoted}
 use Rattle.paxos_acceptor.specs.declared.notes.ReplicaNote.TheVariants as replica
-use Rattle.turn_defs.specs.declared.packet.Packet.{Packet}
-use Rattle.turn_defs.specs.declared.node.Node.{Node}
-use Rattle.turn_defs.specs.declared.node.To.{To}
-use Rattle.turn_defs.specs.Packets.{IsPacket}
-use Rattle.turn_defs.specs.Setting.{Setting}
-use Rattle.turn_defs.specs.Nodes.{Addressed}
-use Rattle.turn_defs.specs.Turns.{Note, land}
-use Rattle.turn_defs.specs.Replica.{ReplicaKept, land_replica}
-use Rattle.replica_node.specs.Core.{noted}
-use Rattle.site_node.proofs.Replicas.{IsRowNote, each_push}
-use Rattle.replica_node.specs.Node.{IsNotedSo}
-use Rattle.site_node.specs.Replicas.{IsVoted}
 
 pub sent_ok : (g : Setting) (rows : List (To × Packet)) (ps : List (Node × Packet)) → Each (λ (p : To × Packet). IsPacket p.1) rows → Addressed g rows ps → All (λ (p : Node × Packet). IsPacket p.1) ps
 sent_ok g [] [] e a = All-nil (λ (p : Node × Packet). IsPacket p.1)

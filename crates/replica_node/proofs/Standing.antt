@@ -1,41 +1,12 @@
 -- What a replica over its disk stands for.
 use Rattle.std.proofs.Common.{◌≡◌, ◌⊎◌, inl, inr, ⊎_elim, ℕ, ◌+◌, ◌-◌, ◌^◌, ◌≤◌, min, Bool, true, false, List, [], ◌∷◌, ◌++◌, length, Option, Some, None, refl, sym, ap, ◌∙◌, subst, arith, length-append}
 use Rattle.std.specs.Prelude.{All, map, is_some, option_map, Result, Ok, Err, IfErr}
-use Rattle.std.specs.Result.{result_unwrap_or}
-use Rattle.std.proofs.lemmas.List.{map-append}
-use Rattle.std.proofs.lemmas.List.Elements.{All-head, All-tail, All-nil, All-cons}
-use Rattle.list_words.specs.Lists.{Each}
-use Rattle.outside.specs.Disk.{Only}
+use Rattle.replica_node.proofs.Words.{result_unwrap_or, map-append, All-head, All-tail, All-nil, All-cons, Each, Only, ReplicaNote, note_view, note, IsNote, records, StandsFor, IsOldOrNew, IsOpened, JournalState, Ready, Bytes, Input, Start, Setting, BallotNote, Note, Advance, Park, Settle, Epoch, Output, Voted, land, record_of, Reads, IsJunk, MayTake, Roster, IsOf, ReplicaKept, land_replica, noted, kept_of, VoterView, KnowsAs, Fits, counted, recorded, Holds, OnDiskOr, IsRecord, StandsAt, ReplicaState, IsVoted, vote_record, records_of, IsOfNotes, IsBadVote, IsUndamaged, JournalFault, Damaged, Disk, Memory, IsRowNote, views_ok}
 use Rattle.paxos_defs.specs.Notes.Note.{Promised, Accepted}
-use Rattle.paxos_acceptor.specs.declared.notes.ReplicaNote.{ReplicaNote}
 use Rattle.paxos_acceptor.specs.declared.notes.ReplicaNote.TheVariants as replica
-use Rattle.paxos_acceptor.specs.Cells.{note_view}
-use Rattle.packet_codec.specs.Notes.{note, IsNote}
-use Rattle.gate_journal.specs.Gate.{records, StandsFor, IsOldOrNew}
-use Rattle.gate_journal.specs.Opening.{IsOpened}
-use Rattle.gate_journal.specs.declared.journal.JournalState.{JournalState}
-use Rattle.gate_journal.specs.declared.journal.JournalState.TheVariants.{Ready}
-use Rattle.air_bus.specs.declared.entry.Input.{Input as Bytes}
 use Rattle.air_bus.specs.declared.entry.Input.TheVariants as bytes
-use Rattle.turn_defs.specs.declared.node.Input.{Input}
-use Rattle.turn_defs.specs.declared.node.Input.TheVariants.{Start}
-use Rattle.turn_defs.specs.Setting.{Setting}
-use Rattle.turn_defs.specs.Turns.{BallotNote, Note, Advance, Park, Settle, Epoch, Output, Voted, land}
-use Rattle.site_node.specs.Bytes.{record_of, Reads, IsJunk}
-use Rattle.site_node.specs.States.{MayTake}
-use Rattle.site_node.specs.declared.roster.Roster.{Roster}
-use Rattle.site_node.specs.Rosters.{IsOf}
-use Rattle.turn_defs.specs.Replica.{ReplicaKept, land_replica}
-use Rattle.replica_node.specs.Core.{noted}
-use Rattle.site_node.specs.Replicas.{kept_of}
-use Rattle.replica_node.specs.Node.{VoterView, Knows, KnowsAs, Fits, counted, recorded, Holds, OnDiskOr, IsRecord, StandsAt}
-use Rattle.site_node.specs.Replicas.{ReplicaState, IsVoted, vote_record, records_of}
-use Rattle.replica_node.specs.Votes.{IsOfNotes, IsBadVote, IsUndamaged}
+use Rattle.replica_node.specs.Node.{Knows}
 use Rattle.replica_node.proofs.NoteBytes.{none_bad}
-use Rattle.gate_journal.specs.declared.reading.JournalFault.{JournalFault}
-use Rattle.gate_journal.specs.declared.reading.JournalFault.TheVariants.{Damaged, Disk, Memory}
-use Rattle.site_node.proofs.Replicas.{IsRowNote}
-use Rattle.site_node.proofs.Replicas.{views_ok}
 
 pub none_of : {A : Type 0} (o : Option A) → is_some o ≡ false → o ≡ None
 none_of None off = refl

@@ -1,32 +1,9 @@
 -- A turn of a replica over its disk, and its restart, as the states' entries.
 use Rattle.std.proofs.Common.{◌≡◌, inl, inr, ⊎_elim, ℕ, ◌-◌, ◌^◌, ◌≤◌, true, false, List, [], length, Option, Some, None, refl, sym, ap, ◌∙◌, subst, arith}
 use Rattle.std.specs.Prelude.{All, map, is_some, option_map, Result, Ok, Err, IfOk, OnOk, OnErr}
-use Rattle.list_words.specs.Lists.{Each}
-use Rattle.outside.specs.Disk.{Only}
-use Rattle.paxos_acceptor.specs.declared.notes.ReplicaNote.{ReplicaNote}
-use Rattle.packet_codec.specs.Notes.{note, IsNote}
-use Rattle.gate_journal.specs.Gate.{StandsFor, IsOldOrNew}
-use Rattle.gate_journal.specs.Opening.{IsOpened}
-use Rattle.gate_journal.specs.declared.journal.JournalState.{JournalState}
-use Rattle.gate_journal.specs.declared.journal.JournalState.TheVariants.{Ready}
-use Rattle.air_bus.specs.declared.entry.Input.{Input as Bytes}
-use Rattle.air_bus.specs.declared.entry.Entry.TheVariants.{Begin, End, Stop}
-use Rattle.turn_defs.specs.declared.node.Input.{Input}
-use Rattle.turn_defs.specs.Turns.{land}
-use Rattle.site_node.specs.Bytes.{AreSpelled, Reads, IsJunk}
-use Rattle.site_node.specs.States.{Leads, row, written, opens, closes}
-use Rattle.site_node.specs.declared.roster.Roster.{Roster}
-use Rattle.site_node.specs.Rosters.{IsOf}
-use Rattle.turn_defs.specs.Replica.{ReplicaKept, land_replica}
-use Rattle.replica_node.specs.Core.{noted, IsRow}
-use Rattle.site_node.specs.Replicas.{kept_of}
-use Rattle.replica_node.specs.declared.turn.Turn.{Turn}
-use Rattle.replica_node.specs.Node.{VoterView, Knows, OnDiskOr, Holds, HoldsOr, StandsAt}
-use Rattle.site_node.specs.Replicas.{ReplicaState, IsVoted, records_of, replica_rows, OnDisk, KeptOn}
-use Rattle.replica_node.specs.Votes.{IsOfNotes}
-use Rattle.site_node.proofs.Replicas.{row_landed_ok}
+use Rattle.replica_node.proofs.Words.{Each, Only, ReplicaNote, note, IsNote, StandsFor, IsOldOrNew, IsOpened, JournalState, Ready, Bytes, Begin, End, Stop, Input, land, AreSpelled, Reads, IsJunk, Leads, row, written, opens, closes, Roster, IsOf, ReplicaKept, land_replica, noted, IsRow, kept_of, Turn, VoterView, OnDiskOr, Holds, HoldsOr, StandsAt, ReplicaState, IsVoted, records_of, replica_rows, OnDisk, KeptOn, IsOfNotes, row_landed_ok, input_ok, row_ok}
+use Rattle.replica_node.specs.Node.{Knows}
 use Rattle.replica_node.proofs.Standing.{of_notes, Apart, down_stands, same_kept, landed_kept, left_of, old_count, new_count, up_of, noted_bytes, open_bytes, landed_records, moved}
-use Rattle.site_node.proofs.Replicas.{input_ok, row_ok}
 
 pub all_five : {T E : Type 0} (r : Result T E) (A B Q : T → Type 0) (C D F : Type 0) → IfOk r A → IfOk r B → OnOk r C → OnOk r D → OnOk r F → ((x : T) → A x → B x → C → D → F → Q x) → IfOk r Q
 all_five (Ok x) A B Q C D F a b c d f go = go x a b c d f

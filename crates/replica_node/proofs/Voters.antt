@@ -1,21 +1,9 @@
 -- What a voter knows, and the rows of its turns.
 use Rattle.std.proofs.Common.{◌≡◌, Bool, true, false, List, [], ◌∷◌, Option, Some, None, sym, subst}
 use Rattle.std.specs.Prelude.{IfOk, Result, Ok, Err}
-use Rattle.paxos_acceptor.specs.declared.notes.ReplicaNote.{ReplicaNote}
-use Rattle.turn_defs.specs.declared.packet.Packet.{Packet}
-use Rattle.turn_defs.specs.declared.node.Node.{Node}
-use Rattle.turn_defs.specs.declared.node.Input.{Input}
-use Rattle.turn_defs.specs.declared.node.Input.TheVariants.{Start, Deliver}
-use Rattle.turn_defs.specs.Packets.{IsPacket}
-use Rattle.turn_defs.specs.Setting.{Setting}
-use Rattle.site_node.specs.Bytes.{IsInput}
+use Rattle.replica_node.proofs.Words.{ReplicaNote, Packet, Node, Input, Start, Deliver, IsPacket, Setting, IsInput, ReplicaKept, replica_start, replica_gets, IsRow, Stands, ReplicaCore, Turn, VoterView, KnowsAs, Fits, replica_rows}
 use Rattle.site_node.specs.States.{row_of}
-use Rattle.turn_defs.specs.Replica.{ReplicaKept, replica_start, replica_gets}
-use Rattle.replica_node.specs.Core.{IsRow, Stands}
-use Rattle.replica_node.specs.declared.replica_core.ReplicaCore.{ReplicaCore}
-use Rattle.replica_node.specs.declared.turn.Turn.{Turn}
-use Rattle.replica_node.specs.Node.{VoterView, Knows, KnowsAs, Fits}
-use Rattle.site_node.specs.Replicas.{replica_rows}
+use Rattle.replica_node.specs.Node.{Knows}
 
 pub both : {T E : Type 0} (r : Result T E) (P Q : T → Type 0) → IfOk r P → IfOk r Q → IfOk r (λ x. P x × Q x)
 both (Ok x) P Q p q = (p, q)

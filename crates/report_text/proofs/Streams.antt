@@ -26,9 +26,6 @@ nothing_left (x ∷ xs) = ap (λ t. x ∷ t) (nothing_left xs)
 pub all_sent : (old text new : List ℕ) → new ≡ old ++ text → Passed old text new []
 all_sent old text new e = record { sent = text; text_is = sym (nothing_left text); new_is = e }
 
-pub none_sent : (old text : List ℕ) → Passed old text old text
-none_sent old text = record { sent = []; text_is = refl; new_is = sym (nothing_left old) }
-
 -- some more text
 pub passes : (old text mid left more new end : List ℕ) → Passed old text mid left → Passed mid (left ++ more) new end → Passed old (text ++ more) new end
 passes old text mid left more new end p q = record {

@@ -1,14 +1,6 @@
 -- The bounds of accepted records.
 use Rattle.std.proofs.Common.{◌≡◌, inl, inr, ⊎_elim, ℕ, zero, suc, ◌+◌, ◌<◌, ◌≤◌, List, [], ◌∷◌, ◌++◌, refl, ap, subst, arith}
-use Rattle.std.proofs.lemmas.Bool.{cases_lt}
-use Rattle.list_words.specs.Lists.{Mem}
-use Rattle.list_words.proofs.Lists.{mem_left, mem_right, mem_split}
-use Rattle.registry_state.specs.declared.Batch.{Batch}
-use Rattle.ballot_core.specs.declared.Ballot.{Ballot}
-use Rattle.paxos_defs.specs.declared.Place.{Place}
-use Rattle.paxos_defs.specs.Notes.Note.{Promised, Accepted}
-use Rattle.turn_defs.specs.Turns.{BallotNote}
-use Rattle.turn_defs.specs.Replica.{ReplicaKept}
+use Rattle.site_run.proofs.Words.{cases_lt, Mem, mem_left, mem_right, mem_split, Batch, Ballot, Place, Promised, Accepted, BallotNote, ReplicaKept}
 
 abbrev bounds_in : List BallotNote → List ℕ
 bounds_in [] = []

@@ -1,8 +1,6 @@
 -- Counts of faults that have risen, and elements of lists that are emptied from their ends.
 use Rattle.std.proofs.Common.{◌≡◌, ◌⊎◌, inl, inr, ⊎_elim, ℕ, ◌≤◌, List, [], ◌∷◌, ◌++◌, subst, arith}
-use Rattle.list_words.specs.Lists.{Mem}
-use Rattle.list_words.proofs.Lists.{mem_split}
-use Rattle.outside.specs.Faults.{Rose, added}
+use Rattle.site_run.proofs.Words.{Mem, mem_split, Rose, added}
 
 pub rose_added : (old now more : ℕ) → old ≤ now → 1 ≤ more → Rose old (added now more)
 rose_added old now more le some = omega (arith, le, some)

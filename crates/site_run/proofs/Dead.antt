@@ -1,15 +1,8 @@
 -- Which nodes may be dead.
 use Rattle.std.proofs.Common.{◌≡◌, ℕ, zero, suc, ◌+◌, ◌<◌, ◌≤◌, Bool, true, false, not, ◌&&◌, ◌||◌, leb, ltb, List, [], ◌∷◌, take, refl, arith}
-use Rattle.std.proofs.lemmas.Bool.{leb-true, ltb-true}
-use Rattle.lossy_link.specs.declared.plan.Kind.{Kind}
+use Rattle.site_run.proofs.Words.{leb-true, ltb-true, Kind, PlanView, kind_at, Setting, IsNode, node_number, Node, Dispatcher, Server, Replica, Joiner, DeadAreReplicas}
 use Rattle.lossy_link.specs.declared.plan.Kind.TheVariants as kind
-use Rattle.lossy_link.specs.Fates.{PlanView}
-use Rattle.air_bus.specs.Waiting.{is_dead, is_replica, kind_at}
-use Rattle.turn_defs.specs.Setting.{Setting}
-use Rattle.turn_defs.specs.Nodes.{IsNode, node_number}
-use Rattle.turn_defs.specs.declared.node.Node.{Node}
-use Rattle.turn_defs.specs.declared.node.Node.TheVariants.{Dispatcher, Server, Replica, Joiner}
-use Rattle.site_run.specs.Running.{DeadAreReplicas}
+use Rattle.air_bus.specs.Waiting.{is_replica}
 
 both : (a b : Bool) → (a && b) ≡ true → (a ≡ true) × (b ≡ true)
 both true b is = (refl, is)

@@ -1,34 +1,11 @@
 -- What a run leaves, by what its parts do.
 use Rattle.std.specs.Prelude.{IfSome, IsSomeAnd, IfOk}
 use Rattle.std.proofs.Common.{◌≡◌, inl, ℕ, List, [], ◌∷◌, ◌++◌, Option, None, Some, Result, Ok, Err, refl, sym, subst}
-use Rattle.list_words.specs.Lists.{Each, Mem}
-use Rattle.list_words.proofs.Lists.{mem_left, mem_right, each_at, each_from, each_more, each_append}
-use Rattle.outside.specs.declared.store.DiskName.{DiskName}
+use Rattle.site_run.proofs.Words.{Each, Mem, mem_left, mem_right, each_at, each_from, each_more, each_append, DiskName, StoreFault, BusEntry, IsQueryLog, Setting, Checked, IsLogOf, Disks, topology_of, Store, WholeSound, ReadIsChecked, RunFault, IsCounted, IsWelcome, of_place, IsKeptIn, Images, AreLeft, IsSoundStore, SameRecords, KeepsOf, KeepsTopology, RunStaysSound, Journals, Outcome, RunLog, Config, AreLogsOf, IsSettingOf, IsSettingOver, HasRun, HasRested, RunLeft, RestLeft}
 use Rattle.outside.specs.declared.store.DiskName.TheVariants as name
-use Rattle.outside.specs.declared.faults.StoreFault.{StoreFault}
 use Rattle.outside.specs.declared.faults.StoreFault.TheVariants as store
-use Rattle.air_bus.specs.declared.entry.Entry.{Entry as BusEntry}
-use Rattle.log_records.specs.Check.{IsQueryLog}
-use Rattle.turn_defs.specs.Setting.{Setting, Checked}
-use Rattle.dispatch_node.specs.Places.{IsLogOf}
-use Rattle.photon_model.specs.Runs.{Disks}
-use Rattle.photon_model.specs.Topology.{topology_of, Store, WholeSound}
-use Rattle.photon_model.specs.Stores.{ReadIsChecked}
-use Rattle.run_fault.specs.declared.fault.RunFault.{RunFault}
 use Rattle.run_fault.specs.declared.fault.RunFault.TheVariants as fault
 use Rattle.run_fault.specs.declared.fault.Mismatch.TheVariants as mismatch
-use Rattle.run_fault.specs.Causes.{IsCounted, IsWelcome}
-use Rattle.run_fault.specs.Faults.{of_place}
-use Rattle.gate_journal.specs.Images.{IsKeptIn}
-use Rattle.site_laws.specs.Stores.{Images, AreLeft, IsSoundStore, SameRecords, KeepsOf, KeepsTopology}
-use Rattle.site_laws.specs.StoreLaws.{RunStaysSound}
-use Rattle.verify_pass.specs.declared.journals.Journals.{Journals}
-use Rattle.site_run.specs.declared.ran.Outcome.{Outcome}
-use Rattle.site_run.specs.declared.ran.RunLog.{RunLog}
-use Rattle.site_run.specs.declared.built.config.Config.{Config}
-use Rattle.site_run.specs.Asked.{AreLogsOf, IsSettingOf, IsSettingOver}
-use Rattle.site_run.specs.Logs.{IsOfLogs}
-use Rattle.site_run.specs.Left.{HasRun, HasRested, RunLeft, RestLeft}
 
 -- ---- where a run began, and where none did
 
@@ -96,16 +73,6 @@ checked_so law g (Some a) None of_a of_b = absurd of_b
 checked_so law g (Some a) (Some b) of_a of_b = law g a b (record { queries = of_a.0; clicks = of_b.lines })
 
 -- ---- logs that aren't opened, and a store that isn't placed
-
-pub logs_counted : (f : RunFault) (rose stores : Type 0) → IsOfLogs rose f → IsCounted rose stores f
-logs_counted (fault.Read log) rose stores of = of
-logs_counted fault.Memory rose stores of = tt
-logs_counted _ rose stores of = absurd of
-
-pub logs_welcome : (f : RunFault) (rose holds : Type 0) → IsOfLogs rose f → IsWelcome holds f
-logs_welcome (fault.Read log) rose holds of = tt
-logs_welcome fault.Memory rose holds of = tt
-logs_welcome _ rose holds of = absurd of
 
 pub place_counted : (f : StoreFault) (logs stores : Type 0) → (f ≡ store.Disk → stores) → IsCounted logs stores (of_place f)
 place_counted store.Disk logs stores rose = rose refl

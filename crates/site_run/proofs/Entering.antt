@@ -1,31 +1,8 @@
 -- From a store that was opened to the nodes of a run over it: their records, their places, and the disks that are out.
-use Rattle.std.proofs.Common.{◌≡◌, ◌≢◌, ⊎_elim, inl, inr, ℕ, zero, suc, ◌+◌, ◌<◌, ◌≤◌, List, [], ◌∷◌, ◌++◌, map, take, length, Bool, IsTrue, Option, Some, refl, sym, ◌∙◌, ap, subst, arith}
-use Rattle.list_words.specs.Lists.{Each, Mem}
-use Rattle.list_words.proofs.Lists.{each_at, each_more, each_append}
-use Rattle.outside.specs.declared.store.DiskName.{DiskName}
+use Rattle.std.proofs.Common.{◌≡◌, ◌≢◌, ⊎_elim, inl, inr, ℕ, ◌<◌, ◌≤◌, List, [], ◌∷◌, map, Some, sym, ◌∙◌, ap, subst, arith}
+use Rattle.site_run.proofs.Words.{Each, Mem, each_at, each_more, DiskName, IsOpened, Topology, Setting, AreKeptPlaces, Disks, topology_of, Lent, IsOfOne, MayBeLeft, StaysAs, GoesOn, opened_same, Images, IsSoundStore, KeepsTopology, WrittenIsSound, IsTopologyWritten, Fits, all_kept, other_names, KeptDisk, OpenView, IsOfKind, AreRecordsOf, kept_all, lent_all, IsOut, IsAsked, others_apart, others_are, not_topology, offset_named, retry_named, records_of, are_records, site_fits, names_kept, AreOut, KeepsItsRecord}
 use Rattle.outside.specs.declared.store.DiskName.TheVariants as name
-use Rattle.gate_journal.specs.Opening.{IsOpened}
-use Rattle.topology_journal.specs.declared.topology.Topology.{Topology}
 use Rattle.topology_journal.specs.Topologies as journal
-use Rattle.turn_defs.specs.Setting.{Setting}
-use Rattle.dispatch_node.specs.Places.{AreKeptPlaces}
-use Rattle.photon_model.specs.Runs.{Disks}
-use Rattle.photon_model.specs.Topology.{topology_of}
-use Rattle.site_store.specs.Lent.{Lent, IsOfOne, MayBeLeft}
-use Rattle.gate_journal.specs.Images.{StaysAs, GoesOn}
-use Rattle.site_store.proofs.Stays.{opened_same}
-use Rattle.site_laws.specs.Stores.{Images, IsSoundStore, KeepsTopology}
-use Rattle.site_laws.specs.StoreLaws.{WrittenIsSound, IsTopologyWritten}
-use Rattle.site_store.specs.Kept.{Fits, all_kept}
-use Rattle.site_store.specs.Refusals.{other_names}
-use Rattle.site_store.specs.Records.{KeptDisk, OpenView, IsOfKind, AreRecordsOf, kept_all, lent_all}
-use Rattle.site_store.specs.Leaving.{IsOut, IsAsked}
-use Rattle.site_store.proofs.Names.{others_apart, others_are, not_topology, offset_named, retry_named}
-use Rattle.site_store.proofs.Recorded.{records_of, are_records}
-use Rattle.site_store.proofs.Telling.{site_fits}
-use Rattle.site_store.proofs.Values.{names_kept}
-use Rattle.site_run.specs.Out.{AreOut}
-use Rattle.site_run.specs.Laws.{KeepsItsRecord}
 use Rattle.site_run.proofs.Outing.{stays_goes_on}
 
 -- ---- the records of a run's nodes

@@ -1,8 +1,6 @@
 -- The fault that is told: the first node's that has one.
 use Rattle.std.proofs.Common.{◌≡◌, ℕ, suc, List, ◌∷◌, Option, None, Some, refl, sym, ap, ◌∙◌}
-use Rattle.run_fault.specs.declared.fault.RunFault.{RunFault}
-use Rattle.site_node.specs.declared.kind.NodeFault.{NodeFault}
-use Rattle.site_run.specs.Settled.{told_of, or_else, first_fault}
+use Rattle.site_run.proofs.Words.{RunFault, NodeFault, told_of, or_else, first_fault}
 
 or_through : (a b c : Option RunFault) → or_else (or_else a b) c ≡ or_else a (or_else b c)
 or_through None b c = refl

@@ -1,19 +1,9 @@
 -- Disks that have gone on, step by step and place by place.
 use Rattle.std.proofs.Common.{◌≡◌, ℕ, zero, suc, ◌+◌, ◌<◌, List, [], ◌∷◌, ◌++◌, length, refl, ◌∙◌, subst, arith}
 use Rattle.std.specs.Prelude.{slice_index_or}
-use Rattle.gate_journal.specs.Growth.{Continues}
-use Rattle.gate_journal.proofs.Growth.{continues_same, continues_through}
-use Rattle.turn_defs.specs.declared.node.Node.{Node}
-use Rattle.turn_defs.specs.Setting.{Setting}
-use Rattle.turn_defs.specs.Nodes.{IsNode, NumbersAreNodes, node_number, node_count}
-use Rattle.site_store.specs.Lent.{Lent}
-use Rattle.site_store.specs.ReadBack.{EachWith}
-use Rattle.site_run.specs.Naming.{all_from, of_dispatcher, of_server, of_replica, of_joiner}
-use Rattle.site_workers.specs.Works.{Reached}
+use Rattle.site_run.proofs.Words.{Continues, continues_same, continues_through, Node, Setting, IsNode, NumbersAreNodes, node_number, node_count, Lent, EachWith, all_from, of_dispatcher, of_server, of_replica, of_joiner, Reached, Either, HasGoneOn, HaveGoneOn}
 use Rattle.site_workers.specs.Eithers as either
-use Rattle.site_workers.specs.declared.either.Either.{Either}
 use Rattle.site_workers.specs.declared.either.Either.TheVariants as node
-use Rattle.site_run.specs.Held.{HasGoneOn, HaveGoneOn}
 
 -- ---- lists side by side
 

@@ -1,30 +1,14 @@
 -- The disks of a node that stands at a state hold what the state says.
 use Rattle.std.proofs.Common.{◌≡◌, ◌⊎◌, inl, inr, ⊎_elim, ℕ, Bool, true, false, ◌&&◌, List, Option, Some, None, refl, ap, ◌∙◌}
 use Rattle.std.specs.Prelude.{IsTrue}
-use Rattle.turn_defs.specs.declared.node.Node.{Node}
-use Rattle.turn_defs.specs.declared.node.Node.TheVariants.{Dispatcher, Server, Replica, Joiner}
-use Rattle.turn_defs.specs.declared.node.Input.{Input}
-use Rattle.turn_defs.specs.Setting.{Setting}
-use Rattle.turn_defs.specs.Nodes.{node_number}
-use Rattle.turn_defs.specs.Turns.{Note, Out, land}
-use Rattle.site_node.specs.States.{State, MayHold, row_of}
-use Rattle.dispatch_node.specs.Node.{DispatcherState}
+use Rattle.site_run.proofs.Words.{Node, Dispatcher, Server, Replica, Joiner, Input, Setting, node_number, Note, Out, land, State, MayHold, row_of, DispatcherState, ServerKept, ServerLive, land_server, SiteKept, ServerState, ReplicaState, JoinerState, StateOf, server_rows, Either, AnyState, any_of, with_site, StatesKeepVotes, HasSpelledNotes, HoldsAs}
 use Rattle.dispatch_node.specs.Images as dispatcher
-use Rattle.turn_defs.specs.Server.{ServerKept, ServerLive, land_server}
-use Rattle.registry_server.specs.Registrars.{SiteKept}
 use Rattle.registry_server.specs.Registrars as registrars
-use Rattle.registry_server.specs.Node.{ServerState}
 use Rattle.registry_server.specs.Node as server
-use Rattle.site_node.specs.Replicas.{ReplicaState}
 use Rattle.site_node.specs.Replicas as replica
-use Rattle.joiner_node.specs.Node.{JoinerState, KeepsOf}
-use Rattle.site_laws.specs.Kinds.{StateOf, server_rows}
+use Rattle.joiner_node.specs.Node.{KeepsOf}
 use Rattle.site_workers.specs.Eithers as either
-use Rattle.site_workers.specs.declared.either.Either.{Either}
 use Rattle.site_workers.specs.declared.either.Either.TheVariants as node
-use Rattle.site_run.specs.AnyNodes.{AnyState, any_of, with_site}
-use Rattle.site_laws.specs.StoreLaws.{StatesKeepVotes}
-use Rattle.site_run.specs.Held.{HasSpelledNotes, HoldsAs}
 use Rattle.site_run.proofs.Going.{disks_by}
 
 -- where disk and log tell, so does a node of any kind

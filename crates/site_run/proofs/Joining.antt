@@ -1,40 +1,9 @@
 -- What the journals of a run that has come to rest say is the report of what its disks keep.
 use Rattle.std.proofs.Common.{◌≡◌, ◌⊎◌, inl, inr, ℕ, zero, suc, List, [], refl, ap, ◌∙◌, subst, arith}
-use Rattle.std.proofs.lemmas.List.Elements.{All-nil}
-use Rattle.list_words.specs.Lists.{Mem}
-use Rattle.event_id.specs.declared.id.EventId.{EventId}
-use Rattle.time_shards.specs.Shards.{IsTable}
-use Rattle.registry_state.specs.declared.Insert.{Insert}
-use Rattle.registry_state.specs.LookBack.{bound_of}
-use Rattle.outside.specs.declared.store.DiskName.{DiskName}
+use Rattle.site_run.proofs.Words.{All-nil, Mem, EventId, IsTable, Insert, bound_of, DiskName, ClickLine, ReportLine, M, BusEntry, IsPair, Setting, Checked, values_from, World, Disks, disks, world_after, opening, WholeSound, SoundStore, IsMissing, inserts_of, known_of, HasBounds, IsBoundOk, RestLeaves, RestIsDone, AtRestFromEmpty, ClicksAreExact, ReportIsExact, TellsTheMissing, RunsKeepStores, empty_disks, empty_store, TellsTheReport, Journals, Images, IsDisk, KeepsOf, IsSoundStore, SameRecords, KeepOneTopology, HoldSameRecords, LeavesNothing, same_is_whole, opened_whole, HasRested, RestLeft, lines_by, AreLinesBy, IsAcceptedBound, WasHeld, Joins, JoinsAfresh, RanAfresh, decided_by, JoinerStopped, NoneStops}
 use Rattle.outside.specs.declared.store.DiskName.TheVariants as name
-use Rattle.log_records.specs.Lines.{ClickLine}
 use Rattle.log_records.specs.Report as logs
-use Rattle.log_records.specs.declared.report.ReportLine.{ReportLine}
-use Rattle.log_records.specs.declared.report.ReportLine.TheVariants.{M}
-use Rattle.air_bus.specs.declared.entry.Entry.{Entry as BusEntry}
-use Rattle.turn_defs.specs.Spellings.{IsPair}
-use Rattle.turn_defs.specs.Setting.{Setting, Checked}
-use Rattle.photon_model.specs.Journals.{values_from}
 use Rattle.photon_model.specs.Report as kept
-use Rattle.photon_model.specs.Runs.{World, Disks, disks, world_after, opening}
-use Rattle.photon_model.specs.Topology.{WholeSound}
-use Rattle.photon_model.specs.Sound.{SoundStore, IsMissing, inserts_of, known_of}
-use Rattle.photon_model.specs.EveryRun.{HasBounds, IsBoundOk, RestLeaves}
-use Rattle.photon_model.specs.EveryRun.{RestIsDone}
-use Rattle.photon_model.specs.Exact.{AtRestFromEmpty, ClicksAreExact, ReportIsExact}
-use Rattle.photon_model.specs.Headline.{TellsTheMissing}
-use Rattle.photon_model.specs.Stores.{RunsKeepStores, empty_disks, empty_store}
-use Rattle.photon_model.specs.Verification.{TellsTheReport}
-use Rattle.verify_pass.specs.declared.journals.Journals.{Journals}
-use Rattle.site_laws.specs.Stores.{Images, IsDisk, KeepsOf, IsSoundStore, SameRecords}
-use Rattle.site_laws.specs.StoreLaws.{KeepOneTopology, HoldSameRecords, LeavesNothing}
-use Rattle.site_laws.proofs.Nodes.{same_is_whole}
-use Rattle.site_laws.proofs.Opening.{opened_whole}
-use Rattle.site_run.specs.Left.{HasRested, RestLeft}
-use Rattle.site_run.specs.Meaning.{lines_by, AreLinesBy}
-use Rattle.site_run.specs.Joined.{IsAcceptedBound, WasHeld, Joins, JoinsAfresh, RanAfresh, decided_by}
-use Rattle.site_run.specs.Laws.{JoinerStopped, NoneStops}
 use Rattle.site_run.proofs.Bounds.{bounds_from, to_bounds, from_bounds}
 
 -- the laws that this stands on

@@ -1,21 +1,9 @@
 -- What is left of the disks of all nodes keeps what their states say.
 use Rattle.std.proofs.Common.{◌≡◌, ◌≢◌, ⊎_elim, inl, inr, ℕ, ◌+◌, ◌-◌, ◌<◌, List, [], ◌∷◌, length, refl, sym, ap, ◌∙◌, subst, arith}
 use Rattle.std.specs.Prelude.{slice_index_or}
-use Rattle.list_words.specs.Lists.{Mem}
-use Rattle.list_words.proofs.Lists.{each_at}
-use Rattle.outside.specs.declared.store.DiskName.{DiskName}
+use Rattle.site_run.proofs.Words.{Mem, each_at, DiskName, Node, Dispatcher, Server, Replica, Joiner, Setting, IsNode, NumbersAreNodes, node_number, Lent, Lacks, IsOfOne, StateOf, all_from, site_of, place_at, Images, IsDisk, AreKept, joiner_of, is_joiner, AllHold, IsLeftBy, KeepsItsRecord}
 use Rattle.outside.specs.declared.store.DiskName.TheVariants as name
-use Rattle.turn_defs.specs.declared.node.Node.{Node}
-use Rattle.turn_defs.specs.declared.node.Node.TheVariants.{Dispatcher, Server, Replica, Joiner}
-use Rattle.turn_defs.specs.Setting.{Setting}
-use Rattle.turn_defs.specs.Nodes.{IsNode, NumbersAreNodes, node_number}
-use Rattle.site_store.specs.Lent.{Lent, Lacks, IsOfOne}
-use Rattle.site_laws.specs.Kinds.{StateOf}
-use Rattle.site_run.specs.Naming.{all_from, site_of, joiner_of as place_at}
 use Rattle.site_run.proofs.Naming.{site_named}
-use Rattle.site_laws.specs.Stores.{Images, IsDisk, AreKept, joiner_of}
-use Rattle.site_laws.proofs.Naming.{is_joiner}
-use Rattle.site_run.specs.Laws.{AllHold, IsLeftBy, KeepsItsRecord}
 use Rattle.site_run.proofs.Places.{IsDiskOf, from_place, at_place, node_with, owner, of_setting, no_node, names_of}
 
 some_of : {A : Type 0} (xs : List A) → 0 < length xs → A

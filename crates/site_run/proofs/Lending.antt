@@ -1,10 +1,8 @@
 -- The disks of a joiner are those that it was made over.
 use Rattle.std.proofs.Common.{◌≡◌, ℕ, ◌+◌, ◌*◌, ◌<◌, List, [], ◌∷◌, ◌++◌, sym, ap, ◌∙◌, subst}
-use Rattle.std.specs.List.Sorted.{IsPermutation}
-use Rattle.outside.specs.declared.store.DiskName.{DiskName}
+use Rattle.site_run.proofs.Words.{IsPermutation, DiskName, Lent, of_joiner, site_of}
 use Rattle.outside.specs.declared.store.DiskName.TheVariants as name
-use Rattle.site_store.specs.Lent.{Lent}
-use Rattle.site_run.specs.Naming.{of_joiner, site_of, joiner_of}
+use Rattle.site_run.specs.Naming.{joiner_of}
 use Rattle.site_run.proofs.Naming.{site_named}
 
 pub as_given : {X : Type 0} (held now xs ys : List X) → xs ≡ ys → IsPermutation (held ++ xs) now → IsPermutation (held ++ ys) now

@@ -1,14 +1,7 @@
 -- Lists of nodes that grow at their end, and lists that are worked off from their front.
 use Rattle.std.proofs.Common.{◌≡◌, ⊎_elim, ℕ, suc, ◌+◌, ◌<◌, List, [], ◌∷◌, ◌++◌, length, map, get_or, slice_index_or, refl, sym, ap, ◌∙◌, subst, arith, append_assoc, length-append}
 use Rattle.std.specs.Prelude.{Result, Ok, Err, IfOk}
-use Rattle.std.specs.List.Sorted.{IsPermutation}
-use Rattle.std.proofs.lemmas.List.{append-nil, get_or_append_left, length-map}
-use Rattle.std.proofs.lemmas.List.Sorted.{IsPermutation-refl, IsPermutation-trans, IsPermutation-append_comm, IsPermutation-append_left, IsPermutation-append_right}
-use Rattle.std.proofs.lemmas.Bool.{cases_lt}
-use Rattle.std.proofs.Math.Seq.{get_or-append_seam}
-use Rattle.list_words.specs.Lists.{Each}
-use Rattle.site_run.specs.Naming.{all_from}
-use Rattle.site_run.specs.Placed.{AllAt}
+use Rattle.site_run.proofs.Words.{IsPermutation, append-nil, get_or_append_left, length-map, IsPermutation-refl, IsPermutation-trans, IsPermutation-append_comm, IsPermutation-append_left, IsPermutation-append_right, cases_lt, get_or-append_seam, Each, all_from, AllAt}
 
 -- ---- at the end
 

@@ -1,9 +1,7 @@
 -- A fault of a node is one of its disks or of its log.
 use Rattle.std.proofs.Common.{◌⊎◌, inl, inr, ⊎_elim, ℕ, zero, suc, ◌+◌, ◌≤◌, List, [], ◌∷◌, refl, arith}
-use Rattle.list_words.specs.Lists.{Mem}
-use Rattle.site_store.specs.Lent.{Lent}
+use Rattle.site_run.proofs.Words.{Mem, Lent, Either}
 use Rattle.site_workers.specs.Eithers as either
-use Rattle.site_workers.specs.declared.either.Either.{Either}
 use Rattle.site_workers.specs.declared.either.Either.TheVariants as node
 use Rattle.site_run.proofs.Going.{disks_by}
 

@@ -1,7 +1,7 @@
 -- The names of joiners' disks.
 use Rattle.std.proofs.Common.{◌≡◌, ℕ, suc, zero, ◌+◌, ◌-◌, ◌*◌, ◌<◌, nat_lt, true, false, cond, ap, ◌∙◌, arith}
-use Rattle.std.proofs.lemmas.Bool.{lt-ltb, le-ltb}
-use Rattle.site_run.specs.Naming.{place_of, site_of, joiner_of}
+use Rattle.site_run.proofs.Words.{lt-ltb, le-ltb, place_of, site_of}
+use Rattle.site_run.specs.Naming.{joiner_of}
 
 -- the site and the place there of a joiner's number
 pub site_named : (j n site joiner : ℕ) → site < 2 → joiner < j → n ≡ 7 + site * j + joiner → (site_of j n ≡ site) × (joiner_of j n ≡ joiner)

@@ -1,22 +1,7 @@
 -- Nodes that are down over records, and the number of disks that are out.
-use Rattle.std.proofs.Common.{◌≡◌, ℕ, ◌+◌, ◌*◌, ◌≤◌, List, ◌∷◌, ◌++◌, length, map, take, slice_index_or, None, ap, ◌∙◌, subst, arith, length-append}
-use Rattle.std.proofs.lemmas.List.{length-map}
-use Rattle.std.specs.List.Sorted.{IsPermutation}
-use Rattle.std.proofs.lemmas.List.Sorted.{length_permutation}
-use Rattle.outside.specs.declared.store.DiskName.{DiskName}
-use Rattle.turn_defs.specs.declared.node.Node.{Node}
-use Rattle.turn_defs.specs.Setting.{Setting}
-use Rattle.turn_defs.specs.Nodes.{node_number}
-use Rattle.photon_model.specs.Runs.{Disks}
-use Rattle.site_laws.specs.Kinds.{StateOf, KeptOf, kept_of, down_over}
-use Rattle.site_store.specs.Lent.{Lent, MayBeLeft}
-use Rattle.site_store.specs.Records.{OpenView, lent_all, lent_by}
-use Rattle.site_store.specs.Refusals.{other_names}
+use Rattle.std.proofs.Common.{◌≡◌, ℕ, ◌+◌, ◌*◌, ◌≤◌, List, ◌∷◌, length, map, slice_index_or, None, ap, subst, arith}
+use Rattle.site_run.proofs.Words.{length-map, IsPermutation, length_permutation, DiskName, Node, Setting, node_number, Disks, StateOf, KeptOf, kept_of, down_over, Lent, MayBeLeft, OpenView, lent_all, lent_by, other_names, AnyState, any_of, AreDownOver, Images, SameRecords, AreOut}
 use Rattle.site_run.proofs.Taken.{opened_count}
-use Rattle.site_run.specs.AnyNodes.{AnyState, any_of}
-use Rattle.site_run.specs.Running.{AreDownOver}
-use Rattle.site_laws.specs.Stores.{Images, SameRecords}
-use Rattle.site_run.specs.Out.{AreOut}
 
 down_same : (g : Setting) (d e : Disks) (n : Node) → kept_of d n ≡ kept_of e n → down_over g d n ≡ down_over g e n
 down_same g d e n is = ap (λ (k : KeptOf n). record { setting = g; kept = k; live = None; opened = None }) is

@@ -1,20 +1,6 @@
 -- Disks that are out, while they go on and once they are given back.
 use Rattle.std.proofs.Common.{◌≡◌, inl, inr, ⊎_elim, ℕ, List, [], ◌∷◌, ◌++◌, Result, Ok, Err, refl, sym, ◌∙◌, ap, subst, append_assoc, ◌≢◌}
-use Rattle.std.proofs.lemmas.List.{append-nil}
-use Rattle.std.specs.List.Sorted.{IsPermutation}
-use Rattle.std.proofs.lemmas.List.Sorted.{All-permutation, IsPermutation-sym}
-use Rattle.std.proofs.lemmas.List.Elements.{All-from_recursion, recursion_from_All}
-use Rattle.list_words.specs.Lists.{Each, Mem}
-use Rattle.outside.specs.declared.store.DiskName.{DiskName}
-use Rattle.outside.specs.Disk.{Within}
-use Rattle.gate_journal.specs.Gate.{gate_rule}
-use Rattle.gate_journal.specs.Growth.{Continues, Extends}
-use Rattle.site_store.specs.Lent.{Lent, Lacks, MayBeLeft}
-use Rattle.gate_journal.specs.Images.{GoesOn, StaysAs}
-use Rattle.site_store.proofs.Lending.{each_mem}
-use Rattle.site_run.specs.Held.{HaveGoneOn}
-use Rattle.site_laws.specs.Stores.{Images}
-use Rattle.site_run.specs.Out.{AreOut}
+use Rattle.site_run.proofs.Words.{append-nil, IsPermutation, All-permutation, IsPermutation-sym, All-from_recursion, recursion_from_All, Each, Mem, DiskName, Within, gate_rule, Continues, Extends, Lent, Lacks, MayBeLeft, GoesOn, StaysAs, each_mem, HaveGoneOn, Images, AreOut}
 
 -- ---- records that were only added to
 

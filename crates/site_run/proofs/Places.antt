@@ -1,20 +1,10 @@
 -- Lists that are put together place by place, and whose disk a name is.
 use Rattle.std.proofs.Common.{◌≡◌, ⊎_elim, ℕ, zero, suc, ◌+◌, ◌-◌, ◌*◌, ◌<◌, ◌≤◌, nat_lt, Bool, true, false, cond, List, [], ◌∷◌, length, refl, sym, ap, ◌∙◌, subst, arith}
 use Rattle.std.specs.Prelude.{slice_index_or}
-use Rattle.std.proofs.lemmas.Bool.{cases_lt, lt-ltb, le-ltb}
-use Rattle.list_words.specs.Lists.{Mem, Each}
-use Rattle.list_words.proofs.Lists.{mem_left, mem_right, mem_split, each_at}
-use Rattle.outside.specs.declared.store.DiskName.{DiskName}
+use Rattle.site_run.proofs.Words.{cases_lt, lt-ltb, le-ltb, Mem, Each, mem_left, mem_right, mem_split, each_at, DiskName, Node, Dispatcher, Server, Replica, Joiner, Setting, IsNode, Lent, StateOf, place_of, site_of, all_from, HoldsAs}
 use Rattle.outside.specs.declared.store.DiskName.TheVariants as name
-use Rattle.turn_defs.specs.declared.node.Node.{Node}
-use Rattle.turn_defs.specs.declared.node.Node.TheVariants.{Dispatcher, Server, Replica, Joiner}
-use Rattle.turn_defs.specs.Setting.{Setting}
-use Rattle.turn_defs.specs.Nodes.{IsNode}
-use Rattle.site_store.specs.Lent.{Lent}
-use Rattle.site_laws.specs.Kinds.{StateOf}
-use Rattle.site_run.specs.Naming.{place_of, site_of, joiner_of, all_from}
+use Rattle.site_run.specs.Naming.{joiner_of}
 use Rattle.site_laws.specs.Stores as stores
-use Rattle.site_run.specs.Held.{HoldsAs}
 
 -- ---- lists put together
 

@@ -1,20 +1,6 @@
 -- Each node is at the place of its number.
 use Rattle.std.proofs.Common.{◌≡◌, ℕ, suc, zero, ◌+◌, ◌*◌, ◌<◌, List, length, Some, refl, sym, ap, ◌∙◌, subst, arith}
-use Rattle.turn_defs.specs.declared.node.Node.{Node}
-use Rattle.turn_defs.specs.declared.node.Node.TheVariants.{Dispatcher, Server, Replica, Joiner}
-use Rattle.turn_defs.specs.Setting.{Setting, IsJoiner}
-use Rattle.turn_defs.specs.Nodes.{IsNode, NumbersAreNodes, node_count, node_number, node_of}
-use Rattle.photon_model.specs.Runs.{Disks}
-use Rattle.site_laws.specs.Kinds.{down_over}
-use Rattle.site_node.specs.declared.roster.Roster.{Roster}
-use Rattle.site_node.specs.Rosters.{IsOf}
-use Rattle.turn_defs.specs.Dispatcher.{DispatcherKept}
-use Rattle.turn_defs.specs.Server.{ServerKept}
-use Rattle.turn_defs.specs.Replica.{ReplicaKept}
-use Rattle.turn_defs.specs.Joiner.{JoinerKept}
-use Rattle.site_run.specs.AnyNodes.{AnyState, any_of, down_with}
-use Rattle.site_run.specs.Running.{AreDownOver}
-use Rattle.site_run.specs.Placed.{AllAt, IsDownAt}
+use Rattle.site_run.proofs.Words.{Node, Dispatcher, Server, Replica, Joiner, Setting, IsJoiner, IsNode, NumbersAreNodes, node_count, node_number, node_of, Disks, down_over, Roster, IsOf, DispatcherKept, ServerKept, ReplicaKept, JoinerKept, AnyState, any_of, down_with, AreDownOver, AllAt, IsDownAt}
 
 some_same : (m n : Node) → Some m ≡ Some n → m ≡ n
 some_same m n is = cc is

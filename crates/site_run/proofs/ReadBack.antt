@@ -1,36 +1,9 @@
 -- What is read back of the disks of nodes at rest is the nodes' records.
 use Rattle.std.proofs.Common.{◌≡◌, ℕ, suc, ◌+◌, ◌*◌, ◌<◌, List, [], ◌∷◌, ◌++◌, length, map, slice_index_or, Bool, false, cond, IsTrue, refl, sym, ap, ◌∙◌, subst, arith, lit<, lit≤}
 use Rattle.std.specs.Prelude.{filter}
-use Rattle.std.proofs.lemmas.List.Elements.{All-nil, filter-append}
-use Rattle.outside.specs.declared.store.DiskName.{DiskName}
+use Rattle.site_run.proofs.Words.{All-nil, filter-append, DiskName, ReplicaNote, note_view, PairRec, KeepsPairs, IsPair, Node, Dispatcher, Server, Replica, Joiner, Setting, first_joiner, IsNode, node_number, BallotNote, ReplicaKept, notes_kept, journals_of, values_from, Disks, AreOf, Lent, KeepsNotes, StateOf, KeptOf, kept_of, all_from, EachWith, is_replica, is_output, each_with_append, Journals, notes_of, KeepsVotes, HoldsRecords, HoldSameRecords, ReadNotesAreKept, KeepsAs, AllKeep, lent_replicas, lent_outputs, AreKeptIn}
 use Rattle.outside.specs.declared.store.DiskName.TheVariants as name
-use Rattle.paxos_acceptor.specs.declared.notes.ReplicaNote.{ReplicaNote}
-use Rattle.paxos_acceptor.specs.Cells.{note_view}
-use Rattle.turn_defs.specs.declared.pair.PairRec.{PairRec}
-use Rattle.output_log.specs.Pairs.{Keeps as KeepsPairs}
-use Rattle.turn_defs.specs.Spellings.{IsPair}
-use Rattle.turn_defs.specs.declared.node.Node.{Node}
-use Rattle.turn_defs.specs.declared.node.Node.TheVariants.{Dispatcher, Server, Replica, Joiner}
-use Rattle.turn_defs.specs.Setting.{Setting, first_joiner}
-use Rattle.turn_defs.specs.Nodes.{IsNode, node_number}
-use Rattle.turn_defs.specs.Turns.{BallotNote}
-use Rattle.turn_defs.specs.Replica.{ReplicaKept}
-use Rattle.site_node.specs.Replicas.{kept_of as notes_kept}
-use Rattle.photon_model.specs.Journals.{journals as journals_of, values_from}
-use Rattle.photon_model.specs.Runs.{Disks}
-use Rattle.photon_model.specs.Verification.{AreOf}
-use Rattle.site_store.specs.Lent.{Lent}
-use Rattle.site_node.specs.Replicas.{KeepsNotes}
-use Rattle.site_laws.specs.Kinds.{StateOf, KeptOf, kept_of}
-use Rattle.site_run.specs.Naming.{all_from}
-use Rattle.site_store.specs.ReadBack.{EachWith, is_replica, is_output}
-use Rattle.site_store.proofs.Walking.{each_with_append}
-use Rattle.verify_pass.specs.declared.journals.Journals.{Journals}
-use Rattle.verify_pass.specs.Classes.{notes_of}
-use Rattle.site_laws.specs.Stores.{Bytes, KeepsVotes, HoldsRecords}
-use Rattle.site_laws.specs.StoreLaws.{HoldSameRecords, ReadNotesAreKept}
-use Rattle.site_run.specs.Resting.{KeepsAs, AllKeep}
-use Rattle.site_run.specs.Settled.{lent_replicas, lent_outputs, AreKeptIn}
+use Rattle.site_laws.specs.Stores.{Bytes}
 
 -- ---- bytes keep one list, of notes or of pairs
 

@@ -1,28 +1,7 @@
 -- What nodes at rest keep, by the name of each disk, and what is read back of it.
 use Rattle.std.proofs.Common.{◌≡◌, inl, ℕ, ◌<◌, List, ◌∷◌, slice_index_or, refl, sym, subst}
-use Rattle.outside.specs.declared.store.DiskName.{DiskName}
+use Rattle.site_run.proofs.Words.{DiskName, Node, Dispatcher, Server, Replica, Joiner, Setting, IsNode, NumbersAreNodes, node_number, DispatcherKept, JoinerKept, ServerKept, ReplicaKept, KeepsOffset, KeepsPending, KeepsEpoch, KeepsPairs, Disks, Lent, IsOfOne, StateOf, kept_of, all_from, IsDisk, KeepsOf, KeepsVotes, joiner_of, is_joiner, HoldsAs, AllHold, KeepsAs, AllKeep}
 use Rattle.outside.specs.declared.store.DiskName.TheVariants as name
-use Rattle.turn_defs.specs.declared.node.Node.{Node}
-use Rattle.turn_defs.specs.declared.node.Node.TheVariants.{Dispatcher, Server, Replica, Joiner}
-use Rattle.turn_defs.specs.Setting.{Setting}
-use Rattle.turn_defs.specs.Nodes.{IsNode, NumbersAreNodes, node_number}
-use Rattle.turn_defs.specs.Dispatcher.{DispatcherKept}
-use Rattle.turn_defs.specs.Joiner.{JoinerKept}
-use Rattle.turn_defs.specs.Server.{ServerKept}
-use Rattle.turn_defs.specs.Replica.{ReplicaKept}
-use Rattle.offset_journal.specs.Offsets.{Keeps as KeepsOffset}
-use Rattle.retry_log.specs.Pending.{Keeps as KeepsPending}
-use Rattle.epoch_journal.specs.Epochs.{Keeps as KeepsEpoch}
-use Rattle.output_log.specs.Pairs.{Keeps as KeepsPairs}
-use Rattle.photon_model.specs.Runs.{Disks}
-use Rattle.site_store.specs.Lent.{Lent, IsOfOne}
-use Rattle.site_laws.specs.Kinds.{StateOf, kept_of}
-use Rattle.site_run.specs.Naming.{all_from}
-use Rattle.site_laws.specs.Stores.{IsDisk, KeepsOf, KeepsVotes, joiner_of}
-use Rattle.site_laws.proofs.Naming.{is_joiner}
-use Rattle.site_run.specs.Held.{HoldsAs}
-use Rattle.site_run.specs.Laws.{AllHold}
-use Rattle.site_run.specs.Resting.{KeepsAs, AllKeep}
 use Rattle.site_run.proofs.Keeping.{found, first_image, second_image, only_image, a_node}
 
 -- what keeps its records holds what its state says

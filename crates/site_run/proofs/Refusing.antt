@@ -1,38 +1,14 @@
 -- Why a run over a store gives up, from what opening it tells and what a run of its nodes does.
 use Rattle.std.specs.Prelude.{IsTrue, Result, Ok, Err, OnOk, IfErr, ⊤}
 use Rattle.std.proofs.Common.{◌≡◌, ◌≢◌, inl, inr, ⊎_elim, ℕ, ◌+◌, ◌-◌, ◌<◌, ◌≤◌, ◌==◌, if◌then◌else◌, List, [], ◌∷◌, map, Bool, true, false, Option, Some, None, refl, sym, ◌∙◌, ap, subst, arith}
-use Rattle.std.proofs.lemmas.Bool.{eq-eqb, cases_lt}
-use Rattle.list_words.specs.Lists.{Mem}
-use Rattle.list_words.proofs.Lists.{each_at}
-use Rattle.outside.specs.declared.store.DiskName.{DiskName}
+use Rattle.site_run.proofs.Words.{eq-eqb, cases_lt, Mem, each_at, DiskName, StoreFault, Topology, end_from, Dispatcher, Server, Replica, Joiner, Setting, IsJoiner, first_joiner, IsLogOf, Disks, RunFault, Misplaced, IsCounted, IsWelcome, of_place, limit_at, limit_in, IsKeptIn, IsJournalOf, other_names, Images, IsDisk, joiner_of, IsAsked, EpochIs, KeptDisk, KeptValues, Says, AreRecordsOf, all_named, at_name, was_journal, AreTold, ArePassed, HasCause, HasFailed, PassesFor, IsCause, IsUnread, cause_more, failed_rose, passed_more, unread_rose, asked_of, HasPassed, IsCauseOf, KeptAreJournals, OneKept, IsOfRun, TellsPlaces}
 use Rattle.outside.specs.declared.store.DiskName.TheVariants as name
-use Rattle.outside.specs.declared.faults.StoreFault.{StoreFault}
 use Rattle.outside.specs.declared.faults.StoreFault.TheVariants as store
-use Rattle.topology_journal.specs.declared.topology.Topology.{Topology}
-use Rattle.log_records.specs.Lines.{end_from}
-use Rattle.turn_defs.specs.declared.node.Node.TheVariants.{Dispatcher, Server, Replica, Joiner}
-use Rattle.turn_defs.specs.Setting.{Setting, IsJoiner, first_joiner}
-use Rattle.dispatch_node.specs.Places.{IsLogOf}
-use Rattle.photon_model.specs.Runs.{Disks}
 use Rattle.run_fault.specs.declared.fault.StorePlace.TheVariants as place
-use Rattle.run_fault.specs.declared.fault.RunFault.{RunFault}
 use Rattle.run_fault.specs.declared.fault.RunFault.TheVariants as fault
-use Rattle.run_fault.specs.declared.fault.Misplaced.{Misplaced}
-use Rattle.run_fault.specs.Causes.{IsCounted, IsWelcome}
-use Rattle.run_fault.specs.Faults.{of_place}
-use Rattle.site_store.specs.Misfits.{limit_at, limit_in, or_else}
-use Rattle.gate_journal.specs.Images.{IsKeptIn}
-use Rattle.site_store.specs.Refusals.{IsJournalOf, other_names}
-use Rattle.site_laws.specs.Stores.{Images, IsDisk, joiner_of}
-use Rattle.site_store.specs.Leaving.{IsAsked}
-use Rattle.site_store.specs.Records.{EpochIs, KeptDisk, KeptValues, AreKept, Says, AreRecordsOf}
+use Rattle.site_store.specs.Misfits.{or_else}
+use Rattle.site_store.specs.Records.{AreKept}
 use Rattle.site_store.specs.Records as kinds
-use Rattle.site_store.proofs.Names.{all_named}
-use Rattle.site_store.proofs.Values.{at_name, was_journal}
-use Rattle.site_store.specs.Causes.{AreTold, ArePassed, HasCause, HasFailed, HasPassed as PassesFor, IsCause, IsUnread}
-use Rattle.site_store.proofs.Causes.{cause_more, failed_rose, passed_more, unread_rose}
-use Rattle.site_run.specs.Logs.{IsOfLogs}
-use Rattle.site_run.specs.Refused.{asked_of, HasPassed, IsCauseOf, KeptAreJournals, OneKept, IsOfRun, TellsPlaces}
 
 -- ---- what is known of a result
 
@@ -150,11 +126,6 @@ welcome_so g d rose holds fault.Memory of = tt
 welcome_so g d rose holds _ of = absurd of
 
 -- ---- of logs that aren't opened, and a store that isn't placed
-
-pub logs_cause : (g : Setting) (before : Images) (rose read faulted : Type 0) (f : RunFault) → (rose → read) → IsOfLogs rose f → IsCauseOf g before read faulted f
-logs_cause g before rose read faulted (fault.Read log) more of = more of
-logs_cause g before rose read faulted fault.Memory more of = tt
-logs_cause g before rose read faulted _ more of = absurd of
 
 pub place_cause : (g : Setting) (before : Images) (read faulted : Type 0) (f : StoreFault) → (f ≡ store.Disk → faulted) → IsCauseOf g before read faulted (of_place f)
 place_cause g before read faulted store.Disk rose = rose refl

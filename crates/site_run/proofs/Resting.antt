@@ -1,36 +1,12 @@
 -- A node without an open turn keeps on each of its disks alone what its state says.
 use Rattle.std.proofs.Common.{◌≡◌, ⊎_elim, ℕ, List, Option, Some, None, refl, ap, subst}
-use Rattle.list_words.specs.Lists.{Each}
-use Rattle.gate_journal.specs.declared.journal.JournalState.{JournalState}
-use Rattle.gate_journal.specs.declared.journal.JournalState.TheVariants.{Ready}
-use Rattle.offset_journal.specs.Offsets.{Keeps as KeepsOffset}
-use Rattle.retry_log.specs.Pending.{Keeps as KeepsPending}
-use Rattle.epoch_journal.specs.Epochs.{Keeps as KeepsEpoch}
-use Rattle.output_log.specs.Pairs.{Keeps as KeepsPairs}
-use Rattle.turn_defs.specs.declared.node.Node.{Node}
-use Rattle.turn_defs.specs.declared.node.Node.TheVariants.{Dispatcher, Server, Replica, Joiner}
-use Rattle.turn_defs.specs.Nodes.{node_number}
-use Rattle.site_node.specs.declared.roster.Roster.{Roster}
-use Rattle.dispatch_core.specs.declared.turns.DispatchNote.{DispatchNote}
-use Rattle.dispatch_node.specs.Node.{DispatcherState}
+use Rattle.site_run.proofs.Words.{Each, JournalState, Ready, KeepsOffset, KeepsPending, KeepsEpoch, KeepsPairs, Node, Dispatcher, Server, Replica, Joiner, node_number, Roster, DispatchNote, DispatcherState, RegistrarView, ServerState, VoterView, ReplicaState, IsVoted, JoinerState, Doubt, StateOf, Either, AnyState, any_of, KeepsVotes, HasSpelledNotes, IsClosed, KeepsAs}
 use Rattle.dispatch_node.specs.Node as dispatcher
-use Rattle.registry_server.specs.Registrars.{RegistrarView}
-use Rattle.registry_server.specs.Node.{ServerState}
 use Rattle.registry_server.specs.Node as server
-use Rattle.replica_node.specs.Node.{VoterView}
-use Rattle.site_node.specs.Replicas.{ReplicaState, IsVoted}
 use Rattle.replica_node.specs.Node as replica
-use Rattle.joiner_node.specs.Node.{JoinerState}
 use Rattle.joiner_node.specs.Node as joiner
-use Rattle.joiner_node.specs.declared.disks.Doubt.{Doubt}
-use Rattle.site_laws.specs.Kinds.{StateOf}
 use Rattle.site_workers.specs.Eithers as either
-use Rattle.site_workers.specs.declared.either.Either.{Either}
 use Rattle.site_workers.specs.declared.either.Either.TheVariants as node
-use Rattle.site_run.specs.AnyNodes.{AnyState, any_of}
-use Rattle.site_laws.specs.Stores.{KeepsVotes}
-use Rattle.site_run.specs.Held.{HasSpelledNotes}
-use Rattle.site_run.specs.Resting.{IsClosed, KeepsAs}
 use Rattle.site_run.proofs.Going.{disks_by}
 
 -- ---- by the kind of node

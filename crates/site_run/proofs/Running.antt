@@ -1,57 +1,12 @@
 -- From what a run leaves of each node to what it leaves of the store.
 use Rattle.std.specs.Prelude.{IsTrue, IsSome, option_map}
-use Rattle.std.specs.List.{list_any}
 use Rattle.std.proofs.Common.{◌≡◌, ◌≢◌, ◌⊎◌, inl, inr, ⊎_elim, ℕ, zero, suc, ◌+◌, ◌<◌, ◌≤◌, List, [], ◌∷◌, ◌++◌, length, map, slice_index_or, Bool, true, false, Option, None, Some, refl, sym, ap, ◌∙◌, subst, arith, length-append}
-use Rattle.std.proofs.lemmas.List.Elements.{recursion_from_All}
-use Rattle.list_words.specs.Lists.{Mem, Each}
-use Rattle.list_words.proofs.Lists.{mem_left, mem_right, some_same}
-use Rattle.outside.specs.declared.store.DiskName.{DiskName}
+use Rattle.site_run.proofs.Words.{list_any, recursion_from_All, Mem, Each, mem_left, mem_right, some_same, DiskName, BusEntry, Bytes, Busy, Node, Dispatcher, Server, Replica, Joiner, Setting, IsNode, NumbersAreNodes, node_number, node_count, phase_by, NodeFault, World, Disks, disks, world_after, opening, NoJoinerStops, AreOf, RunFault, damaged_by, IsJournalOf, undamaged, Lent, IsOfOne, MayBeLeft, GoesOn, StateOf, kept_of, cell_of, made_by, HasMet, IsCaused, is_stop, stop_count, AreCaused, HasFault, AnyState, any_of, any_phase, IsRunFrom, HaveGrown, ComesToLast, all_from, topology_of, Images, IsDisk, AreKept, KeepsOf, KeepsTopology, Journals, IsRosterOf, votes_are_notes, IsCounted, of_node, IsOfDisks, IsPastOpening, IsOfRun, OneKept, HoldsAs, HaveGoneOn, AllHold, AreHeld, AreMet, IsLeftBy, KeepsItsRecord, NoneStops, HasRun, HasRested, AreOut, IsClosed, KeepsAs, AllKeep, KeepsPairs, KeepsNotes, HoldSameRecords, ReadNotesAreKept, told_of, or_else, first_fault, lent_replicas, lent_outputs, AreKeptIn}
 use Rattle.outside.specs.declared.store.DiskName.TheVariants as name
-use Rattle.air_bus.specs.declared.entry.Entry.{Entry as BusEntry}
-use Rattle.air_bus.specs.declared.entry.Input.{Input as Bytes}
-use Rattle.air_bus.specs.declared.entry.Phase.TheVariants.{Busy}
-use Rattle.turn_defs.specs.declared.node.Node.{Node}
-use Rattle.turn_defs.specs.declared.node.Node.TheVariants.{Dispatcher, Server, Replica, Joiner}
-use Rattle.turn_defs.specs.Setting.{Setting}
-use Rattle.turn_defs.specs.Nodes.{IsNode, NumbersAreNodes, node_number, node_count}
-use Rattle.site_node.specs.States.{phase_by}
-use Rattle.site_node.specs.declared.kind.NodeFault.{NodeFault}
 use Rattle.site_node.specs.declared.kind.NodeFault.TheVariants as node
-use Rattle.photon_model.specs.Runs.{World, Disks, disks, world_after, opening}
-use Rattle.photon_model.specs.EveryRun.{NoJoinerStops}
-use Rattle.photon_model.specs.Verification.{AreOf}
 use Rattle.run_fault.specs.declared.fault.StorePlace.TheVariants as at
-use Rattle.run_fault.specs.declared.fault.RunFault.{RunFault}
-use Rattle.site_store.specs.Kinds.{damaged_by}
-use Rattle.site_store.specs.Refusals.{IsJournalOf}
-use Rattle.site_store.proofs.Undamaged.{undamaged}
-use Rattle.site_store.specs.Lent.{Lent, IsOfOne, MayBeLeft}
-use Rattle.gate_journal.specs.Images.{GoesOn}
-use Rattle.site_laws.specs.Kinds.{StateOf, kept_of, cell_of}
-use Rattle.site_laws.specs.Laws.{made_by}
-use Rattle.site_workers.specs.Works.{HasMet, IsCaused, is_stop, stop_count}
-use Rattle.site_workers.specs.Rounds.{AreCaused, HasFault}
-use Rattle.site_run.specs.AnyNodes.{AnyState, any_of, any_phase}
-use Rattle.site_run.specs.Running.{IsRunFrom, HaveGrown, ComesToLast}
-use Rattle.site_run.specs.Naming.{all_from}
 use Rattle.topology_journal.specs.Topologies as journal
-use Rattle.photon_model.specs.Topology.{Topology, topology_of}
-use Rattle.site_laws.specs.Stores.{Images, IsDisk, AreKept, KeepsOf, KeepsTopology}
-use Rattle.verify_pass.specs.declared.journals.Journals.{Journals}
-use Rattle.site_run.specs.Asked.{IsRosterOf}
-use Rattle.site_store.proofs.Damage.{notes_kept as votes_are_notes}
-use Rattle.run_fault.specs.Causes.{IsCounted}
-use Rattle.site_run.specs.Causes.{of_node, IsOfDisks, IsPastOpening}
-use Rattle.site_run.specs.Refused.{IsOfRun, OneKept}
-use Rattle.site_run.specs.Held.{HoldsAs, HaveGoneOn}
-use Rattle.site_run.specs.Laws.{AllHold, AreHeld, AreMet, IsLeftBy, KeepsItsRecord, NoneStops}
-use Rattle.site_run.specs.Left.{HasRun, HasRested}
-use Rattle.site_run.specs.Out.{AreOut}
-use Rattle.site_run.specs.Resting.{IsClosed, KeepsAs, AllKeep}
-use Rattle.output_log.specs.Pairs.{Keeps as KeepsPairs}
-use Rattle.site_node.specs.Replicas.{KeepsNotes}
-use Rattle.site_laws.specs.StoreLaws.{HoldSameRecords, ReadNotesAreKept}
-use Rattle.site_run.specs.Settled.{told_of, or_else, first_fault, lent_replicas, lent_outputs, AreKeptIn}
+use Rattle.photon_model.specs.Topology.{Topology}
 use Rattle.site_run.proofs.Going.{all_nodes_gone_on}
 use Rattle.site_run.proofs.Keeping.{keeps, none_lacks, disk_there, topology_image}
 use Rattle.site_run.proofs.Outing.{given_goes_on, gone_out}

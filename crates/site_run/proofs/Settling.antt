@@ -1,19 +1,9 @@
 -- Disks that were read back, and are given back then.
 use Rattle.std.specs.Prelude.{IsTrue, filter, if◌then◌else◌, Result, Ok, Err, IfOk, IfErr, OnOk}
 use Rattle.std.proofs.Common.{◌≡◌, inl, inr, ⊎_elim, ℕ, zero, suc, ◌≤◌, length, take, drop, List, [], ◌∷◌, ◌++◌, map, Bool, true, false, refl, sym, ap, ◌∙◌, subst, arith}
-use Rattle.std.proofs.lemmas.List.{append-nil}
-use Rattle.list_words.specs.Lists.{Mem, Each}
-use Rattle.outside.specs.declared.store.DiskName.{DiskName}
+use Rattle.site_run.proofs.Words.{append-nil, Mem, Each, DiskName, RunFault, damaged_by, Lent, Lacks, IsOfOne, MayBeLeft, LentDisk, EachWith, OneWith, AreReadFrom, IsOnlyRead, IsToldBy, AreAmongImages, as_lent, IsOfDisks, AreKeptIn}
 use Rattle.run_fault.specs.declared.fault.StorePlace.TheVariants as place
-use Rattle.run_fault.specs.declared.fault.RunFault.{RunFault}
 use Rattle.run_fault.specs.declared.fault.RunFault.TheVariants as fault
-use Rattle.site_store.specs.Kinds.{damaged_by}
-use Rattle.site_store.specs.Lent.{Lent, Lacks, IsOfOne, MayBeLeft}
-use Rattle.site_store.specs.declared.lent.disk.LentDisk.{LentDisk}
-use Rattle.site_store.specs.ReadBack.{EachWith, OneWith, AreReadFrom, IsOnlyRead, IsToldBy, AreAmongImages}
-use Rattle.site_run.specs.Naming.{as_lent}
-use Rattle.site_run.specs.Causes.{IsOfDisks}
-use Rattle.site_run.specs.Settled.{AreKeptIn}
 
 -- ---- a list that was changed in place, as long as before
 

@@ -1,42 +1,10 @@
 -- From what a run leaves of each node to the run of the whole system.
 use Rattle.std.specs.Prelude.{IsTrue, Result, Ok, Err, IfOk}
 use Rattle.std.proofs.Common.{◌≡◌, ◌≢◌, ⊎_elim, inl, inr, ℕ, ◌≤◌, ◌<◌, List, [], ◌∷◌, length, slice_index_or, Bool, true, false, Option, Some, None, refl, sym, ap, ◌∙◌, subst, arith}
-use Rattle.std.specs.List.{list_any}
-use Rattle.std.proofs.lemmas.Bool.{or_parts}
-use Rattle.std.proofs.lemmas.List.{get_or_default}
-use Rattle.outside.specs.declared.store.DiskName.{DiskName}
-use Rattle.air_bus.specs.declared.entry.Entry.{Entry}
-use Rattle.air_bus.specs.declared.entry.Entry.TheVariants.{Begin, End, Stop}
-use Rattle.air_bus.specs.declared.entry.Phase.{Phase}
-use Rattle.air_bus.specs.declared.entry.Phase.TheVariants.{Idle, Busy}
-use Rattle.air_bus.specs.declared.entry.Input.{Input as Bytes}
-use Rattle.lossy_link.specs.declared.plan.Kind.{Kind}
-use Rattle.lossy_link.specs.Fates.{PlanView}
-use Rattle.air_bus.specs.History.{IsAired, phase}
-use Rattle.air_bus.specs.Waiting.{is_dead}
-use Rattle.turn_defs.specs.declared.node.Node.{Node}
-use Rattle.turn_defs.specs.declared.node.Node.TheVariants.{Dispatcher, Server, Replica, Joiner}
-use Rattle.turn_defs.specs.Setting.{Setting}
-use Rattle.turn_defs.specs.Nodes.{IsNode, NumbersAreNodes, node_number, node_of, node_count}
-use Rattle.site_node.specs.declared.kind.NodeFault.{NodeFault}
-use Rattle.site_node.specs.declared.kind.NodeFault.TheVariants.{Damaged, Spent}
-use Rattle.site_node.specs.States.{State, Rows, state_phase, phase_by}
+use Rattle.site_run.proofs.Words.{list_any, or_parts, get_or_default, DiskName, Entry, Begin, End, Stop, Phase, Idle, Busy, Bytes, Kind, PlanView, IsAired, phase, is_dead, Node, Dispatcher, Server, Replica, Joiner, Setting, IsNode, NumbersAreNodes, node_number, node_of, node_count, NodeFault, Damaged, Spent, State, Rows, state_phase, phase_by, dispatcher_at_rest, JoinerKept, joiner_at_rest, ServerKept, server_at_rest, World, Disks, world_after, opening, UpWith, StateOf, rows_of, down_over, cell_of, StandsFor, RestsAt, StatesRest, made_by, EachWalked, IsRunOf, AiredIsRun, Chosen, choose, StandsAt, LeadsOn, GrowsOn, Reached, is_stop, Rests, AnyState, any_of, any_phase, any_rests, IsAtLast, IsMeant, AreDownOver, DeadAreReplicas, IsRunFrom, HaveGrown, HasCome, ComesToLast}
 use Rattle.site_node.specs.States as states
-use Rattle.turn_defs.specs.Dispatcher.{dispatcher_at_rest}
-use Rattle.turn_defs.specs.Joiner.{JoinerKept, joiner_at_rest}
-use Rattle.turn_defs.specs.Server.{ServerKept, server_at_rest}
-use Rattle.photon_model.specs.Runs.{World, Disks, world_after, opening}
 use Rattle.photon_model.specs.Runs as model
-use Rattle.photon_model.specs.Rest.{UpWith}
-use Rattle.site_laws.specs.Kinds.{StateOf, rows_of, down_over, cell_of}
-use Rattle.site_laws.specs.Meaning.{StandsFor}
-use Rattle.site_laws.specs.Rest.{RestsAt, StatesRest}
-use Rattle.site_laws.specs.Laws.{made_by, EachWalked, IsRunOf, AiredIsRun}
-use Rattle.site_laws.specs.Choosing.{Chosen, choose}
-use Rattle.site_workers.specs.Works.{StandsAt, LeadsOn, GrowsOn, Reached, is_stop}
-use Rattle.site_workers.specs.Rounds.{Rests}
-use Rattle.site_run.specs.AnyNodes.{AnyState, any_of, any_phase, any_rests, IsAtLast, IsMeant, GoesOn}
-use Rattle.site_run.specs.Running.{AreDownOver, DeadAreReplicas, IsRunFrom, HaveGrown, HasCome, ComesToLast}
+use Rattle.site_run.specs.AnyNodes.{GoesOn}
 use Rattle.site_run.proofs.Walking.{walked}
 
 -- what is known of a result that came

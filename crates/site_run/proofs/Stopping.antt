@@ -1,19 +1,9 @@
 -- Where no joiner's entries have a stop, the run has none.
 use Rattle.std.proofs.Common.{◌≡◌, ℕ, Bool, true, false, ◌||◌, List, [], ◌∷◌, refl, sym, ap, ◌∙◌, eq-eqb}
 use Rattle.std.specs.Prelude.{if◌then◌else◌}
-use Rattle.std.specs.List.{list_any}
-use Rattle.air_bus.specs.declared.entry.Entry.{Entry as BusEntry}
+use Rattle.site_run.proofs.Words.{list_any, BusEntry, is_of, Dispatcher, Server, Replica, Joiner, Setting, NumbersAreNodes, NoJoinerStops, AllMean, made_by, is_stop, NoJoinerStopped, NoneStops}
 use Rattle.air_bus.specs.declared.entry.Entry.TheVariants as bus
-use Rattle.air_bus.specs.History.{is_of}
-use Rattle.turn_defs.specs.declared.node.Node.TheVariants.{Dispatcher, Server, Replica, Joiner}
-use Rattle.turn_defs.specs.Setting.{Setting}
-use Rattle.turn_defs.specs.Nodes.{NumbersAreNodes}
 use Rattle.photon_model.specs.Runs.{Entry, Begin, End, Stop}
-use Rattle.photon_model.specs.EveryRun.{NoJoinerStops}
-use Rattle.site_laws.specs.Meaning.{AllMean}
-use Rattle.site_laws.specs.Laws.{made_by}
-use Rattle.site_workers.specs.Works.{is_stop}
-use Rattle.site_run.specs.Laws.{NoJoinerStopped, NoneStops}
 
 module _ (j : ℕ) (e : BusEntry) (h : List BusEntry) where
   -- j's entries with this one, if it is j's

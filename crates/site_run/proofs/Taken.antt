@@ -1,30 +1,9 @@
 -- Disks that are taken out of others by their names.
 use Rattle.std.proofs.Common.{◌≡◌, ◌≢◌, inl, inr, ℕ, zero, suc, ◌+◌, ◌-◌, ◌*◌, ◌<◌, ◌≤◌, List, [], ◌∷◌, ◌++◌, length, map, take, drop, get_or, Some, Bool, true, false, ◌&&◌, nat_lt, ltb-true, refl, sym, ◌∙◌, ap, subst, append_assoc, arith}
 use Rattle.std.specs.Prelude.{remove}
-use Rattle.std.specs.List.Sorted.{IsPermutation}
-use Rattle.std.proofs.lemmas.List.{append-nil, take-append-drop, drop_more}
-use Rattle.std.proofs.lemmas.List.Sorted.{IsPermutation-trans, IsPermutation-refl, IsPermutation-middle, IsPermutation-append_comm, IsPermutation-append_left, IsPermutation-append_right, IsPermutation-map}
-use Rattle.list_words.specs.Lists.{Each, Mem}
-use Rattle.list_words.proofs.Lists.{each_at, each_from}
-use Rattle.outside.specs.declared.store.DiskName.{DiskName}
+use Rattle.site_run.proofs.Words.{IsPermutation, append-nil, take-append-drop, drop_more, IsPermutation-trans, IsPermutation-refl, IsPermutation-middle, IsPermutation-append_comm, IsPermutation-append_left, IsPermutation-append_right, IsPermutation-map, Each, Mem, each_at, each_from, DiskName, ReplicaNote, PairRec, Setting, JoinerKept, kept_as, Roster, IsOf, Disks, joiner_of, Lent, Kept, OffsetIs, PendingAre, EpochIs, NotesAre, PairsAre, OpenView, Says, lent_by, lent_all, offset_in, pending_in, epoch_in, notes_in, pairs_in, other_names, LentDisk, epoch_named, output_named, IsTakenFrom, IsLess, as_lent, all_from, held, all_held, of_server, of_replica, site_disks, joiner_disks}
 use Rattle.outside.specs.declared.store.DiskName.TheVariants as name
-use Rattle.paxos_acceptor.specs.declared.notes.ReplicaNote.{ReplicaNote}
-use Rattle.turn_defs.specs.declared.pair.PairRec.{PairRec}
-use Rattle.turn_defs.specs.Setting.{Setting}
-use Rattle.turn_defs.specs.Joiner.{JoinerKept}
-use Rattle.dispatch_node.specs.Kept.{kept_as}
-use Rattle.site_node.specs.declared.roster.Roster.{Roster}
-use Rattle.site_node.specs.Rosters.{IsOf}
 use Rattle.site_node.specs.Replicas.{kept_of}
-use Rattle.photon_model.specs.Runs.{Disks}
-use Rattle.site_laws.specs.Stores.{joiner_of}
-use Rattle.site_store.specs.Lent.{Lent}
-use Rattle.site_store.specs.Records.{Kept, OffsetIs, PendingAre, EpochIs, NotesAre, PairsAre, OpenView, Says, lent_by, lent_all}
-use Rattle.site_store.proofs.Recorded.{offset_in, pending_in, epoch_in, notes_in, pairs_in}
-use Rattle.site_store.specs.Refusals.{other_names}
-use Rattle.site_store.specs.declared.lent.disk.LentDisk.{LentDisk}
-use Rattle.site_store.proofs.Names.{epoch_named, output_named}
-use Rattle.site_run.specs.Naming.{IsTakenFrom, IsLess, as_lent, all_from, held, all_held, of_server, of_replica, site_disks, joiner_disks}
 use Rattle.site_run.proofs.Lists.{mapped_length, no_items, one_taken}
 
 -- ---- one is taken out

@@ -1,28 +1,8 @@
 -- What leads a node of any kind on leads the node of the system on.
 use Rattle.std.proofs.Common.{◌≡◌, inl, inr, ⊎_elim, ℕ, List, [], ◌∷◌, Option, Some, None, refl, sym, ap, ◌∙◌, subst}
-use Rattle.air_bus.specs.declared.entry.Entry.{Entry}
-use Rattle.air_bus.specs.declared.entry.Entry.TheVariants.{Begin, End, Stop}
-use Rattle.air_bus.specs.declared.entry.Input.{Input as Bytes}
-use Rattle.turn_defs.specs.declared.node.Node.{Node}
-use Rattle.turn_defs.specs.declared.node.Node.TheVariants.{Dispatcher, Server, Replica, Joiner}
-use Rattle.turn_defs.specs.declared.node.Input.{Input}
-use Rattle.turn_defs.specs.Setting.{Setting}
-use Rattle.turn_defs.specs.Nodes.{Addressed}
-use Rattle.turn_defs.specs.Turns.{Note, Out, land}
-use Rattle.site_node.specs.Bytes.{IsNoted}
-use Rattle.site_node.specs.States.{State, Leads, IsDone, IsIdle, Ends, row, row_of, written, closes, opens}
+use Rattle.site_run.proofs.Words.{Entry, Begin, End, Stop, Bytes, Node, Dispatcher, Server, Replica, Joiner, Input, Setting, Addressed, Note, Out, land, IsNoted, State, Leads, IsDone, Ends, row, row_of, written, closes, opens, DispatcherState, SiteLeads, ServerKept, ServerLive, land_server, SiteKept, ServerState, JoinerState, LeadsTo, JoinerKept, JoinerLive, DispatcherKept, DispatcherLive, StateOf, rows_of, server_rows, Path, AnyState, AnyLeads, any_of, with_site}
 use Rattle.site_node.specs.States as states
-use Rattle.dispatch_node.specs.Node.{DispatcherState, SiteLeads}
-use Rattle.turn_defs.specs.Server.{ServerKept, ServerLive, land_server}
-use Rattle.registry_server.specs.Registrars.{SiteKept}
 use Rattle.registry_server.specs.Registrars as registrars
-use Rattle.registry_server.specs.Node.{ServerState}
-use Rattle.joiner_node.specs.Node.{JoinerState, LeadsTo}
-use Rattle.turn_defs.specs.Joiner.{JoinerKept, JoinerLive}
-use Rattle.turn_defs.specs.Dispatcher.{DispatcherKept, DispatcherLive}
-use Rattle.site_laws.specs.Kinds.{StateOf, rows_of, server_rows}
-use Rattle.site_workers.specs.Works.{Path}
-use Rattle.site_run.specs.AnyNodes.{AnyState, AnyLeads, any_of, with_site}
 
 -- ---- a server, whose records carry its site
 

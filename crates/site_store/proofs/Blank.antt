@@ -1,28 +1,8 @@
 -- A sound store that keeps no topology keeps no records.
 use Rattle.std.proofs.Common.{◌≡◌, ℕ, ◌≤◌, List, [], ◌∷◌, map, length, Bool, IsTrue, true, false, Option, Some, None, refl, sym, ◌∙◌, ap, subst, arith}
 use Rattle.std.specs.Prelude.{flat_map}
-use Rattle.std.specs.Bool.{⊤}
-use Rattle.list_words.specs.Lists.{Each}
-use Rattle.list_words.proofs.Lists.{none_some}
-use Rattle.outside.specs.declared.store.DiskName.{DiskName}
+use Rattle.site_store.proofs.Words.{⊤, Each, none_some, DiskName, ReplicaNote, note, gate_rule, Topology, Setting, KeepsNotes, vote_record, StoreTopology, Store, IsBlank, IsDisk, KeepsTopology, IsSoundStore, topology_read, KeepOneTopology, ReadTopologyIsKept, one_value, joiners_kept, Kept, KeptDisk, KeptValues, KeepsAs, IsOfKind, AreKept, other_names, LeavesSomething, KeptStore, notes_at, pairs_at, IsRead, KeepsNothing}
 use Rattle.outside.specs.declared.store.DiskName.TheVariants as name
-use Rattle.paxos_acceptor.specs.declared.notes.ReplicaNote.{ReplicaNote}
-use Rattle.packet_codec.specs.Notes.{note}
-use Rattle.gate_journal.specs.Gate.{gate_rule}
-use Rattle.topology_journal.specs.declared.topology.Topology.{Topology}
-use Rattle.turn_defs.specs.Setting.{Setting}
-use Rattle.site_node.specs.Replicas.{KeepsNotes, vote_record}
-use Rattle.photon_model.specs.Topology.{Topology as StoreTopology, Store, IsBlank}
-use Rattle.site_laws.specs.Stores.{IsDisk, KeepsTopology, IsSoundStore}
-use Rattle.site_laws.specs.StoreLaws.{topology_read, KeepOneTopology, ReadTopologyIsKept}
-use Rattle.site_laws.proofs.Keeping.{one_value}
-use Rattle.site_store.specs.Kinds.{joiners_kept}
-use Rattle.site_store.specs.Records.{Kept, KeptDisk, KeptValues, KeepsAs, IsOfKind, AreKept}
-use Rattle.site_store.specs.Refusals.{other_names}
-use Rattle.site_store.specs.Causes.{LeavesSomething}
-use Rattle.site_store.specs.declared.reading.kept.KeptStore.{KeptStore}
-use Rattle.site_store.specs.Reading.{notes_at, pairs_at, IsRead}
-use Rattle.site_store.specs.Telling.{KeepsNothing}
 use Rattle.site_store.proofs.Lending.{each_mem}
 use Rattle.site_store.proofs.Recorded.{each_from}
 use Rattle.site_store.proofs.Sound.{chosen, all_sound, topology_held, held, are_disks}

@@ -1,20 +1,7 @@
 -- Line boundaries and starts of lines are the places behind line feeds.
 use Rattle.std.proofs.Common.{◌≡◌, ◌≢◌, ◌⊎◌, inl, inr, ⊎_elim, ℕ, zero, suc, ◌+◌, ◌-◌, ◌<◌, ◌≤◌, min, List, [], ◌∷◌, ◌++◌, length, get_or, Some, refl, sym, ap, subst, ◌∙◌, arith}
-use Rattle.std.specs.List.{AllByRecursion}
-use Rattle.std.proofs.Math.ListN.{get_or-append}
-use Rattle.std.proofs.lemmas.Bool.{cases_lt}
-use Rattle.std.proofs.lemmas.List.{get_or-append-add}
+use Rattle.site_store.proofs.Words.{AllByRecursion, get_or-append, cases_lt, get_or-append-add, Mem, ClickRec, click_line, IsClick, line_feed, ClickLine, placed, at, end_from, Follow, IsBoundary, HoldsLines, click_lacks, lines_follow, lines_stand, at_mem, at_own, end_after, within_end, IsFloorOf, IsBehindFeed, IsStart}
 use Rattle.list_words.specs.Bytes.{Lacks}
-use Rattle.list_words.specs.Lists.{Mem}
-use Rattle.log_records.specs.declared.records.ClickRec.{ClickRec}
-use Rattle.log_records.specs.Line.{click_line, IsClick}
-use Rattle.log_records.specs.Log.{line_feed}
-use Rattle.log_records.specs.Lines.{ClickLine, placed, at, end_from, Follow, IsBoundary, HoldsLines}
-use Rattle.log_records.proofs.Reading.{click_lacks}
-use Rattle.log_records.proofs.Places.{lines_follow, lines_stand}
-use Rattle.log_records.proofs.LineOrder.{at_mem, at_own, end_after, within_end}
-use Rattle.site_store.specs.Floors.{IsFloorOf, IsBehindFeed}
-use Rattle.site_store.specs.Kept.{IsStart}
 
 -- ---- lines that follow one another
 

@@ -1,27 +1,11 @@
 -- Why a store isn't opened, read or run over.
 use Rattle.std.proofs.Common.{◌≡◌, ◌≢◌, inl, inr, ⊎_elim, ℕ, ◌≤◌, List, [], ◌∷◌, ◌==◌, if◌then◌else◌, true, false, Bool, Option, Some, None, refl, sym, ◌∙◌, ap, subst, arith}
 use Rattle.std.specs.Prelude.{IfSome, IfNone, MatchOption}
-use Rattle.std.specs.List.{list_any}
-use Rattle.list_words.proofs.Lists.{some_same, none_some, each_more}
-use Rattle.outside.specs.declared.store.DiskName.{DiskName}
+use Rattle.site_store.proofs.Words.{list_any, some_same, none_some, each_more, DiskName, Rose, added, Topology, IsKeptIn, LogName, Clicks, StorePlace, Misplaced, RunFault, IsFitFor, is_full_note, limit_at, or_else, limit_in, IsUnopened, IsFirstDisk, IsJournalOf, IsUnwritten, Kept, TopologyIs, OffsetIs, PendingAre, EpochIs, NotesAre, PairsAre, KeptDisk, KeptValues, KeepsAs, IsKept, AreKept, AreTold, ArePassed, HasCause, HasFailed, HasPassed, IsCause, IsUnfit, IsUnread, first_limit, joiners_asked}
 use Rattle.outside.specs.declared.store.DiskName.TheVariants as name
-use Rattle.outside.specs.Faults.{Rose, added}
-use Rattle.topology_journal.specs.declared.topology.Topology.{Topology}
-use Rattle.gate_journal.specs.Images.{IsKeptIn}
-use Rattle.run_fault.specs.declared.fault.LogName.{LogName}
-use Rattle.run_fault.specs.declared.fault.LogName.TheVariants.{Clicks}
-use Rattle.run_fault.specs.declared.fault.StorePlace.{StorePlace}
 use Rattle.run_fault.specs.declared.fault.StorePlace.TheVariants as place
 use Rattle.run_fault.specs.declared.fault.Mismatch.TheVariants as mismatch
-use Rattle.run_fault.specs.declared.fault.Misplaced.{Misplaced}
-use Rattle.run_fault.specs.declared.fault.RunFault.{RunFault}
 use Rattle.run_fault.specs.declared.fault.RunFault.TheVariants as fault
-use Rattle.site_store.specs.Misfits.{IsFitFor, is_full_note, limit_at, or_else, limit_in}
-use Rattle.site_store.specs.Opening.{IsUnopened}
-use Rattle.site_store.specs.Refusals.{IsFirstDisk, IsJournalOf}
-use Rattle.site_store.specs.Written.{IsUnwritten}
-use Rattle.site_store.specs.Records.{Kept, TopologyIs, OffsetIs, PendingAre, EpochIs, NotesAre, PairsAre, KeptDisk, KeptValues, KeepsAs, IsKept, AreKept}
-use Rattle.site_store.specs.Causes.{AreTold, ArePassed, HasCause, HasFailed, HasPassed, IsCause, IsOther, IsUnfit, IsUnread, first_limit, joiners_asked}
 
 -- ---- why a store isn't opened
 
@@ -92,13 +76,6 @@ first_or_later P (Some x) later f here behind e = here e
 limit_is : (disks : List KeptDisk) (f : RunFault) → limit_in disks ≡ Some f → (disk : DiskName) × (value : ℕ) × (f ≡ fault.Limit disk value)
 limit_is [] f e = none_some f e
 limit_is (d ∷ ds) f e = first_or_later _ (limit_at d.name d.kept) (limit_in ds) f (limit_at_is d.name d.kept f) (limit_is ds f) e
-
--- another topology is kept
-pub other_unfit : (tells : Bool) (log : List ℕ) (end_ : ℕ) (asked : Option Topology) (rose : Type 0) (k : KeptValues) (f : RunFault) → IsOther k.topology asked f → IsUnfit asked (AreTold tells log end_) rose k f
-other_unfit tells log end_ None rose k f is = absurd is
-other_unfit tells log end_ (Some asked) rose k (fault.Topology (mismatch.Joiners kept wanted)) is = is
-other_unfit tells log end_ (Some asked) rose k (fault.Topology (mismatch.Table kept wanted)) is = is
-other_unfit tells log end_ (Some asked) rose k _ is = absurd is
 
 module _ (tells : Bool) (log : List ℕ) (end_ : ℕ) (asked : Option Topology) (k : KeptValues) where
   -- what the limits tell

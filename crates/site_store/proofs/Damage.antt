@@ -1,40 +1,15 @@
 -- Of a sound store no disk is told as damaged.
 use Rattle.std.proofs.Common.{◌≡◌, inl, inr, ℕ, ◌≤◌, List, [], ◌∷◌, map, Bool, IsTrue, Option, Some, None, refl, sym, ◌∙◌, ap, subst, arith}
 use Rattle.std.specs.Prelude.{All}
-use Rattle.std.proofs.lemmas.List.Elements.{All-nil, All-cons}
-use Rattle.list_words.specs.Lists.{Each}
-use Rattle.outside.specs.declared.store.DiskName.{DiskName}
+use Rattle.site_store.proofs.Words.{All-nil, All-cons, Each, DiskName, StandsFor, Topology, Keeps, Promised, Accepted, ReplicaNote, note, IsNote, Setting, BallotNote, ReplicaKept, IsVoted, vote_record, joiners_kept, damaged_by, IsDamagedIn, IsKeptIn, IsJournalOf, IsFirst, IsFirstDisk, other_names, KeepsNotes, IsUnwritten, RunFault, IsWelcome, PlainTopology, Store, Bytes, IsDisk, KeepsTopology, KeepsVotes, Holds, KeepSound, IsSoundStore, ReadTopologyIsKept, TopologyFits, choose, LeavesSomething}
 use Rattle.outside.specs.declared.store.DiskName.TheVariants as name
-use Rattle.gate_journal.specs.Gate.{StandsFor}
-use Rattle.topology_journal.specs.declared.topology.Topology.{Topology}
-use Rattle.topology_journal.specs.Topologies.{Keeps}
-use Rattle.paxos_defs.specs.Notes.Note.{Promised, Accepted}
-use Rattle.paxos_acceptor.specs.declared.notes.ReplicaNote.{ReplicaNote}
 use Rattle.paxos_acceptor.specs.declared.notes.ReplicaNote.TheVariants as replica
-use Rattle.packet_codec.specs.Notes.{note, IsNote}
-use Rattle.turn_defs.specs.Setting.{Setting}
-use Rattle.turn_defs.specs.Turns.{BallotNote}
-use Rattle.turn_defs.specs.Replica.{ReplicaKept}
-use Rattle.site_node.specs.Replicas.{IsVoted, vote_record}
-use Rattle.site_store.specs.Kinds.{joiners_kept, damaged_by}
-use Rattle.site_store.specs.Opening.{IsDamagedIn}
-use Rattle.gate_journal.specs.Images.{IsKeptIn}
-use Rattle.site_store.specs.Refusals.{IsJournalOf, IsFirst, IsFirstDisk, other_names}
-use Rattle.site_node.specs.Replicas.{KeepsNotes}
-use Rattle.site_store.specs.Written.{IsUnwritten}
 use Rattle.run_fault.specs.declared.fault.StorePlace.TheVariants as place
-use Rattle.run_fault.specs.declared.fault.RunFault.{RunFault}
 use Rattle.run_fault.specs.declared.fault.RunFault.TheVariants as fault
-use Rattle.run_fault.specs.Causes.{IsWelcome}
 use Rattle.site_store.proofs.Lending.{each_back}
 use Rattle.site_store.proofs.Names.{others_are}
 use Rattle.site_store.proofs.SameNames.{same_or_not}
 use Rattle.site_store.proofs.Undamaged.{undamaged}
-use Rattle.photon_model.specs.Topology.{Topology as PlainTopology, Store}
-use Rattle.site_laws.specs.Stores.{Bytes, IsDisk, KeepsTopology, KeepsVotes, Holds, KeepSound, IsSoundStore}
-use Rattle.site_laws.specs.StoreLaws.{ReadTopologyIsKept, TopologyFits}
-use Rattle.site_laws.proofs.Naming.{choose}
-use Rattle.site_store.specs.Causes.{LeavesSomething}
 
 -- ---- the disks that are opened are the setting's
 

@@ -1,15 +1,8 @@
 -- Why a journal isn't opened, as the fault of its disk.
 use Rattle.std.proofs.Common.{◌≡◌, ◌≤◌, ℕ, List, Bool, IsTrue, refl, arith}
-use Rattle.outside.specs.declared.store.DiskName.{DiskName}
-use Rattle.outside.specs.Disk.{Within}
-use Rattle.outside.specs.Faults.{added}
-use Rattle.gate_journal.specs.declared.reading.JournalFault.{JournalFault}
-use Rattle.gate_journal.specs.declared.reading.JournalFault.TheVariants.{Damaged, Disk, Memory}
+use Rattle.site_store.proofs.Words.{DiskName, Within, added, JournalFault, Damaged, Disk, Memory, RunFault, damaged_by, IsRefusedBy, told_by, IsUnopened}
 use Rattle.run_fault.specs.declared.fault.StorePlace.TheVariants as place
-use Rattle.run_fault.specs.declared.fault.RunFault.{RunFault}
 use Rattle.run_fault.specs.declared.fault.RunFault.TheVariants as fault
-use Rattle.site_store.specs.Kinds.{damaged_by}
-use Rattle.site_store.specs.Opening.{IsRefusedBy, told_by, IsUnopened}
 
 -- a disk that was taken is refused: it was damaged, or its count is among the store's
 pub told_unopened : (before : DiskName → List ℕ → Type 0) (name : DiskName) (f : JournalFault) (tells : Bool) (seen : List ℕ) (met n old mid new : ℕ)

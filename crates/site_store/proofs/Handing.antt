@@ -1,15 +1,7 @@
 -- Disks that are given back, one by one.
 use Rattle.std.proofs.Common.{◌≡◌, ◌≢◌, ◌≤◌, ◌⊎◌, inl, inr, ⊎_elim, ℕ, List, [], ◌∷◌, ◌++◌, ◌∙◌, sym, ap, subst, arith}
-use Rattle.std.proofs.lemmas.List.{map-append}
-use Rattle.list_words.specs.Lists.{Mem}
-use Rattle.list_words.proofs.Lists.{mem_split}
-use Rattle.outside.specs.declared.store.DiskName.{DiskName}
-use Rattle.outside.specs.Disk.{Within}
-use Rattle.outside.specs.Faults.{Rose, added}
-use Rattle.site_store.specs.Lent.{Lent, Lacks, MayBeLeft}
+use Rattle.site_store.proofs.Words.{map-append, Mem, mem_split, DiskName, Within, Rose, added, Lent, Lacks, MayBeLeft, LentDisk, lent_of, all_lent}
 use Rattle.site_store.proofs.Lending.{given, each_mem}
-use Rattle.site_store.specs.declared.lent.disk.LentDisk.{LentDisk}
-use Rattle.site_store.specs.LentDisks.{lent_of, all_lent}
 
 -- the last disk of a list is given back
 pub given_last : {D : Type 0} (left : D → List ℕ → Type 0) (before after : DiskName → List ℕ → Type 0) (all rest : List (LentDisk D)) (one : LentDisk D) → all ≡ rest ++ one ∷ []

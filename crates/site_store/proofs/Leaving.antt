@@ -1,23 +1,9 @@
 -- What disks that were opened leave in their store, once they are given back.
 use Rattle.std.proofs.Common.{◌≡◌, ◌⊎◌, inl, inr, ⊎_elim, ℕ, List, ◌∷◌, Option, Some, None, refl, sym, ◌∙◌, ap, subst}
-use Rattle.list_words.specs.Lists.{Each}
-use Rattle.outside.specs.declared.store.DiskName.{DiskName}
+use Rattle.site_store.proofs.Words.{Each, DiskName, IsOpened, Continues, continues_opened, Topology, Keeps, joiners_kept, Lent, Lacks, IsLent, MayBeLeft, StaysAs, GoesOn, IsFit, AllKeep, StaysOrKeeps, Setting, IsTopologyWritten, IsOut, StayOrAsked, IsAsked}
 use Rattle.outside.specs.declared.store.DiskName.TheVariants as name
-use Rattle.gate_journal.specs.Opening.{IsOpened}
-use Rattle.gate_journal.specs.Growth.{Continues}
-use Rattle.gate_journal.proofs.Growth.{continues_opened}
-use Rattle.topology_journal.specs.declared.topology.Topology.{Topology}
-use Rattle.topology_journal.specs.Topologies.{Keeps}
-use Rattle.site_store.specs.Kinds.{joiners_kept}
-use Rattle.site_store.specs.Lent.{Lent, Lacks, IsLent, MayBeLeft}
-use Rattle.gate_journal.specs.Images.{StaysAs, GoesOn}
-use Rattle.site_store.specs.Misfits.{IsFit}
-use Rattle.site_store.specs.Written.{AllKeep, StaysOrKeeps}
 use Rattle.site_store.proofs.Lending.{each_mem, each_weaker}
 use Rattle.site_store.proofs.Stays.{opened_same, opened_through, goes_through, stays_grows}
-use Rattle.turn_defs.specs.Setting.{Setting}
-use Rattle.site_laws.specs.StoreLaws.{IsTopologyWritten}
-use Rattle.site_store.specs.Leaving.{IsOut, StayOrAsked, IsAsked}
 
 -- the disks of a store, one of which may have changed since they were taken
 module _ {D : Type 0} (left : D → List ℕ → Type 0) (before mid : DiskName → List ℕ → Type 0) (old new : Lent D) (others : List (Lent D)) (so : IsLent left before mid (old ∷ others)) (named : new.name ≡ old.name) where

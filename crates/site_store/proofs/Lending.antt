@@ -1,14 +1,7 @@
 -- Disks that are lent and given back, one by one.
 use Rattle.std.proofs.Common.{◌≡◌, ◌≢◌, inl, inr, ℕ, ◌+◌, ◌<◌, List, [], ◌∷◌, ◌++◌, length, take, get_or, refl, sym, ◌∙◌, ap, subst, arith, zero, suc}
 use Rattle.std.specs.Prelude.{map}
-use Rattle.std.proofs.lemmas.List.{map-append, take_more, length-append}
-use Rattle.list_words.specs.Lists.{Each, EachPair, Mem}
-use Rattle.outside.specs.declared.store.DiskName.{DiskName}
-use Rattle.outside.specs.Disk.{Within}
-use Rattle.gate_journal.specs.Opening.{IsOpened}
-use Rattle.gate_journal.specs.Images.{StaysAs, IsKeptIn}
-use Rattle.site_store.specs.Lent.{Lent, Lacks, IsLent, MayBeLeft}
-use Rattle.site_store.specs.Records.{OpenView, KeepsAs, IsKept, kept_by, lent_by, lent_all}
+use Rattle.site_store.proofs.Words.{map-append, take_more, length-append, Each, EachPair, Mem, DiskName, Within, IsOpened, StaysAs, IsKeptIn, Lent, Lacks, IsLent, MayBeLeft, OpenView, KeepsAs, IsKept, kept_by, lent_by, lent_all}
 use Rattle.site_store.proofs.SameNames.{same_or_not}
 use Rattle.site_store.proofs.Stays.{opened_same}
 

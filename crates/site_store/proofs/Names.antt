@@ -1,14 +1,8 @@
 -- The names of the disks that are opened behind the topology's.
 use Rattle.std.proofs.Common.{◌≡◌, ◌≢◌, inl, inr, ℕ, zero, suc, ◌+◌, ◌*◌, ◌<◌, ◌≤◌, List, [], ◌∷◌, ◌++◌, take, Bool, true, false, ◌&&◌, refl, ap, arith, ltb-true}
 use Rattle.std.specs.Prelude.{nat_lt}
-use Rattle.list_words.specs.Lists.{Each, EachPair, Mem}
-use Rattle.list_words.proofs.Lists.{mem_left, mem_right}
-use Rattle.outside.specs.declared.store.DiskName.{DiskName}
+use Rattle.site_store.proofs.Words.{Each, EachPair, Mem, mem_left, mem_right, DiskName, Setting, IsDisk, replica_names, epoch_names_a, epoch_names_b, output_names_a, output_names_b, site_names, joiner_names, other_names}
 use Rattle.outside.specs.declared.store.DiskName.TheVariants as name
-use Rattle.turn_defs.specs.Setting.{Setting}
-use Rattle.site_laws.specs.Stores.{IsDisk}
-use Rattle.site_store.specs.Kinds.{replica_names, epoch_names_a, epoch_names_b, output_names_a, output_names_b}
-use Rattle.site_store.specs.Refusals.{site_names, joiner_names, other_names}
 use Rattle.site_store.proofs.Lending.{each_both, each_weaker}
 
 -- ---- they differ, since their numbers rise

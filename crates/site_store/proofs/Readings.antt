@@ -1,25 +1,8 @@
 -- What disks are read as, one more at a time.
 use Rattle.std.proofs.Common.{◌≡◌, ◌<◌, inl, inr, ℕ, ◌+◌, List, [], ◌∷◌, ◌++◌, length, take, get_or, Bool, IsTrue, refl, sym, ◌∙◌, ap, subst, arith, if◌then◌else◌}
-use Rattle.std.specs.List.{filter}
 use Rattle.std.specs.Prelude.{Result, Ok, Err, IsErrAnd, IfErr}
-use Rattle.std.proofs.lemmas.List.{take_more}
-use Rattle.std.proofs.lemmas.List.Elements.{filter-append}
-use Rattle.list_words.proofs.Lists.{each_append}
-use Rattle.gate_journal.specs.Gate.{gate_rule, StandsFor}
-use Rattle.gate_journal.specs.Opening.{IsRefused}
-use Rattle.gate_journal.specs.declared.reading.JournalFault.{JournalFault}
+use Rattle.site_store.proofs.Words.{filter, take_more, filter-append, each_append, gate_rule, StandsFor, IsRefused, JournalFault, ReplicaNote, PairRec, IsBadVote, KeepsPairs, IsRefusedBy, IsVotesDamaged, KeepsNotes, LentDisk, ReadAs, Notes, Pairs, Neither, is_replica, is_output, replicas, outputs, notes_in, pairs_in, AreReadFrom, AreAmongImages, IsReadAs, IsAnImage, IsOnlyRead}
 use Rattle.gate_journal.specs.declared.reading.JournalFault.TheVariants as journal
-use Rattle.paxos_acceptor.specs.declared.notes.ReplicaNote.{ReplicaNote}
-use Rattle.turn_defs.specs.declared.pair.PairRec.{PairRec}
-use Rattle.replica_node.specs.Votes.{IsBadVote}
-use Rattle.output_log.specs.Pairs.{Keeps as KeepsPairs}
-use Rattle.site_store.specs.Opening.{IsRefusedBy}
-use Rattle.site_store.specs.Votes.{IsVotesDamaged}
-use Rattle.site_node.specs.Replicas.{KeepsNotes}
-use Rattle.site_store.specs.declared.lent.disk.LentDisk.{LentDisk}
-use Rattle.site_store.specs.declared.lent.reading.ReadAs.{ReadAs}
-use Rattle.site_store.specs.declared.lent.reading.ReadAs.TheVariants.{Notes, Pairs, Neither}
-use Rattle.site_store.specs.ReadBack.{is_replica, is_output, replicas, outputs, notes_in, pairs_in, AreReadFrom, AreAmongImages, IsReadAs, IsAnImage, IsOnlyRead}
 use Rattle.site_store.proofs.Walking.{FirstWith, first_at, each_with_append}
 
 -- a fault that is handed on

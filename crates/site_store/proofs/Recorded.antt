@@ -1,23 +1,7 @@
 -- The records of a setting's nodes that its disks keep.
 use Rattle.std.proofs.Common.{◌≡◌, ◌≢◌, ◌⊎◌, inl, inr, ℕ, zero, suc, ◌+◌, ◌-◌, ◌*◌, ◌<◌, ◌≤◌, nat_lt, List, [], ◌∷◌, map, Bool, true, false, cond, IsTrue, Option, Some, None, refl, sym, ◌∙◌, ap, subst, arith}
-use Rattle.std.proofs.lemmas.Bool.{lt-ltb, le-ltb}
-use Rattle.list_words.specs.Lists.{Each, EachPair, Mem}
-use Rattle.outside.specs.declared.store.DiskName.{DiskName}
+use Rattle.site_store.proofs.Words.{lt-ltb, le-ltb, Each, EachPair, Mem, DiskName, ReplicaNote, PairRec, Setting, first_joiner, JoinerKept, ReplicaKept, IsKeptIn, kept_of, Disks, StoreTopology, topology_of, WholeSound, TopologyComesFirst, IsDisk, KeepsOf, KeepsVotes, IsSoundStore, AreLeft, joiner_of, topology_read, ReadTopologyIsKept, ReadNotesAreKept, OpenedIsWhole, joiners_kept, Kept, OffsetIs, PendingAre, EpochIs, NotesAre, PairsAre, KeptDisk, KeptValues, KeepsAs, IsOfKind, IsKept, AreKept, Says, AreRecordsOf}
 use Rattle.outside.specs.declared.store.DiskName.TheVariants as name
-use Rattle.paxos_acceptor.specs.declared.notes.ReplicaNote.{ReplicaNote}
-use Rattle.turn_defs.specs.declared.pair.PairRec.{PairRec}
-use Rattle.turn_defs.specs.Setting.{Setting, first_joiner}
-use Rattle.turn_defs.specs.Joiner.{JoinerKept}
-use Rattle.turn_defs.specs.Replica.{ReplicaKept}
-use Rattle.gate_journal.specs.Images.{IsKeptIn}
-use Rattle.site_node.specs.Replicas.{kept_of}
-use Rattle.photon_model.specs.Runs.{Disks}
-use Rattle.photon_model.specs.Topology.{Topology as StoreTopology, topology_of, WholeSound}
-use Rattle.photon_model.specs.Stores.{TopologyComesFirst}
-use Rattle.site_laws.specs.Stores.{IsDisk, KeepsOf, KeepsVotes, IsSoundStore, AreLeft, joiner_of}
-use Rattle.site_laws.specs.StoreLaws.{topology_read, ReadTopologyIsKept, ReadNotesAreKept, OpenedIsWhole}
-use Rattle.site_store.specs.Kinds.{joiners_kept}
-use Rattle.site_store.specs.Records.{Kept, OffsetIs, PendingAre, EpochIs, NotesAre, PairsAre, KeptDisk, KeptValues, KeepsAs, IsOfKind, IsKept, AreKept, Says, AreRecordsOf}
 use Rattle.site_store.proofs.Lending.{each_mem}
 use Rattle.site_store.proofs.Names.{all_named}
 use Rattle.site_store.proofs.SameNames.{same_or_not}

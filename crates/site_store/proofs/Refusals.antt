@@ -1,7 +1,6 @@
 -- The first disk that isn't opened.
 use Rattle.std.proofs.Common.{◌≡◌, ◌<◌, ℕ, zero, suc, List, [], ◌∷◌, ◌++◌, length, take, get_or, refl, ap, arith, Bool, IsTrue}
-use Rattle.outside.specs.declared.store.DiskName.{DiskName}
-use Rattle.site_store.specs.Refusals.{WereJournals, IsFirst}
+use Rattle.site_store.proofs.Words.{DiskName, WereJournals, IsFirst}
 
 -- the names up to a place, and behind it
 cut_at : (names : List DiskName) (i : ℕ) (d : DiskName) → i < length names → (rest : List DiskName) × (names ≡ take i names ++ get_or names i d ∷ rest)

@@ -1,32 +1,8 @@
 -- What the journals that a store is read as say is the report of records that its disks kept.
 use Rattle.std.proofs.Common.{◌≡◌, ℕ, zero, suc, ◌+◌, ◌*◌, ◌<◌, ◌≤◌, List, [], ◌∷◌, ◌++◌, map, Bool, IsTrue, true, Option, Some, None, refl, sym, ◌∙◌, ap, subst, arith}
 use Rattle.std.specs.Prelude.{IfSome, flat_map}
-use Rattle.std.proofs.lemmas.List.{map-append}
-use Rattle.list_words.specs.Lists.{Each}
-use Rattle.outside.specs.declared.store.DiskName.{DiskName}
+use Rattle.site_store.proofs.Words.{map-append, Each, DiskName, PairRec, note_view, Topology, IsTopology, kept_is, Setting, first_joiner, BallotNote, ReplicaKept, joiners_kept, journals, values_from, Disks, Store, AreOf, TellsTheReport, joiner_of, ReadTopologyIsKept, ReadNotesAreKept, OpenedIsWhole, Kept, KeptDisk, KeptValues, IsOfKind, AreKept, Says, AreRecordsOf, other_names, IsAsked, ArePassed, KeptStore, notes_at, pairs_at, IsOfValues, IsRead, Tells}
 use Rattle.outside.specs.declared.store.DiskName.TheVariants as name
-use Rattle.turn_defs.specs.declared.pair.PairRec.{PairRec}
-use Rattle.paxos_acceptor.specs.Cells.{note_view}
-use Rattle.topology_journal.specs.declared.topology.Topology.{Topology}
-use Rattle.topology_journal.specs.Topologies.{IsTopology}
-use Rattle.topology_journal.proofs.Standing.{kept_is}
-use Rattle.turn_defs.specs.Setting.{Setting, first_joiner}
-use Rattle.turn_defs.specs.Turns.{BallotNote}
-use Rattle.turn_defs.specs.Replica.{ReplicaKept}
-use Rattle.site_store.specs.Kinds.{joiners_kept}
-use Rattle.photon_model.specs.Journals.{journals, values_from}
-use Rattle.photon_model.specs.Runs.{Disks}
-use Rattle.photon_model.specs.Topology.{Store}
-use Rattle.photon_model.specs.Verification.{AreOf, TellsTheReport}
-use Rattle.site_laws.specs.Stores.{joiner_of}
-use Rattle.site_laws.specs.StoreLaws.{ReadTopologyIsKept, ReadNotesAreKept, OpenedIsWhole}
-use Rattle.site_store.specs.Records.{Kept, KeptDisk, KeptValues, IsOfKind, AreKept, Says, AreRecordsOf}
-use Rattle.site_store.specs.Refusals.{other_names}
-use Rattle.site_store.specs.Leaving.{IsAsked}
-use Rattle.site_store.specs.Causes.{ArePassed}
-use Rattle.site_store.specs.declared.reading.kept.KeptStore.{KeptStore}
-use Rattle.site_store.specs.Reading.{notes_at, pairs_at, IsOfValues, IsRead}
-use Rattle.site_store.specs.Telling.{Tells}
 use Rattle.site_store.proofs.Names.{others_apart, others_are}
 use Rattle.site_store.proofs.Recorded.{left_with, records_of, are_records}
 use Rattle.site_store.proofs.Values.{by_names}

@@ -1,30 +1,9 @@
 -- What a sound store keeps isn't refused: no topology, no place of the click log, and no disk as damaged.
 use Rattle.std.proofs.Common.{◌≡◌, ◌≢◌, inl, inr, ℕ, ◌≤◌, List, map, Bool, IsTrue, true, Option, Some, None, refl, sym, ◌∙◌, ap, subst, arith}
-use Rattle.list_words.specs.Lists.{Each, EachPair, Mem, has}
-use Rattle.outside.specs.declared.store.DiskName.{DiskName}
+use Rattle.site_store.proofs.Words.{Each, EachPair, Mem, has, DiskName, KeepsOffset, offset_of, KeepsPending, pending_of, end_from, IsBoundary, Topology, Keeps, Setting, IsLogOf, joiners_kept, IsMisfit, RunFault, IsWelcome, Fits, places_at, all_kept, PlainTopology, topology_of, Bytes, IsDisk, KeepsTopology, KeepSound, IsSoundStore, topology_read, ReadTopologyIsKept, TopologyFits, choose, one_value, Kept, KeptDisk, KeptValues, KeepsAs, IsOfKind, IsKept, AreKept, IsAsked, IsCause, LeavesSomething}
 use Rattle.outside.specs.declared.store.DiskName.TheVariants as name
-use Rattle.offset_journal.specs.Offsets.{Keeps as KeepsOffset, offset_of}
-use Rattle.retry_log.specs.Pending.{Keeps as KeepsPending, pending_of}
-use Rattle.log_records.specs.Lines.{end_from, IsBoundary}
-use Rattle.topology_journal.specs.declared.topology.Topology.{Topology}
-use Rattle.topology_journal.specs.Topologies.{Keeps}
-use Rattle.turn_defs.specs.Setting.{Setting}
-use Rattle.dispatch_node.specs.Places.{IsLogOf}
-use Rattle.site_store.specs.Kinds.{joiners_kept}
-use Rattle.site_store.specs.Misfits.{IsMisfit}
 use Rattle.run_fault.specs.declared.fault.Mismatch.TheVariants as mismatch
-use Rattle.run_fault.specs.declared.fault.RunFault.{RunFault}
 use Rattle.run_fault.specs.declared.fault.RunFault.TheVariants as fault
-use Rattle.run_fault.specs.Causes.{IsWelcome}
-use Rattle.site_store.specs.Kept.{Fits, places_at, all_kept}
-use Rattle.photon_model.specs.Topology.{Topology as PlainTopology, topology_of}
-use Rattle.site_laws.specs.Stores.{Bytes, IsDisk, KeepsTopology, KeepSound, IsSoundStore}
-use Rattle.site_laws.specs.StoreLaws.{topology_read, ReadTopologyIsKept, TopologyFits}
-use Rattle.site_laws.proofs.Naming.{choose}
-use Rattle.site_laws.proofs.Keeping.{one_value}
-use Rattle.site_store.specs.Records.{Kept, KeptDisk, KeptValues, KeepsAs, IsOfKind, IsKept, AreKept}
-use Rattle.site_store.specs.Leaving.{IsAsked}
-use Rattle.site_store.specs.Causes.{IsCause, LeavesSomething}
 use Rattle.site_store.proofs.Damage.{kept_joiners, no_damage}
 use Rattle.site_store.proofs.Leaving.{joiners_same}
 use Rattle.site_store.proofs.Lending.{each_mem}

@@ -1,8 +1,6 @@
 -- What stays as it was, and what goes on.
 use Rattle.std.proofs.Common.{◌∙◌, refl, ℕ, List}
-use Rattle.gate_journal.specs.Opening.{IsOpened}
-use Rattle.gate_journal.proofs.Growth.{continues_same, continues_through, continues_opened}
-use Rattle.gate_journal.specs.Images.{StaysAs, GoesOn}
+use Rattle.site_store.proofs.Words.{IsOpened, continues_same, continues_through, continues_opened, StaysAs, GoesOn}
 
 -- an image stands for what it stands for
 pub opened_same : (image : List ℕ → Type 0) (c : List ℕ) → image c → IsOpened image c

@@ -1,10 +1,6 @@
 -- Floors of a stretch from those of its parts.
 use Rattle.std.proofs.Common.{◌≡◌, inl, inr, ⊎_elim, ℕ, ◌+◌, ◌-◌, ◌<◌, ◌≤◌, List, ◌++◌, length, take, drop, get_or, refl, sym, ap, subst, ◌∙◌, arith}
-use Rattle.std.proofs.lemmas.Bool.{cases_lt, eqb-true, eq-eqb}
-use Rattle.std.proofs.lemmas.List.{get_or-take, get_or-drop, get_or_past, length-take, take-append-le}
-use Rattle.memchr.specs.Find.{Nowhere, NoneAfter, Passes, is_byte}
-use Rattle.log_records.specs.Log.{line_feed}
-use Rattle.site_store.specs.Floors.{NoneBetween, IsFloorFrom, IsFloorOf, IsBehindFeed}
+use Rattle.site_store.proofs.Words.{cases_lt, eqb-true, eq-eqb, get_or-take, get_or-drop, get_or_past, length-take, take-append-le, Nowhere, NoneAfter, Passes, is_byte, line_feed, NoneBetween, IsFloorFrom, IsFloorOf, IsBehindFeed}
 
 -- ---- any numbers
 

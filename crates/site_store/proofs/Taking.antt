@@ -1,13 +1,6 @@
 -- The topology's disk, which is taken first, and the others behind it.
 use Rattle.std.proofs.Common.{◌≢◌, inl, inr, ℕ, List, [], ◌∷◌, Bool, IsTrue, sym, subst}
-use Rattle.list_words.specs.Lists.{Each}
-use Rattle.outside.specs.declared.store.DiskName.{DiskName}
-use Rattle.outside.specs.Disk.{Within}
-use Rattle.gate_journal.specs.Opening.{IsOpened}
-use Rattle.gate_journal.specs.Images.{StaysAs}
-use Rattle.site_store.specs.Lent.{Lacks}
-use Rattle.site_store.specs.Records.{OpenView, IsKept, kept_by, lent_all}
-use Rattle.site_store.specs.Refusals.{WereJournals, IsFirst}
+use Rattle.site_store.proofs.Words.{Each, DiskName, Within, IsOpened, StaysAs, Lacks, OpenView, IsKept, kept_by, lent_all, WereJournals, IsFirst}
 use Rattle.site_store.proofs.Lending.{each_front, each_back}
 use Rattle.site_store.proofs.SameNames.{same_or_not}
 

@@ -1,19 +1,7 @@
 -- The first place that doesn't fit, of lists put together.
 use Rattle.std.proofs.Common.{zero, suc, ◌≤◌, ◌≡◌, ◌≢◌, inl, inr, ⊎_elim, ℕ, ◌+◌, ◌==◌, true, false, ◌<◌, List, [], ◌∷◌, ◌++◌, length, take, drop, get_or, map, Option, Some, None, refl, sym, ap, subst, ◌∙◌, append_assoc, arith}
-use Rattle.std.proofs.lemmas.Bool.{eqb-true, eq-eqb, or_cases, or_left, or_right}
-use Rattle.std.proofs.lemmas.List.{map-append, drop_more, take-append-drop}
-use Rattle.list_words.specs.Lists.{Each, Mem, has}
-use Rattle.list_words.proofs.Lists.{clash, each_append}
-use Rattle.outside.specs.declared.store.DiskName.{DiskName}
-use Rattle.outside.specs.declared.store.DiskName.TheVariants.{Offset, Retry}
-use Rattle.log_records.specs.Lines.{ClickLine}
-use Rattle.turn_defs.specs.Setting.{Setting}
-use Rattle.dispatch_node.specs.Places.{AreKeptPlaces}
-use Rattle.site_store.specs.Floors.{IsFloorOf}
-use Rattle.photon_model.specs.Runs.{Disks}
-use Rattle.site_store.specs.Records.{Kept, OffsetIs, PendingAre, KeptDisk, OpenView, kept_all, Says, AreRecordsOf}
-use Rattle.site_store.specs.Kept.{FitsOn, KeptPlace, Fits, IsStart, on_disk, places_at, all_kept, IsFirst, IsTold}
-use Rattle.run_fault.specs.declared.fault.Misplaced.{Misplaced}
+use Rattle.site_store.proofs.Words.{eqb-true, eq-eqb, or_cases, or_left, or_right, map-append, drop_more, take-append-drop, Each, Mem, has, clash, each_append, DiskName, Offset, Retry, ClickLine, Setting, AreKeptPlaces, IsFloorOf, Disks, Kept, OffsetIs, PendingAre, KeptDisk, OpenView, kept_all, Says, AreRecordsOf, FitsOn, KeptPlace, Fits, IsStart, on_disk, places_at, all_kept, IsTold, Misplaced}
+use Rattle.site_store.specs.Kept.{IsFirst}
 use Rattle.site_store.proofs.Lending.{each_mem}
 use Rattle.site_store.proofs.Values.{at_name}
 

@@ -1,24 +1,9 @@
 -- A journal of its kind isn't damaged.
 use Rattle.std.proofs.Common.{◌≡◌, inl, inr, ℕ, List, [], ◌∷◌, ◌++◌, sym, ◌∙◌, Result, Ok, Err}
 use Rattle.std.specs.Prelude.{map, All}
-use Rattle.std.proofs.lemmas.List.Elements.{All-head, All-tail}
-use Rattle.outside.specs.declared.store.DiskName.{DiskName}
+use Rattle.site_store.proofs.Words.{All-head, All-tail, DiskName, ReplicaNote, note, IsNote, gate_rule, read_as, topologies, epoch_of, offset_of, pending_of, PairRec, IsPair, damaged_by, IsJournalOf, IsVotesDamaged, KeepsNotes}
 use Rattle.outside.specs.declared.store.DiskName.TheVariants as name
-use Rattle.paxos_acceptor.specs.declared.notes.ReplicaNote.{ReplicaNote}
-use Rattle.packet_codec.specs.Notes.{note, IsNote}
-use Rattle.gate_journal.specs.Gate.{gate_rule}
-use Rattle.gate_journal.specs.Fold.{read_as}
-use Rattle.topology_journal.specs.Topologies.{topologies}
-use Rattle.epoch_journal.specs.Epochs.{epoch_of}
-use Rattle.offset_journal.specs.Offsets.{offset_of}
-use Rattle.retry_log.specs.Pending.{pending_of}
-use Rattle.turn_defs.specs.declared.pair.PairRec.{PairRec}
 use Rattle.output_log.specs.Pairs as pairs
-use Rattle.turn_defs.specs.Spellings.{IsPair}
-use Rattle.site_store.specs.Kinds.{damaged_by}
-use Rattle.site_store.specs.Refusals.{IsJournalOf}
-use Rattle.site_store.specs.Votes.{IsVotesDamaged}
-use Rattle.site_node.specs.Replicas.{KeepsNotes}
 
 -- what is read isn't refused
 read_or_not : {A : Type 0} (r : Result A ℕ) (x : A) (at : ℕ) → r ≡ Ok x → r ≡ Err at → ⊥

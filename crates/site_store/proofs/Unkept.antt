@@ -1,10 +1,6 @@
 -- A file that keeps no topology has no records.
 use Rattle.std.proofs.Common.{◌≡◌, ℕ, ◌+◌, List, [], ◌∷◌, ◌++◌, length, Option, Some, None, Result, Ok, Err, refl, sym, ap, ◌∙◌}
-use Rattle.gate_journal.specs.Records.{Read}
-use Rattle.gate_journal.specs.Growth.{Extends}
-use Rattle.gate_journal.specs.Fold.{kept_after, folds_to}
-use Rattle.topology_journal.specs.declared.topology.Topology.{Topology}
-use Rattle.topology_journal.specs.Topologies.{next_topology, topologies}
+use Rattle.site_store.proofs.Words.{Read, Extends, kept_after, folds_to, Topology, next_topology, topologies}
 
 not_ok : (at : ℕ) (y : Option Topology) → ◌≡◌ {A = Result (Option Topology) ℕ} (Err at) (Ok y) → ⊥
 not_ok at y e = (cc)

@@ -1,12 +1,8 @@
 -- What the disk of a name keeps.
 use Rattle.std.proofs.Common.{◌≡◌, ◌≢◌, ◌⊎◌, inl, inr, ℕ, List, [], ◌∷◌, ◌++◌, map, refl, sym, ◌∙◌, ap, subst}
 use Rattle.std.specs.Prelude.{flat_map}
-use Rattle.list_words.specs.Lists.{Each, EachPair, Mem}
-use Rattle.outside.specs.declared.store.DiskName.{DiskName}
+use Rattle.site_store.proofs.Words.{Each, EachPair, Mem, DiskName, IsKeptIn, IsJournalOf, WereJournals, Kept, KeptDisk, OpenView, KeepsAs, IsOfKind, IsKept, kept_by, kept_all}
 use Rattle.outside.specs.declared.store.DiskName.TheVariants as name
-use Rattle.gate_journal.specs.Images.{IsKeptIn}
-use Rattle.site_store.specs.Refusals.{IsJournalOf, WereJournals}
-use Rattle.site_store.specs.Records.{Kept, KeptDisk, OpenView, KeepsAs, IsOfKind, IsKept, kept_by, kept_all}
 use Rattle.site_store.proofs.Lending.{each_mem}
 use Rattle.site_store.proofs.SameNames.{same_or_not}
 

@@ -1,7 +1,6 @@
 -- Two lists of which one is changed from its front on.
 use Rattle.std.proofs.Common.{◌≡◌, ◌<◌, inl, inr, ℕ, zero, suc, ◌+◌, List, [], ◌∷◌, ◌++◌, length, get_or, refl, sym, ap, subst, arith, add-one}
-use Rattle.std.proofs.Math.ListN.{set}
-use Rattle.site_store.specs.ReadBack.{EachWith, OneWith}
+use Rattle.site_store.proofs.Words.{set, EachWith, OneWith}
 
 -- R holds of the first i elements and those at their places, and from there on the lists are the same
 abbrev pub FirstWith : {A : Type 0} → (A → A → Type 0) → ℕ → List A → List A → Type 0

@@ -1,11 +1,6 @@
 -- The boundaries and starts of the worked rows.
 use Rattle.std.proofs.Common.{◌≡◌, ◌⊎◌, inl, inr, ℕ, [], sym, ap, ◌∙◌}
-use Rattle.list_words.specs.Lists.{Mem}
-use Rattle.list_words.proofs.Lists.{none_some}
-use Rattle.log_records.specs.Lines.{ClickLine, IsBoundary}
-use Rattle.log_records.proofs.LineOrder.{at_mem}
-use Rattle.site_store.specs.Kept.{IsStart}
-use Rattle.site_store.specs.Rows.{one_line}
+use Rattle.site_store.proofs.Words.{Mem, none_some, ClickLine, IsBoundary, at_mem, IsStart, one_line}
 
 pub one_boundary : (q : ℕ) → IsBoundary one_line q → (q ≡ 0) ⊎ (q ≡ 36)
 one_boundary q (inl none) = inl none

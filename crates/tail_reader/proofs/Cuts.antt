@@ -1,5 +1,5 @@
 -- A text up to the first of a byte, and one without it.
-use Rattle.std.proofs.Common.{◌≡◌, ◌≢◌, ℕ, suc, ◌+◌, Bool, true, false, cond, not, eqb, List, [], ◌∷◌, Contains, take, refl, sym, subst, arith}
+use Rattle.std.proofs.Common.{◌≡◌, ◌≢◌, ℕ, suc, ◌+◌, Bool, true, false, cond, not, eqb, List, [], ◌∷◌, take, refl, sym, subst, arith}
 use Rattle.std.specs.List.{position_or_len, before_first}
 use Rattle.std.proofs.lemmas.Bool.Decides.{nat_tests}
 use Rattle.list_words.specs.Bytes.{Lacks}
@@ -17,7 +17,3 @@ lacks_front byte (x ∷ xs) = front_step byte x (position_or_len (λ b. eqb b by
 
 pub front_lacks : (byte : ℕ) (front text : List ℕ) → front ≡ before_first (λ b. eqb b byte) text → Lacks byte front
 front_lacks byte front text e = subst (Lacks byte) (sym e) (lacks_front byte text)
-
-pub none_lacks : (byte : ℕ) (text : List ℕ) → (Contains text byte → ⊥) → Lacks byte text
-none_lacks byte [] h = tt
-none_lacks byte (x ∷ xs) h = (λ e. h (0, omega arith, e), none_lacks byte xs (λ m. let lt = m.1 in h (suc m.0, omega arith, m.2)))

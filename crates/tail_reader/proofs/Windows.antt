@@ -113,9 +113,6 @@ pub record Passed (log : List ℕ) (from at : ℕ) : Type 0 where
   pub none : Lacks line_feed bytes
   pub count : at ≡ from + length bytes
 
-pub passed_none : (log : List ℕ) (from : ℕ) → Passed log from from
-passed_none log from = record { bytes = []; is = refl; none = tt; count = omega arith }
-
 pub passed_more : (log : List ℕ) (from at to : ℕ) (ahead : List ℕ) → Passed log from at → Buffers log at ahead → Lacks line_feed ahead → to ≡ at + length ahead → Passed log from to
 passed_more log from at to ahead p h none to_is =
     let counted = p.count in

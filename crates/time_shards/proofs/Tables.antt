@@ -20,10 +20,6 @@ each_front : (xs ys : List ShardRow) → Each IsRow (xs ++ ys) → Each IsRow xs
 each_front [] ys h = tt
 each_front (x ∷ xs) ys h = (h.0, each_front xs ys h.1)
 
-pub each_last : (xs : List ShardRow) (y : ShardRow) → Each IsRow (xs ++ y ∷ []) → IsRow y
-each_last [] y h = h.0
-each_last (x ∷ xs) y h = each_last xs y h.1
-
 -- the first rows of a table's first ones are such ones too
 pub begins_front : (xs ys : List ShardRow) → BeginsTable (xs ++ ys) → BeginsTable xs
 begins_front xs ys h = record {
@@ -32,10 +28,6 @@ begins_front xs ys h = record {
   rising = rises_front xs ys h.rising;
   each = each_front xs ys h.each;
 }
-
--- no rows are such ones
-pub begins_none : BeginsTable []
-begins_none = record { few = omega arith; zero = tt; rising = tt; each = tt }
 
 -- they are a table, once there is one
 pub table_of : (xs : List ShardRow) (y : ShardRow) → BeginsTable (xs ++ y ∷ []) → IsTable (xs ++ y ∷ [])

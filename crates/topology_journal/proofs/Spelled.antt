@@ -1,41 +1,21 @@
 -- Rows, their bytes and their texts, and what is read of bytes.
-use Rattle.std.proofs.Common.{◌≡◌, ℕ, ◌+◌, ◌*◌, ◌<◌, ◌≤◌, ◌^◌, Bool, List, [], ◌∷◌, ◌++◌, length, take, drop, get_or, Some, None, refl, sym, ◌∙◌, ap, subst, arith, true, false}
+use Rattle.std.proofs.Common.{◌≡◌, ℕ, ◌+◌, ◌*◌, ◌<◌, ◌≤◌, ◌^◌, Bool, List, [], ◌∷◌, ◌++◌, length, drop, Some, None, refl, sym, ◌∙◌, ap, subst, arith, true, false}
 use Rattle.std.specs.Prelude.{slice_index, IsTrue, ◌↔◌, ◌&&◌, ◌==◌, if◌then◌else◌}
 use Rattle.std.proofs.lemmas.Bool.{and_parts}
 use Rattle.std.proofs.lemmas.Bool.Decides.{nat_tests}
-use Rattle.std.proofs.lemmas.List.{take_more, append-nil}
-use Rattle.std.proofs.lemmas.Grind.{flat_map-append}
+use Rattle.std.proofs.lemmas.List.{append-nil}
 use Rattle.list_words.specs.Lists.{Each}
 use Rattle.time_shards.specs.declared.ShardRow.{ShardRow}
 use Rattle.time_shards.specs.Shards.{IsTable, is_table}
 use Rattle.time_shards.specs.Text.{comma, row_text, table_text}
 use Rattle.time_shards.proofs.Deciding.{table_so, table_is}
 use Rattle.topology_journal.specs.TopologyLaws.{long, rows_back}
-use Rattle.topology_journal.specs.Topologies.{topology_of, row_bytes, rows_bytes, rest_text, rows_in, has_front, read_as_table, read_in, one_more}
-
--- the rows' bytes, one row more
-pub bytes_more : (rows : List ShardRow) (i : ℕ) (d : ShardRow) → i < length rows → rows_bytes (take (i + 1) rows) ≡ rows_bytes (take i rows) ++ row_bytes (get_or rows i d)
-bytes_more rows i d lt =
-    ap rows_bytes (take_more rows i d lt) ∙ flat_map-append row_bytes (take i rows) (get_or rows i d ∷ [])
-    ∙ ap (λ (l : List ℕ). rows_bytes (take i rows) ++ l) (append-nil (row_bytes (get_or rows i d)))
-
-pub bytes_push : (rows : List ShardRow) (row : ShardRow) → rows_bytes (rows ++ row ∷ []) ≡ rows_bytes rows ++ row_bytes row
-bytes_push rows row = flat_map-append row_bytes rows (row ∷ []) ∙ ap (λ (l : List ℕ). rows_bytes rows ++ l) (append-nil (row_bytes row))
-
-pub each_push : (P : ShardRow → Type 0) (rows : List ShardRow) (row : ShardRow) → Each P rows → P row → Each P (rows ++ row ∷ [])
-each_push P [] row h p = (p, tt)
-each_push P (r ∷ rs) row h p = (h.0, each_push P rs row h.1 p)
+use Rattle.topology_journal.specs.Topologies.{topology_of, rows_bytes, rest_text, rows_in, has_front, read_as_table, read_in, one_more}
 
 -- the text of a table, cut behind its first row
 pub text_cut : (first : ShardRow) (rows : List ShardRow) → table_text (first ∷ rows) ≡ row_text first ++ rest_text rows
 text_cut first [] = sym (append-nil (row_text first))
 text_cut first (r ∷ rs) = ap (λ (t : List ℕ). row_text first ++ comma ∷ t) (text_cut r rs)
-
--- the texts of rows, one row more
-pub rest_more : (rows : List ShardRow) (i : ℕ) (d : ShardRow) → i < length rows → rest_text (take (i + 1) rows) ≡ rest_text (take i rows) ++ comma ∷ row_text (get_or rows i d)
-rest_more rows i d lt =
-    ap rest_text (take_more rows i d lt) ∙ flat_map-append (λ row. comma ∷ row_text row) (take i rows) (get_or rows i d ∷ [])
-    ∙ ap (λ (l : List ℕ). rest_text (take i rows) ++ comma ∷ l) (append-nil (row_text (get_or rows i d)))
 
 -- what a front says
 pub record Front (bytes : List ℕ) : Type 0 where
@@ -49,10 +29,6 @@ front_is (a ∷ []) is = (cc)
 front_is (a ∷ b ∷ []) is = (cc)
 front_is (a ∷ b ∷ j ∷ []) is = (cc)
 front_is (a ∷ b ∷ j ∷ n ∷ rest) is = record { some = grind (arith, nat_tests); few = grind (arith, nat_tests); size = grind (arith, nat_tests) }
-
--- bytes without a front are no record
-pub no_front : (bytes : List ℕ) → has_front bytes ≡ false → read_in bytes ≡ None
-no_front bytes e = ap (λ (b : Bool). if b then read_as_table bytes (rows_in (slice_index bytes 3) (drop 4 bytes)) else None) e
 
 rows_are : (n : ℕ) (bytes : List ℕ) (rows : List ShardRow) → length bytes ≡ 9 * n → bytes ≡ rows_bytes rows → Each (λ row. row.start < 2 ^ 64) rows → rows_in n bytes ≡ rows
 rows_are n bytes rows size is starts =

@@ -1,18 +1,7 @@
 -- The values up to the first slot that has none.
 use Rattle.std.proofs.Common.{◌≡◌, ℕ, suc, ◌+◌, ◌||◌, Bool, true, false, List, [], ◌∷◌, ◌++◌, length, Option, Some, None, ⊎_elim, refl, sym, ap, ◌∙◌, subst, arith, length-append}
 use Rattle.std.specs.Prelude.{is_some}
-use Rattle.std.specs.Bool.{OnTrue, OnFalse}
-use Rattle.std.specs.BTreeSet.{contains}
-use Rattle.event_id.specs.declared.id.EventId.{EventId}
-use Rattle.event_id.specs.EventId.{id_cmp}
-use Rattle.registry_state.specs.declared.Batch.{Batch}
-use Rattle.id_expiry.specs.declared.timed.TimedRegistry.{TimedRegistry}
-use Rattle.id_expiry.specs.Timed.{Knows}
-use Rattle.registry_state.specs.LookBack.{or_else, first_in, first_insert}
-use Rattle.registry_state.proofs.Learning.{first_insert-push}
-use Rattle.verify_pass.specs.States.{Ids, IsAt, IsWhole, HasAt, HasWhole}
-use Rattle.paxos_defs.proofs.Decided.{at_push}
-use Rattle.verify_pass.specs.Chosen.{AreAt, IsFront}
+use Rattle.verify_pass.proofs.Words.{OnTrue, OnFalse, contains, EventId, id_cmp, Batch, TimedRegistry, Knows, or_else, first_in, first_insert, first_insert-push, Ids, IsAt, IsWhole, HasAt, HasWhole, at_push, AreAt, IsFront}
 
 pub none_yet : {V : Type 0} (f : ℕ → Option V) → AreAt f []
 none_yet f k v e = absurd (cc)

@@ -1,27 +1,7 @@
 -- What is picked of a place's group is what is chosen there.
 use Rattle.std.proofs.Common.{◌≡◌, ℕ, zero, suc, ◌+◌, ◌*◌, ◌<◌, ◌≤◌, ◌==◌, List, [], ◌∷◌, ◌++◌, length, get_or, map, Bool, true, false, cond, ◌&&◌, ◌||◌, nat_lt, Option, Some, None, refl, sym, ap, ◌∙◌, append_assoc, arith}
 use Rattle.std.specs.Prelude.{filter, option_map, unwrap_or, Vec}
-use Rattle.std.specs.List.{list_any}
-use Rattle.std.specs.Map.{lookup}
-use Rattle.std.proofs.lemmas.List.{length-map, map-append, append-nil}
-use Rattle.std.proofs.lemmas.Simd.{map-map}
-use Rattle.std.proofs.lemmas.List.Folds.{list_any-append}
-use Rattle.std.proofs.lemmas.Bool.Decides.{nat_tests}
-use Rattle.std.proofs.lemmas.Bool.{eq-eqb}
-use Rattle.ballot_core.specs.declared.Ballot.{Ballot}
-use Rattle.ballot_core.specs.Majority.{marked}
-use Rattle.paxos_defs.specs.declared.Place.{Place}
-use Rattle.paxos_defs.specs.Notes.{Note, Vote, is_place, promise, acceptance, vote_at, votes_at}
-use Rattle.paxos_defs.proofs.Places.{place_true}
-use Rattle.paxos_defs.specs.Decided.{acceptance_of, accepted_in, is_acceptance, did_accept, is_chosen, all_accepted, least, lower, chosen}
-use Rattle.registry_state.specs.declared.Batch.{Batch}
-use Rattle.registry_state.specs.Same.{same_batch}
-use Rattle.paxos_acceptor.specs.Cells.{note_view, place_of}
-use Rattle.paxos_acceptor.specs.declared.notes.ReplicaNote.{ReplicaNote}
-use Rattle.paxos_acceptor.specs.declared.notes.ReplicaNote.TheVariants.{Promised, Accepted}
-use Rattle.verify_pass.specs.declared.group.Acceptance.{Acceptance}
-use Rattle.verify_pass.specs.Groups.{value_of, cast_of, did_replica, marks, is_most, accepts, casts, casts_from}
-use Rattle.verify_pass.specs.Chosen.{batch_in, items_of}
+use Rattle.verify_pass.proofs.Words.{list_any, lookup, length-map, map-append, append-nil, map-map, list_any-append, nat_tests, eq-eqb, Ballot, marked, Place, Note, Vote, is_place, promise, acceptance, vote_at, votes_at, place_true, acceptance_of, accepted_in, is_acceptance, did_accept, is_chosen, all_accepted, least, lower, chosen, Batch, same_batch, note_view, place_of, ReplicaNote, Promised, Accepted, Acceptance, value_of, cast_of, did_replica, marks, is_most, accepts, casts, casts_from, batch_in, items_of}
 
 abbrev Value : Type 0
 Value = Ballot × Batch

@@ -1,25 +1,7 @@
 -- The order of ids, and the ids of clicks.
 use Rattle.std.proofs.Common.{◌≡◌, ℕ, suc, ◌+◌, ◌-◌, List, [], ◌∷◌, ◌++◌, Bool, true, false, cond, ◌||◌, map, Option, Some, None, is_some, length, get_or, drop, drop-cons, refl, sym, ap, ◌∙◌, subst, arith}
-use Rattle.std.specs.declared.cmp.Ordering.{Ordering}
-use Rattle.std.specs.declared.cmp.Ordering.TheVariants.{Less, Equal, Greater}
-use Rattle.std.specs.BTreeSet.{insert_key}
-use Rattle.std.specs.Ordering.{nat_cmp, ordering_then, match_ordering, is_eq}
-use Rattle.std.specs.FinMap.Entries.{by_order}
 use Rattle.std.specs.FinMap as finite
-use Rattle.std.specs.Cmp.{IsTotalOrder, nat_cmp_total}
-use Rattle.std.proofs.lemmas.Cmp.{on_total, then_total, tied_itself}
-use Rattle.std.proofs.lemmas.Simd.{map-map}
-use Rattle.std.proofs.lemmas.Map.Lookups.{CmpEqualImpliesEq, exact_unsigned}
-use Rattle.std.proofs.lemmas.List.{nil_from_length}
-use Rattle.event_id.specs.declared.id.EventId.{EventId}
-use Rattle.event_id.specs.EventId.{id_cmp, is_same as same_id}
-use Rattle.registry_state.specs.declared.Insert.{Insert}
-use Rattle.registry_state.specs.declared.Token.{Token}
-use Rattle.registry_state.specs.LookBack.{or_else, first_in}
-use Rattle.registry_state.proofs.Tests.{same_id-true, same_id-false}
-use Rattle.log_records.specs.declared.records.ClickRec.{ClickRec}
-use Rattle.log_records.specs.Report.{distinct}
-use Rattle.verify_pass.specs.Classes.{in_order}
+use Rattle.verify_pass.proofs.Words.{Ordering, Less, Equal, Greater, insert_key, nat_cmp, ordering_then, match_ordering, is_eq, by_order, IsTotalOrder, nat_cmp_total, on_total, then_total, tied_itself, map-map, CmpEqualImpliesEq, exact_unsigned, nil_from_length, EventId, id_cmp, same_id, Insert, Token, or_else, first_in, same_id-true, same_id-false, ClickRec, distinct, in_order}
 
 pub ids_total : IsTotalOrder id_cmp
 ids_total = then_total (on_total (λ (x : EventId). x.ip) nat_cmp_total) (then_total (on_total (λ (x : EventId). x.pid) nat_cmp_total) (on_total (λ (x : EventId). x.micros) nat_cmp_total))

@@ -1,7 +1,6 @@
 -- One mark more.
 use Rattle.std.proofs.Common.{◌≡◌, ℕ, zero, suc, ◌+◌, [], ◌∷◌, Bool, true, false, cond, arith, refl}
-use Rattle.ballot_core.specs.Majority.{marked}
-use Rattle.verify_pass.specs.Groups.{marks}
+use Rattle.verify_pass.proofs.Words.{marked, marks}
 
 pub marks_push : (f : ℕ → Bool) (n : ℕ) → marked (marks f (suc n)) ≡ marked (marks f n) + cond (f n) 1 0
 marks_push f zero = go (f 0)

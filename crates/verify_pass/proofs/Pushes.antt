@@ -1,10 +1,7 @@
 -- One pair or list more: what is found then.
 use Rattle.std.proofs.Common.{◌≡◌, List, [], ◌∷◌, ◌++◌, Bool, true, false, cond, Option, Some, None, refl, ap, ◌∙◌}
 use Rattle.std.specs.Prelude.{find}
-use Rattle.std.specs.List.{flat_map}
-use Rattle.std.proofs.lemmas.Grind.{flat_map-append}
-use Rattle.std.proofs.lemmas.List.{append-nil}
-use Rattle.registry_state.specs.LookBack.{or_else}
+use Rattle.verify_pass.proofs.Words.{flat_map, flat_map-append, append-nil, or_else}
 
 pub or_or : {A : Type 0} (a b c : Option A) → or_else (or_else a b) c ≡ or_else a (or_else b c)
 or_or None b c = refl

@@ -1,13 +1,6 @@
 -- The shard of an id is one of its table's; who is held was inserted.
 use Rattle.std.proofs.Common.{◌≡◌, ◌<◌, ◌≤◌, ◌+◌, ℕ, nat_le, nat_lt, List, [], ◌∷◌, Bool, true, false, cond, None, is_some, sym, arith}
-use Rattle.std.proofs.Math.Nat.{mod-lt}
-use Rattle.std.proofs.lemmas.Bool.{true≢false}
-use Rattle.list_words.specs.Lists.{Each}
-use Rattle.event_id.specs.declared.id.EventId.{EventId}
-use Rattle.registry_state.specs.declared.Batch.{Batch}
-use Rattle.registry_state.specs.LookBack.{holder, bound_of, first_insert}
-use Rattle.time_shards.specs.declared.ShardRow.{ShardRow}
-use Rattle.time_shards.specs.Shards.{IsRow, IsTable, count_at, shard_of, shard_count}
+use Rattle.verify_pass.proofs.Words.{mod-lt, true≢false, Each, EventId, Batch, holder, bound_of, first_insert, ShardRow, IsRow, IsTable, count_at, shard_of, shard_count}
 
 within : (rows : List ShardRow) (count micros most : ℕ) → count ≤ most → shard_count rows ≤ most → count_at count rows micros ≤ most
 within [] count micros most h k = h

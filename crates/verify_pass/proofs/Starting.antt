@@ -1,25 +1,7 @@
 -- What forbids a start, batch by batch.
 use Rattle.std.proofs.Common.{◌≡◌, ⊎_elim, ℕ, ◌<◌, ◌≤◌, Bool, List, [], ◌∷◌, ◌++◌, map, Option, Some, None, refl, sym, ◌∙◌, ap, arith, lt-ltb}
 use Rattle.std.specs.Prelude.{max, if◌then◌else◌}
-use Rattle.std.specs.Option.{option_map}
-use Rattle.std.specs.List.{flat_map, fold}
-use Rattle.std.proofs.lemmas.Grind.{flat_map-append}
-use Rattle.std.proofs.lemmas.List.{append-nil, map-append}
-use Rattle.std.proofs.lemmas.Bool.{cases_lt, le-ltb}
-use Rattle.std.proofs.lemmas.List.Sums.{fold-append}
-use Rattle.list_words.specs.Lists.{Each}
-use Rattle.list_words.proofs.Lists.{each_at, each_from, each_append, mem_left, mem_right}
-use Rattle.paxos_defs.specs.Notes.{Note}
-use Rattle.paxos_acceptor.specs.Cells.{note_view}
-use Rattle.paxos_acceptor.specs.declared.notes.ReplicaNote.{ReplicaNote}
-use Rattle.event_id.specs.declared.id.EventId.{EventId}
-use Rattle.registry_state.specs.declared.Insert.{Insert}
-use Rattle.registry_state.specs.declared.Batch.{Batch}
-use Rattle.registry_state.specs.LookBack.{bound_of}
-use Rattle.verify_pass.specs.declared.starts.Latest.{Latest}
-use Rattle.verify_pass.specs.declared.starts.TooSoon.{TooSoon}
-use Rattle.verify_pass.specs.declared.starts.TooSoon.TheVariants.{Bound, Id}
-use Rattle.verify_pass.specs.TooSoon.{all_batches, batches_in, batches_of, inserts_of, lesser, least_with, least_from, too_soon_for, taken, IsEarlier, IsBefore}
+use Rattle.verify_pass.proofs.Words.{option_map, flat_map, fold, flat_map-append, append-nil, map-append, cases_lt, le-ltb, fold-append, Each, each_at, each_from, each_append, mem_left, mem_right, Note, note_view, ReplicaNote, EventId, Insert, Batch, bound_of, Latest, TooSoon, Bound, Id, all_batches, batches_in, batches_of, inserts_of, lesser, least_with, least_from, too_soon_for, taken, IsEarlier, IsBefore}
 
 abbrev pub latest : ℕ → Option EventId → Latest
 latest bound id = record { bound = bound; id = id }

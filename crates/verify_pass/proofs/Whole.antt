@@ -1,15 +1,7 @@
 -- What was found is what is decided.
 use Rattle.std.proofs.Common.{◌≡◌, ℕ, List, length, map, ◌∙◌}
-use Rattle.paxos_defs.specs.declared.Place.{Place}
+use Rattle.verify_pass.proofs.Words.{Place, IsExact, decided_each, decided_longest, same_batch, same_batch-true, same_batch-refl, place_of, note_view, ReplicaNote, slots, batch_at, IsFront, Chosen}
 use Rattle.paxos_defs.specs.Decided as paxos
-use Rattle.paxos_defs.specs.Decided.{IsExact}
-use Rattle.paxos_defs.proofs.Decided.{decided_each, decided_longest}
-use Rattle.registry_state.specs.Same.{same_batch}
-use Rattle.registry_state.proofs.Tests.{same_batch-true, same_batch-refl}
-use Rattle.paxos_acceptor.specs.Cells.{place_of, note_view}
-use Rattle.paxos_acceptor.specs.declared.notes.ReplicaNote.{ReplicaNote}
-use Rattle.verify_pass.specs.Chosen.{slots, batch_at, IsFront}
-use Rattle.verify_pass.specs.declared.chosen.Chosen.{Chosen}
 
 exact : IsExact same_batch
 exact = record { true_only = same_batch-true; itself = same_batch-refl }

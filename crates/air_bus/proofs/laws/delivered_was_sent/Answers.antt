@@ -1,5 +1,4 @@
-use Rattle.air_bus.specs.declared.entry.Input.TheVariants.{Packet}
-use Rattle.air_bus.specs.declared.entry.Entry.TheVariants.{Begin}
+use Rattle.air_bus.proofs.Words.{Packet, Begin}
 use Rattle.air_bus.proofs.Aired.{delivered}
 use Rattle.air_bus.proofs.laws.delivered_was_sent.Goals as goal
 

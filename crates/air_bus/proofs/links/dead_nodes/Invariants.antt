@@ -1,6 +1,6 @@
 use Rattle.std.proofs.Common.{◌≡◌, ℕ, ◌<◌, length, get_or, take, false}
 use Rattle.std.specs.Prelude.{count_by}
-use Rattle.air_bus.specs.Waiting.{is_dead, is_replica}
+use Rattle.air_bus.proofs.Words.{is_dead, is_replica}
 use Rattle.air_bus.proofs.links.dead_nodes.Given as goal
 
 abbrev pub invariant-loop-kind : goal.invariant-loop-kind

@@ -1,7 +1,6 @@
 use Rattle.std.proofs.Common.{◌≡◌, ℕ, length, get_or}
 use Rattle.std.specs.Prelude.{sum_by}
-use Rattle.air_bus.specs.declared.entry.Phase.TheVariants.{Down}
-use Rattle.air_bus.specs.Airs.{open_of}
+use Rattle.air_bus.proofs.Words.{Down, open_of}
 use Rattle.air_bus.proofs.nodes.all_down.Given as goal
 
 abbrev pub invariant-loop : goal.invariant-loop

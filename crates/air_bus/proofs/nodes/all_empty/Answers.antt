@@ -1,6 +1,5 @@
 use Rattle.std.proofs.Common.{◌≡◌, [], refl, sym, ◌∙◌, subst, arith, below_more}
-use Rattle.std.proofs.lemmas.Bool.{true≢false}
-use Rattle.air_bus.specs.Inboxes.{Keeps}
+use Rattle.air_bus.proofs.Words.{true≢false, Keeps}
 use Rattle.air_bus.proofs.nodes.all_empty.Goals as goal
 
 pub returns-then-not-is_empty : goal.returns-then-not-is_empty

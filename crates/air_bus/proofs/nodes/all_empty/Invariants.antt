@@ -1,7 +1,5 @@
 use Rattle.std.proofs.Common.{◌≡◌, ℕ, ◌<◌, length, get_or, []}
-use Rattle.air_bus.specs.declared.inbox.Inbox.{Inbox}
-use Rattle.air_bus.specs.Inboxes.{Keeps}
-use Rattle.air_bus.specs.Waiting.{Received}
+use Rattle.air_bus.proofs.Words.{Inbox, Keeps, Received}
 use Rattle.air_bus.proofs.nodes.all_empty.Given as goal
 
 abbrev pub invariant-loop-inbox : goal.invariant-loop-inbox

@@ -1,6 +1,5 @@
 use Rattle.std.proofs.Common.{◌≡◌, ℕ, ◌<◌, get_or, false}
-use Rattle.air_bus.specs.declared.entry.Phase.TheVariants.{Down, Idle}
-use Rattle.air_bus.specs.Waiting.{is_dead}
+use Rattle.air_bus.proofs.Words.{Down, Idle, is_dead}
 use Rattle.air_bus.proofs.nodes.all_idle.Given as goal
 
 abbrev pub invariant-loop-i : goal.invariant-loop-i

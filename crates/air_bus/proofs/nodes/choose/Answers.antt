@@ -1,6 +1,6 @@
 use Rattle.std.proofs.Common.{Ok, Err, sym, subst}
 use Rattle.std.specs.Prelude.{Result, IfOk}
-use Rattle.air_bus.specs.Inboxes.{Keeps}
+use Rattle.air_bus.proofs.Words.{Keeps}
 use Rattle.air_bus.proofs.Sending.{turn_still}
 use Rattle.air_bus.proofs.nodes.choose.Goals as goal
 

@@ -1,4 +1,4 @@
-use Rattle.air_bus.specs.Waiting.{taken_by}
+use Rattle.air_bus.proofs.Words.{taken_by}
 use Rattle.air_bus.proofs.Sending.{turn_at}
 use Rattle.air_bus.proofs.nodes.leave.Goals as goal
 

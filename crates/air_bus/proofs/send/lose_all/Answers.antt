@@ -1,7 +1,5 @@
-use Rattle.std.proofs.Common.{◌≡◌, ◌∙◌, fold, length, take, false, sym, subst, arith}
-use Rattle.std.proofs.lemmas.List.{take_all}
-use Rattle.air_bus.specs.Inboxes.{AllTurn, AreWide}
-use Rattle.air_bus.specs.Waiting.{one_packet}
+use Rattle.std.proofs.Common.{◌≡◌, ◌∙◌, fold, take, false, subst, arith}
+use Rattle.air_bus.proofs.Words.{take_all, AllTurn, AreWide, one_packet}
 use Rattle.air_bus.proofs.Sending.{step_more}
 use Rattle.air_bus.proofs.send.lose_all.Goals as goal
 

@@ -1,8 +1,5 @@
 use Rattle.std.proofs.Common.{◌≡◌, List, fold, length, take, false}
-use Rattle.lossy_link.specs.declared.plan.Kind.{Kind}
-use Rattle.lossy_link.specs.Fates.{PlanView}
-use Rattle.air_bus.specs.Inboxes.{AllTurn, AreWide}
-use Rattle.air_bus.specs.Waiting.{one_packet}
+use Rattle.air_bus.proofs.Words.{Kind, PlanView, AllTurn, AreWide, one_packet}
 use Rattle.air_bus.proofs.send.lose_all.Given as goal
 
 abbrev pub invariant-loop-packet : goal.invariant-loop-packet

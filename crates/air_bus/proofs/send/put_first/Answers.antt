@@ -1,6 +1,5 @@
-use Rattle.std.proofs.Common.{◌≡◌, ◌∙◌, length, fold, take, true, sym, subst, arith}
-use Rattle.air_bus.specs.Inboxes.{AllTurn}
-use Rattle.air_bus.specs.Waiting.{one_packet}
+use Rattle.std.proofs.Common.{◌∙◌, fold, take, true, sym, subst, arith}
+use Rattle.air_bus.proofs.Words.{AllTurn, one_packet}
 use Rattle.air_bus.proofs.Sending.{step_more, turn_back}
 use Rattle.air_bus.proofs.send.put_first.Goals as goal
 

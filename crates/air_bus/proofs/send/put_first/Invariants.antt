@@ -1,6 +1,5 @@
 use Rattle.std.proofs.Common.{◌≡◌, fold, length, take, true}
-use Rattle.air_bus.specs.Inboxes.{AllTurn, AreWide}
-use Rattle.air_bus.specs.Waiting.{one_packet}
+use Rattle.air_bus.proofs.Words.{AllTurn, AreWide, one_packet}
 use Rattle.air_bus.proofs.send.put_first.Given as goal
 
 abbrev pub invariant-loop-packet : goal.invariant-loop-packet

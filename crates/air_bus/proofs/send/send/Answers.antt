@@ -1,7 +1,5 @@
 use Rattle.std.proofs.Common.{◌-◌, length, get_or, fold, take, drop, true, false, sym, subst, arith, length-drop}
-use Rattle.std.proofs.lemmas.List.{take_all}
-use Rattle.air_bus.specs.Inboxes.{Keeps}
-use Rattle.air_bus.specs.Waiting.{one_packet}
+use Rattle.air_bus.proofs.Words.{take_all, Keeps, one_packet}
 use Rattle.air_bus.proofs.Sending.{puts_split}
 use Rattle.air_bus.proofs.send.send.Goals as goal
 

@@ -1,8 +1,6 @@
 use Rattle.std.proofs.Common.{◌≡◌, ◌∙◌, sym, ap, subst, Bool, false, cond, is_some, Some}
 use Rattle.std.specs.BTreeMap as tree
-use Rattle.event_store.specs.declared.index.Process.{Process as Key}
-use Rattle.event_store.specs.declared.index.Progress.{Progress}
-use Rattle.event_store.specs.Marks.{same_key, key_cmp}
+use Rattle.event_store.proofs.Words.{Key, Progress, same_key, key_cmp}
 use Rattle.event_store.proofs.Orders.{keys_one}
 use Rattle.event_store.proofs.Changes.{room_same, key_eq}
 use Rattle.event_store.proofs.puts.make_room.Goals as goal

@@ -1,6 +1,6 @@
 use Rattle.std.proofs.Common.{ℕ, sym, subst}
 use Rattle.std.specs.Prelude.{None}
-use Rattle.event_store.specs.Read.{ReadsNext}
+use Rattle.event_store.proofs.Words.{ReadsNext}
 use Rattle.event_store.proofs.Refused.{long_line}
 use Rattle.event_store.proofs.read.next_record.Goals as goal
 

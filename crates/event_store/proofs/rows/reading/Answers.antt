@@ -1,15 +1,7 @@
 use Rattle.std.proofs.Common.{[], ◌∷◌, length, Some, None, codes, refl, ap, arith, lit<}
 use Rattle.std.specs.Fmt.{digits}
-use Rattle.std.proofs.Math.Dec.{lit≤}
-use Rattle.std.proofs.lemmas.List.{length-append}
-use Rattle.std.proofs.lemmas.List.Elements.{All-from_recursion}
+use Rattle.event_store.proofs.Words.{lit≤, length-append, All-from_recursion, IsPrintable, space, query_line, IsQuery, one_query, query_lacks, ReadsNext, small_log}
 use Rattle.event_id.specs.EventId.{spell, dotted}
-use Rattle.log_records.specs.Text.{IsPrintable}
-use Rattle.log_records.specs.Line.{space, query_line, IsQuery}
-use Rattle.log_records.specs.Rows.{one_query}
-use Rattle.log_records.proofs.Reading.{query_lacks}
-use Rattle.event_store.specs.Read.{ReadsNext}
-use Rattle.event_store.specs.StoreRows.{small_log}
 use Rattle.event_store.proofs.rows.reading.Goals as goal
 
 one_is : IsQuery one_query

@@ -1,5 +1,4 @@
-use Rattle.std.proofs.lemmas.Bool.Decides.{Decides-eqb}
-use Rattle.std.proofs.lemmas.Slice.Eq.{starts_is}
+use Rattle.event_store.proofs.Words.{Decides-eqb, starts_is}
 use Rattle.event_store.proofs.scan.begins.Goals as goal
 
 pub returns : goal.returns

@@ -1,6 +1,5 @@
 use Rattle.std.proofs.Common.{◌∙◌, Option, ◌∷◌, [], ap}
-use Rattle.log_records.specs.declared.records.QueryRec.{QueryRec as Query}
-use Rattle.event_store.specs.Found.{found}
+use Rattle.event_store.proofs.Words.{Query, found}
 use Rattle.event_store.proofs.Looking.{not_begun}
 use Rattle.event_store.proofs.Walks.{read_same}
 use Rattle.event_store.proofs.scan.in_line.Goals as goal

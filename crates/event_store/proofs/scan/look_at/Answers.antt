@@ -1,5 +1,5 @@
 use Rattle.std.proofs.Common.{◌∙◌, []}
-use Rattle.std.proofs.lemmas.Result.{IfOk-weaker}
+use Rattle.event_store.proofs.Words.{IfOk-weaker}
 use Rattle.event_store.proofs.Looking.{handed_out, passed_over}
 use Rattle.event_store.proofs.Walks.{next_not_end}
 use Rattle.event_store.proofs.scan.look_at.Goals as goal

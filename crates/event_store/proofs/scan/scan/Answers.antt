@@ -1,6 +1,5 @@
 use Rattle.std.proofs.Common.{◌∙◌, ℕ, List, sym, subst, arith}
-use Rattle.event_store.specs.Read.{ReadsNext}
-use Rattle.event_store.specs.Found.{found}
+use Rattle.event_store.proofs.Words.{ReadsNext, found}
 use Rattle.event_store.proofs.Looking.{left_none, left_next}
 use Rattle.event_store.proofs.scan.scan.Goals as goal
 

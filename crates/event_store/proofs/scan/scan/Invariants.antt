@@ -1,7 +1,5 @@
 use Rattle.std.proofs.Common.{◌≡◌, ◌≤◌, List, Option, IsTrue}
-use Rattle.log_records.specs.declared.records.QueryRec.{QueryRec as Query}
-use Rattle.event_store.specs.Read.{ReadsLines}
-use Rattle.event_store.specs.Found.{found}
+use Rattle.event_store.proofs.Words.{Query, ReadsLines, found}
 use Rattle.event_store.proofs.Looking.{Left}
 use Rattle.event_store.proofs.scan.scan.Given as goal
 

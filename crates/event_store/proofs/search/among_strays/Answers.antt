@@ -1,7 +1,5 @@
 use Rattle.std.proofs.Common.{◌≡◌, ℕ, List, Option}
-use Rattle.log_records.specs.declared.records.QueryRec.{QueryRec as Query}
-use Rattle.event_store.specs.Read.{ReadsLines}
-use Rattle.event_store.specs.Found.{found}
+use Rattle.event_store.proofs.Words.{Query, ReadsLines, found}
 use Rattle.event_store.proofs.Firsts.{stray_found, no_stray_found, ok_all}
 use Rattle.event_store.proofs.search.among_strays.Goals as goal
 

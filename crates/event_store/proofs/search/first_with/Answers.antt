@@ -1,8 +1,5 @@
 use Rattle.std.proofs.Common.{◌≡◌, ◌∙◌, ℕ, List, Option, sym, subst}
-use Rattle.log_records.specs.declared.records.QueryRec.{QueryRec as Query}
-use Rattle.event_store.specs.Read.{ReadsLines}
-use Rattle.event_store.specs.Found.{found}
-use Rattle.event_store.specs.Held.{Knows}
+use Rattle.event_store.proofs.Words.{Query, ReadsLines, found, Knows}
 use Rattle.event_store.proofs.Firsts.{known_found, ok_all}
 use Rattle.event_store.proofs.search.first_with.Goals as goal
 

@@ -1,8 +1,5 @@
 use Rattle.std.proofs.Common.{◌≡◌, ℕ, List, Option, subst, sym, unwrap_or, is_some, true, false}
-use Rattle.log_records.specs.declared.records.QueryRec.{QueryRec as Query}
-use Rattle.event_store.specs.Read.{ReadsLines}
-use Rattle.event_store.specs.Found.{found}
-use Rattle.event_store.specs.Marks.{IsStray}
+use Rattle.event_store.proofs.Words.{Query, ReadsLines, found, IsStray}
 use Rattle.event_store.proofs.Firsts.{in_segment, ok_all}
 use Rattle.event_store.proofs.search.in_order.Goals as goal
 

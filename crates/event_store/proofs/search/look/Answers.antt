@@ -1,5 +1,5 @@
 use Rattle.std.proofs.Common.{ℕ, sym, subst}
-use Rattle.event_store.specs.Held.{Knows}
+use Rattle.event_store.proofs.Words.{Knows}
 use Rattle.event_store.proofs.search.look.Goals as goal
 
 pub returns-clause-found : goal.returns-clause-found

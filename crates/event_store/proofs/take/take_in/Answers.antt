@@ -1,7 +1,5 @@
 use Rattle.std.proofs.Common.{Option, Some, None, subst}
-use Rattle.log_records.specs.declared.records.QueryRec.{QueryRec}
-use Rattle.event_store.specs.Held.{at_hand}
-use Rattle.event_store.specs.Read.{ReadsNext}
+use Rattle.event_store.proofs.Words.{QueryRec, at_hand, ReadsNext}
 use Rattle.event_store.proofs.Taking.{grown, first_now, cached_more, with_line}
 use Rattle.event_store.proofs.take.take_in.Goals as goal
 

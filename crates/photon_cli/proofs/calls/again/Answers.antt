@@ -1,5 +1,4 @@
-use Rattle.site_run.proofs.Outing.{stays_goes_on}
-use Rattle.photon_cli.specs.Again.{setting_after, store_after}
+use Rattle.photon_cli.proofs.Words.{stays_goes_on, setting_after, store_after}
 use Rattle.photon_cli.proofs.Repeating.{checked_after, grown_after, output_once, sound_after}
 use Rattle.photon_cli.proofs.calls.again.Goals as goal
 

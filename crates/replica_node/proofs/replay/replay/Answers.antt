@@ -1,9 +1,5 @@
 use Rattle.std.proofs.Common.{◌≡◌, List, [], ◌∷◌, ◌++◌, ◌+◌, take, get_or, ap, sym, ◌∙◌, subst, arith}
-use Rattle.std.proofs.lemmas.List.{take_more, take_all}
-use Rattle.paxos_acceptor.specs.declared.notes.ReplicaNote.{ReplicaNote}
-use Rattle.turn_defs.specs.Replica.{ReplicaKept}
-use Rattle.replica_node.specs.Core.{Knows}
-use Rattle.site_node.specs.Replicas.{kept_of}
+use Rattle.replica_node.proofs.Words.{take_more, take_all, ReplicaNote, ReplicaKept, Knows, kept_of}
 use Rattle.replica_node.proofs.Noting.{with_note, knows_note, kept_push}
 use Rattle.replica_node.proofs.replay.replay.Goals as goal
 

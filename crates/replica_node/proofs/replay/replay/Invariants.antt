@@ -1,6 +1,5 @@
 use Rattle.std.proofs.Common.{take}
-use Rattle.replica_node.specs.Core.{Knows}
-use Rattle.site_node.specs.Replicas.{kept_of}
+use Rattle.replica_node.proofs.Words.{Knows, kept_of}
 use Rattle.replica_node.proofs.replay.replay.Given as goal
 
 -- it knows what the notes so far say

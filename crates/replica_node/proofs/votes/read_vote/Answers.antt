@@ -1,6 +1,5 @@
 use Rattle.std.proofs.Common.{rules, [], sym, ◌∙◌}
-use Rattle.std.proofs.lemmas.List.{append-nil}
-use Rattle.packet_codec.specs.Notes.{note as note_spelled}
+use Rattle.replica_node.proofs.Words.{append-nil, note_spelled}
 use Rattle.replica_node.proofs.NoteBytes.{left_behind}
 use Rattle.replica_node.proofs.votes.read_vote.Goals as goal
 

@@ -1,6 +1,6 @@
 use Rattle.std.proofs.Common.{sym, ◌∙◌, subst}
+use Rattle.replica_node.proofs.Words.{IsNoVote}
 use Rattle.replica_node.proofs.NoteBytes.{taken, first_bad}
-use Rattle.replica_node.specs.Votes.{IsNoVote}
 use Rattle.replica_node.proofs.votes.read_votes.Goals as goal
 
 pub loop-record_bytes-preserved : goal.loop-record_bytes-preserved

@@ -1,4 +1,4 @@
-use Rattle.outside.specs.Faults.{Rose}
+use Rattle.site_run.proofs.Words.{Rose}
 use Rattle.site_run.proofs.Joining.{Laws, joins, afresh, joins_by_stops, ran}
 use Rattle.site_run.proofs.meaning.means.Goals as goal
 

@@ -1,11 +1,5 @@
 use Rattle.std.proofs.Common.{◌≡◌, ◌+◌, ◌*◌, length, map, sym, ap, ◌∙◌, subst, arith}
-use Rattle.std.proofs.lemmas.List.{length-map}
-use Rattle.std.proofs.lemmas.Result.{IfErr-weaker}
-use Rattle.site_store.specs.Records.{topology_lent}
-use Rattle.site_run.specs.Naming.{as_lent}
-use Rattle.site_run.specs.Asked.{IsRosterOf}
-use Rattle.site_run.specs.Laws.{KeepsItsRecord}
-use Rattle.site_run.specs.Left.{HasRun}
+use Rattle.site_run.proofs.Words.{length-map, IfErr-weaker, topology_lent, as_lent, IsRosterOf, KeepsItsRecord, HasRun}
 use Rattle.site_run.proofs.Entered.{none_left}
 use Rattle.site_run.proofs.Holding.{all_tell}
 use Rattle.site_run.proofs.Opened.{room_for, fits_behind, may_same, out_same}

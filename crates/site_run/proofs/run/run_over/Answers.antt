@@ -1,19 +1,6 @@
 use Rattle.std.proofs.Common.{arith, Some, true, inl, [], ◌∷◌, refl, sym, ◌∙◌, subst}
 use Rattle.std.specs.Prelude.{IfErr}
-use Rattle.std.proofs.lemmas.Result.{IfErr-weaker}
-use Rattle.list_words.specs.Lists.{Mem}
-use Rattle.list_words.proofs.Lists.{mem_right}
-use Rattle.topology_journal.specs.declared.topology.Topology.{Topology}
-use Rattle.dispatch_node.specs.Places.{IsLogOf}
-use Rattle.outside.specs.Faults.{Rose}
-use Rattle.photon_model.specs.Topology.{topology_of}
-use Rattle.site_store.specs.Leaving.{IsAsked}
-use Rattle.site_store.specs.Records.{kept_all, topology_lent, values_of}
-use Rattle.site_store.proofs.Recorded.{records_of}
-use Rattle.site_store.proofs.Values.{names_kept}
-use Rattle.run_fault.specs.Causes.{IsCounted}
-use Rattle.site_run.specs.Refused.{IsCauseOf, IsOfRun}
-use Rattle.site_run.specs.Left.{RunLeft}
+use Rattle.site_run.proofs.Words.{IfErr-weaker, Mem, mem_right, Topology, IsLogOf, Rose, topology_of, IsAsked, kept_all, topology_lent, values_of, records_of, names_kept, IsCounted, IsCauseOf, IsOfRun, RunLeft}
 use Rattle.site_run.proofs.Counting.{rose_before, some_rose}
 use Rattle.site_run.proofs.Opened.{count_opened}
 use Rattle.site_run.proofs.Entering.{records_so, places_so, all_apart, out_so, keeps_so, still_sound}

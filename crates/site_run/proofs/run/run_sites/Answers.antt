@@ -1,11 +1,6 @@
 use Rattle.std.proofs.Common.{◌∙◌, ap, Err, ℕ, List, sym, subst}
-use Rattle.outside.specs.declared.store.DiskName.{DiskName}
-use Rattle.run_fault.specs.Causes.{IsCounted, IsWelcome}
-use Rattle.site_run.specs.Refused.{IsCauseOf}
+use Rattle.site_run.proofs.Words.{DiskName, IsCounted, IsWelcome, IsCauseOf, IfErr-weaker, Rose, LeavesSomething}
 use Rattle.site_run.proofs.Refusing.{ok_weaker, passed_within, cause_within, place_cause, place_unnamed}
-use Rattle.std.proofs.lemmas.Result.{IfErr-weaker}
-use Rattle.outside.specs.Faults.{Rose}
-use Rattle.site_store.specs.Causes.{LeavesSomething}
 use Rattle.site_run.proofs.Counting.{rose_before}
 use Rattle.site_run.proofs.Outing.{goes_on_through, goes_on_within}
 use Rattle.site_run.proofs.Entered.{over_so, checked_so, place_counted, place_welcome, welcome_where, sound_placed, run_earlier, rest_earlier}

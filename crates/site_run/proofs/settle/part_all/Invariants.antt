@@ -1,8 +1,6 @@
 use Rattle.std.proofs.Common.{◌≡◌, ◌+◌, ◌*◌, ◌≤◌, ◌++◌, map, length}
 use Rattle.std.specs.Prelude.{vec_capacity}
-use Rattle.std.specs.Vec.Iter.{into_iter_items, into_iter_len}
-use Rattle.site_run.specs.Naming.{as_lent, all_from}
-use Rattle.site_run.specs.Settled.{or_else, first_fault}
+use Rattle.site_run.proofs.Words.{into_iter_items, into_iter_len, as_lent, all_from, or_else, first_fault}
 use Rattle.site_run.proofs.settle.part_all.Given as goal
 
 abbrev pub invariant-loop-left : goal.invariant-loop-left

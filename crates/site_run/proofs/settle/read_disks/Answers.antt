@@ -1,5 +1,5 @@
 use Rattle.std.proofs.Common.{sym, ap, ◌∙◌, subst, length}
-use Rattle.site_store.specs.ReadBack.{EachWith, IsOnlyRead}
+use Rattle.site_run.proofs.Words.{EachWith, IsOnlyRead}
 use Rattle.site_run.proofs.Settling.{written_back}
 use Rattle.site_run.proofs.settle.read_disks.Goals as goal
 

@@ -1,9 +1,5 @@
 use Rattle.std.proofs.Common.{rules, inr, map}
-use Rattle.output_log.specs.Pairs.{Keeps as KeepsPairs}
-use Rattle.site_node.specs.Replicas.{KeepsNotes}
-use Rattle.site_store.specs.ReadBack.{is_replica, is_output}
-use Rattle.outside.specs.Faults.{Rose}
-use Rattle.site_run.specs.Naming.{as_lent}
+use Rattle.site_run.proofs.Words.{KeepsPairs, KeepsNotes, is_replica, is_output, Rose, as_lent}
 use Rattle.site_run.proofs.Settling.{left_read, met_read, told_counted, kept_in, ok_of, on_ok, err_of}
 use Rattle.site_run.proofs.settle.settle.Goals as goal
 

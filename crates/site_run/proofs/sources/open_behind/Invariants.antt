@@ -1,5 +1,5 @@
 use Rattle.std.proofs.Common.{◌≡◌, ◌≤◌, ℕ, List, length, vec_capacity, IsTrue, Some}
-use Rattle.list_words.specs.Lists.{Each}
+use Rattle.site_run.proofs.Words.{Each}
 use Rattle.site_run.proofs.sources.open_behind.Given as goal
 
 abbrev pub invariant-loop : goal.invariant-loop

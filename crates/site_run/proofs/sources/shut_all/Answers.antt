@@ -1,5 +1,5 @@
 use Rattle.std.proofs.Common.{inl, inr, ⊎_elim, sym, subst, ◌≤◌, ◌∙◌, arith}
-use Rattle.outside.specs.Faults.{Rose}
+use Rattle.site_run.proofs.Words.{Rose}
 use Rattle.site_run.proofs.Counting.{rose_added, rose_later, added_grows, front_or_last}
 use Rattle.site_run.proofs.sources.shut_all.Goals as goal
 

@@ -1,6 +1,5 @@
 use Rattle.std.proofs.Common.{◌≡◌, ◌⊎◌, ◌≤◌, ℕ, List, IsTrue, vec_len}
-use Rattle.list_words.specs.Lists.{Mem}
-use Rattle.outside.specs.Faults.{Rose}
+use Rattle.site_run.proofs.Words.{Mem, Rose}
 use Rattle.site_run.proofs.sources.shut_all.Given as goal
 
 abbrev pub invariant-loop-log : goal.invariant-loop-log

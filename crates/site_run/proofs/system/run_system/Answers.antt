@@ -1,20 +1,5 @@
 use Rattle.std.proofs.Common.{◌≡◌, ⊎_elim, ℕ, ◌+◌, ◌*◌, ◌<◌, ◌++◌, length, map, sym, ap, ◌∙◌, subst, arith}
-use Rattle.std.proofs.lemmas.List.{length-map}
-use Rattle.std.proofs.lemmas.Result.{IfErr-weaker}
-use Rattle.list_words.specs.Lists.{Mem}
-use Rattle.list_words.proofs.Lists.{mem_right}
-use Rattle.outside.specs.Faults.{Rose}
-use Rattle.output_log.specs.Pairs.{Keeps as KeepsPairs}
-use Rattle.turn_defs.specs.Nodes.{node_count}
-use Rattle.site_store.specs.Lent.{MayBeLeft}
-use Rattle.site_node.specs.Replicas.{KeepsNotes}
-use Rattle.site_laws.specs.Laws.{made_by}
-use Rattle.site_workers.specs.Works.{stop_count}
-use Rattle.site_run.specs.Naming.{as_lent, all_from}
-use Rattle.run_fault.specs.Causes.{IsCounted}
-use Rattle.site_run.specs.Causes.{IsOfDisks, IsPastOpening}
-use Rattle.site_run.specs.Refused.{IsOfRun}
-use Rattle.site_run.specs.Settled.{AreKeptIn, lent_replicas, lent_outputs}
+use Rattle.site_run.proofs.Words.{length-map, IfErr-weaker, Mem, mem_right, Rose, KeepsPairs, node_count, MayBeLeft, KeepsNotes, made_by, stop_count, as_lent, all_from, IsOfDisks, AreKeptIn, lent_replicas, lent_outputs}
 use Rattle.site_run.proofs.Opened.{down_too}
 use Rattle.site_run.proofs.Dead.{dead_replicas}
 use Rattle.site_run.proofs.Outing.{given_goes_on}

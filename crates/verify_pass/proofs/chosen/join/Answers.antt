@@ -1,8 +1,6 @@
 use Rattle.std.proofs.Common.{ap, ◌∙◌, arith}
 use Rattle.std.specs.Prelude.{unwrap_or}
-use Rattle.std.specs.HashMap.{get}
-use Rattle.std.proofs.lemmas.Grind.{common_steps}
-use Rattle.paxos_defs.specs.Notes.{is_place}
+use Rattle.verify_pass.proofs.Words.{get, common_steps, is_place}
 use Rattle.verify_pass.proofs.Groups.{found, joined}
 use Rattle.verify_pass.proofs.chosen.join.Goals as goal
 

@@ -1,24 +1,7 @@
 use Rattle.std.proofs.Common.{◌≡◌, List, map, Some, ap, sym, ◌∙◌, subst}
 use Rattle.std.specs.Prelude.{slice_get}
-use Rattle.std.specs.List.{flat_map}
-use Rattle.std.proofs.lemmas.Simd.{map-map}
-use Rattle.event_id.specs.declared.id.EventId.{EventId}
-use Rattle.log_records.specs.declared.records.ClickRec.{ClickRec}
-use Rattle.log_records.specs.declared.report.ReportLine.{ReportLine}
-use Rattle.log_records.specs.Report.{distinct}
-use Rattle.turn_defs.specs.declared.pair.PairRec.{PairRec}
-use Rattle.paxos_defs.specs.declared.Place.{Place}
+use Rattle.verify_pass.proofs.Words.{flat_map, map-map, EventId, ClickRec, ReportLine, distinct, PairRec, Place, same_batch, note_view, ReplicaNote, Batch, TimedRegistry, shard_of, batch_at, all_pairs, decided_for, first_pair, in_order, line_by, KnowAll, pair_at}
 use Rattle.paxos_defs.specs.Decided as paxos
-use Rattle.registry_state.specs.Same.{same_batch}
-use Rattle.paxos_acceptor.specs.Cells.{note_view}
-use Rattle.paxos_acceptor.specs.declared.notes.ReplicaNote.{ReplicaNote}
-use Rattle.registry_state.specs.declared.Batch.{Batch}
-use Rattle.id_expiry.specs.declared.timed.TimedRegistry.{TimedRegistry}
-use Rattle.time_shards.specs.Shards.{shard_of}
-use Rattle.verify_pass.specs.Chosen.{batch_at}
-use Rattle.verify_pass.specs.Classes.{all_pairs, decided_for, first_pair, in_order, line_by}
-use Rattle.verify_pass.specs.States.{KnowAll}
-use Rattle.verify_pass.specs.Written.{pair_at}
 use Rattle.verify_pass.proofs.Ids.{distinct_in_order}
 use Rattle.verify_pass.proofs.Whole.{decided_front}
 use Rattle.verify_pass.proofs.classes.classify.Goals as goal

@@ -1,9 +1,5 @@
 use Rattle.std.proofs.Common.{◌≡◌, List, [], ◌∷◌, ◌++◌, map, take, get_or, ap, sym, ◌∙◌, arith}
-use Rattle.std.proofs.lemmas.List.{map-append, take_more, take_all}
-use Rattle.event_id.specs.declared.id.EventId.{EventId}
-use Rattle.log_records.specs.declared.report.ReportLine.{ReportLine}
-use Rattle.verify_pass.specs.Classes.{line_by}
-use Rattle.verify_pass.specs.Written.{pair_at}
+use Rattle.verify_pass.proofs.Words.{map-append, take_more, take_all, EventId, ReportLine, line_by, pair_at}
 use Rattle.verify_pass.proofs.classes.lines_of.Goals as goal
 
 pub loop-id-preserved : goal.loop-id-preserved

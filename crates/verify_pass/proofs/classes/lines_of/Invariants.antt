@@ -1,9 +1,5 @@
 use Rattle.std.proofs.Common.{◌≡◌, List, map, take}
-use Rattle.event_id.specs.declared.id.EventId.{EventId}
-use Rattle.registry_state.specs.declared.Batch.{Batch}
-use Rattle.verify_pass.specs.Classes.{line_by}
-use Rattle.verify_pass.specs.States.{KnowAll}
-use Rattle.verify_pass.specs.Written.{pair_at}
+use Rattle.verify_pass.proofs.Words.{EventId, Batch, line_by, KnowAll, pair_at}
 use Rattle.verify_pass.proofs.classes.lines_of.Given as goal
 
 -- the ids so far have their lines

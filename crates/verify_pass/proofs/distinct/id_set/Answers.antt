@@ -1,8 +1,5 @@
 use Rattle.std.proofs.Common.{◌-◌, List, length, get_or, ap, sym, ◌∙◌, arith}
-use Rattle.std.specs.BTreeSet.{insert_key}
-use Rattle.event_id.specs.declared.id.EventId.{EventId}
-use Rattle.event_id.specs.EventId.{id_cmp}
-use Rattle.verify_pass.specs.Classes.{in_order}
+use Rattle.verify_pass.proofs.Words.{insert_key, EventId, id_cmp, in_order}
 use Rattle.verify_pass.proofs.Ids.{drop_next, drop_end}
 use Rattle.verify_pass.proofs.distinct.id_set.Goals as goal
 

@@ -1,6 +1,6 @@
 use Rattle.std.proofs.Common.{◌≡◌, ◌-◌, length}
 use Rattle.std.specs.Prelude.{drop}
-use Rattle.verify_pass.specs.Classes.{in_order}
+use Rattle.verify_pass.proofs.Words.{in_order}
 use Rattle.verify_pass.proofs.distinct.id_set.Given as goal
 
 -- the last ids so far

@@ -1,6 +1,5 @@
 use Rattle.std.proofs.Common.{◌≡◌, ℕ, suc, ◌+◌, ap, sym, ◌∙◌, Bool, arith}
-use Rattle.ballot_core.specs.Majority.{marked}
-use Rattle.verify_pass.specs.Groups.{did_replica, marks, value_of}
+use Rattle.verify_pass.proofs.Words.{marked, did_replica, marks, value_of}
 use Rattle.verify_pass.proofs.Marks.{marks_push}
 use Rattle.verify_pass.proofs.group.is_most.Goals as goal
 

@@ -1,11 +1,7 @@
 use Rattle.std.proofs.Common.{◌≡◌, ◌-◌, Bool, cond, List, ◌∷◌, map, length, drop, ap, sym, ◌∙◌, arith}
 use Rattle.std.specs.Prelude.{Option, option_map, filter}
-use Rattle.ballot_core.specs.declared.Ballot.{Ballot}
+use Rattle.verify_pass.proofs.Words.{Ballot, Batch, same_batch, Acceptance, is_most, value_of}
 use Rattle.paxos_defs.specs.Decided as paxos
-use Rattle.registry_state.specs.declared.Batch.{Batch}
-use Rattle.registry_state.specs.Same.{same_batch}
-use Rattle.verify_pass.specs.declared.group.Acceptance.{Acceptance}
-use Rattle.verify_pass.specs.Groups.{is_most, value_of}
 use Rattle.verify_pass.proofs.Groups.{least_next}
 use Rattle.verify_pass.proofs.Ids.{drop_next}
 use Rattle.verify_pass.proofs.group.pick.Goals.{then-is_most, else-is_most}

@@ -1,8 +1,7 @@
 use Rattle.std.proofs.Common.{◌≡◌, ◌-◌, map, length}
 use Rattle.std.specs.Prelude.{drop, filter, option_map}
+use Rattle.verify_pass.proofs.Words.{same_batch, is_most, value_of}
 use Rattle.paxos_defs.specs.Decided as paxos
-use Rattle.registry_state.specs.Same.{same_batch}
-use Rattle.verify_pass.specs.Groups.{is_most, value_of}
 use Rattle.verify_pass.proofs.group.pick.Given as goal
 
 -- the last ones so far are gone through

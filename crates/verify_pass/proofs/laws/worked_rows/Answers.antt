@@ -1,14 +1,5 @@
 use Rattle.std.proofs.Common.{◌≡◌, Bool, List, map, refl, ap, ◌∙◌}
-use Rattle.std.specs.List.{flat_map}
-use Rattle.paxos_defs.specs.Decided.{decided}
-use Rattle.registry_state.specs.Same.{same_batch}
-use Rattle.paxos_acceptor.specs.Cells.{note_view}
-use Rattle.paxos_acceptor.specs.declared.notes.ReplicaNote.{ReplicaNote}
-use Rattle.turn_defs.specs.declared.pair.PairRec.{PairRec}
-use Rattle.log_records.specs.declared.report.ReportLine.{ReportLine}
-use Rattle.log_records.specs.Rows.{one_click}
-use Rattle.verify_pass.specs.Classes.{first_pair, line_by, is_missing_by}
-use Rattle.verify_pass.specs.Rows.{Says}
+use Rattle.verify_pass.proofs.Words.{flat_map, decided, same_batch, note_view, ReplicaNote, PairRec, ReportLine, one_click, first_pair, line_by, is_missing_by, Says}
 use Rattle.verify_pass.proofs.laws.worked_rows.Goals as goal
 
 -- of lists of notes and pairs

@@ -1,10 +1,5 @@
 use Rattle.std.proofs.Common.{List, [], ◌∷◌, ◌++◌, map, take, None, ap, sym, ◌∙◌, arith}
-use Rattle.std.specs.List.{fold}
-use Rattle.std.proofs.lemmas.List.{take_more}
-use Rattle.paxos_acceptor.specs.Cells.{note_view}
-use Rattle.paxos_acceptor.specs.declared.notes.ReplicaNote.{ReplicaNote}
-use Rattle.verify_pass.specs.declared.starts.Latest.{Latest}
-use Rattle.verify_pass.specs.TooSoon.{all_batches, batches_in, taken}
+use Rattle.verify_pass.proofs.Words.{fold, take_more, note_view, ReplicaNote, Latest, all_batches, batches_in, taken}
 use Rattle.verify_pass.proofs.Starting.{latest, journals_more}
 use Rattle.verify_pass.proofs.starts.latest_of.Goals as goal
 

@@ -1,7 +1,5 @@
 use Rattle.std.proofs.Common.{◌≡◌, map, take, None}
-use Rattle.std.specs.List.{fold}
-use Rattle.paxos_acceptor.specs.Cells.{note_view}
-use Rattle.verify_pass.specs.TooSoon.{all_batches, taken}
+use Rattle.verify_pass.proofs.Words.{fold, note_view, all_batches, taken}
 use Rattle.verify_pass.proofs.starts.latest_of.Given as goal
 
 abbrev pub invariant-loop-notes : goal.invariant-loop-notes

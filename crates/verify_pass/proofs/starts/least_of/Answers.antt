@@ -1,10 +1,6 @@
 use Rattle.std.proofs.Common.{[], ◌∷◌, take, get_or, ap, sym, ◌∙◌, arith}
 use Rattle.std.specs.Prelude.{Option}
-use Rattle.std.proofs.lemmas.List.{take_more}
-use Rattle.std.proofs.lemmas.List.Sums.{fold-append}
-use Rattle.event_id.specs.declared.id.EventId.{EventId}
-use Rattle.registry_state.specs.declared.Insert.{Insert}
-use Rattle.verify_pass.specs.TooSoon.{least_from, least_with}
+use Rattle.verify_pass.proofs.Words.{take_more, fold-append, EventId, Insert, least_from, least_with}
 use Rattle.verify_pass.proofs.starts.least_of.Goals as goal
 
 pub loop-insert-preserved : goal.loop-insert-preserved

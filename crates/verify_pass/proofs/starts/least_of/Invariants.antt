@@ -1,5 +1,5 @@
 use Rattle.std.proofs.Common.{◌≡◌, take}
-use Rattle.verify_pass.specs.TooSoon.{least_from}
+use Rattle.verify_pass.proofs.Words.{least_from}
 use Rattle.verify_pass.proofs.starts.least_of.Given as goal
 
 abbrev pub invariant-loop-insert : goal.invariant-loop-insert

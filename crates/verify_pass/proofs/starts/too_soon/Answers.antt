@@ -1,14 +1,5 @@
 use Rattle.std.proofs.Common.{◌≡◌, ℕ, List, Option, None, map, ap, sym, ◌∙◌}
-use Rattle.std.specs.Option.{option_map}
-use Rattle.std.specs.List.{fold}
-use Rattle.event_id.specs.declared.id.EventId.{EventId}
-use Rattle.paxos_acceptor.specs.Cells.{note_view}
-use Rattle.paxos_acceptor.specs.declared.notes.ReplicaNote.{ReplicaNote}
-use Rattle.verify_pass.specs.Classes.{notes_of}
-use Rattle.verify_pass.specs.TooSoon.{all_batches, taken}
-use Rattle.verify_pass.specs.declared.journals.Journals.{Journals}
-use Rattle.verify_pass.specs.declared.starts.Latest.{Latest}
-use Rattle.verify_pass.specs.declared.starts.TooSoon.TheVariants.{Id}
+use Rattle.verify_pass.proofs.Words.{option_map, fold, EventId, note_view, ReplicaNote, notes_of, all_batches, taken, Journals, Latest, Id}
 use Rattle.verify_pass.proofs.Starting.{latest, tells_bound, tells_id}
 use Rattle.verify_pass.proofs.starts.too_soon.Goals as goal
 

@@ -1,10 +1,6 @@
 use Rattle.std.proofs.Common.{◌||◌, List, take, get_or, ap, sym, ◌∙◌, arith}
 use Rattle.std.specs.Prelude.{is_some}
-use Rattle.std.specs.BTreeSet.{contains}
-use Rattle.std.proofs.lemmas.List.{take_more}
-use Rattle.event_id.specs.EventId.{id_cmp}
-use Rattle.registry_state.specs.declared.Insert.{Insert}
-use Rattle.registry_state.specs.LookBack.{first_in}
+use Rattle.verify_pass.proofs.Words.{contains, take_more, id_cmp, Insert, first_in}
 use Rattle.verify_pass.proofs.Ids.{add_push}
 use Rattle.verify_pass.proofs.states.add_all.Goals as goal
 

@@ -1,9 +1,5 @@
 use Rattle.std.proofs.Common.{◌≡◌, ◌||◌, is_some, take}
-use Rattle.std.specs.BTreeSet.{contains}
-use Rattle.std.specs.List.Sorted.{IsStrictlySortedBy}
-use Rattle.event_id.specs.declared.id.EventId.{EventId}
-use Rattle.event_id.specs.EventId.{id_cmp}
-use Rattle.registry_state.specs.LookBack.{first_in}
+use Rattle.verify_pass.proofs.Words.{contains, IsStrictlySortedBy, EventId, id_cmp, first_in}
 use Rattle.verify_pass.proofs.states.add_all.Given as goal
 
 -- the ids of the inserts so far are added

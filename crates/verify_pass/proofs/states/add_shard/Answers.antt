@@ -1,7 +1,5 @@
 use Rattle.std.proofs.Common.{◌≡◌, ℕ, ◌+◌, ap, subst, arith}
-use Rattle.paxos_acceptor.specs.Cells.{place_of}
-use Rattle.verify_pass.specs.Chosen.{batch_in, slots}
-use Rattle.verify_pass.specs.States.{HasAt}
+use Rattle.verify_pass.proofs.Words.{place_of, batch_in, slots, HasAt}
 use Rattle.verify_pass.proofs.Fronts.{has_start, has_ended}
 use Rattle.verify_pass.proofs.states.add_shard.Goals as goal
 

@@ -1,7 +1,4 @@
-use Rattle.std.specs.List.Sorted.{IsStrictlySortedBy}
-use Rattle.event_id.specs.EventId.{id_cmp}
-use Rattle.verify_pass.specs.Chosen.{slots}
-use Rattle.verify_pass.specs.States.{Grows, HasAt}
+use Rattle.verify_pass.proofs.Words.{IsStrictlySortedBy, id_cmp, slots, Grows, HasAt}
 use Rattle.verify_pass.proofs.states.add_shard.Given as goal
 
 -- the ids of the slots so far are added

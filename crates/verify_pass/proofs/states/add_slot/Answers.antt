@@ -1,12 +1,6 @@
 use Rattle.std.proofs.Common.{List, ◌||◌, ap, sym, ◌∙◌}
 use Rattle.std.specs.Prelude.{option_map, is_some}
-use Rattle.std.specs.BTreeSet.{contains}
-use Rattle.event_id.specs.EventId.{id_cmp}
-use Rattle.registry_state.specs.declared.Insert.{Insert}
-use Rattle.registry_state.specs.LookBack.{first_in}
-use Rattle.std.specs.Borrow.{Bor}
-use Rattle.registry_state.specs.declared.Batch.{Batch}
-use Rattle.verify_pass.specs.Chosen.{slots}
+use Rattle.verify_pass.proofs.Words.{contains, id_cmp, Insert, first_in, Bor, Batch, slots}
 use Rattle.verify_pass.proofs.Fronts.{either_way, has_next, has_whole}
 use Rattle.verify_pass.proofs.states.add_slot.Goals as goal
 

@@ -1,7 +1,6 @@
 use Rattle.std.proofs.Common.{◌≡◌, List, sym, subst}
 use Rattle.std.specs.Prelude.{Contains}
-use Rattle.std.proofs.lemmas.Map.Views.{btree_set_contains_iff}
-use Rattle.event_id.specs.declared.id.EventId.{EventId}
+use Rattle.verify_pass.proofs.Words.{btree_set_contains_iff, EventId}
 use Rattle.verify_pass.proofs.Ids.{ids_total, exact_ids}
 use Rattle.verify_pass.proofs.states.inserted.Goals as goal
 

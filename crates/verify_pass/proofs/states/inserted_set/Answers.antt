@@ -1,9 +1,5 @@
 use Rattle.std.proofs.Common.{◌≡◌, ◌||◌, ◌<◌, ◌+◌, ℕ, Bool, true, false, nat_lt, is_some, refl, sym, ◌∙◌, subst, arith}
-use Rattle.std.specs.BTreeSet.{contains}
-use Rattle.std.proofs.lemmas.Bool.{ltb-true, ltb-false}
-use Rattle.event_id.specs.EventId.{id_cmp}
-use Rattle.registry_state.specs.LookBack.{first_insert}
-use Rattle.verify_pass.specs.Chosen.{slots, IsFront}
+use Rattle.verify_pass.proofs.Words.{contains, ltb-true, ltb-false, id_cmp, first_insert, slots, IsFront}
 use Rattle.verify_pass.proofs.states.inserted_set.Goals as goal
 
 right : (new old more : Bool) → new ≡ (old || more) → more ≡ true → new ≡ true

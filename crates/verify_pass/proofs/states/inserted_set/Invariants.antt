@@ -1,11 +1,5 @@
 use Rattle.std.proofs.Common.{◌≡◌, ℕ, ◌<◌, true, List, is_some}
-use Rattle.std.specs.BTreeSet.{contains}
-use Rattle.std.specs.List.Sorted.{IsStrictlySortedBy}
-use Rattle.event_id.specs.declared.id.EventId.{EventId}
-use Rattle.event_id.specs.EventId.{id_cmp}
-use Rattle.registry_state.specs.declared.Batch.{Batch}
-use Rattle.registry_state.specs.LookBack.{first_insert}
-use Rattle.verify_pass.specs.Chosen.{slots, EndsBy, IsFront}
+use Rattle.verify_pass.proofs.Words.{contains, IsStrictlySortedBy, EventId, id_cmp, Batch, first_insert, slots, EndsBy, IsFront}
 use Rattle.verify_pass.proofs.states.inserted_set.Given as goal
 
 -- the ids of the shards so far are added

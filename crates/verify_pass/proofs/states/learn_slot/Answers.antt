@@ -1,8 +1,6 @@
 use Rattle.std.proofs.Common.{ap, sym, ◌∙◌}
 use Rattle.std.specs.Prelude.{option_map}
-use Rattle.std.specs.Borrow.{Bor}
-use Rattle.registry_state.specs.declared.Batch.{Batch}
-use Rattle.verify_pass.specs.Chosen.{slots}
+use Rattle.verify_pass.proofs.Words.{Bor, Batch, slots}
 use Rattle.verify_pass.proofs.Fronts.{at_next, whole}
 use Rattle.verify_pass.proofs.states.learn_slot.Goals as goal
 

@@ -1,9 +1,6 @@
 use Rattle.std.proofs.Common.{◌≡◌, ℕ, ◌+◌, List, [], ◌∷◌, length, length-append, Some, ⊎_elim, ap, sym, ◌∙◌, subst}
 use Rattle.std.specs.Prelude.{slice_get}
-use Rattle.id_expiry.specs.declared.timed.TimedRegistry.{TimedRegistry}
-use Rattle.paxos_defs.proofs.Decided.{at_push}
-use Rattle.verify_pass.specs.Chosen.{slots}
-use Rattle.verify_pass.specs.States.{IsWhole}
+use Rattle.verify_pass.proofs.Words.{TimedRegistry, at_push, slots, IsWhole}
 use Rattle.verify_pass.proofs.states.registries.Goals as goal
 
 pub loop-shard-preserved : goal.loop-shard-preserved

@@ -1,8 +1,6 @@
 use Rattle.std.proofs.Common.{◌≡◌, ℕ, length, Some}
 use Rattle.std.specs.Prelude.{slice_get}
-use Rattle.id_expiry.specs.declared.timed.TimedRegistry.{TimedRegistry}
-use Rattle.verify_pass.specs.Chosen.{slots, EndsBy}
-use Rattle.verify_pass.specs.States.{IsWhole}
+use Rattle.verify_pass.proofs.Words.{TimedRegistry, slots, EndsBy, IsWhole}
 use Rattle.verify_pass.proofs.states.registries.Given as goal
 
 -- the shards so far have their registries

@@ -1,7 +1,5 @@
 use Rattle.std.proofs.Common.{◌≡◌, ℕ, ◌+◌, ap, subst, arith}
-use Rattle.paxos_acceptor.specs.Cells.{place_of}
-use Rattle.verify_pass.specs.Chosen.{batch_in, slots}
-use Rattle.verify_pass.specs.States.{IsAt}
+use Rattle.verify_pass.proofs.Words.{place_of, batch_in, slots, IsAt}
 use Rattle.verify_pass.proofs.Fronts.{at_start, ended}
 use Rattle.verify_pass.proofs.states.registry.Goals as goal
 

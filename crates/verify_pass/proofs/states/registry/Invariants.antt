@@ -1,5 +1,4 @@
-use Rattle.verify_pass.specs.Chosen.{slots}
-use Rattle.verify_pass.specs.States.{IsAt}
+use Rattle.verify_pass.proofs.Words.{slots, IsAt}
 use Rattle.verify_pass.proofs.states.registry.Given as goal
 
 -- the batches of the slots so far are applied

@@ -1,24 +1,7 @@
 use Rattle.std.proofs.Common.{◌≡◌, ◌<◌, ℕ, not, List, map, Some, is_some, ap, sym, ◌∙◌, subst}
 use Rattle.std.specs.Prelude.{slice_get, Option, Contains}
-use Rattle.std.specs.List.{flat_map}
-use Rattle.std.specs.List.Sorted.{IsStrictlySortedBy}
-use Rattle.std.proofs.lemmas.Bool.{and_parts}
-use Rattle.event_id.specs.declared.id.EventId.{EventId}
-use Rattle.event_id.specs.EventId.{id_cmp}
-use Rattle.turn_defs.specs.declared.pair.PairRec.{PairRec}
-use Rattle.paxos_defs.specs.declared.Place.{Place}
+use Rattle.verify_pass.proofs.Words.{flat_map, IsStrictlySortedBy, and_parts, EventId, id_cmp, PairRec, Place, same_batch, note_view, ReplicaNote, Batch, TimedRegistry, holder, shard_of, batch_at, slots, IsFront, all_pairs, decided_for, first_pair, is_missing, is_missing_by, KnowAll, pair_at}
 use Rattle.paxos_defs.specs.Decided as paxos
-use Rattle.registry_state.specs.Same.{same_batch}
-use Rattle.paxos_acceptor.specs.Cells.{note_view}
-use Rattle.paxos_acceptor.specs.declared.notes.ReplicaNote.{ReplicaNote}
-use Rattle.registry_state.specs.declared.Batch.{Batch}
-use Rattle.id_expiry.specs.declared.timed.TimedRegistry.{TimedRegistry}
-use Rattle.registry_state.specs.LookBack.{holder}
-use Rattle.time_shards.specs.Shards.{shard_of}
-use Rattle.verify_pass.specs.Chosen.{batch_at, slots, IsFront}
-use Rattle.verify_pass.specs.Classes.{all_pairs, decided_for, first_pair, is_missing, is_missing_by}
-use Rattle.verify_pass.specs.States.{KnowAll}
-use Rattle.verify_pass.specs.Written.{pair_at}
 use Rattle.verify_pass.proofs.Kept.{exactly}
 use Rattle.verify_pass.proofs.Shards.{held_inserted}
 use Rattle.verify_pass.proofs.Whole.{decided_front}

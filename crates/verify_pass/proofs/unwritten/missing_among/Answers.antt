@@ -1,12 +1,6 @@
 use Rattle.std.proofs.Common.{◌≡◌, ◌+◌, ℕ, suc, Bool, cond, List, [], ◌∷◌, ◌++◌, take, drop, get_or, drop-cons, ap, sym, ◌∙◌, subst, arith}
 use Rattle.std.specs.Prelude.{filter}
-use Rattle.std.specs.List.Sorted.{IsStrictlySortedBy}
-use Rattle.std.proofs.Math.ListN.{drop_of_length-le}
-use Rattle.std.proofs.lemmas.List.{take_more, take_all, append-nil}
-use Rattle.event_id.specs.declared.id.EventId.{EventId}
-use Rattle.event_id.specs.EventId.{id_cmp}
-use Rattle.verify_pass.specs.Classes.{is_missing_by}
-use Rattle.verify_pass.specs.Written.{pair_at}
+use Rattle.verify_pass.proofs.Words.{IsStrictlySortedBy, drop_of_length-le, take_more, take_all, append-nil, EventId, id_cmp, is_missing_by, pair_at}
 use Rattle.verify_pass.proofs.Kept.{filter_push, rising_next}
 use Rattle.verify_pass.proofs.unwritten.missing_among.Goals as goal
 

@@ -1,12 +1,6 @@
 use Rattle.std.proofs.Common.{◌≡◌, ◌++◌, List, take, drop}
 use Rattle.std.specs.Prelude.{filter}
-use Rattle.std.specs.List.Sorted.{IsStrictlySortedBy}
-use Rattle.event_id.specs.declared.id.EventId.{EventId}
-use Rattle.event_id.specs.EventId.{id_cmp}
-use Rattle.registry_state.specs.declared.Batch.{Batch}
-use Rattle.verify_pass.specs.Classes.{is_missing_by}
-use Rattle.verify_pass.specs.States.{KnowAll}
-use Rattle.verify_pass.specs.Written.{pair_at}
+use Rattle.verify_pass.proofs.Words.{IsStrictlySortedBy, EventId, id_cmp, Batch, is_missing_by, KnowAll, pair_at}
 use Rattle.verify_pass.proofs.unwritten.missing_among.Given as goal
 
 -- the missing ones of the ids so far; with the ids to come they rise

@@ -1,9 +1,5 @@
 use Rattle.std.proofs.Common.{◌≡◌, ◌≢◌, ◌+◌, ◌<◌, false, length, Some, refl, sym, ap, ◌∙◌, arith}
-use Rattle.air_bus.specs.declared.entry.Entry.TheVariants.{Begin}
-use Rattle.air_bus.specs.declared.entry.Phase.TheVariants.{Busy}
-use Rattle.air_bus.specs.Copies.{next_copy}
-use Rattle.air_bus.specs.Waiting.{waiting, is_dead}
-use Rattle.air_bus.specs.History.{phase, next_input, input_of}
+use Rattle.air_bus.proofs.Words.{Begin, Busy, next_copy, waiting, is_dead, phase, next_input, input_of}
 use Rattle.air_bus.proofs.Phases.{not_open}
 use Rattle.air_bus.proofs.Agreeing.{agrees_same, agrees_more, chosen_is, begin_turn}
 use Rattle.air_bus.proofs.air.Air.begin.Goals as goal

@@ -1,10 +1,5 @@
 use Rattle.std.proofs.Common.{◌≡◌, ◌-◌, ◌<◌, ◌≤◌, length, refl, ap, ◌∙◌, subst, arith}
-use Rattle.air_bus.specs.declared.entry.Entry.TheVariants.{End}
-use Rattle.air_bus.specs.declared.entry.Phase.TheVariants.{Idle, Busy}
-use Rattle.air_bus.specs.Airs.{open_of}
-use Rattle.air_bus.specs.Inboxes.{AllTurn}
-use Rattle.air_bus.specs.Waiting.{puts}
-use Rattle.air_bus.specs.History.{phase}
+use Rattle.air_bus.proofs.Words.{End, Idle, Busy, open_of, AllTurn, puts, phase}
 use Rattle.air_bus.proofs.Phases.{busy_counts}
 use Rattle.air_bus.proofs.Agreeing.{agrees_more}
 use Rattle.air_bus.proofs.air.Air.end.Goals as goal

@@ -1,9 +1,5 @@
 use Rattle.std.proofs.Common.{◌≡◌, ℕ, ◌<◌, length, get_or, false, sym, ap, ◌∙◌, subst, arith}
-use Rattle.air_bus.specs.declared.entry.Phase.TheVariants.{Down, Idle}
-use Rattle.air_bus.specs.declared.inbox.Inbox.{Inbox}
-use Rattle.air_bus.specs.History.{IsQuiet}
-use Rattle.air_bus.specs.Inboxes.{Keeps}
-use Rattle.air_bus.specs.Waiting.{is_dead, received}
+use Rattle.air_bus.proofs.Words.{Down, Idle, Inbox, IsQuiet, Keeps, is_dead, received}
 use Rattle.air_bus.proofs.air.Air.quiet.Goals as goal
 
 pub returns-then-all_idle : goal.returns-then-all_idle

@@ -1,8 +1,5 @@
 use Rattle.std.proofs.Common.{◌≡◌, ◌-◌, ◌<◌, length, refl, ap, ◌∙◌, arith}
-use Rattle.air_bus.specs.declared.entry.Entry.TheVariants.{Stop}
-use Rattle.air_bus.specs.declared.entry.Phase.TheVariants.{Down, Busy}
-use Rattle.air_bus.specs.Airs.{open_of}
-use Rattle.air_bus.specs.History.{phase}
+use Rattle.air_bus.proofs.Words.{Stop, Down, Busy, open_of, phase}
 use Rattle.air_bus.proofs.Phases.{busy_counts}
 use Rattle.air_bus.proofs.Agreeing.{agrees_more}
 use Rattle.air_bus.proofs.air.Air.stop.Goals as goal

@@ -1,6 +1,5 @@
 use Rattle.std.proofs.Common.{ap, sym, ◌∙◌}
-use Rattle.std.specs.List.{list_any}
-use Rattle.air_bus.specs.Kept.{is_stop_from, reaches}
+use Rattle.air_bus.proofs.Words.{list_any, is_stop_from, reaches}
 use Rattle.air_bus.proofs.history.History.has_stop_from.Goals as goal
 
 pub returns-in-Some : goal.returns-in-Some

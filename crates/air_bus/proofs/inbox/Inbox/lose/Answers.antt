@@ -1,7 +1,6 @@
 use Rattle.std.proofs.Common.{◌≡◌, ℕ, ◌+◌, ◌-◌, ◌^◌, ◌==◌, sym, ◌∙◌, subst, arith, append-nil}
 use Rattle.std.specs.Prelude.{min, count_by}
-use Rattle.std.proofs.lemmas.List.{length-set}
-use Rattle.air_bus.specs.Queues.{Holds}
+use Rattle.air_bus.proofs.Words.{length-set, Holds}
 use Rattle.air_bus.proofs.Counts.{counts_more, count_read}
 use Rattle.air_bus.proofs.inbox.Inbox.lose.Goals as goal
 

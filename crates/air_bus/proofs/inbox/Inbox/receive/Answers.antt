@@ -1,9 +1,6 @@
 use Rattle.std.proofs.Common.{◌≡◌, ℕ, ◌+◌, ◌-◌, ◌^◌, ◌==◌, ◌++◌, ap, ◌∙◌, subst, arith}
 use Rattle.std.specs.Prelude.{min, count_by}
-use Rattle.std.proofs.lemmas.List.{length-set}
-use Rattle.air_bus.specs.Copies.{copies_of}
-use Rattle.air_bus.specs.Queues.{Holds}
-use Rattle.air_bus.specs.Waiting.{link_fate, ordinal}
+use Rattle.air_bus.proofs.Words.{length-set, copies_of, Holds, link_fate, ordinal}
 use Rattle.air_bus.proofs.Counts.{counts_more, count_read}
 use Rattle.air_bus.proofs.inbox.Inbox.receive.Goals as goal
 

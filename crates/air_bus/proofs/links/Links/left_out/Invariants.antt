@@ -1,4 +1,4 @@
-use Rattle.air_bus.specs.Waiting.{is_dead}
+use Rattle.air_bus.proofs.Words.{is_dead}
 use Rattle.air_bus.proofs.LeavingOut.{AreDeadBelow}
 use Rattle.air_bus.proofs.links.Links.left_out.Given as goal
 

@@ -1,10 +1,5 @@
 use Rattle.std.proofs.Common.{◌≡◌, ◌+◌, ◌-◌, [], ◌∷◌, ◌++◌, refl, subst, arith}
-use Rattle.std.specs.BinaryHeap.{heap_items}
-use Rattle.std.proofs.lemmas.List.Elements.{All-cons}
-use Rattle.std.proofs.lemmas.List.Sorted.{All-permutation, sum_by_pushed}
-use Rattle.air_bus.specs.declared.queue.Parcel.{Parcel}
-use Rattle.air_bus.specs.Copies.{copy}
-use Rattle.air_bus.specs.Queues.{Stands}
+use Rattle.air_bus.proofs.Words.{heap_items, All-cons, All-permutation, sum_by_pushed, Parcel, copy, Stands}
 use Rattle.air_bus.proofs.Parcels.{put_stands}
 use Rattle.air_bus.proofs.queue.Queue.add.Goals as goal
 

@@ -1,6 +1,5 @@
 use Rattle.std.proofs.Common.{◌≡◌, sym, ◌∙◌, arith}
-use Rattle.std.proofs.lemmas.Bool.{true≢false, eqb-true, eq-eqb}
-use Rattle.std.specs.BinaryHeap.{heap_items, heap_len}
+use Rattle.air_bus.proofs.Words.{true≢false, eqb-true, eq-eqb, heap_items, heap_len}
 use Rattle.air_bus.proofs.Parcels.{empty_stand, stand_empty}
 use Rattle.air_bus.proofs.queue.Queue.is_empty.Goals as goal
 

@@ -1,9 +1,6 @@
 use Rattle.std.proofs.Common.{◌≡◌, ⊎_elim, ℕ, ◌<◌, List, length, Some, None, sym, refl, arith}
 use Rattle.std.specs.Prelude.{Option, IfSome}
-use Rattle.std.specs.Borrow.{Bor}
-use Rattle.std.proofs.lemmas.Bool.{true≢false, cases_lt}
-use Rattle.std.specs.BinaryHeap.{heap_items, heap_len, IsHeap, IsUpperBound}
-use Rattle.air_bus.specs.declared.queue.Parcel.{Parcel}
+use Rattle.air_bus.proofs.Words.{Bor, true≢false, cases_lt, heap_items, heap_len, IsHeap, IsUpperBound, Parcel}
 use Rattle.air_bus.proofs.Parcels.{by_due, next_stands, ready_least, first_among, first_each, late_next}
 use Rattle.air_bus.proofs.queue.Queue.least.Goals as goal
 

@@ -1,8 +1,5 @@
 use Rattle.std.proofs.Common.{◌≡◌, ◌≤◌, refl, sym, subst, arith}
-use Rattle.std.specs.BinaryHeap.{heap_items}
-use Rattle.std.proofs.lemmas.List.Elements.{All-cons}
-use Rattle.std.proofs.lemmas.List.Sorted.{All-permutation, sum_by_pushed, sum_by_popped}
-use Rattle.air_bus.specs.declared.queue.Parcel.{Parcel}
+use Rattle.air_bus.proofs.Words.{heap_items, All-cons, All-permutation, sum_by_pushed, sum_by_popped, Parcel}
 use Rattle.air_bus.proofs.Parcels.{ripe_stands, ripe_copy}
 use Rattle.air_bus.proofs.queue.Queue.ripen.Goals as goal
 

@@ -1,5 +1,4 @@
-use Rattle.std.specs.BinaryHeap.{heap_len}
-use Rattle.air_bus.specs.Queues.{HoldsOn}
+use Rattle.air_bus.proofs.Words.{heap_len, HoldsOn}
 use Rattle.air_bus.proofs.queue.Queue.settle.Given as goal
 
 abbrev pub invariant-loop : goal.invariant-loop

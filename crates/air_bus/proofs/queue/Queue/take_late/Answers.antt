@@ -1,10 +1,5 @@
 use Rattle.std.proofs.Common.{◌≡◌, ◌<◌, length, sym, subst, arith}
-use Rattle.air_bus.specs.Copies.{left_by}
-use Rattle.air_bus.specs.Queues.{Stands}
-use Rattle.std.specs.BinaryHeap.{heap_items}
-use Rattle.std.proofs.lemmas.List.Elements.{All-head}
-use Rattle.std.proofs.lemmas.List.Sorted.{All-permutation, sum_by_popped}
-use Rattle.air_bus.specs.declared.queue.Parcel.{Parcel}
+use Rattle.air_bus.proofs.Words.{left_by, Stands, heap_items, All-head, All-permutation, sum_by_popped, Parcel}
 use Rattle.air_bus.proofs.Parcels.{taken_stands, late_least, none_taken}
 use Rattle.air_bus.proofs.queue.Queue.take_late.Goals as goal
 

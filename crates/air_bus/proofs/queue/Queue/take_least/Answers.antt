@@ -1,8 +1,5 @@
 use Rattle.std.proofs.Common.{◌≡◌, arith}
-use Rattle.std.specs.BinaryHeap.{heap_items}
-use Rattle.std.proofs.lemmas.List.Elements.{All-head, All-tail}
-use Rattle.std.proofs.lemmas.List.Sorted.{All-permutation, sum_by_popped}
-use Rattle.air_bus.specs.declared.queue.Parcel.{Parcel}
+use Rattle.air_bus.proofs.Words.{heap_items, All-head, All-tail, All-permutation, sum_by_popped, Parcel}
 use Rattle.air_bus.proofs.Parcels.{taken_stands, ready_least}
 use Rattle.air_bus.proofs.queue.Queue.take_least.Goals as goal
 

@@ -1,6 +1,5 @@
 use Rattle.std.proofs.Common.{◌≡◌, ◌<◌, rules, refl, false, subst, is_gt, arith}
-use Rattle.event_id.specs.declared.id.EventId.{EventId as Id}
-use Rattle.event_id.specs.EventId.{id_cmp}
+use Rattle.event_store.proofs.Words.{Id, id_cmp}
 use Rattle.event_store.proofs.Ranges.{between}
 use Rattle.event_store.proofs.index.Index.ceiling.Goals as goal
 

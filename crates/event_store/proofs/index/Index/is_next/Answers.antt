@@ -1,7 +1,5 @@
 use Rattle.std.proofs.Common.{◌≡◌, ◌∙◌, sym, ap}
-use Rattle.event_store.specs.declared.index.Process.{Process}
-use Rattle.event_store.specs.declared.index.Progress.{Progress}
-use Rattle.event_store.specs.Marks.{ids_of, key_of, progress}
+use Rattle.event_store.proofs.Words.{Process, Progress, ids_of, key_of, progress}
 use Rattle.event_store.proofs.Orders.{admits, admitted}
 use Rattle.event_store.proofs.Marking.{no_first}
 use Rattle.event_store.proofs.index.Index.is_next.Goals as goal

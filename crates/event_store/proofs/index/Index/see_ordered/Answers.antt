@@ -1,7 +1,5 @@
 use Rattle.std.proofs.Common.{rules, ◌≡◌, ◌∙◌, ◌+◌, ℕ, cond, refl, ap}
-use Rattle.event_store.specs.declared.index.Process.{Process}
-use Rattle.event_store.specs.declared.index.Progress.{Progress}
-use Rattle.event_store.specs.Marks.{same_key, key_of, progress_at}
+use Rattle.event_store.proofs.Words.{Process, Progress, same_key, key_of, progress_at}
 use Rattle.event_store.proofs.Keeping.{ordered_kept}
 use Rattle.event_store.proofs.index.Index.see_ordered.Goals as goal
 

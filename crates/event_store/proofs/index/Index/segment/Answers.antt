@@ -1,5 +1,5 @@
 use Rattle.std.proofs.Common.{◌∙◌, sym}
-use Rattle.std.proofs.lemmas.Option.{IfSome_then}
+use Rattle.event_store.proofs.Words.{IfSome_then}
 use Rattle.event_store.proofs.Segments.{segment_some, segment_none}
 use Rattle.event_store.proofs.index.Index.segment.Goals as goal
 

@@ -1,10 +1,5 @@
 use Rattle.std.proofs.Common.{ℕ, List, sym, subst}
-use Rattle.std.specs.Map.{lookup}
-use Rattle.std.specs.Option.{option_or}
-use Rattle.std.specs.BTreeMap.{get, is_at}
-use Rattle.event_id.specs.declared.id.EventId.{EventId}
-use Rattle.event_id.specs.EventId.{id_cmp}
-use Rattle.event_store.specs.Held.{IsCache}
+use Rattle.event_store.proofs.Words.{lookup, option_or, get, is_at, EventId, id_cmp, IsCache}
 use Rattle.event_store.proofs.Recents.{remembered, either_way}
 use Rattle.event_store.proofs.recent.Recent.remember.Goals as goal
 

@@ -1,6 +1,5 @@
 use Rattle.std.proofs.Common.{◌∙◌, ℕ, List, sym, subst, ap, refl, arith}
-use Rattle.event_store.specs.Held.{at_hand}
-use Rattle.event_store.specs.Read.{ReadsNext}
+use Rattle.event_store.proofs.Words.{at_hand, ReadsNext}
 use Rattle.event_store.proofs.Holding.{held_on, held_next, on_err, on_ok, one_more, end_fits}
 use Rattle.event_store.proofs.store.EventStore.advance.Goals as goal
 

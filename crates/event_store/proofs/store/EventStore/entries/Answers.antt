@@ -1,7 +1,6 @@
 use Rattle.std.proofs.Common.{◌∙◌}
-use Rattle.event_store.specs.Held.{at_hand}
+use Rattle.event_store.proofs.Words.{at_hand, entries_of}
 use Rattle.event_store.proofs.Holding.{held_tells, number_prop}
-use Rattle.event_store.specs.Order.{entries_of}
 use Rattle.event_store.proofs.store.EventStore.entries.Goals as goal
 
 pub returns : goal.returns

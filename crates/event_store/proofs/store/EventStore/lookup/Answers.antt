@@ -1,5 +1,5 @@
 use Rattle.std.proofs.Common.{◌∙◌, ℕ, List, Some, sym}
-use Rattle.event_store.specs.Held.{at_hand}
+use Rattle.event_store.proofs.Words.{at_hand}
 use Rattle.event_store.proofs.Firsts.{absent}
 use Rattle.event_store.proofs.Holding.{held_tells, held_on, found_prop, not_yet_prop}
 use Rattle.event_store.proofs.Recents.{hand_is}

@@ -1,5 +1,5 @@
 use Rattle.std.proofs.Common.{ℕ, List, refl, arith, IsTrue}
-use Rattle.event_store.specs.Held.{at_hand}
+use Rattle.event_store.proofs.Words.{at_hand}
 use Rattle.event_store.proofs.Holding.{held_none, held_on}
 use Rattle.event_store.proofs.store.EventStore.new.Goals as goal
 

@@ -1,10 +1,7 @@
 use Rattle.std.proofs.Common.{◌≡◌, inl, inr, ⊎_elim, Err, refl, sym, ap, subst, ◌∙◌, arith}
 use Rattle.std.specs.Prelude.{⊤}
-use Rattle.time_shards.proofs.Texts.{none_bad}
-use Rattle.command_words.specs.Words.{bulk_values}
+use Rattle.photon_cli.proofs.Words.{none_bad, bulk_values, status_of, IsOfBulk}
 use Rattle.run_fault.specs.declared.fault.RunFault.TheVariants as fault
-use Rattle.run_fault.specs.Faults.{status_of}
-use Rattle.photon_cli.specs.LogFaults.{IsOfBulk}
 use Rattle.photon_cli.proofs.Statuses.{IsKnown, bad_row, bulk_own, bulk_row, bulk_two, drill_left, failed_of, fair_status, line_of, named_in_bulk, no_one, no_zero, past_status, write_of}
 use Rattle.photon_cli.proofs.command.bulk.bulk_command.Goals as goal
 

@@ -1,9 +1,6 @@
 use Rattle.std.proofs.Common.{inl, inr, ⊎_elim, Err, refl, sym, ap, ◌∙◌, arith}
 use Rattle.std.specs.Prelude.{⊤}
-use Rattle.time_shards.proofs.Texts.{none_bad}
-use Rattle.command_words.specs.Words.{values_in}
-use Rattle.run_fault.specs.Faults.{status_of}
-use Rattle.photon_cli.specs.LogFaults.{IsOfPlanOrLogs}
+use Rattle.photon_cli.proofs.Words.{none_bad, values_in, status_of, IsOfPlanOrLogs}
 use Rattle.photon_cli.proofs.Ends.{asked_valid, none_refused, not_invalid}
 use Rattle.photon_cli.proofs.Statuses.{IsKnown, bad_row, drill_early, drill_left, drill_row, failed_of, fair_status, line_of, named_in_drill, no_one, no_zero, past_status, plan_left, two_of, write_of}
 use Rattle.photon_cli.proofs.command.drill.drill_command.Goals as goal

@@ -1,15 +1,6 @@
 use Rattle.std.proofs.Common.{◌≡◌, ℕ, Some, inl, inr, ⊎_elim, Err, IsTrue, refl, sym, ap, ◌∙◌, arith}
-use Rattle.time_shards.proofs.Texts.{none_bad}
-use Rattle.log_records.specs.declared.why.Why.{Why}
-use Rattle.command_words.specs.Words.{values_in}
-use Rattle.run_fault.specs.declared.fault.LogName.{LogName}
-use Rattle.site_run.specs.Refused.{TellsPlaces, asked_of}
-use Rattle.site_run.proofs.Refusing.{kept_are_journals}
-use Rattle.turn_defs.specs.Setting.{Setting}
+use Rattle.photon_cli.proofs.Words.{none_bad, Why, values_in, LogName, TellsPlaces, asked_of, kept_are_journals, Setting, status_of, IsAsked, IsOfLogs}
 use Rattle.run_fault.specs.declared.fault.RunFault.TheVariants as fault
-use Rattle.run_fault.specs.Faults.{status_of}
-use Rattle.photon_cli.specs.Join.{IsAsked}
-use Rattle.photon_cli.specs.LogFaults.{IsOfLogs}
 use Rattle.photon_cli.proofs.Causing.{damage_told, ends_well, limit_told, mismatch_told}
 use Rattle.photon_cli.proofs.Ends.{asked_valid, none_refused, not_invalid}
 use Rattle.photon_cli.proofs.Statuses.{IsKnown, bad_row, early_left, failed_of, fair_status, join_own, join_past, join_row, join_two, line_of, named, no_one, no_zero, past_status, place_of, write_of}

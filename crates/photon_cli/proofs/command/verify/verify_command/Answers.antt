@@ -1,15 +1,7 @@
 use Rattle.std.proofs.Common.{◌≡◌, ℕ, inl, inr, ⊎_elim, Bool, true, false, None, Err, IsTrue, refl, sym, ap, subst, ◌∙◌, arith}
-use Rattle.log_records.specs.declared.why.Why.{Why}
-use Rattle.turn_defs.specs.Setting.{Setting}
-use Rattle.run_fault.specs.declared.fault.LogName.TheVariants.{Clicks}
 use Rattle.std.specs.Prelude.{⊤}
-use Rattle.site_run.specs.Refused.{TellsPlaces}
-use Rattle.site_run.proofs.Refusing.{kept_are_journals}
+use Rattle.photon_cli.proofs.Words.{Why, Setting, Clicks, TellsPlaces, kept_are_journals, IsOverLog, unasked, status_of, IsOfVerify, PrintsKept}
 use Rattle.run_fault.specs.declared.fault.RunFault.TheVariants as fault
-use Rattle.photon_cli.specs.Causes.{IsOverLog, unasked}
-use Rattle.run_fault.specs.Faults.{status_of}
-use Rattle.photon_cli.specs.LogFaults.{IsOfVerify}
-use Rattle.photon_cli.specs.Verify.{PrintsKept}
 use Rattle.photon_cli.proofs.Causing.{damage_told, ends_well, limit_told, mismatch_told}
 use Rattle.photon_cli.proofs.Ends.{not_readable, over_valid}
 use Rattle.photon_cli.proofs.Statuses.{click_line, failed_of, fair_status, log_verify, named_in_verify, never_two, never_written, no_one, no_zero, past_status, past_verify, place_of, unreadable, verify_past, write_of}

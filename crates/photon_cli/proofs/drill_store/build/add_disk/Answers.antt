@@ -1,5 +1,5 @@
 use Rattle.std.proofs.Common.{rules, Some}
-use Rattle.photon_cli.specs.Planned.{named_by, place_of, is_at, fuse_of}
+use Rattle.photon_cli.proofs.Words.{named_by, place_of, is_at, fuse_of}
 use Rattle.photon_cli.proofs.Fuses.{pushed}
 use Rattle.photon_cli.proofs.drill_store.build.add_disk.Goals as goal
 

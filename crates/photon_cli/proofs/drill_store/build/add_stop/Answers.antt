@@ -1,6 +1,5 @@
 use Rattle.std.proofs.Common.{rules}
-use Rattle.mem_outside.specs.Kept.{fuses_for}
-use Rattle.photon_cli.specs.Planned.{place_of, fuse_of}
+use Rattle.photon_cli.proofs.Words.{fuses_for, place_of, fuse_of}
 use Rattle.photon_cli.proofs.Numbers.{counted}
 use Rattle.photon_cli.proofs.drill_store.build.add_stop.Goals as goal
 

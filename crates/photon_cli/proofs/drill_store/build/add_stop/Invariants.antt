@@ -1,7 +1,5 @@
 use Rattle.std.proofs.Common.{◌≡◌, ◌++◌, ◌&&◌}
-use Rattle.outside.specs.declared.store.DiskName.{DiskName}
-use Rattle.mem_outside.specs.Kept.{fuses_for}
-use Rattle.photon_cli.specs.Planned.{place_of, is_for, fuse_of}
+use Rattle.photon_cli.proofs.Words.{DiskName, fuses_for, place_of, is_for, fuse_of}
 use Rattle.photon_cli.proofs.Numbers.{is_below, one_if}
 use Rattle.photon_cli.proofs.drill_store.build.add_stop.Given as goal
 

@@ -1,6 +1,5 @@
 use Rattle.std.proofs.Common.{rules}
-use Rattle.mem_outside.specs.Kept.{fuses_for}
-use Rattle.photon_cli.specs.Planned.{planned_for}
+use Rattle.photon_cli.proofs.Words.{fuses_for, planned_for}
 use Rattle.photon_cli.proofs.Fuses.{taken}
 use Rattle.photon_cli.proofs.drill_store.build.stops_for.Goals as goal
 

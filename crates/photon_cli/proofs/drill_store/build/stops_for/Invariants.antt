@@ -1,7 +1,5 @@
 use Rattle.std.proofs.Common.{◌≡◌, ◌++◌, drop}
-use Rattle.outside.specs.declared.store.DiskName.{DiskName}
-use Rattle.mem_outside.specs.Kept.{fuses_for}
-use Rattle.photon_cli.specs.Planned.{planned_for}
+use Rattle.photon_cli.proofs.Words.{DiskName, fuses_for, planned_for}
 use Rattle.photon_cli.proofs.drill_store.build.stops_for.Given as goal
 
 abbrev pub invariant-loop-stop : goal.invariant-loop-stop

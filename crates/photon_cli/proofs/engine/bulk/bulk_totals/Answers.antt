@@ -1,14 +1,6 @@
 use Rattle.std.proofs.Common.{◌++◌, ℕ, List, Option, Err, inl, inr, ⊎_elim, refl, ap, subst, ◌∙◌}
 use Rattle.std.specs.Prelude.{⊤, IfSome}
-use Rattle.lossy_link.specs.Fates.{PlanView}
-use Rattle.mem_outside.specs.Files.{bytes_under}
-use Rattle.log_records.specs.declared.report.ReportLine.{ReportLine}
-use Rattle.log_records.specs.Report.{totals}
-use Rattle.report_text.specs.Stream.{TookPrefix}
-use Rattle.command_words.specs.Words.{bulk_values}
-use Rattle.photon_cli.specs.Join.{IsHeard}
-use Rattle.run_fault.specs.Causes.{IsWelcome}
-use Rattle.photon_cli.specs.LogFaults.{IsPast}
+use Rattle.photon_cli.proofs.Words.{PlanView, bytes_under, ReportLine, totals, TookPrefix, bulk_values, IsHeard, IsWelcome, IsPast}
 use Rattle.photon_cli.proofs.Bulking.{bulk_early, bulk_run, bulk_totals, made_valid, no_read, without}
 use Rattle.photon_cli.proofs.Statuses.{run_past}
 use Rattle.photon_cli.proofs.engine.bulk.bulk_totals.Goals as goal

@@ -1,10 +1,6 @@
 use Rattle.std.proofs.Common.{◌≡◌, List, ℕ, Err, inr, ap, subst, sym, ◌∙◌}
-use Rattle.log_records.specs.declared.records.QueryRec.{QueryRec}
-use Rattle.log_records.specs.declared.check.BadLine.{BadLine}
-use Rattle.log_records.specs.Check.{IsQueryLog, RefusesQuery}
+use Rattle.photon_cli.proofs.Words.{QueryRec, BadLine, IsQueryLog, RefusesQuery, Queries, IsLogFault}
 use Rattle.run_fault.specs.declared.fault.RunFault.TheVariants as fault
-use Rattle.run_fault.specs.declared.fault.LogName.TheVariants.{Queries}
-use Rattle.photon_cli.specs.LogFaults.{IsLogFault}
 use Rattle.photon_cli.proofs.Refusals.{within, refusal_kind, told_line}
 use Rattle.photon_cli.proofs.engine.checked.check_queries_in.Goals as goal
 

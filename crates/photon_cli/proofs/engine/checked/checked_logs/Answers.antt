@@ -1,13 +1,6 @@
 use Rattle.std.proofs.Common.{◌≡◌, ℕ, List, Option, Err, ap, subst}
-use Rattle.std.specs.Option.{IsSomeAnd}
-use Rattle.std.proofs.lemmas.Result.{err_from_is_err_and}
-use Rattle.log_records.specs.declared.records.QueryRec.{QueryRec}
-use Rattle.log_records.specs.Check.{IsQueryLog, RefusesClick}
-use Rattle.log_records.specs.declared.check.BadLine.{BadLine}
-use Rattle.run_fault.specs.declared.fault.LogName.{LogName}
-use Rattle.run_fault.specs.declared.fault.LogName.TheVariants.{Queries, Clicks}
+use Rattle.photon_cli.proofs.Words.{IsSomeAnd, err_from_is_err_and, QueryRec, IsQueryLog, RefusesClick, BadLine, LogName, Queries, Clicks, HasIds, Refuses}
 use Rattle.run_fault.specs.declared.fault.RunFault.TheVariants as fault
-use Rattle.photon_cli.specs.Join.{HasIds, Refuses}
 use Rattle.photon_cli.proofs.Refusals.{same_log}
 use Rattle.photon_cli.proofs.Runs.{both_logs}
 use Rattle.photon_cli.proofs.engine.checked.checked_logs.Goals as goal

@@ -1,11 +1,6 @@
 use Rattle.std.proofs.Common.{◌≡◌, List, ℕ, Err, inr, ap, subst, sym, ◌∙◌}
-use Rattle.log_records.specs.declared.check.BadLine.{BadLine}
-use Rattle.log_records.specs.Check.{IsClickLog, RefusesClick}
-use Rattle.photon_cli.specs.CheckedLogs.{EndsAt}
+use Rattle.photon_cli.proofs.Words.{BadLine, IsClickLog, RefusesClick, EndsAt, Clicks, HasIds, IsLogFault}
 use Rattle.run_fault.specs.declared.fault.RunFault.TheVariants as fault
-use Rattle.run_fault.specs.declared.fault.LogName.TheVariants.{Clicks}
-use Rattle.photon_cli.specs.Join.{HasIds}
-use Rattle.photon_cli.specs.LogFaults.{IsLogFault}
 use Rattle.photon_cli.proofs.Refusals.{within, refusal_kind, told_line}
 use Rattle.photon_cli.proofs.engine.checked.clicks_in_log.Goals as goal
 

@@ -1,14 +1,7 @@
 use Rattle.std.proofs.Common.{◌≡◌, ◌≤◌, ℕ, Bool, false, not, IsTrue, refl, subst, sym, ◌∙◌}
-use Rattle.std.specs.List.{list_any}
-use Rattle.std.specs.Option.{IfSome}
 use Rattle.std.specs.Prelude.{⊤}
-use Rattle.photon_cli.specs.Planned.{is_joiners}
-use Rattle.site_laws.specs.Laws.{made_by}
-use Rattle.site_workers.specs.Works.{is_stop}
-use Rattle.site_run.specs.declared.ran.RunLog.{RunLog}
+use Rattle.photon_cli.proofs.Words.{list_any, IfSome, is_joiners, made_by, is_stop, RunLog, welcome_where, disk_of}
 use Rattle.photon_cli.proofs.Drilling.{drilled, something_left}
-use Rattle.site_run.proofs.Entered.{welcome_where}
-use Rattle.mem_outside.specs.Kept.{disk_of}
 use Rattle.photon_cli.proofs.engine.drill.drill_lines.Goals as goal
 
 pub returns-in-Err-clause-fair : goal.returns-in-Err-clause-fair

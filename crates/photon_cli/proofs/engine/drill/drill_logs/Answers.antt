@@ -1,8 +1,6 @@
 use Rattle.std.proofs.Common.{◌≡◌, ⊎_elim, inl, inr, ℕ, List, Option, Err, refl, ap, subst}
-use Rattle.command_words.specs.Words.{values_in}
+use Rattle.photon_cli.proofs.Words.{values_in, Drills, AreValid, Refuses}
 use Rattle.run_fault.specs.declared.fault.RunFault.TheVariants as fault
-use Rattle.photon_cli.specs.Drill.{Drills}
-use Rattle.photon_cli.specs.Join.{AreValid, Refuses}
 use Rattle.photon_cli.proofs.Statuses.{plan_fair, run_past}
 use Rattle.photon_cli.proofs.engine.drill.drill_logs.Goals as goal
 

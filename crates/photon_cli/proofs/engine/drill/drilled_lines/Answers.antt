@@ -1,7 +1,5 @@
 use Rattle.std.proofs.Common.{List, ℕ, Option, inl, inr, refl}
-use Rattle.std.proofs.lemmas.Result.{IfOk-weaker}
-use Rattle.command_words.specs.Words.{values_in}
-use Rattle.run_fault.specs.declared.fault.LogName.TheVariants.{Clicks}
+use Rattle.photon_cli.proofs.Words.{IfOk-weaker, values_in, Clicks}
 use Rattle.photon_cli.proofs.Statuses.{log_fair}
 use Rattle.photon_cli.proofs.Runs.{is_asked, placed_ids, run_setting, setting_of}
 use Rattle.photon_cli.proofs.engine.drill.drilled_lines.Goals as goal

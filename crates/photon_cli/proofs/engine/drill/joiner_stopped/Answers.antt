@@ -1,9 +1,5 @@
 use Rattle.std.proofs.Common.{◌≡◌, ◌≤◌, ℕ, false, Option, subst, sym, ◌∙◌}
-use Rattle.std.specs.List.{list_any}
-use Rattle.std.specs.Option.{IfSome}
-use Rattle.site_laws.specs.Laws.{made_by}
-use Rattle.site_workers.specs.Works.{is_stop}
-use Rattle.site_run.specs.declared.ran.RunLog.{RunLog}
+use Rattle.photon_cli.proofs.Words.{list_any, IfSome, made_by, is_stop, RunLog}
 use Rattle.photon_cli.proofs.Drilling.{none_late}
 use Rattle.photon_cli.proofs.engine.drill.joiner_stopped.Goals as goal
 

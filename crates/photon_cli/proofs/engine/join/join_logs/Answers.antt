@@ -1,16 +1,6 @@
 use Rattle.std.proofs.Common.{◌++◌, List, Some, inl, inr, Err, refl, ap, subst, ◌∙◌}
-use Rattle.std.specs.Option.{IfSome}
 use Rattle.std.specs.Prelude.{⊤}
-use Rattle.lossy_link.specs.Fates.{PlanView}
-use Rattle.outside.specs.Faults.{Rose}
-use Rattle.log_records.specs.declared.report.ReportLine.{ReportLine}
-use Rattle.log_records.specs.Report.{text_of}
-use Rattle.report_text.specs.Stream.{TookPrefix}
-use Rattle.site_run.specs.Refused.{TellsPlaces, asked_of}
-use Rattle.site_run.proofs.Counting.{rose_before}
-use Rattle.site_run.proofs.Entered.{counted_more}
-use Rattle.command_words.specs.Words.{values_in}
-use Rattle.photon_cli.specs.Join.{IsHeard, no_plan}
+use Rattle.photon_cli.proofs.Words.{IfSome, PlanView, Rose, ReportLine, text_of, TookPrefix, TellsPlaces, asked_of, rose_before, counted_more, values_in, IsHeard, no_plan}
 use Rattle.photon_cli.proofs.Causing.{later_caused, log_caused}
 use Rattle.photon_cli.proofs.Runs.{history, if_history, is_asked, placed_ids, run_setting, setting_of}
 use Rattle.photon_cli.proofs.Statuses.{run_past}

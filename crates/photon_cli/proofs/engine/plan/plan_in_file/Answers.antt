@@ -1,7 +1,5 @@
 use Rattle.std.proofs.Common.{◌≡◌, ◌+◌, ⊎_elim, inl, List, ℕ, ap, subst, sym, arith}
-use Rattle.lossy_link.specs.declared.bad_plan.Field.{Field}
-use Rattle.lossy_link.specs.Outcome.{good, bad}
-use Rattle.lossy_link.specs.Plans.{IsFault, IsFirstBad, IsPlanOf, size_limit}
+use Rattle.photon_cli.proofs.Words.{Field, good, bad, IsFault, IsFirstBad, IsPlanOf, size_limit}
 use Rattle.run_fault.specs.declared.fault.RunFault.TheVariants as fault
 use Rattle.photon_cli.proofs.PlanFront.{of_file, to_read}
 use Rattle.photon_cli.proofs.engine.plan.plan_in_file.Goals as goal

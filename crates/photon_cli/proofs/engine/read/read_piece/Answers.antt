@@ -1,5 +1,5 @@
 use Rattle.std.proofs.Common.{◌≡◌, ◌+◌, ◌-◌, ◌≤◌, ◌++◌, List, ℕ, length, take, drop, ap, subst, ◌∙◌, arith, length-drop}
-use Rattle.std.proofs.lemmas.List.{length-take}
+use Rattle.photon_cli.proofs.Words.{length-take}
 use Rattle.photon_cli.proofs.ReadPieces.{piece_read}
 use Rattle.photon_cli.proofs.engine.read.read_piece.Goals as goal
 

@@ -1,15 +1,5 @@
 use Rattle.std.proofs.Common.{◌≡◌, List, map, subst, sym, ◌∙◌}
-use Rattle.log_records.specs.declared.records.ClickRec.{ClickRec}
-use Rattle.log_records.specs.Lines.{ClickLine}
-use Rattle.log_records.specs.Report.{distinct}
-use Rattle.time_shards.specs.declared.ShardRow.{ShardRow}
-use Rattle.time_shards.specs.Shards.{IsTable}
-use Rattle.verify_pass.specs.Classes.{line_of}
-use Rattle.outside.specs.Faults.{Rose}
-use Rattle.site_run.specs.declared.ran.RunLog.{RunLog}
-use Rattle.site_run.specs.Left.{RestLeft}
-use Rattle.site_run.specs.Joined.{RanAfresh}
-use Rattle.site_run.specs.Left.{RunLeft}
+use Rattle.photon_cli.proofs.Words.{ClickRec, ClickLine, distinct, ShardRow, IsTable, line_of, Rose, RunLog, RestLeft, RanAfresh, RunLeft}
 use Rattle.photon_cli.proofs.Refusals.{within}
 use Rattle.photon_cli.proofs.Runs.{heard, known, taken, log_checked}
 use Rattle.photon_cli.proofs.engine.run.run_lines.Goals as goal

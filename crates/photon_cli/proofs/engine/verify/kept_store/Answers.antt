@@ -1,17 +1,7 @@
 use Rattle.std.proofs.Common.{◌≡◌, inr, List, ℕ, None, Err, sym, ap, subst, arith}
 use Rattle.std.specs.Prelude.{⊤}
-use Rattle.outside.specs.Faults.{Rose}
-use Rattle.outside.specs.declared.store.DiskName.{DiskName}
-use Rattle.run_fault.specs.declared.fault.LogName.TheVariants.{Clicks}
-use Rattle.site_run.proofs.Counting.{rose_before}
+use Rattle.photon_cli.proofs.Words.{Rose, DiskName, Clicks, rose_before, IsWelcome, AreTold, IsCause, failed_rose, TellsPlaces, welcome_where, HasCauseInVerify, IsReadFrom}
 use Rattle.run_fault.specs.declared.fault.RunFault.TheVariants as fault
-use Rattle.run_fault.specs.Causes.{IsWelcome}
-use Rattle.site_store.specs.Causes.{AreTold, IsCause}
-use Rattle.site_store.proofs.Causes.{failed_rose}
-use Rattle.site_run.specs.Refused.{TellsPlaces}
-use Rattle.site_run.proofs.Entered.{welcome_where}
-use Rattle.photon_cli.specs.Causes.{HasCauseInVerify}
-use Rattle.photon_cli.specs.Verify.{IsReadFrom}
 use Rattle.photon_cli.proofs.Causing.{log_caused}
 use Rattle.photon_cli.proofs.Reading.{log_over, place_fair, place_stops, read_rose, read_so, refused_so, rose_shut}
 use Rattle.photon_cli.proofs.Refusals.{within}

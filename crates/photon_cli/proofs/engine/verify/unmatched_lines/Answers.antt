@@ -1,8 +1,5 @@
 use Rattle.std.proofs.Common.{map, ◌∙◌}
-use Rattle.std.proofs.lemmas.Result.{IfOk-weaker}
-use Rattle.log_records.specs.declared.records.ClickRec.{ClickRec}
-use Rattle.log_records.specs.Report.{distinct}
-use Rattle.verify_pass.specs.declared.journals.Journals.{Journals}
+use Rattle.photon_cli.proofs.Words.{IfOk-weaker, ClickRec, distinct, Journals}
 use Rattle.photon_cli.proofs.Verifying.{line_none}
 use Rattle.photon_cli.proofs.engine.verify.unmatched_lines.Goals as goal
 

@@ -1,15 +1,5 @@
 use Rattle.std.proofs.Common.{◌++◌, ℕ, List, Option, None, Err, inl, inr, refl, ap, sym, subst, ◌∙◌}
-use Rattle.std.specs.List.{list_any}
-use Rattle.std.specs.Option.{IsSomeAnd}
-use Rattle.log_records.specs.declared.report.ReportLine.{ReportLine}
-use Rattle.log_records.specs.Report.{is_missing, text_of}
-use Rattle.report_text.specs.Stream.{TookPrefix}
-use Rattle.outside.specs.Faults.{Rose}
-use Rattle.dispatch_node.specs.Places.{IsLogOf}
-use Rattle.run_fault.specs.declared.fault.LogName.TheVariants.{Clicks}
-use Rattle.site_run.proofs.Counting.{rose_before}
-use Rattle.photon_cli.specs.Verify.{IsReadFrom}
-use Rattle.site_run.specs.Refused.{TellsPlaces}
+use Rattle.photon_cli.proofs.Words.{list_any, IsSomeAnd, ReportLine, is_missing, text_of, TookPrefix, Rose, IsLogOf, Clicks, rose_before, IsReadFrom, TellsPlaces}
 use Rattle.photon_cli.proofs.Causing.{later_caused, log_caused}
 use Rattle.photon_cli.proofs.Runs.{clicks_there, ends_there}
 use Rattle.photon_cli.proofs.Statuses.{log_fair, run_past}

@@ -1,5 +1,5 @@
 use Rattle.std.proofs.Common.{◌≡◌, refl, sym, ap, subst, ◌∙◌, arith}
-use Rattle.log_records.specs.declared.check.BadLine.{BadLine}
+use Rattle.photon_cli.proofs.Words.{BadLine}
 use Rattle.log_records.specs.declared.why.Why.TheVariants as why
 use Rattle.log_records.specs.Check.{Refuses}
 use Rattle.photon_cli.specs.declared.log_check.check.CheckFault.TheVariants as fault

@@ -1,7 +1,7 @@
 use Rattle.std.proofs.Common.{◌≡◌, [], refl, sym, subst, ◌∙◌, arith}
+use Rattle.photon_cli.proofs.Words.{AtEnd}
 use Rattle.photon_cli.specs.declared.log_check.check.CheckFault.TheVariants as fault
 use Rattle.photon_cli.specs.declared.log_check.step.Step.TheVariants as step
-use Rattle.photon_cli.specs.ReadLines.{AtEnd}
 use Rattle.photon_cli.proofs.LogWalk.{counts_on, counts_as, counts_none}
 use Rattle.photon_cli.proofs.CheckedLogs.{starts, few, stepped, one_more_line, refuses_next, not_memory}
 use Rattle.photon_cli.proofs.log_check.lines.read_lines.Goals as goal

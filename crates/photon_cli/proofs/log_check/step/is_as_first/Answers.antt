@@ -1,7 +1,6 @@
 use Rattle.std.proofs.Common.{List, ℕ, ◌≡◌, ◌≤◌, length, IsTrue, sym, ap, subst, ◌∙◌}
 use Rattle.std.specs.Prelude.{◌↔◌, IsErr}
-use Rattle.std.proofs.lemmas.Result.{IfOk-weaker}
-use Rattle.outside.specs.Faults.{Counts}
+use Rattle.photon_cli.proofs.Words.{IfOk-weaker, Counts}
 use Rattle.photon_cli.proofs.log_check.step.is_as_first.Goals as goal
 
 pub returns-clause-same_line : goal.returns-clause-same_line

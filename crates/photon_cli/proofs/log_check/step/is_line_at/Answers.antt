@@ -1,7 +1,5 @@
 use Rattle.std.proofs.Common.{sym, ap, ◌∙◌}
-use Rattle.std.proofs.lemmas.Bool.Decides.{Decides-eqb}
-use Rattle.std.proofs.lemmas.Slice.Eq.{slice_eq-Decides}
-use Rattle.tail_reader.specs.Buffered.{behind}
+use Rattle.photon_cli.proofs.Words.{Decides-eqb, slice_eq-Decides, behind}
 use Rattle.photon_cli.proofs.LogWalk.{read_there, not_long, not_end}
 use Rattle.photon_cli.proofs.log_check.step.is_line_at.Goals as goal
 

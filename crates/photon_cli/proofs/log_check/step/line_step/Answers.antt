@@ -1,5 +1,5 @@
 use Rattle.std.proofs.Common.{ℕ, inr, [], ◌∷◌, ◌++◌, IsTrue, sym, subst, ◌∙◌}
-use Rattle.photon_cli.specs.ReadLines.{SoFar}
+use Rattle.photon_cli.proofs.Words.{SoFar}
 use Rattle.photon_cli.proofs.LogWalk.{told_new, told_again, goes_on_new, first_line, goes_on_again, wrong_line, conflict}
 use Rattle.photon_cli.proofs.log_check.step.line_step.Goals as goal
 

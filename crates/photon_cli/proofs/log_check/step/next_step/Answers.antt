@@ -1,6 +1,6 @@
 use Rattle.std.proofs.Common.{ℕ, inr, sym, subst, ◌∙◌}
 use Rattle.std.specs.Prelude.{IsErr}
-use Rattle.photon_cli.specs.ReadLines.{AtEnd}
+use Rattle.photon_cli.proofs.Words.{AtEnd}
 use Rattle.photon_cli.proofs.LogWalk.{counts_on, at_end, long_line, line_came}
 use Rattle.photon_cli.proofs.log_check.step.next_step.Goals as goal
 

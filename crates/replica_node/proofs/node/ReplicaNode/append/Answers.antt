@@ -1,7 +1,5 @@
 use Rattle.std.proofs.Common.{sym, ◌∙◌}
-use Rattle.outside.proofs.Moments.{weaker}
-use Rattle.replica_node.specs.Node.{OnDiskOr}
-use Rattle.gate_journal.specs.Gate.{records, IsOldOrNew}
+use Rattle.replica_node.proofs.Words.{weaker, OnDiskOr, records, IsOldOrNew}
 use Rattle.replica_node.proofs.Standing.{holds_more, append_leaves}
 use Rattle.replica_node.proofs.node.ReplicaNode.append.Goals as goal
 

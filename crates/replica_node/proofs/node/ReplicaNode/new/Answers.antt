@@ -1,6 +1,6 @@
 use Rattle.std.proofs.Common.{refl, arith}
+use Rattle.replica_node.proofs.Words.{kept_of}
 use Rattle.replica_node.proofs.Standing.{down_stands}
-use Rattle.site_node.specs.Replicas.{kept_of}
 use Rattle.replica_node.proofs.node.ReplicaNode.new.Goals as goal
 
 pub returns-clause-stands : goal.returns-clause-stands

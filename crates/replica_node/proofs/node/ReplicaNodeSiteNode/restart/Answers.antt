@@ -1,9 +1,5 @@
 use Rattle.std.proofs.Common.{rules, ◌≡◌, ℕ, List, Option, Some, sym, ◌∙◌, subst, arith}
-use Rattle.air_bus.specs.declared.entry.Input.{Input as Bytes}
-use Rattle.site_node.specs.States.{Stops}
-use Rattle.replica_node.specs.Node.{StandsAt}
-use Rattle.site_node.specs.Replicas.{replica_rows}
-use Rattle.replica_node.specs.Kept.{kept_images}
+use Rattle.replica_node.proofs.Words.{Bytes, Stops, StandsAt, replica_rows, kept_images}
 use Rattle.replica_node.proofs.Turning.{Found, nothing_landed, note_landed, kept_opened, kept_notes, still_down, on_err}
 use Rattle.replica_node.proofs.node.ReplicaNodeSiteNode.restart.Goals as goal
 

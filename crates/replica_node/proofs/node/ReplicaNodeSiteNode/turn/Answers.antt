@@ -1,6 +1,6 @@
 use Rattle.std.proofs.Common.{sym, ◌∙◌, subst, inl, ⊎_elim}
-use Rattle.gate_journal.proofs.Growth.{continues_same, continues_through}
-use Rattle.replica_node.specs.Node.{VoterView, Knows}
+use Rattle.replica_node.proofs.Words.{continues_same, continues_through, VoterView}
+use Rattle.replica_node.specs.Node.{Knows}
 use Rattle.replica_node.proofs.Standing.{none_of, quiet, fits_of}
 use Rattle.replica_node.proofs.Turning.{idles, ends, stays_open, open_keeps, all_five, both_err}
 use Rattle.replica_node.proofs.node.ReplicaNodeSiteNode.turn.Goals as goal

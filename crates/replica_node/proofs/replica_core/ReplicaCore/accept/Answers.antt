@@ -1,13 +1,6 @@
 use Rattle.std.proofs.Common.{Option, ap, ◌∙◌, subst}
-use Rattle.paxos_defs.specs.Notes.{Cell}
-use Rattle.paxos_defs.specs.Turns.{on_accept}
-use Rattle.paxos_acceptor.specs.declared.notes.ReplicaNote.{ReplicaNote}
+use Rattle.replica_node.proofs.Words.{Cell, on_accept, ReplicaNote, cell_in, Batch, same_batch, taken, accepts, IsRow}
 use Rattle.paxos_acceptor.specs.declared.notes.Taken as code
-use Rattle.paxos_acceptor.specs.Cells.{cell_in}
-use Rattle.registry_state.specs.declared.Batch.{Batch}
-use Rattle.registry_state.specs.Same.{same_batch}
-use Rattle.turn_defs.specs.Replica.{taken, accepts}
-use Rattle.replica_node.specs.Core.{IsRow}
 use Rattle.replica_node.proofs.Noting.{says_row}
 use Rattle.replica_node.proofs.replica_core.ReplicaCore.accept.Goals as goal
 

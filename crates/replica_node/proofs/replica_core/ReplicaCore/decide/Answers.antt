@@ -1,9 +1,5 @@
 use Rattle.std.proofs.Common.{IfOk, sym, subst}
-use Rattle.std.proofs.lemmas.Result.{IfOk-weaker}
-use Rattle.turn_defs.specs.Setting.{Setting}
-use Rattle.replica_node.specs.declared.input.ReplicaInput.{ReplicaInput}
-use Rattle.turn_defs.specs.Replica.{ReplicaKept}
-use Rattle.replica_node.specs.Core.{Carries, IsRow, asked, row_of}
+use Rattle.replica_node.proofs.Words.{IfOk-weaker, Setting, ReplicaInput, ReplicaKept, Carries, IsRow, asked, row_of}
 use Rattle.replica_node.proofs.replica_core.ReplicaCore.decide.Goals as goal
 
 pub returns-in-Start-clause-turn : goal.returns-in-Start-clause-turn

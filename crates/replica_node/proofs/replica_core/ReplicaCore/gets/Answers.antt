@@ -1,8 +1,5 @@
 use Rattle.std.proofs.Common.{IfOk, sym, subst}
-use Rattle.turn_defs.specs.declared.packet.Packet.{Packet}
-use Rattle.turn_defs.specs.Setting.{Setting}
-use Rattle.turn_defs.specs.Replica.{ReplicaKept, replica_gets}
-use Rattle.replica_node.specs.Core.{IsRow, Stands}
+use Rattle.replica_node.proofs.Words.{Packet, Setting, ReplicaKept, replica_gets, IsRow, Stands}
 use Rattle.replica_node.proofs.replica_core.ReplicaCore.gets.Goals as goal
 
 pub returns-in-Prepare-clause-turn : goal.returns-in-Prepare-clause-turn

@@ -1,8 +1,5 @@
 use Rattle.std.proofs.Common.{Option, sym, subst}
-use Rattle.paxos_acceptor.specs.declared.notes.ReplicaNote.{ReplicaNote}
-use Rattle.turn_defs.specs.Turns.{land}
-use Rattle.turn_defs.specs.Replica.{land_replica}
-use Rattle.replica_node.specs.Core.{Knows, noted}
+use Rattle.replica_node.proofs.Words.{ReplicaNote, land, land_replica, Knows, noted}
 use Rattle.replica_node.proofs.Noting.{knows_note}
 use Rattle.replica_node.proofs.replica_core.ReplicaCore.keep.Goals as goal
 

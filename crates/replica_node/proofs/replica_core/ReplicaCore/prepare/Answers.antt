@@ -1,12 +1,6 @@
 use Rattle.std.proofs.Common.{Option, ap, ◌∙◌, subst}
-use Rattle.paxos_defs.specs.Notes.{Cell}
-use Rattle.paxos_defs.specs.Turns.{on_prepare}
-use Rattle.paxos_acceptor.specs.declared.notes.ReplicaNote.{ReplicaNote}
+use Rattle.replica_node.proofs.Words.{Cell, on_prepare, ReplicaNote, cell_in, Batch, prepared, prepares, IsRow}
 use Rattle.paxos_acceptor.specs.declared.notes.Prepared as code
-use Rattle.paxos_acceptor.specs.Cells.{cell_in}
-use Rattle.registry_state.specs.declared.Batch.{Batch}
-use Rattle.turn_defs.specs.Replica.{prepared, prepares}
-use Rattle.replica_node.specs.Core.{IsRow}
 use Rattle.replica_node.proofs.Noting.{says_row}
 use Rattle.replica_node.proofs.replica_core.ReplicaCore.prepare.Goals as goal
 

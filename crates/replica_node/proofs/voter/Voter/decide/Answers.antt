@@ -1,17 +1,7 @@
 use Rattle.std.proofs.Common.{[], None, refl, ap, sym, subst}
-use Rattle.std.proofs.lemmas.Result.{IfOk-weaker}
-use Rattle.std.proofs.lemmas.List.Elements.{All-same}
-use Rattle.packet_codec.specs.Notes.{IsNote}
-use Rattle.turn_defs.specs.Rows.{worked}
-use Rattle.replica_node.specs.Core.{GoesOn, Stands}
-use Rattle.site_node.specs.Replicas.{kept_of}
-use Rattle.replica_node.specs.declared.turn.Change.{Change}
-use Rattle.replica_node.specs.declared.replica_core.ReplicaCore.{ReplicaCore}
-use Rattle.replica_node.specs.Node.{VoterView}
+use Rattle.replica_node.proofs.Words.{IfOk-weaker, All-same, IsNote, worked, GoesOn, Stands, kept_of, Change, ReplicaCore, VoterView, gets_ok, views_ok}
 use Rattle.replica_node.proofs.Spelled.{sent_ok, note_ok}
-use Rattle.site_node.proofs.Replicas.{gets_ok}
 use Rattle.replica_node.proofs.Voters.{both, start_row, gets_row, up_at, is_packet}
-use Rattle.site_node.proofs.Replicas.{views_ok}
 use Rattle.replica_node.proofs.voter.Voter.decide.Goals as goal
 
 pub returns-in-Start-clause-turn : goal.returns-in-Start-clause-turn

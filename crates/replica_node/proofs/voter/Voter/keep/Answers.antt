@@ -1,11 +1,5 @@
-use Rattle.std.proofs.lemmas.List.Elements.{All-nil, All-same}
 use Rattle.std.proofs.Common.{[], ap, subst, sym}
-use Rattle.packet_codec.specs.Notes.{IsNote}
-use Rattle.turn_defs.specs.Turns.{land}
-use Rattle.turn_defs.specs.Replica.{land_replica}
-use Rattle.replica_node.specs.Core.{noted, GoesOn}
-use Rattle.replica_node.specs.Node.{VoterView}
-use Rattle.replica_node.specs.declared.replica_core.ReplicaCore.{ReplicaCore}
+use Rattle.replica_node.proofs.Words.{All-nil, All-same, IsNote, land, land_replica, noted, GoesOn, VoterView, ReplicaCore}
 use Rattle.replica_node.proofs.Spelled.{landed_ok}
 use Rattle.replica_node.proofs.voter.Voter.keep.Goals as goal
 

@@ -1,10 +1,5 @@
 use Rattle.std.proofs.Common.{rules, ◌∙◌, arith, subst, sym}
-use Rattle.std.proofs.lemmas.Result.{IfOk-weaker, IfErr-weaker}
-use Rattle.site_node.specs.Rosters.{IsOf}
-use Rattle.registry_server.specs.Cores.{IsNew}
-use Rattle.site_store.specs.Records.{KeptDisk, OpenView, Says}
-use Rattle.site_store.proofs.Lending.{each_unmap}
-use Rattle.site_run.specs.Placed.{AllAt}
+use Rattle.site_run.proofs.Words.{IfOk-weaker, IfErr-weaker, IsOf, IsNew, KeptDisk, OpenView, Says, each_unmap, AllAt}
 use Rattle.site_run.proofs.Lists.{all_none, none_held_logs, ok_both}
 use Rattle.site_run.proofs.Placing.{is_down_over, joiners_of}
 use Rattle.site_run.proofs.Taken.{all_moved, joiners_next, joiners_open, less_each, logs_moved, moved_behind, moved_to, none_left, sites_open}

@@ -1,5 +1,5 @@
-use Rattle.std.proofs.Common.{◌<◌, ◌≡◌, length, sym, ◌∙◌, subst, arith}
-use Rattle.site_run.specs.Naming.{IsTakenFrom}
+use Rattle.std.proofs.Common.{◌<◌, length, sym, subst, arith}
+use Rattle.site_run.proofs.Words.{IsTakenFrom}
 use Rattle.site_run.proofs.Taken.{taken_is}
 use Rattle.site_run.proofs.built.taking.take_disk.Goals as goal
 

@@ -1,6 +1,6 @@
 use Rattle.std.proofs.Common.{◌≡◌, drop}
 use Rattle.std.specs.Prelude.{map}
-use Rattle.list_words.specs.Lists.{Mem}
+use Rattle.site_run.proofs.Words.{Mem}
 use Rattle.site_run.proofs.built.taking.take_disk.Given as goal
 
 abbrev pub invariant-loop-i : goal.invariant-loop-i

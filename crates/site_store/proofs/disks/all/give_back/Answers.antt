@@ -1,5 +1,5 @@
 use Rattle.std.proofs.Common.{subst}
-use Rattle.outside.specs.Disk.{Within}
+use Rattle.site_store.proofs.Words.{Within}
 use Rattle.outside.specs.declared.store.DiskName.TheVariants as name
 use Rattle.site_store.proofs.Lending.{given_first}
 use Rattle.site_store.proofs.disks.all.give_back.Goals as goal

@@ -1,9 +1,6 @@
 use Rattle.std.proofs.Common.{◌≡◌, inl, inr, ℕ, ap, sym, ◌∙◌, subst, arith}
-use Rattle.outside.specs.declared.store.DiskName.{DiskName}
+use Rattle.site_store.proofs.Words.{DiskName, StaysAs, IsKeptIn, IsOfKind, IsKept, KeepsAs, IsFirst, IsFirstDisk, other_names}
 use Rattle.outside.specs.declared.store.DiskName.TheVariants as name
-use Rattle.gate_journal.specs.Images.{StaysAs, IsKeptIn}
-use Rattle.site_store.specs.Records.{IsOfKind, IsKept, KeepsAs}
-use Rattle.site_store.specs.Refusals.{IsFirst, IsFirstDisk, other_names}
 use Rattle.site_store.proofs.Faults.{unopened_more}
 use Rattle.site_store.proofs.Lending.{first_lent, lacks_by_names}
 use Rattle.site_store.proofs.Names.{not_topology}

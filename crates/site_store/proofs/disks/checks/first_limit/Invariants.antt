@@ -1,6 +1,5 @@
 use Rattle.std.proofs.Common.{◌≡◌, drop}
-use Rattle.site_store.specs.Misfits.{limit_in}
-use Rattle.site_store.specs.Records.{kept_all}
+use Rattle.site_store.proofs.Words.{limit_in, kept_all}
 use Rattle.site_store.proofs.disks.checks.first_limit.Given as goal
 
 abbrev pub invariant-loop-disk : goal.invariant-loop-disk

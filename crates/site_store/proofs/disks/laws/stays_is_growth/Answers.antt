@@ -1,4 +1,4 @@
-use Rattle.site_store.specs.Orders.{left_at}
+use Rattle.site_store.proofs.Words.{left_at}
 use Rattle.site_store.proofs.Stays.{stays_same, stays_through, goes_same, goes_through, stays_grows}
 use Rattle.site_store.proofs.disks.laws.stays_is_growth.Goals as goal
 

@@ -1,8 +1,5 @@
 use Rattle.std.proofs.Common.{rules, ◌≡◌, ◌++◌, ◌∷◌, [], List, ◌∙◌, sym, ap, subst, arith}
-use Rattle.std.proofs.lemmas.List.{map-append}
-use Rattle.outside.specs.Disk.{Within}
-use Rattle.site_store.specs.Lent.{Lent, MayBeLeft}
-use Rattle.site_store.specs.Records.{lent_by, lent_all}
+use Rattle.site_store.proofs.Words.{map-append, Within, Lent, MayBeLeft, lent_by, lent_all}
 use Rattle.site_store.proofs.Lending.{given, none_out, length_more}
 use Rattle.site_store.proofs.disks.opening.give_each.Goals as goal
 

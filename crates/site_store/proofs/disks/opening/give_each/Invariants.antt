@@ -1,8 +1,6 @@
 use Rattle.std.proofs.Common.{◌+◌, ◌≤◌, ℕ, List, length, IsTrue}
 use Rattle.std.specs.Prelude.{vec_len}
-use Rattle.outside.specs.declared.store.DiskName.{DiskName}
-use Rattle.site_store.specs.Lent.{MayBeLeft}
-use Rattle.site_store.specs.Records.{lent_all}
+use Rattle.site_store.proofs.Words.{DiskName, MayBeLeft, lent_all}
 use Rattle.site_store.proofs.disks.opening.give_each.Given as goal
 
 abbrev pub invariant-loop-one : goal.invariant-loop-one

@@ -1,5 +1,5 @@
 use Rattle.std.proofs.Common.{◌≡◌, sym, subst}
-use Rattle.site_store.specs.Opening.{IsUnopened}
+use Rattle.site_store.proofs.Words.{IsUnopened}
 use Rattle.site_store.proofs.Faults.{told_unopened}
 use Rattle.site_store.proofs.Lending.{given_back}
 use Rattle.site_store.proofs.disks.opening.open_one.Goals as goal

@@ -1,10 +1,5 @@
 use Rattle.std.proofs.Common.{rules, ◌≡◌, ◌≢◌, ◌<◌, List, length, get_or, subst, sym, ◌∙◌, arith}
-use Rattle.list_words.specs.Lists.{Each, EachPair}
-use Rattle.outside.specs.declared.store.DiskName.{DiskName}
-use Rattle.outside.specs.Disk.{Within}
-use Rattle.site_store.specs.Lent.{Lacks, IsLent}
-use Rattle.site_store.specs.Records.{IsOfKind, IsKept, kept_by, lent_all}
-use Rattle.site_store.specs.Refusals.{IsFirst, other_names}
+use Rattle.site_store.proofs.Words.{Each, EachPair, DiskName, Within, Lacks, IsLent, IsOfKind, IsKept, kept_by, lent_all, IsFirst, other_names}
 use Rattle.site_store.proofs.Faults.{unopened_more}
 use Rattle.site_store.proofs.Lending.{names_more, each_more, opened_more, keeps_first, lacks_next, length_more, cut_back}
 use Rattle.site_store.proofs.Names.{others_apart}

@@ -1,8 +1,6 @@
 use Rattle.std.proofs.Common.{◌≡◌, ◌+◌, ◌≤◌, length, take, IsTrue}
 use Rattle.std.specs.Prelude.{map, vec_len, vec_capacity}
-use Rattle.list_words.specs.Lists.{Each}
-use Rattle.site_store.specs.Lent.{IsLent}
-use Rattle.site_store.specs.Records.{IsOfKind, IsKept, kept_by, lent_all}
+use Rattle.site_store.proofs.Words.{Each, IsLent, IsOfKind, IsKept, kept_by, lent_all}
 use Rattle.site_store.proofs.disks.opening.open_others.Given as goal
 
 abbrev pub invariant-loop-i : goal.invariant-loop-i

@@ -1,9 +1,6 @@
 use Rattle.std.proofs.Common.{inl, inr, ⊎_elim, ◌∙◌, subst}
 use Rattle.std.specs.Prelude.{Option}
-use Rattle.gate_journal.specs.Gate.{gate_rule}
-use Rattle.gate_journal.specs.Fold.{folds_to}
-use Rattle.topology_journal.specs.declared.topology.Topology.{Topology}
-use Rattle.topology_journal.specs.Topologies.{topologies}
+use Rattle.site_store.proofs.Words.{gate_rule, folds_to, Topology, topologies}
 use Rattle.site_store.proofs.Unkept.{none_again}
 use Rattle.site_store.proofs.disks.record.write_topology.Goals as goal
 

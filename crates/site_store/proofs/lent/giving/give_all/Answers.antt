@@ -1,6 +1,6 @@
 use Rattle.std.proofs.Common.{rules, ◌≡◌, ◌++◌, ◌∷◌, [], arith}
+use Rattle.site_store.proofs.Words.{all_lent}
 use Rattle.site_store.proofs.Lending.{length_more}
-use Rattle.site_store.specs.LentDisks.{all_lent}
 use Rattle.site_store.proofs.Handing.{given_last, none_left, others_stay, last_counts, none_out}
 use Rattle.site_store.proofs.lent.giving.give_all.Goals as goal
 

@@ -1,8 +1,6 @@
 use Rattle.std.proofs.Common.{◌+◌, ◌≤◌, ℕ, List, length, IsTrue}
 use Rattle.std.specs.Prelude.{vec_len}
-use Rattle.outside.specs.declared.store.DiskName.{DiskName}
-use Rattle.site_store.specs.Lent.{MayBeLeft}
-use Rattle.site_store.specs.LentDisks.{all_lent}
+use Rattle.site_store.proofs.Words.{DiskName, MayBeLeft, all_lent}
 use Rattle.site_store.proofs.Handing.{OutOrRose}
 use Rattle.site_store.proofs.lent.giving.give_all.Given as goal
 

@@ -1,5 +1,4 @@
-use Rattle.site_store.specs.ReadBack.{IsOnlyRead, IsToldBy}
-use Rattle.site_store.specs.declared.lent.disk.LentDisk.{LentDisk}
+use Rattle.site_store.proofs.Words.{IsOnlyRead, IsToldBy, LentDisk}
 use Rattle.site_store.proofs.Walking.{first_next, first_all, next_all, next_one}
 use Rattle.site_store.proofs.Readings.{untouched, notes_more, pairs_more, notes_left_more, pairs_left_more}
 use Rattle.site_store.proofs.lent.reading.read_back.Goals as goal

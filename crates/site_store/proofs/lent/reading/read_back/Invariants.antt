@@ -1,7 +1,6 @@
 use Rattle.std.proofs.Common.{take}
+use Rattle.site_store.proofs.Words.{KeepsNotes, replicas, outputs, AreReadFrom, AreAmongImages, IsOnlyRead}
 use Rattle.output_log.specs.Pairs.{Keeps}
-use Rattle.site_node.specs.Replicas.{KeepsNotes}
-use Rattle.site_store.specs.ReadBack.{replicas, outputs, AreReadFrom, AreAmongImages, IsOnlyRead}
 use Rattle.site_store.proofs.Walking.{FirstWith}
 use Rattle.site_store.proofs.lent.reading.read_back.Given as goal
 

@@ -1,6 +1,5 @@
 use Rattle.std.proofs.Common.{inl, ℕ, List, subst}
-use Rattle.replica_node.specs.Votes.{IsBadVote}
-use Rattle.site_store.specs.Votes.{IsVotesDamaged}
+use Rattle.site_store.proofs.Words.{IsBadVote, IsVotesDamaged}
 use Rattle.site_store.proofs.Readings.{handed_on, refused_by_gates, refused_by_notes}
 use Rattle.site_store.proofs.lent.records.notes_again.Goals as goal
 

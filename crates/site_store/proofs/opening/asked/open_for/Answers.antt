@@ -1,7 +1,5 @@
 use Rattle.std.proofs.Common.{subst}
-use Rattle.site_store.specs.Opening.{IsUnopened}
-use Rattle.site_store.specs.Refusals.{IsFirstDisk}
-use Rattle.site_store.specs.Records.{AreKept, values_of}
+use Rattle.site_store.proofs.Words.{IsUnopened, IsFirstDisk, AreKept, values_of}
 use Rattle.site_store.proofs.Causes.{judged, unopened_cause}
 use Rattle.site_store.proofs.Lending.{stays_as}
 use Rattle.site_store.proofs.opening.asked.open_for.Goals as goal

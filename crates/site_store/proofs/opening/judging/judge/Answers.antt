@@ -1,7 +1,5 @@
 use Rattle.std.proofs.Common.{None, Some, subst, ap, ◌∙◌}
-use Rattle.site_store.specs.Causes.{AreTold}
-use Rattle.site_store.specs.Misfits.{limit_in}
-use Rattle.site_store.specs.Records.{kept_all, values_of}
+use Rattle.site_store.proofs.Words.{AreTold, limit_in, kept_all, values_of}
 use Rattle.site_store.proofs.Causes.{none_is, passed_for, limit_for}
 use Rattle.site_store.proofs.opening.judging.judge.Goals as goal
 

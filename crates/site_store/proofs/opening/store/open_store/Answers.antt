@@ -1,6 +1,5 @@
 use Rattle.std.proofs.Common.{Err, Some, refl, ap, ◌∙◌, sym, arith}
-use Rattle.site_store.specs.Records.{values_of, topology_lent}
-use Rattle.site_store.specs.Refusals.{other_names}
+use Rattle.site_store.proofs.Words.{values_of, topology_lent, other_names}
 use Rattle.site_store.proofs.Causes.{unwritten_cause, unwritten_memory}
 use Rattle.site_store.proofs.Damage.{unwritten_welcome}
 use Rattle.site_store.proofs.Leaving.{back_stays, back_grown, back_written, out_for, all_stay, all_grow, topology_written, joiners_same}

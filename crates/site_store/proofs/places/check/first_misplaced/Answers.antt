@@ -1,6 +1,5 @@
 use Rattle.std.proofs.Common.{None, Some, ◌∙◌, sym, subst, arith}
-use Rattle.log_records.specs.Lines.{HoldsLines}
-use Rattle.site_store.specs.Kept.{places_at, IsTold}
+use Rattle.site_store.proofs.Words.{HoldsLines, places_at, IsTold}
 use Rattle.site_store.proofs.Telling.{next_told, here_told, none_left, none_told}
 use Rattle.site_store.proofs.places.check.first_misplaced.Goals as goal
 

@@ -1,8 +1,5 @@
 use Rattle.std.proofs.Common.{◌≡◌, ◌≤◌, List, drop, Option, IsTrue}
-use Rattle.log_records.specs.Lines.{ClickLine, HoldsLines, end_from}
-use Rattle.site_store.specs.Kept.{all_kept, IsTold}
-use Rattle.site_store.specs.Records.{kept_all}
-use Rattle.run_fault.specs.declared.fault.Misplaced.{Misplaced}
+use Rattle.site_store.proofs.Words.{ClickLine, HoldsLines, end_from, all_kept, IsTold, kept_all, Misplaced}
 use Rattle.site_store.proofs.places.check.first_misplaced.Given as goal
 
 abbrev pub invariant-loop-disk : goal.invariant-loop-disk

@@ -1,7 +1,5 @@
 use Rattle.std.proofs.Common.{subst, ℕ}
-use Rattle.outside.specs.declared.store.DiskName.TheVariants.{Offset}
-use Rattle.log_records.specs.Lines.{IsBoundary}
-use Rattle.site_store.specs.Floors.{IsFloorOf, IsBehindFeed}
+use Rattle.site_store.proofs.Words.{Offset, IsBoundary, IsFloorOf, IsBehindFeed}
 use Rattle.site_store.proofs.Boundaries.{boundary_floor, boundary_fits}
 use Rattle.site_store.proofs.Telling.{floor_misfit, first_alone}
 use Rattle.site_store.proofs.places.check.misplaced_offset.Goals as goal

@@ -1,7 +1,5 @@
 use Rattle.std.proofs.Common.{List, ◌∷◌, [], subst, sym}
-use Rattle.outside.specs.declared.store.DiskName.TheVariants.{Retry}
-use Rattle.log_records.specs.Lines.{HoldsLines}
-use Rattle.site_store.specs.Kept.{on_disk, IsTold}
+use Rattle.site_store.proofs.Words.{Retry, HoldsLines, on_disk, IsTold}
 use Rattle.site_store.proofs.Telling.{first_here}
 use Rattle.site_store.proofs.places.check.misplaced_pending.Goals as goal
 

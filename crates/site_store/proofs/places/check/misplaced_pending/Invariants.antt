@@ -1,8 +1,5 @@
 use Rattle.std.proofs.Common.{◌≡◌, ◌≤◌, List, take, IsTrue}
-use Rattle.list_words.specs.Lists.{Each}
-use Rattle.outside.specs.declared.store.DiskName.TheVariants.{Retry}
-use Rattle.log_records.specs.Lines.{ClickLine, HoldsLines, end_from}
-use Rattle.site_store.specs.Kept.{Fits, on_disk}
+use Rattle.site_store.proofs.Words.{Each, Retry, ClickLine, HoldsLines, end_from, Fits, on_disk}
 use Rattle.site_store.proofs.places.check.misplaced_pending.Given as goal
 
 -- the first positions fit

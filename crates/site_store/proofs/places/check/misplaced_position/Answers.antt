@@ -1,7 +1,5 @@
 use Rattle.std.proofs.Common.{◌∙◌, ap, subst, arith, ℕ, min}
-use Rattle.outside.specs.declared.store.DiskName.TheVariants.{Retry}
-use Rattle.site_store.specs.Floors.{IsFloorOf, IsBehindFeed}
-use Rattle.site_store.specs.Kept.{IsStart}
+use Rattle.site_store.proofs.Words.{Retry, IsFloorOf, IsBehindFeed, IsStart}
 use Rattle.site_store.proofs.Boundaries.{start_floor, start_fits, start_some}
 use Rattle.site_store.proofs.Telling.{floor_misfit, first_alone}
 use Rattle.site_store.proofs.places.check.misplaced_position.Goals.{else-floor-position-via-then-floor-position+else-end-gt0, else-floor-position-via-else-floor-position}

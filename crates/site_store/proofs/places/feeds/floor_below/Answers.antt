@@ -1,5 +1,5 @@
 use Rattle.std.proofs.Common.{◌≡◌, ◌∙◌, subst, arith, List, ℕ}
-use Rattle.site_store.specs.Floors.{NoneBetween, IsFloorFrom, IsBehindFeed}
+use Rattle.site_store.proofs.Words.{NoneBetween, IsFloorFrom, IsBehindFeed}
 use Rattle.site_store.proofs.Stretches.{floor_found, floor_lower, floor_none}
 use Rattle.site_store.proofs.places.feeds.floor_below.Goals as goal
 

@@ -1,5 +1,5 @@
 use Rattle.std.proofs.Common.{◌≡◌, ◌≤◌, IsTrue}
-use Rattle.site_store.specs.Floors.{NoneBetween, IsBehindFeed}
+use Rattle.site_store.proofs.Words.{NoneBetween, IsBehindFeed}
 use Rattle.site_store.proofs.places.feeds.floor_below.Given as goal
 
 -- no line feed stands between here and the place

@@ -1,6 +1,5 @@
 use Rattle.std.proofs.Common.{◌≡◌, ◌+◌, ◌∙◌, subst, arith, List, ℕ, take, drop}
-use Rattle.std.proofs.lemmas.List.{length-take}
-use Rattle.site_store.specs.Floors.{NoneBetween, IsFloorFrom, IsBehindFeed}
+use Rattle.site_store.proofs.Words.{length-take, NoneBetween, IsFloorFrom, IsBehindFeed}
 use Rattle.site_store.proofs.Stretches.{floor_stays, none_past, read_stands}
 use Rattle.site_store.proofs.places.feeds.floor_from.Goals as goal
 

@@ -1,5 +1,5 @@
 use Rattle.std.proofs.Common.{◌≡◌, ◌≤◌, ◌-◌, IsTrue}
-use Rattle.site_store.specs.Floors.{IsFloorFrom, IsBehindFeed}
+use Rattle.site_store.proofs.Words.{IsFloorFrom, IsBehindFeed}
 use Rattle.site_store.proofs.places.feeds.floor_from.Given as goal
 
 -- the floor of what was read

@@ -1,5 +1,5 @@
 use Rattle.std.proofs.Common.{inl, [], ◌∷◌, refl, arith}
-use Rattle.outside.specs.declared.store.DiskName.TheVariants.{Offset}
+use Rattle.site_store.proofs.Words.{Offset}
 use Rattle.site_store.proofs.Worked.{no_boundary, no_start}
 use Rattle.site_store.proofs.places.rows.empty_log.Goals as goal
 

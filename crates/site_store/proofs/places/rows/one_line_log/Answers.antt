@@ -1,8 +1,7 @@
 use Rattle.std.proofs.Common.{inl, inr, ⊎_elim, [], ◌∷◌, refl, arith}
 use Rattle.std.specs.Fmt.{digits}
+use Rattle.site_store.proofs.Words.{one_click, Retry}
 use Rattle.event_id.specs.EventId.{spell, dotted}
-use Rattle.log_records.specs.Rows.{one_click}
-use Rattle.outside.specs.declared.store.DiskName.TheVariants.{Retry}
 use Rattle.site_store.proofs.Worked.{one_boundary, one_start}
 use Rattle.site_store.proofs.places.rows.one_line_log.Goals as goal
 

@@ -1,7 +1,6 @@
 use Rattle.std.proofs.Common.{◌≡◌, ◌++◌, drop}
 use Rattle.std.specs.Prelude.{flat_map}
-use Rattle.site_store.specs.Reading.{notes_at, pairs_at}
-use Rattle.site_store.specs.Records.{kept_all}
+use Rattle.site_store.proofs.Words.{notes_at, pairs_at, kept_all}
 use Rattle.site_store.proofs.reading.copies.journals_of.Given as goal
 
 abbrev pub invariant-loop-disk : goal.invariant-loop-disk

@@ -1,7 +1,6 @@
 use Rattle.std.proofs.Common.{◌∙◌, sym, ap}
 use Rattle.std.specs.Prelude.{flat_map}
-use Rattle.site_store.specs.Reading.{notes_at, pairs_at}
-use Rattle.site_store.specs.Records.{kept_all}
+use Rattle.site_store.proofs.Words.{notes_at, pairs_at, kept_all}
 use Rattle.site_store.proofs.reading.store.kept_in.Goals as goal
 
 pub returns : goal.returns

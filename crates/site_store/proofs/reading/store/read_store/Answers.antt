@@ -1,4 +1,4 @@
-use Rattle.site_store.specs.Records.{values_of}
+use Rattle.site_store.proofs.Words.{values_of}
 use Rattle.site_store.proofs.Lending.{stays_as}
 use Rattle.site_store.proofs.Report.{ok_read, read_tells}
 use Rattle.site_store.proofs.Blank.{read_nothing}

@@ -1,5 +1,5 @@
 use Rattle.std.proofs.Common.{arith}
-use Rattle.verify_pass.specs.Chosen.{group_in}
+use Rattle.verify_pass.proofs.Words.{group_in}
 use Rattle.verify_pass.proofs.Groups.{ends_keep}
 use Rattle.verify_pass.proofs.chosen.Chosen.keep.Goals as goal
 

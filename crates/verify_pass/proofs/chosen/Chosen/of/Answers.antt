@@ -1,10 +1,5 @@
 use Rattle.std.proofs.Common.{◌≡◌, ◌+◌, ℕ, List, [], ◌∷◌, ◌++◌, take, length, ap, sym, ◌∙◌, arith}
-use Rattle.std.proofs.lemmas.List.{take_more, take_all, length-take-le}
-use Rattle.ballot_core.specs.declared.Ballot.{Ballot}
-use Rattle.registry_state.specs.declared.Batch.{Batch}
-use Rattle.paxos_acceptor.specs.declared.notes.ReplicaNote.{ReplicaNote}
-use Rattle.verify_pass.specs.Groups.{casts, casts_from}
-use Rattle.verify_pass.specs.Chosen.{batch_in, group_at}
+use Rattle.verify_pass.proofs.Words.{take_more, take_all, length-take-le, Ballot, Batch, ReplicaNote, casts, casts_from, batch_in, group_at}
 use Rattle.verify_pass.proofs.Groups.{casts_push, picked_is}
 use Rattle.verify_pass.proofs.chosen.Chosen.of.Goals as goal
 

@@ -1,7 +1,5 @@
 use Rattle.std.proofs.Common.{◌≡◌, length, take}
-use Rattle.paxos_defs.specs.declared.Place.{Place}
-use Rattle.verify_pass.specs.Groups.{casts_from}
-use Rattle.verify_pass.specs.Chosen.{casts_at, EndsBy}
+use Rattle.verify_pass.proofs.Words.{Place, casts_from, casts_at, EndsBy}
 use Rattle.verify_pass.proofs.chosen.Chosen.of.Given as goal
 
 -- the replicas so far are taken in

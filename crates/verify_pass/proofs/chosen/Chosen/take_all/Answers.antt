@@ -1,10 +1,5 @@
 use Rattle.std.proofs.Common.{ℕ, List, [], ◌∷◌, ◌++◌, take, ap, sym, ◌∙◌, append_assoc, arith}
-use Rattle.std.proofs.lemmas.List.{take_more}
-use Rattle.ballot_core.specs.declared.Ballot.{Ballot}
-use Rattle.registry_state.specs.declared.Batch.{Batch}
-use Rattle.paxos_acceptor.specs.declared.notes.ReplicaNote.{ReplicaNote}
-use Rattle.verify_pass.specs.Groups.{casts}
-use Rattle.verify_pass.specs.Chosen.{casts_at}
+use Rattle.verify_pass.proofs.Words.{take_more, Ballot, Batch, ReplicaNote, casts, casts_at}
 use Rattle.verify_pass.proofs.Groups.{notes_push}
 use Rattle.verify_pass.proofs.chosen.Chosen.take_all.Goals as goal
 

@@ -1,7 +1,5 @@
 use Rattle.std.proofs.Common.{◌≡◌, ◌++◌, take}
-use Rattle.paxos_defs.specs.declared.Place.{Place}
-use Rattle.verify_pass.specs.Groups.{casts}
-use Rattle.verify_pass.specs.Chosen.{casts_at, EndsBy}
+use Rattle.verify_pass.proofs.Words.{Place, casts, casts_at, EndsBy}
 use Rattle.verify_pass.proofs.chosen.Chosen.take_all.Given as goal
 
 -- the notes so far are taken in

@@ -1,14 +1,6 @@
 use Rattle.std.proofs.Common.{◌∷◌, [], ◌++◌, ℕ, List, ap, sym, ◌∙◌}
 use Rattle.std.specs.Prelude.{map}
-use Rattle.std.proofs.lemmas.List.{append-nil}
-use Rattle.std.proofs.lemmas.Result.{on_ok_weaker}
-use Rattle.ballot_core.specs.declared.Ballot.{Ballot}
-use Rattle.registry_state.specs.declared.Batch.{Batch}
-use Rattle.paxos_acceptor.specs.Cells.{place_of}
-use Rattle.paxos_acceptor.specs.declared.notes.ReplicaNote.{ReplicaNote}
-use Rattle.paxos_defs.specs.Notes.{is_place}
-use Rattle.verify_pass.specs.Groups.{cast_of, casts}
-use Rattle.verify_pass.specs.Chosen.{casts_at, group_at}
+use Rattle.verify_pass.proofs.Words.{append-nil, on_ok_weaker, Ballot, Batch, place_of, ReplicaNote, is_place, cast_of, casts, casts_at, group_at}
 use Rattle.verify_pass.proofs.Groups.{promised_none, accepted_one, group_push}
 use Rattle.verify_pass.proofs.chosen.Chosen.take_note.Goals as goal
 

@@ -1,10 +1,5 @@
 use Rattle.std.proofs.Common.{List, [], ◌∷◌, ◌++◌, map, take, ap, sym, ◌∙◌, arith}
-use Rattle.std.specs.List.{fold}
-use Rattle.std.proofs.lemmas.List.{take_more}
-use Rattle.paxos_acceptor.specs.Cells.{note_view}
-use Rattle.paxos_acceptor.specs.declared.notes.ReplicaNote.{ReplicaNote}
-use Rattle.verify_pass.specs.declared.starts.Latest.{Latest}
-use Rattle.verify_pass.specs.TooSoon.{batches_in, batches_of, taken}
+use Rattle.verify_pass.proofs.Words.{fold, take_more, note_view, ReplicaNote, Latest, batches_in, batches_of, taken}
 use Rattle.verify_pass.proofs.Starting.{notes_more}
 use Rattle.verify_pass.proofs.starts.Latest.take_all.Goals as goal
 

@@ -1,7 +1,5 @@
 use Rattle.std.proofs.Common.{◌≡◌, map, take}
-use Rattle.std.specs.List.{fold}
-use Rattle.paxos_acceptor.specs.Cells.{note_view}
-use Rattle.verify_pass.specs.TooSoon.{batches_in, taken}
+use Rattle.verify_pass.proofs.Words.{fold, note_view, batches_in, taken}
 use Rattle.verify_pass.proofs.starts.Latest.take_all.Given as goal
 
 abbrev pub invariant-loop-note : goal.invariant-loop-note

@@ -1,11 +1,6 @@
 use Rattle.std.proofs.Common.{List, [], ◌∷◌, ◌++◌, take, ap, sym, ◌∙◌, arith}
 use Rattle.std.specs.Prelude.{Option}
-use Rattle.std.specs.List.{flat_map}
-use Rattle.std.proofs.lemmas.List.{take_more}
-use Rattle.event_id.specs.EventId.{is_same as same_id}
-use Rattle.registry_state.specs.LookBack.{or_else}
-use Rattle.turn_defs.specs.declared.pair.PairRec.{PairRec}
-use Rattle.verify_pass.specs.Classes.{first_pair}
+use Rattle.verify_pass.proofs.Words.{flat_map, take_more, same_id, or_else, PairRec, first_pair}
 use Rattle.verify_pass.proofs.Pushes.{flat_push}
 use Rattle.verify_pass.proofs.written.Written.of.Goals as goal
 

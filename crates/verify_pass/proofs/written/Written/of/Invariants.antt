@@ -1,8 +1,5 @@
 use Rattle.std.proofs.Common.{◌≡◌, take}
-use Rattle.std.specs.List.{flat_map}
-use Rattle.event_id.specs.declared.id.EventId.{EventId}
-use Rattle.verify_pass.specs.Classes.{first_pair}
-use Rattle.verify_pass.specs.Written.{pair_at}
+use Rattle.verify_pass.proofs.Words.{flat_map, EventId, first_pair, pair_at}
 use Rattle.verify_pass.proofs.written.Written.of.Given as goal
 
 -- the logs so far are taken in

@@ -1,11 +1,6 @@
 use Rattle.std.proofs.Common.{List, [], ◌∷◌, ◌++◌, take, ap, sym, ◌∙◌, arith}
 use Rattle.std.specs.Prelude.{Option}
-use Rattle.std.proofs.lemmas.List.{take_more}
-use Rattle.event_id.specs.EventId.{is_same as same_id}
-use Rattle.registry_state.specs.LookBack.{or_else}
-use Rattle.turn_defs.specs.declared.pair.PairRec.{PairRec}
-use Rattle.verify_pass.specs.Classes.{first_pair}
-use Rattle.verify_pass.specs.Written.{pair_at}
+use Rattle.verify_pass.proofs.Words.{take_more, same_id, or_else, PairRec, first_pair, pair_at}
 use Rattle.verify_pass.proofs.Pushes.{find_append, or_or}
 use Rattle.verify_pass.proofs.written.Written.take_all.Goals as goal
 

@@ -1,8 +1,5 @@
 use Rattle.std.proofs.Common.{◌≡◌, take}
-use Rattle.event_id.specs.declared.id.EventId.{EventId}
-use Rattle.registry_state.specs.LookBack.{or_else}
-use Rattle.verify_pass.specs.Classes.{first_pair}
-use Rattle.verify_pass.specs.Written.{pair_at}
+use Rattle.verify_pass.proofs.Words.{EventId, or_else, first_pair, pair_at}
 use Rattle.verify_pass.proofs.written.Written.take_all.Given as goal
 
 -- the pairs so far are taken in

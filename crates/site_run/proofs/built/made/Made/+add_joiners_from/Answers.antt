@@ -1,9 +1,5 @@
-use Rattle.std.proofs.Common.{rules, ◌≡◌, ℕ, suc, ◌+◌, ◌*◌, [], length, ap, subst, sym, ◌∙◌, arith}
-use Rattle.std.specs.Vec.Iter.{into_iter_items}
-use Rattle.std.proofs.lemmas.List.Sorted.{IsPermutation-refl, IsPermutation-trans}
-use Rattle.site_store.specs.Records.{Says}
-use Rattle.site_node.specs.Rosters.{IsOf}
-use Rattle.site_run.specs.Naming.{IsLess, joiner_disks}
+use Rattle.std.proofs.Common.{rules, ◌≡◌, ◌+◌, ◌*◌, length, ap, subst, sym, ◌∙◌, arith}
+use Rattle.site_run.proofs.Words.{IsPermutation-refl, IsPermutation-trans, Says, IsOf}
 use Rattle.site_run.proofs.Lists.{front_each, front_one, no_ones}
 use Rattle.site_run.proofs.Taken.{joiners_more, joiners_none, joiners_there, less_each}
 use Rattle.site_run.proofs.built.made.Made.+add_joiners_from.Goals as goal

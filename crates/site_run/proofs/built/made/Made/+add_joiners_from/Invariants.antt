@@ -1,5 +1,5 @@
 use Rattle.std.proofs.Common.{length}
-use Rattle.std.specs.Vec.Iter.{into_iter_items}
+use Rattle.site_run.proofs.Words.{into_iter_items}
 use Rattle.site_run.proofs.built.made.Made.+add_joiners_from.Given as goal
 
 abbrev pub decreases-add_joiners_from : goal.decreases-add_joiners_from

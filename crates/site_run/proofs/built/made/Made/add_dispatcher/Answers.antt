@@ -1,7 +1,6 @@
 use Rattle.std.proofs.Common.{sym, subst, ap, ◌∙◌}
+use Rattle.site_run.proofs.Words.{AreKeptPlaces, Says}
 use Rattle.outside.specs.declared.store.DiskName.TheVariants as name
-use Rattle.dispatch_node.specs.Places.{AreKeptPlaces}
-use Rattle.site_store.specs.Records.{Says}
 use Rattle.site_run.proofs.Lending.{as_given}
 use Rattle.site_run.proofs.Placing.{dispatcher_at}
 use Rattle.site_run.proofs.Taken.{dispatcher_said, less_each, less_more, less_one, moved_two, offset_said, pair_lent, pending_said, taken_says}

@@ -1,6 +1,5 @@
 use Rattle.std.proofs.Common.{◌≡◌, refl, ap, ◌∙◌, sym}
-use Rattle.site_store.specs.Records.{Says}
-use Rattle.site_laws.specs.Stores.{joiner_of}
+use Rattle.site_run.proofs.Words.{Says, joiner_of}
 use Rattle.site_run.proofs.Placing.{joiner_at, is_joiner}
 use Rattle.site_run.proofs.Lending.{as_given, joiner_lent}
 use Rattle.site_run.proofs.Taken.{joiner_number, joiner_said, less_each, less_more, less_one, moved_two, pair_lent, taken_says}

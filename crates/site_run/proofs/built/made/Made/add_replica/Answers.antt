@@ -1,5 +1,5 @@
 use Rattle.std.proofs.Common.{[], ◌∷◌, ap, sym, ◌∙◌, arith}
-use Rattle.site_store.specs.Records.{Says}
+use Rattle.site_run.proofs.Words.{Says}
 use Rattle.site_run.proofs.Lending.{as_given}
 use Rattle.site_run.proofs.Placing.{replica_at}
 use Rattle.site_run.proofs.Taken.{less_one, lent_is, moved_one, replica_lent, replica_said, taken_says}

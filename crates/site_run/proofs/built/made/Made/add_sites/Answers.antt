@@ -1,11 +1,5 @@
-use Rattle.std.proofs.Common.{sym, subst, ap, ◌∙◌, refl, drop, length, arith}
-use Rattle.std.proofs.lemmas.List.Sorted.{IsPermutation-trans}
-use Rattle.site_node.specs.Rosters.{IsOf}
-use Rattle.registry_server.specs.Cores.{IsNew}
-use Rattle.site_store.specs.Records.{OpenView, Says}
-use Rattle.list_words.specs.Lists.{Each}
-use Rattle.dispatch_node.specs.Places.{IsLogOf}
-use Rattle.site_run.specs.Naming.{site_disks}
+use Rattle.std.proofs.Common.{sym, subst, ◌∙◌, refl, drop, arith}
+use Rattle.site_run.proofs.Words.{IsPermutation-trans, IsOf, IsNew, OpenView, Says, site_disks}
 use Rattle.site_run.proofs.Lists.{front_each, two_ones_of}
 use Rattle.site_run.proofs.Taken.{less_each, less_more, still}
 use Rattle.site_run.proofs.built.made.Made.add_sites.Goals as goal

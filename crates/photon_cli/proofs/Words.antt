@@ -1,0 +1,128 @@
+-- The words of this crate's proofs: what they take from its definitions and from the crates below, under one name each.
+pub use Rattle.air_bus.specs.History.{IsAired, is_of}
+pub use Rattle.air_bus.specs.Kept.{is_stop_from}
+pub use Rattle.air_bus.specs.declared.entry.Entry.{Entry}
+pub use Rattle.air_bus.specs.declared.entry.Entry.TheVariants.{Begin, End, Stop}
+pub use Rattle.bus_seat.specs.Seats.{IsIn}
+pub use Rattle.clap.specs.Faults.{fault_of}
+pub use Rattle.clap.specs.Simple.{subcommand_of}
+pub use Rattle.clap.specs.Walk.{Row}
+pub use Rattle.command_words.proofs.Levels.{plain_gives}
+pub use Rattle.command_words.proofs.Read.{same_command}
+pub use Rattle.command_words.proofs.Walks.{first_given, one_given, pair_rows}
+pub use Rattle.command_words.specs.Clap.{number_in, photon_app, text_in}
+pub use Rattle.command_words.specs.Words.{AreBulkValues, AreValues, AskFor, BulkValues, IsFound, IsPlain, IsRefusedBy, Pairs, Text, Values, Wish, a_bulk_run, a_drill, a_join, a_verification, bulk_values, command_of, given, name_of, texts, values_in, wish_of}
+pub use Rattle.command_words.specs.declared.asked.WordsFault.{WordsFault}
+pub use Rattle.dispatch_node.specs.Places.{IsLogOf}
+pub use Rattle.event_id.specs.declared.id.EventId.{EventId}
+pub use Rattle.gate_journal.proofs.Growth.{continues_same}
+pub use Rattle.gate_journal.specs.Images.{GoesOn, StaysAs}
+pub use Rattle.list_words.proofs.Lists.{some_same}
+pub use Rattle.list_words.proofs.Splits.{lacks_none, split_same}
+pub use Rattle.list_words.specs.Bytes.{Lacks}
+pub use Rattle.log_records.proofs.FirstPlaces.{found, length-one, none_found}
+pub use Rattle.log_records.proofs.Places.{lines_follow}
+pub use Rattle.log_records.proofs.Reading.{clicks_same, one_more, queries_same}
+pub use Rattle.log_records.proofs.WholeLogs.{clicks_found, clicks_right, queries_found, queries_right}
+pub use Rattle.log_records.specs.Check.{AfterWhy, IsClickLog, IsLog, IsQueryLog, NextWhy, RefusesClick, RefusesQuery, limit}
+pub use Rattle.log_records.specs.FirstPlaces.{Keeps, Places, first_place, place_at, seen_of}
+pub use Rattle.log_records.specs.Line.{IsClick, IsQuery, OrMemory, click_line, query_line}
+pub use Rattle.log_records.specs.Lines.{ClickLine, end_from, placed}
+pub use Rattle.log_records.specs.Log.{AreRecords, HoldsClicks, HoldsQueries, line_feed, whole}
+pub use Rattle.log_records.specs.Report.{distinct, is_missing, text_of, totals}
+pub use Rattle.log_records.specs.declared.check.BadLine.{BadLine}
+pub use Rattle.log_records.specs.declared.records.ClickRec.{ClickRec}
+pub use Rattle.log_records.specs.declared.records.QueryRec.{QueryRec}
+pub use Rattle.log_records.specs.declared.report.ReportLine.{ReportLine}
+pub use Rattle.log_records.specs.declared.report.ReportLine.TheVariants.{U}
+pub use Rattle.log_records.specs.declared.why.Why.{Why}
+pub use Rattle.lossy_link.specs.Fates.{PlanView}
+pub use Rattle.lossy_link.specs.Outcome.{Outcome, bad, good}
+pub use Rattle.lossy_link.specs.Plans.{HasOutcome, IsFault, IsFirstBad, IsPlanOf, a_value, no_text, size_limit, too_long}
+pub use Rattle.lossy_link.specs.declared.bad_plan.Field.{Field}
+pub use Rattle.lossy_link.specs.declared.plan.DiskKind.{DiskKind}
+pub use Rattle.lossy_link.specs.declared.plan.PlanStop.{PlanStop}
+pub use Rattle.mem_outside.specs.Files.{bytes_under}
+pub use Rattle.mem_outside.specs.Kept.{ImageIn, disk_of, fuses_for, same_name}
+pub use Rattle.mem_outside.specs.Past.{IsImage}
+pub use Rattle.mem_outside.specs.declared.disk.Fuse.{Fuse}
+pub use Rattle.mem_outside.specs.declared.disk.MemDisk.{MemDisk}
+pub use Rattle.outside.specs.Disk.{Torn}
+pub use Rattle.outside.specs.Faults.{Counts, Rose, added}
+pub use Rattle.outside.specs.declared.faults.ReadFault.{ReadFault}
+pub use Rattle.outside.specs.declared.faults.StoreFault.{StoreFault}
+pub use Rattle.outside.specs.declared.store.DiskName.{DiskName}
+pub use Rattle.paxos_acceptor.specs.Cells.{note_view}
+pub use Rattle.photon_cli.specs.Again.{AreCalls, AreOutputOnce, Call, IsLater, setting_after, store_after}
+pub use Rattle.photon_cli.specs.Bulk.{IsBulkRun, IsBulkSetting, bulk_plan}
+pub use Rattle.photon_cli.specs.Causes.{CanBeRead, HasCauseInVerify, IsOverLog, unasked}
+pub use Rattle.photon_cli.specs.CheckedLogs.{AreLines, EndsAt, IsChecked, kept}
+pub use Rattle.photon_cli.specs.Drill.{Drills, IsBadIn, IsDrilled}
+pub use Rattle.photon_cli.specs.Ends.{BulkEnds, DrillEnds, Ends, JoinEnds, VerifyEnds}
+pub use Rattle.photon_cli.specs.Faults.{words_status}
+pub use Rattle.photon_cli.specs.Join.{AreLogs, AreValid, HasIds, IsAsked, IsHeard, IsHistory, IsInvalid, Refuses, config_of, no_plan}
+pub use Rattle.photon_cli.specs.LogFaults.{IsBeforeLogs, IsEarly, IsFailedRead, IsLogFault, IsOfBulk, IsOfJoin, IsOfLogs, IsOfPlanOrLogs, IsOfRun, IsOfVerify, IsPast, IsPlanFault, failed_read, refusal, refusal_of}
+pub use Rattle.photon_cli.specs.Planned.{fuse_of, is_at, is_for, is_joiners, named_by, place_of, planned_for, same_kind}
+pub use Rattle.photon_cli.specs.ReadLines.{AtEnd, IsStep, SoFar, WrongNext}
+pub use Rattle.photon_cli.specs.Told.{IsNamed, IsNamedInBulk, IsNamedInDrill, IsNamedInVerify}
+pub use Rattle.photon_cli.specs.Verify.{IsReadFrom, IsReadable, IsTold, IsUnreadable, PrintsKept}
+pub use Rattle.photon_cli.specs.Words.{ArePlain, AreReadAs, AreRefused, HasTable, IsTextOf}
+pub use Rattle.photon_cli.specs.declared.log_check.check.CheckFault.{CheckFault}
+pub use Rattle.photon_cli.specs.declared.log_check.lines.Lines.{Lines}
+pub use Rattle.photon_cli.specs.declared.log_check.step.Step.{Step}
+pub use Rattle.photon_model.specs.EveryRun.{AfterEveryRun}
+pub use Rattle.photon_model.specs.Headline.{IsOutputOnce}
+pub use Rattle.photon_model.specs.Stores.{ReadIsChecked}
+pub use Rattle.photon_model.specs.Topology.{Store}
+pub use Rattle.registry_state.specs.Same.{same_batch}
+pub use Rattle.report_text.specs.Stream.{TookPrefix}
+pub use Rattle.run_fault.specs.Causes.{IsWelcome}
+pub use Rattle.run_fault.specs.Faults.{message, of_place, status_of}
+pub use Rattle.run_fault.specs.declared.fault.LogName.{LogName}
+pub use Rattle.run_fault.specs.declared.fault.LogName.TheVariants.{Clicks, Queries}
+pub use Rattle.run_fault.specs.declared.fault.Mismatch.{Mismatch}
+pub use Rattle.run_fault.specs.declared.fault.Misplaced.{Misplaced}
+pub use Rattle.run_fault.specs.declared.fault.RunFault.{RunFault}
+pub use Rattle.run_fault.specs.declared.fault.StorePlace.{StorePlace}
+pub use Rattle.site_laws.specs.Laws.{made_by}
+pub use Rattle.site_laws.specs.StoreLaws.{HoldSameRecords, LongerStaysSound, SameIsSound}
+pub use Rattle.site_laws.specs.Stores.{AreLeft, Images, IsSoundStore}
+pub use Rattle.site_run.proofs.Counting.{rose_before}
+pub use Rattle.site_run.proofs.Entered.{counted_more, welcome_where}
+pub use Rattle.site_run.proofs.Outing.{goes_on_through, goes_on_within, stays_goes_on}
+pub use Rattle.site_run.proofs.Refusing.{kept_are_journals}
+pub use Rattle.site_run.specs.Asked.{IsSettingOf}
+pub use Rattle.site_run.specs.Joined.{RanAfresh}
+pub use Rattle.site_run.specs.Left.{RestLeft, RunLeft}
+pub use Rattle.site_run.specs.Refused.{TellsPlaces, asked_of}
+pub use Rattle.site_run.specs.declared.ran.RunLog.{RunLog}
+pub use Rattle.site_store.proofs.Causes.{cause_more, failed_rose, passed_more, unread_rose}
+pub use Rattle.site_store.specs.Causes.{AreTold, HasCause, HasFailed, HasPassed as PassesFor, IsCause, IsUnread, first_limit}
+pub use Rattle.site_store.specs.Leaving.{IsAsked as HasTopology}
+pub use Rattle.site_store.specs.Misfits.{IsFitFor}
+pub use Rattle.site_store.specs.Reading.{IsRead}
+pub use Rattle.site_store.specs.Records.{KeptDisk, KeptValues}
+pub use Rattle.site_store.specs.Telling.{Tells}
+pub use Rattle.site_store.specs.declared.reading.kept.KeptStore.{KeptStore}
+pub use Rattle.site_workers.specs.Works.{is_stop}
+pub use Rattle.std.proofs.Math.Seq.{take-add, take-append-add}
+pub use Rattle.std.proofs.lemmas.Bool.{cases_Bool, cases_lt, eqb-true}
+pub use Rattle.std.proofs.lemmas.Bool.Decides.{Decides-eqb, nat_tests}
+pub use Rattle.std.proofs.lemmas.List.{append-nil, drop-take, drop_at, drop_more, length-append, length-map, length-take, length-take-le, map-append, map_push, take-append-drop, take-append-le, take-take, take_all, take_at}
+pub use Rattle.std.proofs.lemmas.List.Elements.{Contains-append_right, Contains-push_cases}
+pub use Rattle.std.proofs.lemmas.Result.{IfOk-weaker, err_from_is_err_and}
+pub use Rattle.std.proofs.lemmas.Slice.Eq.{slice_eq-Decides}
+pub use Rattle.std.specs.List.{All, AllByRecursion, flat_map, list_any}
+pub use Rattle.std.specs.Option.{IfSome, IsSomeAnd}
+pub use Rattle.std.specs.Result.{IfOk}
+pub use Rattle.tail_reader.specs.Buffered.{behind}
+pub use Rattle.tail_reader.specs.Next.{IsNext}
+pub use Rattle.time_shards.proofs.Texts.{none_bad, only_table}
+pub use Rattle.time_shards.specs.Shards.{IsTable, shard_of}
+pub use Rattle.time_shards.specs.declared.ShardRow.{ShardRow}
+pub use Rattle.topology_journal.specs.Topologies.{Keeps as KeepsTopology}
+pub use Rattle.topology_journal.specs.declared.topology.Topology.{Topology, Topology as KeptTopology}
+pub use Rattle.turn_defs.specs.Setting.{Checked, Setting}
+pub use Rattle.turn_defs.specs.declared.pair.PairRec.{PairRec}
+pub use Rattle.verify_pass.specs.Classes.{first_pair, line_by, line_of}
+pub use Rattle.verify_pass.specs.declared.journals.Journals.{Journals}
