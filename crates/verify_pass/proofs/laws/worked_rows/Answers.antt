@@ -1,5 +1,6 @@
 use Rattle.std.proofs.Common.{◌≡◌, Bool, List, map, refl, ap, ◌∙◌}
-use Rattle.verify_pass.proofs.Words.{flat_map, decided, same_batch, note_view, ReplicaNote, PairRec, ReportLine, one_click, first_pair, line_by, is_missing_by, Says}
+use Rattle.verify_pass.proofs.Words.{flat_map, same_batch, note_view, ReplicaNote, PairRec, ReportLine, one_click, first_pair, line_by, is_missing_by, Says}
+use Rattle.paxos_defs.specs.Decided.{decided}
 use Rattle.verify_pass.proofs.laws.worked_rows.Goals as goal
 
 -- of lists of notes and pairs
