@@ -18,7 +18,7 @@ pub fn next_row<'a>(rows: &[ShardRow], text: &'a [u8]) -> Option<(ShardRow, Opti
     ensures none { IfNone result ((row : Row) → HasFirst text.now row → BeginsTable (rows.now ++ row ∷ []) → ⊥) }
 {
     let (text, behind) = cut(text);
-    let row = read_row(text)?;
+    let row = ShardRow::read(text)?;
     if goes_on(rows, row) {
         Some((row, behind))
     } else {
@@ -50,17 +50,22 @@ fn goes_on(rows: &[ShardRow], row: ShardRow) -> bool
     }
 }
 
-fn read_row(text: &[u8]) -> Option<ShardRow>
-    ensures found { IfSome result (λ row. IsRow row × (text.now ≡ row_text row)) }
-    ensures only { (row : Row) → IsRow row → text.now ≡ row_text row → result ≡ Some row }
-{
-    let (start, count) = split_once(text, b':')?;
-    let start = number(start, u64::MAX)?;
-    let count = number(count, u64::from(MAX_SHARDS))? as u8;
-    if count > 0 {
-        Some(ShardRow { start, count })
-    } else {
-        None
+impl ShardRow {
+    /// Reads the text of a row, all of the bytes: `start:count`, in decimal without leading zeros.
+    ///
+    /// Linear in the text; it allocates nothing.
+    pub fn read(text: &[u8]) -> Option<ShardRow>
+        ensures found { IfSome result (λ row. IsRow row × (text.now ≡ row_text row)) }
+        ensures only { (row : Row) → IsRow row → text.now ≡ row_text row → result ≡ Some row }
+    {
+        let (start, count) = split_once(text, b':')?;
+        let start = number(start, u64::MAX)?;
+        let count = number(count, u64::from(MAX_SHARDS))? as u8;
+        if count > 0 {
+            Some(ShardRow { start, count })
+        } else {
+            None
+        }
     }
 }
 

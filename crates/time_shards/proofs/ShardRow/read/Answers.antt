@@ -3,7 +3,7 @@ use Rattle.std.proofs.lemmas.Option.{same_Some}
 use Rattle.event_id.specs.EventId.{colon}
 use Rattle.event_id.proofs.Numerals.{none_is_some, decimal_lacks}
 use Rattle.time_shards.proofs.Texts.{row_is, row_joins, some_row}
-use Rattle.time_shards.proofs.text.read_row.Goals as goal
+use Rattle.time_shards.proofs.ShardRow.read.Goals as goal
 
 pub returns-in_err-start-clause-only : goal.returns-in_err-start-clause-only
 returns-in_err-start-clause-only c row is e =
