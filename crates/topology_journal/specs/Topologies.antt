@@ -1,5 +1,5 @@
 -- Records of topologies.
-use Rattle.std.specs.Prelude.{◌≡◌, ℕ, zero, suc, ◌+◌, ◌*◌, ◌≤◌, List, [], ◌∷◌, ◌++◌, length, drop, slice_index, Bool, true, false, ◌&&◌, ◌==◌, nat_le, if◌then◌else◌, Option, None, Some}
+use Rattle.std.specs.Prelude.{◌≡◌, ℕ, zero, suc, ◌+◌, ◌*◌, ◌≤◌, List, [], ◌∷◌, ◌++◌, length, drop, slice_index, Bool, true, false, ◌&&◌, ◌==◌, nat_le, if◌then◌else◌, Option, None, Some, IfSome}
 use Rattle.std.specs.List.{flat_map}
 use Rattle.std.specs.Int.{from_be_bytes, to_be_bytes, w64}
 use Rattle.std.specs.Option.{option_map}
@@ -43,7 +43,7 @@ record_of version t = 1 ∷ version ∷ t.joiners ∷ length t.table ∷ rows_by
 
 -- a record as it is written
 abbrev pub topology_record : Topology → List ℕ
-topology_record t = record_of 1 t
+topology_record t = record_of 2 t
 
 -- the most bytes that a topology's record has
 abbrev pub longest : ℕ
@@ -103,13 +103,9 @@ topologies = record { start = None; next = λ kept bytes. option_map (λ (t : To
 abbrev pub Keeps : Option Topology → List ℕ → Type 0
 Keeps = of.Keeps (folds_to topologies)
 
--- none, or the new one
-abbrev pub KeepsOr : Topology → List ℕ → Type 0
-KeepsOr new = of.KeepsOr (folds_to topologies) None (Some new)
-
--- a topology may come where none is kept
+-- a topology may come where none is kept, and behind the kept one where it has a row more
 abbrev pub MayCome : Option Topology → Topology → Type 0
-MayCome kept t = (kept ≡ None) × IsTopology t
+MayCome kept t = IfSome kept (λ k. is_longer k t ≡ true) × IsTopology t
 
 -- it is damaged at a place by its gates, or else at that of the first record that may not come next
 abbrev pub IsDamagedAt : List ℕ → ℕ → Type 0

@@ -1,6 +1,6 @@
 -- The record of a topology that may come next.
 use Rattle.std.proofs.Common.{◌≡◌, ℕ, ◌*◌, ◌<◌, ◌≤◌, ◌^◌, List, [], ◌∷◌, ◌++◌, length, refl, ap, ◌∙◌, arith, Ok, Option, None, Some, Bool, true}
-use Rattle.std.specs.Prelude.{if◌then◌else◌}
+use Rattle.std.specs.Prelude.{IfSome, if◌then◌else◌}
 use Rattle.std.specs.Option.{option_map}
 use Rattle.std.specs.Coded.{Coded, code_by, coded×, coded_list, coded_option, coded_ℕ}
 use Rattle.std.proofs.lemmas.Bool.Decides.{nat_tests}
@@ -12,7 +12,7 @@ use Rattle.time_shards.proofs.Deciding.{table_is}
 use Rattle.gate_journal.specs.Fold.{folds_to}
 use Rattle.gate_journal.specs.FoldLaws as folds
 use Rattle.topology_journal.specs.declared.topology.Topology.{Topology}
-use Rattle.topology_journal.specs.Topologies.{topology_of, IsTopology, row_bytes, rows_bytes, record_of, topology_record, longest, row_in, rows_in, has_front, read_as_table, read_in, follows_read, next_topology, topologies, MayCome}
+use Rattle.topology_journal.specs.Topologies.{topology_of, IsTopology, row_bytes, rows_bytes, record_of, topology_record, longest, row_in, rows_in, has_front, read_as_table, read_in, is_longer, follows, follows_read, topologies, MayCome}
 
 coded_row : Coded ShardRow
 coded_row = code_by (ℕ × ℕ) (coded× coded_ℕ coded_ℕ) (λ r. (r.start, r.count)) (λ x. record { start = x.0; count = x.1 }) (λ _. refl)
@@ -62,5 +62,8 @@ reads_back version t first last is =
 pub comes_next : (kept : Option Topology) (t : Topology) (ps : List (List ℕ)) → MayCome kept t → folds_to topologies kept (Ok ps) → folds_to topologies (Some t) (Ok (ps ++ topology_record t ∷ []))
 comes_next kept t ps may is =
     folds.comes_next topologies ps kept (Some t) (topology_record t) is
-    (ap (λ (o : Option Topology). option_map (λ (u : Topology). Some u) (next_topology o (topology_record t))) may.0
-    ∙ ap (λ (o : Option (ℕ × Topology)). option_map (λ (u : Topology). Some u) (follows_read None o)) (reads_back 1 t (omega arith) (omega arith) may.1))
+    (ap (λ (o : Option (ℕ × Topology)). option_map (λ (u : Topology). Some u) (follows_read kept o)) (reads_back 2 t (omega arith) (omega arith) may.1) ∙ ap (option_map (λ (u : Topology). Some u)) (follows_so kept may.0))
+  where
+    follows_so : (o : Option Topology) → IfSome o (λ k. is_longer k t ≡ true) → follows o (2, t) ≡ Some t
+    follows_so None h = refl
+    follows_so (Some k) h = ap (λ (b : Bool). if b then Some t else None) h

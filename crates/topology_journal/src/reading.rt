@@ -4,7 +4,7 @@ ghost use Rattle.topology_journal.specs.Topologies.{HasJoiners, follows as comes
 
 use crate::Topology;
 use crate::tables::{has_rows, read_rows, table_of};
-use crate::topology::{LAST_VERSION, MAX_JOINERS, TAG};
+use crate::topology::{MAX_JOINERS, TAG, VERSION};
 use std::alloc::{AllocError, Global};
 use time_shards::{ShardRow, Table};
 
@@ -51,7 +51,7 @@ fn is_front(payload: &[u8]) -> bool
     payload.len() >= 4
         && payload[0] == TAG
         && payload[1] >= 1
-        && payload[1] <= LAST_VERSION
+        && payload[1] <= VERSION
         && payload[2] >= 1
         && payload[2] <= MAX_JOINERS
         && payload.len() == 4 + 9 * payload[3] as usize
@@ -63,7 +63,7 @@ fn follow(kept: &Option<Topology>, version: u8, topology: Topology) -> Option<To
 {
     match kept {
         Some(kept) => {
-            if version == LAST_VERSION && is_longer(kept, &topology) {
+            if version == VERSION && is_longer(kept, &topology) {
                 Some(topology)
             } else {
                 None

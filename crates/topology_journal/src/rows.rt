@@ -5,14 +5,14 @@ ghost use Rattle.topology_journal.specs.Rows.{a_topology, later, of_other_joiner
 
 /// Two joiners a site, and four shards, eight from 3000 on.
 pub fn records()
-    ensures written { topology_record a_topology ≡ 1 ∷ 1 ∷ 2 ∷ 2 ∷ 0 ∷ 0 ∷ 0 ∷ 0 ∷ 0 ∷ 0 ∷ 0 ∷ 0 ∷ 4 ∷ 0 ∷ 0 ∷ 0 ∷ 0 ∷ 0 ∷ 0 ∷ 11 ∷ 184 ∷ 8 ∷ [] }
-    ensures second { record_of 2 a_topology ≡ 1 ∷ 2 ∷ 2 ∷ 2 ∷ 0 ∷ 0 ∷ 0 ∷ 0 ∷ 0 ∷ 0 ∷ 0 ∷ 0 ∷ 4 ∷ 0 ∷ 0 ∷ 0 ∷ 0 ∷ 0 ∷ 0 ∷ 11 ∷ 184 ∷ 8 ∷ [] }
+    ensures written { topology_record a_topology ≡ 1 ∷ 2 ∷ 2 ∷ 2 ∷ 0 ∷ 0 ∷ 0 ∷ 0 ∷ 0 ∷ 0 ∷ 0 ∷ 0 ∷ 4 ∷ 0 ∷ 0 ∷ 0 ∷ 0 ∷ 0 ∷ 0 ∷ 11 ∷ 184 ∷ 8 ∷ [] }
+    ensures first { record_of 1 a_topology ≡ 1 ∷ 1 ∷ 2 ∷ 2 ∷ 0 ∷ 0 ∷ 0 ∷ 0 ∷ 0 ∷ 0 ∷ 0 ∷ 0 ∷ 4 ∷ 0 ∷ 0 ∷ 0 ∷ 0 ∷ 0 ∷ 0 ∷ 11 ∷ 184 ∷ 8 ∷ [] }
 {}
 
 /// What stands before the rows.
 pub fn fronts()
-    ensures whole { has_front (topology_record a_topology) ≡ true }
-    ensures second { has_front (record_of 2 a_topology) ≡ true }
+    ensures written { has_front (topology_record a_topology) ≡ true }
+    ensures first { has_front (record_of 1 a_topology) ≡ true }
     ensures other_version { has_front (1 ∷ 3 ∷ 2 ∷ 0 ∷ []) ≡ false }
     ensures five_joiners { has_front (1 ∷ 1 ∷ 5 ∷ 0 ∷ []) ≡ false }
     ensures no_joiners { has_front (1 ∷ 1 ∷ 0 ∷ 0 ∷ []) ≡ false }

@@ -10,10 +10,8 @@ use wire_core::Bytes;
 /// The first byte of a record.
 pub(crate) const TAG: u8 = 1;
 
-/// The second byte of a record: the version in which it is written, and the last one that is read.
-pub(crate) const VERSION: u8 = 1;
-
-pub(crate) const LAST_VERSION: u8 = 2;
+/// The second byte of a record: the version in which it is written. A first record is read in version 1 as well.
+pub(crate) const VERSION: u8 = 2;
 
 /// The most joiners of a site.
 pub(crate) const MAX_JOINERS: u8 = 4;
@@ -28,7 +26,7 @@ pub struct Topology {
     pub table: Table,
 }
 
-/// The record of a topology as it is written to its journal: the bytes 01 and 01, the joiners, the number of rows, and of
+/// The record of a topology as it is written to its journal: the bytes 01 and 02, the joiners, the number of rows, and of
 /// each row its start as eight bytes, the high one first, and its count. One allocation.
 pub fn topology_frame(alloc: Global, topology: &Topology) -> Result<Payload, AllocError>
     requires { IsTopology topology.now }
