@@ -9,6 +9,8 @@ pub mod Naming
 pub mod Keeping
 pub mod Nodes
 pub mod Opening
+pub mod SameDisks
+mod AddedRows
 pub mod LongerLogs
 pub mod Running
 pub mod Working

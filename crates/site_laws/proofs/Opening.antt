@@ -1,5 +1,5 @@
 -- What keeps the disks of a store sound: no bytes at all, nothing new, the topology's record, and what is read from them.
-use Rattle.std.proofs.Common.{◌≡◌, ◌≢◌, ⊎_elim, ℕ, Bool, List, [], Option, Some, None, refl, sym, ◌∙◌, ap, subst}
+use Rattle.std.proofs.Common.{◌≡◌, ◌≢◌, ⊎_elim, ℕ, Bool, true, List, [], Option, Some, None, refl, sym, ◌∙◌, ap, subst}
 use Rattle.std.specs.Result.{result_unwrap_or}
 use Rattle.std.proofs.lemmas.List.Elements.{All-nil}
 use Rattle.photon_model.proofs.Words.{some_same, none_some, IsPair, Setting, Topology, topology_of, Store, WholeSound, empty_disks, empty_store, TopologyComesFirst}
@@ -8,7 +8,7 @@ use Rattle.outside.specs.declared.store.DiskName.TheVariants as name
 use Rattle.gate_journal.specs.Gate.{gate_rule, records}
 use Rattle.gate_journal.specs.Opening.{IsOpened}
 use Rattle.site_laws.specs.Stores.{Bytes, Images, IsDisk, IsChoice, KeepsTopology, KeepsOf, IsFit, KeepSound, IsSoundStore, AreLeft, SameRecords}
-use Rattle.site_laws.specs.StoreLaws.{KeepOneTopology, HoldSameRecords, SameIsWhole, LeavesNothing, TopologyIsFirst, TopologyFits, StaysSound, IsTopologyWritten, WrittenIsSound}
+use Rattle.site_laws.specs.StoreLaws.{KeepOneTopology, HoldSameRecords, SameIsWhole, LeavesNothing, TopologyIsFirst, TopologyFits, StaysSound, OthersStay, WrittenIsSound}
 use Rattle.site_laws.proofs.Naming.{choose, by_topology}
 use Rattle.site_laws.proofs.Keeping.{topology_again, keeps_again}
 
@@ -62,47 +62,52 @@ stays_sound g before after sound stays b choice =
 
 -- ---- the topology is written
 
-module _ (first : TopologyComesFirst) (g : Setting) (before after : Images) (sound : IsSoundStore g before) (written : IsTopologyWritten g before after) (b : Bytes) (choice : IsChoice g after b) where
+-- of a sound store each disk but the topology's stands for nothing new
+module _ (g : Setting) (before after : Images) (sound : IsSoundStore g before) (was : (c : List ℕ) × before name.Topology c) (others : OthersStay g before after) (b : Bytes) (choice : IsChoice g after b) where
   -- what may have been left before, and stood for the same
   abbrev Stood : DiskName → List ℕ → Type 0
   Stood disk c = before disk c × (gate_rule (b disk) ≡ gate_rule c)
 
   other_was : (disk : DiskName) → disk ≢ name.Topology → IsDisk g disk → (c : List ℕ) × Stood disk c
-  other_was disk other is = let x = written.others disk is other (b disk) (choice disk is) in (x.0, (x.1, x.2))
+  other_was disk other is = let x = others disk is other (b disk) (choice disk is) in (x.0, (x.1, x.2))
 
-  still : IsOpened (before name.Topology) (b name.Topology) → KeepSound g b
+  pub still : IsOpened (before name.Topology) (b name.Topology) → KeepSound g b
   still here =
       let was = choose g Stood (by_topology (λ disk. IsDisk g disk → (c : List ℕ) × Stood disk c) (λ _. (here.0, (here.1, here.2))) other_was) in
       keep_again g was.0 b (λ disk is. sym (was.1 disk is).1) (sound was.0 (λ disk is. (was.1 disk is).0))
 
-  -- what may have been left before, where the topology's disk keeps it now
+  -- what may have been left before, where the topology's disk keeps something else now
   abbrev Was : DiskName → List ℕ → Type 0
   Was disk c = before disk c × (disk ≢ name.Topology → gate_rule c ≡ gate_rule (b disk))
 
-  was_each : (disk : DiskName) → IsDisk g disk → (c : List ℕ) × Was disk c
-  was_each =
-      by_topology (λ disk. IsDisk g disk → (c : List ℕ) × Was disk c) (λ _. (written.was.0, (written.was.1, λ other. absurd (other refl))))
-      (λ disk other is. let x = other_was disk other is in (x.0, (x.1.0, λ _. sym x.1.1)))
+  pub earlier : (c : Bytes) × ((disk : DiskName) → IsDisk g disk → Was disk (c disk))
+  earlier =
+      choose g Was
+      (by_topology (λ disk. IsDisk g disk → (c : List ℕ) × Was disk c) (λ _. (was.0, (was.1, λ other. absurd (other refl))))
+      (λ disk other is. let x = other_was disk other is in (x.0, (x.1.0, λ _. sym x.1.1))))
 
-  kept : KeepsTopology (Some (topology_of g)) (b name.Topology) → KeepSound g b
-  kept keeps =
-      let was = choose g Was was_each in
-      let x = sound was.0 (λ disk is. (was.1 disk is).0) in (
-        record x.0 { topology = Some (topology_of g) },
-        record {
-          topology = keeps;
-          records = by_topology (λ disk. IsDisk g disk → KeepsOf g x.0.disks disk (b disk)) (λ _. tt) (λ disk other is. keeps_again g x.0.disks disk (was.0 disk) (b disk) ((was.1 disk is).1 other) (x.1.records disk is));
-          used = λ disk is other some. x.1.used disk is other (records_same (b disk) (was.0 disk) (sym ((was.1 disk is).1 other)) some);
-        },
-        first g x.0 x.2,
-        λ t e. sym (some_same (topology_of g) t e),
-      )
+  pub were_sound : KeepSound g earlier.0
+  were_sound = sound earlier.0 (λ disk is. (earlier.1 disk is).0)
 
-  now_sound : KeepSound g b
-  now_sound = ⊎_elim still kept (written.topology (b name.Topology) (choice name.Topology tt))
+  pub used_so : (disk : DiskName) → IsDisk g disk → disk ≢ name.Topology → records (b disk) ≢ [] → were_sound.0.is_used ≡ true
+  used_so disk is other some = were_sound.1.used disk is other (records_same (b disk) (earlier.0 disk) (sym ((earlier.1 disk is).1 other)) some)
 
 pub written_sound : TopologyComesFirst → (g : Setting) (before after : Images) → WrittenIsSound g before after
-written_sound first g before after sound written b choice = now_sound first g before after sound written b choice
+written_sound first g before after sound written b choice =
+    let x = were_sound g before after sound written.was written.others b choice in
+    let c = earlier g before after sound written.was written.others b choice in
+    ⊎_elim (still g before after sound written.was written.others b choice)
+    (λ keeps. (
+      record x.0 { topology = Some (topology_of g) },
+      record {
+        topology = keeps;
+        records = by_topology (λ disk. IsDisk g disk → KeepsOf g x.0.disks disk (b disk)) (λ _. tt) (λ disk other is. keeps_again g x.0.disks disk (c.0 disk) (b disk) ((c.1 disk is).1 other) (x.1.records disk is));
+        used = used_so g before after sound written.was written.others b choice;
+      },
+      first g x.0 x.2,
+      λ t e. sym (some_same (topology_of g) t e),
+    ))
+    (written.topology (b name.Topology) (choice name.Topology tt))
 
 -- ---- what is read from a sound store
 

@@ -1,5 +1,5 @@
 -- Which bytes keep a sound store, worked out.
-use Rattle.std.proofs.Common.{◌≡◌, ◌≢◌, inr, ℕ, [], ◌∷◌, Option, Some, None, Result, Ok, refl, sym, ◌∙◌, ap, subst, lit<, lit≤}
+use Rattle.std.proofs.Common.{◌≡◌, ◌≢◌, inr, ℕ, [], ◌∷◌, length, Option, Some, None, Result, Ok, refl, sym, ◌∙◌, ap, subst, lit<, lit≤, arith}
 use Rattle.outside.specs.declared.store.DiskName.{DiskName}
 use Rattle.outside.specs.declared.store.DiskName.TheVariants as name
 use Rattle.gate_journal.specs.Gate.{gate_rule, records, StandsFor}
@@ -16,7 +16,8 @@ use Rattle.photon_model.specs.Topology.{Topology, topology_of, WholeSound}
 use Rattle.photon_model.specs.Stores.{empty_store, TopologyComesFirst}
 use Rattle.site_laws.specs.Stores.{Bytes, Images, KeepsTopology, KeepSound}
 use Rattle.site_laws.specs.StoreLaws.{KeepOneTopology, TopologyIsFirst, TopologyFits}
-use Rattle.site_laws.specs.StoreExample.{topology_alone, pair_alone, SoundBytes}
+use Rattle.site_laws.specs.StoreExample.{topology_alone, pair_alone, a_row, row_behind, SoundBytes}
+use Rattle.photon_model.specs.Adding.{with_row}
 use Rattle.site_laws.proofs.Opening.{empty_sound, written_sound}
 
 -- these bytes alone
@@ -31,7 +32,7 @@ is_table = record {
 
 keeps_topology : (joiners : ℕ) → journal.HasJoiners (journal.topology_of joiners worked.table) → StandsFor (journal.topology_record (journal.topology_of joiners worked.table) ∷ []) (topology_alone joiners name.Topology)
     → KeepsTopology (Some (record { joiners = joiners; table = worked.table })) (topology_alone joiners name.Topology)
-keeps_topology joiners few stands = ap (read_as journal.topologies) stands ∙ comes_next None (journal.topology_of joiners worked.table) [] (refl, record { joiners = few; table = is_table }) refl
+keeps_topology joiners few stands = ap (read_as journal.topologies) stands ∙ comes_next None (journal.topology_of joiners worked.table) [] (tt, record { joiners = few; table = is_table }) refl
 
 not_kept : (t : KeptTopology) → ◌≡◌ {A = Result (Option KeptTopology) ℕ} (Ok None) (Ok (Some t)) → ⊥
 not_kept t e = (cc)
@@ -40,16 +41,40 @@ no_bytes : (joiners : ℕ) (disk : DiskName) → disk ≢ name.Topology → topo
 no_bytes joiners name.Topology other = absurd (other refl)
 no_bytes joiners _ other = refl
 
+no_others : (disk : DiskName) → disk ≢ name.Topology → row_behind disk ≡ []
+no_others name.Topology other = absurd (other refl)
+no_others _ other = refl
+
+keeps_longer : KeepsTopology (Some (topology_of (with_row worked a_row))) (row_behind name.Topology)
+keeps_longer = refl
+
 module _ (whole : (g : Setting) → WholeSound g empty_store) (first : TopologyComesFirst) (one : KeepOneTopology) (fits : TopologyFits) (comes : TopologyIsFirst) where
-  topology_sound : KeepSound worked (topology_alone 1)
-  topology_sound =
-      written_sound first worked (just (λ disk. [])) (just (topology_alone 1)) (empty_sound whole worked (just (λ disk. [])) (λ disk is c e. e))
+  -- a setting's topology alone
+  alone_sound : (g : Setting) (b : Bytes) → KeepsTopology (Some (topology_of g)) (b name.Topology) → ((disk : DiskName) → disk ≢ name.Topology → b disk ≡ []) → KeepSound g b
+  alone_sound g b keeps none =
+      written_sound first g (just (λ disk. [])) (just b) (empty_sound whole g (just (λ disk. [])) (λ disk is c e. e))
       (record {
         was = ([], refl);
-        topology = λ c e. inr (subst (KeepsTopology (Some (topology_of worked))) (sym e) (keeps_topology 1 (record { some = lit≤ tt; few = lit≤ tt }) refl));
-        others = λ disk is other c e. ([], refl, ap gate_rule (e ∙ no_bytes 1 disk other));
+        topology = λ c e. inr (subst (KeepsTopology (Some (topology_of g))) (sym e) keeps);
+        others = λ disk is other c e. ([], refl, ap gate_rule (e ∙ none disk other));
       })
-      (topology_alone 1) (λ disk is. refl)
+      b (λ disk is. refl)
+
+  topology_sound : KeepSound worked (topology_alone 1)
+  topology_sound = alone_sound worked (topology_alone 1) (keeps_topology 1 (record { some = lit≤ tt; few = lit≤ tt }) refl) (no_bytes 1)
+
+  row_sound : KeepSound (with_row worked a_row) row_behind
+  row_sound = alone_sound (with_row worked a_row) row_behind keeps_longer no_others
+
+  no_row : KeepSound (with_row worked a_row) (topology_alone 1) → ⊥
+  no_row x =
+      let same : topology_of worked ≡ topology_of (with_row worked a_row) = fits (with_row worked a_row) (topology_alone 1) (topology_of worked) x (keeps_topology 1 (record { some = lit≤ tt; few = lit≤ tt }) refl) in
+      absurd (omega (arith, ap (λ (t : Topology). length t.table) same))
+
+  another_row : KeepSound worked row_behind → ⊥
+  another_row x =
+      let same : topology_of (with_row worked a_row) ≡ topology_of worked = fits worked row_behind (topology_of (with_row worked a_row)) x keeps_longer in
+      absurd (omega (arith, ap (λ (t : Topology). length t.table) same))
 
   other_topology : KeepSound worked (topology_alone 2) → ⊥
   other_topology x =
@@ -65,4 +90,4 @@ module _ (whole : (g : Setting) → WholeSound g empty_store) (first : TopologyC
       absurd (not_kept (journal.topology_of 1 worked.table) keeps)
 
   pub worked_bytes : SoundBytes
-  worked_bytes = record { topology = topology_sound; no_other_topology = other_topology; no_record_before = pair_first }
+  worked_bytes = record { topology = topology_sound; no_other_topology = other_topology; no_record_before = pair_first; row_added = row_sound; row_missing = no_row; row_not_asked = another_row }

@@ -1,11 +1,15 @@
--- Which bytes keep a sound store, worked out: with no record but the topology's, with a pair alone, with another topology.
-use Rattle.std.specs.Prelude.{ℕ, zero, List, [], ◌∷◌}
+-- Which bytes keep a sound store, worked out: with no record but the topology's, with a pair alone, with another topology, with a row
+-- more.
+use Rattle.std.specs.Prelude.{ℕ, zero, List, [], ◌∷◌, ◌++◌}
+use Rattle.std.specs.Int.{to_be_bytes, w32}
 use Rattle.outside.specs.declared.store.DiskName.TheVariants as name
 use Rattle.gate_journal.specs.Gate.{framed}
-use Rattle.topology_journal.specs.Topologies.{topology_of, topology_record}
+use Rattle.topology_journal.specs.Topologies.{topology_of, record_of as topology_in, topology_record}
+use Rattle.time_shards.specs.declared.ShardRow.{ShardRow}
 use Rattle.output_log.specs.Pairs.{record_of}
 use Rattle.output_log.specs.Rows.{a_pair}
 use Rattle.turn_defs.specs.Rows.{worked}
+use Rattle.photon_model.specs.Adding.{with_row}
 use Rattle.site_laws.specs.Stores.{Bytes, KeepSound}
 
 -- the bytes of a journal with one record
@@ -22,7 +26,18 @@ abbrev pub pair_alone : Bytes
 pair_alone (name.Output zero zero) = one_record (record_of a_pair)
 pair_alone _ = []
 
+-- a row, whose topology's record stands behind one in version 1, and no other record
+abbrev pub a_row : ShardRow
+a_row = record { start = 2001; count = 8 }
+
+abbrev pub row_behind : Bytes
+row_behind name.Topology = 165 ∷ to_be_bytes w32 13 ++ topology_in 1 (topology_of 1 worked.table) ++ one_record (topology_record (topology_of 1 (worked.table ++ a_row ∷ [])))
+row_behind _ = []
+
 pub record SoundBytes : Type 0 where
   pub topology : KeepSound worked (topology_alone 1)
   pub no_other_topology : KeepSound worked (topology_alone 2) → ⊥
   pub no_record_before : KeepSound worked pair_alone → ⊥
+  pub row_added : KeepSound (with_row worked a_row) row_behind
+  pub row_missing : KeepSound (with_row worked a_row) (topology_alone 1) → ⊥
+  pub row_not_asked : KeepSound worked row_behind → ⊥

@@ -7,6 +7,7 @@ use Rattle.gate_journal.specs.Gate.{records}
 use Rattle.gate_journal.specs.Opening.{IsOpened}
 use Rattle.topology_journal.specs.declared.topology.Topology.{Topology as KeptTopology}
 use Rattle.topology_journal.specs.Topologies as journal
+use Rattle.time_shards.specs.declared.ShardRow.{ShardRow}
 use Rattle.paxos_acceptor.specs.declared.notes.ReplicaNote.{ReplicaNote}
 use Rattle.air_bus.specs.declared.entry.Entry.{Entry as BusEntry}
 use Rattle.turn_defs.specs.declared.node.Node.{Node}
@@ -21,9 +22,10 @@ use Rattle.photon_model.specs.Sound.{SoundStore}
 use Rattle.photon_model.specs.Runs.{Entry, Disks}
 use Rattle.photon_model.specs.Topology.{Topology, topology_of, Store, WholeSound}
 use Rattle.photon_model.specs.Stores.{IsLonger}
+use Rattle.photon_model.specs.Adding.{with_row, IsFree}
 use Rattle.site_laws.specs.Kinds.{StateOf}
 use Rattle.site_laws.specs.Laws.{IsRunOf, MayLeave}
-use Rattle.site_laws.specs.Stores.{Bytes, Images, IsDisk, IsChoice, KeepsTopology, KeepsVotes, HoldsRecords, IsFit, KeepSound, IsSoundStore, AreLeft, SameRecords, AreKept}
+use Rattle.site_laws.specs.Stores.{Bytes, Images, IsDisk, IsChoice, KeepsTopology, KeepsVotes, KeepsOf, HoldsRecords, IsFit, KeepSound, IsSoundStore, AreLeft, SameRecords, AreKept}
 
 -- ---- bytes keep one store
 
@@ -82,16 +84,35 @@ OpenedIsWhole g image = (s : Store) → IsSoundStore g image → AreLeft g image
 abbrev pub StaysSound : Setting → Images → Images → Type 0
 StaysSound g before after = IsSoundStore g before → ((disk : DiskName) → IsDisk g disk → StaysAs (before disk) (after disk)) → IsSoundStore g after
 
--- Each disk but the topology's stands for nothing new, and the topology's for nothing new but the setting's record. A stop
--- might have left something of that disk before.
+-- each disk but the topology's stands for nothing new
+abbrev pub OthersStay : Setting → Images → Images → Type 0
+OthersStay g before after = (disk : DiskName) → IsDisk g disk → disk ≢ name.Topology → StaysAs (before disk) (after disk)
+
+-- Then the topology's stands for nothing new but the setting's record. A stop might have left something of that disk before.
 pub record IsTopologyWritten (g : Setting) (before after : Images) : Type 0 where
   pub was : (c : List ℕ) × before name.Topology c
   pub topology : (c : List ℕ) → after name.Topology c → IsOpened (before name.Topology) c ⊎ KeepsTopology (Some (topology_of g)) c
-  pub others : (disk : DiskName) → IsDisk g disk → disk ≢ name.Topology → StaysAs (before disk) (after disk)
+  pub others : OthersStay g before after
 
 -- then the store stays sound too
 abbrev pub WrittenIsSound : Setting → Images → Images → Type 0
 WrittenIsSound g before after = IsSoundStore g before → IsTopologyWritten g before after → IsSoundStore g after
+
+-- Or whatever a stop leaves of the setting's disks keeps these records, of which nothing that a replica accepted forbids the row's
+-- start. A stop might have left something of the topology's disk before.
+pub record IsRowAdded (g : Setting) (row : ShardRow) (before after : Images) : Type 0 where
+  pub was : (c : List ℕ) × before name.Topology c
+  pub others : OthersStay g before after
+  pub records : Disks
+  pub keep : (disk : DiskName) → IsDisk g disk → (c : List ℕ) → after disk c → KeepsOf g records disk c
+  pub free : IsFree g records row.start
+
+-- then what is left is sound for the setting where the topology's disk stands for nothing new, and for the setting with the row where it
+-- keeps that
+abbrev pub RowIsSound : Setting → Images → Images → Type 0
+RowIsSound g before after =
+    (row : ShardRow) (b : Bytes) → IsSoundStore g before → IsRowAdded g row before after → IsChoice g after b →
+    (IsOpened (before name.Topology) (b name.Topology) → KeepSound g b) × (KeepsTopology (Some (topology_of (with_row g row))) (b name.Topology) → KeepSound (with_row g row) b)
 
 -- where both logs grow by bytes at their ends and stay valid, the store stays sound
 abbrev pub LongerStaysSound : Images → Type 0

@@ -1,5 +1,5 @@
 -- What a stop may leave of the disks of a store, and when that is sound.
-use Rattle.std.specs.Prelude.{◌≡◌, ◌≢◌, ℕ, ◌+◌, ◌*◌, ◌<◌, true, List, [], Option, Some, option_map, ⊤}
+use Rattle.std.specs.Prelude.{◌≡◌, ◌≢◌, ◌⊎◌, ℕ, ◌+◌, ◌*◌, ◌<◌, true, List, [], Option, Some, option_map, ⊤}
 use Rattle.list_words.specs.Lists.{Each}
 use Rattle.outside.specs.declared.store.DiskName.{DiskName}
 use Rattle.outside.specs.declared.store.DiskName.TheVariants as name
@@ -95,6 +95,10 @@ KeepSound g b = (s : Store) × Holds g b s × WholeSound g s × IsFit g s
 -- and so do whatever bytes a stop now leaves of the disks
 abbrev pub IsSoundStore : Setting → Images → Type 0
 IsSoundStore g image = (b : Bytes) → IsChoice g image b → KeepSound g b
+
+-- or one of either setting, each
+abbrev pub IsSoundOr : Setting → Setting → Images → Type 0
+IsSoundOr g h image = (b : Bytes) → IsChoice g image b → KeepSound g b ⊎ KeepSound h b
 
 -- Each record of the store is kept by an image of its disk.
 pub record AreLeft (g : Setting) (image : Images) (s : Store) : Type 0 where

@@ -1,9 +1,9 @@
 // When a store is sound, by what a stop now may leave of its disks, and what keeps it so: disks that are opened, the
-// topology's record, a run of both sites, longer logs.
+// topology's record, a row more, a run of both sites, longer logs.
 ghost use Rattle.outside.specs.declared.store.DiskName.{DiskName};
 ghost use Rattle.turn_defs.specs.Setting.{Setting};
 ghost use Rattle.site_laws.specs.Stores.{IsSoundStore};
-ghost use Rattle.site_laws.specs.StoreLaws.{HoldSameRecords, KeepOneTopology, LeavesNothing, LeftIsHeld, LongerStaysSound, OpenedIsWhole, ReadNotesAreKept, ReadTopologyIsKept, RunStaysSound, SameIsSound, SameIsWhole, StatesKeepVotes, StaysSound, TopologyFits, TopologyIsFirst, WrittenIsSound};
+ghost use Rattle.site_laws.specs.StoreLaws.{HoldSameRecords, KeepOneTopology, LeavesNothing, LeftIsHeld, LongerStaysSound, OpenedIsWhole, ReadNotesAreKept, ReadTopologyIsKept, RowIsSound, RunStaysSound, SameIsSound, SameIsWhole, StatesKeepVotes, StaysSound, TopologyFits, TopologyIsFirst, WrittenIsSound};
 ghost use Rattle.site_laws.specs.StoreExample.{SoundBytes};
 
 use outside::Store;
@@ -66,6 +66,16 @@ pub fn topology_first<S: Store>()
     ensures { (g : Setting) (before after : S) → WrittenIsSound g (S.image before) (S.image after) }
 {
     photon_model::whole_stores();
+}
+
+/// Where a row is put behind the table of the topology that its disk keeps, and nothing that is accepted forbids the row's start, it stays
+/// sound for the setting while that disk stands for nothing new, and is sound for the setting with the row where it keeps the longer table.
+pub fn row_added<S: Store>()
+    ensures { (g : Setting) (before after : S) → RowIsSound g (S.image before) (S.image after) }
+{
+    once();
+    same();
+    photon_model::added_rows();
 }
 
 /// It stays sound where both logs grow by bytes at their ends and stay valid.
