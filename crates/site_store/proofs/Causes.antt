@@ -9,20 +9,23 @@ use Rattle.run_fault.specs.declared.fault.RunFault.TheVariants as fault
 
 -- ---- why a store isn't opened
 
-module _ (tells : Bool) (before : DiskName → List ℕ → Type 0) (log_tells : Bool) (log : List ℕ) (end_ : ℕ) (read : Type 0) (asked : Option Topology) where
+module _ (tells : Bool) (before : DiskName → List ℕ → Type 0) (asked : Option Topology) (told : List KeptDisk → Option Misplaced → Type 0) (read : LogName → Type 0) (early : Type 0) where
   -- a disk isn't opened
-  pub unopened_cause : (old new : ℕ) (f : RunFault) → IsUnopened tells before old new (IsFirstDisk tells before (joiners_asked asked)) f → IsCause tells before (Rose old new) log_tells log end_ read asked f
+  pub unopened_cause : (old new : ℕ) (f : RunFault) → IsUnopened tells before old new (IsFirstDisk tells before (joiners_asked asked)) f
+      → HasCause tells before asked told read (HasFailed tells before asked told (Rose old new)) ⊥ early f
   unopened_cause old new (fault.Store (place.Disk disk)) is = is
   unopened_cause old new (fault.Damaged disk at) is = is
   unopened_cause old new fault.Memory is = tt
   unopened_cause old new _ is = absurd is
 
   -- the topology's record isn't written
-  pub unwritten_cause : (fresh n old mid new : ℕ) (f : RunFault) → IsUnwritten fresh n f → old ≤ mid → added mid n ≤ new → IsCause tells before (Rose old new) log_tells log end_ read asked f
+  pub unwritten_cause : (fresh n old mid new : ℕ) (f : RunFault) → IsUnwritten fresh n f → old ≤ mid → added mid n ≤ new
+      → HasCause tells before asked told read (HasFailed tells before asked told (Rose old new)) ⊥ early f
   unwritten_cause fresh n old mid new (fault.Store (place.Disk disk)) (is, rose) le counted = (inl is, omega (arith, rose, le, counted))
   unwritten_cause fresh n old mid new fault.Memory is le counted = tt
   unwritten_cause fresh n old mid new _ is le counted = absurd is
 
+module _ (tells : Bool) (before : DiskName → List ℕ → Type 0) (log_tells : Bool) (log : List ℕ) (end_ : ℕ) (read : Type 0) (asked : Option Topology) where
   -- what was opened can't be run or read
   pub judged : (faulted : Type 0) (k : KeptValues) (f : RunFault) → AreKept tells before (joiners_asked asked) k → IsUnfit asked (AreTold log_tells log end_) read k f → IsCause tells before faulted log_tells log end_ read asked f
   judged faulted k (fault.Topology (mismatch.Joiners kept wanted)) is why = (k, is, why)
@@ -73,7 +76,7 @@ first_or_later P None later f here behind e = behind e
 first_or_later P (Some x) later f here behind e = here e
 
 -- and nothing else is
-limit_is : (disks : List KeptDisk) (f : RunFault) → limit_in disks ≡ Some f → (disk : DiskName) × (value : ℕ) × (f ≡ fault.Limit disk value)
+pub limit_is : (disks : List KeptDisk) (f : RunFault) → limit_in disks ≡ Some f → (disk : DiskName) × (value : ℕ) × (f ≡ fault.Limit disk value)
 limit_is [] f e = none_some f e
 limit_is (d ∷ ds) f e = first_or_later _ (limit_at d.name d.kept) (limit_in ds) f (limit_at_is d.name d.kept f) (limit_is ds f) e
 

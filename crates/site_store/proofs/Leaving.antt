@@ -1,6 +1,6 @@
 -- What disks that were opened leave in their store, once they are given back.
-use Rattle.std.proofs.Common.{◌≡◌, ◌⊎◌, inl, inr, ⊎_elim, ℕ, List, ◌∷◌, Option, Some, None, refl, sym, ◌∙◌, ap, subst}
-use Rattle.site_store.proofs.Words.{Each, DiskName, IsOpened, Continues, continues_opened, Topology, Keeps, joiners_kept, Lent, Lacks, IsLent, MayBeLeft, StaysAs, GoesOn, IsFit, AllKeep, StaysOrKeeps, Setting, IsTopologyWritten, IsOut, StayOrAsked, IsAsked}
+use Rattle.std.proofs.Common.{◌≡◌, ◌≢◌, ◌⊎◌, inl, inr, ⊎_elim, ℕ, List, ◌∷◌, Option, Some, None, refl, sym, ◌∙◌, ap, subst}
+use Rattle.site_store.proofs.Words.{Each, Mem, DiskName, IsOpened, Continues, continues_opened, Topology, Keeps, joiners_kept, Lent, Lacks, IsLent, MayBeLeft, StaysAs, GoesOn, IsFit, AllKeep, StaysOrKeeps, Setting, IsTopologyWritten, IsOut, StayOrAsked, IsAsked}
 use Rattle.outside.specs.declared.store.DiskName.TheVariants as name
 use Rattle.site_store.proofs.Lending.{each_mem, each_weaker}
 use Rattle.site_store.proofs.Stays.{opened_same, opened_through, goes_through, stays_grows}
@@ -34,23 +34,37 @@ module _ {D : Type 0} (left : D → List ℕ → Type 0) (before mid : DiskName 
         here : (c : List ℕ) → left new.disk c → Continues (before new.name) c
         here c now = subst (λ (n : DiskName). Continues (before n) c) (sym named) (goes_through (before old.name) (left old.disk) (left new.disk) (stays_grows (before old.name) (left old.disk) so.out.0) grows c now)
 
+    -- of the topology's disk P may hold besides
+    pub back_or : (P : List ℕ → Type 0) → old.name ≡ name.Topology → ((c : List ℕ) → left new.disk c → IsOpened (left old.disk) c ⊎ P c)
+        → (disk : DiskName) (c : List ℕ) → after disk c → IsOpened (before disk) c ⊎ ((disk ≡ name.Topology) × P c)
+    back_or P is either = back_as (λ n c. IsOpened (before n) c ⊎ ((n ≡ name.Topology) × P c)) (λ n c from. inl from) here
+      where
+        here : (c : List ℕ) → left new.disk c → IsOpened (before new.name) c ⊎ ((new.name ≡ name.Topology) × P c)
+        here c now =
+            ⊎_elim (λ from. inl (subst (λ (n : DiskName). IsOpened (before n) c) (sym named) (opened_through (before old.name) (left old.disk) so.out.0 c from)))
+            (λ holds. inr (named ∙ is, holds)) (either c now)
+
+    pub back_others : (P : List ℕ → Type 0) → old.name ≡ name.Topology → ((c : List ℕ) → left new.disk c → IsOpened (left old.disk) c ⊎ P c)
+        → (disk : DiskName) → disk ≢ name.Topology → StaysAs (before disk) (after disk)
+    back_others P is either disk other c now = ⊎_elim (λ from. from) (λ holds. absurd (other holds.0)) (back_or P is either disk c now)
+
     -- the topology's disk may keep what was asked besides
     pub back_written : (asked : Topology) → old.name ≡ name.Topology → StaysOrKeeps (left old.disk) asked (left new.disk) → StayOrAsked asked before after
     back_written asked is written = record {
-      topology = λ c now. ⊎_elim (λ from. inl from) (λ keeps. inr keeps.1) (either name.Topology c now);
-      others = λ disk other c now. ⊎_elim (λ from. from) (λ keeps. absurd (other keeps.0)) (either disk c now);
+      topology = λ c now. ⊎_elim (λ from. inl from) (λ keeps. inr keeps.1) (back_or (Keeps (Some asked)) is written name.Topology c now);
+      others = back_others (Keeps (Some asked)) is written;
     }
+
+    -- what may be left of the changed disk is its own
+    pub back_own : Lacks others new.name → (c : List ℕ) → after new.name c → left new.disk c
+    back_own away c now = elim (give new.name c now) [
+      | inl stays ↦ absurd (stays.0.0 refl)
+      | inr of ↦ own of.one of.among of.named of.may
+    ]
       where
-        OpenedOrAsked : DiskName → List ℕ → Type 0
-        OpenedOrAsked n c = IsOpened (before n) c ⊎ ((n ≡ name.Topology) × Keeps (Some asked) c)
-
-        here : (c : List ℕ) → left new.disk c → OpenedOrAsked new.name c
-        here c now =
-            ⊎_elim (λ from. inl (subst (λ (n : DiskName). IsOpened (before n) c) (sym named) (opened_through (before old.name) (left old.disk) so.out.0 c from)))
-            (λ keeps. inr (named ∙ is, keeps)) (written c now)
-
-        either : (disk : DiskName) (c : List ℕ) → after disk c → OpenedOrAsked disk c
-        either = back_as OpenedOrAsked (λ n c from. inl from) here
+        own : (one : Lent D) → Mem one (new ∷ others) → one.name ≡ new.name → left one.disk c → left new.disk c
+        own one (inl same) is may = subst (λ (l : Lent D). left l.disk c) (sym same) may
+        own one (inr among) is may = absurd (each_mem (λ (l : Lent D). l.name ≢ new.name) one others away among is)
 
   -- the disks of a run
   pub out_for : (asked : Topology) → AllKeep asked (left new.disk) → GoesOn (left old.disk) (left new.disk) → IsOut asked left before mid new others

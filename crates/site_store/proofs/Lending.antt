@@ -151,6 +151,9 @@ module _ {D : Type 0} (left : D → List ℕ → Type 0) where
   keeps_first before mid all one name so lacks named kept =
       subst (λ (n : DiskName). IsKeptIn (before n) (KeepsAs one.kept)) (sym named) (kept.0, so.others name lacks kept.0 kept.1, kept.2)
 
+pub none_each : {A : Type 0} (P : A → Type 0) (xs : List A) → xs ≡ [] → Each P xs
+none_each P xs none = subst (Each P) (sym none) tt
+
 -- once none is out, what the store leaves is what was left at first
 pub none_out : {D : Type 0} (left : D → List ℕ → Type 0) (image : DiskName → List ℕ → Type 0) (disks : List (OpenView D)) (name : DiskName) (c : List ℕ) → disks ≡ [] → image name c → MayBeLeft left image (lent_all disks) name c
 none_out {D} left image disks name c none now = subst (λ (l : List (OpenView D)). MayBeLeft left image (lent_all l) name c) (sym none) (inl (tt, now))

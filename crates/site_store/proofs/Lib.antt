@@ -8,7 +8,6 @@ pub mod Names
 pub mod Values
 pub mod Refusals
 pub mod Undamaged
-mod Unkept
 pub mod Boundaries
 pub mod Stretches
 pub mod Telling
@@ -17,9 +16,11 @@ pub mod Readings
 pub mod Handing
 pub mod Taking
 pub mod Causes
+pub mod Appending
 pub mod Leaving
 pub mod Damage
 pub mod Sound
 pub mod Recorded
 pub mod Report
 pub mod Blank
+pub mod Added

@@ -9,7 +9,7 @@ use Rattle.site_store.proofs.Values.{at_name, find_name, one_named, named_mem}
 
 -- ---- what is kept of records is kept as they say
 
-keeps_of : ReadNotesAreKept → (g : Setting) (d : Disks) (n : DiskName) (kept : Kept) (c : List ℕ) → Says g d n kept → KeepsAs kept c → KeepsOf g d n c
+pub keeps_of : ReadNotesAreKept → (g : Setting) (d : Disks) (n : DiskName) (kept : Kept) (c : List ℕ) → Says g d n kept → KeepsAs kept c → KeepsOf g d n c
 keeps_of read g d name.Topology kept c says keeps = tt
 keeps_of read g d (name.Offset s) kept c says keeps = subst (λ (k : Kept). KeepsAs k c) says keeps
 keeps_of read g d (name.Retry s) kept c says keeps = subst (λ (k : Kept). KeepsAs k c) says keeps

@@ -99,22 +99,22 @@ module _ (g : Setting) (d : Disks) where
 
 module _ (tells : Bool) (sure : IsTrue tells) (image : DiskName → List ℕ → Type 0) (v : KeptValues) (kept : AreKept tells image 0 v) (t : Topology) (topology_is : v.topology ≡ Some t)
     (g : Setting) (is : IsAsked t g) (replicas : g.replicas ≡ 3) where
-  many_are : joiners_kept v.topology 0 ≡ g.joiners
+  pub many_are : joiners_kept v.topology 0 ≡ g.joiners
   many_are = ap (λ (o : Option Topology). joiners_kept o 0) topology_is ∙ sym is.joiners
 
-  few : g.joiners ≤ 4
+  pub few : g.joiners ≤ 4
   few =
       let x = kept.topology sure in
       let fine : IsTopology t = subst (λ (o : Option Topology). IfSome o IsTopology) topology_is (kept_is v.topology x.0 x.2) in
       omega (arith, fine.joiners.few, is.joiners)
 
-  abbrev its : Disks
+  abbrev pub its : Disks
   its = records_of g v.disks
 
-  named : map (λ d. d.name) v.disks ≡ other_names g.joiners
+  pub named : map (λ d. d.name) v.disks ≡ other_names g.joiners
   named = kept.named ∙ ap other_names many_are
 
-  of : AreRecordsOf g v.disks its
+  pub of : AreRecordsOf g v.disks its
   of = are_records g v.disks (other_names g.joiners) named (others_apart g.joiners few) (others_are g replicas g.joiners (omega arith) few) kept.kinds
 
   tells_of : (k : KeptStore) → IsOfValues v k → ReadTopologyIsKept → ReadNotesAreKept → OpenedIsWhole g image → TellsTheReport → Tells g image k.journals

@@ -61,12 +61,12 @@ pub use Rattle.site_store.specs.Opening.{IsDamagedIn, IsRefusedBy, IsUnopened, t
 pub use Rattle.site_store.specs.Orders.{left_at}
 pub use Rattle.site_store.specs.ReadBack.{AreAmongImages, AreReadFrom, EachWith, IsAnImage, IsOnlyRead, IsReadAs, IsToldBy, OneWith, is_output, is_replica, notes_in, outputs, pairs_in, replicas}
 pub use Rattle.site_store.specs.Reading.{IsOfValues, IsRead, notes_at, pairs_at}
-pub use Rattle.site_store.specs.Records.{AreKept, AreRecordsOf, EpochIs, IsKept, IsOfKind, KeepsAs, Kept, KeptDisk, KeptValues, NotesAre, OffsetIs, OpenView, PairsAre, PendingAre, Says, TopologyIs, kept_all, kept_by, lent_all, lent_by, topology_lent, values_of}
+pub use Rattle.site_store.specs.Records.{AllKept, AreKept, AreRecordsOf, EpochIs, IsKept, IsOfKind, KeepsAs, Kept, KeptDisk, KeptValues, NotesAre, OffsetIs, OpenView, PairsAre, PendingAre, Says, TopologyIs, kept_all, kept_by, lent_all, lent_by, topology_lent, values_of}
 pub use Rattle.site_store.specs.Refusals.{IsFirst, IsFirstDisk, IsJournalOf, WereJournals, joiner_names, other_names, site_names}
 pub use Rattle.site_store.specs.Rows.{one_line}
 pub use Rattle.site_store.specs.Telling.{KeepsNothing, Tells}
 pub use Rattle.site_store.specs.Votes.{IsVotesDamaged}
-pub use Rattle.site_store.specs.Written.{AllKeep, IsUnwritten, StaysOrKeeps}
+pub use Rattle.site_store.specs.Written.{AllKeep, IsUnwritten, IsWritten, StaysOrKeeps}
 pub use Rattle.site_store.specs.declared.lent.disk.LentDisk.{LentDisk}
 pub use Rattle.site_store.specs.declared.lent.reading.ReadAs.{ReadAs}
 pub use Rattle.site_store.specs.declared.lent.reading.ReadAs.TheVariants.{Neither, Notes, Pairs}

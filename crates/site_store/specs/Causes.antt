@@ -1,7 +1,6 @@
 -- Why a store isn't opened, read or run over: the causes of the statuses, by what a stop might have left of its disks before.
 use Rattle.std.specs.Prelude.{◌≡◌, ◌⊎◌, ℕ, List, Bool, IsTrue, Option, None, Some, ⊤}
 use Rattle.outside.specs.declared.store.DiskName.{DiskName}
-use Rattle.outside.specs.Faults.{Rose}
 use Rattle.log_records.specs.Lines.{end_from}
 use Rattle.topology_journal.specs.declared.topology.Topology.{Topology}
 use Rattle.turn_defs.specs.Setting.{Setting}

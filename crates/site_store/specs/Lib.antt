@@ -16,3 +16,4 @@ pub mod Causes
 pub mod Leaving
 pub mod Reading
 pub mod Telling
+pub mod Adding

@@ -83,6 +83,10 @@ pub record KeptValues : Type 0 where
 abbrev pub values_of : {D : Type 0} → Option Topology → List (OpenView D) → KeptValues
 values_of topology disks = record { topology = topology; disks = kept_all disks }
 
+-- each of an open disk's images keeps what its journal does
+abbrev pub AllKept : {D : Type 0} → (D → List ℕ → Type 0) → OpenView D → Type 0
+AllKept left o = (c : List ℕ) → left o.disk c → KeepsAs o.kept c
+
 -- one of the disk's images keeps what it is said to keep
 abbrev pub IsKept : (DiskName → List ℕ → Type 0) → KeptDisk → Type 0
 IsKept before d = IsKeptIn (before d.name) (KeepsAs d.kept)

@@ -1,10 +1,11 @@
 -- What the topology's disk may hold once it was written to.
-use Rattle.std.specs.Prelude.{◌≡◌, ◌⊎◌, ℕ, List, Some}
+use Rattle.std.specs.Prelude.{◌≡◌, ◌⊎◌, ℕ, List, [], ◌∷◌, ◌++◌, Some}
 use Rattle.outside.specs.declared.store.DiskName.TheVariants as name
 use Rattle.outside.specs.Faults.{Rose}
+use Rattle.gate_journal.specs.Gate.{StandsFor}
 use Rattle.gate_journal.specs.Opening.{IsOpened}
 use Rattle.topology_journal.specs.declared.topology.Topology.{Topology}
-use Rattle.topology_journal.specs.Topologies.{Keeps}
+use Rattle.topology_journal.specs.Topologies.{Keeps, topology_record}
 use Rattle.run_fault.specs.declared.fault.RunFault.{RunFault}
 use Rattle.run_fault.specs.Causes.{IsOfDisk}
 
@@ -15,6 +16,15 @@ AllKeep asked image = (c : List ℕ) → image c → Keeps (Some asked) c
 -- each image stands for what one of the images before stood for, or keeps this topology
 abbrev pub StaysOrKeeps : (List ℕ → Type 0) → Topology → (List ℕ → Type 0) → Type 0
 StaysOrKeeps old asked new = (c : List ℕ) → new c → IsOpened old c ⊎ Keeps (Some asked) c
+
+-- These bytes keep the topology. Its record stands behind those that one of the images before stood for.
+pub record IsWritten (before : List ℕ → Type 0) (t : Topology) (c : List ℕ) : Type 0 where
+  pub from : List ℕ
+  pub was : before from
+  pub records : List (List ℕ)
+  pub stood : StandsFor records from
+  pub stands : StandsFor (records ++ topology_record t ∷ []) c
+  pub keeps : Keeps (Some t) c
 
 -- the topology's record isn't written for want of memory, or because its disk failed
 abbrev pub IsUnwritten : (old new : ℕ) → RunFault → Type 0

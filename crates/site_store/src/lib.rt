@@ -2,12 +2,14 @@
 //! and against the logs, and read back and given back again.
 #![tactic(auto)]
 
+mod adding;
 pub mod disks;
 mod lent;
 mod opening;
 pub mod places;
 mod reading;
 
+pub use adding::add_row;
 pub use disks::{
     AnyJournal, OpenDisk, OpenStore, VoteJournal, ask, first_limit, give_back, open_disks,
     topology_misfit, write_topology,

@@ -3,5 +3,6 @@ mod copies;
 mod kept;
 mod store;
 
+pub(crate) use copies::journals_of;
 pub use kept::KeptStore;
 pub use store::read_store;

@@ -55,7 +55,7 @@ no_table bytes rows front is starts none = front_read bytes rows front is starts
 
 -- ---- rows and one more
 
-more_same : (rows : List ShardRow) (row : ShardRow) → one_more rows (rows ++ row ∷ []) ≡ true
+pub more_same : (rows : List ShardRow) (row : ShardRow) → one_more rows (rows ++ row ∷ []) ≡ true
 more_same [] row = refl
 more_same (r ∷ rs) row = let rest = more_same rs row in rw rest (grind (arith, nat_tests))
 

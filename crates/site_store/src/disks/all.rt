@@ -1,12 +1,13 @@
 // All disks of a state directory.
 ghost use Rattle.std.specs.Prelude.{◌≡◌, ◌≤◌, ◌+◌, ◌∷◌, ℕ, List, length, IsTrue, IfOk, IfErr, OnErr};
+ghost use Rattle.list_words.specs.Lists.{Each};
 ghost use Rattle.outside.specs.declared.store.DiskName.{DiskName};
 ghost use Rattle.outside.specs.Faults.{added};
 ghost use Rattle.gate_journal.specs.declared.journal.JournalState.TheVariants.{Ready};
 ghost use Rattle.gate_journal.specs.Images.{StaysAs};
 ghost use Rattle.site_store.specs.Kinds.{joiners_kept};
 ghost use Rattle.site_store.specs.Lent.{IsLent, MayBeLeft};
-ghost use Rattle.site_store.specs.Records.{AreKept, values_of, lent_all, topology_lent};
+ghost use Rattle.site_store.specs.Records.{AllKept, AreKept, values_of, lent_all, topology_lent};
 ghost use Rattle.site_store.specs.Refusals.{IsFirstDisk};
 ghost use Rattle.site_store.specs.Opening.{IsUnopened};
 
@@ -70,6 +71,7 @@ pub fn give_back<S: Store>(store: &mut S, opened: OpenStore<S::Disk>)
     requires { 1 + length opened.disks.items ≤ S.places_left store.old }
     // What a stop may leave of a disk is what it might have left of it before it was given back, or of what stood in the store.
     ensures left { IsTrue S.Disk.tells → (name : DiskName) (c : List ℕ) → S.image store.new name c → MayBeLeft S.Disk.image (S.image store.old) (topology_lent opened.topology.journal.disk ∷ lent_all opened.disks.items) name c }
+    ensures keep { IsTrue S.Disk.tells → Each (λ o. AllKept S.Disk.image o) opened.disks.items }
     ensures places { S.places_left store.old ≤ S.places_left store.new + (1 + length opened.disks.items) }
     ensures count { S.faults store.old ≤ S.faults store.new }
     // The faults that the topology's disk has met are among the store's then.

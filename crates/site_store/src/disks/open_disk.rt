@@ -59,7 +59,7 @@ impl<D: Disk> OpenDisk<D> {
     ghost use Rattle.site_store.specs.Kinds.{damaged_by};
     ghost use Rattle.site_store.specs.Opening.{IsRefusedBy};
     ghost use Rattle.site_store.specs.Votes.{IsReadyVotes};
-    ghost use Rattle.site_store.specs.Records.{TopologyIs, OffsetIs, PendingAre, EpochIs, NotesAre, PairsAre, IsOfKind, KeepsAs};
+    ghost use Rattle.site_store.specs.Records.{TopologyIs, OffsetIs, PendingAre, EpochIs, NotesAre, PairsAre, IsOfKind, KeepsAs, AllKept};
 
     /// Opens what is on a disk, which is fresh or of the kind that its name says. Hands the disk back where it is refused.
     pub fn open(alloc: Global, name: DiskName, disk: D) -> Result<OpenDisk<D>, (JournalFault, D)>
@@ -132,7 +132,8 @@ impl<D: Disk> OpenDisk<D> {
 
     /// The disk, which holds the journal.
     pub fn into_disk(self) -> D
-        ensures { result ≡ self.disk }
+        ensures disk { result ≡ self.disk }
+        ensures keeps { IsTrue D.tells → AllKept D.image self }
     {
         match self.journal {
             AnyJournal::Topology(journal) => journal.into_disk(),

@@ -7,7 +7,7 @@ ghost use Rattle.outside.specs.Faults.{Counts};
 ghost use Rattle.outside.specs.declared.faults.StoreFault.TheVariants.{Disk};
 ghost use Rattle.gate_journal.specs.Images.{StaysAs, IsKeptIn};
 ghost use Rattle.site_store.specs.Lent.{IsLent, MayBeLeft};
-ghost use Rattle.site_store.specs.Records.{IsOfKind, KeepsAs, IsKept, kept_by, lent_all};
+ghost use Rattle.site_store.specs.Records.{IsOfKind, KeepsAs, AllKept, IsKept, kept_by, lent_all};
 ghost use Rattle.site_store.specs.Refusals.{IsFirst, other_names};
 ghost use Rattle.site_store.specs.Opening.{told_by, IsUnopened};
 
@@ -83,6 +83,7 @@ pub(crate) fn open_one<S: Store>(
 pub(crate) fn give_each<S: Store>(store: &mut S, disks: Vec<OpenDisk<S::Disk>>)
     requires { length disks.items ≤ S.places_left store.old }
     ensures left { IsTrue S.Disk.tells → (name : DiskName) (c : List ℕ) → S.image store.new name c → MayBeLeft S.Disk.image (S.image store.old) (lent_all disks.items) name c }
+    ensures keep { IsTrue S.Disk.tells → Each (λ o. AllKept S.Disk.image o) disks.items }
     ensures places { S.places_left store.old ≤ S.places_left store.new + length disks.items }
     ensures count { S.faults store.old ≤ S.faults store.new }
 {

@@ -1,30 +1,30 @@
-// The topology of a new store.
-ghost use Rattle.std.specs.Prelude.{◌≡◌, ◌≤◌, None, Some, IsTrue, OnOk, OnErr, IfErr, IsErrOf};
+// The record of a topology.
+ghost use Rattle.std.specs.Prelude.{◌≡◌, ◌≤◌, ◌⊎◌, ℕ, List, Some, IsTrue, OnOk, OnErr, IfErr, IsErrOf};
 ghost use Rattle.gate_journal.specs.declared.journal.JournalState.TheVariants.{Ready};
-ghost use Rattle.topology_journal.specs.Topologies.{IsTopology};
+ghost use Rattle.topology_journal.specs.Topologies.{MayCome};
+ghost use Rattle.gate_journal.specs.Opening.{IsOpened};
 ghost use Rattle.gate_journal.specs.Images.{StaysAs, GoesOn};
 ghost use Rattle.run_fault.specs.declared.fault.RunFault.TheVariants.{Memory};
-ghost use Rattle.site_store.specs.Written.{AllKeep, StaysOrKeeps, IsUnwritten};
+ghost use Rattle.site_store.specs.Written.{IsWritten, IsUnwritten};
 
 use outside::{Disk, DiskName};
 use run_fault::{RunFault, StorePlace};
 use std::alloc::Global;
 use topology_journal::{Topology, TopologyJournal, topology_frame};
 
-/// Writes what was asked to the topology's disk, which keeps none yet. Constant time; it allocates the record.
+/// Writes what was asked to the topology's disk, behind what it keeps. Constant time; it allocates the record.
 pub fn write_topology<D: Disk>(
     alloc: Global,
     topology: &mut TopologyJournal<D>,
     asked: Topology,
 ) -> Result<(), RunFault>
-    requires is_topology { IsTopology asked }
+    requires next { MayCome topology.old.value.kept asked }
     requires ready { topology.old.journal.state ≡ Ready }
-    requires none { topology.old.value.kept ≡ None }
     ensures kept { OnOk result (topology.new.value.kept ≡ Some asked) }
-    ensures none { OnErr result (topology.new.value.kept ≡ None) }
+    ensures same { OnErr result (topology.new.value.kept ≡ topology.old.value.kept) }
     ensures ready { OnOk result (topology.new.journal.state ≡ Ready) }
-    ensures durable { IsTrue D.tells → OnOk result (AllKeep asked (D.image topology.new.journal.disk)) }
-    ensures old_or_new { IsTrue D.tells → OnErr result (StaysOrKeeps (D.image topology.old.journal.disk) asked (D.image topology.new.journal.disk)) }
+    ensures durable { IsTrue D.tells → OnOk result ((c : List ℕ) → D.image topology.new.journal.disk c → IsWritten (D.image topology.old.journal.disk) asked c) }
+    ensures old_or_new { IsTrue D.tells → OnErr result ((c : List ℕ) → D.image topology.new.journal.disk c → IsOpened (D.image topology.old.journal.disk) c ⊎ IsWritten (D.image topology.old.journal.disk) asked c) }
 
     // Where memory was wanting nothing but the disk's room has changed.
     ensures stays { IsTrue D.tells → IsErrOf result Memory → StaysAs (D.image topology.old.journal.disk) (D.image topology.new.journal.disk) }

@@ -1,6 +1,6 @@
 use Rattle.std.proofs.Common.{rules, ◌≡◌, ◌++◌, ◌∷◌, [], List, ◌∙◌, sym, ap, subst, arith}
-use Rattle.site_store.proofs.Words.{map-append, Within, Lent, MayBeLeft, lent_by, lent_all}
-use Rattle.site_store.proofs.Lending.{given, none_out, length_more}
+use Rattle.site_store.proofs.Words.{map-append, Each, Within, Lent, AllKept, MayBeLeft, lent_by, lent_all}
+use Rattle.site_store.proofs.Lending.{each_push, given, none_out, none_each, length_more}
 use Rattle.site_store.proofs.disks.opening.give_each.Goals as goal
 
 pub loop-one-preserved : goal.loop-one-preserved
@@ -16,12 +16,13 @@ loop-one-preserved g c =
     let size = length_more rest items one cut in
     record {
       left = λ tells name bytes now. (
-          let images = subst (λ (d : g.row.S-Disk.Denot). Within (left d) (after one.name)) c.into_disk.ensures (subst (λ n. Within (left c.into_disk.result) (after n)) c.name-name.ensures (c.give.ensures.images tells)) in
+          let images = subst (λ (d : g.row.S-Disk.Denot). Within (left d) (after one.name)) c.into_disk.ensures.disk (subst (λ n. Within (left c.into_disk.result) (after n)) c.name-name.ensures (c.give.ensures.images tells)) in
           let whole : lent_all rest ++ lent_by one ∷ [] ≡ lent_all items = sym (map-append lent_by rest (one ∷ [])) ∙ ap lent_all (sym cut) in
           inv.left tells name bytes
           (subst (λ (l : List (Lent g.row.S-Disk.Denot)). MayBeLeft left mid l name bytes) whole
           (given left mid after (lent_all rest) (lent_by one) images (λ other not. c.give.ensures.others tells other (λ e. not (e ∙ c.name-name.ensures))) name bytes now))
           );
+      keep = λ tells left_all. inv.keep tells (subst (Each (λ o. AllKept left o)) (sym cut) (each_push (λ o. AllKept left o) rest one left_all (c.into_disk.ensures.keeps tells)));
       room = omega (arith, size, inv.room, c.give.ensures.places);
       places = omega (arith, size, inv.places, c.give.ensures.places);
       count = omega (arith, inv.count, c.give.ensures.count);
@@ -31,3 +32,6 @@ pub returns-clause-left : goal.returns-clause-left
 returns-clause-left g c tells name bytes now =
     let image = g.S.Store.image c.loop-one.store in
     c.loop-one.invariant.left tells name bytes (none_out g.S.Disk.Disk.image image c.loop-one.disks.items name bytes (search rules) now)
+
+pub returns-clause-keep : goal.returns-clause-keep
+returns-clause-keep g c tells = c.loop-one.invariant.keep tells (none_each (λ o. AllKept g.S.Disk.Disk.image o) c.loop-one.disks.items (search rules))

@@ -1,6 +1,6 @@
 use Rattle.std.proofs.Common.{◌+◌, ◌≤◌, ℕ, List, length, IsTrue}
 use Rattle.std.specs.Prelude.{vec_len}
-use Rattle.site_store.proofs.Words.{DiskName, MayBeLeft, lent_all}
+use Rattle.site_store.proofs.Words.{Each, DiskName, MayBeLeft, AllKept, lent_all}
 use Rattle.site_store.proofs.disks.opening.give_each.Given as goal
 
 abbrev pub invariant-loop-one : goal.invariant-loop-one
@@ -9,6 +9,7 @@ invariant-loop-one g l =
     let left = g.S.Disk.Disk.image in
     record {
       left : IsTrue g.S.Disk.Disk.tells → (name : DiskName) (c : List ℕ) → MayBeLeft left (image l.store) (lent_all l.disks.items) name c → MayBeLeft left (image l.fn.store) (lent_all l.fn.disks.items) name c;
+      keep : IsTrue g.S.Disk.Disk.tells → Each (λ o. AllKept g.S.Disk.Disk.image o) l.disks.items → Each (λ o. AllKept g.S.Disk.Disk.image o) l.fn.disks.items;
       room : length l.disks.items ≤ g.S.Store.places_left l.store;
       places : g.S.Store.places_left l.fn.store + length l.disks.items ≤ g.S.Store.places_left l.store + length l.fn.disks.items;
       count : g.S.Store.faults l.fn.store ≤ g.S.Store.faults l.store;

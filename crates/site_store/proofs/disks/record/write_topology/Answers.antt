@@ -1,15 +1,15 @@
-use Rattle.std.proofs.Common.{inl, inr, ⊎_elim, ◌∙◌, subst}
+use Rattle.std.proofs.Common.{◌∙◌, sym, subst}
 use Rattle.std.specs.Prelude.{Option}
-use Rattle.site_store.proofs.Words.{gate_rule, folds_to, Topology, topologies}
-use Rattle.site_store.proofs.Unkept.{none_again}
+use Rattle.topology_journal.specs.Topologies.{MayCome}
+use Rattle.site_store.proofs.Words.{Topology}
+use Rattle.site_store.proofs.Appending.{old_or_written}
 use Rattle.site_store.proofs.disks.record.write_topology.Goals as goal
 
--- an image keeps none, as one before the append did, or the new one
 pub returns-clause-old_or_new : goal.returns-clause-old_or_new
-returns-clause-old_or_new g c tells image_of here =
-    let none = c.make_room.ensures.kept ∙ c.requires.none in
-    let before = (c.append.ensures.grows tells).now image_of here in
-    ⊎_elim
-    (λ keeps. inl (before.0, (c.make_room.ensures.any_moment tells).now before.0 before.1, none_again (gate_rule before.0) (gate_rule image_of) before.2 (subst (λ (o : Option Topology). folds_to topologies o (gate_rule image_of)) none keeps)))
-    (λ keeps. inr keeps)
-    ((c.append.ensures.keeps tells (c.make_room.ensures.state ∙ c.requires.ready)).now image_of here)
+returns-clause-old_or_new g c tells bytes now =
+    let d = g.D.Disk in
+    let mid = c.make_room.new.self in
+    let ready = c.make_room.ensures.state ∙ c.requires.ready in
+    let may = subst (λ (o : Option Topology). MayCome o c.args.asked) (sym c.make_room.ensures.kept) c.requires.next in
+    old_or_written (d.image c.args.topology.now.journal.disk) (d.image mid.journal.disk) (d.image c.append.new.self.journal.disk) mid.value.kept c.args.asked (d.seen mid.journal.disk) (c.make_room.ensures.any_moment tells).now
+    (mid.durable tells ready) (mid.journal.settled tells ready).durable may (c.append.ensures.grows tells).now bytes now ((c.append.ensures.any_moment tells ready).now bytes now)

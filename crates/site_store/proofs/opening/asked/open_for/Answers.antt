@@ -1,5 +1,5 @@
 use Rattle.std.proofs.Common.{subst}
-use Rattle.site_store.proofs.Words.{IsUnopened, IsFirstDisk, AreKept, values_of}
+use Rattle.site_store.proofs.Words.{AreTold, IsUnopened, IsFirstDisk, AreKept, values_of}
 use Rattle.site_store.proofs.Causes.{judged, unopened_cause}
 use Rattle.site_store.proofs.Lending.{stays_as}
 use Rattle.site_store.proofs.opening.asked.open_for.Goals as goal
@@ -25,5 +25,6 @@ returns-in-Err-clause-cause g c =
     let before = g.S.Store.image c.args.store.now in
     let old = g.S.Store.faults c.args.store.now in
     let new = g.S.Store.faults c.open_disks.new.store in
-    unopened_cause tells before log.tells (log.bytes c.args.clicks.now) c.args.end _ c.args.asked.now old new c.in-Err.fault
+    let told = AreTold log.tells (log.bytes c.args.clicks.now) c.args.end in
+    unopened_cause tells before c.args.asked.now told _ ⊥ old new c.in-Err.fault
     (subst (λ n. IsUnopened tells before old new (IsFirstDisk tells before n) c.in-Err.fault) c.joiners_of.ensures.number c.in-Err.ensures.first)

@@ -1,5 +1,5 @@
 use Rattle.std.proofs.Common.{Err, Some, refl, ap, ◌∙◌, sym, arith}
-use Rattle.site_store.proofs.Words.{values_of, topology_lent, other_names}
+use Rattle.site_store.proofs.Words.{AreTold, values_of, topology_lent, other_names}
 use Rattle.site_store.proofs.Causes.{unwritten_cause, unwritten_memory}
 use Rattle.site_store.proofs.Damage.{unwritten_welcome}
 use Rattle.site_store.proofs.Leaving.{back_stays, back_grown, back_written, out_for, all_stay, all_grow, topology_written, joiners_same}
@@ -84,7 +84,7 @@ returns-in-Err-keep_topology-clause-grown g c tells =
 pub returns-in-Err-keep_topology-clause-cause : goal.returns-in-Err-keep_topology-clause-cause
 returns-in-Err-keep_topology-clause-cause g c =
     let log = g.L.LogFile in
-    unwritten_cause g.S.Disk.Disk.tells (g.S.Store.image c.args.store.now) log.tells (log.bytes c.args.clicks.now) c.args.end _ (Some c.args.asked) _ _ _ _ _ c.in-Err-keep_topology.fault c.in-Err-keep_topology.ensures.unwritten
+    unwritten_cause g.S.Disk.Disk.tells (g.S.Store.image c.args.store.now) (Some c.args.asked) (AreTold log.tells (log.bytes c.args.clicks.now) c.args.end) _ ⊥ _ _ _ _ _ c.in-Err-keep_topology.fault c.in-Err-keep_topology.ensures.unwritten
     c.in-Ok.ensures.count c.give_back.ensures.counted
 
 pub returns-in-Err-keep_topology-clause-welcome : goal.returns-in-Err-keep_topology-clause-welcome

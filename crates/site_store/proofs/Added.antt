@@ -1,0 +1,211 @@
+-- A row behind those of the kept table: what is answered, and what it makes of a sound store.
+use Rattle.std.proofs.Common.{◌≡◌, ◌≢◌, ◌⊎◌, inl, inr, ℕ, ◌≤◌, List, [], ◌∷◌, ◌++◌, length, map, Bool, true, false, ◌&&◌, ◌==◌, IsTrue, Option, Some, None, Result, Ok, Err, refl, sym, ◌∙◌, ap, subst, arith, if◌then◌else◌}
+use Rattle.std.specs.Prelude.{IfSome, nat_le}
+use Rattle.time_shards.specs.declared.ShardRow.{ShardRow}
+use Rattle.time_shards.specs.declared.AddFault.{AddFault}
+use Rattle.time_shards.specs.declared.AddFault.TheVariants.{Rows, Start}
+use Rattle.time_shards.specs.declared.TheConstants.{MAX_ROWS}
+use Rattle.time_shards.specs.Shards.{IsTable, added, last_start}
+use Rattle.registry_state.specs.declared.Batch.{Batch}
+use Rattle.verify_pass.specs.declared.starts.TooSoon.{TooSoon}
+use Rattle.verify_pass.specs.TooSoon.{all_batches, too_soon_for}
+use Rattle.topology_journal.specs.Topologies.{MayCome, is_longer, one_more}
+use Rattle.topology_journal.specs.Topologies as journal
+use Rattle.topology_journal.proofs.Spelled.{more_same}
+use Rattle.photon_model.specs.Adding.{with_row}
+use Rattle.run_fault.specs.declared.fault.Unfit.{Unfit}
+use Rattle.run_fault.specs.declared.fault.RunFault.TheVariants as fault
+use Rattle.site_laws.specs.Stores.{IsChoice}
+use Rattle.site_laws.specs.StoreLaws.{IsRowAdded, RowIsSound}
+use Rattle.outside.specs.declared.store.DiskName.TheVariants as name
+use Rattle.site_store.proofs.Words.{eq-eqb, Each, Mem, DiskName, IsOpened, Topology, Keeps, IsTopology, kept_is, Setting, BallotNote, Disks, PlainTopology, topology_of, Bytes, KeepsOf, KeepSound, IsSoundStore, ReadTopologyIsKept, ReadNotesAreKept, TopologyFits, joiners_kept, StaysAs, Lent, Lacks, MayBeLeft, OpenView, AllKept, KeptValues, AreKept, AreRecordsOf, kept_all, lent_all, values_of, other_names, IsAsked, LeavesSomething, IsWritten, RunFault, first_limit}
+use Rattle.site_store.specs.Adding.{accepted, answer_of, answer_to, IsAnswer, IsUnadded, IsRowCause}
+use Rattle.site_store.proofs.Causes.{limit_is}
+use Rattle.site_store.proofs.Lending.{each_mem, lacks_by_names}
+use Rattle.site_store.proofs.Names.{all_named, not_topology}
+use Rattle.site_store.proofs.Recorded.{keeps_of}
+use Rattle.site_store.proofs.Report.{its, of, notes_are, named, few}
+use Rattle.site_store.proofs.SameNames.{same_or_not}
+use Rattle.site_store.proofs.Sound.{topology_is}
+use Rattle.site_store.proofs.Values.{names_kept}
+
+-- ---- the answer
+
+no_answer : (why : Unfit) (t : Topology) → ◌≡◌ {A = Result Topology Unfit} (Err why) (Ok t) → ⊥
+no_answer why t e = (cc)
+
+same_answer : (t u : Topology) → ◌≡◌ {A = Result Topology Unfit} (Ok t) (Ok u) → t ≡ u
+same_answer t u e = cc
+
+abbrev Added : Type 0
+Added = Result (List ShardRow) AddFault
+
+added_is : (rows : List ShardRow) (row : ShardRow) (table : List ShardRow) → added rows row ≡ Ok table → table ≡ rows ++ row ∷ []
+added_is rows row table = go (◌==◌ (length rows) MAX_ROWS) (nat_le row.start (last_start rows))
+  where
+    not_ok : (why : AddFault) → ◌≡◌ {A = Added} (Err why) (Ok table) → ⊥
+    not_ok why e = (cc)
+
+    same_ok : (rows : List ShardRow) → ◌≡◌ {A = Added} (Ok rows) (Ok table) → table ≡ rows
+    same_ok rows e = cc
+
+    go : (many early : Bool) → ◌≡◌ {A = Added} (if many then Err Rows else if early then Err (Start (last_start rows)) else Ok (rows ++ row ∷ [])) (Ok table) → table ≡ rows ++ row ∷ []
+    go true early e = absurd (not_ok Rows e)
+    go false true e = absurd (not_ok (Start (last_start rows)) e)
+    go false false e = same_ok (rows ++ row ∷ []) e
+
+by_parts : (joiners start : ℕ) (r : Added) (soon : Option TooSoon) (t : Topology) → answer_of joiners start r soon ≡ Ok t
+    → (table : List ShardRow) × (r ≡ Ok table) × (journal.topology_of joiners table ≡ t) × (soon ≡ None)
+by_parts joiners start (Err Rows) soon t e = absurd (no_answer _ t e)
+by_parts joiners start (Err (Start last)) soon t e = absurd (no_answer _ t e)
+by_parts joiners start (Ok table) (Some soon) t e = absurd (no_answer _ t e)
+by_parts joiners start (Ok table) None t e = (table, refl, same_answer _ t e, refl)
+
+-- an answer's topology is the kept one with the row, which nothing forbids
+record IsLonger (kept : Option Topology) (batches : List Batch) (row : ShardRow) (t : Topology) : Type 0 where
+  was : Topology
+  is_kept : kept ≡ Some was
+  longer : journal.topology_of was.joiners (was.table ++ row ∷ []) ≡ t
+  free : too_soon_for batches row.start ≡ None
+
+answered : (kept : Option Topology) (batches : List Batch) (row : ShardRow) (t : Topology) → answer_to kept batches row ≡ Ok t → IsLonger kept batches row t
+answered None batches row t e = absurd (no_answer _ t e)
+answered (Some was) batches row t e =
+    let x = by_parts was.joiners row.start (added was.table row) (too_soon_for batches row.start) t e in
+    record {
+      was = was;
+      is_kept = refl;
+      longer = ap (journal.topology_of was.joiners) (sym (added_is was.table row x.0 x.1)) ∙ x.2;
+      free = x.3;
+    }
+
+pub answers : (kept : Option Topology) (was : Topology) (batches : List Batch) (row : ShardRow) (table : List ShardRow) (soon : Option TooSoon) → kept ≡ Some was → added was.table row ≡ Ok table → too_soon_for batches row.start ≡ soon
+    → answer_to kept batches row ≡ answer_of was.joiners row.start (Ok table) soon
+answers kept was batches row table soon is so at =
+    ap (λ (o : Option Topology). answer_to o batches row) is ∙ ap (λ (r : Added). answer_of was.joiners row.start r (too_soon_for batches row.start)) so ∙ ap (answer_of was.joiners row.start (Ok table)) at
+
+-- its record may come next
+pub may_come : (kept : Option Topology) (was : Topology) (row : ShardRow) (table : List ShardRow) → kept ≡ Some was → IsTopology was → added was.table row ≡ Ok table → IsTable table
+    → MayCome kept (journal.topology_of was.joiners table)
+may_come kept was row table is fine so ok = (
+  subst (λ (o : Option Topology). IfSome o (λ k. is_longer k (journal.topology_of was.joiners table) ≡ true)) (sym is)
+      (ap (λ b. b && one_more was.table table) (eq-eqb was.joiners was.joiners refl)
+      ∙ subst (λ (rows : List ShardRow). one_more was.table rows ≡ true) (sym (added_is was.table row table so)) (more_same was.table row)),
+  record { joiners = record { some = fine.joiners.some; few = fine.joiners.few }; table = ok },
+)
+
+pub no_limit : (k : KeptValues) (told : Option RunFault) → told ≡ first_limit k → ((f : RunFault) → told ≡ Some f → ⊥) → first_limit k ≡ None
+no_limit k None e none = sym e
+no_limit k (Some f) e none = absurd (none f refl)
+
+-- what is at its limit is told
+pub limit_unadded : (k : KeptValues) (row : ShardRow) (f : RunFault) → first_limit k ≡ Some f → IsUnadded k row f
+limit_unadded k row f e =
+    let x = limit_is k.disks f e in
+    subst (IsUnadded k row) (sym x.2) (e ∙ ap Some x.2)
+
+-- why kept values aren't answered is why the row isn't added
+pub unadded_cause : (tells : Bool) (before : DiskName → List ℕ → Type 0) (row : ShardRow) (faulted : Type 0) (k : KeptValues) → AreKept tells before 0 k → (f : RunFault) → IsUnadded k row f → IsRowCause tells before row faulted f
+unadded_cause tells before row faulted k are (fault.Limit disk value) why = inl (k, are, (tt, refl, why))
+unadded_cause tells before row faulted k are (fault.Reshard u) why = (u, refl, (k, are, why))
+unadded_cause tells before row faulted k are fault.Memory why = tt
+unadded_cause tells before row faulted k are _ why = absurd why
+
+-- ---- the opened disks
+
+few_joiners : (tells : Bool) → IsTrue tells → (before : DiskName → List ℕ → Type 0) (k : KeptValues) → AreKept tells before 0 k → joiners_kept k.topology 0 ≤ 4
+few_joiners tells sure before k are = let x = are.topology sure in go k.topology (kept_is k.topology x.0 x.2)
+  where
+    go : (kept : Option Topology) → IfSome kept IsTopology → joiners_kept kept 0 ≤ 4
+    go None fine = omega arith
+    go (Some t) fine = fine.joiners.few
+
+pub none_topology : {D : Type 0} (tells : Bool) → IsTrue tells → (before : DiskName → List ℕ → Type 0) (kept : Option Topology) (disks : List (OpenView D)) → AreKept tells before 0 (values_of kept disks) → Lacks (lent_all disks) name.Topology
+none_topology tells sure before kept disks are =
+    lacks_by_names name.Topology disks _ (sym (names_kept disks) ∙ are.named) (not_topology _ (few_joiners tells sure before (values_of kept disks) are))
+
+not_lacking : {D : Type 0} (disks : List (OpenView D)) (n : DiskName) → Mem n (map (λ o. o.name) disks) → Lacks (lent_all disks) n → ⊥
+not_lacking [] n m lacks = absurd m
+not_lacking (o ∷ os) n (inl e) lacks = lacks.0 e
+not_lacking (o ∷ os) n (inr m) lacks = not_lacking os n m lacks.1
+
+module _ {D : Type 0} (left : D → List ℕ → Type 0) (mid after : DiskName → List ℕ → Type 0) (topology : Lent D) (disks : List (OpenView D)) (keep : Each (λ o. AllKept left o) disks)
+    (give : (disk : DiskName) (c : List ℕ) → after disk c → MayBeLeft left mid (topology ∷ lent_all disks) disk c) (its_name : topology.name ≡ name.Topology) (read : ReadNotesAreKept) (g : Setting) (d : Disks) (says : AreRecordsOf g (kept_all disks) d) where
+  abbrev Holds : Lent D → Type 0
+  Holds l = (c : List ℕ) → left l.disk c → KeepsOf g d l.name c
+
+  all_hold : (os : List (OpenView D)) → Each (λ o. AllKept left o) os → AreRecordsOf g (kept_all os) d → Each Holds (lent_all os)
+  all_hold [] keep says = tt
+  all_hold (o ∷ os) keep says = (λ c now. keeps_of read g d o.name o.kept c says.0 (keep.0 c now), all_hold os keep.1 says.1)
+
+  -- whatever is left of one of them keeps the records
+  keeps_records : (disk : DiskName) → disk ≢ name.Topology → Mem disk (map (λ o. o.name) disks) → (c : List ℕ) → after disk c → KeepsOf g d disk c
+  keeps_records disk other here c now = elim (give disk c now) [
+    | inl stays ↦ absurd (not_lacking disks disk here stays.0.1)
+    | inr from ↦ by_one from.one from.among from.named from.may
+  ]
+    where
+      by_one : (one : Lent D) → Mem one (topology ∷ lent_all disks) → one.name ≡ disk → left one.disk c → KeepsOf g d disk c
+      by_one one (inl same) is may = absurd (other (sym is ∙ ap (λ (l : Lent D). l.name) (sym same) ∙ its_name))
+      by_one one (inr among) is may = subst (λ (n : DiskName). KeepsOf g d n c) is (each_mem Holds one (lent_all disks) (all_hold disks keep says) among c may)
+
+-- ---- a sound store
+
+module _ {D : Type 0} (tells : Bool) (sure : IsTrue tells) (left : D → List ℕ → Type 0) (before mid after : DiskName → List ℕ → Type 0) (kept : Option Topology) (topology : Lent D) (disks : List (OpenView D)) (are : AreKept tells before 0 (values_of kept disks))
+    (row : ShardRow) (t : Topology) (answer : IsAnswer (values_of kept disks) row (Ok t)) (keep : Each (λ o. AllKept left o) disks)
+    (give : (disk : DiskName) (c : List ℕ) → after disk c → MayBeLeft left mid (topology ∷ lent_all disks) disk c) (its_name : topology.name ≡ name.Topology) (others : (disk : DiskName) → disk ≢ name.Topology → StaysAs (before disk) (after disk))
+    (read_topology : ReadTopologyIsKept) (read_notes : ReadNotesAreKept) (fits : TopologyFits) (g : Setting) (replicas : g.replicas ≡ 3) (sound : IsSoundStore g before) (b : Bytes) (choice : IsChoice g after b) where
+  abbrev k : KeptValues
+  k = values_of kept disks
+
+  it : IsLonger k.topology (accepted k.disks) row t
+  it = answered k.topology (accepted k.disks) row t answer.is
+
+  some : LeavesSomething g before
+  some disk here = elim (same_or_not disk name.Topology) [
+    | inl is ↦ let x = are.topology sure in (x.0, subst (λ (n : DiskName). before n x.0) (sym is) x.1)
+    | inr not ↦ let x = others disk not (b disk) (choice disk here) in (x.0, x.1)
+  ]
+
+  -- the kept topology is the setting's
+  own : record { joiners = it.was.joiners; table = it.was.table } ≡ topology_of g
+  own = topology_is tells sure before 0 k are g (few_joiners tells sure before k are) some sound read_topology fits it.was it.is_kept
+
+  asked : IsAsked it.was g
+  asked = record { joiners = ap (λ (u : PlainTopology). u.joiners) (sym own); table = ap (λ (u : PlainTopology). u.table) (sym own) }
+
+  abbrev records : Disks
+  records = its tells sure before k are it.was it.is_kept g asked replicas
+
+  says : AreRecordsOf g k.disks records
+  says = of tells sure before k are it.was it.is_kept g asked replicas
+
+  few_own : g.joiners ≤ 4
+  few_own = few tells sure before k are it.was it.is_kept g asked replicas
+
+  names : map (λ d. d.name) k.disks ≡ other_names g.joiners
+  names = named tells sure before k are it.was it.is_kept g asked replicas
+
+  row_added : IsRowAdded g row before after
+  row_added = record {
+    was = let x = are.topology sure in (x.0, x.1);
+    others = λ disk here other. others disk other;
+    records = records;
+    keep = λ disk here c now. elim (same_or_not disk name.Topology) [
+      | inl is ↦ subst (λ (n : DiskName). KeepsOf g records n c) (sym is) tt
+      | inr not ↦
+          keeps_records left mid after topology disks keep give its_name read_notes g records says disk not
+          (subst (Mem disk) (sym names ∙ names_kept disks) (all_named g.joiners few_own g replicas refl disk here not)) c now
+    ];
+    free = ap (λ (js : List (List BallotNote)). too_soon_for (all_batches js) row.start) (sym (notes_are g records k.disks names are.kinds says few_own replicas)) ∙ it.free;
+  }
+
+  longer_is : t ≡ journal.topology_of g.joiners (g.table ++ row ∷ [])
+  longer_is = sym it.longer ∙ ap (λ (u : PlainTopology). journal.topology_of u.joiners (u.table ++ row ∷ [])) own
+
+  pub sound_longer : RowIsSound g before after → IsWritten (before name.Topology) t (b name.Topology) → KeepSound (with_row g row) b
+  sound_longer law w = (law row b sound row_added choice).1 (subst (λ (u : Topology). Keeps (Some u) (b name.Topology)) longer_is w.keeps)
+
+  pub sound_either : RowIsSound g before after → IsOpened (before name.Topology) (b name.Topology) ⊎ IsWritten (before name.Topology) t (b name.Topology) → KeepSound g b ⊎ KeepSound (with_row g row) b
+  sound_either law (inl here) = inl ((law row b sound row_added choice).0 here)
+  sound_either law (inr w) = inr (sound_longer law w)

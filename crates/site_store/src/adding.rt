@@ -1,0 +1,138 @@
+// A row behind those of the table that a store keeps.
+ghost use Rattle.std.specs.Prelude.{◌≡◌, ◌≢◌, ◌≤◌, ◌⊎◌, ℕ, List, IsTrue, IfOk, IfErr, OnOk, OnErr, Ok};
+ghost use Rattle.outside.specs.declared.store.DiskName.{DiskName};
+ghost use Rattle.outside.specs.declared.store.DiskName.TheVariants as name;
+ghost use Rattle.outside.specs.Faults.{Rose};
+ghost use Rattle.gate_journal.specs.Images.{StaysAs, GoesOn};
+ghost use Rattle.gate_journal.specs.Opening.{IsOpened};
+ghost use Rattle.time_shards.specs.declared.TheConstants.{MAX_SHARDS};
+ghost use Rattle.topology_journal.specs.Topologies.{MayCome};
+ghost use Rattle.turn_defs.specs.Setting.{Setting};
+ghost use Rattle.verify_pass.specs.TooSoon.{too_soon_for};
+ghost use Rattle.photon_model.specs.Adding.{with_row};
+ghost use Rattle.site_laws.specs.Stores.{IsSoundStore, IsSoundOr};
+ghost use Rattle.run_fault.specs.declared.fault.StorePlace.TheVariants.{Disk as OfDisk};
+ghost use Rattle.run_fault.specs.declared.fault.RunFault.TheVariants.{Store as StoreFailed};
+ghost use Rattle.site_store.specs.Records.{kept_all, values_of};
+ghost use Rattle.site_store.specs.Adding.{HasRow, IsAdded, IsAnswer, IsRowCause, IsUnadded, accepted, unfit_by};
+
+use crate::disks::{OpenDisk, OpenStore};
+use crate::reading::journals_of;
+use crate::{first_limit, give_back, open_disks, write_topology};
+use outside::{Disk, Store};
+use run_fault::{RunFault, Unfit};
+use site_laws::stores::{fits, once, read, row_added, stays};
+use std::alloc::{AllocError, Global};
+use time_shards::{AddFault, ShardRow, Table};
+use topology_journal::Topology;
+use verify_pass::{TooSoon, too_soon};
+
+// What any replica accepted and forbids this start, if anything does.
+fn forbidding<D: Disk>(
+    alloc: Global,
+    disks: &[OpenDisk<D>],
+    start: u64,
+) -> Result<Option<TooSoon>, AllocError>
+    ensures { IfOk result (λ soon. soon ≡ too_soon_for (accepted (kept_all disks.now)) start) }
+{
+    let journals = journals_of(alloc, disks)?;
+    Ok(too_soon(&journals, start))
+}
+
+fn told(soon: TooSoon) -> Unfit
+    ensures { result ≡ unfit_by soon }
+{
+    match soon {
+        TooSoon::Bound(bound) => Unfit::Bound(bound),
+        TooSoon::Id(id) => Unfit::Id(id),
+    }
+}
+
+// The kept topology with this row, or the first reason against it.
+fn longer<D: Disk>(
+    alloc: Global,
+    opened: &OpenStore<D>,
+    row: ShardRow,
+) -> Result<Topology, RunFault>
+    requires some { 1 ≤ row.count }
+    requires few { row.count ≤ MAX_SHARDS }
+    ensures longer { IfOk result (λ t. IsAnswer (values_of opened.now.topology.value.kept opened.now.disks.items) row (Ok t)) }
+    ensures next { IfOk result (λ t. MayCome opened.now.topology.value.kept t) }
+    ensures unadded { IfErr result (IsUnadded (values_of opened.now.topology.value.kept opened.now.disks.items) row) }
+{
+    if let Some(fault) = first_limit(&opened.disks) {
+        return Err(fault);
+    }
+    let Some(kept) = opened.topology.value().kept() else {
+        return Err(RunFault::Reshard(Unfit::NoTopology));
+    };
+    let table = match kept.table.add(row.start, row.count) {
+        Ok(table) => table,
+        Err(AddFault::Rows) => return Err(RunFault::Reshard(Unfit::Rows)),
+        Err(AddFault::Start { last }) => {
+            return Err(RunFault::Reshard(Unfit::Start {
+                last,
+                asked: row.start,
+            }));
+        }
+    };
+    match forbidding(alloc, &opened.disks, row.start) {
+        Ok(None) => Ok(Topology {
+            joiners: kept.joiners,
+            table,
+        }),
+        Ok(Some(soon)) => Err(RunFault::Reshard(told(soon))),
+        Err(_) => Err(RunFault::Memory),
+    }
+}
+
+/// Puts a row behind those of the table that a store keeps, and gives all its disks back. It answers the longer table. The row is refused
+/// for the first of these: a disk that isn't opened, an epoch, a round or a slot that is at its limit, no topology that is kept, a
+/// table that can't have the row, and what any replica accepted at its start or later. Each leaves the store as it was. Last, the
+/// record may not be written: then the topology's disk has its old records, or those and the new one.
+///
+/// Each file is read once. Time and memory are linear in the files.
+pub fn add_row<S: Store>(alloc: Global, store: &mut S, row: ShardRow) -> Result<Table, RunFault>
+    requires some { 1 ≤ row.count }
+    requires few { row.count ≤ MAX_SHARDS }
+    ensures added { IfOk result (IsAdded S.Disk.tells (S.image store.old) row (S.image store.new)) }
+    ensures cause { IfErr result (IsRowCause S.Disk.tells (S.image store.old) row (Rose (S.faults store.old) (S.faults store.new))) }
+
+    // All disks are back. What may be left of each but the topology's stands for what might have been left of it before.
+    ensures others { IsTrue S.Disk.tells → (disk : DiskName) → disk ≢ name.Topology → StaysAs (S.image store.old disk) (S.image store.new disk) }
+    ensures topology { IsTrue S.Disk.tells → OnErr result ((c : List ℕ) → S.image store.new name.Topology c → IsOpened (S.image store.old name.Topology) c ⊎ HasRow S.Disk.tells (S.image store.old) row c) }
+    ensures back { IsTrue S.Disk.tells → IfErr result (λ f. f ≢ StoreFailed (OfDisk name.Topology) → (disk : DiskName) → StaysAs (S.image store.old disk) (S.image store.new disk)) }
+    ensures grown { IsTrue S.Disk.tells → (disk : DiskName) → GoesOn (S.image store.old disk) (S.image store.new disk) }
+
+    // A sound store is sound for its setting with the row, and after an error for its setting, or each choice of what a stop leaves is sound
+    // for one of the two.
+    ensures sound { IsTrue S.Disk.tells → OnOk result ((g : Setting) → g.replicas ≡ 3 → IsSoundStore g (S.image store.old) → IsSoundStore (with_row g row) (S.image store.new)) }
+    ensures either { IsTrue S.Disk.tells → OnErr result ((g : Setting) → g.replicas ≡ 3 → IsSoundStore g (S.image store.old) → IsSoundOr g (with_row g row) (S.image store.new)) }
+    ensures still { IsTrue S.Disk.tells → IfErr result (λ f. f ≢ StoreFailed (OfDisk name.Topology) → (g : Setting) → IsSoundStore g (S.image store.old) → IsSoundStore g (S.image store.new)) }
+
+    ensures count { S.faults store.old ≤ S.faults store.new }
+{
+    stays::<S>();
+    row_added::<S>();
+    once();
+    read();
+    fits();
+    let mut open = match open_disks(alloc, store, 0) {
+        Ok(open) => open,
+        Err(fault) => return Err(fault),
+    };
+    let asked = match longer(alloc, &open, row) {
+        Ok(asked) => asked,
+        Err(fault) => {
+            give_back(store, open);
+            return Err(fault);
+        }
+    };
+    let table = asked.table;
+    let written = write_topology(alloc, &mut open.topology, asked);
+    give_back(store, open);
+    match written {
+        Ok(()) => Ok(table),
+        Err(fault) => Err(fault),
+    }
+}
