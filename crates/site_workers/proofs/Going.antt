@@ -1,11 +1,14 @@
 -- Rounds of workers, one after another, and what they leave.
-use Rattle.std.proofs.Common.{◌≡◌, ℕ, zero, suc, ◌<◌, Bool, false, List, [], ◌∷◌, ◌++◌, length, map, get_or, slice_index_or, Option, Some, None, IfSome, MatchOption, refl, sym, ap, ◌∙◌, subst, arith}
+use Rattle.std.proofs.Common.{◌≡◌, ℕ, zero, suc, ◌+◌, ◌<◌, Bool, false, List, [], ◌∷◌, ◌++◌, length, map, get_or, slice_index_or, Option, Some, None, IfSome, MatchOption, refl, sym, ap, ◌∙◌, subst, arith}
 use Rattle.std.specs.Prelude.{All, IsTrue, IsSome}
 use mathlib.Core.Logic.{dite}
 use mathlib.Core.List.{map-append}
+use Rattle.std.proofs.lemmas.Simd.{map-map}
+use Rattle.std.specs.List.{range_with_len}
 use native.Mathlib.Decide.{ℕ_discrete}
 use Rattle.std.proofs.lemmas.List.{length-map, get_or-map, get_or_append_left, get_or_push, ext_get_or}
 use Rattle.std.proofs.Common.{[], length-append}
+use Rattle.std.proofs.lemmas.List.FromFn.{map-range_with_len_more}
 use Rattle.air_bus.specs.declared.entry.Entry.{Entry}
 use Rattle.air_bus.specs.declared.entry.Input.{Input}
 use Rattle.air_bus.specs.declared.entry.Phase.{Phase}
@@ -14,6 +17,7 @@ use Rattle.bus_seat.specs.Views.{count, made_by}
 use Rattle.bus_seat.specs.Seats.{BusId, Sight, fresh, fresh_to, fresh_seats, tag, TakesPart, AreSeatsOf, IsIn}
 use Rattle.bus_seat.proofs.Closing.{snoc_injective, fresh_count}
 use Rattle.site_node.specs.declared.kind.NodeFault.{NodeFault}
+use Rattle.site_workers.specs.Heard.{seat_numbers}
 use Rattle.site_workers.specs.Works.{WorkerView, LeadsOn, GrowsOn, HasMet}
 use Rattle.site_workers.specs.Rounds.{WentOn, AllWentOn, Walked, WentFar, Rests, OneHasFault, HasFault}
 use Rattle.site_workers.proofs.Stepping.{leads_on, grows_on, grew_on}
@@ -71,6 +75,23 @@ front_count bus front is = ap length is ∙ fresh_count bus (count bus.base)
 
 pub front_at : (bus : BusId) (front : List Sight) (i : ℕ) (d : Sight) → front ≡ fresh_to bus (count bus.base) → i < (count bus.base) → get_or front i d ≡ fresh bus (Some i)
 front_at bus front i d is l = ap (λ (xs : List Sight). get_or xs i d) is ∙ fresh_at bus (count bus.base) i d l
+
+-- the numbers of new seats, and of all seats of a bus
+fresh_numbers : (bus : BusId) (n : ℕ) → map (λ (s : Sight). s.number) (fresh_to bus n) ≡ map Some (range_with_len 0 n)
+fresh_numbers bus zero = refl
+fresh_numbers bus (suc n) =
+    let more : n + 1 ≡ suc n = omega arith in
+    map-append (λ (s : Sight). s.number) (fresh_to bus n) (fresh bus (Some n) ∷ [])
+    ∙ ap (λ l. l ++ Some n ∷ []) (fresh_numbers bus n)
+    ∙ sym (map-range_with_len_more Some 0 n n (omega arith))
+    ∙ ap (λ m. map Some (range_with_len 0 m)) more
+
+pub seats_numbered : (bus : BusId) (seats : List Sight) → AreSeatsOf bus seats → map (λ (s : Sight). s.number) seats ≡ seat_numbers (count bus.base)
+seats_numbered bus seats are =
+    let number = λ (s : Sight). s.number in
+    let of_tag = λ (t : BusId × Option ℕ). t.1 in
+    let tags : (ss : List Sight) → map of_tag (map tag ss) ≡ map number ss = λ ss. map-map of_tag tag ss in
+    sym (tags seats) ∙ ap (map of_tag) are ∙ tags (fresh_seats bus) ∙ map-append number (fresh_to bus (count bus.base)) (fresh bus None ∷ []) ∙ ap (λ l. l ++ None ∷ []) (fresh_numbers bus (count bus.base))
 
 module _ {N S : Type 0} (tells : Bool) (leads : S → Entry → S → Type 0) (phase_of : S → Phase) (stands : N → S → Type 0) (number : N → ℕ) (spends : S → Input → Option ℕ) (grown : N → N → Type 0) (disk_count : N → ℕ)
     (bus : BusId) (nodes : List N) (front : List Sight) (ws us : List (WorkerView N))

@@ -1,10 +1,10 @@
 // Rounds of workers over one bus, a thread each.
 ghost use Rattle.std.specs.Prelude.{◌≡◌, ◌≢◌, ◌<◌, ◌≤◌, ◌+◌, ◌^◌, ℕ, true, false, None, Some, [], ◌∷◌, ◌++◌, map, length, slice_index_or, vec_capacity, vec_len, IsTrue, IfOk, IfErr};
 ghost use Rattle.std.specs.List.{All};
-ghost use Rattle.air_bus.specs.History.{IsAired};
 ghost use Rattle.bus_seat.specs.Views.{count, made_by};
 ghost use Rattle.air_bus.specs.Waiting.{is_dead};
-ghost use Rattle.bus_seat.specs.Seats.{fresh, fresh_to, fresh_seats, TakesPart, IsIn};
+ghost use Rattle.bus_seat.specs.Seats.{fresh, fresh_to, fresh_seats, TakesPart};
+ghost use Rattle.site_workers.specs.Heard.{IsHeard};
 ghost use Rattle.site_workers.specs.Works.{WorkerView, HasMet};
 ghost use Rattle.site_workers.specs.Rounds.{WentOn, AllWentOn, Walked, WentFar, Rests, AreCaused, OneHasFault, HasFault};
 
@@ -61,12 +61,7 @@ pub fn run<R: Threads + Wait + Sync, N: SiteNode + Send + Drop, G: Gate>(
     requires few { length kinds.now < 2 ^ 16 }
     requires numbers { (i : ℕ) (d : N) → i < length nodes.items → N.number (slice_index_or nodes.items i d) ≡ i }
     requires up { All (λ n. N.waits n ≡ false) nodes.items }
-    ensures plan { IfOk result (λ r. (r.air.plan ≡ plan) × (r.air.kinds ≡ kinds.now)) }
-    // Each entry is one that the bus may add there: each packet that a node took was sent to it, and the next by the plan.
-    ensures aired { IfOk result (λ r. IsAired plan kinds.now r.air.history) }
-    // The history begins with all that was seen with a seat, and has of its number just what was made with it.
-    ensures lists { IfOk result (λ r. All (IsIn r.air.history) r.seen.items) }
-    ensures others { IfOk result (λ r. (n : ℕ) → length kinds.now ≤ n → made_by n r.air.history ≡ []) }
+    ensures heard { IfOk result (λ r. IsHeard plan kinds.now r.air r.seen.items) }
     ensures count { IfOk result (λ r. length r.nodes.items ≡ length nodes.items) }
     // Each node's entries have led it from where it stood to where it stands.
     ensures walked { IsTrue N.tells → IfOk result (λ r. (i : ℕ) (a : N) (b : _) → i < length nodes.items →
@@ -142,10 +137,7 @@ fn run_on<R: Threads + Wait + Sync, N: SiteNode + Send + Drop, G: Gate>(
     requires ended { (room.seats.items ≡ []) × (count bus.base + 1 ≤ vec_capacity room.seats) }
     requires left { (room.nodes.items ≡ []) × (count bus.base ≤ vec_capacity room.nodes) }
     requires seen { (room.seen.items ≡ []) × (count bus.base + 1 ≤ vec_capacity room.seen) }
-    ensures plan { (result.air.plan ≡ bus.base.plan) × (result.air.kinds ≡ bus.base.kinds) }
-    ensures aired { IsAired result.air.plan result.air.kinds result.air.history }
-    ensures lists { All (IsIn result.air.history) result.seen.items }
-    ensures others { (n : ℕ) → count bus.base ≤ n → made_by n result.air.history ≡ [] }
+    ensures heard { IsHeard bus.base.plan bus.base.kinds result.air result.seen.items }
     ensures count { length result.nodes.items ≡ length nodes.items }
     ensures walked { IsTrue N.tells → (i : ℕ) (a : N) (b : _) → i < length nodes.items →
         Walked N.leads N.phase_of N.stands N.number N.spends (slice_index_or nodes.items i a) (slice_index_or result.nodes.items i b) i result.air.history }

@@ -1,9 +1,11 @@
-use Rattle.std.proofs.Common.{◌++◌, ◌∷◌, [], length, sym, ap, ◌∙◌, subst, arith}
+use Rattle.std.proofs.Common.{◌≡◌, ◌++◌, ◌∷◌, [], length, map, sym, ap, ◌∙◌, subst, arith}
 use Rattle.std.specs.Prelude.{All}
 use Rattle.std.proofs.lemmas.List.{length-map}
+use Rattle.air_bus.specs.History.{Flight, IsAired}
+use Rattle.bus_seat.specs.Views.{flown}
 use Rattle.bus_seat.specs.Seats.{Sight, IsIn}
 use Rattle.site_workers.specs.Works.{WorkerView}
-use Rattle.site_workers.proofs.Going.{front_of, front_count, front_at, hired_buses, all_seats, all_walked, all_grown, all_disks, has_fault, all_rested, all_met}
+use Rattle.site_workers.proofs.Going.{front_of, front_count, front_at, hired_buses, all_seats, seats_numbered, all_walked, all_grown, all_disks, has_fault, all_rested, all_met}
 use Rattle.site_workers.proofs.rounds.run_on.Goals as goal
 
 pub hire-workers-requires-clause-count : goal.hire-workers-requires-clause-count
@@ -35,8 +37,25 @@ close-air-requires-clause-seats g c =
     last c.push_reserved.new.self.items (kept.0 ∙ ap (λ (s : Sight). s.bus) front.1) (kept.1 ∙ ap (λ (s : Sight). s.number) front.1)
     (c.push_reserved.ensures.items ∙ ap (λ l. l ++ last ∷ []) c.dismiss.ensures.seats.0)
 
-pub returns-clause-lists : goal.returns-clause-lists
-returns-clause-lists g c = subst (All (IsIn c.close-air.result.0.history)) (sym c.close-air.ensures.lists) c.close-air.ensures.history
+pub returns-clause-heard : goal.returns-clause-heard
+returns-clause-heard g c =
+    let m = g.N.SiteNode in
+    let front = front_of c.args.bus c.args.seats.items c.pop.new.self.items c.in-Some.last c.requires.seats c.in-Some.ensures.items in
+    let ws = c.hire-workers.result.items in
+    let us = c.rounds_of-workers.result.0.items in
+    let last = c.rounds_of-workers.new.last in
+    let kept = c.rounds_of-workers.ensures.last in
+    let seats = all_seats m.tells m.leads m.phase_of m.stands m.number m.spends m.grown m.disk_count c.args.bus c.args.nodes.items c.pop.new.self.items ws us c.hire-workers.ensures.nodes c.hire-workers.ensures.seats front.0 c.rounds_of-workers.ensures.went
+    last c.push_reserved.new.self.items (kept.0 ∙ ap (λ (s : Sight). s.bus) front.1) (kept.1 ∙ ap (λ (s : Sight). s.number) front.1)
+    (c.push_reserved.ensures.items ∙ ap (λ l. l ++ last ∷ []) c.dismiss.ensures.seats.0) in
+    let air : c.close-air.result.0 ≡ flown c.args.bus.base c.close-air.result.0.history = c.close-air.ensures.air in
+    record {
+      flight = air;
+      aired = subst (λ (f : Flight). IsAired f.plan f.kinds c.close-air.result.0.history) air c.close-air.ensures.aired;
+      others = c.close-air.ensures.others;
+      seats = ap (map (λ (s : Sight). s.number)) c.close-air.ensures.lists ∙ seats_numbered c.args.bus c.push_reserved.new.self.items seats;
+      lists = subst (All (IsIn c.close-air.result.0.history)) (sym c.close-air.ensures.lists) c.close-air.ensures.history;
+    }
 
 pub returns-clause-walked : goal.returns-clause-walked
 returns-clause-walked g c tells i a b l =
