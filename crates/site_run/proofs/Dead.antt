@@ -1,6 +1,6 @@
 -- Which nodes may be dead.
-use Rattle.std.proofs.Common.{◌≡◌, ℕ, zero, suc, ◌+◌, ◌<◌, ◌≤◌, Bool, true, false, not, ◌&&◌, ◌||◌, leb, ltb, List, [], ◌∷◌, take, refl, arith}
-use Rattle.site_run.proofs.Words.{leb-true, ltb-true, Kind, PlanView, kind_at, Setting, IsNode, node_number, Node, Dispatcher, Server, Replica, Joiner, DeadAreReplicas}
+use Rattle.std.proofs.Common.{◌≡◌, ℕ, zero, suc, ◌+◌, ◌*◌, ◌<◌, ◌≤◌, Bool, true, false, not, ◌&&◌, ◌||◌, leb, ltb, List, [], ◌∷◌, replicate, take, refl, subst, sym, arith}
+use Rattle.site_run.proofs.Words.{leb-true, ltb-true, Kind, PlanView, kind_at, kinds_of, Setting, IsNode, node_number, Node, Dispatcher, Server, Replica, Joiner, DeadAreReplicas}
 use Rattle.lossy_link.specs.declared.plan.Kind.TheVariants as kind
 use Rattle.air_bus.specs.Waiting.{is_replica}
 
@@ -18,20 +18,7 @@ among g three (Server s) is least most = absurd (omega (arith, is, least))
 among g three (Replica r) is least most = (r, refl)
 among g three (Joiner j) is least most = absurd (omega (arith, is.0, most, three))
 
--- where the replicas have these numbers alone, whoever is dead is one
-pub dead_replicas : (g : Setting) (plan : PlanView) (kinds : List Kind) → g.replicas ≡ 3 → ((n : ℕ) → is_replica (kind_at kinds n) ≡ true → (4 ≤ n) × (n < 7)) → DeadAreReplicas g plan kinds
-dead_replicas g plan kinds three numbers n is gone =
-    let within = numbers (node_number n) (both _ _ gone).1 in
-    among g three n is within.0 within.1
-
--- ---- the kinds of all nodes
-
-abbrev kinds : List Kind
-kinds =
-    kind.Dispatcher ∷ kind.Dispatcher ∷ kind.Server ∷ kind.Server ∷ kind.Replica ∷ kind.Replica ∷ kind.Replica ∷ kind.Joiner ∷ kind.Joiner ∷ kind.Joiner ∷ kind.Joiner ∷ kind.Joiner ∷ kind.Joiner
-    ∷ kind.Joiner ∷ kind.Joiner ∷ []
-
--- whether a replica among them, the first having this number, has one of these
+-- whether each replica among these, the first having this number, has one of the three
 abbrev are_right : ℕ → List Kind → Bool
 are_right i [] = true
 are_right i (k ∷ ks) = (not (is_replica k) || (leb 4 i && ltb i 7)) && are_right (suc i) ks
@@ -47,12 +34,22 @@ right_at i (k ∷ ks) right (suc n) is =
     let later = right_at (suc i) ks (both _ _ right).1 n is in
     (omega (arith, later.0), omega (arith, later.1))
 
--- a replica among the first is one among all
-taken : (m : ℕ) (ks : List Kind) (n : ℕ) → is_replica (kind_at (take m ks) n) ≡ true → is_replica (kind_at ks n) ≡ true
-taken zero ks n is = absurd (cc is)
-taken (suc m) [] n is = is
-taken (suc m) (k ∷ ks) zero is = is
-taken (suc m) (k ∷ ks) (suc n) is = taken m ks n is
+joiners_right : (i n : ℕ) → are_right i (replicate n kind.Joiner) ≡ true
+joiners_right i zero = refl
+joiners_right i (suc n) = joiners_right (suc i) n
 
-pub numbered : (m n : ℕ) → is_replica (kind_at (take m kinds) n) ≡ true → (4 ≤ n) × (n < 7)
-numbered m n is = let at = right_at 0 kinds refl n (taken m kinds n is) in (omega (arith, at.0), omega (arith, at.1))
+-- whoever is dead is a replica
+pub dead_replicas : (g : Setting) (plan : PlanView) (kinds : List Kind) (joiners : ℕ) → g.replicas ≡ 3 → kinds ≡ kinds_of joiners → DeadAreReplicas g plan kinds
+dead_replicas g plan kinds joiners three are n is gone =
+    let at = subst (λ ks. is_replica (kind_at ks (node_number n)) ≡ true) are (both _ _ gone).1 in
+    let within = right_at 0 (kinds_of joiners) (joiners_right 7 (2 * joiners)) (node_number n) at in
+    among g three n is (omega (arith, within.0)) (omega (arith, within.1))
+
+-- the front of all kinds, with four joiners a site, is that with fewer
+pub fewer : (j : ℕ) → j ≤ 4 → take (7 + 2 * j) (kinds_of 4) ≡ kinds_of j
+fewer zero l = refl
+fewer (suc zero) l = refl
+fewer (suc (suc zero)) l = refl
+fewer (suc (suc (suc zero))) l = refl
+fewer (suc (suc (suc (suc zero)))) l = refl
+fewer (suc (suc (suc (suc (suc j))))) l = absurd (omega (arith, l))

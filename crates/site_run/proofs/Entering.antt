@@ -74,7 +74,7 @@ module _ {D : Type 0} (asked : Topology) (left : D → List ℕ → Type 0) (bef
         topology_left : (c : List ℕ) → after name.Topology c → left topology.disk c
         topology_left c now = ⊎_elim (λ in_it. absurd (in_it.0.0 named)) (λ of. of_topology c of) (give name.Topology c now)
 
-        other_stays : (disk : DiskName) → disk ≢ name.Topology → StaysAs (before disk) (after disk)
+        pub other_stays : (disk : DiskName) → disk ≢ name.Topology → StaysAs (before disk) (after disk)
         other_stays disk other c now = ⊎_elim (λ in_it. opened_same (before disk) c (out.in_store disk in_it.0 c in_it.1)) (λ of. of_other disk c other of) (give disk c now)
 
         -- something was left of the topology's disk before, if something of it is left now

@@ -8,9 +8,9 @@ use Rattle.site_run.specs.AnyNodes.{GoesOn}
 use Rattle.site_run.proofs.Walking.{walked}
 
 -- what is known of a result that came
-pub with_ok : {T E : Type 0} (A B C F G Q : T → Type 0) (r : Result T E) → IfOk r A → IfOk r B → IfOk r C → IfOk r F → IfOk r G → ((t : T) → A t → B t → C t → F t → G t → Q t) → IfOk r Q
-with_ok A B C F G Q (Ok t) a b c f g h = h t a b c f g
-with_ok A B C F G Q (Err e) a b c f g h = tt
+pub with_ok : {T E : Type 0} (A B C F Q : T → Type 0) (r : Result T E) → IfOk r A → IfOk r B → IfOk r C → IfOk r F → ((t : T) → A t → B t → C t → F t → Q t) → IfOk r Q
+with_ok A B C F Q (Ok t) a b c f h = h t a b c f
+with_ok A B C F Q (Err e) a b c f h = tt
 
 pub with_grown : {T E : Type 0} (A Q : T → Type 0) (r : Result T E) → IfOk r A → ((t : T) → A t → Q t) → IfOk r Q
 with_grown A Q (Ok t) a h = h t a

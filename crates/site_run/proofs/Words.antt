@@ -82,6 +82,7 @@ pub use Rattle.site_node.specs.declared.roster.Roster.{Roster}
 pub use Rattle.site_run.specs.AnyNodes.{AnyLeads, AnyState, IsAtLast, IsMeant, any_of, any_phase, any_rests, down_with, with_site}
 pub use Rattle.site_run.specs.Asked.{AreLogsOf, IsRosterOf, IsSettingOf, IsSettingOver}
 pub use Rattle.site_run.specs.Causes.{IsOfDisks, IsPastOpening, of_node}
+pub use Rattle.site_run.specs.Heard.{kinds_of}
 pub use Rattle.site_run.specs.Held.{HasGoneOn, HasSpelledNotes, HaveGoneOn, HoldsAs}
 pub use Rattle.site_run.specs.Joined.{IsAcceptedBound, Joins, JoinsAfresh, RanAfresh, WasHeld, decided_by}
 pub use Rattle.site_run.specs.Laws.{AllHold, AreHeld, AreMet, IsLeftBy, JoinerStopped, KeepsItsRecord, NoJoinerStopped, NoneStops}
@@ -89,6 +90,7 @@ pub use Rattle.site_run.specs.Left.{HasRested, HasRun, RestLeft, RunLeft}
 pub use Rattle.site_run.specs.Meaning.{AreLinesBy, lines_by}
 pub use Rattle.site_run.specs.Naming.{IsLess, IsTakenFrom, all_from, all_held, as_lent, held, joiner_disks, joiner_of as place_at, of_dispatcher, of_joiner, of_replica, of_server, place_of, site_disks, site_of}
 pub use Rattle.site_run.specs.Out.{AreOut}
+pub use Rattle.site_run.specs.Over.{RunsOver}
 pub use Rattle.site_run.specs.Placed.{AllAt, IsDownAt}
 pub use Rattle.site_run.specs.Refused.{HasPassed, IsCauseOf, IsOfRun, KeptAreJournals, OneKept, TellsPlaces, asked_of}
 pub use Rattle.site_run.specs.Resting.{AllKeep, IsClosed, KeepsAs}

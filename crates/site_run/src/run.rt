@@ -1,12 +1,9 @@
 // The run.
-ghost use Rattle.std.specs.Prelude.{◌≡◌, ◌<◌, ◌≤◌, ◌+◌, ◌*◌, ◌++◌, ◌∷◌, [], ℕ, List, None, Some, length, map, vec_len, vec_capacity, take, IsTrue, IfOk, IfErr, OnOk, IfSome, IsSomeAnd};
-ghost use Rattle.std.specs.List.{All};
+ghost use Rattle.std.specs.Prelude.{◌≡◌, ◌<◌, ◌≤◌, ◌+◌, ◌*◌, ◌++◌, ◌∷◌, [], ℕ, List, None, Some, length, map, vec_len, vec_capacity, IsTrue, IfOk, IfErr, IfSome, IsSomeAnd};
 ghost use Rattle.list_words.specs.Lists.{Mem};
 ghost use Rattle.outside.specs.declared.store.DiskName.{DiskName};
 ghost use Rattle.outside.specs.Faults.{Rose};
 ghost use Rattle.time_shards.specs.Shards.{IsTable};
-ghost use Rattle.air_bus.specs.History.{IsAired};
-ghost use Rattle.bus_seat.specs.Seats.{IsIn};
 ghost use Rattle.turn_defs.specs.Setting.{Setting, Checked};
 ghost use Rattle.photon_model.specs.Runs.{Disks};
 ghost use Rattle.dispatch_node.specs.Places.{AreKeptPlaces};
@@ -14,15 +11,17 @@ ghost use Rattle.site_store.specs.Refusals.{other_names};
 ghost use Rattle.site_store.specs.Records.{AreRecordsOf, kept_all, lent_all, topology_lent};
 ghost use Rattle.site_store.specs.Lent.{MayBeLeft};
 ghost use Rattle.gate_journal.specs.Images.{GoesOn};
-ghost use Rattle.site_laws.specs.Stores.{IsSoundStore, SameRecords};
+ghost use Rattle.site_laws.specs.Stores.{SameRecords};
 ghost use Rattle.site_store.specs.Causes.{LeavesSomething};
 ghost use Rattle.site_run.specs.Laws.{KeepsItsRecord};
 ghost use Rattle.site_run.specs.Asked.{OfSetting, IsSettingOver, AreLogsOf};
+ghost use Rattle.site_run.specs.Heard.{IsHeardOf};
 ghost use Rattle.site_run.specs.Out.{AreOut};
-ghost use Rattle.site_run.specs.Left.{HasRun, HasRested, RunLeft, RestLeft};
-ghost use Rattle.run_fault.specs.Causes.{IsCounted, IsWelcome};
+ghost use Rattle.site_run.specs.Left.{HasRun, HasRested};
+ghost use Rattle.site_run.specs.Over.{RunsOver};
+ghost use Rattle.run_fault.specs.Causes.{IsCounted};
 ghost use Rattle.site_run.specs.Causes.{IsPastOpening};
-ghost use Rattle.site_run.specs.Refused.{HasPassed, IsCauseOf, IsOfRun, NamesEnded};
+ghost use Rattle.site_run.specs.Refused.{IsOfRun, NamesEnded};
 
 use crate::built::{Built, Logs, Room, build};
 use crate::disk_laws::{all_held, all_met};
@@ -70,26 +69,14 @@ where
     requires table { IsTable config.now.table }
     requires batch { config.now.batch ≤ 64 }
 
-    // A sound store stays sound, and no disk's records are lost, at every return.
-    ensures sound { IsTrue S.Disk.tells → IsTrue F.Log.tells → OfSetting (F.bytes files.old) names.now.queries.now names.now.clicks.now config.now end (λ g. IsSoundStore g (S.image store.old) → IsSoundStore g (S.image store.new)) }
-    ensures grown { IsTrue S.Disk.tells → IsTrue F.Log.tells → OfSetting (F.bytes files.old) names.now.queries.now names.now.clicks.now config.now end (λ g. (disk : DiskName) → GoesOn (S.image store.old disk) (S.image store.new disk)) }
+    // How it ends for whatever setting the logs make.
+    ensures over { IsTrue S.Disk.tells → IsTrue F.Log.tells → OfSetting (F.bytes files.old) names.now.queries.now names.now.clicks.now config.now end (λ g. RunsOver g (S.image store.old) (S.image store.new)
+        (Rose (F.faults files.old) (F.faults files.new)) (Rose (S.faults store.old) (S.faults store.new)) ((s : S) → LeavesSomething g (S.image s)) ran.new.log result) }
 
-    // Where a run began, its history is one of the whole system, from what the disks kept when they were opened.
-    ensures left { IsTrue S.Disk.tells → IsTrue F.Log.tells → OfSetting (F.bytes files.old) names.now.queries.now names.now.clicks.now config.now end (λ g. IfSome ran.new.log (λ l. RunLeft g (S.image store.old) (S.image store.new) l.air.history)) }
-    // Where it ends well all nodes have come to rest, and the journals are what the disks keep.
-    ensures rest { IsTrue S.Disk.tells → IsTrue F.Log.tells → OfSetting (F.bytes files.old) names.now.queries.now names.now.clicks.now config.now end (λ g. IfOk result (λ outcome. IsSomeAnd ran.new.log (λ l. RestLeft g (S.image store.old) (S.image store.new) l.air.history (Rose (S.faults store.old) (S.faults store.new)) outcome.journals))) }
-    // The history begins with all that was seen with a seat, and has of its number just what was made with it; each packet that a
-    // node took is the next of those that the plan leaves of what was sent.
-    ensures lists { IfSome ran.new.log (λ l. All (IsIn l.air.history) l.seen.items) }
-    ensures aired { IfSome ran.new.log (λ l. IsAired plan l.air.kinds l.air.history) }
-
-    // Why it gives up, and that what the disks kept can be run where it doesn't. A fault that names a node is of one that stopped eight
-    // times, or couldn't be reopened. A sound store isn't refused for the table or the places that it keeps, nor, where a stop leaves
-    // something of each disk, for its number of joiners or for a damaged disk.
+    // What is heard of it, whatever logs and disks tell; and why it gives up. A fault that names a node is of one that stopped eight
+    // times, or couldn't be reopened.
+    ensures heard { IfSome ran.new.log (IsHeardOf plan config.now.joiners) }
     ensures cause { IfErr result (IsCounted (Rose (F.faults files.old) (F.faults files.new)) (Rose (S.faults store.old) (S.faults store.new))) }
-    ensures welcome { IsTrue S.Disk.tells → IsTrue F.Log.tells → OfSetting (F.bytes files.old) names.now.queries.now names.now.clicks.now config.now end (λ g. IsSoundStore g (S.image store.old) → IfErr result (IsWelcome ((s : S) → LeavesSomething g (S.image s)))) }
-    ensures refused { IsTrue S.Disk.tells → IsTrue F.Log.tells → OfSetting (F.bytes files.old) names.now.queries.now names.now.clicks.now config.now end (λ g. IfErr result (IsCauseOf g (S.image store.old) (Rose (F.faults files.old) (F.faults files.new)) (Rose (S.faults store.old) (S.faults store.new)))) }
-    ensures passed { IsTrue S.Disk.tells → IsTrue F.Log.tells → OfSetting (F.bytes files.old) names.now.queries.now names.now.clicks.now config.now end (λ g. OnOk result (HasPassed g (S.image store.old))) }
     ensures stopped { IfErr result (NamesEnded ran.new.log) }
     ensures same { IsTrue F.Log.tells → (n : List ℕ) → F.bytes files.new n ≡ F.bytes files.old n }
     ensures file_count { F.faults files.old ≤ F.faults files.new }
@@ -155,16 +142,10 @@ where
     requires clicks { length logs.clicks.items ≡ 2 }
     requires queries { (length logs.queries_a.items ≡ config.now.joiners) × (length logs.queries_b.items ≡ config.now.joiners) }
     requires none { ran.old.log ≡ None }
-    ensures sound { IsTrue S.Disk.tells → IsTrue F.Log.tells → (g : Setting) → Checked g → IsSettingOver F.Log.bytes logs.clicks.items logs.queries_a.items logs.queries_b.items config.now end g → IsSoundStore g (S.image store.old) → IsSoundStore g (S.image store.new) }
-    ensures grown { IsTrue S.Disk.tells → IsTrue F.Log.tells → (g : Setting) → IsSettingOver F.Log.bytes logs.clicks.items logs.queries_a.items logs.queries_b.items config.now end g → (disk : DiskName) → GoesOn (S.image store.old disk) (S.image store.new disk) }
-    ensures left { IsTrue S.Disk.tells → IsTrue F.Log.tells → (g : Setting) → IsSettingOver F.Log.bytes logs.clicks.items logs.queries_a.items logs.queries_b.items config.now end g → IfSome ran.new.log (λ l. RunLeft g (S.image store.old) (S.image store.new) l.air.history) }
-    ensures rest { IsTrue S.Disk.tells → IsTrue F.Log.tells → (g : Setting) → IsSettingOver F.Log.bytes logs.clicks.items logs.queries_a.items logs.queries_b.items config.now end g → IfOk result (λ outcome. IsSomeAnd ran.new.log (λ l. RestLeft g (S.image store.old) (S.image store.new) l.air.history (Rose (S.faults store.old) (S.faults store.new)) outcome.journals)) }
-    ensures lists { IfSome ran.new.log (λ l. All (IsIn l.air.history) l.seen.items) }
-    ensures aired { IfSome ran.new.log (λ l. IsAired plan l.air.kinds l.air.history) }
+    ensures over { IsTrue S.Disk.tells → IsTrue F.Log.tells → (g : Setting) → Checked g → IsSettingOver F.Log.bytes logs.clicks.items logs.queries_a.items logs.queries_b.items config.now end g → RunsOver g (S.image store.old) (S.image store.new)
+        (Rose (F.faults files.old) (F.faults files.new)) (Rose (S.faults store.old) (S.faults store.new)) (LeavesSomething g (S.image store.old)) ran.new.log result }
+    ensures heard { IfSome ran.new.log (IsHeardOf plan config.now.joiners) }
     ensures cause { IfErr result (IsCounted (Rose (F.faults files.old) (F.faults files.new)) (Rose (S.faults store.old) (S.faults store.new))) }
-    ensures welcome { IsTrue S.Disk.tells → IsTrue F.Log.tells → (g : Setting) → IsSettingOver F.Log.bytes logs.clicks.items logs.queries_a.items logs.queries_b.items config.now end g → IsSoundStore g (S.image store.old) → IfErr result (IsWelcome (LeavesSomething g (S.image store.old))) }
-    ensures refused { IsTrue S.Disk.tells → IsTrue F.Log.tells → (g : Setting) → IsSettingOver F.Log.bytes logs.clicks.items logs.queries_a.items logs.queries_b.items config.now end g → IfErr result (IsCauseOf g (S.image store.old) (Rose (F.faults files.old) (F.faults files.new)) (Rose (S.faults store.old) (S.faults store.new))) }
-    ensures passed { IsTrue S.Disk.tells → IsTrue F.Log.tells → (g : Setting) → IsSettingOver F.Log.bytes logs.clicks.items logs.queries_a.items logs.queries_b.items config.now end g → OnOk result (HasPassed g (S.image store.old)) }
     ensures stopped { IfErr result (NamesEnded ran.new.log) }
     ensures same { IsTrue F.Log.tells → (n : List ℕ) → F.bytes files.new n ≡ F.bytes files.old n }
     ensures file_count { F.faults files.old ≤ F.faults files.new }
@@ -232,8 +213,7 @@ where
         → (d : Disks) → AreRecordsOf g (kept_all opened.disks.items) d → ((s : ℕ) → s < 2 → AreKeptPlaces g (d.dispatchers s)) → (e : Disks) → SameRecords g d e → KeepsItsRecord S.Disk.image g (topology_lent opened.topology.journal.disk) → IfSome ran.new.log (λ l. HasRun g e l.air.history (S.image store.new)) }
     ensures rest { IsTrue S.Disk.tells → IsTrue F.Log.tells → (g : Setting) → AreLogsOf F.Log.bytes logs.clicks.items logs.queries_a.items logs.queries_b.items config.now g
         → (d : Disks) → AreRecordsOf g (kept_all opened.disks.items) d → ((s : ℕ) → s < 2 → AreKeptPlaces g (d.dispatchers s)) → (e : Disks) → SameRecords g d e → KeepsItsRecord S.Disk.image g (topology_lent opened.topology.journal.disk) → IfOk result (λ outcome. IsSomeAnd ran.new.log (λ l. HasRested g e l.air.history (S.image store.new) (Rose (S.faults store.old) (S.faults store.new)) outcome.journals)) }
-    ensures lists { IfSome ran.new.log (λ l. All (IsIn l.air.history) l.seen.items) }
-    ensures aired { IfSome ran.new.log (λ l. IsAired plan l.air.kinds l.air.history) }
+    ensures heard { IfSome ran.new.log (IsHeardOf plan config.now.joiners) }
     ensures cause { IfErr result (IsCounted (Rose (F.faults files.old) (F.faults files.new)) (Rose (S.faults store.old) (S.faults store.new))) }
     ensures welcome { IfErr result IsPastOpening }
     ensures whole { IsTrue S.Disk.tells → IsTrue F.Log.tells → (g : Setting) → AreLogsOf F.Log.bytes logs.clicks.items logs.queries_a.items logs.queries_b.items config.now g

@@ -3,14 +3,12 @@ ghost use Rattle.std.specs.Prelude.{◌≡◌, ◌<◌, ◌≤◌, ◌+◌, ◌*
 ghost use Rattle.std.specs.List.{All};
 ghost use Rattle.outside.specs.declared.store.DiskName.{DiskName};
 ghost use Rattle.outside.specs.Faults.{Rose};
-ghost use Rattle.air_bus.specs.History.{IsAired};
-ghost use Rattle.air_bus.specs.Waiting.{is_replica, kind_at};
-ghost use Rattle.bus_seat.specs.Seats.{IsIn};
 ghost use Rattle.turn_defs.specs.Setting.{Setting};
 ghost use Rattle.photon_model.specs.Runs.{Disks};
 ghost use Rattle.site_store.specs.Lent.{MayBeLeft};
 ghost use Rattle.gate_journal.specs.Images.{GoesOn};
 ghost use Rattle.site_laws.specs.Stores.{SameRecords};
+ghost use Rattle.site_run.specs.Heard.{IsHeardOf, kinds_of};
 ghost use Rattle.site_run.specs.Running.{AreDownOver};
 ghost use Rattle.site_run.specs.Naming.{as_lent, all_from};
 ghost use Rattle.site_run.specs.Asked.{IsRosterOf};
@@ -56,8 +54,8 @@ const KINDS: [Kind; 15] = [
 // The kinds of all nodes, with so many joiners a site.
 fn kinds(joiners: u8) -> &'static [Kind]
     requires { joiners ≤ 4 }
+    ensures are { result.now ≡ kinds_of joiners }
     ensures count { length result.now ≡ 7 + 2 * joiners }
-    ensures replicas { (n : ℕ) → is_replica (kind_at result.now n) ≡ true → (4 ≤ n) × (n < 7) }
 {
     &KINDS[..7 + 2 * usize::from(joiners)]
 }
@@ -101,8 +99,7 @@ where
     ensures rest { IsTrue S.Disk.tells → IsTrue N.tells → (g : Setting) (d e : Disks) → IsRosterOf g joiners → AreHeld S.Disk.image N.places N.grown N.disks_of
         → AreMet S.Disk.faults F.Log.faults N.faults N.log_faults N.disks_of N.logs_of → AreDownOver N.places g d nodes.items → SameRecords g d e → KeepsItsRecord S.Disk.image g (as_lent topology)
         → IfOk result (λ outcome. IsSomeAnd ran.new.log (λ l. HasRested g e l.air.history (S.image store.new) (Rose (S.faults store.old) (S.faults store.new)) outcome.journals)) }
-    ensures lists { IfSome ran.new.log (λ l. All (IsIn l.air.history) l.seen.items) }
-    ensures aired { IfSome ran.new.log (λ l. IsAired plan l.air.kinds l.air.history) }
+    ensures heard { IfSome ran.new.log (IsHeardOf plan joiners) }
     ensures cause { AreMet S.Disk.faults F.Log.faults N.faults N.log_faults N.disks_of N.logs_of
         → IfErr result (λ f. IsCounted (Rose (F.faults files.old) (F.faults files.new)) (Rose (S.faults store.old) (S.faults store.new)) f × IsPastOpening f) }
     // No disk is told as damaged, and a limit only of a node in its last epoch, which it kept at first or came to after a fault.

@@ -1,12 +1,11 @@
 // The run of the nodes of both sites.
 ghost use Rattle.std.specs.Prelude.{◌≡◌, ◌<◌, ◌^◌, ℕ, length, slice_index_or, false, IsTrue, IfOk, IfErr};
 ghost use Rattle.std.specs.List.{All};
-ghost use Rattle.air_bus.specs.History.{IsAired};
 ghost use Rattle.bus_seat.specs.Views.{made_by};
-ghost use Rattle.bus_seat.specs.Seats.{IsIn};
 ghost use Rattle.turn_defs.specs.Setting.{Setting};
 ghost use Rattle.turn_defs.specs.Nodes.{node_count};
 ghost use Rattle.photon_model.specs.Runs.{Disks};
+ghost use Rattle.site_workers.specs.Heard.{IsHeard};
 ghost use Rattle.site_workers.specs.Works.{HasMet};
 ghost use Rattle.site_workers.specs.Rounds.{HasFault, AreCaused};
 ghost use Rattle.site_run.specs.Running.{AreDownOver, DeadAreReplicas, IsRunFrom, HaveGrown};
@@ -36,11 +35,7 @@ pub fn run_nodes<R: Threads + Wait + Sync, N: SystemNode + Send + Drop, G: Gate>
     requires few { length kinds.now < 2 ^ 16 }
     requires numbers { (i : ℕ) (d : N) → i < length nodes.items → N.number (slice_index_or nodes.items i d) ≡ i }
     requires up { All (λ n. N.waits n ≡ false) nodes.items }
-    ensures plan { IfOk result (λ r. (r.air.plan ≡ plan) × (r.air.kinds ≡ kinds.now)) }
-    // Each entry is one that the bus may add there: each packet that a node took was sent to it, and the next by the plan.
-    ensures aired { IfOk result (λ r. IsAired plan kinds.now r.air.history) }
-    // The history begins with all that was seen with a seat, and has of its number just what was made with it.
-    ensures lists { IfOk result (λ r. All (IsIn r.air.history) r.seen.items) }
+    ensures heard { IfOk result (λ r. IsHeard plan kinds.now r.air r.seen.items) }
     ensures count { IfOk result (λ r. length r.nodes.items ≡ length nodes.items) }
     ensures disks { IfOk result (λ r. (i : ℕ) (a : N) (b : _) → i < length nodes.items → N.disk_count (slice_index_or r.nodes.items i b).0 ≡ N.disk_count (slice_index_or nodes.items i a)) }
     // The history is a run of the whole system, from whatever records its nodes were opened over.

@@ -45,7 +45,7 @@ returns-in-Ok-clause-left g c tells node_tells gg d e roster held down same kept
     let front = in_front c.args.parts.disks.items c.push_reserved.new.self.items c.args.topology (all_from (λ i w. disks_of c.args.joiners i w.0) 0 ws) c.requires.empty.0 c.push_reserved.ensures.items in
     let whole = c.part_all-parts.ensures.disks ∙ front in
     has_run image g.N.SystemNode.places g.N.SiteNode.grown disks_of held gg c.args.joiners roster (c.node_numbers.ensures gg) e c.in-Ok.left.air.history ws c.in-Ok.left.rest
-    (c.in-Ok.ensures.run node_tells gg e (sym count ∙ c.requires.count ∙ sym c.kinds.ensures.count) (dead_replicas gg c.args.plan _ roster.replicas c.kinds.ensures.replicas) (down_too g.N.SystemNode.places gg d e c.args.nodes.items same down)) (c.in-Ok.ensures.count ∙ count) (as_lent c.args.topology) kept inside (g.S.Store.image c.settle.new.store)
+    (c.in-Ok.ensures.run node_tells gg e (sym count ∙ c.requires.count ∙ sym c.kinds.ensures.count) (dead_replicas gg c.args.plan _ c.args.joiners roster.replicas c.kinds.ensures.are) (down_too g.N.SystemNode.places gg d e c.args.nodes.items same down)) (c.in-Ok.ensures.count ∙ count) (as_lent c.args.topology) kept inside (g.S.Store.image c.settle.new.store)
     (λ name b here. subst (λ l. MayBeLeft image inside l name b) whole (c.settle.ensures.left tells name b here))
 
 pub returns-in-Ok-clause-rest : goal.returns-in-Ok-clause-rest
@@ -61,7 +61,7 @@ returns-in-Ok-clause-rest g c tells node_tells gg d e roster held met down same 
     let numbers = c.node_numbers.ensures gg in
     let topology = as_lent c.args.topology in
     let count : length c.args.nodes.items ≡ node_count gg = counted gg.joiners gg.replicas (length c.args.nodes.items) c.args.joiners c.requires.count roster.joiners_are roster.replicas in
-    let left = c.in-Ok.ensures.run node_tells gg e (sym count ∙ c.requires.count ∙ sym c.kinds.ensures.count) (dead_replicas gg c.args.plan _ roster.replicas c.kinds.ensures.replicas) (down_too g.N.SystemNode.places gg d e c.args.nodes.items same down) in
+    let left = c.in-Ok.ensures.run node_tells gg e (sym count ∙ c.requires.count ∙ sym c.kinds.ensures.count) (dead_replicas gg c.args.plan _ c.args.joiners roster.replicas c.kinds.ensures.are) (down_too g.N.SystemNode.places gg d e c.args.nodes.items same down) in
     let front = in_front c.args.parts.disks.items c.push_reserved.new.self.items c.args.topology (all_from (λ i w. disks_of c.args.joiners i w.0) 0 ws) c.requires.empty.0 c.push_reserved.ensures.items in
     let whole = c.part_all-parts.ensures.disks ∙ front in
     ok_three _ _ _ _ c.settle.result c.settle.ensures.notes c.settle.ensures.pairs c.settle.ensures.whole
@@ -107,7 +107,7 @@ returns-in-Ok-clause-whole g c tells node_tells gg d roster held met down kept =
     let numbers = c.node_numbers.ensures gg in
     let topology = as_lent c.args.topology in
     let count : length c.args.nodes.items ≡ node_count gg = counted gg.joiners gg.replicas (length c.args.nodes.items) c.args.joiners c.requires.count roster.joiners_are roster.replicas in
-    let left = c.in-Ok.ensures.run node_tells gg d (sym count ∙ c.requires.count ∙ sym c.kinds.ensures.count) (dead_replicas gg c.args.plan _ roster.replicas c.kinds.ensures.replicas) down in
+    let left = c.in-Ok.ensures.run node_tells gg d (sym count ∙ c.requires.count ∙ sym c.kinds.ensures.count) (dead_replicas gg c.args.plan _ c.args.joiners roster.replicas c.kinds.ensures.are) down in
     let front = in_front c.args.parts.disks.items c.push_reserved.new.self.items c.args.topology (all_from (λ i w. disks_of c.args.joiners i w.0) 0 ws) c.requires.empty.0 c.push_reserved.ensures.items in
     let whole = c.part_all-parts.ensures.disks ∙ front in
     IfErr-weaker c.settle.result _ _
