@@ -1,5 +1,5 @@
 -- Words that were taken for none, for want of memory: whatever they ask for, nothing was done.
-use Rattle.std.proofs.Common.{inl, inr, ⊎_elim, ◌≡◌, ◌++◌, ℕ, List, Bool, Option, IsTrue, arith}
+use Rattle.std.proofs.Common.{inl, inr, ⊎_elim, ◌≡◌, ◌++◌, ℕ, List, Bool, Option, IsTrue, refl, arith}
 use Rattle.photon_cli.proofs.Words.{continues_same, Setting, DiskName, StaysAs, Images, RunLog, BulkValues, Text, Values, Wish, a_bulk_run, a_drill, a_join, a_verification, BulkEnds, DrillEnds, Ends, JoinEnds, VerifyEnds, message}
 use Rattle.run_fault.specs.declared.fault.RunFault.TheVariants as fault
 
@@ -26,8 +26,8 @@ module _ (logs sinks disks : Bool) (told : List ℕ → Option (List ℕ)) (file
     caused = λ l. inr (fault.Memory, eight, (tt, λ d g asked. tt));
     prefix = λ l s d e. absurd (omega (arith, eight, e));
     tells = λ l s calm. inr (fault.Memory, eight, (tt, λ d g asked. tt), tells s calm);
-    sound = λ d l g asked sound. sound;
-    grown = λ d l g asked disk bytes now. continues_same (before disk) bytes now;
+    keeps = λ d l g asked. record { sound = λ sound. sound; grown = λ disk bytes now. continues_same (before disk) bytes now };
+    idle = λ d l g asked none disk other bytes now. (bytes, now, refl);
     complete = λ d l g asked sound leaves below calm still quiet. inr eight;
   }
 

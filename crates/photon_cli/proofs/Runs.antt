@@ -1,6 +1,6 @@
 -- What a run that has come to rest gives the report, and the setting that it is of.
 use Rattle.std.proofs.Common.{◌≡◌, ℕ, suc, ◌+◌, List, [], ◌∷◌, map, Option, Some, None, refl, sym, ap, ◌∙◌, length, subst}
-use Rattle.photon_cli.proofs.Words.{All, IfSome, IsSomeAnd, PlanView, IsAired, IsIn, Images, RunLeft, RunLog, ShardRow, only_table, EventId, QueryRec, ClickRec, IsQueryLog, IsClickLog, click_line, ClickLine, placed, end_from, lines_follow, Setting, Checked, IsLogOf, IsSettingOf, Values, EndsAt, AreLogs, HasIds, IsAsked, IsHeard, IsHistory, config_of, IsTextOf}
+use Rattle.photon_cli.proofs.Words.{IfSome, IsSomeAnd, PlanView, Images, RunLeft, RunLog, ShardRow, only_table, EventId, QueryRec, ClickRec, IsQueryLog, IsClickLog, click_line, ClickLine, placed, end_from, lines_follow, Setting, Checked, IsLogOf, IsSettingOf, Values, EndsAt, AreLogs, HasIds, IsAsked, IsHeardOf, IsHistory, config_of, IsTextOf}
 use Rattle.photon_cli.proofs.Refusals.{within}
 
 pub taken : {A : Type 0} (o : Option A) (P : A → Type 0) → IsSomeAnd o P → (x : A) × P x
@@ -13,17 +13,13 @@ known None P Q h k = absurd h
 known (Some x) P Q h k = k
 
 -- what is left of a run, and whatever is known of it where it has begun
-pub heard : (o : Option RunLog) (plan : PlanView) → IfSome o (λ l. All (IsIn l.air.history) l.seen.items) → IfSome o (λ l. IsAired plan l.air.kinds l.air.history) → IfSome o (IsHeard plan)
-heard None plan lists aired = tt
-heard (Some log) plan lists aired = record { lists = lists; aired = aired }
+pub if_history : (o : Option RunLog) (g : Setting) (before after : Images) (plan : PlanView) (joiners : ℕ) → g.joiners ≡ joiners → IfSome o (λ l. RunLeft g before after l.air.history) → IfSome o (IsHeardOf plan joiners) → IfSome o (IsHistory g before after plan)
+if_history None g before after plan joiners same left heard = tt
+if_history (Some log) g before after plan joiners same left heard = record { left = left; heard = subst (λ j. IsHeardOf plan j log) (sym same) heard }
 
-pub if_history : (o : Option RunLog) (g : Setting) (before after : Images) (plan : PlanView) → IfSome o (λ l. RunLeft g before after l.air.history) → IfSome o (IsHeard plan) → IfSome o (IsHistory g before after plan)
-if_history None g before after plan left heard = tt
-if_history (Some log) g before after plan left heard = record { left = left; lists = heard.lists; aired = heard.aired }
-
-pub history : (o : Option RunLog) (g : Setting) (before after : Images) (plan : PlanView) → IsSomeAnd o (λ l. RunLeft g before after l.air.history) → IfSome o (IsHeard plan) → IsSomeAnd o (IsHistory g before after plan)
-history None g before after plan left heard = absurd left
-history (Some log) g before after plan left heard = record { left = left; lists = heard.lists; aired = heard.aired }
+pub history : (o : Option RunLog) (g : Setting) (before after : Images) (plan : PlanView) (joiners : ℕ) → g.joiners ≡ joiners → IsSomeAnd o (λ l. RunLeft g before after l.air.history) → IfSome o (IsHeardOf plan joiners) → IsSomeAnd o (IsHistory g before after plan)
+history None g before after plan joiners same left heard = absurd left
+history (Some log) g before after plan joiners same left heard = record { left = left; heard = subst (λ j. IsHeardOf plan j log) (sym same) heard }
 
 -- the setting of a log that was checked has what the law asks of it
 pub log_checked : (o : Option (List ℕ)) (g : Setting) → IsSomeAnd o (λ log. IsLogOf log g) → Checked g

@@ -1,9 +1,9 @@
 -- The words of this crate's proofs: what they take from its definitions and from the crates below, under one name each.
-pub use Rattle.air_bus.specs.History.{IsAired, is_of}
+pub use Rattle.air_bus.specs.History.{is_of}
 pub use Rattle.air_bus.specs.Kept.{is_stop_from}
+pub use Rattle.air_bus.specs.Waiting.{is_dead}
 pub use Rattle.air_bus.specs.declared.entry.Entry.{Entry}
 pub use Rattle.air_bus.specs.declared.entry.Entry.TheVariants.{Begin, End, Stop}
-pub use Rattle.bus_seat.specs.Seats.{IsIn}
 pub use Rattle.clap.specs.Faults.{fault_of}
 pub use Rattle.clap.specs.Simple.{subcommand_of}
 pub use Rattle.clap.specs.Walk.{Row}
@@ -60,10 +60,11 @@ pub use Rattle.photon_cli.specs.CheckedLogs.{AreLines, EndsAt, IsChecked, kept}
 pub use Rattle.photon_cli.specs.Drill.{Drills, IsBadIn, IsDrilled}
 pub use Rattle.photon_cli.specs.Ends.{BulkEnds, DrillEnds, Ends, JoinEnds, VerifyEnds}
 pub use Rattle.photon_cli.specs.Faults.{words_status}
-pub use Rattle.photon_cli.specs.Join.{AreLogs, AreValid, HasIds, IsAsked, IsHeard, IsHistory, IsInvalid, Refuses, config_of, no_plan}
-pub use Rattle.photon_cli.specs.LogFaults.{IsBeforeLogs, IsEarly, IsFailedRead, IsLogFault, IsOfBulk, IsOfJoin, IsOfLogs, IsOfPlanOrLogs, IsOfRun, IsOfVerify, IsPast, IsPlanFault, failed_read, refusal, refusal_of}
+pub use Rattle.photon_cli.specs.Join.{AreLogs, AreValid, HasIds, IsAsked, IsHistory, IsInvalid, Refuses, config_of, no_plan}
+pub use Rattle.photon_cli.specs.LogFaults.{IsBeforeLogs, IsEarly, IsFailedRead, IsLogFault, IsOfBulk, IsOfJoin, IsOfLogs, IsOfPlanOrLogs, IsOfRun, IsOfVerify, IsPast, IsPlanFault, IsRowFault, failed_read, refusal, refusal_of}
 pub use Rattle.photon_cli.specs.Planned.{fuse_of, is_at, is_for, is_joiners, named_by, place_of, planned_for, same_kind}
 pub use Rattle.photon_cli.specs.ReadLines.{AtEnd, IsStep, SoFar, WrongNext}
+pub use Rattle.photon_cli.specs.Status.{IsAnswered}
 pub use Rattle.photon_cli.specs.Told.{IsNamed, IsNamedInBulk, IsNamedInDrill, IsNamedInVerify}
 pub use Rattle.photon_cli.specs.Verify.{IsReadFrom, IsReadable, IsTold, IsUnreadable, PrintsKept}
 pub use Rattle.photon_cli.specs.Words.{ArePlain, AreReadAs, AreRefused, HasTable, IsTextOf}
@@ -91,10 +92,12 @@ pub use Rattle.site_run.proofs.Counting.{rose_before}
 pub use Rattle.site_run.proofs.Entered.{counted_more, welcome_where}
 pub use Rattle.site_run.proofs.Outing.{goes_on_through, goes_on_within, stays_goes_on}
 pub use Rattle.site_run.proofs.Refusing.{kept_are_journals}
+pub use Rattle.site_run.specs.Heard.{IsHeardOf, kinds_of}
+pub use Rattle.site_run.specs.Over.{EndsOver, RunsOver}
 pub use Rattle.site_run.specs.Asked.{IsSettingOf}
 pub use Rattle.site_run.specs.Joined.{RanAfresh}
 pub use Rattle.site_run.specs.Left.{RestLeft, RunLeft}
-pub use Rattle.site_run.specs.Refused.{TellsPlaces, asked_of}
+pub use Rattle.site_run.specs.Refused.{IsCauseOf, TellsPlaces, asked_of}
 pub use Rattle.site_run.specs.declared.ran.RunLog.{RunLog}
 pub use Rattle.site_store.proofs.Causes.{cause_more, failed_rose, passed_more, unread_rose}
 pub use Rattle.site_store.specs.Causes.{AreTold, HasCause, HasFailed, HasPassed as PassesFor, IsCause, IsUnread, first_limit}
@@ -110,7 +113,7 @@ pub use Rattle.std.proofs.lemmas.Bool.{cases_Bool, cases_lt, eqb-true}
 pub use Rattle.std.proofs.lemmas.Bool.Decides.{Decides-eqb, nat_tests}
 pub use Rattle.std.proofs.lemmas.List.{append-nil, drop-take, drop_at, drop_more, length-append, length-map, length-take, length-take-le, map-append, map_push, take-append-drop, take-append-le, take-take, take_all, take_at}
 pub use Rattle.std.proofs.lemmas.List.Elements.{Contains-append_right, Contains-push_cases}
-pub use Rattle.std.proofs.lemmas.Result.{IfOk-weaker, err_from_is_err_and}
+pub use Rattle.std.proofs.lemmas.Result.{IfErr-weaker, IfOk-weaker, err_from_is_err_and}
 pub use Rattle.std.proofs.lemmas.Slice.Eq.{slice_eq-Decides}
 pub use Rattle.std.specs.List.{All, AllByRecursion, flat_map, list_any}
 pub use Rattle.std.specs.Option.{IfSome, IsSomeAnd}

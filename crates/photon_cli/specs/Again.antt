@@ -1,17 +1,11 @@
 -- Call after call over one store.
 use Rattle.std.specs.Prelude.{◌≡◌, ◌⊎◌, ℕ, List, [], ◌∷◌, ⊤}
-use Rattle.outside.specs.declared.store.DiskName.{DiskName}
-use Rattle.gate_journal.specs.Images.{GoesOn}
 use Rattle.turn_defs.specs.Setting.{Setting}
 use Rattle.photon_model.specs.Headline.{IsOutputOnce}
 use Rattle.photon_model.specs.Runs.{Disks, opening}
 use Rattle.photon_model.specs.Stores.{IsLonger}
-use Rattle.site_laws.specs.Stores.{Bytes, HoldsRecords, Images, IsChoice, IsSoundStore}
-
--- what a call keeps of a store: where it was sound it is, and no disk's records are lost
-pub record Keeps (g : Setting) (before after : Images) : Type 0 where
-  pub sound : IsSoundStore g before → IsSoundStore g after
-  pub grown : (disk : DiskName) → GoesOn (before disk) (after disk)
+use Rattle.site_laws.specs.Stores.{Bytes, HoldsRecords, Images, IsChoice}
+use Rattle.site_run.specs.Over.{Keeps}
 
 -- the second setting is the first, or one over the logs with more bytes at their ends
 abbrev pub IsLater : Setting → Setting → Type 0

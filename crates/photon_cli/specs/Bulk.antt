@@ -9,10 +9,10 @@ use Rattle.turn_defs.specs.Setting.{Setting}
 use Rattle.bulk_logs.specs.Bulk as logs
 use Rattle.log_records.specs.declared.report.ReportLine.{ReportLine}
 use Rattle.report_text.specs.Stream.{TookPrefix}
+use Rattle.site_run.specs.Heard.{IsHeardOf}
 use Rattle.site_run.specs.declared.ran.RunLog.{RunLog}
 use Rattle.command_words.specs.Words.{BulkValues}
 use Rattle.photon_cli.specs.Drill.{IsDrilled}
-use Rattle.photon_cli.specs.Join.{IsHeard}
 use Rattle.photon_cli.specs.Words.{HasTable, IsTextOf}
 
 -- a rule for a thousand packets of each link: the first of this ordinal, then one in so many
@@ -43,7 +43,7 @@ pub record IsBulkRun (v : BulkValues) (log : RunLog) : Type 0 where
 
 -- the same of a bulk run, whose logs are always valid
 abbrev pub BeginsBulk : BulkValues → Option RunLog → Type 0
-BeginsBulk v ran = HasTable v.shards × IfSome ran (IsHeard bulk_plan)
+BeginsBulk v ran = HasTable v.shards × IfSome ran (IsHeardOf bulk_plan v.joiners)
 
 -- the totals line was written behind what was there: whole, or a prefix of it
 abbrev pub PrintsTotals : BulkValues → Option RunLog → (old new : List ℕ) → Type 0

@@ -1,11 +1,9 @@
 -- What a drill does: both sites run over disks in memory that hold nothing at first, and a plan says what goes wrong.
 use Rattle.std.specs.Prelude.{ℕ, ◌≡◌, Bool, false, List, ◌++◌, map, Option, IfSome, IsSomeAnd, IsTrue}
-use Rattle.std.specs.List.{All, list_any}
+use Rattle.std.specs.List.{list_any}
 use Rattle.lossy_link.specs.Fates.{PlanView}
 use Rattle.lossy_link.specs.Plans.{IsPlanOf, IsFirstBad}
 use Rattle.lossy_link.specs.declared.bad_plan.Field.{Field}
-use Rattle.air_bus.specs.History.{IsAired}
-use Rattle.bus_seat.specs.Seats.{IsIn}
 use Rattle.log_records.specs.Lines.{ClickLine}
 use Rattle.log_records.specs.declared.report.ReportLine.{ReportLine}
 use Rattle.log_records.specs.Report as logs
@@ -13,8 +11,9 @@ use Rattle.report_text.specs.Stream.{TookPrefix}
 use Rattle.turn_defs.specs.Setting.{Setting}
 use Rattle.photon_cli.specs.Planned.{is_joiners}
 use Rattle.site_run.specs.Joined.{RanAfresh}
+use Rattle.site_run.specs.Heard.{IsHeardOf}
 use Rattle.site_run.specs.declared.ran.RunLog.{RunLog}
-use Rattle.photon_cli.specs.Join.{AreValid, IsAsked, IsHeard}
+use Rattle.photon_cli.specs.Join.{AreValid, IsAsked}
 use Rattle.command_words.specs.Words.{Text, Values}
 use Rattle.photon_cli.specs.Words.{HasTable}
 
@@ -22,8 +21,7 @@ use Rattle.photon_cli.specs.Words.{HasTable}
 -- a joiner's disk all lines are those of the two logs.
 pub record IsDrilled (g : Setting) (plan : PlanView) (lines : List ReportLine) (log : RunLog) : Type 0 where
   pub ran : RanAfresh g log.air.history lines
-  pub lists : All (IsIn log.air.history) log.seen.items
-  pub aired : IsAired plan log.air.kinds log.air.history
+  pub heard : IsHeardOf plan g.joiners log
   pub whole : list_any is_joiners plan.stops ≡ false → lines ≡ map (logs.line_of g.queries g.horizon) (logs.distinct (map (λ (l : ClickLine). l.click) g.clicks))
 
 -- Here told says what bytes are under a name.
@@ -42,7 +40,7 @@ module _ (told : List ℕ → Option (List ℕ)) where
 
   -- The same of a drill: the file's bytes are a plan, too.
   abbrev pub BeginsDrill : (logs : Bool) → Values → Text → Option RunLog → Type 0
-  BeginsDrill logs v file ran = HasTable v.shards × (IsTrue logs → AreValid told v.queries v.clicks) × (plan : PlanView) × (IsTrue logs → IsPlanIn file plan) × IfSome ran (IsHeard plan)
+  BeginsDrill logs v file ran = HasTable v.shards × (IsTrue logs → AreValid told v.queries v.clicks) × (plan : PlanView) × (IsTrue logs → IsPlanIn file plan) × IfSome ran (IsHeardOf plan v.joiners)
 
   -- a drill by the plan of a file was run
   abbrev pub HasDrilled : Values → Text → Option RunLog → Type 0

@@ -11,9 +11,10 @@ use Rattle.log_records.specs.declared.check.BadLine.{BadLine}
 use Rattle.run_fault.specs.declared.fault.LogName.{LogName}
 use Rattle.turn_defs.specs.Setting.{Setting}
 use Rattle.log_records.specs.Check.{RefusesClick}
-use Rattle.gate_journal.specs.Images.{GoesOn, StaysAs}
+use Rattle.gate_journal.specs.Images.{StaysAs}
 use Rattle.site_laws.specs.Stores.{Images, IsSoundStore}
 use Rattle.site_run.specs.declared.ran.RunLog.{RunLog}
+use Rattle.site_run.specs.Over.{IsIdle, Keeps}
 use Rattle.site_run.specs.Refused.{HasPassed, IsTaken, WasJournal}
 use Rattle.run_fault.specs.declared.fault.RunFault.{RunFault}
 use Rattle.photon_cli.specs.Causes.{AreMisplaced, CanBeRead, IsAtLimit, IsBelowLimits, IsMismatched, IsOverLog, unasked}
@@ -70,9 +71,10 @@ module _ (logs sinks : Bool) (told : List ℕ → Option (List ℕ)) (files outp
     pub prefix : IsTrue logs → IsTrue sinks → IsTrue disks → status ≡ 5 → PrintsPrefix told v before after faulted old new
     -- what is told, unless the standard error has a fault
     pub tells : IsTrue logs → IsTrue sinks → (errors → ⊥) → TellsBy (IsToldOf told v disks before files faulted) status err_old err_new
-    -- at every status a sound store stays sound, and no disk's records are lost
-    pub sound : IsTrue disks → IsTrue logs → (g : Setting) → IsAsked told v g → IsSoundStore g before → IsSoundStore g after
-    pub grown : IsTrue disks → IsTrue logs → (g : Setting) → IsAsked told v g → (disk : DiskName) → GoesOn (before disk) (after disk)
+    -- At every status a sound store stays sound, and no disk's records are lost. Where nothing is left of a run, each disk but the
+    -- topology's stands for what it stood for.
+    pub keeps : IsTrue disks → IsTrue logs → (g : Setting) → IsAsked told v g → Keeps g before after
+    pub idle : IsTrue disks → IsTrue logs → (g : Setting) → IsAsked told v g → IsIdle before after ran
     -- over a sound store, with no fault and nothing at its limit, it ends well, unless memory runs out
     pub complete : IsTrue disks → IsTrue logs → (g : Setting) → IsAsked told v g → IsSoundStore g before → leaves g → IsBelowLimits g before → (files → ⊥) → (faulted → ⊥) → (output → ⊥)
         → (status ≡ 0) ⊎ (status ≡ 8)

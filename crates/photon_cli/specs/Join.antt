@@ -1,9 +1,6 @@
 -- What a join of two logs over a store does.
 use Rattle.std.specs.Prelude.{ℕ, ◌≡◌, List, [], ◌++◌, map, Bool, Option, None, IfSome, IsSomeAnd, IsTrue}
-use Rattle.std.specs.List.{All}
 use Rattle.lossy_link.specs.Fates.{PlanView}
-use Rattle.air_bus.specs.History.{IsAired}
-use Rattle.bus_seat.specs.Seats.{IsIn}
 use Rattle.time_shards.specs.declared.ShardRow.{ShardRow}
 use Rattle.event_id.specs.declared.id.EventId.{EventId}
 use Rattle.log_records.specs.declared.records.QueryRec.{QueryRec}
@@ -23,6 +20,7 @@ use Rattle.site_laws.specs.StoreLaws.{LeavesNothing}
 use Rattle.site_run.specs.Asked.{IsSettingOf}
 use Rattle.site_run.specs.Joined.{Joins, JoinsAfresh}
 use Rattle.site_run.specs.Left.{RunLeft}
+use Rattle.site_run.specs.Heard.{IsHeardOf}
 use Rattle.site_run.specs.declared.ran.RunLog.{RunLog}
 use Rattle.command_words.specs.Words.{Values}
 use Rattle.photon_cli.specs.Words.{HasTable, IsTextOf}
@@ -79,19 +77,10 @@ module _ (told : List ℕ → Option (List ℕ)) (v : Values) (before after : Im
   abbrev pub PrintsAfresh : Type 0
   PrintsAfresh = (g : Setting) × IsAsked told v g × (LeavesNothing g before → (lines : List ReportLine) × JoinsAfresh g faulted lines × (new ≡ old ++ text_of lines))
 
--- The history begins with all that was seen with each seat, and has of the seat's number just what was made with it; each packet
--- that a node took is the next of those that the plan leaves of what was sent.
-pub record IsHeard (plan : PlanView) (log : RunLog) : Type 0 where
-  pub lists : All (IsIn log.air.history) log.seen.items
-  pub aired : IsAired plan log.air.kinds log.air.history
-
--- The history is a run of the whole system, from records that the disks kept at entry. It begins with all that was seen with each
--- seat, and has of the seat's number just what was made with it; each packet that a node took is the next of those that the plan
--- leaves of what was sent.
+-- The history is a run of the whole system, from records that the disks kept at entry, and this is what was heard of it.
 pub record IsHistory (g : Setting) (before after : Images) (plan : PlanView) (log : RunLog) : Type 0 where
   pub left : RunLeft g before after log.air.history
-  pub lists : All (IsIn log.air.history) log.seen.items
-  pub aired : IsAired plan log.air.kinds log.air.history
+  pub heard : IsHeardOf plan g.joiners log
 
 -- the plan that leaves all packets, disks and replicas alone
 abbrev pub no_plan : PlanView
@@ -99,7 +88,7 @@ no_plan = record { rules = []; stops = []; dead = None }
 
 -- All that comes before a join's run is fit: the shards' text is a table, and both logs are valid. What is left of a run is of this one.
 abbrev pub BeginsJoin : (logs : Bool) → (told : List ℕ → Option (List ℕ)) → Values → Option RunLog → Type 0
-BeginsJoin logs told v ran = HasTable v.shards × (IsTrue logs → AreValid told v.queries v.clicks) × IfSome ran (IsHeard no_plan)
+BeginsJoin logs told v ran = HasTable v.shards × (IsTrue logs → AreValid told v.queries v.clicks) × IfSome ran (IsHeardOf no_plan v.joiners)
 
 -- what was asked for was run, and this is left of the run
 abbrev pub HasRun : (told : List ℕ → Option (List ℕ)) → Values → (before after : Images) → Option RunLog → Type 0

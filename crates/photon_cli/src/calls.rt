@@ -1,14 +1,19 @@
-// Call after call over one store.
-ghost use Rattle.std.specs.Prelude.{◌≡◌, ℕ, List, IsTrue};
+// What follows from how calls end.
+ghost use Rattle.std.specs.Prelude.{◌≡◌, ◌<◌, ◌+◌, ℕ, List, [], IsTrue, Some};
 ghost use Rattle.outside.specs.declared.store.DiskName.{DiskName};
 ghost use Rattle.outside.specs.Faults.{Rose};
+ghost use Rattle.lossy_link.specs.Fates.{PlanView};
 ghost use Rattle.command_words.specs.Words.{Text, Values, a_join, a_verification};
 ghost use Rattle.gate_journal.specs.Images.{GoesOn};
 ghost use Rattle.turn_defs.specs.Setting.{Checked, Setting};
 ghost use Rattle.site_laws.specs.Stores.{IsSoundStore};
+ghost use Rattle.site_laws.specs.Laws.{made_by};
+ghost use Rattle.site_run.specs.Heard.{IsHeardOf};
+ghost use Rattle.site_run.specs.Over.{Keeps};
 ghost use Rattle.site_run.specs.declared.ran.Ran.{Ran};
+ghost use Rattle.site_run.specs.declared.ran.RunLog.{RunLog};
 ghost use Rattle.site_store.specs.Causes.{LeavesSomething};
-ghost use Rattle.photon_cli.specs.Again.{AreCalls, AreOutputOnce, Call, Keeps, setting_after, store_after};
+ghost use Rattle.photon_cli.specs.Again.{AreCalls, AreOutputOnce, Call, setting_after, store_after};
 ghost use Rattle.photon_cli.specs.Ends.{Ends};
 ghost use Rattle.photon_cli.specs.Join.{IsAsked};
 
@@ -33,4 +38,12 @@ pub fn again<F: Source, S: Store, K: Sink>()
     site_laws::stores::longer::<S>();
     photon_model::stores();
     photon_model::headline();
+}
+
+/// The replica that the plan takes for dead has no entry in the history that a run leaves.
+pub fn dead_have_no_entry()
+    ensures { (plan : PlanView) (joiners : ℕ) (log : RunLog) → IsHeardOf plan joiners log
+        → (r : ℕ) → r < 3 → plan.dead ≡ Some r → made_by (4 + r) log.air.history ≡ [] }
+{
+    air_bus::laws::dead_have_no_entry();
 }

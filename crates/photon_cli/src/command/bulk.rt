@@ -1,10 +1,9 @@
 // The command `bulk`, with its exit status.
-ghost use Rattle.std.specs.Prelude.{◌≡◌, ◌≢◌, ◌⊎◌, IsTrue};
-ghost use Rattle.outside.specs.Faults.{Counts, Rose};
+ghost use Rattle.std.specs.Prelude.{◌≡◌};
+ghost use Rattle.outside.specs.Faults.{Rose};
 ghost use Rattle.command_words.specs.Words.{AreBulkRanges, bulk_values};
-ghost use Rattle.run_fault.specs.declared.fault.RunFault.{RunFault as Failure};
 ghost use Rattle.photon_cli.specs.Ends.{BulkEnds};
-ghost use Rattle.run_fault.specs.Faults.{status_of};
+ghost use Rattle.photon_cli.specs.Status.{IsAnswered};
 
 use crate::engine::bulk_totals;
 use crate::tell::give_up;
@@ -30,11 +29,9 @@ where
     K: Sink,
     G: Gate,
     requires ranges { AreBulkRanges (bulk_values wanted.now) }
-    ensures statuses { (result ≡ 0) ⊎ ((f : Failure) × (result ≡ status_of f)) }
     ensures ends { BulkEnds K.tells (Rose (K.faults out.old) (K.faults out.new)) (Rose (K.faults err.old) (K.faults err.new)) (K.held out.old) (K.held out.new) (K.held err.old) (K.held err.new) result
         (bulk_values wanted.now) ran.new.log (ran.new ≡ ran.old) }
-    ensures write { Counts (K.faults out.old) (K.faults out.new) (result ≡ 5) }
-    ensures quiet { IsTrue K.tells → result ≢ 0 → result ≢ 5 → K.held out.new ≡ K.held out.old }
+    ensures answered { IsAnswered K.tells 0 0 (K.faults out.old) (K.faults out.new) (K.held out.old) (K.held out.new) result }
 {
     match bulk_totals(rt, alloc, wanted, out, gate, ran) {
         Ok(()) => 0,

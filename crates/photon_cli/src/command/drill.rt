@@ -1,10 +1,9 @@
 // The command `drill`, with its exit status.
-ghost use Rattle.std.specs.Prelude.{◌≡◌, ◌≢◌, ◌⊎◌, IsTrue};
-ghost use Rattle.outside.specs.Faults.{Counts, Rose};
+ghost use Rattle.std.specs.Prelude.{◌≡◌};
+ghost use Rattle.outside.specs.Faults.{Rose};
 ghost use Rattle.command_words.specs.Words.{AreInRanges, values_in};
-ghost use Rattle.run_fault.specs.declared.fault.RunFault.{RunFault as Failure};
 ghost use Rattle.photon_cli.specs.Ends.{DrillEnds};
-ghost use Rattle.run_fault.specs.Faults.{status_of};
+ghost use Rattle.photon_cli.specs.Status.{IsAnswered};
 
 use crate::engine::drill_logs;
 use crate::tell::give_up;
@@ -34,12 +33,9 @@ where
     G: Gate,
     F::Log: Drop,
     requires ranges { AreInRanges (values_in wanted.now) }
-    ensures statuses { (result ≡ 0) ⊎ ((f : Failure) × (result ≡ status_of f)) }
     ensures ends { DrillEnds F.Log.tells K.tells (F.bytes files.old) (Rose (F.faults files.old) (F.faults files.new)) (Rose (K.faults out.old) (K.faults out.new)) (Rose (K.faults err.old) (K.faults err.new))
         (K.held out.old) (K.held out.new) (K.held err.old) (K.held err.new) result (values_in wanted.now) plan.now ran.new.log (ran.new ≡ ran.old) }
-    ensures read { Counts (F.faults files.old) (F.faults files.new) (result ≡ 4) }
-    ensures write { Counts (K.faults out.old) (K.faults out.new) (result ≡ 5) }
-    ensures quiet { IsTrue K.tells → result ≢ 0 → result ≢ 5 → K.held out.new ≡ K.held out.old }
+    ensures answered { IsAnswered K.tells (F.faults files.old) (F.faults files.new) (K.faults out.old) (K.faults out.new) (K.held out.old) (K.held out.new) result }
 {
     match drill_logs(rt, alloc, wanted, plan, files, out, gate, ran) {
         Ok(()) => 0,

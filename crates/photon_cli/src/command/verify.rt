@@ -1,10 +1,9 @@
 // The command `verify`, with its exit status.
-ghost use Rattle.std.specs.Prelude.{◌≡◌, ◌≢◌, ◌⊎◌, IsTrue};
-ghost use Rattle.outside.specs.Faults.{Counts, Rose};
+ghost use Rattle.std.specs.Prelude.{◌≡◌};
+ghost use Rattle.outside.specs.Faults.{Rose};
 ghost use Rattle.site_store.specs.Causes.{LeavesSomething};
-ghost use Rattle.run_fault.specs.declared.fault.RunFault.{RunFault as Failure};
 ghost use Rattle.photon_cli.specs.Ends.{VerifyEnds};
-ghost use Rattle.run_fault.specs.Faults.{status_of};
+ghost use Rattle.photon_cli.specs.Status.{IsAnswered};
 
 use crate::engine::verify_store;
 use crate::tell::give_up;
@@ -21,13 +20,10 @@ pub fn verify_command<F: Source, S: Store, K: Sink>(
     out: &mut K,
     err: &mut K,
 ) -> u8
-    ensures statuses { (result ≡ 0) ⊎ ((result ≡ 1) ⊎ ((f : Failure) × (result ≡ status_of f))) }
     ensures ends { VerifyEnds F.Log.tells K.tells (F.bytes files.old) (Rose (F.faults files.old) (F.faults files.new)) (Rose (K.faults out.old) (K.faults out.new)) (Rose (K.faults err.old) (K.faults err.new))
         (K.held out.old) (K.held out.new) (K.held err.old) (K.held err.new) result clicks.now (store.new ≡ store.old)
         S.Disk.tells (S.image store.old) (S.image store.new) (Rose (S.faults store.old) (S.faults store.new)) (λ g. (s : S) → LeavesSomething g (S.image s)) }
-    ensures read { Counts (F.faults files.old) (F.faults files.new) (result ≡ 4) }
-    ensures write { Counts (K.faults out.old) (K.faults out.new) (result ≡ 5) }
-    ensures quiet { IsTrue K.tells → result ≢ 0 → result ≢ 1 → result ≢ 5 → K.held out.new ≡ K.held out.old }
+    ensures answered { IsAnswered K.tells (F.faults files.old) (F.faults files.new) (K.faults out.old) (K.faults out.new) (K.held out.old) (K.held out.new) result }
 {
     match verify_store(alloc, files, store, clicks, state, out) {
         Ok(true) => 1,

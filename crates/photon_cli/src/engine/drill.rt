@@ -17,9 +17,10 @@ ghost use Rattle.run_fault.specs.declared.fault.LogName.{LogName as LogKind};
 ghost use Rattle.site_laws.specs.Laws.{made_by};
 ghost use Rattle.site_workers.specs.Works.{is_stop};
 ghost use Rattle.site_run.specs.Asked.{OfSetting};
+ghost use Rattle.site_run.specs.Heard.{IsHeardOf};
 ghost use Rattle.run_fault.specs.declared.fault.RunFault.TheVariants as fault;
 ghost use Rattle.photon_cli.specs.Drill.{BeginsDrill, Drills, HasDrilled, IsBadIn, IsDrilled, IsPlanIn, PrintsDrill, PrintsDrillPrefix};
-ghost use Rattle.photon_cli.specs.Join.{AreValid, HaveIds, IsHeard, Refuses};
+ghost use Rattle.photon_cli.specs.Join.{AreValid, HaveIds, Refuses};
 ghost use Rattle.photon_cli.specs.LogFaults.{IsBeforeLogs, IsEarly, IsFailedRead, IsOfLogs, IsOfPlanOrLogs, IsOfRun, IsPast, failed_read};
 ghost use Rattle.photon_cli.specs.Words.{IsTextOf};
 
@@ -89,7 +90,7 @@ where
     ensures drilled { IsTrue F.Log.tells → OfSetting (F.bytes files.old) names.now.queries.now names.now.clicks.now config.now clicks.now.lines_end (λ g. HaveIds g clicks.now.ids.items
         → IfOk result (λ lines. IsSomeAnd ran.new.log (IsDrilled g plan lines.items))) }
     ensures fair { IsTrue F.Log.tells → OfSetting (F.bytes files.old) names.now.queries.now names.now.clicks.now config.now clicks.now.lines_end (λ g. IfErr result (IsWelcome ⊤)) }
-    ensures heard { IfSome ran.new.log (IsHeard plan) }
+    ensures heard { IfSome ran.new.log (IsHeardOf plan config.now.joiners) }
     ensures cause { IfErr result IsOfRun }
     ensures count { Counts (F.faults files.old) (F.faults files.new) ((log : LogKind) × (result ≡ Err (failed_read log))) }
 {
@@ -130,7 +131,7 @@ where
     ensures refused { IsTrue F.Log.tells → (log : LogKind) (line : ℕ) (w : Reason) → result ≡ Err (fault.Refused log line w)
         → Refuses (F.bytes files.old) (values_in wanted.now).queries (values_in wanted.now).clicks log (record { line = line; why = w }) }
     ensures begins { ((ran.new ≡ ran.old) × IsErrAnd result IsOfLogs)
-        ⊎ ((IsTrue F.Log.tells → AreValid (F.bytes files.old) (values_in wanted.now).queries (values_in wanted.now).clicks) × IfSome ran.new.log (IsHeard plan) × IfErr result IsOfRun) }
+        ⊎ ((IsTrue F.Log.tells → AreValid (F.bytes files.old) (values_in wanted.now).queries (values_in wanted.now).clicks) × IfSome ran.new.log (IsHeardOf plan (values_in wanted.now).joiners) × IfErr result IsOfRun) }
     ensures fair { IsTrue F.Log.tells → IfErr result (IsWelcome ⊤) }
     ensures count { Counts (F.faults files.old) (F.faults files.new) ((log : LogKind) × (result ≡ Err (failed_read log))) }
 {

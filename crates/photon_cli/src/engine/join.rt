@@ -1,17 +1,13 @@
 // The whole join.
-ghost use Rattle.std.specs.Prelude.{◌≡◌, ◌⊎◌, ℕ, List, IfErr, IfSome, IsErrAnd, OnOk, IsTrue, Err};
-ghost use Rattle.outside.specs.declared.store.DiskName.{DiskName};
+ghost use Rattle.std.specs.Prelude.{◌≡◌, ◌⊎◌, ℕ, IfErr, IfSome, IsErrAnd, OnOk, IsTrue, Err};
 ghost use Rattle.outside.specs.Faults.{Counts, Rose};
 ghost use Rattle.log_records.specs.declared.why.Why.{Why as Reason};
 ghost use Rattle.run_fault.specs.declared.fault.LogName.{LogName as LogKind};
 ghost use Rattle.run_fault.specs.declared.fault.StorePlace.{StorePlace};
 ghost use Rattle.turn_defs.specs.Setting.{Setting};
-ghost use Rattle.gate_journal.specs.Images.{GoesOn};
-ghost use Rattle.site_laws.specs.Stores.{IsSoundStore};
 ghost use Rattle.site_store.specs.Causes.{LeavesSomething};
 ghost use Rattle.run_fault.specs.declared.fault.RunFault.TheVariants as fault;
-ghost use Rattle.site_run.specs.Refused.{HasPassed, IsCauseOf};
-ghost use Rattle.run_fault.specs.Causes.{IsWelcome};
+ghost use Rattle.site_run.specs.Over.{EndsOver};
 ghost use Rattle.photon_cli.specs.LogFaults.{IsEarly, IsFailedRead, IsOfLogs, IsPast};
 ghost use Rattle.photon_cli.specs.Join.{BeginsJoin, HasRun, IsAsked, IsHistory, Prints, PrintsAfresh, PrintsPrefix, Refuses, no_plan};
 ghost use Rattle.command_words.specs.Words.{AreInRanges, values_in};
@@ -76,13 +72,9 @@ where
     ensures disks { Counts (S.faults store.old) (S.faults store.new) ((place : StorePlace) × (result ≡ Err (fault.Store place))) }
     ensures write { Counts (K.faults out.old) (K.faults out.new) (result ≡ Err fault.Write) }
 
-    // A sound store stays sound, loses no records, and is welcome where a stop leaves something of each disk.
-    ensures sound { IsTrue S.Disk.tells → IsTrue F.Log.tells → (g : Setting) → IsAsked (F.bytes files.old) (values_in wanted.now) g → IsSoundStore g (S.image store.old) → IsSoundStore g (S.image store.new) }
-    ensures grown { IsTrue S.Disk.tells → IsTrue F.Log.tells → (g : Setting) → IsAsked (F.bytes files.old) (values_in wanted.now) g → (disk : DiskName) → GoesOn (S.image store.old disk) (S.image store.new disk) }
-    ensures welcome { IsTrue S.Disk.tells → IsTrue F.Log.tells → (g : Setting) → IsAsked (F.bytes files.old) (values_in wanted.now) g → IsSoundStore g (S.image store.old) → IfErr result (IsWelcome ((s : S) → LeavesSomething g (S.image s))) }
-    // Each fault of the run has its cause, and where the report was to be written the disks had kept what can be run.
-    ensures caused { IsTrue S.Disk.tells → IsTrue F.Log.tells → (g : Setting) → IsAsked (F.bytes files.old) (values_in wanted.now) g → IfErr result (IsCauseOf g (S.image store.old) (Rose (F.faults files.old) (F.faults files.new)) (Rose (S.faults store.old) (S.faults store.new))) }
-    ensures passed { IsTrue S.Disk.tells → IsTrue F.Log.tells → (g : Setting) → IsAsked (F.bytes files.old) (values_in wanted.now) g → OnOk result (HasPassed g (S.image store.old)) }
+    // How it ends over the store, for whatever setting the values ask for.
+    ensures ends { IsTrue S.Disk.tells → IsTrue F.Log.tells → (g : Setting) → IsAsked (F.bytes files.old) (values_in wanted.now) g → EndsOver g (S.image store.old) (S.image store.new)
+        (Rose (F.faults files.old) (F.faults files.new)) (Rose (S.faults store.old) (S.faults store.new)) ((s : S) → LeavesSomething g (S.image s)) ran.new.log result }
 {
     let table = match table_in(wanted.shards) {
         Ok(table) => table,

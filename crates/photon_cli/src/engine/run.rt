@@ -2,19 +2,18 @@
 ghost use Rattle.std.specs.Prelude.{◌<◌, ◌≤◌, IfOk, IfErr, IfSome, IsSomeAnd, OnOk, IsTrue};
 ghost use Rattle.turn_defs.specs.declared.limits.TheConstants.{MOST_JOINERS};
 ghost use Rattle.registry_state.specs.declared.TheConstants.{MOST_INSERTS};
-ghost use Rattle.outside.specs.declared.store.DiskName.{DiskName};
 ghost use Rattle.outside.specs.Faults.{Rose};
 ghost use Rattle.time_shards.specs.Shards.{IsTable};
-ghost use Rattle.gate_journal.specs.Images.{GoesOn};
 ghost use Rattle.site_laws.specs.Stores.{IsSoundStore};
 ghost use Rattle.site_laws.specs.StoreLaws.{LeavesNothing};
 ghost use Rattle.site_store.specs.Causes.{LeavesSomething};
 ghost use Rattle.site_run.specs.Asked.{OfSetting};
 ghost use Rattle.site_run.specs.Joined.{Joins, JoinsAfresh, RanAfresh};
+ghost use Rattle.site_run.specs.Heard.{IsHeardOf};
 ghost use Rattle.site_run.specs.Left.{RunLeft};
-ghost use Rattle.site_run.specs.Refused.{HasPassed, IsCauseOf};
-ghost use Rattle.run_fault.specs.Causes.{IsCounted, IsWelcome};
-ghost use Rattle.photon_cli.specs.Join.{HaveIds, IsHeard};
+ghost use Rattle.site_run.specs.Over.{EndsOver};
+ghost use Rattle.run_fault.specs.Causes.{IsCounted};
+ghost use Rattle.photon_cli.specs.Join.{HaveIds};
 
 use crate::log_check::CheckedLog;
 use log_records::ReportLine;
@@ -51,8 +50,8 @@ where
     requires joiners { (0 < config.now.joiners) × (config.now.joiners ≤ MOST_JOINERS) }
     requires table { IsTable config.now.table }
     requires batch { config.now.batch ≤ MOST_INSERTS }
-    ensures sound { IsTrue S.Disk.tells → IsTrue F.Log.tells → OfSetting (F.bytes files.old) names.now.queries.now names.now.clicks.now config.now clicks.now.lines_end (λ g. IsSoundStore g (S.image store.old) → IsSoundStore g (S.image store.new)) }
-    ensures grown { IsTrue S.Disk.tells → IsTrue F.Log.tells → OfSetting (F.bytes files.old) names.now.queries.now names.now.clicks.now config.now clicks.now.lines_end (λ g. (disk : DiskName) → GoesOn (S.image store.old disk) (S.image store.new disk)) }
+    ensures ends { IsTrue S.Disk.tells → IsTrue F.Log.tells → OfSetting (F.bytes files.old) names.now.queries.now names.now.clicks.now config.now clicks.now.lines_end (λ g. EndsOver g (S.image store.old) (S.image store.new)
+        (Rose (F.faults files.old) (F.faults files.new)) (Rose (S.faults store.old) (S.faults store.new)) ((s : S) → LeavesSomething g (S.image s)) ran.new.log result) }
 
     // The lines are the report of what the disks keep at the end, and from an empty store that of the two logs.
     ensures joined { IsTrue S.Disk.tells → IsTrue F.Log.tells → OfSetting (F.bytes files.old) names.now.queries.now names.now.clicks.now config.now clicks.now.lines_end (λ g. HaveIds g clicks.now.ids.items → IsSoundStore g (S.image store.old)
@@ -65,12 +64,9 @@ where
     ensures began { IsTrue S.Disk.tells → IsTrue F.Log.tells → OfSetting (F.bytes files.old) names.now.queries.now names.now.clicks.now config.now clicks.now.lines_end (λ g. OnOk result (IsSomeAnd ran.new.log (λ l. RunLeft g (S.image store.old) (S.image store.new) l.air.history))) }
     ensures ran { IsTrue S.Disk.tells → IsTrue F.Log.tells → OfSetting (F.bytes files.old) names.now.queries.now names.now.clicks.now config.now clicks.now.lines_end (λ g. HaveIds g clicks.now.ids.items → LeavesNothing g (S.image store.old)
         → IfOk result (λ lines. IsSomeAnd ran.new.log (λ l. RanAfresh g l.air.history lines.items))) }
-    ensures heard { IfSome ran.new.log (IsHeard plan) }
+    ensures heard { IfSome ran.new.log (IsHeardOf plan config.now.joiners) }
 
     ensures cause { IfErr result (IsCounted (Rose (F.faults files.old) (F.faults files.new)) (Rose (S.faults store.old) (S.faults store.new))) }
-    ensures welcome { IsTrue S.Disk.tells → IsTrue F.Log.tells → OfSetting (F.bytes files.old) names.now.queries.now names.now.clicks.now config.now clicks.now.lines_end (λ g. IsSoundStore g (S.image store.old) → IfErr result (IsWelcome ((s : S) → LeavesSomething g (S.image s)))) }
-    ensures caused { IsTrue S.Disk.tells → IsTrue F.Log.tells → OfSetting (F.bytes files.old) names.now.queries.now names.now.clicks.now config.now clicks.now.lines_end (λ g. IfErr result (IsCauseOf g (S.image store.old) (Rose (F.faults files.old) (F.faults files.new)) (Rose (S.faults store.old) (S.faults store.new)))) }
-    ensures passed { IsTrue S.Disk.tells → IsTrue F.Log.tells → OfSetting (F.bytes files.old) names.now.queries.now names.now.clicks.now config.now clicks.now.lines_end (λ g. OnOk result (HasPassed g (S.image store.old))) }
     ensures file_count { F.faults files.old ≤ F.faults files.new }
     ensures store_count { S.faults store.old ≤ S.faults store.new }
 {

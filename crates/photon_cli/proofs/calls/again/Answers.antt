@@ -3,7 +3,7 @@ use Rattle.photon_cli.proofs.Repeating.{checked_after, grown_after, output_once,
 use Rattle.photon_cli.proofs.calls.again.Goals as goal
 
 pub returns-clause-join : goal.returns-clause-join
-returns-clause-join g c files later before after out out_later err err_later ran ran_later status v state s logs disks asked ends = record { sound = ends.sound disks logs s asked; grown = ends.grown disks logs s asked }
+returns-clause-join g c files later before after out out_later err err_later ran ran_later status v state s logs disks asked ends = ends.keeps disks logs s asked
 
 pub returns-clause-verification : goal.returns-clause-verification
 returns-clause-verification g c files later before after out out_later err err_later ran ran_later status clicks state s disks ends =

@@ -13,5 +13,7 @@ returns-in-Verify-clause-ends g c = rw c.in-Verify.is (c.verify_command.ensures.
 pub returns-in-Bulk-clause-ends : goal.returns-in-Bulk-clause-ends
 returns-in-Bulk-clause-ends g c = rw c.in-Bulk.is (c.bulk_command.ensures.ends, refl)
 
-pub returns-in-Bulk-clause-read : goal.returns-in-Bulk-clause-read
-returns-in-Bulk-clause-read g c = record { later = omega arith; rose = λ four. absurd (c.bulk_command.ensures.ends.read four) }
+pub returns-in-Bulk-clause-answered : goal.returns-in-Bulk-clause-answered
+returns-in-Bulk-clause-answered g c =
+    let a = c.bulk_command.ensures.answered in
+    record { statuses = a.statuses; read = record { later = omega arith; rose = λ four. absurd (c.bulk_command.ensures.ends.read four) }; write = a.write; quiet = a.quiet }

@@ -1,7 +1,8 @@
-use Rattle.std.proofs.Common.{◌≡◌, inl, inr, ⊎_elim, Err, refl, sym, ap, subst, ◌∙◌, arith}
+use Rattle.std.proofs.Common.{◌≡◌, inl, inr, ⊎_elim, Err, refl, ap, subst, arith}
 use Rattle.std.specs.Prelude.{⊤}
-use Rattle.photon_cli.proofs.Words.{none_bad, bulk_values, status_of, IsOfBulk}
+use Rattle.photon_cli.proofs.Words.{none_bad, bulk_values, IsOfBulk}
 use Rattle.run_fault.specs.declared.fault.RunFault.TheVariants as fault
+use Rattle.photon_cli.proofs.Answered.{ended, given_up}
 use Rattle.photon_cli.proofs.Statuses.{IsKnown, bad_row, bulk_own, bulk_row, bulk_two, drill_left, failed_of, fair_status, line_of, named_in_bulk, no_one, no_zero, past_status, write_of}
 use Rattle.photon_cli.proofs.command.bulk.bulk_command.Goals as goal
 
@@ -50,8 +51,10 @@ returns-in-Err-clause-ends g c =
       tells = λ sinks calm. inr (f, refl, named_in_bulk v f own named_row, c.give_up.ensures.told sinks calm);
     })
 
-pub returns-in-Err-clause-write : goal.returns-in-Err-clause-write
-returns-in-Err-clause-write g c = record { later = c.in-Err.ensures.write.later; rose = λ five. c.in-Err.ensures.write.rose (ap Err (write_of c.in-Err.fault (sym c.give_up.ensures.status ∙ five))) }
+pub returns-in-Ok-clause-answered : goal.returns-in-Ok-clause-answered
+returns-in-Ok-clause-answered g c = ended _ 0 0 _ _ _ _ 0 (inl refl) (omega arith) c.in-Ok.ensures.write.later
 
-pub returns-in-Err-clause-quiet : goal.returns-in-Err-clause-quiet
-returns-in-Err-clause-quiet g c here some other = ⊎_elim (λ is. absurd (other (c.give_up.ensures.status ∙ ap status_of is))) (λ same. same) (c.in-Err.ensures.quiet here)
+pub returns-in-Err-clause-answered : goal.returns-in-Err-clause-answered
+returns-in-Err-clause-answered g c =
+    let e = c.in-Err.ensures in
+    given_up _ 0 0 _ _ _ _ _ c.in-Err.fault _ c.give_up.ensures.status (record { later = omega arith; rose = λ failed. absurd (e.reads failed) }) (λ is. ap Err is) e.write e.quiet

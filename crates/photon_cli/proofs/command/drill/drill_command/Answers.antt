@@ -1,8 +1,9 @@
-use Rattle.std.proofs.Common.{inl, inr, ⊎_elim, Err, refl, sym, ap, ◌∙◌, arith}
+use Rattle.std.proofs.Common.{inl, inr, ⊎_elim, Err, refl, ap, arith}
 use Rattle.std.specs.Prelude.{⊤}
-use Rattle.photon_cli.proofs.Words.{none_bad, values_in, status_of, IsOfPlanOrLogs}
+use Rattle.photon_cli.proofs.Words.{none_bad, values_in, IsOfPlanOrLogs}
 use Rattle.photon_cli.proofs.Ends.{asked_valid, none_refused, not_invalid}
-use Rattle.photon_cli.proofs.Statuses.{IsKnown, bad_row, drill_early, drill_left, drill_row, failed_of, fair_status, line_of, named_in_drill, no_one, no_zero, past_status, plan_left, two_of, write_of}
+use Rattle.photon_cli.proofs.Answered.{ended, given_up}
+use Rattle.photon_cli.proofs.Statuses.{IsKnown, bad_row, drill_early, drill_left, drill_row, fair_status, line_of, named_in_drill, no_one, no_zero, past_status, plan_left, two_of, write_of}
 use Rattle.photon_cli.proofs.command.drill.drill_command.Goals as goal
 
 pub returns-in-Ok-clause-ends : goal.returns-in-Ok-clause-ends
@@ -60,11 +61,8 @@ returns-in-Err-clause-ends g c =
           (e.fair logs));
     })
 
-pub returns-in-Err-clause-read : goal.returns-in-Err-clause-read
-returns-in-Err-clause-read g c = record { later = c.in-Err.ensures.read.later; rose = λ four. c.in-Err.ensures.read.rose (failed_of c.in-Err.fault (sym c.give_up.ensures.status ∙ four)) }
+pub returns-in-Ok-clause-answered : goal.returns-in-Ok-clause-answered
+returns-in-Ok-clause-answered g c = let e = c.in-Ok.ensures in ended _ _ _ _ _ _ _ 0 (inl refl) e.read.later e.write.later
 
-pub returns-in-Err-clause-write : goal.returns-in-Err-clause-write
-returns-in-Err-clause-write g c = record { later = c.in-Err.ensures.write.later; rose = λ five. c.in-Err.ensures.write.rose (ap Err (write_of c.in-Err.fault (sym c.give_up.ensures.status ∙ five))) }
-
-pub returns-in-Err-clause-quiet : goal.returns-in-Err-clause-quiet
-returns-in-Err-clause-quiet g c here some other = ⊎_elim (λ is. absurd (other (c.give_up.ensures.status ∙ ap status_of is))) (λ same. same) (c.in-Err.ensures.quiet here)
+pub returns-in-Err-clause-answered : goal.returns-in-Err-clause-answered
+returns-in-Err-clause-answered g c = let e = c.in-Err.ensures in given_up _ _ _ _ _ _ _ _ c.in-Err.fault _ c.give_up.ensures.status e.read (λ is. ap Err is) e.write e.quiet

@@ -1,9 +1,10 @@
-use Rattle.std.proofs.Common.{◌≡◌, ℕ, Some, inl, inr, ⊎_elim, Err, IsTrue, refl, sym, ap, ◌∙◌, arith}
-use Rattle.photon_cli.proofs.Words.{none_bad, Why, values_in, LogName, TellsPlaces, asked_of, kept_are_journals, Setting, status_of, IsAsked, IsOfLogs}
+use Rattle.std.proofs.Common.{◌≡◌, ℕ, Some, inl, inr, ⊎_elim, Err, IsTrue, refl, ap, arith}
+use Rattle.photon_cli.proofs.Words.{none_bad, Why, values_in, LogName, TellsPlaces, asked_of, kept_are_journals, Setting, IsAsked, IsOfLogs}
 use Rattle.run_fault.specs.declared.fault.RunFault.TheVariants as fault
 use Rattle.photon_cli.proofs.Causing.{damage_told, ends_well, limit_told, mismatch_told}
 use Rattle.photon_cli.proofs.Ends.{asked_valid, none_refused, not_invalid}
-use Rattle.photon_cli.proofs.Statuses.{IsKnown, bad_row, early_left, failed_of, fair_status, join_own, join_past, join_row, join_two, line_of, named, no_one, no_zero, past_status, place_of, write_of}
+use Rattle.photon_cli.proofs.Answered.{ended, given_up}
+use Rattle.photon_cli.proofs.Statuses.{IsKnown, bad_row, early_left, fair_status, join_own, join_past, join_row, join_two, line_of, named, no_one, no_zero, past_status, place_of, write_of}
 use Rattle.photon_cli.proofs.command.join.join_command.Goals as goal
 
 pub returns-in-Ok-clause-ends : goal.returns-in-Ok-clause-ends
@@ -26,15 +27,15 @@ returns-in-Ok-clause-ends g c =
       invalid = λ logs log table text invalid calm. absurd (not_invalid told v.queries v.clicks log (fit.1 logs) invalid);
       stopped = λ six. absurd (omega (arith, six));
       welcome = λ disks logs s asked sound leaves. (λ seven. omega (arith, seven), λ nine. omega (arith, nine));
-      damaged = λ disks logs s asked disk taken none calm still. let passed = e.passed disks logs s asked in absurd (none (kept_are_journals s before passed.0 disk passed.1 taken));
-      mismatched = λ disks logs s asked other calm still. let passed = e.passed disks logs s asked in absurd (other passed.0 passed.1 passed.2.topology passed.2.places);
-      limited = λ disks logs s asked at calm still. let passed = e.passed disks logs s asked in absurd (at passed.0 passed.1 passed.2.limits);
-      passed = λ disks logs s asked zero. e.passed disks logs s asked;
+      damaged = λ disks logs s asked disk taken none calm still. let passed = (e.ends disks logs s asked).passed in absurd (none (kept_are_journals s before passed.0 disk passed.1 taken));
+      mismatched = λ disks logs s asked other calm still. let passed = (e.ends disks logs s asked).passed in absurd (other passed.0 passed.1 passed.2.topology passed.2.places);
+      limited = λ disks logs s asked at calm still. let passed = (e.ends disks logs s asked).passed in absurd (at passed.0 passed.1 passed.2.limits);
+      passed = λ disks logs s asked zero. (e.ends disks logs s asked).passed;
       caused = λ logs. inl refl;
       prefix = λ logs sinks disks five. absurd (omega (arith, five));
       tells = λ logs sinks calm. inl (refl, refl);
-      sound = e.sound;
-      grown = e.grown;
+      keeps = λ disks logs s asked. (e.ends disks logs s asked).keeps;
+      idle = λ disks logs s asked. (e.ends disks logs s asked).idle;
       complete = λ disks logs s asked sound leaves below calm still quiet. inl refl;
     }
 
@@ -65,25 +66,22 @@ returns-in-Err-clause-ends g c =
       invalid = λ logs log table text invalid calm.
           ⊎_elim (λ early. early_left v.shards f early.2 (table, text) (λ read. calm (e.read.rose read))) (λ late. absurd (not_invalid told v.queries v.clicks log (late.0.1 logs) invalid)) e.begins;
       stopped = λ six. let place = place_of f six in e.disks.rose (place.0, ap Err place.1);
-      welcome = λ disks logs s asked sound leaves. fair_status f _ leaves (e.welcome disks logs s asked sound);
-      damaged = λ disks logs s asked disk taken none calm still. damage_told before (Some (asked_of s)) (TellsPlaces s) _ _ _ calm still still f (past logs s asked) (e.caused disks logs s asked) (λ k kept. none (kept_are_journals s before k disk kept taken));
-      mismatched = λ disks logs s asked other calm still. mismatch_told before (Some (asked_of s)) (TellsPlaces s) _ _ _ calm still still f (past logs s asked) (e.caused disks logs s asked) other;
-      limited = λ disks logs s asked at calm still. limit_told before (Some (asked_of s)) (TellsPlaces s) _ _ _ calm still still f (past logs s asked) (e.caused disks logs s asked) at;
+      welcome = λ disks logs s asked sound leaves. fair_status f _ leaves ((e.ends disks logs s asked).welcome sound);
+      damaged = λ disks logs s asked disk taken none calm still. damage_told before (Some (asked_of s)) (TellsPlaces s) _ _ _ calm still still f (past logs s asked) ((e.ends disks logs s asked).caused) (λ k kept. none (kept_are_journals s before k disk kept taken));
+      mismatched = λ disks logs s asked other calm still. mismatch_told before (Some (asked_of s)) (TellsPlaces s) _ _ _ calm still still f (past logs s asked) ((e.ends disks logs s asked).caused) other;
+      limited = λ disks logs s asked at calm still. limit_told before (Some (asked_of s)) (TellsPlaces s) _ _ _ calm still still f (past logs s asked) ((e.ends disks logs s asked).caused) at;
       passed = λ disks logs s asked zero. absurd (no_zero f zero);
-      caused = λ logs. inr (f, refl, (names logs, λ disks s asked. e.caused disks logs s asked));
+      caused = λ logs. inr (f, refl, (names logs, λ disks s asked. (e.ends disks logs s asked).caused));
       prefix = λ logs sinks disks five. e.prefix logs sinks disks (ap Err (write_of f five));
-      tells = λ logs sinks calm. inr (f, refl, (names logs, λ disks s asked. e.caused disks logs s asked), c.give_up.ensures.told sinks calm);
-      sound = e.sound;
-      grown = e.grown;
+      tells = λ logs sinks calm. inr (f, refl, (names logs, λ disks s asked. (e.ends disks logs s asked).caused), c.give_up.ensures.told sinks calm);
+      keeps = λ disks logs s asked. (e.ends disks logs s asked).keeps;
+      idle = λ disks logs s asked. (e.ends disks logs s asked).idle;
       complete = λ disks logs s asked sound leaves below calm still quiet.
-          inr (ends_well before (Some (asked_of s)) (TellsPlaces s) _ _ _ calm still still f (past logs s asked) (e.caused disks logs s asked) _ leaves below (λ is. quiet (e.write.rose (ap Err is))) (e.welcome disks logs s asked sound));
+          inr (ends_well before (Some (asked_of s)) (TellsPlaces s) _ _ _ calm still still f (past logs s asked) ((e.ends disks logs s asked).caused) _ leaves below (λ is. quiet (e.write.rose (ap Err is))) ((e.ends disks logs s asked).welcome sound));
     })
 
-pub returns-in-Err-clause-read : goal.returns-in-Err-clause-read
-returns-in-Err-clause-read g c = record { later = c.in-Err.ensures.read.later; rose = λ four. c.in-Err.ensures.read.rose (failed_of c.in-Err.fault (sym c.give_up.ensures.status ∙ four)) }
+pub returns-in-Ok-clause-answered : goal.returns-in-Ok-clause-answered
+returns-in-Ok-clause-answered g c = let e = c.in-Ok.ensures in ended _ _ _ _ _ _ _ 0 (inl refl) e.read.later e.write.later
 
-pub returns-in-Err-clause-write : goal.returns-in-Err-clause-write
-returns-in-Err-clause-write g c = record { later = c.in-Err.ensures.write.later; rose = λ five. c.in-Err.ensures.write.rose (ap Err (write_of c.in-Err.fault (sym c.give_up.ensures.status ∙ five))) }
-
-pub returns-in-Err-clause-quiet : goal.returns-in-Err-clause-quiet
-returns-in-Err-clause-quiet g c here some other = ⊎_elim (λ is. absurd (other (c.give_up.ensures.status ∙ ap status_of is))) (λ same. same) (c.in-Err.ensures.quiet here)
+pub returns-in-Err-clause-answered : goal.returns-in-Err-clause-answered
+returns-in-Err-clause-answered g c = let e = c.in-Err.ensures in given_up _ _ _ _ _ _ _ _ c.in-Err.fault _ c.give_up.ensures.status e.read (λ is. ap Err is) e.write e.quiet

@@ -1,10 +1,11 @@
-use Rattle.std.proofs.Common.{◌≡◌, ℕ, inl, inr, ⊎_elim, Bool, true, false, None, Err, IsTrue, refl, sym, ap, subst, ◌∙◌, arith}
+use Rattle.std.proofs.Common.{◌≡◌, ℕ, inl, inr, ⊎_elim, Bool, true, false, None, Err, IsTrue, refl, ap, subst, arith}
 use Rattle.std.specs.Prelude.{⊤}
-use Rattle.photon_cli.proofs.Words.{Why, Setting, Clicks, TellsPlaces, kept_are_journals, IsOverLog, unasked, status_of, IsOfVerify, PrintsKept}
+use Rattle.photon_cli.proofs.Words.{Why, Setting, Clicks, TellsPlaces, kept_are_journals, IsOverLog, unasked, IsOfVerify, PrintsKept}
 use Rattle.run_fault.specs.declared.fault.RunFault.TheVariants as fault
 use Rattle.photon_cli.proofs.Causing.{damage_told, ends_well, limit_told, mismatch_told}
 use Rattle.photon_cli.proofs.Ends.{not_readable, over_valid}
-use Rattle.photon_cli.proofs.Statuses.{click_line, failed_of, fair_status, log_verify, named_in_verify, never_two, never_written, no_one, no_zero, past_status, past_verify, place_of, unreadable, verify_past, write_of}
+use Rattle.photon_cli.proofs.Answered.{ended, given_up}
+use Rattle.photon_cli.proofs.Statuses.{click_line, fair_status, log_verify, named_in_verify, never_two, never_written, no_one, no_zero, past_status, past_verify, place_of, unreadable, verify_past, write_of}
 use Rattle.photon_cli.proofs.command.verify.verify_command.Goals as goal
 
 pub returns-in-Ok-true-clause-ends : goal.returns-in-Ok-true-clause-ends
@@ -100,11 +101,11 @@ returns-in-Err-clause-ends g c =
           inr (inr (ends_well before None (TellsPlaces s) _ ⊥ _ calm still (λ l. l) f (past logs s over) (e.caused disks logs s over) ⊤ tt below (λ is. quiet (e.write.rose (ap Err is))) (e.welcome disks logs s over replicas few leaves sound)));
     })
 
-pub returns-in-Err-clause-read : goal.returns-in-Err-clause-read
-returns-in-Err-clause-read g c = record { later = c.in-Err.ensures.read.later; rose = λ four. c.in-Err.ensures.read.rose (failed_of c.in-Err.fault (sym c.give_up.ensures.status ∙ four)) }
+pub returns-in-Ok-true-clause-answered : goal.returns-in-Ok-true-clause-answered
+returns-in-Ok-true-clause-answered g c = let e = c.in-Ok-true.ensures in ended _ _ _ _ _ _ _ 1 (inr refl) e.read.later e.write.later
 
-pub returns-in-Err-clause-write : goal.returns-in-Err-clause-write
-returns-in-Err-clause-write g c = record { later = c.in-Err.ensures.write.later; rose = λ five. c.in-Err.ensures.write.rose (ap Err (write_of c.in-Err.fault (sym c.give_up.ensures.status ∙ five))) }
+pub returns-in-Ok-false-clause-answered : goal.returns-in-Ok-false-clause-answered
+returns-in-Ok-false-clause-answered g c = let e = c.in-Ok-false.ensures in ended _ _ _ _ _ _ _ 0 (inl refl) e.read.later e.write.later
 
-pub returns-in-Err-clause-quiet : goal.returns-in-Err-clause-quiet
-returns-in-Err-clause-quiet g c here some one other = ⊎_elim (λ is. absurd (other (c.give_up.ensures.status ∙ ap status_of is))) (λ same. same) (c.in-Err.ensures.quiet here)
+pub returns-in-Err-clause-answered : goal.returns-in-Err-clause-answered
+returns-in-Err-clause-answered g c = let e = c.in-Err.ensures in given_up _ _ _ _ _ _ _ _ c.in-Err.fault _ c.give_up.ensures.status e.read (λ is. ap Err is) e.write e.quiet

@@ -7,11 +7,11 @@ use Rattle.photon_cli.proofs.engine.drill.drill_lines.Goals as goal
 pub returns-in-Err-clause-fair : goal.returns-in-Err-clause-fair
 returns-in-Err-clause-fair g c logs s setting =
     let sound = c.empty_store.ensures s c.args.store.now (λ disk is b now. c.requires.empty disk b now) in
-    welcome_where c.in-Err.fault _ ⊤ (λ x store disk is. something_left (disk_of store.kept.items disk)) (c.in-Err.ensures.welcome refl logs s setting sound)
+    welcome_where c.in-Err.fault _ ⊤ (λ x store disk is. something_left (disk_of store.kept.items disk)) ((c.in-Err.ensures.ends refl logs s setting).welcome sound)
 
 pub returns-clause-drilled : goal.returns-clause-drilled
 returns-clause-drilled g c logs s setting own =
     let ran = c.in-Ok.ensures.ran refl logs s setting own (λ disk is b now. c.requires.empty disk b now) in
     let spared : list_any is_joiners c.args.plan.stops ≡ false → IfSome c.run_lines.new.ran.log (λ (l : RunLog). (j : ℕ) → 7 ≤ j → list_any is_stop (made_by j l.air.history) ≡ false) =
     λ none. c.is_unplanned.ensures c.if-is_unplanned.false (subst (λ (b : Bool). IsTrue (not b)) (sym (c.stops_a_joiner-spared.ensures ∙ none)) refl) in
-    drilled c.run_lines.new.ran.log s c.args.plan c.in-Ok.lines.items setting.numbers.replicas ran c.run_lines.ensures.heard spared
+    drilled c.run_lines.new.ran.log s c.args.plan c.args.config.now.joiners c.in-Ok.lines.items setting.numbers.replicas setting.numbers.joiners ran c.run_lines.ensures.heard spared

@@ -1,12 +1,13 @@
 use Rattle.std.proofs.Common.{◌≡◌, List, map, subst, sym, ◌∙◌}
 use Rattle.photon_cli.proofs.Words.{ClickRec, ClickLine, distinct, ShardRow, IsTable, line_of, Rose, RunLog, RestLeft, RanAfresh, RunLeft}
 use Rattle.photon_cli.proofs.Refusals.{within}
-use Rattle.photon_cli.proofs.Runs.{heard, known, taken, log_checked}
+use Rattle.photon_cli.proofs.Overs.{on_err, on_fault, on_ok}
+use Rattle.photon_cli.proofs.Runs.{known, taken, log_checked}
 use Rattle.photon_cli.proofs.engine.run.run_lines.Goals as goal
 
 pub returns-in-Ok-classify-clause-joined : goal.returns-in-Ok-classify-clause-joined
 returns-in-Ok-classify-clause-joined g c disks logs s setting own sound =
-    let rest = taken c.run_sites.new.ran.log (λ (l : RunLog). RestLeft s (g.S.Store.image c.args.store.now) (g.S.Store.image c.run_sites.new.store) l.air.history (Rose (g.S.Store.faults c.args.store.now) (g.S.Store.faults c.run_sites.new.store)) c.in-Ok.field-0.journals) (c.in-Ok.ensures.rest disks logs s setting) in
+    let rest = taken c.run_sites.new.ran.log (λ (l : RunLog). RestLeft s (g.S.Store.image c.args.store.now) (g.S.Store.image c.run_sites.new.store) l.air.history (Rose (g.S.Store.faults c.args.store.now) (g.S.Store.faults c.run_sites.new.store)) c.in-Ok.field-0.journals) (c.in-Ok.ensures.over disks logs s setting).rest in
     let table : c.args.config.now.table ≡ s.table = sym setting.numbers.table in
     let clicks : List ClickRec = map (λ (l : ClickLine). l.click) s.clicks in
     c.means.ensures.joins s c.args.store.now c.run_sites.new.store rest.0.air.history c.in-Ok.field-0.journals c.in-Ok-classify.lines.items (log_checked _ s setting.clicks_are) sound rest.1
@@ -14,7 +15,7 @@ returns-in-Ok-classify-clause-joined g c disks logs s setting own sound =
 
 pub returns-in-Ok-classify-clause-afresh : goal.returns-in-Ok-classify-clause-afresh
 returns-in-Ok-classify-clause-afresh g c disks logs s setting own nothing =
-    let rest = taken c.run_sites.new.ran.log (λ (l : RunLog). RestLeft s (g.S.Store.image c.args.store.now) (g.S.Store.image c.run_sites.new.store) l.air.history (Rose (g.S.Store.faults c.args.store.now) (g.S.Store.faults c.run_sites.new.store)) c.in-Ok.field-0.journals) (c.in-Ok.ensures.rest disks logs s setting) in
+    let rest = taken c.run_sites.new.ran.log (λ (l : RunLog). RestLeft s (g.S.Store.image c.args.store.now) (g.S.Store.image c.run_sites.new.store) l.air.history (Rose (g.S.Store.faults c.args.store.now) (g.S.Store.faults c.run_sites.new.store)) c.in-Ok.field-0.journals) (c.in-Ok.ensures.over disks logs s setting).rest in
     let table : c.args.config.now.table ≡ s.table = sym setting.numbers.table in
     let clicks : List ClickRec = map (λ (l : ClickLine). l.click) s.clicks in
     c.means.ensures.afresh s c.args.store.now c.run_sites.new.store rest.0.air.history c.in-Ok.field-0.journals c.in-Ok-classify.lines.items (log_checked _ s setting.clicks_are) (subst (λ (t : List ShardRow). IsTable t) table c.requires.table) nothing rest.1
@@ -23,7 +24,7 @@ returns-in-Ok-classify-clause-afresh g c disks logs s setting own nothing =
 pub returns-in-Ok-classify-clause-began : goal.returns-in-Ok-classify-clause-began
 returns-in-Ok-classify-clause-began g c disks logs s setting =
     known c.run_sites.new.ran.log (λ (l : RunLog). RestLeft s (g.S.Store.image c.args.store.now) (g.S.Store.image c.run_sites.new.store) l.air.history (Rose (g.S.Store.faults c.args.store.now) (g.S.Store.faults c.run_sites.new.store)) c.in-Ok.field-0.journals)
-    (λ (l : RunLog). RunLeft s (g.S.Store.image c.args.store.now) (g.S.Store.image c.run_sites.new.store) l.air.history) (c.in-Ok.ensures.rest disks logs s setting) (c.run_sites.ensures.left disks logs s setting)
+    (λ (l : RunLog). RunLeft s (g.S.Store.image c.args.store.now) (g.S.Store.image c.run_sites.new.store) l.air.history) (c.in-Ok.ensures.over disks logs s setting).rest (c.run_sites.ensures.over disks logs s setting).left
 
 pub returns-in-Ok-classify-clause-ran : goal.returns-in-Ok-classify-clause-ran
 returns-in-Ok-classify-clause-ran g c disks logs s setting own nothing =
@@ -33,13 +34,13 @@ returns-in-Ok-classify-clause-ran g c disks logs s setting own nothing =
     (λ (l : RunLog). RanAfresh s l.air.history c.in-Ok-classify.lines.items)
     (λ l rest. c.means.ensures.ran s c.args.store.now c.run_sites.new.store l.air.history c.in-Ok.field-0.journals c.in-Ok-classify.lines.items (log_checked _ s setting.clicks_are) (subst (λ (t : List ShardRow). IsTable t) table c.requires.table) nothing rest
     (c.in-Ok-classify.ensures clicks (own ∙ sym c.deref.ensures.value) ∙ (λ k. map (λ (x : ClickRec). line_of c.in-Ok.field-0.journals (table k) x.id) (distinct clicks))))
-    (c.in-Ok.ensures.rest disks logs s setting)
+    (c.in-Ok.ensures.over disks logs s setting).rest
 
-pub returns-in-Err-clause-heard : goal.returns-in-Err-clause-heard
-returns-in-Err-clause-heard g c = heard c.run_sites.new.ran.log c.args.plan c.run_sites.ensures.lists c.run_sites.ensures.aired
+pub returns-in-Err-clause-ends : goal.returns-in-Err-clause-ends
+returns-in-Err-clause-ends g c disks logs s setting = on_fault s _ _ _ _ _ _ _ (c.in-Err.ensures.over disks logs s setting).ends
 
-pub returns-in-Ok-classify-clause-heard : goal.returns-in-Ok-classify-clause-heard
-returns-in-Ok-classify-clause-heard g c = heard c.run_sites.new.ran.log c.args.plan c.run_sites.ensures.lists c.run_sites.ensures.aired
+pub returns-in-Ok-classify-clause-ends : goal.returns-in-Ok-classify-clause-ends
+returns-in-Ok-classify-clause-ends g c disks logs s setting = on_ok s _ _ _ _ _ _ _ (c.in-Ok.ensures.over disks logs s setting).ends _
 
-pub returns-clause-heard : goal.returns-clause-heard
-returns-clause-heard g c = heard c.run_sites.new.ran.log c.args.plan c.run_sites.ensures.lists c.run_sites.ensures.aired
+pub returns-clause-ends : goal.returns-clause-ends
+returns-clause-ends g c disks logs s setting = on_err s _ _ _ _ _ _ _ (c.in-Ok.ensures.over disks logs s setting).ends _ tt tt
