@@ -110,13 +110,20 @@ def cases():
         ("a drill with a stop", QUERY, CLICK, DRILL, 0, "M 10.0.0.2:9:2000\n= 0 1 0 0\n", ""),
         ("a bad table of a drill", QUERY, CLICK, DRILL + ["--shards", "1:1"], 2, "", "photon: table: row 0\n"),
         ("a verification of nothing", None, CLICK, VERIFY, 0, "U 10.0.0.2:9:2000\n= 0 0 0 1\n", ""),
+        ("a row for no table", None, None, ["reshard", "--state", "state", "--add", "1:8"], 11, "", "photon: reshard: no topology\n"),
+        ("a row for a table", None, None, ["reshard", "--state", "kept", "--add", "1:8"], 0, "0:4,1:8\n", ""),
+        ("a bad row", None, None, ["reshard", "--state", "kept", "--add", "1:0"], 2, "", "photon: table: row 0\n"),
         ("made logs", None, None, ["bulk", "--seed", "1", "--clicks", "5"], 0, "= 4 0 1 0\n", ""),
     ]
 
 
 def run(words, folder, failing):
-    """The status, the output, the errors, and whether there was such an allocation. Each run has a new state directory."""
-    shutil.rmtree(os.path.join(folder, "state"), ignore_errors=True)
+    """The status, the output, the errors, and whether there was such an allocation. Each run has a new state directory, and one that keeps a table."""
+    for state in ("state", "kept"):
+        shutil.rmtree(os.path.join(folder, state), ignore_errors=True)
+    os.mkdir(os.path.join(folder, "kept"))
+    with open(os.path.join(folder, "kept", "topology"), "wb") as file:
+        file.write(bytes.fromhex("a50000000d0102010100000000000000000400"))
     mark = os.path.join(folder, "mark")
     if os.path.exists(mark):
         os.remove(mark)

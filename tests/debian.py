@@ -103,8 +103,8 @@ def completion(case):
     for command, those in options.items():
         case.check_same(completed(case, command, ""), sorted(those), f"the options of {command}")
         case.check_same(completed(case, command, those[0], "a log", ""), sorted(those[1:]), f"the options left of {command}")
-        case.check_same(completed(case, command, "--c"), ["--clicks"], "an option that is begun")
-    rows = [(["v"], ["verify"]), (["join", "--queries", ""], ["a log", "a state"]), (["join", "--clicks", "a l"], ["a log"]),
+        case.check_same(completed(case, command, those[-1][:4]), [those[-1]], "an option that is begun")
+    rows = [(["v"], ["verify"]), (["r"], ["reshard"]), (["reshard", "--add", ""], []), (["reshard", "--state", ""], ["a state"]), (["join", "--queries", ""], ["a log", "a state"]), (["join", "--clicks", "a l"], ["a log"]),
             (["join", "--state", ""], ["a state"]), (["bulk", "--clicks", ""], []), (["join", "--horizon", ""], []), (["drill", "--plan", "a"], ["a log", "a state"]), (["mend", ""], [])]
     for words, offered in rows:
         case.check_same(completed(case, *words), offered, f"behind {words}")

@@ -15,7 +15,7 @@ class Directory:
         self.case, self.joiners, self.rows = case, joiners, rows
         self.state, self.names = "state", ("queries", "clicks")
         self.joined, self.bound, self.stops = set(), 0, 0
-        self.seen = None
+        self.seen, self.asked = None, None  # what it kept when it was judged last; a table that a stopped `reshard` may have left
 
     def give(self, queries, clicks):
         """Writes both logs."""
@@ -51,6 +51,12 @@ class Directory:
         """The words of a verification."""
         return ["verify", "--clicks", self.names[1], "--state", self.state]
 
+    def reshard_words(self, row):
+        """The words of a `reshard` with this row, its options in any order."""
+        options = [["--state", self.state], ["--add", f"{row[0]}:{row[1]}"]]
+        self.case.random.shuffle(options)
+        return ["reshard", *options[0], *options[1]]
+
     # ---- what the directory keeps
 
     def read(self):
@@ -62,7 +68,8 @@ class Directory:
         store = self.read()
         self.case.check_none(sound.wrong_with(store, self.queries, self.clicks), f"the store {when}")
         if store.topology:
-            self.case.check(store.topology == (self.joiners, self.rows), f"the store {when} keeps the topology {store.topology}")
+            kept = self.asked if self.asked and store.topology[1] == self.asked else self.rows
+            self.case.check(store.topology == (self.joiners, kept), f"the store {when} keeps the topology {store.topology}")
         if self.seen:
             self.case.check_none(sound.wrong_growth(self.seen, store), f"the store {when}")
         self.seen = store
@@ -117,6 +124,30 @@ class Directory:
         self.case.expect(self.verify_words(), int(missing), "", expected)
         after = self.judge("after a verification")
         self.case.check(after.records == store.records, "a verification has changed records")
+
+    def reshard(self, row):
+        """A row behind the table, or its refusal, by the model; whether it was taken. No other record changes, and the report stays the same."""
+        before = self.seen or self.read()
+        refused = stores.reshard_refusal(before, row[0])
+        out = b"" if refused else model.table_text((*self.rows, row)).encode() + b"\n"
+        self.case.expect(self.reshard_words(row), *(refused or (0, "")), out)
+        self.resharded(before, None if refused else row)
+        return not refused
+
+    def resharded(self, before, row):
+        """What a `reshard` has left that ended with 0 or 5, which adds this row, or that was refused."""
+        if row:
+            self.rows = (*self.rows, row)
+        after = self.judge("after a reshard")
+        added = [("topology", self.joiners, self.rows, 2)] if row else []
+        expected = {**before.records, "topology": before.records["topology"] + added}
+        self.case.check(after.records == expected, f"a reshard has left {after.records['topology']}, or changed other records")
+        self.same_report(before, after)
+
+    def same_report(self, before, after):
+        """Two stores have the same report."""
+        clicks = model.records(self.clicks)
+        self.case.check_same(stores.report_of_store(after, clicks), stores.report_of_store(before, clicks), "the report after a reshard")
 
     def copy_files(self):
         """The bytes of all files."""

@@ -8,6 +8,7 @@ import model
 TAGS = {1: "topology", 2: "epoch", 3: "offset", 4: "park", 5: "settle", 6: "pair", 7: "promised", 8: "accepted"}
 LAST_ROUND = (1 << 48) - 1  # also the last slot
 LAST_EPOCH = 4_294_967_294
+NEW_VERSION = 2  # of the topology's record that a new store gets
 
 
 # ---- putting
@@ -62,9 +63,9 @@ def put_batch(batch):
     return number(batch[0]) + number(len(batch[1]), 1) + b"".join(put_insert(insert) for insert in batch[1])
 
 
-def put_topology(joiners, rows, version=1):
-    """The topology's fields, its version in front."""
-    return bytes([version, joiners, len(rows)]) + b"".join(number(start) + number(count, 1) for start, count in rows)
+def put_topology(joiners, rows, version=None):
+    """The topology's fields, its version in front, which is that of a new store where none is given."""
+    return bytes([version or NEW_VERSION, joiners, len(rows)]) + b"".join(number(start) + number(count, 1) for start, count in rows)
 
 
 PUT = {

@@ -8,6 +8,7 @@ import journals
 import kills
 import many
 import odd
+import reshard
 import runs
 import strict
 import texts
@@ -61,6 +62,9 @@ GROUPS = [
     Group("full_mount", odd.full, 4),
     Group("vanish", odd.vanish, 4),
     Group("shrink", odd.shrink, 4),
+    Group("reshard", listed=reshard.CASES),
+    Group("rows", reshard.invented, 40),
+    Group("histories", reshard.history, 105),
     Group("parts", listed=many.CASES),
     Group("parts_killed", many.killed, 1),
     Group("parts_wrong", many.wrong, 4),

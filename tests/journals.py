@@ -76,9 +76,15 @@ class Inventor:
             records.append(("settle", place))
         return records + [("park", 7 + (1 << 40)), ("settle", 7 + (1 << 40))] * self.random.randrange(3)
 
+    def topologies(self):
+        """The topology's records: the table at once, or then row by row; the first one is in either version."""
+        first = self.random.randint(1, len(self.rows))
+        counts = range(first, len(self.rows) + 1)
+        return [("topology", self.joiners, self.rows[:count], self.random.choice([1, 2]) if count == first else 2) for count in counts]
+
     def records(self):
         """The records of all disks by name."""
-        found = {"topology": [("topology", self.joiners, self.rows)]}
+        found = {"topology": self.topologies()}
         for site in "AB":
             found.update({f"offset-{site}": self.offsets(), f"retry-{site}": self.parked(), f"server-{site}": self.epochs()})
             found.update({f"epoch-{site}{number}": self.epochs() for number in range(self.joiners)})
@@ -150,7 +156,8 @@ def odd_payloads(inventor):
     records = [b"", b"\0", b"\x09", put(("epoch", 0)), put(("epoch", 1)), put(("epoch", (1 << 32) - 1)), put(("offset", 0)), put(("offset", 1)),
                put(("park", 0)), put(("settle", 3)), put(("topology", 1, ((0, 4),))), put(("topology", 4, ((0, 1), (9, 16)))),
                put(("promised", place, ballot)), accepted, pair, accepted + b"\0", pair[:-1], pair + b"\0"]
-    records += [b"\x01\x02" + put(("topology", 1, ((0, 4),)))[2:], b"\x01\x01\x05" + put(("topology", 1, ((0, 4),)))[3:],
+    records += [put(("topology", 1, ((0, 4),), version)) for version in (1, 3, 255)]
+    records += [b"\x01\x02\x05" + put(("topology", 1, ((0, 4),)))[3:], put(("topology", inventor.joiners, (*inventor.rows[:3], (logs.LATEST, 1)), 1)),
                 put(("topology", 1, ((1, 4),))), put(("topology", 1, ((0, 17),))), put(("topology", 1, ((0, 0),))),
                 put(("topology", 1, ((0, 4), (0, 4)))), put(("topology", 0, ((0, 4),))), b"\x01\x01\x01\x00"]
     records += [put(("promised", (16, 5), ballot)), put(("promised", (1, 1 << 48), ballot)), put(("promised", place, (1 << 48, 1, 1))),

@@ -122,14 +122,18 @@ def read_table(text):
     """The rows of a table and None, or None and the number of the first bad row."""
     rows = []
     for number, part in enumerate(text.split(b",")):
-        fits = ROW.fullmatch(part)
-        if number >= 4 or fits is None:
+        row = read_row(part)
+        if row is None or not may_follow(rows, *row):
             return None, number
-        start, count = int(fits.group(1)), int(fits.group(2))
-        if not may_follow(rows, start, count):
-            return None, number
-        rows.append((start, count))
+        rows.append(row)
     return tuple(rows), None
+
+
+def read_row(text):
+    """The row that a text spells, as a start and a count, or None."""
+    fits = ROW.fullmatch(text)
+    row = (int(fits.group(1)), int(fits.group(2))) if fits else (0, 0)
+    return row if row[0] < 1 << 64 and 1 <= row[1] <= 16 else None
 
 
 def may_follow(rows, start, count):

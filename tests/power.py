@@ -68,7 +68,10 @@ class Machine:
 
     def calls(self):
         """The calls that counted since the power was last lost, each as the call, its path, its place and size, and what happened."""
-        with open(os.path.join(self.kept, "calls"), encoding="ascii") as file:
+        path = os.path.join(self.kept, "calls")
+        if not os.path.exists(path):
+            return []
+        with open(path, encoding="ascii") as file:
             return [line.rstrip("\n").split(" ") for line in file]
 
     def files(self, state):

@@ -2,6 +2,7 @@
 import os
 import threading
 
+import fields
 import logs
 import model
 import store as stores
@@ -152,7 +153,7 @@ def one_line_bytes(case):
     directory.join()
     files = directory.copy_files()
     epoch, offset = [("epoch", 1)], [("offset", 36)]
-    fixed = {"topology": [("topology", 1, ((0, 4),))]}
+    fixed = {"topology": [("topology", 1, ((0, 4),), fields.NEW_VERSION)]}
     fixed.update({f"{kind}-{site}": those for site in "AB" for kind, those in (("server", epoch), ("offset", offset), ("retry", []))})
     fixed.update({f"epoch-{site}0": epoch for site in "AB"})
     for name, data in stores.files_of(fixed).items():

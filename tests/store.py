@@ -235,6 +235,36 @@ def refusal(store, clicks, asked=None):
     return (10, "photon: limit: {} {}".format(*last)) if last else None
 
 
+def reshard_refusal(store, start):
+    """The status and text with which `reshard` refuses to put a row of this start behind a store's table, or None.
+
+    In this order: the first damaged disk, the numbers that are the last of their kind, and what forbids the row.
+    """
+    if store.damage:
+        return 7, "photon: damaged: {} at {}".format(*store.damage)
+    last = first_last(store)
+    if last:
+        return 10, "photon: limit: {} {}".format(*last)
+    why = why_no_row(store, start)
+    return (11, f"photon: reshard: {why}") if why else None
+
+
+def why_no_row(store, start):
+    """What forbids a row of this start, or None. What any replica accepted counts, whether it is decided or not."""
+    if store.topology is None:
+        return "no topology"
+    rows = store.topology[1]
+    if len(rows) == 4:
+        return "rows 4"
+    if start <= rows[-1][0]:
+        return f"start {rows[-1][0]} {start}"
+    bound = bound_of([batch for votes in store.votes.values() for _, batch in votes])
+    if bound > start:
+        return f"bound {bound}"
+    late = [event for event, _ in store.accepted_inserts() if event[2] >= start]
+    return f"id {model.id_text(min(late)).decode()}" if late else None
+
+
 def first_misplaced(store, clicks):
     """The first disk that keeps a place that isn't one of the click log, with that place and the next lower one that would do."""
     ends, starts = model.boundaries(clicks), {line.start for line in clicks}

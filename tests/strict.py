@@ -32,9 +32,12 @@ def vote(ballot, batch, place=PLACE):
 
 
 PAIR = ("pair", CLICK, QUERY, TOKEN)
+ROW = ("topology", 1, ((0, 4),), 2)
+ADDED = [("topology", 1, ((0, 4), (2001, 8)), 2), ("topology", 1, ((0, 4), (2001, 8), (2002, 1)), 2)]
 BOUND = (0, ())
 SOUND = {
     "good": put(), "empty": {}, "topology alone": {"topology": good()["topology"]}, "missing": put(output_A0=[]),
+    "an old store": put(topology=[("topology", 1, ((0, 4),), 1)]), "rows that were added": put(topology=[("topology", 1, ((0, 4),), 1), *ADDED]),
     "one vote, not passed": put(replica_1=VOTES[:1], output_A0=[], offset_A=[], offset_B=[]),
     "pending": put(replica_0=[], replica_1=[], replica_2=[], output_A0=[], offset_B=[], retry_A=[("park", 0)]),
     "a higher ballot with the same batch": put(replica_2=vote((2, 1, 1), BATCH), replica_1=[*VOTES, ("promised", PLACE, (2, 1, 1))]),
@@ -42,7 +45,10 @@ SOUND = {
                                          replica_1=vote((2, 1, 0), BATCH)),
 }
 SPOILT = {
-    "no topology": put(topology=[]),
+    "no topology": put(topology=[]), "a row for settled ids": put(topology=[ROW, ("topology", 1, ((0, 4), (2000, 3)), 2)]),
+    "a row in version 1": put(topology=[ROW, (*ADDED[0][:3], 1)]), "two rows at once": put(topology=[ROW, ADDED[1]]), "a table again": put(topology=[ROW, ROW]),
+    "other joiners": put(topology=[ROW, ("topology", 2, ((0, 4), (2001, 8)), 2)]), "a row that goes": put(topology=[*ADDED, ROW]),
+    "another row": put(topology=[ROW, ("topology", 1, ((0, 5), (2001, 8)), 2)]),
     "written twice": put(output_B0=[PAIR]),
     "another's pair": put(output_A0=[], output_B0=[PAIR]),
     "not granted": put(output_A0=[("pair", CLICK, QUERY, (7, 1, 1))]),

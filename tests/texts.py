@@ -12,6 +12,7 @@ JOIN = ["join", "--queries", "queries", "--clicks", "clicks", "--state", "state"
 DRILL = ["drill", "--queries", "queries", "--clicks", "clicks", "--plan", "plan"]
 VERIFY = ["verify", "--clicks", "clicks", "--state", "state"]
 BULK = ["bulk", "--seed", "1", "--clicks", "10"]
+RESHARD = ["reshard", "--state", "state", "--add", "3000:8"]
 REPORT = b"J 10.0.0.2:9:2000 10.0.0.1:7:1000 buy\tshoes\n= 1 0 0 0\n"
 EXPIRED = b"X 10.0.0.2:9:2000\n= 0 0 1 0\n"
 LATEST = str((1 << 64) - 1)
@@ -37,6 +38,9 @@ REFUSED = {
     "horizon_empty": [*JOIN, "--horizon", ""], "shards_empty": [*JOIN, "--shards", ""], "joiners_0": [*JOIN, "--joiners", "0"], "joiners_5": [*JOIN, "--joiners", "5"],
     "batch_0": [*JOIN, "--batch", "0"], "batch_65": [*JOIN, "--batch", "65"], "batch_of_drill": [*DRILL, "--batch", "65"],
     "clicks_of_bulk": ["bulk", "--seed", "1", "--clicks", "100001"], "seed_above": ["bulk", "--seed", str(1 << 64), "--clicks", "1"],
+    "no_row": RESHARD[:3], "no_state_of_reshard": ["reshard", *RESHARD[3:]], "row_empty": [*RESHARD[:4], ""], "row_below": [*RESHARD[:4], "-1:8"],
+    "row_twice": [*RESHARD, "--add", "4000:8"], "clicks_of_reshard": [*RESHARD, "--clicks", "clicks"], "shards_of_reshard": [*RESHARD, "--shards", "0:4"],
+    "help_of_reshard": ["reshard", "--help"], "row_of_verify": [*VERIFY, "--add", "3000:8"],
     "seed_word": ["bulk", "--seed", "x", "--clicks", "1"], "joiners_of_bulk": [*BULK, "--joiners", "9"],
 }
 

@@ -60,11 +60,12 @@ def growing(case):
     and only what is new is read."""
     inventor = journals.Inventor(case)
     files = {name: data[:stores.gate_rule(data)[2] + 1] for name, data in inventor.files(inventor.records()).items()}
+    tables = [payload for _, payload in stores.gate_rule(files["topology"])[0]]  # the table grows in the midst
     watch = load()
     progress, watch.os = watch.Progress(case.path("state")), Reads()
     for step in range(1, 21):
         shown = {name: cut(data, len(data) * step // 20) for name, data in files.items()}
-        shown["topology"] = files["topology"]
+        shown["topology"] = stores.framed(tables[:1 if step < 10 else None])
         stores.write_files(case.path("state"), shown)
         progress.read()
         got = [*progress.offsets, 0, progress.pairs, *progress.parked, progress.counts()[2]]

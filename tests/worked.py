@@ -35,7 +35,8 @@ SPELLED = {
     "query": fields.put_query(QUERY), "click": fields.put_click(CLICK),
     "retry": stores.framed([fields.put_record(("park", 0)), fields.put_record(("park", 36))]),
 }
-RECORDS = [("topology", 2, ((0, 4), (3000, 8)), 1), ("epoch", 1), ("offset", 36), ("park", 36), ("settle", 36), ("pair", CLICK, QUERY, TOKEN),
+RECORDS = [("topology", 2, ((0, 4),), 1), ("topology", 2, ((0, 4),), 2), ("topology", 2, ((0, 4), (3000, 8)), 2),
+           ("epoch", 1), ("offset", 36), ("park", 36), ("settle", 36), ("pair", CLICK, QUERY, TOKEN),
            ("promised", (3, 0), (1, 1, 0)), ("accepted", (3, 0), (1, 1, 0), BATCH)]
 
 
@@ -55,7 +56,7 @@ def sizes(case):
     """The longest records are as long as the page says."""
     text, latest = b"x" * 200, ((1 << 32) - 1, (1 << 32) - 1, (1 << 64) - 1)
     longest = {40: ("topology", 4, ((0, 1), (1, 1), (2, 1), (3, 1))), 465: ("pair", (latest, latest, text), (latest, text), TOKEN),
-               1952: ("accepted", (15, 1), (1, 1, 1), (0, ((latest, TOKEN),) * 64)), 23: RECORDS[6], 9: RECORDS[2], 5: RECORDS[1]}
+               1952: ("accepted", (15, 1), (1, 1, 1), (0, ((latest, TOKEN),) * 64)), 23: RECORDS[8], 9: RECORDS[4], 5: RECORDS[3]}
     for size, record in longest.items():
         case.check(len(fields.put_record(record)) == size, f"a {record[0]} has {len(fields.put_record(record))} bytes, and by the page {size}")
 
