@@ -6,6 +6,7 @@ _photon_options() {
     join) echo --queries --clicks --state --horizon --joiners --shards --batch ;;
     drill) echo --queries --clicks --plan --horizon --joiners --shards --batch ;;
     verify) echo --clicks --state ;;
+    reshard) echo --state --add ;;
     bulk) echo --seed --clicks --joiners --shards --batch ;;
     esac
 }
@@ -14,8 +15,8 @@ _photon() {
     local word=${COMP_WORDS[COMP_CWORD]} before=${COMP_WORDS[COMP_CWORD - 1]} command=${COMP_WORDS[1]} option options=
     COMPREPLY=()
     case $COMP_CWORD,$before,$command in
-    1,*) options='join drill verify bulk' ;;
-    *,--clicks,bulk | *,--horizon,* | *,--joiners,* | *,--shards,* | *,--batch,* | *,--seed,*) ;;
+    1,*) options='join drill verify reshard bulk' ;;
+    *,--clicks,bulk | *,--horizon,* | *,--joiners,* | *,--shards,* | *,--add,* | *,--batch,* | *,--seed,*) ;;
     *,--state,*) mapfile -t COMPREPLY < <(compgen -d -- "$word") ;;
     *,--queries,* | *,--clicks,* | *,--plan,*) mapfile -t COMPREPLY < <(compgen -f -- "$word") ;;
     *)
