@@ -64,7 +64,7 @@ GROUPS = [
     Group("shrink", odd.shrink, 4),
     Group("reshard", listed=reshard.CASES),
     Group("rows", reshard.invented, 40),
-    Group("histories", reshard.history, 105),
+    Group("histories", reshard.history, 105, takes_more=True),
     Group("parts", listed=many.CASES),
     Group("parts_killed", many.killed, 1),
     Group("parts_wrong", many.wrong, 4),
