@@ -148,7 +148,7 @@ def order(case):
     """Of several things that are wrong the first is told: a disk, a limit, no topology, four rows, the start, the bound, the id."""
     need(case)
     late, later = (1, 1, 6001), (0, 0, 9000)
-    rows = ((0, 4), (10, 2), (1000, 1), (1001, 1))
+    rows = ((0, 4), (10, 2), (1000, 1), (9000, 1))
     put = {
         "topology": [("topology", 1, rows)], "server-B": [("epoch", fields.LAST_EPOCH)], "epoch-A0": [("epoch", fields.LAST_EPOCH)],
         "replica-1": accepted(7000, late), "replica-2": accepted(5, later),
