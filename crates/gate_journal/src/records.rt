@@ -127,14 +127,26 @@ impl<D: Disk, R: Record> RecordJournal<D, R> {
         ensures grows { IsTrue D.tells → Throughout D.image D.since self.old.journal.disk self.new.journal.disk (Continues (D.image self.old.journal.disk)) }
         ensures count { D.faults self.old.journal.disk ≤ D.faults self.new.journal.disk }
     {
-        let payloads = self.journal.reopen(alloc)?;
+        self.value = Self::reopen_bare(alloc, &mut self.journal)?;
+        Ok(())
+    }
+
+    /// Reads the disk of a bare journal again as a stop left it. Where that is refused nothing more is appended.
+    pub fn reopen_bare(alloc: Global, journal: &mut Journal<D>) -> Result<R, JournalFault>
+        ensures ready { OnOk result (journal.new.state ≡ Ready) }
+        ensures kept { IsTrue D.tells → IfOk result (λ value. Keeps R.keeps (R.kept value) (D.seen journal.new.disk)) }
+        ensures left { IsTrue D.tells → IfOk result (λ value. IsLeft R.keeps (D.image journal.old.disk) (R.kept value)) }
+        ensures broken { OnErr result (journal.new.state ≡ Broken) }
+        ensures err { IfErr result (λ e. IsRefusedAgain R.damaged D.tells (D.image journal.old.disk) (D.faults journal.old.disk) (D.faults journal.new.disk) e) }
+        ensures any_moment { IsTrue D.tells → Throughout D.image D.since journal.old.disk journal.new.disk (IsOpened (D.image journal.old.disk)) }
+        ensures grows { IsTrue D.tells → Throughout D.image D.since journal.old.disk journal.new.disk (Continues (D.image journal.old.disk)) }
+        ensures count { D.faults journal.old.disk ≤ D.faults journal.new.disk }
+    {
+        let payloads = journal.reopen(alloc)?;
         match read_kept(alloc, &payloads) {
-            Ok(value) => {
-                self.value = value;
-                Ok(())
-            }
+            Ok(value) => Ok(value),
             Err(fault) => {
-                self.journal.give_up();
+                journal.give_up();
                 Err(fault)
             }
         }
@@ -150,6 +162,16 @@ impl<D: Disk, R: Record> RecordJournal<D, R> {
     {
         let payloads = Journal::read_again(alloc, disk)?;
         read_kept(alloc, &payloads)
+    }
+
+    /// The bare journal, and what its records stand for, which it no longer follows: records are appended to it as
+    /// payloads, and `reopen_bare` reads them again.
+    pub fn into_parts(self) -> (Journal<D>, R)
+        ensures journal { result.0 ≡ self.journal }
+        ensures value { result.1 ≡ self.value }
+    {
+        let RecordJournal { journal, value } = self;
+        (journal, value)
     }
 
     /// The disk, which holds the journal.
