@@ -1,8 +1,10 @@
 -- What a joiner's disks hold after a stop.
-use Rattle.std.proofs.Common.{◌≡◌, ◌⊎◌, inl, inr, ⊎_elim, ℕ, ◌+◌, Bool, true, false, List, [], ◌∷◌, ◌++◌, length, map, Option, Some, None, refl, sym, ap, ◌∙◌, subst, arith, length-append}
-use Rattle.std.specs.Prelude.{All, IsTrue, Result, Ok, Err}
+use Rattle.std.proofs.Common.{◌≡◌, ◌⊎◌, inl, inr, ⊎_elim, ℕ, ◌+◌, Bool, true, false, List, [], ◌∷◌, length, map, Option, Some, None, refl, sym, ap, ◌∙◌, subst, arith, length-append}
+use Rattle.std.specs.Prelude.{All, IsTrue, Result, Ok}
 use Rattle.std.proofs.lemmas.Bool.Decides.{nat_tests}
 use Rattle.std.proofs.lemmas.List.Elements.{All-head, All-tail}
+use Rattle.gate_journal.specs.Gate.{gate_rule}
+use Rattle.gate_journal.specs.Spelled.{never_damaged}
 use Rattle.gate_journal.specs.declared.reading.JournalFault.{JournalFault}
 use Rattle.gate_journal.specs.declared.reading.JournalFault.TheVariants.{Damaged, Disk, Memory}
 use Rattle.epoch_journal.specs.Epochs as epochs
@@ -127,25 +129,9 @@ module _ (e : ℕ) (ps : List PairRec) (d : Doubt) (n : JoinerNote) (k : JoinerK
 
 -- ---- a disk of which each image has such records isn't damaged
 
-no_records : (rs : List (List ℕ)) (at : ℕ) → ok_of rs ≡ Err at → ⊥
-no_records rs at is = (cc)
-
--- each record of pairs is a pair's
-not_other : (ps qs : List PairRec) (other : List ℕ) (rest : List (List ℕ)) → All IsPair ps → pairs.IsOther other → map record_of ps ≡ map record_of qs ++ other ∷ rest → ⊥
-not_other [] [] other rest all is e = absurd (cc e)
-not_other (p ∷ ps) [] other rest all is e = is p (All-head IsPair p ps all) (sym (ap head_of e))
-not_other [] (q ∷ qs) other rest all is e = absurd (cc e)
-not_other (p ∷ ps) (q ∷ qs) other rest all is e = not_other ps qs other rest (All-tail IsPair p ps all) is (ap tail_of e)
-
-no_damage : (ps : List PairRec) (c : List ℕ) (at : ℕ) → pairs.Keeps ps c → pairs.IsDamagedAt c at → ⊥
-no_damage ps c at keeps damaged =
-    ⊎_elim (λ bad. no_records (map record_of ps) at (sym keeps.1 ∙ bad))
-    (λ other. let at_ = other.2 in not_other ps at_.pairs at_.other at_.rest keeps.0 at_.is_other (same_records (map record_of ps) other.0 (sym keeps.1 ∙ other.1) ∙ at_.parts))
-    damaged
-
 pub pairs_undamaged : (k m : JoinerKept) (image : List ℕ → Type 0) (tells : Bool) (old new : ℕ) (fault : JournalFault) → IsTrue tells → ((c : List ℕ) → image c → PairsOr k m c) → pairs.IsRefusedAgain tells image old new fault → IsUndamaged fault
 pairs_undamaged k m image tells old new (Damaged at) told or err =
     let bad = err told in
-    ⊎_elim (λ keeps. no_damage k.pairs bad.0 at keeps bad.2) (λ keeps. no_damage m.pairs bad.0 at keeps bad.2) (or bad.0 bad.1)
+    ⊎_elim (λ keeps. never_damaged IsPair record_of k.pairs (gate_rule bad.0) at keeps bad.2) (λ keeps. never_damaged IsPair record_of m.pairs (gate_rule bad.0) at keeps bad.2) (or bad.0 bad.1)
 pairs_undamaged k m image tells old new Disk told or err = tt
 pairs_undamaged k m image tells old new Memory told or err = tt

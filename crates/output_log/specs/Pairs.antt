@@ -1,6 +1,6 @@
 -- Records of joined pairs.
-use Rattle.std.specs.Prelude.{◌≡◌, ◌⊎◌, ℕ, ◌+◌, List, [], ◌∷◌, ◌++◌, map, All, Bool, Ok, Err}
-use Rattle.gate_journal.specs.Gate.{gate_rule, spans}
+use Rattle.std.specs.Prelude.{◌⊎◌, ℕ, List, [], ◌∷◌, ◌++◌, Bool}
+use Rattle.gate_journal.specs.Gate.{gate_rule}
 use Rattle.gate_journal.specs.Records.{Read}
 use Rattle.gate_journal.specs.Records as of
 use Rattle.gate_journal.specs.declared.reading.JournalFault.{JournalFault}
@@ -29,7 +29,7 @@ longest = 465
 
 -- no pair has this record
 abbrev pub IsOther : List ℕ → Type 0
-IsOther record_bytes = (p : PairRec) → IsPair p → record_bytes ≡ record_of p → ⊥
+IsOther = spelled.IsOther IsPair record_of
 
 -- what is read is the records of these pairs, in order
 abbrev pub spells : List PairRec → Read → Type 0
@@ -47,19 +47,9 @@ KeepsOr old new bytes = Keeps old bytes ⊎ Keeps (old ++ new ∷ []) bytes
 abbrev pub IsLeft : (List ℕ → Type 0) → List PairRec → Type 0
 IsLeft = of.IsLeft spells
 
--- The first record that is no pair's has its length at this place. The first record's length stands at place 1.
-pub record IsOtherAt (records : List (List ℕ)) (at : ℕ) : Type 0 where
-  pub pairs : List PairRec
-  pub other : List ℕ
-  pub rest : List (List ℕ)
-  pub are_pairs : All IsPair pairs
-  pub is_other : IsOther other
-  pub parts : records ≡ map record_of pairs ++ other ∷ rest
-  pub place : at ≡ 1 + spans (map record_of pairs)
-
 -- it is damaged at a place by its gates, or else at that of the first record that is no pair's
 abbrev pub is_damaged_at : Read → ℕ → Type 0
-is_damaged_at read at = (read ≡ Err at) ⊎ ((records : List (List ℕ)) × (read ≡ Ok records) × IsOtherAt records at)
+is_damaged_at = spelled.is_damaged_at IsPair record_of
 
 abbrev pub IsDamagedAt : List ℕ → ℕ → Type 0
 IsDamagedAt bytes at = is_damaged_at (gate_rule bytes) at

@@ -1,6 +1,5 @@
 pub mod Words
 pub mod Noting
-pub mod NoteBytes
 pub mod Spelled
 pub mod Voters
 pub mod Standing

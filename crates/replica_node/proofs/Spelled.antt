@@ -1,7 +1,7 @@
 -- Where the kept notes and the input have spellings, so have the row's note and packets.
-use Rattle.std.proofs.Common.{◌≡◌, List, [], ◌∷◌, ◌++◌, Option, Some, None, sym, subst}
-use Rattle.std.specs.Prelude.{All, if◌then◌else◌, ⊤}
-use Rattle.replica_node.proofs.Words.{All-nil, All-cons, Each, ReplicaNote, Packet, Node, To, IsPacket, Setting, Addressed, Note, land, ReplicaKept, land_replica, noted, IsRowNote, each_push, IsNotedSo, IsVoted}
+use Rattle.std.proofs.Common.{◌≡◌, ℕ, List, [], ◌∷◌, ◌++◌, length, length-append, Option, Some, None, sym, ap, ◌∙◌, subst, arith}
+use Rattle.std.specs.Prelude.{All}
+use Rattle.replica_node.proofs.Words.{All-nil, All-cons, Each, ReplicaNote, note, Packet, Node, To, IsPacket, Setting, Addressed, Note, land, ReplicaKept, land_replica, noted, IsRowNote, each_push, IsNotedSo, IsVoted}
 use Rattle.paxos_acceptor.specs.declared.notes.ReplicaNote.TheVariants as replica
 
 pub sent_ok : (g : Setting) (rows : List (To × Packet)) (ps : List (Node × Packet)) → Each (λ (p : To × Packet). IsPacket p.1) rows → Addressed g rows ps → All (λ (p : Node × Packet). IsPacket p.1) ps
@@ -20,3 +20,9 @@ pub landed_ok : (k : ReplicaKept) (o : Option ReplicaNote) → Each IsVoted k.no
 landed_ok k None all is = all
 landed_ok k (Some (replica.Promised s l b)) all is = each_push k.notes _ all is
 landed_ok k (Some (replica.Accepted s l b v)) all is = each_push k.notes _ all is
+
+-- bytes that are a note's, with none behind them
+pub left_behind : (payload rest : List ℕ) (w v : ReplicaNote) → payload ≡ note w ++ rest → payload ≡ note v → w ≡ v → (length rest ≡ 0 → ⊥) → ⊥
+left_behind payload rest w v found is same some =
+    let whole : note v ≡ note v ++ rest = sym is ∙ found ∙ ap (λ (x : ReplicaNote). note x ++ rest) same in
+    some (omega (arith, ap length whole, length-append (note v) rest))

@@ -1,12 +1,11 @@
 -- What a replica over its disk stands for.
 use Rattle.std.proofs.Common.{◌≡◌, ◌⊎◌, inl, inr, ⊎_elim, ℕ, ◌+◌, ◌-◌, ◌^◌, ◌≤◌, min, Bool, true, false, List, [], ◌∷◌, ◌++◌, length, Option, Some, None, refl, sym, ap, ◌∙◌, subst, arith, length-append}
-use Rattle.std.specs.Prelude.{All, map, is_some, option_map, Result, Ok, Err, IfErr}
-use Rattle.replica_node.proofs.Words.{result_unwrap_or, map-append, All-head, All-tail, All-nil, All-cons, Each, Only, ReplicaNote, note_view, note, IsNote, records, StandsFor, IsOldOrNew, IsOpened, JournalState, Ready, Bytes, Input, Start, Setting, BallotNote, Note, Advance, Park, Settle, Epoch, Output, Voted, land, record_of, Reads, IsJunk, MayTake, Roster, IsOf, ReplicaKept, land_replica, noted, kept_of, VoterView, KnowsAs, Fits, counted, recorded, Holds, OnDiskOr, IsRecord, StandsAt, ReplicaState, IsVoted, vote_record, records_of, IsOfNotes, IsBadVote, IsUndamaged, JournalFault, Damaged, Disk, Memory, IsRowNote, views_ok}
+use Rattle.std.specs.Prelude.{All, map, is_some, option_map, Result, Ok}
+use Rattle.replica_node.proofs.Words.{result_unwrap_or, map-append, All-head, All-tail, All-nil, All-cons, Each, Only, ReplicaNote, note_view, note, IsNote, records, StandsFor, IsOldOrNew, IsOpened, JournalState, Ready, Bytes, Input, Start, Setting, BallotNote, Note, Advance, Park, Settle, Epoch, Output, Voted, land, record_of, Reads, IsJunk, MayTake, Roster, IsOf, ReplicaKept, land_replica, noted, kept_of, VoterView, KnowsAs, Fits, counted, recorded, Holds, OnDiskOr, IsRecord, StandsAt, ReplicaState, IsVoted, vote_record, records_of, IsOfNotes, IsRowNote, views_ok}
 use Rattle.paxos_defs.specs.Notes.Note.{Promised, Accepted}
 use Rattle.paxos_acceptor.specs.declared.notes.ReplicaNote.TheVariants as replica
 use Rattle.air_bus.specs.declared.entry.Input.TheVariants as bytes
 use Rattle.replica_node.specs.Node.{Knows}
-use Rattle.replica_node.proofs.NoteBytes.{none_bad}
 
 pub none_of : {A : Type 0} (o : Option A) → is_some o ≡ false → o ≡ None
 none_of None off = refl
@@ -206,16 +205,7 @@ un_records [] = refl
 un_records (x ∷ xs) = ap (λ (b : List ℕ). b ∷ map vote_record xs) (un_record x) ∙ ap (λ (bs : List (List ℕ)). note (un_view x) ∷ bs) (un_records xs)
 
 pub of_notes : (k : ReplicaKept) (c : List ℕ) → Each IsVoted k.notes → StandsFor (records_of k) c → IsOfNotes c
-of_notes k c each stands = (map un_view k.notes, un_all k.notes each, subst (λ (rs : List (List ℕ)). StandsFor rs c) (un_records k.notes) stands)
-
--- of an image that holds notes each record is one
-pub reads_whole : {T : Type 0} (r : Result T JournalFault) (read rs : List (List ℕ)) (seen : List ℕ) (image : List ℕ → Type 0) → read ≡ rs → StandsFor rs seen → IsOpened image seen → ((c : List ℕ) → image c → IsOfNotes c) → IfErr r (IsBadVote read) → IfErr r IsUndamaged
-reads_whole (Ok x) read rs seen image same stands opened all bad = tt
-reads_whole (Err (Damaged at)) read rs seen image same stands opened all bad =
-    let held = all opened.0 opened.1 in
-    none_bad read at held.0 held.1 (same ∙ ok_same rs (map note held.0) (sym stands ∙ opened.2 ∙ held.2)) bad
-reads_whole (Err Disk) read rs seen image same stands opened all bad = tt
-reads_whole (Err Memory) read rs seen image same stands opened all bad = tt
+of_notes k c each stands = (map un_view k.notes, (un_all k.notes each, subst (λ (rs : List (List ℕ)). StandsFor rs c) (un_records k.notes) stands))
 
 -- a node with no note in doubt stands at each state of this setting, these notes and this knowledge
 pub moved : (roster : Roster) (doubt : Option (List ℕ)) (kept : ℕ) (seen : List ℕ) (image : List ℕ → Type 0) (state : JournalState) (voter : VoterView) (s : ReplicaState) (o : Option Bytes) → doubt ≡ None → StandsAt roster doubt kept seen image state voter s

@@ -3,16 +3,13 @@ pub use Rattle.air_bus.specs.declared.entry.Entry.TheVariants.{Begin, End, Stop}
 pub use Rattle.air_bus.specs.declared.entry.Input.{Input as Bytes}
 pub use Rattle.ballot_core.specs.declared.Ballot.{Ballot}
 pub use Rattle.gate_journal.proofs.Growth.{continues_same, continues_through}
-pub use Rattle.gate_journal.specs.Gate.{IsOldOrNew, StandsFor, records, spans}
+pub use Rattle.gate_journal.specs.Gate.{IsOldOrNew, StandsFor, gate_rule, records}
 pub use Rattle.gate_journal.specs.Opening.{IsOpened}
 pub use Rattle.gate_journal.specs.declared.journal.JournalState.{JournalState}
 pub use Rattle.gate_journal.specs.declared.journal.JournalState.TheVariants.{Ready}
-pub use Rattle.gate_journal.specs.declared.reading.JournalFault.{JournalFault}
-pub use Rattle.gate_journal.specs.declared.reading.JournalFault.TheVariants.{Damaged, Disk, Memory}
 pub use Rattle.list_words.specs.Lists.{Each}
 pub use Rattle.outside.proofs.Moments.{weaker}
 pub use Rattle.outside.specs.Disk.{Only}
-pub use Rattle.packet_codec.proofs.NoteParts.{note_room}
 pub use Rattle.packet_codec.specs.Notes.{IsNote, note, note as note_spelled}
 pub use Rattle.paxos_acceptor.specs.Cells.{cell_in, cell_with, note_by, note_for, note_view, place_of}
 pub use Rattle.paxos_acceptor.specs.declared.acceptor.Acceptor.{Acceptor}
@@ -27,7 +24,7 @@ pub use Rattle.registry_state.specs.declared.Batch.{Batch}
 pub use Rattle.replica_node.specs.Core.{Carries, GoesOn, IsRow, Knows, Stands, asked, noted, row_of}
 pub use Rattle.replica_node.specs.Kept.{kept_images}
 pub use Rattle.replica_node.specs.Node.{Fits, Holds, HoldsOr, IsNotedSo, IsRecord, KnowsAs, OnDiskOr, StandsAt, VoterView, counted, recorded}
-pub use Rattle.replica_node.specs.Votes.{IsBadVote, IsFirstBad, IsNoVote, IsOfNotes, IsUndamaged}
+pub use Rattle.replica_node.specs.Votes.{IsOfNotes}
 pub use Rattle.replica_node.specs.declared.input.ReplicaInput.{ReplicaInput}
 pub use Rattle.replica_node.specs.declared.replica_core.ReplicaCore.{ReplicaCore}
 pub use Rattle.replica_node.specs.declared.turn.Change.{Change}
@@ -38,8 +35,7 @@ pub use Rattle.site_node.specs.Replicas.{IsVoted, KeptOn, OnDisk, ReplicaState, 
 pub use Rattle.site_node.specs.Rosters.{IsOf}
 pub use Rattle.site_node.specs.States.{Leads, MayTake, Stops, closes, opens, row, written}
 pub use Rattle.site_node.specs.declared.roster.Roster.{Roster}
-pub use Rattle.std.proofs.Math.Seq.{drop-cons}
-pub use Rattle.std.proofs.lemmas.List.{append-nil, map-append, take-append-drop, take_all, take_more}
+pub use Rattle.std.proofs.lemmas.List.{append-nil, map-append, take_all, take_more}
 pub use Rattle.std.proofs.lemmas.List.Elements.{All-cons, All-head, All-nil, All-push, All-same, All-tail}
 pub use Rattle.std.proofs.lemmas.Result.{IfOk-weaker}
 pub use Rattle.std.specs.Result.{result_unwrap_or}

@@ -2,4 +2,5 @@ pub mod Core
 pub mod Rows
 pub mod Node
 pub mod Votes
+pub mod VoteLaws
 pub mod Kept

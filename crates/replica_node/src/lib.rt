@@ -16,4 +16,4 @@ pub use input::ReplicaInput;
 pub use node::ReplicaNode;
 pub use replica_core::ReplicaCore;
 pub use turn::Turn;
-pub use votes::read_votes;
+pub use votes::{VoteJournal, Votes};

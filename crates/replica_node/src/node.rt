@@ -1,17 +1,10 @@
 // The replica over its disk.
-ghost use Rattle.std.specs.Prelude.{◌≡◌, ◌≤◌, None, List, ℕ, All, map, IsTrue, IfOk, IfErr, OnOk, IsErrOf};
-ghost use Rattle.outside.specs.Disk.{Throughout};
-ghost use Rattle.outside.specs.Faults.{Rose};
+ghost use Rattle.std.specs.Prelude.{◌≡◌, None};
 ghost use Rattle.gate_journal.specs.declared.journal.JournalState.TheVariants.{Ready};
-ghost use Rattle.gate_journal.specs.Gate.{StandsFor};
-ghost use Rattle.gate_journal.specs.Opening.{IsOpened};
-ghost use Rattle.gate_journal.specs.Growth.{Continues};
-ghost use Rattle.packet_codec.specs.Notes.{note as note_spelled, IsNote};
-ghost use Rattle.replica_node.specs.Votes.{IsOfNotes, IsUndamaged};
 
-use crate::Turn;
 use crate::voter::Voter;
-use crate::votes::{read_votes, vote_record};
+use crate::votes::vote_record;
+use crate::{Turn, VoteJournal, Votes};
 use air_bus::{Input as Begun, Packets, Payload};
 use gate_journal::{Journal, JournalFault};
 use outside::{Disk, DiskName, Gate, Point};
@@ -48,14 +41,14 @@ struct ReadyTurn {
 }
 
 impl<D: Disk> ReplicaNode<D> {
-    ghost use Rattle.std.specs.Prelude.{◌≡◌, ◌≤◌, ◌+◌, false, true, Some, None, Option, All, map, List, ℕ, is_some, option_map, length, IsTrue, IfOk, IfErr, OnOk, OnErr, IsErrOf, Err};
+    ghost use Rattle.std.specs.Prelude.{◌≡◌, ◌≤◌, ◌+◌, false, true, Some, None, Option, List, ℕ, is_some, option_map, length, IsTrue, IfOk, IfErr, OnOk, OnErr, IsErrOf, Err};
     ghost use Rattle.outside.specs.Disk.{Throughout};
     ghost use Rattle.outside.specs.Faults.{Rose};
     ghost use Rattle.gate_journal.specs.declared.journal.JournalState.TheVariants.{Ready};
-    ghost use Rattle.gate_journal.specs.Gate.{StandsFor};
     ghost use Rattle.gate_journal.specs.Opening.{IsOpened};
     ghost use Rattle.gate_journal.specs.Growth.{Continues};
-    ghost use Rattle.packet_codec.specs.Notes.{note as note_spelled, IsNote};
+    ghost use Rattle.gate_journal.specs.Records.{IsLeft};
+    ghost use Rattle.packet_codec.specs.Notes.{note as note_spelled};
     ghost use Rattle.turn_defs.specs.Setting.{Setting};
     ghost use Rattle.turn_defs.specs.Turns.{land};
     ghost use Rattle.site_node.specs.Bytes.{IsInput};
@@ -64,32 +57,26 @@ impl<D: Disk> ReplicaNode<D> {
     ghost use Rattle.site_node.specs.Faults.{IsOfRestart, IsWhole};
     ghost use Rattle.turn_defs.specs.Replica.{ReplicaKept, land_replica};
     ghost use Rattle.replica_node.specs.Core.{noted, IsRow, GoesOn};
-    ghost use Rattle.replica_node.specs.Votes.{IsOfNotes};
+    ghost use Rattle.replica_node.specs.Votes.{IsOfNotes, spells};
     ghost use Rattle.paxos_acceptor.specs.declared.notes.ReplicaNote.{ReplicaNote};
     ghost use Rattle.replica_node.specs.Node.{StandsAt, Holds, HoldsOr, OnDiskOr, Knows, Fits, recorded, IsShort, IsReady, IsRoomFor, down_over};
-    ghost use Rattle.site_node.specs.Replicas.{replica_rows};
+    ghost use Rattle.site_node.specs.Replicas.{replica_rows, KeepsNotes};
 
-    /// A replica that is down, over a journal with these notes. It takes no memory.
-    pub fn new(
-        alloc: Global,
-        replica: u8,
-        roster: Roster,
-        journal: Journal<D>,
-        notes: Vec<ReplicaNote>,
-    ) -> ReplicaNode<D>
-        requires notes { All IsNote notes.items }
-        requires ready { journal.state ≡ Ready }
+    /// A replica that is down, over its journal. It takes no memory.
+    pub fn new(alloc: Global, replica: u8, roster: Roster, votes: VoteJournal<D>) -> ReplicaNode<D>
+        requires { votes.journal.state ≡ Ready }
         ensures number { result.replica ≡ replica }
-        ensures disk { result.journal.disk ≡ journal.disk }
+        ensures disk { result.journal.disk ≡ votes.journal.disk }
         ensures up { result.in_doubt ≡ None }
-        ensures stands { IsTrue D.tells → (g : Setting) → IsOf roster g → StandsFor (map note_spelled notes.items) (D.seen journal.disk) → StandsAt result.roster result.in_doubt result.kept (D.seen result.journal.disk) (D.image result.journal.disk) result.journal.state result.voter (down_over g notes.items) }
+        ensures stands { IsTrue D.tells → (g : Setting) → IsOf roster g → StandsAt result.roster result.in_doubt result.kept (D.seen result.journal.disk) (D.image result.journal.disk) result.journal.state result.voter (down_over g votes.value.notes.items) }
     {
-        let kept = notes.len() as u64;
+        let (journal, votes) = votes.into_parts();
+        let kept = votes.notes().len() as u64;
         ReplicaNode {
             replica,
             roster,
             journal,
-            voter: Voter::new(alloc, notes),
+            voter: Voter::new(alloc, votes),
             kept,
             in_doubt: None,
             alloc,
@@ -206,13 +193,12 @@ impl<D: Disk> ReplicaNode<D> {
     }
 
     // The notes that the disk holds, as the stop left it.
-    fn reread(&mut self) -> Result<Vec<ReplicaNote>, NodeFault>
+    fn reread(&mut self) -> Result<Votes, NodeFault>
         requires waits { is_some self.old.in_doubt ≡ true }
         ensures same { (self.new.replica ≡ self.old.replica) × (self.new.roster ≡ self.old.roster) × (self.new.voter ≡ self.old.voter) × (self.new.kept ≡ self.old.kept) × (self.new.in_doubt ≡ self.old.in_doubt) }
-        ensures notes { IfOk result (λ notes. All IsNote notes.items) }
         ensures ready { OnOk result (self.new.journal.state ≡ Ready) }
-        ensures reads { IsTrue D.tells → IfOk result (λ notes. StandsFor (map note_spelled notes.items) (D.seen self.new.journal.disk)) }
-        ensures seen { IsTrue D.tells → OnOk result (D.image self.new.journal.disk (D.seen self.new.journal.disk)) }
+        ensures keeps { IsTrue D.tells → IfOk result (λ votes. KeepsNotes votes.notes.items (D.seen self.new.journal.disk)) }
+        ensures left { IsTrue D.tells → IfOk result (λ votes. IsLeft spells (D.image self.old.journal.disk) votes.notes.items) }
         ensures moments { IsTrue D.tells → Throughout D.image D.since self.old.journal.disk self.new.journal.disk (IsOpened (D.image self.old.journal.disk)) }
         ensures grows { IsTrue D.tells → Throughout D.image D.since self.old.journal.disk self.new.journal.disk (Continues (D.image self.old.journal.disk)) }
         ensures kind { IfErr result IsOfRestart }
@@ -220,8 +206,8 @@ impl<D: Disk> ReplicaNode<D> {
         ensures count { D.faults self.old.journal.disk ≤ D.faults self.new.journal.disk }
         ensures whole { IsTrue D.tells → ((c : List ℕ) → D.image self.old.journal.disk c → IsOfNotes c) → IfErr result IsWhole }
     {
-        match reopen_notes(self.alloc, &mut self.journal) {
-            Ok(notes) => Ok(notes),
+        match VoteJournal::reopen_bare(self.alloc, &mut self.journal) {
+            Ok(votes) => Ok(votes),
             Err(JournalFault::Damaged { at }) => Err(NodeFault::Damaged {
                 disk: DiskName::Replica(self.replica),
                 at,
@@ -230,25 +216,6 @@ impl<D: Disk> ReplicaNode<D> {
             Err(JournalFault::Memory) => Err(NodeFault::Memory),
         }
     }
-}
-
-// Reopens a journal as a stop left it, and reads its notes.
-fn reopen_notes<D: Disk>(
-    alloc: Global,
-    journal: &mut Journal<D>,
-) -> Result<Vec<ReplicaNote>, JournalFault>
-    ensures notes { IfOk result (λ notes. All IsNote notes.items) }
-    ensures ready { OnOk result (journal.new.state ≡ Ready) }
-    ensures reads { IsTrue D.tells → IfOk result (λ notes. StandsFor (map note_spelled notes.items) (D.seen journal.new.disk)) }
-    ensures seen { IsTrue D.tells → OnOk result (D.image journal.new.disk (D.seen journal.new.disk)) }
-    ensures moments { IsTrue D.tells → Throughout D.image D.since journal.old.disk journal.new.disk (IsOpened (D.image journal.old.disk)) }
-    ensures grows { IsTrue D.tells → Throughout D.image D.since journal.old.disk journal.new.disk (Continues (D.image journal.old.disk)) }
-    ensures fault { IsErrOf result JournalFault.Disk → Rose (D.faults journal.old.disk) (D.faults journal.new.disk) }
-    ensures count { D.faults journal.old.disk ≤ D.faults journal.new.disk }
-    ensures whole { IsTrue D.tells → ((c : List ℕ) → D.image journal.old.disk c → IsOfNotes c) → IfErr result IsUndamaged }
-{
-    let records = journal.reopen(alloc)?;
-    read_votes(alloc, &records)
 }
 
 impl<D: Disk> SiteNode for ReplicaNode<D> {
@@ -335,11 +302,11 @@ impl<D: Disk> SiteNode for ReplicaNode<D> {
 
     fn restart(&mut self) -> Result<Option<Payload>, NodeFault> {
         ReplicaNote::told_apart();
-        let notes = self.reread()?;
-        let count = notes.len() as u64;
+        let votes = self.reread()?;
+        let count = votes.notes().len() as u64;
         let landed = count != self.kept;
         self.kept = count;
-        self.voter = Voter::new(self.alloc, notes);
+        self.voter = Voter::new(self.alloc, votes);
         let landed_record = self.in_doubt.take();
         if landed { Ok(landed_record) } else { Ok(None) }
     }

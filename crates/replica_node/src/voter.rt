@@ -1,7 +1,6 @@
 // A replica that is up or down, and what it keeps has spellings.
 use crate::turn::Change;
-use crate::{ReplicaCore, Turn};
-use paxos_acceptor::ReplicaNote;
+use crate::{ReplicaCore, Turn, Votes};
 use std::alloc::{AllocError, Global};
 use std::marker::Model;
 use turn_defs::Input;
@@ -11,14 +10,12 @@ use turn_defs::Input;
 #[derive(Drop)]
 pub(crate) struct Voter {
     core: ReplicaCore,
-    notes: Vec<ReplicaNote>,
+    votes: Votes,
     up: bool,
     alloc: Global,
 }
 
 impl Model for Voter {
-    ghost use Rattle.std.specs.Prelude.{All};
-    ghost use Rattle.packet_codec.specs.Notes.{IsNote};
     ghost use Rattle.replica_node.specs.Node.{VoterView, IsSpelledCore};
     ghost use Rattle.std.specs.Coded.{codes};
     ghost use Rattle.replica_node.specs.contracts.replica_core.ReplicaCore as core_row;
@@ -27,14 +24,13 @@ impl Model for Voter {
 
     ghost coded = { Prim.hlevel (codes, core_row.the_row.coded) };
 
-    ghost view = { λ v. record { core = v.core; notes = v.notes.items; up = v.up } };
+    ghost view = { λ v. record { core = v.core; notes = v.votes.notes.items; up = v.up } };
 
-    ghost invariant = { λ v. IsSpelledCore v.core × All IsNote v.notes.items };
+    ghost invariant = { λ v. IsSpelledCore v.core };
 }
 
 impl Voter {
     ghost use Rattle.std.specs.Prelude.{◌≡◌, [], Option, All, IfOk, true, false};
-    ghost use Rattle.packet_codec.specs.Notes.{IsNote};
     ghost use Rattle.turn_defs.specs.Packets.{IsPacket};
     ghost use Rattle.turn_defs.specs.declared.packet.Packet.{Packet};
     ghost use Rattle.turn_defs.specs.declared.node.Node.{Node};
@@ -48,14 +44,13 @@ impl Voter {
     ghost use Rattle.site_node.specs.Replicas.{replica_rows};
 
     // A replica that is down, over these notes.
-    pub(crate) fn new(alloc: Global, notes: Vec<ReplicaNote>) -> Voter
-        requires { All IsNote notes.items }
-        ensures notes { result.notes ≡ notes.items }
+    pub(crate) fn new(alloc: Global, votes: Votes) -> Voter
+        ensures notes { result.notes ≡ votes.notes.items }
         ensures down { result.up ≡ false }
     {
         Voter {
             core: ReplicaCore::new(alloc),
-            notes,
+            votes,
             up: false,
             alloc,
         }
@@ -72,7 +67,7 @@ impl Voter {
         ensures room { IfOk result (λ turn. HasRoomFor self.new.core turn.change turn.note) }
     {
         match input {
-            Input::Start => self.core.start(&self.notes),
+            Input::Start => self.core.start(self.votes.notes()),
             Input::Own | Input::Tick => Ok(Turn::idle(self.alloc, Change::Stays)),
             Input::Deliver { from, packet } => self.core.gets(*from, packet),
         }
@@ -86,7 +81,7 @@ impl Voter {
         ensures stands { (k : ReplicaKept) → GoesOn self.old.core turn.change k → Stands self.new.core (land land_replica (noted turn.note) k) }
     {
         self.core.keep(turn);
-        self.notes = Vec::new(self.alloc);
+        self.votes = Votes::none(self.alloc);
         self.up = true;
     }
 }

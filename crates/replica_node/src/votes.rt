@@ -1,19 +1,137 @@
-// Notes and their records.
-ghost use Rattle.std.specs.Prelude.{◌≡◌, ◌≤◌, ◌^◌, All, map, IfOk, IfErr, IfSome, IfNone};
-ghost use Rattle.gate_journal.specs.Gate.{spans};
+// The notes that are kept on a disk.
+ghost use Rattle.std.specs.Prelude.{◌≡◌, ◌<◌, ◌≤◌, ◌+◌, ◌-◌, ◌++◌, [], ◌∷◌, All, vec_len, vec_capacity, IfOk, IfSome, IfNone};
 ghost use Rattle.packet_codec.specs.Notes.{note as note_spelled, IsNote};
 ghost use Rattle.replica_node.specs.Node.{recorded, IsNotedSo, IsShort};
-ghost use Rattle.replica_node.specs.Votes.{IsNoVote, IsBadVote};
+ghost use Rattle.replica_node.specs.Votes.{IsNoVote};
+ghost use Rattle.replica_node.specs.VoteLaws.{notes_once};
 
 use air_bus::Payload;
-use gate_journal::JournalFault;
+use gate_journal::{Record, RecordJournal};
 use packet_codec::{Field, FieldFault};
 use paxos_acceptor::ReplicaNote;
 use std::alloc::{AllocError, Global};
 use wire_core::{Bytes, Reader};
 
-/// The note of a record, or None where it is no note's. Linear in the record. It allocates the batch's inserts.
-pub(crate) fn read_vote(alloc: Global, payload: &[u8]) -> Result<Option<ReplicaNote>, AllocError>
+/// A replica's notes, in the order in which they were written.
+///
+/// A record is a note as packets have it: the byte 07 or 08, a place, a ballot and of an accepted note the batch, up to
+/// 1952 bytes.
+#[derive(Drop)]
+pub struct Votes {
+    notes: Vec<ReplicaNote>,
+    ghost are_notes: { All IsNote notes.items } by { notes_once notes.items },
+}
+
+/// A replica's notes, as a disk keeps them.
+pub type VoteJournal<D> = RecordJournal<D, Votes>;
+
+impl Votes {
+    ghost use Rattle.std.specs.Prelude.{◌≡◌, []};
+
+    // No notes. It takes no memory.
+    pub(crate) fn none(alloc: Global) -> Votes
+        ensures { result.notes.items ≡ [] }
+    {
+        Votes {
+            notes: Vec::new(alloc),
+        }
+    }
+
+    /// The notes.
+    pub fn notes(&self) -> &[ReplicaNote]
+        ensures { result.now ≡ self.now.notes.items }
+    {
+        &self.notes
+    }
+
+    /// The notes, given away.
+    pub fn into_notes(self) -> Vec<ReplicaNote>
+        ensures { result ≡ self.notes }
+    {
+        self.notes
+    }
+}
+
+impl Record for Votes {
+    ghost use Rattle.std.specs.Prelude.{◌≡◌, ◌≤◌, ◌-◌, ◌++◌, [], ◌∷◌, ℕ, List, vec_len, vec_capacity};
+    ghost use Rattle.std.specs.Coded.{Coded-set, coded_result, coded_list, coded_ℕ, ×_prop};
+    ghost use Rattle.std.proofs.Common.{arith, inl, refl};
+    ghost use Rattle.paxos_acceptor.specs.declared.notes.ReplicaNote.{ReplicaNote};
+    ghost use Rattle.packet_codec.specs.Notes.{note as note_spelled, IsNote};
+    ghost use Rattle.replica_node.specs.Votes.{longest, spells, is_damaged_at};
+    ghost use Rattle.replica_node.specs.VoteLaws.{notes_once, comes_next as note_comes_next, fits as note_fits};
+
+    type One = ReplicaNote;
+
+    const LONGEST: u32 = 1952;
+
+    ghost LONGEST = { longest };
+
+    ghost Kept = { List ReplicaNote };
+
+    ghost keeps = { spells };
+
+    ghost damaged = { is_damaged_at };
+
+    ghost keeps_once = { λ notes read. ×_prop (notes_once notes) (Coded-set (coded_result (coded_list (coded_list coded_ℕ)) coded_ℕ) _ _) };
+
+    ghost kept = { λ v. v.notes.items };
+
+    ghost places = { λ v. vec_capacity v.notes - vec_len v.notes };
+
+    ghost takes_places = { λ _. 1 };
+
+    ghost spelled = { note_spelled };
+
+    ghost may_come = { λ _ note. IsNote note };
+
+    ghost after = { λ notes note. notes ++ note ∷ [] };
+
+    fn new(alloc: Global) -> Result<Votes, AllocError> {
+        Ok(Votes::none(alloc))
+    }
+
+    fn take(&mut self, alloc: Global, payload: &[u8]) -> Result<bool, AllocError> {
+        match read_vote(alloc, payload)? {
+            Some(note) => {
+                self.notes.reserve(1)?;
+                put_last(&mut self.notes, note);
+                Ok(true)
+            }
+            None => Ok(false),
+        }
+    }
+
+    fn reserve(&mut self) -> Result<(), AllocError> {
+        self.notes.reserve(1)
+    }
+
+    fn put(&mut self, note: ReplicaNote) {
+        put_last(&mut self.notes, note);
+    }
+
+    ghost short = { Prim.omega arith };
+
+    ghost takes_one = { λ _. Prim.omega arith };
+
+    ghost fits = { λ _. note_fits };
+
+    ghost comes_next = { note_comes_next };
+
+    ghost gates_first = { λ _. inl refl };
+}
+
+// Puts a note behind the others, where there is a place for it.
+fn put_last(notes: &mut Vec<ReplicaNote>, note: ReplicaNote)
+    requires { vec_len notes.old < vec_capacity notes.old }
+    ensures notes { notes.new.items ≡ notes.old.items ++ note ∷ [] }
+    ensures room { vec_capacity notes.old - vec_len notes.old ≤ vec_capacity notes.new - vec_len notes.new + 1 }
+{
+    let _ = notes.push(note);
+}
+
+// The note of a record, or None where it is no note's. Linear in the record. It allocates the batch's inserts.
+fn read_vote(alloc: Global, payload: &[u8]) -> Result<Option<ReplicaNote>, AllocError>
     ensures some { IfOk result (λ read. IfSome read (λ note. IsNote note × (payload.now ≡ note_spelled note))) }
     ensures none { IfOk result (λ read. IfNone read (IsNoVote payload.now)) }
 {
@@ -29,24 +147,6 @@ pub(crate) fn read_vote(alloc: Global, payload: &[u8]) -> Result<Option<ReplicaN
         Err(FieldFault::BadField { .. }) => Ok(None),
         Err(FieldFault::Memory) => Err(AllocError),
     }
-}
-
-/// The notes of a journal's records, or the place of the first record that is none.
-pub fn read_votes(alloc: Global, records: &[Bytes]) -> Result<Vec<ReplicaNote>, JournalFault>
-    requires { spans records.now ≤ 2 ^ 63 }
-    ensures notes { IfOk result (λ notes. All IsNote notes.items × (records.now ≡ map note_spelled notes.items)) }
-    ensures damaged { IfErr result (IsBadVote records.now) }
-{
-    let mut notes = Vec::new(alloc);
-    let mut place = 1;
-    for record_bytes in records {
-        match read_vote(alloc, record_bytes.as_slice())? {
-            None => return Err(JournalFault::Damaged { at: place }),
-            Some(note) => notes.push(note)?,
-        }
-        place += 5 + record_bytes.as_slice().len() as u64;
-    }
-    Ok(notes)
 }
 
 /// The record of a note, if there is one, as the journal and the bus take it. Linear in the note.

@@ -14,6 +14,7 @@ pub mod Telling
 pub mod Walking
 pub mod Readings
 pub mod Handing
+pub mod Parted
 pub mod Taking
 pub mod Causes
 pub mod Appending

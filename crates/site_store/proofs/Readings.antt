@@ -1,28 +1,13 @@
 -- What disks are read as, one more at a time.
-use Rattle.std.proofs.Common.{◌≡◌, ◌<◌, inl, inr, ℕ, ◌+◌, List, [], ◌∷◌, ◌++◌, length, take, get_or, Bool, IsTrue, refl, sym, ◌∙◌, ap, subst, arith, if◌then◌else◌}
+use Rattle.std.proofs.Common.{◌≡◌, ◌<◌, inl, ℕ, ◌+◌, List, [], ◌∷◌, ◌++◌, length, take, get_or, Bool, IsTrue, refl, sym, ◌∙◌, ap, subst, arith, if◌then◌else◌}
 use Rattle.std.specs.Prelude.{Result, Ok, Err, IsErrAnd, IfErr}
-use Rattle.site_store.proofs.Words.{filter, take_more, filter-append, each_append, gate_rule, StandsFor, IsRefused, JournalFault, ReplicaNote, PairRec, IsBadVote, KeepsPairs, IsRefusedBy, IsVotesDamaged, KeepsNotes, LentDisk, ReadAs, Notes, Pairs, Neither, is_replica, is_output, replicas, outputs, notes_in, pairs_in, AreReadFrom, AreAmongImages, IsReadAs, IsAnImage, IsOnlyRead}
-use Rattle.gate_journal.specs.declared.reading.JournalFault.TheVariants as journal
+use Rattle.site_store.proofs.Words.{filter, take_more, filter-append, each_append, ReplicaNote, PairRec, KeepsPairs, KeepsNotes, LentDisk, ReadAs, Notes, Pairs, Neither, is_replica, is_output, replicas, outputs, notes_in, pairs_in, AreReadFrom, AreAmongImages, IsReadAs, IsAnImage, IsOnlyRead}
 use Rattle.site_store.proofs.Walking.{FirstWith, first_at, each_with_append}
 
 -- a fault that is handed on
 pub handed_on : {T E : Type 0} (r : Result T E) (fault : E) (P : E → Type 0) → IsErrAnd r (λ e. e ≡ fault) → P fault → IfErr r P
 handed_on (Ok x) fault P is p = tt
 handed_on (Err e) fault P is p = subst P (sym is) p
-
--- a file that is damaged by its gates is so as its kind reads it
-pub refused_by_gates : (is_damaged : List ℕ → ℕ → Type 0) (tells : Bool) (seen : List ℕ) (old new : ℕ) (fault : JournalFault) → ((at : ℕ) → gate_rule seen ≡ Err at → is_damaged seen at)
-    → IsRefused tells seen old new fault → IsRefusedBy is_damaged tells seen old new fault
-refused_by_gates is_damaged tells seen old new (journal.Damaged at) agrees refused = λ sure. agrees at (refused sure)
-refused_by_gates is_damaged tells seen old new journal.Disk agrees refused = refused
-refused_by_gates is_damaged tells seen old new journal.Memory agrees refused = tt
-
--- records of which one is no note's
-pub refused_by_notes : (tells : Bool) (seen : List ℕ) (records : List (List ℕ)) (old new : ℕ) (fault : JournalFault) → (IsTrue tells → StandsFor records seen) → IsBadVote records fault
-    → IsRefusedBy IsVotesDamaged tells seen old new fault
-refused_by_notes tells seen records old new (journal.Damaged at) stands bad = λ sure. inr (records, stands sure, bad)
-refused_by_notes tells seen records old new journal.Disk stands bad = absurd bad
-refused_by_notes tells seen records old new journal.Memory stands bad = tt
 
 -- a disk that nothing was done to
 pub untouched : {D : Type 0} (tells : Bool) (seen : D → List ℕ) (image : D → List ℕ → Type 0) (since : D → D → List ℕ → Type 0) (faults : D → ℕ)

@@ -6,7 +6,7 @@ pub use Rattle.gate_journal.specs.Fold.{folds_to, kept_after, read_as}
 pub use Rattle.gate_journal.specs.Gate.{StandsFor, gate_rule}
 pub use Rattle.gate_journal.specs.Growth.{Continues, Extends}
 pub use Rattle.gate_journal.specs.Images.{GoesOn, IsKeptIn, StaysAs}
-pub use Rattle.gate_journal.specs.Opening.{IsOpened, IsRefused}
+pub use Rattle.gate_journal.specs.Opening.{IsOpened}
 pub use Rattle.gate_journal.specs.Records.{Read}
 pub use Rattle.gate_journal.specs.declared.reading.JournalFault.{JournalFault}
 pub use Rattle.gate_journal.specs.declared.reading.JournalFault.TheVariants.{Damaged, Disk, Memory}
@@ -36,7 +36,6 @@ pub use Rattle.photon_model.specs.Runs.{Disks}
 pub use Rattle.photon_model.specs.Stores.{TopologyComesFirst}
 pub use Rattle.photon_model.specs.Topology.{IsBlank, Store, Topology as PlainTopology, Topology as StoreTopology, WholeSound, topology_of}
 pub use Rattle.photon_model.specs.Verification.{AreOf, TellsTheReport}
-pub use Rattle.replica_node.specs.Votes.{IsBadVote}
 pub use Rattle.retry_log.specs.Pending.{Keeps as KeepsPending, pending_of}
 pub use Rattle.run_fault.specs.Causes.{IsWelcome}
 pub use Rattle.run_fault.specs.declared.fault.LogName.{LogName}
@@ -65,7 +64,6 @@ pub use Rattle.site_store.specs.Records.{AllKept, AreKept, AreRecordsOf, EpochIs
 pub use Rattle.site_store.specs.Refusals.{IsFirst, IsFirstDisk, IsJournalOf, WereJournals, joiner_names, other_names, site_names}
 pub use Rattle.site_store.specs.Rows.{one_line}
 pub use Rattle.site_store.specs.Telling.{KeepsNothing, Tells}
-pub use Rattle.site_store.specs.Votes.{IsVotesDamaged}
 pub use Rattle.site_store.specs.Written.{AllKeep, IsUnwritten, IsWritten, StaysOrKeeps}
 pub use Rattle.site_store.specs.declared.lent.disk.LentDisk.{LentDisk}
 pub use Rattle.site_store.specs.declared.lent.reading.ReadAs.{ReadAs}
@@ -78,6 +76,7 @@ pub use Rattle.std.proofs.lemmas.List.{drop_more, get_or-append-add, get_or-drop
 pub use Rattle.std.proofs.lemmas.List.Elements.{All-cons, All-head, All-nil, All-tail, filter-append}
 pub use Rattle.std.specs.Bool.{⊤}
 pub use Rattle.std.specs.List.{AllByRecursion, filter, list_any}
+pub use Rattle.std.specs.Vec.Iter.{into_iter_items, into_iter_len}
 pub use Rattle.topology_journal.proofs.Standing.{kept_is}
 pub use Rattle.topology_journal.specs.Topologies.{IsTopology, Keeps, next_topology, topologies}
 pub use Rattle.topology_journal.specs.declared.topology.Topology.{Topology}

@@ -2,13 +2,13 @@
 use Rattle.std.specs.Prelude.{◌≡◌, ℕ, List, [], ◌∷◌, Err, Option, None, Some}
 use Rattle.outside.specs.declared.store.DiskName.{DiskName}
 use Rattle.outside.specs.declared.store.DiskName.TheVariants as name
-use Rattle.site_store.specs.Votes.{IsVotesDamaged}
 use Rattle.topology_journal.specs.declared.topology.Topology.{Topology}
 use Rattle.topology_journal.specs.Topologies.{IsDamagedAt as IsTopologyDamaged}
 use Rattle.epoch_journal.specs.Epochs.{epoch_of}
 use Rattle.offset_journal.specs.Offsets.{offset_of}
 use Rattle.retry_log.specs.Pending.{pending_of}
 use Rattle.output_log.specs.Pairs.{IsDamagedAt as IsOutputDamaged}
+use Rattle.replica_node.specs.Votes.{IsDamagedAt as IsVotesDamaged}
 
 -- a file under this name is damaged at this place, as its kind of journal reads it
 abbrev pub damaged_by : DiskName → List ℕ → ℕ → Type 0

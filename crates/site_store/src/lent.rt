@@ -6,4 +6,5 @@ mod records;
 
 pub use disk::LentDisk;
 pub use giving::give_all;
+pub(crate) use reading::ReadAs;
 pub use reading::read_back;

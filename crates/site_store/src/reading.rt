@@ -1,5 +1,4 @@
 // A store that is read for verification: no node runs, and what the journals of its disks stand for doesn't change.
-mod copies;
 mod kept;
 mod store;
 

@@ -3,14 +3,14 @@ use crate::held::Held;
 use air_bus::Input;
 use dispatch_node::DispatchNode;
 use epoch_journal::EpochJournal;
-use gate_journal::{Journal, JournalFault};
+use gate_journal::JournalFault;
 use joiner_node::JoinerNode;
 use mem_outside::{MemDisk, MemLog};
 use offset_journal::OffsetJournal;
 use output_log::OutputLog;
 use outside::Gate;
 use registry_server::ServerNode;
-use replica_node::{ReplicaNode, read_votes};
+use replica_node::{ReplicaNode, VoteJournal};
 use retry_log::RetryLog;
 use script_lines::disks::{disk_holding, fuse};
 use script_lines::{Stop, Words, bytes_of, number_of};
@@ -206,16 +206,12 @@ fn server(
 
 fn replica(number: u8, roster: Roster, outside: &Outside) -> Result<Node, Refused> {
     let alloc = outside.alloc;
-    let (journal, records) = match Journal::open(alloc, outside.disk("votes")?) {
-        Ok(opened) => opened,
-        Err((fault, _)) => return Err(Refused::Disk(fault)),
-    };
-    match read_votes(alloc, &records) {
-        Ok(notes) => {
-            let node = ReplicaNode::new(alloc, number, roster, journal, notes);
+    match VoteJournal::open(alloc, outside.disk("votes")?) {
+        Ok(votes) => {
+            let node = ReplicaNode::new(alloc, number, roster, votes);
             Ok(Node::Replica(Held::new(node)))
         }
-        Err(fault) => Err(Refused::Disk(fault)),
+        Err((fault, _)) => Err(Refused::Disk(fault)),
     }
 }
 

@@ -28,7 +28,7 @@ use outside::{Disk, DiskName, LogFile};
 use registry_server::ServerNode;
 use replica_node::ReplicaNode;
 use site_node::{Roster, SiteNode};
-use site_store::{LentDisk, OpenDisk, VoteJournal};
+use site_store::{LentDisk, OpenDisk};
 use site_workers::Either;
 use std::alloc::Global;
 use std::vec::IntoIter;
@@ -267,14 +267,13 @@ impl<D: Disk, L: LogFile> Made<D, L> {
     {
         node_numbers();
         let votes = take_disk(rest, DiskName::Replica(replica)).into_votes();
-        let VoteJournal { journal, notes } = votes;
         if self.is_whole() {
-            let made = ReplicaNode::new(self.alloc, replica, self.roster, journal, notes);
+            let made = ReplicaNode::new(self.alloc, replica, self.roster, votes);
             self.take(AnyNode {
                 node: Either::Second(Either::First(made)),
             });
         } else {
-            self.leave(DiskName::Replica(replica), journal.into_disk());
+            self.leave(DiskName::Replica(replica), votes.into_disk());
         }
     }
 

@@ -59,7 +59,7 @@ fn limit<D: Disk>(disk: &OpenDisk<D>) -> Option<RunFault>
 {
     let (spent, value) = match &disk.journal {
         AnyJournal::Epoch(journal) => (journal.value().epoch() == LAST, u64::from(LAST)),
-        AnyJournal::Votes(journal) => (are_full(&journal.notes), LAST_PLACE),
+        AnyJournal::Votes(journal) => (are_full(journal.value().notes()), LAST_PLACE),
         _ => (false, 0),
     };
     if !spent {

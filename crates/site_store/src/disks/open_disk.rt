@@ -1,12 +1,12 @@
 // An open disk of a store.
 ghost use Rattle.gate_journal.specs.declared.journal.JournalState.TheVariants.{Ready};
 
-use crate::disks::VoteJournal;
 use epoch_journal::EpochJournal;
 use gate_journal::JournalFault;
 use offset_journal::OffsetJournal;
 use output_log::OutputLog;
 use outside::{Disk, DiskName};
+use replica_node::VoteJournal;
 use retry_log::RetryLog;
 use std::alloc::Global;
 use std::marker::Model;
@@ -34,7 +34,6 @@ pub struct OpenDisk<D: Disk> {
 impl<D: Disk> Model for OpenDisk<D> {
     ghost use Rattle.std.specs.Prelude.{◌≡◌};
     ghost use Rattle.gate_journal.specs.declared.journal.JournalState.TheVariants.{Ready};
-    ghost use Rattle.site_store.specs.Votes.{IsReadyVotes};
     ghost use Rattle.site_store.specs.Records.{OpenView, TopologyIs, OffsetIs, PendingAre, EpochIs, NotesAre, PairsAre, IsOfKind};
     ghost use Rattle.site_store.specs.declared.disks.open_disk.AnyJournal.TheVariants.{Topology, Offset, Retry, Epoch, Votes, Output};
 
@@ -43,12 +42,12 @@ impl<D: Disk> Model for OpenDisk<D> {
     ghost view = { λ o. record {
       name = o.name;
       disk = elim o.journal [ Topology t ↦ t.journal.disk | Offset j ↦ j.journal.disk | Retry j ↦ j.journal.disk | Epoch j ↦ j.journal.disk | Votes j ↦ j.journal.disk | Output j ↦ j.journal.disk ];
-      kept = elim o.journal [ Topology t ↦ TopologyIs t.value.kept | Offset j ↦ OffsetIs j.value.offset | Retry j ↦ PendingAre j.value.pending.keys | Epoch j ↦ EpochIs j.value.epoch | Votes j ↦ NotesAre j.notes.items | Output j ↦ PairsAre j.value.pairs.items ];
+      kept = elim o.journal [ Topology t ↦ TopologyIs t.value.kept | Offset j ↦ OffsetIs j.value.offset | Retry j ↦ PendingAre j.value.pending.keys | Epoch j ↦ EpochIs j.value.epoch | Votes j ↦ NotesAre j.value.notes.items | Output j ↦ PairsAre j.value.pairs.items ];
     } };
 
     ghost invariant = { λ o.
-        IsOfKind o.name (elim o.journal [ Topology t ↦ TopologyIs t.value.kept | Offset j ↦ OffsetIs j.value.offset | Retry j ↦ PendingAre j.value.pending.keys | Epoch j ↦ EpochIs j.value.epoch | Votes j ↦ NotesAre j.notes.items | Output j ↦ PairsAre j.value.pairs.items ])
-        × (elim o.journal [ Topology t ↦ t.journal.state ≡ Ready | Offset j ↦ j.journal.state ≡ Ready | Retry j ↦ j.journal.state ≡ Ready | Epoch j ↦ j.journal.state ≡ Ready | Votes j ↦ IsReadyVotes D.tells (D.seen j.journal.disk) j.journal.state j.notes.items | Output j ↦ j.journal.state ≡ Ready ]) };
+        IsOfKind o.name (elim o.journal [ Topology t ↦ TopologyIs t.value.kept | Offset j ↦ OffsetIs j.value.offset | Retry j ↦ PendingAre j.value.pending.keys | Epoch j ↦ EpochIs j.value.epoch | Votes j ↦ NotesAre j.value.notes.items | Output j ↦ PairsAre j.value.pairs.items ])
+        × (elim o.journal [ Topology t ↦ t.journal.state ≡ Ready | Offset j ↦ j.journal.state ≡ Ready | Retry j ↦ j.journal.state ≡ Ready | Epoch j ↦ j.journal.state ≡ Ready | Votes j ↦ j.journal.state ≡ Ready | Output j ↦ j.journal.state ≡ Ready ]) };
 }
 
 impl<D: Disk> OpenDisk<D> {
@@ -58,7 +57,6 @@ impl<D: Disk> OpenDisk<D> {
     ghost use Rattle.gate_journal.specs.Images.{StaysAs, IsKeptIn};
     ghost use Rattle.site_store.specs.Kinds.{damaged_by};
     ghost use Rattle.site_store.specs.Opening.{IsRefusedBy};
-    ghost use Rattle.site_store.specs.Votes.{IsReadyVotes};
     ghost use Rattle.site_store.specs.Records.{TopologyIs, OffsetIs, PendingAre, EpochIs, NotesAre, PairsAre, IsOfKind, KeepsAs, AllKept};
 
     /// Opens what is on a disk, which is fresh or of the kind that its name says. Hands the disk back where it is refused.
@@ -140,7 +138,7 @@ impl<D: Disk> OpenDisk<D> {
             AnyJournal::Offset(journal) => journal.into_disk(),
             AnyJournal::Retry(journal) => journal.into_disk(),
             AnyJournal::Epoch(journal) => journal.into_disk(),
-            AnyJournal::Votes(journal) => journal.journal.into_disk(),
+            AnyJournal::Votes(journal) => journal.into_disk(),
             AnyJournal::Output(journal) => journal.into_disk(),
         }
     }
@@ -201,8 +199,8 @@ impl<D: Disk> OpenDisk<D> {
     pub fn into_votes(self) -> VoteJournal<D>
         requires { (replica : ℕ) × (self.name ≡ name.Replica replica) }
         ensures disk { self.disk ≡ result.journal.disk }
-        ensures kept { self.kept ≡ NotesAre result.notes.items }
-        ensures ready { IsReadyVotes D.tells (D.seen result.journal.disk) result.journal.state result.notes.items }
+        ensures kept { self.kept ≡ NotesAre result.value.notes.items }
+        ensures ready { result.journal.state ≡ Ready }
     {
         match self.journal {
             AnyJournal::Votes(journal) => journal,

@@ -6,8 +6,10 @@ ghost use Rattle.site_store.specs.ReadBack.{EachWith, OneWith, replicas, outputs
 
 use crate::disks::opening::told;
 use crate::lent::LentDisk;
-use crate::lent::records::{notes_again, pairs_again};
+use crate::lent::records::read_again;
+use output_log::Outputs;
 use outside::{Disk, DiskName};
+use replica_node::Votes;
 use run_fault::RunFault;
 use std::alloc::{AllocError, Global};
 use verify_pass::{Journals, NoteList, PairList};
@@ -29,12 +31,12 @@ fn read_one<D: Disk>(alloc: Global, lent: &mut LentDisk<D>) -> Result<ReadAs, Ru
     ensures err { IfErr result (IsToldBy D.tells D.image D.faults lent.old lent.new) }
 {
     match lent.name {
-        DiskName::Replica(_) => match notes_again(alloc, &mut lent.disk) {
-            Ok(notes) => Ok(ReadAs::Notes(notes)),
+        DiskName::Replica(_) => match read_again::<D, Votes>(alloc, &mut lent.disk) {
+            Ok(votes) => Ok(ReadAs::Notes(NoteList::from(votes.into_notes()))),
             Err(fault) => Err(told(lent.name, fault)),
         },
-        DiskName::Output(_, _) => match pairs_again(alloc, &mut lent.disk) {
-            Ok(pairs) => Ok(ReadAs::Pairs(pairs)),
+        DiskName::Output(_, _) => match read_again::<D, Outputs>(alloc, &mut lent.disk) {
+            Ok(outputs) => Ok(ReadAs::Pairs(PairList::from(outputs.into_pairs()))),
             Err(fault) => Err(told(lent.name, fault)),
         },
         _ => Ok(ReadAs::Neither),

@@ -9,21 +9,20 @@ ghost use Rattle.turn_defs.specs.Setting.{Setting};
 ghost use Rattle.dispatch_node.specs.Places.{IsLogOf};
 ghost use Rattle.gate_journal.specs.Images.{StaysAs, GoesOn};
 ghost use Rattle.site_laws.specs.Stores.{IsSoundStore};
-ghost use Rattle.site_store.specs.Records.{values_of};
 ghost use Rattle.site_store.specs.Leaving.{IsAsked};
 ghost use Rattle.site_store.specs.Causes.{IsCause, LeavesSomething};
-ghost use Rattle.site_store.specs.Reading.{IsOfValues, IsRead};
+ghost use Rattle.site_store.specs.Reading.{IsRead};
 ghost use Rattle.site_store.specs.Telling.{Tells, KeepsNothing};
 
+use crate::disks::{give_bare, journals_of};
+use crate::give_back;
 use crate::opening::open_for;
 use crate::reading::KeptStore;
-use crate::reading::copies::journals_of;
-use crate::{OpenStore, give_back};
 use outside::{Disk, LogFile, Store};
 use photon_model::verification;
 use run_fault::RunFault;
 use site_laws::stores::{fits, once, opened, read, stays};
-use std::alloc::{AllocError, Global};
+use std::alloc::Global;
 use topology_journal::{Topology, TopologyJournal};
 
 fn kept_topology<D: Disk>(topology: &TopologyJournal<D>) -> Option<Topology>
@@ -32,22 +31,13 @@ fn kept_topology<D: Disk>(topology: &TopologyJournal<D>) -> Option<Topology>
     topology.value().kept().copied()
 }
 
-// What an open store keeps.
-fn kept_in<D: Disk>(alloc: Global, opened: &OpenStore<D>) -> Result<KeptStore, AllocError>
-    ensures { IfOk result (IsOfValues (values_of opened.now.topology.value.kept opened.now.disks.items)) }
-{
-    Ok(KeptStore {
-        topology: kept_topology(&opened.topology),
-        journals: journals_of(alloc, &opened.disks)?,
-    })
-}
-
 /// Reads what a store keeps, over a click log whose last whole line ends at `end`, and gives all its disks back. The store is
 /// refused for the first of these: a disk that isn't opened, a kept place that doesn't fit the log, an epoch, a round or a slot
 /// that is at its limit. Nothing is asked of it, so that no refusal is for joiners or a table; a store that keeps no topology has
 /// no joiners.
 ///
-/// Each file is read once. Time and memory are linear in the files; of the log it reads up to 512 bytes for each kept place.
+/// Each file is read once. Time and memory are linear in the files; no record is copied. Of the log it reads up to 512 bytes for
+/// each kept place.
 pub fn read_store<S: Store, L: LogFile>(
     alloc: Global,
     store: &mut S,
@@ -85,10 +75,15 @@ pub fn read_store<S: Store, L: LogFile>(
         Ok(open) => open,
         Err(fault) => return Err(fault),
     };
-    let kept = kept_in(alloc, &open);
-    give_back(store, open);
-    match kept {
-        Ok(kept) => Ok(kept),
-        Err(_) => Err(RunFault::Memory),
+    let topology = kept_topology(&open.topology);
+    match journals_of(alloc, open) {
+        Ok((journals, bare)) => {
+            give_bare(store, bare);
+            Ok(KeptStore { topology, journals })
+        }
+        Err(open) => {
+            give_back(store, open);
+            Err(RunFault::Memory)
+        }
     }
 }

@@ -1,6 +1,6 @@
 use Rattle.std.proofs.Common.{rules, [], sym, ◌∙◌}
 use Rattle.replica_node.proofs.Words.{append-nil, note_spelled}
-use Rattle.replica_node.proofs.NoteBytes.{left_behind}
+use Rattle.replica_node.proofs.Spelled.{left_behind}
 use Rattle.replica_node.proofs.votes.read_vote.Goals as goal
 
 pub returns-else-is_empty-clause-none : goal.returns-else-is_empty-clause-none

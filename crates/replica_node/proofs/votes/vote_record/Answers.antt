@@ -1,8 +1,8 @@
-use Rattle.std.proofs.Common.{◌≡◌, ◌≤◌, ℕ, List, length, sym, subst}
-use Rattle.replica_node.proofs.NoteBytes.{note_short}
+use Rattle.std.proofs.Common.{◌≤◌, ℕ, List, length, sym, subst, arith}
+use Rattle.replica_node.specs.VoteLaws.{fits}
 use Rattle.replica_node.proofs.votes.vote_record.Goals as goal
 
 pub returns-in_ok-payload-in-Some-clause-short : goal.returns-in_ok-payload-in-Some-clause-short
 returns-in_ok-payload-in-Some-clause-short c =
     let is = rw c.in-Some.is at c.requires in
-    subst (λ (b : List ℕ). length b ≤ 65535) (sym c.in_ok-payload-in-Some.ensures) (note_short _ is)
+    subst (λ (b : List ℕ). length b ≤ 65535) (sym c.in_ok-payload-in-Some.ensures) (omega (arith, fits _ is))

@@ -2,9 +2,9 @@ use Rattle.std.proofs.Common.{◌≡◌, ℕ, List, [], ◌∷◌, ◌++◌, ◌
 use Rattle.std.proofs.lemmas.List.Elements.{All-push, All-same}
 use Rattle.turn_defs.specs.declared.pair.PairRec.{PairRec}
 use Rattle.turn_defs.specs.Spellings.{IsPair}
-use Rattle.output_log.specs.Pairs.{spells}
+use Rattle.gate_journal.specs.Spelled.{comes_other}
+use Rattle.output_log.specs.Pairs.{record_of, spells}
 use Rattle.output_log.specs.PairLaws.{comes_next}
-use Rattle.output_log.proofs.Turns.{refused}
 use Rattle.output_log.proofs.outputs.OutputsRecord.take.Goals as goal
 
 pub invariant_of-self-in-Some : goal.invariant_of-self-in-Some
@@ -25,4 +25,4 @@ returns-in_ok-reserve-in-Some-clause-next c is ps kept =
 pub returns-in-None-clause-damage : goal.returns-in-None-clause-damage
 returns-in-None-clause-damage c is ps rest kept =
     let other = rw c.in-None.is at c.in_ok-pair.ensures.none in
-    refused c.args.self.now.pairs.items ps rest c.args.payload.now other kept
+    comes_other IsPair record_of c.args.self.now.pairs.items ps rest c.args.payload.now other kept

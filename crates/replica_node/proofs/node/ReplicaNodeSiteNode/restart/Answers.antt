@@ -1,4 +1,4 @@
-use Rattle.std.proofs.Common.{rules, ◌≡◌, ℕ, List, Option, Some, sym, ◌∙◌, subst, arith}
+use Rattle.std.proofs.Common.{rules, ◌≡◌, ℕ, List, length, Option, Some, sym, ap, ◌∙◌, subst, arith}
 use Rattle.replica_node.proofs.Words.{Bytes, Stops, StandsAt, replica_rows, kept_images}
 use Rattle.replica_node.proofs.Turning.{Found, nothing_landed, note_landed, kept_opened, kept_notes, still_down, on_err}
 use Rattle.replica_node.proofs.node.ReplicaNodeSiteNode.restart.Goals as goal
@@ -7,58 +7,62 @@ pub returns-then-landed-clause-stopped : goal.returns-then-landed-clause-stopped
 returns-then-landed-clause-stopped g c tells s at =
     let old = c.args.self.now in
     let new = c.reread.new.self in
-    let e = c.in_ok-notes.ensures in
-    let notes = c.in_ok-notes.notes in
+    let e = c.in_ok-votes.ensures in
+    let notes = c.in_ok-votes.votes.notes in
+    let keeps = e.keeps tells in
     let seen = g.D.Disk.seen new.journal.disk in
     let image = g.D.Disk.image new.journal.disk in
     let was = g.D.Disk.image old.journal.disk in
-    let found : Found new.roster c.len-count.result seen was image new.journal.state c.new.result notes.items =
+    let left = e.left tells in
+    let found : Found new.roster (length c.notes.result.now) seen was image new.journal.state c.new.result notes.items =
     record {
       apart = c.told_apart.ensures;
-      all = e.notes;
-      reads = e.reads tells;
-      opened = (e.moments tells).now seen (e.seen tells);
+      all = keeps.0;
+      reads = keeps.1;
+      opened = (left.0, left.1, keeps.1 ∙ sym left.2.1);
       ready = e.ready;
       only = (new.journal.settled tells e.ready).durable;
       down = c.new.ensures.down;
       has = c.new.ensures.notes;
-      counts = omega (arith, c.len-count.ensures, notes.ok);
-      fits = omega (arith, c.len-count.ensures, notes.ok);
+      counts = omega (arith, ap length c.notes.ensures, notes.ok);
+      fits = omega (arith, ap length c.notes.ensures, notes.ok);
     }
     in
-    let done = note_landed old.roster new.roster old.kept c.len-count.result (g.D.Disk.seen old.journal.disk) seen was image old.journal.state new.journal.state old.voter c.new.result notes.items s found e.same.1 old.in_doubt 0 c.requires at (λ is. c.if-landed.true (is ∙ sym e.same.3)) in (
+    let done = note_landed old.roster new.roster old.kept (length c.notes.result.now) (g.D.Disk.seen old.journal.disk) seen was image old.journal.state new.journal.state old.voter c.new.result notes.items s found e.same.1 old.in_doubt 0 c.requires at (λ is. c.if-landed.true (is ∙ sym e.same.3)) in (
       done.0,
       subst (λ (d : Option (List ℕ)). (b : Bytes) × (s.opened ≡ Some b) × Stops replica_rows s b d done.0) (sym (c.take-landed_record.ensures.value ∙ e.same.4)) done.1,
-      subst (λ (d : Option (List ℕ)). StandsAt new.roster d c.len-count.result seen image new.journal.state c.new.result done.0) (sym c.take-landed_record.ensures.after) done.2,
+      subst (λ (d : Option (List ℕ)). StandsAt new.roster d (length c.notes.result.now) seen image new.journal.state c.new.result done.0) (sym c.take-landed_record.ensures.after) done.2,
     )
 
 pub returns-else-landed-clause-stopped : goal.returns-else-landed-clause-stopped
 returns-else-landed-clause-stopped g c tells s at =
     let old = c.args.self.now in
     let new = c.reread.new.self in
-    let e = c.in_ok-notes.ensures in
-    let notes = c.in_ok-notes.notes in
+    let e = c.in_ok-votes.ensures in
+    let notes = c.in_ok-votes.votes.notes in
+    let keeps = e.keeps tells in
     let seen = g.D.Disk.seen new.journal.disk in
     let image = g.D.Disk.image new.journal.disk in
     let was = g.D.Disk.image old.journal.disk in
-    let found : Found new.roster c.len-count.result seen was image new.journal.state c.new.result notes.items =
+    let left = e.left tells in
+    let found : Found new.roster (length c.notes.result.now) seen was image new.journal.state c.new.result notes.items =
     record {
       apart = c.told_apart.ensures;
-      all = e.notes;
-      reads = e.reads tells;
-      opened = (e.moments tells).now seen (e.seen tells);
+      all = keeps.0;
+      reads = keeps.1;
+      opened = (left.0, left.1, keeps.1 ∙ sym left.2.1);
       ready = e.ready;
       only = (new.journal.settled tells e.ready).durable;
       down = c.new.ensures.down;
       has = c.new.ensures.notes;
-      counts = omega (arith, c.len-count.ensures, notes.ok);
-      fits = omega (arith, c.len-count.ensures, notes.ok);
+      counts = omega (arith, ap length c.notes.ensures, notes.ok);
+      fits = omega (arith, ap length c.notes.ensures, notes.ok);
     }
     in
-    let done = nothing_landed old.roster new.roster old.kept c.len-count.result (g.D.Disk.seen old.journal.disk) seen was image old.journal.state new.journal.state old.voter c.new.result notes.items s found e.same.1 old.in_doubt 0 c.requires at (c.if-landed.false ∙ e.same.3) in (
+    let done = nothing_landed old.roster new.roster old.kept (length c.notes.result.now) (g.D.Disk.seen old.journal.disk) seen was image old.journal.state new.journal.state old.voter c.new.result notes.items s found e.same.1 old.in_doubt 0 c.requires at (c.if-landed.false ∙ e.same.3) in (
       done.0,
       done.1,
-      subst (λ (d : Option (List ℕ)). StandsAt new.roster d c.len-count.result seen image new.journal.state c.new.result done.0) (sym c.take-landed_record.ensures.after) done.2,
+      subst (λ (d : Option (List ℕ)). StandsAt new.roster d (length c.notes.result.now) seen image new.journal.state c.new.result done.0) (sym c.take-landed_record.ensures.after) done.2,
     )
 
 pub returns-then-landed-clause-moments : goal.returns-then-landed-clause-moments
@@ -73,14 +77,14 @@ returns-else-landed-clause-moments g c tells s at bytes left =
     let was = g.D.Disk.image old.journal.disk in
     kept_opened s was (kept_images old.roster old.in_doubt old.kept (g.D.Disk.seen old.journal.disk) was old.journal.state old.voter s at) bytes ((c.reread.ensures.moments tells).each bytes left)
 
-pub returns-in_err-notes-clause-moments : goal.returns-in_err-notes-clause-moments
-returns-in_err-notes-clause-moments g c tells s at bytes left =
+pub returns-in_err-votes-clause-moments : goal.returns-in_err-votes-clause-moments
+returns-in_err-votes-clause-moments g c tells s at bytes left =
     let old = c.args.self.now in
     let was = g.D.Disk.image old.journal.disk in
     kept_opened s was (kept_images old.roster old.in_doubt old.kept (g.D.Disk.seen old.journal.disk) was old.journal.state old.voter s at) bytes ((c.reread.ensures.moments tells).each bytes left)
 
-pub returns-in_err-notes-clause-open : goal.returns-in_err-notes-clause-open
-returns-in_err-notes-clause-open g c tells s at =
+pub returns-in_err-votes-clause-open : goal.returns-in_err-votes-clause-open
+returns-in_err-votes-clause-open g c tells s at =
     let old = c.args.self.now in
     let new = c.reread.new.self in
     let e = c.reread.ensures in
@@ -88,10 +92,10 @@ returns-in_err-notes-clause-open g c tells s at =
     (still_down old.roster new.roster old.in_doubt new.in_doubt old.kept new.kept (g.D.Disk.seen old.journal.disk) (g.D.Disk.seen new.journal.disk) (g.D.Disk.image old.journal.disk) (g.D.Disk.image new.journal.disk) old.journal.state new.journal.state old.voter new.voter s
     e.same.1 e.same.4 e.same.3 ((e.moments tells).now) c.requires at)
 
-pub returns-in_err-notes-clause-whole : goal.returns-in_err-notes-clause-whole
-returns-in_err-notes-clause-whole g c tells s at =
+pub returns-in_err-votes-clause-whole : goal.returns-in_err-votes-clause-whole
+returns-in_err-votes-clause-whole g c tells s at =
     let old = c.args.self.now in
     let was = g.D.Disk.image old.journal.disk in
     let images = kept_images old.roster old.in_doubt old.kept (g.D.Disk.seen old.journal.disk) was old.journal.state old.voter s at in
-    let whole = c.in_err-notes.ensures.whole tells (λ b here. kept_notes s b at.spelled (images b here)) in
+    let whole = c.in_err-votes.ensures.whole tells (λ b here. kept_notes s b at.spelled (images b here)) in
     search rules

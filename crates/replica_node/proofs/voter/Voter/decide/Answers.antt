@@ -10,18 +10,18 @@ returns-in-Start-clause-turn c =
 
 pub returns-in-Start-clause-packets : goal.returns-in-Start-clause-packets
 returns-in-Start-clause-packets c =
-    IfOk-weaker c.start.result _ _ (λ turn row. let at = row worked (kept_of c.deref.result.now) in sent_ok worked [] turn.packets.items tt at.packets) c.start.ensures.turn
+    IfOk-weaker c.start.result _ _ (λ turn row. let at = row worked (kept_of c.notes.result.now) in sent_ok worked [] turn.packets.items tt at.packets) c.start.ensures.turn
 
 pub returns-in-Start-clause-spelled : goal.returns-in-Start-clause-spelled
 returns-in-Start-clause-spelled c =
-    let notes = c.deref.result.now in
+    let notes = c.notes.result.now in
     let core = ap (λ (v : VoterView). v.core) c.self.view_is in
     IfOk-weaker c.start.result _ _
     (λ turn is.
     record {
       kept = kept_of notes;
       goes_on = subst (λ (x : ReplicaCore). GoesOn x turn.change (kept_of notes)) core (is.1 (kept_of notes) refl);
-      spelled = views_ok notes (All-same IsNote notes c.self.inside.notes.items c.deref.ensures.value c.self.invariant.1);
+      spelled = views_ok notes (All-same IsNote notes c.self.inside.votes.notes.items c.notes.ensures c.self.inside.votes.are_notes);
       note = note_ok turn.note None (is.0 worked (kept_of notes)).note tt;
     })
     (both c.start.result _ _ c.start.ensures.turn c.start.ensures.next)
@@ -48,13 +48,13 @@ returns-in-Deliver-clause-next c =
 
 pub returns-in-Deliver-clause-packets : goal.returns-in-Deliver-clause-packets
 returns-in-Deliver-clause-packets c =
-    let so = c.self.invariant.0 in
+    let so = c.self.invariant in
     let is = is_packet c.args.input.now _ _ c.in-Deliver.is c.requires in
     IfOk-weaker c.gets.result _ _ (λ turn row. sent_ok worked _ turn.packets.items (gets_ok so.kept _ _ so.spelled is).packets (row worked so.kept so.stands).packets) c.gets.ensures.turn
 
 pub returns-in-Deliver-clause-spelled : goal.returns-in-Deliver-clause-spelled
 returns-in-Deliver-clause-spelled c =
-    let so = c.self.invariant.0 in
+    let so = c.self.invariant in
     let is = is_packet c.args.input.now _ _ c.in-Deliver.is c.requires in
     IfOk-weaker c.gets.result _ _
     (λ turn at.

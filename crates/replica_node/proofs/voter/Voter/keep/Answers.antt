@@ -1,5 +1,5 @@
-use Rattle.std.proofs.Common.{[], ap, subst, sym}
-use Rattle.replica_node.proofs.Words.{All-nil, All-same, IsNote, land, land_replica, noted, GoesOn, VoterView, ReplicaCore}
+use Rattle.std.proofs.Common.{ap, subst, sym}
+use Rattle.replica_node.proofs.Words.{land, land_replica, noted, GoesOn, VoterView, ReplicaCore}
 use Rattle.replica_node.proofs.Spelled.{landed_ok}
 use Rattle.replica_node.proofs.voter.Voter.keep.Goals as goal
 
@@ -7,7 +7,5 @@ pub invariant_of-self : goal.invariant_of-self
 invariant_of-self c =
     let so = c.requires.spelled in
     let turn = c.args.turn in
-    let goes = subst (λ (core : ReplicaCore). GoesOn core turn.change so.kept) (ap (λ (v : VoterView). v.core) (sym c.self.view_is)) so.goes_on in (
-      record { kept = land land_replica (noted turn.note) so.kept; stands = c.keep.ensures so.kept goes; spelled = landed_ok so.kept turn.note so.spelled so.note },
-      All-same IsNote c.new.result.items [] c.new.ensures.items (All-nil IsNote),
-    )
+    let goes = subst (λ (core : ReplicaCore). GoesOn core turn.change so.kept) (ap (λ (v : VoterView). v.core) (sym c.self.view_is)) so.goes_on in
+    record { kept = land land_replica (noted turn.note) so.kept; stands = c.keep.ensures so.kept goes; spelled = landed_ok so.kept turn.note so.spelled so.note }
