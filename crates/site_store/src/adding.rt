@@ -17,7 +17,7 @@ ghost use Rattle.site_store.specs.Records.{kept_all, values_of};
 ghost use Rattle.site_store.specs.Adding.{HasRow, IsAdded, IsAnswer, IsRowCause, IsUnadded, accepted, unfit_by};
 
 use crate::disks::{OpenDisk, OpenStore};
-use crate::reading::journals_of;
+use crate::reading::notes_of;
 use crate::{first_limit, give_back, open_disks, write_topology};
 use outside::{Disk, Store};
 use run_fault::{RunFault, Unfit};
@@ -35,7 +35,7 @@ fn forbidding<D: Disk>(
 ) -> Result<Option<TooSoon>, AllocError>
     ensures { IfOk result (λ soon. soon ≡ too_soon_for (accepted (kept_all disks.now)) start) }
 {
-    let journals = journals_of(alloc, disks)?;
+    let journals = notes_of(alloc, disks)?;
     Ok(too_soon(&journals, start))
 }
 
