@@ -9,10 +9,10 @@ pub mod LentDisks
 pub mod ReadBack
 pub mod Floors
 pub mod Kept
-pub mod Rows
 pub mod Records
 pub mod Causes
 pub mod Leaving
 pub mod Reading
 pub mod Telling
 pub mod Adding
+pub mod Rows

@@ -1,8 +1,37 @@
--- The lines of the worked rows.
-use Rattle.std.specs.Prelude.{List, [], ◌∷◌}
+-- The lines of the worked rows, and what is answered to a row where two replicas keep notes.
+use Rattle.std.specs.Prelude.{ℕ, List, [], ◌∷◌, Option, Result}
+use Rattle.outside.specs.declared.store.DiskName.TheVariants.{Replica}
+use Rattle.paxos_acceptor.specs.declared.notes.ReplicaNote.{ReplicaNote}
+use Rattle.time_shards.specs.declared.ShardRow.{ShardRow}
+use Rattle.topology_journal.specs.declared.topology.Topology.{Topology}
+use Rattle.topology_journal.specs.Topologies.{topology_of}
+use Rattle.verify_pass.specs.Rows.{one_batch, only_bound, took}
+use Rattle.run_fault.specs.declared.fault.Unfit.{Unfit}
+use Rattle.site_store.specs.Records.{NotesAre}
+use Rattle.site_store.specs.Adding.{accepted, answer_to}
 use Rattle.log_records.specs.Lines.{ClickLine}
 use Rattle.log_records.specs.Rows.{one_click}
 
 -- a click's line of 35 bytes, with its line feed
 abbrev pub one_line : List ClickLine
 one_line = record { place = 0; end_ = 36; click = one_click } ∷ []
+
+-- one joiner a site, and a table of so many rows
+abbrev pub rows_at : List ℕ → List ShardRow
+rows_at [] = []
+rows_at (start ∷ starts) = record { start = start; count = 4 } ∷ rows_at starts
+
+abbrev pub with_rows : List ℕ → Topology
+with_rows starts = topology_of 1 (rows_at starts)
+
+-- one replica keeps no notes, and another that it accepted the worked click's id, or with it a bound
+abbrev pub an_id : List ReplicaNote
+an_id = took 0 1 one_batch ∷ []
+
+abbrev pub a_bound : List ReplicaNote
+a_bound = took 0 1 one_batch ∷ took 1 1 (only_bound 2001) ∷ []
+
+-- what is answered to a row from this start on
+abbrev pub answered : Option Topology → List ReplicaNote → ℕ → Result Topology Unfit
+answered kept notes start =
+    answer_to kept (accepted (record { name = Replica 0; kept = NotesAre [] } ∷ record { name = Replica 2; kept = NotesAre notes } ∷ [])) (record { start = start; count = 4 })

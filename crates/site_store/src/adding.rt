@@ -16,6 +16,8 @@ ghost use Rattle.run_fault.specs.declared.fault.RunFault.TheVariants.{Store as S
 ghost use Rattle.site_store.specs.Records.{kept_all, values_of};
 ghost use Rattle.site_store.specs.Adding.{HasRow, IsAdded, IsAnswer, IsRowCause, IsUnadded, accepted, unfit_by};
 
+pub mod rows;
+
 use crate::disks::{OpenDisk, OpenStore};
 use crate::reading::notes_of;
 use crate::{first_limit, give_back, open_disks, write_topology};

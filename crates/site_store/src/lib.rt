@@ -2,7 +2,7 @@
 //! and against the logs, and read back and given back again.
 #![tactic(auto)]
 
-mod adding;
+pub mod adding;
 pub mod disks;
 mod lent;
 mod opening;
