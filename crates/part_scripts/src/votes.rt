@@ -61,8 +61,8 @@ impl Part for Votes {
             }
             "replica" => self.end_replica(alloc),
             "output" => self.end_output(alloc),
-            "classify" => classes(alloc, &self.journals, words),
-            "missing" => unwritten(alloc, &self.journals, words),
+            "classify" => classes(alloc, copied(alloc, &self.journals)?, words),
+            "missing" => unwritten(alloc, copied(alloc, &self.journals)?, words),
             "soon" => soon(alloc, &self.journals, words.number()?),
             _ => Err(Stop::Words),
         }
@@ -73,7 +73,40 @@ fn table_of(words: &mut Words<'_>) -> Result<Table, Stop> {
     Table::read(words.word()?.as_bytes()).map_err(|_| Stop::Words)
 }
 
-fn classes(alloc: Global, journals: &Journals, words: &mut Words<'_>) -> Result<String, Stop> {
+// A copy, which a call may use up.
+fn copied(alloc: Global, journals: &Journals) -> Result<Journals, Stop> {
+    let mut copy = Journals {
+        notes: Vec::new(alloc),
+        pairs: Vec::new(alloc),
+    };
+    for list in &journals.notes {
+        copy.notes
+            .push(NoteList::from(copied_notes(alloc, list.as_slice())?))?;
+    }
+    for list in &journals.pairs {
+        copy.pairs
+            .push(PairList::from(copied_pairs(alloc, list.as_slice())?))?;
+    }
+    Ok(copy)
+}
+
+fn copied_notes(alloc: Global, notes: &[ReplicaNote]) -> Result<Vec<ReplicaNote>, Stop> {
+    let mut copies = Vec::new(alloc);
+    for note in notes {
+        copies.push(note.copy()?)?;
+    }
+    Ok(copies)
+}
+
+fn copied_pairs(alloc: Global, pairs: &[PairRec]) -> Result<Vec<PairRec>, Stop> {
+    let mut copies = Vec::new(alloc);
+    for pair in pairs {
+        copies.push(pair.copy(alloc)?)?;
+    }
+    Ok(copies)
+}
+
+fn classes(alloc: Global, journals: Journals, words: &mut Words<'_>) -> Result<String, Stop> {
     let table = table_of(words)?;
     let mut ids = Vec::new(alloc);
     for word in &mut words.left {
@@ -105,7 +138,7 @@ fn told_short(alloc: Global, letter: char, id: EventId) -> Result<String, Stop> 
     Ok(format!(in alloc; "{letter} {id}")?)
 }
 
-fn unwritten(alloc: Global, journals: &Journals, words: &mut Words<'_>) -> Result<String, Stop> {
+fn unwritten(alloc: Global, journals: Journals, words: &mut Words<'_>) -> Result<String, Stop> {
     let table = table_of(words)?;
     let ids = missing(alloc, journals, &table)?;
     let mut text = format!(in alloc; "{}", ids.len())?;

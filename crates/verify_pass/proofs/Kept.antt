@@ -21,6 +21,23 @@ unfolding IsStrictlySortedBy
 skip c [] x ys h = h.1
 skip c (z ∷ xs) x ys h = (all_skip (λ y. c z y ≡ Less) xs x ys h.0, skip c xs x ys h.1)
 
+pub rising_behind : {A : Type 0} (c : A → A → Ordering) (x : A) (xs : List A) → IsStrictlySortedBy c (x ∷ xs) → IsStrictlySortedBy c xs
+unfolding IsStrictlySortedBy
+rising_behind c x xs h = h.1
+
+-- what each later element has for being above the first
+pub rising_above : {A : Type 0} (c : A → A → Ordering) (P Q : A → Type 0) (x : A) (xs : List A) → ((y : A) → c x y ≡ Less → P y → Q y) → IsStrictlySortedBy c (x ∷ xs) → AllByRecursion P xs → AllByRecursion Q xs
+unfolding IsStrictlySortedBy
+rising_above {A} c P Q x xs step h all = go xs h.0 all
+  where
+    go : (ys : List A) → AllByRecursion (λ y. c x y ≡ Less) ys → AllByRecursion P ys → AllByRecursion Q ys
+    go [] k e = tt
+    go (y ∷ ys) k e = (step y k.0 e.0, go ys k.1 e.1)
+
+pub each_of : {A : Type 0} (P : A → Type 0) → ((x : A) → P x) → (xs : List A) → AllByRecursion P xs
+each_of P p [] = tt
+each_of P p (x ∷ xs) = (p x, each_of P p xs)
+
 -- the next element is kept or left out
 pub rising_next : {A : Type 0} (c : A → A → Ordering) (xs : List A) (x : A) (ys : List A) (t : Bool) → IsStrictlySortedBy c (xs ++ x ∷ ys) → IsStrictlySortedBy c ((xs ++ cond t (x ∷ []) []) ++ ys)
 rising_next {A} c xs x ys true h = subst (IsStrictlySortedBy c) (sym (append_assoc xs (x ∷ []) ys)) h

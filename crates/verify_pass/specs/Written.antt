@@ -1,6 +1,5 @@
 -- The pairs that were found, by their ids.
 use Rattle.std.specs.Prelude.{Option}
-use Rattle.std.specs.Option.{option_map}
 use Rattle.std.specs.BTreeMap.{get}
 use Rattle.event_id.specs.declared.id.EventId.{EventId}
 use Rattle.event_id.specs.EventId.{id_cmp}
@@ -8,4 +7,4 @@ use Rattle.turn_defs.specs.declared.pair.PairRec.{PairRec}
 use Rattle.verify_pass.specs.declared.written.Written.{Written}
 
 abbrev pub pair_at : Written → EventId → Option PairRec
-pair_at written i = option_map (λ p. p.now) (get id_cmp written.pairs i)
+pair_at written i = get id_cmp written.pairs i

@@ -1,20 +1,25 @@
 // The class of each click.
 ghost use Rattle.std.specs.Prelude.{◌≡◌, List, length, map, IfOk};
+ghost use Rattle.std.specs.List.Sorted.{IsStrictlySortedBy};
 ghost use Rattle.log_records.specs.declared.records.ClickRec.{ClickRec as Click};
 ghost use Rattle.log_records.specs.Report.{distinct};
 ghost use Rattle.event_id.specs.declared.id.EventId.{EventId as Id};
+ghost use Rattle.event_id.specs.EventId.{id_cmp};
 ghost use Rattle.registry_state.specs.declared.Batch.{Batch as Value};
-ghost use Rattle.time_shards.specs.Shards.{shard_count};
+ghost use Rattle.registry_state.specs.Same.{same_batch};
+ghost use Rattle.paxos_acceptor.specs.Cells.{note_view};
+ghost use Rattle.paxos_defs.specs.Decided.{decided as decided_in};
+ghost use Rattle.time_shards.specs.Shards.{shard_count, shard_of};
 ghost use Rattle.verify_pass.specs.Classes.{line_by, line_of};
 ghost use Rattle.verify_pass.specs.States.{KnowAll};
 ghost use Rattle.verify_pass.specs.Written.{pair_at};
 
-use crate::Journals;
 use crate::chosen::Chosen;
 use crate::distinct::distinct_ids;
 use crate::lines::line_for;
 use crate::states::{registries, registry_for};
 use crate::written::Written;
+use crate::{Journals, NoteList};
 use event_id::EventId;
 use id_expiry::TimedRegistry;
 use log_records::ReportLine;
@@ -26,40 +31,54 @@ use time_shards::Table;
 /// lies below its shard's bound, else unmatched.
 ///
 /// O(n log n) for n ids, and expected linear time in the records where a place has few acceptances: those of one place
-/// are compared each with each, with a test for each replica. It takes memory for each acceptance and each distinct id, and
-/// copies the texts of the pairs that are told, and no other record.
+/// are compared each with each, with a test for each replica. It takes memory for each acceptance and each distinct id,
+/// copies no record, and lets the notes go before it looks at the pairs, whose texts the lines take.
 pub fn classify(
     alloc: Global,
     ids: &[EventId],
-    journals: &Journals,
+    journals: Journals,
     table: &Table,
 ) -> Result<Vec<ReportLine>, AllocError>
-    ensures { IfOk result (λ lines. (clicks : List Click) → map (λ (c : Click). c.id) clicks ≡ ids.now → lines.items ≡ map (λ (c : Click). line_of journals.now table.now c.id) (distinct clicks)) }
+    ensures { IfOk result (λ lines. (clicks : List Click) → map (λ (c : Click). c.id) clicks ≡ ids.now → lines.items ≡ map (λ (c : Click). line_of journals table.now c.id) (distinct clicks)) }
 {
-    let chosen = Chosen::of(alloc, &journals.notes)?;
-    let registries = registries(alloc, &chosen, table.shards())?;
-    let written = Written::of(alloc, &journals.pairs)?;
+    let Journals { notes, pairs } = journals;
+    let registries = decided(alloc, notes, table)?;
+    let mut written = Written::of(alloc, pairs)?;
     let each = distinct_ids(alloc, ids)?;
-    let lines = lines_of(alloc, &each, &registries, &written, table)?;
+    let lines = lines_of(alloc, &each, &registries, &mut written, table)?;
     Ok(lines)
 }
 
-// The line of each id, in their order.
+// The registries of all shards, by what these notes decide.
+fn decided(
+    alloc: Global,
+    notes: Vec<NoteList>,
+    table: &Table,
+) -> Result<Vec<TimedRegistry>, AllocError>
+    ensures count { IfOk result (λ registries. length registries.items ≡ shard_count table.now) }
+    ensures known { IfOk result (λ registries. KnowAll registries.items table.now (λ i. decided_in same_batch (map (map note_view) notes.items) (shard_of table.now i))) }
+{
+    let chosen = Chosen::of(alloc, &notes)?;
+    let registries = registries(alloc, &chosen, table.shards())?;
+    Ok(registries)
+}
+
+// The line of each id, in their order. The pairs that are told are taken out.
 fn lines_of(
     alloc: Global,
     ids: &[EventId],
     registries: &[TimedRegistry],
-    written: &Written,
+    written: &mut Written,
     table: &Table,
 ) -> Result<Vec<ReportLine>, AllocError>
-    requires { length registries.now ≡ shard_count table.now }
-    ensures { IfOk result (λ lines. (batches : Id → List Value) → KnowAll registries.now table.now batches → lines.items ≡ map (λ i. line_by (batches i) i (pair_at written.now i)) ids.now) }
+    requires count { length registries.now ≡ shard_count table.now }
+    requires rising { IsStrictlySortedBy id_cmp ids.now }
+    ensures { IfOk result (λ lines. (batches : Id → List Value) → KnowAll registries.now table.now batches → lines.items ≡ map (λ i. line_by (batches i) i (pair_at written.old i)) ids.now) }
 {
     let mut lines = Vec::new(alloc);
     for id in ids {
         let registry = registry_for(registries, table, *id);
-        let line = line_for(alloc, registry, written.get(*id), *id)?;
-        lines.push(line)?;
+        lines.push(line_for(registry, written.take(*id), *id))?;
     }
     Ok(lines)
 }

@@ -59,6 +59,13 @@ impl PairList {
     {
         &self.items
     }
+
+    /// The pairs, given away.
+    pub fn into_pairs(self) -> Vec<PairRec>
+        ensures { result.items ≡ self }
+    {
+        self.items
+    }
 }
 
 impl From<Vec<PairRec>> for PairList {

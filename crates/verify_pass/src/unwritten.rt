@@ -23,17 +23,14 @@ use time_shards::Table;
 /// O(n log n) for n decided inserts, and expected linear time in the records where a place has few acceptances: those of
 /// one place are compared each with each, twice, with a test for each replica. It takes memory for each acceptance, and
 /// copies no record.
-pub fn missing(
-    alloc: Global,
-    journals: &Journals,
-    table: &Table,
-) -> Result<Vec<EventId>, AllocError>
+pub fn missing(alloc: Global, journals: Journals, table: &Table) -> Result<Vec<EventId>, AllocError>
     ensures rising { IfOk result (λ ids. IsStrictlySortedBy id_cmp ids.items) }
-    ensures exactly { IfOk result (λ ids. (i : Id) → Contains ids.items i ↔ (is_unwritten journals.now table.now i ≡ true)) }
+    ensures exactly { IfOk result (λ ids. (i : Id) → Contains ids.items i ↔ (is_unwritten journals table.now i ≡ true)) }
 {
-    let chosen = Chosen::of(alloc, &journals.notes)?;
+    let Journals { notes, pairs } = journals;
+    let chosen = Chosen::of(alloc, &notes)?;
     let registries = registries(alloc, &chosen, table.shards())?;
-    let written = Written::of(alloc, &journals.pairs)?;
+    let written = Written::of(alloc, pairs)?;
     let ids = inserted(alloc, &chosen, table.shards())?;
     each_has_a_shard(table);
     let left = missing_among(alloc, &ids, &registries, &written, table)?;

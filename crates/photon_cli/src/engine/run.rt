@@ -86,7 +86,7 @@ where
         Ok(Outcome { journals }) => journals,
         Err(fault) => return Err(fault),
     };
-    match classify(alloc, &clicks.ids, &journals, &config.table) {
+    match classify(alloc, &clicks.ids, journals, &config.table) {
         Ok(lines) => Ok(lines),
         Err(_) => Err(RunFault::Memory),
     }

@@ -70,20 +70,21 @@ fn unmatched_lines(alloc: Global, ids: &[EventId]) -> Result<Vec<ReportLine>, Al
         notes: Vec::new(alloc),
         pairs: Vec::new(alloc),
     };
-    classify(alloc, ids, &nothing, &one_shard())
+    classify(alloc, ids, nothing, &one_shard())
 }
 
 // The report's lines of what a store keeps, where no topology is kept those of nothing.
 fn kept_lines(
     alloc: Global,
     ids: &[EventId],
-    kept: &KeptStore,
+    kept: KeptStore,
 ) -> Result<Vec<ReportLine>, AllocError>
-    ensures some { IfOk result (λ lines. (t : KeptTopology) → kept.now.topology ≡ Some t → (clicks : List Click) → map (λ (c : Click). c.id) clicks ≡ ids.now → lines.items ≡ map (λ (c : Click). line_of kept.now.journals t.table c.id) (distinct clicks)) }
-    ensures none { IfOk result (λ lines. kept.now.topology ≡ None → (clicks : List Click) → map (λ (c : Click). c.id) clicks ≡ ids.now → lines.items ≡ map (λ (c : Click). U c.id) (distinct clicks)) }
+    ensures some { IfOk result (λ lines. (t : KeptTopology) → kept.topology ≡ Some t → (clicks : List Click) → map (λ (c : Click). c.id) clicks ≡ ids.now → lines.items ≡ map (λ (c : Click). line_of kept.journals t.table c.id) (distinct clicks)) }
+    ensures none { IfOk result (λ lines. kept.topology ≡ None → (clicks : List Click) → map (λ (c : Click). c.id) clicks ≡ ids.now → lines.items ≡ map (λ (c : Click). U c.id) (distinct clicks)) }
 {
-    match &kept.topology {
-        Some(topology) => classify(alloc, ids, &kept.journals, &topology.table),
+    let KeptStore { topology, journals } = kept;
+    match topology {
+        Some(topology) => classify(alloc, ids, journals, &topology.table),
         None => unmatched_lines(alloc, ids),
     }
 }
@@ -157,7 +158,7 @@ pub fn verify_store<F: Source, S: Store, K: Sink>(
         Ok(kept) => kept,
         Err(fault) => return Err(fault),
     };
-    let Ok(lines) = kept_lines(alloc, &checked.ids, &kept) else {
+    let Ok(lines) = kept_lines(alloc, &checked.ids, kept) else {
         return Err(RunFault::Memory);
     };
     match write_report(out, &lines) {

@@ -42,5 +42,5 @@ returns-in-Err-clause-ends g c disks logs s setting = on_fault s _ _ _ _ _ _ _ (
 pub returns-in-Ok-classify-clause-ends : goal.returns-in-Ok-classify-clause-ends
 returns-in-Ok-classify-clause-ends g c disks logs s setting = on_ok s _ _ _ _ _ _ _ (c.in-Ok.ensures.over disks logs s setting).ends _
 
-pub returns-clause-ends : goal.returns-clause-ends
-returns-clause-ends g c disks logs s setting = on_err s _ _ _ _ _ _ _ (c.in-Ok.ensures.over disks logs s setting).ends _ tt tt
+pub returns-in-Err-classify-clause-ends : goal.returns-in-Err-classify-clause-ends
+returns-in-Err-classify-clause-ends g c disks logs s setting = on_err s _ _ _ _ _ _ _ (c.in-Ok.ensures.over disks logs s setting).ends _ tt tt
