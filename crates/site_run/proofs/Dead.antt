@@ -1,5 +1,5 @@
 -- Which nodes may be dead.
-use Rattle.std.proofs.Common.{◌≡◌, ℕ, zero, suc, ◌+◌, ◌*◌, ◌<◌, ◌≤◌, Bool, true, false, not, ◌&&◌, ◌||◌, leb, ltb, List, [], ◌∷◌, replicate, take, refl, subst, sym, arith}
+use Rattle.std.proofs.Common.{◌≡◌, ℕ, zero, suc, ◌+◌, ◌*◌, ◌<◌, ◌≤◌, Bool, true, false, not, ◌&&◌, ◌||◌, leb, ltb, List, [], ◌∷◌, replicate, take, refl, subst, arith}
 use Rattle.site_run.proofs.Words.{leb-true, ltb-true, Kind, PlanView, kind_at, kinds_of, Setting, IsNode, node_number, Node, Dispatcher, Server, Replica, Joiner, DeadAreReplicas}
 use Rattle.lossy_link.specs.declared.plan.Kind.TheVariants as kind
 use Rattle.air_bus.specs.Waiting.{is_replica}

@@ -1,7 +1,7 @@
 -- From a store that was placed to the one before.
-use Rattle.std.specs.Prelude.{OnOk, Result, Ok, Err}
-use Rattle.std.proofs.Common.{◌≡◌, ℕ, List, Option, None}
-use Rattle.site_run.proofs.Words.{DiskName, Setting, Images, opened_same, StaysAs, RunFault, IsWelcome, IsCauseOf, Outcome, RunLog, RunsOver, IfErr-weaker}
+use Rattle.std.specs.Prelude.{Result, Err}
+use Rattle.std.proofs.Common.{ℕ, List, Option, None}
+use Rattle.site_run.proofs.Words.{DiskName, Setting, Images, opened_same, RunFault, IsWelcome, IsCauseOf, Outcome, RunLog, RunsOver, IfErr-weaker}
 use Rattle.site_run.proofs.Entered.{rest_earlier, run_earlier, sound_placed, welcome_where}
 use Rattle.site_run.proofs.Outing.{goes_on_through, goes_on_within}
 use Rattle.site_run.proofs.Refusing.{cause_within, ok_weaker, passed_within}
