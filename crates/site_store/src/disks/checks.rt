@@ -5,16 +5,12 @@ ghost use Rattle.site_store.specs.Records.{kept_all};
 ghost use Rattle.site_store.specs.Misfits.{IsFit, IsMisfit, is_full_note, limit_at, limit_in};
 
 use crate::disks::{AnyJournal, OpenDisk};
+use ballot_core::LAST_EPOCH;
 use outside::Disk;
 use paxos_acceptor::ReplicaNote;
 use run_fault::{Mismatch, RunFault};
 use topology_journal::{Topology, TopologyJournal};
-
-/// The last epoch: no run can begin behind it.
-const LAST: u32 = u32::MAX - 1;
-
-/// The last round of a ballot, and the last slot of a shard.
-const LAST_PLACE: u64 = (1 << 48) - 1;
+use turn_defs::LAST_SLOT;
 
 /// Why the kept topology doesn't fit the asked one, if one is kept and doesn't.
 pub fn topology_misfit<D: Disk>(topology: &TopologyJournal<D>, asked: &Topology) -> Option<RunFault>
@@ -40,10 +36,10 @@ fn is_full(note: &ReplicaNote) -> bool
     ensures { result ≡ is_full_note note.now }
 {
     match note {
-        ReplicaNote::Promised { slot, ballot, .. } => *slot == LAST_PLACE
-            || ballot.round == LAST_PLACE,
-        ReplicaNote::Accepted { slot, ballot, .. } => *slot == LAST_PLACE
-            || ballot.round == LAST_PLACE,
+        ReplicaNote::Promised { slot, ballot, .. } => *slot == LAST_SLOT
+            || ballot.round == LAST_SLOT,
+        ReplicaNote::Accepted { slot, ballot, .. } => *slot == LAST_SLOT
+            || ballot.round == LAST_SLOT,
     }
 }
 
@@ -58,8 +54,11 @@ fn limit<D: Disk>(disk: &OpenDisk<D>) -> Option<RunFault>
     ensures { result ≡ limit_at disk.now.name disk.now.kept }
 {
     let (spent, value) = match &disk.journal {
-        AnyJournal::Epoch(journal) => (journal.value().epoch() == LAST, u64::from(LAST)),
-        AnyJournal::Votes(journal) => (are_full(journal.value().notes()), LAST_PLACE),
+        AnyJournal::Epoch(journal) => (
+            journal.value().epoch() == LAST_EPOCH,
+            u64::from(LAST_EPOCH),
+        ),
+        AnyJournal::Votes(journal) => (are_full(journal.value().notes()), LAST_SLOT),
         _ => (false, 0),
     };
     if !spent {
