@@ -28,9 +28,9 @@ def joined(case, joiners=1, clicks=20):
 
 
 def refused(directory, text):
-    """A join and a verification end with 6 and this text, and change no file."""
+    """A join, a verification and a `reshard` end with 6 and this text, and change no file."""
     before = directory.copy_files()
-    for words in (directory.join_words(), directory.verify_words()):
+    for words in (directory.join_words(), directory.verify_words(), directory.reshard_words((logs.LATEST, 1))):
         directory.case.expect(words, 6, f"photon: store: {text}")
     directory.case.check(directory.copy_files() == before, "a refused run has changed files")
 
@@ -54,7 +54,7 @@ def odd_disk(put):
             path = os.path.join(folder, name)
             os.rename(path, case.path("aside"))
             put(path)
-            for words in (directory.join_words(), directory.verify_words()):
+            for words in (directory.join_words(), directory.verify_words(), directory.reshard_words((logs.LATEST, 1))):
                 case.expect(words, 6, f"photon: store: {name}")
             (os.rmdir if os.path.isdir(path) and not os.path.islink(path) else os.remove)(path)
             os.rename(case.path("aside"), path)

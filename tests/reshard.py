@@ -12,7 +12,6 @@ import odd
 import runs
 import store as stores
 from adapters import without
-from case import Skipped
 from directory import Directory
 from power import Machine
 from texts import EXPIRED, JOIN, REPORT, VERIFY, one_line
@@ -20,13 +19,6 @@ from texts import EXPIRED, JOIN, REPORT, VERIFY, one_line
 ADD = ["reshard", "--state", "state", "--add"]
 ROW = ("topology", 1, ((0, 4),))
 PLACE, BALLOT = (3, 0), (1, 1, 0)
-
-
-def need(case):
-    """Skips a case where the program has no `reshard`."""
-    if fields.NEW_VERSION == 1:
-        raise Skipped("THIS PROGRAM HAS NO reshard")
-    return case
 
 
 def records_of(case, joiners=1):
@@ -54,7 +46,6 @@ BAD_ROWS = ["0", "5:", ":4", "5:0", "5:17", "5:256", "05:4", "5:04", "+5:4", " 5
 
 def bad_rows(case):
     """Words that are no row: 2, before the directory is made or opened. A row as such is read, as one that begins at 0."""
-    need(case)
     case.write("file", b"")
     for text in BAD_ROWS:
         case.check(model.read_row(text.encode()) is None, f"{text!r} is a row")
@@ -69,7 +60,7 @@ def bad_rows(case):
 
 def one_click(case):
     """The worked click: its id may not change its shard, its table may grow behind it, and the runs afterwards go by the table that is kept last."""
-    one_line(need(case))
+    one_line(case)
     expect(case, "2001:8", 11, "photon: reshard: no topology")
     case.expect(JOIN, 0, "", REPORT)
     for row, why in (("0:8", "start 0 0"), ("1:16", "id 10.0.0.2:9:2000"), ("2000:8", "id 10.0.0.2:9:2000")):
@@ -93,7 +84,7 @@ def one_click(case):
 
 def one_bound(case):
     """A bound forbids the starts below it, and not its own."""
-    one_line(need(case))
+    one_line(case)
     case.expect([*JOIN, "--horizon", "2001"], 0, "", EXPIRED)
     for row in ("1:8", "2000:8"):
         expect(case, row, 11, "photon: reshard: bound 2001")
@@ -104,7 +95,7 @@ def one_bound(case):
 
 def new_shards(case):
     """Clicks on both sides of a row go to its shards and to those before it; those that were joined before stay where they are."""
-    one_line(need(case))
+    one_line(case)
     case.expect(JOIN, 0, "", REPORT)
     expect(case, "3000:16", 0, "", b"0:4,3000:16\n")
     wanted, lines = ((10 << 24 | 1, 7, 1000), b"shoes"), []
@@ -120,7 +111,6 @@ def new_shards(case):
 
 def old_store(case):
     """A store whose topology was written in version 1: it is run, gets a row in version 2, and is run again."""
-    need(case)
     maker = logs.Maker(case.random, odd=False)
     directory = Directory(case, 2, ((0, 3), (5, 4)))
     records = {"topology": [("topology", 2, directory.rows, 1)]}
@@ -146,7 +136,6 @@ def accepted(bound, *events):
 
 def order(case):
     """Of several things that are wrong the first is told: a disk, a limit, no topology, four rows, the start, the bound, the id."""
-    need(case)
     late, later = (1, 1, 6001), (0, 0, 9000)
     rows = ((0, 4), (10, 2), (1000, 1), (9000, 1))
     put = {
@@ -172,7 +161,6 @@ def order(case):
 
 def undecided(case):
     """What one replica alone accepted counts: bounds and ids, in any place, at any ballot; what is only promised doesn't."""
-    need(case)
     high = ("accepted", (15, 9), (3, 2, 1), (4000, ()))
     rows = [({"replica-0": accepted(3001)}, "bound 3001"), ({"replica-2": [high]}, "bound 4000"), ({"replica-0": accepted(3000)}, None),
             ({"replica-1": accepted(0, (9, 9, 2999), (9, 9, 3000))}, "id 0.0.0.9:9:3000"), ({"replica-1": accepted(0, (9, 9, 2999))}, None),
@@ -186,7 +174,7 @@ def undecided(case):
 
 def invented(case):
     """Any records, also damaged ones: the row is taken or refused by the model, and only its own record comes to them."""
-    inventor = journals.Inventor(need(case))
+    inventor = journals.Inventor(case)
     inventor.bounds, inventor.rows = inventor.bounds[:case.random.choice([2, 2, 5, 6])], inventor.rows[:case.random.choice([1, 2, 3, 4])]
     records = inventor.records()
     chance = case.random.random()
@@ -227,7 +215,7 @@ def start_for(case, store, clicks):
 
 def outputs(case):
     """An output that takes nothing: 5, and the row is kept; a refused row and lost errors: the status alone."""
-    one_line(need(case))
+    one_line(case)
     case.expect(JOIN, 0, "", REPORT)
     with open("/dev/full", "wb") as full:
         case.expect([*ADD, "3000:8"], 5, "photon: write", stdout=full)
@@ -247,7 +235,7 @@ def outputs(case):
 
 def at_once(case):
     """Rows that are added at once: each is printed, refused, or finds the directory locked, and the table has those that were printed."""
-    one_line(need(case))
+    one_line(case)
     case.expect(JOIN, 0, "", REPORT)
     rows = [(3000 + case.random.randrange(3), case.random.randint(1, 16)) for _ in range(4)]
     ends = [case.end(child) for child in [case.start([*ADD, "{}:{}".format(*row)]) for row in rows]]
@@ -264,7 +252,7 @@ def at_once(case):
 
 def held(case):
     """While a join has the directory a `reshard` ends with 6 and changes nothing, and so does a join while a `reshard` has it."""
-    directory, _ = odd.new_logs(need(case))
+    directory, _ = odd.new_logs(case)
     for words, others in ((directory.join_words(), directory.reshard_words((logs.LATEST, 2))), (directory.reshard_words((logs.LATEST, 2)), directory.join_words())):
         Machine(case).plan("hold:20")
         child = case.start(words)
@@ -282,7 +270,7 @@ def held(case):
 
 def no_files(case):
     """No directory, or something else in place of a disk: 6 with the first one. Without a topology no joiner's disk is opened."""
-    one_line(need(case))
+    one_line(case)
     case.write("file", b"")
     for bad in ("nowhere/state", "file", "file/state", ""):
         case.expect(["reshard", "--state", bad, "--add", "5:8"], 6, "photon: store: directory")
@@ -346,7 +334,7 @@ def call_count(directory):
 def at_each_call(kind):
     """At each call of a `reshard` something of this kind happens; then it is called again, and the directory is joined."""
     def run(case):
-        maker = logs.Maker(need(case).random, odd=False)
+        maker = logs.Maker(case.random, odd=False)
         maker.add_queries(5)
         maker.add_clicks(8)
         machine, base = Machine(case), Directory(case, case.random.choice([1, 2]))
@@ -382,7 +370,7 @@ def at_each_call(kind):
 
 def calls(case):
     """A `reshard` makes the calls of an opening, and those of one append to the topology's disk; where a row is refused those of the opening alone."""
-    one_line(need(case))
+    one_line(case)
     machine = Machine(case)
     case.expect(JOIN, 0, "", REPORT)
     for row, status, text in (("2000:8", 11, "photon: reshard: id 10.0.0.2:9:2000"), ("2001:8", 0, "")):
@@ -401,7 +389,7 @@ def calls(case):
 
 def history(case):
     """Runs, tables that grow, and logs that do, with stops and losses of power between, over a directory of either version."""
-    maker = logs.Maker(need(case).random, odd=case.random.random() < 0.3)
+    maker = logs.Maker(case.random, odd=case.random.random() < 0.3)
     machine = Machine(case) if case.failing else None
     directory = Directory(case, case.random.choice([1, 1, 2]), logs.random_table(case.random, maker.base)[:2])
     if case.random.random() < 0.3:

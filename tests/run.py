@@ -13,7 +13,6 @@ import tempfile
 import traceback
 
 sys.dont_write_bytecode = True
-import fields
 import groups
 from case import Case, Failed, Skipped
 
@@ -124,13 +123,6 @@ def can_run(program):
     return ended.returncode == 2
 
 
-def new_version(program):
-    """The version of the topology's record that the program gives a new store: 1 of one that has no `reshard`."""
-    words = [program, "reshard", "--state", "nowhere", "--add", "none"]
-    ended = subprocess.run(words, stdin=subprocess.DEVNULL, capture_output=True, check=False)
-    return 2 if ended.stderr == b"photon: table: row 0\n" else 1
-
-
 def main():
     """Runs what the words ask for; 1 where something failed."""
     words = read_words()
@@ -145,7 +137,6 @@ def main():
     program = os.path.abspath(os.environ["PHOTON"])
     if not can_run(program):
         return 127
-    fields.NEW_VERSION = new_version(program)
     print(f"{program}, seeds {' '.join(map(str, seeds))}", flush=True)
     count = run_all(cases, program, words.jobs)
     print(f"{count['passed']} passed, {count['failed']} failed" + (f", {count['skipped']} SKIPPED" if count["skipped"] else ""))
