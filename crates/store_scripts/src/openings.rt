@@ -1,17 +1,17 @@
 // Whole stores: opened, refused, written and read.
 ghost use Rattle.std.specs.Prelude.{◌<◌};
 
-use crate::stores::{told_fault, told_journals};
+use crate::stores::{told_fault, told_journals, told_table};
 use mem_outside::{MemLog, MemStore};
 use outside::DiskName;
 use script_lines::{Stop, Words};
-use site_laws::stores::{empty_store, left, longer, opened, run, stays, topology_first};
+use site_laws::stores::{empty_store, left, longer, opened, row_added, run, stays, topology_first};
 use site_store::{
-    KeptStore, first_limit, give_back, open_disks, open_store, read_store, topology_misfit,
-    write_topology,
+    KeptStore, add_row, first_limit, give_back, open_disks, open_store, read_store,
+    topology_misfit, write_topology,
 };
 use std::alloc::Global;
-use time_shards::Table;
+use time_shards::{ShardRow, Table};
 use topology_journal::Topology;
 
 /// The laws on stores, at a store in memory.
@@ -20,6 +20,7 @@ pub fn laws() {
     opened::<MemStore>();
     stays::<MemStore>();
     topology_first::<MemStore>();
+    row_added::<MemStore>();
     longer::<MemStore>();
     run::<MemStore>();
     left::<MemStore>();
@@ -130,6 +131,15 @@ pub fn open(
             give_back(store, disks);
             Ok(format!(in alloc; "open")?)
         }
+        Err(fault) => told_fault(alloc, fault),
+    }
+}
+
+/// `add START:COUNT`: the table that the store keeps then, with this row behind its others.
+pub fn add(alloc: Global, store: &mut MemStore, words: &mut Words<'_>) -> Result<String, Stop> {
+    let row = ShardRow::read(words.word()?.as_bytes()).ok_or(Stop::Words)?;
+    match add_row(alloc, store, row) {
+        Ok(table) => told_table(alloc, &table),
         Err(fault) => told_fault(alloc, fault),
     }
 }

@@ -3,16 +3,18 @@ use crate::openings;
 use mem_outside::{MemSink, MemStore, Stop as PlannedStop};
 use outside::{Disk, DiskName, Store};
 use paxos_acceptor::ReplicaNote;
-use run_fault::{RunFault, tell};
+use run_fault::{RunFault, tell, write_table};
 use script_lines::disks::{disk_name, disk_of, fuse};
 use script_lines::texts::{told_note, told_pair};
 use script_lines::{Part, Stop, Words};
 use std::alloc::Global;
+use time_shards::Table;
 use turn_defs::PairRec;
 use verify_pass::Journals;
 
 /// `new STOP..` is an empty store, each stop a disk, a call and an image, as `topology:3=old`. `put DISK BYTES`, `bytes DISK`, `write
-/// DISK BYTES` at its begin, `faults`; and of the whole store, see `openings`, `counts`, `misfit`, `first record`, `open` and `read`.
+/// DISK BYTES` at its begin, `faults`; and of the whole store, see `openings`, `counts`, `misfit`, `record`, `open`, `add` and
+/// `read`.
 #[derive(Drop)]
 pub struct Stores {
     store: MemStore,
@@ -61,6 +63,7 @@ impl Part for Stores {
                 openings::laws();
                 Ok(format!(in alloc; "hold")?)
             }
+            "add" => openings::add(alloc, &mut self.store, words),
             "read" => openings::read(alloc, &mut self.store, text, words),
             _ => Err(Stop::Words),
         }
@@ -111,6 +114,16 @@ pub fn told_fault(alloc: Global, fault: RunFault) -> Result<String, Stop> {
         return Err(Stop::Memory);
     };
     let line = std::str::from_utf8(err.bytes()).map_err(|_| Stop::Words)?;
+    Ok(line.trim_end().to_string(alloc)?)
+}
+
+/// A table's text.
+pub fn told_table(alloc: Global, table: &Table) -> Result<String, Stop> {
+    let mut out = MemSink::new(alloc, 128, Vec::new(alloc))?;
+    let Ok(()) = write_table(&mut out, table) else {
+        return Err(Stop::Memory);
+    };
+    let line = std::str::from_utf8(out.bytes()).map_err(|_| Stop::Words)?;
     Ok(line.trim_end().to_string(alloc)?)
 }
 
