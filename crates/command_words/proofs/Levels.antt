@@ -1,4 +1,4 @@
--- The four commands, as a parse finds them.
+-- The five commands, as a parse finds them.
 use Rattle.std.proofs.Common.{◌≡◌, ◌∙◌, ◌&&◌, Bool, true, false, List, [], ◌∷◌, ◌++◌, append_assoc, arith, Option, Some, is_some, option_map, refl, sym, ap, ap₂, subst}
 use Rattle.std.specs.Prelude.{find, fold}
 use Rattle.std.specs.Option.{option_map_or}
@@ -6,7 +6,7 @@ use Rattle.clap.specs.Walk.{Held, Row, Walk, answers_to, nothing_held, stop_afte
 use Rattle.clap.specs.Simple.{Shape, built, built_leaf, entered, inherited, label_of, marked_built, names_of, rows_at, subcommand_of, with_leaf_noted}
 use Rattle.clap.specs.Takes.{entered_passes, level_passes, settle_passes, takes, turn_passes, walk_passes}
 use Rattle.std.proofs.lemmas.List.{append-nil}
-use Rattle.command_words.specs.Words.{Command, Pairs, Text, IsPlain, bulk, drill, join, name_of, options_of, pair_words, verify}
+use Rattle.command_words.specs.Words.{Command, Pairs, Text, IsPlain, bulk, drill, join, name_of, options_of, pair_words, reshard, verify}
 use Rattle.command_words.specs.Clap.{photon_app, shape_of_command}
 use Rattle.command_words.proofs.Walks.{IsReady, Takes, level_takes, pair_rows}
 
@@ -19,6 +19,7 @@ sub_found join = refl
 sub_found drill = refl
 sub_found verify = refl
 sub_found bulk = refl
+sub_found reshard = refl
 
 pub ready : (c : Command) → IsReady (sub c) (options_of c)
 ready join =
@@ -69,6 +70,18 @@ ready bulk =
       no_sub = refl;
       negates = refl;
     }
+ready reshard =
+    record {
+      rules = refl;
+      known = (record { long = refl; not_end = refl; by_long = refl; by_id = refl; fits = tt }, (record { long = refl; not_end = refl; by_long = refl; by_id = refl; fits = tt }, tt));
+      free = refl;
+      defaults = refl;
+      none = (refl, (refl, (refl, tt)));
+      once = refl;
+      no_help = refl;
+      no_sub = refl;
+      negates = refl;
+    }
 
 -- ---- the words before the options
 
@@ -85,12 +98,14 @@ name_enters join = refl
 name_enters drill = refl
 name_enters verify = refl
 name_enters bulk = refl
+name_enters reshard = refl
 
 name_passes : (c : Command) → turn_passes (built photon_app).top (names_of (built photon_app)) (walk_from nothing_held) (name_of c) ≡ true
 name_passes join = refl
 name_passes drill = refl
 name_passes verify = refl
 name_passes bulk = refl
+name_passes reshard = refl
 
 rest_goes : (name : Text) (before rest : List Text) → fold top_walked (entered_at name before) rest ≡ entered_at name (before ++ rest)
 unfolding walked

@@ -15,7 +15,7 @@ use Rattle.clap.specs.Takes.{is_given}
 use Rattle.clap.specs.Faults.{built_fault, check_fault, entered_fault, fault_of, level_fault, walk_fault}
 use Rattle.clap.specs.declared.builder.value_parser.ValueParser.TheVariants as vp
 use Rattle.clap.proofs.ValueTestLemmas.{accepts-Accepts}
-use Rattle.command_words.specs.Words.{AreInRanges, AreValues, AskFor, Command, HasAll, HasNodes, HasRun, IsFound, IsInRanges, Opt, Text, Values, Wish, a_bulk_run, a_drill, a_join, a_verification, batch, bulk, command_of, drill, horizon, join, joiners, name_of, number, number_of, number_or, options_of, shards, some_text, text_or, verify}
+use Rattle.command_words.specs.Words.{AreInRanges, AreValues, AskFor, Command, HasAll, HasNodes, HasRun, IsFound, IsInRanges, Opt, Text, Values, Wish, a_bulk_run, a_drill, a_join, a_resharding, a_verification, batch, bulk, command_of, drill, horizon, join, joiners, name_of, number, number_of, number_or, options_of, reshard, shards, some_text, text_or, verify}
 use Rattle.command_words.specs.Clap.{number_in, photon_app, text_in}
 use Rattle.command_words.proofs.Walks.{AllKnown, Known, full_rule, reads_as_written}
 use Rattle.command_words.proofs.Levels.{ready, sub}
@@ -38,27 +38,30 @@ owns join = (record { by_id = refl; action = inl (refl, refl, omega arith) }, (r
 owns drill = (record { by_id = refl; action = inl (refl, refl, omega arith) }, (record { by_id = refl; action = inl (refl, refl, omega arith) }, (record { by_id = refl; action = inl (refl, refl, omega arith) }, (record { by_id = refl; action = inl (refl, refl, omega arith) }, (record { by_id = refl; action = inl (refl, refl, omega arith) }, (record { by_id = refl; action = inl (refl, refl, omega arith) }, (record { by_id = refl; action = inl (refl, refl, omega arith) }, (record { by_id = refl; action = inr refl }, tt))))))))
 owns verify = (record { by_id = refl; action = inl (refl, refl, omega arith) }, (record { by_id = refl; action = inl (refl, refl, omega arith) }, (record { by_id = refl; action = inr refl }, tt)))
 owns bulk = (record { by_id = refl; action = inl (refl, refl, omega arith) }, (record { by_id = refl; action = inl (refl, refl, omega arith) }, (record { by_id = refl; action = inl (refl, refl, omega arith) }, (record { by_id = refl; action = inl (refl, refl, omega arith) }, (record { by_id = refl; action = inl (refl, refl, omega arith) }, (record { by_id = refl; action = inr refl }, tt))))))
+owns reshard = (record { by_id = refl; action = inl (refl, refl, omega arith) }, (record { by_id = refl; action = inl (refl, refl, omega arith) }, (record { by_id = refl; action = inr refl }, tt)))
 
 no_place : (c : Command) (i : ℕ) → arg_by_index (sub c).rules i ≡ None
 no_place join i = refl
 no_place drill i = refl
 no_place verify i = refl
 no_place bulk i = refl
+no_place reshard i = refl
 
 sub_holds : (c : Command) (words : List Text) → level_fault (sub c) [] nothing_held words false [] ≡ [] → Holds (sub c) words
 sub_holds c words e = level_holds (sub c) (λ p a f. find_own (sub c).rules (sub c).rules p a (owns c) f) (ready c).once (no_place c) words (ready c).negates (ready c).none e
 
 -- ---- which command was taken
 
-which : (p : Shape → Bool) (s : Shape) → find p (sub join ∷ sub drill ∷ sub verify ∷ sub bulk ∷ []) ≡ Some s → (c : Command) × (s ≡ sub c)
-which p s e = go (p (sub join)) (p (sub drill)) (p (sub verify)) (p (sub bulk)) e
+which : (p : Shape → Bool) (s : Shape) → find p (sub join ∷ sub drill ∷ sub verify ∷ sub bulk ∷ sub reshard ∷ []) ≡ Some s → (c : Command) × (s ≡ sub c)
+which p s e = go (p (sub join)) (p (sub drill)) (p (sub verify)) (p (sub bulk)) (p (sub reshard)) e
   where
-    go : (a b d f : Bool) → cond a (Some (sub join)) (cond b (Some (sub drill)) (cond d (Some (sub verify)) (cond f (Some (sub bulk)) None))) ≡ Some s → (c : Command) × (s ≡ sub c)
-    go true b d f e = let same : s ≡ sub join = cc in (join, same)
-    go false true d f e = let same : s ≡ sub drill = cc in (drill, same)
-    go false false true f e = let same : s ≡ sub verify = cc in (verify, same)
-    go false false false true e = let same : s ≡ sub bulk = cc in (bulk, same)
-    go false false false false e = cc
+    go : (a b d f h : Bool) → cond a (Some (sub join)) (cond b (Some (sub drill)) (cond d (Some (sub verify)) (cond f (Some (sub bulk)) (cond h (Some (sub reshard)) None)))) ≡ Some s → (c : Command) × (s ≡ sub c)
+    go true b d f h e = let same : s ≡ sub join = cc in (join, same)
+    go false true d f h e = let same : s ≡ sub drill = cc in (drill, same)
+    go false false true f h e = let same : s ≡ sub verify = cc in (verify, same)
+    go false false false true h e = let same : s ≡ sub bulk = cc in (bulk, same)
+    go false false false false true e = let same : s ≡ sub reshard = cc in (reshard, same)
+    go false false false false false e = cc
 
 pub record IsTaken (words : List Text) : Type 0 where
   pub command : Command
@@ -249,6 +252,10 @@ has_values bulk words h =
     let seed = there (number_in rows (codes "seed")) (IsUnsignedIn 0 18446744073709551615) (number_is_given (sub c).rules rows (codes "seed") h.good (n.0 refl)) (number_reads (sub c).rules rows (codes "seed") 0 18446744073709551615 true (k.0) h.good) in
     let clicks = there (number_in rows (codes "clicks")) (IsUnsignedIn 0 100000) (number_is_given (sub c).rules rows (codes "clicks") h.good (n.1.0 refl)) (number_reads (sub c).rules rows (codes "clicks") 0 100000 true (k.1.0) h.good) in
     (seed, clicks, has_nodes (sub c).rules rows h.good k.1.1)
+has_values reshard words h =
+    let rows = rows_after (sub reshard).rules [] words in
+    let n = needs reshard words h in
+    (text_is_given (sub reshard).rules rows (codes "state") h.good (n.0 refl), text_is_given (sub reshard).rules rows (codes "add") h.good (n.1.0 refl))
 
 number_within : (low high or : ℕ) (o : Option Text) → low ≤ or → or ≤ high → IfSome o (IsUnsignedIn low high) → (low ≤ number_or or o) × (number_or or o ≤ high)
 number_within low high or None least most h = (least, most)
@@ -267,13 +274,14 @@ needed_within low high n (Some t) is h =
 -- a name has one command: its first letter tells
 abbrev by_letter : Text → Command
 by_letter [] = join
-by_letter (x ∷ xs) = cond (x == 106) join (cond (x == 100) drill (cond (x == 118) verify bulk))
+by_letter (x ∷ xs) = cond (x == 106) join (cond (x == 100) drill (cond (x == 118) verify (cond (x == 114) reshard bulk)))
 
 letter_tells : (c : Command) → by_letter (name_of c) ≡ c
 letter_tells join = refl
 letter_tells drill = refl
 letter_tells verify = refl
 letter_tells bulk = refl
+letter_tells reshard = refl
 
 nodes_within : (joiners batch : ℕ) (shards : Text) (text_at number_at : Text → Option Text) → joiners ≡ number_or 1 (number_at (codes "joiners")) → shards ≡ text_or (codes "0:4") (text_at (codes "shards"))
     → batch ≡ number_or 64 (number_at (codes "batch")) → HasNodes text_at number_at → (0 < joiners) × (joiners ≤ 4) × (0 < length shards) × (0 < batch) × (batch ≤ 64)
@@ -292,6 +300,7 @@ own_within : (w : Wish) (text_at number_at : Text → Option Text) → AskFor w 
 own_within (a_join v state) text_at number_at is h = run_within v text_at number_at is.0 h.0
 own_within (a_drill v plan) text_at number_at is h = run_within v text_at number_at is.0 h.0
 own_within (a_verification clicks state) text_at number_at is h = tt
+own_within (a_resharding state row) text_at number_at is h = tt
 own_within (a_bulk_run v) text_at number_at is h =
     let c = needed_within 0 100000 v.count (number_at (codes "clicks")) is.count h.1 in
     let n = nodes_within v.joiners v.batch v.shards text_at number_at is.joiners is.shards is.batch h.2 in

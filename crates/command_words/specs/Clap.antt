@@ -4,7 +4,7 @@ use Rattle.clap.specs.Walk.{Row, Rule, first_of, one_of}
 use Rattle.clap.specs.Simple.{App, Shape, new_rule, new_shape, with_subcommand}
 use Rattle.clap.specs.declared.builder.value_parser.ValueParser.{ValueParser}
 use Rattle.clap.specs.declared.builder.value_parser.ValueParser.TheVariants as vp
-use Rattle.command_words.specs.Words.{Command, Form, Opt, Text, bulk, drill, join, name_of, number, options_of, some_text, text, verify}
+use Rattle.command_words.specs.Words.{Command, Form, Opt, Text, bulk, drill, join, name_of, number, options_of, reshard, some_text, text, verify}
 
 abbrev pub parser_of : Form → Option ValueParser
 parser_of (number low high) = Some (vp.Unsigned low high)
@@ -23,8 +23,8 @@ top_shape = record (new_shape (codes "photon")) { subcommand_required = true; di
 
 abbrev pub photon_app : App
 photon_app =
-    with_subcommand (with_subcommand (with_subcommand (with_subcommand (record { top = top_shape; subs = [] })
-    (shape_of_command join)) (shape_of_command drill)) (shape_of_command verify)) (shape_of_command bulk)
+    with_subcommand (with_subcommand (with_subcommand (with_subcommand (with_subcommand (record { top = top_shape; subs = [] })
+    (shape_of_command join)) (shape_of_command drill)) (shape_of_command verify)) (shape_of_command bulk)) (shape_of_command reshard)
 
 -- the values that a parse found, as texts, and as the texts that numbers are read from
 abbrev pub text_in : List Row → Text → Option Text

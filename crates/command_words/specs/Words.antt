@@ -14,7 +14,7 @@ use Rattle.command_words.specs.declared.asked.WordsFault.TheVariants.{Memory, Re
 use Rattle.command_words.specs.declared.asked.RunOptions.{RunOptions}
 use Rattle.command_words.specs.declared.asked.BulkOptions.{BulkOptions}
 use Rattle.command_words.specs.declared.asked.Asked.{Asked}
-use Rattle.command_words.specs.declared.asked.Asked.TheVariants.{Join, Drill, Verify, Bulk}
+use Rattle.command_words.specs.declared.asked.Asked.TheVariants.{Join, Drill, Verify, Bulk, Reshard}
 
 abbrev pub Text : Type 0
 Text = List ℕ
@@ -67,23 +67,29 @@ verify_options = must (codes "clicks") text ∷ must (codes "state") text ∷ []
 abbrev pub bulk_options : List Opt
 bulk_options = must (codes "seed") (number 0 18446744073709551615) ∷ must (codes "clicks") (number 0 100000) ∷ joiners ∷ shards ∷ batch ∷ []
 
+abbrev pub reshard_options : List Opt
+reshard_options = must (codes "state") text ∷ must (codes "add") text ∷ []
+
 pub data Command : Type 0 where
   join : Command
   drill : Command
   verify : Command
   bulk : Command
+  reshard : Command
 
 abbrev pub name_of : Command → Text
 name_of join = codes "join"
 name_of drill = codes "drill"
 name_of verify = codes "verify"
 name_of bulk = codes "bulk"
+name_of reshard = codes "reshard"
 
 abbrev pub options_of : Command → List Opt
 options_of join = join_options
 options_of drill = drill_options
 options_of verify = verify_options
 options_of bulk = bulk_options
+options_of reshard = reshard_options
 
 -- ---- plain words
 
@@ -160,18 +166,20 @@ pub record BulkValues : Type 0 where
   pub batch : ℕ
 
 -- what the words of a command ask for: a join of these values over the state's directory, a drill with the plan of a file, a
--- verification of a click log over the state's directory, a bulk run
+-- verification of a click log over the state's directory, a bulk run, a row more for the table that the state's directory keeps
 pub data Wish : Type 0 where
   a_join : (v : Values) (state : Text) → Wish
   a_drill : (v : Values) (plan : Text) → Wish
   a_verification : (clicks state : Text) → Wish
   a_bulk_run : (v : BulkValues) → Wish
+  a_resharding : (state row : Text) → Wish
 
 abbrev pub command_of : Wish → Command
 command_of (a_join v state) = join
 command_of (a_drill v plan) = drill
 command_of (a_verification clicks state) = verify
 command_of (a_bulk_run v) = bulk
+command_of (a_resharding state row) = reshard
 
 abbrev pub values_in : RunOptions → Values
 values_in o = record { queries = o.queries.now; clicks = o.clicks.now; horizon = o.horizon; joiners = o.joiners; shards = o.shards.now; batch = o.batch }
@@ -185,6 +193,7 @@ wish_of (Join run state) = a_join (values_in run) state.now
 wish_of (Drill run plan) = a_drill (values_in run) plan.now
 wish_of (Verify clicks state) = a_verification clicks.now state.now
 wish_of (Bulk run) = a_bulk_run (bulk_values run)
+wish_of (Reshard state add) = a_resharding state.now add.now
 
 -- the values that an option has as a text and as a number are these
 pub record AreValues (v : Values) (text_at number_at : Text → Option Text) : Type 0 where
@@ -208,6 +217,7 @@ AskFor (a_join v state) text_at number_at = AreValues v text_at number_at × (te
 AskFor (a_drill v plan) text_at number_at = AreValues v text_at number_at × (text_at (codes "plan") ≡ Some plan)
 AskFor (a_verification clicks state) text_at number_at = (text_at (codes "clicks") ≡ Some clicks) × (text_at (codes "state") ≡ Some state)
 AskFor (a_bulk_run v) text_at number_at = AreBulkValues v text_at number_at
+AskFor (a_resharding state row) text_at number_at = (text_at (codes "state") ≡ Some state) × (text_at (codes "add") ≡ Some row)
 
 -- the command of that name, with these options, asks for this
 abbrev pub IsFound : Wish → Text → (text_at number_at : Text → Option Text) → Type 0
@@ -234,6 +244,7 @@ IsInRanges (a_join v state) = AreInRanges v
 IsInRanges (a_drill v plan) = AreInRanges v
 IsInRanges (a_verification clicks state) = ⊤
 IsInRanges (a_bulk_run v) = AreBulkRanges v
+IsInRanges (a_resharding state row) = ⊤
 
 -- a number that may be read: digits, which may have a plus before them, within the range
 abbrev pub IsReadable : ℕ → ℕ → Text → Type 0
@@ -253,6 +264,7 @@ HasAll join text_at number_at = HasRun text_at number_at × IsSome (text_at (cod
 HasAll drill text_at number_at = HasRun text_at number_at × IsSome (text_at (codes "plan"))
 HasAll verify text_at number_at = IsSome (text_at (codes "clicks")) × IsSome (text_at (codes "state"))
 HasAll bulk text_at number_at = IsSomeAnd (number_at (codes "seed")) (IsReadable 0 18446744073709551615) × IsSomeAnd (number_at (codes "clicks")) (IsReadable 0 100000) × HasNodes text_at number_at
+HasAll reshard text_at number_at = IsSome (text_at (codes "state")) × IsSome (text_at (codes "add"))
 
 -- memory ran out, or the error has one of the kinds
 abbrev pub IsRefusedBy : Kinds → WordsFault → Type 0

@@ -38,6 +38,8 @@ pub enum Asked<'a> {
     Verify { clicks: &'a str, state: &'a str },
     /// Join logs that the program makes.
     Bulk { run: BulkOptions<'a> },
+    /// Put a row behind the table that the directory of that name keeps. The row's text isn't read here.
+    Reshard { state: &'a str, add: &'a str },
 }
 
 /// Why the words were not read.

@@ -4,7 +4,7 @@ ghost use Rattle.clap.specs.Walk.{rule_of};
 ghost use Rattle.clap.specs.Simple.{app_of, shape_of, with_rule};
 ghost use Rattle.clap.specs.declared.builder.command.Command.TheViews.{out-Command as fields_of};
 ghost use Rattle.clap.specs.declared.builder.value_parser.ValueParser.TheVariants as vp;
-ghost use Rattle.command_words.specs.Words.{join, drill, verify, bulk, joiners, shards, batch, number, some_text, text, must, may};
+ghost use Rattle.command_words.specs.Words.{join, drill, verify, bulk, reshard, joiners, shards, batch, number, some_text, text, must, may};
 ghost use Rattle.command_words.specs.Clap.{rule_of_option, shape_of_command, photon_app};
 
 use clap::builder::ValueParser;
@@ -105,6 +105,15 @@ fn bulk<'a>(alloc: Global) -> Result<Command<'a>, AllocError>
     with_nodes(alloc, command)
 }
 
+fn reshard<'a>(alloc: Global) -> Result<Command<'a>, AllocError>
+    ensures shape { IfOk result (λ c. shape_of c ≡ shape_of_command reshard) }
+    ensures own { IfOk result (λ c. (fields_of c).has_globals ≡ false) }
+{
+    Command::new(alloc, "reshard")
+        .arg(required(alloc, "state"))?
+        .arg(required(alloc, "add"))
+}
+
 /// The whole command line.
 pub(crate) fn photon<'a>(alloc: Global) -> Result<Command<'a>, AllocError>
     ensures { IfOk result (λ c. app_of c ≡ photon_app) }
@@ -115,5 +124,6 @@ pub(crate) fn photon<'a>(alloc: Global) -> Result<Command<'a>, AllocError>
         .subcommand(join(alloc)?)?
         .subcommand(drill(alloc)?)?
         .subcommand(verify(alloc)?)?
-        .subcommand(bulk(alloc)?)
+        .subcommand(bulk(alloc)?)?
+        .subcommand(reshard(alloc)?)
 }

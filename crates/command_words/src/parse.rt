@@ -4,7 +4,7 @@ ghost use Rattle.clap.specs.Matches.{found_of};
 ghost use Rattle.clap.specs.Walk.{Row, rows_of};
 ghost use Rattle.clap.specs.Simple.{subcommand_of, subcommand_rows_of};
 ghost use Rattle.clap.specs.Faults.{fault_of};
-ghost use Rattle.command_words.specs.Words.{AreValues, Command, Pairs, IsPlain, IsFaultOf, IsFound, IsRefusedBy, name_of, given, HasAll, HasRun, IsInRanges, join, drill, verify, bulk, IsReadable, number_of, number_or, text_or, texts, values_in, wish_of};
+ghost use Rattle.command_words.specs.Words.{AreValues, Command, Pairs, IsPlain, IsFaultOf, IsFound, IsRefusedBy, name_of, given, HasAll, HasRun, IsInRanges, join, drill, verify, bulk, reshard, IsReadable, number_of, number_or, text_or, texts, values_in, wish_of};
 ghost use Rattle.command_words.specs.Clap.{photon_app, text_in, number_in};
 ghost use Rattle.command_words.specs.declared.asked.WordsFault.TheVariants.{Memory, Refused};
 
@@ -155,6 +155,15 @@ fn bulk<'a>(found: &ArgMatches<'a>) -> Option<Asked<'a>>
     Some(Asked::Bulk { run })
 }
 
+fn reshard<'a>(found: &ArgMatches<'a>) -> Option<Asked<'a>>
+    ensures value { IfSome result (λ a. IsFound (wish_of a) (codes "reshard") (text_in (rows_of (found_of found.now))) (number_in (rows_of (found_of found.now)))) }
+    ensures reads { HasAll reshard (text_in (rows_of (found_of found.now))) (number_in (rows_of (found_of found.now))) → IsSome result }
+{
+    let state = text(found, "state")?;
+    let add = text(found, "add")?;
+    Some(Asked::Reshard { state, add })
+}
+
 /// The command that the parse found.
 fn asked_of<'a>(matches: &ArgMatches<'a>) -> Option<Asked<'a>>
     ensures value { IfSome result (λ a. IsSomeAnd (subcommand_rows_of matches.now) (λ p. IsFound (wish_of a) p.0 (text_in p.1) (number_in p.1))) }
@@ -166,6 +175,7 @@ fn asked_of<'a>(matches: &ArgMatches<'a>) -> Option<Asked<'a>>
         "drill" => drill(found),
         "verify" => verify(found),
         "bulk" => bulk(found),
+        "reshard" => reshard(found),
         _ => None,
     }
 }
