@@ -1,5 +1,5 @@
 -- What a command answers, by what came of it.
-use Rattle.std.proofs.Common.{◌≡◌, ◌⊎◌, inl, inr, ⊎_elim, ℕ, ◌≤◌, List, Bool, IsTrue, refl, sym, ap, ◌∙◌, arith}
+use Rattle.std.proofs.Common.{◌≡◌, ◌≢◌, ◌⊎◌, inl, inr, ⊎_elim, ℕ, ◌≤◌, List, Bool, IsTrue, refl, sym, ap, ◌∙◌, arith}
 use Rattle.photon_cli.proofs.Words.{Counts, IsAnswered, IsFailedRead, RunFault, WordsFault, status_of, words_status}
 use Rattle.run_fault.specs.declared.fault.RunFault.TheVariants as fault
 use Rattle.command_words.specs.declared.asked.WordsFault.TheVariants as words_fault
@@ -28,6 +28,16 @@ module _ (sinks : Bool) (files_old files_new out_old out_new : ℕ) (old new : L
     write = record { later = write.later; rose = λ five. write.rose (told (write_of f (sym is ∙ five))) };
     quiet = λ tells zero one five. ⊎_elim (λ of. absurd (five (is ∙ ap status_of of))) (λ same. same) (quiet tells);
   }
+
+-- of a command that reads no file
+pub answered : (sinks : Bool) (out_old out_new : ℕ) (old new : List ℕ) (status : ℕ) (f : RunFault) (failed : Type 0) → status ≡ status_of f → status ≢ 4 → (f ≡ fault.Write → failed) → Counts out_old out_new failed → (IsTrue sinks → (f ≡ fault.Write) ⊎ (new ≡ old))
+    → IsAnswered sinks 0 0 out_old out_new old new status
+answered sinks out_old out_new old new status f failed is other told write quiet = record {
+  statuses = inr (inr (f, is));
+  read = record { later = omega arith; rose = λ four. absurd (other four) };
+  write = record { later = write.later; rose = λ five. write.rose (told (write_of f (sym is ∙ five))) };
+  quiet = λ tells zero one five. ⊎_elim (λ of. absurd (five (is ∙ ap status_of of))) (λ same. same) (quiet tells);
+}
 
 -- words that aren't read
 pub unread : (sinks : Bool) (files out : ℕ) (held : List ℕ) (status : ℕ) (f : WordsFault) → status ≡ words_status f → IsAnswered sinks files files out out held held status

@@ -1,12 +1,12 @@
 -- What call after call keeps of a store.
-use Rattle.std.proofs.Common.{List, [], ◌∷◌, inl, inr, subst}
+use Rattle.std.proofs.Common.{List, [], ◌∷◌, inl, inr, ⊎_elim, sym, subst}
 use Rattle.photon_cli.proofs.Words.{DiskName, GoesOn, Setting, Checked, AfterEveryRun, IsOutputOnce, ReadIsChecked, HoldSameRecords, LongerStaysSound, SameIsSound, Images, IsSoundStore, goes_on_through, goes_on_within, AreCalls, AreOutputOnce, Call, IsLater, setting_after, store_after}
 
 module _ {S : Type 0} (image : S → Images) where
   -- the store stays sound from call to call
   pub sound_after : ((s : S) → LongerStaysSound (image s)) → (g : Setting) (s : S) (calls : List (Call S)) → IsSoundStore g (image s) → AreCalls image g s calls → IsSoundStore (setting_after image g calls) (image (store_after image s calls))
   sound_after longer g s [] sound are = sound
-  sound_after longer g s (c ∷ cs) sound are = sound_after longer c.setting c.left cs (are.1.sound (later are.0)) are.2
+  sound_after longer g s (c ∷ cs) sound are = sound_after longer c.setting c.left cs (⊎_elim (λ more. more.1.sound (later more.0)) (λ row. row.1.sound sound) are.0) are.1
     where
       later : IsLater g c.setting → IsSoundStore c.setting (image s)
       later (inl same) = subst (λ h. IsSoundStore h (image s)) same sound
@@ -15,7 +15,8 @@ module _ {S : Type 0} (image : S → Images) where
   -- and its logs checked
   pub checked_after : ReadIsChecked → (g : Setting) (s : S) (calls : List (Call S)) → Checked g → AreCalls image g s calls → Checked (setting_after image g calls)
   checked_after checks g s [] checked are = checked
-  checked_after checks g s (c ∷ cs) checked are = checked_after checks c.setting c.left cs (later are.0) are.2
+  checked_after checks g s (c ∷ cs) checked are =
+      checked_after checks c.setting c.left cs (⊎_elim (λ more. later more.0) (λ row. subst Checked (sym row.0.1) (record { follow = checked.follow; no_conflict = checked.no_conflict })) are.0) are.1
     where
       later : IsLater g c.setting → Checked c.setting
       later (inl same) = subst Checked same checked
@@ -23,7 +24,7 @@ module _ {S : Type 0} (image : S → Images) where
 
   pub grown_after : (g : Setting) (s : S) (calls : List (Call S)) → AreCalls image g s calls → (disk : DiskName) → GoesOn (image s disk) (image (store_after image s calls) disk)
   grown_after g s [] are disk = goes_on_within _ _ (λ c here. here)
-  grown_after g s (c ∷ cs) are disk = goes_on_through _ _ _ (are.1.grown disk) (grown_after c.setting c.left cs are.2 disk)
+  grown_after g s (c ∷ cs) are disk = goes_on_through _ _ _ (⊎_elim (λ more. more.1.grown disk) (λ row. row.1.grown disk) are.0) (grown_after c.setting c.left cs are.1 disk)
 
 -- a sound store outputs each click once
 pub output_once : (g : Setting) (image : Images) → HoldSameRecords → SameIsSound → AfterEveryRun IsOutputOnce → Checked g → IsSoundStore g image → AreOutputOnce g image

@@ -1,7 +1,7 @@
 -- What the status of a fault says of it, and what a fault is named by where it is known when it was told.
 use Rattle.std.proofs.Common.{◌⊎◌, inl, inr, ⊎_elim, ◌≡◌, ◌≢◌, ◌==◌, Bool, true, false, ℕ, List, Option, refl, sym, ap, subst, ◌∙◌, arith}
 use Rattle.std.specs.Prelude.{⊤}
-use Rattle.photon_cli.proofs.Words.{IsSomeAnd, none_bad, DiskName, Why, RefusesClick, Field, BulkValues, Text, Values, LogName, Queries, Clicks, StorePlace, Mismatch, RunFault, IsWelcome, Refuses, status_of, IsBadIn, IsBeforeLogs, IsEarly, IsFailedRead, IsLogFault, IsOfBulk, IsOfJoin, IsOfLogs, IsOfPlanOrLogs, IsOfRun, IsOfVerify, IsPast, IsPlanFault, failed_read, HasTable, IsNamed, IsNamedInBulk, IsNamedInDrill, IsNamedInVerify}
+use Rattle.photon_cli.proofs.Words.{IsSomeAnd, none_bad, DiskName, Why, RefusesClick, Field, BulkValues, Text, Values, LogName, Queries, Clicks, StorePlace, Mismatch, RunFault, Unfit, IsWelcome, Refuses, status_of, IsBadIn, IsBeforeLogs, IsEarly, IsFailedRead, IsLogFault, IsOfBulk, IsOfJoin, IsOfLogs, IsOfPlanOrLogs, IsOfRun, IsOfVerify, IsPast, IsPlanFault, failed_read, HasTable, IsNamed, IsNamedInBulk, IsNamedInDrill, IsNamedInVerify}
 use Rattle.time_shards.specs.Text.{IsFirstBad}
 use Rattle.run_fault.specs.declared.fault.Mismatch.TheVariants as mismatch
 use Rattle.run_fault.specs.declared.fault.RunFault.TheVariants as fault
@@ -23,7 +23,8 @@ Of n f =
     (choose (n == 7) ((disk : DiskName) × (at : ℕ) × (f ≡ (fault.Damaged disk at)))
     (choose (n == 9) ((what : Mismatch) × (f ≡ (fault.Topology what)))
     (choose (n == 10) ((disk : DiskName) × (value : ℕ) × (f ≡ (fault.Limit disk value)))
-    ((n ≡ 8) × (f ≡ fault.Memory)))))))))
+    (choose (n == 11) ((u : Unfit) × (f ≡ fault.Reshard u))
+    ((n ≡ 8) × (f ≡ fault.Memory))))))))))
 
 means : (f : RunFault) → Of (status_of f) f
 means (fault.Table n) = inl (n, refl)
@@ -35,6 +36,7 @@ means (fault.Store place) = (place, refl)
 means (fault.Damaged disk at) = (disk, at, refl)
 means (fault.Topology what) = (what, refl)
 means (fault.Limit disk value) = (disk, value, refl)
+means (fault.Reshard u) = (u, refl)
 means fault.Write = refl
 means fault.Memory = (refl, refl)
 
@@ -63,6 +65,12 @@ write_of f e = fault_of f 5 e
 pub place_of : (f : RunFault) → status_of f ≡ 6 → (place : StorePlace) × (f ≡ (fault.Store place))
 place_of f e = fault_of f 6 e
 
+pub damaged_of : (f : RunFault) → status_of f ≡ 7 → (disk : DiskName) × (at : ℕ) × (f ≡ (fault.Damaged disk at))
+damaged_of f e = fault_of f 7 e
+
+pub mismatch_of : (f : RunFault) → status_of f ≡ 9 → (what : Mismatch) × (f ≡ (fault.Topology what))
+mismatch_of f e = fault_of f 9 e
+
 -- ---- what is told of a store
 
 unwelcome : (what : Mismatch) (holds : Type 0) → holds → IsWelcome holds (fault.Topology what) → ⊥
@@ -71,8 +79,8 @@ unwelcome _ holds x h = h
 
 pub fair_status : (f : RunFault) (holds : Type 0) → holds → IsWelcome holds f → (status_of f ≢ 7) × (status_of f ≢ 9)
 fair_status f holds x h = (
-  λ seven. let told = fault_of f 7 seven in subst (IsWelcome holds) told.2 h x,
-  λ nine. let told = fault_of f 9 nine in unwelcome told.0 holds x (subst (IsWelcome holds) told.1 h),
+  λ seven. let told = damaged_of f seven in subst (IsWelcome holds) told.2 h x,
+  λ nine. let told = mismatch_of f nine in unwelcome told.0 holds x (subst (IsWelcome holds) told.1 h),
 )
 
 -- what is wrong with a log or a plan tells nothing of a store
@@ -142,6 +150,7 @@ join_row shards f known n is = row_of IsOfLogs shards f (λ m e (log, h). log_ro
 past_join : (f : RunFault) → IsPast f → IsOfJoin f
 past_join (fault.Plan place) h = h
 past_join fault.PlanRead h = h
+past_join (fault.Reshard u) h = h
 past_join _ h = tt
 
 pub join_own : (shards : Text) (f : RunFault) → IsKnown IsOfLogs shards f → IsOfJoin f
@@ -155,6 +164,7 @@ join_past (fault.Table n) own row line = row n refl
 join_past (fault.Plan place) own row line = own
 join_past (fault.Refused log n w) own row line = line log n w refl
 join_past fault.PlanRead own row line = own
+join_past (fault.Reshard u) own row line = own
 join_past _ own row line = tt
 
 pub join_two : (shards : Text) (f : RunFault) → IsKnown IsOfLogs shards f → status_of f ≡ 2 → (n : ℕ) × IsFirstBad shards n
@@ -173,6 +183,7 @@ named told v (fault.Table n) own row line = row n refl
 named told v (fault.Plan place) own row line = own
 named told v (fault.Refused log n w) own row line = line log n w refl
 named told v fault.PlanRead own row line = own
+named told v (fault.Reshard u) own row line = own
 named told v _ own row line = tt
 
 -- ---- of a drill
@@ -185,6 +196,15 @@ drill_row shards f known n is = row_of IsOfPlanOrLogs shards f (λ m e h. never 
     never m e (inl (inr (inl p))) = cc (sym e ∙ p)
     never m e (inl (inr (inr p))) = cc (sym e ∙ p)
     never m e (inr (log, h)) = log_row log f m e h
+
+-- it adds no row
+pub drill_adds : (shards : Text) (f : RunFault) → IsKnown IsOfPlanOrLogs shards f → (u : Unfit) → f ≡ fault.Reshard u → ⊥
+drill_adds shards f (inl (inl (row, e, first))) u is = cc (sym is ∙ e)
+drill_adds shards f (inl (inr (table, inl (inl (place, e))))) u is = cc (sym is ∙ e)
+drill_adds shards f (inl (inr (table, inl (inr (inl e))))) u is = cc (sym is ∙ e)
+drill_adds shards f (inl (inr (table, inl (inr (inr e))))) u is = cc (sym is ∙ e)
+drill_adds shards f (inl (inr (table, inr (log, h)))) u is = subst IsOfJoin is (of_log IsOfJoin log (λ line w. tt) tt tt f h)
+drill_adds shards f (inr (table, h)) u is = subst IsPast is h
 
 -- what is told before the run behind a table, but for a read
 pub drill_early : (shards : Text) (f : RunFault) → IsEarly IsOfPlanOrLogs shards f → HasTable shards → (IsFailedRead f → ⊥) → (status_of f ≡ 2) ⊎ ((status_of f ≡ 3) ⊎ (status_of f ≡ 8))
@@ -202,27 +222,29 @@ plan_left f place (inr (inr (inl e))) read = absurd (read (inl e))
 plan_left f place (inr (inr (inr e))) read = inr (ap status_of e)
 
 -- what is left of a drill where no count rose and nothing is refused
-pub drill_left : (f : RunFault) → ((n : ℕ) → f ≡ fault.Table n → ⊥) → ((place : Field) → f ≡ fault.Plan place → ⊥) → ((log : LogName) (line : ℕ) (w : Why) → f ≡ fault.Refused log line w → ⊥) → (IsFailedRead f → ⊥) → (f ≡ fault.Write → ⊥) → IsWelcome ⊤ f
+pub drill_left : (f : RunFault) → ((u : Unfit) → f ≡ fault.Reshard u → ⊥) → ((n : ℕ) → f ≡ fault.Table n → ⊥) → ((place : Field) → f ≡ fault.Plan place → ⊥) → ((log : LogName) (line : ℕ) (w : Why) → f ≡ fault.Refused log line w → ⊥) → (IsFailedRead f → ⊥) → (f ≡ fault.Write → ⊥) → IsWelcome ⊤ f
     → (status_of f ≡ 6) ⊎ ((status_of f ≡ 8) ⊎ (status_of f ≡ 10))
-drill_left (fault.Table n) row bad line read write fair = absurd (row n refl)
-drill_left (fault.Plan at) row bad line read write fair = absurd (bad at refl)
-drill_left (fault.Refused log n w) row bad line read write fair = absurd (line log n w refl)
-drill_left fault.PlanRead row bad line read write fair = absurd (read (inl refl))
-drill_left (fault.Read log) row bad line read write fair = absurd (read (inr (log, refl)))
-drill_left (fault.Store at) row bad line read write fair = inl refl
-drill_left (fault.Damaged disk at) row bad line read write fair = absurd (fair tt)
-drill_left (fault.Topology (mismatch.Joiners kept asked)) row bad line read write fair = absurd (fair tt)
-drill_left (fault.Topology what) row bad line read write fair = absurd fair
-drill_left (fault.Limit disk value) row bad line read write fair = inr (inr refl)
-drill_left fault.Write row bad line read write fair = absurd (write refl)
-drill_left fault.Memory row bad line read write fair = inr (inl refl)
+drill_left (fault.Table n) adds row bad line read write fair = absurd (row n refl)
+drill_left (fault.Plan at) adds row bad line read write fair = absurd (bad at refl)
+drill_left (fault.Refused log n w) adds row bad line read write fair = absurd (line log n w refl)
+drill_left fault.PlanRead adds row bad line read write fair = absurd (read (inl refl))
+drill_left (fault.Read log) adds row bad line read write fair = absurd (read (inr (log, refl)))
+drill_left (fault.Store at) adds row bad line read write fair = inl refl
+drill_left (fault.Damaged disk at) adds row bad line read write fair = absurd (fair tt)
+drill_left (fault.Topology (mismatch.Joiners kept asked)) adds row bad line read write fair = absurd (fair tt)
+drill_left (fault.Topology what) adds row bad line read write fair = absurd fair
+drill_left (fault.Limit disk value) adds row bad line read write fair = inr (inr refl)
+drill_left (fault.Reshard u) adds row bad line read write fair = absurd (adds u refl)
+drill_left fault.Write adds row bad line read write fair = absurd (write refl)
+drill_left fault.Memory adds row bad line read write fair = inr (inl refl)
 
-pub named_in_drill : (told : List ℕ → Option (List ℕ)) (v : Values) (file : Text) (f : RunFault) → ((n : ℕ) → f ≡ fault.Table n → IsFirstBad v.shards n) → ((place : Field) → f ≡ fault.Plan place → IsBadIn told file place)
+pub named_in_drill : (told : List ℕ → Option (List ℕ)) (v : Values) (file : Text) (f : RunFault) → ((u : Unfit) → f ≡ fault.Reshard u → ⊥) → ((n : ℕ) → f ≡ fault.Table n → IsFirstBad v.shards n) → ((place : Field) → f ≡ fault.Plan place → IsBadIn told file place)
     → ((log : LogName) (line : ℕ) (w : Why) → f ≡ fault.Refused log line w → Refuses told v.queries v.clicks log (record { line = line; why = w })) → IsNamedInDrill told v file f
-named_in_drill told v file (fault.Table n) row bad line = row n refl
-named_in_drill told v file (fault.Plan place) row bad line = bad place refl
-named_in_drill told v file (fault.Refused log n w) row bad line = line log n w refl
-named_in_drill told v file _ row bad line = tt
+named_in_drill told v file (fault.Table n) adds row bad line = row n refl
+named_in_drill told v file (fault.Plan place) adds row bad line = bad place refl
+named_in_drill told v file (fault.Refused log n w) adds row bad line = line log n w refl
+named_in_drill told v file (fault.Reshard u) adds row bad line = absurd (adds u refl)
+named_in_drill told v file _ adds row bad line = tt
 
 -- ---- of a bulk run
 
@@ -233,6 +255,7 @@ past_bulk : (f : RunFault) → IsPast f → IsOfBulk f
 past_bulk (fault.Plan place) h = h
 past_bulk (fault.Refused log line w) h = h
 past_bulk fault.PlanRead h = h
+past_bulk (fault.Reshard u) h = h
 past_bulk _ h = tt
 
 pub bulk_own : (shards : Text) (f : RunFault) → IsKnown (λ e. e ≡ fault.Memory) shards f → IsOfBulk f
@@ -248,6 +271,7 @@ named_in_bulk v (fault.Table n) own row = row n refl
 named_in_bulk v (fault.Plan place) own row = own
 named_in_bulk v (fault.Refused log n w) own row = own
 named_in_bulk v fault.PlanRead own row = own
+named_in_bulk v (fault.Reshard u) own row = own
 named_in_bulk v _ own row = tt
 
 -- ---- of a verification
@@ -260,6 +284,7 @@ past_verify (fault.Table n) h = h
 past_verify (fault.Plan place) h = h
 past_verify (fault.Refused log line w) h = absurd h
 past_verify fault.PlanRead h = h
+past_verify (fault.Reshard u) h = h
 past_verify _ h = tt
 
 pub verify_past : (f : RunFault) → IsOfVerify f → ((line : ℕ) (w : Why) → f ≡ fault.Refused Clicks line w → ⊥) → IsPast f
@@ -268,6 +293,7 @@ verify_past (fault.Plan place) own line = own
 verify_past (fault.Refused Queries n w) own line = own
 verify_past (fault.Refused Clicks n w) own line = line n w refl
 verify_past fault.PlanRead own line = own
+verify_past (fault.Reshard u) own line = own
 verify_past _ own line = tt
 
 pub never_two : (f : RunFault) → IsOfVerify f → status_of f ≢ 2
@@ -300,4 +326,5 @@ named_in_verify told clicks (fault.Plan place) own line = own
 named_in_verify told clicks (fault.Refused Queries n w) own line = own
 named_in_verify told clicks (fault.Refused Clicks n w) own line = line n w refl
 named_in_verify told clicks fault.PlanRead own line = own
+named_in_verify told clicks (fault.Reshard u) own line = own
 named_in_verify told clicks _ own line = tt

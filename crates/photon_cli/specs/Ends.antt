@@ -6,7 +6,7 @@ use Rattle.time_shards.specs.declared.ShardRow.{ShardRow}
 use Rattle.time_shards.specs.Text.{IsFirstBad}
 use Rattle.lossy_link.specs.Fates.{PlanView}
 use Rattle.lossy_link.specs.declared.bad_plan.Field.{Field}
-use Rattle.command_words.specs.Words.{BulkValues, Text, Values, Wish, a_bulk_run, a_drill, a_join, a_verification}
+use Rattle.command_words.specs.Words.{BulkValues, Text, Values, Wish, a_bulk_run, a_drill, a_join, a_resharding, a_verification}
 use Rattle.log_records.specs.declared.check.BadLine.{BadLine}
 use Rattle.run_fault.specs.declared.fault.LogName.{LogName}
 use Rattle.turn_defs.specs.Setting.{Setting}
@@ -22,6 +22,7 @@ use Rattle.run_fault.specs.Faults.{status_of}
 use Rattle.photon_cli.specs.Bulk.{BeginsBulk, IsBulkRun, PrintsTotals, PrintsTotalsPrefix}
 use Rattle.photon_cli.specs.Drill.{BeginsDrill, HasDrilled, IsBadIn, IsPlanIn, PrintsDrill, PrintsDrillPrefix}
 use Rattle.photon_cli.specs.Join.{BeginsJoin, HasRun, IsAsked, IsHistory, IsInvalid, Prints, PrintsAfresh, PrintsPrefix, Refuses, no_plan}
+use Rattle.photon_cli.specs.Reshard.{ReshardEnds}
 use Rattle.photon_cli.specs.Told.{IsNamedInBulk, IsNamedInDrill, IsToldOf, IsToldOfVerify, TellsBy}
 use Rattle.photon_cli.specs.Verify.{IsReadable, IsUnreadable, PrintsKept, PrintsKeptPrefix}
 use Rattle.photon_cli.specs.Words.{HasTable, IsTextOf}
@@ -73,7 +74,7 @@ module _ (logs sinks : Bool) (told : List ℕ → Option (List ℕ)) (files outp
     pub tells : IsTrue logs → IsTrue sinks → (errors → ⊥) → TellsBy (IsToldOf told v disks before files faulted) status err_old err_new
     -- At every status a sound store stays sound, and no disk's records are lost. Where nothing is left of a run, each disk but the
     -- topology's stands for what it stood for.
-    pub keeps : IsTrue disks → IsTrue logs → (g : Setting) → IsAsked told v g → Keeps g before after
+    pub keeps : IsTrue disks → IsTrue logs → (g : Setting) → IsAsked told v g → Keeps g g before after
     pub idle : IsTrue disks → IsTrue logs → (g : Setting) → IsAsked told v g → IsIdle before after ran
     -- over a sound store, with no fault and nothing at its limit, it ends well, unless memory runs out
     pub complete : IsTrue disks → IsTrue logs → (g : Setting) → IsAsked told v g → IsSoundStore g before → leaves g → IsBelowLimits g before → (files → ⊥) → (faulted → ⊥) → (output → ⊥)
@@ -165,3 +166,4 @@ module _ (logs sinks disks : Bool) (told : List ℕ → Option (List ℕ)) (file
   Ends (a_drill v plan) = DrillEnds logs sinks told files output errors old new err_old err_new status v plan ran unrun × same
   Ends (a_verification clicks state) = VerifyEnds logs sinks told files output errors old new err_old err_new status clicks same disks before after faulted leaves × unrun
   Ends (a_bulk_run v) = BulkEnds sinks output errors old new err_old err_new status v ran unrun × same
+  Ends (a_resharding state row) = ReshardEnds sinks output errors old new err_old err_new status row same disks before after faulted leaves × unrun

@@ -39,6 +39,7 @@ IsPast (fault.Table row) = ⊥
 IsPast (fault.Plan place) = ⊥
 IsPast (fault.Refused log line w) = ⊥
 IsPast fault.PlanRead = ⊥
+IsPast (fault.Reshard u) = ⊥
 IsPast _ = ⊤
 
 -- the fault of a log whose check answers this
@@ -75,25 +76,28 @@ IsFailedRead f = (f ≡ fault.PlanRead) ⊎ ((log : LogName) × (f ≡ failed_re
 abbrev pub IsOfRun : RunFault → Type 0
 IsOfRun f = IsCounted ⊤ ⊤ f
 
--- a join has no plan
+-- a join has no plan, and adds no row
 abbrev pub IsOfJoin : RunFault → Type 0
 IsOfJoin (fault.Plan place) = ⊥
 IsOfJoin fault.PlanRead = ⊥
+IsOfJoin (fault.Reshard u) = ⊥
 IsOfJoin _ = ⊤
 
--- ---- of a bulk run: its logs are valid, and it has no plan of a file
+-- ---- of a bulk run: its logs are valid, it has no plan of a file, and adds no row
 
 abbrev pub IsOfBulk : RunFault → Type 0
 IsOfBulk (fault.Plan place) = ⊥
 IsOfBulk (fault.Refused log line w) = ⊥
 IsOfBulk fault.PlanRead = ⊥
+IsOfBulk (fault.Reshard u) = ⊥
 IsOfBulk _ = ⊤
 
--- ---- of a verification: it has neither a table, nor a plan, nor queries
+-- ---- of a verification: it has neither a table, nor a plan, nor queries, and adds no row
 
 abbrev pub IsOfVerify : RunFault → Type 0
 IsOfVerify (fault.Table row) = ⊥
 IsOfVerify (fault.Plan place) = ⊥
 IsOfVerify (fault.Refused Queries line w) = ⊥
 IsOfVerify fault.PlanRead = ⊥
+IsOfVerify (fault.Reshard u) = ⊥
 IsOfVerify _ = ⊤

@@ -21,12 +21,13 @@ TellsBy named status old new = ((status ≡ 0) × (new ≡ old)) ⊎ ((f : RunFa
 -- Here told says what bytes are under a name.
 module _ (told : List ℕ → Option (List ℕ)) where
   -- Of a join: a fault that names a line names the first that is refused, and one that names a row the table's first bad one. It
-  -- has no plan.
+  -- has no plan, and adds no row.
   abbrev pub IsNamed : Values → RunFault → Type 0
   IsNamed v (fault.Table row) = IsFirstBad v.shards row
   IsNamed v (fault.Plan place) = ⊥
   IsNamed v (fault.Refused log line w) = Refuses told v.queries v.clicks log (record { line = line; why = w })
   IsNamed v fault.PlanRead = ⊥
+  IsNamed v (fault.Reshard u) = ⊥
   IsNamed v _ = ⊤
 
   -- and where the disks tell what they hold it has its cause, whatever setting the values ask for
@@ -38,6 +39,7 @@ module _ (told : List ℕ → Option (List ℕ)) where
   IsNamedInDrill v file (fault.Table row) = IsFirstBad v.shards row
   IsNamedInDrill v file (fault.Plan place) = IsBadIn told file place
   IsNamedInDrill v file (fault.Refused log line w) = Refuses told v.queries v.clicks log (record { line = line; why = w })
+  IsNamedInDrill v file (fault.Reshard u) = ⊥
   IsNamedInDrill v file _ = ⊤
 
   -- of a verification, which has neither a table, nor a plan, nor queries
@@ -47,6 +49,7 @@ module _ (told : List ℕ → Option (List ℕ)) where
   IsNamedInVerify clicks (fault.Refused Queries line w) = ⊥
   IsNamedInVerify clicks (fault.Refused Clicks line w) = IsSomeAnd (told clicks) (λ log. RefusesClick log (record { line = line; why = w }))
   IsNamedInVerify clicks fault.PlanRead = ⊥
+  IsNamedInVerify clicks (fault.Reshard u) = ⊥
   IsNamedInVerify clicks _ = ⊤
 
   -- and where the disks tell what they hold it has its cause, whatever setting is over the log
@@ -59,4 +62,5 @@ IsNamedInBulk v (fault.Table row) = IsFirstBad v.shards row
 IsNamedInBulk v (fault.Plan place) = ⊥
 IsNamedInBulk v (fault.Refused log line w) = ⊥
 IsNamedInBulk v fault.PlanRead = ⊥
+IsNamedInBulk v (fault.Reshard u) = ⊥
 IsNamedInBulk v _ = ⊤

@@ -12,9 +12,9 @@ use Rattle.site_run.specs.declared.ran.RunLog.{RunLog}
 use Rattle.site_run.specs.Left.{RestLeft, RunLeft}
 use Rattle.site_run.specs.Refused.{HasPassed, IsCauseOf}
 
--- what a call keeps of a store: where it was sound it is, and no disk's records are lost
-pub record Keeps (g : Setting) (before after : Images) : Type 0 where
-  pub sound : IsSoundStore g before → IsSoundStore g after
+-- what a call keeps of a store: where it was sound for the first setting it is for the second, and no disk's records are lost
+pub record Keeps (g h : Setting) (before after : Images) : Type 0 where
+  pub sound : IsSoundStore g before → IsSoundStore h after
   pub grown : (disk : DiskName) → GoesOn (before disk) (after disk)
 
 -- where nothing is left of a run, each disk but the topology's stands for what it stood for
@@ -27,7 +27,7 @@ module _ (g : Setting) (before after : Images) (read faulted leaves : Type 0) (r
   -- Where it ends well the disks had kept what can be run; a fault has its cause. A sound store isn't refused for the table or the
   -- places that it keeps, nor, where a stop leaves something of each disk, for its number of joiners or for a damaged disk.
   pub record EndsOver {A : Type 0} (result : Result A RunFault) : Type 0 where
-    pub keeps : Keeps g before after
+    pub keeps : Keeps g g before after
     pub idle : IsIdle before after ran
     pub passed : OnOk result (HasPassed g before)
     pub caused : IfErr result (IsCauseOf g before read faulted)

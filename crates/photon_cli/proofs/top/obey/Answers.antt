@@ -17,3 +17,11 @@ pub returns-in-Bulk-clause-answered : goal.returns-in-Bulk-clause-answered
 returns-in-Bulk-clause-answered g c =
     let a = c.bulk_command.ensures.answered in
     record { statuses = a.statuses; read = record { later = omega arith; rose = λ four. absurd (c.bulk_command.ensures.ends.read four) }; write = a.write; quiet = a.quiet }
+
+pub returns-in-Reshard-clause-ends : goal.returns-in-Reshard-clause-ends
+returns-in-Reshard-clause-ends g c = rw c.in-Reshard.is (c.reshard_command.ensures.ends, refl)
+
+pub returns-in-Reshard-clause-answered : goal.returns-in-Reshard-clause-answered
+returns-in-Reshard-clause-answered g c =
+    let a = c.reshard_command.ensures.answered in
+    record { statuses = a.statuses; read = record { later = omega arith; rose = λ four. absurd (c.reshard_command.ensures.ends.never.2 four) }; write = a.write; quiet = a.quiet }

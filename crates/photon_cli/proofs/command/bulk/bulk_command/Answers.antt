@@ -46,7 +46,7 @@ returns-in-Err-clause-ends g c =
       welcome = fair_status f ⊤ tt e.fair;
       complete = λ (table, text) quiet.
           inr
-          (drill_left f (λ n is. none_bad v.shards n table (named_row n is) text.0 text.1) (λ place is. subst IsOfBulk is own) (λ log line w is. subst IsOfBulk is own) e.reads (λ is. quiet (e.write.rose (ap Err is))) e.fair);
+          (drill_left f (λ u is. subst IsOfBulk is own) (λ n is. none_bad v.shards n table (named_row n is) text.0 text.1) (λ place is. subst IsOfBulk is own) (λ log line w is. subst IsOfBulk is own) e.reads (λ is. quiet (e.write.rose (ap Err is))) e.fair);
       prefix = λ sinks five. e.prefix sinks (ap Err (write_of f five));
       tells = λ sinks calm. inr (f, refl, named_in_bulk v f own named_row, c.give_up.ensures.told sinks calm);
     })

@@ -3,7 +3,7 @@ use Rattle.std.specs.Prelude.{⊤}
 use Rattle.photon_cli.proofs.Words.{none_bad, values_in, IsOfPlanOrLogs}
 use Rattle.photon_cli.proofs.Ends.{asked_valid, none_refused, not_invalid}
 use Rattle.photon_cli.proofs.Answered.{ended, given_up}
-use Rattle.photon_cli.proofs.Statuses.{IsKnown, bad_row, drill_early, drill_left, drill_row, fair_status, line_of, named_in_drill, no_one, no_zero, past_status, plan_left, two_of, write_of}
+use Rattle.photon_cli.proofs.Statuses.{IsKnown, bad_row, drill_adds, drill_early, drill_left, drill_row, fair_status, line_of, named_in_drill, no_one, no_zero, past_status, plan_left, two_of, write_of}
 use Rattle.photon_cli.proofs.command.drill.drill_command.Goals as goal
 
 pub returns-in-Ok-clause-ends : goal.returns-in-Ok-clause-ends
@@ -36,6 +36,7 @@ returns-in-Err-clause-ends g c =
     let e = c.in-Err.ensures in
     let known : IsKnown IsOfPlanOrLogs v.shards f = ⊎_elim (λ early. inl early.1) (λ late. inr (late.0.0, late.1)) e.begins in
     let row = drill_row v.shards f known in
+    let adds = drill_adds v.shards f known in
     rw c.give_up.ensures.status (record {
       drilled = λ logs sinks zero. absurd (no_zero f zero);
       ran_on = λ logs zero. absurd (no_zero f zero);
@@ -49,11 +50,11 @@ returns-in-Err-clause-ends g c =
           ⊎_elim (λ early. drill_early v.shards f early.1 (table, text) (λ failed. calm (e.read.rose failed))) (λ late. absurd (not_invalid told v.queries v.clicks log (late.0.1 logs) invalid)) e.begins;
       prefix = λ logs sinks five. e.prefix logs sinks (ap Err (write_of f five));
       tells = λ logs sinks calm.
-          inr (f, refl, named_in_drill told v c.args.plan.now f row (λ place is. e.place logs place (ap Err is)) (λ log line w is. e.refused logs log line w (ap Err is)), c.give_up.ensures.told sinks calm);
+          inr (f, refl, named_in_drill told v c.args.plan.now f adds row (λ place is. e.place logs place (ap Err is)) (λ log line w is. e.refused logs log line w (ap Err is)), c.give_up.ensures.told sinks calm);
       welcome = λ logs. fair_status f ⊤ tt (e.fair logs);
       complete = λ logs s asked p is calm quiet.
           inr
-          (drill_left f (λ n e. none_bad v.shards n s.table (row n e) asked.table.0 asked.table.1)
+          (drill_left f adds (λ n e. none_bad v.shards n s.table (row n e) asked.table.0 asked.table.1)
           (λ place told. e.good_plan logs p is place (ap Err told))
           (λ log line w refused. none_refused told v.queries v.clicks log (record { line = line; why = w }) (asked_valid told v s asked) (e.refused logs log line w (ap Err refused)))
           (λ failed. calm (e.read.rose failed))

@@ -1,0 +1,288 @@
+-- How a resharding ends at each fault.
+use Rattle.std.proofs.Common.{◌≡◌, ◌≢◌, ◌⊎◌, inl, inr, ⊎_elim, ◌++◌, ◌≤◌, ℕ, List, Bool, true, None, Result, Ok, Err, IsTrue, codes, refl, sym, ap, subst, ◌∙◌, arith}
+use Rattle.std.specs.Prelude.{⊤}
+use Rattle.turn_defs.specs.declared.limits.TheConstants.{MOST_JOINERS}
+use Rattle.outside.specs.declared.store.DiskName.TheVariants as name
+use Rattle.run_fault.specs.declared.fault.Mismatch.TheVariants as mismatch
+use Rattle.run_fault.specs.declared.fault.RunFault.TheVariants as fault
+use Rattle.photon_model.specs.Adding.{with_row}
+use Rattle.list_words.proofs.Lists.{each_more}
+use Rattle.gate_journal.specs.Opening.{IsOpened}
+use Rattle.time_shards.proofs.Texts.{row_same}
+use Rattle.time_shards.specs.Text.{table_text}
+use Rattle.site_laws.specs.Stores.{IsSoundOr}
+use Rattle.site_laws.specs.StoreLaws.{ReadTopologyIsKept, TopologyFits}
+use Rattle.site_store.specs.Adding.{Answers, HasRow as KeepsRow, IsAdded, IsRowCause, NoneTold}
+use Rattle.site_store.specs.Causes.{LeavesSomething}
+use Rattle.site_store.specs.Records.{AreKept, IsKept}
+use Rattle.site_store.specs.Written.{IsWritten}
+use Rattle.site_store.proofs.Damage.{no_damage}
+use Rattle.photon_cli.proofs.Words.{DiskName, GoesOn, StaysAs, Images, IsSoundStore, KeptValues, HasCause, HasFailed, Setting, ShardRow, StorePlace, StoreFault, RunFault, Text, Topology, Unfit, cause_more, failed_rose, first_limit, goes_on_within, kept_are_journals, message, of_place, status_of, unasked}
+use Rattle.outside.specs.declared.faults.StoreFault.TheVariants as store
+use Rattle.report_text.specs.Stream.{TookPrefix}
+use Rattle.photon_cli.specs.Reshard.{Adds, HasRow, IsCauseFor, IsForbidden, IsNamedInReshard, IsRowOf, ReshardEnds}
+use Rattle.photon_cli.proofs.Statuses.{damaged_of, failed_of, line_of, mismatch_of, no_one, no_zero, place_of, two_of, write_of}
+
+-- ---- a row and its text
+
+-- a text is one row's
+pub one_row : (text : Text) (row other : ShardRow) → IsRowOf text row → IsRowOf text other → row ≡ other
+one_row text row other is also = row_same row other is.0 also.0 (sym is.1 ∙ also.1)
+
+-- ---- from a store that was placed to the one before
+
+module _ (placed before : Images) (within : (disk : DiskName) (c : List ℕ) → placed disk c → before disk c) where
+  kept_before : (k : KeptValues) → AreKept true placed 0 k → AreKept true before 0 k
+  kept_before k are = record {
+    topology = λ sure. let x = are.topology sure in (x.0, within name.Topology x.0 x.1, x.2);
+    named = are.named;
+    kinds = are.kinds;
+    kept = λ sure. each_more (IsKept placed) (IsKept before) k.disks (λ o kept. (kept.0, within o.name kept.0 kept.1, kept.2)) (are.kept sure);
+  }
+
+  answers_before : (row : ShardRow) (answer : Result Topology Unfit) → Answers true placed row answer → Answers true before row answer
+  answers_before row answer (k, are, is) = (k, kept_before k are, is)
+
+  written_before : (t : Topology) (c : List ℕ) → IsWritten (placed name.Topology) t c → IsWritten (before name.Topology) t c
+  written_before t c w = record { from = w.from; was = within name.Topology w.from w.was; records = w.records; stood = w.stood; stands = w.stands; keeps = w.keeps }
+
+  pub added_before : (tells : Bool) → IsTrue tells → (row : ShardRow) (after : Images) (table : List ShardRow) → IsAdded tells placed row after table → IsAdded true before row after table
+  added_before tells sure row after table is =
+      let here : IsAdded true placed row after table = subst (λ (b : Bool). IsAdded b placed row after table) sure is in
+      record { topology = here.topology; longer = here.longer; answers = answers_before row (Ok here.topology) here.answers; written = λ yes c now. written_before here.topology c (here.written yes c now) }
+
+  pub row_before : (tells : Bool) → IsTrue tells → (row : ShardRow) (c : List ℕ) → KeepsRow tells placed row c → KeepsRow true before row c
+  row_before tells sure row c has =
+      let here : KeepsRow true placed row c = subst (λ (b : Bool). KeepsRow b placed row c) sure has in
+      (here.0, answers_before row (Ok here.0) here.1, written_before here.0 c here.2)
+
+  abbrev Told : (tells : Bool) → Images → ShardRow → RunFault → Type 0
+  Told tells image row f = (why : Unfit) × (f ≡ fault.Reshard why) × Answers tells image row (Err why)
+
+  told_before : (tells : Bool) → IsTrue tells → (row : ShardRow) (f : RunFault) → Told tells placed row f → Told true before row f
+  told_before tells sure row f (why, is, answers) = (why, is, answers_before row (Err why) (subst (λ (b : Bool). Answers b placed row (Err why)) sure answers))
+
+  pub cause_before : (tells : Bool) → IsTrue tells → (row : ShardRow) (rose faulted : Type 0) → (rose → faulted) → (f : RunFault) → IsRowCause tells placed row rose f → IsCauseFor before faulted row f
+  cause_before tells sure row rose faulted more f cause =
+      by_kind f (subst (λ (b : Bool). HasCause b before None NoneTold (λ log. ⊥) (λ at. faulted) ⊥ (Told true before row f) f) sure
+      (cause_more tells None placed before within NoneTold NoneTold (λ disks told is. is) (λ log. ⊥) (λ log. ⊥) (HasFailed tells placed None NoneTold rose) (λ at. faulted) ⊥ ⊥ (Told tells placed row f) (Told true before row f)
+      (λ log x. x) (λ at failed. more (failed_rose tells placed None NoneTold rose at failed)) (λ x. x) (told_before tells sure row f) f cause))
+    where
+      other : (why : Unfit) → fault.Write ≡ fault.Reshard why → ⊥
+      other why e = cc
+
+      by_kind : (g : RunFault) → HasCause true before None NoneTold (λ log. ⊥) (λ at. faulted) ⊥ (Told true before row g) g → IsCauseFor before faulted row g
+      by_kind (fault.Store at) x = x
+      by_kind (fault.Damaged disk at) x = (x.0, x.1 refl)
+      by_kind (fault.Limit disk value) x = ⊎_elim (λ (k, are, unfit). (k, are, unfit.2)) (λ late. absurd late.0) x
+      by_kind (fault.Reshard why) (u, is, answers) = let same : u ≡ why = cc in subst (λ (v : Unfit). Answers true before row (Err v)) same answers
+      by_kind fault.Memory x = tt
+      by_kind fault.Write ((u, is, answers), passed) = absurd (other u is)
+      by_kind (fault.Table n) (u, is, answers) = absurd (cc)
+      by_kind (fault.Plan place) (u, is, answers) = absurd (cc)
+      by_kind fault.PlanRead (u, is, answers) = absurd (cc)
+      by_kind (fault.Refused log line w) (u, is, answers) = absurd (cc)
+      by_kind (fault.Read log) x = x
+      by_kind (fault.Topology (mismatch.Joiners kept asked)) (k, are, unfit) = unfit
+      by_kind (fault.Topology (mismatch.Table kept asked)) (k, are, unfit) = unfit
+      by_kind (fault.Topology (mismatch.Place p)) (k, are, (fit, told)) = absurd (cc)
+
+-- what isn't added for this is named so
+pub named_row : (tells : Bool) (placed : Images) (row : ShardRow) (rose : Type 0) (text : Text) (f : RunFault) → HasRow text → IsRowCause tells placed row rose f → IsNamedInReshard text f
+named_row tells placed row rose text (fault.Store at) has cause = has
+named_row tells placed row rose text (fault.Damaged disk at) has cause = has
+named_row tells placed row rose text (fault.Limit disk value) has cause = has
+named_row tells placed row rose text (fault.Reshard why) has cause = has
+named_row tells placed row rose text fault.Memory has cause = tt
+named_row tells placed row rose text fault.Write has cause = has
+named_row tells placed row rose text (fault.Table n) has (u, is, answers) = absurd (cc)
+named_row tells placed row rose text (fault.Plan place) has (u, is, answers) = absurd (cc)
+named_row tells placed row rose text fault.PlanRead has (u, is, answers) = absurd (cc)
+named_row tells placed row rose text (fault.Refused log line w) has (u, is, answers) = absurd (cc)
+named_row tells placed row rose text (fault.Read log) has cause = cause
+named_row tells placed row rose text (fault.Topology (mismatch.Joiners kept asked)) has (k, are, unfit) = unfit
+named_row tells placed row rose text (fault.Topology (mismatch.Table kept asked)) has (k, are, unfit) = unfit
+named_row tells placed row rose text (fault.Topology (mismatch.Place p)) has (k, are, (fit, told)) = absurd (cc)
+
+-- a directory that isn't placed is no fault of the output
+pub place_status : (s : StoreFault) (f : RunFault) → f ≡ of_place s → status_of f ≢ 5
+place_status store.Disk f e five = let at : 6 ≡ 5 = sym (ap status_of e) ∙ five in omega (arith, at)
+place_status store.Memory f e five = let at : 8 ≡ 5 = sym (ap status_of e) ∙ five in omega (arith, at)
+
+-- and it is no fault of the output
+pub not_written : (tells : Bool) (placed : Images) (row : ShardRow) (rose : Type 0) (f : RunFault) → IsRowCause tells placed row rose f → f ≡ fault.Write → ⊥
+not_written tells placed row rose f cause is = let x = (subst (IsRowCause tells placed row rose) is cause).0 in other x.0 x.1
+  where
+    other : (why : Unfit) → fault.Write ≡ fault.Reshard why → ⊥
+    other why e = cc
+
+-- ---- at each fault
+
+module _ (text : Text) (disks : Bool) (before after : Images) where
+  -- what a fault leaves of the disks
+  pub record After (f : RunFault) : Type 0 where
+    pub stays : IsTrue disks → f ≢ fault.Write → status_of f ≢ 6 → (disk : DiskName) → StaysAs (before disk) (after disk)
+    pub others : IsTrue disks → (disk : DiskName) → disk ≢ name.Topology → StaysAs (before disk) (after disk)
+    pub topology : IsTrue disks → (c : List ℕ) → after name.Topology c → IsOpened (before name.Topology) c ⊎ ((row : ShardRow) × IsRowOf text row × KeepsRow true before row c)
+    pub grown : IsTrue disks → (disk : DiskName) → GoesOn (before disk) (after disk)
+    pub longer : IsTrue disks → f ≡ fault.Write → (row : ShardRow) → IsRowOf text row → (g : Setting) → g.replicas ≡ 3 → IsSoundStore g before → IsSoundStore (with_row g row) after
+    pub still : IsTrue disks → f ≢ fault.Write → status_of f ≢ 6 → (g : Setting) → IsSoundStore g before → IsSoundStore g after
+    pub either : IsTrue disks → (row : ShardRow) → IsRowOf text row → (g : Setting) → g.replicas ≡ 3 → IsSoundStore g before → IsSoundOr g (with_row g row) after
+
+  -- where none was taken
+  pub untaken : (f : RunFault) → f ≢ fault.Write → (IsTrue disks → (disk : DiskName) (c : List ℕ) → after disk c → before disk c) → After f
+  untaken f other within = record {
+    stays = λ d write six disk c now. (c, within d disk c now, refl);
+    others = λ d disk not c now. (c, within d disk c now, refl);
+    topology = λ d c now. inl (c, within d name.Topology c now, refl);
+    grown = λ d disk. goes_on_within (before disk) (after disk) (within d disk);
+    longer = λ d write row is. absurd (other write);
+    still = λ d write six g sound b choice. sound b (λ disk is. within d disk (b disk) (choice disk is));
+    either = λ d row is g replicas sound b choice. inl (sound b (λ disk here. within d disk (b disk) (choice disk here)));
+  }
+
+module _ (before : Images) (faulted : Type 0) (row : ShardRow) where
+  abbrev Has : RunFault → Type 0
+  Has f = IsCauseFor before faulted row f
+
+  pub damaged_row : (f : RunFault) → Has f → ((k : KeptValues) → AreKept true before 0 k → ⊥) → (faulted → ⊥) → (status_of f ≡ 7) ⊎ (status_of f ≡ 8)
+  damaged_row (fault.Store at) has none still = absurd (still has)
+  damaged_row (fault.Damaged disk at) has none still = inl refl
+  damaged_row (fault.Limit disk value) (k, kept, e) none still = absurd (none k kept)
+  damaged_row (fault.Reshard why) (k, kept, answer) none still = absurd (none k kept)
+  damaged_row fault.Write (t, (k, kept, answer)) none still = absurd (none k kept)
+  damaged_row fault.Memory has none still = inr refl
+  damaged_row _ has none still = absurd has
+
+  pub limited_row : (f : RunFault) → Has f → ((k : KeptValues) → AreKept true before 0 k → first_limit k ≢ None) → (faulted → ⊥) → (status_of f ≡ 10) ⊎ ((status_of f ≡ 7) ⊎ (status_of f ≡ 8))
+  limited_row (fault.Store at) has limit still = absurd (still has)
+  limited_row (fault.Damaged disk at) has limit still = inr (inl refl)
+  limited_row (fault.Limit disk value) has limit still = inl refl
+  limited_row (fault.Reshard why) (k, kept, answer) limit still = absurd (limit k kept answer.limits)
+  limited_row fault.Write (t, (k, kept, answer)) limit still = absurd (limit k kept answer.limits)
+  limited_row fault.Memory has limit still = inr (inr refl)
+  limited_row _ has limit still = absurd has
+
+  pub forbidden_row : (f : RunFault) → Has f → IsForbidden before row → (faulted → ⊥) → (status_of f ≡ 11) ⊎ ((status_of f ≡ 10) ⊎ ((status_of f ≡ 7) ⊎ (status_of f ≡ 8)))
+  forbidden_row (fault.Store at) has forbids still = absurd (still has)
+  forbidden_row (fault.Damaged disk at) has forbids still = inr (inr (inl refl))
+  forbidden_row (fault.Limit disk value) has forbids still = inr (inl refl)
+  forbidden_row (fault.Reshard why) has forbids still = inl refl
+  forbidden_row fault.Write (t, (k, kept, answer)) forbids still = absurd (forbids k kept t answer.is)
+  forbidden_row fault.Memory has forbids still = inr (inr (inr refl))
+  forbidden_row _ has forbids still = absurd has
+
+  pub complete_row : (f : RunFault) → Has f → status_of f ≢ 7 → ((k : KeptValues) → AreKept true before 0 k → first_limit k ≡ None) → (faulted → ⊥) → (f ≡ fault.Write → ⊥) → (status_of f ≡ 8) ⊎ (status_of f ≡ 11)
+  complete_row (fault.Store at) has fair below still written = absurd (still has)
+  complete_row (fault.Damaged disk at) has fair below still written = absurd (fair refl)
+  complete_row (fault.Limit disk value) (k, kept, e) fair below still written = absurd (cc (sym (below k kept) ∙ e))
+  complete_row (fault.Reshard why) has fair below still written = inr refl
+  complete_row fault.Write has fair below still written = absurd (written refl)
+  complete_row fault.Memory has fair below still written = inl refl
+  complete_row _ has fair below still written = absurd has
+
+  -- of a sound store no disk is told as damaged
+  pub fair_row : ReadTopologyIsKept → TopologyFits → (g : Setting) → g.replicas ≡ 3 → g.joiners ≤ MOST_JOINERS → IsSoundStore g before → LeavesSomething g before → (f : RunFault) → Has f → status_of f ≢ 7
+  fair_row read fits g replicas few sound some f has seven =
+      let d = damaged_of f seven in
+      let here = subst Has d.2 has in
+      no_damage true refl before 0 read fits g (omega arith) few replicas sound d.0 d.1 here.0 (λ sure. here.1) some
+
+-- ---- where the row was added
+
+module _ (text : Text) (disks : Bool) (before after : Images) (row : ShardRow) (is : IsRowOf text row) (table : List ShardRow) (added : IsTrue disks → IsAdded true before row after table)
+    (others : IsTrue disks → (disk : DiskName) → disk ≢ name.Topology → StaysAs (before disk) (after disk)) (grown : IsTrue disks → (disk : DiskName) → GoesOn (before disk) (after disk))
+    (sound : IsTrue disks → (g : Setting) → g.replicas ≡ 3 → IsSoundStore g before → IsSoundStore (with_row g row) after) where
+  topology_row : IsTrue disks → (c : List ℕ) → after name.Topology c → IsOpened (before name.Topology) c ⊎ ((r : ShardRow) × IsRowOf text r × KeepsRow true before r c)
+  topology_row d c now = let a = added d in inr (row, is, (a.topology, a.answers, a.written refl c now))
+
+  sound_row : IsTrue disks → (r : ShardRow) → IsRowOf text r → (g : Setting) → g.replicas ≡ 3 → IsSoundStore g before → IsSoundStore (with_row g r) after
+  sound_row d r own g replicas whole = subst (λ (x : ShardRow). IsSoundStore (with_row g x) after) (one_row text row r is own) (sound d g replicas whole)
+
+  pub after_written : After text disks before after fault.Write
+  after_written = record {
+    stays = λ d other six. absurd (other refl);
+    others = others;
+    topology = topology_row;
+    grown = grown;
+    longer = λ d write. sound_row d;
+    still = λ d other six. absurd (other refl);
+    either = λ d r own g replicas whole b choice. inr (sound_row d r own g replicas whole b choice);
+  }
+
+  pub answer_for : IsTrue disks → (r : ShardRow) → IsRowOf text r → (t : Topology) × Answers true before r (Ok t)
+  answer_for d r own = let a = added d in (a.topology, subst (λ (x : ShardRow). Answers true before x (Ok a.topology)) (one_row text row r is own) a.answers)
+
+  pub adds : (says : List ℕ → Type 0) → says (table_text table ++ codes "\n") → IsTrue disks → Adds text before after says
+  adds says line d = record { row = row; is = is; table = table; added = added d; line = line }
+
+  pub ends_added : (sinks : Bool) (output errors : Type 0) (old new err : List ℕ) (same faulted : Type 0) (leaves : Setting → Type 0) → (IsTrue sinks → new ≡ old ++ (table_text table ++ codes "\n")) → ReshardEnds sinks output errors old new err err 0 text same disks before after faulted leaves
+  ends_added sinks output errors old new err same faulted leaves line = record {
+    added = λ s d zero. adds (λ l. new ≡ old ++ l) (line s) d;
+    prefix = λ s d five. absurd (omega (arith, five));
+    row = λ two has. omega (arith, two);
+    bad_row = λ none. absurd (none (row, is));
+    never = (λ e. omega (arith, e), λ e. omega (arith, e), λ e. omega (arith, e), λ e. omega (arith, e));
+    stopped = λ e. absurd (omega (arith, e));
+    welcome = λ d g replicas few whole some e. omega (arith, e);
+    damaged = λ d (r, own) g disk taken none still. let (t, (k, kept, answer)) = answer_for d r own in absurd (none (kept_are_journals (unasked g) before k disk kept taken));
+    limited = λ d (r, own) g limit still. let (t, (k, kept, answer)) = answer_for d r own in absurd (limit k kept answer.limits);
+    forbidden = λ d r own forbids still. let (t, (k, kept, answer)) = answer_for d r own in absurd (forbids k kept t answer.is);
+    caused = inl refl;
+    tells = λ s calm. inl (refl, refl);
+    stays = λ d other. absurd (other refl);
+    others = others;
+    topology = topology_row;
+    grown = grown;
+    longer = λ d ended. sound_row d;
+    still = λ d other. absurd (other refl);
+    either = after_written.either;
+    complete = λ d has g replicas few whole some below still quiet. inl refl;
+  }
+
+module _ (sinks disks : Bool) (output errors : Type 0) (old new err_old err_new : List ℕ) (text : Text) (same : Type 0) (before after : Images) (faulted : Type 0) (leaves : Setting → Type 0) where
+  pub ends : (f : RunFault) → IsNamedInReshard text f → (IsTrue disks → (row : ShardRow) → IsRowOf text row → IsCauseFor before faulted row f) → ((HasRow text → ⊥) → same × ((status_of f ≡ 2) ⊎ (status_of f ≡ 8)))
+      → ((at : StorePlace) → f ≡ fault.Store at → faulted) → (f ≡ fault.Write → output) → (IsTrue sinks → IsTrue disks → f ≡ fault.Write → Adds text before after (λ line. TookPrefix old line new))
+      → (IsTrue sinks → (errors → ⊥) → err_new ≡ err_old ++ message f) → (IsTrue disks → (g : Setting) → g.replicas ≡ 3 → g.joiners ≤ MOST_JOINERS → IsSoundStore g before → leaves g → status_of f ≢ 7) → After text disks before after f
+      → ReshardEnds sinks output errors old new err_old err_new (status_of f) text same disks before after faulted leaves
+  ends f named causes bad rose wrote prefix tells fair left = record {
+    added = λ s d zero. absurd (no_zero f zero);
+    prefix = λ s d five. prefix s d (write_of f five);
+    row = λ two has. ⊎_elim (λ n. let none : IsNamedInReshard text (fault.Table n.0) = subst (IsNamedInReshard text) n.1 named in none.1 has) (λ p. subst (IsNamedInReshard text) p.1 named) (two_of f two);
+    bad_row = bad;
+    never = (
+      no_one f,
+      λ three. let l = line_of f three in subst (IsNamedInReshard text) l.3 named,
+      λ four. ⊎_elim (λ is. subst (IsNamedInReshard text) is named) (λ l. subst (IsNamedInReshard text) l.1 named) (failed_of f four),
+      λ nine. let m = mismatch_of f nine in subst (IsNamedInReshard text) m.1 named,
+    );
+    stopped = λ six. let p = place_of f six in rose p.0 p.1;
+    welcome = fair;
+    damaged = λ d (row, is) g disk taken none still. damaged_row before faulted row f (causes d row is) (λ k kept. none (kept_are_journals (unasked g) before k disk kept taken)) still;
+    limited = λ d (row, is) g limit still. limited_row before faulted row f (causes d row is) limit still;
+    forbidden = λ d row is forbids still. forbidden_row before faulted row f (causes d row is) forbids still;
+    caused = inr (f, refl, (named, causes));
+    tells = λ s calm. inr (f, refl, (named, causes), tells s calm);
+    stays = λ d zero five six. left.stays d (λ is. five (ap status_of is)) six;
+    others = left.others;
+    topology = left.topology;
+    grown = left.grown;
+    longer = λ d ended. ⊎_elim (λ zero. absurd (no_zero f zero)) (λ five. left.longer d (write_of f five)) ended;
+    still = λ d zero five six. left.still d (λ is. five (ap status_of is)) six;
+    either = left.either;
+    complete = λ d (row, is) g replicas few sound some below still quiet. inr (complete_row before faulted row f (causes d row is) (fair d g replicas few sound some) below still (λ is. quiet (wrote is)));
+  }
+
+  -- a directory that isn't placed
+  pub ends_place : (row : ShardRow) → IsRowOf text row → (s : StoreFault) (f : RunFault) → f ≡ of_place s → (s ≡ store.Disk → faulted) → (IsTrue disks → (disk : DiskName) (c : List ℕ) → after disk c → before disk c)
+      → (IsTrue sinks → (errors → ⊥) → err_new ≡ err_old ++ message f) → ReshardEnds sinks output errors old new err_old err_new (status_of f) text same disks before after faulted leaves
+  ends_place row is s f e rose within told = subst (λ (h : RunFault). (IsTrue sinks → (errors → ⊥) → err_new ≡ err_old ++ message h) → ReshardEnds sinks output errors old new err_old err_new (status_of h) text same disks before after faulted leaves) (sym e)
+      (by s rose) told
+    where
+      by : (r : StoreFault) → (r ≡ store.Disk → faulted) → (IsTrue sinks → (errors → ⊥) → err_new ≡ err_old ++ message (of_place r)) → ReshardEnds sinks output errors old new err_old err_new (status_of (of_place r)) text same disks before after faulted leaves
+      by store.Disk risen tells =
+          ends (of_place store.Disk) (row, is) (λ d r own. risen refl) (λ none. absurd (none (row, is))) (λ at x. risen refl) (λ x. absurd (cc)) (λ a d x. absurd (cc)) tells (λ d g replicas few sound some seven. omega (arith, seven))
+          (untaken text disks before after (of_place store.Disk) (λ x. cc) within)
+      by store.Memory risen tells =
+          ends (of_place store.Memory) tt (λ d r own. tt) (λ none. absurd (none (row, is))) (λ at x. absurd (cc)) (λ x. absurd (cc)) (λ a d x. absurd (cc)) tells (λ d g replicas few sound some seven. omega (arith, seven))
+          (untaken text disks before after (of_place store.Memory) (λ x. cc) within)

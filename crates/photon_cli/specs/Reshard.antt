@@ -1,0 +1,106 @@
+-- How a resharding ends, by its exit status.
+use Rattle.std.specs.Prelude.{ℕ, ◌≡◌, ◌≢◌, ◌≤◌, ◌⊎◌, List, ◌++◌, Bool, true, IsTrue, Some, Result, Ok, Err, codes, ⊤}
+use Rattle.turn_defs.specs.declared.limits.TheConstants.{MOST_JOINERS}
+use Rattle.outside.specs.declared.store.DiskName.{DiskName}
+use Rattle.outside.specs.declared.store.DiskName.TheVariants as name
+use Rattle.gate_journal.specs.Images.{GoesOn, StaysAs}
+use Rattle.gate_journal.specs.Opening.{IsOpened}
+use Rattle.time_shards.specs.declared.ShardRow.{ShardRow}
+use Rattle.time_shards.specs.Shards.{IsRow}
+use Rattle.time_shards.specs.Text.{row_text, table_text}
+use Rattle.report_text.specs.Stream.{TookPrefix}
+use Rattle.command_words.specs.Words.{Text}
+use Rattle.topology_journal.specs.declared.topology.Topology.{Topology}
+use Rattle.turn_defs.specs.Setting.{Setting}
+use Rattle.photon_model.specs.Adding.{with_row}
+use Rattle.run_fault.specs.declared.fault.RunFault.{RunFault}
+use Rattle.run_fault.specs.declared.fault.RunFault.TheVariants as fault
+use Rattle.run_fault.specs.Faults.{status_of}
+use Rattle.site_laws.specs.Stores.{Images, IsSoundOr, IsSoundStore}
+use Rattle.site_store.specs.Adding.{Answers, HasRow as KeepsRow, IsAdded, accepted, answer_to}
+use Rattle.site_store.specs.Causes.{first_limit}
+use Rattle.site_store.specs.Opening.{IsDamagedIn}
+use Rattle.site_store.specs.Records.{AreKept, KeptValues}
+use Rattle.site_store.specs.Refusals.{IsFirstDisk}
+use Rattle.site_run.specs.Refused.{IsTaken, WasJournal}
+use Rattle.photon_cli.specs.Causes.{IsAtLimit, IsBelowLimits, unasked}
+use Rattle.photon_cli.specs.Told.{TellsBy}
+
+-- the text is this row's
+abbrev pub IsRowOf : Text → ShardRow → Type 0
+IsRowOf text row = IsRow row × (text ≡ row_text row)
+
+-- it is one's
+abbrev pub HasRow : Text → Type 0
+HasRow text = (row : ShardRow) × IsRowOf text row
+
+-- whatever the disks kept, it forbids the row
+abbrev pub IsForbidden : Images → ShardRow → Type 0
+IsForbidden before row = (k : KeptValues) → AreKept true before 0 k → (t : Topology) → answer_to k.topology (accepted k.disks) row ≢ Ok t
+
+-- why a row isn't added, or the line of the longer table not written, by what a stop might have left of the disks before
+abbrev pub IsCauseFor : Images → (faulted : Type 0) → ShardRow → RunFault → Type 0
+IsCauseFor before faulted row (fault.Store at) = faulted
+IsCauseFor before faulted row (fault.Damaged disk at) = IsFirstDisk true before 0 disk × IsDamagedIn before disk at
+IsCauseFor before faulted row (fault.Limit disk value) = (k : KeptValues) × AreKept true before 0 k × (first_limit k ≡ Some (fault.Limit disk value))
+IsCauseFor before faulted row (fault.Reshard why) = Answers true before row (Err why)
+IsCauseFor before faulted row fault.Write = (t : Topology) × Answers true before row (Ok t)
+IsCauseFor before faulted row fault.Memory = ⊤
+IsCauseFor before faulted row _ = ⊥
+
+-- A resharding has neither logs, nor a plan, and asks for no topology. A fault that names a row is told where the text is no row's.
+abbrev pub IsNamedInReshard : Text → RunFault → Type 0
+IsNamedInReshard text (fault.Table n) = (n ≡ 0) × (HasRow text → ⊥)
+IsNamedInReshard text (fault.Plan place) = ⊥
+IsNamedInReshard text fault.PlanRead = ⊥
+IsNamedInReshard text (fault.Refused log line w) = ⊥
+IsNamedInReshard text (fault.Read log) = ⊥
+IsNamedInReshard text (fault.Topology what) = ⊥
+IsNamedInReshard text fault.Memory = ⊤
+IsNamedInReshard text _ = HasRow text
+
+-- and where the disks tell what they hold it has its cause
+abbrev pub IsToldOfRow : Text → (disks : Bool) → Images → (faulted : Type 0) → RunFault → Type 0
+IsToldOfRow text disks before faulted f = IsNamedInReshard text f × (IsTrue disks → (row : ShardRow) → IsRowOf text row → IsCauseFor before faulted row f)
+
+-- The text is a row's, and the row stands behind those that the disks kept. This is said of the line of the longer table.
+pub record Adds (text : Text) (before after : Images) (says : List ℕ → Type 0) : Type 0 where
+  pub row : ShardRow
+  pub is : IsRowOf text row
+  pub table : List ShardRow
+  pub added : IsAdded true before row after table
+  pub line : says (table_text table ++ codes "\n")
+
+-- What is said of bytes is said where the sinks and the disks tell what they hold; before, after, faulted, same and leaves as of a
+-- join.
+pub record ReshardEnds (sinks : Bool) (output errors : Type 0) (old new err_old err_new : List ℕ) (status : ℕ) (text : Text) (same : Type 0) (disks : Bool) (before after : Images) (faulted : Type 0) (leaves : Setting → Type 0) : Type 0 where
+  -- 0: the row was added, and the line of the longer table was written, whole; 5: so, and a prefix of it was
+  pub added : IsTrue sinks → IsTrue disks → status ≡ 0 → Adds text before after (λ line. new ≡ old ++ line)
+  pub prefix : IsTrue sinks → IsTrue disks → status ≡ 5 → Adds text before after (λ line. TookPrefix old line new)
+  -- 2: only where the text is no row's, and there always, but for want of memory, and the store is not touched
+  pub row : status ≡ 2 → HasRow text → ⊥
+  pub bad_row : (HasRow text → ⊥) → same × ((status ≡ 2) ⊎ (status ≡ 8))
+  -- 1, 3, 4 and 9 never; 6 only where the store's count rose; 7 never over a sound store where a stop leaves something of each disk
+  pub never : (status ≢ 1) × (status ≢ 3) × (status ≢ 4) × (status ≢ 9)
+  pub stopped : status ≡ 6 → faulted
+  pub welcome : IsTrue disks → (g : Setting) → g.replicas ≡ 3 → g.joiners ≤ MOST_JOINERS → IsSoundStore g before → leaves g → status ≢ 7
+  -- 7 and 10 as of a verification; else 11, where the disks kept what forbids the row, whatever they kept
+  pub damaged : IsTrue disks → HasRow text → (g : Setting) (disk : DiskName) → IsTaken (unasked g) before disk → (WasJournal g before disk → ⊥) → (faulted → ⊥) → (status ≡ 7) ⊎ (status ≡ 8)
+  pub limited : IsTrue disks → HasRow text → (g : Setting) → IsAtLimit (unasked g) before → (faulted → ⊥) → (status ≡ 10) ⊎ ((status ≡ 7) ⊎ (status ≡ 8))
+  pub forbidden : IsTrue disks → (row : ShardRow) → IsRowOf text row → IsForbidden before row → (faulted → ⊥) → (status ≡ 11) ⊎ ((status ≡ 10) ⊎ ((status ≡ 7) ⊎ (status ≡ 8)))
+  -- any but 0 is of a fault that has its cause, and that one is told, unless the standard error has a fault
+  pub caused : (status ≡ 0) ⊎ ((f : RunFault) × (status ≡ status_of f) × IsToldOfRow text disks before faulted f)
+  pub tells : IsTrue sinks → (errors → ⊥) → TellsBy (IsToldOfRow text disks before faulted) status err_old err_new
+  -- What stands on the disks. At any status but 0, 5 and 6 each stands for what it stood for. The topology's may have the row besides.
+  pub stays : IsTrue disks → status ≢ 0 → status ≢ 5 → status ≢ 6 → (disk : DiskName) → StaysAs (before disk) (after disk)
+  pub others : IsTrue disks → (disk : DiskName) → disk ≢ name.Topology → StaysAs (before disk) (after disk)
+  pub topology : IsTrue disks → (c : List ℕ) → after name.Topology c → IsOpened (before name.Topology) c ⊎ ((row : ShardRow) × IsRowOf text row × KeepsRow true before row c)
+  pub grown : IsTrue disks → (disk : DiskName) → GoesOn (before disk) (after disk)
+  -- A sound store stays so, at 0 and 5 for its setting with the row, else for its setting. At 6 each choice of what a stop leaves is sound
+  -- for one of the two.
+  pub longer : IsTrue disks → (status ≡ 0) ⊎ (status ≡ 5) → (row : ShardRow) → IsRowOf text row → (g : Setting) → g.replicas ≡ 3 → IsSoundStore g before → IsSoundStore (with_row g row) after
+  pub still : IsTrue disks → status ≢ 0 → status ≢ 5 → status ≢ 6 → (g : Setting) → IsSoundStore g before → IsSoundStore g after
+  pub either : IsTrue disks → (row : ShardRow) → IsRowOf text row → (g : Setting) → g.replicas ≡ 3 → IsSoundStore g before → IsSoundOr g (with_row g row) after
+  -- over a sound store, with no fault and nothing at its limit, the row is added or forbidden, unless memory runs out
+  pub complete : IsTrue disks → HasRow text → (g : Setting) → g.replicas ≡ 3 → g.joiners ≤ MOST_JOINERS → IsSoundStore g before → leaves g → IsBelowLimits (unasked g) before → (faulted → ⊥) → (output → ⊥)
+      → (status ≡ 0) ⊎ ((status ≡ 8) ⊎ (status ≡ 11))
