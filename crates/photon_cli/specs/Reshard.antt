@@ -1,5 +1,5 @@
 -- How a resharding ends, by its exit status.
-use Rattle.std.specs.Prelude.{ℕ, ◌≡◌, ◌≢◌, ◌≤◌, ◌⊎◌, List, ◌++◌, Bool, true, IsTrue, Some, Result, Ok, Err, codes, ⊤}
+use Rattle.std.specs.Prelude.{ℕ, ◌≡◌, ◌≢◌, ◌≤◌, ◌⊎◌, List, ◌++◌, Bool, true, IsTrue, Some, Ok, Err, codes, ⊤}
 use Rattle.turn_defs.specs.declared.limits.TheConstants.{MOST_JOINERS}
 use Rattle.outside.specs.declared.store.DiskName.{DiskName}
 use Rattle.outside.specs.declared.store.DiskName.TheVariants as name

@@ -1,4 +1,4 @@
-use Rattle.std.proofs.Common.{◌≡◌, ◌≢◌, ◌++◌, inl, inr, ⊎_elim, ℕ, List, Err, None, IsTrue, codes, refl, sym, ap, subst, ◌∙◌, arith}
+use Rattle.std.proofs.Common.{◌≡◌, ◌≢◌, inl, inr, ⊎_elim, ℕ, List, Err, None, IsTrue, refl, sym, ap, subst, ◌∙◌, arith}
 use Rattle.outside.specs.declared.store.DiskName.TheVariants as name
 use Rattle.run_fault.specs.declared.fault.RunFault.TheVariants as fault
 use Rattle.gate_journal.specs.Opening.{IsOpened}
