@@ -1,7 +1,10 @@
 // Faults of a run, as they are told.
 use mem_outside::MemSink;
-use run_fault::{LogName, Mismatch, Misplaced, RunFault, StorePlace, disk_text, status};
+use run_fault::{
+    LogName, Mismatch, Misplaced, RunFault, StorePlace, Unfit, disk_text, status,
+};
 use script_lines::disks::disk_name;
+use script_lines::texts::id_of;
 use script_lines::{Part, Stop, Words};
 use std::alloc::{AllocError, AllocFailed, Global};
 use time_shards::Table;
@@ -50,6 +53,10 @@ fn tell(alloc: Global, words: &mut Words<'_>) -> Result<String, Stop> {
             let value = words.number()?;
             told(alloc, &RunFault::Limit { disk, value }, words)
         }
+        "reshard" => {
+            let unfit = unfit(words)?;
+            told(alloc, &RunFault::Reshard(unfit), words)
+        }
         "memory" => told(alloc, &RunFault::from(AllocError), words),
         "refused" => told(alloc, &RunFault::from(AllocFailed { value: 7u8 }), words),
         kind => {
@@ -69,6 +76,20 @@ fn told(alloc: Global, fault: &RunFault, words: &mut Words<'_>) -> Result<String
     let line = std::str::from_utf8(err.bytes()).map_err(|_| Stop::Words)?;
     let faults = err.faults();
     Ok(format!(in alloc; "{} {told} {faults} {line:?}", status(fault))?)
+}
+
+fn unfit(words: &mut Words<'_>) -> Result<Unfit, Stop> {
+    match words.word()? {
+        "topology" => Ok(Unfit::NoTopology),
+        "rows" => Ok(Unfit::Rows),
+        "start" => Ok(Unfit::Start {
+            last: words.number()?,
+            asked: words.number()?,
+        }),
+        "bound" => Ok(Unfit::Bound(words.number()?)),
+        "id" => Ok(Unfit::Id(id_of(words.word()?)?)),
+        _ => Err(Stop::Words),
+    }
 }
 
 fn mismatch(kind: &str, words: &mut Words<'_>) -> Result<Mismatch, Stop> {

@@ -4,7 +4,7 @@ use script_lines::{Part, Stop, Words};
 use std::alloc::Global;
 use time_shards::{MAX_SHARDS, ShardRow, Table};
 
-/// `table TEXT`: the rows of a table, and its most shards. `add TABLE START COUNT`: the table with one more row.
+/// `table TEXT`: the rows of a table, and its most shards. `row TEXT`: a row. `add TABLE START COUNT`: the table with one more row.
 /// `shard TABLE ID`: the shard of an id.
 #[derive(Drop)]
 pub struct Tables;
@@ -22,6 +22,7 @@ impl Part for Tables {
                 text.extend_from_slice(words.behind().as_bytes())?;
                 table(alloc, &text)
             }
+            "row" => row(alloc, words.behind().as_bytes()),
             "add" => add(alloc, words),
             "shard" => shard(alloc, words),
             _ => Err(Stop::Words),
@@ -33,6 +34,13 @@ fn table(alloc: Global, text: &[u8]) -> Result<String, Stop> {
     match Table::read(text) {
         Ok(table) => told(alloc, &table),
         Err(bad) => Ok(format!(in alloc; "bad row {}", bad.row)?),
+    }
+}
+
+fn row(alloc: Global, text: &[u8]) -> Result<String, Stop> {
+    match ShardRow::read(text) {
+        Some(row) => row_text(alloc, row),
+        None => Ok(format!(in alloc; "no row")?),
     }
 }
 
