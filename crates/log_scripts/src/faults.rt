@@ -1,8 +1,6 @@
 // Faults of a run, as they are told.
 use mem_outside::MemSink;
-use run_fault::{
-    LogName, Mismatch, Misplaced, RunFault, StorePlace, Unfit, disk_text, status,
-};
+use run_fault::{LogName, Mismatch, Misplaced, RunFault, StorePlace, Unfit, disk_text, status};
 use script_lines::disks::disk_name;
 use script_lines::texts::id_of;
 use script_lines::{Part, Stop, Words};
