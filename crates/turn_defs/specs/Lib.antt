@@ -1,5 +1,6 @@
 pub mod Setting
 pub mod Nodes
+pub mod Configs
 pub mod Turns
 pub mod Rows
 pub mod Sent

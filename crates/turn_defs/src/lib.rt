@@ -3,12 +3,14 @@
 //! `Replica.antt`.
 #![tactic(auto)]
 
+mod config;
 pub mod laws;
 mod limits;
 mod node;
 mod packet;
 mod pair;
 
+pub use config::Config;
 pub use limits::{FIRST_JOINER, LAST_SLOT, MOST_FLIGHTS, MOST_JOINERS, WINDOW};
 pub use node::{Input, Node, To};
 pub use packet::{Outcome, Packet};
