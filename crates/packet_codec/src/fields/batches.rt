@@ -55,7 +55,7 @@ impl Field for Inserts {
 
     fn read(alloc: Global, bytes: &[u8]) -> Result<(Inserts, &[u8]), Stop> {
         let (count, mut rest) = read_tag(bytes, 0, 64)?;
-        let mut list = Inserts::new(alloc);
+        let mut list = Inserts::with_capacity(alloc, usize::from(count))?;
         for _ in 0..count {
             let (insert, behind) = Insert::read(alloc, rest)?;
             list.push(insert)?;
