@@ -15,7 +15,8 @@ use Rattle.clap.specs.Takes.{is_given}
 use Rattle.clap.specs.Faults.{built_fault, check_fault, entered_fault, fault_of, level_fault, walk_fault}
 use Rattle.clap.specs.declared.builder.value_parser.ValueParser.TheVariants as vp
 use Rattle.clap.proofs.ValueTestLemmas.{accepts-Accepts}
-use Rattle.command_words.specs.Words.{AreInRanges, AreValues, AskFor, Command, HasAll, HasNodes, HasRun, IsFound, IsInRanges, Opt, Text, Values, Wish, a_bulk_run, a_drill, a_join, a_resharding, a_verification, batch, bulk, command_of, drill, horizon, join, joiners, name_of, number, number_of, number_or, options_of, reshard, shards, some_text, text_or, verify}
+use Rattle.command_words.specs.Words.{AreInRanges, AreValues, AskFor, Command, HasAll, HasNodes, HasRun, IsFound, IsInRanges, Opt, Text, Values, Wish, a_bulk_run, a_drill, a_join, a_resharding, a_verification, batch, bulk, command_of, drill, horizon, is_required, join, joiners, name_of, number_of, number_or, options_of, reshard, shards, text_or, verify}
+use Rattle.command_words.specs.declared.options.Form.TheVariants.{Number as number, AnyText as any_text, SomeText as some_text}
 use Rattle.command_words.specs.Clap.{number_in, photon_app, text_in}
 use Rattle.command_words.proofs.Walks.{AllKnown, Known, full_rule, reads_as_written}
 use Rattle.command_words.proofs.Levels.{ready, sub}
@@ -144,12 +145,12 @@ rule_is c o r k g e =
     let same : Some g.rule ≡ Some (full_rule o) = sym g.by_id ∙ (ap (arg_by_id c) e ∙ k.by_id) in
     cc
 
-number_reads : (c : List Rule) (rows : List Row) (n : Text) (low high : ℕ) (required : Bool)
-    → Known c (record { name = n; form = number low high; required = required }) → AreGood c rows → IfSome (one_of n rows) (IsUnsignedIn low high)
-number_reads c rows n low high required k g = go (find (λ (r : Row). bytes_eq r.id n) rows) (row_at c rows n g)
+number_reads : (c : List Rule) (rows : List Row) (n : Text) (low high : ℕ) (default : Option Text)
+    → Known c (record { name = n; form = number low high; default = default }) → AreGood c rows → IfSome (one_of n rows) (IsUnsignedIn low high)
+number_reads c rows n low high default k g = go (find (λ (r : Row). bytes_eq r.id n) rows) (row_at c rows n g)
   where
     o : Opt
-    o = record { name = n; form = number low high; required = required }
+    o = record { name = n; form = number low high; default = default }
 
     values : (vs : List Text) (rule : Rule) (how : Reading) → rule ≡ full_rule o → how ≡ reading_by rule
         → AllByRecursion (λ v. accepts rule.ignore_case (parser_of_value rule.parser) v ≡ true) vs → IfSome (option_map (read_as how) (slice_get vs 0)) (IsUnsignedIn low high)
@@ -163,12 +164,12 @@ number_reads c rows n low high required k g = go (find (λ (r : Row). bytes_eq r
     go None h = tt
     go (Some r) h = values r.values h.0.rule r.reading (rule_is c o r k h.0 h.1) h.0.reading h.0.passed
 
-text_has_some : (c : List Rule) (rows : List Row) (n : Text) (required : Bool)
-    → Known c (record { name = n; form = some_text; required = required }) → AreGood c rows → IfSome (first_of n rows) (λ t. 0 < length t)
-text_has_some c rows n required k g = go (find (λ (r : Row). bytes_eq r.id n) rows) (row_at c rows n g)
+text_has_some : (c : List Rule) (rows : List Row) (n : Text) (default : Option Text)
+    → Known c (record { name = n; form = some_text; default = default }) → AreGood c rows → IfSome (first_of n rows) (λ t. 0 < length t)
+text_has_some c rows n default k g = go (find (λ (r : Row). bytes_eq r.id n) rows) (row_at c rows n g)
   where
     o : Opt
-    o = record { name = n; form = some_text; required = required }
+    o = record { name = n; form = some_text; default = default }
 
     values : (vs : List Text) (rule : Rule) → rule ≡ full_rule o → AllByRecursion (λ v. accepts rule.ignore_case (parser_of_value rule.parser) v ≡ true) vs
         → IfSome (slice_get vs 0) (λ t. 0 < length t)
@@ -182,18 +183,18 @@ text_has_some c rows n required k g = go (find (λ (r : Row). bytes_eq r.id n) r
     go (Some r) h = values r.values h.0.rule (rule_is c o r k h.0 h.1) h.0.passed
 
 needed : (options : List Opt) (rows : List Row) → list_any (λ (a : Rule). a.required && not (is_given a.id rows)) (map full_rule options ++ filled help_rule ∷ []) ≡ false
-    → AllByRecursion (λ (o : Opt). o.required ≡ true → is_given o.name rows ≡ true) options
+    → AllByRecursion (λ (o : Opt). is_required o ≡ true → is_given o.name rows ≡ true) options
 needed [] rows e = tt
-needed (o ∷ os) rows e = go o.required (is_given o.name rows) refl refl e (needed os rows)
+needed (o ∷ os) rows e = go (is_required o) (is_given o.name rows) refl refl e (needed os rows)
   where
-    go : (b d : Bool) → o.required ≡ b → is_given o.name rows ≡ d → ((b && not d) || list_any (λ (a : Rule). a.required && not (is_given a.id rows)) (map full_rule os ++ filled help_rule ∷ [])) ≡ false
-        → (list_any (λ (a : Rule). a.required && not (is_given a.id rows)) (map full_rule os ++ filled help_rule ∷ []) ≡ false → AllByRecursion (λ (q : Opt). q.required ≡ true → is_given q.name rows ≡ true) os)
-        → (o.required ≡ true → is_given o.name rows ≡ true) × AllByRecursion (λ (q : Opt). q.required ≡ true → is_given q.name rows ≡ true) os
+    go : (b d : Bool) → is_required o ≡ b → is_given o.name rows ≡ d → ((b && not d) || list_any (λ (a : Rule). a.required && not (is_given a.id rows)) (map full_rule os ++ filled help_rule ∷ [])) ≡ false
+        → (list_any (λ (a : Rule). a.required && not (is_given a.id rows)) (map full_rule os ++ filled help_rule ∷ []) ≡ false → AllByRecursion (λ (q : Opt). is_required q ≡ true → is_given q.name rows ≡ true) os)
+        → (is_required o ≡ true → is_given o.name rows ≡ true) × AllByRecursion (λ (q : Opt). is_required q ≡ true → is_given q.name rows ≡ true) os
     go true false r is f more = cc
     go true true r is f more = (λ t. is, more f)
     go false d r is f more = (λ t. absurd (true≢false (sym t ∙ r)), more f)
 
-needs : (c : Command) (words : List Text) → Holds (sub c) words → AllByRecursion (λ (o : Opt). o.required ≡ true → is_given o.name (rows_after (sub c).rules [] words) ≡ true) (options_of c)
+needs : (c : Command) (words : List Text) → Holds (sub c) words → AllByRecursion (λ (o : Opt). is_required o ≡ true → is_given o.name (rows_after (sub c).rules [] words) ≡ true) (options_of c)
 needs c words h =
     needed (options_of c) (rows_after (sub c).rules [] words)
     (subst (λ (rules : List Rule). list_any (λ (a : Rule). a.required && not (is_given a.id (rows_after (sub c).rules [] words))) rules ≡ false) (ready c).rules h.given)
@@ -216,7 +217,7 @@ there (Some t) P some h = h
 
 has_nodes : (rules : List Rule) (rows : List Row) → AreGood rules rows → AllKnown rules (joiners ∷ shards ∷ batch ∷ []) → HasNodes (text_in rows) (number_in rows)
 has_nodes rules rows good k =
-    (number_reads rules rows (codes "joiners") 1 4 false k.0 good, text_has_some rules rows (codes "shards") false k.1.0 good, number_reads rules rows (codes "batch") 1 64 false k.1.1.0 good)
+    (number_reads rules rows (codes "joiners") 1 4 (Some (codes "1")) k.0 good, text_has_some rules rows (codes "shards") (Some (codes "0:4")) k.1.0 good, number_reads rules rows (codes "batch") 1 64 (Some (codes "64")) k.1.1.0 good)
 
 has_run : (c : Command) (words : List Text) → Holds (sub c) words → is_given (codes "queries") (rows_after (sub c).rules [] words) ≡ true → is_given (codes "clicks") (rows_after (sub c).rules [] words) ≡ true
     → AllKnown (sub c).rules (horizon ∷ joiners ∷ shards ∷ batch ∷ []) → HasRun (text_in (rows_after (sub c).rules [] words)) (number_in (rows_after (sub c).rules [] words))
@@ -224,7 +225,7 @@ has_run c words h queries clicks k =
     let rows = rows_after (sub c).rules [] words in (
       text_is_given (sub c).rules rows (codes "queries") h.good queries,
       text_is_given (sub c).rules rows (codes "clicks") h.good clicks,
-      number_reads (sub c).rules rows (codes "horizon") 0 18446744073709551615 false k.0 h.good,
+      number_reads (sub c).rules rows (codes "horizon") 0 18446744073709551615 (Some (codes "0")) k.0 h.good,
       has_nodes (sub c).rules rows h.good k.1,
     )
 
@@ -249,8 +250,8 @@ has_values bulk words h =
     let rows = rows_after (sub c).rules [] words in
     let k = (ready c).known in
     let n = needs c words h in
-    let seed = there (number_in rows (codes "seed")) (IsUnsignedIn 0 18446744073709551615) (number_is_given (sub c).rules rows (codes "seed") h.good (n.0 refl)) (number_reads (sub c).rules rows (codes "seed") 0 18446744073709551615 true (k.0) h.good) in
-    let clicks = there (number_in rows (codes "clicks")) (IsUnsignedIn 0 100000) (number_is_given (sub c).rules rows (codes "clicks") h.good (n.1.0 refl)) (number_reads (sub c).rules rows (codes "clicks") 0 100000 true (k.1.0) h.good) in
+    let seed = there (number_in rows (codes "seed")) (IsUnsignedIn 0 18446744073709551615) (number_is_given (sub c).rules rows (codes "seed") h.good (n.0 refl)) (number_reads (sub c).rules rows (codes "seed") 0 18446744073709551615 None (k.0) h.good) in
+    let clicks = there (number_in rows (codes "clicks")) (IsUnsignedIn 0 100000) (number_is_given (sub c).rules rows (codes "clicks") h.good (n.1.0 refl)) (number_reads (sub c).rules rows (codes "clicks") 0 100000 None (k.1.0) h.good) in
     (seed, clicks, has_nodes (sub c).rules rows h.good k.1.1)
 has_values reshard words h =
     let rows = rows_after (sub reshard).rules [] words in

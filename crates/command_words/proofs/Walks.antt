@@ -22,7 +22,9 @@ use Rattle.clap.specs.Simple.{Shape, help_rule, filled, with_index}
 use Rattle.clap.specs.Takes.{default_passes, is_given, is_valid, level_passes, settle_passes, use_passes, walk_passes, turn_passes}
 use Rattle.clap.specs.declared.parser.matches.ValueSource.TheVariants.{CommandLine}
 use Rattle.clap.specs.declared.builder.value_parser.Reading.TheVariants.{AsWritten}
-use Rattle.command_words.specs.Words.{ArePairsOf, Form, IsValue, Opt, Pairs, Text, given, number, option_named, pair_words, some_text, text}
+use Rattle.command_words.specs.declared.options.Form.{Form}
+use Rattle.command_words.specs.declared.options.Form.TheVariants.{Number as number, AnyText as any_text, SomeText as some_text}
+use Rattle.command_words.specs.Words.{ArePairsOf, IsValue, Opt, Pairs, Text, given, is_required, option_named, pair_words}
 use Rattle.command_words.specs.Clap.{parser_of, rule_of_option}
 use Rattle.command_words.proofs.Numbers.{no_plus}
 
@@ -32,7 +34,7 @@ full_rule o = with_index 1 (filled (rule_of_option o))
 
 abbrev pub FitsNumber : Form → Type 0
 FitsNumber (number low high) = high < 2 ^ 64
-FitsNumber text = ⊤
+FitsNumber any_text = ⊤
 FitsNumber some_text = ⊤
 
 -- an option of the rules c
@@ -102,7 +104,7 @@ at_none id change missing (r ∷ rs) none = go (bytes_eq r.id id) refl none (at_
 
 pub reads_as_written : (f : Form) → reading_of (parser_of_value (Some (unwrap_or (parser_of f) vp.String))) ≡ AsWritten
 reads_as_written (number low high) = refl
-reads_as_written text = refl
+reads_as_written any_text = refl
 reads_as_written some_text = refl
 
 -- a use of an option that has no row yet adds its row
@@ -120,8 +122,8 @@ first_digit x h = ne_eqb _ _ (λ e. omega (arith, digit_from_value x h))
 value_word : (f : Form) (v : Text) → IsValue f v → (x : ℕ) × (xs : Text) × (v ≡ x ∷ xs) × ((x == 45) ≡ false)
 value_word (number low high) [] h = let bad : 0 < 0 = h.0 in absurd (omega arith)
 value_word (number low high) (x ∷ xs) h = (x, xs, refl, first_digit x h.2.0)
-value_word text [] h = absurd h
-value_word text (x ∷ xs) h = (x, xs, refl, ne_eqb _ _ h)
+value_word any_text [] h = absurd h
+value_word any_text (x ∷ xs) h = (x, xs, refl, ne_eqb _ _ h)
 value_word some_text [] h = absurd h
 value_word some_text (x ∷ xs) h = (x, xs, refl, ne_eqb _ _ h)
 
@@ -131,7 +133,7 @@ value_accepted (number low high) v fits h =
     let below : digits_value 10 v < 2 ^ 64 = omega arith in
     let all : Accepts false (vp.Unsigned low high) v = rw own ((h.0, h.2), below, h.3, h.4) in
     Accepts-accepts false (vp.Unsigned low high) v all
-value_accepted text v fits h = refl
+value_accepted any_text v fits h = refl
 value_accepted some_text [] fits h = absurd h
 value_accepted some_text (x ∷ xs) fits h = Accepts-accepts false vp.NonEmptyString (x ∷ xs) (omega arith)
 
@@ -279,10 +281,10 @@ no_more (a ∷ rules) rows none = ap (λ (all : List Row). fold with_default all
     stays true = refl
     stays false = ap (λ (ds : List Text). default_rows a.id (reading_by a) ds rows) none.0
 
-required_given : (options : List Opt) (ps : Pairs) → All (λ o. o.required ≡ true → IsSome (given ps o.name)) options
+required_given : (options : List Opt) (ps : Pairs) → All (λ o. is_required o ≡ true → IsSome (given ps o.name)) options
     → list_all (λ (a : Rule). not a.required || is_given a.id (pair_rows ps)) (map full_rule options ++ filled help_rule ∷ []) ≡ true
 required_given [] ps complete = refl
-required_given (o ∷ os) ps complete = ap₂ (λ (a b : Bool). a && b) (go o.required (complete 0 o (omega arith))) (required_given os ps (λ k d lt. complete (suc k) d (omega arith)))
+required_given (o ∷ os) ps complete = ap₂ (λ (a b : Bool). a && b) (go (is_required o) (complete 0 o (omega arith))) (required_given os ps (λ k d lt. complete (suc k) d (omega arith)))
   where
     go : (b : Bool) → (b ≡ true → IsSome (given ps o.name)) → (not b || is_given o.name (pair_rows ps)) ≡ true
     go true h = given_row ps o.name (h refl)

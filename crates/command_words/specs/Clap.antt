@@ -1,21 +1,35 @@
 -- The command line as `clap` is told of it.
-use Rattle.std.specs.Prelude.{List, [], map, Option, Some, None, codes, true}
+use Rattle.std.specs.Prelude.{List, [], map, Option, Some, None, option_map, codes, true}
 use Rattle.clap.specs.Walk.{Row, Rule, first_of, one_of}
 use Rattle.clap.specs.Simple.{App, Shape, new_rule, new_shape, with_subcommand}
 use Rattle.clap.specs.declared.builder.value_parser.ValueParser.{ValueParser}
 use Rattle.clap.specs.declared.builder.value_parser.ValueParser.TheVariants as vp
-use Rattle.command_words.specs.Words.{Command, Form, Opt, Text, bulk, drill, join, name_of, number, options_of, reshard, some_text, text, verify}
+use Rattle.command_words.specs.Words.{Command, Opt, Text, bulk, drill, is_required, join, name_of, options_of, reshard, verify}
+use Rattle.command_words.specs.declared.options.Form.{Form}
+use Rattle.command_words.specs.declared.options.Form.TheVariants.{Number as number, AnyText as any_text, SomeText as some_text}
+use Rattle.command_words.specs.declared.options.Opt.{Opt as Entry}
 
 abbrev pub parser_of : Form → Option ValueParser
 parser_of (number low high) = Some (vp.Unsigned low high)
-parser_of text = None
+parser_of any_text = None
 parser_of some_text = Some vp.NonEmptyString
 
 abbrev pub rule_of_option : Opt → Rule
-rule_of_option o = record (new_rule o.name) { long = Some o.name; required = o.required; parser = parser_of o.form }
+rule_of_option o = record (new_rule o.name) { long = Some o.name; required = is_required o; parser = parser_of o.form }
+
+-- the option of an entry of the code's table
+abbrev pub option_in : Entry → Opt
+option_in e = record { name = e.0.now; form = e.1; default = option_map (λ t. t.now) e.2 }
+
+abbrev pub shape_with : Text → List Opt → Shape
+shape_with name options = record (new_shape name) { rules = map rule_of_option options }
+
+-- a command with no subcommand
+abbrev pub app_with : Text → List Opt → App
+app_with name options = record { top = shape_with name options; subs = [] }
 
 abbrev pub shape_of_command : Command → Shape
-shape_of_command c = record (new_shape (name_of c)) { rules = map rule_of_option (options_of c) }
+shape_of_command c = shape_with (name_of c) (options_of c)
 
 -- a command is wanted, and `help` is no command
 abbrev pub top_shape : Shape

@@ -1,5 +1,5 @@
 -- Which words are plain, and what plain words ask for.
-use Rattle.std.specs.Prelude.{◌≡◌, ◌≢◌, ◌<◌, ◌≤◌, ℕ, Bool, true, false, List, [], ◌∷◌, map, length, Option, Some, IsSome, IsSomeAnd, IfSome, option_map, unwrap_or, find, codes, ⊤, String, string_bytes}
+use Rattle.std.specs.Prelude.{◌≡◌, ◌≢◌, ◌<◌, ◌≤◌, ℕ, Bool, true, not, List, [], ◌∷◌, map, length, Option, Some, None, is_some, IsSome, IsSomeAnd, IfSome, option_map, unwrap_or, find, codes, ⊤, String, string_bytes}
 use Rattle.std.specs.List.{All, IsDistinct}
 use Rattle.std.specs.Option.{option_map_or}
 use Rattle.std.specs.Str.{bytes_eq}
@@ -15,6 +15,8 @@ use Rattle.command_words.specs.declared.asked.RunOptions.{RunOptions}
 use Rattle.command_words.specs.declared.asked.BulkOptions.{BulkOptions}
 use Rattle.command_words.specs.declared.asked.Asked.{Asked}
 use Rattle.command_words.specs.declared.asked.Asked.TheVariants.{Join, Drill, Verify, Bulk, Reshard}
+use Rattle.command_words.specs.declared.options.Form.{Form}
+use Rattle.command_words.specs.declared.options.Form.TheVariants.{Number as number, AnyText as any_text, SomeText as some_text}
 
 abbrev pub Text : Type 0
 Text = List ℕ
@@ -25,50 +27,57 @@ texts words = map string_bytes words
 
 -- ---- the commands and their options
 
--- a value is a number in a range, a text, or a text that is refused where it is empty
-pub data Form : Type 0 where
-  number : ℕ → ℕ → Form
-  text : Form
-  some_text : Form
-
--- an option, by its name without the two hyphens
+-- an option, by its name without the two hyphens; where it has a default it may be left out, and then has that value
 pub record Opt : Type 0 where
   pub name : Text
   pub form : Form
-  pub required : Bool
+  pub default : Option Text
 
 abbrev pub must : Text → Form → Opt
-must name form = record { name = name; form = form; required = true }
+must name form = record { name = name; form = form; default = None }
 
-abbrev pub may : Text → Form → Opt
-may name form = record { name = name; form = form; required = false }
+abbrev pub may : Text → Form → Text → Opt
+may name form default = record { name = name; form = form; default = Some default }
+
+abbrev pub is_required : Opt → Bool
+is_required o = not (is_some o.default)
+
+abbrev pub queries : Opt
+queries = must (codes "queries") any_text
+
+abbrev pub clicks : Opt
+clicks = must (codes "clicks") any_text
+
+abbrev pub state : Opt
+state = must (codes "state") any_text
+
+abbrev pub plan : Opt
+plan = must (codes "plan") any_text
+
+abbrev pub add : Opt
+add = must (codes "add") any_text
+
+abbrev pub seed : Opt
+seed = must (codes "seed") (number 0 18446744073709551615)
+
+abbrev pub count : Opt
+count = must (codes "clicks") (number 0 100000)
 
 abbrev pub horizon : Opt
-horizon = may (codes "horizon") (number 0 18446744073709551615)
+horizon = may (codes "horizon") (number 0 18446744073709551615) (codes "0")
 
 abbrev pub joiners : Opt
-joiners = may (codes "joiners") (number 1 4)
+joiners = may (codes "joiners") (number 1 4) (codes "1")
 
 abbrev pub shards : Opt
-shards = may (codes "shards") some_text
+shards = may (codes "shards") some_text (codes "0:4")
 
 abbrev pub batch : Opt
-batch = may (codes "batch") (number 1 64)
+batch = may (codes "batch") (number 1 64) (codes "64")
 
-abbrev pub join_options : List Opt
-join_options = must (codes "queries") text ∷ must (codes "clicks") text ∷ must (codes "state") text ∷ horizon ∷ joiners ∷ shards ∷ batch ∷ []
-
-abbrev pub drill_options : List Opt
-drill_options = must (codes "queries") text ∷ must (codes "clicks") text ∷ must (codes "plan") text ∷ horizon ∷ joiners ∷ shards ∷ batch ∷ []
-
-abbrev pub verify_options : List Opt
-verify_options = must (codes "clicks") text ∷ must (codes "state") text ∷ []
-
-abbrev pub bulk_options : List Opt
-bulk_options = must (codes "seed") (number 0 18446744073709551615) ∷ must (codes "clicks") (number 0 100000) ∷ joiners ∷ shards ∷ batch ∷ []
-
-abbrev pub reshard_options : List Opt
-reshard_options = must (codes "state") text ∷ must (codes "add") text ∷ []
+-- those of each command that runs nodes
+abbrev pub node_options : List Opt
+node_options = joiners ∷ shards ∷ batch ∷ []
 
 pub data Command : Type 0 where
   join : Command
@@ -85,11 +94,11 @@ name_of bulk = codes "bulk"
 name_of reshard = codes "reshard"
 
 abbrev pub options_of : Command → List Opt
-options_of join = join_options
-options_of drill = drill_options
-options_of verify = verify_options
-options_of bulk = bulk_options
-options_of reshard = reshard_options
+options_of join = queries ∷ clicks ∷ state ∷ horizon ∷ node_options
+options_of drill = queries ∷ clicks ∷ plan ∷ horizon ∷ node_options
+options_of verify = clicks ∷ state ∷ []
+options_of bulk = seed ∷ count ∷ node_options
+options_of reshard = state ∷ add ∷ []
 
 -- ---- plain words
 
@@ -103,7 +112,7 @@ IsValueText (b ∷ bs) = b ≢ 45
 
 abbrev pub IsValue : Form → Text → Type 0
 IsValue (number low high) t = IsNumber low high t
-IsValue text t = IsValueText t
+IsValue any_text t = IsValueText t
 IsValue some_text t = IsValueText t
 
 -- the option of that name
@@ -126,7 +135,7 @@ given pairs name = option_map (λ p. p.1) (find (λ p. bytes_eq p.0 name) pairs)
 pub record ArePairsOf (options : List Opt) (pairs : Pairs) : Type 0 where
   pub known : All (λ p. IsSomeAnd (option_named p.0 options) (λ o. IsValue o.form p.1)) pairs
   pub once : IsDistinct bytes_eq (map (λ p. p.0) pairs)
-  pub complete : All (λ o. o.required ≡ true → IsSome (given pairs o.name)) options
+  pub complete : All (λ o. is_required o ≡ true → IsSome (given pairs o.name)) options
 
 -- the words are the program's name, the command's name, and those pairs
 pub record IsPlain (words : List Text) (command : Command) (pairs : Pairs) : Type 0 where
@@ -175,11 +184,11 @@ pub data Wish : Type 0 where
   a_resharding : (state row : Text) → Wish
 
 abbrev pub command_of : Wish → Command
-command_of (a_join v state) = join
-command_of (a_drill v plan) = drill
-command_of (a_verification clicks state) = verify
+command_of (a_join v _) = join
+command_of (a_drill v _) = drill
+command_of (a_verification _ _) = verify
 command_of (a_bulk_run v) = bulk
-command_of (a_resharding state row) = reshard
+command_of (a_resharding _ row) = reshard
 
 abbrev pub values_in : RunOptions → Values
 values_in o = record { queries = o.queries.now; clicks = o.clicks.now; horizon = o.horizon; joiners = o.joiners; shards = o.shards.now; batch = o.batch }
@@ -240,11 +249,11 @@ pub record AreBulkRanges (v : BulkValues) : Type 0 where
   pub batch : v.batch ≤ 64
 
 abbrev pub IsInRanges : Wish → Type 0
-IsInRanges (a_join v state) = AreInRanges v
-IsInRanges (a_drill v plan) = AreInRanges v
-IsInRanges (a_verification clicks state) = ⊤
+IsInRanges (a_join v _) = AreInRanges v
+IsInRanges (a_drill v _) = AreInRanges v
+IsInRanges (a_verification _ _) = ⊤
 IsInRanges (a_bulk_run v) = AreBulkRanges v
-IsInRanges (a_resharding state row) = ⊤
+IsInRanges (a_resharding _ row) = ⊤
 
 -- a number that may be read: digits, which may have a plus before them, within the range
 abbrev pub IsReadable : ℕ → ℕ → Text → Type 0

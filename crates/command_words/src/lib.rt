@@ -3,6 +3,7 @@
 
 mod asked;
 mod commands;
+mod options;
 mod parse;
 
 pub use asked::{Asked, BulkOptions, RunOptions, WordsFault};
