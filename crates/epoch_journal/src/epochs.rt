@@ -1,5 +1,6 @@
 // Epochs that are raised on a disk.
 ghost use Rattle.std.specs.Prelude.{◌≡◌, ◌↔◌, ◌<◌, ◌≤◌, ◌+◌, ◌++◌, [], ◌∷◌, ℕ, List, true, false, IsTrue, IfSome, IfNone, IfOk, IfErr, OnOk, OnErr, IsErrOf, Ok, Err};
+ghost use Rattle.ballot_core.specs.declared.TheConstants.{LAST_EPOCH};
 ghost use Rattle.outside.specs.Disk.{Throughout};
 ghost use Rattle.outside.specs.Faults.{Rose};
 ghost use Rattle.gate_journal.specs.declared.journal.JournalState.TheVariants.{Ready, Broken};
@@ -9,6 +10,7 @@ ghost use Rattle.gate_journal.specs.Growth.{Continues};
 ghost use Rattle.gate_journal.specs.FoldLaws.{comes_next, comes_wrong};
 ghost use Rattle.epoch_journal.specs.Epochs.{epoch_record, epoch_in, epochs, is_next, KeepsOr};
 
+use ballot_core::LAST_EPOCH;
 use gate_journal::{AppendFault, Record, RecordJournal};
 use outside::Disk;
 use std::alloc::{AllocError, Global};
@@ -16,13 +18,10 @@ use std::alloc::{AllocError, Global};
 /// The first byte of a record.
 const TAG: u8 = 2;
 
-/// The last epoch.
-const LAST: u32 = u32::MAX - 1;
-
 /// Why an epoch isn't raised.
 #[derive(Clone, Copy, Debug, PartialEq, Eq)]
 pub enum RaiseFault {
-    /// The kept epoch is the last one, 4294967294. Nothing has changed.
+    /// The kept epoch is the last one. Nothing has changed.
     EpochSpent,
     /// The disk failed in this call. Each image keeps the old epoch or the next one.
     Disk,
@@ -33,11 +32,11 @@ pub enum RaiseFault {
 /// The last of the epochs on a disk, 0 where there is none.
 ///
 /// A record is the byte 02 and an epoch as four bytes, the high one first. Each epoch is above the one before, the first at
-/// least 1, none above 4294967294.
+/// least 1, none above `LAST_EPOCH`.
 #[derive(Drop)]
 pub struct Epochs {
     epoch: u32,
-    ghost limit: { epoch ≤ 4294967294 },
+    ghost limit: { epoch ≤ LAST_EPOCH },
 }
 
 /// The epochs on a disk. A raise takes constant time.
@@ -54,14 +53,14 @@ impl Epochs {
 
 // The epoch of a record, if it is one above the last.
 fn epoch_above(last: u32, payload: &[u8]) -> Option<u32>
-    ensures some { IfSome result (λ epoch. (is_next last payload.now ≡ true) × (epoch ≡ epoch_in payload.now) × (epoch ≤ 4294967294)) }
+    ensures some { IfSome result (λ epoch. (is_next last payload.now ≡ true) × (epoch ≡ epoch_in payload.now) × (epoch ≤ LAST_EPOCH)) }
     ensures none { IfNone result (is_next last payload.now ≡ false) }
 {
     if payload.len() != 5 || payload[0] != TAG {
         return None;
     }
     let epoch = u32::from_be_bytes([payload[1], payload[2], payload[3], payload[4]]);
-    if epoch <= last || epoch > LAST {
+    if epoch <= last || epoch > LAST_EPOCH {
         return None;
     }
     Some(epoch)
@@ -150,14 +149,14 @@ pub fn raise<D: Disk>(journal: &mut EpochJournal<D>) -> Result<u32, RaiseFault>
     ensures durable { IsTrue D.tells → OnOk result ((c : List ℕ) → D.image journal.new.journal.disk c → StandsFor (records (D.seen journal.old.journal.disk) ++ epoch_record (journal.old.value.epoch + 1) ∷ []) c) }
 
     ensures unspent { IsErrOf result RaiseFault.EpochSpent → journal.new ≡ journal.old }
-    ensures spent { IsErrOf result RaiseFault.EpochSpent ↔ (journal.old.value.epoch ≡ 4294967294) }
+    ensures spent { IsErrOf result RaiseFault.EpochSpent ↔ (journal.old.value.epoch ≡ LAST_EPOCH) }
     ensures count { D.faults journal.old.journal.disk ≤ D.faults journal.new.journal.disk }
     ensures fault { IsErrOf result RaiseFault.Disk → (journal.new.journal.state ≡ Broken) × Rose (D.faults journal.old.journal.disk) (D.faults journal.new.journal.disk) }
-    ensures when_broken { journal.old.journal.state ≡ Broken → journal.old.value.epoch < 4294967294 → result ≡ Err RaiseFault.Broken }
+    ensures when_broken { journal.old.journal.state ≡ Broken → journal.old.value.epoch < LAST_EPOCH → result ≡ Err RaiseFault.Broken }
     ensures broken { IsErrOf result RaiseFault.Broken → (journal.old.journal.state ≡ Broken) × (journal.new.journal ≡ journal.old.journal) }
 {
     let last = journal.value().epoch();
-    if last == LAST {
+    if last == LAST_EPOCH {
         return Err(RaiseFault::EpochSpent);
     }
     let epoch = last + 1;

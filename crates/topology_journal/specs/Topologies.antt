@@ -9,6 +9,7 @@ use Rattle.gate_journal.specs.Records as of
 use Rattle.time_shards.specs.declared.ShardRow.{ShardRow}
 use Rattle.time_shards.specs.Shards.{IsTable, is_table}
 use Rattle.time_shards.specs.Text.{comma, row_text}
+use Rattle.topology_journal.specs.declared.topology.TheConstants.{MAX_JOINERS}
 use Rattle.topology_journal.specs.declared.topology.Topology.{Topology}
 
 -- a topology of these
@@ -18,7 +19,7 @@ topology_of joiners table = record { joiners = joiners; table = table }
 -- 1 to 4 joiners a site
 pub record HasJoiners (t : Topology) : Type 0 where
   pub some : 1 ≤ t.joiners
-  pub few : t.joiners ≤ 4
+  pub few : t.joiners ≤ MAX_JOINERS
 
 -- 1 to 4 joiners a site, and a table
 pub record IsTopology (t : Topology) : Type 0 where
@@ -63,7 +64,7 @@ rows_in (suc n) bytes = row_in bytes ∷ rows_in n (drop 9 bytes)
 abbrev pub has_front : List ℕ → Bool
 has_front bytes =
     nat_le 4 (length bytes) && (slice_index bytes 0 == 1) && nat_le 1 (slice_index bytes 1) && nat_le (slice_index bytes 1) 2 && nat_le 1 (slice_index bytes 2)
-    && nat_le (slice_index bytes 2) 4 && (length bytes == 4 + 9 * slice_index bytes 3)
+    && nat_le (slice_index bytes 2) MAX_JOINERS && (length bytes == 4 + 9 * slice_index bytes 3)
 
 -- a record that was read: its version, and its topology
 abbrev pub read_as_table : List ℕ → List ShardRow → Option (ℕ × Topology)
