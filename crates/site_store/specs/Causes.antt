@@ -1,5 +1,6 @@
 -- Why a store isn't opened, read or run over: the causes of the statuses, by what a stop might have left of its disks before.
 use Rattle.std.specs.Prelude.{◌≡◌, ◌⊎◌, ℕ, List, Bool, IsTrue, Option, None, Some, ⊤}
+use Rattle.ballot_core.specs.declared.TheConstants.{LAST_EPOCH}
 use Rattle.outside.specs.declared.store.DiskName.{DiskName}
 use Rattle.log_records.specs.Lines.{end_from}
 use Rattle.topology_journal.specs.declared.topology.Topology.{Topology}
@@ -72,7 +73,7 @@ module _ (tells : Bool) (before : DiskName → List ℕ → Type 0) (asked : Opt
   HasCause read failed late early (fault.Store at) = failed at
   HasCause read failed late early (fault.Damaged disk at) = IsFirstDisk tells before (joiners_asked asked) disk × (IsTrue tells → IsDamagedIn before disk at)
   HasCause read failed late early (fault.Topology what) = (k : KeptValues) × Keeps k × IsUnfit asked told ⊥ k (fault.Topology what)
-  HasCause read failed late early (fault.Limit disk value) = ((k : KeptValues) × Keeps k × IsUnfit asked told ⊥ k (fault.Limit disk value)) ⊎ (late × (value ≡ 4294967294))
+  HasCause read failed late early (fault.Limit disk value) = ((k : KeptValues) × Keeps k × IsUnfit asked told ⊥ k (fault.Limit disk value)) ⊎ (late × (value ≡ LAST_EPOCH))
   HasCause read failed late early fault.Write = early × HasPassed
   HasCause read failed late early fault.Memory = ⊤
   HasCause read failed late early _ = early

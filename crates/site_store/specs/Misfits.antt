@@ -1,6 +1,8 @@
 -- Why opened disks can't be run as asked.
 use Rattle.std.specs.Prelude.{◌≡◌, ◌≢◌, List, [], ◌∷◌, ◌==◌, Bool, ◌||◌, if◌then◌else◌, Option, None, Some, ⊤}
 use Rattle.std.specs.List.{list_any}
+use Rattle.ballot_core.specs.declared.TheConstants.{LAST_EPOCH}
+use Rattle.turn_defs.specs.declared.limits.TheConstants.{LAST_SLOT}
 use Rattle.outside.specs.declared.store.DiskName.{DiskName}
 use Rattle.paxos_acceptor.specs.declared.notes.ReplicaNote.{ReplicaNote}
 use Rattle.paxos_acceptor.specs.declared.notes.ReplicaNote.TheVariants.{Promised, Accepted}
@@ -27,16 +29,16 @@ IsFitFor kept (Some asked) = IsFit kept asked
 
 -- a note of the last slot or the last round
 abbrev pub is_full_note : ReplicaNote → Bool
-is_full_note (Promised shard slot b) = (slot == 281474976710655) || (b.round == 281474976710655)
-is_full_note (Accepted shard slot b v) = (slot == 281474976710655) || (b.round == 281474976710655)
+is_full_note (Promised shard slot b) = (slot == LAST_SLOT) || (b.round == LAST_SLOT)
+is_full_note (Accepted shard slot b v) = (slot == LAST_SLOT) || (b.round == LAST_SLOT)
 
 -- a disk whose epoch is the last one, or that has such a note
 abbrev pub limit_at : DiskName → Kept → Option RunFault
 limit_at name (TopologyIs topology) = None
 limit_at name (OffsetIs offset) = None
 limit_at name (PendingAre positions) = None
-limit_at name (EpochIs epoch) = if epoch == 4294967294 then Some (fault.Limit name 4294967294) else None
-limit_at name (NotesAre notes) = if list_any is_full_note notes then Some (fault.Limit name 281474976710655) else None
+limit_at name (EpochIs epoch) = if epoch == LAST_EPOCH then Some (fault.Limit name LAST_EPOCH) else None
+limit_at name (NotesAre notes) = if list_any is_full_note notes then Some (fault.Limit name LAST_SLOT) else None
 limit_at name (PairsAre pairs) = None
 
 abbrev pub or_else : Option RunFault → Option RunFault → Option RunFault

@@ -1,6 +1,7 @@
 // All disks of a state directory.
 ghost use Rattle.std.specs.Prelude.{◌≡◌, ◌≤◌, ◌+◌, ◌∷◌, ℕ, List, length, IsTrue, IfOk, IfErr, OnErr};
 ghost use Rattle.list_words.specs.Lists.{Each};
+ghost use Rattle.turn_defs.specs.declared.limits.TheConstants.{MOST_JOINERS};
 ghost use Rattle.outside.specs.declared.store.DiskName.{DiskName};
 ghost use Rattle.outside.specs.Faults.{added};
 ghost use Rattle.gate_journal.specs.declared.journal.JournalState.TheVariants.{Ready};
@@ -27,9 +28,9 @@ pub struct OpenStore<D: Disk> {
 
 // How many joiners a site has: the kept number, or the asked one where none is kept.
 fn joiners_of<D: Disk>(topology: &TopologyJournal<D>, asked: u8) -> u8
-    requires { asked ≤ 4 }
+    requires { asked ≤ MOST_JOINERS }
     ensures number { result ≡ joiners_kept topology.now.value.kept asked }
-    ensures few { result ≤ 4 }
+    ensures few { result ≤ MOST_JOINERS }
 {
     match topology.value().kept() {
         Some(kept) => kept.joiners,
@@ -46,7 +47,7 @@ pub fn open_disks<S: Store>(
     store: &mut S,
     asked: u8,
 ) -> Result<OpenStore<S::Disk>, RunFault>
-    requires { asked ≤ 4 }
+    requires { asked ≤ MOST_JOINERS }
     ensures ready { IfOk result (λ d. d.topology.journal.state ≡ Ready) }
     ensures kept { IfOk result (λ d. AreKept S.Disk.tells (S.image store.old) asked (values_of d.topology.value.kept d.disks.items)) }
     // What a stop may leave now, of the disks and in the store.

@@ -1,6 +1,7 @@
 // Taking disks from a store and giving them back.
 ghost use Rattle.std.specs.Prelude.{◌≡◌, ◌≢◌, ◌≤◌, ◌+◌, ℕ, List, length, map, IsTrue, IfOk, IfErr, OnOk, OnErr, IsErrOf};
 ghost use Rattle.list_words.specs.Lists.{Each};
+ghost use Rattle.turn_defs.specs.declared.limits.TheConstants.{MOST_JOINERS};
 ghost use Rattle.outside.specs.declared.store.DiskName.{DiskName};
 ghost use Rattle.outside.specs.Disk.{Within};
 ghost use Rattle.outside.specs.Faults.{Counts};
@@ -102,7 +103,7 @@ pub(crate) fn open_others<S: Store>(
     store: &mut S,
     joiners: u8,
 ) -> Result<Vec<OpenDisk<S::Disk>>, RunFault>
-    requires few { joiners ≤ 4 }
+    requires few { joiners ≤ MOST_JOINERS }
     ensures named { IfOk result (λ d. map (λ o. o.name) d.items ≡ other_names joiners) }
     ensures kinds { IfOk result (λ d. Each (λ o. IsOfKind o.name o.kept) d.items) }
     ensures kept { IsTrue S.Disk.tells → IfOk result (λ d. Each (λ o. IsKept (S.image store.old) (kept_by o)) d.items) }

@@ -1,5 +1,6 @@
 // A store read for verification.
 ghost use Rattle.std.specs.Prelude.{◌≡◌, ◌≤◌, Some, None, IsTrue, IfOk, IfErr};
+ghost use Rattle.turn_defs.specs.declared.limits.TheConstants.{MOST_JOINERS};
 ghost use Rattle.outside.specs.declared.store.DiskName.{DiskName};
 ghost use Rattle.outside.specs.Faults.{Rose};
 ghost use Rattle.run_fault.specs.Causes.{IsWelcome};
@@ -58,7 +59,7 @@ pub fn read_store<S: Store, L: LogFile>(
     ensures cause { IfErr result (IsCause S.Disk.tells (S.image store.old) (Rose (S.faults store.old) (S.faults store.new)) L.tells (L.bytes clicks.old) end (Rose (L.faults clicks.old) (L.faults clicks.new)) None) }
 
     // A sound store is refused neither for a place nor for a damaged disk, if a stop leaves something of each of its disks.
-    ensures welcome { IsTrue S.Disk.tells → IsTrue L.tells → (g : Setting) → IsLogOf (L.bytes clicks.old) g → end ≡ end_from 0 g.clicks → g.replicas ≡ 3 → g.joiners ≤ 4 → LeavesSomething g (S.image store.old) → IsSoundStore g (S.image store.old)
+    ensures welcome { IsTrue S.Disk.tells → IsTrue L.tells → (g : Setting) → IsLogOf (L.bytes clicks.old) g → end ≡ end_from 0 g.clicks → g.replicas ≡ 3 → g.joiners ≤ MOST_JOINERS → LeavesSomething g (S.image store.old) → IsSoundStore g (S.image store.old)
         → IfErr result (IsWelcome (LeavesSomething g (S.image store.old))) }
 
     ensures same { IsTrue L.tells → L.bytes clicks.new ≡ L.bytes clicks.old }
