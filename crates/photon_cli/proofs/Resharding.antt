@@ -4,22 +4,21 @@ use Rattle.turn_defs.specs.declared.limits.TheConstants.{MOST_JOINERS}
 use Rattle.outside.specs.declared.store.DiskName.TheVariants as name
 use Rattle.run_fault.specs.declared.fault.Mismatch.TheVariants as mismatch
 use Rattle.run_fault.specs.declared.fault.RunFault.TheVariants as fault
-use Rattle.photon_model.specs.Adding.{with_row}
 use Rattle.list_words.proofs.Lists.{each_more}
-use Rattle.gate_journal.specs.Opening.{IsOpened}
 use Rattle.time_shards.proofs.Texts.{row_same}
 use Rattle.time_shards.specs.Text.{table_text}
-use Rattle.site_laws.specs.Stores.{IsSoundOr}
 use Rattle.site_laws.specs.StoreLaws.{ReadTopologyIsKept, TopologyFits}
-use Rattle.site_store.specs.Adding.{Answers, HasRow as KeepsRow, IsAdded, IsRowCause, NoneTold}
+use Rattle.site_store.specs.Adding.{Answers, HasRow as KeepsRow, IsAdded, IsRowCause, Leaves, NoneTold}
 use Rattle.site_store.specs.Causes.{LeavesSomething}
 use Rattle.site_store.specs.Records.{AreKept, IsKept}
 use Rattle.site_store.specs.Written.{IsWritten}
+use Rattle.site_store.proofs.Added.{unchanged}
 use Rattle.site_store.proofs.Damage.{no_damage}
-use Rattle.photon_cli.proofs.Words.{DiskName, GoesOn, StaysAs, Images, IsSoundStore, KeptValues, HasCause, HasFailed, Setting, ShardRow, StorePlace, StoreFault, RunFault, Text, Topology, Unfit, cause_more, failed_rose, first_limit, goes_on_within, kept_are_journals, message, of_place, status_of, unasked}
+use Rattle.photon_cli.proofs.Words.{DiskName, Images, IsSoundStore, KeptValues, HasCause, HasFailed, Setting, ShardRow, StorePlace, StoreFault, RunFault, Text, Topology, Unfit, cause_more, failed_rose, first_limit, goes_on_through, goes_on_within, kept_are_journals, message, of_place, status_of, unasked}
 use Rattle.outside.specs.declared.faults.StoreFault.TheVariants as store
 use Rattle.report_text.specs.Stream.{TookPrefix}
-use Rattle.photon_cli.specs.Reshard.{Adds, HasRow, IsCauseFor, IsForbidden, IsNamedInReshard, IsRowOf, ReshardEnds}
+use Rattle.photon_cli.specs.Reshard.{Adds, HasOwnRow, HasRow, IsCauseFor, IsForbidden, IsNamedInReshard, IsRowOf, LeftAt, ReshardEnds}
+use Rattle.photon_cli.proofs.Verifying.{sound_before}
 use Rattle.photon_cli.proofs.Statuses.{damaged_of, failed_of, line_of, mismatch_of, no_one, no_zero, place_of, two_of, write_of}
 
 -- ---- a row and its text
@@ -117,28 +116,27 @@ not_written tells placed row rose f cause is = let x = (subst (IsRowCause tells 
 
 -- ---- at each fault
 
-module _ (text : Text) (disks : Bool) (before after : Images) where
-  -- what a fault leaves of the disks
-  pub record After (f : RunFault) : Type 0 where
-    pub stays : IsTrue disks → f ≢ fault.Write → status_of f ≢ 6 → (disk : DiskName) → StaysAs (before disk) (after disk)
-    pub others : IsTrue disks → (disk : DiskName) → disk ≢ name.Topology → StaysAs (before disk) (after disk)
-    pub topology : IsTrue disks → (c : List ℕ) → after name.Topology c → IsOpened (before name.Topology) c ⊎ ((row : ShardRow) × IsRowOf text row × KeepsRow true before row c)
-    pub grown : IsTrue disks → (disk : DiskName) → GoesOn (before disk) (after disk)
-    pub longer : IsTrue disks → f ≡ fault.Write → (row : ShardRow) → IsRowOf text row → (g : Setting) → g.replicas ≡ 3 → IsSoundStore g before → IsSoundStore (with_row g row) after
-    pub still : IsTrue disks → f ≢ fault.Write → status_of f ≢ 6 → (g : Setting) → IsSoundStore g before → IsSoundStore g after
-    pub either : IsTrue disks → (row : ShardRow) → IsRowOf text row → (g : Setting) → g.replicas ≡ 3 → IsSoundStore g before → IsSoundOr g (with_row g row) after
+-- only a fault of the output ends as a row does that was added
+pub not_added : (f : RunFault) → f ≢ fault.Write → (status_of f ≡ 0) ⊎ (status_of f ≡ 5) → ⊥
+not_added f other = ⊎_elim (no_zero f) (λ five. other (write_of f five))
 
-  -- where none was taken
-  pub untaken : (f : RunFault) → f ≢ fault.Write → (IsTrue disks → (disk : DiskName) (c : List ℕ) → after disk c → before disk c) → After f
-  untaken f other within = record {
-    stays = λ d write six disk c now. (c, within d disk c now, refl);
-    others = λ d disk not c now. (c, within d disk c now, refl);
-    topology = λ d c now. inl (c, within d name.Topology c now, refl);
-    grown = λ d disk. goes_on_within (before disk) (after disk) (within d disk);
-    longer = λ d write row is. absurd (other write);
-    still = λ d write six g sound b choice. sound b (λ disk is. within d disk (b disk) (choice disk is));
-    either = λ d row is g replicas sound b choice. inl (sound b (λ disk here. within d disk (b disk) (choice disk here)));
-  }
+-- where no disk was taken
+pub untaken : (text : Text) (before after : Images) (status : ℕ) → ((status ≡ 0) ⊎ (status ≡ 5) → ⊥) → ((disk : DiskName) (c : List ℕ) → after disk c → before disk c) → LeftAt text before after status
+untaken text before after status not within =
+    unchanged before after (IsRowOf text) (HasOwnRow text before) _ _ not (λ g sound stay b choice. sound b (λ disk here. within disk (b disk) (choice disk here))) (λ disk c now. (c, within disk c now, refl))
+
+-- what is left of the disks of a store that was placed, by what might have been left before
+pub left_before : (tells : Bool) → IsTrue tells → (text : Text) (row : ShardRow) → IsRowOf text row → (placed before after : Images) → ((disk : DiskName) (c : List ℕ) → placed disk c → before disk c) → (sure none : Type 0) (status : ℕ)
+    → ((status ≡ 0) ⊎ (status ≡ 5) → sure) → ((status ≢ 0) × (status ≢ 5) × (status ≢ 6) → none) → Leaves placed after (λ r. r ≡ row) (KeepsRow tells placed row) sure none → LeftAt text before after status
+left_before tells telling text row is placed before after within sure none status added unadded left = record {
+  stays = λ no disk c now. let x = left.stays (unadded no) disk c now in (x.0, within disk x.0 x.1, x.2);
+  others = λ disk other c now. let x = left.others disk other c now in (x.0, within disk x.0 x.1, x.2);
+  topology = λ c now. ⊎_elim (λ x. inl (x.0, within name.Topology x.0 x.1, x.2)) (λ has. inr (row, is, row_before placed before within tells telling row c has)) (left.topology c now);
+  grown = λ disk. goes_on_through (before disk) (placed disk) (after disk) (goes_on_within (before disk) (placed disk) (within disk)) (left.grown disk);
+  longer = λ so r own g three sound. left.longer (added so) r (sym (one_row text row r is own)) g three (sound_before before placed within g sound);
+  still = λ no g sound. left.still (unadded no) g (sound_before before placed within g sound);
+  either = λ r own g three sound. left.either r (sym (one_row text row r is own)) g three (sound_before before placed within g sound);
+}
 
 module _ (before : Images) (faulted : Type 0) (row : ShardRow) where
   abbrev Has : RunFault → Type 0
@@ -189,34 +187,16 @@ module _ (before : Images) (faulted : Type 0) (row : ShardRow) where
 
 -- ---- where the row was added
 
-module _ (text : Text) (disks : Bool) (before after : Images) (row : ShardRow) (is : IsRowOf text row) (table : List ShardRow) (added : IsTrue disks → IsAdded true before row after table)
-    (others : IsTrue disks → (disk : DiskName) → disk ≢ name.Topology → StaysAs (before disk) (after disk)) (grown : IsTrue disks → (disk : DiskName) → GoesOn (before disk) (after disk))
-    (sound : IsTrue disks → (g : Setting) → g.replicas ≡ 3 → IsSoundStore g before → IsSoundStore (with_row g row) after) where
-  topology_row : IsTrue disks → (c : List ℕ) → after name.Topology c → IsOpened (before name.Topology) c ⊎ ((r : ShardRow) × IsRowOf text r × KeepsRow true before r c)
-  topology_row d c now = let a = added d in inr (row, is, (a.topology, a.answers, a.written refl c now))
-
-  sound_row : IsTrue disks → (r : ShardRow) → IsRowOf text r → (g : Setting) → g.replicas ≡ 3 → IsSoundStore g before → IsSoundStore (with_row g r) after
-  sound_row d r own g replicas whole = subst (λ (x : ShardRow). IsSoundStore (with_row g x) after) (one_row text row r is own) (sound d g replicas whole)
-
-  pub after_written : After text disks before after fault.Write
-  after_written = record {
-    stays = λ d other six. absurd (other refl);
-    others = others;
-    topology = topology_row;
-    grown = grown;
-    longer = λ d write. sound_row d;
-    still = λ d other six. absurd (other refl);
-    either = λ d r own g replicas whole b choice. inr (sound_row d r own g replicas whole b choice);
-  }
-
+module _ (text : Text) (disks : Bool) (before after : Images) (row : ShardRow) (is : IsRowOf text row) (table : List ShardRow) (added : IsTrue disks → IsAdded true before row after table) where
   pub answer_for : IsTrue disks → (r : ShardRow) → IsRowOf text r → (t : Topology) × Answers true before r (Ok t)
   answer_for d r own = let a = added d in (a.topology, subst (λ (x : ShardRow). Answers true before x (Ok a.topology)) (one_row text row r is own) a.answers)
 
   pub adds : (says : List ℕ → Type 0) → says (table_text table ++ codes "\n") → IsTrue disks → Adds text before after says
   adds says line d = record { row = row; is = is; table = table; added = added d; line = line }
 
-  pub ends_added : (sinks : Bool) (output errors : Type 0) (old new err : List ℕ) (same faulted : Type 0) (leaves : Setting → Type 0) → (IsTrue sinks → new ≡ old ++ (table_text table ++ codes "\n")) → ReshardEnds sinks output errors old new err err 0 text same disks before after faulted leaves
-  ends_added sinks output errors old new err same faulted leaves line = record {
+  pub ends_added : (sinks : Bool) (output errors : Type 0) (old new err : List ℕ) (same faulted : Type 0) (leaves : Setting → Type 0) → (IsTrue sinks → new ≡ old ++ (table_text table ++ codes "\n"))
+      → (IsTrue disks → LeftAt text before after 0) → ReshardEnds sinks output errors old new err err 0 text same disks before after faulted leaves
+  ends_added sinks output errors old new err same faulted leaves line left = record {
     added = λ s d zero. adds (λ l. new ≡ old ++ l) (line s) d;
     prefix = λ s d five. absurd (omega (arith, five));
     row = λ two has. omega (arith, two);
@@ -229,20 +209,14 @@ module _ (text : Text) (disks : Bool) (before after : Images) (row : ShardRow) (
     forbidden = λ d r own forbids still. let (t, (k, kept, answer)) = answer_for d r own in absurd (forbids k kept t answer.is);
     caused = inl refl;
     tells = λ s calm. inl (refl, refl);
-    stays = λ d other. absurd (other refl);
-    others = others;
-    topology = topology_row;
-    grown = grown;
-    longer = λ d ended. sound_row d;
-    still = λ d other. absurd (other refl);
-    either = after_written.either;
+    left = left;
     complete = λ d has g replicas few whole some below still quiet. inl refl;
   }
 
 module _ (sinks disks : Bool) (output errors : Type 0) (old new err_old err_new : List ℕ) (text : Text) (same : Type 0) (before after : Images) (faulted : Type 0) (leaves : Setting → Type 0) where
   pub ends : (f : RunFault) → IsNamedInReshard text f → (IsTrue disks → (row : ShardRow) → IsRowOf text row → IsCauseFor before faulted row f) → ((HasRow text → ⊥) → same × ((status_of f ≡ 2) ⊎ (status_of f ≡ 8)))
       → ((at : StorePlace) → f ≡ fault.Store at → faulted) → (f ≡ fault.Write → output) → (IsTrue sinks → IsTrue disks → f ≡ fault.Write → Adds text before after (λ line. TookPrefix old line new))
-      → (IsTrue sinks → (errors → ⊥) → err_new ≡ err_old ++ message f) → (IsTrue disks → (g : Setting) → g.replicas ≡ 3 → g.joiners ≤ MOST_JOINERS → IsSoundStore g before → leaves g → status_of f ≢ 7) → After text disks before after f
+      → (IsTrue sinks → (errors → ⊥) → err_new ≡ err_old ++ message f) → (IsTrue disks → (g : Setting) → g.replicas ≡ 3 → g.joiners ≤ MOST_JOINERS → IsSoundStore g before → leaves g → status_of f ≢ 7) → (IsTrue disks → LeftAt text before after (status_of f))
       → ReshardEnds sinks output errors old new err_old err_new (status_of f) text same disks before after faulted leaves
   ends f named causes bad rose wrote prefix tells fair left = record {
     added = λ s d zero. absurd (no_zero f zero);
@@ -262,13 +236,7 @@ module _ (sinks disks : Bool) (output errors : Type 0) (old new err_old err_new 
     forbidden = λ d row is forbids still. forbidden_row before faulted row f (causes d row is) forbids still;
     caused = inr (f, refl, (named, causes));
     tells = λ s calm. inr (f, refl, (named, causes), tells s calm);
-    stays = λ d zero five six. left.stays d (λ is. five (ap status_of is)) six;
-    others = left.others;
-    topology = left.topology;
-    grown = left.grown;
-    longer = λ d ended. ⊎_elim (λ zero. absurd (no_zero f zero)) (λ five. left.longer d (write_of f five)) ended;
-    still = λ d zero five six. left.still d (λ is. five (ap status_of is)) six;
-    either = left.either;
+    left = left;
     complete = λ d (row, is) g replicas few sound some below still quiet. inr (complete_row before faulted row f (causes d row is) (fair d g replicas few sound some) below still (λ is. quiet (wrote is)));
   }
 
@@ -281,7 +249,7 @@ module _ (sinks disks : Bool) (output errors : Type 0) (old new err_old err_new 
       by : (r : StoreFault) → (r ≡ store.Disk → faulted) → (IsTrue sinks → (errors → ⊥) → err_new ≡ err_old ++ message (of_place r)) → ReshardEnds sinks output errors old new err_old err_new (status_of (of_place r)) text same disks before after faulted leaves
       by store.Disk risen tells =
           ends (of_place store.Disk) (row, is) (λ d r own. risen refl) (λ none. absurd (none (row, is))) (λ at x. risen refl) (λ x. absurd (cc)) (λ a d x. absurd (cc)) tells (λ d g replicas few sound some seven. omega (arith, seven))
-          (untaken text disks before after (of_place store.Disk) (λ x. cc) within)
+          (λ d. untaken text before after (status_of (of_place store.Disk)) (not_added (of_place store.Disk) (λ x. cc)) (within d))
       by store.Memory risen tells =
           ends (of_place store.Memory) tt (λ d r own. tt) (λ none. absurd (none (row, is))) (λ at x. absurd (cc)) (λ x. absurd (cc)) (λ a d x. absurd (cc)) tells (λ d g replicas few sound some seven. omega (arith, seven))
-          (untaken text disks before after (of_place store.Memory) (λ x. cc) within)
+          (λ d. untaken text before after (status_of (of_place store.Memory)) (not_added (of_place store.Memory) (λ x. cc)) (within d))

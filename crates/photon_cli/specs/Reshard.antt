@@ -2,9 +2,6 @@
 use Rattle.std.specs.Prelude.{ℕ, ◌≡◌, ◌≢◌, ◌≤◌, ◌⊎◌, List, ◌++◌, Bool, true, IsTrue, Some, Ok, Err, codes, ⊤}
 use Rattle.turn_defs.specs.declared.limits.TheConstants.{MOST_JOINERS}
 use Rattle.outside.specs.declared.store.DiskName.{DiskName}
-use Rattle.outside.specs.declared.store.DiskName.TheVariants as name
-use Rattle.gate_journal.specs.Images.{GoesOn, StaysAs}
-use Rattle.gate_journal.specs.Opening.{IsOpened}
 use Rattle.time_shards.specs.declared.ShardRow.{ShardRow}
 use Rattle.time_shards.specs.Shards.{IsRow}
 use Rattle.time_shards.specs.Text.{row_text, table_text}
@@ -12,12 +9,11 @@ use Rattle.report_text.specs.Stream.{TookPrefix}
 use Rattle.command_words.specs.Words.{Text}
 use Rattle.topology_journal.specs.declared.topology.Topology.{Topology}
 use Rattle.turn_defs.specs.Setting.{Setting}
-use Rattle.photon_model.specs.Adding.{with_row}
 use Rattle.run_fault.specs.declared.fault.RunFault.{RunFault}
 use Rattle.run_fault.specs.declared.fault.RunFault.TheVariants as fault
 use Rattle.run_fault.specs.Faults.{status_of}
-use Rattle.site_laws.specs.Stores.{Images, IsSoundOr, IsSoundStore}
-use Rattle.site_store.specs.Adding.{Answers, HasRow as KeepsRow, IsAdded, accepted, answer_to}
+use Rattle.site_laws.specs.Stores.{Images, IsSoundStore}
+use Rattle.site_store.specs.Adding.{Answers, HasRow as KeepsRow, IsAdded, Leaves, accepted, answer_to}
 use Rattle.site_store.specs.Causes.{first_limit}
 use Rattle.site_store.specs.Opening.{IsDamagedIn}
 use Rattle.site_store.specs.Records.{AreKept, KeptValues}
@@ -33,6 +29,14 @@ IsRowOf text row = IsRow row × (text ≡ row_text row)
 -- it is one's
 abbrev pub HasRow : Text → Type 0
 HasRow text = (row : ShardRow) × IsRowOf text row
+
+-- the bytes have the record of a topology that has the text's row more, behind records that were kept
+abbrev pub HasOwnRow : Text → Images → List ℕ → Type 0
+HasOwnRow text before c = (row : ShardRow) × IsRowOf text row × KeepsRow true before row c
+
+-- what a resharding leaves of the disks: at 0 and 5 the row was added, and at any status but these and 6 none was
+abbrev pub LeftAt : Text → (before after : Images) → (status : ℕ) → Type 0
+LeftAt text before after status = Leaves before after (IsRowOf text) (HasOwnRow text before) ((status ≡ 0) ⊎ (status ≡ 5)) ((status ≢ 0) × (status ≢ 5) × (status ≢ 6))
 
 -- whatever the disks kept, it forbids the row
 abbrev pub IsForbidden : Images → ShardRow → Type 0
@@ -91,16 +95,8 @@ pub record ReshardEnds (sinks : Bool) (output errors : Type 0) (old new err_old 
   -- any but 0 is of a fault that has its cause, and that one is told, unless the standard error has a fault
   pub caused : (status ≡ 0) ⊎ ((f : RunFault) × (status ≡ status_of f) × IsToldOfRow text disks before faulted f)
   pub tells : IsTrue sinks → (errors → ⊥) → TellsBy (IsToldOfRow text disks before faulted) status err_old err_new
-  -- What stands on the disks. At any status but 0, 5 and 6 each stands for what it stood for. The topology's may have the row besides.
-  pub stays : IsTrue disks → status ≢ 0 → status ≢ 5 → status ≢ 6 → (disk : DiskName) → StaysAs (before disk) (after disk)
-  pub others : IsTrue disks → (disk : DiskName) → disk ≢ name.Topology → StaysAs (before disk) (after disk)
-  pub topology : IsTrue disks → (c : List ℕ) → after name.Topology c → IsOpened (before name.Topology) c ⊎ ((row : ShardRow) × IsRowOf text row × KeepsRow true before row c)
-  pub grown : IsTrue disks → (disk : DiskName) → GoesOn (before disk) (after disk)
-  -- A sound store stays so, at 0 and 5 for its setting with the row, else for its setting. At 6 each choice of what a stop leaves is sound
-  -- for one of the two.
-  pub longer : IsTrue disks → (status ≡ 0) ⊎ (status ≡ 5) → (row : ShardRow) → IsRowOf text row → (g : Setting) → g.replicas ≡ 3 → IsSoundStore g before → IsSoundStore (with_row g row) after
-  pub still : IsTrue disks → status ≢ 0 → status ≢ 5 → status ≢ 6 → (g : Setting) → IsSoundStore g before → IsSoundStore g after
-  pub either : IsTrue disks → (row : ShardRow) → IsRowOf text row → (g : Setting) → g.replicas ≡ 3 → IsSoundStore g before → IsSoundOr g (with_row g row) after
+  -- what stands on the disks
+  pub left : IsTrue disks → LeftAt text before after status
   -- over a sound store, with no fault and nothing at its limit, the row is added or forbidden, unless memory runs out
   pub complete : IsTrue disks → HasRow text → (g : Setting) → g.replicas ≡ 3 → g.joiners ≤ MOST_JOINERS → IsSoundStore g before → leaves g → IsBelowLimits (unasked g) before → (faulted → ⊥) → (output → ⊥)
       → (status ≡ 0) ⊎ ((status ≡ 8) ⊎ (status ≡ 11))

@@ -1,5 +1,5 @@
 -- A row behind those of the kept table: what is answered, and what it makes of a sound store.
-use Rattle.std.proofs.Common.{◌≡◌, ◌≢◌, ◌⊎◌, inl, inr, ℕ, ◌≤◌, List, [], ◌∷◌, ◌++◌, length, map, Bool, true, false, ◌&&◌, ◌==◌, IsTrue, Option, Some, None, Result, Ok, Err, refl, sym, ◌∙◌, ap, subst, arith, if◌then◌else◌}
+use Rattle.std.proofs.Common.{◌≡◌, ◌≢◌, ◌⊎◌, inl, inr, ⊎_elim, ℕ, ◌≤◌, List, [], ◌∷◌, ◌++◌, length, map, Bool, true, false, ◌&&◌, ◌==◌, IsTrue, Option, Some, None, Result, Ok, Err, refl, sym, ◌∙◌, ap, subst, arith, if◌then◌else◌}
 use Rattle.std.specs.Prelude.{IfSome, nat_le}
 use Rattle.time_shards.specs.declared.ShardRow.{ShardRow}
 use Rattle.time_shards.specs.declared.AddFault.{AddFault}
@@ -15,12 +15,14 @@ use Rattle.topology_journal.proofs.Spelled.{more_same}
 use Rattle.photon_model.specs.Adding.{with_row}
 use Rattle.run_fault.specs.declared.fault.Unfit.{Unfit}
 use Rattle.run_fault.specs.declared.fault.RunFault.TheVariants as fault
-use Rattle.site_laws.specs.Stores.{IsChoice}
-use Rattle.site_laws.specs.StoreLaws.{IsRowAdded, RowIsSound}
+use Rattle.site_laws.proofs.SameDisks.{disk_onward}
+use Rattle.site_laws.specs.Stores.{IsChoice, IsSoundOr}
+use Rattle.site_laws.specs.StoreLaws.{IsRowAdded, RowIsSound, StaysSound}
 use Rattle.outside.specs.declared.store.DiskName.TheVariants as name
-use Rattle.site_store.proofs.Words.{eq-eqb, Each, Mem, DiskName, IsOpened, Topology, Keeps, IsTopology, kept_is, Setting, BallotNote, Disks, PlainTopology, topology_of, Bytes, KeepsOf, KeepSound, IsSoundStore, ReadTopologyIsKept, ReadNotesAreKept, TopologyFits, joiners_kept, StaysAs, Lent, Lacks, MayBeLeft, OpenView, AllKept, KeptValues, AreKept, AreRecordsOf, kept_all, lent_all, values_of, other_names, IsAsked, LeavesSomething, IsWritten, RunFault, first_limit}
-use Rattle.site_store.specs.Adding.{accepted, answer_of, answer_to, IsAnswer, IsUnadded, IsRowCause}
+use Rattle.site_store.proofs.Words.{eq-eqb, Each, Mem, DiskName, IsOpened, GoesOn, Topology, Keeps, IsTopology, kept_is, Setting, BallotNote, Disks, PlainTopology, topology_of, Bytes, KeepsOf, KeepSound, IsSoundStore, ReadTopologyIsKept, ReadNotesAreKept, TopologyFits, joiners_kept, StaysAs, Lent, Lacks, MayBeLeft, OpenView, AllKept, KeptValues, AreKept, AreRecordsOf, kept_all, lent_all, values_of, other_names, IsAsked, LeavesSomething, IsWritten, RunFault, first_limit}
+use Rattle.site_store.specs.Adding.{accepted, answer_of, answer_to, IsAnswer, IsUnadded, IsRowCause, HasRow, Leaves}
 use Rattle.site_store.proofs.Causes.{limit_is}
+use Rattle.site_store.proofs.Leaving.{all_grow}
 use Rattle.site_store.proofs.Lending.{each_mem, lacks_by_names}
 use Rattle.site_store.proofs.Names.{all_named, not_topology}
 use Rattle.site_store.proofs.Recorded.{keeps_of}
@@ -154,58 +156,92 @@ module _ {D : Type 0} (left : D → List ℕ → Type 0) (mid after : DiskName �
 module _ {D : Type 0} (tells : Bool) (sure : IsTrue tells) (left : D → List ℕ → Type 0) (before mid after : DiskName → List ℕ → Type 0) (kept : Option Topology) (topology : Lent D) (disks : List (OpenView D)) (are : AreKept tells before 0 (values_of kept disks))
     (row : ShardRow) (t : Topology) (answer : IsAnswer (values_of kept disks) row (Ok t)) (keep : Each (λ o. AllKept left o) disks)
     (give : (disk : DiskName) (c : List ℕ) → after disk c → MayBeLeft left mid (topology ∷ lent_all disks) disk c) (its_name : topology.name ≡ name.Topology) (others : (disk : DiskName) → disk ≢ name.Topology → StaysAs (before disk) (after disk))
-    (read_topology : ReadTopologyIsKept) (read_notes : ReadNotesAreKept) (fits : TopologyFits) (g : Setting) (replicas : g.replicas ≡ 3) (sound : IsSoundStore g before) (b : Bytes) (choice : IsChoice g after b) where
+    (read_topology : ReadTopologyIsKept) (read_notes : ReadNotesAreKept) (fits : TopologyFits) where
   abbrev k : KeptValues
   k = values_of kept disks
 
-  it : IsLonger k.topology (accepted k.disks) row t
-  it = answered k.topology (accepted k.disks) row t answer.is
+  module _ (g : Setting) (replicas : g.replicas ≡ 3) (sound : IsSoundStore g before) (b : Bytes) (choice : IsChoice g after b) where
+    it : IsLonger k.topology (accepted k.disks) row t
+    it = answered k.topology (accepted k.disks) row t answer.is
 
-  some : LeavesSomething g before
-  some disk here = elim (same_or_not disk name.Topology) [
-    | inl is ↦ let x = are.topology sure in (x.0, subst (λ (n : DiskName). before n x.0) (sym is) x.1)
-    | inr not ↦ let x = others disk not (b disk) (choice disk here) in (x.0, x.1)
-  ]
+    some : LeavesSomething g before
+    some disk here = elim (same_or_not disk name.Topology) [
+      | inl is ↦ let x = are.topology sure in (x.0, subst (λ (n : DiskName). before n x.0) (sym is) x.1)
+      | inr not ↦ let x = others disk not (b disk) (choice disk here) in (x.0, x.1)
+    ]
 
-  -- the kept topology is the setting's
-  own : record { joiners = it.was.joiners; table = it.was.table } ≡ topology_of g
-  own = topology_is tells sure before 0 k are g (few_joiners tells sure before k are) some sound read_topology fits it.was it.is_kept
+    -- the kept topology is the setting's
+    own : record { joiners = it.was.joiners; table = it.was.table } ≡ topology_of g
+    own = topology_is tells sure before 0 k are g (few_joiners tells sure before k are) some sound read_topology fits it.was it.is_kept
 
-  asked : IsAsked it.was g
-  asked = record { joiners = ap (λ (u : PlainTopology). u.joiners) (sym own); table = ap (λ (u : PlainTopology). u.table) (sym own) }
+    asked : IsAsked it.was g
+    asked = record { joiners = ap (λ (u : PlainTopology). u.joiners) (sym own); table = ap (λ (u : PlainTopology). u.table) (sym own) }
 
-  abbrev records : Disks
-  records = its tells sure before k are it.was it.is_kept g asked replicas
+    abbrev records : Disks
+    records = its tells sure before k are it.was it.is_kept g asked replicas
 
-  says : AreRecordsOf g k.disks records
-  says = of tells sure before k are it.was it.is_kept g asked replicas
+    says : AreRecordsOf g k.disks records
+    says = of tells sure before k are it.was it.is_kept g asked replicas
 
-  few_own : g.joiners ≤ 4
-  few_own = few tells sure before k are it.was it.is_kept g asked replicas
+    few_own : g.joiners ≤ 4
+    few_own = few tells sure before k are it.was it.is_kept g asked replicas
 
-  names : map (λ d. d.name) k.disks ≡ other_names g.joiners
-  names = named tells sure before k are it.was it.is_kept g asked replicas
+    names : map (λ d. d.name) k.disks ≡ other_names g.joiners
+    names = named tells sure before k are it.was it.is_kept g asked replicas
 
-  row_added : IsRowAdded g row before after
-  row_added = record {
-    was = let x = are.topology sure in (x.0, x.1);
-    others = λ disk here other. others disk other;
-    records = records;
-    keep = λ disk here c now. elim (same_or_not disk name.Topology) [
-      | inl is ↦ subst (λ (n : DiskName). KeepsOf g records n c) (sym is) tt
-      | inr not ↦
-          keeps_records left mid after topology disks keep give its_name read_notes g records says disk not
-          (subst (Mem disk) (sym names ∙ names_kept disks) (all_named g.joiners few_own g replicas refl disk here not)) c now
-    ];
-    free = ap (λ (js : List (List BallotNote)). too_soon_for (all_batches js) row.start) (sym (notes_are g records k.disks names are.kinds says few_own replicas)) ∙ it.free;
+    row_added : IsRowAdded g row before after
+    row_added = record {
+      was = let x = are.topology sure in (x.0, x.1);
+      others = λ disk here other. others disk other;
+      records = records;
+      keep = λ disk here c now. elim (same_or_not disk name.Topology) [
+        | inl is ↦ subst (λ (n : DiskName). KeepsOf g records n c) (sym is) tt
+        | inr not ↦
+            keeps_records left mid after topology disks keep give its_name read_notes g records says disk not
+            (subst (Mem disk) (sym names ∙ names_kept disks) (all_named g.joiners few_own g replicas refl disk here not)) c now
+      ];
+      free = ap (λ (js : List (List BallotNote)). too_soon_for (all_batches js) row.start) (sym (notes_are g records k.disks names are.kinds says few_own replicas)) ∙ it.free;
+    }
+
+    longer_is : t ≡ journal.topology_of g.joiners (g.table ++ row ∷ [])
+    longer_is = sym it.longer ∙ ap (λ (u : PlainTopology). journal.topology_of u.joiners (u.table ++ row ∷ [])) own
+
+    sound_longer : RowIsSound g before after → IsWritten (before name.Topology) t (b name.Topology) → KeepSound (with_row g row) b
+    sound_longer law w = (law row b sound row_added choice).1 (subst (λ (u : Topology). Keeps (Some u) (b name.Topology)) longer_is w.keeps)
+
+    sound_either : RowIsSound g before after → IsOpened (before name.Topology) (b name.Topology) ⊎ IsWritten (before name.Topology) t (b name.Topology) → KeepSound g b ⊎ KeepSound (with_row g row) b
+    sound_either law (inl here) = inl ((law row b sound row_added choice).0 here)
+    sound_either law (inr w) = inr (sound_longer law w)
+
+  -- the disks are back, and the topology's may have the row
+  pub changed : ((g : Setting) → RowIsSound g before after) → ((g : Setting) → StaysSound g before after) → (surely none : Type 0) → (surely → (c : List ℕ) → after name.Topology c → IsWritten (before name.Topology) t c)
+      → ((c : List ℕ) → after name.Topology c → IsOpened (before name.Topology) c ⊎ IsWritten (before name.Topology) t c) → ((disk : DiskName) → GoesOn (before disk) (after disk))
+      → (none → (disk : DiskName) → StaysAs (before disk) (after disk)) → Leaves before after (λ r. r ≡ row) (HasRow tells before row) surely none
+  changed law same surely none written or_not grown stays = record {
+    stays = stays;
+    others = others;
+    topology = λ c now. ⊎_elim (λ from. inl from) (λ w. inr (t, (k, are, answer), w)) (or_not c now);
+    grown = grown;
+    longer = λ yes r is g three sound. (
+        subst (λ (x : ShardRow). IsSoundStore (with_row g x) after) (sym is)
+        (λ b choice. sound_longer g three sound b (λ disk here. choice disk (disk_onward g (with_row g row) refl refl disk here)) (law g) (written yes (b name.Topology) (choice name.Topology tt)))
+        );
+    still = λ no g sound. same g sound (λ disk here. stays no disk);
+    either = λ r is g three sound. (
+        subst (λ (x : ShardRow). IsSoundOr g (with_row g x) after) (sym is)
+        (λ b choice. sound_either g three sound b choice (law g) (or_not (b name.Topology) (choice name.Topology tt)))
+        );
   }
 
-  longer_is : t ≡ journal.topology_of g.joiners (g.table ++ row ∷ [])
-  longer_is = sym it.longer ∙ ap (λ (u : PlainTopology). journal.topology_of u.joiners (u.table ++ row ∷ [])) own
-
-  pub sound_longer : RowIsSound g before after → IsWritten (before name.Topology) t (b name.Topology) → KeepSound (with_row g row) b
-  sound_longer law w = (law row b sound row_added choice).1 (subst (λ (u : Topology). Keeps (Some u) (b name.Topology)) longer_is w.keeps)
-
-  pub sound_either : RowIsSound g before after → IsOpened (before name.Topology) (b name.Topology) ⊎ IsWritten (before name.Topology) t (b name.Topology) → KeepSound g b ⊎ KeepSound (with_row g row) b
-  sound_either law (inl here) = inl ((law row b sound row_added choice).0 here)
-  sound_either law (inr w) = inr (sound_longer law w)
+-- none has changed
+pub unchanged : (before after : DiskName → List ℕ → Type 0) (is_row : ShardRow → Type 0) (has : List ℕ → Type 0) (surely none : Type 0) → (surely → ⊥) → ((g : Setting) → StaysSound g before after)
+    → ((disk : DiskName) → StaysAs (before disk) (after disk)) → Leaves before after is_row has surely none
+unchanged before after is_row has surely none not same stay = record {
+  stays = λ no. stay;
+  others = λ disk other. stay disk;
+  topology = λ c now. inl (stay name.Topology c now);
+  grown = all_grow before after stay;
+  longer = λ yes. absurd (not yes);
+  still = λ no g sound. same g sound (λ disk here. stay disk);
+  either = λ r is g three sound b choice. inl (same g sound (λ disk here. stay disk) b choice);
+}

@@ -1,7 +1,9 @@
 -- A row that is put behind those of the table that a store keeps.
-use Rattle.std.specs.Prelude.{◌≡◌, ℕ, List, map, flat_map, Bool, IsTrue, Option, None, Some, Result, Ok, Err, ⊤}
+use Rattle.std.specs.Prelude.{◌≡◌, ◌≢◌, ◌⊎◌, ℕ, List, map, flat_map, Bool, IsTrue, Option, None, Some, Result, Ok, Err, ⊤}
 use Rattle.outside.specs.declared.store.DiskName.{DiskName}
 use Rattle.outside.specs.declared.store.DiskName.TheVariants as name
+use Rattle.gate_journal.specs.Images.{StaysAs, GoesOn}
+use Rattle.gate_journal.specs.Opening.{IsOpened}
 use Rattle.registry_state.specs.declared.Batch.{Batch}
 use Rattle.paxos_acceptor.specs.Cells.{note_view}
 use Rattle.time_shards.specs.declared.ShardRow.{ShardRow}
@@ -10,10 +12,14 @@ use Rattle.time_shards.specs.declared.AddFault.TheVariants.{Rows, Start}
 use Rattle.time_shards.specs.Shards.{added}
 use Rattle.topology_journal.specs.declared.topology.Topology.{Topology}
 use Rattle.topology_journal.specs.Topologies.{topology_of}
+use Rattle.turn_defs.specs.Setting.{Setting}
 use Rattle.verify_pass.specs.TooSoon.{all_batches, too_soon_for}
 use Rattle.verify_pass.specs.declared.starts.TooSoon.{TooSoon}
 use Rattle.verify_pass.specs.declared.starts.TooSoon.TheVariants.{Bound, Id}
+use Rattle.photon_model.specs.Adding.{with_row}
+use Rattle.site_laws.specs.Stores.{Images, IsSoundStore, IsSoundOr}
 use Rattle.run_fault.specs.declared.fault.Misplaced.{Misplaced}
+use Rattle.run_fault.specs.declared.fault.StorePlace.TheVariants.{Disk as OfDisk}
 use Rattle.run_fault.specs.declared.fault.Unfit.{Unfit}
 use Rattle.run_fault.specs.declared.fault.Unfit.TheVariants as unfit
 use Rattle.run_fault.specs.declared.fault.RunFault.{RunFault}
@@ -64,6 +70,20 @@ IsUnadded k row _ = ⊥
 abbrev pub NoneTold : List KeptDisk → Option Misplaced → Type 0
 NoneTold disks told = told ≡ None
 
+-- What may be left of the disks where a row, one of these, was to be added. Where sure holds it was added, and where none holds it
+-- wasn't; has says of bytes that they have its record.
+pub record Leaves (before after : Images) (is_row : ShardRow → Type 0) (has : List ℕ → Type 0) (sure none : Type 0) : Type 0 where
+  -- Each disk stands for what it stood for, but for the topology's, which may have the row besides.
+  pub stays : none → (disk : DiskName) → StaysAs (before disk) (after disk)
+  pub others : (disk : DiskName) → disk ≢ name.Topology → StaysAs (before disk) (after disk)
+  pub topology : (c : List ℕ) → after name.Topology c → IsOpened (before name.Topology) c ⊎ has c
+  pub grown : (disk : DiskName) → GoesOn (before disk) (after disk)
+  -- A sound store stays so, where the row was added for its setting with the row, and where it wasn't for its setting. Else each choice of
+  -- what a stop leaves is sound for one of the two.
+  pub longer : sure → (row : ShardRow) → is_row row → (g : Setting) → g.replicas ≡ 3 → IsSoundStore g before → IsSoundStore (with_row g row) after
+  pub still : none → (g : Setting) → IsSoundStore g before → IsSoundStore g after
+  pub either : (row : ShardRow) → is_row row → (g : Setting) → g.replicas ≡ 3 → IsSoundStore g before → IsSoundOr g (with_row g row) after
+
 module _ (tells : Bool) (before : DiskName → List ℕ → Type 0) (row : ShardRow) where
   -- the disks kept values to which this is answered
   abbrev pub Answers : Result Topology Unfit → Type 0
@@ -83,3 +103,8 @@ module _ (tells : Bool) (before : DiskName → List ℕ → Type 0) (row : Shard
     pub longer : topology.table ≡ table
     pub answers : Answers (Ok topology)
     pub written : IsTrue tells → (c : List ℕ) → after name.Topology c → IsWritten (before name.Topology) topology c
+
+  -- What is left, by what is answered: after any fault but that of the topology's disk the row wasn't added.
+  abbrev pub LeavesBy : (after : Images) → Result (List ShardRow) RunFault → Type 0
+  LeavesBy after (Ok table) = Leaves before after (λ r. r ≡ row) HasRow ⊤ ⊥
+  LeavesBy after (Err f) = Leaves before after (λ r. r ≡ row) HasRow ⊥ (f ≢ fault.Store (OfDisk name.Topology))

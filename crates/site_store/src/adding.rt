@@ -1,20 +1,11 @@
 // A row behind those of the table that a store keeps.
-ghost use Rattle.std.specs.Prelude.{◌≡◌, ◌≢◌, ◌≤◌, ◌⊎◌, ℕ, List, IsTrue, IfOk, IfErr, OnOk, OnErr, Ok};
-ghost use Rattle.outside.specs.declared.store.DiskName.{DiskName};
-ghost use Rattle.outside.specs.declared.store.DiskName.TheVariants as name;
+ghost use Rattle.std.specs.Prelude.{◌≡◌, ◌≤◌, IsTrue, IfOk, IfErr, Ok};
 ghost use Rattle.outside.specs.Faults.{Rose};
-ghost use Rattle.gate_journal.specs.Images.{StaysAs, GoesOn};
-ghost use Rattle.gate_journal.specs.Opening.{IsOpened};
 ghost use Rattle.time_shards.specs.declared.TheConstants.{MAX_SHARDS};
 ghost use Rattle.topology_journal.specs.Topologies.{MayCome};
-ghost use Rattle.turn_defs.specs.Setting.{Setting};
 ghost use Rattle.verify_pass.specs.TooSoon.{too_soon_for};
-ghost use Rattle.photon_model.specs.Adding.{with_row};
-ghost use Rattle.site_laws.specs.Stores.{IsSoundStore, IsSoundOr};
-ghost use Rattle.run_fault.specs.declared.fault.StorePlace.TheVariants.{Disk as OfDisk};
-ghost use Rattle.run_fault.specs.declared.fault.RunFault.TheVariants.{Store as StoreFailed};
 ghost use Rattle.site_store.specs.Records.{kept_all, values_of};
-ghost use Rattle.site_store.specs.Adding.{HasRow, IsAdded, IsAnswer, IsRowCause, IsUnadded, accepted, unfit_by};
+ghost use Rattle.site_store.specs.Adding.{IsAdded, IsAnswer, IsRowCause, IsUnadded, LeavesBy, accepted, unfit_by};
 
 pub mod rows;
 
@@ -100,18 +91,8 @@ pub fn add_row<S: Store>(alloc: Global, store: &mut S, row: ShardRow) -> Result<
     ensures added { IfOk result (IsAdded S.Disk.tells (S.image store.old) row (S.image store.new)) }
     ensures cause { IfErr result (IsRowCause S.Disk.tells (S.image store.old) row (Rose (S.faults store.old) (S.faults store.new))) }
 
-    // All disks are back. What may be left of each but the topology's stands for what might have been left of it before.
-    ensures others { IsTrue S.Disk.tells → (disk : DiskName) → disk ≢ name.Topology → StaysAs (S.image store.old disk) (S.image store.new disk) }
-    ensures topology { IsTrue S.Disk.tells → OnErr result ((c : List ℕ) → S.image store.new name.Topology c → IsOpened (S.image store.old name.Topology) c ⊎ HasRow S.Disk.tells (S.image store.old) row c) }
-    ensures back { IsTrue S.Disk.tells → IfErr result (λ f. f ≢ StoreFailed (OfDisk name.Topology) → (disk : DiskName) → StaysAs (S.image store.old disk) (S.image store.new disk)) }
-    ensures grown { IsTrue S.Disk.tells → (disk : DiskName) → GoesOn (S.image store.old disk) (S.image store.new disk) }
-
-    // A sound store is sound for its setting with the row, and after an error for its setting, or each choice of what a stop leaves is sound
-    // for one of the two.
-    ensures sound { IsTrue S.Disk.tells → OnOk result ((g : Setting) → g.replicas ≡ 3 → IsSoundStore g (S.image store.old) → IsSoundStore (with_row g row) (S.image store.new)) }
-    ensures either { IsTrue S.Disk.tells → OnErr result ((g : Setting) → g.replicas ≡ 3 → IsSoundStore g (S.image store.old) → IsSoundOr g (with_row g row) (S.image store.new)) }
-    ensures still { IsTrue S.Disk.tells → IfErr result (λ f. f ≢ StoreFailed (OfDisk name.Topology) → (g : Setting) → IsSoundStore g (S.image store.old) → IsSoundStore g (S.image store.new)) }
-
+    // All disks are back.
+    ensures leaves { IsTrue S.Disk.tells → LeavesBy S.Disk.tells (S.image store.old) row (S.image store.new) result }
     ensures count { S.faults store.old ≤ S.faults store.new }
 {
     stays::<S>();

@@ -1,16 +1,14 @@
-use Rattle.std.proofs.Common.{◌≡◌, ◌≢◌, inl, inr, ⊎_elim, ℕ, List, Err, None, IsTrue, refl, sym, ap, subst, ◌∙◌, arith}
+use Rattle.std.proofs.Common.{◌≡◌, ◌≢◌, inl, inr, ℕ, List, Err, None, IsTrue, refl, sym, ap, subst, ◌∙◌, arith}
 use Rattle.outside.specs.declared.store.DiskName.TheVariants as name
+use Rattle.std.specs.Prelude.{⊤}
 use Rattle.run_fault.specs.declared.fault.RunFault.TheVariants as fault
-use Rattle.gate_journal.specs.Opening.{IsOpened}
+use Rattle.run_fault.specs.declared.fault.StorePlace.TheVariants as place
 use Rattle.report_text.specs.Stream.{TookPrefix}
-use Rattle.photon_model.specs.Adding.{with_row}
-use Rattle.site_laws.specs.Stores.{IsSoundOr}
 use Rattle.site_store.specs.Adding.{IsRowCause, NoneTold}
 use Rattle.photon_cli.specs.Reshard.{HasRow, IsCauseFor, IsRowOf}
-use Rattle.photon_cli.proofs.Words.{DiskName, IsSoundStore, Rose, Setting, ShardRow, failed_rose, goes_on_through, goes_on_within, rose_before, status_of}
-use Rattle.photon_cli.proofs.Resharding.{adds, added_before, after_written, answer_for, cause_before, ends, ends_added, ends_place, fair_row, named_row, not_written, one_row, place_status, row_before, untaken}
+use Rattle.photon_cli.proofs.Words.{DiskName, Rose, ShardRow, failed_rose, rose_before, status_of}
+use Rattle.photon_cli.proofs.Resharding.{adds, added_before, answer_for, cause_before, ends, ends_added, ends_place, fair_row, left_before, named_row, not_added, not_written, one_row, place_status, untaken}
 use Rattle.photon_cli.proofs.Answered.{answered, ended}
-use Rattle.photon_cli.proofs.Verifying.{sound_before}
 use Rattle.photon_cli.proofs.command.reshard.reshard_command.Goals as goal
 
 pub returns-in_default-clause-ends : goal.returns-in_default-clause-ends
@@ -21,7 +19,7 @@ returns-in_default-clause-ends g c =
     let none : HasRow text → ⊥ = λ (row, is). c.in_default.not-Some row (c.read-2.ensures.only row is.0 (c.as_bytes.ensures.value ∙ is.1)) in
     rw c.give_up.ensures.status
     (ends g.K.Sink.tells tells _ _ _ _ _ _ text _ before before _ _ (fault.Table 0) (refl, none) (λ d row is. absurd (none (row, is))) (λ has. (refl, inl refl)) (λ at is. absurd (cc)) (λ is. absurd (cc)) (λ s d is. absurd (cc))
-    c.give_up.ensures.told (λ d s replicas few sound some seven. omega (arith, seven)) (untaken text tells before before (fault.Table 0) (λ is. cc) (λ d disk b now. now)))
+    c.give_up.ensures.told (λ d s replicas few sound some seven. omega (arith, seven)) (λ d. untaken text before before 2 (not_added (fault.Table 0) (λ is. cc)) (λ disk b now. now)))
 
 pub returns-in-Err-clause-ends : goal.returns-in-Err-clause-ends
 returns-in-Err-clause-ends g c =
@@ -55,15 +53,7 @@ returns-in-Err-add_row-clause-ends g c =
     (ends g.K.Sink.tells tells _ _ _ _ _ _ text _ before after _ _ f (named_row tells placed row (Rose mid last) text f (row, is) e.cause) (λ d r own. subst (λ (x : ShardRow). IsCauseFor before (Rose old last) x f) (one_row text row r is own) (cause d))
     (λ none. absurd (none (row, is))) (λ at failed. rises (failed_rose tells placed None NoneTold (Rose mid last) at (subst (IsRowCause tells placed row (Rose mid last)) failed e.cause))) (λ write. absurd (other write)) (λ s d write. absurd (other write))
     c.give_up-in-Err-add_row.ensures.told (λ d s replicas few sound some. fair_row before (Rose old last) row c.read.ensures.topology c.fits.ensures.only s replicas few sound (some c.args.store.now) f (cause d))
-    (record {
-      stays = λ d write six disk b now. let x = e.back d (λ at. six (ap status_of at)) disk b now in (x.0, within d disk x.0 x.1, x.2);
-      others = λ d disk not b now. let x = e.others d disk not b now in (x.0, within d disk x.0 x.1, x.2);
-      topology = λ d b now. ⊎_elim (λ x. inl (x.0, within d name.Topology x.0 x.1, x.2)) (λ has. inr (row, is, row_before placed before (within d) tells d row b has)) (e.topology d b now);
-      grown = λ d disk. goes_on_through (before disk) (placed disk) (after disk) (goes_on_within (before disk) (placed disk) (within d disk)) (e.grown d disk);
-      longer = λ d write. absurd (other write);
-      still = λ d write six s sound. e.still d (λ at. six (ap status_of at)) s (sound_before before placed (within d) s sound);
-      either = λ d r own s replicas sound. subst (λ (x : ShardRow). IsSoundOr s (with_row s x) after) (one_row text row r is own) (e.either d s replicas (sound_before before placed (within d) s sound));
-    }))
+    (λ d. left_before tells d text row is placed before after (within d) ⊥ (f ≢ fault.Store (place.Disk name.Topology)) (status_of f) (not_added f other) (λ no at. no.2 (ap status_of at)) (e.leaves d)))
 
 pub returns-in-Ok-write_table-clause-ends : goal.returns-in-Ok-write_table-clause-ends
 returns-in-Ok-write_table-clause-ends g c =
@@ -79,10 +69,8 @@ returns-in-Ok-write_table-clause-ends g c =
     let e = c.in-Ok.ensures in
     let table = c.in-Ok.table in
     let added = λ (d : IsTrue tells). added_before placed before (within d) tells d row after table e.added in
-    let others = λ (d : IsTrue tells) (disk : DiskName) (not : disk ≢ name.Topology) (b : List ℕ) (now : after disk b). let x = e.others d disk not b now in let stays : IsOpened (before disk) b = (x.0, within d disk x.0 x.1, x.2) in stays in
-    let grown = λ (d : IsTrue tells) (disk : DiskName). goes_on_through (before disk) (placed disk) (after disk) (goes_on_within (before disk) (placed disk) (within d disk)) (e.grown d disk) in
-    let sound = λ (d : IsTrue tells) (s : Setting) (replicas : s.replicas ≡ 3) (whole : IsSoundStore s before). e.sound d s replicas (sound_before before placed (within d) s whole) in
-    ends_added text tells before after row is table added others grown sound g.K.Sink.tells _ _ _ _ _ _ _ _ (λ s. c.in-Ok-write_table.ensures.all s)
+    let left = λ (d : IsTrue tells). left_before tells d text row is placed before after (within d) ⊤ ⊥ 0 (λ so. tt) (λ no. no.0 refl) (e.leaves d) in
+    ends_added text tells before after row is table added g.K.Sink.tells _ _ _ _ _ _ _ _ (λ s. c.in-Ok-write_table.ensures.all s) left
 
 pub returns-in-Err-write_table-clause-ends : goal.returns-in-Err-write_table-clause-ends
 returns-in-Err-write_table-clause-ends g c =
@@ -98,15 +86,13 @@ returns-in-Err-write_table-clause-ends g c =
     let e = c.in-Ok.ensures in
     let table = c.in-Ok.table in
     let added = λ (d : IsTrue tells). added_before placed before (within d) tells d row after table e.added in
-    let others = λ (d : IsTrue tells) (disk : DiskName) (not : disk ≢ name.Topology) (b : List ℕ) (now : after disk b). let x = e.others d disk not b now in let stays : IsOpened (before disk) b = (x.0, within d disk x.0 x.1, x.2) in stays in
-    let grown = λ (d : IsTrue tells) (disk : DiskName). goes_on_through (before disk) (placed disk) (after disk) (goes_on_within (before disk) (placed disk) (within d disk)) (e.grown d disk) in
-    let sound = λ (d : IsTrue tells) (s : Setting) (replicas : s.replicas ≡ 3) (whole : IsSoundStore s before). e.sound d s replicas (sound_before before placed (within d) s whole) in
+    let left = λ (d : IsTrue tells). left_before tells d text row is placed before after (within d) ⊤ ⊥ 5 (λ so. tt) (λ no. no.1 refl) (e.leaves d) in
     let old = g.K.Sink.held c.args.out.now in
     let new = g.K.Sink.held c.write_table.new.out in
     rw c.give_up-in-Err-write_table.ensures.status
-    (ends g.K.Sink.tells tells _ _ old new _ _ text _ before after _ _ fault.Write (row, is) (answer_for text tells before after row is table added others grown sound) (λ none. absurd (none (row, is))) (λ at x. absurd (cc)) (λ x. c.in-Err-write_table.ensures.count.rose refl)
-    (λ s d x. adds text tells before after row is table added others grown sound (λ (line : List ℕ). TookPrefix old line new) (c.in-Err-write_table.ensures.prefix s) d) c.give_up-in-Err-write_table.ensures.told (λ d s replicas few whole some seven. omega (arith, seven))
-    (after_written text tells before after row is table added others grown sound))
+    (ends g.K.Sink.tells tells _ _ old new _ _ text _ before after _ _ fault.Write (row, is) (answer_for text tells before after row is table added) (λ none. absurd (none (row, is))) (λ at x. absurd (cc)) (λ x. c.in-Err-write_table.ensures.count.rose refl)
+    (λ s d x. adds text tells before after row is table added (λ (line : List ℕ). TookPrefix old line new) (c.in-Err-write_table.ensures.prefix s) d) c.give_up-in-Err-write_table.ensures.told (λ d s replicas few whole some seven. omega (arith, seven))
+    left)
 
 pub returns-in_default-clause-answered : goal.returns-in_default-clause-answered
 returns-in_default-clause-answered g c = answered _ _ _ _ _ _ (fault.Table 0) ⊥ c.give_up.ensures.status (returns-in_default-clause-ends g c).never.2 (λ is. cc) (record { later = omega arith; rose = λ no. absurd no }) (λ tells. inr refl)
