@@ -1,14 +1,16 @@
 -- The five commands, as a parse finds them.
-use Rattle.std.proofs.Common.{◌≡◌, ◌∙◌, ◌&&◌, Bool, true, false, List, [], ◌∷◌, ◌++◌, append_assoc, arith, Option, Some, is_some, option_map, refl, sym, ap, ap₂, subst}
+use Rattle.std.proofs.Common.{◌≡◌, ◌∙◌, ◌&&◌, Bool, true, false, List, [], ◌∷◌, ◌++◌, append_assoc, Option, Some, is_some, option_map, refl, sym, ap, ap₂, subst}
 use Rattle.std.specs.Prelude.{find, fold}
+use Rattle.std.specs.List.{AllByRecursion, list_all}
 use Rattle.std.specs.Option.{option_map_or}
-use Rattle.clap.specs.Walk.{Held, Row, Walk, answers_to, nothing_held, stop_after, walk, walk_from, walked}
+use Rattle.clap.specs.Walk.{Held, Row, Rule, Walk, answers_to, nothing_held, stop_after, walk, walk_from, walked}
 use Rattle.clap.specs.Simple.{Shape, built, built_leaf, entered, inherited, label_of, marked_built, names_of, rows_at, subcommand_of, with_leaf_noted}
-use Rattle.clap.specs.Takes.{entered_passes, level_passes, settle_passes, takes, turn_passes, walk_passes}
+use Rattle.clap.specs.Takes.{default_passes, entered_passes, level_passes, settle_passes, takes, turn_passes, walk_passes}
 use Rattle.std.proofs.lemmas.List.{append-nil}
 use Rattle.command_words.specs.Words.{Command, Pairs, Text, IsPlain, bulk, drill, join, name_of, options_of, pair_words, reshard, verify}
 use Rattle.command_words.specs.Clap.{photon_app, shape_of_command}
-use Rattle.command_words.proofs.Walks.{IsReady, Takes, level_takes, pair_rows}
+use Rattle.command_words.proofs.Walks.{AllKnown, IsReady, Takes, level_takes, pair_rows}
+use Rattle.command_words.proofs.Tables.{all_fit, all_known, all_pass, filled_rules, full_rules, no_defaults}
 
 -- a command, built
 abbrev pub sub : Command → Shape
@@ -21,62 +23,23 @@ sub_found verify = refl
 sub_found bulk = refl
 sub_found reshard = refl
 
+pub fit : (c : Command) → all_fit [] (options_of c) ≡ true
+fit join = refl
+fit drill = refl
+fit verify = refl
+fit bulk = refl
+fit reshard = refl
+
 pub ready : (c : Command) → IsReady (sub c) (options_of c)
-ready join =
+ready c =
+    let options = options_of c in
+    let rules : (sub c).rules ≡ full_rules options = filled_rules options in
     record {
-      rules = refl;
-      known = (record { long = refl; not_end = refl; by_long = refl; by_id = refl; fits = tt }, (record { long = refl; not_end = refl; by_long = refl; by_id = refl; fits = tt }, (record { long = refl; not_end = refl; by_long = refl; by_id = refl; fits = tt }, (record { long = refl; not_end = refl; by_long = refl; by_id = refl; fits = omega arith }, (record { long = refl; not_end = refl; by_long = refl; by_id = refl; fits = omega arith }, (record { long = refl; not_end = refl; by_long = refl; by_id = refl; fits = tt }, (record { long = refl; not_end = refl; by_long = refl; by_id = refl; fits = omega arith }, tt)))))));
-      free = refl;
-      defaults = refl;
-      none = (refl, (refl, (refl, (refl, (refl, (refl, (refl, (refl, tt))))))));
-      once = refl;
-      no_help = refl;
-      no_sub = refl;
-      negates = refl;
-    }
-ready drill =
-    record {
-      rules = refl;
-      known = (record { long = refl; not_end = refl; by_long = refl; by_id = refl; fits = tt }, (record { long = refl; not_end = refl; by_long = refl; by_id = refl; fits = tt }, (record { long = refl; not_end = refl; by_long = refl; by_id = refl; fits = tt }, (record { long = refl; not_end = refl; by_long = refl; by_id = refl; fits = omega arith }, (record { long = refl; not_end = refl; by_long = refl; by_id = refl; fits = omega arith }, (record { long = refl; not_end = refl; by_long = refl; by_id = refl; fits = tt }, (record { long = refl; not_end = refl; by_long = refl; by_id = refl; fits = omega arith }, tt)))))));
-      free = refl;
-      defaults = refl;
-      none = (refl, (refl, (refl, (refl, (refl, (refl, (refl, (refl, tt))))))));
-      once = refl;
-      no_help = refl;
-      no_sub = refl;
-      negates = refl;
-    }
-ready verify =
-    record {
-      rules = refl;
-      known = (record { long = refl; not_end = refl; by_long = refl; by_id = refl; fits = tt }, (record { long = refl; not_end = refl; by_long = refl; by_id = refl; fits = tt }, tt));
-      free = refl;
-      defaults = refl;
-      none = (refl, (refl, (refl, tt)));
-      once = refl;
-      no_help = refl;
-      no_sub = refl;
-      negates = refl;
-    }
-ready bulk =
-    record {
-      rules = refl;
-      known = (record { long = refl; not_end = refl; by_long = refl; by_id = refl; fits = omega arith }, (record { long = refl; not_end = refl; by_long = refl; by_id = refl; fits = omega arith }, (record { long = refl; not_end = refl; by_long = refl; by_id = refl; fits = omega arith }, (record { long = refl; not_end = refl; by_long = refl; by_id = refl; fits = tt }, (record { long = refl; not_end = refl; by_long = refl; by_id = refl; fits = omega arith }, tt)))));
-      free = refl;
-      defaults = refl;
-      none = (refl, (refl, (refl, (refl, (refl, (refl, tt))))));
-      once = refl;
-      no_help = refl;
-      no_sub = refl;
-      negates = refl;
-    }
-ready reshard =
-    record {
-      rules = refl;
-      known = (record { long = refl; not_end = refl; by_long = refl; by_id = refl; fits = tt }, (record { long = refl; not_end = refl; by_long = refl; by_id = refl; fits = tt }, tt));
-      free = refl;
-      defaults = refl;
-      none = (refl, (refl, (refl, tt)));
+      rules = rules;
+      known = subst (λ (rs : List Rule). AllKnown rs options) (sym rules) (all_known [] options (fit c));
+      free = subst (λ (rs : List Rule). list_all (λ (a : Rule). a.is_free) rs ≡ true) (sym rules) (all_pass (λ (a : Rule). a.is_free) (λ o. refl) refl options);
+      defaults = subst (λ (rs : List Rule). list_all default_passes rs ≡ true) (sym rules) (all_pass default_passes (λ o. refl) refl options);
+      none = subst (λ (rs : List Rule). AllByRecursion (λ (a : Rule). a.defaults ≡ []) rs) (sym rules) (no_defaults options);
       once = refl;
       no_help = refl;
       no_sub = refl;

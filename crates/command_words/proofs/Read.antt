@@ -1,25 +1,28 @@
 -- The values of a command that `clap` took.
-use Rattle.std.proofs.Common.{◌≡◌, ◌∙◌, ◌<◌, ◌≤◌, ◌==◌, ◌++◌, ◌&&◌, ◌||◌, not, inl, inr, ℕ, Bool, true, false, cond, List, [], ◌∷◌, map, length, Option, Some, None, is_some, option_map, refl, true≢false, sym, ap, subst, arith}
-use Rattle.std.specs.Prelude.{IfSome, IsSome, IsSomeAnd, find, option_and_then, slice_get, codes}
+use Rattle.std.proofs.Common.{◌≡◌, ◌∙◌, ◌<◌, ◌==◌, ◌++◌, ◌&&◌, ◌||◌, not, inl, inr, ℕ, Bool, true, false, cond, List, [], ◌∷◌, map, length, Option, Some, None, is_some, option_map, refl, true≢false, sym, ap, ap₂, subst, arith}
+use Rattle.std.specs.Prelude.{IfSome, IsSomeAnd, ⊤, find, unwrap_or, option_and_then, slice_get, codes}
 use Rattle.std.specs.List.{AllByRecursion, list_any}
-use Rattle.std.specs.Option.{option_map_or}
+use Rattle.std.specs.Option.{option_map_or, option_or}
 use Rattle.std.specs.Str.{bytes_eq}
 use Rattle.std.proofs.lemmas.Slice.Eq.{bytes_eq-Decides}
-use Rattle.clap.specs.Values.{IsUnsignedIn, read_as}
+use Rattle.clap.specs.Values.{read_as}
 use Rattle.clap.specs.Facts.{explicit_source, parser_of_value}
 use Rattle.clap.specs.ValueTests.{accepts}
 use Rattle.clap.specs.Kinds.{check_kinds}
-use Rattle.clap.specs.Walk.{Row, Rule, answers_to, arg_by_id, arg_by_index, finished, first_of, nothing_held, one_of, reading_by, row_text, rows_after, stop_after, walk, walk_from}
+use Rattle.clap.specs.Walk.{Row, Rule, answers_to, arg_by_id, arg_by_index, finished, nothing_held, reading_by, row_text, rows_after, stop_after, walk, walk_from}
 use Rattle.clap.specs.Simple.{Shape, argument_words, built, entered, filled, help_rule, label_of, names_of, rows_at, subcommand_of}
 use Rattle.clap.specs.Takes.{is_given}
 use Rattle.clap.specs.Faults.{built_fault, check_fault, entered_fault, fault_of, level_fault, walk_fault}
 use Rattle.clap.specs.declared.builder.value_parser.ValueParser.TheVariants as vp
 use Rattle.clap.proofs.ValueTestLemmas.{accepts-Accepts}
-use Rattle.command_words.specs.Words.{AreInRanges, AreValues, AskFor, Command, HasAll, HasNodes, HasRun, IsFound, IsInRanges, Opt, Text, Values, Wish, a_bulk_run, a_drill, a_join, a_resharding, a_verification, batch, bulk, command_of, drill, horizon, is_required, join, joiners, name_of, number_of, number_or, options_of, reshard, shards, text_or, verify}
+use Rattle.command_words.specs.Words.{AreInRanges, Command, Given, HaveValues, IsFound, IsInRanges, IsNamed, IsReadable, Opt, Text, Wish, batch, bulk, command_of, count, drill, given_as, is_required, join, joiners, name_of, node_options, nodes_by, options_of, reshard, shards, value_of, verify, wish_by}
+use Rattle.command_words.specs.declared.options.Form.{Form}
 use Rattle.command_words.specs.declared.options.Form.TheVariants.{Number as number, AnyText as any_text, SomeText as some_text}
 use Rattle.command_words.specs.Clap.{number_in, photon_app, text_in}
 use Rattle.command_words.proofs.Walks.{AllKnown, Known, full_rule, reads_as_written}
-use Rattle.command_words.proofs.Levels.{ready, sub}
+use Rattle.command_words.proofs.Numbers.{number_within}
+use Rattle.command_words.proofs.Tables.{accepts_as, defaults_fit, full_rules}
+use Rattle.command_words.proofs.Levels.{fit, ready, sub}
 use Rattle.command_words.proofs.Taken.{AreGood, Holds, IsGood, IsOwn, level_holds, or_nil}
 use Rattle.clap.specs.declared.builder.value_parser.Reading.{Reading}
 use Rattle.clap.specs.declared.builder.value_parser.Reading.TheVariants.{AsWritten}
@@ -34,12 +37,19 @@ find_own c (x ∷ xs) p a owns e = go (p x) e (find_own c xs p a owns.1)
     go true f rest = let same : x ≡ a = cc in subst (IsOwn c) same owns.0
     go false f rest = rest f
 
+owns_all : (c : List Rule) (options : List Opt) → AllKnown c options → arg_by_id c (codes "help") ≡ Some (filled help_rule) → AllByRecursion (IsOwn c) (full_rules options)
+owns_all c [] k help = (record { by_id = help; action = inr refl }, tt)
+owns_all c (o ∷ os) k help = (record { by_id = k.0.by_id; action = inl (refl, refl, omega arith) }, owns_all c os k.1 help)
+
+help_is : (c : Command) → arg_by_id (sub c).rules (codes "help") ≡ Some (filled help_rule)
+help_is join = refl
+help_is drill = refl
+help_is verify = refl
+help_is bulk = refl
+help_is reshard = refl
+
 owns : (c : Command) → AllByRecursion (IsOwn (sub c).rules) (sub c).rules
-owns join = (record { by_id = refl; action = inl (refl, refl, omega arith) }, (record { by_id = refl; action = inl (refl, refl, omega arith) }, (record { by_id = refl; action = inl (refl, refl, omega arith) }, (record { by_id = refl; action = inl (refl, refl, omega arith) }, (record { by_id = refl; action = inl (refl, refl, omega arith) }, (record { by_id = refl; action = inl (refl, refl, omega arith) }, (record { by_id = refl; action = inl (refl, refl, omega arith) }, (record { by_id = refl; action = inr refl }, tt))))))))
-owns drill = (record { by_id = refl; action = inl (refl, refl, omega arith) }, (record { by_id = refl; action = inl (refl, refl, omega arith) }, (record { by_id = refl; action = inl (refl, refl, omega arith) }, (record { by_id = refl; action = inl (refl, refl, omega arith) }, (record { by_id = refl; action = inl (refl, refl, omega arith) }, (record { by_id = refl; action = inl (refl, refl, omega arith) }, (record { by_id = refl; action = inl (refl, refl, omega arith) }, (record { by_id = refl; action = inr refl }, tt))))))))
-owns verify = (record { by_id = refl; action = inl (refl, refl, omega arith) }, (record { by_id = refl; action = inl (refl, refl, omega arith) }, (record { by_id = refl; action = inr refl }, tt)))
-owns bulk = (record { by_id = refl; action = inl (refl, refl, omega arith) }, (record { by_id = refl; action = inl (refl, refl, omega arith) }, (record { by_id = refl; action = inl (refl, refl, omega arith) }, (record { by_id = refl; action = inl (refl, refl, omega arith) }, (record { by_id = refl; action = inl (refl, refl, omega arith) }, (record { by_id = refl; action = inr refl }, tt))))))
-owns reshard = (record { by_id = refl; action = inl (refl, refl, omega arith) }, (record { by_id = refl; action = inl (refl, refl, omega arith) }, (record { by_id = refl; action = inr refl }, tt)))
+owns c = subst (AllByRecursion (IsOwn (sub c).rules)) (sym (ready c).rules) (owns_all (sub c).rules (options_of c) (ready c).known (help_is c))
 
 no_place : (c : Command) (i : ℕ) → arg_by_index (sub c).rules i ≡ None
 no_place join i = refl
@@ -128,59 +138,10 @@ row_at c (r ∷ rs) n g = go (bytes_eq r.id n) refl (row_at c rs n g.1)
     go true e rest = (g.0, (bytes_eq-Decides r.id n).0 e)
     go false e rest = rest
 
-text_is_given : (c : List Rule) (rows : List Row) (n : Text) → AreGood c rows → is_given n rows ≡ true → IsSome (first_of n rows)
-text_is_given c rows n g given = go (find (λ (r : Row). bytes_eq r.id n) rows) (row_at c rows n g) given
-  where
-    some : (vs : List Text) → 0 < length vs → IsSome (slice_get vs 0)
-    some [] lt = absurd (omega arith)
-    some (v ∷ vs) lt = refl
-
-    go : (o : Option Row) → IfSome o (λ r. IsGood c r × (r.id ≡ n)) → option_map_or (λ (r : Row). explicit_source r.source) o false ≡ true
-        → IsSome (option_and_then (λ (r : Row). slice_get r.values 0) o)
-    go None h e = absurd (true≢false (sym e))
-    go (Some r) h e = some r.values h.0.some
-
 rule_is : (c : List Rule) (o : Opt) (r : Row) → Known c o → (g : IsGood c r) → r.id ≡ o.name → g.rule ≡ full_rule o
 rule_is c o r k g e =
     let same : Some g.rule ≡ Some (full_rule o) = sym g.by_id ∙ (ap (arg_by_id c) e ∙ k.by_id) in
     cc
-
-number_reads : (c : List Rule) (rows : List Row) (n : Text) (low high : ℕ) (default : Option Text)
-    → Known c (record { name = n; form = number low high; default = default }) → AreGood c rows → IfSome (one_of n rows) (IsUnsignedIn low high)
-number_reads c rows n low high default k g = go (find (λ (r : Row). bytes_eq r.id n) rows) (row_at c rows n g)
-  where
-    o : Opt
-    o = record { name = n; form = number low high; default = default }
-
-    values : (vs : List Text) (rule : Rule) (how : Reading) → rule ≡ full_rule o → how ≡ reading_by rule
-        → AllByRecursion (λ v. accepts rule.ignore_case (parser_of_value rule.parser) v ≡ true) vs → IfSome (option_map (read_as how) (slice_get vs 0)) (IsUnsignedIn low high)
-    values [] rule how is reads passed = tt
-    values (v ∷ vs) rule how is reads passed =
-        let plain : how ≡ AsWritten = reads ∙ (ap reading_by is ∙ reads_as_written (number low high)) in
-        let ok : accepts false (vp.Unsigned low high) v ≡ true = subst (λ (a : Rule). accepts a.ignore_case (parser_of_value a.parser) v ≡ true) is passed.0 in
-        subst (λ (h : Reading). IsUnsignedIn low high (read_as h v)) (sym plain) (accepts-Accepts false (vp.Unsigned low high) v ok)
-
-    go : (p : Option Row) → IfSome p (λ r. IsGood c r × (r.id ≡ n)) → IfSome (option_and_then row_text p) (IsUnsignedIn low high)
-    go None h = tt
-    go (Some r) h = values r.values h.0.rule r.reading (rule_is c o r k h.0 h.1) h.0.reading h.0.passed
-
-text_has_some : (c : List Rule) (rows : List Row) (n : Text) (default : Option Text)
-    → Known c (record { name = n; form = some_text; default = default }) → AreGood c rows → IfSome (first_of n rows) (λ t. 0 < length t)
-text_has_some c rows n default k g = go (find (λ (r : Row). bytes_eq r.id n) rows) (row_at c rows n g)
-  where
-    o : Opt
-    o = record { name = n; form = some_text; default = default }
-
-    values : (vs : List Text) (rule : Rule) → rule ≡ full_rule o → AllByRecursion (λ v. accepts rule.ignore_case (parser_of_value rule.parser) v ≡ true) vs
-        → IfSome (slice_get vs 0) (λ t. 0 < length t)
-    values [] rule is passed = tt
-    values (v ∷ vs) rule is passed =
-        let ok : accepts false vp.NonEmptyString v ≡ true = subst (λ (a : Rule). accepts a.ignore_case (parser_of_value a.parser) v ≡ true) is passed.0 in
-        accepts-Accepts false vp.NonEmptyString v ok
-
-    go : (p : Option Row) → IfSome p (λ r. IsGood c r × (r.id ≡ n)) → IfSome (option_and_then (λ (r : Row). slice_get r.values 0) p) (λ t. 0 < length t)
-    go None h = tt
-    go (Some r) h = values r.values h.0.rule (rule_is c o r k h.0 h.1) h.0.passed
 
 needed : (options : List Opt) (rows : List Row) → list_any (λ (a : Rule). a.required && not (is_given a.id rows)) (map full_rule options ++ filled help_rule ∷ []) ≡ false
     → AllByRecursion (λ (o : Opt). is_required o ≡ true → is_given o.name rows ≡ true) options
@@ -199,78 +160,65 @@ needs c words h =
     needed (options_of c) (rows_after (sub c).rules [] words)
     (subst (λ (rules : List Rule). list_any (λ (a : Rule). a.required && not (is_given a.id (rows_after (sub c).rules [] words))) rules ≡ false) (ready c).rules h.given)
 
-number_is_given : (c : List Rule) (rows : List Row) (n : Text) → AreGood c rows → is_given n rows ≡ true → IsSome (one_of n rows)
-number_is_given c rows n g given = go (find (λ (r : Row). bytes_eq r.id n) rows) (row_at c rows n g) given
+-- a value that its parser takes may be read
+readable : (f : Form) (v : Text) → accepts_as f v ≡ true → IsReadable f v
+readable (number low high) v e = accepts-Accepts false (vp.Unsigned low high) v e
+readable any_text v e = tt
+readable some_text v e = accepts-Accepts false vp.NonEmptyString v e
+
+-- the value of a row, if there is one
+abbrev value_in : Form → Option Row → Option Text
+value_in (number low high) p = option_and_then row_text p
+value_in any_text p = option_and_then (λ (r : Row). slice_get r.values 0) p
+value_in some_text p = option_and_then (λ (r : Row). slice_get r.values 0) p
+
+of_row : (f : Form) (rows : List Row) (n : Text) → given_as (text_in rows) (number_in rows) f n ≡ value_in f (find (λ (r : Row). bytes_eq r.id n) rows)
+of_row (number low high) rows n = refl
+of_row any_text rows n = refl
+of_row some_text rows n = refl
+
+first_in : (f : Form) (r : Row) (v : Text) (vs : List Text) → r.values ≡ v ∷ vs → r.reading ≡ AsWritten → value_in f (Some r) ≡ Some v
+first_in (number low high) r v vs is plain = ap₂ (λ (how : Reading) (us : List Text). option_map (read_as how) (slice_get us 0)) plain is
+first_in any_text r v vs is plain = ap (λ (us : List Text). slice_get us 0) is
+first_in some_text r v vs is plain = ap (λ (us : List Text). slice_get us 0) is
+
+-- an option's value is that of its row, or else its default
+has_value : (c : List Rule) (rows : List Row) (o : Opt) → Known c o → AreGood c rows → (is_required o ≡ true → is_given o.name rows ≡ true) → option_map_or (accepts_as o.form) o.default true ≡ true
+    → IsSomeAnd (value_of o (given_as (text_in rows) (number_in rows) o.form)) (IsReadable o.form)
+has_value c rows o k g needs fit =
+    subst (λ (t : Option Text). IsSomeAnd (option_or t o.default) (IsReadable o.form)) (sym (of_row o.form rows o.name)) (go (find (λ (r : Row). bytes_eq r.id o.name) rows) (row_at c rows o.name g) needs)
   where
-    some : (how : Reading) (vs : List Text) → 0 < length vs → IsSome (option_map (read_as how) (slice_get vs 0))
-    some how [] lt = absurd (omega arith)
-    some how (v ∷ vs) lt = refl
+    by_default : (d : Option Text) → (not (is_some d) ≡ true → false ≡ true) → option_map_or (accepts_as o.form) d true ≡ true → IsSomeAnd d (IsReadable o.form)
+    by_default None h fits = absurd (true≢false (sym (h refl)))
+    by_default (Some t) h fits = readable o.form t fits
 
-    go : (o : Option Row) → IfSome o (λ r. IsGood c r × (r.id ≡ n)) → option_map_or (λ (r : Row). explicit_source r.source) o false ≡ true
-        → IsSome (option_and_then row_text o)
-    go None h e = absurd (true≢false (sym e))
-    go (Some r) h e = some r.reading r.values h.0.some
+    absent : (f : Form) → option_or (value_in f None) o.default ≡ o.default
+    absent (number low high) = refl
+    absent any_text = refl
+    absent some_text = refl
 
-there : (o : Option Text) (P : Text → Type 0) → IsSome o → IfSome o P → IsSomeAnd o P
-there None P some h = absurd (true≢false (sym some))
-there (Some t) P some h = h
+    first : (r : Row) (good : IsGood c r) → good.rule ≡ full_rule o → (vs : List Text) → r.values ≡ vs → 0 < length vs → AllByRecursion (λ v. accepts good.rule.ignore_case (parser_of_value good.rule.parser) v ≡ true) vs
+        → IsSomeAnd (option_or (value_in o.form (Some r)) o.default) (IsReadable o.form)
+    first r good is [] same lt passed = absurd (omega arith)
+    first r good is (v ∷ vs) same lt passed =
+        let plain : r.reading ≡ AsWritten = good.reading ∙ (ap reading_by is ∙ reads_as_written o.form) in
+        let ok : accepts_as o.form v ≡ true = subst (λ (a : Rule). accepts a.ignore_case (parser_of_value a.parser) v ≡ true) is passed.0 in
+        subst (λ (t : Option Text). IsSomeAnd (option_or t o.default) (IsReadable o.form)) (sym (first_in o.form r v vs same plain)) (readable o.form v ok)
 
-has_nodes : (rules : List Rule) (rows : List Row) → AreGood rules rows → AllKnown rules (joiners ∷ shards ∷ batch ∷ []) → HasNodes (text_in rows) (number_in rows)
-has_nodes rules rows good k =
-    (number_reads rules rows (codes "joiners") 1 4 (Some (codes "1")) k.0 good, text_has_some rules rows (codes "shards") (Some (codes "0:4")) k.1.0 good, number_reads rules rows (codes "batch") 1 64 (Some (codes "64")) k.1.1.0 good)
+    go : (p : Option Row) → IfSome p (λ r. IsGood c r × (r.id ≡ o.name)) → (is_required o ≡ true → option_map_or (λ (r : Row). explicit_source r.source) p false ≡ true)
+        → IsSomeAnd (option_or (value_in o.form p) o.default) (IsReadable o.form)
+    go None h wanted = subst (λ (t : Option Text). IsSomeAnd t (IsReadable o.form)) (sym (absent o.form)) (by_default o.default wanted fit)
+    go (Some r) h wanted = first r h.0 (rule_is c o r k h.0 h.1) r.values refl h.0.some h.0.passed
 
-has_run : (c : Command) (words : List Text) → Holds (sub c) words → is_given (codes "queries") (rows_after (sub c).rules [] words) ≡ true → is_given (codes "clicks") (rows_after (sub c).rules [] words) ≡ true
-    → AllKnown (sub c).rules (horizon ∷ joiners ∷ shards ∷ batch ∷ []) → HasRun (text_in (rows_after (sub c).rules [] words)) (number_in (rows_after (sub c).rules [] words))
-has_run c words h queries clicks k =
-    let rows = rows_after (sub c).rules [] words in (
-      text_is_given (sub c).rules rows (codes "queries") h.good queries,
-      text_is_given (sub c).rules rows (codes "clicks") h.good clicks,
-      number_reads (sub c).rules rows (codes "horizon") 0 18446744073709551615 (Some (codes "0")) k.0 h.good,
-      has_nodes (sub c).rules rows h.good k.1,
-    )
+has_each : (c : List Rule) (rows : List Row) → AreGood c rows → (options : List Opt) → AllKnown c options → AllByRecursion (λ (o : Opt). is_required o ≡ true → is_given o.name rows ≡ true) options
+    → AllByRecursion (λ (o : Opt). option_map_or (accepts_as o.form) o.default true ≡ true) options → HaveValues (text_in rows) (number_in rows) IsReadable options
+has_each c rows g [] k needs fit = tt
+has_each c rows g (o ∷ os) k needs fit = (has_value c rows o k.0 g needs.0 fit.0, has_each c rows g os k.1 needs.1 fit.1)
 
-pub has_values : (c : Command) (words : List Text) → Holds (sub c) words → HasAll c (text_in (rows_after (sub c).rules [] words)) (number_in (rows_after (sub c).rules [] words))
-has_values join words h =
-    let rows = rows_after (sub join).rules [] words in
-    let k = (ready join).known in
-    let n = needs join words h in
-    (has_run join words h (n.0 refl) (n.1.0 refl) k.1.1.1, text_is_given (sub join).rules rows (codes "state") h.good (n.1.1.0 refl))
-has_values drill words h =
-    let rows = rows_after (sub drill).rules [] words in
-    let k = (ready drill).known in
-    let n = needs drill words h in
-    (has_run drill words h (n.0 refl) (n.1.0 refl) k.1.1.1, text_is_given (sub drill).rules rows (codes "plan") h.good (n.1.1.0 refl))
-has_values verify words h =
-    let c = verify in
-    let rows = rows_after (sub c).rules [] words in
-    let n = needs c words h in
-    (text_is_given (sub c).rules rows (codes "clicks") h.good (n.0 refl), text_is_given (sub c).rules rows (codes "state") h.good (n.1.0 refl))
-has_values bulk words h =
-    let c = bulk in
-    let rows = rows_after (sub c).rules [] words in
-    let k = (ready c).known in
-    let n = needs c words h in
-    let seed = there (number_in rows (codes "seed")) (IsUnsignedIn 0 18446744073709551615) (number_is_given (sub c).rules rows (codes "seed") h.good (n.0 refl)) (number_reads (sub c).rules rows (codes "seed") 0 18446744073709551615 None (k.0) h.good) in
-    let clicks = there (number_in rows (codes "clicks")) (IsUnsignedIn 0 100000) (number_is_given (sub c).rules rows (codes "clicks") h.good (n.1.0 refl)) (number_reads (sub c).rules rows (codes "clicks") 0 100000 None (k.1.0) h.good) in
-    (seed, clicks, has_nodes (sub c).rules rows h.good k.1.1)
-has_values reshard words h =
-    let rows = rows_after (sub reshard).rules [] words in
-    let n = needs reshard words h in
-    (text_is_given (sub reshard).rules rows (codes "state") h.good (n.0 refl), text_is_given (sub reshard).rules rows (codes "add") h.good (n.1.0 refl))
+pub has_values : (c : Command) (words : List Text) → Holds (sub c) words → HaveValues (text_in (rows_after (sub c).rules [] words)) (number_in (rows_after (sub c).rules [] words)) IsReadable (options_of c)
+has_values c words h = has_each (sub c).rules (rows_after (sub c).rules [] words) h.good (options_of c) (ready c).known (needs c words h) (defaults_fit [] (options_of c) (fit c))
 
-number_within : (low high or : ℕ) (o : Option Text) → low ≤ or → or ≤ high → IfSome o (IsUnsignedIn low high) → (low ≤ number_or or o) × (number_or or o ≤ high)
-number_within low high or None least most h = (least, most)
-number_within low high or (Some t) least most h = (h.2, h.3)
-
-text_within : (or : Text) (o : Option Text) → 0 < length or → IfSome o (λ t. 0 < length t) → 0 < length (text_or or o)
-text_within or None some h = some
-text_within or (Some t) some h = h
-
-needed_within : (low high n : ℕ) (o : Option Text) → number_of o ≡ Some n → IsSomeAnd o (IsUnsignedIn low high) → n ≤ high
-needed_within low high n None is h = absurd h
-needed_within low high n (Some t) is h =
-    let same : n ≡ number_or 0 (Some t) = cc in
-    rw same h.3
+-- ---- what is asked for
 
 -- a name has one command: its first letter tells
 abbrev by_letter : Text → Command
@@ -284,34 +232,48 @@ letter_tells verify = refl
 letter_tells bulk = refl
 letter_tells reshard = refl
 
-nodes_within : (joiners batch : ℕ) (shards : Text) (text_at number_at : Text → Option Text) → joiners ≡ number_or 1 (number_at (codes "joiners")) → shards ≡ text_or (codes "0:4") (text_at (codes "shards"))
-    → batch ≡ number_or 64 (number_at (codes "batch")) → HasNodes text_at number_at → (0 < joiners) × (joiners ≤ 4) × (0 < length shards) × (0 < batch) × (batch ≤ 64)
-nodes_within joiners batch shards text_at number_at is table most h =
-    let w = number_within 1 4 1 (number_at (codes "joiners")) (omega arith) (omega arith) h.0 in
-    let t = text_within (codes "0:4") (text_at (codes "shards")) (omega arith) h.1 in
-    let m = number_within 1 64 64 (number_at (codes "batch")) (omega arith) (omega arith) h.2 in
-    (rw is w.0, rw is w.1, rw table t, rw most m.0, rw most m.1)
-
-run_within : (v : Values) (text_at number_at : Text → Option Text) → AreValues v text_at number_at → HasRun text_at number_at → AreInRanges v
-run_within v text_at number_at is h =
-    let n = nodes_within v.joiners v.batch v.shards text_at number_at is.joiners is.shards is.batch h.3 in
-    record { some = n.0; few = n.1; shards = n.2; least = n.3; batch = n.4 }
-
-own_within : (w : Wish) (text_at number_at : Text → Option Text) → AskFor w text_at number_at → HasAll (command_of w) text_at number_at → IsInRanges w
-own_within (a_join v state) text_at number_at is h = run_within v text_at number_at is.0 h.0
-own_within (a_drill v plan) text_at number_at is h = run_within v text_at number_at is.0 h.0
-own_within (a_verification clicks state) text_at number_at is h = tt
-own_within (a_resharding state row) text_at number_at is h = tt
-own_within (a_bulk_run v) text_at number_at is h =
-    let c = needed_within 0 100000 v.count (number_at (codes "clicks")) is.count h.1 in
-    let n = nodes_within v.joiners v.batch v.shards text_at number_at is.joiners is.shards is.batch h.2 in
-    record { count = c; some = n.0; few = n.1; shards = n.2; least = n.3; batch = n.4 }
-
 -- no two commands have one name
 pub same_command : (a b : Command) → name_of a ≡ name_of b → a ≡ b
 same_command a b same = sym (letter_tells a) ∙ (ap by_letter same ∙ letter_tells b)
 
--- what is asked for by values that may be read
-pub in_range : (w : Wish) (c : Command) (text_at number_at : Text → Option Text) → IsFound w (name_of c) text_at number_at → HasAll c text_at number_at → IsInRanges w
-in_range w c text_at number_at found h =
-    own_within w text_at number_at found.1 (subst (λ (d : Command). HasAll d text_at number_at) (same_command c (command_of w) found.0) h)
+text_within : (o : Option Text) → IsSomeAnd o (λ t. 0 < length t) → 0 < length (unwrap_or o [])
+text_within None h = absurd h
+text_within (Some t) h = h
+
+module _ (text_at number_at : Given) where
+  nodes_within : HaveValues text_at number_at IsReadable node_options → AreInRanges (nodes_by text_at number_at)
+  nodes_within h =
+      let j = number_within (value_of joiners number_at) 1 4 h.0 in
+      let b = number_within (value_of batch number_at) 1 64 h.1.1.0 in
+      record { some = j.0; few = j.1; shards = text_within (value_of shards text_at) h.1.0; least = b.0; batch = b.1 }
+
+  within : (c : Command) → HaveValues text_at number_at IsReadable (options_of c) → IsInRanges (wish_by text_at number_at c)
+  within join h = nodes_within h.1.1.1.1
+  within drill h = nodes_within h.1.1.1.1
+  within verify h = tt
+  within bulk h = record { count = (number_within (value_of count number_at) 0 100000 h.1.0).1; nodes = nodes_within h.1.1 }
+  within reshard h = tt
+
+  all_there : (options : List Opt) → HaveValues text_at number_at IsReadable options → HaveValues text_at number_at (λ f t. ⊤) options
+  all_there [] h = tt
+  all_there (o ∷ os) h = (go (value_of o (given_as text_at number_at o.form)) h.0, all_there os h.1)
+    where
+      go : (v : Option Text) → IsSomeAnd v (IsReadable o.form) → IsSomeAnd v (λ t. ⊤)
+      go None k = absurd k
+      go (Some t) k = tt
+
+  -- what a command asks for by values that may be read
+  pub in_range : (w : Wish) (c : Command) → IsNamed w (name_of c) text_at number_at → HaveValues text_at number_at IsReadable (options_of c) → IsFound w (name_of c) text_at number_at × IsInRanges w
+  in_range w c named h =
+      let own : HaveValues text_at number_at IsReadable (options_of (command_of w)) = subst (λ (d : Command). HaveValues text_at number_at IsReadable (options_of d)) (same_command c (command_of w) named.0) h in
+      ((named.0, (named.1, all_there (options_of (command_of w)) own)), subst IsInRanges (sym named.1) (within (command_of w) own))
+
+-- what is asked for by words in which the parser finds no fault
+pub told : (words : List Text) (w : Wish) → fault_of photon_app words ≡ [] → IsSomeAnd (subcommand_of photon_app words) (λ p. IsNamed w p.0 (text_in p.1) (number_in p.1))
+    → IsSomeAnd (subcommand_of photon_app words) (λ p. IsFound w p.0 (text_in p.1) (number_in p.1)) × IsInRanges w
+told words w none named =
+    let got = taken words none in
+    let rows : List Row = rows_after (sub got.command).rules [] got.rest in
+    let asked = in_range (text_in rows) (number_in rows) w got.command (subst (λ (o : Option (Text × List Row)). IsSomeAnd o (λ p. IsNamed w p.0 (text_in p.1) (number_in p.1))) got.found named)
+    (has_values got.command got.rest got.holds) in
+    (subst (λ (o : Option (Text × List Row)). IsSomeAnd o (λ p. IsFound w p.0 (text_in p.1) (number_in p.1))) (sym got.found) asked.0, asked.1)

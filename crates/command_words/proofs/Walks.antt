@@ -45,7 +45,7 @@ pub record Known (c : List Rule) (o : Opt) : Type 0 where
   pub by_id : arg_by_id c o.name ≡ Some (full_rule o)
   pub fits : FitsNumber o.form
 
-same : (t : Text) → bytes_eq t t ≡ true
+pub same : (t : Text) → bytes_eq t t ≡ true
 same t = (bytes_eq-Decides t t).1 refl
 
 -- ---- one option and its value

@@ -1,7 +1,7 @@
 -- Which words are plain, and what plain words ask for.
-use Rattle.std.specs.Prelude.{◌≡◌, ◌≢◌, ◌<◌, ◌≤◌, ℕ, Bool, true, not, List, [], ◌∷◌, map, length, Option, Some, None, is_some, IsSome, IsSomeAnd, IfSome, option_map, unwrap_or, find, codes, ⊤, String, string_bytes}
-use Rattle.std.specs.List.{All, IsDistinct}
-use Rattle.std.specs.Option.{option_map_or}
+use Rattle.std.specs.Prelude.{◌≡◌, ◌≢◌, ◌<◌, ◌≤◌, ℕ, Bool, true, not, List, [], ◌∷◌, map, length, Option, Some, None, is_some, IsSome, IsSomeAnd, option_map, unwrap_or, find, codes, ⊤, String, string_bytes}
+use Rattle.std.specs.List.{All, AllByRecursion, IsDistinct}
+use Rattle.std.specs.Option.{option_map_or, option_or}
 use Rattle.std.specs.Str.{bytes_eq}
 use Rattle.std.specs.Str.Parse.{AllDigits, digits_value, without_leading_plus}
 use Rattle.std.specs.Global.{Global}
@@ -11,6 +11,7 @@ use Rattle.clap.specs.declared.error.Error.{Error}
 use Rattle.clap.specs.declared.error.kind.ErrorKind.TheVariants.{OutOfMemory}
 use Rattle.command_words.specs.declared.asked.WordsFault.{WordsFault}
 use Rattle.command_words.specs.declared.asked.WordsFault.TheVariants.{Memory, Refused}
+use Rattle.command_words.specs.declared.asked.NodeOptions.{NodeOptions}
 use Rattle.command_words.specs.declared.asked.RunOptions.{RunOptions}
 use Rattle.command_words.specs.declared.asked.BulkOptions.{BulkOptions}
 use Rattle.command_words.specs.declared.asked.Asked.{Asked}
@@ -115,6 +116,12 @@ IsValue (number low high) t = IsNumber low high t
 IsValue any_text t = IsValueText t
 IsValue some_text t = IsValueText t
 
+-- a value that may be read: digits, which may have a plus before them, within the range, any text, or one that is not empty
+abbrev pub IsReadable : Form → Text → Type 0
+IsReadable (number low high) t = IsUnsignedIn low high t
+IsReadable any_text t = ⊤
+IsReadable some_text t = 0 < length t
+
 -- the option of that name
 abbrev pub option_named : Text → List Opt → Option Opt
 option_named name options = find (λ o. bytes_eq o.name name) options
@@ -144,35 +151,39 @@ pub record IsPlain (words : List Text) (command : Command) (pairs : Pairs) : Typ
 
 -- ---- what is asked for
 
--- a number as written, which may have a plus before it, and the default of an option that is not there
-abbrev pub number_or : ℕ → Option Text → ℕ
-number_or n value = option_map_or (λ t. digits_value 10 (without_leading_plus t)) value n
+-- Here the texts that an option has, as a text and as a number, are those that text_at and number_at give its name. A number may
+-- have a plus before it.
+abbrev pub Given : Type 0
+Given = Text → Option Text
 
--- a number as written, of an option that has to be there
-abbrev pub number_of : Option Text → Option ℕ
-number_of value = option_map (λ t. digits_value 10 (without_leading_plus t)) value
+-- the text of an option: as written, or its default
+abbrev pub value_of : Opt → Given → Option Text
+value_of o at = option_or (at o.name) o.default
 
--- a text as written, and the default of an option that is not there
-abbrev pub text_or : Text → Option Text → Text
-text_or t value = unwrap_or value t
+abbrev pub text_of : Opt → Given → Text
+text_of o text_at = unwrap_or (value_of o text_at) []
 
--- what both sites are run for: the names of the two logs, the horizon in microseconds, how many joiners a site has, the text of
--- the table of shards, and the most inserts of a batch
+abbrev pub number_of : Opt → Given → ℕ
+number_of o number_at = option_map_or (λ t. digits_value 10 (without_leading_plus t)) (value_of o number_at) 0
+
+-- what the nodes of both sites are run for: how many joiners a site has, the text of the table of shards, the most inserts of a batch
+pub record NodeValues : Type 0 where
+  pub joiners : ℕ
+  pub shards : Text
+  pub batch : ℕ
+
+-- what both sites are run for: the names of the two logs, and the horizon in microseconds
 pub record Values : Type 0 where
   pub queries : Text
   pub clicks : Text
   pub horizon : ℕ
-  pub joiners : ℕ
-  pub shards : Text
-  pub batch : ℕ
+  pub nodes : NodeValues
 
 -- what a bulk run is made from, and run for
 pub record BulkValues : Type 0 where
   pub seed : ℕ
   pub count : ℕ
-  pub joiners : ℕ
-  pub shards : Text
-  pub batch : ℕ
+  pub nodes : NodeValues
 
 -- what the words of a command ask for: a join of these values over the state's directory, a drill with the plan of a file, a
 -- verification of a click log over the state's directory, a bulk run, a row more for the table that the state's directory keeps
@@ -190,11 +201,54 @@ command_of (a_verification _ _) = verify
 command_of (a_bulk_run v) = bulk
 command_of (a_resharding _ row) = reshard
 
+module _ (text_at number_at : Given) where
+  abbrev pub nodes_by : NodeValues
+  nodes_by = record { joiners = number_of joiners number_at; shards = text_of shards text_at; batch = number_of batch number_at }
+
+  abbrev pub run_by : Values
+  run_by = record { queries = text_of queries text_at; clicks = text_of clicks text_at; horizon = number_of horizon number_at; nodes = nodes_by }
+
+  abbrev pub bulk_by : BulkValues
+  bulk_by = record { seed = number_of seed number_at; count = number_of count number_at; nodes = nodes_by }
+
+  -- what the options of a command ask for
+  abbrev pub wish_by : Command → Wish
+  wish_by join = a_join run_by (text_of state text_at)
+  wish_by drill = a_drill run_by (text_of plan text_at)
+  wish_by verify = a_verification (text_of clicks text_at) (text_of state text_at)
+  wish_by bulk = a_bulk_run bulk_by
+  wish_by reshard = a_resharding (text_of state text_at) (text_of add text_at)
+
+  -- where an option of this form finds its text
+  abbrev pub given_as : Form → Given
+  given_as (number low high) = number_at
+  given_as any_text = text_at
+  given_as some_text = text_at
+
+  -- each of the options has a value, for which P holds
+  abbrev pub HaveValues : (P : Form → Text → Type 0) → List Opt → Type 0
+  HaveValues P options = AllByRecursion (λ o. IsSomeAnd (value_of o (given_as o.form)) (P o.form)) options
+
+  -- the options of the wish's command ask for it, and each one that has to be there is there
+  abbrev pub AskFor : Wish → Type 0
+  AskFor w = (w ≡ wish_by (command_of w)) × HaveValues (λ f t. ⊤) (options_of (command_of w))
+
+-- what the command of that name asks for, with these options
+abbrev pub IsNamed : Wish → Text → (text_at number_at : Given) → Type 0
+IsNamed w name text_at number_at = (name ≡ name_of (command_of w)) × (w ≡ wish_by text_at number_at (command_of w))
+
+-- the command of that name, with these options, asks for this
+abbrev pub IsFound : Wish → Text → (text_at number_at : Given) → Type 0
+IsFound w name text_at number_at = (name ≡ name_of (command_of w)) × AskFor text_at number_at w
+
+abbrev pub nodes_in : NodeOptions → NodeValues
+nodes_in o = record { joiners = o.joiners; shards = o.shards.now; batch = o.batch }
+
 abbrev pub values_in : RunOptions → Values
-values_in o = record { queries = o.queries.now; clicks = o.clicks.now; horizon = o.horizon; joiners = o.joiners; shards = o.shards.now; batch = o.batch }
+values_in o = record { queries = o.queries.now; clicks = o.clicks.now; horizon = o.horizon; nodes = nodes_in o.nodes }
 
 abbrev pub bulk_values : BulkOptions → BulkValues
-bulk_values o = record { seed = o.seed; count = o.clicks; joiners = o.joiners; shards = o.shards.now; batch = o.batch }
+bulk_values o = record { seed = o.seed; count = o.clicks; nodes = nodes_in o.nodes }
 
 -- what the words were read as
 abbrev pub wish_of : Asked → Wish
@@ -204,36 +258,8 @@ wish_of (Verify clicks state) = a_verification clicks.now state.now
 wish_of (Bulk run) = a_bulk_run (bulk_values run)
 wish_of (Reshard state add) = a_resharding state.now add.now
 
--- the values that an option has as a text and as a number are these
-pub record AreValues (v : Values) (text_at number_at : Text → Option Text) : Type 0 where
-  pub queries : text_at (codes "queries") ≡ Some v.queries
-  pub clicks : text_at (codes "clicks") ≡ Some v.clicks
-  pub horizon : v.horizon ≡ number_or 0 (number_at (codes "horizon"))
-  pub joiners : v.joiners ≡ number_or 1 (number_at (codes "joiners"))
-  pub shards : v.shards ≡ text_or (codes "0:4") (text_at (codes "shards"))
-  pub batch : v.batch ≡ number_or 64 (number_at (codes "batch"))
-
-pub record AreBulkValues (v : BulkValues) (text_at number_at : Text → Option Text) : Type 0 where
-  pub seed : number_of (number_at (codes "seed")) ≡ Some v.seed
-  pub count : number_of (number_at (codes "clicks")) ≡ Some v.count
-  pub joiners : v.joiners ≡ number_or 1 (number_at (codes "joiners"))
-  pub shards : v.shards ≡ text_or (codes "0:4") (text_at (codes "shards"))
-  pub batch : v.batch ≡ number_or 64 (number_at (codes "batch"))
-
--- the options ask for this
-abbrev pub AskFor : Wish → (text_at number_at : Text → Option Text) → Type 0
-AskFor (a_join v state) text_at number_at = AreValues v text_at number_at × (text_at (codes "state") ≡ Some state)
-AskFor (a_drill v plan) text_at number_at = AreValues v text_at number_at × (text_at (codes "plan") ≡ Some plan)
-AskFor (a_verification clicks state) text_at number_at = (text_at (codes "clicks") ≡ Some clicks) × (text_at (codes "state") ≡ Some state)
-AskFor (a_bulk_run v) text_at number_at = AreBulkValues v text_at number_at
-AskFor (a_resharding state row) text_at number_at = (text_at (codes "state") ≡ Some state) × (text_at (codes "add") ≡ Some row)
-
--- the command of that name, with these options, asks for this
-abbrev pub IsFound : Wish → Text → (text_at number_at : Text → Option Text) → Type 0
-IsFound w name text_at number_at = (name ≡ name_of (command_of w)) × AskFor w text_at number_at
-
 -- the values lie in the ranges of their options
-pub record AreInRanges (v : Values) : Type 0 where
+pub record AreInRanges (v : NodeValues) : Type 0 where
   pub some : 0 < v.joiners
   pub few : v.joiners ≤ 4
   pub shards : 0 < length v.shards
@@ -242,38 +268,14 @@ pub record AreInRanges (v : Values) : Type 0 where
 
 pub record AreBulkRanges (v : BulkValues) : Type 0 where
   pub count : v.count ≤ 100000
-  pub some : 0 < v.joiners
-  pub few : v.joiners ≤ 4
-  pub shards : 0 < length v.shards
-  pub least : 0 < v.batch
-  pub batch : v.batch ≤ 64
+  pub nodes : AreInRanges v.nodes
 
 abbrev pub IsInRanges : Wish → Type 0
-IsInRanges (a_join v _) = AreInRanges v
-IsInRanges (a_drill v _) = AreInRanges v
+IsInRanges (a_join v _) = AreInRanges v.nodes
+IsInRanges (a_drill v _) = AreInRanges v.nodes
 IsInRanges (a_verification _ _) = ⊤
 IsInRanges (a_bulk_run v) = AreBulkRanges v
 IsInRanges (a_resharding _ row) = ⊤
-
--- a number that may be read: digits, which may have a plus before them, within the range
-abbrev pub IsReadable : ℕ → ℕ → Text → Type 0
-IsReadable low high t = IsUnsignedIn low high t
-
--- each number that is there may be read, and the table is not empty
-abbrev pub HasNodes : (text_at number_at : Text → Option Text) → Type 0
-HasNodes text_at number_at = IfSome (number_at (codes "joiners")) (IsReadable 1 4) × IfSome (text_at (codes "shards")) (λ t. 0 < length t) × IfSome (number_at (codes "batch")) (IsReadable 1 64)
-
--- so of a run, and both logs are named
-abbrev pub HasRun : (text_at number_at : Text → Option Text) → Type 0
-HasRun text_at number_at = IsSome (text_at (codes "queries")) × IsSome (text_at (codes "clicks")) × IfSome (number_at (codes "horizon")) (IsReadable 0 18446744073709551615) × HasNodes text_at number_at
-
--- each value that a command needs is there
-abbrev pub HasAll : Command → (text_at number_at : Text → Option Text) → Type 0
-HasAll join text_at number_at = HasRun text_at number_at × IsSome (text_at (codes "state"))
-HasAll drill text_at number_at = HasRun text_at number_at × IsSome (text_at (codes "plan"))
-HasAll verify text_at number_at = IsSome (text_at (codes "clicks")) × IsSome (text_at (codes "state"))
-HasAll bulk text_at number_at = IsSomeAnd (number_at (codes "seed")) (IsReadable 0 18446744073709551615) × IsSomeAnd (number_at (codes "clicks")) (IsReadable 0 100000) × HasNodes text_at number_at
-HasAll reshard text_at number_at = IsSome (text_at (codes "state")) × IsSome (text_at (codes "add"))
 
 -- memory ran out, or the error has one of the kinds
 abbrev pub IsRefusedBy : Kinds → WordsFault → Type 0

@@ -3,28 +3,30 @@ ghost use Rattle.std.specs.Prelude.{◌≡◌};
 
 use std::alloc::AllocError;
 
-/// What both sites are run for: two logs by their names. Ids whose microseconds lie below the horizon are too old. A site
-/// has so many joiners, and a batch so many inserts at most. The shards are the text of a table as it was written, which
-/// is not read here.
+/// What the nodes of both sites are run for. A site has so many joiners, and a batch so many inserts at most. The shards are the
+/// text of a table as it was written, which is not read here.
 #[derive(Clone, Copy, Debug)]
-pub struct RunOptions<'a> {
-    pub queries: &'a str,
-    pub clicks: &'a str,
-    pub horizon: u64,
+pub struct NodeOptions<'a> {
     pub joiners: u8,
     pub shards: &'a str,
     pub batch: u8,
 }
 
-/// What a bulk run is for: logs with so many clicks, at most 100,000, that the program makes from the seed. The rest is as
-/// in a run.
+/// What both sites are run for: two logs by their names. Ids whose microseconds lie below the horizon are too old.
+#[derive(Clone, Copy, Debug)]
+pub struct RunOptions<'a> {
+    pub queries: &'a str,
+    pub clicks: &'a str,
+    pub horizon: u64,
+    pub nodes: NodeOptions<'a>,
+}
+
+/// What a bulk run is for: logs with so many clicks, at most 100,000, that the program makes from the seed.
 #[derive(Clone, Copy, Debug)]
 pub struct BulkOptions<'a> {
     pub seed: u64,
     pub clicks: u32,
-    pub joiners: u8,
-    pub shards: &'a str,
-    pub batch: u8,
+    pub nodes: NodeOptions<'a>,
 }
 
 /// A command with the values of its options.

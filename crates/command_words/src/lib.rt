@@ -6,5 +6,5 @@ mod commands;
 mod options;
 mod parse;
 
-pub use asked::{Asked, BulkOptions, RunOptions, WordsFault};
+pub use asked::{Asked, BulkOptions, NodeOptions, RunOptions, WordsFault};
 pub use parse::parse_words;

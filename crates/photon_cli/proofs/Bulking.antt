@@ -10,7 +10,7 @@ use Rattle.photon_cli.proofs.Runs.{clicks_back}
 
 -- what both sites of a bulk run are run for
 abbrev pub values_of : BulkValues → Values
-values_of v = record { queries = codes "queries"; clicks = codes "clicks"; horizon = 1000000; joiners = v.joiners; shards = v.shards; batch = v.batch }
+values_of v = record { queries = codes "queries"; clicks = codes "clicks"; horizon = 1000000; nodes = v.nodes }
 
 -- what holds of want of memory and of what was told holds of what is told
 pub without : (P : RunFault → Type 0) (f r : RunFault) → ((r ≡ f) × (IsFailedRead f → ⊥)) ⊎ ((r ≡ fault.Memory) × IsFailedRead f) → P fault.Memory → P f → P r

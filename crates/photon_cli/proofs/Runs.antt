@@ -59,9 +59,9 @@ placed_ids ids cs are = ap (map (λ (c : ClickRec). c.id)) (clicks_back 0 cs) �
 
 -- the setting of these values and records
 abbrev pub setting_of : Values → List ShardRow → List QueryRec → List ClickRec → Setting
-setting_of v table qs cs = record { queries = qs; clicks = placed 0 cs; horizon = v.horizon; joiners = v.joiners; table = table; batch = v.batch; replicas = 3 }
+setting_of v table qs cs = record { queries = qs; clicks = placed 0 cs; horizon = v.horizon; joiners = v.nodes.joiners; table = table; batch = v.nodes.batch; replicas = 3 }
 
-pub is_asked : (told : List ℕ → Option (List ℕ)) (v : Values) (table : List ShardRow) (qs : List QueryRec) (cs : List ClickRec) → IsTextOf v.shards table → AreLogs told v.queries v.clicks qs cs → IsAsked told v (setting_of v table qs cs)
+pub is_asked : (told : List ℕ → Option (List ℕ)) (v : Values) (table : List ShardRow) (qs : List QueryRec) (cs : List ClickRec) → IsTextOf v.nodes.shards table → AreLogs told v.queries v.clicks qs cs → IsAsked told v (setting_of v table qs cs)
 is_asked told v table qs cs text logs = record {
   table = text;
   setting = record {
@@ -78,10 +78,10 @@ ends_there (Some log) g end_ h k = k g.clicks h.lines
 
 -- the setting that is asked for is that of the run: of the table that was read, and of the click log's end
 pub run_setting : (told now : List ℕ → Option (List ℕ)) (v : Values) (table : List ShardRow) (end_ : ℕ) (g : Setting)
-    → IsAsked told v g → IsTextOf v.shards table → ((n : List ℕ) → now n ≡ told n) → IsSomeAnd (told v.clicks) (λ log. EndsAt log end_) → IsSettingOf now v.queries v.clicks (config_of v table) end_ g
+    → IsAsked told v g → IsTextOf v.nodes.shards table → ((n : List ℕ) → now n ≡ told n) → IsSomeAnd (told v.clicks) (λ log. EndsAt log end_) → IsSettingOf now v.queries v.clicks (config_of v table) end_ g
 run_setting told now v table end_ g asked text same ends =
     let n = asked.setting.numbers in
-    let is : table ≡ g.table = only_table v.shards table g.table text.0 asked.table.0 text.1 asked.table.1 in
+    let is : table ≡ g.table = only_table v.nodes.shards table g.table text.0 asked.table.0 text.1 asked.table.1 in
     record {
       numbers = record { joiners = n.joiners; horizon = n.horizon; table = sym is; batch = n.batch; replicas = n.replicas };
       queries_are = subst (λ (o : Option (List ℕ)). IsSomeAnd o (λ log. IsQueryLog log g.queries)) (sym (same v.queries)) asked.setting.queries_are;

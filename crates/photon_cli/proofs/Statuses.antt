@@ -177,7 +177,7 @@ early_left shards f (inr (other, (log, inl (line, w, e)))) table read = inl (ap 
 early_left shards f (inr (other, (log, inr (inl e)))) table read = absurd (read (inr (log, e)))
 early_left shards f (inr (other, (log, inr (inr e)))) table read = inr (ap status_of e)
 
-pub named : (told : List ℕ → Option (List ℕ)) (v : Values) (f : RunFault) → IsOfJoin f → ((n : ℕ) → f ≡ fault.Table n → IsFirstBad v.shards n)
+pub named : (told : List ℕ → Option (List ℕ)) (v : Values) (f : RunFault) → IsOfJoin f → ((n : ℕ) → f ≡ fault.Table n → IsFirstBad v.nodes.shards n)
     → ((log : LogName) (line : ℕ) (w : Why) → f ≡ fault.Refused log line w → Refuses told v.queries v.clicks log (record { line = line; why = w })) → IsNamed told v f
 named told v (fault.Table n) own row line = row n refl
 named told v (fault.Plan place) own row line = own
@@ -238,7 +238,7 @@ drill_left (fault.Reshard u) adds row bad line read write fair = absurd (adds u 
 drill_left fault.Write adds row bad line read write fair = absurd (write refl)
 drill_left fault.Memory adds row bad line read write fair = inr (inl refl)
 
-pub named_in_drill : (told : List ℕ → Option (List ℕ)) (v : Values) (file : Text) (f : RunFault) → ((u : Unfit) → f ≡ fault.Reshard u → ⊥) → ((n : ℕ) → f ≡ fault.Table n → IsFirstBad v.shards n) → ((place : Field) → f ≡ fault.Plan place → IsBadIn told file place)
+pub named_in_drill : (told : List ℕ → Option (List ℕ)) (v : Values) (file : Text) (f : RunFault) → ((u : Unfit) → f ≡ fault.Reshard u → ⊥) → ((n : ℕ) → f ≡ fault.Table n → IsFirstBad v.nodes.shards n) → ((place : Field) → f ≡ fault.Plan place → IsBadIn told file place)
     → ((log : LogName) (line : ℕ) (w : Why) → f ≡ fault.Refused log line w → Refuses told v.queries v.clicks log (record { line = line; why = w })) → IsNamedInDrill told v file f
 named_in_drill told v file (fault.Table n) adds row bad line = row n refl
 named_in_drill told v file (fault.Plan place) adds row bad line = bad place refl
@@ -266,7 +266,7 @@ bulk_own shards f (inr (table, h)) = past_bulk f h
 pub bulk_two : (shards : Text) (f : RunFault) → IsKnown (λ e. e ≡ fault.Memory) shards f → status_of f ≡ 2 → (n : ℕ) × IsFirstBad shards n
 bulk_two shards f known two = ⊎_elim (λ row. (row.0, bulk_row shards f known row.0 row.1)) (λ place. absurd (subst IsOfBulk place.1 (bulk_own shards f known))) (two_of f two)
 
-pub named_in_bulk : (v : BulkValues) (f : RunFault) → IsOfBulk f → ((n : ℕ) → f ≡ fault.Table n → IsFirstBad v.shards n) → IsNamedInBulk v f
+pub named_in_bulk : (v : BulkValues) (f : RunFault) → IsOfBulk f → ((n : ℕ) → f ≡ fault.Table n → IsFirstBad v.nodes.shards n) → IsNamedInBulk v f
 named_in_bulk v (fault.Table n) own row = row n refl
 named_in_bulk v (fault.Plan place) own row = own
 named_in_bulk v (fault.Refused log n w) own row = own

@@ -11,7 +11,7 @@ pub use Rattle.command_words.proofs.Levels.{plain_gives}
 pub use Rattle.command_words.proofs.Read.{same_command}
 pub use Rattle.command_words.proofs.Walks.{first_given, one_given, pair_rows}
 pub use Rattle.command_words.specs.Clap.{number_in, photon_app, text_in}
-pub use Rattle.command_words.specs.Words.{AreBulkValues, AreValues, AskFor, BulkValues, IsFound, IsPlain, IsRefusedBy, Pairs, Text, Values, Wish, a_bulk_run, a_drill, a_join, a_resharding, a_verification, bulk_values, command_of, given, name_of, texts, values_in, wish_of}
+pub use Rattle.command_words.specs.Words.{AskFor, BulkValues, IsFound, IsPlain, IsRefusedBy, Pairs, Text, Values, Wish, a_bulk_run, a_drill, a_join, a_resharding, a_verification, bulk_values, command_of, given, name_of, texts, values_in, wish_of, wish_by}
 pub use Rattle.command_words.specs.declared.asked.WordsFault.{WordsFault}
 pub use Rattle.dispatch_node.specs.Places.{IsLogOf}
 pub use Rattle.event_id.specs.declared.id.EventId.{EventId}

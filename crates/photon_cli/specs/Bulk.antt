@@ -29,9 +29,9 @@ pub record IsBulkSetting (v : BulkValues) (g : Setting) : Type 0 where
   pub queries : g.queries ≡ logs.queries v.seed v.count
   pub clicks : g.clicks ≡ placed 0 (logs.clicks v.seed v.count)
   pub horizon : g.horizon ≡ logs.horizon
-  pub joiners : g.joiners ≡ v.joiners
-  pub table : IsTextOf v.shards g.table
-  pub batch : g.batch ≡ v.batch
+  pub joiners : g.joiners ≡ v.nodes.joiners
+  pub table : IsTextOf v.nodes.shards g.table
+  pub batch : g.batch ≡ v.nodes.batch
   pub replicas : g.replicas ≡ 3
 
 -- it was run from nothing under that plan, and this is the run's history
@@ -43,7 +43,7 @@ pub record IsBulkRun (v : BulkValues) (log : RunLog) : Type 0 where
 
 -- the same of a bulk run, whose logs are always valid
 abbrev pub BeginsBulk : BulkValues → Option RunLog → Type 0
-BeginsBulk v ran = HasTable v.shards × IfSome ran (IsHeardOf bulk_plan v.joiners)
+BeginsBulk v ran = HasTable v.nodes.shards × IfSome ran (IsHeardOf bulk_plan v.nodes.joiners)
 
 -- the totals line was written behind what was there: whole, or a prefix of it
 abbrev pub PrintsTotals : BulkValues → Option RunLog → (old new : List ℕ) → Type 0

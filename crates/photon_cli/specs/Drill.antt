@@ -40,7 +40,7 @@ module _ (told : List ℕ → Option (List ℕ)) where
 
   -- The same of a drill: the file's bytes are a plan, too.
   abbrev pub BeginsDrill : (logs : Bool) → Values → Text → Option RunLog → Type 0
-  BeginsDrill logs v file ran = HasTable v.shards × (IsTrue logs → AreValid told v.queries v.clicks) × (plan : PlanView) × (IsTrue logs → IsPlanIn file plan) × IfSome ran (IsHeardOf plan v.joiners)
+  BeginsDrill logs v file ran = HasTable v.nodes.shards × (IsTrue logs → AreValid told v.queries v.clicks) × (plan : PlanView) × (IsTrue logs → IsPlanIn file plan) × IfSome ran (IsHeardOf plan v.nodes.joiners)
 
   -- a drill by the plan of a file was run
   abbrev pub HasDrilled : Values → Text → Option RunLog → Type 0

@@ -51,11 +51,11 @@ module _ (logs sinks : Bool) (told : List ℕ → Option (List ℕ)) (files outp
     -- 1 never
     pub one : status ≢ 1
     -- 2: only where the shards' text is no table, and there always, but for want of memory
-    pub row : status ≡ 2 → (n : ℕ) × IsFirstBad v.shards n
-    pub bad_row : (n : ℕ) → IsFirstBad v.shards n → (status ≡ 2) ⊎ (status ≡ 8)
+    pub row : status ≡ 2 → (n : ℕ) × IsFirstBad v.nodes.shards n
+    pub bad_row : (n : ℕ) → IsFirstBad v.nodes.shards n → (status ≡ 2) ⊎ (status ≡ 8)
     -- 3: only where a log has a refused line, and where one isn't valid always, but for a fault of the logs or want of memory
     pub lines : IsTrue logs → status ≡ 3 → (log : LogName) × (bad : BadLine) × Refuses told v.queries v.clicks log bad
-    pub invalid : IsTrue logs → (log : LogName) (table : List ShardRow) → IsTextOf v.shards table → IsInvalid told v.queries v.clicks log → (files → ⊥) → (status ≡ 3) ⊎ (status ≡ 8)
+    pub invalid : IsTrue logs → (log : LogName) (table : List ShardRow) → IsTextOf v.nodes.shards table → IsInvalid told v.queries v.clicks log → (files → ⊥) → (status ≡ 3) ⊎ (status ≡ 8)
     -- 6 only where the store's count rose; 7 and 9 never over a sound store where a stop leaves something of each disk
     pub stopped : status ≡ 6 → faulted
     pub welcome : IsTrue disks → IsTrue logs → (g : Setting) → IsAsked told v g → IsSoundStore g before → leaves g → (status ≢ 7) × (status ≢ 9)
@@ -92,13 +92,13 @@ module _ (logs sinks : Bool) (told : List ℕ → Option (List ℕ)) (files outp
     pub one : status ≢ 1
     -- 2: only where the shards' text is no table or the file's bytes are no plan, and there always, but for a fault of the file or
     -- want of memory
-    pub refused : IsTrue logs → status ≡ 2 → ((n : ℕ) × IsFirstBad v.shards n) ⊎ ((place : Field) × IsBadIn told file place)
-    pub bad_row : (n : ℕ) → IsFirstBad v.shards n → (status ≡ 2) ⊎ (status ≡ 8)
+    pub refused : IsTrue logs → status ≡ 2 → ((n : ℕ) × IsFirstBad v.nodes.shards n) ⊎ ((place : Field) × IsBadIn told file place)
+    pub bad_row : (n : ℕ) → IsFirstBad v.nodes.shards n → (status ≡ 2) ⊎ (status ≡ 8)
     pub bad_place : IsTrue logs → (place : Field) → IsBadIn told file place → (files → ⊥) → (status ≡ 2) ⊎ (status ≡ 8)
     -- 3: only where a log has a refused line, and where one isn't valid always, but for a bad plan, a fault of the files or want of
     -- memory
     pub lines : IsTrue logs → status ≡ 3 → (log : LogName) × (bad : BadLine) × Refuses told v.queries v.clicks log bad
-    pub invalid : IsTrue logs → (log : LogName) (table : List ShardRow) → IsTextOf v.shards table → IsInvalid told v.queries v.clicks log → (files → ⊥) → (status ≡ 2) ⊎ ((status ≡ 3) ⊎ (status ≡ 8))
+    pub invalid : IsTrue logs → (log : LogName) (table : List ShardRow) → IsTextOf v.nodes.shards table → IsInvalid told v.queries v.clicks log → (files → ⊥) → (status ≡ 2) ⊎ ((status ≡ 3) ⊎ (status ≡ 8))
     pub prefix : IsTrue logs → IsTrue sinks → status ≡ 5 → PrintsDrillPrefix told v file ran old new
     pub tells : IsTrue logs → IsTrue sinks → (errors → ⊥) → TellsBy (IsNamedInDrill told v file) status err_old err_new
     -- 7 and 9 never: its store is empty at first
@@ -147,14 +147,14 @@ module _ (sinks : Bool) (output errors : Type 0) (old new err_old err_new : List
     -- a run begins only behind a table, and what is left of a run is then of this one, as of a join
     pub begins : Begins unrun (BeginsBulk v ran) status
     -- 2: only where the shards' text is no table, and there always, but for want of memory; 1, 3 and 4 never, and 7 and 9 as of a drill
-    pub row : status ≡ 2 → (n : ℕ) × IsFirstBad v.shards n
-    pub bad_row : (n : ℕ) → IsFirstBad v.shards n → (status ≡ 2) ⊎ (status ≡ 8)
+    pub row : status ≡ 2 → (n : ℕ) × IsFirstBad v.nodes.shards n
+    pub bad_row : (n : ℕ) → IsFirstBad v.nodes.shards n → (status ≡ 2) ⊎ (status ≡ 8)
     pub one : status ≢ 1
     pub lines : status ≢ 3
     pub read : status ≢ 4
     pub welcome : (status ≢ 7) × (status ≢ 9)
     -- with a table and no fault of the output it ends with 0, or for a fault of the run's own disks, or for want of memory
-    pub complete : HasTable v.shards → (output → ⊥) → (status ≡ 0) ⊎ ((status ≡ 6) ⊎ ((status ≡ 8) ⊎ (status ≡ 10)))
+    pub complete : HasTable v.nodes.shards → (output → ⊥) → (status ≡ 0) ⊎ ((status ≡ 6) ⊎ ((status ≡ 8) ⊎ (status ≡ 10)))
     pub prefix : IsTrue sinks → status ≡ 5 → PrintsTotalsPrefix v ran old new
     pub tells : IsTrue sinks → (errors → ⊥) → TellsBy (IsNamedInBulk v) status err_old err_new
 

@@ -57,11 +57,11 @@ HaveIds g ids = map (λ (c : ClickRec). c.id) (map (λ (l : ClickLine). l.click)
 
 -- what all nodes are built for
 abbrev pub config_of : Values → List ShardRow → Config
-config_of v table = record { horizon = v.horizon; joiners = v.joiners; table = table; batch = v.batch }
+config_of v table = record { horizon = v.horizon; joiners = v.nodes.joiners; table = table; batch = v.nodes.batch }
 
 -- The setting is what was asked: it has these numbers, the table of that text, and the records of the two logs, which are valid.
 pub record IsAsked (told : List ℕ → Option (List ℕ)) (v : Values) (g : Setting) : Type 0 where
-  pub table : IsTextOf v.shards g.table
+  pub table : IsTextOf v.nodes.shards g.table
   pub setting : IsSettingOf told v.queries v.clicks (config_of v g.table) (end_from 0 g.clicks) g
 
 -- Before and after say what a stop might have left of the disks and may leave of them now; faulted is that a disk met a fault.
@@ -88,7 +88,7 @@ no_plan = record { rules = []; stops = []; dead = None }
 
 -- All that comes before a join's run is fit: the shards' text is a table, and both logs are valid. What is left of a run is of this one.
 abbrev pub BeginsJoin : (logs : Bool) → (told : List ℕ → Option (List ℕ)) → Values → Option RunLog → Type 0
-BeginsJoin logs told v ran = HasTable v.shards × (IsTrue logs → AreValid told v.queries v.clicks) × IfSome ran (IsHeardOf no_plan v.joiners)
+BeginsJoin logs told v ran = HasTable v.nodes.shards × (IsTrue logs → AreValid told v.queries v.clicks) × IfSome ran (IsHeardOf no_plan v.nodes.joiners)
 
 -- what was asked for was run, and this is left of the run
 abbrev pub HasRun : (told : List ℕ → Option (List ℕ)) → Values → (before after : Images) → Option RunLog → Type 0

@@ -23,7 +23,7 @@ module _ (told : List ℕ → Option (List ℕ)) where
   -- Of a join: a fault that names a line names the first that is refused, and one that names a row the table's first bad one. It
   -- has no plan, and adds no row.
   abbrev pub IsNamed : Values → RunFault → Type 0
-  IsNamed v (fault.Table row) = IsFirstBad v.shards row
+  IsNamed v (fault.Table row) = IsFirstBad v.nodes.shards row
   IsNamed v (fault.Plan place) = ⊥
   IsNamed v (fault.Refused log line w) = Refuses told v.queries v.clicks log (record { line = line; why = w })
   IsNamed v fault.PlanRead = ⊥
@@ -36,7 +36,7 @@ module _ (told : List ℕ → Option (List ℕ)) where
 
   -- the same of a drill, and one that names a place of the plan names its first bad one
   abbrev pub IsNamedInDrill : Values → Text → RunFault → Type 0
-  IsNamedInDrill v file (fault.Table row) = IsFirstBad v.shards row
+  IsNamedInDrill v file (fault.Table row) = IsFirstBad v.nodes.shards row
   IsNamedInDrill v file (fault.Plan place) = IsBadIn told file place
   IsNamedInDrill v file (fault.Refused log line w) = Refuses told v.queries v.clicks log (record { line = line; why = w })
   IsNamedInDrill v file (fault.Reshard u) = ⊥
@@ -58,7 +58,7 @@ module _ (told : List ℕ → Option (List ℕ)) where
 
 -- of a bulk run, which reads no file
 abbrev pub IsNamedInBulk : BulkValues → RunFault → Type 0
-IsNamedInBulk v (fault.Table row) = IsFirstBad v.shards row
+IsNamedInBulk v (fault.Table row) = IsFirstBad v.nodes.shards row
 IsNamedInBulk v (fault.Plan place) = ⊥
 IsNamedInBulk v (fault.Refused log line w) = ⊥
 IsNamedInBulk v fault.PlanRead = ⊥

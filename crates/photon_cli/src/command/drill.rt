@@ -32,7 +32,7 @@ where
     K: Sink,
     G: Gate,
     F::Log: Drop,
-    requires ranges { AreInRanges (values_in wanted.now) }
+    requires ranges { AreInRanges (values_in wanted.now).nodes }
     ensures ends { DrillEnds F.Log.tells K.tells (F.bytes files.old) (Rose (F.faults files.old) (F.faults files.new)) (Rose (K.faults out.old) (K.faults out.new)) (Rose (K.faults err.old) (K.faults err.new))
         (K.held out.old) (K.held out.new) (K.held err.old) (K.held err.new) result (values_in wanted.now) plan.now ran.new.log (ran.new ≡ ran.old) }
     ensures answered { IsAnswered K.tells (F.faults files.old) (F.faults files.new) (K.faults out.old) (K.faults out.new) (K.held out.old) (K.held out.new) result }

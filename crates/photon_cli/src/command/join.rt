@@ -36,7 +36,7 @@ where
     G: Gate,
     F::Log: Drop,
     S::Disk: Drop,
-    requires ranges { AreInRanges (values_in wanted.now) }
+    requires ranges { AreInRanges (values_in wanted.now).nodes }
     ensures ends { JoinEnds F.Log.tells K.tells (F.bytes files.old) (Rose (F.faults files.old) (F.faults files.new)) (Rose (K.faults out.old) (K.faults out.new)) (Rose (K.faults err.old) (K.faults err.new))
         (K.held out.old) (K.held out.new) (K.held err.old) (K.held err.new) result (values_in wanted.now) ran.new.log (store.new ≡ store.old) (ran.new ≡ ran.old)
         S.Disk.tells (S.image store.old) (S.image store.new) (Rose (S.faults store.old) (S.faults store.new)) (λ g. (s : S) → LeavesSomething g (S.image s)) }

@@ -102,7 +102,7 @@ where
     ensures done { IsTrue K.tells → OnOk result (PrintsTotals (bulk_values wanted.now) ran.new.log (K.held out.old) (K.held out.new)) }
     ensures prefix { IsTrue K.tells → result ≡ Err fault.Write → PrintsTotalsPrefix (bulk_values wanted.now) ran.new.log (K.held out.old) (K.held out.new) }
     ensures quiet { IsTrue K.tells → IfErr result (λ f. (f ≡ fault.Write) ⊎ (K.held out.new ≡ K.held out.old)) }
-    ensures begins { ((ran.new ≡ ran.old) × IsErrAnd result (IsEarly (λ f. f ≡ fault.Memory) (bulk_values wanted.now).shards)) ⊎ (BeginsBulk (bulk_values wanted.now) ran.new.log × IfErr result IsPast) }
+    ensures begins { ((ran.new ≡ ran.old) × IsErrAnd result (IsEarly (λ f. f ≡ fault.Memory) (bulk_values wanted.now).nodes.shards)) ⊎ (BeginsBulk (bulk_values wanted.now) ran.new.log × IfErr result IsPast) }
     ensures reads { IfErr result (λ f. IsFailedRead f → ⊥) }
     ensures fair { IfErr result (IsWelcome ⊤) }
     ensures write { Counts (K.faults out.old) (K.faults out.new) (result ≡ Err fault.Write) }
@@ -110,7 +110,7 @@ where
     valid_logs();
     sizes();
     report_kinds();
-    let table = match table_in(wanted.shards) {
+    let table = match table_in(wanted.nodes.shards) {
         Ok(table) => table,
         Err(bad) => return Err(bad),
     };
@@ -125,9 +125,7 @@ where
         queries: "queries",
         clicks: "clicks",
         horizon: HORIZON,
-        joiners: wanted.joiners,
-        shards: wanted.shards,
-        batch: wanted.batch,
+        nodes: wanted.nodes,
     };
     let lines = match drilled_lines(rt, alloc, &asked, table, plan, &mut files, gate, ran) {
         Ok(lines) => lines,

@@ -125,13 +125,13 @@ where
     F: Source,
     G: Gate,
     F::Log: Drop,
-    requires ranges { AreInRanges (values_in wanted.now) }
-    requires table { IsTextOf (values_in wanted.now).shards table }
+    requires ranges { AreInRanges (values_in wanted.now).nodes }
+    requires table { IsTextOf (values_in wanted.now).nodes.shards table }
     ensures done { IsTrue F.Log.tells → IfOk result (λ lines. Drills (F.bytes files.old) (values_in wanted.now) plan ran.new.log lines.items) }
     ensures refused { IsTrue F.Log.tells → (log : LogKind) (line : ℕ) (w : Reason) → result ≡ Err (fault.Refused log line w)
         → Refuses (F.bytes files.old) (values_in wanted.now).queries (values_in wanted.now).clicks log (record { line = line; why = w }) }
     ensures begins { ((ran.new ≡ ran.old) × IsErrAnd result IsOfLogs)
-        ⊎ ((IsTrue F.Log.tells → AreValid (F.bytes files.old) (values_in wanted.now).queries (values_in wanted.now).clicks) × IfSome ran.new.log (IsHeardOf plan (values_in wanted.now).joiners) × IfErr result IsOfRun) }
+        ⊎ ((IsTrue F.Log.tells → AreValid (F.bytes files.old) (values_in wanted.now).queries (values_in wanted.now).clicks) × IfSome ran.new.log (IsHeardOf plan (values_in wanted.now).nodes.joiners) × IfErr result IsOfRun) }
     ensures fair { IsTrue F.Log.tells → IfErr result (IsWelcome ⊤) }
     ensures count { Counts (F.faults files.old) (F.faults files.new) ((log : LogKind) × (result ≡ Err (failed_read log))) }
 {
@@ -139,7 +139,7 @@ where
         Ok(clicks) => clicks,
         Err(fault) => return Err(fault),
     };
-    let Ok(mut store) = store_for(alloc, &plan, wanted.joiners) else {
+    let Ok(mut store) = store_for(alloc, &plan, wanted.nodes.joiners) else {
         return Err(RunFault::Memory);
     };
     let names = Names {
@@ -149,9 +149,9 @@ where
     };
     let config = Config {
         horizon: wanted.horizon,
-        joiners: wanted.joiners,
+        joiners: wanted.nodes.joiners,
         table,
-        batch: wanted.batch,
+        batch: wanted.nodes.batch,
     };
     drill_lines(
         rt, alloc, &config, &names, &clicks, plan, files, &mut store, gate, ran,
@@ -175,7 +175,7 @@ where
     K: Sink,
     G: Gate,
     F::Log: Drop,
-    requires ranges { AreInRanges (values_in wanted.now) }
+    requires ranges { AreInRanges (values_in wanted.now).nodes }
 
     // Where it ends well, the report of the run was written whole; at a failed write a prefix of it went out, at any other fault
     // nothing.
@@ -186,7 +186,7 @@ where
 
     // Either it gave up before a run, or all that comes before one was fit. A refusal names the first bad row of the table, the plan's
     // first bad place, or the first refused line.
-    ensures begins { ((ran.new ≡ ran.old) × IsErrAnd result (IsEarly IsOfPlanOrLogs (values_in wanted.now).shards))
+    ensures begins { ((ran.new ≡ ran.old) × IsErrAnd result (IsEarly IsOfPlanOrLogs (values_in wanted.now).nodes.shards))
         ⊎ (BeginsDrill (F.bytes files.old) F.Log.tells (values_in wanted.now) plan.now ran.new.log × IfErr result IsPast) }
     ensures place { IsTrue F.Log.tells → (at : Place) → result ≡ Err (fault.Plan at) → IsBadIn (F.bytes files.old) plan.now at }
     ensures bad_place { IsTrue F.Log.tells → (at : Place) → IsBadIn (F.bytes files.old) plan.now at → IsErrAnd result (IsBeforeLogs at) }
@@ -200,7 +200,7 @@ where
     ensures read { Counts (F.faults files.old) (F.faults files.new) (IsErrAnd result IsFailedRead) }
     ensures write { Counts (K.faults out.old) (K.faults out.new) (result ≡ Err fault.Write) }
 {
-    let table = match table_in(wanted.shards) {
+    let table = match table_in(wanted.nodes.shards) {
         Ok(table) => table,
         Err(bad) => return Err(bad),
     };

@@ -46,7 +46,7 @@ where
     G: Gate,
     F::Log: Drop,
     S::Disk: Drop,
-    requires ranges { AreInRanges (values_in wanted.now) }
+    requires ranges { AreInRanges (values_in wanted.now).nodes }
 
     // Where it ends well, the report of what the disks keep was written whole; at a failed write a prefix of it went out, at any
     // other fault nothing.
@@ -62,7 +62,7 @@ where
 
     // Either it gave up before the store was touched, or all that comes before the run was fit. A refusal names the first bad row of the
     // table, or the first refused line, of the queries before the clicks.
-    ensures begins { ((store.new ≡ store.old) × (ran.new ≡ ran.old) × IsErrAnd result (IsEarly IsOfLogs (values_in wanted.now).shards))
+    ensures begins { ((store.new ≡ store.old) × (ran.new ≡ ran.old) × IsErrAnd result (IsEarly IsOfLogs (values_in wanted.now).nodes.shards))
         ⊎ (BeginsJoin F.Log.tells (F.bytes files.old) (values_in wanted.now) ran.new.log × IfErr result IsPast) }
     ensures refused { IsTrue F.Log.tells → (log : LogKind) (line : ℕ) (w : Reason) → result ≡ Err (fault.Refused log line w)
         → Refuses (F.bytes files.old) (values_in wanted.now).queries (values_in wanted.now).clicks log (record { line = line; why = w }) }
@@ -76,7 +76,7 @@ where
     ensures ends { IsTrue S.Disk.tells → IsTrue F.Log.tells → (g : Setting) → IsAsked (F.bytes files.old) (values_in wanted.now) g → EndsOver g (S.image store.old) (S.image store.new)
         (Rose (F.faults files.old) (F.faults files.new)) (Rose (S.faults store.old) (S.faults store.new)) ((s : S) → LeavesSomething g (S.image s)) ran.new.log result }
 {
-    let table = match table_in(wanted.shards) {
+    let table = match table_in(wanted.nodes.shards) {
         Ok(table) => table,
         Err(bad) => return Err(bad),
     };
@@ -91,9 +91,9 @@ where
     };
     let config = Config {
         horizon: wanted.horizon,
-        joiners: wanted.joiners,
+        joiners: wanted.nodes.joiners,
         table,
-        batch: wanted.batch,
+        batch: wanted.nodes.batch,
     };
     let plan = Plan::empty(alloc);
     let lines = match run_lines(

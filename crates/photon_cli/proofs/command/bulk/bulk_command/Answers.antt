@@ -16,7 +16,7 @@ returns-in-Ok-clause-ends g c =
       ran_on = λ zero. e.ran;
       begins = inr (fit, λ two. omega (arith, two), λ three. omega (arith, three));
       row = λ two. absurd (omega (arith, two));
-      bad_row = λ n first. absurd (none_bad v.shards n fit.0.0 first fit.0.1.0 fit.0.1.1);
+      bad_row = λ n first. absurd (none_bad v.nodes.shards n fit.0.0 first fit.0.1.0 fit.0.1.1);
       one = λ one. omega (arith, one);
       lines = λ three. omega (arith, three);
       read = λ four. omega (arith, four);
@@ -31,22 +31,22 @@ returns-in-Err-clause-ends g c =
     let v = bulk_values c.args.wanted.now in
     let f = c.in-Err.fault in
     let e = c.in-Err.ensures in
-    let known : IsKnown (λ h. h ≡ fault.Memory) v.shards f = ⊎_elim (λ early. inl early.1) (λ late. inr (late.0.0, late.1)) e.begins in
-    let own = bulk_own v.shards f known in
-    let named_row = bulk_row v.shards f known in
+    let known : IsKnown (λ h. h ≡ fault.Memory) v.nodes.shards f = ⊎_elim (λ early. inl early.1) (λ late. inr (late.0.0, late.1)) e.begins in
+    let own = bulk_own v.nodes.shards f known in
+    let named_row = bulk_row v.nodes.shards f known in
     rw c.give_up.ensures.status (record {
       totals = λ sinks zero. absurd (no_zero f zero);
       ran_on = λ zero. absurd (no_zero f zero);
       begins = ⊎_elim (λ early. inl (early.0, no_zero f)) (λ late. let past = past_status f late.1 in inr (late.0, past.0, past.1)) e.begins;
-      row = bulk_two v.shards f known;
-      bad_row = λ n first. inl (bad_row (λ h. h ≡ fault.Memory) v.shards f n first known);
+      row = bulk_two v.nodes.shards f known;
+      bad_row = λ n first. inl (bad_row (λ h. h ≡ fault.Memory) v.nodes.shards f n first known);
       one = no_one f;
       lines = λ three. let l = line_of f three in subst IsOfBulk l.3 own;
       read = λ four. e.reads (failed_of f four);
       welcome = fair_status f ⊤ tt e.fair;
       complete = λ (table, text) quiet.
           inr
-          (drill_left f (λ u is. subst IsOfBulk is own) (λ n is. none_bad v.shards n table (named_row n is) text.0 text.1) (λ place is. subst IsOfBulk is own) (λ log line w is. subst IsOfBulk is own) e.reads (λ is. quiet (e.write.rose (ap Err is))) e.fair);
+          (drill_left f (λ u is. subst IsOfBulk is own) (λ n is. none_bad v.nodes.shards n table (named_row n is) text.0 text.1) (λ place is. subst IsOfBulk is own) (λ log line w is. subst IsOfBulk is own) e.reads (λ is. quiet (e.write.rose (ap Err is))) e.fair);
       prefix = λ sinks five. e.prefix sinks (ap Err (write_of f five));
       tells = λ sinks calm. inr (f, refl, named_in_bulk v f own named_row, c.give_up.ensures.told sinks calm);
     })

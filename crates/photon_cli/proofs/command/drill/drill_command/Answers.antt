@@ -18,7 +18,7 @@ returns-in-Ok-clause-ends g c =
       begins = inr (fit, λ two. omega (arith, two), λ three. omega (arith, three));
       one = λ one. omega (arith, one);
       refused = λ logs two. absurd (omega (arith, two));
-      bad_row = λ n first. absurd (none_bad v.shards n fit.0.0 first fit.0.1.0 fit.0.1.1);
+      bad_row = λ n first. absurd (none_bad v.nodes.shards n fit.0.0 first fit.0.1.0 fit.0.1.1);
       bad_place = λ logs place bad calm. absurd (e.bad_place logs place bad);
       lines = λ logs three. absurd (omega (arith, three));
       invalid = λ logs log table text invalid calm. absurd (not_invalid told v.queries v.clicks log (fit.1 logs) invalid);
@@ -34,27 +34,27 @@ returns-in-Err-clause-ends g c =
     let told = g.F.Source.bytes c.args.files.now in
     let f = c.in-Err.fault in
     let e = c.in-Err.ensures in
-    let known : IsKnown IsOfPlanOrLogs v.shards f = ⊎_elim (λ early. inl early.1) (λ late. inr (late.0.0, late.1)) e.begins in
-    let row = drill_row v.shards f known in
-    let adds = drill_adds v.shards f known in
+    let known : IsKnown IsOfPlanOrLogs v.nodes.shards f = ⊎_elim (λ early. inl early.1) (λ late. inr (late.0.0, late.1)) e.begins in
+    let row = drill_row v.nodes.shards f known in
+    let adds = drill_adds v.nodes.shards f known in
     rw c.give_up.ensures.status (record {
       drilled = λ logs sinks zero. absurd (no_zero f zero);
       ran_on = λ logs zero. absurd (no_zero f zero);
       begins = ⊎_elim (λ early. inl (early.0, no_zero f)) (λ late. let past = past_status f late.1 in inr (late.0, past.0, past.1)) e.begins;
       one = no_one f;
       refused = λ logs two. ⊎_elim (λ r. inl (r.0, row r.0 r.1)) (λ p. inr (p.0, e.place logs p.0 (ap Err p.1))) (two_of f two);
-      bad_row = λ n first. inl (bad_row IsOfPlanOrLogs v.shards f n first known);
+      bad_row = λ n first. inl (bad_row IsOfPlanOrLogs v.nodes.shards f n first known);
       bad_place = λ logs place bad calm. plan_left f place (e.bad_place logs place bad) (λ failed. calm (e.read.rose failed));
       lines = λ logs three. let l = line_of f three in (l.0, record { line = l.1; why = l.2 }, e.refused logs l.0 l.1 l.2 (ap Err l.3));
       invalid = λ logs log table text invalid calm.
-          ⊎_elim (λ early. drill_early v.shards f early.1 (table, text) (λ failed. calm (e.read.rose failed))) (λ late. absurd (not_invalid told v.queries v.clicks log (late.0.1 logs) invalid)) e.begins;
+          ⊎_elim (λ early. drill_early v.nodes.shards f early.1 (table, text) (λ failed. calm (e.read.rose failed))) (λ late. absurd (not_invalid told v.queries v.clicks log (late.0.1 logs) invalid)) e.begins;
       prefix = λ logs sinks five. e.prefix logs sinks (ap Err (write_of f five));
       tells = λ logs sinks calm.
           inr (f, refl, named_in_drill told v c.args.plan.now f adds row (λ place is. e.place logs place (ap Err is)) (λ log line w is. e.refused logs log line w (ap Err is)), c.give_up.ensures.told sinks calm);
       welcome = λ logs. fair_status f ⊤ tt (e.fair logs);
       complete = λ logs s asked p is calm quiet.
           inr
-          (drill_left f adds (λ n e. none_bad v.shards n s.table (row n e) asked.table.0 asked.table.1)
+          (drill_left f adds (λ n e. none_bad v.nodes.shards n s.table (row n e) asked.table.0 asked.table.1)
           (λ place told. e.good_plan logs p is place (ap Err told))
           (λ log line w refused. none_refused told v.queries v.clicks log (record { line = line; why = w }) (asked_valid told v s asked) (e.refused logs log line w (ap Err refused)))
           (λ failed. calm (e.read.rose failed))

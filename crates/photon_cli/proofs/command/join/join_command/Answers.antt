@@ -22,7 +22,7 @@ returns-in-Ok-clause-ends g c =
       history = e.history;
       one = λ one. omega (arith, one);
       row = λ two. absurd (omega (arith, two));
-      bad_row = λ n first. absurd (none_bad v.shards n fit.0.0 first fit.0.1.0 fit.0.1.1);
+      bad_row = λ n first. absurd (none_bad v.nodes.shards n fit.0.0 first fit.0.1.0 fit.0.1.1);
       lines = λ logs three. absurd (omega (arith, three));
       invalid = λ logs log table text invalid calm. absurd (not_invalid told v.queries v.clicks log (fit.1 logs) invalid);
       stopped = λ six. absurd (omega (arith, six));
@@ -46,13 +46,13 @@ returns-in-Err-clause-ends g c =
     let before = g.S.Store.image c.args.store.now in
     let f = c.in-Err.fault in
     let e = c.in-Err.ensures in
-    let known : IsKnown IsOfLogs v.shards f = ⊎_elim (λ early. inl early.2) (λ late. inr (late.0.0, late.1)) e.begins in
-    let own = join_own v.shards f known in
-    let no_row = λ (s : Setting) (asked : IsAsked told v s) (n : ℕ) (is : f ≡ fault.Table n). none_bad v.shards n s.table (join_row v.shards f known n is) asked.table.0 asked.table.1 in
+    let known : IsKnown IsOfLogs v.nodes.shards f = ⊎_elim (λ early. inl early.2) (λ late. inr (late.0.0, late.1)) e.begins in
+    let own = join_own v.nodes.shards f known in
+    let no_row = λ (s : Setting) (asked : IsAsked told v s) (n : ℕ) (is : f ≡ fault.Table n). none_bad v.nodes.shards n s.table (join_row v.nodes.shards f known n is) asked.table.0 asked.table.1 in
     let no_line = λ (logs : IsTrue g.F.Log.LogFile.tells) (s : Setting) (asked : IsAsked told v s) (log : LogName) (line : ℕ) (w : Why) (is : f ≡ fault.Refused log line w).
     none_refused told v.queries v.clicks log (record { line = line; why = w }) (asked_valid told v s asked) (e.refused logs log line w (ap Err is)) in
     let past = λ (logs : IsTrue g.F.Log.LogFile.tells) (s : Setting) (asked : IsAsked told v s). join_past f own (no_row s asked) (no_line logs s asked) in
-    let names = λ (logs : IsTrue g.F.Log.LogFile.tells). named told v f own (join_row v.shards f known) (λ log line w is. e.refused logs log line w (ap Err is)) in
+    let names = λ (logs : IsTrue g.F.Log.LogFile.tells). named told v f own (join_row v.nodes.shards f known) (λ log line w is. e.refused logs log line w (ap Err is)) in
     rw c.give_up.ensures.status (record {
       joined = λ logs sinks disks zero. absurd (no_zero f zero);
       afresh = λ logs sinks disks zero. absurd (no_zero f zero);
@@ -60,11 +60,11 @@ returns-in-Err-clause-ends g c =
       begins = ⊎_elim (λ early. inl ((early.0, early.1), no_zero f)) (λ late. let past = past_status f late.1 in inr (late.0, past.0, past.1)) e.begins;
       history = e.history;
       one = no_one f;
-      row = join_two v.shards f known;
-      bad_row = λ n first. inl (bad_row IsOfLogs v.shards f n first known);
+      row = join_two v.nodes.shards f known;
+      bad_row = λ n first. inl (bad_row IsOfLogs v.nodes.shards f n first known);
       lines = λ logs three. let l = line_of f three in (l.0, record { line = l.1; why = l.2 }, e.refused logs l.0 l.1 l.2 (ap Err l.3));
       invalid = λ logs log table text invalid calm.
-          ⊎_elim (λ early. early_left v.shards f early.2 (table, text) (λ read. calm (e.read.rose read))) (λ late. absurd (not_invalid told v.queries v.clicks log (late.0.1 logs) invalid)) e.begins;
+          ⊎_elim (λ early. early_left v.nodes.shards f early.2 (table, text) (λ read. calm (e.read.rose read))) (λ late. absurd (not_invalid told v.queries v.clicks log (late.0.1 logs) invalid)) e.begins;
       stopped = λ six. let place = place_of f six in e.disks.rose (place.0, ap Err place.1);
       welcome = λ disks logs s asked sound leaves. fair_status f _ leaves ((e.ends disks logs s asked).welcome sound);
       damaged = λ disks logs s asked disk taken none calm still. damage_told before (Some (asked_of s)) (TellsPlaces s) _ _ _ calm still still f (past logs s asked) ((e.ends disks logs s asked).caused) (λ k kept. none (kept_are_journals s before k disk kept taken));

@@ -24,7 +24,7 @@ returns-in-Err-drilled_lines-clause-begins g c =
     let valid = made_valid told v few queries clicks c.valid_logs.ensures.queries c.valid_logs.ensures.clicks c.sizes.ensures.queries c.sizes.ensures.clicks in
     let f = c.in-Err-drilled_lines.fault in
     let memory = bulk_early told v few queries clicks c.valid_logs.ensures.queries c.valid_logs.ensures.clicks valid f c.without_reads.result (λ log line w e. c.in-Err-drilled_lines.ensures.refused refl log line w (ap Err e)) c.without_reads.ensures in
-    ⊎_elim (λ early. inl (early.0, inr ((c.in-Ok.table, c.in-Ok.ensures.found), memory early.1))) (λ late. inr (((c.in-Ok.table, c.in-Ok.ensures.found), subst (λ (p : PlanView). IfSome c.drilled_lines.new.ran.log (IsHeardOf p c.args.wanted.now.joiners)) c.in-Ok-bulk_plan.ensures late.1), without IsPast f c.without_reads.result c.without_reads.ensures tt (run_past f late.2))) c.in-Err-drilled_lines.ensures.begins
+    ⊎_elim (λ early. inl (early.0, inr ((c.in-Ok.table, c.in-Ok.ensures.found), memory early.1))) (λ late. inr (((c.in-Ok.table, c.in-Ok.ensures.found), subst (λ (p : PlanView). IfSome c.drilled_lines.new.ran.log (IsHeardOf p c.args.wanted.now.nodes.joiners)) c.in-Ok-bulk_plan.ensures late.1), without IsPast f c.without_reads.result c.without_reads.ensures tt (run_past f late.2))) c.in-Err-drilled_lines.ensures.begins
 
 pub returns-in-Err-drilled_lines-clause-reads : goal.returns-in-Err-drilled_lines-clause-reads
 returns-in-Err-drilled_lines-clause-reads g c = no_read c.in-Err-drilled_lines.fault c.without_reads.result c.without_reads.ensures
@@ -33,10 +33,10 @@ pub returns-in-Err-drilled_lines-clause-fair : goal.returns-in-Err-drilled_lines
 returns-in-Err-drilled_lines-clause-fair g c = without (IsWelcome ⊤) c.in-Err-drilled_lines.fault c.without_reads.result c.without_reads.ensures tt (c.in-Err-drilled_lines.ensures.fair refl)
 
 pub returns-clause-begins : goal.returns-clause-begins
-returns-clause-begins g c = ⊎_elim (λ early. absurd early.1) (λ late. inr (((c.in-Ok.table, c.in-Ok.ensures.found), subst (λ (p : PlanView). IfSome c.drilled_lines.new.ran.log (IsHeardOf p c.args.wanted.now.joiners)) c.in-Ok-bulk_plan.ensures late.1), tt)) c.in-Ok-drilled_lines.ensures.begins
+returns-clause-begins g c = ⊎_elim (λ early. absurd early.1) (λ late. inr (((c.in-Ok.table, c.in-Ok.ensures.found), subst (λ (p : PlanView). IfSome c.drilled_lines.new.ran.log (IsHeardOf p c.args.wanted.now.nodes.joiners)) c.in-Ok-bulk_plan.ensures late.1), tt)) c.in-Ok-drilled_lines.ensures.begins
 
 pub returns-in-Ok-write_totals-clause-begins : goal.returns-in-Ok-write_totals-clause-begins
-returns-in-Ok-write_totals-clause-begins g c = ⊎_elim (λ early. absurd early.1) (λ late. inr (((c.in-Ok.table, c.in-Ok.ensures.found), subst (λ (p : PlanView). IfSome c.drilled_lines.new.ran.log (IsHeardOf p c.args.wanted.now.joiners)) c.in-Ok-bulk_plan.ensures late.1), tt)) c.in-Ok-drilled_lines.ensures.begins
+returns-in-Ok-write_totals-clause-begins g c = ⊎_elim (λ early. absurd early.1) (λ late. inr (((c.in-Ok.table, c.in-Ok.ensures.found), subst (λ (p : PlanView). IfSome c.drilled_lines.new.ran.log (IsHeardOf p c.args.wanted.now.nodes.joiners)) c.in-Ok-bulk_plan.ensures late.1), tt)) c.in-Ok-drilled_lines.ensures.begins
 
 pub returns-in-Ok-write_totals-clause-ran : goal.returns-in-Ok-write_totals-clause-ran
 returns-in-Ok-write_totals-clause-ran g c =

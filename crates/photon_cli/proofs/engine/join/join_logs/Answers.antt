@@ -25,34 +25,34 @@ returns-in-Err-checked_logs-clause-history g c disks logs s asked =
 
 pub returns-in-Err-run_lines-clause-begins : goal.returns-in-Err-run_lines-clause-begins
 returns-in-Err-run_lines-clause-begins g c =
-    let ours = subst (λ (p : PlanView). IfSome c.run_lines.new.ran.log (IsHeardOf p c.args.wanted.now.joiners)) c.empty-plan.ensures c.run_lines.ensures.heard in
+    let ours = subst (λ (p : PlanView). IfSome c.run_lines.new.ran.log (IsHeardOf p c.args.wanted.now.nodes.joiners)) c.empty-plan.ensures c.run_lines.ensures.heard in
     inr (((c.in-Ok.table, c.in-Ok.ensures.found), (λ logs. let x = c.in-Ok-checked_logs.ensures.valid logs in (x.0, x.1, x.2)), ours), run_past c.in-Err-run_lines.fault (counted_more c.in-Err-run_lines.fault _ _ ⊤ ⊤ (λ rose. tt) (λ rose. tt) c.in-Err-run_lines.ensures.cause))
 
 pub returns-in-Err-run_lines-clause-history : goal.returns-in-Err-run_lines-clause-history
 returns-in-Err-run_lines-clause-history g c disks logs s asked =
-    let ours = subst (λ (p : PlanView). IfSome c.run_lines.new.ran.log (IsHeardOf p c.args.wanted.now.joiners)) c.empty-plan.ensures c.run_lines.ensures.heard in
+    let ours = subst (λ (p : PlanView). IfSome c.run_lines.new.ran.log (IsHeardOf p c.args.wanted.now.nodes.joiners)) c.empty-plan.ensures c.run_lines.ensures.heard in
     let setting = run_setting (g.F.Source.bytes c.args.files.now) (g.F.Source.bytes c.checked_logs.new.files) (values_in c.args.wanted.now) c.in-Ok.table c.in-Ok-checked_logs.clicks.lines_end s asked c.in-Ok.ensures.found (c.in-Ok-checked_logs.ensures.same logs) (c.in-Ok-checked_logs.ensures.end logs) in
     inr (if_history c.run_lines.new.ran.log s (g.S.Store.image c.args.store.now) (g.S.Store.image c.run_lines.new.store) no_plan _ setting.numbers.joiners (c.run_lines.ensures.left disks logs s setting) ours)
 
 pub returns-clause-begins : goal.returns-clause-begins
 returns-clause-begins g c =
-    let ours = subst (λ (p : PlanView). IfSome c.run_lines.new.ran.log (IsHeardOf p c.args.wanted.now.joiners)) c.empty-plan.ensures c.run_lines.ensures.heard in
+    let ours = subst (λ (p : PlanView). IfSome c.run_lines.new.ran.log (IsHeardOf p c.args.wanted.now.nodes.joiners)) c.empty-plan.ensures c.run_lines.ensures.heard in
     inr (((c.in-Ok.table, c.in-Ok.ensures.found), (λ logs. let x = c.in-Ok-checked_logs.ensures.valid logs in (x.0, x.1, x.2)), ours), tt)
 
 pub returns-clause-history : goal.returns-clause-history
 returns-clause-history g c disks logs s asked =
-    let ours = subst (λ (p : PlanView). IfSome c.run_lines.new.ran.log (IsHeardOf p c.args.wanted.now.joiners)) c.empty-plan.ensures c.run_lines.ensures.heard in
+    let ours = subst (λ (p : PlanView). IfSome c.run_lines.new.ran.log (IsHeardOf p c.args.wanted.now.nodes.joiners)) c.empty-plan.ensures c.run_lines.ensures.heard in
     let setting = run_setting (g.F.Source.bytes c.args.files.now) (g.F.Source.bytes c.checked_logs.new.files) (values_in c.args.wanted.now) c.in-Ok.table c.in-Ok-checked_logs.clicks.lines_end s asked c.in-Ok.ensures.found (c.in-Ok-checked_logs.ensures.same logs) (c.in-Ok-checked_logs.ensures.end logs) in
     inr (if_history c.run_lines.new.ran.log s (g.S.Store.image c.args.store.now) (g.S.Store.image c.run_lines.new.store) no_plan _ setting.numbers.joiners (c.run_lines.ensures.left disks logs s setting) ours)
 
 pub returns-in-Ok-write_report-clause-begins : goal.returns-in-Ok-write_report-clause-begins
 returns-in-Ok-write_report-clause-begins g c =
-    let ours = subst (λ (p : PlanView). IfSome c.run_lines.new.ran.log (IsHeardOf p c.args.wanted.now.joiners)) c.empty-plan.ensures c.run_lines.ensures.heard in
+    let ours = subst (λ (p : PlanView). IfSome c.run_lines.new.ran.log (IsHeardOf p c.args.wanted.now.nodes.joiners)) c.empty-plan.ensures c.run_lines.ensures.heard in
     inr (((c.in-Ok.table, c.in-Ok.ensures.found), (λ logs. let x = c.in-Ok-checked_logs.ensures.valid logs in (x.0, x.1, x.2)), ours), tt)
 
 pub returns-in-Ok-write_report-clause-history : goal.returns-in-Ok-write_report-clause-history
 returns-in-Ok-write_report-clause-history g c disks logs s asked =
-    let ours = subst (λ (p : PlanView). IfSome c.run_lines.new.ran.log (IsHeardOf p c.args.wanted.now.joiners)) c.empty-plan.ensures c.run_lines.ensures.heard in
+    let ours = subst (λ (p : PlanView). IfSome c.run_lines.new.ran.log (IsHeardOf p c.args.wanted.now.nodes.joiners)) c.empty-plan.ensures c.run_lines.ensures.heard in
     let setting = run_setting (g.F.Source.bytes c.args.files.now) (g.F.Source.bytes c.checked_logs.new.files) (values_in c.args.wanted.now) c.in-Ok.table c.in-Ok-checked_logs.clicks.lines_end s asked c.in-Ok.ensures.found (c.in-Ok-checked_logs.ensures.same logs) (c.in-Ok-checked_logs.ensures.end logs) in
     inr (if_history c.run_lines.new.ran.log s (g.S.Store.image c.args.store.now) (g.S.Store.image c.run_lines.new.store) no_plan _ setting.numbers.joiners (c.run_lines.ensures.left disks logs s setting) ours)
 
@@ -83,7 +83,7 @@ returns-in-Ok-write_report-clause-ran g c logs disks =
     let s = setting_of v c.in-Ok.table x.0 x.1 in
     let asked = is_asked (g.F.Source.bytes c.args.files.now) v c.in-Ok.table x.0 x.1 c.in-Ok.ensures.found x.2 in
     let setting = run_setting (g.F.Source.bytes c.args.files.now) (g.F.Source.bytes c.checked_logs.new.files) (values_in c.args.wanted.now) c.in-Ok.table c.in-Ok-checked_logs.clicks.lines_end s asked c.in-Ok.ensures.found (c.in-Ok-checked_logs.ensures.same logs) (c.in-Ok-checked_logs.ensures.end logs) in
-    let ours = subst (λ (p : PlanView). IfSome c.run_lines.new.ran.log (IsHeardOf p c.args.wanted.now.joiners)) c.empty-plan.ensures c.run_lines.ensures.heard in
+    let ours = subst (λ (p : PlanView). IfSome c.run_lines.new.ran.log (IsHeardOf p c.args.wanted.now.nodes.joiners)) c.empty-plan.ensures c.run_lines.ensures.heard in
     (s, asked, history c.run_lines.new.ran.log s (g.S.Store.image c.args.store.now) (g.S.Store.image c.run_lines.new.store) no_plan _ setting.numbers.joiners (c.in-Ok-run_lines.ensures.began disks logs s setting) ours)
 
 pub returns-clause-prefix : goal.returns-clause-prefix
@@ -97,7 +97,7 @@ returns-clause-prefix g c logs sinks disks e =
     (s, asked, λ was. (c.in-Ok-run_lines.lines.items, c.in-Ok-run_lines.ensures.joined disks logs s setting (placed_ids c.in-Ok-checked_logs.clicks.ids.items x.1 x.3) was, took))
 
 pub returns-in-Err-clause-ends : goal.returns-in-Err-clause-ends
-returns-in-Err-clause-ends g c disks logs s asked = before_table s _ _ _ _ _ c.args.wanted.now.shards.now c.in-Err.bad c.in-Err.ensures.bad
+returns-in-Err-clause-ends g c disks logs s asked = before_table s _ _ _ _ _ c.args.wanted.now.nodes.shards.now c.in-Err.bad c.in-Err.ensures.bad
 
 pub returns-in-Err-checked_logs-clause-ends : goal.returns-in-Err-checked_logs-clause-ends
 returns-in-Err-checked_logs-clause-ends g c disks logs s asked =

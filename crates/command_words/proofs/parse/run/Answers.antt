@@ -1,0 +1,12 @@
+use Rattle.std.proofs.Common.{◌∷◌}
+use Rattle.clap.specs.Matches.{found_of}
+use Rattle.clap.specs.Walk.{rows_of}
+use Rattle.command_words.specs.Words.{HaveValues, IsReadable, horizon, node_options}
+use Rattle.command_words.specs.Clap.{number_in, text_in}
+use Rattle.command_words.proofs.parse.run.Goals as goal
+
+pub returns-in_err-number-clause-reads : goal.returns-in_err-number-clause-reads
+returns-in_err-number-clause-reads c = λ h.
+    let rows = rows_of (found_of c.args.found.now) in
+    let all : HaveValues (text_in rows) (number_in rows) IsReadable (horizon ∷ node_options) = h in
+    absurd (c.in_err-number.ensures.reads 0 18446744073709551615 all.0)
