@@ -1,6 +1,5 @@
 pub mod Bytes
 pub mod States
 pub mod Paths
-pub mod Rosters
 pub mod Faults
 pub mod Replicas

@@ -3,10 +3,8 @@
 
 mod kind;
 mod reading;
-mod roster;
 mod spelling;
 
 pub use kind::{Done, NodeFault, SiteNode};
 pub use reading::read_input;
-pub use roster::Roster;
 pub use spelling::{number_of, spell};

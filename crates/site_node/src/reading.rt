@@ -2,19 +2,18 @@
 ghost use Rattle.std.specs.Prelude.{IfOk, IfSome, IfNone};
 ghost use Rattle.turn_defs.specs.Setting.{Setting};
 ghost use Rattle.site_node.specs.Bytes.{Reads, IsJunk, IsInput};
-ghost use Rattle.site_node.specs.Rosters.{IsOf};
+ghost use Rattle.turn_defs.specs.Configs.{IsOf};
 
-use crate::Roster;
 use air_bus::Input as Begun;
 use packet_codec::{DecodeFault, decode};
 use std::alloc::{AllocError, Global};
-use turn_defs::Input;
+use turn_defs::{Config, Input};
 
 /// The input that the bytes spell, or None where no input is spelled so, or no node has the sender's number. Linear in
 /// the bytes.
-pub fn read_input(alloc: Global, roster: Roster, begun: &Begun) -> Result<Option<Input>, AllocError>
-    ensures reads { (g : Setting) → IsOf roster g → IfOk result (λ read. IfSome read (Reads g begun.now)) }
-    ensures junk { (g : Setting) → IsOf roster g → IfOk result (λ read. IfNone read (IsJunk g begun.now)) }
+pub fn read_input(alloc: Global, config: Config, begun: &Begun) -> Result<Option<Input>, AllocError>
+    ensures reads { (g : Setting) → IsOf config g → IfOk result (λ read. IfSome read (Reads g begun.now)) }
+    ensures junk { (g : Setting) → IsOf config g → IfOk result (λ read. IfNone read (IsJunk g begun.now)) }
     ensures spelled { IfOk result (λ read. IfSome read IsInput) }
 {
     match begun {
@@ -22,7 +21,7 @@ pub fn read_input(alloc: Global, roster: Roster, begun: &Begun) -> Result<Option
         Begun::Own => Ok(Some(Input::Own)),
         Begun::Tick => Ok(Some(Input::Tick)),
         Begun::Packet { from, bytes } => {
-            let Some(from) = roster.node(*from) else {
+            let Some(from) = config.node(*from) else {
                 return Ok(None);
             };
             match decode(alloc, bytes.as_slice()) {
