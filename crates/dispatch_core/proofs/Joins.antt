@@ -1,35 +1,32 @@
 -- Joins that are dealt to the joiners of a site.
 use Rattle.std.proofs.Common.{◌≡◌, ℕ, zero, suc, ◌+◌, ◌*◌, ◌%◌, ◌<◌, ◌≤◌, Bool, true, false, cond, nat_lt, List, [], ◌∷◌, ◌++◌, map, Option, Some, None, refl, sym, ap, subst, ◌∙◌, arith}
-use Rattle.dispatch_core.proofs.Words.{zip, option_map, lt-ltb, le-ltb, cond-true, cond-false, append_assoc, append-nil, map-append, Click, ClickLine, at, Packet, Join, Node, To, AnyJoiner, Setting, IsTo, Addressed, DispatcherKept, DispatcherLive, Fresh, join, fresh_joins, trying_joins, join_if, fresh_of, joiner_at, dealt, next_after, GoInTurn, Puts, waiting_joins, AreClicksAt, FreshLine, Outbox}
+use Rattle.dispatch_core.proofs.Words.{zip, option_map, lt-ltb, le-ltb, cond-true, cond-false, append_assoc, append-nil, map-append, Click, ClickLine, at, Packet, Join, Node, To, AnyJoiner, Setting, Config, IsOf, IsTo, Addressed, DispatcherKept, DispatcherLive, Fresh, join, fresh_joins, trying_joins, join_if, fresh_of, joiner_at, dealt, next_after, GoInTurn, Puts, waiting_joins, AreClicksAt, FreshLine, Outbox}
 
 -- ---- one list behind another
 
-dealt_append : (s n k : ℕ) (xs ys : List (ℕ × Click)) → dealt s n k (xs ++ ys) ≡ dealt s n k xs ++ dealt s n (next_after n k xs) ys
-dealt_append s n k [] ys = refl
-dealt_append s n k (x ∷ xs) ys = let rest = dealt_append s n ((k + 1) % n) xs ys in λ i. (joiner_at s n k, Join x.0 x.1) ∷ rest i
+dealt_append : (s : ℕ) (c : Config) (k : ℕ) (xs ys : List (ℕ × Click)) → dealt s c k (xs ++ ys) ≡ dealt s c k xs ++ dealt s c (next_after c.joiners k xs) ys
+dealt_append s c k [] ys = refl
+dealt_append s c k (x ∷ xs) ys = let rest = dealt_append s c ((k + 1) % c.joiners) xs ys in λ i. (joiner_at s c k, Join x.0 x.1) ∷ rest i
 
 next_append : (n k : ℕ) (xs ys : List (ℕ × Click)) → next_after n k (xs ++ ys) ≡ next_after n (next_after n k xs) ys
 next_append n k [] ys = refl
 next_append n k (x ∷ xs) ys = next_append n ((k + 1) % n) xs ys
 
 pub puts_none : (a : Outbox) → Puts a a []
-puts_none a = record { packets = sym (append-nil a.packets.items); next = refl; site = refl; joiners = refl }
-
-behind : (a b c : List (Node × Packet)) (s n k s' n' k' : ℕ) (xs ys : List (ℕ × Click)) → s' ≡ s → n' ≡ n → k' ≡ next_after n k xs → b ≡ a ++ dealt s n k xs → c ≡ b ++ dealt s' n' k' ys
-    → c ≡ a ++ dealt s n k (xs ++ ys)
-behind a b c s n k s' n' k' xs ys site joiners next first second =
-    second ∙ (λ i. first i ++ dealt (site i) (joiners i) (next i) ys) ∙ append_assoc a (dealt s n k xs) (dealt s n (next_after n k xs) ys) ∙ ap (λ (l : List (Node × Packet)). a ++ l) (sym (dealt_append s n k xs ys))
-
-next_behind : (n k n' k' e : ℕ) (xs ys : List (ℕ × Click)) → n' ≡ n → k' ≡ next_after n k xs → e ≡ next_after n' k' ys → e ≡ next_after n k (xs ++ ys)
-next_behind n k n' k' e xs ys joiners next second = second ∙ (λ i. next_after (joiners i) (next i) ys) ∙ sym (next_append n k xs ys)
+puts_none a = record { packets = sym (append-nil a.packets.items); next = refl; site = refl; config = refl }
 
 pub puts_more : (a b c : Outbox) (xs ys : List (ℕ × Click)) → Puts a b xs → Puts b c ys → Puts a c (xs ++ ys)
-puts_more a b c xs ys p q = record {
-  packets = behind a.packets.items b.packets.items c.packets.items a.dealer.site a.dealer.joiners a.dealer.next b.dealer.site b.dealer.joiners b.dealer.next xs ys p.site p.joiners p.next p.packets q.packets;
-  next = next_behind a.dealer.joiners a.dealer.next b.dealer.joiners b.dealer.next c.dealer.next xs ys p.joiners p.next q.next;
-  site = q.site ∙ p.site;
-  joiners = q.joiners ∙ p.joiners;
-}
+puts_more a b c xs ys p q =
+    let from = a.dealer in
+    let middle = next_after from.config.joiners from.next xs in
+    record {
+      packets = q.packets ∙ (λ i. p.packets i ++ dealt (p.site i) (p.config i) (p.next i) ys)
+          ∙ append_assoc a.packets.items (dealt from.site from.config from.next xs) (dealt from.site from.config middle ys)
+          ∙ ap (λ (l : List (Node × Packet)). a.packets.items ++ l) (sym (dealt_append from.site from.config from.next xs ys));
+      next = q.next ∙ (λ i. next_after (p.config i).joiners (p.next i) ys) ∙ sym (next_append from.config.joiners from.next xs ys);
+      site = q.site ∙ p.site;
+      config = q.config ∙ p.config;
+    }
 
 pub waiting_more : (x : FreshLine) (xs : List FreshLine) → waiting_joins (x ∷ []) ++ waiting_joins xs ≡ waiting_joins (x ∷ xs)
 waiting_more x xs = go x.done
@@ -43,19 +40,22 @@ waiting_more x xs = go x.done
 abbrev pub joined : ℕ → ℕ × Click → To × Packet
 joined site j = join site j.0 j.1
 
-to_site : (g : Setting) (site k : ℕ) → g.replicas ≡ 3 → site < 2 → k < g.joiners → IsTo g (AnyJoiner site) (joiner_at site g.joiners k)
-to_site g zero k three two below =
-    let front : 7 + 0 * g.joiners + k < (4 + g.replicas) + g.joiners = omega arith in
-    ((omega arith, omega arith), cond-true (nat_lt (7 + 0 * g.joiners + k) ((4 + g.replicas) + g.joiners)) 0 1 (lt-ltb (7 + 0 * g.joiners + k) ((4 + g.replicas) + g.joiners) front))
-to_site g (suc zero) k three two below =
-    let behind : (4 + g.replicas) + g.joiners ≤ 7 + 1 * g.joiners + k = omega arith in
-    ((omega arith, omega arith), cond-false (nat_lt (7 + 1 * g.joiners + k) ((4 + g.replicas) + g.joiners)) 0 1 (le-ltb (7 + 1 * g.joiners + k) ((4 + g.replicas) + g.joiners) behind))
-to_site g (suc (suc s)) k three two below = absurd (omega (arith, two))
+to_site : (g : Setting) (site : ℕ) (c : Config) (k : ℕ) → IsOf c g → site < 2 → k < c.joiners → IsTo g (AnyJoiner site) (joiner_at site c k)
+to_site g zero c k is two below =
+    let number : ℕ = (4 + c.replicas) + 0 * c.joiners + k in
+    let middle : ℕ = (4 + g.replicas) + g.joiners in
+    let front : number < middle = omega (arith, is.replicas, is.joiners) in
+    ((omega (arith, is.replicas, is.joiners), omega (arith, is.replicas, is.joiners)), cond-true (nat_lt number middle) 0 1 (lt-ltb number middle front))
+to_site g (suc zero) c k is two below =
+    let number : ℕ = (4 + c.replicas) + 1 * c.joiners + k in
+    let middle : ℕ = (4 + g.replicas) + g.joiners in
+    let behind : middle ≤ number = omega (arith, is.replicas, is.joiners) in
+    ((omega (arith, is.replicas, is.joiners), omega (arith, is.replicas, is.joiners)), cond-false (nat_lt number middle) 0 1 (le-ltb number middle behind))
+to_site g (suc (suc s)) c k is two below = absurd (omega (arith, two))
 
-pub addressed : (g : Setting) (site n k : ℕ) → g.replicas ≡ 3 → n ≡ g.joiners → site < 2 → k < n → ((m : ℕ) → m % n < n) → (js : List (ℕ × Click)) → Addressed g (map (joined site) js) (dealt site n k js)
-addressed g site n k three same two below wraps [] = tt
-addressed g site n k three same two below wraps (j ∷ js) =
-    ((subst (λ (m : ℕ). IsTo g (AnyJoiner site) (joiner_at site m k)) (sym same) (to_site g site k three two (subst (λ (m : ℕ). k < m) same below)), refl), addressed g site n ((k + 1) % n) three same two (wraps (k + 1)) wraps js)
+pub addressed : (g : Setting) (site : ℕ) (c : Config) (k : ℕ) → IsOf c g → site < 2 → k < c.joiners → ((m : ℕ) → m % c.joiners < c.joiners) → (js : List (ℕ × Click)) → Addressed g (map (joined site) js) (dealt site c k js)
+addressed g site c k is two below wraps [] = tt
+addressed g site c k is two below wraps (j ∷ js) = ((to_site g site c k is two below, refl), addressed g site c ((k + 1) % c.joiners) is two (wraps (k + 1)) wraps js)
 
 -- ---- the Joins of a Tick
 
@@ -89,9 +89,9 @@ tick_are g site k l xs fs ps qs cs f p h =
 
 -- ---- in turn
 
-pub in_turn : (site n k e : ℕ) (js : List (ℕ × Click)) → e ≡ next_after n k js → GoInTurn site n k (dealt site n k js) e
-in_turn site n k e [] h = h
-in_turn site n k e (j ∷ js) h = (refl, in_turn site n ((k + 1) % n) e js h)
+pub in_turn : (site : ℕ) (c : Config) (k e : ℕ) (js : List (ℕ × Click)) → e ≡ next_after c.joiners k js → GoInTurn site c k (dealt site c k js) e
+in_turn site c k e [] h = h
+in_turn site c k e (j ∷ js) h = (refl, in_turn site c ((k + 1) % c.joiners) e js h)
 
 pub next_below : (n k : ℕ) (js : List (ℕ × Click)) → k < n → ((m : ℕ) → m % n < n) → next_after n k js < n
 next_below n k [] below wraps = below

@@ -9,22 +9,22 @@ use Rattle.dispatch_core.proofs.Keeping.{ordered_core}
 wraps : (n k : ℕ) → k < n → (m : ℕ) → m % n < n
 wraps n k below m = let some : 0 < n = omega arith in omega arith
 
-pub row_of : (g : Setting) (core : DispatchCore) (k : DispatcherKept) (l : DispatcherLive) (turn : Turn) (change : Change) (joins : List (ℕ × Click)) (out : Out DispatcherLive) → IsOf g core → Sends core turn change joins
+pub row_of : (g : Setting) (core : DispatchCore) (k : DispatcherKept) (l : DispatcherLive) (turn : Turn) (change : Change) (joins : List (ℕ × Click)) (out : Out DispatcherLive) → IsOf core.dealer.config g → Sends core turn change joins
     → note_of change ≡ out.note → map (joined core.dealer.site) joins ≡ out.packets → changed change l ≡ out.live → Fits g core k l change → IsTurn g core k l turn out
-row_of g core k l turn change joins out o s note packets live fits = record {
+row_of g core k l turn change joins out is s note packets live fits = record {
   note = ap note_of s.change_is ∙ note;
   packets = subst (λ (ps : List (Node × Packet)). Addressed g out.packets ps) (sym s.packets)
-      (subst (λ ts. Addressed g ts (dealt core.dealer.site core.dealer.joiners core.dealer.next joins)) packets
-      (addressed g core.dealer.site core.dealer.joiners core.dealer.next o.replicas o.joiners core.dealer.two core.dealer.within (wraps core.dealer.joiners core.dealer.next core.dealer.within) joins));
+      (subst (λ ts. Addressed g ts (dealt core.dealer.site core.dealer.config core.dealer.next joins)) packets
+      (addressed g core.dealer.site core.dealer.config core.dealer.next is core.dealer.two core.dealer.within (wraps core.dealer.config.joiners core.dealer.next core.dealer.within) joins));
   live = ap (λ (c : Change). changed c l) s.change_is ∙ live;
   fits = subst (λ (c : Change). Fits g core k l c) (sym s.change_is) fits;
 }
 
 pub dealt_of : (core : DispatchCore) (turn : Turn) (change : Change) (joins : List (ℕ × Click)) → Sends core turn change joins → IsDealt core core.dealer.next turn
 dealt_of core turn change joins s = record {
-  in_turn = subst (λ (ps : List (Node × Packet)). GoInTurn core.dealer.site core.dealer.joiners core.dealer.next ps turn.next) (sym s.packets) (in_turn core.dealer.site core.dealer.joiners core.dealer.next turn.next joins s.next);
-  below = subst (λ (n : ℕ). n < core.dealer.joiners) (sym s.next) (next_below core.dealer.joiners core.dealer.next joins core.dealer.within (wraps core.dealer.joiners core.dealer.next core.dealer.within));
-  spelled = subst (λ (ps : List (Node × Packet)). ArePackets ps) (sym s.packets) (dealt_spelled core.dealer.site core.dealer.joiners core.dealer.next joins s.spelled);
+  in_turn = subst (λ (ps : List (Node × Packet)). GoInTurn core.dealer.site core.dealer.config core.dealer.next ps turn.next) (sym s.packets) (in_turn core.dealer.site core.dealer.config core.dealer.next turn.next joins s.next);
+  below = subst (λ (n : ℕ). n < core.dealer.config.joiners) (sym s.next) (next_below core.dealer.config.joiners core.dealer.next joins core.dealer.within (wraps core.dealer.config.joiners core.dealer.next core.dealer.within));
+  spelled = subst (λ (ps : List (Node × Packet)). ArePackets ps) (sym s.packets) (dealt_spelled core.dealer.site core.dealer.config core.dealer.next joins s.spelled);
 }
 
 pub as_out : (g : Setting) (core : DispatchCore) (k : DispatcherKept) (l : DispatcherLive) (turn : Turn) (out other : Out DispatcherLive) → other ≡ out → IsTurn g core k l turn out → IsTurn g core k l turn other
@@ -42,8 +42,8 @@ pub sends_of : (core : DispatchCore) (a d : Outbox) (turn : Turn) (change : Chan
     → Each IsJoin js → Sends core turn change js
 sends_of core a d turn change js same none p is packets next spelled = record {
   change_is = is;
-  packets = packets ∙ p.packets ∙ (λ i. none i ++ dealt (same i).site (same i).joiners (same i).next js);
-  next = next ∙ p.next ∙ (λ i. next_after (same i).joiners (same i).next js);
+  packets = packets ∙ p.packets ∙ (λ i. none i ++ dealt (same i).site (same i).config (same i).next js);
+  next = next ∙ p.next ∙ (λ i. next_after (same i).config.joiners (same i).next js);
   spelled = spelled;
 }
 

@@ -1,15 +1,15 @@
 -- Joins that have spellings, and the packets that they are.
 use Rattle.std.proofs.Common.{ℕ, ◌+◌, ◌%◌, ◌^◌, ◌<◌, Bool, true, false, cond, List, [], ◌∷◌, All}
-use Rattle.dispatch_core.proofs.Words.{zip, All-nil, All-cons, All-head, All-tail, Each, Click, IsClick, Packet, Join, Node, IsPacket, joiner_at, dealt, waiting_joins, IsJoin, ArePackets, FreshLine}
+use Rattle.dispatch_core.proofs.Words.{zip, All-nil, All-cons, All-head, All-tail, Each, Click, IsClick, Packet, Join, Node, IsPacket, Config, joiner_at, dealt, waiting_joins, IsJoin, ArePackets, FreshLine}
 
 abbrev IsSpelled : Node × Packet → Type 0
 IsSpelled p = IsPacket p.1
 
-pub dealt_spelled : (site n k : ℕ) (js : List (ℕ × Click)) → Each IsJoin js → ArePackets (dealt site n k js)
-dealt_spelled site n k [] h = All-nil IsSpelled
-dealt_spelled site n k (j ∷ js) h =
-    let rest = dealt_spelled site n ((k + 1) % n) js h.1 in
-    All-cons IsSpelled (joiner_at site n k, Join j.0 j.1) (dealt site n ((k + 1) % n) js) h.0 rest
+pub dealt_spelled : (site : ℕ) (c : Config) (k : ℕ) (js : List (ℕ × Click)) → Each IsJoin js → ArePackets (dealt site c k js)
+dealt_spelled site c k [] h = All-nil IsSpelled
+dealt_spelled site c k (j ∷ js) h =
+    let rest = dealt_spelled site c ((k + 1) % c.joiners) js h.1 in
+    All-cons IsSpelled (joiner_at site c k, Join j.0 j.1) (dealt site c ((k + 1) % c.joiners) js) h.0 rest
 
 pub waiting_spelled : (xs : List FreshLine) → Each IsJoin (waiting_joins xs)
 waiting_spelled [] = tt

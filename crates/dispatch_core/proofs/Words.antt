@@ -3,7 +3,7 @@ pub use Rattle.dispatch_core.specs.Changes.{changed, note_of}
 pub use Rattle.dispatch_core.specs.Dealing.{GoInTurn, dealt, joiner_at, next_after}
 pub use Rattle.dispatch_core.specs.Outboxes.{Puts, waiting_joins}
 pub use Rattle.dispatch_core.specs.Spelled.{ArePackets, IsJoin}
-pub use Rattle.dispatch_core.specs.Standing.{AreClicksAt, Carries, Fits, IsAlike, IsDealt, IsOf, IsOrdered, IsTurn, Sends, Stands, Takes, live_of, out_of}
+pub use Rattle.dispatch_core.specs.Standing.{AreClicksAt, Carries, Fits, IsAlike, IsDealt, IsOrdered, IsTurn, Sends, Stands, Takes, live_of, out_of}
 pub use Rattle.dispatch_core.specs.Windows.{AreBefore, IsFound, IsRising, IsRisingFrom, Lacks, fresh_of}
 pub use Rattle.dispatch_core.specs.declared.dealer.Dealer.{Dealer}
 pub use Rattle.dispatch_core.specs.declared.dispatch.DispatchCore.{DispatchCore}
@@ -41,6 +41,8 @@ pub use Rattle.turn_defs.specs.Dispatcher.{DispatcherKept, DispatcherLive, Fresh
 pub use Rattle.turn_defs.specs.Nodes.{Addressed, IsTo}
 pub use Rattle.turn_defs.specs.Packets.{IsPacket}
 pub use Rattle.turn_defs.specs.Setting.{Setting}
+pub use Rattle.turn_defs.specs.Configs.{IsOf}
+pub use Rattle.turn_defs.specs.declared.config.Config.{Config}
 pub use Rattle.turn_defs.specs.Turns.{Note, Out, land}
 pub use Rattle.turn_defs.specs.declared.node.Input.{Input}
 pub use Rattle.turn_defs.specs.declared.node.Node.{Node}

@@ -1,19 +1,20 @@
 -- Joins go to the joiners of a site in turn.
 use Rattle.std.specs.Prelude.{◌≡◌, ℕ, ◌+◌, ◌*◌, ◌%◌, List, [], ◌∷◌}
 use Rattle.log_records.specs.declared.records.ClickRec.{ClickRec as Click}
+use Rattle.turn_defs.specs.declared.config.Config.{Config}
 use Rattle.turn_defs.specs.declared.packet.Packet.{Packet}
 use Rattle.turn_defs.specs.declared.packet.Packet.TheVariants.{Join}
 use Rattle.turn_defs.specs.declared.node.Node.{Node}
 use Rattle.turn_defs.specs.declared.node.Node.TheVariants.{Joiner}
 
--- number k of the n joiners of a site, where there are three replicas
-abbrev pub joiner_at : (site n k : ℕ) → Node
-joiner_at site n k = Joiner (7 + site * n + k)
+-- number k of the joiners of a site
+abbrev pub joiner_at : (site : ℕ) → Config → (k : ℕ) → Node
+joiner_at site c k = Joiner ((4 + c.replicas) + site * c.joiners + k)
 
 -- a Join of each click at its position, the first to joiner number k of the site's, each further one to the joiner behind
-abbrev pub dealt : (site n k : ℕ) → List (ℕ × Click) → List (Node × Packet)
-dealt site n k [] = []
-dealt site n k (j ∷ js) = (joiner_at site n k, Join j.0 j.1) ∷ dealt site n ((k + 1) % n) js
+abbrev pub dealt : (site : ℕ) → Config → (k : ℕ) → List (ℕ × Click) → List (Node × Packet)
+dealt site c k [] = []
+dealt site c k (j ∷ js) = (joiner_at site c k, Join j.0 j.1) ∷ dealt site c ((k + 1) % c.joiners) js
 
 -- the number of the joiner behind them
 abbrev pub next_after : (n k : ℕ) → List (ℕ × Click) → ℕ
@@ -21,7 +22,7 @@ next_after n k [] = k
 next_after n k (j ∷ js) = next_after n ((k + 1) % n) js
 
 -- The packets go to the joiners of the site in turn, the first to number k, and the one behind the last is number e. So
--- with k 0 at the start, a Join's joiner is how many were sent before it since then, modulo n.
-abbrev pub GoInTurn : (site n k : ℕ) → List (Node × Packet) → (e : ℕ) → Type 0
-GoInTurn site n k [] e = e ≡ k
-GoInTurn site n k (p ∷ ps) e = (p.0 ≡ joiner_at site n k) × GoInTurn site n ((k + 1) % n) ps e
+-- with k 0 at the start, a Join's joiner is how many were sent before it since then, modulo how many there are.
+abbrev pub GoInTurn : (site : ℕ) → Config → (k : ℕ) → List (Node × Packet) → (e : ℕ) → Type 0
+GoInTurn site c k [] e = e ≡ k
+GoInTurn site c k (p ∷ ps) e = (p.0 ≡ joiner_at site c k) × GoInTurn site c ((k + 1) % c.joiners) ps e

@@ -9,6 +9,7 @@ use Rattle.log_records.specs.Lines.{ClickLine, at}
 use Rattle.turn_defs.specs.declared.node.Input.{Input}
 use Rattle.turn_defs.specs.declared.node.Input.TheVariants as model
 use Rattle.turn_defs.specs.Setting.{Setting}
+use Rattle.turn_defs.specs.Configs.{IsOf}
 use Rattle.turn_defs.specs.Nodes.{Addressed}
 use Rattle.turn_defs.specs.Turns.{Out}
 use Rattle.turn_defs.specs.Dispatcher.{DispatcherKept, DispatcherLive, dispatcher_turn, dispatcher_start, dispatcher_looks}
@@ -28,11 +29,6 @@ use Rattle.dispatch_core.specs.declared.turns.Change.TheVariants.{Nothing, Start
 abbrev pub live_of : DispatchCore → DispatcherLive
 live_of core = record { place = core.place; fresh = map fresh_of core.fresh.items; due = core.due.items; trying = core.trying.keys; ended = core.ended }
 
--- the core's numbers are the setting's, which has three replicas
-pub record IsOf (g : Setting) (core : DispatchCore) : Type 0 where
-  pub joiners : core.dealer.joiners ≡ g.joiners
-  pub replicas : g.replicas ≡ 3
-
 -- what holds of the volatile state by itself: lines are taken in the order of the log, and no position is tried twice
 pub record IsOrdered (l : DispatcherLive) : Type 0 where
   pub rising : IsRising l.fresh
@@ -43,7 +39,7 @@ pub record IsOrdered (l : DispatcherLive) : Type 0 where
 
 -- the core stands for a dispatcher of the setting that keeps k and knows l
 pub record Stands (g : Setting) (core : DispatchCore) (k : DispatcherKept) (l : DispatcherLive) : Type 0 where
-  pub of_setting : IsOf g core
+  pub of_setting : IsOf core.dealer.config g
   pub live : live_of core ≡ l
   pub pending : (p : ℕ) → contains nat_eq core.pending p ≡ has k.pending p
   pub ordered : IsOrdered l
@@ -85,7 +81,7 @@ Carries g k l (input.Packet from packet) i = i ≡ model.Deliver from packet
 
 -- the core can take the input: a Start whatever it stood for, any other input where it stands for k and l
 abbrev pub Takes : Setting → DispatchCore → DispatcherKept → DispatcherLive → DispatchInput → Type 0
-Takes g core k l (input.Start offset pending) = IsOf g core
+Takes g core k l (input.Start offset pending) = IsOf core.dealer.config g
 Takes g core k l (input.Own line due) = Stands g core k l
 Takes g core k l (input.Tick clicks) = Stands g core k l
 Takes g core k l (input.Packet from packet) = Stands g core k l
@@ -101,7 +97,7 @@ out_of g site k l (model.Deliver from packet) = dispatcher_turn g site k l (mode
 
 -- the change may be kept: the state that it was decided for stands, and what it brings in fits it
 abbrev pub Fits : Setting → DispatchCore → DispatcherKept → DispatcherLive → Change → Type 0
-Fits g core k l (Start place pending due) = IsOf g core × (place ≡ k.offset) × (due.items ≡ k.pending) × ((p : ℕ) → contains nat_eq pending p ≡ has k.pending p) × Distinct k.pending
+Fits g core k l (Start place pending due) = IsOf core.dealer.config g × (place ≡ k.offset) × (due.items ≡ k.pending) × ((p : ℕ) → contains nat_eq pending p ≡ has k.pending p) × Distinct k.pending
 Fits g core k l (Take f) = Stands g core k l × (f.position ≡ l.place) × (f.position < f.end)
 Fits g core k l Nothing = Stands g core k l
 Fits g core k l (Advance e) = Stands g core k l
@@ -128,11 +124,11 @@ pub record HasRoom (core : DispatchCore) : Type 0 where
 -- the turn can be kept without memory
 pub record CanKeep (core : DispatchCore) (turn : Turn) : Type 0 where
   pub room : HasRoom core
-  pub next : turn.next < core.dealer.joiners
+  pub next : turn.next < core.dealer.config.joiners
 
--- the site and how many joiners it has stay
+-- the site and the run's numbers stay
 abbrev pub HasSameNumbers : DispatchCore → DispatchCore → Type 0
-HasSameNumbers old new = (new.dealer.site ≡ old.dealer.site) × (new.dealer.joiners ≡ old.dealer.joiners)
+HasSameNumbers old new = (new.dealer.site ≡ old.dealer.site) × (new.dealer.config ≡ old.dealer.config)
 
 -- whatever the old one stands for, the new one stands for
 abbrev pub StandsAs : DispatchCore → DispatchCore → Type 0
@@ -150,14 +146,14 @@ first_next (input.Packet from packet) n = n
 -- the turn has this change, and these Joins, which have spellings, from the core's next joiner on
 pub record Sends (core : DispatchCore) (turn : Turn) (change : Change) (joins : List (ℕ × Click)) : Type 0 where
   pub change_is : turn.change ≡ change
-  pub packets : turn.packets.items ≡ dealt core.dealer.site core.dealer.joiners core.dealer.next joins
-  pub next : turn.next ≡ next_after core.dealer.joiners core.dealer.next joins
+  pub packets : turn.packets.items ≡ dealt core.dealer.site core.dealer.config core.dealer.next joins
+  pub next : turn.next ≡ next_after core.dealer.config.joiners core.dealer.next joins
   pub spelled : Each IsJoin joins
 
 -- its packets have spellings, and go to the joiners in turn, from number n on
 pub record IsDealt (core : DispatchCore) (n : ℕ) (turn : Turn) : Type 0 where
-  pub in_turn : GoInTurn core.dealer.site core.dealer.joiners n turn.packets.items turn.next
-  pub below : turn.next < core.dealer.joiners
+  pub in_turn : GoInTurn core.dealer.site core.dealer.config n turn.packets.items turn.next
+  pub below : turn.next < core.dealer.config.joiners
   pub spelled : ArePackets turn.packets.items
 
 -- the same state, whatever room there is

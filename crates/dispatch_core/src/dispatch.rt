@@ -6,6 +6,7 @@ ghost use Rattle.indexmap.specs.IndexSet.{contains, spare};
 ghost use Rattle.log_records.specs.Line.{IsClick};
 ghost use Rattle.log_records.specs.Lines.{at};
 ghost use Rattle.turn_defs.specs.Setting.{Setting};
+ghost use Rattle.turn_defs.specs.Configs.{IsOf};
 ghost use Rattle.turn_defs.specs.Turns.{Out, land, idle};
 ghost use Rattle.turn_defs.specs.declared.node.Input.{Input};
 ghost use Rattle.turn_defs.specs.Dispatcher.{DispatcherKept, DispatcherLive, land_dispatcher, has_room, retries, takes, ends, parks};
@@ -14,7 +15,7 @@ ghost use Rattle.turn_defs.specs.Dispatcher.{dispatcher_wants, dispatcher_looks,
 ghost use Rattle.dispatch_core.specs.Dealing.{GoInTurn};
 ghost use Rattle.dispatch_core.specs.Changes.{note_of, changed};
 ghost use Rattle.dispatch_core.specs.Spelled.{IsTaken, ArePackets};
-ghost use Rattle.dispatch_core.specs.Standing.{live_of, IsOf, IsOrdered, Stands, StandsAs, HasSameNumbers, IsAlike};
+ghost use Rattle.dispatch_core.specs.Standing.{live_of, IsOrdered, Stands, StandsAs, HasSameNumbers, IsAlike};
 ghost use Rattle.dispatch_core.specs.Standing.{IsKept, IsLineAt, click_at, IsLookedUp, AreClicksAt, Carries, Takes};
 ghost use Rattle.dispatch_core.specs.Standing.{out_of, Fits, IsTurn, HasRoom, CanKeep, first_next, Sends, IsDealt};
 
@@ -28,7 +29,7 @@ use indexmap::IndexSet;
 use log_records::ClickRec;
 use std::alloc::{AllocError, Global};
 use std::collections::VecDeque;
-use turn_defs::{Outcome, Packet, WINDOW};
+use turn_defs::{Config, Outcome, Packet, WINDOW};
 
 /// The dispatcher of a site: what it knows while it is up, and which positions its disks keep pending.
 ///
@@ -48,19 +49,19 @@ pub struct DispatchCore {
 }
 
 impl DispatchCore {
-    /// The dispatcher of a site that has this many joiners, before its Start. It takes no memory.
-    pub fn new(alloc: Global, site: u8, joiners: u8) -> DispatchCore
+    /// The dispatcher of a site, before its Start. It takes no memory.
+    pub fn new(alloc: Global, site: u8, config: Config) -> DispatchCore
         requires site { site < 2 }
-        requires joiners { 0 < joiners }
+        requires joiners { 0 < config.joiners }
         ensures site { result.dealer.site ≡ site }
-        ensures joiners { result.dealer.joiners ≡ joiners }
+        ensures config { result.dealer.config ≡ config }
         ensures next { result.dealer.next ≡ 0 }
         ensures live { live_of result ≡ record { place = 0; fresh = []; due = []; trying = []; ended = false } }
         ensures pending { (p : ℕ) → contains nat_eq result.pending p ≡ false }
     {
         DispatchCore {
             alloc,
-            dealer: Dealer::new(site, joiners),
+            dealer: Dealer::new(site, config),
             place: 0,
             fresh: VecDeque::new(alloc),
             due: VecDeque::new(alloc),
@@ -68,6 +69,13 @@ impl DispatchCore {
             pending: IndexSet::new(alloc),
             ended: false,
         }
+    }
+
+    /// The numbers of its run.
+    pub fn config(&self) -> Config
+        ensures { result ≡ self.now.dealer.config }
+    {
+        self.dealer.config
     }
 
     /// The end of the last line that was taken, where the next one is looked for.
@@ -145,7 +153,7 @@ impl DispatchCore {
         ensures turn { (g : Setting) (k : DispatcherKept) (l : DispatcherLive) (i : Input) →
             Takes g self.old k l input.now → Carries g k l input.now i →
             IfOk result (λ turn. IsTurn g self.new k l turn (out_of g self.old.dealer.site k l i)) }
-        ensures joiners { IfOk result (λ turn. GoInTurn self.old.dealer.site self.old.dealer.joiners
+        ensures joiners { IfOk result (λ turn. GoInTurn self.old.dealer.site self.old.dealer.config
             (first_next input.now self.old.dealer.next) turn.packets.items turn.next) }
         ensures spelled { IfOk result (λ turn. ArePackets turn.packets.items) }
     {
@@ -191,7 +199,7 @@ impl DispatchCore {
 
     // Start: the place is the offset, what is pending is due, and nothing is fresh or in trial. Linear in what is pending.
     fn start(&self, offset: u64, pending: &Vec<u64>) -> Result<Turn, AllocError>
-        ensures turn { (g : Setting) (k : DispatcherKept) (l : DispatcherLive) → IsOf g self.now → IsKept k offset pending.now.items →
+        ensures turn { (g : Setting) (k : DispatcherKept) (l : DispatcherLive) → IsOf self.now.dealer.config g → IsKept k offset pending.now.items →
             IfOk result (λ turn. IsTurn g self.now k l turn (dispatcher_start k)) }
         ensures joiners { IfOk result (IsDealt self.now 0) }
     {
