@@ -4,4 +4,7 @@
 mod proposer;
 mod tally;
 
-pub use proposer::{Proposer, REPLICAS};
+pub use proposer::Proposer;
+
+/// How many replicas there may be.
+pub const MOST_REPLICAS: u8 = 5;

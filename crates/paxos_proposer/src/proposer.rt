@@ -1,18 +1,16 @@
 // The proposer: it asks for promises, then sends the highest prior, or its own batch where none came.
-ghost use Rattle.std.specs.Prelude.{◌≡◌, ◌↔◌, List, Bool, Option, Some, None, option_map, is_some, IsTrue, IsSome};
+ghost use Rattle.std.specs.Prelude.{◌≡◌, ◌≤◌, ◌↔◌, List, Bool, Option, Some, None, option_map, is_some, IsTrue, IsSome};
 ghost use Rattle.ballot_core.specs.declared.Ballot.{Ballot as Number};
 ghost use Rattle.registry_state.specs.declared.Batch.{Batch as Value};
 ghost use Rattle.paxos_defs.specs.Attempts.{nobody};
 ghost use Rattle.paxos_defs.specs.Attempts.Phase.{Promising, Accepting, Ended};
 ghost use Rattle.paxos_defs.specs.Turns.{value_for};
+ghost use Rattle.paxos_proposer.specs.declared.TheConstants.{MOST_REPLICAS};
 ghost use Rattle.paxos_proposer.specs.Proposals.{slot_of, ballot_of, own_of, value_of, phase_of, prior_of, promise_turn, acceptance_turn, IsSameProposal, IsAccepting, IsLastPromise, IsLastAcceptance};
 
 use crate::tally::Tally;
 use ballot_core::Ballot;
 use registry_state::Batch;
-
-/// How many replicas there are, numbered from 0.
-pub const REPLICAS: u8 = 3;
 
 #[derive(Clone, Copy, Debug, PartialEq, Eq)]
 enum Stage {
@@ -37,19 +35,20 @@ pub struct Proposer {
 }
 
 impl Proposer {
-    /// Begins the first phase. No two proposals may have one ballot.
-    pub fn start(slot: u64, ballot: Ballot, own: Batch) -> Proposer
+    /// Begins the first phase, among so many replicas, numbered from 0. No two proposals may have one ballot.
+    pub fn start(replicas: u8, slot: u64, ballot: Ballot, own: Batch) -> Proposer
+        requires { replicas ≤ MOST_REPLICAS }
         ensures slot { slot_of result ≡ slot }
         ensures ballot { ballot_of result ≡ ballot }
         ensures own { own_of result ≡ own }
-        ensures phase { phase_of result ≡ Promising (nobody REPLICAS) None }
+        ensures phase { phase_of result ≡ Promising (nobody replicas) None }
     {
         Proposer {
             slot,
             ballot,
             own,
             best: None,
-            heard: Tally::new(REPLICAS),
+            heard: Tally::new(replicas),
             stage: Stage::Promising,
         }
     }

@@ -3,36 +3,39 @@
 ghost use Rattle.std.specs.Prelude.{◌≡◌, ◌≤◌, true, IsTrue, length, set, count_by};
 ghost use Rattle.paxos_defs.specs.Attempts.{nobody, is_most};
 ghost use Rattle.paxos_defs.specs.Attempts as attempts;
+ghost use Rattle.paxos_proposer.specs.declared.TheConstants.{MOST_REPLICAS};
 
+use crate::MOST_REPLICAS;
 use ballot_core::is_majority;
 use std::marker::Model;
 
-// A mark for each of up to five replicas.
+// A mark for each of the replicas.
 #[derive(Debug, Drop)]
 pub struct Tally {
     replicas: u8,
-    heard: [bool; 5],
+    heard: [bool; MOST_REPLICAS as usize],
 }
 
 impl Model for Tally {
     ghost use Rattle.std.specs.Prelude.{◌≤◌, List, Bool, take};
+    ghost use Rattle.paxos_proposer.specs.declared.TheConstants.{MOST_REPLICAS};
 
     ghost Value = { List Bool };
 
     ghost view = { λ t. take t.replicas t.heard };
 
-    ghost invariant = { λ t. t.replicas ≤ 5 };
+    ghost invariant = { λ t. t.replicas ≤ MOST_REPLICAS };
 }
 
 impl Tally {
     // Nobody has answered.
     pub fn new(replicas: u8) -> Tally
-        requires { replicas ≤ 5 }
+        requires { replicas ≤ MOST_REPLICAS }
         ensures { result ≡ nobody replicas }
     {
         Tally {
             replicas,
-            heard: [false; 5],
+            heard: [false; MOST_REPLICAS as usize],
         }
     }
 
@@ -66,7 +69,7 @@ impl Tally {
     pub fn clear(&mut self)
         ensures { self.new ≡ nobody (length self.old) }
     {
-        self.heard = [false; 5];
+        self.heard = [false; MOST_REPLICAS as usize];
     }
 }
 
