@@ -89,12 +89,12 @@ module _ (g : Setting) (site : ℕ) (k : ServerKept) (l : ServerLive) (n r : ℕ
 
 -- one promise more is counted
 module _ (t : Station) (g : Setting) (k : ServerKept) (l : ServerLive) (n r : ℕ) (h : Shard) (at : IsAt (setting t g) h n r l) (slot : ℕ) (b : Ballot) where
-  accept_same : (p : Proposer) (o : Option Batch) → ballot_of p ≡ b → accept_all (at_slot n slot) b o ≡ accept_if (setting t g) t.site k l (at_slot n slot) (ballot_of p) o
+  accept_same : (p : Proposer) (o : Option Batch) → ballot_of p ≡ b → accept_all t.config.replicas (at_slot n slot) b o ≡ accept_if (setting t g) t.site k l (at_slot n slot) (ballot_of p) o
   accept_same p None e = refl
-  accept_same p (Some v) e = λ i. to_replicas 3 (AcceptPacket (at_slot n slot) (sym e i) v)
+  accept_same p (Some v) e = λ i. to_replicas t.config.replicas (AcceptPacket (at_slot n slot) (sym e i) v)
 
   pub promise_gives : (p : Proposer) → Some p ≡ current_of h slot b → (from : ℕ) (prior : Option (Ballot × Batch)) (turn : Turn) (items : List (Node × Packet)) → IsStep turn n r items (Promise from prior)
-      → sent items ≡ accept_all (at_slot n slot) b (promise_turn p from b prior).1
+      → sent items ≡ accept_all t.config.replicas (at_slot n slot) b (promise_turn p from b prior).1
       → Gives (setting t g) t.site l turn (gets_promise (setting t g) t.site k l from (at_slot n slot) b prior (l.shards n) (l.shards n).proposal)
   promise_gives p s from prior turn items is es =
       let c = current_is slot h.next b h.proposal p s in
@@ -103,5 +103,5 @@ module _ (t : Station) (g : Setting) (k : ServerKept) (l : ServerLive) (n r : �
       at.within at.stands.learned.next (proposal_is h (l.shards n) at.stands) (λ q. refl) p s in
       same_row (setting t g) t.site l turn _ _ row
       (one_gives (setting t g) t.site l turn n r l.round items (Promise from prior) _ _ is
-      (es ∙ ap (λ (z : Phase Batch × Option Batch). accept_all (at_slot n slot) b z.1) (is_turn p from b prior c.2) ∙ accept_same p (on_promise (own_of p) (phase_of p) from prior).1 c.2)
+      (es ∙ ap (λ (z : Phase Batch × Option Batch). accept_all t.config.replicas (at_slot n slot) b z.1) (is_turn p from b prior c.2) ∙ accept_same p (on_promise (own_of p) (phase_of p) from prior).1 c.2)
       (sym at.round) (λ i. record (l.shards n) { proposal = ap (option_map (counts_promise from prior)) now i }))

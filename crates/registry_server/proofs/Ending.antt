@@ -1,7 +1,7 @@
 -- A turn of a server over its disk, and its restart, as the states' entries.
 use Rattle.std.proofs.Common.{◌≡◌, inl, inr, ⊎_elim, ℕ, ◌+◌, ◌≤◌, true, false, List, [], length, Option, Some, None, refl, sym, ap, ◌∙◌, subst}
 use Rattle.std.specs.Prelude.{is_some, option_map, Result, Ok, Err, OnErr}
-use Rattle.registry_server.proofs.Words.{ends_idle, ends_done, Throughout, joins, weaker, Continues, continues_same, continues_through, IsOpened, read_as, epochs, Keeps, IsLeft, JournalState, Ready, Bytes, Begin, End, Stop, Input, Note, land, AreSpelled, Reads, IsJunk, record_of, Leads, row, written, closes, Roster, IsOf, land_server, Serves, note_of, site_of, SiteKept, RegistrarView, ServesSite, Knows, IsRow, landed, server_rows, ServerCore, ServerNote, Turn, ServerState, recorded, Holds, HoldsOr, OnDisk, OnDiskOr, KeptOn, StandsAt}
+use Rattle.registry_server.proofs.Words.{ends_idle, ends_done, Throughout, joins, weaker, Continues, continues_same, continues_through, IsOpened, read_as, epochs, Keeps, IsLeft, JournalState, Ready, Bytes, Begin, End, Stop, Input, Note, land, AreSpelled, Reads, IsJunk, record_of, Leads, row, written, closes, land_server, Serves, note_of, site_of, SiteKept, RegistrarView, ServesSite, Knows, IsRow, landed, server_rows, ServerCore, ServerNote, Turn, ServerState, recorded, Holds, HoldsOr, OnDisk, OnDiskOr, KeptOn, StandsAt}
 use Rattle.registry_server.proofs.Landing.{down_stands, left_of, noted_bytes, moved}
 
 -- what is kept once the row's note is written
@@ -25,26 +25,25 @@ pub kept_still : (s t : ServerState) (n : ℕ) (b : Bytes) (c : List ℕ) → Le
 kept_still s t n b c led holds = subst (λ (x : ServerState). KeptOn x c) (sym led.2) (s.kept, inl refl, holds)
 
 -- what no packet spells changes nothing
-pub idles : (site : ℕ) (roster : Roster) (doubt : Option (List ℕ)) (epoch : ℕ) (image : List ℕ → Type 0) (state : JournalState) (v : RegistrarView) (s t : ServerState) (n : ℕ) (b : Bytes) (ps : List (ℕ × List ℕ)) (sent : ℕ) → doubt ≡ None → StandsAt site roster doubt epoch image state v s
-    → Leads server_rows s (Begin n b) t → IsJunk s.setting b → ps ≡ [] → sent ≤ length ps → (u : ServerState) × Leads server_rows t (End n None ps sent) u × StandsAt site roster doubt epoch image state v u
-idles site roster doubt epoch image state v s t n b ps sent none at led junk empty le =
-    (closes s s.kept s.live, ends_idle server_rows s t n b ps sent led le junk empty, moved site roster doubt epoch image state v s None none at)
+pub idles : (site : ℕ) (doubt : Option (List ℕ)) (epoch : ℕ) (image : List ℕ → Type 0) (state : JournalState) (v : RegistrarView) (s t : ServerState) (n : ℕ) (b : Bytes) (ps : List (ℕ × List ℕ)) (sent : ℕ) → doubt ≡ None → StandsAt site doubt epoch image state v s
+    → Leads server_rows s (Begin n b) t → IsJunk s.setting b → ps ≡ [] → sent ≤ length ps → (u : ServerState) × Leads server_rows t (End n None ps sent) u × StandsAt site doubt epoch image state v u
+idles site doubt epoch image state v s t n b ps sent none at led junk empty le =
+    (closes s s.kept s.live, ends_idle server_rows s t n b ps sent led le junk empty, moved site doubt epoch image state v s None none at)
 
 -- a turn that is done
-pub ends : (site site' : ℕ) (roster roster' : Roster) (doubt doubt' : Option (List ℕ)) (epoch epoch' : ℕ) (image image' : List ℕ → Type 0) (state state' : JournalState) (v v' : RegistrarView) (s t : ServerState) (n : ℕ) (b : Bytes) (i : Input) (turn : Turn) (said : Option (List ℕ)) (ps ready : List (ℕ × List ℕ)) (sent : ℕ)
-    → StandsAt site roster doubt epoch image state v s → Leads server_rows s (Begin n b) t → site' ≡ site → roster' ≡ roster → Reads s.setting b i → IsRow s.setting (row server_rows s i) turn → AreSpelled turn.packets.items ready
+pub ends : (site site' : ℕ) (doubt doubt' : Option (List ℕ)) (epoch epoch' : ℕ) (image image' : List ℕ → Type 0) (state state' : JournalState) (v v' : RegistrarView) (s t : ServerState) (n : ℕ) (b : Bytes) (i : Input) (turn : Turn) (said : Option (List ℕ)) (ps ready : List (ℕ × List ℕ)) (sent : ℕ)
+    → StandsAt site doubt epoch image state v s → Leads server_rows s (Begin n b) t → site' ≡ site → Reads s.setting b i → IsRow s.setting (row server_rows s i) turn → AreSpelled turn.packets.items ready
     → said ≡ recorded turn.note → ps ≡ ready → doubt' ≡ None → Knows v' s.setting (record { site = s.kept.site; disk = landed turn s.kept.disk }) (Some (row server_rows s i).live) → Holds epoch' image' state' (landed turn s.kept.disk) → sent ≤ length ps
-    → (u : ServerState) × Leads server_rows t (End n said ps sent) u × StandsAt site' roster' doubt' epoch' image' state' v' u
-ends site site' roster roster' doubt doubt' epoch epoch' image image' state state' v v' s t n b i turn said ps ready sent at led here same reads is spelled said_is ps_is none knows holds le =
+    → (u : ServerState) × Leads server_rows t (End n said ps sent) u × StandsAt site' doubt' epoch' image' state' v' u
+ends site site' doubt doubt' epoch epoch' image image' state state' v v' s t n b i turn said ps ready sent at led here reads is spelled said_is ps_is none knows holds le =
     let out = row server_rows s i in
     let k = land server_rows.lands out.note s.kept in
     let u : ServerState = record { setting = s.setting; kept = k; live = Some out.live; opened = None } in
     let kept : record { site = s.kept.site; disk = landed turn s.kept.disk } ≡ k = landed_is s.kept turn.note out.note is.note in (
       u,
       ends_done server_rows s t n b ps sent led le i said turn.packets.items reads (said_is ∙ noted_bytes turn.note ∙ ap (option_map record_of) is.note) (subst (AreSpelled turn.packets.items) (sym ps_is) spelled) is.packets,
-      subst (λ (d : Option (List ℕ)). StandsAt site' roster' d epoch' image' state' v' u) (sym none)
+      subst (λ (d : Option (List ℕ)). StandsAt site' d epoch' image' state' v' u) (sym none)
           (record {
-            setting = subst (λ (r : Roster). IsOf r s.setting) (sym same) at.setting;
             site = site_stays s.kept out.note ∙ at.site ∙ sym here;
             by = (
               subst (λ (x : SiteKept). Holds epoch' image' state' x.disk) kept holds,
@@ -54,49 +53,48 @@ ends site site' roster roster' doubt doubt' epoch epoch' image image' state stat
     )
 
 -- a turn that isn't done is open still
-pub stays_open : (site site' : ℕ) (roster roster' : Roster) (doubt' : Option (List ℕ)) (epoch' : ℕ) (image' : List ℕ → Type 0) (state' : JournalState) (v' : RegistrarView) (s t : ServerState) (n : ℕ) (b : Bytes) (i : Input) (turn : Turn)
-    → IsOf roster s.setting → s.kept.site ≡ site → Leads server_rows s (Begin n b) t → site' ≡ site → roster' ≡ roster → Reads s.setting b i → IsRow s.setting (row server_rows s i) turn → Knows v' s.setting s.kept s.live → HoldsOr doubt' turn.note epoch' image' state' s.kept.disk
-    → StandsAt site' roster' doubt' epoch' image' state' v' t
-stays_open site site' roster roster' None epoch' image' state' v' s t n b i turn of_s at_site led here same reads is knows holds =
-    subst (λ (x : ServerState). StandsAt site' roster' None epoch' image' state' v' x) (sym led.2)
-    (record { setting = subst (λ (r : Roster). IsOf r s.setting) (sym same) of_s; site = at_site ∙ sym here; by = (holds, knows) })
-stays_open site site' roster roster' (Some r) epoch' image' state' v' s t n b i turn of_s at_site led here same reads is knows holds =
-    subst (λ (x : ServerState). StandsAt site' roster' (Some r) epoch' image' state' v' x) (sym led.2)
+pub stays_open : (site site' : ℕ) (doubt' : Option (List ℕ)) (epoch' : ℕ) (image' : List ℕ → Type 0) (state' : JournalState) (v' : RegistrarView) (s t : ServerState) (n : ℕ) (b : Bytes) (i : Input) (turn : Turn)
+    → s.kept.site ≡ site → Leads server_rows s (Begin n b) t → site' ≡ site → Reads s.setting b i → IsRow s.setting (row server_rows s i) turn → Knows v' s.setting s.kept s.live → HoldsOr doubt' turn.note epoch' image' state' s.kept.disk
+    → StandsAt site' doubt' epoch' image' state' v' t
+stays_open site site' None epoch' image' state' v' s t n b i turn at_site led here reads is knows holds =
+    subst (λ (x : ServerState). StandsAt site' None epoch' image' state' v' x) (sym led.2)
+    (record { site = at_site ∙ sym here; by = (holds, knows) })
+stays_open site site' (Some r) epoch' image' state' v' s t n b i turn at_site led here reads is knows holds =
+    subst (λ (x : ServerState). StandsAt site' (Some r) epoch' image' state' v' x) (sym led.2)
     (record {
-      setting = subst (λ (x : Roster). IsOf x s.setting) (sym same) of_s;
       site = at_site ∙ sym here;
       by = (holds.0, record { begun = b; opened = refl; input = i; reads = reads; noted = sym is.note ∙ ap (option_map note_of) holds.1; is = holds.2 }, knows.serves);
     })
 
 -- what is found after a stop
-pub record Found (site' : ℕ) (roster' : Roster) (epoch' : ℕ) (image image' : List ℕ → Type 0) (state' : JournalState) (v' : RegistrarView) : Type 0 where
+pub record Found (site' : ℕ) (epoch' : ℕ) (image image' : List ℕ → Type 0) (state' : JournalState) (v' : RegistrarView) : Type 0 where
   pub left : IsLeft image epoch'
   pub ready : state' ≡ Ready
   pub durable : (c : List ℕ) → image' c → Keeps epoch' c
   pub down : v'.up ≡ false
 
-module _ (site site' : ℕ) (roster roster' : Roster) (epoch epoch' : ℕ) (image image' : List ℕ → Type 0) (state state' : JournalState) (v v' : RegistrarView) (s : ServerState) (found : Found site' roster' epoch' image image' state' v') (here : site' ≡ site) (same : roster' ≡ roster) (core : v'.core ≡ v.core) where
+module _ (site site' : ℕ) (epoch epoch' : ℕ) (image image' : List ℕ → Type 0) (state state' : JournalState) (v v' : RegistrarView) (s : ServerState) (found : Found site' epoch' image image' state' v') (here : site' ≡ site) (core : v'.core ≡ v.core) where
   serves_as : (k : SiteKept) → k.site ≡ s.kept.site → ServesSite v s.setting s.kept → ServesSite v' s.setting k
   serves_as k at_site serves = record {
     site = ap site_of core ∙ serves.site ∙ sym at_site;
     setting = subst (λ (c : ServerCore). Serves c s.setting) (sym core) serves.setting;
   }
 
-  downs : (k : SiteKept) → IsOf roster s.setting → k.site ≡ site → epoch' ≡ k.disk.epoch → ServesSite v' s.setting k → StandsAt site' roster' None epoch' image' state' v' (closes s k None)
-  downs k of_s at_site is serves =
-      down_stands site' roster' epoch' image' state' v' s.setting k (subst (λ (r : Roster). IsOf r s.setting) (sym same) of_s) (at_site ∙ sym here)
+  downs : (k : SiteKept) → k.site ≡ site → epoch' ≡ k.disk.epoch → ServesSite v' s.setting k → StandsAt site' None epoch' image' state' v' (closes s k None)
+  downs k at_site is serves =
+      down_stands site' epoch' image' state' v' s.setting k (at_site ∙ sym here)
       (record { ready = found.ready; epoch = is; durable = λ c now. subst (λ (e : ℕ). Keeps e c) is (found.durable c now) }) serves found.down
 
-  pub nothing_landed : (doubt : Option (List ℕ)) (n : ℕ) → is_some doubt ≡ true → StandsAt site roster doubt epoch image state v s → epoch' ≡ epoch → (u : ServerState) × Leads server_rows s (Stop n None) u × StandsAt site' roster' None epoch' image' state' v' u
+  pub nothing_landed : (doubt : Option (List ℕ)) (n : ℕ) → is_some doubt ≡ true → StandsAt site doubt epoch image state v s → epoch' ≡ epoch → (u : ServerState) × Leads server_rows s (Stop n None) u × StandsAt site' None epoch' image' state' v' u
   nothing_landed None n waits at stayed = absurd (cc waits)
   nothing_landed (Some r) n waits at stayed =
       let open_at = at.by.1 in (
         closes s s.kept None,
         (open_at.begun, open_at.opened, inl (refl, refl)),
-        downs s.kept at.setting at.site (stayed ∙ at.by.0.epoch) (serves_as s.kept refl at.by.2),
+        downs s.kept at.site (stayed ∙ at.by.0.epoch) (serves_as s.kept refl at.by.2),
       )
 
-  pub note_landed : (doubt : Option (List ℕ)) (n : ℕ) → is_some doubt ≡ true → StandsAt site roster doubt epoch image state v s → (epoch' ≡ epoch → ⊥) → (u : ServerState) × Leads server_rows s (Stop n doubt) u × StandsAt site' roster' None epoch' image' state' v' u
+  pub note_landed : (doubt : Option (List ℕ)) (n : ℕ) → is_some doubt ≡ true → StandsAt site doubt epoch image state v s → (epoch' ≡ epoch → ⊥) → (u : ServerState) × Leads server_rows s (Stop n doubt) u × StandsAt site' None epoch' image' state' v' u
   note_landed None n waits at moved_on = absurd (cc waits)
   note_landed (Some r) n waits at moved_on =
       let open_at = at.by.1 in
@@ -109,7 +107,7 @@ module _ (site site' : ℕ) (roster roster' : Roster) (epoch epoch' : ℕ) (imag
       let at_site : k.site ≡ s.kept.site = ap (λ (x : SiteKept). x.site) (sym kept) in (
         closes s k None,
         (open_at.begun, open_at.opened, inr (i, open_at.reads, ap (λ (b : List ℕ). Some b) open_at.is ∙ ap (option_map record_of) (sym open_at.noted), refl)),
-        downs k at.setting (at_site ∙ at.site) (next ∙ ap (λ (x : SiteKept). x.disk.epoch) kept) (serves_as k at_site at.by.2),
+        downs k (at_site ∙ at.site) (next ∙ ap (λ (x : SiteKept). x.disk.epoch) kept) (serves_as k at_site at.by.2),
       )
 
 -- the moments of a turn: first room is made, then the note is appended
@@ -128,13 +126,13 @@ module _ {D : Type 0} (image : D → List ℕ → Type 0) (since : D → D → L
   left_moments old new s kept all = weaker image since old new (IsOpened (image old)) (KeptOn s) (λ c left. let from = kept left.0 left.1 in (from.0, from.1, ap (read_as epochs) left.2 ∙ from.2)) all
 
 -- a turn that is refused before it writes is open still
-pub still_open : (site site' : ℕ) (roster roster' : Roster) (doubt doubt' : Option (List ℕ)) (epoch epoch' : ℕ) (image image' : List ℕ → Type 0) (state state' : JournalState) (v v' : RegistrarView) (s t : ServerState) (n : ℕ) (b : Bytes) → StandsAt site roster doubt epoch image state v s → Leads server_rows s (Begin n b) t
-    → site' ≡ site → roster' ≡ roster → doubt' ≡ doubt → doubt ≡ None → Holds epoch' image' state' s.kept.disk → Knows v' s.setting s.kept s.live → StandsAt site' roster' doubt' epoch' image' state' v' t
-still_open site site' roster roster' doubt doubt' epoch epoch' image image' state state' v v' s t n b at led here same doubts none holds knows =
-    let now : StandsAt site' roster' None epoch' image' state' v' (record { setting = s.setting; kept = s.kept; live = s.live; opened = Some b }) =
-    record { setting = subst (λ (r : Roster). IsOf r s.setting) (sym same) at.setting; site = at.site ∙ sym here; by = (holds, knows) }
+pub still_open : (site site' : ℕ) (doubt doubt' : Option (List ℕ)) (epoch epoch' : ℕ) (image image' : List ℕ → Type 0) (state state' : JournalState) (v v' : RegistrarView) (s t : ServerState) (n : ℕ) (b : Bytes) → StandsAt site doubt epoch image state v s → Leads server_rows s (Begin n b) t
+    → site' ≡ site → doubt' ≡ doubt → doubt ≡ None → Holds epoch' image' state' s.kept.disk → Knows v' s.setting s.kept s.live → StandsAt site' doubt' epoch' image' state' v' t
+still_open site site' doubt doubt' epoch epoch' image image' state state' v v' s t n b at led here doubts none holds knows =
+    let now : StandsAt site' None epoch' image' state' v' (record { setting = s.setting; kept = s.kept; live = s.live; opened = Some b }) =
+    record { site = at.site ∙ sym here; by = (holds, knows) }
     in
-    subst (λ (d : Option (List ℕ)). StandsAt site' roster' d epoch' image' state' v' t) (sym (doubts ∙ none)) (subst (λ (x : ServerState). StandsAt site' roster' None epoch' image' state' v' x) (sym led.2) now)
+    subst (λ (d : Option (List ℕ)). StandsAt site' d epoch' image' state' v' t) (sym (doubts ∙ none)) (subst (λ (x : ServerState). StandsAt site' None epoch' image' state' v' x) (sym led.2) now)
 
 pub on_err : {T E : Type 0} (r : Result T E) (Q : Type 0) → Q → OnErr r Q
 on_err (Ok x) Q q = tt

@@ -1,7 +1,7 @@
 -- What a server over its disk stands for.
 use Rattle.std.proofs.Common.{◌≡◌, ◌⊎◌, inl, inr, ⊎_elim, ℕ, ◌+◌, ◌==◌, Bool, true, false, cond, List, Option, Some, None, refl, sym, ap, ◌∙◌, subst}
 use Rattle.std.specs.Prelude.{is_some, option_map, Result, Ok}
-use Rattle.registry_server.proofs.Words.{none_of, LAST_EPOCH, result_unwrap_or, cond-true, true≢false, KeepsOr, IsLeft, JournalState, Bytes, Input, Start, Own, Tick, Deliver, Setting, record_of, Reads, IsJunk, MayTake, NodeFault, Roster, IsOf, ServerKept, ServerLive, Stands, note_of, SiteKept, RegistrarView, ServesSite, Knows, KnowsAs, Fits, landed, site_of, Turn, ServerCore, ServerNote, ServerState, recorded, Holds, StandsAt, is_spent_at, spent_at, IsNotPrepared}
+use Rattle.registry_server.proofs.Words.{none_of, LAST_EPOCH, result_unwrap_or, cond-true, true≢false, KeepsOr, IsLeft, JournalState, Bytes, Input, Start, Own, Tick, Deliver, Setting, record_of, Reads, IsJunk, MayTake, NodeFault, Config, IsOf, ServerKept, ServerLive, Stands, note_of, SiteKept, RegistrarView, ServesSite, Knows, KnowsAs, Fits, landed, site_of, Turn, ServerCore, ServerNote, ServerState, recorded, Holds, StandsAt, StandsBy, is_spent_at, spent_at, IsNotPrepared}
 use Rattle.air_bus.specs.declared.entry.Input.TheVariants as bytes
 use Rattle.site_node.specs.declared.kind.NodeFault.TheVariants as fault
 use Rattle.registry_server.specs.declared.turn.ServerNote.TheVariants as notes
@@ -35,25 +35,34 @@ noted_bytes (Some (notes.Epoch e)) = refl
 -- ---- where it stands
 
 -- a node with no note in doubt stands at each state of this setting, these records and this knowledge
-pub moved : (site : ℕ) (roster : Roster) (doubt : Option (List ℕ)) (epoch : ℕ) (image : List ℕ → Type 0) (state : JournalState) (v : RegistrarView) (s : ServerState) (o : Option Bytes) → doubt ≡ None → StandsAt site roster doubt epoch image state v s
-    → StandsAt site roster doubt epoch image state v (record { setting = s.setting; kept = s.kept; live = s.live; opened = o })
-moved site roster None epoch image state v s o none at = record { setting = at.setting; site = at.site; by = at.by }
-moved site roster (Some r) epoch image state v s o none at = absurd (cc none)
+pub moved : (site : ℕ) (doubt : Option (List ℕ)) (epoch : ℕ) (image : List ℕ → Type 0) (state : JournalState) (v : RegistrarView) (s : ServerState) (o : Option Bytes) → doubt ≡ None → StandsAt site doubt epoch image state v s
+    → StandsAt site doubt epoch image state v (record { setting = s.setting; kept = s.kept; live = s.live; opened = o })
+moved site None epoch image state v s o none at = record { site = at.site; by = at.by }
+moved site (Some r) epoch image state v s o none at = absurd (cc none)
 
-pub quiet : (site : ℕ) (roster : Roster) (doubt : Option (List ℕ)) (epoch : ℕ) (image : List ℕ → Type 0) (state : JournalState) (v : RegistrarView) (s : ServerState) → doubt ≡ None → StandsAt site roster doubt epoch image state v s
+-- the numbers that its core was made of are those of the setting
+pub config_is : (site : ℕ) (doubt : Option (List ℕ)) (epoch : ℕ) (image : List ℕ → Type 0) (state : JournalState) (v : RegistrarView) (s : ServerState) (core : ServerCore) (config : Config) → StandsAt site doubt epoch image state v s → core ≡ v.core → config ≡ core.station.config
+    → IsOf config s.setting
+config_is site doubt epoch image state v s core config at same is =
+    subst (λ (c : Config). IsOf c s.setting) (sym (is ∙ ap (λ (x : ServerCore). x.station.config) same)) (go doubt at.by)
+  where
+    go : (d : Option (List ℕ)) → StandsBy d epoch image state v s → IsOf v.core.station.config s.setting
+    go None by = by.1.serves.setting
+    go (Some r) by = by.2.setting
+
+pub quiet : (site : ℕ) (doubt : Option (List ℕ)) (epoch : ℕ) (image : List ℕ → Type 0) (state : JournalState) (v : RegistrarView) (s : ServerState) → doubt ≡ None → StandsAt site doubt epoch image state v s
     → Holds epoch image state s.kept.disk × Knows v s.setting s.kept s.live
-quiet site roster None epoch image state v s none at = at.by
-quiet site roster (Some r) epoch image state v s none at = absurd (cc none)
+quiet site None epoch image state v s none at = at.by
+quiet site (Some r) epoch image state v s none at = absurd (cc none)
 
 knows_down : (u : Bool) (v : RegistrarView) (g : Setting) (k : SiteKept) → u ≡ false → KnowsAs u v.core g k.disk None
 knows_down true v g k e = absurd (cc e)
 knows_down false v g k e = tt
 
 -- a node that is down
-pub down_stands : (site : ℕ) (roster : Roster) (epoch : ℕ) (image : List ℕ → Type 0) (state : JournalState) (v : RegistrarView) (g : Setting) (k : SiteKept) → IsOf roster g → k.site ≡ site → Holds epoch image state k.disk → ServesSite v g k → v.up ≡ false
-    → StandsAt site roster None epoch image state v (record { setting = g; kept = k; live = None; opened = None })
-down_stands site roster epoch image state v g k of_g here holds serves down = record {
-  setting = of_g;
+pub down_stands : (site : ℕ) (epoch : ℕ) (image : List ℕ → Type 0) (state : JournalState) (v : RegistrarView) (g : Setting) (k : SiteKept) → k.site ≡ site → Holds epoch image state k.disk → ServesSite v g k → v.up ≡ false
+    → StandsAt site None epoch image state v (record { setting = g; kept = k; live = None; opened = None })
+down_stands site epoch image state v g k here holds serves down = record {
   site = here;
   by = (holds, record { serves = serves; by = knows_down v.up v g k down });
 }
@@ -78,8 +87,8 @@ stands_up v g k live l knows up = go v.up (subst (λ (o : Option ServerLive). Kn
     go true by = by
     go false by = absurd by
 
-pub up_stands : (site : ℕ) (roster : Roster) (doubt : Option (List ℕ)) (epoch : ℕ) (image : List ℕ → Type 0) (state : JournalState) (v : RegistrarView) (s : ServerState) (l : ServerLive) → is_some doubt ≡ false → StandsAt site roster doubt epoch image state v s → s.live ≡ Some l → Stands v.core s.setting s.kept.disk l
-up_stands site roster doubt epoch image state v s l waits at up = stands_up v s.setting s.kept s.live l (quiet site roster doubt epoch image state v s (none_of doubt waits) at).1 up
+pub up_stands : (site : ℕ) (doubt : Option (List ℕ)) (epoch : ℕ) (image : List ℕ → Type 0) (state : JournalState) (v : RegistrarView) (s : ServerState) (l : ServerLive) → is_some doubt ≡ false → StandsAt site doubt epoch image state v s → s.live ≡ Some l → Stands v.core s.setting s.kept.disk l
+up_stands site doubt epoch image state v s l waits at up = stands_up v s.setting s.kept s.live l (quiet site doubt epoch image state v s (none_of doubt waits) at).1 up
 
 -- ---- spent epochs
 

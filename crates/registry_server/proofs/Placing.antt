@@ -9,6 +9,13 @@ push_each xs f v h k = λ s d lt. ⊎_elim (λ (w : s < length xs). subst (λ x.
     last : (s : ℕ) (d : Shard) → length xs ≡ s → IsShard (get_or (xs ++ v ∷ []) s d) (f s)
     last s d e = subst (λ x. IsShard x (f s)) (sym (get_or_at xs v [] d s e)) (subst (λ n. IsShard v (f n)) e k)
 
+-- one shard in the place of another, which stands for whatever that one stands for
+pub set_each : (xs : List Shard) (f : ℕ → ShardState) (i : ℕ) (old new : Shard) → i < length xs → old ≡ get_or xs i old → ((st : ShardState) → IsShard old st → IsShard new st) → EachStands xs f → EachStands (set xs i new) f
+set_each xs f i old new w is same h = λ s d lt. ⊎_elim
+    (λ (e : s ≡ i). subst (λ n. IsShard (get_or (set xs i new) n d) (f n)) (sym e) (subst (λ x. IsShard x (f i)) (sym (get_or-set_same xs i new d w)) (same (f i) (subst (λ x. IsShard x (f i)) (sym is) (h i old w)))))
+    (λ (ne : s ≡ i → ⊥). subst (λ x. IsShard x (f s)) (sym (get_or-set_other xs i s new d ne)) (h s d (let n = length-set xs i new in omega arith)))
+    (cases_eq s i)
+
 -- Up to a place the shards were released, and from it on they are as at the start.
 pub record Released (start items : List Shard) (i : ℕ) : Type 0 where
   pub many : length items ≡ length start

@@ -44,22 +44,22 @@ module _ (g : Setting) (site : ℕ) (k : ServerKept) (l : ServerLive) (n : ℕ) 
       (sym at.round) refl
 
 module _ (t : Station) (g : Setting) (k : ServerKept) (l : ServerLive) (n : ℕ) (turn : Turn) where
-  pub proposed_gives : (h : Shard) (r e : ℕ) (p : Proposer) (items : List (Node × Packet)) → t.batch ≤ 64 → IsAt (setting t g) h n r l → e ≡ k.epoch → true ≡ may_propose (setting t g) (l.shards n)
+  pub proposed_gives : (h : Shard) (r e : ℕ) (p : Proposer) (items : List (Node × Packet)) → t.config.batch ≤ 64 → IsAt (setting t g) h n r l → e ≡ k.epoch → true ≡ may_propose (setting t g) (l.shards n)
       → IsStep turn n (r + 1) items (Propose p)
-      → sent items ≡ to_replicas 3 (Prepare (record { shard = n; slot = h.next }) (record { round = r + 1; epoch = e; site = t.site }))
+      → sent items ≡ to_replicas t.config.replicas (Prepare (record { shard = n; slot = h.next }) (record { round = r + 1; epoch = e; site = t.site }))
       → ballot_of p ≡ record { round = r + 1; epoch = e; site = t.site }
-      → own_of p ≡ batch_of t.horizon (take (min t.batch 64) (waiting h.queue))
-      → phase_of p ≡ Promising (nobody 3) None
+      → own_of p ≡ batch_of t.config.horizon (take (min t.config.batch 64) (waiting h.queue))
+      → phase_of p ≡ Promising (nobody t.config.replicas) None
       → Gives (setting t g) t.site l turn (proposes_if (setting t g) t.site k l n)
   proposed_gives h r e p items few at ee may is es eb eo ep =
       let next : h.next ≡ length (l.shards n).learned = at.stands.learned.next in
       let round : r + 1 ≡ suc l.round = (let q = at.round in omega arith) in
       let ballot : ◌≡◌ {A = Ballot} (record { round = r + 1; epoch = e; site = t.site }) (record { round = suc l.round; epoch = k.epoch; site = t.site }) = λ i. record { round = round i; epoch = ee i; site = t.site } in
-      let size : min t.batch 64 ≡ t.batch = omega arith in
-      let own : own_of p ≡ batch_of t.horizon (take t.batch (l.shards n).queue) = eo ∙ (λ i. batch_of t.horizon (take (size i) (sym (queue_is h (l.shards n) at.stands) i))) in
+      let size : min t.config.batch 64 ≡ t.config.batch = omega arith in
+      let own : own_of p ≡ batch_of t.config.horizon (take t.config.batch (l.shards n).queue) = eo ∙ (λ i. batch_of t.config.horizon (take (size i) (sym (queue_is h (l.shards n) at.stands) i))) in
       let b = eb ∙ ballot in
       same_row (setting t g) t.site l turn _ _ (cond-true (may_propose (setting t g) (l.shards n)) _ _ (sym may))
       (one_gives (setting t g) t.site l turn n (r + 1) (suc l.round) items (Propose p) _ _ is
-      (es ∙ (λ i. to_replicas 3 (Prepare (record { shard = n; slot = next i }) (ballot i))))
+      (es ∙ (λ i. to_replicas t.config.replicas (Prepare (record { shard = n; slot = next i }) (ballot i))))
       round
       (λ i. record (l.shards n) { proposal = Some (record { ballot = b i; own = own i; phase = ep i }) }))

@@ -1,7 +1,11 @@
 -- Packets, put behind one another.
 use Rattle.std.proofs.Common.{◌≡◌, ℕ, suc, ◌+◌, ◌-◌, ◌<◌, ◌≤◌, List, [], ◌∷◌, ◌++◌, length, take, get_or, refl, sym, ap, ◌∙◌, Some, None, cond, not, is_some, arith}
 use Rattle.std.specs.Prelude.{Option, option_map}
-use Rattle.registry_server.proofs.Words.{cons_option, map-append, append_assoc, append-nil, take_more, Insert, Batch, Answer, replay, answered, left_of, Packet, Node, Replica, To, Only, Setting, Addressed, to_from, reply, reply_if, replies, keep_if, unanswered, sent, each_reply}
+use Rattle.registry_server.proofs.Words.{cons_option, map-append, append_assoc, append-nil, take_more, Insert, Batch, Answer, replay, answered, left_of, Packet, Node, Replica, To, Only, Setting, Station, IsOf, setting, Addressed, to_from, reply, reply_if, replies, keep_if, unanswered, sent, each_reply}
+
+-- a station's setting has its numbers
+pub of_station : (t : Station) (g : Setting) → IsOf t.config (setting t g)
+of_station t g = record { horizon = refl; joiners = refl; table = refl; batch = refl; replicas = refl }
 
 pub sent_push : (ps : List (Node × Packet)) (p : Node × Packet) → sent (ps ++ p ∷ []) ≡ sent ps ++ (Only p.0, p.1) ∷ []
 sent_push ps p = map-append (λ (q : Node × Packet). (Only q.0, q.1)) ps (p ∷ [])
@@ -15,15 +19,15 @@ addressed g (p ∷ ps) = ((refl, refl), addressed g ps)
 pub asked_more : (r left : ℕ) (p : Packet) (before after : List (To × Packet)) → after ≡ before ++ (Only (Replica r), p) ∷ [] → after ++ to_from (suc r) left p ≡ before ++ to_from r (suc left) p
 asked_more r left p before after e = ap (λ (xs : List (To × Packet)). xs ++ to_from (suc r) left p) e ∙ append_assoc before ((Only (Replica r), p) ∷ []) (to_from (suc r) left p)
 
-pub asked_turn : (r : ℕ) (p : Packet) (before after whole : List (To × Packet)) → r < 3 → after ≡ before ++ (Only (Replica r), p) ∷ [] → before ++ to_from r (3 - r) p ≡ whole → after ++ to_from (r + 1) (3 - (r + 1)) p ≡ whole
-asked_turn r p before after whole few e h =
-    let left : 3 - r ≡ suc (3 - (r + 1)) = omega arith in
+pub asked_turn : (r n : ℕ) (p : Packet) (before after whole : List (To × Packet)) → r < n → after ≡ before ++ (Only (Replica r), p) ∷ [] → before ++ to_from r (n - r) p ≡ whole → after ++ to_from (r + 1) (n - (r + 1)) p ≡ whole
+asked_turn r n p before after whole few e h =
+    let left : n - r ≡ suc (n - (r + 1)) = omega arith in
     let next : r + 1 ≡ suc r = omega arith in
-    (λ i. after ++ to_from (next i) (3 - (r + 1)) p) ∙ asked_more r (3 - (r + 1)) p before after e ∙ (λ i. before ++ to_from r (sym left i) p) ∙ h
+    (λ i. after ++ to_from (next i) (n - (r + 1)) p) ∙ asked_more r (n - (r + 1)) p before after e ∙ (λ i. before ++ to_from r (sym left i) p) ∙ h
 
-pub asked_all : (r : ℕ) (p : Packet) (after whole : List (To × Packet)) → 3 ≤ r → after ++ to_from r (3 - r) p ≡ whole → after ≡ whole
-asked_all r p after whole most h =
-    let left : 3 - r ≡ 0 = omega arith in
+pub asked_all : (r n : ℕ) (p : Packet) (after whole : List (To × Packet)) → n ≤ r → after ++ to_from r (n - r) p ≡ whole → after ≡ whole
+asked_all r n p after whole most h =
+    let left : n - r ≡ 0 = omega arith in
     sym (append-nil after) ∙ (λ i. after ++ to_from r (sym left i) p) ∙ h
 
 module _ (g : Setting) (site : ℕ) where

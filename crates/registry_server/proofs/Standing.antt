@@ -68,21 +68,25 @@ module _ (g : Setting) (site : ℕ) (k : ServerKept) (l : ServerLive) where
     beyond _ _ e in_table = absurd (cc)
 
 module _ (core : ServerCore) (g : Setting) (k : ServerKept) (l : ServerLive) (h : Stands core g k l) where
-  pub table_shards : shard_count core.station.table ≡ shards g
-  table_shards = ap (λ (z : Setting). shards z) (sym h.numbers)
+  -- the setting is the core's
+  pub setting_is : g ≡ setting core.station g
+  setting_is = λ i. record g { horizon = h.numbers.horizon i; joiners = h.numbers.joiners i; table = h.numbers.table i; batch = h.numbers.batch i; replicas = h.numbers.replicas i }
+
+  pub table_shards : shard_count core.station.config.table ≡ shards g
+  table_shards = ap shard_count (sym h.numbers.table)
 
   -- a shard of the core stands for that of its number
   pub stands_at : (n : ℕ) (item : Shard) → n < length core.shards.items → item ≡ get_or core.shards.items n item → IsShard item (l.shards n)
   stands_at n item lt is = subst (λ x. IsShard x (l.shards n)) (sym is) (h.each n item lt)
 
   pub test_at : (b : Bool) (test : Test) (n : ℕ) (item : Shard) → n < length core.shards.items → item ≡ get_or core.shards.items n item → ((z : Setting) (st : ShardState) → IsShard item st → b ≡ passes (setting core.station z) test st) → b ≡ passes g test (l.shards n)
-  test_at b test n item lt is tested = subst (λ z. b ≡ passes z test (l.shards n)) (sym h.numbers) (tested g (l.shards n) (stands_at n item lt is))
+  test_at b test n item lt is tested = subst (λ z. b ≡ passes z test (l.shards n)) (sym setting_is) (tested g (l.shards n) (stands_at n item lt is))
 
-  pub is_at : (n : ℕ) (item : Shard) → length core.shards.items ≡ shard_count core.station.table → n < length core.shards.items → item ≡ get_or core.shards.items n item → IsAt (setting core.station g) item n core.round l
+  pub is_at : (n : ℕ) (item : Shard) → length core.shards.items ≡ shard_count core.station.config.table → n < length core.shards.items → item ≡ get_or core.shards.items n item → IsAt (setting core.station g) item n core.round l
   is_at n item many lt is = record { within = subst (λ m. n < m) many lt; round = sym h.round; stands = stands_at n item lt is }
 
   pub for_setting : (turn : Turn) (out : Setting → Out ServerLive) → Gives (setting core.station g) core.station.site l turn (out (setting core.station g)) → Gives g core.station.site l turn (out g)
-  for_setting turn out gives = subst (λ z. Gives z core.station.site l turn (out z)) (sym h.numbers) gives
+  for_setting turn out gives = subst (λ z. Gives z core.station.site l turn (out z)) (sym setting_is) gives
 
 -- what is sent is addressed
 pub turn_of : (g : Setting) (site : ℕ) (l : ServerLive) (turn : Turn) (out : Out ServerLive) → Gives g site l turn out → IsTurn g site l turn out

@@ -34,7 +34,7 @@ pub use Rattle.paxos_proposer.specs.Proposals.{acceptance_turn, ballot_of, own_o
 pub use Rattle.paxos_proposer.specs.declared.proposer.Proposer.{Proposer}
 pub use Rattle.registry_server.specs.Cores.{Begins, Carries, CarriesStart, Gives, IsStep, IsTurn, Serves, Stands, changed, note_of, site_of}
 pub use Rattle.registry_server.specs.Kept.{kept_images}
-pub use Rattle.registry_server.specs.Node.{Holds, HoldsOr, IsNotPrepared, KeptOn, OnDisk, OnDiskOr, ServerState, StandsAt, is_spent_at, recorded, spent_at}
+pub use Rattle.registry_server.specs.Node.{Holds, HoldsOr, IsNotPrepared, KeptOn, OnDisk, OnDiskOr, ServerState, StandsAt, StandsBy, is_spent_at, recorded, spent_at}
 pub use Rattle.registry_server.specs.Registrars.{Fits, IsNextNote, IsRow, IsSpelledCore, IsSpelledTurn, Knows, KnowsAs, Makes, MayRaise, RegistrarView, ServesSite, SiteKept, landed, server_rows}
 pub use Rattle.registry_server.specs.Replies.{each_reply}
 pub use Rattle.registry_server.specs.Rowed.{FitsAt, IsAt, accept_all, current_in, current_of, learns_behind, number_of, proposes_if}
@@ -62,10 +62,10 @@ pub use Rattle.registry_state.specs.declared.Insert.{Insert}
 pub use Rattle.registry_state.specs.declared.Token.{Token}
 pub use Rattle.site_node.proofs.Turns.{ends_done, ends_idle, none_of}
 pub use Rattle.site_node.specs.Bytes.{AreSpelled, IsInput, IsJunk, Reads, record_of}
-pub use Rattle.site_node.specs.Rosters.{IsOf}
+pub use Rattle.turn_defs.specs.Configs.{IsOf}
 pub use Rattle.site_node.specs.States.{Leads, MayTake, Stops, closes, row, row_of, written}
 pub use Rattle.site_node.specs.declared.kind.NodeFault.{NodeFault}
-pub use Rattle.site_node.specs.declared.roster.Roster.{Roster}
+pub use Rattle.turn_defs.specs.declared.config.Config.{Config}
 pub use Rattle.std.proofs.lemmas.Bool.{and_cases, and_from, and_left, and_parts, and_right, cases_eq, cases_lt, cond-false, cond-true, cond_both, eq-eqb, eqb-true, false_from_ne_true, false≢true, le-leb, le-ltb, leb-true, lt-ltb, ltb-true, ne_eqb, or_left, or_right, true≢false}
 pub use Rattle.std.proofs.lemmas.Cmp.{tied_itself}
 pub use Rattle.std.proofs.lemmas.List.{append-nil, append_assoc, drop_all, get_or-set_other, get_or-set_same, get_or_append_left, get_or_at, length-append, length-set, length-take, map-append, take_all, take_more}

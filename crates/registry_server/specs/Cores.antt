@@ -2,8 +2,8 @@
 use Rattle.std.specs.Prelude.{◌≡◌, ℕ, ◌<◌, ◌+◌, List, length, get_or, false, Some, None, option_map, ⊤}
 use Rattle.ballot_core.specs.declared.TheConstants.{LAST_EPOCH}
 use Rattle.list_words.specs.Lists.{set_at}
-use Rattle.time_shards.specs.declared.ShardRow.{ShardRow}
 use Rattle.turn_defs.specs.Setting.{Setting}
+use Rattle.turn_defs.specs.Configs.{IsOf}
 use Rattle.turn_defs.specs.Turns.{Out, Note, Epoch}
 use Rattle.turn_defs.specs.Nodes.{Addressed}
 use Rattle.turn_defs.specs.declared.packet.Packet.{Packet as Message}
@@ -11,7 +11,7 @@ use Rattle.turn_defs.specs.declared.node.Node.{Node}
 use Rattle.turn_defs.specs.declared.node.Input.{Input}
 use Rattle.turn_defs.specs.declared.node.Input.TheVariants as input
 use Rattle.turn_defs.specs.Server.{ServerKept, ServerLive, empty_shard}
-use Rattle.registry_server.specs.Stations.{setting, sent}
+use Rattle.registry_server.specs.Stations.{sent}
 use Rattle.registry_server.specs.ShardStates.{EachStands, FitsStep, stepped}
 use Rattle.registry_server.specs.declared.shard.Shard.{Shard}
 use Rattle.registry_server.specs.declared.shard.Step.{Step}
@@ -26,7 +26,7 @@ use Rattle.registry_server.specs.declared.server_core.ServerCore.{ServerCore}
 
 -- The core stands for a server of the setting, which has this epoch on its disk and knows this.
 pub record Stands (core : ServerCore) (g : Setting) (k : ServerKept) (l : ServerLive) : Type 0 where
-  pub numbers : g ≡ setting core.station g
+  pub numbers : IsOf core.station.config g
   pub epoch : core.epoch ≡ k.epoch
   pub round : core.round ≡ l.round
   pub each : EachStands core.shards.items l.shards
@@ -65,7 +65,7 @@ changed g site (change.One s round step) l = record { round = round; shards = se
 -- The core is a server of the setting, whatever it knows. A start needs no more: after a stop the disk may have an epoch that the
 -- core never kept.
 abbrev pub Serves : ServerCore → Setting → Type 0
-Serves core g = g ≡ setting core.station g
+Serves core g = IsOf core.station.config g
 
 abbrev pub IsStart : Change → Type 0
 IsStart (change.Start shards) = ⊤
@@ -104,11 +104,3 @@ FitsChange (change.One s round step) xs = (s < length xs) × ((d : Shard) → Fi
 -- the turn was decided on the core as it is: it has what keeping the turn needs
 pub record Decided (core : ServerCore) (turn : Turn) : Type 0 where
   pub fits : FitsChange turn.change core.shards.items
-
--- the setting has these numbers, and three replicas
-pub record IsNew (g : Setting) (j h : ℕ) (rows : List ShardRow) (b : ℕ) : Type 0 where
-  pub joiners : g.joiners ≡ j
-  pub horizon : g.horizon ≡ h
-  pub table : g.table ≡ rows
-  pub batch : g.batch ≡ b
-  pub replicas : g.replicas ≡ 3

@@ -4,7 +4,6 @@ use Rattle.epoch_journal.specs.Epochs.{Keeps}
 use Rattle.gate_journal.specs.declared.journal.JournalState.{JournalState}
 use Rattle.turn_defs.specs.Turns.{Note, land}
 use Rattle.site_node.specs.States.{written}
-use Rattle.site_node.specs.declared.roster.Roster.{Roster}
 use Rattle.registry_server.specs.Registrars.{SiteKept, RegistrarView, server_rows}
 use Rattle.registry_server.specs.Node.{ServerState, StandsAt, IsOpenAt, KeptOn, OnDisk}
 
@@ -19,6 +18,6 @@ kept_next s r c open_at holds =
     (written server_rows s open_at.input, inr (open_at.begun, open_at.input, open_at.opened, open_at.reads, refl), subst (λ (k : SiteKept). OnDisk k.disk c) next holds)
 
 -- each image holds what the state keeps, or that and the note of its open turn
-pub kept_images : (site : ℕ) (roster : Roster) (doubt : Option (List ℕ)) (epoch : ℕ) (image : List ℕ → Type 0) (state : JournalState) (v : RegistrarView) (s : ServerState) → StandsAt site roster doubt epoch image state v s → (c : List ℕ) → image c → KeptOn s c
-kept_images site roster None epoch image state v s at c here = kept_now s c (at.by.0.durable c here)
-kept_images site roster (Some r) epoch image state v s at c here = ⊎_elim (kept_now s c) (kept_next s r c at.by.1) (at.by.0.images c here)
+pub kept_images : (site : ℕ) (doubt : Option (List ℕ)) (epoch : ℕ) (image : List ℕ → Type 0) (state : JournalState) (v : RegistrarView) (s : ServerState) → StandsAt site doubt epoch image state v s → (c : List ℕ) → image c → KeptOn s c
+kept_images site None epoch image state v s at c here = kept_now s c (at.by.0.durable c here)
+kept_images site (Some r) epoch image state v s at c here = ⊎_elim (kept_now s c) (kept_next s r c at.by.1) (at.by.0.images c here)

@@ -15,8 +15,6 @@ use Rattle.site_node.specs.Bytes.{AreSpelled, Reads}
 use Rattle.site_node.specs.States.{State, row, MayHold}
 use Rattle.site_node.specs.declared.kind.NodeFault.{NodeFault}
 use Rattle.site_node.specs.declared.kind.NodeFault.TheVariants as fault
-use Rattle.site_node.specs.declared.roster.Roster.{Roster}
-use Rattle.site_node.specs.Rosters.{IsOf}
 use Rattle.turn_defs.specs.Server.{ServerKept, ServerLive, land_server}
 use Rattle.registry_server.specs.Cores.{Decided, note_of}
 use Rattle.registry_server.specs.Registrars.{SiteKept, RegistrarView, ServesSite, Knows, IsNextNote, IsSpelledTurn, server_rows}
@@ -96,8 +94,7 @@ StandsBy None epoch image state v s = Holds epoch image state s.kept.disk × Kno
 StandsBy (Some r) epoch image state v s = Doubts epoch image s.kept.disk × IsOpenAt s r × ServesSite v s.setting s.kept
 
 -- the node, of these parts, stands at the state
-pub record StandsAt (n : ℕ) (roster : Roster) (open_record : Option (List ℕ)) (epoch : ℕ) (image : List ℕ → Type 0) (state : JournalState) (v : RegistrarView) (s : ServerState) : Type 0 where
-  pub setting : IsOf roster s.setting
+pub record StandsAt (n : ℕ) (open_record : Option (List ℕ)) (epoch : ℕ) (image : List ℕ → Type 0) (state : JournalState) (v : RegistrarView) (s : ServerState) : Type 0 where
   pub site : s.kept.site ≡ n
   pub by : StandsBy open_record epoch image state v s
 

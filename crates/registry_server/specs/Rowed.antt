@@ -65,10 +65,10 @@ current_in slot b next (Some p) = if (slot == next) && same_ballot (ballot_of p)
 abbrev pub current_of : Shard → ℕ → Ballot → Option Proposer
 current_of h slot b = current_in slot b h.next h.proposal
 
--- every replica is asked to accept the value, if there is one
-abbrev pub accept_all : Place → Ballot → Option Batch → List (To × Packet)
-accept_all at b None = []
-accept_all at b (Some v) = to_replicas 3 (packet.Accept at b v)
+-- every one of n replicas is asked to accept the value, if there is one
+abbrev pub accept_all : (n : ℕ) → Place → Ballot → Option Batch → List (To × Packet)
+accept_all n at b None = []
+accept_all n at b (Some v) = to_replicas n (packet.Accept at b v)
 
 -- at the shard of this number, the turn is what the row makes of any setting with the server's numbers
 abbrev pub IsRow : Station → Shard → ℕ → ℕ → Turn → (Setting → ServerKept → ServerLive → Out ServerLive) → Type 0

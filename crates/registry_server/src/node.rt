@@ -2,22 +2,23 @@
 ghost use Rattle.std.specs.Prelude.{◌≡◌, ◌≤◌, true, false, None};
 ghost use Rattle.registry_state.specs.declared.TheConstants.{MOST_INSERTS};
 ghost use Rattle.ballot_core.specs.declared.TheConstants.{LAST_EPOCH};
+ghost use Rattle.paxos_proposer.specs.declared.TheConstants.{MOST_REPLICAS};
 ghost use Rattle.gate_journal.specs.declared.journal.JournalState.TheVariants.{Ready};
 ghost use Rattle.registry_server.specs.Registrars.{MayRaise};
 ghost use Rattle.registry_server.specs.Node.{is_spent_at};
 
 use crate::notes::note_record;
 use crate::registrar::Registrar;
+use crate::station::Station;
 use crate::turn::Turn;
 use air_bus::{Input as Begun, Packets, Payload};
 use ballot_core::LAST_EPOCH;
 use epoch_journal::{EpochJournal, RaiseFault, raise};
 use gate_journal::JournalFault;
 use outside::{Disk, DiskName, Gate, Point};
-use site_node::{Done, NodeFault, Roster, SiteNode, read_input, spell};
+use site_node::{Done, NodeFault, SiteNode, read_input, spell};
 use std::alloc::{AllocError, Global};
-use time_shards::Table;
-use turn_defs::Input;
+use turn_defs::{Config, Input};
 
 /// A registry server over its epochs: down, up, or stopped in an open turn.
 ///
@@ -26,7 +27,6 @@ use turn_defs::Input;
 #[derive(Drop)]
 pub struct ServerNode<D: Disk> {
     site: u8,
-    roster: Roster,
     journal: EpochJournal<D>,
     registrar: Registrar,
     // While it waits for `restart`, the record that may have landed.
@@ -55,41 +55,42 @@ impl<D: Disk> ServerNode<D> {
     ghost use Rattle.turn_defs.specs.Turns.{land};
     ghost use Rattle.turn_defs.specs.declared.node.Input.TheVariants as given;
     ghost use Rattle.site_node.specs.Bytes.{IsInput};
-    ghost use Rattle.site_node.specs.Rosters.{IsOf};
+    ghost use Rattle.turn_defs.specs.Configs.{IsOf};
     ghost use Rattle.site_node.specs.States.{row_of};
     ghost use Rattle.site_node.specs.Faults.{IsOfRestart, IsWhole};
     ghost use Rattle.turn_defs.specs.Server.{ServerKept, ServerLive, land_server};
-    ghost use Rattle.registry_server.specs.Cores.{IsNew, note_of};
+    ghost use Rattle.registry_server.specs.Cores.{note_of};
     ghost use Rattle.registry_server.specs.Registrars.{SiteKept, Knows, Fits, IsNextNote, IsRow, Makes, server_rows};
     ghost use Rattle.registry_server.specs.declared.turn.ServerNote.{ServerNote};
     ghost use Rattle.registry_server.specs.Node.{StandsAt, Holds, HoldsOr, OnDiskOr, recorded, IsReady, IsRoomFor, IsBelowLast, IsNotPrepared, down_over};
 
-    /// A server of a site that is down, over its journal; three replicas are taken for granted, the horizon is in
-    /// microseconds, and `batch` is the most inserts of a batch. It takes memory for the table's shards, and hands the
-    /// journal back where there is none.
+    /// A server of a site that is down, over its journal. It takes memory for the table's shards, and hands the journal
+    /// back where there is none.
     pub fn new(
         alloc: Global,
         site: u8,
-        roster: Roster,
-        horizon: u64,
-        table: Table,
-        batch: u8,
+        config: Config,
         journal: EpochJournal<D>,
     ) -> Result<ServerNode<D>, EpochJournal<D>>
         requires site { site < 2 }
-        requires batch { batch ≤ MOST_INSERTS }
+        requires batch { config.batch ≤ MOST_INSERTS }
+        requires replicas { config.replicas ≤ MOST_REPLICAS }
         requires ready { journal.journal.state ≡ Ready }
         ensures site { IfOk result (λ n. n.site ≡ site) }
         ensures journal { IfOk result (λ n. n.journal ≡ journal) }
         ensures up { IfOk result (λ n. n.in_doubt ≡ None) }
-        ensures stands { IsTrue D.tells → (g : Setting) → IsOf roster g → IsNew g roster.joiners horizon table batch
-            → IfOk result (λ n. StandsAt n.site n.roster n.in_doubt n.journal.value.epoch (D.image n.journal.journal.disk) n.journal.journal.state n.registrar (down_over g site journal.value.epoch)) }
+        ensures stands { IsTrue D.tells → (g : Setting) → IsOf config g
+            → IfOk result (λ n. StandsAt n.site n.in_doubt n.journal.value.epoch (D.image n.journal.journal.disk) n.journal.journal.state n.registrar (down_over g site journal.value.epoch)) }
         ensures refused { IfErr result (λ j. j ≡ journal) }
     {
-        match Registrar::new(alloc, site, roster.joiners, horizon, table, batch) {
+        let station = Station {
+            site,
+            config,
+            alloc,
+        };
+        match Registrar::new(station) {
             Ok(registrar) => Ok(ServerNode {
                 site,
-                roster,
                 journal,
                 registrar,
                 in_doubt: None,
@@ -109,7 +110,7 @@ impl<D: Disk> ServerNode<D> {
     // Decides the turn, spells its packets and its note, and makes the disk's room. Nothing changes but that room.
     fn prepare(&mut self, input: Input) -> Result<ReadyTurn, NodeFault>
         requires { IsInput input }
-        ensures same { (self.new.site ≡ self.old.site) × (self.new.roster ≡ self.old.roster) × (self.new.in_doubt ≡ self.old.in_doubt) }
+        ensures same { (self.new.site ≡ self.old.site) × (self.new.in_doubt ≡ self.old.in_doubt) }
         ensures knows { (g : Setting) (k : SiteKept) (live : Option ServerLive) → Knows self.old.registrar g k live → Knows self.new.registrar g k live }
         ensures holds { IsTrue D.tells → (k : ServerKept) → Holds self.old.journal.value.epoch (D.image self.old.journal.journal.disk) self.old.journal.journal.state k → Holds self.new.journal.value.epoch (D.image self.new.journal.journal.disk) self.new.journal.journal.state k }
         ensures moments { IsTrue D.tells → Throughout D.image D.since self.old.journal.journal.disk self.new.journal.journal.disk (D.image self.old.journal.journal.disk) }
@@ -139,7 +140,7 @@ impl<D: Disk> ServerNode<D> {
 
     // The disk's room for the record, if there is one.
     fn make_room(&mut self, noted: &Option<Payload>) -> Result<(), AllocError>
-        ensures same { (self.new.site ≡ self.old.site) × (self.new.roster ≡ self.old.roster) × (self.new.in_doubt ≡ self.old.in_doubt) × (self.new.registrar ≡ self.old.registrar) }
+        ensures same { (self.new.site ≡ self.old.site) × (self.new.in_doubt ≡ self.old.in_doubt) × (self.new.registrar ≡ self.old.registrar) }
         ensures epoch { self.new.journal.value.epoch ≡ self.old.journal.value.epoch }
         ensures holds { IsTrue D.tells → (k : ServerKept) → Holds self.old.journal.value.epoch (D.image self.old.journal.journal.disk) self.old.journal.journal.state k → Holds self.new.journal.value.epoch (D.image self.new.journal.journal.disk) self.new.journal.journal.state k }
         ensures moments { IsTrue D.tells → Throughout D.image D.since self.old.journal.journal.disk self.new.journal.journal.disk (D.image self.old.journal.journal.disk) }
@@ -157,7 +158,7 @@ impl<D: Disk> ServerNode<D> {
         requires up { self.old.in_doubt ≡ None }
         requires room { IsRoomFor noted (D.calls_left self.old.journal.journal.disk) (D.bytes_left self.old.journal.journal.disk) }
         requires low { IsBelowLast noted self.old.journal.value.epoch }
-        ensures same { (self.new.site ≡ self.old.site) × (self.new.roster ≡ self.old.roster) × (self.new.registrar ≡ self.old.registrar) }
+        ensures same { (self.new.site ≡ self.old.site) × (self.new.registrar ≡ self.old.registrar) }
         ensures up { OnOk result (self.new.in_doubt ≡ None) }
         ensures stopped { IsErrOf result NodeFault.Stopped → is_some self.new.in_doubt ≡ true }
         ensures only_stopped { OnErr result (result ≡ Err NodeFault.Stopped) }
@@ -191,7 +192,7 @@ impl<D: Disk> ServerNode<D> {
     // The epoch that the disk holds, as the stop left it.
     fn reread(&mut self) -> Result<(), NodeFault>
         requires waits { is_some self.old.in_doubt ≡ true }
-        ensures same { (self.new.site ≡ self.old.site) × (self.new.roster ≡ self.old.roster) × (self.new.registrar ≡ self.old.registrar) × (self.new.in_doubt ≡ self.old.in_doubt) }
+        ensures same { (self.new.site ≡ self.old.site) × (self.new.registrar ≡ self.old.registrar) × (self.new.in_doubt ≡ self.old.in_doubt) }
         ensures ready { OnOk result (self.new.journal.journal.state ≡ Ready) }
         ensures left { IsTrue D.tells → OnOk result (IsLeft (D.image self.old.journal.journal.disk) self.new.journal.value.epoch) }
         ensures epoch { OnErr result (self.new.journal.value.epoch ≡ self.old.journal.value.epoch) }
@@ -250,7 +251,7 @@ impl<D: Disk> SiteNode for ServerNode<D> {
 
     ghost waits = { λ node. is_some node.in_doubt };
 
-    ghost stands = { λ node s. StandsAt node.site node.roster node.in_doubt node.journal.value.epoch (D.image node.journal.journal.disk) node.journal.journal.state node.registrar s };
+    ghost stands = { λ node s. StandsAt node.site node.in_doubt node.journal.value.epoch (D.image node.journal.journal.disk) node.journal.journal.state node.registrar s };
 
     ghost image = { λ node. D.image node.journal.journal.disk };
 
@@ -266,7 +267,7 @@ impl<D: Disk> SiteNode for ServerNode<D> {
 
     ghost phases = { phase_led server_rows };
 
-    ghost images = { λ node s tells. kept_images node.site node.roster node.in_doubt node.journal.value.epoch (D.image node.journal.journal.disk) node.journal.journal.state node.registrar s };
+    ghost images = { λ node s tells. kept_images node.site node.in_doubt node.journal.value.epoch (D.image node.journal.journal.disk) node.journal.journal.state node.registrar s };
 
     fn wants(&self) -> bool {
         self.registrar.core().wants()
@@ -281,7 +282,7 @@ impl<D: Disk> SiteNode for ServerNode<D> {
     }
 
     fn turn<G: Gate>(&mut self, input: &Begun, gate: &G) -> Result<Done, NodeFault> {
-        match read_input(self.alloc, self.roster, input)? {
+        match read_input(self.alloc, self.registrar.core().config(), input)? {
             None => Ok(Done {
                 note: None,
                 packets: Packets::new(self.alloc),

@@ -6,24 +6,24 @@ ghost use Rattle.turn_defs.specs.Server.{to_replicas, reply};
 ghost use Rattle.registry_server.specs.Stations.{setting, sent, request};
 ghost use Rattle.registry_server.specs.Replies.{each_reply};
 
-use crate::station::Station;
+use crate::station::{Station, is_joiner_of};
 use ballot_core::Ballot;
 use paxos_defs::Place;
-use paxos_proposer::REPLICAS;
 use registry_state::{Answer, Batch, Insert};
 use std::alloc::AllocError;
 use turn_defs::{Node, Packet};
 
 // A Prepare, or an Accept of the value where there is one, to each replica. One allocation each for the value.
 pub(crate) fn ask_all(
+    station: &Station,
     packets: &mut Vec<(Node, Packet)>,
     place: Place,
     ballot: Ballot,
     value: Option<&Batch>,
 ) -> Result<(), AllocError>
-    ensures { OnOk result (sent packets.new.items ≡ sent packets.old.items ++ to_replicas 3 (request place ballot value.entry)) }
+    ensures { OnOk result (sent packets.new.items ≡ sent packets.old.items ++ to_replicas station.now.config.replicas (request place ballot value.entry)) }
 {
-    for replica in 0..REPLICAS {
+    for replica in 0..station.config.replicas {
         let asked = ask(place, ballot, value)?;
         packets.push((Node::Replica(replica), asked))?;
     }
@@ -52,7 +52,7 @@ pub(crate) fn push_reply(
 ) -> Result<(), AllocError>
     ensures { OnOk result ((g : Setting) → sent packets.new.items ≡ sent packets.old.items ++ reply (setting station.now g) station.now.site insert answer) }
 {
-    if !station.is_own_joiner(insert.token.joiner) {
+    if !is_joiner_of(station.config, station.site, insert.token.joiner) {
         return Ok(());
     }
     let to = Node::Joiner(insert.token.joiner);

@@ -1,6 +1,5 @@
 // A server that is up or down, and what it knows has spellings.
 ghost use Rattle.std.specs.Prelude.{◌≡◌};
-ghost use Rattle.registry_state.specs.declared.TheConstants.{MOST_INSERTS};
 ghost use Rattle.turn_defs.specs.Server.{ServerKept};
 ghost use Rattle.registry_server.specs.Registrars.{MayRaise};
 ghost use Rattle.registry_server.specs.Cores.{Carries, CarriesStart, MayStart};
@@ -8,10 +7,10 @@ ghost use Rattle.turn_defs.specs.declared.node.Input.{Input as Given};
 ghost use Rattle.turn_defs.specs.declared.node.Input.TheVariants as given;
 
 use crate::ServerCore;
+use crate::station::Station;
 use crate::turn::{ServerInput, Turn};
-use std::alloc::{AllocError, Global};
+use std::alloc::AllocError;
 use std::marker::Model;
-use time_shards::Table;
 use turn_defs::Input;
 
 // The core, while the server is up and while it is down. What it knows has spellings, so what it sends has them.
@@ -43,28 +42,21 @@ impl Registrar {
     ghost use Rattle.site_node.specs.Bytes.{IsInput};
     ghost use Rattle.site_node.specs.States.{row_of};
     ghost use Rattle.turn_defs.specs.Setting.{Setting};
+    ghost use Rattle.turn_defs.specs.Configs.{IsOf};
     ghost use Rattle.turn_defs.specs.Server.{ServerKept, ServerLive};
-    ghost use Rattle.registry_server.specs.Cores.{Stands, Serves, Decided, IsNew, site_of};
+    ghost use Rattle.registry_server.specs.Cores.{Stands, Serves, Decided, site_of};
     ghost use Rattle.registry_server.specs.Registrars.{SiteKept, Knows, Fits, MayRaise, IsNextNote, IsRow, Makes, IsSpelledTurn, landed, server_rows};
 
     // A server of a site that is down. One allocation, for the table's shards.
-    pub(crate) fn new(
-        alloc: Global,
-        site: u8,
-        joiners: u8,
-        horizon: u64,
-        table: Table,
-        batch: u8,
-    ) -> Result<Registrar, AllocError>
-        requires site { site < 2 }
-        requires batch { batch ≤ MOST_INSERTS }
-        ensures serves { IfOk result (λ r. (g : Setting) → IsNew g joiners horizon table batch → Serves r.core g) }
-        ensures site { IfOk result (λ r. site_of r.core ≡ site) }
+    pub(crate) fn new(station: Station) -> Result<Registrar, AllocError>
+        requires { station.site < 2 }
+        ensures serves { IfOk result (λ r. (g : Setting) → IsOf station.config g → Serves r.core g) }
+        ensures site { IfOk result (λ r. site_of r.core ≡ station.site) }
         ensures down { IfOk result (λ r. r.up ≡ false) }
     {
-        let count = table.shards();
+        let count = station.config.table.shards();
         prove!(count <= 16);
-        let core = ServerCore::new(alloc, site, joiners, horizon, table, batch)?;
+        let core = ServerCore::new(station)?;
         Ok(Registrar { core, up: false })
     }
 

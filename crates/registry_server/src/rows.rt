@@ -5,7 +5,6 @@ ghost use Rattle.registry_state.specs.LookBack.{replay};
 ghost use Rattle.turn_defs.specs.Setting.{Setting};
 ghost use Rattle.paxos_proposer.specs.Proposals.{prior_of, promise_turn};
 ghost use Rattle.turn_defs.specs.Server.{ServerKept, ServerLive, may_propose, claimed, gets_promise, gets_accepted, gets_nack, gets_chosen, server_gets, from_replica, again};
-ghost use Rattle.registry_server.specs.declared.station.Station.{Station as Fixed};
 ghost use Rattle.registry_server.specs.Stations.{setting, sent};
 ghost use Rattle.registry_server.specs.ShardStates.{IsShard};
 ghost use Rattle.registry_server.specs.Cores.{Gives};
@@ -19,7 +18,7 @@ use ballot_core::Ballot;
 use paxos_defs::Place;
 use paxos_proposer::Proposer;
 use registry_state::{Batch, Insert};
-use std::alloc::{AllocError, Global};
+use std::alloc::AllocError;
 use turn_defs::{LAST_SLOT, Node, Packet};
 
 impl Shard {
@@ -72,12 +71,13 @@ impl Shard {
             epoch,
             site: station.site,
         };
+        let config = station.config;
         let own = self
             .queue
-            .front_batch(station.horizon, u32::from(station.batch))?;
+            .front_batch(config.horizon, u32::from(config.batch))?;
         let mut packets = Vec::new(station.alloc);
-        ask_all(&mut packets, self.place(number), ballot, None)?;
-        let proposer = Proposer::start(self.next, ballot, own);
+        ask_all(station, &mut packets, self.place(number), ballot, None)?;
+        let proposer = Proposer::start(config.replicas, self.next, ballot, own);
         Ok(Turn::one(number, round + 1, packets, Step::Propose(proposer)))
     }
 
@@ -104,7 +104,7 @@ impl Shard {
             shard: number,
             slot,
         };
-        let packets = promised(station.alloc, proposal, place, from, ballot, prior)?;
+        let packets = promised(station, proposal, place, from, ballot, prior)?;
         let kept = copied(prior)?;
         Ok(Turn::one(number, round, packets, Step::Promise(from, kept)))
     }
@@ -277,21 +277,23 @@ impl Shard {
         }
     }
 
-    /// The packets of the proposal's phase once more, behind these. At most three, with a copy of the value each in the
+    /// The packets of the proposal's phase once more, behind these. One for each replica, with a copy of the value each in the
     /// second phase.
     pub(crate) fn again(
         &self,
+        station: &Station,
         number: u8,
         packets: &mut Vec<(Node, Packet)>,
     ) -> Result<(), AllocError>
-        ensures { OnOk result ((t : Fixed) (g : Setting) (k : ServerKept) (l : ServerLive) → IsShard self.now (l.shards number)
-            → sent packets.new.items ≡ sent packets.old.items ++ again (setting t g) t.site k l number (l.shards number) (l.shards number).proposal) }
+        ensures { OnOk result ((g : Setting) (k : ServerKept) (l : ServerLive) → IsShard self.now (l.shards number)
+            → sent packets.new.items ≡ sent packets.old.items ++ again (setting station.now g) station.now.site k l number (l.shards number) (l.shards number).proposal) }
     {
         let Some(proposal) = &self.proposal else {
             return Ok(());
         };
         let value = proposal.is_accepting().then_some(proposal.value());
-        ask_all(packets, self.place(number), proposal.ballot(), value)
+        let ballot = proposal.ballot();
+        ask_all(station, packets, self.place(number), ballot, value)
     }
 
     // The place of the next slot.
@@ -317,7 +319,7 @@ impl Shard {
 
 // The packets of a promise: where it makes a majority, every replica is asked to accept the value.
 fn promised(
-    alloc: Global,
+    station: &Station,
     proposal: &Proposer,
     place: Place,
     from: u8,
@@ -325,12 +327,12 @@ fn promised(
     prior: &Option<(Ballot, Batch)>,
 ) -> Result<Vec<(Node, Packet)>, AllocError>
     ensures { IfOk result (λ packets.
-        sent packets.items ≡ accept_all place ballot (promise_turn proposal.now from ballot prior.now).1) }
+        sent packets.items ≡ accept_all station.now.config.replicas place ballot (promise_turn proposal.now from ballot prior.now).1) }
 {
-    let mut packets = Vec::new(alloc);
+    let mut packets = Vec::new(station.alloc);
     match proposal.on_promise(from, ballot, lent(prior)) {
         Some(value) => {
-            ask_all(&mut packets, place, ballot, Some(value))?;
+            ask_all(station, &mut packets, place, ballot, Some(value))?;
             Ok(packets)
         }
         None => Ok(packets),

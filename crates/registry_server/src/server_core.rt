@@ -1,6 +1,5 @@
 // The core: its shards, and which of them a turn is about.
 ghost use Rattle.std.specs.Prelude.{◌≡◌, length};
-ghost use Rattle.registry_state.specs.declared.TheConstants.{MOST_INSERTS};
 ghost use Rattle.ballot_core.specs.declared.TheConstants.{LAST_EPOCH};
 ghost use Rattle.time_shards.specs.Shards.{shard_count};
 
@@ -8,9 +7,8 @@ use crate::shard::{Shard, Test};
 use crate::shards::{empty_shards, release_all};
 use crate::station::Station;
 use crate::turn::{Change, ServerInput, ServerNote, Turn};
-use std::alloc::{AllocError, Global};
-use time_shards::Table;
-use turn_defs::{LAST_SLOT, Node, Packet};
+use std::alloc::AllocError;
+use turn_defs::{Config, LAST_SLOT, Node, Packet};
 
 /// The registry server of a site, between its turns. A turn is decided, its note written and its packets sent, and then
 /// it is kept.
@@ -22,7 +20,7 @@ pub struct ServerCore {
     round: u64,
     // one for each shard of the table
     shards: Vec<Shard>,
-    ghost many: { length shards.items ≡ shard_count station.table },
+    ghost many: { length shards.items ≡ shard_count station.config.table },
 }
 
 impl ServerCore {
@@ -30,43 +28,34 @@ impl ServerCore {
     ghost use Rattle.turn_defs.specs.declared.node.Input.{Input};
     ghost use Rattle.registry_state.specs.declared.Insert.{Insert as Claim};
     ghost use Rattle.turn_defs.specs.Setting.{Setting, shards};
+    ghost use Rattle.turn_defs.specs.Configs.{IsOf};
     ghost use Rattle.turn_defs.specs.Turns.{land};
     ghost use Rattle.turn_defs.specs.Server.{ServerKept, ServerLive, empty_shard, first_shard, land_server, server_own, server_tick, server_gets, server_turn, server_start, server_wants, server_unfinished, server_at_rest};
     ghost use Rattle.registry_server.specs.Stations.{setting, sent};
     ghost use Rattle.registry_server.specs.ShardStates.{passes};
-    ghost use Rattle.registry_server.specs.Cores.{Stands, IsTurn, Gives, Decided, FitsChange, Carries, CarriesStart, MayStart, Serves, IsStart, Begins, changed, note_of, site_of, IsNew};
+    ghost use Rattle.registry_server.specs.Cores.{Stands, IsTurn, Gives, Decided, FitsChange, Carries, CarriesStart, MayStart, Serves, IsStart, Begins, changed, note_of, site_of};
     ghost use Rattle.registry_server.specs.declared.turn.ServerNote.TheVariants as written;
     ghost use Rattle.registry_server.specs.Rowed.{number_of};
 
-    /// A server before its first start. Three replicas are taken for granted; the horizon is in microseconds, and `batch`
-    /// is the most inserts of a batch. One allocation, for the table's shards.
-    pub fn new(
-        alloc: Global,
-        site: u8,
-        joiners: u8,
-        horizon: u64,
-        table: Table,
-        batch: u8,
-    ) -> Result<ServerCore, AllocError>
-        requires { batch ≤ MOST_INSERTS }
-        ensures stands { IfOk result (λ core. (g : Setting) → IsNew g joiners horizon table batch → Stands core g (record { epoch = 0 }) (record { round = 0; shards = λ s. empty_shard })) }
-        ensures site { IfOk result (λ core. site_of core ≡ site) }
+    // A server before its first start. One allocation, for the table's shards.
+    pub(crate) fn new(station: Station) -> Result<ServerCore, AllocError>
+        ensures stands { IfOk result (λ core. (g : Setting) → IsOf station.config g → Stands core g (record { epoch = 0 }) (record { round = 0; shards = λ s. empty_shard })) }
+        ensures site { IfOk result (λ core. site_of core ≡ station.site) }
     {
-        let shards = empty_shards(alloc, table.shards())?;
-        let station = Station {
-            site,
-            joiners,
-            horizon,
-            table,
-            batch,
-            alloc,
-        };
+        let shards = empty_shards(station.alloc, station.config.table.shards())?;
         Ok(ServerCore {
             station,
             epoch: 0,
             round: 0,
             shards,
         })
+    }
+
+    /// The numbers of its run.
+    pub fn config(&self) -> Config
+        ensures { result ≡ self.now.station.config }
+    {
+        self.station.config
     }
 
     /// The turn on an input. It makes room for what keeping the turn does, and changes nothing else, nor anything where
@@ -184,7 +173,7 @@ impl ServerCore {
             → Gives g (site_of self.now) l turn (server_start k)) }
         ensures decided { IfOk result (λ turn. Decided self.now turn) }
     {
-        let shards = empty_shards(self.station.alloc, self.station.table.shards())?;
+        let shards = empty_shards(self.station.alloc, self.station.config.table.shards())?;
         Ok(Turn {
             note: Some(ServerNote::Epoch(epoch + 1)),
             packets: Vec::new(self.station.alloc),
@@ -214,8 +203,8 @@ impl ServerCore {
         ensures decided { IfOk result (λ turn. Decided self.now turn) }
     {
         let mut packets = Vec::new(self.station.alloc);
-        for number in 0..self.station.table.shards() {
-            self.shards[usize::from(number)].again(number, &mut packets)?;
+        for number in 0..self.station.config.table.shards() {
+            self.shards[usize::from(number)].again(&self.station, number, &mut packets)?;
         }
         Ok(Turn {
             note: None,
@@ -246,10 +235,10 @@ impl ServerCore {
     // The shard that a packet is about, none where it is for no server.
     fn number_of(&self, packet: &Packet) -> Option<u8>
         ensures row { (g : Setting) → result ≡ number_of (setting self.now.station g) packet.now }
-        ensures within { (x : Claim) → packet.now ≡ Packet.Insert x → IfSome result (λ number. number < shard_count self.now.station.table) }
+        ensures within { (x : Claim) → packet.now ≡ Packet.Insert x → IfSome result (λ number. number < shard_count self.now.station.config.table) }
     {
         match packet {
-            Packet::Insert(insert) => Some(self.station.table.shard_of(insert.id)),
+            Packet::Insert(insert) => Some(self.station.config.table.shard_of(insert.id)),
             Packet::Chosen { place, .. }
             | Packet::Promise { place, .. }
             | Packet::Accepted { place, .. }
@@ -263,7 +252,7 @@ impl ServerCore {
         ensures first { (g : Setting) (k : ServerKept) (l : ServerLive) → Stands self.now g k l → result ≡ first_shard (λ s. passes g test (l.shards s)) 0 (shards g) }
         ensures within { IfSome result (λ number. number < length self.now.shards.items) }
     {
-        for number in 0..self.station.table.shards() {
+        for number in 0..self.station.config.table.shards() {
             if self.shards[usize::from(number)].passes(&self.station, test) {
                 return Some(number);
             }

@@ -105,7 +105,7 @@ impl Shard {
     fn is_below_horizon(&self, station: &Station) -> bool
         ensures { (g : Setting) (st : ShardState) → IsShard self.now st → result ≡ passes (setting station.now g) Test.IsBelowHorizon st }
     {
-        self.registry.bound() < station.horizon
+        self.registry.bound() < station.config.horizon
     }
 
     /// Makes the step that a turn decided on. It takes no memory. A learned value takes logarithmic expected time for each

@@ -1,45 +1,26 @@
 // What is fixed for a server.
-ghost use Rattle.std.specs.Prelude.{◌≤◌};
+ghost use Rattle.std.specs.Prelude.{◌≡◌, ◌≤◌};
 ghost use Rattle.registry_state.specs.declared.TheConstants.{MOST_INSERTS};
+ghost use Rattle.paxos_proposer.specs.declared.TheConstants.{MOST_REPLICAS};
+ghost use Rattle.turn_defs.specs.Setting.{Setting};
+ghost use Rattle.turn_defs.specs.Configs.{IsOf};
+ghost use Rattle.turn_defs.specs.Server.{is_own_joiner};
 
 use std::alloc::Global;
-use time_shards::Table;
-use turn_defs::FIRST_JOINER;
+use turn_defs::Config;
 
-/// What is fixed for a server: its site, how many joiners a site has, the horizon in microseconds, the table of shards,
-/// and the most inserts of a batch.
+/// What is fixed for a server: its site, and the numbers of its run.
 #[derive(Debug, Drop)]
 pub(crate) struct Station {
     pub(crate) site: u8,
-    pub(crate) joiners: u8,
-    pub(crate) horizon: u64,
-    pub(crate) table: Table,
-    pub(crate) batch: u8,
+    pub(crate) config: Config,
     pub(crate) alloc: Global,
-    ghost few: { batch ≤ MOST_INSERTS },
+    ghost few: { config.batch ≤ MOST_INSERTS },
+    ghost members: { config.replicas ≤ MOST_REPLICAS },
 }
 
 impl Station {
-    ghost use Rattle.std.specs.Prelude.{◌≡◌, ◌≤◌, ◌-◌};
-    ghost use Rattle.turn_defs.specs.Setting.{Setting};
-    ghost use Rattle.registry_server.specs.Stations.{setting};
-    ghost use Rattle.turn_defs.specs.Server.{is_own_joiner};
-
-    // Whether this is the number of a joiner of this site.
-    pub(crate) fn is_own_joiner(&self, number: u16) -> bool
-        ensures { (g : Setting) → result ≡ is_own_joiner (setting self.now g) self.now.site number }
-    {
-        let joiners = u16::from(self.joiners);
-        if number < FIRST_JOINER || number >= FIRST_JOINER + 2 * joiners {
-            return false;
-        }
-        let site = if number < FIRST_JOINER + joiners {
-            0
-        } else {
-            1
-        };
-        site == self.site
-    }
+    ghost use Rattle.std.specs.Prelude.{◌≡◌, ◌-◌};
 
     // The site of the other server.
     pub(crate) fn other_site(&self) -> u8
@@ -47,4 +28,17 @@ impl Station {
     {
         1u8.saturating_sub(self.site)
     }
+}
+
+// Whether this is the number of a joiner of the site.
+pub(crate) fn is_joiner_of(config: Config, site: u8, number: u16) -> bool
+    ensures { (g : Setting) → IsOf config g → result ≡ is_own_joiner g site number }
+{
+    let first = 4 + u16::from(config.replicas);
+    let joiners = u16::from(config.joiners);
+    if number < first || number >= first + 2 * joiners {
+        return false;
+    }
+    let at = if number < first + joiners { 0 } else { 1 };
+    at == site
 }

@@ -11,15 +11,15 @@ returns-then-landed-clause-stopped g c tells s at =
     let view = c.put_down.new.self in
     let image = g.D.Disk.image new.journal.journal.disk in
     let was = g.D.Disk.image old.journal.journal.disk in
-    let found : Found new.site new.roster new.journal.value.epoch was image new.journal.journal.state view =
+    let found : Found new.site new.journal.value.epoch was image new.journal.journal.state view =
     record { left = e.left tells; ready = e.ready; durable = new.journal.durable tells e.ready; down = c.put_down.ensures.down }
     in
-    let core = c.put_down.ensures.core ∙ ap (λ (v : RegistrarView). v.core) e.same.2 in
-    let done = note_landed old.site new.site old.roster new.roster old.journal.value.epoch new.journal.value.epoch was image old.journal.journal.state new.journal.journal.state old.registrar view s found e.same.0 e.same.1 core old.in_doubt 0 c.requires at
+    let core = c.put_down.ensures.core ∙ ap (λ (v : RegistrarView). v.core) e.same.1 in
+    let done = note_landed old.site new.site old.journal.value.epoch new.journal.value.epoch was image old.journal.journal.state new.journal.journal.state old.registrar view s found e.same.0 core old.in_doubt 0 c.requires at
     (λ is. c.if-landed.true (c.epoch.ensures ∙ ap (λ (e : Epochs). e.epoch) c.value-2.ensures ∙ is ∙ sym (c.epoch-before.ensures ∙ ap (λ (e : Epochs). e.epoch) c.value.ensures))) in (
       done.0,
-      subst (λ (d : Option (List ℕ)). (b : Bytes) × (s.opened ≡ Some b) × Stops server_rows s b d done.0) (sym (c.take-noted.ensures.value ∙ e.same.3)) done.1,
-      subst (λ (d : Option (List ℕ)). StandsAt new.site new.roster d new.journal.value.epoch image new.journal.journal.state view done.0) (sym c.take-noted.ensures.after) done.2,
+      subst (λ (d : Option (List ℕ)). (b : Bytes) × (s.opened ≡ Some b) × Stops server_rows s b d done.0) (sym (c.take-noted.ensures.value ∙ e.same.2)) done.1,
+      subst (λ (d : Option (List ℕ)). StandsAt new.site d new.journal.value.epoch image new.journal.journal.state view done.0) (sym c.take-noted.ensures.after) done.2,
     )
 
 pub returns-else-landed-clause-stopped : goal.returns-else-landed-clause-stopped
@@ -30,31 +30,31 @@ returns-else-landed-clause-stopped g c tells s at =
     let view = c.put_down.new.self in
     let image = g.D.Disk.image new.journal.journal.disk in
     let was = g.D.Disk.image old.journal.journal.disk in
-    let found : Found new.site new.roster new.journal.value.epoch was image new.journal.journal.state view =
+    let found : Found new.site new.journal.value.epoch was image new.journal.journal.state view =
     record { left = e.left tells; ready = e.ready; durable = new.journal.durable tells e.ready; down = c.put_down.ensures.down }
     in
-    let core = c.put_down.ensures.core ∙ ap (λ (v : RegistrarView). v.core) e.same.2 in
-    let done = nothing_landed old.site new.site old.roster new.roster old.journal.value.epoch new.journal.value.epoch was image old.journal.journal.state new.journal.journal.state old.registrar view s found e.same.0 e.same.1 core old.in_doubt 0 c.requires at
+    let core = c.put_down.ensures.core ∙ ap (λ (v : RegistrarView). v.core) e.same.1 in
+    let done = nothing_landed old.site new.site old.journal.value.epoch new.journal.value.epoch was image old.journal.journal.state new.journal.journal.state old.registrar view s found e.same.0 core old.in_doubt 0 c.requires at
     (sym (c.epoch.ensures ∙ ap (λ (e : Epochs). e.epoch) c.value-2.ensures) ∙ c.if-landed.false ∙ c.epoch-before.ensures ∙ ap (λ (e : Epochs). e.epoch) c.value.ensures) in (
       done.0,
       done.1,
-      subst (λ (d : Option (List ℕ)). StandsAt new.site new.roster d new.journal.value.epoch image new.journal.journal.state view done.0) (sym c.take-noted.ensures.after) done.2,
+      subst (λ (d : Option (List ℕ)). StandsAt new.site d new.journal.value.epoch image new.journal.journal.state view done.0) (sym c.take-noted.ensures.after) done.2,
     )
 
 pub returns-then-landed-clause-moments : goal.returns-then-landed-clause-moments
 returns-then-landed-clause-moments g c tells s at =
-    (left_moments g.D.Disk.image g.D.Disk.since c.args.self.now.journal.journal.disk c.reread.new.self.journal.journal.disk s (kept_images _ _ _ _ _ _ _ s at) (c.reread.ensures.moments tells)).each
+    (left_moments g.D.Disk.image g.D.Disk.since c.args.self.now.journal.journal.disk c.reread.new.self.journal.journal.disk s (kept_images _ _ _ _ _ _ s at) (c.reread.ensures.moments tells)).each
 
 pub returns-else-landed-clause-moments : goal.returns-else-landed-clause-moments
 returns-else-landed-clause-moments g c tells s at =
-    (left_moments g.D.Disk.image g.D.Disk.since c.args.self.now.journal.journal.disk c.reread.new.self.journal.journal.disk s (kept_images _ _ _ _ _ _ _ s at) (c.reread.ensures.moments tells)).each
+    (left_moments g.D.Disk.image g.D.Disk.since c.args.self.now.journal.journal.disk c.reread.new.self.journal.journal.disk s (kept_images _ _ _ _ _ _ s at) (c.reread.ensures.moments tells)).each
 
 pub returns-in_err-reread-clause-moments : goal.returns-in_err-reread-clause-moments
 returns-in_err-reread-clause-moments g c tells s at =
-    (left_moments g.D.Disk.image g.D.Disk.since c.args.self.now.journal.journal.disk c.reread.new.self.journal.journal.disk s (kept_images _ _ _ _ _ _ _ s at) (c.reread.ensures.moments tells)).each
+    (left_moments g.D.Disk.image g.D.Disk.since c.args.self.now.journal.journal.disk c.reread.new.self.journal.journal.disk s (kept_images _ _ _ _ _ _ s at) (c.reread.ensures.moments tells)).each
 
 pub returns-in_err-reread-clause-whole : goal.returns-in_err-reread-clause-whole
 returns-in_err-reread-clause-whole g c tells s at =
-    let images = kept_images _ _ _ _ _ _ _ s at in
+    let images = kept_images _ _ _ _ _ _ s at in
     let whole = c.in_err-reread.ensures.whole tells (λ b here. let kept = images b here in (kept.0.disk.epoch, kept.2)) in
     search rules

@@ -5,9 +5,10 @@ use Rattle.registry_server.proofs.registrar.Registrar.new.Goals as goal
 
 pub invariant_of-result : goal.invariant_of-result
 invariant_of-result c =
-    let g : Setting = record worked { horizon = c.args.horizon; joiners = c.args.joiners; table = c.args.table; batch = c.args.batch; replicas = 3 } in
+    let config = c.args.station.config in
+    let g : Setting = record worked { horizon = config.horizon; joiners = config.joiners; table = config.table; batch = config.batch; replicas = config.replicas } in
     let e = c.in_ok-core.ensures in
-    let horizon : c.args.horizon < 2 ^ 64 = search rules in
+    let horizon : config.horizon < 2 ^ 64 = search rules in
     record {
       setting = g;
       kept = _;
@@ -15,9 +16,9 @@ invariant_of-result c =
       stands = e.stands g (record { joiners = refl; horizon = refl; table = refl; batch = refl; replicas = refl });
       plan =
           record {
-            site = subst (λ (n : ℕ). n < 2) (sym e.site) c.requires.site;
+            site = subst (λ (n : ℕ). n < 2) (sym e.site) c.requires;
             horizon = horizon;
-            batch = c.requires.batch;
+            batch = c.args.station.few;
             shards = subst (λ (n : ℕ). n ≤ 16) c.shards-count.ensures.count c.shards-count.ensures.few;
           };
       spelled = record { epoch = omega arith; round = omega arith; each = λ s. empty_ok };

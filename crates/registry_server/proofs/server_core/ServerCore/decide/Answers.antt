@@ -12,6 +12,11 @@ pub returns-in-Start-clause-begins : goal.returns-in-Start-clause-begins
 returns-in-Start-clause-begins c =
     IfOk-weaker c.start.result _ _ (λ turn s k carries. s k (subst (λ (z : ServerInput). CarriesStart z k) c.in-Start.is carries)) c.start.ensures.begins
 
+pub returns-in-Own-clause-turn : goal.returns-in-Own-clause-turn
+returns-in-Own-clause-turn c =
+    let site = c.args.self.now.station.site in
+    IfOk-weaker c.own.result _ _ (λ turn s g k l i h carries. subst (λ (z : Input). IsTurn g site l turn (server_turn g site k l z)) (sym (subst (λ (z : ServerInput). Carries z i) c.in-Own.is carries)) (turn_of g site l turn _ (s g k l h))) c.own.ensures.row
+
 pub returns-in-Tick-clause-turn : goal.returns-in-Tick-clause-turn
 returns-in-Tick-clause-turn c =
     let site = c.args.self.now.station.site in

@@ -1,6 +1,6 @@
 use Rattle.std.proofs.Common.{◌≡◌, ◌++◌, ◌-◌, ◌<◌, length, get_or, refl, sym, subst, ap, ◌∙◌, arith}
 use Rattle.registry_server.proofs.Words.{Setting, shards, again, all_again, sent}
-use Rattle.registry_server.proofs.Standing.{again_more, again_all, table_shards, stands_at}
+use Rattle.registry_server.proofs.Standing.{again_more, again_all, setting_is, table_shards, stands_at}
 use Rattle.registry_server.proofs.server_core.ServerCore.tick.Goals as goal
 
 pub loop-number-init : goal.loop-number-init
@@ -21,7 +21,7 @@ loop-number-preserved c = λ g k v h.
     let before = sent c.loop-number.packets.items in
     let after = sent c.again.new.packets.items in
     again_more g core.station.site k v n c.shards-number-end.result before after _ c.loop-number-test.true
-    (subst (λ (z : Setting). after ≡ before ++ again z core.station.site k v n (v.shards n) (v.shards n).proposal) (sym h.numbers) (c.in_ok-again.ensures core.station g k v stands))
+    (subst (λ (z : Setting). after ≡ before ++ again z core.station.site k v n (v.shards n) (v.shards n).proposal) (sym (setting_is core g k v h)) (c.in_ok-again.ensures g k v stands))
     (c.loop-number.invariant g k v h)
 
 pub returns-clause-row : goal.returns-clause-row
