@@ -223,6 +223,8 @@ fn fused(fuses: &[Fuse], call: u64) -> Option<Image>
 impl Disk for MemDisk {
     ghost tells = { true };
 
+    ghost planned = { true };
+
     ghost seen = { λ d. d.contents.written.items };
 
     ghost image = { λ d c. HasImage d.contents.calls.items d.contents.bytes.items c };
@@ -240,6 +242,8 @@ impl Disk for MemDisk {
     ghost calls_left = { λ d. spare d.contents.calls };
 
     ghost bytes_left = { λ d. spare_bytes d.contents.bytes d.contents.written d.contents.synced };
+
+    ghost plan_told = { λ tells. tells };
 
     ghost starts = { λ d c tells had. only_now d.contents.calls.items d.contents.bytes.items c had };
 
