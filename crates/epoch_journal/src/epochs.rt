@@ -1,8 +1,9 @@
 // Epochs that are raised on a disk.
-ghost use Rattle.std.specs.Prelude.{◌≡◌, ◌↔◌, ◌<◌, ◌≤◌, ◌+◌, ◌++◌, [], ◌∷◌, ℕ, List, true, false, IsTrue, IfSome, IfNone, IfOk, IfErr, OnOk, OnErr, IsErrOf, Ok, Err};
+ghost use Rattle.std.specs.Prelude.{◌≡◌, ◌↔◌, ◌<◌, ◌≤◌, ◌+◌, ◌++◌, [], ◌∷◌, ℕ, List, true, false, IsTrue, IfSome, IfNone, IfOk, IfErr, OnOk, OnErr, IsErrOf, is_err, Ok, Err};
 ghost use Rattle.ballot_core.specs.declared.TheConstants.{LAST_EPOCH};
 ghost use Rattle.outside.specs.Disk.{Throughout};
 ghost use Rattle.outside.specs.Faults.{Rose};
+ghost use Rattle.outside.specs.Plans.{MeetsPlan};
 ghost use Rattle.gate_journal.specs.declared.journal.JournalState.TheVariants.{Ready, Broken};
 ghost use Rattle.gate_journal.specs.Disk.{HasRoom};
 ghost use Rattle.gate_journal.specs.Gate.{records, StandsFor, IsOldOrNew};
@@ -147,6 +148,9 @@ pub fn raise<D: Disk>(journal: &mut EpochJournal<D>) -> Result<u32, RaiseFault>
     ensures ready { OnOk result (journal.new.journal.state ≡ Ready) }
     ensures appended { IsTrue D.tells → OnOk result (records (D.seen journal.new.journal.disk) ≡ records (D.seen journal.old.journal.disk) ++ epoch_record (journal.old.value.epoch + 1) ∷ []) }
     ensures durable { IsTrue D.tells → OnOk result ((c : List ℕ) → D.image journal.new.journal.disk c → StandsFor (records (D.seen journal.old.journal.disk) ++ epoch_record (journal.old.value.epoch + 1) ∷ []) c) }
+
+    // Only a planned stop among the four calls is a cause of the fault.
+    ensures plan { IsTrue D.tells → journal.old.journal.state ≡ Ready → journal.old.value.epoch < LAST_EPOCH → MeetsPlan D.stops D.made D.faults 4 (is_err result) journal.old.journal.disk journal.new.journal.disk }
 
     ensures unspent { IsErrOf result RaiseFault.EpochSpent → journal.new ≡ journal.old }
     ensures spent { IsErrOf result RaiseFault.EpochSpent ↔ (journal.old.value.epoch ≡ LAST_EPOCH) }

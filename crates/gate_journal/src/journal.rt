@@ -45,11 +45,13 @@ pub struct Journal<D: Disk> {
 }
 
 impl<D: Disk> Journal<D> {
-    ghost use Rattle.std.specs.Prelude.{◌≡◌, ◌≤◌, ◌+◌, ◌^◌, ◌++◌, [], ◌∷◌, ℕ, List, length, IsTrue, IfOk, IfErr, OnOk, OnErr, IsOk, IsErr, IsErrOf, Ok, Err};
-    ghost use Rattle.outside.specs.Disk.{Throughout, StopsAmong};
+    ghost use Rattle.std.specs.Prelude.{◌≡◌, ◌≤◌, ◌+◌, ◌^◌, ◌++◌, [], ◌∷◌, ℕ, List, length, IsTrue, IfOk, IfErr, OnOk, OnErr, IsOk, IsErr, is_err, false, IsErrOf, Ok, Err};
+    ghost use Rattle.outside.specs.Disk.{Throughout};
     ghost use Rattle.outside.specs.Faults.{Rose, Counts};
+    ghost use Rattle.outside.specs.Plans.{MeetsPlan};
     ghost use Rattle.gate_journal.specs.declared.journal.JournalState.TheVariants.{Ready, Broken};
     ghost use Rattle.gate_journal.specs.Disk.{HasRoom};
+    ghost use Rattle.gate_journal.specs.Fault.{disk_failed, is_of_disk};
     ghost use Rattle.gate_journal.specs.Gate.{gate_rule, records, StandsFor, IsOldOrNew, spans};
     ghost use Rattle.gate_journal.specs.Opening.{IsOpened, IsRefused, IsRefusedAgain};
     ghost use Rattle.gate_journal.specs.Growth.{Continues};
@@ -65,6 +67,8 @@ impl<D: Disk> Journal<D> {
         ensures err_any_moment { IsTrue D.tells → IfErr result (λ e. Throughout D.image D.since disk e.1 (IsOpened (D.image disk))) }
         ensures ok_grows { IsTrue D.tells → IfOk result (λ r. Throughout D.image D.since disk r.0.disk (Continues (D.image disk))) }
         ensures err_grows { IsTrue D.tells → IfErr result (λ e. Throughout D.image D.since disk e.1 (Continues (D.image disk))) }
+        ensures ok_plan { IsTrue D.planned → D.is_down disk ≡ false → IfOk result (λ r. MeetsPlan D.stops D.made D.faults 3 false disk r.0.disk) }
+        ensures err_plan { IsTrue D.planned → D.is_down disk ≡ false → IfErr result (λ e. MeetsPlan D.stops D.made D.faults 3 (is_of_disk e.0) disk e.1) }
         ensures ok_count { IfOk result (λ r. D.faults disk ≤ D.faults r.0.disk) }
         ensures err_count { IfErr result (λ e. D.faults disk ≤ D.faults e.1) }
     {
@@ -97,6 +101,7 @@ impl<D: Disk> Journal<D> {
         ensures any_moment { IsTrue D.tells → Throughout D.image D.since self.old.disk self.new.disk (IsOpened (D.image self.old.disk)) }
         ensures grows { IsTrue D.tells → Throughout D.image D.since self.old.disk self.new.disk (Continues (D.image self.old.disk)) }
         ensures reads { IsTrue D.tells → OnOk result (D.image self.new.disk (D.seen self.new.disk)) }
+        ensures plan { IsTrue D.planned → MeetsPlan D.stops D.made D.faults 3 (disk_failed result) self.old.disk self.new.disk }
         ensures count { D.faults self.old.disk ≤ D.faults self.new.disk }
     {
         self.state = JournalState::Broken;
@@ -121,6 +126,7 @@ impl<D: Disk> Journal<D> {
         ensures err { IfErr result (λ e. IsRefused D.tells (D.seen disk.old) (D.faults disk.old) (D.faults disk.new) e) }
         ensures seen { IsTrue D.tells → D.seen disk.new ≡ D.seen disk.old }
         ensures any_moment { IsTrue D.tells → Throughout D.image D.since disk.old disk.new (D.image disk.old) }
+        ensures plan { IsTrue D.planned → D.is_down disk.old ≡ false → MeetsPlan D.stops D.made D.faults 0 (disk_failed result) disk.old disk.new }
         ensures count { D.faults disk.old ≤ D.faults disk.new }
     {
         records_of(alloc, disk)
@@ -142,6 +148,7 @@ impl<D: Disk> Journal<D> {
         ensures image { IsTrue D.tells → Throughout D.image D.since self.old.disk self.new.disk (D.image self.old.disk) }
         ensures reads { IsTrue D.tells → D.image self.new.disk (D.seen self.new.disk) }
         ensures grows { IsTrue D.tells → Throughout D.image D.since self.old.disk self.new.disk (Continues (D.image self.old.disk)) }
+        ensures plan { IsTrue D.tells → MeetsPlan D.stops D.made D.faults 0 false self.old.disk self.new.disk }
         ensures count { D.faults self.new.disk ≡ D.faults self.old.disk }
     {
         self.disk.make_room(alloc, 4, len + 6)
@@ -159,10 +166,9 @@ impl<D: Disk> Journal<D> {
         ensures appended { IsTrue D.tells → OnOk result (records (D.seen self.new.disk) ≡ records (D.seen self.old.disk) ++ payload.now ∷ []) }
         ensures durable { IsTrue D.tells → OnOk result ((c : List ℕ) → D.image self.new.disk c → StandsFor (records (D.seen self.old.disk) ++ payload.now ∷ []) c) }
 
-        // Where the disk tells its planned stops, only one of them among the four calls is a cause of the fault.
-        ensures plan { IsTrue D.tells → self.old.state ≡ Ready → IsErrOf result AppendFault.Disk → StopsAmong (D.stops self.old.disk) (D.made self.old.disk) (D.made self.old.disk + 4) }
+        // Only a planned stop among the four calls is a cause of the fault.
+        ensures plan { IsTrue D.tells → self.old.state ≡ Ready → MeetsPlan D.stops D.made D.faults 4 (is_err result) self.old.disk self.new.disk }
         ensures made { IsTrue D.tells → OnOk result (D.made self.new.disk ≡ D.made self.old.disk + 4) }
-        ensures stops { IsTrue D.tells → (n : ℕ) → D.stops self.new.disk n ≡ D.stops self.old.disk n }
 
         ensures reads { IsTrue D.tells → OnOk result (D.image self.new.disk (D.seen self.new.disk)) }
         ensures ready { OnOk result ((self.old.state ≡ Ready) × (self.new.state ≡ Ready)) }

@@ -2,7 +2,9 @@
 ghost use Rattle.std.specs.Prelude.{◌≡◌, ◌≤◌, ◌<◌, ◌^◌, ℕ, List, false, length, IsTrue, IfOk, IfErr, OnOk, OnErr};
 ghost use Rattle.outside.specs.Disk.{Only, Throughout};
 ghost use Rattle.outside.specs.Faults.{Counts, Rose};
+ghost use Rattle.outside.specs.Plans.{MeetsPlan};
 ghost use Rattle.gate_journal.specs.Disk.{IsSettled};
+ghost use Rattle.gate_journal.specs.Fault.{disk_failed};
 ghost use Rattle.gate_journal.specs.Gate.{StandsFor, spans};
 ghost use Rattle.gate_journal.specs.Opening.{IsOpened, IsRefused, IsRefusedAgain};
 
@@ -32,6 +34,7 @@ pub fn read_disk<D: Disk>(alloc: Global, disk: &mut D) -> Result<Vec<u8>, Journa
     ensures err { IfErr result (λ e. IsRefused D.tells (D.seen disk.old) (D.faults disk.old) (D.faults disk.new) e) }
     ensures seen { IsTrue D.tells → D.seen disk.new ≡ D.seen disk.old }
     ensures any_moment { IsTrue D.tells → Throughout D.image D.since disk.old disk.new (D.image disk.old) }
+    ensures plan { IsTrue D.planned → D.is_down disk.old ≡ false → MeetsPlan D.stops D.made D.faults 0 (disk_failed result) disk.old disk.new }
     ensures count { D.faults disk.old ≤ D.faults disk.new }
     ensures up { IsTrue D.tells → D.is_down disk.old ≡ false → OnOk result (D.is_down disk.new ≡ false) }
     ensures calls_left { D.calls_left disk.old ≤ D.calls_left disk.new }
@@ -53,6 +56,7 @@ pub fn open_disk<D: Disk>(alloc: Global, disk: &mut D) -> Result<(Vec<Bytes>, u6
     ensures up { IsTrue D.tells → OnOk result (D.is_down disk.new ≡ false) }
     ensures err { IfErr result (λ e. IsRefused D.tells (D.seen disk.old) (D.faults disk.old) (D.faults disk.new) e) }
     ensures any_moment { IsTrue D.tells → Throughout D.image D.since disk.old disk.new (IsOpened (D.image disk.old)) }
+    ensures plan { IsTrue D.planned → D.is_down disk.old ≡ false → MeetsPlan D.stops D.made D.faults 3 (disk_failed result) disk.old disk.new }
     ensures count { D.faults disk.old ≤ D.faults disk.new }
     ensures reads { IsTrue D.tells → OnOk result (D.image disk.new (D.seen disk.new)) }
 {
@@ -76,6 +80,7 @@ pub fn reopen_disk<D: Disk>(alloc: Global, disk: &mut D) -> Result<(Vec<Bytes>, 
     ensures reads { IsTrue D.tells → OnOk result (D.image disk.new (D.seen disk.new)) }
     ensures err { IfErr result (λ e. IsRefusedAgain D.tells (D.image disk.old) (D.faults disk.old) (D.faults disk.new) e) }
     ensures any_moment { IsTrue D.tells → Throughout D.image D.since disk.old disk.new (IsOpened (D.image disk.old)) }
+    ensures plan { IsTrue D.planned → MeetsPlan D.stops D.made D.faults 3 (disk_failed result) disk.old disk.new }
     ensures count { D.faults disk.old ≤ D.faults disk.new }
 {
     disk.make_room(alloc, 1, 0)?;
@@ -90,6 +95,7 @@ pub fn records_of<D: Disk>(alloc: Global, disk: &mut D) -> Result<Vec<Bytes>, Jo
     ensures err { IfErr result (λ e. IsRefused D.tells (D.seen disk.old) (D.faults disk.old) (D.faults disk.new) e) }
     ensures seen { IsTrue D.tells → D.seen disk.new ≡ D.seen disk.old }
     ensures any_moment { IsTrue D.tells → Throughout D.image D.since disk.old disk.new (D.image disk.old) }
+    ensures plan { IsTrue D.planned → D.is_down disk.old ≡ false → MeetsPlan D.stops D.made D.faults 0 (disk_failed result) disk.old disk.new }
     ensures count { D.faults disk.old ≤ D.faults disk.new }
 {
     let bytes = read_disk(alloc, disk)?;

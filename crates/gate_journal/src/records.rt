@@ -24,11 +24,13 @@ pub struct RecordJournal<D: Disk, R: Record> {
 }
 
 impl<D: Disk, R: Record> RecordJournal<D, R> {
-    ghost use Rattle.std.specs.Prelude.{◌≡◌, ◌≤◌, ◌+◌, ◌++◌, [], ◌∷◌, ℕ, List, IsTrue, IfOk, IfErr, OnOk, OnErr, IsErrOf, Ok, Err};
-    ghost use Rattle.outside.specs.Disk.{Throughout, StopsAmong};
+    ghost use Rattle.std.specs.Prelude.{◌≡◌, ◌≤◌, ◌+◌, ◌++◌, [], ◌∷◌, ℕ, List, IsTrue, IfOk, IfErr, OnOk, OnErr, IsErrOf, is_err, false, Ok, Err};
+    ghost use Rattle.outside.specs.Disk.{Throughout};
     ghost use Rattle.outside.specs.Faults.{Rose};
+    ghost use Rattle.outside.specs.Plans.{MeetsPlan};
     ghost use Rattle.gate_journal.specs.declared.journal.JournalState.TheVariants.{Ready, Broken};
     ghost use Rattle.gate_journal.specs.Disk.{HasRoom};
+    ghost use Rattle.gate_journal.specs.Fault.{disk_failed, is_of_disk};
     ghost use Rattle.gate_journal.specs.Gate.{records, gate_rule, StandsFor, IsOldOrNew};
     ghost use Rattle.gate_journal.specs.Opening.{IsOpened};
     ghost use Rattle.gate_journal.specs.Growth.{Continues};
@@ -44,6 +46,8 @@ impl<D: Disk, R: Record> RecordJournal<D, R> {
         ensures err_any_moment { IsTrue D.tells → IfErr result (λ e. Throughout D.image D.since disk e.1 (IsOpened (D.image disk))) }
         ensures ok_grows { IsTrue D.tells → IfOk result (λ j. Throughout D.image D.since disk j.journal.disk (Continues (D.image disk))) }
         ensures err_grows { IsTrue D.tells → IfErr result (λ e. Throughout D.image D.since disk e.1 (Continues (D.image disk))) }
+        ensures ok_plan { IsTrue D.planned → D.is_down disk ≡ false → IfOk result (λ j. MeetsPlan D.stops D.made D.faults 3 false disk j.journal.disk) }
+        ensures err_plan { IsTrue D.planned → D.is_down disk ≡ false → IfErr result (λ e. MeetsPlan D.stops D.made D.faults 3 (is_of_disk e.0) disk e.1) }
         ensures ok_count { IfOk result (λ j. D.faults disk ≤ D.faults j.journal.disk) }
         ensures err_count { IfErr result (λ e. D.faults disk ≤ D.faults e.1) }
     {
@@ -72,6 +76,7 @@ impl<D: Disk, R: Record> RecordJournal<D, R> {
         ensures seen { IsTrue D.tells → D.seen self.new.journal.disk ≡ D.seen self.old.journal.disk }
         ensures any_moment { IsTrue D.tells → Throughout D.image D.since self.old.journal.disk self.new.journal.disk (D.image self.old.journal.disk) }
         ensures grows { IsTrue D.tells → Throughout D.image D.since self.old.journal.disk self.new.journal.disk (Continues (D.image self.old.journal.disk)) }
+        ensures plan { IsTrue D.tells → MeetsPlan D.stops D.made D.faults 0 false self.old.journal.disk self.new.journal.disk }
         ensures count { D.faults self.new.journal.disk ≡ D.faults self.old.journal.disk }
     {
         self.value.reserve()?;
@@ -96,10 +101,9 @@ impl<D: Disk, R: Record> RecordJournal<D, R> {
         ensures appended { IsTrue D.tells → OnOk result (records (D.seen self.new.journal.disk) ≡ records (D.seen self.old.journal.disk) ++ R.spelled one ∷ []) }
         ensures durable { IsTrue D.tells → OnOk result ((c : List ℕ) → D.image self.new.journal.disk c → StandsFor (records (D.seen self.old.journal.disk) ++ R.spelled one ∷ []) c) }
 
-        // Where the disk tells its planned stops, only one of them among the four calls is a cause of the fault.
-        ensures plan { IsTrue D.tells → self.old.journal.state ≡ Ready → IsErrOf result AppendFault.Disk → StopsAmong (D.stops self.old.journal.disk) (D.made self.old.journal.disk) (D.made self.old.journal.disk + 4) }
+        // Only a planned stop among the four calls is a cause of the fault.
+        ensures plan { IsTrue D.tells → self.old.journal.state ≡ Ready → MeetsPlan D.stops D.made D.faults 4 (is_err result) self.old.journal.disk self.new.journal.disk }
         ensures made { IsTrue D.tells → OnOk result (D.made self.new.journal.disk ≡ D.made self.old.journal.disk + 4) }
-        ensures stops { IsTrue D.tells → (n : ℕ) → D.stops self.new.journal.disk n ≡ D.stops self.old.journal.disk n }
         ensures count { D.faults self.old.journal.disk ≤ D.faults self.new.journal.disk }
 
         ensures fault { IsErrOf result AppendFault.Disk → (self.new.journal.state ≡ Broken) × Rose (D.faults self.old.journal.disk) (D.faults self.new.journal.disk) }
@@ -125,6 +129,7 @@ impl<D: Disk, R: Record> RecordJournal<D, R> {
         ensures err { IfErr result (λ e. IsRefusedAgain R.damaged D.tells (D.image self.old.journal.disk) (D.faults self.old.journal.disk) (D.faults self.new.journal.disk) e) }
         ensures any_moment { IsTrue D.tells → Throughout D.image D.since self.old.journal.disk self.new.journal.disk (IsOpened (D.image self.old.journal.disk)) }
         ensures grows { IsTrue D.tells → Throughout D.image D.since self.old.journal.disk self.new.journal.disk (Continues (D.image self.old.journal.disk)) }
+        ensures plan { IsTrue D.planned → MeetsPlan D.stops D.made D.faults 3 (disk_failed result) self.old.journal.disk self.new.journal.disk }
         ensures count { D.faults self.old.journal.disk ≤ D.faults self.new.journal.disk }
     {
         self.value = Self::reopen_bare(alloc, &mut self.journal)?;
@@ -140,6 +145,7 @@ impl<D: Disk, R: Record> RecordJournal<D, R> {
         ensures err { IfErr result (λ e. IsRefusedAgain R.damaged D.tells (D.image journal.old.disk) (D.faults journal.old.disk) (D.faults journal.new.disk) e) }
         ensures any_moment { IsTrue D.tells → Throughout D.image D.since journal.old.disk journal.new.disk (IsOpened (D.image journal.old.disk)) }
         ensures grows { IsTrue D.tells → Throughout D.image D.since journal.old.disk journal.new.disk (Continues (D.image journal.old.disk)) }
+        ensures plan { IsTrue D.planned → MeetsPlan D.stops D.made D.faults 3 (disk_failed result) journal.old.disk journal.new.disk }
         ensures count { D.faults journal.old.disk ≤ D.faults journal.new.disk }
     {
         let payloads = journal.reopen(alloc)?;
@@ -158,6 +164,7 @@ impl<D: Disk, R: Record> RecordJournal<D, R> {
         ensures err { IfErr result (λ e. IsRefused R.damaged D.tells (D.seen disk.old) (D.faults disk.old) (D.faults disk.new) e) }
         ensures seen { IsTrue D.tells → D.seen disk.new ≡ D.seen disk.old }
         ensures any_moment { IsTrue D.tells → Throughout D.image D.since disk.old disk.new (D.image disk.old) }
+        ensures plan { IsTrue D.planned → D.is_down disk.old ≡ false → MeetsPlan D.stops D.made D.faults 0 (disk_failed result) disk.old disk.new }
         ensures count { D.faults disk.old ≤ D.faults disk.new }
     {
         let payloads = Journal::read_again(alloc, disk)?;

@@ -1,7 +1,8 @@
 // Writes that are on the disk when they return.
-ghost use Rattle.std.specs.Prelude.{◌≡◌, ◌≤◌, ◌+◌, ◌^◌, ◌++◌, [], ◌∷◌, ℕ, false, length, IsTrue, OnOk, IsErr};
-ghost use Rattle.outside.specs.Disk.{Holds, Torn, Only, Throughout, StopsAmong};
+ghost use Rattle.std.specs.Prelude.{◌≡◌, ◌≤◌, ◌+◌, ◌^◌, ◌++◌, [], ◌∷◌, false, length, IsTrue, OnOk, IsErr, is_err};
+ghost use Rattle.outside.specs.Disk.{Holds, Torn, Only, Throughout};
 ghost use Rattle.outside.specs.Faults.{Counts};
+ghost use Rattle.outside.specs.Plans.{MeetsPlan};
 ghost use Rattle.gate_journal.specs.Disk.{IsSettled, HasRoom};
 ghost use Rattle.gate_journal.specs.Gate.{records, IsOldOrNew};
 ghost use Rattle.gate_journal.specs.Growth.{HasImage};
@@ -23,8 +24,7 @@ pub fn write_and_sync<D: Disk>(disk: &mut D, at: u64, bytes: &[u8]) -> Result<()
     ensures begins { IsTrue D.tells → Throughout D.image D.since disk.old disk.new (HasImage (D.image disk.old)) }
     ensures up { IsTrue D.tells → D.is_down disk.old ≡ false → OnOk result (D.is_down disk.new ≡ false) }
     ensures made { IsTrue D.tells → D.is_down disk.old ≡ false → OnOk result (D.made disk.new ≡ D.made disk.old + 2) }
-    ensures plan { IsTrue D.tells → D.is_down disk.old ≡ false → IsErr result → StopsAmong (D.stops disk.old) (D.made disk.old) (D.made disk.old + 2) }
-    ensures stops { IsTrue D.tells → (n : ℕ) → D.stops disk.new n ≡ D.stops disk.old n }
+    ensures plan { IsTrue D.tells → D.is_down disk.old ≡ false → MeetsPlan D.stops D.made D.faults 2 (is_err result) disk.old disk.new }
     ensures count { Counts (D.faults disk.old) (D.faults disk.new) (IsErr result) }
     ensures calls_left { D.calls_left disk.old ≤ D.calls_left disk.new + 2 }
     ensures bytes_left { D.bytes_left disk.old ≤ D.bytes_left disk.new + length bytes.now }
@@ -46,8 +46,7 @@ pub fn append_record<D: Disk>(disk: &mut D, gate: u64, frame: &Frame) -> Result<
     ensures begins { IsTrue D.tells → Throughout D.image D.since disk.old disk.new (HasImage (D.image disk.old)) }
     ensures up { IsTrue D.tells → D.is_down disk.old ≡ false → OnOk result (D.is_down disk.new ≡ false) }
     ensures made { IsTrue D.tells → D.is_down disk.old ≡ false → OnOk result (D.made disk.new ≡ D.made disk.old + 4) }
-    ensures plan { IsTrue D.tells → D.is_down disk.old ≡ false → IsErr result → StopsAmong (D.stops disk.old) (D.made disk.old) (D.made disk.old + 4) }
-    ensures stops { IsTrue D.tells → (n : ℕ) → D.stops disk.new n ≡ D.stops disk.old n }
+    ensures plan { IsTrue D.tells → D.is_down disk.old ≡ false → MeetsPlan D.stops D.made D.faults 4 (is_err result) disk.old disk.new }
     ensures count { Counts (D.faults disk.old) (D.faults disk.new) (IsErr result) }
 {
     let body = frame.body();
