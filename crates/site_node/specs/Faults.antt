@@ -1,5 +1,6 @@
 -- Why a turn isn't done, and why a node isn't up again.
-use Rattle.std.specs.Prelude.{Bool, true, false, Result, Ok, Err}
+use Rattle.std.specs.Prelude.{◌≡◌, ℕ, ◌+◌, Bool, true, false, Result, Ok, Err}
+use Rattle.outside.specs.Plans.{AtMost}
 use Rattle.site_node.specs.declared.kind.NodeFault.{NodeFault}
 use Rattle.site_node.specs.declared.kind.NodeFault.TheVariants.{Stopped, Disk, Damaged, Read, Spent}
 
@@ -8,6 +9,26 @@ abbrev pub was_stopped : {T : Type 0} → Result T NodeFault → Bool
 was_stopped (Ok x) = false
 was_stopped (Err Stopped) = true
 was_stopped (Err _) = false
+
+-- a disk couldn't be opened again
+abbrev pub was_shut_out : {T : Type 0} → Result T NodeFault → Bool
+was_shut_out (Ok x) = false
+was_shut_out (Err (Disk disk)) = true
+was_shut_out (Err _) = false
+
+-- A call where at most so many of the calls to come are planned to fail, by old before it and by new after it: where it met
+-- such a stop there is one less to come, and else there was no fault.
+abbrev pub MeetsStops : (met : Bool) → (old new : ℕ → Type 0) → (before after : ℕ) → Type 0
+MeetsStops true old new before after = (k : ℕ) → old k → (left : ℕ) × (k ≡ left + 1) × new left
+MeetsStops false old new before after = ((k : ℕ) → old k → new k) × (after ≡ before)
+
+-- two disks of which each has its own, and the same of both
+abbrev pub OfBoth : (first second : ℕ → Type 0) → ℕ → Type 0
+OfBoth first second k = (i : ℕ) × (j : ℕ) × first i × second j × (k ≡ i + j)
+
+abbrev pub MeetsBoth : {D : Type 0} (stops : D → ℕ → Bool) (made faults : D → ℕ) (met : Bool) (first second new_first new_second : D) → Type 0
+MeetsBoth stops made faults met first second new_first new_second = MeetsStops met (OfBoth (AtMost (stops first) (made first)) (AtMost (stops second) (made second)))
+    (OfBoth (AtMost (stops new_first) (made new_first)) (AtMost (stops new_second) (made new_second))) (faults first + faults second) (faults new_first + faults new_second)
 
 -- a turn opens no disk again, and never finds one damaged
 abbrev pub IsOfTurn : NodeFault → Type 0

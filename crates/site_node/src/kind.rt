@@ -8,7 +8,7 @@ ghost use Rattle.air_bus.specs.declared.entry.Phase.TheVariants.{Busy};
 ghost use Rattle.air_bus.specs.declared.entry.Input.{Input};
 ghost use Rattle.air_bus.specs.Copies.{Copy};
 ghost use Rattle.air_bus.specs.History.{next_input, phase_after};
-ghost use Rattle.site_node.specs.Faults.{was_stopped, IsOfTurn, IsOfRestart, IsWhole};
+ghost use Rattle.site_node.specs.Faults.{was_stopped, was_shut_out, MeetsStops, IsOfTurn, IsOfRestart, IsWhole};
 
 use air_bus::{Input, Packets, Payload};
 use outside::{DiskName, Gate};
@@ -56,6 +56,9 @@ pub struct Done {
 pub trait SiteNode {
     /// Whether its disks and its log tell what they hold.
     ghost tells: { Bool };
+
+    /// Whether its disks meet the stops that are planned for them, and no other faults.
+    ghost planned: { Bool };
 
     /// A state that its entries lead through: the records on its disks, what it knows, and its open turn.
     ghost State: { Type 0 };
@@ -106,6 +109,9 @@ pub trait SiteNode {
     /// How many faults its disks have met, all in all.
     ghost faults: { Self → ℕ };
 
+    /// Whether at most so many of the changing calls to come of its disks are planned to fail.
+    ghost stops_left: { Self → ℕ → Type 0 };
+
     /// How many faults its log has met.
     ghost log_faults: { Self → ℕ };
 
@@ -146,6 +152,7 @@ pub trait SiteNode {
         // Why it isn't done.
         ensures kind { IfErr result IsOfTurn }
         ensures fault { IsErrOf result NodeFault.Stopped → Rose (faults self.old) (faults self.new) }
+        ensures plan { IsTrue planned → MeetsStops (was_stopped result) (stops_left self.old) (stops_left self.new) (faults self.old) (faults self.new) }
         ensures read { IsErrOf result NodeFault.Read → Rose (log_faults self.old) (log_faults self.new) }
         ensures spent { (s : State) → stands self.old s → (epoch : ℕ) → IsErrOf result (NodeFault.Spent epoch) → spends s input.now ≡ Some epoch }
         ensures spends { (s : State) → stands self.old s → (epoch : ℕ) → spends s input.now ≡ Some epoch → OnOk result ⊥ }
@@ -167,6 +174,7 @@ pub trait SiteNode {
         // Why it isn't up again.
         ensures kind { IfErr result IsOfRestart }
         ensures fault { (disk : _) → IsErrOf result (NodeFault.Disk disk) → Rose (faults self.old) (faults self.new) }
+        ensures plan { IsTrue planned → MeetsStops (was_shut_out result) (stops_left self.old) (stops_left self.new) (faults self.old) (faults self.new) }
         ensures whole { IsTrue tells → (s : State) → stands self.old s → IfErr result IsWhole }
         ensures count { faults self.old ≤ faults self.new }
         ensures log_count { log_faults self.old ≤ log_faults self.new };
