@@ -41,9 +41,10 @@ struct ReadyTurn {
 }
 
 impl<D: Disk> ReplicaNode<D> {
-    ghost use Rattle.std.specs.Prelude.{◌≡◌, ◌≤◌, ◌+◌, false, true, Some, None, Option, List, ℕ, is_some, option_map, length, IsTrue, IfOk, IfErr, OnOk, OnErr, IsErrOf, Err};
+    ghost use Rattle.std.specs.Prelude.{◌≡◌, ◌≤◌, ◌+◌, false, true, Some, None, Option, List, ℕ, is_some, is_err, option_map, length, IsTrue, IfOk, IfErr, OnOk, OnErr, IsErrOf, Err};
     ghost use Rattle.outside.specs.Disk.{Throughout};
     ghost use Rattle.outside.specs.Faults.{Rose};
+    ghost use Rattle.outside.specs.Plans.{MeetsPlan};
     ghost use Rattle.gate_journal.specs.declared.journal.JournalState.TheVariants.{Ready};
     ghost use Rattle.gate_journal.specs.Opening.{IsOpened};
     ghost use Rattle.gate_journal.specs.Growth.{Continues};
@@ -54,7 +55,7 @@ impl<D: Disk> ReplicaNode<D> {
     ghost use Rattle.site_node.specs.Bytes.{IsInput};
     ghost use Rattle.site_node.specs.Rosters.{IsOf};
     ghost use Rattle.site_node.specs.States.{row_of};
-    ghost use Rattle.site_node.specs.Faults.{IsOfRestart, IsWhole};
+    ghost use Rattle.site_node.specs.Faults.{was_shut_out, was_stopped, IsOfRestart, IsWhole};
     ghost use Rattle.turn_defs.specs.Replica.{ReplicaKept, land_replica};
     ghost use Rattle.replica_node.specs.Core.{noted, IsRow, GoesOn};
     ghost use Rattle.replica_node.specs.Votes.{IsOfNotes, spells};
@@ -97,6 +98,7 @@ impl<D: Disk> ReplicaNode<D> {
         ensures knows { (k : ReplicaKept) (live : Option (Unit {0})) → Knows self.old.voter k live → Knows self.new.voter k live }
         ensures holds { IsTrue D.tells → (k : ReplicaKept) → Holds self.old.kept (D.seen self.old.journal.disk) (D.image self.old.journal.disk) self.old.journal.state k → Holds self.new.kept (D.seen self.new.journal.disk) (D.image self.new.journal.disk) self.new.journal.state k }
         ensures moments { IsTrue D.tells → Throughout D.image D.since self.old.journal.disk self.new.journal.disk (D.image self.old.journal.disk) }
+        ensures plan { IsTrue D.tells → MeetsPlan D.stops D.made D.faults 0 false self.old.journal.disk self.new.journal.disk }
         ensures count { D.faults self.new.journal.disk ≡ D.faults self.old.journal.disk }
         ensures turn { IfOk result (λ r. (g : Setting) (k : ReplicaKept) (live : Option (Unit {0})) → Knows self.old.voter k live → Fits live input.now → IsRow g (row_of replica_rows g k live input.now) r.turn) }
         ensures next { IfOk result (λ r. (k : ReplicaKept) (live : Option (Unit {0})) → Knows self.old.voter k live → Fits live input.now → GoesOn self.new.voter.core r.turn.change k) }
@@ -120,6 +122,7 @@ impl<D: Disk> ReplicaNode<D> {
         ensures same { (self.new.replica ≡ self.old.replica) × (self.new.roster ≡ self.old.roster) × (self.new.in_doubt ≡ self.old.in_doubt) × (self.new.voter ≡ self.old.voter) }
         ensures holds { IsTrue D.tells → (k : ReplicaKept) → Holds self.old.kept (D.seen self.old.journal.disk) (D.image self.old.journal.disk) self.old.journal.state k → Holds self.new.kept (D.seen self.new.journal.disk) (D.image self.new.journal.disk) self.new.journal.state k }
         ensures moments { IsTrue D.tells → Throughout D.image D.since self.old.journal.disk self.new.journal.disk (D.image self.old.journal.disk) }
+        ensures plan { IsTrue D.tells → MeetsPlan D.stops D.made D.faults 0 false self.old.journal.disk self.new.journal.disk }
         ensures count { D.faults self.new.journal.disk ≡ D.faults self.old.journal.disk }
         ensures room { OnOk result (IsRoomFor written.now (D.calls_left self.new.journal.disk) (D.bytes_left self.new.journal.disk)) }
     {
@@ -142,6 +145,7 @@ impl<D: Disk> ReplicaNode<D> {
         ensures stopped { IsErrOf result NodeFault.Stopped → is_some self.new.in_doubt ≡ true }
         ensures only_stopped { OnErr result (result ≡ Err NodeFault.Stopped) }
         ensures fault { OnErr result (Rose (D.faults self.old.journal.disk) (D.faults self.new.journal.disk)) }
+        ensures plan { IsTrue D.tells → MeetsPlan D.stops D.made D.faults 4 (was_stopped result) self.old.journal.disk self.new.journal.disk }
         ensures count { D.faults self.old.journal.disk ≤ D.faults self.new.journal.disk }
         ensures moments { IsTrue D.tells → (k : ReplicaKept) → Holds self.old.kept (D.seen self.old.journal.disk) (D.image self.old.journal.disk) self.old.journal.state k → Throughout D.image D.since self.old.journal.disk self.new.journal.disk (OnDiskOr k ready.turn.note) }
         ensures grows { IsTrue D.tells → (k : ReplicaKept) → Holds self.old.kept (D.seen self.old.journal.disk) (D.image self.old.journal.disk) self.old.journal.state k → (c : List ℕ) → D.image self.new.journal.disk c → Continues (D.image self.old.journal.disk) c }
@@ -170,6 +174,7 @@ impl<D: Disk> ReplicaNode<D> {
         ensures stopped { IsErrOf result NodeFault.Stopped → is_some self.new.in_doubt ≡ true }
         ensures only_stopped { OnErr result (result ≡ Err NodeFault.Stopped) }
         ensures fault { OnErr result (Rose (D.faults self.old.journal.disk) (D.faults self.new.journal.disk)) }
+        ensures plan { IsTrue D.tells → MeetsPlan D.stops D.made D.faults 4 (is_err result) self.old.journal.disk self.new.journal.disk }
         ensures count { D.faults self.old.journal.disk ≤ D.faults self.new.journal.disk }
         ensures moments { IsTrue D.tells → (k : ReplicaKept) (n : Option ReplicaNote) → written ≡ recorded n → Holds self.old.kept (D.seen self.old.journal.disk) (D.image self.old.journal.disk) self.old.journal.state k → Throughout D.image D.since self.old.journal.disk self.new.journal.disk (OnDiskOr k n) }
         ensures grows { IsTrue D.tells → (k : ReplicaKept) → Holds self.old.kept (D.seen self.old.journal.disk) (D.image self.old.journal.disk) self.old.journal.state k → (c : List ℕ) → D.image self.new.journal.disk c → Continues (D.image self.old.journal.disk) c }
@@ -203,6 +208,7 @@ impl<D: Disk> ReplicaNode<D> {
         ensures grows { IsTrue D.tells → Throughout D.image D.since self.old.journal.disk self.new.journal.disk (Continues (D.image self.old.journal.disk)) }
         ensures kind { IfErr result IsOfRestart }
         ensures fault { (disk : _) → IsErrOf result (NodeFault.Disk disk) → Rose (D.faults self.old.journal.disk) (D.faults self.new.journal.disk) }
+        ensures plan { IsTrue D.planned → MeetsPlan D.stops D.made D.faults 3 (was_shut_out result) self.old.journal.disk self.new.journal.disk }
         ensures count { D.faults self.old.journal.disk ≤ D.faults self.new.journal.disk }
         ensures whole { IsTrue D.tells → ((c : List ℕ) → D.image self.old.journal.disk c → IsOfNotes c) → IfErr result IsWhole }
     {
@@ -220,6 +226,7 @@ impl<D: Disk> ReplicaNode<D> {
 
 impl<D: Disk> SiteNode for ReplicaNode<D> {
     ghost use Rattle.std.specs.Prelude.{◌≡◌, ◌+◌, is_some, List, ℕ};
+    ghost use Rattle.outside.specs.Plans.{AtMost};
     ghost use Rattle.turn_defs.specs.Replica.{replica_at_rest, replica_unfinished, replica_wants};
     ghost use Rattle.site_node.specs.States.{Leads, state_phase, Says};
     ghost use Rattle.site_node.specs.Paths.{begins as begins_by, phase_led};
@@ -229,6 +236,8 @@ impl<D: Disk> SiteNode for ReplicaNode<D> {
     ghost use Rattle.replica_node.specs.Kept.{kept_images};
 
     ghost tells = { D.tells };
+
+    ghost planned = { D.planned };
 
     ghost State = { ReplicaState };
 
@@ -263,6 +272,8 @@ impl<D: Disk> SiteNode for ReplicaNode<D> {
     ghost grown = { λ old new. (c : List ℕ) → D.image new.journal.disk c → Continues (D.image old.journal.disk) c };
 
     ghost faults = { λ node. D.faults node.journal.disk };
+
+    ghost stops_left = { λ node. AtMost (D.stops node.journal.disk) (D.made node.journal.disk) };
 
     ghost log_faults = { λ node. 0 };
 

@@ -1,6 +1,8 @@
-use Rattle.std.proofs.Common.{rules, ◌≡◌, ℕ, List, length, Option, Some, sym, ap, ◌∙◌, subst, arith}
+use Rattle.std.proofs.Common.{rules, ◌≡◌, refl, false, ℕ, List, length, Option, Some, sym, ap, ◌∙◌, subst, arith}
 use Rattle.replica_node.proofs.Words.{Bytes, Stops, StandsAt, replica_rows, kept_images}
 use Rattle.replica_node.proofs.Turning.{Found, nothing_landed, note_landed, kept_opened, kept_notes, still_down, on_err}
+use Rattle.site_node.specs.Faults.{was_shut_out}
+use Rattle.site_node.proofs.Stops.{meets}
 use Rattle.replica_node.proofs.node.ReplicaNodeSiteNode.restart.Goals as goal
 
 pub returns-then-landed-clause-stopped : goal.returns-then-landed-clause-stopped
@@ -99,3 +101,14 @@ returns-in_err-votes-clause-whole g c tells s at =
     let images = kept_images old.roster old.in_doubt old.kept (g.D.Disk.seen old.journal.disk) was old.journal.state old.voter s at in
     let whole = c.in_err-votes.ensures.whole tells (λ b here. kept_notes s b at.spelled (images b here)) in
     search rules
+
+pub returns-then-landed-clause-plan : goal.returns-then-landed-clause-plan
+returns-then-landed-clause-plan g c planned = meets g.D.Disk.stops g.D.Disk.made g.D.Disk.faults 3 false false _ _ refl (c.in_ok-votes.ensures.plan planned)
+
+pub returns-else-landed-clause-plan : goal.returns-else-landed-clause-plan
+returns-else-landed-clause-plan g c planned = meets g.D.Disk.stops g.D.Disk.made g.D.Disk.faults 3 false false _ _ refl (c.in_ok-votes.ensures.plan planned)
+
+pub returns-in_err-votes-clause-plan : goal.returns-in_err-votes-clause-plan
+returns-in_err-votes-clause-plan g c planned =
+    let same : was_shut_out c.reread.result ≡ was_shut_out c.from_residual.result = search rules in
+    meets g.D.Disk.stops g.D.Disk.made g.D.Disk.faults 3 _ _ _ _ same (c.reread.ensures.plan planned)

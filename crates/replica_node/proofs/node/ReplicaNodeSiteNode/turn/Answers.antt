@@ -1,8 +1,9 @@
-use Rattle.std.proofs.Common.{sym, ◌∙◌, subst, inl, ⊎_elim}
+use Rattle.std.proofs.Common.{refl, sym, ◌∙◌, subst, inl, ⊎_elim}
 use Rattle.replica_node.proofs.Words.{continues_same, continues_through, VoterView}
 use Rattle.replica_node.specs.Node.{Knows}
 use Rattle.replica_node.proofs.Standing.{none_of, quiet, fits_of}
 use Rattle.replica_node.proofs.Turning.{idles, ends, stays_open, open_keeps, all_five, both_err}
+use Rattle.site_node.proofs.Stops.{turn_meets}
 use Rattle.replica_node.proofs.node.ReplicaNodeSiteNode.turn.Goals as goal
 
 pub returns-in-None-clause-done : goal.returns-in-None-clause-done
@@ -77,3 +78,9 @@ returns-after-is_some-clause-grown g c tells s at bytes now =
     let known = quiet old.roster old.in_doubt old.kept seen image old.journal.state old.voter s (none_of old.in_doubt c.requires.up) at in
     let e = c.in_ok-ready-in-Some.ensures in
     continues_through image (g.D.Disk.image mid.journal.disk) (λ b here. continues_same image b ((e.moments tells).now b here)) bytes (c.finish.ensures.grows tells s.kept (e.holds tells s.kept known.0) bytes now)
+
+pub returns-after-is_some-clause-plan : goal.returns-after-is_some-clause-plan
+returns-after-is_some-clause-plan g c planned =
+    let d = g.D.Disk in
+    let tells = g.met.D.Disk.plan_told planned in
+    turn_meets d.stops d.made d.faults 4 _ _ _ c.prepare.new.self.journal.disk _ refl (c.prepare.ensures.plan tells) (c.finish.ensures.plan tells)
