@@ -18,21 +18,22 @@ use Rattle.bus_seat.specs.Seats.{BusId, Sight, fresh, fresh_to, fresh_seats, tag
 use Rattle.bus_seat.proofs.Closing.{snoc_injective, fresh_count}
 use Rattle.site_node.specs.declared.kind.NodeFault.{NodeFault}
 use Rattle.site_workers.specs.Heard.{seat_numbers}
-use Rattle.site_workers.specs.Works.{WorkerView, LeadsOn, GrowsOn, HasMet}
+use Rattle.site_workers.specs.Works.{WorkerView, LeadsOn, GrowsOn, HasMet, KeepsPlan}
 use Rattle.site_workers.specs.Rounds.{WentOn, AllWentOn, Walked, WentFar, Rests, OneHasFault, HasFault}
-use Rattle.site_workers.proofs.Stepping.{leads_on, grows_on, grew_on}
+use Rattle.site_workers.proofs.Stepping.{leads_on, grows_on, plan_on, grew_on}
 
-module _ {N S : Type 0} (tells : Bool) (leads : S → Entry → S → Type 0) (phase_of : S → Phase) (stands : N → S → Type 0) (number : N → ℕ) (spends : S → Input → Option ℕ) (grown : N → N → Type 0) (disk_count : N → ℕ) where
+module _ {N S : Type 0} (tells : Bool) (leads : S → Entry → S → Type 0) (phase_of : S → Phase) (stands : N → S → Type 0) (number : N → ℕ) (spends : S → Input → Option ℕ) (grown : N → N → Type 0) (disk_count : N → ℕ) (planned : Bool) (stops_left : N → ℕ → Type 0) (tally : N → ℕ) (waits : N → Bool) where
   abbrev Went : WorkerView N → WorkerView N → Type 0
-  Went = WentOn tells leads phase_of stands number spends grown disk_count
+  Went = WentOn tells leads phase_of stands number spends grown disk_count planned stops_left tally waits
 
   abbrev AllWent : List (WorkerView N) → List (WorkerView N) → Type 0
-  AllWent = AllWentOn tells leads phase_of stands number spends grown disk_count
+  AllWent = AllWentOn tells leads phase_of stands number spends grown disk_count planned stops_left tally waits
 
   pub went_on : (u v w : WorkerView N) → Went u v → Went v w → Went u w
   went_on u v w a b = record {
     grew = grew_on u.seat v.seat w.seat a.grew b.grew;
     disks = b.disks ∙ a.disks;
+    plan = λ p. plan_on stops_left tally waits u.node v.node w.node u.fault v.fault w.fault u.seat.mine v.seat.mine w.seat.mine (a.plan p) (b.plan p);
     leads_on = λ t. leads_on leads phase_of stands number spends u.node v.node w.node u.fault v.fault w.fault u.seat.mine v.seat.mine w.seat.mine (a.leads_on t) (b.leads_on t);
     grows_on = λ t. grows_on leads phase_of stands number spends grown u.node v.node w.node u.fault v.fault u.seat.mine v.seat.mine (a.leads_on t) (a.grows_on t) (b.grows_on t);
   }
@@ -93,7 +94,7 @@ seats_numbered bus seats are =
     let tags : (ss : List Sight) → map of_tag (map tag ss) ≡ map number ss = λ ss. map-map of_tag tag ss in
     sym (tags seats) ∙ ap (map of_tag) are ∙ tags (fresh_seats bus) ∙ map-append number (fresh_to bus (count bus.base)) (fresh bus None ∷ []) ∙ ap (λ l. l ++ None ∷ []) (fresh_numbers bus (count bus.base))
 
-module _ {N S : Type 0} (tells : Bool) (leads : S → Entry → S → Type 0) (phase_of : S → Phase) (stands : N → S → Type 0) (number : N → ℕ) (spends : S → Input → Option ℕ) (grown : N → N → Type 0) (disk_count : N → ℕ)
+module _ {N S : Type 0} (tells : Bool) (leads : S → Entry → S → Type 0) (phase_of : S → Phase) (stands : N → S → Type 0) (number : N → ℕ) (spends : S → Input → Option ℕ) (grown : N → N → Type 0) (disk_count : N → ℕ) (planned : Bool) (stops_left : N → ℕ → Type 0) (tally : N → ℕ) (waits : N → Bool)
     (bus : BusId) (nodes : List N) (front : List Sight) (ws us : List (WorkerView N))
     (nodes_are : map (λ (w : WorkerView N). w.node) ws ≡ nodes) (seats_are : map (λ (w : WorkerView N). w.seat) ws ≡ front) (front_is : front ≡ fresh_to bus (count bus.base)) where
   hired_count : length ws ≡ (count bus.base)
@@ -111,7 +112,7 @@ module _ {N S : Type 0} (tells : Bool) (leads : S → Entry → S → Type 0) (p
   pub hired_buses : (i : ℕ) (d : WorkerView N) → i < length ws → (get_or ws i d).seat.bus ≡ bus
   hired_buses i d l = ap (λ (s : Sight). s.bus) (hired_seat i d l)
 
-  module _ (went : AllWentOn tells leads phase_of stands number spends grown disk_count ws us) where
+  module _ (went : AllWentOn tells leads phase_of stands number spends grown disk_count planned stops_left tally waits ws us) where
     ended_tag : (i : ℕ) (d : WorkerView N) → i < length us → tag (get_or us i d).seat ≡ (bus, Some i)
     ended_tag i d l =
         let inside : i < length ws = omega (arith, l, went.count) in
@@ -201,6 +202,24 @@ module _ {N S : Type 0} (tells : Bool) (leads : S → Entry → S → Type 0) (p
         all_disks i a b l =
             let d = some_of ws i l in
             ap (λ (x : N × Option NodeFault). disk_count x.0) (left_at i d b (omega (arith, l, went.count))) ∙ (went.each i d l).disks ∙ ap disk_count (hired_node i d a l)
+
+        -- and keeps to its disks' plan
+        pub all_planned : IsTrue planned → (i : ℕ) (a : N) (b : N × Option NodeFault) → i < length ws → KeepsPlan stops_left tally waits (get_or nodes i a) None [] (get_or left i b).0 (get_or left i b).1 (made_by i h)
+        all_planned p i a b l =
+            let inside : i < length us = omega (arith, l, went.count) in
+            let d = some_of ws i l in
+            let v = get_or ws i d in
+            let w = get_or us i d in
+            let kept : KeepsPlan stops_left tally waits v.node v.fault v.seat.mine w.node w.fault w.seat.mine = (went.each i d l).plan p in
+            let from : KeepsPlan stops_left tally waits v.node None [] w.node w.fault w.seat.mine =
+            subst (λ (m : List Entry). KeepsPlan stops_left tally waits v.node None m w.node w.fault w.seat.mine) (ap (λ (s : Sight). s.mine) (hired_seat i d l))
+            (subst (λ (o : Option NodeFault). KeepsPlan stops_left tally waits v.node o v.seat.mine w.node w.fault w.seat.mine) (faults i d l) kept)
+            in
+            let at : KeepsPlan stops_left tally waits (get_or nodes i a) None [] w.node w.fault (made_by i h) =
+            subst (λ (n : N). KeepsPlan stops_left tally waits n None [] w.node w.fault (made_by i h)) (hired_node i d a l)
+            (subst (λ (m : List Entry). KeepsPlan stops_left tally waits v.node None [] w.node w.fault m) (sym (own_entries i d inside)) from)
+            in
+            subst (λ (x : N × Option NodeFault). KeepsPlan stops_left tally waits (get_or nodes i a) None [] x.0 x.1 (made_by i h)) (sym (left_at i d b inside)) at
 
         abbrev parted : WorkerView N → N × Option NodeFault
         parted w = (w.node, w.fault)

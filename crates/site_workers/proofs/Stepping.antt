@@ -1,13 +1,13 @@
 -- One entry more of a worker, and what it leads on to.
 use Rattle.std.proofs.Common.{◌≡◌, ◌≢◌, ℕ, zero, suc, ◌+◌, ◌<◌, ◌≤◌, nat_lt, Bool, true, false, ◌||◌, List, [], ◌∷◌, ◌++◌, length, Option, Some, None, is_some, filter, if◌then◌else◌, refl, sym, ap, ◌∙◌, subst, arith, append_assoc, length-append}
-use Rattle.std.specs.Prelude.{IfSome}
+use Rattle.std.specs.Prelude.{IfSome, IsErrAnd, Result, Ok, Err}
 use mathlib.Core.List.{IsPrefix}
 use Rattle.std.specs.List.{list_any}
 use Rattle.std.proofs.lemmas.Bool.{ltb-true, ltb-false}
 use Rattle.std.proofs.lemmas.List.Elements.{filter-append}
 use Rattle.outside.specs.declared.store.DiskName.{DiskName}
 use Rattle.air_bus.specs.declared.entry.Entry.{Entry}
-use Rattle.air_bus.specs.declared.entry.Entry.TheVariants.{Begin, End}
+use Rattle.air_bus.specs.declared.entry.Entry.TheVariants.{Begin, End, Stop}
 use Rattle.air_bus.specs.declared.entry.Input.{Input}
 use Rattle.air_bus.specs.declared.entry.Phase.{Phase}
 use Rattle.air_bus.specs.declared.entry.Phase.TheVariants.{Busy}
@@ -16,9 +16,10 @@ use Rattle.air_bus.specs.History.{phase, phase_after, node_of, next_input}
 use Rattle.air_bus.proofs.Phases.{phase_here}
 use Rattle.bus_seat.specs.Seats.{Sight, Begins, Adds, next_for}
 use Rattle.site_node.specs.declared.kind.NodeFault.{NodeFault}
-use Rattle.site_node.specs.declared.kind.NodeFault.TheVariants.{Stopped, Damaged}
-use Rattle.site_node.specs.Faults.{IsWhole}
-use Rattle.site_workers.specs.Works.{WorkerView, Path, StandsAt, LeadsOn, Reached, GrowsOn, Grew, HasMet, is_stop, stop_count}
+use Rattle.site_node.specs.declared.kind.Done.{Done}
+use Rattle.site_node.specs.declared.kind.NodeFault.TheVariants.{Stopped, Disk, Damaged, Read, Spent, Memory}
+use Rattle.site_node.specs.Faults.{IsWhole, MeetsStops, was_stopped, was_shut_out}
+use Rattle.site_workers.specs.Works.{WorkerView, Path, StandsAt, LeadsOn, Reached, GrowsOn, Grew, HasMet, KeepsPlan, is_stop, stop_count, open_stops, told}
 
 pub none_of : {A : Type 0} (o : Option A) (b : Bool) → b ≡ is_some o → b ≡ false → o ≡ None
 none_of None b is off = refl
@@ -144,6 +145,15 @@ counted_more es e = ap length (filter-append is_stop es (e ∷ [])) ∙ length-a
 pub counted_same : (new old : List Entry) (e : Entry) → new ≡ old ++ e ∷ [] → stop_count (e ∷ []) ≡ 0 → stop_count new ≡ stop_count old
 counted_same new old e is none = let more = ap stop_count is ∙ counted_more old e in omega (arith, more, none)
 
+pub ended_same : (n : ℕ) (v w : Sight) (noted : Option (List ℕ)) (packets : List (ℕ × List ℕ)) → v.number ≡ Some n → IfSome v.number (λ m. (kept : ℕ) × (kept ≤ length packets) × Adds v (End m noted packets kept) w)
+    → stop_count w.mine ≡ stop_count v.mine
+ended_same n v w noted packets is did = let t = ended_by n v w noted packets is did in counted_same w.mine v.mine (End n noted packets t.0) t.2.mine refl
+
+pub stopped_more : (n : ℕ) (v w : Sight) (landed : Option (List ℕ)) → v.number ≡ Some n → IfSome v.number (λ m. Adds v (Stop m landed) w) → stop_count w.mine ≡ stop_count v.mine + 1
+stopped_more n v w landed is did =
+    let t = subst (λ o. IfSome o (λ m. Adds v (Stop m landed) w)) is did in
+    ap stop_count t.2 ∙ counted_more v.mine (Stop n landed)
+
 -- ---- what is told of a fault
 
 pub told_same : (f h : NodeFault) → Some f ≡ Some h → f ≡ h
@@ -181,3 +191,76 @@ last_stop false n o below told = (λ is. ltb-false n 8 below, λ none. absurd (c
 
 pub eighth : (n : ℕ) (o : Option NodeFault) → o ≡ (if nat_lt n 8 then None else Some Stopped) → (o ≡ Some Stopped → 8 ≤ n) × (o ≡ None → n < 8)
 eighth n o told = last_stop (nat_lt n 8) n o refl told
+
+-- ---- planned stops
+
+module _ {N : Type 0} (stops_left : N → ℕ → Type 0) (faults : N → ℕ) (waits : N → Bool) where
+  abbrev Plan : N → Option NodeFault → List Entry → N → Option NodeFault → List Entry → Type 0
+  Plan = KeepsPlan stops_left faults waits
+
+  abbrev Meets : Bool → N → N → Type 0
+  Meets met v w = MeetsStops met (stops_left v) (stops_left w) (faults v) (faults w)
+
+  pub plan_on : (u v w : N) (a b c : Option NodeFault) (x y z : List Entry) → Plan u a x v b y → Plan v b y w c z → Plan u a x w c z
+  plan_on u v w a b c x y z first next = record {
+    most = λ k h. next.most k (first.most k h);
+    calm = λ h. let f = first.calm h in let n = next.calm (first.most 0 h) in (n.0 ∙ f.0, n.1 ∙ f.1);
+  }
+
+  -- of entries with as many stops
+  pub plan_by : (v w : N) (a b c d : Option NodeFault) (x y z t : List Entry) → stop_count z + open_stops c ≡ stop_count x + open_stops a → stop_count t + open_stops d ≡ stop_count y + open_stops b → Plan v a x w b y → Plan v c z w d t
+  plan_by v w a b c d x y z t from to plan = record {
+    most = λ k h. let n = plan.most k (h.0, h.1, omega (arith, h.2, from)) in (n.0, n.1, omega (arith, n.2, to));
+    calm = λ h. plan.calm (h.0, h.1, omega (arith, h.2, from));
+  }
+
+  -- a node that took no turn
+  pub plan_same : (v : N) (a b : Option NodeFault) (x y : List Entry) → stop_count y + open_stops b ≡ stop_count x + open_stops a → Plan v a x v b y
+  plan_same v a b x y same = record { most = λ k h. (h.0, h.1, omega (arith, h.2, same)); calm = λ h. (refl, refl) }
+
+  -- a turn that wasn't stopped
+  pub plan_done : (v w : N) (o : Option NodeFault) (x y : List Entry) → stop_count y + open_stops o ≡ stop_count x → waits w ≡ waits v → Meets false v w → Plan v None x w o y
+  plan_done v w o x y same up met = record {
+    most = λ k h. (h.0, met.0 h.0 h.1, omega (arith, h.2, same));
+    calm = λ h. (met.1, up);
+  }
+
+  pub was_met : (f : NodeFault) (v u : N) → f ≡ Stopped → Meets (was_stopped {T = Done} (Err f)) v u → Meets true v u
+  was_met f v u is met = subst (λ x. Meets (was_stopped {T = Done} (Err x)) v u) is met
+
+  -- one that was, be it closed by a stop or not
+  pub plan_stopped : (v u w : N) (o : Option NodeFault) (x y : List Entry) → stop_count y + open_stops o ≤ stop_count x + 1 → Meets true v u → Meets false u w → Plan v None x w o y
+  plan_stopped v u w o x y more met back = record {
+    most = λ k h. let s = met h.0 h.1 in (s.0, back.0 s.0 s.2, omega (arith, h.2, s.1, more));
+    calm = λ h. let s = met h.0 h.1 in absurd (omega (arith, h.2, s.1));
+  }
+
+  -- one that was, and its node isn't up again
+  pub plan_shut : (v u w : N) (f : NodeFault) (x : List Entry) → Meets true v u → Meets (was_shut_out {T = Option (List ℕ)} (Err f)) u w → Plan v None x w (Some f) x
+  plan_shut v u w (Disk disk) x met back = record {
+    most = λ k h. let s = met h.0 h.1 in let t = back s.0 s.2 in (t.0, t.2, omega (arith, h.2, s.1, t.1));
+    calm = λ h. let s = met h.0 h.1 in absurd (omega (arith, h.2, s.1));
+  }
+  plan_shut v u w Stopped x met back = plan_stopped v u w (Some Stopped) x x (omega arith) met back
+  plan_shut v u w (Damaged disk at) x met back = plan_stopped v u w (Some (Damaged disk at)) x x (omega arith) met back
+  plan_shut v u w Read x met back = plan_stopped v u w (Some Read) x x (omega arith) met back
+  plan_shut v u w (Spent epoch) x met back = plan_stopped v u w (Some (Spent epoch)) x x (omega arith) met back
+  plan_shut v u w Memory x met back = plan_stopped v u w (Some Memory) x x (omega arith) met back
+
+  -- where its fault is handed on
+  pub plan_handed : {T : Type 0} (v w : N) (f : NodeFault) (x : List Entry) (r : Result T NodeFault) → IsErrAnd r (λ e. e ≡ f) → Plan v None x w (Some f) x → Plan v None x w (told r) x
+  plan_handed v w f x (Ok y) is plan = absurd is
+  plan_handed v w f x (Err e) is plan = subst (λ g. Plan v None x w (Some g) x) (sym is) plan
+
+  -- of the same worker, seen by its parts
+  pub plan_from : (v u : WorkerView N) (w : N) (after : Option NodeFault) (new : List Entry) → v ≡ u → Plan v.node v.fault v.seat.mine w after new → Plan u.node u.fault u.seat.mine w after new
+  plan_from v u w after new is plan = subst (λ (x : WorkerView N). Plan x.node x.fault x.seat.mine w after new) is plan
+
+  -- behind an entry that opened it
+  pub plan_begun : (v w : N) (a b : Option NodeFault) (x y z : List Entry) → a ≡ None → stop_count y ≡ stop_count x → Plan v None y w b z → Plan v a x w b z
+  plan_begun v w a b x y z none same plan = subst (λ o. Plan v o x w b z) (sym none) (plan_by v w None b None b y z x z (omega (arith, same)) refl plan)
+
+  -- the node may be told as stopped behind its last stop
+  pub plan_told : (b : Bool) (v w : N) (o : Option NodeFault) (x y : List Entry) → o ≡ (if b then None else Some Stopped) → Plan v None x w None y → Plan v None x w o y
+  plan_told true v w o x y is plan = subst (λ t. Plan v None x w t y) (sym is) plan
+  plan_told false v w o x y is plan = subst (λ t. Plan v None x w t y) (sym is) (plan_by v w None None None (Some Stopped) x y x y refl refl plan)

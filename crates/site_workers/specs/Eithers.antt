@@ -22,6 +22,11 @@ pub counted : {A B X : Type 0} (f : A → List X) (g : B → List X) (m : A → 
 counted f g m n first second (node.First a) = first a
 counted f g m n first second (node.Second b) = second b
 
+-- what is said of a node of either kind
+abbrev pub has : {A B X : Type 0} → (A → X → Type 0) → (B → X → Type 0) → Either A B → X → Type 0
+has f g (node.First a) = f a
+has f g (node.Second b) = g b
+
 -- what is said of a node and one thing more, which is of its kind
 abbrev pub at : {A B S T : Type 0} → (A → S → Type 0) → (B → T → Type 0) → Either A B → S ⊎ T → Type 0
 at f g (node.First a) (inl s) = f a s

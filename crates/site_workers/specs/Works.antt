@@ -1,5 +1,5 @@
 -- What a worker does, by the entries that it adds.
-use Rattle.std.specs.Prelude.{◌≡◌, ◌≢◌, ℕ, zero, suc, ◌≤◌, Bool, true, false, List, [], ◌∷◌, ◌++◌, length, filter, Option, None, Some}
+use Rattle.std.specs.Prelude.{◌≡◌, ◌≢◌, ℕ, zero, suc, ◌+◌, ◌≤◌, Bool, true, false, List, [], ◌∷◌, ◌++◌, length, filter, Option, None, Some, Result, Ok, Err}
 use Rattle.std.specs.List.{list_any}
 use mathlib.Core.List.{IsPrefix}
 use Rattle.outside.specs.declared.store.DiskName.{DiskName}
@@ -30,6 +30,11 @@ pub record IsCaused {N : Type 0} (faults log_faults : N → ℕ) (node : N) (fau
   pub disk : (disk : DiskName) → fault ≡ Some (Disk disk) → 1 ≤ faults node
   pub read : fault ≡ Some Read → 1 ≤ log_faults node
 
+-- the fault that is told, if one is
+abbrev pub told : {T : Type 0} → Result T NodeFault → Option NodeFault
+told (Ok x) = None
+told (Err f) = Some f
+
 -- the node went down within its turn
 abbrev pub is_stop : Entry → Bool
 is_stop (Begin node input) = false
@@ -44,6 +49,21 @@ stop_count entries = length (filter is_stop entries)
 pub record HasMet {N : Type 0} (faults : N → ℕ) (node : N) (fault : Option NodeFault) (mine : List Entry) : Type 0 where
   pub stops : list_any is_stop mine ≡ true → 1 ≤ faults node
   pub ended : fault ≡ Some Stopped → stop_count mine ≡ 8
+
+-- how many stops a node met in a turn that isn't closed: two where a disk wasn't opened again
+abbrev pub open_stops : Option NodeFault → ℕ
+open_stops (Some (Disk disk)) = 2
+open_stops _ = 0
+
+module _ {N : Type 0} (stops_left : N → ℕ → Type 0) where
+  -- the stops that its entries have, those of its open turn, and those planned of calls to come are at most so many
+  abbrev pub HasAtMost : ℕ → N → Option NodeFault → List Entry → Type 0
+  HasAtMost most node fault mine = (left : ℕ) × stops_left node left × (left + stop_count mine + open_stops fault ≤ most)
+
+  -- From v to w it met planned stops alone; where none is planned it met no fault, and waits for no restart.
+  pub record KeepsPlan (faults : N → ℕ) (waits : N → Bool) (v : N) (before : Option NodeFault) (old : List Entry) (w : N) (after : Option NodeFault) (new : List Entry) : Type 0 where
+    pub most : (k : ℕ) → HasAtMost k v before old → HasAtMost k w after new
+    pub calm : HasAtMost 0 v before old → (faults w ≡ faults v) × (waits w ≡ waits v)
 
 -- what a contract sees of a worker
 pub record WorkerView (N : Type 0) : Type 0 where

@@ -16,6 +16,8 @@ pub enum Either<A: SiteNode, B: SiteNode> {
 impl<A: SiteNode, B: SiteNode> SiteNode for Either<A, B> {
     ghost tells = { A.tells && B.tells };
 
+    ghost planned = { A.planned && B.planned };
+
     ghost State = { A.State ⊎ B.State };
 
     ghost leads = { either.leads A.leads B.leads };
@@ -49,6 +51,8 @@ impl<A: SiteNode, B: SiteNode> SiteNode for Either<A, B> {
     ghost grown = { either.grown A.grown B.grown };
 
     ghost faults = { either.by A.faults B.faults };
+
+    ghost stops_left = { either.has A.stops_left B.stops_left };
 
     ghost log_faults = { either.by A.log_faults B.log_faults };
 

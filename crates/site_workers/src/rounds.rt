@@ -5,7 +5,7 @@ ghost use Rattle.bus_seat.specs.Views.{count, made_by};
 ghost use Rattle.air_bus.specs.Waiting.{is_dead};
 ghost use Rattle.bus_seat.specs.Seats.{fresh, fresh_to, fresh_seats, TakesPart};
 ghost use Rattle.site_workers.specs.Heard.{IsHeard};
-ghost use Rattle.site_workers.specs.Works.{WorkerView, HasMet};
+ghost use Rattle.site_workers.specs.Works.{WorkerView, HasMet, KeepsPlan};
 ghost use Rattle.site_workers.specs.Rounds.{WentOn, AllWentOn, Walked, WentFar, Rests, AreCaused, OneHasFault, HasFault};
 
 use crate::Worker;
@@ -71,6 +71,9 @@ pub fn run<R: Threads + Wait + Sync, N: SiteNode + Send + Drop, G: Gate>(
         WentFar N.leads N.phase_of N.stands N.number N.spends N.grown (slice_index_or nodes.items i a) (slice_index_or r.nodes.items i b)) }
     // It has as many disks as it had.
     ensures disks { IfOk result (λ r. (i : ℕ) (a : N) (b : _) → i < length nodes.items → N.disk_count (slice_index_or r.nodes.items i b).0 ≡ N.disk_count (slice_index_or nodes.items i a)) }
+    // And they have met the stops that are planned, and no others.
+    ensures plan { IsTrue N.planned → IfOk result (λ r. (i : ℕ) (a : N) (b : _) → i < length nodes.items →
+        KeepsPlan N.stops_left N.faults N.waits (slice_index_or nodes.items i a) None [] (slice_index_or r.nodes.items i b).0 (slice_index_or r.nodes.items i b).1 (made_by i r.air.history)) }
     // A node has a fault where not all are at rest. Its cause is met where it is one of disks or of a log.
     ensures fault { IfOk result (λ r. r.rest ≡ false → HasFault r.nodes.items) }
     ensures caused { IfOk result (λ r. AreCaused N.faults N.log_faults r.nodes.items) }
@@ -144,6 +147,8 @@ fn run_on<R: Threads + Wait + Sync, N: SiteNode + Send + Drop, G: Gate>(
     ensures grown { IsTrue N.tells → (i : ℕ) (a : N) (b : _) → i < length nodes.items →
         WentFar N.leads N.phase_of N.stands N.number N.spends N.grown (slice_index_or nodes.items i a) (slice_index_or result.nodes.items i b) }
     ensures disks { (i : ℕ) (a : N) (b : _) → i < length nodes.items → N.disk_count (slice_index_or result.nodes.items i b).0 ≡ N.disk_count (slice_index_or nodes.items i a) }
+    ensures plan { IsTrue N.planned → (i : ℕ) (a : N) (b : _) → i < length nodes.items →
+        KeepsPlan N.stops_left N.faults N.waits (slice_index_or nodes.items i a) None [] (slice_index_or result.nodes.items i b).0 (slice_index_or result.nodes.items i b).1 (made_by i result.air.history) }
     ensures fault { result.rest ≡ false → HasFault result.nodes.items }
     ensures caused { AreCaused N.faults N.log_faults result.nodes.items }
     ensures met { (i : ℕ) (b : _) → i < length nodes.items → HasMet N.faults (slice_index_or result.nodes.items i b).0 (slice_index_or result.nodes.items i b).1 (made_by i result.air.history) }
@@ -247,7 +252,7 @@ fn rounds_of<R: Threads + Wait + Sync, N: SiteNode + Send + Drop, G: Gate>(
     requires buses { All (λ (w : WorkerView N). w.seat.bus ≡ bus.now) workers.items }
     requires last { last.old.bus ≡ bus.now }
     ensures last { (last.new.bus ≡ last.old.bus) × (last.new.number ≡ last.old.number) }
-    ensures went { AllWentOn N.tells N.leads N.phase_of N.stands N.number N.spends N.grown N.disk_count workers.items result.0.items }
+    ensures went { AllWentOn N.tells N.leads N.phase_of N.stands N.number N.spends N.grown N.disk_count N.planned N.stops_left N.faults N.waits workers.items result.0.items }
     ensures rest { IsTrue result.1 → All (λ (w : WorkerView N). TakesPart w.seat → Rests N.number N.stands N.at_rest_as (w.node, w.fault) w.seat.mine) result.0.items }
     ensures fault { result.1 ≡ false → OneHasFault result.0.items }
 {
@@ -265,7 +270,7 @@ fn rounds<R: Threads + Wait + Sync, N: SiteNode + Send, G: Gate>(
     requires buses { All (λ (w : WorkerView N). w.seat.bus ≡ bus.now) workers.old }
     requires last { last.old.bus ≡ bus.now }
     ensures last { (last.new.bus ≡ last.old.bus) × (last.new.number ≡ last.old.number) }
-    ensures went { AllWentOn N.tells N.leads N.phase_of N.stands N.number N.spends N.grown N.disk_count workers.old workers.new }
+    ensures went { AllWentOn N.tells N.leads N.phase_of N.stands N.number N.spends N.grown N.disk_count N.planned N.stops_left N.faults N.waits workers.old workers.new }
     ensures rest { IsTrue result → All (λ (w : WorkerView N). TakesPart w.seat → Rests N.number N.stands N.at_rest_as (w.node, w.fault) w.seat.mine) workers.new }
     ensures fault { result ≡ false → OneHasFault workers.new }
 {
@@ -292,7 +297,7 @@ fn round<R: Threads + Wait + Sync, N: SiteNode + Send, G: Gate>(
     tick: bool,
 )
     requires { All (λ (w : WorkerView N). w.seat.bus ≡ bus.now) workers.old }
-    ensures { AllWentOn N.tells N.leads N.phase_of N.stands N.number N.spends N.grown N.disk_count workers.old workers.new }
+    ensures { AllWentOn N.tells N.leads N.phase_of N.stands N.number N.spends N.grown N.disk_count N.planned N.stops_left N.faults N.waits workers.old workers.new }
 {
     let threads = workers.len().max(1);
     bus.round().open();
@@ -302,7 +307,7 @@ fn round<R: Threads + Wait + Sync, N: SiteNode + Send, G: Gate>(
         threads,
         &|_, worker: &mut Worker<N>|
             requires { worker.old.seat.bus ≡ bus.now }
-            ensures { WentOn N.tells N.leads N.phase_of N.stands N.number N.spends N.grown N.disk_count worker.old worker.new }
+            ensures { WentOn N.tells N.leads N.phase_of N.stands N.number N.spends N.grown N.disk_count N.planned N.stops_left N.faults N.waits worker.old worker.new }
         { take_part(rt, bus, gate, worker, tick) },
     );
 }
@@ -316,7 +321,7 @@ fn take_part<R: Wait, N: SiteNode, G: Gate>(
     tick: bool,
 )
     requires { worker.old.seat.bus ≡ bus.now }
-    ensures { WentOn N.tells N.leads N.phase_of N.stands N.number N.spends N.grown N.disk_count worker.old worker.new }
+    ensures { WentOn N.tells N.leads N.phase_of N.stands N.number N.spends N.grown N.disk_count N.planned N.stops_left N.faults N.waits worker.old worker.new }
 {
     bus.round().enter();
     if tick {

@@ -6,7 +6,7 @@ ghost use Rattle.air_bus.specs.History.{phase};
 ghost use Rattle.bus_seat.specs.Seats.{TakesPart};
 ghost use Rattle.site_node.specs.declared.kind.NodeFault.TheVariants as node_fault;
 ghost use Rattle.site_node.specs.Faults.{IsWhole};
-ghost use Rattle.site_workers.specs.Works.{IsIdle, Closes, Grew, Reached, IsCaused, HasMet, stop_count};
+ghost use Rattle.site_workers.specs.Works.{IsIdle, Closes, Grew, Reached, IsCaused, HasMet, KeepsPlan, stop_count, told};
 
 use air_bus::Input;
 use bus_seat::{Bus, Seat};
@@ -58,7 +58,7 @@ enum Closed {
 
 impl<N: SiteNode> Worker<N> {
     ghost use Rattle.std.specs.Prelude.{◌≡◌, [], None, Some, IsTrue};
-    ghost use Rattle.site_workers.specs.Works.{LeadsOn, GrowsOn, Grew, IsCaused, HasMet};
+    ghost use Rattle.site_workers.specs.Works.{LeadsOn, GrowsOn, Grew, IsCaused, HasMet, KeepsPlan};
 
     /// A worker of a node that was just opened.
     pub fn new(node: N, number: u16, seat: Seat) -> Worker<N>
@@ -127,6 +127,7 @@ impl<N: SiteNode> Worker<N> {
         requires { self.old.seat.bus ≡ bus.now }
         ensures grew { Grew self.old.seat self.new.seat }
         ensures disks { N.disk_count self.new.node ≡ N.disk_count self.old.node }
+        ensures plan { IsTrue N.planned → KeepsPlan N.stops_left N.faults N.waits self.old.node self.old.fault self.old.seat.mine self.new.node self.new.fault self.new.seat.mine }
         ensures leads { IsTrue N.tells → LeadsOn N.leads N.phase_of N.stands N.number N.spends self.old.node self.old.fault self.old.seat.mine self.new.node self.new.fault self.new.seat.mine }
         ensures grows { IsTrue N.tells → GrowsOn N.leads N.phase_of N.stands N.number N.spends N.grown self.old.node self.old.fault self.old.seat.mine self.new.node }
     {
@@ -143,6 +144,7 @@ impl<N: SiteNode> Worker<N> {
         requires { self.old.seat.bus ≡ bus.now }
         ensures grew { Grew self.old.seat self.new.seat }
         ensures disks { N.disk_count self.new.node ≡ N.disk_count self.old.node }
+        ensures plan { IsTrue N.planned → KeepsPlan N.stops_left N.faults N.waits self.old.node self.old.fault self.old.seat.mine self.new.node self.new.fault self.new.seat.mine }
         ensures leads { IsTrue N.tells → LeadsOn N.leads N.phase_of N.stands N.number N.spends self.old.node self.old.fault self.old.seat.mine self.new.node self.new.fault self.new.seat.mine }
         ensures grows { IsTrue N.tells → GrowsOn N.leads N.phase_of N.stands N.number N.spends N.grown self.old.node self.old.fault self.old.seat.mine self.new.node }
     {
@@ -216,6 +218,7 @@ fn close<N: SiteNode, R: Wait, G: Gate>(
     ensures same { OnErr result (seat.new ≡ seat.old) }
     ensures ended { result ≡ Ok Closed.Ended → phase (N.number node.new) seat.new.mine ≡ Idle }
     ensures met { result ≡ Ok Closed.Stopped → 1 ≤ N.faults node.new }
+    ensures plan { IsTrue N.planned → KeepsPlan N.stops_left N.faults N.waits node.old None seat.old.mine node.new (told result) seat.new.mine }
     ensures caused { IfErr result (λ fault. IsCaused N.faults N.log_faults node.new (Some fault)) }
     ensures stops { HasMet N.faults node.old None seat.old.mine → HasMet N.faults node.new None seat.new.mine }
     ensures no_stop { result ≡ Ok Closed.Ended → stop_count seat.new.mine ≡ stop_count seat.old.mine }

@@ -25,6 +25,6 @@ returns g c =
       each = λ i d l.
           let at = (c.for_each_mut.ensures i d l).1 in
           let call = at.call in
-          let went : WentOn m.tells m.leads m.phase_of m.stands m.number m.spends m.grown m.disk_count at.argument.now at.after_call.now = search rules in
-          subst (λ (w : WorkerView g.row.N.Denot). WentOn m.tells m.leads m.phase_of m.stands m.number m.spends m.grown m.disk_count w (slice_index_or c.for_each_mut.new.s i d)) at.argument_is (subst (WentOn m.tells m.leads m.phase_of m.stands m.number m.spends m.grown m.disk_count at.argument.now) at.left went);
+          let went : WentOn m.tells m.leads m.phase_of m.stands m.number m.spends m.grown m.disk_count m.planned m.stops_left m.faults m.waits at.argument.now at.after_call.now = search rules in
+          subst (λ (w : WorkerView g.row.N.Denot). WentOn m.tells m.leads m.phase_of m.stands m.number m.spends m.grown m.disk_count m.planned m.stops_left m.faults m.waits w (slice_index_or c.for_each_mut.new.s i d)) at.argument_is (subst (WentOn m.tells m.leads m.phase_of m.stands m.number m.spends m.grown m.disk_count m.planned m.stops_left m.faults m.waits at.argument.now) at.left went);
     }

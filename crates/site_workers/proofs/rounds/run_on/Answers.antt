@@ -5,7 +5,7 @@ use Rattle.air_bus.specs.History.{Flight, IsAired}
 use Rattle.bus_seat.specs.Views.{flown}
 use Rattle.bus_seat.specs.Seats.{Sight, IsIn}
 use Rattle.site_workers.specs.Works.{WorkerView}
-use Rattle.site_workers.proofs.Going.{front_of, front_count, front_at, hired_buses, all_seats, seats_numbered, all_walked, all_grown, all_disks, has_fault, all_rested, all_met}
+use Rattle.site_workers.proofs.Going.{front_of, front_count, front_at, hired_buses, all_seats, seats_numbered, all_walked, all_grown, all_disks, all_planned, has_fault, all_rested, all_met}
 use Rattle.site_workers.proofs.rounds.run_on.Goals as goal
 
 pub hire-workers-requires-clause-count : goal.hire-workers-requires-clause-count
@@ -23,7 +23,7 @@ rounds_of-workers-requires-clause-buses g c κs lives i d l =
     let m = g.N.SiteNode in
     let front = front_of c.args.bus c.args.seats.items c.pop.new.self.items c.in-Some.last c.requires.seats c.in-Some.ensures.items in
     let ws = c.hire-workers.result.items in
-    hired_buses m.tells m.leads m.phase_of m.stands m.number m.spends m.grown m.disk_count c.args.bus c.args.nodes.items c.pop.new.self.items ws ws c.hire-workers.ensures.nodes c.hire-workers.ensures.seats front.0 i d l
+    hired_buses m.tells m.leads m.phase_of m.stands m.number m.spends m.grown m.disk_count m.planned m.stops_left m.faults m.waits c.args.bus c.args.nodes.items c.pop.new.self.items ws ws c.hire-workers.ensures.nodes c.hire-workers.ensures.seats front.0 i d l
 
 pub close-air-requires-clause-seats : goal.close-air-requires-clause-seats
 close-air-requires-clause-seats g c =
@@ -33,7 +33,7 @@ close-air-requires-clause-seats g c =
     let us = c.rounds_of-workers.result.0.items in
     let last = c.rounds_of-workers.new.last in
     let kept = c.rounds_of-workers.ensures.last in
-    all_seats m.tells m.leads m.phase_of m.stands m.number m.spends m.grown m.disk_count c.args.bus c.args.nodes.items c.pop.new.self.items ws us c.hire-workers.ensures.nodes c.hire-workers.ensures.seats front.0 c.rounds_of-workers.ensures.went
+    all_seats m.tells m.leads m.phase_of m.stands m.number m.spends m.grown m.disk_count m.planned m.stops_left m.faults m.waits c.args.bus c.args.nodes.items c.pop.new.self.items ws us c.hire-workers.ensures.nodes c.hire-workers.ensures.seats front.0 c.rounds_of-workers.ensures.went
     last c.push_reserved.new.self.items (kept.0 ∙ ap (λ (s : Sight). s.bus) front.1) (kept.1 ∙ ap (λ (s : Sight). s.number) front.1)
     (c.push_reserved.ensures.items ∙ ap (λ l. l ++ last ∷ []) c.dismiss.ensures.seats.0)
 
@@ -45,7 +45,7 @@ returns-clause-heard g c =
     let us = c.rounds_of-workers.result.0.items in
     let last = c.rounds_of-workers.new.last in
     let kept = c.rounds_of-workers.ensures.last in
-    let seats = all_seats m.tells m.leads m.phase_of m.stands m.number m.spends m.grown m.disk_count c.args.bus c.args.nodes.items c.pop.new.self.items ws us c.hire-workers.ensures.nodes c.hire-workers.ensures.seats front.0 c.rounds_of-workers.ensures.went
+    let seats = all_seats m.tells m.leads m.phase_of m.stands m.number m.spends m.grown m.disk_count m.planned m.stops_left m.faults m.waits c.args.bus c.args.nodes.items c.pop.new.self.items ws us c.hire-workers.ensures.nodes c.hire-workers.ensures.seats front.0 c.rounds_of-workers.ensures.went
     last c.push_reserved.new.self.items (kept.0 ∙ ap (λ (s : Sight). s.bus) front.1) (kept.1 ∙ ap (λ (s : Sight). s.number) front.1)
     (c.push_reserved.ensures.items ∙ ap (λ l. l ++ last ∷ []) c.dismiss.ensures.seats.0) in
     let air : c.close-air.result.0 ≡ flown c.args.bus.base c.close-air.result.0.history = c.close-air.ensures.air in
@@ -64,7 +64,7 @@ returns-clause-walked g c tells i a b l =
     let ws = c.hire-workers.result.items in
     let us = c.rounds_of-workers.result.0.items in
     let last = c.rounds_of-workers.new.last in
-    all_walked m.tells m.leads m.phase_of m.stands m.number m.spends m.grown m.disk_count c.args.bus c.args.nodes.items c.pop.new.self.items ws us c.hire-workers.ensures.nodes c.hire-workers.ensures.seats front.0 c.rounds_of-workers.ensures.went
+    all_walked m.tells m.leads m.phase_of m.stands m.number m.spends m.grown m.disk_count m.planned m.stops_left m.faults m.waits c.args.bus c.args.nodes.items c.pop.new.self.items ws us c.hire-workers.ensures.nodes c.hire-workers.ensures.seats front.0 c.rounds_of-workers.ensures.went
     last c.push_reserved.new.self.items c.close-air.result.0.history (c.push_reserved.ensures.items ∙ ap (λ l. l ++ last ∷ []) c.dismiss.ensures.seats.0) c.close-air.ensures.history
     c.hire-workers.ensures.faults c.dismiss.new.nodes.items c.dismiss.ensures.nodes tells i a b
     (omega (arith, l, ap length c.hire-workers.ensures.nodes, length-map ws (λ (w : WorkerView g.row.N.Denot). w.node)))
@@ -76,7 +76,7 @@ returns-clause-grown g c tells i a b l =
     let ws = c.hire-workers.result.items in
     let us = c.rounds_of-workers.result.0.items in
     let last = c.rounds_of-workers.new.last in
-    all_grown m.tells m.leads m.phase_of m.stands m.number m.spends m.grown m.disk_count c.args.bus c.args.nodes.items c.pop.new.self.items ws us c.hire-workers.ensures.nodes c.hire-workers.ensures.seats front.0 c.rounds_of-workers.ensures.went
+    all_grown m.tells m.leads m.phase_of m.stands m.number m.spends m.grown m.disk_count m.planned m.stops_left m.faults m.waits c.args.bus c.args.nodes.items c.pop.new.self.items ws us c.hire-workers.ensures.nodes c.hire-workers.ensures.seats front.0 c.rounds_of-workers.ensures.went
     last c.push_reserved.new.self.items c.close-air.result.0.history (c.push_reserved.ensures.items ∙ ap (λ l. l ++ last ∷ []) c.dismiss.ensures.seats.0) c.close-air.ensures.history
     c.hire-workers.ensures.faults c.dismiss.new.nodes.items c.dismiss.ensures.nodes tells i a b
     (omega (arith, l, ap length c.hire-workers.ensures.nodes, length-map ws (λ (w : WorkerView g.row.N.Denot). w.node)))
@@ -88,9 +88,21 @@ returns-clause-disks g c i a b l =
     let ws = c.hire-workers.result.items in
     let us = c.rounds_of-workers.result.0.items in
     let last = c.rounds_of-workers.new.last in
-    all_disks m.tells m.leads m.phase_of m.stands m.number m.spends m.grown m.disk_count c.args.bus c.args.nodes.items c.pop.new.self.items ws us c.hire-workers.ensures.nodes c.hire-workers.ensures.seats front.0 c.rounds_of-workers.ensures.went
+    all_disks m.tells m.leads m.phase_of m.stands m.number m.spends m.grown m.disk_count m.planned m.stops_left m.faults m.waits c.args.bus c.args.nodes.items c.pop.new.self.items ws us c.hire-workers.ensures.nodes c.hire-workers.ensures.seats front.0 c.rounds_of-workers.ensures.went
     last c.push_reserved.new.self.items c.close-air.result.0.history (c.push_reserved.ensures.items ∙ ap (λ l. l ++ last ∷ []) c.dismiss.ensures.seats.0) c.close-air.ensures.history
     c.hire-workers.ensures.faults c.dismiss.new.nodes.items c.dismiss.ensures.nodes i a b
+    (omega (arith, l, ap length c.hire-workers.ensures.nodes, length-map ws (λ (w : WorkerView g.row.N.Denot). w.node)))
+
+pub returns-clause-plan : goal.returns-clause-plan
+returns-clause-plan g c planned i a b l =
+    let m = g.N.SiteNode in
+    let front = front_of c.args.bus c.args.seats.items c.pop.new.self.items c.in-Some.last c.requires.seats c.in-Some.ensures.items in
+    let ws = c.hire-workers.result.items in
+    let us = c.rounds_of-workers.result.0.items in
+    let last = c.rounds_of-workers.new.last in
+    all_planned m.tells m.leads m.phase_of m.stands m.number m.spends m.grown m.disk_count m.planned m.stops_left m.faults m.waits c.args.bus c.args.nodes.items c.pop.new.self.items ws us c.hire-workers.ensures.nodes c.hire-workers.ensures.seats front.0 c.rounds_of-workers.ensures.went
+    last c.push_reserved.new.self.items c.close-air.result.0.history (c.push_reserved.ensures.items ∙ ap (λ l. l ++ last ∷ []) c.dismiss.ensures.seats.0) c.close-air.ensures.history
+    c.hire-workers.ensures.faults c.dismiss.new.nodes.items c.dismiss.ensures.nodes planned i a b
     (omega (arith, l, ap length c.hire-workers.ensures.nodes, length-map ws (λ (w : WorkerView g.row.N.Denot). w.node)))
 
 pub returns-clause-fault : goal.returns-clause-fault
@@ -100,7 +112,7 @@ returns-clause-fault g c down =
     let ws = c.hire-workers.result.items in
     let us = c.rounds_of-workers.result.0.items in
     let last = c.rounds_of-workers.new.last in
-    has_fault m.tells m.leads m.phase_of m.stands m.number m.spends m.grown m.disk_count c.args.bus c.args.nodes.items c.pop.new.self.items ws us c.hire-workers.ensures.nodes c.hire-workers.ensures.seats front.0 c.rounds_of-workers.ensures.went
+    has_fault m.tells m.leads m.phase_of m.stands m.number m.spends m.grown m.disk_count m.planned m.stops_left m.faults m.waits c.args.bus c.args.nodes.items c.pop.new.self.items ws us c.hire-workers.ensures.nodes c.hire-workers.ensures.seats front.0 c.rounds_of-workers.ensures.went
     last c.push_reserved.new.self.items c.close-air.result.0.history (c.push_reserved.ensures.items ∙ ap (λ l. l ++ last ∷ []) c.dismiss.ensures.seats.0) c.close-air.ensures.history
     c.hire-workers.ensures.faults c.dismiss.new.nodes.items c.dismiss.ensures.nodes (c.rounds_of-workers.ensures.fault down)
 
@@ -111,7 +123,7 @@ returns-clause-rest g c rests i b l alive =
     let ws = c.hire-workers.result.items in
     let us = c.rounds_of-workers.result.0.items in
     let last = c.rounds_of-workers.new.last in
-    all_rested m.tells m.leads m.phase_of m.stands m.number m.spends m.grown m.disk_count c.args.bus c.args.nodes.items c.pop.new.self.items ws us c.hire-workers.ensures.nodes c.hire-workers.ensures.seats front.0 c.rounds_of-workers.ensures.went
+    all_rested m.tells m.leads m.phase_of m.stands m.number m.spends m.grown m.disk_count m.planned m.stops_left m.faults m.waits c.args.bus c.args.nodes.items c.pop.new.self.items ws us c.hire-workers.ensures.nodes c.hire-workers.ensures.seats front.0 c.rounds_of-workers.ensures.went
     last c.push_reserved.new.self.items c.close-air.result.0.history (c.push_reserved.ensures.items ∙ ap (λ l. l ++ last ∷ []) c.dismiss.ensures.seats.0) c.close-air.ensures.history
     c.hire-workers.ensures.faults c.dismiss.new.nodes.items c.dismiss.ensures.nodes m.at_rest_as (c.rounds_of-workers.ensures.rest rests) i b
     (omega (arith, l, ap length c.hire-workers.ensures.nodes, length-map ws (λ (w : WorkerView g.row.N.Denot). w.node))) alive
@@ -123,7 +135,7 @@ returns-clause-met g c i b l =
     let ws = c.hire-workers.result.items in
     let us = c.rounds_of-workers.result.0.items in
     let last = c.rounds_of-workers.new.last in
-    all_met m.tells m.leads m.phase_of m.stands m.number m.spends m.grown m.disk_count c.args.bus c.args.nodes.items c.pop.new.self.items ws us c.hire-workers.ensures.nodes c.hire-workers.ensures.seats front.0 c.rounds_of-workers.ensures.went
+    all_met m.tells m.leads m.phase_of m.stands m.number m.spends m.grown m.disk_count m.planned m.stops_left m.faults m.waits c.args.bus c.args.nodes.items c.pop.new.self.items ws us c.hire-workers.ensures.nodes c.hire-workers.ensures.seats front.0 c.rounds_of-workers.ensures.went
     last c.push_reserved.new.self.items c.close-air.result.0.history (c.push_reserved.ensures.items ∙ ap (λ l. l ++ last ∷ []) c.dismiss.ensures.seats.0) c.close-air.ensures.history
     c.hire-workers.ensures.faults c.dismiss.new.nodes.items c.dismiss.ensures.nodes m.faults c.dismiss.ensures.met i b
     (omega (arith, l, ap length c.hire-workers.ensures.nodes, length-map ws (λ (w : WorkerView g.row.N.Denot). w.node)))

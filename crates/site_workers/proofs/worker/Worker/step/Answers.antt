@@ -1,11 +1,11 @@
-use Rattle.std.proofs.Common.{rules, ◌≡◌, ℕ, ◌+◌, [], Ok, Some, IfSome, arith, refl, sym, ap, ◌∙◌, subst}
+use Rattle.std.proofs.Common.{rules, ◌≡◌, ℕ, ◌+◌, [], Ok, None, Some, IfSome, arith, refl, sym, ap, ◌∙◌, subst}
 use Rattle.std.proofs.lemmas.List.{append-nil}
 use Rattle.air_bus.specs.declared.entry.Entry.TheVariants.{Begin}
 use Rattle.air_bus.specs.History.{phase}
 use Rattle.bus_seat.specs.Seats.{Begins}
-use Rattle.site_workers.specs.Works.{WorkerView, Grew, HasMet}
+use Rattle.site_workers.specs.Works.{WorkerView, Grew, HasMet, KeepsPlan, stop_count}
 use Rattle.site_node.specs.declared.kind.NodeFault.TheVariants.{Damaged, Spent, Memory}
-use Rattle.site_workers.proofs.Stepping.{none_of, next, grew, grew_then, given, not_open, leads_from, leads_one, leads_two, grows_from, no_fault, told_same, too_often_told, whole_told, counted_same, met_begun, eighth}
+use Rattle.site_workers.proofs.Stepping.{none_of, next, grew, grew_then, given, not_open, leads_from, leads_one, leads_two, grows_from, no_fault, told_same, too_often_told, whole_told, counted_same, met_begun, eighth, plan_from, plan_same, plan_begun, plan_told}
 use Rattle.site_workers.proofs.worker.Worker.step.Goals as goal
 
 pub returns-in-Ok-Ended-clause-leads : goal.returns-in-Ok-Ended-clause-leads
@@ -239,3 +239,58 @@ invariant_of-self-inside-in-Ok-Stopped g c =
       ended = λ is. let most = told.0 is in omega (arith, most, next, before.0, before.1, same, more);
     } in
     (search rules, (search rules, (search rules, (search rules, (λ up. let few = told.1 up in (omega (arith, next, before.0, same, more), few), (met, tt))))))
+
+pub returns-in-Ok-Ended-clause-plan : goal.returns-in-Ok-Ended-clause-plan
+returns-in-Ok-Ended-clause-plan g c planned =
+    let m = g.N.SiteNode in
+    let self = c.self.inside in
+    let s0 = self.seat in
+    let s1 = c.begin.new.seat in
+    let n = m.number self.node in
+    let i = c.in-Ok-Some.input in
+    let wants = c.wants-wants.result in
+    let did : IfSome s0.number (λ k. Begins k wants self.tick s0 (Some i) s1) = subst (λ o. IfSome s0.number (λ k. Begins k wants self.tick s0 o s1)) c.in-Ok-Some.field-0-is c.in-Ok-Some.ensures.did in
+    let same = counted_same s1.mine s0.mine (Begin n i) (grew n s0 s1 i wants self.tick self.whose did) refl in
+    let none = none_of self.fault c.is_some.result c.is_some.ensures c.if-is_some.false in
+    plan_from m.stops_left m.faults m.waits (record { node = self.node; seat = s0; fault = self.fault }) c.args.self.now c.close.new.node self.fault c.close.new.seat.mine c.self.view_is
+    (plan_begun m.stops_left m.faults m.waits self.node c.close.new.node self.fault self.fault s0.mine s1.mine c.close.new.seat.mine none same (subst (λ o. KeepsPlan m.stops_left m.faults m.waits self.node None s1.mine c.close.new.node o c.close.new.seat.mine) (sym none) (c.in-Ok-Ended.ensures.plan planned)))
+
+pub returns-in-Ok-Stopped-clause-plan : goal.returns-in-Ok-Stopped-clause-plan
+returns-in-Ok-Stopped-clause-plan g c planned =
+    let m = g.N.SiteNode in
+    let self = c.self.inside in
+    let s0 = self.seat in
+    let s1 = c.begin.new.seat in
+    let n = m.number self.node in
+    let i = c.in-Ok-Some.input in
+    let wants = c.wants-wants.result in
+    let did : IfSome s0.number (λ k. Begins k wants self.tick s0 (Some i) s1) = subst (λ o. IfSome s0.number (λ k. Begins k wants self.tick s0 o s1)) c.in-Ok-Some.field-0-is c.in-Ok-Some.ensures.did in
+    let same = counted_same s1.mine s0.mine (Begin n i) (grew n s0 s1 i wants self.tick self.whose did) refl in
+    let none = none_of self.fault c.is_some.result c.is_some.ensures c.if-is_some.false in
+    let told = c.too_often-self-inside.result in
+    plan_from m.stops_left m.faults m.waits (record { node = self.node; seat = s0; fault = self.fault }) c.args.self.now c.close.new.node told c.close.new.seat.mine c.self.view_is
+    (plan_begun m.stops_left m.faults m.waits self.node c.close.new.node self.fault told s0.mine s1.mine c.close.new.seat.mine none same (plan_told m.stops_left m.faults m.waits _ self.node c.close.new.node told s1.mine c.close.new.seat.mine c.too_often-self-inside.ensures (c.in-Ok-Stopped.ensures.plan planned)))
+
+pub returns-clause-plan : goal.returns-clause-plan
+returns-clause-plan g c planned =
+    let m = g.N.SiteNode in
+    let self = c.self.inside in
+    let s0 = self.seat in
+    let s1 = c.begin.new.seat in
+    let n = m.number self.node in
+    let i = c.in-Ok-Some.input in
+    let wants = c.wants-wants.result in
+    let did : IfSome s0.number (λ k. Begins k wants self.tick s0 (Some i) s1) = subst (λ o. IfSome s0.number (λ k. Begins k wants self.tick s0 o s1)) c.in-Ok-Some.field-0-is c.in-Ok-Some.ensures.did in
+    let same = counted_same s1.mine s0.mine (Begin n i) (grew n s0 s1 i wants self.tick self.whose did) refl in
+    let none = none_of self.fault c.is_some.result c.is_some.ensures c.if-is_some.false in
+    plan_from m.stops_left m.faults m.waits (record { node = self.node; seat = s0; fault = self.fault }) c.args.self.now c.close.new.node (Some c.in-Err-close.fault) c.close.new.seat.mine c.self.view_is
+    (plan_begun m.stops_left m.faults m.waits self.node c.close.new.node self.fault (Some c.in-Err-close.fault) s0.mine s1.mine c.close.new.seat.mine none same (c.in-Err-close.ensures.plan planned))
+
+pub returns-in-Err-clause-plan : goal.returns-in-Err-clause-plan
+returns-in-Err-clause-plan g c planned =
+    let m = g.N.SiteNode in
+    let self = c.self.inside in
+    let none = none_of self.fault c.is_some.result c.is_some.ensures c.if-is_some.false in
+    let same = ap stop_count c.in-Err.ensures.err.1 in
+    plan_from m.stops_left m.faults m.waits (record { node = self.node; seat = self.seat; fault = self.fault }) c.args.self.now self.node (Some Memory) c.begin.new.seat.mine c.self.view_is
+    (plan_begun m.stops_left m.faults m.waits self.node self.node self.fault (Some Memory) self.seat.mine c.begin.new.seat.mine c.begin.new.seat.mine none same (plan_same m.stops_left m.faults m.waits self.node None (Some Memory) c.begin.new.seat.mine c.begin.new.seat.mine refl))
