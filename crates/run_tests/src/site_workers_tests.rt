@@ -76,11 +76,13 @@ impl Puppet {
 }
 
 impl SiteNode for Puppet {
-    ghost use Rattle.std.specs.Prelude.{◌≡◌, true, None};
+    ghost use Rattle.std.specs.Prelude.{◌≡◌, true, false, None};
     ghost use Rattle.run_tests.specs.Puppets.{moves, begins_so, phases_so};
     ghost use Rattle.air_bus.specs.declared.entry.Phase.{Phase};
 
     ghost tells = { true };
+
+    ghost planned = { false };
 
     ghost State = { Phase };
 
@@ -115,6 +117,8 @@ impl SiteNode for Puppet {
     ghost grown = { λ old new. Unit {0} };
 
     ghost faults = { λ node. node.faults };
+
+    ghost stops_left = { λ node most. Unit {0} };
 
     ghost log_faults = { λ node. 0 };
 
