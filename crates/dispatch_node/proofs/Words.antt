@@ -3,7 +3,7 @@ pub use Rattle.air_bus.specs.declared.entry.Entry.TheVariants.{Begin, End, Stop}
 pub use Rattle.air_bus.specs.declared.entry.Input.{Input as Bytes}
 pub use Rattle.dispatch_core.proofs.Sets.{any_has, removed}
 pub use Rattle.dispatch_core.specs.Changes.{note_of, told}
-pub use Rattle.dispatch_core.specs.Standing.{AreClicksAt, Carries, IsKept, IsLineAt, IsLookedUp, IsOf, IsTurn, Stands, click_at, live_of, out_of}
+pub use Rattle.dispatch_core.specs.Standing.{AreClicksAt, Carries, IsKept, IsLineAt, IsLookedUp, IsTurn, Stands, click_at, live_of, out_of}
 pub use Rattle.dispatch_core.specs.declared.dispatch.DispatchCore.{DispatchCore}
 pub use Rattle.dispatch_core.specs.declared.input.TakenLine.{TakenLine}
 pub use Rattle.dispatch_core.specs.declared.turns.DispatchNote.{DispatchNote}
@@ -60,7 +60,9 @@ pub use Rattle.tail_reader.specs.Next.{IsNext}
 pub use Rattle.tail_reader.specs.declared.tail.Next.{Next}
 pub use Rattle.tail_reader.specs.declared.tail.Next.TheVariants.{Line, Long}
 pub use Rattle.turn_defs.specs.Dispatcher.{DispatcherKept, DispatcherLive, Fresh, advances, after_done, dispatcher_gets, dispatcher_joined, dispatcher_looks, dispatcher_own, dispatcher_start, dispatcher_turn, done_end, ends, first_done, has_room, land_dispatcher, mark, parks, retries, taken, takes, waits, with_room}
+pub use Rattle.turn_defs.specs.Configs.{IsOf}
 pub use Rattle.turn_defs.specs.Setting.{Setting}
+pub use Rattle.turn_defs.specs.declared.config.Config.{Config}
 pub use Rattle.turn_defs.specs.Turns.{Note, Out, idle, land}
 pub use Rattle.turn_defs.specs.declared.node.Input.{Input}
 pub use Rattle.turn_defs.specs.declared.node.Input.TheVariants.{Deliver, Own, Start, Tick}

@@ -9,11 +9,10 @@ use Rattle.turn_defs.specs.Setting.{Setting}
 use Rattle.turn_defs.specs.Turns.{Note}
 use Rattle.site_node.specs.Bytes.{record_of, AreSpelled, Reads}
 use Rattle.site_node.specs.States.{State, Rows, row, Leads}
-use Rattle.site_node.specs.declared.roster.Roster.{Roster}
-use Rattle.site_node.specs.Rosters as rosters
+use Rattle.turn_defs.specs.Configs.{IsOf}
 use Rattle.turn_defs.specs.Dispatcher.{DispatcherKept, DispatcherLive, dispatcher_start, dispatcher_turn, land_dispatcher}
 use Rattle.dispatch_core.specs.Changes.{told, note_of}
-use Rattle.dispatch_core.specs.Standing.{IsOf, Stands, CanKeep}
+use Rattle.dispatch_core.specs.Standing.{Stands, CanKeep}
 use Rattle.dispatch_core.specs.declared.dispatch.DispatchCore.{DispatchCore}
 use Rattle.dispatch_core.specs.declared.turns.DispatchNote.{DispatchNote}
 use Rattle.dispatch_core.specs.declared.turns.Turn.{Turn}
@@ -59,7 +58,6 @@ IsAsked (Some m) _ l = m ≡ l
 -- what a node is made of, but for the images of its disks
 pub record Parts : Type 0 where
   pub site : ℕ
-  pub roster : Roster
   pub core : DispatchCore
   pub log : List ℕ
   pub offset_state : JournalState
@@ -92,8 +90,7 @@ StandsBy (Some d) p oi ri s = Doubts oi ri d.0 s.node.kept s.node.setting × IsO
 pub record StandsAt (p : Parts) (offset_image retry_image : List ℕ → Type 0) (s : DispatcherState) : Type 0 where
   pub site : p.site ≡ s.site
   pub own_core : p.core.dealer.site ≡ p.site
-  pub core : IsOf s.node.setting p.core
-  pub setting : rosters.IsOf p.roster s.node.setting
+  pub setting : IsOf p.core.dealer.config s.node.setting
   pub log : IsLogOf p.log s.node.setting
   pub places : AreKeptPlaces s.node.setting s.node.kept
   pub by : StandsBy p.in_doubt p offset_image retry_image s

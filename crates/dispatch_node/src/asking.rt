@@ -3,9 +3,10 @@ ghost use Rattle.std.specs.Prelude.{◌≡◌, ◌≤◌, Option, true, IfOk, If
 ghost use Rattle.outside.specs.Faults.{Rose};
 ghost use Rattle.turn_defs.specs.declared.node.Input.TheVariants as asked;
 ghost use Rattle.turn_defs.specs.Setting.{Setting};
+ghost use Rattle.turn_defs.specs.Configs.{IsOf};
 ghost use Rattle.turn_defs.specs.Dispatcher.{DispatcherKept, DispatcherLive, dispatcher_looks};
 ghost use Rattle.dispatch_core.specs.Spelled.{IsTaken};
-ghost use Rattle.dispatch_core.specs.Standing.{Carries, IsOf, Stands, Takes};
+ghost use Rattle.dispatch_core.specs.Standing.{Carries, Stands, Takes};
 ghost use Rattle.dispatch_node.specs.Faults.{IsReadFault};
 ghost use Rattle.dispatch_node.specs.Kept.{kept_as};
 ghost use Rattle.dispatch_node.specs.Node.{IsAsked, Knows};
@@ -29,7 +30,7 @@ pub(crate) fn look_up<D: Disk, L: LogFile>(
     ensures taken { IfOk result IsTaken }
     ensures carries { IsTrue L.tells → (g : Setting) (k : DispatcherKept) (live : Option DispatcherLive) (l : DispatcherLive) →
         IsLogOf (L.bytes clicks.old.tail.log) g → kept_as journals.now.offset.value.offset journals.now.retry.value.pending.keys ≡ k →
-        IsOf g core.now → Knows g core.now k live → IsAsked live input l →
+        IsOf core.now.dealer.config g → Knows g core.now k live → IsAsked live input l →
         IfOk result (λ taken. Takes g core.now k l taken × Carries g k l taken input) }
     ensures same { IsTrue L.tells → L.bytes clicks.new.tail.log ≡ L.bytes clicks.old.tail.log }
     ensures fault { IfErr result IsReadFault }

@@ -11,9 +11,9 @@ use dispatch_core::{DispatchCore, DispatchNote, Turn};
 use offset_journal::OffsetJournal;
 use outside::{Disk, Gate, LogFile, Point};
 use retry_log::RetryLog;
-use site_node::{Done, NodeFault, Roster, SiteNode, read_input, spell};
+use site_node::{Done, NodeFault, SiteNode, read_input, spell};
 use std::alloc::Global;
-use turn_defs::Input;
+use turn_defs::{Config, Input};
 
 /// The dispatcher of a site over its offset journal, its retry log and the click log: down, up, or stopped in an open turn.
 ///
@@ -23,7 +23,6 @@ use turn_defs::Input;
 #[derive(Drop)]
 pub struct DispatchNode<D: Disk, L: LogFile> {
     site: u8,
-    roster: Roster,
     core: DispatchCore,
     journals: Journals<D>,
     clicks: Clicks<L>,
@@ -51,10 +50,10 @@ impl<D: Disk, L: LogFile> DispatchNode<D, L> {
     ghost use Rattle.offset_journal.specs.Offsets as offsets;
     ghost use Rattle.retry_log.specs.Pending as pending;
     ghost use Rattle.turn_defs.specs.Setting.{Setting};
-    ghost use Rattle.site_node.specs.Rosters as rosters;
+    ghost use Rattle.turn_defs.specs.Configs.{IsOf};
     ghost use Rattle.dispatch_core.specs.Changes.{told};
     ghost use Rattle.turn_defs.specs.Dispatcher.{DispatcherKept, DispatcherLive};
-    ghost use Rattle.dispatch_core.specs.Standing.{HasSameNumbers, IsOf, IsTurn, StandsAs, out_of};
+    ghost use Rattle.dispatch_core.specs.Standing.{HasSameNumbers, IsTurn, StandsAs, out_of};
     ghost use Rattle.dispatch_node.specs.Faults.{IsReadFault};
     ghost use Rattle.dispatch_node.specs.Kept.{kept_as, takes_or_none};
     ghost use Rattle.dispatch_node.specs.Places.{AreKeptPlaces, IsLogOf};
@@ -64,23 +63,22 @@ impl<D: Disk, L: LogFile> DispatchNode<D, L> {
     pub fn new(
         alloc: Global,
         site: u8,
-        roster: Roster,
+        config: Config,
         offset: OffsetJournal<D>,
         retry: RetryLog<D>,
         log: L,
     ) -> DispatchNode<D, L>
         requires site { site < 2 }
-        requires joiners { 0 < roster.joiners }
+        requires joiners { 0 < config.joiners }
         requires ready { (offset.journal.state ≡ Ready) × (retry.journal.state ≡ Ready) }
         ensures number { result.site ≡ site }
         ensures journals { (result.journals.offset ≡ offset) × (result.journals.retry ≡ retry) }
         ensures log { result.clicks.tail.log ≡ log }
         ensures up { result.in_doubt ≡ None }
-        ensures stands { (g : Setting) → rosters.IsOf roster g → g.replicas ≡ 3 → IsLogOf (L.bytes log) g →
+        ensures stands { (g : Setting) → IsOf config g → IsLogOf (L.bytes log) g →
             AreKeptPlaces g (kept_as offset.value.offset retry.value.pending.keys) →
             StandsAt (record {
               site = result.site;
-              roster = result.roster;
               core = result.core;
               log = L.bytes result.clicks.tail.log;
               offset_state = result.journals.offset.journal.state;
@@ -94,8 +92,7 @@ impl<D: Disk, L: LogFile> DispatchNode<D, L> {
     {
         DispatchNode {
             site,
-            roster,
-            core: DispatchCore::new(alloc, site, roster.joiners),
+            core: DispatchCore::new(alloc, site, config),
             journals: Journals {
                 offset,
                 retry,
@@ -115,7 +112,6 @@ impl<D: Disk, L: LogFile> DispatchNode<D, L> {
     {
         let DispatchNode {
             site: _,
-            roster: _,
             core: _,
             journals,
             clicks,
@@ -129,7 +125,7 @@ impl<D: Disk, L: LogFile> DispatchNode<D, L> {
     // Looks up what the turn takes, decides it, spells its packets and its note, and makes the disk's room. Nothing changes
     // but room and what was read ahead of the log.
     fn prepare(&mut self, input: Input) -> Result<ReadyTurn, NodeFault>
-        ensures same { (self.new.site ≡ self.old.site) × (self.new.roster ≡ self.old.roster) × (self.new.in_doubt ≡ self.old.in_doubt) }
+        ensures same { (self.new.site ≡ self.old.site) × (self.new.in_doubt ≡ self.old.in_doubt) }
         ensures numbers { HasSameNumbers self.old.core self.new.core }
         ensures core { StandsAs self.old.core self.new.core }
         ensures log { IsTrue L.tells → L.bytes self.new.clicks.tail.log ≡ L.bytes self.old.clicks.tail.log }
@@ -139,7 +135,7 @@ impl<D: Disk, L: LogFile> DispatchNode<D, L> {
         ensures turn { IsTrue L.tells → (g : Setting) (k : DispatcherKept) (live : Option DispatcherLive) (l : DispatcherLive) →
             IsLogOf (L.bytes self.old.clicks.tail.log) g →
             kept_as self.old.journals.offset.value.offset self.old.journals.retry.value.pending.keys ≡ k →
-            IsOf g self.old.core → Knows g self.old.core k live → IsAsked live input l →
+            IsOf self.old.core.dealer.config g → Knows g self.old.core k live → IsAsked live input l →
             IfOk result (λ r. IsTurn g self.new.core k l r.turn (out_of g self.old.core.dealer.site k l input)) }
         ensures takes { IfOk result (λ r. IsTakenBy
             (kept_as self.new.journals.offset.value.offset self.new.journals.retry.value.pending.keys) r.written) }
@@ -200,7 +196,7 @@ impl<D: Disk, L: LogFile> DispatchNode<D, L> {
             (D.calls_left self.old.journals.offset.journal.disk) (D.bytes_left self.old.journals.offset.journal.disk)
             (D.calls_left self.old.journals.retry.journal.disk) (D.bytes_left self.old.journals.retry.journal.disk)
             (spare self.old.journals.retry.value.pending) }
-        ensures same { (self.new.site ≡ self.old.site) × (self.new.roster ≡ self.old.roster) × (self.new.clicks ≡ self.old.clicks)
+        ensures same { (self.new.site ≡ self.old.site) × (self.new.clicks ≡ self.old.clicks)
             × (self.new.core ≡ self.old.core) }
         ensures up { OnOk result (self.new.in_doubt ≡ None) }
         ensures doubt { OnErr result ((self.new.in_doubt ≡ written) × (is_some written ≡ true)) }
@@ -273,7 +269,6 @@ impl<D: Disk, L: LogFile> SiteNode for DispatchNode<D, L> {
 
     ghost stands = { λ node s. StandsAt (record {
       site = node.site;
-      roster = node.roster;
       core = node.core;
       log = L.bytes node.clicks.tail.log;
       offset_state = node.journals.offset.journal.state;
@@ -317,7 +312,7 @@ impl<D: Disk, L: LogFile> SiteNode for DispatchNode<D, L> {
     }
 
     fn turn<G: Gate>(&mut self, input: &Begun, gate: &G) -> Result<Done, NodeFault> {
-        match read_input(self.alloc, self.roster, input)? {
+        match read_input(self.alloc, self.core.config(), input)? {
             None => Ok(Done {
                 note: None,
                 packets: Packets::new(self.alloc),

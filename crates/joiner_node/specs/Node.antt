@@ -12,8 +12,8 @@ use Rattle.turn_defs.specs.Nodes.{Addressed}
 use Rattle.turn_defs.specs.Turns.{Out}
 use Rattle.site_node.specs.Bytes.{AreSpelled, Reads}
 use Rattle.site_node.specs.States.{State, Leads, MayHold, row, state_phase}
-use Rattle.site_node.specs.declared.roster.Roster.{Roster}
-use Rattle.site_node.specs.Rosters.{IsOf}
+use Rattle.turn_defs.specs.declared.config.Config.{Config}
+use Rattle.turn_defs.specs.Configs.{IsOf}
 use Rattle.turn_defs.specs.Joiner.{JoinerKept, JoinerLive}
 use Rattle.joiner_core.specs.Standing.{Serves, Leads as CoreLeads, note_of}
 use Rattle.joiner_core.specs.declared.turn.JoinerNote.{JoinerNote}
@@ -67,7 +67,7 @@ pub record IsOpenAt (d : Doubt) (epoch_image pairs_image : List ℕ → Type 0) 
 -- what a joiner is made of, but for the images of its disks
 pub record Parts : Type 0 where
   pub number : ℕ
-  pub roster : Roster
+  pub config : Config
   pub core : JoinerCore
   pub up : Bool
   pub log : List ℕ
@@ -83,7 +83,7 @@ StandsBy (Some d) p epoch_image pairs_image s = IsOpenAt d epoch_image pairs_ima
 
 -- the node, of these parts, stands at the state
 pub record StandsAt (p : Parts) (epoch_image pairs_image : List ℕ → Type 0) (s : JoinerState) : Type 0 where
-  pub setting : IsOf p.roster s.node.setting
+  pub setting : IsOf p.config s.node.setting
   pub number_is : s.number ≡ p.number
   pub serves : Serves p.core s.node.setting s.number
   pub reads : HasRead p.log p.place s.node.setting.queries

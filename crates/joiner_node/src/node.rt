@@ -2,7 +2,7 @@
 ghost use Rattle.std.specs.Prelude.{◌≡◌, ◌<◌, ◌+◌, ◌*◌};
 ghost use Rattle.ballot_core.specs.declared.TheConstants.{LAST_EPOCH};
 ghost use Rattle.turn_defs.specs.Setting.{Setting, site_of_joiner};
-ghost use Rattle.site_node.specs.Rosters.{IsOf};
+ghost use Rattle.turn_defs.specs.Configs.{IsOf};
 
 use crate::disks::Disks;
 use crate::joining::Joining;
@@ -12,9 +12,9 @@ use epoch_journal::EpochJournal;
 use joiner_core::Turn;
 use output_log::OutputLog;
 use outside::{Disk, Gate, LogFile, Point};
-use site_node::{Done, NodeFault, Roster, SiteNode, read_input, spell};
+use site_node::{Done, NodeFault, SiteNode, read_input, spell};
 use std::alloc::{AllocError, Global};
-use turn_defs::Input;
+use turn_defs::{Config, Input};
 
 /// A joiner over its epoch journal, the log of the pairs that it wrote, and the query log: down, up, or stopped in an
 /// open turn.
@@ -25,7 +25,7 @@ use turn_defs::Input;
 #[derive(Drop)]
 pub struct JoinerNode<L: LogFile, D: Disk> {
     number: u16,
-    roster: Roster,
+    config: Config,
     joining: Joining<L>,
     disks: Disks<D>,
     alloc: Global,
@@ -50,7 +50,7 @@ impl<L: LogFile, D: Disk> JoinerNode<L, D> {
     ghost use Rattle.turn_defs.specs.declared.node.Input.TheVariants.{Start};
     ghost use Rattle.turn_defs.specs.Setting.{Setting};
     ghost use Rattle.site_node.specs.Bytes.{IsInput};
-    ghost use Rattle.site_node.specs.Rosters.{IsOf};
+    ghost use Rattle.turn_defs.specs.Configs.{IsOf};
     ghost use Rattle.turn_defs.specs.Joiner.{JoinerKept, JoinerLive};
     ghost use Rattle.joiner_core.specs.Standing.{Serves, IsSame, Fits, Leads};
     ghost use Rattle.joiner_core.specs.declared.turn.JoinerNote.{JoinerNote};
@@ -66,27 +66,27 @@ impl<L: LogFile, D: Disk> JoinerNode<L, D> {
         alloc: Global,
         site: u8,
         joiner: u8,
-        roster: Roster,
+        config: Config,
         epochs: EpochJournal<D>,
         log: OutputLog<D>,
         queries: L,
     ) -> Result<JoinerNode<L, D>, (AllocError, EpochJournal<D>, OutputLog<D>, L)>
         requires site { site < 2 }
-        requires joiner { joiner < roster.joiners }
+        requires joiner { joiner < config.joiners }
         requires ready { (epochs.journal.state ≡ Ready) × (log.journal.state ≡ Ready) }
-        ensures number { IfOk result (λ node. node.number ≡ 4 + roster.replicas + site * roster.joiners + joiner) }
+        ensures number { IfOk result (λ node. node.number ≡ 4 + config.replicas + site * config.joiners + joiner) }
         ensures disks { IfOk result (λ node. (node.disks.epochs ≡ epochs) × (node.disks.log ≡ log)) }
         ensures log { IfOk result (λ node. node.joining.queries.store.tail.log ≡ queries) }
         ensures up { IfOk result (λ node. node.disks.in_doubt ≡ None) }
-        ensures stands { IsTrue D.tells → (g : Setting) (k : JoinerKept) → IsOf roster g → IsQueryLog (L.bytes queries) g.queries → epochs.value.epoch ≡ k.epoch → log.value.pairs.items ≡ k.pairs →
-            IfOk result (λ node. StandsAt (record { number = node.number; roster = node.roster; core = node.joining.core; up = node.joining.up; log = L.bytes node.joining.queries.store.tail.log; place = node.joining.queries.store.tail.place; in_doubt = node.disks.in_doubt; epoch = node.disks.epochs.value.epoch; written = node.disks.log.value.pairs.items }) (D.image node.disks.epochs.journal.disk) (D.image node.disks.log.journal.disk) (down_over node.number g k)) }
+        ensures stands { IsTrue D.tells → (g : Setting) (k : JoinerKept) → IsOf config g → IsQueryLog (L.bytes queries) g.queries → epochs.value.epoch ≡ k.epoch → log.value.pairs.items ≡ k.pairs →
+            IfOk result (λ node. StandsAt (record { number = node.number; config = node.config; core = node.joining.core; up = node.joining.up; log = L.bytes node.joining.queries.store.tail.log; place = node.joining.queries.store.tail.place; in_doubt = node.disks.in_doubt; epoch = node.disks.epochs.value.epoch; written = node.disks.log.value.pairs.items }) (D.image node.disks.epochs.journal.disk) (D.image node.disks.log.journal.disk) (down_over node.number g k)) }
         ensures err { IfErr result (λ e. (e.1 ≡ epochs) × (e.2 ≡ log) × (e.3 ≡ queries)) }
     {
-        let number = joiner_number(roster, site, joiner);
+        let number = joiner_number(config, site, joiner);
         match Joining::new(alloc, number, site, queries) {
             Ok(joining) => Ok(JoinerNode {
                 number,
-                roster,
+                config,
                 joining,
                 disks: Disks::new(alloc, site, joiner, epochs, log),
                 alloc,
@@ -103,7 +103,7 @@ impl<L: LogFile, D: Disk> JoinerNode<L, D> {
     {
         let JoinerNode {
             number: _,
-            roster: _,
+            config: _,
             joining,
             disks,
             alloc: _,
@@ -116,7 +116,7 @@ impl<L: LogFile, D: Disk> JoinerNode<L, D> {
     // much of the log was read.
     fn prepare(&mut self, input: Input) -> Result<ReadyTurn, NodeFault>
         requires { IsInput input }
-        ensures same { (self.new.number ≡ self.old.number) × (self.new.roster ≡ self.old.roster) × (self.new.joining.up ≡ self.old.joining.up) × (self.new.disks.in_doubt ≡ self.old.disks.in_doubt) }
+        ensures same { (self.new.number ≡ self.old.number) × (self.new.config ≡ self.old.config) × (self.new.joining.up ≡ self.old.joining.up) × (self.new.disks.in_doubt ≡ self.old.disks.in_doubt) }
         ensures core { IsSame self.old.joining.core self.new.joining.core }
         ensures reads { IsTrue L.tells → (qs : List Query) → HasRead (L.bytes self.old.joining.queries.store.tail.log) self.old.joining.queries.store.tail.place qs → HasRead (L.bytes self.new.joining.queries.store.tail.log) self.new.joining.queries.store.tail.place qs }
         ensures epoch { self.new.disks.epochs.value.epoch ≡ self.old.disks.epochs.value.epoch }
@@ -158,7 +158,7 @@ impl<L: LogFile, D: Disk> JoinerNode<L, D> {
         requires own { IsOwn ready.writes }
         requires unspent { IsUnspent ready.writes self.old.disks.epochs.value.epoch }
         requires room { IsRoomFor ready.writes (record { epoch_calls = D.calls_left self.old.disks.epochs.journal.disk; epoch_bytes = D.bytes_left self.old.disks.epochs.journal.disk; pair_calls = D.calls_left self.old.disks.log.journal.disk; pair_bytes = D.bytes_left self.old.disks.log.journal.disk; places = vec_capacity self.old.disks.log.value.pairs }) (vec_len self.old.disks.log.value.pairs) }
-        ensures same { (self.new.number ≡ self.old.number) × (self.new.roster ≡ self.old.roster) × (self.new.joining.queries ≡ self.old.joining.queries) }
+        ensures same { (self.new.number ≡ self.old.number) × (self.new.config ≡ self.old.config) × (self.new.joining.queries ≡ self.old.joining.queries) }
         ensures core { OnErr result (self.new.joining ≡ self.old.joining) }
         ensures up { OnOk result (self.new.disks.in_doubt ≡ None) }
         ensures stopped { OnErr result (is_some self.new.disks.in_doubt ≡ true) }
@@ -188,14 +188,14 @@ impl<L: LogFile, D: Disk> JoinerNode<L, D> {
 }
 
 // The number of a joiner of a site, by its place there.
-fn joiner_number(roster: Roster, site: u8, joiner: u8) -> u16
+fn joiner_number(config: Config, site: u8, joiner: u8) -> u16
     requires site { site < 2 }
-    requires joiner { joiner < roster.joiners }
-    ensures number { result ≡ 4 + roster.replicas + site * roster.joiners + joiner }
-    ensures site { (g : Setting) → IsOf roster g → site ≡ site_of_joiner g result }
+    requires joiner { joiner < config.joiners }
+    ensures number { result ≡ 4 + config.replicas + site * config.joiners + joiner }
+    ensures site { (g : Setting) → IsOf config g → site ≡ site_of_joiner g result }
 {
-    let first = 4 + u16::from(roster.replicas);
-    first + u16::from(site) * u16::from(roster.joiners) + u16::from(joiner)
+    let first = 4 + u16::from(config.replicas);
+    first + u16::from(site) * u16::from(config.joiners) + u16::from(joiner)
 }
 
 impl<L: LogFile, D: Disk> SiteNode for JoinerNode<L, D> {
@@ -233,7 +233,7 @@ impl<L: LogFile, D: Disk> SiteNode for JoinerNode<L, D> {
 
     ghost waits = { λ node. is_some node.disks.in_doubt };
 
-    ghost stands = { λ node s. StandsAt (record { number = node.number; roster = node.roster; core = node.joining.core; up = node.joining.up; log = L.bytes node.joining.queries.store.tail.log; place = node.joining.queries.store.tail.place; in_doubt = node.disks.in_doubt; epoch = node.disks.epochs.value.epoch; written = node.disks.log.value.pairs.items }) (D.image node.disks.epochs.journal.disk) (D.image node.disks.log.journal.disk) s };
+    ghost stands = { λ node s. StandsAt (record { number = node.number; config = node.config; core = node.joining.core; up = node.joining.up; log = L.bytes node.joining.queries.store.tail.log; place = node.joining.queries.store.tail.place; in_doubt = node.disks.in_doubt; epoch = node.disks.epochs.value.epoch; written = node.disks.log.value.pairs.items }) (D.image node.disks.epochs.journal.disk) (D.image node.disks.log.journal.disk) s };
 
     ghost image = { λ node c. D.image node.disks.epochs.journal.disk c.0 × D.image node.disks.log.journal.disk c.1 };
 
@@ -264,7 +264,7 @@ impl<L: LogFile, D: Disk> SiteNode for JoinerNode<L, D> {
     }
 
     fn turn<G: Gate>(&mut self, input: &Begun, gate: &G) -> Result<Done, NodeFault> {
-        match read_input(self.alloc, self.roster, input)? {
+        match read_input(self.alloc, self.config, input)? {
             None => Ok(Done {
                 note: None,
                 packets: Packets::new(self.alloc),

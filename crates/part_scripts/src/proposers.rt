@@ -1,13 +1,13 @@
 // A proposal of Paxos.
 use ballot_core::Ballot;
-use paxos_proposer::Proposer;
+use paxos_proposer::{MOST_REPLICAS, Proposer};
 use registry_state::Batch;
 use script_lines::texts::{ballot, batch, told_batch};
-use script_lines::{Part, Stop, Words};
+use script_lines::{Part, Stop, Words, number_of};
 use std::alloc::Global;
 
-/// `start SLOT BALLOT BATCH`; `promise FROM BALLOT`, with a prior `PRIOR-BALLOT BATCH` behind it or without: the value to send, if
-/// it makes the majority; `accepted FROM BALLOT`: whether it makes the majority. Both are counted at once. `nack BALLOT BALLOT`,
+/// `start SLOT BALLOT BATCH`, with the number of replicas behind it or without, which are three then; `promise FROM BALLOT`, with a
+/// prior `PRIOR-BALLOT BATCH` behind it or without: the value to send, if it makes the majority; `accepted FROM BALLOT`: whether it makes the majority. Both are counted at once. `nack BALLOT BALLOT`,
 /// `value`, `phase`.
 #[derive(Drop)]
 pub struct Proposers {
@@ -29,10 +29,9 @@ impl Part for Proposers {
     ) -> Result<String, Stop> {
         let command = words.word()?;
         if command == "start" {
-            let slot = words.number()?;
-            let ballot = ballot(words.word()?)?;
-            let own = batch(alloc, words.word()?)?;
-            self.proposer = Some(Proposer::start(slot, ballot, own));
+            let proposer = start(alloc, words)?;
+            let slot = proposer.slot();
+            self.proposer = Some(proposer);
             return Ok(format!(in alloc; "slot {slot}")?);
         }
         match &mut self.proposer {
@@ -40,6 +39,20 @@ impl Part for Proposers {
             None => Err(Stop::Words),
         }
     }
+}
+
+fn start(alloc: Global, words: &mut Words<'_>) -> Result<Proposer, Stop> {
+    let slot = words.number()?;
+    let ballot = ballot(words.word()?)?;
+    let own = batch(alloc, words.word()?)?;
+    let replicas = match words.left.next() {
+        Some(word) => number_of(word)?,
+        None => 3,
+    };
+    if replicas > MOST_REPLICAS {
+        return Err(Stop::Words);
+    }
+    Ok(Proposer::start(replicas, slot, ballot, own))
 }
 
 fn asked(

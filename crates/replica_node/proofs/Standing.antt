@@ -1,7 +1,7 @@
 -- What a replica over its disk stands for.
 use Rattle.std.proofs.Common.{◌≡◌, ◌⊎◌, inl, inr, ⊎_elim, ℕ, ◌+◌, ◌-◌, ◌^◌, ◌≤◌, min, Bool, true, false, List, [], ◌∷◌, ◌++◌, length, Option, Some, None, refl, sym, ap, ◌∙◌, subst, arith, length-append}
 use Rattle.std.specs.Prelude.{All, map, is_some, option_map, Result, Ok}
-use Rattle.replica_node.proofs.Words.{result_unwrap_or, map-append, All-head, All-tail, All-nil, All-cons, Each, Only, ReplicaNote, note_view, note, IsNote, records, StandsFor, IsOldOrNew, IsOpened, JournalState, Ready, Bytes, Input, Start, Setting, BallotNote, Note, Advance, Park, Settle, Epoch, Output, Voted, land, record_of, Reads, IsJunk, MayTake, Roster, IsOf, ReplicaKept, land_replica, noted, kept_of, VoterView, KnowsAs, Fits, counted, recorded, Holds, OnDiskOr, IsRecord, StandsAt, ReplicaState, IsVoted, vote_record, records_of, IsOfNotes, IsRowNote, views_ok}
+use Rattle.replica_node.proofs.Words.{result_unwrap_or, map-append, All-head, All-tail, All-nil, All-cons, Each, Only, ReplicaNote, note_view, note, IsNote, records, StandsFor, IsOldOrNew, IsOpened, JournalState, Ready, Bytes, Input, Start, Setting, BallotNote, Note, Advance, Park, Settle, Epoch, Output, Voted, land, record_of, Reads, IsJunk, MayTake, Config, IsOf, ReplicaKept, land_replica, noted, kept_of, VoterView, KnowsAs, Fits, counted, recorded, Holds, OnDiskOr, IsRecord, StandsAt, ReplicaState, IsVoted, vote_record, records_of, IsOfNotes, IsRowNote, views_ok}
 use Rattle.paxos_defs.specs.Notes.Note.{Promised, Accepted}
 use Rattle.paxos_acceptor.specs.declared.notes.ReplicaNote.TheVariants as replica
 use Rattle.air_bus.specs.declared.entry.Input.TheVariants as bytes
@@ -61,10 +61,10 @@ knows_by : (u : Bool) (v : VoterView) (k : ReplicaKept) → u ≡ false → kept
 knows_by true v k e is = absurd (cc e)
 knows_by false v k e is = is
 
-pub down_stands : (roster : Roster) (count : ℕ) (seen : List ℕ) (image : List ℕ → Type 0) (state : JournalState) (voter : VoterView) (notes : List ReplicaNote) (k : ReplicaKept) (g : Setting) → IsOf roster g → All IsNote notes → kept_of notes ≡ k → state ≡ Ready
-    → StandsFor (map note notes) seen → Only seen image → count ≡ length notes → count ≤ 2 ^ 64 - 1 → voter.up ≡ false → voter.notes ≡ notes → StandsAt roster None count seen image state voter (record { setting = g; kept = k; live = None; opened = None })
-down_stands roster count seen image state voter notes k g of_g all is ready reads only counts fits down has =
-    subst (λ (x : ReplicaKept). StandsAt roster None count seen image state voter (record { setting = g; kept = x; live = None; opened = None })) is
+pub down_stands : (config : Config) (count : ℕ) (seen : List ℕ) (image : List ℕ → Type 0) (state : JournalState) (voter : VoterView) (notes : List ReplicaNote) (k : ReplicaKept) (g : Setting) → IsOf config g → All IsNote notes → kept_of notes ≡ k → state ≡ Ready
+    → StandsFor (map note notes) seen → Only seen image → count ≡ length notes → count ≤ 2 ^ 64 - 1 → voter.up ≡ false → voter.notes ≡ notes → StandsAt config None count seen image state voter (record { setting = g; kept = k; live = None; opened = None })
+down_stands config count seen image state voter notes k g of_g all is ready reads only counts fits down has =
+    subst (λ (x : ReplicaKept). StandsAt config None count seen image state voter (record { setting = g; kept = x; live = None; opened = None })) is
     (record {
       setting = of_g;
       spelled = views_ok notes all;
@@ -208,12 +208,12 @@ pub of_notes : (k : ReplicaKept) (c : List ℕ) → Each IsVoted k.notes → Sta
 of_notes k c each stands = (map un_view k.notes, (un_all k.notes each, subst (λ (rs : List (List ℕ)). StandsFor rs c) (un_records k.notes) stands))
 
 -- a node with no note in doubt stands at each state of this setting, these notes and this knowledge
-pub moved : (roster : Roster) (doubt : Option (List ℕ)) (kept : ℕ) (seen : List ℕ) (image : List ℕ → Type 0) (state : JournalState) (voter : VoterView) (s : ReplicaState) (o : Option Bytes) → doubt ≡ None → StandsAt roster doubt kept seen image state voter s
-    → StandsAt roster doubt kept seen image state voter (record { setting = s.setting; kept = s.kept; live = s.live; opened = o })
-moved roster None kept seen image state voter s o none at = record { setting = at.setting; spelled = at.spelled; by = at.by }
-moved roster (Some r) kept seen image state voter s o none at = absurd (cc none)
+pub moved : (config : Config) (doubt : Option (List ℕ)) (kept : ℕ) (seen : List ℕ) (image : List ℕ → Type 0) (state : JournalState) (voter : VoterView) (s : ReplicaState) (o : Option Bytes) → doubt ≡ None → StandsAt config doubt kept seen image state voter s
+    → StandsAt config doubt kept seen image state voter (record { setting = s.setting; kept = s.kept; live = s.live; opened = o })
+moved config None kept seen image state voter s o none at = record { setting = at.setting; spelled = at.spelled; by = at.by }
+moved config (Some r) kept seen image state voter s o none at = absurd (cc none)
 
-pub quiet : (roster : Roster) (doubt : Option (List ℕ)) (kept : ℕ) (seen : List ℕ) (image : List ℕ → Type 0) (state : JournalState) (voter : VoterView) (s : ReplicaState) → doubt ≡ None → StandsAt roster doubt kept seen image state voter s
+pub quiet : (config : Config) (doubt : Option (List ℕ)) (kept : ℕ) (seen : List ℕ) (image : List ℕ → Type 0) (state : JournalState) (voter : VoterView) (s : ReplicaState) → doubt ≡ None → StandsAt config doubt kept seen image state voter s
     → Holds kept seen image state s.kept × Knows voter s.kept s.live
-quiet roster None kept seen image state voter s none at = at.by
-quiet roster (Some r) kept seen image state voter s none at = absurd (cc none)
+quiet config None kept seen image state voter s none at = at.by
+quiet config (Some r) kept seen image state voter s none at = absurd (cc none)

@@ -32,9 +32,9 @@ pub use Rattle.replica_node.specs.declared.turn.Turn.{Turn}
 pub use Rattle.site_node.proofs.Replicas.{IsRowNote, each_push, gets_ok, input_ok, row_landed_ok, row_ok, views_ok}
 pub use Rattle.site_node.specs.Bytes.{AreSpelled, IsInput, IsJunk, Reads, record_of}
 pub use Rattle.site_node.specs.Replicas.{IsVoted, KeptOn, OnDisk, ReplicaState, kept_of, records_of, replica_rows, vote_record}
-pub use Rattle.site_node.specs.Rosters.{IsOf}
+pub use Rattle.turn_defs.specs.Configs.{IsOf}
 pub use Rattle.site_node.specs.States.{Leads, MayTake, Stops, closes, opens, row, written}
-pub use Rattle.site_node.specs.declared.roster.Roster.{Roster}
+pub use Rattle.turn_defs.specs.declared.config.Config.{Config}
 pub use Rattle.std.proofs.lemmas.List.{append-nil, map-append, take_all, take_more}
 pub use Rattle.std.proofs.lemmas.List.Elements.{All-cons, All-head, All-nil, All-push, All-same, All-tail}
 pub use Rattle.std.proofs.lemmas.Result.{IfOk-weaker}

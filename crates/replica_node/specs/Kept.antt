@@ -3,7 +3,7 @@ use Rattle.std.proofs.Common.{inl, inr, ⊎_elim, ℕ, List, Option, Some, None,
 use Rattle.gate_journal.specs.Gate.{StandsFor}
 use Rattle.gate_journal.specs.declared.journal.JournalState.{JournalState}
 use Rattle.site_node.specs.States.{written}
-use Rattle.site_node.specs.declared.roster.Roster.{Roster}
+use Rattle.turn_defs.specs.declared.config.Config.{Config}
 use Rattle.replica_node.specs.Node.{VoterView, StandsAt}
 use Rattle.site_node.specs.Replicas.{ReplicaState, KeptOn, OnDisk, replica_rows}
 
@@ -12,9 +12,9 @@ pub kept_now : (s : ReplicaState) (c : List ℕ) → OnDisk s.kept c → KeptOn 
 kept_now s c holds = (s.kept, inl refl, holds)
 
 -- each image holds what the state keeps, or that and the note of its open turn
-pub kept_images : (roster : Roster) (doubt : Option (List ℕ)) (kept : ℕ) (seen : List ℕ) (image : List ℕ → Type 0) (state : JournalState) (voter : VoterView) (s : ReplicaState) → StandsAt roster doubt kept seen image state voter s → (c : List ℕ) → image c → KeptOn s c
-kept_images roster None kept seen image state voter s at c here = kept_now s c (at.by.0.durable c here)
-kept_images roster (Some r) kept seen image state voter s at c here =
+pub kept_images : (config : Config) (doubt : Option (List ℕ)) (kept : ℕ) (seen : List ℕ) (image : List ℕ → Type 0) (state : JournalState) (voter : VoterView) (s : ReplicaState) → StandsAt config doubt kept seen image state voter s → (c : List ℕ) → image c → KeptOn s c
+kept_images config None kept seen image state voter s at c here = kept_now s c (at.by.0.durable c here)
+kept_images config (Some r) kept seen image state voter s at c here =
     let open_at = at.by.1 in
     ⊎_elim (kept_now s c)
     (λ new. (written replica_rows s open_at.input, inr (open_at.begun, open_at.input, open_at.opened, open_at.reads, refl), subst (λ (rs : List (List ℕ)). StandsFor rs c) (sym open_at.landed) new))

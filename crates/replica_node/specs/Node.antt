@@ -14,8 +14,8 @@ use Rattle.turn_defs.specs.Setting.{Setting}
 use Rattle.turn_defs.specs.Turns.{land}
 use Rattle.site_node.specs.Bytes.{IsNoted, AreSpelled, Reads}
 use Rattle.site_node.specs.States.{row, written}
-use Rattle.site_node.specs.declared.roster.Roster.{Roster}
-use Rattle.site_node.specs.Rosters.{IsOf}
+use Rattle.turn_defs.specs.declared.config.Config.{Config}
+use Rattle.turn_defs.specs.Configs.{IsOf}
 use Rattle.site_node.specs.Replicas.{ReplicaState, IsVoted, records_of, OnDisk, kept_of, replica_rows}
 use Rattle.turn_defs.specs.Replica.{ReplicaKept, land_replica}
 use Rattle.replica_node.specs.Core.{Stands, GoesOn, HasRoomFor, noted}
@@ -115,8 +115,8 @@ StandsBy None kept seen image state voter s = Holds kept seen image state s.kept
 StandsBy (Some r) kept seen image state voter s = Doubts kept image r s.kept × IsOpenAt s r
 
 -- the node, of these parts, stands at the state
-pub record StandsAt (roster : Roster) (open_record : Option (List ℕ)) (kept : ℕ) (seen : List ℕ) (image : List ℕ → Type 0) (state : JournalState) (voter : VoterView) (s : ReplicaState) : Type 0 where
-  pub setting : IsOf roster s.setting
+pub record StandsAt (config : Config) (open_record : Option (List ℕ)) (kept : ℕ) (seen : List ℕ) (image : List ℕ → Type 0) (state : JournalState) (voter : VoterView) (s : ReplicaState) : Type 0 where
+  pub setting : IsOf config s.setting
   pub spelled : Each IsVoted s.kept.notes
   pub by : StandsBy open_record kept seen image state voter s
 

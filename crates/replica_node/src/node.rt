@@ -10,9 +10,9 @@ use gate_journal::{Journal, JournalFault};
 use outside::{Disk, DiskName, Gate, Point};
 use packet_codec::Field;
 use paxos_acceptor::ReplicaNote;
-use site_node::{Done, NodeFault, Roster, SiteNode, read_input, spell};
+use site_node::{Done, NodeFault, SiteNode, read_input, spell};
 use std::alloc::{AllocError, Global};
-use turn_defs::Input;
+use turn_defs::{Config, Input};
 
 /// A replica over its journal: down, up, or stopped in an open turn.
 ///
@@ -21,7 +21,7 @@ use turn_defs::Input;
 #[derive(Drop)]
 pub struct ReplicaNode<D: Disk> {
     replica: u8,
-    roster: Roster,
+    config: Config,
     journal: Journal<D>,
     voter: Voter,
     // How many notes the journal holds.
@@ -53,7 +53,7 @@ impl<D: Disk> ReplicaNode<D> {
     ghost use Rattle.turn_defs.specs.Setting.{Setting};
     ghost use Rattle.turn_defs.specs.Turns.{land};
     ghost use Rattle.site_node.specs.Bytes.{IsInput};
-    ghost use Rattle.site_node.specs.Rosters.{IsOf};
+    ghost use Rattle.turn_defs.specs.Configs.{IsOf};
     ghost use Rattle.site_node.specs.States.{row_of};
     ghost use Rattle.site_node.specs.Faults.{was_shut_out, was_stopped, IsOfRestart, IsWhole};
     ghost use Rattle.turn_defs.specs.Replica.{ReplicaKept, land_replica};
@@ -64,18 +64,18 @@ impl<D: Disk> ReplicaNode<D> {
     ghost use Rattle.site_node.specs.Replicas.{replica_rows, KeepsNotes};
 
     /// A replica that is down, over its journal. It takes no memory.
-    pub fn new(alloc: Global, replica: u8, roster: Roster, votes: VoteJournal<D>) -> ReplicaNode<D>
+    pub fn new(alloc: Global, replica: u8, config: Config, votes: VoteJournal<D>) -> ReplicaNode<D>
         requires { votes.journal.state ≡ Ready }
         ensures number { result.replica ≡ replica }
         ensures disk { result.journal.disk ≡ votes.journal.disk }
         ensures up { result.in_doubt ≡ None }
-        ensures stands { IsTrue D.tells → (g : Setting) → IsOf roster g → StandsAt result.roster result.in_doubt result.kept (D.seen result.journal.disk) (D.image result.journal.disk) result.journal.state result.voter (down_over g votes.value.notes.items) }
+        ensures stands { IsTrue D.tells → (g : Setting) → IsOf config g → StandsAt result.config result.in_doubt result.kept (D.seen result.journal.disk) (D.image result.journal.disk) result.journal.state result.voter (down_over g votes.value.notes.items) }
     {
         let (journal, votes) = votes.into_parts();
         let kept = votes.notes().len() as u64;
         ReplicaNode {
             replica,
-            roster,
+            config,
             journal,
             voter: Voter::new(alloc, votes),
             kept,
@@ -94,7 +94,7 @@ impl<D: Disk> ReplicaNode<D> {
     // Decides the turn, spells its packets and its note, and makes the disk's room. Nothing changes but that room.
     fn prepare(&mut self, input: &Input) -> Result<ReadyTurn, AllocError>
         requires { IsInput input.now }
-        ensures same { (self.new.replica ≡ self.old.replica) × (self.new.roster ≡ self.old.roster) × (self.new.in_doubt ≡ self.old.in_doubt) }
+        ensures same { (self.new.replica ≡ self.old.replica) × (self.new.config ≡ self.old.config) × (self.new.in_doubt ≡ self.old.in_doubt) }
         ensures knows { (k : ReplicaKept) (live : Option (Unit {0})) → Knows self.old.voter k live → Knows self.new.voter k live }
         ensures holds { IsTrue D.tells → (k : ReplicaKept) → Holds self.old.kept (D.seen self.old.journal.disk) (D.image self.old.journal.disk) self.old.journal.state k → Holds self.new.kept (D.seen self.new.journal.disk) (D.image self.new.journal.disk) self.new.journal.state k }
         ensures moments { IsTrue D.tells → Throughout D.image D.since self.old.journal.disk self.new.journal.disk (D.image self.old.journal.disk) }
@@ -119,7 +119,7 @@ impl<D: Disk> ReplicaNode<D> {
     // The disk's room for the record, if there is one.
     fn make_room(&mut self, written: &Option<Payload>) -> Result<(), AllocError>
         requires { IsShort written.now }
-        ensures same { (self.new.replica ≡ self.old.replica) × (self.new.roster ≡ self.old.roster) × (self.new.in_doubt ≡ self.old.in_doubt) × (self.new.voter ≡ self.old.voter) }
+        ensures same { (self.new.replica ≡ self.old.replica) × (self.new.config ≡ self.old.config) × (self.new.in_doubt ≡ self.old.in_doubt) × (self.new.voter ≡ self.old.voter) }
         ensures holds { IsTrue D.tells → (k : ReplicaKept) → Holds self.old.kept (D.seen self.old.journal.disk) (D.image self.old.journal.disk) self.old.journal.state k → Holds self.new.kept (D.seen self.new.journal.disk) (D.image self.new.journal.disk) self.new.journal.state k }
         ensures moments { IsTrue D.tells → Throughout D.image D.since self.old.journal.disk self.new.journal.disk (D.image self.old.journal.disk) }
         ensures plan { IsTrue D.tells → MeetsPlan D.stops D.made D.faults 0 false self.old.journal.disk self.new.journal.disk }
@@ -140,7 +140,7 @@ impl<D: Disk> ReplicaNode<D> {
         requires up { self.old.in_doubt ≡ None }
         requires ready { IsReady self.old.voter.core ready.turn ready.packets ready.written }
         requires room { IsRoomFor ready.written (D.calls_left self.old.journal.disk) (D.bytes_left self.old.journal.disk) }
-        ensures same { (self.new.replica ≡ self.old.replica) × (self.new.roster ≡ self.old.roster) }
+        ensures same { (self.new.replica ≡ self.old.replica) × (self.new.config ≡ self.old.config) }
         ensures up { OnOk result (self.new.in_doubt ≡ None) }
         ensures stopped { IsErrOf result NodeFault.Stopped → is_some self.new.in_doubt ≡ true }
         ensures only_stopped { OnErr result (result ≡ Err NodeFault.Stopped) }
@@ -169,7 +169,7 @@ impl<D: Disk> ReplicaNode<D> {
     fn append(&mut self, written: Option<Payload>) -> Result<Option<Payload>, NodeFault>
         requires up { self.old.in_doubt ≡ None }
         requires room { IsRoomFor written (D.calls_left self.old.journal.disk) (D.bytes_left self.old.journal.disk) }
-        ensures same { (self.new.replica ≡ self.old.replica) × (self.new.roster ≡ self.old.roster) × (self.new.voter ≡ self.old.voter) }
+        ensures same { (self.new.replica ≡ self.old.replica) × (self.new.config ≡ self.old.config) × (self.new.voter ≡ self.old.voter) }
         ensures up { OnOk result (self.new.in_doubt ≡ None) }
         ensures stopped { IsErrOf result NodeFault.Stopped → is_some self.new.in_doubt ≡ true }
         ensures only_stopped { OnErr result (result ≡ Err NodeFault.Stopped) }
@@ -200,7 +200,7 @@ impl<D: Disk> ReplicaNode<D> {
     // The notes that the disk holds, as the stop left it.
     fn reread(&mut self) -> Result<Votes, NodeFault>
         requires waits { is_some self.old.in_doubt ≡ true }
-        ensures same { (self.new.replica ≡ self.old.replica) × (self.new.roster ≡ self.old.roster) × (self.new.voter ≡ self.old.voter) × (self.new.kept ≡ self.old.kept) × (self.new.in_doubt ≡ self.old.in_doubt) }
+        ensures same { (self.new.replica ≡ self.old.replica) × (self.new.config ≡ self.old.config) × (self.new.voter ≡ self.old.voter) × (self.new.kept ≡ self.old.kept) × (self.new.in_doubt ≡ self.old.in_doubt) }
         ensures ready { OnOk result (self.new.journal.state ≡ Ready) }
         ensures keeps { IsTrue D.tells → IfOk result (λ votes. KeepsNotes votes.notes.items (D.seen self.new.journal.disk)) }
         ensures left { IsTrue D.tells → IfOk result (λ votes. IsLeft spells (D.image self.old.journal.disk) votes.notes.items) }
@@ -263,7 +263,7 @@ impl<D: Disk> SiteNode for ReplicaNode<D> {
 
     ghost waits = { λ node. is_some node.in_doubt };
 
-    ghost stands = { λ node s. StandsAt node.roster node.in_doubt node.kept (D.seen node.journal.disk) (D.image node.journal.disk) node.journal.state node.voter s };
+    ghost stands = { λ node s. StandsAt node.config node.in_doubt node.kept (D.seen node.journal.disk) (D.image node.journal.disk) node.journal.state node.voter s };
 
     ghost image = { λ node. D.image node.journal.disk };
 
@@ -281,7 +281,7 @@ impl<D: Disk> SiteNode for ReplicaNode<D> {
 
     ghost phases = { phase_led replica_rows };
 
-    ghost images = { λ node s tells. kept_images node.roster node.in_doubt node.kept (D.seen node.journal.disk) (D.image node.journal.disk) node.journal.state node.voter s };
+    ghost images = { λ node s tells. kept_images node.config node.in_doubt node.kept (D.seen node.journal.disk) (D.image node.journal.disk) node.journal.state node.voter s };
 
     fn wants(&self) -> bool {
         false
@@ -296,7 +296,7 @@ impl<D: Disk> SiteNode for ReplicaNode<D> {
     }
 
     fn turn<G: Gate>(&mut self, input: &Begun, gate: &G) -> Result<Done, NodeFault> {
-        match read_input(self.alloc, self.roster, input)? {
+        match read_input(self.alloc, self.config, input)? {
             None => Ok(Done {
                 note: None,
                 packets: Packets::new(self.alloc),

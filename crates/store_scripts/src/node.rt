@@ -1,4 +1,6 @@
 // A node of one of the four kinds, over disks and a log in memory.
+ghost use Rattle.std.specs.Prelude.{◌≡◌, IfOk};
+
 use crate::held::Held;
 use air_bus::Input;
 use dispatch_node::DispatchNode;
@@ -14,9 +16,9 @@ use replica_node::{ReplicaNode, VoteJournal};
 use retry_log::RetryLog;
 use script_lines::disks::{disk_holding, fuse};
 use script_lines::{Stop, Words, bytes_of, number_of};
-use site_node::Roster;
 use std::alloc::Global;
 use time_shards::Table;
+use turn_defs::Config;
 
 #[derive(Drop)]
 pub enum Node {
@@ -96,17 +98,17 @@ impl Node {
         words: &mut Words<'_>,
     ) -> Result<Node, Refused> {
         let number = words.number()?;
-        let roster = Roster {
-            replicas: 3,
-            joiners: words.number()?,
-        };
+        let joiners = words.number()?;
+        if kind == "server" {
+            return server(alloc, number, joiners, text, words);
+        }
+        let config = config(joiners, 0, b"0:1", 64)?;
         match kind {
-            "dispatcher" => dispatcher(number, roster, &Outside::new(alloc, text, words)?),
-            "server" => server(alloc, number, roster, text, words),
-            "replica" => replica(number, roster, &Outside::new(alloc, text, words)?),
+            "dispatcher" => dispatcher(number, config, &Outside::new(alloc, text, words)?),
+            "replica" => replica(number, config, &Outside::new(alloc, text, words)?),
             "joiner" => {
                 let place = words.number()?;
-                joiner(number, roster, place, &Outside::new(alloc, text, words)?)
+                joiner(number, config, place, &Outside::new(alloc, text, words)?)
             }
             _ => Err(Refused::Row(Stop::Words)),
         }
@@ -161,8 +163,24 @@ impl Node {
     }
 }
 
-fn dispatcher(site: u8, roster: Roster, outside: &Outside) -> Result<Node, Refused> {
-    if site > 1 || roster.joiners == 0 {
+// Three replicas.
+fn config(joiners: u8, horizon: u64, table: &[u8], batch: u8) -> Result<Config, Stop>
+    ensures { IfOk result (λ config. (config.batch ≡ batch) × (config.replicas ≡ 3)) }
+{
+    match Table::read(table) {
+        Ok(table) => Ok(Config {
+            horizon,
+            joiners,
+            table,
+            batch,
+            replicas: 3,
+        }),
+        Err(_) => Err(Stop::Words),
+    }
+}
+
+fn dispatcher(site: u8, config: Config, outside: &Outside) -> Result<Node, Refused> {
+    if site > 1 || config.joiners == 0 {
         return Err(Refused::Row(Stop::Words));
     }
     let alloc = outside.alloc;
@@ -174,49 +192,48 @@ fn dispatcher(site: u8, roster: Roster, outside: &Outside) -> Result<Node, Refus
         Ok(retry) => retry,
         Err((fault, _)) => return Err(Refused::Disk(fault)),
     };
-    let node = DispatchNode::new(alloc, site, roster, offset, retry, outside.log()?);
+    let node = DispatchNode::new(alloc, site, config, offset, retry, outside.log()?);
     Ok(Node::Dispatcher(Held::new(node)))
 }
 
 fn server(
     alloc: Global,
     site: u8,
-    roster: Roster,
+    joiners: u8,
     text: Vec<u8>,
     words: &mut Words<'_>,
 ) -> Result<Node, Refused> {
     let horizon = words.number()?;
-    let Ok(table) = Table::read(words.word()?.as_bytes()) else {
-        return Err(Refused::Row(Stop::Words));
-    };
+    let table = words.word()?;
     let batch = words.number()?;
     if site > 1 || batch > 64 {
         return Err(Refused::Row(Stop::Words));
     }
+    let config = config(joiners, horizon, table.as_bytes(), batch)?;
     let outside = Outside::new(alloc, text, words)?;
     let journal = match EpochJournal::open(alloc, outside.disk("epoch")?) {
         Ok(journal) => journal,
         Err((fault, _)) => return Err(Refused::Disk(fault)),
     };
-    match ServerNode::new(alloc, site, roster, horizon, table, batch, journal) {
+    match ServerNode::new(alloc, site, config, journal) {
         Ok(node) => Ok(Node::Server(Held::new(node))),
         Err(_) => Err(Refused::Row(Stop::Memory)),
     }
 }
 
-fn replica(number: u8, roster: Roster, outside: &Outside) -> Result<Node, Refused> {
+fn replica(number: u8, config: Config, outside: &Outside) -> Result<Node, Refused> {
     let alloc = outside.alloc;
     match VoteJournal::open(alloc, outside.disk("votes")?) {
         Ok(votes) => {
-            let node = ReplicaNode::new(alloc, number, roster, votes);
+            let node = ReplicaNode::new(alloc, number, config, votes);
             Ok(Node::Replica(Held::new(node)))
         }
         Err((fault, _)) => Err(Refused::Disk(fault)),
     }
 }
 
-fn joiner(site: u8, roster: Roster, place: u8, outside: &Outside) -> Result<Node, Refused> {
-    if site > 1 || place >= roster.joiners {
+fn joiner(site: u8, config: Config, place: u8, outside: &Outside) -> Result<Node, Refused> {
+    if site > 1 || place >= config.joiners {
         return Err(Refused::Row(Stop::Words));
     }
     let alloc = outside.alloc;
@@ -228,7 +245,7 @@ fn joiner(site: u8, roster: Roster, place: u8, outside: &Outside) -> Result<Node
         Ok(pairs) => pairs,
         Err((fault, _)) => return Err(Refused::Disk(fault)),
     };
-    match JoinerNode::new(alloc, site, place, roster, epochs, pairs, outside.log()?) {
+    match JoinerNode::new(alloc, site, place, config, epochs, pairs, outside.log()?) {
         Ok(node) => Ok(Node::Joiner(Held::new(node))),
         Err(_) => Err(Refused::Row(Stop::Memory)),
     }

@@ -8,14 +8,14 @@ pub returns-then-takes-clause-stopped : goal.returns-then-takes-clause-stopped
 returns-then-takes-clause-stopped g c tells s at =
     let both = one_of g.D.Disk.tells g.L.LogFile.tells tells in
     let r = c.in_ok-reopen.ensures in
-    nothing_landed _ _ _ _ _ _ s (c.in-Some.note, c.in-Some.record) c.args.self.now.site (sym c.take.ensures.value ∙ c.in-Some.is) c.take.ensures.after (record { site = refl; roster = refl; own_core = refl; joiners = refl; log = refl }) at
+    nothing_landed _ _ _ _ _ _ s (c.in-Some.note, c.in-Some.record) c.args.self.now.site (sym c.take.ensures.value ∙ c.in-Some.is) c.take.ensures.after (record { site = refl; own_core = refl; config = refl; log = refl }) at
     (record { offset_ready = r.ready.0; retry_ready = r.ready.1; kept = refl }) (r.left both.0).0 (r.left both.0).1 (sym c.takes.ensures ∙ c.if-takes.true)
 
 pub returns-else-takes-clause-stopped : goal.returns-else-takes-clause-stopped
 returns-else-takes-clause-stopped g c tells s at =
     let both = one_of g.D.Disk.tells g.L.LogFile.tells tells in
     let r = c.in_ok-reopen.ensures in
-    note_landed _ _ _ _ _ _ s (c.in-Some.note, c.in-Some.record) c.args.self.now.site (sym c.take.ensures.value ∙ c.in-Some.is) c.take.ensures.after (record { site = refl; roster = refl; own_core = refl; joiners = refl; log = refl }) at
+    note_landed _ _ _ _ _ _ s (c.in-Some.note, c.in-Some.record) c.args.self.now.site (sym c.take.ensures.value ∙ c.in-Some.is) c.take.ensures.after (record { site = refl; own_core = refl; config = refl; log = refl }) at
     (record { offset_ready = r.ready.0; retry_ready = r.ready.1; kept = refl }) (r.left both.0).0 (r.left both.0).1 (sym c.takes.ensures ∙ c.if-takes.false)
 
 pub returns-then-takes-clause-moments : goal.returns-then-takes-clause-moments
@@ -41,7 +41,7 @@ returns-in_err-reopen-clause-open g c tells s at =
     let both = one_of g.D.Disk.tells g.L.LogFile.tells tells in
     let some = some_of c.args.self.now.in_doubt c.requires in
     if_err c.from_residual.result _
-    (still_doubted _ _ _ _ _ _ s some.0 some.1 some.1 (record { site = refl; roster = refl; own_core = refl; joiners = refl; log = refl }) at ((c.reopen.ensures.offset_at_any_moment both.0).now) ((c.reopen.ensures.retry_at_any_moment both.0).now))
+    (still_doubted _ _ _ _ _ _ s some.0 some.1 some.1 (record { site = refl; own_core = refl; config = refl; log = refl }) at ((c.reopen.ensures.offset_at_any_moment both.0).now) ((c.reopen.ensures.retry_at_any_moment both.0).now))
 
 pub returns-in_err-reopen-clause-whole : goal.returns-in_err-reopen-clause-whole
 returns-in_err-reopen-clause-whole g c tells s at =

@@ -3,13 +3,13 @@ use Rattle.dispatch_node.proofs.Words.{none_of, continues_same, live_of, IsTurn,
 use Rattle.offset_journal.specs.Offsets as offsets
 use Rattle.retry_log.specs.Pending as pending
 use Rattle.dispatch_node.proofs.Standing.{live_or}
-use Rattle.dispatch_node.proofs.Turning.{decides, quiet, idles, ends, stays_open, doubted, row_moment, opened_is, decided_at, taken_at, images_at, part_at, grows_through, some_of, if_err}
+use Rattle.dispatch_node.proofs.Turning.{config_is, decides, quiet, idles, ends, stays_open, doubted, row_moment, opened_is, decided_at, taken_at, images_at, part_at, grows_through, some_of, if_err}
 use Rattle.dispatch_node.proofs.node.DispatchNodeSiteNode.turn.Goals as goal
 
 pub returns-in-None-clause-done : goal.returns-in-None-clause-done
 returns-in-None-clause-done g c tells s t at led sent le =
     let old = c.args.self.now in
-    let junk = rw c.in-None.is at (c.in_ok-read_input.ensures.junk s.node.setting at.setting) in
+    let junk = rw c.in-None.is at (c.in_ok-read_input.ensures.junk s.node.setting (config_is _ _ _ s _ at c.config.ensures)) in
     idles _ _ _ s t old.site c.args.input.now c.new.result sent (none_of old.in_doubt c.requires.up) at led junk c.new.ensures le
 
 pub returns-in_ok-note-in-Some-clause-done : goal.returns-in_ok-note-in-Some-clause-done
@@ -17,7 +17,7 @@ returns-in_ok-note-in-Some-clause-done g c tells s t at led sent le =
     let old = c.args.self.now in
     let both = one_of g.D.Disk.tells g.L.LogFile.tells tells in
     let none = none_of old.in_doubt c.requires.up in
-    let reads = rw c.in-Some.is at (c.in_ok-read_input.ensures.reads s.node.setting at.setting) in
+    let reads = rw c.in-Some.is at (c.in_ok-read_input.ensures.reads s.node.setting (config_is _ _ _ s _ at c.config.ensures)) in
     let e = c.in_ok-ready-in-Some.ensures in
     let ready = c.in_ok-ready-in-Some.ready in
     let d = decides _ _ _ s c.args.input.now c.in-Some.input c.prepare.new.self.core ready.turn ready.written none at led.leads.1 reads (e.turn both.1) e.ready.recorded in
@@ -27,12 +27,11 @@ returns-in_ok-note-in-Some-clause-done g c tells s t at led sent le =
     ends _ _ _ _ _ _ s t old.site old.core.dealer.site c.args.input.now c.in-Some.input _ c.prepare.new.self.core ready.turn ready.written _ _ ready.packets sent at led
     (record {
       site = f.same.0 ∙ e.same.0;
-      roster = f.same.1 ∙ e.same.1;
-      own_core = c.keep.ensures.numbers.0 ∙ ap (λ (x : DispatchCore). x.dealer.site) f.same.3 ∙ e.numbers.0;
-      joiners = c.keep.ensures.numbers.1 ∙ ap (λ (x : DispatchCore). x.dealer.joiners) f.same.3 ∙ e.numbers.1;
-      log = ap (λ clicks. g.L.LogFile.bytes clicks.tail.log) f.same.2 ∙ e.log both.1;
+      own_core = c.keep.ensures.numbers.0 ∙ ap (λ (x : DispatchCore). x.dealer.site) f.same.2 ∙ e.numbers.0;
+      config = c.keep.ensures.numbers.1 ∙ ap (λ (x : DispatchCore). x.dealer.config) f.same.2 ∙ e.numbers.1;
+      log = ap (λ clicks. g.L.LogFile.bytes clicks.tail.log) f.same.1 ∙ e.log both.1;
     })
-    none f.up d e.ready.packets f.note refl (λ out is. c.keep.ensures.stands s.node.setting s.node.kept l out (subst (λ (x : DispatchCore). IsTurn s.node.setting x s.node.kept l ready.turn out) (sym f.same.3) is))
+    none f.up d e.ready.packets f.note refl (λ out is. c.keep.ensures.stands s.node.setting s.node.kept l out (subst (λ (x : DispatchCore). IsTurn s.node.setting x s.node.kept l ready.turn out) (sym f.same.2) is))
     (record { offset_ready = (new.ready f.up).0; retry_ready = (new.ready f.up).1; kept = f.kept ∙ ap (landed_by ready.written) (e.kept ∙ (quiet _ _ _ s none at).0.kept) }) le
 
 pub returns-in_err-note-in-Some-clause-open : goal.returns-in_err-note-in-Some-clause-open
@@ -40,7 +39,7 @@ returns-in_err-note-in-Some-clause-open g c tells s t at led =
     let old = c.args.self.now in
     let both = one_of g.D.Disk.tells g.L.LogFile.tells tells in
     let none = none_of old.in_doubt c.requires.up in
-    let reads = rw c.in-Some.is at (c.in_ok-read_input.ensures.reads s.node.setting at.setting) in
+    let reads = rw c.in-Some.is at (c.in_ok-read_input.ensures.reads s.node.setting (config_is _ _ _ s _ at c.config.ensures)) in
     let e = c.in_ok-ready-in-Some.ensures in
     let ready = c.in_ok-ready-in-Some.ready in
     let d = decides _ _ _ s c.args.input.now c.in-Some.input c.prepare.new.self.core ready.turn ready.written none at led.leads.1 reads (e.turn both.1) e.ready.recorded in
@@ -51,10 +50,9 @@ returns-in_err-note-in-Some-clause-open g c tells s t at led =
     (doubted _ _ _ _ _ _ s t old.site old.core.dealer.site c.args.input.now c.in-Some.input _ c.prepare.new.self.core ready.turn some.0 at led
     (record {
       site = f.same.0 ∙ e.same.0;
-      roster = f.same.1 ∙ e.same.1;
-      own_core = ap (λ (x : DispatchCore). x.dealer.site) f.same.3 ∙ e.numbers.0;
-      joiners = ap (λ (x : DispatchCore). x.dealer.joiners) f.same.3 ∙ e.numbers.1;
-      log = ap (λ clicks. g.L.LogFile.bytes clicks.tail.log) f.same.2 ∙ e.log both.1;
+      own_core = ap (λ (x : DispatchCore). x.dealer.site) f.same.2 ∙ e.numbers.0;
+      config = ap (λ (x : DispatchCore). x.dealer.config) f.same.2 ∙ e.numbers.1;
+      log = ap (λ clicks. g.L.LogFile.bytes clicks.tail.log) f.same.1 ∙ e.log both.1;
     })
     none (f.doubt.0 ∙ some.1) (decided_at s old.core.dealer.site c.args.input.now c.in-Some.input _ c.prepare.new.self.core ready.turn ready.written (Some some.0) some.1 d)
     (taken_at ready.written some.0 _ s.node.kept some.1 kept e.takes)
@@ -65,7 +63,7 @@ returns-in_ok-note-in-Some-clause-moments g c tells s t at led bytes left =
     let old = c.args.self.now in
     let both = one_of g.D.Disk.tells g.L.LogFile.tells tells in
     let none = none_of old.in_doubt c.requires.up in
-    let reads = rw c.in-Some.is at (c.in_ok-read_input.ensures.reads s.node.setting at.setting) in
+    let reads = rw c.in-Some.is at (c.in_ok-read_input.ensures.reads s.node.setting (config_is _ _ _ s _ at c.config.ensures)) in
     let e = c.in_ok-ready-in-Some.ensures in
     let w = c.in_ok-ready-in-Some.ready.written in
     let d = decides _ _ _ s c.args.input.now c.in-Some.input c.prepare.new.self.core c.in_ok-ready-in-Some.ready.turn w none at led.leads.1 reads (e.turn both.1) e.ready.recorded in
@@ -88,7 +86,7 @@ returns-in_err-note-in-Some-clause-moments g c tells s t at led bytes left =
     let old = c.args.self.now in
     let both = one_of g.D.Disk.tells g.L.LogFile.tells tells in
     let none = none_of old.in_doubt c.requires.up in
-    let reads = rw c.in-Some.is at (c.in_ok-read_input.ensures.reads s.node.setting at.setting) in
+    let reads = rw c.in-Some.is at (c.in_ok-read_input.ensures.reads s.node.setting (config_is _ _ _ s _ at c.config.ensures)) in
     let e = c.in_ok-ready-in-Some.ensures in
     let w = c.in_ok-ready-in-Some.ready.written in
     let d = decides _ _ _ s c.args.input.now c.in-Some.input c.prepare.new.self.core c.in_ok-ready-in-Some.ready.turn w none at led.leads.1 reads (e.turn both.1) e.ready.recorded in
@@ -114,9 +112,9 @@ returns-in_err-ready-in-Some-clause-open g c tells s t at led =
     let none = none_of old.in_doubt c.requires.up in
     let known = quiet _ _ _ s none at in
     let e = c.prepare.ensures in
-    let none_now = e.same.2 ∙ none in
+    let none_now = e.same.1 ∙ none in
     if_err c.from_residual-in_err-ready-in-Some.result _
-    (stays_open _ _ _ _ _ _ s t old.site c.args.input.now at led (record { site = e.same.0; roster = e.same.1; own_core = e.numbers.0; joiners = e.numbers.1; log = e.log both.1 }) none none_now
+    (stays_open _ _ _ _ _ _ s t old.site c.args.input.now at led (record { site = e.same.0; own_core = e.numbers.0; config = e.numbers.1; log = e.log both.1 }) none none_now
     (λ live stands. e.core s.node.setting s.node.kept live stands)
     (record { offset_ready = (mid.ready none_now).0; retry_ready = (mid.ready none_now).1; kept = e.kept ∙ known.0.kept }))
 

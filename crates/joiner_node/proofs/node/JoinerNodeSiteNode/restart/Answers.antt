@@ -15,7 +15,7 @@ returns-clause-stopped g c tells s at =
     let f = c.fall.ensures in
     let e = c.in_ok-landed.ensures in
     let d = g.D.Disk in
-    let q : Parts = record { number = old.number; roster = old.roster; core = after.core; up = after.up; log = g.L.LogFile.bytes after.queries.store.tail.log; place = after.queries.store.tail.place; in_doubt = mid.in_doubt; epoch = mid.epochs.value.epoch; written = mid.log.value.pairs.items } in
+    let q : Parts = record { number = old.number; config = old.config; core = after.core; up = after.up; log = g.L.LogFile.bytes after.queries.store.tail.log; place = after.queries.store.tail.place; in_doubt = mid.in_doubt; epoch = mid.epochs.value.epoch; written = mid.log.value.pairs.items } in
     restarts old.disks.in_doubt _ _ _ q (d.image mid.epochs.journal.disk) (d.image mid.log.journal.disk) s _ c.in_ok-landed.landed at.by c.requires
     (λ note doubt images. e.found told.0 s.node.kept note doubt images) e.up f.down at.setting at.number_is (rw (← f.core) at at.serves) (rw (← f.queries) at at.reads)
 
@@ -36,7 +36,7 @@ returns-in_err-landed-clause-open g c tells s at =
     let e = c.in_err-landed.ensures in
     let d = g.D.Disk in
     let k = s.node.kept in
-    let q : Parts = record { number = old.number; roster = old.roster; core = old.joining.core; up = old.joining.up; log = g.L.LogFile.bytes old.joining.queries.store.tail.log; place = old.joining.queries.store.tail.place; in_doubt = mid.in_doubt; epoch = mid.epochs.value.epoch; written = mid.log.value.pairs.items } in
+    let q : Parts = record { number = old.number; config = old.config; core = old.joining.core; up = old.joining.up; log = g.L.LogFile.bytes old.joining.queries.store.tail.log; place = old.joining.queries.store.tail.place; in_doubt = mid.in_doubt; epoch = mid.epochs.value.epoch; written = mid.log.value.pairs.items } in
     on_err c.from_residual.result
     (record {
       setting = at.setting;

@@ -11,5 +11,5 @@ returns-clause-stands g c tells g' of_g =
     let held : c.notes.result.now ≡ notes.items = c.notes.ensures ∙ ap (λ v. v.notes.items) parts.value in
     let count : length c.notes.result.now ≡ length notes.items = ap length held in
     rw parts.journal
-    (down_stands c.args.roster (length c.notes.result.now) _ _ _ c.new.result notes.items (kept_of notes.items) g' of_g was.value.are_notes refl c.requires (was.kept tells c.requires).1 (was.journal.settled tells c.requires).durable count (omega (arith, count, notes.ok))
+    (down_stands c.args.config (length c.notes.result.now) _ _ _ c.new.result notes.items (kept_of notes.items) g' of_g was.value.are_notes refl c.requires (was.kept tells c.requires).1 (was.journal.settled tells c.requires).durable count (omega (arith, count, notes.ok))
     c.new.ensures.down (c.new.ensures.notes ∙ ap (λ v. v.notes.items) parts.value))

@@ -16,7 +16,7 @@ returns-then-landed-clause-stopped g c tells s at =
     let image = g.D.Disk.image new.journal.disk in
     let was = g.D.Disk.image old.journal.disk in
     let left = e.left tells in
-    let found : Found new.roster (length c.notes.result.now) seen was image new.journal.state c.new.result notes.items =
+    let found : Found new.config (length c.notes.result.now) seen was image new.journal.state c.new.result notes.items =
     record {
       apart = c.told_apart.ensures;
       all = keeps.0;
@@ -30,10 +30,10 @@ returns-then-landed-clause-stopped g c tells s at =
       fits = omega (arith, ap length c.notes.ensures, notes.ok);
     }
     in
-    let done = note_landed old.roster new.roster old.kept (length c.notes.result.now) (g.D.Disk.seen old.journal.disk) seen was image old.journal.state new.journal.state old.voter c.new.result notes.items s found e.same.1 old.in_doubt 0 c.requires at (λ is. c.if-landed.true (is ∙ sym e.same.3)) in (
+    let done = note_landed old.config new.config old.kept (length c.notes.result.now) (g.D.Disk.seen old.journal.disk) seen was image old.journal.state new.journal.state old.voter c.new.result notes.items s found e.same.1 old.in_doubt 0 c.requires at (λ is. c.if-landed.true (is ∙ sym e.same.3)) in (
       done.0,
       subst (λ (d : Option (List ℕ)). (b : Bytes) × (s.opened ≡ Some b) × Stops replica_rows s b d done.0) (sym (c.take-landed_record.ensures.value ∙ e.same.4)) done.1,
-      subst (λ (d : Option (List ℕ)). StandsAt new.roster d (length c.notes.result.now) seen image new.journal.state c.new.result done.0) (sym c.take-landed_record.ensures.after) done.2,
+      subst (λ (d : Option (List ℕ)). StandsAt new.config d (length c.notes.result.now) seen image new.journal.state c.new.result done.0) (sym c.take-landed_record.ensures.after) done.2,
     )
 
 pub returns-else-landed-clause-stopped : goal.returns-else-landed-clause-stopped
@@ -47,7 +47,7 @@ returns-else-landed-clause-stopped g c tells s at =
     let image = g.D.Disk.image new.journal.disk in
     let was = g.D.Disk.image old.journal.disk in
     let left = e.left tells in
-    let found : Found new.roster (length c.notes.result.now) seen was image new.journal.state c.new.result notes.items =
+    let found : Found new.config (length c.notes.result.now) seen was image new.journal.state c.new.result notes.items =
     record {
       apart = c.told_apart.ensures;
       all = keeps.0;
@@ -61,29 +61,29 @@ returns-else-landed-clause-stopped g c tells s at =
       fits = omega (arith, ap length c.notes.ensures, notes.ok);
     }
     in
-    let done = nothing_landed old.roster new.roster old.kept (length c.notes.result.now) (g.D.Disk.seen old.journal.disk) seen was image old.journal.state new.journal.state old.voter c.new.result notes.items s found e.same.1 old.in_doubt 0 c.requires at (c.if-landed.false ∙ e.same.3) in (
+    let done = nothing_landed old.config new.config old.kept (length c.notes.result.now) (g.D.Disk.seen old.journal.disk) seen was image old.journal.state new.journal.state old.voter c.new.result notes.items s found e.same.1 old.in_doubt 0 c.requires at (c.if-landed.false ∙ e.same.3) in (
       done.0,
       done.1,
-      subst (λ (d : Option (List ℕ)). StandsAt new.roster d (length c.notes.result.now) seen image new.journal.state c.new.result done.0) (sym c.take-landed_record.ensures.after) done.2,
+      subst (λ (d : Option (List ℕ)). StandsAt new.config d (length c.notes.result.now) seen image new.journal.state c.new.result done.0) (sym c.take-landed_record.ensures.after) done.2,
     )
 
 pub returns-then-landed-clause-moments : goal.returns-then-landed-clause-moments
 returns-then-landed-clause-moments g c tells s at bytes left =
     let old = c.args.self.now in
     let was = g.D.Disk.image old.journal.disk in
-    kept_opened s was (kept_images old.roster old.in_doubt old.kept (g.D.Disk.seen old.journal.disk) was old.journal.state old.voter s at) bytes ((c.reread.ensures.moments tells).each bytes left)
+    kept_opened s was (kept_images old.config old.in_doubt old.kept (g.D.Disk.seen old.journal.disk) was old.journal.state old.voter s at) bytes ((c.reread.ensures.moments tells).each bytes left)
 
 pub returns-else-landed-clause-moments : goal.returns-else-landed-clause-moments
 returns-else-landed-clause-moments g c tells s at bytes left =
     let old = c.args.self.now in
     let was = g.D.Disk.image old.journal.disk in
-    kept_opened s was (kept_images old.roster old.in_doubt old.kept (g.D.Disk.seen old.journal.disk) was old.journal.state old.voter s at) bytes ((c.reread.ensures.moments tells).each bytes left)
+    kept_opened s was (kept_images old.config old.in_doubt old.kept (g.D.Disk.seen old.journal.disk) was old.journal.state old.voter s at) bytes ((c.reread.ensures.moments tells).each bytes left)
 
 pub returns-in_err-votes-clause-moments : goal.returns-in_err-votes-clause-moments
 returns-in_err-votes-clause-moments g c tells s at bytes left =
     let old = c.args.self.now in
     let was = g.D.Disk.image old.journal.disk in
-    kept_opened s was (kept_images old.roster old.in_doubt old.kept (g.D.Disk.seen old.journal.disk) was old.journal.state old.voter s at) bytes ((c.reread.ensures.moments tells).each bytes left)
+    kept_opened s was (kept_images old.config old.in_doubt old.kept (g.D.Disk.seen old.journal.disk) was old.journal.state old.voter s at) bytes ((c.reread.ensures.moments tells).each bytes left)
 
 pub returns-in_err-votes-clause-open : goal.returns-in_err-votes-clause-open
 returns-in_err-votes-clause-open g c tells s at =
@@ -91,14 +91,14 @@ returns-in_err-votes-clause-open g c tells s at =
     let new = c.reread.new.self in
     let e = c.reread.ensures in
     on_err c.from_residual.result _
-    (still_down old.roster new.roster old.in_doubt new.in_doubt old.kept new.kept (g.D.Disk.seen old.journal.disk) (g.D.Disk.seen new.journal.disk) (g.D.Disk.image old.journal.disk) (g.D.Disk.image new.journal.disk) old.journal.state new.journal.state old.voter new.voter s
+    (still_down old.config new.config old.in_doubt new.in_doubt old.kept new.kept (g.D.Disk.seen old.journal.disk) (g.D.Disk.seen new.journal.disk) (g.D.Disk.image old.journal.disk) (g.D.Disk.image new.journal.disk) old.journal.state new.journal.state old.voter new.voter s
     e.same.1 e.same.4 e.same.3 ((e.moments tells).now) c.requires at)
 
 pub returns-in_err-votes-clause-whole : goal.returns-in_err-votes-clause-whole
 returns-in_err-votes-clause-whole g c tells s at =
     let old = c.args.self.now in
     let was = g.D.Disk.image old.journal.disk in
-    let images = kept_images old.roster old.in_doubt old.kept (g.D.Disk.seen old.journal.disk) was old.journal.state old.voter s at in
+    let images = kept_images old.config old.in_doubt old.kept (g.D.Disk.seen old.journal.disk) was old.journal.state old.voter s at in
     let whole = c.in_err-votes.ensures.whole tells (λ b here. kept_notes s b at.spelled (images b here)) in
     search rules
 
