@@ -44,9 +44,10 @@ struct ReadyTurn {
 }
 
 impl<D: Disk> ServerNode<D> {
-    ghost use Rattle.std.specs.Prelude.{◌≡◌, ◌≤◌, ◌<◌, None, Some, Option, option_map, List, ℕ, is_some, IsTrue, IfOk, IfErr, OnOk, OnErr, IsErrOf, Err};
+    ghost use Rattle.std.specs.Prelude.{◌≡◌, ◌≤◌, ◌<◌, None, Some, Option, option_map, List, ℕ, false, is_some, is_err, IsTrue, IfOk, IfErr, OnOk, OnErr, IsErrOf, Err};
     ghost use Rattle.outside.specs.Disk.{Throughout};
     ghost use Rattle.outside.specs.Faults.{Rose};
+    ghost use Rattle.outside.specs.Plans.{MeetsPlan};
     ghost use Rattle.gate_journal.specs.declared.journal.JournalState.TheVariants.{Ready};
     ghost use Rattle.gate_journal.specs.Growth.{Continues};
     ghost use Rattle.gate_journal.specs.Opening.{IsOpened};
@@ -57,7 +58,7 @@ impl<D: Disk> ServerNode<D> {
     ghost use Rattle.site_node.specs.Bytes.{IsInput};
     ghost use Rattle.turn_defs.specs.Configs.{IsOf};
     ghost use Rattle.site_node.specs.States.{row_of};
-    ghost use Rattle.site_node.specs.Faults.{IsOfRestart, IsWhole};
+    ghost use Rattle.site_node.specs.Faults.{was_shut_out, IsOfRestart, IsWhole};
     ghost use Rattle.turn_defs.specs.Server.{ServerKept, ServerLive, land_server};
     ghost use Rattle.registry_server.specs.Cores.{note_of};
     ghost use Rattle.registry_server.specs.Registrars.{SiteKept, Knows, Fits, IsNextNote, IsRow, Makes, server_rows};
@@ -114,6 +115,7 @@ impl<D: Disk> ServerNode<D> {
         ensures knows { (g : Setting) (k : SiteKept) (live : Option ServerLive) → Knows self.old.registrar g k live → Knows self.new.registrar g k live }
         ensures holds { IsTrue D.tells → (k : ServerKept) → Holds self.old.journal.value.epoch (D.image self.old.journal.journal.disk) self.old.journal.journal.state k → Holds self.new.journal.value.epoch (D.image self.new.journal.journal.disk) self.new.journal.journal.state k }
         ensures moments { IsTrue D.tells → Throughout D.image D.since self.old.journal.journal.disk self.new.journal.journal.disk (D.image self.old.journal.journal.disk) }
+        ensures plan { IsTrue D.tells → MeetsPlan D.stops D.made D.faults 0 false self.old.journal.journal.disk self.new.journal.journal.disk }
         ensures count { D.faults self.new.journal.journal.disk ≡ D.faults self.old.journal.journal.disk }
         ensures refused { IfErr result (IsNotPrepared self.old.journal.value.epoch input) }
         ensures spent { is_spent_at self.old.journal.value.epoch input ≡ true → OnOk result ⊥ }
@@ -144,6 +146,7 @@ impl<D: Disk> ServerNode<D> {
         ensures epoch { self.new.journal.value.epoch ≡ self.old.journal.value.epoch }
         ensures holds { IsTrue D.tells → (k : ServerKept) → Holds self.old.journal.value.epoch (D.image self.old.journal.journal.disk) self.old.journal.journal.state k → Holds self.new.journal.value.epoch (D.image self.new.journal.journal.disk) self.new.journal.journal.state k }
         ensures moments { IsTrue D.tells → Throughout D.image D.since self.old.journal.journal.disk self.new.journal.journal.disk (D.image self.old.journal.journal.disk) }
+        ensures plan { IsTrue D.tells → MeetsPlan D.stops D.made D.faults 0 false self.old.journal.journal.disk self.new.journal.journal.disk }
         ensures count { D.faults self.new.journal.journal.disk ≡ D.faults self.old.journal.journal.disk }
         ensures room { OnOk result (IsRoomFor noted.now (D.calls_left self.new.journal.journal.disk) (D.bytes_left self.new.journal.journal.disk)) }
     {
@@ -163,6 +166,7 @@ impl<D: Disk> ServerNode<D> {
         ensures stopped { IsErrOf result NodeFault.Stopped → is_some self.new.in_doubt ≡ true }
         ensures only_stopped { OnErr result (result ≡ Err NodeFault.Stopped) }
         ensures fault { OnErr result (Rose (D.faults self.old.journal.journal.disk) (D.faults self.new.journal.journal.disk)) }
+        ensures plan { IsTrue D.tells → MeetsPlan D.stops D.made D.faults 4 (is_err result) self.old.journal.journal.disk self.new.journal.journal.disk }
         ensures count { D.faults self.old.journal.journal.disk ≤ D.faults self.new.journal.journal.disk }
         ensures moments { IsTrue D.tells → (k : ServerKept) (n : Option ServerNote) → noted ≡ recorded n → IsNextNote self.old.journal.value.epoch n → Holds self.old.journal.value.epoch (D.image self.old.journal.journal.disk) self.old.journal.journal.state k → Throughout D.image D.since self.old.journal.journal.disk self.new.journal.journal.disk (OnDiskOr k n) }
         ensures grows { IsTrue D.tells → (c : List ℕ) → D.image self.new.journal.journal.disk c → Continues (D.image self.old.journal.journal.disk) c }
@@ -200,6 +204,7 @@ impl<D: Disk> ServerNode<D> {
         ensures grows { IsTrue D.tells → Throughout D.image D.since self.old.journal.journal.disk self.new.journal.journal.disk (Continues (D.image self.old.journal.journal.disk)) }
         ensures kind { IfErr result IsOfRestart }
         ensures fault { (disk : _) → IsErrOf result (NodeFault.Disk disk) → Rose (D.faults self.old.journal.journal.disk) (D.faults self.new.journal.journal.disk) }
+        ensures plan { IsTrue D.planned → MeetsPlan D.stops D.made D.faults 3 (was_shut_out result) self.old.journal.journal.disk self.new.journal.journal.disk }
         ensures count { D.faults self.old.journal.journal.disk ≤ D.faults self.new.journal.journal.disk }
         ensures whole { IsTrue D.tells → ((c : List ℕ) → D.image self.old.journal.journal.disk c → (e : ℕ) × Keeps e c) → IfErr result IsWhole }
     {
@@ -217,6 +222,7 @@ impl<D: Disk> ServerNode<D> {
 
 impl<D: Disk> SiteNode for ServerNode<D> {
     ghost use Rattle.std.specs.Prelude.{◌≡◌, ◌+◌, is_some, List, ℕ};
+    ghost use Rattle.outside.specs.Plans.{AtMost};
     ghost use Rattle.gate_journal.specs.Growth.{Continues};
     ghost use Rattle.site_node.specs.States.{Leads, state_phase, Says};
     ghost use Rattle.site_node.specs.Paths.{begins as begins_by, phase_led};
@@ -226,6 +232,8 @@ impl<D: Disk> SiteNode for ServerNode<D> {
     ghost use Rattle.registry_server.specs.Kept.{kept_images};
 
     ghost tells = { D.tells };
+
+    ghost planned = { D.planned };
 
     ghost State = { ServerState };
 
@@ -260,6 +268,8 @@ impl<D: Disk> SiteNode for ServerNode<D> {
     ghost grown = { λ old new. (c : List ℕ) → D.image new.journal.journal.disk c → Continues (D.image old.journal.journal.disk) c };
 
     ghost faults = { λ node. D.faults node.journal.journal.disk };
+
+    ghost stops_left = { λ node. AtMost (D.stops node.journal.journal.disk) (D.made node.journal.journal.disk) };
 
     ghost log_faults = { λ node. 0 };
 

@@ -1,6 +1,8 @@
-use Rattle.std.proofs.Common.{◌≡◌, ℕ, List, Option, Some, ap, sym, ◌∙◌, subst, rules}
+use Rattle.std.proofs.Common.{◌≡◌, refl, false, ℕ, List, Option, Some, ap, sym, ◌∙◌, subst, rules}
 use Rattle.registry_server.proofs.Words.{Epochs, Bytes, Stops, RegistrarView, server_rows, StandsAt, kept_images}
 use Rattle.registry_server.proofs.Ending.{Found, nothing_landed, note_landed, left_moments}
+use Rattle.site_node.specs.Faults.{was_shut_out}
+use Rattle.site_node.proofs.Stops.{meets}
 use Rattle.registry_server.proofs.node.ServerNodeSiteNode.restart.Goals as goal
 
 pub returns-then-landed-clause-stopped : goal.returns-then-landed-clause-stopped
@@ -58,3 +60,14 @@ returns-in_err-reread-clause-whole g c tells s at =
     let images = kept_images _ _ _ _ _ _ s at in
     let whole = c.in_err-reread.ensures.whole tells (λ b here. let kept = images b here in (kept.0.disk.epoch, kept.2)) in
     search rules
+
+pub returns-then-landed-clause-plan : goal.returns-then-landed-clause-plan
+returns-then-landed-clause-plan g c planned = meets g.D.Disk.stops g.D.Disk.made g.D.Disk.faults 3 false false _ _ refl (c.in_ok-reread.ensures.plan planned)
+
+pub returns-else-landed-clause-plan : goal.returns-else-landed-clause-plan
+returns-else-landed-clause-plan g c planned = meets g.D.Disk.stops g.D.Disk.made g.D.Disk.faults 3 false false _ _ refl (c.in_ok-reread.ensures.plan planned)
+
+pub returns-in_err-reread-clause-plan : goal.returns-in_err-reread-clause-plan
+returns-in_err-reread-clause-plan g c planned =
+    let same : was_shut_out c.reread.result ≡ was_shut_out c.from_residual.result = search rules in
+    meets g.D.Disk.stops g.D.Disk.made g.D.Disk.faults 3 _ _ _ _ same (c.reread.ensures.plan planned)

@@ -1,7 +1,9 @@
-use Rattle.std.proofs.Common.{refl, sym, ap, ◌∙◌, subst, rules}
+use Rattle.std.proofs.Common.{◌≡◌, true, false, refl, sym, ap, ◌∙◌, subst, rules}
 use Rattle.registry_server.proofs.Words.{none_of, row_of, site_of, RegistrarView, Knows, Makes, server_rows}
 use Rattle.registry_server.proofs.Landing.{config_is, quiet, fits_of, keeps_knows, spent_told, spent_input, junk_unspent}
 use Rattle.registry_server.proofs.Ending.{idles, ends, stays_open, still_open, on_err, turn_moments, turn_grown}
+use Rattle.site_node.specs.Faults.{was_stopped}
+use Rattle.site_node.proofs.Stops.{turn_meets}
 use Rattle.registry_server.proofs.node.ServerNodeSiteNode.turn.Goals as goal
 
 pub returns-in-None-clause-done : goal.returns-in-None-clause-done
@@ -101,3 +103,16 @@ returns-in_err-ready-in-Some-clause-spent g c s at epoch is =
     let known = quiet _ _ _ _ _ _ s (none_of old.in_doubt c.requires.up) at in
     let reads = rw c.in-Some.is at (c.in_ok-read_input.ensures.reads s.setting (config_is _ _ _ _ _ _ s _ _ at c.core.ensures c.config.ensures)) in
     spent_told s c.args.input.now c.in-Some.input _ epoch old.journal.value.epoch reads known.0.epoch c.in_err-ready-in-Some.ensures.refused (search rules)
+
+pub returns-in_ok-note-in-Some-clause-plan : goal.returns-in_ok-note-in-Some-clause-plan
+returns-in_ok-note-in-Some-clause-plan g c planned =
+    let d = g.D.Disk in
+    let tells = g.met.D.Disk.plan_told planned in
+    turn_meets d.stops d.made d.faults 4 false false _ c.prepare.new.self.journal.journal.disk _ refl (c.in_ok-ready-in-Some.ensures.plan tells) (c.in_ok-note-in-Some.ensures.plan tells)
+
+pub returns-in_err-note-in-Some-clause-plan : goal.returns-in_err-note-in-Some-clause-plan
+returns-in_err-note-in-Some-clause-plan g c planned =
+    let d = g.D.Disk in
+    let tells = g.met.D.Disk.plan_told planned in
+    let same : true ≡ was_stopped c.from_residual-in_err-note-in-Some.result = search rules in
+    turn_meets d.stops d.made d.faults 4 true _ _ c.prepare.new.self.journal.journal.disk _ same (c.in_ok-ready-in-Some.ensures.plan tells) (c.in_err-note-in-Some.ensures.plan tells)
