@@ -4,8 +4,10 @@ use Rattle.std.specs.Prelude.{IsTrue, Result, Ok, Err, OnOk}
 use Rattle.std.specs.List.{IsDistinct}
 use Rattle.dispatch_node.proofs.Words.{AllByRecursion, remove_key, nat_eq_equiv, has, without, Distinct, clash, Rose, Payloads, Fold, read_as, folds_to, fails_at, gate_rule, DiskName, JournalFault, IsOfRestart, IsWhole, NodeFault, Disk, Damaged, Memory, fault_told, any_has, removed}
 use Rattle.gate_journal.specs.declared.reading.JournalFault.TheVariants as journal
+use Rattle.gate_journal.specs.Fault.{is_of_disk}
 use Rattle.gate_journal.specs.Records as of
 use Rattle.retry_log.specs.Pending as pending
+use Rattle.site_node.specs.Faults.{was_shut_out}
 
 -- ---- positions
 
@@ -59,6 +61,12 @@ is_disk _ = false
 pub told_disk : (damaged : Payloads → ℕ → Type 0) (tells : Bool) (told disk : DiskName) (f : JournalFault) (image : List ℕ → Type 0) (a b : ℕ) → fault_told disk f ≡ Disk told → of.IsRefusedAgain damaged tells image a b f → Rose a b
 told_disk damaged tells told disk journal.Disk image a b is refused = refused
 told_disk damaged tells told disk _ image a b is refused = clash false (ap is_disk is) refl
+
+-- it is of such a disk where the journal's own disk failed
+pub told_shut : (disk : DiskName) (f : JournalFault) (told : NodeFault) → told ≡ fault_told disk f → is_of_disk f ≡ was_shut_out (as_err told)
+told_shut disk (journal.Damaged at) told is = sym (ap (λ (e : NodeFault). was_shut_out (as_err e)) is)
+told_shut disk journal.Disk told is = sym (ap (λ (e : NodeFault). was_shut_out (as_err e)) is)
+told_shut disk journal.Memory told is = sym (ap (λ (e : NodeFault). was_shut_out (as_err e)) is)
 
 abbrev is_good : {A : Type 0} → Result A ℕ → Bool
 is_good (Ok x) = true

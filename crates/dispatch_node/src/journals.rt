@@ -1,7 +1,8 @@
 // The records of a dispatcher on its two disks.
-ghost use Rattle.std.specs.Prelude.{◌≡◌, ◌⊎◌, ◌≤◌, ℕ, List, Option, true, option_map, IfOk, IfErr, OnOk, OnErr, IsErrOf, IsTrue};
+ghost use Rattle.std.specs.Prelude.{◌≡◌, ◌⊎◌, ◌≤◌, ℕ, List, Option, true, false, is_err, option_map, IfOk, IfErr, OnOk, OnErr, IsErrOf, IsTrue};
 ghost use Rattle.outside.specs.Disk.{Throughout};
 ghost use Rattle.outside.specs.Faults.{Rose};
+ghost use Rattle.outside.specs.Plans.{MeetsPlan};
 ghost use Rattle.gate_journal.specs.declared.journal.JournalState.TheVariants.{Ready};
 ghost use Rattle.gate_journal.specs.Growth.{Continues};
 ghost use Rattle.gate_journal.specs.Opening.{IsOpened};
@@ -9,7 +10,7 @@ ghost use Rattle.indexmap.specs.IndexSet.{spare};
 ghost use Rattle.offset_journal.specs.Offsets as offsets;
 ghost use Rattle.retry_log.specs.Pending as pending;
 ghost use Rattle.turn_defs.specs.Turns.{Note};
-ghost use Rattle.site_node.specs.Faults.{IsOfRestart, IsWhole};
+ghost use Rattle.site_node.specs.Faults.{was_shut_out, IsOfRestart, IsWhole, MeetsBoth};
 ghost use Rattle.dispatch_core.specs.Changes.{told};
 ghost use Rattle.dispatch_node.specs.Faults.{fault_told};
 ghost use Rattle.dispatch_node.specs.Kept.{kept_as, landed, takes_note, takes_or_none, HasRoomFor};
@@ -94,6 +95,8 @@ impl<D: Disk> Journals<D> {
             (D.image self.old.offset.journal.disk) }
         ensures retry_at_any_moment { IsTrue D.tells → Throughout D.image D.since self.old.retry.journal.disk self.new.retry.journal.disk
             (D.image self.old.retry.journal.disk) }
+        ensures plan { IsTrue D.tells → MeetsPlan D.stops D.made D.faults 0 false self.old.offset.journal.disk self.new.offset.journal.disk
+            × MeetsPlan D.stops D.made D.faults 0 false self.old.retry.journal.disk self.new.retry.journal.disk }
         ensures counts { (D.faults self.new.offset.journal.disk ≡ D.faults self.old.offset.journal.disk)
             × (D.faults self.new.retry.journal.disk ≡ D.faults self.old.retry.journal.disk) }
     {
@@ -122,6 +125,8 @@ impl<D: Disk> Journals<D> {
             (D.image self.old.offset.journal.disk) }
         ensures retry_at_any_moment { IsTrue D.tells → Throughout D.image D.since self.old.retry.journal.disk self.new.retry.journal.disk
             (D.image self.old.retry.journal.disk) }
+        ensures plan { IsTrue D.tells → MeetsPlan D.stops D.made D.faults 0 false self.old.offset.journal.disk self.new.offset.journal.disk
+            × MeetsPlan D.stops D.made D.faults 0 false self.old.retry.journal.disk self.new.retry.journal.disk }
         ensures counts { (D.faults self.new.offset.journal.disk ≡ D.faults self.old.offset.journal.disk)
             × (D.faults self.new.retry.journal.disk ≡ D.faults self.old.retry.journal.disk) }
     {
@@ -158,6 +163,9 @@ impl<D: Disk> Journals<D> {
         ensures fault { IsErrOf result AppendFault.Disk →
             Rose (D.faults self.old.offset.journal.disk) (D.faults self.new.offset.journal.disk)
             ⊎ Rose (D.faults self.old.retry.journal.disk) (D.faults self.new.retry.journal.disk) }
+        ensures plan { IsTrue D.tells → self.old.offset.journal.state ≡ Ready → self.old.retry.journal.state ≡ Ready →
+            MeetsBoth D.stops D.made D.faults (is_err result)
+            self.old.offset.journal.disk self.old.retry.journal.disk self.new.offset.journal.disk self.new.retry.journal.disk }
         ensures counts { (D.faults self.old.offset.journal.disk ≤ D.faults self.new.offset.journal.disk)
             × (D.faults self.old.retry.journal.disk ≤ D.faults self.new.retry.journal.disk) }
     {
@@ -191,14 +199,17 @@ impl<D: Disk> Journals<D> {
         ensures disk { (disk : _) → IsErrOf result (NodeFault.Disk disk) →
             Rose (D.faults self.old.offset.journal.disk) (D.faults self.new.offset.journal.disk)
             ⊎ Rose (D.faults self.old.retry.journal.disk) (D.faults self.new.retry.journal.disk) }
+        ensures plan { IsTrue D.planned → MeetsBoth D.stops D.made D.faults (was_shut_out result)
+            self.old.offset.journal.disk self.old.retry.journal.disk self.new.offset.journal.disk self.new.retry.journal.disk }
         ensures counts { (D.faults self.old.offset.journal.disk ≤ D.faults self.new.offset.journal.disk)
             × (D.faults self.old.retry.journal.disk ≤ D.faults self.new.retry.journal.disk) }
         // Where each image keeps something, nothing is damaged.
         ensures whole { IsTrue D.tells → ((c : List ℕ) → D.image self.old.offset.journal.disk c → (o : ℕ) × offsets.Keeps o c) →
             ((c : List ℕ) → D.image self.old.retry.journal.disk c → (ps : List ℕ) × pending.Keeps ps c) → IfErr result IsWhole }
     {
-        if let Err(fault) = self.offset.reopen(self.alloc) {
-            return Err(fault_of(DiskName::Offset(site), fault));
+        match self.offset.reopen(self.alloc) {
+            Ok(()) => {}
+            Err(fault) => return Err(fault_of(DiskName::Offset(site), fault)),
         }
         match self.retry.reopen(self.alloc) {
             Ok(()) => Ok(()),

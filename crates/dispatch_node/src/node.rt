@@ -41,16 +41,18 @@ struct ReadyTurn {
 }
 
 impl<D: Disk, L: LogFile> DispatchNode<D, L> {
-    ghost use Rattle.std.specs.Prelude.{◌≡◌, ◌⊎◌, ◌<◌, ◌≤◌, true, None, Option, List, ℕ, is_some, option_map};
+    ghost use Rattle.std.specs.Prelude.{◌≡◌, ◌⊎◌, ◌<◌, ◌≤◌, true, false, None, Option, List, ℕ, is_some, is_err, option_map};
     ghost use Rattle.std.specs.Prelude.{IsTrue, IfOk, IfErr, OnOk, OnErr, IsErrOf};
     ghost use Rattle.indexmap.specs.IndexSet.{spare};
     ghost use Rattle.outside.specs.Disk.{Throughout};
     ghost use Rattle.outside.specs.Faults.{Rose};
+    ghost use Rattle.outside.specs.Plans.{MeetsPlan};
     ghost use Rattle.gate_journal.specs.Growth.{Continues};
     ghost use Rattle.offset_journal.specs.Offsets as offsets;
     ghost use Rattle.retry_log.specs.Pending as pending;
     ghost use Rattle.turn_defs.specs.Setting.{Setting};
     ghost use Rattle.turn_defs.specs.Configs.{IsOf};
+    ghost use Rattle.site_node.specs.Faults.{MeetsBoth};
     ghost use Rattle.dispatch_core.specs.Changes.{told};
     ghost use Rattle.turn_defs.specs.Dispatcher.{DispatcherKept, DispatcherLive};
     ghost use Rattle.dispatch_core.specs.Standing.{HasSameNumbers, IsTurn, StandsAs, out_of};
@@ -147,6 +149,9 @@ impl<D: Disk, L: LogFile> DispatchNode<D, L> {
             self.new.journals.offset.journal.disk (D.image self.old.journals.offset.journal.disk) }
         ensures retry_at_any_moment { IsTrue D.tells → Throughout D.image D.since self.old.journals.retry.journal.disk
             self.new.journals.retry.journal.disk (D.image self.old.journals.retry.journal.disk) }
+        ensures plan { IsTrue D.tells →
+            MeetsPlan D.stops D.made D.faults 0 false self.old.journals.offset.journal.disk self.new.journals.offset.journal.disk
+            × MeetsPlan D.stops D.made D.faults 0 false self.old.journals.retry.journal.disk self.new.journals.retry.journal.disk }
         ensures counts { (D.faults self.new.journals.offset.journal.disk ≡ D.faults self.old.journals.offset.journal.disk)
             × (D.faults self.new.journals.retry.journal.disk ≡ D.faults self.old.journals.retry.journal.disk) }
         ensures fault { IfErr result IsReadFault }
@@ -216,6 +221,9 @@ impl<D: Disk, L: LogFile> DispatchNode<D, L> {
         ensures fault { IfErr result (λ e. e ≡ NodeFault.Stopped) }
         ensures rose { OnErr result (Rose (D.faults self.old.journals.offset.journal.disk) (D.faults self.new.journals.offset.journal.disk)
             ⊎ Rose (D.faults self.old.journals.retry.journal.disk) (D.faults self.new.journals.retry.journal.disk)) }
+        ensures plan { IsTrue D.tells → MeetsBoth D.stops D.made D.faults (is_err result)
+            self.old.journals.offset.journal.disk self.old.journals.retry.journal.disk
+            self.new.journals.offset.journal.disk self.new.journals.retry.journal.disk }
         ensures counts { (D.faults self.old.journals.offset.journal.disk ≤ D.faults self.new.journals.offset.journal.disk)
             × (D.faults self.old.journals.retry.journal.disk ≤ D.faults self.new.journals.retry.journal.disk) }
     {
@@ -234,7 +242,9 @@ impl<D: Disk, L: LogFile> DispatchNode<D, L> {
 
 impl<D: Disk, L: LogFile> SiteNode for DispatchNode<D, L> {
     ghost use Rattle.std.specs.Prelude.{◌≡◌, ◌+◌, ◌&&◌, is_some, List, ℕ};
+    ghost use Rattle.outside.specs.Plans.{AtMost};
     ghost use Rattle.gate_journal.specs.Growth.{Continues};
+    ghost use Rattle.site_node.specs.Faults.{OfBoth};
     ghost use Rattle.site_node.specs.States.{state_phase};
     ghost use Rattle.turn_defs.specs.Dispatcher.{dispatcher_at_rest, dispatcher_unfinished, dispatcher_wants};
     ghost use Rattle.dispatch_node.specs.Node.{DispatcherState, SiteLeads, StandsAt, says, never_spent};
@@ -242,6 +252,8 @@ impl<D: Disk, L: LogFile> SiteNode for DispatchNode<D, L> {
     ghost use Rattle.dispatch_node.specs.Paths.{begins as begins_by, phase_led};
 
     ghost tells = { D.tells && L.tells };
+
+    ghost planned = { D.planned };
 
     ghost State = { DispatcherState };
 
@@ -289,6 +301,10 @@ impl<D: Disk, L: LogFile> SiteNode for DispatchNode<D, L> {
         × ((c : List ℕ) → D.image new.journals.retry.journal.disk c → Continues (D.image old.journals.retry.journal.disk) c) };
 
     ghost faults = { λ node. D.faults node.journals.offset.journal.disk + D.faults node.journals.retry.journal.disk };
+
+    ghost stops_left = { λ node. OfBoth
+        (AtMost (D.stops node.journals.offset.journal.disk) (D.made node.journals.offset.journal.disk))
+        (AtMost (D.stops node.journals.retry.journal.disk) (D.made node.journals.retry.journal.disk)) };
 
     ghost log_faults = { λ node. L.faults node.clicks.tail.log };
 

@@ -38,14 +38,15 @@ pub(crate) struct Disks<D: Disk> {
 }
 
 impl<D: Disk> Disks<D> {
-    ghost use Rattle.std.specs.Prelude.{◌≡◌, ℕ, List, ◌+◌, ◌<◌, ◌≤◌, ◌⊎◌, ◌++◌, [], ◌∷◌, true, false, None, Some, Option, is_some, option_map, vec_len, vec_capacity, length, IsTrue, IfOk, IfErr, OnOk, OnErr, IsErrOf};
+    ghost use Rattle.std.specs.Prelude.{◌≡◌, ℕ, List, ◌+◌, ◌<◌, ◌≤◌, ◌⊎◌, ◌++◌, [], ◌∷◌, true, false, None, Some, Option, is_some, is_err, option_map, vec_len, vec_capacity, length, IsTrue, IfOk, IfErr, OnOk, OnErr, IsErrOf};
     ghost use Rattle.outside.specs.Disk.{Throughout};
     ghost use Rattle.outside.specs.Faults.{Rose};
+    ghost use Rattle.outside.specs.Plans.{MeetsPlan};
     ghost use Rattle.gate_journal.specs.declared.journal.JournalState.TheVariants.{Ready};
     ghost use Rattle.gate_journal.specs.Disk.{HasRoom};
     ghost use Rattle.gate_journal.specs.Opening.{IsOpened};
     ghost use Rattle.gate_journal.specs.Growth.{Continues};
-    ghost use Rattle.site_node.specs.Faults.{IsOfRestart, IsWhole};
+    ghost use Rattle.site_node.specs.Faults.{was_shut_out, IsOfRestart, IsWhole, MeetsBoth};
     ghost use Rattle.epoch_journal.specs.Epochs as epochs;
     ghost use Rattle.epoch_journal.specs.Epochs.{KeepsOr};
     ghost use Rattle.output_log.specs.Pairs as pairs;
@@ -103,6 +104,7 @@ impl<D: Disk> Disks<D> {
         ensures room { OnOk result (IsRoomFor writes.now (record { epoch_calls = D.calls_left self.new.epochs.journal.disk; epoch_bytes = D.bytes_left self.new.epochs.journal.disk; pair_calls = D.calls_left self.new.log.journal.disk; pair_bytes = D.bytes_left self.new.log.journal.disk; places = vec_capacity self.new.log.value.pairs }) (vec_len self.new.log.value.pairs)) }
         ensures epoch_moments { IsTrue D.tells → Throughout D.image D.since self.old.epochs.journal.disk self.new.epochs.journal.disk (D.image self.old.epochs.journal.disk) }
         ensures pair_moments { IsTrue D.tells → Throughout D.image D.since self.old.log.journal.disk self.new.log.journal.disk (D.image self.old.log.journal.disk) }
+        ensures plan { IsTrue D.tells → MeetsPlan D.stops D.made D.faults 0 false self.old.epochs.journal.disk self.new.epochs.journal.disk × MeetsPlan D.stops D.made D.faults 0 false self.old.log.journal.disk self.new.log.journal.disk }
         ensures epoch_count { D.faults self.new.epochs.journal.disk ≡ D.faults self.old.epochs.journal.disk }
         ensures pair_count { D.faults self.new.log.journal.disk ≡ D.faults self.old.log.journal.disk }
     {
@@ -132,6 +134,7 @@ impl<D: Disk> Disks<D> {
         ensures epoch_grows { IsTrue D.tells → (c : List ℕ) → D.image self.new.epochs.journal.disk c → Continues (D.image self.old.epochs.journal.disk) c }
         ensures pair_grows { IsTrue D.tells → (c : List ℕ) → D.image self.new.log.journal.disk c → Continues (D.image self.old.log.journal.disk) c }
         ensures fault { OnErr result (Rose (D.faults self.old.epochs.journal.disk + D.faults self.old.log.journal.disk) (D.faults self.new.epochs.journal.disk + D.faults self.new.log.journal.disk)) }
+        ensures plan { IsTrue D.tells → MeetsBoth D.stops D.made D.faults (is_err result) self.old.epochs.journal.disk self.old.log.journal.disk self.new.epochs.journal.disk self.new.log.journal.disk }
         ensures epoch_count { D.faults self.old.epochs.journal.disk ≤ D.faults self.new.epochs.journal.disk }
         ensures pair_count { D.faults self.old.log.journal.disk ≤ D.faults self.new.log.journal.disk }
     {
@@ -171,6 +174,7 @@ impl<D: Disk> Disks<D> {
         ensures moments { IsTrue D.tells → Throughout D.image D.since self.old.epochs.journal.disk self.new.epochs.journal.disk (KeepsOr self.old.epochs.value.epoch (self.old.epochs.value.epoch + 1)) }
         ensures fault { OnErr result (Rose (D.faults self.old.epochs.journal.disk) (D.faults self.new.epochs.journal.disk)) }
         ensures grows { IsTrue D.tells → (c : List ℕ) → D.image self.new.epochs.journal.disk c → Continues (D.image self.old.epochs.journal.disk) c }
+        ensures plan { IsTrue D.tells → MeetsPlan D.stops D.made D.faults 4 (is_err result) self.old.epochs.journal.disk self.new.epochs.journal.disk }
         ensures count { D.faults self.old.epochs.journal.disk ≤ D.faults self.new.epochs.journal.disk }
     {
         let doubt = self.doubt(payload);
@@ -199,6 +203,7 @@ impl<D: Disk> Disks<D> {
         ensures moments { IsTrue D.tells → Throughout D.image D.since self.old.log.journal.disk self.new.log.journal.disk (pairs.KeepsOr self.old.log.value.pairs.items pair) }
         ensures fault { OnErr result (Rose (D.faults self.old.log.journal.disk) (D.faults self.new.log.journal.disk)) }
         ensures grows { IsTrue D.tells → (c : List ℕ) → D.image self.new.log.journal.disk c → Continues (D.image self.old.log.journal.disk) c }
+        ensures plan { IsTrue D.tells → MeetsPlan D.stops D.made D.faults 4 (is_err result) self.old.log.journal.disk self.new.log.journal.disk }
         ensures count { D.faults self.old.log.journal.disk ≤ D.faults self.new.log.journal.disk }
     {
         let doubt = self.doubt(payload);
@@ -225,6 +230,7 @@ impl<D: Disk> Disks<D> {
         ensures kind { IfErr result IsOfRestart }
         ensures whole { IsTrue D.tells → (k m : JoinerKept) → MayHave k m (D.image self.old.epochs.journal.disk) (D.image self.old.log.journal.disk) → IfErr result IsWhole }
         ensures fault { (disk : _) → IsErrOf result (NodeFault.Disk disk) → Rose (D.faults self.old.epochs.journal.disk + D.faults self.old.log.journal.disk) (D.faults self.new.epochs.journal.disk + D.faults self.new.log.journal.disk) }
+        ensures plan { IsTrue D.planned → MeetsBoth D.stops D.made D.faults (was_shut_out result) self.old.epochs.journal.disk self.old.log.journal.disk self.new.epochs.journal.disk self.new.log.journal.disk }
         ensures epoch_count { D.faults self.old.epochs.journal.disk ≤ D.faults self.new.epochs.journal.disk }
         ensures pair_count { D.faults self.old.log.journal.disk ≤ D.faults self.new.log.journal.disk }
     {
@@ -259,6 +265,7 @@ impl<D: Disk> Disks<D> {
         ensures kind { IfErr result IsOfRestart }
         ensures whole { IsTrue D.tells → (k m : JoinerKept) → ((c : List ℕ) → D.image self.old.epochs.journal.disk c → EpochOr k m c) → IfErr result IsWhole }
         ensures fault { (disk : _) → IsErrOf result (NodeFault.Disk disk) → Rose (D.faults self.old.epochs.journal.disk) (D.faults self.new.epochs.journal.disk) }
+        ensures plan { IsTrue D.planned → MeetsPlan D.stops D.made D.faults 3 (was_shut_out result) self.old.epochs.journal.disk self.new.epochs.journal.disk }
         ensures count { D.faults self.old.epochs.journal.disk ≤ D.faults self.new.epochs.journal.disk }
     {
         match self.epochs.reopen(self.alloc) {
@@ -277,6 +284,7 @@ impl<D: Disk> Disks<D> {
         ensures kind { IfErr result IsOfRestart }
         ensures whole { IsTrue D.tells → (k m : JoinerKept) → ((c : List ℕ) → D.image self.old.log.journal.disk c → PairsOr k m c) → IfErr result IsWhole }
         ensures fault { (disk : _) → IsErrOf result (NodeFault.Disk disk) → Rose (D.faults self.old.log.journal.disk) (D.faults self.new.log.journal.disk) }
+        ensures plan { IsTrue D.planned → MeetsPlan D.stops D.made D.faults 3 (was_shut_out result) self.old.log.journal.disk self.new.log.journal.disk }
         ensures count { D.faults self.old.log.journal.disk ≤ D.faults self.new.log.journal.disk }
     {
         match self.log.reopen(self.alloc) {

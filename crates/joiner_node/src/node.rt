@@ -40,9 +40,10 @@ struct ReadyTurn {
 }
 
 impl<L: LogFile, D: Disk> JoinerNode<L, D> {
-    ghost use Rattle.std.specs.Prelude.{◌≡◌, ◌+◌, ◌*◌, ◌<◌, ◌≤◌, ℕ, List, Option, None, Some, true, is_some, IsTrue, IfOk, IfErr, OnOk, OnErr, IsErrOf, option_map, vec_len, vec_capacity};
+    ghost use Rattle.std.specs.Prelude.{◌≡◌, ◌+◌, ◌*◌, ◌<◌, ◌≤◌, ℕ, List, Option, None, Some, true, false, is_some, IsTrue, IfOk, IfErr, OnOk, OnErr, IsErrOf, option_map, vec_len, vec_capacity};
     ghost use Rattle.outside.specs.Disk.{Throughout};
     ghost use Rattle.outside.specs.Faults.{Rose};
+    ghost use Rattle.outside.specs.Plans.{MeetsPlan};
     ghost use Rattle.gate_journal.specs.declared.journal.JournalState.TheVariants.{Ready};
     ghost use Rattle.gate_journal.specs.Growth.{Continues};
     ghost use Rattle.log_records.specs.declared.records.QueryRec.{QueryRec as Query};
@@ -51,6 +52,7 @@ impl<L: LogFile, D: Disk> JoinerNode<L, D> {
     ghost use Rattle.turn_defs.specs.Setting.{Setting};
     ghost use Rattle.site_node.specs.Bytes.{IsInput};
     ghost use Rattle.turn_defs.specs.Configs.{IsOf};
+    ghost use Rattle.site_node.specs.Faults.{was_stopped, MeetsBoth};
     ghost use Rattle.turn_defs.specs.Joiner.{JoinerKept, JoinerLive};
     ghost use Rattle.joiner_core.specs.Standing.{Serves, IsSame, Fits, Leads};
     ghost use Rattle.joiner_core.specs.declared.turn.JoinerNote.{JoinerNote};
@@ -135,6 +137,7 @@ impl<L: LogFile, D: Disk> JoinerNode<L, D> {
         ensures spends { input ≡ Start → self.old.disks.epochs.value.epoch ≡ LAST_EPOCH → OnOk result ⊥ }
         ensures kind { IfErr result IsOfDecision }
         ensures fault { IsErrOf result NodeFault.Read → Rose (L.faults self.old.joining.queries.store.tail.log) (L.faults self.new.joining.queries.store.tail.log) }
+        ensures plan { IsTrue D.tells → MeetsPlan D.stops D.made D.faults 0 false self.old.disks.epochs.journal.disk self.new.disks.epochs.journal.disk × MeetsPlan D.stops D.made D.faults 0 false self.old.disks.log.journal.disk self.new.disks.log.journal.disk }
         ensures epoch_count { D.faults self.new.disks.epochs.journal.disk ≡ D.faults self.old.disks.epochs.journal.disk }
         ensures pair_count { D.faults self.new.disks.log.journal.disk ≡ D.faults self.old.disks.log.journal.disk }
         ensures log_count { L.faults self.old.joining.queries.store.tail.log ≤ L.faults self.new.joining.queries.store.tail.log }
@@ -173,6 +176,7 @@ impl<L: LogFile, D: Disk> JoinerNode<L, D> {
         ensures epoch_grows { IsTrue D.tells → (c : List ℕ) → D.image self.new.disks.epochs.journal.disk c → Continues (D.image self.old.disks.epochs.journal.disk) c }
         ensures pair_grows { IsTrue D.tells → (c : List ℕ) → D.image self.new.disks.log.journal.disk c → Continues (D.image self.old.disks.log.journal.disk) c }
         ensures fault { OnErr result (Rose (D.faults self.old.disks.epochs.journal.disk + D.faults self.old.disks.log.journal.disk) (D.faults self.new.disks.epochs.journal.disk + D.faults self.new.disks.log.journal.disk)) }
+        ensures plan { IsTrue D.tells → MeetsBoth D.stops D.made D.faults (was_stopped result) self.old.disks.epochs.journal.disk self.old.disks.log.journal.disk self.new.disks.epochs.journal.disk self.new.disks.log.journal.disk }
         ensures epoch_count { D.faults self.old.disks.epochs.journal.disk ≤ D.faults self.new.disks.epochs.journal.disk }
         ensures pair_count { D.faults self.old.disks.log.journal.disk ≤ D.faults self.new.disks.log.journal.disk }
     {
@@ -200,6 +204,8 @@ fn joiner_number(config: Config, site: u8, joiner: u8) -> u16
 
 impl<L: LogFile, D: Disk> SiteNode for JoinerNode<L, D> {
     ghost use Rattle.std.specs.Prelude.{◌≡◌, ◌+◌, ◌&&◌, is_some};
+    ghost use Rattle.outside.specs.Plans.{AtMost};
+    ghost use Rattle.site_node.specs.Faults.{OfBoth};
     ghost use Rattle.site_node.specs.States.{Says};
     ghost use Rattle.turn_defs.specs.Joiner.{joiner_at_rest, joiner_unfinished, joiner_wants};
     ghost use Rattle.gate_journal.specs.Growth.{Continues};
@@ -208,6 +214,8 @@ impl<L: LogFile, D: Disk> SiteNode for JoinerNode<L, D> {
     ghost use Rattle.joiner_node.specs.States.{begins_to, phase_to, keeps_images};
 
     ghost tells = { D.tells && L.tells };
+
+    ghost planned = { D.planned };
 
     ghost State = { JoinerState };
 
@@ -242,6 +250,8 @@ impl<L: LogFile, D: Disk> SiteNode for JoinerNode<L, D> {
     ghost grown = { λ old new. ((c : _) → D.image new.disks.epochs.journal.disk c → Continues (D.image old.disks.epochs.journal.disk) c) × ((c : _) → D.image new.disks.log.journal.disk c → Continues (D.image old.disks.log.journal.disk) c) };
 
     ghost faults = { λ node. D.faults node.disks.epochs.journal.disk + D.faults node.disks.log.journal.disk };
+
+    ghost stops_left = { λ node. OfBoth (AtMost (D.stops node.disks.epochs.journal.disk) (D.made node.disks.epochs.journal.disk)) (AtMost (D.stops node.disks.log.journal.disk) (D.made node.disks.log.journal.disk)) };
 
     ghost log_faults = { λ node. L.faults node.joining.queries.store.tail.log };
 

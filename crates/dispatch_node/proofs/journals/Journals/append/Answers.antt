@@ -1,6 +1,7 @@
-use Rattle.std.proofs.Common.{◌≡◌, ℕ, List, true, sym, ap, ◌∙◌, subst, arith}
+use Rattle.std.proofs.Common.{◌≡◌, ℕ, List, true, refl, sym, ap, ◌∙◌, subst, arith}
 use Rattle.dispatch_node.proofs.Words.{Throughout, KeepsOr, any_has, DispatchNote, kept_as, landed, takes_note}
 use Rattle.dispatch_node.proofs.Disks.{none_parked, settled, on_ok}
+use Rattle.site_node.proofs.Stops.{first_meets, second_meets}
 use Rattle.dispatch_node.proofs.journals.Journals.append.Goals as goal
 
 pub append-requires-in-Park-clause-next : goal.append-requires-in-Park-clause-next
@@ -26,3 +27,21 @@ returns-in-Settle-clause-retry_at_any_moment g c tells ready =
     let ps = j.retry.value.pending.keys in
     let same = settled ps c.in-Settle.position j.retry.value.unique ∙ ap (λ (n : DispatchNote). (landed n (kept_as j.offset.value.offset ps)).pending) (sym c.in-Settle.is) in
     subst (λ (qs : List ℕ). Throughout g.D.Disk.image g.D.Disk.since j.retry.journal.disk c.append-in-Settle.new.self.journal.disk (KeepsOr ps qs)) same (c.append-in-Settle.ensures.keeps tells ready)
+
+pub returns-in-Advance-clause-plan : goal.returns-in-Advance-clause-plan
+returns-in-Advance-clause-plan g c tells offset retry =
+    let d = g.D.Disk in
+    let j = c.args.self.now in
+    first_meets d.stops d.made d.faults 4 _ _ j.offset.journal.disk c.append.new.self.journal.disk j.retry.journal.disk j.retry.journal.disk refl refl (c.append.ensures.plan tells offset)
+
+pub returns-in-Park-clause-plan : goal.returns-in-Park-clause-plan
+returns-in-Park-clause-plan g c tells offset retry =
+    let d = g.D.Disk in
+    let j = c.args.self.now in
+    second_meets d.stops d.made d.faults 4 _ _ j.offset.journal.disk j.offset.journal.disk j.retry.journal.disk c.append-in-Park.new.self.journal.disk refl refl (c.append-in-Park.ensures.plan tells retry)
+
+pub returns-in-Settle-clause-plan : goal.returns-in-Settle-clause-plan
+returns-in-Settle-clause-plan g c tells offset retry =
+    let d = g.D.Disk in
+    let j = c.args.self.now in
+    second_meets d.stops d.made d.faults 4 _ _ j.offset.journal.disk j.offset.journal.disk j.retry.journal.disk c.append-in-Settle.new.self.journal.disk refl refl (c.append-in-Settle.ensures.plan tells retry)

@@ -1,7 +1,8 @@
-use Rattle.std.proofs.Common.{rules, refl, sym, ◌∙◌}
+use Rattle.std.proofs.Common.{◌≡◌, Bool, rules, refl, sym, subst, ◌∙◌}
 use Rattle.dispatch_node.proofs.Words.{one_of}
 use Rattle.dispatch_node.proofs.Turning.{some_of, if_err}
 use Rattle.dispatch_node.proofs.Restarting.{nothing_landed, note_landed, restart_moment, still_doubted, doubt_kept}
+use Rattle.site_node.specs.Faults.{was_shut_out, MeetsBoth}
 use Rattle.dispatch_node.proofs.node.DispatchNodeSiteNode.restart.Goals as goal
 
 pub returns-then-takes-clause-stopped : goal.returns-then-takes-clause-stopped
@@ -60,3 +61,17 @@ pub returns-else-takes-clause-grown : goal.returns-else-takes-clause-grown
 returns-else-takes-clause-grown g c tells s at =
     let both = one_of g.D.Disk.tells g.L.LogFile.tells tells in
     (c.reopen.ensures.offset_grows both.0, c.reopen.ensures.retry_grows both.0)
+
+pub returns-then-takes-clause-plan : goal.returns-then-takes-clause-plan
+returns-then-takes-clause-plan g c planned = c.in_ok-reopen.ensures.plan planned
+
+pub returns-else-takes-clause-plan : goal.returns-else-takes-clause-plan
+returns-else-takes-clause-plan g c planned = c.in_ok-reopen.ensures.plan planned
+
+pub returns-in_err-reopen-clause-plan : goal.returns-in_err-reopen-clause-plan
+returns-in_err-reopen-clause-plan g c planned =
+    let d = g.D.Disk in
+    let old = c.args.self.now.journals in
+    let new = c.reopen.new.self in
+    let same : was_shut_out c.reopen.result ≡ was_shut_out c.from_residual.result = search rules in
+    subst (λ (met : Bool). MeetsBoth d.stops d.made d.faults met old.offset.journal.disk old.retry.journal.disk new.offset.journal.disk new.retry.journal.disk) same (c.reopen.ensures.plan planned)

@@ -1,9 +1,11 @@
-use Rattle.std.proofs.Common.{Some, refl, sym, ap, ◌∙◌, subst}
+use Rattle.std.proofs.Common.{◌≡◌, true, false, rules, Some, refl, sym, ap, ◌∙◌, subst}
 use Rattle.dispatch_node.proofs.Words.{none_of, continues_same, live_of, IsTurn, KeptOn, one_of, DispatcherKept, DispatcherState, DispatchCore, landed_by}
 use Rattle.offset_journal.specs.Offsets as offsets
 use Rattle.retry_log.specs.Pending as pending
 use Rattle.dispatch_node.proofs.Standing.{live_or}
 use Rattle.dispatch_node.proofs.Turning.{config_is, decides, quiet, idles, ends, stays_open, doubted, row_moment, opened_is, decided_at, taken_at, images_at, part_at, grows_through, some_of, if_err}
+use Rattle.site_node.specs.Faults.{was_stopped}
+use Rattle.site_node.proofs.Stops.{both_meet}
 use Rattle.dispatch_node.proofs.node.DispatchNodeSiteNode.turn.Goals as goal
 
 pub returns-in-None-clause-done : goal.returns-in-None-clause-done
@@ -127,3 +129,24 @@ returns-in_err-ready-in-Some-clause-grown g c tells s at =
       λ x now. continues_same (image old.journals.offset.journal.disk) x ((e.offset_at_any_moment both.0).now x now),
       λ x now. continues_same (image old.journals.retry.journal.disk) x ((e.retry_at_any_moment both.0).now x now),
     )
+
+pub returns-in_ok-note-in-Some-clause-plan : goal.returns-in_ok-note-in-Some-clause-plan
+returns-in_ok-note-in-Some-clause-plan g c planned =
+    let d = g.D.Disk in
+    let tells = g.met.D.Disk.plan_told planned in
+    let old = c.args.self.now.journals in
+    let mid = c.prepare.new.self.journals in
+    let new = c.append.new.self.journals in
+    both_meet d.stops d.made d.faults false false old.offset.journal.disk old.retry.journal.disk mid.offset.journal.disk mid.retry.journal.disk new.offset.journal.disk new.retry.journal.disk refl
+    (c.in_ok-ready-in-Some.ensures.plan tells) (c.in_ok-note-in-Some.ensures.plan tells)
+
+pub returns-in_err-note-in-Some-clause-plan : goal.returns-in_err-note-in-Some-clause-plan
+returns-in_err-note-in-Some-clause-plan g c planned =
+    let d = g.D.Disk in
+    let tells = g.met.D.Disk.plan_told planned in
+    let old = c.args.self.now.journals in
+    let mid = c.prepare.new.self.journals in
+    let new = c.append.new.self.journals in
+    let same : true ≡ was_stopped c.from_residual-in_err-note-in-Some.result = search rules in
+    both_meet d.stops d.made d.faults true _ old.offset.journal.disk old.retry.journal.disk mid.offset.journal.disk mid.retry.journal.disk new.offset.journal.disk new.retry.journal.disk same
+    (c.in_ok-ready-in-Some.ensures.plan tells) (c.in_err-note-in-Some.ensures.plan tells)

@@ -1,9 +1,11 @@
-use Rattle.std.proofs.Common.{◌≡◌, Some, subst}
+use Rattle.std.proofs.Common.{◌≡◌, Some, refl, false, ap, subst, rules}
 use Rattle.std.specs.Prelude.{Option}
 use Rattle.gate_journal.specs.declared.journal.JournalState.TheVariants.{Ready}
 use Rattle.joiner_node.specs.Disks.{AreInDoubt, with_note}
 use Rattle.joiner_node.specs.declared.disks.Doubt.{Doubt}
 use Rattle.joiner_node.proofs.Reopening.{epoch_left, pairs_left, landed, not_landed}
+use Rattle.site_node.specs.Faults.{was_shut_out}
+use Rattle.site_node.proofs.Stops.{first_meets, one_by_one}
 use Rattle.joiner_node.proofs.disks.Disks.reopen.Goals as goal
 
 pub returns-then-has_more-clause-found : goal.returns-then-has_more-clause-found
@@ -42,3 +44,43 @@ returns-then-has_more-clause-pair_grows g c tells b here = rw c.in_ok-reopen_epo
 
 pub returns-else-has_more-clause-pair_grows : goal.returns-else-has_more-clause-pair_grows
 returns-else-has_more-clause-pair_grows g c tells b here = rw c.in_ok-reopen_epochs.ensures.same.3 at (c.in_ok-reopen_log.ensures.grows tells b here)
+
+pub returns-in_err-reopen_epochs-clause-plan : goal.returns-in_err-reopen_epochs-clause-plan
+returns-in_err-reopen_epochs-clause-plan g c planned =
+    let d = g.D.Disk in
+    let old = c.args.self.now in
+    let new = c.reopen_epochs.new.self in
+    let e = c.reopen_epochs.ensures in
+    let same : was_shut_out c.reopen_epochs.result ≡ was_shut_out c.from_residual.result = search rules in
+    first_meets d.stops d.made d.faults 3 _ _ old.epochs.journal.disk new.epochs.journal.disk old.log.journal.disk new.log.journal.disk same (ap (λ log. log.journal.disk) e.same.3) (e.plan planned)
+
+pub returns-in_err-reopen_log-clause-plan : goal.returns-in_err-reopen_log-clause-plan
+returns-in_err-reopen_log-clause-plan g c planned =
+    let d = g.D.Disk in
+    let e = c.in_ok-reopen_epochs.ensures in
+    let l = c.reopen_log.ensures in
+    let stays = l.same.3 in
+    let old = c.args.self.now in
+    let new = c.reopen_log.new.self in
+    let same : was_shut_out c.reopen_log.result ≡ was_shut_out c.from_residual-in_err-reopen_log.result = search rules in
+    one_by_one d.stops d.made d.faults 3 _ _ old.epochs.journal.disk old.log.journal.disk new.epochs.journal.disk new.log.journal.disk same (rw (← stays) at (e.plan planned)) (rw e.same.3 at (l.plan planned))
+
+pub returns-then-has_more-clause-plan : goal.returns-then-has_more-clause-plan
+returns-then-has_more-clause-plan g c planned =
+    let d = g.D.Disk in
+    let e = c.in_ok-reopen_epochs.ensures in
+    let l = c.in_ok-reopen_log.ensures in
+    let same = l.same.3 in
+    let old = c.args.self.now in
+    let new = c.reopen_log.new.self in
+    one_by_one d.stops d.made d.faults 3 false false old.epochs.journal.disk old.log.journal.disk new.epochs.journal.disk new.log.journal.disk refl (rw (← same) at (e.plan planned)) (rw e.same.3 at (l.plan planned))
+
+pub returns-else-has_more-clause-plan : goal.returns-else-has_more-clause-plan
+returns-else-has_more-clause-plan g c planned =
+    let d = g.D.Disk in
+    let e = c.in_ok-reopen_epochs.ensures in
+    let l = c.in_ok-reopen_log.ensures in
+    let same = l.same.3 in
+    let old = c.args.self.now in
+    let new = c.reopen_log.new.self in
+    one_by_one d.stops d.made d.faults 3 false false old.epochs.journal.disk old.log.journal.disk new.epochs.journal.disk new.log.journal.disk refl (rw (← same) at (e.plan planned)) (rw e.same.3 at (l.plan planned))

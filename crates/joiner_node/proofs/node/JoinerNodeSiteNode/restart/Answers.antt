@@ -1,5 +1,5 @@
-use Rattle.std.proofs.Common.{Some}
-use Rattle.site_node.specs.Faults.{IsWhole}
+use Rattle.std.proofs.Common.{◌≡◌, Bool, Some, subst, rules}
+use Rattle.site_node.specs.Faults.{was_shut_out, IsWhole, MeetsBoth}
 use Rattle.joiner_node.specs.Node.{Parts}
 use Rattle.joiner_node.specs.Disks.{with_note}
 use Rattle.joiner_node.specs.States.{keeps_open}
@@ -61,3 +61,14 @@ returns-in_err-landed-clause-whole g c tells s at =
     let told = both_tell _ _ tells in
     let w = between c.args.self.now.disks.in_doubt _ _ _ s at.by c.requires in
     if_err c.from_residual.result c.in_err-landed.field-0.0 IsWhole c.from_residual.ensures.1 (c.in_err-landed.ensures.whole told.0 s.node.kept _ w.images)
+
+pub returns-clause-plan : goal.returns-clause-plan
+returns-clause-plan g c planned = c.in_ok-landed.ensures.plan planned
+
+pub returns-in_err-landed-clause-plan : goal.returns-in_err-landed-clause-plan
+returns-in_err-landed-clause-plan g c planned =
+    let d = g.D.Disk in
+    let old = c.args.self.now.disks in
+    let new = c.reopen.new.self in
+    let same : was_shut_out c.reopen.result ≡ was_shut_out c.from_residual.result = search rules in
+    subst (λ (met : Bool). MeetsBoth d.stops d.made d.faults met old.epochs.journal.disk old.log.journal.disk new.epochs.journal.disk new.log.journal.disk) same (c.reopen.ensures.plan planned)

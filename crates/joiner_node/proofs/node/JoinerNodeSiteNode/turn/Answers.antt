@@ -7,6 +7,7 @@ use Rattle.std.proofs.lemmas.Result.{err_from_is_err_and}
 use Rattle.joiner_node.proofs.Growing.{same_grows, then_grows}
 use Rattle.joiner_node.proofs.Spending.{spends, starts, spent_junk}
 use Rattle.joiner_node.proofs.Turning.{none_of, gets_of, quiet, idles, ends, stays_open, all_five, both_err, both_tell, serves_of, serves_same, config_same, holds_within, next_of, led_to}
+use Rattle.site_node.proofs.Stops.{both_meet}
 use Rattle.joiner_node.proofs.node.JoinerNodeSiteNode.turn.Goals as goal
 
 pub returns-in-None-clause-done : goal.returns-in-None-clause-done
@@ -121,3 +122,12 @@ returns-after-is_some-clause-spends g c s at epoch is =
     let reads = rw c.in-Some.is at (c.in_ok-read_input.ensures.reads s.node.setting at.setting) in
     let start = starts s c.args.input.now c.in-Some.input epoch reads is in
     absurd (c.in_ok-ready-in-Some.ensures.spends start.0 (known.0.epoch_is ∙ start.1))
+
+pub returns-after-is_some-clause-plan : goal.returns-after-is_some-clause-plan
+returns-after-is_some-clause-plan g c planned =
+    let d = g.D.Disk in
+    let tells = g.met.D.Disk.plan_told planned in
+    let old = c.args.self.now.disks in
+    let mid = c.prepare.new.self.disks in
+    let new = c.finish.new.self.disks in
+    both_meet d.stops d.made d.faults _ _ old.epochs.journal.disk old.log.journal.disk mid.epochs.journal.disk mid.log.journal.disk new.epochs.journal.disk new.log.journal.disk refl (c.prepare.ensures.plan tells) (c.finish.ensures.plan tells)
