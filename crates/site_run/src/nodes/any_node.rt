@@ -26,6 +26,8 @@ pub struct AnyNode<D: Disk, L: LogFile> {
 impl<D: Disk, L: LogFile> SiteNode for AnyNode<D, L> {
     ghost tells = { ⟦<Nested<D, L> as SiteNode>⟧.tells };
 
+    ghost planned = { ⟦<Nested<D, L> as SiteNode>⟧.planned };
+
     ghost State = { ⟦<Nested<D, L> as SiteNode>⟧.State };
 
     ghost leads = { ⟦<Nested<D, L> as SiteNode>⟧.leads };
@@ -59,6 +61,8 @@ impl<D: Disk, L: LogFile> SiteNode for AnyNode<D, L> {
     ghost grown = { λ old new. ⟦<Nested<D, L> as SiteNode>⟧.grown old.node new.node };
 
     ghost faults = { λ any. ⟦<Nested<D, L> as SiteNode>⟧.faults any.node };
+
+    ghost stops_left = { λ any. ⟦<Nested<D, L> as SiteNode>⟧.stops_left any.node };
 
     ghost log_faults = { λ any. ⟦<Nested<D, L> as SiteNode>⟧.log_faults any.node };
 
