@@ -8,5 +8,6 @@ mod taking;
 
 pub use building::{Built, build};
 pub use config::{Config, Logs};
+pub(crate) use parting::{joiner_place, server_disk};
 pub use parting::{Parting, apart};
 pub use parts::{Parts, Room};

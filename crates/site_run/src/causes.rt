@@ -2,6 +2,7 @@
 ghost use Rattle.std.specs.Prelude.{◌≡◌, ◌<◌};
 ghost use Rattle.site_run.specs.Causes.{of_node, log_of, epochs_of};
 
+use crate::built::{joiner_place, server_disk};
 use crate::{LogName, RunFault, StorePlace};
 use outside::DiskName;
 use site_node::NodeFault;
@@ -22,14 +23,10 @@ fn epochs_disk(joiners: u8, number: u8) -> DiskName
     ensures { result ≡ epochs_of joiners number }
 {
     if number < 7 {
-        return DiskName::Server(number.saturating_sub(2));
+        return server_disk(number);
     }
-    let place = number - 7;
-    if place < joiners {
-        DiskName::Epoch(0, place)
-    } else {
-        DiskName::Epoch(1, place - joiners)
-    }
+    let (site, joiner) = joiner_place(joiners, number);
+    DiskName::Epoch(site, joiner)
 }
 
 // What is told of a node's fault, by its number.

@@ -1,5 +1,6 @@
 // Nodes are taken apart.
-ghost use Rattle.std.specs.Prelude.{◌≡◌, ◌≤◌, ◌<◌, ◌+◌, ◌*◌, ◌++◌, [], ◌∷◌, ℕ, List, map, length, vec_len, vec_capacity, refl};
+ghost use Rattle.std.specs.Prelude.{◌≡◌, ◌≤◌, ◌<◌, ◌+◌, ◌-◌, ◌*◌, ◌++◌, [], ◌∷◌, ℕ, List, map, length, vec_len, vec_capacity, refl};
+ghost use Rattle.outside.specs.declared.store.DiskName.TheVariants as name;
 ghost use Rattle.site_store.specs.Lent.{Lent};
 ghost use Rattle.site_run.specs.Naming.{as_lent, all_from, of_dispatcher, of_server, of_replica, of_joiner, place_of, site_of, joiner_of};
 ghost use Rattle.site_workers.specs.Eithers as either;
@@ -33,8 +34,15 @@ pub trait Parting<D, L>: SiteNode {
     ghost counted: { (joiners number : ℕ) (node : Self) → length (disks_of joiners number node) ≡ Self.disk_count node };
 }
 
-/// The name of a joiner's disk, by its number.
-fn joiner_place(joiners: u8, number: u8) -> (u8, u8)
+/// The name of a server's disk, by the server's number.
+pub(crate) fn server_disk(number: u8) -> DiskName
+    ensures { result ≡ name.Server (number - 2) }
+{
+    DiskName::Server(number.saturating_sub(2))
+}
+
+/// The site of a joiner and its place there, by which its disks have their names, by the joiner's number.
+pub(crate) fn joiner_place(joiners: u8, number: u8) -> (u8, u8)
     ensures { result ≡ (site_of joiners number, joiner_of joiners number) }
 {
     let place = number.saturating_sub(7);
@@ -64,10 +72,9 @@ impl<D: Disk, L: LogFile> Parting<D, L> for AnyNode<D, L> {
                 parts.put(DiskName::Retry(number), retry);
                 parts.logs.push_reserved(log);
             }
-            Either::First(Either::Second(node)) => parts.put(
-                DiskName::Server(number.saturating_sub(2)),
-                node.into_disk(),
-            ),
+            Either::First(Either::Second(node)) => {
+                parts.put(server_disk(number), node.into_disk());
+            }
             Either::Second(Either::First(node)) => parts.put(
                 DiskName::Replica(number.saturating_sub(4)),
                 node.into_disk(),
