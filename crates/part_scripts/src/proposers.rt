@@ -6,9 +6,9 @@ use script_lines::texts::{ballot, batch, told_batch};
 use script_lines::{Part, Stop, Words, number_of};
 use std::alloc::Global;
 
-/// `start SLOT BALLOT BATCH`, with the number of replicas behind it or without, which are three then; `promise FROM BALLOT`, with a
-/// prior `PRIOR-BALLOT BATCH` behind it or without: the value to send, if it makes the majority; `accepted FROM BALLOT`: whether it makes the majority. Both are counted at once. `nack BALLOT BALLOT`,
-/// `value`, `phase`.
+/// `start SLOT BALLOT BATCH`, with the number of replicas behind it or without, where they are three; `promise FROM BALLOT`, with a
+/// prior `PRIOR-BALLOT BATCH` behind it or without: the value to send, if it makes the majority; `accepted FROM BALLOT`: whether it
+/// makes the majority. Both are counted at once. `nack BALLOT BALLOT`, `value`, `phase`.
 #[derive(Drop)]
 pub struct Proposers {
     proposer: Option<Proposer>,
