@@ -14,7 +14,7 @@ use Rattle.report_text.specs.Stream.{TookPrefix}
 use Rattle.run_fault.specs.declared.fault.LogName.{LogName}
 use Rattle.run_fault.specs.declared.fault.LogName.TheVariants.{Queries, Clicks}
 use Rattle.turn_defs.specs.Setting.{Setting}
-use Rattle.site_run.specs.declared.built.config.Config.{Config}
+use Rattle.turn_defs.specs.declared.config.Config.{Config}
 use Rattle.site_laws.specs.Stores.{Images, IsSoundStore}
 use Rattle.site_laws.specs.StoreLaws.{LeavesNothing}
 use Rattle.site_run.specs.Asked.{IsSettingOf}
@@ -57,7 +57,7 @@ HaveIds g ids = map (λ (c : ClickRec). c.id) (map (λ (l : ClickLine). l.click)
 
 -- what all nodes are built for
 abbrev pub config_of : Values → List ShardRow → Config
-config_of v table = record { horizon = v.horizon; joiners = v.nodes.joiners; table = table; batch = v.nodes.batch }
+config_of v table = record { horizon = v.horizon; joiners = v.nodes.joiners; table = table; batch = v.nodes.batch; replicas = 3 }
 
 -- The setting is what was asked: it has these numbers, the table of that text, and the records of the two logs, which are valid.
 pub record IsAsked (told : List ℕ → Option (List ℕ)) (v : Values) (g : Setting) : Type 0 where

@@ -1,6 +1,6 @@
 -- Each node is at the place of its number.
 use Rattle.std.proofs.Common.{◌≡◌, ℕ, suc, zero, ◌+◌, ◌*◌, ◌<◌, List, length, Some, refl, sym, ap, ◌∙◌, subst, arith}
-use Rattle.site_run.proofs.Words.{Node, Dispatcher, Server, Replica, Joiner, Setting, IsJoiner, IsNode, NumbersAreNodes, node_count, node_number, node_of, Disks, down_over, Roster, IsOf, DispatcherKept, ServerKept, ReplicaKept, JoinerKept, AnyState, any_of, down_with, AreDownOver, AllAt, IsDownAt}
+use Rattle.site_run.proofs.Words.{Node, Dispatcher, Server, Replica, Joiner, Setting, IsJoiner, IsNode, NumbersAreNodes, node_count, node_number, node_of, Disks, down_over, Config, IsOf, DispatcherKept, ServerKept, ReplicaKept, JoinerKept, AnyState, any_of, down_with, AreDownOver, AllAt, IsDownAt}
 
 some_same : (m n : Node) → Some m ≡ Some n → m ≡ n
 some_same m n is = cc is
@@ -27,13 +27,13 @@ module _ {N : Type 0} (places : N → AnyState → Type 0) (g : Setting) (d : Di
   joiner_at j i is at node k kept down = down_at places g d law (Joiner j) is i at node (subst (λ x. places node (any_of (Joiner j) (down_with g x))) (sym (ap d.joiners (sym at) ∙ kept)) down)
 
 -- a joiner's number, by its site and its place there, is one of the setting's
-pub is_joiner : (g : Setting) (r : Roster) (site joiner n : ℕ) → IsOf r g → r.replicas ≡ 3 → site < 2 → joiner < r.joiners → n ≡ 7 + site * r.joiners + joiner → IsJoiner g n
-is_joiner g r zero joiner n of three is at eq = (omega (arith, of.replicas, three, eq), omega (arith, of.replicas, of.joiners, three, eq, at))
-is_joiner g r (suc zero) joiner n of three is at eq = (omega (arith, of.replicas, three, eq), omega (arith, of.replicas, of.joiners, three, eq, at))
-is_joiner g r (suc (suc site)) joiner n of three is at eq = absurd (omega (arith, is))
+pub is_joiner : (g : Setting) (config : Config) (site joiner n : ℕ) → IsOf config g → config.replicas ≡ 3 → site < 2 → joiner < config.joiners → n ≡ 7 + site * config.joiners + joiner → IsJoiner g n
+is_joiner g config zero joiner n of three is at eq = (omega (arith, of.replicas, three, eq), omega (arith, of.replicas, of.joiners, three, eq, at))
+is_joiner g config (suc zero) joiner n of three is at eq = (omega (arith, of.replicas, three, eq), omega (arith, of.replicas, of.joiners, three, eq, at))
+is_joiner g config (suc (suc site)) joiner n of three is at eq = absurd (omega (arith, is))
 
 pub is_down_over : {N : Type 0} (places : N → AnyState → Type 0) (g : Setting) (d : Disks) → NumbersAreNodes g → (nodes : List N) → length nodes ≡ node_count g → AllAt (IsDownAt places g d) nodes → AreDownOver places g d nodes
 is_down_over places g d law nodes count all n is a = (all.at (node_number n) a (omega (arith, count, law.below n is))).down n is refl
 
-pub joiners_of : (old new : Roster) (j : ℕ) → new ≡ old → old.joiners ≡ j → new.joiners ≡ j
-joiners_of old new j same is = ap (λ (r : Roster). r.joiners) same ∙ is
+pub joiners_of : (old new : Config) → new ≡ old → new.joiners ≡ old.joiners
+joiners_of old new same = ap (λ (config : Config). config.joiners) same

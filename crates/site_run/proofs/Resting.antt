@@ -1,6 +1,6 @@
 -- A node without an open turn keeps on each of its disks alone what its state says.
 use Rattle.std.proofs.Common.{◌≡◌, ⊎_elim, ℕ, List, Option, Some, None, refl, ap, subst}
-use Rattle.site_run.proofs.Words.{Each, JournalState, Ready, KeepsOffset, KeepsPending, KeepsEpoch, KeepsPairs, Node, Dispatcher, Server, Replica, Joiner, node_number, Roster, DispatchNote, DispatcherState, RegistrarView, ServerState, VoterView, ReplicaState, IsVoted, JoinerState, Doubt, StateOf, Either, AnyState, any_of, KeepsVotes, HasSpelledNotes, IsClosed, KeepsAs}
+use Rattle.site_run.proofs.Words.{Each, JournalState, Ready, KeepsOffset, KeepsPending, KeepsEpoch, KeepsPairs, Node, Dispatcher, Server, Replica, Joiner, node_number, Config, DispatchNote, DispatcherState, RegistrarView, ServerState, VoterView, ReplicaState, IsVoted, JoinerState, Doubt, StateOf, Either, AnyState, any_of, KeepsVotes, HasSpelledNotes, IsClosed, KeepsAs}
 use Rattle.dispatch_node.specs.Node as dispatcher
 use Rattle.registry_server.specs.Node as server
 use Rattle.replica_node.specs.Node as replica
@@ -40,11 +40,11 @@ module _ (image : List ℕ → Type 0) (state : JournalState) where
   replica_by None kept seen v s closed by voted c here = (voted, by.0.durable c here)
   replica_by (Some r) kept seen v s closed by voted c here = absurd (not_open s.opened by.1.begun by.1.opened closed)
 
-  pub server_rests : (site : ℕ) (roster : Roster) (doubt : Option (List ℕ)) (epoch : ℕ) (v : RegistrarView) (s : ServerState) → s.opened ≡ None → server.StandsAt site roster doubt epoch image state v s → (c : List ℕ) → image c → KeepsEpoch s.kept.disk.epoch c
-  server_rests site roster doubt epoch v s closed at = server_by doubt epoch v s closed at.by
+  pub server_rests : (site : ℕ) (doubt : Option (List ℕ)) (epoch : ℕ) (v : RegistrarView) (s : ServerState) → s.opened ≡ None → server.StandsAt site doubt epoch image state v s → (c : List ℕ) → image c → KeepsEpoch s.kept.disk.epoch c
+  server_rests site doubt epoch v s closed at = server_by doubt epoch v s closed at.by
 
-  pub replica_rests : (roster : Roster) (doubt : Option (List ℕ)) (kept : ℕ) (seen : List ℕ) (v : VoterView) (s : ReplicaState) → s.opened ≡ None → replica.StandsAt roster doubt kept seen image state v s → (c : List ℕ) → image c → KeepsVotes s.kept c
-  replica_rests roster doubt kept seen v s closed at = replica_by doubt kept seen v s closed at.by at.spelled
+  pub replica_rests : (config : Config) (doubt : Option (List ℕ)) (kept : ℕ) (seen : List ℕ) (v : VoterView) (s : ReplicaState) → s.opened ≡ None → replica.StandsAt config doubt kept seen image state v s → (c : List ℕ) → image c → KeepsVotes s.kept c
+  replica_rests config doubt kept seen v s closed at = replica_by doubt kept seen v s closed at.by at.spelled
 
 module _ (p : joiner.Parts) (ei pi : List ℕ → Type 0) (s : JoinerState) (closed : s.node.opened ≡ None) where
   abbrev PairKept : Type 0

@@ -1,7 +1,7 @@
 -- Disks that are taken out of others by their names.
 use Rattle.std.proofs.Common.{◌≡◌, ◌≢◌, inl, inr, ℕ, zero, suc, ◌+◌, ◌-◌, ◌*◌, ◌<◌, ◌≤◌, List, [], ◌∷◌, ◌++◌, length, map, take, drop, get_or, Some, Bool, true, false, ◌&&◌, nat_lt, ltb-true, refl, sym, ◌∙◌, ap, subst, append_assoc, arith}
 use Rattle.std.specs.Prelude.{remove}
-use Rattle.site_run.proofs.Words.{IsPermutation, append-nil, take-append-drop, drop_more, IsPermutation-trans, IsPermutation-refl, IsPermutation-middle, IsPermutation-append_comm, IsPermutation-append_left, IsPermutation-append_right, IsPermutation-map, Each, Mem, each_at, each_from, DiskName, ReplicaNote, PairRec, Setting, JoinerKept, kept_as, Roster, IsOf, Disks, joiner_of, Lent, Kept, OffsetIs, PendingAre, EpochIs, NotesAre, PairsAre, OpenView, Says, lent_by, lent_all, offset_in, pending_in, epoch_in, notes_in, pairs_in, other_names, LentDisk, epoch_named, output_named, IsTakenFrom, IsLess, as_lent, all_from, held, all_held, of_server, of_replica, site_disks, joiner_disks}
+use Rattle.site_run.proofs.Words.{IsPermutation, append-nil, take-append-drop, drop_more, IsPermutation-trans, IsPermutation-refl, IsPermutation-middle, IsPermutation-append_comm, IsPermutation-append_left, IsPermutation-append_right, IsPermutation-map, Each, Mem, each_at, each_from, DiskName, ReplicaNote, PairRec, Setting, JoinerKept, kept_as, Config, IsOf, Disks, joiner_of, Lent, Kept, OffsetIs, PendingAre, EpochIs, NotesAre, PairsAre, OpenView, Says, lent_by, lent_all, offset_in, pending_in, epoch_in, notes_in, pairs_in, other_names, LentDisk, epoch_named, output_named, IsTakenFrom, IsLess, as_lent, all_from, held, all_held, of_server, of_replica, site_disks, joiner_disks}
 use Rattle.outside.specs.declared.store.DiskName.TheVariants as name
 use Rattle.site_node.specs.Replicas.{kept_of}
 use Rattle.site_run.proofs.Lists.{mapped_length, no_items, one_taken}
@@ -129,9 +129,9 @@ joiner_said g d s j x xs n m one other named too is are says say =
     let pairs : k.pairs ≡ xs = ap (λ y. pairs_in (Some y)) (sym (subst (λ (l : DiskName). Says g d l other) too say) ∙ are) in
     ap (λ e. record { epoch = e; pairs = k.pairs }) epoch ∙ ap (λ ps. record { epoch = x; pairs = ps }) pairs
 
-pub joiner_number : (g : Setting) (r : Roster) (s j n : ℕ) → IsOf r g → r.replicas ≡ 3 → n ≡ 7 + s * r.joiners + j → joiner_of g s j ≡ n
-joiner_number g r s j n of three at =
-    let same : 4 + g.replicas + s * g.joiners + j ≡ 4 + g.replicas + s * r.joiners + j = ap (λ k. 4 + g.replicas + s * k + j) of.joiners in
+pub joiner_number : (g : Setting) (config : Config) (s j n : ℕ) → IsOf config g → config.replicas ≡ 3 → n ≡ 7 + s * config.joiners + j → joiner_of g s j ≡ n
+joiner_number g config s j n of three at =
+    let same : 4 + g.replicas + s * g.joiners + j ≡ 4 + g.replicas + s * config.joiners + j = ap (λ k. 4 + g.replicas + s * k + j) of.joiners in
     same ∙ omega (arith, of.replicas, three, at)
 
 -- ---- all disks of a site's joiners, and of the others

@@ -50,7 +50,6 @@ pub use Rattle.photon_model.specs.Sound.{IsMissing, SoundStore, inserts_of, know
 pub use Rattle.photon_model.specs.Stores.{ReadIsChecked, RunsKeepStores, empty_disks, empty_store}
 pub use Rattle.photon_model.specs.Topology.{Store, WholeSound, topology_of}
 pub use Rattle.photon_model.specs.Verification.{AreOf, TellsTheReport}
-pub use Rattle.registry_server.specs.Cores.{IsNew}
 pub use Rattle.registry_server.specs.Node.{ServerState}
 pub use Rattle.registry_server.specs.Registrars.{RegistrarView, SiteKept}
 pub use Rattle.registry_state.specs.LookBack.{bound_of}
@@ -74,11 +73,9 @@ pub use Rattle.site_laws.specs.StoreLaws.{HoldSameRecords, IsTopologyWritten, Ke
 pub use Rattle.site_laws.specs.Stores.{AreKept, AreLeft, HoldsRecords, Images, IsDisk, IsSoundStore, KeepsOf, KeepsTopology, KeepsVotes, SameRecords, joiner_of}
 pub use Rattle.site_node.specs.Bytes.{IsNoted}
 pub use Rattle.site_node.specs.Replicas.{IsVoted, KeepsNotes, ReplicaState, kept_of as notes_kept}
-pub use Rattle.site_node.specs.Rosters.{IsOf}
 pub use Rattle.site_node.specs.States.{Ends, IsDone, Leads, MayHold, Rows, State, closes, opens, phase_by, row, row_of, state_phase, written}
 pub use Rattle.site_node.specs.declared.kind.NodeFault.{NodeFault}
 pub use Rattle.site_node.specs.declared.kind.NodeFault.TheVariants.{Damaged, Spent}
-pub use Rattle.site_node.specs.declared.roster.Roster.{Roster}
 pub use Rattle.site_run.specs.AnyNodes.{AnyLeads, AnyState, IsAtLast, IsMeant, any_of, any_phase, any_rests, down_with, with_site}
 pub use Rattle.site_run.specs.Asked.{AreLogsOf, IsRosterOf, IsSettingOf, IsSettingOver}
 pub use Rattle.site_run.specs.Causes.{IsOfDisks, IsPastOpening, of_node}
@@ -96,7 +93,6 @@ pub use Rattle.site_run.specs.Refused.{HasPassed, IsCauseOf, IsOfRun, KeptAreJou
 pub use Rattle.site_run.specs.Resting.{AllKeep, IsClosed, KeepsAs}
 pub use Rattle.site_run.specs.Running.{AreDownOver, ComesToLast, DeadAreReplicas, HasCome, HaveGrown, IsRunFrom}
 pub use Rattle.site_run.specs.Settled.{AreKeptIn, first_fault, lent_outputs, lent_replicas, or_else, told_of}
-pub use Rattle.site_run.specs.declared.built.config.Config.{Config}
 pub use Rattle.site_run.specs.declared.ran.Outcome.{Outcome}
 pub use Rattle.site_run.specs.declared.ran.RunLog.{RunLog}
 pub use Rattle.site_store.proofs.Causes.{cause_more, failed_rose, passed_more, unread_rose}
@@ -133,6 +129,7 @@ pub use Rattle.std.specs.List.Sorted.{IsPermutation}
 pub use Rattle.std.specs.Vec.Iter.{into_iter_items, into_iter_len}
 pub use Rattle.time_shards.specs.Shards.{IsTable}
 pub use Rattle.topology_journal.specs.declared.topology.Topology.{Topology}
+pub use Rattle.turn_defs.specs.Configs.{IsOf}
 pub use Rattle.turn_defs.specs.Dispatcher.{DispatcherKept, DispatcherLive, dispatcher_at_rest}
 pub use Rattle.turn_defs.specs.Joiner.{JoinerKept, JoinerLive, joiner_at_rest}
 pub use Rattle.turn_defs.specs.Nodes.{Addressed, IsNode, NumbersAreNodes, node_count, node_number, node_of}
@@ -141,6 +138,7 @@ pub use Rattle.turn_defs.specs.Server.{ServerKept, ServerLive, land_server, serv
 pub use Rattle.turn_defs.specs.Setting.{Checked, IsJoiner, Setting, first_joiner}
 pub use Rattle.turn_defs.specs.Spellings.{IsPair}
 pub use Rattle.turn_defs.specs.Turns.{BallotNote, Note, Out, land}
+pub use Rattle.turn_defs.specs.declared.config.Config.{Config}
 pub use Rattle.turn_defs.specs.declared.node.Input.{Input}
 pub use Rattle.turn_defs.specs.declared.node.Node.{Node}
 pub use Rattle.turn_defs.specs.declared.node.Node.TheVariants.{Dispatcher, Joiner, Replica, Server}

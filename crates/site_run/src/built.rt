@@ -1,13 +1,13 @@
 // The nodes of both sites, built over the opened disks of a store and its logs, and taken apart again.
 mod building;
-mod config;
+mod logs;
 mod made;
 mod parting;
 mod parts;
 mod taking;
 
 pub use building::{Built, build};
-pub use config::{Config, Logs};
+pub use logs::Logs;
 pub(crate) use parting::{joiner_place, server_disk};
 pub use parting::{Parting, apart};
 pub use parts::{Parts, Room};

@@ -67,6 +67,7 @@ where
     S::Disk: Drop,
     requires joiners { (0 < config.now.joiners) × (config.now.joiners ≤ 4) }
     requires table { IsTable config.now.table }
+    requires replicas { config.now.replicas ≡ 3 }
     requires batch { config.now.batch ≤ 64 }
 
     // How it ends for whatever setting the logs make.
@@ -135,6 +136,7 @@ where
     S::Disk: Drop,
     requires joiners { (0 < config.now.joiners) × (config.now.joiners ≤ 4) }
     requires table { IsTable config.now.table }
+    requires replicas { config.now.replicas ≡ 3 }
     requires batch { config.now.batch ≤ 64 }
     requires node_room { (room.nodes.items ≡ []) × (7 + 2 * config.now.joiners ≤ vec_capacity room.nodes) }
     requires disk_room { (room.parts.disks.items ≡ []) × (15 + 4 * config.now.joiners ≤ vec_capacity room.parts.disks) }
@@ -196,6 +198,7 @@ where
     F::Log: Drop,
     S::Disk: Drop,
     requires joiners { (0 < config.now.joiners) × (config.now.joiners ≤ 4) }
+    requires replicas { config.now.replicas ≡ 3 }
     requires batch { config.now.batch ≤ 64 }
     requires node_room { (room.nodes.items ≡ []) × (7 + 2 * config.now.joiners ≤ vec_capacity room.nodes) }
     requires disk_room { (room.parts.disks.items ≡ []) × (15 + 4 * config.now.joiners ≤ vec_capacity room.parts.disks) }

@@ -86,6 +86,7 @@ where
     requires planned { (disk : DiskName) (call : ℕ) → ⟦<MemStore as Store>⟧.stops store.old disk call ≡ is_planned (planned_for config.now.joiners plan.stops disk) call }
     requires joiners { (0 < config.now.joiners) × (config.now.joiners ≤ MOST_JOINERS) }
     requires table { IsTable config.now.table }
+    requires replicas { config.now.replicas ≡ 3 }
     requires batch { config.now.batch ≤ MOST_INSERTS }
     ensures drilled { IsTrue F.Log.tells → OfSetting (F.bytes files.old) names.now.queries.now names.now.clicks.now config.now clicks.now.lines_end (λ g. HaveIds g clicks.now.ids.items
         → IfOk result (λ lines. IsSomeAnd ran.new.log (IsDrilled g plan lines.items))) }
@@ -152,6 +153,7 @@ where
         joiners: wanted.nodes.joiners,
         table,
         batch: wanted.nodes.batch,
+        replicas: 3,
     };
     drill_lines(
         rt, alloc, &config, &names, &clicks, plan, files, &mut store, gate, ran,

@@ -94,6 +94,7 @@ where
         joiners: wanted.nodes.joiners,
         table,
         batch: wanted.nodes.batch,
+        replicas: 3,
     };
     let plan = Plan::empty(alloc);
     let lines = match run_lines(

@@ -49,6 +49,7 @@ where
     S::Disk: Drop,
     requires joiners { (0 < config.now.joiners) × (config.now.joiners ≤ MOST_JOINERS) }
     requires table { IsTable config.now.table }
+    requires replicas { config.now.replicas ≡ 3 }
     requires batch { config.now.batch ≤ MOST_INSERTS }
     ensures ends { IsTrue S.Disk.tells → IsTrue F.Log.tells → OfSetting (F.bytes files.old) names.now.queries.now names.now.clicks.now config.now clicks.now.lines_end (λ g. EndsOver g (S.image store.old) (S.image store.new)
         (Rose (F.faults files.old) (F.faults files.new)) (Rose (S.faults store.old) (S.faults store.new)) ((s : S) → LeavesSomething g (S.image s)) ran.new.log result) }

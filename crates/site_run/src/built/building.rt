@@ -13,13 +13,14 @@ ghost use Rattle.site_run.specs.Running.{AreDownOver};
 ghost use Rattle.site_run.specs.Naming.{as_lent, all_from};
 
 use crate::built::made::Made;
-use crate::built::{Config, Logs, Parting, Parts, Room};
+use crate::built::{Logs, Parting, Parts, Room};
 use crate::nodes::{AnyNode, SystemNode};
 use outside::{Disk, LogFile};
 use site_node::SiteNode;
 use site_store::OpenStore;
 use std::alloc::Global;
 use topology_journal::TopologyJournal;
+use turn_defs::Config;
 use turn_defs::laws::node_numbers;
 
 /// All nodes of both sites, in the order of their numbers, with the topology's journal. The parts are empty, with room for what
@@ -41,6 +42,7 @@ pub fn build<D: Disk, L: LogFile>(
     room: Room<D, L>,
 ) -> Result<Built<D, L>, Parts<D, L>>
     requires joiners { (0 < config.now.joiners) × (config.now.joiners ≤ 4) }
+    requires replicas { config.now.replicas ≡ 3 }
     requires batch { config.now.batch ≤ 64 }
     requires node_room { (room.nodes.items ≡ []) × (7 + 2 * config.now.joiners ≤ vec_capacity room.nodes) }
     requires disk_room { (room.parts.disks.items ≡ []) × (15 + 4 * config.now.joiners ≤ vec_capacity room.parts.disks) }
@@ -71,8 +73,8 @@ pub fn build<D: Disk, L: LogFile>(
         queries_a,
         queries_b,
     } = logs;
-    let mut made = Made::new(alloc, config.joiners, room);
-    made.add_sites(config, &mut rest, clicks);
+    let mut made = Made::new(alloc, *config, room);
+    made.add_sites(&mut rest, clicks);
     made.add_joiners(0, &mut rest, queries_a);
     made.add_joiners(1, &mut rest, queries_b);
     rest.destroy_empty();

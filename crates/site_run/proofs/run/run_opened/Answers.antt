@@ -24,7 +24,7 @@ returns-in-Ok-clause-grown g c tells log_tells gg over d records places s out =
     let inside = g.S.Store.image c.args.store.now in
     let topology = topology_lent {D = g.row.S-Disk.Denot} c.args.opened.topology.journal.disk in
     let same = ap (λ x. topology_lent {D = g.row.S-Disk.Denot} x) c.into_disk.ensures ∙ ap (λ t. topology_lent {D = g.row.S-Disk.Denot} t.journal.disk) c.in-Ok.ensures.topology in
-    let roster : IsRosterOf gg c.args.config.now.joiners = record { joiners_are = over.numbers.joiners; replicas = over.numbers.replicas } in
+    let roster : IsRosterOf gg c.args.config.now.joiners = record { joiners_are = over.numbers.joiners; replicas = over.numbers.replicas ∙ c.requires.replicas } in
     c.run_system.ensures.grown tells (all_tell g.S.Disk.Disk.tells g.F.Log.LogFile.tells tells log_tells) gg _ s roster (c.all_held.ensures tells log_tells) (c.in-Ok.ensures.places tells gg d over records places)
     (out_same image (g.S.Store.image s) inside _ _ _ (sym same) (moved_out image (g.S.Store.image s) inside topology _ _ c.in-Ok.ensures.held out))
 
@@ -32,14 +32,14 @@ pub returns-in-Ok-clause-left : goal.returns-in-Ok-clause-left
 returns-in-Ok-clause-left g c tells log_tells gg over d records places e same_records kept =
     let image = g.S.Disk.Disk.image in
     let same = ap (λ x. topology_lent {D = g.row.S-Disk.Denot} x) c.into_disk.ensures ∙ ap (λ t. topology_lent {D = g.row.S-Disk.Denot} t.journal.disk) c.in-Ok.ensures.topology in
-    let roster : IsRosterOf gg c.args.config.now.joiners = record { joiners_are = over.numbers.joiners; replicas = over.numbers.replicas } in
+    let roster : IsRosterOf gg c.args.config.now.joiners = record { joiners_are = over.numbers.joiners; replicas = over.numbers.replicas ∙ c.requires.replicas } in
     c.run_system.ensures.left tells (all_tell g.S.Disk.Disk.tells g.F.Log.LogFile.tells tells log_tells) gg _ e roster (c.all_held.ensures tells log_tells) (c.in-Ok.ensures.places tells gg d over records places) same_records (subst (λ t. KeepsItsRecord image gg t) (sym same) kept)
 
 pub returns-in-Ok-clause-rest : goal.returns-in-Ok-clause-rest
 returns-in-Ok-clause-rest g c tells log_tells gg over d records places e same_records kept =
     let image = g.S.Disk.Disk.image in
     let same = ap (λ x. topology_lent {D = g.row.S-Disk.Denot} x) c.into_disk.ensures ∙ ap (λ t. topology_lent {D = g.row.S-Disk.Denot} t.journal.disk) c.in-Ok.ensures.topology in
-    let roster : IsRosterOf gg c.args.config.now.joiners = record { joiners_are = over.numbers.joiners; replicas = over.numbers.replicas } in
+    let roster : IsRosterOf gg c.args.config.now.joiners = record { joiners_are = over.numbers.joiners; replicas = over.numbers.replicas ∙ c.requires.replicas } in
     c.run_system.ensures.rest tells (all_tell g.S.Disk.Disk.tells g.F.Log.LogFile.tells tells log_tells) gg _ e roster (c.all_held.ensures tells log_tells) c.all_met.ensures (c.in-Ok.ensures.places tells gg d over records places) same_records (subst (λ t. KeepsItsRecord image gg t) (sym same) kept)
 
 pub returns-in-Ok-clause-cause : goal.returns-in-Ok-clause-cause
@@ -71,5 +71,5 @@ pub returns-in-Ok-clause-whole : goal.returns-in-Ok-clause-whole
 returns-in-Ok-clause-whole g c tells log_tells gg over d records places kept =
     let image = g.S.Disk.Disk.image in
     let same = ap (λ x. topology_lent {D = g.row.S-Disk.Denot} x) c.into_disk.ensures ∙ ap (λ t. topology_lent {D = g.row.S-Disk.Denot} t.journal.disk) c.in-Ok.ensures.topology in
-    let roster : IsRosterOf gg c.args.config.now.joiners = record { joiners_are = over.numbers.joiners; replicas = over.numbers.replicas } in
+    let roster : IsRosterOf gg c.args.config.now.joiners = record { joiners_are = over.numbers.joiners; replicas = over.numbers.replicas ∙ c.requires.replicas } in
     c.run_system.ensures.whole tells (all_tell g.S.Disk.Disk.tells g.F.Log.LogFile.tells tells log_tells) gg _ roster (c.all_held.ensures tells log_tells) c.all_met.ensures (c.in-Ok.ensures.places tells gg d over records places) (subst (λ t. KeepsItsRecord image gg t) (sym same) kept)

@@ -24,7 +24,7 @@ returns-clause-up g t c all = c.add_joiners_from.ensures.up (c.add_joiner.ensure
 
 pub returns-clause-places : goal.returns-clause-places
 returns-clause-places g t c tells gg d of logs says all =
-    let of1 = subst (λ r. IsOf r gg) (sym c.add_joiner.ensures.roster) of in
+    let of1 = subst (λ r. IsOf r gg) (sym c.add_joiner.ensures.config) of in
     let l = front_each _ _ _ _ c.in-Some.ensures.items logs in
     let later = less_each (λ o. Says gg d o.name o.kept) _ _ _ c.add_joiner.ensures.taken says in
     c.add_joiners_from.ensures.places tells gg d of1 l.1 later (c.add_joiner.ensures.places tells gg d of l.0 says all)
@@ -38,8 +38,8 @@ returns-clause-logs g t c = front_one _ _ _ _ _ _ c.in-Some.ensures.items c.add_
 pub add_joiners_from-requires : goal.add_joiners_from-requires
 add_joiners_from-requires g t c κs within =
     let size = ap length c.in-Some.ensures.items in
-    let joiners = ap (λ r. r.joiners) c.add_joiner.ensures.roster in
-    let at : 7 + c.args.site * c.add_joiner.new.self.roster.joiners + (c.args.joiner + 1) ≡ 7 + c.args.site * c.args.self.now.roster.joiners + c.args.joiner + 1 = ap (λ k. 7 + c.args.site * k + (c.args.joiner + 1)) joiners ∙ omega arith in (
+    let joiners = ap (λ r. r.joiners) c.add_joiner.ensures.config in
+    let at : 7 + c.args.site * c.add_joiner.new.self.config.joiners + (c.args.joiner + 1) ≡ 7 + c.args.site * c.args.self.now.config.joiners + c.args.joiner + 1 = ap (λ k. 7 + c.args.site * k + (c.args.joiner + 1)) joiners ∙ omega arith in (
       search rules,
-      (within.0, (within.1, (c.requires.site, (ap (λ r. r.replicas) c.add_joiner.ensures.roster ∙ c.requires.replicas, (omega (arith, size, c.requires.count, joiners), (omega (arith, c.add_joiner.ensures.next, c.requires.next, at), (omega (arith, size, c.requires.count, joiners), joiners_there _ _ _ _ _ _ (omega arith) c.add_joiner.ensures.taken (λ k least lt. c.requires.there k least (omega (arith, lt, joiners)))))))))),
+      (within.0, (within.1, (c.requires.site, (omega (arith, size, c.requires.count, joiners), (omega (arith, c.add_joiner.ensures.next, c.requires.next, at), (omega (arith, size, c.requires.count, joiners), joiners_there _ _ _ _ _ _ (omega arith) c.add_joiner.ensures.taken (λ k least lt. c.requires.there k least (omega (arith, lt, joiners))))))))),
     )

@@ -13,14 +13,14 @@ pub returns-clause-taken : goal.returns-clause-taken
 returns-clause-taken g c = less_more _ _ _ _ _ (less_one _ _ _ _ c.take_disk.ensures.name c.take_disk.ensures.taken) (less_one _ _ _ _ c.take_disk-2.ensures.name c.take_disk-2.ensures.taken)
 
 pub returns-clause-places : goal.returns-clause-places
-returns-clause-places g c tells gg d of three log places says all =
+returns-clause-places g c tells gg d of log places says all =
     let one = c.take_disk.ensures in
     let two = c.take_disk-2.ensures in
     let later = less_each (λ o. Says gg d o.name o.kept) _ _ _ (less_one _ _ _ _ one.name one.taken) says in
     let kept = dispatcher_said gg d c.args.site _ _
     (offset_said gg d c.args.site _ _ _ one.name c.into_offset-offset.ensures.kept (taken_says (λ o. Says gg d o.name o.kept) _ _ _ one.taken says))
     (pending_said gg d c.args.site _ _ _ two.name c.into_retry-retry.ensures.kept (taken_says (λ o. Says gg d o.name o.kept) _ _ _ two.taken later)) in
-    c.take.ensures.places gg d (dispatcher_at _ gg d (c.node_numbers.ensures gg) _ _ c.requires.site c.requires.next _ _ kept (c.new-node.ensures.stands gg of three log (subst (AreKeptPlaces gg) kept places))) all
+    c.take.ensures.places gg d (dispatcher_at _ gg d (c.node_numbers.ensures gg) _ _ c.requires.site c.requires.next _ _ kept (c.new-node.ensures.stands gg of log (subst (AreKeptPlaces gg) kept places))) all
 
 pub returns-clause-disks : goal.returns-clause-disks
 returns-clause-disks g c =

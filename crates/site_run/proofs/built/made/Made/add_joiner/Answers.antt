@@ -22,9 +22,9 @@ returns-in-Ok-clause-places g c tells gg d of log says all =
     let later = less_each (λ o. Says gg d o.name o.kept) _ _ _ (less_one _ _ _ _ one.name one.taken) says in
     let said = joiner_said gg d c.args.site c.args.joiner _ _ _ _ _ _ one.name two.name c.into_epochs-epochs.ensures.kept c.into_output-outputs.ensures.kept
     (taken_says (λ o. Says gg d o.name o.kept) _ _ _ one.taken says) (taken_says (λ o. Says gg d o.name o.kept) _ _ _ two.taken later) in
-    let number : joiner_of gg c.args.site c.args.joiner ≡ c.args.self.now.next = joiner_number gg _ _ _ _ of c.requires.replicas c.requires.next in
+    let number : joiner_of gg c.args.site c.args.joiner ≡ c.args.self.now.next = joiner_number gg _ _ _ _ of c.args.self.now.fits.0 c.requires.next in
     let kept = ap (λ n. d.joiners n) (sym number) ∙ said in
-    c.take.ensures.places gg d (joiner_at _ gg d (c.node_numbers.ensures gg) _ _ (is_joiner gg _ _ _ _ of c.requires.replicas c.requires.site c.requires.joiner up.numbered) (c.requires.next ∙ sym up.numbered) _ _ kept (c.in-Ok.ensures.places tells gg of log)) all
+    c.take.ensures.places gg d (joiner_at _ gg d (c.node_numbers.ensures gg) _ _ (is_joiner gg _ _ _ _ of c.args.self.now.fits.0 c.requires.site c.requires.joiner up.numbered) (c.requires.next ∙ sym up.numbered) _ _ kept (c.in-Ok.ensures.places tells gg of log)) all
 
 pub returns-in-Ok-clause-disks : goal.returns-in-Ok-clause-disks
 returns-in-Ok-clause-disks g c =

@@ -16,7 +16,7 @@ returns-then-is_whole-clause-places g c tells gg d of says all =
     let one = c.take_disk.ensures in
     let votes = c.into_votes-votes.ensures in
     let kept = replica_said gg d c.args.replica _ _ _ one.name votes.kept (taken_says (λ o. Says gg d o.name o.kept) _ _ _ one.taken says) in
-    c.take.ensures.places gg d (replica_at _ gg d (c.node_numbers.ensures gg) _ _ (omega (arith, c.requires.replica, c.requires.replicas, of.replicas)) c.requires.next _ _ kept (c.new-made.ensures.stands tells gg of)) all
+    c.take.ensures.places gg d (replica_at _ gg d (c.node_numbers.ensures gg) _ _ (omega (arith, c.requires.replica, c.args.self.now.fits.0, of.replicas)) c.requires.next _ _ kept (c.new-made.ensures.stands tells gg of)) all
 
 pub returns-then-is_whole-clause-disks : goal.returns-then-is_whole-clause-disks
 returns-then-is_whole-clause-disks g c =

@@ -12,10 +12,10 @@ pub returns-in-Err-clause-taken : goal.returns-in-Err-clause-taken
 returns-in-Err-clause-taken g c = less_one _ _ _ _ c.take_disk.ensures.name c.take_disk.ensures.taken
 
 pub returns-in-Ok-clause-places : goal.returns-in-Ok-clause-places
-returns-in-Ok-clause-places g c tells gg d of new says all =
+returns-in-Ok-clause-places g c tells gg d of says all =
     let one = c.take_disk.ensures in
     let kept = server_said gg d c.args.site _ _ _ one.name c.into_server-journal.ensures.kept (taken_says (λ o. Says gg d o.name o.kept) _ _ _ one.taken says) in
-    c.take.ensures.places gg d (server_at _ gg d (c.node_numbers.ensures gg) _ _ c.requires.site c.requires.next _ _ kept (c.in-Ok.ensures.places tells gg of new)) all
+    c.take.ensures.places gg d (server_at _ gg d (c.node_numbers.ensures gg) _ _ c.requires.site c.requires.next _ _ kept (c.in-Ok.ensures.places tells gg of)) all
 
 pub returns-in-Ok-clause-disks : goal.returns-in-Ok-clause-disks
 returns-in-Ok-clause-disks g c =

@@ -1,5 +1,5 @@
-use Rattle.std.proofs.Common.{sym, subst, ◌∙◌, refl, drop, arith}
-use Rattle.site_run.proofs.Words.{IsPermutation-trans, IsOf, IsNew, OpenView, Says, site_disks}
+use Rattle.std.proofs.Common.{sym, subst, refl, drop, arith}
+use Rattle.site_run.proofs.Words.{IsPermutation-trans, IsOf, OpenView, Says, site_disks}
 use Rattle.site_run.proofs.Lists.{front_each, two_ones_of}
 use Rattle.site_run.proofs.Taken.{less_each, less_more, still}
 use Rattle.site_run.proofs.built.made.Made.add_sites.Goals as goal
@@ -64,17 +64,15 @@ pub returns-clause-up : goal.returns-clause-up
 returns-clause-up g c all = c.add_replica-3.ensures.up (c.add_replica-2.ensures.up (c.add_replica.ensures.up (c.add_server-2.ensures.up (c.add_server.ensures.up (c.add_dispatcher-2.ensures.up (c.add_dispatcher.ensures.up all))))))
 
 pub returns-clause-places : goal.returns-clause-places
-returns-clause-places g c tells gg d of0 three new clicks places says0 all =
+returns-clause-places g c tells gg d of0 clicks places says0 all =
     let P = λ (o : OpenView g.row.D.Denot). Says gg d o.name o.kept in
     let logs = front_each _ _ _ _ c.both-clicks_a.ensures clicks in
-    let of1 = subst (λ r. IsOf r gg) (sym c.add_dispatcher.ensures.roster) of0 in
-    let of2 = subst (λ r. IsOf r gg) (sym c.add_dispatcher-2.ensures.roster) of1 in
-    let of3 = subst (λ r. IsOf r gg) (sym c.add_server.ensures.roster) of2 in
-    let of4 = subst (λ r. IsOf r gg) (sym c.add_server-2.ensures.roster) of3 in
-    let of5 = subst (λ r. IsOf r gg) (sym c.add_replica.ensures.roster) of4 in
-    let of6 = subst (λ r. IsOf r gg) (sym c.add_replica-2.ensures.roster) of5 in
-    let new2 = subst (λ r. IsNew gg r.joiners c.args.config.now.horizon c.args.config.now.table c.args.config.now.batch) (sym (c.add_dispatcher-2.ensures.roster ∙ c.add_dispatcher.ensures.roster)) new in
-    let new3 = subst (λ r. IsNew gg r.joiners c.args.config.now.horizon c.args.config.now.table c.args.config.now.batch) (sym c.add_server.ensures.roster) new2 in
+    let of1 = subst (λ r. IsOf r gg) (sym c.add_dispatcher.ensures.config) of0 in
+    let of2 = subst (λ r. IsOf r gg) (sym c.add_dispatcher-2.ensures.config) of1 in
+    let of3 = subst (λ r. IsOf r gg) (sym c.add_server.ensures.config) of2 in
+    let of4 = subst (λ r. IsOf r gg) (sym c.add_server-2.ensures.config) of3 in
+    let of5 = subst (λ r. IsOf r gg) (sym c.add_replica.ensures.config) of4 in
+    let of6 = subst (λ r. IsOf r gg) (sym c.add_replica-2.ensures.config) of5 in
     let says1 = less_each P _ _ _ c.add_dispatcher.ensures.taken says0 in
     let says2 = less_each P _ _ _ c.add_dispatcher-2.ensures.taken says1 in
     let says3 = less_each P _ _ _ c.add_server.ensures.taken says2 in
@@ -84,10 +82,10 @@ returns-clause-places g c tells gg d of0 three new clicks places says0 all =
     c.add_replica-3.ensures.places tells gg d of6 says6
     (c.add_replica-2.ensures.places tells gg d of5 says5
     (c.add_replica.ensures.places tells gg d of4 says4
-    (c.add_server-2.ensures.places tells gg d of3 new3 says3
-    (c.add_server.ensures.places tells gg d of2 new2 says2
-    (c.add_dispatcher-2.ensures.places tells gg d of1 three logs.1.0 (places 1 (omega arith)) says1
-    (c.add_dispatcher.ensures.places tells gg d of0 three logs.0 (places 0 (omega arith)) says0 all))))))
+    (c.add_server-2.ensures.places tells gg d of3 says3
+    (c.add_server.ensures.places tells gg d of2 says2
+    (c.add_dispatcher-2.ensures.places tells gg d of1 logs.1.0 (places 1 (omega arith)) says1
+    (c.add_dispatcher.ensures.places tells gg d of0 logs.0 (places 0 (omega arith)) says0 all))))))
 
 pub returns-clause-disks : goal.returns-clause-disks
 returns-clause-disks g c =

@@ -7,6 +7,7 @@ invariant_of-result g c =
     let disks = ap length c.requires.disks.0 in
     let logs = ap length c.requires.logs.0 in
     record {
+      fits = c.requires.fits;
       few = (c.requires.few, omega arith);
       made = omega (arith, nodes);
       node_room = c.requires.nodes.1;
