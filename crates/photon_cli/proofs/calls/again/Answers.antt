@@ -10,10 +10,10 @@ returns-clause-verification g c files later before after out out_later err err_l
     record { sound = ends.0.sound disks s; grown = λ disk. stays_goes_on _ _ (ends.0.stays disks disk) }
 
 pub returns-clause-row : goal.returns-clause-row
-returns-clause-row g c files later before after out out_later err err_later ran ran_later status state text s row disks is replicas ended ends = record { sound = ends.0.longer disks ended row is s replicas; grown = ends.0.grown disks }
+returns-clause-row g c files later before after out out_later err err_later ran ran_later status state text s row disks is replicas ended ends = record { sound = (ends.0.left disks).longer ended row is s replicas; grown = (ends.0.left disks).grown }
 
 pub returns-clause-no_row : goal.returns-clause-no_row
-returns-clause-no_row g c files later before after out out_later err err_later ran ran_later status state text s disks zero five six ends = record { sound = ends.0.still disks zero five six s; grown = ends.0.grown disks }
+returns-clause-no_row g c files later before after out out_later err err_later ran ran_later status state text s disks zero five six ends = record { sound = (ends.0.left disks).still (zero, five, six) s; grown = (ends.0.left disks).grown }
 
 pub returns-clause-once : goal.returns-clause-once
 returns-clause-once g c s store calls checked sound are =
