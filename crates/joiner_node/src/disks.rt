@@ -2,8 +2,10 @@
 ghost use Rattle.std.specs.Prelude.{◌≡◌, None};
 ghost use Rattle.ballot_core.specs.declared.TheConstants.{LAST_EPOCH};
 ghost use Rattle.gate_journal.specs.declared.journal.JournalState.TheVariants.{Ready};
-ghost use Rattle.site_node.specs.Faults.{IsOfRestart, IsWhole};
+ghost use Rattle.gate_journal.specs.Fault.{is_of_disk};
+ghost use Rattle.site_node.specs.Faults.{was_shut_out, IsOfRestart, IsWhole};
 ghost use Rattle.joiner_node.specs.Disks.{IsUndamaged};
+ghost use Rattle.joiner_node.specs.Refused.{refused_as};
 
 use crate::records::Record;
 use air_bus::Payload;
@@ -299,6 +301,7 @@ fn fault_of(disk: DiskName, fault: JournalFault) -> NodeFault
     ensures kind { IsOfRestart result }
     ensures whole { IsUndamaged fault → IsWhole result }
     ensures disk { (d : _) → result ≡ NodeFault.Disk d → fault ≡ JournalFault.Disk }
+    ensures shut { is_of_disk fault ≡ was_shut_out (refused_as result) }
 {
     match fault {
         JournalFault::Damaged { at } => NodeFault::Damaged { disk, at },

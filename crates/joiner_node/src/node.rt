@@ -2,7 +2,6 @@
 ghost use Rattle.std.specs.Prelude.{◌≡◌, ◌<◌, ◌+◌, ◌*◌};
 ghost use Rattle.ballot_core.specs.declared.TheConstants.{LAST_EPOCH};
 ghost use Rattle.turn_defs.specs.Setting.{Setting, site_of_joiner};
-ghost use Rattle.turn_defs.specs.Configs.{IsOf};
 
 use crate::disks::Disks;
 use crate::joining::Joining;
@@ -84,7 +83,7 @@ impl<L: LogFile, D: Disk> JoinerNode<L, D> {
             IfOk result (λ node. StandsAt (record { number = node.number; config = node.config; core = node.joining.core; up = node.joining.up; log = L.bytes node.joining.queries.store.tail.log; place = node.joining.queries.store.tail.place; in_doubt = node.disks.in_doubt; epoch = node.disks.epochs.value.epoch; written = node.disks.log.value.pairs.items }) (D.image node.disks.epochs.journal.disk) (D.image node.disks.log.journal.disk) (down_over node.number g k)) }
         ensures err { IfErr result (λ e. (e.1 ≡ epochs) × (e.2 ≡ log) × (e.3 ≡ queries)) }
     {
-        let number = joiner_number(config, site, joiner);
+        let number = joiner_number(config.replicas, config.joiners, site, joiner);
         match Joining::new(alloc, number, site, queries) {
             Ok(joining) => Ok(JoinerNode {
                 number,
@@ -192,14 +191,14 @@ impl<L: LogFile, D: Disk> JoinerNode<L, D> {
 }
 
 // The number of a joiner of a site, by its place there.
-fn joiner_number(config: Config, site: u8, joiner: u8) -> u16
+fn joiner_number(replicas: u8, joiners: u8, site: u8, joiner: u8) -> u16
     requires site { site < 2 }
-    requires joiner { joiner < config.joiners }
-    ensures number { result ≡ 4 + config.replicas + site * config.joiners + joiner }
-    ensures site { (g : Setting) → IsOf config g → site ≡ site_of_joiner g result }
+    requires joiner { joiner < joiners }
+    ensures number { result ≡ 4 + replicas + site * joiners + joiner }
+    ensures site { (g : Setting) → g.replicas ≡ replicas → g.joiners ≡ joiners → site ≡ site_of_joiner g result }
 {
-    let first = 4 + u16::from(config.replicas);
-    first + u16::from(site) * u16::from(config.joiners) + u16::from(joiner)
+    let first = 4 + u16::from(replicas);
+    first + u16::from(site) * u16::from(joiners) + u16::from(joiner)
 }
 
 impl<L: LogFile, D: Disk> SiteNode for JoinerNode<L, D> {

@@ -1,13 +1,15 @@
-use Rattle.std.proofs.Common.{◌≡◌, Err, sym, ap, ◌∙◌, subst, refl, ⊎_elim, inl}
+use Rattle.std.proofs.Common.{◌≡◌, Err, sym, ap, ◌∙◌, subst, refl, false, ⊎_elim, inl}
 use Rattle.site_node.specs.declared.kind.NodeFault.TheVariants as fault
 use Rattle.joiner_node.specs.Node.{Parts, JoinerState, KeepsOf}
+use Rattle.joiner_node.specs.Joining.{IsOfDecision}
 use Rattle.joiner_node.specs.Disks.{with_note}
 use Rattle.joiner_node.specs.States.{keeps_open}
 use Rattle.std.proofs.lemmas.Result.{err_from_is_err_and}
 use Rattle.joiner_node.proofs.Growing.{same_grows, then_grows}
 use Rattle.joiner_node.proofs.Spending.{spends, starts, spent_junk}
-use Rattle.joiner_node.proofs.Turning.{none_of, gets_of, quiet, idles, ends, stays_open, all_five, both_err, both_tell, serves_of, serves_same, config_same, holds_within, next_of, led_to}
-use Rattle.site_node.proofs.Stops.{both_meet}
+use Rattle.joiner_node.proofs.Turning.{none_of, gets_of, quiet, idles, ends, stays_open, all_five, both_err, both_tell, serves_of, serves_same, config_same, holds_within, next_of, led_to, if_err}
+use Rattle.joiner_node.proofs.Deciding.{undecided}
+use Rattle.site_node.proofs.Stops.{one_by_one, both_meet}
 use Rattle.joiner_node.proofs.node.JoinerNodeSiteNode.turn.Goals as goal
 
 pub returns-in-None-clause-done : goal.returns-in-None-clause-done
@@ -131,3 +133,13 @@ returns-after-is_some-clause-plan g c planned =
     let mid = c.prepare.new.self.disks in
     let new = c.finish.new.self.disks in
     both_meet d.stops d.made d.faults _ _ old.epochs.journal.disk old.log.journal.disk mid.epochs.journal.disk mid.log.journal.disk new.epochs.journal.disk new.log.journal.disk refl (c.prepare.ensures.plan tells) (c.finish.ensures.plan tells)
+
+pub returns-in_err-ready-in-Some-clause-plan : goal.returns-in_err-ready-in-Some-clause-plan
+returns-in_err-ready-in-Some-clause-plan g c planned =
+    let d = g.D.Disk in
+    let e = c.in_err-ready-in-Some.ensures in
+    let room = e.plan (g.met.D.Disk.plan_told planned) in
+    let old = c.args.self.now.disks in
+    let mid = c.prepare.new.self.disks in
+    let kind = if_err c.from_residual-in_err-ready-in-Some.result c.in_err-ready-in-Some.field-0.0 IsOfDecision c.from_residual-in_err-ready-in-Some.ensures.1 e.kind in
+    one_by_one d.stops d.made d.faults 0 false _ old.epochs.journal.disk old.log.journal.disk mid.epochs.journal.disk mid.log.journal.disk (undecided _ kind) room.0 room.1
