@@ -1,11 +1,13 @@
 -- What a journal of positions keeps, and why one isn't opened.
-use Rattle.std.proofs.Common.{◌≡◌, ℕ, Bool, true, false, not, ◌||◌, nat_eq, List, [], ◌∷◌, refl, sym, ap, ◌∙◌}
+use Rattle.std.proofs.Common.{◌≡◌, ℕ, Bool, true, false, not, ◌||◌, nat_eq, List, [], ◌∷◌, refl, sym, ap, ◌∙◌, arith}
 use Rattle.std.specs.Prelude.{IsTrue, Result, Ok, Err, OnOk}
 use Rattle.std.specs.List.{IsDistinct}
-use Rattle.dispatch_node.proofs.Words.{AllByRecursion, remove_key, nat_eq_equiv, has, without, Distinct, clash, Rose, Payloads, Fold, read_as, folds_to, fails_at, gate_rule, DiskName, JournalFault, IsOfRestart, IsWhole, NodeFault, Disk, Damaged, Memory, fault_told, any_has, removed}
+use Rattle.std.proofs.lemmas.Bool.{false≢true}
+use Rattle.dispatch_node.proofs.Words.{AllByRecursion, remove_key, nat_eq_equiv, has, without, Distinct, clash, Rose, Payloads, Fold, read_as, folds_to, fails_at, gate_rule, DiskName, JournalFault, IsOfRestart, IsWhole, NodeFault, Disk, Memory, fault_told, any_has, removed}
 use Rattle.gate_journal.specs.declared.reading.JournalFault.TheVariants as journal
 use Rattle.gate_journal.specs.Fault.{is_of_disk}
 use Rattle.gate_journal.specs.Records as of
+use Rattle.outside.specs.Plans.{MeetsPlan}
 use Rattle.retry_log.specs.Pending as pending
 use Rattle.site_node.specs.Faults.{was_shut_out}
 
@@ -79,3 +81,13 @@ told_whole format tells disk (journal.Damaged at) image a b t kept refused =
     let good = kept bad.0 bad.1 in
     clash (is_good (read_as format (gate_rule bad.0))) (ap is_good good.1) (ap is_good bad.2)
 told_whole format tells disk _ image a b t kept refused = tt
+
+-- ---- planned stops
+
+-- no call
+unmoved : {D : Type 0} (stops : D → ℕ → Bool) (made faults : D → ℕ) (disk : D) → MeetsPlan stops made faults 0 false disk disk
+unmoved stops made faults disk = record { same = λ n. refl; later = omega arith; few = omega arith; tally = refl; cause = λ is. absurd (false≢true is) }
+
+-- none of either disk
+pub both_unmoved : {D : Type 0} (stops : D → ℕ → Bool) (made faults : D → ℕ) (a b : D) → MeetsPlan stops made faults 0 false a a × MeetsPlan stops made faults 0 false b b
+both_unmoved stops made faults a b = (unmoved stops made faults a, unmoved stops made faults b)

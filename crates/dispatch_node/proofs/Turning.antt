@@ -1,10 +1,14 @@
 -- A turn of a dispatcher over its disks, and its restart, as the states' entries.
-use Rattle.std.proofs.Common.{◌≡◌, ◌⊎◌, inl, inr, ⊎_elim, ℕ, ◌≤◌, true, List, [], length, Option, Some, None, refl, sym, ap, ◌∙◌, subst}
-use Rattle.std.specs.Prelude.{is_some, option_map, Result, Ok, Err, OnErr}
+use Rattle.std.proofs.Common.{◌≡◌, ◌⊎◌, inl, inr, ⊎_elim, ℕ, ◌≤◌, true, false, List, [], length, Option, Some, None, refl, sym, ap, ◌∙◌, subst}
+use Rattle.std.specs.Prelude.{is_some, option_map, Result, Ok, Err, OnErr, IsErrAnd}
 use Rattle.dispatch_node.proofs.Words.{ends_idle, ends_done, MayTake, Continues, continues_same, continues_through, Config, IsOf, live_of, Bytes, Begin, End, Input, Setting, Note, Out, land, record_of, AreSpelled, Reads, IsJunk, State, Leads, row, written, closes, DispatcherKept, DispatcherLive, land_dispatcher, told, note_of, IsTurn, Stands, out_of, DispatchCore, Turn, DispatchNote, kept_as, takes_note, Holds, MayKeep, DispatcherState, SiteLeads, Knows, IsAsked, Parts, StandsAt, StandsBy, IsRecorded, IsTakenBy, landed_by, dispatcher_rows, IsLogOf, AreKeptPlaces, KeptOn, OnDisks, kept_or}
 use Rattle.offset_journal.specs.Offsets as offsets
 use Rattle.retry_log.specs.Pending as pending
 use Rattle.dispatch_node.proofs.Standing.{live_or, asked_at, row_is, row_goes, landed_is}
+use Rattle.dispatch_node.specs.Faults.{IsReadFault}
+use Rattle.site_node.specs.Faults.{was_stopped}
+use Rattle.site_node.specs.declared.kind.NodeFault.{NodeFault}
+use Rattle.site_node.specs.declared.kind.NodeFault.TheVariants as fault
 
 -- the same node, whatever its core, its disks and its journals are
 pub record IsSame (p q : Parts) : Type 0 where
@@ -194,3 +198,13 @@ grows_through a b c made grown x now = continues_through a b (λ y here. continu
 pub if_err : {T E : Type 0} (r : Result T E) (Q : Type 0) → Q → OnErr r Q
 if_err (Ok x) Q q = tt
 if_err (Err e) Q q = q
+
+-- a turn that wasn't decided isn't stopped
+pub undecided : {T : Type 0} (r : Result T NodeFault) (f : NodeFault) → IsErrAnd r (λ e. e ≡ f) → IsReadFault f → false ≡ was_stopped r
+undecided (Ok x) f is kind = absurd is
+undecided (Err fault.Stopped) f is kind = let bad : IsReadFault fault.Stopped = subst IsReadFault (sym is) kind in absurd bad
+undecided (Err (fault.Disk disk)) f is kind = refl
+undecided (Err (fault.Damaged disk at)) f is kind = refl
+undecided (Err fault.Read) f is kind = refl
+undecided (Err (fault.Spent epoch)) f is kind = refl
+undecided (Err fault.Memory) f is kind = refl

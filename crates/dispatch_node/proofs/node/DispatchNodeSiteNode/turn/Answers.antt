@@ -3,9 +3,9 @@ use Rattle.dispatch_node.proofs.Words.{none_of, continues_same, live_of, IsTurn,
 use Rattle.offset_journal.specs.Offsets as offsets
 use Rattle.retry_log.specs.Pending as pending
 use Rattle.dispatch_node.proofs.Standing.{live_or}
-use Rattle.dispatch_node.proofs.Turning.{config_is, decides, quiet, idles, ends, stays_open, doubted, row_moment, opened_is, decided_at, taken_at, images_at, part_at, grows_through, some_of, if_err}
+use Rattle.dispatch_node.proofs.Turning.{config_is, decides, quiet, idles, ends, stays_open, doubted, row_moment, opened_is, decided_at, taken_at, images_at, part_at, grows_through, some_of, if_err, undecided}
 use Rattle.site_node.specs.Faults.{was_stopped}
-use Rattle.site_node.proofs.Stops.{both_meet}
+use Rattle.site_node.proofs.Stops.{both_meet, one_by_one}
 use Rattle.dispatch_node.proofs.node.DispatchNodeSiteNode.turn.Goals as goal
 
 pub returns-in-None-clause-done : goal.returns-in-None-clause-done
@@ -150,3 +150,13 @@ returns-in_err-note-in-Some-clause-plan g c planned =
     let same : true ≡ was_stopped c.from_residual-in_err-note-in-Some.result = search rules in
     both_meet d.stops d.made d.faults true _ old.offset.journal.disk old.retry.journal.disk mid.offset.journal.disk mid.retry.journal.disk new.offset.journal.disk new.retry.journal.disk same
     (c.in_ok-ready-in-Some.ensures.plan tells) (c.in_err-note-in-Some.ensures.plan tells)
+
+pub returns-in_err-ready-in-Some-clause-plan : goal.returns-in_err-ready-in-Some-clause-plan
+returns-in_err-ready-in-Some-clause-plan g c planned =
+    let d = g.D.Disk in
+    let e = c.in_err-ready-in-Some.ensures in
+    let old = c.args.self.now.journals in
+    let mid = c.prepare.new.self.journals in
+    let room = e.plan (g.met.D.Disk.plan_told planned) in
+    let same = undecided c.from_residual-in_err-ready-in-Some.result c.in_err-ready-in-Some.field-0.0 c.from_residual-in_err-ready-in-Some.ensures.1 e.fault in
+    one_by_one d.stops d.made d.faults 0 false _ old.offset.journal.disk old.retry.journal.disk mid.offset.journal.disk mid.retry.journal.disk same room.0 room.1
