@@ -3,7 +3,7 @@ use Rattle.std.proofs.Common.{inl, inr, ⊎_elim, ◌≡◌, ◌++◌, ℕ, List
 use Rattle.photon_cli.proofs.Words.{continues_same, Setting, DiskName, StaysAs, Images, RunLog, BulkValues, Text, Values, Wish, a_bulk_run, a_drill, a_join, a_resharding, a_verification, BulkEnds, DrillEnds, Ends, JoinEnds, VerifyEnds, message}
 use Rattle.run_fault.specs.declared.fault.RunFault.TheVariants as fault
 use Rattle.photon_cli.specs.Reshard.{ReshardEnds}
-use Rattle.photon_cli.proofs.Resharding.{ends, untaken}
+use Rattle.photon_cli.proofs.Resharding.{ends, not_added, untaken}
 
 module _ (logs sinks disks : Bool) (told : List ℕ → Option (List ℕ)) (files output errors faulted : Type 0) (before : Images) (leaves : Setting → Type 0) (same unrun : Type 0) (ran : Option RunLog) (old err_old err_new : List ℕ) (status : ℕ)
     (eight : status ≡ 8) (tells : IsTrue sinks → (errors → ⊥) → err_new ≡ err_old ++ message fault.Memory) (is_same : same) (is_unrun : unrun) (stays : (disk : DiskName) → StaysAs (before disk) (before disk)) where
@@ -91,7 +91,7 @@ module _ (logs sinks disks : Bool) (told : List ℕ → Option (List ℕ)) (file
   reshard : (row : Text) → ReshardEnds sinks output errors old old err_old err_new status row same disks before before faulted leaves
   reshard row = subst (λ (n : ℕ). ReshardEnds sinks output errors old old err_old err_new n row same disks before before faulted leaves) (sym eight)
       (ends sinks disks output errors old old err_old err_new row same before before faulted leaves fault.Memory tt (λ d r is. tt) (λ none. (is_same, inr refl)) (λ at is. absurd (cc)) (λ is. absurd (cc)) (λ s d is. absurd (cc)) tells
-      (λ d g replicas few sound some e. omega (arith, e)) (untaken row disks before before fault.Memory (λ is. cc) (λ d disk c now. now)))
+      (λ d g replicas few sound some e. omega (arith, e)) (λ d. untaken row before before 8 (not_added fault.Memory (λ is. cc)) (λ disk c now. now)))
 
   pub forgotten : (w : Wish) → Ends logs sinks disks told files output errors faulted before before leaves same unrun ran old old err_old err_new status w
   forgotten (a_join v state) = join v
