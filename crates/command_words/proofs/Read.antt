@@ -15,6 +15,7 @@ use Rattle.clap.specs.Takes.{is_given}
 use Rattle.clap.specs.Faults.{built_fault, check_fault, entered_fault, fault_of, level_fault, walk_fault}
 use Rattle.clap.specs.declared.builder.value_parser.ValueParser.TheVariants as vp
 use Rattle.clap.proofs.ValueTestLemmas.{accepts-Accepts}
+use Rattle.command_words.specs.declared.options.TheConstants.{MOST_CLICKS}
 use Rattle.command_words.specs.Words.{AreInRanges, Command, Given, HaveValues, IsFound, IsInRanges, IsNamed, IsReadable, Opt, Text, Wish, batch, bulk, command_of, count, drill, given_as, is_required, join, joiners, name_of, node_options, nodes_by, options_of, reshard, shards, value_of, verify, wish_by}
 use Rattle.command_words.specs.declared.options.Form.{Form}
 use Rattle.command_words.specs.declared.options.Form.TheVariants.{Number as number, AnyText as any_text, SomeText as some_text}
@@ -251,7 +252,7 @@ module _ (text_at number_at : Given) where
   within join h = nodes_within h.1.1.1.1
   within drill h = nodes_within h.1.1.1.1
   within verify h = tt
-  within bulk h = record { count = (number_within (value_of count number_at) 0 100000 h.1.0).1; nodes = nodes_within h.1.1 }
+  within bulk h = record { count = (number_within (value_of count number_at) 0 MOST_CLICKS h.1.0).1; nodes = nodes_within h.1.1 }
   within reshard h = tt
 
   all_there : (options : List Opt) → HaveValues text_at number_at IsReadable options → HaveValues text_at number_at (λ f t. ⊤) options

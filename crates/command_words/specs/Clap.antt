@@ -19,7 +19,7 @@ rule_of_option o = record (new_rule o.name) { long = Some o.name; required = is_
 
 -- the option of an entry of the code's table
 abbrev pub option_in : Entry → Opt
-option_in e = record { name = e.0.now; form = e.1; default = option_map (λ t. t.now) e.2 }
+option_in e = record { name = e.name.now; form = e.form; default = option_map (λ t. t.now) e.default }
 
 abbrev pub shape_with : Text → List Opt → Shape
 shape_with name options = record (new_shape name) { rules = map rule_of_option options }

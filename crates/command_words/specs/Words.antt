@@ -16,6 +16,7 @@ use Rattle.command_words.specs.declared.asked.RunOptions.{RunOptions}
 use Rattle.command_words.specs.declared.asked.BulkOptions.{BulkOptions}
 use Rattle.command_words.specs.declared.asked.Asked.{Asked}
 use Rattle.command_words.specs.declared.asked.Asked.TheVariants.{Join, Drill, Verify, Bulk, Reshard}
+use Rattle.command_words.specs.declared.options.TheConstants.{MOST_CLICKS}
 use Rattle.command_words.specs.declared.options.Form.{Form}
 use Rattle.command_words.specs.declared.options.Form.TheVariants.{Number as number, AnyText as any_text, SomeText as some_text}
 
@@ -62,7 +63,7 @@ abbrev pub seed : Opt
 seed = must (codes "seed") (number 0 18446744073709551615)
 
 abbrev pub count : Opt
-count = must (codes "clicks") (number 0 100000)
+count = must (codes "clicks") (number 0 MOST_CLICKS)
 
 abbrev pub horizon : Opt
 horizon = may (codes "horizon") (number 0 18446744073709551615) (codes "0")
@@ -267,7 +268,7 @@ pub record AreInRanges (v : NodeValues) : Type 0 where
   pub batch : v.batch ≤ 64
 
 pub record AreBulkRanges (v : BulkValues) : Type 0 where
-  pub count : v.count ≤ 100000
+  pub count : v.count ≤ MOST_CLICKS
   pub nodes : AreInRanges v.nodes
 
 abbrev pub IsInRanges : Wish → Type 0

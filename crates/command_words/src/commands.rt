@@ -15,10 +15,10 @@ fn argument<'a>(alloc: Global, option: &Opt) -> Arg<'a>
     ensures rule { rule_of result ≡ rule_of_option (option_in option.now) }
     ensures own { result.global ≡ false }
 {
-    let argument = Arg::new(alloc, option.0)
-        .long(option.0)
-        .required(option.2.is_none());
-    match option.1 {
+    let argument = Arg::new(alloc, option.name)
+        .long(option.name)
+        .required(option.default.is_none());
+    match option.form {
         Form::Number(low, high) => argument.value_parser(ValueParser::unsigned(low, high)),
         Form::AnyText => argument,
         Form::SomeText => argument.value_parser(ValueParser::NonEmptyString),

@@ -13,7 +13,8 @@ ghost use Rattle.command_words.specs.declared.asked.WordsFault.TheVariants.{Memo
 use crate::asked::{Asked, BulkOptions, NodeOptions, RunOptions, WordsFault};
 use crate::commands::photon;
 use crate::options::{
-    ADD, BATCH, CLICKS, COUNT, HORIZON, JOINERS, Opt, PLAN, QUERIES, SEED, SHARDS, STATE,
+    ADD, BATCH, CLICKS, COUNT, HORIZON, JOINERS, MOST_CLICKS, Opt, PLAN, QUERIES, SEED, SHARDS,
+    STATE,
 };
 use clap::ArgMatches;
 use clap::error::ErrorKind;
@@ -23,7 +24,7 @@ use std::alloc::Global;
 fn text<'a>(found: &ArgMatches<'a>, option: &Opt) -> &'a str
     ensures { result.now ≡ text_of (option_in option.now) (text_in (rows_of (found_of found.now))) }
 {
-    found.get_str(option.0).or(option.2).unwrap_or("")
+    found.get_str(option.name).or(option.default).unwrap_or("")
 }
 
 /// The number of an option.
@@ -31,9 +32,9 @@ fn number(found: &ArgMatches<'_>, option: &Opt) -> Option<u64>
     ensures value { IfSome result (λ n. n ≡ number_of (option_in option.now) (number_in (rows_of (found_of found.now)))) }
     ensures reads { (low high : ℕ) → IsSomeAnd (value_of (option_in option.now) (number_in (rows_of (found_of found.now)))) (IsUnsignedIn low high) → IsSomeAnd result (λ n. n ≤ high) }
 {
-    match found.try_get_one::<u64>(option.0) {
+    match found.try_get_one::<u64>(option.name) {
         Ok(Some(number)) => Some(number),
-        Ok(None) => default_number(option.2?),
+        Ok(None) => default_number(option.default?),
         Err(_) => None,
     }
 }
@@ -89,7 +90,7 @@ fn bulk<'a>(found: &ArgMatches<'a>) -> Option<BulkOptions<'a>>
     ensures reads { HaveValues (text_in (rows_of (found_of found.now))) (number_in (rows_of (found_of found.now))) IsReadable (options_of bulk) → IsSome result }
 {
     let clicks = number(found, &COUNT)?;
-    if clicks > 100_000 {
+    if clicks > MOST_CLICKS {
         return None;
     }
     Some(BulkOptions {
