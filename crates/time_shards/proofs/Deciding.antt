@@ -4,6 +4,7 @@ use Rattle.std.specs.Prelude.{◌&&◌, ◌==◌, nat_lt, nat_le}
 use Rattle.std.proofs.lemmas.Bool.{and_parts, le-leb}
 use Rattle.std.proofs.lemmas.Bool.Decides.{nat_tests}
 use Rattle.list_words.specs.Lists.{Each}
+use Rattle.time_shards.specs.declared.TheConstants.{MAX_ROWS}
 use Rattle.time_shards.specs.declared.ShardRow.{ShardRow}
 use Rattle.time_shards.specs.Shards.{IsRow, Rises, IsTable, is_row, go_on, is_table}
 
@@ -35,12 +36,12 @@ rows_are row (r ∷ rs) each rises =
 pub table_so : (rows : List ShardRow) → is_table rows ≡ true → IsTable rows
 table_so [] e = absurd (cc)
 table_so (r ∷ rs) e =
-    let a = and_parts (r.start == 0) (is_row r && (go_on r.start rs && nat_le (length (r ∷ rs)) 4)) e in
-    let b = and_parts (is_row r) (go_on r.start rs && nat_le (length (r ∷ rs)) 4) a.1 in
-    let c = and_parts (go_on r.start rs) (nat_le (length (r ∷ rs)) 4) b.1 in
+    let a = and_parts (r.start == 0) (is_row r && (go_on r.start rs && nat_le (length (r ∷ rs)) MAX_ROWS)) e in
+    let b = and_parts (is_row r) (go_on r.start rs && nat_le (length (r ∷ rs)) MAX_ROWS) a.1 in
+    let c = and_parts (go_on r.start rs) (nat_le (length (r ∷ rs)) MAX_ROWS) b.1 in
     let rest = rows_so r rs c.0 in
     let zero : r.start ≡ 0 = grind (arith, nat_tests, a.0) in
-    let few : length (r ∷ rs) ≤ 4 = grind (arith, nat_tests, c.1) in
+    let few : length (r ∷ rs) ≤ MAX_ROWS = grind (arith, nat_tests, c.1) in
     record { some = omega arith; begins = record { few = few; zero = zero; rising = rest.1; each = (row_so r b.0, rest.0) } }
 
 pub table_is : (rows : List ShardRow) → IsTable rows → is_table rows ≡ true
@@ -48,6 +49,6 @@ table_is [] t = absurd (omega (arith, t.some))
 table_is (r ∷ rs) t =
     let zero = t.begins.zero in
     let is_zero : (r.start == 0) ≡ true = grind (arith, nat_tests) in
-    both (r.start == 0) (is_row r && (go_on r.start rs && nat_le (length (r ∷ rs)) 4)) is_zero
-    (both (is_row r) (go_on r.start rs && nat_le (length (r ∷ rs)) 4) (row_is r t.begins.each.0)
-    (both (go_on r.start rs) (nat_le (length (r ∷ rs)) 4) (rows_are r rs t.begins.each.1 t.begins.rising) (le-leb (length (r ∷ rs)) 4 t.begins.few)))
+    both (r.start == 0) (is_row r && (go_on r.start rs && nat_le (length (r ∷ rs)) MAX_ROWS)) is_zero
+    (both (is_row r) (go_on r.start rs && nat_le (length (r ∷ rs)) MAX_ROWS) (row_is r t.begins.each.0)
+    (both (go_on r.start rs) (nat_le (length (r ∷ rs)) MAX_ROWS) (rows_are r rs t.begins.each.1 t.begins.rising) (le-leb (length (r ∷ rs)) MAX_ROWS t.begins.few)))

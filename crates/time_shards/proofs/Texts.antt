@@ -8,6 +8,7 @@ use Rattle.list_words.proofs.Splits.{split_same, lacks_append, lacks_none}
 use Rattle.event_id.specs.EventId.{colon}
 use Rattle.event_id.proofs.Numerals.{decimal_lacks}
 use Rattle.list_words.specs.Lists.{Each}
+use Rattle.time_shards.specs.declared.TheConstants.{MAX_ROWS}
 use Rattle.time_shards.specs.declared.ShardRow.{ShardRow}
 use Rattle.time_shards.specs.Shards.{IsRow, BeginsTable, IsTable}
 use Rattle.time_shards.specs.Text.{comma, row_text, table_text, before, HasFirst, IsFirstBad}
@@ -94,8 +95,8 @@ pub stops : (text rest : List ℕ) (good : List ShardRow) (n : ℕ) → text ≡
     → ((row : ShardRow) → HasFirst rest row → BeginsTable (good ++ row ∷ []) → ⊥) → IsFirstBad text n
 stops text rest good n e p b h = record { good = good; rest = rest; spelled = e; place = p; begins = b; bad = h }
 
--- behind four rows each further one is bad
-pub full : (good : List ShardRow) (row : ShardRow) → length good ≡ 4 → BeginsTable (good ++ row ∷ []) → ⊥
+-- behind as many rows as a table has each further one is bad
+pub full : (good : List ShardRow) (row : ShardRow) → length good ≡ MAX_ROWS → BeginsTable (good ++ row ∷ []) → ⊥
 full good row e b = omega (arith, b.few, length-append good (row ∷ []))
 
 -- one more good row, with a comma behind it
@@ -179,8 +180,8 @@ last_at text rest rows next row at e lt s b f =
     let whole : take (at + 1) (set rows at next) ≡ take at rows ++ next ∷ [] = take_more_set rows at next (omega arith) in
     subst P (sym whole) (table_of (take at rows) next b, spelled_all text rest (take at rows) next (s ∙ ap (λ (t : List ShardRow). before t ++ rest) (sym same)) f)
 
--- behind four rows the text doesn't go on
-pub full_at : (text rest : List ℕ) (rows : List ShardRow) (row : ℕ) → 4 ≤ row → row ≤ 4 → length rows ≡ 4 → BeginsTable (take row rows) → text ≡ before (take row rows) ++ rest → IsFirstBad text 4
+-- behind as many rows as a table has the text doesn't go on
+pub full_at : (text rest : List ℕ) (rows : List ShardRow) (row : ℕ) → MAX_ROWS ≤ row → row ≤ MAX_ROWS → length rows ≡ MAX_ROWS → BeginsTable (take row rows) → text ≡ before (take row rows) ++ rest → IsFirstBad text MAX_ROWS
 full_at text rest rows row low high l b s =
-    let four : length (take row rows) ≡ 4 = omega (arith, length-take-le row rows) in
-    stops text rest (take row rows) 4 s four b (λ next f g. full (take row rows) next four g)
+    let all : length (take row rows) ≡ MAX_ROWS = omega (arith, length-take-le row rows) in
+    stops text rest (take row rows) MAX_ROWS s all b (λ next f g. full (take row rows) next all g)

@@ -3,6 +3,7 @@ use Rattle.std.specs.Prelude.{ℕ, zero, suc, ◌≡◌, ◌≤◌, List, [], �
 use Rattle.std.proofs.Common.{sym, ap, subst, ◌∙◌}
 use Rattle.std.proofs.lemmas.List.{length-take-le}
 use Rattle.list_words.specs.Lists.{Each}
+use Rattle.time_shards.specs.declared.TheConstants.{MAX_ROWS}
 use Rattle.time_shards.specs.declared.ShardRow.{ShardRow}
 
 -- what stands in a place that holds no row
@@ -25,9 +26,9 @@ padded_take [] len h = refl
 padded_take (x ∷ xs) zero h = ap (λ (y : ShardRow). y ∷ padded (length xs) []) (sym h.0) ∙ ap (λ (ys : List ShardRow). x ∷ ys) (padded_take xs zero h.1)
 padded_take (x ∷ xs) (suc len) h = ap (λ (ys : List ShardRow). x ∷ ys) (padded_take xs len h)
 
--- what is made of an array of four and the number of its rows is made of the rows alone
-pub fields_back : {X : Type 0} (make : List ShardRow → ℕ → X) (rows : List ShardRow) (len : ℕ) → length rows ≡ 4 → len ≤ 4 → IsSpareFrom len rows
-    → make (padded 4 (take len rows)) (length (take len rows)) ≡ make rows len
+-- what is made of an array of all places and the number of its rows is made of the rows alone
+pub fields_back : {X : Type 0} (make : List ShardRow → ℕ → X) (rows : List ShardRow) (len : ℕ) → length rows ≡ MAX_ROWS → len ≤ MAX_ROWS → IsSpareFrom len rows
+    → make (padded MAX_ROWS (take len rows)) (length (take len rows)) ≡ make rows len
 fields_back make rows len l le h =
     let all = subst (λ n. padded n (take len rows) ≡ rows) l (padded_take rows len h) in
     let long = length-take-le len rows (subst (λ n. len ≤ n) (sym l) le) in

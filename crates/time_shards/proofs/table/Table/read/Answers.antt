@@ -1,5 +1,6 @@
 use Rattle.std.proofs.Common.{◌≡◌, Ok, Err, List, ap, arith}
 use Rattle.std.proofs.Math.ListN.{length-set}
+use Rattle.time_shards.specs.declared.TheConstants.{MAX_ROWS}
 use Rattle.time_shards.specs.declared.ShardRow.{ShardRow}
 use Rattle.time_shards.specs.Text.{IsFirstBad, row_text}
 use Rattle.time_shards.proofs.Spares.{spare_more}
@@ -37,11 +38,11 @@ loop-row-preserved c =
 
 pub returns-clause-only : goal.returns-clause-only
 returns-clause-only c table t e =
-    absurd (none_bad c.args.text.now 4 table (full_at c.args.text.now c.loop-row.rest.now c.loop-row.rows c.loop-row.row c.loop-row-test.false c.loop-row.auto.row-end c.loop-row.invariant.long c.loop-row.invariant.begins c.loop-row.invariant.spelled) t e)
+    absurd (none_bad c.args.text.now MAX_ROWS table (full_at c.args.text.now c.loop-row.rest.now c.loop-row.rows c.loop-row.row c.loop-row-test.false c.loop-row.auto.row-end c.loop-row.invariant.long c.loop-row.invariant.begins c.loop-row.invariant.spelled) t e)
 
 pub returns-clause-bad : goal.returns-clause-bad
 returns-clause-bad c = full_at c.args.text.now c.loop-row.rest.now c.loop-row.rows c.loop-row.row c.loop-row-test.false c.loop-row.auto.row-end c.loop-row.invariant.long c.loop-row.invariant.begins c.loop-row.invariant.spelled
 
 pub returns-clause-told : goal.returns-clause-told
 returns-clause-told c row bad =
-    ap (λ n. Err (record { row = n })) (one_bad c.args.text.now 4 row (full_at c.args.text.now c.loop-row.rest.now c.loop-row.rows c.loop-row.row c.loop-row-test.false c.loop-row.auto.row-end c.loop-row.invariant.long c.loop-row.invariant.begins c.loop-row.invariant.spelled) bad)
+    ap (λ n. Err (record { row = n })) (one_bad c.args.text.now MAX_ROWS row (full_at c.args.text.now c.loop-row.rest.now c.loop-row.rows c.loop-row.row c.loop-row-test.false c.loop-row.auto.row-end c.loop-row.invariant.long c.loop-row.invariant.begins c.loop-row.invariant.spelled) bad)
