@@ -1,6 +1,6 @@
 -- How a resharding ends, by its exit status.
 use Rattle.std.specs.Prelude.{ℕ, ◌≡◌, ◌≢◌, ◌≤◌, ◌⊎◌, List, ◌++◌, Bool, true, IsTrue, Some, Ok, Err, codes, ⊤}
-use Rattle.turn_defs.specs.declared.limits.TheConstants.{MOST_JOINERS}
+use Rattle.time_shards.specs.declared.TheConstants.{MOST_JOINERS}
 use Rattle.outside.specs.declared.store.DiskName.{DiskName}
 use Rattle.time_shards.specs.declared.ShardRow.{ShardRow}
 use Rattle.time_shards.specs.Shards.{IsRow}

@@ -13,6 +13,9 @@ pub const MAX_ROWS: usize = 4;
 /// The most shards of a row.
 pub const MAX_SHARDS: u8 = 16;
 
+/// How many joiners a site may have: a run has so many at each site, beside its table.
+pub const MOST_JOINERS: u8 = 4;
+
 /// A row of a table: for ids from this timestamp on, in microseconds, so many shards.
 #[derive(Clone, Copy, Debug, PartialEq, Eq)]
 pub struct ShardRow {

@@ -5,6 +5,7 @@ use Rattle.std.proofs.lemmas.Bool.{and_parts}
 use Rattle.std.proofs.lemmas.Bool.Decides.{nat_tests}
 use Rattle.std.proofs.lemmas.List.{append-nil}
 use Rattle.list_words.specs.Lists.{Each}
+use Rattle.time_shards.specs.declared.TheConstants.{MOST_JOINERS}
 use Rattle.time_shards.specs.declared.ShardRow.{ShardRow}
 use Rattle.time_shards.specs.Shards.{IsTable, is_table}
 use Rattle.time_shards.specs.Text.{comma, row_text, table_text}
@@ -20,7 +21,7 @@ text_cut first (r ∷ rs) = ap (λ (t : List ℕ). row_text first ++ comma ∷ t
 -- what a front says
 pub record Front (bytes : List ℕ) : Type 0 where
   pub some : 1 ≤ slice_index bytes 2
-  pub few : slice_index bytes 2 ≤ 4
+  pub few : slice_index bytes 2 ≤ MOST_JOINERS
   pub size : length (drop 4 bytes) ≡ 9 * slice_index bytes 3
 
 pub front_is : (bytes : List ℕ) → has_front bytes ≡ true → Front bytes

@@ -7,21 +7,21 @@ use Rattle.gate_journal.specs.Gate.{gate_rule}
 use Rattle.gate_journal.specs.Fold.{Fold, folds_to, fails_at}
 use Rattle.gate_journal.specs.Records as of
 use Rattle.time_shards.specs.declared.ShardRow.{ShardRow}
+use Rattle.time_shards.specs.declared.TheConstants.{MOST_JOINERS}
 use Rattle.time_shards.specs.Shards.{IsTable, is_table}
 use Rattle.time_shards.specs.Text.{comma, row_text}
-use Rattle.topology_journal.specs.declared.topology.TheConstants.{MAX_JOINERS}
 use Rattle.topology_journal.specs.declared.topology.Topology.{Topology}
 
 -- a topology of these
 abbrev pub topology_of : ℕ → List ShardRow → Topology
 topology_of joiners table = record { joiners = joiners; table = table }
 
--- 1 to 4 joiners a site
+-- some joiners a site, and no more than it may have
 pub record HasJoiners (t : Topology) : Type 0 where
   pub some : 1 ≤ t.joiners
-  pub few : t.joiners ≤ MAX_JOINERS
+  pub few : t.joiners ≤ MOST_JOINERS
 
--- 1 to 4 joiners a site, and a table
+-- the joiners of a site, and a table
 pub record IsTopology (t : Topology) : Type 0 where
   pub joiners : HasJoiners t
   pub table : IsTable t.table
@@ -46,10 +46,6 @@ record_of version t = 1 ∷ version ∷ t.joiners ∷ length t.table ∷ rows_by
 abbrev pub topology_record : Topology → List ℕ
 topology_record t = record_of 2 t
 
--- the most bytes that a topology's record has
-abbrev pub longest : ℕ
-longest = 40
-
 -- ---- reading
 
 -- the row that the first nine bytes are, and the rows that so many times nine bytes are
@@ -64,7 +60,7 @@ rows_in (suc n) bytes = row_in bytes ∷ rows_in n (drop 9 bytes)
 abbrev pub has_front : List ℕ → Bool
 has_front bytes =
     nat_le 4 (length bytes) && (slice_index bytes 0 == 1) && nat_le 1 (slice_index bytes 1) && nat_le (slice_index bytes 1) 2 && nat_le 1 (slice_index bytes 2)
-    && nat_le (slice_index bytes 2) MAX_JOINERS && (length bytes == 4 + 9 * slice_index bytes 3)
+    && nat_le (slice_index bytes 2) MOST_JOINERS && (length bytes == 4 + 9 * slice_index bytes 3)
 
 -- a record that was read: its version, and its topology
 abbrev pub read_as_table : List ℕ → List ShardRow → Option (ℕ × Topology)

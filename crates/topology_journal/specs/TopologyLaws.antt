@@ -6,13 +6,15 @@ use Rattle.std.specs.Coded.{Coded, code_by, coded×, coded_list, coded_option, c
 use Rattle.std.proofs.lemmas.Bool.Decides.{nat_tests}
 use Rattle.std.proofs.lemmas.Nat.{from_be_bytes-to_be_bytes_8}
 use Rattle.list_words.specs.Lists.{Each}
+use Rattle.time_shards.specs.declared.TheConstants.{MOST_JOINERS}
 use Rattle.time_shards.specs.declared.ShardRow.{ShardRow}
 use Rattle.time_shards.specs.Shards.{IsRow}
 use Rattle.time_shards.proofs.Deciding.{table_is}
 use Rattle.gate_journal.specs.Fold.{folds_to}
 use Rattle.gate_journal.specs.FoldLaws as folds
+use Rattle.topology_journal.specs.declared.topology.TheConstants.{LONGEST}
 use Rattle.topology_journal.specs.declared.topology.Topology.{Topology}
-use Rattle.topology_journal.specs.Topologies.{topology_of, IsTopology, row_bytes, rows_bytes, record_of, topology_record, longest, row_in, rows_in, has_front, read_as_table, read_in, is_longer, follows, follows_read, topologies, MayCome}
+use Rattle.topology_journal.specs.Topologies.{topology_of, IsTopology, row_bytes, rows_bytes, record_of, topology_record, row_in, rows_in, has_front, read_as_table, read_in, is_longer, follows, follows_read, topologies, MayCome}
 
 coded_row : Coded ShardRow
 coded_row = code_by (ℕ × ℕ) (coded× coded_ℕ coded_ℕ) (λ r. (r.start, r.count)) (λ x. record { start = x.0; count = x.1 }) (λ _. refl)
@@ -28,10 +30,10 @@ pub long : (rows : List ShardRow) → length (rows_bytes rows) ≡ 9 * length ro
 long [] = refl
 long (r ∷ rs) = let e = long rs in omega (arith, e)
 
-pub short : (t : Topology) → IsTopology t → length (topology_record t) ≤ longest
+pub short : (t : Topology) → IsTopology t → length (topology_record t) ≤ LONGEST
 short t is = omega (arith, long t.table, is.table.begins.few)
 
-pub fits : (kept : Option Topology) (t : Topology) → MayCome kept t → length (topology_record t) ≤ longest
+pub fits : (kept : Option Topology) (t : Topology) → MayCome kept t → length (topology_record t) ≤ LONGEST
 fits kept t may = short t may.1
 
 -- ---- a record is read as what it is of
@@ -47,7 +49,7 @@ pub row_starts : (rows : List ShardRow) → Each IsRow rows → Each (λ row. ro
 row_starts [] h = tt
 row_starts (r ∷ rs) h = (h.0.start, row_starts rs h.1)
 
-front_tests : (v j n : ℕ) (rest : List ℕ) → 1 ≤ v → v ≤ 2 → 1 ≤ j → j ≤ 4 → length rest ≡ 9 * n → has_front (1 ∷ v ∷ j ∷ n ∷ rest) ≡ true
+front_tests : (v j n : ℕ) (rest : List ℕ) → 1 ≤ v → v ≤ 2 → 1 ≤ j → j ≤ MOST_JOINERS → length rest ≡ 9 * n → has_front (1 ∷ v ∷ j ∷ n ∷ rest) ≡ true
 front_tests v j n rest first last some few size = grind (arith, nat_tests)
 
 -- in both versions

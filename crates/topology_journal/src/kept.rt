@@ -45,8 +45,9 @@ impl Record for Topologies {
     ghost use Rattle.std.proofs.Common.{arith, refl};
     ghost use Rattle.gate_journal.specs.Fold.{folds_to, fails_at};
     ghost use Rattle.gate_journal.specs.FoldLaws.{once};
+    ghost use Rattle.topology_journal.specs.declared.topology.TheConstants.{LONGEST as longest};
     ghost use Rattle.topology_journal.specs.declared.topology.Topology.{Topology};
-    ghost use Rattle.topology_journal.specs.Topologies.{topology_record, longest, topologies, MayCome};
+    ghost use Rattle.topology_journal.specs.Topologies.{topology_record, topologies, MayCome};
     ghost use Rattle.topology_journal.specs.TopologyLaws.{coded_kept, comes_next as topology_comes_next, fits as topology_fits};
 
     type One = Topology;

@@ -4,9 +4,9 @@ ghost use Rattle.topology_journal.specs.Topologies.{HasJoiners, follows as comes
 
 use crate::Topology;
 use crate::tables::{has_rows, read_rows, table_of};
-use crate::topology::{MAX_JOINERS, TAG, VERSION};
+use crate::topology::{TAG, VERSION};
 use std::alloc::{AllocError, Global};
-use time_shards::{ShardRow, Table};
+use time_shards::{MOST_JOINERS, ShardRow, Table};
 
 /// The topology that a record puts in the place of the kept one, or None where it may not come next.
 pub fn next_topology(
@@ -53,7 +53,7 @@ fn is_front(payload: &[u8]) -> bool
         && payload[1] >= 1
         && payload[1] <= VERSION
         && payload[2] >= 1
-        && payload[2] <= MAX_JOINERS
+        && payload[2] <= MOST_JOINERS
         && payload.len() == 4 + 9 * payload[3] as usize
 }
 

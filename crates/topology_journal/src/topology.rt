@@ -13,9 +13,6 @@ pub(crate) const TAG: u8 = 1;
 /// The second byte of a record: the version in which it is written. A first record is read in version 1 as well.
 pub(crate) const VERSION: u8 = 2;
 
-/// The most joiners of a site.
-pub(crate) const MAX_JOINERS: u8 = 4;
-
 /// The most bytes that a record has.
 pub(crate) const LONGEST: u32 = 40;
 

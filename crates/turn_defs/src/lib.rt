@@ -11,7 +11,8 @@ mod packet;
 mod pair;
 
 pub use config::Config;
-pub use limits::{FIRST_JOINER, LAST_SLOT, MOST_FLIGHTS, MOST_JOINERS, WINDOW};
+pub use limits::{FIRST_JOINER, LAST_SLOT, MOST_FLIGHTS, WINDOW};
 pub use node::{Input, Node, To};
 pub use packet::{Outcome, Packet};
 pub use pair::PairRec;
+pub use time_shards::MOST_JOINERS;

@@ -6,9 +6,6 @@ pub const WINDOW: usize = 64;
 /// How many joins of a joiner may be in flight.
 pub const MOST_FLIGHTS: usize = 32;
 
-/// How many joiners a site may have.
-pub const MOST_JOINERS: u8 = 4;
-
 /// The last round and the last slot: a server that has come to it begins no other.
 pub const LAST_SLOT: u64 = (1 << 48) - 1;
 

@@ -1,6 +1,6 @@
 // The store of a plan.
 ghost use Rattle.std.specs.Prelude.{◌≡◌, ◌≤◌, ◌++◌, ◌∷◌, [], ℕ, List, ◌&&◌, Some, IfOk, OnOk, if◌then◌else◌};
-ghost use Rattle.turn_defs.specs.declared.limits.TheConstants.{MOST_JOINERS};
+ghost use Rattle.time_shards.specs.declared.TheConstants.{MOST_JOINERS};
 ghost use Rattle.outside.specs.declared.store.DiskName.{DiskName};
 ghost use Rattle.mem_outside.specs.Kept.{fuses_for};
 ghost use Rattle.mem_outside.specs.Plan.{is_planned};

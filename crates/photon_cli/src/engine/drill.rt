@@ -1,6 +1,6 @@
 // A drill: both sites run over a store in memory that is empty at first, and a plan says what goes wrong.
 ghost use Rattle.std.specs.Prelude.{◌≡◌, ◌<◌, ◌≤◌, ◌⊎◌, ⊤, [], ℕ, List, false, IfErr, IfOk, IfSome, IsErrAnd, IsSomeAnd, IsTrue, OnOk, Err};
-ghost use Rattle.turn_defs.specs.declared.limits.TheConstants.{MOST_JOINERS};
+ghost use Rattle.time_shards.specs.declared.TheConstants.{MOST_JOINERS};
 ghost use Rattle.registry_state.specs.declared.TheConstants.{MOST_INSERTS};
 ghost use Rattle.std.specs.List.{list_any};
 ghost use Rattle.outside.specs.declared.store.DiskName.{DiskName};

@@ -1,6 +1,6 @@
 // A verification: no node runs, and what the disks keep is reported.
 ghost use Rattle.std.specs.Prelude.{◌≡◌, ◌≤◌, ◌⊎◌, ℕ, List, map, None, Some, IfErr, IfOk, OnOk, IsErrAnd, IsSomeAnd, IsTrue, Err, ⊤};
-ghost use Rattle.turn_defs.specs.declared.limits.TheConstants.{MOST_JOINERS};
+ghost use Rattle.time_shards.specs.declared.TheConstants.{MOST_JOINERS};
 ghost use Rattle.std.specs.List.{list_any};
 ghost use Rattle.outside.specs.declared.store.DiskName.{DiskName};
 ghost use Rattle.outside.specs.Faults.{Counts, Rose};

@@ -1,7 +1,7 @@
 // All disks of a state directory.
 ghost use Rattle.std.specs.Prelude.{◌≡◌, ◌≤◌, ◌+◌, ◌∷◌, ℕ, List, length, IsTrue, IfOk, IfErr, OnErr};
 ghost use Rattle.list_words.specs.Lists.{Each};
-ghost use Rattle.turn_defs.specs.declared.limits.TheConstants.{MOST_JOINERS};
+ghost use Rattle.time_shards.specs.declared.TheConstants.{MOST_JOINERS};
 ghost use Rattle.outside.specs.declared.store.DiskName.{DiskName};
 ghost use Rattle.outside.specs.Faults.{added};
 ghost use Rattle.gate_journal.specs.declared.journal.JournalState.TheVariants.{Ready};

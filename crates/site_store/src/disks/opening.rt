@@ -1,7 +1,7 @@
 // Taking disks from a store and giving them back.
 ghost use Rattle.std.specs.Prelude.{◌≡◌, ◌≢◌, ◌≤◌, ◌+◌, ℕ, List, length, map, IsTrue, IfOk, IfErr, OnOk, OnErr, IsErrOf};
 ghost use Rattle.list_words.specs.Lists.{Each};
-ghost use Rattle.turn_defs.specs.declared.limits.TheConstants.{MOST_JOINERS};
+ghost use Rattle.time_shards.specs.declared.TheConstants.{MOST_JOINERS};
 ghost use Rattle.outside.specs.declared.store.DiskName.{DiskName};
 ghost use Rattle.outside.specs.Disk.{Within};
 ghost use Rattle.outside.specs.Faults.{Counts};

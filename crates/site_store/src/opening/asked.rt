@@ -1,6 +1,6 @@
 // A store whose disks are opened and judged, for a run with what is asked, or for a verification, which asks nothing.
 ghost use Rattle.std.specs.Prelude.{◌≡◌, ◌≤◌, ◌+◌, ◌∷◌, length, IsTrue, IfOk, IfErr, IfSome, OnErr};
-ghost use Rattle.turn_defs.specs.declared.limits.TheConstants.{MOST_JOINERS};
+ghost use Rattle.time_shards.specs.declared.TheConstants.{MOST_JOINERS};
 ghost use Rattle.outside.specs.declared.store.DiskName.{DiskName};
 ghost use Rattle.outside.specs.Faults.{Rose};
 ghost use Rattle.gate_journal.specs.declared.journal.JournalState.TheVariants.{Ready};
