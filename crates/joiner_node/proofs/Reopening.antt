@@ -15,7 +15,7 @@ use Rattle.output_log.specs.Pairs as pairs
 use Rattle.turn_defs.specs.Joiner.{JoinerKept}
 use Rattle.joiner_core.specs.declared.turn.JoinerNote.{JoinerNote}
 use Rattle.joiner_core.specs.declared.turn.JoinerNote.TheVariants as notes
-use Rattle.joiner_node.specs.Disks.{EpochOr, PairsOr, Holds, with_note, InDoubt, IsFound, has_more, IsUndamaged}
+use Rattle.joiner_node.specs.Disks.{EpochOr, PairsOr, AreKept, Holds, with_note, InDoubt, IsFound, counted, IsCount, has_more, IsUndamaged}
 use Rattle.joiner_node.specs.declared.disks.Doubt.{Doubt}
 
 -- ---- the images of a disk that is read again
@@ -64,68 +64,71 @@ pairs_left apart k m image ps or (c, here, keeps) = ⊎_elim (λ old. inl (one_l
 
 -- ---- whether the note landed
 
-nothing_more : (e : ℕ) (ps : List PairRec) (d : Doubt) → e ≡ d.epoch → length ps ≡ d.pairs → has_more e ps d ≡ false
-nothing_more e ps d same count = grind (arith, nat_tests)
+nothing_more : (e n : ℕ) (d : Doubt) → e ≡ d.epoch → n ≡ d.pairs → has_more e n d ≡ false
+nothing_more e n d same count = grind (arith, nat_tests)
 
-later_epoch : (e : ℕ) (ps : List PairRec) (d : Doubt) → (e ≡ d.epoch → ⊥) → has_more e ps d ≡ true
-later_epoch e ps d more = grind (arith, nat_tests)
+later_epoch : (e n : ℕ) (d : Doubt) → (e ≡ d.epoch → ⊥) → has_more e n d ≡ true
+later_epoch e n d more = grind (arith, nat_tests)
 
-longer_list : (e : ℕ) (ps : List PairRec) (d : Doubt) → (length ps ≡ d.pairs → ⊥) → has_more e ps d ≡ true
-longer_list e ps d more = grind (arith, nat_tests)
+longer_list : (e n : ℕ) (d : Doubt) → (n ≡ d.pairs → ⊥) → has_more e n d ≡ true
+longer_list e n d more = grind (arith, nat_tests)
 
 -- the disks have what was kept, or that with the note, and the journals tell which
-pub record Reads (e : ℕ) (ps : List PairRec) (d : Doubt) (landed : Bool) (k : JoinerKept) : Type 0 where
+pub record Reads (e written : ℕ) (ps : List PairRec) (d : Doubt) (landed : Bool) (k : JoinerKept) : Type 0 where
   pub epoch_is : e ≡ k.epoch
   pub pairs_are : ps ≡ k.pairs
-  pub told : has_more e ps d ≡ landed
+  pub told : has_more e written d ≡ landed
 
-old_reads : (e : ℕ) (ps : List PairRec) (d : Doubt) (k : JoinerKept) → d.epoch ≡ k.epoch → d.pairs ≡ length k.pairs → e ≡ k.epoch → ps ≡ k.pairs → Reads e ps d false k
-old_reads e ps d k epoch count e_is ps_are = record { epoch_is = e_is; pairs_are = ps_are; told = nothing_more e ps d (e_is ∙ sym epoch) (ap length ps_are ∙ sym count) }
+counts : (written : ℕ) (ps : List PairRec) (k : JoinerKept) → IsCount written ps → ps ≡ k.pairs → written ≡ counted k.pairs
+counts written ps k is same = omega (arith, is.many, is.short, ap length same)
 
-pub reads_either : (e : ℕ) (ps : List PairRec) (d : Doubt) (n : JoinerNote) (k : JoinerKept) → InDoubt d n k → (e ≡ k.epoch) ⊎ (e ≡ (with_note (Some n) k).epoch) → (ps ≡ k.pairs) ⊎ (ps ≡ (with_note (Some n) k).pairs)
-    → Reads e ps d false k ⊎ Reads e ps d true (with_note (Some n) k)
-reads_either e ps d (notes.Epoch x) k doubt epoch pair =
+old_reads : (e written : ℕ) (ps : List PairRec) (d : Doubt) (k : JoinerKept) → IsCount written ps → d.epoch ≡ k.epoch → d.pairs ≡ counted k.pairs → e ≡ k.epoch → ps ≡ k.pairs → Reads e written ps d false k
+old_reads e written ps d k is epoch count e_is ps_are = record { epoch_is = e_is; pairs_are = ps_are; told = nothing_more e written d (e_is ∙ sym epoch) (counts written ps k is ps_are ∙ sym count) }
+
+pub reads_either : (e written : ℕ) (ps : List PairRec) (d : Doubt) (n : JoinerNote) (k : JoinerKept) → IsCount written ps → InDoubt d n k → (e ≡ k.epoch) ⊎ (e ≡ (with_note (Some n) k).epoch) → (ps ≡ k.pairs) ⊎ (ps ≡ (with_note (Some n) k).pairs)
+    → Reads e written ps d false k ⊎ Reads e written ps d true (with_note (Some n) k)
+reads_either e written ps d (notes.Epoch x) k is doubt epoch pair =
     let same : ps ≡ k.pairs = ⊎_elim (λ h. h) (λ h. h) pair in
-    ⊎_elim (λ old. inl (old_reads e ps d k doubt.epoch_is doubt.pairs_are old same))
-    (λ new. inr (record { epoch_is = new; pairs_are = same; told = later_epoch e ps d (λ is. omega (arith, is, new, doubt.epoch_is, doubt.next)) }))
+    ⊎_elim (λ old. inl (old_reads e written ps d k is doubt.epoch_is doubt.count_is old same))
+    (λ new. inr (record { epoch_is = new; pairs_are = same; told = later_epoch e written d (λ e_is. omega (arith, e_is, new, doubt.epoch_is, doubt.next)) }))
     epoch
-reads_either e ps d (notes.Pair p) k doubt epoch pair =
+reads_either e written ps d (notes.Pair p) k is doubt epoch pair =
     let same : e ≡ k.epoch = ⊎_elim (λ h. h) (λ h. h) epoch in
-    ⊎_elim (λ old. inl (old_reads e ps d k doubt.epoch_is doubt.pairs_are same old))
+    ⊎_elim (λ old. inl (old_reads e written ps d k is doubt.epoch_is doubt.count_is same old))
     (λ new.
     let more : length ps ≡ length k.pairs + 1 = ap length new ∙ length-append k.pairs (p ∷ []) in
-    inr (record { epoch_is = same; pairs_are = new; told = longer_list e ps d (λ is. omega (arith, is, more, doubt.pairs_are)) }))
+    inr (record { epoch_is = same; pairs_are = new; told = longer_list e written d (λ n_is. omega (arith, n_is, more, is.many, is.short, doubt.count_is)) }))
     pair
 
 -- both journals are read, and each image has what they have
-pub holds_read : (e : ℕ) (ps : List PairRec) (epoch_image pairs_image : List ℕ → Type 0) (k : JoinerKept) → e ≡ k.epoch → ps ≡ k.pairs → ((c : List ℕ) → epoch_image c → epochs.Keeps e c) → ((c : List ℕ) → pairs_image c → pairs.Keeps ps c) → Holds e ps epoch_image pairs_image k
-holds_read e ps epoch_image pairs_image k epoch_is pairs_are epoch_durable pairs_durable = record {
+pub holds_read : (e written : ℕ) (ps : List PairRec) (epoch_image pairs_image : List ℕ → Type 0) (k : JoinerKept) → IsCount written ps → e ≡ k.epoch → ps ≡ k.pairs → ((c : List ℕ) → epoch_image c → epochs.Keeps e c) → AreKept pairs_image ps → Holds e written epoch_image pairs_image k
+holds_read e written ps epoch_image pairs_image k is epoch_is pairs_are epoch_durable kept = record {
   epoch_is = epoch_is;
-  pairs_are = pairs_are;
+  count_is = counts written ps k is pairs_are;
   images = record {
     epochs_or = λ c here. inl (subst (λ (x : ℕ). epochs.Keeps x c) epoch_is (epoch_durable c here));
-    pairs_or = λ c here. inl (subst (λ (xs : List PairRec). pairs.Keeps xs c) pairs_are (pairs_durable c here));
+    pairs_or = λ c here. inl (subst (λ (xs : List PairRec). pairs.Keeps xs c) pairs_are (kept c here));
   };
 }
 
-module _ (e : ℕ) (ps : List PairRec) (d : Doubt) (n : JoinerNote) (k : JoinerKept) (epoch_image pairs_image : List ℕ → Type 0) (told : Bool) (doubt : InDoubt d n k) (epoch : (e ≡ k.epoch) ⊎ (e ≡ (with_note (Some n) k).epoch)) (pair : (ps ≡ k.pairs) ⊎ (ps ≡ (with_note (Some n) k).pairs)) (more : told ≡ has_more e ps d)
-    (epoch_durable : (c : List ℕ) → epoch_image c → epochs.Keeps e c) (pairs_durable : (c : List ℕ) → pairs_image c → pairs.Keeps ps c) where
+module _ (e written : ℕ) (ps : List PairRec) (d : Doubt) (n : JoinerNote) (k : JoinerKept) (epoch_image pairs_image : List ℕ → Type 0) (told : Bool) (is : IsCount written ps) (doubt : InDoubt d n k) (epoch : (e ≡ k.epoch) ⊎ (e ≡ (with_note (Some n) k).epoch)) (pair : (ps ≡ k.pairs) ⊎ (ps ≡ (with_note (Some n) k).pairs)) (more : told ≡ has_more e written d)
+    (epoch_durable : (c : List ℕ) → epoch_image c → epochs.Keeps e c) (kept : AreKept pairs_image ps) where
   abbrev some_bytes : List ℕ → Option (List ℕ)
   some_bytes b = Some b
 
   -- the note landed
-  pub landed : told ≡ true → IsFound (Some d.payload) n k e ps epoch_image pairs_image
+  pub landed : told ≡ true → IsFound (Some d.payload) n k e written epoch_image pairs_image
   landed is_told =
-      ⊎_elim (λ old. let is = old.told in absurd (cc (is_told, more, is)))
-      (λ new. inr (ap some_bytes doubt.record_is, holds_read e ps epoch_image pairs_image (with_note (Some n) k) new.epoch_is new.pairs_are epoch_durable pairs_durable))
-      (reads_either e ps d n k doubt epoch pair)
+      ⊎_elim (λ old. let told_is = old.told in absurd (cc (is_told, more, told_is)))
+      (λ new. inr (ap some_bytes doubt.record_is, holds_read e written ps epoch_image pairs_image (with_note (Some n) k) is new.epoch_is new.pairs_are epoch_durable kept))
+      (reads_either e written ps d n k is doubt epoch pair)
 
   -- nothing did
-  pub not_landed : told ≡ false → IsFound None n k e ps epoch_image pairs_image
+  pub not_landed : told ≡ false → IsFound None n k e written epoch_image pairs_image
   not_landed not_told =
-      ⊎_elim (λ old. inl (refl, holds_read e ps epoch_image pairs_image k old.epoch_is old.pairs_are epoch_durable pairs_durable))
-      (λ new. let is = new.told in absurd (cc (not_told, more, is)))
-      (reads_either e ps d n k doubt epoch pair)
+      ⊎_elim (λ old. inl (refl, holds_read e written ps epoch_image pairs_image k is old.epoch_is old.pairs_are epoch_durable kept))
+      (λ new. let told_is = new.told in absurd (cc (not_told, more, told_is)))
+      (reads_either e written ps d n k is doubt epoch pair)
 
 -- ---- a disk of which each image has such records isn't damaged
 

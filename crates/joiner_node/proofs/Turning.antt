@@ -7,7 +7,6 @@ use Rattle.log_records.specs.Log.{first}
 use Rattle.registry_state.specs.declared.Insert.{Insert}
 use Rattle.registry_state.specs.declared.Answer.{Answer}
 use Rattle.registry_state.specs.declared.Answer.TheVariants.{Granted, Duplicate, TooOld}
-use Rattle.turn_defs.specs.declared.pair.PairRec.{PairRec}
 use Rattle.air_bus.specs.declared.entry.Input.{Input as Bytes}
 use Rattle.air_bus.specs.declared.entry.Input.TheVariants as bytes
 use Rattle.air_bus.specs.declared.entry.Entry.TheVariants.{Begin, End, Stop}
@@ -180,10 +179,10 @@ pub config_same : (old new : Config) (g : Setting) → new ≡ old → IsOf old 
 config_same old new g e of_g = subst (λ (r : Config). IsOf r g) (sym e) of_g
 
 -- room was made
-pub holds_within : (epoch epoch' : ℕ) (ps ps' : List PairRec) (ei pi ei' pi' : List ℕ → Type 0) (k : JoinerKept) → epoch' ≡ epoch → ps' ≡ ps → ((c : List ℕ) → ei' c → ei c) → ((c : List ℕ) → pi' c → pi c) → Holds epoch ps ei pi k → Holds epoch' ps' ei' pi' k
-holds_within epoch epoch' ps ps' ei pi ei' pi' k e p ein pin holds = record {
+pub holds_within : (epoch epoch' written written' : ℕ) (ei pi ei' pi' : List ℕ → Type 0) (k : JoinerKept) → epoch' ≡ epoch → written' ≡ written → ((c : List ℕ) → ei' c → ei c) → ((c : List ℕ) → pi' c → pi c) → Holds epoch written ei pi k → Holds epoch' written' ei' pi' k
+holds_within epoch epoch' written written' ei pi ei' pi' k e p ein pin holds = record {
   epoch_is = e ∙ holds.epoch_is;
-  pairs_are = p ∙ holds.pairs_are;
+  count_is = p ∙ holds.count_is;
   images = record { epochs_or = λ c here. holds.images.epochs_or c (ein c here); pairs_or = λ c here. holds.images.pairs_or c (pin c here) };
 }
 

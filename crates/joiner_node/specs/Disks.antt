@@ -1,5 +1,5 @@
 -- A joiner's two disks: its epochs are on one of them, and the pairs that it wrote on the other.
-use Rattle.std.specs.Prelude.{◌≡◌, ◌⊎◌, ℕ, suc, ◌<◌, Bool, not, ◌&&◌, ◌==◌, List, length, Option, Some, None, option_map, ⊤}
+use Rattle.std.specs.Prelude.{◌≡◌, ◌⊎◌, ℕ, suc, ◌-◌, ◌^◌, ◌≤◌, min, Bool, not, ◌&&◌, ◌==◌, List, length, Option, Some, None, option_map, ⊤}
 use Rattle.gate_journal.specs.Disk.{HasRoom}
 use Rattle.gate_journal.specs.declared.reading.JournalFault.{JournalFault}
 use Rattle.gate_journal.specs.declared.reading.JournalFault.TheVariants.{Damaged, Disk, Memory}
@@ -37,10 +37,18 @@ pub record MayHave (k m : JoinerKept) (epoch_image pairs_image : List ℕ → Ty
   pub epochs_or : (c : List ℕ) → epoch_image c → EpochOr k m c
   pub pairs_or : (c : List ℕ) → pairs_image c → PairsOr k m c
 
--- the journals have these records, and so has whatever a stop leaves
-pub record Holds (epoch : ℕ) (written : List PairRec) (epoch_image pairs_image : List ℕ → Type 0) (k : JoinerKept) : Type 0 where
+-- whatever a stop leaves has these pairs
+abbrev pub AreKept : (List ℕ → Type 0) → List PairRec → Type 0
+AreKept image ps = (c : List ℕ) → image c → pairs.Keeps ps c
+
+-- how many pairs these are, as far as a word of 64 bits counts
+abbrev pub counted : List PairRec → ℕ
+counted ps = min (length ps) (2 ^ 64 - 1)
+
+-- the journals have these records, so many of them pairs, and so has whatever a stop leaves
+pub record Holds (epoch written : ℕ) (epoch_image pairs_image : List ℕ → Type 0) (k : JoinerKept) : Type 0 where
   pub epoch_is : epoch ≡ k.epoch
-  pub pairs_are : written ≡ k.pairs
+  pub count_is : written ≡ counted k.pairs
   pub images : MayHave k k epoch_image pairs_image
 
 -- an epoch is the one above the kept one
@@ -60,7 +68,7 @@ bytes_of n = record_of (note_of n)
 pub record InDoubt (d : Doubt) (n : JoinerNote) (k : JoinerKept) : Type 0 where
   pub record_is : d.payload ≡ bytes_of n
   pub epoch_is : d.epoch ≡ k.epoch
-  pub pairs_are : d.pairs ≡ length k.pairs
+  pub count_is : d.pairs ≡ counted k.pairs
   pub next : IsNext (Some n) k
 
 abbrev pub AreInDoubt : Option Doubt → Option JoinerNote → JoinerKept → Type 0
@@ -69,31 +77,41 @@ AreInDoubt (Some d) None k = ⊥
 AreInDoubt None n k = ⊥
 
 -- the record, and what was kept before it
-abbrev pub IsLeftBehind : Option Doubt → List ℕ → ℕ → List PairRec → Type 0
+abbrev pub IsLeftBehind : Option Doubt → List ℕ → ℕ → ℕ → Type 0
 IsLeftBehind None payload epoch written = ⊥
-IsLeftBehind (Some d) payload epoch written = (d.payload ≡ payload) × (d.epoch ≡ epoch) × (d.pairs ≡ length written)
+IsLeftBehind (Some d) payload epoch written = (d.payload ≡ payload) × (d.epoch ≡ epoch) × (d.pairs ≡ written)
 
 -- what was kept is there and nothing landed, or the note landed
-abbrev pub IsFound : Option (List ℕ) → JoinerNote → JoinerKept → ℕ → List PairRec → (epoch_image pairs_image : List ℕ → Type 0) → Type 0
+abbrev pub IsFound : Option (List ℕ) → JoinerNote → JoinerKept → ℕ → ℕ → (epoch_image pairs_image : List ℕ → Type 0) → Type 0
 IsFound landed n k epoch written epoch_image pairs_image =
     ((landed ≡ None) × Holds epoch written epoch_image pairs_image k) ⊎ ((landed ≡ Some (bytes_of n)) × Holds epoch written epoch_image pairs_image (with_note (Some n) k))
 
 -- whether what was reopened has more than what was kept before
-abbrev pub has_more : ℕ → List PairRec → Doubt → Bool
-has_more epoch written d = not ((epoch == d.epoch) && (length written == d.pairs))
+abbrev pub has_more : ℕ → ℕ → Doubt → Bool
+has_more epoch written d = not ((epoch == d.epoch) && (written == d.pairs))
 
--- what is left of the disks' room, and what the list of pairs has, is enough to write the record
+-- so many pairs are these, as a list in memory counts them
+pub record IsCount (written : ℕ) (ps : List PairRec) : Type 0 where
+  pub many : written ≡ length ps
+  pub short : length ps ≤ 2 ^ 64 - 1
+
+-- so many pairs were read, these: one of the images before had them, and each one now has
+pub record AreRead (before now : List ℕ → Type 0) (written : ℕ) (ps : List PairRec) : Type 0 where
+  pub left : pairs.IsLeft before ps
+  pub kept : AreKept now ps
+  pub count : IsCount written ps
+
+-- what is left of the disks' room is enough to write the record
 pub record Room : Type 0 where
   pub epoch_calls : ℕ
   pub epoch_bytes : ℕ
   pub pair_calls : ℕ
   pub pair_bytes : ℕ
-  pub places : ℕ
 
-abbrev pub IsRoomFor : Option Record → Room → ℕ → Type 0
-IsRoomFor None r used = ⊤
-IsRoomFor (Some (written.Epoch b)) r used = HasRoom r.epoch_calls r.epoch_bytes 5
-IsRoomFor (Some (written.Pair p b)) r used = HasRoom r.pair_calls r.pair_bytes longest × (used < r.places)
+abbrev pub IsRoomFor : Option Record → Room → Type 0
+IsRoomFor None r = ⊤
+IsRoomFor (Some (written.Epoch b)) r = HasRoom r.epoch_calls r.epoch_bytes 5
+IsRoomFor (Some (written.Pair p b)) r = HasRoom r.pair_calls r.pair_bytes longest
 
 -- no damage was found
 abbrev pub IsUndamaged : JournalFault → Type 0

@@ -1,7 +1,6 @@
 -- A joiner over its disks, beside the states that its entries lead through.
 use Rattle.std.specs.Prelude.{◌≡◌, ℕ, ◌==◌, List, Bool, if◌then◌else◌, Option, Some, None, option_map}
 use Rattle.ballot_core.specs.declared.TheConstants.{LAST_EPOCH}
-use Rattle.turn_defs.specs.declared.pair.PairRec.{PairRec}
 use Rattle.air_bus.specs.declared.entry.Entry.{Entry}
 use Rattle.air_bus.specs.declared.entry.Input.{Input as Bytes}
 use Rattle.air_bus.specs.declared.entry.Input.TheVariants as bytes
@@ -74,7 +73,7 @@ pub record Parts : Type 0 where
   pub place : ℕ
   pub in_doubt : Option Doubt
   pub epoch : ℕ
-  pub written : List PairRec
+  pub written : ℕ
 
 -- Without a record in doubt it knows what it keeps; else it was stopped in its open turn.
 abbrev pub StandsBy : Option Doubt → Parts → (epoch_image pairs_image : List ℕ → Type 0) → JoinerState → Type 0

@@ -32,7 +32,7 @@ phase_to s t e l = phase_led (joiner_rows s.number) s.node t.node e l.leads
 same_epoch : (k : JoinerKept) (c : List ℕ) → EpochOr k k c → epochs.Keeps k.epoch c
 same_epoch k c or = ⊎_elim (λ h. h) (λ h. h) or
 
-same_pairs : (k : JoinerKept) (c : List ℕ) → PairsOr k k c → pairs.Keeps k.pairs c
+pub same_pairs : (k : JoinerKept) (c : List ℕ) → PairsOr k k c → pairs.Keeps k.pairs c
 same_pairs k c or = ⊎_elim (λ h. h) (λ h. h) or
 
 -- a note is on one disk alone, so both disks have what they had, or both have that with the note

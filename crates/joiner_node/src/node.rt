@@ -39,7 +39,7 @@ struct ReadyTurn {
 }
 
 impl<L: LogFile, D: Disk> JoinerNode<L, D> {
-    ghost use Rattle.std.specs.Prelude.{◌≡◌, ◌+◌, ◌*◌, ◌<◌, ◌≤◌, ℕ, List, Option, None, Some, true, false, is_some, IsTrue, IfOk, IfErr, OnOk, OnErr, IsErrOf, option_map, vec_len, vec_capacity};
+    ghost use Rattle.std.specs.Prelude.{◌≡◌, ◌+◌, ◌*◌, ◌<◌, ◌≤◌, ℕ, List, Option, None, Some, true, false, is_some, IsTrue, IfOk, IfErr, OnOk, OnErr, IsErrOf, option_map};
     ghost use Rattle.outside.specs.Disk.{Throughout};
     ghost use Rattle.outside.specs.Faults.{Rose};
     ghost use Rattle.outside.specs.Plans.{MeetsPlan};
@@ -56,7 +56,7 @@ impl<L: LogFile, D: Disk> JoinerNode<L, D> {
     ghost use Rattle.joiner_core.specs.Standing.{Serves, IsSame, Fits, Leads};
     ghost use Rattle.joiner_core.specs.declared.turn.JoinerNote.{JoinerNote};
     ghost use Rattle.joiner_node.specs.Read.{HasRead};
-    ghost use Rattle.joiner_node.specs.Disks.{EpochOr, PairsOr, Holds, IsNext, with_note, bytes_of, AreInDoubt, IsRoomFor};
+    ghost use Rattle.joiner_node.specs.Disks.{EpochOr, PairsOr, Holds, IsNext, with_note, bytes_of, AreInDoubt, counted, IsRoomFor};
     ghost use Rattle.joiner_node.specs.Records.{recorded_as, IsOwn, IsUnspent};
     ghost use Rattle.joiner_node.specs.Joining.{Knows, MayGet, joiner_row, IsOfDecision};
     ghost use Rattle.joiner_node.specs.Node.{StandsAt, IsRow, down_over};
@@ -76,11 +76,11 @@ impl<L: LogFile, D: Disk> JoinerNode<L, D> {
         requires joiner { joiner < config.joiners }
         requires ready { (epochs.journal.state ≡ Ready) × (log.journal.state ≡ Ready) }
         ensures number { IfOk result (λ node. node.number ≡ 4 + config.replicas + site * config.joiners + joiner) }
-        ensures disks { IfOk result (λ node. (node.disks.epochs ≡ epochs) × (node.disks.log ≡ log)) }
+        ensures disks { IfOk result (λ node. (node.disks.epochs ≡ epochs) × (node.disks.log ≡ log.journal)) }
         ensures log { IfOk result (λ node. node.joining.queries.store.tail.log ≡ queries) }
         ensures up { IfOk result (λ node. node.disks.in_doubt ≡ None) }
         ensures stands { IsTrue D.tells → (g : Setting) (k : JoinerKept) → IsOf config g → IsQueryLog (L.bytes queries) g.queries → epochs.value.epoch ≡ k.epoch → log.value.pairs.items ≡ k.pairs →
-            IfOk result (λ node. StandsAt (record { number = node.number; config = node.config; core = node.joining.core; up = node.joining.up; log = L.bytes node.joining.queries.store.tail.log; place = node.joining.queries.store.tail.place; in_doubt = node.disks.in_doubt; epoch = node.disks.epochs.value.epoch; written = node.disks.log.value.pairs.items }) (D.image node.disks.epochs.journal.disk) (D.image node.disks.log.journal.disk) (down_over node.number g k)) }
+            IfOk result (λ node. StandsAt (record { number = node.number; config = node.config; core = node.joining.core; up = node.joining.up; log = L.bytes node.joining.queries.store.tail.log; place = node.joining.queries.store.tail.place; in_doubt = node.disks.in_doubt; epoch = node.disks.epochs.value.epoch; written = node.disks.written }) (D.image node.disks.epochs.journal.disk) (D.image node.disks.log.disk) (down_over node.number g k)) }
         ensures err { IfErr result (λ e. (e.1 ≡ epochs) × (e.2 ≡ log) × (e.3 ≡ queries)) }
     {
         let number = joiner_number(config.replicas, config.joiners, site, joiner);
@@ -99,7 +99,7 @@ impl<L: LogFile, D: Disk> JoinerNode<L, D> {
     /// The disk of its epochs, that of its pairs, and the query log.
     pub fn into_disks(self) -> (D, D, L)
         ensures epochs { result.0 ≡ self.disks.epochs.journal.disk }
-        ensures pairs { result.1 ≡ self.disks.log.journal.disk }
+        ensures pairs { result.1 ≡ self.disks.log.disk }
         ensures log { result.2 ≡ self.joining.queries.store.tail.log }
     {
         let JoinerNode {
@@ -121,9 +121,9 @@ impl<L: LogFile, D: Disk> JoinerNode<L, D> {
         ensures core { IsSame self.old.joining.core self.new.joining.core }
         ensures reads { IsTrue L.tells → (qs : List Query) → HasRead (L.bytes self.old.joining.queries.store.tail.log) self.old.joining.queries.store.tail.place qs → HasRead (L.bytes self.new.joining.queries.store.tail.log) self.new.joining.queries.store.tail.place qs }
         ensures epoch { self.new.disks.epochs.value.epoch ≡ self.old.disks.epochs.value.epoch }
-        ensures pairs { self.new.disks.log.value.pairs.items ≡ self.old.disks.log.value.pairs.items }
+        ensures written { self.new.disks.written ≡ self.old.disks.written }
         ensures epoch_moments { IsTrue D.tells → Throughout D.image D.since self.old.disks.epochs.journal.disk self.new.disks.epochs.journal.disk (D.image self.old.disks.epochs.journal.disk) }
-        ensures pair_moments { IsTrue D.tells → Throughout D.image D.since self.old.disks.log.journal.disk self.new.disks.log.journal.disk (D.image self.old.disks.log.journal.disk) }
+        ensures pair_moments { IsTrue D.tells → Throughout D.image D.since self.old.disks.log.disk self.new.disks.log.disk (D.image self.old.disks.log.disk) }
         ensures row { IsTrue L.tells → IfOk result (λ ready. (g : Setting) (n : ℕ) (k : JoinerKept) (live : Option JoinerLive) →
             HasRead (L.bytes self.old.joining.queries.store.tail.log) self.old.joining.queries.store.tail.place g.queries →
             Serves self.old.joining.core g n → Knows self.old.joining.up self.old.joining.core g n k live → self.old.disks.epochs.value.epoch ≡ k.epoch → MayGet live input →
@@ -131,14 +131,14 @@ impl<L: LogFile, D: Disk> JoinerNode<L, D> {
         ensures fits { IfOk result (λ ready. Fits self.new.joining.core ready.turn) }
         ensures own { IfOk result (λ ready. IsOwn ready.writes) }
         ensures unspent { IfOk result (λ ready. IsUnspent ready.writes self.old.disks.epochs.value.epoch) }
-        ensures room { IfOk result (λ ready. IsRoomFor ready.writes (record { epoch_calls = D.calls_left self.new.disks.epochs.journal.disk; epoch_bytes = D.bytes_left self.new.disks.epochs.journal.disk; pair_calls = D.calls_left self.new.disks.log.journal.disk; pair_bytes = D.bytes_left self.new.disks.log.journal.disk; places = vec_capacity self.new.disks.log.value.pairs }) (vec_len self.new.disks.log.value.pairs)) }
+        ensures room { IfOk result (λ ready. IsRoomFor ready.writes (record { epoch_calls = D.calls_left self.new.disks.epochs.journal.disk; epoch_bytes = D.bytes_left self.new.disks.epochs.journal.disk; pair_calls = D.calls_left self.new.disks.log.disk; pair_bytes = D.bytes_left self.new.disks.log.disk })) }
         ensures spent { (last : ℕ) → IsErrOf result (NodeFault.Spent last) → (input ≡ Start) × (self.old.disks.epochs.value.epoch ≡ LAST_EPOCH) × (last ≡ self.old.disks.epochs.value.epoch) }
         ensures spends { input ≡ Start → self.old.disks.epochs.value.epoch ≡ LAST_EPOCH → OnOk result ⊥ }
         ensures kind { IfErr result IsOfDecision }
         ensures fault { IsErrOf result NodeFault.Read → Rose (L.faults self.old.joining.queries.store.tail.log) (L.faults self.new.joining.queries.store.tail.log) }
-        ensures plan { IsTrue D.tells → MeetsPlan D.stops D.made D.faults 0 false self.old.disks.epochs.journal.disk self.new.disks.epochs.journal.disk × MeetsPlan D.stops D.made D.faults 0 false self.old.disks.log.journal.disk self.new.disks.log.journal.disk }
+        ensures plan { IsTrue D.tells → MeetsPlan D.stops D.made D.faults 0 false self.old.disks.epochs.journal.disk self.new.disks.epochs.journal.disk × MeetsPlan D.stops D.made D.faults 0 false self.old.disks.log.disk self.new.disks.log.disk }
         ensures epoch_count { D.faults self.new.disks.epochs.journal.disk ≡ D.faults self.old.disks.epochs.journal.disk }
-        ensures pair_count { D.faults self.new.disks.log.journal.disk ≡ D.faults self.old.disks.log.journal.disk }
+        ensures pair_count { D.faults self.new.disks.log.disk ≡ D.faults self.old.disks.log.disk }
         ensures log_count { L.faults self.old.joining.queries.store.tail.log ≤ L.faults self.new.joining.queries.store.tail.log }
     {
         let kept = self.disks.epoch();
@@ -159,7 +159,7 @@ impl<L: LogFile, D: Disk> JoinerNode<L, D> {
         requires fits { Fits self.old.joining.core ready.turn }
         requires own { IsOwn ready.writes }
         requires unspent { IsUnspent ready.writes self.old.disks.epochs.value.epoch }
-        requires room { IsRoomFor ready.writes (record { epoch_calls = D.calls_left self.old.disks.epochs.journal.disk; epoch_bytes = D.bytes_left self.old.disks.epochs.journal.disk; pair_calls = D.calls_left self.old.disks.log.journal.disk; pair_bytes = D.bytes_left self.old.disks.log.journal.disk; places = vec_capacity self.old.disks.log.value.pairs }) (vec_len self.old.disks.log.value.pairs) }
+        requires room { IsRoomFor ready.writes (record { epoch_calls = D.calls_left self.old.disks.epochs.journal.disk; epoch_bytes = D.bytes_left self.old.disks.epochs.journal.disk; pair_calls = D.calls_left self.old.disks.log.disk; pair_bytes = D.bytes_left self.old.disks.log.disk }) }
         ensures same { (self.new.number ≡ self.old.number) × (self.new.config ≡ self.old.config) × (self.new.joining.queries ≡ self.old.joining.queries) }
         ensures core { OnErr result (self.new.joining ≡ self.old.joining) }
         ensures up { OnOk result (self.new.disks.in_doubt ≡ None) }
@@ -168,16 +168,16 @@ impl<L: LogFile, D: Disk> JoinerNode<L, D> {
         ensures packets { IfOk result (λ done. done.packets ≡ ready.packets) }
         ensures note { (n : Option JoinerNote) → ready.writes ≡ recorded_as n → IfOk result (λ done. done.note ≡ option_map bytes_of n) }
         ensures knows { OnOk result ((g : Setting) (n : ℕ) (k : JoinerKept) (l : JoinerLive) → Leads self.old.joining.core ready.turn g n k l → Knows self.new.joining.up self.new.joining.core g n k (Some l)) }
-        ensures holds { IsTrue D.tells → (k : JoinerKept) (n : Option JoinerNote) → ready.writes ≡ recorded_as n → IsNext n k → Holds self.old.disks.epochs.value.epoch self.old.disks.log.value.pairs.items (D.image self.old.disks.epochs.journal.disk) (D.image self.old.disks.log.journal.disk) k → OnOk result (Holds self.new.disks.epochs.value.epoch self.new.disks.log.value.pairs.items (D.image self.new.disks.epochs.journal.disk) (D.image self.new.disks.log.journal.disk) (with_note n k)) }
-        ensures doubts { (k : JoinerKept) (n : Option JoinerNote) → ready.writes ≡ recorded_as n → IsNext n k → self.old.disks.epochs.value.epoch ≡ k.epoch → self.old.disks.log.value.pairs.items ≡ k.pairs → OnErr result (AreInDoubt self.new.disks.in_doubt n k) }
-        ensures epoch_moments { IsTrue D.tells → (k : JoinerKept) (n : Option JoinerNote) → ready.writes ≡ recorded_as n → IsNext n k → Holds self.old.disks.epochs.value.epoch self.old.disks.log.value.pairs.items (D.image self.old.disks.epochs.journal.disk) (D.image self.old.disks.log.journal.disk) k → Throughout D.image D.since self.old.disks.epochs.journal.disk self.new.disks.epochs.journal.disk (EpochOr k (with_note n k)) }
-        ensures pair_moments { IsTrue D.tells → (k : JoinerKept) (n : Option JoinerNote) → ready.writes ≡ recorded_as n → IsNext n k → Holds self.old.disks.epochs.value.epoch self.old.disks.log.value.pairs.items (D.image self.old.disks.epochs.journal.disk) (D.image self.old.disks.log.journal.disk) k → Throughout D.image D.since self.old.disks.log.journal.disk self.new.disks.log.journal.disk (PairsOr k (with_note n k)) }
+        ensures holds { IsTrue D.tells → (k : JoinerKept) (n : Option JoinerNote) → ready.writes ≡ recorded_as n → IsNext n k → Holds self.old.disks.epochs.value.epoch self.old.disks.written (D.image self.old.disks.epochs.journal.disk) (D.image self.old.disks.log.disk) k → OnOk result (Holds self.new.disks.epochs.value.epoch self.new.disks.written (D.image self.new.disks.epochs.journal.disk) (D.image self.new.disks.log.disk) (with_note n k)) }
+        ensures doubts { (k : JoinerKept) (n : Option JoinerNote) → ready.writes ≡ recorded_as n → IsNext n k → self.old.disks.epochs.value.epoch ≡ k.epoch → self.old.disks.written ≡ counted k.pairs → OnErr result (AreInDoubt self.new.disks.in_doubt n k) }
+        ensures epoch_moments { IsTrue D.tells → (k : JoinerKept) (n : Option JoinerNote) → ready.writes ≡ recorded_as n → IsNext n k → Holds self.old.disks.epochs.value.epoch self.old.disks.written (D.image self.old.disks.epochs.journal.disk) (D.image self.old.disks.log.disk) k → Throughout D.image D.since self.old.disks.epochs.journal.disk self.new.disks.epochs.journal.disk (EpochOr k (with_note n k)) }
+        ensures pair_moments { IsTrue D.tells → (k : JoinerKept) (n : Option JoinerNote) → ready.writes ≡ recorded_as n → IsNext n k → Holds self.old.disks.epochs.value.epoch self.old.disks.written (D.image self.old.disks.epochs.journal.disk) (D.image self.old.disks.log.disk) k → Throughout D.image D.since self.old.disks.log.disk self.new.disks.log.disk (PairsOr k (with_note n k)) }
         ensures epoch_grows { IsTrue D.tells → (c : List ℕ) → D.image self.new.disks.epochs.journal.disk c → Continues (D.image self.old.disks.epochs.journal.disk) c }
-        ensures pair_grows { IsTrue D.tells → (c : List ℕ) → D.image self.new.disks.log.journal.disk c → Continues (D.image self.old.disks.log.journal.disk) c }
-        ensures fault { OnErr result (Rose (D.faults self.old.disks.epochs.journal.disk + D.faults self.old.disks.log.journal.disk) (D.faults self.new.disks.epochs.journal.disk + D.faults self.new.disks.log.journal.disk)) }
-        ensures plan { IsTrue D.tells → MeetsBoth D.stops D.made D.faults (was_stopped result) self.old.disks.epochs.journal.disk self.old.disks.log.journal.disk self.new.disks.epochs.journal.disk self.new.disks.log.journal.disk }
+        ensures pair_grows { IsTrue D.tells → (c : List ℕ) → D.image self.new.disks.log.disk c → Continues (D.image self.old.disks.log.disk) c }
+        ensures fault { OnErr result (Rose (D.faults self.old.disks.epochs.journal.disk + D.faults self.old.disks.log.disk) (D.faults self.new.disks.epochs.journal.disk + D.faults self.new.disks.log.disk)) }
+        ensures plan { IsTrue D.tells → MeetsBoth D.stops D.made D.faults (was_stopped result) self.old.disks.epochs.journal.disk self.old.disks.log.disk self.new.disks.epochs.journal.disk self.new.disks.log.disk }
         ensures epoch_count { D.faults self.old.disks.epochs.journal.disk ≤ D.faults self.new.disks.epochs.journal.disk }
-        ensures pair_count { D.faults self.old.disks.log.journal.disk ≤ D.faults self.new.disks.log.journal.disk }
+        ensures pair_count { D.faults self.old.disks.log.disk ≤ D.faults self.new.disks.log.disk }
     {
         let ReadyTurn {
             turn,
@@ -240,17 +240,17 @@ impl<L: LogFile, D: Disk> SiteNode for JoinerNode<L, D> {
 
     ghost waits = { λ node. is_some node.disks.in_doubt };
 
-    ghost stands = { λ node s. StandsAt (record { number = node.number; config = node.config; core = node.joining.core; up = node.joining.up; log = L.bytes node.joining.queries.store.tail.log; place = node.joining.queries.store.tail.place; in_doubt = node.disks.in_doubt; epoch = node.disks.epochs.value.epoch; written = node.disks.log.value.pairs.items }) (D.image node.disks.epochs.journal.disk) (D.image node.disks.log.journal.disk) s };
+    ghost stands = { λ node s. StandsAt (record { number = node.number; config = node.config; core = node.joining.core; up = node.joining.up; log = L.bytes node.joining.queries.store.tail.log; place = node.joining.queries.store.tail.place; in_doubt = node.disks.in_doubt; epoch = node.disks.epochs.value.epoch; written = node.disks.written }) (D.image node.disks.epochs.journal.disk) (D.image node.disks.log.disk) s };
 
-    ghost image = { λ node c. D.image node.disks.epochs.journal.disk c.0 × D.image node.disks.log.journal.disk c.1 };
+    ghost image = { λ node c. D.image node.disks.epochs.journal.disk c.0 × D.image node.disks.log.disk c.1 };
 
-    ghost since = { λ old new c. D.since old.disks.epochs.journal.disk new.disks.epochs.journal.disk c.0 × D.since old.disks.log.journal.disk new.disks.log.journal.disk c.1 };
+    ghost since = { λ old new c. D.since old.disks.epochs.journal.disk new.disks.epochs.journal.disk c.0 × D.since old.disks.log.disk new.disks.log.disk c.1 };
 
-    ghost grown = { λ old new. ((c : _) → D.image new.disks.epochs.journal.disk c → Continues (D.image old.disks.epochs.journal.disk) c) × ((c : _) → D.image new.disks.log.journal.disk c → Continues (D.image old.disks.log.journal.disk) c) };
+    ghost grown = { λ old new. ((c : _) → D.image new.disks.epochs.journal.disk c → Continues (D.image old.disks.epochs.journal.disk) c) × ((c : _) → D.image new.disks.log.disk c → Continues (D.image old.disks.log.disk) c) };
 
-    ghost faults = { λ node. D.faults node.disks.epochs.journal.disk + D.faults node.disks.log.journal.disk };
+    ghost faults = { λ node. D.faults node.disks.epochs.journal.disk + D.faults node.disks.log.disk };
 
-    ghost stops_left = { λ node. OfBoth (AtMost (D.stops node.disks.epochs.journal.disk) (D.made node.disks.epochs.journal.disk)) (AtMost (D.stops node.disks.log.journal.disk) (D.made node.disks.log.journal.disk)) };
+    ghost stops_left = { λ node. OfBoth (AtMost (D.stops node.disks.epochs.journal.disk) (D.made node.disks.epochs.journal.disk)) (AtMost (D.stops node.disks.log.disk) (D.made node.disks.log.disk)) };
 
     ghost log_faults = { λ node. L.faults node.joining.queries.store.tail.log };
 

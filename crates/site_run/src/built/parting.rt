@@ -56,7 +56,7 @@ pub(crate) fn joiner_place(joiners: u8, number: u8) -> (u8, u8)
 impl<D: Disk, L: LogFile> Parting<D, L> for AnyNode<D, L> {
     ghost disks_of = { λ joiners number any. either.by
         (either.by (λ d. of_dispatcher number d.journals.offset.journal.disk d.journals.retry.journal.disk) (λ s. of_server number s.journal.journal.disk))
-        (either.by (λ r. of_replica number r.journal.disk) (λ j. of_joiner joiners number j.disks.epochs.journal.disk j.disks.log.journal.disk)) any.node };
+        (either.by (λ r. of_replica number r.journal.disk) (λ j. of_joiner joiners number j.disks.epochs.journal.disk j.disks.log.disk)) any.node };
 
     ghost logs_of = { λ any. either.by (either.by (λ d. d.clicks.tail.log ∷ []) (λ s. [])) (either.by (λ r. []) (λ j. j.joining.queries.store.tail.log ∷ [])) any.node };
 

@@ -17,10 +17,11 @@ returns-then-has_more-clause-found g c tells k n doubt images =
     let ready : new.epochs.journal.state ≡ Ready = let was = e.ready in cc (same, was) in
     let is : c.args.self.now.in_doubt ≡ Some c.in-Some.doubt = let a = e.same.2 in let b = l.same.2 in let v = c.take.ensures.value in let at = c.in-Some.is in cc (a, b, v, at) in
     let m = with_note (Some n) k in
-    landed new.epochs.value.epoch new.log.value.pairs.items c.in-Some.doubt n k _ _ c.has_more.result (subst (λ (o : Option Doubt). AreInDoubt o (Some n) k) is doubt)
+    let read = l.read tells in
+    landed new.epochs.value.epoch new.written read.0 c.in-Some.doubt n k _ _ c.has_more.result read.1.count (subst (λ (o : Option Doubt). AreInDoubt o (Some n) k) is doubt)
     (epoch_left k m _ new.epochs.value.epoch images.epochs_or (rw (← same) at (e.left tells)))
-    (pairs_left c.told_apart.ensures k m _ new.log.value.pairs.items images.pairs_or (rw e.same.3 at (l.left tells)))
-    c.has_more.ensures (λ b here. new.epochs.durable tells ready b here) (λ b here. new.log.durable tells l.ready b here) c.if-has_more.true
+    (pairs_left c.told_apart.ensures k m _ read.0 images.pairs_or (rw e.same.3 at read.1.left))
+    c.has_more.ensures (λ b here. new.epochs.durable tells ready b here) read.1.kept c.if-has_more.true
 
 pub returns-else-has_more-clause-found : goal.returns-else-has_more-clause-found
 returns-else-has_more-clause-found g c tells k n doubt images =
@@ -31,10 +32,11 @@ returns-else-has_more-clause-found g c tells k n doubt images =
     let ready : new.epochs.journal.state ≡ Ready = let was = e.ready in cc (same, was) in
     let is : c.args.self.now.in_doubt ≡ Some c.in-Some.doubt = let a = e.same.2 in let b = l.same.2 in let v = c.take.ensures.value in let at = c.in-Some.is in cc (a, b, v, at) in
     let m = with_note (Some n) k in
-    not_landed new.epochs.value.epoch new.log.value.pairs.items c.in-Some.doubt n k _ _ c.has_more.result (subst (λ (o : Option Doubt). AreInDoubt o (Some n) k) is doubt)
+    let read = l.read tells in
+    not_landed new.epochs.value.epoch new.written read.0 c.in-Some.doubt n k _ _ c.has_more.result read.1.count (subst (λ (o : Option Doubt). AreInDoubt o (Some n) k) is doubt)
     (epoch_left k m _ new.epochs.value.epoch images.epochs_or (rw (← same) at (e.left tells)))
-    (pairs_left c.told_apart.ensures k m _ new.log.value.pairs.items images.pairs_or (rw e.same.3 at (l.left tells)))
-    c.has_more.ensures (λ b here. new.epochs.durable tells ready b here) (λ b here. new.log.durable tells l.ready b here) c.if-has_more.false
+    (pairs_left c.told_apart.ensures k m _ read.0 images.pairs_or (rw e.same.3 at read.1.left))
+    c.has_more.ensures (λ b here. new.epochs.durable tells ready b here) read.1.kept c.if-has_more.false
 
 pub returns-in_err-reopen_log-clause-pair_grows : goal.returns-in_err-reopen_log-clause-pair_grows
 returns-in_err-reopen_log-clause-pair_grows g c tells b here = rw c.in_ok-reopen_epochs.ensures.same.3 at (c.in_err-reopen_log.ensures.grows tells b here)
@@ -52,7 +54,7 @@ returns-in_err-reopen_epochs-clause-plan g c planned =
     let new = c.reopen_epochs.new.self in
     let e = c.reopen_epochs.ensures in
     let same : was_shut_out c.reopen_epochs.result ≡ was_shut_out c.from_residual.result = search rules in
-    first_meets d.stops d.made d.faults 3 _ _ old.epochs.journal.disk new.epochs.journal.disk old.log.journal.disk new.log.journal.disk same (ap (λ log. log.journal.disk) e.same.3) (e.plan planned)
+    first_meets d.stops d.made d.faults 3 _ _ old.epochs.journal.disk new.epochs.journal.disk old.log.disk new.log.disk same (ap (λ log. log.disk) e.same.3) (e.plan planned)
 
 pub returns-in_err-reopen_log-clause-plan : goal.returns-in_err-reopen_log-clause-plan
 returns-in_err-reopen_log-clause-plan g c planned =
@@ -63,7 +65,7 @@ returns-in_err-reopen_log-clause-plan g c planned =
     let old = c.args.self.now in
     let new = c.reopen_log.new.self in
     let same : was_shut_out c.reopen_log.result ≡ was_shut_out c.from_residual-in_err-reopen_log.result = search rules in
-    one_by_one d.stops d.made d.faults 3 _ _ old.epochs.journal.disk old.log.journal.disk new.epochs.journal.disk new.log.journal.disk same (rw (← stays) at (e.plan planned)) (rw e.same.3 at (l.plan planned))
+    one_by_one d.stops d.made d.faults 3 _ _ old.epochs.journal.disk old.log.disk new.epochs.journal.disk new.log.disk same (rw (← stays) at (e.plan planned)) (rw e.same.3 at (l.plan planned))
 
 pub returns-then-has_more-clause-plan : goal.returns-then-has_more-clause-plan
 returns-then-has_more-clause-plan g c planned =
@@ -73,7 +75,7 @@ returns-then-has_more-clause-plan g c planned =
     let same = l.same.3 in
     let old = c.args.self.now in
     let new = c.reopen_log.new.self in
-    one_by_one d.stops d.made d.faults 3 false false old.epochs.journal.disk old.log.journal.disk new.epochs.journal.disk new.log.journal.disk refl (rw (← same) at (e.plan planned)) (rw e.same.3 at (l.plan planned))
+    one_by_one d.stops d.made d.faults 3 false false old.epochs.journal.disk old.log.disk new.epochs.journal.disk new.log.disk refl (rw (← same) at (e.plan planned)) (rw e.same.3 at (l.plan planned))
 
 pub returns-else-has_more-clause-plan : goal.returns-else-has_more-clause-plan
 returns-else-has_more-clause-plan g c planned =
@@ -83,4 +85,4 @@ returns-else-has_more-clause-plan g c planned =
     let same = l.same.3 in
     let old = c.args.self.now in
     let new = c.reopen_log.new.self in
-    one_by_one d.stops d.made d.faults 3 false false old.epochs.journal.disk old.log.journal.disk new.epochs.journal.disk new.log.journal.disk refl (rw (← same) at (e.plan planned)) (rw e.same.3 at (l.plan planned))
+    one_by_one d.stops d.made d.faults 3 false false old.epochs.journal.disk old.log.disk new.epochs.journal.disk new.log.disk refl (rw (← same) at (e.plan planned)) (rw e.same.3 at (l.plan planned))

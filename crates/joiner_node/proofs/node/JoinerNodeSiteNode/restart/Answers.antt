@@ -15,8 +15,8 @@ returns-clause-stopped g c tells s at =
     let f = c.fall.ensures in
     let e = c.in_ok-landed.ensures in
     let d = g.D.Disk in
-    let q : Parts = record { number = old.number; config = old.config; core = after.core; up = after.up; log = g.L.LogFile.bytes after.queries.store.tail.log; place = after.queries.store.tail.place; in_doubt = mid.in_doubt; epoch = mid.epochs.value.epoch; written = mid.log.value.pairs.items } in
-    restarts old.disks.in_doubt _ _ _ q (d.image mid.epochs.journal.disk) (d.image mid.log.journal.disk) s _ c.in_ok-landed.landed at.by c.requires
+    let q : Parts = record { number = old.number; config = old.config; core = after.core; up = after.up; log = g.L.LogFile.bytes after.queries.store.tail.log; place = after.queries.store.tail.place; in_doubt = mid.in_doubt; epoch = mid.epochs.value.epoch; written = mid.written } in
+    restarts old.disks.in_doubt _ _ _ q (d.image mid.epochs.journal.disk) (d.image mid.log.disk) s _ c.in_ok-landed.landed at.by c.requires
     (λ note doubt images. e.found told.0 s.node.kept note doubt images) e.up f.down at.setting at.number_is (rw (← f.core) at at.serves) (rw (← f.queries) at at.reads)
 
 pub returns-clause-moments : goal.returns-clause-moments
@@ -36,14 +36,14 @@ returns-in_err-landed-clause-open g c tells s at =
     let e = c.in_err-landed.ensures in
     let d = g.D.Disk in
     let k = s.node.kept in
-    let q : Parts = record { number = old.number; config = old.config; core = old.joining.core; up = old.joining.up; log = g.L.LogFile.bytes old.joining.queries.store.tail.log; place = old.joining.queries.store.tail.place; in_doubt = mid.in_doubt; epoch = mid.epochs.value.epoch; written = mid.log.value.pairs.items } in
+    let q : Parts = record { number = old.number; config = old.config; core = old.joining.core; up = old.joining.up; log = g.L.LogFile.bytes old.joining.queries.store.tail.log; place = old.joining.queries.store.tail.place; in_doubt = mid.in_doubt; epoch = mid.epochs.value.epoch; written = mid.written } in
     on_err c.from_residual.result
     (record {
       setting = at.setting;
       number_is = at.number_is;
       serves = at.serves;
       reads = at.reads;
-      by = waits_still old.disks.in_doubt _ _ _ mid.in_doubt q (d.image mid.epochs.journal.disk) (d.image mid.log.journal.disk) s at.by c.requires e.refused
+      by = waits_still old.disks.in_doubt _ _ _ mid.in_doubt q (d.image mid.epochs.journal.disk) (d.image mid.log.disk) s at.by c.requires e.refused
           (λ m images. record { epochs_or = (e.epoch_moments told.0 k m images).now; pairs_or = (e.pair_moments told.0 k m images).now });
     })
 
@@ -71,4 +71,4 @@ returns-in_err-landed-clause-plan g c planned =
     let old = c.args.self.now.disks in
     let new = c.reopen.new.self in
     let same : was_shut_out c.reopen.result ≡ was_shut_out c.from_residual.result = search rules in
-    subst (λ (met : Bool). MeetsBoth d.stops d.made d.faults met old.epochs.journal.disk old.log.journal.disk new.epochs.journal.disk new.log.journal.disk) same (c.reopen.ensures.plan planned)
+    subst (λ (met : Bool). MeetsBoth d.stops d.made d.faults met old.epochs.journal.disk old.log.disk new.epochs.journal.disk new.log.disk) same (c.reopen.ensures.plan planned)

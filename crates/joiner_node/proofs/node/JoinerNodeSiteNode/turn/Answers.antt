@@ -36,12 +36,12 @@ returns-after-is_some-clause-done g c tells s t at led =
     let ready = c.in_ok-ready-in-Some.ready in
     let row = e.row told.1 set s.number k s.node.live at.reads at.serves known.1 known.0.epoch_is gets in
     let next = next_of set s.number k s.node.live i row.note row.is_note in
-    let holds = holds_within _ mid.disks.epochs.value.epoch _ mid.disks.log.value.pairs.items _ _ (g.D.Disk.image mid.disks.epochs.journal.disk) (g.D.Disk.image mid.disks.log.journal.disk) k e.epoch e.pairs (e.epoch_moments told.0).now (e.pair_moments told.0).now known.0 in
-    let p : Parts = record { number = new.number; config = new.config; core = new.joining.core; up = new.joining.up; log = g.L.LogFile.bytes new.joining.queries.store.tail.log; place = new.joining.queries.store.tail.place; in_doubt = new.disks.in_doubt; epoch = new.disks.epochs.value.epoch; written = new.disks.log.value.pairs.items } in
+    let holds = holds_within _ mid.disks.epochs.value.epoch _ mid.disks.written _ _ (g.D.Disk.image mid.disks.epochs.journal.disk) (g.D.Disk.image mid.disks.log.disk) k e.epoch e.written (e.epoch_moments told.0).now (e.pair_moments told.0).now known.0 in
+    let p : Parts = record { number = new.number; config = new.config; core = new.joining.core; up = new.joining.up; log = g.L.LogFile.bytes new.joining.queries.store.tail.log; place = new.joining.queries.store.tail.place; in_doubt = new.disks.in_doubt; epoch = new.disks.epochs.value.epoch; written = new.disks.written } in
     all_five c.finish.result _ _ _ _ _ _ (f.note row.note row.is_record) f.packets f.knows (f.holds told.0 k row.note row.is_record next holds) f.up
     (λ d note packets knows holds up sent le.
     let stands = knows set s.number (with_note row.note k) _ row.next in
-    ends p (g.D.Disk.image new.disks.epochs.journal.disk) (g.D.Disk.image new.disks.log.journal.disk) mid.joining.core s t _ b i ready d.note d.packets sent led reads row note packets le up (config_same old.config new.config set (f.same.1 ∙ e.same.1) at.setting)
+    ends p (g.D.Disk.image new.disks.epochs.journal.disk) (g.D.Disk.image new.disks.log.disk) mid.joining.core s t _ b i ready d.note d.packets sent led reads row note packets le up (config_same old.config new.config set (f.same.1 ∙ e.same.1) at.setting)
     (at.number_is ∙ sym (f.same.0 ∙ e.same.0)) (rw (← f.same.2) at (e.reads told.1 set.queries at.reads)) holds stands (serves_of new.joining.up new.joining.core set s.number (with_note row.note k) _ stands))
 
 pub returns-after-is_some-clause-open : goal.returns-after-is_some-clause-open
@@ -61,11 +61,11 @@ returns-after-is_some-clause-open g c tells s t at led =
     let f = c.finish.ensures in
     let row = e.row told.1 set s.number k s.node.live at.reads at.serves known.1 known.0.epoch_is gets in
     let next = next_of set s.number k s.node.live i row.note row.is_note in
-    let holds = holds_within _ mid.disks.epochs.value.epoch _ mid.disks.log.value.pairs.items _ _ (g.D.Disk.image mid.disks.epochs.journal.disk) (g.D.Disk.image mid.disks.log.journal.disk) k e.epoch e.pairs (e.epoch_moments told.0).now (e.pair_moments told.0).now known.0 in
-    let p : Parts = record { number = new.number; config = new.config; core = new.joining.core; up = new.joining.up; log = g.L.LogFile.bytes new.joining.queries.store.tail.log; place = new.joining.queries.store.tail.place; in_doubt = new.disks.in_doubt; epoch = new.disks.epochs.value.epoch; written = new.disks.log.value.pairs.items } in
-    both_err c.finish.result _ _ _ f.core (f.doubts k row.note row.is_record next holds.epoch_is holds.pairs_are)
+    let holds = holds_within _ mid.disks.epochs.value.epoch _ mid.disks.written _ _ (g.D.Disk.image mid.disks.epochs.journal.disk) (g.D.Disk.image mid.disks.log.disk) k e.epoch e.written (e.epoch_moments told.0).now (e.pair_moments told.0).now known.0 in
+    let p : Parts = record { number = new.number; config = new.config; core = new.joining.core; up = new.joining.up; log = g.L.LogFile.bytes new.joining.queries.store.tail.log; place = new.joining.queries.store.tail.place; in_doubt = new.disks.in_doubt; epoch = new.disks.epochs.value.epoch; written = new.disks.written } in
+    both_err c.finish.result _ _ _ f.core (f.doubts k row.note row.is_record next holds.epoch_is holds.count_is)
     (λ same doubts.
-    stays_open p (g.D.Disk.image new.disks.epochs.journal.disk) (g.D.Disk.image new.disks.log.journal.disk) s t _ b i row.note led reads row.is_note (config_same old.config new.config set (f.same.1 ∙ e.same.1) at.setting) (at.number_is ∙ sym (f.same.0 ∙ e.same.0))
+    stays_open p (g.D.Disk.image new.disks.epochs.journal.disk) (g.D.Disk.image new.disks.log.disk) s t _ b i row.note led reads row.is_note (config_same old.config new.config set (f.same.1 ∙ e.same.1) at.setting) (at.number_is ∙ sym (f.same.0 ∙ e.same.0))
     (rw (← same) at (serves_same old.joining.core mid.joining.core set s.number e.core at.serves)) (rw (← f.same.2) at (e.reads told.1 set.queries at.reads)) doubts
     (record { epochs_or = (f.epoch_moments told.0 k row.note row.is_record next holds).now; pairs_or = (f.pair_moments told.0 k row.note row.is_record next holds).now }))
 
@@ -85,11 +85,11 @@ returns-after-is_some-clause-moments g c tells s t at led bytes left =
     let f = c.finish.ensures in
     let row = e.row told.1 set s.number k s.node.live at.reads at.serves known.1 known.0.epoch_is gets in
     let next = next_of set s.number k s.node.live i row.note row.is_note in
-    let holds = holds_within _ mid.disks.epochs.value.epoch _ mid.disks.log.value.pairs.items _ _ (g.D.Disk.image mid.disks.epochs.journal.disk) (g.D.Disk.image mid.disks.log.journal.disk) k e.epoch e.pairs (e.epoch_moments told.0).now (e.pair_moments told.0).now known.0 in
+    let holds = holds_within _ mid.disks.epochs.value.epoch _ mid.disks.written _ _ (g.D.Disk.image mid.disks.epochs.journal.disk) (g.D.Disk.image mid.disks.log.disk) k e.epoch e.written (e.epoch_moments told.0).now (e.pair_moments told.0).now known.0 in
     subst (λ (x : JoinerState). KeepsOf x bytes) (led_to s t _ b led)
     (keeps_open (record { number = s.number; node = record s.node { opened = _ } }) b i row.note refl reads row.is_note bytes
     (⊎_elim (λ before. ⊎_elim inl inl (known.0.images.epochs_or bytes.0 ((e.epoch_moments told.0).each bytes.0 before))) (λ now. now) ((f.epoch_moments told.0 k row.note row.is_record next holds).before old.disks.epochs.journal.disk bytes.0 left.0))
-    (⊎_elim (λ before. ⊎_elim inl inl (known.0.images.pairs_or bytes.1 ((e.pair_moments told.0).each bytes.1 before))) (λ now. now) ((f.pair_moments told.0 k row.note row.is_record next holds).before old.disks.log.journal.disk bytes.1 left.1)))
+    (⊎_elim (λ before. ⊎_elim inl inl (known.0.images.pairs_or bytes.1 ((e.pair_moments told.0).each bytes.1 before))) (λ now. now) ((f.pair_moments told.0 k row.note row.is_record next holds).before old.disks.log.disk bytes.1 left.1)))
 
 pub returns-after-is_some-clause-grown : goal.returns-after-is_some-clause-grown
 returns-after-is_some-clause-grown g c tells s at =
@@ -132,7 +132,7 @@ returns-after-is_some-clause-plan g c planned =
     let old = c.args.self.now.disks in
     let mid = c.prepare.new.self.disks in
     let new = c.finish.new.self.disks in
-    both_meet d.stops d.made d.faults _ _ old.epochs.journal.disk old.log.journal.disk mid.epochs.journal.disk mid.log.journal.disk new.epochs.journal.disk new.log.journal.disk refl (c.prepare.ensures.plan tells) (c.finish.ensures.plan tells)
+    both_meet d.stops d.made d.faults _ _ old.epochs.journal.disk old.log.disk mid.epochs.journal.disk mid.log.disk new.epochs.journal.disk new.log.disk refl (c.prepare.ensures.plan tells) (c.finish.ensures.plan tells)
 
 pub returns-in_err-ready-in-Some-clause-plan : goal.returns-in_err-ready-in-Some-clause-plan
 returns-in_err-ready-in-Some-clause-plan g c planned =
@@ -142,4 +142,4 @@ returns-in_err-ready-in-Some-clause-plan g c planned =
     let old = c.args.self.now.disks in
     let mid = c.prepare.new.self.disks in
     let kind = if_err c.from_residual-in_err-ready-in-Some.result c.in_err-ready-in-Some.field-0.0 IsOfDecision c.from_residual-in_err-ready-in-Some.ensures.1 e.kind in
-    one_by_one d.stops d.made d.faults 0 false _ old.epochs.journal.disk old.log.journal.disk mid.epochs.journal.disk mid.log.journal.disk (undecided _ kind) room.0 room.1
+    one_by_one d.stops d.made d.faults 0 false _ old.epochs.journal.disk old.log.disk mid.epochs.journal.disk mid.log.disk (undecided _ kind) room.0 room.1

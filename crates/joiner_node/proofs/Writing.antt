@@ -1,0 +1,68 @@
+-- One pair more on the disk.
+use Rattle.std.proofs.Common.{◌≡◌, inl, inr, ⊎_elim, ℕ, ◌+◌, ◌-◌, ◌^◌, min, List, [], ◌∷◌, ◌++◌, length, map, Option, Some, None, sym, ap, ◌∙◌, subst, arith, length-append}
+use Rattle.std.specs.Prelude.{Result, Ok, Err, OnOk}
+use Rattle.std.specs.Result.{result_unwrap_or}
+use Rattle.outside.specs.Disk.{Only, Throughout}
+use Rattle.gate_journal.specs.Gate.{gate_rule, records, StandsFor, IsOldOrNew}
+use Rattle.gate_journal.specs.Growth.{Continues}
+use Rattle.turn_defs.specs.declared.pair.PairRec.{PairRec}
+use Rattle.turn_defs.specs.Spellings.{IsPair}
+use Rattle.output_log.specs.Pairs.{record_of, spells, Keeps, KeepsOr}
+use Rattle.output_log.specs.PairLaws.{comes_next}
+use Rattle.turn_defs.specs.Joiner.{JoinerKept}
+use Rattle.joiner_core.specs.declared.turn.JoinerNote.{JoinerNote}
+use Rattle.joiner_core.specs.declared.turn.JoinerNote.TheVariants as notes
+use Rattle.joiner_node.specs.Disks.{AreKept, Holds, with_note}
+use Rattle.joiner_node.specs.Records.{recorded_as}
+use Rattle.joiner_node.specs.States.{same_pairs}
+use Rattle.joiner_node.specs.declared.records.Record.TheVariants as written
+
+-- what is so of each image twice over is so both times
+pub both : {D : Type 0} (image : D → List ℕ → Type 0) (since : D → D → List ℕ → Type 0) (old new : D) (P Q : List ℕ → Type 0) → Throughout image since old new P → Throughout image since old new Q → Throughout image since old new (λ c. P c × Q c)
+both image since old new P Q p q = record {
+  each = λ c left. (p.each c left, q.each c left);
+  now = λ c here. (p.now c here, q.now c here);
+  before = λ s c left. ⊎_elim inl (λ one. ⊎_elim inl (λ other. inr (one, other)) (q.before s c left)) (p.before s c left);
+}
+
+abbrev ok_of : List (List ℕ) → Result (List (List ℕ)) ℕ
+ok_of rs = Ok rs
+
+module _ (seen : List ℕ) (image : List ℕ → Type 0) (ps : List PairRec) (p : PairRec) (payload : List ℕ) (only : Only seen image) (kept : AreKept image ps) (is : IsPair p) (spelled : payload ≡ record_of p) where
+  -- where there is an image, the disk reads as the pairs
+  reads : (c : List ℕ) → image c → spells ps (Ok (records seen))
+  reads c here =
+      let at : gate_rule seen ≡ ok_of (map record_of ps) = subst (λ (b : List ℕ). gate_rule b ≡ ok_of (map record_of ps)) (only c here) (kept c here).1 in
+      ((kept c here).0, ap (λ (r : Result (List (List ℕ)) ℕ). ok_of (result_unwrap_or r [])) at)
+
+  pub appended : (b : List ℕ) → StandsFor (records seen ++ payload ∷ []) b → Continues image b → Keeps (ps ++ p ∷ []) b
+  appended b stands (c, here, more) =
+      let grown = comes_next ps p (records seen) is (reads c here) in
+      (grown.0, stands ∙ ap (λ (r : List ℕ). ok_of (records seen ++ r ∷ [])) spelled ∙ grown.1)
+
+  -- at each moment
+  pub leaves : (b : List ℕ) → IsOldOrNew (records seen) payload b × Continues image b → KeepsOr ps p b
+  leaves b (or, (c, here, more)) =
+      let same = reads c here in
+      ⊎_elim (λ old. inl (same.0, old ∙ same.1)) (λ new. inr (appended b new (c, here, more))) or
+
+-- ---- the note of the pair
+
+pub note_is : (n : Option JoinerNote) (p : PairRec) (b : List ℕ) → Some (written.Pair p b) ≡ recorded_as n → n ≡ Some (notes.Pair p)
+note_is None p b e = absurd (cc e)
+note_is (Some (notes.Epoch x)) p b e = absurd (cc e)
+note_is (Some (notes.Pair q)) p b e = cc e
+
+pub kept_of : (e n : ℕ) (epoch_image pairs_image : List ℕ → Type 0) (k : JoinerKept) → Holds e n epoch_image pairs_image k → AreKept pairs_image k.pairs
+kept_of e n epoch_image pairs_image k holds c here = same_pairs k c (holds.images.pairs_or c here)
+
+pub pair_holds : {T E : Type 0} (r : Result T E) (k : JoinerKept) (n : Option JoinerNote) (p : PairRec) (b : List ℕ) (epoch count count' : ℕ) (epoch_image old_pairs new_pairs : List ℕ → Type 0) → Some (written.Pair p b) ≡ recorded_as n
+    → Holds epoch count epoch_image old_pairs k → OnOk r (count' ≡ min (count + 1) (2 ^ 64 - 1)) → OnOk r (AreKept new_pairs (k.pairs ++ p ∷ [])) → OnOk r (Holds epoch count' epoch_image new_pairs (with_note n k))
+pair_holds (Err x) k n p b epoch count count' epoch_image old_pairs new_pairs is holds more kept = tt
+pair_holds (Ok x) k n p b epoch count count' epoch_image old_pairs new_pairs is holds more kept =
+    subst (λ (m : Option JoinerNote). Holds epoch count' epoch_image new_pairs (with_note m k)) (sym (note_is n p b is))
+    (record {
+      epoch_is = holds.epoch_is;
+      count_is = let longer : length (k.pairs ++ p ∷ []) ≡ length k.pairs + 1 = length-append k.pairs (p ∷ []) in omega (arith, more, holds.count_is, longer);
+      images = record { epochs_or = holds.images.epochs_or; pairs_or = λ c here. inl (kept c here) };
+    })
