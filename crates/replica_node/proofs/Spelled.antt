@@ -1,14 +1,7 @@
 -- Where the kept notes and the input have spellings, so have the row's note and packets.
 use Rattle.std.proofs.Common.{◌≡◌, ℕ, List, [], ◌∷◌, ◌++◌, length, length-append, Option, Some, None, sym, ap, ◌∙◌, subst, arith}
-use Rattle.std.specs.Prelude.{All}
-use Rattle.replica_node.proofs.Words.{All-nil, All-cons, Each, ReplicaNote, note, Packet, Node, To, IsPacket, Setting, Addressed, Note, land, ReplicaKept, land_replica, noted, IsRowNote, each_push, IsNotedSo, IsVoted}
+use Rattle.replica_node.proofs.Words.{Each, ReplicaNote, note, Note, land, ReplicaKept, land_replica, noted, IsRowNote, each_push, IsNotedSo, IsVoted}
 use Rattle.paxos_acceptor.specs.declared.notes.ReplicaNote.TheVariants as replica
-
-pub sent_ok : (g : Setting) (rows : List (To × Packet)) (ps : List (Node × Packet)) → Each (λ (p : To × Packet). IsPacket p.1) rows → Addressed g rows ps → All (λ (p : Node × Packet). IsPacket p.1) ps
-sent_ok g [] [] e a = All-nil (λ (p : Node × Packet). IsPacket p.1)
-sent_ok g [] (p ∷ ps) e a = absurd a
-sent_ok g (x ∷ xs) [] e a = absurd a
-sent_ok g (x ∷ xs) (p ∷ ps) e a = All-cons (λ (q : Node × Packet). IsPacket q.1) p ps (subst IsPacket a.0.1 e.0) (sent_ok g xs ps e.1 a.1)
 
 pub note_ok : (o : Option ReplicaNote) (n : Option Note) → noted o ≡ n → IsRowNote n → IsNotedSo o
 note_ok None n e is = tt

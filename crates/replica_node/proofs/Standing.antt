@@ -1,15 +1,10 @@
 -- What a replica over its disk stands for.
 use Rattle.std.proofs.Common.{◌≡◌, ◌⊎◌, inl, inr, ⊎_elim, ℕ, ◌+◌, ◌-◌, ◌^◌, ◌≤◌, min, Bool, true, false, List, [], ◌∷◌, ◌++◌, length, Option, Some, None, refl, sym, ap, ◌∙◌, subst, arith, length-append}
-use Rattle.std.specs.Prelude.{All, map, is_some, option_map, Result, Ok}
-use Rattle.replica_node.proofs.Words.{result_unwrap_or, map-append, All-head, All-tail, All-nil, All-cons, Each, Only, ReplicaNote, note_view, note, IsNote, records, StandsFor, IsOldOrNew, IsOpened, JournalState, Ready, Bytes, Input, Start, Setting, BallotNote, Note, Advance, Park, Settle, Epoch, Output, Voted, land, record_of, Reads, IsJunk, MayTake, Config, IsOf, ReplicaKept, land_replica, noted, kept_of, VoterView, KnowsAs, Fits, counted, recorded, Holds, OnDiskOr, IsRecord, StandsAt, ReplicaState, IsVoted, vote_record, records_of, IsOfNotes, IsRowNote, views_ok}
+use Rattle.std.specs.Prelude.{All, map, option_map, Result}
+use Rattle.replica_node.proofs.Words.{length-map, each_push, result_unwrap_or, map-append, All-head, All-tail, All-nil, All-cons, Each, Only, ReplicaNote, note_view, note, IsNote, records, StandsFor, IsOldOrNew, IsOpened, JournalState, Ready, Bytes, Setting, BallotNote, Note, Voted, land, record_of, Config, IsOf, ReplicaKept, land_replica, noted, kept_of, VoterView, KnowsAs, counted, recorded, Holds, OnDiskOr, IsRecord, StandsAt, ReplicaState, IsVoted, vote_record, records_of, IsOfNotes, IsRowNote, views_ok}
 use Rattle.paxos_defs.specs.Notes.Note.{Promised, Accepted}
 use Rattle.paxos_acceptor.specs.declared.notes.ReplicaNote.TheVariants as replica
-use Rattle.air_bus.specs.declared.entry.Input.TheVariants as bytes
 use Rattle.replica_node.specs.Node.{Knows}
-
-pub none_of : {A : Type 0} (o : Option A) → is_some o ≡ false → o ≡ None
-none_of None off = refl
-none_of (Some x) off = absurd (cc off)
 
 pub view_record : (n : ReplicaNote) → vote_record (note_view n) ≡ note n
 view_record (replica.Promised s l b) = refl
@@ -19,34 +14,18 @@ views_record : (ns : List ReplicaNote) → map note ns ≡ map vote_record (map 
 views_record [] = refl
 views_record (n ∷ ns) = ap (λ (b : List ℕ). b ∷ map note ns) (sym (view_record n)) ∙ ap (λ (bs : List (List ℕ)). vote_record (note_view n) ∷ bs) (views_record ns)
 
-len_map : {A B : Type 0} (f : A → B) (xs : List A) → length (map f xs) ≡ length xs
-len_map f [] = refl
-len_map f (x ∷ xs) = let e = len_map f xs in omega (arith, len_map f xs)
-
 pub rule_records : (rs : List (List ℕ)) (c : List ℕ) → StandsFor rs c → records c ≡ rs
 rule_records rs c stands = ap (λ (r : Result (List (List ℕ)) ℕ). result_unwrap_or r []) stands
 
-abbrev ok_of : List (List ℕ) → Result (List (List ℕ)) ℕ
-ok_of rs = Ok rs
-
-ok_same : (rs ss : List (List ℕ)) → ok_of rs ≡ ok_of ss → rs ≡ ss
-ok_same rs ss e = ap (λ (r : Result (List (List ℕ)) ℕ). result_unwrap_or r []) e
-
 -- ---- one note more
-
-its_record : (f p : List ℕ) (n : ReplicaNote) → f ≡ p → Some p ≡ recorded (Some n) → f ≡ note n
-its_record f p n same e = same ∙ ap (λ (o : Option (List ℕ)). bytes_in o) e
-  where
-    bytes_in : Option (List ℕ) → List ℕ
-    bytes_in None = []
-    bytes_in (Some b) = b
 
 pub holds_more : (k : ReplicaKept) (n : Option ReplicaNote) (f p : List ℕ) (kept kept' : ℕ) (seen seen' : List ℕ) (image image' : List ℕ → Type 0) (state state' : JournalState) → f ≡ p → Some p ≡ recorded n → Holds kept seen image state k
     → state' ≡ Ready → records seen' ≡ records seen ++ f ∷ [] → ((c : List ℕ) → image' c → StandsFor (records seen ++ f ∷ []) c) → kept' ≡ min (kept + 1) (2 ^ 64 - 1) → Holds kept' seen' image' state' (land land_replica (noted n) k)
 holds_more k None f p kept kept' seen seen' image image' state state' same e holds ready reads durable count = absurd (cc e)
 holds_more k (Some n) f p kept kept' seen seen' image image' state state' same e holds ready reads durable count =
+    let is : f ≡ note n = cc (same, e) in
     let grown : records seen ++ f ∷ [] ≡ map vote_record (k.notes ++ note_view n ∷ []) =
-    ap (λ (rs : List (List ℕ)). rs ++ f ∷ []) holds.reads ∙ ap (λ (b : List ℕ). records_of k ++ b ∷ []) (its_record f p n same e ∙ sym (view_record n)) ∙ sym (map-append vote_record k.notes (note_view n ∷ []))
+    ap (λ (rs : List (List ℕ)). rs ++ f ∷ []) holds.reads ∙ ap (λ (b : List ℕ). records_of k ++ b ∷ []) (is ∙ sym (view_record n)) ∙ sym (map-append vote_record k.notes (note_view n ∷ []))
     in
     record {
       ready = ready;
@@ -73,7 +52,7 @@ down_stands config count seen image state voter notes k g of_g all is ready read
           ready = ready;
           reads = rule_records (map note notes) seen reads ∙ views_record notes;
           durable = λ c here. subst (λ (rs : List (List ℕ)). StandsFor rs c) (views_record notes) (subst (λ (b : List ℕ). StandsFor (map note notes) b) (sym (only c here)) reads);
-          count = let e = len_map note_view notes in omega (arith, counts, fits, len_map note_view notes);
+          count = omega (arith, counts, fits, length-map notes note_view);
         },
         knows_by voter.up voter (kept_of notes) down (ap kept_of has),
       );
@@ -100,80 +79,42 @@ un_back (Accepted at b v) = refl
 abbrev pub Apart : Type 0
 Apart = (v w : ReplicaNote) (s t : List ℕ) → IsNote v → IsNote w → note v ++ s ≡ note w ++ t → v ≡ w
 
-abbrev head_of : List (List ℕ) → List ℕ
-head_of [] = []
-head_of (b ∷ bs) = b
-
-abbrev tail_of : List (List ℕ) → List (List ℕ)
-tail_of [] = []
-tail_of (b ∷ bs) = bs
-
 same_notes : Apart → (ns : List ReplicaNote) (xs : List BallotNote) → All IsNote ns → Each IsVoted xs → map note ns ≡ map vote_record xs → map note_view ns ≡ xs
 same_notes apart [] [] all each e = refl
 same_notes apart [] (x ∷ xs) all each e = absurd (cc e)
 same_notes apart (n ∷ ns) [] all each e = absurd (cc e)
 same_notes apart (n ∷ ns) (x ∷ xs) all each e =
-    let heads : note n ≡ note (un_view x) = ap head_of e ∙ un_record x in
+    let first : note n ≡ vote_record x = (cc) in
+    let more : map note ns ≡ map vote_record xs = (cc) in
+    let heads : note n ≡ note (un_view x) = first ∙ un_record x in
     let same : n ≡ un_view x = apart n (un_view x) [] [] (All-head IsNote n ns all) (un_is x each.0) (ap (λ (b : List ℕ). b ++ []) heads) in
-    ap (λ (m : ReplicaNote). note_view m ∷ map note_view ns) same ∙ ap (λ (y : BallotNote). y ∷ map note_view ns) (un_back x) ∙ ap (λ (ys : List BallotNote). x ∷ ys) (same_notes apart ns xs (All-tail IsNote n ns all) each.1 (ap tail_of e))
+    ap (λ (m : ReplicaNote). note_view m ∷ map note_view ns) same ∙ ap (λ (y : BallotNote). y ∷ map note_view ns) (un_back x) ∙ ap (λ (ys : List BallotNote). x ∷ ys) (same_notes apart ns xs (All-tail IsNote n ns all) each.1 more)
 
 pub same_kept : Apart → (ns : List ReplicaNote) (k : ReplicaKept) → All IsNote ns → Each IsVoted k.notes → map note ns ≡ records_of k → kept_of ns ≡ k
 same_kept apart ns k all each e = ap (λ (xs : List BallotNote). record { notes = xs }) (same_notes apart ns k.notes all each e)
 
-each_last : (xs : List BallotNote) (x : BallotNote) → Each IsVoted xs → IsVoted x → Each IsVoted (xs ++ x ∷ [])
-each_last [] x all is = (is, tt)
-each_last (y ∷ xs) x all is = (all.0, each_last xs x all.1 is)
-
-some_bytes : (r s : List ℕ) → Some r ≡ Some s → r ≡ s
-some_bytes r s e = ap (λ (o : Option (List ℕ)). bytes_in o) e
-  where
-    bytes_in : Option (List ℕ) → List ℕ
-    bytes_in None = []
-    bytes_in (Some b) = b
-
 pub landed_kept : Apart → (ns : List ReplicaNote) (k : ReplicaKept) (r : List ℕ) (o : Option Note) → All IsNote ns → Each IsVoted k.notes → IsRowNote o → Some r ≡ option_map record_of o → map note ns ≡ records_of k ++ r ∷ [] → kept_of ns ≡ land land_replica o k
 landed_kept apart ns k r None all each is e reads = absurd (cc e)
 landed_kept apart ns k r (Some (Voted x)) all each is e reads =
-    same_kept apart ns (record { notes = k.notes ++ x ∷ [] }) all (each_last k.notes x each is)
-    (reads ∙ ap (λ (b : List ℕ). records_of k ++ b ∷ []) (some_bytes r (vote_record x) e) ∙ sym (map-append vote_record k.notes (x ∷ [])))
-landed_kept apart ns k r (Some (Advance p)) all each is e reads = absurd is
-landed_kept apart ns k r (Some (Park p)) all each is e reads = absurd is
-landed_kept apart ns k r (Some (Settle p)) all each is e reads = absurd is
-landed_kept apart ns k r (Some (Epoch p)) all each is e reads = absurd is
-landed_kept apart ns k r (Some (Output p)) all each is e reads = absurd is
+    same_kept apart ns (record { notes = k.notes ++ x ∷ [] }) all (each_push k.notes x each is)
+    (reads ∙ ap (λ (b : List ℕ). records_of k ++ b ∷ []) (cc) ∙ sym (map-append vote_record k.notes (x ∷ [])))
+landed_kept apart ns k r (Some _) all each is e reads = absurd is
 
 -- the disk holds the kept notes, or those and the open one
 pub left_of : (ns : List ReplicaNote) (k : ReplicaKept) (r seen : List ℕ) (image : List ℕ → Type 0) → ((c : List ℕ) → image c → IsOldOrNew (records_of k) r c) → IsOpened image seen → StandsFor (map note ns) seen
     → (map note ns ≡ records_of k) ⊎ (map note ns ≡ records_of k ++ r ∷ [])
 left_of ns k r seen image images opened reads =
-    ⊎_elim (λ old. inl (ok_same (map note ns) (records_of k) (sym reads ∙ opened.2 ∙ old))) (λ new. inr (ok_same (map note ns) (records_of k ++ r ∷ []) (sym reads ∙ opened.2 ∙ new))) (images opened.0 opened.1)
+    ⊎_elim (λ old. inl (cc (reads, opened.2, old))) (λ new. inr (cc (reads, opened.2, new))) (images opened.0 opened.1)
 
 pub old_count : (ns : List ReplicaNote) (k : ReplicaKept) (kept count : ℕ) → map note ns ≡ records_of k → kept ≡ counted k → count ≡ length ns → count ≤ 2 ^ 64 - 1 → count ≡ kept
 old_count ns k kept count e counts is fits =
-    let lens : length (map note ns) ≡ length (map vote_record k.notes) = ap length e in omega (arith, lens, len_map note ns, len_map vote_record k.notes, counts, is, fits)
+    let lens : length (map note ns) ≡ length (map vote_record k.notes) = ap length e in omega (arith, lens, length-map ns note, length-map k.notes vote_record, counts, is, fits)
 
 pub new_count : (ns : List ReplicaNote) (k : ReplicaKept) (r : List ℕ) (kept count : ℕ) → map note ns ≡ records_of k ++ r ∷ [] → kept ≡ counted k → count ≡ length ns → count ≤ 2 ^ 64 - 1 → count ≡ kept + 1
 new_count ns k r kept count e counts is fits =
-    let lens : length (map note ns) ≡ length (map vote_record k.notes) + 1 = ap length e ∙ length-append (map vote_record k.notes) (r ∷ []) in omega (arith, lens, len_map note ns, len_map vote_record k.notes, counts, is, fits)
+    let lens : length (map note ns) ≡ length (map vote_record k.notes) + 1 = ap length e ∙ length-append (map vote_record k.notes) (r ∷ []) in omega (arith, lens, length-map ns note, length-map k.notes vote_record, counts, is, fits)
 
--- ---- inputs and rows
-
-pub fits_of : (g : Setting) (live : Option (Unit {0})) (b : Bytes) (i : Input) → Reads g b i → MayTake live b → Fits live i
-fits_of g None bytes.Start i reads may = subst (Fits None) (sym reads) tt
-fits_of g None bytes.Own i reads may = absurd may
-fits_of g None bytes.Tick i reads may = absurd may
-fits_of g None (bytes.Packet from p) i reads may = absurd may
-fits_of g (Some l) bytes.Start i reads may = absurd may
-fits_of g (Some l) bytes.Own i reads may = subst (Fits (Some l)) (sym reads) tt
-fits_of g (Some l) bytes.Tick i reads may = subst (Fits (Some l)) (sym reads) tt
-fits_of g (Some l) (bytes.Packet from p) i reads may = subst (Fits (Some l)) (sym reads.5) tt
-
-pub up_of : (g : Setting) (live : Option (Unit {0})) (b : Bytes) → MayTake live b → IsJunk g b → live ≡ Some tt
-up_of g None bytes.Start may junk = absurd (junk Start refl)
-up_of g None bytes.Own may junk = absurd may
-up_of g None bytes.Tick may junk = absurd may
-up_of g None (bytes.Packet from p) may junk = absurd may
-up_of g (Some l) b may junk = refl
+-- ---- rows
 
 pub noted_bytes : (o : Option ReplicaNote) → option_map note o ≡ option_map record_of (noted o)
 noted_bytes None = refl
@@ -192,7 +133,7 @@ landed_records k (Some n) r is = map-append vote_record k.notes (note_view n ∷
 pub append_leaves : (k : ReplicaKept) (n : Option ReplicaNote) (f p : List ℕ) (seen c : List ℕ) → f ≡ p → Some p ≡ recorded n → records seen ≡ records_of k → IsOldOrNew (records seen) f c → OnDiskOr k n c
 append_leaves k None f p seen c same e reads either = absurd (cc e)
 append_leaves k (Some n) f p seen c same e reads either =
-    let more : records seen ++ f ∷ [] ≡ records_of (land land_replica (noted (Some n)) k) = ap (λ (rs : List (List ℕ)). rs ++ f ∷ []) reads ∙ sym (landed_records k (Some n) f (its_record f p n same e)) in
+    let more : records seen ++ f ∷ [] ≡ records_of (land land_replica (noted (Some n)) k) = ap (λ (rs : List (List ℕ)). rs ++ f ∷ []) reads ∙ sym (landed_records k (Some n) f (cc (same, e))) in
     ⊎_elim (λ old. inl (subst (λ (rs : List (List ℕ)). StandsFor rs c) reads old)) (λ new. inr (subst (λ (rs : List (List ℕ)). StandsFor rs c) more new)) either
 
 -- notes with spellings are notes

@@ -9,7 +9,7 @@ pub use Rattle.gate_journal.specs.declared.journal.JournalState.{JournalState}
 pub use Rattle.gate_journal.specs.declared.journal.JournalState.TheVariants.{Ready}
 pub use Rattle.list_words.specs.Lists.{Each}
 pub use Rattle.outside.proofs.Moments.{weaker}
-pub use Rattle.outside.specs.Disk.{Only}
+pub use Rattle.outside.specs.Disk.{Only, Throughout}
 pub use Rattle.packet_codec.specs.Notes.{IsNote, note, note as note_spelled}
 pub use Rattle.paxos_acceptor.specs.Cells.{cell_in, cell_with, note_by, note_for, note_view, place_of}
 pub use Rattle.paxos_acceptor.specs.declared.acceptor.Acceptor.{Acceptor}
@@ -23,19 +23,21 @@ pub use Rattle.registry_state.specs.Same.{same_batch}
 pub use Rattle.registry_state.specs.declared.Batch.{Batch}
 pub use Rattle.replica_node.specs.Core.{Carries, GoesOn, IsRow, Knows, Stands, asked, noted, row_of}
 pub use Rattle.replica_node.specs.Kept.{kept_images}
-pub use Rattle.replica_node.specs.Node.{Fits, Holds, HoldsOr, IsNotedSo, IsRecord, KnowsAs, OnDiskOr, StandsAt, VoterView, counted, recorded}
+pub use Rattle.replica_node.specs.Node.{Holds, HoldsOr, IsNotedSo, IsRecord, KnowsAs, OnDiskOr, StandsAt, VoterView, counted, recorded}
 pub use Rattle.replica_node.specs.Votes.{IsOfNotes}
 pub use Rattle.replica_node.specs.declared.input.ReplicaInput.{ReplicaInput}
 pub use Rattle.replica_node.specs.declared.replica_core.ReplicaCore.{ReplicaCore}
 pub use Rattle.replica_node.specs.declared.turn.Change.{Change}
 pub use Rattle.replica_node.specs.declared.turn.Turn.{Turn}
 pub use Rattle.site_node.proofs.Replicas.{IsRowNote, each_push, gets_ok, input_ok, row_landed_ok, row_ok, views_ok}
+pub use Rattle.site_node.proofs.Turns.{ends_done, ends_idle, fits_of, none_of, on_err, sent_ok, turn_grown, turn_moments}
 pub use Rattle.site_node.specs.Bytes.{AreSpelled, IsInput, IsJunk, Reads, record_of}
 pub use Rattle.site_node.specs.Replicas.{IsVoted, KeptOn, OnDisk, ReplicaState, kept_of, records_of, replica_rows, vote_record}
 pub use Rattle.turn_defs.specs.Configs.{IsOf}
-pub use Rattle.site_node.specs.States.{Leads, MayTake, Stops, closes, opens, row, written}
+pub use Rattle.site_node.specs.States.{Fits, Leads, MayTake, Stops, closes, opens, row, written}
 pub use Rattle.turn_defs.specs.declared.config.Config.{Config}
-pub use Rattle.std.proofs.lemmas.List.{append-nil, map-append, take_all, take_more}
+pub use Rattle.std.proofs.lemmas.Bool.{eq-eqb, ne_eqb}
+pub use Rattle.std.proofs.lemmas.List.{append-nil, length-map, map-append, take_all, take_more}
 pub use Rattle.std.proofs.lemmas.List.Elements.{All-cons, All-head, All-nil, All-push, All-same, All-tail}
 pub use Rattle.std.proofs.lemmas.Result.{IfOk-weaker}
 pub use Rattle.std.specs.Result.{result_unwrap_or}

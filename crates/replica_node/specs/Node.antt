@@ -43,17 +43,6 @@ KnowsAs false core notes k None = kept_of notes ≡ k
 abbrev pub Knows : VoterView → ReplicaKept → Option (Unit {0}) → Type 0
 Knows v k live = KnowsAs v.up v.core v.notes k live
 
--- a node that is down takes Start, and one that is up doesn't
-abbrev pub Fits : Option (Unit {0}) → Input → Type 0
-Fits None Start = Unit {0}
-Fits None Own = ⊥
-Fits None Tick = ⊥
-Fits None (Deliver n p) = ⊥
-Fits (Some l) Start = ⊥
-Fits (Some l) Own = Unit {0}
-Fits (Some l) Tick = Unit {0}
-Fits (Some l) (Deliver n p) = Unit {0}
-
 -- there are notes with spellings that the core stands for
 pub record IsSpelledCore (core : ReplicaCore) : Type 0 where
   pub kept : ReplicaKept

@@ -1,6 +1,27 @@
 // The replica over its disk.
-ghost use Rattle.std.specs.Prelude.{◌≡◌, None};
+ghost use Rattle.std.specs.Prelude.{◌≡◌, None, ◌≤◌, ◌+◌, false, true, Some, Option, List, ℕ, is_some, is_err, option_map, length, IsTrue, IfOk, IfErr, OnOk, OnErr, IsErrOf};
 ghost use Rattle.gate_journal.specs.declared.journal.JournalState.TheVariants.{Ready};
+ghost use Rattle.outside.specs.Disk.{Throughout};
+ghost use Rattle.outside.specs.Faults.{Rose};
+ghost use Rattle.outside.specs.Plans.{MeetsPlan, AtMost};
+ghost use Rattle.gate_journal.specs.Opening.{IsOpened};
+ghost use Rattle.gate_journal.specs.Growth.{Continues};
+ghost use Rattle.gate_journal.specs.Records.{IsLeft};
+ghost use Rattle.packet_codec.specs.Notes.{note as note_spelled};
+ghost use Rattle.turn_defs.specs.Setting.{Setting};
+ghost use Rattle.turn_defs.specs.Turns.{land};
+ghost use Rattle.site_node.specs.Bytes.{IsInput};
+ghost use Rattle.turn_defs.specs.Configs.{IsOf};
+ghost use Rattle.site_node.specs.States.{row_of, Fits, Leads, state_phase, Says};
+ghost use Rattle.site_node.specs.Faults.{was_shut_out, IsOfRestart, IsWhole};
+ghost use Rattle.turn_defs.specs.Replica.{ReplicaKept, land_replica, replica_at_rest, replica_unfinished, replica_wants};
+ghost use Rattle.replica_node.specs.Core.{noted, IsRow, GoesOn};
+ghost use Rattle.replica_node.specs.Votes.{IsOfNotes, spells};
+ghost use Rattle.paxos_acceptor.specs.declared.notes.ReplicaNote.{ReplicaNote};
+ghost use Rattle.replica_node.specs.Node.{StandsAt, Holds, HoldsOr, OnDiskOr, Knows, recorded, IsShort, IsReady, IsRoomFor, down_over, never_spent};
+ghost use Rattle.site_node.specs.Replicas.{replica_rows, KeepsNotes, ReplicaState, KeptOn};
+ghost use Rattle.site_node.specs.Paths.{begins as begins_by, phase_led};
+ghost use Rattle.replica_node.specs.Kept.{kept_images};
 
 use crate::voter::Voter;
 use crate::votes::vote_record;
@@ -10,7 +31,7 @@ use gate_journal::{Journal, JournalFault};
 use outside::{Disk, DiskName, Gate, Point};
 use packet_codec::Field;
 use paxos_acceptor::ReplicaNote;
-use site_node::{Done, NodeFault, SiteNode, read_input, spell};
+use site_node::{Done, NodeFault, SiteNode, read_input, spell, told_note};
 use std::alloc::{AllocError, Global};
 use turn_defs::{Config, Input};
 
@@ -41,28 +62,6 @@ struct ReadyTurn {
 }
 
 impl<D: Disk> ReplicaNode<D> {
-    ghost use Rattle.std.specs.Prelude.{◌≡◌, ◌≤◌, ◌+◌, false, true, Some, None, Option, List, ℕ, is_some, is_err, option_map, length, IsTrue, IfOk, IfErr, OnOk, OnErr, IsErrOf, Err};
-    ghost use Rattle.outside.specs.Disk.{Throughout};
-    ghost use Rattle.outside.specs.Faults.{Rose};
-    ghost use Rattle.outside.specs.Plans.{MeetsPlan};
-    ghost use Rattle.gate_journal.specs.declared.journal.JournalState.TheVariants.{Ready};
-    ghost use Rattle.gate_journal.specs.Opening.{IsOpened};
-    ghost use Rattle.gate_journal.specs.Growth.{Continues};
-    ghost use Rattle.gate_journal.specs.Records.{IsLeft};
-    ghost use Rattle.packet_codec.specs.Notes.{note as note_spelled};
-    ghost use Rattle.turn_defs.specs.Setting.{Setting};
-    ghost use Rattle.turn_defs.specs.Turns.{land};
-    ghost use Rattle.site_node.specs.Bytes.{IsInput};
-    ghost use Rattle.turn_defs.specs.Configs.{IsOf};
-    ghost use Rattle.site_node.specs.States.{row_of};
-    ghost use Rattle.site_node.specs.Faults.{was_shut_out, was_stopped, IsOfRestart, IsWhole};
-    ghost use Rattle.turn_defs.specs.Replica.{ReplicaKept, land_replica};
-    ghost use Rattle.replica_node.specs.Core.{noted, IsRow, GoesOn};
-    ghost use Rattle.replica_node.specs.Votes.{IsOfNotes, spells};
-    ghost use Rattle.paxos_acceptor.specs.declared.notes.ReplicaNote.{ReplicaNote};
-    ghost use Rattle.replica_node.specs.Node.{StandsAt, Holds, HoldsOr, OnDiskOr, Knows, Fits, recorded, IsShort, IsReady, IsRoomFor, down_over};
-    ghost use Rattle.site_node.specs.Replicas.{replica_rows, KeepsNotes};
-
     /// A replica that is down, over its journal. It takes no memory.
     pub fn new(alloc: Global, replica: u8, config: Config, votes: VoteJournal<D>) -> ReplicaNode<D>
         requires { votes.journal.state ≡ Ready }
@@ -135,44 +134,13 @@ impl<D: Disk> ReplicaNode<D> {
         }
     }
 
-    // Appends the note, if there is one, and keeps the turn. Where the disk fails the note is in doubt.
-    fn finish(&mut self, ready: ReadyTurn) -> Result<Done, NodeFault>
-        requires up { self.old.in_doubt ≡ None }
-        requires ready { IsReady self.old.voter.core ready.turn ready.packets ready.written }
-        requires room { IsRoomFor ready.written (D.calls_left self.old.journal.disk) (D.bytes_left self.old.journal.disk) }
-        ensures same { (self.new.replica ≡ self.old.replica) × (self.new.config ≡ self.old.config) }
-        ensures up { OnOk result (self.new.in_doubt ≡ None) }
-        ensures stopped { IsErrOf result NodeFault.Stopped → is_some self.new.in_doubt ≡ true }
-        ensures only_stopped { OnErr result (result ≡ Err NodeFault.Stopped) }
-        ensures fault { OnErr result (Rose (D.faults self.old.journal.disk) (D.faults self.new.journal.disk)) }
-        ensures plan { IsTrue D.tells → MeetsPlan D.stops D.made D.faults 4 (was_stopped result) self.old.journal.disk self.new.journal.disk }
-        ensures count { D.faults self.old.journal.disk ≤ D.faults self.new.journal.disk }
-        ensures moments { IsTrue D.tells → (k : ReplicaKept) → Holds self.old.kept (D.seen self.old.journal.disk) (D.image self.old.journal.disk) self.old.journal.state k → Throughout D.image D.since self.old.journal.disk self.new.journal.disk (OnDiskOr k ready.turn.note) }
-        ensures grows { IsTrue D.tells → (k : ReplicaKept) → Holds self.old.kept (D.seen self.old.journal.disk) (D.image self.old.journal.disk) self.old.journal.state k → (c : List ℕ) → D.image self.new.journal.disk c → Continues (D.image self.old.journal.disk) c }
-        ensures note { IfOk result (λ d. d.note ≡ option_map note_spelled ready.turn.note) }
-        ensures packets { IfOk result (λ d. d.packets ≡ ready.packets) }
-        ensures knows { OnOk result ((k : ReplicaKept) → GoesOn self.old.voter.core ready.turn.change k → Knows self.new.voter (land land_replica (noted ready.turn.note) k) (Some tt)) }
-        ensures voter { OnErr result (self.new.voter ≡ self.old.voter) }
-        ensures holds { IsTrue D.tells → (k : ReplicaKept) → Holds self.old.kept (D.seen self.old.journal.disk) (D.image self.old.journal.disk) self.old.journal.state k → OnOk result (Holds self.new.kept (D.seen self.new.journal.disk) (D.image self.new.journal.disk) self.new.journal.state (land land_replica (noted ready.turn.note) k)) }
-        ensures undone { IsTrue D.tells → (k : ReplicaKept) → Holds self.old.kept (D.seen self.old.journal.disk) (D.image self.old.journal.disk) self.old.journal.state k → OnErr result (HoldsOr self.new.in_doubt ready.turn.note self.new.kept (D.seen self.new.journal.disk) (D.image self.new.journal.disk) self.new.journal.state k) }
-    {
-        let ReadyTurn {
-            turn,
-            packets,
-            written,
-        } = ready;
-        let note = self.append(written)?;
-        self.voter.keep(turn);
-        Ok(Done { note, packets })
-    }
-
+    // Appends the note, if there is one. Where the disk fails the note is in doubt.
     fn append(&mut self, written: Option<Payload>) -> Result<Option<Payload>, NodeFault>
         requires up { self.old.in_doubt ≡ None }
         requires room { IsRoomFor written (D.calls_left self.old.journal.disk) (D.bytes_left self.old.journal.disk) }
         ensures same { (self.new.replica ≡ self.old.replica) × (self.new.config ≡ self.old.config) × (self.new.voter ≡ self.old.voter) }
         ensures up { OnOk result (self.new.in_doubt ≡ None) }
-        ensures stopped { IsErrOf result NodeFault.Stopped → is_some self.new.in_doubt ≡ true }
-        ensures only_stopped { OnErr result (result ≡ Err NodeFault.Stopped) }
+        ensures refused { IfErr result (λ e. (e ≡ NodeFault.Stopped) × (is_some self.new.in_doubt ≡ true)) }
         ensures fault { OnErr result (Rose (D.faults self.old.journal.disk) (D.faults self.new.journal.disk)) }
         ensures plan { IsTrue D.tells → MeetsPlan D.stops D.made D.faults 4 (is_err result) self.old.journal.disk self.new.journal.disk }
         ensures count { D.faults self.old.journal.disk ≤ D.faults self.new.journal.disk }
@@ -225,16 +193,6 @@ impl<D: Disk> ReplicaNode<D> {
 }
 
 impl<D: Disk> SiteNode for ReplicaNode<D> {
-    ghost use Rattle.std.specs.Prelude.{◌≡◌, ◌+◌, is_some, List, ℕ};
-    ghost use Rattle.outside.specs.Plans.{AtMost};
-    ghost use Rattle.turn_defs.specs.Replica.{replica_at_rest, replica_unfinished, replica_wants};
-    ghost use Rattle.site_node.specs.States.{Leads, state_phase, Says};
-    ghost use Rattle.site_node.specs.Paths.{begins as begins_by, phase_led};
-    ghost use Rattle.gate_journal.specs.Growth.{Continues};
-    ghost use Rattle.replica_node.specs.Node.{StandsAt, never_spent};
-    ghost use Rattle.site_node.specs.Replicas.{ReplicaState, KeptOn, replica_rows};
-    ghost use Rattle.replica_node.specs.Kept.{kept_images};
-
     ghost tells = { D.tells };
 
     ghost planned = { D.planned };
@@ -306,7 +264,14 @@ impl<D: Disk> SiteNode for ReplicaNode<D> {
                 if ready.written.is_some() {
                     gate.pass(Point::BeforeAppend, 4 + u16::from(self.replica));
                 }
-                self.finish(ready)
+                let ReadyTurn {
+                    turn,
+                    packets,
+                    written,
+                } = ready;
+                let note = self.append(written)?;
+                self.voter.keep(turn);
+                Ok(Done { note, packets })
             }
         }
     }
@@ -318,7 +283,6 @@ impl<D: Disk> SiteNode for ReplicaNode<D> {
         let landed = count != self.kept;
         self.kept = count;
         self.voter = Voter::new(self.alloc, votes);
-        let landed_record = self.in_doubt.take();
-        if landed { Ok(landed_record) } else { Ok(None) }
+        Ok(told_note(landed, self.in_doubt.take()))
     }
 }

@@ -35,12 +35,12 @@ impl Voter {
     ghost use Rattle.turn_defs.specs.declared.packet.Packet.{Packet};
     ghost use Rattle.turn_defs.specs.declared.node.Node.{Node};
     ghost use Rattle.site_node.specs.Bytes.{IsInput};
-    ghost use Rattle.site_node.specs.States.{row_of};
+    ghost use Rattle.site_node.specs.States.{Fits, row_of};
     ghost use Rattle.turn_defs.specs.Setting.{Setting};
     ghost use Rattle.turn_defs.specs.Turns.{land};
     ghost use Rattle.turn_defs.specs.Replica.{ReplicaKept, land_replica};
     ghost use Rattle.replica_node.specs.Core.{GoesOn, HasRoomFor, IsRow, Stands, noted};
-    ghost use Rattle.replica_node.specs.Node.{Fits, Knows, IsSpelledTurn};
+    ghost use Rattle.replica_node.specs.Node.{Knows, IsSpelledTurn};
     ghost use Rattle.site_node.specs.Replicas.{replica_rows};
 
     // A replica that is down, over these notes.

@@ -78,11 +78,7 @@ cell_ok k at all = votes_ok at k.notes blank (record { promised = tt; accepted =
 abbrev pub IsRowNote : Option Note → Type 0
 IsRowNote None = ⊤
 IsRowNote (Some (Voted x)) = IsVoted x
-IsRowNote (Some (Advance e)) = ⊥
-IsRowNote (Some (Park p)) = ⊥
-IsRowNote (Some (Settle p)) = ⊥
-IsRowNote (Some (Epoch e)) = ⊥
-IsRowNote (Some (Output p)) = ⊥
+IsRowNote (Some _) = ⊥
 
 pub record IsSpelledOut (out : Out (Unit {0})) : Type 0 where
   pub note : IsRowNote out.note
@@ -135,11 +131,7 @@ each_push (y ∷ xs) x all is = (all.0, each_push xs x all.1 is)
 pub row_landed_ok : (k : ReplicaKept) (n : Option Note) → Each IsVoted k.notes → IsRowNote n → Each IsVoted (land land_replica n k).notes
 row_landed_ok k None all is = all
 row_landed_ok k (Some (Voted x)) all is = each_push k.notes x all is
-row_landed_ok k (Some (Advance e)) all is = absurd is
-row_landed_ok k (Some (Park e)) all is = absurd is
-row_landed_ok k (Some (Settle e)) all is = absurd is
-row_landed_ok k (Some (Epoch e)) all is = absurd is
-row_landed_ok k (Some (Output e)) all is = absurd is
+row_landed_ok k (Some _) all is = absurd is
 
 pub input_ok : (g : Setting) (b : Bytes) (i : Input) → Reads g b i → IsInput i
 input_ok g bytes.Start i reads = subst IsInput (sym reads) tt

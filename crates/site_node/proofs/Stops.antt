@@ -4,10 +4,6 @@ use Rattle.outside.specs.Plans.{AtMost, MeetsPlan}
 use Rattle.outside.proofs.Plans.{and_then, fewer, same_plan}
 use Rattle.site_node.specs.Faults.{MeetsStops, MeetsBoth}
 
--- nothing was met
-pub unmet : (met : Bool) (left : ℕ → Type 0) (faults : ℕ) → met ≡ false → MeetsStops met left left faults faults
-unmet met left faults is = rw is ((λ k so. so), refl)
-
 -- nothing was met, and then more calls
 pub then_more : (met : Bool) (old mid new : ℕ → Type 0) (before between after : ℕ) → MeetsStops false old mid before between → MeetsStops met mid new between after → MeetsStops met old new before after
 then_more true old mid new before between after a b = λ k so. b k (a.0 k so)

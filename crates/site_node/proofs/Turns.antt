@@ -1,21 +1,48 @@
 -- How a turn of a node of any kind ends, as an entry.
-use Rattle.std.proofs.Common.{◌≡◌, ℕ, ◌≤◌, true, false, List, [], length, Option, Some, None, inl, inr, refl, sym, ap, subst}
-use Rattle.std.specs.Prelude.{is_some, option_map}
+use Rattle.std.proofs.Common.{◌≡◌, ◌⊎◌, ⊎_elim, ℕ, ◌≤◌, true, false, List, [], ◌∷◌, length, Option, Some, None, inl, inr, refl, sym, ap, subst}
+use Rattle.std.specs.Prelude.{All, is_some, option_map, Result, Ok, Err, OnErr}
+use Rattle.std.proofs.lemmas.List.Elements.{All-cons, All-nil}
+use Rattle.gate_journal.proofs.Growth.{continues_same, continues_through}
+use Rattle.gate_journal.specs.Growth.{Continues}
+use Rattle.list_words.specs.Lists.{Each}
+use Rattle.outside.specs.Disk.{Throughout}
 use Rattle.turn_defs.specs.declared.packet.Packet.{Packet}
 use Rattle.turn_defs.specs.declared.node.Node.{Node}
 use Rattle.turn_defs.specs.declared.node.Input.{Input}
 use Rattle.turn_defs.specs.declared.node.Input.TheVariants.{Start}
+use Rattle.turn_defs.specs.declared.node.To.{To}
+use Rattle.turn_defs.specs.Packets.{IsPacket}
 use Rattle.turn_defs.specs.Setting.{Setting}
 use Rattle.turn_defs.specs.Nodes.{Addressed}
 use Rattle.air_bus.specs.declared.entry.Input.{Input as Bytes}
 use Rattle.air_bus.specs.declared.entry.Input.TheVariants as bytes
 use Rattle.air_bus.specs.declared.entry.Entry.TheVariants.{Begin, End}
 use Rattle.site_node.specs.Bytes.{AreSpelled, IsJunk, Reads, record_of}
-use Rattle.site_node.specs.States.{Leads, MayTake, Rows, State, closes, row, written}
+use Rattle.site_node.specs.States.{Fits, Leads, MayHold, MayTake, Rows, State, closes, row, written}
 
 pub none_of : {A : Type 0} (o : Option A) → is_some o ≡ false → o ≡ None
 none_of None off = refl
 none_of (Some x) off = absurd (cc off)
+
+pub on_err : {T E P : Type 0} (r : Result T E) → P → OnErr r P
+on_err (Ok x) p = tt
+on_err (Err e) p = p
+
+-- what it may take is an input that fits
+pub fits_of : {L : Type 0} (g : Setting) (live : Option L) (b : Bytes) (i : Input) → Reads g b i → MayTake live b → Fits live i
+fits_of {L} g None bytes.Start i reads may = subst (Fits {L = L} None) (sym reads) tt
+fits_of g None _ i reads may = absurd may
+fits_of g (Some l) bytes.Start i reads may = absurd may
+fits_of g (Some l) bytes.Own i reads may = subst (Fits (Some l)) (sym reads) tt
+fits_of g (Some l) bytes.Tick i reads may = subst (Fits (Some l)) (sym reads) tt
+fits_of g (Some l) (bytes.Packet from p) i reads may = subst (Fits (Some l)) (sym reads.5) tt
+
+-- where a row's packets have spellings, so have those that are sent
+pub sent_ok : (g : Setting) (rows : List (To × Packet)) (ps : List (Node × Packet)) → Each (λ (p : To × Packet). IsPacket p.1) rows → Addressed g rows ps → All (λ (p : Node × Packet). IsPacket p.1) ps
+sent_ok g [] [] e a = All-nil (λ (p : Node × Packet). IsPacket p.1)
+sent_ok g [] (p ∷ ps) e a = absurd a
+sent_ok g (x ∷ xs) [] e a = absurd a
+sent_ok g (x ∷ xs) (p ∷ ps) e a = All-cons (λ (q : Node × Packet). IsPacket q.1) p ps (subst IsPacket a.0.1 e.0) (sent_ok g xs ps e.1 a.1)
 
 -- what no packet spells comes to a node that is up
 pub up_of : {L : Type 0} (g : Setting) (live : Option L) (b : Bytes) → MayTake live b → IsJunk g b → (l : L) × (live ≡ Some l)
@@ -37,3 +64,16 @@ module _ {K L : Type 0} (rows : Rows K L) (s t : State K L) (n : ℕ) (b : Bytes
   ends_done i note packets reads noted spelled addressed =
       subst (λ (x : State K L). Leads rows x (End n note ps sent) (closes s (written rows s i) (Some (row rows s i).live))) (sym led.2)
       (b, refl, le, inl (i, reads, record { noted = noted; packets = packets; spelled = spelled; sent = addressed; state = refl }))
+
+-- A turn of a node of one disk: room is made first, and then the note is appended.
+module _ {D : Type 0} (image : D → List ℕ → Type 0) (since : D → D → List ℕ → Type 0) (old mid new : D) (first : Throughout image since old mid (image old)) where
+  -- at each moment the disk keeps what it kept, or that with the note
+  pub turn_moments : {K L : Type 0} (rows : Rows K L) (OnDisk : K → List ℕ → Type 0) (s t : State K L) (n : ℕ) (b : Bytes) (i : Input) → Leads rows s (Begin n b) t → Reads s.setting b i → ((c : List ℕ) → image old c → OnDisk s.kept c)
+      → Throughout image since mid new (λ c. OnDisk s.kept c ⊎ OnDisk (written rows s i) c) → (c : List ℕ) → since old new c → (k : K) × MayHold rows t k × OnDisk k c
+  turn_moments {K} {L} rows OnDisk s t n b i led reads durable next c left =
+      subst (λ (x : State K L). (k : K) × MayHold rows x k × OnDisk k c) (sym led.2)
+      (⊎_elim (λ kept. (s.kept, inl refl, kept)) (λ noted. (written rows s i, inr (b, i, refl, reads, refl), noted))
+      (⊎_elim (λ before. inl (durable c (first.each c before))) (λ now. now) (next.before old c left)))
+
+  pub turn_grown : ((c : List ℕ) → image new c → Continues (image mid) c) → (c : List ℕ) → image new c → Continues (image old) c
+  turn_grown next c here = continues_through (image old) (image mid) (λ d now. continues_same (image old) d (first.now d now)) c (next c here)

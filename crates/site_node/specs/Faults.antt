@@ -1,5 +1,7 @@
 -- Why a turn isn't done, and why a node isn't up again.
-use Rattle.std.specs.Prelude.{◌≡◌, ℕ, ◌+◌, Bool, true, false, Result, Ok, Err}
+use Rattle.std.specs.Prelude.{◌≡◌, ℕ, ◌+◌, Bool, true, false, Result, Ok, Err, ⊤}
+use Rattle.gate_journal.specs.declared.reading.JournalFault.{JournalFault}
+use Rattle.gate_journal.specs.declared.reading.JournalFault.TheVariants as journal
 use Rattle.outside.specs.Plans.{AtMost}
 use Rattle.site_node.specs.declared.kind.NodeFault.{NodeFault}
 use Rattle.site_node.specs.declared.kind.NodeFault.TheVariants.{Stopped, Disk, Damaged, Read, Spent}
@@ -42,6 +44,14 @@ IsOfRestart Stopped = ⊥
 IsOfRestart Read = ⊥
 IsOfRestart (Spent epoch) = ⊥
 IsOfRestart _ = Unit {0}
+
+abbrev pub refused_as : NodeFault → Result ⊤ NodeFault
+refused_as e = Err e
+
+-- the journal wasn't found damaged
+abbrev pub IsUndamaged : JournalFault → Type 0
+IsUndamaged (journal.Damaged at) = ⊥
+IsUndamaged _ = ⊤
 
 -- no disk was found damaged
 abbrev pub IsWhole : NodeFault → Type 0

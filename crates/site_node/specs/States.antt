@@ -3,6 +3,7 @@ use Rattle.std.specs.Prelude.{◌≡◌, ◌⊎◌, ℕ, ◌≤◌, List, [], �
 use Rattle.turn_defs.specs.declared.packet.Packet.{Packet}
 use Rattle.turn_defs.specs.declared.node.Node.{Node}
 use Rattle.turn_defs.specs.declared.node.Input.{Input}
+use Rattle.turn_defs.specs.declared.node.Input.TheVariants.{Start}
 use Rattle.air_bus.specs.declared.entry.Input.{Input as Bytes}
 use Rattle.air_bus.specs.declared.entry.Input.TheVariants as bytes
 use Rattle.air_bus.specs.declared.entry.Entry.{Entry}
@@ -33,6 +34,13 @@ MayTake None bytes.Start = ⊤
 MayTake None _ = ⊥
 MayTake (Some l) bytes.Start = ⊥
 MayTake (Some l) _ = ⊤
+
+-- the same of the input that the bytes spell
+abbrev pub Fits : {L : Type 0} → Option L → Input → Type 0
+Fits None Start = ⊤
+Fits None _ = ⊥
+Fits (Some l) Start = ⊥
+Fits (Some l) _ = ⊤
 
 -- where a state stands on the bus
 abbrev pub up_phase : {L : Type 0} → Option L → Phase

@@ -1,5 +1,5 @@
 // A kind of node.
-ghost use Rattle.std.specs.Prelude.{IsTrue, ◌≡◌, ◌≢◌, ◌≤◌, length, IsErrOf, ℕ, Bool, true, false, Option, Some, IfOk, IfErr, OnOk, OnErr};
+ghost use Rattle.std.specs.Prelude.{IsTrue, ◌≡◌, ◌≢◌, ◌≤◌, length, if◌then◌else◌, IsErrOf, ℕ, Bool, true, false, Option, Some, None, IfOk, IfErr, OnOk, OnErr};
 ghost use Rattle.outside.specs.Faults.{Rose};
 ghost use Rattle.air_bus.specs.declared.entry.Entry.{Entry};
 ghost use Rattle.air_bus.specs.declared.entry.Entry.TheVariants.{Begin, End, Stop};
@@ -8,9 +8,11 @@ ghost use Rattle.air_bus.specs.declared.entry.Phase.TheVariants.{Busy};
 ghost use Rattle.air_bus.specs.declared.entry.Input.{Input};
 ghost use Rattle.air_bus.specs.Copies.{Copy};
 ghost use Rattle.air_bus.specs.History.{next_input, phase_after};
-ghost use Rattle.site_node.specs.Faults.{was_stopped, was_shut_out, MeetsStops, IsOfTurn, IsOfRestart, IsWhole};
+ghost use Rattle.gate_journal.specs.Fault.{is_of_disk};
+ghost use Rattle.site_node.specs.Faults.{was_stopped, was_shut_out, refused_as, MeetsStops, IsOfTurn, IsOfRestart, IsUndamaged, IsWhole};
 
 use air_bus::{Input, Packets, Payload};
+use gate_journal::JournalFault;
 use outside::{DiskName, Gate};
 use std::alloc::AllocError;
 
@@ -48,6 +50,26 @@ impl From<AllocError> for NodeFault {
 pub struct Done {
     pub note: Option<Payload>,
     pub packets: Packets,
+}
+
+/// What a restart tells of the note that was in doubt: the note, where it landed.
+pub fn told_note(landed: bool, note: Option<Payload>) -> Option<Payload>
+    ensures { result ≡ (if landed then note else None) }
+{
+    if landed { note } else { None }
+}
+
+/// Why a journal of this disk isn't opened again.
+pub fn fault_of(disk: DiskName, fault: JournalFault) -> NodeFault
+    ensures kind { IsOfRestart result }
+    ensures whole { IsUndamaged fault → IsWhole result }
+    ensures shut { is_of_disk fault ≡ was_shut_out (refused_as result) }
+{
+    match fault {
+        JournalFault::Damaged { at } => NodeFault::Damaged { disk, at },
+        JournalFault::Disk => NodeFault::Disk(disk),
+        JournalFault::Memory => NodeFault::Memory,
+    }
 }
 
 /// A kind of node. What its entries on the bus say is what its node is.

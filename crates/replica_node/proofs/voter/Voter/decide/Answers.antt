@@ -1,6 +1,6 @@
 use Rattle.std.proofs.Common.{[], None, refl, ap, sym, subst}
-use Rattle.replica_node.proofs.Words.{IfOk-weaker, All-same, IsNote, worked, GoesOn, Stands, kept_of, Change, ReplicaCore, VoterView, gets_ok, views_ok}
-use Rattle.replica_node.proofs.Spelled.{sent_ok, note_ok}
+use Rattle.replica_node.proofs.Words.{sent_ok, IfOk-weaker, All-same, IsNote, worked, GoesOn, Stands, kept_of, Change, ReplicaCore, VoterView, gets_ok, views_ok}
+use Rattle.replica_node.proofs.Spelled.{note_ok}
 use Rattle.replica_node.proofs.Voters.{both, start_row, gets_row, up_at, is_packet}
 use Rattle.replica_node.proofs.voter.Voter.decide.Goals as goal
 
