@@ -1,5 +1,8 @@
 -- The numbers of a run as its nodes have them.
-use Rattle.std.specs.Prelude.{◌≡◌}
+use Rattle.std.specs.Prelude.{◌≡◌, ◌<◌, ◌≤◌}
+use Rattle.registry_state.specs.declared.TheConstants.{MOST_INSERTS}
+use Rattle.time_shards.specs.Shards.{IsTable}
+use Rattle.turn_defs.specs.declared.limits.TheConstants.{MOST_JOINERS}
 use Rattle.turn_defs.specs.Setting.{Setting}
 use Rattle.turn_defs.specs.declared.config.Config.{Config}
 
@@ -10,3 +13,11 @@ pub record IsOf (config : Config) (g : Setting) : Type 0 where
   pub table : g.table ≡ config.table
   pub batch : g.batch ≡ config.batch
   pub replicas : g.replicas ≡ config.replicas
+
+-- the ranges of what a run is built for
+pub record IsRunnable (config : Config) : Type 0 where
+  pub some : 0 < config.joiners
+  pub few : config.joiners ≤ MOST_JOINERS
+  pub table : IsTable config.table
+  pub replicas : config.replicas ≡ 3
+  pub batch : config.batch ≤ MOST_INSERTS
