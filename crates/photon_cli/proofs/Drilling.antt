@@ -1,6 +1,6 @@
 -- A drill's history, and where a joiner has stopped in it.
 use Rattle.std.proofs.Common.{◌≡◌, ◌≤◌, ℕ, ◌==◌, Bool, true, false, ◌||◌, nat_le, List, [], ◌∷◌, Option, Some, None, refl, sym, subst, arith}
-use Rattle.photon_cli.proofs.Words.{list_any, IfSome, IsSomeAnd, Torn, MemDisk, ImageIn, IsImage, nat_tests, PlanView, Entry, Begin, End, Stop, is_of, is_stop_from, ReportLine, Setting, is_joiners, made_by, is_stop, RanAfresh, RunLog, IsDrilled, IsHeardOf}
+use Rattle.photon_cli.proofs.Words.{list_any, IfSome, IsSomeAnd, nat_tests, PlanView, Entry, Begin, End, Stop, is_of, is_stop_from, ReportLine, Setting, is_joiners, made_by, is_stop, RanAfresh, RunLog, IsDrilled, IsHeardOf}
 
 -- an entry that may be the node's, before others: if it is, it is no stop
 one_more : (own stops rest : Bool) (e : Entry) (j : ℕ) (h : List Entry) → is_of j e ≡ own → is_stop e ≡ stops → (own ≡ true → stops ≡ false) → list_any is_stop (made_by j h) ≡ false → list_any is_stop (made_by j (e ∷ h)) ≡ false
@@ -23,22 +23,6 @@ none_late (End node noted packets kept ∷ h) j late none = one_more (node == j)
 none_late (Stop node landed ∷ h) j late none =
     let both = either (nat_le 7 node) (list_any (is_stop_from 7) h) none in
     one_more (node == j) true false (Stop node landed) j h refl refl (not_own node j late both.0) (none_late h j late both.1)
-
--- ---- disks in memory
-
--- a write may leave all as it was
-untorn : (at n : ℕ) (bytes : List ℕ) → Torn at n bytes bytes
-untorn at n bytes = record { before = refl; after = refl; no_shorter = omega arith; no_longer = omega arith }
-
--- so a stop may leave the synced bytes
-synced_left : (synced : List ℕ) (ranges : List (ℕ × ℕ)) → (c : List ℕ) × IsImage synced ranges c
-synced_left synced [] = (synced, refl)
-synced_left synced (range ∷ ranges) = let rest = synced_left synced ranges in (rest.0, (rest.0, rest.1, untorn range.0 range.1 rest.0))
-
--- a stop leaves something of each disk, be it no bytes
-pub something_left : (disk : Option MemDisk) → (c : List ℕ) × ImageIn disk c
-something_left None = ([], refl)
-something_left (Some disk) = synced_left _ _
 
 -- what is known of a run's history
 pub drilled : (o : Option RunLog) (g : Setting) (plan : PlanView) (joiners : ℕ) (lines : List ReportLine) → g.replicas ≡ 3 → g.joiners ≡ joiners → IsSomeAnd o (λ l. RanAfresh g l.air.history lines) → IfSome o (IsHeardOf plan joiners)

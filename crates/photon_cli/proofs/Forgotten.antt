@@ -5,9 +5,9 @@ use Rattle.run_fault.specs.declared.fault.RunFault.TheVariants as fault
 use Rattle.photon_cli.specs.Reshard.{ReshardEnds}
 use Rattle.photon_cli.proofs.Resharding.{ends, not_added, untaken}
 
-module _ (logs sinks disks : Bool) (told : List ℕ → Option (List ℕ)) (files output errors faulted : Type 0) (before : Images) (leaves : Setting → Type 0) (same unrun : Type 0) (ran : Option RunLog) (old err_old err_new : List ℕ) (status : ℕ)
+module _ (logs sinks disks : Bool) (told : List ℕ → Option (List ℕ)) (files output errors faulted : Type 0) (before : Images) (same unrun : Type 0) (ran : Option RunLog) (old err_old err_new : List ℕ) (status : ℕ)
     (eight : status ≡ 8) (tells : IsTrue sinks → (errors → ⊥) → err_new ≡ err_old ++ message fault.Memory) (is_same : same) (is_unrun : unrun) (stays : (disk : DiskName) → StaysAs (before disk) (before disk)) where
-  join : (v : Values) → JoinEnds logs sinks told files output errors old old err_old err_new status v ran same unrun disks before before faulted leaves
+  join : (v : Values) → JoinEnds logs sinks told files output errors old old err_old err_new status v ran same unrun disks before before faulted
   join v = record {
     joined = λ l s d e. absurd (omega (arith, eight, e));
     afresh = λ l s d e. absurd (omega (arith, eight, e));
@@ -50,7 +50,7 @@ module _ (logs sinks disks : Bool) (told : List ℕ → Option (List ℕ)) (file
     complete = λ l g asked plan is calm quiet. inr (inr (inl eight));
   }
 
-  verify : (clicks : Text) → VerifyEnds logs sinks told files output errors old old err_old err_new status clicks same disks before before faulted leaves
+  verify : (clicks : Text) → VerifyEnds logs sinks told files output errors old old err_old err_new status clicks same disks before before faulted
   verify clicks = record {
     whole = λ l s d e. absurd (omega (arith, eight, e));
     missing = λ l s d e. absurd (omega (arith, eight, e));
@@ -88,12 +88,12 @@ module _ (logs sinks disks : Bool) (told : List ℕ → Option (List ℕ)) (file
     tells = λ s calm. inr (fault.Memory, eight, tt, tells s calm);
   }
 
-  reshard : (row : Text) → ReshardEnds sinks output errors old old err_old err_new status row same disks before before faulted leaves
-  reshard row = subst (λ (n : ℕ). ReshardEnds sinks output errors old old err_old err_new n row same disks before before faulted leaves) (sym eight)
-      (ends sinks disks output errors old old err_old err_new row same before before faulted leaves fault.Memory tt (λ d r is. tt) (λ none. (is_same, inr refl)) (λ at is. absurd (cc)) (λ is. absurd (cc)) (λ s d is. absurd (cc)) tells
+  reshard : (row : Text) → ReshardEnds sinks output errors old old err_old err_new status row same disks before before faulted
+  reshard row = subst (λ (n : ℕ). ReshardEnds sinks output errors old old err_old err_new n row same disks before before faulted) (sym eight)
+      (ends sinks disks output errors old old err_old err_new row same before before faulted fault.Memory tt (λ d r is. tt) (λ none. (is_same, inr refl)) (λ at is. absurd (cc)) (λ is. absurd (cc)) (λ s d is. absurd (cc)) tells
       (λ d g replicas few sound some e. omega (arith, e)) (λ d. untaken row before before 8 (not_added fault.Memory (λ is. cc)) (λ disk c now. now)))
 
-  pub forgotten : (w : Wish) → Ends logs sinks disks told files output errors faulted before before leaves same unrun ran old old err_old err_new status w
+  pub forgotten : (w : Wish) → Ends logs sinks disks told files output errors faulted before before same unrun ran old old err_old err_new status w
   forgotten (a_join v state) = join v
   forgotten (a_drill v plan) = (drill v plan, is_same)
   forgotten (a_verification clicks state) = (verify clicks, is_unrun)

@@ -1,12 +1,12 @@
 -- How a call ends over a store, from how its parts do.
 use Rattle.std.specs.Prelude.{Result, Ok, Err}
 use Rattle.std.proofs.Common.{Option, Some, refl, sym, subst}
-use Rattle.photon_cli.proofs.Words.{IfErr-weaker, continues_same, EndsOver, Images, IsCauseOf, IsRowFault, IsWelcome, RunFault, RunLog, Setting, TellsPlaces, Text, asked_of}
+use Rattle.photon_cli.proofs.Words.{IfErr-weaker, continues_same, EndsOver, Images, IsCauseOf, IsRowFault, IsWelcome, LeavesSomething, RunFault, RunLog, Setting, TellsPlaces, Text, asked_of}
 use Rattle.photon_cli.proofs.Causing.{later_caused}
 
-module _ (g : Setting) (before : Images) (read faulted leaves : Type 0) (ran : Option RunLog) where
+module _ (g : Setting) (before : Images) (read faulted : Type 0) (ran : Option RunLog) where
   -- before the store was touched
-  pub before_all : {A : Type 0} (f : RunFault) → IsCauseOf g before read faulted f → IsWelcome leaves f → EndsOver g before before read faulted leaves ran {A = A} (Err f)
+  pub before_all : {A : Type 0} (f : RunFault) → IsCauseOf g before read faulted f → IsWelcome (LeavesSomething g before) f → EndsOver g before before read faulted ran {A = A} (Err f)
   before_all f cause welcome = record {
     keeps = record { sound = λ sound. sound; grown = λ disk bytes now. continues_same (before disk) bytes now };
     idle = λ none disk other bytes now. (bytes, now, refl);
@@ -15,23 +15,23 @@ module _ (g : Setting) (before : Images) (read faulted leaves : Type 0) (ran : O
     welcome = λ sound. welcome;
   }
 
-  pub before_table : {A : Type 0} (shards : Text) (f : RunFault) → IsRowFault shards f → EndsOver g before before read faulted leaves ran {A = A} (Err f)
-  before_table shards f (row, is, first) = before_all f (subst (IsCauseOf g before read faulted) (sym is) tt) (subst (IsWelcome leaves) (sym is) tt)
+  pub before_table : {A : Type 0} (shards : Text) (f : RunFault) → IsRowFault shards f → EndsOver g before before read faulted ran {A = A} (Err f)
+  before_table shards f (row, is, first) = before_all f (subst (IsCauseOf g before read faulted) (sym is) tt) (subst (IsWelcome (LeavesSomething g before)) (sym is) tt)
 
   -- a fault that is handed on
-  pub on_fault : {A B : Type 0} (after : Images) (f : RunFault) → EndsOver g before after read faulted leaves ran {A = A} (Err f) → EndsOver g before after read faulted leaves ran {A = B} (Err f)
+  pub on_fault : {A B : Type 0} (after : Images) (f : RunFault) → EndsOver g before after read faulted ran {A = A} (Err f) → EndsOver g before after read faulted ran {A = B} (Err f)
   on_fault after f over = record { keeps = over.keeps; idle = over.idle; passed = tt; caused = over.caused; welcome = over.welcome }
 
-  module _ (after : Images) {A B : Type 0} (x : A) (over : EndsOver g before after read faulted leaves ran (Ok x)) where
+  module _ (after : Images) {A B : Type 0} (x : A) (over : EndsOver g before after read faulted ran (Ok x)) where
     -- where more is done with what came
-    pub on_ok : (y : B) → EndsOver g before after read faulted leaves ran (Ok y)
+    pub on_ok : (y : B) → EndsOver g before after read faulted ran (Ok y)
     on_ok y = record { keeps = over.keeps; idle = over.idle; passed = over.passed; caused = tt; welcome = λ sound. tt }
 
-    pub on_err : (f : RunFault) → IsCauseOf g before read faulted f → IsWelcome leaves f → EndsOver g before after read faulted leaves ran {A = B} (Err f)
+    pub on_err : (f : RunFault) → IsCauseOf g before read faulted f → IsWelcome (LeavesSomething g before) f → EndsOver g before after read faulted ran {A = B} (Err f)
     on_err f cause welcome = record { keeps = over.keeps; idle = over.idle; passed = tt; caused = cause; welcome = λ sound. welcome }
 
   -- whose files were read before, too
-  pub read_later : (files : Type 0) → (files → read) → (after : Images) {A : Type 0} (r : Result A RunFault) → EndsOver g before after files faulted leaves ran r → EndsOver g before after read faulted leaves ran r
+  pub read_later : (files : Type 0) → (files → read) → (after : Images) {A : Type 0} (r : Result A RunFault) → EndsOver g before after files faulted ran r → EndsOver g before after read faulted ran r
   read_later files more after r over = record {
     keeps = over.keeps;
     idle = over.idle;

@@ -1,7 +1,7 @@
 -- Why a verification gives up, from what reading its store tells.
 use Rattle.std.proofs.Common.{◌≡◌, inl, inr, ℕ, ◌≤◌, List, Bool, IsTrue, Option, None, Some, refl, sym, subst, arith}
 use Rattle.std.specs.Prelude.{IsSomeAnd, ⊤}
-use Rattle.photon_cli.proofs.Words.{StoreFault, Rose, added, DiskName, end_from, Setting, IsLogOf, Misplaced, RunFault, IsWelcome, of_place, Images, KeptDisk, AreTold, HasCause, HasFailed, PassesFor, IsCause, IsUnread, KeptStore, IsRead, cause_more, failed_rose, passed_more, unread_rose, TellsPlaces, CanBeRead, HasCauseInVerify, IsFailedRead}
+use Rattle.photon_cli.proofs.Words.{StoreFault, Rose, added, DiskName, end_from, Setting, IsLogOf, Misplaced, RunFault, of_place, Images, KeptDisk, AreTold, HasCause, HasFailed, PassesFor, IsCause, IsUnread, KeptStore, IsRead, cause_more, failed_rose, passed_more, unread_rose, TellsPlaces, CanBeRead, HasCauseInVerify, IsFailedRead}
 use Rattle.outside.specs.declared.faults.StoreFault.TheVariants as store
 
 -- ---- of a store that is read
@@ -40,7 +40,3 @@ log_over (Some log) bytes g same over = subst (λ b. IsLogOf b g) (sym same) ove
 pub place_stops : (g : Setting) (before : Images) (read faulted : Type 0) (f : StoreFault) → (f ≡ store.Disk → faulted) → HasCauseInVerify g before read faulted (of_place f)
 place_stops g before read faulted store.Disk rose = rose refl
 place_stops g before read faulted store.Memory rose = tt
-
-pub place_fair : (f : StoreFault) → IsWelcome ⊤ (of_place f)
-place_fair store.Disk = tt
-place_fair store.Memory = tt

@@ -9,16 +9,14 @@ use Rattle.time_shards.proofs.Texts.{row_same}
 use Rattle.time_shards.specs.Text.{table_text}
 use Rattle.site_laws.specs.StoreLaws.{ReadTopologyIsKept, TopologyFits}
 use Rattle.site_store.specs.Adding.{Answers, HasRow as KeepsRow, IsAdded, IsRowCause, Leaves, NoneTold}
-use Rattle.site_store.specs.Causes.{LeavesSomething}
 use Rattle.site_store.specs.Records.{AreKept, IsKept}
 use Rattle.site_store.specs.Written.{IsWritten}
 use Rattle.site_store.proofs.Added.{unchanged}
 use Rattle.site_store.proofs.Damage.{no_damage}
-use Rattle.photon_cli.proofs.Words.{DiskName, Images, IsSoundStore, KeptValues, HasCause, HasFailed, Setting, ShardRow, StorePlace, StoreFault, RunFault, Text, Topology, Unfit, cause_more, failed_rose, first_limit, goes_on_through, goes_on_within, kept_are_journals, message, of_place, status_of, unasked}
+use Rattle.photon_cli.proofs.Words.{DiskName, Images, IsSoundStore, KeptValues, HasCause, HasFailed, Setting, ShardRow, StorePlace, StoreFault, RunFault, Text, Topology, Unfit, LeavesSomething, cause_more, failed_rose, first_limit, goes_on_through, goes_on_within, kept_are_journals, message, of_place, sound_placed, status_of, unasked}
 use Rattle.outside.specs.declared.faults.StoreFault.TheVariants as store
 use Rattle.report_text.specs.Stream.{TookPrefix}
 use Rattle.photon_cli.specs.Reshard.{Adds, HasOwnRow, HasRow, IsCauseFor, IsForbidden, IsNamedInReshard, IsRowOf, LeftAt, ReshardEnds}
-use Rattle.photon_cli.proofs.Verifying.{sound_before}
 use Rattle.photon_cli.proofs.Statuses.{damaged_of, failed_of, line_of, mismatch_of, no_one, no_zero, place_of, two_of, write_of}
 
 -- ---- a row and its text
@@ -133,9 +131,9 @@ left_before tells telling text row is placed before after within sure none statu
   others = λ disk other c now. let x = left.others disk other c now in (x.0, within disk x.0 x.1, x.2);
   topology = λ c now. ⊎_elim (λ x. inl (x.0, within name.Topology x.0 x.1, x.2)) (λ has. inr (row, is, row_before placed before within tells telling row c has)) (left.topology c now);
   grown = λ disk. goes_on_through (before disk) (placed disk) (after disk) (goes_on_within (before disk) (placed disk) (within disk)) (left.grown disk);
-  longer = λ so r own g three sound. left.longer (added so) r (sym (one_row text row r is own)) g three (sound_before before placed within g sound);
-  still = λ no g sound. left.still (unadded no) g (sound_before before placed within g sound);
-  either = λ r own g three sound. left.either r (sym (one_row text row r is own)) g three (sound_before before placed within g sound);
+  longer = λ so r own g three sound. left.longer (added so) r (sym (one_row text row r is own)) g three (sound_placed g before placed within sound);
+  still = λ no g sound. left.still (unadded no) g (sound_placed g before placed within sound);
+  either = λ r own g three sound. left.either r (sym (one_row text row r is own)) g three (sound_placed g before placed within sound);
 }
 
 module _ (before : Images) (faulted : Type 0) (row : ShardRow) where
@@ -194,9 +192,9 @@ module _ (text : Text) (disks : Bool) (before after : Images) (row : ShardRow) (
   pub adds : (says : List ℕ → Type 0) → says (table_text table ++ codes "\n") → IsTrue disks → Adds text before after says
   adds says line d = record { row = row; is = is; table = table; added = added d; line = line }
 
-  pub ends_added : (sinks : Bool) (output errors : Type 0) (old new err : List ℕ) (same faulted : Type 0) (leaves : Setting → Type 0) → (IsTrue sinks → new ≡ old ++ (table_text table ++ codes "\n"))
-      → (IsTrue disks → LeftAt text before after 0) → ReshardEnds sinks output errors old new err err 0 text same disks before after faulted leaves
-  ends_added sinks output errors old new err same faulted leaves line left = record {
+  pub ends_added : (sinks : Bool) (output errors : Type 0) (old new err : List ℕ) (same faulted : Type 0) → (IsTrue sinks → new ≡ old ++ (table_text table ++ codes "\n"))
+      → (IsTrue disks → LeftAt text before after 0) → ReshardEnds sinks output errors old new err err 0 text same disks before after faulted
+  ends_added sinks output errors old new err same faulted line left = record {
     added = λ s d zero. adds (λ l. new ≡ old ++ l) (line s) d;
     prefix = λ s d five. absurd (omega (arith, five));
     row = λ two has. omega (arith, two);
@@ -213,11 +211,11 @@ module _ (text : Text) (disks : Bool) (before after : Images) (row : ShardRow) (
     complete = λ d has g replicas few whole some below still quiet. inl refl;
   }
 
-module _ (sinks disks : Bool) (output errors : Type 0) (old new err_old err_new : List ℕ) (text : Text) (same : Type 0) (before after : Images) (faulted : Type 0) (leaves : Setting → Type 0) where
+module _ (sinks disks : Bool) (output errors : Type 0) (old new err_old err_new : List ℕ) (text : Text) (same : Type 0) (before after : Images) (faulted : Type 0) where
   pub ends : (f : RunFault) → IsNamedInReshard text f → (IsTrue disks → (row : ShardRow) → IsRowOf text row → IsCauseFor before faulted row f) → ((HasRow text → ⊥) → same × ((status_of f ≡ 2) ⊎ (status_of f ≡ 8)))
       → ((at : StorePlace) → f ≡ fault.Store at → faulted) → (f ≡ fault.Write → output) → (IsTrue sinks → IsTrue disks → f ≡ fault.Write → Adds text before after (λ line. TookPrefix old line new))
-      → (IsTrue sinks → (errors → ⊥) → err_new ≡ err_old ++ message f) → (IsTrue disks → (g : Setting) → g.replicas ≡ 3 → g.joiners ≤ MOST_JOINERS → IsSoundStore g before → leaves g → status_of f ≢ 7) → (IsTrue disks → LeftAt text before after (status_of f))
-      → ReshardEnds sinks output errors old new err_old err_new (status_of f) text same disks before after faulted leaves
+      → (IsTrue sinks → (errors → ⊥) → err_new ≡ err_old ++ message f) → (IsTrue disks → (g : Setting) → g.replicas ≡ 3 → g.joiners ≤ MOST_JOINERS → IsSoundStore g before → LeavesSomething g before → status_of f ≢ 7) → (IsTrue disks → LeftAt text before after (status_of f))
+      → ReshardEnds sinks output errors old new err_old err_new (status_of f) text same disks before after faulted
   ends f named causes bad rose wrote prefix tells fair left = record {
     added = λ s d zero. absurd (no_zero f zero);
     prefix = λ s d five. prefix s d (write_of f five);
@@ -242,11 +240,11 @@ module _ (sinks disks : Bool) (output errors : Type 0) (old new err_old err_new 
 
   -- a directory that isn't placed
   pub ends_place : (row : ShardRow) → IsRowOf text row → (s : StoreFault) (f : RunFault) → f ≡ of_place s → (s ≡ store.Disk → faulted) → (IsTrue disks → (disk : DiskName) (c : List ℕ) → after disk c → before disk c)
-      → (IsTrue sinks → (errors → ⊥) → err_new ≡ err_old ++ message f) → ReshardEnds sinks output errors old new err_old err_new (status_of f) text same disks before after faulted leaves
-  ends_place row is s f e rose within told = subst (λ (h : RunFault). (IsTrue sinks → (errors → ⊥) → err_new ≡ err_old ++ message h) → ReshardEnds sinks output errors old new err_old err_new (status_of h) text same disks before after faulted leaves) (sym e)
+      → (IsTrue sinks → (errors → ⊥) → err_new ≡ err_old ++ message f) → ReshardEnds sinks output errors old new err_old err_new (status_of f) text same disks before after faulted
+  ends_place row is s f e rose within told = subst (λ (h : RunFault). (IsTrue sinks → (errors → ⊥) → err_new ≡ err_old ++ message h) → ReshardEnds sinks output errors old new err_old err_new (status_of h) text same disks before after faulted) (sym e)
       (by s rose) told
     where
-      by : (r : StoreFault) → (r ≡ store.Disk → faulted) → (IsTrue sinks → (errors → ⊥) → err_new ≡ err_old ++ message (of_place r)) → ReshardEnds sinks output errors old new err_old err_new (status_of (of_place r)) text same disks before after faulted leaves
+      by : (r : StoreFault) → (r ≡ store.Disk → faulted) → (IsTrue sinks → (errors → ⊥) → err_new ≡ err_old ++ message (of_place r)) → ReshardEnds sinks output errors old new err_old err_new (status_of (of_place r)) text same disks before after faulted
       by store.Disk risen tells =
           ends (of_place store.Disk) (row, is) (λ d r own. risen refl) (λ none. absurd (none (row, is))) (λ at x. risen refl) (λ x. absurd (cc)) (λ a d x. absurd (cc)) tells (λ d g replicas few sound some seven. omega (arith, seven))
           (λ d. untaken text before after (status_of (of_place store.Disk)) (not_added (of_place store.Disk) (λ x. cc)) (within d))

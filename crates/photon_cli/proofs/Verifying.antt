@@ -1,6 +1,6 @@
 -- How a verification ends at each fault.
 use Rattle.std.proofs.Common.{◌≡◌, ℕ, List, [], map, nat_lt, Option, None, Some, Bool, false, IsTrue, refl, sym, ap, subst, ◌∙◌, arith}
-use Rattle.photon_cli.proofs.Words.{IsSomeAnd, flat_map, nat_tests, EventId, same_batch, U, PairRec, note_view, ShardRow, shard_of, first_pair, line_by, line_of, DiskName, KeepsTopology, Setting, Store, AreLeft, Images, IsSoundStore, HasTopology, KeptStore, IsRead, Tells, Journals, KeptTopology, ClickRec, IsClickLog, ClickLine, clicks_same, ReportLine, distinct, IsLogOf, HasIds, IsReadFrom, IsTold}
+use Rattle.photon_cli.proofs.Words.{IsSomeAnd, flat_map, nat_tests, EventId, same_batch, U, PairRec, note_view, ShardRow, shard_of, first_pair, line_by, line_of, DiskName, KeepsTopology, Setting, Images, HasTopology, KeptStore, IsRead, Tells, Journals, KeptTopology, ClickRec, IsClickLog, ClickLine, clicks_same, ReportLine, distinct, IsLogOf, HasIds, IsReadFrom, IsTold, left_before, sound_placed}
 use Rattle.paxos_defs.specs.Decided.{decided}
 use Rattle.outside.specs.declared.store.DiskName.TheVariants as name
 use Rattle.photon_cli.proofs.Runs.{clicks_back}
@@ -8,22 +8,13 @@ use Rattle.photon_cli.proofs.Runs.{clicks_back}
 -- ---- a store that is read, by what a stop might have left of it before its directory was chosen
 
 module _ (before placed : Images) (within : (disk : DiskName) (c : List ℕ) → placed disk c → before disk c) where
-  pub sound_before : (g : Setting) → IsSoundStore g before → IsSoundStore g placed
-  sound_before g sound b choice = sound b (λ disk is. within disk (b disk) (choice disk is))
-
-  left_before : (g : Setting) (s : Store) → AreLeft g placed s → AreLeft g before s
-  left_before g s left = record {
-    topology = let x = left.topology in (x.0, within name.Topology x.0 x.1, x.2);
-    records = λ disk is. let x = left.records disk is in (x.0, within disk x.0 x.1, x.2);
-  }
-
   tells_before : (g : Setting) (js : Journals) → Tells g placed js → Tells g before js
   tells_before g js t = record {
     store = t.store;
-    left = left_before g t.store t.left;
+    left = left_before g before placed t.store within t.left;
     are = t.are;
     lines = t.lines;
-    whole = λ sound. t.whole (sound_before g sound);
+    whole = λ sound. t.whole (sound_placed g before placed within sound);
   }
 
   pub read_before : (tells log_tells : Bool) (log : List ℕ) (end_ : ℕ) (k : KeptStore) → IsTrue tells → IsRead tells placed log_tells log end_ k

@@ -43,11 +43,8 @@ pub use Rattle.lossy_link.specs.declared.bad_plan.Field.{Field}
 pub use Rattle.lossy_link.specs.declared.plan.DiskKind.{DiskKind}
 pub use Rattle.lossy_link.specs.declared.plan.PlanStop.{PlanStop}
 pub use Rattle.mem_outside.specs.Files.{bytes_under}
-pub use Rattle.mem_outside.specs.Kept.{ImageIn, disk_of, fuses_for, same_name}
-pub use Rattle.mem_outside.specs.Past.{IsImage}
+pub use Rattle.mem_outside.specs.Kept.{fuses_for, same_name}
 pub use Rattle.mem_outside.specs.declared.disk.Fuse.{Fuse}
-pub use Rattle.mem_outside.specs.declared.disk.MemDisk.{MemDisk}
-pub use Rattle.outside.specs.Disk.{Torn}
 pub use Rattle.outside.specs.Faults.{Counts, Rose, added}
 pub use Rattle.outside.specs.declared.faults.ReadFault.{ReadFault}
 pub use Rattle.outside.specs.declared.faults.StoreFault.{StoreFault}
@@ -90,7 +87,8 @@ pub use Rattle.site_laws.specs.Laws.{made_by}
 pub use Rattle.site_laws.specs.StoreLaws.{HoldSameRecords, LongerStaysSound, SameIsSound}
 pub use Rattle.site_laws.specs.Stores.{AreLeft, Images, IsSoundStore}
 pub use Rattle.site_run.proofs.Counting.{rose_before}
-pub use Rattle.site_run.proofs.Entered.{counted_more, welcome_where}
+pub use Rattle.site_run.proofs.Earlier.{leaves_placed}
+pub use Rattle.site_run.proofs.Entered.{counted_more, left_before, place_welcome, sound_placed, welcome_where}
 pub use Rattle.site_run.proofs.Outing.{goes_on_through, goes_on_within, stays_goes_on}
 pub use Rattle.site_run.proofs.Refusing.{kept_are_journals}
 pub use Rattle.site_run.specs.Heard.{IsHeardOf, kinds_of}
@@ -101,7 +99,7 @@ pub use Rattle.site_run.specs.Left.{RestLeft, RunLeft}
 pub use Rattle.site_run.specs.Refused.{IsCauseOf, TellsPlaces, asked_of}
 pub use Rattle.site_run.specs.declared.ran.RunLog.{RunLog}
 pub use Rattle.site_store.proofs.Causes.{cause_more, failed_rose, passed_more, unread_rose}
-pub use Rattle.site_store.specs.Causes.{AreTold, HasCause, HasFailed, HasPassed as PassesFor, IsCause, IsUnread, first_limit}
+pub use Rattle.site_store.specs.Causes.{AreTold, HasCause, HasFailed, HasPassed as PassesFor, IsCause, IsUnread, LeavesSomething, first_limit}
 pub use Rattle.site_store.specs.Leaving.{IsAsked as HasTopology}
 pub use Rattle.site_store.specs.Misfits.{IsFitFor}
 pub use Rattle.site_store.specs.Reading.{IsRead}

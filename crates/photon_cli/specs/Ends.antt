@@ -13,6 +13,7 @@ use Rattle.turn_defs.specs.Setting.{Setting}
 use Rattle.log_records.specs.Check.{RefusesClick}
 use Rattle.gate_journal.specs.Images.{StaysAs}
 use Rattle.site_laws.specs.Stores.{Images, IsSoundStore}
+use Rattle.site_store.specs.Causes.{LeavesSomething}
 use Rattle.site_run.specs.declared.ran.RunLog.{RunLog}
 use Rattle.site_run.specs.Over.{IsIdle, Keeps}
 use Rattle.site_run.specs.Refused.{HasPassed, IsTaken, WasJournal}
@@ -36,8 +37,8 @@ Begins untouched fit status = (untouched × (status ≢ 0)) ⊎ (fit × (status 
 -- and of the store; same says that the store that was handed in is as it was, and unrun that what is left of a run is.
 module _ (logs sinks : Bool) (told : List ℕ → Option (List ℕ)) (files output errors : Type 0) (old new err_old err_new : List ℕ) (status : ℕ) where
   -- Of a join for these values over the store. Before and after say what a stop might have left of its disks and may leave of them
-  -- now; leaves says that a stop leaves something of each disk of a setting, whatever happens to the store.
-  pub record JoinEnds (v : Values) (ran : Option RunLog) (same unrun : Type 0) (disks : Bool) (before after : Images) (faulted : Type 0) (leaves : Setting → Type 0) : Type 0 where
+  -- now.
+  pub record JoinEnds (v : Values) (ran : Option RunLog) (same unrun : Type 0) (disks : Bool) (before after : Images) (faulted : Type 0) : Type 0 where
     -- 0: both logs are valid, and where the store was sound the report of what its disks now keep was written, whole; where it was
     -- empty it is the report on the two logs, but for clicks that are missing; unless a disk met a fault none is
     pub joined : IsTrue logs → IsTrue sinks → IsTrue disks → status ≡ 0 → Prints told v before after faulted old new
@@ -58,7 +59,7 @@ module _ (logs sinks : Bool) (told : List ℕ → Option (List ℕ)) (files outp
     pub invalid : IsTrue logs → (log : LogName) (table : List ShardRow) → IsTextOf v.nodes.shards table → IsInvalid told v.queries v.clicks log → (files → ⊥) → (status ≡ 3) ⊎ (status ≡ 8)
     -- 6 only where the store's count rose; 7 and 9 never over a sound store where a stop leaves something of each disk
     pub stopped : status ≡ 6 → faulted
-    pub welcome : IsTrue disks → IsTrue logs → (g : Setting) → IsAsked told v g → IsSoundStore g before → leaves g → (status ≢ 7) × (status ≢ 9)
+    pub welcome : IsTrue disks → IsTrue logs → (g : Setting) → IsAsked told v g → IsSoundStore g before → LeavesSomething g before → (status ≢ 7) × (status ≢ 9)
     -- 7, where a disk that is opened is no journal, whatever a stop left of it; else 9, where the topology or a place doesn't fit, whatever
     -- the disks kept; else 10, where an epoch, a round or a slot is at its limit. And there always, but for a fault of the logs or the
     -- store, or want of memory.
@@ -77,7 +78,7 @@ module _ (logs sinks : Bool) (told : List ℕ → Option (List ℕ)) (files outp
     pub keeps : IsTrue disks → IsTrue logs → (g : Setting) → IsAsked told v g → Keeps g g before after
     pub idle : IsTrue disks → IsTrue logs → (g : Setting) → IsAsked told v g → IsIdle before after ran
     -- over a sound store, with no fault and nothing at its limit, it ends well, unless memory runs out
-    pub complete : IsTrue disks → IsTrue logs → (g : Setting) → IsAsked told v g → IsSoundStore g before → leaves g → IsBelowLimits g before → (files → ⊥) → (faulted → ⊥) → (output → ⊥)
+    pub complete : IsTrue disks → IsTrue logs → (g : Setting) → IsAsked told v g → IsSoundStore g before → LeavesSomething g before → IsBelowLimits g before → (files → ⊥) → (faulted → ⊥) → (output → ⊥)
         → (status ≡ 0) ⊎ (status ≡ 8)
 
   -- Of a drill for these values with the plan of a file.
@@ -108,8 +109,8 @@ module _ (logs sinks : Bool) (told : List ℕ → Option (List ℕ)) (files outp
     pub complete : IsTrue logs → (g : Setting) → IsAsked told v g → (plan : PlanView) → IsPlanIn told file plan → (files → ⊥) → (output → ⊥)
         → (status ≡ 0) ⊎ ((status ≡ 6) ⊎ ((status ≡ 8) ⊎ (status ≡ 10)))
 
-  -- Of a verification over a click log and the store in a directory; leaves as of a join.
-  pub record VerifyEnds (clicks : Text) (same : Type 0) (disks : Bool) (before after : Images) (faulted : Type 0) (leaves : Setting → Type 0) : Type 0 where
+  -- Of a verification over a click log and the store in a directory.
+  pub record VerifyEnds (clicks : Text) (same : Type 0) (disks : Bool) (before after : Images) (faulted : Type 0) : Type 0 where
     -- 0 and 1: the report of what the disks keep was written, whole; 1 exactly where a line tells a missing click
     pub whole : IsTrue logs → IsTrue sinks → IsTrue disks → status ≡ 0 → PrintsKept told clicks before false old new
     pub missing : IsTrue logs → IsTrue sinks → IsTrue disks → status ≡ 1 → PrintsKept told clicks before true old new
@@ -121,7 +122,7 @@ module _ (logs sinks : Bool) (told : List ℕ → Option (List ℕ)) (files outp
     -- 2 never; 6 only where the store's count rose; 7 and 9 never over a sound store where a stop leaves something of each disk
     pub words : status ≢ 2
     pub stopped : status ≡ 6 → faulted
-    pub welcome : IsTrue disks → IsTrue logs → (g : Setting) → IsOverLog told clicks g → g.replicas ≡ 3 → g.joiners ≤ MOST_JOINERS → IsSoundStore g before → leaves g → (status ≢ 7) × (status ≢ 9)
+    pub welcome : IsTrue disks → IsTrue logs → (g : Setting) → IsOverLog told clicks g → g.replicas ≡ 3 → g.joiners ≤ MOST_JOINERS → IsSoundStore g before → LeavesSomething g before → (status ≢ 7) × (status ≢ 9)
     -- 7, 9 and 10 as of a join, but that no topology is asked for
     pub damaged : IsTrue disks → IsTrue logs → (g : Setting) → IsOverLog told clicks g → (disk : DiskName) → IsTaken (unasked g) before disk → (WasJournal g before disk → ⊥) → (files → ⊥) → (faulted → ⊥) → (status ≡ 7) ⊎ (status ≡ 8)
     pub misplaced : IsTrue disks → IsTrue logs → (g : Setting) → IsOverLog told clicks g → AreMisplaced g before → (files → ⊥) → (faulted → ⊥) → (status ≡ 9) ⊎ ((status ≡ 7) ⊎ (status ≡ 8))
@@ -135,7 +136,7 @@ module _ (logs sinks : Bool) (told : List ℕ → Option (List ℕ)) (files outp
     pub stays : IsTrue disks → (disk : DiskName) → StaysAs (before disk) (after disk)
     pub sound : IsTrue disks → (g : Setting) → IsSoundStore g before → IsSoundStore g after
     -- over a sound store, with no fault and nothing at its limit, it ends with 0 or 1, unless memory runs out
-    pub complete : IsTrue disks → IsTrue logs → (g : Setting) → IsOverLog told clicks g → g.replicas ≡ 3 → g.joiners ≤ MOST_JOINERS → IsSoundStore g before → leaves g → IsBelowLimits (unasked g) before
+    pub complete : IsTrue disks → IsTrue logs → (g : Setting) → IsOverLog told clicks g → g.replicas ≡ 3 → g.joiners ≤ MOST_JOINERS → IsSoundStore g before → LeavesSomething g before → IsBelowLimits (unasked g) before
         → (files → ⊥) → (faulted → ⊥) → (output → ⊥) → (status ≡ 0) ⊎ ((status ≡ 1) ⊎ (status ≡ 8))
 
 -- Of a bulk run.
@@ -159,11 +160,11 @@ module _ (sinks : Bool) (output errors : Type 0) (old new err_old err_new : List
     pub tells : IsTrue sinks → (errors → ⊥) → TellsBy (IsNamedInBulk v) status err_old err_new
 
 -- How what is asked for ends, where the words are read as it.
-module _ (logs sinks disks : Bool) (told : List ℕ → Option (List ℕ)) (files output errors faulted : Type 0) (before after : Images) (leaves : Setting → Type 0) (same unrun : Type 0) (ran : Option RunLog)
+module _ (logs sinks disks : Bool) (told : List ℕ → Option (List ℕ)) (files output errors faulted : Type 0) (before after : Images) (same unrun : Type 0) (ran : Option RunLog)
     (old new err_old err_new : List ℕ) (status : ℕ) where
   abbrev pub Ends : Wish → Type 0
-  Ends (a_join v state) = JoinEnds logs sinks told files output errors old new err_old err_new status v ran same unrun disks before after faulted leaves
+  Ends (a_join v state) = JoinEnds logs sinks told files output errors old new err_old err_new status v ran same unrun disks before after faulted
   Ends (a_drill v plan) = DrillEnds logs sinks told files output errors old new err_old err_new status v plan ran unrun × same
-  Ends (a_verification clicks state) = VerifyEnds logs sinks told files output errors old new err_old err_new status clicks same disks before after faulted leaves × unrun
+  Ends (a_verification clicks state) = VerifyEnds logs sinks told files output errors old new err_old err_new status clicks same disks before after faulted × unrun
   Ends (a_bulk_run v) = BulkEnds sinks output errors old new err_old err_new status v ran unrun × same
-  Ends (a_resharding state row) = ReshardEnds sinks output errors old new err_old err_new status row same disks before after faulted leaves × unrun
+  Ends (a_resharding state row) = ReshardEnds sinks output errors old new err_old err_new status row same disks before after faulted × unrun

@@ -14,7 +14,7 @@ use Rattle.run_fault.specs.declared.fault.RunFault.TheVariants as fault
 use Rattle.run_fault.specs.Faults.{status_of}
 use Rattle.site_laws.specs.Stores.{Images, IsSoundStore}
 use Rattle.site_store.specs.Adding.{Answers, HasRow as KeepsRow, IsAdded, Leaves, accepted, answer_to}
-use Rattle.site_store.specs.Causes.{first_limit}
+use Rattle.site_store.specs.Causes.{LeavesSomething, first_limit}
 use Rattle.site_store.specs.Opening.{IsDamagedIn}
 use Rattle.site_store.specs.Records.{AreKept, KeptValues}
 use Rattle.site_store.specs.Refusals.{IsFirstDisk}
@@ -75,9 +75,8 @@ pub record Adds (text : Text) (before after : Images) (says : List ℕ → Type 
   pub added : IsAdded true before row after table
   pub line : says (table_text table ++ codes "\n")
 
--- What is said of bytes is said where the sinks and the disks tell what they hold; before, after, faulted, same and leaves as of a
--- join.
-pub record ReshardEnds (sinks : Bool) (output errors : Type 0) (old new err_old err_new : List ℕ) (status : ℕ) (text : Text) (same : Type 0) (disks : Bool) (before after : Images) (faulted : Type 0) (leaves : Setting → Type 0) : Type 0 where
+-- What is said of bytes is said where the sinks and the disks tell what they hold; before, after, faulted and same as of a join.
+pub record ReshardEnds (sinks : Bool) (output errors : Type 0) (old new err_old err_new : List ℕ) (status : ℕ) (text : Text) (same : Type 0) (disks : Bool) (before after : Images) (faulted : Type 0) : Type 0 where
   -- 0: the row was added, and the line of the longer table was written, whole; 5: so, and a prefix of it was
   pub added : IsTrue sinks → IsTrue disks → status ≡ 0 → Adds text before after (λ line. new ≡ old ++ line)
   pub prefix : IsTrue sinks → IsTrue disks → status ≡ 5 → Adds text before after (λ line. TookPrefix old line new)
@@ -87,7 +86,7 @@ pub record ReshardEnds (sinks : Bool) (output errors : Type 0) (old new err_old 
   -- 1, 3, 4 and 9 never; 6 only where the store's count rose; 7 never over a sound store where a stop leaves something of each disk
   pub never : (status ≢ 1) × (status ≢ 3) × (status ≢ 4) × (status ≢ 9)
   pub stopped : status ≡ 6 → faulted
-  pub welcome : IsTrue disks → (g : Setting) → g.replicas ≡ 3 → g.joiners ≤ MOST_JOINERS → IsSoundStore g before → leaves g → status ≢ 7
+  pub welcome : IsTrue disks → (g : Setting) → g.replicas ≡ 3 → g.joiners ≤ MOST_JOINERS → IsSoundStore g before → LeavesSomething g before → status ≢ 7
   -- 7 and 10 as of a verification; else 11, where the disks kept what forbids the row, whatever they kept
   pub damaged : IsTrue disks → HasRow text → (g : Setting) (disk : DiskName) → IsTaken (unasked g) before disk → (WasJournal g before disk → ⊥) → (faulted → ⊥) → (status ≡ 7) ⊎ (status ≡ 8)
   pub limited : IsTrue disks → HasRow text → (g : Setting) → IsAtLimit (unasked g) before → (faulted → ⊥) → (status ≡ 10) ⊎ ((status ≡ 7) ⊎ (status ≡ 8))
@@ -98,5 +97,5 @@ pub record ReshardEnds (sinks : Bool) (output errors : Type 0) (old new err_old 
   -- what stands on the disks
   pub left : IsTrue disks → LeftAt text before after status
   -- over a sound store, with no fault and nothing at its limit, the row is added or forbidden, unless memory runs out
-  pub complete : IsTrue disks → HasRow text → (g : Setting) → g.replicas ≡ 3 → g.joiners ≤ MOST_JOINERS → IsSoundStore g before → leaves g → IsBelowLimits (unasked g) before → (faulted → ⊥) → (output → ⊥)
+  pub complete : IsTrue disks → HasRow text → (g : Setting) → g.replicas ≡ 3 → g.joiners ≤ MOST_JOINERS → IsSoundStore g before → LeavesSomething g before → IsBelowLimits (unasked g) before → (faulted → ⊥) → (output → ⊥)
       → (status ≡ 0) ⊎ ((status ≡ 8) ⊎ (status ≡ 11))

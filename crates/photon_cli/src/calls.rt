@@ -12,7 +12,6 @@ ghost use Rattle.site_run.specs.Heard.{IsHeardOf};
 ghost use Rattle.site_run.specs.Over.{Keeps};
 ghost use Rattle.site_run.specs.declared.ran.Ran.{Ran};
 ghost use Rattle.site_run.specs.declared.ran.RunLog.{RunLog};
-ghost use Rattle.site_store.specs.Causes.{LeavesSomething};
 ghost use Rattle.photon_cli.specs.Again.{AreCalls, AreOutputOnce, Call, setting_after, store_after};
 ghost use Rattle.photon_cli.specs.Ends.{Ends};
 ghost use Rattle.photon_cli.specs.Join.{IsAsked};
@@ -28,20 +27,20 @@ use outside::{Sink, Source, Store};
 pub fn again<F: Source, S: Store, K: Sink>()
     ensures join { (files later : F) (before after : S) (out out_later err err_later : K) (ran ran_later : Ran) (status : ℕ) (v : Values) (state : Text) (g : Setting) → IsTrue F.Log.tells → IsTrue S.Disk.tells → IsAsked (F.bytes files) v g
         → Ends F.Log.tells K.tells S.Disk.tells (F.bytes files) (Rose (F.faults files) (F.faults later)) (Rose (K.faults out) (K.faults out_later)) (Rose (K.faults err) (K.faults err_later)) (Rose (S.faults before) (S.faults after))
-        (S.image before) (S.image after) (λ h. (s : S) → LeavesSomething h (S.image s)) (after ≡ before) (ran_later ≡ ran) ran_later.log (K.held out) (K.held out_later) (K.held err) (K.held err_later) status (a_join v state)
+        (S.image before) (S.image after) (after ≡ before) (ran_later ≡ ran) ran_later.log (K.held out) (K.held out_later) (K.held err) (K.held err_later) status (a_join v state)
         → Keeps g g (S.image before) (S.image after) }
     ensures verification { (files later : F) (before after : S) (out out_later err err_later : K) (ran ran_later : Ran) (status : ℕ) (clicks state : Text) (g : Setting) → IsTrue S.Disk.tells
         → Ends F.Log.tells K.tells S.Disk.tells (F.bytes files) (Rose (F.faults files) (F.faults later)) (Rose (K.faults out) (K.faults out_later)) (Rose (K.faults err) (K.faults err_later)) (Rose (S.faults before) (S.faults after))
-        (S.image before) (S.image after) (λ h. (s : S) → LeavesSomething h (S.image s)) (after ≡ before) (ran_later ≡ ran) ran_later.log (K.held out) (K.held out_later) (K.held err) (K.held err_later) status (a_verification clicks state)
+        (S.image before) (S.image after) (after ≡ before) (ran_later ≡ ran) ran_later.log (K.held out) (K.held out_later) (K.held err) (K.held err_later) status (a_verification clicks state)
         → Keeps g g (S.image before) (S.image after) }
     // A resharding that adds its row, and one that doesn't.
     ensures row { (files later : F) (before after : S) (out out_later err err_later : K) (ran ran_later : Ran) (status : ℕ) (state text : Text) (g : Setting) (row : Row) → IsTrue S.Disk.tells → IsRowOf text row → g.replicas ≡ 3 → (status ≡ 0) ⊎ (status ≡ 5)
         → Ends F.Log.tells K.tells S.Disk.tells (F.bytes files) (Rose (F.faults files) (F.faults later)) (Rose (K.faults out) (K.faults out_later)) (Rose (K.faults err) (K.faults err_later)) (Rose (S.faults before) (S.faults after))
-        (S.image before) (S.image after) (λ h. (s : S) → LeavesSomething h (S.image s)) (after ≡ before) (ran_later ≡ ran) ran_later.log (K.held out) (K.held out_later) (K.held err) (K.held err_later) status (a_resharding state text)
+        (S.image before) (S.image after) (after ≡ before) (ran_later ≡ ran) ran_later.log (K.held out) (K.held out_later) (K.held err) (K.held err_later) status (a_resharding state text)
         → Keeps g (with_row g row) (S.image before) (S.image after) }
     ensures no_row { (files later : F) (before after : S) (out out_later err err_later : K) (ran ran_later : Ran) (status : ℕ) (state text : Text) (g : Setting) → IsTrue S.Disk.tells → status ≢ 0 → status ≢ 5 → status ≢ 6
         → Ends F.Log.tells K.tells S.Disk.tells (F.bytes files) (Rose (F.faults files) (F.faults later)) (Rose (K.faults out) (K.faults out_later)) (Rose (K.faults err) (K.faults err_later)) (Rose (S.faults before) (S.faults after))
-        (S.image before) (S.image after) (λ h. (s : S) → LeavesSomething h (S.image s)) (after ≡ before) (ran_later ≡ ran) ran_later.log (K.held out) (K.held out_later) (K.held err) (K.held err_later) status (a_resharding state text)
+        (S.image before) (S.image after) (after ≡ before) (ran_later ≡ ran) ran_later.log (K.held out) (K.held out_later) (K.held err) (K.held err_later) status (a_resharding state text)
         → Keeps g g (S.image before) (S.image after) }
     ensures once { (g : Setting) (s : S) (calls : List (Call S)) → Checked g → IsSoundStore g (S.image s) → AreCalls S.image g s calls → AreOutputOnce (setting_after S.image g calls) (S.image (store_after S.image s calls)) }
     ensures grown { (g : Setting) (s : S) (calls : List (Call S)) → AreCalls S.image g s calls → (disk : DiskName) → GoesOn (S.image s disk) (S.image (store_after S.image s calls) disk) }

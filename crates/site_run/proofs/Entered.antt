@@ -104,7 +104,7 @@ welcome_where _ holds less from is = tt
 kept_in : (before placed keeps : List ℕ → Type 0) → ((c : List ℕ) → placed c → before c) → IsKeptIn placed keeps → IsKeptIn before keeps
 kept_in before placed keeps within kept = (kept.0, within kept.0 kept.1, kept.2)
 
-left_before : (g : Setting) (before placed : Images) (s : Store) → ((disk : DiskName) (c : List ℕ) → placed disk c → before disk c) → AreLeft g placed s → AreLeft g before s
+pub left_before : (g : Setting) (before placed : Images) (s : Store) → ((disk : DiskName) (c : List ℕ) → placed disk c → before disk c) → AreLeft g placed s → AreLeft g before s
 left_before g before placed s within kept = record {
   topology = kept_in (before name.Topology) (placed name.Topology) (KeepsTopology s.topology) (within name.Topology) kept.topology;
   records = λ disk is. kept_in (before disk) (placed disk) (KeepsOf g s.disks disk) (within disk) (kept.records disk is);
@@ -122,10 +122,10 @@ rested_where g d h after less more journals from is = record {
   stops = λ no. is.stops (λ l. no (from l));
 }
 
-module _ (g : Setting) (before placed after : Images) (within : (disk : DiskName) (c : List ℕ) → placed disk c → before disk c) where
-  pub sound_placed : IsSoundStore g before → IsSoundStore g placed
-  sound_placed sound b choice = sound b (λ disk is. within disk (b disk) (choice disk is))
+pub sound_placed : (g : Setting) (before placed : Images) → ((disk : DiskName) (c : List ℕ) → placed disk c → before disk c) → IsSoundStore g before → IsSoundStore g placed
+sound_placed g before placed within sound b choice = sound b (λ disk is. within disk (b disk) (choice disk is))
 
+module _ (g : Setting) (before placed after : Images) (within : (disk : DiskName) (c : List ℕ) → placed disk c → before disk c) where
   pub run_earlier : (o : Option RunLog) → IfSome o (λ l. RunLeft g placed after l.air.history) → IfSome o (λ l. RunLeft g before after l.air.history)
   run_earlier None left = tt
   run_earlier (Some l) left = record { store = left.store; kept = left_before g before placed left.store within left.kept; ran = left.ran }

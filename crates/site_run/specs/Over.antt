@@ -5,6 +5,7 @@ use Rattle.outside.specs.declared.store.DiskName.TheVariants as name
 use Rattle.turn_defs.specs.Setting.{Setting}
 use Rattle.gate_journal.specs.Images.{GoesOn, StaysAs}
 use Rattle.site_laws.specs.Stores.{Images, IsSoundStore}
+use Rattle.site_store.specs.Causes.{LeavesSomething}
 use Rattle.run_fault.specs.Causes.{IsWelcome}
 use Rattle.run_fault.specs.declared.fault.RunFault.{RunFault}
 use Rattle.site_run.specs.declared.ran.Outcome.{Outcome}
@@ -22,8 +23,8 @@ abbrev pub IsIdle : (before after : Images) → Option RunLog → Type 0
 IsIdle before after ran = ran ≡ None → (disk : DiskName) → disk ≢ name.Topology → StaysAs (before disk) (after disk)
 
 -- Before and after say what a stop might have left of the store's disks and may leave of them now; read and faulted that the count
--- of the logs' faults rose and that of the disks'; leaves that a stop leaves something of each disk.
-module _ (g : Setting) (before after : Images) (read faulted leaves : Type 0) (ran : Option RunLog) where
+-- of the logs' faults rose and that of the disks'.
+module _ (g : Setting) (before after : Images) (read faulted : Type 0) (ran : Option RunLog) where
   -- Where it ends well the disks had kept what can be run; a fault has its cause. A sound store isn't refused for the table or the
   -- places that it keeps, nor, where a stop leaves something of each disk, for its number of joiners or for a damaged disk.
   pub record EndsOver {A : Type 0} (result : Result A RunFault) : Type 0 where
@@ -31,7 +32,7 @@ module _ (g : Setting) (before after : Images) (read faulted leaves : Type 0) (r
     pub idle : IsIdle before after ran
     pub passed : OnOk result (HasPassed g before)
     pub caused : IfErr result (IsCauseOf g before read faulted)
-    pub welcome : IsSoundStore g before → IfErr result (IsWelcome leaves)
+    pub welcome : IsSoundStore g before → IfErr result (IsWelcome (LeavesSomething g before))
 
   -- Where a run began its history is one of the whole system, from what the disks kept when they were opened. Where it ends well
   -- all nodes have come to rest, and the journals are what the disks keep.

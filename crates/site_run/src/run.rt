@@ -12,7 +12,6 @@ ghost use Rattle.site_store.specs.Records.{AreRecordsOf, kept_all, lent_all, top
 ghost use Rattle.site_store.specs.Lent.{MayBeLeft};
 ghost use Rattle.gate_journal.specs.Images.{GoesOn};
 ghost use Rattle.site_laws.specs.Stores.{SameRecords};
-ghost use Rattle.site_store.specs.Causes.{LeavesSomething};
 ghost use Rattle.site_run.specs.Laws.{KeepsItsRecord};
 ghost use Rattle.site_run.specs.Asked.{OfSetting, IsSettingOver, AreLogsOf};
 ghost use Rattle.site_run.specs.Heard.{IsHeardOf};
@@ -72,7 +71,7 @@ where
 
     // How it ends for whatever setting the logs make.
     ensures over { IsTrue S.Disk.tells → IsTrue F.Log.tells → OfSetting (F.bytes files.old) names.now.queries.now names.now.clicks.now config.now end (λ g. RunsOver g (S.image store.old) (S.image store.new)
-        (Rose (F.faults files.old) (F.faults files.new)) (Rose (S.faults store.old) (S.faults store.new)) ((s : S) → LeavesSomething g (S.image s)) ran.new.log result) }
+        (Rose (F.faults files.old) (F.faults files.new)) (Rose (S.faults store.old) (S.faults store.new)) ran.new.log result) }
 
     // What is heard of it, whatever logs and disks tell; and why it gives up. A fault that names a node is of one that stopped eight
     // times, or couldn't be reopened.
@@ -145,7 +144,7 @@ where
     requires queries { (length logs.queries_a.items ≡ config.now.joiners) × (length logs.queries_b.items ≡ config.now.joiners) }
     requires none { ran.old.log ≡ None }
     ensures over { IsTrue S.Disk.tells → IsTrue F.Log.tells → (g : Setting) → Checked g → IsSettingOver F.Log.bytes logs.clicks.items logs.queries_a.items logs.queries_b.items config.now end g → RunsOver g (S.image store.old) (S.image store.new)
-        (Rose (F.faults files.old) (F.faults files.new)) (Rose (S.faults store.old) (S.faults store.new)) (LeavesSomething g (S.image store.old)) ran.new.log result }
+        (Rose (F.faults files.old) (F.faults files.new)) (Rose (S.faults store.old) (S.faults store.new)) ran.new.log result }
     ensures heard { IfSome ran.new.log (IsHeardOf plan config.now.joiners) }
     ensures cause { IfErr result (IsCounted (Rose (F.faults files.old) (F.faults files.new)) (Rose (S.faults store.old) (S.faults store.new))) }
     ensures stopped { IfErr result (NamesEnded ran.new.log) }

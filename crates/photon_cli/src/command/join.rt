@@ -1,7 +1,6 @@
 // The command `join`, with its exit status.
 ghost use Rattle.std.specs.Prelude.{◌≡◌};
 ghost use Rattle.outside.specs.Faults.{Rose};
-ghost use Rattle.site_store.specs.Causes.{LeavesSomething};
 ghost use Rattle.command_words.specs.Words.{AreInRanges, values_in};
 ghost use Rattle.photon_cli.specs.Ends.{JoinEnds};
 ghost use Rattle.photon_cli.specs.Status.{IsAnswered};
@@ -39,7 +38,7 @@ where
     requires ranges { AreInRanges (values_in wanted.now).nodes }
     ensures ends { JoinEnds F.Log.tells K.tells (F.bytes files.old) (Rose (F.faults files.old) (F.faults files.new)) (Rose (K.faults out.old) (K.faults out.new)) (Rose (K.faults err.old) (K.faults err.new))
         (K.held out.old) (K.held out.new) (K.held err.old) (K.held err.new) result (values_in wanted.now) ran.new.log (store.new ≡ store.old) (ran.new ≡ ran.old)
-        S.Disk.tells (S.image store.old) (S.image store.new) (Rose (S.faults store.old) (S.faults store.new)) (λ g. (s : S) → LeavesSomething g (S.image s)) }
+        S.Disk.tells (S.image store.old) (S.image store.new) (Rose (S.faults store.old) (S.faults store.new)) }
     ensures answered { IsAnswered K.tells (F.faults files.old) (F.faults files.new) (K.faults out.old) (K.faults out.new) (K.held out.old) (K.held out.new) result }
 {
     match join_logs(rt, alloc, wanted, state, files, store, out, gate, ran) {

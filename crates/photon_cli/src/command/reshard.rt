@@ -1,7 +1,6 @@
 // The command `reshard`, with its exit status.
 ghost use Rattle.std.specs.Prelude.{◌≡◌};
 ghost use Rattle.outside.specs.Faults.{Rose};
-ghost use Rattle.site_store.specs.Causes.{LeavesSomething};
 ghost use Rattle.photon_cli.specs.Reshard.{ReshardEnds};
 ghost use Rattle.photon_cli.specs.Status.{IsAnswered};
 
@@ -25,7 +24,7 @@ pub fn reshard_command<S: Store, K: Sink>(
     err: &mut K,
 ) -> u8
     ensures ends { ReshardEnds K.tells (Rose (K.faults out.old) (K.faults out.new)) (Rose (K.faults err.old) (K.faults err.new)) (K.held out.old) (K.held out.new) (K.held err.old) (K.held err.new) result add.now (store.new ≡ store.old)
-        S.Disk.tells (S.image store.old) (S.image store.new) (Rose (S.faults store.old) (S.faults store.new)) (λ g. (s : S) → LeavesSomething g (S.image s)) }
+        S.Disk.tells (S.image store.old) (S.image store.new) (Rose (S.faults store.old) (S.faults store.new)) }
     ensures answered { IsAnswered K.tells 0 0 (K.faults out.old) (K.faults out.new) (K.held out.old) (K.held out.new) result }
 {
     read();

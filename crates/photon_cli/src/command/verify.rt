@@ -1,7 +1,6 @@
 // The command `verify`, with its exit status.
 ghost use Rattle.std.specs.Prelude.{◌≡◌};
 ghost use Rattle.outside.specs.Faults.{Rose};
-ghost use Rattle.site_store.specs.Causes.{LeavesSomething};
 ghost use Rattle.photon_cli.specs.Ends.{VerifyEnds};
 ghost use Rattle.photon_cli.specs.Status.{IsAnswered};
 
@@ -22,7 +21,7 @@ pub fn verify_command<F: Source, S: Store, K: Sink>(
 ) -> u8
     ensures ends { VerifyEnds F.Log.tells K.tells (F.bytes files.old) (Rose (F.faults files.old) (F.faults files.new)) (Rose (K.faults out.old) (K.faults out.new)) (Rose (K.faults err.old) (K.faults err.new))
         (K.held out.old) (K.held out.new) (K.held err.old) (K.held err.new) result clicks.now (store.new ≡ store.old)
-        S.Disk.tells (S.image store.old) (S.image store.new) (Rose (S.faults store.old) (S.faults store.new)) (λ g. (s : S) → LeavesSomething g (S.image s)) }
+        S.Disk.tells (S.image store.old) (S.image store.new) (Rose (S.faults store.old) (S.faults store.new)) }
     ensures answered { IsAnswered K.tells (F.faults files.old) (F.faults files.new) (K.faults out.old) (K.faults out.new) (K.held out.old) (K.held out.new) result }
 {
     match verify_store(alloc, files, store, clicks, state, out) {

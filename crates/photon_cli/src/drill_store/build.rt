@@ -1,7 +1,8 @@
 // The store of a plan.
-ghost use Rattle.std.specs.Prelude.{◌≡◌, ◌≤◌, ◌++◌, ◌∷◌, [], ℕ, List, ◌&&◌, Some, IfOk, OnOk, if◌then◌else◌};
+ghost use Rattle.std.specs.Prelude.{◌≡◌, ◌≤◌, ◌++◌, ◌∷◌, [], ℕ, ◌&&◌, Some, IfOk, OnOk, if◌then◌else◌};
 ghost use Rattle.time_shards.specs.declared.TheConstants.{MOST_JOINERS};
 ghost use Rattle.outside.specs.declared.store.DiskName.{DiskName};
+ghost use Rattle.outside.specs.Disk.{Only};
 ghost use Rattle.mem_outside.specs.Kept.{fuses_for};
 ghost use Rattle.mem_outside.specs.Plan.{is_planned};
 ghost use Rattle.photon_cli.specs.Planned.{named_by, place_of, is_at, is_for, fuse_of, planned_for};
@@ -25,7 +26,7 @@ pub fn store_for(alloc: Global, plan: &Plan, joiners: u8) -> Result<MemStore, Al
     ensures kept { IfOk result (λ store. store.kept.items ≡ []) }
     ensures faults { IfOk result (λ store. store.faults ≡ 0) }
     ensures stops { IfOk result (λ store. (name : DiskName) → fuses_for store.stops.items name ≡ planned_for joiners plan.now.stops name) }
-    ensures images { IfOk result (λ store. (name : DiskName) (c : List ℕ) → ⟦<MemStore as Store>⟧.image store name c → c ≡ []) }
+    ensures images { IfOk result (λ store. (name : DiskName) → Only [] (⟦<MemStore as Store>⟧.image store name) × ⟦<MemStore as Store>⟧.image store name []) }
     ensures calls { IfOk result (λ store. (name : DiskName) (call : ℕ) → ⟦<MemStore as Store>⟧.stops store name call ≡ is_planned (planned_for joiners plan.now.stops name) call) }
     ensures made { IfOk result (λ store. (name : DiskName) → ⟦<MemStore as Store>⟧.made store name ≡ 0) }
 {

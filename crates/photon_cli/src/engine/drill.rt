@@ -4,6 +4,7 @@ ghost use Rattle.time_shards.specs.declared.TheConstants.{MOST_JOINERS};
 ghost use Rattle.registry_state.specs.declared.TheConstants.{MOST_INSERTS};
 ghost use Rattle.std.specs.List.{list_any};
 ghost use Rattle.outside.specs.declared.store.DiskName.{DiskName};
+ghost use Rattle.outside.specs.Disk.{Only};
 ghost use Rattle.outside.specs.Faults.{Counts};
 ghost use Rattle.mem_outside.specs.Plan.{is_planned};
 ghost use Rattle.command_words.specs.Words.{AreInRanges, values_in};
@@ -82,7 +83,7 @@ where
     F: Source,
     G: Gate,
     F::Log: Drop,
-    requires empty { (disk : DiskName) (c : List ℕ) → ⟦<MemStore as Store>⟧.image store.old disk c → c ≡ [] }
+    requires empty { (disk : DiskName) → Only [] (⟦<MemStore as Store>⟧.image store.old disk) × ⟦<MemStore as Store>⟧.image store.old disk [] }
     requires planned { (disk : DiskName) (call : ℕ) → ⟦<MemStore as Store>⟧.stops store.old disk call ≡ is_planned (planned_for config.now.joiners plan.stops disk) call }
     requires joiners { (0 < config.now.joiners) × (config.now.joiners ≤ MOST_JOINERS) }
     requires table { IsTable config.now.table }

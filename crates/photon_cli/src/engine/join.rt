@@ -5,7 +5,6 @@ ghost use Rattle.log_records.specs.declared.why.Why.{Why as Reason};
 ghost use Rattle.run_fault.specs.declared.fault.LogName.{LogName as LogKind};
 ghost use Rattle.run_fault.specs.declared.fault.StorePlace.{StorePlace};
 ghost use Rattle.turn_defs.specs.Setting.{Setting};
-ghost use Rattle.site_store.specs.Causes.{LeavesSomething};
 ghost use Rattle.run_fault.specs.declared.fault.RunFault.TheVariants as fault;
 ghost use Rattle.site_run.specs.Over.{EndsOver};
 ghost use Rattle.photon_cli.specs.LogFaults.{IsEarly, IsFailedRead, IsOfLogs, IsPast};
@@ -74,7 +73,7 @@ where
 
     // How it ends over the store, for whatever setting the values ask for.
     ensures ends { IsTrue S.Disk.tells → IsTrue F.Log.tells → (g : Setting) → IsAsked (F.bytes files.old) (values_in wanted.now) g → EndsOver g (S.image store.old) (S.image store.new)
-        (Rose (F.faults files.old) (F.faults files.new)) (Rose (S.faults store.old) (S.faults store.new)) ((s : S) → LeavesSomething g (S.image s)) ran.new.log result }
+        (Rose (F.faults files.old) (F.faults files.new)) (Rose (S.faults store.old) (S.faults store.new)) ran.new.log result }
 {
     let table = match table_in(wanted.nodes.shards) {
         Ok(table) => table,

@@ -6,7 +6,6 @@ ghost use Rattle.outside.specs.Faults.{Rose};
 ghost use Rattle.time_shards.specs.Shards.{IsTable};
 ghost use Rattle.site_laws.specs.Stores.{IsSoundStore};
 ghost use Rattle.site_laws.specs.StoreLaws.{LeavesNothing};
-ghost use Rattle.site_store.specs.Causes.{LeavesSomething};
 ghost use Rattle.site_run.specs.Asked.{OfSetting};
 ghost use Rattle.site_run.specs.Joined.{Joins, JoinsAfresh, RanAfresh};
 ghost use Rattle.site_run.specs.Heard.{IsHeardOf};
@@ -52,7 +51,7 @@ where
     requires replicas { config.now.replicas ≡ 3 }
     requires batch { config.now.batch ≤ MOST_INSERTS }
     ensures ends { IsTrue S.Disk.tells → IsTrue F.Log.tells → OfSetting (F.bytes files.old) names.now.queries.now names.now.clicks.now config.now clicks.now.lines_end (λ g. EndsOver g (S.image store.old) (S.image store.new)
-        (Rose (F.faults files.old) (F.faults files.new)) (Rose (S.faults store.old) (S.faults store.new)) ((s : S) → LeavesSomething g (S.image s)) ran.new.log result) }
+        (Rose (F.faults files.old) (F.faults files.new)) (Rose (S.faults store.old) (S.faults store.new)) ran.new.log result) }
 
     // The lines are the report of what the disks keep at the end, and from an empty store that of the two logs.
     ensures joined { IsTrue S.Disk.tells → IsTrue F.Log.tells → OfSetting (F.bytes files.old) names.now.queries.now names.now.clicks.now config.now clicks.now.lines_end (λ g. HaveIds g clicks.now.ids.items → IsSoundStore g (S.image store.old)

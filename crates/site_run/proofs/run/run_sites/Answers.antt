@@ -1,5 +1,5 @@
-use Rattle.std.proofs.Common.{◌∙◌, ap, Err, ℕ, List, sym, subst}
-use Rattle.site_run.proofs.Words.{DiskName, IsCounted, IsWelcome, IsCauseOf, LeavesSomething, Rose}
+use Rattle.std.proofs.Common.{◌∙◌, ap, Err, sym, subst}
+use Rattle.site_run.proofs.Words.{IsCounted, IsWelcome, IsCauseOf, Rose}
 use Rattle.site_run.proofs.Refusing.{place_cause, place_unnamed}
 use Rattle.site_run.proofs.Counting.{rose_before}
 use Rattle.site_run.proofs.Entered.{over_so, checked_so, place_counted, place_welcome}
@@ -21,7 +21,6 @@ returns-clause-over g c tells log_tells gg is =
     let before = g.S.Store.image c.args.store.now in
     let placed = g.S.Store.image c.place.new.self in
     let after = g.S.Store.image c.run_over.new.store in
-    let within : (disk : DiskName) (b : List ℕ) → placed disk b → before disk b = λ disk b here. c.place.ensures.same tells disk b here in
     let over = over_so g.F.Log.LogFile.bytes told queries clicks c.args.config.now c.args.end gg logs.clicks.items logs.queries_a.items logs.queries_b.items
     (c.in-Ok-open_logs.ensures.click_logs log_tells) (c.in-Ok-open_logs.ensures.logs_a log_tells) (c.in-Ok-open_logs.ensures.logs_b log_tells) is in
     let checked = checked_so c.stores.ensures.checked gg (told queries) (told clicks) is.queries_are is.clicks_are in
@@ -29,11 +28,10 @@ returns-clause-over g c tells log_tells gg is =
     let last_files = g.F.Source.faults c.run_over.new.files in
     let mid_store = g.S.Store.faults c.place.new.self in
     let last_store = g.S.Store.faults c.run_over.new.store in
-    let some : Type 0 = (s : g.row.S.Denot) → LeavesSomething gg (g.S.Store.image s) in
-    ran_earlier gg before placed after within (Rose mid_files last_files) (Rose (g.F.Source.faults c.args.files.now) last_files) (Rose mid_store last_store) (Rose (g.S.Store.faults c.args.store.now) last_store) (LeavesSomething gg placed) some c.run_over.new.ran.log c.run_over.result
+    ran_earlier gg before placed (c.place.ensures.same tells) after (Rose mid_files last_files) (Rose (g.F.Source.faults c.args.files.now) last_files) (Rose mid_store last_store) (Rose (g.S.Store.faults c.args.store.now) last_store) c.run_over.new.ran.log c.run_over.result
     (λ rose. rose_before (g.F.Source.faults c.args.files.now) mid_files last_files c.open_logs.ensures.faults rose)
     (λ rose. rose_before (g.S.Store.faults c.args.store.now) mid_store last_store c.place.ensures.count.later rose)
-    (λ some. some c.place.new.self) (c.run_over.ensures.over tells log_tells gg checked over)
+    (c.run_over.ensures.over tells log_tells gg checked over)
 
 pub returns-in-Err-place-clause-over : goal.returns-in-Err-place-clause-over
 returns-in-Err-place-clause-over g c tells log_tells gg is =
@@ -42,9 +40,8 @@ returns-in-Err-place-clause-over g c tells log_tells gg is =
     let logs_rose = Rose (g.F.Source.faults c.args.files.now) (g.F.Source.faults c.shut_logs.new.files) in
     let disks_rose = Rose (g.S.Store.faults c.args.store.now) (g.S.Store.faults c.place.new.self) in
     let cause = place_cause gg before logs_rose disks_rose f (λ is. c.in-Err-place.ensures.count.rose (ap Err is)) in
-    let some : Type 0 = (s : g.row.S.Denot) → LeavesSomething gg (g.S.Store.image s) in
-    not_begun gg before (g.S.Store.image c.place.new.self) (λ disk b here. c.place.ensures.same tells disk b here) logs_rose disks_rose some c.from.result
-    (subst (IsCauseOf gg before logs_rose disks_rose) (sym c.from.ensures) cause) (subst (IsWelcome some) (sym c.from.ensures) (place_welcome f some))
+    not_begun gg before (g.S.Store.image c.place.new.self) (c.place.ensures.same tells) logs_rose disks_rose c.from.result
+    (subst (IsCauseOf gg before logs_rose disks_rose) (sym c.from.ensures) cause) (subst (IsWelcome _) (sym c.from.ensures) (place_welcome f _))
 
 pub returns-in-Err-place-clause-same : goal.returns-in-Err-place-clause-same
 returns-in-Err-place-clause-same g c log_tells n = c.shut_logs.ensures.same log_tells n ∙ c.open_logs.ensures.same log_tells n

@@ -18,7 +18,7 @@ returns-in_default-clause-ends g c =
     let tells = g.S.Disk.Disk.tells in
     let none : HasRow text → ⊥ = λ (row, is). c.in_default.not-Some row (c.read-2.ensures.only row is.0 (c.as_bytes.ensures.value ∙ is.1)) in
     rw c.give_up.ensures.status
-    (ends g.K.Sink.tells tells _ _ _ _ _ _ text _ before before _ _ (fault.Table 0) (refl, none) (λ d row is. absurd (none (row, is))) (λ has. (refl, inl refl)) (λ at is. absurd (cc)) (λ is. absurd (cc)) (λ s d is. absurd (cc))
+    (ends g.K.Sink.tells tells _ _ _ _ _ _ text _ before before _ (fault.Table 0) (refl, none) (λ d row is. absurd (none (row, is))) (λ has. (refl, inl refl)) (λ at is. absurd (cc)) (λ is. absurd (cc)) (λ s d is. absurd (cc))
     c.give_up.ensures.told (λ d s replicas few sound some seven. omega (arith, seven)) (λ d. untaken text before before 2 (not_added (fault.Table 0) (λ is. cc)) (λ disk b now. now)))
 
 pub returns-in-Err-clause-ends : goal.returns-in-Err-clause-ends
@@ -27,8 +27,8 @@ returns-in-Err-clause-ends g c =
     let image = g.S.Store.image in
     let is : IsRowOf text c.in-Some.row = (c.in-Some.ensures.found.0, sym c.as_bytes.ensures.value ∙ c.in-Some.ensures.found.1) in
     rw c.give_up-in-Err.ensures.status
-    (ends_place g.K.Sink.tells g.S.Disk.Disk.tells _ _ _ _ _ _ text _ (image c.args.store.now) (image c.place.new.self) _ _ c.in-Some.row is c.in-Err.fault c.from.result c.from.ensures (λ e. c.in-Err.ensures.count.rose (ap Err e))
-    (λ d disk b now. c.in-Err.ensures.same d disk b now) c.give_up-in-Err.ensures.told)
+    (ends_place g.K.Sink.tells g.S.Disk.Disk.tells _ _ _ _ _ _ text _ (image c.args.store.now) (image c.place.new.self) _ c.in-Some.row is c.in-Err.fault c.from.result c.from.ensures (λ e. c.in-Err.ensures.count.rose (ap Err e))
+    (λ d disk. (c.in-Err.ensures.same d disk).0) c.give_up-in-Err.ensures.told)
 
 pub returns-in-Err-add_row-clause-ends : goal.returns-in-Err-add_row-clause-ends
 returns-in-Err-add_row-clause-ends g c =
@@ -43,16 +43,16 @@ returns-in-Err-add_row-clause-ends g c =
     let mid = g.S.Store.faults c.place.new.self in
     let last = g.S.Store.faults c.add_row.new.store in
     let is : IsRowOf text row = (c.in-Some.ensures.found.0, sym c.as_bytes.ensures.value ∙ c.in-Some.ensures.found.1) in
-    let within : IsTrue tells → (disk : DiskName) (b : List ℕ) → placed disk b → before disk b = λ d disk b now. c.place.ensures.same d disk b now in
+    let within : IsTrue tells → (disk : DiskName) (b : List ℕ) → placed disk b → before disk b = λ d disk. (c.place.ensures.same d disk).0 in
     let e = c.in-Err-add_row.ensures in
     let f = c.in-Err-add_row.fault in
     let rises : Rose mid last → Rose old last = λ rose. rose_before old mid last c.place.ensures.count.later rose in
     let cause : IsTrue tells → IsCauseFor before (Rose old last) row f = λ d. cause_before placed before (within d) tells d row (Rose mid last) (Rose old last) rises f e.cause in
     let other : f ≢ fault.Write = not_written tells placed row (Rose mid last) f e.cause in
     rw c.give_up-in-Err-add_row.ensures.status
-    (ends g.K.Sink.tells tells _ _ _ _ _ _ text _ before after _ _ f (named_row tells placed row (Rose mid last) text f (row, is) e.cause) (λ d r own. subst (λ (x : ShardRow). IsCauseFor before (Rose old last) x f) (one_row text row r is own) (cause d))
+    (ends g.K.Sink.tells tells _ _ _ _ _ _ text _ before after _ f (named_row tells placed row (Rose mid last) text f (row, is) e.cause) (λ d r own. subst (λ (x : ShardRow). IsCauseFor before (Rose old last) x f) (one_row text row r is own) (cause d))
     (λ none. absurd (none (row, is))) (λ at failed. rises (failed_rose tells placed None NoneTold (Rose mid last) at (subst (IsRowCause tells placed row (Rose mid last)) failed e.cause))) (λ write. absurd (other write)) (λ s d write. absurd (other write))
-    c.give_up-in-Err-add_row.ensures.told (λ d s replicas few sound some. fair_row before (Rose old last) row c.read.ensures.topology c.fits.ensures.only s replicas few sound (some c.args.store.now) f (cause d))
+    c.give_up-in-Err-add_row.ensures.told (λ d s replicas few sound some. fair_row before (Rose old last) row c.read.ensures.topology c.fits.ensures.only s replicas few sound some f (cause d))
     (λ d. left_before tells d text row is placed before after (within d) ⊥ (f ≢ fault.Store (place.Disk name.Topology)) (status_of f) (not_added f other) (λ no at. no.2 (ap status_of at)) (e.leaves d)))
 
 pub returns-in-Ok-write_table-clause-ends : goal.returns-in-Ok-write_table-clause-ends
@@ -65,12 +65,12 @@ returns-in-Ok-write_table-clause-ends g c =
     let placed = image c.place.new.self in
     let after = image c.add_row.new.store in
     let is : IsRowOf text row = (c.in-Some.ensures.found.0, sym c.as_bytes.ensures.value ∙ c.in-Some.ensures.found.1) in
-    let within : IsTrue tells → (disk : DiskName) (b : List ℕ) → placed disk b → before disk b = λ d disk b now. c.place.ensures.same d disk b now in
+    let within : IsTrue tells → (disk : DiskName) (b : List ℕ) → placed disk b → before disk b = λ d disk. (c.place.ensures.same d disk).0 in
     let e = c.in-Ok.ensures in
     let table = c.in-Ok.table in
     let added = λ (d : IsTrue tells). added_before placed before (within d) tells d row after table e.added in
     let left = λ (d : IsTrue tells). left_before tells d text row is placed before after (within d) ⊤ ⊥ 0 (λ so. tt) (λ no. no.0 refl) (e.leaves d) in
-    ends_added text tells before after row is table added g.K.Sink.tells _ _ _ _ _ _ _ _ (λ s. c.in-Ok-write_table.ensures.all s) left
+    ends_added text tells before after row is table added g.K.Sink.tells _ _ _ _ _ _ _ (λ s. c.in-Ok-write_table.ensures.all s) left
 
 pub returns-in-Err-write_table-clause-ends : goal.returns-in-Err-write_table-clause-ends
 returns-in-Err-write_table-clause-ends g c =
@@ -82,7 +82,7 @@ returns-in-Err-write_table-clause-ends g c =
     let placed = image c.place.new.self in
     let after = image c.add_row.new.store in
     let is : IsRowOf text row = (c.in-Some.ensures.found.0, sym c.as_bytes.ensures.value ∙ c.in-Some.ensures.found.1) in
-    let within : IsTrue tells → (disk : DiskName) (b : List ℕ) → placed disk b → before disk b = λ d disk b now. c.place.ensures.same d disk b now in
+    let within : IsTrue tells → (disk : DiskName) (b : List ℕ) → placed disk b → before disk b = λ d disk. (c.place.ensures.same d disk).0 in
     let e = c.in-Ok.ensures in
     let table = c.in-Ok.table in
     let added = λ (d : IsTrue tells). added_before placed before (within d) tells d row after table e.added in
@@ -90,7 +90,7 @@ returns-in-Err-write_table-clause-ends g c =
     let old = g.K.Sink.held c.args.out.now in
     let new = g.K.Sink.held c.write_table.new.out in
     rw c.give_up-in-Err-write_table.ensures.status
-    (ends g.K.Sink.tells tells _ _ old new _ _ text _ before after _ _ fault.Write (row, is) (answer_for text tells before after row is table added) (λ none. absurd (none (row, is))) (λ at x. absurd (cc)) (λ x. c.in-Err-write_table.ensures.count.rose refl)
+    (ends g.K.Sink.tells tells _ _ old new _ _ text _ before after _ fault.Write (row, is) (answer_for text tells before after row is table added) (λ none. absurd (none (row, is))) (λ at x. absurd (cc)) (λ x. c.in-Err-write_table.ensures.count.rose refl)
     (λ s d x. adds text tells before after row is table added (λ (line : List ℕ). TookPrefix old line new) (c.in-Err-write_table.ensures.prefix s) d) c.give_up-in-Err-write_table.ensures.told (λ d s replicas few whole some seven. omega (arith, seven))
     left)
 

@@ -97,7 +97,7 @@ returns-clause-prefix g c logs sinks disks e =
     (s, asked, λ was. (c.in-Ok-run_lines.lines.items, c.in-Ok-run_lines.ensures.joined disks logs s setting (placed_ids c.in-Ok-checked_logs.clicks.ids.items x.1 x.3) was, took))
 
 pub returns-in-Err-clause-ends : goal.returns-in-Err-clause-ends
-returns-in-Err-clause-ends g c disks logs s asked = before_table s _ _ _ _ _ c.args.wanted.now.nodes.shards.now c.in-Err.bad c.in-Err.ensures.bad
+returns-in-Err-clause-ends g c disks logs s asked = before_table s _ _ _ _ c.args.wanted.now.nodes.shards.now c.in-Err.bad c.in-Err.ensures.bad
 
 pub returns-in-Err-checked_logs-clause-ends : goal.returns-in-Err-checked_logs-clause-ends
 returns-in-Err-checked_logs-clause-ends g c disks logs s asked =
@@ -106,7 +106,7 @@ returns-in-Err-checked_logs-clause-ends g c disks logs s asked =
     let before = g.S.Store.image c.args.store.now in
     let faulted = Rose (g.S.Store.faults c.args.store.now) (g.S.Store.faults c.args.store.now) in
     let read = Rose (g.F.Source.faults c.args.files.now) (g.F.Source.faults c.checked_logs.new.files) in
-    before_all s before read faulted _ _ f (log_caused before (Some (asked_of s)) (TellsPlaces s) faulted faulted read f e.fault.0 e.fault.1 (λ is. e.count.rose (e.fault.0, ap Err is)))
+    before_all s before read faulted _ f (log_caused before (Some (asked_of s)) (TellsPlaces s) faulted faulted read f e.fault.0 e.fault.1 (λ is. e.count.rose (e.fault.0, ap Err is)))
     (welcome_where f ⊤ _ (λ x. tt) (log_fair f e.fault.0 e.fault.1))
 
 pub returns-in-Err-run_lines-clause-ends : goal.returns-in-Err-run_lines-clause-ends
@@ -115,7 +115,7 @@ returns-in-Err-run_lines-clause-ends g c disks logs s asked =
     let first = g.F.Source.faults c.args.files.now in
     let mid = g.F.Source.faults c.checked_logs.new.files in
     let last = g.F.Source.faults c.run_lines.new.files in
-    on_fault s _ _ _ _ _ _ _ (read_later s _ _ _ _ _ (Rose mid last) (λ rose. rose_before first mid last c.checked_logs.ensures.count.later rose) _ _ (c.in-Err-run_lines.ensures.ends disks logs s setting))
+    on_fault s _ _ _ _ _ _ (read_later s _ _ _ _ (Rose mid last) (λ rose. rose_before first mid last c.checked_logs.ensures.count.later rose) _ _ (c.in-Err-run_lines.ensures.ends disks logs s setting))
 
 pub returns-in-Ok-write_report-clause-ends : goal.returns-in-Ok-write_report-clause-ends
 returns-in-Ok-write_report-clause-ends g c disks logs s asked =
@@ -123,7 +123,7 @@ returns-in-Ok-write_report-clause-ends g c disks logs s asked =
     let first = g.F.Source.faults c.args.files.now in
     let mid = g.F.Source.faults c.checked_logs.new.files in
     let last = g.F.Source.faults c.run_lines.new.files in
-    on_ok s _ _ _ _ _ _ _ (read_later s _ _ _ _ _ (Rose mid last) (λ rose. rose_before first mid last c.checked_logs.ensures.count.later rose) _ _ (c.in-Ok-run_lines.ensures.ends disks logs s setting)) _
+    on_ok s _ _ _ _ _ _ (read_later s _ _ _ _ (Rose mid last) (λ rose. rose_before first mid last c.checked_logs.ensures.count.later rose) _ _ (c.in-Ok-run_lines.ensures.ends disks logs s setting)) _
 
 pub returns-clause-ends : goal.returns-clause-ends
 returns-clause-ends g c disks logs s asked =
@@ -132,4 +132,4 @@ returns-clause-ends g c disks logs s asked =
     let mid = g.F.Source.faults c.checked_logs.new.files in
     let last = g.F.Source.faults c.run_lines.new.files in
     let ran = c.in-Ok-run_lines.ensures.ends disks logs s setting in
-    on_err s _ _ _ _ _ _ _ (read_later s _ _ _ _ _ (Rose mid last) (λ rose. rose_before first mid last c.checked_logs.ensures.count.later rose) _ _ ran) _ (tt, ran.passed) tt
+    on_err s _ _ _ _ _ _ (read_later s _ _ _ _ (Rose mid last) (λ rose. rose_before first mid last c.checked_logs.ensures.count.later rose) _ _ ran) _ (tt, ran.passed) tt

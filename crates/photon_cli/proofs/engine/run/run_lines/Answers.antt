@@ -37,10 +37,10 @@ returns-in-Ok-classify-clause-ran g c disks logs s setting own nothing =
     (c.in-Ok.ensures.over disks logs s setting).rest
 
 pub returns-in-Err-clause-ends : goal.returns-in-Err-clause-ends
-returns-in-Err-clause-ends g c disks logs s setting = on_fault s _ _ _ _ _ _ _ (c.in-Err.ensures.over disks logs s setting).ends
+returns-in-Err-clause-ends g c disks logs s setting = on_fault s _ _ _ _ _ _ (c.in-Err.ensures.over disks logs s setting).ends
 
 pub returns-in-Ok-classify-clause-ends : goal.returns-in-Ok-classify-clause-ends
-returns-in-Ok-classify-clause-ends g c disks logs s setting = on_ok s _ _ _ _ _ _ _ (c.in-Ok.ensures.over disks logs s setting).ends _
+returns-in-Ok-classify-clause-ends g c disks logs s setting = on_ok s _ _ _ _ _ _ (c.in-Ok.ensures.over disks logs s setting).ends _
 
 pub returns-in-Err-classify-clause-ends : goal.returns-in-Err-classify-clause-ends
-returns-in-Err-classify-clause-ends g c disks logs s setting = on_err s _ _ _ _ _ _ _ (c.in-Ok.ensures.over disks logs s setting).ends _ tt tt
+returns-in-Err-classify-clause-ends g c disks logs s setting = on_err s _ _ _ _ _ _ (c.in-Ok.ensures.over disks logs s setting).ends _ tt tt

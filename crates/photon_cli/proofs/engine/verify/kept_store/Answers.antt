@@ -1,33 +1,33 @@
 use Rattle.std.proofs.Common.{◌≡◌, inr, List, ℕ, None, Err, sym, ap, subst, arith}
 use Rattle.std.specs.Prelude.{⊤}
-use Rattle.photon_cli.proofs.Words.{Rose, DiskName, Clicks, rose_before, IsWelcome, AreTold, IsCause, failed_rose, TellsPlaces, welcome_where, HasCauseInVerify, IsReadFrom}
+use Rattle.photon_cli.proofs.Words.{Rose, DiskName, Clicks, rose_before, IsWelcome, AreTold, IsCause, failed_rose, TellsPlaces, leaves_placed, place_welcome, sound_placed, welcome_where, HasCauseInVerify, IsReadFrom}
 use Rattle.run_fault.specs.declared.fault.RunFault.TheVariants as fault
 use Rattle.photon_cli.proofs.Causing.{log_caused}
-use Rattle.photon_cli.proofs.Reading.{log_over, place_fair, place_stops, read_rose, read_so, refused_so, rose_shut}
+use Rattle.photon_cli.proofs.Reading.{log_over, place_stops, read_rose, read_so, refused_so, rose_shut}
 use Rattle.photon_cli.proofs.Refusals.{within}
 use Rattle.photon_cli.proofs.Statuses.{log_fair}
-use Rattle.photon_cli.proofs.Verifying.{read_before, sound_before}
+use Rattle.photon_cli.proofs.Verifying.{read_before}
 use Rattle.photon_cli.proofs.engine.verify.kept_store.Goals as goal
 
 pub returns-in-Ok-read-clause-read : goal.returns-in-Ok-read-clause-read
 returns-in-Ok-read-clause-read g c here log_here =
     let before = g.S.Store.image c.args.store.now in
     let placed = g.S.Store.image c.place.new.self in
-    let inside : (disk : DiskName) (b : List ℕ) → placed disk b → before disk b = λ disk b now. c.place.ensures.same here disk b now in
+    let inside : (disk : DiskName) (b : List ℕ) → placed disk b → before disk b = λ disk. (c.place.ensures.same here disk).0 in
     let kept = c.in-Ok-read.kept in
     let bytes = g.F.Log.LogFile.bytes c.in-Ok.log in
     let read : IsReadFrom before bytes kept = read_before before placed inside g.S.Disk.Disk.tells g.F.Log.LogFile.tells bytes c.args.end kept here c.in-Ok-read.ensures.kept (c.in-Ok-read.ensures.report here) in
     within (g.F.Source.bytes c.args.files.now c.args.clicks.now) (λ b. bytes ≡ b) (λ b. IsReadFrom before b kept) (λ b same. subst (λ (t : List ℕ). IsReadFrom before t kept) same read) (c.in-Ok.ensures.bytes log_here)
 
 pub returns-in-Ok-read-clause-stays : goal.returns-in-Ok-read-clause-stays
-returns-in-Ok-read-clause-stays g c here disk b now = let x = c.read_store-read.ensures.stays here disk b now in (x.0, c.place.ensures.same here disk x.0 x.1, x.2)
+returns-in-Ok-read-clause-stays g c here disk b now = let x = c.read_store-read.ensures.stays here disk b now in (x.0, (c.place.ensures.same here disk).0 x.0 x.1, x.2)
 
 pub returns-in-Err-read-clause-stays : goal.returns-in-Err-read-clause-stays
-returns-in-Err-read-clause-stays g c here disk b now = let x = c.read_store-read.ensures.stays here disk b now in (x.0, c.place.ensures.same here disk x.0 x.1, x.2)
+returns-in-Err-read-clause-stays g c here disk b now = let x = c.read_store-read.ensures.stays here disk b now in (x.0, (c.place.ensures.same here disk).0 x.0 x.1, x.2)
 
 pub returns-in-Err-read-clause-sound : goal.returns-in-Err-read-clause-sound
 returns-in-Err-read-clause-sound g c here s sound =
-    c.read_store-read.ensures.sound here s (sound_before (g.S.Store.image c.args.store.now) (g.S.Store.image c.place.new.self) (λ disk b now. c.place.ensures.same here disk b now) s sound)
+    c.read_store-read.ensures.sound here s (sound_placed s (g.S.Store.image c.args.store.now) (g.S.Store.image c.place.new.self) (λ disk. (c.place.ensures.same here disk).0) sound)
 
 pub returns-in-Err-clause-caused : goal.returns-in-Err-clause-caused
 returns-in-Err-clause-caused g c disks logs s over end =
@@ -44,13 +44,13 @@ returns-in-Err-place-clause-caused g c disks logs s over end =
     (place_stops s (g.S.Store.image c.args.store.now) _ _ c.in-Err-place.fault (λ is. c.in-Err-place.ensures.count.rose (ap Err is)))
 
 pub returns-in-Err-place-clause-welcome : goal.returns-in-Err-place-clause-welcome
-returns-in-Err-place-clause-welcome g c disks logs s over end replicas few leaves sound = subst (IsWelcome ⊤) (sym c.from.ensures) (place_fair c.in-Err-place.fault)
+returns-in-Err-place-clause-welcome g c disks logs s over end replicas few leaves sound = subst (IsWelcome ⊤) (sym c.from.ensures) (place_welcome c.in-Err-place.fault ⊤)
 
 pub returns-in-Err-read-clause-caused : goal.returns-in-Err-read-clause-caused
 returns-in-Err-read-clause-caused g c disks logs s over end =
     let before = g.S.Store.image c.args.store.now in
     let placed = g.S.Store.image c.place.new.self in
-    let inside : (disk : DiskName) (b : List ℕ) → placed disk b → before disk b = λ disk b now. c.place.ensures.same disks disk b now in
+    let inside : (disk : DiskName) (b : List ℕ) → placed disk b → before disk b = λ disk. (c.place.ensures.same disks disk).0 in
     let bytes = g.F.Log.LogFile.bytes c.in-Ok.log in
     let first = g.F.Source.faults c.args.files.now in
     let last = g.F.Source.faults c.shut-2.new.self in
@@ -70,7 +70,7 @@ pub returns-in-Ok-read-clause-passed : goal.returns-in-Ok-read-clause-passed
 returns-in-Ok-read-clause-passed g c disks logs s over end =
     let before = g.S.Store.image c.args.store.now in
     let placed = g.S.Store.image c.place.new.self in
-    let inside : (disk : DiskName) (b : List ℕ) → placed disk b → before disk b = λ disk b now. c.place.ensures.same disks disk b now in
+    let inside : (disk : DiskName) (b : List ℕ) → placed disk b → before disk b = λ disk. (c.place.ensures.same disks disk).0 in
     let bytes = g.F.Log.LogFile.bytes c.in-Ok.log in
     let log_is = log_over (g.F.Source.bytes c.args.files.now c.args.clicks.now) bytes s (c.in-Ok.ensures.bytes logs) over in
     read_so before placed inside s g.S.Disk.Disk.tells g.F.Log.LogFile.tells disks logs bytes c.args.end log_is end c.in-Ok-read.kept c.in-Ok-read.ensures.kept
@@ -79,11 +79,11 @@ pub returns-in-Err-read-clause-welcome : goal.returns-in-Err-read-clause-welcome
 returns-in-Err-read-clause-welcome g c disks logs s over end replicas few leaves sound =
     let before = g.S.Store.image c.args.store.now in
     let placed = g.S.Store.image c.place.new.self in
-    let inside : (disk : DiskName) (b : List ℕ) → placed disk b → before disk b = λ disk b now. c.place.ensures.same disks disk b now in
+    let inside : (disk : DiskName) (b : List ℕ) → placed disk b → before disk b = λ disk. (c.place.ensures.same disks disk).0 in
     let bytes = g.F.Log.LogFile.bytes c.in-Ok.log in
     let log_is = log_over (g.F.Source.bytes c.args.files.now c.args.clicks.now) bytes s (c.in-Ok.ensures.bytes logs) over in
-    let some = leaves c.place.new.self in
-    welcome_where c.in-Err-read.fault _ ⊤ (λ x. some) (c.in-Err-read.ensures.welcome disks logs s log_is end replicas few some (sound_before before placed inside s sound))
+    let some = leaves_placed s before placed (c.place.ensures.same disks) leaves in
+    welcome_where c.in-Err-read.fault _ ⊤ (λ x. some) (c.in-Err-read.ensures.welcome disks logs s log_is end replicas few some (sound_placed s before placed inside sound))
 
 pub returns-in-Err-read-clause-log_count : goal.returns-in-Err-read-clause-log_count
 returns-in-Err-read-clause-log_count g c =
