@@ -5,7 +5,7 @@ ghost use Rattle.registry_state.specs.declared.TheConstants.{MOST_INSERTS};
 ghost use Rattle.std.specs.List.{list_any};
 ghost use Rattle.outside.specs.declared.store.DiskName.{DiskName};
 ghost use Rattle.outside.specs.Disk.{Only};
-ghost use Rattle.outside.specs.Faults.{Counts};
+ghost use Rattle.outside.specs.Faults.{Counts, Rose};
 ghost use Rattle.mem_outside.specs.Plan.{is_planned};
 ghost use Rattle.command_words.specs.Words.{AreInRanges, values_in};
 ghost use Rattle.run_fault.specs.Causes.{IsWelcome};
@@ -24,6 +24,8 @@ ghost use Rattle.photon_cli.specs.Drill.{BeginsDrill, Drills, HasDrilled, IsBadI
 ghost use Rattle.photon_cli.specs.Join.{AreValid, HaveIds, Refuses};
 ghost use Rattle.photon_cli.specs.LogFaults.{IsBeforeLogs, IsEarly, IsFailedRead, IsOfLogs, IsOfPlanOrLogs, IsOfRun, IsPast, failed_read};
 ghost use Rattle.photon_cli.specs.Words.{IsTextOf};
+ghost use Rattle.photon_cli.specs.Ends.{DrillEnds};
+ghost use Rattle.photon_cli.specs.Status.{IsAnswered};
 
 use super::checked::checked_logs;
 use super::plan::plan_in_file;
@@ -31,6 +33,7 @@ use super::run::run_lines;
 use super::table::table_in;
 use crate::drill_store::{stops_a_joiner, store_for};
 use crate::log_check::CheckedLog;
+use crate::tell::give_up;
 use command_words::RunOptions;
 use log_records::ReportLine;
 use lossy_link::Plan;
@@ -161,8 +164,8 @@ where
     )
 }
 
-/// Drills with the plan of a file, and writes the report.
-pub fn drill_logs<R, F, K, G>(
+// Drills with the plan of a file, and writes the report.
+fn drill_logs<R, F, K, G>(
     rt: &R,
     alloc: Global,
     wanted: &RunOptions<'_>,
@@ -218,5 +221,34 @@ where
     match write_report(out, &lines) {
         Ok(()) => Ok(()),
         Err(_) => Err(RunFault::Write),
+    }
+}
+
+/// Drills with the plan of a file over the two logs of these names, and answers the exit status.
+pub fn drill_command<R, F, K, G>(
+    rt: &R,
+    alloc: Global,
+    wanted: &RunOptions<'_>,
+    plan: &str,
+    files: &mut F,
+    out: &mut K,
+    err: &mut K,
+    gate: &G,
+    ran: &mut Ran,
+) -> u8
+where
+    R: Threads + Wait + Sync,
+    F: Source,
+    K: Sink,
+    G: Gate,
+    F::Log: Drop,
+    requires ranges { AreInRanges (values_in wanted.now).nodes }
+    ensures ends { DrillEnds F.Log.tells K.tells (F.bytes files.old) (Rose (F.faults files.old) (F.faults files.new)) (Rose (K.faults out.old) (K.faults out.new)) (Rose (K.faults err.old) (K.faults err.new))
+        (K.held out.old) (K.held out.new) (K.held err.old) (K.held err.new) result (values_in wanted.now) plan.now ran.new.log (ran.new ≡ ran.old) }
+    ensures answered { IsAnswered K.tells (F.faults files.old) (F.faults files.new) (K.faults out.old) (K.faults out.new) (K.held out.old) (K.held out.new) result }
+{
+    match drill_logs(rt, alloc, wanted, plan, files, out, gate, ran) {
+        Ok(()) => 0,
+        Err(fault) => give_up(err, &fault),
     }
 }

@@ -10,10 +10,13 @@ ghost use Rattle.site_run.specs.Over.{EndsOver};
 ghost use Rattle.photon_cli.specs.LogFaults.{IsEarly, IsFailedRead, IsOfLogs, IsPast};
 ghost use Rattle.photon_cli.specs.Join.{BeginsJoin, HasRun, IsAsked, IsHistory, Prints, PrintsAfresh, PrintsPrefix, Refuses, no_plan};
 ghost use Rattle.command_words.specs.Words.{AreInRanges, values_in};
+ghost use Rattle.photon_cli.specs.Ends.{JoinEnds};
+ghost use Rattle.photon_cli.specs.Status.{IsAnswered};
 
 use super::checked::checked_logs;
 use super::run::run_lines;
 use super::table::table_in;
+use crate::tell::give_up;
 use command_words::RunOptions;
 use lossy_link::Plan;
 use outside::{Gate, Sink, Source, Store};
@@ -23,10 +26,8 @@ use std::alloc::Global;
 use std::sync::Wait;
 use std::thread::Threads;
 
-/// Joins the clicks under one name with the queries under another over the store of that name, and writes the report.
-///
-/// It reads both logs whole first, in pieces of 64 KiB, and keeps the distinct ids of one log at a time, and those of the clicks to the end.
-pub fn join_logs<R, F, S, K, G>(
+// Joins the clicks under one name with the queries under another over the store of that name, and writes the report.
+fn join_logs<R, F, S, K, G>(
     rt: &R,
     alloc: Global,
     wanted: &RunOptions<'_>,
@@ -105,5 +106,40 @@ where
     match write_report(out, &lines) {
         Ok(()) => Ok(()),
         Err(_) => Err(RunFault::Write),
+    }
+}
+
+/// Joins the two logs of these names over the store of that name, and answers the exit status.
+///
+/// It reads both logs whole first, in pieces of 64 KiB, and keeps the distinct ids of one log at a time, and those of the clicks to the end.
+pub fn join_command<R, F, S, K, G>(
+    rt: &R,
+    alloc: Global,
+    wanted: &RunOptions<'_>,
+    state: &str,
+    files: &mut F,
+    store: &mut S,
+    out: &mut K,
+    err: &mut K,
+    gate: &G,
+    ran: &mut Ran,
+) -> u8
+where
+    R: Threads + Wait + Sync,
+    F: Source,
+    S: Store,
+    K: Sink,
+    G: Gate,
+    F::Log: Drop,
+    S::Disk: Drop,
+    requires ranges { AreInRanges (values_in wanted.now).nodes }
+    ensures ends { JoinEnds F.Log.tells K.tells (F.bytes files.old) (Rose (F.faults files.old) (F.faults files.new)) (Rose (K.faults out.old) (K.faults out.new)) (Rose (K.faults err.old) (K.faults err.new))
+        (K.held out.old) (K.held out.new) (K.held err.old) (K.held err.new) result (values_in wanted.now) ran.new.log (store.new ≡ store.old) (ran.new ≡ ran.old)
+        S.Disk.tells (S.image store.old) (S.image store.new) (Rose (S.faults store.old) (S.faults store.new)) }
+    ensures answered { IsAnswered K.tells (F.faults files.old) (F.faults files.new) (K.faults out.old) (K.faults out.new) (K.held out.old) (K.held out.new) result }
+{
+    match join_logs(rt, alloc, wanted, state, files, store, out, gate, ran) {
+        Ok(()) => 0,
+        Err(fault) => give_up(err, &fault),
     }
 }

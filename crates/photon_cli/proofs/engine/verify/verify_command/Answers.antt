@@ -6,7 +6,7 @@ use Rattle.photon_cli.proofs.Causing.{damage_told, ends_well, limit_told, mismat
 use Rattle.photon_cli.proofs.Ends.{not_readable, over_valid}
 use Rattle.photon_cli.proofs.Answered.{ended, given_up}
 use Rattle.photon_cli.proofs.Statuses.{click_line, fair_status, log_verify, named_in_verify, never_two, never_written, no_one, no_zero, past_status, past_verify, place_of, unreadable, verify_past, write_of}
-use Rattle.photon_cli.proofs.command.verify.verify_command.Goals as goal
+use Rattle.photon_cli.proofs.engine.verify.verify_command.Goals as goal
 
 pub returns-in-Ok-true-clause-ends : goal.returns-in-Ok-true-clause-ends
 returns-in-Ok-true-clause-ends g c =

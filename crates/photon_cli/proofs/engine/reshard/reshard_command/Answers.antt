@@ -9,7 +9,7 @@ use Rattle.photon_cli.specs.Reshard.{HasRow, IsCauseFor, IsRowOf}
 use Rattle.photon_cli.proofs.Words.{DiskName, Rose, ShardRow, failed_rose, rose_before, status_of}
 use Rattle.photon_cli.proofs.Resharding.{adds, added_before, answer_for, cause_before, ends, ends_added, ends_place, fair_row, left_before, named_row, not_added, not_written, one_row, place_status, untaken}
 use Rattle.photon_cli.proofs.Answered.{answered, ended}
-use Rattle.photon_cli.proofs.command.reshard.reshard_command.Goals as goal
+use Rattle.photon_cli.proofs.engine.reshard.reshard_command.Goals as goal
 
 pub returns-in_default-clause-ends : goal.returns-in_default-clause-ends
 returns-in_default-clause-ends g c =

@@ -5,7 +5,7 @@ use Rattle.photon_cli.proofs.Causing.{damage_told, ends_well, limit_told, mismat
 use Rattle.photon_cli.proofs.Ends.{asked_valid, none_refused, not_invalid}
 use Rattle.photon_cli.proofs.Answered.{ended, given_up}
 use Rattle.photon_cli.proofs.Statuses.{IsKnown, bad_row, early_left, fair_status, join_own, join_past, join_row, join_two, line_of, named, no_one, no_zero, past_status, place_of, write_of}
-use Rattle.photon_cli.proofs.command.join.join_command.Goals as goal
+use Rattle.photon_cli.proofs.engine.join.join_command.Goals as goal
 
 pub returns-in-Ok-clause-ends : goal.returns-in-Ok-clause-ends
 returns-in-Ok-clause-ends g c =

@@ -4,7 +4,7 @@ use Rattle.photon_cli.proofs.Words.{none_bad, values_in, IsOfPlanOrLogs}
 use Rattle.photon_cli.proofs.Ends.{asked_valid, none_refused, not_invalid}
 use Rattle.photon_cli.proofs.Answered.{ended, given_up}
 use Rattle.photon_cli.proofs.Statuses.{IsKnown, bad_row, drill_adds, drill_early, drill_left, drill_row, fair_status, line_of, named_in_drill, no_one, no_zero, past_status, plan_left, two_of, write_of}
-use Rattle.photon_cli.proofs.command.drill.drill_command.Goals as goal
+use Rattle.photon_cli.proofs.engine.drill.drill_command.Goals as goal
 
 pub returns-in-Ok-clause-ends : goal.returns-in-Ok-clause-ends
 returns-in-Ok-clause-ends g c =

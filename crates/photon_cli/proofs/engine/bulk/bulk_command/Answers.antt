@@ -4,7 +4,7 @@ use Rattle.photon_cli.proofs.Words.{none_bad, bulk_values, IsOfBulk}
 use Rattle.run_fault.specs.declared.fault.RunFault.TheVariants as fault
 use Rattle.photon_cli.proofs.Answered.{ended, given_up}
 use Rattle.photon_cli.proofs.Statuses.{IsKnown, bad_row, bulk_own, bulk_row, bulk_two, drill_left, failed_of, fair_status, line_of, named_in_bulk, no_one, no_zero, past_status, write_of}
-use Rattle.photon_cli.proofs.command.bulk.bulk_command.Goals as goal
+use Rattle.photon_cli.proofs.engine.bulk.bulk_command.Goals as goal
 
 pub returns-in-Ok-clause-ends : goal.returns-in-Ok-clause-ends
 returns-in-Ok-clause-ends g c =
