@@ -1,6 +1,20 @@
 -- What call after call keeps of a store.
-use Rattle.std.proofs.Common.{List, [], ◌∷◌, inl, inr, ⊎_elim, sym, subst}
-use Rattle.photon_cli.proofs.Words.{DiskName, GoesOn, Setting, Checked, AfterEveryRun, IsOutputOnce, ReadIsChecked, HoldSameRecords, LongerStaysSound, SameIsSound, Images, IsSoundStore, goes_on_through, goes_on_within, AreCalls, AreOutputOnce, Call, IsLater, setting_after, store_after}
+use Rattle.std.proofs.Common.{ℕ, List, [], ◌∷◌, Bool, IsTrue, Option, inl, inr, ⊎_elim, sym, subst}
+use Rattle.photon_cli.proofs.Words.{DiskName, GoesOn, Setting, Checked, AfterEveryRun, IsOutputOnce, ReadIsChecked, HoldSameRecords, LongerStaysSound, SameIsSound, Images, IsSoundStore, goes_on_through, goes_on_within, RunLog, Wish, a_bulk_run, a_drill, a_join, a_resharding, a_verification, Ends, KeepsOver, stays_goes_on, AreCalls, AreOutputOnce, Call, IsLater, KeepsBy, setting_after, store_after}
+
+-- what a call keeps, by how it ends
+module _ (logs sinks disks : Bool) (tells : IsTrue disks) (told : List ℕ → Option (List ℕ)) (files output errors faulted : Type 0) (before after : Images) (same unrun : Type 0) (ran : Option RunLog) (old new err_old err_new : List ℕ) (status : ℕ)
+    (stays : same → (g : Setting) → KeepsOver g g before after) where
+  pub kept_by : (w : Wish) → Ends logs sinks disks told files output errors faulted before after same unrun ran old new err_old err_new status w → KeepsBy logs told before after status w
+  kept_by (a_join v state) ends = λ log_tells g asked. ends.keeps tells log_tells g asked
+  kept_by (a_drill v plan) ends = stays ends.1
+  kept_by (a_verification clicks state) ends = λ g. record { sound = ends.0.sound tells g; grown = λ disk. stays_goes_on _ _ (ends.0.stays tells disk) }
+  kept_by (a_bulk_run v) ends = stays ends.1
+  kept_by (a_resharding state text) ends =
+      let left = ends.0.left tells in (
+        λ row is ended g replicas. record { sound = left.longer ended row is g replicas; grown = left.grown },
+        λ zero five six g. record { sound = left.still (zero, five, six) g; grown = left.grown },
+      )
 
 module _ {S : Type 0} (image : S → Images) where
   -- the store stays sound from call to call

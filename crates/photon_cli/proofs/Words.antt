@@ -50,7 +50,7 @@ pub use Rattle.outside.specs.declared.faults.ReadFault.{ReadFault}
 pub use Rattle.outside.specs.declared.faults.StoreFault.{StoreFault}
 pub use Rattle.outside.specs.declared.store.DiskName.{DiskName}
 pub use Rattle.paxos_acceptor.specs.Cells.{note_view}
-pub use Rattle.photon_cli.specs.Again.{AreCalls, AreOutputOnce, Call, IsLater, setting_after, store_after}
+pub use Rattle.photon_cli.specs.Again.{AreCalls, AreOutputOnce, Call, IsLater, KeepsBy, setting_after, store_after}
 pub use Rattle.photon_cli.specs.Bulk.{IsBulkRun, IsBulkSetting, bulk_plan}
 pub use Rattle.photon_cli.specs.Causes.{CanBeRead, HasCauseInVerify, IsOverLog, unasked}
 pub use Rattle.photon_cli.specs.CheckedLogs.{AreLines, EndsAt, IsChecked, kept}
@@ -92,7 +92,7 @@ pub use Rattle.site_run.proofs.Entered.{counted_more, left_before, place_welcome
 pub use Rattle.site_run.proofs.Outing.{goes_on_through, goes_on_within, stays_goes_on}
 pub use Rattle.site_run.proofs.Refusing.{kept_are_journals}
 pub use Rattle.site_run.specs.Heard.{IsHeardOf, kinds_of}
-pub use Rattle.site_run.specs.Over.{EndsOver, RunsOver}
+pub use Rattle.site_run.specs.Over.{EndsOver, Keeps as KeepsOver, RunsOver}
 pub use Rattle.site_run.specs.Asked.{IsSettingOf}
 pub use Rattle.site_run.specs.Joined.{RanAfresh}
 pub use Rattle.site_run.specs.Left.{RestLeft, RunLeft}

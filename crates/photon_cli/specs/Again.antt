@@ -1,5 +1,5 @@
 -- Call after call over one store.
-use Rattle.std.specs.Prelude.{◌≡◌, ◌⊎◌, ℕ, List, [], ◌∷◌, ⊤}
+use Rattle.std.specs.Prelude.{◌≡◌, ◌≢◌, ◌⊎◌, ℕ, List, [], ◌∷◌, Bool, IsTrue, Option, ⊤}
 use Rattle.turn_defs.specs.Setting.{Setting}
 use Rattle.time_shards.specs.declared.ShardRow.{ShardRow}
 use Rattle.photon_model.specs.Adding.{with_row}
@@ -8,6 +8,9 @@ use Rattle.photon_model.specs.Runs.{Disks, opening}
 use Rattle.photon_model.specs.Stores.{IsLonger}
 use Rattle.site_laws.specs.Stores.{Bytes, HoldsRecords, Images, IsChoice}
 use Rattle.site_run.specs.Over.{Keeps}
+use Rattle.command_words.specs.Words.{Wish, a_join, a_resharding}
+use Rattle.photon_cli.specs.Join.{IsAsked}
+use Rattle.photon_cli.specs.Reshard.{IsRowOf}
 
 -- the second setting is the first, or one over the logs with more bytes at their ends
 abbrev pub IsLater : Setting → Setting → Type 0
@@ -36,6 +39,16 @@ module _ {S : Type 0} (image : S → Images) where
   abbrev pub store_after : S → List (Call S) → S
   store_after s [] = s
   store_after s (c ∷ cs) = store_after c.left cs
+
+-- What a call that ends with this status keeps of the store, by what was asked for: a join for the setting that it asks for, and the others
+-- for any; a resharding that added its row for the setting with the row. Where the topology's disk failed, either may be.
+module _ (logs : Bool) (told : List ℕ → Option (List ℕ)) (before after : Images) (status : ℕ) where
+  abbrev pub KeepsBy : Wish → Type 0
+  KeepsBy (a_join v state) = IsTrue logs → (g : Setting) → IsAsked told v g → Keeps g g before after
+  KeepsBy (a_resharding state text) =
+      ((row : ShardRow) → IsRowOf text row → (status ≡ 0) ⊎ (status ≡ 5) → (g : Setting) → g.replicas ≡ 3 → Keeps g (with_row g row) before after)
+      × (status ≢ 0 → status ≢ 5 → status ≢ 6 → (g : Setting) → Keeps g g before after)
+  KeepsBy _ = (g : Setting) → Keeps g g before after
 
 -- whatever a stop now leaves of the disks, no click stands twice in all their output logs
 abbrev pub AreOutputOnce : Setting → Images → Type 0

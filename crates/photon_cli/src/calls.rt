@@ -1,23 +1,18 @@
 // What follows from how calls end.
-ghost use Rattle.std.specs.Prelude.{◌≡◌, ◌≢◌, ◌⊎◌, ◌<◌, ◌+◌, ℕ, List, [], IsTrue, Some};
+ghost use Rattle.std.specs.Prelude.{◌≡◌, ◌<◌, ◌+◌, ℕ, List, [], IsTrue, Some};
 ghost use Rattle.outside.specs.declared.store.DiskName.{DiskName};
 ghost use Rattle.outside.specs.Faults.{Rose};
 ghost use Rattle.lossy_link.specs.Fates.{PlanView};
-ghost use Rattle.command_words.specs.Words.{Text, Values, a_join, a_resharding, a_verification};
+ghost use Rattle.command_words.specs.Words.{Wish};
 ghost use Rattle.gate_journal.specs.Images.{GoesOn};
 ghost use Rattle.turn_defs.specs.Setting.{Checked, Setting};
 ghost use Rattle.site_laws.specs.Stores.{IsSoundStore};
 ghost use Rattle.site_laws.specs.Laws.{made_by};
 ghost use Rattle.site_run.specs.Heard.{IsHeardOf};
-ghost use Rattle.site_run.specs.Over.{Keeps};
 ghost use Rattle.site_run.specs.declared.ran.Ran.{Ran};
 ghost use Rattle.site_run.specs.declared.ran.RunLog.{RunLog};
-ghost use Rattle.photon_cli.specs.Again.{AreCalls, AreOutputOnce, Call, setting_after, store_after};
+ghost use Rattle.photon_cli.specs.Again.{AreCalls, AreOutputOnce, Call, KeepsBy, setting_after, store_after};
 ghost use Rattle.photon_cli.specs.Ends.{Ends};
-ghost use Rattle.photon_cli.specs.Join.{IsAsked};
-ghost use Rattle.photon_cli.specs.Reshard.{IsRowOf};
-ghost use Rattle.photon_model.specs.Adding.{with_row};
-ghost use Rattle.time_shards.specs.declared.ShardRow.{ShardRow as Row};
 
 use outside::{Sink, Source, Store};
 
@@ -25,23 +20,13 @@ use outside::{Sink, Source, Store};
 /// before or of longer ones, with the rows that were added between, no click is output twice over all calls, and no record is lost. Of
 /// reshardings only those are such calls whose row was added, or wasn't: where the topology's disk failed, either may be.
 pub fn again<F: Source, S: Store, K: Sink>()
-    ensures join { (files later : F) (before after : S) (out out_later err err_later : K) (ran ran_later : Ran) (status : ℕ) (v : Values) (state : Text) (g : Setting) → IsTrue F.Log.tells → IsTrue S.Disk.tells → IsAsked (F.bytes files) v g
+    // What each call keeps.
+    ensures keeps { (files later : F) (before after : S) (out out_later err err_later : K) (ran ran_later : Ran) (status : ℕ) (w : Wish) → IsTrue S.Disk.tells
         → Ends F.Log.tells K.tells S.Disk.tells (F.bytes files) (Rose (F.faults files) (F.faults later)) (Rose (K.faults out) (K.faults out_later)) (Rose (K.faults err) (K.faults err_later)) (Rose (S.faults before) (S.faults after))
-        (S.image before) (S.image after) (after ≡ before) (ran_later ≡ ran) ran_later.log (K.held out) (K.held out_later) (K.held err) (K.held err_later) status (a_join v state)
-        → Keeps g g (S.image before) (S.image after) }
-    ensures verification { (files later : F) (before after : S) (out out_later err err_later : K) (ran ran_later : Ran) (status : ℕ) (clicks state : Text) (g : Setting) → IsTrue S.Disk.tells
-        → Ends F.Log.tells K.tells S.Disk.tells (F.bytes files) (Rose (F.faults files) (F.faults later)) (Rose (K.faults out) (K.faults out_later)) (Rose (K.faults err) (K.faults err_later)) (Rose (S.faults before) (S.faults after))
-        (S.image before) (S.image after) (after ≡ before) (ran_later ≡ ran) ran_later.log (K.held out) (K.held out_later) (K.held err) (K.held err_later) status (a_verification clicks state)
-        → Keeps g g (S.image before) (S.image after) }
-    // A resharding that adds its row, and one that doesn't.
-    ensures row { (files later : F) (before after : S) (out out_later err err_later : K) (ran ran_later : Ran) (status : ℕ) (state text : Text) (g : Setting) (row : Row) → IsTrue S.Disk.tells → IsRowOf text row → g.replicas ≡ 3 → (status ≡ 0) ⊎ (status ≡ 5)
-        → Ends F.Log.tells K.tells S.Disk.tells (F.bytes files) (Rose (F.faults files) (F.faults later)) (Rose (K.faults out) (K.faults out_later)) (Rose (K.faults err) (K.faults err_later)) (Rose (S.faults before) (S.faults after))
-        (S.image before) (S.image after) (after ≡ before) (ran_later ≡ ran) ran_later.log (K.held out) (K.held out_later) (K.held err) (K.held err_later) status (a_resharding state text)
-        → Keeps g (with_row g row) (S.image before) (S.image after) }
-    ensures no_row { (files later : F) (before after : S) (out out_later err err_later : K) (ran ran_later : Ran) (status : ℕ) (state text : Text) (g : Setting) → IsTrue S.Disk.tells → status ≢ 0 → status ≢ 5 → status ≢ 6
-        → Ends F.Log.tells K.tells S.Disk.tells (F.bytes files) (Rose (F.faults files) (F.faults later)) (Rose (K.faults out) (K.faults out_later)) (Rose (K.faults err) (K.faults err_later)) (Rose (S.faults before) (S.faults after))
-        (S.image before) (S.image after) (after ≡ before) (ran_later ≡ ran) ran_later.log (K.held out) (K.held out_later) (K.held err) (K.held err_later) status (a_resharding state text)
-        → Keeps g g (S.image before) (S.image after) }
+        (S.image before) (S.image after) (after ≡ before) (ran_later ≡ ran) ran_later.log (K.held out) (K.held out_later) (K.held err) (K.held err_later) status w
+        → KeepsBy F.Log.tells (F.bytes files) (S.image before) (S.image after) status w }
+
+    // And what they all keep.
     ensures once { (g : Setting) (s : S) (calls : List (Call S)) → Checked g → IsSoundStore g (S.image s) → AreCalls S.image g s calls → AreOutputOnce (setting_after S.image g calls) (S.image (store_after S.image s calls)) }
     ensures grown { (g : Setting) (s : S) (calls : List (Call S)) → AreCalls S.image g s calls → (disk : DiskName) → GoesOn (S.image s disk) (S.image (store_after S.image s calls) disk) }
 {

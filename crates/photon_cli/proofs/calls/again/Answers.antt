@@ -1,19 +1,13 @@
-use Rattle.photon_cli.proofs.Words.{stays_goes_on, setting_after, store_after}
-use Rattle.photon_cli.proofs.Repeating.{checked_after, grown_after, output_once, sound_after}
+use Rattle.std.proofs.Common.{sym, subst}
+use Rattle.photon_cli.proofs.Words.{KeepsOver, continues_same, setting_after, store_after}
+use Rattle.photon_cli.proofs.Repeating.{checked_after, grown_after, kept_by, output_once, sound_after}
 use Rattle.photon_cli.proofs.calls.again.Goals as goal
 
-pub returns-clause-join : goal.returns-clause-join
-returns-clause-join g c files later before after out out_later err err_later ran ran_later status v state s logs disks asked ends = ends.keeps disks logs s asked
-
-pub returns-clause-verification : goal.returns-clause-verification
-returns-clause-verification g c files later before after out out_later err err_later ran ran_later status clicks state s disks ends =
-    record { sound = ends.0.sound disks s; grown = λ disk. stays_goes_on _ _ (ends.0.stays disks disk) }
-
-pub returns-clause-row : goal.returns-clause-row
-returns-clause-row g c files later before after out out_later err err_later ran ran_later status state text s row disks is replicas ended ends = record { sound = (ends.0.left disks).longer ended row is s replicas; grown = (ends.0.left disks).grown }
-
-pub returns-clause-no_row : goal.returns-clause-no_row
-returns-clause-no_row g c files later before after out out_later err err_later ran ran_later status state text s disks zero five six ends = record { sound = (ends.0.left disks).still (zero, five, six) s; grown = (ends.0.left disks).grown }
+pub returns-clause-keeps : goal.returns-clause-keeps
+returns-clause-keeps g c files later before after out out_later err err_later ran ran_later status w disks ends =
+    let image = g.S.Store.image in
+    kept_by _ _ _ disks _ _ _ _ _ (image before) (image after) _ _ _ _ _ _ _ status
+    (λ same s. subst (λ x. KeepsOver s s (image before) (image x)) (sym same) (record { sound = λ sound. sound; grown = λ disk bytes now. continues_same (image before disk) bytes now })) w ends
 
 pub returns-clause-once : goal.returns-clause-once
 returns-clause-once g c s store calls checked sound are =
