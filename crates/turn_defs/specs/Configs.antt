@@ -2,7 +2,7 @@
 use Rattle.std.specs.Prelude.{◌≡◌, ◌<◌, ◌≤◌}
 use Rattle.registry_state.specs.declared.TheConstants.{MOST_INSERTS}
 use Rattle.time_shards.specs.Shards.{IsTable}
-use Rattle.turn_defs.specs.declared.limits.TheConstants.{MOST_JOINERS}
+use Rattle.time_shards.specs.declared.TheConstants.{MOST_JOINERS}
 use Rattle.turn_defs.specs.Setting.{Setting}
 use Rattle.turn_defs.specs.declared.config.Config.{Config}
 
