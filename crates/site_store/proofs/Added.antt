@@ -19,7 +19,7 @@ use Rattle.site_laws.proofs.SameDisks.{disk_onward}
 use Rattle.site_laws.specs.Stores.{IsChoice, IsSoundOr}
 use Rattle.site_laws.specs.StoreLaws.{IsRowAdded, RowIsSound, StaysSound}
 use Rattle.outside.specs.declared.store.DiskName.TheVariants as name
-use Rattle.site_store.proofs.Words.{eq-eqb, Each, Mem, DiskName, IsOpened, GoesOn, Topology, Keeps, IsTopology, kept_is, Setting, BallotNote, Disks, PlainTopology, topology_of, Bytes, KeepsOf, KeepSound, IsSoundStore, ReadTopologyIsKept, ReadNotesAreKept, TopologyFits, joiners_kept, StaysAs, Lent, Lacks, MayBeLeft, OpenView, AllKept, KeptValues, AreKept, AreRecordsOf, kept_all, lent_all, values_of, other_names, IsAsked, LeavesSomething, IsWritten, RunFault, first_limit}
+use Rattle.site_store.proofs.Words.{eq-eqb, Each, Mem, DiskName, IsOpened, GoesOn, Topology, Keeps, IsTopology, kept_is, Setting, BallotNote, Disks, PlainTopology, topology_of, Bytes, KeepsOf, KeepSound, IsSoundStore, ReadTopologyIsKept, ReadNotesAreKept, TopologyFits, joiners_kept, StaysAs, Lent, Lacks, MayBeLeft, OpenView, AllKept, KeptValues, AreKept, AreRecordsOf, kept_all, lent_all, values_of, other_names, IsAsked, LeavesSomething, IsWritten, RunFault, first_limit, MOST_JOINERS}
 use Rattle.site_store.specs.Adding.{accepted, answer_of, answer_to, IsAnswer, IsUnadded, IsRowCause, HasRow, Leaves}
 use Rattle.site_store.proofs.Causes.{limit_is}
 use Rattle.site_store.proofs.Leaving.{all_grow}
@@ -115,10 +115,10 @@ unadded_cause tells before row faulted k are _ why = absurd why
 
 -- ---- the opened disks
 
-few_joiners : (tells : Bool) → IsTrue tells → (before : DiskName → List ℕ → Type 0) (k : KeptValues) → AreKept tells before 0 k → joiners_kept k.topology 0 ≤ 4
+few_joiners : (tells : Bool) → IsTrue tells → (before : DiskName → List ℕ → Type 0) (k : KeptValues) → AreKept tells before 0 k → joiners_kept k.topology 0 ≤ MOST_JOINERS
 few_joiners tells sure before k are = let x = are.topology sure in go k.topology (kept_is k.topology x.0 x.2)
   where
-    go : (kept : Option Topology) → IfSome kept IsTopology → joiners_kept kept 0 ≤ 4
+    go : (kept : Option Topology) → IfSome kept IsTopology → joiners_kept kept 0 ≤ MOST_JOINERS
     go None fine = omega arith
     go (Some t) fine = fine.joiners.few
 
@@ -183,7 +183,7 @@ module _ {D : Type 0} (tells : Bool) (sure : IsTrue tells) (left : D → List �
     says : AreRecordsOf g k.disks records
     says = of tells sure before k are it.was it.is_kept g asked replicas
 
-    few_own : g.joiners ≤ 4
+    few_own : g.joiners ≤ MOST_JOINERS
     few_own = few tells sure before k are it.was it.is_kept g asked replicas
 
     names : map (λ d. d.name) k.disks ≡ other_names g.joiners

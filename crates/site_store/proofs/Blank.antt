@@ -1,7 +1,7 @@
 -- A sound store that keeps no topology keeps no records.
 use Rattle.std.proofs.Common.{◌≡◌, ℕ, ◌≤◌, List, [], ◌∷◌, map, length, Bool, IsTrue, true, false, Option, Some, None, refl, sym, ◌∙◌, ap, subst, arith}
 use Rattle.std.specs.Prelude.{flat_map}
-use Rattle.site_store.proofs.Words.{⊤, Each, none_some, DiskName, ReplicaNote, note, gate_rule, Topology, Setting, KeepsNotes, vote_record, StoreTopology, Store, IsBlank, IsDisk, KeepsTopology, IsSoundStore, topology_read, KeepOneTopology, ReadTopologyIsKept, one_value, joiners_kept, Kept, KeptDisk, KeptValues, KeepsAs, IsOfKind, AreKept, other_names, LeavesSomething, KeptStore, notes_at, pairs_at, IsRead, KeepsNothing}
+use Rattle.site_store.proofs.Words.{⊤, Each, none_some, DiskName, ReplicaNote, note, gate_rule, Topology, Setting, KeepsNotes, vote_record, StoreTopology, Store, IsBlank, IsDisk, KeepsTopology, IsSoundStore, topology_read, KeepOneTopology, ReadTopologyIsKept, one_value, joiners_kept, Kept, KeptDisk, KeptValues, KeepsAs, IsOfKind, AreKept, other_names, LeavesSomething, KeptStore, notes_at, pairs_at, IsRead, KeepsNothing, MOST_JOINERS}
 use Rattle.outside.specs.declared.store.DiskName.TheVariants as name
 use Rattle.site_store.proofs.Lending.{each_mem}
 use Rattle.site_store.proofs.Recorded.{each_from}
@@ -47,7 +47,7 @@ module _ (tells : Bool) (sure : IsTrue tells) (image : DiskName → List ℕ →
   many_none : joiners_kept v.topology 0 ≡ 0
   many_none = ap (λ (t : Option Topology). joiners_kept t 0) none
 
-  few : joiners_kept v.topology 0 ≤ 4
+  few : joiners_kept v.topology 0 ≤ MOST_JOINERS
   few = omega (arith, many_none)
 
   named : map (λ d. d.name) v.disks ≡ other_names 0

@@ -1,7 +1,7 @@
 -- Of a sound store no disk is told as damaged.
 use Rattle.std.proofs.Common.{◌≡◌, inl, inr, ℕ, ◌≤◌, List, [], ◌∷◌, map, Bool, IsTrue, Option, Some, None, refl, sym, ◌∙◌, ap, subst, arith}
 use Rattle.std.specs.Prelude.{All}
-use Rattle.site_store.proofs.Words.{All-nil, All-cons, Each, DiskName, StandsFor, Topology, Keeps, Promised, Accepted, ReplicaNote, note, IsNote, Setting, BallotNote, ReplicaKept, IsVoted, vote_record, joiners_kept, damaged_by, IsDamagedIn, IsKeptIn, IsJournalOf, IsFirst, IsFirstDisk, other_names, KeepsNotes, IsUnwritten, RunFault, IsWelcome, PlainTopology, Store, Bytes, IsDisk, KeepsTopology, KeepsVotes, Holds, KeepSound, IsSoundStore, ReadTopologyIsKept, TopologyFits, choose, LeavesSomething}
+use Rattle.site_store.proofs.Words.{All-nil, All-cons, Each, DiskName, StandsFor, Topology, Keeps, Promised, Accepted, ReplicaNote, note, IsNote, Setting, BallotNote, ReplicaKept, IsVoted, vote_record, joiners_kept, damaged_by, IsDamagedIn, IsKeptIn, IsJournalOf, IsFirst, IsFirstDisk, other_names, KeepsNotes, IsUnwritten, RunFault, IsWelcome, PlainTopology, Store, Bytes, IsDisk, KeepsTopology, KeepsVotes, Holds, KeepSound, IsSoundStore, ReadTopologyIsKept, TopologyFits, choose, LeavesSomething, MOST_JOINERS}
 use Rattle.outside.specs.declared.store.DiskName.TheVariants as name
 use Rattle.paxos_acceptor.specs.declared.notes.ReplicaNote.TheVariants as replica
 use Rattle.run_fault.specs.declared.fault.StorePlace.TheVariants as place
@@ -85,7 +85,7 @@ kept_joiners read fits g image some sound (Some t) asked is (c, now, keeps) =
 
 -- ---- what isn't told of a sound store
 
-module _ (tells : Bool) (sure : IsTrue tells) (image : DiskName → List ℕ → Type 0) (asked : ℕ) (read : ReadTopologyIsKept) (fits : TopologyFits) (g : Setting) (le : asked ≤ g.joiners) (few : g.joiners ≤ 4)
+module _ (tells : Bool) (sure : IsTrue tells) (image : DiskName → List ℕ → Type 0) (asked : ℕ) (read : ReadTopologyIsKept) (fits : TopologyFits) (g : Setting) (le : asked ≤ g.joiners) (few : g.joiners ≤ MOST_JOINERS)
     (replicas : g.replicas ≡ 3) (sound : IsSoundStore g image) where
   is_disk : (disk : DiskName) → LeavesSomething g image → IsFirstDisk tells image asked disk → IsDisk g disk
   is_disk disk some (inl topology) = subst (IsDisk g) (sym topology) tt

@@ -1,7 +1,7 @@
 -- The names of the disks that are opened behind the topology's.
 use Rattle.std.proofs.Common.{◌≡◌, ◌≢◌, inl, inr, ℕ, zero, suc, ◌+◌, ◌*◌, ◌<◌, ◌≤◌, List, [], ◌∷◌, ◌++◌, take, Bool, true, false, ◌&&◌, refl, ap, arith, ltb-true}
 use Rattle.std.specs.Prelude.{nat_lt}
-use Rattle.site_store.proofs.Words.{Each, EachPair, Mem, mem_left, mem_right, DiskName, Setting, IsDisk, replica_names, epoch_names_a, epoch_names_b, output_names_a, output_names_b, site_names, joiner_names, other_names}
+use Rattle.site_store.proofs.Words.{Each, EachPair, Mem, mem_left, mem_right, DiskName, Setting, IsDisk, replica_names, epoch_names_a, epoch_names_b, output_names_a, output_names_b, site_names, joiner_names, other_names, MOST_JOINERS}
 use Rattle.outside.specs.declared.store.DiskName.TheVariants as name
 use Rattle.site_store.proofs.Lending.{each_both, each_weaker}
 
@@ -37,7 +37,7 @@ apart low (n ∷ ns) h =
     let both = both_are (nat_lt low (number n)) (rises (number n) ns) h in
     (each_weaker (λ (m : DiskName). number n < number m) (λ (m : DiskName). n ≢ m) (λ m lt e. omega (arith, lt, ap number e)) ns (above (number n) ns both.1), apart (number n) ns both.1)
 
-rising : (n : ℕ) → n ≤ 4 → rises 0 (other_names n) ≡ true
+rising : (n : ℕ) → n ≤ MOST_JOINERS → rises 0 (other_names n) ≡ true
 rising zero few = refl
 rising (suc zero) few = refl
 rising (suc (suc zero)) few = refl
@@ -45,16 +45,16 @@ rising (suc (suc (suc zero))) few = refl
 rising (suc (suc (suc (suc zero)))) few = refl
 rising (suc (suc (suc (suc (suc n))))) few = absurd (omega (arith, few))
 
-pub others_apart : (n : ℕ) → n ≤ 4 → EachPair (λ one other. one ≢ other) (other_names n)
+pub others_apart : (n : ℕ) → n ≤ MOST_JOINERS → EachPair (λ one other. one ≢ other) (other_names n)
 others_apart n few = apart 0 (other_names n) (rising n few)
 
-pub not_topology : (n : ℕ) → n ≤ 4 → Each (λ m. m ≢ name.Topology) (other_names n)
+pub not_topology : (n : ℕ) → n ≤ MOST_JOINERS → Each (λ m. m ≢ name.Topology) (other_names n)
 not_topology n few = each_weaker (λ (m : DiskName). 0 < number m) (λ (m : DiskName). m ≢ name.Topology) (λ m lt e. omega (arith, lt, ap number e)) (other_names n) (above 0 (other_names n) (rising n few))
 
 -- ---- they are the setting's
 
 module _ (g : Setting) where
-  joiners_are : (named : ℕ → DiskName) → ((j : ℕ) → j < g.joiners → IsDisk g (named j)) → (n : ℕ) → n ≤ g.joiners → n ≤ 4 → Each (IsDisk g) (take n (named 0 ∷ named 1 ∷ named 2 ∷ named 3 ∷ []))
+  joiners_are : (named : ℕ → DiskName) → ((j : ℕ) → j < g.joiners → IsDisk g (named j)) → (n : ℕ) → n ≤ g.joiners → n ≤ MOST_JOINERS → Each (IsDisk g) (take n (named 0 ∷ named 1 ∷ named 2 ∷ named 3 ∷ []))
   joiners_are named is zero le few = tt
   joiners_are named is (suc zero) le few = (is 0 (omega (arith, le)), tt)
   joiners_are named is (suc (suc zero)) le few = (is 0 (omega (arith, le)), (is 1 (omega (arith, le)), tt))
@@ -68,7 +68,7 @@ module _ (g : Setting) where
   replicas_are : g.replicas ≡ 3 → Each (IsDisk g) replica_names
   replicas_are three = (omega (arith, three), (omega (arith, three), (omega (arith, three), tt)))
 
-  pub others_are : g.replicas ≡ 3 → (n : ℕ) → n ≤ g.joiners → n ≤ 4 → Each (IsDisk g) (other_names n)
+  pub others_are : g.replicas ≡ 3 → (n : ℕ) → n ≤ g.joiners → n ≤ MOST_JOINERS → Each (IsDisk g) (other_names n)
   others_are three n le few =
       let ea = joiners_are (λ j. name.Epoch 0 j) (λ j lt. (omega arith, lt)) n le few in
       let eb = joiners_are (λ j. name.Epoch 1 j) (λ j lt. (omega arith, lt)) n le few in
@@ -83,7 +83,7 @@ module _ (g : Setting) where
 
 -- ---- and all of them
 
-mem_taken : (named : ℕ → DiskName) (n j : ℕ) → j < n → n ≤ 4 → Mem (named j) (take n (named 0 ∷ named 1 ∷ named 2 ∷ named 3 ∷ []))
+mem_taken : (named : ℕ → DiskName) (n j : ℕ) → j < n → n ≤ MOST_JOINERS → Mem (named j) (take n (named 0 ∷ named 1 ∷ named 2 ∷ named 3 ∷ []))
 mem_taken named zero j lt few = absurd (omega (arith, lt))
 mem_taken named (suc n) zero lt few = inl refl
 mem_taken named (suc zero) (suc j) lt few = absurd (omega (arith, lt))
@@ -94,7 +94,7 @@ mem_taken named (suc (suc (suc zero))) (suc (suc (suc j))) lt few = absurd (omeg
 mem_taken named (suc (suc (suc (suc n)))) (suc (suc (suc zero))) lt few = inr (inr (inr (inl refl)))
 mem_taken named (suc (suc (suc (suc n)))) (suc (suc (suc (suc j)))) lt few = absurd (omega (arith, lt, few))
 
-module _ (n : ℕ) (few : n ≤ 4) where
+module _ (n : ℕ) (few : n ≤ MOST_JOINERS) where
   at_site : (disk : DiskName) → Mem disk site_names → Mem disk (other_names n)
   at_site disk m = mem_left disk (site_names ++ replica_names) (joiner_names n) (mem_left disk site_names replica_names m)
 

@@ -1,7 +1,7 @@
 -- What the journals that a store is read as say is the report of records that its disks kept.
 use Rattle.std.proofs.Common.{◌≡◌, ℕ, zero, suc, ◌+◌, ◌*◌, ◌<◌, ◌≤◌, List, [], ◌∷◌, ◌++◌, map, Bool, IsTrue, true, Option, Some, None, refl, sym, ◌∙◌, ap, subst, arith}
 use Rattle.std.specs.Prelude.{IfSome, flat_map}
-use Rattle.site_store.proofs.Words.{map-append, Each, DiskName, PairRec, note_view, Topology, IsTopology, kept_is, Setting, first_joiner, BallotNote, ReplicaKept, joiners_kept, journals, values_from, Disks, Store, AreOf, TellsTheReport, joiner_of, ReadTopologyIsKept, ReadNotesAreKept, OpenedIsWhole, Kept, KeptDisk, KeptValues, IsOfKind, AreKept, Says, AreRecordsOf, other_names, IsAsked, ArePassed, KeptStore, notes_at, pairs_at, IsOfValues, IsRead, Tells}
+use Rattle.site_store.proofs.Words.{map-append, Each, DiskName, PairRec, note_view, Topology, IsTopology, kept_is, Setting, first_joiner, BallotNote, ReplicaKept, joiners_kept, journals, values_from, Disks, Store, AreOf, TellsTheReport, joiner_of, ReadTopologyIsKept, ReadNotesAreKept, OpenedIsWhole, Kept, KeptDisk, KeptValues, IsOfKind, AreKept, Says, AreRecordsOf, other_names, IsAsked, ArePassed, KeptStore, notes_at, pairs_at, IsOfValues, IsRead, Tells, MOST_JOINERS}
 use Rattle.outside.specs.declared.store.DiskName.TheVariants as name
 use Rattle.site_store.proofs.Names.{others_apart, others_are}
 use Rattle.site_store.proofs.Recorded.{left_with, records_of, are_records}
@@ -59,7 +59,7 @@ module _ (g : Setting) (d : Disks) where
   pairs_said (name.Epoch s j) kept (v, is) says = ap pairs_at is
   pairs_said (name.Output s j) kept own says = ap pairs_at says
 
-  three_named : (n : ℕ) → n ≤ 4 → flat_map notes_by (other_names n) ≡ journals 3 d.replicas
+  three_named : (n : ℕ) → n ≤ MOST_JOINERS → flat_map notes_by (other_names n) ≡ journals 3 d.replicas
   three_named zero few = refl
   three_named (suc zero) few = refl
   three_named (suc (suc zero)) few = refl
@@ -70,7 +70,7 @@ module _ (g : Setting) (d : Disks) where
   abbrev of_site : ℕ → ℕ → List PairRec
   of_site s j = (d.joiners (joiner_of g s j)).pairs
 
-  both_named : (n : ℕ) → n ≤ 4 → flat_map pairs_by (other_names n) ≡ values_from (of_site 0) 0 n ++ values_from (of_site 1) 0 n
+  both_named : (n : ℕ) → n ≤ MOST_JOINERS → flat_map pairs_by (other_names n) ≡ values_from (of_site 0) 0 n ++ values_from (of_site 1) 0 n
   both_named zero few = refl
   both_named (suc zero) few = refl
   both_named (suc (suc zero)) few = refl
@@ -78,7 +78,7 @@ module _ (g : Setting) (d : Disks) where
   both_named (suc (suc (suc (suc zero)))) few = refl
   both_named (suc (suc (suc (suc (suc n))))) few = absurd (omega (arith, few))
 
-  module _ (disks : List KeptDisk) (named : map (λ o. o.name) disks ≡ other_names g.joiners) (kinds : Each (λ o. IsOfKind o.name o.kept) disks) (of : AreRecordsOf g disks d) (few : g.joiners ≤ 4) where
+  module _ (disks : List KeptDisk) (named : map (λ o. o.name) disks ≡ other_names g.joiners) (kinds : Each (λ o. IsOfKind o.name o.kept) disks) (of : AreRecordsOf g disks d) (few : g.joiners ≤ MOST_JOINERS) where
     pub notes_are : g.replicas ≡ 3 → map (map note_view) (flat_map (λ o. notes_at o.kept) disks) ≡ journals g.replicas d.replicas
     notes_are three =
         let by = each_two (λ (o : KeptDisk). IsOfKind o.name o.kept) (λ (o : KeptDisk). Says g d o.name o.kept) (λ (o : KeptDisk). map (map note_view) (notes_at o.kept) ≡ notes_by o.name) disks (λ o kind says. notes_said o.name o.kept kind says) kinds of in
@@ -102,7 +102,7 @@ module _ (tells : Bool) (sure : IsTrue tells) (image : DiskName → List ℕ →
   pub many_are : joiners_kept v.topology 0 ≡ g.joiners
   many_are = ap (λ (o : Option Topology). joiners_kept o 0) topology_is ∙ sym is.joiners
 
-  pub few : g.joiners ≤ 4
+  pub few : g.joiners ≤ MOST_JOINERS
   few =
       let x = kept.topology sure in
       let fine : IsTopology t = subst (λ (o : Option Topology). IfSome o IsTopology) topology_is (kept_is v.topology x.0 x.2) in

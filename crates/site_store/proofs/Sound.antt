@@ -1,6 +1,6 @@
 -- What a sound store keeps isn't refused: no topology, no place of the click log, and no disk as damaged.
 use Rattle.std.proofs.Common.{◌≡◌, ◌≢◌, inl, inr, ℕ, ◌≤◌, List, map, Bool, IsTrue, true, Option, Some, None, refl, sym, ◌∙◌, ap, subst, arith}
-use Rattle.site_store.proofs.Words.{Each, EachPair, Mem, has, DiskName, KeepsOffset, offset_of, KeepsPending, pending_of, end_from, IsBoundary, Topology, Keeps, Setting, IsLogOf, joiners_kept, IsMisfit, RunFault, IsWelcome, Fits, places_at, all_kept, PlainTopology, topology_of, Bytes, IsDisk, KeepsTopology, KeepSound, IsSoundStore, topology_read, ReadTopologyIsKept, TopologyFits, choose, one_value, Kept, KeptDisk, KeptValues, KeepsAs, IsOfKind, IsKept, AreKept, IsAsked, IsCause, LeavesSomething}
+use Rattle.site_store.proofs.Words.{Each, EachPair, Mem, has, DiskName, KeepsOffset, offset_of, KeepsPending, pending_of, end_from, IsBoundary, Topology, Keeps, Setting, IsLogOf, joiners_kept, IsMisfit, RunFault, IsWelcome, Fits, places_at, all_kept, PlainTopology, topology_of, Bytes, IsDisk, KeepsTopology, KeepSound, IsSoundStore, topology_read, ReadTopologyIsKept, TopologyFits, choose, one_value, Kept, KeptDisk, KeptValues, KeepsAs, IsOfKind, IsKept, AreKept, IsAsked, IsCause, LeavesSomething, MOST_JOINERS}
 use Rattle.outside.specs.declared.store.DiskName.TheVariants as name
 use Rattle.run_fault.specs.declared.fault.Mismatch.TheVariants as mismatch
 use Rattle.run_fault.specs.declared.fault.RunFault.TheVariants as fault
@@ -17,7 +17,7 @@ module _ (tells : Bool) (sure : IsTrue tells) (image : DiskName → List ℕ →
   many = joiners_kept k.topology asked
 
   -- with as many joiners kept as the setting has, each of its disks was opened
-  pub something : many ≡ g.joiners → g.joiners ≤ 4 → g.replicas ≡ 3 → LeavesSomething g image
+  pub something : many ≡ g.joiners → g.joiners ≤ MOST_JOINERS → g.replicas ≡ 3 → LeavesSomething g image
   something same few three disk here = elim (same_or_not disk name.Topology) [
     | inl is ↦ let x = kept.topology sure in (x.0, subst (λ (n : DiskName). image n x.0) (sym is) x.1)
     | inr not ↦
@@ -26,7 +26,7 @@ module _ (tells : Bool) (sure : IsTrue tells) (image : DiskName → List ℕ →
         (x.0, subst (λ (n : DiskName). image n x.0) d.2 x.1)
   ]
 
-  module _ (few : many ≤ 4) (some : LeavesSomething g image) (sound : IsSoundStore g image) where
+  module _ (few : many ≤ MOST_JOINERS) (some : LeavesSomething g image) (sound : IsSoundStore g image) where
     no_topology : (d : KeptDisk) → Mem d k.disks → d.name ≢ name.Topology
     no_topology d among = each_mem (λ (n : DiskName). n ≢ name.Topology) d.name _ (subst (Each (λ (n : DiskName). n ≢ name.Topology)) (sym kept.named) (not_topology many few)) (named_mem k.disks d among)
 
@@ -92,7 +92,7 @@ module _ (tells : Bool) (sure : IsTrue tells) (image : DiskName → List ℕ →
 -- ---- what is refused of a sound store
 
 module _ (tells : Bool) (sure : IsTrue tells) (log_tells : Bool) (log_sure : IsTrue log_tells) (image : DiskName → List ℕ → Type 0) (log : List ℕ) (end_ : ℕ) (faulted rose : Type 0) (read : ReadTopologyIsKept) (fits : TopologyFits)
-    (g : Setting) (replicas : g.replicas ≡ 3) (few : g.joiners ≤ 4) (log_is : IsLogOf log g) (end_is : end_ ≡ end_from 0 g.clicks) (sound : IsSoundStore g image) where
+    (g : Setting) (replicas : g.replicas ≡ 3) (few : g.joiners ≤ MOST_JOINERS) (log_is : IsLogOf log g) (end_is : end_ ≡ end_from 0 g.clicks) (sound : IsSoundStore g image) where
   -- where a setting's topology is asked
   module _ (asked : Topology) (is : IsAsked asked g) where
     abbrev AreIn : KeptValues → Type 0

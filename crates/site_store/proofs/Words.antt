@@ -77,6 +77,7 @@ pub use Rattle.std.proofs.lemmas.List.Elements.{All-cons, All-head, All-nil, All
 pub use Rattle.std.specs.Bool.{⊤}
 pub use Rattle.std.specs.List.{AllByRecursion, filter, list_any}
 pub use Rattle.std.specs.Vec.Iter.{into_iter_items, into_iter_len}
+pub use Rattle.time_shards.specs.declared.TheConstants.{MOST_JOINERS}
 pub use Rattle.topology_journal.proofs.Standing.{kept_is}
 pub use Rattle.topology_journal.specs.Topologies.{IsTopology, Keeps, next_topology, topologies}
 pub use Rattle.topology_journal.specs.declared.topology.Topology.{Topology}

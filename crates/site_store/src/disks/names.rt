@@ -1,9 +1,11 @@
 // The names of the disks, in the order in which they are opened.
 ghost use Rattle.std.specs.Prelude.{◌≡◌, ◌≤◌, IfOk};
+ghost use Rattle.time_shards.specs.declared.TheConstants.{MOST_JOINERS};
 ghost use Rattle.site_store.specs.Refusals.{other_names};
 
 use outside::DiskName;
 use std::alloc::{AllocError, Global};
+use time_shards::MOST_JOINERS;
 
 const SITES: [DiskName; 9] = [
     DiskName::Offset(0),
@@ -17,28 +19,28 @@ const SITES: [DiskName; 9] = [
     DiskName::Replica(2),
 ];
 
-const EPOCHS_A: [DiskName; 4] = [
+const EPOCHS_A: [DiskName; MOST_JOINERS as usize] = [
     DiskName::Epoch(0, 0),
     DiskName::Epoch(0, 1),
     DiskName::Epoch(0, 2),
     DiskName::Epoch(0, 3),
 ];
 
-const EPOCHS_B: [DiskName; 4] = [
+const EPOCHS_B: [DiskName; MOST_JOINERS as usize] = [
     DiskName::Epoch(1, 0),
     DiskName::Epoch(1, 1),
     DiskName::Epoch(1, 2),
     DiskName::Epoch(1, 3),
 ];
 
-const OUTPUTS_A: [DiskName; 4] = [
+const OUTPUTS_A: [DiskName; MOST_JOINERS as usize] = [
     DiskName::Output(0, 0),
     DiskName::Output(0, 1),
     DiskName::Output(0, 2),
     DiskName::Output(0, 3),
 ];
 
-const OUTPUTS_B: [DiskName; 4] = [
+const OUTPUTS_B: [DiskName; MOST_JOINERS as usize] = [
     DiskName::Output(1, 0),
     DiskName::Output(1, 1),
     DiskName::Output(1, 2),
@@ -47,7 +49,7 @@ const OUTPUTS_B: [DiskName; 4] = [
 
 /// The names of all disks but the topology's, with so many joiners a site.
 pub(crate) fn names_of(alloc: Global, joiners: u8) -> Result<Vec<DiskName>, AllocError>
-    requires { joiners ≤ 4 }
+    requires { joiners ≤ MOST_JOINERS }
     ensures { IfOk result (λ names. names.items ≡ other_names joiners) }
 {
     let count = joiners as usize;
