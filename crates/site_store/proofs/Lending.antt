@@ -39,7 +39,7 @@ pub mem_last : {A : Type 0} (x : A) (xs : List A) → Mem x (xs ++ x ∷ [])
 mem_last x [] = inl refl
 mem_last x (y ∷ xs) = inr (mem_last x xs)
 
-each_at : {A : Type 0} (P : A → Type 0) (xs : List A) (i : ℕ) (d : A) → Each P xs → i < length xs → P (get_or xs i d)
+pub each_at : {A : Type 0} (P : A → Type 0) (xs : List A) (i : ℕ) (d : A) → Each P xs → i < length xs → P (get_or xs i d)
 each_at P [] i d h lt = absurd (omega arith)
 each_at P (x ∷ xs) zero d h lt = h.0
 each_at P (x ∷ xs) (suc i) d h lt = each_at P xs i d h.1 (omega arith)

@@ -4,6 +4,7 @@ pub mod Stays
 pub mod Worked
 pub mod Faults
 pub mod Lending
+pub mod Planned
 pub mod Names
 pub mod Values
 pub mod Refusals

@@ -10,9 +10,9 @@ handed_on (Ok x) fault P is p = tt
 handed_on (Err e) fault P is p = subst P (sym is) p
 
 -- a disk that nothing was done to
-pub untouched : {D : Type 0} (tells : Bool) (seen : D → List ℕ) (image : D → List ℕ → Type 0) (since : D → D → List ℕ → Type 0) (faults : D → ℕ)
-    → ((disk : D) (c : List ℕ) → IsTrue tells → since disk disk c → image disk c) → (lent : LentDisk D) → IsOnlyRead tells seen image since faults lent lent
-untouched tells seen image since faults starts lent = record {
+pub untouched : {D : Type 0} (tells : Bool) (seen : D → List ℕ) (image : D → List ℕ → Type 0) (since : D → D → List ℕ → Type 0) (faults : D → ℕ) (planned : Bool) (is_down : D → Bool)
+    → ((disk : D) (c : List ℕ) → IsTrue tells → since disk disk c → image disk c) → (lent : LentDisk D) → IsOnlyRead tells seen image since faults planned is_down lent lent
+untouched tells seen image since faults planned is_down starts lent = record {
   named = refl;
   reads = λ sure. refl;
   moments = λ sure. record {
@@ -21,6 +21,7 @@ untouched tells seen image since faults starts lent = record {
     before = λ s c at. inl at;
   };
   count = omega arith;
+  calm = λ sure up. refl;
 }
 
 -- one element more, of those that a test picks

@@ -6,6 +6,7 @@ pub mod Written
 pub mod Orders
 pub mod Refusals
 pub mod LentDisks
+pub mod Plans
 pub mod ReadBack
 pub mod Floors
 pub mod Kept

@@ -1,5 +1,5 @@
 -- What reading disks back gives.
-use Rattle.std.specs.Prelude.{◌≡◌, ◌≤◌, ◌⊎◌, ⊤, ℕ, List, [], ◌∷◌, Bool, true, false, filter, IsTrue}
+use Rattle.std.specs.Prelude.{◌≡◌, ◌≢◌, ◌≤◌, ◌⊎◌, ⊤, ℕ, List, [], ◌∷◌, Bool, true, false, filter, IsTrue}
 use Rattle.list_words.specs.Lists.{Each}
 use Rattle.outside.specs.declared.store.DiskName.{DiskName}
 use Rattle.outside.specs.declared.store.DiskName.TheVariants as name
@@ -53,12 +53,14 @@ AreReadFrom tells seen keeps disks lists = EachWith (λ d items. IsTrue tells �
 abbrev pub AreAmongImages : {D : Type 0} → Bool → (D → List ℕ) → (D → List ℕ → Type 0) → List (LentDisk D) → Type 0
 AreAmongImages tells seen image disks = Each (λ d. IsTrue tells → image d.disk (seen d.disk)) disks
 
--- A disk that was read at most: it has its name and its bytes, and no moment left anything else than might have been left.
-pub record IsOnlyRead {D : Type 0} (tells : Bool) (seen : D → List ℕ) (image : D → List ℕ → Type 0) (since : D → D → List ℕ → Type 0) (faults : D → ℕ) (old new : LentDisk D) : Type 0 where
+-- A disk that was read at most: it has its name and its bytes, and no moment left anything else than might have been left. One that
+-- keeps to its plan and is up, unless it is the topology's, which isn't read, met no fault.
+pub record IsOnlyRead {D : Type 0} (tells : Bool) (seen : D → List ℕ) (image : D → List ℕ → Type 0) (since : D → D → List ℕ → Type 0) (faults : D → ℕ) (planned : Bool) (is_down : D → Bool) (old new : LentDisk D) : Type 0 where
   pub named : new.name ≡ old.name
   pub reads : IsTrue tells → seen new.disk ≡ seen old.disk
   pub moments : IsTrue tells → Throughout image since old.disk new.disk (image old.disk)
   pub count : faults old.disk ≤ faults new.disk
+  pub calm : IsTrue planned → (old.name ≢ name.Topology → is_down old.disk ≡ false) → faults new.disk ≡ faults old.disk
 
 -- A fault is of this disk: its count rose, or a stop might have left bytes of it that are damaged as its kind reads them. Want of
 -- memory is free.

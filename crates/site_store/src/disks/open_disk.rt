@@ -51,7 +51,9 @@ impl<D: Disk> Model for OpenDisk<D> {
 }
 
 impl<D: Disk> OpenDisk<D> {
-    ghost use Rattle.std.specs.Prelude.{◌≡◌, ℕ, IsTrue, IfOk, IfErr};
+    ghost use Rattle.std.specs.Prelude.{◌≡◌, ℕ, false, IsTrue, IfOk, IfErr};
+    ghost use Rattle.outside.specs.Plans.{MeetsPlan};
+    ghost use Rattle.gate_journal.specs.Fault.{is_of_disk};
     ghost use Rattle.outside.specs.declared.store.DiskName.TheVariants as name;
     ghost use Rattle.gate_journal.specs.declared.journal.JournalState.TheVariants.{Ready};
     ghost use Rattle.gate_journal.specs.Images.{StaysAs, IsKeptIn};
@@ -66,6 +68,8 @@ impl<D: Disk> OpenDisk<D> {
         ensures kept { IsTrue D.tells → IfOk result (λ o. IsKeptIn (D.image disk) (KeepsAs o.kept)) }
         ensures stays { IsTrue D.tells → IfOk result (λ o. StaysAs (D.image disk) (D.image o.disk)) }
         ensures err { IfErr result (λ e. IsRefusedBy (damaged_by name) D.tells (D.seen disk) (D.faults disk) (D.faults e.1) e.0) }
+        ensures ok_plan { IsTrue D.planned → D.is_down disk ≡ false → IfOk result (λ o. MeetsPlan D.stops D.made D.faults 3 false disk o.disk) }
+        ensures err_plan { IsTrue D.planned → D.is_down disk ≡ false → IfErr result (λ e. MeetsPlan D.stops D.made D.faults 3 (is_of_disk e.0) disk e.1) }
         ensures err_stays { IsTrue D.tells → IfErr result (λ e. StaysAs (D.image disk) (D.image e.1)) }
     {
         match name {

@@ -1,5 +1,5 @@
 // Taking disks from a store and giving them back.
-ghost use Rattle.std.specs.Prelude.{◌≡◌, ◌≢◌, ◌≤◌, ◌+◌, ℕ, List, length, map, IsTrue, IfOk, IfErr, OnOk, OnErr, IsErrOf};
+ghost use Rattle.std.specs.Prelude.{◌≡◌, ◌≢◌, ◌≤◌, ◌+◌, ◌∷◌, [], ℕ, List, false, length, map, IsTrue, IfOk, IfErr, OnOk, OnErr, IsErrOf};
 ghost use Rattle.list_words.specs.Lists.{Each};
 ghost use Rattle.time_shards.specs.declared.TheConstants.{MOST_JOINERS};
 ghost use Rattle.outside.specs.declared.store.DiskName.{DiskName};
@@ -8,7 +8,8 @@ ghost use Rattle.outside.specs.Faults.{Counts};
 ghost use Rattle.outside.specs.declared.faults.StoreFault.TheVariants.{Disk};
 ghost use Rattle.gate_journal.specs.Images.{StaysAs, IsKeptIn};
 ghost use Rattle.site_store.specs.Lent.{IsLent, MayBeLeft};
-ghost use Rattle.site_store.specs.Records.{IsOfKind, KeepsAs, AllKept, IsKept, kept_by, lent_all};
+ghost use Rattle.site_store.specs.Plans.{Left, AreAsPlanned};
+ghost use Rattle.site_store.specs.Records.{IsOfKind, KeepsAs, AllKept, IsKept, kept_by, lent_all, lent_by};
 ghost use Rattle.site_store.specs.Refusals.{IsFirst, other_names};
 ghost use Rattle.site_store.specs.Opening.{told_by, IsUnopened};
 
@@ -39,6 +40,8 @@ fn take_one<S: Store>(alloc: Global, store: &mut S, name: DiskName) -> Result<S:
     ensures place { OnOk result (S.places_left store.old + 1 ≤ S.places_left store.new) }
     ensures no_place { OnErr result (S.places_left store.old ≤ S.places_left store.new) }
     ensures count { Counts (S.faults store.old) (S.faults store.new) (IsErrOf result Disk) }
+    ensures plan { IsTrue S.Disk.planned → IfOk result (λ disk. AreAsPlanned S.Disk.stops S.Disk.made S.Disk.faults (Left S.stops S.made store.old) (Left S.stops S.made store.new) (record { name = name; disk = disk } ∷ []) × (S.Disk.is_down disk ≡ false)) }
+    ensures no_fault { IsTrue S.Disk.planned → S.faults store.new ≡ S.faults store.old }
 {
     let mut disk = store.take(alloc, name)?;
     match ask(&mut disk) {
@@ -66,6 +69,8 @@ pub(crate) fn open_one<S: Store>(
     ensures no_place { OnErr result (S.places_left store.old ≤ S.places_left store.new) }
     ensures count { S.faults store.old ≤ S.faults store.new }
     ensures err { IfErr result (IsUnopened S.Disk.tells (S.image store.old) (S.faults store.old) (S.faults store.new) (λ disk. disk ≡ name)) }
+    ensures plan { IsTrue S.Disk.planned → IfOk result (λ o. AreAsPlanned S.Disk.stops S.Disk.made S.Disk.faults (Left S.stops S.made store.old) (Left S.stops S.made store.new) (lent_by o ∷ [])) }
+    ensures calm { IsTrue S.Disk.planned → Left S.stops S.made store.old name 0 → S.faults store.new ≡ S.faults store.old }
 {
     match take_one(alloc, store, name) {
         Ok(disk) => match OpenDisk::open(alloc, name, disk) {
@@ -87,6 +92,7 @@ pub(crate) fn give_each<S: Store>(store: &mut S, disks: Vec<OpenDisk<S::Disk>>)
     ensures keep { IsTrue S.Disk.tells → Each (λ o. AllKept S.Disk.image o) disks.items }
     ensures places { S.places_left store.old ≤ S.places_left store.new + length disks.items }
     ensures count { S.faults store.old ≤ S.faults store.new }
+    ensures calm { Each (λ l. S.Disk.faults l.disk ≡ 0) (lent_all disks.items) → S.faults store.new ≡ S.faults store.old }
 {
     let mut disks = disks;
     while let Some(one) = disks.pop() {
@@ -113,6 +119,8 @@ pub(crate) fn open_others<S: Store>(
     ensures place { OnErr result (S.places_left store.old ≤ S.places_left store.new) }
     ensures first { IfErr result (IsUnopened S.Disk.tells (S.image store.old) (S.faults store.old) (S.faults store.new) (IsFirst S.Disk.tells (S.image store.old) (other_names joiners))) }
     ensures count { S.faults store.old ≤ S.faults store.new }
+    ensures plan { IsTrue S.Disk.planned → IfOk result (λ d. AreAsPlanned S.Disk.stops S.Disk.made S.Disk.faults (Left S.stops S.made store.old) (Left S.stops S.made store.new) (lent_all d.items)) }
+    ensures calm { IsTrue S.Disk.planned → Each (λ name. Left S.stops S.made store.old name 0) (other_names joiners) → S.faults store.new ≡ S.faults store.old }
 {
     let Ok(names) = names_of(alloc, joiners) else {
         return Err(RunFault::Memory);

@@ -1,10 +1,11 @@
 // The record of a topology.
-ghost use Rattle.std.specs.Prelude.{◌≡◌, ◌≤◌, ◌⊎◌, ℕ, List, Some, IsTrue, OnOk, OnErr, IfErr, IsErrOf};
+ghost use Rattle.std.specs.Prelude.{◌≡◌, ◌≤◌, false, ◌⊎◌, ℕ, List, Some, IsTrue, OnOk, OnErr, IfErr, IsErrOf};
 ghost use Rattle.gate_journal.specs.declared.journal.JournalState.TheVariants.{Ready};
 ghost use Rattle.topology_journal.specs.Topologies.{MayCome};
 ghost use Rattle.gate_journal.specs.Opening.{IsOpened};
 ghost use Rattle.gate_journal.specs.Images.{StaysAs, GoesOn};
 ghost use Rattle.run_fault.specs.declared.fault.RunFault.TheVariants.{Memory};
+ghost use Rattle.outside.specs.Plans.{AtMost, MeetsPlan};
 ghost use Rattle.site_store.specs.Written.{IsWritten, IsUnwritten};
 
 use outside::{Disk, DiskName};
@@ -34,6 +35,8 @@ pub fn write_topology<D: Disk>(
 
     ensures grows { IsTrue D.tells → GoesOn (D.image topology.old.journal.disk) (D.image topology.new.journal.disk) }
     ensures count { D.faults topology.old.journal.disk ≤ D.faults topology.new.journal.disk }
+    ensures plan { IsTrue D.planned → OnOk result (MeetsPlan D.stops D.made D.faults 4 false topology.old.journal.disk topology.new.journal.disk) }
+    ensures calm { IsTrue D.planned → AtMost (D.stops topology.old.journal.disk) (D.made topology.old.journal.disk) 0 → D.faults topology.new.journal.disk ≡ D.faults topology.old.journal.disk }
     ensures unwritten { IfErr result (IsUnwritten (D.faults topology.old.journal.disk) (D.faults topology.new.journal.disk)) }
 {
     let Ok(payload) = topology_frame(alloc, &asked) else {

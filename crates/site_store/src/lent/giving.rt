@@ -1,6 +1,6 @@
 // Giving disks back.
-ghost use Rattle.std.specs.Prelude.{◌≤◌, ◌+◌, ℕ, List, length, IsTrue};
-ghost use Rattle.list_words.specs.Lists.{Mem};
+ghost use Rattle.std.specs.Prelude.{◌≡◌, ◌≤◌, ◌+◌, ℕ, List, length, IsTrue};
+ghost use Rattle.list_words.specs.Lists.{Each, Mem};
 ghost use Rattle.outside.specs.declared.store.DiskName.{DiskName};
 ghost use Rattle.outside.specs.Disk.{Within};
 ghost use Rattle.outside.specs.Faults.{Rose};
@@ -20,6 +20,7 @@ pub fn give_all<S: Store>(store: &mut S, disks: Vec<LentDisk<S::Disk>>)
     ensures count { S.faults store.old ≤ S.faults store.new }
     // What a disk met while it was out counts, also where nothing is told of what it holds.
     ensures rose { (d : Lent S.Disk) → Mem d (all_lent disks.items) → 1 ≤ S.Disk.faults d.disk → Rose (S.faults store.old) (S.faults store.new) }
+    ensures calm { Each (λ l. S.Disk.faults l.disk ≡ 0) (all_lent disks.items) → S.faults store.new ≡ S.faults store.old }
 {
     let mut disks = disks;
     while let Some(one) = disks.pop() {

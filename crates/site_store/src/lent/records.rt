@@ -1,6 +1,8 @@
 // The records of one disk, read again.
-ghost use Rattle.std.specs.Prelude.{◌≡◌, ◌≤◌, IsTrue, IfOk, IfErr};
+ghost use Rattle.std.specs.Prelude.{◌≡◌, ◌≤◌, false, IsTrue, IfOk, IfErr};
 ghost use Rattle.outside.specs.Disk.{Throughout};
+ghost use Rattle.outside.specs.Plans.{MeetsPlan};
+ghost use Rattle.gate_journal.specs.Fault.{disk_failed};
 ghost use Rattle.gate_journal.specs.Records.{Keeps, IsRefused};
 
 use crate::ask;
@@ -15,6 +17,7 @@ pub(crate) fn read_again<D: Disk, R: Record>(alloc: Global, disk: &mut D) -> Res
     ensures err { IfErr result (λ e. IsRefused R.damaged D.tells (D.seen disk.old) (D.faults disk.old) (D.faults disk.new) e) }
     ensures seen { IsTrue D.tells → D.seen disk.new ≡ D.seen disk.old }
     ensures moments { IsTrue D.tells → Throughout D.image D.since disk.old disk.new (D.image disk.old) }
+    ensures plan { IsTrue D.planned → D.is_down disk.old ≡ false → MeetsPlan D.stops D.made D.faults 0 (disk_failed result) disk.old disk.new }
     ensures count { D.faults disk.old ≤ D.faults disk.new }
 {
     let Ok(()) = ask(disk) else {

@@ -1,12 +1,14 @@
-use Rattle.std.proofs.Common.{◌≡◌, inl, inr, ℕ, ap, sym, ◌∙◌, subst, arith}
-use Rattle.site_store.proofs.Words.{DiskName, StaysAs, IsKeptIn, IsOfKind, IsKept, KeepsAs, IsFirst, IsFirstDisk, other_names}
+use Rattle.std.proofs.Common.{◌≡◌, ◌≢◌, [], ◌∷◌, inl, inr, ℕ, ap, sym, ◌∙◌, subst, arith}
+use Rattle.site_store.proofs.Words.{DiskName, Lacks, lent_all, topology_lent, StaysAs, IsKeptIn, IsOfKind, IsKept, KeepsAs, IsFirst, IsFirstDisk, other_names}
 use Rattle.outside.specs.declared.store.DiskName.TheVariants as name
 use Rattle.site_store.proofs.Faults.{unopened_more}
-use Rattle.site_store.proofs.Lending.{first_lent, lacks_by_names}
+use Rattle.site_store.proofs.Lending.{each_weaker, first_lent, lacks_by_names}
 use Rattle.site_store.proofs.Names.{not_topology}
 use Rattle.site_store.proofs.Taking.{kept_before, back_again, first_before, first_other}
 use Rattle.site_store.proofs.Readings.{handed_on}
 use Rattle.site_store.proofs.Values.{names_kept, each_kept}
+use Rattle.site_store.specs.Plans.{Left}
+use Rattle.site_store.proofs.Planned.{none_added, none_behind, taken_as, taken_on}
 use Rattle.site_store.proofs.disks.all.open_disks.Goals as goal
 
 pub returns-in-Ok-clause-kept : goal.returns-in-Ok-clause-kept
@@ -63,3 +65,33 @@ returns-in_err-open_one-clause-first g c =
     let before = g.S.Store.image c.args.store.now in
     handed_on c.from_residual.result c.in_err-open_one.field-0.0 _ c.from_residual.ensures.1
     (unopened_more tells before before _ _ _ _ (λ (disk : DiskName). disk ≡ name.Topology) (IsFirstDisk tells before c.args.asked) c.in_err-open_one.field-0.0 (omega arith) (omega arith) (λ disk is. inl is) (λ sure disk is bytes now. now) c.in_err-open_one.ensures.err)
+
+pub returns-in-Ok-clause-plan : goal.returns-in-Ok-clause-plan
+returns-in-Ok-clause-plan g c planned =
+    let d = g.S.Disk.Disk in
+    let at = Left g.S.Store.stops g.S.Store.made in
+    let topology = topology_lent c.into_topology-topology.result.journal.disk in
+    let all = lent_all c.in-Ok.disks.items in
+    let away = lacks_by_names name.Topology c.in-Ok.disks.items _ c.in-Ok.ensures.named (not_topology _ c.joiners_of.ensures.few) in
+    let first = taken_as d.stops d.made d.faults (at c.args.store.now) (at c.open_one.new.store) _ topology c.in_ok-open_one.ensures.name c.into_topology-topology.ensures.disk (c.in_ok-open_one.ensures.plan planned) in
+    taken_on d.stops d.made d.faults (at c.args.store.now) (at c.open_one.new.store) (at c.open_others.new.store) (topology ∷ []) all first
+    (each_weaker (λ l. l.name ≢ name.Topology) (λ l. Lacks (topology ∷ []) l.name) (λ l other. ((λ e. other (sym e)), tt)) all away) (c.in-Ok.ensures.plan planned)
+
+pub returns-in-Ok-clause-calm : goal.returns-in-Ok-clause-calm
+returns-in-Ok-clause-calm g c planned none =
+    let d = g.S.Disk.Disk in
+    let one = c.in_ok-open_one.ensures in
+    c.open_others.ensures.calm planned (none_behind d.stops d.made d.faults _ _ _ c.joiners_of.result one.name c.joiners_of.ensures.few (one.plan planned) none)
+    ∙ c.open_one.ensures.calm planned (none name.Topology)
+
+pub returns-in-Err-clause-calm : goal.returns-in-Err-clause-calm
+returns-in-Err-clause-calm g c planned none =
+    let d = g.S.Disk.Disk in
+    let one = c.in_ok-open_one.ensures in
+    let met = ap d.faults (c.into_disk.ensures ∙ sym c.into_topology-topology.ensures.disk) ∙ (one.plan planned).out.0.calm in
+    none_added _ _ _ c.give.ensures.count met
+    ∙ c.open_others.ensures.calm planned (none_behind d.stops d.made d.faults _ _ _ c.joiners_of.result one.name c.joiners_of.ensures.few (one.plan planned) none)
+    ∙ c.open_one.ensures.calm planned (none name.Topology)
+
+pub returns-in_err-open_one-clause-calm : goal.returns-in_err-open_one-clause-calm
+returns-in_err-open_one-clause-calm g c planned none = c.open_one.ensures.calm planned (none name.Topology)

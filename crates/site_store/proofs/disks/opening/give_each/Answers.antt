@@ -1,6 +1,7 @@
 use Rattle.std.proofs.Common.{rules, ◌≡◌, ◌++◌, ◌∷◌, [], List, ◌∙◌, sym, ap, subst, arith}
 use Rattle.site_store.proofs.Words.{map-append, Each, Within, Lent, AllKept, MayBeLeft, lent_by, lent_all}
-use Rattle.site_store.proofs.Lending.{each_push, given, none_out, none_each, length_more}
+use Rattle.site_store.proofs.Lending.{each_front, each_back, each_push, given, none_out, none_each, length_more}
+use Rattle.site_store.proofs.Planned.{none_added}
 use Rattle.site_store.proofs.disks.opening.give_each.Goals as goal
 
 pub loop-one-preserved : goal.loop-one-preserved
@@ -25,6 +26,13 @@ loop-one-preserved g c =
       keep = λ tells left_all. inv.keep tells (subst (Each (λ o. AllKept left o)) (sym cut) (each_push (λ o. AllKept left o) rest one left_all (c.into_disk.ensures.keeps tells)));
       room = omega (arith, size, inv.room, c.give.ensures.places);
       places = omega (arith, size, inv.places, c.give.ensures.places);
+      calm = λ none. (
+          let before = inv.calm none in
+          let d = g.S.Disk.Disk in
+          let split = subst (Each (λ x. d.faults x.disk ≡ 0)) (ap lent_all cut ∙ map-append lent_by rest (one ∷ [])) before.0 in
+          let last = each_back (λ x. d.faults x.disk ≡ 0) (lent_all rest) (lent_by one ∷ []) split in
+          (each_front (λ x. d.faults x.disk ≡ 0) (lent_all rest) (lent_by one ∷ []) split, none_added _ _ _ c.give.ensures.count (ap d.faults c.into_disk.ensures.disk ∙ last.0) ∙ before.1)
+          );
       count = omega (arith, inv.count, c.give.ensures.count);
     }
 
@@ -35,3 +43,6 @@ returns-clause-left g c tells name bytes now =
 
 pub returns-clause-keep : goal.returns-clause-keep
 returns-clause-keep g c tells = c.loop-one.invariant.keep tells (none_each (λ o. AllKept g.S.Disk.Disk.image o) c.loop-one.disks.items (search rules))
+
+pub returns-clause-calm : goal.returns-clause-calm
+returns-clause-calm g c none = (c.loop-one.invariant.calm none).1

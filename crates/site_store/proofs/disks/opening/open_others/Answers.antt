@@ -1,10 +1,12 @@
-use Rattle.std.proofs.Common.{rules, ◌≡◌, ◌≢◌, ◌<◌, List, length, get_or, subst, sym, ◌∙◌, arith}
-use Rattle.site_store.proofs.Words.{Each, EachPair, DiskName, Within, Lacks, IsLent, IsOfKind, IsKept, kept_by, lent_all, IsFirst, other_names}
+use Rattle.std.proofs.Common.{rules, ◌≡◌, ◌≢◌, ◌<◌, List, [], ◌∷◌, ◌++◌, length, get_or, refl, ap, subst, sym, ◌∙◌, arith}
+use Rattle.site_store.proofs.Words.{map-append, Each, EachPair, lent_by, DiskName, Within, Lacks, IsLent, IsOfKind, IsKept, kept_by, lent_all, IsFirst, other_names}
 use Rattle.site_store.proofs.Faults.{unopened_more}
-use Rattle.site_store.proofs.Lending.{names_more, each_more, opened_more, keeps_first, lacks_next, length_more, cut_back}
+use Rattle.site_store.proofs.Lending.{each_at, names_more, each_more, opened_more, keeps_first, lacks_next, length_more, cut_back}
 use Rattle.site_store.proofs.Names.{others_apart}
 use Rattle.site_store.proofs.Values.{were_journals}
 use Rattle.site_store.proofs.Refusals.{first_at}
+use Rattle.site_store.specs.Plans.{Left, AreAsPlanned}
+use Rattle.site_store.proofs.Planned.{each_calm, none_taken, taken_on}
 use Rattle.site_store.proofs.disks.opening.open_others.Goals as goal
 
 pub loop-i-init : goal.loop-i-init
@@ -19,6 +21,8 @@ loop-i-init g c =
       lent = λ tells. subst (λ l. IsLent g.S.Disk.Disk.image image image (lent_all l)) (sym none) (record { out = tt; others = λ name lacks c now. now });
       kept = λ tells. subst (Each (λ o. IsKept image (kept_by o))) (sym none) tt;
       places = search rules;
+      plan = λ planned. (let d = g.S.Disk.Disk in let at = Left g.S.Store.stops g.S.Store.made c.args.store.now in subst (λ l. AreAsPlanned d.stops d.made d.faults at at (lent_all l)) (sym none) (none_taken d.stops d.made d.faults at));
+      calm = λ planned each. refl;
       count = omega arith;
     }
 
@@ -49,6 +53,18 @@ loop-i-preserved g c =
       lent = λ tells. opened_more left before mid (image c.open_one.new.store) name items now one (inv.lent tells) lacks e.name (e.stays tells) (e.others tells) more;
       kept = λ tells. each_more (λ o. IsKept before (kept_by o)) items now one (inv.kept tells) (keeps_first left before mid items one name (inv.lent tells) lacks e.name (e.kept tells)) more;
       places = omega (arith, inv.places, e.place, length_more items now one more);
+      plan = λ planned. (
+          let d = g.S.Disk.Disk in
+          let whole : lent_all now ≡ lent_all items ++ lent_by one ∷ [] = ap lent_all more ∙ map-append lent_by items (one ∷ []) in
+          let at = Left g.S.Store.stops g.S.Store.made in
+          subst (AreAsPlanned d.stops d.made d.faults (at c.args.store.now) (at c.open_one.new.store)) (sym whole)
+          (taken_on d.stops d.made d.faults (at c.args.store.now) (at c.loop-i.store) (at c.open_one.new.store) (lent_all items) (lent_by one ∷ []) (inv.plan planned)
+          (subst (Lacks (lent_all items)) (sym e.name) lacks, tt) (e.plan planned))
+          );
+      calm = λ planned each. (
+          let own = subst (λ (n : DiskName). Left g.S.Store.stops g.S.Store.made c.args.store.now n 0) (sym is) (each_at (λ n. Left g.S.Store.stops g.S.Store.made c.args.store.now n 0) names i name each lt) in
+          c.open_one.ensures.calm planned ((inv.plan planned).others name lacks 0 own) ∙ inv.calm planned each
+          );
       count = omega (arith, inv.count, c.open_one.ensures.count);
     }
 
@@ -76,3 +92,24 @@ returns-in-Err-clause-first g c =
     unopened_more tells before mid _ _ _ _ (λ (disk : DiskName). disk ≡ name) (IsFirst tells before (other_names c.args.joiners)) c.in-Err.fault inv.count c.give_each.ensures.count
     (λ disk named. subst (λ (ns : List DiskName). IsFirst tells before ns disk) c.in-Ok.ensures (subst (IsFirst tells before names) (sym (named ∙ is)) first))
     (λ sure disk named. subst (λ (n : DiskName). Within (before n) (mid n)) (sym named) ((inv.lent sure).others name lacks)) c.in-Err.ensures.err
+
+pub returns-in-Err-clause-calm : goal.returns-in-Err-clause-calm
+returns-in-Err-clause-calm g c planned each =
+    let d = g.S.Disk.Disk in
+    let at = Left g.S.Store.stops g.S.Store.made in
+    let names = c.in-Ok.names.items in
+    let i = c.loop-i.i in
+    let name = c.index.result.now in
+    let is : name ≡ get_or names i name = c.index.ensures in
+    let items = c.loop-i.disks.items in
+    let inv = c.loop-i.invariant in
+    let lt : i < length names = omega (arith, c.loop-i-test.true) in
+    let apart = subst (EachPair (λ one other. one ≢ other)) (sym c.in-Ok.ensures) (others_apart c.args.joiners c.requires.few) in
+    let lacks : Lacks (lent_all items) name = subst (Lacks (lent_all items)) (sym is) (lacks_next names i name items apart inv.names lt) in
+    let all = subst (Each (λ n. at c.args.store.now n 0)) (sym c.in-Ok.ensures) each in
+    let own = subst (λ (n : DiskName). at c.args.store.now n 0) (sym is) (each_at (λ n. at c.args.store.now n 0) names i name all lt) in
+    c.give_each.ensures.calm (each_calm d.stops d.made d.faults (at c.args.store.now) (lent_all items) (inv.plan planned).out)
+    ∙ c.open_one.ensures.calm planned ((inv.plan planned).others name lacks 0 own) ∙ inv.calm planned all
+
+pub returns-clause-calm : goal.returns-clause-calm
+returns-clause-calm g c planned each = c.loop-i.invariant.calm planned (subst (Each (λ n. Left g.S.Store.stops g.S.Store.made c.args.store.now n 0)) (sym c.in-Ok.ensures) each)

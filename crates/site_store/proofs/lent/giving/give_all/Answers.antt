@@ -1,6 +1,7 @@
-use Rattle.std.proofs.Common.{rules, ◌≡◌, ◌++◌, ◌∷◌, [], arith}
-use Rattle.site_store.proofs.Words.{all_lent}
-use Rattle.site_store.proofs.Lending.{length_more}
+use Rattle.std.proofs.Common.{rules, ◌≡◌, ◌++◌, ◌∷◌, [], ◌∙◌, ap, subst, arith}
+use Rattle.site_store.proofs.Words.{Each, map-append, all_lent, lent_of}
+use Rattle.site_store.proofs.Lending.{each_front, each_back, length_more}
+use Rattle.site_store.proofs.Planned.{none_added}
 use Rattle.site_store.proofs.Handing.{given_last, none_left, others_stay, last_counts, none_out}
 use Rattle.site_store.proofs.lent.giving.give_all.Goals as goal
 
@@ -20,6 +21,13 @@ loop-one-preserved g c =
       room = omega (arith, size, inv.room, c.give.ensures.places);
       places = omega (arith, size, inv.places, c.give.ensures.places);
       count = omega (arith, inv.count, c.give.ensures.count);
+      calm = λ none. (
+          let before = inv.calm none in
+          let d = g.S.Disk.Disk in
+          let split = subst (Each (λ x. d.faults x.disk ≡ 0)) (ap all_lent cut ∙ map-append lent_of rest (one ∷ [])) before.0 in
+          let last = each_back (λ x. d.faults x.disk ≡ 0) (all_lent rest) (lent_of one ∷ []) split in
+          (each_front (λ x. d.faults x.disk ≡ 0) (all_lent rest) (lent_of one ∷ []) split, none_added _ _ _ c.give.ensures.count last.0 ∙ before.1)
+          );
       rose = last_counts g.S.Disk.Disk.faults c.args.disks.items items rest one (g.S.Store.faults c.args.store.now) (g.S.Store.faults c.loop-one.store) (g.S.Store.faults c.give.new.self) cut inv.count c.give.ensures.count inv.rose;
     }
 
@@ -33,3 +41,6 @@ returns-clause-others g c tells name lacks =
 pub returns-clause-rose : goal.returns-clause-rose
 returns-clause-rose g c d among met =
     none_out g.S.Disk.Disk.faults c.args.disks.items c.loop-one.disks.items (g.S.Store.faults c.args.store.now) (g.S.Store.faults c.loop-one.store) (search rules) c.loop-one.invariant.rose d among met
+
+pub returns-clause-calm : goal.returns-clause-calm
+returns-clause-calm g c none = (c.loop-one.invariant.calm none).1

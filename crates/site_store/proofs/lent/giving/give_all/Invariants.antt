@@ -1,6 +1,6 @@
-use Rattle.std.proofs.Common.{◌+◌, ◌≤◌, ℕ, List, length, IsTrue}
+use Rattle.std.proofs.Common.{◌≡◌, ◌+◌, ◌≤◌, ℕ, List, length, IsTrue}
 use Rattle.std.specs.Prelude.{vec_len}
-use Rattle.site_store.proofs.Words.{DiskName, MayBeLeft, all_lent}
+use Rattle.site_store.proofs.Words.{Each, DiskName, MayBeLeft, all_lent}
 use Rattle.site_store.proofs.Handing.{OutOrRose}
 use Rattle.site_store.proofs.lent.giving.give_all.Given as goal
 
@@ -13,6 +13,7 @@ invariant-loop-one g l =
       room : length l.disks.items ≤ g.S.Store.places_left l.store;
       places : g.S.Store.places_left l.fn.store + length l.disks.items ≤ g.S.Store.places_left l.store + length l.fn.disks.items;
       count : g.S.Store.faults l.fn.store ≤ g.S.Store.faults l.store;
+      calm : Each (λ d. g.S.Disk.Disk.faults d.disk ≡ 0) (all_lent l.fn.disks.items) → Each (λ d. g.S.Disk.Disk.faults d.disk ≡ 0) (all_lent l.disks.items) × (g.S.Store.faults l.store ≡ g.S.Store.faults l.fn.store);
       rose : OutOrRose g.S.Disk.Disk.faults l.fn.disks.items l.disks.items (g.S.Store.faults l.fn.store) (g.S.Store.faults l.store);
     }
 

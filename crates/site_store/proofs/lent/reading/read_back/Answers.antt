@@ -6,25 +6,25 @@ use Rattle.site_store.proofs.lent.reading.read_back.Goals as goal
 pub returns-in-Err-clause-same : goal.returns-in-Err-clause-same
 returns-in-Err-clause-same g c =
     let d = g.D.Disk in
-    next_all (IsOnlyRead d.tells d.seen d.image d.since d.faults) (untouched d.tells d.seen d.image d.since d.faults g.met.D.Disk.starts)
+    next_all (IsOnlyRead d.tells d.seen d.image d.since d.faults d.planned d.is_down) (untouched d.tells d.seen d.image d.since d.faults d.planned d.is_down g.met.D.Disk.starts)
     c.loop-i.i c.args.disks.now c.loop-i.disks c.index-disks-i.result c.read_one.new.lent c.loop-i.invariant.walked c.loop-i-test.true c.read_one.ensures.same
 
 pub returns-in-Err-clause-err : goal.returns-in-Err-clause-err
 returns-in-Err-clause-err g c =
     let d = g.D.Disk in
-    next_one (IsOnlyRead d.tells d.seen d.image d.since d.faults) (λ (old new : LentDisk g.row.D.Denot). IsToldBy d.tells d.image d.faults old new c.in-Err.fault)
+    next_one (IsOnlyRead d.tells d.seen d.image d.since d.faults d.planned d.is_down) (λ (old new : LentDisk g.row.D.Denot). IsToldBy d.tells d.image d.faults old new c.in-Err.fault)
     c.loop-i.i c.args.disks.now c.loop-i.disks c.index-disks-i.result c.read_one.new.lent c.loop-i.invariant.walked c.loop-i-test.true c.in-Err.ensures.err
 
 pub returns-in_default-clause-same : goal.returns-in_default-clause-same
 returns-in_default-clause-same g c =
     let d = g.D.Disk in
-    next_all (IsOnlyRead d.tells d.seen d.image d.since d.faults) (untouched d.tells d.seen d.image d.since d.faults g.met.D.Disk.starts)
+    next_all (IsOnlyRead d.tells d.seen d.image d.since d.faults d.planned d.is_down) (untouched d.tells d.seen d.image d.since d.faults d.planned d.is_down g.met.D.Disk.starts)
     c.loop-i.i c.args.disks.now c.loop-i.disks c.index-disks-i.result c.read_one.new.lent c.loop-i.invariant.walked c.loop-i-test.true c.read_one.ensures.same
 
 pub loop-i-preserved : goal.loop-i-preserved
 loop-i-preserved g c =
     let d = g.D.Disk in
-    let R = IsOnlyRead d.tells d.seen d.image d.since d.faults in
+    let R = IsOnlyRead d.tells d.seen d.image d.since d.faults d.planned d.is_down in
     let disks = c.args.disks.now in
     let at = c.loop-i in
     let read = c.in-Ok.read in
@@ -39,4 +39,4 @@ loop-i-preserved g c =
 pub returns-clause-same : goal.returns-clause-same
 returns-clause-same g c =
     let d = g.D.Disk in
-    first_all (IsOnlyRead d.tells d.seen d.image d.since d.faults) (untouched d.tells d.seen d.image d.since d.faults g.met.D.Disk.starts) c.loop-i.i c.args.disks.now c.loop-i.disks c.loop-i.invariant.walked
+    first_all (IsOnlyRead d.tells d.seen d.image d.since d.faults d.planned d.is_down) (untouched d.tells d.seen d.image d.since d.faults d.planned d.is_down g.met.D.Disk.starts) c.loop-i.i c.args.disks.now c.loop-i.disks c.loop-i.invariant.walked

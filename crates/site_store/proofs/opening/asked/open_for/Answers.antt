@@ -1,7 +1,9 @@
-use Rattle.std.proofs.Common.{subst}
-use Rattle.site_store.proofs.Words.{AreTold, IsUnopened, IsFirstDisk, AreKept, values_of}
+use Rattle.std.proofs.Common.{◌∷◌, ◌∙◌, subst}
+use Rattle.site_store.proofs.Words.{AreTold, IsUnopened, IsFirstDisk, AreKept, values_of, lent_all, topology_lent}
 use Rattle.site_store.proofs.Causes.{judged, unopened_cause}
 use Rattle.site_store.proofs.Lending.{stays_as}
+use Rattle.site_store.specs.Plans.{Left}
+use Rattle.site_store.proofs.Planned.{each_calm}
 use Rattle.site_store.proofs.opening.asked.open_for.Goals as goal
 
 pub returns-in-Some-clause-back : goal.returns-in-Some-clause-back
@@ -28,3 +30,10 @@ returns-in-Err-clause-cause g c =
     let told = AreTold log.tells (log.bytes c.args.clicks.now) c.args.end in
     unopened_cause tells before c.args.asked.now told _ ⊥ old new c.in-Err.fault
     (subst (λ n. IsUnopened tells before old new (IsFirstDisk tells before n) c.in-Err.fault) c.joiners_of.ensures.number c.in-Err.ensures.first)
+
+pub returns-in-Some-clause-calm : goal.returns-in-Some-clause-calm
+returns-in-Some-clause-calm g c planned none =
+    let d = g.S.Disk.Disk in
+    let at = Left g.S.Store.stops g.S.Store.made in
+    let opened = c.in-Ok.open in
+    c.give_back.ensures.calm (each_calm d.stops d.made d.faults (at c.args.store.now) (topology_lent opened.topology.journal.disk ∷ lent_all opened.disks.items) (c.in-Ok.ensures.plan planned).out) ∙ c.open_disks.ensures.calm planned none

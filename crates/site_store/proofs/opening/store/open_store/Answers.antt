@@ -1,11 +1,14 @@
-use Rattle.std.proofs.Common.{Err, Some, refl, ap, ◌∙◌, sym, arith}
-use Rattle.site_store.proofs.Words.{AreTold, values_of, topology_lent, other_names}
+use Rattle.std.proofs.Common.{◌∷◌, Err, Some, refl, ap, ◌∙◌, sym, arith}
+use Rattle.site_store.proofs.Words.{AreTold, values_of, lent_all, topology_lent, other_names}
 use Rattle.site_store.proofs.Causes.{unwritten_cause, unwritten_memory}
 use Rattle.site_store.proofs.Damage.{unwritten_welcome}
 use Rattle.site_store.proofs.Leaving.{back_stays, back_grown, back_written, out_for, all_stay, all_grow, topology_written, joiners_same}
 use Rattle.site_store.proofs.Recorded.{left_with, whole_with}
 use Rattle.site_store.proofs.Sound.{welcome}
 use Rattle.site_store.proofs.Values.{names_kept}
+use Rattle.outside.specs.declared.store.DiskName.TheVariants as name
+use Rattle.site_store.specs.Plans.{Left}
+use Rattle.site_store.proofs.Planned.{each_calm, first_used}
 use Rattle.site_store.proofs.opening.store.open_store.Goals as goal
 
 pub returns-in-Err-clause-left : goal.returns-in-Err-clause-left
@@ -90,3 +93,19 @@ returns-in-Err-keep_topology-clause-cause g c =
 pub returns-in-Err-keep_topology-clause-welcome : goal.returns-in-Err-keep_topology-clause-welcome
 returns-in-Err-keep_topology-clause-welcome g c sure log_sure = λ s asked replicas log_is end_is sound.
     unwritten_welcome _ c.in-Err-keep_topology.fault _ _ c.in-Err-keep_topology.ensures.unwritten
+
+pub returns-in-Ok-keep_topology-clause-plan : goal.returns-in-Ok-keep_topology-clause-plan
+returns-in-Ok-keep_topology-clause-plan g c planned =
+    let d = g.S.Disk.Disk in
+    let at = Left g.S.Store.stops g.S.Store.made in
+    first_used d.stops d.made d.faults (at c.args.store.now) (at c.open_for.new.store) 4 (topology_lent c.in-Ok.open.topology.journal.disk) (topology_lent c.keep_topology.new.topology.journal.disk) _ refl (c.in-Ok-keep_topology.ensures.plan planned) (c.in-Ok.ensures.plan planned)
+
+pub returns-in-Err-keep_topology-clause-calm : goal.returns-in-Err-keep_topology-clause-calm
+returns-in-Err-keep_topology-clause-calm g c planned none =
+    let d = g.S.Disk.Disk in
+    let at = Left g.S.Store.stops g.S.Store.made in
+    let taken = c.in-Ok.ensures.plan planned in
+    let opened = c.in-Ok.open in
+    let each = each_calm d.stops d.made d.faults (at c.args.store.now) (topology_lent opened.topology.journal.disk ∷ lent_all opened.disks.items) taken.out in
+    let met = c.keep_topology.ensures.calm planned (taken.out.0.most 0 (none name.Topology)) ∙ each.0 in
+    c.give_back.ensures.calm (met, each.1) ∙ c.open_for.ensures.calm planned none
