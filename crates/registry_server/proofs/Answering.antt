@@ -1,7 +1,7 @@
 -- The rows that look for the proposal at a place and ballot, and those that learn a value.
 use Rattle.std.proofs.Common.{◌≡◌, ℕ, ◌-◌, ◌<◌, ◌≤◌, ◌&&◌, Bool, true, false, is_some, List, [], ◌∷◌, length, Some, None, refl, sym, ap, ◌∙◌, subst}
 use Rattle.std.specs.Prelude.{Option, option_map}
-use Rattle.registry_server.proofs.Words.{LAST_SLOT, cond-true, cond-false, and_from, and_left, and_right, lt-ltb, le-ltb, eq-eqb, ne_eqb, Ballot, Batch, Place, Phase, on_promise, on_accepted, Proposer, ballot_of, own_of, phase_of, promise_turn, acceptance_turn, Packet, AcceptPacket, Chosen, Node, Server, To, Only, Setting, shards, idle, ServerKept, ServerLive, is_below_limit, is_next, to_replicas, accept_if, promised, accepted, nacked, gets_promise, gets_accepted, gets_nack, gets_chosen, setting, sent, NotLast, proposal_of, counts_promise, counts_accepted, Gives, IsStep, IsAt, FitsAt, accept_all, current_of, learns_behind, Station, Shard, Promise, Accept, Change, Turn}
+use Rattle.registry_server.proofs.Words.{LAST_SLOT, cond-true, cond-false, and_from, and_left, and_right, lt-ltb, le-ltb, eq-eqb, ne_eqb, Ballot, Batch, Place, Phase, on_promise, on_accepted, Proposer, ballot_of, own_of, phase_of, promise_turn, acceptance_turn, Packet, AcceptPacket, Chosen, Node, Server, To, Only, Setting, shards, idle, ServerKept, ServerLive, is_below_limit, is_next, to_replicas, accept_if, promised, accepted, gets_promise, gets_accepted, gets_chosen, setting, sent, NotLast, proposal_of, counts_promise, counts_accepted, Gives, IsStep, IsAt, FitsAt, Out, Proposal, is_current, accept_all, current_of, learns_behind, Station, Shard, Promise, Accept, Change, Turn}
 use Rattle.registry_server.specs.declared.turn.Change.TheVariants as change
 use Rattle.registry_server.proofs.Going.{current_is, is_turn, is_acceptance, accepted_value, row_some, row_none}
 use Rattle.registry_server.proofs.Rowing.{proposal_is, one_gives, same_row}
@@ -24,28 +24,14 @@ module _ (g : Setting) (site : ℕ) (k : ServerKept) (l : ServerLive) (n r : ℕ
   next_is : h.next ≡ length (l.shards n).learned
   next_is = at.stands.learned.next
 
-  held_proposal : (l.shards n).proposal ≡ option_map proposal_of h.proposal
-  held_proposal = proposal_is h (l.shards n) at.stands
-
   module _ (b : Ballot) where
-    pub promise_none : (from : ℕ) (prior : Option (Ballot × Batch)) → None ≡ current_of h slot b → gets_promise g site k l from (at_slot n slot) b prior (l.shards n) (l.shards n).proposal ≡ idle l
-    promise_none from prior s =
-        row_none g (at_slot n slot) b (l.shards n) l h (λ o. gets_promise g site k l from (at_slot n slot) b prior (l.shards n) o) (λ q. promised g site k l (at_slot n slot) (l.shards n) q (on_promise q.own q.phase from prior))
-        next_is held_proposal refl (λ q. refl) s
-
-    pub accepted_none : (from : ℕ) → None ≡ current_of h slot b → gets_accepted g site k l from (at_slot n slot) b (l.shards n) (l.shards n).proposal ≡ idle l
-    accepted_none from s =
-        row_none g (at_slot n slot) b (l.shards n) l h (λ o. gets_accepted g site k l from (at_slot n slot) b (l.shards n) o) (λ q. accepted g site k l (at_slot n slot) (l.shards n) q (on_accepted q.phase from).0 (on_accepted q.phase from).1)
-        next_is held_proposal refl (λ q. refl) s
-
-    pub nack_none : (above : Ballot) → None ≡ current_of h slot b → gets_nack g site k l (at_slot n slot) b above (l.shards n) (l.shards n).proposal ≡ idle l
-    nack_none above s =
-        row_none g (at_slot n slot) b (l.shards n) l h (λ o. gets_nack g site k l (at_slot n slot) b above (l.shards n) o) (λ q. nacked g site k l (at_slot n slot) (l.shards n) above)
-        next_is held_proposal refl (λ q. refl) s
+    -- there is no such proposal
+    pub none_gives : (F : Option Proposal → Out ServerLive) (turn : Turn) → None ≡ current_of h slot b → F None ≡ idle l → ((q : Proposal) → is_current g (at_slot n slot) b (l.shards n) q ≡ false → F (Some q) ≡ idle l) → Gives g site l turn (idle l) → Gives g site l turn (F (l.shards n).proposal)
+    none_gives F turn s none some gives = same_row g site l turn _ _ (row_none g (at_slot n slot) b (l.shards n) l h next_is (proposal_is h (l.shards n) at.stands) F none some s) gives
 
     module _ (p : Proposer) (s : Some p ≡ current_of h slot b) where
       is_now : (l.shards n).proposal ≡ Some (proposal_of p)
-      is_now = held_proposal ∙ ap (option_map proposal_of) (current_is slot h.next b h.proposal p s).0
+      is_now = proposal_is h (l.shards n) at.stands ∙ ap (option_map proposal_of) (current_is slot h.next b h.proposal p s).0
 
       same_ballots : ballot_of p ≡ b
       same_ballots = (current_is slot h.next b h.proposal p s).2
@@ -53,8 +39,8 @@ module _ (g : Setting) (site : ℕ) (k : ServerKept) (l : ServerLive) (n r : ℕ
       pub accepted_some : (from : ℕ) → gets_accepted g site k l from (at_slot n slot) b (l.shards n) (l.shards n).proposal
           ≡ accepted g site k l (at_slot n slot) (l.shards n) (proposal_of p) (on_accepted (phase_of p) from).0 (on_accepted (phase_of p) from).1
       accepted_some from =
-          row_some g (at_slot n slot) b (l.shards n) l h (λ o. gets_accepted g site k l from (at_slot n slot) b (l.shards n) o) (λ q. accepted g site k l (at_slot n slot) (l.shards n) q (on_accepted q.phase from).0 (on_accepted q.phase from).1)
-          at.within next_is held_proposal (λ q. refl) p s
+          row_some g (at_slot n slot) b (l.shards n) l h next_is (proposal_is h (l.shards n) at.stands) (gets_accepted g site k l from (at_slot n slot) b (l.shards n)) at.within
+          (λ q. accepted g site k l (at_slot n slot) (l.shards n) q (on_accepted q.phase from).0 (on_accepted q.phase from).1) (λ q. refl) p s
 
       -- one acceptance more is counted
       pub counted_gives : (from : ℕ) (turn : Turn) (items : List (Node × Packet)) → is_some (acceptance_turn p from b).1 ≡ false → IsStep turn n r items (Accept from) → sent items ≡ []
@@ -99,8 +85,8 @@ module _ (t : Station) (g : Setting) (k : ServerKept) (l : ServerLive) (n r : �
   promise_gives p s from prior turn items is es =
       let c = current_is slot h.next b h.proposal p s in
       let now : (l.shards n).proposal ≡ Some (proposal_of p) = proposal_is h (l.shards n) at.stands ∙ ap (option_map proposal_of) c.0 in
-      let row = row_some (setting t g) (at_slot n slot) b (l.shards n) l h (λ o. gets_promise (setting t g) t.site k l from (at_slot n slot) b prior (l.shards n) o) (λ q. promised (setting t g) t.site k l (at_slot n slot) (l.shards n) q (on_promise q.own q.phase from prior))
-      at.within at.stands.learned.next (proposal_is h (l.shards n) at.stands) (λ q. refl) p s in
+      let row = row_some (setting t g) (at_slot n slot) b (l.shards n) l h at.stands.learned.next (proposal_is h (l.shards n) at.stands) (gets_promise (setting t g) t.site k l from (at_slot n slot) b prior (l.shards n)) at.within
+      (λ q. promised (setting t g) t.site k l (at_slot n slot) (l.shards n) q (on_promise q.own q.phase from prior)) (λ q. refl) p s in
       same_row (setting t g) t.site l turn _ _ row
       (one_gives (setting t g) t.site l turn n r l.round items (Promise from prior) _ _ is
       (es ∙ ap (λ (z : Phase Batch × Option Batch). accept_all t.config.replicas (at_slot n slot) b z.1) (is_turn p from b prior c.2) ∙ accept_same p (on_promise (own_of p) (phase_of p) from prior).1 c.2)

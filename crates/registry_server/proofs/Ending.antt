@@ -1,7 +1,7 @@
 -- A turn of a server over its disk, and its restart, as the states' entries.
-use Rattle.std.proofs.Common.{◌≡◌, inl, inr, ⊎_elim, ℕ, ◌+◌, ◌≤◌, true, false, List, [], length, Option, Some, None, refl, sym, ap, ◌∙◌, subst}
-use Rattle.std.specs.Prelude.{is_some, option_map, Result, Ok, Err, OnErr}
-use Rattle.registry_server.proofs.Words.{ends_idle, ends_done, Throughout, joins, weaker, Continues, continues_same, continues_through, IsOpened, read_as, epochs, Keeps, IsLeft, JournalState, Ready, Bytes, Begin, End, Stop, Input, Note, land, AreSpelled, Reads, IsJunk, record_of, Leads, row, written, closes, land_server, Serves, note_of, site_of, SiteKept, RegistrarView, ServesSite, Knows, IsRow, landed, server_rows, ServerCore, ServerNote, Turn, ServerState, recorded, Holds, HoldsOr, OnDisk, OnDiskOr, KeptOn, StandsAt}
+use Rattle.std.proofs.Common.{◌≡◌, ◌==◌, ◌⊎◌, cond, not, arith, inl, inr, ⊎_elim, ℕ, ◌+◌, ◌≤◌, true, false, List, [], length, Option, Some, None, refl, sym, ap, ◌∙◌, subst}
+use Rattle.std.specs.Prelude.{Bool, is_some, option_map}
+use Rattle.registry_server.proofs.Words.{ends_idle, ends_done, Throughout, eq-eqb, ne_eqb, turn_moments, IsOpened, read_as, epochs, Keeps, IsLeft, JournalState, Ready, Bytes, Begin, End, Stop, Input, Note, land, AreSpelled, Reads, IsJunk, record_of, Leads, row, written, closes, land_server, Serves, note_of, site_of, SiteKept, RegistrarView, ServesSite, Knows, IsRow, landed, server_rows, ServerCore, ServerNote, Turn, ServerState, recorded, Holds, HoldsOr, OnDisk, OnDiskOr, KeptOn, StandsAt}
 use Rattle.registry_server.proofs.Landing.{down_stands, left_of, noted_bytes, moved}
 
 -- what is kept once the row's note is written
@@ -12,17 +12,6 @@ landed_is k o (Some m) e = λ j. record { site = k.site; disk = land land_server
 site_stays : (k : SiteKept) (n : Option Note) → (land server_rows.lands n k).site ≡ k.site
 site_stays k None = refl
 site_stays k (Some m) = refl
-
--- what an open turn may have left, at any moment of it
-pub kept_or : (s t : ServerState) (n : ℕ) (b : Bytes) (i : Input) (turn : Turn) (c : List ℕ) → Leads server_rows s (Begin n b) t → Reads s.setting b i → IsRow s.setting (row server_rows s i) turn → OnDiskOr s.kept.disk turn.note c → KeptOn t c
-kept_or s t n b i turn c led reads is holds =
-    subst (λ (x : ServerState). KeptOn x c) (sym led.2)
-    (⊎_elim (λ old. (s.kept, inl refl, old))
-    (λ new. (written server_rows s i, inr (b, i, refl, reads, refl), subst (λ (k : SiteKept). OnDisk k.disk c) (landed_is s.kept turn.note (row server_rows s i).note is.note) new))
-    holds)
-
-pub kept_still : (s t : ServerState) (n : ℕ) (b : Bytes) (c : List ℕ) → Leads server_rows s (Begin n b) t → OnDisk s.kept.disk c → KeptOn t c
-kept_still s t n b c led holds = subst (λ (x : ServerState). KeptOn x c) (sym led.2) (s.kept, inl refl, holds)
 
 -- what no packet spells changes nothing
 pub idles : (site : ℕ) (doubt : Option (List ℕ)) (epoch : ℕ) (image : List ℕ → Type 0) (state : JournalState) (v : RegistrarView) (s t : ServerState) (n : ℕ) (b : Bytes) (ps : List (ℕ × List ℕ)) (sent : ℕ) → doubt ≡ None → StandsAt site doubt epoch image state v s
@@ -66,64 +55,48 @@ stays_open site site' (Some r) epoch' image' state' v' s t n b i turn at_site le
       by = (holds.0, record { begun = b; opened = refl; input = i; reads = reads; noted = sym is.note ∙ ap (option_map note_of) holds.1; is = holds.2 }, knows.serves);
     })
 
--- what is found after a stop
-pub record Found (site' : ℕ) (epoch' : ℕ) (image image' : List ℕ → Type 0) (state' : JournalState) (v' : RegistrarView) : Type 0 where
-  pub left : IsLeft image epoch'
-  pub ready : state' ≡ Ready
-  pub durable : (c : List ℕ) → image' c → Keeps epoch' c
-  pub down : v'.up ≡ false
+-- a restart that finds this epoch
+module _ (site site' : ℕ) (epoch epoch' : ℕ) (image image' : List ℕ → Type 0) (state state' : JournalState) (v v' : RegistrarView) (s : ServerState) (here : site' ≡ site) (core : v'.core ≡ v.core) (left : IsLeft image epoch') (ready : state' ≡ Ready) (durable : (c : List ℕ) → image' c → Keeps epoch' c) (down : v'.up ≡ false) where
+  downs : (k : SiteKept) → k.site ≡ s.kept.site → s.kept.site ≡ site → epoch' ≡ k.disk.epoch → ServesSite v s.setting s.kept → StandsAt site' None epoch' image' state' v' (closes s k None)
+  downs k same at_site is serves =
+      down_stands site' epoch' image' state' v' s.setting k (same ∙ at_site ∙ sym here)
+      (record { ready = ready; epoch = is; durable = λ c now. subst (λ (e : ℕ). Keeps e c) is (durable c now) })
+      (record { site = ap site_of core ∙ serves.site ∙ sym same; setting = subst (λ (x : ServerCore). Serves x s.setting) (sym core) serves.setting }) down
 
-module _ (site site' : ℕ) (epoch epoch' : ℕ) (image image' : List ℕ → Type 0) (state state' : JournalState) (v v' : RegistrarView) (s : ServerState) (found : Found site' epoch' image image' state' v') (here : site' ≡ site) (core : v'.core ≡ v.core) where
-  serves_as : (k : SiteKept) → k.site ≡ s.kept.site → ServesSite v s.setting s.kept → ServesSite v' s.setting k
-  serves_as k at_site serves = record {
-    site = ap site_of core ∙ serves.site ∙ sym at_site;
-    setting = subst (λ (c : ServerCore). Serves c s.setting) (sym core) serves.setting;
-  }
-
-  downs : (k : SiteKept) → k.site ≡ site → epoch' ≡ k.disk.epoch → ServesSite v' s.setting k → StandsAt site' None epoch' image' state' v' (closes s k None)
-  downs k at_site is serves =
-      down_stands site' epoch' image' state' v' s.setting k (at_site ∙ sym here)
-      (record { ready = found.ready; epoch = is; durable = λ c now. subst (λ (e : ℕ). Keeps e c) is (found.durable c now) }) serves found.down
-
-  pub nothing_landed : (doubt : Option (List ℕ)) (n : ℕ) → is_some doubt ≡ true → StandsAt site doubt epoch image state v s → epoch' ≡ epoch → (u : ServerState) × Leads server_rows s (Stop n None) u × StandsAt site' None epoch' image' state' v' u
-  nothing_landed None n waits at stayed = absurd (cc waits)
-  nothing_landed (Some r) n waits at stayed =
-      let open_at = at.by.1 in (
-        closes s s.kept None,
-        (open_at.begun, open_at.opened, inl (refl, refl)),
-        downs s.kept at.site (stayed ∙ at.by.0.epoch) (serves_as s.kept refl at.by.2),
-      )
-
-  pub note_landed : (doubt : Option (List ℕ)) (n : ℕ) → is_some doubt ≡ true → StandsAt site doubt epoch image state v s → (epoch' ≡ epoch → ⊥) → (u : ServerState) × Leads server_rows s (Stop n doubt) u × StandsAt site' None epoch' image' state' v' u
-  note_landed None n waits at moved_on = absurd (cc waits)
-  note_landed (Some r) n waits at moved_on =
+  -- the entry tells the note where another epoch was found
+  pub restarts : (doubt : Option (List ℕ)) (n : ℕ) (landed : Bool) → is_some doubt ≡ true → StandsAt site doubt epoch image state v s → landed ≡ not (epoch' == epoch)
+      → (u : ServerState) × Leads server_rows s (Stop n (cond landed doubt None)) u × StandsAt site' None epoch' image' state' v' u
+  restarts None n landed waits at is = absurd (cc waits)
+  restarts (Some r) n landed waits at is =
       let open_at = at.by.1 in
-      let i = open_at.input in
-      let k = written server_rows s i in
+      let was = at.by.0.epoch in
+      let k = written server_rows s open_at.input in
       let kept : record { site = s.kept.site; disk = record { epoch = s.kept.disk.epoch + 1 } } ≡ k = ap (λ (o : Option Note). land server_rows.lands o s.kept) (sym open_at.noted) in
-      let next : epoch' ≡ s.kept.disk.epoch + 1 =
-      ⊎_elim (λ old. absurd (moved_on (old ∙ sym at.by.0.epoch))) (λ new. new) (left_of s.kept.disk image epoch' at.by.0.images found.left)
-      in
-      let at_site : k.site ≡ s.kept.site = ap (λ (x : SiteKept). x.site) (sym kept) in (
-        closes s k None,
-        (open_at.begun, open_at.opened, inr (i, open_at.reads, ap (λ (b : List ℕ). Some b) open_at.is ∙ ap (option_map record_of) (sym open_at.noted), refl)),
-        downs k (at_site ∙ at.site) (next ∙ ap (λ (x : SiteKept). x.disk.epoch) kept) (serves_as k at_site at.by.2),
-      )
+      ⊎_elim
+      (λ old.
+      let none = is ∙ ap not (eq-eqb epoch' epoch (old ∙ sym was)) in
+      let u = closes s s.kept None in
+      (u, subst (λ (b : Bool). Leads server_rows s (Stop n (cond b (Some r) None)) u) (sym none) (open_at.begun, open_at.opened, inl (refl, refl)), downs s.kept refl at.site old at.by.2))
+      (λ new.
+      let some = is ∙ ap not (ne_eqb epoch' epoch (λ e. omega (arith, e, new, was))) in
+      let u = closes s k None in
+      let noted = ap (λ (b : List ℕ). Some b) open_at.is ∙ ap (option_map record_of) (sym open_at.noted) in (
+        u,
+        subst (λ (b : Bool). Leads server_rows s (Stop n (cond b (Some r) None)) u) (sym some) (open_at.begun, open_at.opened, inr (open_at.input, open_at.reads, noted, refl)),
+        downs k (ap (λ (x : SiteKept). x.site) (sym kept)) at.site (new ∙ ap (λ (x : SiteKept). x.disk.epoch) kept) at.by.2,
+      ))
+      (left_of s.kept.disk image epoch' at.by.0.images left)
 
--- the moments of a turn: first room is made, then the note is appended
-module _ {D : Type 0} (image : D → List ℕ → Type 0) (since : D → D → List ℕ → Type 0) where
-  pub turn_moments : (old mid new : D) (s t : ServerState) (n : ℕ) (b : Bytes) (i : Input) (turn : Turn) → Leads server_rows s (Begin n b) t → Reads s.setting b i → IsRow s.setting (row server_rows s i) turn → ((c : List ℕ) → image old c → OnDisk s.kept.disk c)
-      → Throughout image since old mid (image old) → Throughout image since mid new (OnDiskOr s.kept.disk turn.note) → Throughout image since old new (KeptOn t)
-  turn_moments old mid new s t n b i turn led reads is durable first next =
-      joins image since old mid new (KeptOn t) (weaker image since old mid (image old) (KeptOn t) (λ c here. kept_still s t n b c led (durable c here)) first)
-      (weaker image since mid new (OnDiskOr s.kept.disk turn.note) (KeptOn t) (λ c holds. kept_or s t n b i turn c led reads is holds) next)
+-- a turn leaves, at each of its moments, what the opened state keeps
+pub turn_left : {D : Type 0} (image : D → List ℕ → Type 0) (since : D → D → List ℕ → Type 0) (old mid new : D) (s t : ServerState) (n : ℕ) (b : Bytes) (i : Input) (turn : Turn) → Leads server_rows s (Begin n b) t → Reads s.setting b i → IsRow s.setting (row server_rows s i) turn → ((c : List ℕ) → image old c → OnDisk s.kept.disk c)
+    → Throughout image since old mid (image old) → Throughout image since mid new (OnDiskOr s.kept.disk turn.note) → (c : List ℕ) → since old new c → KeptOn t c
+turn_left image since old mid new s t n b i turn led reads is durable first next =
+    turn_moments image since old mid new first server_rows (λ k. OnDisk k.disk) s t n b i led reads durable
+    (subst (λ (k : SiteKept). Throughout image since mid new (λ c. OnDisk s.kept.disk c ⊎ OnDisk k.disk c)) (landed_is s.kept turn.note (row server_rows s i).note is.note) next)
 
-  pub turn_grown : (old mid new : D) → Throughout image since old mid (image old) → ((c : List ℕ) → image new c → Continues (image mid) c) → (c : List ℕ) → image new c → Continues (image old) c
-  turn_grown old mid new first next c here = continues_through (image old) (image mid) (λ d now. continues_same (image old) d (first.now d now)) c (next c here)
-
-  -- a disk that is read again keeps what its images keep
-  pub left_moments : (old new : D) (s : ServerState) → ((c : List ℕ) → image old c → KeptOn s c) → Throughout image since old new (IsOpened (image old)) → Throughout image since old new (KeptOn s)
-  left_moments old new s kept all = weaker image since old new (IsOpened (image old)) (KeptOn s) (λ c left. let from = kept left.0 left.1 in (from.0, from.1, ap (read_as epochs) left.2 ∙ from.2)) all
+-- a disk that is read again keeps what its images keep
+pub left_again : (s : ServerState) (image : List ℕ → Type 0) → ((c : List ℕ) → image c → KeptOn s c) → (c : List ℕ) → IsOpened image c → KeptOn s c
+left_again s image kept c left = let from = kept left.0 left.1 in (from.0, from.1, ap (read_as epochs) left.2 ∙ from.2)
 
 -- a turn that is refused before it writes is open still
 pub still_open : (site site' : ℕ) (doubt doubt' : Option (List ℕ)) (epoch epoch' : ℕ) (image image' : List ℕ → Type 0) (state state' : JournalState) (v v' : RegistrarView) (s t : ServerState) (n : ℕ) (b : Bytes) → StandsAt site doubt epoch image state v s → Leads server_rows s (Begin n b) t
@@ -133,7 +106,3 @@ still_open site site' doubt doubt' epoch epoch' image image' state state' v v' s
     record { site = at.site ∙ sym here; by = (holds, knows) }
     in
     subst (λ (d : Option (List ℕ)). StandsAt site' d epoch' image' state' v' t) (sym (doubts ∙ none)) (subst (λ (x : ServerState). StandsAt site' None epoch' image' state' v' x) (sym led.2) now)
-
-pub on_err : {T E : Type 0} (r : Result T E) (Q : Type 0) → Q → OnErr r Q
-on_err (Ok x) Q q = tt
-on_err (Err e) Q q = q

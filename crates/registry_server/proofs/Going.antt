@@ -1,7 +1,7 @@
 -- A proposal goes on until a majority has accepted its value.
 use Rattle.std.proofs.Common.{◌≡◌, ℕ, ◌<◌, ◌==◌, ◌&&◌, true, false, cond, is_some, List, length, set, Some, None, refl, sym, ap, ◌∙◌, subst, ⊎_elim}
 use Rattle.std.specs.Prelude.{Option, option_map, Bool}
-use Rattle.registry_server.proofs.Words.{cond_both, cond-true, cond-false, and_parts, and_from, and_left, and_right, lt-ltb, eq-eqb, eqb-true, and_cases, false_from_ne_true, cond_some, none-some, tied_itself, is_eq, Ballot, is_same, ballots_total, same_true, Batch, Place, Phase, is_new, is_most, on_promise, with_acceptance, on_accepted, Promising, Accepting, Ended, Proposer, ballot_of, own_of, phase_of, promise_turn, acceptance_turn, Setting, shards, Out, idle, ServerLive, ShardState, Proposal, is_current, proposal_of, current_in, current_of, Shard}
+use Rattle.registry_server.proofs.Words.{cond_both, cond-true, and_parts, and_from, and_left, and_right, lt-ltb, eq-eqb, eqb-true, and_cases, false_from_ne_true, cond_some, none-some, tied_itself, is_eq, Ballot, is_same, ballots_total, same_true, Batch, Place, Phase, is_new, is_most, on_promise, with_acceptance, on_accepted, Promising, Accepting, Ended, Proposer, ballot_of, own_of, phase_of, promise_turn, acceptance_turn, Setting, shards, Out, idle, ServerLive, ShardState, Proposal, is_current, proposal_of, current_in, current_of, Shard}
 
 pub same_itself : (b : Ballot) → is_same b b ≡ true
 same_itself b = ap is_eq (tied_itself ballots_total b)
@@ -30,27 +30,24 @@ pub is_acceptance : (p : Proposer) (r : ℕ) (b : Ballot) → ballot_of p ≡ b 
 is_acceptance p r b e = cond-true (is_same b (ballot_of p)) _ _ (subst (λ z. is_same b z ≡ true) (sym e) (same_itself b))
 
 -- A row that looks for the proposal at a place and ballot: F makes it of the shard's proposal.
-module _ (g : Setting) (at : Place) (b : Ballot) (st : ShardState) (l : ServerLive) (h : Shard) (F : Option Proposal → Out ServerLive) (G : Proposal → Out ServerLive) where
-  pub row_some : at.shard < shards g → h.next ≡ length st.learned → st.proposal ≡ option_map proposal_of h.proposal → ((q : Proposal) → F (Some q) ≡ cond (is_current g at b st q) (G q) (idle l))
-      → (p : Proposer) → Some p ≡ current_of h at.slot b → F st.proposal ≡ G (proposal_of p)
-  row_some w n e f p s =
+module _ (g : Setting) (at : Place) (b : Ballot) (st : ShardState) (l : ServerLive) (h : Shard) (next : h.next ≡ length st.learned) (is : st.proposal ≡ option_map proposal_of h.proposal) (F : Option Proposal → Out ServerLive) where
+  pub row_some : at.shard < shards g → (G : Proposal → Out ServerLive) → ((q : Proposal) → F (Some q) ≡ cond (is_current g at b st q) (G q) (idle l)) → (p : Proposer) → Some p ≡ current_of h at.slot b → F st.proposal ≡ G (proposal_of p)
+  row_some w G f p s =
       let c = current_is at.slot h.next b h.proposal p s in
-      let q : st.proposal ≡ Some (proposal_of p) = e ∙ ap (option_map proposal_of) c.0 in
+      let q : st.proposal ≡ Some (proposal_of p) = is ∙ ap (option_map proposal_of) c.0 in
       let same : is_same (ballot_of p) b ≡ true = subst (λ z. is_same (ballot_of p) z ≡ true) c.2 (same_itself (ballot_of p)) in
-      let test : is_current g at b st (proposal_of p) ≡ true = and_from _ _ (and_from _ _ (lt-ltb at.shard (shards g) w) (eq-eqb at.slot (length st.learned) (c.1 ∙ n))) same in
+      let test : is_current g at b st (proposal_of p) ≡ true = and_from _ _ (and_from _ _ (lt-ltb at.shard (shards g) w) (eq-eqb at.slot (length st.learned) (c.1 ∙ next))) same in
       ap F q ∙ f (proposal_of p) ∙ cond-true (is_current g at b st (proposal_of p)) _ _ test
 
-  pub row_none : h.next ≡ length st.learned → st.proposal ≡ option_map proposal_of h.proposal → F None ≡ idle l → ((q : Proposal) → F (Some q) ≡ cond (is_current g at b st q) (G q) (idle l))
-      → None ≡ current_of h at.slot b → F st.proposal ≡ idle l
-  row_none n e z f s = ap F e ∙ go h.proposal s
+  pub row_none : F None ≡ idle l → ((q : Proposal) → is_current g at b st q ≡ false → F (Some q) ≡ idle l) → None ≡ current_of h at.slot b → F st.proposal ≡ idle l
+  row_none z f s = ap F is ∙ go h.proposal s
     where
       go : (o : Option Proposer) → None ≡ current_in at.slot b h.next o → F (option_map proposal_of o) ≡ idle l
       go None s = z
       go (Some p) s =
           let off : ((at.slot == h.next) && is_same (ballot_of p) b) ≡ false = false_from_ne_true _ (λ t. none-some p (s ∙ cond-true _ (Some p) None t)) in
-          let test : is_current g at b st (proposal_of p) ≡ false =
-          ⊎_elim
-          (λ (t : (at.slot == h.next) ≡ false). and_left _ _ (and_right _ _ (subst (λ m. (at.slot == m) ≡ false) n t)))
+          f (proposal_of p)
+          (⊎_elim
+          (λ (t : (at.slot == h.next) ≡ false). and_left _ _ (and_right _ _ (subst (λ m. (at.slot == m) ≡ false) next t)))
           (λ (t : is_same (ballot_of p) b ≡ false). and_right _ _ t)
-          (and_cases (at.slot == h.next) (is_same (ballot_of p) b) off) in
-          f (proposal_of p) ∙ cond-false (is_current g at b st (proposal_of p)) _ _ test
+          (and_cases (at.slot == h.next) (is_same (ballot_of p) b) off))

@@ -1,32 +1,17 @@
 -- What a server over its disk stands for.
 use Rattle.std.proofs.Common.{◌≡◌, ◌⊎◌, inl, inr, ⊎_elim, ℕ, ◌+◌, ◌==◌, Bool, true, false, cond, List, Option, Some, None, refl, sym, ap, ◌∙◌, subst}
-use Rattle.std.specs.Prelude.{is_some, option_map, Result, Ok}
-use Rattle.registry_server.proofs.Words.{none_of, LAST_EPOCH, result_unwrap_or, cond-true, true≢false, KeepsOr, IsLeft, JournalState, Bytes, Input, Start, Own, Tick, Deliver, Setting, record_of, Reads, IsJunk, MayTake, NodeFault, Config, IsOf, ServerKept, ServerLive, Stands, note_of, SiteKept, RegistrarView, ServesSite, Knows, KnowsAs, Fits, landed, site_of, Turn, ServerCore, ServerNote, ServerState, recorded, Holds, StandsAt, StandsBy, is_spent_at, spent_at, IsNotPrepared}
+use Rattle.std.specs.Prelude.{is_some, option_map}
+use Rattle.registry_server.proofs.Words.{none_of, LAST_EPOCH, cond-true, true≢false, KeepsOr, IsLeft, JournalState, Bytes, Input, Start, Own, Tick, Setting, record_of, Reads, IsJunk, NodeFault, Config, IsOf, ServerKept, ServerLive, Stands, note_of, SiteKept, RegistrarView, ServesSite, Knows, KnowsAs, landed, site_of, Turn, ServerCore, ServerNote, ServerState, recorded, Holds, StandsAt, StandsBy, is_spent_at, spent_at, IsNotPrepared}
 use Rattle.air_bus.specs.declared.entry.Input.TheVariants as bytes
 use Rattle.site_node.specs.declared.kind.NodeFault.TheVariants as fault
 use Rattle.registry_server.specs.declared.turn.ServerNote.TheVariants as notes
+use Rattle.registry_server.proofs.Registering.{up_by}
 
 -- ---- which epoch a disk keeps after a stop
 
-abbrev kept_as : ℕ → Result ℕ ℕ
-kept_as e = Ok e
-
-same_epoch : (m n : ℕ) → kept_as m ≡ kept_as n → m ≡ n
-same_epoch m n e = ap (λ (r : Result ℕ ℕ). result_unwrap_or r 0) e
-
 pub left_of : (k : ServerKept) (image : List ℕ → Type 0) (epoch : ℕ) → ((c : List ℕ) → image c → KeepsOr k.epoch (k.epoch + 1) c) → IsLeft image epoch → (epoch ≡ k.epoch) ⊎ (epoch ≡ k.epoch + 1)
 left_of k image epoch images left =
-    ⊎_elim (λ old. inl (same_epoch epoch k.epoch (sym left.2 ∙ old))) (λ new. inr (same_epoch epoch (k.epoch + 1) (sym left.2 ∙ new))) (images left.0 left.1)
-
--- ---- inputs
-
-pub fits_of : (g : Setting) (live : Option ServerLive) (b : Bytes) (i : Input) → Reads g b i → MayTake live b → Fits live i
-fits_of g None bytes.Start i reads may = subst (Fits None) (sym reads) tt
-fits_of g None _ i reads may = absurd may
-fits_of g (Some l) bytes.Start i reads may = absurd may
-fits_of g (Some l) bytes.Own i reads may = subst (Fits (Some l)) (sym reads) tt
-fits_of g (Some l) bytes.Tick i reads may = subst (Fits (Some l)) (sym reads) tt
-fits_of g (Some l) (bytes.Packet from p) i reads may = subst (Fits (Some l)) (sym reads.5) tt
+    ⊎_elim (λ old. inl (cc (left.2, old))) (λ new. inr (cc (left.2, new))) (images left.0 left.1)
 
 pub noted_bytes : (o : Option ServerNote) → recorded o ≡ option_map record_of (option_map note_of o)
 noted_bytes None = refl
@@ -81,33 +66,23 @@ keeps_knows core v g k next turn site stays up stands = record {
 
 -- what a node that is up knows
 pub stands_up : (v : RegistrarView) (g : Setting) (k : SiteKept) (live : Option ServerLive) (l : ServerLive) → Knows v g k live → live ≡ Some l → Stands v.core g k.disk l
-stands_up v g k live l knows up = go v.up (subst (λ (o : Option ServerLive). KnowsAs v.up v.core g k.disk o) up knows.by)
-  where
-    go : (u : Bool) → KnowsAs u v.core g k.disk (Some l) → Stands v.core g k.disk l
-    go true by = by
-    go false by = absurd by
+stands_up v g k live l knows up = up_by v.up v.core g k.disk l (subst (λ (o : Option ServerLive). KnowsAs v.up v.core g k.disk o) up knows.by)
 
 pub up_stands : (site : ℕ) (doubt : Option (List ℕ)) (epoch : ℕ) (image : List ℕ → Type 0) (state : JournalState) (v : RegistrarView) (s : ServerState) (l : ServerLive) → is_some doubt ≡ false → StandsAt site doubt epoch image state v s → s.live ≡ Some l → Stands v.core s.setting s.kept.disk l
 up_stands site doubt epoch image state v s l waits at up = stands_up v s.setting s.kept s.live l (quiet site doubt epoch image state v s (none_of doubt waits) at).1 up
 
 -- ---- spent epochs
 
-spent_start : (k : ServerKept) (epoch e : ℕ) → epoch ≡ k.epoch → e ≡ epoch → (epoch == LAST_EPOCH) ≡ true → cond (k.epoch == LAST_EPOCH) (Some k.epoch) None ≡ Some e
-spent_start k epoch e same told is =
-    cond-true (k.epoch == LAST_EPOCH) (Some k.epoch) None (ap (λ n. n == LAST_EPOCH) (sym same) ∙ is) ∙ ap (λ n. Some n) (sym (told ∙ same))
-
-not_spent : {P : Type 0} (epoch : ℕ) (i j : Input) → i ≡ j → is_spent_at epoch j ≡ false → is_spent_at epoch i ≡ true → P
-not_spent epoch i j is off on = absurd (true≢false (sym on ∙ ap (is_spent_at epoch) is ∙ off))
-
 -- a turn that is refused since the epoch is spent
 pub spent_told : (s : ServerState) (b : Bytes) (i : Input) (f : NodeFault) (e epoch : ℕ) → Reads s.setting b i → epoch ≡ s.kept.disk.epoch → IsNotPrepared epoch i f → f ≡ fault.Spent e → spent_at s b ≡ Some e
 spent_told s b i f e epoch reads same why is = go b reads (subst (IsNotPrepared epoch i) is why)
   where
     go : (b : Bytes) → Reads s.setting b i → (e ≡ epoch) × (is_spent_at epoch i ≡ true) → spent_at s b ≡ Some e
-    go bytes.Start reads told = spent_start s.kept.disk epoch e same told.0 (ap (is_spent_at epoch) (sym reads) ∙ told.1)
-    go bytes.Own reads told = not_spent epoch i Own reads refl told.1
-    go bytes.Tick reads told = not_spent epoch i Tick reads refl told.1
-    go (bytes.Packet from p) reads told = not_spent epoch i (Deliver reads.0 reads.1) reads.5 refl told.1
+    go bytes.Start reads told =
+        cond-true (s.kept.disk.epoch == LAST_EPOCH) (Some s.kept.disk.epoch) None (ap (λ n. n == LAST_EPOCH) (sym same) ∙ ap (is_spent_at epoch) (sym reads) ∙ told.1) ∙ ap (λ n. Some n) (sym (told.0 ∙ same))
+    go bytes.Own reads told = absurd (true≢false (sym told.1 ∙ ap (is_spent_at epoch) reads))
+    go bytes.Tick reads told = absurd (true≢false (sym told.1 ∙ ap (is_spent_at epoch) reads))
+    go (bytes.Packet from p) reads told = absurd (true≢false (sym told.1 ∙ ap (is_spent_at epoch) reads.5))
 
 -- where the kept epoch is the last one, a start is refused
 pub spent_input : (s : ServerState) (b : Bytes) (i : Input) (e epoch : ℕ) → Reads s.setting b i → epoch ≡ s.kept.disk.epoch → spent_at s b ≡ Some e → is_spent_at epoch i ≡ true

@@ -1,13 +1,6 @@
 -- Lists of shards that stand for the states of their numbers, changed in one place.
 use Rattle.std.proofs.Common.{◌≡◌, ℕ, ◌+◌, ◌<◌, ◌≤◌, false, List, [], ◌∷◌, ◌++◌, length, take, drop, get_or, set, refl, sym, ap, ◌∙◌, subst, ⊎_elim, arith}
-use Rattle.registry_server.proofs.Words.{cases_eq, cases_lt, get_or-set_same, get_or-set_other, length-set, length-append, get_or_append_left, get_or_at, append-nil, take_all, drop_all, ShardState, IsShard, EachStands, Shard}
-
--- one shard more
-pub push_each : (xs : List Shard) (f : ℕ → ShardState) (v : Shard) → EachStands xs f → IsShard v (f (length xs)) → EachStands (xs ++ v ∷ []) f
-push_each xs f v h k = λ s d lt. ⊎_elim (λ (w : s < length xs). subst (λ x. IsShard x (f s)) (sym (get_or_append_left xs (v ∷ []) d s w)) (h s d w)) (λ (w : length xs ≤ s). last s d (let n = length-append xs (v ∷ []) in omega arith)) (cases_lt s (length xs))
-  where
-    last : (s : ℕ) (d : Shard) → length xs ≡ s → IsShard (get_or (xs ++ v ∷ []) s d) (f s)
-    last s d e = subst (λ x. IsShard x (f s)) (sym (get_or_at xs v [] d s e)) (subst (λ n. IsShard v (f n)) e k)
+use Rattle.registry_server.proofs.Words.{cases_eq, get_or-set_same, get_or-set_other, length-set, append-nil, take_all, drop_all, ShardState, IsShard, EachStands, Shard}
 
 -- one shard in the place of another, which stands for whatever that one stands for
 pub set_each : (xs : List Shard) (f : ℕ → ShardState) (i : ℕ) (old new : Shard) → i < length xs → old ≡ get_or xs i old → ((st : ShardState) → IsShard old st → IsShard new st) → EachStands xs f → EachStands (set xs i new) f

@@ -1,8 +1,8 @@
 -- What a registrar decides and keeps.
 use Rattle.std.proofs.Common.{◌≡◌, inl, inr, ⊎_elim, ℕ, Bool, true, false, Option, Some, None, refl, sym, ap, ◌∙◌, subst}
 use Rattle.std.specs.Prelude.{All, option_map, Result, Ok, Err, IfOk}
-use Rattle.registry_server.proofs.Words.{Packet, Node, Input, Start, Own, Tick, Deliver, IsPacket, Setting, Note, Out, land, IsInput, row_of, ServerKept, ServerLive, land_server, server_start, server_turn, Stands, Serves, Begins, IsTurn, Carries, CarriesStart, changed, note_of, site_of, IsSpelledPlan, IsSpelledLive, SiteKept, KnowsAs, Knows, Fits, MayRaise, IsNextNote, IsRow, Makes, IsSpelledCore, IsSpelledTurn, landed, server_rows, ServerCore, ServerInput, ServerNote, Turn}
-use Rattle.registry_server.proofs.Spelling.{Sends, start_ok, turn_ok, sent_ok}
+use Rattle.registry_server.proofs.Words.{sent_ok, Packet, Node, Input, Start, Own, Tick, Deliver, IsPacket, Setting, Note, Out, land, IsInput, row_of, ServerKept, ServerLive, land_server, server_start, server_turn, Stands, Serves, Begins, IsTurn, Carries, CarriesStart, changed, note_of, site_of, IsSpelledPlan, IsSpelledLive, SiteKept, KnowsAs, Knows, Fits, MayRaise, IsNextNote, IsRow, Makes, IsSpelledCore, IsSpelledTurn, landed, server_rows, ServerCore, ServerInput, ServerNote, Turn}
+use Rattle.registry_server.proofs.Spelling.{Sends, start_ok, turn_ok}
 
 -- the turn that the core decides on an input, where the disk has this epoch
 pub record Decides (old new : ServerCore) (epoch : ℕ) (i : Input) (turn : Turn) : Type 0 where
@@ -17,7 +17,7 @@ pub all_three : {T E : Type 0} (r : Result T E) (A B C Q : T → Type 0) → IfO
 all_three (Ok x) A B C Q a b c go = go x a b c
 all_three (Err e) A B C Q a b c go = tt
 
-up_by : (u : Bool) (core : ServerCore) (g : Setting) (k : ServerKept) (l : ServerLive) → KnowsAs u core g k (Some l) → Stands core g k l
+pub up_by : (u : Bool) (core : ServerCore) (g : Setting) (k : ServerKept) (l : ServerLive) → KnowsAs u core g k (Some l) → Stands core g k l
 up_by true core g k l knows = knows
 up_by false core g k l knows = absurd knows
 
@@ -31,9 +31,6 @@ pub stays : (u : Bool) (old new : ServerCore) (g : Setting) (k : SiteKept) (live
     → Knows (record { core = old; up = u }) g k live → Knows (record { core = new; up = u }) g k live
 stays u old new g k live same serves site knows = record { serves = record { site = site ∙ knows.serves.site; setting = serves g knows.serves.setting }; by = knows_same u old new g k.disk live (same g k.disk) knows.by }
 
-row_from : (g : Setting) (site : ℕ) (l : ServerLive) (turn : Turn) (out : Out ServerLive) → IsTurn g site l turn out → IsRow g out turn
-row_from g site l turn out is = record { note = is.note; packets = is.packets }
-
 -- what a turn makes of what the server knows, and its row
 pub record Goes (core : ServerCore) (turn : Turn) (g : Setting) (k : ServerKept) (out : Out ServerLive) : Type 0 where
   pub row : IsRow g out turn
@@ -43,14 +40,14 @@ module _ (old new : ServerCore) (epoch : ℕ) (turn : Turn) where
   start_goes : (g : Setting) (k : ServerKept) → Decides old new epoch Start turn → Serves old g → epoch ≡ k.epoch → Goes new turn g k (server_start k)
   start_goes g k d serves e =
       let is = d.starts refl g k in record {
-        row = row_from g (site_of old) (server_start k).live turn (server_start k) (is (server_start k).live e);
+        row = let row = is (server_start k).live e in record { note = row.note; packets = row.packets };
         makes = inr (d.serves g serves, d.begins refl k e, λ l. ap (λ (s : ℕ). changed g s turn.change l) d.site ∙ (is l e).live);
       }
 
   other_goes : (i : Input) (g : Setting) (k : ServerKept) (l : ServerLive) → (i ≡ Start → ⊥) → Decides old new epoch i turn → Stands old g k l → Goes new turn g k (server_turn g (site_of old) k l i)
   other_goes i g k l not_start d stands =
       let is = d.goes not_start g k l stands in record {
-        row = row_from g (site_of old) l turn (server_turn g (site_of old) k l i) is;
+        row = record { note = is.note; packets = is.packets };
         makes = inl (l, d.same g k l stands, ap (λ (s : ℕ). changed g s turn.change l) d.site ∙ is.live);
       }
 
@@ -60,9 +57,7 @@ module _ (old new : ServerCore) (epoch : ℕ) (turn : Turn) where
 
   pub goes : (i : Input) (u : Bool) (g : Setting) (k : SiteKept) (live : Option ServerLive) → Decides old new epoch i turn → Knows (record { core = old; up = u }) g k live → epoch ≡ k.disk.epoch → Fits live i → Goes new turn g k.disk (row_of server_rows g k live i)
   goes Start u g k None d knows e fits = start_goes g k.disk d knows.serves.setting e
-  goes Own u g k None d knows e fits = absurd fits
-  goes Tick u g k None d knows e fits = absurd fits
-  goes (Deliver from p) u g k None d knows e fits = absurd fits
+  goes _ u g k None d knows e fits = absurd fits
   goes Start u g k (Some l) d knows e fits = absurd fits
   goes Own u g k (Some l) d knows e fits = up_goes Own u g k l (λ s. absurd (cc s)) d knows
   goes Tick u g k (Some l) d knows e fits = up_goes Tick u g k l (λ s. absurd (cc s)) d knows

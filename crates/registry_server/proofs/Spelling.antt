@@ -1,7 +1,7 @@
 -- Where the server's numbers, what it knows and the input have spellings, so have the row's packets and what it knows next.
 use Rattle.std.proofs.Common.{◌≡◌, ℕ, suc, ◌+◌, ◌^◌, ◌<◌, ◌≤◌, ◌&&◌, ◌||◌, Bool, true, false, cond, List, [], ◌∷◌, ◌++◌, length, take, set, Option, Some, None, refl, subst, arith}
-use Rattle.std.specs.Prelude.{nat_lt, nat_le, All}
-use Rattle.registry_server.proofs.Words.{LAST_SLOT, LAST_EPOCH, cond_both, ltb-true, and_parts, length-take, All-nil, All-cons, same_Some, Each, each_append, at_set, EventId, same_id, Ballot, is_below, Token, Insert, Batch, Answer, Granted, Duplicate, TooOld, same_token, bound_of, first_in, first_insert, or_else, replay, replay_held, IsToken, IsInsert, IsAnswer, IsPlace, IsBallot, IsBatch, IsPrior, Place, higher, value_for, Phase, is_new, is_most, nobody, with_promise, on_promise, with_acceptance, on_accepted, Promising, Accepting, Ended, Packet, Node, Replica, Joiner, Input, Start, Own, Tick, Deliver, To, Only, IsPacket, Setting, shard, shards, Addressed, Out, idle, ServerKept, ServerLive, ShardState, Proposal, empty_shard, queued, to_from, is_below_limit, may_propose, first_shard, is_next, is_current, is_own_joiner, reply, reply_if, replies, keep_if, unanswered, learns, with_shard, claimed, proposes, owns, server_own, goes_on, accept_if, promised, accepted, nacked, gets_promise, gets_accepted, gets_nack, gets_chosen, of_phase, again, all_again, server_tick, server_gets, server_turn, server_start, IsSpelledPhase, IsSpelledProposal, IsSpelledIf, IsSpelledShard, IsSpelledPlan, IsSpelledLive, IsInput}
+use Rattle.std.specs.Prelude.{nat_lt, nat_le}
+use Rattle.registry_server.proofs.Words.{LAST_SLOT, LAST_EPOCH, cond_both, ltb-true, and_parts, length-take, same_Some, Each, each_append, at_set, EventId, same_id, Ballot, is_below, Token, Insert, Batch, Answer, Granted, Duplicate, TooOld, same_token, bound_of, first_in, first_insert, or_else, replay, replay_held, IsToken, IsInsert, IsAnswer, IsPlace, IsBallot, IsBatch, IsPrior, Place, higher, value_for, Phase, is_new, is_most, nobody, with_promise, on_promise, with_acceptance, on_accepted, Promising, Accepting, Ended, Packet, Node, Replica, Joiner, Input, Start, Own, Tick, Deliver, To, Only, IsPacket, Setting, shard, shards, Out, idle, ServerKept, ServerLive, ShardState, Proposal, empty_shard, queued, to_from, is_below_limit, may_propose, first_shard, is_next, is_current, is_own_joiner, reply, reply_if, replies, keep_if, unanswered, learns, with_shard, claimed, proposes, owns, server_own, goes_on, accept_if, promised, accepted, nacked, gets_promise, gets_accepted, gets_nack, gets_chosen, of_phase, again, all_again, server_tick, server_gets, server_turn, server_start, IsSpelledPhase, IsSpelledProposal, IsSpelledIf, IsSpelledShard, IsSpelledPlan, IsSpelledLive, IsInput}
 use Rattle.turn_defs.specs.declared.packet.Packet.TheVariants as packet
 
 abbrev pub Sends : List (To × Packet) → Type 0
@@ -276,9 +276,3 @@ empty_ok = record { learned = tt; queue = tt; proposal = tt }
 -- a server that begins anew
 pub start_ok : (k : ServerKept) → k.epoch < LAST_EPOCH → IsSpelledLive (record { epoch = suc k.epoch }) (server_start k).live
 start_ok k low = record { epoch = omega arith; round = omega arith; each = λ s. empty_ok }
-
-pub sent_ok : (g : Setting) (rows : List (To × Packet)) (ps : List (Node × Packet)) → Sends rows → Addressed g rows ps → All (λ (p : Node × Packet). IsPacket p.1) ps
-sent_ok g [] [] e a = All-nil (λ (p : Node × Packet). IsPacket p.1)
-sent_ok g [] (p ∷ ps) e a = absurd a
-sent_ok g (x ∷ xs) [] e a = absurd a
-sent_ok g (x ∷ xs) (p ∷ ps) e a = All-cons (λ (q : Node × Packet). IsPacket q.1) p ps (subst IsPacket a.0.1 e.0) (sent_ok g xs ps e.1 a.1)

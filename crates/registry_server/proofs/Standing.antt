@@ -41,17 +41,10 @@ module _ (g : Setting) (site : ℕ) (k : ServerKept) (l : ServerLive) where
     off_next : (at : Place) (st : ShardState) → at.shard ≡ n → is_next g at st ≡ false
     off_next at st e = and_left _ _ (le-ltb at.shard (shards g) (subst (λ m. shards g ≤ m) (sym e) most))
 
-    off_promise : (r : ℕ) (at : Place) (b : Ballot) (prior : Option (Ballot × Batch)) (st : ShardState) (o : Option Proposal) → at.shard ≡ n → gets_promise g site k l r at b prior st o ≡ idle l
-    off_promise r at b prior st None e = refl
-    off_promise r at b prior st (Some p) e = cond-false (is_current g at b st p) _ (idle l) (and_left _ _ (off_next at st e))
-
-    off_accepted : (r : ℕ) (at : Place) (b : Ballot) (st : ShardState) (o : Option Proposal) → at.shard ≡ n → gets_accepted g site k l r at b st o ≡ idle l
-    off_accepted r at b st None e = refl
-    off_accepted r at b st (Some p) e = cond-false (is_current g at b st p) _ (idle l) (and_left _ _ (off_next at st e))
-
-    off_nack : (at : Place) (b above : Ballot) (st : ShardState) (o : Option Proposal) → at.shard ≡ n → gets_nack g site k l at b above st o ≡ idle l
-    off_nack at b above st None e = refl
-    off_nack at b above st (Some p) e = cond-false (is_current g at b st p) _ (idle l) (and_left _ _ (off_next at st e))
+    -- a row that looks for a proposal there
+    off : (F : Option Proposal → Out ServerLive) (at : Place) (b : Ballot) (st : ShardState) → at.shard ≡ n → F None ≡ idle l → ((q : Proposal) → is_current g at b st q ≡ false → F (Some q) ≡ idle l) → (o : Option Proposal) → F o ≡ idle l
+    off F at b st e none some None = none
+    off F at b st e none some (Some q) = some q (and_left _ _ (off_next at st e))
 
     off_chosen : (at : Place) (v : Batch) (st : ShardState) → at.shard ≡ n → gets_chosen g site k l at v st ≡ idle l
     off_chosen at v st e = cond-false (is_next g at st && is_below_limit at.slot) _ (idle l) (and_left _ _ (off_next at st e))
@@ -59,11 +52,11 @@ module _ (g : Setting) (site : ℕ) (k : ServerKept) (l : ServerLive) where
     pub beyond : (from : Node) (p : Packet) → number_of g p ≡ Some n → ((x : Insert) → p ≡ packet.Insert x → n < shards g) → server_gets g site k l from p ≡ idle l
     beyond from (packet.Insert x) e in_table = let w = in_table x refl in absurd (omega arith)
     beyond from (packet.Chosen at v) e in_table = off_chosen at v (l.shards at.shard) (same_Some _ _ e)
-    beyond (Replica r) (packet.Promise at b prior) e in_table = off_promise r at b prior (l.shards at.shard) (l.shards at.shard).proposal (same_Some _ _ e)
+    beyond (Replica r) (packet.Promise at b prior) e in_table = off (gets_promise g site k l r at b prior (l.shards at.shard)) at b (l.shards at.shard) (same_Some _ _ e) refl (λ q f. cond-false _ _ _ f) (l.shards at.shard).proposal
     beyond _ (packet.Promise at b prior) e in_table = refl
-    beyond (Replica r) (packet.Accepted at b) e in_table = off_accepted r at b (l.shards at.shard) (l.shards at.shard).proposal (same_Some _ _ e)
+    beyond (Replica r) (packet.Accepted at b) e in_table = off (gets_accepted g site k l r at b (l.shards at.shard)) at b (l.shards at.shard) (same_Some _ _ e) refl (λ q f. cond-false _ _ _ f) (l.shards at.shard).proposal
     beyond _ (packet.Accepted at b) e in_table = refl
-    beyond (Replica r) (packet.Nack at b above) e in_table = off_nack at b above (l.shards at.shard) (l.shards at.shard).proposal (same_Some _ _ e)
+    beyond (Replica r) (packet.Nack at b above) e in_table = off (gets_nack g site k l at b above (l.shards at.shard)) at b (l.shards at.shard) (same_Some _ _ e) refl (λ q f. cond-false _ _ _ f) (l.shards at.shard).proposal
     beyond _ (packet.Nack at b above) e in_table = refl
     beyond _ _ e in_table = absurd (cc)
 

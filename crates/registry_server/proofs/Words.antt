@@ -15,16 +15,13 @@ pub use Rattle.epoch_journal.specs.Epochs.{IsLeft, Keeps, KeepsOr, epochs}
 pub use Rattle.epoch_journal.specs.declared.epochs.Epochs.{Epochs}
 pub use Rattle.event_id.specs.EventId.{is_same as same_id}
 pub use Rattle.event_id.specs.declared.id.EventId.{EventId}
-pub use Rattle.gate_journal.proofs.Growth.{continues_same, continues_through}
 pub use Rattle.gate_journal.specs.Fold.{read_as}
-pub use Rattle.gate_journal.specs.Growth.{Continues}
 pub use Rattle.gate_journal.specs.Opening.{IsOpened}
 pub use Rattle.gate_journal.specs.declared.journal.JournalState.{JournalState}
 pub use Rattle.gate_journal.specs.declared.journal.JournalState.TheVariants.{Ready}
 pub use Rattle.id_expiry.specs.declared.timed.TimedRegistry.{TimedRegistry}
 pub use Rattle.list_words.proofs.Lists.{at_set, each_append}
 pub use Rattle.list_words.specs.Lists.{Each, set_at}
-pub use Rattle.outside.proofs.Moments.{joins, weaker}
 pub use Rattle.outside.specs.Disk.{Throughout}
 pub use Rattle.paxos_defs.specs.Attempts.{Phase, is_most, is_new, nobody, on_accepted, on_promise, with_acceptance, with_promise}
 pub use Rattle.paxos_defs.specs.Attempts.Phase.{Accepting, Ended, Promising}
@@ -35,10 +32,10 @@ pub use Rattle.paxos_proposer.specs.declared.proposer.Proposer.{Proposer}
 pub use Rattle.registry_server.specs.Cores.{Begins, Carries, CarriesStart, Gives, IsStep, IsTurn, Serves, Stands, changed, note_of, site_of}
 pub use Rattle.registry_server.specs.Kept.{kept_images}
 pub use Rattle.registry_server.specs.Node.{Holds, HoldsOr, IsNotPrepared, KeptOn, OnDisk, OnDiskOr, ServerState, StandsAt, StandsBy, is_spent_at, recorded, spent_at}
-pub use Rattle.registry_server.specs.Registrars.{Fits, IsNextNote, IsRow, IsSpelledCore, IsSpelledTurn, Knows, KnowsAs, Makes, MayRaise, RegistrarView, ServesSite, SiteKept, landed, server_rows}
+pub use Rattle.registry_server.specs.Registrars.{IsNextNote, IsRow, IsSpelledCore, IsSpelledTurn, Knows, KnowsAs, Makes, MayRaise, RegistrarView, ServesSite, SiteKept, landed, server_rows}
 pub use Rattle.registry_server.specs.Replies.{each_reply}
 pub use Rattle.registry_server.specs.Rowed.{FitsAt, IsAt, accept_all, current_in, current_of, learns_behind, number_of, proposes_if}
-pub use Rattle.registry_server.specs.ShardStates.{EachStands, IsShard, NotLast, counts_accepted, counts_promise, passes, proposal_of, put_last, stepped}
+pub use Rattle.registry_server.specs.ShardStates.{EachStands, IsShard, NotLast, counts_accepted, counts_promise, passes, proposal_of, put_last, says, stepped}
 pub use Rattle.registry_server.specs.Spelled.{IsSpelledIf, IsSpelledLive, IsSpelledPhase, IsSpelledPlan, IsSpelledProposal, IsSpelledShard}
 pub use Rattle.registry_server.specs.Stations.{request, sent, setting}
 pub use Rattle.registry_server.specs.declared.server_core.ServerCore.{ServerCore}
@@ -46,7 +43,7 @@ pub use Rattle.registry_server.specs.declared.shard.Shard.{Shard}
 pub use Rattle.registry_server.specs.declared.shard.Step.{Step}
 pub use Rattle.registry_server.specs.declared.shard.Step.TheVariants.{Accept, Learn, Promise, Propose, Queue}
 pub use Rattle.registry_server.specs.declared.shard.Test.{Test}
-pub use Rattle.registry_server.specs.declared.shard.Test.TheVariants.{IsBelowHorizon}
+pub use Rattle.registry_server.specs.declared.shard.Test.TheVariants.{IsBelowHorizon, IsUnfinished, MayPropose}
 pub use Rattle.registry_server.specs.declared.station.Station.{Station}
 pub use Rattle.registry_server.specs.declared.turn.Change.{Change}
 pub use Rattle.registry_server.specs.declared.turn.ServerInput.{ServerInput}
@@ -60,16 +57,16 @@ pub use Rattle.registry_state.specs.declared.Answer.TheVariants.{Duplicate, Gran
 pub use Rattle.registry_state.specs.declared.Batch.{Batch}
 pub use Rattle.registry_state.specs.declared.Insert.{Insert}
 pub use Rattle.registry_state.specs.declared.Token.{Token}
-pub use Rattle.site_node.proofs.Turns.{ends_done, ends_idle, none_of}
+pub use Rattle.site_node.proofs.Turns.{ends_done, ends_idle, fits_of, none_of, on_err, sent_ok, turn_grown, turn_moments}
 pub use Rattle.site_node.specs.Bytes.{AreSpelled, IsInput, IsJunk, Reads, record_of}
 pub use Rattle.turn_defs.specs.Configs.{IsOf}
-pub use Rattle.site_node.specs.States.{Leads, MayTake, Stops, closes, row, row_of, written}
+pub use Rattle.site_node.specs.States.{Fits, Leads, MayTake, Stops, closes, row, row_of, written}
 pub use Rattle.site_node.specs.declared.kind.NodeFault.{NodeFault}
 pub use Rattle.turn_defs.specs.declared.config.Config.{Config}
 pub use Rattle.std.proofs.lemmas.Bool.{and_cases, and_from, and_left, and_parts, and_right, cases_eq, cases_lt, cond-false, cond-true, cond_both, eq-eqb, eqb-true, false_from_ne_true, false≢true, le-leb, le-ltb, leb-true, lt-ltb, ltb-true, ne_eqb, or_left, or_right, true≢false}
 pub use Rattle.std.proofs.lemmas.Cmp.{tied_itself}
 pub use Rattle.std.proofs.lemmas.List.{append-nil, append_assoc, drop_all, get_or-set_other, get_or-set_same, get_or_append_left, get_or_at, length-append, length-set, length-take, map-append, take_all, take_more}
-pub use Rattle.std.proofs.lemmas.List.Elements.{All-cons, All-nil}
+pub use Rattle.std.proofs.lemmas.List.Elements.{All-push}
 pub use Rattle.std.proofs.lemmas.Option.{cond_some, none-some, same_Some}
 pub use Rattle.std.proofs.lemmas.Result.{IfOk-weaker}
 pub use Rattle.std.specs.List.{cons_option}

@@ -50,13 +50,6 @@ pub record Knows (v : RegistrarView) (g : Setting) (k : SiteKept) (live : Option
   pub serves : ServesSite v g k
   pub by : KnowsAs v.up v.core g k.disk live
 
--- a node that is down takes Start, and one that is up doesn't
-abbrev pub Fits : Option ServerLive → Input → Type 0
-Fits None Start = Unit {0}
-Fits None _ = ⊥
-Fits (Some l) Start = ⊥
-Fits (Some l) _ = Unit {0}
-
 -- a start may raise the epoch
 abbrev pub MayRaise : ℕ → Input → Type 0
 MayRaise epoch Start = epoch < LAST_EPOCH

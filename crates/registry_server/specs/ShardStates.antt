@@ -1,5 +1,5 @@
 -- A shard as the state that it stands for.
-use Rattle.std.specs.Prelude.{◌≡◌, ℕ, ◌<◌, ◌≤◌, ◌||◌, ◌++◌, ◌∷◌, [], Bool, true, false, List, length, get_or, nat_lt, nat_le, if◌then◌else◌, Option, Some, None, option_map, is_some, ⊤}
+use Rattle.std.specs.Prelude.{◌≡◌, ℕ, ◌<◌, ◌≤◌, ◌&&◌, ◌||◌, not, ◌++◌, ◌∷◌, [], Bool, true, false, List, length, get_or, nat_lt, nat_le, if◌then◌else◌, Option, Some, None, option_map, is_some, ⊤}
 use Rattle.turn_defs.specs.declared.limits.TheConstants.{LAST_SLOT}
 use Rattle.ballot_core.specs.declared.Ballot.{Ballot}
 use Rattle.registry_state.specs.declared.Insert.{Insert}
@@ -98,6 +98,13 @@ abbrev pub passes : Setting → Test → ShardState → Bool
 passes g MayPropose st = may_propose g st
 passes g IsUnfinished st = shard_unfinished g st
 passes g IsBelowHorizon st = nat_lt (bound_of st.learned) g.horizon
+
+-- the same by what it asks: whether there is no proposal, the shard is held back, nothing waits, the bound is below the
+-- horizon, and the slot below the limit
+abbrev pub says : Test → (free held empty below low : Bool) → Bool
+says MayPropose free held empty below low = (free && not held) && ((not empty || below) && low)
+says IsUnfinished free held empty below low = (not free || held) || (not empty || below)
+says IsBelowHorizon free held empty below low = below
 
 -- each shard of the list stands for the state of its number
 abbrev pub EachStands : List Shard → (ℕ → ShardState) → Type 0

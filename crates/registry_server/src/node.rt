@@ -1,11 +1,29 @@
 // The registry server over its disk.
-ghost use Rattle.std.specs.Prelude.{◌≡◌, ◌≤◌, true, false, None};
+ghost use Rattle.std.specs.Prelude.{◌≡◌, ◌≤◌, true, false, None, ◌<◌, Some, Option, option_map, List, ℕ, is_some, is_err, IsTrue, IfOk, IfErr, OnOk, OnErr, IsErrOf, ◌+◌};
 ghost use Rattle.registry_state.specs.declared.TheConstants.{MOST_INSERTS};
 ghost use Rattle.ballot_core.specs.declared.TheConstants.{LAST_EPOCH};
 ghost use Rattle.paxos_proposer.specs.declared.TheConstants.{MOST_REPLICAS};
 ghost use Rattle.gate_journal.specs.declared.journal.JournalState.TheVariants.{Ready};
-ghost use Rattle.registry_server.specs.Registrars.{MayRaise};
-ghost use Rattle.registry_server.specs.Node.{is_spent_at};
+ghost use Rattle.registry_server.specs.Registrars.{MayRaise, SiteKept, Knows, IsNextNote, IsRow, Makes, server_rows};
+ghost use Rattle.registry_server.specs.Node.{is_spent_at, StandsAt, Holds, HoldsOr, OnDiskOr, recorded, IsReady, IsRoomFor, IsBelowLast, IsNotPrepared, down_over, ServerState, KeptOn, spent_at};
+ghost use Rattle.outside.specs.Disk.{Throughout};
+ghost use Rattle.outside.specs.Faults.{Rose};
+ghost use Rattle.outside.specs.Plans.{MeetsPlan, AtMost};
+ghost use Rattle.gate_journal.specs.Growth.{Continues};
+ghost use Rattle.gate_journal.specs.Opening.{IsOpened};
+ghost use Rattle.epoch_journal.specs.Epochs.{IsLeft, Keeps};
+ghost use Rattle.turn_defs.specs.Setting.{Setting};
+ghost use Rattle.turn_defs.specs.Turns.{land};
+ghost use Rattle.turn_defs.specs.declared.node.Input.TheVariants as given;
+ghost use Rattle.site_node.specs.Bytes.{IsInput};
+ghost use Rattle.turn_defs.specs.Configs.{IsOf};
+ghost use Rattle.site_node.specs.States.{Fits, row_of, Leads, state_phase, Says};
+ghost use Rattle.site_node.specs.Faults.{was_shut_out, IsOfRestart, IsWhole};
+ghost use Rattle.turn_defs.specs.Server.{ServerKept, ServerLive, land_server, server_at_rest, server_unfinished, server_wants};
+ghost use Rattle.registry_server.specs.Cores.{note_of};
+ghost use Rattle.registry_server.specs.declared.turn.ServerNote.{ServerNote};
+ghost use Rattle.site_node.specs.Paths.{begins as begins_by, phase_led};
+ghost use Rattle.registry_server.specs.Kept.{kept_images};
 
 use crate::notes::note_record;
 use crate::registrar::Registrar;
@@ -16,7 +34,7 @@ use ballot_core::LAST_EPOCH;
 use epoch_journal::{EpochJournal, RaiseFault, raise};
 use gate_journal::JournalFault;
 use outside::{Disk, DiskName, Gate, Point};
-use site_node::{Done, NodeFault, SiteNode, read_input, spell};
+use site_node::{Done, NodeFault, SiteNode, read_input, spell, told_note};
 use std::alloc::{AllocError, Global};
 use turn_defs::{Config, Input};
 
@@ -44,27 +62,6 @@ struct ReadyTurn {
 }
 
 impl<D: Disk> ServerNode<D> {
-    ghost use Rattle.std.specs.Prelude.{◌≡◌, ◌≤◌, ◌<◌, None, Some, Option, option_map, List, ℕ, false, is_some, is_err, IsTrue, IfOk, IfErr, OnOk, OnErr, IsErrOf, Err};
-    ghost use Rattle.outside.specs.Disk.{Throughout};
-    ghost use Rattle.outside.specs.Faults.{Rose};
-    ghost use Rattle.outside.specs.Plans.{MeetsPlan};
-    ghost use Rattle.gate_journal.specs.declared.journal.JournalState.TheVariants.{Ready};
-    ghost use Rattle.gate_journal.specs.Growth.{Continues};
-    ghost use Rattle.gate_journal.specs.Opening.{IsOpened};
-    ghost use Rattle.epoch_journal.specs.Epochs.{IsLeft, Keeps};
-    ghost use Rattle.turn_defs.specs.Setting.{Setting};
-    ghost use Rattle.turn_defs.specs.Turns.{land};
-    ghost use Rattle.turn_defs.specs.declared.node.Input.TheVariants as given;
-    ghost use Rattle.site_node.specs.Bytes.{IsInput};
-    ghost use Rattle.turn_defs.specs.Configs.{IsOf};
-    ghost use Rattle.site_node.specs.States.{row_of};
-    ghost use Rattle.site_node.specs.Faults.{was_shut_out, IsOfRestart, IsWhole};
-    ghost use Rattle.turn_defs.specs.Server.{ServerKept, ServerLive, land_server};
-    ghost use Rattle.registry_server.specs.Cores.{note_of};
-    ghost use Rattle.registry_server.specs.Registrars.{SiteKept, Knows, Fits, IsNextNote, IsRow, Makes, server_rows};
-    ghost use Rattle.registry_server.specs.declared.turn.ServerNote.{ServerNote};
-    ghost use Rattle.registry_server.specs.Node.{StandsAt, Holds, HoldsOr, OnDiskOr, recorded, IsReady, IsRoomFor, IsBelowLast, IsNotPrepared, down_over};
-
     /// A server of a site that is down, over its journal. It takes memory for the table's shards, and hands the journal
     /// back where there is none.
     pub fn new(
@@ -163,8 +160,7 @@ impl<D: Disk> ServerNode<D> {
         requires low { IsBelowLast noted self.old.journal.value.epoch }
         ensures same { (self.new.site ≡ self.old.site) × (self.new.registrar ≡ self.old.registrar) }
         ensures up { OnOk result (self.new.in_doubt ≡ None) }
-        ensures stopped { IsErrOf result NodeFault.Stopped → is_some self.new.in_doubt ≡ true }
-        ensures only_stopped { OnErr result (result ≡ Err NodeFault.Stopped) }
+        ensures refused { IfErr result (λ e. (e ≡ NodeFault.Stopped) × (is_some self.new.in_doubt ≡ true)) }
         ensures fault { OnErr result (Rose (D.faults self.old.journal.journal.disk) (D.faults self.new.journal.journal.disk)) }
         ensures plan { IsTrue D.tells → MeetsPlan D.stops D.made D.faults 4 (is_err result) self.old.journal.journal.disk self.new.journal.journal.disk }
         ensures count { D.faults self.old.journal.journal.disk ≤ D.faults self.new.journal.journal.disk }
@@ -221,16 +217,6 @@ impl<D: Disk> ServerNode<D> {
 }
 
 impl<D: Disk> SiteNode for ServerNode<D> {
-    ghost use Rattle.std.specs.Prelude.{◌≡◌, ◌+◌, is_some, List, ℕ};
-    ghost use Rattle.outside.specs.Plans.{AtMost};
-    ghost use Rattle.gate_journal.specs.Growth.{Continues};
-    ghost use Rattle.site_node.specs.States.{Leads, state_phase, Says};
-    ghost use Rattle.site_node.specs.Paths.{begins as begins_by, phase_led};
-    ghost use Rattle.turn_defs.specs.Server.{server_at_rest, server_unfinished, server_wants};
-    ghost use Rattle.registry_server.specs.Registrars.{server_rows};
-    ghost use Rattle.registry_server.specs.Node.{ServerState, StandsAt, KeptOn, spent_at};
-    ghost use Rattle.registry_server.specs.Kept.{kept_images};
-
     ghost tells = { D.tells };
 
     ghost planned = { D.planned };
@@ -319,8 +305,7 @@ impl<D: Disk> SiteNode for ServerNode<D> {
         self.reread()?;
         let landed = self.journal.value().epoch() != before;
         self.registrar.put_down();
-        let noted = self.in_doubt.take();
-        if landed { Ok(noted) } else { Ok(None) }
+        Ok(told_note(landed, self.in_doubt.take()))
     }
 }
 

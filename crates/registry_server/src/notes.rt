@@ -1,6 +1,8 @@
 // Notes and their records.
-ghost use Rattle.std.specs.Prelude.{◌≡◌, IfOk};
-ghost use Rattle.epoch_journal.specs.Epochs.{epoch_record};
+ghost use Rattle.std.specs.Prelude.{◌≡◌, IfOk, option_map};
+ghost use Rattle.turn_defs.specs.Turns.{land};
+ghost use Rattle.turn_defs.specs.Server.{land_server};
+ghost use Rattle.registry_server.specs.Cores.{note_of};
 ghost use Rattle.registry_server.specs.Node.{recorded};
 
 use crate::turn::ServerNote;
@@ -10,7 +12,7 @@ use std::alloc::{AllocError, Global};
 // The first byte of an epoch's record.
 const TAG: u8 = 2;
 
-// The record of a note, if there is one, as the bus takes it.
+// The record of a note, if there is one, as the bus takes it. Five bytes, by two allocations.
 pub(crate) fn note_record(
     alloc: Global,
     note: &Option<ServerNote>,
@@ -20,17 +22,20 @@ pub(crate) fn note_record(
     match note {
         None => Ok(None),
         Some(ServerNote::Epoch(epoch)) => {
-            let payload = epoch_payload(alloc, *epoch)?;
+            let b = epoch.to_be_bytes();
+            let record = [TAG, b[0], b[1], b[2], b[3]];
+            let payload = Payload::new(record.as_slice().to_vec(alloc)?)?;
             Ok(Some(payload))
         }
     }
 }
 
-// Five bytes, by two allocations.
-fn epoch_payload(alloc: Global, epoch: u32) -> Result<Payload, AllocError>
-    ensures { IfOk result (λ payload. payload ≡ epoch_record epoch) }
+// The epoch on the disk is that of the note, if there is one.
+pub(crate) fn epoch_after(epoch: u32, note: Option<ServerNote>) -> u32
+    ensures { result ≡ (land land_server (option_map note_of note) (record { epoch = epoch })).epoch }
 {
-    let bytes = epoch.to_be_bytes();
-    let record = [TAG, bytes[0], bytes[1], bytes[2], bytes[3]];
-    Payload::new(record.as_slice().to_vec(alloc)?)
+    match note {
+        Some(ServerNote::Epoch(next)) => next,
+        None => epoch,
+    }
 }

@@ -11,7 +11,7 @@ ghost use Rattle.registry_server.specs.Cores.{Gives};
 ghost use Rattle.registry_server.specs.Rowed.{IsAt, IsRow, IsRowOf, FitsAt, StaysShard, accept_all, proposes_if, learns_behind, current_of};
 
 use crate::packets::{ask_all, push_replies, push_reply};
-use crate::shard::{Shard, Step};
+use crate::shard::{Shard, Step, Test};
 use crate::station::Station;
 use crate::turn::{Change, Turn};
 use ballot_core::Ballot;
@@ -63,7 +63,7 @@ impl Shard {
             → epoch ≡ k.epoch → Gives (setting station.now g) station.now.site l turn (proposes_if (setting station.now g) station.now.site k l number)) }
         ensures fits { IfOk result (λ turn. FitsAt number turn.change self.now) }
     {
-        if !self.may_propose(station) {
+        if !self.passes(station, Test::MayPropose) {
             return Ok(Turn::idle(station.alloc));
         }
         let ballot = Ballot {
@@ -145,7 +145,7 @@ impl Shard {
             place,
             batch: value.copy()?,
         };
-        packets.push((Node::Server(station.other_site()), told))?;
+        packets.push((Node::Server(1u8.saturating_sub(station.site)), told))?;
         self.learned(station, number, round, value, packets)
     }
 

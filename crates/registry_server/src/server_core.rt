@@ -3,6 +3,7 @@ ghost use Rattle.std.specs.Prelude.{◌≡◌, length};
 ghost use Rattle.ballot_core.specs.declared.TheConstants.{LAST_EPOCH};
 ghost use Rattle.time_shards.specs.Shards.{shard_count};
 
+use crate::notes::epoch_after;
 use crate::shard::{Shard, Test};
 use crate::shards::{empty_shards, release_all};
 use crate::station::Station;
@@ -34,7 +35,6 @@ impl ServerCore {
     ghost use Rattle.registry_server.specs.Stations.{setting, sent};
     ghost use Rattle.registry_server.specs.ShardStates.{passes};
     ghost use Rattle.registry_server.specs.Cores.{Stands, IsTurn, Gives, Decided, FitsChange, Carries, CarriesStart, MayStart, Serves, IsStart, Begins, changed, note_of, site_of};
-    ghost use Rattle.registry_server.specs.declared.turn.ServerNote.TheVariants as written;
     ghost use Rattle.registry_server.specs.Rowed.{number_of};
 
     // A server before its first start. One allocation, for the table's shards.
@@ -102,7 +102,7 @@ impl ServerCore {
             packets: _,
             change,
         } = turn;
-        self.keep_note(note);
+        self.epoch = epoch_after(self.epoch, note);
         self.change(change);
     }
 
@@ -125,21 +125,6 @@ impl ServerCore {
         ensures { (g : Setting) (k : ServerKept) (l : ServerLive) → Stands self.now g k l → result ≡ server_at_rest g l }
     {
         self.first(Test::IsBelowHorizon).is_none()
-    }
-
-    // The epoch is that of the note, if there is one.
-    fn keep_note(&mut self, note: Option<ServerNote>)
-        ensures kept { (g : Setting) (k : ServerKept) (l : ServerLive) → Stands self.old g k l
-            → Stands self.new g (land land_server (option_map note_of note) k) l }
-        ensures epoch { (e : ℕ) → note ≡ Some (written.Epoch e) → self.new.epoch ≡ e }
-        ensures shards { self.new.shards ≡ self.old.shards }
-        ensures station { self.new.station ≡ self.old.station }
-        ensures site { site_of self.new ≡ site_of self.old }
-    {
-        match note {
-            Some(ServerNote::Epoch(epoch)) => self.epoch = epoch,
-            None => {}
-        }
     }
 
     // Makes the change. The note is another matter.

@@ -1,12 +1,12 @@
 // One shard of a server, and what a kept turn does to it.
-ghost use Rattle.std.specs.Prelude.{◌≡◌, ◌-◌, ◌<◌, ◌≤◌, ◌^◌, ◌++◌, ◌∷◌, [], length, true, false, not, ◌&&◌, ◌||◌};
+ghost use Rattle.std.specs.Prelude.{◌≡◌, ◌<◌, ◌≤◌, length, true, false};
 ghost use Rattle.turn_defs.specs.declared.limits.TheConstants.{LAST_SLOT};
 ghost use Rattle.id_expiry.specs.Timed.{room};
 ghost use Rattle.batch_queue.specs.Queue.{room as places};
 ghost use Rattle.turn_defs.specs.Setting.{Setting};
 ghost use Rattle.turn_defs.specs.Server.{ShardState, empty_shard};
 ghost use Rattle.registry_server.specs.Stations.{setting};
-ghost use Rattle.registry_server.specs.ShardStates.{IsShard, FitsStep, IsUnknown, TellsAnswered, stepped, passes, put_last};
+ghost use Rattle.registry_server.specs.ShardStates.{IsShard, FitsStep, IsUnknown, TellsAnswered, stepped, passes, says};
 
 use crate::station::Station;
 use ballot_core::Ballot;
@@ -71,41 +71,14 @@ impl Shard {
 
     // In constant time.
     pub(crate) fn passes(&self, station: &Station, test: Test) -> bool
-        ensures { (g : Setting) (st : ShardState) → IsShard self.now st → result ≡ passes (setting station.now g) test st }
-    {
-        match test {
-            Test::MayPropose => self.may_propose(station),
-            Test::IsUnfinished => self.is_unfinished(station),
-            Test::IsBelowHorizon => self.is_below_horizon(station),
-        }
-    }
-
-    // No proposal, not held back, below the limit, and an insert waits or the bound is below the horizon.
-    pub(crate) fn may_propose(&self, station: &Station) -> bool
-        ensures row { (g : Setting) (st : ShardState) → IsShard self.now st → result ≡ passes (setting station.now g) Test.MayPropose st }
-        ensures low { result ≡ true → self.now.next < LAST_SLOT }
+        ensures row { (g : Setting) (st : ShardState) → IsShard self.now st → result ≡ passes (setting station.now g) test st }
+        ensures low { test ≡ Test.MayPropose → result ≡ true → self.now.next < LAST_SLOT }
     {
         let free = self.proposal.is_none();
         let empty = self.queue.is_empty();
-        let below = self.is_below_horizon(station);
+        let below = self.registry.bound() < station.config.horizon;
         let low = self.next < LAST_SLOT;
-        may_begin(free, self.held, empty, below, low)
-    }
-
-    // A proposal, held back, an insert that waits, or a bound below the horizon.
-    fn is_unfinished(&self, station: &Station) -> bool
-        ensures { (g : Setting) (st : ShardState) → IsShard self.now st → result ≡ passes (setting station.now g) Test.IsUnfinished st }
-    {
-        let free = self.proposal.is_none();
-        let empty = self.queue.is_empty();
-        let below = self.is_below_horizon(station);
-        is_left(free, self.held, empty, below)
-    }
-
-    fn is_below_horizon(&self, station: &Station) -> bool
-        ensures { (g : Setting) (st : ShardState) → IsShard self.now st → result ≡ passes (setting station.now g) Test.IsBelowHorizon st }
-    {
-        self.registry.bound() < station.config.horizon
+        does_pass(test, free, self.held, empty, below, low)
     }
 
     /// Makes the step that a turn decided on. It takes no memory. A learned value takes logarithmic expected time for each
@@ -178,16 +151,14 @@ impl Shard {
     }
 }
 
-// Whether a proposal may begin.
-fn may_begin(free: bool, held: bool, empty: bool, below: bool, low: bool) -> bool
-    ensures { result ≡ ((free && not held) && ((not empty || below) && low)) }
+// A proposal may begin where there is none, the shard isn't held back, an insert waits or the bound is below the horizon,
+// and the slot is below the limit.
+fn does_pass(test: Test, free: bool, held: bool, empty: bool, below: bool, low: bool) -> bool
+    ensures { result ≡ says test free held empty below low }
 {
-    free && !held && (!empty || below) && low
-}
-
-// Whether something is left to do.
-fn is_left(free: bool, held: bool, empty: bool, below: bool) -> bool
-    ensures { result ≡ ((not free || held) || (not empty || below)) }
-{
-    !free || held || !empty || below
+    match test {
+        Test::MayPropose => free && !held && (!empty || below) && low,
+        Test::IsUnfinished => !free || held || !empty || below,
+        Test::IsBelowHorizon => below,
+    }
 }

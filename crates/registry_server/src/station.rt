@@ -19,17 +19,6 @@ pub(crate) struct Station {
     ghost members: { config.replicas ≤ MOST_REPLICAS },
 }
 
-impl Station {
-    ghost use Rattle.std.specs.Prelude.{◌≡◌, ◌-◌};
-
-    // The site of the other server.
-    pub(crate) fn other_site(&self) -> u8
-        ensures { result ≡ 1 - self.now.site }
-    {
-        1u8.saturating_sub(self.site)
-    }
-}
-
 // Whether this is the number of a joiner of the site.
 pub(crate) fn is_joiner_of(config: Config, site: u8, number: u16) -> bool
     ensures { (g : Setting) → IsOf config g → result ≡ is_own_joiner g site number }

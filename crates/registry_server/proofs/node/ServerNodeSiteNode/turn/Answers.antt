@@ -1,7 +1,7 @@
 use Rattle.std.proofs.Common.{◌≡◌, true, false, refl, sym, ap, ◌∙◌, subst, rules}
-use Rattle.registry_server.proofs.Words.{none_of, row_of, site_of, RegistrarView, Knows, Makes, server_rows}
-use Rattle.registry_server.proofs.Landing.{config_is, quiet, fits_of, keeps_knows, spent_told, spent_input, junk_unspent}
-use Rattle.registry_server.proofs.Ending.{idles, ends, stays_open, still_open, on_err, turn_moments, turn_grown}
+use Rattle.registry_server.proofs.Words.{fits_of, on_err, turn_grown, none_of, row_of, site_of, RegistrarView, Knows, Makes, server_rows}
+use Rattle.registry_server.proofs.Landing.{config_is, quiet, keeps_knows, spent_told, spent_input, junk_unspent}
+use Rattle.registry_server.proofs.Ending.{idles, ends, stays_open, still_open, turn_left}
 use Rattle.site_node.specs.Faults.{was_stopped}
 use Rattle.site_node.proofs.Stops.{turn_meets}
 use Rattle.registry_server.proofs.node.ServerNodeSiteNode.turn.Goals as goal
@@ -37,7 +37,7 @@ returns-in_err-note-in-Some-clause-open g c tells s t at led =
     let ready = c.in_ok-ready-in-Some.ready in
     let row = e.turn s.setting s.kept s.live known.1 known.0.epoch (fits_of s.setting s.live c.args.input.now c.in-Some.input reads led.1) in
     let f = c.in_err-note-in-Some.ensures in
-    on_err c.from_residual-in_err-note-in-Some.result _
+    on_err c.from_residual-in_err-note-in-Some.result
     (stays_open _ _ _ _ _ _ _ s t 0 c.args.input.now c.in-Some.input ready.turn at.site led (f.same.0 ∙ e.same.0) reads row
     (subst (λ (v : RegistrarView). Knows v s.setting s.kept s.live) (sym f.same.1) (e.knows s.setting s.kept s.live known.1)) (f.undone tells s.kept.disk ready.turn.note e.ready.noted e.ready.next (e.holds tells s.kept.disk known.0)))
 
@@ -50,13 +50,11 @@ returns-in_ok-note-in-Some-clause-moments g c tells s t at led =
     let e = c.in_ok-ready-in-Some.ensures in
     let ready = c.in_ok-ready-in-Some.ready in
     let row = e.turn s.setting s.kept s.live known.1 known.0.epoch (fits_of s.setting s.live c.args.input.now c.in-Some.input reads led.1) in
-    (turn_moments d.image d.since old.journal.journal.disk c.prepare.new.self.journal.journal.disk c.append.new.self.journal.journal.disk s t 0 c.args.input.now c.in-Some.input ready.turn led reads row known.0.durable (e.moments tells)
-    (c.append.ensures.moments tells s.kept.disk ready.turn.note e.ready.noted e.ready.next (e.holds tells s.kept.disk known.0))).each
+    turn_left d.image d.since old.journal.journal.disk c.prepare.new.self.journal.journal.disk c.append.new.self.journal.journal.disk s t 0 c.args.input.now c.in-Some.input ready.turn led reads row known.0.durable (e.moments tells)
+    (c.append.ensures.moments tells s.kept.disk ready.turn.note e.ready.noted e.ready.next (e.holds tells s.kept.disk known.0))
 
 pub returns-in_ok-note-in-Some-clause-grown : goal.returns-in_ok-note-in-Some-clause-grown
-returns-in_ok-note-in-Some-clause-grown g c tells s at =
-    let d = g.D.Disk in
-    turn_grown d.image d.since c.args.self.now.journal.journal.disk c.prepare.new.self.journal.journal.disk c.append.new.self.journal.journal.disk (c.in_ok-ready-in-Some.ensures.moments tells) (c.append.ensures.grows tells)
+returns-in_ok-note-in-Some-clause-grown g c tells s at = turn_grown g.D.Disk.image g.D.Disk.since _ _ _ (c.in_ok-ready-in-Some.ensures.moments tells) (c.append.ensures.grows tells)
 
 pub returns-in_err-note-in-Some-clause-moments : goal.returns-in_err-note-in-Some-clause-moments
 returns-in_err-note-in-Some-clause-moments g c tells s t at led =
@@ -67,13 +65,11 @@ returns-in_err-note-in-Some-clause-moments g c tells s t at led =
     let e = c.in_ok-ready-in-Some.ensures in
     let ready = c.in_ok-ready-in-Some.ready in
     let row = e.turn s.setting s.kept s.live known.1 known.0.epoch (fits_of s.setting s.live c.args.input.now c.in-Some.input reads led.1) in
-    (turn_moments d.image d.since old.journal.journal.disk c.prepare.new.self.journal.journal.disk c.append.new.self.journal.journal.disk s t 0 c.args.input.now c.in-Some.input ready.turn led reads row known.0.durable (e.moments tells)
-    (c.append.ensures.moments tells s.kept.disk ready.turn.note e.ready.noted e.ready.next (e.holds tells s.kept.disk known.0))).each
+    turn_left d.image d.since old.journal.journal.disk c.prepare.new.self.journal.journal.disk c.append.new.self.journal.journal.disk s t 0 c.args.input.now c.in-Some.input ready.turn led reads row known.0.durable (e.moments tells)
+    (c.append.ensures.moments tells s.kept.disk ready.turn.note e.ready.noted e.ready.next (e.holds tells s.kept.disk known.0))
 
 pub returns-in_err-note-in-Some-clause-grown : goal.returns-in_err-note-in-Some-clause-grown
-returns-in_err-note-in-Some-clause-grown g c tells s at =
-    let d = g.D.Disk in
-    turn_grown d.image d.since c.args.self.now.journal.journal.disk c.prepare.new.self.journal.journal.disk c.append.new.self.journal.journal.disk (c.in_ok-ready-in-Some.ensures.moments tells) (c.append.ensures.grows tells)
+returns-in_err-note-in-Some-clause-grown g c tells s at = turn_grown g.D.Disk.image g.D.Disk.since _ _ _ (c.in_ok-ready-in-Some.ensures.moments tells) (c.append.ensures.grows tells)
 
 pub returns-in_ok-note-in-Some-clause-spends : goal.returns-in_ok-note-in-Some-clause-spends
 returns-in_ok-note-in-Some-clause-spends g c s at epoch is =
@@ -93,7 +89,7 @@ returns-in_err-ready-in-Some-clause-open g c tells s t at led =
     let new = c.prepare.new.self in
     let e = c.prepare.ensures in
     let known = quiet _ _ _ _ _ _ s (none_of old.in_doubt c.requires.up) at in
-    on_err c.from_residual-in_err-ready-in-Some.result _
+    on_err c.from_residual-in_err-ready-in-Some.result
     (still_open _ _ _ _ _ _ _ _ _ _ _ _ s t 0 c.args.input.now at led
     e.same.0 e.same.1 (none_of old.in_doubt c.requires.up) (e.holds tells s.kept.disk known.0) (e.knows s.setting s.kept s.live known.1))
 

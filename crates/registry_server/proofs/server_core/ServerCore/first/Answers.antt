@@ -17,7 +17,7 @@ loop-number-preserved c = λ g k v h.
     let end = c.shards-number-end.ensures.count in
     let within : n < length core.shards.items = omega arith in
     first_more (λ s. passes g c.args.test (v.shards s)) n c.shards-number-end.result _ c.loop-number-test.true
-    (sym c.if-passes.false ∙ test_at core g k v h c.passes.result c.args.test n c.index.result.now within (c.index.ensures ∙ ap (λ m. get_or core.shards.items m c.index.result.now) c.from.ensures) c.passes.ensures)
+    (sym c.if-passes.false ∙ test_at core g k v h c.passes.result c.args.test n c.index.result.now within (c.index.ensures ∙ ap (λ m. get_or core.shards.items m c.index.result.now) c.from.ensures) c.passes.ensures.row)
     (c.loop-number.invariant g k v h)
 
 pub returns-then-passes-clause-first : goal.returns-then-passes-clause-first
@@ -28,7 +28,7 @@ returns-then-passes-clause-first c = λ g k v h.
     let end = c.shards-number-end.ensures.count in
     let within : n < length core.shards.items = omega arith in
     first_found (λ s. passes g c.args.test (v.shards s)) n c.shards-number-end.result _ c.loop-number-test.true
-    (sym c.if-passes.true ∙ test_at core g k v h c.passes.result c.args.test n c.index.result.now within (c.index.ensures ∙ ap (λ m. get_or core.shards.items m c.index.result.now) c.from.ensures) c.passes.ensures)
+    (sym c.if-passes.true ∙ test_at core g k v h c.passes.result c.args.test n c.index.result.now within (c.index.ensures ∙ ap (λ m. get_or core.shards.items m c.index.result.now) c.from.ensures) c.passes.ensures.row)
     (c.loop-number.invariant g k v h)
 
 pub returns-clause-first : goal.returns-clause-first

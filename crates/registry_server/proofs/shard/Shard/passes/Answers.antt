@@ -1,12 +1,10 @@
-use Rattle.std.proofs.Common.{ap, sym, ◌∙◌}
-use Rattle.registry_server.proofs.Words.{setting, passes, Test}
+use Rattle.std.proofs.Common.{rules, sym, ◌∙◌}
+use Rattle.registry_server.proofs.Testing.{passes_is, low_is}
 use Rattle.registry_server.proofs.shard.Shard.passes.Goals as goal
 
-pub returns-in-MayPropose : goal.returns-in-MayPropose
-returns-in-MayPropose c = λ g st is. c.may_propose.ensures.row g st is ∙ ap (λ (t : Test). passes (setting c.args.station.now g) t st) (sym c.in-MayPropose.is)
+pub returns-clause-row : goal.returns-clause-row
+returns-clause-row c = λ g st is.
+    c.does_pass.ensures ∙ passes_is c.args.station.now g c.args.self.now st _ _ _ is (search rules) c.is_empty-empty.ensures (c.bound.ensures st.learned is.learned.known) c.args.test
 
-pub returns-in-IsUnfinished : goal.returns-in-IsUnfinished
-returns-in-IsUnfinished c = λ g st is. c.is_unfinished.ensures g st is ∙ ap (λ (t : Test). passes (setting c.args.station.now g) t st) (sym c.in-IsUnfinished.is)
-
-pub returns-in-IsBelowHorizon : goal.returns-in-IsBelowHorizon
-returns-in-IsBelowHorizon c = λ g st is. c.is_below_horizon.ensures g st is ∙ ap (λ (t : Test). passes (setting c.args.station.now g) t st) (sym c.in-IsBelowHorizon.is)
+pub returns-clause-low : goal.returns-clause-low
+returns-clause-low c = λ may e. low_is c.args.test _ _ _ _ _ may (sym c.does_pass.ensures ∙ e)
