@@ -1,11 +1,11 @@
 -- A row's note is one that the disks take, and what is known goes on to fit what they keep.
 use Rattle.std.proofs.Common.{◌≡◌, ◌⊎◌, inl, inr, ⊎_elim, ℕ, ◌<◌, ◌≤◌, Bool, true, false, not, cond, ◌&&◌, ◌==◌, List, [], ◌∷◌, ◌++◌, Option, Some, None, refl, sym, ◌∙◌, ap, subst, arith}
 use Rattle.std.specs.Prelude.{option_map}
-use Rattle.dispatch_node.proofs.Words.{eqb-true, eq-eqb, lt-ltb, or_left, or_right, Mem, has, without, clash, option_both, cond_both, each_append, has_push-or, has_push-left, has_push-false, has_without-true, has_without, has_without-false, ClickLine, at, Follow, at_mem, Input, Start, Own, Tick, Deliver, Packet, Outcome, NoQuery, Busy, Setting, Note, Out, land, idle, DispatcherKept, DispatcherLive, Fresh, land_dispatcher, done_end, after_done, first_done, waits, mark, has_room, with_room, advances, retries, takes, taken, ends, parks, dispatcher_own, dispatcher_gets, dispatcher_joined, dispatcher_turn, dispatcher_start, told, DispatchNote, takes_note, takes_or_none, AreInOrder, Follows, IsRowTaken, IsEntry, AreKeptPlaces, AreLivePlaces}
+use Rattle.dispatch_node.proofs.Words.{and_parts, not-true, or_cases, eqb-true, eq-eqb, lt-ltb, or_left, or_right, Mem, has, without, clash, option_both, cond_both, each_append, has_push-or, has_push-left, has_push-false, has_without-true, has_without, has_without-false, ClickLine, at, Follow, at_mem, Input, Start, Own, Tick, Deliver, Packet, Outcome, NoQuery, Busy, Setting, Note, Out, land, idle, DispatcherKept, DispatcherLive, Fresh, land_dispatcher, done_end, after_done, first_done, waits, mark, has_room, with_room, advances, retries, takes, taken, ends, parks, dispatcher_own, dispatcher_gets, dispatcher_joined, dispatcher_turn, dispatcher_start, told, DispatchNote, takes_note, takes_or_none, AreInOrder, Follows, IsRowTaken, IsEntry, AreKeptPlaces, AreLivePlaces}
 use Rattle.turn_defs.specs.declared.packet.Packet.TheVariants as packet
 use Rattle.turn_defs.specs.Turns.{Settle}
 use Rattle.dispatch_core.specs.declared.turns.DispatchNote.TheVariants as kind
-use Rattle.dispatch_node.proofs.Places.{and_left, or_cases, pushed, left_out, end_boundary, after_each, mark_each, waits_start}
+use Rattle.dispatch_node.proofs.Places.{pushed, left_out, end_boundary, after_each, mark_each, waits_start}
 
 -- what a row leaves: the disks take its note, and what is known then fits what they keep then, at places of the log
 pub record GoesOn (g : Setting) (k : DispatcherKept) (out : Out DispatcherLive) : Type 0 where
@@ -53,14 +53,6 @@ order_mark a p (f ∷ fs) z o = go (f.position == p) (order_mark f.end_ p fs z o
 
 -- ---- what waits
 
-and_right : (a b : Bool) → (a && b) ≡ true → b ≡ true
-and_right true b e = e
-and_right false b e = clash false e refl
-
-not_true : (b : Bool) → not b ≡ true → b ≡ false
-not_true true e = sym e
-not_true false e = refl
-
 waits_after : (fs : List Fresh) (q : ℕ) → waits (after_done fs) q ≡ true → waits fs q ≡ true
 waits_after [] q e = e
 waits_after (f ∷ fs) q e = go (waits_after fs q) f.done e
@@ -75,19 +67,19 @@ waits_mark (f ∷ fs) p q e = go (λ h. let m = waits_mark fs p q h in (or_right
   where
     go : (waits (mark fs p) q ≡ true → (waits (f ∷ fs) q ≡ true) × (q ≡ p → ⊥)) → (b : Bool) → (f.position == p) ≡ b
         → waits (cond b (record f { done = true }) f ∷ mark fs p) q ≡ true → (waits (f ∷ fs) q ≡ true) × (q ≡ p → ⊥)
-    go later true t h = ⊎_elim (λ here. clash false (and_right (f.position == q) false here) refl) later (or_cases ((f.position == q) && false) (waits (mark fs p) q) h)
+    go later true t h = ⊎_elim (λ here. clash false (and_parts (f.position == q) false here).1 refl) later (or_cases ((f.position == q) && false) (waits (mark fs p) q) h)
     go later false n h =
         ⊎_elim
         (λ here. (
           or_left ((f.position == q) && not f.done) (waits fs q) here,
-          λ same. clash (f.position == p) (eq-eqb f.position p (eqb-true f.position q (and_left (f.position == q) (not f.done) here) ∙ same)) n,
+          λ same. clash (f.position == p) (eq-eqb f.position p (eqb-true f.position q (and_parts (f.position == q) (not f.done) here).0 ∙ same)) n,
         ))
         later
         (or_cases ((f.position == q) && not f.done) (waits (mark fs p) q) h)
 
 waits_push : (fs : List Fresh) (f : Fresh) (q : ℕ) → waits (fs ++ f ∷ []) q ≡ true → (waits fs q ≡ true) ⊎ ((f.position ≡ q) × (f.done ≡ false))
 waits_push [] f q e =
-    ⊎_elim (λ here. inr (eqb-true f.position q (and_left (f.position == q) (not f.done) here), not_true f.done (and_right (f.position == q) (not f.done) here)))
+    ⊎_elim (λ here. inr (eqb-true f.position q (and_parts (f.position == q) (not f.done) here).0, not-true f.done (and_parts (f.position == q) (not f.done) here).1))
     (λ none. clash false none refl) (or_cases ((f.position == q) && not f.done) false e)
 waits_push (x ∷ fs) f q e =
     ⊎_elim (λ here. inl (or_left ((x.position == q) && not x.done) (waits fs q) here))

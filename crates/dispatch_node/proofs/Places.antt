@@ -1,6 +1,6 @@
 -- Places of the log in what a dispatcher knows, as it changes.
-use Rattle.std.proofs.Common.{◌≡◌, ◌⊎◌, inl, inr, ⊎_elim, ℕ, Bool, true, false, not, cond, ◌&&◌, ◌||◌, ◌==◌, List, [], ◌∷◌, ◌++◌, refl, subst}
-use Rattle.dispatch_node.proofs.Words.{eqb-true, Each, has, without, clash, has_push-or, has_without-true, IsBoundary, at_mem, Setting, Fresh, done_end, after_done, waits, mark, StartsAt, IsEntry}
+use Rattle.std.proofs.Common.{◌≡◌, ◌⊎◌, inr, ⊎_elim, ℕ, Bool, true, false, not, cond, ◌&&◌, ◌||◌, ◌==◌, List, [], ◌∷◌, ◌++◌, refl, subst}
+use Rattle.dispatch_node.proofs.Words.{and_parts, or_cases, eqb-true, Each, has, without, clash, has_push-or, has_without-true, IsBoundary, at_mem, Setting, Fresh, done_end, after_done, waits, mark, StartsAt, IsEntry}
 
 -- ---- the window
 
@@ -31,20 +31,12 @@ mark_each g (f ∷ fs) p each = (go (f.position == p), mark_each g fs p each.1)
     go true = each.0
     go false = each.0
 
-pub and_left : (a b : Bool) → (a && b) ≡ true → a ≡ true
-and_left true b e = refl
-and_left false b e = e
-
-pub or_cases : (a b : Bool) → (a || b) ≡ true → (a ≡ true) ⊎ (b ≡ true)
-or_cases true b e = inl refl
-or_cases false b e = inr e
-
 -- where an entry waits a line starts
 pub waits_start : (g : Setting) (fs : List Fresh) (p : ℕ) → Each (IsEntry g) fs → waits fs p ≡ true → StartsAt g p
 waits_start g [] p each e = clash false e refl
 waits_start g (f ∷ fs) p each e =
     ⊎_elim
-    (λ here. subst (StartsAt g) (eqb-true f.position p (and_left (f.position == p) (not f.done) here)) (record { place = f.position; end_ = f.end_; click = f.click }, each.0))
+    (λ here. subst (StartsAt g) (eqb-true f.position p (and_parts (f.position == p) (not f.done) here).0) (record { place = f.position; end_ = f.end_; click = f.click }, each.0))
     (λ later. waits_start g fs p each.1 later)
     (or_cases ((f.position == p) && not f.done) (waits fs p) e)
 

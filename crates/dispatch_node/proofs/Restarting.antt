@@ -1,7 +1,7 @@
 -- What a stop leaves of a dispatcher's disks, and its restart as an entry.
-use Rattle.std.proofs.Common.{◌≡◌, ◌⊎◌, inl, inr, ⊎_elim, ℕ, true, false, not, List, Option, Some, None, Result, Ok, refl, sym, ap, ◌∙◌, subst, arith}
+use Rattle.std.proofs.Common.{◌≡◌, ◌⊎◌, inl, inr, ⊎_elim, ℕ, Bool, false, cond, not, List, Option, Some, None, refl, sym, ap, ◌∙◌, subst, arith}
 use Rattle.std.specs.Prelude.{option_map}
-use Rattle.dispatch_node.proofs.Words.{result_unwrap_or, le-ltb, clash, has_push-right, has_without-self, Stop, IsOpened, Fold, read_as, folds_to, gate_rule, Note, land, record_of, row, written, closes, DispatcherKept, land_dispatcher, DispatchNote, Advance, Park, Settle, landed, kept_as, takes_note, Holds, MayKeep, DispatcherState, SiteLeads, Parts, IsOpenAt, Doubts, StandsAt, StandsBy, dispatcher_rows, AreKeptPlaces, KeptOn, kept_or}
+use Rattle.dispatch_node.proofs.Words.{le-ltb, has_push-right, has_without-self, Stop, IsOpened, Fold, read_as, folds_to, Note, land, record_of, row, written, closes, DispatcherKept, land_dispatcher, DispatchNote, Advance, Park, Settle, landed, kept_as, takes_note, Holds, MayKeep, DispatcherState, SiteLeads, Parts, IsOpenAt, Doubts, StandsAt, StandsBy, dispatcher_rows, AreKeptPlaces, KeptOn, kept_or}
 use Rattle.gate_journal.specs.Records as of
 use Rattle.offset_journal.specs.Offsets as offsets
 use Rattle.retry_log.specs.Pending as pending
@@ -13,15 +13,10 @@ taken_once (Advance e) k = le-ltb e e (omega arith)
 taken_once (Park p) k = ap not (has_push-right k.pending p)
 taken_once (Settle p) k = has_without-self k.pending p
 
--- bytes keep one offset, and one list of positions
-ok_of : {A : Type 0} (a b : A) (r : Result A ℕ) → r ≡ Ok a → r ≡ Ok b → a ≡ b
-ok_of {A} a b r e f = ap (λ (x : Result A ℕ). result_unwrap_or x a) (sym e ∙ f)
-
 -- what was read again is what the disk kept, or that with the note
 left_of : {V : Type 0} (format : Fold V) (image : List ℕ → Type 0) (old new now : V) → ((c : List ℕ) → image c → of.KeepsOr (folds_to format) old new c) → of.IsLeft (folds_to format) image now → (now ≡ old) ⊎ (now ≡ new)
 left_of format image old new now images left =
-    let read = read_as format (gate_rule left.0) in
-    ⊎_elim (λ e. inl (ok_of now old read left.2 e)) (λ e. inr (ok_of now new read left.2 e)) (images left.0 left.1)
+    ⊎_elim (λ e. inl (cc (left.2, e))) (λ e. inr (cc (left.2, e))) (images left.0 left.1)
 
 left_kept : (n : DispatchNote) (k : DispatcherKept) (o : ℕ) (ps : List ℕ) → (o ≡ k.offset) ⊎ (o ≡ (landed n k).offset) → (ps ≡ k.pending) ⊎ (ps ≡ (landed n k).pending) → (kept_as o ps ≡ k) ⊎ (kept_as o ps ≡ landed n k)
 left_kept (Advance e) k o ps a b =
@@ -33,15 +28,6 @@ left_kept _ k o ps a b =
 
 pub found : (oi ri : List ℕ → Type 0) (n : DispatchNote) (k : DispatcherKept) (o : ℕ) (ps : List ℕ) → MayKeep oi ri n k → offsets.IsLeft oi o → pending.IsLeft ri ps → (kept_as o ps ≡ k) ⊎ (kept_as o ps ≡ landed n k)
 found oi ri n k o ps images a b = left_kept n k o ps (left_of offsets.offsets oi k.offset (landed n k).offset o images.offset a) (left_of pending.retries ri k.pending (landed n k).pending ps images.pending b)
-
--- the disk takes the note still: it isn't there
-pub not_landed : (n : DispatchNote) (k found_kept : DispatcherKept) → (found_kept ≡ k) ⊎ (found_kept ≡ landed n k) → takes_note found_kept n ≡ true → found_kept ≡ k
-not_landed n k x (inl e) takes = e
-not_landed n k x (inr e) takes = clash (takes_note (landed n k) n) (subst (λ (y : DispatcherKept). takes_note y n ≡ true) e takes) (taken_once n k)
-
-pub has_landed : (n : DispatchNote) (k found_kept : DispatcherKept) → (found_kept ≡ k) ⊎ (found_kept ≡ landed n k) → takes_note k n ≡ true → takes_note found_kept n ≡ false → found_kept ≡ landed n k
-has_landed n k x (inl e) takes off = clash (takes_note k n) takes (subst (λ (y : DispatcherKept). takes_note y n ≡ false) e off)
-has_landed n k x (inr e) takes off = e
 
 -- ---- images
 
@@ -82,29 +68,31 @@ module _ (p q : Parts) (oi ri oj rj : List ℕ → Type 0) (s : DispatcherState)
       let u : DispatcherState = record { site = s.site; node = closes s.node k None } in
       stands_again p q oi ri oj rj s (closes s.node k None) at same refl places (subst (λ (d : Option (DispatchNote × List ℕ)). StandsBy d q oj rj u) (sym none) (holds, tt))
 
-  pub nothing_landed : Holds q.offset_state q.retry_state q.offset q.pending (kept_as q.offset q.pending) → offsets.IsLeft oi q.offset → pending.IsLeft ri q.pending → takes_note (kept_as q.offset q.pending) x.0 ≡ true
-      → (u : DispatcherState) × SiteLeads s (Stop n None) u × StandsAt q oj rj u
-  nothing_landed holds a b takes =
+  -- the entry tells the note where the disks take it no more
+  pub restarts : Holds q.offset_state q.retry_state q.offset q.pending (kept_as q.offset q.pending) → offsets.IsLeft oi q.offset → pending.IsLeft ri q.pending → (takes : Bool) → takes ≡ takes_note (kept_as q.offset q.pending) x.0
+      → (u : DispatcherState) × SiteLeads s (Stop n (cond (not takes) (Some x.1) None)) u × StandsAt q oj rj u
+  restarts holds a b takes is =
       let by = doubt_of p oi ri s x some at in
       let k = s.node.kept in
-      let is = not_landed x.0 k (kept_as q.offset q.pending) (found oi ri x.0 k q.offset q.pending by.0.images a b) takes in (
-        record { site = s.site; node = closes s.node k None },
-        record { site = refl; leads = (by.1.begun, by.1.opened, inl (refl, refl)) },
-        downs k at.places (subst (λ (y : DispatcherKept). Holds q.offset_state q.retry_state q.offset q.pending y) is holds),
-      )
-
-  pub note_landed : Holds q.offset_state q.retry_state q.offset q.pending (kept_as q.offset q.pending) → offsets.IsLeft oi q.offset → pending.IsLeft ri q.pending → takes_note (kept_as q.offset q.pending) x.0 ≡ false
-      → (u : DispatcherState) × SiteLeads s (Stop n (Some x.1)) u × StandsAt q oj rj u
-  note_landed holds a b takes =
-      let by = doubt_of p oi ri s x some at in
-      let k = s.node.kept in
-      let is = has_landed x.0 k (kept_as q.offset q.pending) (found oi ri x.0 k q.offset q.pending by.0.images a b) by.0.takes takes in
+      ⊎_elim
+      (λ old.
+      let u : DispatcherState = record { site = s.site; node = closes s.node k None } in
+      let off = is ∙ ap (λ (y : DispatcherKept). takes_note y x.0) old ∙ by.0.takes in (
+        u,
+        subst (λ (t : Bool). SiteLeads s (Stop n (cond (not t) (Some x.1) None)) u) (sym off) (record { site = refl; leads = (by.1.begun, by.1.opened, inl (refl, refl)) }),
+        downs k at.places (subst (λ (y : DispatcherKept). Holds q.offset_state q.retry_state q.offset q.pending y) old holds),
+      ))
+      (λ new.
+      let u : DispatcherState = record { site = s.site; node = closes s.node (landed x.0 k) None } in
+      let on = is ∙ ap (λ (y : DispatcherKept). takes_note y x.0) new ∙ taken_once x.0 k in
       let lands : written (dispatcher_rows s.site) s.node by.1.input ≡ landed x.0 k = ap (λ (m : Option Note). land land_dispatcher m k) by.1.noted in
       let noted : Some x.1 ≡ option_map record_of (row (dispatcher_rows s.site) s.node by.1.input).note = ap (λ (r : List ℕ). Some r) by.1.bytes_are ∙ ap (option_map record_of) (sym by.1.noted) in (
-        record { site = s.site; node = closes s.node (landed x.0 k) None },
-        record { site = refl; leads = (by.1.begun, by.1.opened, inr (by.1.input, by.1.reads, noted, ap (λ (y : DispatcherKept). closes s.node y None) (sym lands))) },
-        downs (landed x.0 k) by.0.places (subst (λ (y : DispatcherKept). Holds q.offset_state q.retry_state q.offset q.pending y) is holds),
-      )
+        u,
+        subst (λ (t : Bool). SiteLeads s (Stop n (cond (not t) (Some x.1) None)) u) (sym on)
+            (record { site = refl; leads = (by.1.begun, by.1.opened, inr (by.1.input, by.1.reads, noted, ap (λ (y : DispatcherKept). closes s.node y None) (sym lands))) }),
+        downs (landed x.0 k) by.0.places (subst (λ (y : DispatcherKept). Holds q.offset_state q.retry_state q.offset q.pending y) new holds),
+      ))
+      (found oi ri x.0 k q.offset q.pending by.0.images a b)
 
 -- each image keeps something
 pub doubt_kept : (p : Parts) (oi ri : List ℕ → Type 0) (s : DispatcherState) (x : DispatchNote × List ℕ) → p.in_doubt ≡ Some x → StandsAt p oi ri s

@@ -1,14 +1,10 @@
 -- A turn of a dispatcher over its disks, and its restart, as the states' entries.
-use Rattle.std.proofs.Common.{◌≡◌, ◌⊎◌, inl, inr, ⊎_elim, ℕ, ◌≤◌, true, false, List, [], length, Option, Some, None, refl, sym, ap, ◌∙◌, subst}
-use Rattle.std.specs.Prelude.{is_some, option_map, Result, Ok, Err, OnErr, IsErrAnd}
-use Rattle.dispatch_node.proofs.Words.{ends_idle, ends_done, MayTake, Continues, continues_same, continues_through, Config, IsOf, live_of, Bytes, Begin, End, Input, Setting, Note, Out, land, record_of, AreSpelled, Reads, IsJunk, State, Leads, row, written, closes, DispatcherKept, DispatcherLive, land_dispatcher, told, note_of, IsTurn, Stands, out_of, DispatchCore, Turn, DispatchNote, kept_as, takes_note, Holds, MayKeep, DispatcherState, SiteLeads, Knows, IsAsked, Parts, StandsAt, StandsBy, IsRecorded, IsTakenBy, landed_by, dispatcher_rows, IsLogOf, AreKeptPlaces, KeptOn, OnDisks, kept_or}
+use Rattle.std.proofs.Common.{◌≡◌, ◌⊎◌, inl, inr, ⊎_elim, ℕ, ◌≤◌, true, List, [], length, Option, Some, None, refl, sym, ap, ◌∙◌, subst}
+use Rattle.std.specs.Prelude.{is_some, option_map}
+use Rattle.dispatch_node.proofs.Words.{ends_idle, ends_done, MayTake, Config, IsOf, live_of, Bytes, Begin, End, Input, Setting, Note, Out, land, record_of, AreSpelled, Reads, IsJunk, State, Leads, row, written, closes, DispatcherKept, DispatcherLive, land_dispatcher, told, note_of, IsTurn, Stands, out_of, DispatchCore, Turn, DispatchNote, kept_as, takes_note, Holds, MayKeep, DispatcherState, SiteLeads, Knows, IsAsked, Parts, StandsAt, StandsBy, IsRecorded, IsTakenBy, landed_by, dispatcher_rows, IsLogOf, AreKeptPlaces, KeptOn, OnDisks, kept_or}
 use Rattle.offset_journal.specs.Offsets as offsets
 use Rattle.retry_log.specs.Pending as pending
 use Rattle.dispatch_node.proofs.Standing.{live_or, asked_at, row_is, row_goes, landed_is}
-use Rattle.dispatch_node.specs.Faults.{IsReadFault}
-use Rattle.site_node.specs.Faults.{was_stopped}
-use Rattle.site_node.specs.declared.kind.NodeFault.{NodeFault}
-use Rattle.site_node.specs.declared.kind.NodeFault.TheVariants as fault
 
 -- the same node, whatever its core, its disks and its journals are
 pub record IsSame (p q : Parts) : Type 0 where
@@ -153,16 +149,9 @@ doubted p q oi ri oj rj s t n site b i l core turn x at led same none some d tak
     let places = ((row_goes g s.site p.log p.core k s.node.live l i at.log d.asked (quiet p oi ri s none at).1).places at.places).0 in
     let by : StandsBy (Some x) q oj rj u = (
       record { images = images; takes = takes; places = subst (λ (m : Option Note). AreKeptPlaces g (land land_dispatcher m k)) (sym note.note_is) places },
-      record { begun = b; opened = refl; input = i; reads = d.reads; noted = sym note.note_is; bytes_are = some_bytes x.1 (record_of (told x.0)) (note.bytes ∙ ap (option_map record_of) (sym note.note_is)) },
+      record { begun = b; opened = refl; input = i; reads = d.reads; noted = sym note.note_is; bytes_are = (let bytes : Some x.1 ≡ Some (record_of (told x.0)) = note.bytes ∙ ap (option_map record_of) (sym note.note_is) in cc) },
     ) in
     subst (λ (y : DispatcherState). StandsAt q oj rj y) (opened_is s t n b led) (stands_again p q oi ri oj rj s u.node at same refl at.places (subst (λ (o : Option (DispatchNote × List ℕ)). StandsBy o q oj rj u) (sym some) by))
-  where
-    bytes_in : Option (List ℕ) → List ℕ
-    bytes_in None = []
-    bytes_in (Some r) = r
-
-    some_bytes : (r r' : List ℕ) → Some r ≡ Some r' → r ≡ r'
-    some_bytes r r' e = ap bytes_in e
 
 -- ---- what a written note makes
 
@@ -190,21 +179,3 @@ pub part_at : {V B : Type 0} (keeps : V → List ℕ → Type 0) (part : Dispatc
     → keeps (part k) c ⊎ keeps (part (landed_by w k)) c
 part_at keeps part w old mid k c is same before both =
     ⊎_elim (λ b. inl (subst (λ (x : DispatcherKept). keeps (part x) c) is (before b))) (λ now. subst (λ (x : DispatcherKept). keeps (part x) c ⊎ keeps (part (landed_by w x)) c) (same ∙ is) now) both
-
--- a disk goes on where only room is made before it goes on
-pub grows_through : (a b c : List ℕ → Type 0) → ((x : List ℕ) → b x → a x) → ((x : List ℕ) → c x → Continues b x) → (x : List ℕ) → c x → Continues a x
-grows_through a b c made grown x now = continues_through a b (λ y here. continues_same a y (made y here)) x (grown x now)
-
-pub if_err : {T E : Type 0} (r : Result T E) (Q : Type 0) → Q → OnErr r Q
-if_err (Ok x) Q q = tt
-if_err (Err e) Q q = q
-
--- a turn that wasn't decided isn't stopped
-pub undecided : {T : Type 0} (r : Result T NodeFault) (f : NodeFault) → IsErrAnd r (λ e. e ≡ f) → IsReadFault f → false ≡ was_stopped r
-undecided (Ok x) f is kind = absurd is
-undecided (Err fault.Stopped) f is kind = let bad : IsReadFault fault.Stopped = subst IsReadFault (sym is) kind in absurd bad
-undecided (Err (fault.Disk disk)) f is kind = refl
-undecided (Err (fault.Damaged disk at)) f is kind = refl
-undecided (Err fault.Read) f is kind = refl
-undecided (Err (fault.Spent epoch)) f is kind = refl
-undecided (Err fault.Memory) f is kind = refl

@@ -9,7 +9,6 @@ pub use Rattle.dispatch_core.specs.declared.input.TakenLine.{TakenLine}
 pub use Rattle.dispatch_core.specs.declared.turns.DispatchNote.{DispatchNote}
 pub use Rattle.dispatch_core.specs.declared.turns.DispatchNote.TheVariants.{Advance, Park, Settle}
 pub use Rattle.dispatch_core.specs.declared.turns.Turn.{Turn}
-pub use Rattle.dispatch_node.specs.Faults.{fault_told}
 pub use Rattle.dispatch_node.specs.Follows.{AreInOrder, Follows, IsRowTaken}
 pub use Rattle.dispatch_node.specs.Images.{KeptOn, OnDisks, kept_or, one_of}
 pub use Rattle.dispatch_node.specs.Kept.{Holds, MayKeep, kept_as, landed, takes_note, takes_or_none}
@@ -40,17 +39,17 @@ pub use Rattle.outside.specs.Faults.{Rose}
 pub use Rattle.outside.specs.declared.store.DiskName.{DiskName}
 pub use Rattle.retry_log.specs.Pending.{KeepsOr}
 pub use Rattle.retry_log.specs.declared.retries.Retries.{Retries}
-pub use Rattle.site_node.proofs.Turns.{ends_done, ends_idle, none_of}
+pub use Rattle.site_node.proofs.Turns.{ends_done, ends_idle, none_of, on_err, turn_grown}
 pub use Rattle.site_node.specs.Bytes.{AreSpelled, IsJunk, Reads, record_of}
-pub use Rattle.site_node.specs.Faults.{IsOfRestart, IsWhole}
+pub use Rattle.site_node.specs.Faults.{IsUndamaged}
 pub use Rattle.site_node.specs.States.{Leads, MayTake, State, closes, row, row_of, written}
 pub use Rattle.site_node.specs.declared.kind.NodeFault.{NodeFault}
 pub use Rattle.site_node.specs.declared.kind.NodeFault.TheVariants.{Damaged, Disk, Memory}
 pub use Rattle.std.proofs.Math.Seq.{drop-append_seam}
-pub use Rattle.std.proofs.lemmas.Bool.{cond_both, eq-eqb, eqb-true, le-ltb, lt-ltb, or_left, or_right}
+pub use Rattle.std.proofs.lemmas.Bool.{and_parts, cond_both, eq-eqb, eqb-true, le-ltb, lt-ltb, not-true, or_cases, or_left, or_right}
 pub use Rattle.std.proofs.lemmas.Cmp.{nat_eq_equiv}
 pub use Rattle.std.proofs.lemmas.List.{take_all, take_more}
-pub use Rattle.std.proofs.lemmas.Result.{IfOk-weaker}
+pub use Rattle.std.proofs.lemmas.Result.{IfOk-weaker, on_ok_weaker}
 pub use Rattle.std.specs.List.{AllByRecursion}
 pub use Rattle.std.specs.Option.{option_map}
 pub use Rattle.std.specs.Result.{result_unwrap_or}

@@ -11,9 +11,3 @@ abbrev pub IsReadFault : NodeFault → Type 0
 IsReadFault Read = ⊤
 IsReadFault Memory = ⊤
 IsReadFault _ = ⊥
-
--- what a node tells of a journal that isn't opened
-abbrev pub fault_told : DiskName → JournalFault → NodeFault
-fault_told disk (journal.Damaged at) = Damaged disk at
-fault_told disk journal.Disk = Disk disk
-fault_told disk journal.Memory = Memory

@@ -12,18 +12,17 @@ ghost use Rattle.retry_log.specs.Pending as pending;
 ghost use Rattle.turn_defs.specs.Turns.{Note};
 ghost use Rattle.site_node.specs.Faults.{was_shut_out, IsOfRestart, IsWhole, MeetsBoth};
 ghost use Rattle.dispatch_core.specs.Changes.{told};
-ghost use Rattle.dispatch_node.specs.Faults.{fault_told};
 ghost use Rattle.dispatch_node.specs.Kept.{kept_as, landed, takes_note, takes_or_none, HasRoomFor};
 ghost use Rattle.dispatch_node.specs.Node.{IsRecorded, IsTakenBy, IsRoomFor};
 
 use crate::notes::payload_of;
 use air_bus::Payload;
 use dispatch_core::DispatchNote;
-use gate_journal::{AppendFault, JournalFault};
+use gate_journal::AppendFault;
 use offset_journal::{OffsetJournal, offset_record};
 use outside::{Disk, DiskName};
 use retry_log::{Change, RetryLog, change_record};
-use site_node::NodeFault;
+use site_node::{NodeFault, fault_of};
 use std::alloc::{AllocError, Global};
 
 // The offset on one disk, and the pending positions on another. A note is written to one of them alone.
@@ -95,8 +94,8 @@ impl<D: Disk> Journals<D> {
             (D.image self.old.offset.journal.disk) }
         ensures retry_at_any_moment { IsTrue D.tells → Throughout D.image D.since self.old.retry.journal.disk self.new.retry.journal.disk
             (D.image self.old.retry.journal.disk) }
-        ensures plan { IsTrue D.tells → MeetsPlan D.stops D.made D.faults 0 false self.old.offset.journal.disk self.new.offset.journal.disk
-            × MeetsPlan D.stops D.made D.faults 0 false self.old.retry.journal.disk self.new.retry.journal.disk }
+        ensures offset_plan { IsTrue D.tells → MeetsPlan D.stops D.made D.faults 0 false self.old.offset.journal.disk self.new.offset.journal.disk }
+        ensures retry_plan { IsTrue D.tells → MeetsPlan D.stops D.made D.faults 0 false self.old.retry.journal.disk self.new.retry.journal.disk }
         ensures counts { (D.faults self.new.offset.journal.disk ≡ D.faults self.old.offset.journal.disk)
             × (D.faults self.new.retry.journal.disk ≡ D.faults self.old.retry.journal.disk) }
     {
@@ -125,8 +124,8 @@ impl<D: Disk> Journals<D> {
             (D.image self.old.offset.journal.disk) }
         ensures retry_at_any_moment { IsTrue D.tells → Throughout D.image D.since self.old.retry.journal.disk self.new.retry.journal.disk
             (D.image self.old.retry.journal.disk) }
-        ensures plan { IsTrue D.tells → MeetsPlan D.stops D.made D.faults 0 false self.old.offset.journal.disk self.new.offset.journal.disk
-            × MeetsPlan D.stops D.made D.faults 0 false self.old.retry.journal.disk self.new.retry.journal.disk }
+        ensures offset_plan { IsTrue D.tells → MeetsPlan D.stops D.made D.faults 0 false self.old.offset.journal.disk self.new.offset.journal.disk }
+        ensures retry_plan { IsTrue D.tells → MeetsPlan D.stops D.made D.faults 0 false self.old.retry.journal.disk self.new.retry.journal.disk }
         ensures counts { (D.faults self.new.offset.journal.disk ≡ D.faults self.old.offset.journal.disk)
             × (D.faults self.new.retry.journal.disk ≡ D.faults self.old.retry.journal.disk) }
     {
@@ -140,31 +139,22 @@ impl<D: Disk> Journals<D> {
 
     // Writes the note to its disk. It takes no memory.
     pub(crate) fn append(&mut self, note: DispatchNote) -> Result<(), AppendFault>
+        requires ready { (self.old.offset.journal.state ≡ Ready) × (self.old.retry.journal.state ≡ Ready) }
         requires takes { takes_note (kept_as self.old.offset.value.offset self.old.retry.value.pending.keys) note ≡ true }
         requires room { HasRoomFor note (D.calls_left self.old.offset.journal.disk) (D.bytes_left self.old.offset.journal.disk)
             (D.calls_left self.old.retry.journal.disk) (D.bytes_left self.old.retry.journal.disk) (spare self.old.retry.value.pending) }
         ensures kept { OnOk result (kept_as self.new.offset.value.offset self.new.retry.value.pending.keys
             ≡ landed note (kept_as self.old.offset.value.offset self.old.retry.value.pending.keys)) }
-        ensures ready { self.old.offset.journal.state ≡ Ready → self.old.retry.journal.state ≡ Ready →
-            OnOk result ((self.new.offset.journal.state ≡ Ready) × (self.new.retry.journal.state ≡ Ready)) }
-        ensures offset_at_any_moment { IsTrue D.tells → self.old.offset.journal.state ≡ Ready →
-            Throughout D.image D.since self.old.offset.journal.disk self.new.offset.journal.disk
+        ensures ready { OnOk result ((self.new.offset.journal.state ≡ Ready) × (self.new.retry.journal.state ≡ Ready)) }
+        ensures offset_at_any_moment { IsTrue D.tells → Throughout D.image D.since self.old.offset.journal.disk self.new.offset.journal.disk
             (offsets.KeepsOr self.old.offset.value.offset (landed note (kept_as self.old.offset.value.offset self.old.retry.value.pending.keys)).offset) }
-        ensures retry_at_any_moment { IsTrue D.tells → self.old.retry.journal.state ≡ Ready →
-            Throughout D.image D.since self.old.retry.journal.disk self.new.retry.journal.disk
-            (pending.KeepsOr self.old.retry.value.pending.keys
-            (landed note (kept_as self.old.offset.value.offset self.old.retry.value.pending.keys)).pending) }
-        ensures offset_grows { IsTrue D.tells → self.old.offset.journal.state ≡ Ready →
-            (c : List ℕ) → D.image self.new.offset.journal.disk c → Continues (D.image self.old.offset.journal.disk) c }
-        ensures retry_grows { IsTrue D.tells → self.old.retry.journal.state ≡ Ready → (c : List ℕ) → D.image self.new.retry.journal.disk c →
-            Continues (D.image self.old.retry.journal.disk) c }
-        ensures ready_before { self.old.offset.journal.state ≡ Ready → self.old.retry.journal.state ≡ Ready →
-            IfErr result (λ e. e ≡ AppendFault.Disk) }
-        ensures fault { IsErrOf result AppendFault.Disk →
-            Rose (D.faults self.old.offset.journal.disk) (D.faults self.new.offset.journal.disk)
-            ⊎ Rose (D.faults self.old.retry.journal.disk) (D.faults self.new.retry.journal.disk) }
-        ensures plan { IsTrue D.tells → self.old.offset.journal.state ≡ Ready → self.old.retry.journal.state ≡ Ready →
-            MeetsBoth D.stops D.made D.faults (is_err result)
+        ensures retry_at_any_moment { IsTrue D.tells → Throughout D.image D.since self.old.retry.journal.disk self.new.retry.journal.disk
+            (pending.KeepsOr self.old.retry.value.pending.keys (landed note (kept_as self.old.offset.value.offset self.old.retry.value.pending.keys)).pending) }
+        ensures offset_grows { IsTrue D.tells → (c : List ℕ) → D.image self.new.offset.journal.disk c → Continues (D.image self.old.offset.journal.disk) c }
+        ensures retry_grows { IsTrue D.tells → (c : List ℕ) → D.image self.new.retry.journal.disk c → Continues (D.image self.old.retry.journal.disk) c }
+        ensures fault { OnErr result (Rose (D.faults self.old.offset.journal.disk) (D.faults self.new.offset.journal.disk)
+            ⊎ Rose (D.faults self.old.retry.journal.disk) (D.faults self.new.retry.journal.disk)) }
+        ensures plan { IsTrue D.tells → MeetsBoth D.stops D.made D.faults (is_err result)
             self.old.offset.journal.disk self.old.retry.journal.disk self.new.offset.journal.disk self.new.retry.journal.disk }
         ensures counts { (D.faults self.old.offset.journal.disk ≤ D.faults self.new.offset.journal.disk)
             × (D.faults self.old.retry.journal.disk ≤ D.faults self.new.retry.journal.disk) }
@@ -215,16 +205,5 @@ impl<D: Disk> Journals<D> {
             Ok(()) => Ok(()),
             Err(fault) => Err(fault_of(DiskName::Retry(site), fault)),
         }
-    }
-}
-
-// Why a journal of this disk isn't opened.
-fn fault_of(disk: DiskName, fault: JournalFault) -> NodeFault
-    ensures { result ≡ fault_told disk fault }
-{
-    match fault {
-        JournalFault::Damaged { at } => NodeFault::Damaged { disk, at },
-        JournalFault::Disk => NodeFault::Disk(disk),
-        JournalFault::Memory => NodeFault::Memory,
     }
 }

@@ -1,6 +1,26 @@
 // The dispatcher over its disks and the click log.
-ghost use Rattle.std.specs.Prelude.{◌≡◌, None};
+ghost use Rattle.std.specs.Prelude.{◌≡◌, None, ◌⊎◌, ◌<◌, ◌≤◌, true, false, Option, List, ℕ, is_some, is_err, option_map, IsTrue, IfOk, IfErr, OnOk, OnErr, IsErrOf, ◌+◌, ◌&&◌};
 ghost use Rattle.gate_journal.specs.declared.journal.JournalState.TheVariants.{Ready};
+ghost use Rattle.indexmap.specs.IndexSet.{spare};
+ghost use Rattle.outside.specs.Disk.{Throughout};
+ghost use Rattle.outside.specs.Faults.{Rose};
+ghost use Rattle.outside.specs.Plans.{MeetsPlan, AtMost};
+ghost use Rattle.gate_journal.specs.Growth.{Continues};
+ghost use Rattle.offset_journal.specs.Offsets as offsets;
+ghost use Rattle.retry_log.specs.Pending as pending;
+ghost use Rattle.turn_defs.specs.Setting.{Setting};
+ghost use Rattle.turn_defs.specs.Configs.{IsOf};
+ghost use Rattle.site_node.specs.Faults.{MeetsBoth, OfBoth};
+ghost use Rattle.dispatch_core.specs.Changes.{told};
+ghost use Rattle.turn_defs.specs.Dispatcher.{DispatcherKept, DispatcherLive, dispatcher_at_rest, dispatcher_unfinished, dispatcher_wants};
+ghost use Rattle.dispatch_core.specs.Standing.{HasSameNumbers, IsTurn, StandsAs, out_of};
+ghost use Rattle.dispatch_node.specs.Faults.{IsReadFault};
+ghost use Rattle.dispatch_node.specs.Kept.{kept_as, takes_or_none};
+ghost use Rattle.dispatch_node.specs.Places.{AreKeptPlaces, IsLogOf};
+ghost use Rattle.dispatch_node.specs.Node.{IsAsked, IsReady, IsRecorded, IsRoomFor, IsTakenBy, Knows, StandsAt, down_over, landed_by, DispatcherState, SiteLeads, says, never_spent};
+ghost use Rattle.site_node.specs.States.{state_phase};
+ghost use Rattle.dispatch_node.specs.Images.{KeptOn, kept_images, one_of};
+ghost use Rattle.dispatch_node.specs.Paths.{begins as begins_by, phase_led};
 
 use crate::asking::look_up;
 use crate::clicks::Clicks;
@@ -11,7 +31,7 @@ use dispatch_core::{DispatchCore, DispatchNote, Turn};
 use offset_journal::OffsetJournal;
 use outside::{Disk, Gate, LogFile, Point};
 use retry_log::RetryLog;
-use site_node::{Done, NodeFault, SiteNode, read_input, spell};
+use site_node::{Done, NodeFault, SiteNode, read_input, spell, told_note};
 use std::alloc::Global;
 use turn_defs::{Config, Input};
 
@@ -41,26 +61,6 @@ struct ReadyTurn {
 }
 
 impl<D: Disk, L: LogFile> DispatchNode<D, L> {
-    ghost use Rattle.std.specs.Prelude.{◌≡◌, ◌⊎◌, ◌<◌, ◌≤◌, true, false, None, Option, List, ℕ, is_some, is_err, option_map};
-    ghost use Rattle.std.specs.Prelude.{IsTrue, IfOk, IfErr, OnOk, OnErr, IsErrOf};
-    ghost use Rattle.indexmap.specs.IndexSet.{spare};
-    ghost use Rattle.outside.specs.Disk.{Throughout};
-    ghost use Rattle.outside.specs.Faults.{Rose};
-    ghost use Rattle.outside.specs.Plans.{MeetsPlan};
-    ghost use Rattle.gate_journal.specs.Growth.{Continues};
-    ghost use Rattle.offset_journal.specs.Offsets as offsets;
-    ghost use Rattle.retry_log.specs.Pending as pending;
-    ghost use Rattle.turn_defs.specs.Setting.{Setting};
-    ghost use Rattle.turn_defs.specs.Configs.{IsOf};
-    ghost use Rattle.site_node.specs.Faults.{MeetsBoth};
-    ghost use Rattle.dispatch_core.specs.Changes.{told};
-    ghost use Rattle.turn_defs.specs.Dispatcher.{DispatcherKept, DispatcherLive};
-    ghost use Rattle.dispatch_core.specs.Standing.{HasSameNumbers, IsTurn, StandsAs, out_of};
-    ghost use Rattle.dispatch_node.specs.Faults.{IsReadFault};
-    ghost use Rattle.dispatch_node.specs.Kept.{kept_as, takes_or_none};
-    ghost use Rattle.dispatch_node.specs.Places.{AreKeptPlaces, IsLogOf};
-    ghost use Rattle.dispatch_node.specs.Node.{IsAsked, IsReady, IsRecorded, IsRoomFor, IsTakenBy, Knows, StandsAt, down_over, landed_by};
-
     /// A dispatcher that is down, over its journals and the click log, which was checked before. It takes no memory.
     pub fn new(
         alloc: Global,
@@ -149,9 +149,10 @@ impl<D: Disk, L: LogFile> DispatchNode<D, L> {
             self.new.journals.offset.journal.disk (D.image self.old.journals.offset.journal.disk) }
         ensures retry_at_any_moment { IsTrue D.tells → Throughout D.image D.since self.old.journals.retry.journal.disk
             self.new.journals.retry.journal.disk (D.image self.old.journals.retry.journal.disk) }
-        ensures plan { IsTrue D.tells →
-            MeetsPlan D.stops D.made D.faults 0 false self.old.journals.offset.journal.disk self.new.journals.offset.journal.disk
-            × MeetsPlan D.stops D.made D.faults 0 false self.old.journals.retry.journal.disk self.new.journals.retry.journal.disk }
+        ensures offset_plan { IsTrue D.tells →
+            MeetsPlan D.stops D.made D.faults 0 false self.old.journals.offset.journal.disk self.new.journals.offset.journal.disk }
+        ensures retry_plan { IsTrue D.tells →
+            MeetsPlan D.stops D.made D.faults 0 false self.old.journals.retry.journal.disk self.new.journals.retry.journal.disk }
         ensures counts { (D.faults self.new.journals.offset.journal.disk ≡ D.faults self.old.journals.offset.journal.disk)
             × (D.faults self.new.journals.retry.journal.disk ≡ D.faults self.old.journals.retry.journal.disk) }
         ensures fault { IfErr result IsReadFault }
@@ -241,16 +242,6 @@ impl<D: Disk, L: LogFile> DispatchNode<D, L> {
 }
 
 impl<D: Disk, L: LogFile> SiteNode for DispatchNode<D, L> {
-    ghost use Rattle.std.specs.Prelude.{◌≡◌, ◌+◌, ◌&&◌, is_some, List, ℕ};
-    ghost use Rattle.outside.specs.Plans.{AtMost};
-    ghost use Rattle.gate_journal.specs.Growth.{Continues};
-    ghost use Rattle.site_node.specs.Faults.{OfBoth};
-    ghost use Rattle.site_node.specs.States.{state_phase};
-    ghost use Rattle.turn_defs.specs.Dispatcher.{dispatcher_at_rest, dispatcher_unfinished, dispatcher_wants};
-    ghost use Rattle.dispatch_node.specs.Node.{DispatcherState, SiteLeads, StandsAt, says, never_spent};
-    ghost use Rattle.dispatch_node.specs.Images.{KeptOn, kept_images, one_of};
-    ghost use Rattle.dispatch_node.specs.Paths.{begins as begins_by, phase_led};
-
     ghost tells = { D.tells && L.tells };
 
     ghost planned = { D.planned };
@@ -355,10 +346,6 @@ impl<D: Disk, L: LogFile> SiteNode for DispatchNode<D, L> {
         let Some((note, record)) = self.in_doubt.take() else {
             return Ok(None);
         };
-        if self.journals.takes(note) {
-            Ok(None)
-        } else {
-            Ok(Some(record))
-        }
+        Ok(told_note(!self.journals.takes(note), Some(record)))
     }
 }

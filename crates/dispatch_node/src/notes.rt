@@ -5,25 +5,19 @@ ghost use Rattle.dispatch_core.specs.Changes.{told};
 
 use air_bus::Payload;
 use dispatch_core::DispatchNote;
+use offset_journal::offset_record;
+use retry_log::{Change, change_record};
 use std::alloc::{AllocError, Global};
-
-const ADVANCE: u8 = 3;
-
-const PARK: u8 = 4;
-
-const SETTLE: u8 = 5;
 
 // The record of a note, as the journals write it.
 fn record_bytes_of(note: DispatchNote) -> [u8; 9]
     ensures { result ≡ record_of (told note) }
 {
-    let (tag, number) = match note {
-        DispatchNote::Advance(end) => (ADVANCE, end),
-        DispatchNote::Park(position) => (PARK, position),
-        DispatchNote::Settle(position) => (SETTLE, position),
-    };
-    let b = number.to_be_bytes();
-    [tag, b[0], b[1], b[2], b[3], b[4], b[5], b[6], b[7]]
+    match note {
+        DispatchNote::Advance(end) => offset_record(end),
+        DispatchNote::Park(position) => change_record(Change::Park(position)),
+        DispatchNote::Settle(position) => change_record(Change::Settle(position)),
+    }
 }
 
 // The same as the bus takes it.

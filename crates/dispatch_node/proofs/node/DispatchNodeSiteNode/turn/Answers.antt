@@ -1,9 +1,9 @@
 use Rattle.std.proofs.Common.{◌≡◌, true, false, rules, Some, refl, sym, ap, ◌∙◌, subst}
-use Rattle.dispatch_node.proofs.Words.{none_of, continues_same, live_of, IsTurn, KeptOn, one_of, DispatcherKept, DispatcherState, DispatchCore, landed_by}
+use Rattle.dispatch_node.proofs.Words.{none_of, on_err, turn_grown, continues_same, live_of, IsTurn, KeptOn, one_of, DispatcherKept, DispatcherState, DispatchCore, landed_by}
 use Rattle.offset_journal.specs.Offsets as offsets
 use Rattle.retry_log.specs.Pending as pending
 use Rattle.dispatch_node.proofs.Standing.{live_or}
-use Rattle.dispatch_node.proofs.Turning.{config_is, decides, quiet, idles, ends, stays_open, doubted, row_moment, opened_is, decided_at, taken_at, images_at, part_at, grows_through, some_of, if_err, undecided}
+use Rattle.dispatch_node.proofs.Turning.{config_is, decides, quiet, idles, ends, stays_open, doubted, row_moment, opened_is, decided_at, taken_at, images_at, part_at, some_of}
 use Rattle.site_node.specs.Faults.{was_stopped}
 use Rattle.site_node.proofs.Stops.{both_meet, one_by_one}
 use Rattle.dispatch_node.proofs.node.DispatchNodeSiteNode.turn.Goals as goal
@@ -48,7 +48,7 @@ returns-in_err-note-in-Some-clause-open g c tells s t at led =
     let f = c.in_err-note-in-Some.ensures in
     let some = some_of ready.written f.doubt.1 in
     let kept = e.kept ∙ (quiet _ _ _ s none at).0.kept in
-    if_err c.from_residual-in_err-note-in-Some.result _
+    on_err c.from_residual-in_err-note-in-Some.result
     (doubted _ _ _ _ _ _ s t old.site old.core.dealer.site c.args.input.now c.in-Some.input _ c.prepare.new.self.core ready.turn some.0 at led
     (record {
       site = f.same.0 ∙ e.same.0;
@@ -80,8 +80,8 @@ returns-in_ok-note-in-Some-clause-grown g c tells s at =
     let both = one_of g.D.Disk.tells g.L.LogFile.tells tells in
     let e = c.in_ok-ready-in-Some.ensures in
     let f = c.append.ensures in
-    let image = g.D.Disk.image in
-    (grows_through _ (image c.prepare.new.self.journals.offset.journal.disk) _ ((e.offset_at_any_moment both.0).now) (f.offset_grows both.0), grows_through _ (image c.prepare.new.self.journals.retry.journal.disk) _ ((e.retry_at_any_moment both.0).now) (f.retry_grows both.0))
+    let d = g.D.Disk in
+    (turn_grown d.image d.since _ _ _ (e.offset_at_any_moment both.0) (f.offset_grows both.0), turn_grown d.image d.since _ _ _ (e.retry_at_any_moment both.0) (f.retry_grows both.0))
 
 pub returns-in_err-note-in-Some-clause-moments : goal.returns-in_err-note-in-Some-clause-moments
 returns-in_err-note-in-Some-clause-moments g c tells s t at led bytes left =
@@ -103,8 +103,8 @@ returns-in_err-note-in-Some-clause-grown g c tells s at =
     let both = one_of g.D.Disk.tells g.L.LogFile.tells tells in
     let e = c.in_ok-ready-in-Some.ensures in
     let f = c.append.ensures in
-    let image = g.D.Disk.image in
-    (grows_through _ (image c.prepare.new.self.journals.offset.journal.disk) _ ((e.offset_at_any_moment both.0).now) (f.offset_grows both.0), grows_through _ (image c.prepare.new.self.journals.retry.journal.disk) _ ((e.retry_at_any_moment both.0).now) (f.retry_grows both.0))
+    let d = g.D.Disk in
+    (turn_grown d.image d.since _ _ _ (e.offset_at_any_moment both.0) (f.offset_grows both.0), turn_grown d.image d.since _ _ _ (e.retry_at_any_moment both.0) (f.retry_grows both.0))
 
 pub returns-in_err-ready-in-Some-clause-open : goal.returns-in_err-ready-in-Some-clause-open
 returns-in_err-ready-in-Some-clause-open g c tells s t at led =
@@ -115,7 +115,7 @@ returns-in_err-ready-in-Some-clause-open g c tells s t at led =
     let known = quiet _ _ _ s none at in
     let e = c.prepare.ensures in
     let none_now = e.same.1 ∙ none in
-    if_err c.from_residual-in_err-ready-in-Some.result _
+    on_err c.from_residual-in_err-ready-in-Some.result
     (stays_open _ _ _ _ _ _ s t old.site c.args.input.now at led (record { site = e.same.0; own_core = e.numbers.0; config = e.numbers.1; log = e.log both.1 }) none none_now
     (λ live stands. e.core s.node.setting s.node.kept live stands)
     (record { offset_ready = (mid.ready none_now).0; retry_ready = (mid.ready none_now).1; kept = e.kept ∙ known.0.kept }))
@@ -138,7 +138,7 @@ returns-in_ok-note-in-Some-clause-plan g c planned =
     let mid = c.prepare.new.self.journals in
     let new = c.append.new.self.journals in
     both_meet d.stops d.made d.faults false false old.offset.journal.disk old.retry.journal.disk mid.offset.journal.disk mid.retry.journal.disk new.offset.journal.disk new.retry.journal.disk refl
-    (c.in_ok-ready-in-Some.ensures.plan tells) (c.in_ok-note-in-Some.ensures.plan tells)
+    (c.in_ok-ready-in-Some.ensures.offset_plan tells, c.in_ok-ready-in-Some.ensures.retry_plan tells) (c.in_ok-note-in-Some.ensures.plan tells)
 
 pub returns-in_err-note-in-Some-clause-plan : goal.returns-in_err-note-in-Some-clause-plan
 returns-in_err-note-in-Some-clause-plan g c planned =
@@ -149,7 +149,7 @@ returns-in_err-note-in-Some-clause-plan g c planned =
     let new = c.append.new.self.journals in
     let same : true ≡ was_stopped c.from_residual-in_err-note-in-Some.result = search rules in
     both_meet d.stops d.made d.faults true _ old.offset.journal.disk old.retry.journal.disk mid.offset.journal.disk mid.retry.journal.disk new.offset.journal.disk new.retry.journal.disk same
-    (c.in_ok-ready-in-Some.ensures.plan tells) (c.in_err-note-in-Some.ensures.plan tells)
+    (c.in_ok-ready-in-Some.ensures.offset_plan tells, c.in_ok-ready-in-Some.ensures.retry_plan tells) (c.in_err-note-in-Some.ensures.plan tells)
 
 pub returns-in_err-ready-in-Some-clause-plan : goal.returns-in_err-ready-in-Some-clause-plan
 returns-in_err-ready-in-Some-clause-plan g c planned =
@@ -157,6 +157,6 @@ returns-in_err-ready-in-Some-clause-plan g c planned =
     let e = c.in_err-ready-in-Some.ensures in
     let old = c.args.self.now.journals in
     let mid = c.prepare.new.self.journals in
-    let room = e.plan (g.met.D.Disk.plan_told planned) in
-    let same = undecided c.from_residual-in_err-ready-in-Some.result c.in_err-ready-in-Some.field-0.0 c.from_residual-in_err-ready-in-Some.ensures.1 e.fault in
-    one_by_one d.stops d.made d.faults 0 false _ old.offset.journal.disk old.retry.journal.disk mid.offset.journal.disk mid.retry.journal.disk same room.0 room.1
+    let tells = g.met.D.Disk.plan_told planned in
+    let same : false ≡ was_stopped c.from_residual-in_err-ready-in-Some.result = search rules in
+    one_by_one d.stops d.made d.faults 0 false _ old.offset.journal.disk old.retry.journal.disk mid.offset.journal.disk mid.retry.journal.disk same (e.offset_plan tells) (e.retry_plan tells)
