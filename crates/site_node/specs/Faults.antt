@@ -3,8 +3,9 @@ use Rattle.std.specs.Prelude.{◌≡◌, ℕ, ◌+◌, Bool, true, false, Result
 use Rattle.gate_journal.specs.declared.reading.JournalFault.{JournalFault}
 use Rattle.gate_journal.specs.declared.reading.JournalFault.TheVariants as journal
 use Rattle.outside.specs.Plans.{AtMost}
+use Rattle.outside.specs.declared.store.DiskName.{DiskName}
 use Rattle.site_node.specs.declared.kind.NodeFault.{NodeFault}
-use Rattle.site_node.specs.declared.kind.NodeFault.TheVariants.{Stopped, Disk, Damaged, Read, Spent}
+use Rattle.site_node.specs.declared.kind.NodeFault.TheVariants.{Stopped, Disk, Damaged, Read, Spent, Memory}
 
 -- the turn was stopped
 abbrev pub was_stopped : {T : Type 0} → Result T NodeFault → Bool
@@ -47,6 +48,12 @@ IsOfRestart _ = Unit {0}
 
 abbrev pub refused_as : NodeFault → Result ⊤ NodeFault
 refused_as e = Err e
+
+-- what a node tells of a journal of this disk that isn't opened
+abbrev pub fault_told : DiskName → JournalFault → NodeFault
+fault_told disk (journal.Damaged at) = Damaged disk at
+fault_told disk journal.Disk = Disk disk
+fault_told disk journal.Memory = Memory
 
 -- the journal wasn't found damaged
 abbrev pub IsUndamaged : JournalFault → Type 0

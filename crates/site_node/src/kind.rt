@@ -9,7 +9,7 @@ ghost use Rattle.air_bus.specs.declared.entry.Input.{Input};
 ghost use Rattle.air_bus.specs.Copies.{Copy};
 ghost use Rattle.air_bus.specs.History.{next_input, phase_after};
 ghost use Rattle.gate_journal.specs.Fault.{is_of_disk};
-ghost use Rattle.site_node.specs.Faults.{was_stopped, was_shut_out, refused_as, MeetsStops, IsOfTurn, IsOfRestart, IsUndamaged, IsWhole};
+ghost use Rattle.site_node.specs.Faults.{was_stopped, was_shut_out, fault_told, refused_as, MeetsStops, IsOfTurn, IsOfRestart, IsUndamaged, IsWhole};
 
 use air_bus::{Input, Packets, Payload};
 use gate_journal::JournalFault;
@@ -61,6 +61,7 @@ pub fn told_note(landed: bool, note: Option<Payload>) -> Option<Payload>
 
 /// Why a journal of this disk isn't opened again.
 pub fn fault_of(disk: DiskName, fault: JournalFault) -> NodeFault
+    ensures told { result ≡ fault_told disk fault }
     ensures kind { IsOfRestart result }
     ensures whole { IsUndamaged fault → IsWhole result }
     ensures shut { is_of_disk fault ≡ was_shut_out (refused_as result) }
