@@ -1,6 +1,6 @@
 -- What a run that has come to rest gives the report, and the setting that it is of.
 use Rattle.std.proofs.Common.{◌≡◌, ℕ, suc, ◌+◌, List, [], ◌∷◌, map, Option, Some, None, refl, sym, ap, ◌∙◌, length, subst}
-use Rattle.photon_cli.proofs.Words.{IfSome, IsSomeAnd, PlanView, Images, RunLeft, RunLog, ShardRow, only_table, EventId, QueryRec, ClickRec, IsQueryLog, IsClickLog, click_line, ClickLine, placed, end_from, lines_follow, Setting, Checked, IsLogOf, IsSettingOf, Values, EndsAt, AreLogs, HasIds, IsAsked, IsHeardOf, IsHistory, config_of, IsTextOf}
+use Rattle.photon_cli.proofs.Words.{Config, IfSome, IsSomeAnd, PlanView, Images, RunLeft, RunLog, ShardRow, only_table, EventId, QueryRec, ClickRec, IsQueryLog, IsClickLog, click_line, ClickLine, placed, end_from, lines_follow, Setting, Checked, IsLogOf, IsSettingOf, Values, EndsAt, AreLogs, HasIds, IsAsked, IsHeardOf, IsHistory, config_of, IsTextOf}
 use Rattle.photon_cli.proofs.Refusals.{within}
 
 pub taken : {A : Type 0} (o : Option A) (P : A → Type 0) → IsSomeAnd o P → (x : A) × P x
@@ -77,14 +77,15 @@ ends_there None g end_ h k = absurd h
 ends_there (Some log) g end_ h k = k g.clicks h.lines
 
 -- the setting that is asked for is that of the run: of the table that was read, and of the click log's end
-pub run_setting : (told now : List ℕ → Option (List ℕ)) (v : Values) (table : List ShardRow) (end_ : ℕ) (g : Setting)
-    → IsAsked told v g → IsTextOf v.nodes.shards table → ((n : List ℕ) → now n ≡ told n) → IsSomeAnd (told v.clicks) (λ log. EndsAt log end_) → IsSettingOf now v.queries v.clicks (config_of v table) end_ g
-run_setting told now v table end_ g asked text same ends =
+pub run_setting : (told now : List ℕ → Option (List ℕ)) (v : Values) (table : List ShardRow) (config : Config) → config ≡ config_of v table → (end_ : ℕ) (g : Setting)
+    → IsAsked told v g → IsTextOf v.nodes.shards table → ((n : List ℕ) → now n ≡ told n) → IsSomeAnd (told v.clicks) (λ log. EndsAt log end_) → IsSettingOf now v.queries v.clicks config end_ g
+run_setting told now v table config made end_ g asked text same ends =
     let n = asked.setting.numbers in
     let is : table ≡ g.table = only_table v.nodes.shards table g.table text.0 asked.table.0 text.1 asked.table.1 in
-    record {
+    subst (λ (k : Config). IsSettingOf now v.queries v.clicks k end_ g) (sym made)
+    (record {
       numbers = record { joiners = n.joiners; horizon = n.horizon; table = sym is; batch = n.batch; replicas = n.replicas };
       queries_are = subst (λ (o : Option (List ℕ)). IsSomeAnd o (λ log. IsQueryLog log g.queries)) (sym (same v.queries)) asked.setting.queries_are;
       clicks_are = subst (λ (o : Option (List ℕ)). IsSomeAnd o (λ log. IsLogOf log g)) (sym (same v.clicks)) asked.setting.clicks_are;
       ends = ends_there (told v.clicks) g end_ asked.setting.clicks_are ends;
-    }
+    })

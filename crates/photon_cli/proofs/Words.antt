@@ -126,5 +126,6 @@ pub use Rattle.topology_journal.specs.Topologies.{Keeps as KeepsTopology}
 pub use Rattle.topology_journal.specs.declared.topology.Topology.{Topology, Topology as KeptTopology}
 pub use Rattle.turn_defs.specs.Setting.{Checked, Setting}
 pub use Rattle.turn_defs.specs.declared.pair.PairRec.{PairRec}
+pub use Rattle.turn_defs.specs.declared.config.Config.{Config}
 pub use Rattle.verify_pass.specs.Classes.{first_pair, line_by, line_of}
 pub use Rattle.verify_pass.specs.declared.journals.Journals.{Journals}

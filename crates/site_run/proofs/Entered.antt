@@ -40,13 +40,12 @@ put_back P items rest new last next is now good all =
     subst (Each P) (sym now) (each_append P rest (next ∷ []) (each_from P rest (λ x among. each_at P items all x (subst (Mem x) (sym is) (mem_left x rest (last ∷ []) among)))) (good, tt))
 
 -- the logs are the setting's still
-pub over_back : {L : Type 0} (bytes : L → List ℕ) (config : Config) (g : Setting) (items rest new queries_a queries_b : List L) (last next : L) → items ≡ rest ++ last ∷ [] → new ≡ rest ++ next ∷ [] → IsLogOf (bytes next) g
-    → AreLogsOf bytes items queries_a queries_b config g → AreLogsOf bytes new queries_a queries_b config g
-over_back {L} bytes config g items rest new queries_a queries_b last next is now good all = record {
+pub over_back : {L : Type 0} (bytes : L → List ℕ) (config : Config) (g : Setting) (items rest new queries : List L) (last next : L) → items ≡ rest ++ last ∷ [] → new ≡ rest ++ next ∷ [] → IsLogOf (bytes next) g
+    → AreLogsOf bytes items queries config g → AreLogsOf bytes new queries config g
+over_back {L} bytes config g items rest new queries last next is now good all = record {
   numbers = all.numbers;
   clicks_are = put_back (λ (l : L). IsLogOf (bytes l) g) items rest new last next is now good all.clicks_are;
-  queries_a_are = all.queries_a_are;
-  queries_b_are = all.queries_b_are;
+  queries_are = all.queries_are;
 }
 
 -- ---- the setting of logs that are open
@@ -54,15 +53,14 @@ over_back {L} bytes config g items rest new queries_a queries_b last next is now
 some_at : {A : Type 0} (P : A → Type 0) (o : Option A) (x : A) → o ≡ Some x → IsSomeAnd o P → P x
 some_at {A} P o x is some = subst (λ (y : Option A). IsSomeAnd y P) is some
 
-pub over_so : {L : Type 0} (bytes : L → List ℕ) (told : List ℕ → Option (List ℕ)) (queries clicks : List ℕ) (config : Config) (end_ : ℕ) (g : Setting) (click_logs logs_a logs_b : List L)
-    → Each (λ (l : L). told clicks ≡ Some (bytes l)) click_logs → Each (λ (l : L). told queries ≡ Some (bytes l)) logs_a → Each (λ (l : L). told queries ≡ Some (bytes l)) logs_b
-    → IsSettingOf told queries clicks config end_ g → IsSettingOver bytes click_logs logs_a logs_b config end_ g
-over_so {L} bytes told queries clicks config end_ g click_logs logs_a logs_b of_clicks of_a of_b is = record {
+pub over_so : {L : Type 0} (bytes : L → List ℕ) (told : List ℕ → Option (List ℕ)) (queries clicks : List ℕ) (config : Config) (end_ : ℕ) (g : Setting) (click_logs query_logs : List L)
+    → Each (λ (l : L). told clicks ≡ Some (bytes l)) click_logs → Each (λ (l : L). told queries ≡ Some (bytes l)) query_logs
+    → IsSettingOf told queries clicks config end_ g → IsSettingOver bytes click_logs query_logs config end_ g
+over_so {L} bytes told queries clicks config end_ g click_logs query_logs of_clicks of_queries is = record {
   logs = record {
     numbers = is.numbers;
     clicks_are = each_more (λ (l : L). told clicks ≡ Some (bytes l)) (λ (l : L). IsLogOf (bytes l) g) click_logs (λ l same. some_at (λ log. IsLogOf log g) (told clicks) (bytes l) same is.clicks_are) of_clicks;
-    queries_a_are = each_more (λ (l : L). told queries ≡ Some (bytes l)) (λ (l : L). IsQueryLog (bytes l) g.queries) logs_a (λ l same. some_at (λ log. IsQueryLog log g.queries) (told queries) (bytes l) same is.queries_are) of_a;
-    queries_b_are = each_more (λ (l : L). told queries ≡ Some (bytes l)) (λ (l : L). IsQueryLog (bytes l) g.queries) logs_b (λ l same. some_at (λ log. IsQueryLog log g.queries) (told queries) (bytes l) same is.queries_are) of_b;
+    queries_are = each_more (λ (l : L). told queries ≡ Some (bytes l)) (λ (l : L). IsQueryLog (bytes l) g.queries) query_logs (λ l same. some_at (λ log. IsQueryLog log g.queries) (told queries) (bytes l) same is.queries_are) of_queries;
   };
   ends = is.ends;
 }

@@ -77,18 +77,19 @@ pub use Rattle.site_node.specs.States.{Ends, IsDone, Leads, MayHold, Rows, State
 pub use Rattle.site_node.specs.declared.kind.NodeFault.{NodeFault}
 pub use Rattle.site_node.specs.declared.kind.NodeFault.TheVariants.{Damaged, Spent}
 pub use Rattle.site_run.specs.AnyNodes.{AnyLeads, AnyState, IsAtLast, IsMeant, any_of, any_phase, any_rests, down_with, with_site}
-pub use Rattle.site_run.specs.Asked.{AreLogsOf, IsRosterOf, IsSettingOf, IsSettingOver}
+pub use Rattle.site_run.specs.Asked.{AreLogsOf, IsRosterOf, IsRunnable, IsSettingOf, IsSettingOver}
 pub use Rattle.site_run.specs.Causes.{IsOfDisks, IsPastOpening, of_node}
 pub use Rattle.site_run.specs.Heard.{kinds_of}
 pub use Rattle.site_run.specs.Held.{HasGoneOn, HasSpelledNotes, HaveGoneOn, HoldsAs}
 pub use Rattle.site_run.specs.Joined.{IsAcceptedBound, Joins, JoinsAfresh, RanAfresh, WasHeld, decided_by}
 pub use Rattle.site_run.specs.Laws.{AllHold, AreHeld, AreMet, IsLeftBy, JoinerStopped, KeepsItsRecord, NoJoinerStopped, NoneStops}
 pub use Rattle.site_run.specs.Left.{HasRested, HasRun, RestLeft, RunLeft}
+pub use Rattle.site_run.specs.Making.{AreEnough, AreFrom, IsRoomFor, IsStart, Makes, StockView, clicks_from, disks_from, disks_in, logs_in, number_of, queries_from, view_of}
 pub use Rattle.site_run.specs.Meaning.{AreLinesBy, lines_by}
-pub use Rattle.site_run.specs.Naming.{IsLess, IsTakenFrom, all_from, all_held, as_lent, held, joiner_disks, joiner_of as place_at, of_dispatcher, of_joiner, of_replica, of_server, place_of, site_disks, site_of}
+pub use Rattle.site_run.specs.Naming.{IsTakenFrom, all_from, as_lent, joiner_of as place_at, of_dispatcher, of_joiner, of_replica, of_server, place_of, site_of}
 pub use Rattle.site_run.specs.Out.{AreOut}
 pub use Rattle.site_run.specs.Over.{RunsOver}
-pub use Rattle.site_run.specs.Placed.{AllAt, IsDownAt}
+pub use Rattle.site_run.specs.Placed.{AllAt, IsDownAt, IsUpAt}
 pub use Rattle.site_run.specs.Refused.{HasPassed, IsCauseOf, IsOfRun, KeptAreJournals, OneKept, TellsPlaces, asked_of}
 pub use Rattle.site_run.specs.Resting.{AllKeep, IsClosed, KeepsAs}
 pub use Rattle.site_run.specs.Running.{AreDownOver, ComesToLast, DeadAreReplicas, HasCome, HaveGrown, IsRunFrom}
@@ -97,7 +98,7 @@ pub use Rattle.site_run.specs.declared.ran.Outcome.{Outcome}
 pub use Rattle.site_run.specs.declared.ran.RunLog.{RunLog}
 pub use Rattle.site_store.proofs.Causes.{cause_more, failed_rose, passed_more, unread_rose}
 pub use Rattle.site_store.proofs.Damage.{notes_kept as votes_are_notes}
-pub use Rattle.site_store.proofs.Lending.{each_mem, each_unmap}
+pub use Rattle.site_store.proofs.Lending.{each_map, each_mem, each_unmap}
 pub use Rattle.site_store.proofs.Names.{all_named, epoch_named, not_topology, offset_named, others_apart, others_are, output_named, retry_named}
 pub use Rattle.site_store.proofs.Recorded.{are_records, epoch_in, notes_in, offset_in, pairs_in, pending_in, records_of}
 pub use Rattle.site_store.proofs.Stays.{opened_same}
@@ -112,17 +113,17 @@ pub use Rattle.site_store.specs.Leaving.{IsAsked, IsOut}
 pub use Rattle.site_store.specs.Lent.{IsOfOne, Lacks, Lent, MayBeLeft}
 pub use Rattle.site_store.specs.Misfits.{limit_at, limit_in}
 pub use Rattle.site_store.specs.ReadBack.{AreAmongImages, AreReadFrom, EachWith, IsOnlyRead, IsToldBy, OneWith, is_output, is_replica}
-pub use Rattle.site_store.specs.Records.{AreRecordsOf, EpochIs, IsOfKind, Kept, KeptDisk, KeptValues, NotesAre, OffsetIs, OpenView, PairsAre, PendingAre, Says, kept_all, lent_all, lent_by, topology_lent, values_of}
+pub use Rattle.site_store.specs.Records.{AreRecordsOf, EpochIs, IsOfKind, Kept, KeptDisk, KeptValues, NotesAre, OffsetIs, OpenView, PairsAre, PendingAre, Says, kept_all, kept_by, lent_all, lent_by, topology_lent, values_of}
 pub use Rattle.site_store.specs.Refusals.{IsJournalOf, other_names}
 pub use Rattle.site_store.specs.declared.lent.disk.LentDisk.{LentDisk}
 pub use Rattle.site_workers.specs.Rounds.{AreCaused, HasFault, Rests}
 pub use Rattle.site_workers.specs.Works.{GrowsOn, HasMet, IsCaused, LeadsOn, Path, Reached, StandsAt, is_stop, stop_count}
 pub use Rattle.site_workers.specs.declared.either.Either.{Either}
 pub use Rattle.std.proofs.Math.Seq.{get_or-append_seam}
-pub use Rattle.std.proofs.lemmas.Bool.{cases_lt, eq-eqb, le-ltb, leb-true, lt-ltb, ltb-true, or_parts}
+pub use Rattle.std.proofs.lemmas.Bool.{cases_lt, eq-eqb, le-ltb, leb-true, lt-ltb, ltb-false, ltb-true, or_parts}
 pub use Rattle.std.proofs.lemmas.List.{append-nil, drop_more, get_or_append_left, get_or_default, length-map, take-append-drop}
 pub use Rattle.std.proofs.lemmas.List.Elements.{All-from_recursion, All-nil, filter-append, recursion_from_All}
-pub use Rattle.std.proofs.lemmas.List.Sorted.{All-permutation, IsPermutation-append_comm, IsPermutation-append_left, IsPermutation-append_right, IsPermutation-map, IsPermutation-middle, IsPermutation-refl, IsPermutation-sym, IsPermutation-trans, length_permutation}
+pub use Rattle.std.proofs.lemmas.List.Sorted.{All-permutation, IsPermutation-append_comm, IsPermutation-append_left, IsPermutation-append_right, IsPermutation-cons, IsPermutation-map, IsPermutation-middle, IsPermutation-refl, IsPermutation-sym, IsPermutation-to_front, IsPermutation-trans, length_permutation}
 pub use Rattle.std.proofs.lemmas.Result.{IfErr-weaker, IfOk-weaker}
 pub use Rattle.std.specs.List.{list_any}
 pub use Rattle.std.specs.List.Sorted.{IsPermutation}

@@ -1,5 +1,8 @@
 -- The setting of a run: what is asked for, and what the logs hold.
-use Rattle.std.specs.Prelude.{◌≡◌, ℕ, List, Option, IsSomeAnd}
+use Rattle.std.specs.Prelude.{◌≡◌, ◌<◌, ◌≤◌, ℕ, List, Option, IsSomeAnd}
+use Rattle.registry_state.specs.declared.TheConstants.{MOST_INSERTS}
+use Rattle.time_shards.specs.Shards.{IsTable}
+use Rattle.turn_defs.specs.declared.limits.TheConstants.{MOST_JOINERS}
 use Rattle.list_words.specs.Lists.{Each}
 use Rattle.log_records.specs.Check.{IsQueryLog}
 use Rattle.log_records.specs.Lines.{end_from}
@@ -16,15 +19,14 @@ pub record IsSettingOf (told : List ℕ → Option (List ℕ)) (queries clicks :
   pub clicks_are : IsSomeAnd (told clicks) (λ log. IsLogOf log g)
   pub ends : end_ ≡ end_from 0 g.clicks
 
--- the same of the logs that are open: the click log, and the query log at site A and at site B, each opened so many times
-pub record AreLogsOf {L : Type 0} (bytes : L → List ℕ) (clicks queries_a queries_b : List L) (config : Config) (g : Setting) : Type 0 where
+-- the same of the logs that are open: the click log and the query log, each opened so many times
+pub record AreLogsOf {L : Type 0} (bytes : L → List ℕ) (clicks queries : List L) (config : Config) (g : Setting) : Type 0 where
   pub numbers : IsOf config g
   pub clicks_are : Each (λ l. IsLogOf (bytes l) g) clicks
-  pub queries_a_are : Each (λ l. IsQueryLog (bytes l) g.queries) queries_a
-  pub queries_b_are : Each (λ l. IsQueryLog (bytes l) g.queries) queries_b
+  pub queries_are : Each (λ l. IsQueryLog (bytes l) g.queries) queries
 
-pub record IsSettingOver {L : Type 0} (bytes : L → List ℕ) (clicks queries_a queries_b : List L) (config : Config) (end_ : ℕ) (g : Setting) : Type 0 where
-  pub logs : AreLogsOf bytes clicks queries_a queries_b config g
+pub record IsSettingOver {L : Type 0} (bytes : L → List ℕ) (clicks queries : List L) (config : Config) (end_ : ℕ) (g : Setting) : Type 0 where
+  pub logs : AreLogsOf bytes clicks queries config g
   pub ends : end_ ≡ end_from 0 g.clicks
 
 -- P holds of each setting of such logs under names
@@ -35,3 +37,11 @@ OfSetting told queries clicks config end_ P = (g : Setting) → IsSettingOf told
 pub record IsRosterOf (g : Setting) (joiners : ℕ) : Type 0 where
   pub joiners_are : g.joiners ≡ joiners
   pub replicas : g.replicas ≡ 3
+
+-- the ranges of what a run is built for
+pub record IsRunnable (config : Config) : Type 0 where
+  pub some : 0 < config.joiners
+  pub few : config.joiners ≤ MOST_JOINERS
+  pub table : IsTable config.table
+  pub replicas : config.replicas ≡ 3
+  pub batch : config.batch ≤ MOST_INSERTS

@@ -38,33 +38,6 @@ abbrev pub all_from : {N X : Type 0} → (ℕ → N → List X) → ℕ → List
 all_from f i [] = []
 all_from f i (n ∷ ns) = f i n ++ all_from f (suc i) ns
 
--- the disks of these parts and of the nodes, and their logs
-abbrev pub held : {N D : Type 0} → (ℕ → N → List (Lent D)) → List (LentDisk D) → List N → List (Lent D)
-held disks_of disks nodes = map as_lent disks ++ all_from disks_of 0 nodes
-
-abbrev pub held_logs : {N L : Type 0} → (N → List L) → List L → List N → List L
-held_logs logs_of logs nodes = logs ++ all_from (λ _. logs_of) 0 nodes
-
--- the same with open disks of which no node was made yet
-abbrev pub all_held : {N D : Type 0} → (ℕ → N → List (Lent D)) → List (LentDisk D) → List N → List (OpenView D) → List (Lent D)
-all_held disks_of disks nodes rest = held disks_of disks nodes ++ lent_all rest
-
 -- one of these was taken out
 abbrev pub IsTakenFrom : {X : Type 0} → List X → X → List X → Type 0
 IsTakenFrom {X} old one new = (front : List X) × (back : List X) × (old ≡ front ++ one ∷ back) × (new ≡ front ++ back)
-
--- the disks of these names were taken out, and no other
-pub record IsLess {D : Type 0} (taken : List DiskName) (old new : List (OpenView D)) : Type 0 where
-  pub within : (o : OpenView D) → Mem o new → Mem o old
-  pub others : (n : DiskName) → Each (λ t. n ≢ t) taken → Mem n (map (λ o. o.name) old) → Mem n (map (λ o. o.name) new)
-  pub count : length old ≡ length taken + length new
-
--- the disks of the dispatchers, of the servers and of the replicas
-abbrev pub site_disks : List DiskName
-site_disks =
-    name.Offset 0 ∷ name.Retry 0 ∷ name.Offset 1 ∷ name.Retry 1 ∷ name.Server 0 ∷ name.Server 1 ∷ name.Replica 0 ∷ name.Replica 1 ∷ name.Replica 2 ∷ []
-
--- the disks of so many joiners of a site, from this one on
-abbrev pub joiner_disks : (site joiner : ℕ) → ℕ → List DiskName
-joiner_disks site joiner ℕ.zero = []
-joiner_disks site joiner (suc many) = name.Epoch site joiner ∷ name.Output site joiner ∷ joiner_disks site (suc joiner) many

@@ -22,6 +22,9 @@ pub record IsUpAt {N : Type 0} (number : N → ℕ) (waits : N → Bool) (i : �
   pub numbered : number node ≡ i
   pub up : waits node ≡ false
 
--- the node of this number is down over its own records
+-- it is down over the records of the setting's node of this number
 pub record IsDownAt {N : Type 0} (places : N → AnyState → Type 0) (g : Setting) (d : Disks) (i : ℕ) (node : N) : Type 0 where
-  pub down : (n : Node) → IsNode g n → node_number n ≡ i → places node (any_of n (down_over g d n))
+  pub of : Node
+  pub is : IsNode g of
+  pub at : node_number of ≡ i
+  pub down : places node (any_of of (down_over g d of))

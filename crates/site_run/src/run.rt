@@ -3,7 +3,6 @@ ghost use Rattle.std.specs.Prelude.{◌≡◌, ◌<◌, ◌≤◌, ◌+◌, ◌*
 ghost use Rattle.list_words.specs.Lists.{Mem};
 ghost use Rattle.outside.specs.declared.store.DiskName.{DiskName};
 ghost use Rattle.outside.specs.Faults.{Rose};
-ghost use Rattle.time_shards.specs.Shards.{IsTable};
 ghost use Rattle.turn_defs.specs.Setting.{Setting, Checked};
 ghost use Rattle.photon_model.specs.Runs.{Disks};
 ghost use Rattle.dispatch_node.specs.Places.{AreKeptPlaces};
@@ -13,7 +12,8 @@ ghost use Rattle.site_store.specs.Lent.{MayBeLeft};
 ghost use Rattle.gate_journal.specs.Images.{GoesOn};
 ghost use Rattle.site_laws.specs.Stores.{SameRecords};
 ghost use Rattle.site_run.specs.Laws.{KeepsItsRecord};
-ghost use Rattle.site_run.specs.Asked.{OfSetting, IsSettingOver, AreLogsOf};
+ghost use Rattle.site_run.specs.Asked.{AreLogsOf, IsRunnable, IsSettingOver, OfSetting};
+ghost use Rattle.site_run.specs.Making.{AreEnough, IsRoomFor};
 ghost use Rattle.site_run.specs.Heard.{IsHeardOf};
 ghost use Rattle.site_run.specs.Out.{AreOut};
 ghost use Rattle.site_run.specs.Left.{HasRun, HasRested};
@@ -22,8 +22,9 @@ ghost use Rattle.run_fault.specs.Causes.{IsCounted};
 ghost use Rattle.site_run.specs.Causes.{IsPastOpening};
 ghost use Rattle.site_run.specs.Refused.{IsOfRun, NamesEnded};
 
-use crate::built::{Built, Logs, Room, build};
+use crate::built::{Built, Logs, Room, build, take_last};
 use crate::disk_laws::{all_held, all_met};
+use crate::nodes::AnyNode;
 use crate::settle::give_parts;
 use crate::sources::{open_logs, shut_logs};
 use crate::system::run_system;
@@ -64,10 +65,7 @@ where
     G: Gate,
     F::Log: Drop,
     S::Disk: Drop,
-    requires joiners { (0 < config.now.joiners) × (config.now.joiners ≤ 4) }
-    requires table { IsTable config.now.table }
-    requires replicas { config.now.replicas ≡ 3 }
-    requires batch { config.now.batch ≤ 64 }
+    requires ranges { IsRunnable config.now }
 
     // How it ends for whatever setting the logs make.
     ensures over { IsTrue S.Disk.tells → IsTrue F.Log.tells → OfSetting (F.bytes files.old) names.now.queries.now names.now.clicks.now config.now end (λ g. RunsOver g (S.image store.old) (S.image store.new)
@@ -100,18 +98,6 @@ where
     )
 }
 
-// Takes the last of some logs out.
-fn take_last<L>(logs: &mut Vec<L>) -> L
-    requires { 0 < vec_len logs.old }
-    ensures items { logs.old.items ≡ logs.new.items ++ result ∷ [] }
-    ensures room { vec_len logs.new < vec_capacity logs.new }
-{
-    let Some(log) = logs.pop() else {
-        unreachable!()
-    };
-    log
-}
-
 // Opens the store, and runs both sites over it.
 fn run_over<R, F, S, G>(
     rt: &R,
@@ -124,7 +110,7 @@ fn run_over<R, F, S, G>(
     gate: &G,
     ran: &mut Ran,
     logs: Logs<F::Log>,
-    room: Room<S::Disk, F::Log>,
+    room: Room<S::Disk, F::Log, AnyNode<S::Disk, F::Log>>,
 ) -> Result<Outcome, RunFault>
 where
     R: Threads + Wait + Sync,
@@ -133,17 +119,11 @@ where
     G: Gate,
     F::Log: Drop,
     S::Disk: Drop,
-    requires joiners { (0 < config.now.joiners) × (config.now.joiners ≤ 4) }
-    requires table { IsTable config.now.table }
-    requires replicas { config.now.replicas ≡ 3 }
-    requires batch { config.now.batch ≤ 64 }
-    requires node_room { (room.nodes.items ≡ []) × (7 + 2 * config.now.joiners ≤ vec_capacity room.nodes) }
-    requires disk_room { (room.parts.disks.items ≡ []) × (15 + 4 * config.now.joiners ≤ vec_capacity room.parts.disks) }
-    requires log_room { (room.parts.logs.items ≡ []) × (7 + 2 * config.now.joiners ≤ vec_capacity room.parts.logs) }
-    requires clicks { length logs.clicks.items ≡ 2 }
-    requires queries { (length logs.queries_a.items ≡ config.now.joiners) × (length logs.queries_b.items ≡ config.now.joiners) }
+    requires ranges { IsRunnable config.now }
+    requires room { IsRoomFor config.now.joiners room }
+    requires logs { AreEnough config.now.joiners logs }
     requires none { ran.old.log ≡ None }
-    ensures over { IsTrue S.Disk.tells → IsTrue F.Log.tells → (g : Setting) → Checked g → IsSettingOver F.Log.bytes logs.clicks.items logs.queries_a.items logs.queries_b.items config.now end g → RunsOver g (S.image store.old) (S.image store.new)
+    ensures over { IsTrue S.Disk.tells → IsTrue F.Log.tells → (g : Setting) → Checked g → IsSettingOver F.Log.bytes logs.clicks.items logs.queries.items config.now end g → RunsOver g (S.image store.old) (S.image store.new)
         (Rose (F.faults files.old) (F.faults files.new)) (Rose (S.faults store.old) (S.faults store.new)) ran.new.log result }
     ensures heard { IfSome ran.new.log (IsHeardOf plan config.now.joiners) }
     ensures cause { IfErr result (IsCounted (Rose (F.faults files.old) (F.faults files.new)) (Rose (S.faults store.old) (S.faults store.new))) }
@@ -187,7 +167,7 @@ fn run_opened<R, F, S, G>(
     ran: &mut Ran,
     opened: OpenStore<S::Disk>,
     logs: Logs<F::Log>,
-    room: Room<S::Disk, F::Log>,
+    room: Room<S::Disk, F::Log, AnyNode<S::Disk, F::Log>>,
 ) -> Result<Outcome, RunFault>
 where
     R: Threads + Wait + Sync,
@@ -196,29 +176,24 @@ where
     G: Gate,
     F::Log: Drop,
     S::Disk: Drop,
-    requires joiners { (0 < config.now.joiners) × (config.now.joiners ≤ 4) }
-    requires replicas { config.now.replicas ≡ 3 }
-    requires batch { config.now.batch ≤ 64 }
-    requires node_room { (room.nodes.items ≡ []) × (7 + 2 * config.now.joiners ≤ vec_capacity room.nodes) }
-    requires disk_room { (room.parts.disks.items ≡ []) × (15 + 4 * config.now.joiners ≤ vec_capacity room.parts.disks) }
-    requires log_room { (room.parts.logs.items ≡ []) × (7 + 2 * config.now.joiners ≤ vec_capacity room.parts.logs) }
+    requires ranges { IsRunnable config.now }
+    requires room { IsRoomFor config.now.joiners room }
     requires named { map (λ o. o.name) opened.disks.items ≡ other_names config.now.joiners }
-    requires clicks { length logs.clicks.items ≡ 2 }
-    requires queries { (length logs.queries_a.items ≡ config.now.joiners) × (length logs.queries_b.items ≡ config.now.joiners) }
+    requires logs { AreEnough config.now.joiners logs }
     requires places { 10 + 4 * config.now.joiners ≤ S.places_left store.old }
     requires none { ran.old.log ≡ None }
     // Where no run began each disk is given back as it was.
     ensures idle { IsTrue S.Disk.tells → ran.new.log ≡ None → (disk : DiskName) (c : List ℕ) → S.image store.new disk c → MayBeLeft S.Disk.image (S.image store.old) (topology_lent opened.topology.journal.disk ∷ lent_all opened.disks.items) disk c }
-    ensures grown { IsTrue S.Disk.tells → IsTrue F.Log.tells → (g : Setting) → AreLogsOf F.Log.bytes logs.clicks.items logs.queries_a.items logs.queries_b.items config.now g
+    ensures grown { IsTrue S.Disk.tells → IsTrue F.Log.tells → (g : Setting) → AreLogsOf F.Log.bytes logs.clicks.items logs.queries.items config.now g
         → (d : Disks) → AreRecordsOf g (kept_all opened.disks.items) d → ((s : ℕ) → s < 2 → AreKeptPlaces g (d.dispatchers s)) → (s : S) → AreOut S.Disk.image (S.image s) (S.image store.old) (topology_lent opened.topology.journal.disk) (lent_all opened.disks.items) → (disk : DiskName) → GoesOn (S.image s disk) (S.image store.new disk) }
-    ensures left { IsTrue S.Disk.tells → IsTrue F.Log.tells → (g : Setting) → AreLogsOf F.Log.bytes logs.clicks.items logs.queries_a.items logs.queries_b.items config.now g
+    ensures left { IsTrue S.Disk.tells → IsTrue F.Log.tells → (g : Setting) → AreLogsOf F.Log.bytes logs.clicks.items logs.queries.items config.now g
         → (d : Disks) → AreRecordsOf g (kept_all opened.disks.items) d → ((s : ℕ) → s < 2 → AreKeptPlaces g (d.dispatchers s)) → (e : Disks) → SameRecords g d e → KeepsItsRecord S.Disk.image g (topology_lent opened.topology.journal.disk) → IfSome ran.new.log (λ l. HasRun g e l.air.history (S.image store.new)) }
-    ensures rest { IsTrue S.Disk.tells → IsTrue F.Log.tells → (g : Setting) → AreLogsOf F.Log.bytes logs.clicks.items logs.queries_a.items logs.queries_b.items config.now g
+    ensures rest { IsTrue S.Disk.tells → IsTrue F.Log.tells → (g : Setting) → AreLogsOf F.Log.bytes logs.clicks.items logs.queries.items config.now g
         → (d : Disks) → AreRecordsOf g (kept_all opened.disks.items) d → ((s : ℕ) → s < 2 → AreKeptPlaces g (d.dispatchers s)) → (e : Disks) → SameRecords g d e → KeepsItsRecord S.Disk.image g (topology_lent opened.topology.journal.disk) → IfOk result (λ outcome. IsSomeAnd ran.new.log (λ l. HasRested g e l.air.history (S.image store.new) (Rose (S.faults store.old) (S.faults store.new)) outcome.journals)) }
     ensures heard { IfSome ran.new.log (IsHeardOf plan config.now.joiners) }
     ensures cause { IfErr result (IsCounted (Rose (F.faults files.old) (F.faults files.new)) (Rose (S.faults store.old) (S.faults store.new))) }
     ensures welcome { IfErr result IsPastOpening }
-    ensures whole { IsTrue S.Disk.tells → IsTrue F.Log.tells → (g : Setting) → AreLogsOf F.Log.bytes logs.clicks.items logs.queries_a.items logs.queries_b.items config.now g
+    ensures whole { IsTrue S.Disk.tells → IsTrue F.Log.tells → (g : Setting) → AreLogsOf F.Log.bytes logs.clicks.items logs.queries.items config.now g
         → (d : Disks) → AreRecordsOf g (kept_all opened.disks.items) d → ((s : ℕ) → s < 2 → AreKeptPlaces g (d.dispatchers s)) → KeepsItsRecord S.Disk.image g (topology_lent opened.topology.journal.disk) → IfErr result (IsOfRun g d (Rose (S.faults store.old) (S.faults store.new))) }
     ensures stopped { IfErr result (NamesEnded ran.new.log) }
     ensures same { IsTrue F.Log.tells → (n : List ℕ) → F.bytes files.new n ≡ F.bytes files.old n }

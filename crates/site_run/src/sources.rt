@@ -3,6 +3,8 @@ ghost use Rattle.std.specs.Prelude.{◌≡◌, ◌≤◌, ◌≢◌, List, ℕ, 
 ghost use Rattle.outside.specs.Faults.{Rose};
 ghost use Rattle.list_words.specs.Lists.{Each, Mem};
 ghost use Rattle.site_run.specs.Logs.{IsOfLogs};
+ghost use Rattle.site_run.specs.Making.{AreEnough};
+ghost use Rattle.turn_defs.specs.declared.limits.TheConstants.{MOST_JOINERS};
 
 use crate::built::Logs;
 use crate::{LogName, Names, RunFault};
@@ -100,11 +102,10 @@ pub(crate) fn open_logs<F: Source>(
     names: &Names<'_>,
     joiners: u8,
 ) -> Result<Logs<F::Log>, RunFault>
-    ensures clicks { IfOk result (λ logs. length logs.clicks.items ≡ 2) }
-    ensures queries { IfOk result (λ logs. (length logs.queries_a.items ≡ joiners) × (length logs.queries_b.items ≡ joiners)) }
+    requires { joiners ≤ MOST_JOINERS }
+    ensures enough { IfOk result (AreEnough joiners) }
     ensures click_logs { IsTrue F.Log.tells → IfOk result (λ logs. Each (λ l. F.bytes files.old names.now.clicks.now ≡ Some (F.Log.bytes l)) logs.clicks.items) }
-    ensures logs_a { IsTrue F.Log.tells → IfOk result (λ logs. Each (λ l. F.bytes files.old names.now.queries.now ≡ Some (F.Log.bytes l)) logs.queries_a.items) }
-    ensures logs_b { IsTrue F.Log.tells → IfOk result (λ logs. Each (λ l. F.bytes files.old names.now.queries.now ≡ Some (F.Log.bytes l)) logs.queries_b.items) }
+    ensures query_logs { IsTrue F.Log.tells → IfOk result (λ logs. Each (λ l. F.bytes files.old names.now.queries.now ≡ Some (F.Log.bytes l)) logs.queries.items) }
     ensures same { IsTrue F.Log.tells → (n : List ℕ) → F.bytes files.new n ≡ F.bytes files.old n }
     ensures cause { IfErr result (IsOfLogs (Rose (F.faults files.old) (F.faults files.new))) }
     ensures faults { F.faults files.old ≤ F.faults files.new }
@@ -113,22 +114,10 @@ pub(crate) fn open_logs<F: Source>(
         Ok(clicks) => clicks,
         Err(fault) => return Err(fault),
     };
-    let queries_a = match open_times(alloc, files, LogName::Queries, names.queries, joiners) {
-        Ok(queries) => queries,
+    match open_times(alloc, files, LogName::Queries, names.queries, 2 * joiners) {
+        Ok(queries) => Ok(Logs { clicks, queries }),
         Err(fault) => {
             shut_all(files, clicks);
-            return Err(fault);
-        }
-    };
-    match open_times(alloc, files, LogName::Queries, names.queries, joiners) {
-        Ok(queries_b) => Ok(Logs {
-            clicks,
-            queries_a,
-            queries_b,
-        }),
-        Err(fault) => {
-            shut_all(files, clicks);
-            shut_all(files, queries_a);
             Err(fault)
         }
     }
@@ -140,12 +129,7 @@ pub(crate) fn shut_logs<F: Source>(files: &mut F, logs: Logs<F::Log>)
     ensures same { IsTrue F.Log.tells → (n : List ℕ) → F.bytes files.new n ≡ F.bytes files.old n }
     ensures count { F.faults files.old ≤ F.faults files.new }
 {
-    let Logs {
-        clicks,
-        queries_a,
-        queries_b,
-    } = logs;
+    let Logs { clicks, queries } = logs;
     shut_all(files, clicks);
-    shut_all(files, queries_a);
-    shut_all(files, queries_b);
+    shut_all(files, queries);
 }

@@ -1,7 +1,5 @@
 // A drill: both sites run over a store in memory that is empty at first, and a plan says what goes wrong.
 ghost use Rattle.std.specs.Prelude.{◌≡◌, ◌<◌, ◌≤◌, ◌⊎◌, ⊤, [], ℕ, List, false, IfErr, IfOk, IfSome, IsErrAnd, IsSomeAnd, IsTrue, OnOk, Err};
-ghost use Rattle.time_shards.specs.declared.TheConstants.{MOST_JOINERS};
-ghost use Rattle.registry_state.specs.declared.TheConstants.{MOST_INSERTS};
 ghost use Rattle.std.specs.List.{list_any};
 ghost use Rattle.outside.specs.declared.store.DiskName.{DiskName};
 ghost use Rattle.outside.specs.Disk.{Only};
@@ -10,14 +8,13 @@ ghost use Rattle.mem_outside.specs.Plan.{is_planned};
 ghost use Rattle.command_words.specs.Words.{AreInRanges, values_in};
 ghost use Rattle.run_fault.specs.Causes.{IsWelcome};
 ghost use Rattle.photon_cli.specs.Planned.{planned_for};
-ghost use Rattle.time_shards.specs.Shards.{IsTable};
 ghost use Rattle.lossy_link.specs.Fates.{PlanView};
 ghost use Rattle.lossy_link.specs.declared.bad_plan.Field.{Field as Place};
 ghost use Rattle.log_records.specs.declared.why.Why.{Why as Reason};
 ghost use Rattle.run_fault.specs.declared.fault.LogName.{LogName as LogKind};
 ghost use Rattle.site_laws.specs.Laws.{made_by};
 ghost use Rattle.site_workers.specs.Works.{is_stop};
-ghost use Rattle.site_run.specs.Asked.{OfSetting};
+ghost use Rattle.site_run.specs.Asked.{IsRunnable, OfSetting};
 ghost use Rattle.site_run.specs.Heard.{IsHeardOf};
 ghost use Rattle.run_fault.specs.declared.fault.RunFault.TheVariants as fault;
 ghost use Rattle.photon_cli.specs.Drill.{BeginsDrill, Drills, HasDrilled, IsBadIn, IsDrilled, IsPlanIn, PrintsDrill, PrintsDrillPrefix};
@@ -29,7 +26,7 @@ ghost use Rattle.photon_cli.specs.Status.{IsAnswered};
 
 use super::checked::checked_logs;
 use super::plan::plan_in_file;
-use super::run::run_lines;
+use super::run::{config_in, run_lines};
 use super::table::table_in;
 use crate::drill_store::{stops_a_joiner, store_for};
 use crate::log_check::CheckedLog;
@@ -88,10 +85,7 @@ where
     F::Log: Drop,
     requires empty { (disk : DiskName) → Only [] (⟦<MemStore as Store>⟧.image store.old disk) × ⟦<MemStore as Store>⟧.image store.old disk [] }
     requires planned { (disk : DiskName) (call : ℕ) → ⟦<MemStore as Store>⟧.stops store.old disk call ≡ is_planned (planned_for config.now.joiners plan.stops disk) call }
-    requires joiners { (0 < config.now.joiners) × (config.now.joiners ≤ MOST_JOINERS) }
-    requires table { IsTable config.now.table }
-    requires replicas { config.now.replicas ≡ 3 }
-    requires batch { config.now.batch ≤ MOST_INSERTS }
+    requires ranges { IsRunnable config.now }
     ensures drilled { IsTrue F.Log.tells → OfSetting (F.bytes files.old) names.now.queries.now names.now.clicks.now config.now clicks.now.lines_end (λ g. HaveIds g clicks.now.ids.items
         → IfOk result (λ lines. IsSomeAnd ran.new.log (IsDrilled g plan lines.items))) }
     ensures fair { IsTrue F.Log.tells → OfSetting (F.bytes files.old) names.now.queries.now names.now.clicks.now config.now clicks.now.lines_end (λ g. IfErr result (IsWelcome ⊤)) }
@@ -152,13 +146,7 @@ where
         clicks: wanted.clicks,
         state: "",
     };
-    let config = Config {
-        horizon: wanted.horizon,
-        joiners: wanted.nodes.joiners,
-        table,
-        batch: wanted.nodes.batch,
-        replicas: 3,
-    };
+    let config = config_in(wanted, table);
     drill_lines(
         rt, alloc, &config, &names, &clicks, plan, files, &mut store, gate, ran,
     )

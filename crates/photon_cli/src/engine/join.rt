@@ -14,14 +14,14 @@ ghost use Rattle.photon_cli.specs.Ends.{JoinEnds};
 ghost use Rattle.photon_cli.specs.Status.{IsAnswered};
 
 use super::checked::checked_logs;
-use super::run::run_lines;
+use super::run::{config_in, run_lines};
 use super::table::table_in;
 use crate::tell::give_up;
 use command_words::RunOptions;
 use lossy_link::Plan;
 use outside::{Gate, Sink, Source, Store};
 use report_text::write_report;
-use site_run::{Config, Names, Ran, RunFault};
+use site_run::{Names, Ran, RunFault};
 use std::alloc::Global;
 use std::sync::Wait;
 use std::thread::Threads;
@@ -89,13 +89,7 @@ where
         clicks: wanted.clicks,
         state,
     };
-    let config = Config {
-        horizon: wanted.horizon,
-        joiners: wanted.nodes.joiners,
-        table,
-        batch: wanted.nodes.batch,
-        replicas: 3,
-    };
+    let config = config_in(wanted, table);
     let plan = Plan::empty(alloc);
     let lines = match run_lines(
         rt, alloc, &config, &names, &clicks, plan, files, store, gate, ran,

@@ -1,20 +1,20 @@
 // The run of both sites, and what becomes of each click by what it leaves.
 ghost use Rattle.std.specs.Prelude.{◌≡◌, ◌<◌, ◌≤◌, IfOk, IfErr, IfSome, IsSomeAnd, OnOk, IsTrue};
-ghost use Rattle.time_shards.specs.declared.TheConstants.{MOST_JOINERS};
-ghost use Rattle.registry_state.specs.declared.TheConstants.{MOST_INSERTS};
 ghost use Rattle.outside.specs.Faults.{Rose};
-ghost use Rattle.time_shards.specs.Shards.{IsTable};
 ghost use Rattle.site_laws.specs.Stores.{IsSoundStore};
 ghost use Rattle.site_laws.specs.StoreLaws.{LeavesNothing};
-ghost use Rattle.site_run.specs.Asked.{OfSetting};
+ghost use Rattle.site_run.specs.Asked.{IsRunnable, OfSetting};
 ghost use Rattle.site_run.specs.Joined.{Joins, JoinsAfresh, RanAfresh};
 ghost use Rattle.site_run.specs.Heard.{IsHeardOf};
 ghost use Rattle.site_run.specs.Left.{RunLeft};
 ghost use Rattle.site_run.specs.Over.{EndsOver};
 ghost use Rattle.run_fault.specs.Causes.{IsCounted};
-ghost use Rattle.photon_cli.specs.Join.{HaveIds};
+ghost use Rattle.command_words.specs.Words.{AreInRanges, values_in};
+ghost use Rattle.photon_cli.specs.Join.{HaveIds, config_of};
+ghost use Rattle.photon_cli.specs.Words.{IsTextOf};
 
 use crate::log_check::CheckedLog;
+use command_words::RunOptions;
 use log_records::ReportLine;
 use lossy_link::Plan;
 use outside::{Gate, Source, Store};
@@ -23,7 +23,24 @@ use site_run::{Config, Names, Outcome, Ran, RunFault, run_sites};
 use std::alloc::Global;
 use std::sync::Wait;
 use std::thread::Threads;
+use time_shards::Table;
 use verify_pass::classify;
+
+/// What all nodes are built for, by the options and the table of their text: there are three replicas.
+pub fn config_in(wanted: &RunOptions<'_>, table: Table) -> Config
+    requires ranges { AreInRanges (values_in wanted.now).nodes }
+    requires table { IsTextOf (values_in wanted.now).nodes.shards table }
+    ensures config { result ≡ config_of (values_in wanted.now) table }
+    ensures ranges { IsRunnable result }
+{
+    Config {
+        horizon: wanted.horizon,
+        joiners: wanted.nodes.joiners,
+        table,
+        batch: wanted.nodes.batch,
+        replicas: 3,
+    }
+}
 
 /// Runs both sites over the store until all nodes are at rest, and gives the report's line for each distinct click id, by what the
 /// disks keep then. Packets go as the plan says; `ran` gets what the run leaves.
@@ -46,10 +63,7 @@ where
     G: Gate,
     F::Log: Drop,
     S::Disk: Drop,
-    requires joiners { (0 < config.now.joiners) × (config.now.joiners ≤ MOST_JOINERS) }
-    requires table { IsTable config.now.table }
-    requires replicas { config.now.replicas ≡ 3 }
-    requires batch { config.now.batch ≤ MOST_INSERTS }
+    requires ranges { IsRunnable config.now }
     ensures ends { IsTrue S.Disk.tells → IsTrue F.Log.tells → OfSetting (F.bytes files.old) names.now.queries.now names.now.clicks.now config.now clicks.now.lines_end (λ g. EndsOver g (S.image store.old) (S.image store.new)
         (Rose (F.faults files.old) (F.faults files.new)) (Rose (S.faults store.old) (S.faults store.new)) ran.new.log result) }
 

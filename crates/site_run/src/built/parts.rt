@@ -1,9 +1,8 @@
 // What nodes are made of, and the room for it.
-ghost use Rattle.std.specs.Prelude.{◌≡◌, ◌≤◌, ◌<◌, ◌+◌, ◌*◌, ◌++◌, [], ◌∷◌, map, length, vec_len, vec_capacity, IfOk};
+ghost use Rattle.std.specs.Prelude.{◌≡◌, ◌<◌, ◌+◌, ◌++◌, [], ◌∷◌, map, length, vec_capacity};
 ghost use Rattle.site_run.specs.Naming.{as_lent};
 
-use crate::nodes::AnyNode;
-use outside::{Disk, DiskName, LogFile};
+use outside::DiskName;
 use site_store::LentDisk;
 use std::alloc::{AllocError, Global};
 
@@ -30,17 +29,18 @@ impl<D, L> Parts<D, L> {
 
 /// The memory for the nodes of both sites, and for what they are made of.
 #[derive(Drop)]
-pub struct Room<D: Disk, L: LogFile> {
-    pub(crate) nodes: Vec<AnyNode<D, L>>,
+pub struct Room<D, L, N> {
+    pub(crate) nodes: Vec<N>,
     pub(crate) parts: Parts<D, L>,
 }
 
-impl<D: Disk + Drop, L: LogFile + Drop> Room<D, L> {
+impl<D: Drop, L: Drop, N: Drop> Room<D, L, N> {
+    ghost use Rattle.std.specs.Prelude.{IfOk};
+    ghost use Rattle.site_run.specs.Making.{IsRoomFor};
+
     /// Room for seven nodes and the joiners: two disks and a log a node, and the topology's disk.
-    pub fn new(alloc: Global, joiners: u8) -> Result<Room<D, L>, AllocError>
-        ensures nodes { IfOk result (λ r. (r.nodes.items ≡ []) × (7 + 2 * joiners ≤ vec_capacity r.nodes)) }
-        ensures disks { IfOk result (λ r. (r.parts.disks.items ≡ []) × (15 + 4 * joiners ≤ vec_capacity r.parts.disks)) }
-        ensures logs { IfOk result (λ r. (r.parts.logs.items ≡ []) × (7 + 2 * joiners ≤ vec_capacity r.parts.logs)) }
+    pub fn new(alloc: Global, joiners: u8) -> Result<Room<D, L, N>, AllocError>
+        ensures { IfOk result (IsRoomFor joiners) }
     {
         let count = 7 + 2 * usize::from(joiners);
         Ok(Room {

@@ -1,5 +1,5 @@
-// A disk is taken out of others by its name.
-ghost use Rattle.std.specs.Prelude.{◌≡◌, map};
+// What a node is made of is taken out of the rest.
+ghost use Rattle.std.specs.Prelude.{◌≡◌, ◌<◌, ◌++◌, [], ◌∷◌, map, vec_len, vec_capacity};
 ghost use Rattle.list_words.specs.Lists.{Mem};
 ghost use Rattle.site_run.specs.Naming.{IsTakenFrom};
 
@@ -18,4 +18,16 @@ pub(crate) fn take_disk<D: Disk>(disks: &mut Vec<OpenDisk<D>>, name: DiskName) -
         }
     }
     unreachable!()
+}
+
+/// Takes the last of some logs out.
+pub(crate) fn take_last<L>(logs: &mut Vec<L>) -> L
+    requires { 0 < vec_len logs.old }
+    ensures items { logs.old.items ≡ logs.new.items ++ result ∷ [] }
+    ensures room { vec_len logs.new < vec_capacity logs.new }
+{
+    let Some(log) = logs.pop() else {
+        unreachable!()
+    };
+    log
 }

@@ -8,7 +8,7 @@ use Rattle.site_run.proofs.run.run_opened.Goals as goal
 
 pub run_system-requires-clause-places : goal.run_system-requires-clause-places
 run_system-requires-clause-places g c κs within =
-    omega (arith, fits_behind {D = g.row.S-Disk.Denot} c.args.opened.disks.items c.args.config.now.joiners c.requires.joiners.1 c.requires.named _ c.in-Ok.ensures.held, c.requires.places)
+    omega (arith, fits_behind {D = g.row.S-Disk.Denot} c.args.opened.disks.items c.args.config.now.joiners c.requires.ranges.few c.requires.named _ c.in-Ok.ensures.held, c.requires.places)
 
 pub returns-in-Ok-clause-idle : goal.returns-in-Ok-clause-idle
 returns-in-Ok-clause-idle g c tells none disk bytes now =
@@ -24,23 +24,23 @@ returns-in-Ok-clause-grown g c tells log_tells gg over d records places s out =
     let inside = g.S.Store.image c.args.store.now in
     let topology = topology_lent {D = g.row.S-Disk.Denot} c.args.opened.topology.journal.disk in
     let same = ap (λ x. topology_lent {D = g.row.S-Disk.Denot} x) c.into_disk.ensures ∙ ap (λ t. topology_lent {D = g.row.S-Disk.Denot} t.journal.disk) c.in-Ok.ensures.topology in
-    let roster : IsRosterOf gg c.args.config.now.joiners = record { joiners_are = over.numbers.joiners; replicas = over.numbers.replicas ∙ c.requires.replicas } in
-    c.run_system.ensures.grown tells (all_tell g.S.Disk.Disk.tells g.F.Log.LogFile.tells tells log_tells) gg _ s roster (c.all_held.ensures tells log_tells) (c.in-Ok.ensures.places tells gg d over records places)
+    let roster : IsRosterOf gg c.args.config.now.joiners = record { joiners_are = over.numbers.joiners; replicas = over.numbers.replicas ∙ c.requires.ranges.replicas } in
+    c.run_system.ensures.grown tells (all_tell g.S.Disk.Disk.tells g.F.Log.LogFile.tells tells log_tells) gg _ s roster (c.all_held.ensures tells log_tells) (c.in-Ok.ensures.places tells gg d (record { logs = over; records = records; places = places }))
     (out_same image (g.S.Store.image s) inside _ _ _ (sym same) (moved_out image (g.S.Store.image s) inside topology _ _ c.in-Ok.ensures.held out))
 
 pub returns-in-Ok-clause-left : goal.returns-in-Ok-clause-left
 returns-in-Ok-clause-left g c tells log_tells gg over d records places e same_records kept =
     let image = g.S.Disk.Disk.image in
     let same = ap (λ x. topology_lent {D = g.row.S-Disk.Denot} x) c.into_disk.ensures ∙ ap (λ t. topology_lent {D = g.row.S-Disk.Denot} t.journal.disk) c.in-Ok.ensures.topology in
-    let roster : IsRosterOf gg c.args.config.now.joiners = record { joiners_are = over.numbers.joiners; replicas = over.numbers.replicas ∙ c.requires.replicas } in
-    c.run_system.ensures.left tells (all_tell g.S.Disk.Disk.tells g.F.Log.LogFile.tells tells log_tells) gg _ e roster (c.all_held.ensures tells log_tells) (c.in-Ok.ensures.places tells gg d over records places) same_records (subst (λ t. KeepsItsRecord image gg t) (sym same) kept)
+    let roster : IsRosterOf gg c.args.config.now.joiners = record { joiners_are = over.numbers.joiners; replicas = over.numbers.replicas ∙ c.requires.ranges.replicas } in
+    c.run_system.ensures.left tells (all_tell g.S.Disk.Disk.tells g.F.Log.LogFile.tells tells log_tells) gg _ e roster (c.all_held.ensures tells log_tells) (c.in-Ok.ensures.places tells gg d (record { logs = over; records = records; places = places })) same_records (subst (λ t. KeepsItsRecord image gg t) (sym same) kept)
 
 pub returns-in-Ok-clause-rest : goal.returns-in-Ok-clause-rest
 returns-in-Ok-clause-rest g c tells log_tells gg over d records places e same_records kept =
     let image = g.S.Disk.Disk.image in
     let same = ap (λ x. topology_lent {D = g.row.S-Disk.Denot} x) c.into_disk.ensures ∙ ap (λ t. topology_lent {D = g.row.S-Disk.Denot} t.journal.disk) c.in-Ok.ensures.topology in
-    let roster : IsRosterOf gg c.args.config.now.joiners = record { joiners_are = over.numbers.joiners; replicas = over.numbers.replicas ∙ c.requires.replicas } in
-    c.run_system.ensures.rest tells (all_tell g.S.Disk.Disk.tells g.F.Log.LogFile.tells tells log_tells) gg _ e roster (c.all_held.ensures tells log_tells) c.all_met.ensures (c.in-Ok.ensures.places tells gg d over records places) same_records (subst (λ t. KeepsItsRecord image gg t) (sym same) kept)
+    let roster : IsRosterOf gg c.args.config.now.joiners = record { joiners_are = over.numbers.joiners; replicas = over.numbers.replicas ∙ c.requires.ranges.replicas } in
+    c.run_system.ensures.rest tells (all_tell g.S.Disk.Disk.tells g.F.Log.LogFile.tells tells log_tells) gg _ e roster (c.all_held.ensures tells log_tells) c.all_met.ensures (c.in-Ok.ensures.places tells gg d (record { logs = over; records = records; places = places })) same_records (subst (λ t. KeepsItsRecord image gg t) (sym same) kept)
 
 pub returns-in-Ok-clause-cause : goal.returns-in-Ok-clause-cause
 returns-in-Ok-clause-cause g c = IfErr-weaker c.run_system.result _ _ (λ f both. both.0) (c.run_system.ensures.cause c.all_met.ensures)
@@ -51,7 +51,7 @@ returns-in-Ok-clause-welcome g c = IfErr-weaker c.run_system.result _ _ (λ f bo
 pub give_parts-requires-after_bounds : goal.give_parts-requires-after_bounds
 give_parts-requires-after_bounds g c =
     let back = c.in-Err.parts.disks.items in
-    let many : length (map as_lent back) ≡ 10 + 4 * c.args.config.now.joiners = room_for {D = g.row.S-Disk.Denot} c.args.opened.disks.items c.args.config.now.joiners c.requires.joiners.1 c.requires.named _ (map as_lent back) c.in-Err.ensures.disks in
+    let many : length (map as_lent back) ≡ 10 + 4 * c.args.config.now.joiners = room_for {D = g.row.S-Disk.Denot} c.args.opened.disks.items c.args.config.now.joiners c.requires.ranges.few c.requires.named _ (map as_lent back) c.in-Err.ensures.disks in
     omega (arith, many, length-map back as_lent, c.requires.places)
 
 pub returns-in-Err-clause-idle : goal.returns-in-Err-clause-idle
@@ -71,5 +71,5 @@ pub returns-in-Ok-clause-whole : goal.returns-in-Ok-clause-whole
 returns-in-Ok-clause-whole g c tells log_tells gg over d records places kept =
     let image = g.S.Disk.Disk.image in
     let same = ap (λ x. topology_lent {D = g.row.S-Disk.Denot} x) c.into_disk.ensures ∙ ap (λ t. topology_lent {D = g.row.S-Disk.Denot} t.journal.disk) c.in-Ok.ensures.topology in
-    let roster : IsRosterOf gg c.args.config.now.joiners = record { joiners_are = over.numbers.joiners; replicas = over.numbers.replicas ∙ c.requires.replicas } in
-    c.run_system.ensures.whole tells (all_tell g.S.Disk.Disk.tells g.F.Log.LogFile.tells tells log_tells) gg _ roster (c.all_held.ensures tells log_tells) c.all_met.ensures (c.in-Ok.ensures.places tells gg d over records places) (subst (λ t. KeepsItsRecord image gg t) (sym same) kept)
+    let roster : IsRosterOf gg c.args.config.now.joiners = record { joiners_are = over.numbers.joiners; replicas = over.numbers.replicas ∙ c.requires.ranges.replicas } in
+    c.run_system.ensures.whole tells (all_tell g.S.Disk.Disk.tells g.F.Log.LogFile.tells tells log_tells) gg _ roster (c.all_held.ensures tells log_tells) c.all_met.ensures (c.in-Ok.ensures.places tells gg d (record { logs = over; records = records; places = places })) (subst (λ t. KeepsItsRecord image gg t) (sym same) kept)

@@ -21,8 +21,8 @@ returns-clause-over g c tells log_tells gg is =
     let before = g.S.Store.image c.args.store.now in
     let placed = g.S.Store.image c.place.new.self in
     let after = g.S.Store.image c.run_over.new.store in
-    let over = over_so g.F.Log.LogFile.bytes told queries clicks c.args.config.now c.args.end gg logs.clicks.items logs.queries_a.items logs.queries_b.items
-    (c.in-Ok-open_logs.ensures.click_logs log_tells) (c.in-Ok-open_logs.ensures.logs_a log_tells) (c.in-Ok-open_logs.ensures.logs_b log_tells) is in
+    let over = over_so g.F.Log.LogFile.bytes told queries clicks c.args.config.now c.args.end gg logs.clicks.items logs.queries.items
+    (c.in-Ok-open_logs.ensures.click_logs log_tells) (c.in-Ok-open_logs.ensures.query_logs log_tells) is in
     let checked = checked_so c.stores.ensures.checked gg (told queries) (told clicks) is.queries_are is.clicks_are in
     let mid_files = g.F.Source.faults c.open_logs.new.files in
     let last_files = g.F.Source.faults c.run_over.new.files in

@@ -14,4 +14,4 @@ returns-clause-drilled g c logs s setting own =
     let ran = c.in-Ok.ensures.ran refl logs s setting own (λ disk is. (c.requires.empty disk).0) in
     let spared : list_any is_joiners c.args.plan.stops ≡ false → IfSome c.run_lines.new.ran.log (λ (l : RunLog). (j : ℕ) → 7 ≤ j → list_any is_stop (made_by j l.air.history) ≡ false) =
     λ none. c.is_unplanned.ensures c.if-is_unplanned.false (subst (λ (b : Bool). IsTrue (not b)) (sym (c.stops_a_joiner-spared.ensures ∙ none)) refl) in
-    drilled c.run_lines.new.ran.log s c.args.plan c.args.config.now.joiners c.in-Ok.lines.items (setting.numbers.replicas ∙ c.requires.replicas) setting.numbers.joiners ran c.run_lines.ensures.heard spared
+    drilled c.run_lines.new.ran.log s c.args.plan c.args.config.now.joiners c.in-Ok.lines.items (setting.numbers.replicas ∙ c.requires.ranges.replicas) setting.numbers.joiners ran c.run_lines.ensures.heard spared

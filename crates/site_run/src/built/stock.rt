@@ -1,0 +1,135 @@
+// Nodes in the making.
+ghost use Rattle.std.specs.Prelude.{◌≡◌, ◌≤◌, ◌+◌, ◌*◌, vec_capacity};
+
+use crate::built::taking::{take_disk, take_last};
+use crate::built::{Logs, Parting, Parts, joiner_place};
+use crate::nodes::{AnyNode, SystemNode};
+use dispatch_node::DispatchNode;
+use joiner_node::JoinerNode;
+use outside::{Disk, DiskName, LogFile};
+use registry_server::ServerNode;
+use replica_node::ReplicaNode;
+use site_node::SiteNode;
+use site_store::OpenDisk;
+use site_workers::Either;
+use std::alloc::Global;
+use turn_defs::Config;
+
+/// The open disks and the logs of the nodes to come, and those of a node that wasn't made.
+#[derive(Drop)]
+pub struct Stock<D: Disk, L: LogFile> {
+    pub(crate) alloc: Global,
+    pub(crate) config: Config,
+    pub(crate) rest: Vec<OpenDisk<D>>,
+    pub(crate) logs: Logs<L>,
+    pub(crate) parts: Parts<D, L>,
+    ghost disk_room: { 15 + 4 * config.joiners ≤ vec_capacity parts.disks },
+    ghost log_room: { 7 + 2 * config.joiners ≤ vec_capacity parts.logs },
+}
+
+impl<D: Disk, L: LogFile> Stock<D, L> {
+    ghost use Rattle.std.specs.Prelude.{◌≡◌, ◌≤◌, ◌<◌, ◌+◌, ◌*◌, Some};
+    ghost use Rattle.site_run.specs.Making.{AreFrom, Makes, view_of};
+
+    // The dispatcher of a site, down, over its journals and the click log.
+    fn dispatcher(&mut self, number: u8) -> AnyNode<D, L>
+        requires number { number < 2 }
+        requires left { AreFrom number (view_of self.old) }
+        ensures { Makes ⟦<AnyNode<D, L> as SiteNode>⟧.number ⟦<AnyNode<D, L> as SiteNode>⟧.waits ⟦<AnyNode<D, L> as SystemNode>⟧.places ⟦<AnyNode<D, L> as Parting<D, L>>⟧.disks_of ⟦<AnyNode<D, L> as Parting<D, L>>⟧.logs_of
+            D.tells L.bytes number (view_of self.old) (Some result) (view_of self.new) }
+    {
+        let offset = take_disk(&mut self.rest, DiskName::Offset(number)).into_offset();
+        let retry = take_disk(&mut self.rest, DiskName::Retry(number)).into_retry();
+        let log = take_last(&mut self.logs.clicks);
+        let node = DispatchNode::new(self.alloc, number, self.config, offset, retry, log);
+        AnyNode {
+            node: Either::First(Either::First(node)),
+        }
+    }
+
+    // The server of a site, down, over its journal.
+    fn server(&mut self, number: u8) -> Option<AnyNode<D, L>>
+        requires number { (2 ≤ number) × (number < 4) }
+        requires left { AreFrom number (view_of self.old) }
+        ensures { Makes ⟦<AnyNode<D, L> as SiteNode>⟧.number ⟦<AnyNode<D, L> as SiteNode>⟧.waits ⟦<AnyNode<D, L> as SystemNode>⟧.places ⟦<AnyNode<D, L> as Parting<D, L>>⟧.disks_of ⟦<AnyNode<D, L> as Parting<D, L>>⟧.logs_of
+            D.tells L.bytes number (view_of self.old) result (view_of self.new) }
+    {
+        let site = number - 2;
+        let journal = take_disk(&mut self.rest, DiskName::Server(site)).into_server();
+        match ServerNode::new(self.alloc, site, self.config, journal) {
+            Ok(node) => Some(AnyNode {
+                node: Either::First(Either::Second(node)),
+            }),
+            Err(journal) => {
+                self.parts.put(DiskName::Server(site), journal.into_disk());
+                None
+            }
+        }
+    }
+
+    // A replica, down, over its journal.
+    fn replica(&mut self, number: u8) -> AnyNode<D, L>
+        requires number { (4 ≤ number) × (number < 7) }
+        requires left { AreFrom number (view_of self.old) }
+        ensures { Makes ⟦<AnyNode<D, L> as SiteNode>⟧.number ⟦<AnyNode<D, L> as SiteNode>⟧.waits ⟦<AnyNode<D, L> as SystemNode>⟧.places ⟦<AnyNode<D, L> as Parting<D, L>>⟧.disks_of ⟦<AnyNode<D, L> as Parting<D, L>>⟧.logs_of
+            D.tells L.bytes number (view_of self.old) (Some result) (view_of self.new) }
+    {
+        let votes = take_disk(&mut self.rest, DiskName::Replica(number - 4)).into_votes();
+        let node = ReplicaNode::new(self.alloc, number - 4, self.config, votes);
+        AnyNode {
+            node: Either::Second(Either::First(node)),
+        }
+    }
+
+    // A joiner, down, over its journals and the query log.
+    fn joiner(&mut self, number: u8) -> Option<AnyNode<D, L>>
+        requires number { (7 ≤ number) × (number < 7 + 2 * self.old.config.joiners) }
+        requires left { AreFrom number (view_of self.old) }
+        ensures { Makes ⟦<AnyNode<D, L> as SiteNode>⟧.number ⟦<AnyNode<D, L> as SiteNode>⟧.waits ⟦<AnyNode<D, L> as SystemNode>⟧.places ⟦<AnyNode<D, L> as Parting<D, L>>⟧.disks_of ⟦<AnyNode<D, L> as Parting<D, L>>⟧.logs_of
+            D.tells L.bytes number (view_of self.old) result (view_of self.new) }
+    {
+        let (site, place) = joiner_place(self.config.joiners, number);
+        let epochs = take_disk(&mut self.rest, DiskName::Epoch(site, place)).into_epochs();
+        let outputs = take_disk(&mut self.rest, DiskName::Output(site, place)).into_output();
+        let log = take_last(&mut self.logs.queries);
+        match JoinerNode::new(self.alloc, site, place, self.config, epochs, outputs, log) {
+            Ok(node) => Some(AnyNode {
+                node: Either::Second(Either::Second(node)),
+            }),
+            Err((_, epochs, outputs, log)) => {
+                self.parts
+                    .put(DiskName::Epoch(site, place), epochs.into_disk());
+                self.parts
+                    .put(DiskName::Output(site, place), outputs.into_disk());
+                self.parts.logs.push_reserved(log);
+                None
+            }
+        }
+    }
+}
+
+/// A kind of node that is made, down, of what there is for its number.
+pub trait Making<D: Disk, L: LogFile>: SystemNode + Parting<D, L> {
+    ghost use Rattle.std.specs.Prelude.{◌<◌, ◌+◌, ◌*◌};
+    ghost use Rattle.site_run.specs.Making.{AreFrom, Makes, view_of};
+
+    /// The node of this number, where memory isn't wanting for it.
+    fn make(stock: &mut Stock<D, L>, number: u8) -> Option<Self>
+        requires number { number < 7 + 2 * stock.old.config.joiners }
+        requires left { AreFrom number (view_of stock.old) }
+        ensures { Makes Self.number Self.waits Self.places Self.disks_of Self.logs_of D.tells L.bytes number (view_of stock.old) result (view_of stock.new) };
+}
+
+impl<D: Disk, L: LogFile> Making<D, L> for AnyNode<D, L> {
+    fn make(stock: &mut Stock<D, L>, number: u8) -> Option<AnyNode<D, L>> {
+        if number < 2 {
+            Some(stock.dispatcher(number))
+        } else if number < 4 {
+            stock.server(number)
+        } else if number < 7 {
+            Some(stock.replica(number))
+        } else {
+            stock.joiner(number)
+        }
+    }
+}
