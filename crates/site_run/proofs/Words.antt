@@ -77,7 +77,8 @@ pub use Rattle.site_node.specs.States.{Ends, IsDone, Leads, MayHold, Rows, State
 pub use Rattle.site_node.specs.declared.kind.NodeFault.{NodeFault}
 pub use Rattle.site_node.specs.declared.kind.NodeFault.TheVariants.{Damaged, Spent}
 pub use Rattle.site_run.specs.AnyNodes.{AnyLeads, AnyState, IsAtLast, IsMeant, any_of, any_phase, any_rests, down_with, with_site}
-pub use Rattle.site_run.specs.Asked.{AreLogsOf, IsRosterOf, IsRunnable, IsSettingOf, IsSettingOver}
+pub use Rattle.turn_defs.specs.Configs.{IsRunnable}
+pub use Rattle.site_run.specs.Asked.{AreLogsOf, IsRosterOf, IsSettingOf, IsSettingOver}
 pub use Rattle.site_run.specs.Causes.{IsOfDisks, IsPastOpening, of_node}
 pub use Rattle.site_run.specs.Heard.{kinds_of}
 pub use Rattle.site_run.specs.Held.{HasGoneOn, HasSpelledNotes, HaveGoneOn, HoldsAs}

@@ -1,8 +1,5 @@
 -- The setting of a run: what is asked for, and what the logs hold.
-use Rattle.std.specs.Prelude.{◌≡◌, ◌<◌, ◌≤◌, ℕ, List, Option, IsSomeAnd}
-use Rattle.registry_state.specs.declared.TheConstants.{MOST_INSERTS}
-use Rattle.time_shards.specs.Shards.{IsTable}
-use Rattle.turn_defs.specs.declared.limits.TheConstants.{MOST_JOINERS}
+use Rattle.std.specs.Prelude.{◌≡◌, ℕ, List, Option, IsSomeAnd}
 use Rattle.list_words.specs.Lists.{Each}
 use Rattle.log_records.specs.Check.{IsQueryLog}
 use Rattle.log_records.specs.Lines.{end_from}
@@ -37,11 +34,3 @@ OfSetting told queries clicks config end_ P = (g : Setting) → IsSettingOf told
 pub record IsRosterOf (g : Setting) (joiners : ℕ) : Type 0 where
   pub joiners_are : g.joiners ≡ joiners
   pub replicas : g.replicas ≡ 3
-
--- the ranges of what a run is built for
-pub record IsRunnable (config : Config) : Type 0 where
-  pub some : 0 < config.joiners
-  pub few : config.joiners ≤ MOST_JOINERS
-  pub table : IsTable config.table
-  pub replicas : config.replicas ≡ 3
-  pub batch : config.batch ≤ MOST_INSERTS

@@ -8,7 +8,8 @@ use Rattle.outside.specs.declared.disk.Disk as disk
 use Rattle.outside.specs.declared.log.LogFile as log
 use Rattle.turn_defs.specs.Setting.{Setting}
 use Rattle.turn_defs.specs.declared.config.Config.{Config}
-use Rattle.site_run.specs.Asked.{AreLogsOf, IsRunnable}
+use Rattle.turn_defs.specs.Configs.{IsRunnable}
+use Rattle.site_run.specs.Asked.{AreLogsOf}
 use Rattle.photon_model.specs.Runs.{Disks}
 use Rattle.dispatch_node.specs.Places.{AreKeptPlaces}
 use Rattle.site_store.specs.Lent.{Lent}

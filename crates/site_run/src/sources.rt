@@ -4,7 +4,7 @@ ghost use Rattle.outside.specs.Faults.{Rose};
 ghost use Rattle.list_words.specs.Lists.{Each, Mem};
 ghost use Rattle.site_run.specs.Logs.{IsOfLogs};
 ghost use Rattle.site_run.specs.Making.{AreEnough};
-ghost use Rattle.turn_defs.specs.declared.limits.TheConstants.{MOST_JOINERS};
+ghost use Rattle.time_shards.specs.declared.TheConstants.{MOST_JOINERS};
 
 use crate::built::Logs;
 use crate::{LogName, Names, RunFault};

@@ -3,7 +3,8 @@ ghost use Rattle.std.specs.Prelude.{◌≡◌, ◌<◌, ◌≤◌, IfOk, IfErr, 
 ghost use Rattle.outside.specs.Faults.{Rose};
 ghost use Rattle.site_laws.specs.Stores.{IsSoundStore};
 ghost use Rattle.site_laws.specs.StoreLaws.{LeavesNothing};
-ghost use Rattle.site_run.specs.Asked.{IsRunnable, OfSetting};
+ghost use Rattle.turn_defs.specs.Configs.{IsRunnable};
+ghost use Rattle.site_run.specs.Asked.{OfSetting};
 ghost use Rattle.site_run.specs.Joined.{Joins, JoinsAfresh, RanAfresh};
 ghost use Rattle.site_run.specs.Heard.{IsHeardOf};
 ghost use Rattle.site_run.specs.Left.{RunLeft};

@@ -6,7 +6,7 @@ ghost use Rattle.turn_defs.specs.Setting.{Setting};
 ghost use Rattle.photon_model.specs.Runs.{Disks};
 ghost use Rattle.site_store.specs.Refusals.{other_names};
 ghost use Rattle.site_store.specs.Records.{lent_all, topology_lent};
-ghost use Rattle.site_run.specs.Asked.{IsRunnable};
+ghost use Rattle.turn_defs.specs.Configs.{IsRunnable};
 ghost use Rattle.site_run.specs.Making.{AreEnough, IsRoomFor, IsStart, disks_in, logs_in, view_of};
 ghost use Rattle.site_run.specs.Running.{AreDownOver};
 ghost use Rattle.site_run.specs.Naming.{as_lent, all_from};
