@@ -77,7 +77,6 @@ pub use Rattle.site_node.specs.States.{Ends, IsDone, Leads, MayHold, Rows, State
 pub use Rattle.site_node.specs.declared.kind.NodeFault.{NodeFault}
 pub use Rattle.site_node.specs.declared.kind.NodeFault.TheVariants.{Damaged, Spent}
 pub use Rattle.site_run.specs.AnyNodes.{AnyLeads, AnyState, IsAtLast, IsMeant, any_of, any_phase, any_rests, down_with, with_site}
-pub use Rattle.turn_defs.specs.Configs.{IsRunnable}
 pub use Rattle.site_run.specs.Asked.{AreLogsOf, IsRosterOf, IsSettingOf, IsSettingOver}
 pub use Rattle.site_run.specs.Causes.{IsOfDisks, IsPastOpening, of_node}
 pub use Rattle.site_run.specs.Heard.{kinds_of}
@@ -131,7 +130,7 @@ pub use Rattle.std.specs.List.Sorted.{IsPermutation}
 pub use Rattle.std.specs.Vec.Iter.{into_iter_items, into_iter_len}
 pub use Rattle.time_shards.specs.Shards.{IsTable}
 pub use Rattle.topology_journal.specs.declared.topology.Topology.{Topology}
-pub use Rattle.turn_defs.specs.Configs.{IsOf}
+pub use Rattle.turn_defs.specs.Configs.{IsOf, IsRunnable}
 pub use Rattle.turn_defs.specs.Dispatcher.{DispatcherKept, DispatcherLive, dispatcher_at_rest}
 pub use Rattle.turn_defs.specs.Joiner.{JoinerKept, JoinerLive, joiner_at_rest}
 pub use Rattle.turn_defs.specs.Nodes.{Addressed, IsNode, NumbersAreNodes, node_count, node_number, node_of}
