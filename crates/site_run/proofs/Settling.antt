@@ -34,9 +34,9 @@ on_ok {T} {E} P r x is p = subst (λ (q : Result T E). OnOk q P) is p
 pub err_of : {T E : Type 0} (P : E → Type 0) (r : Result T E) (x : E) → r ≡ Err x → IfErr r P → P x
 err_of {T} {E} P r x is p = subst (λ (q : Result T E). IfErr q P) is p
 
-module _ {D : Type 0} (tells : Bool) (seen : D → List ℕ) (image : D → List ℕ → Type 0) (since : D → D → List ℕ → Type 0) (faults : D → ℕ) where
+module _ {D : Type 0} (tells : Bool) (seen : D → List ℕ) (image : D → List ℕ → Type 0) (since : D → D → List ℕ → Type 0) (faults : D → ℕ) (planned : Bool) (is_down : D → Bool) where
   abbrev OnlyRead : List (LentDisk D) → List (LentDisk D) → Type 0
-  OnlyRead olds news = EachWith (IsOnlyRead tells seen image since faults) olds news
+  OnlyRead olds news = EachWith (IsOnlyRead tells seen image since faults planned is_down) olds news
 
   lacks_back : (disk : DiskName) (olds news : List (LentDisk D)) → OnlyRead olds news → Lacks (map as_lent news) disk → Lacks (map as_lent olds) disk
   lacks_back disk [] [] only lacks = tt

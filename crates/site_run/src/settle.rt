@@ -90,7 +90,7 @@ fn read_disks<D: Disk>(
     alloc: Global,
     disks: Vec<LentDisk<D>>,
 ) -> (Vec<LentDisk<D>>, Result<Journals, RunFault>)
-    ensures same { EachWith (IsOnlyRead D.tells D.seen D.image D.since D.faults) disks.items result.0.items }
+    ensures same { EachWith (IsOnlyRead D.tells D.seen D.image D.since D.faults D.planned D.is_down) disks.items result.0.items }
     ensures count { length result.0.items ≡ length disks.items }
     ensures notes { IfOk result.1 (λ journals. AreReadFrom D.tells D.seen KeepsNotes (replicas disks.items) journals.notes.items) }
     ensures pairs { IfOk result.1 (λ journals. AreReadFrom D.tells D.seen KeepsPairs (outputs disks.items) journals.pairs.items) }

@@ -9,8 +9,8 @@ returns-clause-same g c =
     let old = c.args.disks.items in
     let value = c.deref_mut.ensures.value in
     let whole = written_back c.read_back-read.new.disks old c.args.disks.len (c.read_back-read.auto.disks ∙ ap length value) (sym c.deref_mut.ensures.len ∙ ap length value) in
-    subst (λ l. EachWith (IsOnlyRead d.tells d.seen d.image d.since d.faults) old l) (sym whole)
-    (subst (λ l. EachWith (IsOnlyRead d.tells d.seen d.image d.since d.faults) l c.read_back-read.new.disks) value c.read_back-read.ensures.same)
+    subst (λ l. EachWith (IsOnlyRead d.tells d.seen d.image d.since d.faults d.planned d.is_down) old l) (sym whole)
+    (subst (λ l. EachWith (IsOnlyRead d.tells d.seen d.image d.since d.faults d.planned d.is_down) l c.read_back-read.new.disks) value c.read_back-read.ensures.same)
 
 pub returns-clause-count : goal.returns-clause-count
 returns-clause-count g c =

@@ -36,7 +36,7 @@ returns-in-Ok g c =
     (two_used _ _ _ _ a b _ _ c.requires.number.0 c.requires.number.1 refl one.taken two.taken (ap (number_of j) one.name ∙ seat.number) (ap (number_of j) two.name ∙ seat.number) refl c.take_last-log.ensures.items) _ _ _ _ _ _ c.requires.left _ refl refl
     (record { numbered = omega (arith, node.number, three, seat.number); up = ap is_some node.up })
     (pair_lent a b _ _ _ _ (one.name ∙ ap (λ p. name.Epoch p.0 p.1) c.joiner_place-site.ensures) (two.name ∙ ap (λ p. name.Output p.0 p.1) c.joiner_place-site.ensures)
-    (c.into_epochs-epochs.ensures.disk ∙ ap (λ j. j.journal.disk) (sym node.disks.0)) (c.into_output-outputs.ensures.disk ∙ ap (λ j. j.journal.disk) (sym node.disks.1)))
+    (c.into_epochs-epochs.ensures.disk ∙ ap (λ j. j.journal.disk) (sym node.disks.0)) (c.into_output-outputs.ensures.disk ∙ ap (λ j. j.disk) (sym node.disks.1)))
     (ap (λ l. l ∷ []) node.log)
     (λ tells s d of places own.
     let number = joiner_number s _ _ _ _ of three seat in
