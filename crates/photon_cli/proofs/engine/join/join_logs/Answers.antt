@@ -30,7 +30,7 @@ returns-in-Err-run_lines-clause-begins g c =
 
 pub returns-in-Err-run_lines-clause-history : goal.returns-in-Err-run_lines-clause-history
 returns-in-Err-run_lines-clause-history g c disks logs s asked =
-    let ours = subst (λ (p : PlanView). IfSome c.run_lines.new.ran.log (IsHeardOf p c.args.wanted.now.nodes.joiners)) c.empty-plan.ensures (subst (λ (k : Config). IfSome c.run_lines.new.ran.log (IsHeardOf c.empty-plan.result k.joiners)) c.config_in-config.ensures.config c.run_lines.ensures.heard) in
+    let ours = subst (λ (p : PlanView). IfSome c.run_lines.new.ran.log (IsHeardOf p c.config_in-config.result.joiners)) c.empty-plan.ensures c.run_lines.ensures.heard in
     let setting = run_setting (g.F.Source.bytes c.args.files.now) (g.F.Source.bytes c.checked_logs.new.files) (values_in c.args.wanted.now) c.in-Ok.table _ c.config_in-config.ensures.config c.in-Ok-checked_logs.clicks.lines_end s asked c.in-Ok.ensures.found (c.in-Ok-checked_logs.ensures.same logs) (c.in-Ok-checked_logs.ensures.end logs) in
     inr (if_history c.run_lines.new.ran.log s (g.S.Store.image c.args.store.now) (g.S.Store.image c.run_lines.new.store) no_plan _ setting.numbers.joiners (c.run_lines.ensures.left disks logs s setting) ours)
 
@@ -41,7 +41,7 @@ returns-clause-begins g c =
 
 pub returns-clause-history : goal.returns-clause-history
 returns-clause-history g c disks logs s asked =
-    let ours = subst (λ (p : PlanView). IfSome c.run_lines.new.ran.log (IsHeardOf p c.args.wanted.now.nodes.joiners)) c.empty-plan.ensures (subst (λ (k : Config). IfSome c.run_lines.new.ran.log (IsHeardOf c.empty-plan.result k.joiners)) c.config_in-config.ensures.config c.run_lines.ensures.heard) in
+    let ours = subst (λ (p : PlanView). IfSome c.run_lines.new.ran.log (IsHeardOf p c.config_in-config.result.joiners)) c.empty-plan.ensures c.run_lines.ensures.heard in
     let setting = run_setting (g.F.Source.bytes c.args.files.now) (g.F.Source.bytes c.checked_logs.new.files) (values_in c.args.wanted.now) c.in-Ok.table _ c.config_in-config.ensures.config c.in-Ok-checked_logs.clicks.lines_end s asked c.in-Ok.ensures.found (c.in-Ok-checked_logs.ensures.same logs) (c.in-Ok-checked_logs.ensures.end logs) in
     inr (if_history c.run_lines.new.ran.log s (g.S.Store.image c.args.store.now) (g.S.Store.image c.run_lines.new.store) no_plan _ setting.numbers.joiners (c.run_lines.ensures.left disks logs s setting) ours)
 
@@ -52,7 +52,7 @@ returns-in-Ok-write_report-clause-begins g c =
 
 pub returns-in-Ok-write_report-clause-history : goal.returns-in-Ok-write_report-clause-history
 returns-in-Ok-write_report-clause-history g c disks logs s asked =
-    let ours = subst (λ (p : PlanView). IfSome c.run_lines.new.ran.log (IsHeardOf p c.args.wanted.now.nodes.joiners)) c.empty-plan.ensures (subst (λ (k : Config). IfSome c.run_lines.new.ran.log (IsHeardOf c.empty-plan.result k.joiners)) c.config_in-config.ensures.config c.run_lines.ensures.heard) in
+    let ours = subst (λ (p : PlanView). IfSome c.run_lines.new.ran.log (IsHeardOf p c.config_in-config.result.joiners)) c.empty-plan.ensures c.run_lines.ensures.heard in
     let setting = run_setting (g.F.Source.bytes c.args.files.now) (g.F.Source.bytes c.checked_logs.new.files) (values_in c.args.wanted.now) c.in-Ok.table _ c.config_in-config.ensures.config c.in-Ok-checked_logs.clicks.lines_end s asked c.in-Ok.ensures.found (c.in-Ok-checked_logs.ensures.same logs) (c.in-Ok-checked_logs.ensures.end logs) in
     inr (if_history c.run_lines.new.ran.log s (g.S.Store.image c.args.store.now) (g.S.Store.image c.run_lines.new.store) no_plan _ setting.numbers.joiners (c.run_lines.ensures.left disks logs s setting) ours)
 
@@ -83,7 +83,7 @@ returns-in-Ok-write_report-clause-ran g c logs disks =
     let s = setting_of v c.in-Ok.table x.0 x.1 in
     let asked = is_asked (g.F.Source.bytes c.args.files.now) v c.in-Ok.table x.0 x.1 c.in-Ok.ensures.found x.2 in
     let setting = run_setting (g.F.Source.bytes c.args.files.now) (g.F.Source.bytes c.checked_logs.new.files) (values_in c.args.wanted.now) c.in-Ok.table _ c.config_in-config.ensures.config c.in-Ok-checked_logs.clicks.lines_end s asked c.in-Ok.ensures.found (c.in-Ok-checked_logs.ensures.same logs) (c.in-Ok-checked_logs.ensures.end logs) in
-    let ours = subst (λ (p : PlanView). IfSome c.run_lines.new.ran.log (IsHeardOf p c.args.wanted.now.nodes.joiners)) c.empty-plan.ensures (subst (λ (k : Config). IfSome c.run_lines.new.ran.log (IsHeardOf c.empty-plan.result k.joiners)) c.config_in-config.ensures.config c.run_lines.ensures.heard) in
+    let ours = subst (λ (p : PlanView). IfSome c.run_lines.new.ran.log (IsHeardOf p c.config_in-config.result.joiners)) c.empty-plan.ensures c.run_lines.ensures.heard in
     (s, asked, history c.run_lines.new.ran.log s (g.S.Store.image c.args.store.now) (g.S.Store.image c.run_lines.new.store) no_plan _ setting.numbers.joiners (c.in-Ok-run_lines.ensures.began disks logs s setting) ours)
 
 pub returns-clause-prefix : goal.returns-clause-prefix

@@ -1,4 +1,4 @@
-use Rattle.std.proofs.Common.{◌≡◌, inr, List, ℕ, None, Err, sym, ap, subst, arith}
+use Rattle.std.proofs.Common.{◌≡◌, inr, List, ℕ, None, Err, refl, sym, ap, subst, arith}
 use Rattle.std.specs.Prelude.{⊤}
 use Rattle.photon_cli.proofs.Words.{Rose, DiskName, Clicks, rose_before, IsWelcome, AreTold, IsCause, failed_rose, TellsPlaces, leaves_placed, place_welcome, sound_placed, welcome_where, HasCauseInVerify, IsReadFrom}
 use Rattle.run_fault.specs.declared.fault.RunFault.TheVariants as fault
@@ -27,6 +27,17 @@ returns-in-Err-read-clause-stays g c here disk b now = let x = c.read_store-read
 
 pub returns-in-Err-read-clause-sound : goal.returns-in-Err-read-clause-sound
 returns-in-Err-read-clause-sound g c here s sound =
+    c.read_store-read.ensures.sound here s (sound_placed s (g.S.Store.image c.args.store.now) (g.S.Store.image c.place.new.self) (λ disk. (c.place.ensures.same here disk).0) sound)
+
+pub returns-in-Err-place-clause-stays : goal.returns-in-Err-place-clause-stays
+returns-in-Err-place-clause-stays g c here disk b now = (b, (c.in-Err-place.ensures.same here disk).0 b now, refl)
+
+pub returns-in-Err-place-clause-sound : goal.returns-in-Err-place-clause-sound
+returns-in-Err-place-clause-sound g c here s sound =
+    sound_placed s (g.S.Store.image c.args.store.now) (g.S.Store.image c.place.new.self) (λ disk. (c.in-Err-place.ensures.same here disk).0) sound
+
+pub returns-in-Ok-read-clause-sound : goal.returns-in-Ok-read-clause-sound
+returns-in-Ok-read-clause-sound g c here s sound =
     c.read_store-read.ensures.sound here s (sound_placed s (g.S.Store.image c.args.store.now) (g.S.Store.image c.place.new.self) (λ disk. (c.place.ensures.same here disk).0) sound)
 
 pub returns-in-Err-clause-caused : goal.returns-in-Err-clause-caused
