@@ -1,7 +1,7 @@
 # What bin/photon, bin/build, bin/release, bin/test and .ci/run ask about the program and its sources, which are crates.txt and each .rt and
 # .antt file below crates/ that isn't below a folder out/. For a POSIX shell in which $top is the top of the repository.
 built=$top/crates/photon/out/photon
-released=$top/dist/photon-x86_64-linux
+released=$top/dist/x86_64-linux/photon
 release=$top/dist/RELEASE
 
 # Whether the file is a program that is newer than each source.
