@@ -1,5 +1,7 @@
 // Epochs that are raised on a disk.
-ghost use Rattle.std.specs.Prelude.{◌≡◌, ◌↔◌, ◌<◌, ◌≤◌, ◌+◌, ◌++◌, [], ◌∷◌, ℕ, List, true, false, IsTrue, IfSome, IfNone, IfOk, IfErr, OnOk, OnErr, IsErrOf, is_err, Ok, Err};
+ghost use Rattle.std.specs.Prelude.{◌≡◌, ◌↔◌, ◌<◌, ◌≤◌, ◌+◌, ◌++◌, [], ◌∷◌, ℕ, List, true, false, IsTrue, IfSome, IfNone, IfOk, IfErr, OnOk, OnErr, IsErrOf, is_err, Ok, Err, refl};
+ghost use Rattle.std.specs.Coded.{coded_ℕ};
+ghost use Rattle.std.proofs.Common.{arith};
 ghost use Rattle.ballot_core.specs.declared.TheConstants.{LAST_EPOCH};
 ghost use Rattle.outside.specs.Disk.{Throughout};
 ghost use Rattle.outside.specs.Faults.{Rose};
@@ -8,11 +10,13 @@ ghost use Rattle.gate_journal.specs.declared.journal.JournalState.TheVariants.{R
 ghost use Rattle.gate_journal.specs.Disk.{HasRoom};
 ghost use Rattle.gate_journal.specs.Gate.{records, StandsFor, IsOldOrNew};
 ghost use Rattle.gate_journal.specs.Growth.{Continues};
-ghost use Rattle.gate_journal.specs.FoldLaws.{comes_next, comes_wrong};
-ghost use Rattle.epoch_journal.specs.Epochs.{epoch_record, epoch_in, epochs, is_next, KeepsOr};
+ghost use Rattle.gate_journal.specs.Fold.{folds_to, fails_at};
+ghost use Rattle.gate_journal.specs.FoldLaws.{once};
+ghost use Rattle.epoch_journal.specs.Epochs.{epoch_record, epoch_in, epochs, is_next, KeepsOr, MayCome};
+ghost use Rattle.epoch_journal.specs.EpochLaws.{comes_next as epoch_comes_next};
 
 use ballot_core::LAST_EPOCH;
-use gate_journal::{AppendFault, Record, RecordJournal};
+use gate_journal::{Append, AppendFault, Record, RecordJournal};
 use outside::Disk;
 use std::alloc::{AllocError, Global};
 
@@ -68,19 +72,7 @@ fn epoch_above(last: u32, payload: &[u8]) -> Option<u32>
 }
 
 impl Record for Epochs {
-    ghost use Rattle.std.specs.Prelude.{◌≡◌, ◌≤◌, ℕ, refl};
-    ghost use Rattle.std.specs.Coded.{coded_ℕ};
-    ghost use Rattle.std.proofs.Common.{arith};
-    ghost use Rattle.gate_journal.specs.Fold.{folds_to, fails_at};
-    ghost use Rattle.gate_journal.specs.FoldLaws.{once};
-    ghost use Rattle.epoch_journal.specs.Epochs.{epoch_record, epochs, MayCome};
-    ghost use Rattle.epoch_journal.specs.EpochLaws.{comes_next as epoch_comes_next};
-
     type One = u32;
-
-    const LONGEST: u32 = 5;
-
-    ghost LONGEST = { 5 };
 
     ghost Kept = { ℕ };
 
@@ -91,10 +83,6 @@ impl Record for Epochs {
     ghost keeps_once = { once epochs coded_ℕ };
 
     ghost kept = { λ e. e.epoch };
-
-    ghost places = { λ _. 1 };
-
-    ghost takes_places = { λ _. 0 };
 
     ghost spelled = { epoch_record };
 
@@ -116,6 +104,18 @@ impl Record for Epochs {
         }
     }
 
+    ghost gates_first = { λ _. refl };
+}
+
+impl Append for Epochs {
+    const LONGEST: u32 = 5;
+
+    ghost LONGEST = { 5 };
+
+    ghost places = { λ _. 1 };
+
+    ghost takes_places = { λ _. 0 };
+
     fn reserve(&mut self) -> Result<(), AllocError> {
         Ok(())
     }
@@ -131,8 +131,6 @@ impl Record for Epochs {
     ghost fits = { λ _ _ _. Prim.omega arith };
 
     ghost comes_next = { epoch_comes_next };
-
-    ghost gates_first = { λ _. refl };
 }
 
 /// Adds the epoch above the kept one.

@@ -54,6 +54,9 @@ module _ {T : Type 0} (IsOne : T → Type 0) (spelled : T → List ℕ) where
     ap (λ (l : List (List ℕ)). Ok (l ++ spelled x ∷ [])) (payloads xs ps kept) ∙ ap (λ (l : List (List ℕ)). Ok l) (sym (map-append spelled xs (x ∷ []))),
   )
 
+  pub comes_as : (xs ys : List T) (x : T) (ps : List (List ℕ)) (payload : List ℕ) → IsOne x → payload ≡ spelled x → ys ≡ xs ++ x ∷ [] → spells xs (Ok ps) → spells ys (Ok (ps ++ payload ∷ []))
+  comes_as xs ys x ps payload is e same kept = rw (e, same) (comes_next xs x ps is kept)
+
   -- behind records of such things stands one that spells none
   pub comes_other : (xs : List T) (ps rest : List (List ℕ)) (payload : List ℕ) → IsOther payload → spells xs (Ok ps) → is_damaged_at (Ok (ps ++ payload ∷ rest)) (1 + spans ps)
   comes_other xs ps rest payload other kept =

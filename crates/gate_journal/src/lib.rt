@@ -18,6 +18,6 @@ mod writing;
 
 pub use journal::{AppendFault, Journal, JournalState};
 pub use reading::JournalFault;
-pub use record::Record;
+pub use record::{Append, Record};
 pub use records::RecordJournal;
 pub use wire_core::Bytes as Payload;

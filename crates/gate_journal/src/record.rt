@@ -10,11 +10,6 @@ pub trait Record: Drop {
     /// One record, as the program has it.
     type One: Drop;
 
-    /// The length of the longest record.
-    const LONGEST: u32;
-
-    ghost LONGEST: { ℕ };
-
     /// What records stand for.
     ghost Kept: { Type 0 };
 
@@ -27,11 +22,6 @@ pub trait Record: Drop {
     ghost keeps_once: { (value : Kept) (read : Read) → IsProp (keeps value read) };
 
     ghost kept: { Self → Kept };
-
-    /// How many places there are for records to come, and how many this one takes, one at most.
-    ghost places: { Self → ℕ };
-
-    ghost takes_places: { Self.One → ℕ };
 
     /// The payload of a record.
     ghost spelled: { Self.One → List ℕ };
@@ -51,26 +41,39 @@ pub trait Record: Drop {
         ensures next { IfOk result (λ is. is ≡ true → (ps : List (List ℕ)) → keeps (kept self.old) (Ok ps) → keeps (kept self.new) (Ok (ps ++ payload.now ∷ []))) }
         ensures damage { IfOk result (λ is. is ≡ false → (ps rest : List (List ℕ)) → keeps (kept self.old) (Ok ps) → damaged (Ok (ps ++ payload.now ∷ rest)) (1 + spans ps)) };
 
+    ghost gates_first: { (at : ℕ) → damaged (Err at) at };
+}
+
+/// A kind whose journal appends records, and makes of the value what each makes of it.
+pub trait Append: Record {
+    /// The length of the longest record.
+    const LONGEST: u32;
+
+    ghost LONGEST: { ℕ };
+
+    /// How many places there are for records to come, and how many this one takes, one at most.
+    ghost places: { Self → ℕ };
+
+    ghost takes_places: { Self.One → ℕ };
+
     /// Makes room for one more record, whichever.
     fn reserve(&mut self) -> Result<(), AllocError>
         ensures room { OnOk result (1 ≤ places self.new) }
-        ensures kept { kept self.new ≡ kept self.old };
+        ensures kept { Self.kept self.new ≡ Self.kept self.old };
 
     /// Puts a record that may come next, in the room that was made.
     fn put(&mut self, one: Self::One)
-        requires next { may_come (kept self.old) one }
+        requires next { Self.may_come (Self.kept self.old) one }
         requires room { takes_places one ≤ places self.old }
-        ensures kept { kept self.new ≡ after (kept self.old) one }
+        ensures kept { Self.kept self.new ≡ Self.after (Self.kept self.old) one }
         ensures room { places self.old ≤ places self.new + takes_places one };
 
     ghost short: { LONGEST ≤ 65535 };
 
     ghost takes_one: { (one : Self.One) → takes_places one ≤ 1 };
 
-    ghost fits: { (value : Kept) (one : Self.One) → may_come value one → length (spelled one) ≤ LONGEST };
+    ghost fits: { (value : Self.Kept) (one : Self.One) → Self.may_come value one → length (Self.spelled one) ≤ LONGEST };
 
     /// Behind records that keep the value it may come next, and then they keep what it makes of the value.
-    ghost comes_next: { (value : Kept) (one : Self.One) (ps : List (List ℕ)) → may_come value one → keeps value (Ok ps) → keeps (after value one) (Ok (ps ++ spelled one ∷ [])) };
-
-    ghost gates_first: { (at : ℕ) → damaged (Err at) at };
+    ghost comes_next: { (value : Self.Kept) (one : Self.One) (ps : List (List ℕ)) → Self.may_come value one → Self.keeps value (Ok ps) → Self.keeps (Self.after value one) (Ok (ps ++ Self.spelled one ∷ [])) };
 }

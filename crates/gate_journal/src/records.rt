@@ -1,11 +1,18 @@
 // A journal of records of one kind on its disk.
-ghost use Rattle.std.specs.Prelude.{◌≡◌, ◌≤◌, ◌^◌, IsTrue, IfOk, IfErr, Ok, List, ℕ};
+ghost use Rattle.std.specs.Prelude.{◌≡◌, ◌≤◌, ◌+◌, ◌^◌, ◌++◌, [], ◌∷◌, ℕ, List, IsTrue, IfOk, IfErr, OnOk, OnErr, IsErrOf, is_err, false, Ok, Err};
 ghost use Rattle.std.specs.Coded.{→_prop, Π_prop};
-ghost use Rattle.gate_journal.specs.declared.journal.JournalState.TheVariants.{Ready};
-ghost use Rattle.gate_journal.specs.Gate.{gate_rule, spans};
-ghost use Rattle.gate_journal.specs.Records.{FailsAt};
+ghost use Rattle.outside.specs.Disk.{Throughout};
+ghost use Rattle.outside.specs.Faults.{Rose};
+ghost use Rattle.outside.specs.Plans.{MeetsPlan};
+ghost use Rattle.gate_journal.specs.declared.journal.JournalState.TheVariants.{Ready, Broken};
+ghost use Rattle.gate_journal.specs.Disk.{HasRoom};
+ghost use Rattle.gate_journal.specs.Fault.{disk_failed, is_of_disk};
+ghost use Rattle.gate_journal.specs.Gate.{records, gate_rule, spans, StandsFor, IsOldOrNew};
+ghost use Rattle.gate_journal.specs.Opening.{IsOpened};
+ghost use Rattle.gate_journal.specs.Growth.{Continues};
+ghost use Rattle.gate_journal.specs.Records.{FailsAt, Keeps, KeepsOr, IsLeft, IsRefused, IsRefusedAgain};
 
-use crate::{AppendFault, Journal, JournalFault, Record};
+use crate::{Append, AppendFault, Journal, JournalFault, Record};
 use outside::Disk;
 use std::alloc::{AllocError, Global};
 use wire_core::Bytes;
@@ -24,18 +31,6 @@ pub struct RecordJournal<D: Disk, R: Record> {
 }
 
 impl<D: Disk, R: Record> RecordJournal<D, R> {
-    ghost use Rattle.std.specs.Prelude.{◌≡◌, ◌≤◌, ◌+◌, ◌++◌, [], ◌∷◌, ℕ, List, IsTrue, IfOk, IfErr, OnOk, OnErr, IsErrOf, is_err, false, Ok, Err};
-    ghost use Rattle.outside.specs.Disk.{Throughout};
-    ghost use Rattle.outside.specs.Faults.{Rose};
-    ghost use Rattle.outside.specs.Plans.{MeetsPlan};
-    ghost use Rattle.gate_journal.specs.declared.journal.JournalState.TheVariants.{Ready, Broken};
-    ghost use Rattle.gate_journal.specs.Disk.{HasRoom};
-    ghost use Rattle.gate_journal.specs.Fault.{disk_failed, is_of_disk};
-    ghost use Rattle.gate_journal.specs.Gate.{records, gate_rule, StandsFor, IsOldOrNew};
-    ghost use Rattle.gate_journal.specs.Opening.{IsOpened};
-    ghost use Rattle.gate_journal.specs.Growth.{Continues};
-    ghost use Rattle.gate_journal.specs.Records.{Keeps, KeepsOr, IsLeft, IsRefused, IsRefusedAgain};
-
     /// Opens what is on a disk, which is fresh or a journal of this kind. Hands the disk back where it is refused.
     pub fn open(alloc: Global, disk: D) -> Result<RecordJournal<D, R>, (JournalFault, D)>
         ensures ok { IfOk result (λ j. (j.journal.state ≡ Ready) × (IsTrue D.tells → gate_rule (D.seen j.journal.disk) ≡ gate_rule (D.seen disk))) }
@@ -65,58 +60,6 @@ impl<D: Disk, R: Record> RecordJournal<D, R> {
         ensures { result.now ≡ self.now.value }
     {
         &self.value
-    }
-
-    /// Makes room for one append, in the disk and in the value.
-    pub fn make_room(&mut self, alloc: Global) -> Result<(), AllocError>
-        ensures room { OnOk result (HasRoom (D.calls_left self.new.journal.disk) (D.bytes_left self.new.journal.disk) R.LONGEST) }
-        ensures place { OnOk result (1 ≤ R.places self.new.value) }
-        ensures kept { R.kept self.new.value ≡ R.kept self.old.value }
-        ensures state { self.new.journal.state ≡ self.old.journal.state }
-        ensures seen { IsTrue D.tells → D.seen self.new.journal.disk ≡ D.seen self.old.journal.disk }
-        ensures any_moment { IsTrue D.tells → Throughout D.image D.since self.old.journal.disk self.new.journal.disk (D.image self.old.journal.disk) }
-        ensures grows { IsTrue D.tells → Throughout D.image D.since self.old.journal.disk self.new.journal.disk (Continues (D.image self.old.journal.disk)) }
-        ensures plan { IsTrue D.tells → MeetsPlan D.stops D.made D.faults 0 false self.old.journal.disk self.new.journal.disk }
-        ensures count { D.faults self.new.journal.disk ≡ D.faults self.old.journal.disk }
-    {
-        self.value.reserve()?;
-        self.journal.make_room(alloc, R::LONGEST)
-    }
-
-    /// Appends a record that may come next, given its payload and itself. At `Ok` each image keeps what it makes of the value.
-    pub fn append(&mut self, payload: &[u8], one: R::One) -> Result<(), AppendFault>
-        requires next { R.may_come (R.kept self.old.value) one }
-        requires spelled { payload.now ≡ R.spelled one }
-        requires room { HasRoom (D.calls_left self.old.journal.disk) (D.bytes_left self.old.journal.disk) R.LONGEST }
-        requires place { R.takes_places one ≤ R.places self.old.value }
-        ensures ok { OnOk result (R.kept self.new.value ≡ R.after (R.kept self.old.value) one) }
-        ensures err { OnErr result (self.new.value ≡ self.old.value) }
-        ensures place { R.places self.old.value ≤ R.places self.new.value + R.takes_places one }
-
-        // At every moment since the call began, each image stands for the old records, or for them and the new one.
-        ensures any_moment { IsTrue D.tells → self.old.journal.state ≡ Ready → Throughout D.image D.since self.old.journal.disk self.new.journal.disk (IsOldOrNew (records (D.seen self.old.journal.disk)) (R.spelled one)) }
-        ensures keeps { IsTrue D.tells → self.old.journal.state ≡ Ready → Throughout D.image D.since self.old.journal.disk self.new.journal.disk (KeepsOr R.keeps (R.kept self.old.value) (R.after (R.kept self.old.value) one)) }
-        ensures grows { IsTrue D.tells → Throughout D.image D.since self.old.journal.disk self.new.journal.disk (Continues (D.image self.old.journal.disk)) }
-        ensures ready { OnOk result ((self.old.journal.state ≡ Ready) × (self.new.journal.state ≡ Ready)) }
-        ensures appended { IsTrue D.tells → OnOk result (records (D.seen self.new.journal.disk) ≡ records (D.seen self.old.journal.disk) ++ R.spelled one ∷ []) }
-        ensures durable { IsTrue D.tells → OnOk result ((c : List ℕ) → D.image self.new.journal.disk c → StandsFor (records (D.seen self.old.journal.disk) ++ R.spelled one ∷ []) c) }
-
-        // Only a planned stop among the four calls is a cause of the fault.
-        ensures plan { IsTrue D.tells → self.old.journal.state ≡ Ready → MeetsPlan D.stops D.made D.faults 4 (is_err result) self.old.journal.disk self.new.journal.disk }
-        ensures made { IsTrue D.tells → OnOk result (D.made self.new.journal.disk ≡ D.made self.old.journal.disk + 4) }
-        ensures count { D.faults self.old.journal.disk ≤ D.faults self.new.journal.disk }
-
-        ensures fault { IsErrOf result AppendFault.Disk → (self.new.journal.state ≡ Broken) × Rose (D.faults self.old.journal.disk) (D.faults self.new.journal.disk) }
-        ensures when_broken { self.old.journal.state ≡ Broken → result ≡ Err AppendFault.Broken }
-        ensures broken { IsErrOf result AppendFault.Broken → (self.old.journal.state ≡ Broken) × (self.new.journal ≡ self.old.journal) }
-    {
-        match self.journal.append(payload) {
-            Ok(()) => {
-                self.value.put(one);
-                Ok(())
-            }
-            Err(fault) => Err(fault),
-        }
     }
 
     /// Reads the disk again as a stop left it. Where that is refused nothing more is appended.
@@ -186,6 +129,60 @@ impl<D: Disk, R: Record> RecordJournal<D, R> {
         ensures { result ≡ self.journal.disk }
     {
         self.journal.into_disk()
+    }
+}
+
+impl<D: Disk, R: Append> RecordJournal<D, R> {
+    /// Makes room for one append, in the disk and in the value.
+    pub fn make_room(&mut self, alloc: Global) -> Result<(), AllocError>
+        ensures room { OnOk result (HasRoom (D.calls_left self.new.journal.disk) (D.bytes_left self.new.journal.disk) R.LONGEST) }
+        ensures place { OnOk result (1 ≤ R.places self.new.value) }
+        ensures kept { R.kept self.new.value ≡ R.kept self.old.value }
+        ensures state { self.new.journal.state ≡ self.old.journal.state }
+        ensures seen { IsTrue D.tells → D.seen self.new.journal.disk ≡ D.seen self.old.journal.disk }
+        ensures any_moment { IsTrue D.tells → Throughout D.image D.since self.old.journal.disk self.new.journal.disk (D.image self.old.journal.disk) }
+        ensures grows { IsTrue D.tells → Throughout D.image D.since self.old.journal.disk self.new.journal.disk (Continues (D.image self.old.journal.disk)) }
+        ensures plan { IsTrue D.tells → MeetsPlan D.stops D.made D.faults 0 false self.old.journal.disk self.new.journal.disk }
+        ensures count { D.faults self.new.journal.disk ≡ D.faults self.old.journal.disk }
+    {
+        self.value.reserve()?;
+        self.journal.make_room(alloc, R::LONGEST)
+    }
+
+    /// Appends a record that may come next, given its payload and itself. At `Ok` each image keeps what it makes of the value.
+    pub fn append(&mut self, payload: &[u8], one: R::One) -> Result<(), AppendFault>
+        requires next { R.may_come (R.kept self.old.value) one }
+        requires spelled { payload.now ≡ R.spelled one }
+        requires room { HasRoom (D.calls_left self.old.journal.disk) (D.bytes_left self.old.journal.disk) R.LONGEST }
+        requires place { R.takes_places one ≤ R.places self.old.value }
+        ensures ok { OnOk result (R.kept self.new.value ≡ R.after (R.kept self.old.value) one) }
+        ensures err { OnErr result (self.new.value ≡ self.old.value) }
+        ensures place { R.places self.old.value ≤ R.places self.new.value + R.takes_places one }
+
+        // At every moment since the call began, each image stands for the old records, or for them and the new one.
+        ensures any_moment { IsTrue D.tells → self.old.journal.state ≡ Ready → Throughout D.image D.since self.old.journal.disk self.new.journal.disk (IsOldOrNew (records (D.seen self.old.journal.disk)) (R.spelled one)) }
+        ensures keeps { IsTrue D.tells → self.old.journal.state ≡ Ready → Throughout D.image D.since self.old.journal.disk self.new.journal.disk (KeepsOr R.keeps (R.kept self.old.value) (R.after (R.kept self.old.value) one)) }
+        ensures grows { IsTrue D.tells → Throughout D.image D.since self.old.journal.disk self.new.journal.disk (Continues (D.image self.old.journal.disk)) }
+        ensures ready { OnOk result ((self.old.journal.state ≡ Ready) × (self.new.journal.state ≡ Ready)) }
+        ensures appended { IsTrue D.tells → OnOk result (records (D.seen self.new.journal.disk) ≡ records (D.seen self.old.journal.disk) ++ R.spelled one ∷ []) }
+        ensures durable { IsTrue D.tells → OnOk result ((c : List ℕ) → D.image self.new.journal.disk c → StandsFor (records (D.seen self.old.journal.disk) ++ R.spelled one ∷ []) c) }
+
+        // Only a planned stop among the four calls is a cause of the fault.
+        ensures plan { IsTrue D.tells → self.old.journal.state ≡ Ready → MeetsPlan D.stops D.made D.faults 4 (is_err result) self.old.journal.disk self.new.journal.disk }
+        ensures made { IsTrue D.tells → OnOk result (D.made self.new.journal.disk ≡ D.made self.old.journal.disk + 4) }
+        ensures count { D.faults self.old.journal.disk ≤ D.faults self.new.journal.disk }
+
+        ensures fault { IsErrOf result AppendFault.Disk → (self.new.journal.state ≡ Broken) × Rose (D.faults self.old.journal.disk) (D.faults self.new.journal.disk) }
+        ensures when_broken { self.old.journal.state ≡ Broken → result ≡ Err AppendFault.Broken }
+        ensures broken { IsErrOf result AppendFault.Broken → (self.old.journal.state ≡ Broken) × (self.new.journal ≡ self.old.journal) }
+    {
+        match self.journal.append(payload) {
+            Ok(()) => {
+                self.value.put(one);
+                Ok(())
+            }
+            Err(fault) => Err(fault),
+        }
     }
 }
 

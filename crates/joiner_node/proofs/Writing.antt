@@ -5,10 +5,10 @@ use Rattle.std.specs.Result.{result_unwrap_or}
 use Rattle.outside.specs.Disk.{Only, Throughout}
 use Rattle.gate_journal.specs.Gate.{gate_rule, records, StandsFor, IsOldOrNew}
 use Rattle.gate_journal.specs.Growth.{Continues}
+use Rattle.gate_journal.specs.Spelled.{comes_next}
 use Rattle.turn_defs.specs.declared.pair.PairRec.{PairRec}
 use Rattle.turn_defs.specs.Spellings.{IsPair}
 use Rattle.output_log.specs.Pairs.{record_of, spells, Keeps, KeepsOr}
-use Rattle.output_log.specs.PairLaws.{comes_next}
 use Rattle.turn_defs.specs.Joiner.{JoinerKept}
 use Rattle.joiner_core.specs.declared.turn.JoinerNote.{JoinerNote}
 use Rattle.joiner_core.specs.declared.turn.JoinerNote.TheVariants as notes
@@ -37,7 +37,7 @@ module _ (seen : List ℕ) (image : List ℕ → Type 0) (ps : List PairRec) (p 
 
   pub appended : (b : List ℕ) → StandsFor (records seen ++ payload ∷ []) b → Continues image b → Keeps (ps ++ p ∷ []) b
   appended b stands (c, here, more) =
-      let grown = comes_next ps p (records seen) is (reads c here) in
+      let grown = comes_next IsPair record_of ps p (records seen) is (reads c here) in
       (grown.0, stands ∙ ap (λ (r : List ℕ). ok_of (records seen ++ r ∷ [])) spelled ∙ grown.1)
 
   -- at each moment

@@ -6,7 +6,7 @@ use Rattle.gate_journal.specs.declared.reading.JournalFault.TheVariants.{Damaged
 use Rattle.epoch_journal.specs.Epochs.{KeepsOr}
 use Rattle.epoch_journal.specs.Epochs as epochs
 use Rattle.turn_defs.specs.declared.pair.PairRec.{PairRec}
-use Rattle.output_log.specs.Pairs.{longest}
+use Rattle.output_log.specs.declared.pair.TheConstants.{LONGEST}
 use Rattle.output_log.specs.Pairs as pairs
 use Rattle.turn_defs.specs.Turns.{land}
 use Rattle.site_node.specs.Bytes.{record_of}
@@ -111,7 +111,7 @@ pub record Room : Type 0 where
 abbrev pub IsRoomFor : Option Record → Room → Type 0
 IsRoomFor None r = ⊤
 IsRoomFor (Some (written.Epoch b)) r = HasRoom r.epoch_calls r.epoch_bytes 5
-IsRoomFor (Some (written.Pair p b)) r = HasRoom r.pair_calls r.pair_bytes longest
+IsRoomFor (Some (written.Pair p b)) r = HasRoom r.pair_calls r.pair_bytes LONGEST
 
 -- no damage was found
 abbrev pub IsUndamaged : JournalFault → Type 0

@@ -10,8 +10,8 @@ ghost use Rattle.joiner_node.specs.Refused.{refused_as};
 use crate::records::Record;
 use air_bus::Payload;
 use epoch_journal::{EpochJournal, raise};
-use gate_journal::{Journal, JournalFault, Record as Kind};
-use output_log::{OutputLog, Outputs, laws};
+use gate_journal::{Journal, JournalFault};
+use output_log::{LONGEST, OutputLog, Outputs, laws};
 use outside::{Disk, DiskName};
 use site_node::NodeFault;
 use std::alloc::{AllocError, Global};
@@ -54,7 +54,8 @@ impl<D: Disk> Disks<D> {
     ghost use Rattle.site_node.specs.Faults.{was_shut_out, IsOfRestart, IsWhole, MeetsBoth};
     ghost use Rattle.epoch_journal.specs.Epochs as epochs;
     ghost use Rattle.epoch_journal.specs.Epochs.{KeepsOr};
-    ghost use Rattle.output_log.specs.Pairs.{record_of, longest, KeepsOr as KeepsPairsOr};
+    ghost use Rattle.output_log.specs.Pairs.{record_of, KeepsOr as KeepsPairsOr};
+    ghost use Rattle.output_log.specs.declared.pair.TheConstants.{LONGEST};
     ghost use Rattle.turn_defs.specs.Spellings.{IsPair};
     ghost use Rattle.turn_defs.specs.declared.pair.PairRec.{PairRec};
     ghost use Rattle.turn_defs.specs.Joiner.{JoinerKept};
@@ -119,7 +120,7 @@ impl<D: Disk> Disks<D> {
         match writes {
             None => Ok(()),
             Some(Record::Epoch(_)) => self.epochs.make_room(self.alloc),
-            Some(Record::Pair { .. }) => self.log.make_room(self.alloc, Outputs::LONGEST),
+            Some(Record::Pair { .. }) => self.log.make_room(self.alloc, LONGEST),
         }
     }
 
@@ -199,7 +200,7 @@ impl<D: Disk> Disks<D> {
     fn write(&mut self, pair: PairRec, payload: Payload) -> Result<Option<Payload>, NodeFault>
         requires up { self.old.in_doubt ≡ None }
         requires whole { IsPair pair × (payload ≡ record_of pair) }
-        requires room { HasRoom (D.calls_left self.old.log.disk) (D.bytes_left self.old.log.disk) longest }
+        requires room { HasRoom (D.calls_left self.old.log.disk) (D.bytes_left self.old.log.disk) LONGEST }
         ensures same { (self.new.site ≡ self.old.site) × (self.new.joiner ≡ self.old.joiner) × (self.new.epochs ≡ self.old.epochs) }
         ensures up { OnOk result (self.new.in_doubt ≡ None) }
         ensures kind { IfErr result (λ e. e ≡ NodeFault.Stopped) }

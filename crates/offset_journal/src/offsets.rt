@@ -1,9 +1,14 @@
 // Offsets that advance on a disk.
-ghost use Rattle.std.specs.Prelude.{◌≡◌, true, false, IfSome, IfNone};
+ghost use Rattle.std.specs.Prelude.{◌≡◌, ◌≤◌, ℕ, true, false, refl, IfSome, IfNone};
+ghost use Rattle.std.specs.Coded.{coded_ℕ};
+ghost use Rattle.std.proofs.Common.{arith};
+ghost use Rattle.gate_journal.specs.Fold.{folds_to, fails_at};
+ghost use Rattle.gate_journal.specs.FoldLaws.{once};
 ghost use Rattle.offset_journal.specs.Offsets as defs;
-ghost use Rattle.offset_journal.specs.Offsets.{is_next, offset_in};
+ghost use Rattle.offset_journal.specs.Offsets.{is_next, offset_in, offsets, MayCome};
+ghost use Rattle.offset_journal.specs.OffsetLaws.{comes_next as offset_comes_next};
 
-use gate_journal::{Record, RecordJournal};
+use gate_journal::{Append, Record, RecordJournal};
 use std::alloc::{AllocError, Global};
 
 /// The first byte of a record.
@@ -57,20 +62,7 @@ fn offset_above(last: u64, payload: &[u8]) -> Option<u64>
 }
 
 impl Record for Offsets {
-    ghost use Rattle.std.specs.Prelude.{◌≡◌, ◌≤◌, ℕ, refl};
-    ghost use Rattle.std.specs.Coded.{coded_ℕ};
-    ghost use Rattle.std.proofs.Common.{arith};
-    ghost use Rattle.gate_journal.specs.Fold.{folds_to, fails_at};
-    ghost use Rattle.gate_journal.specs.FoldLaws.{once};
-    ghost use Rattle.offset_journal.specs.Offsets as defs;
-    ghost use Rattle.offset_journal.specs.Offsets.{offsets, MayCome};
-    ghost use Rattle.offset_journal.specs.OffsetLaws.{comes_next as offset_comes_next};
-
     type One = u64;
-
-    const LONGEST: u32 = 9;
-
-    ghost LONGEST = { 9 };
 
     ghost Kept = { ℕ };
 
@@ -81,10 +73,6 @@ impl Record for Offsets {
     ghost keeps_once = { once offsets coded_ℕ };
 
     ghost kept = { λ o. o.offset };
-
-    ghost places = { λ _. 1 };
-
-    ghost takes_places = { λ _. 0 };
 
     ghost spelled = { defs.offset_record };
 
@@ -106,6 +94,18 @@ impl Record for Offsets {
         }
     }
 
+    ghost gates_first = { λ _. refl };
+}
+
+impl Append for Offsets {
+    const LONGEST: u32 = 9;
+
+    ghost LONGEST = { 9 };
+
+    ghost places = { λ _. 1 };
+
+    ghost takes_places = { λ _. 0 };
+
     fn reserve(&mut self) -> Result<(), AllocError> {
         Ok(())
     }
@@ -121,6 +121,4 @@ impl Record for Offsets {
     ghost fits = { λ _ _ _. Prim.omega arith };
 
     ghost comes_next = { offset_comes_next };
-
-    ghost gates_first = { λ _. refl };
 }

@@ -1,11 +1,11 @@
--- The record of a pair that may come next.
-use Rattle.std.proofs.Common.{ℕ, ◌≤◌, List, [], ◌∷◌, ◌++◌, length, arith, length-append, Ok}
-use Rattle.gate_journal.specs.Spelled as spelled
+-- How long the record of a pair is.
+use Rattle.std.proofs.Common.{◌≤◌, [], ◌++◌, length, arith, length-append}
 use Rattle.turn_defs.specs.declared.pair.PairRec.{PairRec}
 use Rattle.turn_defs.specs.Spellings.{click, query, token, IsPair}
-use Rattle.output_log.specs.Pairs.{record_of, longest, spells}
+use Rattle.output_log.specs.Pairs.{record_of}
+use Rattle.output_log.specs.declared.pair.TheConstants.{LONGEST}
 
-pub fits : (pair : PairRec) → IsPair pair → length (record_of pair) ≤ longest
+pub fits : (pair : PairRec) → IsPair pair → length (record_of pair) ≤ LONGEST
 fits pair is =
     omega (
       arith,
@@ -15,6 +15,3 @@ fits pair is =
       length-append (query pair.query) (token pair.token),
       length-append pair.click.text [],
     )
-
-pub comes_next : (pairs : List PairRec) (pair : PairRec) (ps : List (List ℕ)) → IsPair pair → spells pairs (Ok ps) → spells (pairs ++ pair ∷ []) (Ok (ps ++ record_of pair ∷ []))
-comes_next = spelled.comes_next IsPair record_of

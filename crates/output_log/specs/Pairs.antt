@@ -23,10 +23,6 @@ fields_of p = click p.click ++ (query p.query ++ token p.token)
 abbrev pub record_of : PairRec → List ℕ
 record_of p = 6 ∷ fields_of p
 
--- the most bytes that a pair's record has
-abbrev pub longest : ℕ
-longest = 465
-
 -- no pair has this record
 abbrev pub IsOther : List ℕ → Type 0
 IsOther = spelled.IsOther IsPair record_of

@@ -7,5 +7,5 @@ mod pair;
 pub mod rows;
 
 pub use outputs::{OutputLog, Outputs};
-pub use pair::{pair_frame, read_pair};
+pub use pair::{LONGEST, pair_frame, read_pair};
 pub use turn_defs::PairRec;

@@ -16,7 +16,7 @@ use wire_core::{Bytes, Reader};
 const TAG: u8 = 6;
 
 /// The most bytes that a record has.
-pub(crate) const LONGEST: u32 = 465;
+pub const LONGEST: u32 = 465;
 
 /// The record of a pair as it is written to a log: the byte 06, the click, the query and the token. One allocation.
 pub fn pair_frame(

@@ -50,7 +50,12 @@ impl Kind for Gates {
     }
 }
 
-fn append(alloc: Global, journal: &mut Journal<MemDisk>, payload: &[u8]) -> Result<String, Stop> {
+/// Appends a record of these bytes, with room for it.
+pub fn append(
+    alloc: Global,
+    journal: &mut Journal<MemDisk>,
+    payload: &[u8],
+) -> Result<String, Stop> {
     if payload.len() > 65535 {
         return Err(Stop::Words);
     }

@@ -1,26 +1,31 @@
 // Logs of joined pairs.
+use crate::gates::append;
 use crate::kinds::Kind;
-use gate_journal::JournalFault;
+use gate_journal::{Journal, JournalFault};
 use log_records::{read_click, read_query};
 use mem_outside::MemDisk;
-use output_log::{OutputLog, PairRec, pair_frame, read_pair};
+use output_log::{OutputLog, Outputs, pair_frame, read_pair};
 use registry_state::Token;
 use script_lines::texts::{token, told_pair};
 use script_lines::{Stop, Words};
 use std::alloc::Global;
 
-// `write TOKEN CLICK / QUERY`; `read BYTES`, the pair of a record.
-impl Kind for OutputLog<MemDisk> {
-    fn open_on(
-        alloc: Global,
-        disk: MemDisk,
-    ) -> Result<OutputLog<MemDisk>, (JournalFault, MemDisk)> {
-        OutputLog::open(alloc, disk)
+/// The pairs as they were read last, and their journal. `write TOKEN CLICK / QUERY`; `read BYTES`, the pair of a record.
+#[derive(Drop)]
+pub struct PairsOnDisk {
+    journal: Journal<MemDisk>,
+    pairs: Outputs,
+}
+
+impl Kind for PairsOnDisk {
+    fn open_on(alloc: Global, disk: MemDisk) -> Result<PairsOnDisk, (JournalFault, MemDisk)> {
+        let (journal, pairs) = OutputLog::open(alloc, disk)?.into_parts();
+        Ok(PairsOnDisk { journal, pairs })
     }
 
     fn told(&self, alloc: Global) -> Result<String, Stop> {
         let mut text = format!(in alloc; "pairs")?;
-        for pair in self.value().pairs() {
+        for pair in self.pairs.pairs() {
             text.push_str(" | ")?;
             text.push_str(told_pair(alloc, pair)?.as_str())?;
         }
@@ -29,7 +34,7 @@ impl Kind for OutputLog<MemDisk> {
 
     fn change(&mut self, alloc: Global, words: &mut Words<'_>) -> Result<String, Stop> {
         match words.word()? {
-            "write" => write(alloc, self, words.behind()),
+            "write" => write(alloc, &mut self.journal, words.behind()),
             "read" => match read_pair(alloc, &words.bytes(alloc)?)? {
                 Some(pair) => told_pair(alloc, &pair),
                 None => Ok(format!(in alloc; "no pair")?),
@@ -39,20 +44,21 @@ impl Kind for OutputLog<MemDisk> {
     }
 
     fn read_again(&mut self, alloc: Global) -> Result<(), JournalFault> {
-        self.reopen(alloc)
+        self.pairs = OutputLog::reopen_bare(alloc, &mut self.journal)?;
+        Ok(())
     }
 
     fn close(self) -> MemDisk {
-        self.into_disk()
+        self.journal.into_disk()
     }
 }
 
-fn write(alloc: Global, log: &mut OutputLog<MemDisk>, text: &str) -> Result<String, Stop> {
+fn write(alloc: Global, journal: &mut Journal<MemDisk>, text: &str) -> Result<String, Stop> {
     let (holder, lines) = text.split_once(' ').ok_or(Stop::Words)?;
     let (click, query) = lines.split_once(" / ").ok_or(Stop::Words)?;
     write_pair(
         alloc,
-        log,
+        journal,
         click.as_bytes(),
         query.as_bytes(),
         token(holder)?,
@@ -61,7 +67,7 @@ fn write(alloc: Global, log: &mut OutputLog<MemDisk>, text: &str) -> Result<Stri
 
 fn write_pair(
     alloc: Global,
-    log: &mut OutputLog<MemDisk>,
+    journal: &mut Journal<MemDisk>,
     click: &[u8],
     query: &[u8],
     token: Token,
@@ -72,12 +78,6 @@ fn write_pair(
     let Ok(query) = read_query(alloc, query) else {
         return Err(Stop::Words);
     };
-    log.make_room(alloc)?;
     let payload = pair_frame(alloc, &click, &query, token)?;
-    let pair = PairRec {
-        click,
-        query,
-        token,
-    };
-    Ok(format!(in alloc; "{:?}", log.append(payload.as_slice(), pair))?)
+    append(alloc, journal, payload.as_slice())
 }

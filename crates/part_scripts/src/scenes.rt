@@ -4,6 +4,7 @@ use crate::airs::Airs;
 use crate::fields_again::Fields;
 use crate::gates::Gates;
 use crate::kinds::OnDisk;
+use crate::outputs::PairsOnDisk;
 use crate::packets::Packets;
 use crate::proposers::Proposers;
 use crate::queues::Queues;
@@ -12,7 +13,6 @@ use crate::votes::Votes;
 use epoch_journal::EpochJournal;
 use mem_outside::MemDisk;
 use offset_journal::OffsetJournal;
-use output_log::OutputLog;
 use retry_log::RetryLog;
 use script_lines::{Report, Scene, play};
 use std::alloc::{AllocError, Global};
@@ -45,7 +45,7 @@ fn play_disk(alloc: Global, scene: &Scene, report: &mut Report) -> Result<(), Al
             report,
         ),
         "retries" => play(alloc, OnDisk::<RetryLog<MemDisk>>::new(), scene, report),
-        "outputs" => play(alloc, OnDisk::<OutputLog<MemDisk>>::new(), scene, report),
+        "outputs" => play(alloc, OnDisk::<PairsOnDisk>::new(), scene, report),
         "topologies" => play(
             alloc,
             OnDisk::<TopologyJournal<MemDisk>>::new(),

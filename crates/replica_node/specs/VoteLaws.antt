@@ -1,10 +1,9 @@
--- The record of a note that may come next.
-use Rattle.std.proofs.Common.{rules, ◌≡◌, ◌≤◌, ℕ, ◌+◌, List, [], ◌∷◌, ◌++◌, length, arith, Ok}
+-- A note: that it has a spelling has one proof, and how long it is.
+use Rattle.std.proofs.Common.{rules, ◌≡◌, ◌≤◌, ℕ, ◌+◌, List, [], ◌∷◌, ◌++◌, length, arith}
 use Rattle.std.proofs.Props.{props}
 use Rattle.std.specs.Coded.{×_prop, Π_prop, →_prop, Unit-prop}
 use Rattle.std.specs.Prelude.{All}
 use Rattle.ballot_core.specs.declared.Ballot.{Ballot}
-use Rattle.gate_journal.specs.Spelled as spelled
 use Rattle.list_words.specs.Lists.{Each}
 use Rattle.packet_codec.proofs.NoteParts.{note_room}
 use Rattle.packet_codec.specs.Notes.{note, IsNote}
@@ -14,7 +13,6 @@ use Rattle.paxos_acceptor.specs.declared.notes.ReplicaNote.TheVariants.{Accepted
 use Rattle.registry_state.specs.declared.Batch.{Batch}
 use Rattle.registry_state.specs.declared.Insert.{Insert}
 use Rattle.turn_defs.specs.Spellings.{ballot, batch, place, IsInsert}
-use Rattle.replica_node.specs.Votes.{longest, spells}
 
 -- ---- that a note has a spelling has one proof
 
@@ -37,9 +35,6 @@ head_len tag shard slot b = search rules
 whole_len : (shard slot : ℕ) (b : Ballot) (v : Batch) → length (note (Accepted shard slot b v)) ≡ 23 + length (batch v)
 whole_len shard slot b v = search rules
 
-pub fits : (n : ReplicaNote) → IsNote n → length (note n) ≤ longest
+pub fits : (n : ReplicaNote) → IsNote n → length (note n) ≤ 1952
 fits (Promised shard slot b) is = omega (arith, head_len 7 shard slot b)
 fits (Accepted shard slot b v) is = omega (arith, whole_len shard slot b v, note_room v is.2.count)
-
-pub comes_next : (notes : List ReplicaNote) (n : ReplicaNote) (ps : List (List ℕ)) → IsNote n → spells notes (Ok ps) → spells (notes ++ n ∷ []) (Ok (ps ++ note n ∷ []))
-comes_next = spelled.comes_next IsNote note

@@ -1,5 +1,5 @@
 // The notes that are kept on a disk.
-ghost use Rattle.std.specs.Prelude.{◌≡◌, ◌<◌, ◌≤◌, ◌+◌, ◌-◌, ◌++◌, [], ◌∷◌, All, vec_len, vec_capacity, IfOk, IfSome, IfNone};
+ghost use Rattle.std.specs.Prelude.{◌≡◌, All, IfOk, IfSome, IfNone};
 ghost use Rattle.packet_codec.specs.Notes.{note as note_spelled, IsNote};
 ghost use Rattle.replica_node.specs.Node.{recorded, IsNotedSo, IsShort};
 ghost use Rattle.replica_node.specs.Votes.{IsNoVote};
@@ -53,19 +53,15 @@ impl Votes {
 }
 
 impl Record for Votes {
-    ghost use Rattle.std.specs.Prelude.{◌≡◌, ◌≤◌, ◌-◌, ◌++◌, [], ◌∷◌, ℕ, List, vec_len, vec_capacity};
+    ghost use Rattle.std.specs.Prelude.{◌++◌, [], ◌∷◌, List};
     ghost use Rattle.std.specs.Coded.{Coded-set, coded_result, coded_list, coded_ℕ, ×_prop};
-    ghost use Rattle.std.proofs.Common.{arith, inl, refl};
+    ghost use Rattle.std.proofs.Common.{inl, refl};
     ghost use Rattle.paxos_acceptor.specs.declared.notes.ReplicaNote.{ReplicaNote};
     ghost use Rattle.packet_codec.specs.Notes.{note as note_spelled, IsNote};
-    ghost use Rattle.replica_node.specs.Votes.{longest, spells, is_damaged_at};
-    ghost use Rattle.replica_node.specs.VoteLaws.{notes_once, comes_next as note_comes_next, fits as note_fits};
+    ghost use Rattle.replica_node.specs.Votes.{spells, is_damaged_at};
+    ghost use Rattle.replica_node.specs.VoteLaws.{notes_once};
 
     type One = ReplicaNote;
-
-    const LONGEST: u32 = 1952;
-
-    ghost LONGEST = { longest };
 
     ghost Kept = { List ReplicaNote };
 
@@ -76,10 +72,6 @@ impl Record for Votes {
     ghost keeps_once = { λ notes read. ×_prop (notes_once notes) (Coded-set (coded_result (coded_list (coded_list coded_ℕ)) coded_ℕ) _ _) };
 
     ghost kept = { λ v. v.notes.items };
-
-    ghost places = { λ v. vec_capacity v.notes - vec_len v.notes };
-
-    ghost takes_places = { λ _. 1 };
 
     ghost spelled = { note_spelled };
 
@@ -94,40 +86,14 @@ impl Record for Votes {
     fn take(&mut self, alloc: Global, payload: &[u8]) -> Result<bool, AllocError> {
         match read_vote(alloc, payload)? {
             Some(note) => {
-                self.notes.reserve(1)?;
-                put_last(&mut self.notes, note);
+                self.notes.push(note)?;
                 Ok(true)
             }
             None => Ok(false),
         }
     }
 
-    fn reserve(&mut self) -> Result<(), AllocError> {
-        self.notes.reserve(1)
-    }
-
-    fn put(&mut self, note: ReplicaNote) {
-        put_last(&mut self.notes, note);
-    }
-
-    ghost short = { Prim.omega arith };
-
-    ghost takes_one = { λ _. Prim.omega arith };
-
-    ghost fits = { λ _. note_fits };
-
-    ghost comes_next = { note_comes_next };
-
     ghost gates_first = { λ _. inl refl };
-}
-
-// Puts a note behind the others, where there is a place for it.
-fn put_last(notes: &mut Vec<ReplicaNote>, note: ReplicaNote)
-    requires { vec_len notes.old < vec_capacity notes.old }
-    ensures notes { notes.new.items ≡ notes.old.items ++ note ∷ [] }
-    ensures room { vec_capacity notes.old - vec_len notes.old ≤ vec_capacity notes.new - vec_len notes.new + 1 }
-{
-    let _ = notes.push(note);
 }
 
 // The note of a record, or None where it is no note's. Linear in the record. It allocates the batch's inserts.

@@ -1,10 +1,16 @@
 // The positions that are pending on a disk.
-ghost use Rattle.std.specs.Prelude.{nat_eq};
+ghost use Rattle.std.specs.Prelude.{◌≡◌, ◌≤◌, ℕ, List, nat_eq, refl};
+ghost use Rattle.std.specs.Coded.{coded_ℕ, coded_list};
+ghost use Rattle.std.proofs.Common.{arith};
 ghost use Rattle.std.proofs.Props.{props};
-ghost use Rattle.indexmap.specs.IndexSet.{IsUnique};
+ghost use Rattle.indexmap.specs.IndexSet.{IsUnique, spare};
+ghost use Rattle.gate_journal.specs.Fold.{folds_to, fails_at};
+ghost use Rattle.gate_journal.specs.FoldLaws.{once};
+ghost use Rattle.retry_log.specs.Pending.{record_of, retries, MayCome, places_of, after as after_change};
+ghost use Rattle.retry_log.specs.PendingLaws.{comes_next as change_comes_next, fits as change_fits, one_place};
 
 use crate::changing::{Change, make_change, put_last, read_change};
-use gate_journal::{Record, RecordJournal};
+use gate_journal::{Append, Record, RecordJournal};
 use indexmap::IndexSet;
 use std::alloc::{AllocError, Global};
 
@@ -24,9 +30,6 @@ pub struct Retries {
 pub type RetryLog<D> = RecordJournal<D, Retries>;
 
 impl Retries {
-    ghost use Rattle.std.specs.Prelude.{◌≡◌, nat_eq};
-    ghost use Rattle.indexmap.specs.IndexSet.{IsUnique};
-
     /// The pending positions.
     pub fn pending(&self) -> &IndexSet<u64>
         ensures pending { result.now ≡ self.now.pending }
@@ -37,20 +40,7 @@ impl Retries {
 }
 
 impl Record for Retries {
-    ghost use Rattle.std.specs.Prelude.{◌≡◌, ◌≤◌, ℕ, List, refl};
-    ghost use Rattle.std.specs.Coded.{coded_ℕ, coded_list};
-    ghost use Rattle.std.proofs.Common.{arith};
-    ghost use Rattle.indexmap.specs.IndexSet.{spare};
-    ghost use Rattle.gate_journal.specs.Fold.{folds_to, fails_at};
-    ghost use Rattle.gate_journal.specs.FoldLaws.{once};
-    ghost use Rattle.retry_log.specs.Pending.{record_of, retries, MayCome, places_of, after as after_change};
-    ghost use Rattle.retry_log.specs.PendingLaws.{comes_next as change_comes_next, fits as change_fits, one_place};
-
     type One = Change;
-
-    const LONGEST: u32 = 9;
-
-    ghost LONGEST = { 9 };
 
     ghost Kept = { List ℕ };
 
@@ -61,10 +51,6 @@ impl Record for Retries {
     ghost keeps_once = { once retries (coded_list coded_ℕ) };
 
     ghost kept = { λ r. r.pending.keys };
-
-    ghost places = { λ r. spare r.pending };
-
-    ghost takes_places = { places_of };
 
     ghost spelled = { record_of };
 
@@ -88,6 +74,18 @@ impl Record for Retries {
         }
     }
 
+    ghost gates_first = { λ _. refl };
+}
+
+impl Append for Retries {
+    const LONGEST: u32 = 9;
+
+    ghost LONGEST = { 9 };
+
+    ghost places = { λ r. spare r.pending };
+
+    ghost takes_places = { places_of };
+
     fn reserve(&mut self) -> Result<(), AllocError> {
         self.pending.reserve(1)
     }
@@ -108,6 +106,4 @@ impl Record for Retries {
     ghost fits = { change_fits };
 
     ghost comes_next = { change_comes_next };
-
-    ghost gates_first = { λ _. refl };
 }

@@ -1,12 +1,18 @@
 // The topology that is kept on a disk.
-ghost use Rattle.std.specs.Prelude.{IfSome};
+ghost use Rattle.std.specs.Prelude.{◌≡◌, ◌≤◌, ℕ, Option, None, Some, MatchOption, IfSome};
+ghost use Rattle.std.proofs.Common.{arith, refl};
 ghost use Rattle.std.proofs.Props.{props};
-ghost use Rattle.topology_journal.specs.Topologies.{HasJoiners};
+ghost use Rattle.gate_journal.specs.Fold.{folds_to, fails_at};
+ghost use Rattle.gate_journal.specs.FoldLaws.{once};
+ghost use Rattle.topology_journal.specs.declared.topology.TheConstants.{LONGEST as longest};
+ghost use Rattle.topology_journal.specs.declared.topology.Topology.{Topology};
+ghost use Rattle.topology_journal.specs.Topologies.{topology_record, topologies, HasJoiners, IsTopology, MayCome};
+ghost use Rattle.topology_journal.specs.TopologyLaws.{coded_kept, comes_next as topology_comes_next, fits as topology_fits};
 
 use crate::Topology;
 use crate::reading::next_topology;
 use crate::topology::LONGEST;
-use gate_journal::{Record, RecordJournal};
+use gate_journal::{Append, Record, RecordJournal};
 use std::alloc::{AllocError, Global};
 
 /// The topology that a disk keeps, that of its last record, or none on a new disk. A record is up to 40 bytes.
@@ -22,9 +28,6 @@ pub struct Topologies {
 pub type TopologyJournal<D> = RecordJournal<D, Topologies>;
 
 impl Topologies {
-    ghost use Rattle.std.specs.Prelude.{◌≡◌, None, Some, MatchOption, IfSome};
-    ghost use Rattle.topology_journal.specs.Topologies.{IsTopology};
-
     /// The kept topology, if there is one.
     pub fn kept(&self) -> Option<&Topology>
         ensures kept { MatchOption result (self.now.kept ≡ None) (λ t. self.now.kept ≡ Some t.now) }
@@ -41,20 +44,7 @@ impl Topologies {
 }
 
 impl Record for Topologies {
-    ghost use Rattle.std.specs.Prelude.{◌≡◌, ◌≤◌, ℕ, Option, Some};
-    ghost use Rattle.std.proofs.Common.{arith, refl};
-    ghost use Rattle.gate_journal.specs.Fold.{folds_to, fails_at};
-    ghost use Rattle.gate_journal.specs.FoldLaws.{once};
-    ghost use Rattle.topology_journal.specs.declared.topology.TheConstants.{LONGEST as longest};
-    ghost use Rattle.topology_journal.specs.declared.topology.Topology.{Topology};
-    ghost use Rattle.topology_journal.specs.Topologies.{topology_record, topologies, MayCome};
-    ghost use Rattle.topology_journal.specs.TopologyLaws.{coded_kept, comes_next as topology_comes_next, fits as topology_fits};
-
     type One = Topology;
-
-    const LONGEST: u32 = LONGEST;
-
-    ghost LONGEST = { longest };
 
     ghost Kept = { Option Topology };
 
@@ -65,10 +55,6 @@ impl Record for Topologies {
     ghost keeps_once = { once topologies coded_kept };
 
     ghost kept = { λ t. t.kept };
-
-    ghost places = { λ _. 1 };
-
-    ghost takes_places = { λ _. 0 };
 
     ghost spelled = { topology_record };
 
@@ -90,6 +76,18 @@ impl Record for Topologies {
         }
     }
 
+    ghost gates_first = { λ _. refl };
+}
+
+impl Append for Topologies {
+    const LONGEST: u32 = LONGEST;
+
+    ghost LONGEST = { longest };
+
+    ghost places = { λ _. 1 };
+
+    ghost takes_places = { λ _. 0 };
+
     fn reserve(&mut self) -> Result<(), AllocError> {
         Ok(())
     }
@@ -105,6 +103,4 @@ impl Record for Topologies {
     ghost fits = { topology_fits };
 
     ghost comes_next = { topology_comes_next };
-
-    ghost gates_first = { λ _. refl };
 }
