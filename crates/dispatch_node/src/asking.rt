@@ -7,7 +7,7 @@ ghost use Rattle.turn_defs.specs.Configs.{IsOf};
 ghost use Rattle.turn_defs.specs.Dispatcher.{DispatcherKept, DispatcherLive, dispatcher_looks};
 ghost use Rattle.dispatch_core.specs.Spelled.{IsTaken};
 ghost use Rattle.dispatch_core.specs.Standing.{Carries, Stands, Takes};
-ghost use Rattle.dispatch_node.specs.Faults.{IsReadFault};
+ghost use Rattle.site_node.specs.Faults.{IsReadFault};
 ghost use Rattle.dispatch_node.specs.Kept.{kept_as};
 ghost use Rattle.dispatch_node.specs.Node.{IsAsked, Knows};
 ghost use Rattle.dispatch_node.specs.Places.{AreLivePlaces, IsLogOf};

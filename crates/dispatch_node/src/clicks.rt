@@ -8,7 +8,7 @@ ghost use Rattle.list_words.specs.Lists.{has};
 ghost use Rattle.turn_defs.specs.Setting.{Setting};
 ghost use Rattle.dispatch_core.specs.Standing.{IsLineAt, click_at, AreClicksAt};
 ghost use Rattle.dispatch_node.specs.Places.{IsLogOf, IsReadable, StartsAt};
-ghost use Rattle.dispatch_node.specs.Faults.{IsReadFault};
+ghost use Rattle.site_node.specs.Faults.{IsReadFault};
 
 use dispatch_core::TakenLine;
 use log_records::{ClickRec, Why, read_click};

@@ -1,15 +1,12 @@
 -- What a joiner is given, as the core takes it.
-use Rattle.std.proofs.Common.{◌≡◌, ℕ, Bool, true, false, [], Option, Some, None, refl, subst}
-use Rattle.std.specs.Prelude.{Result, Ok, Err, IfErr}
+use Rattle.std.proofs.Common.{◌≡◌, ℕ, Bool, true, false, [], Option, Some, None, subst}
 use Rattle.log_records.specs.declared.records.ClickRec.{ClickRec as Click}
 use Rattle.turn_defs.specs.declared.packet.Packet.TheVariants as packet
 use Rattle.turn_defs.specs.declared.node.Input.{Input}
 use Rattle.turn_defs.specs.declared.node.Input.TheVariants.{Start, Own, Tick, Deliver}
 use Rattle.turn_defs.specs.Setting.{Setting}
 use Rattle.turn_defs.specs.Joiner.{JoinerKept, JoinerLive}
-use Rattle.site_node.specs.Faults.{was_stopped}
-use Rattle.site_node.specs.declared.kind.NodeFault.{NodeFault}
-use Rattle.site_node.specs.declared.kind.NodeFault.TheVariants as fault
+use Rattle.site_node.specs.States.{Fits as MayGet}
 use Rattle.joiner_core.specs.Standing.{Serves, Stands, Carries, Tells, IsReady, Answers, row}
 use Rattle.joiner_core.specs.declared.input.Looked.{Looked}
 use Rattle.joiner_core.specs.declared.input.Looked.TheVariants.{Found, Lines}
@@ -18,7 +15,7 @@ use Rattle.joiner_core.specs.declared.input.JoinerInput.TheVariants as asked
 use Rattle.joiner_core.specs.declared.node_core.JoinerCore.{JoinerCore}
 use Rattle.joiner_core.specs.declared.turn.Turn.{Turn}
 use Rattle.joiner_node.specs.Read.{IsFirst}
-use Rattle.joiner_node.specs.Joining.{joiner_row, Knows, MayGet, GoesOn, IsOfDecision}
+use Rattle.joiner_node.specs.Joining.{joiner_row, Knows, GoesOn}
 
 -- what the log says of the query
 pub tells_of : (g : Setting) (c : Click) (looked : Looked) → IsFirst g.queries c.query looked → Tells g c looked
@@ -56,13 +53,3 @@ module _ (core : JoinerCore) (g : Setting) (n : ℕ) (k : JoinerKept) where
   decided up (Some l) Own a core' t serves knows may carries answers = let stands = up_by up l knows in let is = carries l stands in answers l (ready_of l a Own serves stands is) is
   decided up (Some l) Tick a core' t serves knows may carries answers = let stands = up_by up l knows in let is = carries l stands in answers l (ready_of l a Tick serves stands is) is
   decided up (Some l) (Deliver from p) a core' t serves knows may carries answers = let stands = up_by up l knows in let is = carries l stands in answers l (ready_of l a (Deliver from p) serves stands is) is
-
--- a turn that wasn't decided isn't stopped
-pub undecided : {T : Type 0} (r : Result T NodeFault) → IfErr r IsOfDecision → false ≡ was_stopped r
-undecided (Ok x) kind = refl
-undecided (Err fault.Stopped) kind = absurd kind
-undecided (Err (fault.Disk disk)) kind = refl
-undecided (Err (fault.Damaged disk at)) kind = refl
-undecided (Err fault.Read) kind = refl
-undecided (Err (fault.Spent epoch)) kind = refl
-undecided (Err fault.Memory) kind = refl

@@ -3,5 +3,4 @@ pub mod Reopening
 pub mod Deciding
 pub mod Turning
 pub mod Spending
-pub mod Growing
 pub mod Writing

@@ -1,12 +1,12 @@
 -- What a joiner's disks hold after a stop.
 use Rattle.std.proofs.Common.{◌≡◌, ◌⊎◌, inl, inr, ⊎_elim, ℕ, ◌+◌, Bool, true, false, List, [], ◌∷◌, length, map, Option, Some, None, refl, sym, ap, ◌∙◌, subst, arith, length-append}
-use Rattle.std.specs.Prelude.{All, IsTrue, Result, Ok}
+use Rattle.std.specs.Prelude.{All, IsTrue, Result, Ok, if◌then◌else◌}
 use Rattle.std.proofs.lemmas.Bool.Decides.{nat_tests}
 use Rattle.std.proofs.lemmas.List.Elements.{All-head, All-tail}
 use Rattle.gate_journal.specs.Gate.{gate_rule}
 use Rattle.gate_journal.specs.Spelled.{never_damaged}
 use Rattle.gate_journal.specs.declared.reading.JournalFault.{JournalFault}
-use Rattle.gate_journal.specs.declared.reading.JournalFault.TheVariants.{Damaged, Disk, Memory}
+use Rattle.gate_journal.specs.declared.reading.JournalFault.TheVariants.{Damaged}
 use Rattle.epoch_journal.specs.Epochs as epochs
 use Rattle.turn_defs.specs.declared.pair.PairRec.{PairRec}
 use Rattle.output_log.specs.Pairs.{record_of}
@@ -15,10 +15,9 @@ use Rattle.output_log.specs.Pairs as pairs
 use Rattle.turn_defs.specs.Joiner.{JoinerKept}
 use Rattle.joiner_core.specs.declared.turn.JoinerNote.{JoinerNote}
 use Rattle.joiner_core.specs.declared.turn.JoinerNote.TheVariants as notes
-use Rattle.joiner_node.specs.Disks.{EpochOr, PairsOr, AreKept, Holds, with_note, InDoubt, IsFound, counted, IsCount, has_more, IsUndamaged}
+use Rattle.joiner_node.specs.Disks.{EpochOr, PairsOr, AreKept, Holds, with_note, InDoubt, IsFound, counted, IsCount, has_more}
 use Rattle.joiner_node.specs.declared.disks.Doubt.{Doubt}
-
--- ---- the images of a disk that is read again
+use Rattle.site_node.specs.Faults.{IsUndamaged}
 
 -- ---- what is read
 
@@ -113,21 +112,14 @@ holds_read e written ps epoch_image pairs_image k is epoch_is pairs_are epoch_du
 
 module _ (e written : ℕ) (ps : List PairRec) (d : Doubt) (n : JoinerNote) (k : JoinerKept) (epoch_image pairs_image : List ℕ → Type 0) (told : Bool) (is : IsCount written ps) (doubt : InDoubt d n k) (epoch : (e ≡ k.epoch) ⊎ (e ≡ (with_note (Some n) k).epoch)) (pair : (ps ≡ k.pairs) ⊎ (ps ≡ (with_note (Some n) k).pairs)) (more : told ≡ has_more e written d)
     (epoch_durable : (c : List ℕ) → epoch_image c → epochs.Keeps e c) (kept : AreKept pairs_image ps) where
-  abbrev some_bytes : List ℕ → Option (List ℕ)
-  some_bytes b = Some b
+  abbrev told_as : Bool → Option (List ℕ)
+  told_as landed = if landed then Some d.payload else None
 
-  -- the note landed
-  pub landed : told ≡ true → IsFound (Some d.payload) n k e written epoch_image pairs_image
-  landed is_told =
-      ⊎_elim (λ old. let told_is = old.told in absurd (cc (is_told, more, told_is)))
-      (λ new. inr (ap some_bytes doubt.record_is, holds_read e written ps epoch_image pairs_image (with_note (Some n) k) is new.epoch_is new.pairs_are epoch_durable kept))
-      (reads_either e written ps d n k is doubt epoch pair)
-
-  -- nothing did
-  pub not_landed : told ≡ false → IsFound None n k e written epoch_image pairs_image
-  not_landed not_told =
-      ⊎_elim (λ old. inl (refl, holds_read e written ps epoch_image pairs_image k is old.epoch_is old.pairs_are epoch_durable kept))
-      (λ new. let told_is = new.told in absurd (cc (not_told, more, told_is)))
+  -- the note landed, or nothing did
+  pub found : IsFound (told_as told) n k e written epoch_image pairs_image
+  found =
+      ⊎_elim (λ old. inl (ap told_as (more ∙ old.told), holds_read e written ps epoch_image pairs_image k is old.epoch_is old.pairs_are epoch_durable kept))
+      (λ new. inr (ap told_as (more ∙ new.told) ∙ ap (λ (b : List ℕ). Some b) doubt.record_is, holds_read e written ps epoch_image pairs_image (with_note (Some n) k) is new.epoch_is new.pairs_are epoch_durable kept))
       (reads_either e written ps d n k is doubt epoch pair)
 
 -- ---- a disk of which each image has such records isn't damaged
@@ -136,5 +128,4 @@ pub pairs_undamaged : (k m : JoinerKept) (image : List ℕ → Type 0) (tells : 
 pairs_undamaged k m image tells old new (Damaged at) told or err =
     let bad = err told in
     ⊎_elim (λ keeps. never_damaged IsPair record_of k.pairs (gate_rule bad.0) at keeps bad.2) (λ keeps. never_damaged IsPair record_of m.pairs (gate_rule bad.0) at keeps bad.2) (or bad.0 bad.1)
-pairs_undamaged k m image tells old new Disk told or err = tt
-pairs_undamaged k m image tells old new Memory told or err = tt
+pairs_undamaged k m image tells old new _ told or err = tt

@@ -8,16 +8,16 @@ use Rattle.registry_state.specs.declared.Insert.{Insert}
 use Rattle.registry_state.specs.declared.Answer.{Answer}
 use Rattle.registry_state.specs.declared.Answer.TheVariants.{Granted, Duplicate, TooOld}
 use Rattle.air_bus.specs.declared.entry.Input.{Input as Bytes}
-use Rattle.air_bus.specs.declared.entry.Input.TheVariants as bytes
 use Rattle.air_bus.specs.declared.entry.Entry.TheVariants.{Begin, End, Stop}
 use Rattle.turn_defs.specs.declared.packet.Packet.{Packet}
 use Rattle.turn_defs.specs.declared.packet.Packet.TheVariants as packet
 use Rattle.turn_defs.specs.declared.node.Input.{Input}
 use Rattle.turn_defs.specs.declared.node.Input.TheVariants.{Start, Own, Tick, Deliver}
 use Rattle.turn_defs.specs.Setting.{Setting}
-use Rattle.turn_defs.specs.Turns.{Note, Advance, Park, Settle, Epoch, Output, Voted, Out, land}
+use Rattle.turn_defs.specs.Turns.{Note, Epoch, Out, land}
 use Rattle.site_node.specs.Bytes.{record_of, AreSpelled, Reads, IsJunk}
-use Rattle.site_node.specs.States.{State, MayTake, row, written, closes, opens}
+use Rattle.site_node.proofs.Turns.{ends_done, ends_idle}
+use Rattle.site_node.specs.States.{State, Leads, row, written, closes, opens}
 use Rattle.turn_defs.specs.declared.config.Config.{Config}
 use Rattle.turn_defs.specs.Configs.{IsOf}
 use Rattle.turn_defs.specs.Joiner.{JoinerKept, JoinerLive, Flight, land_joiner, in_flight, is_for, looks, joins, replied, joiner_gets}
@@ -30,37 +30,10 @@ use Rattle.joiner_node.specs.Read.{HasRead}
 use Rattle.joiner_node.specs.Disks.{MayHave, Holds, IsNext, with_note, bytes_of, AreInDoubt, IsFound}
 use Rattle.joiner_node.specs.Records.{recorded_as, IsAbove}
 use Rattle.joiner_node.specs.declared.records.Record.{Record}
-use Rattle.joiner_node.specs.Joining.{joiner_rows, joiner_row, Knows, MayGet}
+use Rattle.joiner_node.specs.Joining.{joiner_rows, joiner_row, Knows}
 use Rattle.joiner_node.specs.declared.disks.Doubt.{Doubt}
 use Rattle.joiner_node.specs.declared.node.ReadyTurn.{ReadyTurn}
 use Rattle.joiner_node.specs.Node.{JoinerState, LeadsTo, row_at, Parts, StandsBy, StandsAt, IsRow}
-
-pub none_of : {A : Type 0} (o : Option A) → is_some o ≡ false → o ≡ None
-none_of None off = refl
-none_of (Some x) off = absurd (cc off)
-
--- ---- what a turn begins with
-
-pub gets_of : (g : Setting) (live : Option JoinerLive) (b : Bytes) (i : Input) → Reads g b i → MayTake live b → MayGet live i
-gets_of g None bytes.Start i reads may = subst (MayGet None) (sym reads) tt
-gets_of g None bytes.Own i reads may = absurd may
-gets_of g None bytes.Tick i reads may = absurd may
-gets_of g None (bytes.Packet from p) i reads may = absurd may
-gets_of g (Some l) bytes.Start i reads may = absurd may
-gets_of g (Some l) bytes.Own i reads may = subst (MayGet (Some l)) (sym reads) tt
-gets_of g (Some l) bytes.Tick i reads may = subst (MayGet (Some l)) (sym reads) tt
-gets_of g (Some l) (bytes.Packet from p) i reads may = subst (MayGet (Some l)) (sym reads.5) tt
-
-pub record IsUp (live : Option JoinerLive) : Type 0 where
-  pub knows : JoinerLive
-  pub is : live ≡ Some knows
-
-pub up_of : (g : Setting) (live : Option JoinerLive) (b : Bytes) → MayTake live b → IsJunk g b → IsUp live
-up_of g None bytes.Start may junk = absurd (junk Start refl)
-up_of g None bytes.Own may junk = absurd may
-up_of g None bytes.Tick may junk = absurd may
-up_of g None (bytes.Packet from p) may junk = absurd may
-up_of g (Some l) b may junk = record { knows = l; is = refl }
 
 -- ---- a joiner with no record in doubt
 
@@ -90,14 +63,11 @@ led_to s t n b led =
 pub idles : (p : Parts) (epoch_image pairs_image : List ℕ → Type 0) (s t : JoinerState) (n : ℕ) (b : Bytes) (ps : List (ℕ × List ℕ)) (sent : ℕ) → p.in_doubt ≡ None → StandsAt p epoch_image pairs_image s
     → LeadsTo s (Begin n b) t → IsJunk s.node.setting b → ps ≡ [] → sent ≤ length ps → (u : JoinerState) × LeadsTo t (End n None ps sent) u × StandsAt p epoch_image pairs_image u
 idles p epoch_image pairs_image s t n b ps sent none at led junk empty le =
-    let up = up_of s.node.setting s.node.live b led.leads.1 junk in
     let known = quiet p.in_doubt p epoch_image pairs_image s none at.by in
-    let after : State JoinerKept JoinerLive = closes s.node s.node.kept (Some up.knows) in
-    let u : JoinerState = record { number = s.number; node = after } in (
+    let u : JoinerState = record { number = s.number; node = closes s.node s.node.kept s.node.live } in (
       u,
-      subst (λ (x : JoinerState). LeadsTo x (End n None ps sent) u) (led_to s t n b led)
-          (record { number = refl; leads = (b, refl, le, inr (record { junk = junk; no_note = refl; no_packets = empty; knows = up.knows; up = up.is; state = refl })) }),
-      stands_none p epoch_image pairs_image u none at.setting at.number_is at.serves at.reads known.0 (subst (λ (live : Option JoinerLive). Knows p.up p.core s.node.setting s.number s.node.kept live) up.is known.1),
+      record { number = sym led.number; leads = ends_idle (joiner_rows t.number) s.node t.node n b ps sent led.leads le junk empty },
+      stands_none p epoch_image pairs_image u none at.setting at.number_is at.serves at.reads known.0 known.1,
     )
 
 -- a turn that is done
@@ -112,26 +82,11 @@ ends p epoch_image pairs_image core s t n b i ready said ps sent led reads row s
     let is : with_note row.note s.node.kept ≡ k = ap (λ (o : Option Note). land land_joiner o s.node.kept) row.is_note in
     let u : JoinerState = record { number = s.number; node = closes s.node k (Some out.live) } in (
       u,
-      subst (λ (x : JoinerState). LeadsTo x (End n said ps sent) u) (led_to s t n b led)
-          (record {
-            number = refl;
-            leads = (
-              b,
-              refl,
-              le,
-              inl (
-                i,
-                reads,
-                record {
-                  noted = said_is ∙ noted_bytes row.note ∙ ap (option_map record_of) row.is_note;
-                  packets = ready.turn.packets.items;
-                  spelled = subst (AreSpelled ready.turn.packets.items) (sym ps_is) row.spelled;
-                  sent = row.sent;
-                  state = refl;
-                },
-              ),
-            );
-          }),
+      record {
+        number = sym led.number;
+        leads = subst (λ (m : ℕ). Leads (joiner_rows m) t.node (End n said ps sent) u.node) (sym led.number)
+            (ends_done (joiner_rows s.number) s.node t.node n b ps sent led.leads le i said ready.turn.packets.items reads (said_is ∙ noted_bytes row.note ∙ ap (option_map record_of) row.is_note) (subst (AreSpelled ready.turn.packets.items) (sym ps_is) row.spelled) row.sent);
+      },
       stands_none p epoch_image pairs_image u none of_g number serves read (subst (λ (x : JoinerKept). Holds p.epoch p.written epoch_image pairs_image x) is holds)
           (subst (λ (x : JoinerKept). Knows p.up p.core s.node.setting s.number x (Some out.live)) is knows),
     )
@@ -188,13 +143,8 @@ holds_within epoch epoch' written written' ei pi ei' pi' k e p ein pin holds = r
 
 -- a row's note is of the next epoch, or a pair
 abbrev IsNextNote : Option Note → JoinerKept → Type 0
-IsNextNote None k = ⊤
 IsNextNote (Some (Epoch e)) k = e ≡ suc k.epoch
-IsNextNote (Some (Output p)) k = ⊤
-IsNextNote (Some (Advance p)) k = ⊤
-IsNextNote (Some (Park p)) k = ⊤
-IsNextNote (Some (Settle p)) k = ⊤
-IsNextNote (Some (Voted p)) k = ⊤
+IsNextNote _ k = ⊤
 
 next_by : (k : JoinerKept) (o : Option JoinerNote) (out : Option Note) → option_map note_of o ≡ out → IsNextNote out k → IsNext o k
 next_by k None out e is = tt
@@ -268,10 +218,6 @@ stands_up up core g n k live l is knows = go up (subst (λ (x : Option JoinerLiv
     go false stands = absurd stands
 
 -- ---- a fault that is handed on
-
-pub on_err : {T E P : Type 0} (r : Result T E) → P → OnErr r P
-on_err (Ok x) p = tt
-on_err (Err e) p = p
 
 pub if_err : {T E : Type 0} (r : Result T E) (f : E) (P : E → Type 0) → IsErrAnd r (λ e. e ≡ f) → P f → IfErr r P
 if_err (Ok x) f P is p = absurd is

@@ -1,8 +1,6 @@
 -- A joiner's two disks: its epochs are on one of them, and the pairs that it wrote on the other.
 use Rattle.std.specs.Prelude.{◌≡◌, ◌⊎◌, ℕ, suc, ◌-◌, ◌^◌, ◌≤◌, min, Bool, not, ◌&&◌, ◌==◌, List, length, Option, Some, None, option_map, ⊤}
 use Rattle.gate_journal.specs.Disk.{HasRoom}
-use Rattle.gate_journal.specs.declared.reading.JournalFault.{JournalFault}
-use Rattle.gate_journal.specs.declared.reading.JournalFault.TheVariants.{Damaged, Disk, Memory}
 use Rattle.epoch_journal.specs.Epochs.{KeepsOr}
 use Rattle.epoch_journal.specs.Epochs as epochs
 use Rattle.turn_defs.specs.declared.pair.PairRec.{PairRec}
@@ -112,9 +110,3 @@ abbrev pub IsRoomFor : Option Record → Room → Type 0
 IsRoomFor None r = ⊤
 IsRoomFor (Some (written.Epoch b)) r = HasRoom r.epoch_calls r.epoch_bytes 5
 IsRoomFor (Some (written.Pair p b)) r = HasRoom r.pair_calls r.pair_bytes LONGEST
-
--- no damage was found
-abbrev pub IsUndamaged : JournalFault → Type 0
-IsUndamaged (Damaged at) = ⊥
-IsUndamaged Disk = ⊤
-IsUndamaged Memory = ⊤

@@ -4,6 +4,7 @@ use Rattle.turn_defs.specs.declared.node.Input.{Input}
 use Rattle.turn_defs.specs.declared.node.Input.TheVariants.{Start, Own, Tick, Deliver}
 use Rattle.turn_defs.specs.Setting.{Setting}
 use Rattle.turn_defs.specs.Turns.{Out}
+use Rattle.site_node.specs.Faults.{IsReadFault}
 use Rattle.site_node.specs.States.{Rows, row_of}
 use Rattle.site_node.specs.declared.kind.NodeFault.{NodeFault}
 use Rattle.site_node.specs.declared.kind.NodeFault.TheVariants as fault
@@ -27,17 +28,6 @@ Knows true core g n k None = ⊥
 Knows false core g n k (Some l) = ⊥
 Knows false core g n k None = ⊤
 
--- a joiner that is down takes Start, and one that is up doesn't
-abbrev pub MayGet : Option JoinerLive → Input → Type 0
-MayGet None Start = ⊤
-MayGet None Own = ⊥
-MayGet None Tick = ⊥
-MayGet None (Deliver n p) = ⊥
-MayGet (Some l) Start = ⊥
-MayGet (Some l) Own = ⊤
-MayGet (Some l) Tick = ⊤
-MayGet (Some l) (Deliver n p) = ⊤
-
 -- but for a Start, the core stands for what is kept and known
 abbrev pub GoesOn : JoinerCore → Setting → ℕ → JoinerKept → JoinerLive → Input → Type 0
 GoesOn core g n k l Start = ⊤
@@ -48,20 +38,7 @@ GoesOn core g n k l (Deliver from p) = Stands core g n k l
 abbrev pub asked_start : ℕ → JoinerInput
 asked_start e = asked.Start e
 
--- why a query isn't looked up
-abbrev pub IsLookFault : NodeFault → Type 0
-IsLookFault fault.Stopped = ⊥
-IsLookFault (fault.Disk disk) = ⊥
-IsLookFault (fault.Damaged disk at) = ⊥
-IsLookFault fault.Read = ⊤
-IsLookFault (fault.Spent epoch) = ⊥
-IsLookFault fault.Memory = ⊤
-
 -- why a turn isn't decided
 abbrev pub IsOfDecision : NodeFault → Type 0
-IsOfDecision fault.Stopped = ⊥
-IsOfDecision (fault.Disk disk) = ⊥
-IsOfDecision (fault.Damaged disk at) = ⊥
-IsOfDecision fault.Read = ⊤
 IsOfDecision (fault.Spent epoch) = ⊤
-IsOfDecision fault.Memory = ⊤
+IsOfDecision f = IsReadFault f

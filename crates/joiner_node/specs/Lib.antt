@@ -4,4 +4,3 @@ pub mod Disks
 pub mod Joining
 pub mod Node
 pub mod States
-pub mod Refused

@@ -48,9 +48,7 @@ KeepsOf s c = (k : JoinerKept) × MayHold (joiner_rows s.number) s.node k × OnD
 -- the kept epoch, where it is the last one and the joiner is to start
 abbrev pub spends_of : JoinerState → Bytes → Option ℕ
 spends_of s bytes.Start = if s.node.kept.epoch == LAST_EPOCH then Some s.node.kept.epoch else None
-spends_of s bytes.Own = None
-spends_of s bytes.Tick = None
-spends_of s (bytes.Packet from b) = None
+spends_of s _ = None
 
 -- a note of the open turn's row may have landed
 pub record IsOpenAt (d : Doubt) (epoch_image pairs_image : List ℕ → Type 0) (s : JoinerState) : Type 0 where

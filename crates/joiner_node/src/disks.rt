@@ -2,18 +2,14 @@
 ghost use Rattle.std.specs.Prelude.{◌≡◌, None};
 ghost use Rattle.ballot_core.specs.declared.TheConstants.{LAST_EPOCH};
 ghost use Rattle.gate_journal.specs.declared.journal.JournalState.TheVariants.{Ready};
-ghost use Rattle.gate_journal.specs.Fault.{is_of_disk};
-ghost use Rattle.site_node.specs.Faults.{was_shut_out, IsOfRestart, IsWhole};
-ghost use Rattle.joiner_node.specs.Disks.{IsUndamaged};
-ghost use Rattle.joiner_node.specs.Refused.{refused_as};
 
 use crate::records::Record;
 use air_bus::Payload;
 use epoch_journal::{EpochJournal, raise};
-use gate_journal::{Journal, JournalFault};
+use gate_journal::Journal;
 use output_log::{LONGEST, OutputLog, Outputs, laws};
 use outside::{Disk, DiskName};
-use site_node::NodeFault;
+use site_node::{NodeFault, fault_of, told_note};
 use std::alloc::{AllocError, Global};
 use turn_defs::PairRec;
 
@@ -215,14 +211,13 @@ impl<D: Disk> Disks<D> {
         ensures plan { IsTrue D.tells → MeetsPlan D.stops D.made D.faults 4 (is_err result) self.old.log.disk self.new.log.disk }
         ensures count { D.faults self.old.log.disk ≤ D.faults self.new.log.disk }
     {
-        let doubt = self.doubt(payload);
-        match self.log.append(doubt.payload.as_slice()) {
+        match self.log.append(payload.as_slice()) {
             Ok(()) => {
                 self.written = self.written.saturating_add(1);
-                Ok(Some(doubt.payload))
+                Ok(Some(payload))
             }
             Err(_) => {
-                self.in_doubt = Some(doubt);
+                self.in_doubt = Some(self.doubt(payload));
                 Err(NodeFault::Stopped)
             }
         }
@@ -252,11 +247,8 @@ impl<D: Disk> Disks<D> {
         let Some(doubt) = self.in_doubt.take() else {
             return Ok(None);
         };
-        if self.has_more(&doubt) {
-            Ok(Some(doubt.payload))
-        } else {
-            Ok(None)
-        }
+        let landed = self.has_more(&doubt);
+        Ok(told_note(landed, Some(doubt.payload)))
     }
 
     // Whether the journals have more than was kept before the record in doubt.
@@ -306,19 +298,5 @@ impl<D: Disk> Disks<D> {
             }
             Err(fault) => Err(fault_of(DiskName::Output(self.site, self.joiner), fault)),
         }
-    }
-}
-
-// The same for the joiner.
-fn fault_of(disk: DiskName, fault: JournalFault) -> NodeFault
-    ensures kind { IsOfRestart result }
-    ensures whole { IsUndamaged fault → IsWhole result }
-    ensures disk { (d : _) → result ≡ NodeFault.Disk d → fault ≡ JournalFault.Disk }
-    ensures shut { is_of_disk fault ≡ was_shut_out (refused_as result) }
-{
-    match fault {
-        JournalFault::Damaged { at } => NodeFault::Damaged { disk, at },
-        JournalFault::Disk => NodeFault::Disk(disk),
-        JournalFault::Memory => NodeFault::Memory,
     }
 }

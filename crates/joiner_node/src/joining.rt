@@ -32,11 +32,13 @@ impl<L: LogFile> Joining<L> {
     ghost use Rattle.turn_defs.specs.Setting.{Setting, site_of_joiner};
     ghost use Rattle.turn_defs.specs.Turns.{land};
     ghost use Rattle.site_node.specs.Bytes.{IsInput};
+    ghost use Rattle.site_node.specs.Faults.{IsReadFault};
+    ghost use Rattle.site_node.specs.States.{Fits as MayGet};
     ghost use Rattle.turn_defs.specs.Joiner.{JoinerKept, JoinerLive};
     ghost use Rattle.joiner_core.specs.Spelled.{IsTaken, IsTold, IsSpelled};
     ghost use Rattle.joiner_core.specs.Standing.{Serves, Stands, IsSame, CanStart, Carries, Tells, Fits, Leads, Answers, needs_look_up};
     ghost use Rattle.joiner_node.specs.Read.{HasRead};
-    ghost use Rattle.joiner_node.specs.Joining.{Knows, MayGet, GoesOn, joiner_row, IsLookFault, IsOfDecision};
+    ghost use Rattle.joiner_node.specs.Joining.{Knows, GoesOn, joiner_row, IsOfDecision};
 
     // A joiner that is down, and has read nothing of the log.
     pub(crate) fn new(
@@ -157,7 +159,7 @@ impl<L: LogFile> Joining<L> {
         ensures carries { IsTrue L.tells → IfOk result (λ asked. (g : Setting) (n : ℕ) (k : JoinerKept) (l : JoinerLive) →
             HasRead (L.bytes self.old.queries.store.tail.log) self.old.queries.store.tail.place g.queries →
             Stands self.old.core g n k l → Carries g k l asked (Deliver from packet)) }
-        ensures kind { IfErr result IsLookFault }
+        ensures kind { IfErr result IsReadFault }
         ensures fault { IsErrOf result NodeFault.Read → Rose (L.faults self.old.queries.store.tail.log) (L.faults self.new.queries.store.tail.log) }
         ensures count { L.faults self.old.queries.store.tail.log ≤ L.faults self.new.queries.store.tail.log }
     {
@@ -183,7 +185,7 @@ impl<L: LogFile> Joining<L> {
         ensures tells { IsTrue L.tells → IfOk result (λ looked. (g : Setting) (n : ℕ) (k : JoinerKept) (l : JoinerLive) →
             HasRead (L.bytes self.old.queries.store.tail.log) self.old.queries.store.tail.place g.queries →
             Stands self.old.core g n k l → needs_look_up l click.now.id ≡ true → Tells g click.now looked) }
-        ensures kind { IfErr result IsLookFault }
+        ensures kind { IfErr result IsReadFault }
         ensures fault { IsErrOf result NodeFault.Read → Rose (L.faults self.old.queries.store.tail.log) (L.faults self.new.queries.store.tail.log) }
         ensures count { L.faults self.old.queries.store.tail.log ≤ L.faults self.new.queries.store.tail.log }
     {

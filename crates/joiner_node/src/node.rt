@@ -52,13 +52,14 @@ impl<L: LogFile, D: Disk> JoinerNode<L, D> {
     ghost use Rattle.site_node.specs.Bytes.{IsInput};
     ghost use Rattle.turn_defs.specs.Configs.{IsOf};
     ghost use Rattle.site_node.specs.Faults.{was_stopped, MeetsBoth};
+    ghost use Rattle.site_node.specs.States.{Fits as MayGet};
     ghost use Rattle.turn_defs.specs.Joiner.{JoinerKept, JoinerLive};
     ghost use Rattle.joiner_core.specs.Standing.{Serves, IsSame, Fits, Leads};
     ghost use Rattle.joiner_core.specs.declared.turn.JoinerNote.{JoinerNote};
     ghost use Rattle.joiner_node.specs.Read.{HasRead};
     ghost use Rattle.joiner_node.specs.Disks.{EpochOr, PairsOr, Holds, IsNext, with_note, bytes_of, AreInDoubt, counted, IsRoomFor};
     ghost use Rattle.joiner_node.specs.Records.{recorded_as, IsOwn, IsUnspent};
-    ghost use Rattle.joiner_node.specs.Joining.{Knows, MayGet, joiner_row, IsOfDecision};
+    ghost use Rattle.joiner_node.specs.Joining.{Knows, joiner_row, IsOfDecision};
     ghost use Rattle.joiner_node.specs.Node.{StandsAt, IsRow, down_over};
 
     /// The joiner of this place at this site, down, over its opened journals and the query log. Hands journals and log

@@ -39,6 +39,12 @@ IsOfTurn (Disk disk) = ⊥
 IsOfTurn (Damaged disk at) = ⊥
 IsOfTurn _ = Unit {0}
 
+-- a log couldn't be read, or there was no memory
+abbrev pub IsReadFault : NodeFault → Type 0
+IsReadFault Read = ⊤
+IsReadFault Memory = ⊤
+IsReadFault _ = ⊥
+
 -- a restart isn't stopped itself, reads no log and raises no epoch
 abbrev pub IsOfRestart : NodeFault → Type 0
 IsOfRestart Stopped = ⊥

@@ -1,15 +1,15 @@
-use Rattle.std.proofs.Common.{◌≡◌, Some, refl, false, ap, subst, rules}
+use Rattle.std.proofs.Common.{◌≡◌, List, ℕ, Some, refl, false, ap, sym, subst, rules}
 use Rattle.std.specs.Prelude.{Option}
 use Rattle.gate_journal.specs.declared.journal.JournalState.TheVariants.{Ready}
-use Rattle.joiner_node.specs.Disks.{AreInDoubt, with_note}
+use Rattle.joiner_node.specs.Disks.{AreInDoubt, IsFound, with_note}
 use Rattle.joiner_node.specs.declared.disks.Doubt.{Doubt}
-use Rattle.joiner_node.proofs.Reopening.{epoch_left, pairs_left, landed, not_landed}
+use Rattle.joiner_node.proofs.Reopening.{epoch_left, pairs_left, found}
 use Rattle.site_node.specs.Faults.{was_shut_out}
 use Rattle.site_node.proofs.Stops.{first_meets, one_by_one}
 use Rattle.joiner_node.proofs.disks.Disks.reopen.Goals as goal
 
-pub returns-then-has_more-clause-found : goal.returns-then-has_more-clause-found
-returns-then-has_more-clause-found g c tells k n doubt images =
+pub returns-clause-found : goal.returns-clause-found
+returns-clause-found g c tells k n doubt images =
     let e = c.in_ok-reopen_epochs.ensures in
     let l = c.in_ok-reopen_log.ensures in
     let new = c.reopen_log.new.self in
@@ -18,34 +18,17 @@ returns-then-has_more-clause-found g c tells k n doubt images =
     let is : c.args.self.now.in_doubt ≡ Some c.in-Some.doubt = let a = e.same.2 in let b = l.same.2 in let v = c.take.ensures.value in let at = c.in-Some.is in cc (a, b, v, at) in
     let m = with_note (Some n) k in
     let read = l.read tells in
-    landed new.epochs.value.epoch new.written read.0 c.in-Some.doubt n k _ _ c.has_more.result read.1.count (subst (λ (o : Option Doubt). AreInDoubt o (Some n) k) is doubt)
+    subst (λ (o : Option (List ℕ)). IsFound o n k new.epochs.value.epoch new.written _ _) (sym c.told_note.ensures)
+    (found new.epochs.value.epoch new.written read.0 c.in-Some.doubt n k _ _ c.has_more-landed.result read.1.count (subst (λ (o : Option Doubt). AreInDoubt o (Some n) k) is doubt)
     (epoch_left k m _ new.epochs.value.epoch images.epochs_or (rw (← same) at (e.left tells)))
     (pairs_left c.told_apart.ensures k m _ read.0 images.pairs_or (rw e.same.3 at read.1.left))
-    c.has_more.ensures (λ b here. new.epochs.durable tells ready b here) read.1.kept c.if-has_more.true
-
-pub returns-else-has_more-clause-found : goal.returns-else-has_more-clause-found
-returns-else-has_more-clause-found g c tells k n doubt images =
-    let e = c.in_ok-reopen_epochs.ensures in
-    let l = c.in_ok-reopen_log.ensures in
-    let new = c.reopen_log.new.self in
-    let same = l.same.3 in
-    let ready : new.epochs.journal.state ≡ Ready = let was = e.ready in cc (same, was) in
-    let is : c.args.self.now.in_doubt ≡ Some c.in-Some.doubt = let a = e.same.2 in let b = l.same.2 in let v = c.take.ensures.value in let at = c.in-Some.is in cc (a, b, v, at) in
-    let m = with_note (Some n) k in
-    let read = l.read tells in
-    not_landed new.epochs.value.epoch new.written read.0 c.in-Some.doubt n k _ _ c.has_more.result read.1.count (subst (λ (o : Option Doubt). AreInDoubt o (Some n) k) is doubt)
-    (epoch_left k m _ new.epochs.value.epoch images.epochs_or (rw (← same) at (e.left tells)))
-    (pairs_left c.told_apart.ensures k m _ read.0 images.pairs_or (rw e.same.3 at read.1.left))
-    c.has_more.ensures (λ b here. new.epochs.durable tells ready b here) read.1.kept c.if-has_more.false
+    c.has_more-landed.ensures (λ b here. new.epochs.durable tells ready b here) read.1.kept)
 
 pub returns-in_err-reopen_log-clause-pair_grows : goal.returns-in_err-reopen_log-clause-pair_grows
 returns-in_err-reopen_log-clause-pair_grows g c tells b here = rw c.in_ok-reopen_epochs.ensures.same.3 at (c.in_err-reopen_log.ensures.grows tells b here)
 
-pub returns-then-has_more-clause-pair_grows : goal.returns-then-has_more-clause-pair_grows
-returns-then-has_more-clause-pair_grows g c tells b here = rw c.in_ok-reopen_epochs.ensures.same.3 at (c.in_ok-reopen_log.ensures.grows tells b here)
-
-pub returns-else-has_more-clause-pair_grows : goal.returns-else-has_more-clause-pair_grows
-returns-else-has_more-clause-pair_grows g c tells b here = rw c.in_ok-reopen_epochs.ensures.same.3 at (c.in_ok-reopen_log.ensures.grows tells b here)
+pub returns-clause-pair_grows : goal.returns-clause-pair_grows
+returns-clause-pair_grows g c tells b here = rw c.in_ok-reopen_epochs.ensures.same.3 at (c.in_ok-reopen_log.ensures.grows tells b here)
 
 pub returns-in_err-reopen_epochs-clause-plan : goal.returns-in_err-reopen_epochs-clause-plan
 returns-in_err-reopen_epochs-clause-plan g c planned =
@@ -67,18 +50,8 @@ returns-in_err-reopen_log-clause-plan g c planned =
     let same : was_shut_out c.reopen_log.result ≡ was_shut_out c.from_residual-in_err-reopen_log.result = search rules in
     one_by_one d.stops d.made d.faults 3 _ _ old.epochs.journal.disk old.log.disk new.epochs.journal.disk new.log.disk same (rw (← stays) at (e.plan planned)) (rw e.same.3 at (l.plan planned))
 
-pub returns-then-has_more-clause-plan : goal.returns-then-has_more-clause-plan
-returns-then-has_more-clause-plan g c planned =
-    let d = g.D.Disk in
-    let e = c.in_ok-reopen_epochs.ensures in
-    let l = c.in_ok-reopen_log.ensures in
-    let same = l.same.3 in
-    let old = c.args.self.now in
-    let new = c.reopen_log.new.self in
-    one_by_one d.stops d.made d.faults 3 false false old.epochs.journal.disk old.log.disk new.epochs.journal.disk new.log.disk refl (rw (← same) at (e.plan planned)) (rw e.same.3 at (l.plan planned))
-
-pub returns-else-has_more-clause-plan : goal.returns-else-has_more-clause-plan
-returns-else-has_more-clause-plan g c planned =
+pub returns-clause-plan : goal.returns-clause-plan
+returns-clause-plan g c planned =
     let d = g.D.Disk in
     let e = c.in_ok-reopen_epochs.ensures in
     let l = c.in_ok-reopen_log.ensures in

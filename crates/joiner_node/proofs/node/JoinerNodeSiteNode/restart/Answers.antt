@@ -3,7 +3,8 @@ use Rattle.site_node.specs.Faults.{was_shut_out, IsWhole, MeetsBoth}
 use Rattle.joiner_node.specs.Node.{Parts}
 use Rattle.joiner_node.specs.Disks.{with_note}
 use Rattle.joiner_node.specs.States.{keeps_open}
-use Rattle.joiner_node.proofs.Turning.{both_tell, restarts, waits_still, between, on_err, if_err}
+use Rattle.joiner_node.proofs.Turning.{both_tell, restarts, waits_still, between, if_err}
+use Rattle.site_node.proofs.Turns.{on_err}
 use Rattle.joiner_node.proofs.node.JoinerNodeSiteNode.restart.Goals as goal
 
 pub returns-clause-stopped : goal.returns-clause-stopped

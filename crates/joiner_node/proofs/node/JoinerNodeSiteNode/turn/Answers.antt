@@ -1,15 +1,15 @@
-use Rattle.std.proofs.Common.{◌≡◌, Err, sym, ap, ◌∙◌, subst, refl, false, ⊎_elim, inl}
+use Rattle.std.proofs.Common.{◌≡◌, Err, sym, ap, ◌∙◌, subst, refl, false, rules, ⊎_elim, inl}
 use Rattle.site_node.specs.declared.kind.NodeFault.TheVariants as fault
 use Rattle.joiner_node.specs.Node.{Parts, JoinerState, KeepsOf}
-use Rattle.joiner_node.specs.Joining.{IsOfDecision}
 use Rattle.joiner_node.specs.Disks.{with_note}
 use Rattle.joiner_node.specs.States.{keeps_open}
 use Rattle.std.proofs.lemmas.Result.{err_from_is_err_and}
-use Rattle.joiner_node.proofs.Growing.{same_grows, then_grows}
 use Rattle.joiner_node.proofs.Spending.{spends, starts, spent_junk}
-use Rattle.joiner_node.proofs.Turning.{none_of, gets_of, quiet, idles, ends, stays_open, all_five, both_err, both_tell, serves_of, serves_same, config_same, holds_within, next_of, led_to, if_err}
-use Rattle.joiner_node.proofs.Deciding.{undecided}
+use Rattle.joiner_node.proofs.Turning.{quiet, idles, ends, stays_open, all_five, both_err, both_tell, serves_of, serves_same, config_same, holds_within, next_of, led_to}
+use Rattle.gate_journal.proofs.Growth.{continues_same}
 use Rattle.site_node.proofs.Stops.{one_by_one, both_meet}
+use Rattle.site_node.proofs.Turns.{fits_of, none_of, turn_grown}
+use Rattle.site_node.specs.Faults.{was_stopped}
 use Rattle.joiner_node.proofs.node.JoinerNodeSiteNode.turn.Goals as goal
 
 pub returns-in-None-clause-done : goal.returns-in-None-clause-done
@@ -30,7 +30,7 @@ returns-after-is_some-clause-done g c tells s t at led =
     let i = c.in-Some.input in
     let known = quiet old.disks.in_doubt _ _ _ s (none_of old.disks.in_doubt c.requires.up) at.by in
     let reads = rw c.in-Some.is at (c.in_ok-read_input.ensures.reads set at.setting) in
-    let gets = gets_of set s.node.live b i reads led.leads.1 in
+    let gets = fits_of set s.node.live b i reads led.leads.1 in
     let e = c.in_ok-ready-in-Some.ensures in
     let f = c.finish.ensures in
     let ready = c.in_ok-ready-in-Some.ready in
@@ -56,7 +56,7 @@ returns-after-is_some-clause-open g c tells s t at led =
     let i = c.in-Some.input in
     let known = quiet old.disks.in_doubt _ _ _ s (none_of old.disks.in_doubt c.requires.up) at.by in
     let reads = rw c.in-Some.is at (c.in_ok-read_input.ensures.reads set at.setting) in
-    let gets = gets_of set s.node.live b i reads led.leads.1 in
+    let gets = fits_of set s.node.live b i reads led.leads.1 in
     let e = c.in_ok-ready-in-Some.ensures in
     let f = c.finish.ensures in
     let row = e.row told.1 set s.number k s.node.live at.reads at.serves known.1 known.0.epoch_is gets in
@@ -80,7 +80,7 @@ returns-after-is_some-clause-moments g c tells s t at led bytes left =
     let i = c.in-Some.input in
     let known = quiet old.disks.in_doubt _ _ _ s (none_of old.disks.in_doubt c.requires.up) at.by in
     let reads = rw c.in-Some.is at (c.in_ok-read_input.ensures.reads set at.setting) in
-    let gets = gets_of set s.node.live b i reads led.leads.1 in
+    let gets = fits_of set s.node.live b i reads led.leads.1 in
     let e = c.in_ok-ready-in-Some.ensures in
     let f = c.finish.ensures in
     let row = e.row told.1 set s.number k s.node.live at.reads at.serves known.1 known.0.epoch_is gets in
@@ -94,16 +94,15 @@ returns-after-is_some-clause-moments g c tells s t at led bytes left =
 pub returns-after-is_some-clause-grown : goal.returns-after-is_some-clause-grown
 returns-after-is_some-clause-grown g c tells s at =
     let told = both_tell _ _ tells in
-    let e = c.in_ok-ready-in-Some.ensures in (
-      then_grows _ _ _ (e.epoch_moments told.0).now (c.finish.ensures.epoch_grows told.0),
-      then_grows _ _ _ (e.pair_moments told.0).now (c.finish.ensures.pair_grows told.0),
-    )
+    let e = c.in_ok-ready-in-Some.ensures in
+    let d = g.D.Disk in
+    (turn_grown d.image d.since _ _ _ (e.epoch_moments told.0) (c.finish.ensures.epoch_grows told.0), turn_grown d.image d.since _ _ _ (e.pair_moments told.0) (c.finish.ensures.pair_grows told.0))
 
 pub returns-in_err-ready-in-Some-clause-grown : goal.returns-in_err-ready-in-Some-clause-grown
 returns-in_err-ready-in-Some-clause-grown g c tells s at =
     let told = both_tell _ _ tells in
     let e = c.in_err-ready-in-Some.ensures in
-    (same_grows _ _ (e.epoch_moments told.0).now, same_grows _ _ (e.pair_moments told.0).now)
+    (λ b here. continues_same _ b ((e.epoch_moments told.0).now b here), λ b here. continues_same _ b ((e.pair_moments told.0).now b here))
 
 pub returns-in_err-ready-in-Some-clause-spent : goal.returns-in_err-ready-in-Some-clause-spent
 returns-in_err-ready-in-Some-clause-spent g c s at epoch is =
@@ -141,5 +140,5 @@ returns-in_err-ready-in-Some-clause-plan g c planned =
     let room = e.plan (g.met.D.Disk.plan_told planned) in
     let old = c.args.self.now.disks in
     let mid = c.prepare.new.self.disks in
-    let kind = if_err c.from_residual-in_err-ready-in-Some.result c.in_err-ready-in-Some.field-0.0 IsOfDecision c.from_residual-in_err-ready-in-Some.ensures.1 e.kind in
-    one_by_one d.stops d.made d.faults 0 false _ old.epochs.journal.disk old.log.disk mid.epochs.journal.disk mid.log.disk (undecided _ kind) room.0 room.1
+    let same : false ≡ was_stopped c.from_residual-in_err-ready-in-Some.result = search rules in
+    one_by_one d.stops d.made d.faults 0 false _ old.epochs.journal.disk old.log.disk mid.epochs.journal.disk mid.log.disk same room.0 room.1
