@@ -5,23 +5,16 @@ use Rattle.gate_journal.specs.Records.{Read}
 use Rattle.gate_journal.specs.Records as of
 use Rattle.gate_journal.specs.declared.reading.JournalFault.{JournalFault}
 use Rattle.gate_journal.specs.Spelled as spelled
+pub use Rattle.packet_codec.specs.Notes.{pair as record_of, pair_fields as fields_of}
 use Rattle.registry_state.specs.declared.Token.{Token}
 use Rattle.log_records.specs.declared.records.ClickRec.{ClickRec}
 use Rattle.log_records.specs.declared.records.QueryRec.{QueryRec}
-use Rattle.turn_defs.specs.Spellings.{click, query, token, IsPair}
+use Rattle.turn_defs.specs.Spellings.{IsPair}
 use Rattle.turn_defs.specs.declared.pair.PairRec.{PairRec}
 
 -- a click with its query, under a token
 abbrev pub pair_of : ClickRec → QueryRec → Token → PairRec
 pair_of c q t = record { click = c; query = q; token = t }
-
--- the fields of a pair, one behind the other
-abbrev pub fields_of : PairRec → List ℕ
-fields_of p = click p.click ++ (query p.query ++ token p.token)
-
--- the record of a pair: its tag and its fields
-abbrev pub record_of : PairRec → List ℕ
-record_of p = 6 ∷ fields_of p
 
 -- no pair has this record
 abbrev pub IsOther : List ℕ → Type 0

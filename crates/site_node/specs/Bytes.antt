@@ -3,12 +3,11 @@ use Rattle.std.specs.Prelude.{◌≡◌, ℕ, List, map, Option, option_map, Som
 use Rattle.std.specs.List.{All}
 use Rattle.paxos_defs.specs.Notes.Note.{Promised, Accepted}
 use Rattle.paxos_acceptor.specs.declared.notes.ReplicaNote.TheVariants as replica
-use Rattle.packet_codec.specs.Notes.{note}
+use Rattle.packet_codec.specs.Notes.{note, pair}
 use Rattle.offset_journal.specs.Offsets.{offset_record}
 use Rattle.epoch_journal.specs.Epochs.{epoch_record}
 use Rattle.retry_log.specs.declared.changing.Change.TheVariants as change
 use Rattle.retry_log.specs.Pending as pending
-use Rattle.output_log.specs.Pairs as pairs
 use Rattle.turn_defs.specs.declared.packet.Packet.{Packet}
 use Rattle.turn_defs.specs.declared.node.Node.{Node}
 use Rattle.turn_defs.specs.declared.node.Input.{Input}
@@ -26,7 +25,7 @@ record_of (Advance e) = offset_record e
 record_of (Park p) = pending.record_of (change.Park p)
 record_of (Settle p) = pending.record_of (change.Settle p)
 record_of (Epoch e) = epoch_record e
-record_of (Output p) = pairs.record_of p
+record_of (Output p) = pair p
 record_of (Voted (Promised at b)) = note (replica.Promised at.shard at.slot b)
 record_of (Voted (Accepted at b v)) = note (replica.Accepted at.shard at.slot b v)
 
