@@ -14,12 +14,9 @@ pub use Rattle.dispatch_node.specs.Images.{KeptOn, OnDisks, kept_or, one_of}
 pub use Rattle.dispatch_node.specs.Kept.{Holds, MayKeep, kept_as, landed, takes_note, takes_or_none}
 pub use Rattle.dispatch_node.specs.Node.{DispatcherState, Doubts, IsAsked, IsOpenAt, IsRecorded, IsTakenBy, Knows, Parts, SiteLeads, StandsAt, StandsBy, dispatcher_rows, landed_by}
 pub use Rattle.dispatch_node.specs.Places.{AreKeptPlaces, AreLivePlaces, IsEntry, IsLogOf, IsReadable, StartsAt}
-pub use Rattle.gate_journal.proofs.Growth.{continues_same, continues_through}
+pub use Rattle.gate_journal.proofs.Growth.{continues_same}
 pub use Rattle.gate_journal.specs.Fold.{Fold, fails_at, folds_to, read_as}
-pub use Rattle.gate_journal.specs.Gate.{gate_rule}
-pub use Rattle.gate_journal.specs.Growth.{Continues}
 pub use Rattle.gate_journal.specs.Opening.{IsOpened}
-pub use Rattle.gate_journal.specs.Records.{Read as Payloads}
 pub use Rattle.gate_journal.specs.declared.reading.JournalFault.{JournalFault}
 pub use Rattle.indexmap.specs.IndexSet.{contains}
 pub use Rattle.list_words.proofs.Lists.{clash, each_append, has_push-false, has_push-left, has_push-or, has_push-right, has_without, has_without-false, has_without-self, has_without-true, option_both}
@@ -35,8 +32,6 @@ pub use Rattle.log_records.specs.Lines.{ClickLine, Follow, IsBoundary, at, end_f
 pub use Rattle.log_records.specs.Log.{line_feed}
 pub use Rattle.log_records.specs.declared.records.ClickRec.{ClickRec as Click}
 pub use Rattle.outside.specs.Disk.{Throughout}
-pub use Rattle.outside.specs.Faults.{Rose}
-pub use Rattle.outside.specs.declared.store.DiskName.{DiskName}
 pub use Rattle.retry_log.specs.Pending.{KeepsOr}
 pub use Rattle.retry_log.specs.declared.retries.Retries.{Retries}
 pub use Rattle.site_node.proofs.Turns.{ends_done, ends_idle, none_of, on_err, turn_grown}
@@ -44,7 +39,6 @@ pub use Rattle.site_node.specs.Bytes.{AreSpelled, IsJunk, Reads, record_of}
 pub use Rattle.site_node.specs.Faults.{IsUndamaged}
 pub use Rattle.site_node.specs.States.{Leads, MayTake, State, closes, row, row_of, written}
 pub use Rattle.site_node.specs.declared.kind.NodeFault.{NodeFault}
-pub use Rattle.site_node.specs.declared.kind.NodeFault.TheVariants.{Damaged, Disk, Memory}
 pub use Rattle.std.proofs.Math.Seq.{drop-append_seam}
 pub use Rattle.std.proofs.lemmas.Bool.{and_parts, cond_both, eq-eqb, eqb-true, le-ltb, lt-ltb, not-true, or_cases, or_left, or_right}
 pub use Rattle.std.proofs.lemmas.Cmp.{nat_eq_equiv}
@@ -52,7 +46,6 @@ pub use Rattle.std.proofs.lemmas.List.{take_all, take_more}
 pub use Rattle.std.proofs.lemmas.Result.{IfOk-weaker, on_ok_weaker}
 pub use Rattle.std.specs.List.{AllByRecursion}
 pub use Rattle.std.specs.Option.{option_map}
-pub use Rattle.std.specs.Result.{result_unwrap_or}
 pub use Rattle.std.specs.Set.{remove_key}
 pub use Rattle.tail_reader.specs.Buffered.{behind}
 pub use Rattle.tail_reader.specs.Next.{IsNext}

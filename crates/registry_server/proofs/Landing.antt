@@ -1,7 +1,7 @@
 -- What a server over its disk stands for.
 use Rattle.std.proofs.Common.{◌≡◌, ◌⊎◌, inl, inr, ⊎_elim, ℕ, ◌+◌, ◌==◌, Bool, true, false, cond, List, Option, Some, None, refl, sym, ap, ◌∙◌, subst}
 use Rattle.std.specs.Prelude.{is_some, option_map}
-use Rattle.registry_server.proofs.Words.{none_of, LAST_EPOCH, cond-true, true≢false, KeepsOr, IsLeft, JournalState, Bytes, Input, Start, Own, Tick, Setting, record_of, Reads, IsJunk, NodeFault, Config, IsOf, ServerKept, ServerLive, Stands, note_of, SiteKept, RegistrarView, ServesSite, Knows, KnowsAs, landed, site_of, Turn, ServerCore, ServerNote, ServerState, recorded, Holds, StandsAt, StandsBy, is_spent_at, spent_at, IsNotPrepared}
+use Rattle.registry_server.proofs.Words.{none_of, LAST_EPOCH, cond-true, true≢false, KeepsOr, IsLeft, JournalState, Bytes, Input, Start, Setting, record_of, Reads, IsJunk, NodeFault, Config, IsOf, ServerKept, ServerLive, Stands, note_of, SiteKept, RegistrarView, ServesSite, Knows, KnowsAs, landed, site_of, Turn, ServerCore, ServerNote, ServerState, recorded, Holds, StandsAt, StandsBy, is_spent_at, spent_at, IsNotPrepared}
 use Rattle.air_bus.specs.declared.entry.Input.TheVariants as bytes
 use Rattle.site_node.specs.declared.kind.NodeFault.TheVariants as fault
 use Rattle.registry_server.specs.declared.turn.ServerNote.TheVariants as notes

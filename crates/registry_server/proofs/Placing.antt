@@ -1,5 +1,5 @@
 -- Lists of shards that stand for the states of their numbers, changed in one place.
-use Rattle.std.proofs.Common.{◌≡◌, ℕ, ◌+◌, ◌<◌, ◌≤◌, false, List, [], ◌∷◌, ◌++◌, length, take, drop, get_or, set, refl, sym, ap, ◌∙◌, subst, ⊎_elim, arith}
+use Rattle.std.proofs.Common.{◌≡◌, ℕ, ◌+◌, ◌<◌, ◌≤◌, false, List, [], ◌++◌, length, take, drop, get_or, set, refl, sym, ap, ◌∙◌, subst, ⊎_elim, arith}
 use Rattle.registry_server.proofs.Words.{cases_eq, get_or-set_same, get_or-set_other, length-set, append-nil, take_all, drop_all, ShardState, IsShard, EachStands, Shard}
 
 -- one shard in the place of another, which stands for whatever that one stands for

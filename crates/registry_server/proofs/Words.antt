@@ -60,23 +60,22 @@ pub use Rattle.registry_state.specs.declared.Token.{Token}
 pub use Rattle.site_node.proofs.Turns.{ends_done, ends_idle, fits_of, none_of, on_err, sent_ok, turn_grown, turn_moments}
 pub use Rattle.site_node.specs.Bytes.{AreSpelled, IsInput, IsJunk, Reads, record_of}
 pub use Rattle.turn_defs.specs.Configs.{IsOf}
-pub use Rattle.site_node.specs.States.{Fits, Leads, MayTake, Stops, closes, row, row_of, written}
+pub use Rattle.site_node.specs.States.{Fits, Leads, closes, row, row_of, written}
 pub use Rattle.site_node.specs.declared.kind.NodeFault.{NodeFault}
 pub use Rattle.turn_defs.specs.declared.config.Config.{Config}
-pub use Rattle.std.proofs.lemmas.Bool.{and_cases, and_from, and_left, and_parts, and_right, cases_eq, cases_lt, cond-false, cond-true, cond_both, eq-eqb, eqb-true, false_from_ne_true, false≢true, le-leb, le-ltb, leb-true, lt-ltb, ltb-true, ne_eqb, or_left, or_right, true≢false}
+pub use Rattle.std.proofs.lemmas.Bool.{and_cases, and_from, and_left, and_parts, and_right, cases_eq, cond-false, cond-true, cond_both, eq-eqb, eqb-true, false_from_ne_true, false≢true, le-leb, le-ltb, leb-true, lt-ltb, ltb-true, ne_eqb, or_left, or_right, true≢false}
 pub use Rattle.std.proofs.lemmas.Cmp.{tied_itself}
-pub use Rattle.std.proofs.lemmas.List.{append-nil, append_assoc, drop_all, get_or-set_other, get_or-set_same, get_or_append_left, get_or_at, length-append, length-set, length-take, map-append, take_all, take_more}
+pub use Rattle.std.proofs.lemmas.List.{append-nil, append_assoc, drop_all, get_or-set_other, get_or-set_same, length-append, length-set, length-take, map-append, take_all, take_more}
 pub use Rattle.std.proofs.lemmas.List.Elements.{All-push}
 pub use Rattle.std.proofs.lemmas.Option.{cond_some, none-some, same_Some}
 pub use Rattle.std.proofs.lemmas.Result.{IfOk-weaker}
 pub use Rattle.std.specs.List.{cons_option}
 pub use Rattle.std.specs.Ordering.{is_eq}
-pub use Rattle.std.specs.Result.{result_unwrap_or}
 pub use Rattle.time_shards.specs.Shards.{shard_count}
 pub use Rattle.turn_defs.specs.Nodes.{Addressed}
 pub use Rattle.turn_defs.specs.Packets.{IsPacket}
 pub use Rattle.turn_defs.specs.Rows.{worked}
-pub use Rattle.turn_defs.specs.Server.{Proposal, ServerKept, ServerLive, ShardState, accept_if, accepted, again, all_again, claimed, empty_shard, first_shard, from_replica, gets_accepted, gets_chosen, gets_nack, gets_promise, goes_on, is_below_limit, is_current, is_free, is_next, is_own_joiner, keep_if, land_server, learns, may_propose, nacked, of_phase, owns, promised, proposes, queued, replies, reply, reply_if, server_gets, server_own, server_start, server_tick, server_turn, shard_unfinished, to_from, to_replicas, unanswered, with_shard}
+pub use Rattle.turn_defs.specs.Server.{Proposal, ServerKept, ServerLive, ShardState, accept_if, accepted, again, all_again, claimed, empty_shard, first_shard, from_replica, gets_accepted, gets_chosen, gets_nack, gets_promise, goes_on, is_below_limit, is_current, is_free, is_next, is_own_joiner, keep_if, land_server, learns, may_propose, nacked, of_phase, owns, promised, proposes, queued, replies, reply, reply_if, server_gets, server_own, server_start, server_tick, server_turn, to_from, to_replicas, unanswered, with_shard}
 pub use Rattle.turn_defs.specs.Setting.{Setting, shard, shards}
 pub use Rattle.turn_defs.specs.Spellings.{IsAnswer, IsBallot, IsBatch, IsInsert, IsPlace, IsPrior, IsToken}
 pub use Rattle.turn_defs.specs.Turns.{Note, Out, idle, is_empty, land}

@@ -1,5 +1,5 @@
 -- Where the kept notes and the input have spellings, so have the row's note and packets.
-use Rattle.std.proofs.Common.{◌≡◌, ℕ, List, [], ◌∷◌, ◌++◌, length, length-append, Option, Some, None, sym, ap, ◌∙◌, subst, arith}
+use Rattle.std.proofs.Common.{◌≡◌, ℕ, List, ◌++◌, length, length-append, Option, Some, None, sym, ap, ◌∙◌, subst, arith}
 use Rattle.replica_node.proofs.Words.{Each, ReplicaNote, note, Note, land, ReplicaKept, land_replica, noted, IsRowNote, each_push, IsNotedSo, IsVoted}
 use Rattle.paxos_acceptor.specs.declared.notes.ReplicaNote.TheVariants as replica
 

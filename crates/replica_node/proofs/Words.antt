@@ -1,8 +1,6 @@
 -- The words of this crate's proofs: what they take from its definitions and from the crates below, under one name each.
 pub use Rattle.air_bus.specs.declared.entry.Entry.TheVariants.{Begin, End, Stop}
 pub use Rattle.air_bus.specs.declared.entry.Input.{Input as Bytes}
-pub use Rattle.ballot_core.specs.declared.Ballot.{Ballot}
-pub use Rattle.gate_journal.proofs.Growth.{continues_same, continues_through}
 pub use Rattle.gate_journal.specs.Gate.{IsOldOrNew, StandsFor, gate_rule, records}
 pub use Rattle.gate_journal.specs.Opening.{IsOpened}
 pub use Rattle.gate_journal.specs.declared.journal.JournalState.{JournalState}
@@ -34,7 +32,7 @@ pub use Rattle.site_node.proofs.Turns.{ends_done, ends_idle, fits_of, none_of, o
 pub use Rattle.site_node.specs.Bytes.{AreSpelled, IsInput, IsJunk, Reads, record_of}
 pub use Rattle.site_node.specs.Replicas.{IsVoted, KeptOn, OnDisk, ReplicaState, kept_of, records_of, replica_rows, vote_record}
 pub use Rattle.turn_defs.specs.Configs.{IsOf}
-pub use Rattle.site_node.specs.States.{Fits, Leads, MayTake, Stops, closes, opens, row, written}
+pub use Rattle.site_node.specs.States.{Fits, Leads, closes, row, written}
 pub use Rattle.turn_defs.specs.declared.config.Config.{Config}
 pub use Rattle.std.proofs.lemmas.Bool.{eq-eqb, ne_eqb}
 pub use Rattle.std.proofs.lemmas.List.{append-nil, length-map, map-append, take_all, take_more}
@@ -46,10 +44,8 @@ pub use Rattle.turn_defs.specs.Packets.{IsPacket}
 pub use Rattle.turn_defs.specs.Replica.{ReplicaKept, accepts, cell_at, land_replica, note_at, prepared, prepares, replica_gets, replica_start, says, taken}
 pub use Rattle.turn_defs.specs.Rows.{worked}
 pub use Rattle.turn_defs.specs.Setting.{Setting}
-pub use Rattle.turn_defs.specs.Spellings.{ballot, batch, place}
-pub use Rattle.turn_defs.specs.Turns.{Advance, BallotNote, Epoch, Note, Output, Park, Settle, Voted, land}
+pub use Rattle.turn_defs.specs.Turns.{BallotNote, Note, Voted, land}
 pub use Rattle.turn_defs.specs.declared.node.Input.{Input}
 pub use Rattle.turn_defs.specs.declared.node.Input.TheVariants.{Deliver, Start}
 pub use Rattle.turn_defs.specs.declared.node.Node.{Node}
-pub use Rattle.turn_defs.specs.declared.node.To.{To}
 pub use Rattle.turn_defs.specs.declared.packet.Packet.{Packet}

@@ -20,7 +20,7 @@ use Rattle.turn_defs.specs.declared.node.Node.{Node}
 use Rattle.turn_defs.specs.declared.node.To.{To}
 use Rattle.turn_defs.specs.Packets.{IsPacket}
 use Rattle.turn_defs.specs.Setting.{Setting}
-use Rattle.turn_defs.specs.Turns.{BallotNote, Note, Advance, Park, Settle, Epoch, Output, Voted, Out, land, idle}
+use Rattle.turn_defs.specs.Turns.{BallotNote, Note, Voted, Out, land, idle}
 use Rattle.turn_defs.specs.Replica.{ReplicaKept, cell_at, prepares, accepts, replica_gets, land_replica}
 use Rattle.site_node.specs.Replicas.{IsVoted}
 use Rattle.std.specs.Prelude.{map}

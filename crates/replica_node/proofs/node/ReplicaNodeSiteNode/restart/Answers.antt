@@ -1,4 +1,4 @@
-use Rattle.std.proofs.Common.{◌≡◌, ◌==◌, Bool, cond, not, false, rules, List, ℕ, Option, None, refl, sym, ap, ◌∙◌, subst, arith, length}
+use Rattle.std.proofs.Common.{◌≡◌, ◌==◌, cond, not, false, rules, List, ℕ, Option, None, refl, sym, ap, ◌∙◌, subst, arith, length}
 use Rattle.replica_node.proofs.Words.{Leads, Stop, StandsAt, replica_rows, kept_images, on_err}
 use Rattle.site_node.specs.Faults.{was_shut_out}
 use Rattle.site_node.proofs.Stops.{meets}

@@ -1,4 +1,4 @@
-use Rattle.std.proofs.Common.{◌≡◌, ◌⊎◌, Bool, Option, Some, true, false, rules, refl, sym, ◌∙◌, ap, subst}
+use Rattle.std.proofs.Common.{◌≡◌, ◌⊎◌, Bool, Option, Some, true, false, rules, refl, sym, ◌∙◌, subst}
 use Rattle.replica_node.proofs.Words.{GoesOn, KnowsAs, Note, OnDisk, Throughout, VoterView, fits_of, land, land_replica, none_of, noted, on_err, replica_rows, turn_grown, turn_moments}
 use Rattle.replica_node.specs.Node.{Knows}
 use Rattle.replica_node.proofs.Standing.{quiet}
