@@ -56,6 +56,14 @@ impl Epochs {
     }
 }
 
+/// The record of an epoch.
+pub fn epoch_frame(epoch: u32) -> [u8; 5]
+    ensures { result ≡ epoch_record epoch }
+{
+    let b = epoch.to_be_bytes();
+    [TAG, b[0], b[1], b[2], b[3]]
+}
+
 // The epoch of a record, if it is one above the last.
 fn epoch_above(last: u32, payload: &[u8]) -> Option<u32>
     ensures some { IfSome result (λ epoch. (is_next last payload.now ≡ true) × (epoch ≡ epoch_in payload.now) × (epoch ≤ LAST_EPOCH)) }
@@ -162,9 +170,7 @@ pub fn raise<D: Disk>(journal: &mut EpochJournal<D>) -> Result<u32, RaiseFault>
         return Err(RaiseFault::EpochSpent);
     }
     let epoch = last + 1;
-    let bytes = epoch.to_be_bytes();
-    let record = [TAG, bytes[0], bytes[1], bytes[2], bytes[3]];
-    match journal.append(&record, epoch) {
+    match journal.append(&epoch_frame(epoch), epoch) {
         Ok(()) => Ok(epoch),
         Err(AppendFault::Disk) => Err(RaiseFault::Disk),
         Err(AppendFault::Broken) => Err(RaiseFault::Broken),

@@ -4,4 +4,4 @@
 mod epochs;
 pub mod rows;
 
-pub use epochs::{EpochJournal, Epochs, RaiseFault, raise};
+pub use epochs::{EpochJournal, Epochs, RaiseFault, epoch_frame, raise};

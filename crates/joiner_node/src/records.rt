@@ -1,12 +1,12 @@
 // Notes and their records.
 ghost use Rattle.std.specs.Prelude.{◌≡◌, IfOk};
-ghost use Rattle.epoch_journal.specs.Epochs.{epoch_record};
 ghost use Rattle.output_log.specs.Pairs.{record_of};
 ghost use Rattle.turn_defs.specs.Spellings.{IsPair};
 ghost use Rattle.joiner_core.specs.Spelled.{IsWritten};
 ghost use Rattle.joiner_node.specs.Records.{recorded_as, pair_record, IsAbove, IsOwn, IsUnspent};
 
 use air_bus::Payload;
+use epoch_journal::epoch_frame;
 use joiner_core::JoinerNote;
 use output_log::pair_frame;
 use std::alloc::{AllocError, Global};
@@ -36,7 +36,7 @@ pub(crate) fn recorded(
             if epoch <= kept {
                 return Ok(None);
             }
-            let payload = epoch_payload(alloc, epoch)?;
+            let payload = Payload::new(Vec::from_slice(alloc, &epoch_frame(epoch))?)?;
             Ok(Some(Record::Epoch(payload)))
         }
         Some(JoinerNote::Pair(pair)) => {
@@ -44,14 +44,6 @@ pub(crate) fn recorded(
             Ok(Some(written))
         }
     }
-}
-
-fn epoch_payload(alloc: Global, epoch: u32) -> Result<Payload, AllocError>
-    ensures { IfOk result (λ payload. payload ≡ epoch_record epoch) }
-{
-    let bytes = epoch.to_be_bytes();
-    let spelled = [2, bytes[0], bytes[1], bytes[2], bytes[3]];
-    Payload::new(Vec::from_slice(alloc, &spelled)?)
 }
 
 fn with_record(alloc: Global, pair: PairRec) -> Result<Record, AllocError>

@@ -7,10 +7,8 @@ ghost use Rattle.registry_server.specs.Node.{recorded};
 
 use crate::turn::ServerNote;
 use air_bus::Payload;
+use epoch_journal::epoch_frame;
 use std::alloc::{AllocError, Global};
-
-// The first byte of an epoch's record.
-const TAG: u8 = 2;
 
 // The record of a note, if there is one, as the bus takes it. Five bytes, by two allocations.
 pub(crate) fn note_record(
@@ -22,9 +20,7 @@ pub(crate) fn note_record(
     match note {
         None => Ok(None),
         Some(ServerNote::Epoch(epoch)) => {
-            let b = epoch.to_be_bytes();
-            let record = [TAG, b[0], b[1], b[2], b[3]];
-            let payload = Payload::new(record.as_slice().to_vec(alloc)?)?;
+            let payload = Payload::new(Vec::from_slice(alloc, &epoch_frame(*epoch))?)?;
             Ok(Some(payload))
         }
     }
