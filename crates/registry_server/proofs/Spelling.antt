@@ -1,7 +1,7 @@
 -- Where the server's numbers, what it knows and the input have spellings, so have the row's packets and what it knows next.
 use Rattle.std.proofs.Common.{◌≡◌, ℕ, suc, ◌+◌, ◌^◌, ◌<◌, ◌≤◌, ◌&&◌, ◌||◌, Bool, true, false, cond, List, [], ◌∷◌, ◌++◌, length, take, set, Option, Some, None, refl, subst, arith}
-use Rattle.std.specs.Prelude.{nat_lt, nat_le}
-use Rattle.registry_server.proofs.Words.{LAST_SLOT, LAST_EPOCH, cond_both, ltb-true, and_parts, length-take, same_Some, Each, each_append, at_set, EventId, same_id, Ballot, is_below, Token, Insert, Batch, Answer, Granted, Duplicate, TooOld, same_token, bound_of, first_in, first_insert, or_else, replay, replay_held, IsToken, IsInsert, IsAnswer, IsPlace, IsBallot, IsBatch, IsPrior, Place, higher, value_for, Phase, is_new, is_most, nobody, with_promise, on_promise, with_acceptance, on_accepted, Promising, Accepting, Ended, Packet, Node, Replica, Joiner, Input, Start, Own, Tick, Deliver, To, Only, IsPacket, Setting, shard, shards, Out, idle, ServerKept, ServerLive, ShardState, Proposal, empty_shard, queued, to_from, is_below_limit, may_propose, first_shard, is_next, is_current, is_own_joiner, reply, reply_if, replies, keep_if, unanswered, learns, with_shard, claimed, proposes, owns, server_own, goes_on, accept_if, promised, accepted, nacked, gets_promise, gets_accepted, gets_nack, gets_chosen, of_phase, again, all_again, server_tick, server_gets, server_turn, server_start, IsSpelledPhase, IsSpelledProposal, IsSpelledIf, IsSpelledShard, IsSpelledPlan, IsSpelledLive, IsInput}
+use Rattle.std.specs.Prelude.{nat_lt, nat_le, IfSome}
+use Rattle.registry_server.proofs.Words.{LAST_SLOT, LAST_EPOCH, cond_both, ltb-true, and_parts, length-take, same_Some, Each, each_append, at_set, EventId, same_id, Ballot, is_below, Token, Insert, Batch, Answer, Granted, Duplicate, TooOld, same_token, bound_of, first_in, first_insert, or_else, replay, replay_held, IsToken, IsInsert, IsAnswer, IsPlace, IsBallot, IsBatch, IsPrior, Place, higher, value_for, Phase, is_new, is_most, nobody, with_promise, on_promise, with_acceptance, on_accepted, Promising, Accepting, Ended, Packet, Node, Replica, Joiner, Input, Start, Own, Tick, Deliver, To, Only, IsPacket, Setting, shard, shards, Out, idle, ServerKept, ServerLive, ShardState, Proposal, empty_shard, queued, to_from, is_below_limit, may_propose, first_shard, is_next, is_current, is_own_joiner, reply, reply_if, replies, keep_if, unanswered, learns, with_shard, claimed, proposes, owns, server_own, goes_on, accept_if, promised, accepted, nacked, gets_promise, gets_accepted, gets_nack, gets_chosen, of_phase, again, all_again, server_tick, server_gets, server_turn, server_start, IsSpelledPhase, IsSpelledProposal, IsSpelledShard, IsSpelledPlan, IsSpelledLive, IsInput}
 use Rattle.turn_defs.specs.declared.packet.Packet.TheVariants as packet
 
 abbrev pub Sends : List (To × Packet) → Type 0
@@ -15,40 +15,28 @@ pub record IsSpelledOut (k : ServerKept) (out : Out ServerLive) : Type 0 where
 
 -- ---- answers
 
-abbrev IsTokenIf : Option Token → Type 0
-IsTokenIf None = Unit {0}
-IsTokenIf (Some t) = IsToken t
-
-abbrev IsAnswerIf : Option Answer → Type 0
-IsAnswerIf None = Unit {0}
-IsAnswerIf (Some a) = IsAnswer a
-
-abbrev IsBatchIf : Option Batch → Type 0
-IsBatchIf None = Unit {0}
-IsBatchIf (Some v) = IsBatch v
-
 bound_ok : (vs : List Batch) → Each IsBatch vs → bound_of vs < 2 ^ 64
 bound_ok [] e = omega arith
 bound_ok (v ∷ vs) e = let rest = bound_ok vs e.1 in let one = e.0.bound in omega arith
 
-first_in_ok : (xs : List Insert) (i : EventId) → Each IsInsert xs → IsTokenIf (first_in xs i)
+first_in_ok : (xs : List Insert) (i : EventId) → Each IsInsert xs → IfSome (first_in xs i) IsToken
 first_in_ok [] i e = tt
-first_in_ok (x ∷ xs) i e = cond_both (same_id x.id i) (Some x.token) (first_in xs i) IsTokenIf (λ _. e.0.token) (λ _. first_in_ok xs i e.1)
+first_in_ok (x ∷ xs) i e = cond_both (same_id x.id i) (Some x.token) (first_in xs i) (λ o. IfSome o IsToken) (λ _. e.0.token) (λ _. first_in_ok xs i e.1)
 
-either_ok : (o p : Option Token) → IsTokenIf o → IsTokenIf p → IsTokenIf (or_else o p)
+either_ok : (o p : Option Token) → IfSome o IsToken → IfSome p IsToken → IfSome (or_else o p) IsToken
 either_ok None p a b = b
 either_ok (Some t) p a b = a
 
-first_ok : (vs : List Batch) (i : EventId) → Each IsBatch vs → IsTokenIf (first_insert vs i)
+first_ok : (vs : List Batch) (i : EventId) → Each IsBatch vs → IfSome (first_insert vs i) IsToken
 first_ok [] i e = tt
 first_ok (v ∷ vs) i e = either_ok (first_in v.inserts i) (first_insert vs i) (first_in_ok v.inserts i e.0.inserts) (first_ok vs i e.1)
 
-held_ok : (t : Token) (o : Option Token) → IsTokenIf o → IsAnswerIf (replay_held t o)
+held_ok : (t : Token) (o : Option Token) → IfSome o IsToken → IfSome (replay_held t o) IsAnswer
 held_ok t None is = tt
 held_ok t (Some h) is = cond_both (same_token h t) Granted (Duplicate h) IsAnswer (λ _. tt) (λ _. is)
 
-replay_ok : (vs : List Batch) (i : EventId) (t : Token) → Each IsBatch vs → IsAnswerIf (replay vs i t)
-replay_ok vs i t e = cond_both (nat_lt i.micros (bound_of vs)) (Some (TooOld (bound_of vs))) (replay_held t (first_insert vs i)) IsAnswerIf (λ _. bound_ok vs e) (λ _. held_ok t (first_insert vs i) (first_ok vs i e))
+replay_ok : (vs : List Batch) (i : EventId) (t : Token) → Each IsBatch vs → IfSome (replay vs i t) IsAnswer
+replay_ok vs i t e = cond_both (nat_lt i.micros (bound_of vs)) (Some (TooOld (bound_of vs))) (replay_held t (first_insert vs i)) (λ o. IfSome o IsAnswer) (λ _. bound_ok vs e) (λ _. held_ok t (first_insert vs i) (first_ok vs i e))
 
 -- ---- proposals
 
@@ -62,7 +50,7 @@ value_ok own None o b = o
 value_ok own (Some a) o b = b.1
 
 abbrev IsTurnOk : Phase Batch × Option Batch → Type 0
-IsTurnOk t = IsSpelledPhase t.0 × IsBatchIf t.1
+IsTurnOk t = IsSpelledPhase t.0 × IfSome t.1 IsBatch
 
 promise_ok : (own : Batch) (phase : Phase Batch) (r : ℕ) (prior : Option (Ballot × Batch)) → IsBatch own → IsSpelledPhase phase → IsPrior prior → IsTurnOk (on_promise own phase r prior)
 promise_ok own (Promising marks best) r prior o p q =
@@ -100,7 +88,7 @@ module _ (g : Setting) (site : ℕ) (plan : IsSpelledPlan g site) where
   reply_ok : (x : Insert) (a : Answer) → IsInsert x → IsAnswer a → Sends (reply g site x a)
   reply_ok x a ix ia = cond_both (is_own_joiner g site x.token.joiner) ((Only (Joiner x.token.joiner), packet.Reply x a) ∷ []) [] Sends (λ _. ((ix, ia), tt)) (λ _. tt)
 
-  reply_if_ok : (x : Insert) (o : Option Answer) → IsInsert x → IsAnswerIf o → Sends (reply_if g site x o)
+  reply_if_ok : (x : Insert) (o : Option Answer) → IsInsert x → IfSome o IsAnswer → Sends (reply_if g site x o)
   reply_if_ok x None ix is = tt
   reply_if_ok x (Some a) ix is = reply_ok x a ix is
 
@@ -131,7 +119,7 @@ module _ (g : Setting) (site : ℕ) (plan : IsSpelledPlan g site) where
     set_ok : (s : ℕ) (st : ShardState) → IsSpelledShard st → IsSpelledLive k (with_shard g site k l s st)
     set_ok s st is = record { epoch = live.epoch; round = live.round; each = at_set (λ m x. IsSpelledShard x) l.shards s st is live.each }
 
-    claimed_ok : (x : Insert) (s : ℕ) (o : Option Answer) → IsInsert x → IsAnswerIf o → IsSpelledOut k (claimed g site k l x s (l.shards s) o)
+    claimed_ok : (x : Insert) (s : ℕ) (o : Option Answer) → IsInsert x → IfSome o IsAnswer → IsSpelledOut k (claimed g site k l x s (l.shards s) o)
     claimed_ok x s (Some a) ix is = record { quiet = refl; packets = reply_ok x a ix is; live = live }
     claimed_ok x s None ix is =
         let st = l.shards s in
@@ -185,11 +173,11 @@ module _ (g : Setting) (site : ℕ) (plan : IsSpelledPlan g site) where
     goes_on_ok : (s : ℕ) (p : Proposal) (phase : Phase Batch) → IsSpelledProposal (length (l.shards s).learned) p → IsSpelledPhase phase → IsSpelledLive k (goes_on g site k l s (l.shards s) p phase)
     goes_on_ok s p phase is ph = set_ok s (record (l.shards s) { proposal = Some (record { ballot = p.ballot; own = p.own; phase = phase }) }) (record { learned = (live.each s).learned; queue = (live.each s).queue; proposal = record { slot = is.slot; ballot = is.ballot; own = is.own; phase = ph } })
 
-    accept_ok : (at : Place) (b : Ballot) (o : Option Batch) → IsPlace at → IsBallot b → IsBatchIf o → Sends (accept_if g site k l at b o)
+    accept_ok : (at : Place) (b : Ballot) (o : Option Batch) → IsPlace at → IsBallot b → IfSome o IsBatch → Sends (accept_if g site k l at b o)
     accept_ok at b None ia ib io = tt
     accept_ok at b (Some v) ia ib io = to_ok 0 g.replicas (packet.Accept at b v) (ia, ib, io)
 
-    gets_promise_ok : (r : ℕ) (at : Place) (b : Ballot) (prior : Option (Ballot × Batch)) (o : Option Proposal) → IsPlace at → IsPrior prior → IsSpelledIf (length (l.shards at.shard).learned) o → IsSpelledOut k (gets_promise g site k l r at b prior (l.shards at.shard) o)
+    gets_promise_ok : (r : ℕ) (at : Place) (b : Ballot) (prior : Option (Ballot × Batch)) (o : Option Proposal) → IsPlace at → IsPrior prior → IfSome o (IsSpelledProposal (length (l.shards at.shard).learned)) → IsSpelledOut k (gets_promise g site k l r at b prior (l.shards at.shard) o)
     gets_promise_ok r at b prior None ia ip is = idle_ok
     gets_promise_ok r at b prior (Some p) ia ip is =
         let turn = promise_ok p.own p.phase r prior is.own is.phase ip in
@@ -197,13 +185,13 @@ module _ (g : Setting) (site : ℕ) (plan : IsSpelledPlan g site) where
         (λ _. record { quiet = refl; packets = accept_ok at p.ballot (on_promise p.own p.phase r prior).1 ia is.ballot turn.1; live = goes_on_ok at.shard p (on_promise p.own p.phase r prior).0 is turn.0 })
         (λ _. idle_ok)
 
-    accepted_ok : (at : Place) (p : Proposal) (phase : Phase Batch) (o : Option Batch) → IsPlace at → IsSpelledProposal (length (l.shards at.shard).learned) p → IsSpelledPhase phase → IsBatchIf o → IsSpelledOut k (accepted g site k l at (l.shards at.shard) p phase o)
+    accepted_ok : (at : Place) (p : Proposal) (phase : Phase Batch) (o : Option Batch) → IsPlace at → IsSpelledProposal (length (l.shards at.shard).learned) p → IsSpelledPhase phase → IfSome o IsBatch → IsSpelledOut k (accepted g site k l at (l.shards at.shard) p phase o)
     accepted_ok at p phase None ia is ph io = record { quiet = refl; packets = tt; live = goes_on_ok at.shard p phase is ph }
     accepted_ok at p phase (Some v) ia is ph io =
         let st = l.shards at.shard in
         record { quiet = refl; packets = ((ia, io), replies_ok (st.learned ++ v ∷ []) st.queue (learned_ok st v (live.each at.shard) io) (live.each at.shard).queue); live = set_ok at.shard (learns g site st v) (learns_ok st v (live.each at.shard) io) }
 
-    gets_accepted_ok : (r : ℕ) (at : Place) (b : Ballot) (o : Option Proposal) → IsPlace at → IsSpelledIf (length (l.shards at.shard).learned) o → IsSpelledOut k (gets_accepted g site k l r at b (l.shards at.shard) o)
+    gets_accepted_ok : (r : ℕ) (at : Place) (b : Ballot) (o : Option Proposal) → IsPlace at → IfSome o (IsSpelledProposal (length (l.shards at.shard).learned)) → IsSpelledOut k (gets_accepted g site k l r at b (l.shards at.shard) o)
     gets_accepted_ok r at b None ia is = idle_ok
     gets_accepted_ok r at b (Some p) ia is =
         let turn = acceptance_ok p.phase r is.phase in
@@ -240,7 +228,7 @@ module _ (g : Setting) (site : ℕ) (plan : IsSpelledPlan g site) where
     phase_ok at b (Accepting v marks) ia ib ip = to_ok 0 g.replicas (packet.Accept at b v) (ia, ib, ip)
     phase_ok at b Ended ia ib ip = tt
 
-    again_ok : (s : ℕ) (o : Option Proposal) → s < 16 → IsSpelledIf (length (l.shards s).learned) o → Sends (again g site k l s (l.shards s) o)
+    again_ok : (s : ℕ) (o : Option Proposal) → s < 16 → IfSome o (IsSpelledProposal (length (l.shards s).learned)) → Sends (again g site k l s (l.shards s) o)
     again_ok s None lt is = tt
     again_ok s (Some p) lt is = phase_ok (record { shard = s; slot = length (l.shards s).learned }) p.ballot p.phase (record { shard = lt; slot = is.slot }) is.ballot is.phase
 

@@ -36,7 +36,7 @@ pub use Rattle.registry_server.specs.Registrars.{IsNextNote, IsRow, IsSpelledCor
 pub use Rattle.registry_server.specs.Replies.{each_reply}
 pub use Rattle.registry_server.specs.Rowed.{FitsAt, IsAt, accept_all, current_in, current_of, learns_behind, number_of, proposes_if}
 pub use Rattle.registry_server.specs.ShardStates.{EachStands, IsShard, NotLast, counts_accepted, counts_promise, passes, proposal_of, put_last, says, stepped}
-pub use Rattle.registry_server.specs.Spelled.{IsSpelledIf, IsSpelledLive, IsSpelledPhase, IsSpelledPlan, IsSpelledProposal, IsSpelledShard}
+pub use Rattle.registry_server.specs.Spelled.{IsSpelledLive, IsSpelledPhase, IsSpelledPlan, IsSpelledProposal, IsSpelledShard}
 pub use Rattle.registry_server.specs.Stations.{request, sent, setting}
 pub use Rattle.registry_server.specs.declared.server_core.ServerCore.{ServerCore}
 pub use Rattle.registry_server.specs.declared.shard.Shard.{Shard}

@@ -1,8 +1,7 @@
 -- A server over its disk, beside the states that its entries lead through.
-use Rattle.std.specs.Prelude.{◌≡◌, ◌⊎◌, ℕ, ◌+◌, ◌<◌, ◌==◌, List, Bool, true, false, if◌then◌else◌, Option, Some, None, option_map}
+use Rattle.std.specs.Prelude.{◌≡◌, ◌⊎◌, ℕ, ◌+◌, ◌==◌, List, Bool, true, false, if◌then◌else◌, Option, Some, None, option_map}
 use Rattle.ballot_core.specs.declared.TheConstants.{LAST_EPOCH}
 use Rattle.epoch_journal.specs.Epochs.{epoch_record, Keeps, KeepsOr}
-use Rattle.gate_journal.specs.Disk.{HasRoom}
 use Rattle.gate_journal.specs.declared.journal.JournalState.{JournalState}
 use Rattle.gate_journal.specs.declared.journal.JournalState.TheVariants.{Ready}
 use Rattle.air_bus.specs.declared.entry.Input.{Input as Bytes}
@@ -101,16 +100,6 @@ pub record StandsAt (n : ℕ) (open_record : Option (List ℕ)) (epoch : ℕ) (i
 -- the state of a node that is down, over a disk that keeps this epoch
 abbrev pub down_over : Setting → (site epoch : ℕ) → ServerState
 down_over g site epoch = record { setting = g; kept = record { site = site; disk = record { epoch = epoch } }; live = None; opened = None }
-
--- what is left of the disk's room is enough to append the record
-abbrev pub IsRoomFor : Option (List ℕ) → ℕ → ℕ → Type 0
-IsRoomFor None calls_left bytes_left = Unit {0}
-IsRoomFor (Some r) calls_left bytes_left = HasRoom calls_left bytes_left 5
-
--- a record to append is of an epoch above one that isn't the last
-abbrev pub IsBelowLast : Option (List ℕ) → ℕ → Type 0
-IsBelowLast None epoch = Unit {0}
-IsBelowLast (Some r) epoch = epoch < LAST_EPOCH
 
 -- the turn's packets and its note are spelled, and it can be kept
 pub record IsReady (core : ServerCore) (epoch : ℕ) (turn : Turn) (sent : List (ℕ × List ℕ)) (framed : Option (List ℕ)) : Type 0 where

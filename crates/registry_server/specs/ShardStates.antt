@@ -1,5 +1,5 @@
 -- A shard as the state that it stands for.
-use Rattle.std.specs.Prelude.{◌≡◌, ℕ, ◌<◌, ◌≤◌, ◌&&◌, ◌||◌, not, ◌++◌, ◌∷◌, [], Bool, true, false, List, length, get_or, nat_lt, nat_le, if◌then◌else◌, Option, Some, None, option_map, is_some, ⊤}
+use Rattle.std.specs.Prelude.{◌≡◌, ℕ, ◌<◌, ◌≤◌, ◌&&◌, ◌||◌, not, ◌++◌, ◌∷◌, [], Bool, true, false, List, length, get_or, nat_lt, nat_le, if◌then◌else◌, Option, Some, None, option_map, is_some, IfSome, ⊤}
 use Rattle.turn_defs.specs.declared.limits.TheConstants.{LAST_SLOT}
 use Rattle.ballot_core.specs.declared.Ballot.{Ballot}
 use Rattle.registry_state.specs.declared.Insert.{Insert}
@@ -34,17 +34,12 @@ is_going (Promising marks best) = true
 is_going (Accepting v marks) = true
 is_going Ended = false
 
--- a proposal is for a slot below the limit, and goes on
-abbrev pub Goes : Option Proposal → ℕ → Type 0
-Goes None next = ⊤
-Goes (Some p) next = (is_below_limit next ≡ true) × (is_going p.phase ≡ true)
-
--- The shard learned these values: the registry knows them, the next slot is their number, and they answer none of the
--- inserts that wait.
+-- The shard learned these values: the registry knows them, the next slot is their number, a proposal is for a slot below
+-- the limit and goes on, and they answer none of the inserts that wait.
 pub record HasLearned (h : Shard) (learned : List Batch) : Type 0 where
   pub known : Knows h.registry learned
   pub next : h.next ≡ length learned
-  pub goes : Goes (option_map proposal_of h.proposal) (length learned)
+  pub goes : IfSome (option_map proposal_of h.proposal) (λ p. (is_below_limit (length learned) ≡ true) × (is_going p.phase ≡ true))
   pub waits : IsUnanswered learned (waiting h.queue)
 
 -- the shard stands for the state

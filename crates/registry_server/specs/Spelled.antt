@@ -1,5 +1,5 @@
 -- What a server knows has spellings, so what it sends has them.
-use Rattle.std.specs.Prelude.{ℕ, ◌^◌, ◌<◌, ◌≤◌, length, Option, Some, None}
+use Rattle.std.specs.Prelude.{ℕ, ◌^◌, ◌<◌, ◌≤◌, length, IfSome}
 use Rattle.time_shards.specs.declared.TheConstants.{MAX_SHARDS}
 use Rattle.registry_state.specs.declared.TheConstants.{MOST_INSERTS}
 use Rattle.list_words.specs.Lists.{Each}
@@ -22,14 +22,10 @@ pub record IsSpelledProposal (at : ℕ) (p : Proposal) : Type 0 where
   pub own : IsBatch p.own
   pub phase : IsSpelledPhase p.phase
 
-abbrev pub IsSpelledIf : ℕ → Option Proposal → Type 0
-IsSpelledIf slot None = Unit {0}
-IsSpelledIf slot (Some p) = IsSpelledProposal slot p
-
 pub record IsSpelledShard (st : ShardState) : Type 0 where
   pub learned : Each IsBatch st.learned
   pub queue : Each IsInsert st.queue
-  pub proposal : IsSpelledIf (length st.learned) st.proposal
+  pub proposal : IfSome st.proposal (IsSpelledProposal (length st.learned))
 
 -- the numbers of the server and of its setting are in their ranges
 pub record IsSpelledPlan (g : Setting) (n : ℕ) : Type 0 where

@@ -1,11 +1,12 @@
 // The registry server over its disk.
-ghost use Rattle.std.specs.Prelude.{◌≡◌, ◌≤◌, true, false, None, ◌<◌, Some, Option, option_map, List, ℕ, is_some, is_err, IsTrue, IfOk, IfErr, OnOk, OnErr, IsErrOf, ◌+◌};
+ghost use Rattle.std.specs.Prelude.{◌≡◌, ◌≤◌, true, false, None, ◌<◌, Some, Option, option_map, List, ℕ, is_some, is_err, IsTrue, IfOk, IfErr, OnOk, OnErr, OnSome, IsErrOf, ◌+◌};
 ghost use Rattle.registry_state.specs.declared.TheConstants.{MOST_INSERTS};
 ghost use Rattle.ballot_core.specs.declared.TheConstants.{LAST_EPOCH};
 ghost use Rattle.paxos_proposer.specs.declared.TheConstants.{MOST_REPLICAS};
 ghost use Rattle.gate_journal.specs.declared.journal.JournalState.TheVariants.{Ready};
+ghost use Rattle.gate_journal.specs.Disk.{HasRoom};
 ghost use Rattle.registry_server.specs.Registrars.{MayRaise, SiteKept, Knows, IsNextNote, IsRow, Makes, server_rows};
-ghost use Rattle.registry_server.specs.Node.{is_spent_at, StandsAt, Holds, HoldsOr, OnDiskOr, recorded, IsReady, IsRoomFor, IsBelowLast, IsNotPrepared, down_over, ServerState, KeptOn, spent_at};
+ghost use Rattle.registry_server.specs.Node.{is_spent_at, StandsAt, Holds, HoldsOr, OnDiskOr, recorded, IsReady, IsNotPrepared, down_over, ServerState, KeptOn, spent_at};
 ghost use Rattle.outside.specs.Disk.{Throughout};
 ghost use Rattle.outside.specs.Faults.{Rose};
 ghost use Rattle.outside.specs.Plans.{MeetsPlan, AtMost};
@@ -120,7 +121,7 @@ impl<D: Disk> ServerNode<D> {
         ensures next { IfOk result (λ r. (g : Setting) (k : SiteKept) (live : Option ServerLive) → Knows self.old.registrar g k live → self.old.journal.value.epoch ≡ k.disk.epoch → Fits live input
             → Makes self.new.registrar.core r.turn g k.disk (row_of server_rows g k live input).live) }
         ensures ready { IfOk result (λ r. IsReady self.new.registrar.core self.new.journal.value.epoch r.turn r.packets r.noted) }
-        ensures room { IfOk result (λ r. IsRoomFor r.noted (D.calls_left self.new.journal.journal.disk) (D.bytes_left self.new.journal.journal.disk)) }
+        ensures room { IfOk result (λ r. OnSome r.noted (HasRoom (D.calls_left self.new.journal.journal.disk) (D.bytes_left self.new.journal.journal.disk) 5)) }
     {
         let epoch = self.journal.value().epoch();
         if is_spent(epoch, &input) {
@@ -145,7 +146,7 @@ impl<D: Disk> ServerNode<D> {
         ensures moments { IsTrue D.tells → Throughout D.image D.since self.old.journal.journal.disk self.new.journal.journal.disk (D.image self.old.journal.journal.disk) }
         ensures plan { IsTrue D.tells → MeetsPlan D.stops D.made D.faults 0 false self.old.journal.journal.disk self.new.journal.journal.disk }
         ensures count { D.faults self.new.journal.journal.disk ≡ D.faults self.old.journal.journal.disk }
-        ensures room { OnOk result (IsRoomFor noted.now (D.calls_left self.new.journal.journal.disk) (D.bytes_left self.new.journal.journal.disk)) }
+        ensures room { OnOk result (OnSome noted.now (HasRoom (D.calls_left self.new.journal.journal.disk) (D.bytes_left self.new.journal.journal.disk) 5)) }
     {
         match noted {
             None => Ok(()),
@@ -156,8 +157,8 @@ impl<D: Disk> ServerNode<D> {
     // Appends the note, if there is one. Where the disk fails the note is in doubt.
     fn append(&mut self, noted: Option<Payload>) -> Result<Option<Payload>, NodeFault>
         requires up { self.old.in_doubt ≡ None }
-        requires room { IsRoomFor noted (D.calls_left self.old.journal.journal.disk) (D.bytes_left self.old.journal.journal.disk) }
-        requires low { IsBelowLast noted self.old.journal.value.epoch }
+        requires room { OnSome noted (HasRoom (D.calls_left self.old.journal.journal.disk) (D.bytes_left self.old.journal.journal.disk) 5) }
+        requires low { OnSome noted (self.old.journal.value.epoch < LAST_EPOCH) }
         ensures same { (self.new.site ≡ self.old.site) × (self.new.registrar ≡ self.old.registrar) }
         ensures up { OnOk result (self.new.in_doubt ≡ None) }
         ensures refused { IfErr result (λ e. (e ≡ NodeFault.Stopped) × (is_some self.new.in_doubt ≡ true)) }

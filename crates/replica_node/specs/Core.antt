@@ -1,5 +1,5 @@
 -- A replica's core beside the rows of its turns: what it stands for, what an input carries, what a turn says and does.
-use Rattle.std.specs.Prelude.{◌≡◌, ◌<◌, Option, Some, None, option_map, ⊤}
+use Rattle.std.specs.Prelude.{◌≡◌, ◌<◌, Option, option_map}
 use Rattle.paxos_defs.specs.declared.Place.{Place}
 use Rattle.paxos_acceptor.specs.declared.acceptor.Acceptor.{Acceptor}
 use Rattle.paxos_acceptor.specs.declared.notes.ReplicaNote.{ReplicaNote}
@@ -65,8 +65,3 @@ GoesOn core (Starts acceptor) k = Knows acceptor k
 abbrev pub HasRoomIn : ReplicaCore → Change → Type 0
 HasRoomIn core Stays = 0 < room core.acceptor
 HasRoomIn core (Starts acceptor) = 0 < room acceptor
-
--- there is room for a turn's note, if it has one
-abbrev pub HasRoomFor : ReplicaCore → Change → Option ReplicaNote → Type 0
-HasRoomFor core change None = ⊤
-HasRoomFor core change (Some note) = HasRoomIn core change

@@ -1,10 +1,9 @@
 -- A replica over its disk, beside the states that its entries lead through.
-use Rattle.std.specs.Prelude.{◌≡◌, ◌⊎◌, ◌≤◌, ◌-◌, ◌^◌, min, ℕ, List, [], ◌∷◌, ◌++◌, length, Bool, true, false, Option, Some, None}
+use Rattle.std.specs.Prelude.{◌≡◌, ◌⊎◌, ◌-◌, ◌^◌, min, ℕ, List, [], ◌∷◌, ◌++◌, length, Bool, true, false, Option, Some, None, IfSome, OnSome}
 use Rattle.list_words.specs.Lists.{Each}
 use Rattle.paxos_acceptor.specs.declared.notes.ReplicaNote.{ReplicaNote}
 use Rattle.packet_codec.specs.Notes.{note, IsNote}
 use Rattle.gate_journal.specs.Gate.{records, StandsFor, IsOldOrNew}
-use Rattle.gate_journal.specs.Disk.{HasRoom}
 use Rattle.gate_journal.specs.declared.journal.JournalState.{JournalState}
 use Rattle.gate_journal.specs.declared.journal.JournalState.TheVariants.{Ready}
 use Rattle.air_bus.specs.declared.entry.Input.{Input as Bytes}
@@ -17,14 +16,10 @@ use Rattle.turn_defs.specs.declared.config.Config.{Config}
 use Rattle.turn_defs.specs.Configs.{IsOf}
 use Rattle.site_node.specs.Replicas.{ReplicaState, IsVoted, records_of, OnDisk, kept_of, replica_rows}
 use Rattle.turn_defs.specs.Replica.{ReplicaKept, land_replica}
-use Rattle.replica_node.specs.Core.{Stands, GoesOn, HasRoomFor, noted}
+use Rattle.replica_node.specs.Core.{Stands, GoesOn, HasRoomIn, noted}
 use Rattle.replica_node.specs.declared.turn.Turn.{Turn}
 use Rattle.replica_node.specs.declared.turn.Change.{Change}
 use Rattle.replica_node.specs.declared.replica_core.ReplicaCore.{ReplicaCore}
-
-abbrev pub IsNotedSo : Option ReplicaNote → Type 0
-IsNotedSo None = Unit {0}
-IsNotedSo (Some n) = IsNote n
 
 -- what contracts see of a voter
 pub record VoterView : Type 0 where
@@ -53,7 +48,7 @@ pub record IsSpelledTurn (core : ReplicaCore) (change : Change) (written_note : 
   pub kept : ReplicaKept
   pub goes_on : GoesOn core change kept
   pub spelled : Each IsVoted kept.notes
-  pub note : IsNotedSo written_note
+  pub note : IfSome written_note IsNote
 
 -- how many notes are kept, as far as a word of 64 bits counts
 abbrev pub counted : ReplicaKept → ℕ
@@ -117,18 +112,9 @@ abbrev pub recorded : Option ReplicaNote → Option (List ℕ)
 recorded None = None
 recorded (Some n) = Some (note n)
 
-abbrev pub IsShort : Option (List ℕ) → Type 0
-IsShort None = Unit {0}
-IsShort (Some r) = length r ≤ 65535
-
--- what is left of the disk's room is enough to append the record
-abbrev pub IsRoomFor : Option (List ℕ) → ℕ → ℕ → Type 0
-IsRoomFor None calls_left bytes_left = Unit {0}
-IsRoomFor (Some r) calls_left bytes_left = HasRoom calls_left bytes_left (length r)
-
 -- the turn's packets and its note are spelled, and it can be kept
 pub record IsReady (core : ReplicaCore) (turn : Turn) (sent : List (ℕ × List ℕ)) (written : Option (List ℕ)) : Type 0 where
-  pub room : HasRoomFor core turn.change turn.note
+  pub room : OnSome turn.note (HasRoomIn core turn.change)
   pub spelled : IsSpelledTurn core turn.change turn.note
   pub packets : AreSpelled turn.packets.items sent
   pub noted : written ≡ recorded turn.note

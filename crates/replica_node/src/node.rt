@@ -1,6 +1,7 @@
 // The replica over its disk.
-ghost use Rattle.std.specs.Prelude.{◌≡◌, None, ◌≤◌, ◌+◌, false, true, Some, Option, List, ℕ, is_some, is_err, option_map, length, IsTrue, IfOk, IfErr, OnOk, OnErr, IsErrOf};
+ghost use Rattle.std.specs.Prelude.{◌≡◌, None, ◌≤◌, ◌+◌, false, true, Some, Option, List, ℕ, is_some, is_err, option_map, length, IsTrue, IfOk, IfErr, IfSome, OnOk, OnErr, IsErrOf};
 ghost use Rattle.gate_journal.specs.declared.journal.JournalState.TheVariants.{Ready};
+ghost use Rattle.gate_journal.specs.Disk.{HasRoom};
 ghost use Rattle.outside.specs.Disk.{Throughout};
 ghost use Rattle.outside.specs.Faults.{Rose};
 ghost use Rattle.outside.specs.Plans.{MeetsPlan, AtMost};
@@ -18,7 +19,7 @@ ghost use Rattle.turn_defs.specs.Replica.{ReplicaKept, land_replica, replica_at_
 ghost use Rattle.replica_node.specs.Core.{noted, IsRow, GoesOn};
 ghost use Rattle.replica_node.specs.Votes.{IsOfNotes, spells};
 ghost use Rattle.paxos_acceptor.specs.declared.notes.ReplicaNote.{ReplicaNote};
-ghost use Rattle.replica_node.specs.Node.{StandsAt, Holds, HoldsOr, OnDiskOr, Knows, recorded, IsShort, IsReady, IsRoomFor, down_over, never_spent};
+ghost use Rattle.replica_node.specs.Node.{StandsAt, Holds, HoldsOr, OnDiskOr, Knows, recorded, IsReady, down_over, never_spent};
 ghost use Rattle.site_node.specs.Replicas.{replica_rows, KeepsNotes, ReplicaState, KeptOn};
 ghost use Rattle.site_node.specs.Paths.{begins as begins_by, phase_led};
 ghost use Rattle.replica_node.specs.Kept.{kept_images};
@@ -102,7 +103,7 @@ impl<D: Disk> ReplicaNode<D> {
         ensures turn { IfOk result (λ r. (g : Setting) (k : ReplicaKept) (live : Option (Unit {0})) → Knows self.old.voter k live → Fits live input.now → IsRow g (row_of replica_rows g k live input.now) r.turn) }
         ensures next { IfOk result (λ r. (k : ReplicaKept) (live : Option (Unit {0})) → Knows self.old.voter k live → Fits live input.now → GoesOn self.new.voter.core r.turn.change k) }
         ensures ready { IfOk result (λ r. IsReady self.new.voter.core r.turn r.packets r.written) }
-        ensures room { IfOk result (λ r. IsRoomFor r.written (D.calls_left self.new.journal.disk) (D.bytes_left self.new.journal.disk)) }
+        ensures room { IfOk result (λ r. IfSome r.written (λ bytes. HasRoom (D.calls_left self.new.journal.disk) (D.bytes_left self.new.journal.disk) (length bytes))) }
     {
         let turn = self.voter.decide(input)?;
         let packets = spell(self.alloc, &turn.packets)?;
@@ -117,13 +118,13 @@ impl<D: Disk> ReplicaNode<D> {
 
     // The disk's room for the record, if there is one.
     fn make_room(&mut self, written: &Option<Payload>) -> Result<(), AllocError>
-        requires { IsShort written.now }
+        requires { IfSome written.now (λ bytes. length bytes ≤ 65535) }
         ensures same { (self.new.replica ≡ self.old.replica) × (self.new.config ≡ self.old.config) × (self.new.in_doubt ≡ self.old.in_doubt) × (self.new.voter ≡ self.old.voter) }
         ensures holds { IsTrue D.tells → (k : ReplicaKept) → Holds self.old.kept (D.seen self.old.journal.disk) (D.image self.old.journal.disk) self.old.journal.state k → Holds self.new.kept (D.seen self.new.journal.disk) (D.image self.new.journal.disk) self.new.journal.state k }
         ensures moments { IsTrue D.tells → Throughout D.image D.since self.old.journal.disk self.new.journal.disk (D.image self.old.journal.disk) }
         ensures plan { IsTrue D.tells → MeetsPlan D.stops D.made D.faults 0 false self.old.journal.disk self.new.journal.disk }
         ensures count { D.faults self.new.journal.disk ≡ D.faults self.old.journal.disk }
-        ensures room { OnOk result (IsRoomFor written.now (D.calls_left self.new.journal.disk) (D.bytes_left self.new.journal.disk)) }
+        ensures room { OnOk result (IfSome written.now (λ bytes. HasRoom (D.calls_left self.new.journal.disk) (D.bytes_left self.new.journal.disk) (length bytes))) }
     {
         match written {
             None => Ok(()),
@@ -137,7 +138,7 @@ impl<D: Disk> ReplicaNode<D> {
     // Appends the note, if there is one. Where the disk fails the note is in doubt.
     fn append(&mut self, written: Option<Payload>) -> Result<Option<Payload>, NodeFault>
         requires up { self.old.in_doubt ≡ None }
-        requires room { IsRoomFor written (D.calls_left self.old.journal.disk) (D.bytes_left self.old.journal.disk) }
+        requires room { IfSome written (λ bytes. HasRoom (D.calls_left self.old.journal.disk) (D.bytes_left self.old.journal.disk) (length bytes)) }
         ensures same { (self.new.replica ≡ self.old.replica) × (self.new.config ≡ self.old.config) × (self.new.voter ≡ self.old.voter) }
         ensures up { OnOk result (self.new.in_doubt ≡ None) }
         ensures refused { IfErr result (λ e. (e ≡ NodeFault.Stopped) × (is_some self.new.in_doubt ≡ true)) }

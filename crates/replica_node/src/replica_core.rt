@@ -1,12 +1,12 @@
 // The replica's core: an acceptor, and packets in place of answers.
-ghost use Rattle.std.specs.Prelude.{◌≡◌, ◌<◌, ◌∷◌, [], IfOk};
+ghost use Rattle.std.specs.Prelude.{◌≡◌, ◌<◌, ◌∷◌, [], IfOk, OnSome};
 ghost use Rattle.paxos_acceptor.specs.Cells.{room};
 ghost use Rattle.paxos_defs.specs.Turns.{on_accept, on_prepare};
 ghost use Rattle.registry_state.specs.Same.{same_batch};
 ghost use Rattle.turn_defs.specs.Setting.{Setting};
 ghost use Rattle.turn_defs.specs.Turns.{land};
 ghost use Rattle.turn_defs.specs.Replica.{ReplicaKept, accepts, cell_at, land_replica, prepares, replica_at_rest, replica_gets, replica_start, replica_unfinished, replica_wants};
-ghost use Rattle.replica_node.specs.Core.{Carries, GoesOn, HasRoomFor, HasRoomIn, IsRow, Stands, asked, noted, row_of};
+ghost use Rattle.replica_node.specs.Core.{Carries, GoesOn, HasRoomIn, IsRow, Stands, asked, noted, row_of};
 ghost use Rattle.site_node.specs.Replicas.{kept_of};
 ghost use Rattle.replica_node.specs.declared.turn.Change.TheVariants.{Stays};
 
@@ -50,7 +50,7 @@ impl ReplicaCore {
         ensures same { (k : ReplicaKept) → Stands self.old k → Stands self.new k }
         ensures turn { IfOk result (λ turn. (g : Setting) (k : ReplicaKept) → Carries self.old k input.now → IsRow g (row_of k (asked input.now)) turn) }
         ensures next { IfOk result (λ turn. (k : ReplicaKept) → Carries self.old k input.now → GoesOn self.new turn.change k) }
-        ensures room { IfOk result (λ turn. HasRoomFor self.new turn.change turn.note) }
+        ensures room { IfOk result (λ turn. OnSome turn.note (HasRoomIn self.new turn.change)) }
     {
         match input {
             ReplicaInput::Start { notes } => self.start(notes),
@@ -61,7 +61,7 @@ impl ReplicaCore {
 
     /// Makes the turn's change, once its note is written, in constant expected time. It takes no memory.
     pub fn keep(&mut self, turn: Turn)
-        requires { HasRoomFor self.old turn.change turn.note }
+        requires { OnSome turn.note (HasRoomIn self.old turn.change) }
         ensures { (k : ReplicaKept) → GoesOn self.old turn.change k → Stands self.new (land land_replica (noted turn.note) k) }
     {
         let Turn {
@@ -111,7 +111,7 @@ impl ReplicaCore {
     pub(crate) fn start(&self, notes: &[ReplicaNote]) -> Result<Turn, AllocError>
         ensures turn { IfOk result (λ turn. (g : Setting) (k : ReplicaKept) → IsRow g (replica_start k) turn) }
         ensures next { IfOk result (λ turn. (k : ReplicaKept) → kept_of notes.now ≡ k → GoesOn self.now turn.change k) }
-        ensures room { IfOk result (λ turn. HasRoomFor self.now turn.change turn.note) }
+        ensures room { IfOk result (λ turn. OnSome turn.note (HasRoomIn self.now turn.change)) }
     {
         let acceptor = replay(self.alloc, notes)?;
         Ok(Turn::idle(self.alloc, Change::Starts(acceptor)))
@@ -122,7 +122,7 @@ impl ReplicaCore {
         ensures same { (k : ReplicaKept) → Stands self.old k → Stands self.new k }
         ensures turn { IfOk result (λ turn. (g : Setting) (k : ReplicaKept) → Stands self.old k → IsRow g (replica_gets k from packet.now) turn) }
         ensures change { IfOk result (λ turn. turn.change ≡ Stays) }
-        ensures room { IfOk result (λ turn. HasRoomFor self.new turn.change turn.note) }
+        ensures room { IfOk result (λ turn. OnSome turn.note (HasRoomIn self.new turn.change)) }
     {
         match packet {
             Packet::Prepare { place, ballot } => self.prepare(from, *place, *ballot),
@@ -141,7 +141,7 @@ impl ReplicaCore {
         ensures same { (k : ReplicaKept) → Stands self.old k → Stands self.new k }
         ensures turn { IfOk result (λ turn. (g : Setting) (k : ReplicaKept) → Stands self.old k → IsRow g (prepares from place ballot (on_prepare (cell_at k place) ballot)) turn) }
         ensures change { IfOk result (λ turn. turn.change ≡ Stays) }
-        ensures room { IfOk result (λ turn. HasRoomFor self.new turn.change turn.note) }
+        ensures room { IfOk result (λ turn. OnSome turn.note (HasRoomIn self.new turn.change)) }
     {
         let (note, answer) = self.acceptor.on_prepare(place.shard, place.slot, ballot)?;
         let turn = self.say(from, prepared(place, ballot, answer), note)?;
@@ -160,7 +160,7 @@ impl ReplicaCore {
         ensures same { (k : ReplicaKept) → Stands self.old k → Stands self.new k }
         ensures turn { IfOk result (λ turn. (g : Setting) (k : ReplicaKept) → Stands self.old k → IsRow g (accepts from place ballot (on_accept same_batch (cell_at k place) ballot batch.now)) turn) }
         ensures change { IfOk result (λ turn. turn.change ≡ Stays) }
-        ensures room { IfOk result (λ turn. HasRoomFor self.new turn.change turn.note) }
+        ensures room { IfOk result (λ turn. OnSome turn.note (HasRoomIn self.new turn.change)) }
     {
         let (note, answer) = self
             .acceptor
@@ -180,7 +180,7 @@ impl ReplicaCore {
         ensures note { IfOk result (λ turn. turn.note ≡ note) }
         ensures packets { IfOk result (λ turn. turn.packets.items ≡ (to, packet) ∷ []) }
         ensures change { IfOk result (λ turn. turn.change ≡ Stays) }
-        ensures room { IfOk result (λ turn. HasRoomFor self.new turn.change turn.note) }
+        ensures room { IfOk result (λ turn. OnSome turn.note (HasRoomIn self.new turn.change)) }
     {
         let mut packets = Vec::with_capacity(self.alloc, 1)?;
         packets.push((to, packet))?;

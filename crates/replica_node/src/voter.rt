@@ -30,7 +30,7 @@ impl Model for Voter {
 }
 
 impl Voter {
-    ghost use Rattle.std.specs.Prelude.{◌≡◌, [], Option, All, IfOk, true, false};
+    ghost use Rattle.std.specs.Prelude.{◌≡◌, [], Option, All, IfOk, OnSome, true, false};
     ghost use Rattle.turn_defs.specs.Packets.{IsPacket};
     ghost use Rattle.turn_defs.specs.declared.packet.Packet.{Packet};
     ghost use Rattle.turn_defs.specs.declared.node.Node.{Node};
@@ -39,7 +39,7 @@ impl Voter {
     ghost use Rattle.turn_defs.specs.Setting.{Setting};
     ghost use Rattle.turn_defs.specs.Turns.{land};
     ghost use Rattle.turn_defs.specs.Replica.{ReplicaKept, land_replica};
-    ghost use Rattle.replica_node.specs.Core.{GoesOn, HasRoomFor, IsRow, Stands, noted};
+    ghost use Rattle.replica_node.specs.Core.{GoesOn, HasRoomIn, IsRow, Stands, noted};
     ghost use Rattle.replica_node.specs.Node.{Knows, IsSpelledTurn};
     ghost use Rattle.site_node.specs.Replicas.{replica_rows};
 
@@ -64,7 +64,7 @@ impl Voter {
         ensures next { IfOk result (λ turn. (k : ReplicaKept) (live : Option (Unit {0})) → Knows self.old k live → Fits live input.now → GoesOn self.new.core turn.change k) }
         ensures packets { IfOk result (λ turn. All (λ (p : Node × Packet). IsPacket p.1) turn.packets.items) }
         ensures spelled { IfOk result (λ turn. IsSpelledTurn self.new.core turn.change turn.note) }
-        ensures room { IfOk result (λ turn. HasRoomFor self.new.core turn.change turn.note) }
+        ensures room { IfOk result (λ turn. OnSome turn.note (HasRoomIn self.new.core turn.change)) }
     {
         match input {
             Input::Start => self.core.start(self.votes.notes()),
@@ -75,7 +75,7 @@ impl Voter {
 
     // Makes the turn's change, once its note is written. It is up then.
     pub(crate) fn keep(&mut self, turn: Turn)
-        requires room { HasRoomFor self.old.core turn.change turn.note }
+        requires room { OnSome turn.note (HasRoomIn self.old.core turn.change) }
         requires spelled { IsSpelledTurn self.old.core turn.change turn.note }
         ensures up { self.new.up ≡ true }
         ensures stands { (k : ReplicaKept) → GoesOn self.old.core turn.change k → Stands self.new.core (land land_replica (noted turn.note) k) }

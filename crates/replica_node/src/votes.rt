@@ -1,7 +1,7 @@
 // The notes that are kept on a disk.
-ghost use Rattle.std.specs.Prelude.{◌≡◌, All, IfOk, IfSome, IfNone};
+ghost use Rattle.std.specs.Prelude.{◌≡◌, ◌≤◌, length, All, IfOk, IfSome, IfNone};
 ghost use Rattle.packet_codec.specs.Notes.{note as note_spelled, IsNote};
-ghost use Rattle.replica_node.specs.Node.{recorded, IsNotedSo, IsShort};
+ghost use Rattle.replica_node.specs.Node.{recorded};
 ghost use Rattle.replica_node.specs.Votes.{IsNoVote};
 ghost use Rattle.replica_node.specs.VoteLaws.{notes_once};
 
@@ -120,9 +120,9 @@ pub(crate) fn vote_record(
     alloc: Global,
     note: &Option<ReplicaNote>,
 ) -> Result<Option<Payload>, AllocError>
-    requires { IsNotedSo note.now }
+    requires { IfSome note.now IsNote }
     ensures recorded { IfOk result (λ r. r ≡ recorded note.now) }
-    ensures short { IfOk result IsShort }
+    ensures short { IfOk result (λ r. IfSome r (λ bytes. length bytes ≤ 65535)) }
 {
     match note {
         None => Ok(None),

@@ -1,6 +1,6 @@
 -- Where a replica's kept notes and its input have spellings, so have the row's note and packets, and what it keeps then.
 use Rattle.std.proofs.Common.{Bool, true, false, List, [], ◌∷◌, ◌++◌, Option, Some, None, sym, subst}
-use Rattle.std.specs.Prelude.{All, if◌then◌else◌, ⊤}
+use Rattle.std.specs.Prelude.{All, IfSome, if◌then◌else◌, ⊤}
 use Rattle.list_words.specs.Lists.{Each}
 use Rattle.ballot_core.specs.declared.Ballot.{Ballot}
 use Rattle.ballot_core.specs.Ballots.{is_below, is_same}
@@ -44,23 +44,15 @@ pub views_ok : (ns : List ReplicaNote) → All IsNote ns → Each IsVoted (map n
 views_ok [] all = tt
 views_ok (n ∷ ns) all = (view_ok n (All-head IsNote n ns all), views_ok ns (All-tail IsNote n ns all))
 
-abbrev pub IsBallotIf : Option Ballot → Type 0
-IsBallotIf None = ⊤
-IsBallotIf (Some b) = IsBallot b
-
-abbrev pub IsBatchIf : Option Batch → Type 0
-IsBatchIf None = ⊤
-IsBatchIf (Some v) = IsBatch v
-
 pub record IsCell (c : Cell Batch) : Type 0 where
-  pub promised : IsBallotIf c.promised
+  pub promised : IfSome c.promised IsBallot
   pub accepted : IsPrior c.accepted
 
-accepted_ok : (old : Option (Ballot × Batch)) (x : Vote Batch) (o : Option Batch) → IsPrior old → IsBallot x.ballot → IsBatchIf o → IsPrior (accepted_after old x o)
+accepted_ok : (old : Option (Ballot × Batch)) (x : Vote Batch) (o : Option Batch) → IsPrior old → IsBallot x.ballot → IfSome o IsBatch → IsPrior (accepted_after old x o)
 accepted_ok old x None prior ballot value = prior
 accepted_ok old x (Some v) prior ballot value = (ballot, value)
 
-after : (c : Cell Batch) (x : Vote Batch) → IsCell c → IsBallot x.ballot → IsBatchIf x.value → IsCell (cell_after c x)
+after : (c : Cell Batch) (x : Vote Batch) → IsCell c → IsBallot x.ballot → IfSome x.value IsBatch → IsCell (cell_after c x)
 after c x cell ballot value = record { promised = ballot; accepted = accepted_ok c.accepted x x.value cell.accepted ballot value }
 
 step : (t : Bool) (c : Cell Batch) (x : Vote Batch) (rest : List (Vote Batch)) → IsCell c → IsCell (cell_after c x) → ((d : Cell Batch) → IsCell d → IsCell (cell_from d rest)) → IsCell (cell_from c ((if t then x ∷ [] else []) ++ rest))
@@ -90,7 +82,7 @@ module _ (to : Node) (at : Place) (b : Ballot) (c : Cell Batch) (place : IsPlace
   prepare_one p false true is = record { note = tt; packets = ((place, ballot, cell.accepted), tt) }
   prepare_one p false false is = record { note = (place, ballot); packets = ((place, ballot, cell.accepted), tt) }
 
-  prepare_by : (o : Option Ballot) → IsBallotIf o → IsSpelledOut (prepares to at b (prepare_under c b o))
+  prepare_by : (o : Option Ballot) → IfSome o IsBallot → IsSpelledOut (prepares to at b (prepare_under c b o))
   prepare_by None is = record { note = (place, ballot); packets = ((place, ballot, cell.accepted), tt) }
   prepare_by (Some p) is = prepare_one p (is_below b p) (is_same p b) is
 
@@ -109,7 +101,7 @@ module _ (to : Node) (at : Place) (b : Ballot) (c : Cell Batch) (place : IsPlace
     accept_one p true is = record { note = tt; packets = ((place, ballot, is), tt) }
     accept_one p false is = anew
 
-    accept_by : (o : Option Ballot) → IsBallotIf o → IsSpelledOut (accepts to at b (accept_under same_batch c b v o))
+    accept_by : (o : Option Ballot) → IfSome o IsBallot → IsSpelledOut (accepts to at b (accept_under same_batch c b v o))
     accept_by None is = anew
     accept_by (Some p) is = accept_one p (is_below b p) is
 
