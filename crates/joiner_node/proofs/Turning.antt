@@ -16,7 +16,7 @@ use Rattle.turn_defs.specs.declared.node.Input.TheVariants.{Start, Own, Tick, De
 use Rattle.turn_defs.specs.Setting.{Setting}
 use Rattle.turn_defs.specs.Turns.{Note, Epoch, Out, land}
 use Rattle.site_node.specs.Bytes.{record_of, AreSpelled, Reads, IsJunk}
-use Rattle.site_node.proofs.Turns.{ends_done, ends_idle}
+use Rattle.site_node.proofs.Turns.{ends_done, ends_idle, none_of}
 use Rattle.site_node.specs.States.{State, Leads, row, written, closes, opens}
 use Rattle.turn_defs.specs.declared.config.Config.{Config}
 use Rattle.turn_defs.specs.Configs.{IsOf}
@@ -210,12 +210,17 @@ knows_up up core g n k l is stands = subst (λ (u : Bool). Knows u core g n k (S
 pub knows_down : (up : Bool) (core : JoinerCore) (g : Setting) (n : ℕ) (k : JoinerKept) → up ≡ false → Knows up core g n k None
 knows_down up core g n k is = subst (λ (u : Bool). Knows u core g n k None) (sym is) tt
 
-pub stands_up : (up : Bool) (core : JoinerCore) (g : Setting) (n : ℕ) (k : JoinerKept) (live : Option JoinerLive) (l : JoinerLive) → live ≡ Some l → Knows up core g n k live → Stands core g n k l
+stands_up : (up : Bool) (core : JoinerCore) (g : Setting) (n : ℕ) (k : JoinerKept) (live : Option JoinerLive) (l : JoinerLive) → live ≡ Some l → Knows up core g n k live → Stands core g n k l
 stands_up up core g n k live l is knows = go up (subst (λ (x : Option JoinerLive). Knows up core g n k x) is knows)
   where
     go : (u : Bool) → Knows u core g n k (Some l) → Stands core g n k l
     go true stands = stands
     go false stands = absurd stands
+
+-- what a joiner that is up knows
+pub up_stands : (p : Parts) (epoch_image pairs_image : List ℕ → Type 0) (s : JoinerState) (l : JoinerLive) → StandsAt p epoch_image pairs_image s → is_some p.in_doubt ≡ false → s.node.live ≡ Some l → Stands p.core s.node.setting s.number s.node.kept l
+up_stands p epoch_image pairs_image s l at waits live =
+    stands_up p.up p.core s.node.setting s.number s.node.kept s.node.live l live (quiet p.in_doubt p epoch_image pairs_image s (none_of p.in_doubt waits) at.by).1
 
 -- ---- a fault that is handed on
 
