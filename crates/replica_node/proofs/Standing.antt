@@ -1,7 +1,7 @@
 -- What a replica over its disk stands for.
 use Rattle.std.proofs.Common.{◌≡◌, ◌⊎◌, inl, inr, ⊎_elim, ℕ, ◌+◌, ◌-◌, ◌^◌, ◌≤◌, min, Bool, true, false, List, [], ◌∷◌, ◌++◌, length, Option, Some, None, refl, sym, ap, ◌∙◌, subst, arith, length-append}
 use Rattle.std.specs.Prelude.{All, map, option_map, Result}
-use Rattle.replica_node.proofs.Words.{length-map, each_push, result_unwrap_or, map-append, All-head, All-tail, All-nil, All-cons, Each, Only, ReplicaNote, note_view, note, IsNote, records, StandsFor, IsOldOrNew, IsOpened, JournalState, Ready, Bytes, Setting, BallotNote, Note, Voted, land, record_of, Config, IsOf, ReplicaKept, land_replica, noted, kept_of, VoterView, KnowsAs, counted, recorded, Holds, OnDiskOr, IsRecord, StandsAt, ReplicaState, IsVoted, vote_record, records_of, IsOfNotes, IsRowNote, views_ok}
+use Rattle.replica_node.proofs.Words.{length-map, each_push, result_unwrap_or, map-append, All-head, All-tail, All-nil, All-cons, Each, Only, ReplicaNote, note_view, note, IsNote, records, StandsFor, IsOldOrNew, IsOpened, JournalState, Ready, Bytes, Setting, BallotNote, Note, Voted, land, record_of, Config, IsOf, ReplicaKept, land_replica, noted, kept_of, VoterView, KnowsAs, counted, Holds, OnDiskOr, IsRecord, StandsAt, ReplicaState, IsVoted, vote_record, records_of, IsOfNotes, IsRowNote, views_ok}
 use Rattle.paxos_defs.specs.Notes.Note.{Promised, Accepted}
 use Rattle.paxos_acceptor.specs.declared.notes.ReplicaNote.TheVariants as replica
 use Rattle.replica_node.specs.Node.{Knows}
@@ -19,7 +19,7 @@ rule_records rs c stands = ap (λ (r : Result (List (List ℕ)) ℕ). result_unw
 
 -- ---- one note more
 
-pub holds_more : (k : ReplicaKept) (n : Option ReplicaNote) (f p : List ℕ) (kept kept' : ℕ) (seen seen' : List ℕ) (image image' : List ℕ → Type 0) (state state' : JournalState) → f ≡ p → Some p ≡ recorded n → Holds kept seen image state k
+pub holds_more : (k : ReplicaKept) (n : Option ReplicaNote) (f p : List ℕ) (kept kept' : ℕ) (seen seen' : List ℕ) (image image' : List ℕ → Type 0) (state state' : JournalState) → f ≡ p → Some p ≡ option_map note n → Holds kept seen image state k
     → state' ≡ Ready → records seen' ≡ records seen ++ f ∷ [] → ((c : List ℕ) → image' c → StandsFor (records seen ++ f ∷ []) c) → kept' ≡ min (kept + 1) (2 ^ 64 - 1) → Holds kept' seen' image' state' (land land_replica (noted n) k)
 holds_more k None f p kept kept' seen seen' image image' state state' same e holds ready reads durable count = absurd (cc e)
 holds_more k (Some n) f p kept kept' seen seen' image image' state state' same e holds ready reads durable count =
@@ -130,7 +130,7 @@ landed_records k None r is = absurd is
 landed_records k (Some n) r is = map-append vote_record k.notes (note_view n ∷ []) ∙ ap (λ (b : List ℕ). records_of k ++ b ∷ []) (view_record n ∙ sym is)
 
 -- an append leaves the kept notes, or those and the new one
-pub append_leaves : (k : ReplicaKept) (n : Option ReplicaNote) (f p : List ℕ) (seen c : List ℕ) → f ≡ p → Some p ≡ recorded n → records seen ≡ records_of k → IsOldOrNew (records seen) f c → OnDiskOr k n c
+pub append_leaves : (k : ReplicaKept) (n : Option ReplicaNote) (f p : List ℕ) (seen c : List ℕ) → f ≡ p → Some p ≡ option_map note n → records seen ≡ records_of k → IsOldOrNew (records seen) f c → OnDiskOr k n c
 append_leaves k None f p seen c same e reads either = absurd (cc e)
 append_leaves k (Some n) f p seen c same e reads either =
     let more : records seen ++ f ∷ [] ≡ records_of (land land_replica (noted (Some n)) k) = ap (λ (rs : List (List ℕ)). rs ++ f ∷ []) reads ∙ sym (landed_records k (Some n) f (cc (same, e))) in

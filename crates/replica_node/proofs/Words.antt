@@ -21,7 +21,7 @@ pub use Rattle.registry_state.specs.Same.{same_batch}
 pub use Rattle.registry_state.specs.declared.Batch.{Batch}
 pub use Rattle.replica_node.specs.Core.{Carries, GoesOn, IsRow, Knows, Stands, asked, noted, row_of}
 pub use Rattle.replica_node.specs.Kept.{kept_images}
-pub use Rattle.replica_node.specs.Node.{Holds, HoldsOr, IsRecord, KnowsAs, OnDiskOr, StandsAt, VoterView, counted, recorded}
+pub use Rattle.replica_node.specs.Node.{Holds, HoldsOr, IsRecord, KnowsAs, OnDiskOr, StandsAt, VoterView, counted}
 pub use Rattle.replica_node.specs.Votes.{IsOfNotes}
 pub use Rattle.replica_node.specs.declared.input.ReplicaInput.{ReplicaInput}
 pub use Rattle.replica_node.specs.declared.replica_core.ReplicaCore.{ReplicaCore}

@@ -1,5 +1,5 @@
 -- A replica over its disk, beside the states that its entries lead through.
-use Rattle.std.specs.Prelude.{◌≡◌, ◌⊎◌, ◌-◌, ◌^◌, min, ℕ, List, [], ◌∷◌, ◌++◌, length, Bool, true, false, Option, Some, None, IfSome, OnSome}
+use Rattle.std.specs.Prelude.{◌≡◌, ◌⊎◌, ◌-◌, ◌^◌, min, ℕ, List, [], ◌∷◌, ◌++◌, length, Bool, true, false, Option, Some, None, IfSome, OnSome, option_map}
 use Rattle.list_words.specs.Lists.{Each}
 use Rattle.paxos_acceptor.specs.declared.notes.ReplicaNote.{ReplicaNote}
 use Rattle.packet_codec.specs.Notes.{note, IsNote}
@@ -107,14 +107,9 @@ pub record StandsAt (config : Config) (open_record : Option (List ℕ)) (kept : 
 abbrev pub down_over : Setting → List ReplicaNote → ReplicaState
 down_over g notes = record { setting = g; kept = kept_of notes; live = None; opened = None }
 
--- the record of a note, if there is one
-abbrev pub recorded : Option ReplicaNote → Option (List ℕ)
-recorded None = None
-recorded (Some n) = Some (note n)
-
 -- the turn's packets and its note are spelled, and it can be kept
 pub record IsReady (core : ReplicaCore) (turn : Turn) (sent : List (ℕ × List ℕ)) (written : Option (List ℕ)) : Type 0 where
   pub room : OnSome turn.note (HasRoomIn core turn.change)
   pub spelled : IsSpelledTurn core turn.change turn.note
   pub packets : AreSpelled turn.packets.items sent
-  pub noted : written ≡ recorded turn.note
+  pub noted : written ≡ option_map note turn.note

@@ -19,7 +19,7 @@ ghost use Rattle.turn_defs.specs.Replica.{ReplicaKept, land_replica, replica_at_
 ghost use Rattle.replica_node.specs.Core.{noted, IsRow, GoesOn};
 ghost use Rattle.replica_node.specs.Votes.{IsOfNotes, spells};
 ghost use Rattle.paxos_acceptor.specs.declared.notes.ReplicaNote.{ReplicaNote};
-ghost use Rattle.replica_node.specs.Node.{StandsAt, Holds, HoldsOr, OnDiskOr, Knows, recorded, IsReady, down_over, never_spent};
+ghost use Rattle.replica_node.specs.Node.{StandsAt, Holds, HoldsOr, OnDiskOr, Knows, IsReady, down_over, never_spent};
 ghost use Rattle.site_node.specs.Replicas.{replica_rows, KeepsNotes, ReplicaState, KeptOn};
 ghost use Rattle.site_node.specs.Paths.{begins as begins_by, phase_led};
 ghost use Rattle.replica_node.specs.Kept.{kept_images};
@@ -145,11 +145,11 @@ impl<D: Disk> ReplicaNode<D> {
         ensures fault { OnErr result (Rose (D.faults self.old.journal.disk) (D.faults self.new.journal.disk)) }
         ensures plan { IsTrue D.tells → MeetsPlan D.stops D.made D.faults 4 (is_err result) self.old.journal.disk self.new.journal.disk }
         ensures count { D.faults self.old.journal.disk ≤ D.faults self.new.journal.disk }
-        ensures moments { IsTrue D.tells → (k : ReplicaKept) (n : Option ReplicaNote) → written ≡ recorded n → Holds self.old.kept (D.seen self.old.journal.disk) (D.image self.old.journal.disk) self.old.journal.state k → Throughout D.image D.since self.old.journal.disk self.new.journal.disk (OnDiskOr k n) }
+        ensures moments { IsTrue D.tells → (k : ReplicaKept) (n : Option ReplicaNote) → written ≡ option_map note_spelled n → Holds self.old.kept (D.seen self.old.journal.disk) (D.image self.old.journal.disk) self.old.journal.state k → Throughout D.image D.since self.old.journal.disk self.new.journal.disk (OnDiskOr k n) }
         ensures grows { IsTrue D.tells → (k : ReplicaKept) → Holds self.old.kept (D.seen self.old.journal.disk) (D.image self.old.journal.disk) self.old.journal.state k → (c : List ℕ) → D.image self.new.journal.disk c → Continues (D.image self.old.journal.disk) c }
-        ensures note { (n : Option ReplicaNote) → written ≡ recorded n → IfOk result (λ r. r ≡ option_map note_spelled n) }
-        ensures holds { IsTrue D.tells → (k : ReplicaKept) (n : Option ReplicaNote) → written ≡ recorded n → Holds self.old.kept (D.seen self.old.journal.disk) (D.image self.old.journal.disk) self.old.journal.state k → OnOk result (Holds self.new.kept (D.seen self.new.journal.disk) (D.image self.new.journal.disk) self.new.journal.state (land land_replica (noted n) k)) }
-        ensures undone { IsTrue D.tells → (k : ReplicaKept) (n : Option ReplicaNote) → written ≡ recorded n → Holds self.old.kept (D.seen self.old.journal.disk) (D.image self.old.journal.disk) self.old.journal.state k → OnErr result (HoldsOr self.new.in_doubt n self.new.kept (D.seen self.new.journal.disk) (D.image self.new.journal.disk) self.new.journal.state k) }
+        ensures note { IfOk result (λ r. r ≡ written) }
+        ensures holds { IsTrue D.tells → (k : ReplicaKept) (n : Option ReplicaNote) → written ≡ option_map note_spelled n → Holds self.old.kept (D.seen self.old.journal.disk) (D.image self.old.journal.disk) self.old.journal.state k → OnOk result (Holds self.new.kept (D.seen self.new.journal.disk) (D.image self.new.journal.disk) self.new.journal.state (land land_replica (noted n) k)) }
+        ensures undone { IsTrue D.tells → (k : ReplicaKept) (n : Option ReplicaNote) → written ≡ option_map note_spelled n → Holds self.old.kept (D.seen self.old.journal.disk) (D.image self.old.journal.disk) self.old.journal.state k → OnErr result (HoldsOr self.new.in_doubt n self.new.kept (D.seen self.new.journal.disk) (D.image self.new.journal.disk) self.new.journal.state k) }
     {
         match written {
             None => Ok(None),

@@ -24,7 +24,7 @@ returns-in_ok-note-in-Some-clause-done g c tells s t at led sent le =
     let new = c.keep.new.self in
     let knows = subst (λ (up : Bool). KnowsAs up new.core new.notes (land land_replica (noted ready.turn.note) s.kept) (Some tt)) (sym c.keep.ensures.up) (c.keep.ensures.stands s.kept goes) in
     ends _ _ _ _ _ _ _ _ _ _ _ _ _ _ s t 0 c.args.input.now c.in-Some.input ready.turn _ _ ready.packets sent at led (f.same.1 ∙ e.same.1) reads (e.turn s.setting s.kept s.live known.1 fits) e.ready.packets
-    (f.note ready.turn.note e.ready.noted) refl f.up knows (f.holds tells s.kept ready.turn.note e.ready.noted (e.holds tells s.kept known.0)) le
+    (f.note ∙ e.ready.noted) refl f.up knows (f.holds tells s.kept ready.turn.note e.ready.noted (e.holds tells s.kept known.0)) le
 
 pub returns-in_err-note-in-Some-clause-open : goal.returns-in_err-note-in-Some-clause-open
 returns-in_err-note-in-Some-clause-open g c tells s t at led =
