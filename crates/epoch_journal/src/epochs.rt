@@ -1,7 +1,9 @@
 // Epochs that are raised on a disk.
 ghost use Rattle.std.specs.Prelude.{◌≡◌, ◌↔◌, ◌<◌, ◌≤◌, ◌+◌, ◌++◌, [], ◌∷◌, ℕ, List, true, false, IsTrue, IfSome, IfNone, IfOk, IfErr, OnOk, OnErr, IsErrOf, is_err, Ok, Err, refl};
 ghost use Rattle.std.specs.Coded.{coded_ℕ};
+ghost use Rattle.std.specs.Int.{w32};
 ghost use Rattle.std.proofs.Common.{arith};
+ghost use Rattle.std.proofs.lemmas.Nat.{from_be_bytes-to_be_bytes_4};
 ghost use Rattle.ballot_core.specs.declared.TheConstants.{LAST_EPOCH};
 ghost use Rattle.outside.specs.Disk.{Throughout};
 ghost use Rattle.outside.specs.Faults.{Rose};
@@ -12,8 +14,8 @@ ghost use Rattle.gate_journal.specs.Gate.{records, StandsFor, IsOldOrNew};
 ghost use Rattle.gate_journal.specs.Growth.{Continues};
 ghost use Rattle.gate_journal.specs.Fold.{folds_to, fails_at};
 ghost use Rattle.gate_journal.specs.FoldLaws.{once};
-ghost use Rattle.epoch_journal.specs.Epochs.{epoch_record, epoch_in, epochs, is_next, KeepsOr, MayCome};
-ghost use Rattle.epoch_journal.specs.EpochLaws.{comes_next as epoch_comes_next};
+ghost use Rattle.gate_journal.specs.Rising as numbers;
+ghost use Rattle.epoch_journal.specs.Epochs.{epoch_record, epochs, next_epoch, KeepsOr, MayCome};
 
 use ballot_core::LAST_EPOCH;
 use gate_journal::{Append, AppendFault, Record, RecordJournal};
@@ -66,8 +68,8 @@ pub fn epoch_frame(epoch: u32) -> [u8; 5]
 
 // The epoch of a record, if it is one above the last.
 fn epoch_above(last: u32, payload: &[u8]) -> Option<u32>
-    ensures some { IfSome result (λ epoch. (is_next last payload.now ≡ true) × (epoch ≡ epoch_in payload.now) × (epoch ≤ LAST_EPOCH)) }
-    ensures none { IfNone result (is_next last payload.now ≡ false) }
+    ensures next { result ≡ next_epoch last payload.now }
+    ensures limit { IfSome result (λ epoch. epoch ≤ LAST_EPOCH) }
 {
     if payload.len() != 5 || payload[0] != TAG {
         return None;
@@ -138,7 +140,7 @@ impl Append for Epochs {
 
     ghost fits = { λ _ _ _. Prim.omega arith };
 
-    ghost comes_next = { epoch_comes_next };
+    ghost comes_next = { λ last epoch ps may. numbers.comes_next 2 w32 LAST_EPOCH last epoch ps (refl, from_be_bytes-to_be_bytes_4 epoch (Prim.omega (arith, may.1))) may.0 may.1 };
 }
 
 /// Adds the epoch above the kept one.

@@ -1,6 +1,7 @@
 //! Worked rows of the records of epochs.
 ghost use Rattle.std.specs.Prelude.{◌≡◌, [], ◌∷◌, Ok, Err};
-ghost use Rattle.epoch_journal.specs.Epochs.{epoch_record, epoch_of, kept_epoch};
+ghost use Rattle.gate_journal.specs.Fold.{kept_by};
+ghost use Rattle.epoch_journal.specs.Epochs.{epoch_record, epoch_of, epochs};
 
 /// What files keep.
 pub fn files()
@@ -13,8 +14,8 @@ pub fn files()
 
 /// Epochs rise, and the second record's length stands behind the first record and its gate.
 pub fn epochs_rise()
-    ensures rises { kept_epoch (epoch_record 1 ∷ epoch_record 4 ∷ []) ≡ Ok 4 }
-    ensures equal { kept_epoch (epoch_record 4 ∷ epoch_record 4 ∷ []) ≡ Err 11 }
-    ensures last { kept_epoch (epoch_record 4294967294 ∷ []) ≡ Ok 4294967294 }
-    ensures past { kept_epoch (epoch_record 4294967295 ∷ []) ≡ Err 1 }
+    ensures rises { kept_by epochs (epoch_record 1 ∷ epoch_record 4 ∷ []) ≡ Ok 4 }
+    ensures equal { kept_by epochs (epoch_record 4 ∷ epoch_record 4 ∷ []) ≡ Err 11 }
+    ensures last { kept_by epochs (epoch_record 4294967294 ∷ []) ≡ Ok 4294967294 }
+    ensures past { kept_by epochs (epoch_record 4294967295 ∷ []) ≡ Err 1 }
 {}

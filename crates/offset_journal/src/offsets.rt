@@ -1,12 +1,14 @@
 // Offsets that advance on a disk.
-ghost use Rattle.std.specs.Prelude.{◌≡◌, ◌≤◌, ℕ, true, false, refl, IfSome, IfNone};
+ghost use Rattle.std.specs.Prelude.{◌≡◌, ◌≤◌, ◌-◌, ◌^◌, ℕ, refl};
 ghost use Rattle.std.specs.Coded.{coded_ℕ};
+ghost use Rattle.std.specs.Int.{w64};
 ghost use Rattle.std.proofs.Common.{arith};
+ghost use Rattle.std.proofs.lemmas.Nat.{from_be_bytes-to_be_bytes_8};
 ghost use Rattle.gate_journal.specs.Fold.{folds_to, fails_at};
 ghost use Rattle.gate_journal.specs.FoldLaws.{once};
+ghost use Rattle.gate_journal.specs.Rising as numbers;
 ghost use Rattle.offset_journal.specs.Offsets as defs;
-ghost use Rattle.offset_journal.specs.Offsets.{is_next, offset_in, offsets, MayCome};
-ghost use Rattle.offset_journal.specs.OffsetLaws.{comes_next as offset_comes_next};
+ghost use Rattle.offset_journal.specs.Offsets.{next_offset, offsets, MayCome};
 
 use gate_journal::{Append, Record, RecordJournal};
 use std::alloc::{AllocError, Global};
@@ -45,8 +47,7 @@ pub fn offset_record(offset: u64) -> [u8; 9]
 
 // The offset of a record, if it is one above the last.
 fn offset_above(last: u64, payload: &[u8]) -> Option<u64>
-    ensures some { IfSome result (λ offset. (is_next last payload.now ≡ true) × (offset ≡ offset_in payload.now)) }
-    ensures none { IfNone result (is_next last payload.now ≡ false) }
+    ensures { result ≡ next_offset last payload.now }
 {
     if payload.len() != 9 || payload[0] != TAG {
         return None;
@@ -120,5 +121,5 @@ impl Append for Offsets {
 
     ghost fits = { λ _ _ _. Prim.omega arith };
 
-    ghost comes_next = { offset_comes_next };
+    ghost comes_next = { λ last offset ps may. numbers.comes_next 3 w64 (2 ^ 64 - 1) last offset ps (refl, from_be_bytes-to_be_bytes_8 offset may.1) may.0 (Prim.omega (arith, may.1)) };
 }

@@ -1,6 +1,7 @@
 //! Worked rows of the records of offsets.
 ghost use Rattle.std.specs.Prelude.{◌≡◌, [], ◌∷◌, Ok, Err};
-ghost use Rattle.offset_journal.specs.Offsets.{offset_record, offset_of, kept_offset};
+ghost use Rattle.gate_journal.specs.Fold.{kept_by};
+ghost use Rattle.offset_journal.specs.Offsets.{offset_record, offset_of, offsets};
 
 /// What files keep.
 pub fn files()
@@ -12,7 +13,7 @@ pub fn files()
 
 /// Offsets rise, and the second record's length stands behind the first record and its gate.
 pub fn offsets_rise()
-    ensures rises { kept_offset (offset_record 36 ∷ offset_record 72 ∷ []) ≡ Ok 72 }
-    ensures equal { kept_offset (offset_record 36 ∷ offset_record 36 ∷ []) ≡ Err 15 }
-    ensures zero { kept_offset (offset_record 0 ∷ []) ≡ Err 1 }
+    ensures rises { kept_by offsets (offset_record 36 ∷ offset_record 72 ∷ []) ≡ Ok 72 }
+    ensures equal { kept_by offsets (offset_record 36 ∷ offset_record 36 ∷ []) ≡ Err 15 }
+    ensures zero { kept_by offsets (offset_record 0 ∷ []) ≡ Err 1 }
 {}
