@@ -99,7 +99,7 @@ distinct_in_order (c ∷ cs) = sym (ids_cons c cs) ∙ ap (λ (l : List EventId)
 
 -- ---- ids of inserts
 
-tied : (a b : EventId) → same_id a b ≡ is_eq (id_cmp a b)
+pub tied : (a b : EventId) → same_id a b ≡ is_eq (id_cmp a b)
 tied a b = go (same_id a b) refl
   where
     apart : (o : Ordering) → id_cmp a b ≡ o → (a ≡ b → ⊥) → false ≡ is_eq o

@@ -2,6 +2,7 @@ pub mod Words
 pub mod Fronts
 pub mod Groups
 pub mod Ids
+pub mod Joining
 pub mod Kept
 pub mod Marks
 pub mod Pushes

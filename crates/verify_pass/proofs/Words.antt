@@ -20,7 +20,7 @@ pub use Rattle.paxos_defs.specs.Decided.{IsExact, acceptance_of, accepted_in, al
 pub use Rattle.paxos_defs.specs.Notes.{Note, Vote, acceptance, is_place, promise, vote_at, votes_at}
 pub use Rattle.paxos_defs.specs.declared.Place.{Place}
 pub use Rattle.registry_state.proofs.Learning.{first_insert-push}
-pub use Rattle.registry_state.proofs.Tests.{same_batch-refl, same_batch-true, same_id-false, same_id-true}
+pub use Rattle.registry_state.proofs.Tests.{same_batch-refl, same_batch-true, same_id-false, same_id-refl, same_id-true}
 pub use Rattle.registry_state.specs.LookBack.{bound_of, first_in, first_insert, holder, or_else}
 pub use Rattle.registry_state.specs.Same.{same_batch}
 pub use Rattle.registry_state.specs.declared.Batch.{Batch}
@@ -30,12 +30,15 @@ pub use Rattle.std.proofs.Math.ListN.{drop_of_length-le}
 pub use Rattle.std.proofs.Math.Nat.{mod-lt}
 pub use Rattle.std.proofs.lemmas.Bool.{and_parts, cases_lt, eq-eqb, le-ltb, ltb-false, ltb-true, true≢false}
 pub use Rattle.std.proofs.lemmas.Bool.Decides.{nat_tests}
-pub use Rattle.std.proofs.lemmas.Cmp.{on_total, then_total, tied_itself}
+pub use Rattle.std.proofs.lemmas.Cmp.{on_total, then_total, tied_back, tied_itself}
 pub use Rattle.std.proofs.lemmas.Grind.{common_steps, flat_map-append}
-pub use Rattle.std.proofs.lemmas.List.{append-nil, length-map, length-take-le, map-append, nil_from_length, take_all, take_more}
+pub use Rattle.std.proofs.lemmas.List.{append-nil, get_or-map, length-map, length-take-le, map-append, map-set, map_more, nil_from_length, take_all, take_more}
 pub use Rattle.std.proofs.lemmas.List.Elements.{All-contains, filter_passes}
 pub use Rattle.std.proofs.lemmas.List.Folds.{list_any-append}
 pub use Rattle.std.proofs.lemmas.List.Sums.{fold-append}
+pub use Rattle.std.proofs.lemmas.List.Kept.{IsStrictlySortedBy-filter}
+pub use Rattle.std.proofs.lemmas.List.Sorted.{answers_always}
+pub use Rattle.std.proofs.lemmas.Map.Keys.{Less-from_sorted, sorted_head, sorted_tail}
 pub use Rattle.std.proofs.lemmas.Map.Lookups.{CmpEqualImpliesEq, exact_unsigned}
 pub use Rattle.std.proofs.lemmas.Map.Views.{btree_set_contains_iff}
 pub use Rattle.std.proofs.lemmas.Result.{on_ok_weaker}
@@ -47,25 +50,25 @@ pub use Rattle.std.specs.Cmp.{IsTotalOrder, nat_cmp_total}
 pub use Rattle.std.specs.FinMap.Entries.{by_order}
 pub use Rattle.std.specs.HashMap.{get}
 pub use Rattle.std.specs.List.{AllByRecursion, flat_map, fold, list_any}
-pub use Rattle.std.specs.List.Sorted.{IsStrictlySortedBy}
+pub use Rattle.std.specs.List.Sorted.{IsBinarySearchResult, IsSearchInRange, IsStrictlySortedBy}
 pub use Rattle.std.specs.Map.{lookup}
 pub use Rattle.std.specs.Option.{option_map}
-pub use Rattle.std.specs.Ordering.{is_eq, match_ordering, nat_cmp, ordering_then}
+pub use Rattle.std.specs.Ordering.{is_eq, match_ordering, nat_cmp, ordering_index, ordering_reverse, ordering_then}
 pub use Rattle.std.specs.declared.cmp.Ordering.{Ordering}
 pub use Rattle.std.specs.declared.cmp.Ordering.TheVariants.{Equal, Greater, Less}
 pub use Rattle.time_shards.specs.Shards.{IsRow, IsTable, count_at, shard_count, shard_of}
 pub use Rattle.time_shards.specs.declared.ShardRow.{ShardRow}
 pub use Rattle.turn_defs.specs.declared.pair.PairRec.{PairRec}
 pub use Rattle.verify_pass.specs.Chosen.{AreAt, EndsBy, IsFront, batch_at, batch_in, casts_at, group_at, group_in, items_of, slots}
-pub use Rattle.verify_pass.specs.Classes.{all_pairs, decided_for, first_pair, in_order, is_missing, is_missing_by, line_by, notes_of}
+pub use Rattle.verify_pass.specs.Classes.{all_pairs, decided_for, first_pair, in_order, is_missing, is_missing_by, line_by, notes_of, unwritten_line}
 pub use Rattle.verify_pass.specs.Groups.{accepts, cast_of, casts, casts_from, did_replica, is_most, marks, value_of}
 pub use Rattle.verify_pass.specs.Rows.{Says}
 pub use Rattle.verify_pass.specs.States.{Grows, HasAt, HasWhole, Ids, IsAt, IsWhole, KnowAll}
 pub use Rattle.verify_pass.specs.TooSoon.{IsBefore, IsEarlier, all_batches, batches_in, batches_of, inserts_of, least_from, least_with, lesser, taken, too_soon_for}
-pub use Rattle.verify_pass.specs.Written.{pair_at}
 pub use Rattle.verify_pass.specs.declared.chosen.Chosen.{Chosen}
 pub use Rattle.verify_pass.specs.declared.group.Acceptance.{Acceptance}
 pub use Rattle.verify_pass.specs.declared.journals.Journals.{Journals}
 pub use Rattle.verify_pass.specs.declared.starts.Latest.{Latest}
 pub use Rattle.verify_pass.specs.declared.starts.TooSoon.{TooSoon}
 pub use Rattle.verify_pass.specs.declared.starts.TooSoon.TheVariants.{Bound, Id}
+pub use Rattle.verify_pass.specs.Lines.{TakesIn, id_of, joined, lines_by, missing_id, unboxed}

@@ -1,7 +1,7 @@
 pub mod Groups
 pub mod Chosen
 pub mod Classes
-pub mod Written
+pub mod Lines
 pub mod States
 pub mod TooSoon
 pub mod Rows

@@ -1,24 +1,21 @@
 // The class of each click.
-ghost use Rattle.std.specs.Prelude.{◌≡◌, List, length, map, IfOk};
+ghost use Rattle.std.specs.Prelude.{◌≡◌, List, length, map, IfOk, OnOk};
 ghost use Rattle.std.specs.List.Sorted.{IsStrictlySortedBy};
 ghost use Rattle.log_records.specs.declared.records.ClickRec.{ClickRec as Click};
 ghost use Rattle.log_records.specs.Report.{distinct};
-ghost use Rattle.event_id.specs.declared.id.EventId.{EventId as Id};
 ghost use Rattle.event_id.specs.EventId.{id_cmp};
-ghost use Rattle.registry_state.specs.declared.Batch.{Batch as Value};
 ghost use Rattle.registry_state.specs.Same.{same_batch};
 ghost use Rattle.paxos_acceptor.specs.Cells.{note_view};
 ghost use Rattle.paxos_defs.specs.Decided.{decided as decided_in};
 ghost use Rattle.time_shards.specs.Shards.{shard_count, shard_of};
-ghost use Rattle.verify_pass.specs.Classes.{line_by, line_of};
+ghost use Rattle.verify_pass.specs.Classes.{in_order, line_of, unwritten_line};
+ghost use Rattle.verify_pass.specs.Lines.{unboxed};
 ghost use Rattle.verify_pass.specs.States.{KnowAll};
-ghost use Rattle.verify_pass.specs.Written.{pair_at};
 
 use crate::chosen::Chosen;
 use crate::distinct::distinct_ids;
-use crate::lines::line_for;
-use crate::states::{registries, registry_for};
-use crate::written::Written;
+use crate::lines::{join_all, listed, unwritten_lines};
+use crate::states::registries;
 use crate::{Journals, NoteList};
 use event_id::EventId;
 use id_expiry::TimedRegistry;
@@ -42,10 +39,25 @@ pub fn classify(
     ensures { IfOk result (λ lines. (clicks : List Click) → map (λ (c : Click). c.id) clicks ≡ ids.now → lines.items ≡ map (λ (c : Click). line_of journals table.now c.id) (distinct clicks)) }
 {
     let Journals { notes, pairs } = journals;
+    let mut lines = blank_lines(alloc, ids, notes, table)?;
+    join_all(&mut lines, pairs);
+    let lines = listed(alloc, lines)?;
+    Ok(lines)
+}
+
+// The line of each id by these notes, as if no pair were written. What is made of the notes is let go.
+fn blank_lines(
+    alloc: Global,
+    ids: &[EventId],
+    notes: Vec<NoteList>,
+    table: &Table,
+) -> Result<Vec<Box<ReportLine>>, AllocError>
+    ensures lines { IfOk result (λ lines. unboxed lines.items ≡ map (λ i. unwritten_line (decided_in same_batch (map (map note_view) notes.items) (shard_of table.now i)) i) (in_order ids.now)) }
+    ensures rising { OnOk result (IsStrictlySortedBy id_cmp (in_order ids.now)) }
+{
     let registries = decided(alloc, notes, table)?;
-    let mut written = Written::of(alloc, pairs)?;
     let each = distinct_ids(alloc, ids)?;
-    let lines = lines_of(alloc, &each, &registries, &mut written, table)?;
+    let lines = unwritten_lines(alloc, &each, &registries, table)?;
     Ok(lines)
 }
 
@@ -61,24 +73,4 @@ fn decided(
     let chosen = Chosen::of(alloc, &notes)?;
     let registries = registries(alloc, &chosen, table.shards())?;
     Ok(registries)
-}
-
-// The line of each id, in their order. The pairs that are told are taken out.
-fn lines_of(
-    alloc: Global,
-    ids: &[EventId],
-    registries: &[TimedRegistry],
-    written: &mut Written,
-    table: &Table,
-) -> Result<Vec<ReportLine>, AllocError>
-    requires count { length registries.now ≡ shard_count table.now }
-    requires rising { IsStrictlySortedBy id_cmp ids.now }
-    ensures { IfOk result (λ lines. (batches : Id → List Value) → KnowAll registries.now table.now batches → lines.items ≡ map (λ i. line_by (batches i) i (pair_at written.old i)) ids.now) }
-{
-    let mut lines = Vec::new(alloc);
-    for id in ids {
-        let registry = registry_for(registries, table, *id);
-        lines.push(line_for(registry, written.take(*id), *id))?;
-    }
-    Ok(lines)
 }

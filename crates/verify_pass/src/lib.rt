@@ -12,7 +12,6 @@ mod lines;
 mod starts;
 mod states;
 mod unwritten;
-mod written;
 
 pub use classes::classify;
 pub use journals::{Journals, NoteList, PairList};

@@ -1,20 +1,18 @@
 // The ids that were registered and never written.
-ghost use Rattle.std.specs.Prelude.{◌≡◌, ◌++◌, ◌∷◌, [], IfOk, OnOk, true, List, length, filter, if◌then◌else◌, ◌↔◌, Contains};
+ghost use Rattle.std.specs.Prelude.{◌≡◌, ◌++◌, IfOk, OnOk, true, ◌↔◌, Contains};
+ghost use Rattle.std.specs.List.{flat_map};
+ghost use Rattle.std.specs.List.Sorted.{IsStrictlySortedBy};
 ghost use Rattle.event_id.specs.declared.id.EventId.{EventId as Id};
 ghost use Rattle.event_id.specs.EventId.{id_cmp};
-ghost use Rattle.registry_state.specs.declared.Batch.{Batch as Value};
-ghost use Rattle.std.specs.List.Sorted.{IsStrictlySortedBy};
-ghost use Rattle.time_shards.specs.Shards.{shard_count};
-ghost use Rattle.verify_pass.specs.Classes.{is_missing as is_unwritten, is_missing_by};
-ghost use Rattle.verify_pass.specs.States.{KnowAll};
-ghost use Rattle.verify_pass.specs.Written.{pair_at};
+ghost use Rattle.verify_pass.specs.Classes.{is_missing as is_unwritten};
+ghost use Rattle.verify_pass.specs.Lines.{missing_id, unboxed};
 
 use crate::Journals;
 use crate::chosen::Chosen;
-use crate::states::{each_has_a_shard, inserted, registries, registry_for};
-use crate::written::Written;
+use crate::lines::{join_all, unwritten_lines};
+use crate::states::{each_has_a_shard, inserted, registries};
 use event_id::EventId;
-use id_expiry::TimedRegistry;
+use log_records::ReportLine;
 use std::alloc::{AllocError, Global};
 use time_shards::Table;
 
@@ -30,45 +28,30 @@ pub fn missing(alloc: Global, journals: Journals, table: &Table) -> Result<Vec<E
     let Journals { notes, pairs } = journals;
     let chosen = Chosen::of(alloc, &notes)?;
     let registries = registries(alloc, &chosen, table.shards())?;
-    let written = Written::of(alloc, pairs)?;
     let ids = inserted(alloc, &chosen, table.shards())?;
     each_has_a_shard(table);
-    let left = missing_among(alloc, &ids, &registries, &written, table)?;
+    let mut lines = unwritten_lines(alloc, &ids, &registries, table)?;
+    join_all(&mut lines, pairs);
+    let left = missing_among(alloc, &lines)?;
     Ok(left)
 }
 
-fn missing_among(
-    alloc: Global,
-    ids: &[EventId],
-    registries: &[TimedRegistry],
-    written: &Written,
-    table: &Table,
-) -> Result<Vec<EventId>, AllocError>
-    requires { length registries.now ≡ shard_count table.now }
-    ensures rising { IsStrictlySortedBy id_cmp ids.now → IfOk result (λ left. IsStrictlySortedBy id_cmp left.items) }
-    ensures exactly { IfOk result (λ left. (batches : Id → List Value) → KnowAll registries.now table.now batches → left.items ≡ filter (λ i. is_missing_by (batches i) (pair_at written.now i) i) ids.now) }
+// The ids of the lines that are of missing clicks.
+fn missing_among(alloc: Global, lines: &[Box<ReportLine>]) -> Result<Vec<EventId>, AllocError>
+    ensures { IfOk result (λ left. left.items ≡ flat_map missing_id (unboxed lines.now)) }
 {
     let mut left = Vec::new(alloc);
-    for id in ids {
-        let is_left = is_missing(registries, written, table, *id);
-        push_if(&mut left, *id, is_left)?;
+    for line in lines {
+        push_missing(&mut left, line)?;
     }
     Ok(left)
 }
 
-fn push_if(left: &mut Vec<EventId>, id: EventId, is_left: bool) -> Result<(), AllocError>
-    ensures { OnOk result (left.new.items ≡ left.old.items ++ (if is_left then id ∷ [] else [])) }
+fn push_missing(left: &mut Vec<EventId>, line: &ReportLine) -> Result<(), AllocError>
+    ensures { OnOk result (left.new.items ≡ left.old.items ++ missing_id line.now) }
 {
-    if is_left {
-        left.push(id)?;
+    if let ReportLine::M(id) = line {
+        left.push(*id)?;
     }
     Ok(())
-}
-
-fn is_missing(registries: &[TimedRegistry], written: &Written, table: &Table, id: EventId) -> bool
-    requires { length registries.now ≡ shard_count table.now }
-    ensures { (batches : Id → List Value) → KnowAll registries.now table.now batches → result ≡ is_missing_by (batches id) (pair_at written.now id) id }
-{
-    let registry = registry_for(registries, table, id);
-    registry.holder(id).is_some() && written.get(id).is_none()
 }

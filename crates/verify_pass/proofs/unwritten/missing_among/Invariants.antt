@@ -1,11 +1,7 @@
-use Rattle.std.proofs.Common.{◌≡◌, ◌++◌, List, take, drop}
-use Rattle.std.specs.Prelude.{filter}
-use Rattle.verify_pass.proofs.Words.{IsStrictlySortedBy, EventId, id_cmp, Batch, is_missing_by, KnowAll, pair_at}
+use Rattle.std.proofs.Common.{◌≡◌, take}
+use Rattle.verify_pass.proofs.Words.{flat_map, missing_id, unboxed}
 use Rattle.verify_pass.proofs.unwritten.missing_among.Given as goal
 
--- the missing ones of the ids so far; with the ids to come they rise
-abbrev pub invariant-loop-id : goal.invariant-loop-id
-invariant-loop-id l = record {
-  rising : IsStrictlySortedBy id_cmp l.ids → IsStrictlySortedBy id_cmp (l.left.items ++ drop l.id-index l.ids);
-  exactly : (batches : EventId → List Batch) → KnowAll l.registries l.table batches → l.left.items ≡ filter (λ i. is_missing_by (batches i) (pair_at l.written i) i) (take l.id-index l.ids);
-}
+-- the missing ones of the lines so far
+abbrev pub invariant-loop-line : goal.invariant-loop-line
+invariant-loop-line l = l.left.items ≡ flat_map missing_id (unboxed (take l.line-index l.lines))
