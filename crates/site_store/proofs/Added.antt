@@ -1,5 +1,5 @@
 -- A row behind those of the kept table: what is answered, and what it makes of a sound store.
-use Rattle.std.proofs.Common.{◌≡◌, ◌≢◌, ◌⊎◌, inl, inr, ⊎_elim, ℕ, ◌≤◌, List, [], ◌∷◌, ◌++◌, length, map, Bool, true, false, ◌&&◌, ◌==◌, IsTrue, Option, Some, None, Result, Ok, Err, refl, sym, ◌∙◌, ap, subst, arith, if◌then◌else◌}
+use Rattle.std.proofs.Common.{◌≡◌, ◌≢◌, ◌⊎◌, inl, inr, ⊎_elim, ℕ, List, [], ◌∷◌, ◌++◌, length, map, Bool, true, false, ◌&&◌, ◌==◌, IsTrue, Option, Some, None, Result, Ok, Err, refl, sym, ◌∙◌, ap, subst, if◌then◌else◌}
 use Rattle.std.specs.Prelude.{IfSome, nat_le}
 use Rattle.time_shards.specs.declared.ShardRow.{ShardRow}
 use Rattle.time_shards.specs.declared.AddFault.{AddFault}
@@ -19,14 +19,14 @@ use Rattle.site_laws.proofs.SameDisks.{disk_onward}
 use Rattle.site_laws.specs.Stores.{IsChoice, IsSoundOr}
 use Rattle.site_laws.specs.StoreLaws.{IsRowAdded, RowIsSound, StaysSound}
 use Rattle.outside.specs.declared.store.DiskName.TheVariants as name
-use Rattle.site_store.proofs.Words.{eq-eqb, Each, Mem, DiskName, IsOpened, GoesOn, Topology, Keeps, IsTopology, kept_is, Setting, BallotNote, Disks, PlainTopology, topology_of, Bytes, KeepsOf, KeepSound, IsSoundStore, ReadTopologyIsKept, ReadNotesAreKept, TopologyFits, joiners_kept, StaysAs, Lent, Lacks, MayBeLeft, OpenView, AllKept, KeptValues, AreKept, AreRecordsOf, kept_all, lent_all, values_of, other_names, IsAsked, LeavesSomething, IsWritten, RunFault, first_limit, MOST_JOINERS}
+use Rattle.site_store.proofs.Words.{eq-eqb, Each, Mem, DiskName, IsOpened, GoesOn, Topology, Keeps, IsTopology, Setting, BallotNote, Disks, PlainTopology, topology_of, Bytes, KeepsOf, KeepSound, IsSoundStore, ReadTopologyIsKept, ReadNotesAreKept, TopologyFits, joiners_kept, StaysAs, Lent, Lacks, MayBeLeft, OpenView, AllKept, KeptValues, AreKept, AreRecordsOf, kept_all, lent_all, values_of, other_names, IsAsked, LeavesSomething, IsWritten, RunFault, first_limit}
 use Rattle.site_store.specs.Adding.{accepted, answer_of, answer_to, IsAnswer, IsUnadded, IsRowCause, HasRow, Leaves}
 use Rattle.site_store.proofs.Causes.{limit_is}
 use Rattle.site_store.proofs.Leaving.{all_grow}
 use Rattle.site_store.proofs.Lending.{each_mem, lacks_by_names}
 use Rattle.site_store.proofs.Names.{all_named, not_topology}
 use Rattle.site_store.proofs.Recorded.{keeps_of}
-use Rattle.site_store.proofs.Report.{its, of, notes_are, named, few}
+use Rattle.site_store.proofs.Report.{its, of, notes_are, named}
 use Rattle.site_store.proofs.SameNames.{same_or_not}
 use Rattle.site_store.proofs.Sound.{topology_is}
 use Rattle.site_store.proofs.Values.{names_kept}
@@ -107,24 +107,17 @@ limit_unadded k row f e =
     subst (IsUnadded k row) (sym x.2) (e ∙ ap Some x.2)
 
 -- why kept values aren't answered is why the row isn't added
-pub unadded_cause : (tells : Bool) (before : DiskName → List ℕ → Type 0) (row : ShardRow) (faulted : Type 0) (k : KeptValues) → AreKept tells before 0 k → (f : RunFault) → IsUnadded k row f → IsRowCause tells before row faulted f
-unadded_cause tells before row faulted k are (fault.Limit disk value) why = inl (k, are, (tt, refl, why))
-unadded_cause tells before row faulted k are (fault.Reshard u) why = (u, refl, (k, are, why))
-unadded_cause tells before row faulted k are fault.Memory why = tt
-unadded_cause tells before row faulted k are _ why = absurd why
+pub unadded_cause : (tells : Bool) (before : DiskName → List ℕ → Type 0) (replicas : ℕ) (row : ShardRow) (faulted : Type 0) (k : KeptValues) → AreKept tells before replicas 0 k → (f : RunFault) → IsUnadded k row f
+    → IsRowCause tells before replicas row faulted f
+unadded_cause tells before replicas row faulted k are (fault.Limit disk value) why = inl (k, are, (tt, refl, why))
+unadded_cause tells before replicas row faulted k are (fault.Reshard u) why = (u, refl, (k, are, why))
+unadded_cause tells before replicas row faulted k are fault.Memory why = tt
+unadded_cause tells before replicas row faulted k are _ why = absurd why
 
 -- ---- the opened disks
 
-few_joiners : (tells : Bool) → IsTrue tells → (before : DiskName → List ℕ → Type 0) (k : KeptValues) → AreKept tells before 0 k → joiners_kept k.topology 0 ≤ MOST_JOINERS
-few_joiners tells sure before k are = let x = are.topology sure in go k.topology (kept_is k.topology x.0 x.2)
-  where
-    go : (kept : Option Topology) → IfSome kept IsTopology → joiners_kept kept 0 ≤ MOST_JOINERS
-    go None fine = omega arith
-    go (Some t) fine = fine.joiners.few
-
-pub none_topology : {D : Type 0} (tells : Bool) → IsTrue tells → (before : DiskName → List ℕ → Type 0) (kept : Option Topology) (disks : List (OpenView D)) → AreKept tells before 0 (values_of kept disks) → Lacks (lent_all disks) name.Topology
-none_topology tells sure before kept disks are =
-    lacks_by_names name.Topology disks _ (sym (names_kept disks) ∙ are.named) (not_topology _ (few_joiners tells sure before (values_of kept disks) are))
+pub none_topology : {D : Type 0} (tells : Bool) (before : DiskName → List ℕ → Type 0) (replicas : ℕ) (kept : Option Topology) (disks : List (OpenView D)) → AreKept tells before replicas 0 (values_of kept disks) → Lacks (lent_all disks) name.Topology
+none_topology tells before replicas kept disks are = lacks_by_names name.Topology disks _ (sym (names_kept disks) ∙ are.named) (not_topology (joiners_kept kept 0) replicas)
 
 not_lacking : {D : Type 0} (disks : List (OpenView D)) (n : DiskName) → Mem n (map (λ o. o.name) disks) → Lacks (lent_all disks) n → ⊥
 not_lacking [] n m lacks = absurd m
@@ -153,14 +146,14 @@ module _ {D : Type 0} (left : D → List ℕ → Type 0) (mid after : DiskName �
 
 -- ---- a sound store
 
-module _ {D : Type 0} (tells : Bool) (sure : IsTrue tells) (left : D → List ℕ → Type 0) (before mid after : DiskName → List ℕ → Type 0) (kept : Option Topology) (topology : Lent D) (disks : List (OpenView D)) (are : AreKept tells before 0 (values_of kept disks))
+module _ {D : Type 0} (tells : Bool) (sure : IsTrue tells) (left : D → List ℕ → Type 0) (before mid after : DiskName → List ℕ → Type 0) (kept : Option Topology) (topology : Lent D) (disks : List (OpenView D)) (replicas : ℕ) (are : AreKept tells before replicas 0 (values_of kept disks))
     (row : ShardRow) (t : Topology) (answer : IsAnswer (values_of kept disks) row (Ok t)) (keep : Each (λ o. AllKept left o) disks)
     (give : (disk : DiskName) (c : List ℕ) → after disk c → MayBeLeft left mid (topology ∷ lent_all disks) disk c) (its_name : topology.name ≡ name.Topology) (others : (disk : DiskName) → disk ≢ name.Topology → StaysAs (before disk) (after disk))
     (read_topology : ReadTopologyIsKept) (read_notes : ReadNotesAreKept) (fits : TopologyFits) where
   abbrev k : KeptValues
   k = values_of kept disks
 
-  module _ (g : Setting) (replicas : g.replicas ≡ 3) (sound : IsSoundStore g before) (b : Bytes) (choice : IsChoice g after b) where
+  module _ (g : Setting) (same : g.replicas ≡ replicas) (sound : IsSoundStore g before) (b : Bytes) (choice : IsChoice g after b) where
     it : IsLonger k.topology (accepted k.disks) row t
     it = answered k.topology (accepted k.disks) row t answer.is
 
@@ -170,24 +163,24 @@ module _ {D : Type 0} (tells : Bool) (sure : IsTrue tells) (left : D → List �
       | inr not ↦ let x = others disk not (b disk) (choice disk here) in (x.0, x.1)
     ]
 
+    are_own : AreKept tells before g.replicas 0 k
+    are_own = subst (λ n. AreKept tells before n 0 k) (sym same) are
+
     -- the kept topology is the setting's
     own : record { joiners = it.was.joiners; table = it.was.table } ≡ topology_of g
-    own = topology_is tells sure before 0 k are g (few_joiners tells sure before k are) some sound read_topology fits it.was it.is_kept
+    own = topology_is tells sure before 0 g k are_own some sound read_topology fits it.was it.is_kept
 
     asked : IsAsked it.was g
     asked = record { joiners = ap (λ (u : PlainTopology). u.joiners) (sym own); table = ap (λ (u : PlainTopology). u.table) (sym own) }
 
     abbrev records : Disks
-    records = its tells sure before k are it.was it.is_kept g asked replicas
+    records = its tells sure before g k are_own it.was it.is_kept asked
 
     says : AreRecordsOf g k.disks records
-    says = of tells sure before k are it.was it.is_kept g asked replicas
+    says = of tells sure before g k are_own it.was it.is_kept asked
 
-    few_own : g.joiners ≤ MOST_JOINERS
-    few_own = few tells sure before k are it.was it.is_kept g asked replicas
-
-    names : map (λ d. d.name) k.disks ≡ other_names g.joiners
-    names = named tells sure before k are it.was it.is_kept g asked replicas
+    names : map (λ d. d.name) k.disks ≡ other_names g.joiners g.replicas
+    names = named tells sure before g k are_own it.was it.is_kept asked
 
     row_added : IsRowAdded g row before after
     row_added = record {
@@ -198,9 +191,9 @@ module _ {D : Type 0} (tells : Bool) (sure : IsTrue tells) (left : D → List �
         | inl is ↦ subst (λ (n : DiskName). KeepsOf g records n c) (sym is) tt
         | inr not ↦
             keeps_records left mid after topology disks keep give its_name read_notes g records says disk not
-            (subst (Mem disk) (sym names ∙ names_kept disks) (all_named g.joiners few_own g replicas refl disk here not)) c now
+            (subst (Mem disk) (sym names ∙ names_kept disks) (all_named g disk here not)) c now
       ];
-      free = ap (λ (js : List (List BallotNote)). too_soon_for (all_batches js) row.start) (sym (notes_are g records k.disks names are.kinds says few_own replicas)) ∙ it.free;
+      free = ap (λ (js : List (List BallotNote)). too_soon_for (all_batches js) row.start) (sym (notes_are g records k.disks names are.kinds says)) ∙ it.free;
     }
 
     longer_is : t ≡ journal.topology_of g.joiners (g.table ++ row ∷ [])
@@ -216,32 +209,32 @@ module _ {D : Type 0} (tells : Bool) (sure : IsTrue tells) (left : D → List �
   -- the disks are back, and the topology's may have the row
   pub changed : ((g : Setting) → RowIsSound g before after) → ((g : Setting) → StaysSound g before after) → (surely none : Type 0) → (surely → (c : List ℕ) → after name.Topology c → IsWritten (before name.Topology) t c)
       → ((c : List ℕ) → after name.Topology c → IsOpened (before name.Topology) c ⊎ IsWritten (before name.Topology) t c) → ((disk : DiskName) → GoesOn (before disk) (after disk))
-      → (none → (disk : DiskName) → StaysAs (before disk) (after disk)) → Leaves before after (λ r. r ≡ row) (HasRow tells before row) surely none
+      → (none → (disk : DiskName) → StaysAs (before disk) (after disk)) → Leaves before after replicas (λ r. r ≡ row) (HasRow tells before replicas row) surely none
   changed law same surely none written or_not grown stays = record {
     stays = stays;
     others = others;
     topology = λ c now. ⊎_elim (λ from. inl from) (λ w. inr (t, (k, are, answer), w)) (or_not c now);
     grown = grown;
-    longer = λ yes r is g three sound. (
+    longer = λ yes r is g count sound. (
         subst (λ (x : ShardRow). IsSoundStore (with_row g x) after) (sym is)
-        (λ b choice. sound_longer g three sound b (λ disk here. choice disk (disk_onward g (with_row g row) refl refl disk here)) (law g) (written yes (b name.Topology) (choice name.Topology tt)))
+        (λ b choice. sound_longer g count sound b (λ disk here. choice disk (disk_onward g (with_row g row) refl refl disk here)) (law g) (written yes (b name.Topology) (choice name.Topology tt)))
         );
     still = λ no g sound. same g sound (λ disk here. stays no disk);
-    either = λ r is g three sound. (
+    either = λ r is g count sound. (
         subst (λ (x : ShardRow). IsSoundOr g (with_row g x) after) (sym is)
-        (λ b choice. sound_either g three sound b choice (law g) (or_not (b name.Topology) (choice name.Topology tt)))
+        (λ b choice. sound_either g count sound b choice (law g) (or_not (b name.Topology) (choice name.Topology tt)))
         );
   }
 
 -- none has changed
-pub unchanged : (before after : DiskName → List ℕ → Type 0) (is_row : ShardRow → Type 0) (has : List ℕ → Type 0) (surely none : Type 0) → (surely → ⊥) → ((g : Setting) → StaysSound g before after)
-    → ((disk : DiskName) → StaysAs (before disk) (after disk)) → Leaves before after is_row has surely none
-unchanged before after is_row has surely none not same stay = record {
+pub unchanged : (before after : DiskName → List ℕ → Type 0) (replicas : ℕ) (is_row : ShardRow → Type 0) (has : List ℕ → Type 0) (surely none : Type 0) → (surely → ⊥) → ((g : Setting) → StaysSound g before after)
+    → ((disk : DiskName) → StaysAs (before disk) (after disk)) → Leaves before after replicas is_row has surely none
+unchanged before after replicas is_row has surely none not same stay = record {
   stays = λ no. stay;
   others = λ disk other. stay disk;
   topology = λ c now. inl (stay name.Topology c now);
   grown = all_grow before after stay;
   longer = λ yes. absurd (not yes);
   still = λ no g sound. same g sound (λ disk here. stay disk);
-  either = λ r is g three sound b choice. inl (same g sound (λ disk here. stay disk) b choice);
+  either = λ r is g count sound b choice. inl (same g sound (λ disk here. stay disk) b choice);
 }

@@ -9,10 +9,10 @@ use Rattle.run_fault.specs.declared.fault.RunFault.TheVariants as fault
 
 -- ---- why a store isn't opened
 
-module _ (tells : Bool) (before : DiskName → List ℕ → Type 0) (asked : Option Topology) (told : List KeptDisk → Option Misplaced → Type 0) (read : LogName → Type 0) (early : Type 0) where
+module _ (tells : Bool) (before : DiskName → List ℕ → Type 0) (replicas : ℕ) (asked : Option Topology) (told : List KeptDisk → Option Misplaced → Type 0) (read : LogName → Type 0) (early : Type 0) where
   -- a disk isn't opened
-  pub unopened_cause : (old new : ℕ) (f : RunFault) → IsUnopened tells before old new (IsFirstDisk tells before (joiners_asked asked)) f
-      → HasCause tells before asked told read (HasFailed tells before asked told (Rose old new)) ⊥ early f
+  pub unopened_cause : (old new : ℕ) (f : RunFault) → IsUnopened tells before old new (IsFirstDisk tells before replicas (joiners_asked asked)) f
+      → HasCause tells before replicas asked told read (HasFailed tells before replicas asked told (Rose old new)) ⊥ early f
   unopened_cause old new (fault.Store (place.Disk disk)) is = is
   unopened_cause old new (fault.Damaged disk at) is = is
   unopened_cause old new fault.Memory is = tt
@@ -20,14 +20,14 @@ module _ (tells : Bool) (before : DiskName → List ℕ → Type 0) (asked : Opt
 
   -- the topology's record isn't written
   pub unwritten_cause : (fresh n old mid new : ℕ) (f : RunFault) → IsUnwritten fresh n f → old ≤ mid → added mid n ≤ new
-      → HasCause tells before asked told read (HasFailed tells before asked told (Rose old new)) ⊥ early f
+      → HasCause tells before replicas asked told read (HasFailed tells before replicas asked told (Rose old new)) ⊥ early f
   unwritten_cause fresh n old mid new (fault.Store (place.Disk disk)) (is, rose) le counted = (inl is, omega (arith, rose, le, counted))
   unwritten_cause fresh n old mid new fault.Memory is le counted = tt
   unwritten_cause fresh n old mid new _ is le counted = absurd is
 
-module _ (tells : Bool) (before : DiskName → List ℕ → Type 0) (log_tells : Bool) (log : List ℕ) (end_ : ℕ) (read : Type 0) (asked : Option Topology) where
+module _ (tells : Bool) (before : DiskName → List ℕ → Type 0) (replicas : ℕ) (log_tells : Bool) (log : List ℕ) (end_ : ℕ) (read : Type 0) (asked : Option Topology) where
   -- what was opened can't be run or read
-  pub judged : (faulted : Type 0) (k : KeptValues) (f : RunFault) → AreKept tells before (joiners_asked asked) k → IsUnfit asked (AreTold log_tells log end_) read k f → IsCause tells before faulted log_tells log end_ read asked f
+  pub judged : (faulted : Type 0) (k : KeptValues) (f : RunFault) → AreKept tells before replicas (joiners_asked asked) k → IsUnfit asked (AreTold log_tells log end_) read k f → IsCause tells before replicas faulted log_tells log end_ read asked f
   judged faulted k (fault.Topology (mismatch.Joiners kept wanted)) is why = (k, is, why)
   judged faulted k (fault.Topology (mismatch.Table kept wanted)) is why = (k, is, why)
   judged faulted k (fault.Topology (mismatch.Place told)) is why = (k, is, why)
@@ -36,12 +36,12 @@ module _ (tells : Bool) (before : DiskName → List ℕ → Type 0) (log_tells :
   judged faulted k _ is why = absurd why
 
 -- a log that wasn't read, or a disk that failed, raised its count
-module _ (tells : Bool) (before : DiskName → List ℕ → Type 0) (asked : Option Topology) (told : List KeptDisk → Option Misplaced → Type 0) (rose : Type 0) where
-  pub unread_rose : (log : LogName) → IsUnread tells before asked told rose log → rose
+module _ (tells : Bool) (before : DiskName → List ℕ → Type 0) (replicas : ℕ) (asked : Option Topology) (told : List KeptDisk → Option Misplaced → Type 0) (rose : Type 0) where
+  pub unread_rose : (log : LogName) → IsUnread tells before replicas asked told rose log → rose
   unread_rose Clicks is = is.2.1
   unread_rose _ is = absurd is.2
 
-  pub failed_rose : (at : StorePlace) → HasFailed tells before asked told rose at → rose
+  pub failed_rose : (at : StorePlace) → HasFailed tells before replicas asked told rose at → rose
   failed_rose (place.Disk disk) is = is.1
   failed_rose _ is = absurd is
 
@@ -96,12 +96,12 @@ module _ (tells : Bool) (log : List ℕ) (end_ : ℕ) (asked : Option Topology) 
 -- ---- a cause of more
 
 -- from a store that was placed to the one before, by what is told of the places and more
-module _ (tells : Bool) (asked : Option Topology) (placed before : DiskName → List ℕ → Type 0) (within : (disk : DiskName) (c : List ℕ) → placed disk c → before disk c)
+module _ (tells : Bool) (replicas : ℕ) (asked : Option Topology) (placed before : DiskName → List ℕ → Type 0) (within : (disk : DiskName) (c : List ℕ) → placed disk c → before disk c)
     (places told : List KeptDisk → Option Misplaced → Type 0) (more : (disks : List KeptDisk) (m : Option Misplaced) → places disks m → told disks m) where
   kept_within : (disk : DiskName) (keeps : List ℕ → Type 0) → IsKeptIn (placed disk) keeps → IsKeptIn (before disk) keeps
   kept_within disk keeps kept = (kept.0, within disk kept.0 kept.1, kept.2)
 
-  all_within : (k : KeptValues) → AreKept tells placed (joiners_asked asked) k → AreKept tells before (joiners_asked asked) k
+  all_within : (k : KeptValues) → AreKept tells placed replicas (joiners_asked asked) k → AreKept tells before replicas (joiners_asked asked) k
   all_within k are = record {
     topology = λ sure. kept_within _ _ (are.topology sure);
     named = are.named;
@@ -109,7 +109,7 @@ module _ (tells : Bool) (asked : Option Topology) (placed before : DiskName → 
     kept = λ sure. each_more (IsKept placed) (IsKept before) k.disks (λ o kept. kept_within o.name (KeepsAs o.kept) kept) (are.kept sure);
   }
 
-  pub passed_more : HasPassed tells placed asked places → HasPassed tells before asked told
+  pub passed_more : HasPassed tells placed replicas asked places → HasPassed tells before replicas asked told
   passed_more (k, are, passes) = (k, all_within k are, record { topology = passes.topology; places = more _ _ passes.places; limits = passes.limits })
 
   unfit_more : (k : KeptValues) (f : RunFault) → IsUnfit asked places ⊥ k f → IsUnfit asked told ⊥ k f
@@ -120,7 +120,7 @@ module _ (tells : Bool) (asked : Option Topology) (placed before : DiskName → 
   unfit_more k (fault.Read Clicks) why = absurd why.1
   unfit_more k _ why = absurd why
 
-  first_within : (disk : DiskName) → IsFirstDisk tells placed (joiners_asked asked) disk → IsFirstDisk tells before (joiners_asked asked) disk
+  first_within : (disk : DiskName) → IsFirstDisk tells placed replicas (joiners_asked asked) disk → IsFirstDisk tells before replicas (joiners_asked asked) disk
   first_within disk (inl topology) = inl topology
   first_within disk (inr (kept, kept_in, first)) = inr (
     kept,
@@ -134,7 +134,7 @@ module _ (tells : Bool) (asked : Option Topology) (placed before : DiskName → 
   )
 
   pub cause_more : (files read : LogName → Type 0) (was failed : StorePlace → Type 0) (rose late few early : Type 0) → ((log : LogName) → files log → read log) → ((at : StorePlace) → was at → failed at) → (rose → late) → (few → early)
-      → (f : RunFault) → HasCause tells placed asked places files was rose few f → HasCause tells before asked told read failed late early f
+      → (f : RunFault) → HasCause tells placed replicas asked places files was rose few f → HasCause tells before replicas asked told read failed late early f
   cause_more files read was failed rose late few early reads fails lates earlier (fault.Read log) cause = reads log cause
   cause_more files read was failed rose late few early reads fails lates earlier (fault.Store at) cause = fails at cause
   cause_more files read was failed rose late few early reads fails lates earlier (fault.Damaged disk at) (first, was_so) = (first_within disk first, λ sure. kept_within disk _ (was_so sure))

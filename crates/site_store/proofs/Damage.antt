@@ -1,7 +1,7 @@
 -- Of a sound store no disk is told as damaged.
 use Rattle.std.proofs.Common.{◌≡◌, inl, inr, ℕ, ◌≤◌, List, [], ◌∷◌, map, Bool, IsTrue, Option, Some, None, refl, sym, ◌∙◌, ap, subst, arith}
 use Rattle.std.specs.Prelude.{All}
-use Rattle.site_store.proofs.Words.{All-nil, All-cons, Each, DiskName, StandsFor, Topology, Keeps, Promised, Accepted, ReplicaNote, note, IsNote, Setting, BallotNote, ReplicaKept, IsVoted, vote_record, joiners_kept, damaged_by, IsDamagedIn, IsKeptIn, IsJournalOf, IsFirst, IsFirstDisk, other_names, KeepsNotes, IsUnwritten, RunFault, IsWelcome, PlainTopology, Store, Bytes, IsDisk, KeepsTopology, KeepsVotes, Holds, KeepSound, IsSoundStore, ReadTopologyIsKept, TopologyFits, choose, LeavesSomething, MOST_JOINERS}
+use Rattle.site_store.proofs.Words.{All-nil, All-cons, Each, DiskName, StandsFor, Topology, Keeps, Promised, Accepted, ReplicaNote, note, IsNote, Setting, BallotNote, ReplicaKept, IsVoted, vote_record, joiners_kept, damaged_by, IsDamagedIn, IsKeptIn, IsJournalOf, IsFirst, IsFirstDisk, other_names, KeepsNotes, IsUnwritten, RunFault, IsWelcome, PlainTopology, Store, Bytes, IsDisk, KeepsTopology, KeepsVotes, Holds, KeepSound, IsSoundStore, ReadTopologyIsKept, TopologyFits, choose, LeavesSomething}
 use Rattle.outside.specs.declared.store.DiskName.TheVariants as name
 use Rattle.paxos_acceptor.specs.declared.notes.ReplicaNote.TheVariants as replica
 use Rattle.run_fault.specs.declared.fault.StorePlace.TheVariants as place
@@ -85,15 +85,15 @@ kept_joiners read fits g image some sound (Some t) asked is (c, now, keeps) =
 
 -- ---- what isn't told of a sound store
 
-module _ (tells : Bool) (sure : IsTrue tells) (image : DiskName → List ℕ → Type 0) (asked : ℕ) (read : ReadTopologyIsKept) (fits : TopologyFits) (g : Setting) (le : asked ≤ g.joiners) (few : g.joiners ≤ MOST_JOINERS)
-    (replicas : g.replicas ≡ 3) (sound : IsSoundStore g image) where
-  is_disk : (disk : DiskName) → LeavesSomething g image → IsFirstDisk tells image asked disk → IsDisk g disk
+module _ (tells : Bool) (sure : IsTrue tells) (image : DiskName → List ℕ → Type 0) (asked : ℕ) (read : ReadTopologyIsKept) (fits : TopologyFits) (g : Setting) (le : asked ≤ g.joiners)
+    (sound : IsSoundStore g image) where
+  is_disk : (disk : DiskName) → LeavesSomething g image → IsFirstDisk tells image g.replicas asked disk → IsDisk g disk
   is_disk disk some (inl topology) = subst (IsDisk g) (sym topology) tt
   is_disk disk some (inr (kept, kept_in, first)) =
       let n_le = kept_joiners read fits g image some sound kept asked le (kept_in sure) in
-      first_is g tells image (other_names (joiners_kept kept asked)) disk (others_are g replicas (joiners_kept kept asked) n_le (omega (arith, n_le, few))) first
+      first_is g tells image (other_names (joiners_kept kept asked) g.replicas) disk (others_are g (joiners_kept kept asked) n_le) first
 
-  pub no_damage : (disk : DiskName) (at : ℕ) → IsFirstDisk tells image asked disk → (IsTrue tells → IsDamagedIn image disk at) → LeavesSomething g image → ⊥
+  pub no_damage : (disk : DiskName) (at : ℕ) → IsFirstDisk tells image g.replicas asked disk → (IsTrue tells → IsDamagedIn image disk at) → LeavesSomething g image → ⊥
   no_damage disk at first was some = let (c, now, damaged) = was sure in never_damaged g image some sound disk (is_disk disk some first) c now at damaged
 
 -- and a record that isn't written isn't damaged

@@ -1,5 +1,5 @@
 -- Disks that are taken, used and given back by their plans of stops.
-use Rattle.std.proofs.Common.{◌≡◌, ◌≢◌, ℕ, ◌≤◌, ◌+◌, Bool, true, false, List, [], ◌∷◌, ◌++◌, ◌∙◌, refl, sym, subst, arith}
+use Rattle.std.proofs.Common.{◌≡◌, ◌≢◌, ℕ, Bool, true, false, List, [], ◌∷◌, ◌++◌, ◌∙◌, refl, sym, subst, arith}
 use Rattle.outside.specs.Faults.{added}
 use Rattle.outside.specs.Plans.{AtMost, MeetsPlan}
 use Rattle.outside.proofs.Plans.{fewer, same_plan}
@@ -78,6 +78,6 @@ module _ {D : Type 0} (stops : D → ℕ → Bool) (made faults : D → ℕ) whe
   }
 
   -- where the topology's disk is out, and none is planned for any, none is planned for the others
-  pub none_behind : (before mid : DiskName → ℕ → Type 0) (one : Lent D) (joiners : ℕ) → one.name ≡ name.Topology → joiners ≤ 4 → Taken before mid (one ∷ []) → ((disk : DiskName) → before disk 0) → Each (λ disk. mid disk 0) (other_names joiners)
-  none_behind before mid one joiners named few so none =
-      each_weaker (λ disk. disk ≢ name.Topology) (λ disk. mid disk 0) (λ disk other. so.others disk ((λ e. other (sym e ∙ named)), tt) 0 (none disk)) (other_names joiners) (not_topology joiners few)
+  pub none_behind : (before mid : DiskName → ℕ → Type 0) (one : Lent D) (joiners replicas : ℕ) → one.name ≡ name.Topology → Taken before mid (one ∷ []) → ((disk : DiskName) → before disk 0) → Each (λ disk. mid disk 0) (other_names joiners replicas)
+  none_behind before mid one joiners replicas named so none =
+      each_weaker (λ disk. disk ≢ name.Topology) (λ disk. mid disk 0) (λ disk other. so.others disk ((λ e. other (sym e ∙ named)), tt) 0 (none disk)) (other_names joiners replicas) (not_topology joiners replicas)

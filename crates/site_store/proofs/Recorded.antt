@@ -1,6 +1,6 @@
 -- The records of a setting's nodes that its disks keep.
-use Rattle.std.proofs.Common.{◌≡◌, ◌≢◌, ◌⊎◌, inl, inr, ℕ, zero, suc, ◌+◌, ◌-◌, ◌*◌, ◌<◌, ◌≤◌, nat_lt, List, [], ◌∷◌, map, Bool, true, false, cond, IsTrue, Option, Some, None, refl, sym, ◌∙◌, ap, subst, arith}
-use Rattle.site_store.proofs.Words.{lt-ltb, le-ltb, Each, EachPair, Mem, DiskName, ReplicaNote, PairRec, Setting, first_joiner, JoinerKept, ReplicaKept, IsKeptIn, kept_of, Disks, StoreTopology, topology_of, WholeSound, TopologyComesFirst, IsDisk, KeepsOf, KeepsVotes, IsSoundStore, AreLeft, joiner_of, topology_read, ReadTopologyIsKept, ReadNotesAreKept, OpenedIsWhole, joiners_kept, Kept, OffsetIs, PendingAre, EpochIs, NotesAre, PairsAre, KeptDisk, KeptValues, KeepsAs, IsOfKind, IsKept, AreKept, Says, AreRecordsOf}
+use Rattle.std.proofs.Common.{◌≡◌, ◌≢◌, ◌⊎◌, inl, inr, ℕ, zero, suc, ◌+◌, ◌-◌, ◌*◌, ◌<◌, nat_lt, List, [], ◌∷◌, map, Bool, true, false, cond, IsTrue, Option, Some, None, refl, sym, ◌∙◌, ap, subst, arith}
+use Rattle.site_store.proofs.Words.{lt-ltb, le-ltb, Each, EachPair, Mem, DiskName, ReplicaNote, PairRec, Setting, first_joiner, JoinerKept, ReplicaKept, IsKeptIn, kept_of, Disks, StoreTopology, topology_of, WholeSound, TopologyComesFirst, IsDisk, KeepsOf, KeepsVotes, IsSoundStore, AreLeft, joiner_of, topology_read, ReadTopologyIsKept, ReadNotesAreKept, OpenedIsWhole, joiners_kept, Kept, OffsetIs, PendingAre, EpochIs, NotesAre, PairsAre, KeptDisk, KeptValues, KeepsAs, IsOfKind, IsKept, AreKept, Says, AreRecordsOf, other_names}
 use Rattle.outside.specs.declared.store.DiskName.TheVariants as name
 use Rattle.site_store.proofs.Lending.{each_mem}
 use Rattle.site_store.proofs.Names.{all_named}
@@ -22,13 +22,13 @@ keeps_of read g d (name.Output s j) kept c says keeps = subst (λ (k : Kept). Ke
 abbrev pub IsLeftWith : Setting → (DiskName → List ℕ → Type 0) → Disks → Type 0
 IsLeftWith g image d = (t : Option StoreTopology) × AreLeft g image (record { topology = t; disks = d; is_used = true })
 
-module _ (tells : Bool) (sure : IsTrue tells) (image : DiskName → List ℕ → Type 0) (asked : ℕ) (k : KeptValues) (kept : AreKept tells image asked k) (g : Setting) (same : joiners_kept k.topology asked ≡ g.joiners) (few : g.joiners ≤ 4)
-    (replicas : g.replicas ≡ 3) (d : Disks) (of : AreRecordsOf g k.disks d) where
+module _ (tells : Bool) (sure : IsTrue tells) (image : DiskName → List ℕ → Type 0) (asked : ℕ) (g : Setting) (k : KeptValues) (kept : AreKept tells image g.replicas asked k) (same : joiners_kept k.topology asked ≡ g.joiners)
+    (d : Disks) (of : AreRecordsOf g k.disks d) where
   records_left : ReadNotesAreKept → (disk : DiskName) → IsDisk g disk → IsKeptIn (image disk) (KeepsOf g d disk)
   records_left read disk here = elim (same_or_not disk name.Topology) [
     | inl is ↦ let x = kept.topology sure in subst (λ (n : DiskName). IsKeptIn (image n) (KeepsOf g d n)) (sym is) (x.0, x.1, tt)
     | inr not ↦
-        let o = at_name k.disks disk (subst (Mem disk) (sym kept.named) (all_named _ (omega (arith, same, few)) g replicas (sym same) disk here not)) in
+        let o = at_name k.disks disk (subst (Mem disk) (sym (kept.named ∙ ap (λ n. other_names n g.replicas) same)) (all_named g disk here not)) in
         let x = each_mem (IsKept image) o.0 k.disks (kept.kept sure) o.1 in
         let says = each_mem (λ (e : KeptDisk). Says g d e.name e.kept) o.0 k.disks of o.1 in
         subst (λ (n : DiskName). IsKeptIn (image n) (KeepsOf g d n)) o.2 (x.0, x.1, keeps_of read g d o.0.name o.0.kept x.0 says x.2)

@@ -1,9 +1,9 @@
 -- What the journals that a store is read as say is the report of records that its disks kept.
-use Rattle.std.proofs.Common.{◌≡◌, ℕ, zero, suc, ◌+◌, ◌*◌, ◌<◌, ◌≤◌, List, [], ◌∷◌, ◌++◌, map, Bool, IsTrue, true, Option, Some, None, refl, sym, ◌∙◌, ap, subst, arith}
-use Rattle.std.specs.Prelude.{IfSome, flat_map}
-use Rattle.site_store.proofs.Words.{map-append, Each, DiskName, PairRec, note_view, Topology, IsTopology, kept_is, Setting, first_joiner, BallotNote, ReplicaKept, joiners_kept, journals, values_from, Disks, Store, AreOf, TellsTheReport, joiner_of, ReadTopologyIsKept, ReadNotesAreKept, OpenedIsWhole, Kept, KeptDisk, KeptValues, IsOfKind, AreKept, Says, AreRecordsOf, other_names, IsAsked, ArePassed, KeptStore, notes_at, pairs_at, IsOfValues, IsRead, Tells, MOST_JOINERS}
+use Rattle.std.proofs.Common.{◌≡◌, ℕ, zero, suc, ◌+◌, ◌*◌, ◌<◌, List, [], ◌∷◌, ◌++◌, map, Bool, IsTrue, true, Option, Some, None, refl, sym, ◌∙◌, ap, subst, arith}
+use Rattle.std.specs.Prelude.{flat_map}
+use Rattle.site_store.proofs.Words.{map-append, Each, DiskName, PairRec, note_view, Topology, Setting, first_joiner, BallotNote, ReplicaKept, joiners_kept, journals, values_from, Disks, Store, AreOf, TellsTheReport, joiner_of, ReadTopologyIsKept, ReadNotesAreKept, OpenedIsWhole, Kept, KeptDisk, KeptValues, IsOfKind, AreKept, Says, AreRecordsOf, other_names, IsAsked, ArePassed, KeptStore, notes_at, pairs_at, IsOfValues, IsRead, Tells}
 use Rattle.outside.specs.declared.store.DiskName.TheVariants as name
-use Rattle.site_store.proofs.Names.{others_apart, others_are}
+use Rattle.site_store.proofs.Names.{by_outputs, by_replicas, others_apart, others_are}
 use Rattle.site_store.proofs.Recorded.{left_with, records_of, are_records}
 use Rattle.site_store.proofs.Values.{by_names}
 
@@ -59,30 +59,15 @@ module _ (g : Setting) (d : Disks) where
   pairs_said (name.Epoch s j) kept (v, is) says = ap pairs_at is
   pairs_said (name.Output s j) kept own says = ap pairs_at says
 
-  three_named : (n : ℕ) → n ≤ MOST_JOINERS → flat_map notes_by (other_names n) ≡ journals 3 d.replicas
-  three_named zero few = refl
-  three_named (suc zero) few = refl
-  three_named (suc (suc zero)) few = refl
-  three_named (suc (suc (suc zero))) few = refl
-  three_named (suc (suc (suc (suc zero)))) few = refl
-  three_named (suc (suc (suc (suc (suc n))))) few = absurd (omega (arith, few))
-
   abbrev of_site : ℕ → ℕ → List PairRec
   of_site s j = (d.joiners (joiner_of g s j)).pairs
 
-  both_named : (n : ℕ) → n ≤ MOST_JOINERS → flat_map pairs_by (other_names n) ≡ values_from (of_site 0) 0 n ++ values_from (of_site 1) 0 n
-  both_named zero few = refl
-  both_named (suc zero) few = refl
-  both_named (suc (suc zero)) few = refl
-  both_named (suc (suc (suc zero))) few = refl
-  both_named (suc (suc (suc (suc zero)))) few = refl
-  both_named (suc (suc (suc (suc (suc n))))) few = absurd (omega (arith, few))
-
-  module _ (disks : List KeptDisk) (named : map (λ o. o.name) disks ≡ other_names g.joiners) (kinds : Each (λ o. IsOfKind o.name o.kept) disks) (of : AreRecordsOf g disks d) (few : g.joiners ≤ MOST_JOINERS) where
-    pub notes_are : g.replicas ≡ 3 → map (map note_view) (flat_map (λ o. notes_at o.kept) disks) ≡ journals g.replicas d.replicas
-    notes_are three =
+  module _ (disks : List KeptDisk) (named : map (λ o. o.name) disks ≡ other_names g.joiners g.replicas) (kinds : Each (λ o. IsOfKind o.name o.kept) disks) (of : AreRecordsOf g disks d) where
+    pub notes_are : map (map note_view) (flat_map (λ o. notes_at o.kept) disks) ≡ journals g.replicas d.replicas
+    notes_are =
         let by = each_two (λ (o : KeptDisk). IsOfKind o.name o.kept) (λ (o : KeptDisk). Says g d o.name o.kept) (λ (o : KeptDisk). map (map note_view) (notes_at o.kept) ≡ notes_by o.name) disks (λ o kind says. notes_said o.name o.kept kind says) kinds of in
-        map_flat (λ (o : KeptDisk). notes_at o.kept) (map note_view) disks ∙ by_names (λ k. map (map note_view) (notes_at k)) notes_by disks by ∙ ap (flat_map notes_by) named ∙ three_named g.joiners few ∙ ap (λ n. journals n d.replicas) (sym three)
+        map_flat (λ (o : KeptDisk). notes_at o.kept) (map note_view) disks ∙ by_names (λ k. map (map note_view) (notes_at k)) notes_by disks by ∙ ap (flat_map notes_by) named
+        ∙ by_replicas g.joiners g.replicas notes_by (λ r. (d.replicas r).notes) refl (λ s j. refl) (λ r. refl) (λ s j. refl)
 
     pub pairs_are : flat_map (λ o. pairs_at o.kept) disks ≡ values_from (λ j. (d.joiners j).pairs) (first_joiner g) (2 * g.joiners)
     pairs_are =
@@ -91,39 +76,33 @@ module _ (g : Setting) (d : Disks) where
         let by = each_two (λ (o : KeptDisk). IsOfKind o.name o.kept) (λ (o : KeptDisk). Says g d o.name o.kept) (λ (o : KeptDisk). pairs_at o.kept ≡ pairs_by o.name) disks (λ o kind says. pairs_said o.name o.kept kind says) kinds of in
         let first : values_from (of_site 0) 0 n ≡ values_from f (first_joiner g) n = values_same (of_site 0) f 0 (first_joiner g) n (λ i lt. ap f (omega arith)) in
         let second : values_from (of_site 1) 0 n ≡ values_from f (first_joiner g + n) n = values_same (of_site 1) f 0 (first_joiner g + n) n (λ i lt. ap f (omega arith)) in
-        by_names pairs_at pairs_by disks by ∙ ap (flat_map pairs_by) named ∙ both_named n few
+        by_names pairs_at pairs_by disks by ∙ ap (flat_map pairs_by) named ∙ by_outputs n g.replicas pairs_by (of_site 0) refl (λ s j. refl) (of_site 1) (λ r. refl) (λ j. refl) (λ j. refl)
         ∙ ap (λ (xs : List (List PairRec)). xs ++ values_from (of_site 1) 0 n) first ∙ ap (λ (xs : List (List PairRec)). values_from f (first_joiner g) n ++ xs) second
         ∙ values_both f (first_joiner g) n n ∙ ap (values_from f (first_joiner g)) (omega arith)
 
 -- ---- of a store that is read
 
-module _ (tells : Bool) (sure : IsTrue tells) (image : DiskName → List ℕ → Type 0) (v : KeptValues) (kept : AreKept tells image 0 v) (t : Topology) (topology_is : v.topology ≡ Some t)
-    (g : Setting) (is : IsAsked t g) (replicas : g.replicas ≡ 3) where
+module _ (tells : Bool) (sure : IsTrue tells) (image : DiskName → List ℕ → Type 0) (g : Setting) (v : KeptValues) (kept : AreKept tells image g.replicas 0 v) (t : Topology) (topology_is : v.topology ≡ Some t)
+    (is : IsAsked t g) where
   pub many_are : joiners_kept v.topology 0 ≡ g.joiners
   many_are = ap (λ (o : Option Topology). joiners_kept o 0) topology_is ∙ sym is.joiners
-
-  pub few : g.joiners ≤ MOST_JOINERS
-  few =
-      let x = kept.topology sure in
-      let fine : IsTopology t = subst (λ (o : Option Topology). IfSome o IsTopology) topology_is (kept_is v.topology x.0 x.2) in
-      omega (arith, fine.joiners.few, is.joiners)
 
   abbrev pub its : Disks
   its = records_of g v.disks
 
-  pub named : map (λ d. d.name) v.disks ≡ other_names g.joiners
-  named = kept.named ∙ ap other_names many_are
+  pub named : map (λ d. d.name) v.disks ≡ other_names g.joiners g.replicas
+  named = kept.named ∙ ap (λ n. other_names n g.replicas) many_are
 
   pub of : AreRecordsOf g v.disks its
-  of = are_records g v.disks (other_names g.joiners) named (others_apart g.joiners few) (others_are g replicas g.joiners (omega arith) few) kept.kinds
+  of = are_records g v.disks (other_names g.joiners g.replicas) named (others_apart g.joiners g.replicas) (others_are g g.joiners (omega arith)) kept.kinds
 
   tells_of : (k : KeptStore) → IsOfValues v k → ReadTopologyIsKept → ReadNotesAreKept → OpenedIsWhole g image → TellsTheReport → Tells g image k.journals
   tells_of k told topology read whole report =
-      let left = left_with tells sure image 0 v kept g many_are few replicas its of topology read in
+      let left = left_with tells sure image 0 g v kept many_are its of topology read in
       let store : Store = record { topology = left.0; disks = its; is_used = true } in
       let are : AreOf g its k.journals = record {
-        notes = ap (map (map note_view)) told.notes ∙ notes_are g its v.disks named kept.kinds of few replicas;
-        pairs = told.pairs ∙ pairs_are g its v.disks named kept.kinds of few;
+        notes = ap (map (map note_view)) told.notes ∙ notes_are g its v.disks named kept.kinds of;
+        pairs = told.pairs ∙ pairs_are g its v.disks named kept.kinds of;
       } in
       record {
         store = store;
@@ -134,11 +113,11 @@ module _ (tells : Bool) (sure : IsTrue tells) (image : DiskName → List ℕ →
       }
 
 -- what was read, of what the disks keep
-pub ok_read : (tells : Bool) (before : DiskName → List ℕ → Type 0) (log_tells : Bool) (log : List ℕ) (end_ : ℕ) (v : KeptValues) → AreKept tells before 0 v → ArePassed log_tells log end_ None v → (k : KeptStore) → IsOfValues v k
-    → IsRead tells before log_tells log end_ k
-ok_read tells before log_tells log end_ v kept fine k told = record { values = v; kept = kept; told = told; fine = fine }
+pub ok_read : (tells : Bool) (before : DiskName → List ℕ → Type 0) (replicas : ℕ) (log_tells : Bool) (log : List ℕ) (end_ : ℕ) (v : KeptValues) → AreKept tells before replicas 0 v → ArePassed log_tells log end_ None v → (k : KeptStore) → IsOfValues v k
+    → IsRead tells before replicas log_tells log end_ k
+ok_read tells before replicas log_tells log end_ v kept fine k told = record { values = v; kept = kept; told = told; fine = fine }
 
-pub read_tells : (tells : Bool) → IsTrue tells → (before : DiskName → List ℕ → Type 0) (log_tells : Bool) (log : List ℕ) (end_ : ℕ) → ReadTopologyIsKept → ReadNotesAreKept → ((g : Setting) → OpenedIsWhole g before) → TellsTheReport
-    → (k : KeptStore) → IsRead tells before log_tells log end_ k → (t : Topology) (g : Setting) → k.topology ≡ Some t → IsAsked t g → g.replicas ≡ 3 → Tells g before k.journals
-read_tells tells sure before log_tells log end_ topology read whole report k is t g kept asked replicas =
-    tells_of tells sure before is.values is.kept t (is.told.topology ∙ kept) g asked replicas k is.told topology read (whole g) report
+pub read_tells : (tells : Bool) → IsTrue tells → (before : DiskName → List ℕ → Type 0) (replicas : ℕ) (log_tells : Bool) (log : List ℕ) (end_ : ℕ) → ReadTopologyIsKept → ReadNotesAreKept → ((g : Setting) → OpenedIsWhole g before) → TellsTheReport
+    → (k : KeptStore) → IsRead tells before replicas log_tells log end_ k → (t : Topology) (g : Setting) → k.topology ≡ Some t → IsAsked t g → g.replicas ≡ replicas → Tells g before k.journals
+read_tells tells sure before replicas log_tells log end_ topology read whole report k is t g kept asked same =
+    tells_of tells sure before g is.values (subst (λ n. AreKept tells before n 0 is.values) (sym same) is.kept) t (is.told.topology ∙ kept) asked k is.told topology read (whole g) report

@@ -1,6 +1,6 @@
 -- What a sound store keeps isn't refused: no topology, no place of the click log, and no disk as damaged.
 use Rattle.std.proofs.Common.{◌≡◌, ◌≢◌, inl, inr, ℕ, ◌≤◌, List, map, Bool, IsTrue, true, Option, Some, None, refl, sym, ◌∙◌, ap, subst, arith}
-use Rattle.site_store.proofs.Words.{Each, EachPair, Mem, has, DiskName, KeepsOffset, offset_of, KeepsPending, pending_of, end_from, IsBoundary, Topology, Keeps, Setting, IsLogOf, joiners_kept, IsMisfit, RunFault, IsWelcome, Fits, places_at, all_kept, PlainTopology, topology_of, Bytes, IsDisk, KeepsTopology, KeepSound, IsSoundStore, topology_read, ReadTopologyIsKept, TopologyFits, choose, one_value, Kept, KeptDisk, KeptValues, KeepsAs, IsOfKind, IsKept, AreKept, IsAsked, IsCause, LeavesSomething, MOST_JOINERS}
+use Rattle.site_store.proofs.Words.{Each, EachPair, Mem, has, DiskName, KeepsOffset, offset_of, KeepsPending, pending_of, end_from, IsBoundary, Topology, Keeps, Setting, IsLogOf, joiners_kept, IsMisfit, RunFault, IsWelcome, Fits, places_at, all_kept, PlainTopology, topology_of, Bytes, IsDisk, KeepsTopology, KeepSound, IsSoundStore, topology_read, ReadTopologyIsKept, TopologyFits, choose, one_value, Kept, KeptDisk, KeptValues, KeepsAs, IsOfKind, IsKept, AreKept, IsAsked, IsCause, LeavesSomething, other_names}
 use Rattle.outside.specs.declared.store.DiskName.TheVariants as name
 use Rattle.run_fault.specs.declared.fault.Mismatch.TheVariants as mismatch
 use Rattle.run_fault.specs.declared.fault.RunFault.TheVariants as fault
@@ -12,23 +12,23 @@ use Rattle.site_store.proofs.SameNames.{same_or_not}
 use Rattle.site_store.proofs.Telling.{all_fit, first_clash, of_starts}
 use Rattle.site_store.proofs.Values.{at_name, find_name, named_mem, one_named}
 
-module _ (tells : Bool) (sure : IsTrue tells) (image : DiskName → List ℕ → Type 0) (asked : ℕ) (k : KeptValues) (kept : AreKept tells image asked k) (g : Setting) where
+module _ (tells : Bool) (sure : IsTrue tells) (image : DiskName → List ℕ → Type 0) (asked : ℕ) (g : Setting) (k : KeptValues) (kept : AreKept tells image g.replicas asked k) where
   abbrev many : ℕ
   many = joiners_kept k.topology asked
 
   -- with as many joiners kept as the setting has, each of its disks was opened
-  pub something : many ≡ g.joiners → g.joiners ≤ MOST_JOINERS → g.replicas ≡ 3 → LeavesSomething g image
-  something same few three disk here = elim (same_or_not disk name.Topology) [
+  pub something : many ≡ g.joiners → LeavesSomething g image
+  something same disk here = elim (same_or_not disk name.Topology) [
     | inl is ↦ let x = kept.topology sure in (x.0, subst (λ (n : DiskName). image n x.0) (sym is) x.1)
     | inr not ↦
-        let d = at_name k.disks disk (subst (Mem disk) (sym kept.named) (all_named many (omega (arith, same, few)) g three (sym same) disk here not)) in
+        let d = at_name k.disks disk (subst (Mem disk) (sym (kept.named ∙ ap (λ n. other_names n g.replicas) same)) (all_named g disk here not)) in
         let x = each_mem (IsKept image) d.0 k.disks (kept.kept sure) d.1 in
         (x.0, subst (λ (n : DiskName). image n x.0) d.2 x.1)
   ]
 
-  module _ (few : many ≤ MOST_JOINERS) (some : LeavesSomething g image) (sound : IsSoundStore g image) where
+  module _ (some : LeavesSomething g image) (sound : IsSoundStore g image) where
     no_topology : (d : KeptDisk) → Mem d k.disks → d.name ≢ name.Topology
-    no_topology d among = each_mem (λ (n : DiskName). n ≢ name.Topology) d.name _ (subst (Each (λ (n : DiskName). n ≢ name.Topology)) (sym kept.named) (not_topology many few)) (named_mem k.disks d among)
+    no_topology d among = each_mem (λ (n : DiskName). n ≢ name.Topology) d.name _ (subst (Each (λ (n : DiskName). n ≢ name.Topology)) (sym kept.named) (not_topology many g.replicas)) (named_mem k.disks d among)
 
     -- what the chosen bytes of a disk keep
     abbrev Was : DiskName → List ℕ → Type 0
@@ -42,7 +42,7 @@ module _ (tells : Bool) (sure : IsTrue tells) (image : DiskName → List ℕ →
       | inr not ↦ elim (find_name k.disks disk) [
         | inl found ↦
             let x = each_mem (IsKept image) found.0 k.disks (kept.kept sure) found.1 in
-            let apart : EachPair (λ one other. one ≢ other) (map (λ d. d.name) k.disks) = subst (EachPair (λ one other. one ≢ other)) (sym kept.named) (others_apart many few) in
+            let apart : EachPair (λ one other. one ≢ other) (map (λ d. d.name) k.disks) = subst (EachPair (λ one other. one ≢ other)) (sym kept.named) (others_apart many g.replicas) in
             (x.0, (subst (λ (n : DiskName). image n x.0) found.2 x.1, (λ d among named. subst (λ (o : KeptDisk). KeepsAs o.kept x.0) (one_named k.disks apart found.0 d found.1 among (found.2 ∙ sym named)) x.2, λ e. absurd (not e))))
         | inr none ↦ let x = some disk here in (x.0, (x.1, (λ d among named. absurd (none d among named), λ e. absurd (not e))))
       ]
@@ -81,53 +81,52 @@ module _ (tells : Bool) (sure : IsTrue tells) (image : DiskName → List ℕ →
     fits_at (name.Epoch s j) kd (v, is) here keeps = subst (λ (x : Kept). Each (Fits g.clicks) (places_at (name.Epoch s j) x)) (sym is) tt
     fits_at (name.Output s j) kd (v, is) here keeps = subst (λ (x : Kept). Each (Fits g.clicks) (places_at (name.Output s j) x)) (sym is) tt
 
-    pub are_disks : g.replicas ≡ 3 → many ≤ g.joiners → (d : KeptDisk) → Mem d k.disks → IsDisk g d.name
-    are_disks three le d among = each_mem (IsDisk g) d.name _ (subst (Each (IsDisk g)) (sym kept.named) (others_are g three many le few)) (named_mem k.disks d among)
+    pub are_disks : many ≤ g.joiners → (d : KeptDisk) → Mem d k.disks → IsDisk g d.name
+    are_disks le d among = each_mem (IsDisk g) d.name _ (subst (Each (IsDisk g)) (sym kept.named) (others_are g many le)) (named_mem k.disks d among)
 
-    pub places_fit : g.replicas ≡ 3 → many ≤ g.joiners → Each (Fits g.clicks) (all_kept k.disks)
-    places_fit three le = all_fit g.clicks k.disks (λ d among.
-        let here = are_disks three le d among in
+    pub places_fit : many ≤ g.joiners → Each (Fits g.clicks) (all_kept k.disks)
+    places_fit le = all_fit g.clicks k.disks (λ d among.
+        let here = are_disks le d among in
         fits_at d.name d.kept (each_mem (λ (o : KeptDisk). IsOfKind o.name o.kept) d k.disks kept.kinds among) here (held d among here))
 
 -- ---- what is refused of a sound store
 
 module _ (tells : Bool) (sure : IsTrue tells) (log_tells : Bool) (log_sure : IsTrue log_tells) (image : DiskName → List ℕ → Type 0) (log : List ℕ) (end_ : ℕ) (faulted rose : Type 0) (read : ReadTopologyIsKept) (fits : TopologyFits)
-    (g : Setting) (replicas : g.replicas ≡ 3) (few : g.joiners ≤ MOST_JOINERS) (log_is : IsLogOf log g) (end_is : end_ ≡ end_from 0 g.clicks) (sound : IsSoundStore g image) where
+    (g : Setting) (log_is : IsLogOf log g) (end_is : end_ ≡ end_from 0 g.clicks) (sound : IsSoundStore g image) where
   -- where a setting's topology is asked
   module _ (asked : Topology) (is : IsAsked asked g) where
     abbrev AreIn : KeptValues → Type 0
-    AreIn k = AreKept tells image asked.joiners k
+    AreIn k = AreKept tells image g.replicas asked.joiners k
 
     some_left : (k : KeptValues) → AreIn k → joiners_kept k.topology asked.joiners ≡ asked.joiners → LeavesSomething g image
-    some_left k are same = something tells sure image asked.joiners k are g (same ∙ sym is.joiners) few replicas
+    some_left k are same = something tells sure image asked.joiners g k are (same ∙ sym is.joiners)
 
     no_table : (k : KeptValues) (kept wanted : List _) → AreIn k → IsMisfit k.topology asked (fault.Topology (mismatch.Table kept wanted)) → ⊥
     no_table k kept wanted are (t, kept_is, same, old_is, new_is, other) =
         let many : joiners_kept k.topology asked.joiners ≡ asked.joiners = ap (λ (x : Option Topology). joiners_kept x asked.joiners) kept_is ∙ same in
         let some = some_left k are many in
-        other (ap (λ (u : PlainTopology). u.table) (topology_is tells sure image asked.joiners k are g (omega (arith, many, is.joiners, few)) some sound read fits t kept_is) ∙ is.table)
+        other (ap (λ (u : PlainTopology). u.table) (topology_is tells sure image asked.joiners g k are some sound read fits t kept_is) ∙ is.table)
 
     no_joiners : (k : KeptValues) (kept wanted : ℕ) → AreIn k → IsMisfit k.topology asked (fault.Topology (mismatch.Joiners kept wanted)) → LeavesSomething g image → ⊥
     no_joiners k kept wanted are (t, kept_is, old_is, new_is, other) some =
-        let le = kept_joiners read fits g image some sound k.topology asked.joiners (omega (arith, is.joiners)) (are.topology sure) in
-        other (ap (λ (u : PlainTopology). u.joiners) (topology_is tells sure image asked.joiners k are g (omega (arith, le, few)) some sound read fits t kept_is) ∙ is.joiners)
+        other (ap (λ (u : PlainTopology). u.joiners) (topology_is tells sure image asked.joiners g k are some sound read fits t kept_is) ∙ is.joiners)
 
-    pub welcome : (f : RunFault) → IsCause tells image faulted log_tells log end_ rose (Some asked) f → IsWelcome (LeavesSomething g image) f
-    welcome (fault.Damaged disk at) (first, was) = no_damage tells sure image asked.joiners read fits g (omega (arith, is.joiners)) few replicas sound disk at first was
+    pub welcome : (f : RunFault) → IsCause tells image g.replicas faulted log_tells log end_ rose (Some asked) f → IsWelcome (LeavesSomething g image) f
+    welcome (fault.Damaged disk at) (first, was) = no_damage tells sure image asked.joiners read fits g (omega (arith, is.joiners)) sound disk at first was
     welcome (fault.Topology (mismatch.Joiners kept wanted)) (k, are, why) = no_joiners k kept wanted are why
     welcome (fault.Topology (mismatch.Table kept wanted)) (k, are, why) = no_table k kept wanted are why
     welcome (fault.Topology (mismatch.Place told)) (k, are, why) =
         let many = joiners_same k.topology asked why.0 in
         let some = some_left k are many in
-        first_clash g.clicks _ told (why.1 log_sure g log_is end_is) (places_fit tells sure image asked.joiners k are g (omega (arith, many, is.joiners, few)) some sound replicas (omega (arith, many, is.joiners)))
+        first_clash g.clicks _ told (why.1 log_sure g log_is end_is) (places_fit tells sure image asked.joiners g k are some sound (omega (arith, many, is.joiners)))
     welcome _ why = tt
 
   -- where nothing is asked
-  pub welcome_read : LeavesSomething g image → (f : RunFault) → IsCause tells image faulted log_tells log end_ rose None f → IsWelcome (LeavesSomething g image) f
-  welcome_read some (fault.Damaged disk at) (first, was) = no_damage tells sure image 0 read fits g (omega arith) few replicas sound disk at first was
+  pub welcome_read : LeavesSomething g image → (f : RunFault) → IsCause tells image g.replicas faulted log_tells log end_ rose None f → IsWelcome (LeavesSomething g image) f
+  welcome_read some (fault.Damaged disk at) (first, was) = no_damage tells sure image 0 read fits g (omega arith) sound disk at first was
   welcome_read some (fault.Topology (mismatch.Joiners kept wanted)) (k, are, why) = absurd why
   welcome_read some (fault.Topology (mismatch.Table kept wanted)) (k, are, why) = absurd why
   welcome_read some (fault.Topology (mismatch.Place told)) (k, are, why) =
       let le = kept_joiners read fits g image some sound k.topology 0 (omega arith) (are.topology sure) in
-      first_clash g.clicks _ told (why.1 log_sure g log_is end_is) (places_fit tells sure image 0 k are g (omega (arith, le, few)) some sound replicas le)
+      first_clash g.clicks _ told (why.1 log_sure g log_is end_is) (places_fit tells sure image 0 g k are some sound le)
   welcome_read some _ why = tt

@@ -51,7 +51,7 @@ pub use Rattle.site_node.specs.Replicas.{IsVoted, KeepsNotes, kept_of, vote_reco
 pub use Rattle.site_store.specs.Causes.{ArePassed, AreTold, HasCause, HasFailed, HasPassed, IsCause, IsUnfit, IsUnread, LeavesSomething, first_limit, joiners_asked}
 pub use Rattle.site_store.specs.Floors.{IsBehindFeed, IsFloorFrom, IsFloorOf, NoneBetween}
 pub use Rattle.site_store.specs.Kept.{Fits, FitsOn, IsStart, IsTold, KeptPlace, all_kept, on_disk, places_at}
-pub use Rattle.site_store.specs.Kinds.{damaged_by, epoch_names_a, epoch_names_b, joiners_kept, output_names_a, output_names_b, replica_names}
+pub use Rattle.site_store.specs.Kinds.{damaged_by, joiners_kept}
 pub use Rattle.site_store.specs.Leaving.{IsAsked, IsOut, StayOrAsked}
 pub use Rattle.site_store.specs.Lent.{IsLent, Lacks, Lent, MayBeLeft}
 pub use Rattle.site_store.specs.LentDisks.{all_lent, lent_of}
@@ -61,7 +61,7 @@ pub use Rattle.site_store.specs.Orders.{left_at}
 pub use Rattle.site_store.specs.ReadBack.{AreAmongImages, AreReadFrom, EachWith, IsAnImage, IsOnlyRead, IsReadAs, IsToldBy, OneWith, is_output, is_replica, notes_in, outputs, pairs_in, replicas}
 pub use Rattle.site_store.specs.Reading.{IsOfValues, IsRead, notes_at, pairs_at}
 pub use Rattle.site_store.specs.Records.{AllKept, AreKept, AreRecordsOf, EpochIs, IsKept, IsOfKind, KeepsAs, Kept, KeptDisk, KeptValues, NotesAre, OffsetIs, OpenView, PairsAre, PendingAre, Says, TopologyIs, kept_all, kept_by, lent_all, lent_by, topology_lent, values_of}
-pub use Rattle.site_store.specs.Refusals.{IsFirst, IsFirstDisk, IsJournalOf, WereJournals, joiner_names, other_names, site_names}
+pub use Rattle.site_store.specs.Refusals.{IsFirst, IsFirstDisk, IsJournalOf, WereJournals, other_names, site_names}
 pub use Rattle.site_store.specs.Rows.{one_line}
 pub use Rattle.site_store.specs.Telling.{KeepsNothing, Tells}
 pub use Rattle.site_store.specs.Written.{AllKeep, IsUnwritten, IsWritten, StaysOrKeeps}

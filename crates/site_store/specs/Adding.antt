@@ -72,7 +72,7 @@ NoneTold disks told = told ≡ None
 
 -- What may be left of the disks where a row, one of these, was to be added. Where sure holds it was added, and where none holds it
 -- wasn't; has says of bytes that they have its record.
-pub record Leaves (before after : Images) (is_row : ShardRow → Type 0) (has : List ℕ → Type 0) (sure none : Type 0) : Type 0 where
+pub record Leaves (before after : Images) (replicas : ℕ) (is_row : ShardRow → Type 0) (has : List ℕ → Type 0) (sure none : Type 0) : Type 0 where
   -- Each disk stands for what it stood for, but for the topology's, which may have the row besides.
   pub stays : none → (disk : DiskName) → StaysAs (before disk) (after disk)
   pub others : (disk : DiskName) → disk ≢ name.Topology → StaysAs (before disk) (after disk)
@@ -80,18 +80,18 @@ pub record Leaves (before after : Images) (is_row : ShardRow → Type 0) (has : 
   pub grown : (disk : DiskName) → GoesOn (before disk) (after disk)
   -- A sound store stays so, where the row was added for its setting with the row, and where it wasn't for its setting. Else each choice of
   -- what a stop leaves is sound for one of the two.
-  pub longer : sure → (row : ShardRow) → is_row row → (g : Setting) → g.replicas ≡ 3 → IsSoundStore g before → IsSoundStore (with_row g row) after
+  pub longer : sure → (row : ShardRow) → is_row row → (g : Setting) → g.replicas ≡ replicas → IsSoundStore g before → IsSoundStore (with_row g row) after
   pub still : none → (g : Setting) → IsSoundStore g before → IsSoundStore g after
-  pub either : (row : ShardRow) → is_row row → (g : Setting) → g.replicas ≡ 3 → IsSoundStore g before → IsSoundOr g (with_row g row) after
+  pub either : (row : ShardRow) → is_row row → (g : Setting) → g.replicas ≡ replicas → IsSoundStore g before → IsSoundOr g (with_row g row) after
 
-module _ (tells : Bool) (before : DiskName → List ℕ → Type 0) (row : ShardRow) where
+module _ (tells : Bool) (before : DiskName → List ℕ → Type 0) (replicas : ℕ) (row : ShardRow) where
   -- the disks kept values to which this is answered
   abbrev pub Answers : Result Topology Unfit → Type 0
-  Answers answer = (k : KeptValues) × AreKept tells before 0 k × IsAnswer k row answer
+  Answers answer = (k : KeptValues) × AreKept tells before replicas 0 k × IsAnswer k row answer
 
   -- why the row isn't added
   abbrev pub IsRowCause : (faulted : Type 0) → RunFault → Type 0
-  IsRowCause faulted f = HasCause tells before None NoneTold (λ log. ⊥) (HasFailed tells before None NoneTold faulted) ⊥ ((why : Unfit) × (f ≡ fault.Reshard why) × Answers (Err why)) f
+  IsRowCause faulted f = HasCause tells before replicas None NoneTold (λ log. ⊥) (HasFailed tells before replicas None NoneTold faulted) ⊥ ((why : Unfit) × (f ≡ fault.Reshard why) × Answers (Err why)) f
 
   -- the bytes have the record of a topology that is answered behind records that were kept
   abbrev pub HasRow : List ℕ → Type 0
@@ -106,5 +106,5 @@ module _ (tells : Bool) (before : DiskName → List ℕ → Type 0) (row : Shard
 
   -- What is left, by what is answered: after any fault but that of the topology's disk the row wasn't added.
   abbrev pub LeavesBy : (after : Images) → Result (List ShardRow) RunFault → Type 0
-  LeavesBy after (Ok table) = Leaves before after (λ r. r ≡ row) HasRow ⊤ ⊥
-  LeavesBy after (Err f) = Leaves before after (λ r. r ≡ row) HasRow ⊥ (f ≢ fault.Store (OfDisk name.Topology))
+  LeavesBy after (Ok table) = Leaves before after replicas (λ r. r ≡ row) HasRow ⊤ ⊥
+  LeavesBy after (Err f) = Leaves before after replicas (λ r. r ≡ row) HasRow ⊥ (f ≢ fault.Store (OfDisk name.Topology))

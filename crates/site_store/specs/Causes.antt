@@ -56,10 +56,10 @@ module _ (asked : Option Topology) (told : List KeptDisk → Option Misplaced �
 
 -- ---- of a store
 
-module _ (tells : Bool) (before : DiskName → List ℕ → Type 0) (asked : Option Topology) (told : List KeptDisk → Option Misplaced → Type 0) where
+module _ (tells : Bool) (before : DiskName → List ℕ → Type 0) (replicas : ℕ) (asked : Option Topology) (told : List KeptDisk → Option Misplaced → Type 0) where
   -- the disks that were opened kept these values
   abbrev pub Keeps : KeptValues → Type 0
-  Keeps k = AreKept tells before (joiners_asked asked) k
+  Keeps k = AreKept tells before replicas (joiners_asked asked) k
 
   -- they kept values that can be run or read
   abbrev pub HasPassed : Type 0
@@ -71,7 +71,7 @@ module _ (tells : Bool) (before : DiskName → List ℕ → Type 0) (asked : Opt
   abbrev pub HasCause : (read : LogName → Type 0) → (failed : StorePlace → Type 0) → (late early : Type 0) → RunFault → Type 0
   HasCause read failed late early (fault.Read log) = read log
   HasCause read failed late early (fault.Store at) = failed at
-  HasCause read failed late early (fault.Damaged disk at) = IsFirstDisk tells before (joiners_asked asked) disk × (IsTrue tells → IsDamagedIn before disk at)
+  HasCause read failed late early (fault.Damaged disk at) = IsFirstDisk tells before replicas (joiners_asked asked) disk × (IsTrue tells → IsDamagedIn before disk at)
   HasCause read failed late early (fault.Topology what) = (k : KeptValues) × Keeps k × IsUnfit asked told ⊥ k (fault.Topology what)
   HasCause read failed late early (fault.Limit disk value) = ((k : KeptValues) × Keeps k × IsUnfit asked told ⊥ k (fault.Limit disk value)) ⊎ (late × (value ≡ LAST_EPOCH))
   HasCause read failed late early fault.Write = early × HasPassed
@@ -84,7 +84,7 @@ module _ (tells : Bool) (before : DiskName → List ℕ → Type 0) (asked : Opt
 
   -- the first disk that isn't opened has failed
   abbrev pub HasFailed : Type 0 → StorePlace → Type 0
-  HasFailed rose (place.Disk disk) = IsFirstDisk tells before (joiners_asked asked) disk × rose
+  HasFailed rose (place.Disk disk) = IsFirstDisk tells before replicas (joiners_asked asked) disk × rose
   HasFailed rose _ = ⊥
 
 -- the first place that doesn't fit is told, or none, against whatever lines the log has
@@ -96,9 +96,9 @@ abbrev pub ArePassed : Bool → List ℕ → ℕ → Option Topology → KeptVal
 ArePassed tells log end_ asked k = Passes asked (AreTold tells log end_) k
 
 -- why a store isn't opened or read
-abbrev pub IsCause : Bool → (DiskName → List ℕ → Type 0) → (faulted : Type 0) → Bool → List ℕ → ℕ → (read : Type 0) → Option Topology → RunFault → Type 0
-IsCause tells before faulted log_tells log end_ read asked f =
-    HasCause tells before asked (AreTold log_tells log end_) (IsUnread tells before asked (AreTold log_tells log end_) read) (HasFailed tells before asked (AreTold log_tells log end_) faulted) ⊥ ⊥ f
+abbrev pub IsCause : Bool → (DiskName → List ℕ → Type 0) → (replicas : ℕ) → (faulted : Type 0) → Bool → List ℕ → ℕ → (read : Type 0) → Option Topology → RunFault → Type 0
+IsCause tells before replicas faulted log_tells log end_ read asked f =
+    HasCause tells before replicas asked (AreTold log_tells log end_) (IsUnread tells before replicas asked (AreTold log_tells log end_) read) (HasFailed tells before replicas asked (AreTold log_tells log end_) faulted) ⊥ ⊥ f
 
 -- ---- of a sound store
 

@@ -31,8 +31,8 @@ pub record IsOfValues (v : KeptValues) (k : KeptStore) : Type 0 where
   pub pairs : k.journals.pairs.items ≡ flat_map (λ d. pairs_at d.kept) v.disks
 
 -- A store is read as what its disks keep, with as many joiners as its topology has, or none where it keeps none. That fits the log.
-pub record IsRead (tells : Bool) (before : DiskName → List ℕ → Type 0) (log_tells : Bool) (log : List ℕ) (end_ : ℕ) (k : KeptStore) : Type 0 where
+pub record IsRead (tells : Bool) (before : DiskName → List ℕ → Type 0) (replicas : ℕ) (log_tells : Bool) (log : List ℕ) (end_ : ℕ) (k : KeptStore) : Type 0 where
   pub values : KeptValues
-  pub kept : AreKept tells before 0 values
+  pub kept : AreKept tells before replicas 0 values
   pub told : IsOfValues values k
   pub fine : ArePassed log_tells log end_ None values

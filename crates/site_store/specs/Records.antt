@@ -91,11 +91,11 @@ AllKept left o = (c : List ℕ) → left o.disk c → KeepsAs o.kept c
 abbrev pub IsKept : (DiskName → List ℕ → Type 0) → KeptDisk → Type 0
 IsKept before d = IsKeptIn (before d.name) (KeepsAs d.kept)
 
--- The disks keep these values, with as many joiners as are kept, or else as are asked for: each disk records of its kind, which
--- one of its images has.
-pub record AreKept (tells : Bool) (before : DiskName → List ℕ → Type 0) (asked : ℕ) (k : KeptValues) : Type 0 where
+-- The disks keep these values, with so many replicas, and as many joiners as are kept, or else as are asked for: each disk records of
+-- its kind, which one of its images has.
+pub record AreKept (tells : Bool) (before : DiskName → List ℕ → Type 0) (replicas asked : ℕ) (k : KeptValues) : Type 0 where
   pub topology : IsTrue tells → IsKeptIn (before name.Topology) (KeepsTopology k.topology)
-  pub named : map (λ d. d.name) k.disks ≡ other_names (joiners_kept k.topology asked)
+  pub named : map (λ d. d.name) k.disks ≡ other_names (joiners_kept k.topology asked) replicas
   pub kinds : Each (λ d. IsOfKind d.name d.kept) k.disks
   pub kept : IsTrue tells → Each (IsKept before) k.disks
 

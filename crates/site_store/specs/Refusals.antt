@@ -1,5 +1,5 @@
 -- Which disk is told where one isn't opened: the first in the order of the names.
-use Rattle.std.specs.Prelude.{◌≡◌, ◌⊎◌, ℕ, List, ◌∷◌, ◌++◌, take, Bool, IsTrue, Option}
+use Rattle.std.specs.Prelude.{◌≡◌, ◌⊎◌, ℕ, List, [], ◌∷◌, ◌++◌, Bool, IsTrue, Option}
 use Rattle.list_words.specs.Lists.{Each}
 use Rattle.outside.specs.declared.store.DiskName.{DiskName}
 use Rattle.outside.specs.declared.store.DiskName.TheVariants as name
@@ -11,9 +11,10 @@ use Rattle.offset_journal.specs.Offsets.{Keeps as KeepsOffset}
 use Rattle.retry_log.specs.Pending.{Keeps as KeepsPending}
 use Rattle.turn_defs.specs.declared.pair.PairRec.{PairRec}
 use Rattle.output_log.specs.Pairs.{Keeps as KeepsPairs}
-use Rattle.site_store.specs.Kinds.{joiners_kept, offset_names, retry_names, server_names, replica_names, epoch_names_a, epoch_names_b, output_names_a, output_names_b}
 use Rattle.gate_journal.specs.Images.{IsKeptIn}
+use Rattle.photon_model.specs.Journals.{values_from}
 use Rattle.site_node.specs.Replicas.{KeepsNotes}
+use Rattle.site_store.specs.Kinds.{joiners_kept}
 
 -- a file under this name is a journal of its kind
 abbrev pub IsJournalOf : DiskName → List ℕ → Type 0
@@ -36,20 +37,20 @@ pub record IsFirst (tells : Bool) (before : DiskName → List ℕ → Type 0) (n
   pub order : names ≡ front ++ name ∷ rest
   pub opened : IsTrue tells → WereJournals before front
 
--- the names of the disks in the order in which they are opened: those of the sites, and with so many joiners those of the joiners
+-- the names of the two sites' disks in the order in which they are opened
 abbrev pub site_names : List DiskName
-site_names = offset_names ++ retry_names ++ server_names
+site_names = name.Offset 0 ∷ name.Offset 1 ∷ name.Retry 0 ∷ name.Retry 1 ∷ name.Server 0 ∷ name.Server 1 ∷ []
 
-abbrev pub joiner_names : ℕ → List DiskName
-joiner_names joiners = take joiners epoch_names_a ++ take joiners epoch_names_b ++ take joiners output_names_a ++ take joiners output_names_b
-
--- and all but the topology's, which is opened first
-abbrev pub other_names : ℕ → List DiskName
-other_names joiners = site_names ++ replica_names ++ joiner_names joiners
+-- and of all disks but the topology's, which is opened first: behind the sites' those of the replicas, and of each site's joiners
+abbrev pub other_names : (joiners replicas : ℕ) → List DiskName
+other_names joiners replicas =
+    site_names ++ values_from (λ r. name.Replica r) 0 replicas
+    ++ values_from (λ j. name.Epoch 0 j) 0 joiners ++ values_from (λ j. name.Epoch 1 j) 0 joiners
+    ++ values_from (λ j. name.Output 0 j) 0 joiners ++ values_from (λ j. name.Output 1 j) 0 joiners
 
 -- The disk is the topology's. Or this may have kept a topology or none, with its number of joiners or the asked one, and the disk is
 -- the first of the others that wasn't opened.
-abbrev pub IsFirstDisk : Bool → (DiskName → List ℕ → Type 0) → ℕ → DiskName → Type 0
-IsFirstDisk tells before asked disk =
+abbrev pub IsFirstDisk : Bool → (DiskName → List ℕ → Type 0) → (replicas asked : ℕ) → DiskName → Type 0
+IsFirstDisk tells before replicas asked disk =
     (disk ≡ name.Topology)
-    ⊎ ((kept : Option Topology) × (IsTrue tells → IsKeptIn (before name.Topology) (KeepsTopology kept)) × IsFirst tells before (other_names (joiners_kept kept asked)) disk)
+    ⊎ ((kept : Option Topology) × (IsTrue tells → IsKeptIn (before name.Topology) (KeepsTopology kept)) × IsFirst tells before (other_names (joiners_kept kept asked) replicas) disk)

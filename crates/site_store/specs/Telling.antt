@@ -1,10 +1,11 @@
 -- What verification makes of the journals that a store is read as.
-use Rattle.std.specs.Prelude.{◌≡◌, ℕ, List, [], ◌∷◌, map, Bool}
+use Rattle.std.specs.Prelude.{◌≡◌, ℕ, List, [], map, Bool}
 use Rattle.outside.specs.declared.store.DiskName.{DiskName}
 use Rattle.log_records.specs.declared.records.ClickRec.{ClickRec as Click}
 use Rattle.log_records.specs.Lines.{ClickLine}
 use Rattle.log_records.specs.Report.{distinct}
 use Rattle.turn_defs.specs.Setting.{Setting}
+use Rattle.photon_model.specs.Journals.{values_from}
 use Rattle.photon_model.specs.Report.{report}
 use Rattle.photon_model.specs.Topology.{Store, WholeSound}
 use Rattle.photon_model.specs.Verification.{AreOf}
@@ -21,7 +22,7 @@ pub record Tells (g : Setting) (image : DiskName → List ℕ → Type 0) (journ
   pub lines : map (λ (c : Click). line_of journals g.table c.id) (distinct (map (λ (l : ClickLine). l.click) g.clicks)) ≡ report g store.disks
   pub whole : IsSoundStore g image → (used : Bool) × WholeSound g (record store { is_used = used })
 
--- three replicas without notes, and no outputs
-pub record KeepsNothing (journals : Journals) : Type 0 where
-  pub notes : journals.notes.items ≡ [] ∷ [] ∷ [] ∷ []
+-- so many replicas without notes, and no outputs
+pub record KeepsNothing (replicas : ℕ) (journals : Journals) : Type 0 where
+  pub notes : journals.notes.items ≡ values_from (λ r. []) 0 replicas
   pub pairs : journals.pairs.items ≡ []

@@ -79,20 +79,25 @@ fn longer<D: Disk>(
     }
 }
 
-/// Puts a row behind those of the table that a store keeps, and gives all its disks back. It answers the longer table. The row is refused
+/// Puts a row behind those of the table that a store of so many replicas keeps, and gives all its disks back. It answers the longer table. The row is refused
 /// for the first of these: a disk that isn't opened, an epoch, a round or a slot that is at its limit, no topology that is kept, a
 /// table that can't have the row, and what any replica accepted at its start or later. Each leaves the store as it was. Last, the
 /// record may not be written: then the topology's disk has its old records, or those and the new one.
 ///
 /// Each file is read once. Time and memory are linear in the files.
-pub fn add_row<S: Store>(alloc: Global, store: &mut S, row: ShardRow) -> Result<Table, RunFault>
+pub fn add_row<S: Store>(
+    alloc: Global,
+    store: &mut S,
+    replicas: u8,
+    row: ShardRow,
+) -> Result<Table, RunFault>
     requires some { 1 ≤ row.count }
     requires few { row.count ≤ MAX_SHARDS }
-    ensures added { IfOk result (IsAdded S.Disk.tells (S.image store.old) row (S.image store.new)) }
-    ensures cause { IfErr result (IsRowCause S.Disk.tells (S.image store.old) row (Rose (S.faults store.old) (S.faults store.new))) }
+    ensures added { IfOk result (IsAdded S.Disk.tells (S.image store.old) replicas row (S.image store.new)) }
+    ensures cause { IfErr result (IsRowCause S.Disk.tells (S.image store.old) replicas row (Rose (S.faults store.old) (S.faults store.new))) }
 
     // All disks are back.
-    ensures leaves { IsTrue S.Disk.tells → LeavesBy S.Disk.tells (S.image store.old) row (S.image store.new) result }
+    ensures leaves { IsTrue S.Disk.tells → LeavesBy S.Disk.tells (S.image store.old) replicas row (S.image store.new) result }
     ensures count { S.faults store.old ≤ S.faults store.new }
 {
     stays::<S>();
@@ -100,7 +105,7 @@ pub fn add_row<S: Store>(alloc: Global, store: &mut S, row: ShardRow) -> Result<
     once();
     read();
     fits();
-    let mut open = match open_disks(alloc, store, 0) {
+    let mut open = match open_disks(alloc, store, 0, replicas) {
         Ok(open) => open,
         Err(fault) => return Err(fault),
     };

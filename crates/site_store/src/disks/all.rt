@@ -1,7 +1,6 @@
 // All disks of a state directory.
 ghost use Rattle.std.specs.Prelude.{◌≡◌, ◌≤◌, ◌+◌, ◌∷◌, ℕ, List, length, IsTrue, IfOk, IfErr, OnErr};
 ghost use Rattle.list_words.specs.Lists.{Each};
-ghost use Rattle.time_shards.specs.declared.TheConstants.{MOST_JOINERS};
 ghost use Rattle.outside.specs.declared.store.DiskName.{DiskName};
 ghost use Rattle.outside.specs.Faults.{added};
 ghost use Rattle.gate_journal.specs.declared.journal.JournalState.TheVariants.{Ready};
@@ -29,9 +28,7 @@ pub struct OpenStore<D: Disk> {
 
 // How many joiners a site has: the kept number, or the asked one where none is kept.
 fn joiners_of<D: Disk>(topology: &TopologyJournal<D>, asked: u8) -> u8
-    requires { asked ≤ MOST_JOINERS }
-    ensures number { result ≡ joiners_kept topology.now.value.kept asked }
-    ensures few { result ≤ MOST_JOINERS }
+    ensures { result ≡ joiners_kept topology.now.value.kept asked }
 {
     match topology.value().kept() {
         Some(kept) => kept.joiners,
@@ -40,29 +37,29 @@ fn joiners_of<D: Disk>(topology: &TopologyJournal<D>, asked: u8) -> u8
 }
 
 /// Takes the disks of a state directory from the store and opens each: the topology's, the offsets, the retry logs, the
-/// servers' epochs, the replicas' journals, the joiners' epochs and their outputs, site A before site B. A site has as many
-/// joiners as the topology's disk keeps, or else as are asked for. The first disk that isn't opened ends it, and all that
-/// were taken are given back. Linear in the files, in time and memory.
+/// servers' epochs, the replicas' journals, the joiners' epochs and their outputs, site A before site B. There are so many
+/// replicas, and a site has as many joiners as the topology's disk keeps, or else as are asked for. The first disk that isn't
+/// opened ends it, and all that were taken are given back. Linear in the files, in time and memory.
 pub fn open_disks<S: Store>(
     alloc: Global,
     store: &mut S,
     asked: u8,
+    replicas: u8,
 ) -> Result<OpenStore<S::Disk>, RunFault>
-    requires { asked ≤ MOST_JOINERS }
     ensures ready { IfOk result (λ d. d.topology.journal.state ≡ Ready) }
-    ensures kept { IfOk result (λ d. AreKept S.Disk.tells (S.image store.old) asked (values_of d.topology.value.kept d.disks.items)) }
+    ensures kept { IfOk result (λ d. AreKept S.Disk.tells (S.image store.old) replicas asked (values_of d.topology.value.kept d.disks.items)) }
     // What a stop may leave now, of the disks and in the store.
     ensures lent { IsTrue S.Disk.tells → IfOk result (λ d. IsLent S.Disk.image (S.image store.old) (S.image store.new) (topology_lent d.topology.journal.disk ∷ lent_all d.disks.items)) }
     ensures back { IsTrue S.Disk.tells → OnErr result ((name : DiskName) → StaysAs (S.image store.old name) (S.image store.new name)) }
     ensures places { IfOk result (λ d. S.places_left store.old + (1 + length d.disks.items) ≤ S.places_left store.new) }
-    ensures first { IfErr result (IsUnopened S.Disk.tells (S.image store.old) (S.faults store.old) (S.faults store.new) (IsFirstDisk S.Disk.tells (S.image store.old) asked)) }
+    ensures first { IfErr result (IsUnopened S.Disk.tells (S.image store.old) (S.faults store.old) (S.faults store.new) (IsFirstDisk S.Disk.tells (S.image store.old) replicas asked)) }
     ensures count { S.faults store.old ≤ S.faults store.new }
     // Each disk has the stops that were planned for it, and met none. Where none is planned no fault is met.
     ensures plan { IsTrue S.Disk.planned → IfOk result (λ d. AreAsPlanned S.Disk.stops S.Disk.made S.Disk.faults (Left S.stops S.made store.old) (Left S.stops S.made store.new) (topology_lent d.topology.journal.disk ∷ lent_all d.disks.items)) }
     ensures calm { IsTrue S.Disk.planned → ((name : DiskName) → Left S.stops S.made store.old name 0) → S.faults store.new ≡ S.faults store.old }
 {
     let topology = open_one(alloc, store, DiskName::Topology)?.into_topology();
-    match open_others(alloc, store, joiners_of(&topology, asked)) {
+    match open_others(alloc, store, joiners_of(&topology, asked), replicas) {
         Ok(disks) => Ok(OpenStore { topology, disks }),
         Err(fault) => {
             store.give(DiskName::Topology, topology.into_disk());

@@ -1,7 +1,6 @@
 // Taking disks from a store and giving them back.
 ghost use Rattle.std.specs.Prelude.{◌≡◌, ◌≢◌, ◌≤◌, ◌+◌, ◌∷◌, [], ℕ, List, false, length, map, IsTrue, IfOk, IfErr, OnOk, OnErr, IsErrOf};
 ghost use Rattle.list_words.specs.Lists.{Each};
-ghost use Rattle.time_shards.specs.declared.TheConstants.{MOST_JOINERS};
 ghost use Rattle.outside.specs.declared.store.DiskName.{DiskName};
 ghost use Rattle.outside.specs.Disk.{Within};
 ghost use Rattle.outside.specs.Faults.{Counts};
@@ -108,21 +107,21 @@ pub(crate) fn open_others<S: Store>(
     alloc: Global,
     store: &mut S,
     joiners: u8,
+    replicas: u8,
 ) -> Result<Vec<OpenDisk<S::Disk>>, RunFault>
-    requires few { joiners ≤ MOST_JOINERS }
-    ensures named { IfOk result (λ d. map (λ o. o.name) d.items ≡ other_names joiners) }
+    ensures named { IfOk result (λ d. map (λ o. o.name) d.items ≡ other_names joiners replicas) }
     ensures kinds { IfOk result (λ d. Each (λ o. IsOfKind o.name o.kept) d.items) }
     ensures kept { IsTrue S.Disk.tells → IfOk result (λ d. Each (λ o. IsKept (S.image store.old) (kept_by o)) d.items) }
     ensures lent { IsTrue S.Disk.tells → IfOk result (λ d. IsLent S.Disk.image (S.image store.old) (S.image store.new) (lent_all d.items)) }
     ensures back { IsTrue S.Disk.tells → OnErr result ((name : DiskName) → StaysAs (S.image store.old name) (S.image store.new name)) }
     ensures places { IfOk result (λ d. S.places_left store.old + length d.items ≤ S.places_left store.new) }
     ensures place { OnErr result (S.places_left store.old ≤ S.places_left store.new) }
-    ensures first { IfErr result (IsUnopened S.Disk.tells (S.image store.old) (S.faults store.old) (S.faults store.new) (IsFirst S.Disk.tells (S.image store.old) (other_names joiners))) }
+    ensures first { IfErr result (IsUnopened S.Disk.tells (S.image store.old) (S.faults store.old) (S.faults store.new) (IsFirst S.Disk.tells (S.image store.old) (other_names joiners replicas))) }
     ensures count { S.faults store.old ≤ S.faults store.new }
     ensures plan { IsTrue S.Disk.planned → IfOk result (λ d. AreAsPlanned S.Disk.stops S.Disk.made S.Disk.faults (Left S.stops S.made store.old) (Left S.stops S.made store.new) (lent_all d.items)) }
-    ensures calm { IsTrue S.Disk.planned → Each (λ name. Left S.stops S.made store.old name 0) (other_names joiners) → S.faults store.new ≡ S.faults store.old }
+    ensures calm { IsTrue S.Disk.planned → Each (λ name. Left S.stops S.made store.old name 0) (other_names joiners replicas) → S.faults store.new ≡ S.faults store.old }
 {
-    let Ok(names) = names_of(alloc, joiners) else {
+    let Ok(names) = names_of(alloc, joiners, replicas) else {
         return Err(RunFault::Memory);
     };
     let Ok(mut disks) = Vec::with_capacity(alloc, names.len()) else {

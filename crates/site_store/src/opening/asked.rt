@@ -1,11 +1,9 @@
 // A store whose disks are opened and judged, for a run with what is asked, or for a verification, which asks nothing.
-ghost use Rattle.std.specs.Prelude.{◌≡◌, ◌≤◌, ◌+◌, ◌∷◌, length, IsTrue, IfOk, IfErr, IfSome, OnErr};
-ghost use Rattle.time_shards.specs.declared.TheConstants.{MOST_JOINERS};
+ghost use Rattle.std.specs.Prelude.{◌≡◌, ◌≤◌, ◌+◌, ◌∷◌, length, IsTrue, IfOk, IfErr, OnErr};
 ghost use Rattle.outside.specs.declared.store.DiskName.{DiskName};
 ghost use Rattle.outside.specs.Faults.{Rose};
 ghost use Rattle.gate_journal.specs.declared.journal.JournalState.TheVariants.{Ready};
 ghost use Rattle.gate_journal.specs.Images.{StaysAs};
-ghost use Rattle.topology_journal.specs.Topologies.{IsTopology};
 ghost use Rattle.site_store.specs.Lent.{IsLent};
 ghost use Rattle.site_store.specs.Plans.{Left, AreAsPlanned};
 ghost use Rattle.site_store.specs.Records.{AreKept, values_of, lent_all, topology_lent};
@@ -20,9 +18,7 @@ use topology_journal::Topology;
 
 // How many joiners a site is asked to have.
 fn joiners_of(asked: &Option<Topology>) -> u8
-    requires { IfSome asked.now IsTopology }
-    ensures number { result ≡ joiners_asked asked.now }
-    ensures few { result ≤ MOST_JOINERS }
+    ensures { result ≡ joiners_asked asked.now }
 {
     match asked {
         Some(asked) => asked.joiners,
@@ -30,25 +26,25 @@ fn joiners_of(asked: &Option<Topology>) -> u8
     }
 }
 
-/// Opens all disks of a store, over a click log whose last whole line ends at `end`, where what they keep can be run as is asked, or
+/// Opens all disks of a store, of so many replicas, over a click log whose last whole line ends at `end`, where what they keep can be run as is asked, or
 /// read where nothing is. Else the store is refused, and gets all its disks back.
 pub(crate) fn open_for<S: Store, L: LogFile>(
     alloc: Global,
     store: &mut S,
     asked: &Option<Topology>,
+    replicas: u8,
     clicks: &mut L,
     end: u64,
 ) -> Result<OpenStore<S::Disk>, RunFault>
-    requires { IfSome asked.now IsTopology }
     ensures ready { IfOk result (λ d. d.topology.journal.state ≡ Ready) }
-    ensures kept { IfOk result (λ d. AreKept S.Disk.tells (S.image store.old) (joiners_asked asked.now) (values_of d.topology.value.kept d.disks.items)) }
+    ensures kept { IfOk result (λ d. AreKept S.Disk.tells (S.image store.old) replicas (joiners_asked asked.now) (values_of d.topology.value.kept d.disks.items)) }
     ensures passed { IfOk result (λ d. ArePassed L.tells (L.bytes clicks.old) end asked.now (values_of d.topology.value.kept d.disks.items)) }
     ensures lent { IsTrue S.Disk.tells → IfOk result (λ d. IsLent S.Disk.image (S.image store.old) (S.image store.new) (topology_lent d.topology.journal.disk ∷ lent_all d.disks.items)) }
     ensures places { IfOk result (λ d. S.places_left store.old + (1 + length d.disks.items) ≤ S.places_left store.new) }
 
     // After a refusal.
     ensures back { IsTrue S.Disk.tells → OnErr result ((disk : DiskName) → StaysAs (S.image store.old disk) (S.image store.new disk)) }
-    ensures cause { IfErr result (IsCause S.Disk.tells (S.image store.old) (Rose (S.faults store.old) (S.faults store.new)) L.tells (L.bytes clicks.old) end (Rose (L.faults clicks.old) (L.faults clicks.new)) asked.now) }
+    ensures cause { IfErr result (IsCause S.Disk.tells (S.image store.old) replicas (Rose (S.faults store.old) (S.faults store.new)) L.tells (L.bytes clicks.old) end (Rose (L.faults clicks.old) (L.faults clicks.new)) asked.now) }
 
     ensures same { IsTrue L.tells → L.bytes clicks.new ≡ L.bytes clicks.old }
     // Each disk has the stops that were planned for it, and met none. Where none is planned no fault is met.
@@ -57,7 +53,7 @@ pub(crate) fn open_for<S: Store, L: LogFile>(
     ensures count { S.faults store.old ≤ S.faults store.new }
     ensures log_count { L.faults clicks.old ≤ L.faults clicks.new }
 {
-    let open = match open_disks(alloc, store, joiners_of(asked)) {
+    let open = match open_disks(alloc, store, joiners_of(asked), replicas) {
         Ok(open) => open,
         Err(fault) => return Err(fault),
     };

@@ -31,8 +31,8 @@ use site_laws::stores::{fits, opened, read, stays, topology_first};
 use std::alloc::Global;
 use topology_journal::Topology;
 
-/// Opens all disks of a store for a run of both sites with this topology, over a click log whose last whole line ends at
-/// `end`. The store is refused, and gets all its disks back, for the first of these: a disk that isn't opened, another number
+/// Opens all disks of a store for a run of both sites with this topology and so many replicas, over a click log whose last whole
+/// line ends at `end`. The store is refused, and gets all its disks back, for the first of these: a disk that isn't opened, another number
 /// of joiners or another table that is kept, a kept place that doesn't fit the log, an epoch, a round or a slot that is at its
 /// limit, and the record of the asked topology, if none is kept and it isn't written.
 ///
@@ -41,22 +41,23 @@ pub fn open_store<S: Store, L: LogFile>(
     alloc: Global,
     store: &mut S,
     asked: Topology,
+    replicas: u8,
     clicks: &mut L,
     end: u64,
 ) -> Result<OpenStore<S::Disk>, RunFault>
     requires { IsTopology asked }
     ensures topology { IfOk result (λ d. d.topology.value.kept ≡ Some asked) }
-    ensures named { IfOk result (λ d. map (λ o. o.name) d.disks.items ≡ other_names asked.joiners) }
+    ensures named { IfOk result (λ d. map (λ o. o.name) d.disks.items ≡ other_names asked.joiners replicas) }
     // What the disks kept fits what is asked, and but for the topology they keep it.
-    ensures kept { IfOk result (λ d. (t : Option KeptTopology) × AreKept S.Disk.tells (S.image store.old) asked.joiners (values_of t d.disks.items) × ArePassed L.tells (L.bytes clicks.old) end (Some asked) (values_of t d.disks.items)) }
+    ensures kept { IfOk result (λ d. (t : Option KeptTopology) × AreKept S.Disk.tells (S.image store.old) replicas asked.joiners (values_of t d.disks.items) × ArePassed L.tells (L.bytes clicks.old) end (Some asked) (values_of t d.disks.items)) }
     ensures lent { IsTrue S.Disk.tells → IfOk result (λ d. IsOut asked S.Disk.image (S.image store.old) (S.image store.new) (topology_lent d.topology.journal.disk) (lent_all d.disks.items)) }
     ensures places { IfOk result (λ d. S.places_left store.old + (1 + length d.disks.items) ≤ S.places_left store.new) }
 
     // Each record was kept by an image of its disk, and the topology or none by one of its own.
-    ensures were_left { IsTrue S.Disk.tells → IfOk result (λ d. (g : Setting) (records : Disks) → IsAsked asked g → g.replicas ≡ 3 → AreRecordsOf g (kept_all d.disks.items) records
+    ensures were_left { IsTrue S.Disk.tells → IfOk result (λ d. (g : Setting) (records : Disks) → IsAsked asked g → g.replicas ≡ replicas → AreRecordsOf g (kept_all d.disks.items) records
         → (t : Option StoreTopology) × AreLeft g (S.image store.old) (record { topology = t; disks = records; is_used = true })) }
     // Of a sound store, the records that they keep are a whole store, with the topology that was asked.
-    ensures whole { IsTrue S.Disk.tells → IfOk result (λ d. (g : Setting) (records : Disks) → IsAsked asked g → g.replicas ≡ 3 → IsSoundStore g (S.image store.old) → AreRecordsOf g (kept_all d.disks.items) records
+    ensures whole { IsTrue S.Disk.tells → IfOk result (λ d. (g : Setting) (records : Disks) → IsAsked asked g → g.replicas ≡ replicas → IsSoundStore g (S.image store.old) → AreRecordsOf g (kept_all d.disks.items) records
         → (used : Bool) × WholeSound g (record { topology = Some (topology_of g); disks = records; is_used = used })) }
 
     // After a refusal.
@@ -64,9 +65,9 @@ pub fn open_store<S: Store, L: LogFile>(
     ensures back { IsTrue S.Disk.tells → IfErr result (λ f. f ≢ StoreFailed (OfDisk name.Topology) → (disk : DiskName) → StaysAs (S.image store.old disk) (S.image store.new disk)) }
     ensures sound { IsTrue S.Disk.tells → OnErr result ((g : Setting) → IsAsked asked g → IsSoundStore g (S.image store.old) → IsSoundStore g (S.image store.new)) }
     ensures grown { IsTrue S.Disk.tells → OnErr result ((disk : DiskName) → GoesOn (S.image store.old disk) (S.image store.new disk)) }
-    ensures cause { IfErr result (IsCause S.Disk.tells (S.image store.old) (Rose (S.faults store.old) (S.faults store.new)) L.tells (L.bytes clicks.old) end (Rose (L.faults clicks.old) (L.faults clicks.new)) (Some asked)) }
+    ensures cause { IfErr result (IsCause S.Disk.tells (S.image store.old) replicas (Rose (S.faults store.old) (S.faults store.new)) L.tells (L.bytes clicks.old) end (Rose (L.faults clicks.old) (L.faults clicks.new)) (Some asked)) }
     // Of a sound store nothing that it keeps is refused, and no disk is told as damaged.
-    ensures welcome { IsTrue S.Disk.tells → IsTrue L.tells → IfErr result (λ f. (g : Setting) → IsAsked asked g → g.replicas ≡ 3 → IsLogOf (L.bytes clicks.old) g → end ≡ end_from 0 g.clicks
+    ensures welcome { IsTrue S.Disk.tells → IsTrue L.tells → IfErr result (λ f. (g : Setting) → IsAsked asked g → g.replicas ≡ replicas → IsLogOf (L.bytes clicks.old) g → end ≡ end_from 0 g.clicks
         → IsSoundStore g (S.image store.old) → IsWelcome (LeavesSomething g (S.image store.old)) f) }
 
     ensures same { IsTrue L.tells → L.bytes clicks.new ≡ L.bytes clicks.old }
@@ -86,7 +87,7 @@ pub fn open_store<S: Store, L: LogFile>(
         joiners: asked.joiners,
         table: asked.table,
     });
-    let mut open = match open_for(alloc, store, &wanted, clicks, end) {
+    let mut open = match open_for(alloc, store, &wanted, replicas, clicks, end) {
         Ok(open) => open,
         Err(fault) => return Err(fault),
     };

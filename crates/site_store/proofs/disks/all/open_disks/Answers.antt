@@ -16,11 +16,10 @@ returns-in-Ok-clause-kept g c =
     let before = g.S.Store.image c.args.store.now in
     let mid = g.S.Store.image c.open_one.new.store in
     let all = c.in-Ok.disks.items in
-    let few = c.joiners_of.ensures.few in
-    let away = lacks_by_names name.Topology all _ c.in-Ok.ensures.named (not_topology _ few) in
+    let away = lacks_by_names name.Topology all _ c.in-Ok.ensures.named (not_topology c.joiners_of.result c.args.replicas) in
     record {
       topology = λ sure. subst (λ k. IsKeptIn (before name.Topology) (KeepsAs k)) c.into_topology-topology.ensures.kept (c.in_ok-open_one.ensures.kept sure);
-      named = names_kept all ∙ c.in-Ok.ensures.named ∙ ap other_names c.joiners_of.ensures.number;
+      named = names_kept all ∙ c.in-Ok.ensures.named ∙ ap (λ n. other_names n c.args.replicas) c.joiners_of.ensures;
       kinds = each_kept (λ d. IsOfKind d.name d.kept) all c.in-Ok.ensures.kinds;
       kept = λ sure. each_kept (IsKept before) all (kept_before before mid name.Topology (c.in_ok-open_one.ensures.others sure) all away (c.in-Ok.ensures.kept sure));
     }
@@ -30,7 +29,7 @@ returns-in-Ok-clause-lent g c tells =
     let image = g.S.Store.image in
     let left = g.S.Disk.Disk.image in
     let before = image c.args.store.now in
-    let away = lacks_by_names name.Topology c.in-Ok.disks.items _ c.in-Ok.ensures.named (not_topology _ c.joiners_of.ensures.few) in
+    let away = lacks_by_names name.Topology c.in-Ok.disks.items _ c.in-Ok.ensures.named (not_topology c.joiners_of.result c.args.replicas) in
     let stays = subst (λ d. StaysAs (before name.Topology) (left d)) c.into_topology-topology.ensures.disk (c.in_ok-open_one.ensures.stays tells) in
     first_lent left before (image c.open_one.new.store) (image c.open_others.new.store) _ _ stays (c.in_ok-open_one.ensures.others tells) (c.in-Ok.ensures.lent tells) away
 
@@ -49,22 +48,22 @@ returns-in-Err-clause-first g c =
     let before = g.S.Store.image c.args.store.now in
     let mid = g.S.Store.image c.open_one.new.store in
     let n = c.joiners_of.result in
-    let away = not_topology n c.joiners_of.ensures.few in
+    let away = not_topology n c.args.replicas in
     let others = c.in_ok-open_one.ensures.others in
-    unopened_more tells before mid _ _ _ _ (IsFirst tells mid (other_names n)) (IsFirstDisk tells before c.args.asked) c.in-Err.fault c.open_one.ensures.count (omega (arith, c.give.ensures.count))
+    unopened_more tells before mid _ _ _ _ (IsFirst tells mid (other_names n c.args.replicas)) (IsFirstDisk tells before c.args.replicas c.args.asked) c.in-Err.fault c.open_one.ensures.count (omega (arith, c.give.ensures.count))
     (λ disk first. inr (
       c.into_topology-topology.result.value.kept,
       (λ sure. subst (λ k. IsKeptIn (before name.Topology) (KeepsAs k)) c.into_topology-topology.ensures.kept (c.in_ok-open_one.ensures.kept sure)),
-      subst (λ (m : ℕ). IsFirst tells before (other_names m) disk) c.joiners_of.ensures.number (first_before tells before mid name.Topology others (other_names n) disk away first),
+      subst (λ (m : ℕ). IsFirst tells before (other_names m c.args.replicas) disk) c.joiners_of.ensures (first_before tells before mid name.Topology others (other_names n c.args.replicas) disk away first),
     ))
-    (λ sure disk first. others sure disk (first_other tells mid name.Topology (other_names n) disk away first)) c.in-Err.ensures.first
+    (λ sure disk first. others sure disk (first_other tells mid name.Topology (other_names n c.args.replicas) disk away first)) c.in-Err.ensures.first
 
 pub returns-in_err-open_one-clause-first : goal.returns-in_err-open_one-clause-first
 returns-in_err-open_one-clause-first g c =
     let tells = g.S.Disk.Disk.tells in
     let before = g.S.Store.image c.args.store.now in
     handed_on c.from_residual.result c.in_err-open_one.field-0.0 _ c.from_residual.ensures.1
-    (unopened_more tells before before _ _ _ _ (λ (disk : DiskName). disk ≡ name.Topology) (IsFirstDisk tells before c.args.asked) c.in_err-open_one.field-0.0 (omega arith) (omega arith) (λ disk is. inl is) (λ sure disk is bytes now. now) c.in_err-open_one.ensures.err)
+    (unopened_more tells before before _ _ _ _ (λ (disk : DiskName). disk ≡ name.Topology) (IsFirstDisk tells before c.args.replicas c.args.asked) c.in_err-open_one.field-0.0 (omega arith) (omega arith) (λ disk is. inl is) (λ sure disk is bytes now. now) c.in_err-open_one.ensures.err)
 
 pub returns-in-Ok-clause-plan : goal.returns-in-Ok-clause-plan
 returns-in-Ok-clause-plan g c planned =
@@ -72,7 +71,7 @@ returns-in-Ok-clause-plan g c planned =
     let at = Left g.S.Store.stops g.S.Store.made in
     let topology = topology_lent c.into_topology-topology.result.journal.disk in
     let all = lent_all c.in-Ok.disks.items in
-    let away = lacks_by_names name.Topology c.in-Ok.disks.items _ c.in-Ok.ensures.named (not_topology _ c.joiners_of.ensures.few) in
+    let away = lacks_by_names name.Topology c.in-Ok.disks.items _ c.in-Ok.ensures.named (not_topology c.joiners_of.result c.args.replicas) in
     let first = taken_as d.stops d.made d.faults (at c.args.store.now) (at c.open_one.new.store) _ topology c.in_ok-open_one.ensures.name c.into_topology-topology.ensures.disk (c.in_ok-open_one.ensures.plan planned) in
     taken_on d.stops d.made d.faults (at c.args.store.now) (at c.open_one.new.store) (at c.open_others.new.store) (topology ∷ []) all first
     (each_weaker (λ l. l.name ≢ name.Topology) (λ l. Lacks (topology ∷ []) l.name) (λ l other. ((λ e. other (sym e)), tt)) all away) (c.in-Ok.ensures.plan planned)
@@ -81,7 +80,7 @@ pub returns-in-Ok-clause-calm : goal.returns-in-Ok-clause-calm
 returns-in-Ok-clause-calm g c planned none =
     let d = g.S.Disk.Disk in
     let one = c.in_ok-open_one.ensures in
-    c.open_others.ensures.calm planned (none_behind d.stops d.made d.faults _ _ _ c.joiners_of.result one.name c.joiners_of.ensures.few (one.plan planned) none)
+    c.open_others.ensures.calm planned (none_behind d.stops d.made d.faults _ _ _ c.joiners_of.result c.args.replicas one.name (one.plan planned) none)
     ∙ c.open_one.ensures.calm planned (none name.Topology)
 
 pub returns-in-Err-clause-calm : goal.returns-in-Err-clause-calm
@@ -90,7 +89,7 @@ returns-in-Err-clause-calm g c planned none =
     let one = c.in_ok-open_one.ensures in
     let met = ap d.faults (c.into_disk.ensures ∙ sym c.into_topology-topology.ensures.disk) ∙ (one.plan planned).out.0.calm in
     none_added _ _ _ c.give.ensures.count met
-    ∙ c.open_others.ensures.calm planned (none_behind d.stops d.made d.faults _ _ _ c.joiners_of.result one.name c.joiners_of.ensures.few (one.plan planned) none)
+    ∙ c.open_others.ensures.calm planned (none_behind d.stops d.made d.faults _ _ _ c.joiners_of.result c.args.replicas one.name (one.plan planned) none)
     ∙ c.open_one.ensures.calm planned (none name.Topology)
 
 pub returns-in_err-open_one-clause-calm : goal.returns-in_err-open_one-clause-calm

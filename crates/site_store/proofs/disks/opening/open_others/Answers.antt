@@ -43,7 +43,7 @@ loop-i-preserved g c =
     let name = c.index.result.now in
     let is : name ≡ get_or names i name = c.index.ensures in
     let lt : i < length names = omega (arith, c.loop-i-test.true) in
-    let apart = subst (EachPair (λ one other. one ≢ other)) (sym c.in-Ok.ensures) (others_apart c.args.joiners c.requires.few) in
+    let apart = subst (EachPair (λ one other. one ≢ other)) (sym c.in-Ok.ensures) (others_apart c.args.joiners c.args.replicas) in
     let lacks : Lacks (lent_all items) name = subst (Lacks (lent_all items)) (sym is) (lacks_next names i name items apart inv.names lt) in
     record {
       names = names_more names i name items now one inv.names lt (e.name ∙ is) more;
@@ -86,10 +86,10 @@ returns-in-Err-clause-first g c =
     let items = c.loop-i.disks.items in
     let inv = c.loop-i.invariant in
     let lt : i < length names = omega (arith, c.loop-i-test.true) in
-    let apart = subst (EachPair (λ one other. one ≢ other)) (sym c.in-Ok.ensures) (others_apart c.args.joiners c.requires.few) in
+    let apart = subst (EachPair (λ one other. one ≢ other)) (sym c.in-Ok.ensures) (others_apart c.args.joiners c.args.replicas) in
     let lacks : Lacks (lent_all items) name = subst (Lacks (lent_all items)) (sym is) (lacks_next names i name items apart inv.names lt) in
     let first : IsFirst tells before names (get_or names i name) = first_at tells before names i name lt (λ sure. were_journals before items _ inv.names inv.kinds (inv.kept sure)) in
-    unopened_more tells before mid _ _ _ _ (λ (disk : DiskName). disk ≡ name) (IsFirst tells before (other_names c.args.joiners)) c.in-Err.fault inv.count c.give_each.ensures.count
+    unopened_more tells before mid _ _ _ _ (λ (disk : DiskName). disk ≡ name) (IsFirst tells before (other_names c.args.joiners c.args.replicas)) c.in-Err.fault inv.count c.give_each.ensures.count
     (λ disk named. subst (λ (ns : List DiskName). IsFirst tells before ns disk) c.in-Ok.ensures (subst (IsFirst tells before names) (sym (named ∙ is)) first))
     (λ sure disk named. subst (λ (n : DiskName). Within (before n) (mid n)) (sym named) ((inv.lent sure).others name lacks)) c.in-Err.ensures.err
 
@@ -104,7 +104,7 @@ returns-in-Err-clause-calm g c planned each =
     let items = c.loop-i.disks.items in
     let inv = c.loop-i.invariant in
     let lt : i < length names = omega (arith, c.loop-i-test.true) in
-    let apart = subst (EachPair (λ one other. one ≢ other)) (sym c.in-Ok.ensures) (others_apart c.args.joiners c.requires.few) in
+    let apart = subst (EachPair (λ one other. one ≢ other)) (sym c.in-Ok.ensures) (others_apart c.args.joiners c.args.replicas) in
     let lacks : Lacks (lent_all items) name = subst (Lacks (lent_all items)) (sym is) (lacks_next names i name items apart inv.names lt) in
     let all = subst (Each (λ n. at c.args.store.now n 0)) (sym c.in-Ok.ensures) each in
     let own = subst (λ (n : DiskName). at c.args.store.now n 0) (sym is) (each_at (λ n. at c.args.store.now n 0) names i name all lt) in

@@ -17,8 +17,8 @@ returns-in-Some-clause-cause g c =
     let tells = g.S.Disk.Disk.tells in
     let before = g.S.Store.image c.args.store.now in
     let k = values_of c.in-Ok.open.topology.value.kept c.in-Ok.open.disks.items in
-    let kept = subst (λ n. AreKept tells before n k) c.joiners_of.ensures.number c.in-Ok.ensures.kept in
-    judged tells before log.tells (log.bytes c.args.clicks.now) c.args.end _ c.args.asked.now _ k c.in-Some.fault kept c.in-Some.ensures.cause
+    let kept = subst (λ n. AreKept tells before c.args.replicas n k) c.joiners_of.ensures c.in-Ok.ensures.kept in
+    judged tells before c.args.replicas log.tells (log.bytes c.args.clicks.now) c.args.end _ c.args.asked.now _ k c.in-Some.fault kept c.in-Some.ensures.cause
 
 pub returns-in-Err-clause-cause : goal.returns-in-Err-clause-cause
 returns-in-Err-clause-cause g c =
@@ -28,8 +28,8 @@ returns-in-Err-clause-cause g c =
     let old = g.S.Store.faults c.args.store.now in
     let new = g.S.Store.faults c.open_disks.new.store in
     let told = AreTold log.tells (log.bytes c.args.clicks.now) c.args.end in
-    unopened_cause tells before c.args.asked.now told _ ⊥ old new c.in-Err.fault
-    (subst (λ n. IsUnopened tells before old new (IsFirstDisk tells before n) c.in-Err.fault) c.joiners_of.ensures.number c.in-Err.ensures.first)
+    unopened_cause tells before c.args.replicas c.args.asked.now told _ ⊥ old new c.in-Err.fault
+    (subst (λ n. IsUnopened tells before old new (IsFirstDisk tells before c.args.replicas n) c.in-Err.fault) c.joiners_of.ensures c.in-Err.ensures.first)
 
 pub returns-in-Some-clause-calm : goal.returns-in-Some-clause-calm
 returns-in-Some-clause-calm g c planned none =

@@ -1,5 +1,5 @@
-use Rattle.std.proofs.Common.{◌∷◌, Err, Some, refl, ap, ◌∙◌, sym, arith}
-use Rattle.site_store.proofs.Words.{AreTold, values_of, lent_all, topology_lent, other_names}
+use Rattle.std.proofs.Common.{◌∷◌, Err, Some, refl, ap, ◌∙◌, sym, subst}
+use Rattle.site_store.proofs.Words.{AreKept, AreTold, IsCause, Rose, values_of, lent_all, topology_lent, other_names}
 use Rattle.site_store.proofs.Causes.{unwritten_cause, unwritten_memory}
 use Rattle.site_store.proofs.Damage.{unwritten_welcome}
 use Rattle.site_store.proofs.Leaving.{back_stays, back_grown, back_written, out_for, all_stay, all_grow, topology_written, joiners_same}
@@ -24,16 +24,19 @@ pub returns-in-Err-clause-grown : goal.returns-in-Err-clause-grown
 returns-in-Err-clause-grown g c tells = all_grow (g.S.Store.image c.args.store.now) (g.S.Store.image c.open_for.new.store) (c.in-Err.ensures.back tells)
 
 pub returns-in-Err-clause-welcome : goal.returns-in-Err-clause-welcome
-returns-in-Err-clause-welcome g c sure log_sure = λ s asked replicas log_is end_is sound.
+returns-in-Err-clause-welcome g c sure log_sure = λ s asked same log_is end_is sound.
     let log = g.L.LogFile in
-    let few = c.requires.joiners.few in
-    welcome g.S.Disk.Disk.tells sure log.tells log_sure (g.S.Store.image c.args.store.now) (log.bytes c.args.clicks.now) c.args.end _ _
-    c.read.ensures.topology c.fits.ensures.only s replicas (omega (arith, few, asked.joiners)) log_is end_is sound c.args.asked asked c.in-Err.fault c.in-Err.ensures.cause
+    let tells = g.S.Disk.Disk.tells in
+    let before = g.S.Store.image c.args.store.now in
+    let faulted = Rose (g.S.Store.faults c.args.store.now) (g.S.Store.faults c.open_for.new.store) in
+    let rose = Rose (log.faults c.args.clicks.now) (log.faults c.open_for.new.clicks) in
+    welcome tells sure log.tells log_sure before (log.bytes c.args.clicks.now) c.args.end faulted rose c.read.ensures.topology c.fits.ensures.only s log_is end_is sound c.args.asked asked c.in-Err.fault
+    (subst (λ n. IsCause tells before n faulted log.tells (log.bytes c.args.clicks.now) c.args.end rose (Some c.args.asked) c.in-Err.fault) (sym same) c.in-Err.ensures.cause)
 
 pub returns-in-Ok-keep_topology-clause-named : goal.returns-in-Ok-keep_topology-clause-named
 returns-in-Ok-keep_topology-clause-named g c =
     let o = c.in-Ok.ensures in
-    sym (names_kept c.in-Ok.open.disks.items) ∙ o.kept.named ∙ ap other_names (joiners_same c.in-Ok.open.topology.value.kept c.args.asked o.passed.topology)
+    sym (names_kept c.in-Ok.open.disks.items) ∙ o.kept.named ∙ ap (λ n. other_names n c.args.replicas) (joiners_same c.in-Ok.open.topology.value.kept c.args.asked o.passed.topology)
 
 pub returns-in-Ok-keep_topology-clause-kept : goal.returns-in-Ok-keep_topology-clause-kept
 returns-in-Ok-keep_topology-clause-kept g c = (c.in-Ok.open.topology.value.kept, c.in-Ok.ensures.kept, c.in-Ok.ensures.passed)
@@ -46,16 +49,18 @@ returns-in-Ok-keep_topology-clause-lent g c tells =
     (c.in-Ok.ensures.lent tells) refl c.args.asked (k.durable tells) (k.grows tells)
 
 pub returns-in-Ok-keep_topology-clause-were_left : goal.returns-in-Ok-keep_topology-clause-were_left
-returns-in-Ok-keep_topology-clause-were_left g c sure s records asked replicas of =
+returns-in-Ok-keep_topology-clause-were_left g c sure s records asked same of =
     let o = c.in-Ok.ensures in
     let t = c.in-Ok.open.topology.value.kept in
-    let few = c.requires.joiners.few in
-    left_with g.S.Disk.Disk.tells sure (g.S.Store.image c.args.store.now) c.args.asked.joiners (values_of t c.in-Ok.open.disks.items) o.kept s
-    (joiners_same t c.args.asked o.passed.topology ∙ sym asked.joiners) (omega (arith, few, asked.joiners)) replicas records of c.read.ensures.topology c.read.ensures.notes
+    let k = values_of t c.in-Ok.open.disks.items in
+    let tells = g.S.Disk.Disk.tells in
+    let before = g.S.Store.image c.args.store.now in
+    let kept = subst (λ n. AreKept tells before n c.args.asked.joiners k) (sym same) o.kept in
+    left_with tells sure before c.args.asked.joiners s k kept (joiners_same t c.args.asked o.passed.topology ∙ sym asked.joiners) records of c.read.ensures.topology c.read.ensures.notes
 
 pub returns-in-Ok-keep_topology-clause-whole : goal.returns-in-Ok-keep_topology-clause-whole
-returns-in-Ok-keep_topology-clause-whole g c sure s records asked replicas sound of =
-    whole_with s (g.S.Store.image c.args.store.now) records (returns-in-Ok-keep_topology-clause-were_left g c sure s records asked replicas of) (c.opened.ensures s c.args.store.now) c.whole_stores.ensures.topology sound
+returns-in-Ok-keep_topology-clause-whole g c sure s records asked same sound of =
+    whole_with s (g.S.Store.image c.args.store.now) records (returns-in-Ok-keep_topology-clause-were_left g c sure s records asked same of) (c.opened.ensures s c.args.store.now) c.whole_stores.ensures.topology sound
 
 pub returns-in-Err-keep_topology-clause-left : goal.returns-in-Err-keep_topology-clause-left
 returns-in-Err-keep_topology-clause-left g c tells =
@@ -87,11 +92,11 @@ returns-in-Err-keep_topology-clause-grown g c tells =
 pub returns-in-Err-keep_topology-clause-cause : goal.returns-in-Err-keep_topology-clause-cause
 returns-in-Err-keep_topology-clause-cause g c =
     let log = g.L.LogFile in
-    unwritten_cause g.S.Disk.Disk.tells (g.S.Store.image c.args.store.now) (Some c.args.asked) (AreTold log.tells (log.bytes c.args.clicks.now) c.args.end) _ ⊥ _ _ _ _ _ c.in-Err-keep_topology.fault c.in-Err-keep_topology.ensures.unwritten
+    unwritten_cause g.S.Disk.Disk.tells (g.S.Store.image c.args.store.now) c.args.replicas (Some c.args.asked) (AreTold log.tells (log.bytes c.args.clicks.now) c.args.end) _ ⊥ _ _ _ _ _ c.in-Err-keep_topology.fault c.in-Err-keep_topology.ensures.unwritten
     c.in-Ok.ensures.count c.give_back.ensures.counted
 
 pub returns-in-Err-keep_topology-clause-welcome : goal.returns-in-Err-keep_topology-clause-welcome
-returns-in-Err-keep_topology-clause-welcome g c sure log_sure = λ s asked replicas log_is end_is sound.
+returns-in-Err-keep_topology-clause-welcome g c sure log_sure = λ s asked same log_is end_is sound.
     unwritten_welcome _ c.in-Err-keep_topology.fault _ _ c.in-Err-keep_topology.ensures.unwritten
 
 pub returns-in-Ok-keep_topology-clause-plan : goal.returns-in-Ok-keep_topology-clause-plan
