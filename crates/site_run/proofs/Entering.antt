@@ -1,23 +1,25 @@
 -- From a store that was opened to the nodes of a run over it: their records, their places, and the disks that are out.
-use Rattle.std.proofs.Common.{◌≡◌, ◌≢◌, ⊎_elim, inl, inr, ℕ, ◌<◌, ◌≤◌, List, [], ◌∷◌, map, Some, sym, ◌∙◌, ap, subst, arith}
-use Rattle.site_run.proofs.Words.{Each, Mem, each_at, each_more, DiskName, IsOpened, Topology, Setting, AreKeptPlaces, Disks, topology_of, Lent, IsOfOne, MayBeLeft, StaysAs, GoesOn, opened_same, Images, IsSoundStore, KeepsTopology, WrittenIsSound, IsTopologyWritten, Fits, all_kept, other_names, KeptDisk, OpenView, IsOfKind, AreRecordsOf, kept_all, lent_all, IsOut, IsAsked, others_apart, others_are, not_topology, offset_named, retry_named, records_of, are_records, site_fits, names_kept, AreOut, KeepsItsRecord}
+use Rattle.std.proofs.Common.{◌≡◌, ◌≢◌, ⊎_elim, inl, inr, ℕ, ◌<◌, List, [], ◌∷◌, map, Some, sym, ◌∙◌, ap, subst, arith}
+use Rattle.site_run.proofs.Words.{Each, Mem, each_at, each_more, DiskName, IsOpened, Topology, Setting, AreKeptPlaces, Disks, topology_of, Lent, IsOfOne, MayBeLeft, StaysAs, GoesOn, opened_same, Images, IsSoundStore, KeepsTopology, WrittenIsSound, IsTopologyWritten, Fits, all_kept, other_names, KeptDisk, OpenView, IsOfKind, AreRecordsOf, kept_all, lent_all, IsOut, IsAsked, others_apart, others_are, is_named, not_topology, IsDisk, records_of, are_records, site_fits, names_kept, AreOut, KeepsItsRecord}
 use Rattle.outside.specs.declared.store.DiskName.TheVariants as name
 use Rattle.topology_journal.specs.Topologies as journal
 use Rattle.site_run.proofs.Outing.{stays_goes_on}
 
 -- ---- the records of a run's nodes
 
-module _ {D : Type 0} (disks : List (OpenView D)) (n : ℕ) (few : n ≤ 4) (named : map (λ (o : OpenView D). o.name) disks ≡ other_names n) where
+module _ {D : Type 0} (disks : List (OpenView D)) (n replicas : ℕ) (named : map (λ (o : OpenView D). o.name) disks ≡ other_names n replicas) where
   -- as opening the store tells them
-  pub records_so : (g : Setting) → g.replicas ≡ 3 → g.joiners ≡ n → Each (λ (k : KeptDisk). IsOfKind k.name k.kept) (kept_all disks) → AreRecordsOf g (kept_all disks) (records_of g (kept_all disks))
-  records_so g three same kinds = are_records g (kept_all disks) (other_names n) (names_kept disks ∙ named) (others_apart n few) (others_are g three n (omega (arith, same)) few) kinds
+  pub records_so : (g : Setting) → g.replicas ≡ replicas → g.joiners ≡ n → Each (λ (k : KeptDisk). IsOfKind k.name k.kept) (kept_all disks) → AreRecordsOf g (kept_all disks) (records_of g (kept_all disks))
+  records_so g count same kinds =
+      let are = subst (λ r. Each (IsDisk g) (other_names n r)) count (others_are g n (omega (arith, same))) in
+      are_records g (kept_all disks) (other_names n replicas) (names_kept disks ∙ named) (others_apart n replicas) are kinds
 
-  there : (disk : DiskName) → Mem disk (other_names n) → Mem disk (map (λ (k : KeptDisk). k.name) (kept_all disks))
+  there : (disk : DiskName) → Mem disk (other_names n replicas) → Mem disk (map (λ (k : KeptDisk). k.name) (kept_all disks))
   there disk = subst (λ (l : List DiskName). Mem disk l) (sym (names_kept disks ∙ named))
 
   -- and the places that the dispatchers keep fit the log, if those of the opened journals do
   pub places_so : (g : Setting) (d : Disks) → AreRecordsOf g (kept_all disks) d → Each (Fits g.clicks) (all_kept (kept_all disks)) → (s : ℕ) → s < 2 → AreKeptPlaces g (d.dispatchers s)
-  places_so g d records fit s lt = site_fits g (kept_all disks) d s records fit (there (name.Offset s) (offset_named n few s lt)) (there (name.Retry s) (retry_named n few s lt))
+  places_so g d records fit s lt = site_fits g (kept_all disks) d s records fit (there (name.Offset s) (is_named n replicas (name.Offset s) lt)) (there (name.Retry s) (is_named n replicas (name.Retry s) lt))
 
 -- ---- disks that aren't the topology's
 
@@ -30,8 +32,8 @@ apart_from [] each = tt
 apart_from (o ∷ os) each = (each.0, apart_from os each.1)
 
 -- so it is with all others of a store that was opened
-pub all_apart : {D : Type 0} (disks : List (OpenView D)) (n : ℕ) → n ≤ 4 → map (λ (o : OpenView D). o.name) disks ≡ other_names n → Each IsApart (lent_all disks)
-all_apart disks n few named = apart_from disks (subst (Each (λ m. m ≢ name.Topology)) (sym named) (not_topology n few))
+pub all_apart : {D : Type 0} (disks : List (OpenView D)) (n replicas : ℕ) → map (λ (o : OpenView D). o.name) disks ≡ other_names n replicas → Each IsApart (lent_all disks)
+all_apart disks n replicas named = apart_from disks (subst (Each (λ m. m ≢ name.Topology)) (sym named) (not_topology n replicas))
 
 -- ---- the disks that are out
 

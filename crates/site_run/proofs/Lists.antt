@@ -1,6 +1,6 @@
 -- Lists of nodes that grow at their end.
 use Rattle.std.proofs.Common.{◌≡◌, ⊎_elim, ℕ, suc, ◌+◌, ◌<◌, List, [], ◌∷◌, ◌++◌, length, map, get_or, slice_index_or, refl, sym, ap, ◌∙◌, subst, arith, append_assoc, length-append}
-use Rattle.site_run.proofs.Words.{IsPermutation, append-nil, get_or_append_left, length-map, IsPermutation-refl, IsPermutation-trans, IsPermutation-append_comm, IsPermutation-append_left, IsPermutation-append_right, cases_lt, get_or-append_seam, Each, all_from, AllAt}
+use Rattle.site_run.proofs.Words.{append-nil, get_or_append_left, length-map, cases_lt, get_or-append_seam, all_from, AllAt}
 
 pub all_more : {N X : Type 0} (f : ℕ → N → List X) (i : ℕ) (ns : List N) (n : N) → all_from f i (ns ++ n ∷ []) ≡ all_from f i ns ++ f (i + length ns) n
 all_more f i [] n =

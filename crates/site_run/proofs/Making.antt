@@ -1,9 +1,8 @@
 -- A node more is made of what there is.
-use Rattle.std.proofs.Common.{◌≡◌, ◌≢◌, ℕ, suc, ◌+◌, ◌-◌, ◌*◌, ◌<◌, ◌≤◌, Bool, IsTrue, List, [], ◌∷◌, ◌++◌, length, map, Some, None, refl, sym, ap, ◌∙◌, subst, append_assoc, length-append, arith}
+use Rattle.std.proofs.Common.{◌≡◌, ◌≢◌, ℕ, suc, ◌+◌, ◌*◌, ◌<◌, ◌≤◌, Bool, IsTrue, List, [], ◌∷◌, ◌++◌, length, map, Some, None, refl, sym, ap, ◌∙◌, subst, append_assoc, length-append, arith}
 use Rattle.std.specs.Prelude.{Option}
 use Rattle.std.proofs.lemmas.List.{map-append}
-use Rattle.list_words.specs.Lists.{option_or_else}
-use Rattle.site_run.proofs.Words.{append-nil, length-map, IsPermutation, IsPermutation-map, IsPermutation-refl, IsPermutation-trans, IsPermutation-append_comm, IsPermutation-append_left, IsPermutation-append_right, IsPermutation-cons, IsPermutation-sym, IsPermutation-to_front, length_permutation, Each, each_more, Mem, DiskName, other_names, Setting, IsOf, AreKeptPlaces, IsLogOf, IsQueryLog, Disks, Lent, OpenView, Says, each_map, each_unmap, kept_by, lent_all, LentDisk, as_lent, all_from, AnyState, AllAt, IsUpAt, IsDownAt, AreFrom, IsStart, IsRunnable, IsTakenFrom, Makes, StockView, lent_by, clicks_from, disks_from, disks_in, logs_in, number_of, queries_from}
+use Rattle.site_run.proofs.Words.{Config, append-nil, length-map, IsPermutation, IsPermutation-map, IsPermutation-refl, IsPermutation-trans, IsPermutation-append_comm, IsPermutation-append_left, IsPermutation-append_right, IsPermutation-cons, IsPermutation-sym, IsPermutation-to_front, length_permutation, Each, each_more, Mem, other_names, Setting, IsOf, AreKeptPlaces, IsLogOf, IsQueryLog, Disks, Lent, OpenView, Says, each_map, each_unmap, kept_by, lent_all, LentDisk, as_lent, all_from, AnyState, AllAt, IsUpAt, IsDownAt, AreFrom, IsStart, IsRunnable, IsTakenFrom, Makes, StockView, lent_by, clicks_from, disks_from, disks_in, logs_in, number_of, queries_from}
 use Rattle.site_run.proofs.Lists.{all_at_more, all_last, no_items}
 use Rattle.site_run.proofs.Taken.{Took, each_took, fewer_took, last_is, moved_took, opened_count, still_all}
 
@@ -86,7 +85,7 @@ module _ {D L : Type 0} (bytes : L → List ℕ) (i : ℕ) (old new : StockView 
               let k = old.config.joiners in
               let le : suc i ≤ number_of k n = subst (λ m. suc i ≤ number_of m n) j from in
               still_all n old.rest us new.rest uses.rest (each_more (λ u. number_of k u.name ≡ i) (λ u. n ≢ u.name) us (λ u at e. omega (arith, le, at, ap (number_of k) e)) uses.own)
-              (left.there n (subst (λ m. Mem n (other_names m)) j among) (omega (arith, le)));
+              (left.there n (subst (λ (c : Config). Mem n (other_names c.joiners c.replicas)) uses.config among) (omega (arith, le)));
           disks = subst (λ m. length new.rest ≡ disks_from m (suc i)) (sym j) (omega (arith, disks, left.disks, uses.disk_count));
           clicks = omega (arith, clicks, left.clicks, uses.click_count);
           queries = subst (λ m. length new.queries ≡ queries_from m (suc i)) (sym j) (omega (arith, queries, left.queries, uses.query_count));
@@ -169,13 +168,13 @@ module _ {D L : Type 0} (bytes : L → List ℕ) (i : ℕ) (old new : StockView 
   }
 
 -- all are to come
-pub at_first : {D L : Type 0} (l : StockView D L) → IsRunnable l.config → map (λ (o : OpenView D). o.name) l.rest ≡ other_names l.config.joiners → length l.clicks ≡ 2 → length l.queries ≡ 2 * l.config.joiners → (l.disks ≡ []) × (l.logs ≡ []) → AreFrom 0 l
+pub at_first : {D L : Type 0} (l : StockView D L) → IsRunnable l.config → map (λ (o : OpenView D). o.name) l.rest ≡ other_names l.config.joiners l.config.replicas → length l.clicks ≡ 2 → length l.queries ≡ 2 * l.config.joiners → (l.disks ≡ []) × (l.logs ≡ []) → AreFrom 0 l
 at_first l ranges named clicks queries none =
-    let size = opened_count l.config.joiners l.rest ranges.few named in
+    let size = opened_count l.config.joiners l.config.replicas l.rest named in
     record {
       ranges = ranges;
       there = λ n among from. subst (Mem n) (sym named) among;
-      disks = omega (arith, size);
+      disks = omega (arith, size, ranges.replicas);
       clicks = omega (arith, clicks);
       queries = omega (arith, queries);
       none = none;

@@ -11,9 +11,9 @@ pub down_too : {N : Type 0} (places : N → AnyState → Type 0) (g : Setting) (
 down_too {N} places g d e nodes same down n is a = subst (λ (u : StateOf n). places (slice_index_or nodes (node_number n) a) (any_of n u)) (down_same g d e n (same n is)) (down n is a)
 
 -- how many disks there are
-module _ {D : Type 0} (disks : List (OpenView D)) (n : ℕ) (few : n ≤ 4) (named : map (λ (o : OpenView D). o.name) disks ≡ other_names n) where
+module _ {D : Type 0} (disks : List (OpenView D)) (n replicas : ℕ) (three : replicas ≡ 3) (named : map (λ (o : OpenView D). o.name) disks ≡ other_names n replicas) where
   pub count_opened : 1 + length disks ≡ 10 + 4 * n
-  count_opened = let many = opened_count n disks few named in omega (arith, many)
+  count_opened = let many = opened_count n replicas disks named in omega (arith, many, three)
 
   -- a place for each disk that was opened
   pub room_for : (t : Lent D) (back : List (Lent D)) → IsPermutation (t ∷ lent_all disks) back → length back ≡ 10 + 4 * n

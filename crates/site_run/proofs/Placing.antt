@@ -1,5 +1,5 @@
 -- Each node is at the place of its number.
-use Rattle.std.proofs.Common.{◌≡◌, ℕ, suc, zero, ◌+◌, ◌-◌, ◌*◌, ◌<◌, ◌≤◌, Bool, true, false, cond, nat_lt, ltb-true, List, length, slice_index_or, Some, refl, sym, ap, ◌∙◌, subst, arith}
+use Rattle.std.proofs.Common.{◌≡◌, ℕ, ◌+◌, ◌-◌, ◌*◌, ◌<◌, ◌≤◌, Bool, true, false, cond, nat_lt, ltb-true, List, length, slice_index_or, Some, refl, sym, ap, ◌∙◌, subst, arith}
 use Rattle.site_run.proofs.Words.{ltb-false, Node, Dispatcher, Server, Replica, Joiner, Setting, IsJoiner, IsNode, NumbersAreNodes, node_count, node_number, node_of, Disks, down_over, IsOf, DispatcherKept, ServerKept, ReplicaKept, JoinerKept, AnyState, any_of, down_with, AreDownOver, AllAt, IsDownAt, Config, joiner_of, place_at, place_of, site_of}
 
 -- ---- by the kind

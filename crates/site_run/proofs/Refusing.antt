@@ -1,6 +1,6 @@
 -- Why a run over a store gives up, from what opening it tells and what a run of its nodes does.
 use Rattle.std.specs.Prelude.{IsTrue, Result, Ok, Err, OnOk, IfErr, ⊤}
-use Rattle.std.proofs.Common.{◌≡◌, ◌≢◌, inl, inr, ⊎_elim, ℕ, ◌+◌, ◌-◌, ◌<◌, ◌≤◌, ◌==◌, if◌then◌else◌, List, [], ◌∷◌, map, Bool, true, false, Option, Some, None, refl, sym, ◌∙◌, ap, subst, arith}
+use Rattle.std.proofs.Common.{◌≡◌, ◌≢◌, inl, inr, ⊎_elim, ℕ, ◌+◌, ◌-◌, ◌<◌, ◌==◌, if◌then◌else◌, List, [], ◌∷◌, map, Bool, true, false, Option, Some, None, refl, sym, ◌∙◌, ap, subst, arith}
 use Rattle.site_run.proofs.Words.{eq-eqb, cases_lt, Mem, each_at, DiskName, StoreFault, Topology, end_from, Dispatcher, Server, Replica, Joiner, Setting, IsJoiner, first_joiner, IsLogOf, Disks, RunFault, Misplaced, IsCounted, IsWelcome, of_place, limit_at, limit_in, IsKeptIn, IsJournalOf, other_names, Images, IsDisk, joiner_of, IsAsked, EpochIs, KeptDisk, KeptValues, Says, AreRecordsOf, all_named, at_name, was_journal, AreTold, ArePassed, HasCause, HasFailed, PassesFor, IsCause, IsUnread, cause_more, failed_rose, passed_more, unread_rose, asked_of, HasPassed, IsCauseOf, KeptAreJournals, OneKept, IsOfRun, TellsPlaces}
 use Rattle.outside.specs.declared.store.DiskName.TheVariants as name
 use Rattle.outside.specs.declared.faults.StoreFault.TheVariants as store
@@ -26,38 +26,40 @@ err_both A B C (Err e) a b more = more e a b
 
 -- ---- of a store that is opened
 
-module _ (g : Setting) (before : Images) (asked : Topology) (is : IsAsked asked g) (tells log_tells : Bool) (sure : IsTrue tells) (log_sure : IsTrue log_tells) (log : List ℕ) (end_ : ℕ) (log_is : IsLogOf log g) (end_is : end_ ≡ end_from 0 g.clicks) where
+module _ (g : Setting) (before : Images) (asked : Topology) (is : IsAsked asked g) (replicas : ℕ) (count : g.replicas ≡ replicas) (tells log_tells : Bool) (sure : IsTrue tells) (log_sure : IsTrue log_tells) (log : List ℕ) (end_ : ℕ) (log_is : IsLogOf log g) (end_is : end_ ≡ end_from 0 g.clicks) where
   same_asked : asked ≡ asked_of g
   same_asked i = record { joiners = sym is.joiners i; table = sym is.table i }
 
   over_log : (disks : List KeptDisk) (told : Option Misplaced) → AreTold log_tells log end_ disks told → TellsPlaces g disks told
   over_log disks told against = against log_sure g log_is end_is
 
-  pub passed_so : (k : KeptValues) → AreKept tells before asked.joiners k → ArePassed log_tells log end_ (Some asked) k → HasPassed g before
+  pub passed_so : (k : KeptValues) → AreKept tells before replicas asked.joiners k → ArePassed log_tells log end_ (Some asked) k → HasPassed g before
   passed_so k are passed =
-      subst (λ t. PassesFor t before (Some (asked_of g)) (TellsPlaces g)) sure
-      (subst (λ (a : Topology). PassesFor tells before (Some a) (TellsPlaces g)) same_asked
-      (passed_more tells (Some asked) before before (λ disk c now. now) (AreTold log_tells log end_) (TellsPlaces g) over_log (k, are, passed)))
+      subst (λ t. PassesFor t before g.replicas (Some (asked_of g)) (TellsPlaces g)) sure
+      (subst (λ (a : Topology). PassesFor tells before g.replicas (Some a) (TellsPlaces g)) same_asked
+      (subst (λ n. PassesFor tells before n (Some asked) (TellsPlaces g)) (sym count)
+      (passed_more tells replicas (Some asked) before before (λ disk c now. now) (AreTold log_tells log end_) (TellsPlaces g) over_log (k, are, passed))))
 
-  pub refused_so : (rose store_rose read faulted : Type 0) → (rose → read) → (store_rose → faulted) → (f : RunFault) → IsCause tells before store_rose log_tells log end_ rose (Some asked) f → IsCauseOf g before read faulted f
+  pub refused_so : (rose store_rose read faulted : Type 0) → (rose → read) → (store_rose → faulted) → (f : RunFault) → IsCause tells before replicas store_rose log_tells log end_ rose (Some asked) f → IsCauseOf g before read faulted f
   refused_so rose store_rose read faulted to_read to_faulted f cause =
-      subst (λ t. HasCause t before (Some (asked_of g)) (TellsPlaces g) (λ l. read) (λ at. faulted) faulted ⊤ f) sure
-      (subst (λ (a : Topology). HasCause tells before (Some a) (TellsPlaces g) (λ l. read) (λ at. faulted) faulted ⊤ f) same_asked
-      (cause_more tells (Some asked) before before (λ disk c now. now) (AreTold log_tells log end_) (TellsPlaces g) over_log
-      (IsUnread tells before (Some asked) (AreTold log_tells log end_) rose) (λ l. read) (HasFailed tells before (Some asked) (AreTold log_tells log end_) store_rose) (λ at. faulted) ⊥ faulted ⊥ ⊤
-      (λ l is. to_read (unread_rose tells before (Some asked) (AreTold log_tells log end_) rose l is)) (λ at is. to_faulted (failed_rose tells before (Some asked) (AreTold log_tells log end_) store_rose at is)) (λ x. absurd x) (λ x. absurd x) f cause))
+      subst (λ t. HasCause t before g.replicas (Some (asked_of g)) (TellsPlaces g) (λ l. read) (λ at. faulted) faulted ⊤ f) sure
+      (subst (λ (a : Topology). HasCause tells before g.replicas (Some a) (TellsPlaces g) (λ l. read) (λ at. faulted) faulted ⊤ f) same_asked
+      (subst (λ n. HasCause tells before n (Some asked) (TellsPlaces g) (λ l. read) (λ at. faulted) faulted ⊤ f) (sym count)
+      (cause_more tells replicas (Some asked) before before (λ disk c now. now) (AreTold log_tells log end_) (TellsPlaces g) over_log
+      (IsUnread tells before replicas (Some asked) (AreTold log_tells log end_) rose) (λ l. read) (HasFailed tells before replicas (Some asked) (AreTold log_tells log end_) store_rose) (λ at. faulted) ⊥ faulted ⊥ ⊤
+      (λ l is. to_read (unread_rose tells before replicas (Some asked) (AreTold log_tells log end_) rose l is)) (λ at is. to_faulted (failed_rose tells before replicas (Some asked) (AreTold log_tells log end_) store_rose at is)) (λ x. absurd x) (λ x. absurd x) f cause)))
 
 -- its count rose, of the logs or of the disks
-pub refusal_counted : (tells : Bool) (before : Images) (rose : Type 0) (log_tells : Bool) (log : List ℕ) (end_ : ℕ) (read : Type 0) (asked : Option Topology) (logs stores : Type 0) → (read → logs) → (rose → stores)
-    → (f : RunFault) → IsCause tells before rose log_tells log end_ read asked f → IsCounted logs stores f
-refusal_counted tells before rose log_tells log end_ read asked logs stores to_logs to_stores (fault.Read l) is = to_logs (unread_rose tells before asked (AreTold log_tells log end_) read l is)
-refusal_counted tells before rose log_tells log end_ read asked logs stores to_logs to_stores (fault.Store at) is = to_stores (failed_rose tells before asked (AreTold log_tells log end_) rose at is)
-refusal_counted tells before rose log_tells log end_ read asked logs stores to_logs to_stores (fault.Damaged disk at) is = tt
-refusal_counted tells before rose log_tells log end_ read asked logs stores to_logs to_stores (fault.Topology what) is = tt
-refusal_counted tells before rose log_tells log end_ read asked logs stores to_logs to_stores (fault.Limit disk value) is = tt
-refusal_counted tells before rose log_tells log end_ read asked logs stores to_logs to_stores fault.Memory is = tt
-refusal_counted tells before rose log_tells log end_ read asked logs stores to_logs to_stores fault.Write is = absurd is.0
-refusal_counted tells before rose log_tells log end_ read asked logs stores to_logs to_stores _ is = absurd is
+pub refusal_counted : (tells : Bool) (before : Images) (replicas : ℕ) (rose : Type 0) (log_tells : Bool) (log : List ℕ) (end_ : ℕ) (read : Type 0) (asked : Option Topology) (logs stores : Type 0) → (read → logs) → (rose → stores)
+    → (f : RunFault) → IsCause tells before replicas rose log_tells log end_ read asked f → IsCounted logs stores f
+refusal_counted tells before replicas rose log_tells log end_ read asked logs stores to_logs to_stores (fault.Read l) is = to_logs (unread_rose tells before replicas asked (AreTold log_tells log end_) read l is)
+refusal_counted tells before replicas rose log_tells log end_ read asked logs stores to_logs to_stores (fault.Store at) is = to_stores (failed_rose tells before replicas asked (AreTold log_tells log end_) rose at is)
+refusal_counted tells before replicas rose log_tells log end_ read asked logs stores to_logs to_stores (fault.Damaged disk at) is = tt
+refusal_counted tells before replicas rose log_tells log end_ read asked logs stores to_logs to_stores (fault.Topology what) is = tt
+refusal_counted tells before replicas rose log_tells log end_ read asked logs stores to_logs to_stores (fault.Limit disk value) is = tt
+refusal_counted tells before replicas rose log_tells log end_ read asked logs stores to_logs to_stores fault.Memory is = tt
+refusal_counted tells before replicas rose log_tells log end_ read asked logs stores to_logs to_stores fault.Write is = absurd is.0
+refusal_counted tells before replicas rose log_tells log end_ read asked logs stores to_logs to_stores _ is = absurd is
 
 -- ---- no epoch that was opened is the last one
 
@@ -92,10 +94,10 @@ placed_as g n is =
     (λ high. record { site = 1; place = n - (first_joiner g + g.joiners); is_site = omega arith; within = omega (arith, high, is.1); number = omega (arith, high) })
     (cases_lt n (first_joiner g + g.joiners))
 
-module _ (g : Setting) (disks : List KeptDisk) (limits : limit_in disks ≡ None) (d : Disks) (records : AreRecordsOf g disks d) (n : ℕ) (few : n ≤ 4) (three : g.replicas ≡ 3) (same : g.joiners ≡ n) (named : map (λ (k : KeptDisk). k.name) disks ≡ other_names n) where
+module _ (g : Setting) (disks : List KeptDisk) (limits : limit_in disks ≡ None) (d : Disks) (records : AreRecordsOf g disks d) (named : map (λ (k : KeptDisk). k.name) disks ≡ other_names g.joiners g.replicas) where
   of_disk : (disk : DiskName) (epoch : ℕ) → IsDisk g disk → disk ≢ name.Topology → ((kept : kinds.Kept) → Says g d disk kept → kept ≡ EpochIs epoch) → epoch ≢ 4294967294
   of_disk disk epoch here other said =
-      let o = at_name disks disk (subst (λ (l : List DiskName). Mem disk l) (sym named) (all_named n few g three same disk here other)) in
+      let o = at_name disks disk (subst (λ (l : List DiskName). Mem disk l) (sym named) (all_named g disk here other)) in
       let says = subst (λ (m : DiskName). Says g d m o.0.kept) o.2 (each_at (λ (k : KeptDisk). Says g d k.name k.kept) disks records o.0 o.1) in
       not_last o.0.name epoch (subst (λ k. limit_at o.0.name k ≡ None) (said o.0.kept says) (none_at disks limits o.0 o.1))
 
@@ -133,8 +135,8 @@ place_cause g before read faulted store.Memory rose = tt
 
 -- ---- what isn't opened or placed names no node
 
-pub refusal_unnamed : (tells : Bool) (before : Images) (rose : Type 0) (log_tells : Bool) (log : List ℕ) (end_ : ℕ) (read : Type 0) (asked : Option Topology) (f : RunFault) (n : ℕ) → IsCause tells before rose log_tells log end_ read asked f → f ≡ fault.Store (place.Node n) → ⊥
-refusal_unnamed tells before rose log_tells log end_ read asked f n cause is = subst (IsCause tells before rose log_tells log end_ read asked) is cause
+pub refusal_unnamed : (tells : Bool) (before : Images) (replicas : ℕ) (rose : Type 0) (log_tells : Bool) (log : List ℕ) (end_ : ℕ) (read : Type 0) (asked : Option Topology) (f : RunFault) (n : ℕ) → IsCause tells before replicas rose log_tells log end_ read asked f → f ≡ fault.Store (place.Node n) → ⊥
+refusal_unnamed tells before replicas rose log_tells log end_ read asked f n cause is = subst (IsCause tells before replicas rose log_tells log end_ read asked) is cause
 
 pub place_unnamed : (f : StoreFault) (n : ℕ) → of_place f ≡ fault.Store (place.Node n) → ⊥
 place_unnamed store.Disk n is = absurd (cc is)
@@ -144,11 +146,11 @@ place_unnamed store.Memory n is = absurd (cc is)
 
 module _ (g : Setting) (before placed : Images) (within : (disk : DiskName) (c : List ℕ) → placed disk c → before disk c) where
   pub passed_within : HasPassed g placed → HasPassed g before
-  passed_within = passed_more true (Some (asked_of g)) placed before within (TellsPlaces g) (TellsPlaces g) (λ disks m told. told)
+  passed_within = passed_more true g.replicas (Some (asked_of g)) placed before within (TellsPlaces g) (TellsPlaces g) (λ disks m told. told)
 
   pub cause_within : (files read faulted rose : Type 0) → (files → read) → (rose → faulted) → (f : RunFault) → IsCauseOf g placed files rose f → IsCauseOf g before read faulted f
   cause_within files read faulted rose earlier more =
-      cause_more true (Some (asked_of g)) placed before within (TellsPlaces g) (TellsPlaces g) (λ disks m told. told) (λ log. files) (λ log. read) (λ at. rose) (λ at. faulted) rose faulted ⊤ ⊤ (λ log. earlier) (λ at. more) more (λ x. x)
+      cause_more true g.replicas (Some (asked_of g)) placed before within (TellsPlaces g) (TellsPlaces g) (λ disks m told. told) (λ log. files) (λ log. read) (λ at. rose) (λ at. faulted) rose faulted ⊤ ⊤ (λ log. earlier) (λ at. more) more (λ x. x)
 
 -- ---- what is kept of a disk that is opened is a journal of its kind
 

@@ -1,7 +1,7 @@
 -- Disks that are taken out of others by their names.
-use Rattle.std.proofs.Common.{◌≡◌, ◌≢◌, inl, inr, ℕ, zero, suc, ◌+◌, ◌-◌, ◌*◌, ◌<◌, ◌≤◌, List, [], ◌∷◌, ◌++◌, length, map, take, drop, get_or, Some, Bool, true, false, ◌&&◌, nat_lt, ltb-true, refl, sym, ◌∙◌, ap, subst, length-append, arith}
+use Rattle.std.proofs.Common.{◌≡◌, ◌≢◌, inl, inr, ℕ, suc, ◌+◌, ◌*◌, ◌<◌, List, [], ◌∷◌, ◌++◌, length, map, take, drop, get_or, Some, refl, sym, ◌∙◌, ap, subst, length-append, arith}
 use Rattle.std.specs.Prelude.{remove}
-use Rattle.site_run.proofs.Words.{IsPermutation, append-nil, take-append-drop, drop_more, IsPermutation-trans, IsPermutation-refl, IsPermutation-middle, IsPermutation-cons, length_permutation, Each, Mem, each_at, each_from, DiskName, ReplicaNote, PairRec, Setting, JoinerKept, kept_as, Config, IsOf, Disks, joiner_of, Lent, Kept, OffsetIs, PendingAre, EpochIs, NotesAre, PairsAre, OpenView, Says, lent_by, lent_all, offset_in, pending_in, epoch_in, notes_in, pairs_in, other_names, LentDisk, epoch_named, output_named, IsTakenFrom, as_lent, all_from, of_replica}
+use Rattle.site_run.proofs.Words.{IsPermutation, append-nil, take-append-drop, drop_more, IsPermutation-trans, IsPermutation-refl, IsPermutation-middle, IsPermutation-cons, length_permutation, Each, Mem, DiskName, ReplicaNote, PairRec, Setting, JoinerKept, kept_as, Disks, joiner_of, Lent, Kept, OffsetIs, PendingAre, EpochIs, NotesAre, PairsAre, OpenView, Says, lent_by, offset_in, pending_in, epoch_in, notes_in, pairs_in, other_names, others_count, IsTakenFrom}
 use Rattle.outside.specs.declared.store.DiskName.TheVariants as name
 use Rattle.site_node.specs.Replicas.{kept_of}
 use Rattle.site_run.proofs.Lists.{mapped_length}
@@ -95,24 +95,5 @@ joiner_said g d s j x xs n m one other named too is are says say =
     let pairs : k.pairs ≡ xs = ap (λ y. pairs_in (Some y)) (sym (subst (λ (l : DiskName). Says g d l other) too say) ∙ are) in
     ap (λ e. record { epoch = e; pairs = k.pairs }) epoch ∙ ap (λ ps. record { epoch = x; pairs = ps }) pairs
 
-pub server_named : (n s : ℕ) → s < 2 → Mem (name.Server s) (other_names n)
-server_named n zero lt = inr (inr (inr (inr (inl refl))))
-server_named n (suc zero) lt = inr (inr (inr (inr (inr (inl refl)))))
-server_named n (suc (suc s)) lt = absurd (omega (arith, lt))
-
-pub replica_named : (n r : ℕ) → r < 3 → Mem (name.Replica r) (other_names n)
-replica_named n zero lt = inr (inr (inr (inr (inr (inr (inl refl))))))
-replica_named n (suc zero) lt = inr (inr (inr (inr (inr (inr (inr (inl refl)))))))
-replica_named n (suc (suc zero)) lt = inr (inr (inr (inr (inr (inr (inr (inr (inl refl))))))))
-replica_named n (suc (suc (suc r))) lt = absurd (omega (arith, lt))
-
-pub others_count : (n : ℕ) → n ≤ 4 → length (other_names n) ≡ 9 + 4 * n
-others_count zero few = refl
-others_count (suc zero) few = refl
-others_count (suc (suc zero)) few = refl
-others_count (suc (suc (suc zero))) few = refl
-others_count (suc (suc (suc (suc zero)))) few = refl
-others_count (suc (suc (suc (suc (suc n))))) few = absurd (omega (arith, few))
-
-pub opened_count : {D : Type 0} (n : ℕ) (x : List (OpenView D)) → n ≤ 4 → map (λ (o : OpenView D). o.name) x ≡ other_names n → length x ≡ 9 + 4 * n
-opened_count n x few named = mapped_length _ x (other_names n) named ∙ others_count n few
+pub opened_count : {D : Type 0} (joiners replicas : ℕ) (x : List (OpenView D)) → map (λ (o : OpenView D). o.name) x ≡ other_names joiners replicas → length x ≡ 6 + replicas + 4 * joiners
+opened_count joiners replicas x named = mapped_length _ x (other_names joiners replicas) named ∙ others_count joiners replicas

@@ -99,7 +99,7 @@ pub use Rattle.site_run.specs.declared.ran.RunLog.{RunLog}
 pub use Rattle.site_store.proofs.Causes.{cause_more, failed_rose, passed_more, unread_rose}
 pub use Rattle.site_store.proofs.Damage.{notes_kept as votes_are_notes}
 pub use Rattle.site_store.proofs.Lending.{each_map, each_mem, each_unmap}
-pub use Rattle.site_store.proofs.Names.{all_named, epoch_named, not_topology, offset_named, others_apart, others_are, output_named, retry_named}
+pub use Rattle.site_store.proofs.Names.{all_named, is_named, not_topology, others_apart, others_are, others_count}
 pub use Rattle.site_store.proofs.Recorded.{are_records, epoch_in, notes_in, offset_in, pairs_in, pending_in, records_of}
 pub use Rattle.site_store.proofs.Stays.{opened_same}
 pub use Rattle.site_store.proofs.Telling.{site_fits}

@@ -76,7 +76,7 @@ module _ {D L : Type 0} where
   -- what the nodes from this number on are made of is there, and nothing else
   pub record AreFrom (number : ℕ) (l : StockView D L) : Type 0 where
     pub ranges : IsRunnable l.config
-    pub there : (n : DiskName) → Mem n (other_names l.config.joiners) → number ≤ number_of l.config.joiners n → Mem n (map (λ (o : OpenView D). o.name) l.rest)
+    pub there : (n : DiskName) → Mem n (other_names l.config.joiners l.config.replicas) → number ≤ number_of l.config.joiners n → Mem n (map (λ (o : OpenView D). o.name) l.rest)
     pub disks : length l.rest ≡ disks_from l.config.joiners number
     pub clicks : length l.clicks ≡ clicks_from number
     pub queries : length l.queries ≡ queries_from l.config.joiners number

@@ -1,10 +1,7 @@
 -- The disks of nodes, under their names.
-use Rattle.std.specs.Prelude.{◌≡◌, ◌≢◌, ℕ, suc, ◌+◌, ◌-◌, nat_lt, if◌then◌else◌, List, [], ◌∷◌, ◌++◌, length, map}
-use Rattle.list_words.specs.Lists.{Each, Mem}
-use Rattle.outside.specs.declared.store.DiskName.{DiskName}
+use Rattle.std.specs.Prelude.{◌≡◌, ℕ, suc, ◌-◌, nat_lt, if◌then◌else◌, List, [], ◌∷◌, ◌++◌}
 use Rattle.outside.specs.declared.store.DiskName.TheVariants as name
 use Rattle.site_store.specs.Lent.{Lent}
-use Rattle.site_store.specs.Records.{OpenView, lent_all}
 use Rattle.site_store.specs.declared.lent.disk.LentDisk.{LentDisk}
 
 abbrev pub as_lent : {D : Type 0} → LentDisk D → Lent D

@@ -1,17 +1,11 @@
 -- Nodes at the places of their numbers, down over the records of opened journals.
-use Rattle.std.specs.Prelude.{◌≡◌, ◌<◌, ℕ, ◌+◌, Bool, false, List, [], ◌∷◌, length, slice_index_or, ⊤}
-use Rattle.turn_defs.specs.Joiner.{JoinerKept}
-use Rattle.paxos_acceptor.specs.declared.notes.ReplicaNote.{ReplicaNote}
-use Rattle.turn_defs.specs.declared.pair.PairRec.{PairRec}
+use Rattle.std.specs.Prelude.{◌≡◌, ◌<◌, ℕ, Bool, false, List, length, slice_index_or}
 use Rattle.turn_defs.specs.declared.node.Node.{Node}
 use Rattle.turn_defs.specs.Setting.{Setting}
 use Rattle.turn_defs.specs.Nodes.{IsNode, node_number}
 use Rattle.photon_model.specs.Runs.{Disks}
-use Rattle.dispatch_node.specs.Kept.{kept_as}
-use Rattle.site_node.specs.Replicas.{kept_of}
 use Rattle.site_laws.specs.Kinds.{down_over}
 use Rattle.site_run.specs.AnyNodes.{AnyState, any_of}
-use Rattle.site_run.specs.Naming.{place_of}
 
 -- each of these is so at its place
 pub record AllAt {N : Type 0} (Good : ℕ → N → Type 0) (nodes : List N) : Type 0 where

@@ -5,7 +5,6 @@ use Rattle.outside.specs.declared.store.DiskName.{DiskName}
 use Rattle.outside.specs.declared.store.DiskName.TheVariants as name
 use Rattle.topology_journal.specs.declared.topology.Topology.{Topology}
 use Rattle.topology_journal.specs.Topologies.{Keeps as KeepsTopology}
-use Rattle.air_bus.specs.declared.entry.Entry.{Entry as BusEntry}
 use Rattle.bus_seat.specs.Views.{made_by}
 use Rattle.run_fault.specs.declared.fault.StorePlace.TheVariants as place
 use Rattle.run_fault.specs.declared.fault.Misplaced.{Misplaced}
@@ -42,22 +41,22 @@ PlacesFit g k = TellsPlaces g k.disks None
 module _ (g : Setting) (before : Images) where
   -- the disks that were opened kept these values
   abbrev pub Kept : KeptValues → Type 0
-  Kept k = AreKept true before g.joiners k
+  Kept k = AreKept true before g.replicas g.joiners k
 
   -- they kept values that can be run
   abbrev pub HasPassed : Type 0
-  HasPassed = PassesFor true before (Some (asked_of g)) (TellsPlaces g)
+  HasPassed = PassesFor true before g.replicas (Some (asked_of g)) (TellsPlaces g)
 
   -- Why a run gives up. Read and faulted say that the count of the logs' faults rose, and that of the disks'. A limit is told of
   -- what the disks kept, or of a node that began anew, and so met a fault, in its last epoch.
   abbrev pub IsCauseOf : (read faulted : Type 0) → RunFault → Type 0
-  IsCauseOf read faulted f = HasCause true before (Some (asked_of g)) (TellsPlaces g) (λ log. read) (λ at. faulted) faulted ⊤ f
+  IsCauseOf read faulted f = HasCause true before g.replicas (Some (asked_of g)) (TellsPlaces g) (λ log. read) (λ at. faulted) faulted ⊤ f
 
   -- ---- disks that are opened
 
   -- the disk is opened, with whatever number of joiners the topology's may have kept
   abbrev pub IsTaken : DiskName → Type 0
-  IsTaken disk = (kept : Option Topology) → IsKeptIn (before name.Topology) (KeepsTopology kept) → Mem disk (name.Topology ∷ other_names (joiners_kept kept g.joiners))
+  IsTaken disk = (kept : Option Topology) → IsKeptIn (before name.Topology) (KeepsTopology kept) → Mem disk (name.Topology ∷ other_names (joiners_kept kept g.joiners) g.replicas)
 
   -- a stop might have left a journal of its kind
   abbrev pub WasJournal : DiskName → Type 0

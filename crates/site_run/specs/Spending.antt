@@ -4,7 +4,7 @@ use Rattle.std.proofs.lemmas.Bool.{eqb-true}
 use Rattle.air_bus.specs.declared.entry.Entry.TheVariants.{Begin}
 use Rattle.air_bus.specs.declared.entry.Input.{Input}
 use Rattle.air_bus.specs.declared.entry.Input.TheVariants.{Start, Own, Tick, Packet}
-use Rattle.site_node.specs.States.{State, Leads, MayTake}
+use Rattle.site_node.specs.States.{Leads, MayTake}
 use Rattle.registry_server.specs.Registrars.{server_rows}
 use Rattle.registry_server.specs.Node.{ServerState, spent_at}
 use Rattle.joiner_node.specs.Node.{JoinerState, LeadsTo, spends_of}

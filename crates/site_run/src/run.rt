@@ -141,7 +141,7 @@ where
     };
     let mut logs = logs;
     let mut read = take_last(&mut logs.clicks);
-    match open_store(alloc, store, asked, &mut read, end) {
+    match open_store(alloc, store, asked, config.replicas, &mut read, end) {
         Ok(opened) => {
             logs.clicks.push_reserved(read);
             run_opened(
@@ -179,7 +179,7 @@ where
     S::Disk: Drop,
     requires ranges { IsRunnable config.now }
     requires room { IsRoomFor config.now.joiners room }
-    requires named { map (λ o. o.name) opened.disks.items ≡ other_names config.now.joiners }
+    requires named { map (λ o. o.name) opened.disks.items ≡ other_names config.now.joiners config.now.replicas }
     requires logs { AreEnough config.now.joiners logs }
     requires places { 10 + 4 * config.now.joiners ≤ S.places_left store.old }
     requires none { ran.old.log ≡ None }

@@ -40,7 +40,7 @@ pub fn build<D: Disk, L: LogFile, N: Making<D, L>>(
 ) -> Result<Built<D, L, N>, Parts<D, L>>
     requires ranges { IsRunnable config.now }
     requires room { IsRoomFor config.now.joiners room }
-    requires named { map (λ o. o.name) opened.disks.items ≡ other_names config.now.joiners }
+    requires named { map (λ o. o.name) opened.disks.items ≡ other_names config.now.joiners config.now.replicas }
     requires logs { AreEnough config.now.joiners logs }
     ensures count { IfOk result (λ b. length b.nodes.items ≡ 7 + 2 * config.now.joiners) }
     ensures numbers { IfOk result (λ b. (i : ℕ) (d : _) → i < length b.nodes.items → N.number (slice_index_or b.nodes.items i d) ≡ i) }

@@ -8,7 +8,7 @@ use Rattle.site_run.proofs.run.run_opened.Goals as goal
 
 pub run_system-requires-clause-places : goal.run_system-requires-clause-places
 run_system-requires-clause-places g c κs within =
-    omega (arith, fits_behind {D = g.row.S-Disk.Denot} c.args.opened.disks.items c.args.config.now.joiners c.requires.ranges.few c.requires.named _ c.in-Ok.ensures.held, c.requires.places)
+    omega (arith, fits_behind {D = g.row.S-Disk.Denot} c.args.opened.disks.items c.args.config.now.joiners c.args.config.now.replicas c.requires.ranges.replicas c.requires.named _ c.in-Ok.ensures.held, c.requires.places)
 
 pub returns-in-Ok-clause-idle : goal.returns-in-Ok-clause-idle
 returns-in-Ok-clause-idle g c tells none disk bytes now =
@@ -51,7 +51,7 @@ returns-in-Ok-clause-welcome g c = IfErr-weaker c.run_system.result _ _ (λ f bo
 pub give_parts-requires-after_bounds : goal.give_parts-requires-after_bounds
 give_parts-requires-after_bounds g c =
     let back = c.in-Err.parts.disks.items in
-    let many : length (map as_lent back) ≡ 10 + 4 * c.args.config.now.joiners = room_for {D = g.row.S-Disk.Denot} c.args.opened.disks.items c.args.config.now.joiners c.requires.ranges.few c.requires.named _ (map as_lent back) c.in-Err.ensures.disks in
+    let many : length (map as_lent back) ≡ 10 + 4 * c.args.config.now.joiners = room_for {D = g.row.S-Disk.Denot} c.args.opened.disks.items c.args.config.now.joiners c.args.config.now.replicas c.requires.ranges.replicas c.requires.named _ (map as_lent back) c.in-Err.ensures.disks in
     omega (arith, many, length-map back as_lent, c.requires.places)
 
 pub returns-in-Err-clause-idle : goal.returns-in-Err-clause-idle

@@ -1,4 +1,4 @@
-use Rattle.std.proofs.Common.{◌∷◌, [], length, ap, length-append, arith, rules, ◌≡◌, ◌+◌, ◌*◌}
+use Rattle.std.proofs.Common.{◌∷◌, [], length, ap, length-append, arith, rules, ◌≡◌}
 use Rattle.site_run.proofs.Words.{IsPermutation-cons, IsPermutation-trans}
 use Rattle.site_run.proofs.Making.{at_first, ended, from_at, none_made, one_made, stopped}
 use Rattle.site_run.proofs.Placing.{are_down_over}
@@ -33,12 +33,12 @@ give_up-requires g c =
     let i = c.loop-number.invariant in
     let so = stopped _ _ _ _ _ _ _ _ _ _ _ i.made _ i.count c.in-None.ensures in
     let few = c.in-None.ensures.few in
-    let opened = opened_count _ _ c.requires.ranges.few c.requires.named in
+    let opened = opened_count _ _ _ c.requires.named in
     record {
       few = omega (arith, i.count, c.loop-number-test.true, c.requires.ranges.few);
       disks = omega (arith, few.0, i.count, c.loop-number-test.true, so.joiners);
       logs = omega (arith, few.1, i.count, c.loop-number-test.true, so.joiners);
-      all_disks = omega (arith, so.disk_count, opened, so.joiners);
+      all_disks = omega (arith, so.disk_count, opened, so.joiners, c.requires.ranges.replicas);
       all_logs = omega (arith, so.log_count, c.requires.logs.clicks, c.requires.logs.queries, so.joiners);
     }
 

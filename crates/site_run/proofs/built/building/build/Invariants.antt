@@ -1,6 +1,6 @@
 use Rattle.std.proofs.Common.{◌≡◌, ◌+◌, ◌*◌, ◌≤◌, length}
 use Rattle.std.specs.Prelude.{vec_capacity}
-use Rattle.site_run.proofs.Words.{StockView, view_of}
+use Rattle.site_run.proofs.Words.{view_of}
 use Rattle.site_run.proofs.Making.{AreMade}
 use Rattle.site_run.proofs.built.building.build.Given as goal
 

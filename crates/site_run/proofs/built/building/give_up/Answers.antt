@@ -1,4 +1,4 @@
-use Rattle.std.proofs.Common.{◌++◌, ◌∷◌, [], map, length, ap, sym, ◌∙◌, length-append, arith}
+use Rattle.std.proofs.Common.{map, length, ap, ◌∙◌, length-append, arith}
 use Rattle.site_run.proofs.Words.{all_from, as_lent, length-map, lent_all, lent_by, topology_lent}
 use Rattle.site_run.proofs.Making.{disks_given, logs_given, logs_size, size_given}
 use Rattle.site_run.proofs.built.building.give_up.Goals as goal

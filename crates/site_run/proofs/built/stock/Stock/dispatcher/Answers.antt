@@ -1,15 +1,16 @@
 use Rattle.std.proofs.Common.{[], ◌∷◌, refl, sym, subst, ap, ◌∙◌, is_some, arith}
-use Rattle.site_run.proofs.Words.{AreKeptPlaces, number_of, offset_named, retry_named}
+use Rattle.site_run.proofs.Words.{AreKeptPlaces, is_named, number_of}
+use Rattle.outside.specs.declared.store.DiskName.TheVariants as name
 use Rattle.site_run.proofs.Making.{made}
 use Rattle.site_run.proofs.Placing.{dispatcher_at}
 use Rattle.site_run.proofs.Taken.{dispatcher_said, last_is, offset_said, pair_lent, pending_said, still_there}
 use Rattle.site_run.proofs.built.stock.Stock.dispatcher.Goals as goal
 
 pub take_disk-requires : goal.take_disk-requires
-take_disk-requires g c = record { there = c.requires.left.there _ (offset_named _ c.requires.left.ranges.few _ c.requires.number) (omega arith) }
+take_disk-requires g c = record { there = c.requires.left.there _ (is_named _ _ (name.Offset _) c.requires.number) (omega arith) }
 
 pub take_disk-requires-2 : goal.take_disk-requires-2
-take_disk-requires-2 g c = record { there = still_there _ _ _ _ _ c.take_disk.ensures.name c.take_disk.ensures.taken (λ e. cc e) (c.requires.left.there _ (retry_named _ c.requires.left.ranges.few _ c.requires.number) (omega arith)) }
+take_disk-requires-2 g c = record { there = still_there _ _ _ _ _ c.take_disk.ensures.name c.take_disk.ensures.taken (λ e. cc e) (c.requires.left.there _ (is_named _ _ (name.Retry _) c.requires.number) (omega arith)) }
 
 pub returns : goal.returns
 returns g c =

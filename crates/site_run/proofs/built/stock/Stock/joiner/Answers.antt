@@ -1,20 +1,20 @@
-use Rattle.std.proofs.Common.{◌≡◌, [], ◌∷◌, ◌++◌, refl, sym, ap, subst, ◌∙◌, is_some, arith, append_assoc}
-use Rattle.site_run.proofs.Words.{IsJoiner, joiner_of, number_of, epoch_named, output_named, place_at, site_of}
+use Rattle.std.proofs.Common.{[], ◌∷◌, refl, sym, ap, subst, ◌∙◌, is_some, arith}
+use Rattle.site_run.proofs.Words.{is_named, number_of}
 use Rattle.outside.specs.declared.store.DiskName.TheVariants as name
 use Rattle.site_run.proofs.Making.{made, put_log, put_two, two_used, unmade}
 use Rattle.site_run.proofs.Placing.{IsSeat, joiner_at, joiner_number, seat_of}
-use Rattle.site_run.proofs.Taken.{joiner_said, last_is, pair_lent, still_there}
+use Rattle.site_run.proofs.Taken.{joiner_said, pair_lent, still_there}
 use Rattle.site_run.proofs.built.stock.Stock.joiner.Goals as goal
 
 pub take_disk-requires : goal.take_disk-requires
 take_disk-requires g c =
     let seat = subst (λ p. IsSeat c.args.self.now.config.joiners c.args.number p.0 p.1) (sym c.joiner_place-site.ensures) (seat_of _ _ c.requires.number.0 c.requires.number.1) in
-    record { there = c.requires.left.there _ (epoch_named _ c.requires.left.ranges.few _ _ seat.site_below seat.place_below) (omega (arith, seat.number)) }
+    record { there = c.requires.left.there _ (is_named _ _ (name.Epoch _ _) (seat.site_below, seat.place_below)) (omega (arith, seat.number)) }
 
 pub take_disk-requires-2 : goal.take_disk-requires-2
 take_disk-requires-2 g c =
     let seat = subst (λ p. IsSeat c.args.self.now.config.joiners c.args.number p.0 p.1) (sym c.joiner_place-site.ensures) (seat_of _ _ c.requires.number.0 c.requires.number.1) in
-    record { there = still_there _ _ _ _ _ c.take_disk.ensures.name c.take_disk.ensures.taken (λ e. cc e) (c.requires.left.there _ (output_named _ c.requires.left.ranges.few _ _ seat.site_below seat.place_below) (omega (arith, seat.number))) }
+    record { there = still_there _ _ _ _ _ c.take_disk.ensures.name c.take_disk.ensures.taken (λ e. cc e) (c.requires.left.there _ (is_named _ _ (name.Output _ _) (seat.site_below, seat.place_below)) (omega (arith, seat.number))) }
 
 pub take_last-log-requires : goal.take_last-log-requires
 take_last-log-requires g c = omega (arith, c.requires.left.queries, c.requires.number.0, c.requires.number.1)

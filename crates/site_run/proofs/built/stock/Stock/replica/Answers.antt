@@ -1,12 +1,13 @@
 use Rattle.std.proofs.Common.{[], ◌∷◌, refl, sym, ap, ◌∙◌, is_some, arith}
-use Rattle.site_run.proofs.Words.{number_of}
+use Rattle.site_run.proofs.Words.{is_named, number_of}
+use Rattle.outside.specs.declared.store.DiskName.TheVariants as name
 use Rattle.site_run.proofs.Making.{made, one_used}
 use Rattle.site_run.proofs.Placing.{replica_at}
-use Rattle.site_run.proofs.Taken.{lent_is, replica_named, replica_said}
+use Rattle.site_run.proofs.Taken.{lent_is, replica_said}
 use Rattle.site_run.proofs.built.stock.Stock.replica.Goals as goal
 
 pub take_disk-requires : goal.take_disk-requires
-take_disk-requires g c = record { there = c.requires.left.there _ (replica_named _ _ (omega (arith, c.requires.number.1))) (omega arith) }
+take_disk-requires g c = record { there = c.requires.left.there _ (is_named _ _ (name.Replica _) (omega (arith, c.requires.number.1, c.requires.left.ranges.replicas))) (omega arith) }
 
 pub returns : goal.returns
 returns g c =

@@ -1,12 +1,13 @@
 use Rattle.std.proofs.Common.{[], ◌∷◌, refl, sym, ap, ◌∙◌, is_some, arith}
-use Rattle.site_run.proofs.Words.{append-nil, number_of}
+use Rattle.site_run.proofs.Words.{append-nil, is_named, number_of}
+use Rattle.outside.specs.declared.store.DiskName.TheVariants as name
 use Rattle.site_run.proofs.Making.{made, one_used, put_as, unmade}
 use Rattle.site_run.proofs.Placing.{server_at}
-use Rattle.site_run.proofs.Taken.{lent_is, server_named, server_said}
+use Rattle.site_run.proofs.Taken.{lent_is, server_said}
 use Rattle.site_run.proofs.built.stock.Stock.server.Goals as goal
 
 pub take_disk-requires : goal.take_disk-requires
-take_disk-requires g c = record { there = c.requires.left.there _ (server_named _ _ (omega (arith, c.requires.number.1))) (omega arith) }
+take_disk-requires g c = record { there = c.requires.left.there _ (is_named _ _ (name.Server _) (omega (arith, c.requires.number.1))) (omega arith) }
 
 pub returns-in-Ok : goal.returns-in-Ok
 returns-in-Ok g c =
