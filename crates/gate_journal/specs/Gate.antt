@@ -2,6 +2,7 @@
 use Rattle.std.specs.Prelude.{◌≡◌, ◌⊎◌, ℕ, zero, suc, ◌+◌, ◌-◌, List, [], ◌∷◌, ◌++◌, length, take, drop, Bool, ◌&&◌, ◌==◌, nat_le, nat_lt, if◌then◌else◌, Result, Ok, Err}
 use Rattle.std.specs.Result.{result_unwrap_or}
 use Rattle.std.specs.Int.{from_be_bytes, to_be_bytes, w32}
+use Rattle.gate_journal.specs.declared.frame.TheConstants.{MAX_PAYLOAD}
 
 -- the length that a record's first four bytes say
 abbrev pub record_size : List ℕ → ℕ
@@ -9,7 +10,7 @@ record_size bytes = from_be_bytes w32 (take 4 bytes)
 
 -- the bytes begin with a whole record and the gate behind it
 abbrev pub is_whole : List ℕ → Bool
-is_whole bytes = nat_le (record_size bytes) 65535 && nat_lt (4 + record_size bytes) (length bytes)
+is_whole bytes = nat_le (record_size bytes) MAX_PAYLOAD && nat_lt (4 + record_size bytes) (length bytes)
 
 -- the same reading with a record in front
 abbrev pub with_first : List ℕ → Result (List (List ℕ) × ℕ) ℕ → Result (List (List ℕ) × ℕ) ℕ

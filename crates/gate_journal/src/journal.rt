@@ -49,6 +49,7 @@ impl<D: Disk> Journal<D> {
     ghost use Rattle.outside.specs.Disk.{Throughout};
     ghost use Rattle.outside.specs.Faults.{Rose, Counts};
     ghost use Rattle.outside.specs.Plans.{MeetsPlan};
+    ghost use Rattle.gate_journal.specs.declared.frame.TheConstants.{MAX_PAYLOAD};
     ghost use Rattle.gate_journal.specs.declared.journal.JournalState.TheVariants.{Ready, Broken};
     ghost use Rattle.gate_journal.specs.Disk.{HasRoom};
     ghost use Rattle.gate_journal.specs.Fault.{disk_failed, is_of_disk};
@@ -141,7 +142,7 @@ impl<D: Disk> Journal<D> {
 
     /// Makes the disk's room for an append of a record up to this length.
     pub fn make_room(&mut self, alloc: Global, len: u32) -> Result<(), AllocError>
-        requires { len ≤ 65535 }
+        requires { len ≤ MAX_PAYLOAD }
         ensures room { OnOk result (HasRoom (D.calls_left self.new.disk) (D.bytes_left self.new.disk) len) }
         ensures state { self.new.state ≡ self.old.state }
         ensures seen { IsTrue D.tells → D.seen self.new.disk ≡ D.seen self.old.disk }

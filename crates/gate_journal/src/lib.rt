@@ -16,6 +16,7 @@ mod records;
 pub mod rows;
 mod writing;
 
+pub use frame::MAX_PAYLOAD;
 pub use journal::{AppendFault, Journal, JournalState};
 pub use reading::JournalFault;
 pub use record::{Append, Record};

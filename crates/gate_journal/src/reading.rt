@@ -3,6 +3,7 @@ ghost use Rattle.std.specs.Prelude.{◌≡◌, ◌<◌, ◌≤◌, ◌^◌, true
 ghost use Rattle.gate_journal.specs.Gate.{record_size, is_whole, reading, spans};
 ghost use Rattle.gate_journal.specs.Fault.{FailsAs};
 
+use crate::frame::MAX_PAYLOAD;
 use std::alloc::{AllocError, AllocFailed, Global};
 use wire_core::Bytes;
 
@@ -52,7 +53,7 @@ fn whole_record(bytes: &[u8]) -> Option<&[u8]>
     }
     let (front, rest) = bytes.split_at(4);
     let size = u32::from_be_bytes([front[0], front[1], front[2], front[3]]) as usize;
-    if size > 65535 || rest.len() <= size {
+    if size > MAX_PAYLOAD || rest.len() <= size {
         return None;
     }
     Some(&rest[..size])

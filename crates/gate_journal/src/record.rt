@@ -1,5 +1,6 @@
 // A kind of record.
 ghost use Rattle.std.specs.Prelude.{◌≡◌, ◌≤◌, ◌+◌, ◌++◌, [], ◌∷◌, true, false, List, ℕ, length, Ok, Err, IfOk, OnOk};
+ghost use Rattle.gate_journal.specs.declared.frame.TheConstants.{MAX_PAYLOAD};
 ghost use Rattle.gate_journal.specs.Gate.{spans};
 ghost use Rattle.gate_journal.specs.Records.{Read};
 
@@ -68,7 +69,7 @@ pub trait Append: Record {
         ensures kept { Self.kept self.new ≡ Self.after (Self.kept self.old) one }
         ensures room { places self.old ≤ places self.new + takes_places one };
 
-    ghost short: { LONGEST ≤ 65535 };
+    ghost short: { LONGEST ≤ MAX_PAYLOAD };
 
     ghost takes_one: { (one : Self.One) → takes_places one ≤ 1 };
 
