@@ -23,7 +23,7 @@ pub use Rattle.registry_state.proofs.Learning.{succeeded}
 pub use Rattle.registry_state.specs.declared.Token.{Token}
 pub use Rattle.std.proofs.lemmas.Bool.{cases_lt, cond-false, cond-true, eq-eqb, eqb-false, eqb-true, le-ltb, lt-ltb, ne_eqb, or_left, or_parts, or_right}
 pub use Rattle.std.proofs.lemmas.Cmp.{nat_eq_equiv, ranked}
-pub use Rattle.std.proofs.lemmas.List.{append-nil, append_assoc, map-append, take_all, take_more}
+pub use Rattle.std.proofs.lemmas.List.{append-nil, append_assoc, map-append, nil_from_length, take_all, take_more}
 pub use Rattle.std.proofs.lemmas.List.Elements.{All-cons, All-head, All-nil, All-same, All-tail}
 pub use Rattle.std.proofs.lemmas.List.Sorted.{answers_always}
 pub use Rattle.std.proofs.lemmas.Result.{IfOk-weaker}
@@ -32,6 +32,7 @@ pub use Rattle.std.specs.List.Sorted.{IsBinarySearchResult, IsPartitionPoint, Is
 pub use Rattle.std.specs.Option.{option_map}
 pub use Rattle.std.specs.Ordering.{nat_cmp, ordering_index}
 pub use Rattle.std.specs.Set.{remove_key}
+pub use Rattle.std.specs.Slice.Iter.{iter_rest}
 pub use Rattle.std.specs.VecDeque.{deque_len}
 pub use Rattle.std.specs.VecDeque.Iter.{deque_iter_rest}
 pub use Rattle.std.specs.declared.cmp.Ordering.{Ordering}

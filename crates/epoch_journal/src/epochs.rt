@@ -18,7 +18,7 @@ ghost use Rattle.gate_journal.specs.Rising as numbers;
 ghost use Rattle.epoch_journal.specs.Epochs.{epoch_record, epochs, next_epoch, KeepsOr, MayCome};
 
 use ballot_core::LAST_EPOCH;
-use gate_journal::{Append, AppendFault, Record, RecordJournal};
+use gate_journal::{Appends, AppendFault, Record, RecordJournal};
 use outside::Disk;
 use std::alloc::{AllocError, Global};
 
@@ -94,8 +94,6 @@ impl Record for Epochs {
 
     ghost kept = { λ e. e.epoch };
 
-    ghost spelled = { epoch_record };
-
     ghost may_come = { MayCome };
 
     ghost after = { λ _ epoch. epoch };
@@ -117,7 +115,9 @@ impl Record for Epochs {
     ghost gates_first = { λ _. refl };
 }
 
-impl Append for Epochs {
+impl Appends for Epochs {
+    ghost spelled = { epoch_record };
+
     const LONGEST: u32 = 5;
 
     ghost LONGEST = { 5 };

@@ -1,5 +1,5 @@
 -- A kind whose records each spell one thing, kept in a list.
-use Rattle.std.proofs.Common.{◌≡◌, ◌⊎◌, inl, inr, ℕ, ◌+◌, List, [], ◌∷◌, ◌++◌, refl, sym, ap, ◌∙◌, Ok, Err}
+use Rattle.std.proofs.Common.{◌≡◌, ◌⊎◌, inl, inr, ℕ, ◌+◌, Bool, true, false, if◌then◌else◌, List, [], ◌∷◌, ◌++◌, refl, sym, ap, subst, ◌∙◌, Ok, Err}
 use Rattle.std.specs.Prelude.{All, map}
 use Rattle.std.specs.Result.{result_unwrap_or}
 use Rattle.std.proofs.lemmas.List.{map-append}
@@ -53,6 +53,11 @@ module _ {T : Type 0} (IsOne : T → Type 0) (spelled : T → List ℕ) where
     All-push IsOne xs x kept.0 is,
     ap (λ (l : List (List ℕ)). Ok (l ++ spelled x ∷ [])) (payloads xs ps kept) ∙ ap (λ (l : List (List ℕ)). Ok l) (sym (map-append spelled xs (x ∷ []))),
   )
+
+  -- whether or not there was memory for one more
+  pub all_pushed : (xs ys : List T) (x : T) (ok : Bool) → All IsOne xs → IsOne x → ys ≡ (if ok then xs ++ x ∷ [] else xs) → All IsOne ys
+  all_pushed xs ys x true all is e = subst (All IsOne) (sym e) (All-push IsOne xs x all is)
+  all_pushed xs ys x false all is e = subst (All IsOne) (sym e) all
 
   pub comes_as : (xs ys : List T) (x : T) (ps : List (List ℕ)) (payload : List ℕ) → IsOne x → payload ≡ spelled x → ys ≡ xs ++ x ∷ [] → spells xs (Ok ps) → spells ys (Ok (ps ++ payload ∷ []))
   comes_as xs ys x ps payload is e same kept = rw (e, same) (comes_next xs x ps is kept)

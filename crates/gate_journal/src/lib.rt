@@ -19,6 +19,6 @@ mod writing;
 pub use frame::MAX_PAYLOAD;
 pub use journal::{AppendFault, Journal, JournalState};
 pub use reading::JournalFault;
-pub use record::{Append, Record};
+pub use record::{Appends, Record};
 pub use records::RecordJournal;
 pub use wire_core::Bytes as Payload;

@@ -24,9 +24,6 @@ pub trait Record: Drop {
 
     ghost kept: { Self → Kept };
 
-    /// The payload of a record.
-    ghost spelled: { Self.One → List ℕ };
-
     /// Whether this record may come next.
     ghost may_come: { Kept → Self.One → Type 0 };
 
@@ -46,7 +43,10 @@ pub trait Record: Drop {
 }
 
 /// A kind whose journal appends records, and makes of the value what each makes of it.
-pub trait Append: Record {
+pub trait Appends: Record {
+    /// The payload of a record.
+    ghost spelled: { Self.One → List ℕ };
+
     /// The length of the longest record.
     const LONGEST: u32;
 
@@ -73,8 +73,8 @@ pub trait Append: Record {
 
     ghost takes_one: { (one : Self.One) → takes_places one ≤ 1 };
 
-    ghost fits: { (value : Self.Kept) (one : Self.One) → Self.may_come value one → length (Self.spelled one) ≤ LONGEST };
+    ghost fits: { (value : Self.Kept) (one : Self.One) → Self.may_come value one → length (spelled one) ≤ LONGEST };
 
     /// Behind records that keep the value it may come next, and then they keep what it makes of the value.
-    ghost comes_next: { (value : Self.Kept) (one : Self.One) (ps : List (List ℕ)) → Self.may_come value one → Self.keeps value (Ok ps) → Self.keeps (Self.after value one) (Ok (ps ++ Self.spelled one ∷ [])) };
+    ghost comes_next: { (value : Self.Kept) (one : Self.One) (ps : List (List ℕ)) → Self.may_come value one → Self.keeps value (Ok ps) → Self.keeps (Self.after value one) (Ok (ps ++ spelled one ∷ [])) };
 }

@@ -12,7 +12,7 @@ ghost use Rattle.gate_journal.specs.Opening.{IsOpened};
 ghost use Rattle.gate_journal.specs.Growth.{Continues};
 ghost use Rattle.gate_journal.specs.Records.{FailsAt, Keeps, KeepsOr, IsLeft, IsRefused, IsRefusedAgain};
 
-use crate::{Append, AppendFault, Journal, JournalFault, Record};
+use crate::{Appends, AppendFault, Journal, JournalFault, Record};
 use outside::Disk;
 use std::alloc::{AllocError, Global};
 use wire_core::Bytes;
@@ -132,7 +132,7 @@ impl<D: Disk, R: Record> RecordJournal<D, R> {
     }
 }
 
-impl<D: Disk, R: Append> RecordJournal<D, R> {
+impl<D: Disk, R: Appends> RecordJournal<D, R> {
     /// Makes room for one append, in the disk and in the value.
     pub fn make_room(&mut self, alloc: Global) -> Result<(), AllocError>
         ensures room { OnOk result (HasRoom (D.calls_left self.new.journal.disk) (D.bytes_left self.new.journal.disk) R.LONGEST) }

@@ -211,13 +211,14 @@ impl<D: Disk> Disks<D> {
         ensures plan { IsTrue D.tells → MeetsPlan D.stops D.made D.faults 4 (is_err result) self.old.log.disk self.new.log.disk }
         ensures count { D.faults self.old.log.disk ≤ D.faults self.new.log.disk }
     {
-        match self.log.append(payload.as_slice()) {
+        let doubt = self.doubt(payload);
+        match self.log.append(doubt.payload.as_slice()) {
             Ok(()) => {
                 self.written = self.written.saturating_add(1);
-                Ok(Some(payload))
+                Ok(Some(doubt.payload))
             }
             Err(_) => {
-                self.in_doubt = Some(self.doubt(payload));
+                self.in_doubt = Some(doubt);
                 Err(NodeFault::Stopped)
             }
         }

@@ -10,7 +10,7 @@ ghost use Rattle.gate_journal.specs.Rising as numbers;
 ghost use Rattle.offset_journal.specs.Offsets as defs;
 ghost use Rattle.offset_journal.specs.Offsets.{next_offset, offsets, MayCome};
 
-use gate_journal::{Append, Record, RecordJournal};
+use gate_journal::{Appends, Record, RecordJournal};
 use std::alloc::{AllocError, Global};
 
 /// The first byte of a record.
@@ -75,8 +75,6 @@ impl Record for Offsets {
 
     ghost kept = { λ o. o.offset };
 
-    ghost spelled = { defs.offset_record };
-
     ghost may_come = { MayCome };
 
     ghost after = { λ _ offset. offset };
@@ -98,7 +96,9 @@ impl Record for Offsets {
     ghost gates_first = { λ _. refl };
 }
 
-impl Append for Offsets {
+impl Appends for Offsets {
+    ghost spelled = { defs.offset_record };
+
     const LONGEST: u32 = 9;
 
     ghost LONGEST = { 9 };

@@ -47,7 +47,7 @@ impl Record for Outputs {
     ghost use Rattle.std.proofs.Props.{props};
     ghost use Rattle.turn_defs.specs.declared.pair.PairRec.{PairRec};
     ghost use Rattle.turn_defs.specs.Spellings.{IsPair};
-    ghost use Rattle.output_log.specs.Pairs.{record_of, spells, is_damaged_at};
+    ghost use Rattle.output_log.specs.Pairs.{spells, is_damaged_at};
 
     type One = PairRec;
 
@@ -60,8 +60,6 @@ impl Record for Outputs {
     ghost keeps_once = { λ pairs read. ×_prop (Prim.hlevel props) (Coded-set (coded_result (coded_list (coded_list coded_ℕ)) coded_ℕ) _ _) };
 
     ghost kept = { λ o. o.pairs.items };
-
-    ghost spelled = { record_of };
 
     ghost may_come = { λ _ pair. IsPair pair };
 

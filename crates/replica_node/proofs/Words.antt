@@ -36,7 +36,7 @@ pub use Rattle.site_node.specs.States.{Fits, Leads, closes, row, written}
 pub use Rattle.turn_defs.specs.declared.config.Config.{Config}
 pub use Rattle.std.proofs.lemmas.Bool.{eq-eqb, ne_eqb}
 pub use Rattle.std.proofs.lemmas.List.{append-nil, length-map, map-append, take_all, take_more}
-pub use Rattle.std.proofs.lemmas.List.Elements.{All-cons, All-head, All-nil, All-push, All-same, All-tail}
+pub use Rattle.std.proofs.lemmas.List.Elements.{All-cons, All-head, All-nil, All-same, All-tail}
 pub use Rattle.std.proofs.lemmas.Result.{IfOk-weaker}
 pub use Rattle.std.specs.Result.{result_unwrap_or}
 pub use Rattle.turn_defs.specs.Nodes.{Addressed}

@@ -56,7 +56,7 @@ impl Record for Votes {
     ghost use Rattle.std.specs.Coded.{Coded-set, coded_result, coded_list, coded_ℕ, ×_prop};
     ghost use Rattle.std.proofs.Common.{inl, refl};
     ghost use Rattle.paxos_acceptor.specs.declared.notes.ReplicaNote.{ReplicaNote};
-    ghost use Rattle.packet_codec.specs.Notes.{note as note_spelled, IsNote};
+    ghost use Rattle.packet_codec.specs.Notes.{IsNote};
     ghost use Rattle.replica_node.specs.Votes.{spells, is_damaged_at};
     ghost use Rattle.replica_node.specs.VoteLaws.{notes_once};
 
@@ -71,8 +71,6 @@ impl Record for Votes {
     ghost keeps_once = { λ notes read. ×_prop (notes_once notes) (Coded-set (coded_result (coded_list (coded_list coded_ℕ)) coded_ℕ) _ _) };
 
     ghost kept = { λ v. v.notes.items };
-
-    ghost spelled = { note_spelled };
 
     ghost may_come = { λ _ note. IsNote note };
 

@@ -10,7 +10,7 @@ ghost use Rattle.retry_log.specs.Pending.{record_of, retries, MayCome, places_of
 ghost use Rattle.retry_log.specs.PendingLaws.{comes_next as change_comes_next, fits as change_fits, one_place};
 
 use crate::changing::{Change, make_change, put_last, read_change};
-use gate_journal::{Append, Record, RecordJournal};
+use gate_journal::{Appends, Record, RecordJournal};
 use indexmap::IndexSet;
 use std::alloc::{AllocError, Global};
 
@@ -52,8 +52,6 @@ impl Record for Retries {
 
     ghost kept = { λ r. r.pending.keys };
 
-    ghost spelled = { record_of };
-
     ghost may_come = { MayCome };
 
     ghost after = { after_change };
@@ -77,7 +75,9 @@ impl Record for Retries {
     ghost gates_first = { λ _. refl };
 }
 
-impl Append for Retries {
+impl Appends for Retries {
+    ghost spelled = { record_of };
+
     const LONGEST: u32 = 9;
 
     ghost LONGEST = { 9 };

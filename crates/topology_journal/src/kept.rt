@@ -12,7 +12,7 @@ ghost use Rattle.topology_journal.specs.TopologyLaws.{coded_kept, comes_next as 
 use crate::Topology;
 use crate::reading::next_topology;
 use crate::topology::LONGEST;
-use gate_journal::{Append, Record, RecordJournal};
+use gate_journal::{Appends, Record, RecordJournal};
 use std::alloc::{AllocError, Global};
 
 /// The topology that a disk keeps, that of its last record, or none on a new disk. A record is up to 40 bytes.
@@ -56,8 +56,6 @@ impl Record for Topologies {
 
     ghost kept = { λ t. t.kept };
 
-    ghost spelled = { topology_record };
-
     ghost may_come = { MayCome };
 
     ghost after = { λ _ topology. Some topology };
@@ -79,7 +77,9 @@ impl Record for Topologies {
     ghost gates_first = { λ _. refl };
 }
 
-impl Append for Topologies {
+impl Appends for Topologies {
+    ghost spelled = { topology_record };
+
     const LONGEST: u32 = LONGEST;
 
     ghost LONGEST = { longest };

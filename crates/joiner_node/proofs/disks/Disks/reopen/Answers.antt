@@ -18,7 +18,8 @@ returns-clause-found g c tells k n doubt images =
     let is : c.args.self.now.in_doubt ≡ Some c.in-Some.doubt = let a = e.same.2 in let b = l.same.2 in let v = c.take.ensures.value in let at = c.in-Some.is in cc (a, b, v, at) in
     let m = with_note (Some n) k in
     let read = l.read tells in
-    subst (λ (o : Option (List ℕ)). IsFound o n k new.epochs.value.epoch new.written _ _) (sym c.told_note.ensures)
+    let image = g.D.Disk.image in
+    subst (λ (o : Option (List ℕ)). IsFound o n k new.epochs.value.epoch new.written (image new.epochs.journal.disk) (image new.log.disk)) (sym c.told_note.ensures)
     (found new.epochs.value.epoch new.written read.0 c.in-Some.doubt n k _ _ c.has_more-landed.result read.1.count (subst (λ (o : Option Doubt). AreInDoubt o (Some n) k) is doubt)
     (epoch_left k m _ new.epochs.value.epoch images.epochs_or (rw (← same) at (e.left tells)))
     (pairs_left c.told_apart.ensures k m _ read.0 images.pairs_or (rw e.same.3 at read.1.left))

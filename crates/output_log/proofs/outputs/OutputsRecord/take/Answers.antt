@@ -1,15 +1,13 @@
-use Rattle.std.proofs.Common.{[], ◌∷◌, ◌++◌}
-use Rattle.std.proofs.lemmas.List.Elements.{All-push, All-same}
+use Rattle.std.proofs.Common.{is_ok}
 use Rattle.turn_defs.specs.Spellings.{IsPair}
-use Rattle.gate_journal.specs.Spelled.{comes_as, comes_other}
+use Rattle.gate_journal.specs.Spelled.{all_pushed, comes_as, comes_other}
 use Rattle.output_log.specs.Pairs.{record_of}
 use Rattle.output_log.proofs.outputs.OutputsRecord.take.Goals as goal
 
-pub invariant_of-self-in-Some : goal.invariant_of-self-in-Some
-invariant_of-self-in-Some c =
-    let old = c.args.self.now.pairs.items in
+pub invariant_of-self : goal.invariant_of-self
+invariant_of-self c =
     let found = rw c.in-Some.is at c.in_ok-pair.ensures.found in
-    record { are_pairs = All-same IsPair c.push.new.self.items (old ++ c.in-Some.pair ∷ []) c.in_ok-push-in-Some.ensures.items (All-push IsPair old c.in-Some.pair c.args.self.now.are_pairs found.0) }
+    record { are_pairs = all_pushed IsPair record_of c.args.self.now.pairs.items _ c.in-Some.pair (is_ok c.push.result) c.args.self.now.are_pairs found.0 c.push.ensures.items }
 
 pub returns-in_ok-push-in-Some-clause-next : goal.returns-in_ok-push-in-Some-clause-next
 returns-in_ok-push-in-Some-clause-next c is ps kept =

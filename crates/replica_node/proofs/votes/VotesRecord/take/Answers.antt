@@ -1,13 +1,12 @@
-use Rattle.std.proofs.Common.{[], ◌∷◌, ◌++◌}
-use Rattle.gate_journal.specs.Spelled.{comes_as, comes_other}
-use Rattle.replica_node.proofs.Words.{All-push, All-same, IsNote, note_spelled}
+use Rattle.std.proofs.Common.{is_ok}
+use Rattle.gate_journal.specs.Spelled.{all_pushed, comes_as, comes_other}
+use Rattle.replica_node.proofs.Words.{IsNote, note_spelled}
 use Rattle.replica_node.proofs.votes.VotesRecord.take.Goals as goal
 
-pub invariant_of-self-in-Some : goal.invariant_of-self-in-Some
-invariant_of-self-in-Some c =
-    let old = c.args.self.now.notes.items in
+pub invariant_of-self : goal.invariant_of-self
+invariant_of-self c =
     let found = rw c.in-Some.is at c.in_ok-note.ensures.some in
-    record { are_notes = All-same IsNote c.push.new.self.items (old ++ c.in-Some.note ∷ []) c.in_ok-push-in-Some.ensures.items (All-push IsNote old c.in-Some.note c.args.self.now.are_notes found.0) }
+    record { are_notes = all_pushed IsNote note_spelled c.args.self.now.notes.items _ c.in-Some.note (is_ok c.push.result) c.args.self.now.are_notes found.0 c.push.ensures.items }
 
 pub returns-in_ok-push-in-Some-clause-next : goal.returns-in_ok-push-in-Some-clause-next
 returns-in_ok-push-in-Some-clause-next c is ps kept =
