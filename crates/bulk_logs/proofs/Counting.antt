@@ -4,50 +4,26 @@ use Rattle.std.specs.Prelude.{⊤}
 use Rattle.std.specs.List.{AllByRecursion, range_with_len, count_by}
 use Rattle.std.specs.declared.cmp.Ordering.{Ordering}
 use Rattle.std.specs.declared.cmp.Ordering.TheVariants.{Less, Equal, Greater}
-use Rattle.std.specs.Ordering.{nat_cmp, ordering_then}
 use Rattle.std.specs.FinMap.Entries.{by_order}
 use Rattle.std.specs.FinMap as finite
-use Rattle.std.specs.Cmp.{IsTotalOrder, nat_cmp_total}
-use Rattle.std.proofs.lemmas.Cmp.{on_total, then_total}
-use Rattle.std.proofs.lemmas.Map.Lookups.{exact_unsigned}
-use Rattle.std.proofs.lemmas.List.{nil_from_length}
 use Rattle.std.proofs.lemmas.List.Sums.{sum_by-cons}
 use Rattle.std.proofs.lemmas.List.FromFn.{sum_by-map-range_with_len_more}
 use Rattle.event_id.specs.declared.id.EventId.{EventId}
 use Rattle.event_id.specs.EventId.{id_cmp}
+use Rattle.event_id.proofs.Order.{exact_ids}
+use Rattle.log_records.proofs.Distinct.{made, made_nil, made_cons}
 use Rattle.log_records.specs.declared.records.ClickRec.{ClickRec}
 use Rattle.log_records.specs.Report.{distinct}
 use Rattle.bulk_logs.proofs.Valid.{each_made}
 
--- ---- the order of ids
-
-ids_total : IsTotalOrder id_cmp
-ids_total = then_total (on_total (λ (x : EventId). x.ip) nat_cmp_total) (then_total (on_total (λ (x : EventId). x.pid) nat_cmp_total) (on_total (λ (x : EventId). x.micros) nat_cmp_total))
-
-then_equal : (o p : Ordering) → ordering_then o p ≡ Equal → p ≡ Equal
-then_equal Less p e = absurd (cc)
-then_equal Equal p e = e
-then_equal Greater p e = absurd (cc)
-
 -- ids that tie have one timestamp
 pub tied_micros : (a b : EventId) → id_cmp a b ≡ Equal → a.micros ≡ b.micros
-tied_micros a b h = exact_unsigned a.micros b.micros (then_equal (nat_cmp a.pid b.pid) (nat_cmp a.micros b.micros) (then_equal (nat_cmp a.ip b.ip) (ordering_then (nat_cmp a.pid b.pid) (nat_cmp a.micros b.micros)) h))
+tied_micros a b h = ap (λ (x : EventId). x.micros) (exact_ids a b h)
 
 -- ---- the map of the clicks by their ids
 
 abbrev Entry : Type 0
 Entry = EventId × ClickRec
-
-abbrev made : List ClickRec → List Entry
-made cs = finite.entries (finite.from_entries {R = id_cmp} (map (λ c. (c.id, c)) cs))
-
-made_nil : made [] ≡ []
-made_nil =
-    let none : finite.FinMap id_cmp ClickRec = finite.empty in
-    nil_from_length (finite.entries none) (sym (finite.len-entries none) ∙ finite.len-empty id_cmp ClickRec)
-
-made_cons : (c : ClickRec) (cs : List ClickRec) → made (c ∷ cs) ≡ finite.put id_cmp c.id c (made cs)
-made_cons c cs = finite.entries-insert ids_total (finite.from_entries (map (λ (d : ClickRec). (d.id, d)) cs)) c.id c
 
 module _ (P : EventId → Type 0) where
   keys_put : (es : List Entry) (k : EventId) (v : ClickRec) → P k → AllByRecursion (λ (e : Entry). P e.0) es → AllByRecursion (λ (e : Entry). P e.0) (finite.put id_cmp k v es)

@@ -3,7 +3,7 @@ pub mod Reading
 pub mod LineOrder
 pub mod Places
 pub mod FirstLines
-pub mod Cuts
 pub mod LogWalk
 pub mod WholeLogs
 pub mod FirstPlaces
+pub mod Distinct

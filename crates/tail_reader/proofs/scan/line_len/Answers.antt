@@ -1,6 +1,6 @@
 use Rattle.std.proofs.Common.{refl, sym, ◌∙◌}
 use Rattle.tail_reader.specs.Buffered.{line_feed}
-use Rattle.tail_reader.proofs.Cuts.{front_lacks}
+use Rattle.list_words.proofs.Cuts.{front_lacks}
 use Rattle.tail_reader.proofs.scan.line_len.Goals as goal
 
 pub returns-clause-found : goal.returns-clause-found
