@@ -1,7 +1,8 @@
 -- Disks that were read back, and are given back then.
 use Rattle.std.specs.Prelude.{IsTrue, filter, if◌then◌else◌, Result, Ok, Err, IfOk, IfErr, OnOk}
-use Rattle.std.proofs.Common.{◌≡◌, inl, inr, ⊎_elim, ℕ, zero, suc, ◌≤◌, length, take, drop, List, [], ◌∷◌, ◌++◌, map, Bool, true, false, refl, sym, ap, ◌∙◌, subst, arith}
+use Rattle.std.proofs.Common.{◌≡◌, ◌≢◌, inl, inr, ⊎_elim, ℕ, zero, suc, ◌≤◌, length, take, drop, List, [], ◌∷◌, ◌++◌, map, Bool, true, false, refl, sym, ap, ◌∙◌, subst, arith}
 use Rattle.site_run.proofs.Words.{append-nil, Mem, Each, DiskName, RunFault, damaged_by, Lent, Lacks, IsOfOne, MayBeLeft, LentDisk, EachWith, OneWith, AreReadFrom, IsOnlyRead, IsToldBy, AreAmongImages, as_lent, IsOfDisks, AreKeptIn}
+use Rattle.outside.specs.declared.store.DiskName.TheVariants as name
 use Rattle.run_fault.specs.declared.fault.StorePlace.TheVariants as place
 use Rattle.run_fault.specs.declared.fault.RunFault.TheVariants as fault
 
@@ -76,6 +77,14 @@ module _ {D : Type 0} (tells : Bool) (seen : D → List ℕ) (image : D → List
       (λ is. let here : 1 ≤ faults o.disk = subst (λ (x : Lent D). 1 ≤ faults x.disk) (sym is) some in (as_lent n, inl refl, omega (arith, here, only.0.count)))
       (λ later. let r = met_read olds news only.1 l later some in (r.0, inr r.1, r.2))
       among
+
+  -- disks that are up met no fault, where they met none before
+  pub calm_read : IsTrue planned → (olds news : List (LentDisk D)) → OnlyRead olds news → Each (λ (l : Lent D). (faults l.disk ≡ 0) × (l.name ≢ name.Topology → is_down l.disk ≡ false)) (map as_lent olds)
+      → Each (λ (l : Lent D). faults l.disk ≡ 0) (map as_lent news)
+  calm_read sure [] [] only calm = tt
+  calm_read sure [] (n ∷ ns) only calm = absurd only
+  calm_read sure (o ∷ os) [] only calm = absurd only
+  calm_read sure (o ∷ os) (n ∷ ns) only calm = (only.0.calm sure calm.0.1 ∙ calm.0.0, calm_read sure os ns only.1 calm.1)
 
   -- a fault of reading is one of a disk
   told_store : (disk : DiskName) (olds news : List (LentDisk D)) (rose : Type 0) → ((l : Lent D) → Mem l (map as_lent news) → 1 ≤ faults l.disk → rose)

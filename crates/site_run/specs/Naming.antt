@@ -1,6 +1,9 @@
 -- The disks of nodes, under their names.
 use Rattle.std.specs.Prelude.{◌≡◌, ℕ, suc, ◌-◌, nat_lt, if◌then◌else◌, List, [], ◌∷◌, ◌++◌}
+use Rattle.outside.specs.declared.store.DiskName.{DiskName}
 use Rattle.outside.specs.declared.store.DiskName.TheVariants as name
+use Rattle.turn_defs.specs.declared.node.Node.{Node}
+use Rattle.turn_defs.specs.declared.node.Node.TheVariants.{Dispatcher, Server, Replica, Joiner}
 use Rattle.site_store.specs.Lent.{Lent}
 use Rattle.site_store.specs.declared.lent.disk.LentDisk.{LentDisk}
 
@@ -16,6 +19,13 @@ site_of joiners number = if nat_lt (place_of number) joiners then 0 else 1
 
 abbrev pub joiner_of : (joiners number : ℕ) → ℕ
 joiner_of joiners number = if nat_lt (place_of number) joiners then place_of number else place_of number - joiners
+
+-- the names of a node's disks
+abbrev pub names_of : (joiners : ℕ) → Node → List DiskName
+names_of joiners (Dispatcher s) = name.Offset s ∷ name.Retry s ∷ []
+names_of joiners (Server s) = name.Server s ∷ []
+names_of joiners (Replica r) = name.Replica r ∷ []
+names_of joiners (Joiner j) = name.Epoch (site_of joiners j) (joiner_of joiners j) ∷ name.Output (site_of joiners j) (joiner_of joiners j) ∷ []
 
 -- the disks of a node of each kind under the names of its number
 abbrev pub of_dispatcher : {D : Type 0} → ℕ → (offset retry : D) → List (Lent D)

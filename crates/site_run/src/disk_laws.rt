@@ -12,6 +12,7 @@ ghost use Rattle.site_run.specs.AnyNodes.{any_of};
 ghost use Rattle.site_run.specs.Held.{HasSpelledNotes, HaveGoneOn, HoldsAs};
 ghost use Rattle.site_run.specs.Laws.{AreHeld, AreMet, NoneStops};
 ghost use Rattle.site_run.specs.Resting.{IsClosed, KeepsAs};
+ghost use Rattle.site_run.specs.Stops.{ArePlanned};
 
 use crate::built::Parting;
 use crate::nodes::{AnyNode, SystemNode};
@@ -76,6 +77,12 @@ pub fn all_held<D: Disk, L: LogFile>()
     gone_on::<D, L>();
     spelled::<D, L>();
 }
+
+/// The stops that are left to a node are those of its disks, which keep to their plan where it does.
+pub fn all_planned<D: Disk, L: LogFile>()
+    ensures planned { IsTrue D.planned → IsTrue ⟦<AnyNode<D, L> as SiteNode>⟧.planned }
+    ensures disks { IsTrue D.planned → ArePlanned D.stops D.made D.faults D.is_down ⟦<AnyNode<D, L> as SiteNode>⟧.stops_left ⟦<AnyNode<D, L> as SiteNode>⟧.faults ⟦<AnyNode<D, L> as SiteNode>⟧.waits ⟦<AnyNode<D, L> as Parting<D, L>>⟧.disks_of }
+{}
 
 /// All that is known of whose faults a node's are.
 pub fn all_met<D: Disk, L: LogFile>()

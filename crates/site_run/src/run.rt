@@ -9,12 +9,14 @@ ghost use Rattle.dispatch_node.specs.Places.{AreKeptPlaces};
 ghost use Rattle.site_store.specs.Refusals.{other_names};
 ghost use Rattle.site_store.specs.Records.{AreRecordsOf, kept_all, lent_all, topology_lent};
 ghost use Rattle.site_store.specs.Lent.{MayBeLeft};
+ghost use Rattle.site_store.specs.Plans.{Left, AllAsPlanned};
 ghost use Rattle.gate_journal.specs.Images.{GoesOn};
 ghost use Rattle.site_laws.specs.Stores.{SameRecords};
 ghost use Rattle.site_run.specs.Laws.{KeepsItsRecord};
 ghost use Rattle.turn_defs.specs.Configs.{IsRunnable};
 ghost use Rattle.site_run.specs.Asked.{AreLogsOf, IsSettingOver, OfSetting};
 ghost use Rattle.site_run.specs.Making.{AreEnough, IsRoomFor};
+ghost use Rattle.site_run.specs.Stops.{RunsAsPlanned};
 ghost use Rattle.site_run.specs.Heard.{IsHeardOf};
 ghost use Rattle.site_run.specs.Out.{AreOut};
 ghost use Rattle.site_run.specs.Left.{HasRun, HasRested};
@@ -24,7 +26,7 @@ ghost use Rattle.site_run.specs.Causes.{IsPastOpening};
 ghost use Rattle.site_run.specs.Refused.{IsOfRun, NamesEnded};
 
 use crate::built::{Built, Logs, Room, build, take_last};
-use crate::disk_laws::{all_held, all_met};
+use crate::disk_laws::{all_held, all_met, all_planned};
 use crate::nodes::AnyNode;
 use crate::settle::give_parts;
 use crate::sources::{open_logs, shut_logs};
@@ -77,6 +79,8 @@ where
     ensures heard { IfSome ran.new.log (IsHeardOf plan config.now.joiners) }
     ensures cause { IfErr result (IsCounted (Rose (F.faults files.old) (F.faults files.new)) (Rose (S.faults store.old) (S.faults store.new))) }
     ensures stopped { IfErr result (NamesEnded ran.new.log) }
+    // No node stops more often than was planned for its disks, and where no stop is planned no disk meets a fault.
+    ensures stops { IsTrue S.Disk.planned → IsTrue F.Log.tells → OfSetting (F.bytes files.old) names.now.queries.now names.now.clicks.now config.now end (λ g. RunsAsPlanned (Left S.stops S.made store.old) g ran.new.log (S.faults store.old) (S.faults store.new)) }
     ensures same { IsTrue F.Log.tells → (n : List ℕ) → F.bytes files.new n ≡ F.bytes files.old n }
     ensures file_count { F.faults files.old ≤ F.faults files.new }
     ensures store_count { S.faults store.old ≤ S.faults store.new }
@@ -129,6 +133,8 @@ where
     ensures heard { IfSome ran.new.log (IsHeardOf plan config.now.joiners) }
     ensures cause { IfErr result (IsCounted (Rose (F.faults files.old) (F.faults files.new)) (Rose (S.faults store.old) (S.faults store.new))) }
     ensures stopped { IfErr result (NamesEnded ran.new.log) }
+    ensures stops { IsTrue S.Disk.planned → IsTrue F.Log.tells → (g : Setting) → Checked g → IsSettingOver F.Log.bytes logs.clicks.items logs.queries.items config.now end g
+        → RunsAsPlanned (Left S.stops S.made store.old) g ran.new.log (S.faults store.old) (S.faults store.new) }
     ensures same { IsTrue F.Log.tells → (n : List ℕ) → F.bytes files.new n ≡ F.bytes files.old n }
     ensures file_count { F.faults files.old ≤ F.faults files.new }
     ensures store_count { S.faults store.old ≤ S.faults store.new }
@@ -197,12 +203,17 @@ where
     ensures whole { IsTrue S.Disk.tells → IsTrue F.Log.tells → (g : Setting) → AreLogsOf F.Log.bytes logs.clicks.items logs.queries.items config.now g
         → (d : Disks) → AreRecordsOf g (kept_all opened.disks.items) d → ((s : ℕ) → s < 2 → AreKeptPlaces g (d.dispatchers s)) → KeepsItsRecord S.Disk.image g (topology_lent opened.topology.journal.disk) → IfErr result (IsOfRun g d (Rose (S.faults store.old) (S.faults store.new))) }
     ensures stopped { IfErr result (NamesEnded ran.new.log) }
+    ensures stops { IsTrue S.Disk.planned → IsTrue F.Log.tells → (g : Setting) → AreLogsOf F.Log.bytes logs.clicks.items logs.queries.items config.now g
+        → (d : Disks) → AreRecordsOf g (kept_all opened.disks.items) d → ((s : ℕ) → s < 2 → AreKeptPlaces g (d.dispatchers s)) → (s : S)
+        → AllAsPlanned S.Disk.stops S.Disk.made S.Disk.faults (Left S.stops S.made s) (topology_lent opened.topology.journal.disk ∷ lent_all opened.disks.items)
+        → RunsAsPlanned (Left S.stops S.made s) g ran.new.log (S.faults store.old) (S.faults store.new) }
     ensures same { IsTrue F.Log.tells → (n : List ℕ) → F.bytes files.new n ≡ F.bytes files.old n }
     ensures file_count { F.faults files.old ≤ F.faults files.new }
     ensures store_count { S.faults store.old ≤ S.faults store.new }
 {
     all_held::<S::Disk, F::Log>();
     all_met::<S::Disk, F::Log>();
+    all_planned::<S::Disk, F::Log>();
     match build(alloc, config, opened, logs, room) {
         Ok(built) => {
             let Built {

@@ -1,7 +1,8 @@
 // The end of a run: nodes are taken apart, disks read back, and all is given back.
-ghost use Rattle.std.specs.Prelude.{◌≡◌, ◌⊎◌, ◌≤◌, ◌+◌, ◌*◌, ◌++◌, ℕ, List, Some, None, Err, length, map, vec_len, vec_capacity, IsTrue, IfOk, IfErr, IfSome, OnOk};
-ghost use Rattle.list_words.specs.Lists.{Mem};
+ghost use Rattle.std.specs.Prelude.{◌≡◌, ◌≢◌, ◌⊎◌, false, ◌≤◌, ◌+◌, ◌*◌, ◌++◌, ℕ, List, Some, None, Err, length, map, vec_len, vec_capacity, IsTrue, IfOk, IfErr, IfSome, OnOk};
+ghost use Rattle.list_words.specs.Lists.{Each, Mem};
 ghost use Rattle.outside.specs.declared.store.DiskName.{DiskName};
+ghost use Rattle.outside.specs.declared.store.DiskName.TheVariants as name;
 ghost use Rattle.outside.specs.Faults.{Rose};
 ghost use Rattle.output_log.specs.Pairs.{Keeps as KeepsPairs};
 ghost use Rattle.site_store.specs.Lent.{Lent, MayBeLeft};
@@ -31,6 +32,7 @@ pub(crate) fn give_parts<F: Source, S: Store>(
     ensures left { IsTrue S.Disk.tells → (name : DiskName) (c : List ℕ) → S.image store.new name c → MayBeLeft S.Disk.image (S.image store.old) (map as_lent parts.disks.items) name c }
     ensures disks { (l : Lent S.Disk) → Mem l (map as_lent parts.disks.items) → 1 ≤ S.Disk.faults l.disk → Rose (S.faults store.old) (S.faults store.new) }
     ensures logs { (l : F.Log) → Mem l parts.logs.items → 1 ≤ F.Log.faults l → Rose (F.faults files.old) (F.faults files.new) }
+    ensures calm { Each (λ l. S.Disk.faults l.disk ≡ 0) (map as_lent parts.disks.items) → S.faults store.new ≡ S.faults store.old }
     ensures same { IsTrue F.Log.tells → (n : List ℕ) → F.bytes files.new n ≡ F.bytes files.old n }
     ensures file_count { F.faults files.old ≤ F.faults files.new }
     ensures store_count { S.faults store.old ≤ S.faults store.new }
@@ -119,6 +121,8 @@ pub(crate) fn settle<F: Source, S: Store>(
     ensures told { IfErr result (λ f. (fault ≡ Some f) ⊎ ((fault ≡ None) × IsOfDisks S.Disk.tells S.Disk.image (map as_lent parts.disks.items) (Rose (S.faults store.old) (S.faults store.new)) f)) }
     ensures disks { (l : Lent S.Disk) → Mem l (map as_lent parts.disks.items) → 1 ≤ S.Disk.faults l.disk → Rose (S.faults store.old) (S.faults store.new) }
     ensures logs { (l : F.Log) → Mem l parts.logs.items → 1 ≤ F.Log.faults l → Rose (F.faults files.old) (F.faults files.new) }
+    // Disks that met no fault, and are up where they are read, meet none here.
+    ensures calm { IsTrue S.Disk.planned → Each (λ l. (S.Disk.faults l.disk ≡ 0) × (l.name ≢ name.Topology → S.Disk.is_down l.disk ≡ false)) (map as_lent parts.disks.items) → S.faults store.new ≡ S.faults store.old }
     ensures same { IsTrue F.Log.tells → (n : List ℕ) → F.bytes files.new n ≡ F.bytes files.old n }
     ensures file_count { F.faults files.old ≤ F.faults files.new }
     ensures store_count { S.faults store.old ≤ S.faults store.new }

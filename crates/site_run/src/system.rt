@@ -2,10 +2,12 @@
 ghost use Rattle.std.specs.Prelude.{◌≡◌, ◌<◌, ◌≤◌, ◌+◌, ◌*◌, ◌∷◌, [], ℕ, List, None, length, slice_index_or, vec_capacity, true, false, IsTrue, IfOk, IfErr, IfSome, IsSomeAnd};
 ghost use Rattle.std.specs.List.{All};
 ghost use Rattle.outside.specs.declared.store.DiskName.{DiskName};
+ghost use Rattle.outside.specs.declared.store.DiskName.TheVariants as name;
 ghost use Rattle.outside.specs.Faults.{Rose};
 ghost use Rattle.turn_defs.specs.Setting.{Setting};
 ghost use Rattle.photon_model.specs.Runs.{Disks};
 ghost use Rattle.site_store.specs.Lent.{MayBeLeft};
+ghost use Rattle.site_store.specs.Plans.{Left, AllAsPlanned};
 ghost use Rattle.gate_journal.specs.Images.{GoesOn};
 ghost use Rattle.site_laws.specs.Stores.{SameRecords};
 ghost use Rattle.site_run.specs.Heard.{IsHeardOf, kinds_of};
@@ -16,6 +18,7 @@ ghost use Rattle.run_fault.specs.Causes.{IsCounted};
 ghost use Rattle.site_run.specs.Causes.{IsPastOpening};
 ghost use Rattle.site_run.specs.Refused.{IsOfRun, NamesEnded};
 ghost use Rattle.site_run.specs.Laws.{AreHeld, AreMet, KeepsItsRecord};
+ghost use Rattle.site_run.specs.Stops.{ArePlanned, RunsAsPlanned};
 ghost use Rattle.site_run.specs.Left.{HasRun, HasRested};
 ghost use Rattle.site_run.specs.Out.{AreOut};
 
@@ -107,6 +110,11 @@ where
         → AreMet S.Disk.faults F.Log.faults N.faults N.log_faults N.disks_of N.logs_of → AreDownOver N.places g d nodes.items → KeepsItsRecord S.Disk.image g (as_lent topology)
         → IfErr result (IsOfRun g d (Rose (S.faults store.old) (S.faults store.new))) }
     ensures stopped { IfErr result (NamesEnded ran.new.log) }
+    // No node stops more often than was planned for its disks, and where no stop is planned no disk meets a fault.
+    ensures stops { IsTrue S.Disk.planned → IsTrue N.planned → (g : Setting) (d : Disks) (s : S) → IsRosterOf g joiners → AreHeld S.Disk.image N.places N.grown N.disks_of → AreDownOver N.places g d nodes.items
+        → ArePlanned S.Disk.stops S.Disk.made S.Disk.faults S.Disk.is_down N.stops_left N.faults N.waits N.disks_of → topology.name ≡ name.Topology
+        → AllAsPlanned S.Disk.stops S.Disk.made S.Disk.faults (Left S.stops S.made s) (as_lent topology ∷ all_from (N.disks_of joiners) 0 nodes.items)
+        → RunsAsPlanned (Left S.stops S.made s) g ran.new.log (S.faults store.old) (S.faults store.new) }
     ensures same { IsTrue F.Log.tells → (n : List ℕ) → F.bytes files.new n ≡ F.bytes files.old n }
     ensures file_count { F.faults files.old ≤ F.faults files.new }
     ensures store_count { S.faults store.old ≤ S.faults store.new }

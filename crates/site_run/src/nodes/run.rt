@@ -1,12 +1,12 @@
 // The run of the nodes of both sites.
-ghost use Rattle.std.specs.Prelude.{◌≡◌, ◌<◌, ◌^◌, ℕ, length, slice_index_or, false, IsTrue, IfOk, IfErr};
+ghost use Rattle.std.specs.Prelude.{◌≡◌, ◌<◌, ◌^◌, ℕ, length, slice_index_or, [], None, false, IsTrue, IfOk, IfErr};
 ghost use Rattle.std.specs.List.{All};
 ghost use Rattle.bus_seat.specs.Views.{made_by};
 ghost use Rattle.turn_defs.specs.Setting.{Setting};
 ghost use Rattle.turn_defs.specs.Nodes.{node_count};
 ghost use Rattle.photon_model.specs.Runs.{Disks};
 ghost use Rattle.site_workers.specs.Heard.{IsHeard};
-ghost use Rattle.site_workers.specs.Works.{HasMet};
+ghost use Rattle.site_workers.specs.Works.{HasMet, KeepsPlan};
 ghost use Rattle.site_workers.specs.Rounds.{HasFault, AreCaused};
 ghost use Rattle.site_run.specs.Running.{AreDownOver, DeadAreReplicas, IsRunFrom, HaveGrown};
 
@@ -44,6 +44,9 @@ pub fn run_nodes<R: Threads + Wait + Sync, N: SystemNode + Send + Drop, G: Gate>
     // And the disks of each node, whatever a stop leaves of them, have gone on from where they were, step by step.
     ensures grown { IsTrue N.tells → (g : Setting) (d : Disks) → node_count g ≡ length kinds.now → AreDownOver N.places g d nodes.items
         → IfOk result (λ r. HaveGrown N.grown g nodes.items r.nodes.items) }
+    // They have met the stops that are planned, and no others.
+    ensures plan { IsTrue N.planned → IfOk result (λ r. (i : ℕ) (a : N) (b : _) → i < length nodes.items →
+        KeepsPlan N.stops_left N.faults N.waits (slice_index_or nodes.items i a) None [] (slice_index_or r.nodes.items i b).0 (slice_index_or r.nodes.items i b).1 (made_by i r.air.history)) }
     // A node has a fault where the run is not at rest. Its cause is met where it is one of disks or of a log.
     ensures fault { IfOk result (λ r. r.rest ≡ false → HasFault r.nodes.items) }
     ensures caused { IfOk result (λ r. AreCaused N.faults N.log_faults r.nodes.items) }

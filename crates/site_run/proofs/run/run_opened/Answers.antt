@@ -1,9 +1,13 @@
-use Rattle.std.proofs.Common.{◌≡◌, ◌+◌, ◌*◌, length, map, sym, ap, ◌∙◌, subst, arith}
-use Rattle.site_run.proofs.Words.{length-map, IfErr-weaker, topology_lent, as_lent, IsRosterOf, KeepsItsRecord, HasRun}
+use Rattle.std.proofs.Common.{◌≡◌, ◌+◌, ◌*◌, ◌∷◌, length, map, refl, sym, ap, ◌∙◌, subst, arith}
+use Rattle.site_run.proofs.Words.{length-map, IfErr-weaker, lent_all, topology_lent, as_lent, IsRosterOf, KeepsItsRecord, HasRun}
 use Rattle.site_run.proofs.Entered.{none_left}
 use Rattle.site_run.proofs.Holding.{all_tell}
 use Rattle.site_run.proofs.Opened.{room_for, fits_behind, may_same, out_same}
-use Rattle.site_run.proofs.Outing.{moved_out, may_moved, may_behind, given_goes_on}
+use Rattle.site_run.proofs.Outing.{each_moved, moved_out, may_moved, may_behind, given_goes_on}
+use Rattle.outside.specs.declared.store.DiskName.TheVariants as name
+use Rattle.site_store.specs.Plans.{Left, IsAsPlanned}
+use Rattle.site_store.proofs.Planned.{each_calm}
+use Rattle.site_run.proofs.Planning.{none_planned}
 use Rattle.site_run.proofs.run.run_opened.Goals as goal
 
 pub run_system-requires-clause-places : goal.run_system-requires-clause-places
@@ -73,3 +77,21 @@ returns-in-Ok-clause-whole g c tells log_tells gg over d records places kept =
     let same = ap (λ x. topology_lent {D = g.row.S-Disk.Denot} x) c.into_disk.ensures ∙ ap (λ t. topology_lent {D = g.row.S-Disk.Denot} t.journal.disk) c.in-Ok.ensures.topology in
     let roster : IsRosterOf gg c.args.config.now.joiners = record { joiners_are = over.numbers.joiners; replicas = over.numbers.replicas ∙ c.requires.ranges.replicas } in
     c.run_system.ensures.whole tells (all_tell g.S.Disk.Disk.tells g.F.Log.LogFile.tells tells log_tells) gg _ roster (c.all_held.ensures tells log_tells) c.all_met.ensures (c.in-Ok.ensures.places tells gg d (record { logs = over; records = records; places = places })) (subst (λ t. KeepsItsRecord image gg t) (sym same) kept)
+
+pub returns-in-Ok-clause-stops : goal.returns-in-Ok-clause-stops
+returns-in-Ok-clause-stops g c planned log_tells gg over d records places s all =
+    let disk = g.S.Disk.Disk in
+    let tells = (g.met.S.Disk.Disk g.world.𝓛 g.world.𝓜 g.world.𝓡 ((λ s x. x), (λ x. x), (λ x. x), λ x. x)).plan_told planned in
+    let left = Left g.S.Store.stops g.S.Store.made s in
+    let same = c.into_disk.ensures ∙ ap (λ t. t.journal.disk) c.in-Ok.ensures.topology in
+    let roster : IsRosterOf gg c.args.config.now.joiners = record { joiners_are = over.numbers.joiners; replicas = over.numbers.replicas ∙ c.requires.ranges.replicas } in
+    c.run_system.ensures.stops planned (c.all_planned.ensures.planned planned) gg _ s roster (c.all_held.ensures tells log_tells) (c.in-Ok.ensures.places tells gg d (record { logs = over; records = records; places = places }))
+    (c.all_planned.ensures.disks planned) refl
+    (subst (IsAsPlanned disk.stops disk.made disk.faults (left name.Topology)) (sym same) all.0, each_moved (λ l. IsAsPlanned disk.stops disk.made disk.faults (left l.name) l.disk) _ _ c.in-Ok.ensures.held all.1)
+
+pub returns-in-Err-clause-stops : goal.returns-in-Err-clause-stops
+returns-in-Err-clause-stops g c planned log_tells gg over d records places s all =
+    let disk = g.S.Disk.Disk in
+    let opened = topology_lent {D = g.row.S-Disk.Denot} c.args.opened.topology.journal.disk ∷ lent_all {D = g.row.S-Disk.Denot} c.args.opened.disks.items in
+    none_planned _ _ gg _ _ c.requires.none
+    (λ none. c.give_parts.ensures.calm (each_moved (λ l. disk.faults l.disk ≡ 0) opened _ c.in-Err.ensures.disks (each_calm disk.stops disk.made disk.faults (Left g.S.Store.stops g.S.Store.made s) opened all)))

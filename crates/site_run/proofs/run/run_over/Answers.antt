@@ -6,6 +6,7 @@ use Rattle.site_run.proofs.Opened.{count_opened}
 use Rattle.site_run.proofs.Entering.{records_so, places_so, all_apart, out_so, keeps_so, other_stays, still_sound}
 use Rattle.site_run.proofs.Entered.{run_left, rest_left, rest_earlier, run_sound, none_left, counted_more, last_of, over_back}
 use Rattle.site_run.proofs.Refusing.{on_ok_of, err_both, passed_so, refused_so, none_kept, cause_so, welcome_so, refusal_counted, refusal_unnamed}
+use Rattle.site_run.proofs.Planning.{none_planned, planned_earlier}
 use Rattle.site_run.proofs.run.run_over.Goals as goal
 
 pub run_opened-requires-clause-places : goal.run_opened-requires-clause-places
@@ -107,3 +108,18 @@ returns-in-Err-clause-cause g c =
 pub returns-in-Err-clause-stopped : goal.returns-in-Err-clause-stopped
 returns-in-Err-clause-stopped g c n is =
     absurd (refusal_unnamed g.S.Disk.Disk.tells (g.S.Store.image c.args.store.now) c.args.config.now.replicas _ g.F.Log.LogFile.tells (g.F.Log.LogFile.bytes c.take_last-read.result) c.args.end _ (Some (record { joiners = c.args.config.now.joiners; table = c.args.config.now.table })) c.in-Err.fault n c.in-Err.ensures.cause is)
+
+pub returns-in-Ok-clause-stops : goal.returns-in-Ok-clause-stops
+returns-in-Ok-clause-stops g c planned log_tells gg checked is =
+    let d = c.in-Ok.opened in
+    let o = c.in-Ok.ensures in
+    let built = records_of gg (kept_all {D = g.row.S-Disk.Denot} d.disks.items) in
+    let records = records_so d.disks.items _ _ o.named gg is.logs.numbers.replicas is.logs.numbers.joiners o.kept.1.kinds in
+    let first = last_of (λ l. IsLogOf (g.F.Log.LogFile.bytes l) gg) c.args.logs.clicks.items c.take_last-read.new.logs.items c.take_last-read.result c.take_last-read.ensures.items is.logs.clicks_are in
+    let places = places_so d.disks.items _ _ o.named gg built records (o.kept.2.places log_tells gg first is.ends) in
+    let over = over_back g.F.Log.LogFile.bytes c.args.config.now gg c.args.logs.clicks.items c.take_last-read.new.logs.items c.push_reserved.new.self.items c.args.logs.queries.items c.take_last-read.result c.open_store.new.clicks c.take_last-read.ensures.items c.push_reserved.ensures.items
+    (subst (λ b. IsLogOf b gg) (sym (o.same log_tells)) first) is.logs in
+    planned_earlier _ _ _ gg _ _ _ (λ disk k few. few) (c.open_store.ensures.calm planned) (c.run_opened.ensures.stops planned log_tells gg over built records places c.args.store.now (o.plan planned).out)
+
+pub returns-in-Err-clause-stops : goal.returns-in-Err-clause-stops
+returns-in-Err-clause-stops g c planned log_tells gg checked is = none_planned _ _ gg _ _ c.requires.none (c.open_store.ensures.calm planned)

@@ -4,6 +4,9 @@ use Rattle.site_run.proofs.Refusing.{place_cause, place_unnamed}
 use Rattle.site_run.proofs.Counting.{rose_before}
 use Rattle.site_run.proofs.Entered.{over_so, checked_so, place_counted, place_welcome}
 use Rattle.site_run.proofs.Earlier.{not_begun, ran_earlier}
+use Rattle.site_store.specs.Plans.{Left}
+use Rattle.site_store.proofs.Planned.{same_left}
+use Rattle.site_run.proofs.Planning.{planned_earlier}
 use Rattle.site_run.proofs.run.run_sites.Goals as goal
 
 pub returns-in-Err-place-clause-cause : goal.returns-in-Err-place-clause-cause
@@ -48,3 +51,25 @@ returns-in-Err-place-clause-same g c log_tells n = c.shut_logs.ensures.same log_
 
 pub returns-in-Err-place-clause-stopped : goal.returns-in-Err-place-clause-stopped
 returns-in-Err-place-clause-stopped g c = λ n is. absurd (place_unnamed c.in-Err-place.fault n (sym c.from.ensures ∙ is))
+
+pub returns-clause-stops : goal.returns-clause-stops
+returns-clause-stops g c planned log_tells gg is =
+    let s = g.S.Store in
+    let old = c.args.store.now in
+    let placed = c.place.new.self in
+    let tells = (g.met.S.Disk.Disk g.world.𝓛 g.world.𝓜 g.world.𝓡 ((λ s x. x), (λ x. x), (λ x. x), λ x. x)).plan_told planned in
+    let told = g.F.Source.bytes c.args.files.now in
+    let queries = c.args.names.now.queries.now in
+    let clicks = c.args.names.now.clicks.now in
+    let logs = c.in-Ok-open_logs.logs in
+    let over = over_so g.F.Log.LogFile.bytes told queries clicks c.args.config.now c.args.end gg logs.clicks.items logs.queries.items
+    (c.in-Ok-open_logs.ensures.click_logs log_tells) (c.in-Ok-open_logs.ensures.query_logs log_tells) is in
+    planned_earlier c.run_over.new.ran.log (Left s.stops s.made old) (Left s.stops s.made placed) gg _ _ _
+    (λ disk k. same_left k (s.stops old disk) (s.stops placed disk) (s.made old disk) (s.made placed disk) (c.place.ensures.stops tells disk) (c.place.ensures.made tells disk))
+    (λ none. c.place.ensures.tally tells)
+    (c.run_over.ensures.stops planned log_tells gg (checked_so c.stores.ensures.checked gg (told queries) (told clicks) is.queries_are is.clicks_are) over)
+
+pub returns-in-Err-place-clause-stops : goal.returns-in-Err-place-clause-stops
+returns-in-Err-place-clause-stops g c planned log_tells gg is =
+    let tells = (g.met.S.Disk.Disk g.world.𝓛 g.world.𝓜 g.world.𝓡 ((λ s x. x), (λ x. x), (λ x. x), λ x. x)).plan_told planned in
+    record { stops = tt; calm = λ none. c.place.ensures.tally tells }

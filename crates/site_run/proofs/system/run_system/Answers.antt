@@ -1,10 +1,16 @@
-use Rattle.std.proofs.Common.{◌≡◌, ⊎_elim, ℕ, ◌+◌, ◌*◌, ◌<◌, ◌++◌, length, map, sym, ap, ◌∙◌, subst, arith}
-use Rattle.site_run.proofs.Words.{length-map, IfErr-weaker, Mem, mem_right, Rose, KeepsPairs, node_count, MayBeLeft, KeepsNotes, made_by, stop_count, as_lent, all_from, IsOfDisks, AreKeptIn, lent_replicas, lent_outputs}
+use Rattle.std.proofs.Common.{◌≡◌, ◌≢◌, ⊎_elim, ℕ, ◌+◌, ◌*◌, ◌<◌, ◌++◌, ◌∷◌, [], None, false, length, map, slice_index_or, sym, ap, ◌∙◌, subst, arith}
+use Rattle.site_run.proofs.Words.{length-map, recursion_from_All, IfErr-weaker, Each, Mem, mem_right, Rose, KeepsPairs, node_count, MayBeLeft, KeepsNotes, made_by, stop_count, as_lent, all_from, IsOfDisks, AreKeptIn, lent_replicas, lent_outputs}
 use Rattle.site_run.proofs.Opened.{down_too}
 use Rattle.site_run.proofs.Dead.{dead_replicas}
 use Rattle.site_run.proofs.Outing.{given_goes_on}
 use Rattle.site_run.proofs.Running.{same_count, goes_on, has_run, rests, no_stops, fault_told, first_told, first_ended, disks_alone, read_back_of, at_rest, disks_counted}
 use Rattle.site_run.proofs.Settling.{in_front, ok_three}
+use Rattle.site_run.proofs.Planning.{all_calm, none_planned, none_too_often}
+use Rattle.site_workers.specs.Works.{KeepsPlan}
+use Rattle.outside.specs.declared.store.DiskName.TheVariants as name
+use Rattle.site_store.specs.Plans.{Left}
+use Rattle.site_store.proofs.Lending.{each_weaker}
+use Rattle.site_store.proofs.Planned.{each_calm}
 use Rattle.site_run.proofs.system.run_system.Goals as goal
 
 -- the number of nodes
@@ -154,3 +160,39 @@ returns-in-Err-clause-grown g c tells node_tells gg d s roster held down out dis
     let whole = c.apart-parts.ensures.disks ∙ ap (λ v. map as_lent items ++ all_from (disks_of c.args.joiners) 0 v.items) c.in-Err.ensures.back ∙ front in
     given_goes_on g.S.Disk.Disk.image (g.S.Store.image s) (g.S.Store.image c.args.store.now) (as_lent c.args.topology) (all_from (disks_of c.args.joiners) 0 c.args.nodes.items) out disk bytes
     (subst (λ l. MayBeLeft g.S.Disk.Disk.image (g.S.Store.image c.args.store.now) l disk bytes) whole (c.give_parts.ensures.left tells disk bytes now))
+
+pub returns-in-Ok-clause-stops : goal.returns-in-Ok-clause-stops
+returns-in-Ok-clause-stops g c planned node_planned gg d s roster held down laws named all =
+    let disk = g.S.Disk.Disk in
+    let n = g.N.SiteNode in
+    let disks_of = g.N.Parting.disks_of in
+    let left = Left g.S.Store.stops g.S.Store.made s in
+    let nodes = c.args.nodes.items in
+    let ws = c.in-Ok.left.nodes.items in
+    let h = c.in-Ok.left.air.history in
+    let count : length nodes ≡ node_count gg = counted gg.joiners gg.replicas (length nodes) c.args.joiners c.requires.count roster.joiners_are roster.replicas in
+    let others = all_from (λ i w. disks_of c.args.joiners i w.0) 0 ws in
+    let whole = c.part_all-parts.ensures.disks ∙ in_front c.args.parts.disks.items c.push_reserved.new.self.items c.args.topology others c.requires.empty.0 c.push_reserved.ensures.items in
+    let plan = c.in-Ok.ensures.plan node_planned in
+    record {
+      stops = none_too_often disk.stops disk.made disk.faults disk.is_down n.stops_left n.faults n.waits disks_of laws c.args.joiners left
+          disk.image g.N.SystemNode.places n.grown held gg (sym roster.joiners_are) (c.node_numbers.ensures gg) d nodes ws h count down plan all.1;
+      calm = λ none.
+          let calm = all_calm disk.stops disk.made disk.faults disk.is_down n.stops_left n.faults n.waits disks_of laws c.args.joiners left none (λ k. made_by k h) 0 nodes ws c.in-Ok.ensures.count
+          (λ i a b below. let same : i ≡ 0 + i = omega arith in subst (λ k. KeepsPlan n.stops_left n.faults n.waits (slice_index_or nodes i a) None [] (slice_index_or ws i b).0 (slice_index_or ws i b).1 (made_by k h)) same (plan i a b below))
+          (recursion_from_All (λ v. n.waits v ≡ false) nodes c.requires.up) all.1 in
+          c.settle.ensures.calm planned
+          (subst (Each (λ l. (disk.faults l.disk ≡ 0) × (l.name ≢ name.Topology → disk.is_down l.disk ≡ false))) (sym whole)
+          ((all.0.calm, λ other. absurd (other named)), each_weaker (λ l. (disk.faults l.disk ≡ 0) × (disk.is_down l.disk ≡ false)) (λ l. (disk.faults l.disk ≡ 0) × (l.name ≢ name.Topology → disk.is_down l.disk ≡ false)) (λ l x. (x.0, λ other. x.1)) others calm));
+    }
+
+pub returns-in-Err-clause-stops : goal.returns-in-Err-clause-stops
+returns-in-Err-clause-stops g c planned node_planned gg d s roster held down laws named all =
+    let disk = g.S.Disk.Disk in
+    let disks_of = g.N.Parting.disks_of in
+    let items = c.push_reserved.new.self.items in
+    let others = all_from (disks_of c.args.joiners) 0 c.args.nodes.items in
+    let front = in_front c.args.parts.disks.items items c.args.topology others c.requires.empty.0 c.push_reserved.ensures.items in
+    let whole = c.apart-parts.ensures.disks ∙ ap (λ v. map as_lent items ++ all_from (disks_of c.args.joiners) 0 v.items) c.in-Err.ensures.back ∙ front in
+    none_planned _ _ gg _ _ c.requires.none
+    (λ none. c.give_parts.ensures.calm (subst (Each (λ l. disk.faults l.disk ≡ 0)) (sym whole) (each_calm disk.stops disk.made disk.faults (Left g.S.Store.stops g.S.Store.made s) (as_lent c.args.topology ∷ others) all)))
