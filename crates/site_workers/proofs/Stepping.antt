@@ -1,84 +1,43 @@
--- One entry more of a worker, and what it leads on to.
+-- One turn of a worker, and what it leads on to.
 use Rattle.std.proofs.Common.{◌≡◌, ◌≢◌, ℕ, zero, suc, ◌+◌, ◌<◌, ◌≤◌, nat_lt, Bool, true, false, ◌||◌, List, [], ◌∷◌, ◌++◌, length, Option, Some, None, is_some, filter, if◌then◌else◌, refl, sym, ap, ◌∙◌, subst, arith, append_assoc, length-append}
-use Rattle.std.specs.Prelude.{IfSome, IsErrAnd, Result, Ok, Err}
+use Rattle.std.specs.Prelude.{IfSome, IsTrue, Err}
 use mathlib.Core.List.{IsPrefix}
 use Rattle.std.specs.List.{list_any}
 use Rattle.std.proofs.lemmas.Bool.{ltb-true, ltb-false}
+use Rattle.std.proofs.lemmas.List.{append-nil}
 use Rattle.std.proofs.lemmas.List.Elements.{filter-append}
 use Rattle.outside.specs.declared.store.DiskName.{DiskName}
 use Rattle.air_bus.specs.declared.entry.Entry.{Entry}
 use Rattle.air_bus.specs.declared.entry.Entry.TheVariants.{Begin, End, Stop}
 use Rattle.air_bus.specs.declared.entry.Input.{Input}
-use Rattle.air_bus.specs.declared.entry.Phase.{Phase}
 use Rattle.air_bus.specs.declared.entry.Phase.TheVariants.{Busy}
 use Rattle.air_bus.specs.Copies.{Copy}
 use Rattle.air_bus.specs.History.{phase, phase_after, node_of, next_input}
 use Rattle.air_bus.proofs.Phases.{phase_here}
-use Rattle.bus_seat.specs.Seats.{Sight, Begins, Adds, next_for}
-use Rattle.site_node.specs.declared.kind.NodeFault.{NodeFault}
+use Rattle.bus_seat.specs.Seats.{Sight, Begins, Adds, Looks, next_for}
 use Rattle.site_node.specs.declared.kind.Done.{Done}
+use Rattle.site_node.specs.declared.kind.NodeFault.{NodeFault}
 use Rattle.site_node.specs.declared.kind.NodeFault.TheVariants.{Stopped, Disk, Damaged, Read, Spent, Memory}
-use Rattle.site_node.specs.Faults.{IsWhole, MeetsStops, was_stopped, was_shut_out}
-use Rattle.site_workers.specs.Works.{WorkerView, Path, StandsAt, LeadsOn, Reached, GrowsOn, Grew, HasMet, KeepsPlan, is_stop, stop_count, open_stops, told}
+use Rattle.site_node.specs.declared.kind.SiteNode.{Ghosts}
+use Rattle.site_node.specs.Faults.{MeetsStops, IsOfTurn, was_stopped, was_shut_out}
+use Rattle.site_workers.specs.Works.{WorkerView, Path, StandsAt, Reached, Grew, HasMet, KeepsPlan, is_stop, stop_count, open_stops}
+use Rattle.site_workers.specs.Rounds.{WentOn}
 
 pub none_of : {A : Type 0} (o : Option A) (b : Bool) → b ≡ is_some o → b ≡ false → o ≡ None
 none_of None b is off = refl
 none_of (Some x) b is off = absurd (cc (is, off))
 
--- one path after another
+-- ---- one after another
+
 path_on : {S : Type 0} (leads : S → Entry → S → Type 0) (s t u : S) (es fs : List Entry) → Path leads s es t → Path leads t fs u → Path leads s (es ++ fs) u
 path_on leads s t u [] fs p q = subst (λ x. Path leads x fs u) (sym p) q
 path_on leads s t u (e ∷ es) fs p q = (p.0, p.1, path_on leads p.0 t u es fs p.2 q)
 
-module _ {N S : Type 0} (leads : S → Entry → S → Type 0) (phase_of : S → Phase) (stands : N → S → Type 0) (number : N → ℕ) (spends : S → Input → Option ℕ) where
-  -- a turn that was opened, and is open
-  pub leads_one : (w : N) (after : Option NodeFault) (old new : List Entry) (s t : S) (e : Entry) → new ≡ old ++ e ∷ [] → leads s e t → StandsAt leads phase_of stands number spends w after new t
-      → (es : List Entry) × (u : S) × (new ≡ old ++ es) × Path leads s es u × StandsAt leads phase_of stands number spends w after new u
-  leads_one w after old new s t e is l at = (e ∷ [], t, is, (t, l, refl), at)
-
-  -- a turn that was opened and closed
-  pub leads_two : (w : N) (after : Option NodeFault) (old mid new : List Entry) (s t u : S) (e f : Entry) → mid ≡ old ++ e ∷ [] → leads s e t → new ≡ mid ++ f ∷ [] → leads t f u → StandsAt leads phase_of stands number spends w after new u
-      → (es : List Entry) × (v : S) × (new ≡ old ++ es) × Path leads s es v × StandsAt leads phase_of stands number spends w after new v
-  leads_two w after old mid new s t u e f is l are m at =
-      (e ∷ f ∷ [], u, are ∙ ap (λ (xs : List Entry). xs ++ f ∷ []) is ∙ append_assoc old (e ∷ []) (f ∷ []), (t, l, (u, m, refl)), at)
-
-  -- one after another
-  pub leads_on : (v x w : N) (before since after : Option NodeFault) (old mid new : List Entry) → LeadsOn leads phase_of stands number spends v before old x since mid → LeadsOn leads phase_of stands number spends x since mid w after new
-      → LeadsOn leads phase_of stands number spends v before old w after new
-  leads_on v x w before since after old mid new first next s at =
-      let a = first s at in
-      let b = next a.1 a.4 in
-      (a.0 ++ b.0, b.1, b.2 ∙ ap (λ (xs : List Entry). xs ++ b.0) a.2 ∙ append_assoc old a.0 b.0, path_on leads s a.1 b.1 a.0 b.0 a.3 b.3, b.4)
-
-  -- of the same worker, seen by its parts
-  pub leads_from : (v u : WorkerView N) (w : N) (after : Option NodeFault) (new : List Entry) → v ≡ u → LeadsOn leads phase_of stands number spends v.node v.fault v.seat.mine w after new
-      → LeadsOn leads phase_of stands number spends u.node u.fault u.seat.mine w after new
-  leads_from v u w after new is led = subst (λ (x : WorkerView N). LeadsOn leads phase_of stands number spends x.node x.fault x.seat.mine w after new) is led
-
--- some steps after some others
-pub reached_on : {N : Type 0} (grown : N → N → Type 0) (u v w : N) (k n : ℕ) → Reached grown k u v → Reached grown n v w → (m : ℕ) × Reached grown m u w
+reached_on : {N : Type 0} (grown : N → N → Type 0) (u v w : N) (k n : ℕ) → Reached grown k u v → Reached grown n v w → (m : ℕ) × Reached grown m u w
 reached_on grown u v w k zero first next = (k, subst (Reached grown k u) next first)
 reached_on grown u v w k (suc n) first next = let before = reached_on grown u v next.0 k n first next.1 in (suc before.0, (next.0, before.1, next.2))
 
--- two steps
-pub reached_two : {N : Type 0} (grown : N → N → Type 0) (u v w : N) → grown u v → grown v w → (k : ℕ) × Reached grown k u w
-reached_two grown u v w g h = (2, (v, (u, refl, g), h))
-
-module _ {N S : Type 0} (leads : S → Entry → S → Type 0) (phase_of : S → Phase) (stands : N → S → Type 0) (number : N → ℕ) (spends : S → Input → Option ℕ) (grown : N → N → Type 0) where
-  pub grows_on : (v x w : N) (before since : Option NodeFault) (old mid : List Entry) → LeadsOn leads phase_of stands number spends v before old x since mid → GrowsOn leads phase_of stands number spends grown v before old x → GrowsOn leads phase_of stands number spends grown x since mid w
-      → GrowsOn leads phase_of stands number spends grown v before old w
-  grows_on v x w before since old mid led first next s at =
-      let there = led s at in
-      let a = first s at in
-      let b = next there.1 there.4 in
-      reached_on grown v x w a.0 b.0 a.1 b.1
-
-  -- of the same worker, seen by its parts
-  pub grows_from : (v u : WorkerView N) (w : N) → v ≡ u → GrowsOn leads phase_of stands number spends grown v.node v.fault v.seat.mine w → GrowsOn leads phase_of stands number spends grown u.node u.fault u.seat.mine w
-  grows_from v u w is grows = subst (λ (x : WorkerView N). GrowsOn leads phase_of stands number spends grown x.node x.fault x.seat.mine w) is grows
-
--- a seat that grew twice
-pub grew_on : (u v w : Sight) → Grew u v → Grew v w → Grew u w
+grew_on : (u v w : Sight) → Grew u v → Grew v w → Grew u w
 grew_on u v w first next = record {
   bus = next.bus ∙ first.bus;
   number = next.number ∙ first.number;
@@ -89,98 +48,104 @@ grew_on u v w first next = record {
     prefix_on : (a b c : List Entry) → IsPrefix a b → IsPrefix b c → IsPrefix a c
     prefix_on a b c p q = (p.0 ++ q.0, sym (append_assoc a p.0 q.0) ∙ ap (λ (xs : List Entry). xs ++ q.0) p.1 ∙ q.1)
 
-module _ (n : ℕ) (v w : Sight) (i : Input) (wants tick : Bool) (whose : v.number ≡ Some n) (did : IfSome v.number (λ m. Begins m wants tick v (Some i) w)) where
-  begins : Begins n wants tick v (Some i) w
-  begins = subst (λ o. IfSome o (λ m. Begins m wants tick v (Some i) w)) whose did
+module _ {N : Type 0} (m : Ghosts N) where
+  pub went_on : (u v w : WorkerView N) → WentOn m u v → WentOn m v w → WentOn m u w
+  went_on u v w a b = record {
+    grew = grew_on u.seat v.seat w.seat a.grew b.grew;
+    disks = b.disks ∙ a.disks;
+    plan = λ p.
+        let first = a.plan p in
+        let next = b.plan p in
+        record {
+          most = λ k h. next.most k (first.most k h);
+          calm = λ h. let f = first.calm h in let n = next.calm (first.most 0 h) in (n.0 ∙ f.0, n.1 ∙ f.1);
+        };
+    leads_on = λ t s at.
+        let f = a.leads_on t s at in
+        let n = b.leads_on t f.1 f.4 in
+        (f.0 ++ n.0, n.1, n.2 ∙ ap (λ (xs : List Entry). xs ++ n.0) f.2 ∙ append_assoc u.seat.mine f.0 n.0, path_on m.leads s f.1 n.1 f.0 n.0 f.3 n.3, n.4);
+    grows_on = λ t s at.
+        let there = a.leads_on t s at in
+        let f = a.grows_on t s at in
+        let n = b.grows_on t there.1 there.4 in
+        reached_on m.grown u.node v.node w.node f.0 n.0 f.1 n.1;
+  }
 
-  pub next : Option Copy
-  next = next_for v.bus.base n (v.seen ++ begins.0)
+  -- of the worker, seen by its parts
+  pub went_from : (v : N) (s : Sight) (o : Option NodeFault) (u w : WorkerView N) → record { node = v; seat = s; fault = o } ≡ u → o ≡ None → WentOn m (record { node = v; seat = s; fault = None }) w → WentOn m u w
+  went_from v s o u w is none went = subst (λ x. WentOn m x w) is (subst (λ f. WentOn m (record { node = v; seat = s; fault = f }) w) (sym none) went)
 
-  pub grew : w.mine ≡ v.mine ++ Begin n i ∷ []
-  grew = begins.2
+  -- a seat that only looked
+  pub went_looking : (v : N) (s t : Sight) (o : Option NodeFault) → (t.bus ≡ s.bus) × (t.number ≡ s.number) → Looks s t → WentOn m (record { node = v; seat = s; fault = o }) (record { node = v; seat = t; fault = o })
+  went_looking v s t o kept looks = record {
+    grew = record { bus = kept.0; number = kept.1; seen = looks.0; mine = ([], append-nil s.mine ∙ sym looks.1) };
+    disks = refl;
+    plan = λ p. subst (λ mine. KeepsPlan m.stops_left m.faults m.waits v o s.mine v o mine) (sym looks.1) (record { most = λ k h. h; calm = λ h. (refl, refl) });
+    leads_on = λ tells a at. ([], a, looks.1 ∙ sym (append-nil s.mine), refl, subst (λ mine. StandsAt m.leads m.phase_of m.stands m.number m.spends v o mine a) (sym looks.1) at);
+    grows_on = λ tells a at. (0, refl);
+  }
 
-  pub given : (p : Phase) → p ≡ phase n v.mine → next_input p next tick wants ≡ Some i
-  unfolding next
-  given p is = ap (λ q. next_input q next tick wants) is ∙ begins.3
+  -- there was no memory for a turn
+  pub went_short : (v : N) (s : Sight) → WentOn m (record { node = v; seat = s; fault = None }) (record { node = v; seat = s; fault = Some Memory })
+  went_short v s = record {
+    grew = record { bus = refl; number = refl; seen = ([], append-nil s.seen); mine = ([], append-nil s.mine) };
+    disks = refl;
+    plan = λ p. record { most = λ k h. h; calm = λ h. (refl, refl) };
+    leads_on = λ tells a at. ([], a, sym (append-nil s.mine), refl, record { at = at.at; phased = λ is. absurd (cc is); whole = λ disk place is. absurd (cc is); spent = λ epoch is. absurd (cc is) });
+    grows_on = λ tells a at. (0, refl);
+  }
 
-  pub saw : IsPrefix v.seen w.seen
-  saw = (begins.0 ++ Begin n i ∷ [], sym (begins.1 ∙ append_assoc v.seen begins.0 (Begin n i ∷ [])))
+-- ---- entries
 
-  pub made : IsPrefix v.mine w.mine
-  made = (Begin n i ∷ [], sym grew)
-
-  -- and the turn was closed, or left open
-  pub grew_then : (new : Sight) → (w.bus ≡ v.bus) × (w.number ≡ v.number) → Grew w new → Grew v new
-  grew_then new same next = grew_on v w new (record { bus = same.0; number = same.1; seen = saw; mine = made }) next
-
--- what closes a turn
-pub record Closed (n : ℕ) (v w : Sight) (e : Entry) : Type 0 where
-  pub mine : w.mine ≡ v.mine ++ e ∷ []
-  pub phased : phase n w.mine ≡ phase_after e
-  pub saw : IsPrefix v.seen w.seen
-  pub made : IsPrefix v.mine w.mine
-
-pub adds_closes : (n : ℕ) (v w : Sight) (e : Entry) → node_of e ≡ n → Adds v e w → Closed n v w e
-adds_closes n v w e is adds = record {
-  mine = adds.2;
-  phased = ap (phase n) adds.2 ∙ phase_here v.mine e n is;
-  saw = (adds.0 ++ e ∷ [], sym (adds.1 ∙ append_assoc v.seen adds.0 (e ∷ [])));
-  made = (e ∷ [], sym adds.2);
-}
-
-pub ended_by : (n : ℕ) (v w : Sight) (noted : Option (List ℕ)) (packets : List (ℕ × List ℕ)) → v.number ≡ Some n → IfSome v.number (λ m. (kept : ℕ) × (kept ≤ length packets) × Adds v (End m noted packets kept) w)
-    → (kept : ℕ) × (kept ≤ length packets) × Closed n v w (End n noted packets kept)
-ended_by n v w noted packets is did =
-    let t = subst (λ o. IfSome o (λ m. (kept : ℕ) × (kept ≤ length packets) × Adds v (End m noted packets kept) w)) is did in
-    (t.0, t.1, adds_closes n v w (End n noted packets t.0) refl t.2)
-
-pub not_open : (p q : Phase) → p ≡ q → q ≢ Busy → p ≢ Busy
-not_open p q is ne busy = ne (sym is ∙ busy)
-
--- ---- how many entries are stops
-
-pub counted_more : (es : List Entry) (e : Entry) → stop_count (es ++ e ∷ []) ≡ stop_count es + stop_count (e ∷ [])
+-- how many are stops
+counted_more : (es : List Entry) (e : Entry) → stop_count (es ++ e ∷ []) ≡ stop_count es + stop_count (e ∷ [])
 counted_more es e = ap length (filter-append is_stop es (e ∷ [])) ∙ length-append (filter is_stop es) (filter is_stop (e ∷ []))
 
-pub counted_same : (new old : List Entry) (e : Entry) → new ≡ old ++ e ∷ [] → stop_count (e ∷ []) ≡ 0 → stop_count new ≡ stop_count old
-counted_same new old e is none = let more = ap stop_count is ∙ counted_more old e in omega (arith, more, none)
+any_more : (old : List Entry) (e : Entry) → is_stop e ≡ false → list_any is_stop (old ++ e ∷ []) ≡ list_any is_stop old
+any_more [] e never = ap (λ b. b || false) never
+any_more (x ∷ xs) e never = ap (λ b. is_stop x || b) (any_more xs e never)
 
-pub ended_same : (n : ℕ) (v w : Sight) (noted : Option (List ℕ)) (packets : List (ℕ × List ℕ)) → v.number ≡ Some n → IfSome v.number (λ m. (kept : ℕ) × (kept ≤ length packets) × Adds v (End m noted packets kept) w)
-    → stop_count w.mine ≡ stop_count v.mine
-ended_same n v w noted packets is did = let t = ended_by n v w noted packets is did in counted_same w.mine v.mine (End n noted packets t.0) t.2.mine refl
+-- what a call added with node n's seat
+pub record Added (n : ℕ) (v w : Sight) (e : Entry) : Type 0 where
+  pub grew : Grew v w
+  pub mine : w.mine ≡ v.mine ++ e ∷ []
+  pub phased : phase n w.mine ≡ phase_after e
+  pub stops : stop_count w.mine ≡ stop_count v.mine + stop_count (e ∷ [])
 
-pub stopped_more : (n : ℕ) (v w : Sight) (landed : Option (List ℕ)) → v.number ≡ Some n → IfSome v.number (λ m. Adds v (Stop m landed) w) → stop_count w.mine ≡ stop_count v.mine + 1
-stopped_more n v w landed is did =
-    let t = subst (λ o. IfSome o (λ m. Adds v (Stop m landed) w)) is did in
-    ap stop_count t.2 ∙ counted_more v.mine (Stop n landed)
+pub added : (n : ℕ) (v w : Sight) (e : Entry) → node_of e ≡ n → (w.bus ≡ v.bus) × (w.number ≡ v.number) → Adds v e w → Added n v w e
+added n v w e is kept adds = record {
+  grew = record { bus = kept.0; number = kept.1; seen = (adds.0 ++ e ∷ [], sym (adds.1 ∙ append_assoc v.seen adds.0 (e ∷ []))); mine = (e ∷ [], sym adds.2) };
+  mine = adds.2;
+  phased = ap (phase n) adds.2 ∙ phase_here v.mine e n is;
+  stops = ap stop_count adds.2 ∙ counted_more v.mine e;
+}
 
--- ---- what is told of a fault
+pub ended : (n : ℕ) (v w : Sight) (noted : Option (List ℕ)) (packets : List (ℕ × List ℕ)) → v.number ≡ Some n → (w.bus ≡ v.bus) × (w.number ≡ v.number) → IfSome v.number (λ k. (kept : ℕ) × (kept ≤ length packets) × Adds v (End k noted packets kept) w)
+    → (kept : ℕ) × (kept ≤ length packets) × Added n v w (End n noted packets kept)
+ended n v w noted packets whose same did =
+    let t = subst (λ o. IfSome o (λ k. (kept : ℕ) × (kept ≤ length packets) × Adds v (End k noted packets kept) w)) whose did in
+    (t.0, t.1, added n v w (End n noted packets t.0) refl same t.2)
 
-pub told_same : (f h : NodeFault) → Some f ≡ Some h → f ≡ h
-told_same f h e = cc
+pub stopped : (n : ℕ) (v w : Sight) (landed : Option (List ℕ)) → v.number ≡ Some n → (w.bus ≡ v.bus) × (w.number ≡ v.number) → IfSome v.number (λ k. Adds v (Stop k landed) w) → Added n v w (Stop n landed)
+stopped n v w landed whose same did = added n v w (Stop n landed) refl same (subst (λ o. IfSome o (λ k. Adds v (Stop k landed) w)) whose did)
 
--- nothing is told
-pub no_fault : (o : Option NodeFault) (f : NodeFault) → o ≡ None → o ≢ Some f
-no_fault o f none is = absurd (cc (sym none ∙ is))
+-- the turn that it opened of node n
+pub record Opened (n : ℕ) (wants tick : Bool) (v w : Sight) (i : Input) : Type 0 where
+  pub next : Option Copy
+  pub given : next_input (phase n v.mine) next tick wants ≡ Some i
+  pub begun : Added n v w (Begin n i)
 
--- a node that stopped too often is told as stopped
-pub too_often_told : (b : Bool) (o : Option NodeFault) (f : NodeFault) → o ≡ (if b then None else Some Stopped) → f ≢ Stopped → o ≢ Some f
-too_often_told true o f told other is = absurd (cc (sym told ∙ is))
-too_often_told false o f told other is = other (sym (told_same Stopped f (sym told ∙ is)))
-
-pub whole_told : (fault : NodeFault) (disk : DiskName) (place : ℕ) → IsWhole fault → Some fault ≢ Some (Damaged disk place)
-whole_told fault disk place whole is = subst IsWhole (told_same fault (Damaged disk place) is) whole
+pub opened : (n : ℕ) (wants tick : Bool) (v w : Sight) (o : Option Input) (i : Input) → v.number ≡ Some n → o ≡ Some i → (w.bus ≡ v.bus) × (w.number ≡ v.number) → IfSome v.number (λ k. Begins k wants tick v o w) → Opened n wants tick v w i
+opened n wants tick v w o i whose is kept did =
+    let b : Begins n wants tick v (Some i) w = subst (λ k. IfSome k (λ j. Begins j wants tick v (Some i) w)) whose (subst (λ x. IfSome v.number (λ k. Begins k wants tick v x w)) is did) in
+    record { next = next_for v.bus.base n (v.seen ++ b.0); given = b.3; begun = added n v w (Begin n i) refl kept (b.0, b.1, b.2) }
 
 -- ---- what was met
 
-any_before : (old : List Entry) (e : Entry) → is_stop e ≡ false → list_any is_stop (old ++ e ∷ []) ≡ list_any is_stop old
-any_before [] e never = ap (λ b. b || false) never
-any_before (x ∷ xs) e never = ap (λ b. is_stop x || b) (any_before xs e never)
-
 -- an entry that is no stop changes nothing
-pub met_begun : {N : Type 0} (faults : N → ℕ) (v : N) (o : Option NodeFault) (old new : List Entry) (e : Entry) → new ≡ old ++ e ∷ [] → is_stop e ≡ false → HasMet faults v o old → HasMet faults v None new
-met_begun faults v o old new e is never met = record {
-  stops = λ has. met.stops (sym (ap (list_any is_stop) is ∙ any_before old e never) ∙ has);
+pub met_more : {N : Type 0} (faults : N → ℕ) (v w : N) (o : Option NodeFault) (old new : List Entry) (e : Entry) → new ≡ old ++ e ∷ [] → is_stop e ≡ false → faults v ≤ faults w → HasMet faults v o old → HasMet faults w None new
+met_more faults v w o old new e is never more met = record {
+  stops = λ has. let before = met.stops (sym (ap (list_any is_stop) is ∙ any_more old e never) ∙ has) in omega (arith, before, more);
   ended = λ told. absurd (cc told);
 }
 
@@ -194,73 +159,132 @@ eighth n o told = last_stop (nat_lt n 8) n o refl told
 
 -- ---- planned stops
 
-module _ {N : Type 0} (stops_left : N → ℕ → Type 0) (faults : N → ℕ) (waits : N → Bool) where
-  abbrev Plan : N → Option NodeFault → List Entry → N → Option NodeFault → List Entry → Type 0
-  Plan = KeepsPlan stops_left faults waits
+module _ {N : Type 0} (m : Ghosts N) (v : N) (x : List Entry) where
+  abbrev Plan : N → Option NodeFault → List Entry → Type 0
+  Plan = KeepsPlan m.stops_left m.faults m.waits v None x
 
   abbrev Meets : Bool → N → N → Type 0
-  Meets met v w = MeetsStops met (stops_left v) (stops_left w) (faults v) (faults w)
-
-  pub plan_on : (u v w : N) (a b c : Option NodeFault) (x y z : List Entry) → Plan u a x v b y → Plan v b y w c z → Plan u a x w c z
-  plan_on u v w a b c x y z first next = record {
-    most = λ k h. next.most k (first.most k h);
-    calm = λ h. let f = first.calm h in let n = next.calm (first.most 0 h) in (n.0 ∙ f.0, n.1 ∙ f.1);
-  }
-
-  -- of entries with as many stops
-  pub plan_by : (v w : N) (a b c d : Option NodeFault) (x y z t : List Entry) → stop_count z + open_stops c ≡ stop_count x + open_stops a → stop_count t + open_stops d ≡ stop_count y + open_stops b → Plan v a x w b y → Plan v c z w d t
-  plan_by v w a b c d x y z t from to plan = record {
-    most = λ k h. let n = plan.most k (h.0, h.1, omega (arith, h.2, from)) in (n.0, n.1, omega (arith, n.2, to));
-    calm = λ h. plan.calm (h.0, h.1, omega (arith, h.2, from));
-  }
-
-  -- a node that took no turn
-  pub plan_same : (v : N) (a b : Option NodeFault) (x y : List Entry) → stop_count y + open_stops b ≡ stop_count x + open_stops a → Plan v a x v b y
-  plan_same v a b x y same = record { most = λ k h. (h.0, h.1, omega (arith, h.2, same)); calm = λ h. (refl, refl) }
+  Meets met u w = MeetsStops met (m.stops_left u) (m.stops_left w) (m.faults u) (m.faults w)
 
   -- a turn that wasn't stopped
-  pub plan_done : (v w : N) (o : Option NodeFault) (x y : List Entry) → stop_count y + open_stops o ≡ stop_count x → waits w ≡ waits v → Meets false v w → Plan v None x w o y
-  plan_done v w o x y same up met = record {
+  pub plan_done : (w : N) (o : Option NodeFault) (y : List Entry) → stop_count y + open_stops o ≡ stop_count x → m.waits w ≡ m.waits v → Meets false v w → Plan w o y
+  plan_done w o y same up met = record {
     most = λ k h. (h.0, met.0 h.0 h.1, omega (arith, h.2, same));
     calm = λ h. (met.1, up);
   }
 
-  pub was_met : (f : NodeFault) (v u : N) → f ≡ Stopped → Meets (was_stopped {T = Done} (Err f)) v u → Meets true v u
-  was_met f v u is met = subst (λ x. Meets (was_stopped {T = Done} (Err x)) v u) is met
-
   -- one that was, be it closed by a stop or not
-  pub plan_stopped : (v u w : N) (o : Option NodeFault) (x y : List Entry) → stop_count y + open_stops o ≤ stop_count x + 1 → Meets true v u → Meets false u w → Plan v None x w o y
-  plan_stopped v u w o x y more met back = record {
+  pub plan_stopped : (u w : N) (o : Option NodeFault) (y : List Entry) → stop_count y + open_stops o ≤ stop_count x + 1 → Meets true v u → Meets false u w → Plan w o y
+  plan_stopped u w o y more met back = record {
     most = λ k h. let s = met h.0 h.1 in (s.0, back.0 s.0 s.2, omega (arith, h.2, s.1, more));
     calm = λ h. let s = met h.0 h.1 in absurd (omega (arith, h.2, s.1));
   }
 
   -- one that was, and its node isn't up again
-  pub plan_shut : (v u w : N) (f : NodeFault) (x : List Entry) → Meets true v u → Meets (was_shut_out {T = Option (List ℕ)} (Err f)) u w → Plan v None x w (Some f) x
-  plan_shut v u w (Disk disk) x met back = record {
+  pub plan_shut : (u w : N) (f : NodeFault) → Meets true v u → Meets (was_shut_out {T = Option (List ℕ)} (Err f)) u w → Plan w (Some f) x
+  plan_shut u w (Disk disk) met back = record {
     most = λ k h. let s = met h.0 h.1 in let t = back s.0 s.2 in (t.0, t.2, omega (arith, h.2, s.1, t.1));
     calm = λ h. let s = met h.0 h.1 in absurd (omega (arith, h.2, s.1));
   }
-  plan_shut v u w Stopped x met back = plan_stopped v u w (Some Stopped) x x (omega arith) met back
-  plan_shut v u w (Damaged disk at) x met back = plan_stopped v u w (Some (Damaged disk at)) x x (omega arith) met back
-  plan_shut v u w Read x met back = plan_stopped v u w (Some Read) x x (omega arith) met back
-  plan_shut v u w (Spent epoch) x met back = plan_stopped v u w (Some (Spent epoch)) x x (omega arith) met back
-  plan_shut v u w Memory x met back = plan_stopped v u w (Some Memory) x x (omega arith) met back
+  plan_shut u w Stopped met back = plan_stopped u w (Some Stopped) x (omega arith) met back
+  plan_shut u w (Damaged disk at) met back = plan_stopped u w (Some (Damaged disk at)) x (omega arith) met back
+  plan_shut u w Read met back = plan_stopped u w (Some Read) x (omega arith) met back
+  plan_shut u w (Spent epoch) met back = plan_stopped u w (Some (Spent epoch)) x (omega arith) met back
+  plan_shut u w Memory met back = plan_stopped u w (Some Memory) x (omega arith) met back
 
-  -- where its fault is handed on
-  pub plan_handed : {T : Type 0} (v w : N) (f : NodeFault) (x : List Entry) (r : Result T NodeFault) → IsErrAnd r (λ e. e ≡ f) → Plan v None x w (Some f) x → Plan v None x w (told r) x
-  plan_handed v w f x (Ok y) is plan = absurd is
-  plan_handed v w f x (Err e) is plan = subst (λ g. Plan v None x w (Some g) x) (sym is) plan
+  pub was_met : (u : N) (f : NodeFault) → f ≡ Stopped → Meets (was_stopped {T = Done} (Err f)) v u → Meets true v u
+  was_met u f is met = subst (λ g. Meets (was_stopped {T = Done} (Err g)) v u) is met
 
-  -- of the same worker, seen by its parts
-  pub plan_from : (v u : WorkerView N) (w : N) (after : Option NodeFault) (new : List Entry) → v ≡ u → Plan v.node v.fault v.seat.mine w after new → Plan u.node u.fault u.seat.mine w after new
-  plan_from v u w after new is plan = subst (λ (x : WorkerView N). Plan x.node x.fault x.seat.mine w after new) is plan
+  -- one that is open still
+  pub plan_left : (w : N) (f : NodeFault) → f ≢ Stopped → IsOfTurn f → m.waits v ≡ false → m.waits w ≡ was_stopped {T = Done} (Err f) → Meets (was_stopped {T = Done} (Err f)) v w → Plan w (Some f) x
+  plan_left w Stopped other kind up waits met = absurd (other refl)
+  plan_left w (Disk disk) other kind up waits met = absurd kind
+  plan_left w (Damaged disk at) other kind up waits met = absurd kind
+  plan_left w Read other kind up waits met = plan_done w (Some Read) x (omega arith) (waits ∙ sym up) met
+  plan_left w (Spent epoch) other kind up waits met = plan_done w (Some (Spent epoch)) x (omega arith) (waits ∙ sym up) met
+  plan_left w Memory other kind up waits met = plan_done w (Some Memory) x (omega arith) (waits ∙ sym up) met
 
-  -- behind an entry that opened it
-  pub plan_begun : (v w : N) (a b : Option NodeFault) (x y z : List Entry) → a ≡ None → stop_count y ≡ stop_count x → Plan v None y w b z → Plan v a x w b z
-  plan_begun v w a b x y z none same plan = subst (λ o. Plan v o x w b z) (sym none) (plan_by v w None b None b y z x z (omega (arith, same)) refl plan)
+-- ---- a turn
 
-  -- the node may be told as stopped behind its last stop
-  pub plan_told : (b : Bool) (v w : N) (o : Option NodeFault) (x y : List Entry) → o ≡ (if b then None else Some Stopped) → Plan v None x w None y → Plan v None x w o y
-  plan_told true v w o x y is plan = subst (λ t. Plan v None x w t y) (sym is) plan
-  plan_told false v w o x y is plan = subst (λ t. Plan v None x w t y) (sym is) (plan_by v w None None None (Some Stopped) x y x y refl refl plan)
+pub told_same : (f h : NodeFault) → Some f ≡ Some h → f ≡ h
+told_same f h e = cc
+
+-- a node that stopped too often is told as stopped
+pub too_often_told : (b : Bool) (o : Option NodeFault) (f : NodeFault) → o ≡ (if b then None else Some Stopped) → f ≢ Stopped → o ≢ Some f
+too_often_told true o f told other is = absurd (cc (sym told ∙ is))
+too_often_told false o f told other is = other (sym (told_same Stopped f (sym told ∙ is)))
+
+module _ {N : Type 0} (m : Ghosts N) (v : N) (s0 s1 : Sight) (i : Input) (wants tick : Bool) (begins : Opened (m.number v) wants tick s0 s1 i) (closed : phase (m.number v) s0.mine ≢ Busy) where
+  abbrev Keeps : N → Option NodeFault → List Entry → Type 0
+  Keeps = KeepsPlan m.stops_left m.faults m.waits v None s1.mine
+
+  abbrev Grown : N → Type 0
+  Grown w = IsTrue m.tells → (s t : m.State) → m.stands v s → m.leads s (Begin (m.number v) i) t → (k : ℕ) × Reached m.grown k v w
+
+  pub turned : (w : N) (s2 : Sight) (o : Option NodeFault) → Grew s1 s2 → m.disk_count w ≡ m.disk_count v → (IsTrue m.planned → Keeps w o s2.mine)
+      → (IsTrue m.tells → (s t : m.State) → m.stands v s → m.leads s (Begin (m.number v) i) t → (es : List Entry) × (u : m.State) × (s2.mine ≡ s1.mine ++ es) × Path m.leads t es u × StandsAt m.leads m.phase_of m.stands m.number m.spends w o s2.mine u)
+      → Grown w → WentOn m (record { node = v; seat = s0; fault = None }) (record { node = w; seat = s2; fault = o })
+  turned w s2 o grew disks plan led grown = record {
+    grew = grew_on s0 s1 s2 begins.begun.grew grew;
+    disks = disks;
+    plan = λ p. let kept = plan p in let same : stop_count s1.mine ≡ stop_count s0.mine + 0 = begins.begun.stops in record {
+      most = λ k h. kept.most k (h.0, h.1, omega (arith, h.2, same));
+      calm = λ h. kept.calm (h.0, h.1, omega (arith, h.2, same));
+    };
+    leads_on = λ tells s at.
+        let t = first s at in
+        let l = led tells s t.0 at.at t.1 in
+        (Begin (m.number v) i ∷ l.0, l.1, l.2 ∙ ap (λ (xs : List Entry). xs ++ l.0) begins.begun.mine ∙ append_assoc s0.mine (Begin (m.number v) i ∷ []) l.0, (t.0, t.1, l.3), l.4);
+    grows_on = λ tells s at. let t = first s at in grown tells s t.0 at.at t.1;
+  }
+    where
+      first : (s : m.State) → StandsAt m.leads m.phase_of m.stands m.number m.spends v None s0.mine s → (t : m.State) × m.leads s (Begin (m.number v) i) t
+      first s at =
+          let phased = at.phased refl in
+          m.begins s (m.number v) begins.next tick wants i (λ busy. closed (sym phased ∙ busy)) (ap (λ q. next_input q begins.next tick wants) phased ∙ begins.given)
+
+  -- that was closed, by the last of its stops or another entry
+  pub turn_closed : (w : N) (s2 : Sight) (e : Entry) (b : Bool) (o : Option NodeFault) → o ≡ (if b then None else Some Stopped) → m.number w ≡ m.number v → Added (m.number v) s1 s2 e → m.disk_count w ≡ m.disk_count v → (IsTrue m.planned → Keeps w None s2.mine)
+      → (IsTrue m.tells → (s t : m.State) → m.stands v s → m.leads s (Begin (m.number v) i) t → (u : m.State) × m.leads t e u × m.stands w u)
+      → Grown w → WentOn m (record { node = v; seat = s0; fault = None }) (record { node = w; seat = s2; fault = o })
+  turn_closed w s2 e b o told number end disks plan led grown =
+      turned w s2 o end.grew disks (λ p. plan_told b told (plan p))
+      (λ tells s t at begun. let u = led tells s t at begun in (
+        e ∷ [],
+        u.0,
+        end.mine,
+        (u.0, u.1, refl),
+        record {
+          at = u.2;
+          phased = λ none. m.phases t u.0 e u.1 ∙ sym end.phased ∙ ap (λ k. phase k s2.mine) (sym number);
+          whole = λ disk place. too_often_told b o (Damaged disk place) told (λ is. absurd (cc is));
+          spent = λ epoch is. absurd (too_often_told b o (Spent epoch) told (λ same. absurd (cc same)) is);
+        },
+      ))
+      grown
+    where
+      plan_told : (b : Bool) → o ≡ (if b then None else Some Stopped) → Keeps w None s2.mine → Keeps w o s2.mine
+      plan_told true is kept = subst (λ x. Keeps w x s2.mine) (sym is) kept
+      plan_told false is kept = subst (λ x. Keeps w x s2.mine) (sym is) (record { most = λ k h. kept.most k h; calm = λ h. kept.calm h })
+
+  -- that is open still
+  pub turn_left : (w : N) (f : NodeFault) → m.number w ≡ m.number v → m.disk_count w ≡ m.disk_count v → (IsTrue m.planned → Keeps w (Some f) s1.mine)
+      → (IsTrue m.tells → (s t : m.State) → m.stands v s → m.leads s (Begin (m.number v) i) t → m.stands w t)
+      → (IsTrue m.tells → (s t : m.State) → m.stands v s → m.leads s (Begin (m.number v) i) t → (disk : DiskName) (place : ℕ) → f ≢ Damaged disk place)
+      → ((s : m.State) → m.stands v s → (epoch : ℕ) → f ≡ Spent epoch → m.spends s i ≡ Some epoch)
+      → Grown w → WentOn m (record { node = v; seat = s0; fault = None }) (record { node = w; seat = s1; fault = Some f })
+  turn_left w f number disks plan stands whole spent grown =
+      turned w s1 (Some f) (record { bus = refl; number = refl; seen = ([], append-nil s1.seen); mine = ([], append-nil s1.mine) }) disks plan
+      (λ tells s t at begun. (
+        [],
+        t,
+        sym (append-nil s1.mine),
+        refl,
+        record {
+          at = stands tells s t at begun;
+          phased = λ none. absurd (cc none);
+          whole = λ disk place is. whole tells s t at begun disk place (told_same f (Damaged disk place) is);
+          spent = λ epoch is. (s, i, subst (λ (k : ℕ). m.leads s (Begin k i) t) (sym number) begun, spent s at epoch (told_same f (Spent epoch) is));
+        },
+      ))
+      grown

@@ -8,16 +8,17 @@ use Rattle.air_bus.specs.declared.entry.Phase.TheVariants.{Idle}
 use Rattle.air_bus.specs.History.{phase}
 use Rattle.bus_seat.specs.Views.{made_by}
 use Rattle.site_node.specs.declared.kind.NodeFault.{NodeFault}
+use Rattle.site_node.specs.declared.kind.SiteNode.{Ghosts}
 use Rattle.site_workers.specs.Works.{WorkerView, LeadsOn, GrowsOn, IsCaused, KeepsPlan, Grew}
 
-module _ {N S : Type 0} (tells : Bool) (leads : S → Entry → S → Type 0) (phase_of : S → Phase) (stands : N → S → Type 0) (number : N → ℕ) (spends : S → Input → Option ℕ) (grown : N → N → Type 0) (disk_count : N → ℕ) (planned : Bool) (stops_left : N → ℕ → Type 0) (faults : N → ℕ) (waits : N → Bool) where
+module _ {N : Type 0} (m : Ghosts N) where
   -- the worker's entries have led its node on, which has as many disks as it had and keeps to their plan
   pub record WentOn (v w : WorkerView N) : Type 0 where
     pub grew : Grew v.seat w.seat
-    pub disks : disk_count w.node ≡ disk_count v.node
-    pub plan : IsTrue planned → KeepsPlan stops_left faults waits v.node v.fault v.seat.mine w.node w.fault w.seat.mine
-    pub leads_on : IsTrue tells → LeadsOn leads phase_of stands number spends v.node v.fault v.seat.mine w.node w.fault w.seat.mine
-    pub grows_on : IsTrue tells → GrowsOn leads phase_of stands number spends grown v.node v.fault v.seat.mine w.node
+    pub disks : m.disk_count w.node ≡ m.disk_count v.node
+    pub plan : IsTrue m.planned → KeepsPlan m.stops_left m.faults m.waits v.node v.fault v.seat.mine w.node w.fault w.seat.mine
+    pub leads_on : IsTrue m.tells → LeadsOn m.leads m.phase_of m.stands m.number m.spends v.node v.fault v.seat.mine w.node w.fault w.seat.mine
+    pub grows_on : IsTrue m.tells → GrowsOn m.leads m.phase_of m.stands m.number m.spends m.grown v.node v.fault v.seat.mine w.node
 
   -- each worker has
   pub record AllWentOn (vs ws : List (WorkerView N)) : Type 0 where

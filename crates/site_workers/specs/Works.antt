@@ -1,5 +1,5 @@
 -- What a worker does, by the entries that it adds.
-use Rattle.std.specs.Prelude.{◌≡◌, ◌≢◌, ℕ, zero, suc, ◌+◌, ◌≤◌, Bool, true, false, List, [], ◌∷◌, ◌++◌, length, filter, Option, None, Some, Result, Ok, Err}
+use Rattle.std.specs.Prelude.{◌≡◌, ◌≢◌, ℕ, zero, suc, ◌+◌, ◌≤◌, Bool, true, false, List, [], ◌∷◌, ◌++◌, length, filter, Option, None, Some}
 use Rattle.std.specs.List.{list_any}
 use mathlib.Core.List.{IsPrefix}
 use Rattle.outside.specs.declared.store.DiskName.{DiskName}
@@ -29,11 +29,6 @@ pub record IsCaused {N : Type 0} (faults log_faults : N → ℕ) (node : N) (fau
   pub stopped : fault ≡ Some Stopped → 1 ≤ faults node
   pub disk : (disk : DiskName) → fault ≡ Some (Disk disk) → 1 ≤ faults node
   pub read : fault ≡ Some Read → 1 ≤ log_faults node
-
--- the fault that is told, if one is
-abbrev pub told : {T : Type 0} → Result T NodeFault → Option NodeFault
-told (Ok x) = None
-told (Err f) = Some f
 
 -- the node went down within its turn
 abbrev pub is_stop : Entry → Bool
@@ -96,10 +91,6 @@ module _ {N S : Type 0} (leads : S → Entry → S → Type 0) (phase_of : S →
   -- wherever the node stood, its disks went on from where they were, step by step
   abbrev pub GrowsOn : (N → N → Type 0) → N → Option NodeFault → List Entry → N → Type 0
   GrowsOn grown v before old w = (s : S) → StandsAt v before old s → (k : ℕ) × Reached grown k v w
-
-  -- the turn that the node has opened is closed by an entry, which leads on
-  abbrev pub Closes : N → S → List Entry → List Entry → Type 0
-  Closes node t old new = (e : Entry) × (u : S) × (new ≡ old ++ e ∷ []) × (phase_of u ≡ phase (number node) new) × leads t e u × stands node u
 
 -- the seat is the same, and has seen and made no less
 pub record Grew (v w : Sight) : Type 0 where

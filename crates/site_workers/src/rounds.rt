@@ -1,9 +1,9 @@
 // Rounds of workers over one bus, a thread each.
-ghost use Rattle.std.specs.Prelude.{◌≡◌, ◌≢◌, ◌<◌, ◌≤◌, ◌+◌, ◌^◌, ℕ, true, false, None, Some, [], ◌∷◌, ◌++◌, map, length, slice_index_or, vec_capacity, vec_len, IsTrue, IfOk, IfErr};
+ghost use Rattle.std.specs.Prelude.{◌≡◌, ◌<◌, ◌≤◌, ◌+◌, ◌^◌, ℕ, true, false, None, Some, [], ◌∷◌, ◌++◌, map, length, slice_index_or, vec_capacity, vec_len, IsTrue, IfOk, IfErr};
 ghost use Rattle.std.specs.List.{All};
-ghost use Rattle.bus_seat.specs.Views.{count, made_by};
+ghost use Rattle.bus_seat.specs.Views.{made_by};
 ghost use Rattle.air_bus.specs.Waiting.{is_dead};
-ghost use Rattle.bus_seat.specs.Seats.{fresh, fresh_to, fresh_seats, TakesPart};
+ghost use Rattle.bus_seat.specs.Seats.{fresh, fresh_seats, TakesPart};
 ghost use Rattle.site_workers.specs.Heard.{IsHeard};
 ghost use Rattle.site_workers.specs.Works.{WorkerView, HasMet, KeepsPlan};
 ghost use Rattle.site_workers.specs.Rounds.{WentOn, AllWentOn, Walked, WentFar, Rests, AreCaused, OneHasFault, HasFault};
@@ -85,10 +85,30 @@ pub fn run<R: Threads + Wait + Sync, N: SiteNode + Send + Drop, G: Gate>(
         Rests N.number N.stands N.at_rest_as (slice_index_or r.nodes.items i b) (made_by i r.air.history)) }
     ensures back { IfErr result (λ e. e.1 ≡ nodes) }
 {
-    match set_up(alloc, kinds, plan, is_recorded) {
-        Ok((bus, seats, room)) => Ok(run_on(rt, bus, seats, room, nodes, gate)),
-        Err(error) => Err((error, nodes)),
-    }
+    let (bus, mut seats, room) = match set_up(alloc, kinds, plan, is_recorded) {
+        Ok(made) => made,
+        Err(error) => return Err((error, nodes)),
+    };
+    let Room {
+        workers,
+        seats: mut ended,
+        nodes: mut left,
+        seen,
+    } = room;
+    let Some(mut last) = seats.pop() else {
+        unreachable!()
+    };
+    let mut workers = hire(nodes, seats, workers);
+    let rest = rounds(rt, &bus, &mut last, gate, workers.as_mut_slice());
+    dismiss(workers, &mut ended, &mut left);
+    ended.push_reserved(last);
+    let (air, seen) = bus.close(ended, seen);
+    Ok(Ran {
+        air,
+        seen,
+        nodes: left,
+        rest,
+    })
 }
 
 // The bus, its seats, and the room for the lists.
@@ -120,62 +140,6 @@ fn set_up<N: SiteNode + Drop>(
     };
     let (bus, seats) = Bus::new(alloc, air)?;
     Ok((bus, seats, room))
-}
-
-// Runs the nodes on the bus, and ends it.
-fn run_on<R: Threads + Wait + Sync, N: SiteNode + Send + Drop, G: Gate>(
-    rt: &R,
-    bus: Bus,
-    seats: Vec<Seat>,
-    room: Room<N>,
-    nodes: Vec<N>,
-    gate: &G,
-) -> Ran<N>
-    requires seats { seats.items ≡ fresh_seats bus }
-    requires count { length nodes.items ≡ count bus.base }
-    requires numbers { (i : ℕ) (d : N) → i < length nodes.items → N.number (slice_index_or nodes.items i d) ≡ i }
-    requires up { All (λ n. N.waits n ≡ false) nodes.items }
-    requires few { count bus.base < 2 ^ 16 }
-    requires workers { (room.workers.items ≡ []) × (count bus.base ≤ vec_capacity room.workers) }
-    requires ended { (room.seats.items ≡ []) × (count bus.base + 1 ≤ vec_capacity room.seats) }
-    requires left { (room.nodes.items ≡ []) × (count bus.base ≤ vec_capacity room.nodes) }
-    requires seen { (room.seen.items ≡ []) × (count bus.base + 1 ≤ vec_capacity room.seen) }
-    ensures heard { IsHeard bus.base.plan bus.base.kinds result.air result.seen.items }
-    ensures count { length result.nodes.items ≡ length nodes.items }
-    ensures walked { IsTrue N.tells → (i : ℕ) (a : N) (b : _) → i < length nodes.items →
-        Walked N.leads N.phase_of N.stands N.number N.spends (slice_index_or nodes.items i a) (slice_index_or result.nodes.items i b) i result.air.history }
-    ensures grown { IsTrue N.tells → (i : ℕ) (a : N) (b : _) → i < length nodes.items →
-        WentFar N.leads N.phase_of N.stands N.number N.spends N.grown (slice_index_or nodes.items i a) (slice_index_or result.nodes.items i b) }
-    ensures disks { (i : ℕ) (a : N) (b : _) → i < length nodes.items → N.disk_count (slice_index_or result.nodes.items i b).0 ≡ N.disk_count (slice_index_or nodes.items i a) }
-    ensures plan { IsTrue N.planned → (i : ℕ) (a : N) (b : _) → i < length nodes.items →
-        KeepsPlan N.stops_left N.faults N.waits (slice_index_or nodes.items i a) None [] (slice_index_or result.nodes.items i b).0 (slice_index_or result.nodes.items i b).1 (made_by i result.air.history) }
-    ensures fault { result.rest ≡ false → HasFault result.nodes.items }
-    ensures caused { AreCaused N.faults N.log_faults result.nodes.items }
-    ensures met { (i : ℕ) (b : _) → i < length nodes.items → HasMet N.faults (slice_index_or result.nodes.items i b).0 (slice_index_or result.nodes.items i b).1 (made_by i result.air.history) }
-    ensures rest { IsTrue result.rest → (i : ℕ) (b : _) → i < length nodes.items → is_dead bus.base.plan.dead bus.base.kinds i ≡ false →
-        Rests N.number N.stands N.at_rest_as (slice_index_or result.nodes.items i b) (made_by i result.air.history) }
-{
-    let Room {
-        workers,
-        seats: mut ended,
-        nodes: mut left,
-        seen,
-    } = room;
-    let mut seats = seats;
-    let Some(mut last) = seats.pop() else {
-        unreachable!()
-    };
-    let workers = hire(nodes, seats, workers);
-    let (workers, rest) = rounds_of(rt, &bus, &mut last, gate, workers);
-    dismiss(workers, &mut ended, &mut left);
-    ended.push_reserved(last);
-    let (air, seen) = bus.close(ended, seen);
-    Ran {
-        air,
-        seen,
-        nodes: left,
-        rest,
-    }
 }
 
 // A worker for each node, with its seat.
@@ -241,25 +205,8 @@ fn dismiss_one<N: SiteNode + Drop>(
     nodes.push_reserved((node, fault));
 }
 
-// Rounds until all are at rest, which it tells, or one has a fault.
-fn rounds_of<R: Threads + Wait + Sync, N: SiteNode + Send + Drop, G: Gate>(
-    rt: &R,
-    bus: &Bus,
-    last: &mut Seat,
-    gate: &G,
-    mut workers: Vec<Worker<N>>,
-) -> (Vec<Worker<N>>, bool)
-    requires buses { All (λ (w : WorkerView N). w.seat.bus ≡ bus.now) workers.items }
-    requires last { last.old.bus ≡ bus.now }
-    ensures last { (last.new.bus ≡ last.old.bus) × (last.new.number ≡ last.old.number) }
-    ensures went { AllWentOn N.tells N.leads N.phase_of N.stands N.number N.spends N.grown N.disk_count N.planned N.stops_left N.faults N.waits workers.items result.0.items }
-    ensures rest { IsTrue result.1 → All (λ (w : WorkerView N). TakesPart w.seat → Rests N.number N.stands N.at_rest_as (w.node, w.fault) w.seat.mine) result.0.items }
-    ensures fault { result.1 ≡ false → OneHasFault result.0.items }
-{
-    let rest = rounds(rt, bus, last, gate, workers.as_mut_slice());
-    (workers, rest)
-}
-
+// Rounds until all are at rest, which it tells, or one has a fault. In a round all workers take turns at the same time, a thread each,
+// and one with a fault ends the round for all.
 fn rounds<R: Threads + Wait + Sync, N: SiteNode + Send, G: Gate>(
     rt: &R,
     bus: &Bus,
@@ -270,13 +217,34 @@ fn rounds<R: Threads + Wait + Sync, N: SiteNode + Send, G: Gate>(
     requires buses { All (λ (w : WorkerView N). w.seat.bus ≡ bus.now) workers.old }
     requires last { last.old.bus ≡ bus.now }
     ensures last { (last.new.bus ≡ last.old.bus) × (last.new.number ≡ last.old.number) }
-    ensures went { AllWentOn N.tells N.leads N.phase_of N.stands N.number N.spends N.grown N.disk_count N.planned N.stops_left N.faults N.waits workers.old workers.new }
+    ensures went { AllWentOn N.SiteNode workers.old workers.new }
     ensures rest { IsTrue result → All (λ (w : WorkerView N). TakesPart w.seat → Rests N.number N.stands N.at_rest_as (w.node, w.fault) w.seat.mine) workers.new }
     ensures fault { result ≡ false → OneHasFault workers.new }
 {
+    let threads = workers.len().max(1);
     let mut tick = false;
     for _ in rt.forever() {
-        round(rt, bus, gate, workers, tick);
+        bus.round().open();
+        thread::for_each_mut(
+            rt,
+            workers,
+            threads,
+            &|_, one: &mut Worker<N>|
+                requires { one.old.seat.bus ≡ bus.now }
+                ensures { WentOn N.SiteNode one.old one.new }
+            {
+                bus.round().enter();
+                one.ask_tick(tick);
+                for _ in rt.forever() {
+                    if !one.step(rt, bus, gate) {
+                        break;
+                    }
+                }
+                if one.fault().is_some() {
+                    bus.round().close();
+                }
+            },
+        );
         if has_fault(workers) {
             return false;
         }
@@ -286,51 +254,6 @@ fn rounds<R: Threads + Wait + Sync, N: SiteNode + Send, G: Gate>(
         }
     }
     unreachable!()
-}
-
-// All workers take turns at the same time, a thread each.
-fn round<R: Threads + Wait + Sync, N: SiteNode + Send, G: Gate>(
-    rt: &R,
-    bus: &Bus,
-    gate: &G,
-    workers: &mut [Worker<N>],
-    tick: bool,
-)
-    requires { All (λ (w : WorkerView N). w.seat.bus ≡ bus.now) workers.old }
-    ensures { AllWentOn N.tells N.leads N.phase_of N.stands N.number N.spends N.grown N.disk_count N.planned N.stops_left N.faults N.waits workers.old workers.new }
-{
-    let threads = workers.len().max(1);
-    bus.round().open();
-    thread::for_each_mut(
-        rt,
-        workers,
-        threads,
-        &|_, worker: &mut Worker<N>|
-            requires { worker.old.seat.bus ≡ bus.now }
-            ensures { WentOn N.tells N.leads N.phase_of N.stands N.number N.spends N.grown N.disk_count N.planned N.stops_left N.faults N.waits worker.old worker.new }
-        { take_part(rt, bus, gate, worker, tick) },
-    );
-}
-
-// One worker's part of a round. With a fault it ends the round for all.
-fn take_part<R: Wait, N: SiteNode, G: Gate>(
-    rt: &R,
-    bus: &Bus,
-    gate: &G,
-    worker: &mut Worker<N>,
-    tick: bool,
-)
-    requires { worker.old.seat.bus ≡ bus.now }
-    ensures { WentOn N.tells N.leads N.phase_of N.stands N.number N.spends N.grown N.disk_count N.planned N.stops_left N.faults N.waits worker.old worker.new }
-{
-    bus.round().enter();
-    if tick {
-        worker.ask_tick();
-    }
-    worker.work(rt, bus, gate);
-    if worker.fault().is_some() {
-        bus.round().close();
-    }
 }
 
 // Whether a worker has a fault.

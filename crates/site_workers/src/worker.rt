@@ -1,12 +1,10 @@
 // A node with its seat.
-ghost use Rattle.std.specs.Prelude.{◌≡◌, ◌≢◌, ◌<◌, ◌≤◌, ◌+◌, ℕ, true, false, nat_lt, if◌then◌else◌, Some, None, IsTrue, Ok, OnOk, OnErr, IfErr};
-ghost use Rattle.air_bus.specs.declared.entry.Entry.TheVariants.{Begin};
-ghost use Rattle.air_bus.specs.declared.entry.Phase.TheVariants.{Idle, Busy};
+ghost use Rattle.std.specs.Prelude.{◌≡◌, ◌<◌, true, false, nat_lt, if◌then◌else◌, Some, None, IsTrue};
+ghost use Rattle.air_bus.specs.declared.entry.Phase.TheVariants.{Idle};
 ghost use Rattle.air_bus.specs.History.{phase};
 ghost use Rattle.bus_seat.specs.Seats.{TakesPart};
 ghost use Rattle.site_node.specs.declared.kind.NodeFault.TheVariants as node_fault;
-ghost use Rattle.site_node.specs.Faults.{IsWhole};
-ghost use Rattle.site_workers.specs.Works.{IsIdle, Closes, Grew, Reached, IsCaused, HasMet, KeepsPlan, stop_count, told};
+ghost use Rattle.site_workers.specs.Works.{IsIdle, IsCaused, HasMet, stop_count};
 
 use air_bus::Input;
 use bus_seat::{Bus, Seat};
@@ -49,16 +47,10 @@ impl<N: SiteNode> Model for Worker<N> {
     ghost view = { λ w. record { node = w.node; seat = w.seat; fault = w.fault } };
 }
 
-// How a turn was closed.
-#[derive(Clone, Copy, Debug, PartialEq, Eq)]
-enum Closed {
-    Ended,
-    Stopped,
-}
-
 impl<N: SiteNode> Worker<N> {
-    ghost use Rattle.std.specs.Prelude.{◌≡◌, [], None, Some, IsTrue};
-    ghost use Rattle.site_workers.specs.Works.{LeadsOn, GrowsOn, Grew, IsCaused, HasMet, KeepsPlan};
+    ghost use Rattle.std.specs.Prelude.{◌≡◌, [], None, IsTrue};
+    ghost use Rattle.site_workers.specs.Works.{IsCaused, HasMet};
+    ghost use Rattle.site_workers.specs.Rounds.{WentOn};
 
     /// A worker of a node that was just opened.
     pub fn new(node: N, number: u16, seat: Seat) -> Worker<N>
@@ -115,38 +107,20 @@ impl<N: SiteNode> Worker<N> {
         !bus.takes_part(&self.seat) || self.up && self.node.at_rest()
     }
 
-    /// Asks for a Tick, if the node waits for answers: it gets one where no packet waits.
-    pub fn ask_tick(&mut self)
-        ensures same { self.new ≡ self.old }
+    /// Where a Tick is due it asks for one, if the node waits for answers: it gets it where no packet waits.
+    pub fn ask_tick(&mut self, is_due: bool)
+        ensures { self.new ≡ self.old }
     {
-        self.tick = self.node.unfinished();
-    }
-
-    /// Takes turns of the node until there is none to take and the round has ended, or the node has a fault.
-    pub fn work<R: Wait, G: Gate>(&mut self, rt: &R, bus: &Bus, gate: &G)
-        requires { self.old.seat.bus ≡ bus.now }
-        ensures grew { Grew self.old.seat self.new.seat }
-        ensures disks { N.disk_count self.new.node ≡ N.disk_count self.old.node }
-        ensures plan { IsTrue N.planned → KeepsPlan N.stops_left N.faults N.waits self.old.node self.old.fault self.old.seat.mine self.new.node self.new.fault self.new.seat.mine }
-        ensures leads { IsTrue N.tells → LeadsOn N.leads N.phase_of N.stands N.number N.spends self.old.node self.old.fault self.old.seat.mine self.new.node self.new.fault self.new.seat.mine }
-        ensures grows { IsTrue N.tells → GrowsOn N.leads N.phase_of N.stands N.number N.spends N.grown self.old.node self.old.fault self.old.seat.mine self.new.node }
-    {
-        for _ in 0..u64::MAX {
-            if !self.step(rt, bus, gate) {
-                return;
-            }
+        if is_due {
+            self.tick = self.node.unfinished();
         }
     }
 
-    /// Takes a turn of the node, if it takes part and there is one to take, and says whether it did. Where its disks tell what they hold, the
-    /// entries that it adds lead on from where the node stood.
+    /// Takes a turn of the node, if it takes part and there is one to take, and says whether another may follow. Where its disks tell what they
+    /// hold, the entries that it adds lead on from where the node stood.
     pub fn step<R: Wait, G: Gate>(&mut self, rt: &R, bus: &Bus, gate: &G) -> bool
         requires { self.old.seat.bus ≡ bus.now }
-        ensures grew { Grew self.old.seat self.new.seat }
-        ensures disks { N.disk_count self.new.node ≡ N.disk_count self.old.node }
-        ensures plan { IsTrue N.planned → KeepsPlan N.stops_left N.faults N.waits self.old.node self.old.fault self.old.seat.mine self.new.node self.new.fault self.new.seat.mine }
-        ensures leads { IsTrue N.tells → LeadsOn N.leads N.phase_of N.stands N.number N.spends self.old.node self.old.fault self.old.seat.mine self.new.node self.new.fault self.new.seat.mine }
-        ensures grows { IsTrue N.tells → GrowsOn N.leads N.phase_of N.stands N.number N.spends N.grown self.old.node self.old.fault self.old.seat.mine self.new.node }
+        ensures { WentOn N.SiteNode self.old self.new }
     {
         if self.fault.is_some() {
             return false;
@@ -166,18 +140,26 @@ impl<N: SiteNode> Worker<N> {
         if matches!(input, Input::Tick) {
             self.tick = false;
         }
-        match close(rt, bus, &mut self.node, &mut self.seat, &input, gate) {
-            Ok(Closed::Ended) => {
+        match self.node.turn(&input, gate) {
+            Ok(Done { note, packets }) => {
+                bus.end(rt, &mut self.seat, note, packets);
                 self.up = true;
                 gate.pass(Point::AfterEnd, self.number);
                 true
             }
-            Ok(Closed::Stopped) => {
-                self.up = false;
-                self.stops = self.stops.saturating_add(1);
-                self.fault = too_often(self.stops);
-                true
-            }
+            Err(NodeFault::Stopped) => match self.node.restart() {
+                Ok(landed) => {
+                    bus.stop(rt, &mut self.seat, landed);
+                    self.up = false;
+                    self.stops = self.stops.saturating_add(1);
+                    self.fault = too_often(self.stops);
+                    true
+                }
+                Err(fault) => {
+                    self.fault = Some(fault);
+                    false
+                }
+            },
             Err(fault) => {
                 self.fault = Some(fault);
                 false
@@ -194,52 +176,5 @@ fn too_often(stops: u32) -> Option<NodeFault>
         None
     } else {
         Some(NodeFault::Stopped)
-    }
-}
-
-// Takes the turn that was opened, and closes it. A node that stopped in it is up again then. With an error the turn is open
-// still.
-fn close<N: SiteNode, R: Wait, G: Gate>(
-    rt: &R,
-    bus: &Bus,
-    node: &mut N,
-    seat: &mut Seat,
-    input: &Input,
-    gate: &G,
-) -> Result<Closed, NodeFault>
-    requires bus { seat.old.bus ≡ bus.now }
-    requires whose { seat.old.number ≡ Some (N.number node.old) }
-    requires up { N.waits node.old ≡ false }
-    requires busy { phase (N.number node.old) seat.old.mine ≡ Busy }
-    ensures number { N.number node.new ≡ N.number node.old }
-    ensures disks { N.disk_count node.new ≡ N.disk_count node.old }
-    ensures grew { Grew seat.old seat.new }
-    ensures idle { OnOk result (IsIdle (N.number node.new) (N.waits node.new) seat.new) }
-    ensures same { OnErr result (seat.new ≡ seat.old) }
-    ensures ended { result ≡ Ok Closed.Ended → phase (N.number node.new) seat.new.mine ≡ Idle }
-    ensures met { result ≡ Ok Closed.Stopped → 1 ≤ N.faults node.new }
-    ensures plan { IsTrue N.planned → KeepsPlan N.stops_left N.faults N.waits node.old None seat.old.mine node.new (told result) seat.new.mine }
-    ensures caused { IfErr result (λ fault. IsCaused N.faults N.log_faults node.new (Some fault)) }
-    ensures stops { HasMet N.faults node.old None seat.old.mine → HasMet N.faults node.new None seat.new.mine }
-    ensures no_stop { result ≡ Ok Closed.Ended → stop_count seat.new.mine ≡ stop_count seat.old.mine }
-    ensures one_stop { result ≡ Ok Closed.Stopped → stop_count seat.new.mine ≡ stop_count seat.old.mine + 1 }
-    ensures whole { IsTrue N.tells → (s t : N.State) → N.stands node.old s → N.leads s (Begin (N.number node.old) input.now) t → IfErr result IsWhole }
-    ensures counted { IfErr result (λ fault. fault ≢ NodeFault.Stopped) }
-    ensures spent { (s : N.State) → N.stands node.old s → IfErr result (λ fault. (epoch : ℕ) → fault ≡ NodeFault.Spent epoch → N.spends s input.now ≡ Some epoch) }
-    ensures closes { IsTrue N.tells → (s t : N.State) → N.stands node.old s → N.leads s (Begin (N.number node.old) input.now) t → OnOk result (Closes N.leads N.phase_of N.stands N.number N.spends node.new t seat.old.mine seat.new.mine) }
-    ensures open { IsTrue N.tells → (s t : N.State) → N.stands node.old s → N.leads s (Begin (N.number node.old) input.now) t → OnErr result (N.stands node.new t) }
-    ensures grows { IsTrue N.tells → (s t : N.State) → N.stands node.old s → N.leads s (Begin (N.number node.old) input.now) t → (k : ℕ) × Reached N.grown k node.old node.new }
-{
-    match node.turn(input, gate) {
-        Ok(Done { note, packets }) => {
-            bus.end(rt, seat, note, packets);
-            Ok(Closed::Ended)
-        }
-        Err(NodeFault::Stopped) => {
-            let landed = node.restart()?;
-            bus.stop(rt, seat, landed);
-            Ok(Closed::Stopped)
-        }
-        Err(fault) => Err(fault),
     }
 }

@@ -1,296 +1,173 @@
-use Rattle.std.proofs.Common.{rules, ◌≡◌, ℕ, ◌+◌, [], Ok, None, Some, IfSome, arith, refl, sym, ap, ◌∙◌, subst}
-use Rattle.std.proofs.lemmas.List.{append-nil}
-use Rattle.air_bus.specs.declared.entry.Entry.TheVariants.{Begin}
+use Rattle.std.proofs.Common.{rules, ◌≡◌, ◌≢◌, ◌+◌, ◌≤◌, true, None, Some, Err, arith, refl, sym, ap, ◌∙◌, subst}
+use Rattle.air_bus.specs.declared.entry.Entry.TheVariants.{Begin, End, Stop}
+use Rattle.air_bus.specs.declared.entry.Phase.TheVariants.{Down}
 use Rattle.air_bus.specs.History.{phase}
-use Rattle.bus_seat.specs.Seats.{Begins}
-use Rattle.site_workers.specs.Works.{WorkerView, Grew, HasMet, KeepsPlan, stop_count}
-use Rattle.site_node.specs.declared.kind.NodeFault.TheVariants.{Damaged, Spent, Memory}
-use Rattle.site_workers.proofs.Stepping.{none_of, next, grew, grew_then, given, not_open, leads_from, leads_one, leads_two, grows_from, no_fault, told_same, too_often_told, whole_told, counted_same, met_begun, eighth, plan_from, plan_same, plan_begun, plan_told}
+use Rattle.site_node.specs.declared.kind.NodeFault.TheVariants.{Stopped, Disk, Read}
+use Rattle.site_node.specs.Faults.{IsOfTurn, IsOfRestart, IsWhole}
+use Rattle.site_workers.specs.Works.{IsIdle, stop_count}
+use Rattle.site_workers.proofs.Stepping.{Opened, none_of, went_on, went_from, went_looking, went_short, opened, ended, stopped, met_more, eighth, told_same, too_often_told, plan_done, plan_stopped, plan_shut, plan_left, was_met, turn_closed, turn_left}
+use Rattle.site_workers.proofs.worker.Worker.step.Given.{Over}
 use Rattle.site_workers.proofs.worker.Worker.step.Goals as goal
+use Rattle.site_workers.proofs.worker.Worker.step.Goals.{After-turn}
 
-pub returns-in-Ok-Ended-clause-leads : goal.returns-in-Ok-Ended-clause-leads
-returns-in-Ok-Ended-clause-leads g c tells =
+none : (g : Over) (c : After-turn g) → c.self.inside.fault ≡ None
+none g c = none_of c.self.inside.fault c.is_some.result c.is_some.ensures c.if-is_some.false
+
+idle : (g : Over) (c : After-turn g) → IsIdle (g.N.SiteNode.number c.self.inside.node) (g.N.SiteNode.waits c.self.inside.node) c.self.inside.seat
+idle g c = c.self.inside.idle (none g c)
+
+begins : (g : Over) (c : After-turn g) → Opened (g.N.SiteNode.number c.self.inside.node) c.wants-wants.result c.self.inside.tick c.self.inside.seat c.begin.new.seat c.in-Ok-Some.input
+begins g c =
+    let self = c.self.inside in
+    opened (g.N.SiteNode.number self.node) c.wants-wants.result self.tick self.seat c.begin.new.seat c.in-Ok-Some.field-0 c.in-Ok-Some.input self.whose c.in-Ok-Some.field-0-is c.begin.ensures.kept c.in-Ok-Some.ensures.did
+
+pub returns-in-Err : goal.returns-in-Err
+returns-in-Err g c =
     let m = g.N.SiteNode in
     let self = c.self.inside in
-    leads_from m.leads m.phase_of m.stands m.number m.spends (record { node = self.node; seat = self.seat; fault = self.fault }) c.args.self.now c.close.new.node self.fault c.close.new.seat.mine c.self.view_is
-    (λ s at.
+    let s1 = c.begin.new.seat in
+    went_from m self.node self.seat self.fault c.args.self.now _ c.self.view_is (none_of self.fault c.is_some.result c.is_some.ensures c.if-is_some.false)
+    (went_on m (record { node = self.node; seat = self.seat; fault = None }) (record { node = self.node; seat = s1; fault = None }) _ (went_looking m self.node self.seat s1 None c.begin.ensures.kept c.in-Err.ensures.err) (went_short m self.node s1))
+
+pub returns-in-Ok : goal.returns-in-Ok
+returns-in-Ok g c =
+    let m = g.N.SiteNode in
+    let self = c.self.inside in
+    let after = (goal.at.returns-in-Ok g c).After-turn in
     let n = m.number self.node in
-    let s0 = self.seat in
     let s1 = c.begin.new.seat in
-    let i = c.in-Ok-Some.input in
-    let wants = c.wants-wants.result in
-    let did : IfSome s0.number (λ k. Begins k wants self.tick s0 (Some i) s1) = subst (λ o. IfSome s0.number (λ k. Begins k wants self.tick s0 o s1)) c.in-Ok-Some.field-0-is c.in-Ok-Some.ensures.did in
-    let none = none_of self.fault c.is_some.result c.is_some.ensures c.if-is_some.false in
-    let phased = at.phased none in
-    let idle = self.idle none in
-    let opens =
-    m.begins s n (next n s0 s1 i wants self.tick self.whose did) self.tick wants i (not_open (m.phase_of s) (phase n s0.mine) phased idle.closed) (given n s0 s1 i wants self.tick self.whose did (m.phase_of s) phased)
-    in
-    let begun = grew n s0 s1 i wants self.tick self.whose did in
-    let closes = c.in-Ok-Ended.ensures.closes tells s opens.0 at.at opens.1 in
-    leads_two m.leads m.phase_of m.stands m.number m.spends c.close.new.node self.fault s0.mine s1.mine c.close.new.seat.mine s opens.0 closes.1 (Begin n i) closes.0 begun opens.1 closes.2 closes.4
-    (record {
-      at = closes.5;
-      phased = λ t. closes.3;
-      whole = λ disk place. no_fault self.fault (Damaged disk place) none;
-      spent = λ epoch is. absurd (no_fault self.fault (Spent epoch) none is);
-    }))
+    let s2 = c.end.new.seat in
+    let d = c.in-Ok.field-0 in
+    let end = ended n s1 s2 d.note d.packets (c.begin.ensures.kept.1 ∙ self.whose) c.end.ensures.kept c.end.ensures.adds in
+    let same : stop_count s2.mine ≡ stop_count s1.mine + 0 = end.2.stops in
+    went_from m self.node self.seat self.fault c.args.self.now _ c.self.view_is (none g after)
+    (turn_closed m self.node self.seat s1 c.in-Ok-Some.input c.wants-wants.result self.tick (begins g after) (idle g after).closed c.turn.new.self s2 (End n d.note d.packets end.0) true self.fault (none g after) c.turn.ensures.number end.2 c.turn.ensures.disks
+    (λ p. plan_done m self.node s1.mine c.turn.new.self None s2.mine (omega (arith, same)) (c.in-Ok.ensures.waits ∙ sym (idle g after).up) (c.in-Ok.ensures.plan p))
+    (λ tells s t at led. c.in-Ok.ensures.done tells s t at led end.0 end.1)
+    (λ tells s t at led. (1, (self.node, refl, c.turn.ensures.grown tells s at))))
 
-pub returns-in-Ok-Stopped-clause-leads : goal.returns-in-Ok-Stopped-clause-leads
-returns-in-Ok-Stopped-clause-leads g c tells =
+pub returns-in-Ok-restart : goal.returns-in-Ok-restart
+returns-in-Ok-restart g c =
     let m = g.N.SiteNode in
     let self = c.self.inside in
-    leads_from m.leads m.phase_of m.stands m.number m.spends (record { node = self.node; seat = self.seat; fault = self.fault }) c.args.self.now c.close.new.node c.too_often-self-inside.result c.close.new.seat.mine c.self.view_is
-    (λ s at.
+    let after = (goal.at.returns-in-Ok-restart g c).After-turn in
     let n = m.number self.node in
-    let s0 = self.seat in
     let s1 = c.begin.new.seat in
-    let i = c.in-Ok-Some.input in
-    let wants = c.wants-wants.result in
-    let did : IfSome s0.number (λ k. Begins k wants self.tick s0 (Some i) s1) = subst (λ o. IfSome s0.number (λ k. Begins k wants self.tick s0 o s1)) c.in-Ok-Some.field-0-is c.in-Ok-Some.ensures.did in
-    let none = none_of self.fault c.is_some.result c.is_some.ensures c.if-is_some.false in
-    let phased = at.phased none in
-    let idle = self.idle none in
-    let opens =
-    m.begins s n (next n s0 s1 i wants self.tick self.whose did) self.tick wants i (not_open (m.phase_of s) (phase n s0.mine) phased idle.closed) (given n s0 s1 i wants self.tick self.whose did (m.phase_of s) phased)
-    in
-    let begun = grew n s0 s1 i wants self.tick self.whose did in
-    let closes = c.in-Ok-Stopped.ensures.closes tells s opens.0 at.at opens.1 in
-    leads_two m.leads m.phase_of m.stands m.number m.spends c.close.new.node c.too_often-self-inside.result s0.mine s1.mine c.close.new.seat.mine s opens.0 closes.1 (Begin n i) closes.0 begun opens.1 closes.2 closes.4
-    (record {
-      at = closes.5;
-      phased = λ t. closes.3;
-      whole = λ disk place. too_often_told _ c.too_often-self-inside.result (Damaged disk place) c.too_often-self-inside.ensures (λ e. absurd (cc e));
-      spent = λ epoch is. absurd (too_often_told _ c.too_often-self-inside.result (Spent epoch) c.too_often-self-inside.ensures (λ e. absurd (cc e)) is);
-    }))
+    let s2 = c.stop.new.seat in
+    let u = c.turn.new.self in
+    let w = c.restart.new.self in
+    let landed = c.in-Ok-restart.landed in
+    let stop = stopped n s1 s2 landed (c.begin.ensures.kept.1 ∙ self.whose) c.stop.ensures.kept c.stop.ensures.adds in
+    let more : stop_count s2.mine ≡ stop_count s1.mine + 1 = stop.stops in
+    went_from m self.node self.seat self.fault c.args.self.now _ c.self.view_is (none g after)
+    (turn_closed m self.node self.seat s1 c.in-Ok-Some.input c.wants-wants.result self.tick (begins g after) (idle g after).closed w s2 (Stop n landed) _ c.too_often-self-inside.result c.too_often-self-inside.ensures (c.restart.ensures.number ∙ c.turn.ensures.number) stop (c.restart.ensures.disks ∙ c.turn.ensures.disks)
+    (λ p. plan_stopped m self.node s1.mine u w None s2.mine (omega (arith, more)) (was_met m self.node s1.mine u c.in-Err-Stopped.field-0 c.in-Err-Stopped.field-0-is (c.in-Err-Stopped.ensures.plan p)) (c.in-Ok-restart.ensures.plan p))
+    (λ tells s t at led. let x = c.in-Ok-restart.ensures.stopped tells t (c.in-Err-Stopped.ensures.open tells s t at led) in (x.0, subst (λ k. m.leads t (Stop k landed) x.0) c.turn.ensures.number x.1, x.2))
+    (λ tells s t at led. (2, (u, (self.node, refl, c.turn.ensures.grown tells s at), c.restart.ensures.grown tells t (c.in-Err-Stopped.ensures.open tells s t at led)))))
 
-pub returns-clause-leads : goal.returns-clause-leads
-returns-clause-leads g c tells =
+pub returns-in-Err-Stopped : goal.returns-in-Err-Stopped
+returns-in-Err-Stopped g c =
     let m = g.N.SiteNode in
     let self = c.self.inside in
-    leads_from m.leads m.phase_of m.stands m.number m.spends (record { node = self.node; seat = self.seat; fault = self.fault }) c.args.self.now c.close.new.node (Some c.in-Err-close.fault) c.close.new.seat.mine c.self.view_is
-    (λ s at.
+    let after = (goal.at.returns-in-Err-Stopped g c).After-turn in
+    let s1 = c.begin.new.seat in
+    let u = c.turn.new.self in
+    let w = c.restart.new.self in
+    let fault = c.in-Err-restart.fault in
+    went_from m self.node self.seat self.fault c.args.self.now _ c.self.view_is (none g after)
+    (turn_left m self.node self.seat s1 c.in-Ok-Some.input c.wants-wants.result self.tick (begins g after) (idle g after).closed w fault (c.restart.ensures.number ∙ c.turn.ensures.number) (c.restart.ensures.disks ∙ c.turn.ensures.disks)
+    (λ p. plan_shut m self.node s1.mine u w fault (was_met m self.node s1.mine u c.in-Err-Stopped.field-0 c.in-Err-Stopped.field-0-is (c.in-Err-Stopped.ensures.plan p)) (c.in-Err-restart.ensures.plan p))
+    (λ tells s t at led. c.in-Err-restart.ensures.open tells t (c.in-Err-Stopped.ensures.open tells s t at led))
+    (λ tells s t at led disk place is. subst IsWhole is (c.in-Err-restart.ensures.whole tells t (c.in-Err-Stopped.ensures.open tells s t at led)))
+    (λ s at epoch is. absurd (subst IsOfRestart is c.in-Err-restart.ensures.kind))
+    (λ tells s t at led. (2, (u, (self.node, refl, c.turn.ensures.grown tells s at), c.restart.ensures.grown tells t (c.in-Err-Stopped.ensures.open tells s t at led)))))
+
+pub returns : goal.returns
+returns g c =
+    let m = g.N.SiteNode in
+    let self = c.self.inside in
+    let after = (goal.at.returns g c).After-turn in
+    let s1 = c.begin.new.seat in
+    let w = c.turn.new.self in
+    let fault = c.in-Err-turn.fault in
+    let other : fault ≢ Stopped = search rules in
+    went_from m self.node self.seat self.fault c.args.self.now _ c.self.view_is (none g after)
+    (turn_left m self.node self.seat s1 c.in-Ok-Some.input c.wants-wants.result self.tick (begins g after) (idle g after).closed w fault c.turn.ensures.number c.turn.ensures.disks
+    (λ p. plan_left m self.node s1.mine w fault other c.in-Err-turn.ensures.kind (idle g after).up c.in-Err-turn.ensures.waits (c.in-Err-turn.ensures.plan p))
+    c.in-Err-turn.ensures.open
+    (λ tells s t at led disk place is. subst IsOfTurn is c.in-Err-turn.ensures.kind)
+    (λ s at epoch is. c.in-Err-turn.ensures.spent s at epoch (ap Err is))
+    (λ tells s t at led. (1, (self.node, refl, c.turn.ensures.grown tells s at))))
+
+pub invariant_of-self-inside-in-Ok-restart : goal.invariant_of-self-inside-in-Ok-restart
+invariant_of-self-inside-in-Ok-restart g c =
+    let m = g.N.SiteNode in
+    let self = c.self.inside in
+    let after = (goal.at.invariant_of-self-inside-in-Ok-restart g c).After-turn in
     let n = m.number self.node in
-    let s0 = self.seat in
     let s1 = c.begin.new.seat in
-    let i = c.in-Ok-Some.input in
-    let wants = c.wants-wants.result in
-    let did : IfSome s0.number (λ k. Begins k wants self.tick s0 (Some i) s1) = subst (λ o. IfSome s0.number (λ k. Begins k wants self.tick s0 o s1)) c.in-Ok-Some.field-0-is c.in-Ok-Some.ensures.did in
-    let none = none_of self.fault c.is_some.result c.is_some.ensures c.if-is_some.false in
-    let phased = at.phased none in
-    let idle = self.idle none in
-    let opens =
-    m.begins s n (next n s0 s1 i wants self.tick self.whose did) self.tick wants i (not_open (m.phase_of s) (phase n s0.mine) phased idle.closed) (given n s0 s1 i wants self.tick self.whose did (m.phase_of s) phased)
-    in
-    let begun = grew n s0 s1 i wants self.tick self.whose did in
-    let stands = c.in-Err-close.ensures.open tells s opens.0 at.at opens.1 in
-    leads_one m.leads m.phase_of m.stands m.number m.spends c.close.new.node (Some c.in-Err-close.fault) s0.mine c.close.new.seat.mine s opens.0 (Begin n i) (ap (λ x. x.mine) c.in-Err-close.ensures.same ∙ begun) opens.1
-    (record {
-      at = stands;
-      phased = λ t. absurd (cc t);
-      whole = λ disk place. whole_told c.in-Err-close.fault disk place (c.in-Err-close.ensures.whole tells s opens.0 at.at opens.1);
-      spent = λ epoch is. (s, i, subst (λ (k : ℕ). m.leads s (Begin k i) opens.0) (sym c.close.ensures.number) opens.1, c.in-Err-close.ensures.spent s at.at epoch (told_same c.in-Err-close.fault (Spent epoch) is));
-    }))
-
-pub returns-in-Ok-Ended-clause-grows : goal.returns-in-Ok-Ended-clause-grows
-returns-in-Ok-Ended-clause-grows g c tells =
-    let m = g.N.SiteNode in
-    let self = c.self.inside in
-    grows_from m.leads m.phase_of m.stands m.number m.spends m.grown (record { node = self.node; seat = self.seat; fault = self.fault }) c.args.self.now c.close.new.node c.self.view_is
-    (λ s at.
-    let n = m.number self.node in
-    let s0 = self.seat in
-    let s1 = c.begin.new.seat in
-    let i = c.in-Ok-Some.input in
-    let wants = c.wants-wants.result in
-    let did : IfSome s0.number (λ k. Begins k wants self.tick s0 (Some i) s1) = subst (λ o. IfSome s0.number (λ k. Begins k wants self.tick s0 o s1)) c.in-Ok-Some.field-0-is c.in-Ok-Some.ensures.did in
-    let none = none_of self.fault c.is_some.result c.is_some.ensures c.if-is_some.false in
-    let phased = at.phased none in
-    let idle = self.idle none in
-    let opens =
-    m.begins s n (next n s0 s1 i wants self.tick self.whose did) self.tick wants i (not_open (m.phase_of s) (phase n s0.mine) phased idle.closed) (given n s0 s1 i wants self.tick self.whose did (m.phase_of s) phased)
-    in
-    c.close.ensures.grows tells s opens.0 at.at opens.1)
-
-pub returns-in-Ok-Stopped-clause-grows : goal.returns-in-Ok-Stopped-clause-grows
-returns-in-Ok-Stopped-clause-grows g c tells =
-    let m = g.N.SiteNode in
-    let self = c.self.inside in
-    grows_from m.leads m.phase_of m.stands m.number m.spends m.grown (record { node = self.node; seat = self.seat; fault = self.fault }) c.args.self.now c.close.new.node c.self.view_is
-    (λ s at.
-    let n = m.number self.node in
-    let s0 = self.seat in
-    let s1 = c.begin.new.seat in
-    let i = c.in-Ok-Some.input in
-    let wants = c.wants-wants.result in
-    let did : IfSome s0.number (λ k. Begins k wants self.tick s0 (Some i) s1) = subst (λ o. IfSome s0.number (λ k. Begins k wants self.tick s0 o s1)) c.in-Ok-Some.field-0-is c.in-Ok-Some.ensures.did in
-    let none = none_of self.fault c.is_some.result c.is_some.ensures c.if-is_some.false in
-    let phased = at.phased none in
-    let idle = self.idle none in
-    let opens =
-    m.begins s n (next n s0 s1 i wants self.tick self.whose did) self.tick wants i (not_open (m.phase_of s) (phase n s0.mine) phased idle.closed) (given n s0 s1 i wants self.tick self.whose did (m.phase_of s) phased)
-    in
-    c.close.ensures.grows tells s opens.0 at.at opens.1)
-
-pub returns-clause-grows : goal.returns-clause-grows
-returns-clause-grows g c tells =
-    let m = g.N.SiteNode in
-    let self = c.self.inside in
-    grows_from m.leads m.phase_of m.stands m.number m.spends m.grown (record { node = self.node; seat = self.seat; fault = self.fault }) c.args.self.now c.close.new.node c.self.view_is
-    (λ s at.
-    let n = m.number self.node in
-    let s0 = self.seat in
-    let s1 = c.begin.new.seat in
-    let i = c.in-Ok-Some.input in
-    let wants = c.wants-wants.result in
-    let did : IfSome s0.number (λ k. Begins k wants self.tick s0 (Some i) s1) = subst (λ o. IfSome s0.number (λ k. Begins k wants self.tick s0 o s1)) c.in-Ok-Some.field-0-is c.in-Ok-Some.ensures.did in
-    let none = none_of self.fault c.is_some.result c.is_some.ensures c.if-is_some.false in
-    let phased = at.phased none in
-    let idle = self.idle none in
-    let opens =
-    m.begins s n (next n s0 s1 i wants self.tick self.whose did) self.tick wants i (not_open (m.phase_of s) (phase n s0.mine) phased idle.closed) (given n s0 s1 i wants self.tick self.whose did (m.phase_of s) phased)
-    in
-    c.close.ensures.grows tells s opens.0 at.at opens.1)
-
-pub returns-in-Err-clause-leads : goal.returns-in-Err-clause-leads
-returns-in-Err-clause-leads g c tells =
-    let m = g.N.SiteNode in
-    let self = c.self.inside in
-    leads_from m.leads m.phase_of m.stands m.number m.spends (record { node = self.node; seat = self.seat; fault = self.fault }) c.args.self.now self.node (Some Memory) c.begin.new.seat.mine c.self.view_is
-    (λ s at. (
-      [],
-      s,
-      c.in-Err.ensures.err.1 ∙ sym (append-nil self.seat.mine),
-      refl,
-      record {
-        at = at.at;
-        phased = λ is. absurd (cc is);
-        whole = λ disk place is. absurd (cc is);
-        spent = λ epoch is. absurd (cc is);
-      },
-    ))
-
-pub returns-in-Ok-Ended-clause-grew : goal.returns-in-Ok-Ended-clause-grew
-returns-in-Ok-Ended-clause-grew g c =
-    let self = c.self.inside in
-    let s0 = self.seat in
-    let s1 = c.begin.new.seat in
-    let n = g.N.SiteNode.number self.node in
-    let i = c.in-Ok-Some.input in
-    let wants = c.wants-wants.result in
-    let did : IfSome s0.number (λ k. Begins k wants self.tick s0 (Some i) s1) = subst (λ o. IfSome s0.number (λ k. Begins k wants self.tick s0 o s1)) c.in-Ok-Some.field-0-is c.in-Ok-Some.ensures.did in
-    subst (λ (w : WorkerView g.row.N.Denot). Grew w.seat c.close.new.seat) c.self.view_is (grew_then n s0 s1 i wants self.tick self.whose did c.close.new.seat c.begin.ensures.kept c.close.ensures.grew)
-
-pub returns-in-Ok-Stopped-clause-grew : goal.returns-in-Ok-Stopped-clause-grew
-returns-in-Ok-Stopped-clause-grew g c =
-    let self = c.self.inside in
-    let s0 = self.seat in
-    let s1 = c.begin.new.seat in
-    let n = g.N.SiteNode.number self.node in
-    let i = c.in-Ok-Some.input in
-    let wants = c.wants-wants.result in
-    let did : IfSome s0.number (λ k. Begins k wants self.tick s0 (Some i) s1) = subst (λ o. IfSome s0.number (λ k. Begins k wants self.tick s0 o s1)) c.in-Ok-Some.field-0-is c.in-Ok-Some.ensures.did in
-    subst (λ (w : WorkerView g.row.N.Denot). Grew w.seat c.close.new.seat) c.self.view_is (grew_then n s0 s1 i wants self.tick self.whose did c.close.new.seat c.begin.ensures.kept c.close.ensures.grew)
-
-pub returns-clause-grew : goal.returns-clause-grew
-returns-clause-grew g c =
-    let self = c.self.inside in
-    let s0 = self.seat in
-    let s1 = c.begin.new.seat in
-    let n = g.N.SiteNode.number self.node in
-    let i = c.in-Ok-Some.input in
-    let wants = c.wants-wants.result in
-    let did : IfSome s0.number (λ k. Begins k wants self.tick s0 (Some i) s1) = subst (λ o. IfSome s0.number (λ k. Begins k wants self.tick s0 o s1)) c.in-Ok-Some.field-0-is c.in-Ok-Some.ensures.did in
-    subst (λ (w : WorkerView g.row.N.Denot). Grew w.seat c.close.new.seat) c.self.view_is (grew_then n s0 s1 i wants self.tick self.whose did c.close.new.seat c.begin.ensures.kept c.close.ensures.grew)
-
-pub invariant_of-self-inside-in-Ok-Ended : goal.invariant_of-self-inside-in-Ok-Ended
-invariant_of-self-inside-in-Ok-Ended g c =
-    let self = c.self.inside in
-    let s0 = self.seat in
-    let s1 = c.begin.new.seat in
-    let n = g.N.SiteNode.number self.node in
-    let i = c.in-Ok-Some.input in
-    let wants = c.wants-wants.result in
-    let did : IfSome s0.number (λ k. Begins k wants self.tick s0 (Some i) s1) = subst (λ o. IfSome s0.number (λ k. Begins k wants self.tick s0 o s1)) c.in-Ok-Some.field-0-is c.in-Ok-Some.ensures.did in
-    let begun = grew n s0 s1 i wants self.tick self.whose did in
-    let same = counted_same s1.mine s0.mine (Begin n i) begun refl in
-    let none = none_of self.fault c.is_some.result c.is_some.ensures c.if-is_some.false in
-    (search rules, (search rules, (search rules, (search rules, (λ none. let before = self.counted none in (before.0 ∙ sym (c.in-Ok-Ended.ensures.no_stop (ap Ok c.in-Ok-Ended.field-0-is) ∙ same), before.1), (subst (λ o. HasMet g.N.SiteNode.faults c.close.new.node o c.close.new.seat.mine) (sym none) (c.close.ensures.stops (met_begun g.N.SiteNode.faults self.node self.fault s0.mine s1.mine (Begin n i) begun refl self.met)), tt))))))
-
-pub invariant_of-self-inside-in-Ok-Stopped : goal.invariant_of-self-inside-in-Ok-Stopped
-invariant_of-self-inside-in-Ok-Stopped g c =
-    let self = c.self.inside in
-    let s0 = self.seat in
-    let s1 = c.begin.new.seat in
-    let n = g.N.SiteNode.number self.node in
-    let i = c.in-Ok-Some.input in
-    let wants = c.wants-wants.result in
-    let did : IfSome s0.number (λ k. Begins k wants self.tick s0 (Some i) s1) = subst (λ o. IfSome s0.number (λ k. Begins k wants self.tick s0 o s1)) c.in-Ok-Some.field-0-is c.in-Ok-Some.ensures.did in
-    let begun = grew n s0 s1 i wants self.tick self.whose did in
-    let same = counted_same s1.mine s0.mine (Begin n i) begun refl in
-    let none = none_of self.fault c.is_some.result c.is_some.ensures c.if-is_some.false in
-    let before = self.counted none in
-    let more = c.in-Ok-Stopped.ensures.one_stop (ap Ok c.in-Ok-Stopped.field-0-is) in
+    let s2 = c.stop.new.seat in
+    let w = c.restart.new.self in
+    let kept = c.begin.ensures.kept in
+    let number = c.restart.ensures.number ∙ c.turn.ensures.number in
+    let stop = stopped n s1 s2 c.in-Ok-restart.landed (kept.1 ∙ self.whose) c.stop.ensures.kept c.stop.ensures.adds in
+    let same : stop_count s1.mine ≡ stop_count self.seat.mine + 0 = (begins g after).begun.stops in
+    let more : stop_count s2.mine ≡ stop_count s1.mine + 1 = stop.stops in
+    let before = self.counted (none g after) in
     let stops = c.saturating_add-self-inside.result in
     let next : stops ≡ self.stops + 1 = omega (arith, c.saturating_add-self-inside.ensures, before.1) in
-    let told = eighth stops c.too_often-self-inside.result c.too_often-self-inside.ensures in
-    let met : HasMet g.N.SiteNode.faults c.close.new.node c.too_often-self-inside.result c.close.new.seat.mine = record {
-      stops = λ has. c.in-Ok-Stopped.ensures.met (ap Ok c.in-Ok-Stopped.field-0-is);
-      ended = λ is. let most = told.0 is in omega (arith, most, next, before.0, before.1, same, more);
-    } in
-    (search rules, (search rules, (search rules, (search rules, (λ up. let few = told.1 up in (omega (arith, next, before.0, same, more), few), (met, tt))))))
+    let o = c.too_often-self-inside.result in
+    let told = eighth stops o c.too_often-self-inside.ensures in
+    let down : phase (m.number w) s2.mine ≡ Down = ap (λ k. phase k s2.mine) number ∙ stop.phased in
+    let faulty : 1 ≤ m.faults w = omega (arith, c.in-Err-Stopped.ensures.fault (ap Err c.in-Err-Stopped.field-0-is), c.in-Ok-restart.ensures.count) in (
+      c.stop.ensures.kept.1 ∙ kept.1 ∙ self.whose ∙ ap Some (sym number),
+      (
+        λ is. record { up = c.in-Ok-restart.ensures.up; closed = λ busy. absurd (cc (down, busy)) },
+        (
+          λ is up. absurd (cc up),
+          (
+            record { stopped = λ is. faulty; disk = λ disk is. faulty; read = λ is. absurd (too_often_told _ o Read c.too_often-self-inside.ensures (λ e. absurd (cc e)) is) },
+            (
+              λ up. (omega (arith, next, before.0, same, more), told.1 up),
+              (
+                record { stops = λ has. faulty; ended = λ is. let most = told.0 is in omega (arith, most, next, before.0, before.1, same, more) },
+                tt,
+              ),
+            ),
+          ),
+        ),
+      ),
+    )
 
-pub returns-in-Ok-Ended-clause-plan : goal.returns-in-Ok-Ended-clause-plan
-returns-in-Ok-Ended-clause-plan g c planned =
+pub invariant_of-self-inside-in-Err-turn : goal.invariant_of-self-inside-in-Err-turn
+invariant_of-self-inside-in-Err-turn g c =
     let m = g.N.SiteNode in
     let self = c.self.inside in
-    let s0 = self.seat in
+    let after = (goal.at.invariant_of-self-inside-in-Err-turn g c).After-turn in
     let s1 = c.begin.new.seat in
-    let n = m.number self.node in
-    let i = c.in-Ok-Some.input in
-    let wants = c.wants-wants.result in
-    let did : IfSome s0.number (λ k. Begins k wants self.tick s0 (Some i) s1) = subst (λ o. IfSome s0.number (λ k. Begins k wants self.tick s0 o s1)) c.in-Ok-Some.field-0-is c.in-Ok-Some.ensures.did in
-    let same = counted_same s1.mine s0.mine (Begin n i) (grew n s0 s1 i wants self.tick self.whose did) refl in
-    let none = none_of self.fault c.is_some.result c.is_some.ensures c.if-is_some.false in
-    plan_from m.stops_left m.faults m.waits (record { node = self.node; seat = s0; fault = self.fault }) c.args.self.now c.close.new.node self.fault c.close.new.seat.mine c.self.view_is
-    (plan_begun m.stops_left m.faults m.waits self.node c.close.new.node self.fault self.fault s0.mine s1.mine c.close.new.seat.mine none same (subst (λ o. KeepsPlan m.stops_left m.faults m.waits self.node None s1.mine c.close.new.node o c.close.new.seat.mine) (sym none) (c.in-Ok-Ended.ensures.plan planned)))
-
-pub returns-in-Ok-Stopped-clause-plan : goal.returns-in-Ok-Stopped-clause-plan
-returns-in-Ok-Stopped-clause-plan g c planned =
-    let m = g.N.SiteNode in
-    let self = c.self.inside in
-    let s0 = self.seat in
-    let s1 = c.begin.new.seat in
-    let n = m.number self.node in
-    let i = c.in-Ok-Some.input in
-    let wants = c.wants-wants.result in
-    let did : IfSome s0.number (λ k. Begins k wants self.tick s0 (Some i) s1) = subst (λ o. IfSome s0.number (λ k. Begins k wants self.tick s0 o s1)) c.in-Ok-Some.field-0-is c.in-Ok-Some.ensures.did in
-    let same = counted_same s1.mine s0.mine (Begin n i) (grew n s0 s1 i wants self.tick self.whose did) refl in
-    let none = none_of self.fault c.is_some.result c.is_some.ensures c.if-is_some.false in
-    let told = c.too_often-self-inside.result in
-    plan_from m.stops_left m.faults m.waits (record { node = self.node; seat = s0; fault = self.fault }) c.args.self.now c.close.new.node told c.close.new.seat.mine c.self.view_is
-    (plan_begun m.stops_left m.faults m.waits self.node c.close.new.node self.fault told s0.mine s1.mine c.close.new.seat.mine none same (plan_told m.stops_left m.faults m.waits _ self.node c.close.new.node told s1.mine c.close.new.seat.mine c.too_often-self-inside.ensures (c.in-Ok-Stopped.ensures.plan planned)))
-
-pub returns-clause-plan : goal.returns-clause-plan
-returns-clause-plan g c planned =
-    let m = g.N.SiteNode in
-    let self = c.self.inside in
-    let s0 = self.seat in
-    let s1 = c.begin.new.seat in
-    let n = m.number self.node in
-    let i = c.in-Ok-Some.input in
-    let wants = c.wants-wants.result in
-    let did : IfSome s0.number (λ k. Begins k wants self.tick s0 (Some i) s1) = subst (λ o. IfSome s0.number (λ k. Begins k wants self.tick s0 o s1)) c.in-Ok-Some.field-0-is c.in-Ok-Some.ensures.did in
-    let same = counted_same s1.mine s0.mine (Begin n i) (grew n s0 s1 i wants self.tick self.whose did) refl in
-    let none = none_of self.fault c.is_some.result c.is_some.ensures c.if-is_some.false in
-    plan_from m.stops_left m.faults m.waits (record { node = self.node; seat = s0; fault = self.fault }) c.args.self.now c.close.new.node (Some c.in-Err-close.fault) c.close.new.seat.mine c.self.view_is
-    (plan_begun m.stops_left m.faults m.waits self.node c.close.new.node self.fault (Some c.in-Err-close.fault) s0.mine s1.mine c.close.new.seat.mine none same (c.in-Err-close.ensures.plan planned))
-
-pub returns-in-Err-clause-plan : goal.returns-in-Err-clause-plan
-returns-in-Err-clause-plan g c planned =
-    let m = g.N.SiteNode in
-    let self = c.self.inside in
-    let none = none_of self.fault c.is_some.result c.is_some.ensures c.if-is_some.false in
-    let same = ap stop_count c.in-Err.ensures.err.1 in
-    plan_from m.stops_left m.faults m.waits (record { node = self.node; seat = self.seat; fault = self.fault }) c.args.self.now self.node (Some Memory) c.begin.new.seat.mine c.self.view_is
-    (plan_begun m.stops_left m.faults m.waits self.node self.node self.fault (Some Memory) self.seat.mine c.begin.new.seat.mine c.begin.new.seat.mine none same (plan_same m.stops_left m.faults m.waits self.node None (Some Memory) c.begin.new.seat.mine c.begin.new.seat.mine refl))
+    let w = c.turn.new.self in
+    let fault = c.in-Err-turn.fault in
+    let other : fault ≢ Stopped = search rules in
+    let begun = met_more m.faults self.node w self.fault self.seat.mine s1.mine (Begin (m.number self.node) c.in-Ok-Some.input) (begins g after).begun.mine refl c.turn.ensures.count self.met in (
+      c.begin.ensures.kept.1 ∙ self.whose ∙ ap Some (sym c.turn.ensures.number),
+      (
+        λ is. absurd (cc is),
+        (
+          λ is. absurd (cc is),
+          (
+            record {
+              stopped = λ is. absurd (other (told_same fault Stopped is));
+              disk = λ disk is. absurd (subst IsOfTurn (told_same fault (Disk disk) is) c.in-Err-turn.ensures.kind);
+              read = λ is. omega (arith, c.in-Err-turn.ensures.read (ap Err (told_same fault Read is)));
+            },
+            (
+              λ is. absurd (cc is),
+              (
+                record { stops = begun.stops; ended = λ is. absurd (other (told_same fault Stopped is)) },
+                tt,
+              ),
+            ),
+          ),
+        ),
+      ),
+    )
