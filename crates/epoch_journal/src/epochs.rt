@@ -18,7 +18,7 @@ ghost use Rattle.gate_journal.specs.Rising as numbers;
 ghost use Rattle.epoch_journal.specs.Epochs.{epoch_record, epochs, next_epoch, KeepsOr, MayCome};
 
 use ballot_core::LAST_EPOCH;
-use gate_journal::{Appends, AppendFault, Record, RecordJournal};
+use gate_journal::{AppendFault, Appends, Record, RecordJournal};
 use outside::Disk;
 use std::alloc::{AllocError, Global};
 

@@ -12,7 +12,7 @@ ghost use Rattle.gate_journal.specs.Opening.{IsOpened};
 ghost use Rattle.gate_journal.specs.Growth.{Continues};
 ghost use Rattle.gate_journal.specs.Records.{FailsAt, Keeps, KeepsOr, IsLeft, IsRefused, IsRefusedAgain};
 
-use crate::{Appends, AppendFault, Journal, JournalFault, Record};
+use crate::{AppendFault, Appends, Journal, JournalFault, Record};
 use outside::Disk;
 use std::alloc::{AllocError, Global};
 use wire_core::Bytes;
