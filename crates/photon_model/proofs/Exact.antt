@@ -5,13 +5,11 @@ use Rattle.std.specs.declared.cmp.Ordering.{Ordering}
 use Rattle.std.specs.declared.cmp.Ordering.TheVariants.{Less, Equal, Greater}
 use Rattle.std.specs.FinMap as finite
 use Rattle.std.specs.FinMap.Entries.{by_order}
-use Rattle.std.specs.Cmp.{IsTotalOrder, nat_cmp_total}
-use Rattle.std.proofs.lemmas.Cmp.{on_total, then_total}
-use Rattle.std.proofs.lemmas.List.{nil_from_length}
 use Rattle.std.proofs.lemmas.Bool.{cond_both, cases_lt, ltb-true, ltb-false}
 use Rattle.photon_model.proofs.Words.{EventId, id_cmp, Token, Batch, IsGranted, bound_of, bound_at, holder, first_insert, granted_means, holder_granted, Mem, some_same, none_some, each_at, Query, Click, ClickLine, first, J, M, X, U, PairRec, Setting, Checked, first_joiner, shard, shard_below, SoundStore, PairSound, IsWritten, known_of, values_of, known, all_pairs, pair_of, line_by, line_of, unwritten_line, IsAtRest, World, Entry, Disks, disks, world_after, IsRun, opening, empty_disks, AllFactsHold, HasBounds, RestLeaves, decided_in}
 use Rattle.time_shards.specs.Shards.{IsTable}
 use Rattle.log_records.specs.Report as logs
+use Rattle.log_records.proofs.Distinct.{made, made_nil, made_cons}
 use Rattle.photon_model.specs.Exact.{IsExact, AtRestFromEmpty, ClicksAreExact, ReportIsExact}
 use Rattle.photon_model.proofs.Storing.{empty_sound}
 use Rattle.photon_model.proofs.Closing.{sound_closes}
@@ -151,23 +149,12 @@ put_value {K} {V} R (e ∷ es) k v x n = go (R k e.0) n (put_value R es k v x)
     go Equal q ih = ⊎_elim (λ a. inl a) (λ a. inr (inr a)) q
     go Greater q ih = ⊎_elim (λ a. inr (inl a)) (λ a. ⊎_elim (λ z. inl z) (λ z. inr (inr z)) (ih a)) q
 
-ids_total : IsTotalOrder id_cmp
-ids_total = then_total (on_total (λ (x : EventId). x.ip) nat_cmp_total) (then_total (on_total (λ (x : EventId). x.pid) nat_cmp_total) (on_total (λ (x : EventId). x.micros) nat_cmp_total))
-
-abbrev made : List Click → List (EventId × Click)
-made cs = finite.entries (finite.from_entries {R = id_cmp} (map (λ c. (c.id, c)) cs))
-
-made_nil : made [] ≡ []
-made_nil =
-    let none : finite.FinMap id_cmp Click = finite.empty in
-    nil_from_length (finite.entries none) (sym (finite.len-entries none) ∙ finite.len-empty id_cmp Click)
-
 -- a distinct click is one of the log
 distinct_mem : (cs : List Click) (x : Click) → Mem x (logs.distinct cs) → Mem x cs
 distinct_mem [] x n = subst (λ (es : List (EventId × Click)). Mem x (map (λ e. e.1) es)) made_nil n
 distinct_mem (c ∷ cs) x n =
     ⊎_elim (λ a. inl a) (λ a. inr (distinct_mem cs x a))
-    (put_value id_cmp (made cs) c.id c x (subst (λ (es : List (EventId × Click)). Mem x (map (λ e. e.1) es)) (finite.entries-insert ids_total (finite.from_entries (map (λ (k : Click). (k.id, k)) cs)) c.id c) n))
+    (put_value id_cmp (made cs) c.id c x (subst (λ (es : List (EventId × Click)). Mem x (map (λ e. e.1) es)) (made_cons c cs) n))
 
 map_same : {A B : Type 0} (f h : A → B) (xs : List A) → ((x : A) → Mem x xs → f x ≡ h x) → map f xs ≡ map h xs
 map_same f h [] e = refl

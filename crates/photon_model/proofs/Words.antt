@@ -7,19 +7,19 @@ pub use Rattle.photon_model.specs.Journals.{journals, values_from}
 pub use Rattle.photon_model.specs.Keeping.{DispatcherKeeps, Grows, IsChosenNow, IsDrawing, IsFlying, IsResolved, JoinerKeeps, PacketsHold, PaxosGives, ReplicaKeeps, ServerKeeps, extended}
 pub use Rattle.photon_model.specs.Report.{all_pairs, decided_for, line_by, line_of, pair_of, pairs_from, unwritten_line}
 pub use Rattle.photon_model.specs.Rest.{BothUp, Carries, DispatcherWorks, IsAtRest, IsInterval, IsQuiet, IsWork, JoinerWorks, ServerWorks, UpWith, if_up, is_out, is_tick_of, is_unfinished, put_in, same_node, ticks_due, ticks_of, to_live}
-pub use Rattle.photon_model.specs.Runs.{Cell, KeptOf, LiveOf, at_node, land_at, row_of, start_at, turn_at, Begin, Disks, End, Entry, Fits, IsRun, IsTurn, May, MayBegin, MayStop, Stop, WasSent, World, after, begun, disks, dispatcher_ended, dispatcher_row, down, ended, joiner_ended, joiner_row, opening, replica_ended, replica_row, row, sends, server_ended, server_row, stopped, world_after}
+pub use Rattle.photon_model.specs.Runs.{Cell, KeptOf, LiveOf, at_node, land_at, row_of, start_at, turn_at, Begin, Disks, End, Entry, Fits, IsRun, IsTurn, May, MayBegin, MayStop, Stop, WasSent, World, after, begun, disks, dispatcher_row, down, ended, joiner_row, opening, replica_row, row, sends, server_ended, server_row, stopped, world_after}
 pub use Rattle.photon_model.specs.Sound.{DispatcherSound, DrawnSound, HasNoQuery, InsertsOf, IsDrained, IsInsertOf, IsMissing, IsSettled, IsWritten, JoinerSound, Known, PairSound, Sound, SoundStore, accepted_inserts, inserts_in, inserts_of, known_of, values_of}
 pub use Rattle.photon_model.specs.Stores.{IsLonger, ReadIsChecked, RunsKeepWhole, TopologyComesFirst, empty_disks, empty_store}
 pub use Rattle.photon_model.specs.Topology.{IsBlank, Store, Topology, WholeSound, topology_of}
 pub use Rattle.turn_defs.proofs.ShardsBelow.{shard_below}
 pub use Rattle.turn_defs.specs.Dispatcher.{DispatcherKept, DispatcherLive, Fresh, advances, after_done, dispatcher_at_rest, dispatcher_gets, dispatcher_joined, dispatcher_own, dispatcher_start, dispatcher_tick, dispatcher_turn, dispatcher_unfinished, dispatcher_wants, done_end, ends, first_done, fresh_joins, has_room, join, join_if, land_dispatcher, mark, mark_one, parks, retries, some_waits, taken as taken_line, takes, trying_joins, waits, with_room}
-pub use Rattle.turn_defs.specs.Joiner.{Flight, JoinerKept, JoinerLive, answers, claim, in_flight, insert_of, is_for, joiner_at_rest, joiner_gets, joiner_start, joiner_tick, joiner_turn, joiner_unfinished, joins, land_joiner, landed, looks, next_token, replied, to_dispatcher, without_flight}
+pub use Rattle.turn_defs.specs.Joiner.{Flight, JoinerKept, JoinerLive, answers, claim, in_flight, insert_of, is_for, joiner_at_rest, joiner_start, joiner_tick, joiner_turn, joiner_unfinished, land_joiner, landed, looks, next_token, replied, to_dispatcher, without_flight}
 pub use Rattle.turn_defs.specs.Nodes.{Addressed, IsNode, IsTo, NumbersAreNodes, node_count, node_number, node_of}
 pub use Rattle.turn_defs.specs.Packets.{IsPacket, packet}
 pub use Rattle.turn_defs.specs.Replica.{ReplicaKept, cell_at, land_replica, note_at, prepared, replica_gets, replica_start, replica_turn, says, taken}
 pub use Rattle.turn_defs.specs.Rows.{insert, one_batch, one_line, token, worked}
 pub use Rattle.turn_defs.specs.Sent.{Sent}
-pub use Rattle.turn_defs.specs.Server.{Proposal, ServerKept, ServerLive, ShardState, accepted, again, all_again, claimed, empty_shard, first_shard, from_replica, gets_accepted, gets_chosen, gets_nack, gets_promise, goes_on, is_below_limit, is_current, is_free, is_next, is_own_joiner, keep_if, land_server, learns, may_propose, nacked, of_phase, owns, promised, queued, replies, reply, reply_if, server_at_rest, server_gets, server_own, server_start, server_tick, server_turn, server_unfinished, server_wants, shard_unfinished, to_from, to_replicas, unanswered, with_shard}
+pub use Rattle.turn_defs.specs.Server.{Proposal, ServerKept, ServerLive, ShardState, accepted, again, all_again, claimed, empty_shard, first_shard, from_replica, gets_accepted, gets_nack, gets_promise, goes_on, is_below_limit, is_current, is_free, is_next, is_own_joiner, keep_if, land_server, learns, may_propose, nacked, of_phase, owns, promised, queued, replies, reply, reply_if, server_at_rest, server_gets, server_own, server_start, server_tick, server_turn, server_unfinished, server_wants, shard_unfinished, to_from, to_replicas, unanswered, with_shard}
 pub use Rattle.turn_defs.specs.Setting.{Checked, IsJoin, IsJoiner, Setting, first_joiner, shard, shards, site_of_joiner}
 pub use Rattle.turn_defs.specs.Spellings.{IsPair}
 pub use Rattle.turn_defs.specs.Turns.{BallotNote, Note, Out, Output, Park, Settle, Voted, idle, is_empty, land}
@@ -71,4 +71,4 @@ pub use Rattle.ballot_core.specs.declared.Ballot.{Ballot}
 pub use Rattle.event_id.specs.EventId.{id_cmp, is_same as same_id}
 pub use Rattle.event_id.specs.declared.id.EventId.{EventId}
 pub use Rattle.list_words.proofs.Lists.{at_set, at_set_if, clash, distinct_push, distinct_without, each_append, each_at, each_from, each_more, has_push-false, has_push-left, has_push-or, has_push-right, has_without, has_without-false, has_without-self, has_without-true, mem_left, mem_right, mem_split, none_some, option_both, pairs_push, some_same}
-pub use Rattle.list_words.specs.Lists.{Begins, Distinct, Each, EachPair, Mem, has, option_or_else, set_at, without}
+pub use Rattle.list_words.specs.Lists.{Begins, Distinct, Each, EachPair, Mem, has, set_at, without}

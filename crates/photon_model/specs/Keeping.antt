@@ -85,13 +85,6 @@ JoinerStartKeeps =
     (g : Setting) (n : Known) (epochs : ℕ → ℕ) (j : ℕ) (k : JoinerKept) →
     n.pairs j ≡ k.pairs → epochs j ≡ k.epoch → DrawnSound g n epochs → JoinerSound g n j k → JoinerKeeps g n j k (joiner_start k)
 
--- facts that last where more is known
-abbrev pub PacketsLast : Type 0
-PacketsLast = (g : Setting) (a b : Known) (p : Packet) → Grows a b → HoldsOf g a p → HoldsOf g b p
-
-abbrev pub DispatchersLast : Type 0
-DispatchersLast = (g : Setting) (a b : Known) (k : DispatcherKept) (l : DispatcherLive) → Grows a b → DispatcherSound g a k × DispatcherHolds g a k l → DispatcherSound g b k × DispatcherHolds g b k l
-
 -- What Paxos gives a server: where an Accepted makes a majority for its value, that is decided at the slot.
 abbrev pub IsChosenNow : Setting → Known → ServerLive → Input → Type 0
 IsChosenNow g n l i =

@@ -8,7 +8,7 @@ use Rattle.log_records.specs.declared.records.ClickRec.{ClickRec as Click}
 use Rattle.log_records.specs.Lines.{ClickLine}
 use Rattle.log_records.specs.declared.report.ReportLine.{ReportLine}
 use Rattle.log_records.specs.declared.report.ReportLine.TheVariants.{J, M, X, U}
-use Rattle.log_records.specs.Report.{distinct, text_of}
+use Rattle.log_records.specs.Report.{distinct}
 use Rattle.turn_defs.specs.declared.pair.PairRec.{PairRec}
 use Rattle.turn_defs.specs.Setting.{Setting, first_joiner, shard}
 use Rattle.photon_model.specs.Journals.{journals, decided}
@@ -44,6 +44,3 @@ module _ (g : Setting) (d : Disks) where
   -- a line for each click id, in the order of ids
   abbrev pub report : List ReportLine
   report = map (λ (c : Click). line_of c.id) (distinct (map (λ (l : ClickLine). l.click) g.clicks))
-
-  abbrev pub report_text : List ℕ
-  report_text = text_of report

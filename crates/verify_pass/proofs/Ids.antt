@@ -1,24 +1,9 @@
--- The order of ids, and the ids of clicks.
+-- The ids of clicks.
 use Rattle.std.proofs.Common.{◌≡◌, ℕ, suc, ◌+◌, ◌-◌, List, [], ◌∷◌, ◌++◌, Bool, true, false, cond, ◌||◌, map, Option, Some, None, is_some, length, get_or, drop, drop-cons, refl, sym, ap, ◌∙◌, subst, arith}
 use Rattle.std.specs.FinMap as finite
-use Rattle.verify_pass.proofs.Words.{Ordering, Less, Equal, Greater, insert_key, nat_cmp, ordering_then, match_ordering, is_eq, by_order, IsTotalOrder, nat_cmp_total, on_total, then_total, tied_itself, map-map, CmpEqualImpliesEq, exact_unsigned, nil_from_length, EventId, id_cmp, same_id, Insert, Token, or_else, first_in, same_id-true, same_id-false, ClickRec, distinct, in_order}
-
-pub ids_total : IsTotalOrder id_cmp
-ids_total = then_total (on_total (λ (x : EventId). x.ip) nat_cmp_total) (then_total (on_total (λ (x : EventId). x.pid) nat_cmp_total) (on_total (λ (x : EventId). x.micros) nat_cmp_total))
-
-then_equal : (o p : Ordering) → ordering_then o p ≡ Equal → (o ≡ Equal) × (p ≡ Equal)
-then_equal Less p e = absurd (cc)
-then_equal Equal p e = (refl, e)
-then_equal Greater p e = absurd (cc)
-
-pub exact_ids : CmpEqualImpliesEq id_cmp
-exact_ids a b h =
-    let x = then_equal (nat_cmp a.ip b.ip) (ordering_then (nat_cmp a.pid b.pid) (nat_cmp a.micros b.micros)) h in
-    let y = then_equal (nat_cmp a.pid b.pid) (nat_cmp a.micros b.micros) x.1 in
-    let p = exact_unsigned a.ip b.ip x.0 in
-    let q = exact_unsigned a.pid b.pid y.0 in
-    let r = exact_unsigned a.micros b.micros y.1 in
-    λ i. record { ip = p i; pid = q i; micros = r i }
+use Rattle.event_id.proofs.Order.{ids_total, exact_ids}
+use Rattle.log_records.proofs.Distinct.{made, made_nil, made_cons}
+use Rattle.verify_pass.proofs.Words.{Ordering, Less, Equal, Greater, insert_key, match_ordering, is_eq, by_order, tied_itself, map-map, EventId, id_cmp, same_id, Insert, Token, or_else, first_in, same_id-true, same_id-false, ClickRec, distinct, in_order}
 
 abbrev Entry : Type 0
 Entry = EventId × ClickRec
@@ -58,18 +43,6 @@ own_put (e ∷ es) c exact h = go (id_cmp c.id e.0) refl (own_put es c exact tai
 
         head_ : e.1.id ≡ e.0
         head_ = ap first h
-
--- the entries of the map that is made of these clicks
-abbrev made : List ClickRec → List Entry
-made cs = finite.entries (finite.from_entries {R = id_cmp} (map (λ c. (c.id, c)) cs))
-
-made_nil : made [] ≡ []
-made_nil =
-    let none : finite.FinMap id_cmp ClickRec = finite.empty in
-    nil_from_length (finite.entries none) (sym (finite.len-entries none) ∙ finite.len-empty id_cmp ClickRec)
-
-made_cons : (c : ClickRec) (cs : List ClickRec) → made (c ∷ cs) ≡ finite.put id_cmp c.id c (made cs)
-made_cons c cs = finite.entries-insert ids_total (finite.from_entries (map (λ (d : ClickRec). (d.id, d)) cs)) c.id c
 
 own_made : (cs : List ClickRec) → Own (made cs)
 own_made [] = subst Own (sym made_nil) refl
