@@ -1,6 +1,6 @@
 -- A drill's history, and where a joiner has stopped in it.
 use Rattle.std.proofs.Common.{◌≡◌, ◌≤◌, ℕ, ◌==◌, Bool, true, false, ◌||◌, nat_le, List, [], ◌∷◌, Option, Some, None, refl, sym, subst, arith}
-use Rattle.photon_cli.proofs.Words.{list_any, IfSome, IsSomeAnd, nat_tests, PlanView, Entry, Begin, End, Stop, is_of, is_stop_from, ReportLine, Setting, is_joiners, made_by, is_stop, RanAfresh, RunLog, IsDrilled, IsHeardOf}
+use Rattle.photon_cli.proofs.Words.{REPLICAS, list_any, IfSome, IsSomeAnd, nat_tests, PlanView, Entry, Begin, End, Stop, is_of, is_stop_from, ReportLine, Setting, is_joiners, made_by, is_stop, RanAfresh, RunLog, IsDrilled, IsHeardOf}
 
 -- an entry that may be the node's, before others: if it is, it is no stop
 one_more : (own stops rest : Bool) (e : Entry) (j : ℕ) (h : List Entry) → is_of j e ≡ own → is_stop e ≡ stops → (own ≡ true → stops ≡ false) → list_any is_stop (made_by j h) ≡ false → list_any is_stop (made_by j (e ∷ h)) ≡ false
@@ -25,7 +25,7 @@ none_late (Stop node landed ∷ h) j late none =
     one_more (node == j) true false (Stop node landed) j h refl refl (not_own node j late both.0) (none_late h j late both.1)
 
 -- what is known of a run's history
-pub drilled : (o : Option RunLog) (g : Setting) (plan : PlanView) (joiners : ℕ) (lines : List ReportLine) → g.replicas ≡ 3 → g.joiners ≡ joiners → IsSomeAnd o (λ l. RanAfresh g l.air.history lines) → IfSome o (IsHeardOf plan joiners)
+pub drilled : (o : Option RunLog) (g : Setting) (plan : PlanView) (joiners : ℕ) (lines : List ReportLine) → g.replicas ≡ REPLICAS → g.joiners ≡ joiners → IsSomeAnd o (λ l. RanAfresh g l.air.history lines) → IfSome o (IsHeardOf plan joiners)
     → (list_any is_joiners plan.stops ≡ false → IfSome o (λ l. (j : ℕ) → 7 ≤ j → list_any is_stop (made_by j l.air.history) ≡ false)) → IsSomeAnd o (IsDrilled g plan lines)
 drilled None g plan joiners lines three same ran heard spared = absurd ran
 drilled (Some log) g plan joiners lines three same ran heard spared = record {

@@ -1,6 +1,6 @@
 -- Words that were taken for none, for want of memory: whatever they ask for, nothing was done.
 use Rattle.std.proofs.Common.{inl, inr, ⊎_elim, ◌≡◌, ◌++◌, ℕ, List, Bool, Option, IsTrue, refl, sym, subst, arith}
-use Rattle.photon_cli.proofs.Words.{continues_same, Setting, DiskName, StaysAs, Images, RunLog, BulkValues, Text, Values, Wish, a_bulk_run, a_drill, a_join, a_resharding, a_verification, BulkEnds, DrillEnds, Ends, JoinEnds, VerifyEnds, message}
+use Rattle.photon_cli.proofs.Words.{continues_same, DiskName, StaysAs, Images, RunLog, BulkValues, Text, Values, Wish, a_bulk_run, a_drill, a_join, a_resharding, a_verification, BulkEnds, DrillEnds, Ends, JoinEnds, VerifyEnds, message}
 use Rattle.run_fault.specs.declared.fault.RunFault.TheVariants as fault
 use Rattle.photon_cli.specs.Reshard.{ReshardEnds}
 use Rattle.photon_cli.proofs.Resharding.{ends, not_added, untaken}

@@ -36,6 +36,6 @@ module _ (g : Setting) (before : Images) (read faulted : Type 0) (ran : Option R
     keeps = over.keeps;
     idle = over.idle;
     passed = over.passed;
-    caused = IfErr-weaker r (IsCauseOf g before files faulted) (IsCauseOf g before read faulted) (later_caused before (Some (asked_of g)) (TellsPlaces g) faulted faulted files read more) over.caused;
+    caused = IfErr-weaker r (IsCauseOf g before files faulted) (IsCauseOf g before read faulted) (later_caused before g.replicas (Some (asked_of g)) (TellsPlaces g) faulted faulted files read more) over.caused;
     welcome = over.welcome;
   }

@@ -13,10 +13,11 @@ use Rattle.site_store.specs.Records.{AreKept, IsKept}
 use Rattle.site_store.specs.Written.{IsWritten}
 use Rattle.site_store.proofs.Added.{unchanged}
 use Rattle.site_store.proofs.Damage.{no_damage}
-use Rattle.photon_cli.proofs.Words.{DiskName, Images, IsSoundStore, KeptValues, HasCause, HasFailed, Setting, ShardRow, StorePlace, StoreFault, RunFault, Text, Topology, Unfit, LeavesSomething, cause_more, failed_rose, first_limit, goes_on_through, goes_on_within, kept_are_journals, message, of_place, sound_placed, status_of, unasked}
+use Rattle.photon_cli.proofs.Words.{REPLICAS, DiskName, Images, IsSoundStore, KeptValues, HasCause, HasFailed, Setting, ShardRow, StorePlace, StoreFault, RunFault, Text, Topology, Unfit, LeavesSomething, cause_more, failed_rose, first_limit, goes_on_through, goes_on_within, kept_are_journals, message, of_place, sound_placed, status_of, unasked}
 use Rattle.outside.specs.declared.faults.StoreFault.TheVariants as store
 use Rattle.report_text.specs.Stream.{TookPrefix}
 use Rattle.photon_cli.specs.Reshard.{Adds, HasOwnRow, HasRow, IsCauseFor, IsForbidden, IsNamedInReshard, IsRowOf, LeftAt, ReshardEnds}
+use Rattle.site_store.specs.Refusals.{IsFirstDisk}
 use Rattle.photon_cli.proofs.Statuses.{damaged_of, failed_of, line_of, mismatch_of, no_one, no_zero, place_of, two_of, write_of}
 
 -- ---- a row and its text
@@ -28,7 +29,7 @@ one_row text row other is also = row_same row other is.0 also.0 (sym is.1 ∙ al
 -- ---- from a store that was placed to the one before
 
 module _ (placed before : Images) (within : (disk : DiskName) (c : List ℕ) → placed disk c → before disk c) where
-  kept_before : (k : KeptValues) → AreKept true placed 0 k → AreKept true before 0 k
+  kept_before : (k : KeptValues) → AreKept true placed REPLICAS 0 k → AreKept true before REPLICAS 0 k
   kept_before k are = record {
     topology = λ sure. let x = are.topology sure in (x.0, within name.Topology x.0 x.1, x.2);
     named = are.named;
@@ -36,42 +37,42 @@ module _ (placed before : Images) (within : (disk : DiskName) (c : List ℕ) →
     kept = λ sure. each_more (IsKept placed) (IsKept before) k.disks (λ o kept. (kept.0, within o.name kept.0 kept.1, kept.2)) (are.kept sure);
   }
 
-  answers_before : (row : ShardRow) (answer : Result Topology Unfit) → Answers true placed row answer → Answers true before row answer
+  answers_before : (row : ShardRow) (answer : Result Topology Unfit) → Answers true placed REPLICAS row answer → Answers true before REPLICAS row answer
   answers_before row answer (k, are, is) = (k, kept_before k are, is)
 
   written_before : (t : Topology) (c : List ℕ) → IsWritten (placed name.Topology) t c → IsWritten (before name.Topology) t c
   written_before t c w = record { from = w.from; was = within name.Topology w.from w.was; records = w.records; stood = w.stood; stands = w.stands; keeps = w.keeps }
 
-  pub added_before : (tells : Bool) → IsTrue tells → (row : ShardRow) (after : Images) (table : List ShardRow) → IsAdded tells placed row after table → IsAdded true before row after table
+  pub added_before : (tells : Bool) → IsTrue tells → (row : ShardRow) (after : Images) (table : List ShardRow) → IsAdded tells placed REPLICAS row after table → IsAdded true before REPLICAS row after table
   added_before tells sure row after table is =
-      let here : IsAdded true placed row after table = subst (λ (b : Bool). IsAdded b placed row after table) sure is in
+      let here : IsAdded true placed REPLICAS row after table = subst (λ (b : Bool). IsAdded b placed REPLICAS row after table) sure is in
       record { topology = here.topology; longer = here.longer; answers = answers_before row (Ok here.topology) here.answers; written = λ yes c now. written_before here.topology c (here.written yes c now) }
 
-  pub row_before : (tells : Bool) → IsTrue tells → (row : ShardRow) (c : List ℕ) → KeepsRow tells placed row c → KeepsRow true before row c
+  pub row_before : (tells : Bool) → IsTrue tells → (row : ShardRow) (c : List ℕ) → KeepsRow tells placed REPLICAS row c → KeepsRow true before REPLICAS row c
   row_before tells sure row c has =
-      let here : KeepsRow true placed row c = subst (λ (b : Bool). KeepsRow b placed row c) sure has in
+      let here : KeepsRow true placed REPLICAS row c = subst (λ (b : Bool). KeepsRow b placed REPLICAS row c) sure has in
       (here.0, answers_before row (Ok here.0) here.1, written_before here.0 c here.2)
 
   abbrev Told : (tells : Bool) → Images → ShardRow → RunFault → Type 0
-  Told tells image row f = (why : Unfit) × (f ≡ fault.Reshard why) × Answers tells image row (Err why)
+  Told tells image row f = (why : Unfit) × (f ≡ fault.Reshard why) × Answers tells image REPLICAS row (Err why)
 
   told_before : (tells : Bool) → IsTrue tells → (row : ShardRow) (f : RunFault) → Told tells placed row f → Told true before row f
-  told_before tells sure row f (why, is, answers) = (why, is, answers_before row (Err why) (subst (λ (b : Bool). Answers b placed row (Err why)) sure answers))
+  told_before tells sure row f (why, is, answers) = (why, is, answers_before row (Err why) (subst (λ (b : Bool). Answers b placed REPLICAS row (Err why)) sure answers))
 
-  pub cause_before : (tells : Bool) → IsTrue tells → (row : ShardRow) (rose faulted : Type 0) → (rose → faulted) → (f : RunFault) → IsRowCause tells placed row rose f → IsCauseFor before faulted row f
+  pub cause_before : (tells : Bool) → IsTrue tells → (row : ShardRow) (rose faulted : Type 0) → (rose → faulted) → (f : RunFault) → IsRowCause tells placed REPLICAS row rose f → IsCauseFor before faulted row f
   cause_before tells sure row rose faulted more f cause =
-      by_kind f (subst (λ (b : Bool). HasCause b before None NoneTold (λ log. ⊥) (λ at. faulted) ⊥ (Told true before row f) f) sure
-      (cause_more tells None placed before within NoneTold NoneTold (λ disks told is. is) (λ log. ⊥) (λ log. ⊥) (HasFailed tells placed None NoneTold rose) (λ at. faulted) ⊥ ⊥ (Told tells placed row f) (Told true before row f)
-      (λ log x. x) (λ at failed. more (failed_rose tells placed None NoneTold rose at failed)) (λ x. x) (told_before tells sure row f) f cause))
+      by_kind f (subst (λ (b : Bool). HasCause b before REPLICAS None NoneTold (λ log. ⊥) (λ at. faulted) ⊥ (Told true before row f) f) sure
+      (cause_more tells REPLICAS None placed before within NoneTold NoneTold (λ disks told is. is) (λ log. ⊥) (λ log. ⊥) (HasFailed tells placed REPLICAS None NoneTold rose) (λ at. faulted) ⊥ ⊥ (Told tells placed row f) (Told true before row f)
+      (λ log x. x) (λ at failed. more (failed_rose tells placed REPLICAS None NoneTold rose at failed)) (λ x. x) (told_before tells sure row f) f cause))
     where
       other : (why : Unfit) → fault.Write ≡ fault.Reshard why → ⊥
       other why e = cc
 
-      by_kind : (g : RunFault) → HasCause true before None NoneTold (λ log. ⊥) (λ at. faulted) ⊥ (Told true before row g) g → IsCauseFor before faulted row g
+      by_kind : (g : RunFault) → HasCause true before REPLICAS None NoneTold (λ log. ⊥) (λ at. faulted) ⊥ (Told true before row g) g → IsCauseFor before faulted row g
       by_kind (fault.Store at) x = x
       by_kind (fault.Damaged disk at) x = (x.0, x.1 refl)
       by_kind (fault.Limit disk value) x = ⊎_elim (λ (k, are, unfit). (k, are, unfit.2)) (λ late. absurd late.0) x
-      by_kind (fault.Reshard why) (u, is, answers) = let same : u ≡ why = cc in subst (λ (v : Unfit). Answers true before row (Err v)) same answers
+      by_kind (fault.Reshard why) (u, is, answers) = let same : u ≡ why = cc in subst (λ (v : Unfit). Answers true before REPLICAS row (Err v)) same answers
       by_kind fault.Memory x = tt
       by_kind fault.Write ((u, is, answers), passed) = absurd (other u is)
       by_kind (fault.Table n) (u, is, answers) = absurd (cc)
@@ -84,7 +85,7 @@ module _ (placed before : Images) (within : (disk : DiskName) (c : List ℕ) →
       by_kind (fault.Topology (mismatch.Place p)) (k, are, (fit, told)) = absurd (cc)
 
 -- what isn't added for this is named so
-pub named_row : (tells : Bool) (placed : Images) (row : ShardRow) (rose : Type 0) (text : Text) (f : RunFault) → HasRow text → IsRowCause tells placed row rose f → IsNamedInReshard text f
+pub named_row : (tells : Bool) (placed : Images) (row : ShardRow) (rose : Type 0) (text : Text) (f : RunFault) → HasRow text → IsRowCause tells placed REPLICAS row rose f → IsNamedInReshard text f
 named_row tells placed row rose text (fault.Store at) has cause = has
 named_row tells placed row rose text (fault.Damaged disk at) has cause = has
 named_row tells placed row rose text (fault.Limit disk value) has cause = has
@@ -106,8 +107,8 @@ place_status store.Disk f e five = let at : 6 ≡ 5 = sym (ap status_of e) ∙ f
 place_status store.Memory f e five = let at : 8 ≡ 5 = sym (ap status_of e) ∙ five in omega (arith, at)
 
 -- and it is no fault of the output
-pub not_written : (tells : Bool) (placed : Images) (row : ShardRow) (rose : Type 0) (f : RunFault) → IsRowCause tells placed row rose f → f ≡ fault.Write → ⊥
-not_written tells placed row rose f cause is = let x = (subst (IsRowCause tells placed row rose) is cause).0 in other x.0 x.1
+pub not_written : (tells : Bool) (placed : Images) (row : ShardRow) (rose : Type 0) (f : RunFault) → IsRowCause tells placed REPLICAS row rose f → f ≡ fault.Write → ⊥
+not_written tells placed row rose f cause is = let x = (subst (IsRowCause tells placed REPLICAS row rose) is cause).0 in other x.0 x.1
   where
     other : (why : Unfit) → fault.Write ≡ fault.Reshard why → ⊥
     other why e = cc
@@ -121,11 +122,11 @@ not_added f other = ⊎_elim (no_zero f) (λ five. other (write_of f five))
 -- where no disk was taken
 pub untaken : (text : Text) (before after : Images) (status : ℕ) → ((status ≡ 0) ⊎ (status ≡ 5) → ⊥) → ((disk : DiskName) (c : List ℕ) → after disk c → before disk c) → LeftAt text before after status
 untaken text before after status not within =
-    unchanged before after (IsRowOf text) (HasOwnRow text before) _ _ not (λ g sound stay b choice. sound b (λ disk here. within disk (b disk) (choice disk here))) (λ disk c now. (c, within disk c now, refl))
+    unchanged before after REPLICAS (IsRowOf text) (HasOwnRow text before) _ _ not (λ g sound stay b choice. sound b (λ disk here. within disk (b disk) (choice disk here))) (λ disk c now. (c, within disk c now, refl))
 
 -- what is left of the disks of a store that was placed, by what might have been left before
 pub left_before : (tells : Bool) → IsTrue tells → (text : Text) (row : ShardRow) → IsRowOf text row → (placed before after : Images) → ((disk : DiskName) (c : List ℕ) → placed disk c → before disk c) → (sure none : Type 0) (status : ℕ)
-    → ((status ≡ 0) ⊎ (status ≡ 5) → sure) → ((status ≢ 0) × (status ≢ 5) × (status ≢ 6) → none) → Leaves placed after (λ r. r ≡ row) (KeepsRow tells placed row) sure none → LeftAt text before after status
+    → ((status ≡ 0) ⊎ (status ≡ 5) → sure) → ((status ≢ 0) × (status ≢ 5) × (status ≢ 6) → none) → Leaves placed after REPLICAS (λ r. r ≡ row) (KeepsRow tells placed REPLICAS row) sure none → LeftAt text before after status
 left_before tells telling text row is placed before after within sure none status added unadded left = record {
   stays = λ no disk c now. let x = left.stays (unadded no) disk c now in (x.0, within disk x.0 x.1, x.2);
   others = λ disk other c now. let x = left.others disk other c now in (x.0, within disk x.0 x.1, x.2);
@@ -140,7 +141,7 @@ module _ (before : Images) (faulted : Type 0) (row : ShardRow) where
   abbrev Has : RunFault → Type 0
   Has f = IsCauseFor before faulted row f
 
-  pub damaged_row : (f : RunFault) → Has f → ((k : KeptValues) → AreKept true before 0 k → ⊥) → (faulted → ⊥) → (status_of f ≡ 7) ⊎ (status_of f ≡ 8)
+  pub damaged_row : (f : RunFault) → Has f → ((k : KeptValues) → AreKept true before REPLICAS 0 k → ⊥) → (faulted → ⊥) → (status_of f ≡ 7) ⊎ (status_of f ≡ 8)
   damaged_row (fault.Store at) has none still = absurd (still has)
   damaged_row (fault.Damaged disk at) has none still = inl refl
   damaged_row (fault.Limit disk value) (k, kept, e) none still = absurd (none k kept)
@@ -149,7 +150,7 @@ module _ (before : Images) (faulted : Type 0) (row : ShardRow) where
   damaged_row fault.Memory has none still = inr refl
   damaged_row _ has none still = absurd has
 
-  pub limited_row : (f : RunFault) → Has f → ((k : KeptValues) → AreKept true before 0 k → first_limit k ≢ None) → (faulted → ⊥) → (status_of f ≡ 10) ⊎ ((status_of f ≡ 7) ⊎ (status_of f ≡ 8))
+  pub limited_row : (f : RunFault) → Has f → ((k : KeptValues) → AreKept true before REPLICAS 0 k → first_limit k ≢ None) → (faulted → ⊥) → (status_of f ≡ 10) ⊎ ((status_of f ≡ 7) ⊎ (status_of f ≡ 8))
   limited_row (fault.Store at) has limit still = absurd (still has)
   limited_row (fault.Damaged disk at) has limit still = inr (inl refl)
   limited_row (fault.Limit disk value) has limit still = inl refl
@@ -167,7 +168,7 @@ module _ (before : Images) (faulted : Type 0) (row : ShardRow) where
   forbidden_row fault.Memory has forbids still = inr (inr (inr refl))
   forbidden_row _ has forbids still = absurd has
 
-  pub complete_row : (f : RunFault) → Has f → status_of f ≢ 7 → ((k : KeptValues) → AreKept true before 0 k → first_limit k ≡ None) → (faulted → ⊥) → (f ≡ fault.Write → ⊥) → (status_of f ≡ 8) ⊎ (status_of f ≡ 11)
+  pub complete_row : (f : RunFault) → Has f → status_of f ≢ 7 → ((k : KeptValues) → AreKept true before REPLICAS 0 k → first_limit k ≡ None) → (faulted → ⊥) → (f ≡ fault.Write → ⊥) → (status_of f ≡ 8) ⊎ (status_of f ≡ 11)
   complete_row (fault.Store at) has fair below still written = absurd (still has)
   complete_row (fault.Damaged disk at) has fair below still written = absurd (fair refl)
   complete_row (fault.Limit disk value) (k, kept, e) fair below still written = absurd (cc (sym (below k kept) ∙ e))
@@ -177,17 +178,17 @@ module _ (before : Images) (faulted : Type 0) (row : ShardRow) where
   complete_row _ has fair below still written = absurd has
 
   -- of a sound store no disk is told as damaged
-  pub fair_row : ReadTopologyIsKept → TopologyFits → (g : Setting) → g.replicas ≡ 3 → g.joiners ≤ MOST_JOINERS → IsSoundStore g before → LeavesSomething g before → (f : RunFault) → Has f → status_of f ≢ 7
+  pub fair_row : ReadTopologyIsKept → TopologyFits → (g : Setting) → g.replicas ≡ REPLICAS → g.joiners ≤ MOST_JOINERS → IsSoundStore g before → LeavesSomething g before → (f : RunFault) → Has f → status_of f ≢ 7
   fair_row read fits g replicas few sound some f has seven =
       let d = damaged_of f seven in
       let here = subst Has d.2 has in
-      no_damage true refl before 0 read fits g (omega arith) few replicas sound d.0 d.1 here.0 (λ sure. here.1) some
+      no_damage true refl before 0 read fits g (omega arith) sound d.0 d.1 (subst (λ n. IsFirstDisk true before n 0 d.0) (sym replicas) here.0) (λ sure. here.1) some
 
 -- ---- where the row was added
 
-module _ (text : Text) (disks : Bool) (before after : Images) (row : ShardRow) (is : IsRowOf text row) (table : List ShardRow) (added : IsTrue disks → IsAdded true before row after table) where
-  pub answer_for : IsTrue disks → (r : ShardRow) → IsRowOf text r → (t : Topology) × Answers true before r (Ok t)
-  answer_for d r own = let a = added d in (a.topology, subst (λ (x : ShardRow). Answers true before x (Ok a.topology)) (one_row text row r is own) a.answers)
+module _ (text : Text) (disks : Bool) (before after : Images) (row : ShardRow) (is : IsRowOf text row) (table : List ShardRow) (added : IsTrue disks → IsAdded true before REPLICAS row after table) where
+  pub answer_for : IsTrue disks → (r : ShardRow) → IsRowOf text r → (t : Topology) × Answers true before REPLICAS r (Ok t)
+  answer_for d r own = let a = added d in (a.topology, subst (λ (x : ShardRow). Answers true before REPLICAS x (Ok a.topology)) (one_row text row r is own) a.answers)
 
   pub adds : (says : List ℕ → Type 0) → says (table_text table ++ codes "\n") → IsTrue disks → Adds text before after says
   adds says line d = record { row = row; is = is; table = table; added = added d; line = line }
@@ -214,7 +215,7 @@ module _ (text : Text) (disks : Bool) (before after : Images) (row : ShardRow) (
 module _ (sinks disks : Bool) (output errors : Type 0) (old new err_old err_new : List ℕ) (text : Text) (same : Type 0) (before after : Images) (faulted : Type 0) where
   pub ends : (f : RunFault) → IsNamedInReshard text f → (IsTrue disks → (row : ShardRow) → IsRowOf text row → IsCauseFor before faulted row f) → ((HasRow text → ⊥) → same × ((status_of f ≡ 2) ⊎ (status_of f ≡ 8)))
       → ((at : StorePlace) → f ≡ fault.Store at → faulted) → (f ≡ fault.Write → output) → (IsTrue sinks → IsTrue disks → f ≡ fault.Write → Adds text before after (λ line. TookPrefix old line new))
-      → (IsTrue sinks → (errors → ⊥) → err_new ≡ err_old ++ message f) → (IsTrue disks → (g : Setting) → g.replicas ≡ 3 → g.joiners ≤ MOST_JOINERS → IsSoundStore g before → LeavesSomething g before → status_of f ≢ 7) → (IsTrue disks → LeftAt text before after (status_of f))
+      → (IsTrue sinks → (errors → ⊥) → err_new ≡ err_old ++ message f) → (IsTrue disks → (g : Setting) → g.replicas ≡ REPLICAS → g.joiners ≤ MOST_JOINERS → IsSoundStore g before → LeavesSomething g before → status_of f ≢ 7) → (IsTrue disks → LeftAt text before after (status_of f))
       → ReshardEnds sinks output errors old new err_old err_new (status_of f) text same disks before after faulted
   ends f named causes bad rose wrote prefix tells fair left = record {
     added = λ s d zero. absurd (no_zero f zero);

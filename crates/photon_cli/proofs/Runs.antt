@@ -1,6 +1,6 @@
 -- What a run that has come to rest gives the report, and the setting that it is of.
 use Rattle.std.proofs.Common.{◌≡◌, ℕ, suc, ◌+◌, List, [], ◌∷◌, map, Option, Some, None, refl, sym, ap, ◌∙◌, length, subst}
-use Rattle.photon_cli.proofs.Words.{Config, IfSome, IsSomeAnd, PlanView, Images, RunLeft, RunLog, ShardRow, only_table, EventId, QueryRec, ClickRec, IsQueryLog, IsClickLog, click_line, ClickLine, placed, end_from, lines_follow, Setting, Checked, IsLogOf, IsSettingOf, Values, EndsAt, AreLogs, HasIds, IsAsked, IsHeardOf, IsHistory, config_of, IsTextOf}
+use Rattle.photon_cli.proofs.Words.{REPLICAS, Config, IfSome, IsSomeAnd, PlanView, Images, RunLeft, RunLog, ShardRow, only_table, EventId, QueryRec, ClickRec, IsQueryLog, IsClickLog, click_line, ClickLine, placed, end_from, lines_follow, Setting, Checked, IsLogOf, IsSettingOf, Values, EndsAt, AreLogs, HasIds, IsAsked, IsHeardOf, IsHistory, config_of, IsTextOf}
 use Rattle.photon_cli.proofs.Refusals.{within}
 
 pub taken : {A : Type 0} (o : Option A) (P : A → Type 0) → IsSomeAnd o P → (x : A) × P x
@@ -59,7 +59,7 @@ placed_ids ids cs are = ap (map (λ (c : ClickRec). c.id)) (clicks_back 0 cs) �
 
 -- the setting of these values and records
 abbrev pub setting_of : Values → List ShardRow → List QueryRec → List ClickRec → Setting
-setting_of v table qs cs = record { queries = qs; clicks = placed 0 cs; horizon = v.horizon; joiners = v.nodes.joiners; table = table; batch = v.nodes.batch; replicas = 3 }
+setting_of v table qs cs = record { queries = qs; clicks = placed 0 cs; horizon = v.horizon; joiners = v.nodes.joiners; table = table; batch = v.nodes.batch; replicas = REPLICAS }
 
 pub is_asked : (told : List ℕ → Option (List ℕ)) (v : Values) (table : List ShardRow) (qs : List QueryRec) (cs : List ClickRec) → IsTextOf v.nodes.shards table → AreLogs told v.queries v.clicks qs cs → IsAsked told v (setting_of v table qs cs)
 is_asked told v table qs cs text logs = record {

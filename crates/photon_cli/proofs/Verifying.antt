@@ -1,6 +1,6 @@
 -- How a verification ends at each fault.
 use Rattle.std.proofs.Common.{◌≡◌, ℕ, List, [], map, nat_lt, Option, None, Some, Bool, false, IsTrue, refl, sym, ap, subst, ◌∙◌, arith}
-use Rattle.photon_cli.proofs.Words.{IsSomeAnd, flat_map, nat_tests, EventId, same_batch, U, PairRec, note_view, ShardRow, shard_of, first_pair, line_by, line_of, DiskName, KeepsTopology, Setting, Images, HasTopology, KeptStore, IsRead, Tells, Journals, KeptTopology, ClickRec, IsClickLog, ClickLine, clicks_same, ReportLine, distinct, IsLogOf, HasIds, IsReadFrom, IsTold, left_before, sound_placed}
+use Rattle.photon_cli.proofs.Words.{REPLICAS, IsSomeAnd, flat_map, nat_tests, EventId, same_batch, U, PairRec, note_view, ShardRow, shard_of, first_pair, line_by, line_of, DiskName, KeepsTopology, Setting, Images, HasTopology, KeptStore, IsRead, Tells, Journals, KeptTopology, ClickRec, IsClickLog, ClickLine, clicks_same, ReportLine, distinct, IsLogOf, HasIds, IsReadFrom, IsTold, left_before, sound_placed}
 use Rattle.paxos_defs.specs.Decided.{decided}
 use Rattle.outside.specs.declared.store.DiskName.TheVariants as name
 use Rattle.photon_cli.proofs.Runs.{clicks_back}
@@ -17,8 +17,8 @@ module _ (before placed : Images) (within : (disk : DiskName) (c : List ℕ) →
     whole = λ sound. t.whole (sound_placed g before placed within sound);
   }
 
-  pub read_before : (tells log_tells : Bool) (log : List ℕ) (end_ : ℕ) (k : KeptStore) → IsTrue tells → IsRead tells placed log_tells log end_ k
-      → ((t : KeptTopology) (g : Setting) → k.topology ≡ Some t → HasTopology t g → g.replicas ≡ 3 → Tells g placed k.journals) → IsReadFrom before log k
+  pub read_before : (tells log_tells : Bool) (log : List ℕ) (end_ : ℕ) (k : KeptStore) → IsTrue tells → IsRead tells placed REPLICAS log_tells log end_ k
+      → ((t : KeptTopology) (g : Setting) → k.topology ≡ Some t → HasTopology t g → g.replicas ≡ REPLICAS → Tells g placed k.journals) → IsReadFrom before log k
   read_before own log_tells log end_ k here read tells = record {
     topology = let x = read.kept.topology here in (x.0, within name.Topology x.0 x.1, subst (λ o. KeepsTopology o x.0) read.told.topology x.2);
     records = λ t is g over. tells_before g k.journals (tells t g is (record { joiners = over.joiners; table = over.table }) over.replicas);

@@ -65,6 +65,7 @@ pub use Rattle.photon_cli.specs.Status.{IsAnswered}
 pub use Rattle.photon_cli.specs.Told.{IsNamed, IsNamedInBulk, IsNamedInDrill, IsNamedInVerify}
 pub use Rattle.photon_cli.specs.Verify.{IsReadFrom, IsReadable, IsTold, IsUnreadable, PrintsKept}
 pub use Rattle.photon_cli.specs.Words.{ArePlain, AreReadAs, AreRefused, HasTable, IsTextOf}
+pub use Rattle.photon_cli.specs.declared.engine.run.TheConstants.{REPLICAS}
 pub use Rattle.photon_cli.specs.declared.log_check.check.CheckFault.{CheckFault}
 pub use Rattle.photon_cli.specs.declared.log_check.lines.Lines.{Lines}
 pub use Rattle.photon_cli.specs.declared.log_check.step.Step.{Step}

@@ -11,6 +11,7 @@ use Rattle.site_run.specs.Over.{Keeps}
 use Rattle.command_words.specs.Words.{Wish, a_join, a_resharding}
 use Rattle.photon_cli.specs.Join.{IsAsked}
 use Rattle.photon_cli.specs.Reshard.{IsRowOf}
+use Rattle.photon_cli.specs.declared.engine.run.TheConstants.{REPLICAS}
 
 -- the second setting is the first, or one over the logs with more bytes at their ends
 abbrev pub IsLater : Setting → Setting → Type 0
@@ -46,7 +47,7 @@ module _ (logs : Bool) (told : List ℕ → Option (List ℕ)) (before after : I
   abbrev pub KeepsBy : Wish → Type 0
   KeepsBy (a_join v state) = IsTrue logs → (g : Setting) → IsAsked told v g → Keeps g g before after
   KeepsBy (a_resharding state text) =
-      ((row : ShardRow) → IsRowOf text row → (status ≡ 0) ⊎ (status ≡ 5) → (g : Setting) → g.replicas ≡ 3 → Keeps g (with_row g row) before after)
+      ((row : ShardRow) → IsRowOf text row → (status ≡ 0) ⊎ (status ≡ 5) → (g : Setting) → g.replicas ≡ REPLICAS → Keeps g (with_row g row) before after)
       × (status ≢ 0 → status ≢ 5 → status ≢ 6 → (g : Setting) → Keeps g g before after)
   KeepsBy _ = (g : Setting) → Keeps g g before after
 

@@ -14,6 +14,7 @@ use Rattle.site_run.specs.declared.ran.RunLog.{RunLog}
 use Rattle.command_words.specs.Words.{BulkValues}
 use Rattle.photon_cli.specs.Drill.{IsDrilled}
 use Rattle.photon_cli.specs.Words.{HasTable, IsTextOf}
+use Rattle.photon_cli.specs.declared.engine.run.TheConstants.{REPLICAS}
 
 -- a rule for a thousand packets of each link: the first of this ordinal, then one in so many
 abbrev pub rule : (first every : ℕ) → Fate → Rule
@@ -32,7 +33,7 @@ pub record IsBulkSetting (v : BulkValues) (g : Setting) : Type 0 where
   pub joiners : g.joiners ≡ v.nodes.joiners
   pub table : IsTextOf v.nodes.shards g.table
   pub batch : g.batch ≡ v.nodes.batch
-  pub replicas : g.replicas ≡ 3
+  pub replicas : g.replicas ≡ REPLICAS
 
 -- it was run from nothing under that plan, and this is the run's history
 pub record IsBulkRun (v : BulkValues) (log : RunLog) : Type 0 where

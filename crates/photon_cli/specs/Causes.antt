@@ -9,6 +9,7 @@ use Rattle.site_laws.specs.Stores.{Images}
 use Rattle.site_store.specs.Records.{KeptValues}
 use Rattle.site_store.specs.Causes.{HasCause, HasPassed as PassesFor, first_limit}
 use Rattle.site_run.specs.Refused.{asked_of, Kept, PlacesFit, TellsPlaces}
+use Rattle.photon_cli.specs.declared.engine.run.TheConstants.{REPLICAS}
 
 -- whatever the disks kept, no epoch, round or slot is at its limit
 abbrev pub IsBelowLimits : Setting → Images → Type 0
@@ -24,9 +25,9 @@ IsMismatched g before = (k : KeptValues) → Kept g before k → IsFit k.topolog
 
 -- ---- of a verification
 
--- It asks for no joiners, so that a store without a topology has none.
+-- It asks for no joiners, so that a store without a topology has none, and reads as many replicas as any run has.
 abbrev pub unasked : Setting → Setting
-unasked g = record g { joiners = 0 }
+unasked g = record g { joiners = 0; replicas = REPLICAS }
 
 -- the setting is over the clicks of this log
 abbrev pub IsOverLog : (told : List ℕ → Option (List ℕ)) → Text → Setting → Type 0
@@ -34,7 +35,7 @@ IsOverLog told clicks g = IsSomeAnd (told clicks) (λ log. IsLogOf log g)
 
 -- the disks kept values whose places fit the log, and no epoch, round or slot is at its limit
 abbrev pub CanBeRead : Setting → Images → Type 0
-CanBeRead g before = PassesFor true before None (TellsPlaces g)
+CanBeRead g before = PassesFor true before REPLICAS None (TellsPlaces g)
 
 -- whatever they kept, a place doesn't fit
 abbrev pub AreMisplaced : Setting → Images → Type 0
@@ -42,4 +43,4 @@ AreMisplaced g before = (k : KeptValues) → Kept (unasked g) before k → Place
 
 -- why it gives up: as a run, but that no topology is asked for, and no node comes to its last epoch
 abbrev pub HasCauseInVerify : Setting → Images → (read faulted : Type 0) → RunFault → Type 0
-HasCauseInVerify g before read faulted f = HasCause true before None (TellsPlaces g) (λ log. read) (λ at. faulted) ⊥ ⊤ f
+HasCauseInVerify g before read faulted f = HasCause true before REPLICAS None (TellsPlaces g) (λ log. read) (λ at. faulted) ⊥ ⊤ f

@@ -27,6 +27,7 @@ use Rattle.photon_cli.specs.Reshard.{ReshardEnds}
 use Rattle.photon_cli.specs.Told.{IsNamedInBulk, IsNamedInDrill, IsToldOf, IsToldOfVerify, TellsBy}
 use Rattle.photon_cli.specs.Verify.{IsReadable, IsUnreadable, PrintsKept, PrintsKeptPrefix}
 use Rattle.photon_cli.specs.Words.{HasTable, IsTextOf}
+use Rattle.photon_cli.specs.declared.engine.run.TheConstants.{REPLICAS}
 
 -- Either it ended before all that comes before a run was found fit, and this is untouched; or it was, and the status is neither 2 nor 3.
 abbrev pub Begins : (untouched fit : Type 0) → ℕ → Type 0
@@ -122,7 +123,7 @@ module _ (logs sinks : Bool) (told : List ℕ → Option (List ℕ)) (files outp
     -- 2 never; 6 only where the store's count rose; 7 and 9 never over a sound store where a stop leaves something of each disk
     pub words : status ≢ 2
     pub stopped : status ≡ 6 → faulted
-    pub welcome : IsTrue disks → IsTrue logs → (g : Setting) → IsOverLog told clicks g → g.replicas ≡ 3 → g.joiners ≤ MOST_JOINERS → IsSoundStore g before → LeavesSomething g before → (status ≢ 7) × (status ≢ 9)
+    pub welcome : IsTrue disks → IsTrue logs → (g : Setting) → IsOverLog told clicks g → g.replicas ≡ REPLICAS → g.joiners ≤ MOST_JOINERS → IsSoundStore g before → LeavesSomething g before → (status ≢ 7) × (status ≢ 9)
     -- 7, 9 and 10 as of a join, but that no topology is asked for
     pub damaged : IsTrue disks → IsTrue logs → (g : Setting) → IsOverLog told clicks g → (disk : DiskName) → IsTaken (unasked g) before disk → (WasJournal g before disk → ⊥) → (files → ⊥) → (faulted → ⊥) → (status ≡ 7) ⊎ (status ≡ 8)
     pub misplaced : IsTrue disks → IsTrue logs → (g : Setting) → IsOverLog told clicks g → AreMisplaced g before → (files → ⊥) → (faulted → ⊥) → (status ≡ 9) ⊎ ((status ≡ 7) ⊎ (status ≡ 8))
@@ -136,7 +137,7 @@ module _ (logs sinks : Bool) (told : List ℕ → Option (List ℕ)) (files outp
     pub stays : IsTrue disks → (disk : DiskName) → StaysAs (before disk) (after disk)
     pub sound : IsTrue disks → (g : Setting) → IsSoundStore g before → IsSoundStore g after
     -- over a sound store, with no fault and nothing at its limit, it ends with 0 or 1, unless memory runs out
-    pub complete : IsTrue disks → IsTrue logs → (g : Setting) → IsOverLog told clicks g → g.replicas ≡ 3 → g.joiners ≤ MOST_JOINERS → IsSoundStore g before → LeavesSomething g before → IsBelowLimits (unasked g) before
+    pub complete : IsTrue disks → IsTrue logs → (g : Setting) → IsOverLog told clicks g → g.replicas ≡ REPLICAS → g.joiners ≤ MOST_JOINERS → IsSoundStore g before → LeavesSomething g before → IsBelowLimits (unasked g) before
         → (files → ⊥) → (faulted → ⊥) → (output → ⊥) → (status ≡ 0) ⊎ ((status ≡ 1) ⊎ (status ≡ 8))
 
 -- Of a bulk run.

@@ -24,6 +24,7 @@ use Rattle.site_run.specs.Heard.{IsHeardOf}
 use Rattle.site_run.specs.declared.ran.RunLog.{RunLog}
 use Rattle.command_words.specs.Words.{Values}
 use Rattle.photon_cli.specs.Words.{HasTable, IsTextOf}
+use Rattle.photon_cli.specs.declared.engine.run.TheConstants.{REPLICAS}
 
 -- Here told says what bytes are under a name.
 module _ (told : List ℕ → Option (List ℕ)) (queries clicks : List ℕ) where
@@ -57,7 +58,7 @@ HaveIds g ids = map (λ (c : ClickRec). c.id) (map (λ (l : ClickLine). l.click)
 
 -- what all nodes are built for
 abbrev pub config_of : Values → List ShardRow → Config
-config_of v table = record { horizon = v.horizon; joiners = v.nodes.joiners; table = table; batch = v.nodes.batch; replicas = 3 }
+config_of v table = record { horizon = v.horizon; joiners = v.nodes.joiners; table = table; batch = v.nodes.batch; replicas = REPLICAS }
 
 -- The setting is what was asked: it has these numbers, the table of that text, and the records of the two logs, which are valid.
 pub record IsAsked (told : List ℕ → Option (List ℕ)) (v : Values) (g : Setting) : Type 0 where

@@ -6,6 +6,7 @@ use Rattle.mem_outside.specs.declared.disk.Fuse.{Fuse}
 use Rattle.lossy_link.specs.declared.plan.DiskKind.{DiskKind}
 use Rattle.lossy_link.specs.declared.plan.DiskKind.TheVariants.{Offset, Retry, Server, Replica, Epoch, Output}
 use Rattle.lossy_link.specs.declared.plan.PlanStop.{PlanStop}
+use Rattle.photon_cli.specs.declared.engine.run.TheConstants.{REPLICAS}
 
 abbrev pub same_kind : DiskKind → DiskKind → Bool
 same_kind Offset Offset = true
@@ -23,7 +24,7 @@ place_of joiners name.Topology = None
 place_of joiners (name.Offset site) = if nat_lt site 2 then Some (Offset, site) else None
 place_of joiners (name.Retry site) = if nat_lt site 2 then Some (Retry, site) else None
 place_of joiners (name.Server site) = if nat_lt site 2 then Some (Server, site) else None
-place_of joiners (name.Replica replica) = if nat_lt replica 3 then Some (Replica, replica) else None
+place_of joiners (name.Replica replica) = if nat_lt replica REPLICAS then Some (Replica, replica) else None
 place_of joiners (name.Epoch site joiner) = if nat_lt site 2 && nat_lt joiner joiners then Some (Epoch, site * joiners + joiner) else None
 place_of joiners (name.Output site joiner) = if nat_lt site 2 && nat_lt joiner joiners then Some (Output, site * joiners + joiner) else None
 

@@ -21,6 +21,7 @@ use Rattle.site_store.specs.Refusals.{IsFirstDisk}
 use Rattle.site_run.specs.Refused.{IsTaken, WasJournal}
 use Rattle.photon_cli.specs.Causes.{IsAtLimit, IsBelowLimits, unasked}
 use Rattle.photon_cli.specs.Told.{TellsBy}
+use Rattle.photon_cli.specs.declared.engine.run.TheConstants.{REPLICAS}
 
 -- the text is this row's
 abbrev pub IsRowOf : Text → ShardRow → Type 0
@@ -32,23 +33,23 @@ HasRow text = (row : ShardRow) × IsRowOf text row
 
 -- the bytes have the record of a topology that has the text's row more, behind records that were kept
 abbrev pub HasOwnRow : Text → Images → List ℕ → Type 0
-HasOwnRow text before c = (row : ShardRow) × IsRowOf text row × KeepsRow true before row c
+HasOwnRow text before c = (row : ShardRow) × IsRowOf text row × KeepsRow true before REPLICAS row c
 
 -- what a resharding leaves of the disks: at 0 and 5 the row was added, and at any status but these and 6 none was
 abbrev pub LeftAt : Text → (before after : Images) → (status : ℕ) → Type 0
-LeftAt text before after status = Leaves before after (IsRowOf text) (HasOwnRow text before) ((status ≡ 0) ⊎ (status ≡ 5)) ((status ≢ 0) × (status ≢ 5) × (status ≢ 6))
+LeftAt text before after status = Leaves before after REPLICAS (IsRowOf text) (HasOwnRow text before) ((status ≡ 0) ⊎ (status ≡ 5)) ((status ≢ 0) × (status ≢ 5) × (status ≢ 6))
 
 -- whatever the disks kept, it forbids the row
 abbrev pub IsForbidden : Images → ShardRow → Type 0
-IsForbidden before row = (k : KeptValues) → AreKept true before 0 k → (t : Topology) → answer_to k.topology (accepted k.disks) row ≢ Ok t
+IsForbidden before row = (k : KeptValues) → AreKept true before REPLICAS 0 k → (t : Topology) → answer_to k.topology (accepted k.disks) row ≢ Ok t
 
 -- why a row isn't added, or the line of the longer table not written, by what a stop might have left of the disks before
 abbrev pub IsCauseFor : Images → (faulted : Type 0) → ShardRow → RunFault → Type 0
 IsCauseFor before faulted row (fault.Store at) = faulted
-IsCauseFor before faulted row (fault.Damaged disk at) = IsFirstDisk true before 0 disk × IsDamagedIn before disk at
-IsCauseFor before faulted row (fault.Limit disk value) = (k : KeptValues) × AreKept true before 0 k × (first_limit k ≡ Some (fault.Limit disk value))
-IsCauseFor before faulted row (fault.Reshard why) = Answers true before row (Err why)
-IsCauseFor before faulted row fault.Write = (t : Topology) × Answers true before row (Ok t)
+IsCauseFor before faulted row (fault.Damaged disk at) = IsFirstDisk true before REPLICAS 0 disk × IsDamagedIn before disk at
+IsCauseFor before faulted row (fault.Limit disk value) = (k : KeptValues) × AreKept true before REPLICAS 0 k × (first_limit k ≡ Some (fault.Limit disk value))
+IsCauseFor before faulted row (fault.Reshard why) = Answers true before REPLICAS row (Err why)
+IsCauseFor before faulted row fault.Write = (t : Topology) × Answers true before REPLICAS row (Ok t)
 IsCauseFor before faulted row fault.Memory = ⊤
 IsCauseFor before faulted row _ = ⊥
 
@@ -72,7 +73,7 @@ pub record Adds (text : Text) (before after : Images) (says : List ℕ → Type 
   pub row : ShardRow
   pub is : IsRowOf text row
   pub table : List ShardRow
-  pub added : IsAdded true before row after table
+  pub added : IsAdded true before REPLICAS row after table
   pub line : says (table_text table ++ codes "\n")
 
 -- What is said of bytes is said where the sinks and the disks tell what they hold; before, after, faulted and same as of a join.
@@ -86,7 +87,7 @@ pub record ReshardEnds (sinks : Bool) (output errors : Type 0) (old new err_old 
   -- 1, 3, 4 and 9 never; 6 only where the store's count rose; 7 never over a sound store where a stop leaves something of each disk
   pub never : (status ≢ 1) × (status ≢ 3) × (status ≢ 4) × (status ≢ 9)
   pub stopped : status ≡ 6 → faulted
-  pub welcome : IsTrue disks → (g : Setting) → g.replicas ≡ 3 → g.joiners ≤ MOST_JOINERS → IsSoundStore g before → LeavesSomething g before → status ≢ 7
+  pub welcome : IsTrue disks → (g : Setting) → g.replicas ≡ REPLICAS → g.joiners ≤ MOST_JOINERS → IsSoundStore g before → LeavesSomething g before → status ≢ 7
   -- 7 and 10 as of a verification; else 11, where the disks kept what forbids the row, whatever they kept
   pub damaged : IsTrue disks → HasRow text → (g : Setting) (disk : DiskName) → IsTaken (unasked g) before disk → (WasJournal g before disk → ⊥) → (faulted → ⊥) → (status ≡ 7) ⊎ (status ≡ 8)
   pub limited : IsTrue disks → HasRow text → (g : Setting) → IsAtLimit (unasked g) before → (faulted → ⊥) → (status ≡ 10) ⊎ ((status ≡ 7) ⊎ (status ≡ 8))
@@ -97,5 +98,5 @@ pub record ReshardEnds (sinks : Bool) (output errors : Type 0) (old new err_old 
   -- what stands on the disks
   pub left : IsTrue disks → LeftAt text before after status
   -- over a sound store, with no fault and nothing at its limit, the row is added or forbidden, unless memory runs out
-  pub complete : IsTrue disks → HasRow text → (g : Setting) → g.replicas ≡ 3 → g.joiners ≤ MOST_JOINERS → IsSoundStore g before → LeavesSomething g before → IsBelowLimits (unasked g) before → (faulted → ⊥) → (output → ⊥)
+  pub complete : IsTrue disks → HasRow text → (g : Setting) → g.replicas ≡ REPLICAS → g.joiners ≤ MOST_JOINERS → IsSoundStore g before → LeavesSomething g before → IsBelowLimits (unasked g) before → (faulted → ⊥) → (output → ⊥)
       → (status ≡ 0) ⊎ ((status ≡ 8) ⊎ (status ≡ 11))

@@ -16,4 +16,5 @@ pub use bulk::bulk_command;
 pub use drill::drill_command;
 pub use join::join_command;
 pub use reshard::reshard_command;
+pub(crate) use run::REPLICAS;
 pub use verify::verify_command;

@@ -6,6 +6,7 @@ ghost use Rattle.outside.specs.declared.store.DiskName.{DiskName};
 ghost use Rattle.mem_outside.specs.Kept.{same_name};
 ghost use Rattle.photon_cli.specs.Planned.{named_by, place_of, is_at};
 
+use crate::engine::REPLICAS;
 use lossy_link::DiskKind;
 use outside::DiskName;
 
@@ -21,7 +22,7 @@ pub fn disk_at(joiners: u8, kind: DiskKind, number: u8) -> Option<DiskName>
         DiskKind::Offset => below(number, 2, DiskName::Offset(number)),
         DiskKind::Retry => below(number, 2, DiskName::Retry(number)),
         DiskKind::Server => below(number, 2, DiskName::Server(number)),
-        DiskKind::Replica => below(number, 3, DiskName::Replica(number)),
+        DiskKind::Replica => below(number, REPLICAS, DiskName::Replica(number)),
         DiskKind::Epoch => below(number, 2 * joiners, DiskName::Epoch(site, joiner)),
         DiskKind::Output => below(number, 2 * joiners, DiskName::Output(site, joiner)),
     }

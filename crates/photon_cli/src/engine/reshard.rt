@@ -4,6 +4,7 @@ ghost use Rattle.outside.specs.Faults.{Rose};
 ghost use Rattle.photon_cli.specs.Reshard.{ReshardEnds};
 ghost use Rattle.photon_cli.specs.Status.{IsAnswered};
 
+use super::run::REPLICAS;
 use crate::tell::give_up;
 use outside::{Sink, Store};
 use run_fault::write_table;
@@ -35,7 +36,7 @@ pub fn reshard_command<S: Store, K: Sink>(
     if let Err(fault) = store.place(alloc, state) {
         return give_up(err, &RunFault::from(fault));
     }
-    let table = match add_row(alloc, store, row) {
+    let table = match add_row(alloc, store, REPLICAS, row) {
         Ok(table) => table,
         Err(fault) => return give_up(err, &fault),
     };

@@ -27,7 +27,10 @@ use std::thread::Threads;
 use time_shards::Table;
 use verify_pass::classify;
 
-/// What all nodes are built for, by the options and the table of their text: there are three replicas.
+/// How many replicas there are.
+pub const REPLICAS: u8 = 3;
+
+/// What all nodes are built for, by the options and the table of their text.
 pub fn config_in(wanted: &RunOptions<'_>, table: Table) -> Config
     requires ranges { AreInRanges (values_in wanted.now).nodes }
     requires table { IsTextOf (values_in wanted.now).nodes.shards table }
@@ -39,7 +42,7 @@ pub fn config_in(wanted: &RunOptions<'_>, table: Table) -> Config
         joiners: wanted.nodes.joiners,
         table,
         batch: wanted.nodes.batch,
-        replicas: 3,
+        replicas: REPLICAS,
     }
 }
 

@@ -26,8 +26,10 @@ ghost use Rattle.photon_cli.specs.LogFaults.{IsFailedRead, IsLogFault, IsOfRun, 
 ghost use Rattle.photon_cli.specs.Verify.{IsReadFrom, IsReadable, PrintsKept, PrintsKeptPrefix};
 ghost use Rattle.photon_cli.specs.Ends.{VerifyEnds};
 ghost use Rattle.photon_cli.specs.Status.{IsAnswered};
+ghost use Rattle.photon_cli.specs.declared.engine.run.TheConstants.{REPLICAS};
 
 use super::checked::{clicks_in_log, open_log};
+use super::run::REPLICAS;
 use crate::tell::give_up;
 use event_id::EventId;
 use log_records::ReportLine;
@@ -107,7 +109,7 @@ fn kept_store<F: Source, S: Store>(
     ensures cause { IfErr result IsOfRun }
     ensures caused { IsTrue S.Disk.tells → IsTrue F.Log.tells → (g : Setting) → IsOverLog (F.bytes files.old) clicks.now g → end ≡ end_from 0 g.clicks → IfErr result (HasCauseInVerify g (S.image store.old) (Rose (F.faults files.old) (F.faults files.new)) (Rose (S.faults store.old) (S.faults store.new))) }
     ensures passed { IsTrue S.Disk.tells → IsTrue F.Log.tells → (g : Setting) → IsOverLog (F.bytes files.old) clicks.now g → end ≡ end_from 0 g.clicks → OnOk result (CanBeRead g (S.image store.old)) }
-    ensures welcome { IsTrue S.Disk.tells → IsTrue F.Log.tells → (g : Setting) → IsOverLog (F.bytes files.old) clicks.now g → end ≡ end_from 0 g.clicks → g.replicas ≡ 3 → g.joiners ≤ MOST_JOINERS → LeavesSomething g (S.image store.old) → IsSoundStore g (S.image store.old) → IfErr result (IsWelcome ⊤) }
+    ensures welcome { IsTrue S.Disk.tells → IsTrue F.Log.tells → (g : Setting) → IsOverLog (F.bytes files.old) clicks.now g → end ≡ end_from 0 g.clicks → g.replicas ≡ REPLICAS → g.joiners ≤ MOST_JOINERS → LeavesSomething g (S.image store.old) → IsSoundStore g (S.image store.old) → IfErr result (IsWelcome ⊤) }
     ensures log_count { Counts (F.faults files.old) (F.faults files.new) (IsErrAnd result IsFailedRead) }
     ensures count { Counts (S.faults store.old) (S.faults store.new) ((place : Place) × (result ≡ Err (fault.Store place))) }
 {
@@ -119,7 +121,7 @@ fn kept_store<F: Source, S: Store>(
         files.shut(log);
         return Err(RunFault::from(fault));
     }
-    let read = read_store(alloc, store, &mut log, end);
+    let read = read_store(alloc, store, REPLICAS, &mut log, end);
     files.shut(log);
     match read {
         Ok(kept) => Ok(kept),
@@ -146,7 +148,7 @@ fn verify_store<F: Source, S: Store, K: Sink>(
     ensures sound { IsTrue S.Disk.tells → (g : Setting) → IsSoundStore g (S.image store.old) → IsSoundStore g (S.image store.new) }
     ensures caused { IsTrue S.Disk.tells → IsTrue F.Log.tells → (g : Setting) → IsOverLog (F.bytes files.old) clicks.now g → IfErr result (HasCauseInVerify g (S.image store.old) (Rose (F.faults files.old) (F.faults files.new)) (Rose (S.faults store.old) (S.faults store.new))) }
     ensures passed { IsTrue S.Disk.tells → IsTrue F.Log.tells → (g : Setting) → IsOverLog (F.bytes files.old) clicks.now g → OnOk result (CanBeRead g (S.image store.old)) }
-    ensures welcome { IsTrue S.Disk.tells → IsTrue F.Log.tells → (g : Setting) → IsOverLog (F.bytes files.old) clicks.now g → g.replicas ≡ 3 → g.joiners ≤ MOST_JOINERS → LeavesSomething g (S.image store.old) → IsSoundStore g (S.image store.old) → IfErr result (IsWelcome ⊤) }
+    ensures welcome { IsTrue S.Disk.tells → IsTrue F.Log.tells → (g : Setting) → IsOverLog (F.bytes files.old) clicks.now g → g.replicas ≡ REPLICAS → g.joiners ≤ MOST_JOINERS → LeavesSomething g (S.image store.old) → IsSoundStore g (S.image store.old) → IfErr result (IsWelcome ⊤) }
     ensures read { Counts (F.faults files.old) (F.faults files.new) (IsErrAnd result IsFailedRead) }
     ensures write { Counts (K.faults out.old) (K.faults out.new) (result ≡ Err fault.Write) }
     ensures disks { Counts (S.faults store.old) (S.faults store.new) ((place : Place) × (result ≡ Err (fault.Store place))) }

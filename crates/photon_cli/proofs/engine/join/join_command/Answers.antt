@@ -67,9 +67,9 @@ returns-in-Err-clause-ends g c =
           ⊎_elim (λ early. early_left v.nodes.shards f early.2 (table, text) (λ read. calm (e.read.rose read))) (λ late. absurd (not_invalid told v.queries v.clicks log (late.0.1 logs) invalid)) e.begins;
       stopped = λ six. let place = place_of f six in e.disks.rose (place.0, ap Err place.1);
       welcome = λ disks logs s asked sound leaves. fair_status f _ leaves ((e.ends disks logs s asked).welcome sound);
-      damaged = λ disks logs s asked disk taken none calm still. damage_told before (Some (asked_of s)) (TellsPlaces s) _ _ _ calm still still f (past logs s asked) ((e.ends disks logs s asked).caused) (λ k kept. none (kept_are_journals s before k disk kept taken));
-      mismatched = λ disks logs s asked other calm still. mismatch_told before (Some (asked_of s)) (TellsPlaces s) _ _ _ calm still still f (past logs s asked) ((e.ends disks logs s asked).caused) other;
-      limited = λ disks logs s asked at calm still. limit_told before (Some (asked_of s)) (TellsPlaces s) _ _ _ calm still still f (past logs s asked) ((e.ends disks logs s asked).caused) at;
+      damaged = λ disks logs s asked disk taken none calm still. damage_told before s.replicas (Some (asked_of s)) (TellsPlaces s) _ _ _ calm still still f (past logs s asked) ((e.ends disks logs s asked).caused) (λ k kept. none (kept_are_journals s before k disk kept taken));
+      mismatched = λ disks logs s asked other calm still. mismatch_told before s.replicas (Some (asked_of s)) (TellsPlaces s) _ _ _ calm still still f (past logs s asked) ((e.ends disks logs s asked).caused) other;
+      limited = λ disks logs s asked at calm still. limit_told before s.replicas (Some (asked_of s)) (TellsPlaces s) _ _ _ calm still still f (past logs s asked) ((e.ends disks logs s asked).caused) at;
       passed = λ disks logs s asked zero. absurd (no_zero f zero);
       caused = λ logs. inr (f, refl, (names logs, λ disks s asked. (e.ends disks logs s asked).caused));
       prefix = λ logs sinks disks five. e.prefix logs sinks disks (ap Err (write_of f five));
@@ -77,7 +77,7 @@ returns-in-Err-clause-ends g c =
       keeps = λ disks logs s asked. (e.ends disks logs s asked).keeps;
       idle = λ disks logs s asked. (e.ends disks logs s asked).idle;
       complete = λ disks logs s asked sound leaves below calm still quiet.
-          inr (ends_well before (Some (asked_of s)) (TellsPlaces s) _ _ _ calm still still f (past logs s asked) ((e.ends disks logs s asked).caused) _ leaves below (λ is. quiet (e.write.rose (ap Err is))) ((e.ends disks logs s asked).welcome sound));
+          inr (ends_well before s.replicas (Some (asked_of s)) (TellsPlaces s) _ _ _ calm still still f (past logs s asked) ((e.ends disks logs s asked).caused) _ leaves below (λ is. quiet (e.write.rose (ap Err is))) ((e.ends disks logs s asked).welcome sound));
     })
 
 pub returns-in-Ok-clause-answered : goal.returns-in-Ok-clause-answered

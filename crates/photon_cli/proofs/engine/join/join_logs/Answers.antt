@@ -106,7 +106,7 @@ returns-in-Err-checked_logs-clause-ends g c disks logs s asked =
     let before = g.S.Store.image c.args.store.now in
     let faulted = Rose (g.S.Store.faults c.args.store.now) (g.S.Store.faults c.args.store.now) in
     let read = Rose (g.F.Source.faults c.args.files.now) (g.F.Source.faults c.checked_logs.new.files) in
-    before_all s before read faulted _ f (log_caused before (Some (asked_of s)) (TellsPlaces s) faulted faulted read f e.fault.0 e.fault.1 (λ is. e.count.rose (e.fault.0, ap Err is)))
+    before_all s before read faulted _ f (log_caused before s.replicas (Some (asked_of s)) (TellsPlaces s) faulted faulted read f e.fault.0 e.fault.1 (λ is. e.count.rose (e.fault.0, ap Err is)))
     (welcome_where f ⊤ _ (λ x. tt) (log_fair f e.fault.0 e.fault.1))
 
 pub returns-in-Err-run_lines-clause-ends : goal.returns-in-Err-run_lines-clause-ends

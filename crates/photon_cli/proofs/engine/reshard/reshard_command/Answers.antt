@@ -6,7 +6,7 @@ use Rattle.run_fault.specs.declared.fault.StorePlace.TheVariants as place
 use Rattle.report_text.specs.Stream.{TookPrefix}
 use Rattle.site_store.specs.Adding.{IsRowCause, NoneTold}
 use Rattle.photon_cli.specs.Reshard.{HasRow, IsCauseFor, IsRowOf}
-use Rattle.photon_cli.proofs.Words.{DiskName, Rose, ShardRow, failed_rose, rose_before, status_of}
+use Rattle.photon_cli.proofs.Words.{REPLICAS, DiskName, Rose, ShardRow, failed_rose, rose_before, status_of}
 use Rattle.photon_cli.proofs.Resharding.{adds, added_before, answer_for, cause_before, ends, ends_added, ends_place, fair_row, left_before, named_row, not_added, not_written, one_row, place_status, untaken}
 use Rattle.photon_cli.proofs.Answered.{answered, ended}
 use Rattle.photon_cli.proofs.engine.reshard.reshard_command.Goals as goal
@@ -51,7 +51,7 @@ returns-in-Err-add_row-clause-ends g c =
     let other : f ≢ fault.Write = not_written tells placed row (Rose mid last) f e.cause in
     rw c.give_up-in-Err-add_row.ensures.status
     (ends g.K.Sink.tells tells _ _ _ _ _ _ text _ before after _ f (named_row tells placed row (Rose mid last) text f (row, is) e.cause) (λ d r own. subst (λ (x : ShardRow). IsCauseFor before (Rose old last) x f) (one_row text row r is own) (cause d))
-    (λ none. absurd (none (row, is))) (λ at failed. rises (failed_rose tells placed None NoneTold (Rose mid last) at (subst (IsRowCause tells placed row (Rose mid last)) failed e.cause))) (λ write. absurd (other write)) (λ s d write. absurd (other write))
+    (λ none. absurd (none (row, is))) (λ at failed. rises (failed_rose tells placed REPLICAS None NoneTold (Rose mid last) at (subst (IsRowCause tells placed REPLICAS row (Rose mid last)) failed e.cause))) (λ write. absurd (other write)) (λ s d write. absurd (other write))
     c.give_up-in-Err-add_row.ensures.told (λ d s replicas few sound some. fair_row before (Rose old last) row c.read.ensures.topology c.fits.ensures.only s replicas few sound some f (cause d))
     (λ d. left_before tells d text row is placed before after (within d) ⊥ (f ≢ fault.Store (place.Disk name.Topology)) (status_of f) (not_added f other) (λ no at. no.2 (ap status_of at)) (e.leaves d)))
 

@@ -1,6 +1,6 @@
 use Rattle.std.proofs.Common.{◌≡◌, inr, List, ℕ, None, Err, refl, sym, ap, subst, arith}
 use Rattle.std.specs.Prelude.{⊤}
-use Rattle.photon_cli.proofs.Words.{Rose, DiskName, Clicks, rose_before, IsWelcome, AreTold, IsCause, failed_rose, TellsPlaces, leaves_placed, place_welcome, sound_placed, welcome_where, HasCauseInVerify, IsReadFrom}
+use Rattle.photon_cli.proofs.Words.{REPLICAS, Rose, DiskName, Clicks, rose_before, IsWelcome, AreTold, IsCause, failed_rose, TellsPlaces, leaves_placed, place_welcome, sound_placed, welcome_where, HasCauseInVerify, IsReadFrom}
 use Rattle.run_fault.specs.declared.fault.RunFault.TheVariants as fault
 use Rattle.photon_cli.proofs.Causing.{log_caused}
 use Rattle.photon_cli.proofs.Reading.{log_over, place_stops, read_rose, read_so, refused_so, rose_shut}
@@ -44,7 +44,7 @@ pub returns-in-Err-clause-caused : goal.returns-in-Err-clause-caused
 returns-in-Err-clause-caused g c disks logs s over end =
     let faulted = Rose (g.S.Store.faults c.args.store.now) (g.S.Store.faults c.args.store.now) in
     let read = Rose (g.F.Source.faults c.args.files.now) (g.F.Source.faults c.open_log.new.files) in
-    log_caused (g.S.Store.image c.args.store.now) None (TellsPlaces s) faulted ⊥ read c.in-Err.fault Clicks (inr c.in-Err.ensures.fault) (λ is. c.in-Err.ensures.count.rose (ap Err is))
+    log_caused (g.S.Store.image c.args.store.now) REPLICAS None (TellsPlaces s) faulted ⊥ read c.in-Err.fault Clicks (inr c.in-Err.ensures.fault) (λ is. c.in-Err.ensures.count.rose (ap Err is))
 
 pub returns-in-Err-clause-welcome : goal.returns-in-Err-clause-welcome
 returns-in-Err-clause-welcome g c disks logs s over end replicas few leaves sound = log_fair c.in-Err.fault Clicks (inr c.in-Err.ensures.fault)
@@ -94,7 +94,7 @@ returns-in-Err-read-clause-welcome g c disks logs s over end replicas few leaves
     let bytes = g.F.Log.LogFile.bytes c.in-Ok.log in
     let log_is = log_over (g.F.Source.bytes c.args.files.now c.args.clicks.now) bytes s (c.in-Ok.ensures.bytes logs) over in
     let some = leaves_placed s before placed (c.place.ensures.same disks) leaves in
-    welcome_where c.in-Err-read.fault _ ⊤ (λ x. some) (c.in-Err-read.ensures.welcome disks logs s log_is end replicas few some (sound_placed s before placed inside sound))
+    welcome_where c.in-Err-read.fault _ ⊤ (λ x. some) (c.in-Err-read.ensures.welcome disks logs s log_is end replicas some (sound_placed s before placed inside sound))
 
 pub returns-in-Err-read-clause-log_count : goal.returns-in-Err-read-clause-log_count
 returns-in-Err-read-clause-log_count g c =
@@ -122,5 +122,5 @@ returns-in-Err-read-clause-count g c =
       rose = λ (place, is).
           let same : c.in-Err-read.fault ≡ fault.Store place = cc in
           rose_before (g.S.Store.faults c.args.store.now) old new c.place.ensures.count.later
-          (failed_rose tells placed None (AreTold log.tells bytes c.args.end) (Rose old new) place (subst (IsCause tells placed (Rose old new) log.tells bytes c.args.end read None) same c.in-Err-read.ensures.cause));
+          (failed_rose tells placed REPLICAS None (AreTold log.tells bytes c.args.end) (Rose old new) place (subst (IsCause tells placed REPLICAS (Rose old new) log.tells bytes c.args.end read None) same c.in-Err-read.ensures.cause));
     }

@@ -1,6 +1,6 @@
 use Rattle.std.proofs.Common.{◌≡◌, ℕ, inl, inr, ⊎_elim, Bool, true, false, None, Err, IsTrue, refl, ap, subst, arith}
 use Rattle.std.specs.Prelude.{⊤}
-use Rattle.photon_cli.proofs.Words.{Why, Setting, Clicks, TellsPlaces, kept_are_journals, IsOverLog, unasked, IsOfVerify, PrintsKept}
+use Rattle.photon_cli.proofs.Words.{REPLICAS, Why, Setting, Clicks, TellsPlaces, kept_are_journals, IsOverLog, unasked, IsOfVerify, PrintsKept}
 use Rattle.run_fault.specs.declared.fault.RunFault.TheVariants as fault
 use Rattle.photon_cli.proofs.Causing.{damage_told, ends_well, limit_told, mismatch_told}
 use Rattle.photon_cli.proofs.Ends.{not_readable, over_valid}
@@ -88,9 +88,9 @@ returns-in-Err-clause-ends g c =
       words = never_two f own;
       stopped = λ six. let place = place_of f six in e.disks.rose (place.0, ap Err place.1);
       welcome = λ disks logs s over replicas few sound leaves. fair_status f _ tt (e.welcome disks logs s over replicas few leaves sound);
-      damaged = λ disks logs s over disk taken none calm still. damage_told before None (TellsPlaces s) _ ⊥ _ calm still (λ l. l) f (past logs s over) (e.caused disks logs s over) (λ k kept. none (kept_are_journals (unasked s) before k disk kept taken));
-      misplaced = λ disks logs s over other calm still. mismatch_told before None (TellsPlaces s) _ ⊥ _ calm still (λ l. l) f (past logs s over) (e.caused disks logs s over) (λ k kept fit. other k kept);
-      limited = λ disks logs s over at calm still. limit_told before None (TellsPlaces s) _ ⊥ _ calm still (λ l. l) f (past logs s over) (e.caused disks logs s over) at;
+      damaged = λ disks logs s over disk taken none calm still. damage_told before REPLICAS None (TellsPlaces s) _ ⊥ _ calm still (λ l. l) f (past logs s over) (e.caused disks logs s over) (λ k kept. none (kept_are_journals (unasked s) before k disk kept taken));
+      misplaced = λ disks logs s over other calm still. mismatch_told before REPLICAS None (TellsPlaces s) _ ⊥ _ calm still (λ l. l) f (past logs s over) (e.caused disks logs s over) (λ k kept fit. other k kept);
+      limited = λ disks logs s over at calm still. limit_told before REPLICAS None (TellsPlaces s) _ ⊥ _ calm still (λ l. l) f (past logs s over) (e.caused disks logs s over) at;
       passed = λ disks logs s over ended. absurd (⊎_elim (no_zero f) (no_one f) ended);
       caused = λ logs. inr (inr (f, refl, (names logs, λ disks s over. e.caused disks logs s over)));
       prefix = λ logs sinks disks five. e.prefix logs sinks disks (ap Err (write_of f five));
@@ -98,7 +98,7 @@ returns-in-Err-clause-ends g c =
       stays = e.stays;
       sound = e.sound;
       complete = λ disks logs s over replicas few sound leaves below calm still quiet.
-          inr (inr (ends_well before None (TellsPlaces s) _ ⊥ _ calm still (λ l. l) f (past logs s over) (e.caused disks logs s over) ⊤ tt below (λ is. quiet (e.write.rose (ap Err is))) (e.welcome disks logs s over replicas few leaves sound)));
+          inr (inr (ends_well before REPLICAS None (TellsPlaces s) _ ⊥ _ calm still (λ l. l) f (past logs s over) (e.caused disks logs s over) ⊤ tt below (λ is. quiet (e.write.rose (ap Err is))) (e.welcome disks logs s over replicas few leaves sound)));
     })
 
 pub returns-in-Ok-true-clause-answered : goal.returns-in-Ok-true-clause-answered

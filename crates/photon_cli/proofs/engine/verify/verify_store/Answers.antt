@@ -1,5 +1,5 @@
 use Rattle.std.proofs.Common.{◌++◌, ℕ, List, Option, None, Err, inl, inr, refl, ap, sym, subst, ◌∙◌}
-use Rattle.photon_cli.proofs.Words.{list_any, IsSomeAnd, ReportLine, is_missing, text_of, TookPrefix, Rose, IsLogOf, Clicks, rose_before, IsReadFrom, TellsPlaces}
+use Rattle.photon_cli.proofs.Words.{REPLICAS, list_any, IsSomeAnd, ReportLine, is_missing, text_of, TookPrefix, Rose, IsLogOf, Clicks, rose_before, IsReadFrom, TellsPlaces}
 use Rattle.photon_cli.proofs.Causing.{later_caused, log_caused}
 use Rattle.photon_cli.proofs.Runs.{clicks_there, ends_there}
 use Rattle.photon_cli.proofs.Statuses.{log_fair, run_past}
@@ -62,7 +62,7 @@ pub returns-in-Err-clause-caused : goal.returns-in-Err-clause-caused
 returns-in-Err-clause-caused g c disks logs s over =
     let faulted = Rose (g.S.Store.faults c.args.store.now) (g.S.Store.faults c.args.store.now) in
     let read = Rose (g.F.Source.faults c.args.files.now) (g.F.Source.faults c.clicks_in_log.new.files) in
-    log_caused (g.S.Store.image c.args.store.now) None (TellsPlaces s) faulted ⊥ read c.in-Err.refused Clicks c.in-Err.ensures.fault (λ is. c.in-Err.ensures.count.rose (ap Err is))
+    log_caused (g.S.Store.image c.args.store.now) REPLICAS None (TellsPlaces s) faulted ⊥ read c.in-Err.refused Clicks c.in-Err.ensures.fault (λ is. c.in-Err.ensures.count.rose (ap Err is))
 
 pub returns-in-Err-clause-welcome : goal.returns-in-Err-clause-welcome
 returns-in-Err-clause-welcome g c disks logs s over replicas few leaves sound = log_fair c.in-Err.refused Clicks c.in-Err.ensures.fault
@@ -77,7 +77,7 @@ returns-in-Err-kept_store-clause-caused g c disks logs s over =
     let mid = g.F.Source.faults c.clicks_in_log.new.files in
     let last = g.F.Source.faults c.kept_store.new.files in
     let faulted = Rose (g.S.Store.faults c.args.store.now) (g.S.Store.faults c.kept_store.new.store) in
-    later_caused (g.S.Store.image c.args.store.now) None (TellsPlaces s) faulted ⊥ (Rose mid last) (Rose first last) (λ rose. rose_before first mid last c.clicks_in_log.ensures.count.later rose) c.in-Err-kept_store.fault (c.in-Err-kept_store.ensures.caused disks logs s here end)
+    later_caused (g.S.Store.image c.args.store.now) REPLICAS None (TellsPlaces s) faulted ⊥ (Rose mid last) (Rose first last) (λ rose. rose_before first mid last c.clicks_in_log.ensures.count.later rose) c.in-Err-kept_store.fault (c.in-Err-kept_store.ensures.caused disks logs s here end)
 
 pub returns-in-Err-kept_store-clause-welcome : goal.returns-in-Err-kept_store-clause-welcome
 returns-in-Err-kept_store-clause-welcome g c disks logs s over replicas few leaves sound =
