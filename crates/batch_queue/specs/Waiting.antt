@@ -2,6 +2,7 @@
 use Rattle.std.specs.Prelude.{◌≡◌, Bool, false, List, [], ◌∷◌, ◌++◌, length, map, filter, not, is_some, if◌then◌else◌, Option, Some, None, ℕ}
 use Rattle.std.specs.List.{IsDistinct, filter_map, list_any}
 use Rattle.std.specs.Option.{option_map}
+use Rattle.registry_state.specs.declared.TheConstants.{MOST_WAITING}
 use Rattle.registry_state.specs.declared.Token.{Token}
 use Rattle.registry_state.specs.declared.Insert.{Insert}
 use Rattle.registry_state.specs.declared.Batch.{Batch}
@@ -23,7 +24,7 @@ with_last xs x = if has_token xs x.token then xs else xs ++ x ∷ []
 
 -- there are as many as may wait, and the token is not among them
 abbrev pub HasNoPlace : List Insert → Insert → Type 0
-HasNoPlace xs x = (length xs ≡ 4096) × (has_token xs x.token ≡ false)
+HasNoPlace xs x = (length xs ≡ MOST_WAITING) × (has_token xs x.token ≡ false)
 
 -- those that have an answer, each with it
 abbrev pub answered : (Insert → Option Answer) → List Insert → List (Insert × Answer)

@@ -3,6 +3,7 @@ ghost use Rattle.std.specs.Map.{values_of};
 ghost use Rattle.std.specs.List.{IsDistinct-prop};
 ghost use Rattle.std.proofs.Props.{props};
 ghost use Rattle.event_id.specs.EventId.{is_same as same_id};
+ghost use Rattle.registry_state.specs.declared.TheConstants.{MOST_INSERTS, MOST_WAITING};
 ghost use Rattle.registry_state.specs.Same.{same_token};
 ghost use Rattle.batch_queue.specs.Waiting.{IsOnce, room_beside};
 
@@ -10,15 +11,9 @@ use crate::Answered;
 use crate::ahead::{answered_in, ids_of, push_answered};
 use crate::settled::Settled;
 use event_id::EventId;
-use registry_state::{Batch, Insert, Inserts, Replays};
+use registry_state::{Batch, Insert, Inserts, MOST_INSERTS, MOST_WAITING, Replays};
 use std::alloc::{AllocError, Global};
 use std::collections::{BTreeMap, HashSet};
-
-// How many inserts may wait.
-const WAITING: usize = 4096;
-
-// How many inserts a batch has at most.
-const BATCH: usize = 64;
 
 /// Why an insert isn't taken in.
 #[derive(Clone, Copy, Debug, PartialEq, Eq)]
@@ -36,7 +31,7 @@ pub struct BatchQueue {
     newest: Option<Insert>,
     alloc: Global,
     ghost once: { IsOnce (values_of settled.in_order.entries ++ option_to_list newest) } by { IsDistinct-prop same_token _ },
-    ghost few: { length (values_of settled.in_order.entries ++ option_to_list newest) ≤ 4096 } by { Prim.hlevel props },
+    ghost few: { length (values_of settled.in_order.entries ++ option_to_list newest) ≤ MOST_WAITING } by { Prim.hlevel props },
 }
 
 impl BatchQueue {
@@ -62,7 +57,7 @@ impl BatchQueue {
     /// How many inserts wait.
     pub fn len(&self) -> usize
         ensures len { result ≡ length (waiting self.now) }
-        ensures most { result ≤ 4096 }
+        ensures most { result ≤ MOST_WAITING }
         ensures once { IsOnce (waiting self.now) }
     {
         match self.newest {
@@ -105,7 +100,7 @@ impl BatchQueue {
         if self.settled.has(insert.token) {
             return Ok(());
         }
-        if self.settled.len() == WAITING {
+        if self.settled.len() == MOST_WAITING {
             return Err(Put::Full(insert));
         }
         self.newest = Some(insert);
@@ -114,11 +109,11 @@ impl BatchQueue {
 
     /// A batch of the first `n`, or of as many as wait, and at most 64. Linear in the batch, with one allocation.
     pub fn front_batch(&self, bound: u64, n: u32) -> Result<Batch, AllocError>
-        ensures { IfOk result (λ batch. batch ≡ batch_of bound (take (min n 64) (waiting self.now))) }
+        ensures { IfOk result (λ batch. batch ≡ batch_of bound (take (min n MOST_INSERTS) (waiting self.now))) }
     {
         Ok(Batch {
             bound,
-            inserts: self.front((n as usize).min(BATCH))?,
+            inserts: self.front((n as usize).min(MOST_INSERTS))?,
         })
     }
 

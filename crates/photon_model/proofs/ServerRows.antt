@@ -2,7 +2,7 @@
 use Rattle.std.proofs.Common.{◌≡◌, ℕ, zero, suc, ◌+◌, ◌<◌, Bool, true, false, cond, ◌||◌, ◌&&◌, ◌==◌, nat_lt, nat_le, List, [], ◌∷◌, ◌++◌, length, set, Some, None, refl, sym, inl, inr, arith}
 use Rattle.std.specs.Prelude.{Option}
 use Rattle.std.proofs.lemmas.Bool.{cond_both, eqb-true, and_parts}
-use Rattle.photon_model.proofs.Words.{Setting, shard, shards, Ballot, Batch, Insert, Place, Answer, replay, Phase, on_promise, on_accepted, Promising, Accepting, Ended, Mem, Each, Packet, Claim, Reply, Prepare, Promise, Nack, Accept, Accepted, Chosen, Node, Replica, Joiner, To, Only, Input, Start, Own, Tick, Deliver, Out, idle, is_next, ServerKept, ServerLive, ShardState, Proposal, queued, to_from, to_replicas, is_below_limit, may_propose, first_shard, is_current, is_own_joiner, reply, reply_if, replies, with_shard, learns, claimed, owns, server_own, promised, accepted, nacked, gets_promise, gets_accepted, gets_nack, of_phase, again, all_again, server_tick, from_replica, server_gets, server_turn, option_both, each_append, is_same, is_below, same_true, higher, value_for, is_new, is_most, nobody, with_promise, with_acceptance}
+use Rattle.photon_model.proofs.Words.{MOST_WAITING, Setting, shard, shards, Ballot, Batch, Insert, Place, Answer, replay, Phase, on_promise, on_accepted, Promising, Accepting, Ended, Mem, Each, Packet, Claim, Reply, Prepare, Promise, Nack, Accept, Accepted, Chosen, Node, Replica, Joiner, To, Only, Input, Start, Own, Tick, Deliver, Out, idle, is_next, ServerKept, ServerLive, ShardState, Proposal, queued, to_from, to_replicas, is_below_limit, may_propose, first_shard, is_current, is_own_joiner, reply, reply_if, replies, with_shard, learns, claimed, owns, server_own, promised, accepted, nacked, gets_promise, gets_accepted, gets_nack, of_phase, again, all_again, server_tick, from_replica, server_gets, server_turn, option_both, each_append, is_same, is_below, same_true, higher, value_for, is_new, is_most, nobody, with_promise, with_acceptance}
 use Rattle.photon_model.proofs.Finding.{first_is}
 
 -- the next place of a shard
@@ -90,7 +90,7 @@ module _ (g : Setting) (site : ℕ) (k : ServerKept) (l : ServerLive) where
     gets from (Claim x) =
         option_both (replay (l.shards (shard g x.id)).learned x.id x.token) (claimed g site k l x (shard g x.id) (l.shards (shard g x.id))) (P (Deliver from (Claim x)))
         (λ a e. h.answers from x a e)
-        (λ _. cond_both (queued (l.shards (shard g x.id)).queue x.token || nat_le 4096 (length (l.shards (shard g x.id)).queue)) (idle l) _ (P (Deliver from (Claim x))) (λ _. h.idles _) (λ _. h.queues from x))
+        (λ _. cond_both (queued (l.shards (shard g x.id)).queue x.token || nat_le MOST_WAITING (length (l.shards (shard g x.id)).queue)) (idle l) _ (P (Deliver from (Claim x))) (λ _. h.idles _) (λ _. h.queues from x))
     gets from (Chosen at v) =
         if_so _ (is_next g at (l.shards at.shard) && is_below_limit at.slot) _
         (λ t. h.learns_of from at v (eqb-true at.slot (length (l.shards at.shard).learned) (and_parts (nat_lt at.shard (shards g)) (at.slot == length (l.shards at.shard).learned) (and_parts (is_next g at (l.shards at.shard)) (is_below_limit at.slot) t).0).1))

@@ -38,6 +38,7 @@ pub use Rattle.registry_state.proofs.LookingBack.{Replays, bound_stays, get_fron
 pub use Rattle.registry_state.proofs.Tests.{same_batch-refl, same_batch-true, same_id-false, same_id-refl, same_id-true, same_token-refl, same_token-true}
 pub use Rattle.registry_state.specs.LookBack.{Expired, IsGranted, Registered, bound_at, bound_of, first_insert, holder, replay}
 pub use Rattle.registry_state.specs.Same.{same_batch, same_token}
+pub use Rattle.registry_state.specs.declared.TheConstants.{MOST_WAITING}
 pub use Rattle.registry_state.specs.declared.Answer.{Answer}
 pub use Rattle.registry_state.specs.declared.Answer.TheVariants.{Duplicate, Granted, TooOld}
 pub use Rattle.registry_state.specs.declared.Batch.{Batch}

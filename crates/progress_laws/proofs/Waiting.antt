@@ -1,7 +1,7 @@
 -- What is left to do at a server stays so where nothing is learned, as in an interval in which nothing is done; and an insert
 -- that comes is answered, or waits.
 use Rattle.std.proofs.Common.{◌≡◌, ⊎_elim, ℕ, ◌≤◌, Bool, List, Some, refl, sym, ◌∙◌, subst, ◌⊎◌, inl, inr, ◌<◌, true, ◌||◌, ◌==◌, nat_lt, nat_le, ◌∷◌, ◌++◌, length, None, ap, []}
-use Rattle.photon_model.proofs.Words.{Setting, Input, Server, Sent, ServerLive, server_turn, World, Entry, server_row, after, Insert, Token, Answer, bound_of, replay, Mem, mem_right, shard, shards, Out, idle, is_empty, Reply, Node, Joiner, Only, ServerKept, ShardState, queued, is_own_joiner, claimed, server_gets}
+use Rattle.photon_model.proofs.Words.{MOST_WAITING, Setting, Input, Server, Sent, ServerLive, server_turn, World, Entry, server_row, after, Insert, Token, Answer, bound_of, replay, Mem, mem_right, shard, shards, Out, idle, is_empty, Reply, Node, Joiner, Only, ServerKept, ShardState, queued, is_own_joiner, claimed, server_gets}
 use Rattle.progress_laws.proofs.Moments.{opened_at, IsEnd, Step, turned, lives, ends, no_work}
 use Rattle.progress_laws.proofs.Turning.{Same, Fate, AllAsk, Turns, turns}
 use Rattle.std.specs.Prelude.{Option, not}
@@ -38,7 +38,7 @@ module _ (g : Setting) (site : ℕ) (k : ServerKept) (l : ServerLive) where
   abbrev pub Heard : Insert → Out ServerLive → Type 0
   Heard x o = ((a : Answer) × Mem (Only (Joiner x.token.joiner), Reply x a) o.packets) ⊎ ((y : Insert) × Mem y (o.live.shards (shard g x.id)).queue)
 
-  queued_some : (xs : List Insert) (t : Token) → (queued xs t || nat_le 4096 (length xs)) ≡ true → (y : Insert) × Mem y xs
+  queued_some : (xs : List Insert) (t : Token) → (queued xs t || nat_le MOST_WAITING (length xs)) ≡ true → (y : Insert) × Mem y xs
   queued_some [] t e = absurd (true≢false (sym e))
   queued_some (y ∷ xs) t e = (y, inl refl)
 
@@ -51,7 +51,7 @@ module _ (g : Setting) (site : ℕ) (k : ServerKept) (l : ServerLive) where
       go : (o : Option Answer) → Heard x (claimed g site k l x s (l.shards s) o)
       go (Some a) = inl (a, subst (Mem (Only (Joiner x.token.joiner), Reply x a)) (sym (cond-true (is_own_joiner g site x.token.joiner) ((Only (Joiner x.token.joiner), Reply x a) ∷ []) [] own)) (inl refl))
       go None =
-          cond_both (queued (l.shards s).queue x.token || nat_le 4096 (length (l.shards s).queue)) (idle l) _ (Heard x)
+          cond_both (queued (l.shards s).queue x.token || nat_le MOST_WAITING (length (l.shards s).queue)) (idle l) _ (Heard x)
           (λ e. inr (queued_some (l.shards s).queue x.token e))
           (λ _. inr (x, subst (λ (c : ShardState). Mem x c.queue) (sym (cond-true (s == s) (record (l.shards s) { queue = (l.shards s).queue ++ x ∷ [] }) (l.shards s) (eq-eqb s s refl))) (mem_right x (l.shards s).queue (x ∷ []) (inl refl))))
 

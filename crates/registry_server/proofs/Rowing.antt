@@ -1,7 +1,7 @@
 -- A step of one shard as a row's turn.
 use Rattle.std.proofs.Common.{◌≡◌, ℕ, suc, ◌+◌, ◌≤◌, true, List, [], ◌∷◌, ◌++◌, length, take, Some, None, refl, sym, ap, ◌∙◌, subst, arith}
 use Rattle.std.specs.Prelude.{Option, option_map, min}
-use Rattle.registry_server.proofs.Words.{cond-true, set_at, Ballot, Insert, Batch, Answer, replay, batch_of, waiting, answered, nobody, Promising, Proposer, ballot_of, own_of, phase_of, Packet, Prepare, Node, To, Setting, Out, ServerKept, ServerLive, ShardState, claimed, reply, replies, may_propose, to_replicas, setting, sent, each_reply, IsShard, stepped, proposal_of, Gives, IsStep, note_of, changed, IsAt, proposes_if, learns_behind, Station, Shard, Step, Propose, Learn, Turn}
+use Rattle.registry_server.proofs.Words.{MOST_INSERTS, cond-true, set_at, Ballot, Insert, Batch, Answer, replay, batch_of, waiting, answered, nobody, Promising, Proposer, ballot_of, own_of, phase_of, Packet, Prepare, Node, To, Setting, Out, ServerKept, ServerLive, ShardState, claimed, reply, replies, may_propose, to_replicas, setting, sent, each_reply, IsShard, stepped, proposal_of, Gives, IsStep, note_of, changed, IsAt, proposes_if, learns_behind, Station, Shard, Step, Propose, Learn, Turn}
 use Rattle.registry_server.specs.declared.turn.Change.TheVariants as change
 use Rattle.registry_server.proofs.Sending.{replies_each}
 
@@ -44,18 +44,18 @@ module _ (g : Setting) (site : ℕ) (k : ServerKept) (l : ServerLive) (n : ℕ) 
       (sym at.round) refl
 
 module _ (t : Station) (g : Setting) (k : ServerKept) (l : ServerLive) (n : ℕ) (turn : Turn) where
-  pub proposed_gives : (h : Shard) (r e : ℕ) (p : Proposer) (items : List (Node × Packet)) → t.config.batch ≤ 64 → IsAt (setting t g) h n r l → e ≡ k.epoch → true ≡ may_propose (setting t g) (l.shards n)
+  pub proposed_gives : (h : Shard) (r e : ℕ) (p : Proposer) (items : List (Node × Packet)) → t.config.batch ≤ MOST_INSERTS → IsAt (setting t g) h n r l → e ≡ k.epoch → true ≡ may_propose (setting t g) (l.shards n)
       → IsStep turn n (r + 1) items (Propose p)
       → sent items ≡ to_replicas t.config.replicas (Prepare (record { shard = n; slot = h.next }) (record { round = r + 1; epoch = e; site = t.site }))
       → ballot_of p ≡ record { round = r + 1; epoch = e; site = t.site }
-      → own_of p ≡ batch_of t.config.horizon (take (min t.config.batch 64) (waiting h.queue))
+      → own_of p ≡ batch_of t.config.horizon (take (min t.config.batch MOST_INSERTS) (waiting h.queue))
       → phase_of p ≡ Promising (nobody t.config.replicas) None
       → Gives (setting t g) t.site l turn (proposes_if (setting t g) t.site k l n)
   proposed_gives h r e p items few at ee may is es eb eo ep =
       let next : h.next ≡ length (l.shards n).learned = at.stands.learned.next in
       let round : r + 1 ≡ suc l.round = (let q = at.round in omega arith) in
       let ballot : ◌≡◌ {A = Ballot} (record { round = r + 1; epoch = e; site = t.site }) (record { round = suc l.round; epoch = k.epoch; site = t.site }) = λ i. record { round = round i; epoch = ee i; site = t.site } in
-      let size : min t.config.batch 64 ≡ t.config.batch = omega arith in
+      let size : min t.config.batch MOST_INSERTS ≡ t.config.batch = omega arith in
       let own : own_of p ≡ batch_of t.config.horizon (take t.config.batch (l.shards n).queue) = eo ∙ (λ i. batch_of t.config.horizon (take (size i) (sym (queue_is h (l.shards n) at.stands) i))) in
       let b = eb ∙ ballot in
       same_row (setting t g) t.site l turn _ _ (cond-true (may_propose (setting t g) (l.shards n)) _ _ (sym may))

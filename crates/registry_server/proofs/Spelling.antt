@@ -1,7 +1,7 @@
 -- Where the server's numbers, what it knows and the input have spellings, so have the row's packets and what it knows next.
 use Rattle.std.proofs.Common.{◌≡◌, ℕ, suc, ◌+◌, ◌^◌, ◌<◌, ◌≤◌, ◌&&◌, ◌||◌, Bool, true, false, cond, List, [], ◌∷◌, ◌++◌, length, take, set, Option, Some, None, refl, subst, arith}
 use Rattle.std.specs.Prelude.{nat_lt, nat_le, IfSome}
-use Rattle.registry_server.proofs.Words.{LAST_SLOT, LAST_EPOCH, cond_both, ltb-true, and_parts, length-take, same_Some, Each, each_append, at_set, EventId, same_id, Ballot, is_below, Token, Insert, Batch, Answer, Granted, Duplicate, TooOld, same_token, bound_of, first_in, first_insert, or_else, replay, replay_held, IsToken, IsInsert, IsAnswer, IsPlace, IsBallot, IsBatch, IsPrior, Place, higher, value_for, Phase, is_new, is_most, nobody, with_promise, on_promise, with_acceptance, on_accepted, Promising, Accepting, Ended, Packet, Node, Replica, Joiner, Input, Start, Own, Tick, Deliver, To, Only, IsPacket, Setting, shard, shards, Out, idle, ServerKept, ServerLive, ShardState, Proposal, empty_shard, queued, to_from, is_below_limit, may_propose, first_shard, is_next, is_current, is_own_joiner, reply, reply_if, replies, keep_if, unanswered, learns, with_shard, claimed, proposes, owns, server_own, goes_on, accept_if, promised, accepted, nacked, gets_promise, gets_accepted, gets_nack, gets_chosen, of_phase, again, all_again, server_tick, server_gets, server_turn, server_start, IsSpelledPhase, IsSpelledProposal, IsSpelledShard, IsSpelledPlan, IsSpelledLive, IsInput}
+use Rattle.registry_server.proofs.Words.{MOST_WAITING, LAST_SLOT, LAST_EPOCH, cond_both, ltb-true, and_parts, length-take, same_Some, Each, each_append, at_set, EventId, same_id, Ballot, is_below, Token, Insert, Batch, Answer, Granted, Duplicate, TooOld, same_token, bound_of, first_in, first_insert, or_else, replay, replay_held, IsToken, IsInsert, IsAnswer, IsPlace, IsBallot, IsBatch, IsPrior, Place, higher, value_for, Phase, is_new, is_most, nobody, with_promise, on_promise, with_acceptance, on_accepted, Promising, Accepting, Ended, Packet, Node, Replica, Joiner, Input, Start, Own, Tick, Deliver, To, Only, IsPacket, Setting, shard, shards, Out, idle, ServerKept, ServerLive, ShardState, Proposal, empty_shard, queued, to_from, is_below_limit, may_propose, first_shard, is_next, is_current, is_own_joiner, reply, reply_if, replies, keep_if, unanswered, learns, with_shard, claimed, proposes, owns, server_own, goes_on, accept_if, promised, accepted, nacked, gets_promise, gets_accepted, gets_nack, gets_chosen, of_phase, again, all_again, server_tick, server_gets, server_turn, server_start, IsSpelledPhase, IsSpelledProposal, IsSpelledShard, IsSpelledPlan, IsSpelledLive, IsInput}
 use Rattle.turn_defs.specs.declared.packet.Packet.TheVariants as packet
 
 abbrev pub Sends : List (To × Packet) → Type 0
@@ -123,7 +123,7 @@ module _ (g : Setting) (site : ℕ) (plan : IsSpelledPlan g site) where
     claimed_ok x s (Some a) ix is = record { quiet = refl; packets = reply_ok x a ix is; live = live }
     claimed_ok x s None ix is =
         let st = l.shards s in
-        cond_both (queued st.queue x.token || nat_le 4096 (length st.queue)) (idle l) (record { note = None; packets = []; live = with_shard g site k l s (record st { queue = st.queue ++ x ∷ [] }) }) (IsSpelledOut k)
+        cond_both (queued st.queue x.token || nat_le MOST_WAITING (length st.queue)) (idle l) (record { note = None; packets = []; live = with_shard g site k l s (record st { queue = st.queue ++ x ∷ [] }) }) (IsSpelledOut k)
         (λ _. idle_ok)
         (λ _. record { quiet = refl; packets = tt; live = set_ok s (record st { queue = st.queue ++ x ∷ [] }) (record { learned = (live.each s).learned; queue = each_append IsInsert st.queue (x ∷ []) (live.each s).queue (ix, tt); proposal = (live.each s).proposal }) })
 

@@ -80,6 +80,7 @@ pub use Rattle.turn_defs.specs.Setting.{Setting, shard, shards}
 pub use Rattle.turn_defs.specs.Spellings.{IsAnswer, IsBallot, IsBatch, IsInsert, IsPlace, IsPrior, IsToken}
 pub use Rattle.turn_defs.specs.Turns.{Note, Out, idle, is_empty, land}
 pub use Rattle.turn_defs.specs.declared.limits.TheConstants.{LAST_SLOT}
+pub use Rattle.registry_state.specs.declared.TheConstants.{MOST_INSERTS, MOST_WAITING}
 pub use Rattle.turn_defs.specs.declared.node.Input.{Input}
 pub use Rattle.turn_defs.specs.declared.node.Input.TheVariants.{Deliver, Own, Start, Tick}
 pub use Rattle.turn_defs.specs.declared.node.Node.{Node}

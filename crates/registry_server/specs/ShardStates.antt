@@ -1,6 +1,7 @@
 -- A shard as the state that it stands for.
 use Rattle.std.specs.Prelude.{◌≡◌, ℕ, ◌<◌, ◌≤◌, ◌&&◌, ◌||◌, not, ◌++◌, ◌∷◌, [], Bool, true, false, List, length, get_or, nat_lt, nat_le, if◌then◌else◌, Option, Some, None, option_map, is_some, IfSome, ⊤}
 use Rattle.turn_defs.specs.declared.limits.TheConstants.{LAST_SLOT}
+use Rattle.registry_state.specs.declared.TheConstants.{MOST_WAITING}
 use Rattle.ballot_core.specs.declared.Ballot.{Ballot}
 use Rattle.registry_state.specs.declared.Insert.{Insert}
 use Rattle.registry_state.specs.declared.Batch.{Batch}
@@ -49,7 +50,7 @@ pub record IsShard (h : Shard) (st : ShardState) : Type 0 where
 
 -- one insert more waits, unless its token waits or as many as may
 abbrev pub put_last : List Insert → Insert → List Insert
-put_last q x = if queued q x.token || nat_le 4096 (length q) then q else q ++ x ∷ []
+put_last q x = if queued q x.token || nat_le MOST_WAITING (length q) then q else q ++ x ∷ []
 
 abbrev pub counts_promise : ℕ → Option (Ballot × Batch) → Proposal → Proposal
 counts_promise r prior p = record { ballot = p.ballot; own = p.own; phase = (on_promise p.own p.phase r prior).0 }

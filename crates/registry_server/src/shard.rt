@@ -13,7 +13,7 @@ use ballot_core::Ballot;
 use batch_queue::{Answered, BatchQueue};
 use id_expiry::TimedRegistry;
 use paxos_proposer::Proposer;
-use registry_state::{Batch, Insert};
+use registry_state::{Batch, Insert, MOST_WAITING};
 use std::alloc::Global;
 use turn_defs::LAST_SLOT;
 
@@ -106,7 +106,7 @@ impl Shard {
         ensures { (g : Setting) (site : _) (st : ShardState) → IsShard self.old st → IsShard self.new (stepped g site (Step.Queue insert) st) }
     {
         let waiting = self.queue.len();
-        prove!(waiting <= 4096);
+        prove!(waiting <= MOST_WAITING);
         let _ = self.queue.put(insert);
     }
 

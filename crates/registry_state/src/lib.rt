@@ -51,6 +51,9 @@ pub enum Answer {
 /// A batch has at most so many inserts.
 pub const MOST_INSERTS: usize = 64;
 
+/// So many inserts wait for one shard at most.
+pub const MOST_WAITING: usize = 4096;
+
 /// Inserts, in order.
 #[derive(Debug, Drop)]
 pub struct Inserts {

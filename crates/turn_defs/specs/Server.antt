@@ -2,6 +2,7 @@
 -- answers each insert from the values chosen so far.
 use Rattle.std.specs.Prelude.{ℕ, suc, ◌+◌, ◌-◌, ◌*◌, max, Bool, true, false, not, ◌&&◌, ◌||◌, ◌==◌, nat_lt, nat_le, List, [], ◌∷◌, ◌++◌, length, take, if◌then◌else◌, Option, Some, None, is_some, is_none}
 use Rattle.turn_defs.specs.declared.limits.TheConstants.{LAST_SLOT}
+use Rattle.registry_state.specs.declared.TheConstants.{MOST_WAITING}
 use Rattle.registry_state.specs.declared.Token.{Token}
 use Rattle.ballot_core.specs.declared.Ballot.{Ballot}
 use Rattle.registry_state.specs.declared.Insert.{Insert}
@@ -132,7 +133,7 @@ module _ (g : Setting) (site : ℕ) where
     abbrev pub claimed : Insert → ℕ → ShardState → Option Answer → Out ServerLive
     claimed x s st (Some a) = record { note = None; packets = reply x a; live = l }
     claimed x s st None =
-        if queued st.queue x.token || nat_le 4096 (length st.queue)
+        if queued st.queue x.token || nat_le MOST_WAITING (length st.queue)
         then idle l
         else record { note = None; packets = []; live = with_shard s (record st { queue = st.queue ++ x ∷ [] }) }
 

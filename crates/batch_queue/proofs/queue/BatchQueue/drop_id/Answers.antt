@@ -1,5 +1,6 @@
 use Rattle.std.proofs.Common.{◌≡◌, ◌≤◌, ◌++◌, List, length, not, filter, refl, arith, sym, subst, ◌∙◌}
 use Rattle.std.specs.Prelude.{option_to_list}
+use Rattle.registry_state.specs.declared.TheConstants.{MOST_WAITING}
 use Rattle.batch_queue.proofs.Words.{length-filter_both, same_id, Insert, settled, waiting, IsOnce}
 use Rattle.batch_queue.proofs.Waiting.{once_part}
 use Rattle.batch_queue.proofs.Answering.{left-append}
@@ -21,4 +22,4 @@ invariant_of-self-clause-few c =
     = (λ j. c.drop_id.ensures j ++ c.other_than-self.ensures.left j) ∙ left-append keep (settled old.settled) (option_to_list old.newest) in
     let few = old.few in
     let both = length-filter_both keep (λ x. not (keep x)) (λ x. refl) (waiting old) in
-    subst (λ (xs : List Insert). length xs ≤ 4096) (sym left) (omega arith)
+    subst (λ (xs : List Insert). length xs ≤ MOST_WAITING) (sym left) (omega arith)

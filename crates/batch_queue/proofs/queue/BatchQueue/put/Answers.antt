@@ -1,5 +1,6 @@
 use Rattle.std.proofs.Common.{◌≡◌, ◌∷◌, [], length, false, rules, arith}
 use Rattle.std.specs.Prelude.{option_to_list}
+use Rattle.registry_state.specs.declared.TheConstants.{MOST_WAITING}
 use Rattle.batch_queue.proofs.Words.{length-append, settled, has_token}
 use Rattle.batch_queue.proofs.Waiting.{once_push}
 use Rattle.batch_queue.proofs.queue.BatchQueue.put.Goals as goal
@@ -17,5 +18,5 @@ invariant_of-self-clause-few c =
     let few = old.few in
     let before = length-append xs (option_to_list old.newest) in
     let after = length-append xs (c.args.insert ∷ []) in
-    let apart : length xs ≡ 4096 → ⊥ = search rules in
+    let apart : length xs ≡ MOST_WAITING → ⊥ = search rules in
     omega (arith, apart)
