@@ -6,9 +6,9 @@ use joiner_core::Looked;
 use outside::LogFile;
 use std::alloc::{AllocError, Global};
 
-// Of how many queries the places are kept at hand, some 1.5 MB. Where many processes write one log a look-up by the index passes over
+// Of how many queries the places are kept at hand, some 6 MB. Where many processes write one log a look-up by the index passes over
 // the others' lines, so where those that were read lately begin is worth its memory.
-const CACHE: u32 = 1 << 15;
+const CACHE: u32 = 1 << 17;
 
 // The queries of a log, of which those at its front were read.
 #[derive(Drop)]
