@@ -1,35 +1,84 @@
--- A drill's history, and where a joiner has stopped in it.
-use Rattle.std.proofs.Common.{◌≡◌, ◌≤◌, ℕ, ◌==◌, Bool, true, false, ◌||◌, nat_le, List, [], ◌∷◌, Option, Some, None, refl, sym, subst, arith}
-use Rattle.photon_cli.proofs.Words.{REPLICAS, list_any, IfSome, IsSomeAnd, nat_tests, PlanView, Entry, Begin, End, Stop, is_of, is_stop_from, ReportLine, Setting, is_joiners, made_by, is_stop, RanAfresh, RunLog, IsDrilled, IsHeardOf}
+-- Why a drill gives up, and which of its joiners stop, by the stops that its plan has.
+use Rattle.std.proofs.Common.{◌≡◌, ◌∙◌, ⊎_elim, ℕ, Bool, true, false, ◌||◌, List, [], ◌∷◌, Option, Some, None, Ok, IsTrue, if◌then◌else◌, refl, sym, subst}
+use Rattle.photon_cli.proofs.Words.{list_any, IfSome, IsSomeAnd, Each, DiskName, DiskKind, Epoch, Output, Fuse, PlanStop, PlanView, ReportLine, RunFault, RunLog, Images, IsCauseOf, IsWelcome, Kept, KeptDisk, KeepsAs, EpochIs, IsKept, NotesAre, Setting, limit_at, limit_in, HasOutcome, Outcome, one_outcome, is_at, is_for, is_joiners, is_planned, of_joiners, planned_for, AtMost, StopsAtMost, StopsAsPlanned, none_of_joiners, RanAfresh, IsDrilled, IsHeardOf, IsOfDrill}
+use Rattle.outside.specs.declared.store.DiskName.TheVariants as name
+use Rattle.run_fault.specs.declared.fault.Mismatch.TheVariants as mismatch
+use Rattle.run_fault.specs.declared.fault.RunFault.TheVariants as fault
 
--- an entry that may be the node's, before others: if it is, it is no stop
-one_more : (own stops rest : Bool) (e : Entry) (j : ℕ) (h : List Entry) → is_of j e ≡ own → is_stop e ≡ stops → (own ≡ true → stops ≡ false) → list_any is_stop (made_by j h) ≡ false → list_any is_stop (made_by j (e ∷ h)) ≡ false
-one_more true stops rest e j h is stop calm so = rw (is, stop, calm refl) so
-one_more false stops rest e j h is stop calm so = rw is so
+-- ---- stops that a plan doesn't have
 
--- a stop of a node below the seventh is none of a later one's
-not_own : (node j : ℕ) → 7 ≤ j → nat_le 7 node ≡ false → (node == j) ≡ true → true ≡ false
-not_own node j late early same = grind (arith, nat_tests)
+-- a stop that isn't of a joiner's kind of disk is for none of these
+not_at : (there : Bool) (kind : DiskKind) (which : Option ℕ) (n : ℕ) → of_joiners kind ≡ false → (is_at kind which (if there then Some (Epoch, n) else None) ≡ false) × (is_at kind which (if there then Some (Output, n) else None) ≡ false)
+not_at false kind which n other = (refl, refl)
+not_at true Epoch which n other = absurd (cc other)
+not_at true Output which n other = absurd (cc other)
+not_at true _ which n other = (refl, refl)
 
 either : (a b : Bool) → (a || b) ≡ false → (a ≡ false) × (b ≡ false)
 either true b e = absurd cc
 either false b e = (refl, e)
 
--- where no node from the seventh on has stopped, none of these has
-pub none_late : (h : List Entry) (j : ℕ) → 7 ≤ j → list_any (is_stop_from 7) h ≡ false → list_any is_stop (made_by j h) ≡ false
-none_late [] j late none = refl
-none_late (Begin node input ∷ h) j late none = one_more (node == j) false false (Begin node input) j h refl refl (λ own. refl) (none_late h j late none)
-none_late (End node noted packets kept ∷ h) j late none = one_more (node == j) false false (End node noted packets kept) j h refl refl (λ own. refl) (none_late h j late none)
-none_late (Stop node landed ∷ h) j late none =
-    let both = either (nat_le 7 node) (list_any (is_stop_from 7) h) none in
-    one_more (node == j) true false (Stop node landed) j h refl refl (not_own node j late both.0) (none_late h j late both.1)
+none_for : (joiners : ℕ) (disk : DiskName) → ((stop : PlanStop) → is_joiners stop ≡ false → is_for joiners stop disk ≡ false) → (stops : List PlanStop) → list_any is_joiners stops ≡ false → planned_for joiners stops disk ≡ []
+none_for joiners disk spares [] none = refl
+none_for joiners disk spares (stop ∷ stops) none =
+    let both = either (is_joiners stop) (list_any is_joiners stops) none in
+    let here = spares stop both.0 in
+    rw here (none_for joiners disk spares stops both.1)
 
--- what is known of a run's history
-pub drilled : (o : Option RunLog) (g : Setting) (plan : PlanView) (joiners : ℕ) (lines : List ReportLine) → g.replicas ≡ REPLICAS → g.joiners ≡ joiners → IsSomeAnd o (λ l. RanAfresh g l.air.history lines) → IfSome o (IsHeardOf plan joiners)
-    → (list_any is_joiners plan.stops ≡ false → IfSome o (λ l. (j : ℕ) → 7 ≤ j → list_any is_stop (made_by j l.air.history) ≡ false)) → IsSomeAnd o (IsDrilled g plan lines)
-drilled None g plan joiners lines three same ran heard spared = absurd ran
-drilled (Some log) g plan joiners lines three same ran heard spared = record {
+pub none_planned : (fuses : List Fuse) → fuses ≡ [] → AtMost (is_planned fuses) 0 0
+none_planned fuses none n from is = let here : IsTrue (is_planned [] n) = subst (λ (f : List Fuse). IsTrue (is_planned f n)) none is in absurd (cc here)
+
+-- ---- why it gives up
+
+-- no bytes keep a number at its limit
+unlimited : (disk : DiskName) (kept : Kept) → KeepsAs kept [] → limit_at disk kept ≡ None
+unlimited disk (EpochIs epoch) keeps = let read : Ok 0 ≡ Ok epoch = keeps in let zero : epoch ≡ 0 = cc in rw zero refl
+unlimited disk (NotesAre []) keeps = refl
+unlimited disk (NotesAre (n ∷ ns)) keeps = absurd (cc keeps.1)
+unlimited disk _ keeps = refl
+
+module _ (g : Setting) (before : Images) (nothing : (disk : DiskName) (c : List ℕ) → before disk c → c ≡ []) where
+  none_limited : (disks : List KeptDisk) → Each (IsKept before) disks → limit_in disks ≡ None
+  none_limited [] kept = refl
+  none_limited (d ∷ ds) kept =
+      let here = unlimited d.name d.kept (subst (KeepsAs d.kept) (nothing d.name kept.0.0 kept.0.1) kept.0.2) in
+      rw here (none_limited ds kept.1)
+
+  pub of_drill : (read faulted holds stops : Type 0) → holds → (faulted → stops) → (f : RunFault) → IsCauseOf g before read faulted f → IsWelcome holds f → IsOfDrill stops f
+  of_drill read faulted holds stops x more (fault.Store at) cause fair = more cause
+  of_drill read faulted holds stops x more (fault.Limit disk value) cause fair =
+      ⊎_elim (λ (k, kept, unfit). absurd (cc (sym (none_limited k.disks (kept.kept refl)) ∙ unfit.2))) (λ late. more late.0) cause
+  of_drill read faulted holds stops x more (fault.Damaged disk at) cause fair = fair x
+  of_drill read faulted holds stops x more (fault.Topology (mismatch.Joiners kept asked)) cause fair = fair x
+  of_drill read faulted holds stops x more (fault.Topology what) cause fair = fair
+  of_drill read faulted holds stops x more _ cause fair = tt
+
+pub more_stops : (less more : Type 0) → (less → more) → (f : RunFault) → IsOfDrill less f → IsOfDrill more f
+more_stops less more to (fault.Store at) is = to is
+more_stops less more to (fault.Limit disk value) is = to is
+more_stops less more to (fault.Damaged disk at) is = is
+more_stops less more to (fault.Topology what) is = is
+more_stops less more to _ is = tt
+
+-- ---- a file and its plan
+
+pub one_in : (file : Option (List ℕ)) (a b : Outcome PlanView) → IsSomeAnd file (λ bytes. HasOutcome bytes a) → IsSomeAnd file (λ bytes. HasOutcome bytes b) → a ≡ b
+one_in None a b h k = absurd h
+one_in (Some bytes) a b h k = one_outcome bytes a b h k
+
+-- ---- what is known of a run's history
+
+pub drilled : (o : Option RunLog) (g : Setting) (plan : PlanView) (joiners : ℕ) (lines : List ReportLine) → g.joiners ≡ joiners → IsSomeAnd o (λ l. RanAfresh g l.air.history lines) → IfSome o (IsHeardOf plan joiners)
+    → IfSome o (λ l. StopsAsPlanned (StopsAtMost joiners plan.stops) g l.air.history) → IsSomeAnd o (IsDrilled g plan lines)
+drilled None g plan joiners lines same ran heard few = absurd ran
+drilled (Some log) g plan joiners lines same ran heard few = record {
   ran = ran;
   heard = subst (λ j. IsHeardOf plan j log) (sym same) heard;
-  whole = λ none. ran.whole (λ stopped. let calm = spared none stopped.0 (omega (arith, three, stopped.1.0)) in absurd cc);
+  stops = subst (λ j. StopsAsPlanned (StopsAtMost j plan.stops) g log.air.history) (sym same) few;
+  whole = λ none. ran.whole (λ stopped.
+      none_of_joiners (StopsAtMost joiners plan.stops) g log.air.history
+      (λ site joiner. (
+        none_planned (planned_for joiners plan.stops (name.Epoch site joiner)) (none_for joiners (name.Epoch site joiner) (λ stop other. (not_at _ stop.disk stop.which _ other).0) plan.stops none),
+        none_planned (planned_for joiners plan.stops (name.Output site joiner)) (none_for joiners (name.Output site joiner) (λ stop other. (not_at _ stop.disk stop.which _ other).1) plan.stops none),
+      )) few stopped.0 stopped.1 stopped.2);
 }

@@ -47,6 +47,7 @@ module _ (logs sinks disks : Bool) (told : List ℕ → Option (List ℕ)) (file
     prefix = λ l s e. absurd (omega (arith, eight, e));
     tells = λ l s calm. inr (fault.Memory, eight, tt, tells s calm);
     welcome = λ l. (λ seven. omega (arith, eight, seven), λ nine. omega (arith, eight, nine));
+    stops = λ l s. absurd (⊎_elim (λ six. omega (arith, eight, six)) (λ ten. omega (arith, eight, ten)) s);
     complete = λ l g asked plan is calm quiet. inr (inr (inl eight));
   }
 
@@ -82,8 +83,8 @@ module _ (logs sinks disks : Bool) (told : List ℕ → Option (List ℕ)) (file
     one = λ e. omega (arith, eight, e);
     lines = λ e. omega (arith, eight, e);
     read = λ e. omega (arith, eight, e);
-    welcome = (λ e. omega (arith, eight, e), λ e. omega (arith, eight, e));
-    complete = λ table quiet. inr (inr (inl eight));
+    welcome = (λ e. omega (arith, eight, e), λ e. omega (arith, eight, e), λ e. omega (arith, eight, e), λ e. omega (arith, eight, e));
+    complete = λ table quiet. inr eight;
     prefix = λ s e. absurd (omega (arith, eight, e));
     tells = λ s calm. inr (fault.Memory, eight, tt, tells s calm);
   }

@@ -1,7 +1,7 @@
 -- What the status of a fault says of it, and what a fault is named by where it is known when it was told.
 use Rattle.std.proofs.Common.{◌⊎◌, inl, inr, ⊎_elim, ◌≡◌, ◌≢◌, ◌==◌, Bool, true, false, ℕ, List, Option, refl, sym, ap, subst, ◌∙◌, arith}
 use Rattle.std.specs.Prelude.{⊤}
-use Rattle.photon_cli.proofs.Words.{IsSomeAnd, none_bad, DiskName, Why, RefusesClick, Field, BulkValues, Text, Values, LogName, Queries, Clicks, StorePlace, Mismatch, RunFault, Unfit, IsWelcome, Refuses, status_of, IsBadIn, IsBeforeLogs, IsEarly, IsFailedRead, IsLogFault, IsOfBulk, IsOfJoin, IsOfLogs, IsOfPlanOrLogs, IsOfRun, IsOfVerify, IsPast, IsPlanFault, failed_read, HasTable, IsNamed, IsNamedInBulk, IsNamedInDrill, IsNamedInVerify}
+use Rattle.photon_cli.proofs.Words.{IsSomeAnd, none_bad, DiskName, Why, RefusesClick, Field, BulkValues, Text, Values, LogName, Queries, Clicks, StorePlace, Mismatch, RunFault, Unfit, IsWelcome, Refuses, status_of, IsBadIn, IsBeforeLogs, IsEarly, IsFailedRead, IsLogFault, IsOfBulk, IsOfDrill, IsOfJoin, IsOfLogs, IsOfPlanOrLogs, IsOfRun, IsOfVerify, IsPast, IsPlanFault, failed_read, HasTable, IsNamed, IsNamedInBulk, IsNamedInDrill, IsNamedInVerify}
 use Rattle.time_shards.specs.Text.{IsFirstBad}
 use Rattle.run_fault.specs.declared.fault.Mismatch.TheVariants as mismatch
 use Rattle.run_fault.specs.declared.fault.RunFault.TheVariants as fault
@@ -89,15 +89,23 @@ log_fair f log (inl (line, w, e)) = subst (IsWelcome ⊤) (sym e) tt
 log_fair f log (inr (inl e)) = subst (IsWelcome ⊤) (sym e) tt
 log_fair f log (inr (inr e)) = subst (IsWelcome ⊤) (sym e) tt
 
-pub plan_fair : (f : RunFault) → IsPlanFault f → IsWelcome ⊤ f
-plan_fair f (inl (place, e)) = subst (IsWelcome ⊤) (sym e) tt
-plan_fair f (inr (inl e)) = subst (IsWelcome ⊤) (sym e) tt
-plan_fair f (inr (inr e)) = subst (IsWelcome ⊤) (sym e) tt
+pub plan_fair : (stops : Type 0) (f : RunFault) → IsPlanFault f → IsOfDrill stops f
+plan_fair stops f (inl (place, e)) = subst (IsOfDrill stops) (sym e) tt
+plan_fair stops f (inr (inl e)) = subst (IsOfDrill stops) (sym e) tt
+plan_fair stops f (inr (inr e)) = subst (IsOfDrill stops) (sym e) tt
+
+-- a drill's fault, by whether there are stops
+module _ (stops : Type 0) (f : RunFault) (is : IsOfDrill stops f) where
+  pub drill_fair : (status_of f ≢ 7) × (status_of f ≢ 9)
+  drill_fair = (λ seven. let d = damaged_of f seven in subst (IsOfDrill stops) d.2 is, λ nine. let m = mismatch_of f nine in subst (IsOfDrill stops) m.1 is)
+
+  pub needs_stops : (status_of f ≡ 6) ⊎ (status_of f ≡ 10) → stops
+  needs_stops s = ⊎_elim (λ six. let p = place_of f six in subst (IsOfDrill stops) p.1 is) (λ ten. let l = fault_of f 10 ten in subst (IsOfDrill stops) l.2 is) s
 
 -- ---- when a fault is told
 
 -- of each that is told of a log
-of_log : (P : RunFault → Type 0) (log : LogName) → ((line : ℕ) (w : Why) → P (fault.Refused log line w)) → P (failed_read log) → P fault.Memory → (f : RunFault) → IsLogFault log f → P f
+pub of_log : (P : RunFault → Type 0) (log : LogName) → ((line : ℕ) (w : Why) → P (fault.Refused log line w)) → P (failed_read log) → P fault.Memory → (f : RunFault) → IsLogFault log f → P f
 of_log P log refused read memory f (inl (line, w, e)) = subst P (sym e) (refused line w)
 of_log P log refused read memory f (inr (inl e)) = subst P (sym e) read
 of_log P log refused read memory f (inr (inr e)) = subst P (sym e) memory
@@ -222,21 +230,20 @@ plan_left f place (inr (inr (inl e))) read = absurd (read (inl e))
 plan_left f place (inr (inr (inr e))) read = inr (ap status_of e)
 
 -- what is left of a drill where no count rose and nothing is refused
-pub drill_left : (f : RunFault) → ((u : Unfit) → f ≡ fault.Reshard u → ⊥) → ((n : ℕ) → f ≡ fault.Table n → ⊥) → ((place : Field) → f ≡ fault.Plan place → ⊥) → ((log : LogName) (line : ℕ) (w : Why) → f ≡ fault.Refused log line w → ⊥) → (IsFailedRead f → ⊥) → (f ≡ fault.Write → ⊥) → IsWelcome ⊤ f
+pub drill_left : (stops : Type 0) (f : RunFault) → ((u : Unfit) → f ≡ fault.Reshard u → ⊥) → ((n : ℕ) → f ≡ fault.Table n → ⊥) → ((place : Field) → f ≡ fault.Plan place → ⊥) → ((log : LogName) (line : ℕ) (w : Why) → f ≡ fault.Refused log line w → ⊥) → (IsFailedRead f → ⊥) → (f ≡ fault.Write → ⊥) → IsOfDrill stops f
     → (status_of f ≡ 6) ⊎ ((status_of f ≡ 8) ⊎ (status_of f ≡ 10))
-drill_left (fault.Table n) adds row bad line read write fair = absurd (row n refl)
-drill_left (fault.Plan at) adds row bad line read write fair = absurd (bad at refl)
-drill_left (fault.Refused log n w) adds row bad line read write fair = absurd (line log n w refl)
-drill_left fault.PlanRead adds row bad line read write fair = absurd (read (inl refl))
-drill_left (fault.Read log) adds row bad line read write fair = absurd (read (inr (log, refl)))
-drill_left (fault.Store at) adds row bad line read write fair = inl refl
-drill_left (fault.Damaged disk at) adds row bad line read write fair = absurd (fair tt)
-drill_left (fault.Topology (mismatch.Joiners kept asked)) adds row bad line read write fair = absurd (fair tt)
-drill_left (fault.Topology what) adds row bad line read write fair = absurd fair
-drill_left (fault.Limit disk value) adds row bad line read write fair = inr (inr refl)
-drill_left (fault.Reshard u) adds row bad line read write fair = absurd (adds u refl)
-drill_left fault.Write adds row bad line read write fair = absurd (write refl)
-drill_left fault.Memory adds row bad line read write fair = inr (inl refl)
+drill_left stops (fault.Table n) adds row bad line read write fair = absurd (row n refl)
+drill_left stops (fault.Plan at) adds row bad line read write fair = absurd (bad at refl)
+drill_left stops (fault.Refused log n w) adds row bad line read write fair = absurd (line log n w refl)
+drill_left stops fault.PlanRead adds row bad line read write fair = absurd (read (inl refl))
+drill_left stops (fault.Read log) adds row bad line read write fair = absurd (read (inr (log, refl)))
+drill_left stops (fault.Store at) adds row bad line read write fair = inl refl
+drill_left stops (fault.Damaged disk at) adds row bad line read write fair = absurd fair
+drill_left stops (fault.Topology what) adds row bad line read write fair = absurd fair
+drill_left stops (fault.Limit disk value) adds row bad line read write fair = inr (inr refl)
+drill_left stops (fault.Reshard u) adds row bad line read write fair = absurd (adds u refl)
+drill_left stops fault.Write adds row bad line read write fair = absurd (write refl)
+drill_left stops fault.Memory adds row bad line read write fair = inr (inl refl)
 
 pub named_in_drill : (told : List ℕ → Option (List ℕ)) (v : Values) (file : Text) (f : RunFault) → ((u : Unfit) → f ≡ fault.Reshard u → ⊥) → ((n : ℕ) → f ≡ fault.Table n → IsFirstBad v.nodes.shards n) → ((place : Field) → f ≡ fault.Plan place → IsBadIn told file place)
     → ((log : LogName) (line : ℕ) (w : Why) → f ≡ fault.Refused log line w → Refuses told v.queries v.clicks log (record { line = line; why = w })) → IsNamedInDrill told v file f

@@ -1,9 +1,5 @@
 -- The words of this crate's proofs: what they take from its definitions and from the crates below, under one name each.
-pub use Rattle.air_bus.specs.History.{is_of}
-pub use Rattle.air_bus.specs.Kept.{is_stop_from}
 pub use Rattle.air_bus.specs.Waiting.{is_dead}
-pub use Rattle.air_bus.specs.declared.entry.Entry.{Entry}
-pub use Rattle.air_bus.specs.declared.entry.Entry.TheVariants.{Begin, End, Stop}
 pub use Rattle.clap.specs.Faults.{fault_of}
 pub use Rattle.clap.specs.Simple.{subcommand_of}
 pub use Rattle.clap.specs.Walk.{Row}
@@ -20,6 +16,7 @@ pub use Rattle.gate_journal.specs.Images.{GoesOn, StaysAs}
 pub use Rattle.list_words.proofs.Lists.{some_same}
 pub use Rattle.list_words.proofs.Splits.{lacks_none, split_same}
 pub use Rattle.list_words.specs.Bytes.{Lacks}
+pub use Rattle.list_words.specs.Lists.{Each}
 pub use Rattle.log_records.proofs.FirstPlaces.{found, length-one, none_found}
 pub use Rattle.log_records.proofs.Places.{lines_follow}
 pub use Rattle.log_records.proofs.Reading.{clicks_same, one_more, queries_same}
@@ -36,16 +33,20 @@ pub use Rattle.log_records.specs.declared.records.QueryRec.{QueryRec}
 pub use Rattle.log_records.specs.declared.report.ReportLine.{ReportLine}
 pub use Rattle.log_records.specs.declared.report.ReportLine.TheVariants.{U}
 pub use Rattle.log_records.specs.declared.why.Why.{Why}
+pub use Rattle.lossy_link.proofs.Outcomes.{one_outcome}
 pub use Rattle.lossy_link.specs.Fates.{PlanView}
 pub use Rattle.lossy_link.specs.Outcome.{Outcome, bad, good}
 pub use Rattle.lossy_link.specs.Plans.{HasOutcome, IsFault, IsFirstBad, IsPlanOf, a_value, no_text, size_limit, too_long}
 pub use Rattle.lossy_link.specs.declared.bad_plan.Field.{Field}
 pub use Rattle.lossy_link.specs.declared.plan.DiskKind.{DiskKind}
+pub use Rattle.lossy_link.specs.declared.plan.DiskKind.TheVariants.{Epoch, Output}
 pub use Rattle.lossy_link.specs.declared.plan.PlanStop.{PlanStop}
 pub use Rattle.mem_outside.specs.Files.{bytes_under}
 pub use Rattle.mem_outside.specs.Kept.{fuses_for, same_name}
+pub use Rattle.mem_outside.specs.Plan.{is_planned}
 pub use Rattle.mem_outside.specs.declared.disk.Fuse.{Fuse}
 pub use Rattle.outside.specs.Faults.{Counts, Rose, added}
+pub use Rattle.outside.specs.Plans.{AtMost}
 pub use Rattle.outside.specs.declared.faults.ReadFault.{ReadFault}
 pub use Rattle.outside.specs.declared.faults.StoreFault.{StoreFault}
 pub use Rattle.outside.specs.declared.store.DiskName.{DiskName}
@@ -58,8 +59,8 @@ pub use Rattle.photon_cli.specs.Drill.{Drills, IsBadIn, IsDrilled}
 pub use Rattle.photon_cli.specs.Ends.{BulkEnds, DrillEnds, Ends, JoinEnds, VerifyEnds}
 pub use Rattle.photon_cli.specs.Faults.{words_status}
 pub use Rattle.photon_cli.specs.Join.{AreLogs, AreValid, HasIds, IsAsked, IsHistory, IsInvalid, Refuses, config_of, no_plan}
-pub use Rattle.photon_cli.specs.LogFaults.{IsBeforeLogs, IsEarly, IsFailedRead, IsLogFault, IsOfBulk, IsOfJoin, IsOfLogs, IsOfPlanOrLogs, IsOfRun, IsOfVerify, IsPast, IsPlanFault, IsRowFault, failed_read, refusal, refusal_of}
-pub use Rattle.photon_cli.specs.Planned.{fuse_of, is_at, is_for, is_joiners, named_by, place_of, planned_for, same_kind}
+pub use Rattle.photon_cli.specs.LogFaults.{IsBeforeLogs, IsEarly, IsFailedRead, IsLogFault, IsOfBulk, IsOfDrill, IsOfJoin, IsOfLogs, IsOfPlanOrLogs, IsOfRun, IsOfVerify, IsPast, IsPlanFault, IsRowFault, failed_read, refusal, refusal_of}
+pub use Rattle.photon_cli.specs.Planned.{StopsAtMost, fuse_of, is_at, is_for, is_joiners, named_by, of_joiners, place_of, planned_for, same_kind}
 pub use Rattle.photon_cli.specs.ReadLines.{AtEnd, IsStep, SoFar, WrongNext}
 pub use Rattle.photon_cli.specs.Status.{IsAnswered}
 pub use Rattle.photon_cli.specs.Told.{IsNamed, IsNamedInBulk, IsNamedInDrill, IsNamedInVerify}
@@ -84,30 +85,31 @@ pub use Rattle.run_fault.specs.declared.fault.Misplaced.{Misplaced}
 pub use Rattle.run_fault.specs.declared.fault.RunFault.{RunFault}
 pub use Rattle.run_fault.specs.declared.fault.StorePlace.{StorePlace}
 pub use Rattle.run_fault.specs.declared.fault.Unfit.{Unfit}
-pub use Rattle.site_laws.specs.Laws.{made_by}
 pub use Rattle.site_laws.specs.StoreLaws.{HoldSameRecords, LongerStaysSound, SameIsSound}
 pub use Rattle.site_laws.specs.Stores.{AreLeft, Images, IsSoundStore}
 pub use Rattle.site_run.proofs.Counting.{rose_before}
 pub use Rattle.site_run.proofs.Earlier.{leaves_placed}
 pub use Rattle.site_run.proofs.Entered.{counted_more, left_before, place_welcome, sound_placed, welcome_where}
 pub use Rattle.site_run.proofs.Outing.{goes_on_through, goes_on_within, stays_goes_on}
-pub use Rattle.site_run.proofs.Refusing.{kept_are_journals}
+pub use Rattle.site_run.proofs.Refusing.{err_both, kept_are_journals}
+pub use Rattle.site_run.proofs.Planning.{none_of_joiners, planned_earlier}
 pub use Rattle.site_run.specs.Heard.{IsHeardOf, kinds_of}
+pub use Rattle.site_run.specs.Stops.{StopsAsPlanned}
 pub use Rattle.site_run.specs.Over.{EndsOver, Keeps as KeepsOver, RunsOver}
 pub use Rattle.site_run.specs.Asked.{IsSettingOf}
 pub use Rattle.site_run.specs.Joined.{RanAfresh}
 pub use Rattle.site_run.specs.Left.{RestLeft, RunLeft}
 pub use Rattle.site_run.specs.Refused.{IsCauseOf, TellsPlaces, asked_of}
 pub use Rattle.site_run.specs.declared.ran.RunLog.{RunLog}
+pub use Rattle.site_store.proofs.Planned.{same_left}
 pub use Rattle.site_store.proofs.Causes.{cause_more, failed_rose, passed_more, unread_rose}
 pub use Rattle.site_store.specs.Causes.{AreTold, HasCause, HasFailed, HasPassed as PassesFor, IsCause, IsUnread, LeavesSomething, first_limit}
 pub use Rattle.site_store.specs.Leaving.{IsAsked as HasTopology}
-pub use Rattle.site_store.specs.Misfits.{IsFitFor}
+pub use Rattle.site_store.specs.Misfits.{IsFitFor, limit_at, limit_in}
 pub use Rattle.site_store.specs.Reading.{IsRead}
-pub use Rattle.site_store.specs.Records.{KeptDisk, KeptValues}
+pub use Rattle.site_store.specs.Records.{EpochIs, IsKept, KeepsAs, Kept, KeptDisk, KeptValues, NotesAre}
 pub use Rattle.site_store.specs.Telling.{Tells}
 pub use Rattle.site_store.specs.declared.reading.kept.KeptStore.{KeptStore}
-pub use Rattle.site_workers.specs.Works.{is_stop}
 pub use Rattle.std.proofs.Math.Seq.{take-add, take-append-add}
 pub use Rattle.std.proofs.lemmas.Bool.{cases_Bool, cases_lt, eqb-true}
 pub use Rattle.std.proofs.lemmas.Bool.Decides.{Decides-eqb, nat_tests}

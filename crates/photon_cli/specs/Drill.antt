@@ -9,19 +9,21 @@ use Rattle.log_records.specs.declared.report.ReportLine.{ReportLine}
 use Rattle.log_records.specs.Report as logs
 use Rattle.report_text.specs.Stream.{TookPrefix}
 use Rattle.turn_defs.specs.Setting.{Setting}
-use Rattle.photon_cli.specs.Planned.{is_joiners}
+use Rattle.photon_cli.specs.Planned.{StopsAtMost, is_joiners}
 use Rattle.site_run.specs.Joined.{RanAfresh}
 use Rattle.site_run.specs.Heard.{IsHeardOf}
+use Rattle.site_run.specs.Stops.{StopsAsPlanned}
 use Rattle.site_run.specs.declared.ran.RunLog.{RunLog}
 use Rattle.photon_cli.specs.Join.{AreValid, IsAsked}
 use Rattle.command_words.specs.Words.{Text, Values}
 use Rattle.photon_cli.specs.Words.{HasTable}
 
--- These are the lines of the report of a run from nothing under this plan, and that is its history. Where no stop of the plan is of
--- a joiner's disk all lines are those of the two logs.
+-- These are the lines of the report of a run from nothing under this plan, and that is its history: no node has stopped more often in it
+-- than the plan has its disks stop. Where no stop of the plan is of a joiner's disk all lines are those of the two logs.
 pub record IsDrilled (g : Setting) (plan : PlanView) (lines : List ReportLine) (log : RunLog) : Type 0 where
   pub ran : RanAfresh g log.air.history lines
   pub heard : IsHeardOf plan g.joiners log
+  pub stops : StopsAsPlanned (StopsAtMost g.joiners plan.stops) g log.air.history
   pub whole : list_any is_joiners plan.stops ≡ false → lines ≡ map (logs.line_of g.queries g.horizon) (logs.distinct (map (λ (l : ClickLine). l.click) g.clicks))
 
 -- Here told says what bytes are under a name.

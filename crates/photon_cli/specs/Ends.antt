@@ -1,5 +1,5 @@
 -- How each command ends, by its exit status.
-use Rattle.std.specs.Prelude.{ℕ, ◌≡◌, ◌≢◌, ◌≤◌, ◌⊎◌, List, Bool, true, false, Option, IfSome, IsSomeAnd, IsTrue}
+use Rattle.std.specs.Prelude.{ℕ, ◌≡◌, ◌≢◌, ◌≤◌, ◌⊎◌, List, [], Bool, true, false, Option, IfSome, IsSomeAnd, IsTrue}
 use Rattle.time_shards.specs.declared.TheConstants.{MOST_JOINERS}
 use Rattle.outside.specs.declared.store.DiskName.{DiskName}
 use Rattle.time_shards.specs.declared.ShardRow.{ShardRow}
@@ -103,8 +103,9 @@ module _ (logs sinks : Bool) (told : List ℕ → Option (List ℕ)) (files outp
     pub invalid : IsTrue logs → (log : LogName) (table : List ShardRow) → IsTextOf v.nodes.shards table → IsInvalid told v.queries v.clicks log → (files → ⊥) → (status ≡ 2) ⊎ ((status ≡ 3) ⊎ (status ≡ 8))
     pub prefix : IsTrue logs → IsTrue sinks → status ≡ 5 → PrintsDrillPrefix told v file ran old new
     pub tells : IsTrue logs → IsTrue sinks → (errors → ⊥) → TellsBy (IsNamedInDrill told v file) status err_old err_new
-    -- 7 and 9 never: its store is empty at first
+    -- 7 and 9 never: its store is empty at first; 6 and 10 only where the plan has a stop
     pub welcome : IsTrue logs → (status ≢ 7) × (status ≢ 9)
+    pub stops : IsTrue logs → (status ≡ 6) ⊎ (status ≡ 10) → (plan : PlanView) × IsPlanIn told file plan × (plan.stops ≢ [])
     -- with a table, a plan, two valid logs and no fault of the files or the output it ends with 0, or for a fault of the run's own
     -- disks, or for want of memory
     pub complete : IsTrue logs → (g : Setting) → IsAsked told v g → (plan : PlanView) → IsPlanIn told file plan → (files → ⊥) → (output → ⊥)
@@ -148,15 +149,16 @@ module _ (sinks : Bool) (output errors : Type 0) (old new err_old err_new : List
     pub ran_on : status ≡ 0 → IsSomeAnd ran (IsBulkRun v)
     -- a run begins only behind a table, and what is left of a run is then of this one, as of a join
     pub begins : Begins unrun (BeginsBulk v ran) status
-    -- 2: only where the shards' text is no table, and there always, but for want of memory; 1, 3 and 4 never, and 7 and 9 as of a drill
+    -- 2: only where the shards' text is no table, and there always, but for want of memory; 1, 3 and 4 never, nor 6, 7, 9 and 10: its
+    -- store is empty at first, and no stop is planned
     pub row : status ≡ 2 → (n : ℕ) × IsFirstBad v.nodes.shards n
     pub bad_row : (n : ℕ) → IsFirstBad v.nodes.shards n → (status ≡ 2) ⊎ (status ≡ 8)
     pub one : status ≢ 1
     pub lines : status ≢ 3
     pub read : status ≢ 4
-    pub welcome : (status ≢ 7) × (status ≢ 9)
-    -- with a table and no fault of the output it ends with 0, or for a fault of the run's own disks, or for want of memory
-    pub complete : HasTable v.nodes.shards → (output → ⊥) → (status ≡ 0) ⊎ ((status ≡ 6) ⊎ ((status ≡ 8) ⊎ (status ≡ 10)))
+    pub welcome : (status ≢ 6) × (status ≢ 7) × (status ≢ 9) × (status ≢ 10)
+    -- with a table and no fault of the output it ends with 0, or for want of memory
+    pub complete : HasTable v.nodes.shards → (output → ⊥) → (status ≡ 0) ⊎ (status ≡ 8)
     pub prefix : IsTrue sinks → status ≡ 5 → PrintsTotalsPrefix v ran old new
     pub tells : IsTrue sinks → (errors → ⊥) → TellsBy (IsNamedInBulk v) status err_old err_new
 

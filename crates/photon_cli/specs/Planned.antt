@@ -2,6 +2,8 @@
 use Rattle.std.specs.Prelude.{ℕ, ◌+◌, ◌*◌, ◌==◌, ◌&&◌, nat_lt, Bool, true, false, if◌then◌else◌, List, map, filter, Option, Some, None}
 use Rattle.outside.specs.declared.store.DiskName.{DiskName}
 use Rattle.outside.specs.declared.store.DiskName.TheVariants as name
+use Rattle.outside.specs.Plans.{AtMost}
+use Rattle.mem_outside.specs.Plan.{is_planned}
 use Rattle.mem_outside.specs.declared.disk.Fuse.{Fuse}
 use Rattle.lossy_link.specs.declared.plan.DiskKind.{DiskKind}
 use Rattle.lossy_link.specs.declared.plan.DiskKind.TheVariants.{Offset, Retry, Server, Replica, Epoch, Output}
@@ -48,6 +50,10 @@ fuse_of stop = record { call = stop.call; image = stop.image }
 -- the calls of a disk that the stops name, in their order
 abbrev pub planned_for : (joiners : ℕ) → List PlanStop → DiskName → List Fuse
 planned_for joiners stops name = map fuse_of (filter (λ stop. is_for joiners stop name) stops)
+
+-- at most so many calls of the disk of a name are planned to fail
+abbrev pub StopsAtMost : (joiners : ℕ) → List PlanStop → DiskName → ℕ → Type 0
+StopsAtMost joiners stops name most = AtMost (is_planned (planned_for joiners stops name)) 0 most
 
 -- a stop is for a joiner's disks
 abbrev pub of_joiners : DiskKind → Bool

@@ -1,7 +1,6 @@
 // The files of a run: the two logs, and a plan.
 use lossy_link::Plan;
 use mem_outside::{MemFile, MemSource};
-use photon_cli::drill_store::stops_a_joiner;
 use script_lines::Stop;
 use std::alloc::Global;
 
@@ -53,11 +52,6 @@ impl Logs {
     pub fn plan(&mut self) -> Result<Plan, Stop> {
         let text = self.take();
         Plan::read(self.alloc, &text).map_err(|_| Stop::Words)
-    }
-
-    /// Whether the plan that the text is stops no joiner's disk.
-    pub fn spares_joiners(&mut self) -> Result<bool, Stop> {
-        Ok(!stops_a_joiner(&self.plan()?))
     }
 
     pub fn source(&self) -> Result<MemSource, Stop> {

@@ -67,7 +67,6 @@ impl Stage {
                 .told(word, &mut words),
             "gate" => self.runs.gate(&mut words),
             word @ ("bytes" | "writes") => self.disks.answer(word, &mut words),
-            "spares" => Ok(format!(in self.alloc; "{}", self.logs.spares_joiners()?)?),
             "check" => check(self.alloc, self.logs.take(), &mut words),
             _ => Err(Stop::Words),
         }

@@ -1,13 +1,12 @@
 // A bulk run: both logs are made from a seed, both sites run over them as in a drill, and the totals line is told.
-ghost use Rattle.std.specs.Prelude.{◌≡◌, ◌⊎◌, ℕ, ⊤, List, IfErr, IfOk, IsErrAnd, IsSomeAnd, OnOk, Some, codes, string_bytes, IsTrue, Err};
+ghost use Rattle.std.specs.Prelude.{◌≡◌, ◌⊎◌, ℕ, List, IfErr, IfOk, IsErrAnd, IsSomeAnd, OnOk, Some, codes, string_bytes, IsTrue, Err};
 ghost use Rattle.outside.specs.Faults.{Counts, Rose};
 ghost use Rattle.mem_outside.specs.Files.{bytes_under};
 ghost use Rattle.bulk_logs.specs.Bulk.{query_log, click_log};
 ghost use Rattle.command_words.specs.Words.{AreBulkRanges, bulk_values};
 ghost use Rattle.run_fault.specs.declared.fault.RunFault.TheVariants as fault;
-ghost use Rattle.run_fault.specs.Causes.{IsWelcome};
 ghost use Rattle.photon_cli.specs.Bulk.{BeginsBulk, IsBulkRun, PrintsTotals, PrintsTotalsPrefix, bulk_plan, rule};
-ghost use Rattle.photon_cli.specs.LogFaults.{IsEarly, IsFailedRead, IsPast};
+ghost use Rattle.photon_cli.specs.LogFaults.{IsEarly, IsFailedRead, IsOfDrill, IsPast};
 ghost use Rattle.photon_cli.specs.Ends.{BulkEnds};
 ghost use Rattle.photon_cli.specs.Status.{IsAnswered};
 
@@ -105,7 +104,7 @@ where
     ensures quiet { IsTrue K.tells → IfErr result (λ f. (f ≡ fault.Write) ⊎ (K.held out.new ≡ K.held out.old)) }
     ensures begins { ((ran.new ≡ ran.old) × IsErrAnd result (IsEarly (λ f. f ≡ fault.Memory) (bulk_values wanted.now).nodes.shards)) ⊎ (BeginsBulk (bulk_values wanted.now) ran.new.log × IfErr result IsPast) }
     ensures reads { IfErr result (λ f. IsFailedRead f → ⊥) }
-    ensures fair { IfErr result (IsWelcome ⊤) }
+    ensures fair { IfErr result (IsOfDrill ⊥) }
     ensures write { Counts (K.faults out.old) (K.faults out.new) (result ≡ Err fault.Write) }
 {
     valid_logs();

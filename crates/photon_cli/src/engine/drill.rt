@@ -1,26 +1,22 @@
 // A drill: both sites run over a store in memory that is empty at first, and a plan says what goes wrong.
-ghost use Rattle.std.specs.Prelude.{◌≡◌, ◌<◌, ◌≤◌, ◌⊎◌, ⊤, [], ℕ, List, false, IfErr, IfOk, IfSome, IsErrAnd, IsSomeAnd, IsTrue, OnOk, Err};
-ghost use Rattle.std.specs.List.{list_any};
+ghost use Rattle.std.specs.Prelude.{◌≡◌, ◌≢◌, ◌⊎◌, [], ℕ, IfErr, IfOk, IfSome, IsErrAnd, IsSomeAnd, IsTrue, OnOk, Err};
 ghost use Rattle.outside.specs.declared.store.DiskName.{DiskName};
 ghost use Rattle.outside.specs.Disk.{Only};
 ghost use Rattle.outside.specs.Faults.{Counts, Rose};
 ghost use Rattle.mem_outside.specs.Plan.{is_planned};
 ghost use Rattle.command_words.specs.Words.{AreInRanges, values_in};
-ghost use Rattle.run_fault.specs.Causes.{IsWelcome};
 ghost use Rattle.photon_cli.specs.Planned.{planned_for};
 ghost use Rattle.lossy_link.specs.Fates.{PlanView};
 ghost use Rattle.lossy_link.specs.declared.bad_plan.Field.{Field as Place};
 ghost use Rattle.log_records.specs.declared.why.Why.{Why as Reason};
 ghost use Rattle.run_fault.specs.declared.fault.LogName.{LogName as LogKind};
-ghost use Rattle.site_laws.specs.Laws.{made_by};
-ghost use Rattle.site_workers.specs.Works.{is_stop};
 ghost use Rattle.turn_defs.specs.Configs.{IsRunnable};
 ghost use Rattle.site_run.specs.Asked.{OfSetting};
 ghost use Rattle.site_run.specs.Heard.{IsHeardOf};
 ghost use Rattle.run_fault.specs.declared.fault.RunFault.TheVariants as fault;
 ghost use Rattle.photon_cli.specs.Drill.{BeginsDrill, Drills, HasDrilled, IsBadIn, IsDrilled, IsPlanIn, PrintsDrill, PrintsDrillPrefix};
 ghost use Rattle.photon_cli.specs.Join.{AreValid, HaveIds, Refuses};
-ghost use Rattle.photon_cli.specs.LogFaults.{IsBeforeLogs, IsEarly, IsFailedRead, IsOfLogs, IsOfPlanOrLogs, IsOfRun, IsPast, failed_read};
+ghost use Rattle.photon_cli.specs.LogFaults.{IsBeforeLogs, IsEarly, IsFailedRead, IsOfDrill, IsOfLogs, IsOfPlanOrLogs, IsOfRun, IsPast, failed_read};
 ghost use Rattle.photon_cli.specs.Words.{IsTextOf};
 ghost use Rattle.photon_cli.specs.Ends.{DrillEnds};
 ghost use Rattle.photon_cli.specs.Status.{IsAnswered};
@@ -29,7 +25,7 @@ use super::checked::checked_logs;
 use super::plan::plan_in_file;
 use super::run::{config_in, run_lines};
 use super::table::table_in;
-use crate::drill_store::{stops_a_joiner, store_for};
+use crate::drill_store::store_for;
 use crate::log_check::CheckedLog;
 use crate::tell::give_up;
 use command_words::RunOptions;
@@ -44,29 +40,9 @@ use std::alloc::Global;
 use std::sync::Wait;
 use std::thread::Threads;
 use time_shards::Table;
-use turn_defs::FIRST_JOINER;
-
-// Whether a joiner has stopped in the run, if there was one.
-fn joiner_stopped(ran: &Ran) -> bool
-    ensures { result ≡ false → IfSome ran.now.log (λ l. (j : ℕ) → 7 ≤ j → list_any is_stop (made_by j l.air.history) ≡ false) }
-{
-    match &ran.log {
-        Some(log) => log.air.has_stop_from(FIRST_JOINER),
-        None => false,
-    }
-}
-
-// Whether a joiner has stopped in the run though no stop of the plan is of a joiner's disk.
-fn is_unplanned(spared: bool, ran: &Ran) -> bool
-    ensures { result ≡ false → IsTrue spared → IfSome ran.now.log (λ l. (j : ℕ) → 7 ≤ j → list_any is_stop (made_by j l.air.history) ≡ false) }
-{
-    spared && joiner_stopped(ran)
-}
 
 // Runs both sites over a store in memory that holds nothing and whose disks stop as the plan says, and gives the report's line for
 // each distinct click id.
-//
-// A joiner's node stops only where one of its disks does, so that it has stopped with no such stop in the plan is never met.
 fn drill_lines<R, F, G>(
     rt: &R,
     alloc: Global,
@@ -86,26 +62,19 @@ where
     F::Log: Drop,
     requires empty { (disk : DiskName) → Only [] (⟦<MemStore as Store>⟧.image store.old disk) × ⟦<MemStore as Store>⟧.image store.old disk [] }
     requires planned { (disk : DiskName) (call : ℕ) → ⟦<MemStore as Store>⟧.stops store.old disk call ≡ is_planned (planned_for config.now.joiners plan.stops disk) call }
+    requires fresh { (⟦<MemStore as Store>⟧.faults store.old ≡ 0) × ((disk : DiskName) → ⟦<MemStore as Store>⟧.made store.old disk ≡ 0) }
     requires ranges { IsRunnable config.now }
     ensures drilled { IsTrue F.Log.tells → OfSetting (F.bytes files.old) names.now.queries.now names.now.clicks.now config.now clicks.now.lines_end (λ g. HaveIds g clicks.now.ids.items
         → IfOk result (λ lines. IsSomeAnd ran.new.log (IsDrilled g plan lines.items))) }
-    ensures fair { IsTrue F.Log.tells → OfSetting (F.bytes files.old) names.now.queries.now names.now.clicks.now config.now clicks.now.lines_end (λ g. IfErr result (IsWelcome ⊤)) }
+    ensures fair { IsTrue F.Log.tells → OfSetting (F.bytes files.old) names.now.queries.now names.now.clicks.now config.now clicks.now.lines_end (λ g. IfErr result (IsOfDrill (plan.stops ≢ []))) }
     ensures heard { IfSome ran.new.log (IsHeardOf plan config.now.joiners) }
     ensures cause { IfErr result IsOfRun }
     ensures count { Counts (F.faults files.old) (F.faults files.new) ((log : LogKind) × (result ≡ Err (failed_read log))) }
 {
     empty_store::<MemStore>();
-    let spared = !stops_a_joiner(&plan);
-    let lines = match run_lines(
+    run_lines(
         rt, alloc, config, names, clicks, plan, files, store, gate, ran,
-    ) {
-        Ok(lines) => lines,
-        Err(fault) => return Err(fault),
-    };
-    if is_unplanned(spared, ran) {
-        return Err(RunFault::Memory);
-    }
-    Ok(lines)
+    )
 }
 
 /// Checks both logs, runs both sites over a store in memory that is empty at first, and gives the report's line for each distinct
@@ -132,7 +101,7 @@ where
         → Refuses (F.bytes files.old) (values_in wanted.now).queries (values_in wanted.now).clicks log (record { line = line; why = w }) }
     ensures begins { ((ran.new ≡ ran.old) × IsErrAnd result IsOfLogs)
         ⊎ ((IsTrue F.Log.tells → AreValid (F.bytes files.old) (values_in wanted.now).queries (values_in wanted.now).clicks) × IfSome ran.new.log (IsHeardOf plan (values_in wanted.now).nodes.joiners) × IfErr result IsOfRun) }
-    ensures fair { IsTrue F.Log.tells → IfErr result (IsWelcome ⊤) }
+    ensures fair { IsTrue F.Log.tells → IfErr result (IsOfDrill (plan.stops ≢ [])) }
     ensures count { Counts (F.faults files.old) (F.faults files.new) ((log : LogKind) × (result ≡ Err (failed_read log))) }
 {
     let clicks = match checked_logs(alloc, files, wanted.queries, wanted.clicks) {
@@ -185,13 +154,12 @@ where
         ⊎ (BeginsDrill (F.bytes files.old) F.Log.tells (values_in wanted.now) plan.now ran.new.log × IfErr result IsPast) }
     ensures place { IsTrue F.Log.tells → (at : Place) → result ≡ Err (fault.Plan at) → IsBadIn (F.bytes files.old) plan.now at }
     ensures bad_place { IsTrue F.Log.tells → (at : Place) → IsBadIn (F.bytes files.old) plan.now at → IsErrAnd result (IsBeforeLogs at) }
-    ensures good_plan { IsTrue F.Log.tells → (p : PlanView) → IsPlanIn (F.bytes files.old) plan.now p → (at : Place) → result ≡ Err (fault.Plan at) → ⊥ }
     ensures refused { IsTrue F.Log.tells → (log : LogKind) (line : ℕ) (w : Reason) → result ≡ Err (fault.Refused log line w)
         → Refuses (F.bytes files.old) (values_in wanted.now).queries (values_in wanted.now).clicks log (record { line = line; why = w }) }
 
-    // The other faults come only where a count rose, but for want of memory and what goes wrong by the plan. The store that it
-    // makes is never one for another table, other places or other joiners.
-    ensures fair { IsTrue F.Log.tells → IfErr result (IsWelcome ⊤) }
+    // The other faults come only where a count rose, but for want of memory and what goes wrong by the plan: of a disk, or a number at
+    // its limit, it tells only where the plan has a stop.
+    ensures fair { IsTrue F.Log.tells → IfErr result (IsOfDrill ((p : PlanView) × IsPlanIn (F.bytes files.old) plan.now p × (p.stops ≢ []))) }
     ensures read { Counts (F.faults files.old) (F.faults files.new) (IsErrAnd result IsFailedRead) }
     ensures write { Counts (K.faults out.old) (K.faults out.new) (result ≡ Err fault.Write) }
 {

@@ -1,7 +1,6 @@
 // The plan of a drill, read from its file.
 ghost use Rattle.std.specs.Prelude.{◌≡◌, ◌⊎◌, ◌+◌, ℕ, List, take, IfErr, IfOk, IsErrAnd, IsSomeAnd, IsTrue, Err};
 ghost use Rattle.outside.specs.Faults.{Counts};
-ghost use Rattle.lossy_link.specs.Fates.{PlanView};
 ghost use Rattle.lossy_link.specs.Plans.{size_limit};
 ghost use Rattle.lossy_link.specs.declared.bad_plan.Field.{Field as Place};
 ghost use Rattle.run_fault.specs.declared.fault.RunFault.TheVariants as fault;
@@ -36,7 +35,6 @@ pub fn plan_in_file<F: Source>(alloc: Global, files: &mut F, name: &str) -> Resu
     ensures plan { IsTrue F.Log.tells → IfOk result (λ p. IsPlanIn (F.bytes files.old) name.now p) }
     ensures place { IsTrue F.Log.tells → (at : Place) → result ≡ Err (fault.Plan at) → IsBadIn (F.bytes files.old) name.now at }
     ensures refused { IsTrue F.Log.tells → (at : Place) → IsBadIn (F.bytes files.old) name.now at → IsErrAnd result (IsToldOfPlan at) }
-    ensures only { IsTrue F.Log.tells → (p : PlanView) → IsPlanIn (F.bytes files.old) name.now p → (at : Place) → result ≡ Err (fault.Plan at) → ⊥ }
     ensures same { IsTrue F.Log.tells → (n : List ℕ) → F.bytes files.new n ≡ F.bytes files.old n }
     ensures cause { IfErr result IsPlanFault }
     ensures count { Counts (F.faults files.old) (F.faults files.new) (result ≡ Err fault.PlanRead) }

@@ -3,12 +3,14 @@ ghost use Rattle.std.specs.Prelude.{◌≡◌, ◌<◌, ◌≤◌, IfOk, IfErr, 
 ghost use Rattle.outside.specs.Faults.{Rose};
 ghost use Rattle.site_laws.specs.Stores.{IsSoundStore};
 ghost use Rattle.site_laws.specs.StoreLaws.{LeavesNothing};
+ghost use Rattle.site_store.specs.Plans.{Left};
 ghost use Rattle.turn_defs.specs.Configs.{IsRunnable};
 ghost use Rattle.site_run.specs.Asked.{OfSetting};
 ghost use Rattle.site_run.specs.Joined.{Joins, JoinsAfresh, RanAfresh};
 ghost use Rattle.site_run.specs.Heard.{IsHeardOf};
 ghost use Rattle.site_run.specs.Left.{RunLeft};
 ghost use Rattle.site_run.specs.Over.{EndsOver};
+ghost use Rattle.site_run.specs.Stops.{RunsAsPlanned};
 ghost use Rattle.run_fault.specs.Causes.{IsCounted};
 ghost use Rattle.command_words.specs.Words.{AreInRanges, values_in};
 ghost use Rattle.photon_cli.specs.Join.{HaveIds, config_of};
@@ -83,6 +85,9 @@ where
     ensures ran { IsTrue S.Disk.tells → IsTrue F.Log.tells → OfSetting (F.bytes files.old) names.now.queries.now names.now.clicks.now config.now clicks.now.lines_end (λ g. HaveIds g clicks.now.ids.items → LeavesNothing g (S.image store.old)
         → IfOk result (λ lines. IsSomeAnd ran.new.log (λ l. RanAfresh g l.air.history lines.items))) }
     ensures heard { IfSome ran.new.log (IsHeardOf plan config.now.joiners) }
+
+    // No node stops more often than was planned for its disks, and where no stop is planned no disk meets a fault.
+    ensures stops { IsTrue S.Disk.planned → IsTrue F.Log.tells → OfSetting (F.bytes files.old) names.now.queries.now names.now.clicks.now config.now clicks.now.lines_end (λ g. RunsAsPlanned (Left S.stops S.made store.old) g ran.new.log (S.faults store.old) (S.faults store.new)) }
 
     ensures cause { IfErr result (IsCounted (Rose (F.faults files.old) (F.faults files.new)) (Rose (S.faults store.old) (S.faults store.new))) }
     ensures file_count { F.faults files.old ≤ F.faults files.new }

@@ -1,9 +1,8 @@
 use Rattle.std.proofs.Common.{◌≡◌, inl, inr, ⊎_elim, Err, refl, ap, subst, arith}
-use Rattle.std.specs.Prelude.{⊤}
 use Rattle.photon_cli.proofs.Words.{none_bad, bulk_values, IsOfBulk}
 use Rattle.run_fault.specs.declared.fault.RunFault.TheVariants as fault
 use Rattle.photon_cli.proofs.Answered.{ended, given_up}
-use Rattle.photon_cli.proofs.Statuses.{IsKnown, bad_row, bulk_own, bulk_row, bulk_two, drill_left, failed_of, fair_status, line_of, named_in_bulk, no_one, no_zero, past_status, write_of}
+use Rattle.photon_cli.proofs.Statuses.{IsKnown, bad_row, bulk_own, bulk_row, bulk_two, drill_fair, drill_left, failed_of, line_of, named_in_bulk, needs_stops, no_one, no_zero, past_status, write_of}
 use Rattle.photon_cli.proofs.engine.bulk.bulk_command.Goals as goal
 
 pub returns-in-Ok-clause-ends : goal.returns-in-Ok-clause-ends
@@ -20,7 +19,7 @@ returns-in-Ok-clause-ends g c =
       one = λ one. omega (arith, one);
       lines = λ three. omega (arith, three);
       read = λ four. omega (arith, four);
-      welcome = (λ seven. omega (arith, seven), λ nine. omega (arith, nine));
+      welcome = (λ six. omega (arith, six), λ seven. omega (arith, seven), λ nine. omega (arith, nine), λ ten. omega (arith, ten));
       complete = λ table quiet. inl refl;
       prefix = λ sinks five. absurd (omega (arith, five));
       tells = λ sinks calm. inl (refl, refl);
@@ -34,6 +33,8 @@ returns-in-Err-clause-ends g c =
     let known : IsKnown (λ h. h ≡ fault.Memory) v.nodes.shards f = ⊎_elim (λ early. inl early.1) (λ late. inr (late.0.0, late.1)) e.begins in
     let own = bulk_own v.nodes.shards f known in
     let named_row = bulk_row v.nodes.shards f known in
+    let fair = drill_fair ⊥ f e.fair in
+    let none = needs_stops ⊥ f e.fair in
     rw c.give_up.ensures.status (record {
       totals = λ sinks zero. absurd (no_zero f zero);
       ran_on = λ zero. absurd (no_zero f zero);
@@ -43,10 +44,11 @@ returns-in-Err-clause-ends g c =
       one = no_one f;
       lines = λ three. let l = line_of f three in subst IsOfBulk l.3 own;
       read = λ four. e.reads (failed_of f four);
-      welcome = fair_status f ⊤ tt e.fair;
+      welcome = (λ six. none (inl six), fair.0, fair.1, λ ten. none (inr ten));
       complete = λ (table, text) quiet.
           inr
-          (drill_left f (λ u is. subst IsOfBulk is own) (λ n is. none_bad v.nodes.shards n table (named_row n is) text.0 text.1) (λ place is. subst IsOfBulk is own) (λ log line w is. subst IsOfBulk is own) e.reads (λ is. quiet (e.write.rose (ap Err is))) e.fair);
+          (⊎_elim (λ six. absurd (none (inl six))) (λ e. ⊎_elim (λ eight. eight) (λ ten. absurd (none (inr ten))) e)
+          (drill_left ⊥ f (λ u is. subst IsOfBulk is own) (λ n is. none_bad v.nodes.shards n table (named_row n is) text.0 text.1) (λ place is. subst IsOfBulk is own) (λ log line w is. subst IsOfBulk is own) e.reads (λ is. quiet (e.write.rose (ap Err is))) e.fair));
       prefix = λ sinks five. e.prefix sinks (ap Err (write_of f five));
       tells = λ sinks calm. inr (f, refl, named_in_bulk v f own named_row, c.give_up.ensures.told sinks calm);
     })

@@ -1,9 +1,9 @@
-use Rattle.std.proofs.Common.{inl, inr, ⊎_elim, Err, refl, ap, arith}
-use Rattle.std.specs.Prelude.{⊤}
-use Rattle.photon_cli.proofs.Words.{none_bad, values_in, IsOfPlanOrLogs}
+use Rattle.std.proofs.Common.{◌≡◌, inl, inr, ⊎_elim, Err, refl, ap, arith}
+use Rattle.photon_cli.proofs.Words.{bad, good, none_bad, values_in, IsOfPlanOrLogs}
 use Rattle.photon_cli.proofs.Ends.{asked_valid, none_refused, not_invalid}
 use Rattle.photon_cli.proofs.Answered.{ended, given_up}
-use Rattle.photon_cli.proofs.Statuses.{IsKnown, bad_row, drill_adds, drill_early, drill_left, drill_row, fair_status, line_of, named_in_drill, no_one, no_zero, past_status, plan_left, two_of, write_of}
+use Rattle.photon_cli.proofs.Drilling.{one_in}
+use Rattle.photon_cli.proofs.Statuses.{IsKnown, bad_row, drill_adds, drill_early, drill_fair, drill_left, drill_row, line_of, named_in_drill, needs_stops, no_one, no_zero, past_status, plan_left, two_of, write_of}
 use Rattle.photon_cli.proofs.engine.drill.drill_command.Goals as goal
 
 pub returns-in-Ok-clause-ends : goal.returns-in-Ok-clause-ends
@@ -25,6 +25,7 @@ returns-in-Ok-clause-ends g c =
       prefix = λ logs sinks five. absurd (omega (arith, five));
       tells = λ logs sinks calm. inl (refl, refl);
       welcome = λ logs. (λ seven. omega (arith, seven), λ nine. omega (arith, nine));
+      stops = λ logs s. absurd (⊎_elim (λ six. omega (arith, six)) (λ ten. omega (arith, ten)) s);
       complete = λ logs s asked plan is calm quiet. inl refl;
     }
 
@@ -51,11 +52,12 @@ returns-in-Err-clause-ends g c =
       prefix = λ logs sinks five. e.prefix logs sinks (ap Err (write_of f five));
       tells = λ logs sinks calm.
           inr (f, refl, named_in_drill told v c.args.plan.now f adds row (λ place is. e.place logs place (ap Err is)) (λ log line w is. e.refused logs log line w (ap Err is)), c.give_up.ensures.told sinks calm);
-      welcome = λ logs. fair_status f ⊤ tt (e.fair logs);
+      welcome = λ logs. drill_fair _ f (e.fair logs);
+      stops = λ logs. needs_stops _ f (e.fair logs);
       complete = λ logs s asked p is calm quiet.
           inr
-          (drill_left f adds (λ n e. none_bad v.nodes.shards n s.table (row n e) asked.table.0 asked.table.1)
-          (λ place told. e.good_plan logs p is place (ap Err told))
+          (drill_left _ f adds (λ n e. none_bad v.nodes.shards n s.table (row n e) asked.table.0 asked.table.1)
+          (λ place is_bad. let one : good p ≡ bad place = one_in (told c.args.plan.now) (good p) (bad place) is (e.place logs place (ap Err is_bad)) in absurd (cc one))
           (λ log line w refused. none_refused told v.queries v.clicks log (record { line = line; why = w }) (asked_valid told v s asked) (e.refused logs log line w (ap Err refused)))
           (λ failed. calm (e.read.rose failed))
           (λ write. quiet (e.write.rose (ap Err write)))

@@ -1,6 +1,6 @@
 use Rattle.std.proofs.Common.{List, ℕ, Option, inl, inr, refl, subst}
-use Rattle.photon_cli.proofs.Words.{Clicks, Config, IfOk-weaker, IfSome, IsHeardOf, values_in}
-use Rattle.photon_cli.proofs.Statuses.{log_fair}
+use Rattle.photon_cli.proofs.Words.{Clicks, Config, IfOk-weaker, IfSome, IsHeardOf, IsOfDrill, values_in}
+use Rattle.photon_cli.proofs.Statuses.{of_log}
 use Rattle.photon_cli.proofs.Runs.{is_asked, placed_ids, run_setting, setting_of}
 use Rattle.photon_cli.proofs.engine.drill.drilled_lines.Goals as goal
 
@@ -25,7 +25,7 @@ pub returns-clause-begins : goal.returns-clause-begins
 returns-clause-begins g c = inr (λ logs. let x = c.in-Ok.ensures.valid logs in (x.0, x.1, x.2), subst (λ (k : Config). IfSome c.drill_lines.new.ran.log (IsHeardOf c.args.plan k.joiners)) c.config_in-config.ensures.config c.drill_lines.ensures.heard, c.drill_lines.ensures.cause)
 
 pub returns-in-Err-clause-fair : goal.returns-in-Err-clause-fair
-returns-in-Err-clause-fair g c logs = let x = c.in-Err.ensures.fault in log_fair c.in-Err.fault x.0 x.1
+returns-in-Err-clause-fair g c logs = let x = c.in-Err.ensures.fault in of_log (IsOfDrill _) x.0 (λ line w. tt) tt tt c.in-Err.fault x.1
 
 pub returns-clause-fair : goal.returns-clause-fair
 returns-clause-fair g c logs =

@@ -26,8 +26,3 @@ returns-in-Err-At-clause-refused g c tells at refused =
     let own : IsFirstBad c.in-Ok.bytes.items at = to_read (size_limit + 1) (omega arith) (g.F.Source.bytes c.args.files.now c.args.name.now) c.in-Ok.bytes.items (bad at) (c.in-Ok.ensures.bytes tells) refused in
     let here : IsFirstBad c.deref.result.now at = subst (λ (b : List ℕ). IsFirstBad b at) (sym c.deref.ensures.value) own in
     ⊎_elim (λ e. let same : c.in-Err-At.place ≡ at = cc in inl (ap (λ (p : Field). fault.Plan p) same)) (λ e. absurd cc) (c.in-Err-At.ensures.refused at here)
-
-pub returns-in-Err-At-clause-only : goal.returns-in-Err-At-clause-only
-returns-in-Err-At-clause-only g c tells p is at told =
-    let own : IsPlanOf c.in-Ok.bytes.items p = to_read (size_limit + 1) (omega arith) (g.F.Source.bytes c.args.files.now c.args.name.now) c.in-Ok.bytes.items (good p) (c.in-Ok.ensures.bytes tells) is in
-    absurd (cc (c.in-Err-At.ensures.only p (subst (λ (b : List ℕ). IsPlanOf b p) (sym c.deref.ensures.value) own)))
