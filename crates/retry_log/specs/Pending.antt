@@ -4,9 +4,8 @@ use Rattle.std.specs.List.{list_any}
 use Rattle.std.specs.Set.{remove_key}
 use Rattle.std.specs.Int.{from_be_bytes, to_be_bytes, w64}
 use Rattle.gate_journal.specs.Gate.{gate_rule}
-use Rattle.gate_journal.specs.Fold.{Fold, kept_by, read_as, folds_to, fails_at}
+use Rattle.gate_journal.specs.Fold.{Fold, read_as, folds_to}
 use Rattle.gate_journal.specs.Records as of
-use Rattle.gate_journal.specs.declared.reading.JournalFault.{JournalFault}
 use Rattle.retry_log.specs.declared.changing.Change.{Change}
 use Rattle.retry_log.specs.declared.changing.Change.TheVariants.{Park, Settle}
 
@@ -57,10 +56,6 @@ abbrev pub places_of : Change → ℕ
 places_of (Park position) = 1
 places_of (Settle position) = 0
 
--- what is pending after these records, or the place of the first one that is no change
-abbrev pub kept_pending : List (List ℕ) → Result (List ℕ) ℕ
-kept_pending records = kept_by retries records
-
 -- what a file keeps pending
 abbrev pub pending_of : List ℕ → Result (List ℕ) ℕ
 pending_of bytes = read_as retries (gate_rule bytes)
@@ -74,6 +69,3 @@ KeepsOr = of.KeepsOr (folds_to retries)
 
 abbrev pub IsLeft : (List ℕ → Type 0) → List ℕ → Type 0
 IsLeft = of.IsLeft (folds_to retries)
-
-abbrev pub IsRefusedAgain : Bool → (List ℕ → Type 0) → ℕ → ℕ → JournalFault → Type 0
-IsRefusedAgain = of.IsRefusedAgain (fails_at retries)

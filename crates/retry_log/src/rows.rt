@@ -1,7 +1,8 @@
 //! Worked rows of the records of changes.
 ghost use Rattle.std.specs.Prelude.{◌≡◌, [], ◌∷◌, Ok, Err};
 ghost use Rattle.retry_log.specs.declared.changing.Change.TheVariants.{Park, Settle};
-ghost use Rattle.retry_log.specs.Pending.{record_of, pending_of, kept_pending};
+ghost use Rattle.gate_journal.specs.Fold.{kept_by};
+ghost use Rattle.retry_log.specs.Pending.{record_of, pending_of, retries};
 
 /// What files keep pending.
 pub fn files()
@@ -13,10 +14,10 @@ pub fn files()
 
 /// Positions are parked in order, and settled in any.
 pub fn changes()
-    ensures first_settled { kept_pending (record_of (Park 0) ∷ record_of (Park 36) ∷ record_of (Settle 0) ∷ []) ≡ Ok (36 ∷ []) }
-    ensures middle_settled { kept_pending (record_of (Park 72) ∷ record_of (Park 0) ∷ record_of (Park 36) ∷ record_of (Settle 0) ∷ []) ≡ Ok (72 ∷ 36 ∷ []) }
-    ensures parked_again { kept_pending (record_of (Park 0) ∷ record_of (Park 36) ∷ record_of (Settle 0) ∷ record_of (Park 0) ∷ []) ≡ Ok (36 ∷ 0 ∷ []) }
-    ensures parked_twice { kept_pending (record_of (Park 36) ∷ record_of (Park 36) ∷ []) ≡ Err 15 }
-    ensures settled_twice { kept_pending (record_of (Park 36) ∷ record_of (Settle 36) ∷ record_of (Settle 36) ∷ []) ≡ Err 29 }
-    ensures never_parked { kept_pending (record_of (Settle 36) ∷ []) ≡ Err 1 }
+    ensures first_settled { kept_by retries (record_of (Park 0) ∷ record_of (Park 36) ∷ record_of (Settle 0) ∷ []) ≡ Ok (36 ∷ []) }
+    ensures middle_settled { kept_by retries (record_of (Park 72) ∷ record_of (Park 0) ∷ record_of (Park 36) ∷ record_of (Settle 0) ∷ []) ≡ Ok (72 ∷ 36 ∷ []) }
+    ensures parked_again { kept_by retries (record_of (Park 0) ∷ record_of (Park 36) ∷ record_of (Settle 0) ∷ record_of (Park 0) ∷ []) ≡ Ok (36 ∷ 0 ∷ []) }
+    ensures parked_twice { kept_by retries (record_of (Park 36) ∷ record_of (Park 36) ∷ []) ≡ Err 15 }
+    ensures settled_twice { kept_by retries (record_of (Park 36) ∷ record_of (Settle 36) ∷ record_of (Settle 36) ∷ []) ≡ Err 29 }
+    ensures never_parked { kept_by retries (record_of (Settle 36) ∷ []) ≡ Err 1 }
 {}
