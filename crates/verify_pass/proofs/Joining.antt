@@ -2,7 +2,8 @@
 use Rattle.std.proofs.Common.{◌≡◌, ⊎_elim, ◌<◌, ◌≤◌, ℕ, zero, suc, List, [], ◌∷◌, ◌++◌, Bool, true, false, cond, ◌&&◌, map, length, get_or, set, Option, Some, None, is_some, Err, IfSome, Box, box_value, nat_lt, refl, sym, ap, ◌∙◌, subst, append_assoc, arith}
 use Rattle.std.specs.Prelude.{filter}
 use Rattle.verify_pass.proofs.Words.{AllByRecursion, Batch, EventId, IsBinarySearchResult, IsStrictlySortedBy, Less, Less-from_sorted, Equal, Greater, Ordering, PairRec, ReportLine, TakesIn, append-nil, bound_of, cases_lt, first_pair, flat_map, get_or-map, holder, id_cmp, id_of, is_eq, is_missing_by, joined, length-map, line_by, lines_by, map-map, map-set, missing_id, or_else, ordering_index, ordering_reverse, same_id, same_id-refl, same_id-true, sorted_head, sorted_tail, tied_back, unboxed, unwritten_line}
-use Rattle.verify_pass.proofs.Ids.{exact_ids, ids_total, tied}
+use Rattle.event_id.proofs.Order.{exact_ids, ids_total}
+use Rattle.verify_pass.proofs.Ids.{tied}
 use Rattle.verify_pass.proofs.Pushes.{find_append}
 
 -- ---- steps
