@@ -14,6 +14,9 @@ use std::alloc::Global;
 use time_shards::{ShardRow, Table};
 use topology_journal::Topology;
 
+// How many replicas each store has.
+const REPLICAS: u8 = 3;
+
 /// The laws on stores, at a store in memory.
 pub fn laws() {
     empty_store::<MemStore>();
@@ -46,7 +49,7 @@ pub fn counts(alloc: Global, store: &mut MemStore, joiners: u8) -> Result<String
     if joiners > 4 {
         return Err(Stop::Words);
     }
-    let disks = match open_disks(alloc, store, joiners) {
+    let disks = match open_disks(alloc, store, joiners, REPLICAS) {
         Ok(disks) => disks,
         Err(fault) => return told_fault(alloc, fault),
     };
@@ -68,7 +71,7 @@ pub fn misfit(alloc: Global, store: &mut MemStore, words: &mut Words<'_>) -> Res
     if joiners > 4 {
         return Err(Stop::Words);
     }
-    let disks = match open_disks(alloc, store, joiners) {
+    let disks = match open_disks(alloc, store, joiners, REPLICAS) {
         Ok(disks) => disks,
         Err(fault) => return told_fault(alloc, fault),
     };
@@ -93,7 +96,7 @@ pub fn record(alloc: Global, store: &mut MemStore, words: &mut Words<'_>) -> Res
     if joiners == 0 || joiners > 4 {
         return Err(Stop::Words);
     }
-    let mut disks = match open_disks(alloc, store, joiners) {
+    let mut disks = match open_disks(alloc, store, joiners, REPLICAS) {
         Ok(disks) => disks,
         Err(fault) => return told_fault(alloc, fault),
     };
@@ -126,7 +129,8 @@ pub fn open(
     }
     let end = words.number()?;
     let mut clicks = MemLog::new(clicks, words.numbers(alloc)?);
-    match open_store(alloc, store, Topology { joiners, table }, &mut clicks, end) {
+    let asked = Topology { joiners, table };
+    match open_store(alloc, store, asked, REPLICAS, &mut clicks, end) {
         Ok(disks) => {
             give_back(store, disks);
             Ok(format!(in alloc; "open")?)
@@ -138,7 +142,7 @@ pub fn open(
 /// `add START:COUNT`: the table that the store keeps then, with this row behind its others.
 pub fn add(alloc: Global, store: &mut MemStore, words: &mut Words<'_>) -> Result<String, Stop> {
     let row = ShardRow::read(words.word()?.as_bytes()).ok_or(Stop::Words)?;
-    match add_row(alloc, store, row) {
+    match add_row(alloc, store, REPLICAS, row) {
         Ok(table) => told_table(alloc, &table),
         Err(fault) => told_fault(alloc, fault),
     }
@@ -153,7 +157,7 @@ pub fn read(
 ) -> Result<String, Stop> {
     let end = words.number()?;
     let mut clicks = MemLog::new(clicks, words.numbers(alloc)?);
-    match read_store(alloc, store, &mut clicks, end) {
+    match read_store(alloc, store, REPLICAS, &mut clicks, end) {
         Ok(kept) => told_kept(alloc, &kept),
         Err(fault) => told_fault(alloc, fault),
     }
