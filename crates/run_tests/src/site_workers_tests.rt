@@ -191,6 +191,18 @@ fn second_seat(seats: Vec<Seat>) -> Option<Seat>
     seats.pop()
 }
 
+// Takes turns until there is none to take.
+fn work<R: Wait>(rt: &R, bus: &Bus, worker: &mut Worker<Puppet>)
+    requires { worker.old.seat.bus ≡ bus.now }
+    ensures { worker.new.seat.bus ≡ worker.old.seat.bus }
+{
+    for _ in rt.forever() {
+        if !worker.step(rt, bus, &OpenGate) {
+            return;
+        }
+    }
+}
+
 // How many turns and starts the node took, and its fault, where it wants three turns.
 fn worked<R: Wait>(
     rt: &R,
@@ -204,8 +216,8 @@ fn worked<R: Wait>(
         return Err("seat".into());
     };
     let mut worker = Worker::new(Puppet::new(alloc, 0, 3, stops, memory), 0, seat);
-    worker.ask_tick();
-    worker.work(rt, &bus, &OpenGate);
+    worker.ask_tick(true);
+    work(rt, &bus, &mut worker);
     let (node, _, fault) = worker.into_parts();
     Ok((node.turns, node.starts, fault))
 }
@@ -381,7 +393,7 @@ fn a_round_to_which_not_all_come_ends(rt: HostRuntime) -> Result<(), Fail> {
     let mut worker = Worker::new(Puppet::new(alloc, 1, 0, Stops::Never, 99), 1, seat);
     bus.round().open();
     bus.round().enter();
-    worker.work(&rt, &bus, &OpenGate);
+    work(&rt, &bus, &mut worker);
     assert!(rt; worker.fault().is_none() && worker.at_rest(&bus));
     Ok(())
 }
