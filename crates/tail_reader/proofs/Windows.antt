@@ -4,7 +4,8 @@ use Rattle.std.proofs.lemmas.List.{drop-take, drop-drop, drop_all, take_at, take
 use Rattle.std.proofs.Math.Seq.{take-append-add}
 use Rattle.list_words.specs.Bytes.{Lacks}
 use Rattle.list_words.proofs.Splits.{lacks_append}
-use Rattle.tail_reader.specs.Buffered.{line_feed, limit, behind, Buffers}
+use Rattle.tail_reader.specs.declared.scan.TheConstants.{LIMIT, MAX_LINE}
+use Rattle.tail_reader.specs.Buffered.{line_feed, behind, Buffers}
 use Rattle.tail_reader.specs.declared.tail.Next.TheVariants as next
 use Rattle.tail_reader.specs.Next.{IsNext}
 
@@ -22,22 +23,22 @@ more_read moved new tail from now len n total is size front fits same =
 
 -- ---- the bytes below the limit
 
-pub past_limit : (log : List ℕ) (at : ℕ) → limit ≤ at → behind log at ≡ []
-past_limit log at le = drop_all at (take limit log) (omega (arith, length-take limit log))
+pub past_limit : (log : List ℕ) (at : ℕ) → LIMIT ≤ at → behind log at ≡ []
+past_limit log at le = drop_all at (take LIMIT log) (omega (arith, length-take LIMIT log))
 
 pub past_end : (log : List ℕ) (at : ℕ) → length log ≤ at → behind log at ≡ []
-past_end log at le = drop_all at (take limit log) (omega (arith, length-take limit log))
+past_end log at le = drop_all at (take LIMIT log) (omega (arith, length-take LIMIT log))
 
-behind_is : (log : List ℕ) (at : ℕ) → at ≤ limit → behind log at ≡ take (limit - at) (drop at log)
+behind_is : (log : List ℕ) (at : ℕ) → at ≤ LIMIT → behind log at ≡ take (LIMIT - at) (drop at log)
 behind_is log at le =
-    let whole : limit ≡ at + (limit - at) = omega arith in
-    ap (λ k. drop at (take k log)) whole ∙ drop-take at (limit - at) log
+    let whole : LIMIT ≡ at + (LIMIT - at) = omega arith in
+    ap (λ k. drop at (take k log)) whole ∙ drop-take at (LIMIT - at) log
 
-pub read_is : (log : List ℕ) (at room n : ℕ) (new rest : List ℕ) → at + room ≤ limit → n ≤ room → length new ≡ room → n ≤ length (drop at log) → take n new ≡ take n (drop at log) → (n ≤ length (behind log at)) × (take n (new ++ rest) ≡ take n (behind log at))
+pub read_is : (log : List ℕ) (at room n : ℕ) (new rest : List ℕ) → at + room ≤ LIMIT → n ≤ room → length new ≡ room → n ≤ length (drop at log) → take n new ≡ take n (drop at log) → (n ≤ length (behind log at)) × (take n (new ++ rest) ≡ take n (behind log at))
 read_is log at room n new rest below fits size there same =
     let is = behind_is log at (omega arith) in (
-      omega (arith, ap length is, length-take (limit - at) (drop at log)),
-      take-append-le n new rest (omega arith) ∙ same ∙ sym (ap (take n) is ∙ take-take n (limit - at) (drop at log) (omega arith)),
+      omega (arith, ap length is, length-take (LIMIT - at) (drop at log)),
+      take-append-le n new rest (omega arith) ∙ same ∙ sym (ap (take n) is ∙ take-take n (LIMIT - at) (drop at log) (omega arith)),
     )
 
 -- ---- what was read ahead
@@ -46,7 +47,7 @@ read_is log at room n new rest below fits size there same =
 pub split_at : (log : List ℕ) (place at : ℕ) (ahead : List ℕ) → Buffers log place ahead → at ≡ place + length ahead → behind log place ≡ ahead ++ behind log at
 split_at log place at ahead h is =
     sym (take-append-drop (length ahead) (behind log place)) ∙ ap (λ (x : List ℕ). x ++ drop (length ahead) (behind log place)) h
-    ∙ ap (λ (x : List ℕ). ahead ++ x) (drop-drop (length ahead) place (take limit log) ∙ ap (λ k. drop k (take limit log)) (sym is))
+    ∙ ap (λ (x : List ℕ). ahead ++ x) (drop-drop (length ahead) place (take LIMIT log) ∙ ap (λ k. drop k (take LIMIT log)) (sym is))
 
 pub buffers_more : (log : List ℕ) (place : ℕ) (old new : List ℕ) (at n : ℕ) → Buffers log place old → n ≤ length (behind log at) → new ≡ old ++ take n (behind log at) → at ≡ place + length old → Buffers log place new
 buffers_more log place old new at n h few more is =
@@ -66,7 +67,7 @@ pub buffers_drop : (log : List ℕ) (place e k : ℕ) (ahead left : List ℕ) �
 buffers_drop log place e k ahead left h is fits end_is =
     let size : length left ≡ length ahead - k = ap length is ∙ length-drop k ahead in
     let whole : length ahead ≡ k + (length ahead - k) = omega arith in
-    let from : drop e (take limit log) ≡ drop k (behind log place) = ap (λ j. drop j (take limit log)) end_is ∙ sym (drop-drop k place (take limit log)) in
+    let from : drop e (take LIMIT log) ≡ drop k (behind log place) = ap (λ j. drop j (take LIMIT log)) end_is ∙ sym (drop-drop k place (take LIMIT log)) in
     ap (λ j. take j (behind log e)) size ∙ ap (take (length ahead - k)) from ∙ sym (drop-take k (length ahead - k) (behind log place)) ∙ ap (λ j. drop k (take j (behind log place))) (sym whole) ∙ ap (drop k) h ∙ sym is
 
 -- ---- lines
@@ -80,19 +81,19 @@ line_ahead log place ahead line rest h e =
 pub line_fits : (n : ℕ) (ahead : List ℕ) → (line rest : List ℕ) × (ahead ≡ line ++ line_feed ∷ rest) × Lacks line_feed line × (length line ≡ n) → n + 1 ≤ length ahead
 line_fits n ahead (line, rest, split, lacks, size) = omega (arith, ap length split, length-append line (line_feed ∷ rest))
 
-pub is_line : (log : List ℕ) (place e n : ℕ) (ahead given : List ℕ) → Buffers log place ahead → (line rest : List ℕ) × (ahead ≡ line ++ line_feed ∷ rest) × Lacks line_feed line × (length line ≡ n) → given ≡ take n ahead → n ≤ 296 → e ≡ place + n + 1 → IsNext log place (next.Line place e) given
+pub is_line : (log : List ℕ) (place e n : ℕ) (ahead given : List ℕ) → Buffers log place ahead → (line rest : List ℕ) × (ahead ≡ line ++ line_feed ∷ rest) × Lacks line_feed line × (length line ≡ n) → given ≡ take n ahead → n ≤ MAX_LINE → e ≡ place + n + 1 → IsNext log place (next.Line place e) given
 is_line log place e n ahead given h (line, rest, split, lacks, size) is short end_is =
     let same : given ≡ line = is ∙ ap (take n) split ∙ take_at line (line_feed ∷ rest) n size in
     let more = line_ahead log place ahead line rest h split in
     subst (IsNext log place (next.Line place e)) (sym same) (refl, omega arith, omega arith, lacks, more)
 
-pub is_long : (log : List ℕ) (place e n : ℕ) (ahead given : List ℕ) → Buffers log place ahead → (line rest : List ℕ) × (ahead ≡ line ++ line_feed ∷ rest) × Lacks line_feed line × (length line ≡ n) → 296 < n → e ≡ place + n + 1 → IsNext log place (next.Long place e) given
+pub is_long : (log : List ℕ) (place e n : ℕ) (ahead given : List ℕ) → Buffers log place ahead → (line rest : List ℕ) × (ahead ≡ line ++ line_feed ∷ rest) × Lacks line_feed line × (length line ≡ n) → MAX_LINE < n → e ≡ place + n + 1 → IsNext log place (next.Long place e) given
 is_long log place e n ahead given h (line, rest, split, lacks, size) long end_is =
     let more = line_ahead log place ahead line rest h split in
     (refl, (line, more.0, more.1, lacks, omega arith, omega arith))
 
 -- a line of which nothing but the front was read ahead
-pub is_long_behind : (log : List ℕ) (place from e : ℕ) (ahead given : List ℕ) → Buffers log place ahead → Lacks line_feed ahead → (line rest : List ℕ) × (behind log from ≡ line ++ line_feed ∷ rest) × Lacks line_feed line × (e ≡ from + length line + 1) → 296 < length ahead → from ≡ place + length ahead → IsNext log place (next.Long place e) given
+pub is_long_behind : (log : List ℕ) (place from e : ℕ) (ahead given : List ℕ) → Buffers log place ahead → Lacks line_feed ahead → (line rest : List ℕ) × (behind log from ≡ line ++ line_feed ∷ rest) × Lacks line_feed line × (e ≡ from + length line + 1) → MAX_LINE < length ahead → from ≡ place + length ahead → IsNext log place (next.Long place e) given
 is_long_behind log place from e ahead given h none (line, rest, split, lacks, end_is) long from_is =
     let is = split_at log place from ahead h from_is ∙ ap (λ (x : List ℕ). ahead ++ x) split ∙ sym (append_assoc ahead line (line_feed ∷ rest)) in
     let size = length-append ahead line in

@@ -1,16 +1,13 @@
 -- The bytes of a log, and those read ahead.
-use Rattle.std.specs.Prelude.{ℕ, ◌≡◌, ◌^◌, List, length, take, drop}
+use Rattle.std.specs.Prelude.{ℕ, ◌≡◌, List, length, take, drop}
+use Rattle.tail_reader.specs.declared.scan.TheConstants.{LIMIT}
 
 abbrev pub line_feed : ℕ
 line_feed = 10
 
--- bytes from this place on are never read
-abbrev pub limit : ℕ
-limit = 2 ^ 40
-
--- the bytes from a place on
+-- the bytes from a place on, up to the limit
 abbrev pub behind : List ℕ → ℕ → List ℕ
-behind log place = drop place (take limit log)
+behind log place = drop place (take LIMIT log)
 
 -- these bytes were read ahead from the place on
 abbrev pub Buffers : List ℕ → ℕ → List ℕ → Type 0

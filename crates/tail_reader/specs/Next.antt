@@ -1,6 +1,7 @@
 -- What stands in a log from a place on.
 use Rattle.std.specs.Prelude.{ℕ, ◌≡◌, ◌+◌, ◌<◌, ◌≤◌, List, ◌∷◌, ◌++◌, length}
 use Rattle.list_words.specs.Bytes.{Lacks}
+use Rattle.tail_reader.specs.declared.scan.TheConstants.{MAX_LINE}
 use Rattle.tail_reader.specs.Buffered.{line_feed, behind}
 use Rattle.tail_reader.specs.declared.tail.Next.{Next}
 use Rattle.tail_reader.specs.declared.tail.Next.TheVariants.{Line, Long, End}
@@ -9,9 +10,9 @@ use Rattle.tail_reader.specs.declared.tail.Next.TheVariants.{Line, Long, End}
 -- one that has no line feed yet is none.
 abbrev pub IsNext : List ℕ → ℕ → Next → List ℕ → Type 0
 IsNext log place (Line p e) line =
-    (p ≡ place) × (e ≡ place + length line + 1) × (length line ≤ 296) × Lacks line_feed line × ((rest : List ℕ) × (behind log place ≡ line ++ line_feed ∷ rest))
+    (p ≡ place) × (e ≡ place + length line + 1) × (length line ≤ MAX_LINE) × Lacks line_feed line × ((rest : List ℕ) × (behind log place ≡ line ++ line_feed ∷ rest))
 IsNext log place (Long p e) line =
-    (p ≡ place) × ((long rest : List ℕ) × (behind log place ≡ long ++ line_feed ∷ rest) × Lacks line_feed long × (296 < length long) × (e ≡ place + length long + 1))
+    (p ≡ place) × ((long rest : List ℕ) × (behind log place ≡ long ++ line_feed ∷ rest) × Lacks line_feed long × (MAX_LINE < length long) × (e ≡ place + length long + 1))
 IsNext log place (End p) line = (p ≡ place) × Lacks line_feed (behind log place)
 
 -- where the next call goes on

@@ -1,9 +1,11 @@
 // Looks for the next line feed, over what was read ahead and the log behind it.
-ghost use Rattle.std.specs.Prelude.{◌≡◌, ◌≤◌, ◌<◌, ◌+◌, ◌^◌, ◌++◌, ◌∷◌, ◌⊎◌, [], List, ℕ, length, IfOk, IfSome, IfNone, OnErr, IsErr, IsTrue};
+ghost use Rattle.std.specs.Prelude.{◌≡◌, ◌≤◌, ◌<◌, ◌+◌, ◌*◌, ◌++◌, ◌∷◌, ◌⊎◌, [], List, ℕ, length, IfOk, IfSome, IfNone, OnErr, IsErr, IsTrue};
 ghost use Rattle.list_words.specs.Bytes.{Lacks};
 ghost use Rattle.outside.specs.Faults.{Counts};
 ghost use Rattle.tail_reader.specs.Buffered.{line_feed, behind, Buffers};
 ghost use Rattle.tail_reader.specs.Next.{IsNext, end_of};
+ghost use Rattle.tail_reader.specs.declared.scan.TheConstants.{LIMIT, MAX_LINE};
+ghost use Rattle.tail_reader.specs.declared.window.TheConstants.{SIZE};
 
 use crate::Next;
 use crate::window::Window;
@@ -65,13 +67,13 @@ fn settle<L: LogFile>(
     place: u64,
     window: &mut Window,
 ) -> Result<Option<usize>, ReadFault>
-    requires place { place < 2 ^ 40 }
+    requires place { place < LIMIT }
     requires ahead { IsTrue L.tells → Buffers (L.bytes log.old) place window.old.1 }
     ensures ahead { IsTrue L.tells → Buffers (L.bytes log.old) place window.new.1 }
     ensures found { IfOk result (λ len. IfSome len (λ n. (line rest : List ℕ) × (window.new.1 ≡ line ++ line_feed ∷ rest) × Lacks line_feed line × (length line ≡ n))) }
-    ensures short { IfOk result (λ len. IfSome len (λ n. n < 4096)) }
+    ensures short { IfOk result (λ len. IfSome len (λ n. n < SIZE)) }
     ensures none { IsTrue L.tells → IfOk result (λ len. IfNone len (Lacks line_feed window.new.1)) }
-    ensures end { IsTrue L.tells → IfOk result (λ len. IfNone len (length window.new.1 ≤ 296 → behind (L.bytes log.old) place ≡ window.new.1)) }
+    ensures end { IsTrue L.tells → IfOk result (λ len. IfNone len (length window.new.1 ≤ MAX_LINE → behind (L.bytes log.old) place ≡ window.new.1)) }
     ensures same { IsTrue L.tells → L.bytes log.new ≡ L.bytes log.old }
     ensures count { Counts (L.faults log.old) (L.faults log.new) (IsErr result) }
 {
@@ -90,7 +92,7 @@ fn settle<L: LogFile>(
 
 // Finds the end of a line of which the bytes before `from` lack a line feed. Keeps what was read behind that end.
 fn skip<L: LogFile>(log: &mut L, from: u64, window: &mut Window) -> Result<Option<u64>, ReadFault>
-    requires { from ≤ 2 ^ 41 }
+    requires { from ≤ 2 * LIMIT }
     ensures found { IsTrue L.tells → IfOk result (λ end. IfSome end (λ e. (line rest : List ℕ) × (behind (L.bytes log.old) from ≡ line ++ line_feed ∷ rest) × Lacks line_feed line × (e ≡ from + length line + 1))) }
     ensures ahead { IsTrue L.tells → IfOk result (λ end. IfSome end (λ e. Buffers (L.bytes log.old) e window.new.1)) }
     ensures none { IsTrue L.tells → IfOk result (λ end. IfNone end (Lacks line_feed (behind (L.bytes log.old) from))) }
@@ -119,7 +121,7 @@ fn skip<L: LogFile>(log: &mut L, from: u64, window: &mut Window) -> Result<Optio
 // The length of the first line that was read ahead, if its line feed is there.
 fn line_len(window: &Window) -> Option<usize>
     ensures found { IfSome result (λ n. (line rest : List ℕ) × (window.now.1 ≡ line ++ line_feed ∷ rest) × Lacks line_feed line × (length line ≡ n)) }
-    ensures short { IfSome result (λ n. n < 4096) }
+    ensures short { IfSome result (λ n. n < SIZE) }
     ensures none { IfNone result (Lacks line_feed window.now.1) }
 {
     let (line, _) = split_once(window.ahead(), b'\n')?;

@@ -2,6 +2,8 @@
 ghost use Rattle.std.specs.Prelude.{◌≡◌, ◌≤◌, ◌<◌, ◌+◌, ◌++◌, [], List, ℕ, length, take, drop, IfOk, OnErr, IsErr, IsTrue};
 ghost use Rattle.outside.specs.Faults.{Counts};
 ghost use Rattle.tail_reader.specs.Buffered.{behind};
+ghost use Rattle.tail_reader.specs.declared.scan.TheConstants.{MAX_LINE};
+ghost use Rattle.tail_reader.specs.declared.window.TheConstants.{SIZE};
 
 use crate::scan::{LIMIT, MAX_LINE};
 use outside::{LogFile, ReadFault};
@@ -21,12 +23,13 @@ pub struct Window {
 
 impl Model for Window {
     ghost use Rattle.std.specs.Prelude.{List, ℕ, take, drop, ◌-◌, ◌≤◌};
+    ghost use Rattle.tail_reader.specs.declared.window.TheConstants.{SIZE};
 
     ghost Value = { List ℕ × List ℕ };
 
     ghost view = { λ w. (take (w.line_end - w.line_start) (drop w.line_start w.bytes), take (w.end - w.start) (drop w.start w.bytes)) };
 
-    ghost invariant = { λ w. (w.line_start ≤ w.line_end) × (w.line_end ≤ 4096) × (w.start ≤ w.end) × (w.end ≤ 4096) };
+    ghost invariant = { λ w. (w.line_start ≤ w.line_end) × (w.line_end ≤ SIZE) × (w.start ≤ w.end) × (w.end ≤ SIZE) };
 }
 
 impl Window {
@@ -52,7 +55,7 @@ impl Window {
     /// How many bytes were read ahead.
     pub fn len(&self) -> usize
         ensures len { result ≡ length self.now.1 }
-        ensures small { result ≤ 4096 }
+        ensures small { result ≤ SIZE }
     {
         self.end - self.start
     }
@@ -60,7 +63,7 @@ impl Window {
     /// What was read ahead.
     pub fn ahead(&self) -> &[u8]
         ensures bytes { result.now ≡ self.now.1 }
-        ensures small { length result.now ≤ 4096 }
+        ensures small { length result.now ≤ SIZE }
     {
         &self.bytes[self.start..self.end]
     }
@@ -89,9 +92,9 @@ impl Window {
     /// Reads some bytes behind those read ahead, which begin at place `at` of the log. Answers how many, none only
     /// at the end of the log or at the limit. The line is forgotten.
     pub fn read_more<L: LogFile>(&mut self, log: &mut L, at: u64) -> Result<usize, ReadFault>
-        requires { length self.old.1 ≤ 296 }
+        requires { length self.old.1 ≤ MAX_LINE }
         ensures len { IfOk result (λ n. length self.new.1 ≡ length self.old.1 + n) }
-        ensures small { IfOk result (λ n. n ≤ 4096) }
+        ensures small { IfOk result (λ n. n ≤ SIZE) }
         ensures bytes { IsTrue L.tells → IfOk result (λ n. (n ≤ length (behind (L.bytes log.old) at)) × (self.new.1 ≡ self.old.1 ++ take n (behind (L.bytes log.old) at))) }
         ensures end { IsTrue L.tells → IfOk result (λ n. n ≡ 0 → behind (L.bytes log.old) at ≡ []) }
         ensures err { OnErr result (self.new.1 ≡ self.old.1) }
@@ -113,7 +116,7 @@ impl Window {
 // Moves some bytes, which are no more than a line, to the front.
 fn move_to_front(bytes: &mut [u8], start: usize, len: usize)
     requires room { start + len ≤ length bytes.old }
-    requires short { len ≤ 296 }
+    requires short { len ≤ MAX_LINE }
     ensures { take len bytes.new ≡ take len (drop start bytes.old) }
 {
     let mut kept = [0; MAX_LINE];

@@ -1,4 +1,5 @@
-use Rattle.std.proofs.Common.{◌≡◌, ◌≤◌, ◌-◌, length, IsTrue}
+use Rattle.std.proofs.Common.{suc, ◌≡◌, ◌≤◌, ◌-◌, length, IsTrue}
+use Rattle.tail_reader.specs.declared.scan.TheConstants.{MAX_LINE}
 use Rattle.tail_reader.specs.Buffered.{Buffers}
 use Rattle.tail_reader.proofs.scan.settle.Given as goal
 
@@ -12,4 +13,4 @@ invariant-loop-window g l =
     }
 
 abbrev pub decreases-loop-window : goal.decreases-loop-window
-decreases-loop-window g l = 297 - length l.window.1
+decreases-loop-window g l = suc MAX_LINE - length l.window.1
