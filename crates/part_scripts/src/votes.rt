@@ -112,7 +112,7 @@ fn classes(alloc: Global, journals: Journals, words: &mut Words<'_>) -> Result<S
     for word in &mut words.left {
         ids.push(id_of(word)?)?;
     }
-    let lines = classify(alloc, &ids, journals, &table)?;
+    let lines = classify(alloc, ids, journals, &table)?;
     let mut text = String::new(alloc);
     for line in &lines {
         put(&mut text, told_line(alloc, line)?.as_str())?;

@@ -29,14 +29,14 @@ use time_shards::Table;
 ///
 /// O(n log n) for n ids, and expected linear time in the records where a place has few acceptances: those of one place
 /// are compared each with each, with a test for each replica. It takes memory for each acceptance and each distinct id,
-/// copies no record, and lets the notes go before it looks at the pairs, whose texts the lines take.
+/// copies no record, and lets the ids and the notes go before it looks at the pairs, whose texts the lines take.
 pub fn classify(
     alloc: Global,
-    ids: &[EventId],
+    ids: Vec<EventId>,
     journals: Journals,
     table: &Table,
 ) -> Result<Vec<ReportLine>, AllocError>
-    ensures { IfOk result (λ lines. (clicks : List Click) → map (λ (c : Click). c.id) clicks ≡ ids.now → lines.items ≡ map (λ (c : Click). line_of journals table.now c.id) (distinct clicks)) }
+    ensures { IfOk result (λ lines. (clicks : List Click) → map (λ (c : Click). c.id) clicks ≡ ids.items → lines.items ≡ map (λ (c : Click). line_of journals table.now c.id) (distinct clicks)) }
 {
     let Journals { notes, pairs } = journals;
     let mut lines = blank_lines(alloc, ids, notes, table)?;
@@ -48,12 +48,12 @@ pub fn classify(
 // The line of each id by these notes, as if no pair were written. What is made of the notes is let go.
 fn blank_lines(
     alloc: Global,
-    ids: &[EventId],
+    ids: Vec<EventId>,
     notes: Vec<NoteList>,
     table: &Table,
 ) -> Result<Vec<Box<ReportLine>>, AllocError>
-    ensures lines { IfOk result (λ lines. unboxed lines.items ≡ map (λ i. unwritten_line (decided_in same_batch (map (map note_view) notes.items) (shard_of table.now i)) i) (in_order ids.now)) }
-    ensures rising { OnOk result (IsStrictlySortedBy id_cmp (in_order ids.now)) }
+    ensures lines { IfOk result (λ lines. unboxed lines.items ≡ map (λ i. unwritten_line (decided_in same_batch (map (map note_view) notes.items) (shard_of table.now i)) i) (in_order ids.items)) }
+    ensures rising { OnOk result (IsStrictlySortedBy id_cmp (in_order ids.items)) }
 {
     let registries = decided(alloc, notes, table)?;
     let each = distinct_ids(alloc, ids)?;

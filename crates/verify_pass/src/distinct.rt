@@ -9,11 +9,11 @@ use std::alloc::{AllocError, Global};
 use std::collections::BTreeSet;
 
 /// The ids, each once, in their order. O(n log n) for n ids.
-pub fn distinct_ids(alloc: Global, ids: &[EventId]) -> Result<Vec<EventId>, AllocError>
-    ensures ids { IfOk result (λ each. each.items ≡ in_order ids.now) }
+pub fn distinct_ids(alloc: Global, ids: Vec<EventId>) -> Result<Vec<EventId>, AllocError>
+    ensures ids { IfOk result (λ each. each.items ≡ in_order ids.items) }
     ensures rising { IfOk result (λ each. IsStrictlySortedBy id_cmp each.items) }
 {
-    let found = id_set(alloc, ids)?;
+    let found = id_set(alloc, &ids)?;
     found.into_iter().collect(alloc)
 }
 

@@ -48,7 +48,7 @@ fn drill_lines<R, F, G>(
     alloc: Global,
     config: &Config,
     names: &Names<'_>,
-    clicks: &CheckedLog,
+    clicks: CheckedLog,
     plan: Plan,
     files: &mut F,
     store: &mut MemStore,
@@ -64,9 +64,9 @@ where
     requires planned { (disk : DiskName) (call : ℕ) → ⟦<MemStore as Store>⟧.stops store.old disk call ≡ is_planned (planned_for config.now.joiners plan.stops disk) call }
     requires fresh { (⟦<MemStore as Store>⟧.faults store.old ≡ 0) × ((disk : DiskName) → ⟦<MemStore as Store>⟧.made store.old disk ≡ 0) }
     requires ranges { IsRunnable config.now }
-    ensures drilled { IsTrue F.Log.tells → OfSetting (F.bytes files.old) names.now.queries.now names.now.clicks.now config.now clicks.now.lines_end (λ g. HaveIds g clicks.now.ids.items
+    ensures drilled { IsTrue F.Log.tells → OfSetting (F.bytes files.old) names.now.queries.now names.now.clicks.now config.now clicks.lines_end (λ g. HaveIds g clicks.ids.items
         → IfOk result (λ lines. IsSomeAnd ran.new.log (IsDrilled g plan lines.items))) }
-    ensures fair { IsTrue F.Log.tells → OfSetting (F.bytes files.old) names.now.queries.now names.now.clicks.now config.now clicks.now.lines_end (λ g. IfErr result (IsOfDrill (plan.stops ≢ []))) }
+    ensures fair { IsTrue F.Log.tells → OfSetting (F.bytes files.old) names.now.queries.now names.now.clicks.now config.now clicks.lines_end (λ g. IfErr result (IsOfDrill (plan.stops ≢ []))) }
     ensures heard { IfSome ran.new.log (IsHeardOf plan config.now.joiners) }
     ensures cause { IfErr result IsOfRun }
     ensures count { Counts (F.faults files.old) (F.faults files.new) ((log : LogKind) × (result ≡ Err (failed_read log))) }
@@ -118,7 +118,7 @@ where
     };
     let config = config_in(wanted, table);
     drill_lines(
-        rt, alloc, &config, &names, &clicks, plan, files, &mut store, gate, ran,
+        rt, alloc, &config, &names, clicks, plan, files, &mut store, gate, ran,
     )
 }
 

@@ -92,7 +92,7 @@ where
     let config = config_in(wanted, table);
     let plan = Plan::empty(alloc);
     let lines = match run_lines(
-        rt, alloc, &config, &names, &clicks, plan, files, store, gate, ran,
+        rt, alloc, &config, &names, clicks, plan, files, store, gate, ran,
     ) {
         Ok(lines) => lines,
         Err(fault) => return Err(fault),

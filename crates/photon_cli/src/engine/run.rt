@@ -55,7 +55,7 @@ pub fn run_lines<R, F, S, G>(
     alloc: Global,
     config: &Config,
     names: &Names<'_>,
-    clicks: &CheckedLog,
+    clicks: CheckedLog,
     plan: Plan,
     files: &mut F,
     store: &mut S,
@@ -70,36 +70,37 @@ where
     F::Log: Drop,
     S::Disk: Drop,
     requires ranges { IsRunnable config.now }
-    ensures ends { IsTrue S.Disk.tells → IsTrue F.Log.tells → OfSetting (F.bytes files.old) names.now.queries.now names.now.clicks.now config.now clicks.now.lines_end (λ g. EndsOver g (S.image store.old) (S.image store.new)
+    ensures ends { IsTrue S.Disk.tells → IsTrue F.Log.tells → OfSetting (F.bytes files.old) names.now.queries.now names.now.clicks.now config.now clicks.lines_end (λ g. EndsOver g (S.image store.old) (S.image store.new)
         (Rose (F.faults files.old) (F.faults files.new)) (Rose (S.faults store.old) (S.faults store.new)) ran.new.log result) }
 
     // The lines are the report of what the disks keep at the end, and from an empty store that of the two logs.
-    ensures joined { IsTrue S.Disk.tells → IsTrue F.Log.tells → OfSetting (F.bytes files.old) names.now.queries.now names.now.clicks.now config.now clicks.now.lines_end (λ g. HaveIds g clicks.now.ids.items → IsSoundStore g (S.image store.old)
+    ensures joined { IsTrue S.Disk.tells → IsTrue F.Log.tells → OfSetting (F.bytes files.old) names.now.queries.now names.now.clicks.now config.now clicks.lines_end (λ g. HaveIds g clicks.ids.items → IsSoundStore g (S.image store.old)
         → IfOk result (λ lines. Joins g (S.image store.old) (S.image store.new) (Rose (S.faults store.old) (S.faults store.new)) lines.items)) }
-    ensures afresh { IsTrue S.Disk.tells → IsTrue F.Log.tells → OfSetting (F.bytes files.old) names.now.queries.now names.now.clicks.now config.now clicks.now.lines_end (λ g. HaveIds g clicks.now.ids.items → LeavesNothing g (S.image store.old)
+    ensures afresh { IsTrue S.Disk.tells → IsTrue F.Log.tells → OfSetting (F.bytes files.old) names.now.queries.now names.now.clicks.now config.now clicks.lines_end (λ g. HaveIds g clicks.ids.items → LeavesNothing g (S.image store.old)
         → IfOk result (λ lines. JoinsAfresh g (Rose (S.faults store.old) (S.faults store.new)) lines.items)) }
 
     // The run's history, and from an empty store what it means for the lines.
-    ensures left { IsTrue S.Disk.tells → IsTrue F.Log.tells → OfSetting (F.bytes files.old) names.now.queries.now names.now.clicks.now config.now clicks.now.lines_end (λ g. IfSome ran.new.log (λ l. RunLeft g (S.image store.old) (S.image store.new) l.air.history)) }
-    ensures began { IsTrue S.Disk.tells → IsTrue F.Log.tells → OfSetting (F.bytes files.old) names.now.queries.now names.now.clicks.now config.now clicks.now.lines_end (λ g. OnOk result (IsSomeAnd ran.new.log (λ l. RunLeft g (S.image store.old) (S.image store.new) l.air.history))) }
-    ensures ran { IsTrue S.Disk.tells → IsTrue F.Log.tells → OfSetting (F.bytes files.old) names.now.queries.now names.now.clicks.now config.now clicks.now.lines_end (λ g. HaveIds g clicks.now.ids.items → LeavesNothing g (S.image store.old)
+    ensures left { IsTrue S.Disk.tells → IsTrue F.Log.tells → OfSetting (F.bytes files.old) names.now.queries.now names.now.clicks.now config.now clicks.lines_end (λ g. IfSome ran.new.log (λ l. RunLeft g (S.image store.old) (S.image store.new) l.air.history)) }
+    ensures began { IsTrue S.Disk.tells → IsTrue F.Log.tells → OfSetting (F.bytes files.old) names.now.queries.now names.now.clicks.now config.now clicks.lines_end (λ g. OnOk result (IsSomeAnd ran.new.log (λ l. RunLeft g (S.image store.old) (S.image store.new) l.air.history))) }
+    ensures ran { IsTrue S.Disk.tells → IsTrue F.Log.tells → OfSetting (F.bytes files.old) names.now.queries.now names.now.clicks.now config.now clicks.lines_end (λ g. HaveIds g clicks.ids.items → LeavesNothing g (S.image store.old)
         → IfOk result (λ lines. IsSomeAnd ran.new.log (λ l. RanAfresh g l.air.history lines.items))) }
     ensures heard { IfSome ran.new.log (IsHeardOf plan config.now.joiners) }
 
     // No node stops more often than was planned for its disks, and where no stop is planned no disk meets a fault.
-    ensures stops { IsTrue S.Disk.planned → IsTrue F.Log.tells → OfSetting (F.bytes files.old) names.now.queries.now names.now.clicks.now config.now clicks.now.lines_end (λ g. RunsAsPlanned (Left S.stops S.made store.old) g ran.new.log (S.faults store.old) (S.faults store.new)) }
+    ensures stops { IsTrue S.Disk.planned → IsTrue F.Log.tells → OfSetting (F.bytes files.old) names.now.queries.now names.now.clicks.now config.now clicks.lines_end (λ g. RunsAsPlanned (Left S.stops S.made store.old) g ran.new.log (S.faults store.old) (S.faults store.new)) }
 
     ensures cause { IfErr result (IsCounted (Rose (F.faults files.old) (F.faults files.new)) (Rose (S.faults store.old) (S.faults store.new))) }
     ensures file_count { F.faults files.old ≤ F.faults files.new }
     ensures store_count { S.faults store.old ≤ S.faults store.new }
 {
     means::<S>();
+    let CheckedLog { ids, lines_end } = clicks;
     let journals = match run_sites(
         rt,
         alloc,
         config,
         names,
-        clicks.lines_end,
+        lines_end,
         files,
         store,
         plan,
@@ -109,7 +110,7 @@ where
         Ok(Outcome { journals }) => journals,
         Err(fault) => return Err(fault),
     };
-    match classify(alloc, &clicks.ids, journals, &config.table) {
+    match classify(alloc, ids, journals, &config.table) {
         Ok(lines) => Ok(lines),
         Err(_) => Err(RunFault::Memory),
     }

@@ -68,8 +68,8 @@ fn one_shard() -> Table {
 }
 
 // The report's lines where nothing is kept: every click is unmatched.
-fn unmatched_lines(alloc: Global, ids: &[EventId]) -> Result<Vec<ReportLine>, AllocError>
-    ensures { IfOk result (λ lines. (clicks : List Click) → map (λ (c : Click). c.id) clicks ≡ ids.now → lines.items ≡ map (λ (c : Click). U c.id) (distinct clicks)) }
+fn unmatched_lines(alloc: Global, ids: Vec<EventId>) -> Result<Vec<ReportLine>, AllocError>
+    ensures { IfOk result (λ lines. (clicks : List Click) → map (λ (c : Click). c.id) clicks ≡ ids.items → lines.items ≡ map (λ (c : Click). U c.id) (distinct clicks)) }
 {
     let nothing = Journals {
         notes: Vec::new(alloc),
@@ -81,11 +81,11 @@ fn unmatched_lines(alloc: Global, ids: &[EventId]) -> Result<Vec<ReportLine>, Al
 // The report's lines of what a store keeps, where no topology is kept those of nothing.
 fn kept_lines(
     alloc: Global,
-    ids: &[EventId],
+    ids: Vec<EventId>,
     kept: KeptStore,
 ) -> Result<Vec<ReportLine>, AllocError>
-    ensures some { IfOk result (λ lines. (t : KeptTopology) → kept.topology ≡ Some t → (clicks : List Click) → map (λ (c : Click). c.id) clicks ≡ ids.now → lines.items ≡ map (λ (c : Click). line_of kept.journals t.table c.id) (distinct clicks)) }
-    ensures none { IfOk result (λ lines. kept.topology ≡ None → (clicks : List Click) → map (λ (c : Click). c.id) clicks ≡ ids.now → lines.items ≡ map (λ (c : Click). U c.id) (distinct clicks)) }
+    ensures some { IfOk result (λ lines. (t : KeptTopology) → kept.topology ≡ Some t → (clicks : List Click) → map (λ (c : Click). c.id) clicks ≡ ids.items → lines.items ≡ map (λ (c : Click). line_of kept.journals t.table c.id) (distinct clicks)) }
+    ensures none { IfOk result (λ lines. kept.topology ≡ None → (clicks : List Click) → map (λ (c : Click). c.id) clicks ≡ ids.items → lines.items ≡ map (λ (c : Click). U c.id) (distinct clicks)) }
 {
     let KeptStore { topology, journals } = kept;
     match topology {
@@ -161,7 +161,7 @@ fn verify_store<F: Source, S: Store, K: Sink>(
         Ok(kept) => kept,
         Err(fault) => return Err(fault),
     };
-    let Ok(lines) = kept_lines(alloc, &checked.ids, kept) else {
+    let Ok(lines) = kept_lines(alloc, checked.ids, kept) else {
         return Err(RunFault::Memory);
     };
     match write_report(out, &lines) {

@@ -9,6 +9,6 @@ returns c clicks same =
     let batches : EventId → List Batch = λ i. decided_for js c.args.table.now i in
     let line : EventId → ReportLine = λ i. line_by (batches i) i (first_pair (all_pairs js) i) in
     c.in_ok-lines-2.ensures
-    ∙ c.join_all.ensures batches [] (in_order c.args.ids.now) c.in_ok-lines.ensures.rising c.in_ok-lines.ensures.lines
+    ∙ c.join_all.ensures batches [] (in_order c.args.ids.items) c.in_ok-lines.ensures.rising c.in_ok-lines.ensures.lines
     ∙ ap (map line) (ap in_order (sym same) ∙ sym (distinct_in_order clicks))
     ∙ map-map line (λ (k : ClickRec). k.id) (distinct clicks)

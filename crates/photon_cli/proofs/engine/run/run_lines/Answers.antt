@@ -11,7 +11,7 @@ returns-in-Ok-classify-clause-joined g c disks logs s setting own sound =
     let table : c.args.config.now.table ≡ s.table = sym setting.numbers.table in
     let clicks : List ClickRec = map (λ (l : ClickLine). l.click) s.clicks in
     c.means.ensures.joins s c.args.store.now c.run_sites.new.store rest.0.air.history c.in-Ok.field-0.journals c.in-Ok-classify.lines.items (log_checked _ s setting.clicks_are) sound rest.1
-    (c.in-Ok-classify.ensures clicks (own ∙ sym c.deref.ensures.value) ∙ (λ k. map (λ (x : ClickRec). line_of c.in-Ok.field-0.journals (table k) x.id) (distinct clicks)))
+    (c.in-Ok-classify.ensures clicks own ∙ (λ k. map (λ (x : ClickRec). line_of c.in-Ok.field-0.journals (table k) x.id) (distinct clicks)))
 
 pub returns-in-Ok-classify-clause-afresh : goal.returns-in-Ok-classify-clause-afresh
 returns-in-Ok-classify-clause-afresh g c disks logs s setting own nothing =
@@ -19,7 +19,7 @@ returns-in-Ok-classify-clause-afresh g c disks logs s setting own nothing =
     let table : c.args.config.now.table ≡ s.table = sym setting.numbers.table in
     let clicks : List ClickRec = map (λ (l : ClickLine). l.click) s.clicks in
     c.means.ensures.afresh s c.args.store.now c.run_sites.new.store rest.0.air.history c.in-Ok.field-0.journals c.in-Ok-classify.lines.items (log_checked _ s setting.clicks_are) (subst (λ (t : List ShardRow). IsTable t) table c.requires.ranges.table) nothing rest.1
-    (c.in-Ok-classify.ensures clicks (own ∙ sym c.deref.ensures.value) ∙ (λ k. map (λ (x : ClickRec). line_of c.in-Ok.field-0.journals (table k) x.id) (distinct clicks)))
+    (c.in-Ok-classify.ensures clicks own ∙ (λ k. map (λ (x : ClickRec). line_of c.in-Ok.field-0.journals (table k) x.id) (distinct clicks)))
 
 pub returns-in-Ok-classify-clause-began : goal.returns-in-Ok-classify-clause-began
 returns-in-Ok-classify-clause-began g c disks logs s setting =
@@ -33,7 +33,7 @@ returns-in-Ok-classify-clause-ran g c disks logs s setting own nothing =
     within c.run_sites.new.ran.log (λ (l : RunLog). RestLeft s (g.S.Store.image c.args.store.now) (g.S.Store.image c.run_sites.new.store) l.air.history (Rose (g.S.Store.faults c.args.store.now) (g.S.Store.faults c.run_sites.new.store)) c.in-Ok.field-0.journals)
     (λ (l : RunLog). RanAfresh s l.air.history c.in-Ok-classify.lines.items)
     (λ l rest. c.means.ensures.ran s c.args.store.now c.run_sites.new.store l.air.history c.in-Ok.field-0.journals c.in-Ok-classify.lines.items (log_checked _ s setting.clicks_are) (subst (λ (t : List ShardRow). IsTable t) table c.requires.ranges.table) nothing rest
-    (c.in-Ok-classify.ensures clicks (own ∙ sym c.deref.ensures.value) ∙ (λ k. map (λ (x : ClickRec). line_of c.in-Ok.field-0.journals (table k) x.id) (distinct clicks))))
+    (c.in-Ok-classify.ensures clicks own ∙ (λ k. map (λ (x : ClickRec). line_of c.in-Ok.field-0.journals (table k) x.id) (distinct clicks))))
     (c.in-Ok.ensures.over disks logs s setting).rest
 
 pub returns-in-Err-clause-ends : goal.returns-in-Err-clause-ends

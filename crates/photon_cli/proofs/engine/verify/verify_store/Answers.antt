@@ -15,14 +15,14 @@ returns-in-Ok-write_report-clause-done g c logs sinks disks =
     let own = c.in-Ok.ensures.found logs in
     let read = subst (λ (o : Option (List ℕ)). IsSomeAnd o (λ log. IsReadFrom before log kept)) (c.in-Ok.ensures.same logs clicks) (c.in-Ok-kept_store.ensures.read disks logs) in
     let told = told_of before kept c.in-Ok.checked.ids.items lines
-    (λ t is cs same. c.in-Ok-kept_lines.ensures.some t is cs (same ∙ sym c.deref.ensures.value))
-    (λ is cs same. c.in-Ok-kept_lines.ensures.none is cs (same ∙ sym c.deref.ensures.value))
+    c.in-Ok-kept_lines.ensures.some
+    c.in-Ok-kept_lines.ensures.none
     (g.F.Source.bytes c.args.files.now clicks) own read in (
       kept,
       lines,
       told,
       c.has_missing.ensures ∙ ap (list_any is_missing) c.deref-in-Ok-write_report.ensures.value,
-      c.in-Ok-write_report.ensures.all sinks ∙ ap (λ (ls : List ReportLine). g.K.Sink.held c.args.out.now ++ text_of ls) c.deref-2.ensures.value,
+      c.in-Ok-write_report.ensures.all sinks ∙ ap (λ (ls : List ReportLine). g.K.Sink.held c.args.out.now ++ text_of ls) c.deref.ensures.value,
     )
 
 pub returns-clause-prefix : goal.returns-clause-prefix
@@ -34,13 +34,13 @@ returns-clause-prefix g c logs sinks disks e =
     let own = c.in-Ok.ensures.found logs in
     let read = subst (λ (o : Option (List ℕ)). IsSomeAnd o (λ log. IsReadFrom before log kept)) (c.in-Ok.ensures.same logs clicks) (c.in-Ok-kept_store.ensures.read disks logs) in
     let told = told_of before kept c.in-Ok.checked.ids.items lines
-    (λ t is cs same. c.in-Ok-kept_lines.ensures.some t is cs (same ∙ sym c.deref.ensures.value))
-    (λ is cs same. c.in-Ok-kept_lines.ensures.none is cs (same ∙ sym c.deref.ensures.value))
+    c.in-Ok-kept_lines.ensures.some
+    c.in-Ok-kept_lines.ensures.none
     (g.F.Source.bytes c.args.files.now clicks) own read in (
       kept,
       lines,
       told,
-      subst (λ (t : List ℕ). TookPrefix (g.K.Sink.held c.args.out.now) t (g.K.Sink.held c.write_report.new.sink)) (ap text_of c.deref-2.ensures.value) (c.in-Err-write_report.ensures.prefix sinks),
+      subst (λ (t : List ℕ). TookPrefix (g.K.Sink.held c.args.out.now) t (g.K.Sink.held c.write_report.new.sink)) (ap text_of c.deref.ensures.value) (c.in-Err-write_report.ensures.prefix sinks),
     )
 
 pub returns-in-Err-clause-begins : goal.returns-in-Err-clause-begins
