@@ -60,7 +60,7 @@ module _ (logs sinks disks : Bool) (told : List ℕ → Option (List ℕ)) (file
     invalid = λ l bad calm. inr eight;
     words = λ e. omega (arith, eight, e);
     stopped = λ e. absurd (omega (arith, eight, e));
-    welcome = λ d l g over replicas few sound leaves. (λ seven. omega (arith, eight, seven), λ nine. omega (arith, eight, nine));
+    welcome = λ d l g over replicas sound leaves. (λ seven. omega (arith, eight, seven), λ nine. omega (arith, eight, nine));
     damaged = λ d l g over disk taken none calm still. inr eight;
     misplaced = λ d l g over other calm still. inr (inr eight);
     limited = λ d l g over at calm still. inr (inr (inr eight));
@@ -70,7 +70,7 @@ module _ (logs sinks disks : Bool) (told : List ℕ → Option (List ℕ)) (file
     tells = λ l s calm. inr (inr (fault.Memory, eight, (tt, λ d g over. tt), tells s calm));
     stays = λ d disk. stays disk;
     sound = λ d g sound. sound;
-    complete = λ d l g over replicas few sound leaves below calm still quiet. inr (inr eight);
+    complete = λ d l g over replicas sound leaves below calm still quiet. inr (inr eight);
   }
 
   bulk : (v : BulkValues) → BulkEnds sinks output errors old old err_old err_new status v ran unrun
@@ -92,7 +92,7 @@ module _ (logs sinks disks : Bool) (told : List ℕ → Option (List ℕ)) (file
   reshard : (row : Text) → ReshardEnds sinks output errors old old err_old err_new status row same disks before before faulted
   reshard row = subst (λ (n : ℕ). ReshardEnds sinks output errors old old err_old err_new n row same disks before before faulted) (sym eight)
       (ends sinks disks output errors old old err_old err_new row same before before faulted fault.Memory tt (λ d r is. tt) (λ none. (is_same, inr refl)) (λ at is. absurd (cc)) (λ is. absurd (cc)) (λ s d is. absurd (cc)) tells
-      (λ d g replicas few sound some e. omega (arith, e)) (λ d. untaken row before before 8 (not_added fault.Memory (λ is. cc)) (λ disk c now. now)))
+      (λ d g replicas sound some e. omega (arith, e)) (λ d. untaken row before before 8 (not_added fault.Memory (λ is. cc)) (λ disk c now. now)))
 
   pub forgotten : (w : Wish) → Ends logs sinks disks told files output errors faulted before before same unrun ran old old err_old err_new status w
   forgotten (a_join v state) = join v

@@ -1,6 +1,5 @@
 -- How a resharding ends at each fault.
-use Rattle.std.proofs.Common.{◌≡◌, ◌≢◌, ◌⊎◌, inl, inr, ⊎_elim, ◌++◌, ◌≤◌, ℕ, List, Bool, true, None, Result, Ok, Err, IsTrue, codes, refl, sym, ap, subst, ◌∙◌, arith}
-use Rattle.time_shards.specs.declared.TheConstants.{MOST_JOINERS}
+use Rattle.std.proofs.Common.{◌≡◌, ◌≢◌, ◌⊎◌, inl, inr, ⊎_elim, ◌++◌, ℕ, List, Bool, true, None, Result, Ok, Err, IsTrue, codes, refl, sym, ap, subst, ◌∙◌, arith}
 use Rattle.outside.specs.declared.store.DiskName.TheVariants as name
 use Rattle.run_fault.specs.declared.fault.Mismatch.TheVariants as mismatch
 use Rattle.run_fault.specs.declared.fault.RunFault.TheVariants as fault
@@ -178,8 +177,8 @@ module _ (before : Images) (faulted : Type 0) (row : ShardRow) where
   complete_row _ has fair below still written = absurd has
 
   -- of a sound store no disk is told as damaged
-  pub fair_row : ReadTopologyIsKept → TopologyFits → (g : Setting) → g.replicas ≡ REPLICAS → g.joiners ≤ MOST_JOINERS → IsSoundStore g before → LeavesSomething g before → (f : RunFault) → Has f → status_of f ≢ 7
-  fair_row read fits g replicas few sound some f has seven =
+  pub fair_row : ReadTopologyIsKept → TopologyFits → (g : Setting) → g.replicas ≡ REPLICAS → IsSoundStore g before → LeavesSomething g before → (f : RunFault) → Has f → status_of f ≢ 7
+  fair_row read fits g replicas sound some f has seven =
       let d = damaged_of f seven in
       let here = subst Has d.2 has in
       no_damage true refl before 0 read fits g (omega arith) sound d.0 d.1 (subst (λ n. IsFirstDisk true before n 0 d.0) (sym replicas) here.0) (λ sure. here.1) some
@@ -202,20 +201,20 @@ module _ (text : Text) (disks : Bool) (before after : Images) (row : ShardRow) (
     bad_row = λ none. absurd (none (row, is));
     never = (λ e. omega (arith, e), λ e. omega (arith, e), λ e. omega (arith, e), λ e. omega (arith, e));
     stopped = λ e. absurd (omega (arith, e));
-    welcome = λ d g replicas few whole some e. omega (arith, e);
+    welcome = λ d g replicas whole some e. omega (arith, e);
     damaged = λ d (r, own) g disk taken none still. let (t, (k, kept, answer)) = answer_for d r own in absurd (none (kept_are_journals (unasked g) before k disk kept taken));
     limited = λ d (r, own) g limit still. let (t, (k, kept, answer)) = answer_for d r own in absurd (limit k kept answer.limits);
     forbidden = λ d r own forbids still. let (t, (k, kept, answer)) = answer_for d r own in absurd (forbids k kept t answer.is);
     caused = inl refl;
     tells = λ s calm. inl (refl, refl);
     left = left;
-    complete = λ d has g replicas few whole some below still quiet. inl refl;
+    complete = λ d has g replicas whole some below still quiet. inl refl;
   }
 
 module _ (sinks disks : Bool) (output errors : Type 0) (old new err_old err_new : List ℕ) (text : Text) (same : Type 0) (before after : Images) (faulted : Type 0) where
   pub ends : (f : RunFault) → IsNamedInReshard text f → (IsTrue disks → (row : ShardRow) → IsRowOf text row → IsCauseFor before faulted row f) → ((HasRow text → ⊥) → same × ((status_of f ≡ 2) ⊎ (status_of f ≡ 8)))
       → ((at : StorePlace) → f ≡ fault.Store at → faulted) → (f ≡ fault.Write → output) → (IsTrue sinks → IsTrue disks → f ≡ fault.Write → Adds text before after (λ line. TookPrefix old line new))
-      → (IsTrue sinks → (errors → ⊥) → err_new ≡ err_old ++ message f) → (IsTrue disks → (g : Setting) → g.replicas ≡ REPLICAS → g.joiners ≤ MOST_JOINERS → IsSoundStore g before → LeavesSomething g before → status_of f ≢ 7) → (IsTrue disks → LeftAt text before after (status_of f))
+      → (IsTrue sinks → (errors → ⊥) → err_new ≡ err_old ++ message f) → (IsTrue disks → (g : Setting) → g.replicas ≡ REPLICAS → IsSoundStore g before → LeavesSomething g before → status_of f ≢ 7) → (IsTrue disks → LeftAt text before after (status_of f))
       → ReshardEnds sinks output errors old new err_old err_new (status_of f) text same disks before after faulted
   ends f named causes bad rose wrote prefix tells fair left = record {
     added = λ s d zero. absurd (no_zero f zero);
@@ -236,7 +235,7 @@ module _ (sinks disks : Bool) (output errors : Type 0) (old new err_old err_new 
     caused = inr (f, refl, (named, causes));
     tells = λ s calm. inr (f, refl, (named, causes), tells s calm);
     left = left;
-    complete = λ d (row, is) g replicas few sound some below still quiet. inr (complete_row before faulted row f (causes d row is) (fair d g replicas few sound some) below still (λ is. quiet (wrote is)));
+    complete = λ d (row, is) g replicas sound some below still quiet. inr (complete_row before faulted row f (causes d row is) (fair d g replicas sound some) below still (λ is. quiet (wrote is)));
   }
 
   -- a directory that isn't placed
@@ -247,8 +246,8 @@ module _ (sinks disks : Bool) (output errors : Type 0) (old new err_old err_new 
     where
       by : (r : StoreFault) → (r ≡ store.Disk → faulted) → (IsTrue sinks → (errors → ⊥) → err_new ≡ err_old ++ message (of_place r)) → ReshardEnds sinks output errors old new err_old err_new (status_of (of_place r)) text same disks before after faulted
       by store.Disk risen tells =
-          ends (of_place store.Disk) (row, is) (λ d r own. risen refl) (λ none. absurd (none (row, is))) (λ at x. risen refl) (λ x. absurd (cc)) (λ a d x. absurd (cc)) tells (λ d g replicas few sound some seven. omega (arith, seven))
+          ends (of_place store.Disk) (row, is) (λ d r own. risen refl) (λ none. absurd (none (row, is))) (λ at x. risen refl) (λ x. absurd (cc)) (λ a d x. absurd (cc)) tells (λ d g replicas sound some seven. omega (arith, seven))
           (λ d. untaken text before after (status_of (of_place store.Disk)) (not_added (of_place store.Disk) (λ x. cc)) (within d))
       by store.Memory risen tells =
-          ends (of_place store.Memory) tt (λ d r own. tt) (λ none. absurd (none (row, is))) (λ at x. absurd (cc)) (λ x. absurd (cc)) (λ a d x. absurd (cc)) tells (λ d g replicas few sound some seven. omega (arith, seven))
+          ends (of_place store.Memory) tt (λ d r own. tt) (λ none. absurd (none (row, is))) (λ at x. absurd (cc)) (λ x. absurd (cc)) (λ a d x. absurd (cc)) tells (λ d g replicas sound some seven. omega (arith, seven))
           (λ d. untaken text before after (status_of (of_place store.Memory)) (not_added (of_place store.Memory) (λ x. cc)) (within d))

@@ -1,6 +1,5 @@
 -- How each command ends, by its exit status.
-use Rattle.std.specs.Prelude.{ℕ, ◌≡◌, ◌≢◌, ◌≤◌, ◌⊎◌, List, [], Bool, true, false, Option, IfSome, IsSomeAnd, IsTrue}
-use Rattle.time_shards.specs.declared.TheConstants.{MOST_JOINERS}
+use Rattle.std.specs.Prelude.{ℕ, ◌≡◌, ◌≢◌, ◌⊎◌, List, [], Bool, true, false, Option, IfSome, IsSomeAnd, IsTrue}
 use Rattle.outside.specs.declared.store.DiskName.{DiskName}
 use Rattle.time_shards.specs.declared.ShardRow.{ShardRow}
 use Rattle.time_shards.specs.Text.{IsFirstBad}
@@ -124,7 +123,7 @@ module _ (logs sinks : Bool) (told : List ℕ → Option (List ℕ)) (files outp
     -- 2 never; 6 only where the store's count rose; 7 and 9 never over a sound store where a stop leaves something of each disk
     pub words : status ≢ 2
     pub stopped : status ≡ 6 → faulted
-    pub welcome : IsTrue disks → IsTrue logs → (g : Setting) → IsOverLog told clicks g → g.replicas ≡ REPLICAS → g.joiners ≤ MOST_JOINERS → IsSoundStore g before → LeavesSomething g before → (status ≢ 7) × (status ≢ 9)
+    pub welcome : IsTrue disks → IsTrue logs → (g : Setting) → IsOverLog told clicks g → g.replicas ≡ REPLICAS → IsSoundStore g before → LeavesSomething g before → (status ≢ 7) × (status ≢ 9)
     -- 7, 9 and 10 as of a join, but that no topology is asked for
     pub damaged : IsTrue disks → IsTrue logs → (g : Setting) → IsOverLog told clicks g → (disk : DiskName) → IsTaken (unasked g) before disk → (WasJournal g before disk → ⊥) → (files → ⊥) → (faulted → ⊥) → (status ≡ 7) ⊎ (status ≡ 8)
     pub misplaced : IsTrue disks → IsTrue logs → (g : Setting) → IsOverLog told clicks g → AreMisplaced g before → (files → ⊥) → (faulted → ⊥) → (status ≡ 9) ⊎ ((status ≡ 7) ⊎ (status ≡ 8))
@@ -138,7 +137,7 @@ module _ (logs sinks : Bool) (told : List ℕ → Option (List ℕ)) (files outp
     pub stays : IsTrue disks → (disk : DiskName) → StaysAs (before disk) (after disk)
     pub sound : IsTrue disks → (g : Setting) → IsSoundStore g before → IsSoundStore g after
     -- over a sound store, with no fault and nothing at its limit, it ends with 0 or 1, unless memory runs out
-    pub complete : IsTrue disks → IsTrue logs → (g : Setting) → IsOverLog told clicks g → g.replicas ≡ REPLICAS → g.joiners ≤ MOST_JOINERS → IsSoundStore g before → LeavesSomething g before → IsBelowLimits (unasked g) before
+    pub complete : IsTrue disks → IsTrue logs → (g : Setting) → IsOverLog told clicks g → g.replicas ≡ REPLICAS → IsSoundStore g before → LeavesSomething g before → IsBelowLimits (unasked g) before
         → (files → ⊥) → (faulted → ⊥) → (output → ⊥) → (status ≡ 0) ⊎ ((status ≡ 1) ⊎ (status ≡ 8))
 
 -- Of a bulk run.

@@ -19,7 +19,7 @@ returns-in_default-clause-ends g c =
     let none : HasRow text → ⊥ = λ (row, is). c.in_default.not-Some row (c.read-2.ensures.only row is.0 (c.as_bytes.ensures.value ∙ is.1)) in
     rw c.give_up.ensures.status
     (ends g.K.Sink.tells tells _ _ _ _ _ _ text _ before before _ (fault.Table 0) (refl, none) (λ d row is. absurd (none (row, is))) (λ has. (refl, inl refl)) (λ at is. absurd (cc)) (λ is. absurd (cc)) (λ s d is. absurd (cc))
-    c.give_up.ensures.told (λ d s replicas few sound some seven. omega (arith, seven)) (λ d. untaken text before before 2 (not_added (fault.Table 0) (λ is. cc)) (λ disk b now. now)))
+    c.give_up.ensures.told (λ d s replicas sound some seven. omega (arith, seven)) (λ d. untaken text before before 2 (not_added (fault.Table 0) (λ is. cc)) (λ disk b now. now)))
 
 pub returns-in-Err-clause-ends : goal.returns-in-Err-clause-ends
 returns-in-Err-clause-ends g c =
@@ -52,7 +52,7 @@ returns-in-Err-add_row-clause-ends g c =
     rw c.give_up-in-Err-add_row.ensures.status
     (ends g.K.Sink.tells tells _ _ _ _ _ _ text _ before after _ f (named_row tells placed row (Rose mid last) text f (row, is) e.cause) (λ d r own. subst (λ (x : ShardRow). IsCauseFor before (Rose old last) x f) (one_row text row r is own) (cause d))
     (λ none. absurd (none (row, is))) (λ at failed. rises (failed_rose tells placed REPLICAS None NoneTold (Rose mid last) at (subst (IsRowCause tells placed REPLICAS row (Rose mid last)) failed e.cause))) (λ write. absurd (other write)) (λ s d write. absurd (other write))
-    c.give_up-in-Err-add_row.ensures.told (λ d s replicas few sound some. fair_row before (Rose old last) row c.read.ensures.topology c.fits.ensures.only s replicas few sound some f (cause d))
+    c.give_up-in-Err-add_row.ensures.told (λ d s replicas sound some. fair_row before (Rose old last) row c.read.ensures.topology c.fits.ensures.only s replicas sound some f (cause d))
     (λ d. left_before tells d text row is placed before after (within d) ⊥ (f ≢ fault.Store (place.Disk name.Topology)) (status_of f) (not_added f other) (λ no at. no.2 (ap status_of at)) (e.leaves d)))
 
 pub returns-in-Ok-write_table-clause-ends : goal.returns-in-Ok-write_table-clause-ends
@@ -91,7 +91,7 @@ returns-in-Err-write_table-clause-ends g c =
     let new = g.K.Sink.held c.write_table.new.out in
     rw c.give_up-in-Err-write_table.ensures.status
     (ends g.K.Sink.tells tells _ _ old new _ _ text _ before after _ fault.Write (row, is) (answer_for text tells before after row is table added) (λ none. absurd (none (row, is))) (λ at x. absurd (cc)) (λ x. c.in-Err-write_table.ensures.count.rose refl)
-    (λ s d x. adds text tells before after row is table added (λ (line : List ℕ). TookPrefix old line new) (c.in-Err-write_table.ensures.prefix s) d) c.give_up-in-Err-write_table.ensures.told (λ d s replicas few whole some seven. omega (arith, seven))
+    (λ s d x. adds text tells before after row is table added (λ (line : List ℕ). TookPrefix old line new) (c.in-Err-write_table.ensures.prefix s) d) c.give_up-in-Err-write_table.ensures.told (λ d s replicas whole some seven. omega (arith, seven))
     left)
 
 pub returns-in_default-clause-answered : goal.returns-in_default-clause-answered

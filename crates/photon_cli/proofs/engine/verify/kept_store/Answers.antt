@@ -47,7 +47,7 @@ returns-in-Err-clause-caused g c disks logs s over end =
     log_caused (g.S.Store.image c.args.store.now) REPLICAS None (TellsPlaces s) faulted ⊥ read c.in-Err.fault Clicks (inr c.in-Err.ensures.fault) (λ is. c.in-Err.ensures.count.rose (ap Err is))
 
 pub returns-in-Err-clause-welcome : goal.returns-in-Err-clause-welcome
-returns-in-Err-clause-welcome g c disks logs s over end replicas few leaves sound = log_fair c.in-Err.fault Clicks (inr c.in-Err.ensures.fault)
+returns-in-Err-clause-welcome g c disks logs s over end replicas leaves sound = log_fair c.in-Err.fault Clicks (inr c.in-Err.ensures.fault)
 
 pub returns-in-Err-place-clause-caused : goal.returns-in-Err-place-clause-caused
 returns-in-Err-place-clause-caused g c disks logs s over end =
@@ -55,7 +55,7 @@ returns-in-Err-place-clause-caused g c disks logs s over end =
     (place_stops s (g.S.Store.image c.args.store.now) _ _ c.in-Err-place.fault (λ is. c.in-Err-place.ensures.count.rose (ap Err is)))
 
 pub returns-in-Err-place-clause-welcome : goal.returns-in-Err-place-clause-welcome
-returns-in-Err-place-clause-welcome g c disks logs s over end replicas few leaves sound = subst (IsWelcome ⊤) (sym c.from.ensures) (place_welcome c.in-Err-place.fault ⊤)
+returns-in-Err-place-clause-welcome g c disks logs s over end replicas leaves sound = subst (IsWelcome ⊤) (sym c.from.ensures) (place_welcome c.in-Err-place.fault ⊤)
 
 pub returns-in-Err-read-clause-caused : goal.returns-in-Err-read-clause-caused
 returns-in-Err-read-clause-caused g c disks logs s over end =
@@ -87,7 +87,7 @@ returns-in-Ok-read-clause-passed g c disks logs s over end =
     read_so before placed inside s g.S.Disk.Disk.tells g.F.Log.LogFile.tells disks logs bytes c.args.end log_is end c.in-Ok-read.kept c.in-Ok-read.ensures.kept
 
 pub returns-in-Err-read-clause-welcome : goal.returns-in-Err-read-clause-welcome
-returns-in-Err-read-clause-welcome g c disks logs s over end replicas few leaves sound =
+returns-in-Err-read-clause-welcome g c disks logs s over end replicas leaves sound =
     let before = g.S.Store.image c.args.store.now in
     let placed = g.S.Store.image c.place.new.self in
     let inside : (disk : DiskName) (b : List ℕ) → placed disk b → before disk b = λ disk. (c.place.ensures.same disks disk).0 in

@@ -25,7 +25,7 @@ returns-in-Ok-true-clause-ends g c =
       invalid = λ logs bad calm. absurd (not_readable told clicks (fit logs) bad);
       words = λ two. omega (arith, two);
       stopped = λ six. absurd (omega (arith, six));
-      welcome = λ disks logs s over replicas few sound leaves. (λ seven. omega (arith, seven), λ nine. omega (arith, nine));
+      welcome = λ disks logs s over replicas sound leaves. (λ seven. omega (arith, seven), λ nine. omega (arith, nine));
       damaged = λ disks logs s over disk taken none calm still. let read = e.passed disks logs s over in absurd (none (kept_are_journals (unasked s) before read.0 disk read.1 taken));
       misplaced = λ disks logs s over other calm still. let read = e.passed disks logs s over in absurd (other read.0 read.1 read.2.places);
       limited = λ disks logs s over at calm still. let read = e.passed disks logs s over in absurd (at read.0 read.1 read.2.limits);
@@ -35,7 +35,7 @@ returns-in-Ok-true-clause-ends g c =
       tells = λ logs sinks calm. inl (refl, refl);
       stays = e.stays;
       sound = e.sound;
-      complete = λ disks logs s over replicas few sound leaves below calm still quiet. inr (inl refl);
+      complete = λ disks logs s over replicas sound leaves below calm still quiet. inr (inl refl);
     }
 
 pub returns-in-Ok-false-clause-ends : goal.returns-in-Ok-false-clause-ends
@@ -55,7 +55,7 @@ returns-in-Ok-false-clause-ends g c =
       invalid = λ logs bad calm. absurd (not_readable told clicks (fit logs) bad);
       words = λ two. omega (arith, two);
       stopped = λ six. absurd (omega (arith, six));
-      welcome = λ disks logs s over replicas few sound leaves. (λ seven. omega (arith, seven), λ nine. omega (arith, nine));
+      welcome = λ disks logs s over replicas sound leaves. (λ seven. omega (arith, seven), λ nine. omega (arith, nine));
       damaged = λ disks logs s over disk taken none calm still. let read = e.passed disks logs s over in absurd (none (kept_are_journals (unasked s) before read.0 disk read.1 taken));
       misplaced = λ disks logs s over other calm still. let read = e.passed disks logs s over in absurd (other read.0 read.1 read.2.places);
       limited = λ disks logs s over at calm still. let read = e.passed disks logs s over in absurd (at read.0 read.1 read.2.limits);
@@ -65,7 +65,7 @@ returns-in-Ok-false-clause-ends g c =
       tells = λ logs sinks calm. inr (inl (refl, refl));
       stays = e.stays;
       sound = e.sound;
-      complete = λ disks logs s over replicas few sound leaves below calm still quiet. inl refl;
+      complete = λ disks logs s over replicas sound leaves below calm still quiet. inl refl;
     }
 
 pub returns-in-Err-clause-ends : goal.returns-in-Err-clause-ends
@@ -87,7 +87,7 @@ returns-in-Err-clause-ends g c =
       invalid = λ logs bad calm. ⊎_elim (λ early. unreadable f early.1 (λ read. calm (e.read.rose read))) (λ late. absurd (not_readable told clicks (late.0 logs) bad)) e.begins;
       words = never_two f own;
       stopped = λ six. let place = place_of f six in e.disks.rose (place.0, ap Err place.1);
-      welcome = λ disks logs s over replicas few sound leaves. fair_status f _ tt (e.welcome disks logs s over replicas few leaves sound);
+      welcome = λ disks logs s over replicas sound leaves. fair_status f _ tt (e.welcome disks logs s over replicas leaves sound);
       damaged = λ disks logs s over disk taken none calm still. damage_told before REPLICAS None (TellsPlaces s) _ ⊥ _ calm still (λ l. l) f (past logs s over) (e.caused disks logs s over) (λ k kept. none (kept_are_journals (unasked s) before k disk kept taken));
       misplaced = λ disks logs s over other calm still. mismatch_told before REPLICAS None (TellsPlaces s) _ ⊥ _ calm still (λ l. l) f (past logs s over) (e.caused disks logs s over) (λ k kept fit. other k kept);
       limited = λ disks logs s over at calm still. limit_told before REPLICAS None (TellsPlaces s) _ ⊥ _ calm still (λ l. l) f (past logs s over) (e.caused disks logs s over) at;
@@ -97,8 +97,8 @@ returns-in-Err-clause-ends g c =
       tells = λ logs sinks calm. inr (inr (f, refl, (names logs, λ disks s over. e.caused disks logs s over), c.give_up.ensures.told sinks calm));
       stays = e.stays;
       sound = e.sound;
-      complete = λ disks logs s over replicas few sound leaves below calm still quiet.
-          inr (inr (ends_well before REPLICAS None (TellsPlaces s) _ ⊥ _ calm still (λ l. l) f (past logs s over) (e.caused disks logs s over) ⊤ tt below (λ is. quiet (e.write.rose (ap Err is))) (e.welcome disks logs s over replicas few leaves sound)));
+      complete = λ disks logs s over replicas sound leaves below calm still quiet.
+          inr (inr (ends_well before REPLICAS None (TellsPlaces s) _ ⊥ _ calm still (λ l. l) f (past logs s over) (e.caused disks logs s over) ⊤ tt below (λ is. quiet (e.write.rose (ap Err is))) (e.welcome disks logs s over replicas leaves sound)));
     })
 
 pub returns-in-Ok-true-clause-answered : goal.returns-in-Ok-true-clause-answered

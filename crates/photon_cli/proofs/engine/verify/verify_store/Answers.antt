@@ -65,7 +65,7 @@ returns-in-Err-clause-caused g c disks logs s over =
     log_caused (g.S.Store.image c.args.store.now) REPLICAS None (TellsPlaces s) faulted ⊥ read c.in-Err.refused Clicks c.in-Err.ensures.fault (λ is. c.in-Err.ensures.count.rose (ap Err is))
 
 pub returns-in-Err-clause-welcome : goal.returns-in-Err-clause-welcome
-returns-in-Err-clause-welcome g c disks logs s over replicas few leaves sound = log_fair c.in-Err.refused Clicks c.in-Err.ensures.fault
+returns-in-Err-clause-welcome g c disks logs s over replicas leaves sound = log_fair c.in-Err.refused Clicks c.in-Err.ensures.fault
 
 pub returns-in-Err-kept_store-clause-caused : goal.returns-in-Err-kept_store-clause-caused
 returns-in-Err-kept_store-clause-caused g c disks logs s over =
@@ -80,12 +80,12 @@ returns-in-Err-kept_store-clause-caused g c disks logs s over =
     later_caused (g.S.Store.image c.args.store.now) REPLICAS None (TellsPlaces s) faulted ⊥ (Rose mid last) (Rose first last) (λ rose. rose_before first mid last c.clicks_in_log.ensures.count.later rose) c.in-Err-kept_store.fault (c.in-Err-kept_store.ensures.caused disks logs s here end)
 
 pub returns-in-Err-kept_store-clause-welcome : goal.returns-in-Err-kept_store-clause-welcome
-returns-in-Err-kept_store-clause-welcome g c disks logs s over replicas few leaves sound =
+returns-in-Err-kept_store-clause-welcome g c disks logs s over replicas leaves sound =
     let told : List ℕ → Option (List ℕ) = g.F.Source.bytes c.args.files.now in
     let clicks = c.args.clicks.now in
     let here = subst (λ (o : Option (List ℕ)). IsSomeAnd o (λ log. IsLogOf log s)) (sym (c.in-Ok.ensures.same logs clicks)) over in
     let end = ends_there (told clicks) s c.in-Ok.checked.lines_end over (c.in-Ok.ensures.end logs) in
-    c.in-Err-kept_store.ensures.welcome disks logs s here end replicas few leaves sound
+    c.in-Err-kept_store.ensures.welcome disks logs s here end replicas leaves sound
 
 pub returns-clause-caused : goal.returns-clause-caused
 returns-clause-caused g c disks logs s over =
