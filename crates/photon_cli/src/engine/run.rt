@@ -96,16 +96,7 @@ where
     means::<S>();
     let CheckedLog { ids, lines_end } = clicks;
     let journals = match run_sites(
-        rt,
-        alloc,
-        config,
-        names,
-        lines_end,
-        files,
-        store,
-        plan,
-        gate,
-        ran,
+        rt, alloc, config, names, lines_end, files, store, plan, gate, ran,
     ) {
         Ok(Outcome { journals }) => journals,
         Err(fault) => return Err(fault),
