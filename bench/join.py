@@ -27,7 +27,7 @@ import sys
 import tempfile
 
 import beside
-from shared import build, bytes_in, has, join_words, last_line, make_logs, run
+from shared import TOP, build, bytes_in, has, join_words, last_line, make_logs, run
 
 JOINERS = (1, 2, 4)
 
@@ -48,7 +48,10 @@ def syncs(words):
 def calls(words, folder):
     """How often a run called some functions: rounds (the bus is asked whether all is quiet once a round) and turns."""
     found, names, called = os.path.join(folder, "calls"), {}, {}
-    subprocess.run(["valgrind", "--tool=callgrind", f"--callgrind-out-file={found}", *words], capture_output=True, check=True)
+    # bin/photon is a script, which valgrind would measure in place of the program.
+    here = ["sh", "-c", 'top=$1; . "$top/bin/sources.sh"; program_here', "sh", TOP]
+    program = subprocess.run(here, capture_output=True, text=True, check=False).stdout.strip() or words[0]
+    subprocess.run(["valgrind", "--tool=callgrind", f"--callgrind-out-file={found}", program, *words[1:]], capture_output=True, check=True)
     callee = None
     with open(found, encoding="utf-8", errors="replace") as file:
         for line in file:
