@@ -3,6 +3,7 @@
 built=$top/crates/photon/out/photon
 released=$top/dist/x86_64-linux/photon
 release=$top/dist/RELEASE
+found=$top/out/released
 
 # Whether the file is a program that is newer than each source.
 is_newest() {
@@ -23,6 +24,12 @@ sources_sum() {
     )
 }
 
+# Prints of each source and of what dist/ has the path, place on the disk, size and times of change, so that each change shows.
+sources_state() {
+    find "$top/crates.txt" "$top/crates" "$release" "$released" -type d -name out -prune -o -type f \( -name crates.txt -o \
+        -name '*.rt' -o -name '*.antt' -o -path "$release" -o -path "$released" \) -printf '%p %i %s %T@ %C@\n' 2>/dev/null
+}
+
 # Prints the SHA-256 of the file, or of standard input.
 file_sum() {
     sha256sum "$@" | cut -d ' ' -f 1
@@ -38,11 +45,15 @@ is_sum() {
     [ "${#1}" -eq 64 ] && [ "$1" = "$2" ]
 }
 
-# Whether the released program was built from just these sources.
+# Whether the released program was built from just these sources. Their sums take a while, so a file keeps the state in which they were right,
+# as it was before they were made.
 is_released() {
-    [ -f "$release" ] && [ -x "$released" ] && [ "$(uname -sm)" = 'Linux x86_64' ] &&
-        is_sum "$(file_sum "$released")" "$(release_says program)" &&
-        is_sum "$(sources_sum)" "$(release_says sources)"
+    [ -f "$release" ] && [ -x "$released" ] && [ "$(uname -sm)" = 'Linux x86_64' ] || return 1
+    state=$(sources_state) || state=
+    [ -n "$state" ] && [ "$state" = "$(cat "$found" 2>/dev/null)" ] && return 0
+    is_sum "$(file_sum "$released")" "$(release_says program)" &&
+        is_sum "$(sources_sum)" "$(release_says sources)" || return 1
+    { mkdir -p "${found%/*}" && printf '%s\n' "$state" >"$found"; } 2>/dev/null || :
 }
 
 # Prints the program of these sources: the one that was built here, where that is newer than they are, else the released one.
