@@ -1,7 +1,8 @@
 -- What a store knows of the lines that it has read.
 use Rattle.std.specs.Prelude.{ℕ, ◌≡◌, List, [], length, Option, Some, None, MatchOption, IfSome}
 use Rattle.std.specs.Option.{option_or}
-use Rattle.std.specs.BTreeMap.{get}
+use Rattle.std.specs.BTreeMap.{get, is_at}
+use Rattle.std.specs.Map.{lookup}
 use Rattle.event_id.specs.declared.id.EventId.{EventId}
 use Rattle.event_id.specs.EventId.{id_cmp}
 use Rattle.log_records.specs.declared.records.QueryRec.{QueryRec}
@@ -25,7 +26,7 @@ pub record Knows (log : List ℕ) (place : ℕ) (index : Index) (lines : List (O
 
 -- the place that is at hand for an id
 abbrev pub at_hand : Recent → EventId → Option ℕ
-at_hand recent id = option_or (get id_cmp recent.newer id) (get id_cmp recent.older id)
+at_hand recent id = option_or (get id_cmp recent.newer id) (lookup (is_at (id_cmp id)) recent.older.items)
 
 -- each place at hand is that of the first line with the id
 abbrev pub IsCache : (EventId → Option ℕ) → List Mark → Type 0

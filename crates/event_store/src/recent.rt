@@ -1,24 +1,30 @@
 // The places at hand.
-ghost use Rattle.std.specs.Prelude.{◌≡◌, List, Some, None, IsTrue};
+ghost use Rattle.std.specs.Prelude.{◌≡◌, List, Some, None, IfSome, IsTrue};
+ghost use Rattle.std.specs.BTreeMap.{get, is_at};
+ghost use Rattle.std.specs.Map.{lookup, keys_of};
+ghost use Rattle.std.specs.List.Sorted.{IsStrictlySortedBy};
+ghost use Rattle.std.proofs.lemmas.Map.Keys.{IsStrictlySortedBy-prop};
+ghost use Rattle.event_id.specs.declared.id.EventId.{EventId as Id};
+ghost use Rattle.event_id.specs.EventId.{id_cmp};
 
 use event_id::EventId;
 use std::alloc::Global;
 use std::collections::BTreeMap;
-use std::mem::swap;
 
 /// Places of lines by their ids, in two generations.
 ///
 /// A place goes to the younger one. Once that has half of the most, it takes the place of the older one, which goes. So
-/// those that were put last are at hand, at least half of the most of them.
+/// those that were put last are at hand, at least half of the most of them. The older one never changes, and is a list in the
+/// order of the ids, which takes half of the memory of a map.
 #[derive(Drop)]
 pub(crate) struct Recent {
     newer: BTreeMap<EventId, u64>,
-    older: BTreeMap<EventId, u64>,
+    older: Vec<(EventId, u64)>,
     half: usize,
+    ghost rises: { IsStrictlySortedBy id_cmp (keys_of older.items) } by { IsStrictlySortedBy-prop id_cmp (keys_of older.items) },
 }
 
 impl Recent {
-    ghost use Rattle.event_id.specs.declared.id.EventId.{EventId as Id};
     ghost use Rattle.event_store.specs.Marks.{Mark as Seen, place_of};
     ghost use Rattle.event_store.specs.Held.{IsCache, at_hand};
 
@@ -28,7 +34,7 @@ impl Recent {
     {
         Recent {
             newer: BTreeMap::new(alloc),
-            older: BTreeMap::new(alloc),
+            older: Vec::new(alloc),
             half: most as usize / 2,
         }
     }
@@ -50,7 +56,7 @@ impl Recent {
         ensures { (marks : List Seen) → IsCache (at_hand self.old) marks → IsCache (at_hand self.new) marks }
     {
         if self.newer.len() >= self.half {
-            swap(&mut self.newer, &mut self.older);
+            list(&self.newer, &mut self.older);
             self.newer.clear();
         }
     }
@@ -59,6 +65,34 @@ impl Recent {
     pub(crate) fn recall(&self, id: EventId) -> Option<u64>
         ensures { result ≡ at_hand self.now id }
     {
-        self.newer.get(&id).or(self.older.get(&id)).copied()
+        match self.newer.get(&id) {
+            Some(place) => Some(*place),
+            None => listed(&self.older, id),
+        }
+    }
+}
+
+// Puts the map's entries into the list, in their order and in place of its own; none where there is no memory for them.
+fn list(map: &BTreeMap<EventId, u64>, places: &mut Vec<(EventId, u64)>)
+    ensures rises { IsStrictlySortedBy id_cmp (keys_of places.new.items) }
+    ensures kept { (id : Id) → IfSome (lookup (is_at (id_cmp id)) places.new.items) (λ s. get id_cmp map.now id ≡ Some s) }
+{
+    places.clear();
+    if places.reserve_exact(map.len()).is_err() {
+        return;
+    }
+    for (id, place) in map {
+        places.push_reserved((*id, *place));
+    }
+}
+
+// The place of the id in a list in the order of the ids. Logarithmic time.
+fn listed(places: &[(EventId, u64)], id: EventId) -> Option<u64>
+    requires { IsStrictlySortedBy id_cmp (keys_of places.now) }
+    ensures { result ≡ lookup (is_at (id_cmp id)) places.now }
+{
+    match places.binary_search_by_key(&id, |place| place.0) {
+        Ok(at) => Some(places[at].1),
+        Err(_) => None,
     }
 }
