@@ -9,21 +9,33 @@ use std::alloc::{AllocError, Global};
 use turn_defs::Packet;
 use wire_core::Bytes;
 
-// The room that is made at first.
-const ROOM: usize = 64;
-
 /// The one spelling of a packet that has one: its numbers are in the ranges of its fields, its text has at most 200
-/// printable bytes, its batch at most 64 inserts. Linear in the spelling. The first allocation is for 64 bytes, which all
-/// packets have room in but those with a longer text or with inserts of a batch; past it the room is doubled.
+/// printable bytes, its batch at most 64 inserts. Linear in the spelling, by one allocation.
 ///
 /// A packet is a byte that tells its kind, and its fields in order.
 pub fn encode(alloc: Global, sent: &Packet) -> Result<Bytes, AllocError>
     requires { IsPacket sent.now }
     ensures { IfOk result (λ bytes. bytes ≡ packet sent.now) }
 {
-    let mut to = Bytes::with_capacity(alloc, ROOM)?;
+    let mut to = Bytes::with_capacity(alloc, room(sent))?;
     put_packet(sent, &mut to)?;
     Ok(to)
+}
+
+// No fewer bytes than the spelling has.
+fn room(sent: &Packet) -> usize
+    requires { IsPacket sent.now }
+{
+    match sent {
+        Packet::Join { click, .. } => 42 + click.text.as_bytes().len(),
+        Packet::Promise {
+            prior: Some((_, batch)),
+            ..
+        } => 46 + 30 * batch.inserts.as_slice().len(),
+        Packet::Accept { batch, .. } => 32 + 30 * batch.inserts.as_slice().len(),
+        Packet::Chosen { batch, .. } => 19 + 30 * batch.inserts.as_slice().len(),
+        _ => 46,
+    }
 }
 
 // Puts the spelling behind the other bytes. After an error a front of it may stand there.
