@@ -1,7 +1,7 @@
 -- What a reader of a checked log finds where a line starts, or where the last one ends.
-use Rattle.std.proofs.Common.{◌≡◌, ◌⊎◌, inl, inr, ⊎_elim, ℕ, suc, ◌+◌, ◌<◌, ◌≤◌, ◌^◌, List, [], ◌∷◌, ◌++◌, length, drop, Option, Some, None, refl, sym, ap, ◌∙◌, subst, arith}
+use Rattle.std.proofs.Common.{◌≡◌, ◌⊎◌, inl, inr, ⊎_elim, ℕ, suc, ◌+◌, ◌<◌, ◌≤◌, List, [], ◌∷◌, ◌++◌, length, drop, Option, Some, None, refl, sym, ap, ◌∙◌, subst, arith}
 use Rattle.std.specs.Prelude.{Result, IfOk}
-use Rattle.dispatch_node.proofs.Words.{AllByRecursion, drop-append_seam, take_all, Lacks, split_same, lacks_none, Mem, Click, click_line, IsClick, line_feed, ClickLine, at, placed, end_from, Follow, click_right, click_lacks, at_mem, at_own, within_end, lines_follow, lines_stand, lines_end, IfOk-weaker, behind, IsNext, Next, Line, Long, NodeFault, IsLineAt, TakenLine, Setting, IsLogOf, IsReadable}
+use Rattle.dispatch_node.proofs.Words.{MAX_LINE, MAX_LOG, AllByRecursion, drop-append_seam, take_all, Lacks, split_same, lacks_none, Mem, Click, click_line, IsClick, line_feed, ClickLine, at, placed, end_from, Follow, click_right, click_lacks, at_mem, at_own, within_end, lines_follow, lines_stand, lines_end, IfOk-weaker, behind, IsNext, Next, Line, Long, NodeFault, IsLineAt, TakenLine, Setting, IsLogOf, IsReadable}
 use Rattle.log_records.specs.declared.why.Why.TheVariants as why
 use Rattle.tail_reader.specs.declared.tail.Next.TheVariants.{End}
 
@@ -31,9 +31,9 @@ placed_click p [] l all m = absurd m
 placed_click p (c ∷ cs) l all (inl e) = subst (λ (y : ClickLine). IsClick y.click) e all.0
 placed_click p (c ∷ cs) l all (inr m) = placed_click (suc (p + length (click_line c))) cs l all.1 m
 
-cut : (log front rest : List ℕ) (p : ℕ) → length log ≤ 2 ^ 40 → log ≡ front ++ rest → length front ≡ p → behind log p ≡ rest
+cut : (log front rest : List ℕ) (p : ℕ) → length log ≤ MAX_LOG → log ≡ front ++ rest → length front ≡ p → behind log p ≡ rest
 cut log front rest p short e len =
-    ap (drop p) (take_all (2 ^ 40) log short ∙ e) ∙ ap (λ (n : ℕ). drop n (front ++ rest)) (sym len) ∙ drop-append_seam front rest
+    ap (drop p) (take_all MAX_LOG log short ∙ e) ∙ ap (λ (n : ℕ). drop n (front ++ rest)) (sym len) ∙ drop-append_seam front rest
 
 -- a line that starts at p
 record IsStart (log : List ℕ) (g : Setting) (p : ℕ) (l : ClickLine) : Type 0 where
@@ -79,7 +79,7 @@ line_found log g p e line rest is readable end_ lacks bytes = ⊎_elim starts en
     ends : p ≡ end_from 0 g.clicks → (c : Click) × IsClick c × (line ≡ click_line c) × (at g.clicks p ≡ Some (record { place = p; end_ = e; click = c }))
     ends at_end = absurd (lacks_none line_feed line rest (subst (λ (b : List ℕ). Lacks line_feed b) bytes (end_lacks log g p is at_end)))
 
-pub no_long : (log : List ℕ) (g : Setting) (p : ℕ) (long rest : List ℕ) → IsLogOf log g → IsReadable g p → 296 < length long → Lacks line_feed long → behind log p ≡ long ++ line_feed ∷ rest → ⊥
+pub no_long : (log : List ℕ) (g : Setting) (p : ℕ) (long rest : List ℕ) → IsLogOf log g → IsReadable g p → MAX_LINE < length long → Lacks line_feed long → behind log p ≡ long ++ line_feed ∷ rest → ⊥
 no_long log g p long rest is readable more lacks bytes =
     let c = line_found log g p (p + length long + 1) long rest is readable refl lacks bytes in
     click_right long c.0 why.TooLong c.1 c.2 (inl (λ le. absurd (omega (arith, le, more)), refl))

@@ -30,6 +30,8 @@ pub use Rattle.log_records.proofs.Reading.{click_lacks}
 pub use Rattle.log_records.specs.Line.{IsClick, click_line}
 pub use Rattle.log_records.specs.Lines.{ClickLine, Follow, IsBoundary, at, end_from, placed}
 pub use Rattle.log_records.specs.Log.{line_feed}
+pub use Rattle.log_records.specs.declared.check.TheConstants.{MAX_LOG}
+pub use Rattle.log_records.specs.declared.lines.TheConstants.{MAX_LINE}
 pub use Rattle.log_records.specs.declared.records.ClickRec.{ClickRec as Click}
 pub use Rattle.outside.specs.Disk.{Throughout}
 pub use Rattle.retry_log.specs.Pending.{KeepsOr}

@@ -1,6 +1,7 @@
 -- The places of the click log that a dispatcher keeps and knows: of each it can read what stands there.
-use Rattle.std.specs.Prelude.{◌≡◌, ◌⊎◌, ℕ, ◌^◌, ◌≤◌, true, List, length, Some}
+use Rattle.std.specs.Prelude.{◌≡◌, ◌⊎◌, ℕ, ◌≤◌, true, List, length, Some}
 use Rattle.list_words.specs.Lists.{Each, has}
+use Rattle.log_records.specs.declared.check.TheConstants.{MAX_LOG}
 use Rattle.log_records.specs.Lines.{ClickLine, at, HoldsLines, IsBoundary}
 use Rattle.turn_defs.specs.Setting.{Setting}
 use Rattle.turn_defs.specs.Dispatcher.{DispatcherKept, DispatcherLive, Fresh}
@@ -8,7 +9,7 @@ use Rattle.turn_defs.specs.Dispatcher.{DispatcherKept, DispatcherLive, Fresh}
 -- the log was checked, and its lines are the setting's clicks
 pub record IsLogOf (log : List ℕ) (g : Setting) : Type 0 where
   pub lines : HoldsLines log g.clicks
-  pub short : length log ≤ 2 ^ 40
+  pub short : length log ≤ MAX_LOG
 
 -- a line starts at p
 abbrev pub StartsAt : Setting → ℕ → Type 0

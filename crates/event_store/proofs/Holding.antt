@@ -1,6 +1,6 @@
 -- What a store holds, after a call.
 use Rattle.std.proofs.Common.{◌≡◌, ℕ, ◌+◌, ◌-◌, ◌^◌, ◌≤◌, min, true, false, List, [], ◌∷◌, length, take, length-drop, length-take, length-append, Result, Ok, Err, OnOk, OnErr, is_err, Option, Some, None, IfSome, refl, sym, ap, subst, arith}
-use Rattle.event_store.proofs.Words.{props, both_ways, line_feed, ∥∥₁_elim, ∥∥₁_map, EventId, QueryRec, Index, ReadsNext, AreRead, found, entries_among, entries_of, Mark, Keeps, place_of, ids_of, Knows, IsCache, Holds}
+use Rattle.event_store.proofs.Words.{MAX_LOG, props, both_ways, line_feed, ∥∥₁_elim, ∥∥₁_map, EventId, QueryRec, Index, ReadsNext, AreRead, found, entries_among, entries_of, Mark, Keeps, place_of, ids_of, Knows, IsCache, Holds}
 use Rattle.event_store.proofs.Walks.{walk_same, walk_beyond}
 
 -- nothing is read yet, and nothing is at hand
@@ -54,16 +54,16 @@ on_ok (Ok x) e p = p
 on_ok (Err x) e p = absurd (both_ways true e refl)
 
 -- a line ends below the limit of what is read
-pub end_fits : (log : List ℕ) (place e : ℕ) (r : Option QueryRec) → ReadsNext log place e r → e ≤ 2 ^ 40
+pub end_fits : (log : List ℕ) (place e : ℕ) (r : Option QueryRec) → ReadsNext log place e r → e ≤ MAX_LOG
 end_fits log place e r (line, rest, is, lacks, ends, reads) =
     let whole = ap length is in
-    let back = length-drop place (take (2 ^ 40) log) in
-    let front = length-take (2 ^ 40) log in
+    let back = length-drop place (take MAX_LOG log) in
+    let front = length-take MAX_LOG log in
     let parts = length-append line (line_feed ∷ rest) in
     omega (arith, whole, back, front, parts, ends)
 
 -- the count of one line more
-pub one_more : (log : List ℕ) (place count n : ℕ) (index : Index) (kept : EventId → Option ℕ) → Holds log place (count + 1) index kept → place ≤ 2 ^ 40 → n ≡ min (count + 1) (2 ^ 64 - 1) → Holds log place n index kept
+pub one_more : (log : List ℕ) (place count n : ℕ) (index : Index) (kept : EventId → Option ℕ) → Holds log place (count + 1) index kept → place ≤ MAX_LOG → n ≡ min (count + 1) (2 ^ 64 - 1) → Holds log place n index kept
 one_more log place count n index kept h le is =
     let l = count_fits log place (count + 1) index kept h in
     let same : count + 1 ≡ n = omega (arith, l, le, is) in

@@ -16,9 +16,11 @@ pub use Rattle.list_words.specs.Bytes.{Lacks}
 pub use Rattle.log_records.proofs.Grammar.{query_same}
 pub use Rattle.log_records.proofs.Reading.{query_lacks}
 pub use Rattle.log_records.specs.Line.{IsQuery, query_line, space}
-pub use Rattle.log_records.specs.Log.{first}
+pub use Rattle.log_records.specs.Log.{first, line_feed}
 pub use Rattle.log_records.specs.Rows.{one_query}
 pub use Rattle.log_records.specs.Text.{IsPrintable}
+pub use Rattle.log_records.specs.declared.check.TheConstants.{MAX_LOG}
+pub use Rattle.log_records.specs.declared.lines.TheConstants.{MAX_LINE}
 pub use Rattle.log_records.specs.declared.records.QueryRec.{QueryRec, QueryRec as Query}
 pub use Rattle.std.proofs.Math.Dec.{lit≤}
 pub use Rattle.std.proofs.Props.{props}
@@ -36,7 +38,7 @@ pub use Rattle.std.specs.List.{list_any}
 pub use Rattle.std.specs.Map.{lookup}
 pub use Rattle.std.specs.Option.{option_or}
 pub use Rattle.std.specs.Ordering.{ordering_then}
-pub use Rattle.tail_reader.specs.Buffered.{behind, line_feed}
+pub use Rattle.tail_reader.specs.Buffered.{behind}
 pub use Rattle.tail_reader.specs.Next.{IsNext}
 pub use Rattle.tail_reader.specs.declared.tail.Next.TheVariants.{Line, Long}
 pub use mathlib.Core.Logic.{∥∥₁_elim, ∥∥₁_map}

@@ -3,7 +3,8 @@ use Rattle.std.specs.Prelude.{ℕ, ◌≡◌, ◌≢◌, ◌+◌, List, [], ◌�
 use Rattle.list_words.specs.Bytes.{Lacks}
 use Rattle.log_records.specs.declared.records.QueryRec.{QueryRec}
 use Rattle.log_records.specs.Line.{query_line, IsQuery}
-use Rattle.tail_reader.specs.Buffered.{line_feed, behind}
+use Rattle.log_records.specs.Log.{line_feed}
+use Rattle.tail_reader.specs.Buffered.{behind}
 
 -- what a line counts as: its record, or none where it is refused
 abbrev pub ReadsAs : List ℕ → Option QueryRec → Type 0

@@ -8,14 +8,14 @@ use Rattle.list_words.specs.Bytes.{Lacks}
 use Rattle.list_words.proofs.Splits.{split_same, lacks_none}
 use Rattle.event_id.specs.declared.id.EventId.{EventId}
 use Rattle.event_id.specs.EventId.{is_same}
+use Rattle.log_records.specs.declared.check.TheConstants.{MAX_LOG}
 use Rattle.log_records.specs.declared.records.QueryRec.{QueryRec as Query}
 use Rattle.log_records.specs.Line.{query_line, IsQuery}
-use Rattle.log_records.specs.Log.{first, whole, HasLines}
+use Rattle.log_records.specs.Log.{first, line_feed, whole, HasLines}
 use Rattle.log_records.specs.Check.{IsQueryLog}
 use Rattle.log_records.proofs.Grammar.{query_same}
 use Rattle.log_records.proofs.Reading.{one_more, query_lacks}
-use Rattle.tail_reader.specs.declared.scan.TheConstants.{LIMIT}
-use Rattle.tail_reader.specs.Buffered.{line_feed, behind}
+use Rattle.tail_reader.specs.Buffered.{behind}
 use Rattle.event_store.specs.Found.{records, found}
 use Rattle.event_store.specs.Read.{ReadsAs, ReadsNext, ReadsLines, AreRead, IsAtEnd}
 use Rattle.joiner_node.specs.Read.{HasRead}
@@ -47,7 +47,7 @@ starts log qs is = record {
   all = refl;
   so_far = refl;
   each = is.0.each;
-  behind_them = subst (λ (b : List ℕ). HasLines b (map query_line qs)) (sym (take_all LIMIT log is.1)) is.0.lines;
+  behind_them = subst (λ (b : List ℕ). HasLines b (map query_line qs)) (sym (take_all MAX_LOG log is.1)) is.0.lines;
 }
 
 -- a log of the same bytes, read up to the same place
@@ -85,7 +85,7 @@ behind_more : (log line rest : List ℕ) (place end_ : ℕ) → behind log place
 behind_more log line rest place end_ is counts =
     let at : end_ ≡ place + (length line + 1) = omega (arith, counts) in
     let front : length (line ++ line_feed ∷ []) ≡ length line + 1 = length-append line (line_feed ∷ []) in
-    ap (λ (n : ℕ). drop n (take LIMIT log)) at ∙ sym (drop-drop (length line + 1) place (take LIMIT log)) ∙ ap (drop (length line + 1)) (is ∙ sym (append_assoc line (line_feed ∷ []) rest)) ∙ drop_at (line ++ line_feed ∷ []) rest (length line + 1) front
+    ap (λ (n : ℕ). drop n (take MAX_LOG log)) at ∙ sym (drop-drop (length line + 1) place (take MAX_LOG log)) ∙ ap (drop (length line + 1)) (is ∙ sym (append_assoc line (line_feed ∷ []) rest)) ∙ drop_at (line ++ line_feed ∷ []) rest (length line + 1) front
 
 -- one line more behind those read
 reads_more : (log : List ℕ) (from place end_ : ℕ) (lines : List (Option Query)) (r : Option Query) → ReadsLines log from place lines → ReadsNext log place end_ r → ReadsLines log from end_ (lines ++ r ∷ [])

@@ -7,6 +7,7 @@ use Rattle.list_words.specs.Bytes.{Lacks}
 use Rattle.event_id.specs.EventId.{spell, IsId}
 use Rattle.list_words.proofs.Splits.{position_at, split_same}
 use Rattle.event_id.proofs.Spelling.{spell_same, spell_lacks, length-spell-le}
+use Rattle.log_records.specs.declared.lines.TheConstants.{MAX_LINE}
 use Rattle.log_records.specs.declared.records.QueryRec.{QueryRec}
 use Rattle.log_records.specs.declared.records.ClickRec.{ClickRec}
 use Rattle.log_records.specs.declared.why.Why.{Why}
@@ -104,20 +105,20 @@ click_parts_are line id query front rest middle text e f is is-query h = (
 -- ---- the first that is wrong
 
 -- what is wrong with the text is wrong with the line, where all before it is right
-pub wrong_text : (line text : List ℕ) (w : Why) → length line ≤ 296 → Contains line space → IsIdText (head line) → text ≡ tail line → TextWhy text w → QueryWhy line w
+pub wrong_text : (line text : List ℕ) (w : Why) → length line ≤ MAX_LINE → Contains line space → IsIdText (head line) → text ≡ tail line → TextWhy text w → QueryWhy line w
 wrong_text line text w long some id e wrong = inr (long, inr (some, inr (id, subst (λ t. TextWhy t w) e wrong)))
 
-pub wrong_id : (line bytes : List ℕ) (w : Why) → length line ≤ 296 → Contains line space → bytes ≡ head line → (w ≡ why.Id) × (IsIdText bytes → ⊥) → QueryWhy line w
+pub wrong_id : (line bytes : List ℕ) (w : Why) → length line ≤ MAX_LINE → Contains line space → bytes ≡ head line → (w ≡ why.Id) × (IsIdText bytes → ⊥) → QueryWhy line w
 wrong_id line bytes w long some e wrong = inr (long, inr (some, inl (subst (λ b. IsIdText b → ⊥) e wrong.1, wrong.0)))
 
 abbrev pub SpacedTwice : List ℕ → Type 0
 SpacedTwice line = Contains line space × Contains (tail line) space
 
-pub wrong_click_text : (line text : List ℕ) (w : Why) → length line ≤ 296 → SpacedTwice line → IsIdText (head line) → IsIdText (head (tail line)) → text ≡ tail (tail line) → TextWhy text w → ClickWhy line w
+pub wrong_click_text : (line text : List ℕ) (w : Why) → length line ≤ MAX_LINE → SpacedTwice line → IsIdText (head line) → IsIdText (head (tail line)) → text ≡ tail (tail line) → TextWhy text w → ClickWhy line w
 wrong_click_text line text w long some id query e wrong = inr (long, inr (some, inr (id, inr (query, subst (λ t. TextWhy t w) e wrong))))
 
-pub wrong_click_id : (line bytes : List ℕ) (w : Why) → length line ≤ 296 → SpacedTwice line → bytes ≡ head line → (w ≡ why.Id) × (IsIdText bytes → ⊥) → ClickWhy line w
+pub wrong_click_id : (line bytes : List ℕ) (w : Why) → length line ≤ MAX_LINE → SpacedTwice line → bytes ≡ head line → (w ≡ why.Id) × (IsIdText bytes → ⊥) → ClickWhy line w
 wrong_click_id line bytes w long some e wrong = inr (long, inr (some, inl (subst (λ b. IsIdText b → ⊥) e wrong.1, wrong.0)))
 
-pub wrong_query_id : (line bytes : List ℕ) (w : Why) → length line ≤ 296 → SpacedTwice line → IsIdText (head line) → bytes ≡ head (tail line) → (w ≡ why.QueryId) × (IsIdText bytes → ⊥) → ClickWhy line w
+pub wrong_query_id : (line bytes : List ℕ) (w : Why) → length line ≤ MAX_LINE → SpacedTwice line → IsIdText (head line) → bytes ≡ head (tail line) → (w ≡ why.QueryId) × (IsIdText bytes → ⊥) → ClickWhy line w
 wrong_query_id line bytes w long some id e wrong = inr (long, inr (some, inr (id, inl (subst (λ b. IsIdText b → ⊥) e wrong.1, wrong.0))))

@@ -7,9 +7,10 @@ use Rattle.event_id.specs.declared.id.EventId.{EventId}
 use Rattle.log_records.specs.declared.why.Why.{Why}
 use Rattle.log_records.specs.declared.why.Why.TheVariants as why
 use Rattle.log_records.specs.declared.check.BadLine.{BadLine}
+use Rattle.log_records.specs.declared.check.TheConstants.{MAX_LOG}
 use Rattle.log_records.specs.Line.{OrMemory}
 use Rattle.log_records.specs.Log.{line_feed, whole, AreRecords}
-use Rattle.log_records.specs.Check.{limit, IsLog, AfterWhy, Refuses}
+use Rattle.log_records.specs.Check.{IsLog, AfterWhy, Refuses}
 use Rattle.log_records.specs.Seen.{Seen, Keeps}
 use Rattle.log_records.proofs.FirstLines.{keeps_one}
 
@@ -17,7 +18,7 @@ module _ {R : Type 0} (line_of : R → List ℕ) (IsRecord : R → Type 0) (id_o
   -- the lines before the rest are these records, and the map has them
   pub record SoFar (log rest : List ℕ) (seen : Seen) (rs : List R) : Type 0 where
     pub bytes : log ≡ whole (map line_of rs) ++ rest
-    pub fits : length (whole (map line_of rs)) ≤ limit
+    pub fits : length (whole (map line_of rs)) ≤ MAX_LOG
     pub each : AllByRecursion IsRecord rs
     pub keeps : Keeps line_of id_of seen rs
 
@@ -35,13 +36,13 @@ module _ {R : Type 0} (line_of : R → List ℕ) (IsRecord : R → Type 0) (id_o
     sound : AreRecords line_of IsRecord id_of rs
     sound = record { each = so_far.each; one = keeps_one line_of id_of seen rs so_far.keeps }
 
-    pub number_fits : length rs ≤ limit
+    pub number_fits : length rs ≤ MAX_LOG
     number_fits = omega (arith, length-lines rs, so_far.fits)
 
-    pub ends : Lacks line_feed rest → length log ≤ limit → IsLog line_of IsRecord id_of log rs
+    pub ends : Lacks line_feed rest → length log ≤ MAX_LOG → IsLog line_of IsRecord id_of log rs
     ends none short = record { lines = (rest, so_far.bytes, none); records = sound; fits = short }
 
-    pub too_big : Lacks line_feed rest → limit < length log → Refuses line_of IsRecord id_of LineWhy log (record { line = length rs + 1; why = why.TooBig })
+    pub too_big : Lacks line_feed rest → MAX_LOG < length log → Refuses line_of IsRecord id_of LineWhy log (record { line = length rs + 1; why = why.TooBig })
     too_big none long = record { earlier = rs; records = sound; fits = so_far.fits; number = refl; told = inr (rest, so_far.bytes, none, long, refl) }
 
     -- a line is next
@@ -52,7 +53,7 @@ module _ {R : Type 0} (line_of : R → List ℕ) (IsRecord : R → Type 0) (id_o
       pub end_is : length log ≡ length (whole (map line_of rs)) + length line + 1 + length after
       end_is = omega (arith, ap length bytes_next, length-append (whole (map line_of rs)) (line ++ line_feed ∷ after), length-append line (line_feed ∷ after))
 
-      pub line_too_big : Lacks line_feed line → limit < length log - length after → Refuses line_of IsRecord id_of LineWhy log (record { line = length rs + 1; why = why.TooBig })
+      pub line_too_big : Lacks line_feed line → MAX_LOG < length log - length after → Refuses line_of IsRecord id_of LineWhy log (record { line = length rs + 1; why = why.TooBig })
       line_too_big none long = record {
         earlier = rs;
         records = sound;
@@ -61,7 +62,7 @@ module _ {R : Type 0} (line_of : R → List ℕ) (IsRecord : R → Type 0) (id_o
         told = inl (line, after, bytes_next, none, inl (λ lt. absurd (omega (arith, end_is)), refl));
       }
 
-      pub line_bad : (w : Why) → Lacks line_feed line → length log - length after ≤ limit → OrMemory (AfterWhy line_of IsRecord id_of LineWhy rs line) w → (w ≡ why.Memory) ⊎ Refuses line_of IsRecord id_of LineWhy log (record { line = length rs + 1; why = w })
+      pub line_bad : (w : Why) → Lacks line_feed line → length log - length after ≤ MAX_LOG → OrMemory (AfterWhy line_of IsRecord id_of LineWhy rs line) w → (w ≡ why.Memory) ⊎ Refuses line_of IsRecord id_of LineWhy log (record { line = length rs + 1; why = w })
       line_bad w none short (inl memory) = inl memory
       line_bad w none short (inr told) =
           inr (record {

@@ -12,9 +12,10 @@ use Rattle.log_records.specs.declared.records.ClickRec.{ClickRec}
 use Rattle.log_records.specs.declared.why.Why.{Why}
 use Rattle.log_records.specs.declared.why.Why.TheVariants as why
 use Rattle.log_records.specs.declared.check.BadLine.{BadLine}
+use Rattle.log_records.specs.declared.check.TheConstants.{MAX_LOG}
 use Rattle.log_records.specs.Line.{query_line, click_line, IsQuery, IsClick, QueryWhy, ClickWhy}
 use Rattle.log_records.specs.Log.{line_feed, whole, Holds}
-use Rattle.log_records.specs.Check.{limit, IsLog, AfterWhy, NextWhy, Refuses, IsQueryLog, IsClickLog, RefusesQuery, RefusesClick}
+use Rattle.log_records.specs.Check.{IsLog, AfterWhy, NextWhy, Refuses, IsQueryLog, IsClickLog, RefusesQuery, RefusesClick}
 use Rattle.log_records.proofs.Grammar.{query_same, click_same, query_right, click_right}
 use Rattle.log_records.proofs.Reading.{one_more, query_lacks, click_lacks}
 
@@ -47,7 +48,7 @@ module _ {R : Type 0} (line_of : R → List ℕ) (IsRecord : R → Type 0) (id_o
         let among : Contains (s ∷ ss) s = (0, omega arith, refl) in
         (s, among, (split_same line_feed line after (line_of s) (whole (map line_of ss) ++ rest) whole_line (lacks s (valid s among)) (e ∙ one_more (line_of s) (map line_of ss) rest)).0)
 
-    module _ (log : List ℕ) (all : List R) (h : Holds line_of IsRecord id_of log all) (fits : length log ≤ limit) (earlier : List R) (each : AllByRecursion IsRecord earlier) where
+    module _ (log : List ℕ) (all : List R) (h : Holds line_of IsRecord id_of log all) (fits : length log ≤ MAX_LOG) (earlier : List R) (each : AllByRecursion IsRecord earlier) where
       -- nothing is wrong with a line of the log
       line_right : (line after : List ℕ) (w : Why) → log ≡ whole (map line_of earlier) ++ (line ++ line_feed ∷ after) → Lacks line_feed line → AfterWhy line_of IsRecord id_of LineWhy earlier line w → ⊥
       line_right line after w e whole_line told =
@@ -72,7 +73,7 @@ module _ {R : Type 0} (line_of : R → List ℕ) (IsRecord : R → Type 0) (id_o
       next_right w (inr (line, e, none, big, told)) = absurd (omega arith)
 
     -- so no line of a log of records is refused
-    pub none_refused : (log : List ℕ) (all : List R) (bad : BadLine) → Holds line_of IsRecord id_of log all → length log ≤ limit → Refuses line_of IsRecord id_of LineWhy log bad → ⊥
+    pub none_refused : (log : List ℕ) (all : List R) (bad : BadLine) → Holds line_of IsRecord id_of log all → length log ≤ MAX_LOG → Refuses line_of IsRecord id_of LineWhy log bad → ⊥
     none_refused log all bad h fits refused = next_right log all h fits refused.earlier refused.records.each bad.why refused.told
 
 pub queries_right : (log : List ℕ) (qs : List QueryRec) (bad : BadLine) → IsQueryLog log qs → RefusesQuery log bad → ⊥

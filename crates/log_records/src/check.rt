@@ -1,5 +1,6 @@
 // Whole logs.
-ghost use Rattle.std.specs.Prelude.{◌≡◌, ◌⊎◌, ◌+◌, ◌≤◌, ◌^◌, ℕ, List, length, IfOk, IfErr, MatchResult};
+ghost use Rattle.std.specs.Prelude.{◌≡◌, ◌⊎◌, ◌+◌, ◌≤◌, ℕ, List, length, IfOk, IfErr, MatchResult};
+ghost use Rattle.log_records.specs.declared.check.TheConstants.{MAX_LOG};
 ghost use Rattle.log_records.specs.declared.why.Why.TheVariants as why;
 ghost use Rattle.log_records.specs.declared.records.QueryRec.{QueryRec as Query};
 ghost use Rattle.log_records.specs.declared.records.ClickRec.{ClickRec as Click};
@@ -13,7 +14,7 @@ use std::alloc::Global;
 use std::collections::BTreeMap;
 
 /// A log has at most so many bytes.
-pub const MAX_LOG: usize = 1 << 40;
+pub const MAX_LOG: u64 = 1 << 40;
 
 /// The first line of a log that is refused.
 #[derive(Clone, Copy, Debug, PartialEq, Eq)]
@@ -56,7 +57,7 @@ fn count<R: Record>(alloc: Global, log: &[u8]) -> Result<u64, BadLine>
     let mut lines = 0;
     let mut rest = log;
     while let Some((line, after)) = split_once(rest, b'\n') {
-        if log.len() - after.len() > MAX_LOG {
+        if (log.len() - after.len()) as u64 > MAX_LOG {
             return Err(bad(lines, Why::TooBig));
         }
         if let Err(why) = accept::<R>(&mut seen, line) {
@@ -65,7 +66,7 @@ fn count<R: Record>(alloc: Global, log: &[u8]) -> Result<u64, BadLine>
         lines += 1;
         rest = after;
     }
-    if log.len() > MAX_LOG {
+    if log.len() as u64 > MAX_LOG {
         return Err(bad(lines, Why::TooBig));
     }
     Ok(lines as u64)
@@ -73,7 +74,7 @@ fn count<R: Record>(alloc: Global, log: &[u8]) -> Result<u64, BadLine>
 
 // The line behind so many.
 fn bad(lines: usize, why: Why) -> BadLine
-    requires { lines ≤ 2 ^ 40 }
+    requires { lines ≤ MAX_LOG }
     ensures { result ≡ record { line = lines + 1; why = why } }
 {
     BadLine {

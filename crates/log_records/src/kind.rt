@@ -1,6 +1,7 @@
 // The two kinds of record, as the check of a log sees them.
 ghost use Rattle.std.specs.Prelude.{◌≡◌, ◌<◌, ℕ, List, length, IfOk, IfErr};
 ghost use Rattle.event_id.specs.declared.id.EventId.{EventId as Id};
+ghost use Rattle.log_records.specs.declared.lines.TheConstants.{MAX_LINE};
 ghost use Rattle.log_records.specs.declared.why.Why.{Why as WhyOf};
 ghost use Rattle.log_records.specs.declared.why.Why.TheVariants as why;
 ghost use Rattle.log_records.specs.Line.{query_line, click_line, IsQuery, IsClick, QueryWhy, ClickWhy};
@@ -27,9 +28,9 @@ pub trait Record: Drop {
         ensures found { IfOk result (λ id. (r : Self) × is_record r × (line.now ≡ spelled r) × (own_id r ≡ id)) }
         ensures why { IfErr result (whys line.now) };
 
-    /// Of a line of over 296 bytes that is the first that is wrong.
+    /// Of a line of over `MAX_LINE` bytes that is the first that is wrong.
     fn long_lines()
-        ensures { (line : List ℕ) → 296 < length line → whys line why.TooLong };
+        ensures { (line : List ℕ) → MAX_LINE < length line → whys line why.TooLong };
 }
 
 impl Record for QueryRec {

@@ -16,10 +16,10 @@ mod write;
 
 pub use check::{BadLine, MAX_LOG, check_clicks, check_queries};
 pub use kind::Record;
-pub use lines::{read_click, read_query};
+pub use lines::{MAX_LINE, read_click, read_query};
 pub use records::{ClickRec, QueryRec};
 pub use report::ReportLine;
 pub use stream::{LogCheck, Seen};
-pub use text::Text;
+pub use text::{MAX_TEXT, Text};
 pub use why::Why;
 pub use write::{click_line, query_line};

@@ -3,7 +3,9 @@ use Rattle.std.proofs.Common.{◌≡◌, ℕ, zero, suc, ◌+◌, ◌*◌, ◌<�
 use Rattle.std.specs.Prelude.{replicate}
 use Rattle.std.proofs.lemmas.List.{length-append, length-replicate, get_or-replicate, get_or_default, take_more}
 use Rattle.list_words.specs.Lists.{Each}
+use Rattle.log_records.specs.declared.text.TheConstants.{MAX_TEXT}
 use Rattle.log_records.specs.Text.{IsText, IsPrintable}
+use Rattle.registry_state.specs.declared.TheConstants.{MOST_INSERTS}
 use Rattle.registry_state.specs.declared.Insert.{Insert}
 use Rattle.registry_state.specs.declared.Batch.{Batch}
 use Rattle.turn_defs.specs.Spellings.{insert, IsInsert, inserts, batch_head, batch, text}
@@ -17,13 +19,13 @@ use Rattle.packet_codec.proofs.PartLaws.{IsApart, IsSum, same_first, followed_fi
 -- ---- texts
 
 -- so many printable bytes are a text
-is_text : (n : ℕ) (z : List ℕ) → n ≤ 200 → Run n 32 126 z → IsText z
+is_text : (n : ℕ) (z : List ℕ) → n ≤ MAX_TEXT → Run n 32 126 z → IsText z
 is_text n z few r = record {
   len = omega (arith, r.len);
   bytes = λ k d lt. subst IsPrintable (sym (get_or_default z k d 0 lt)) (r.each k (omega (arith, r.len)));
 }
 
-pub text_sum : IsSum 0 200 (λ n z. Run n 32 126 z) text IsText
+pub text_sum : IsSum 0 MAX_TEXT (λ n z. Run n 32 126 z) text IsText
 text_sum = record {
   parts = λ t h. (length t, t, h.len, record { len = refl; each = λ k lt. h.bytes k 0 lt }, ap (λ (m : ℕ). m ∷ t) (omega arith));
   made = λ n z few r. (z, is_text n z few r, ap (λ (m : ℕ). m ∷ z) (omega (arith, r.len)));
@@ -48,7 +50,7 @@ pub length-inserts : (xs : List Insert) → length (inserts xs) ≡ 30 * length 
 length-inserts [] = refl
 length-inserts (x ∷ xs) = let e = length-inserts xs in omega (arith, length-append (insert x) (inserts xs))
 
-pub batch_room : (b : Batch) → length b.inserts ≤ 64 → length (batch b) ≤ 1929
+pub batch_room : (b : Batch) → length b.inserts ≤ MOST_INSERTS → length (batch b) ≤ 1929
 batch_room b few = omega (arith, length-append (batch_head b.bound (length b.inserts)) (inserts b.inserts), length-inserts b.inserts)
 
 pub inserts_more : (xs : List Insert) (x : Insert) → inserts (xs ++ x ∷ []) ≡ inserts xs ++ insert x
@@ -101,7 +103,7 @@ inserts_bad apart some (x ∷ xs) (suc n) bytes rest left lt each e bad =
     (followed_next insert IsInsert (AreInserts n) x bytes (inserts xs ++ rest) left apart each.0 (e ∙ append_assoc (insert x) (inserts xs) rest)
     (inserts_bad apart some xs n (inserts xs ++ rest) rest left (omega (arith, lt)) each.1 refl bad))
 
-pub counted_sum : (some : (x : Insert) × IsInsert x) → IsSum 0 64 AreInserts counted AreCounted
+pub counted_sum : (some : (x : Insert) × IsInsert x) → IsSum 0 MOST_INSERTS AreInserts counted AreCounted
 counted_sum some = record {
   parts = λ xs h. (length xs, inserts xs, h.count, record { list = xs; count = refl; each = h.each; whole = refl }, ap (λ (m : ℕ). m ∷ inserts xs) (omega arith));
   made = λ n z few s. (s.list, record { count = omega (arith, s.count); each = s.each }, ap (λ (m : ℕ). m ∷ z) (omega (arith, s.count)) ∙ ap (λ (x : List ℕ). length s.list ∷ x) s.whole);

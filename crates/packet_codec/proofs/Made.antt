@@ -5,6 +5,7 @@ use Rattle.packet_codec.specs.Cells.{Run}
 use Rattle.packet_codec.proofs.BadPlaces.{stops_on}
 use Rattle.event_id.specs.declared.id.EventId.{EventId}
 use Rattle.event_id.specs.EventId.{packed, IsId}
+use Rattle.registry_state.specs.declared.TheConstants.{MOST_INSERTS}
 use Rattle.registry_state.specs.declared.Token.{Token}
 use Rattle.packet_codec.specs.declared.fields.numbers.Small.{Small}
 use Rattle.packet_codec.specs.declared.fields.numbers.Capped.{Capped}
@@ -179,10 +180,10 @@ some_click = (record { id = some_id.0; query = some_id.0; text = some_text.0 }, 
 
 -- ---- a list of inserts that can't be read
 
-pub counted_tag : (bytes : List ℕ) (stop : Stop) → Stops (Run 1 0 64) bytes stop → Stops (Spelled counted AreCounted) bytes stop
-counted_tag bytes stop = tag_bad 0 64 _ _ _ bytes stop (counted_sum some_insert)
+pub counted_tag : (bytes : List ℕ) (stop : Stop) → Stops (Run 1 0 MOST_INSERTS) bytes stop → Stops (Spelled counted AreCounted) bytes stop
+counted_tag bytes stop = tag_bad 0 _ _ _ _ bytes stop (counted_sum some_insert)
 
 -- bad in an insert behind others
-pub counted_bad : (xs : List Insert) (count : ℕ) (bytes rest : List ℕ) (stop : Stop) → count ≤ 64 → length xs < count → Each IsInsert xs → bytes ≡ count ∷ (inserts xs ++ rest) → Stops (Spelled insert IsInsert) rest stop → Stops (Spelled counted AreCounted) bytes stop
+pub counted_bad : (xs : List Insert) (count : ℕ) (bytes rest : List ℕ) (stop : Stop) → count ≤ MOST_INSERTS → length xs < count → Each IsInsert xs → bytes ≡ count ∷ (inserts xs ++ rest) → Stops (Spelled insert IsInsert) rest stop → Stops (Spelled counted AreCounted) bytes stop
 counted_bad xs count bytes rest stop few lt each e = stops_on (Spelled insert IsInsert) (Spelled counted AreCounted) rest bytes stop
-    (λ left bad. next_whole 0 64 _ _ _ count count bytes (inserts xs ++ rest) left (counted_sum some_insert) few (omega arith) e (inserts_bad insert_apart some_insert xs count (inserts xs ++ rest) rest left lt each refl bad))
+    (λ left bad. next_whole 0 _ _ _ _ count count bytes (inserts xs ++ rest) left (counted_sum some_insert) few (omega arith) e (inserts_bad insert_apart some_insert xs count (inserts xs ++ rest) rest left lt each refl bad))

@@ -1,5 +1,6 @@
 -- A replica's notes.
 use Rattle.std.proofs.Common.{◌≡◌, ℕ, zero, suc, ◌+◌, ◌≤◌, List, ◌∷◌, length, drop, get_or, refl, ap, arith}
+use Rattle.registry_state.specs.declared.TheConstants.{MOST_INSERTS}
 use Rattle.registry_state.specs.declared.Batch.{Batch}
 use Rattle.paxos_defs.specs.declared.Place.{Place}
 use Rattle.paxos_acceptor.specs.declared.notes.ReplicaNote.{ReplicaNote}
@@ -42,5 +43,5 @@ note_apart v w s t p q e = absurd (omega (arith, ap (λ (x : List ℕ). get_or x
 pub some_note : (x : ReplicaNote) × IsNote x
 some_note = (Promised some_place.0.shard some_place.0.slot some_ballot.0, (some_place.1, some_ballot.1))
 
-pub note_room : (b : Batch) → length b.inserts ≤ 64 → 23 + length (batch b) ≤ 1952
+pub note_room : (b : Batch) → length b.inserts ≤ MOST_INSERTS → 23 + length (batch b) ≤ 1952
 note_room b few = let room = batch_room b few in omega arith

@@ -9,8 +9,8 @@ use std::alloc::{AllocError, Global};
 use turn_defs::Packet;
 use wire_core::Bytes;
 
-/// The one spelling of a packet that has one: its numbers are in the ranges of its fields, its text has at most 200
-/// printable bytes, its batch at most 64 inserts. Linear in the spelling, by one allocation.
+/// The one spelling of a packet that has one: its numbers are in the ranges of its fields, its text has at most `MAX_TEXT`
+/// printable bytes, its batch at most `MOST_INSERTS` inserts. Linear in the spelling, by one allocation.
 ///
 /// A packet is a byte that tells its kind, and its fields in order.
 pub fn encode(alloc: Global, sent: &Packet) -> Result<Bytes, AllocError>

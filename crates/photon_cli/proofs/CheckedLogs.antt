@@ -1,7 +1,7 @@
 -- Whole logs.
 use Rattle.std.proofs.Common.{◌≡◌, ◌≢◌, inl, inr, ℕ, suc, ◌+◌, ◌-◌, ◌^◌, ◌<◌, ◌≤◌, min, IsTrue, Bool, true, false, None, Result, Ok, Err, List, [], ◌∷◌, ◌++◌, length, map, refl, sym, ap, subst, ◌∙◌, arith}
 use Rattle.std.specs.Prelude.{if◌then◌else◌, ◌↔◌, IfOk}
-use Rattle.photon_cli.proofs.Words.{cases_lt, map_push, take_all, length-append, length-map, Lacks, lacks_none, EventId, QueryRec, ClickRec, Why, BadLine, query_line, click_line, IsQuery, IsClick, OrMemory, placed, end_from, line_feed, whole, limit, IsLog, NextWhy, IsQueryLog, IsClickLog, clicks_same, queries_found, clicks_found, Places, place_at, Keeps, Step, Lines, CheckFault, SoFar, AtEnd, WrongNext, IsStep, EndsAt, kept, AreLines, IsChecked, length-one}
+use Rattle.photon_cli.proofs.Words.{cases_lt, map_push, take_all, length-append, length-map, Lacks, lacks_none, EventId, QueryRec, ClickRec, Why, BadLine, query_line, click_line, IsQuery, IsClick, OrMemory, placed, end_from, line_feed, whole, MAX_LOG, IsLog, NextWhy, IsQueryLog, IsClickLog, clicks_same, queries_found, clicks_found, Places, place_at, Keeps, Step, Lines, CheckFault, SoFar, AtEnd, WrongNext, IsStep, EndsAt, kept, AreLines, IsChecked, length-one}
 use Rattle.log_records.specs.declared.why.Why.TheVariants as why
 use Rattle.log_records.specs.Check.{Refuses}
 use Rattle.photon_cli.specs.declared.log_check.step.Step.TheVariants as step
@@ -40,10 +40,10 @@ module _ {R : Type 0} (line_of : R → List ℕ) (IsRecord : R → Type 0) (id_o
     ids_are = none ∙ kept_none keep;
   }
 
-  few_lines : (log : List ℕ) (place : ℕ) (rs : List R) → SoFar line_of IsRecord id_of log place rs → length rs ≤ limit
+  few_lines : (log : List ℕ) (place : ℕ) (rs : List R) → SoFar line_of IsRecord id_of log place rs → length rs ≤ MAX_LOG
   few_lines log place rs so_far = omega (arith, so_far.at, so_far.fits, length-whole (map line_of rs), length-map rs line_of)
 
-  pub few : (keep : Bool) (log : List ℕ) (place : ℕ) (places : Places) (count : ℕ) (ids : List EventId) (rs : List R) → Before keep log place places count ids rs → count ≤ limit
+  pub few : (keep : Bool) (log : List ℕ) (place : ℕ) (places : Places) (count : ℕ) (ids : List EventId) (rs : List R) → Before keep log place places count ids rs → count ≤ MAX_LOG
   few keep log place places count ids rs h = omega (arith, few_lines log place rs h.so_far, h.counted)
 
   module _ (LineWhy : List ℕ → Why → Type 0) where
@@ -83,7 +83,7 @@ module _ {R : Type 0} (line_of : R → List ℕ) (IsRecord : R → Type 0) (id_o
     refuses_next keep log place places count ids rs w bad before (inr (line, after, e, lacks, below, told)) is = refuses log place rs count w bad before.so_far before.counted is.0 (inl (line, after, e, lacks, inr (below, told)))
 
     -- a line that ends behind the limit, or the rest of the log without an end
-    big_next : (log : List ℕ) (place : ℕ) (rs : List R) → AtEnd line_of IsRecord id_of log place rs → limit < length log → NextWhy line_of IsRecord id_of LineWhy log rs why.TooBig
+    big_next : (log : List ℕ) (place : ℕ) (rs : List R) → AtEnd line_of IsRecord id_of log place rs → MAX_LOG < length log → NextWhy line_of IsRecord id_of LineWhy log rs why.TooBig
     big_next log place rs h big =
         let front = whole (map line_of rs) in
         let rest = h.so_far.begins.0 in
@@ -91,26 +91,26 @@ module _ {R : Type 0} (line_of : R → List ℕ) (IsRecord : R → Type 0) (id_o
           | inr none ↦ inr (rest, h.so_far.begins.1, none, big, refl)
           | inl cut ↦
               let e : log ≡ front ++ (cut.0 ++ line_feed ∷ cut.1) = h.so_far.begins.1 ∙ ap (λ (x : List ℕ). front ++ x) cut.2 in
-              let far : (length front + length cut.0 < limit) → ⊥ = λ lt.
-              let short : length cut.0 < limit - place = omega (arith, h.so_far.at, h.so_far.fits, lt) in
-              lacks_none line_feed cut.0 _ (subst (Lacks line_feed) (behind_front log front (cut.0 ++ line_feed ∷ cut.1) place e h.so_far.at h.so_far.fits ∙ take_line (limit - place) cut.0 cut.1 short) h.none) in
+              let far : (length front + length cut.0 < MAX_LOG) → ⊥ = λ lt.
+              let short : length cut.0 < MAX_LOG - place = omega (arith, h.so_far.at, h.so_far.fits, lt) in
+              lacks_none line_feed cut.0 _ (subst (Lacks line_feed) (behind_front log front (cut.0 ++ line_feed ∷ cut.1) place e h.so_far.at h.so_far.fits ∙ take_line (MAX_LOG - place) cut.0 cut.1 short) h.none) in
               inl (cut.0, cut.1, e, cut.3, inl (far, refl))
         ]
 
-    pub too_big : (keep : Bool) (log : List ℕ) (rs : List R) (read : Lines) (bad : BadLine) → AreLines line_of IsRecord id_of keep log rs read → limit < length log → bad ≡ record { line = read.count + 1; why = why.TooBig } → Refuses line_of IsRecord id_of LineWhy log bad
+    pub too_big : (keep : Bool) (log : List ℕ) (rs : List R) (read : Lines) (bad : BadLine) → AreLines line_of IsRecord id_of keep log rs read → MAX_LOG < length log → bad ≡ record { line = read.count + 1; why = why.TooBig } → Refuses line_of IsRecord id_of LineWhy log bad
     too_big keep log rs read bad h big is = refuses log read.end rs read.count why.TooBig bad h.at_end.so_far h.count is (big_next log read.end rs h.at_end big)
 
-  pub counted_few : (keep : Bool) (log : List ℕ) (rs : List R) (read : Lines) → AreLines line_of IsRecord id_of keep log rs read → read.count ≤ limit
+  pub counted_few : (keep : Bool) (log : List ℕ) (rs : List R) (read : Lines) → AreLines line_of IsRecord id_of keep log rs read → read.count ≤ MAX_LOG
   counted_few keep log rs read h = omega (arith, few_lines log read.end rs h.at_end.so_far, h.count)
 
   -- where the log isn't too big its lines are read to its end
-  pub checked : (keep : Bool) (log : List ℕ) (rs : List R) (read : Lines) → AreLines line_of IsRecord id_of keep log rs read → length log ≤ limit → IsChecked line_of IsRecord id_of keep log rs read
+  pub checked : (keep : Bool) (log : List ℕ) (rs : List R) (read : Lines) → AreLines line_of IsRecord id_of keep log rs read → length log ≤ MAX_LOG → IsChecked line_of IsRecord id_of keep log rs read
   checked keep log rs read h fits =
       let front = whole (map line_of rs) in
       let so_far = h.at_end.so_far in
       let rest = so_far.begins.0 in
-      let all : length rest ≤ limit - read.end = omega (arith, so_far.at, ap length so_far.begins.1, length-append front rest) in
-      let none : Lacks line_feed rest = subst (Lacks line_feed) (behind_front log front rest read.end so_far.begins.1 so_far.at so_far.fits ∙ take_all (limit - read.end) rest all) h.at_end.none in
+      let all : length rest ≤ MAX_LOG - read.end = omega (arith, so_far.at, ap length so_far.begins.1, length-append front rest) in
+      let none : Lacks line_feed rest = subst (Lacks line_feed) (behind_front log front rest read.end so_far.begins.1 so_far.at so_far.fits ∙ take_all (MAX_LOG - read.end) rest all) h.at_end.none in
       record {
         holds = record { lines = (rest, so_far.begins.1, none); records = so_far.records; fits = fits };
         count = h.count;
@@ -119,14 +119,14 @@ module _ {R : Type 0} (line_of : R → List ℕ) (IsRecord : R → Type 0) (id_o
       }
 
 -- what the byte at the limit says
-not_big : (n : ℕ) (big : Bool) → big ≡ false → IsTrue big ↔ (limit < n) → n ≤ limit
+not_big : (n : ℕ) (big : Bool) → big ≡ false → IsTrue big ↔ (MAX_LOG < n) → n ≤ MAX_LOG
 not_big n big is tells =
-    elim (cases_lt limit n) [
+    elim (cases_lt MAX_LOG n) [
       | inl lt ↦ let is_big : IsTrue big = tells.1 lt in absurd cc
       | inr le ↦ le
     ]
 
-module _ {R : Type 0} (line_of : R → List ℕ) (IsRecord : R → Type 0) (id_of : R → EventId) (LineWhy : List ℕ → Why → Type 0) (keep : Bool) (log log0 log1 : List ℕ) (read : Lines) (big : Bool) (first : log0 ≡ log) (last : log1 ≡ log) (tells : IsTrue big ↔ (limit < length log1)) (h : (rs : List R) × AreLines line_of IsRecord id_of keep log0 rs read) where
+module _ {R : Type 0} (line_of : R → List ℕ) (IsRecord : R → Type 0) (id_of : R → EventId) (LineWhy : List ℕ → Why → Type 0) (keep : Bool) (log log0 log1 : List ℕ) (read : Lines) (big : Bool) (first : log0 ≡ log) (last : log1 ≡ log) (tells : IsTrue big ↔ (MAX_LOG < length log1)) (h : (rs : List R) × AreLines line_of IsRecord id_of keep log0 rs read) where
   here : AreLines line_of IsRecord id_of keep log h.0 read
   here = subst (λ (b : List ℕ). AreLines line_of IsRecord id_of keep b h.0 read) first h.1
 

@@ -1,7 +1,6 @@
 -- The lines of a log, and where its bytes are read.
 use Rattle.std.proofs.Common.{◌≡◌, ◌≢◌, ◌⊎◌, inl, inr, ℕ, ◌+◌, ◌-◌, ◌<◌, ◌≤◌, false, eqb, List, [], ◌∷◌, ◌++◌, length, take, drop, refl, sym, ap, ◌∙◌, append_assoc, arith}
-use Rattle.photon_cli.proofs.Words.{cases_Bool, eqb-true, nat_tests, drop-take, drop_at, take-append-drop, length-take, length-append, take-append-add, Lacks, behind, line_feed, whole, length-one}
-use Rattle.tail_reader.specs.declared.scan.TheConstants.{LIMIT}
+use Rattle.photon_cli.proofs.Words.{MAX_LOG, cases_Bool, eqb-true, nat_tests, drop-take, drop_at, take-append-drop, length-take, length-append, take-append-add, Lacks, behind, line_feed, whole, length-one}
 
 apart : (byte x : ℕ) → eqb x byte ≡ false → x ≢ byte
 apart byte x e same = grind (arith, nat_tests)
@@ -32,22 +31,22 @@ line_among n bytes line rest e = (
   omega (arith, ap length e, length-take n bytes, length-append line (line_feed ∷ rest)),
 )
 
-module _ (log front rest : List ℕ) (place : ℕ) (is : log ≡ front ++ rest) (at : place ≡ length front) (fits : place ≤ LIMIT) where
-  pub behind_front : behind log place ≡ take (LIMIT - place) rest
+module _ (log front rest : List ℕ) (place : ℕ) (is : log ≡ front ++ rest) (at : place ≡ length front) (fits : place ≤ MAX_LOG) where
+  pub behind_front : behind log place ≡ take (MAX_LOG - place) rest
   behind_front =
-      let whole_is : LIMIT ≡ place + (LIMIT - place) = omega arith in
-      ap (λ k. drop place (take k log)) whole_is ∙ drop-take place (LIMIT - place) log ∙ ap (take (LIMIT - place)) (ap (drop place) is ∙ drop_at front rest place (sym at))
+      let whole_is : MAX_LOG ≡ place + (MAX_LOG - place) = omega arith in
+      ap (λ k. drop place (take k log)) whole_is ∙ drop-take place (MAX_LOG - place) log ∙ ap (take (MAX_LOG - place)) (ap (drop place) is ∙ drop_at front rest place (sym at))
 
   -- the line that is read at the place
-  pub line_there : (line more : List ℕ) → behind log place ≡ line ++ line_feed ∷ more → (after : List ℕ) × (log ≡ front ++ (line ++ line_feed ∷ after)) × (length front + length line < LIMIT)
+  pub line_there : (line more : List ℕ) → behind log place ≡ line ++ line_feed ∷ more → (after : List ℕ) × (log ≡ front ++ (line ++ line_feed ∷ after)) × (length front + length line < MAX_LOG)
   line_there line more e =
-      let found = line_among (LIMIT - place) rest line more (sym behind_front ∙ e) in
+      let found = line_among (MAX_LOG - place) rest line more (sym behind_front ∙ e) in
       (found.0, is ∙ ap (λ (x : List ℕ). front ++ x) found.1, omega (arith, found.2))
 
 -- a line of the log is read at its place
-pub reads_line : (log front line after : List ℕ) (place : ℕ) → log ≡ front ++ (line ++ line_feed ∷ after) → place ≡ length front → place + length line < LIMIT → (more : List ℕ) × (behind log place ≡ line ++ line_feed ∷ more)
+pub reads_line : (log front line after : List ℕ) (place : ℕ) → log ≡ front ++ (line ++ line_feed ∷ after) → place ≡ length front → place + length line < MAX_LOG → (more : List ℕ) × (behind log place ≡ line ++ line_feed ∷ more)
 reads_line log front line after place is at fits =
-    (take (LIMIT - place - (length line + 1)) after, behind_front log front (line ++ line_feed ∷ after) place is at (omega arith) ∙ take_line (LIMIT - place) line after (omega arith))
+    (take (MAX_LOG - place - (length line + 1)) after, behind_front log front (line ++ line_feed ∷ after) place is at (omega arith) ∙ take_line (MAX_LOG - place) line after (omega arith))
 
 -- ---- lists of lines
 

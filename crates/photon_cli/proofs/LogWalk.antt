@@ -1,6 +1,6 @@
 -- One line more of a log.
 use Rattle.std.proofs.Common.{◌≡◌, ◌≢◌, inl, inr, ℕ, ◌+◌, ◌<◌, ◌≤◌, Option, Some, None, Result, Ok, Err, List, [], ◌∷◌, ◌++◌, length, map, Contains, refl, sym, ap, subst, ◌∙◌, append_assoc, arith}
-use Rattle.photon_cli.proofs.Words.{AllByRecursion, IfOk, ReadFault, map-append, append-nil, length-append, Contains-push_cases, Contains-append_right, Lacks, split_same, lacks_none, Counts, behind, IsNext, EventId, Why, OrMemory, line_feed, whole, AreRecords, limit, AfterWhy, one_more, Places, first_place, seen_of, Keeps, Step, SoFar, AtEnd, WrongNext, IsStep, length-one, found, none_found}
+use Rattle.photon_cli.proofs.Words.{MAX_LINE, AllByRecursion, IfOk, ReadFault, map-append, append-nil, length-append, Contains-push_cases, Contains-append_right, Lacks, split_same, lacks_none, Counts, behind, IsNext, EventId, Why, OrMemory, line_feed, whole, AreRecords, MAX_LOG, AfterWhy, one_more, Places, first_place, seen_of, Keeps, Step, SoFar, AtEnd, WrongNext, IsStep, length-one, found, none_found}
 use Rattle.tail_reader.specs.declared.tail.Next.TheVariants as next
 use Rattle.log_records.specs.declared.why.Why.TheVariants as why
 use Rattle.log_records.specs.declared.stream.Seen.TheVariants as seen
@@ -42,7 +42,7 @@ ok_no_err x e is = absurd cc
 pub read_there : (log : List ℕ) (place p e : ℕ) (given there rest : List ℕ) → IsNext log place (next.Line p e) given → behind log place ≡ there ++ line_feed ∷ rest → Lacks line_feed there → there ≡ given
 read_there log place p e given there rest (same, end_is, short, lacks, (more, is)) at none = (split_same line_feed there rest given more none lacks (sym at ∙ is)).0
 
-pub not_long : (log : List ℕ) (place p e : ℕ) (given there rest line : List ℕ) → IsNext log place (next.Long p e) given → behind log place ≡ there ++ line_feed ∷ rest → Lacks line_feed there → length line ≤ 296 → there ≢ line
+pub not_long : (log : List ℕ) (place p e : ℕ) (given there rest line : List ℕ) → IsNext log place (next.Long p e) given → behind log place ≡ there ++ line_feed ∷ rest → Lacks line_feed there → length line ≤ MAX_LINE → there ≢ line
 not_long log place p e given there rest line (same, (long, more, is, lacks, size, end_is)) at none short equal = omega (arith, ap length equal, ap length (split_same line_feed there rest long more none lacks (sym at ∙ is)).0)
 
 pub not_end : (log : List ℕ) (place p : ℕ) (given there rest : List ℕ) → IsNext log place (next.End p) given → behind log place ≡ there ++ line_feed ∷ rest → ⊥
@@ -77,7 +77,7 @@ module _ {R : Type 0} (line_of : R → List ℕ) (IsRecord : R → Type 0) (id_o
 
   module _ (log : List ℕ) (place : ℕ) (rs : List R) (so_far : SoFar line_of IsRecord id_of log place rs) where
     -- the line that is read next
-    there : (line more : List ℕ) → behind log place ≡ line ++ line_feed ∷ more → (after : List ℕ) × (log ≡ whole (map line_of rs) ++ (line ++ line_feed ∷ after)) × (length (whole (map line_of rs)) + length line < limit)
+    there : (line more : List ℕ) → behind log place ≡ line ++ line_feed ∷ more → (after : List ℕ) × (log ≡ whole (map line_of rs) ++ (line ++ line_feed ∷ after)) × (length (whole (map line_of rs)) + length line < MAX_LOG)
     there line more e = line_there log (whole (map line_of rs)) so_far.begins.0 place so_far.begins.1 so_far.at so_far.fits line more e
 
     pub goes_on : (end_ : ℕ) (line : List ℕ) (r : R) → IsNext log place (next.Line place end_) line → IsRecord r → line ≡ line_of r → ((x : R) → Contains rs x → id_of x ≡ id_of r → line_of x ≡ line_of r) → SoFar line_of IsRecord id_of log end_ (rs ++ r ∷ [])
@@ -131,7 +131,7 @@ module _ {R : Type 0} (line_of : R → List ℕ) (IsRecord : R → Type 0) (id_o
       pub conflict : (end_ : ℕ) (line : List ℕ) (r s : R) → IsNext log place (next.Line place end_) line → IsRecord r → line ≡ line_of r → Contains rs s → id_of s ≡ id_of r → line_of s ≢ line → WrongNext line_of IsRecord id_of LineWhy log rs why.Conflict
       conflict end_ line r s is_next valid is_line among same_id other = wrong_after end_ line why.Conflict is_next (inr ((s, r, among, valid, is_line, same_id, other), refl))
 
-      pub long_line : (p e : ℕ) (line : List ℕ) → IsNext log place (next.Long p e) line → ((l : List ℕ) → 296 < length l → LineWhy l why.TooLong) → WrongNext line_of IsRecord id_of LineWhy log rs why.TooLong
+      pub long_line : (p e : ℕ) (line : List ℕ) → IsNext log place (next.Long p e) line → ((l : List ℕ) → MAX_LINE < length l → LineWhy l why.TooLong) → WrongNext line_of IsRecord id_of LineWhy log rs why.TooLong
       long_line p e line (same, (long, more, is, lacks, size, end_is)) law = let here = there long more is in (long, here.0, here.1, lacks, here.2, inl (law long size))
 
     pub at_end : (p : ℕ) (line : List ℕ) → IsNext log place (next.End p) line → AtEnd line_of IsRecord id_of log place rs

@@ -21,13 +21,15 @@ pub use Rattle.log_records.proofs.FirstPlaces.{found, length-one, none_found}
 pub use Rattle.log_records.proofs.Places.{lines_follow}
 pub use Rattle.log_records.proofs.Reading.{clicks_same, one_more, queries_same}
 pub use Rattle.log_records.proofs.WholeLogs.{clicks_found, clicks_right, queries_found, queries_right}
-pub use Rattle.log_records.specs.Check.{AfterWhy, IsClickLog, IsLog, IsQueryLog, NextWhy, RefusesClick, RefusesQuery, limit}
+pub use Rattle.log_records.specs.Check.{AfterWhy, IsClickLog, IsLog, IsQueryLog, NextWhy, RefusesClick, RefusesQuery}
 pub use Rattle.log_records.specs.FirstPlaces.{Keeps, Places, first_place, place_at, seen_of}
 pub use Rattle.log_records.specs.Line.{IsClick, IsQuery, OrMemory, click_line, query_line}
 pub use Rattle.log_records.specs.Lines.{ClickLine, end_from, placed}
 pub use Rattle.log_records.specs.Log.{AreRecords, HoldsClicks, HoldsQueries, line_feed, whole}
 pub use Rattle.log_records.specs.Report.{distinct, is_missing, text_of, totals}
 pub use Rattle.log_records.specs.declared.check.BadLine.{BadLine}
+pub use Rattle.log_records.specs.declared.check.TheConstants.{MAX_LOG}
+pub use Rattle.log_records.specs.declared.lines.TheConstants.{MAX_LINE}
 pub use Rattle.log_records.specs.declared.records.ClickRec.{ClickRec}
 pub use Rattle.log_records.specs.declared.records.QueryRec.{QueryRec}
 pub use Rattle.log_records.specs.declared.report.ReportLine.{ReportLine}

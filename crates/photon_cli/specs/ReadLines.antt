@@ -4,10 +4,11 @@ use Rattle.std.specs.List.{AllByRecursion}
 use Rattle.event_id.specs.declared.id.EventId.{EventId}
 use Rattle.list_words.specs.Bytes.{Lacks}
 use Rattle.tail_reader.specs.Buffered.{behind}
+use Rattle.log_records.specs.declared.check.TheConstants.{MAX_LOG}
 use Rattle.log_records.specs.declared.why.Why.{Why}
 use Rattle.log_records.specs.Line.{OrMemory}
 use Rattle.log_records.specs.Log.{line_feed, whole, AreRecords}
-use Rattle.log_records.specs.Check.{limit, AfterWhy}
+use Rattle.log_records.specs.Check.{AfterWhy}
 use Rattle.log_records.specs.FirstPlaces.{Places, Keeps}
 use Rattle.photon_cli.specs.declared.log_check.step.Step.{Step}
 use Rattle.photon_cli.specs.declared.log_check.step.Step.TheVariants.{Line, End, Wrong}
@@ -17,7 +18,7 @@ module _ {R : Type 0} (line_of : R → List ℕ) (IsRecord : R → Type 0) (id_o
   pub record SoFar (log : List ℕ) (place : ℕ) (rs : List R) : Type 0 where
     pub begins : (rest : List ℕ) × (log ≡ whole (map line_of rs) ++ rest)
     pub at : place ≡ length (whole (map line_of rs))
-    pub fits : place ≤ limit
+    pub fits : place ≤ MAX_LOG
     pub records : AreRecords line_of IsRecord id_of rs
     pub lines : AllByRecursion (Lacks line_feed) (map line_of rs)
 
@@ -30,7 +31,7 @@ module _ {R : Type 0} (line_of : R → List ℕ) (IsRecord : R → Type 0) (id_o
     -- what is wrong with the line behind these records, whose line feed stands below the limit
     abbrev pub WrongNext : List ℕ → List R → Why → Type 0
     WrongNext log rs w =
-        (line after : List ℕ) × (log ≡ whole (map line_of rs) ++ (line ++ line_feed ∷ after)) × Lacks line_feed line × (length (whole (map line_of rs)) + length line < limit) × AfterWhy line_of IsRecord id_of LineWhy rs line w
+        (line after : List ℕ) × (log ≡ whole (map line_of rs) ++ (line ++ line_feed ∷ after)) × Lacks line_feed line × (length (whole (map line_of rs)) + length line < MAX_LOG) × AfterWhy line_of IsRecord id_of LineWhy rs line w
 
     -- what the line behind these records came to: one record more, the end, or what is wrong with it
     abbrev pub IsStep : List ℕ → ℕ → Places → List R → Step → Type 0

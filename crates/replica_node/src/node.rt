@@ -1,6 +1,7 @@
 // The replica over its disk.
 ghost use Rattle.std.specs.Prelude.{◌≡◌, None, ◌≤◌, ◌+◌, false, true, Some, Option, List, ℕ, is_some, is_err, option_map, length, IsTrue, IfOk, IfErr, IfSome, OnOk, OnErr, IsErrOf};
 ghost use Rattle.gate_journal.specs.declared.journal.JournalState.TheVariants.{Ready};
+ghost use Rattle.gate_journal.specs.declared.frame.TheConstants.{MAX_PAYLOAD};
 ghost use Rattle.gate_journal.specs.Disk.{HasRoom};
 ghost use Rattle.outside.specs.Disk.{Throughout};
 ghost use Rattle.outside.specs.Faults.{Rose};
@@ -118,7 +119,7 @@ impl<D: Disk> ReplicaNode<D> {
 
     // The disk's room for the record, if there is one.
     fn make_room(&mut self, written: &Option<Payload>) -> Result<(), AllocError>
-        requires { IfSome written.now (λ bytes. length bytes ≤ 65535) }
+        requires { IfSome written.now (λ bytes. length bytes ≤ MAX_PAYLOAD) }
         ensures same { (self.new.replica ≡ self.old.replica) × (self.new.config ≡ self.old.config) × (self.new.in_doubt ≡ self.old.in_doubt) × (self.new.voter ≡ self.old.voter) }
         ensures holds { IsTrue D.tells → (k : ReplicaKept) → Holds self.old.kept (D.seen self.old.journal.disk) (D.image self.old.journal.disk) self.old.journal.state k → Holds self.new.kept (D.seen self.new.journal.disk) (D.image self.new.journal.disk) self.new.journal.state k }
         ensures moments { IsTrue D.tells → Throughout D.image D.since self.old.journal.disk self.new.journal.disk (D.image self.old.journal.disk) }

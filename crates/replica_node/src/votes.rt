@@ -1,5 +1,6 @@
 // The notes that are kept on a disk.
 ghost use Rattle.std.specs.Prelude.{◌≡◌, ◌≤◌, length, option_map, All, IfOk, IfSome, IfNone};
+ghost use Rattle.gate_journal.specs.declared.frame.TheConstants.{MAX_PAYLOAD};
 ghost use Rattle.packet_codec.specs.Notes.{note as note_spelled, IsNote};
 ghost use Rattle.replica_node.specs.Votes.{IsNoVote};
 ghost use Rattle.replica_node.specs.VoteLaws.{notes_once};
@@ -119,7 +120,7 @@ pub(crate) fn vote_record(
 ) -> Result<Option<Payload>, AllocError>
     requires { IfSome note.now IsNote }
     ensures recorded { IfOk result (λ r. r ≡ option_map note_spelled note.now) }
-    ensures short { IfOk result (λ r. IfSome r (λ bytes. length bytes ≤ 65535)) }
+    ensures short { IfOk result (λ r. IfSome r (λ bytes. length bytes ≤ MAX_PAYLOAD)) }
 {
     match note {
         None => Ok(None),

@@ -4,8 +4,10 @@ use Rattle.std.proofs.lemmas.List.{drop-take, drop-drop, drop_all, take_at, take
 use Rattle.std.proofs.Math.Seq.{take-append-add}
 use Rattle.list_words.specs.Bytes.{Lacks}
 use Rattle.list_words.proofs.Splits.{lacks_append}
-use Rattle.tail_reader.specs.declared.scan.TheConstants.{LIMIT, MAX_LINE}
-use Rattle.tail_reader.specs.Buffered.{line_feed, behind, Buffers}
+use Rattle.log_records.specs.declared.check.TheConstants.{MAX_LOG}
+use Rattle.log_records.specs.declared.lines.TheConstants.{MAX_LINE}
+use Rattle.log_records.specs.Log.{line_feed}
+use Rattle.tail_reader.specs.Buffered.{behind, Buffers}
 use Rattle.tail_reader.specs.declared.tail.Next.TheVariants as next
 use Rattle.tail_reader.specs.Next.{IsNext}
 
@@ -23,22 +25,22 @@ more_read moved new tail from now len n total is size front fits same =
 
 -- ---- the bytes below the limit
 
-pub past_limit : (log : List ℕ) (at : ℕ) → LIMIT ≤ at → behind log at ≡ []
-past_limit log at le = drop_all at (take LIMIT log) (omega (arith, length-take LIMIT log))
+pub past_limit : (log : List ℕ) (at : ℕ) → MAX_LOG ≤ at → behind log at ≡ []
+past_limit log at le = drop_all at (take MAX_LOG log) (omega (arith, length-take MAX_LOG log))
 
 pub past_end : (log : List ℕ) (at : ℕ) → length log ≤ at → behind log at ≡ []
-past_end log at le = drop_all at (take LIMIT log) (omega (arith, length-take LIMIT log))
+past_end log at le = drop_all at (take MAX_LOG log) (omega (arith, length-take MAX_LOG log))
 
-behind_is : (log : List ℕ) (at : ℕ) → at ≤ LIMIT → behind log at ≡ take (LIMIT - at) (drop at log)
+behind_is : (log : List ℕ) (at : ℕ) → at ≤ MAX_LOG → behind log at ≡ take (MAX_LOG - at) (drop at log)
 behind_is log at le =
-    let whole : LIMIT ≡ at + (LIMIT - at) = omega arith in
-    ap (λ k. drop at (take k log)) whole ∙ drop-take at (LIMIT - at) log
+    let whole : MAX_LOG ≡ at + (MAX_LOG - at) = omega arith in
+    ap (λ k. drop at (take k log)) whole ∙ drop-take at (MAX_LOG - at) log
 
-pub read_is : (log : List ℕ) (at room n : ℕ) (new rest : List ℕ) → at + room ≤ LIMIT → n ≤ room → length new ≡ room → n ≤ length (drop at log) → take n new ≡ take n (drop at log) → (n ≤ length (behind log at)) × (take n (new ++ rest) ≡ take n (behind log at))
+pub read_is : (log : List ℕ) (at room n : ℕ) (new rest : List ℕ) → at + room ≤ MAX_LOG → n ≤ room → length new ≡ room → n ≤ length (drop at log) → take n new ≡ take n (drop at log) → (n ≤ length (behind log at)) × (take n (new ++ rest) ≡ take n (behind log at))
 read_is log at room n new rest below fits size there same =
     let is = behind_is log at (omega arith) in (
-      omega (arith, ap length is, length-take (LIMIT - at) (drop at log)),
-      take-append-le n new rest (omega arith) ∙ same ∙ sym (ap (take n) is ∙ take-take n (LIMIT - at) (drop at log) (omega arith)),
+      omega (arith, ap length is, length-take (MAX_LOG - at) (drop at log)),
+      take-append-le n new rest (omega arith) ∙ same ∙ sym (ap (take n) is ∙ take-take n (MAX_LOG - at) (drop at log) (omega arith)),
     )
 
 -- ---- what was read ahead
@@ -47,7 +49,7 @@ read_is log at room n new rest below fits size there same =
 pub split_at : (log : List ℕ) (place at : ℕ) (ahead : List ℕ) → Buffers log place ahead → at ≡ place + length ahead → behind log place ≡ ahead ++ behind log at
 split_at log place at ahead h is =
     sym (take-append-drop (length ahead) (behind log place)) ∙ ap (λ (x : List ℕ). x ++ drop (length ahead) (behind log place)) h
-    ∙ ap (λ (x : List ℕ). ahead ++ x) (drop-drop (length ahead) place (take LIMIT log) ∙ ap (λ k. drop k (take LIMIT log)) (sym is))
+    ∙ ap (λ (x : List ℕ). ahead ++ x) (drop-drop (length ahead) place (take MAX_LOG log) ∙ ap (λ k. drop k (take MAX_LOG log)) (sym is))
 
 pub buffers_more : (log : List ℕ) (place : ℕ) (old new : List ℕ) (at n : ℕ) → Buffers log place old → n ≤ length (behind log at) → new ≡ old ++ take n (behind log at) → at ≡ place + length old → Buffers log place new
 buffers_more log place old new at n h few more is =
@@ -67,7 +69,7 @@ pub buffers_drop : (log : List ℕ) (place e k : ℕ) (ahead left : List ℕ) �
 buffers_drop log place e k ahead left h is fits end_is =
     let size : length left ≡ length ahead - k = ap length is ∙ length-drop k ahead in
     let whole : length ahead ≡ k + (length ahead - k) = omega arith in
-    let from : drop e (take LIMIT log) ≡ drop k (behind log place) = ap (λ j. drop j (take LIMIT log)) end_is ∙ sym (drop-drop k place (take LIMIT log)) in
+    let from : drop e (take MAX_LOG log) ≡ drop k (behind log place) = ap (λ j. drop j (take MAX_LOG log)) end_is ∙ sym (drop-drop k place (take MAX_LOG log)) in
     ap (λ j. take j (behind log e)) size ∙ ap (take (length ahead - k)) from ∙ sym (drop-take k (length ahead - k) (behind log place)) ∙ ap (λ j. drop k (take j (behind log place))) (sym whole) ∙ ap (drop k) h ∙ sym is
 
 -- ---- lines

@@ -1,13 +1,10 @@
 -- The bytes of a log, and those read ahead.
 use Rattle.std.specs.Prelude.{ℕ, ◌≡◌, List, length, take, drop}
-use Rattle.tail_reader.specs.declared.scan.TheConstants.{LIMIT}
+use Rattle.log_records.specs.declared.check.TheConstants.{MAX_LOG}
 
-abbrev pub line_feed : ℕ
-line_feed = 10
-
--- the bytes from a place on, up to the limit
+-- the bytes from a place on; none behind the longest log is read
 abbrev pub behind : List ℕ → ℕ → List ℕ
-behind log place = drop place (take LIMIT log)
+behind log place = drop place (take MAX_LOG log)
 
 -- these bytes were read ahead from the place on
 abbrev pub Buffers : List ℕ → ℕ → List ℕ → Type 0

@@ -1,8 +1,9 @@
 -- What stands in a log from a place on.
 use Rattle.std.specs.Prelude.{ℕ, ◌≡◌, ◌+◌, ◌<◌, ◌≤◌, List, ◌∷◌, ◌++◌, length}
 use Rattle.list_words.specs.Bytes.{Lacks}
-use Rattle.tail_reader.specs.declared.scan.TheConstants.{MAX_LINE}
-use Rattle.tail_reader.specs.Buffered.{line_feed, behind}
+use Rattle.log_records.specs.declared.lines.TheConstants.{MAX_LINE}
+use Rattle.log_records.specs.Log.{line_feed}
+use Rattle.tail_reader.specs.Buffered.{behind}
 use Rattle.tail_reader.specs.declared.tail.Next.{Next}
 use Rattle.tail_reader.specs.declared.tail.Next.TheVariants.{Line, Long, End}
 

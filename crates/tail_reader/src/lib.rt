@@ -5,5 +5,4 @@ mod scan;
 mod tail;
 mod window;
 
-pub use scan::{LIMIT, MAX_LINE};
 pub use tail::{Next, Tail};

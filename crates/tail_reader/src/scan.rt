@@ -2,21 +2,18 @@
 ghost use Rattle.std.specs.Prelude.{◌≡◌, ◌≤◌, ◌<◌, ◌+◌, ◌*◌, ◌++◌, ◌∷◌, ◌⊎◌, [], List, ℕ, length, IfOk, IfSome, IfNone, OnErr, IsErr, IsTrue};
 ghost use Rattle.list_words.specs.Bytes.{Lacks};
 ghost use Rattle.outside.specs.Faults.{Counts};
-ghost use Rattle.tail_reader.specs.Buffered.{line_feed, behind, Buffers};
+ghost use Rattle.log_records.specs.Log.{line_feed};
+ghost use Rattle.tail_reader.specs.Buffered.{behind, Buffers};
 ghost use Rattle.tail_reader.specs.Next.{IsNext, end_of};
-ghost use Rattle.tail_reader.specs.declared.scan.TheConstants.{LIMIT, MAX_LINE};
+ghost use Rattle.log_records.specs.declared.check.TheConstants.{MAX_LOG};
+ghost use Rattle.log_records.specs.declared.lines.TheConstants.{MAX_LINE};
 ghost use Rattle.tail_reader.specs.declared.window.TheConstants.{SIZE};
 
 use crate::Next;
 use crate::window::Window;
 use list_words::split_once;
+use log_records::{MAX_LINE, MAX_LOG};
 use outside::{LogFile, ReadFault};
-
-/// The longest line, without its line feed.
-pub const MAX_LINE: usize = 296;
-
-/// Bytes from this place on are never read.
-pub const LIMIT: u64 = 1 << 40;
 
 /// Finds the line that begins at the place, of which the window has the front.
 pub fn next_line<L: LogFile>(
@@ -31,7 +28,7 @@ pub fn next_line<L: LogFile>(
     ensures same { IsTrue L.tells → L.bytes log.new ≡ L.bytes log.old }
     ensures count { Counts (L.faults log.old) (L.faults log.new) (IsErr result) }
 {
-    if place >= LIMIT {
+    if place >= MAX_LOG {
         window.clear();
         return Ok(Next::End { place });
     }
@@ -67,7 +64,7 @@ fn settle<L: LogFile>(
     place: u64,
     window: &mut Window,
 ) -> Result<Option<usize>, ReadFault>
-    requires place { place < LIMIT }
+    requires place { place < MAX_LOG }
     requires ahead { IsTrue L.tells → Buffers (L.bytes log.old) place window.old.1 }
     ensures ahead { IsTrue L.tells → Buffers (L.bytes log.old) place window.new.1 }
     ensures found { IfOk result (λ len. IfSome len (λ n. (line rest : List ℕ) × (window.new.1 ≡ line ++ line_feed ∷ rest) × Lacks line_feed line × (length line ≡ n))) }
@@ -92,7 +89,7 @@ fn settle<L: LogFile>(
 
 // Finds the end of a line of which the bytes before `from` lack a line feed. Keeps what was read behind that end.
 fn skip<L: LogFile>(log: &mut L, from: u64, window: &mut Window) -> Result<Option<u64>, ReadFault>
-    requires { from ≤ 2 * LIMIT }
+    requires { from ≤ 2 * MAX_LOG }
     ensures found { IsTrue L.tells → IfOk result (λ end. IfSome end (λ e. (line rest : List ℕ) × (behind (L.bytes log.old) from ≡ line ++ line_feed ∷ rest) × Lacks line_feed line × (e ≡ from + length line + 1))) }
     ensures ahead { IsTrue L.tells → IfOk result (λ end. IfSome end (λ e. Buffers (L.bytes log.old) e window.new.1)) }
     ensures none { IsTrue L.tells → IfOk result (λ end. IfNone end (Lacks line_feed (behind (L.bytes log.old) from))) }
@@ -103,7 +100,7 @@ fn skip<L: LogFile>(log: &mut L, from: u64, window: &mut Window) -> Result<Optio
 {
     let mut at = from;
     window.clear();
-    while at < LIMIT {
+    while at < MAX_LOG {
         let n = window.read_more(log, at)?;
         if n == 0 {
             return Ok(None);

@@ -11,7 +11,7 @@ use outside::{LogFile, ReadFault};
 pub enum Next {
     /// A whole line, whose bytes `Tail::line` gives. `end` is the place behind its line feed.
     Line { place: u64, end: u64 },
-    /// A whole line of over 296 bytes.
+    /// A whole line of over `MAX_LINE` bytes.
     Long { place: u64, end: u64 },
     /// No line feed follows.
     End { place: u64 },
@@ -80,7 +80,7 @@ impl<L: LogFile> Tail<L> {
 
     /// What stands at the place; the next call goes on behind it. After a fault the next call begins at the same place.
     ///
-    /// It reads blocks of up to 4 KiB, and a byte again only of a line of over 296 bytes that has no line feed yet.
+    /// It reads blocks of up to 4 KiB, and a byte again only of a line of over `MAX_LINE` bytes that has no line feed yet.
     pub fn next(&mut self) -> Result<Next, ReadFault>
         ensures next { IsTrue L.tells → IfOk result (λ next. IsNext (L.bytes self.old.log) self.old.place next self.new.window.0) }
         ensures place { IfOk result (λ next. self.new.place ≡ end_of next) }

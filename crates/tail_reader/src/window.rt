@@ -2,10 +2,10 @@
 ghost use Rattle.std.specs.Prelude.{◌≡◌, ◌≤◌, ◌<◌, ◌+◌, ◌++◌, [], List, ℕ, length, take, drop, IfOk, OnErr, IsErr, IsTrue};
 ghost use Rattle.outside.specs.Faults.{Counts};
 ghost use Rattle.tail_reader.specs.Buffered.{behind};
-ghost use Rattle.tail_reader.specs.declared.scan.TheConstants.{MAX_LINE};
+ghost use Rattle.log_records.specs.declared.lines.TheConstants.{MAX_LINE};
 ghost use Rattle.tail_reader.specs.declared.window.TheConstants.{SIZE};
 
-use crate::scan::{LIMIT, MAX_LINE};
+use log_records::{MAX_LINE, MAX_LOG};
 use outside::{LogFile, ReadFault};
 use std::marker::Model;
 
@@ -133,10 +133,10 @@ fn read_below<L: LogFile>(log: &mut L, at: u64, buf: &mut [u8]) -> Result<usize,
     ensures same { IsTrue L.tells → L.bytes log.new ≡ L.bytes log.old }
     ensures count { Counts (L.faults log.old) (L.faults log.new) (IsErr result) }
 {
-    if at >= LIMIT {
+    if at >= MAX_LOG {
         return Ok(0);
     }
-    let room = buf.len().min((LIMIT - at) as usize);
+    let room = buf.len().min((MAX_LOG - at) as usize);
     let n = log.read_at(at, &mut buf[..room])?;
     Ok(n)
 }

@@ -8,14 +8,14 @@ use crate::fields::field::Field;
 use crate::fields::ids::insert_bytes;
 use crate::fields::parts::write;
 use crate::fields::several::{read_tag, read_two};
-use registry_state::{Batch, Insert, Inserts};
+use registry_state::{Batch, Insert, Inserts, MOST_INSERTS};
 use std::alloc::{AllocError, Global};
 use wire_core::Bytes;
 
 // The longest spelling.
-const LONGEST: usize = 9 + 64 * 30;
+const LONGEST: usize = 9 + MOST_INSERTS * 30;
 
-/// The bound, the count of inserts in a byte, up to 64, and the inserts. Reading allocates the list of inserts.
+/// The bound, the count of inserts in a byte, up to `MOST_INSERTS`, and the inserts. Reading allocates the list of inserts.
 #[tactic(auto, using(crate::proofs::Made::batch_bad, crate::proofs::Made::batch_apart, crate::proofs::Made::some_batch))]
 impl Field for Batch {
     ghost spelled = { batch };
@@ -38,7 +38,7 @@ impl Field for Batch {
     fn some_value() {}
 }
 
-/// The count in a byte, up to 64, and the inserts. Reading allocates the list.
+/// The count in a byte, up to `MOST_INSERTS`, and the inserts. Reading allocates the list.
 #[tactic(auto, using(crate::proofs::Made::counted_tag, crate::proofs::Made::counted_bad, crate::proofs::Made::inserts_apart, crate::proofs::Made::some_counted))]
 impl Field for Inserts {
     ghost spelled = { counted };
@@ -54,7 +54,7 @@ impl Field for Inserts {
     }
 
     fn read(alloc: Global, bytes: &[u8]) -> Result<(Inserts, &[u8]), Stop> {
-        let (count, mut rest) = read_tag(bytes, 0, 64)?;
+        let (count, mut rest) = read_tag(bytes, 0, MOST_INSERTS as u8)?;
         let mut list = Inserts::with_capacity(alloc, usize::from(count))?;
         for _ in 0..count {
             let (insert, behind) = Insert::read(alloc, rest)?;

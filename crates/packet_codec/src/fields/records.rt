@@ -10,11 +10,14 @@ use crate::fields::field::Field;
 use crate::fields::parts::{run, write};
 use crate::fields::several::{read_tag, read_three, read_two};
 use event_id::EventId;
-use log_records::{ClickRec, QueryRec, Text};
+use log_records::{ClickRec, MAX_TEXT, QueryRec, Text};
 use std::alloc::{AllocError, Global};
 use wire_core::Bytes;
 
-/// The length in a byte, up to 200, and so many printable bytes. Reading copies the text, in one allocation.
+// The longest spelling, a click's.
+const LONGEST: usize = 33 + MAX_TEXT;
+
+/// The length in a byte, up to `MAX_TEXT`, and so many printable bytes. Reading copies the text, in one allocation.
 #[tactic(auto, using(crate::proofs::Counts::text_apart, crate::proofs::Counts::some_text))]
 impl Field for Text {
     ghost spelled = { text };
@@ -22,13 +25,13 @@ impl Field for Text {
     ghost has_spelling = { IsText };
 
     fn put(&self, to: &mut Bytes) -> Result<(), AllocError> {
-        let mut bytes = [0; 201];
+        let mut bytes = [0; LONGEST];
         let end = write_text(self, &mut bytes, 0);
         to.put_bytes(&bytes[..end])
     }
 
     fn read(alloc: Global, bytes: &[u8]) -> Result<(Text, &[u8]), Stop> {
-        let (len, rest) = read_tag(bytes, 0, 200)?;
+        let (len, rest) = read_tag(bytes, 0, MAX_TEXT as u8)?;
         let (spelled, rest) = run(rest, usize::from(len), b' ', b'~')?;
         match Text::read(alloc, spelled) {
             Ok(text) => Ok((text, rest)),
@@ -49,7 +52,7 @@ impl Field for QueryRec {
     ghost has_spelling = { IsQuery };
 
     fn put(&self, to: &mut Bytes) -> Result<(), AllocError> {
-        let mut bytes = [0; 217];
+        let mut bytes = [0; LONGEST];
         let at = write(&mut bytes, 0, &self.id.to_bytes());
         let end = write_text(&self.text, &mut bytes, at);
         to.put_bytes(&bytes[..end])
@@ -73,7 +76,7 @@ impl Field for ClickRec {
     ghost has_spelling = { IsClick };
 
     fn put(&self, to: &mut Bytes) -> Result<(), AllocError> {
-        let mut bytes = [0; 233];
+        let mut bytes = [0; LONGEST];
         let at = write_ids(self.id, self.query, &mut bytes);
         let end = write_text(&self.text, &mut bytes, at);
         to.put_bytes(&bytes[..end])
@@ -101,7 +104,7 @@ fn write_text(t: &Text, buf: &mut [u8], at: usize) -> usize
     write(buf, at, bytes)
 }
 
-fn write_ids(id: EventId, of: EventId, buf: &mut [u8; 233]) -> usize
+fn write_ids(id: EventId, of: EventId, buf: &mut [u8; LONGEST]) -> usize
     ensures end { result ≡ 32 }
     ensures text { take 32 buf.new ≡ packed id ++ packed of }
 {

@@ -4,17 +4,18 @@ ghost use Rattle.outside.specs.Faults.{Counts};
 ghost use Rattle.log_records.specs.declared.records.QueryRec.{QueryRec as Query};
 ghost use Rattle.log_records.specs.declared.records.ClickRec.{ClickRec as Click};
 ghost use Rattle.log_records.specs.declared.check.BadLine.{BadLine as Bad};
+ghost use Rattle.log_records.specs.declared.check.TheConstants.{MAX_LOG};
 ghost use Rattle.log_records.specs.declared.why.Why.TheVariants as why;
-ghost use Rattle.log_records.specs.Check.{limit, IsLog, Refuses, IsQueryLog, IsClickLog, RefusesQuery, RefusesClick};
+ghost use Rattle.log_records.specs.Check.{IsLog, Refuses, IsQueryLog, IsClickLog, RefusesQuery, RefusesClick};
 ghost use Rattle.photon_cli.specs.declared.log_check.check.CheckFault.TheVariants as fault;
 ghost use Rattle.photon_cli.specs.CheckedLogs.{EndsAt, IsChecked};
 
 use crate::log_check::lines::{Lines, read_lines};
 use event_id::EventId;
-use log_records::{BadLine, ClickRec, QueryRec, Record, Why};
+use log_records::{BadLine, ClickRec, MAX_LOG, QueryRec, Record, Why};
 use outside::{LogFile, ReadFault};
 use std::alloc::Global;
-use tail_reader::{LIMIT, Tail};
+use tail_reader::Tail;
 
 /// Why a log isn't checked to its end.
 #[derive(Clone, Copy, Debug, PartialEq, Eq)]
@@ -107,13 +108,13 @@ fn check_log<K: Record, L: LogFile>(
     }
 }
 
-// Whether the log has a byte at place 2^40.
+// Whether the log has a byte at place `MAX_LOG`.
 fn is_too_big<L: LogFile>(log: &mut L) -> Result<bool, ReadFault>
-    ensures big { IsTrue L.tells → IfOk result (λ big. IsTrue big ↔ (limit < length (L.bytes log.old))) }
+    ensures big { IsTrue L.tells → IfOk result (λ big. IsTrue big ↔ (MAX_LOG < length (L.bytes log.old))) }
     ensures same { IsTrue L.tells → L.bytes log.new ≡ L.bytes log.old }
     ensures count { Counts (L.faults log.old) (L.faults log.new) (IsErr result) }
 {
     let mut byte = [0; 1];
-    let n = log.read_at(LIMIT, &mut byte)?;
+    let n = log.read_at(MAX_LOG, &mut byte)?;
     Ok(n > 0)
 }

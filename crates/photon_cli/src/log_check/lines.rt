@@ -56,7 +56,7 @@ pub fn read_lines<K: Record, L: LogFile>(
             }
         }
     }
-    // No log has so many lines below place 2^40.
+    // No log has so many lines below place `MAX_LOG`.
     Err(wrong(u64::MAX, Why::TooBig))
 }
 

@@ -2,23 +2,25 @@
 ghost use Rattle.std.specs.Prelude.{◌≡◌, ◌↔◌, ◌++◌, ◌∷◌, ◌≤◌, List, ℕ, length, take, IfOk, IsErr, IsTrue};
 ghost use Rattle.list_words.specs.Bytes.{Lacks};
 ghost use Rattle.outside.specs.Faults.{Counts};
-ghost use Rattle.tail_reader.specs.Buffered.{line_feed, behind};
+ghost use Rattle.tail_reader.specs.Buffered.{behind};
 ghost use Rattle.tail_reader.specs.Next.{IsNext};
 ghost use Rattle.tail_reader.specs.declared.tail.Next.TheVariants as next;
+ghost use Rattle.log_records.specs.declared.lines.TheConstants.{MAX_LINE};
 ghost use Rattle.log_records.specs.FirstPlaces.{Keeps};
+ghost use Rattle.log_records.specs.Log.{line_feed};
 ghost use Rattle.photon_cli.specs.ReadLines.{SoFar, IsStep};
 
 use event_id::EventId;
-use log_records::{LogCheck, Record, Seen, Why};
+use log_records::{LogCheck, MAX_LINE, Record, Seen, Why};
 use outside::{LogFile, ReadFault};
-use tail_reader::{MAX_LINE, Next, Tail};
+use tail_reader::{Next, Tail};
 
 /// What the next line of a log came to.
 #[derive(Clone, Copy, Debug, PartialEq, Eq)]
 pub enum Step {
     /// It is a record's, with this id.
     Line(EventId),
-    /// No line ends behind the lines read, but perhaps from place 2^40 on.
+    /// No line ends behind the lines read, but perhaps from place `MAX_LOG` on.
     End,
     /// It is refused.
     Wrong(Why),
@@ -75,7 +77,7 @@ fn line_step<K: Record, L: LogFile>(
 
 // Whether the line that was read last is that which begins at `first`. Afterwards the next line is read at `end`.
 fn is_as_first<L: LogFile>(tail: &mut Tail<L>, first: u64, end: u64) -> Result<bool, ReadFault>
-    ensures same_line { IsTrue L.tells → IfOk result (λ same. length tail.old.window.0 ≤ 296 → (there rest : List ℕ) → behind (L.bytes tail.old.log) first ≡ there ++ line_feed ∷ rest → Lacks line_feed there
+    ensures same_line { IsTrue L.tells → IfOk result (λ same. length tail.old.window.0 ≤ MAX_LINE → (there rest : List ℕ) → behind (L.bytes tail.old.log) first ≡ there ++ line_feed ∷ rest → Lacks line_feed there
         → IsTrue same ↔ (there ≡ tail.old.window.0)) }
     ensures place { tail.new.place ≡ end }
     ensures same { IsTrue L.tells → L.bytes tail.new.log ≡ L.bytes tail.old.log }
@@ -90,8 +92,8 @@ fn is_as_first<L: LogFile>(tail: &mut Tail<L>, first: u64, end: u64) -> Result<b
 
 // Copies a line, or the front of one that is too long, and answers how many bytes.
 fn copy_line(line: &[u8], kept: &mut [u8; MAX_LINE]) -> usize
-    ensures fits { result ≤ 296 }
-    ensures bytes { length line.now ≤ 296 → take result kept.new ≡ line.now }
+    ensures fits { result ≤ MAX_LINE }
+    ensures bytes { length line.now ≤ MAX_LINE → take result kept.new ≡ line.now }
 {
     let len = line.len().min(MAX_LINE);
     kept[..len].copy_from_slice(&line[..len]);
@@ -100,7 +102,7 @@ fn copy_line(line: &[u8], kept: &mut [u8; MAX_LINE]) -> usize
 
 // Whether the line that begins at the place is this one.
 fn is_line_at<L: LogFile>(tail: &mut Tail<L>, place: u64, line: &[u8]) -> Result<bool, ReadFault>
-    ensures same_line { IsTrue L.tells → IfOk result (λ same. (there rest : List ℕ) → length line.now ≤ 296 → behind (L.bytes tail.old.log) place ≡ there ++ line_feed ∷ rest → Lacks line_feed there
+    ensures same_line { IsTrue L.tells → IfOk result (λ same. (there rest : List ℕ) → length line.now ≤ MAX_LINE → behind (L.bytes tail.old.log) place ≡ there ++ line_feed ∷ rest → Lacks line_feed there
         → IsTrue same ↔ (there ≡ line.now)) }
     ensures same { IsTrue L.tells → L.bytes tail.new.log ≡ L.bytes tail.old.log }
     ensures count { Counts (L.faults tail.old.log) (L.faults tail.new.log) (IsErr result) }

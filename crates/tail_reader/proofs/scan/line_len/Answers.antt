@@ -1,5 +1,5 @@
 use Rattle.std.proofs.Common.{refl, sym, ◌∙◌}
-use Rattle.tail_reader.specs.Buffered.{line_feed}
+use Rattle.log_records.specs.Log.{line_feed}
 use Rattle.list_words.proofs.Cuts.{front_lacks}
 use Rattle.tail_reader.proofs.scan.line_len.Goals as goal
 

@@ -3,8 +3,8 @@ use Rattle.tail_reader.specs.Buffered.{Buffers}
 use Rattle.tail_reader.proofs.Windows.{buffers_drop, line_fits, is_line, is_long, is_long_behind, is_end, is_end_behind, past_limit}
 use Rattle.tail_reader.proofs.scan.next_line.Goals as goal
 
-pub returns-then-place-ge-LIMIT-clause-next : goal.returns-then-place-ge-LIMIT-clause-next
-returns-then-place-ge-LIMIT-clause-next g c = λ t. is_end (g.L.LogFile.bytes c.args.log.now) c.args.place [] (past_limit (g.L.LogFile.bytes c.args.log.now) c.args.place (omega arith))
+pub returns-then-place-ge-MAX_LOG-clause-next : goal.returns-then-place-ge-MAX_LOG-clause-next
+returns-then-place-ge-MAX_LOG-clause-next g c = λ t. is_end (g.L.LogFile.bytes c.args.log.now) c.args.place [] (past_limit (g.L.LogFile.bytes c.args.log.now) c.args.place (omega arith))
 
 pub returns-then-len-gt-MAX_LINE-clause-next : goal.returns-then-len-gt-MAX_LINE-clause-next
 returns-then-len-gt-MAX_LINE-clause-next g c = λ t.

@@ -1,5 +1,5 @@
 use Rattle.std.proofs.Common.{suc, ◌≡◌, ◌≤◌, ◌-◌, length, IsTrue}
-use Rattle.tail_reader.specs.declared.scan.TheConstants.{MAX_LINE}
+use Rattle.log_records.specs.declared.lines.TheConstants.{MAX_LINE}
 use Rattle.tail_reader.specs.Buffered.{Buffers}
 use Rattle.tail_reader.proofs.scan.settle.Given as goal
 

@@ -3,8 +3,8 @@ use Rattle.std.proofs.lemmas.List.{length-take}
 use Rattle.tail_reader.proofs.Windows.{past_limit, past_end, read_is}
 use Rattle.tail_reader.proofs.window.read_below.Goals as goal
 
-pub returns-then-at-ge-LIMIT-clause-end : goal.returns-then-at-ge-LIMIT-clause-end
-returns-then-at-ge-LIMIT-clause-end g c = λ t z. past_limit (g.L.LogFile.bytes c.args.log.now) c.args.at (omega arith)
+pub returns-then-at-ge-MAX_LOG-clause-end : goal.returns-then-at-ge-MAX_LOG-clause-end
+returns-then-at-ge-MAX_LOG-clause-end g c = λ t z. past_limit (g.L.LogFile.bytes c.args.log.now) c.args.at (omega arith)
 
 pub returns-clause-bytes : goal.returns-clause-bytes
 returns-clause-bytes g c = λ t.

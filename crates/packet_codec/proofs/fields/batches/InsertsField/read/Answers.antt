@@ -1,4 +1,4 @@
-use Rattle.std.proofs.Common.{◌≡◌, ◌≤◌, ◌++◌, [], ◌∷◌, List, ap, length, ◌∙◌, sym, subst, arith}
+use Rattle.std.proofs.Common.{◌≡◌, ◌++◌, [], ◌∷◌, List, ap, length, ◌∙◌, sym, subst, arith}
 use Rattle.std.proofs.lemmas.List.{length-append}
 use Rattle.registry_state.specs.declared.Insert.{Insert}
 use Rattle.list_words.specs.Lists.{Each}
@@ -23,6 +23,5 @@ loop-preserved c =
 
 pub returns-in_err-insert-clause-bad : goal.returns-in_err-insert-clause-bad
 returns-in_err-insert-clause-bad c =
-    let few : c.in_ok-count.count ≤ 64 = c.in_ok-count.ensures.high in
-    let bad = counted_bad c.loop.list c.in_ok-count.count c.args.bytes.now c.loop.rest.now c.in_err-insert.field-0.0 few (omega (arith, c.loop.invariant.count, c.loop-test.true)) c.loop.invariant.each c.loop.invariant.so_far c.in_err-insert.ensures.bad in
+    let bad = counted_bad c.loop.list c.in_ok-count.count c.args.bytes.now c.loop.rest.now c.in_err-insert.field-0.0 c.in_ok-count.ensures.high (omega (arith, c.loop.invariant.count, c.loop-test.true)) c.loop.invariant.each c.loop.invariant.so_far c.in_err-insert.ensures.bad in
     stopped (Spelled counted AreCounted) c.args.bytes.now c.in_err-insert.field-0.0 c.from_residual-in_err-insert.result c.from_residual-in_err-insert.ensures.1 bad
