@@ -6,13 +6,16 @@ ghost use Rattle.lossy_link.specs.Fates.{PlanView};
 ghost use Rattle.command_words.specs.Words.{Wish};
 ghost use Rattle.gate_journal.specs.Images.{GoesOn};
 ghost use Rattle.turn_defs.specs.Setting.{Checked, Setting};
-ghost use Rattle.site_laws.specs.Stores.{IsSoundStore};
+ghost use Rattle.photon_model.specs.Runs.{Disks};
+ghost use Rattle.site_laws.specs.Stores.{AreAllLeft, Bytes, HoldsRecords, IsSoundStore};
 ghost use Rattle.site_laws.specs.Laws.{made_by};
 ghost use Rattle.site_run.specs.Heard.{IsHeardOf};
+ghost use Rattle.site_run.specs.Left.{HasRun};
 ghost use Rattle.site_run.specs.declared.ran.Ran.{Ran};
 ghost use Rattle.site_run.specs.declared.ran.RunLog.{RunLog};
 ghost use Rattle.photon_cli.specs.Again.{AreCalls, AreOutputOnce, Call, KeepsBy, setting_after, store_after};
 ghost use Rattle.photon_cli.specs.Ends.{Ends};
+ghost use Rattle.photon_cli.specs.Join.{IsHistory};
 
 use outside::{Sink, Source, Store};
 
@@ -43,4 +46,12 @@ pub fn dead_have_no_entry()
         → (r : ℕ) → r < 3 → plan.dead ≡ Some r → made_by (4 + r) log.air.history ≡ [] }
 {
     air_bus::laws::dead_have_no_entry();
+}
+
+/// Where a stop before a run would have left just these bytes of the disks, the run is from the very records that the bytes keep.
+pub fn runs_from_kept_records<S: Store>()
+    ensures { (g : Setting) (before after : S) (plan : PlanView) (log : RunLog) → IsHistory g (S.image before) (S.image after) plan log
+        → (b : Bytes) → AreAllLeft g (S.image before) b → (d : Disks) → HoldsRecords g b d → HasRun g d log.air.history (S.image after) }
+{
+    site_laws::stores::once();
 }

@@ -52,6 +52,10 @@ joiner_of g s j = first_joiner g + s * g.joiners + j
 abbrev pub IsChoice : Setting → Images → Bytes → Type 0
 IsChoice g image b = (disk : DiskName) → IsDisk g disk → image disk (b disk)
 
+-- these bytes are all that a stop may leave of each
+abbrev pub AreAllLeft : Setting → Images → Bytes → Type 0
+AreAllLeft g image b = (disk : DiskName) → IsDisk g disk → (c : List ℕ) → image disk c → c ≡ b disk
+
 -- ---- what bytes keep
 
 -- the bytes keep the topology, or none
