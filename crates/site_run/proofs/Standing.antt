@@ -1,20 +1,11 @@
 -- From what a run leaves of each node to the run of the whole system.
-use Rattle.std.specs.Prelude.{IsTrue, Result, Ok, Err, IfOk}
+use Rattle.std.specs.Prelude.{IsTrue}
 use Rattle.std.proofs.Common.{◌≡◌, ◌≢◌, ⊎_elim, inl, inr, ℕ, ◌≤◌, ◌<◌, List, [], ◌∷◌, length, slice_index_or, Bool, true, false, Option, Some, None, refl, sym, ap, ◌∙◌, subst, arith}
 use Rattle.site_run.proofs.Words.{list_any, or_parts, get_or_default, DiskName, Entry, Begin, End, Stop, Phase, Idle, Busy, Bytes, Kind, PlanView, IsAired, phase, is_dead, Node, Dispatcher, Server, Replica, Joiner, Setting, IsNode, NumbersAreNodes, node_number, node_of, node_count, NodeFault, Damaged, Spent, State, Rows, state_phase, phase_by, dispatcher_at_rest, JoinerKept, joiner_at_rest, ServerKept, server_at_rest, World, Disks, world_after, opening, UpWith, StateOf, rows_of, down_over, cell_of, StandsFor, RestsAt, StatesRest, made_by, EachWalked, IsRunOf, AiredIsRun, Chosen, choose, StandsAt, LeadsOn, GrowsOn, Reached, is_stop, Rests, AnyState, any_of, any_phase, any_rests, IsAtLast, IsMeant, AreDownOver, DeadAreReplicas, IsRunFrom, HaveGrown, HasCome, ComesToLast}
 use Rattle.site_node.specs.States as states
 use Rattle.photon_model.specs.Runs as model
 use Rattle.site_run.specs.AnyNodes.{GoesOn}
 use Rattle.site_run.proofs.Walking.{walked}
-
--- what is known of a result that came
-pub with_ok : {T E : Type 0} (A B C F Q : T → Type 0) (r : Result T E) → IfOk r A → IfOk r B → IfOk r C → IfOk r F → ((t : T) → A t → B t → C t → F t → Q t) → IfOk r Q
-with_ok A B C F Q (Ok t) a b c f h = h t a b c f
-with_ok A B C F Q (Err e) a b c f h = tt
-
-pub with_grown : {T E : Type 0} (A Q : T → Type 0) (r : Result T E) → IfOk r A → ((t : T) → A t → Q t) → IfOk r Q
-with_grown A Q (Ok t) a h = h t a
-with_grown A Q (Err e) a h = tt
 
 down_phase : (g : Setting) (d : Disks) (n : Node) (m : ℕ) → any_phase (any_of n (down_over g d n)) ≡ phase m []
 down_phase g d (Dispatcher s) m = refl

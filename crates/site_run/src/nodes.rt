@@ -1,6 +1,4 @@
-// Both sites: their nodes over disks as one kind, and their run on threads.
+// The nodes of both sites over disks, as one kind.
 mod any_node;
-mod run;
 
 pub use any_node::{AnyNode, SystemNode};
-pub use run::run_nodes;

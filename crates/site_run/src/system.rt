@@ -24,13 +24,14 @@ ghost use Rattle.site_run.specs.Out.{AreOut};
 
 use crate::built::{Parting, Parts, apart};
 use crate::disk_laws::none_stops;
-use crate::nodes::{SystemNode, run_nodes};
+use crate::nodes::SystemNode;
 use crate::settle::{give_parts, part_all, settle};
 use crate::{Outcome, Ran, RunFault, RunLog};
 use lossy_link::{Kind, Plan};
 use outside::{Gate, Source, Store};
 use site_laws::stores::{once, read};
 use site_store::LentDisk;
+use site_workers::run;
 use std::alloc::Global;
 use std::sync::Wait;
 use std::thread::Threads;
@@ -120,13 +121,17 @@ where
     ensures store_count { S.faults store.old ≤ S.faults store.new }
 {
     turn_defs::laws::node_numbers();
+    air_bus::laws::dead_have_no_entry();
+    site_laws::aired_is_run();
+    site_laws::numbers_end();
+    site_laws::rest_of_states();
     none_stops();
     once();
     read();
     let mut parts = parts;
     parts.disks.push_reserved(topology);
     let is_recorded = ran.is_recorded;
-    match run_nodes(rt, alloc, kinds(joiners), plan, nodes, gate, is_recorded) {
+    match run(rt, alloc, kinds(joiners), plan, nodes, gate, is_recorded) {
         Ok(left) => {
             let site_workers::Ran {
                 air,

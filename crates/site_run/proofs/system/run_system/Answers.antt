@@ -1,6 +1,8 @@
+use Rattle.std.specs.Prelude.{IsTrue}
 use Rattle.std.proofs.Common.{◌≡◌, ◌≢◌, ⊎_elim, ℕ, ◌+◌, ◌*◌, ◌<◌, ◌++◌, ◌∷◌, [], None, false, length, map, slice_index_or, sym, ap, ◌∙◌, subst, arith}
-use Rattle.site_run.proofs.Words.{length-map, recursion_from_All, IfErr-weaker, Each, Mem, mem_right, Rose, KeepsPairs, node_count, MayBeLeft, KeepsNotes, made_by, stop_count, as_lent, all_from, IsOfDisks, AreKeptIn, lent_replicas, lent_outputs}
+use Rattle.site_run.proofs.Words.{length-map, recursion_from_All, IfErr-weaker, Each, Mem, mem_right, Rose, KeepsPairs, Setting, Disks, node_count, MayBeLeft, KeepsNotes, made_by, stop_count, as_lent, all_from, IsRosterOf, AreDownOver, IsRunFrom, IsOfDisks, AreKeptIn, lent_replicas, lent_outputs}
 use Rattle.site_run.proofs.Opened.{down_too}
+use Rattle.site_run.proofs.Standing.{have_grown, runs_from}
 use Rattle.site_run.proofs.Dead.{dead_replicas}
 use Rattle.site_run.proofs.Outing.{given_goes_on}
 use Rattle.site_run.proofs.Running.{same_count, goes_on, has_run, rests, no_stops, fault_told, first_told, first_ended, disks_alone, read_back_of, at_rest, disks_counted}
@@ -11,11 +13,24 @@ use Rattle.outside.specs.declared.store.DiskName.TheVariants as name
 use Rattle.site_store.specs.Plans.{Left}
 use Rattle.site_store.proofs.Lending.{each_weaker}
 use Rattle.site_store.proofs.Planned.{each_calm}
+use Rattle.site_run.proofs.system.run_system.Given.{Over}
 use Rattle.site_run.proofs.system.run_system.Goals as goal
+use Rattle.site_run.proofs.system.run_system.Goals.{After-settle}
 
 -- the number of nodes
 counted : (joiners replicas nodes j : ℕ) → nodes ≡ 7 + 2 * j → joiners ≡ j → replicas ≡ 3 → nodes ≡ 4 + replicas + 2 * joiners
 counted joiners replicas nodes j is same three = omega (arith, is, same, three)
+
+-- the history is a run of the whole system, from whatever records its nodes were opened over
+run_left : (g : Over) (c : After-settle g) → IsTrue g.N.SiteNode.tells → (gg : Setting) (d : Disks) → IsRosterOf gg c.args.joiners → AreDownOver g.N.SystemNode.places gg d c.args.nodes.items
+    → IsRunFrom g.N.SystemNode.places gg d c.in-Ok.left.air.history c.in-Ok.left.nodes.items c.in-Ok.left.rest
+run_left g c tells gg d roster down =
+    let n = g.N.SiteNode in
+    let o = c.in-Ok.ensures in
+    let laws = g.met.N.SystemNode g.world.𝓛 g.world.𝓜 g.world.𝓡 ((λ s x. x), (λ x. x), (λ x. x), λ x. x) in
+    runs_from n.leads n.phase_of n.stands n.number n.at_rest_as n.spends g.N.SystemNode.places laws.walks c.aired_is_run.ensures c.rest_of_states.ensures.rest c.node_numbers.ensures c.numbers_end.ensures c.dead_have_no_entry.ensures gg d c.args.plan c.kinds.result.now
+    c.in-Ok.left.air.history c.args.nodes.items c.in-Ok.left.nodes.items c.in-Ok.left.rest (counted gg.joiners gg.replicas (length c.args.nodes.items) c.args.joiners c.requires.count roster.joiners_are roster.replicas) o.count o.heard.aired
+    (λ k le. o.heard.others k (omega (arith, le, c.requires.count, c.kinds.ensures.count))) (dead_replicas gg c.args.plan _ c.args.joiners roster.replicas c.kinds.ensures.are) down (o.walked tells) o.rest
 
 pub settle-requires-after_bounds : goal.settle-requires-after_bounds
 settle-requires-after_bounds g c =
@@ -30,6 +45,8 @@ settle-requires-after_bounds g c =
 
 pub returns-in-Ok-clause-grown : goal.returns-in-Ok-clause-grown
 returns-in-Ok-clause-grown g c tells node_tells gg d s roster held down out disk bytes now =
+    let n = g.N.SiteNode in
+    let laws = g.met.N.SystemNode g.world.𝓛 g.world.𝓜 g.world.𝓡 ((λ s x. x), (λ x. x), (λ x. x), λ x. x) in
     let image = g.S.Disk.Disk.image in
     let inside = g.S.Store.image c.args.store.now in
     let disks_of = g.N.Parting.disks_of in
@@ -38,7 +55,8 @@ returns-in-Ok-clause-grown g c tells node_tells gg d s roster held down out disk
     let front = in_front c.args.parts.disks.items c.push_reserved.new.self.items c.args.topology (all_from (λ i w. disks_of c.args.joiners i w.0) 0 ws) c.requires.empty.0 c.push_reserved.ensures.items in
     let whole = c.part_all-parts.ensures.disks ∙ front in
     goes_on image g.N.SystemNode.places g.N.SiteNode.grown disks_of held gg c.args.joiners (c.node_numbers.ensures gg) c.args.nodes.items ws count c.in-Ok.ensures.count
-    (c.in-Ok.ensures.grown node_tells gg d (sym count ∙ c.requires.count ∙ sym c.kinds.ensures.count) down) (as_lent c.args.topology) (g.S.Store.image s) inside (g.S.Store.image c.settle.new.store) out
+    (have_grown n.leads n.phase_of n.stands n.number n.at_rest_as n.spends g.N.SystemNode.places laws.walks n.grown gg d c.args.nodes.items ws (λ m is. omega (arith, (c.node_numbers.ensures gg).below m is, count)) down (c.in-Ok.ensures.grown node_tells))
+    (as_lent c.args.topology) (g.S.Store.image s) inside (g.S.Store.image c.settle.new.store) out
     (λ name b here. subst (λ l. MayBeLeft image inside l name b) whole (c.settle.ensures.left tells name b here)) disk bytes now
 
 pub returns-in-Ok-clause-left : goal.returns-in-Ok-clause-left
@@ -51,7 +69,7 @@ returns-in-Ok-clause-left g c tells node_tells gg d e roster held down same kept
     let front = in_front c.args.parts.disks.items c.push_reserved.new.self.items c.args.topology (all_from (λ i w. disks_of c.args.joiners i w.0) 0 ws) c.requires.empty.0 c.push_reserved.ensures.items in
     let whole = c.part_all-parts.ensures.disks ∙ front in
     has_run image g.N.SystemNode.places g.N.SiteNode.grown disks_of held gg c.args.joiners roster (c.node_numbers.ensures gg) e c.in-Ok.left.air.history ws c.in-Ok.left.rest
-    (c.in-Ok.ensures.run node_tells gg e (sym count ∙ c.requires.count ∙ sym c.kinds.ensures.count) (dead_replicas gg c.args.plan _ c.args.joiners roster.replicas c.kinds.ensures.are) (down_too g.N.SystemNode.places gg d e c.args.nodes.items same down)) (c.in-Ok.ensures.count ∙ count) (as_lent c.args.topology) kept inside (g.S.Store.image c.settle.new.store)
+    (run_left g (goal.at.returns-in-Ok-clause-left g c).After-settle node_tells gg e roster (down_too g.N.SystemNode.places gg d e c.args.nodes.items same down)) (c.in-Ok.ensures.count ∙ count) (as_lent c.args.topology) kept inside (g.S.Store.image c.settle.new.store)
     (λ name b here. subst (λ l. MayBeLeft image inside l name b) whole (c.settle.ensures.left tells name b here))
 
 pub returns-in-Ok-clause-rest : goal.returns-in-Ok-clause-rest
@@ -67,7 +85,7 @@ returns-in-Ok-clause-rest g c tells node_tells gg d e roster held met down same 
     let numbers = c.node_numbers.ensures gg in
     let topology = as_lent c.args.topology in
     let count : length c.args.nodes.items ≡ node_count gg = counted gg.joiners gg.replicas (length c.args.nodes.items) c.args.joiners c.requires.count roster.joiners_are roster.replicas in
-    let left = c.in-Ok.ensures.run node_tells gg e (sym count ∙ c.requires.count ∙ sym c.kinds.ensures.count) (dead_replicas gg c.args.plan _ c.args.joiners roster.replicas c.kinds.ensures.are) (down_too g.N.SystemNode.places gg d e c.args.nodes.items same down) in
+    let left = run_left g (goal.at.returns-in-Ok-clause-rest g c).After-settle node_tells gg e roster (down_too g.N.SystemNode.places gg d e c.args.nodes.items same down) in
     let front = in_front c.args.parts.disks.items c.push_reserved.new.self.items c.args.topology (all_from (λ i w. disks_of c.args.joiners i w.0) 0 ws) c.requires.empty.0 c.push_reserved.ensures.items in
     let whole = c.part_all-parts.ensures.disks ∙ front in
     ok_three _ _ _ _ c.settle.result c.settle.ensures.notes c.settle.ensures.pairs c.settle.ensures.whole
@@ -113,7 +131,7 @@ returns-in-Ok-clause-whole g c tells node_tells gg d roster held met down kept =
     let numbers = c.node_numbers.ensures gg in
     let topology = as_lent c.args.topology in
     let count : length c.args.nodes.items ≡ node_count gg = counted gg.joiners gg.replicas (length c.args.nodes.items) c.args.joiners c.requires.count roster.joiners_are roster.replicas in
-    let left = c.in-Ok.ensures.run node_tells gg d (sym count ∙ c.requires.count ∙ sym c.kinds.ensures.count) (dead_replicas gg c.args.plan _ c.args.joiners roster.replicas c.kinds.ensures.are) down in
+    let left = run_left g (goal.at.returns-in-Ok-clause-whole g c).After-settle node_tells gg d roster down in
     let front = in_front c.args.parts.disks.items c.push_reserved.new.self.items c.args.topology (all_from (λ i w. disks_of c.args.joiners i w.0) 0 ws) c.requires.empty.0 c.push_reserved.ensures.items in
     let whole = c.part_all-parts.ensures.disks ∙ front in
     IfErr-weaker c.settle.result _ _
