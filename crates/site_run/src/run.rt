@@ -1,29 +1,16 @@
 // The run.
-ghost use Rattle.std.specs.Prelude.{◌≡◌, ◌<◌, ◌≤◌, ◌+◌, ◌*◌, ◌++◌, ◌∷◌, [], ℕ, List, None, Some, length, map, vec_len, vec_capacity, IsTrue, IfOk, IfErr, IfSome, IsSomeAnd};
-ghost use Rattle.list_words.specs.Lists.{Mem};
-ghost use Rattle.outside.specs.declared.store.DiskName.{DiskName};
+ghost use Rattle.std.specs.Prelude.{◌≡◌, ◌≤◌, ℕ, List, None, IsTrue, IfErr, IfSome};
 ghost use Rattle.outside.specs.Faults.{Rose};
 ghost use Rattle.turn_defs.specs.Setting.{Setting, Checked};
-ghost use Rattle.photon_model.specs.Runs.{Disks};
-ghost use Rattle.dispatch_node.specs.Places.{AreKeptPlaces};
-ghost use Rattle.site_store.specs.Refusals.{other_names};
-ghost use Rattle.site_store.specs.Records.{AreRecordsOf, kept_all, lent_all, topology_lent};
-ghost use Rattle.site_store.specs.Lent.{MayBeLeft};
-ghost use Rattle.site_store.specs.Plans.{Left, AllAsPlanned};
-ghost use Rattle.gate_journal.specs.Images.{GoesOn};
-ghost use Rattle.site_laws.specs.Stores.{SameRecords};
-ghost use Rattle.site_run.specs.Laws.{KeepsItsRecord};
+ghost use Rattle.site_store.specs.Plans.{Left};
 ghost use Rattle.turn_defs.specs.Configs.{IsRunnable};
-ghost use Rattle.site_run.specs.Asked.{AreLogsOf, IsSettingOver, OfSetting};
+ghost use Rattle.site_run.specs.Asked.{IsSettingOver, OfSetting};
 ghost use Rattle.site_run.specs.Making.{AreEnough, IsRoomFor};
 ghost use Rattle.site_run.specs.Stops.{RunsAsPlanned};
 ghost use Rattle.site_run.specs.Heard.{IsHeardOf};
-ghost use Rattle.site_run.specs.Out.{AreOut};
-ghost use Rattle.site_run.specs.Left.{HasRun, HasRested};
 ghost use Rattle.site_run.specs.Over.{RunsOver};
 ghost use Rattle.run_fault.specs.Causes.{IsCounted};
-ghost use Rattle.site_run.specs.Causes.{IsPastOpening};
-ghost use Rattle.site_run.specs.Refused.{IsOfRun, NamesEnded};
+ghost use Rattle.site_run.specs.Refused.{NamesEnded};
 
 use crate::built::{Built, Logs, Room, build, take_last};
 use crate::disk_laws::{all_held, all_met, all_planned};
@@ -35,7 +22,7 @@ use crate::{Config, Names, Outcome, Ran, RunFault};
 use lossy_link::Plan;
 use outside::{DiskName, Gate, Source, Store};
 use site_laws::stores::topology_first;
-use site_store::{LentDisk, OpenStore, open_store};
+use site_store::{LentDisk, open_store};
 use std::alloc::Global;
 use std::sync::Wait;
 use std::thread::Threads;
@@ -103,7 +90,7 @@ where
     )
 }
 
-// Opens the store, and runs both sites over it.
+// Opens the store, builds the nodes over it, runs them, and gives all back.
 fn run_over<R, F, S, G>(
     rt: &R,
     alloc: Global,
@@ -141,98 +128,42 @@ where
 {
     topology_first::<S>();
     site_laws::stores::run::<S>();
+    all_held::<S::Disk, F::Log>();
+    all_met::<S::Disk, F::Log>();
+    all_planned::<S::Disk, F::Log>();
     let asked = Topology {
         joiners: config.joiners,
         table: config.table,
     };
     let mut logs = logs;
     let mut read = take_last(&mut logs.clicks);
-    match open_store(alloc, store, asked, config.replicas, &mut read, end) {
-        Ok(opened) => {
-            logs.clicks.push_reserved(read);
-            run_opened(
-                rt, alloc, config, files, store, plan, gate, ran, opened, logs, room,
-            )
-        }
+    let opened = match open_store(alloc, store, asked, config.replicas, &mut read, end) {
+        Ok(opened) => opened,
         Err(fault) => {
             logs.clicks.push_reserved(read);
             shut_logs(files, logs);
-            Err(fault)
+            return Err(fault);
         }
-    }
-}
-
-// Builds the nodes, runs them, and gives all back.
-fn run_opened<R, F, S, G>(
-    rt: &R,
-    alloc: Global,
-    config: &Config,
-    files: &mut F,
-    store: &mut S,
-    plan: Plan,
-    gate: &G,
-    ran: &mut Ran,
-    opened: OpenStore<S::Disk>,
-    logs: Logs<F::Log>,
-    room: Room<S::Disk, F::Log, AnyNode<S::Disk, F::Log>>,
-) -> Result<Outcome, RunFault>
-where
-    R: Threads + Wait + Sync,
-    F: Source,
-    S: Store,
-    G: Gate,
-    F::Log: Drop,
-    S::Disk: Drop,
-    requires ranges { IsRunnable config.now }
-    requires room { IsRoomFor config.now.joiners room }
-    requires named { map (λ o. o.name) opened.disks.items ≡ other_names config.now.joiners config.now.replicas }
-    requires logs { AreEnough config.now.joiners logs }
-    requires places { 10 + 4 * config.now.joiners ≤ S.places_left store.old }
-    requires none { ran.old.log ≡ None }
-    // Where no run began each disk is given back as it was.
-    ensures idle { IsTrue S.Disk.tells → ran.new.log ≡ None → (disk : DiskName) (c : List ℕ) → S.image store.new disk c → MayBeLeft S.Disk.image (S.image store.old) (topology_lent opened.topology.journal.disk ∷ lent_all opened.disks.items) disk c }
-    ensures grown { IsTrue S.Disk.tells → IsTrue F.Log.tells → (g : Setting) → AreLogsOf F.Log.bytes logs.clicks.items logs.queries.items config.now g
-        → (d : Disks) → AreRecordsOf g (kept_all opened.disks.items) d → ((s : ℕ) → s < 2 → AreKeptPlaces g (d.dispatchers s)) → (s : S) → AreOut S.Disk.image (S.image s) (S.image store.old) (topology_lent opened.topology.journal.disk) (lent_all opened.disks.items) → (disk : DiskName) → GoesOn (S.image s disk) (S.image store.new disk) }
-    ensures left { IsTrue S.Disk.tells → IsTrue F.Log.tells → (g : Setting) → AreLogsOf F.Log.bytes logs.clicks.items logs.queries.items config.now g
-        → (d : Disks) → AreRecordsOf g (kept_all opened.disks.items) d → ((s : ℕ) → s < 2 → AreKeptPlaces g (d.dispatchers s)) → (e : Disks) → SameRecords g d e → KeepsItsRecord S.Disk.image g (topology_lent opened.topology.journal.disk) → IfSome ran.new.log (λ l. HasRun g e l.air.history (S.image store.new)) }
-    ensures rest { IsTrue S.Disk.tells → IsTrue F.Log.tells → (g : Setting) → AreLogsOf F.Log.bytes logs.clicks.items logs.queries.items config.now g
-        → (d : Disks) → AreRecordsOf g (kept_all opened.disks.items) d → ((s : ℕ) → s < 2 → AreKeptPlaces g (d.dispatchers s)) → (e : Disks) → SameRecords g d e → KeepsItsRecord S.Disk.image g (topology_lent opened.topology.journal.disk) → IfOk result (λ outcome. IsSomeAnd ran.new.log (λ l. HasRested g e l.air.history (S.image store.new) (Rose (S.faults store.old) (S.faults store.new)) outcome.journals)) }
-    ensures heard { IfSome ran.new.log (IsHeardOf plan config.now.joiners) }
-    ensures cause { IfErr result (IsCounted (Rose (F.faults files.old) (F.faults files.new)) (Rose (S.faults store.old) (S.faults store.new))) }
-    ensures welcome { IfErr result IsPastOpening }
-    ensures whole { IsTrue S.Disk.tells → IsTrue F.Log.tells → (g : Setting) → AreLogsOf F.Log.bytes logs.clicks.items logs.queries.items config.now g
-        → (d : Disks) → AreRecordsOf g (kept_all opened.disks.items) d → ((s : ℕ) → s < 2 → AreKeptPlaces g (d.dispatchers s)) → KeepsItsRecord S.Disk.image g (topology_lent opened.topology.journal.disk) → IfErr result (IsOfRun g d (Rose (S.faults store.old) (S.faults store.new))) }
-    ensures stopped { IfErr result (NamesEnded ran.new.log) }
-    ensures stops { IsTrue S.Disk.planned → IsTrue F.Log.tells → (g : Setting) → AreLogsOf F.Log.bytes logs.clicks.items logs.queries.items config.now g
-        → (d : Disks) → AreRecordsOf g (kept_all opened.disks.items) d → ((s : ℕ) → s < 2 → AreKeptPlaces g (d.dispatchers s)) → (s : S)
-        → AllAsPlanned S.Disk.stops S.Disk.made S.Disk.faults (Left S.stops S.made s) (topology_lent opened.topology.journal.disk ∷ lent_all opened.disks.items)
-        → RunsAsPlanned (Left S.stops S.made s) g ran.new.log (S.faults store.old) (S.faults store.new) }
-    ensures same { IsTrue F.Log.tells → (n : List ℕ) → F.bytes files.new n ≡ F.bytes files.old n }
-    ensures file_count { F.faults files.old ≤ F.faults files.new }
-    ensures store_count { S.faults store.old ≤ S.faults store.new }
-{
-    all_held::<S::Disk, F::Log>();
-    all_met::<S::Disk, F::Log>();
-    all_planned::<S::Disk, F::Log>();
-    match build(alloc, config, opened, logs, room) {
-        Ok(built) => {
-            let Built {
-                topology,
-                nodes,
-                parts,
-            } = built;
-            let topology = LentDisk {
-                name: DiskName::Topology,
-                disk: topology.into_disk(),
-            };
-            let joiners = config.joiners;
-            run_system(
-                rt, alloc, joiners, files, store, plan, gate, ran, topology, nodes, parts,
-            )
-        }
+    };
+    logs.clicks.push_reserved(read);
+    let built = match build(alloc, config, opened, logs, room) {
+        Ok(built) => built,
         Err(parts) => {
             give_parts(files, store, parts);
-            Err(RunFault::Memory)
+            return Err(RunFault::Memory);
         }
-    }
+    };
+    let Built {
+        topology,
+        nodes,
+        parts,
+    } = built;
+    let topology = LentDisk {
+        name: DiskName::Topology,
+        disk: topology.into_disk(),
+    };
+    let joiners = config.joiners;
+    run_system(
+        rt, alloc, joiners, files, store, plan, gate, ran, topology, nodes, parts,
+    )
 }

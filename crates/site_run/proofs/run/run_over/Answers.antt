@@ -1,77 +1,146 @@
-use Rattle.std.proofs.Common.{arith, Some, true, inl, [], ◌∷◌, refl, sym, ◌∙◌, ap, subst}
-use Rattle.std.specs.Prelude.{IfErr}
-use Rattle.site_run.proofs.Words.{IfErr-weaker, Mem, mem_right, Topology, Store, IsLogOf, Rose, topology_of, IsAsked, kept_all, topology_lent, values_of, other_names, records_of, names_kept, IsCounted, IsCauseOf, IsOfRun, RunLeft}
+use Rattle.std.proofs.Common.{◌≡◌, ◌+◌, ◌*◌, ◌∷◌, [], ℕ, List, arith, true, None, Some, inl, refl, sym, ◌∙◌, ap, subst, length, map}
+use Rattle.std.specs.Prelude.{IfErr, IsTrue}
+use Rattle.outside.specs.declared.store.DiskName.TheVariants as name
+use Rattle.site_store.specs.Plans.{IsAsPlanned, Left}
+use Rattle.site_store.proofs.Planned.{each_calm}
+use Rattle.site_run.specs.Making.{IsStart}
+use Rattle.site_run.proofs.Words.{IfErr-weaker, length-map, Mem, mem_right, DiskName, Topology, Store, Setting, IsLogOf, Rose, topology_of, IsAsked, IsRosterOf, IsSettingOver, MayBeLeft, kept_all, lent_all, topology_lent, as_lent, values_of, other_names, records_of, names_kept, KeepsItsRecord, IsCounted, IsCauseOf, IsOfRun, IsPastOpening, RunLeft}
 use Rattle.site_run.proofs.Counting.{rose_before, some_rose}
-use Rattle.site_run.proofs.Opened.{count_opened}
+use Rattle.site_run.proofs.Holding.{all_tell}
+use Rattle.site_run.proofs.Opened.{count_opened, room_for, fits_behind, may_same, out_same}
+use Rattle.site_run.proofs.Outing.{each_moved, moved_out, may_moved, may_behind, given_goes_on}
 use Rattle.site_run.proofs.Entering.{records_so, places_so, all_apart, out_so, keeps_so, other_stays, still_sound}
 use Rattle.site_run.proofs.Entered.{run_left, rest_left, rest_earlier, run_sound, none_left, counted_more, last_of, over_back}
 use Rattle.site_run.proofs.Refusing.{on_ok_of, err_both, passed_so, refused_so, none_kept, cause_so, welcome_so, refusal_counted, refusal_unnamed}
 use Rattle.site_run.proofs.Planning.{none_planned, planned_earlier}
+use Rattle.site_run.proofs.run.run_over.Given.{Over}
 use Rattle.site_run.proofs.run.run_over.Goals as goal
+use Rattle.site_run.proofs.run.run_over.Goals.{After-build, After-open_store}
 
-pub run_opened-requires-clause-places : goal.run_opened-requires-clause-places
-run_opened-requires-clause-places g c κs within =
-    let many = count_opened c.in-Ok.opened.disks.items _ _ c.requires.ranges.replicas c.in-Ok.ensures.named in
-    omega (arith, many, c.in-Ok.ensures.places)
+-- the log that is read is the setting's
+first_log : (g : Over) (c : After-open_store g) (gg : Setting) → IsSettingOver g.F.Log.LogFile.bytes c.args.logs.clicks.items c.args.logs.queries.items c.args.config.now c.args.end gg → IsLogOf (g.F.Log.LogFile.bytes c.take_last-read.result) gg
+first_log g c gg is = last_of (λ l. IsLogOf (g.F.Log.LogFile.bytes l) gg) c.args.logs.clicks.items c.take_last-read.new.logs.items c.take_last-read.result c.take_last-read.ensures.items is.logs.clicks_are
 
-pub returns-in-Ok-clause-cause : goal.returns-in-Ok-clause-cause
-returns-in-Ok-clause-cause g c =
-    let logs_rose = Rose (g.F.Source.faults c.args.files.now) (g.F.Source.faults c.run_opened.new.files) in
-    let disks_rose = Rose (g.S.Store.faults c.args.store.now) (g.S.Store.faults c.run_opened.new.store) in
-    let from_there = Rose (g.S.Store.faults c.open_store.new.store) (g.S.Store.faults c.run_opened.new.store) in
-    IfErr-weaker c.run_opened.result _ _ (λ f is. counted_more f logs_rose from_there logs_rose disks_rose (λ rose. rose)
-    (λ rose. rose_before (g.S.Store.faults c.args.store.now) (g.S.Store.faults c.open_store.new.store) (g.S.Store.faults c.run_opened.new.store) c.in-Ok.ensures.count rose) is) c.run_opened.ensures.cause
+-- the nodes are built over the setting's logs, and over the records that the opened disks keep
+start : (g : Over) (c : After-build g) → IsTrue g.F.Log.LogFile.tells → (gg : Setting) → IsSettingOver g.F.Log.LogFile.bytes c.args.logs.clicks.items c.args.logs.queries.items c.args.config.now c.args.end gg
+    → IsStart g.F.Log.LogFile.bytes c.push_reserved-2.new.self.items c.args.logs.queries.items c.in-Ok.opened.disks.items c.args.config.now gg (records_of gg (kept_all {D = g.row.S-Disk.Denot} c.in-Ok.opened.disks.items))
+start g c log_tells gg is =
+    let disks = c.in-Ok.opened.disks.items in
+    let o = c.in-Ok.ensures in
+    let records = records_so disks _ _ o.named gg is.logs.numbers.replicas is.logs.numbers.joiners o.kept.1.kinds in
+    let first = last_of (λ l. IsLogOf (g.F.Log.LogFile.bytes l) gg) c.args.logs.clicks.items c.take_last-read.new.logs.items c.take_last-read.result c.take_last-read.ensures.items is.logs.clicks_are in
+    record {
+      logs = over_back g.F.Log.LogFile.bytes c.args.config.now gg c.args.logs.clicks.items c.take_last-read.new.logs.items c.push_reserved-2.new.self.items c.args.logs.queries.items c.take_last-read.result c.open_store.new.clicks c.take_last-read.ensures.items c.push_reserved-2.ensures.items
+          (subst (λ b. IsLogOf b gg) (sym (o.same log_tells)) first) is.logs;
+      records = records;
+      places = places_so disks _ _ o.named gg (records_of gg (kept_all {D = g.row.S-Disk.Denot} disks)) records (o.kept.2.places log_tells gg first is.ends);
+    }
 
-pub returns-in-Ok-clause-over : goal.returns-in-Ok-clause-over
-returns-in-Ok-clause-over g c tells log_tells gg checked is =
+pub run_system-requires-clause-places : goal.run_system-requires-clause-places
+run_system-requires-clause-places g c κs within =
+    let disks = c.in-Ok.opened.disks.items in
+    omega (arith, fits_behind {D = g.row.S-Disk.Denot} disks c.args.config.now.joiners c.args.config.now.replicas c.requires.ranges.replicas c.in-Ok.ensures.named _ c.in-Ok-build.ensures.held, count_opened {D = g.row.S-Disk.Denot} disks _ _ c.requires.ranges.replicas c.in-Ok.ensures.named, c.in-Ok.ensures.places)
+
+pub give_parts-requires-after_bounds : goal.give_parts-requires-after_bounds
+give_parts-requires-after_bounds g c =
+    let disks = c.in-Ok.opened.disks.items in
+    let back = c.in-Err-build.parts.disks.items in
+    let many : length (map as_lent back) ≡ 10 + 4 * c.args.config.now.joiners = room_for {D = g.row.S-Disk.Denot} disks c.args.config.now.joiners c.args.config.now.replicas c.requires.ranges.replicas c.in-Ok.ensures.named _ (map as_lent back) c.in-Err-build.ensures.disks in
+    omega (arith, many, length-map back as_lent, count_opened {D = g.row.S-Disk.Denot} disks _ _ c.requires.ranges.replicas c.in-Ok.ensures.named, c.in-Ok.ensures.places)
+
+pub returns-clause-cause : goal.returns-clause-cause
+returns-clause-cause g c =
+    let logs_rose = Rose (g.F.Source.faults c.args.files.now) (g.F.Source.faults c.run_system.new.files) in
+    let disks_rose = Rose (g.S.Store.faults c.args.store.now) (g.S.Store.faults c.run_system.new.store) in
+    let from_there = Rose (g.S.Store.faults c.open_store.new.store) (g.S.Store.faults c.run_system.new.store) in
+    IfErr-weaker c.run_system.result _ _ (λ f both. counted_more f logs_rose from_there logs_rose disks_rose (λ rose. rose)
+    (λ rose. rose_before (g.S.Store.faults c.args.store.now) (g.S.Store.faults c.open_store.new.store) (g.S.Store.faults c.run_system.new.store) c.in-Ok.ensures.count rose) both.0) (c.run_system.ensures.cause c.all_met.ensures)
+
+pub returns-clause-over : goal.returns-clause-over
+returns-clause-over g c tells log_tells gg checked is =
     let d = c.in-Ok.opened in
     let o = c.in-Ok.ensures in
+    let run = c.run_system.ensures in
     let image = g.S.Disk.Disk.image in
     let before = g.S.Store.image c.args.store.now in
     let inside = g.S.Store.image c.open_store.new.store in
-    let after = g.S.Store.image c.run_opened.new.store in
+    let after = g.S.Store.image c.run_system.new.store in
     let asked_of : Topology = record { joiners = c.args.config.now.joiners; table = c.args.config.now.table } in
     let asked : IsAsked asked_of gg = record { joiners = is.logs.numbers.joiners; table = is.logs.numbers.table } in
     let topology = topology_lent {D = g.row.S-Disk.Denot} d.topology.journal.disk in
+    let others = lent_all {D = g.row.S-Disk.Denot} d.disks.items in
     let all_kept = kept_all {D = g.row.S-Disk.Denot} d.disks.items in
     let built = records_of gg all_kept in
-    let records = records_so d.disks.items _ _ o.named gg is.logs.numbers.replicas is.logs.numbers.joiners o.kept.1.kinds in
-    let first = last_of (λ l. IsLogOf (g.F.Log.LogFile.bytes l) gg) c.args.logs.clicks.items c.take_last-read.new.logs.items c.take_last-read.result c.take_last-read.ensures.items is.logs.clicks_are in
-    let places = places_so d.disks.items _ _ o.named gg built records (o.kept.2.places log_tells gg first is.ends) in
-    let over = over_back g.F.Log.LogFile.bytes c.args.config.now gg c.args.logs.clicks.items c.take_last-read.new.logs.items c.push_reserved.new.self.items c.args.logs.queries.items c.take_last-read.result c.open_store.new.clicks c.take_last-read.ensures.items c.push_reserved.ensures.items
-    (subst (λ b. IsLogOf b gg) (sym (o.same log_tells)) first) is.logs in
-    let out = out_so asked_of image before inside topology _ (o.lent tells) in
-    let keeps = keeps_so asked_of image before inside topology _ (o.lent tells) gg asked refl in
+    let begun = start g (goal.at.returns-clause-over g c).After-build log_tells gg is in
+    let first = first_log g (goal.at.returns-clause-over g c).After-open_store gg is in
+    let out = out_so asked_of image before inside topology others (o.lent tells) in
     let apart = all_apart d.disks.items _ _ o.named in
-    let were = o.were_left tells gg built asked is.logs.numbers.replicas records in
+    let were = o.were_left tells gg built asked is.logs.numbers.replicas begun.records in
     let were_kept : Store = record { topology = were.0; disks = built; is_used = true } in
-    let from_there = Rose (g.S.Store.faults c.open_store.new.store) (g.S.Store.faults c.run_opened.new.store) in
-    let logs_rose = Rose (g.F.Source.faults c.args.files.now) (g.F.Source.faults c.run_opened.new.files) in
-    let disks_rose = Rose (g.S.Store.faults c.args.store.now) (g.S.Store.faults c.run_opened.new.store) in
-    let later : from_there → disks_rose = λ rose. rose_before (g.S.Store.faults c.args.store.now) (g.S.Store.faults c.open_store.new.store) (g.S.Store.faults c.run_opened.new.store) o.count rose in
-    let whole : IfErr c.run_opened.result (IsOfRun gg built from_there) = c.run_opened.ensures.whole tells log_tells gg over built records places keeps in
-    let none = none_kept gg all_kept o.kept.2.limits built records
+    let from_there = Rose (g.S.Store.faults c.open_store.new.store) (g.S.Store.faults c.run_system.new.store) in
+    let logs_rose = Rose (g.F.Source.faults c.args.files.now) (g.F.Source.faults c.run_system.new.files) in
+    let disks_rose = Rose (g.S.Store.faults c.args.store.now) (g.S.Store.faults c.run_system.new.store) in
+    let later : from_there → disks_rose = λ rose. rose_before (g.S.Store.faults c.args.store.now) (g.S.Store.faults c.open_store.new.store) (g.S.Store.faults c.run_system.new.store) o.count rose in
+    let node_tells = all_tell g.S.Disk.Disk.tells g.F.Log.LogFile.tells tells log_tells in
+    let roster : IsRosterOf gg c.args.config.now.joiners = record { joiners_are = is.logs.numbers.joiners; replicas = is.logs.numbers.replicas ∙ c.requires.ranges.replicas } in
+    let held = c.all_held.ensures tells log_tells in
+    let down = c.in-Ok-build.ensures.places tells gg built begun in
+    let same = ap (λ x. topology_lent {D = g.row.S-Disk.Denot} x) (c.into_disk.ensures ∙ ap (λ t. t.journal.disk) c.in-Ok-build.ensures.topology) in
+    let keeps = subst (λ t. KeepsItsRecord image gg t) (sym same) (keeps_so asked_of image before inside topology others (o.lent tells) gg asked refl) in
+    let idle : c.run_system.new.ran.log ≡ None → (disk : DiskName) (b : List ℕ) → after disk b → MayBeLeft image inside (topology ∷ others) disk b
+    = λ none disk b now. may_behind image inside topology others _ c.in-Ok-build.ensures.held disk b (may_same image inside _ _ _ disk b same (run.idle tells none disk b now)) in
+    let whole : IfErr c.run_system.result (IsOfRun gg built from_there) = run.whole tells node_tells gg built roster held c.all_met.ensures down keeps in
+    let none = none_kept gg all_kept o.kept.2.limits built begun.records
     (names_kept d.disks.items ∙ o.named ∙ ap (λ n. other_names n c.args.config.now.replicas) (sym is.logs.numbers.joiners) ∙ ap (other_names gg.joiners) (sym is.logs.numbers.replicas)) in
     record {
       ends = record {
         keeps = record {
           sound = λ sound.
-              let sure = o.whole tells gg built asked is.logs.numbers.replicas sound records in
-              run_sound c.run_opened.new.ran.log gg after (record { topology = Some (topology_of gg); disks = built; is_used = sure.0 }) checked sure.1 refl (c.run.ensures gg c.run_opened.new.store)
-              (λ none. still_sound asked_of image before inside topology _ (o.lent tells) refl apart after (λ disk bytes now. c.run_opened.ensures.idle tells none disk bytes now) gg asked (c.topology_first.ensures gg c.args.store.now c.run_opened.new.store) sound)
-              (c.run_opened.ensures.left tells log_tells gg over built records places built (λ n among. refl) keeps);
-          grown = λ disk. c.run_opened.ensures.grown tells log_tells gg over built records places c.args.store.now out disk;
+              let sure = o.whole tells gg built asked is.logs.numbers.replicas sound begun.records in
+              run_sound c.run_system.new.ran.log gg after (record { topology = Some (topology_of gg); disks = built; is_used = sure.0 }) checked sure.1 refl (c.run.ensures gg c.run_system.new.store)
+              (λ none. still_sound asked_of image before inside topology others (o.lent tells) refl apart after (idle none) gg asked (c.topology_first.ensures gg c.args.store.now c.run_system.new.store) sound)
+              (run.left tells node_tells gg built built roster held down (λ n among. refl) keeps);
+          grown = λ disk. run.grown tells node_tells gg built c.args.store.now roster held down (out_same image before inside _ _ _ (sym same) (moved_out image before inside topology others _ c.in-Ok-build.ensures.held out)) disk;
         };
-        idle = λ none disk other. other_stays asked_of image before inside topology _ (o.lent tells) refl apart after (λ d bytes now. c.run_opened.ensures.idle tells none d bytes now) disk other;
-        passed = on_ok_of c.run_opened.result (passed_so gg before asked_of asked _ is.logs.numbers.replicas g.S.Disk.Disk.tells g.F.Log.LogFile.tells tells log_tells (g.F.Log.LogFile.bytes c.take_last-read.result) c.args.end first is.ends (values_of {D = g.row.S-Disk.Denot} o.kept.0 d.disks.items) o.kept.1 o.kept.2);
-        caused = err_both (IsCounted logs_rose disks_rose) (IsOfRun gg built from_there) (IsCauseOf gg before logs_rose disks_rose) c.run_opened.result
-            (IfErr-weaker c.run_opened.result _ _ (λ f is. counted_more f logs_rose from_there logs_rose disks_rose (λ rose. rose) later is) c.run_opened.ensures.cause) whole
-            (λ f counted of. cause_so gg before built logs_rose disks_rose from_there f none later counted of);
-        welcome = λ sound. IfErr-weaker c.run_opened.result _ _ (λ f of. welcome_so gg built from_there _ f of) whole;
+        idle = λ none disk other. other_stays asked_of image before inside topology others (o.lent tells) refl apart after (idle none) disk other;
+        passed = on_ok_of c.run_system.result (passed_so gg before asked_of asked _ is.logs.numbers.replicas g.S.Disk.Disk.tells g.F.Log.LogFile.tells tells log_tells (g.F.Log.LogFile.bytes c.take_last-read.result) c.args.end first is.ends (values_of {D = g.row.S-Disk.Denot} o.kept.0 d.disks.items) o.kept.1 o.kept.2);
+        caused = err_both (λ f. IsCounted logs_rose from_there f × IsPastOpening f) (IsOfRun gg built from_there) (IsCauseOf gg before logs_rose disks_rose) c.run_system.result (run.cause c.all_met.ensures) whole
+            (λ f both of. cause_so gg before built logs_rose disks_rose from_there f none later (counted_more f logs_rose from_there logs_rose disks_rose (λ rose. rose) later both.0) of);
+        welcome = λ sound. IfErr-weaker c.run_system.result _ _ (λ f of. welcome_so gg built from_there _ f of) whole;
       };
-      left = run_left c.run_opened.new.ran.log gg before after were_kept were.1 (λ d' same. c.run_opened.ensures.left tells log_tells gg over built records places d' same keeps);
-      rest = rest_earlier gg before before after (λ disk b now. now) c.run_opened.result c.run_opened.new.ran.log _ _ later
-          (rest_left c.run_opened.result c.run_opened.new.ran.log gg before after were_kept from_there were.1 (λ d' same. c.run_opened.ensures.rest tells log_tells gg over built records places d' same keeps));
+      left = run_left c.run_system.new.ran.log gg before after were_kept were.1 (λ d' same. run.left tells node_tells gg built d' roster held down same keeps);
+      rest = rest_earlier gg before before after (λ disk b now. now) c.run_system.result c.run_system.new.ran.log _ _ later
+          (rest_left c.run_system.result c.run_system.new.ran.log gg before after were_kept from_there were.1 (λ d' same. run.rest tells node_tells gg built d' roster held c.all_met.ensures down same keeps));
+    }
+
+pub returns-in-Err-build-clause-over : goal.returns-in-Err-build-clause-over
+returns-in-Err-build-clause-over g c tells log_tells gg checked is =
+    let d = c.in-Ok.opened in
+    let o = c.in-Ok.ensures in
+    let image = g.S.Disk.Disk.image in
+    let before = g.S.Store.image c.args.store.now in
+    let inside = g.S.Store.image c.open_store.new.store in
+    let after = g.S.Store.image c.give_parts.new.store in
+    let asked_of : Topology = record { joiners = c.args.config.now.joiners; table = c.args.config.now.table } in
+    let asked : IsAsked asked_of gg = record { joiners = is.logs.numbers.joiners; table = is.logs.numbers.table } in
+    let topology = topology_lent {D = g.row.S-Disk.Denot} d.topology.journal.disk in
+    let others = lent_all {D = g.row.S-Disk.Denot} d.disks.items in
+    let apart = all_apart d.disks.items _ _ o.named in
+    let back : (disk : DiskName) (b : List ℕ) → after disk b → MayBeLeft image inside (topology ∷ others) disk b
+    = λ disk b now. may_moved image inside _ _ c.in-Err-build.ensures.disks disk b (c.give_parts.ensures.left tells disk b now) in
+    record {
+      ends = record {
+        keeps = record {
+          sound = still_sound asked_of image before inside topology others (o.lent tells) refl apart after back gg asked (c.topology_first.ensures gg c.args.store.now c.give_parts.new.store);
+          grown = λ disk b now. given_goes_on image before inside topology others (out_so asked_of image before inside topology others (o.lent tells)) disk b (back disk b now);
+        };
+        idle = λ none disk other. other_stays asked_of image before inside topology others (o.lent tells) refl apart after back disk other;
+        passed = tt;
+        caused = tt;
+        welcome = λ sound. tt;
+      };
+      left = none_left (λ l. RunLeft gg before after l.air.history) _ c.requires.none;
+      rest = tt;
     }
 
 pub returns-in-Err-clause-over : goal.returns-in-Err-clause-over
@@ -79,7 +148,7 @@ returns-in-Err-clause-over g c tells log_tells gg checked is =
     let e = c.in-Err.ensures in
     let asked_of : Topology = record { joiners = c.args.config.now.joiners; table = c.args.config.now.table } in
     let asked : IsAsked asked_of gg = record { joiners = is.logs.numbers.joiners; table = is.logs.numbers.table } in
-    let first = last_of (λ l. IsLogOf (g.F.Log.LogFile.bytes l) gg) c.args.logs.clicks.items c.take_last-read.new.logs.items c.take_last-read.result c.take_last-read.ensures.items is.logs.clicks_are in
+    let first = first_log g (goal.at.returns-in-Err-clause-over g c).After-open_store gg is in
     let before = g.S.Store.image c.args.store.now in
     let logs_rose = Rose (g.F.Source.faults c.args.files.now) (g.F.Source.faults c.shut_logs.new.files) in
     let disks_rose = Rose (g.S.Store.faults c.args.store.now) (g.S.Store.faults c.open_store.new.store) in
@@ -89,7 +158,7 @@ returns-in-Err-clause-over g c tells log_tells gg checked is =
         idle = λ none. (e.left tells).others;
         passed = tt;
         caused = refused_so gg before asked_of asked _ is.logs.numbers.replicas g.S.Disk.Disk.tells g.F.Log.LogFile.tells tells log_tells (g.F.Log.LogFile.bytes c.take_last-read.result) c.args.end first is.ends _ _ logs_rose disks_rose
-            (λ rose. c.shut_logs.ensures.clicks c.open_store.new.clicks (subst (Mem c.open_store.new.clicks) (sym c.push_reserved-in-Err.ensures.items) (mem_right c.open_store.new.clicks c.take_last-read.new.logs.items (c.open_store.new.clicks ∷ []) (inl refl))) (some_rose _ _ rose))
+            (λ rose. c.shut_logs.ensures.clicks c.open_store.new.clicks (subst (Mem c.open_store.new.clicks) (sym c.push_reserved.ensures.items) (mem_right c.open_store.new.clicks c.take_last-read.new.logs.items (c.open_store.new.clicks ∷ []) (inl refl))) (some_rose _ _ rose))
             (λ rose. rose) c.in-Err.fault e.cause;
         welcome = λ sound. e.welcome tells log_tells gg asked is.logs.numbers.replicas first is.ends sound;
       };
@@ -102,24 +171,32 @@ returns-in-Err-clause-cause g c =
     let logs_rose = Rose (g.F.Source.faults c.args.files.now) (g.F.Source.faults c.shut_logs.new.files) in
     let disks_rose = Rose (g.S.Store.faults c.args.store.now) (g.S.Store.faults c.open_store.new.store) in
     refusal_counted g.S.Disk.Disk.tells (g.S.Store.image c.args.store.now) c.args.config.now.replicas _ g.F.Log.LogFile.tells (g.F.Log.LogFile.bytes c.take_last-read.result) c.args.end _ (Some (record { joiners = c.args.config.now.joiners; table = c.args.config.now.table })) logs_rose disks_rose
-    (λ rose. c.shut_logs.ensures.clicks c.open_store.new.clicks (subst (Mem c.open_store.new.clicks) (sym c.push_reserved-in-Err.ensures.items) (mem_right c.open_store.new.clicks c.take_last-read.new.logs.items (c.open_store.new.clicks ∷ []) (inl refl))) (some_rose _ _ rose))
+    (λ rose. c.shut_logs.ensures.clicks c.open_store.new.clicks (subst (Mem c.open_store.new.clicks) (sym c.push_reserved.ensures.items) (mem_right c.open_store.new.clicks c.take_last-read.new.logs.items (c.open_store.new.clicks ∷ []) (inl refl))) (some_rose _ _ rose))
     (λ rose. rose) c.in-Err.fault c.in-Err.ensures.cause
 
 pub returns-in-Err-clause-stopped : goal.returns-in-Err-clause-stopped
 returns-in-Err-clause-stopped g c n is =
     absurd (refusal_unnamed g.S.Disk.Disk.tells (g.S.Store.image c.args.store.now) c.args.config.now.replicas _ g.F.Log.LogFile.tells (g.F.Log.LogFile.bytes c.take_last-read.result) c.args.end _ (Some (record { joiners = c.args.config.now.joiners; table = c.args.config.now.table })) c.in-Err.fault n c.in-Err.ensures.cause is)
 
-pub returns-in-Ok-clause-stops : goal.returns-in-Ok-clause-stops
-returns-in-Ok-clause-stops g c planned log_tells gg checked is =
-    let d = c.in-Ok.opened in
-    let o = c.in-Ok.ensures in
-    let built = records_of gg (kept_all {D = g.row.S-Disk.Denot} d.disks.items) in
-    let records = records_so d.disks.items _ _ o.named gg is.logs.numbers.replicas is.logs.numbers.joiners o.kept.1.kinds in
-    let first = last_of (λ l. IsLogOf (g.F.Log.LogFile.bytes l) gg) c.args.logs.clicks.items c.take_last-read.new.logs.items c.take_last-read.result c.take_last-read.ensures.items is.logs.clicks_are in
-    let places = places_so d.disks.items _ _ o.named gg built records (o.kept.2.places log_tells gg first is.ends) in
-    let over = over_back g.F.Log.LogFile.bytes c.args.config.now gg c.args.logs.clicks.items c.take_last-read.new.logs.items c.push_reserved.new.self.items c.args.logs.queries.items c.take_last-read.result c.open_store.new.clicks c.take_last-read.ensures.items c.push_reserved.ensures.items
-    (subst (λ b. IsLogOf b gg) (sym (o.same log_tells)) first) is.logs in
-    planned_earlier _ _ _ gg _ _ _ (λ disk k few. few) (c.open_store.ensures.calm planned) (c.run_opened.ensures.stops planned log_tells gg over built records places c.args.store.now (o.plan planned).out)
+pub returns-clause-stops : goal.returns-clause-stops
+returns-clause-stops g c planned log_tells gg checked is =
+    let disk = g.S.Disk.Disk in
+    let tells = (g.met.S.Disk.Disk g.world.𝓛 g.world.𝓜 g.world.𝓡 ((λ s x. x), (λ x. x), (λ x. x), λ x. x)).plan_told planned in
+    let left = Left g.S.Store.stops g.S.Store.made c.args.store.now in
+    let all = (c.in-Ok.ensures.plan planned).out in
+    let same = c.into_disk.ensures ∙ ap (λ t. t.journal.disk) c.in-Ok-build.ensures.topology in
+    let roster : IsRosterOf gg c.args.config.now.joiners = record { joiners_are = is.logs.numbers.joiners; replicas = is.logs.numbers.replicas ∙ c.requires.ranges.replicas } in
+    planned_earlier _ _ _ gg _ _ _ (λ disk k few. few) (c.open_store.ensures.calm planned)
+    (c.run_system.ensures.stops planned (c.all_planned.ensures.planned planned) gg _ c.args.store.now roster (c.all_held.ensures tells log_tells) (c.in-Ok-build.ensures.places tells gg _ (start g (goal.at.returns-clause-stops g c).After-build log_tells gg is))
+    (c.all_planned.ensures.disks planned) refl
+    (subst (IsAsPlanned disk.stops disk.made disk.faults (left name.Topology)) (sym same) all.0, each_moved (λ l. IsAsPlanned disk.stops disk.made disk.faults (left l.name) l.disk) _ _ c.in-Ok-build.ensures.held all.1))
+
+pub returns-in-Err-build-clause-stops : goal.returns-in-Err-build-clause-stops
+returns-in-Err-build-clause-stops g c planned log_tells gg checked is =
+    let disk = g.S.Disk.Disk in
+    let opened = topology_lent {D = g.row.S-Disk.Denot} c.in-Ok.opened.topology.journal.disk ∷ lent_all {D = g.row.S-Disk.Denot} c.in-Ok.opened.disks.items in
+    none_planned _ _ gg _ _ c.requires.none
+    (λ none. c.give_parts.ensures.calm (each_moved (λ l. disk.faults l.disk ≡ 0) opened _ c.in-Err-build.ensures.disks (each_calm disk.stops disk.made disk.faults (Left g.S.Store.stops g.S.Store.made c.args.store.now) opened (c.in-Ok.ensures.plan planned).out)) ∙ c.open_store.ensures.calm planned none)
 
 pub returns-in-Err-clause-stops : goal.returns-in-Err-clause-stops
 returns-in-Err-clause-stops g c planned log_tells gg checked is = none_planned _ _ gg _ _ c.requires.none (c.open_store.ensures.calm planned)
