@@ -33,8 +33,8 @@ use turn_defs::{Config, Outcome, Packet, WINDOW};
 
 /// The dispatcher of a site: what it knows while it is up, and which positions its disks keep pending.
 ///
-/// A turn costs constant expected time and O(log n) of the window, beside what it copies: a click, or at a Tick those of
-/// the window, at a Start the pending positions. The window has at most 64 entries.
+/// A turn costs constant expected time and O(log n) of the window, beside what it copies: the click of a line that it takes, or
+/// at a Tick those of the window, at a Start the pending positions. The window has at most 64 entries.
 #[derive(Debug, Drop)]
 pub struct DispatchCore {
     alloc: Global,
@@ -144,25 +144,25 @@ impl DispatchCore {
 
     /// What the input makes it do: at most one note, packets, and the change to keep once the note is written. It makes
     /// room for that change and changes nothing else. An error is want of memory.
-    pub fn decide(&mut self, input: &DispatchInput) -> Result<Turn, AllocError>
-        requires { IsTaken input.now }
+    pub fn decide(&mut self, input: DispatchInput) -> Result<Turn, AllocError>
+        requires { IsTaken input }
         ensures same { StandsAs self.old self.new }
         ensures numbers { HasSameNumbers self.old self.new }
         ensures next { self.new.dealer.next ≡ self.old.dealer.next }
         ensures ready { IfOk result (CanKeep self.new) }
         ensures turn { (g : Setting) (k : DispatcherKept) (l : DispatcherLive) (i : Input) →
-            Takes g self.old k l input.now → Carries g k l input.now i →
+            Takes g self.old k l input → Carries g k l input i →
             IfOk result (λ turn. IsTurn g self.new k l turn (out_of g self.old.dealer.site k l i)) }
         ensures joiners { IfOk result (λ turn. GoInTurn self.old.dealer.site self.old.dealer.config
-            (first_next input.now self.old.dealer.next) turn.packets.items turn.next) }
+            (first_next input self.old.dealer.next) turn.packets.items turn.next) }
         ensures spelled { IfOk result (λ turn. ArePackets turn.packets.items) }
     {
         self.make_room()?;
         match input {
-            DispatchInput::Start { offset, pending } => self.start(*offset, pending),
+            DispatchInput::Start { offset, pending } => self.start(offset, pending),
             DispatchInput::Own { line, due } => self.own(line, due),
             DispatchInput::Tick { trying } => self.tick(trying),
-            DispatchInput::Packet { from: _, packet } => Ok(self.get(packet)),
+            DispatchInput::Packet { from: _, packet } => Ok(self.get(&packet)),
         }
     }
 
@@ -188,9 +188,9 @@ impl DispatchCore {
     }
 
     // A turn with one Join.
-    fn joining(&self, position: u64, click: &ClickRec, change: Change) -> Result<Turn, AllocError>
-        requires { IsClick click.now }
-        ensures { IfOk result (λ turn. Sends self.now turn change ((position, click.now) ∷ [])) }
+    fn joining(&self, position: u64, click: ClickRec, change: Change) -> Result<Turn, AllocError>
+        requires { IsClick click }
+        ensures { IfOk result (λ turn. Sends self.now turn change ((position, click) ∷ [])) }
     {
         let mut outbox = Outbox::new(self.alloc, self.dealer);
         outbox.put(position, click)?;
@@ -198,16 +198,16 @@ impl DispatchCore {
     }
 
     // Start: the place is the offset, what is pending is due, and nothing is fresh or in trial. Linear in what is pending.
-    fn start(&self, offset: u64, pending: &Vec<u64>) -> Result<Turn, AllocError>
-        ensures turn { (g : Setting) (k : DispatcherKept) (l : DispatcherLive) → IsOf self.now.dealer.config g → IsKept k offset pending.now.items →
+    fn start(&self, offset: u64, pending: Vec<u64>) -> Result<Turn, AllocError>
+        ensures turn { (g : Setting) (k : DispatcherKept) (l : DispatcherLive) → IsOf self.now.dealer.config g → IsKept k offset pending.items →
             IfOk result (λ turn. IsTurn g self.now k l turn (dispatcher_start k)) }
         ensures joiners { IfOk result (IsDealt self.now 0) }
     {
         let mut kept = IndexSet::with_capacity(self.alloc, pending.len())?;
-        for position in pending {
+        for position in &pending {
             kept.insert(*position)?;
         }
-        let due = VecDeque::from_vec(Vec::from_slice(self.alloc, pending)?);
+        let due = VecDeque::from_vec(pending);
         Ok(Turn {
             packets: Vec::new(self.alloc),
             next: 0,
@@ -221,11 +221,11 @@ impl DispatchCore {
 
     // Own, the first that applies: the offset passes the leading done lines; with room in the window a due position is
     // tried again, or else the line at the place is taken.
-    fn own(&self, line: &Option<TakenLine>, due: &Option<ClickRec>) -> Result<Turn, AllocError>
-        requires line { IfSome line.now (λ t. IsClick t.click) }
-        requires due { IfSome due.now IsClick }
+    fn own(&self, line: Option<TakenLine>, due: Option<ClickRec>) -> Result<Turn, AllocError>
+        requires line { IfSome line (λ t. IsClick t.click) }
+        requires due { IfSome due IsClick }
         ensures turn { (g : Setting) (k : DispatcherKept) (l : DispatcherLive) → Stands g self.now k l →
-            (dispatcher_looks l ≡ true → IsLookedUp g l l.due line.now due.now) →
+            (dispatcher_looks l ≡ true → IsLookedUp g l l.due line due) →
             IfOk result (λ turn. IsTurn g self.now k l turn (dispatcher_own g self.now.dealer.site k l)) }
         ensures joiners { IfOk result (IsDealt self.now self.now.dealer.next) }
     {
@@ -243,10 +243,10 @@ impl DispatchCore {
     }
 
     // A due position: a Join of its click, and it is in trial. Without a click it stays due.
-    fn retry(&self, position: u64, due: &Option<ClickRec>) -> Result<Turn, AllocError>
-        requires { IfSome due.now IsClick }
+    fn retry(&self, position: u64, due: Option<ClickRec>) -> Result<Turn, AllocError>
+        requires { IfSome due IsClick }
         ensures turn { (rest : List ℕ) (g : Setting) (k : DispatcherKept) (l : DispatcherLive) → Stands g self.now k l →
-            l.due ≡ position ∷ rest → click_at g position ≡ due.now → IfOk result (λ turn. IsTurn g self.now k l turn
+            l.due ≡ position ∷ rest → click_at g position ≡ due → IfOk result (λ turn. IsTurn g self.now k l turn
             (retries g self.now.dealer.site k l position rest (at g.clicks position))) }
         ensures joiners { IfOk result (IsDealt self.now self.now.dealer.next) }
     {
@@ -258,10 +258,10 @@ impl DispatchCore {
 
     // The line at the place enters the window, done where its position is pending, else with a Join. Where no whole line
     // follows the place, the log has ended.
-    fn take(&self, line: &Option<TakenLine>) -> Result<Turn, AllocError>
-        requires { IfSome line.now (λ t. IsClick t.click) }
+    fn take(&self, line: Option<TakenLine>) -> Result<Turn, AllocError>
+        requires { IfSome line (λ t. IsClick t.click) }
         ensures turn { (g : Setting) (k : DispatcherKept) (l : DispatcherLive) → Stands g self.now k l →
-            (l.ended ≡ false → IsLineAt g l.place line.now) → IfOk result (λ turn. IsTurn g self.now k l turn
+            (l.ended ≡ false → IsLineAt g l.place line) → IfOk result (λ turn. IsTurn g self.now k l turn
             (if l.ended then idle l else takes g self.now.dealer.site k l (at g.clicks l.place))) }
         ensures joiners { IfOk result (IsDealt self.now self.now.dealer.next) }
     {
@@ -274,33 +274,38 @@ impl DispatchCore {
         }
     }
 
-    fn enter(&self, line: &TakenLine) -> Result<Turn, AllocError>
-        requires { IsClick line.now.click }
+    fn enter(&self, line: TakenLine) -> Result<Turn, AllocError>
+        requires { IsClick line.click }
         ensures turn { (g : Setting) (k : DispatcherKept) (l : DispatcherLive) → Stands g self.now k l →
-            l.place ≡ line.now.position → line.now.position < line.now.end → IfOk result (λ turn. IsTurn g self.now k l turn
-            (takes g self.now.dealer.site k l (Some (record { place = line.now.position; end_ = line.now.end; click = line.now.click })))) }
+            l.place ≡ line.position → line.position < line.end → IfOk result (λ turn. IsTurn g self.now k l turn
+            (takes g self.now.dealer.site k l (Some (record { place = line.position; end_ = line.end; click = line.click })))) }
         ensures joiners { IfOk result (IsDealt self.now self.now.dealer.next) }
     {
-        let done = self.pending.contains(&line.position);
-        let click = line.click.copy(self.alloc)?;
-        let fresh = FreshLine::new(line.position, line.end, click, done);
-        if done {
-            return Ok(self.quiet(Change::Take(fresh)));
+        let TakenLine {
+            position,
+            end,
+            click,
+        } = line;
+        if self.pending.contains(&position) {
+            let done = FreshLine::new(position, end, click, true);
+            return Ok(self.quiet(Change::Take(done)));
         }
-        self.joining(line.position, &line.click, Change::Take(fresh))
+        let copy = click.copy(self.alloc)?;
+        let fresh = FreshLine::new(position, end, click, false);
+        self.joining(position, copy, Change::Take(fresh))
     }
 
     // Tick: a Join of each line that isn't done, and of each position in trial. Linear in the window.
-    fn tick(&self, clicks: &Vec<ClickRec>) -> Result<Turn, AllocError>
-        requires { All IsClick clicks.now.items }
+    fn tick(&self, clicks: Vec<ClickRec>) -> Result<Turn, AllocError>
+        requires { All IsClick clicks.items }
         ensures turn { (g : Setting) (k : DispatcherKept) (l : DispatcherLive) → Stands g self.now k l →
-            AreClicksAt g l.trying clicks.now.items →
+            AreClicksAt g l.trying clicks.items →
             IfOk result (λ turn. IsTurn g self.now k l turn (dispatcher_tick g self.now.dealer.site k l)) }
         ensures joiners { IfOk result (IsDealt self.now self.now.dealer.next) }
     {
         let mut outbox = Outbox::new(self.alloc, self.dealer);
         outbox.put_waiting(&self.fresh)?;
-        outbox.put_trying(self.trying.as_slice(), clicks)?;
+        outbox.put_trying(self.trying.as_slice(), &clicks)?;
         Ok(outbox.turn(Change::Nothing))
     }
 

@@ -33,17 +33,16 @@ impl Outbox {
         }
     }
 
-    // One Join more. It copies the click.
-    pub(crate) fn put(&mut self, position: u64, click: &ClickRec) -> Result<(), AllocError>
-        ensures { OnOk result (Puts self.old self.new ((position, click.now) ∷ [])) }
+    // One Join more.
+    pub(crate) fn put(&mut self, position: u64, click: ClickRec) -> Result<(), AllocError>
+        ensures { OnOk result (Puts self.old self.new ((position, click) ∷ [])) }
     {
-        let click = click.copy(self.alloc)?;
         let node = self.dealer.deal();
         self.packets.push((node, Packet::Join { position, click }))?;
         Ok(())
     }
 
-    // One of each line that isn't done. Linear in the window.
+    // One of each line that isn't done, with a copy of its click. Linear in the window.
     pub(crate) fn put_waiting(&mut self, fresh: &VecDeque<FreshLine>) -> Result<(), AllocError>
         ensures { OnOk result (Puts self.old self.new (waiting_joins fresh.now.items)) }
     {
@@ -60,10 +59,11 @@ impl Outbox {
         if line.done {
             return Ok(());
         }
-        self.put(line.position, &line.click)
+        let copy = line.click.copy(self.alloc)?;
+        self.put(line.position, copy)
     }
 
-    // One of each position with its click.
+    // One of each position with a copy of its click.
     pub(crate) fn put_trying(
         &mut self,
         positions: &[u64],
@@ -73,7 +73,8 @@ impl Outbox {
         ensures numbers { All (λ p. p < 2 ^ 64) positions.now }
     {
         for (position, click) in positions.iter().zip(clicks) {
-            self.put(*position, click)?;
+            let copy = click.copy(self.alloc)?;
+            self.put(*position, copy)?;
         }
         Ok(())
     }

@@ -159,7 +159,7 @@ impl<D: Disk, L: LogFile> DispatchNode<D, L> {
         ensures log_count { L.faults self.old.clicks.tail.log ≤ L.faults self.new.clicks.tail.log }
     {
         let taken = look_up(&self.core, &self.journals, &mut self.clicks, input)?;
-        let turn = self.core.decide(&taken)?;
+        let turn = self.core.decide(taken)?;
         let packets = spell(self.alloc, turn.packets())?;
         let note = turn.note();
         self.expect_taken(note)?;

@@ -14,7 +14,7 @@ pub returns-clause-turn : goal.returns-clause-turn
 returns-clause-turn c = λ g k l o kept.
     let xs = c.deref-position-items.result.now in
     let i = c.loop-position.position-index in
-    let due : c.from_vec-due.result.items ≡ k.pending = c.from_vec-due.ensures.items ∙ c.in_ok-from_slice.ensures.items ∙ c.deref.ensures.value ∙ kept.pending_is in
+    let due : c.from_vec-due.result.items ≡ k.pending = c.from_vec-due.ensures.items ∙ kept.pending_is in
     let past : length xs ≤ i = omega arith in
     record {
       note = refl;
