@@ -72,18 +72,18 @@ impl JoinerCore {
     /// Decides the turn on an input: its note and its packets, and room for what keeping it will change. Nothing else
     /// changes, whatever it answers.
     ///
-    /// Constant expected time and memory for the texts of one click and its query; on a Tick linear in the joins in flight.
-    pub fn decide(&mut self, input: &JoinerInput) -> Result<Turn, AllocError>
-        requires start { CanStart input.now }
-        requires spelled { IsTaken input.now }
-        ensures turn { IfOk result (λ turn. (g n k l i : _) → IsReady self.old g n k l input.now →
-            Carries g k l input.now i → Answers self.new g n k (row g n k l i) turn) }
+    /// Constant expected time and memory; a granted reply copies the texts of its pair, a Tick is linear in the joins in flight.
+    pub fn decide(&mut self, input: JoinerInput) -> Result<Turn, AllocError>
+        requires start { CanStart input }
+        requires spelled { IsTaken input }
+        ensures turn { IfOk result (λ turn. (g n k l i : _) → IsReady self.old g n k l input →
+            Carries g k l input i → Answers self.new g n k (row g n k l i) turn) }
         ensures fits { IfOk result (λ turn. Fits self.new turn) }
         ensures spelled { IfOk result IsSpelled }
         ensures same { IsSame self.old self.new }
     {
         match input {
-            JoinerInput::Start { epoch } => Ok(self.start(*epoch)),
+            JoinerInput::Start { epoch } => Ok(self.start(epoch)),
             JoinerInput::Own => Ok(self.idle()),
             JoinerInput::Tick => self.send_again(),
             JoinerInput::Join {
@@ -92,9 +92,9 @@ impl JoinerCore {
                 looked,
             } => {
                 self.flights.make_room()?;
-                self.join(*position, click, looked)
+                self.join(position, click, looked)
             }
-            JoinerInput::Packet { packet, .. } => self.receive(packet),
+            JoinerInput::Packet { from: _, packet } => self.receive(&packet),
         }
     }
 
@@ -170,12 +170,12 @@ impl JoinerCore {
 
     // Join: nothing where the click's id is in flight; else Busy where 32 joins are; else NoQuery with the log's lines
     // where the log has no such query; else the id is registered.
-    fn join(&self, position: u64, click: &ClickRec, looked: &Looked) -> Result<Turn, AllocError>
+    fn join(&self, position: u64, click: ClickRec, looked: Looked) -> Result<Turn, AllocError>
         requires room { 0 < room self.now.flights }
-        requires spelled { IsNumber position × IsClick click.now × IsTold looked.now }
+        requires spelled { IsNumber position × IsClick click × IsTold looked }
         ensures turn { IfOk result (λ turn. (g n k l : _) → Stands self.now g n k l →
-            (needs_look_up l click.now.id ≡ true → Tells g click.now looked.now) →
-            Answers self.now g n k (joins g n k l position click.now) turn) }
+            (needs_look_up l click.id ≡ true → Tells g click looked) →
+            Answers self.now g n k (joins g n k l position click) turn) }
         ensures fits { IfOk result (λ turn. Fits self.now turn) }
         ensures spelled { IfOk result IsSpelled }
     {
@@ -187,7 +187,7 @@ impl JoinerCore {
         }
         match looked {
             Looked::Found(query) => self.register(position, click, query),
-            Looked::Lines(lines) => self.tell(position, Outcome::NoQuery(*lines)),
+            Looked::Lines(lines) => self.tell(position, Outcome::NoQuery(lines)),
         }
     }
 
@@ -207,18 +207,13 @@ impl JoinerCore {
 
     // The id goes to the site's server under a new token, and the join is in flight. No token has the number 2^64 - 1:
     // then nothing.
-    fn register(
-        &self,
-        position: u64,
-        click: &ClickRec,
-        query: &QueryRec,
-    ) -> Result<Turn, AllocError>
+    fn register(&self, position: u64, click: ClickRec, query: QueryRec) -> Result<Turn, AllocError>
         requires room { 0 < room self.now.flights }
         requires few { length (flights self.now.flights) < MOST_FLIGHTS }
-        requires new { in_flight (flights self.now.flights) click.now.id ≡ false }
-        requires spelled { IsNumber position × IsClick click.now × IsQuery query.now }
+        requires new { in_flight (flights self.now.flights) click.id ≡ false }
+        requires spelled { IsNumber position × IsClick click × IsQuery query }
         ensures turn { IfOk result (λ turn. (g n k l : _) → Stands self.now g n k l →
-            Answers self.now g n k (looks g n k l position click.now (Some query.now)) turn) }
+            Answers self.now g n k (looks g n k l position click (Some query)) turn) }
         ensures fits { IfOk result (λ turn. Fits self.now turn) }
         ensures spelled { IfOk result IsSpelled }
     {
@@ -229,31 +224,36 @@ impl JoinerCore {
     }
 
     // The insert of the id under the next token, and the join that will be in flight.
-    fn claim(&self, position: u64, click: &ClickRec, query: &QueryRec) -> Result<Turn, AllocError>
-        requires { IsNumber position × IsClick click.now × IsQuery query.now }
+    fn claim(&self, position: u64, click: ClickRec, query: QueryRec) -> Result<Turn, AllocError>
+        requires { IsNumber position × IsClick click × IsQuery query }
         ensures spelled { IfOk result IsSpelled }
         ensures held { IfOk result (λ turn.
-            IsHeld (click.now.id, waiting_of position click.now query.now (own_token self.now))) }
+            IsHeld (click.id, waiting_of position click query (own_token self.now))) }
         ensures does { IfOk result (λ turn. Does turn None
-            ((Server self.now.site, packet.Insert (record { id = click.now.id; token = own_token self.now })) ∷ [])
-            (Fly click.now.id (waiting_of position click.now query.now (own_token self.now)))) }
+            ((Server self.now.site, packet.Insert (record { id = click.id; token = own_token self.now })) ∷ [])
+            (Fly click.id (waiting_of position click query (own_token self.now)))) }
     {
+        let ClickRec {
+            id,
+            query: asked,
+            text,
+        } = click;
         let token = self.next_token();
+        let packets = self.one(
+            Node::Server(self.site),
+            Packet::Insert(Insert { id, token }),
+        )?;
         let waiting = Waiting {
             position,
-            asked: click.query,
-            text: click.text.copy(self.alloc)?,
-            query: query.copy(self.alloc)?,
-            token,
-        };
-        let insert = Insert {
-            id: click.id,
+            asked,
+            text,
+            query,
             token,
         };
         Ok(Turn {
             note: None,
-            packets: self.one(Node::Server(self.site), Packet::Insert(insert))?,
-            change: Change::Fly(click.id, waiting),
+            packets,
+            change: Change::Fly(id, waiting),
         })
     }
 

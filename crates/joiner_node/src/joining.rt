@@ -96,7 +96,7 @@ impl<L: LogFile> Joining<L> {
         ensures count { L.faults self.old.queries.store.tail.log ≤ L.faults self.new.queries.store.tail.log }
     {
         let asked = self.asked(epoch, input)?;
-        match self.core.decide(&asked) {
+        match self.core.decide(asked) {
             Ok(turn) => Ok(turn),
             Err(_) => Err(NodeFault::Memory),
         }

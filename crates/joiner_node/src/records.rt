@@ -50,7 +50,7 @@ fn with_record(alloc: Global, pair: PairRec) -> Result<Record, AllocError>
     requires { IsPair pair }
     ensures { IfOk result (λ writes. writes ≡ pair_record pair) }
 {
-    let bytes = pair_frame(alloc, &pair.click, &pair.query, pair.token)?;
-    let payload = Payload::new(Vec::from_slice(alloc, bytes.as_slice())?)?;
+    let frame = pair_frame(alloc, &pair)?;
+    let payload = Payload::new(frame.into_vec())?;
     Ok(Record::Pair { pair, payload })
 }

@@ -1,7 +1,7 @@
 // A pair and its record.
 ghost use Rattle.std.specs.Prelude.{◌≡◌, ◌++◌, List, ℕ, Some, IfOk, IfSome, IfNone, MatchResult};
 ghost use Rattle.packet_codec.specs.Stops.{IsMemory};
-ghost use Rattle.output_log.specs.Pairs.{pair_of, fields_of, record_of, IsOther};
+ghost use Rattle.output_log.specs.Pairs.{fields_of, record_of, IsOther};
 ghost use Rattle.turn_defs.specs.Spellings.{IsPair};
 
 use gate_journal::Payload;
@@ -18,21 +18,21 @@ const TAG: u8 = 6;
 /// The most bytes that a record has.
 pub const LONGEST: u32 = 465;
 
-/// The record of a pair as it is written to a log: the byte 06, the click, the query and the token. One allocation.
-pub fn pair_frame(
-    alloc: Global,
-    click: &ClickRec,
-    query: &QueryRec,
-    token: Token,
-) -> Result<Payload, AllocError>
-    requires { IsPair (pair_of click.now query.now token) }
-    ensures { IfOk result (λ frame. frame ≡ record_of (pair_of click.now query.now token)) }
+// The bytes of a record but for those of its two texts.
+const WITHOUT_TEXTS: usize = 65;
+
+/// The record of a pair as it is written to a log: the byte 06, the click, the query and the token. One allocation, of its
+/// length.
+pub fn pair_frame(alloc: Global, pair: &PairRec) -> Result<Payload, AllocError>
+    requires { IsPair pair.now }
+    ensures { IfOk result (λ frame. frame ≡ record_of pair.now) }
 {
-    let mut bytes = Bytes::with_capacity(alloc, LONGEST as usize)?;
+    let texts = pair.click.text.as_bytes().len() + pair.query.text.as_bytes().len();
+    let mut bytes = Bytes::with_capacity(alloc, WITHOUT_TEXTS + texts)?;
     bytes.put_u8(TAG)?;
-    click.put(&mut bytes)?;
-    query.put(&mut bytes)?;
-    token.put(&mut bytes)?;
+    pair.click.put(&mut bytes)?;
+    pair.query.put(&mut bytes)?;
+    pair.token.put(&mut bytes)?;
     Ok(bytes)
 }
 

@@ -4,7 +4,7 @@ use crate::kinds::Kind;
 use gate_journal::{Journal, JournalFault};
 use log_records::{read_click, read_query};
 use mem_outside::MemDisk;
-use output_log::{OutputLog, Outputs, pair_frame, read_pair};
+use output_log::{OutputLog, Outputs, PairRec, pair_frame, read_pair};
 use registry_state::Token;
 use script_lines::texts::{token, told_pair};
 use script_lines::{Stop, Words};
@@ -78,6 +78,11 @@ fn write_pair(
     let Ok(query) = read_query(alloc, query) else {
         return Err(Stop::Words);
     };
-    let payload = pair_frame(alloc, &click, &query, token)?;
+    let pair = PairRec {
+        click,
+        query,
+        token,
+    };
+    let payload = pair_frame(alloc, &pair)?;
     append(alloc, journal, payload.as_slice())
 }

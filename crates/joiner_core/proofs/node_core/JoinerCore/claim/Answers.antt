@@ -9,7 +9,7 @@ use Rattle.joiner_core.proofs.node_core.JoinerCore.claim.Goals as goal
 pub returns-clause-spelled : goal.returns-clause-spelled
 returns-clause-spelled c =
     let token = subst (λ (t : Token). IsToken t) (sym c.next_token-token.ensures.token) c.next_token-token.ensures.spelled in
-    record { note = tt; packets = subst (λ (ps : List (Node × Packet)). ArePackets ps) (sym c.in_ok-one.ensures) (record { id = c.requires.1.id; token = token }, tt) }
+    record { note = tt; packets = subst (λ (ps : List (Node × Packet)). ArePackets ps) (sym c.in_ok-packets.ensures) (record { id = c.requires.1.id; token = token }, tt) }
 
 pub returns-clause-held : goal.returns-clause-held
 returns-clause-held c = record {

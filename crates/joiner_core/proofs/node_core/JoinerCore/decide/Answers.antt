@@ -21,3 +21,10 @@ returns-in_ok-make_room-in-Join-clause-turn c = if_ok c.join.result _ _ (λ t d 
       epoch = s.epoch;
       live = ap (λ fs. record { number = core.number; flight = fs }) c.make_room.ensures.same ∙ s.live;
     }) told.1)) c.join.ensures.turn
+
+pub returns-in-Packet-clause-turn : goal.returns-in-Packet-clause-turn
+returns-in-Packet-clause-turn c = if_ok c.receive.result _ _ (λ t d g n k l i ready carries.
+    let core = c.args.self.now in
+    let stands = subst (λ (x : JoinerInput). IsReady core g n k l x) c.in-Packet.is ready in
+    let got = subst (λ (x : JoinerInput). Carries g k l x i) c.in-Packet.is carries in
+    by_input g n k l i _ got.0 (d g n k l stands got.1)) c.receive.ensures.turn
