@@ -1,16 +1,12 @@
 -- What a run that has come to rest gives the report, and the setting that it is of.
+use Rattle.std.specs.Prelude.{Ok}
 use Rattle.std.proofs.Common.{◌≡◌, ℕ, suc, ◌+◌, List, [], ◌∷◌, map, Option, Some, None, refl, sym, ap, ◌∙◌, length, subst}
-use Rattle.photon_cli.proofs.Words.{REPLICAS, Config, IfSome, IsSomeAnd, PlanView, Images, RunLeft, RunLog, ShardRow, only_table, EventId, QueryRec, ClickRec, IsQueryLog, IsClickLog, click_line, ClickLine, placed, end_from, lines_follow, Setting, Checked, IsLogOf, IsSettingOf, Values, EndsAt, AreLogs, HasIds, IsAsked, IsHeardOf, IsHistory, config_of, IsTextOf}
+use Rattle.photon_cli.proofs.Words.{REPLICAS, Config, IfSome, IsSomeAnd, PlanView, AreLinesBy, Images, IsSoundStore, IsTable, Joins, JoinsAfresh, LeavesNothing, RanAfresh, ReportLine, RestJoins, RestJoinsAfresh, RestLeft, RestRanAfresh, RunLeft, RunLog, RunOutcome, RunsOver, ShardRow, distinct, line_of, only_table, EventId, QueryRec, ClickRec, IsQueryLog, IsClickLog, click_line, ClickLine, placed, end_from, lines_follow, Setting, Checked, IsLogOf, IsSettingOf, Values, EndsAt, AreLogs, HasIds, HaveIds, IsAsked, IsHeardOf, IsHistory, config_of, IsTextOf}
 use Rattle.photon_cli.proofs.Refusals.{within}
 
 pub taken : {A : Type 0} (o : Option A) (P : A → Type 0) → IsSomeAnd o P → (x : A) × P x
 taken None P h = absurd h
 taken (Some x) P h = (x, h)
-
--- what is known of a thing that is there
-pub known : {A : Type 0} (o : Option A) (P Q : A → Type 0) → IsSomeAnd o P → IfSome o Q → IsSomeAnd o Q
-known None P Q h k = absurd h
-known (Some x) P Q h k = k
 
 -- what is left of a run, and whatever is known of it where it has begun
 pub if_history : (o : Option RunLog) (g : Setting) (before after : Images) (plan : PlanView) (joiners : ℕ) → g.joiners ≡ joiners → IfSome o (λ l. RunLeft g before after l.air.history) → IfSome o (IsHeardOf plan joiners) → IfSome o (IsHistory g before after plan)
@@ -89,3 +85,29 @@ run_setting told now v table config made end_ g asked text same ends =
       clicks_are = subst (λ (o : Option (List ℕ)). IsSomeAnd o (λ log. IsLogOf log g)) (sym (same v.clicks)) asked.setting.clicks_are;
       ends = ends_there (told v.clicks) g end_ asked.setting.clicks_are ends;
     })
+
+-- ---- a run that ended well, and the lines of the journals that were read back
+
+module _ (g : Setting) (before after : Images) (read faulted : Type 0) (ran : Option RunLog) (outcome : RunOutcome) (over : RunsOver g before after read faulted ran (Ok outcome)) where
+  pub began : IsSomeAnd ran (λ l. RunLeft g before after l.air.history)
+  began = known ran (λ l. RestLeft g before after l.air.history faulted outcome.journals) (λ l. RunLeft g before after l.air.history) over.rest over.left
+    where
+      known : {A : Type 0} (o : Option A) (P Q : A → Type 0) → IsSomeAnd o P → IfSome o Q → IsSomeAnd o Q
+      known None P Q h k = absurd h
+      known (Some x) P Q h k = k
+
+  module _ (o : Option (List ℕ)) (of_log : IsSomeAnd o (λ log. IsLogOf log g)) (table : List ShardRow) (same : table ≡ g.table) (ids : List EventId) (own : HaveIds g ids)
+      (lines : List ReportLine) (are : (clicks : List ClickRec) → map (λ (c : ClickRec). c.id) clicks ≡ ids → lines ≡ map (λ (c : ClickRec). line_of outcome.journals table c.id) (distinct clicks)) where
+    made : AreLinesBy g outcome.journals lines
+    made =
+        let clicks : List ClickRec = map (λ (l : ClickLine). l.click) g.clicks in
+        are clicks own ∙ (λ k. map (λ (x : ClickRec). line_of outcome.journals (same k) x.id) (distinct clicks))
+
+    pub joined : RestJoins g before after faulted → IsSoundStore g before → Joins g before after faulted lines
+    joined law sound = let rest = taken ran (λ l. RestLeft g before after l.air.history faulted outcome.journals) over.rest in law rest.0.air.history outcome.journals lines (log_checked o g of_log) sound rest.1 made
+
+    pub joined_afresh : RestJoinsAfresh g before after faulted → IsTable g.table → LeavesNothing g before → JoinsAfresh g faulted lines
+    joined_afresh law is nothing = let rest = taken ran (λ l. RestLeft g before after l.air.history faulted outcome.journals) over.rest in law rest.0.air.history outcome.journals lines (log_checked o g of_log) is nothing rest.1 made
+
+    pub ran_afresh : RestRanAfresh g before after faulted → IsTable g.table → LeavesNothing g before → IsSomeAnd ran (λ l. RanAfresh g l.air.history lines)
+    ran_afresh law is nothing = within ran (λ l. RestLeft g before after l.air.history faulted outcome.journals) (λ l. RanAfresh g l.air.history lines) (λ l rest. law l.air.history outcome.journals lines (log_checked o g of_log) is nothing rest made) over.rest

@@ -60,7 +60,7 @@ pub use Rattle.photon_cli.specs.CheckedLogs.{AreLines, EndsAt, IsChecked, kept}
 pub use Rattle.photon_cli.specs.Drill.{Drills, IsBadIn, IsDrilled}
 pub use Rattle.photon_cli.specs.Ends.{BulkEnds, DrillEnds, Ends, JoinEnds, VerifyEnds}
 pub use Rattle.photon_cli.specs.Faults.{words_status}
-pub use Rattle.photon_cli.specs.Join.{AreLogs, AreValid, HasIds, IsAsked, IsHistory, IsInvalid, Refuses, config_of, no_plan}
+pub use Rattle.photon_cli.specs.Join.{AreLogs, AreValid, BeginsJoin, HasIds, HaveIds, IsAsked, IsHistory, IsInvalid, Refuses, config_of, no_plan}
 pub use Rattle.photon_cli.specs.LogFaults.{IsBeforeLogs, IsEarly, IsFailedRead, IsLogFault, IsOfBulk, IsOfDrill, IsOfJoin, IsOfLogs, IsOfPlanOrLogs, IsOfRun, IsOfVerify, IsPast, IsPlanFault, IsRowFault, failed_read, refusal, refusal_of}
 pub use Rattle.photon_cli.specs.Planned.{StopsAtMost, fuse_of, is_at, is_for, is_joiners, named_by, of_joiners, place_of, planned_for, same_kind}
 pub use Rattle.photon_cli.specs.ReadLines.{AtEnd, IsStep, SoFar, WrongNext}
@@ -87,7 +87,7 @@ pub use Rattle.run_fault.specs.declared.fault.Misplaced.{Misplaced}
 pub use Rattle.run_fault.specs.declared.fault.RunFault.{RunFault}
 pub use Rattle.run_fault.specs.declared.fault.StorePlace.{StorePlace}
 pub use Rattle.run_fault.specs.declared.fault.Unfit.{Unfit}
-pub use Rattle.site_laws.specs.StoreLaws.{HoldSameRecords, LongerStaysSound, SameIsSound}
+pub use Rattle.site_laws.specs.StoreLaws.{HoldSameRecords, LeavesNothing, LongerStaysSound, SameIsSound}
 pub use Rattle.site_laws.specs.Stores.{AreLeft, Images, IsSoundStore}
 pub use Rattle.site_run.proofs.Counting.{rose_before}
 pub use Rattle.site_run.proofs.Earlier.{leaves_placed}
@@ -99,9 +99,11 @@ pub use Rattle.site_run.specs.Heard.{IsHeardOf, kinds_of}
 pub use Rattle.site_run.specs.Stops.{StopsAsPlanned}
 pub use Rattle.site_run.specs.Over.{EndsOver, Keeps as KeepsOver, RunsOver}
 pub use Rattle.site_run.specs.Asked.{IsSettingOf}
-pub use Rattle.site_run.specs.Joined.{RanAfresh}
+pub use Rattle.site_run.specs.Joined.{Joins, JoinsAfresh, RanAfresh}
 pub use Rattle.site_run.specs.Left.{RestLeft, RunLeft}
+pub use Rattle.site_run.specs.Meaning.{AreLinesBy, RestJoins, RestJoinsAfresh, RestRanAfresh}
 pub use Rattle.site_run.specs.Refused.{IsCauseOf, TellsPlaces, asked_of}
+pub use Rattle.site_run.specs.declared.ran.Outcome.{Outcome as RunOutcome}
 pub use Rattle.site_run.specs.declared.ran.RunLog.{RunLog}
 pub use Rattle.site_store.proofs.Planned.{same_left}
 pub use Rattle.site_store.proofs.Causes.{cause_more, failed_rose, passed_more, unread_rose}

@@ -1,18 +1,15 @@
 // A bulk run: both logs are made from a seed, both sites run over them as in a drill, and the totals line is told.
 ghost use Rattle.std.specs.Prelude.{◌≡◌, ◌⊎◌, ℕ, List, IfErr, IfOk, IsErrAnd, IsSomeAnd, OnOk, Some, codes, string_bytes, IsTrue, Err};
-ghost use Rattle.outside.specs.Faults.{Counts, Rose};
+ghost use Rattle.outside.specs.Faults.{Counts};
 ghost use Rattle.mem_outside.specs.Files.{bytes_under};
 ghost use Rattle.bulk_logs.specs.Bulk.{query_log, click_log};
 ghost use Rattle.command_words.specs.Words.{AreBulkRanges, bulk_values};
 ghost use Rattle.run_fault.specs.declared.fault.RunFault.TheVariants as fault;
 ghost use Rattle.photon_cli.specs.Bulk.{BeginsBulk, IsBulkRun, PrintsTotals, PrintsTotalsPrefix, bulk_plan, rule};
 ghost use Rattle.photon_cli.specs.LogFaults.{IsEarly, IsFailedRead, IsOfDrill, IsPast};
-ghost use Rattle.photon_cli.specs.Ends.{BulkEnds};
-ghost use Rattle.photon_cli.specs.Status.{IsAnswered};
 
 use super::drill::drilled_lines;
 use super::table::table_in;
-use crate::tell::give_up;
 use bulk_logs::laws::{report_kinds, sizes, valid_logs};
 use bulk_logs::make_logs;
 use command_words::{BulkOptions, RunOptions};
@@ -84,8 +81,10 @@ fn without_reads(told: RunFault) -> RunFault
     told
 }
 
-// Makes both logs from the seed, runs both sites over them as in a drill, and writes the totals line.
-fn bulk_totals<R, K, G>(
+/// Makes both logs from the seed, runs both sites over them as in a drill, and writes the totals line.
+///
+/// It keeps both logs in memory, once for each node that reads one.
+pub fn bulk_totals<R, K, G>(
     rt: &R,
     alloc: Global,
     wanted: &BulkOptions<'_>,
@@ -134,32 +133,5 @@ where
     match write_totals(out, &lines) {
         Ok(()) => Ok(()),
         Err(_) => Err(RunFault::Write),
-    }
-}
-
-/// Runs both sites over logs that are made from a seed, and answers the exit status.
-///
-/// It keeps both logs in memory, once for each node that reads one.
-pub fn bulk_command<R, K, G>(
-    rt: &R,
-    alloc: Global,
-    wanted: &BulkOptions<'_>,
-    out: &mut K,
-    err: &mut K,
-    gate: &G,
-    ran: &mut Ran,
-) -> u8
-where
-    R: Threads + Wait + Sync,
-    K: Sink,
-    G: Gate,
-    requires ranges { AreBulkRanges (bulk_values wanted.now) }
-    ensures ends { BulkEnds K.tells (Rose (K.faults out.old) (K.faults out.new)) (Rose (K.faults err.old) (K.faults err.new)) (K.held out.old) (K.held out.new) (K.held err.old) (K.held err.new) result
-        (bulk_values wanted.now) ran.new.log (ran.new ≡ ran.old) }
-    ensures answered { IsAnswered K.tells 0 0 (K.faults out.old) (K.faults out.new) (K.held out.old) (K.held out.new) result }
-{
-    match bulk_totals(rt, alloc, wanted, out, gate, ran) {
-        Ok(()) => 0,
-        Err(fault) => give_up(err, &fault),
     }
 }

@@ -1,81 +1,38 @@
 // A drill: both sites run over a store in memory that is empty at first, and a plan says what goes wrong.
-ghost use Rattle.std.specs.Prelude.{◌≡◌, ◌≢◌, ◌⊎◌, [], ℕ, IfErr, IfOk, IfSome, IsErrAnd, IsSomeAnd, IsTrue, OnOk, Err};
-ghost use Rattle.outside.specs.declared.store.DiskName.{DiskName};
-ghost use Rattle.outside.specs.Disk.{Only};
-ghost use Rattle.outside.specs.Faults.{Counts, Rose};
-ghost use Rattle.mem_outside.specs.Plan.{is_planned};
+ghost use Rattle.std.specs.Prelude.{◌≡◌, ◌≢◌, ◌⊎◌, [], ℕ, IfErr, IfOk, IfSome, IsErrAnd, IsTrue, OnOk, Err};
+ghost use Rattle.outside.specs.Faults.{Counts};
 ghost use Rattle.command_words.specs.Words.{AreInRanges, values_in};
-ghost use Rattle.photon_cli.specs.Planned.{planned_for};
 ghost use Rattle.lossy_link.specs.Fates.{PlanView};
 ghost use Rattle.lossy_link.specs.declared.bad_plan.Field.{Field as Place};
 ghost use Rattle.log_records.specs.declared.why.Why.{Why as Reason};
 ghost use Rattle.run_fault.specs.declared.fault.LogName.{LogName as LogKind};
-ghost use Rattle.turn_defs.specs.Configs.{IsRunnable};
-ghost use Rattle.site_run.specs.Asked.{OfSetting};
 ghost use Rattle.site_run.specs.Heard.{IsHeardOf};
 ghost use Rattle.run_fault.specs.declared.fault.RunFault.TheVariants as fault;
-ghost use Rattle.photon_cli.specs.Drill.{BeginsDrill, Drills, HasDrilled, IsBadIn, IsDrilled, IsPlanIn, PrintsDrill, PrintsDrillPrefix};
-ghost use Rattle.photon_cli.specs.Join.{AreValid, HaveIds, Refuses};
+ghost use Rattle.photon_cli.specs.Drill.{BeginsDrill, Drills, HasDrilled, IsBadIn, IsPlanIn, PrintsDrill, PrintsDrillPrefix};
+ghost use Rattle.photon_cli.specs.Join.{AreValid, Refuses};
 ghost use Rattle.photon_cli.specs.LogFaults.{IsBeforeLogs, IsEarly, IsFailedRead, IsOfDrill, IsOfLogs, IsOfPlanOrLogs, IsOfRun, IsPast, failed_read};
 ghost use Rattle.photon_cli.specs.Words.{IsTextOf};
-ghost use Rattle.photon_cli.specs.Ends.{DrillEnds};
-ghost use Rattle.photon_cli.specs.Status.{IsAnswered};
 
 use super::checked::checked_logs;
 use super::plan::plan_in_file;
-use super::run::{config_in, run_lines};
+use super::run::config_in;
 use super::table::table_in;
 use crate::drill_store::store_for;
 use crate::log_check::CheckedLog;
-use crate::tell::give_up;
 use command_words::RunOptions;
 use log_records::ReportLine;
 use lossy_link::Plan;
 use mem_outside::MemStore;
-use outside::{Gate, Sink, Source, Store};
+use outside::{Gate, Sink, Source};
 use report_text::write_report;
 use site_laws::stores::empty_store;
-use site_run::{Config, Names, Ran, RunFault};
+use site_run::meaning::means;
+use site_run::{Names, Outcome, Ran, RunFault, run_sites};
 use std::alloc::Global;
 use std::sync::Wait;
 use std::thread::Threads;
 use time_shards::Table;
-
-// Runs both sites over a store in memory that holds nothing and whose disks stop as the plan says, and gives the report's line for
-// each distinct click id.
-fn drill_lines<R, F, G>(
-    rt: &R,
-    alloc: Global,
-    config: &Config,
-    names: &Names<'_>,
-    clicks: CheckedLog,
-    plan: Plan,
-    files: &mut F,
-    store: &mut MemStore,
-    gate: &G,
-    ran: &mut Ran,
-) -> Result<Vec<ReportLine>, RunFault>
-where
-    R: Threads + Wait + Sync,
-    F: Source,
-    G: Gate,
-    F::Log: Drop,
-    requires empty { (disk : DiskName) → Only [] (⟦<MemStore as Store>⟧.image store.old disk) × ⟦<MemStore as Store>⟧.image store.old disk [] }
-    requires planned { (disk : DiskName) (call : ℕ) → ⟦<MemStore as Store>⟧.stops store.old disk call ≡ is_planned (planned_for config.now.joiners plan.stops disk) call }
-    requires fresh { (⟦<MemStore as Store>⟧.faults store.old ≡ 0) × ((disk : DiskName) → ⟦<MemStore as Store>⟧.made store.old disk ≡ 0) }
-    requires ranges { IsRunnable config.now }
-    ensures drilled { IsTrue F.Log.tells → OfSetting (F.bytes files.old) names.now.queries.now names.now.clicks.now config.now clicks.lines_end (λ g. HaveIds g clicks.ids.items
-        → IfOk result (λ lines. IsSomeAnd ran.new.log (IsDrilled g plan lines.items))) }
-    ensures fair { IsTrue F.Log.tells → OfSetting (F.bytes files.old) names.now.queries.now names.now.clicks.now config.now clicks.lines_end (λ g. IfErr result (IsOfDrill (plan.stops ≢ []))) }
-    ensures heard { IfSome ran.new.log (IsHeardOf plan config.now.joiners) }
-    ensures cause { IfErr result IsOfRun }
-    ensures count { Counts (F.faults files.old) (F.faults files.new) ((log : LogKind) × (result ≡ Err (failed_read log))) }
-{
-    empty_store::<MemStore>();
-    run_lines(
-        rt, alloc, config, names, clicks, plan, files, store, gate, ran,
-    )
-}
+use verify_pass::classify;
 
 /// Checks both logs, runs both sites over a store in memory that is empty at first, and gives the report's line for each distinct
 /// click id. The plan says which packets are lost, repeated or late, which replica is dead and at which calls a disk stops.
@@ -104,10 +61,13 @@ where
     ensures fair { IsTrue F.Log.tells → IfErr result (IsOfDrill (plan.stops ≢ [])) }
     ensures count { Counts (F.faults files.old) (F.faults files.new) ((log : LogKind) × (result ≡ Err (failed_read log))) }
 {
+    empty_store::<MemStore>();
+    means::<MemStore>();
     let clicks = match checked_logs(alloc, files, wanted.queries, wanted.clicks) {
         Ok(clicks) => clicks,
         Err(fault) => return Err(fault),
     };
+    let CheckedLog { ids, lines_end } = clicks;
     let Ok(mut store) = store_for(alloc, &plan, wanted.nodes.joiners) else {
         return Err(RunFault::Memory);
     };
@@ -117,13 +77,20 @@ where
         state: "",
     };
     let config = config_in(wanted, table);
-    drill_lines(
-        rt, alloc, &config, &names, clicks, plan, files, &mut store, gate, ran,
-    )
+    let journals = match run_sites(
+        rt, alloc, &config, &names, lines_end, files, &mut store, plan, gate, ran,
+    ) {
+        Ok(Outcome { journals }) => journals,
+        Err(fault) => return Err(fault),
+    };
+    match classify(alloc, ids, journals, &config.table) {
+        Ok(lines) => Ok(lines),
+        Err(_) => Err(RunFault::Memory),
+    }
 }
 
-// Drills with the plan of a file, and writes the report.
-fn drill_logs<R, F, K, G>(
+/// Drills with the plan of a file over the two logs of these names, and writes the report.
+pub fn drill_logs<R, F, K, G>(
     rt: &R,
     alloc: Global,
     wanted: &RunOptions<'_>,
@@ -178,34 +145,5 @@ where
     match write_report(out, &lines) {
         Ok(()) => Ok(()),
         Err(_) => Err(RunFault::Write),
-    }
-}
-
-/// Drills with the plan of a file over the two logs of these names, and answers the exit status.
-pub fn drill_command<R, F, K, G>(
-    rt: &R,
-    alloc: Global,
-    wanted: &RunOptions<'_>,
-    plan: &str,
-    files: &mut F,
-    out: &mut K,
-    err: &mut K,
-    gate: &G,
-    ran: &mut Ran,
-) -> u8
-where
-    R: Threads + Wait + Sync,
-    F: Source,
-    K: Sink,
-    G: Gate,
-    F::Log: Drop,
-    requires ranges { AreInRanges (values_in wanted.now).nodes }
-    ensures ends { DrillEnds F.Log.tells K.tells (F.bytes files.old) (Rose (F.faults files.old) (F.faults files.new)) (Rose (K.faults out.old) (K.faults out.new)) (Rose (K.faults err.old) (K.faults err.new))
-        (K.held out.old) (K.held out.new) (K.held err.old) (K.held err.new) result (values_in wanted.now) plan.now ran.new.log (ran.new ≡ ran.old) }
-    ensures answered { IsAnswered K.tells (F.faults files.old) (F.faults files.new) (K.faults out.old) (K.faults out.new) (K.held out.old) (K.held out.new) result }
-{
-    match drill_logs(rt, alloc, wanted, plan, files, out, gate, ran) {
-        Ok(()) => 0,
-        Err(fault) => give_up(err, &fault),
     }
 }

@@ -10,24 +10,26 @@ ghost use Rattle.site_run.specs.Over.{EndsOver};
 ghost use Rattle.photon_cli.specs.LogFaults.{IsEarly, IsFailedRead, IsOfLogs, IsPast};
 ghost use Rattle.photon_cli.specs.Join.{BeginsJoin, HasRun, IsAsked, IsHistory, Prints, PrintsAfresh, PrintsPrefix, Refuses, no_plan};
 ghost use Rattle.command_words.specs.Words.{AreInRanges, values_in};
-ghost use Rattle.photon_cli.specs.Ends.{JoinEnds};
-ghost use Rattle.photon_cli.specs.Status.{IsAnswered};
 
 use super::checked::checked_logs;
-use super::run::{config_in, run_lines};
+use super::run::config_in;
 use super::table::table_in;
-use crate::tell::give_up;
+use crate::log_check::CheckedLog;
 use command_words::RunOptions;
 use lossy_link::Plan;
 use outside::{Gate, Sink, Source, Store};
 use report_text::write_report;
-use site_run::{Names, Ran, RunFault};
+use site_run::meaning::means;
+use site_run::{Names, Outcome, Ran, RunFault, run_sites};
 use std::alloc::Global;
 use std::sync::Wait;
 use std::thread::Threads;
+use verify_pass::classify;
 
-// Joins the clicks under one name with the queries under another over the store of that name, and writes the report.
-fn join_logs<R, F, S, K, G>(
+/// Joins the clicks under one name with the queries under another over the store of that name, and writes the report.
+///
+/// It reads both logs whole first, in pieces of 64 KiB, and keeps the distinct ids of one log at a time, and those of the clicks to the end.
+pub fn join_logs<R, F, S, K, G>(
     rt: &R,
     alloc: Global,
     wanted: &RunOptions<'_>,
@@ -76,6 +78,7 @@ where
     ensures ends { IsTrue S.Disk.tells → IsTrue F.Log.tells → (g : Setting) → IsAsked (F.bytes files.old) (values_in wanted.now) g → EndsOver g (S.image store.old) (S.image store.new)
         (Rose (F.faults files.old) (F.faults files.new)) (Rose (S.faults store.old) (S.faults store.new)) ran.new.log result }
 {
+    means::<S>();
     let table = match table_in(wanted.nodes.shards) {
         Ok(table) => table,
         Err(bad) => return Err(bad),
@@ -84,6 +87,7 @@ where
         Ok(clicks) => clicks,
         Err(refused) => return Err(refused),
     };
+    let CheckedLog { ids, lines_end } = clicks;
     let names = Names {
         queries: wanted.queries,
         clicks: wanted.clicks,
@@ -91,49 +95,17 @@ where
     };
     let config = config_in(wanted, table);
     let plan = Plan::empty(alloc);
-    let lines = match run_lines(
-        rt, alloc, &config, &names, clicks, plan, files, store, gate, ran,
+    let journals = match run_sites(
+        rt, alloc, &config, &names, lines_end, files, store, plan, gate, ran,
     ) {
-        Ok(lines) => lines,
+        Ok(Outcome { journals }) => journals,
         Err(fault) => return Err(fault),
+    };
+    let Ok(lines) = classify(alloc, ids, journals, &config.table) else {
+        return Err(RunFault::Memory);
     };
     match write_report(out, &lines) {
         Ok(()) => Ok(()),
         Err(_) => Err(RunFault::Write),
-    }
-}
-
-/// Joins the two logs of these names over the store of that name, and answers the exit status.
-///
-/// It reads both logs whole first, in pieces of 64 KiB, and keeps the distinct ids of one log at a time, and those of the clicks to the end.
-pub fn join_command<R, F, S, K, G>(
-    rt: &R,
-    alloc: Global,
-    wanted: &RunOptions<'_>,
-    state: &str,
-    files: &mut F,
-    store: &mut S,
-    out: &mut K,
-    err: &mut K,
-    gate: &G,
-    ran: &mut Ran,
-) -> u8
-where
-    R: Threads + Wait + Sync,
-    F: Source,
-    S: Store,
-    K: Sink,
-    G: Gate,
-    F::Log: Drop,
-    S::Disk: Drop,
-    requires ranges { AreInRanges (values_in wanted.now).nodes }
-    ensures ends { JoinEnds F.Log.tells K.tells (F.bytes files.old) (Rose (F.faults files.old) (F.faults files.new)) (Rose (K.faults out.old) (K.faults out.new)) (Rose (K.faults err.old) (K.faults err.new))
-        (K.held out.old) (K.held out.new) (K.held err.old) (K.held err.new) result (values_in wanted.now) ran.new.log (store.new ≡ store.old) (ran.new ≡ ran.old)
-        S.Disk.tells (S.image store.old) (S.image store.new) (Rose (S.faults store.old) (S.faults store.new)) }
-    ensures answered { IsAnswered K.tells (F.faults files.old) (F.faults files.new) (K.faults out.old) (K.faults out.new) (K.held out.old) (K.held out.new) result }
-{
-    match join_logs(rt, alloc, wanted, state, files, store, out, gate, ran) {
-        Ok(()) => 0,
-        Err(fault) => give_up(err, &fault),
     }
 }

@@ -23,13 +23,10 @@ ghost use Rattle.run_fault.specs.Causes.{IsWelcome};
 ghost use Rattle.photon_cli.specs.Causes.{CanBeRead, HasCauseInVerify, IsOverLog};
 ghost use Rattle.photon_cli.specs.LogFaults.{IsFailedRead, IsLogFault, IsOfRun, IsPast};
 ghost use Rattle.photon_cli.specs.Verify.{IsReadFrom, IsReadable, PrintsKept, PrintsKeptPrefix};
-ghost use Rattle.photon_cli.specs.Ends.{VerifyEnds};
-ghost use Rattle.photon_cli.specs.Status.{IsAnswered};
 ghost use Rattle.photon_cli.specs.declared.engine.run.TheConstants.{REPLICAS};
 
 use super::checked::{clicks_in_log, open_log};
 use super::run::REPLICAS;
-use crate::tell::give_up;
 use event_id::EventId;
 use log_records::ReportLine;
 use outside::{Sink, Source, Store};
@@ -128,8 +125,10 @@ fn kept_store<F: Source, S: Store>(
     }
 }
 
-// Reports what the store in a directory keeps of the clicks of a log, and answers whether a line is of a missing click.
-fn verify_store<F: Source, S: Store, K: Sink>(
+/// Reports what the store in a directory keeps of the clicks of a log, and answers whether a line is of a missing click.
+///
+/// It reads the log line by line, and keeps the clicks' ids and the kept records in memory.
+pub fn verify_store<F: Source, S: Store, K: Sink>(
     alloc: Global,
     files: &mut F,
     store: &mut S,
@@ -166,29 +165,5 @@ fn verify_store<F: Source, S: Store, K: Sink>(
     match write_report(out, &lines) {
         Ok(()) => Ok(has_missing(&lines)),
         Err(_) => Err(RunFault::Write),
-    }
-}
-
-/// Reports what the store in a directory keeps of the clicks of a log, and answers the exit status: 1 where a click is missing.
-///
-/// It reads the log line by line, and keeps the clicks' ids and the kept records in memory.
-pub fn verify_command<F: Source, S: Store, K: Sink>(
-    alloc: Global,
-    clicks: &str,
-    state: &str,
-    files: &mut F,
-    store: &mut S,
-    out: &mut K,
-    err: &mut K,
-) -> u8
-    ensures ends { VerifyEnds F.Log.tells K.tells (F.bytes files.old) (Rose (F.faults files.old) (F.faults files.new)) (Rose (K.faults out.old) (K.faults out.new)) (Rose (K.faults err.old) (K.faults err.new))
-        (K.held out.old) (K.held out.new) (K.held err.old) (K.held err.new) result clicks.now (store.new ≡ store.old)
-        S.Disk.tells (S.image store.old) (S.image store.new) (Rose (S.faults store.old) (S.faults store.new)) }
-    ensures answered { IsAnswered K.tells (F.faults files.old) (F.faults files.new) (K.faults out.old) (K.faults out.new) (K.held out.old) (K.held out.new) result }
-{
-    match verify_store(alloc, files, store, clicks, state, out) {
-        Ok(true) => 1,
-        Ok(false) => 0,
-        Err(fault) => give_up(err, &fault),
     }
 }

@@ -1,19 +1,24 @@
-use Rattle.std.proofs.Common.{List, ℕ, Option, inl, inr, refl, subst}
-use Rattle.photon_cli.proofs.Words.{Clicks, Config, IfOk-weaker, IfSome, IsHeardOf, IsOfDrill, values_in}
+use Rattle.std.specs.Prelude.{IsTrue, ⊤}
+use Rattle.std.proofs.Common.{◌≡◌, ◌≢◌, List, [], ℕ, Option, inl, inr, refl, sym, ap, subst, arith}
+use Rattle.photon_cli.proofs.Words.{AreValid, Clicks, Config, IfSome, IsAsked, IsHeardOf, IsOfDrill, IsSettingOf, PlanStop, Setting, StopsAtMost, counted_more, planned_earlier, planned_for, same_left, values_in}
+use Rattle.photon_cli.proofs.Drilling.{drilled, none_planned, of_drill}
 use Rattle.photon_cli.proofs.Statuses.{of_log}
-use Rattle.photon_cli.proofs.Runs.{is_asked, placed_ids, run_setting, setting_of}
+use Rattle.photon_cli.proofs.Runs.{is_asked, placed_ids, ran_afresh, run_setting, setting_of}
+use Rattle.photon_cli.proofs.engine.drill.drilled_lines.Given.{Over}
 use Rattle.photon_cli.proofs.engine.drill.drilled_lines.Goals as goal
+use Rattle.photon_cli.proofs.engine.drill.drilled_lines.Goals.{After-run_sites}
 
-pub returns-clause-done : goal.returns-clause-done
-returns-clause-done g c logs =
-    let told : List ℕ → Option (List ℕ) = g.F.Source.bytes c.args.files.now in
-    let v = values_in c.args.wanted.now in
-    let x = c.in-Ok.ensures.valid logs in
-    let cs = x.1 in
-    let s = setting_of v c.args.table x.0 cs in
-    let asked = is_asked told v c.args.table x.0 cs c.requires.table x.2 in
-    let setting = run_setting told (g.F.Source.bytes c.checked_logs.new.files) v c.args.table _ c.config_in-config.ensures.config c.in-Ok.clicks.lines_end s asked c.requires.table (c.in-Ok.ensures.same logs) (c.in-Ok.ensures.end logs) in
-    IfOk-weaker c.drill_lines.result _ _ (λ lines run. (s, asked, run)) (c.drill_lines.ensures.drilled logs s setting (placed_ids c.in-Ok.clicks.ids.items cs x.3))
+-- the setting that is asked for is the run's
+of_run : (g : Over) (c : After-run_sites g) → IsTrue g.F.Log.LogFile.tells → (s : Setting) → IsAsked (g.F.Source.bytes c.args.files.now) (values_in c.args.wanted.now) s
+    → IsSettingOf (g.F.Source.bytes c.checked_logs.new.files) c.args.wanted.now.queries.now c.args.wanted.now.clicks.now c.config_in-config.result c.in-Ok.clicks.lines_end s
+of_run g c logs s asked =
+    run_setting (g.F.Source.bytes c.args.files.now) (g.F.Source.bytes c.checked_logs.new.files) (values_in c.args.wanted.now) c.args.table _ c.config_in-config.ensures.config c.in-Ok.clicks.lines_end s asked c.requires.table (c.in-Ok.ensures.same logs) (c.in-Ok.ensures.end logs)
+
+heard : (g : Over) (c : After-run_sites g) → IfSome c.run_sites.new.ran.log (IsHeardOf c.args.plan c.args.wanted.now.nodes.joiners)
+heard g c = subst (λ (k : Config). IfSome c.run_sites.new.ran.log (IsHeardOf c.args.plan k.joiners)) c.config_in-config.ensures.config c.run_sites.ensures.heard
+
+valid : (g : Over) (c : After-run_sites g) → IsTrue g.F.Log.LogFile.tells → AreValid (g.F.Source.bytes c.args.files.now) (values_in c.args.wanted.now).queries (values_in c.args.wanted.now).clicks
+valid g c logs = let x = c.in-Ok.ensures.valid logs in (x.0, x.1, x.2)
 
 pub returns-in-Err-clause-begins : goal.returns-in-Err-clause-begins
 returns-in-Err-clause-begins g c = inl (refl, c.in-Err.ensures.fault)
@@ -21,19 +26,47 @@ returns-in-Err-clause-begins g c = inl (refl, c.in-Err.ensures.fault)
 pub returns-in_default-clause-begins : goal.returns-in_default-clause-begins
 returns-in_default-clause-begins g c = inl (refl, (Clicks, inr (inr refl)))
 
+pub returns-in-Err-run_sites-clause-begins : goal.returns-in-Err-run_sites-clause-begins
+returns-in-Err-run_sites-clause-begins g c =
+    let r = (goal.at.returns-in-Err-run_sites-clause-begins g c).After-run_sites in
+    inr (valid g r, heard g r, counted_more c.in-Err-run_sites.fault _ _ ⊤ ⊤ (λ rose. tt) (λ rose. tt) c.in-Err-run_sites.ensures.cause)
+
+pub returns-in-Ok-classify-clause-begins : goal.returns-in-Ok-classify-clause-begins
+returns-in-Ok-classify-clause-begins g c = let r = (goal.at.returns-in-Ok-classify-clause-begins g c).After-run_sites in inr (valid g r, heard g r, tt)
+
 pub returns-clause-begins : goal.returns-clause-begins
-returns-clause-begins g c = inr (λ logs. let x = c.in-Ok.ensures.valid logs in (x.0, x.1, x.2), subst (λ (k : Config). IfSome c.drill_lines.new.ran.log (IsHeardOf c.args.plan k.joiners)) c.config_in-config.ensures.config c.drill_lines.ensures.heard, c.drill_lines.ensures.cause)
+returns-clause-begins g c = let r = (goal.at.returns-clause-begins g c).After-run_sites in inr (valid g r, heard g r, tt)
+
+pub returns-in-Ok-classify-clause-done : goal.returns-in-Ok-classify-clause-done
+returns-in-Ok-classify-clause-done g c logs =
+    let told : List ℕ → Option (List ℕ) = g.F.Source.bytes c.args.files.now in
+    let r = (goal.at.returns-in-Ok-classify-clause-done g c).After-run_sites in
+    let v = values_in c.args.wanted.now in
+    let plan = c.args.plan in
+    let store = c.in-Ok-store_for.ensures in
+    let x = c.in-Ok.ensures.valid logs in
+    let s = setting_of v c.args.table x.0 x.1 in
+    let asked = is_asked told v c.args.table x.0 x.1 c.requires.table x.2 in
+    let is = of_run g r logs s asked in
+    let as_planned = planned_earlier c.run_sites.new.ran.log (StopsAtMost v.nodes.joiners plan.stops) _ s _ _ _ (λ disk k. same_left k _ _ 0 _ (store.calls disk) (store.made disk)) (λ none. refl) (c.run_sites.ensures.stops refl logs s is) in
+    let ran = ran_afresh s _ _ _ _ _ _ (c.in-Ok-run_sites.ensures.over refl logs s is) _ is.clicks_are _ (sym is.numbers.table) _ (placed_ids c.in-Ok.clicks.ids.items x.1 x.3) _ c.in-Ok-classify.ensures (c.means.ensures.ran s c.in-Ok-store_for.store c.run_sites.new.store) asked.table.0 (λ disk is. (store.images disk).0) in
+    (s, asked, drilled c.run_sites.new.ran.log s plan v.nodes.joiners c.in-Ok-classify.lines.items asked.setting.numbers.joiners ran (heard g r) as_planned.stops)
 
 pub returns-in-Err-clause-fair : goal.returns-in-Err-clause-fair
 returns-in-Err-clause-fair g c logs = let x = c.in-Err.ensures.fault in of_log (IsOfDrill _) x.0 (λ line w. tt) tt tt c.in-Err.fault x.1
 
-pub returns-clause-fair : goal.returns-clause-fair
-returns-clause-fair g c logs =
+pub returns-in-Err-run_sites-clause-fair : goal.returns-in-Err-run_sites-clause-fair
+returns-in-Err-run_sites-clause-fair g c logs =
     let told : List ℕ → Option (List ℕ) = g.F.Source.bytes c.args.files.now in
+    let r = (goal.at.returns-in-Err-run_sites-clause-fair g c).After-run_sites in
     let v = values_in c.args.wanted.now in
+    let stops = c.args.plan.stops in
+    let store = c.in-Ok-store_for.ensures in
     let x = c.in-Ok.ensures.valid logs in
-    let cs = x.1 in
-    let s = setting_of v c.args.table x.0 cs in
-    let asked = is_asked told v c.args.table x.0 cs c.requires.table x.2 in
-    let setting = run_setting told (g.F.Source.bytes c.checked_logs.new.files) v c.args.table _ c.config_in-config.ensures.config c.in-Ok.clicks.lines_end s asked c.requires.table (c.in-Ok.ensures.same logs) (c.in-Ok.ensures.end logs) in
-    c.drill_lines.ensures.fair logs s setting
+    let s = setting_of v c.args.table x.0 x.1 in
+    let is = of_run g r logs s (is_asked told v c.args.table x.0 x.1 c.requires.table x.2) in
+    let ends = (c.in-Err-run_sites.ensures.over refl logs s is).ends in
+    let calm = λ (none : stops ≡ []). (c.run_sites.ensures.stops refl logs s is).calm
+    (λ disk. same_left 0 _ _ 0 _ (store.calls disk) (store.made disk) (none_planned (planned_for v.nodes.joiners stops disk) (ap (λ (xs : List PlanStop). planned_for v.nodes.joiners xs disk) none))) in
+    of_drill s _ (λ disk. (store.images disk).0) _ _ _ (stops ≢ []) (λ disk is. ([], (store.images disk).1)) (λ rose none. let same = calm none in let zero = store.faults in omega (arith, rose, same, zero))
+    c.in-Err-run_sites.fault ends.caused (ends.welcome (c.empty_store.ensures s c.in-Ok-store_for.store (λ disk is. (store.images disk).0)))
