@@ -1,5 +1,5 @@
 -- Why a drill gives up, and which of its joiners stop, by the stops that its plan has.
-use Rattle.std.proofs.Common.{◌≡◌, ◌∙◌, ⊎_elim, ℕ, Bool, true, false, ◌||◌, List, [], ◌∷◌, Option, Some, None, Ok, IsTrue, if◌then◌else◌, refl, sym, subst}
+use Rattle.std.proofs.Common.{◌≡◌, ◌∙◌, ⊎_elim, ℕ, ◌+◌, ◌≤◌, Bool, true, false, ◌||◌, List, [], ◌∷◌, Option, Some, None, Ok, IsTrue, if◌then◌else◌, refl, sym, subst, arith}
 use Rattle.photon_cli.proofs.Words.{list_any, IfSome, IsSomeAnd, Each, DiskName, DiskKind, Epoch, Output, Fuse, PlanStop, PlanView, ReportLine, RunFault, RunLog, Images, IsCauseOf, IsWelcome, Kept, KeptDisk, KeepsAs, EpochIs, IsKept, NotesAre, Setting, limit_at, limit_in, HasOutcome, Outcome, one_outcome, is_at, is_for, is_joiners, is_planned, of_joiners, planned_for, AtMost, StopsAtMost, StopsAsPlanned, none_of_joiners, RanAfresh, IsDrilled, IsHeardOf, IsOfDrill}
 use Rattle.outside.specs.declared.store.DiskName.TheVariants as name
 use Rattle.run_fault.specs.declared.fault.Mismatch.TheVariants as mismatch
@@ -37,6 +37,10 @@ unlimited disk (NotesAre []) keeps = refl
 unlimited disk (NotesAre (n ∷ ns)) keeps = absurd (cc keeps.1)
 unlimited disk _ keeps = refl
 
+-- nor an epoch near the last one
+never_near : (epoch : ℕ) → KeepsAs (EpochIs epoch) [] → 4294967294 ≤ epoch + 8 → ⊥
+never_near epoch keeps near = let read : Ok 0 ≡ Ok epoch = keeps in let zero : epoch ≡ 0 = cc in absurd (omega (arith, near, zero))
+
 module _ (g : Setting) (before : Images) (nothing : (disk : DiskName) (c : List ℕ) → before disk c → c ≡ []) where
   none_limited : (disks : List KeptDisk) → Each (IsKept before) disks → limit_in disks ≡ None
   none_limited [] kept = refl
@@ -47,7 +51,8 @@ module _ (g : Setting) (before : Images) (nothing : (disk : DiskName) (c : List 
   pub of_drill : (read faulted holds stops : Type 0) → holds → (faulted → stops) → (f : RunFault) → IsCauseOf g before read faulted f → IsWelcome holds f → IsOfDrill stops f
   of_drill read faulted holds stops x more (fault.Store at) cause fair = more cause
   of_drill read faulted holds stops x more (fault.Limit disk value) cause fair =
-      ⊎_elim (λ (k, kept, unfit). absurd (cc (sym (none_limited k.disks (kept.kept refl)) ∙ unfit.2))) (λ late. more late.0) cause
+      ⊎_elim (λ (k, kept, unfit). absurd (cc (sym (none_limited k.disks (kept.kept refl)) ∙ unfit.2)))
+      (λ late. let near = late.0.1 in absurd (never_near near.2.0 (subst (KeepsAs (EpochIs near.2.0)) (nothing disk near.0 near.1) near.2.1) near.2.2)) cause
   of_drill read faulted holds stops x more (fault.Damaged disk at) cause fair = fair x
   of_drill read faulted holds stops x more (fault.Topology (mismatch.Joiners kept asked)) cause fair = fair x
   of_drill read faulted holds stops x more (fault.Topology what) cause fair = fair
@@ -55,7 +60,7 @@ module _ (g : Setting) (before : Images) (nothing : (disk : DiskName) (c : List 
 
 pub more_stops : (less more : Type 0) → (less → more) → (f : RunFault) → IsOfDrill less f → IsOfDrill more f
 more_stops less more to (fault.Store at) is = to is
-more_stops less more to (fault.Limit disk value) is = to is
+more_stops less more to (fault.Limit disk value) is = is
 more_stops less more to (fault.Damaged disk at) is = is
 more_stops less more to (fault.Topology what) is = is
 more_stops less more to _ is = tt

@@ -46,9 +46,9 @@ module _ (logs sinks disks : Bool) (told : List ℕ → Option (List ℕ)) (file
     invalid = λ l log table text h calm. inr (inr eight);
     prefix = λ l s e. absurd (omega (arith, eight, e));
     tells = λ l s calm. inr (fault.Memory, eight, tt, tells s calm);
-    welcome = λ l. (λ seven. omega (arith, eight, seven), λ nine. omega (arith, eight, nine));
-    stops = λ l s. absurd (⊎_elim (λ six. omega (arith, eight, six)) (λ ten. omega (arith, eight, ten)) s);
-    complete = λ l g asked plan is calm quiet. inr (inr (inl eight));
+    welcome = λ l. (λ seven. omega (arith, eight, seven), λ nine. omega (arith, eight, nine), λ ten. omega (arith, eight, ten));
+    stops = λ l six. absurd (omega (arith, eight, six));
+    complete = λ l g asked plan is calm quiet. inr (inr eight);
   }
 
   verify : (clicks : Text) → VerifyEnds logs sinks told files output errors old old err_old err_new status clicks same disks before before faulted

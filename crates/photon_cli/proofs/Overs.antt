@@ -1,8 +1,14 @@
 -- How a call ends over a store, from how its parts do.
 use Rattle.std.specs.Prelude.{Result, Ok, Err}
 use Rattle.std.proofs.Common.{Option, Some, refl, sym, subst}
-use Rattle.photon_cli.proofs.Words.{IfErr-weaker, continues_same, EndsOver, Images, IsCauseOf, IsRowFault, IsWelcome, LeavesSomething, RunFault, RunLog, Setting, TellsPlaces, Text, asked_of}
+use Rattle.photon_cli.proofs.Words.{IfErr-weaker, continues_same, EndsOver, Images, IsCauseOf, IsLate, IsRowFault, IsWelcome, LeavesSomething, RunFault, RunLog, Setting, TellsPlaces, Text, asked_of}
 use Rattle.photon_cli.proofs.Causing.{later_caused}
+use Rattle.run_fault.specs.declared.fault.RunFault.TheVariants as fault
+
+-- a disk whose limit is told late has met a fault
+pub late_met : (g : Setting) (before : Images) (faulted : Type 0) (f : RunFault) → IsLate g before faulted f → faulted
+late_met g before faulted (fault.Limit disk value) late = late.0
+late_met g before faulted _ late = absurd late
 
 module _ (g : Setting) (before : Images) (read faulted : Type 0) (ran : Option RunLog) where
   -- before the store was touched
@@ -36,6 +42,6 @@ module _ (g : Setting) (before : Images) (read faulted : Type 0) (ran : Option R
     keeps = over.keeps;
     idle = over.idle;
     passed = over.passed;
-    caused = IfErr-weaker r (IsCauseOf g before files faulted) (IsCauseOf g before read faulted) (later_caused before g.replicas (Some (asked_of g)) (TellsPlaces g) faulted faulted files read more) over.caused;
+    caused = IfErr-weaker r (IsCauseOf g before files faulted) (IsCauseOf g before read faulted) (λ f. later_caused before g.replicas (Some (asked_of g)) (TellsPlaces g) faulted (IsLate g before faulted f) files read more f) over.caused;
     welcome = over.welcome;
   }

@@ -96,11 +96,15 @@ plan_fair stops f (inr (inr e)) = subst (IsOfDrill stops) (sym e) tt
 
 -- a drill's fault, by whether there are stops
 module _ (stops : Type 0) (f : RunFault) (is : IsOfDrill stops f) where
-  pub drill_fair : (status_of f ≢ 7) × (status_of f ≢ 9)
-  drill_fair = (λ seven. let d = damaged_of f seven in subst (IsOfDrill stops) d.2 is, λ nine. let m = mismatch_of f nine in subst (IsOfDrill stops) m.1 is)
+  pub drill_fair : (status_of f ≢ 7) × (status_of f ≢ 9) × (status_of f ≢ 10)
+  drill_fair = (
+    λ seven. let d = damaged_of f seven in subst (IsOfDrill stops) d.2 is,
+    λ nine. let m = mismatch_of f nine in subst (IsOfDrill stops) m.1 is,
+    λ ten. let l = fault_of f 10 ten in subst (IsOfDrill stops) l.2 is,
+  )
 
-  pub needs_stops : (status_of f ≡ 6) ⊎ (status_of f ≡ 10) → stops
-  needs_stops s = ⊎_elim (λ six. let p = place_of f six in subst (IsOfDrill stops) p.1 is) (λ ten. let l = fault_of f 10 ten in subst (IsOfDrill stops) l.2 is) s
+  pub needs_stops : status_of f ≡ 6 → stops
+  needs_stops six = let p = place_of f six in subst (IsOfDrill stops) p.1 is
 
 -- ---- when a fault is told
 
@@ -231,7 +235,7 @@ plan_left f place (inr (inr (inr e))) read = inr (ap status_of e)
 
 -- what is left of a drill where no count rose and nothing is refused
 pub drill_left : (stops : Type 0) (f : RunFault) → ((u : Unfit) → f ≡ fault.Reshard u → ⊥) → ((n : ℕ) → f ≡ fault.Table n → ⊥) → ((place : Field) → f ≡ fault.Plan place → ⊥) → ((log : LogName) (line : ℕ) (w : Why) → f ≡ fault.Refused log line w → ⊥) → (IsFailedRead f → ⊥) → (f ≡ fault.Write → ⊥) → IsOfDrill stops f
-    → (status_of f ≡ 6) ⊎ ((status_of f ≡ 8) ⊎ (status_of f ≡ 10))
+    → (status_of f ≡ 6) ⊎ (status_of f ≡ 8)
 drill_left stops (fault.Table n) adds row bad line read write fair = absurd (row n refl)
 drill_left stops (fault.Plan at) adds row bad line read write fair = absurd (bad at refl)
 drill_left stops (fault.Refused log n w) adds row bad line read write fair = absurd (line log n w refl)
@@ -240,10 +244,10 @@ drill_left stops (fault.Read log) adds row bad line read write fair = absurd (re
 drill_left stops (fault.Store at) adds row bad line read write fair = inl refl
 drill_left stops (fault.Damaged disk at) adds row bad line read write fair = absurd fair
 drill_left stops (fault.Topology what) adds row bad line read write fair = absurd fair
-drill_left stops (fault.Limit disk value) adds row bad line read write fair = inr (inr refl)
+drill_left stops (fault.Limit disk value) adds row bad line read write fair = absurd fair
 drill_left stops (fault.Reshard u) adds row bad line read write fair = absurd (adds u refl)
 drill_left stops fault.Write adds row bad line read write fair = absurd (write refl)
-drill_left stops fault.Memory adds row bad line read write fair = inr (inl refl)
+drill_left stops fault.Memory adds row bad line read write fair = inr refl
 
 pub named_in_drill : (told : List ℕ → Option (List ℕ)) (v : Values) (file : Text) (f : RunFault) → ((u : Unfit) → f ≡ fault.Reshard u → ⊥) → ((n : ℕ) → f ≡ fault.Table n → IsFirstBad v.nodes.shards n) → ((place : Field) → f ≡ fault.Plan place → IsBadIn told file place)
     → ((log : LogName) (line : ℕ) (w : Why) → f ≡ fault.Refused log line w → Refuses told v.queries v.clicks log (record { line = line; why = w })) → IsNamedInDrill told v file f

@@ -102,7 +102,7 @@ pub use Rattle.site_run.specs.Asked.{IsSettingOf}
 pub use Rattle.site_run.specs.Joined.{Joins, JoinsAfresh, RanAfresh}
 pub use Rattle.site_run.specs.Left.{RestLeft, RunLeft}
 pub use Rattle.site_run.specs.Meaning.{AreLinesBy, RestJoins, RestJoinsAfresh, RestRanAfresh}
-pub use Rattle.site_run.specs.Refused.{IsCauseOf, TellsPlaces, asked_of}
+pub use Rattle.site_run.specs.Refused.{IsCauseOf, IsLate, TellsPlaces, asked_of}
 pub use Rattle.site_run.specs.declared.ran.Outcome.{Outcome as RunOutcome}
 pub use Rattle.site_run.specs.declared.ran.RunLog.{RunLog}
 pub use Rattle.site_store.proofs.Planned.{same_left}

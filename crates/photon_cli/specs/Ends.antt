@@ -102,13 +102,13 @@ module _ (logs sinks : Bool) (told : List ℕ → Option (List ℕ)) (files outp
     pub invalid : IsTrue logs → (log : LogName) (table : List ShardRow) → IsTextOf v.nodes.shards table → IsInvalid told v.queries v.clicks log → (files → ⊥) → (status ≡ 2) ⊎ ((status ≡ 3) ⊎ (status ≡ 8))
     pub prefix : IsTrue logs → IsTrue sinks → status ≡ 5 → PrintsDrillPrefix told v file ran old new
     pub tells : IsTrue logs → IsTrue sinks → (errors → ⊥) → TellsBy (IsNamedInDrill told v file) status err_old err_new
-    -- 7 and 9 never: its store is empty at first; 6 and 10 only where the plan has a stop
-    pub welcome : IsTrue logs → (status ≢ 7) × (status ≢ 9)
-    pub stops : IsTrue logs → (status ≡ 6) ⊎ (status ≡ 10) → (plan : PlanView) × IsPlanIn told file plan × (plan.stops ≢ [])
+    -- 7, 9 and 10 never: its store is empty at first; 6 only where the plan has a stop
+    pub welcome : IsTrue logs → (status ≢ 7) × (status ≢ 9) × (status ≢ 10)
+    pub stops : IsTrue logs → status ≡ 6 → (plan : PlanView) × IsPlanIn told file plan × (plan.stops ≢ [])
     -- with a table, a plan, two valid logs and no fault of the files or the output it ends with 0, or for a fault of the run's own
     -- disks, or for want of memory
     pub complete : IsTrue logs → (g : Setting) → IsAsked told v g → (plan : PlanView) → IsPlanIn told file plan → (files → ⊥) → (output → ⊥)
-        → (status ≡ 0) ⊎ ((status ≡ 6) ⊎ ((status ≡ 8) ⊎ (status ≡ 10)))
+        → (status ≡ 0) ⊎ ((status ≡ 6) ⊎ (status ≡ 8))
 
   -- Of a verification over a click log and the store in a directory.
   pub record VerifyEnds (clicks : Text) (same : Type 0) (disks : Bool) (before after : Images) (faulted : Type 0) : Type 0 where

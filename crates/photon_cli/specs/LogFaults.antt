@@ -72,10 +72,10 @@ IsOfPlanOrLogs f = IsPlanFault f ⊎ IsOfLogs f
 abbrev pub IsFailedRead : RunFault → Type 0
 IsFailedRead f = (f ≡ fault.PlanRead) ⊎ ((log : LogName) × (f ≡ failed_read log))
 
--- A drill tells neither of damage nor of another topology, and of a disk or a number at its limit only where there are stops.
+-- A drill tells neither of damage, nor of another topology, nor of a number at its limit, and of a disk only where there are stops.
 abbrev pub IsOfDrill : (stops : Type 0) → RunFault → Type 0
 IsOfDrill stops (fault.Store at) = stops
-IsOfDrill stops (fault.Limit disk value) = stops
+IsOfDrill stops (fault.Limit disk value) = ⊥
 IsOfDrill stops (fault.Damaged disk at) = ⊥
 IsOfDrill stops (fault.Topology what) = ⊥
 IsOfDrill stops _ = ⊤

@@ -1,13 +1,14 @@
 -- Why a run over a store gives up, from what opening it tells and what a run of its nodes does.
-use Rattle.std.specs.Prelude.{IsTrue, Result, Ok, Err, OnOk, IfErr, ⊤}
-use Rattle.std.proofs.Common.{◌≡◌, ◌≢◌, inl, inr, ⊎_elim, ℕ, ◌+◌, ◌-◌, ◌<◌, ◌==◌, if◌then◌else◌, List, [], ◌∷◌, map, Bool, true, false, Option, Some, None, refl, sym, ◌∙◌, ap, subst, arith}
-use Rattle.site_run.proofs.Words.{eq-eqb, cases_lt, Mem, each_at, DiskName, StoreFault, Topology, end_from, Dispatcher, Server, Replica, Joiner, Setting, IsJoiner, first_joiner, IsLogOf, Disks, RunFault, Misplaced, IsCounted, IsWelcome, of_place, limit_at, limit_in, IsKeptIn, IsJournalOf, other_names, Images, IsDisk, joiner_of, IsAsked, EpochIs, KeptDisk, KeptValues, Says, AreRecordsOf, all_named, at_name, was_journal, AreTold, ArePassed, HasCause, HasFailed, PassesFor, IsCause, IsUnread, cause_more, failed_rose, passed_more, unread_rose, asked_of, HasPassed, IsCauseOf, KeptAreJournals, OneKept, IsOfRun, TellsPlaces}
+use Rattle.std.specs.Prelude.{IsTrue, IsSomeAnd, Result, Ok, Err, OnOk, IfErr, ⊤}
+use Rattle.std.proofs.Common.{◌≡◌, ◌≢◌, inl, inr, ⊎_elim, ℕ, ◌+◌, ◌-◌, ◌≤◌, ◌<◌, ◌==◌, if◌then◌else◌, List, [], ◌∷◌, map, Bool, true, false, Option, Some, None, refl, sym, ◌∙◌, ap, subst, arith}
+use Rattle.site_run.proofs.Words.{eq-eqb, le-ltb, lt-ltb, Each, Mem, each_at, BusEntry, DiskName, StoreFault, Topology, end_from, Dispatcher, Server, Replica, Joiner, Node, IsNode, node_number, Setting, IsLogOf, Disks, RunFault, Misplaced, IsCounted, IsWelcome, of_place, limit_at, limit_in, IsKeptIn, IsJournalOf, other_names, Images, IsDisk, joiner_of, place_at, site_of, IsAsked, EpochIs, KeepsEpoch, KeptDisk, KeptEpoch, KeptValues, Says, AreRecordsOf, all_named, at_name, was_journal, AreTold, ArePassed, HasCause, HasFailed, PassesFor, IsCause, IsUnread, cause_more, failed_rose, passed_more, unread_rose, asked_of, HasPassed, IsCauseOf, IsLate, IsNearLast, IsOfRun, IsSpent, KeptAreJournals, RunLog, TellsPlaces, epochs_of}
 use Rattle.outside.specs.declared.store.DiskName.TheVariants as name
 use Rattle.outside.specs.declared.faults.StoreFault.TheVariants as store
 use Rattle.run_fault.specs.declared.fault.StorePlace.TheVariants as place
 use Rattle.run_fault.specs.declared.fault.RunFault.TheVariants as fault
 use Rattle.site_store.specs.Misfits.{or_else}
-use Rattle.site_store.specs.Records.{AreKept}
+use Rattle.site_run.proofs.Places.{of_setting, owner}
+use Rattle.site_store.specs.Records.{AreKept, IsKept, KeepsAs}
 use Rattle.site_store.specs.Records as kinds
 
 -- ---- what is known of a result
@@ -42,11 +43,11 @@ module _ (g : Setting) (before : Images) (asked : Topology) (is : IsAsked asked 
 
   pub refused_so : (rose store_rose read faulted : Type 0) → (rose → read) → (store_rose → faulted) → (f : RunFault) → IsCause tells before replicas store_rose log_tells log end_ rose (Some asked) f → IsCauseOf g before read faulted f
   refused_so rose store_rose read faulted to_read to_faulted f cause =
-      subst (λ t. HasCause t before g.replicas (Some (asked_of g)) (TellsPlaces g) (λ l. read) (λ at. faulted) faulted ⊤ f) sure
-      (subst (λ (a : Topology). HasCause tells before g.replicas (Some a) (TellsPlaces g) (λ l. read) (λ at. faulted) faulted ⊤ f) same_asked
-      (subst (λ n. HasCause tells before n (Some asked) (TellsPlaces g) (λ l. read) (λ at. faulted) faulted ⊤ f) (sym count)
+      subst (λ t. HasCause t before g.replicas (Some (asked_of g)) (TellsPlaces g) (λ l. read) (λ at. faulted) (IsLate g before faulted f) ⊤ f) sure
+      (subst (λ (a : Topology). HasCause tells before g.replicas (Some a) (TellsPlaces g) (λ l. read) (λ at. faulted) (IsLate g before faulted f) ⊤ f) same_asked
+      (subst (λ n. HasCause tells before n (Some asked) (TellsPlaces g) (λ l. read) (λ at. faulted) (IsLate g before faulted f) ⊤ f) (sym count)
       (cause_more tells replicas (Some asked) before before (λ disk c now. now) (AreTold log_tells log end_) (TellsPlaces g) over_log
-      (IsUnread tells before replicas (Some asked) (AreTold log_tells log end_) rose) (λ l. read) (HasFailed tells before replicas (Some asked) (AreTold log_tells log end_) store_rose) (λ at. faulted) ⊥ faulted ⊥ ⊤
+      (IsUnread tells before replicas (Some asked) (AreTold log_tells log end_) rose) (λ l. read) (HasFailed tells before replicas (Some asked) (AreTold log_tells log end_) store_rose) (λ at. faulted) ⊥ (IsLate g before faulted f) ⊥ ⊤
       (λ l is. to_read (unread_rose tells before replicas (Some asked) (AreTold log_tells log end_) rose l is)) (λ at is. to_faulted (failed_rose tells before replicas (Some asked) (AreTold log_tells log end_) store_rose at is)) (λ x. absurd x) (λ x. absurd x) f cause)))
 
 -- its count rose, of the logs or of the disks
@@ -79,53 +80,77 @@ none_at (o ∷ os) none d (inr m) = none_at os (both_none (limit_at o.name o.kep
 not_last : (n : DiskName) (epoch : ℕ) → limit_at n (EpochIs epoch) ≡ None → epoch ≢ 4294967294
 not_last n epoch none last = absurd (cc (sym (eq-eqb epoch 4294967294 last) ∙ (rest_none (epoch == 4294967294) (fault.Limit n 4294967294) None none).0))
 
--- a joiner's number by its site and its place there
-record IsPlacedAs (g : Setting) (n : ℕ) : Type 0 where
-  site : ℕ
-  place : ℕ
-  is_site : site < 2
-  within : place < g.joiners
-  number : joiner_of g site place ≡ n
+-- the disk of a node's epochs
+epochs_of_server : (joiners s : ℕ) → s < 2 → epochs_of joiners (2 + s) ≡ name.Server s
+epochs_of_server joiners s few =
+    let at : 2 + s - 2 ≡ s = omega arith in
+    ap (λ (b : Bool). if b then name.Server (2 + s - 2) else name.Epoch (site_of joiners (2 + s)) (place_at joiners (2 + s))) (lt-ltb (2 + s) 7 (omega (arith, few))) ∙ ap name.Server at
 
-placed_as : (g : Setting) (n : ℕ) → IsJoiner g n → IsPlacedAs g n
-placed_as g n is =
-    ⊎_elim
-    (λ low. record { site = 0; place = n - first_joiner g; is_site = omega arith; within = omega (arith, low, is.0); number = omega (arith, is.0) })
-    (λ high. record { site = 1; place = n - (first_joiner g + g.joiners); is_site = omega arith; within = omega (arith, high, is.1); number = omega (arith, high) })
-    (cases_lt n (first_joiner g + g.joiners))
+epochs_of_joiner : (joiners j : ℕ) → 7 ≤ j → epochs_of joiners j ≡ name.Epoch (site_of joiners j) (place_at joiners j)
+epochs_of_joiner joiners j many = ap (λ (b : Bool). if b then name.Server (j - 2) else name.Epoch (site_of joiners j) (place_at joiners j)) (le-ltb j 7 many)
 
-module _ (g : Setting) (disks : List KeptDisk) (limits : limit_in disks ≡ None) (d : Disks) (records : AreRecordsOf g disks d) (named : map (λ (k : KeptDisk). k.name) disks ≡ other_names g.joiners g.replicas) where
-  of_disk : (disk : DiskName) (epoch : ℕ) → IsDisk g disk → disk ≢ name.Topology → ((kept : kinds.Kept) → Says g d disk kept → kept ≡ EpochIs epoch) → epoch ≢ 4294967294
+module _ (g : Setting) (before : Images) (three : g.replicas ≡ 3) (disks : List KeptDisk) (limits : limit_in disks ≡ None) (kept : Each (IsKept before) disks) (d : Disks) (records : AreRecordsOf g disks d)
+    (named : map (λ (k : KeptDisk). k.name) disks ≡ other_names g.joiners g.replicas) where
+  -- a disk that kept an epoch kept none that is the last one
+  abbrev KeptLess : DiskName → ℕ → Type 0
+  KeptLess disk epoch = (epoch ≢ 4294967294) × IsKeptIn (before disk) (KeepsEpoch epoch)
+
+  of_disk : (disk : DiskName) (epoch : ℕ) → IsDisk g disk → disk ≢ name.Topology → ((k : kinds.Kept) → Says g d disk k → k ≡ EpochIs epoch) → KeptLess disk epoch
   of_disk disk epoch here other said =
       let o = at_name disks disk (subst (λ (l : List DiskName). Mem disk l) (sym named) (all_named g disk here other)) in
-      let says = subst (λ (m : DiskName). Says g d m o.0.kept) o.2 (each_at (λ (k : KeptDisk). Says g d k.name k.kept) disks records o.0 o.1) in
-      not_last o.0.name epoch (subst (λ k. limit_at o.0.name k ≡ None) (said o.0.kept says) (none_at disks limits o.0 o.1))
+      let is = said o.0.kept (subst (λ (m : DiskName). Says g d m o.0.kept) o.2 (each_at (λ (k : KeptDisk). Says g d k.name k.kept) disks records o.0 o.1)) in (
+        not_last o.0.name epoch (subst (λ k. limit_at o.0.name k ≡ None) is (none_at disks limits o.0 o.1)),
+        subst (λ (m : DiskName). IsKeptIn (before m) (KeepsEpoch epoch)) o.2 (subst (λ k. IsKeptIn (before o.0.name) (KeepsAs k)) is (each_at (IsKept before) disks kept o.0 o.1)),
+      )
 
-  pub none_kept : (epoch : ℕ) → epoch ≡ 4294967294 → OneKept g d epoch → ⊥
-  none_kept epoch last (Dispatcher s, is, kept) = kept
-  none_kept epoch last (Server s, is, kept) = of_disk (name.Server s) ((d.servers s).epoch) is (λ e. cc e) (λ k says. says) (kept ∙ last)
-  none_kept epoch last (Replica r, is, kept) = kept
-  none_kept epoch last (Joiner j, is, kept) =
-      let p = placed_as g j is in
-      of_disk (name.Epoch p.site p.place) ((d.joiners (joiner_of g p.site p.place)).epoch) (p.is_site, p.within) (λ e. cc e) (λ k says. says) (ap (λ m. (d.joiners m).epoch) p.number ∙ kept ∙ last)
+  of_node : (n : Node) (epoch : ℕ) → IsNode g n → KeptEpoch d n epoch → KeptLess (epochs_of g.joiners (node_number n)) epoch
+  of_node (Dispatcher s) epoch is had = absurd had
+  of_node (Server s) epoch is had = subst (λ m. KeptLess m epoch) (sym (epochs_of_server g.joiners s is)) (of_disk (name.Server s) epoch is (λ e. cc e) (λ k says. says ∙ ap EpochIs had))
+  of_node (Replica r) epoch is had = absurd had
+  of_node (Joiner j) epoch is had =
+      let site = site_of g.joiners j in
+      let seat = place_at g.joiners j in
+      let number : joiner_of g site seat ≡ j = cc (owner g three (Joiner j) (name.Epoch site seat) is (refl, refl)) in
+      subst (λ m. KeptLess m epoch) (sym (epochs_of_joiner g.joiners j (omega (arith, is.0, three))))
+      (of_disk (name.Epoch site seat) epoch (of_setting g three (Joiner j) (name.Epoch site seat) is (refl, refl)) (λ e. cc e) (λ k says. says ∙ ap EpochIs (ap (λ m. (d.joiners m).epoch) number ∙ had)))
 
--- ---- of a run of the nodes
+  -- so a node that came to it has met a fault, and its disk kept one near it
+  late : (h : List BusEntry) (rose faulted : Type 0) → (rose → faulted) → (disk : DiskName) (epoch : ℕ) → IsSpent g h d rose disk epoch → (faulted × IsNearLast g before disk) × (epoch ≡ 4294967294)
+  late h rose faulted more disk epoch spent =
+      let had = spent.came.0 in
+      let come = spent.came.2 in
+      let last = come.last in
+      let least = come.least in
+      let most = come.most in
+      let few = spent.few in
+      let less = of_node spent.node had spent.is spent.came.1 in
+      let other = less.0 in
+      let kept_in = less.1 in (
+        (more (spent.met (omega (arith, last, least, most, other))), subst (IsNearLast g before) (sym spent.named) (kept_in.0, kept_in.1, (had, kept_in.2, omega (arith, last, most, few)))),
+        last,
+      )
 
--- its fault has the cause that is told
-pub cause_so : (g : Setting) (before : Images) (d : Disks) (read faulted rose : Type 0) (f : RunFault) → ((epoch : ℕ) → epoch ≡ 4294967294 → OneKept g d epoch → ⊥) → (rose → faulted) → IsCounted read faulted f → IsOfRun g d rose f → IsCauseOf g before read faulted f
-cause_so g before d read faulted rose (fault.Read log) none more counted of = counted
-cause_so g before d read faulted rose (fault.Store place) none more counted of = counted
-cause_so g before d read faulted rose (fault.Limit disk value) none more counted of = ⊎_elim (λ one. absurd (none value of.0 one)) (λ r. inr (more r, of.0)) of.1
-cause_so g before d read faulted rose fault.Memory none more counted of = tt
-cause_so g before d read faulted rose _ none more counted of = absurd of
+  -- ---- of a run of the nodes
+
+  late_of : (ran : Option RunLog) (rose faulted : Type 0) → (rose → faulted) → (disk : DiskName) (epoch : ℕ) → IsSomeAnd ran (λ l. IsSpent g l.air.history d rose disk epoch) → (faulted × IsNearLast g before disk) × (epoch ≡ 4294967294)
+  late_of None rose faulted more disk epoch spent = absurd spent
+  late_of (Some log) rose faulted more disk epoch spent = late log.air.history rose faulted more disk epoch spent
+
+  -- its fault has the cause that is told
+  pub cause_so : (ran : Option RunLog) (read faulted rose : Type 0) → (rose → faulted) → (f : RunFault) → IsCounted read faulted f → IsOfRun g d rose ran f → IsCauseOf g before read faulted f
+  cause_so ran read faulted rose more (fault.Read log) counted of = counted
+  cause_so ran read faulted rose more (fault.Store at) counted of = counted
+  cause_so ran read faulted rose more (fault.Limit disk value) counted of = inr (late_of ran rose faulted more disk value of)
+  cause_so ran read faulted rose more fault.Memory counted of = tt
+  cause_so ran read faulted rose more _ counted of = absurd of
 
 -- and it is none for which a sound store would be refused
-pub welcome_so : (g : Setting) (d : Disks) (rose holds : Type 0) (f : RunFault) → IsOfRun g d rose f → IsWelcome holds f
-welcome_so g d rose holds (fault.Read log) of = tt
-welcome_so g d rose holds (fault.Store place) of = tt
-welcome_so g d rose holds (fault.Limit disk value) of = tt
-welcome_so g d rose holds fault.Memory of = tt
-welcome_so g d rose holds _ of = absurd of
+pub welcome_so : (g : Setting) (d : Disks) (rose holds : Type 0) (ran : Option RunLog) (f : RunFault) → IsOfRun g d rose ran f → IsWelcome holds f
+welcome_so g d rose holds ran (fault.Read log) of = tt
+welcome_so g d rose holds ran (fault.Store at) of = tt
+welcome_so g d rose holds ran (fault.Limit disk value) of = tt
+welcome_so g d rose holds ran fault.Memory of = tt
+welcome_so g d rose holds ran _ of = absurd of
 
 -- ---- of logs that aren't opened, and a store that isn't placed
 
@@ -148,9 +173,14 @@ module _ (g : Setting) (before placed : Images) (within : (disk : DiskName) (c :
   pub passed_within : HasPassed g placed → HasPassed g before
   passed_within = passed_more true g.replicas (Some (asked_of g)) placed before within (TellsPlaces g) (TellsPlaces g) (λ disks m told. told)
 
+  late_within : (faulted rose : Type 0) → (rose → faulted) → (f : RunFault) → IsLate g placed rose f → IsLate g before faulted f
+  late_within faulted rose more (fault.Limit disk value) (met, (c, here, near)) = (more met, (c, within disk c here, near))
+  late_within faulted rose more _ late = absurd late
+
   pub cause_within : (files read faulted rose : Type 0) → (files → read) → (rose → faulted) → (f : RunFault) → IsCauseOf g placed files rose f → IsCauseOf g before read faulted f
-  cause_within files read faulted rose earlier more =
-      cause_more true g.replicas (Some (asked_of g)) placed before within (TellsPlaces g) (TellsPlaces g) (λ disks m told. told) (λ log. files) (λ log. read) (λ at. rose) (λ at. faulted) rose faulted ⊤ ⊤ (λ log. earlier) (λ at. more) more (λ x. x)
+  cause_within files read faulted rose earlier more f =
+      cause_more true g.replicas (Some (asked_of g)) placed before within (TellsPlaces g) (TellsPlaces g) (λ disks m told. told) (λ log. files) (λ log. read) (λ at. rose) (λ at. faulted) (IsLate g placed rose f) (IsLate g before faulted f) ⊤ ⊤
+      (λ log. earlier) (λ at. more) (late_within faulted rose more f) (λ x. x) f
 
 -- ---- what is kept of a disk that is opened is a journal of its kind
 

@@ -1,7 +1,7 @@
 -- From what a run leaves of each node to what it leaves of the store.
 use Rattle.std.specs.Prelude.{IsTrue, IsSome, option_map}
-use Rattle.std.proofs.Common.{◌≡◌, ◌≢◌, ◌⊎◌, inl, inr, ⊎_elim, ℕ, zero, suc, ◌+◌, ◌<◌, ◌≤◌, List, [], ◌∷◌, ◌++◌, length, map, slice_index_or, Bool, true, false, Option, None, Some, refl, sym, ap, ◌∙◌, subst, arith, length-append}
-use Rattle.site_run.proofs.Words.{list_any, recursion_from_All, Mem, Each, mem_left, mem_right, some_same, DiskName, BusEntry, Bytes, Busy, Node, Dispatcher, Server, Replica, Joiner, Setting, IsNode, NumbersAreNodes, node_number, node_count, phase_by, NodeFault, World, Disks, disks, world_after, opening, NoJoinerStops, AreOf, RunFault, damaged_by, IsJournalOf, undamaged, Lent, IsOfOne, MayBeLeft, GoesOn, StateOf, kept_of, cell_of, made_by, HasMet, IsCaused, is_stop, stop_count, AreCaused, HasFault, AnyState, any_of, any_phase, IsRunFrom, HaveGrown, ComesToLast, all_from, topology_of, Images, IsDisk, AreKept, KeepsOf, KeepsTopology, Journals, IsRosterOf, votes_are_notes, IsCounted, of_node, IsOfDisks, IsPastOpening, IsOfRun, OneKept, HoldsAs, HaveGoneOn, AllHold, AreHeld, AreMet, IsLeftBy, KeepsItsRecord, NoneStops, HasRun, HasRested, AreOut, IsClosed, KeepsAs, AllKeep, KeepsPairs, KeepsNotes, HoldSameRecords, ReadNotesAreKept, told_of, or_else, first_fault, lent_replicas, lent_outputs, AreKeptIn}
+use Rattle.std.proofs.Common.{◌≡◌, ◌≢◌, inr, ⊎_elim, ℕ, zero, suc, ◌+◌, ◌<◌, ◌≤◌, List, [], ◌∷◌, ◌++◌, length, map, slice_index_or, Bool, true, false, Option, None, Some, refl, sym, ap, ◌∙◌, subst, arith, length-append}
+use Rattle.site_run.proofs.Words.{list_any, recursion_from_All, Mem, Each, mem_left, mem_right, some_same, DiskName, BusEntry, Begin, End, Stop, Bytes, Busy, Node, Dispatcher, Server, Replica, Joiner, Setting, IsNode, NumbersAreNodes, node_number, node_count, phase_by, NodeFault, World, Disks, disks, world_after, opening, NoJoinerStops, AreOf, RunFault, damaged_by, IsJournalOf, undamaged, Lent, IsOfOne, MayBeLeft, GoesOn, StateOf, kept_of, cell_of, made_by, HasMet, IsCaused, is_stop, stop_count, AreCaused, HasFault, AnyState, any_of, any_phase, IsRunFrom, HaveGrown, ComesToLast, all_from, topology_of, Images, IsDisk, AreKept, KeepsOf, KeepsTopology, Journals, IsRosterOf, votes_are_notes, IsCounted, of_node, IsOfDisks, IsPastOpening, IsOfRun, IsSpent, RunLog, epochs_of, HoldsAs, HaveGoneOn, AllHold, AreHeld, AreMet, IsLeftBy, KeepsItsRecord, NoneStops, HasRun, HasRested, AreOut, IsClosed, KeepsAs, AllKeep, KeepsPairs, KeepsNotes, HoldSameRecords, ReadNotesAreKept, told_of, or_else, first_fault, lent_replicas, lent_outputs, AreKeptIn}
 use Rattle.outside.specs.declared.store.DiskName.TheVariants as name
 use Rattle.site_node.specs.declared.kind.NodeFault.TheVariants as node
 use Rattle.run_fault.specs.declared.fault.StorePlace.TheVariants as at
@@ -37,6 +37,13 @@ pub some_of : {A : Type 0} (xs : List A) → 0 < length xs → A
 some_of [] l = absurd (omega (arith, l))
 some_of (x ∷ xs) l = x
 
+-- entries that count a stop have one
+some_counted : (es : List BusEntry) → 1 ≤ stop_count es → list_any is_stop es ≡ true
+some_counted [] some = absurd (omega (arith, some))
+some_counted (Begin node input ∷ es) some = some_counted es some
+some_counted (End node noted packets kept ∷ es) some = some_counted es some
+some_counted (Stop node landed ∷ es) some = refl
+
 -- ---- the node of the first fault
 
 -- the fault that is told is that of the node at this place
@@ -65,6 +72,34 @@ told_here joiners first w ws f later (Some fault) some is = record {
 told_at : {N : Type 0} (joiners first : ℕ) (ws : List (N × Option NodeFault)) (f : RunFault) → first_fault joiners first ws ≡ Some f → IsToldAt joiners first ws f
 told_at joiners first [] f is = absurd (cc is)
 told_at joiners first (w ∷ ws) f is = told_here joiners first w ws f (told_at joiners (suc first) ws f) w.1 refl is
+
+-- it is that of a node of the setting
+pub record IsToldOf {N : Type 0} (joiners : ℕ) (g : Setting) (ws : List (N × Option NodeFault)) (f : RunFault) : Type 0 where
+  pub node : Node
+  pub is : IsNode g node
+  pub default : N × Option NodeFault
+  pub within : node_number node < length ws
+  pub fault : NodeFault
+  pub has : (slice_index_or ws (node_number node) default).1 ≡ Some fault
+  pub told : f ≡ of_node joiners (node_number node) fault
+
+pub told_of_node : {N : Type 0} (joiners : ℕ) (g : Setting) → NumbersAreNodes g → (ws : List (N × Option NodeFault)) → length ws ≡ node_count g → (f : RunFault) → first_fault joiners 0 ws ≡ Some f → IsToldOf joiners g ws f
+told_of_node {N} joiners g numbers ws count f is =
+    let t = told_at joiners 0 ws f is in
+    let b = some_of ws (omega (arith, t.within)) in
+    let n = numbers.each t.place (omega (arith, t.within, count)) in
+    let back = numbers.back t.place n.0 n.1 in
+    let at = t.told b in
+    let same : t.number ≡ node_number n.0 = omega (arith, back.0, t.counted) in
+    record {
+      node = n.0;
+      is = back.1;
+      default = b;
+      within = omega (arith, t.within, back.0);
+      fault = at.0;
+      has = subst (λ k. (slice_index_or ws k b).1 ≡ Some at.0) (sym back.0) at.1;
+      told = at.2 ∙ ap (λ k. of_node joiners k at.0) same;
+    }
 
 -- what the topology's disk keeps is a journal of its kind
 topology_kept : (t : Option Topology) (c : List ℕ) → KeepsTopology t c → IsJournalOf name.Topology c
@@ -146,8 +181,8 @@ module _ {N D : Type 0} (image : D → List ℕ → Type 0) (places : N → AnyS
 
   -- ---- unless a disk met a fault no joiner has stopped
 
-  module _ {L : Type 0} (disk_faults : D → ℕ) (log_faults : L → ℕ) (faults read_faults : N → ℕ) (logs_of : N → List L) (met : AreMet disk_faults log_faults faults read_faults disks_of logs_of) where
-    pub no_stops : NoneStops → ((i : ℕ) (b : N × Option NodeFault) → i < length ws → HasMet faults (slice_index_or ws i b).0 (slice_index_or ws i b).1 (made_by i h)) → (faulted : Type 0)
+  module _ {L : Type 0} (disk_faults : D → ℕ) (log_faults : L → ℕ) (faults read_faults : N → ℕ) (waits : N → Bool) (logs_of : N → List L) (met : AreMet disk_faults log_faults faults read_faults disks_of logs_of) where
+    pub no_stops : NoneStops → ((i : ℕ) (b : N × Option NodeFault) → i < length ws → HasMet faults waits (slice_index_or ws i b).0 (slice_index_or ws i b).1 (made_by i h)) → (faulted : Type 0)
         → ((l : Lent D) → Mem l (topology ∷ all_from disks_at 0 ws) → 1 ≤ disk_faults l.disk → faulted) → (faulted → ⊥) → NoJoinerStops left.entries
     no_stops law stopped faulted rises never =
         law g d h left.at left.entries left.run
@@ -177,47 +212,59 @@ module _ {N D : Type 0} (image : D → List ℕ → Type 0) (places : N → AnyS
     never_damaged (name.Output s j) at c here = undamaged_now (name.Output s j) at c (λ e. absurd (cc e)) here
 
     -- so a fault of reading them back is none of damage
-    pub read_back_of : (faulted : Type 0) (f : RunFault) → (tells : Bool) → IsTrue tells → IsOfDisks tells image (topology ∷ all_from disks_at 0 ws) faulted f → IsOfRun g d faulted f
-    read_back_of faulted (run.Store place) tells sure of = tt
-    read_back_of faulted (run.Damaged disk at) tells sure of = let x = of sure in never_damaged disk at x.0 x.1 x.2
-    read_back_of faulted run.Memory tells sure of = tt
-    read_back_of faulted _ tells sure of = absurd of
+    pub read_back_of : (ran : Option RunLog) (faulted : Type 0) (f : RunFault) → (tells : Bool) → IsTrue tells → IsOfDisks tells image (topology ∷ all_from disks_at 0 ws) faulted f → IsOfRun g d faulted ran f
+    read_back_of ran faulted (run.Store (at.Disk disk)) tells sure of = tt
+    read_back_of ran faulted (run.Damaged disk at) tells sure of = let x = of sure in never_damaged disk at x.0 x.1 x.2
+    read_back_of ran faulted run.Memory tells sure of = tt
+    read_back_of ran faulted _ tells sure of = absurd of
 
-  module _ {L : Type 0} (disk_faults : D → ℕ) (log_faults : L → ℕ) (faults read_faults : N → ℕ) (logs_of : N → List L) (met : AreMet disk_faults log_faults faults read_faults disks_of logs_of)
-      (stopped : (i : ℕ) (b : N × Option NodeFault) → i < length ws → HasMet faults (slice_index_or ws i b).0 (slice_index_or ws i b).1 (made_by i h)) (faulted : Type 0)
+  module _ {L : Type 0} (disk_faults : D → ℕ) (log_faults : L → ℕ) (faults read_faults : N → ℕ) (waits : N → Bool) (logs_of : N → List L) (met : AreMet disk_faults log_faults faults read_faults disks_of logs_of)
+      (stopped : (i : ℕ) (b : N × Option NodeFault) → i < length ws → HasMet faults waits (slice_index_or ws i b).0 (slice_index_or ws i b).1 (made_by i h)) (faulted : Type 0)
       (rises : (l : Lent D) → Mem l (topology ∷ all_from disks_at 0 ws) → 1 ≤ disk_faults l.disk → faulted) where
+    inside_all : (n : Node) → IsNode g n → node_number n < length ws
+    inside_all n is = let under = numbers.below n is in omega (arith, under, count)
+
+    one_of : (n : Node) → IsNode g n → N × Option NodeFault
+    one_of n is = some_of ws (omega (arith, inside_all n is))
+
+    met_at : (n : Node) (is : IsNode g n) → HasMet faults waits (slice_index_or ws (node_number n) (one_of n is)).0 (slice_index_or ws (node_number n) (one_of n is)).1 (made_by (node_number n) h)
+    met_at n is = stopped (node_number n) (one_of n is) (inside_all n is)
+
     has_stopped : (n : Node) → IsNode g n → list_any is_stop (made_by (node_number n) h) ≡ true → faulted
     has_stopped n is has =
         let j = node_number n in
-        let below : j < length ws = let under = numbers.below n is in omega (arith, under, count) in
-        let b = some_of ws (omega (arith, below)) in
-        let l = met.disks joiners j (slice_index_or ws j b).0 ((stopped j b below).stops has) in
-        rises l.0 (inr (at_place disks_at 0 j j ws b l.0 below (omega arith) l.1)) l.2
+        let l = met.disks joiners j (slice_index_or ws j (one_of n is)).0 ((met_at n is).stops has) in
+        rises l.0 (inr (at_place disks_at 0 j j ws (one_of n is) l.0 (inside_all n is) (omega arith) l.1)) l.2
 
-    came_to : (n : Node) (epoch : ℕ) → IsNode g n → ComesToLast d h n epoch → (epoch ≡ 4294967294) × (OneKept g d epoch ⊎ faulted)
-    came_to (Dispatcher s) epoch is came = absurd came
-    came_to (Server s) epoch is came = (came.0, ⊎_elim (λ same. inl (Server s, is, same)) (λ has. inr (has_stopped (Server s) is has)) came.1)
-    came_to (Replica r) epoch is came = absurd came
-    came_to (Joiner j) epoch is came = (came.0, ⊎_elim (λ same. inl (Joiner j, is, same)) (λ has. inr (has_stopped (Joiner j) is has)) came.1)
+    module _ (log : RunLog) (same : log.air.history ≡ h) where
+      -- the last entries of its node say so of a limit
+      spent_so : (n : Node) (epoch : ℕ) → IsNode g n → ComesToLast d h n epoch → IsSpent g log.air.history d faulted (epochs_of joiners (node_number n)) epoch
+      spent_so n epoch is came =
+          subst (λ l. IsSpent g l d faulted (epochs_of joiners (node_number n)) epoch) (sym same)
+          (record {
+            node = n;
+            is = is;
+            named = ap (λ j. epochs_of j (node_number n)) (sym roster.joiners_are);
+            came = came;
+            few = (met_at n is).most;
+            met = λ some. has_stopped n is (some_counted (made_by (node_number n) h) some);
+          })
 
-    -- what is told of a node
-    node_told : (n : Node) → IsNode g n → (b : N × Option NodeFault) (f : NodeFault) → (slice_index_or ws (node_number n) b).1 ≡ Some f → (k : ℕ) → IsOfRun g d faulted (of_node joiners k f)
-    node_told n is b node.Stopped told k = tt
-    node_told n is b (node.Disk disk) told k = tt
-    node_told n is b (node.Damaged disk at) told k = left.whole n is b disk at told
-    node_told n is b node.Read told k = tt
-    node_told n is b (node.Spent epoch) told k = came_to n epoch is (left.spent n is b epoch told)
-    node_told n is b node.Memory told k = tt
+      -- what is told of a node
+      node_told : (n : Node) → IsNode g n → (b : N × Option NodeFault) (f : NodeFault) → (slice_index_or ws (node_number n) b).1 ≡ Some f → IsOfRun g d faulted (Some log) (of_node joiners (node_number n) f)
+      node_told n is b node.Stopped told =
+          (n, is, refl, subst (λ l. stop_count (made_by (node_number n) l) ≡ 8) (sym same) ((stopped (node_number n) b (inside_all n is)).ended told))
+      node_told n is b (node.Disk disk) told = tt
+      node_told n is b (node.Damaged disk at) told = left.whole n is b disk at told
+      node_told n is b node.Read told = tt
+      node_told n is b (node.Spent epoch) told = spent_so n epoch is (left.spent n is b epoch told)
+      node_told n is b node.Memory told = tt
 
-    -- and so what is told of the first that has a fault
-    pub first_told : (f : RunFault) → first_fault joiners 0 ws ≡ Some f → IsOfRun g d faulted f
-    first_told f is =
-        let t = told_at joiners 0 ws f is in
-        let b = some_of ws (omega (arith, t.within)) in
-        let n = numbers.each t.place (omega (arith, t.within, count)) in
-        let back = numbers.back t.place n.0 n.1 in
-        let at = t.told b in
-        subst (IsOfRun g d faulted) (sym at.2) (node_told n.0 back.1 b at.0 (subst (λ k. (slice_index_or ws k b).1 ≡ Some at.0) (sym back.0) at.1) t.number)
+      -- and so what is told of the first that has a fault
+      pub first_told : (f : RunFault) → first_fault joiners 0 ws ≡ Some f → IsOfRun g d faulted (Some log) f
+      first_told f is =
+          let t = told_of_node joiners g numbers ws count f is in
+          subst (IsOfRun g d faulted (Some log)) (sym t.told) (node_told t.node t.is t.default t.fault t.has)
 
 -- ---- how many disks there are
 
@@ -337,9 +384,9 @@ node_named joiners n k (node.Spent epoch) is = absurd (cc is)
 node_named joiners n k node.Memory is = absurd (cc is)
 
 -- it is of one whose work has ended so
-pub first_ended : {N : Type 0} (faults : N → ℕ) (joiners : ℕ) (h : List BusEntry) (ws : List (N × Option NodeFault)) → ((i : ℕ) (b : N × Option NodeFault) → i < length ws → HasMet faults (slice_index_or ws i b).0 (slice_index_or ws i b).1 (made_by i h))
+pub first_ended : {N : Type 0} (faults : N → ℕ) (waits : N → Bool) (joiners : ℕ) (h : List BusEntry) (ws : List (N × Option NodeFault)) → ((i : ℕ) (b : N × Option NodeFault) → i < length ws → HasMet faults waits (slice_index_or ws i b).0 (slice_index_or ws i b).1 (made_by i h))
     → (f : RunFault) (n : ℕ) → first_fault joiners 0 ws ≡ Some f → f ≡ run.Store (at.Node n) → stop_count (made_by n h) ≡ 8
-first_ended {N} faults joiners h ws met f n is named =
+first_ended {N} faults waits joiners h ws met f n is named =
     let t = told_at joiners 0 ws f is in
     let b = some_of ws (omega (arith, t.within)) in
     let x = t.told b in

@@ -1,7 +1,8 @@
 -- From what a run leaves of each node to the run of the whole system.
 use Rattle.std.specs.Prelude.{IsTrue}
-use Rattle.std.proofs.Common.{◌≡◌, ◌≢◌, ⊎_elim, inl, inr, ℕ, ◌≤◌, ◌<◌, List, [], ◌∷◌, length, slice_index_or, Bool, true, false, Option, Some, None, refl, sym, ap, ◌∙◌, subst, arith}
-use Rattle.site_run.proofs.Words.{list_any, or_parts, get_or_default, DiskName, Entry, Begin, End, Stop, Phase, Idle, Busy, Bytes, Kind, PlanView, IsAired, phase, is_dead, Node, Dispatcher, Server, Replica, Joiner, Setting, IsNode, NumbersAreNodes, node_number, node_of, node_count, NodeFault, Damaged, Spent, State, Rows, state_phase, phase_by, dispatcher_at_rest, JoinerKept, joiner_at_rest, ServerKept, server_at_rest, World, Disks, world_after, opening, UpWith, StateOf, rows_of, down_over, cell_of, StandsFor, RestsAt, StatesRest, made_by, EachWalked, IsRunOf, AiredIsRun, Chosen, choose, StandsAt, LeadsOn, GrowsOn, Reached, is_stop, Rests, AnyState, any_of, any_phase, any_rests, IsAtLast, IsMeant, AreDownOver, DeadAreReplicas, IsRunFrom, HaveGrown, HasCome, ComesToLast}
+use Rattle.std.proofs.Common.{◌≡◌, ◌≢◌, ℕ, ◌≤◌, ◌<◌, List, [], ◌∷◌, length, slice_index_or, Bool, true, false, Option, Some, None, refl, sym, ap, ◌∙◌, subst, arith}
+use Rattle.site_run.proofs.Words.{get_or_default, DiskName, Entry, Phase, Idle, Busy, Bytes, Kind, PlanView, IsAired, phase, is_dead, Node, Dispatcher, Server, Replica, Joiner, Setting, IsNode, NumbersAreNodes, node_number, node_of, node_count, NodeFault, Damaged, Spent, State, state_phase, phase_by, dispatcher_at_rest, joiner_at_rest, server_at_rest, World, Disks, world_after, opening, UpWith, StateOf, rows_of, down_over, cell_of, StandsFor, RestsAt, StatesRest, made_by, EachWalked, IsRunOf, AiredIsRun, Chosen, choose, StandsAt, LeadsOn, GrowsOn, Reached, Rests, AnyState, any_of, any_phase, any_rests, IsAtLast, IsMeant, AreDownOver, DeadAreReplicas, IsRunFrom, HaveGrown}
+use Rattle.site_run.proofs.Epochs.{comes_to_last}
 use Rattle.site_node.specs.States as states
 use Rattle.photon_model.specs.Runs as model
 use Rattle.site_run.specs.AnyNodes.{GoesOn}
@@ -34,44 +35,6 @@ settings_so g w (Dispatcher s) u f = f.setting
 settings_so g w (Server s) u f = f.setting
 settings_so g w (Replica r) u f = f.setting
 settings_so g w (Joiner j) u f = f.setting
-
--- ---- a node at its last epoch
-
-module _ {K L : Type 0} (rows : Rows K L) (P : K → Type 0) where
-  -- a node that is up, or keeps what has P
-  abbrev KeepsWhereDown : State K L → Type 0
-  KeepsWhereDown s = s.live ≡ None → P s.kept
-
-  after_end : (s t : State K L) (b : Bytes) (note : Option (List ℕ)) (ps : List (ℕ × List ℕ)) → states.Ends rows s b note ps t → KeepsWhereDown t
-  after_end s t b noted ps ends down = ⊎_elim (λ done. let live = ap (λ (x : State K L). x.live) done.2.state in absurd (cc (sym live ∙ down))) (λ idle. let live = ap (λ (x : State K L). x.live) idle.state in absurd (cc (sym live ∙ down))) ends
-
-  one_more : (s t : State K L) (e : Entry) → is_stop e ≡ false → states.Leads rows s e t → KeepsWhereDown s → KeepsWhereDown t
-  one_more s t (Begin n b) never led kept = subst KeepsWhereDown (sym led.2) kept
-  one_more s t (End n note ps sent) never led kept = after_end s t led.0 note ps led.3
-  one_more s t (Stop n landed) never led kept = absurd (cc never)
-
-  -- with no stop a node that is down keeps what it kept at first
-  none_stops : (s t : State K L) (es : List Entry) → list_any is_stop es ≡ false → states.Path rows s es t → KeepsWhereDown s → KeepsWhereDown t
-  none_stops s t [] never path kept = subst KeepsWhereDown path kept
-  none_stops s t (e ∷ es) never path kept = none_stops path.0 t es ((or_parts (is_stop e) (list_any is_stop es) never).1) path.2 (one_more s path.0 e ((or_parts (is_stop e) (list_any is_stop es) never).0) path.1 kept)
-
--- the disk kept the epoch at first, or there was a stop
-module _ (h : List Entry) (n : Node) (kept epoch : ℕ) (last : epoch ≡ 4294967294) where
-  has_come : (b : Bool) → list_any is_stop (made_by (node_number n) h) ≡ b → (b ≡ false → kept ≡ epoch) → HasCome h n kept epoch
-  has_come true is same = (last, inr is)
-  has_come false is same = (last, inl (same refl))
-
-comes_to_last : (g : Setting) (d : Disks) (h : List Entry) (n : Node) (u : StateOf n) (epoch : ℕ) → states.Path (rows_of n) (down_over g d n) (made_by (node_number n) h) u → IsAtLast (any_of n u) epoch → ComesToLast d h n epoch
-comes_to_last g d h (Dispatcher s) u epoch path at = absurd at
-comes_to_last g d h (Server s) u epoch path at =
-    let mine = made_by (node_number (Server s)) h in
-    has_come h (Server s) (d.servers s).epoch epoch at.2 (list_any is_stop mine) refl
-    (λ never. none_stops (rows_of (Server s)) (λ (k : ServerKept). (d.servers s).epoch ≡ k.epoch) (down_over g d (Server s)) u mine never path (λ down. refl) at.0 ∙ at.1)
-comes_to_last g d h (Replica r) u epoch path at = absurd at
-comes_to_last g d h (Joiner j) u epoch path at =
-    let mine = made_by (node_number (Joiner j)) h in
-    has_come h (Joiner j) (d.joiners j).epoch epoch at.2 (list_any is_stop mine) refl
-    (λ never. none_stops (rows_of (Joiner j)) (λ (k : JoinerKept). (d.joiners j).epoch ≡ k.epoch) (down_over g d (Joiner j)) u mine never path (λ down. refl) at.0 ∙ at.1)
 
 some_of : {A : Type 0} (xs : List A) → 0 < length xs → A
 some_of [] l = absurd (omega (arith, l))

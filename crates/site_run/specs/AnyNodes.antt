@@ -1,8 +1,10 @@
 -- Nodes of all four kinds as one kind, and where they stand.
 use Rattle.std.proofs.Common.{◌≡◌, ◌⊎◌, inl, inr, ℕ, Bool, List, Option, None, Some}
+use Rattle.ballot_core.specs.declared.TheConstants.{LAST_EPOCH}
 use Rattle.air_bus.specs.declared.entry.Entry.{Entry}
 use Rattle.air_bus.specs.declared.entry.Entry.TheVariants.{Begin}
 use Rattle.air_bus.specs.declared.entry.Input.{Input}
+use Rattle.air_bus.specs.declared.entry.Input.TheVariants.{Start}
 use Rattle.turn_defs.specs.declared.node.Node.{Node}
 use Rattle.turn_defs.specs.declared.node.Node.TheVariants.{Dispatcher, Server, Replica, Joiner}
 use Rattle.air_bus.specs.declared.entry.Phase.{Phase}
@@ -57,12 +59,18 @@ down_with g k = record { setting = g; kept = k; live = None; opened = None }
 abbrev pub any_spends : AnyState → Input → Option ℕ
 any_spends = either.of (either.of dispatcher.never_spent spent_at) (either.of replica.never_spent spends_of)
 
--- The node knows nothing, since it is down or starts, and the epoch that its disk keeps is this one, the last.
+-- a node with this open turn starts, and what its disk keeps is this epoch, the last
+pub record StartsAt {L : Type 0} (opened : Option Input) (live : Option L) (kept epoch : ℕ) : Type 0 where
+  pub starts : opened ≡ Some Start
+  pub down : live ≡ None
+  pub keeps : kept ≡ epoch
+  pub last : epoch ≡ LAST_EPOCH
+
 abbrev pub IsAtLast : AnyState → ℕ → Type 0
 IsAtLast (inl (inl d)) epoch = ⊥
-IsAtLast (inl (inr s)) epoch = (s.live ≡ None) × (s.kept.disk.epoch ≡ epoch) × (epoch ≡ 4294967294)
+IsAtLast (inl (inr s)) epoch = StartsAt s.opened s.live s.kept.disk.epoch epoch
 IsAtLast (inr (inl r)) epoch = ⊥
-IsAtLast (inr (inr j)) epoch = (j.node.live ≡ None) × (j.node.kept.epoch ≡ epoch) × (epoch ≡ 4294967294)
+IsAtLast (inr (inr j)) epoch = StartsAt j.node.opened j.node.live j.node.kept.epoch epoch
 
 -- ---- a kind of node that stands at such states
 

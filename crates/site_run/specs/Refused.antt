@@ -1,19 +1,21 @@
 -- Why a run over a store gives up, by what a stop might have left of its disks before it.
-use Rattle.std.specs.Prelude.{◌≡◌, ◌⊎◌, ℕ, List, ◌∷◌, true, Option, None, Some, IsSomeAnd, ⊤}
+use Rattle.std.specs.Prelude.{◌≡◌, ℕ, ◌+◌, ◌≤◌, List, ◌∷◌, true, Option, None, Some, IsSomeAnd, ⊤}
+use Rattle.ballot_core.specs.declared.TheConstants.{LAST_EPOCH}
 use Rattle.list_words.specs.Lists.{Mem}
 use Rattle.outside.specs.declared.store.DiskName.{DiskName}
 use Rattle.outside.specs.declared.store.DiskName.TheVariants as name
+use Rattle.air_bus.specs.declared.entry.Entry.{Entry as BusEntry}
+use Rattle.epoch_journal.specs.Epochs.{Keeps as KeepsEpoch}
 use Rattle.topology_journal.specs.declared.topology.Topology.{Topology}
 use Rattle.topology_journal.specs.Topologies.{Keeps as KeepsTopology}
-use Rattle.bus_seat.specs.Views.{made_by}
+use Rattle.site_laws.specs.Laws.{made_by}
 use Rattle.run_fault.specs.declared.fault.StorePlace.TheVariants as place
 use Rattle.run_fault.specs.declared.fault.Misplaced.{Misplaced}
 use Rattle.run_fault.specs.declared.fault.RunFault.{RunFault}
 use Rattle.run_fault.specs.declared.fault.RunFault.TheVariants as fault
 use Rattle.turn_defs.specs.declared.node.Node.{Node}
-use Rattle.turn_defs.specs.declared.node.Node.TheVariants.{Dispatcher, Server, Replica, Joiner}
 use Rattle.turn_defs.specs.Setting.{Setting}
-use Rattle.turn_defs.specs.Nodes.{IsNode}
+use Rattle.turn_defs.specs.Nodes.{IsNode, node_number}
 use Rattle.site_store.specs.Kinds.{joiners_kept}
 use Rattle.gate_journal.specs.Images.{IsKeptIn}
 use Rattle.site_store.specs.Refusals.{IsJournalOf, other_names}
@@ -23,6 +25,8 @@ use Rattle.site_workers.specs.Works.{stop_count}
 use Rattle.site_laws.specs.Stores.{Images}
 use Rattle.site_store.specs.Records.{KeptDisk, KeptValues, AreKept}
 use Rattle.site_store.specs.Causes.{HasCause, HasPassed as PassesFor}
+use Rattle.site_run.specs.Causes.{epochs_of}
+use Rattle.site_run.specs.Running.{ComesToLast}
 use Rattle.site_run.specs.declared.ran.RunLog.{RunLog}
 
 -- the topology that a setting asks for
@@ -47,10 +51,19 @@ module _ (g : Setting) (before : Images) where
   abbrev pub HasPassed : Type 0
   HasPassed = PassesFor true before g.replicas (Some (asked_of g)) (TellsPlaces g)
 
+  -- The disk kept an epoch that is below the last one by no more than a node may stop.
+  abbrev pub IsNearLast : DiskName → Type 0
+  IsNearLast disk = IsKeptIn (before disk) (λ c. (kept : ℕ) × KeepsEpoch kept c × (LAST_EPOCH ≤ kept + 8))
+
+  -- A limit is told late of such a disk, where its node began anew, and so met a fault.
+  abbrev pub IsLate : (faulted : Type 0) → RunFault → Type 0
+  IsLate faulted (fault.Limit disk value) = faulted × IsNearLast disk
+  IsLate faulted _ = ⊥
+
   -- Why a run gives up. Read and faulted say that the count of the logs' faults rose, and that of the disks'. A limit is told of
-  -- what the disks kept, or of a node that began anew, and so met a fault, in its last epoch.
+  -- what the disks kept, or late.
   abbrev pub IsCauseOf : (read faulted : Type 0) → RunFault → Type 0
-  IsCauseOf read faulted f = HasCause true before g.replicas (Some (asked_of g)) (TellsPlaces g) (λ log. read) (λ at. faulted) faulted ⊤ f
+  IsCauseOf read faulted f = HasCause true before g.replicas (Some (asked_of g)) (TellsPlaces g) (λ log. read) (λ at. faulted) (IsLate faulted f) ⊤ f
 
   -- ---- disks that are opened
 
@@ -68,25 +81,33 @@ module _ (g : Setting) (before : Images) where
 
 -- ---- of a run over a store that was opened
 
--- the node's disk kept this epoch
-abbrev pub KeptEpoch : Disks → Node → ℕ → Type 0
-KeptEpoch d (Dispatcher s) epoch = ⊥
-KeptEpoch d (Server s) epoch = (d.servers s).epoch ≡ epoch
-KeptEpoch d (Replica r) epoch = ⊥
-KeptEpoch d (Joiner j) epoch = (d.joiners j).epoch ≡ epoch
+module _ (g : Setting) (h : List BusEntry) where
+  abbrev pub stops_of : Node → ℕ
+  stops_of n = stop_count (made_by (node_number n) h)
 
--- the disk of a node of the setting did
-abbrev pub OneKept : Setting → Disks → ℕ → Type 0
-OneKept g d epoch = (n : Node) × IsNode g n × KeptEpoch d n epoch
+  -- the node of this number has stopped eight times
+  abbrev pub HasEnded : ℕ → Type 0
+  HasEnded number = (n : Node) × IsNode g n × (number ≡ node_number n) × (stops_of n ≡ 8)
 
--- No disk is told as damaged, and the topology as no other. A limit is told of a node in its last epoch, which was kept by its
--- disk, or which it came to after a fault.
-abbrev pub IsOfRun : Setting → Disks → Type 0 → RunFault → Type 0
-IsOfRun g d faulted (fault.Read log) = ⊤
-IsOfRun g d faulted (fault.Store at) = ⊤
-IsOfRun g d faulted (fault.Limit disk value) = (value ≡ 4294967294) × (OneKept g d value ⊎ faulted)
-IsOfRun g d faulted fault.Memory = ⊤
-IsOfRun g d faulted _ = ⊥
+  -- A node has come to the last epoch, which is this one. The disk is that of its epochs, and it has stopped eight times at most; where it
+  -- has at all a disk met a fault.
+  pub record IsSpent (d : Disks) (faulted : Type 0) (disk : DiskName) (epoch : ℕ) : Type 0 where
+    pub node : Node
+    pub is : IsNode g node
+    pub named : disk ≡ epochs_of g.joiners (node_number node)
+    pub came : ComesToLast d h node epoch
+    pub few : stops_of node ≤ 8
+    pub met : 1 ≤ stops_of node → faulted
+
+-- No disk is told as damaged, and the topology as no other. A node is told as stopped by its history, and a limit of one that came to
+-- its last epoch.
+abbrev pub IsOfRun : Setting → Disks → Type 0 → Option RunLog → RunFault → Type 0
+IsOfRun g d faulted ran (fault.Read log) = ⊤
+IsOfRun g d faulted ran (fault.Store (place.Node n)) = IsSomeAnd ran (λ l. HasEnded g l.air.history n)
+IsOfRun g d faulted ran (fault.Store (place.Disk disk)) = ⊤
+IsOfRun g d faulted ran (fault.Limit disk value) = IsSomeAnd ran (λ l. IsSpent g l.air.history d faulted disk value)
+IsOfRun g d faulted ran fault.Memory = ⊤
+IsOfRun g d faulted ran _ = ⊥
 
 -- where a fault names a node, that node has stopped eight times, by the run's history
 abbrev pub NamesEnded : Option RunLog → RunFault → Type 0

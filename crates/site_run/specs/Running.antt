@@ -1,8 +1,10 @@
 -- What a run of both sites' nodes is from, and what it leaves.
-use Rattle.std.specs.Prelude.{◌≡◌, ◌≢◌, ◌⊎◌, ℕ, Bool, true, List, slice_index_or, Option, Some, IsTrue}
-use Rattle.std.specs.List.{list_any}
+use Rattle.std.specs.Prelude.{◌≡◌, ◌≢◌, ℕ, ◌+◌, ◌≤◌, Bool, true, List, [], ◌∷◌, ◌++◌, slice_index_or, Option, Some, IsTrue}
+use Rattle.ballot_core.specs.declared.TheConstants.{LAST_EPOCH}
 use Rattle.outside.specs.declared.store.DiskName.{DiskName}
 use Rattle.air_bus.specs.declared.entry.Entry.{Entry as BusEntry}
+use Rattle.air_bus.specs.declared.entry.Entry.TheVariants.{Begin}
+use Rattle.air_bus.specs.declared.entry.Input.TheVariants.{Start}
 use Rattle.air_bus.specs.declared.entry.Phase.TheVariants.{Busy}
 use Rattle.lossy_link.specs.declared.plan.Kind.{Kind}
 use Rattle.lossy_link.specs.Fates.{PlanView}
@@ -13,23 +15,31 @@ use Rattle.turn_defs.specs.declared.node.Node.{Node}
 use Rattle.turn_defs.specs.declared.node.Node.TheVariants.{Dispatcher, Server, Replica, Joiner}
 use Rattle.site_node.specs.declared.kind.NodeFault.{NodeFault}
 use Rattle.site_node.specs.declared.kind.NodeFault.TheVariants.{Damaged, Spent}
-use Rattle.site_workers.specs.Works.{Reached, is_stop}
+use Rattle.site_workers.specs.Works.{Reached, stop_count}
 use Rattle.photon_model.specs.Runs.{Entry, Disks, world_after, opening}
 use Rattle.photon_model.specs.Rest.{IsAtRest}
 use Rattle.site_laws.specs.Kinds.{StateOf, down_over}
 use Rattle.site_laws.specs.Laws.{IsRunOf, made_by}
 use Rattle.site_run.specs.AnyNodes.{AnyState, any_of, any_phase}
 
--- The epoch is the last one, and the node's disk kept it at first, or the node has stopped since.
-abbrev pub HasCome : List BusEntry → Node → (kept epoch : ℕ) → Type 0
-HasCome h n kept epoch = (epoch ≡ 4294967294) × ((kept ≡ epoch) ⊎ (list_any is_stop (made_by (node_number n) h) ≡ true))
+-- the node's disk kept this epoch
+abbrev pub KeptEpoch : Disks → Node → ℕ → Type 0
+KeptEpoch d (Dispatcher s) epoch = ⊥
+KeptEpoch d (Server s) epoch = (d.servers s).epoch ≡ epoch
+KeptEpoch d (Replica r) epoch = ⊥
+KeptEpoch d (Joiner j) epoch = (d.joiners j).epoch ≡ epoch
+
+-- By the last of its entries the node of a number starts, and the epoch that its disk keeps is this one, the last. What it kept at first is
+-- below it by no more than the node has stopped since.
+pub record HasCome (n : ℕ) (mine : List BusEntry) (kept epoch : ℕ) : Type 0 where
+  pub starts : (front : List BusEntry) × (mine ≡ front ++ Begin n Start ∷ [])
+  pub last : epoch ≡ LAST_EPOCH
+  pub least : kept ≤ epoch
+  pub most : epoch ≤ kept + stop_count mine
 
 -- so does a node with an epoch; no other comes to one
 abbrev pub ComesToLast : Disks → List BusEntry → Node → ℕ → Type 0
-ComesToLast d h (Dispatcher s) epoch = ⊥
-ComesToLast d h (Server s) epoch = HasCome h (Server s) (d.servers s).epoch epoch
-ComesToLast d h (Replica r) epoch = ⊥
-ComesToLast d h (Joiner j) epoch = HasCome h (Joiner j) (d.joiners j).epoch epoch
+ComesToLast d h n epoch = (kept : ℕ) × KeptEpoch d n kept × HasCome (node_number n) (made_by (node_number n) h) kept epoch
 
 module _ {N : Type 0} (places : N → AnyState → Type 0) where
   -- each node of the setting is the one of its number, and is down over its own records

@@ -22,16 +22,24 @@ starts_down (Some l) may = absurd may
 
 server_at_last : (s t : ServerState) (n : ℕ) (i : Input) (epoch : ℕ) → Leads server_rows s (Begin n i) t → spent_at s i ≡ Some epoch → IsAtLast (inl (inr t)) epoch
 server_at_last s t n Start epoch led is =
-    let last = last_by (s.kept.disk.epoch == 4294967294) s.kept.disk.epoch epoch (eqb-true s.kept.disk.epoch 4294967294) is in
-    (ap (λ (x : ServerState). x.live) led.2 ∙ starts_down s.live led.1, ap (λ (x : ServerState). x.kept.disk.epoch) led.2 ∙ last.0, last.1)
+    let last = last_by (s.kept.disk.epoch == 4294967294) s.kept.disk.epoch epoch (eqb-true s.kept.disk.epoch 4294967294) is in record {
+      starts = ap (λ (x : ServerState). x.opened) led.2;
+      down = ap (λ (x : ServerState). x.live) led.2 ∙ starts_down s.live led.1;
+      keeps = ap (λ (x : ServerState). x.kept.disk.epoch) led.2 ∙ last.0;
+      last = last.1;
+    }
 server_at_last s t n Own epoch led is = absurd (cc is)
 server_at_last s t n Tick epoch led is = absurd (cc is)
 server_at_last s t n (Packet from b) epoch led is = absurd (cc is)
 
 joiner_at_last : (s t : JoinerState) (n : ℕ) (i : Input) (epoch : ℕ) → LeadsTo s (Begin n i) t → spends_of s i ≡ Some epoch → IsAtLast (inr (inr t)) epoch
 joiner_at_last s t n Start epoch led is =
-    let last = last_by (s.node.kept.epoch == 4294967294) s.node.kept.epoch epoch (eqb-true s.node.kept.epoch 4294967294) is in
-    (ap (λ x. x.live) led.leads.2 ∙ starts_down s.node.live led.leads.1, ap (λ x. x.kept.epoch) led.leads.2 ∙ last.0, last.1)
+    let last = last_by (s.node.kept.epoch == 4294967294) s.node.kept.epoch epoch (eqb-true s.node.kept.epoch 4294967294) is in record {
+      starts = ap (λ x. x.opened) led.leads.2;
+      down = ap (λ x. x.live) led.leads.2 ∙ starts_down s.node.live led.leads.1;
+      keeps = ap (λ x. x.kept.epoch) led.leads.2 ∙ last.0;
+      last = last.1;
+    }
 joiner_at_last s t n Own epoch led is = absurd (cc is)
 joiner_at_last s t n Tick epoch led is = absurd (cc is)
 joiner_at_last s t n (Packet from b) epoch led is = absurd (cc is)

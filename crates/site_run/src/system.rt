@@ -106,10 +106,10 @@ where
     ensures heard { IfSome ran.new.log (IsHeardOf plan joiners) }
     ensures cause { AreMet S.Disk.faults F.Log.faults N.faults N.log_faults N.disks_of N.logs_of
         → IfErr result (λ f. IsCounted (Rose (F.faults files.old) (F.faults files.new)) (Rose (S.faults store.old) (S.faults store.new)) f × IsPastOpening f) }
-    // No disk is told as damaged, and a limit only of a node in its last epoch, which it kept at first or came to after a fault.
+    // No disk is told as damaged. A node is told as stopped by its entries, and a limit of one that came to its last epoch by them.
     ensures whole { IsTrue S.Disk.tells → IsTrue N.tells → (g : Setting) (d : Disks) → IsRosterOf g joiners → AreHeld S.Disk.image N.places N.grown N.disks_of
         → AreMet S.Disk.faults F.Log.faults N.faults N.log_faults N.disks_of N.logs_of → AreDownOver N.places g d nodes.items → KeepsItsRecord S.Disk.image g (as_lent topology)
-        → IfErr result (IsOfRun g d (Rose (S.faults store.old) (S.faults store.new))) }
+        → IfErr result (IsOfRun g d (Rose (S.faults store.old) (S.faults store.new)) ran.new.log) }
     ensures stopped { IfErr result (NamesEnded ran.new.log) }
     // No node stops more often than was planned for its disks, and where no stop is planned no disk meets a fault.
     ensures stops { IsTrue S.Disk.planned → IsTrue N.planned → (g : Setting) (d : Disks) (s : S) → IsRosterOf g joiners → AreHeld S.Disk.image N.places N.grown N.disks_of → AreDownOver N.places g d nodes.items

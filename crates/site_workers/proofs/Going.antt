@@ -65,7 +65,7 @@ pub record Ran {N : Type 0} (m : Ghosts N) (bus : BusId) (nodes : List N) (us : 
   pub fault : OneHasFault us → HasFault left
   pub rested : All (λ (w : WorkerView N). TakesPart w.seat → Rests m.number m.stands m.at_rest_as (w.node, w.fault) w.seat.mine) us
       → (i : ℕ) (b : N × Option NodeFault) → i < length nodes → is_dead bus.base.plan.dead bus.base.kinds i ≡ false → Rests m.number m.stands m.at_rest_as (get_or left i b) (made_by i h)
-  pub met : All (λ (w : WorkerView N). HasMet m.faults w.node w.fault w.seat.mine) us → (i : ℕ) (b : N × Option NodeFault) → i < length nodes → HasMet m.faults (get_or left i b).0 (get_or left i b).1 (made_by i h)
+  pub met : All (λ (w : WorkerView N). HasMet m.faults m.waits w.node w.fault w.seat.mine) us → (i : ℕ) (b : N × Option NodeFault) → i < length nodes → HasMet m.faults m.waits (get_or left i b).0 (get_or left i b).1 (made_by i h)
 
 -- ---- a run on a bus: its workers before the first round, and after the last
 
@@ -195,11 +195,11 @@ module _ {N : Type 0} (m : Ghosts N) (bus : BusId) (nodes : List N) (front : Lis
             of_left (Rests m.number m.stands m.at_rest_as) i d b inside (rest i d inside part)
 
         -- what is known of each worker's own entries and its faults is known by the history
-        all_met : All (λ (w : WorkerView N). HasMet m.faults w.node w.fault w.seat.mine) us → (i : ℕ) (b : N × Option NodeFault) → i < length ws → HasMet m.faults (get_or left i b).0 (get_or left i b).1 (made_by i h)
+        all_met : All (λ (w : WorkerView N). HasMet m.faults m.waits w.node w.fault w.seat.mine) us → (i : ℕ) (b : N × Option NodeFault) → i < length ws → HasMet m.faults m.waits (get_or left i b).0 (get_or left i b).1 (made_by i h)
         all_met have i b l =
             let inside : i < length us = omega (arith, l, went.count) in
             let d = some_of us i inside in
-            of_left (λ x. HasMet m.faults x.0 x.1) i d b inside (have i d inside)
+            of_left (λ x. HasMet m.faults m.waits x.0 x.1) i d b inside (have i d inside)
 
         pub ran : Ran m bus nodes us left h
         ran =

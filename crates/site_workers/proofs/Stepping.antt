@@ -143,11 +143,15 @@ opened n wants tick v w o i whose is kept did =
 -- ---- what was met
 
 -- an entry that is no stop changes nothing
-pub met_more : {N : Type 0} (faults : N → ℕ) (v w : N) (o : Option NodeFault) (old new : List Entry) (e : Entry) → new ≡ old ++ e ∷ [] → is_stop e ≡ false → faults v ≤ faults w → HasMet faults v o old → HasMet faults w None new
-met_more faults v w o old new e is never more met = record {
-  stops = λ has. let before = met.stops (sym (ap (list_any is_stop) is ∙ any_more old e never) ∙ has) in omega (arith, before, more);
-  ended = λ told. absurd (cc told);
-}
+pub met_more : {N : Type 0} (faults : N → ℕ) (waits : N → Bool) (v w : N) (o : Option NodeFault) (old new : List Entry) (e : Entry) → new ≡ old ++ e ∷ [] → is_stop e ≡ false → faults v ≤ faults w → HasMet faults waits v o old
+    → (list_any is_stop new ≡ true → 1 ≤ faults w) × (stop_count new ≤ 8)
+met_more faults waits v w o old new e is never more met =
+    let same : stop_count new ≡ stop_count old + stop_count (e ∷ []) = ap stop_count is ∙ counted_more old e in
+    let none : stop_count (e ∷ []) ≡ 0 = ap (λ (b : Bool). length (if b then e ∷ [] else [])) never in
+    let most = met.most in (
+      λ has. let before = met.stops (sym (ap (list_any is_stop) is ∙ any_more old e never) ∙ has) in omega (arith, before, more),
+      omega (arith, same, none, most),
+    )
 
 -- whether it was the last stop
 last_stop : (b : Bool) (n : ℕ) (o : Option NodeFault) → nat_lt n 8 ≡ b → o ≡ (if b then None else Some Stopped) → (o ≡ Some Stopped → 8 ≤ n) × (o ≡ None → n < 8)

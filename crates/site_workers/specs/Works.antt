@@ -40,9 +40,12 @@ is_stop (Stop node landed) = true
 abbrev pub stop_count : List Entry → ℕ
 stop_count entries = length (filter is_stop entries)
 
--- a node whose entries have a stop has met a fault of its disks, and one whose work ended as stopped has eight stops
-pub record HasMet {N : Type 0} (faults : N → ℕ) (node : N) (fault : Option NodeFault) (mine : List Entry) : Type 0 where
+-- A node whose entries have a stop has met a fault of its disks. It has at most eight, and eight where its work ended as stopped. One whose
+-- work goes on waits for no restart.
+pub record HasMet {N : Type 0} (faults : N → ℕ) (waits : N → Bool) (node : N) (fault : Option NodeFault) (mine : List Entry) : Type 0 where
+  pub up : fault ≡ None → waits node ≡ false
   pub stops : list_any is_stop mine ≡ true → 1 ≤ faults node
+  pub most : stop_count mine ≤ 8
   pub ended : fault ≡ Some Stopped → stop_count mine ≡ 8
 
 -- how many stops a node met in a turn that isn't closed: two where a disk wasn't opened again

@@ -79,7 +79,7 @@ pub fn run<R: Threads + Wait + Sync, N: SiteNode + Send + Drop, G: Gate>(
     ensures caused { IfOk result (λ r. AreCaused N.faults N.log_faults r.nodes.items) }
     // A node that stopped within a turn has met a fault of its disks.
     ensures met { IfOk result (λ r. (i : ℕ) (b : _) → i < length nodes.items →
-        HasMet N.faults (slice_index_or r.nodes.items i b).0 (slice_index_or r.nodes.items i b).1 (made_by i r.air.history)) }
+        HasMet N.faults N.waits (slice_index_or r.nodes.items i b).0 (slice_index_or r.nodes.items i b).1 (made_by i r.air.history)) }
     // Where all are at rest, each that isn't a dead replica is.
     ensures rest { IfOk result (λ r. IsTrue r.rest → (i : ℕ) (b : _) → i < length nodes.items → is_dead plan.dead kinds.now i ≡ false →
         Rests N.number N.stands N.at_rest_as (slice_index_or r.nodes.items i b) (made_by i r.air.history)) }
@@ -179,7 +179,7 @@ fn dismiss<N: SiteNode + Drop>(
     ensures seats { (seats.new.items ≡ map (λ (w : WorkerView N). w.seat) workers.items) × (length workers.items < vec_capacity seats.new) }
     ensures nodes { nodes.new.items ≡ map (λ (w : WorkerView N). (w.node, w.fault)) workers.items }
     ensures caused { AreCaused N.faults N.log_faults nodes.new.items }
-    ensures met { All (λ (w : WorkerView N). HasMet N.faults w.node w.fault w.seat.mine) workers.items }
+    ensures met { All (λ (w : WorkerView N). HasMet N.faults N.waits w.node w.fault w.seat.mine) workers.items }
 {
     for worker in workers {
         dismiss_one(worker, seats, nodes);
@@ -198,7 +198,7 @@ fn dismiss_one<N: SiteNode + Drop>(
     ensures room { (vec_capacity seats.new ≡ vec_capacity seats.old) × (vec_capacity nodes.new ≡ vec_capacity nodes.old) }
     ensures lens { (vec_len seats.new ≡ vec_len seats.old + 1) × (vec_len nodes.new ≡ vec_len nodes.old + 1) }
     ensures caused { AreCaused N.faults N.log_faults nodes.old.items → AreCaused N.faults N.log_faults nodes.new.items }
-    ensures met { HasMet N.faults worker.node worker.fault worker.seat.mine }
+    ensures met { HasMet N.faults N.waits worker.node worker.fault worker.seat.mine }
 {
     let (node, seat, fault) = worker.into_parts();
     seats.push_reserved(seat);

@@ -36,7 +36,7 @@ pub struct Worker<N: SiteNode> {
     ghost is_up: { fault ≡ None → up ≡ true → phase (N.number node) seat.mine ≡ Idle },
     ghost caused: { IsCaused N.faults N.log_faults node fault },
     ghost counted: { fault ≡ None → (stops ≡ stop_count seat.mine) × (stops < 8) },
-    ghost met: { HasMet N.faults node fault seat.mine },
+    ghost met: { HasMet N.faults N.waits node fault seat.mine },
 }
 
 impl<N: SiteNode> Model for Worker<N> {
@@ -79,7 +79,7 @@ impl<N: SiteNode> Worker<N> {
         ensures seat { result.1 ≡ self.seat }
         ensures fault { result.2 ≡ self.fault }
         ensures caused { IsCaused N.faults N.log_faults result.0 result.2 }
-        ensures met { HasMet N.faults result.0 result.2 result.1.mine }
+        ensures met { HasMet N.faults N.waits result.0 result.2 result.1.mine }
     {
         let Worker {
             node,

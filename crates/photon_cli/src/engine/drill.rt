@@ -124,8 +124,8 @@ where
     ensures refused { IsTrue F.Log.tells → (log : LogKind) (line : ℕ) (w : Reason) → result ≡ Err (fault.Refused log line w)
         → Refuses (F.bytes files.old) (values_in wanted.now).queries (values_in wanted.now).clicks log (record { line = line; why = w }) }
 
-    // The other faults come only where a count rose, but for want of memory and what goes wrong by the plan: of a disk, or a number at
-    // its limit, it tells only where the plan has a stop.
+    // The other faults come only where a count rose, but for want of memory and what goes wrong by the plan: of a disk it tells only
+    // where the plan has a stop.
     ensures fair { IsTrue F.Log.tells → IfErr result (IsOfDrill ((p : PlanView) × IsPlanIn (F.bytes files.old) plan.now p × (p.stops ≢ []))) }
     ensures read { Counts (F.faults files.old) (F.faults files.new) (IsErrAnd result IsFailedRead) }
     ensures write { Counts (K.faults out.old) (K.faults out.new) (result ≡ Err fault.Write) }

@@ -5,6 +5,7 @@ use Rattle.run_fault.specs.declared.fault.RunFault.TheVariants as fault
 use Rattle.photon_cli.proofs.Answered.{ended, given_up}
 use Rattle.photon_cli.proofs.Causing.{damage_told, ends_well, limit_told, mismatch_told}
 use Rattle.photon_cli.proofs.Drilling.{one_in}
+use Rattle.photon_cli.proofs.Overs.{late_met}
 use Rattle.photon_cli.proofs.Ends.{asked_valid, none_refused, not_invalid, not_readable, over_valid}
 use Rattle.photon_cli.proofs.Statuses.{IsKnown, bad_row, bulk_own, bulk_row, bulk_two, click_line, drill_adds, drill_early, drill_fair, drill_left, drill_row, early_left, failed_of, fair_status, join_own, join_past, join_row, join_two, line_of, log_verify, named, named_in_bulk, named_in_drill, named_in_verify, needs_stops, never_two, never_written, no_one, no_zero, past_status, past_verify, place_of, plan_left, two_of, unreadable, verify_past, write_of}
 use Rattle.photon_cli.proofs.top.obey.Goals as goal
@@ -71,9 +72,9 @@ returns-in-Err-clause-ends g c =
           ⊎_elim (λ early. early_left v.nodes.shards f early.2 (table, text) (λ read. calm (e.read.rose read))) (λ late. absurd (not_invalid told v.queries v.clicks log (late.0.1 logs) invalid)) e.begins;
       stopped = λ six. let place = place_of f six in e.disks.rose (place.0, ap Err place.1);
       welcome = λ disks logs s asked sound leaves. fair_status f _ leaves ((e.ends disks logs s asked).welcome sound);
-      damaged = λ disks logs s asked disk taken none calm still. damage_told before s.replicas (Some (asked_of s)) (TellsPlaces s) _ _ _ calm still still f (past logs s asked) ((e.ends disks logs s asked).caused) (λ k kept. none (kept_are_journals s before k disk kept taken));
-      mismatched = λ disks logs s asked other calm still. mismatch_told before s.replicas (Some (asked_of s)) (TellsPlaces s) _ _ _ calm still still f (past logs s asked) ((e.ends disks logs s asked).caused) other;
-      limited = λ disks logs s asked at calm still. limit_told before s.replicas (Some (asked_of s)) (TellsPlaces s) _ _ _ calm still still f (past logs s asked) ((e.ends disks logs s asked).caused) at;
+      damaged = λ disks logs s asked disk taken none calm still. damage_told before s.replicas (Some (asked_of s)) (TellsPlaces s) _ _ _ calm still (λ l. still (late_met s before _ f l)) f (past logs s asked) ((e.ends disks logs s asked).caused) (λ k kept. none (kept_are_journals s before k disk kept taken));
+      mismatched = λ disks logs s asked other calm still. mismatch_told before s.replicas (Some (asked_of s)) (TellsPlaces s) _ _ _ calm still (λ l. still (late_met s before _ f l)) f (past logs s asked) ((e.ends disks logs s asked).caused) other;
+      limited = λ disks logs s asked at calm still. limit_told before s.replicas (Some (asked_of s)) (TellsPlaces s) _ _ _ calm still (λ l. still (late_met s before _ f l)) f (past logs s asked) ((e.ends disks logs s asked).caused) at;
       passed = λ disks logs s asked zero. absurd (no_zero f zero);
       caused = λ logs. inr (f, refl, (names logs, λ disks s asked. (e.ends disks logs s asked).caused));
       prefix = λ logs sinks disks five. e.prefix logs sinks disks (ap Err (write_of f five));
@@ -81,7 +82,7 @@ returns-in-Err-clause-ends g c =
       keeps = λ disks logs s asked. (e.ends disks logs s asked).keeps;
       idle = λ disks logs s asked. (e.ends disks logs s asked).idle;
       complete = λ disks logs s asked sound leaves below calm still quiet.
-          inr (ends_well before s.replicas (Some (asked_of s)) (TellsPlaces s) _ _ _ calm still still f (past logs s asked) ((e.ends disks logs s asked).caused) _ leaves below (λ is. quiet (e.write.rose (ap Err is))) ((e.ends disks logs s asked).welcome sound));
+          inr (ends_well before s.replicas (Some (asked_of s)) (TellsPlaces s) _ _ _ calm still (λ l. still (late_met s before _ f l)) f (past logs s asked) ((e.ends disks logs s asked).caused) _ leaves below (λ is. quiet (e.write.rose (ap Err is))) ((e.ends disks logs s asked).welcome sound));
     })
 
 pub returns-in-Ok-clause-answered : goal.returns-in-Ok-clause-answered
@@ -111,8 +112,8 @@ returns-in-Ok-drill_logs-clause-ends g c =
         invalid = λ logs log table text invalid calm. absurd (not_invalid told v.queries v.clicks log (fit.1 logs) invalid);
         prefix = λ logs sinks five. absurd (omega (arith, five));
         tells = λ logs sinks calm. inl (refl, refl);
-        welcome = λ logs. (λ seven. omega (arith, seven), λ nine. omega (arith, nine));
-        stops = λ logs s. absurd (⊎_elim (λ six. omega (arith, six)) (λ ten. omega (arith, ten)) s);
+        welcome = λ logs. (λ seven. omega (arith, seven), λ nine. omega (arith, nine), λ ten. omega (arith, ten));
+        stops = λ logs six. absurd (omega (arith, six));
         complete = λ logs s asked plan is calm quiet. inl refl;
       },
       refl,
@@ -320,10 +321,10 @@ returns-in-Err-bulk_totals-clause-ends g c =
         one = no_one f;
         lines = λ three. let l = line_of f three in subst IsOfBulk l.3 own;
         read = λ four. e.reads (failed_of f four);
-        welcome = (λ six. none (inl six), fair.0, fair.1, λ ten. none (inr ten));
+        welcome = (none, fair.0, fair.1, fair.2);
         complete = λ (table, text) quiet.
             inr
-            (⊎_elim (λ six. absurd (none (inl six))) (λ e. ⊎_elim (λ eight. eight) (λ ten. absurd (none (inr ten))) e)
+            (⊎_elim (λ six. absurd (none six)) (λ eight. eight)
             (drill_left ⊥ f (λ u is. subst IsOfBulk is own) (λ n is. none_bad v.nodes.shards n table (named_row n is) text.0 text.1) (λ place is. subst IsOfBulk is own) (λ log line w is. subst IsOfBulk is own) e.reads (λ is. quiet (e.write.rose (ap Err is))) e.fair));
         prefix = λ sinks five. e.prefix sinks (ap Err (write_of f five));
         tells = λ sinks calm. inr (f, refl, named_in_bulk v f own named_row, c.give_up-in-Err-bulk_totals.ensures.told sinks calm);

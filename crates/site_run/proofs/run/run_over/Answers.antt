@@ -11,7 +11,7 @@ use Rattle.site_run.proofs.Opened.{count_opened, room_for, fits_behind, may_same
 use Rattle.site_run.proofs.Outing.{each_moved, moved_out, may_moved, may_behind, given_goes_on}
 use Rattle.site_run.proofs.Entering.{records_so, places_so, all_apart, out_so, keeps_so, other_stays, still_sound}
 use Rattle.site_run.proofs.Entered.{run_left, rest_left, rest_earlier, run_sound, none_left, counted_more, last_of, over_back}
-use Rattle.site_run.proofs.Refusing.{on_ok_of, err_both, passed_so, refused_so, none_kept, cause_so, welcome_so, refusal_counted, refusal_unnamed}
+use Rattle.site_run.proofs.Refusing.{on_ok_of, err_both, passed_so, refused_so, cause_so, welcome_so, refusal_counted, refusal_unnamed}
 use Rattle.site_run.proofs.Planning.{none_planned, planned_earlier}
 use Rattle.site_run.proofs.run.run_over.Given.{Over}
 use Rattle.site_run.proofs.run.run_over.Goals as goal
@@ -89,9 +89,8 @@ returns-clause-over g c tells log_tells gg checked is =
     let keeps = subst (λ t. KeepsItsRecord image gg t) (sym same) (keeps_so asked_of image before inside topology others (o.lent tells) gg asked refl) in
     let idle : c.run_system.new.ran.log ≡ None → (disk : DiskName) (b : List ℕ) → after disk b → MayBeLeft image inside (topology ∷ others) disk b
     = λ none disk b now. may_behind image inside topology others _ c.in-Ok-build.ensures.held disk b (may_same image inside _ _ _ disk b same (run.idle tells none disk b now)) in
-    let whole : IfErr c.run_system.result (IsOfRun gg built from_there) = run.whole tells node_tells gg built roster held c.all_met.ensures down keeps in
-    let none = none_kept gg all_kept o.kept.2.limits built begun.records
-    (names_kept d.disks.items ∙ o.named ∙ ap (λ n. other_names n c.args.config.now.replicas) (sym is.logs.numbers.joiners) ∙ ap (other_names gg.joiners) (sym is.logs.numbers.replicas)) in
+    let whole : IfErr c.run_system.result (IsOfRun gg built from_there c.run_system.new.ran.log) = run.whole tells node_tells gg built roster held c.all_met.ensures down keeps in
+    let named = names_kept d.disks.items ∙ o.named ∙ ap (λ n. other_names n c.args.config.now.replicas) (sym is.logs.numbers.joiners) ∙ ap (other_names gg.joiners) (sym is.logs.numbers.replicas) in
     record {
       ends = record {
         keeps = record {
@@ -104,9 +103,9 @@ returns-clause-over g c tells log_tells gg checked is =
         };
         idle = λ none disk other. other_stays asked_of image before inside topology others (o.lent tells) refl apart after (idle none) disk other;
         passed = on_ok_of c.run_system.result (passed_so gg before asked_of asked _ is.logs.numbers.replicas g.S.Disk.Disk.tells g.F.Log.LogFile.tells tells log_tells (g.F.Log.LogFile.bytes c.take_last-read.result) c.args.end first is.ends (values_of {D = g.row.S-Disk.Denot} o.kept.0 d.disks.items) o.kept.1 o.kept.2);
-        caused = err_both (λ f. IsCounted logs_rose from_there f × IsPastOpening f) (IsOfRun gg built from_there) (IsCauseOf gg before logs_rose disks_rose) c.run_system.result (run.cause c.all_met.ensures) whole
-            (λ f both of. cause_so gg before built logs_rose disks_rose from_there f none later (counted_more f logs_rose from_there logs_rose disks_rose (λ rose. rose) later both.0) of);
-        welcome = λ sound. IfErr-weaker c.run_system.result _ _ (λ f of. welcome_so gg built from_there _ f of) whole;
+        caused = err_both (λ f. IsCounted logs_rose from_there f × IsPastOpening f) (IsOfRun gg built from_there c.run_system.new.ran.log) (IsCauseOf gg before logs_rose disks_rose) c.run_system.result (run.cause c.all_met.ensures) whole
+            (λ f both of. cause_so gg before roster.replicas all_kept o.kept.2.limits (o.kept.1.kept tells) built begun.records named c.run_system.new.ran.log logs_rose disks_rose from_there later f (counted_more f logs_rose from_there logs_rose disks_rose (λ rose. rose) later both.0) of);
+        welcome = λ sound. IfErr-weaker c.run_system.result _ _ (λ f of. welcome_so gg built from_there _ c.run_system.new.ran.log f of) whole;
       };
       left = run_left c.run_system.new.ran.log gg before after were_kept were.1 (λ d' same. run.left tells node_tells gg built d' roster held down same keeps);
       rest = rest_earlier gg before before after (λ disk b now. now) c.run_system.result c.run_system.new.ran.log _ _ later

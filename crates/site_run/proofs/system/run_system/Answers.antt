@@ -1,5 +1,5 @@
 use Rattle.std.specs.Prelude.{IsTrue}
-use Rattle.std.proofs.Common.{◌≡◌, ◌≢◌, ⊎_elim, ℕ, ◌+◌, ◌*◌, ◌<◌, ◌++◌, ◌∷◌, [], None, false, length, map, slice_index_or, sym, ap, ◌∙◌, subst, arith}
+use Rattle.std.proofs.Common.{◌≡◌, ◌≢◌, ⊎_elim, ℕ, ◌+◌, ◌*◌, ◌<◌, ◌++◌, ◌∷◌, [], None, Some, false, length, map, slice_index_or, sym, ap, ◌∙◌, subst, arith}
 use Rattle.site_run.proofs.Words.{length-map, recursion_from_All, IfErr-weaker, Each, Mem, mem_right, Rose, KeepsPairs, Setting, Disks, node_count, MayBeLeft, KeepsNotes, made_by, stop_count, as_lent, all_from, IsRosterOf, AreDownOver, IsRunFrom, IsOfDisks, AreKeptIn, lent_replicas, lent_outputs}
 use Rattle.site_run.proofs.Opened.{down_too}
 use Rattle.site_run.proofs.Standing.{have_grown, runs_from}
@@ -96,7 +96,7 @@ returns-in-Ok-clause-rest g c tells node_tells gg d e roster held met down same 
     (subst (λ l. AreKeptIn g.S.Disk.Disk.tells image KeepsNotes (lent_replicas l) outcome.journals.notes.items) whole notes) (subst (λ l. AreKeptIn g.S.Disk.Disk.tells image KeepsPairs (lent_outputs l) outcome.journals.pairs.items) whole pairs) rose
     (no_stops image g.N.SystemNode.places n.grown disks_of held gg c.args.joiners roster numbers e h ws c.in-Ok.left.rest left (c.in-Ok.ensures.count ∙ count) topology kept inside after
     (λ name b here. subst (λ l. MayBeLeft image inside l name b) whole (c.settle.ensures.left tells name b here))
-    g.S.Disk.Disk.faults g.F.Log.LogFile.faults n.faults n.log_faults g.N.Parting.logs_of met c.none_stops.ensures
+    g.S.Disk.Disk.faults g.F.Log.LogFile.faults n.faults n.log_faults n.waits g.N.Parting.logs_of met c.none_stops.ensures
     (λ i b below. c.in-Ok.ensures.met i b (subst (λ k. i < k) c.in-Ok.ensures.count below)) rose
     (λ l among some. c.settle.ensures.disks l (subst (Mem l) (sym whole) among) some)))
 
@@ -140,13 +140,13 @@ returns-in-Ok-clause-whole g c tells node_tells gg d roster held met down kept =
     (λ is.
     first_told image g.N.SystemNode.places n.grown disks_of held gg c.args.joiners roster numbers d h ws c.in-Ok.left.rest left (c.in-Ok.ensures.count ∙ count) topology kept inside after
     (λ name b here. subst (λ l. MayBeLeft image inside l name b) whole (c.settle.ensures.left tells name b here))
-    g.S.Disk.Disk.faults g.F.Log.LogFile.faults n.faults n.log_faults g.N.Parting.logs_of met
+    g.S.Disk.Disk.faults g.F.Log.LogFile.faults n.faults n.log_faults n.waits g.N.Parting.logs_of met
     (λ i b below. c.in-Ok.ensures.met i b (subst (λ k. i < k) c.in-Ok.ensures.count below)) rose
-    (λ l among some. c.settle.ensures.disks l (subst (Mem l) (sym whole) among) some) f (sym c.part_all-parts.ensures.fault ∙ is))
+    (λ l among some. c.settle.ensures.disks l (subst (Mem l) (sym whole) among) some) (record { air = c.in-Ok.left.air; seen = c.in-Ok.left.seen }) (λ i. c.in-Ok.left.air.history) f (sym c.part_all-parts.ensures.fault ∙ is))
     (λ of.
     read_back_of image g.N.SystemNode.places n.grown disks_of held gg c.args.joiners roster numbers d h ws c.in-Ok.left.rest left (c.in-Ok.ensures.count ∙ count) topology kept inside after
     (λ name b here. subst (λ l. MayBeLeft image inside l name b) whole (c.settle.ensures.left tells name b here))
-    (at_rest c.args.joiners ws c.in-Ok.left.rest c.in-Ok.ensures.fault (sym c.part_all-parts.ensures.fault ∙ of.0)) rose f g.S.Disk.Disk.tells tells
+    (at_rest c.args.joiners ws c.in-Ok.left.rest c.in-Ok.ensures.fault (sym c.part_all-parts.ensures.fault ∙ of.0)) (Some (record { air = c.in-Ok.left.air; seen = c.in-Ok.left.seen })) rose f g.S.Disk.Disk.tells tells
     (subst (λ l. IsOfDisks g.S.Disk.Disk.tells image l rose f) whole of.1))
     told)
     c.settle.ensures.told
@@ -157,7 +157,7 @@ returns-in-Ok-clause-stopped g c =
     let h = c.in-Ok.left.air.history in
     IfErr-weaker c.settle.result _ _
     (λ f told n named.
-    ⊎_elim (λ is. first_ended g.N.SiteNode.faults c.args.joiners h ws (λ i b below. c.in-Ok.ensures.met i b (subst (λ k. i < k) c.in-Ok.ensures.count below)) f n (sym c.part_all-parts.ensures.fault ∙ is) named)
+    ⊎_elim (λ is. first_ended g.N.SiteNode.faults g.N.SiteNode.waits c.args.joiners h ws (λ i b below. c.in-Ok.ensures.met i b (subst (λ k. i < k) c.in-Ok.ensures.count below)) f n (sym c.part_all-parts.ensures.fault ∙ is) named)
     (λ of. disks_alone _ _ _ _ (stop_count (made_by n h) ≡ 8) f n of.1 named)
     told)
     c.settle.ensures.told

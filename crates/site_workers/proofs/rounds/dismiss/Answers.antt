@@ -22,7 +22,7 @@ loop-worker-preserved g c =
       omega (arith, i.4, one.lens.0, length-append before (w ∷ [])),
       append_assoc before (w ∷ []) c.next.new.self.rest.items ∙ ap (λ l. before ++ l) (sym left) ∙ i.5,
       one.caused i.6,
-      All-push (λ (x : WorkerView g.row.N.Denot). HasMet g.N.SiteNode.faults x.node x.fault x.seat.mine) before w i.7 one.met,
+      All-push (λ (x : WorkerView g.row.N.Denot). HasMet g.N.SiteNode.faults g.N.SiteNode.waits x.node x.fault x.seat.mine) before w i.7 one.met,
     )
 
 -- of all, once none is left
@@ -34,4 +34,4 @@ pub returns-clause-met : goal.returns-clause-met
 returns-clause-met g c =
     let i = c.loop-worker.invariant in
     let left = c.loop-worker.worker-iterator.rest in
-    of_all (λ (x : WorkerView g.row.N.Denot). HasMet g.N.SiteNode.faults x.node x.fault x.seat.mine) c.loop-worker.yielded left.items c.args.workers.items i.5 (omega (arith, c.in-None.ensures.steps.0, left.ok)) i.7
+    of_all (λ (x : WorkerView g.row.N.Denot). HasMet g.N.SiteNode.faults g.N.SiteNode.waits x.node x.fault x.seat.mine) c.loop-worker.yielded left.items c.args.workers.items i.5 (omega (arith, c.in-None.ensures.steps.0, left.ok)) i.7

@@ -93,7 +93,7 @@ returns-clause-fault g c down = (left g c).fault (c.rounds-rest.ensures.fault do
 
 pub returns-clause-met : goal.returns-clause-met
 returns-clause-met g c =
-    (left g c).met (subst (All (λ (w : WorkerView g.row.N.Denot). HasMet g.N.SiteNode.faults w.node w.fault w.seat.mine)) (whole g (goal.at.returns-clause-met g c).After-rounds-rest) c.dismiss.ensures.met)
+    (left g c).met (subst (All (λ (w : WorkerView g.row.N.Denot). HasMet g.N.SiteNode.faults g.N.SiteNode.waits w.node w.fault w.seat.mine)) (whole g (goal.at.returns-clause-met g c).After-rounds-rest) c.dismiss.ensures.met)
 
 pub returns-clause-rest : goal.returns-clause-rest
 returns-clause-rest g c rests i b l alive =

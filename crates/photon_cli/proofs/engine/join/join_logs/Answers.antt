@@ -1,6 +1,6 @@
 use Rattle.std.specs.Prelude.{IsTrue, ⊤}
 use Rattle.std.proofs.Common.{◌++◌, List, Some, inl, inr, Err, refl, sym, ap, subst, ◌∙◌}
-use Rattle.photon_cli.proofs.Words.{BeginsJoin, Config, HaveIds, IfSome, IsAsked, IsHistory, IsSettingOf, PlanView, Rose, ReportLine, Setting, text_of, TookPrefix, TellsPlaces, asked_of, rose_before, counted_more, welcome_where, values_in, IsHeardOf, no_plan}
+use Rattle.photon_cli.proofs.Words.{BeginsJoin, Config, HaveIds, IfSome, IsAsked, IsHistory, IsSettingOf, PlanView, Rose, ReportLine, Setting, text_of, TookPrefix, IsLate, TellsPlaces, asked_of, rose_before, counted_more, welcome_where, values_in, IsHeardOf, no_plan}
 use Rattle.photon_cli.proofs.Causing.{log_caused}
 use Rattle.photon_cli.proofs.Overs.{before_all, before_table, on_err, on_fault, on_ok, read_later}
 use Rattle.photon_cli.proofs.Runs.{began, history, if_history, is_asked, joined, joined_afresh, placed_ids, run_setting, setting_of}
@@ -112,7 +112,7 @@ returns-in-Err-checked_logs-clause-ends g c disks logs s asked =
     let before = g.S.Store.image c.args.store.now in
     let faulted = Rose (g.S.Store.faults c.args.store.now) (g.S.Store.faults c.args.store.now) in
     let read = Rose (g.F.Source.faults c.args.files.now) (g.F.Source.faults c.checked_logs.new.files) in
-    before_all s before read faulted _ f (log_caused before s.replicas (Some (asked_of s)) (TellsPlaces s) faulted faulted read f e.fault.0 e.fault.1 (λ is. e.count.rose (e.fault.0, ap Err is)))
+    before_all s before read faulted _ f (log_caused before s.replicas (Some (asked_of s)) (TellsPlaces s) faulted (IsLate s before faulted f) read f e.fault.0 e.fault.1 (λ is. e.count.rose (e.fault.0, ap Err is)))
     (welcome_where f ⊤ _ (λ x. tt) (log_fair f e.fault.0 e.fault.1))
 
 pub returns-in-Err-run_sites-clause-ends : goal.returns-in-Err-run_sites-clause-ends

@@ -130,7 +130,7 @@ invariant_of-self-inside-in-Ok-restart g c =
             (
               λ up. (omega (arith, next, before.0, same, more), told.1 up),
               (
-                record { stops = λ has. faulty; ended = λ is. let most = told.0 is in omega (arith, most, next, before.0, before.1, same, more) },
+                record { up = λ is. c.in-Ok-restart.ensures.up; stops = λ has. faulty; most = omega (arith, next, before.0, before.1, same, more); ended = λ is. let most = told.0 is in omega (arith, most, next, before.0, before.1, same, more) },
                 tt,
               ),
             ),
@@ -148,7 +148,7 @@ invariant_of-self-inside-in-Err-turn g c =
     let w = c.turn.new.self in
     let fault = c.in-Err-turn.fault in
     let other : fault ≢ Stopped = search rules in
-    let begun = met_more m.faults self.node w self.fault self.seat.mine s1.mine (Begin (m.number self.node) c.in-Ok-Some.input) (begins g after).begun.mine refl c.turn.ensures.count self.met in (
+    let begun = met_more m.faults m.waits self.node w self.fault self.seat.mine s1.mine (Begin (m.number self.node) c.in-Ok-Some.input) (begins g after).begun.mine refl c.turn.ensures.count self.met in (
       c.begin.ensures.kept.1 ∙ self.whose ∙ ap Some (sym c.turn.ensures.number),
       (
         λ is. absurd (cc is),
@@ -163,7 +163,7 @@ invariant_of-self-inside-in-Err-turn g c =
             (
               λ is. absurd (cc is),
               (
-                record { stops = begun.stops; ended = λ is. absurd (other (told_same fault Stopped is)) },
+                record { up = λ is. absurd (cc is); stops = begun.0; most = begun.1; ended = λ is. absurd (other (told_same fault Stopped is)) },
                 tt,
               ),
             ),
