@@ -9,7 +9,7 @@ use bus_seat::{Bus, Seat};
 use lossy_link::{Kind, Plan};
 use outside::{Gate, OpenGate};
 use site_node::{Done, NodeFault, SiteNode};
-use site_workers::{Either, Ran, Worker, run};
+use site_workers::{OneOf, Ran, Worker, run};
 use std::alloc::Global;
 use std::sync::Wait;
 use std::test::Fail;
@@ -247,7 +247,7 @@ fn add<N: SiteNode + Drop>(nodes: &mut Vec<N>, node: N) -> Result<(), Fail>
     Ok(())
 }
 
-type Node = Either<Puppet, Puppet>;
+type Node = OneOf<Puppet, Puppet, Puppet, Puppet>;
 
 // How many turns and starts each of two nodes took, with its fault.
 type Told = [(u32, u32, Option<NodeFault>); 2];
@@ -257,8 +257,10 @@ fn told(ran: &Ran<Node>) -> Told {
     let mut at = 0;
     for (node, fault) in &ran.nodes {
         let puppet = match node {
-            Either::First(puppet) => puppet,
-            Either::Second(puppet) => puppet,
+            OneOf::First(puppet) => puppet,
+            OneOf::Second(puppet) => puppet,
+            OneOf::Third(puppet) => puppet,
+            OneOf::Fourth(puppet) => puppet,
         };
         if at < 2 {
             told[at] = (puppet.turns, puppet.starts, *fault);
@@ -281,9 +283,9 @@ fn ran_two<R: Threads + Wait + Sync>(
     let mut nodes: Vec<Node> = Vec::new(alloc);
     add(
         &mut nodes,
-        Either::First(Puppet::new(alloc, 0, 3, Stops::Never, 99)),
+        OneOf::First(Puppet::new(alloc, 0, 3, Stops::Never, 99)),
     )?;
-    add(&mut nodes, Either::Second(second))?;
+    add(&mut nodes, OneOf::Second(second))?;
     let kinds = [Kind::Joiner, Kind::Server];
     match run(
         rt,
