@@ -60,7 +60,7 @@ pub use Rattle.photon_cli.specs.CheckedLogs.{AreLines, EndsAt, IsChecked, kept}
 pub use Rattle.photon_cli.specs.Drill.{Drills, IsBadIn, IsDrilled}
 pub use Rattle.photon_cli.specs.Ends.{BulkEnds, DrillEnds, Ends, JoinEnds, VerifyEnds}
 pub use Rattle.photon_cli.specs.Faults.{words_status}
-pub use Rattle.photon_cli.specs.Join.{AreLogs, AreValid, BeginsJoin, HasIds, HaveIds, IsAsked, IsHistory, IsInvalid, Refuses, config_of, no_plan}
+pub use Rattle.photon_cli.specs.Join.{AreLogs, AreValid, BeginsJoin, HasIds, HaveIds, IsAsked, IsHeardOf, IsHistory, IsInvalid, Refuses, config_of, no_plan}
 pub use Rattle.photon_cli.specs.LogFaults.{IsBeforeLogs, IsEarly, IsFailedRead, IsLogFault, IsOfBulk, IsOfDrill, IsOfJoin, IsOfLogs, IsOfPlanOrLogs, IsOfRun, IsOfVerify, IsPast, IsPlanFault, IsRowFault, failed_read, refusal, refusal_of}
 pub use Rattle.photon_cli.specs.Planned.{StopsAtMost, fuse_of, is_at, is_for, is_joiners, named_by, of_joiners, place_of, planned_for, same_kind}
 pub use Rattle.photon_cli.specs.ReadLines.{AtEnd, IsStep, SoFar, WrongNext}
@@ -95,7 +95,7 @@ pub use Rattle.site_run.proofs.Entered.{counted_more, left_before, place_welcome
 pub use Rattle.site_run.proofs.Outing.{goes_on_through, goes_on_within, stays_goes_on}
 pub use Rattle.site_run.proofs.Refusing.{err_both, kept_are_journals}
 pub use Rattle.site_run.proofs.Planning.{none_of_joiners, planned_earlier}
-pub use Rattle.site_run.specs.Heard.{IsHeardOf, kinds_of}
+pub use Rattle.site_run.specs.Heard.{kinds_of}
 pub use Rattle.site_run.specs.Stops.{StopsAsPlanned}
 pub use Rattle.site_run.specs.Over.{EndsOver, Keeps as KeepsOver, RunsOver}
 pub use Rattle.site_run.specs.Asked.{IsSettingOf}

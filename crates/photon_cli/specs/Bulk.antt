@@ -9,7 +9,7 @@ use Rattle.turn_defs.specs.Setting.{Setting}
 use Rattle.bulk_logs.specs.Bulk as logs
 use Rattle.log_records.specs.declared.report.ReportLine.{ReportLine}
 use Rattle.report_text.specs.Stream.{TookPrefix}
-use Rattle.site_run.specs.Heard.{IsHeardOf}
+use Rattle.photon_cli.specs.Join.{IsHeardOf}
 use Rattle.site_run.specs.declared.ran.RunLog.{RunLog}
 use Rattle.command_words.specs.Words.{BulkValues}
 use Rattle.photon_cli.specs.Drill.{IsDrilled}

@@ -11,10 +11,9 @@ use Rattle.report_text.specs.Stream.{TookPrefix}
 use Rattle.turn_defs.specs.Setting.{Setting}
 use Rattle.photon_cli.specs.Planned.{StopsAtMost, is_joiners}
 use Rattle.site_run.specs.Joined.{RanAfresh}
-use Rattle.site_run.specs.Heard.{IsHeardOf}
 use Rattle.site_run.specs.Stops.{StopsAsPlanned}
 use Rattle.site_run.specs.declared.ran.RunLog.{RunLog}
-use Rattle.photon_cli.specs.Join.{AreValid, IsAsked}
+use Rattle.photon_cli.specs.Join.{AreValid, IsAsked, IsHeardOf}
 use Rattle.command_words.specs.Words.{Text, Values}
 use Rattle.photon_cli.specs.Words.{HasTable}
 

@@ -20,7 +20,7 @@ use Rattle.site_laws.specs.StoreLaws.{LeavesNothing}
 use Rattle.site_run.specs.Asked.{IsSettingOf}
 use Rattle.site_run.specs.Joined.{Joins, JoinsAfresh}
 use Rattle.site_run.specs.Left.{RunLeft}
-use Rattle.site_run.specs.Heard.{IsHeardOf}
+use Rattle.site_run.specs.Heard as site
 use Rattle.site_run.specs.declared.ran.RunLog.{RunLog}
 use Rattle.command_words.specs.Words.{Values}
 use Rattle.photon_cli.specs.Words.{HasTable, IsTextOf}
@@ -77,6 +77,10 @@ module _ (told : List ℕ → Option (List ℕ)) (v : Values) (before after : Im
   -- where the store was empty, it is that of the two logs, but for missing clicks
   abbrev pub PrintsAfresh : Type 0
   PrintsAfresh = (g : Setting) × IsAsked told v g × (LeavesNothing g before → (lines : List ReportLine) × JoinsAfresh g faulted lines × (new ≡ old ++ text_of lines))
+
+-- nodes of both sites ran under this plan, with so many joiners a site, and this is left of their run
+abbrev pub IsHeardOf : PlanView → (joiners : ℕ) → RunLog → Type 0
+IsHeardOf plan joiners = site.IsHeardOf plan joiners REPLICAS
 
 -- The history is a run of the whole system, from records that the disks kept at entry, and this is what was heard of it.
 pub record IsHistory (g : Setting) (before after : Images) (plan : PlanView) (log : RunLog) : Type 0 where

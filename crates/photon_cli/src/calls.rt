@@ -9,7 +9,7 @@ ghost use Rattle.turn_defs.specs.Setting.{Checked, Setting};
 ghost use Rattle.photon_model.specs.Runs.{Disks};
 ghost use Rattle.site_laws.specs.Stores.{AreAllLeft, Bytes, HoldsRecords, IsSoundStore};
 ghost use Rattle.site_laws.specs.Laws.{made_by};
-ghost use Rattle.site_run.specs.Heard.{IsHeardOf};
+ghost use Rattle.photon_cli.specs.Join.{IsHeardOf};
 ghost use Rattle.site_run.specs.Left.{HasRun};
 ghost use Rattle.site_run.specs.declared.ran.Ran.{Ran};
 ghost use Rattle.site_run.specs.declared.ran.RunLog.{RunLog};

@@ -1,6 +1,7 @@
 -- Which nodes may be dead.
-use Rattle.std.proofs.Common.{◌≡◌, ℕ, zero, suc, ◌+◌, ◌*◌, ◌<◌, ◌≤◌, Bool, true, false, not, ◌&&◌, ◌||◌, leb, ltb, List, [], ◌∷◌, replicate, take, refl, subst, arith}
-use Rattle.site_run.proofs.Words.{leb-true, ltb-true, Kind, PlanView, kind_at, kinds_of, Setting, IsNode, node_number, Node, Dispatcher, Server, Replica, Joiner, DeadAreReplicas}
+use Rattle.std.proofs.Common.{◌≡◌, ℕ, zero, suc, ◌+◌, ◌*◌, ◌<◌, ◌≤◌, Bool, true, false, ◌&&◌, List, [], ◌∷◌, ◌++◌, replicate, length, length-append, refl, sym, ap, ◌∙◌, subst, arith}
+use Rattle.std.proofs.lemmas.List.{get_or-replicate, length-replicate}
+use Rattle.site_run.proofs.Words.{Kind, PlanView, kind_at, kinds_of, Setting, IsNode, node_number, Node, Dispatcher, Server, Replica, Joiner, DeadAreReplicas}
 use Rattle.lossy_link.specs.declared.plan.Kind.TheVariants as kind
 use Rattle.air_bus.specs.Waiting.{is_replica}
 
@@ -8,48 +9,33 @@ both : (a b : Bool) → (a && b) ≡ true → (a ≡ true) × (b ≡ true)
 both true b is = (refl, is)
 both false b is = absurd (cc is)
 
-told : (a b : Bool) → (not a || b) ≡ true → a ≡ true → b ≡ true
-told true b is e = is
-told false b is e = absurd (cc e)
+-- how many nodes there are
+pub kinds_count : (joiners replicas : ℕ) (kinds : List Kind) → kinds ≡ kinds_of joiners replicas → length kinds ≡ 4 + replicas + 2 * joiners
+kinds_count joiners replicas kinds are = omega (arith, ap length are, length-append (kind.Dispatcher ∷ kind.Dispatcher ∷ kind.Server ∷ kind.Server ∷ [] ++ replicate replicas kind.Replica) (replicate (2 * joiners) kind.Joiner), length-append (kind.Dispatcher ∷ kind.Dispatcher ∷ kind.Server ∷ kind.Server ∷ []) (replicate replicas kind.Replica), length-replicate replicas kind.Replica, length-replicate (2 * joiners) kind.Joiner)
 
-among : (g : Setting) → g.replicas ≡ 3 → (n : Node) → IsNode g n → 4 ≤ node_number n → node_number n < 7 → (r : ℕ) × (n ≡ Replica r)
-among g three (Dispatcher s) is least most = absurd (omega (arith, is, least))
-among g three (Server s) is least most = absurd (omega (arith, is, least))
-among g three (Replica r) is least most = (r, refl)
-among g three (Joiner j) is least most = absurd (omega (arith, is.0, most, three))
+-- joiners are behind the replicas
+behind : (m n i : ℕ) → m ≤ i → i < m + n → kind_at (replicate m kind.Replica ++ replicate n kind.Joiner) i ≡ kind.Joiner
+behind zero n i low high = get_or-replicate n i kind.Joiner kind.Dispatcher (omega (arith, high))
+behind (suc m) n zero low high = absurd (omega (arith, low))
+behind (suc m) n (suc i) low high = behind m n i (omega (arith, low)) (omega (arith, high))
 
--- whether each replica among these, the first having this number, has one of the three
-abbrev are_right : ℕ → List Kind → Bool
-are_right i [] = true
-are_right i (k ∷ ks) = (not (is_replica k) || (leb 4 i && ltb i 7)) && are_right (suc i) ks
+are_joiners : (joiners replicas i : ℕ) → 4 + replicas ≤ i → i < 4 + replicas + 2 * joiners → kind_at (kinds_of joiners replicas) i ≡ kind.Joiner
+are_joiners joiners replicas zero low high = absurd (omega (arith, low))
+are_joiners joiners replicas (suc zero) low high = absurd (omega (arith, low))
+are_joiners joiners replicas (suc (suc zero)) low high = absurd (omega (arith, low))
+are_joiners joiners replicas (suc (suc (suc zero))) low high = absurd (omega (arith, low))
+are_joiners joiners replicas (suc (suc (suc (suc i)))) low high = behind replicas (2 * joiners) i (omega (arith, low)) (omega (arith, high))
 
-right_at : (i : ℕ) (ks : List Kind) → are_right i ks ≡ true → (n : ℕ) → is_replica (kind_at ks n) ≡ true → (4 ≤ i + n) × (i + n < 7)
-right_at i [] right n is = absurd (cc is)
-right_at i (k ∷ ks) right zero is =
-    let within = both _ _ (told (is_replica k) _ (both _ _ right).0 is) in
-    let least = leb-true 4 i within.0 in
-    let most = ltb-true i 7 within.1 in
-    (omega (arith, least), omega (arith, most))
-right_at i (k ∷ ks) right (suc n) is =
-    let later = right_at (suc i) ks (both _ _ right).1 n is in
-    (omega (arith, later.0), omega (arith, later.1))
-
-joiners_right : (i n : ℕ) → are_right i (replicate n kind.Joiner) ≡ true
-joiners_right i zero = refl
-joiners_right i (suc n) = joiners_right (suc i) n
+one_of : (g : Setting) (n : Node) → IsNode g n → is_replica (kind_at (kinds_of g.joiners g.replicas) (node_number n)) ≡ true → (r : ℕ) × (n ≡ Replica r)
+one_of g (Dispatcher zero) is at = absurd (cc at)
+one_of g (Dispatcher (suc zero)) is at = absurd (cc at)
+one_of g (Dispatcher (suc (suc s))) is at = absurd (omega (arith, is))
+one_of g (Server zero) is at = absurd (cc at)
+one_of g (Server (suc zero)) is at = absurd (cc at)
+one_of g (Server (suc (suc s))) is at = absurd (omega (arith, is))
+one_of g (Replica r) is at = (r, refl)
+one_of g (Joiner j) is at = absurd (cc (sym (ap is_replica (are_joiners g.joiners g.replicas j is.0 is.1)) ∙ at))
 
 -- whoever is dead is a replica
-pub dead_replicas : (g : Setting) (plan : PlanView) (kinds : List Kind) (joiners : ℕ) → g.replicas ≡ 3 → kinds ≡ kinds_of joiners → DeadAreReplicas g plan kinds
-dead_replicas g plan kinds joiners three are n is gone =
-    let at = subst (λ ks. is_replica (kind_at ks (node_number n)) ≡ true) are (both _ _ gone).1 in
-    let within = right_at 0 (kinds_of joiners) (joiners_right 7 (2 * joiners)) (node_number n) at in
-    among g three n is (omega (arith, within.0)) (omega (arith, within.1))
-
--- the front of all kinds, with four joiners a site, is that with fewer
-pub fewer : (j : ℕ) → j ≤ 4 → take (7 + 2 * j) (kinds_of 4) ≡ kinds_of j
-fewer zero l = refl
-fewer (suc zero) l = refl
-fewer (suc (suc zero)) l = refl
-fewer (suc (suc (suc zero))) l = refl
-fewer (suc (suc (suc (suc zero)))) l = refl
-fewer (suc (suc (suc (suc (suc j))))) l = absurd (omega (arith, l))
+pub dead_replicas : (g : Setting) (plan : PlanView) (kinds : List Kind) → kinds ≡ kinds_of g.joiners g.replicas → DeadAreReplicas g plan kinds
+dead_replicas g plan kinds are n is gone = one_of g n is (subst (λ ks. is_replica (kind_at ks (node_number n)) ≡ true) are (both _ _ gone).1)

@@ -1,19 +1,19 @@
 -- The fault that is told: the first node's that has one.
 use Rattle.std.proofs.Common.{◌≡◌, ℕ, suc, List, ◌∷◌, Option, None, Some, refl, sym, ap, ◌∙◌}
-use Rattle.site_run.proofs.Words.{RunFault, NodeFault, told_of, or_else, first_fault}
+use Rattle.site_run.proofs.Words.{RunFault, NodeFault, told_of, or_else, first_fault, Config}
 
 or_through : (a b c : Option RunFault) → or_else (or_else a b) c ≡ or_else a (or_else b c)
 or_through None b c = refl
 or_through (Some f) b c = refl
 
 -- one node more was looked at
-pub faulted : {N : Type 0} (joiners i next : ℕ) (first now total : Option RunFault) (fault : Option NodeFault) (n : N) (w : N × Option NodeFault) (ws rest : List (N × Option NodeFault)) → w ≡ (n, fault) → ws ≡ w ∷ rest → next ≡ suc i
-    → now ≡ or_else first (told_of joiners i fault) → or_else first (first_fault joiners i ws) ≡ total → or_else now (first_fault joiners next rest) ≡ total
-faulted {N} joiners i next first now total fault n w ws rest w_is cut step told before =
-    let here : first_fault joiners i ws ≡ or_else (told_of joiners i fault) (first_fault joiners (suc i) rest) =
-    ap (first_fault joiners i) cut ∙ ap (λ (v : N × Option NodeFault). or_else (told_of joiners i v.1) (first_fault joiners (suc i) rest)) w_is in
-    ap (λ k. or_else now (first_fault joiners k rest)) step
-    ∙ ap (λ f. or_else f (first_fault joiners (suc i) rest)) told
-    ∙ or_through first (told_of joiners i fault) (first_fault joiners (suc i) rest)
+pub faulted : {N : Type 0} (config : Config) (i next : ℕ) (first now total : Option RunFault) (fault : Option NodeFault) (n : N) (w : N × Option NodeFault) (ws rest : List (N × Option NodeFault)) → w ≡ (n, fault) → ws ≡ w ∷ rest → next ≡ suc i
+    → now ≡ or_else first (told_of config i fault) → or_else first (first_fault config i ws) ≡ total → or_else now (first_fault config next rest) ≡ total
+faulted {N} config i next first now total fault n w ws rest w_is cut step told before =
+    let here : first_fault config i ws ≡ or_else (told_of config i fault) (first_fault config (suc i) rest) =
+    ap (first_fault config i) cut ∙ ap (λ (v : N × Option NodeFault). or_else (told_of config i v.1) (first_fault config (suc i) rest)) w_is in
+    ap (λ k. or_else now (first_fault config k rest)) step
+    ∙ ap (λ f. or_else f (first_fault config (suc i) rest)) told
+    ∙ or_through first (told_of config i fault) (first_fault config (suc i) rest)
     ∙ ap (or_else first) (sym here)
     ∙ before

@@ -1,7 +1,7 @@
 -- The disks of a node that stands at a state hold what the state says.
 use Rattle.std.proofs.Common.{◌≡◌, ◌⊎◌, inl, inr, ⊎_elim, ℕ, Bool, true, false, ◌&&◌, List, Option, Some, None, refl, ap, ◌∙◌}
 use Rattle.std.specs.Prelude.{IsTrue}
-use Rattle.site_run.proofs.Words.{Node, Dispatcher, Server, Replica, Joiner, Input, Setting, node_number, Note, Out, land, State, MayHold, row_of, DispatcherState, ServerKept, ServerLive, land_server, SiteKept, ServerState, ReplicaState, JoinerState, StateOf, server_rows, Either, AnyState, any_of, with_site, StatesKeepVotes, HasSpelledNotes, HoldsAs}
+use Rattle.site_run.proofs.Words.{Node, Dispatcher, Server, Replica, Joiner, Input, Setting, node_number, Note, Out, land, State, MayHold, row_of, DispatcherState, ServerKept, ServerLive, land_server, SiteKept, ServerState, ReplicaState, JoinerState, StateOf, server_rows, Either, AnyState, any_of, with_site, StatesKeepVotes, HasSpelledNotes, HoldsAs, Config}
 use Rattle.dispatch_node.specs.Images as dispatcher
 use Rattle.registry_server.specs.Registrars as registrars
 use Rattle.registry_server.specs.Node as server
@@ -64,33 +64,33 @@ module _ {D A B C E : Type 0} (image : D → List ℕ → Type 0) (offset retry 
   abbrev IsKeptBy : Either (Either A B) (Either C E) → Type 0
   IsKeptBy v = (s : AnyState) → stands v s → (c : Bytes) → images v c → keep s c
 
-  pub holds_as : StatesKeepVotes → (joiners : ℕ) (n : Node) (t : StateOf n) (v : Either (Either A B) (Either C E)) → IsKeptBy v → HasSpelledNotes n t → stands v (any_of n t)
-      → HoldsAs image joiners n t (disks_by image offset retry server_disk replica_disk epochs outputs joiners (node_number n) v)
-  holds_as votes joiners (Dispatcher s) t (node.First (node.First v)) law spelled at = record {
+  pub holds_as : StatesKeepVotes → (config : Config) (n : Node) (t : StateOf n) (v : Either (Either A B) (Either C E)) → IsKeptBy v → HasSpelledNotes n t → stands v (any_of n t)
+      → HoldsAs image config n t (disks_by image offset retry server_disk replica_disk epochs outputs config (node_number n) v)
+  holds_as votes config (Dispatcher s) t (node.First (node.First v)) law spelled at = record {
     offset = offset v;
     retry = retry v;
     named = refl;
     keeps = λ o r o_here r_here. let kept = law (any_of (Dispatcher s) t) at (inl (inl (o, r))) (o_here, r_here) in (kept.0, kept.1, kept.2.0, kept.2.1);
   }
-  holds_as votes joiners (Dispatcher s) t (node.First (node.Second v)) law spelled at = absurd at
-  holds_as votes joiners (Dispatcher s) t (node.Second v) law spelled at = absurd at
-  holds_as votes joiners (Server s) t (node.First (node.First v)) law spelled at = absurd at
-  holds_as votes joiners (Server s) t (node.First (node.Second v)) law spelled at = record {
+  holds_as votes config (Dispatcher s) t (node.First (node.Second v)) law spelled at = absurd at
+  holds_as votes config (Dispatcher s) t (node.Second v) law spelled at = absurd at
+  holds_as votes config (Server s) t (node.First (node.First v)) law spelled at = absurd at
+  holds_as votes config (Server s) t (node.First (node.Second v)) law spelled at = record {
     disk = server_disk v;
     named = refl;
     keeps = λ c here. let kept = law (any_of (Server s) t) at (inl (inr c)) here in (kept.0.disk, may_hold_so s t kept.0 kept.1, kept.2);
   }
-  holds_as votes joiners (Server s) t (node.Second v) law spelled at = absurd at
-  holds_as votes joiners (Replica r) t (node.First v) law spelled at = absurd at
-  holds_as votes joiners (Replica r) t (node.Second (node.First v)) law spelled at = record {
+  holds_as votes config (Server s) t (node.Second v) law spelled at = absurd at
+  holds_as votes config (Replica r) t (node.First v) law spelled at = absurd at
+  holds_as votes config (Replica r) t (node.Second (node.First v)) law spelled at = record {
     disk = replica_disk v;
     named = refl;
     keeps = λ c here. votes t c spelled (law (any_of (Replica r) t) at (inr (inl c)) here);
   }
-  holds_as votes joiners (Replica r) t (node.Second (node.Second v)) law spelled at = absurd at
-  holds_as votes joiners (Joiner j) t (node.First v) law spelled at = absurd at
-  holds_as votes joiners (Joiner j) t (node.Second (node.First v)) law spelled at = absurd at
-  holds_as votes joiners (Joiner j) t (node.Second (node.Second v)) law spelled at = record {
+  holds_as votes config (Replica r) t (node.Second (node.Second v)) law spelled at = absurd at
+  holds_as votes config (Joiner j) t (node.First v) law spelled at = absurd at
+  holds_as votes config (Joiner j) t (node.Second (node.First v)) law spelled at = absurd at
+  holds_as votes config (Joiner j) t (node.Second (node.Second v)) law spelled at = record {
     epochs = epochs v;
     outputs = outputs v;
     named = refl;

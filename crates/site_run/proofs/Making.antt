@@ -1,8 +1,8 @@
 -- A node more is made of what there is.
-use Rattle.std.proofs.Common.{◌≡◌, ◌≢◌, ℕ, suc, ◌+◌, ◌*◌, ◌<◌, ◌≤◌, Bool, IsTrue, List, [], ◌∷◌, ◌++◌, length, map, Some, None, refl, sym, ap, ◌∙◌, subst, append_assoc, length-append, arith}
+use Rattle.std.proofs.Common.{◌≡◌, ◌≢◌, ◌⊎◌, inl, inr, ⊎_elim, ℕ, suc, ◌+◌, ◌-◌, ◌*◌, ◌<◌, ◌≤◌, Bool, IsTrue, List, [], ◌∷◌, ◌++◌, length, map, Some, None, refl, sym, ap, ◌∙◌, subst, append_assoc, length-append, arith}
 use Rattle.std.specs.Prelude.{Option}
 use Rattle.std.proofs.lemmas.List.{map-append}
-use Rattle.site_run.proofs.Words.{Config, append-nil, length-map, IsPermutation, IsPermutation-map, IsPermutation-refl, IsPermutation-trans, IsPermutation-append_comm, IsPermutation-append_left, IsPermutation-append_right, IsPermutation-cons, IsPermutation-sym, IsPermutation-to_front, length_permutation, Each, each_more, Mem, other_names, Setting, IsOf, AreKeptPlaces, IsLogOf, IsQueryLog, Disks, Lent, OpenView, Says, each_map, each_unmap, kept_by, lent_all, LentDisk, as_lent, all_from, AnyState, AllAt, IsUpAt, IsDownAt, AreFrom, IsStart, IsRunnable, IsTakenFrom, Makes, StockView, lent_by, clicks_from, disks_from, disks_in, logs_in, number_of, queries_from}
+use Rattle.site_run.proofs.Words.{Config, append-nil, length-map, IsPermutation, IsPermutation-map, IsPermutation-refl, IsPermutation-trans, IsPermutation-append_comm, IsPermutation-append_left, IsPermutation-append_right, IsPermutation-cons, IsPermutation-sym, IsPermutation-to_front, length_permutation, Each, each_more, Mem, other_names, Setting, IsOf, AreKeptPlaces, IsLogOf, IsQueryLog, Disks, Lent, OpenView, Says, each_map, each_unmap, kept_by, lent_all, LentDisk, as_lent, all_from, AnyState, AllAt, IsUpAt, IsDownAt, AreFrom, IsStart, IsRunnable, IsTakenFrom, Makes, StockView, lent_by, cases_lt, clicks_from, count_of, place_of, disks_from, disks_in, logs_in, number_of, queries_from}
 use Rattle.site_run.proofs.Lists.{all_at_more, all_last, no_items}
 use Rattle.site_run.proofs.Taken.{Took, each_took, fewer_took, last_is, moved_took, opened_count, still_all}
 
@@ -59,6 +59,29 @@ put_two xs vs mid now a b first second same = put_as xs (a ∷ b ∷ []) vs now 
 pub put_log : {X : Type 0} (xs mid now : List X) (a b : X) → mid ≡ xs → now ≡ mid ++ a ∷ [] → a ≡ b → now ≡ xs ++ b ∷ []
 put_log xs mid now a b first second same = second ∙ ap (λ l. l ++ a ∷ []) first ∙ ap (λ x. xs ++ x ∷ []) same
 
+-- ---- how many disks there are from a node on
+
+sum_less : (a b c d a' b' c' d' : ℕ) → a ≡ a' → d ≡ d' → (b ≡ suc b') × (c ≡ c') ⊎ (b ≡ b') × (c ≡ suc c') → 2 * a + b + c + 2 * d ≡ 1 + (2 * a' + b' + c' + 2 * d')
+sum_less a b c d a' b' c' d' first last (inl less) = omega (arith, first, last, less.0, less.1)
+sum_less a b c d a' b' c' d' first last (inr less) = omega (arith, first, last, less.0, less.1)
+
+-- a server or a replica has one
+one_disk : (k : Config) (i : ℕ) → 2 ≤ i → i < 4 + k.replicas → disks_from k i ≡ 1 + disks_from k (suc i)
+one_disk k i from below =
+    let place : place_of k i ≡ place_of k (suc i) = omega (arith, below) in
+    let first : 2 - i ≡ 2 - suc i = omega (arith, from) in
+    sum_less (2 - i) (2 - (i - 2)) (k.replicas - (i - 4)) (2 * k.joiners - place_of k i) (2 - suc i) (2 - (suc i - 2)) (k.replicas - (suc i - 4)) (2 * k.joiners - place_of k (suc i)) first (ap (λ p. 2 * k.joiners - p) place)
+    (⊎_elim
+    (λ low.
+    let server : 2 - (i - 2) ≡ suc (2 - (suc i - 2)) = omega (arith, from, low) in
+    let none : i - 4 ≡ suc i - 4 = omega (arith, low) in
+    inl (server, ap (λ p. k.replicas - p) none))
+    (λ high.
+    let none : 2 - (i - 2) ≡ 2 - (suc i - 2) = omega (arith, high) in
+    let replica : k.replicas - (i - 4) ≡ suc (k.replicas - (suc i - 4)) = omega (arith, high, below) in
+    inr (none, replica))
+    (cases_lt i 4))
+
 -- ---- these disks and logs are of the node of this number, and no others are
 
 module _ {D L : Type 0} (bytes : L → List ℕ) (i : ℕ) (old new : StockView D L) where
@@ -67,28 +90,27 @@ module _ {D L : Type 0} (bytes : L → List ℕ) (i : ℕ) (old new : StockView 
     pub rest : Took old.rest us new.rest
     pub clicks : Took old.clicks cs new.clicks
     pub queries : Took old.queries qs new.queries
-    pub own : Each (λ u. number_of old.config.joiners u.name ≡ i) us
-    pub disk_count : disks_from old.config.joiners i ≡ length us + disks_from old.config.joiners (suc i)
+    pub own : Each (λ u. number_of old.config u.name ≡ i) us
+    pub disk_count : disks_from old.config i ≡ length us + disks_from old.config (suc i)
     pub click_count : clicks_from i ≡ length cs + clicks_from (suc i)
-    pub query_count : queries_from old.config.joiners i ≡ length qs + queries_from old.config.joiners (suc i)
+    pub query_count : queries_from old.config i ≡ length qs + queries_from old.config (suc i)
 
   module _ (us : List (OpenView D)) (cs qs : List L) (uses : Uses us cs qs) where
     from_next : AreFrom i old → (new.disks ≡ []) × (new.logs ≡ []) → AreFrom (suc i) new
     from_next left none =
-        let j = ap (λ c. c.joiners) uses.config in
         let disks = fewer_took old.rest us new.rest uses.rest in
         let clicks = fewer_took old.clicks cs new.clicks uses.clicks in
         let queries = fewer_took old.queries qs new.queries uses.queries in
         record {
           ranges = subst IsRunnable (sym uses.config) left.ranges;
           there = λ n among from.
-              let k = old.config.joiners in
-              let le : suc i ≤ number_of k n = subst (λ m. suc i ≤ number_of m n) j from in
+              let k = old.config in
+              let le : suc i ≤ number_of k n = subst (λ (c : Config). suc i ≤ number_of c n) uses.config from in
               still_all n old.rest us new.rest uses.rest (each_more (λ u. number_of k u.name ≡ i) (λ u. n ≢ u.name) us (λ u at e. omega (arith, le, at, ap (number_of k) e)) uses.own)
               (left.there n (subst (λ (c : Config). Mem n (other_names c.joiners c.replicas)) uses.config among) (omega (arith, le)));
-          disks = subst (λ m. length new.rest ≡ disks_from m (suc i)) (sym j) (omega (arith, disks, left.disks, uses.disk_count));
+          disks = subst (λ (c : Config). length new.rest ≡ disks_from c (suc i)) (sym uses.config) (omega (arith, disks, left.disks, uses.disk_count));
           clicks = omega (arith, clicks, left.clicks, uses.click_count);
-          queries = subst (λ m. length new.queries ≡ queries_from m (suc i)) (sym j) (omega (arith, queries, left.queries, uses.query_count));
+          queries = subst (λ (c : Config). length new.queries ≡ queries_from c (suc i)) (sym uses.config) (omega (arith, queries, left.queries, uses.query_count));
           none = none;
         }
 
@@ -110,8 +132,8 @@ module _ {D L : Type 0} (bytes : L → List ℕ) (i : ℕ) (old new : StockView 
     logs_moved : IsPermutation (old.clicks ++ old.queries) ((cs ++ qs) ++ (new.clicks ++ new.queries))
     logs_moved = both_moved old.clicks old.queries cs qs new.clicks new.queries (moved_took old.clicks cs new.clicks uses.clicks) (moved_took old.queries qs new.queries uses.queries)
 
-    module _ {N : Type 0} (number : N → ℕ) (waits : N → Bool) (places : N → AnyState → Type 0) (disks_of : ℕ → ℕ → N → List (Lent D)) (logs_of : N → List L) (tells : Bool) (left : AreFrom i old) where
-      pub made : (n : N) → new.disks ≡ old.disks → new.logs ≡ old.logs → IsUpAt number waits i n → disks_of old.config.joiners i n ≡ lent_all us → logs_of n ≡ cs ++ qs
+    module _ {N : Type 0} (number : N → ℕ) (waits : N → Bool) (places : N → AnyState → Type 0) (disks_of : Config → ℕ → N → List (Lent D)) (logs_of : N → List L) (tells : Bool) (left : AreFrom i old) where
+      pub made : (n : N) → new.disks ≡ old.disks → new.logs ≡ old.logs → IsUpAt number waits i n → disks_of old.config i n ≡ lent_all us → logs_of n ≡ cs ++ qs
           → (IsTrue tells → (g : Setting) (d : Disks) → IsOf old.config g → ((s : ℕ) → s < 2 → AreKeptPlaces g (d.dispatchers s)) → own_start g d → IsDownAt places g d i n)
           → Makes number waits places disks_of logs_of tells bytes i old (Some n) new
       made n disks_same logs_same up disks_are logs_are down =
@@ -141,20 +163,20 @@ module _ {D L : Type 0} (bytes : L → List ℕ) (i : ℕ) (old new : StockView 
       }
 
   -- one disk of a server or of a replica
-  pub one_used : (a : OpenView D) → 2 ≤ i → i < 7 → new.config ≡ old.config → IsTakenFrom old.rest a new.rest → number_of old.config.joiners a.name ≡ i → old.clicks ≡ new.clicks → old.queries ≡ new.queries → Uses (a ∷ []) [] []
+  pub one_used : (a : OpenView D) → 2 ≤ i → i < 4 + old.config.replicas → new.config ≡ old.config → IsTakenFrom old.rest a new.rest → number_of old.config a.name ≡ i → old.clicks ≡ new.clicks → old.queries ≡ new.queries → Uses (a ∷ []) [] []
   one_used a from below config taken own clicks queries = record {
     config = config;
     rest = (new.rest, taken, refl);
     clicks = clicks;
     queries = queries;
     own = (own, tt);
-    disk_count = omega (arith, from, below);
+    disk_count = one_disk old.config i from below;
     click_count = omega (arith, from);
     query_count = omega (arith, below);
   }
 
   -- two disks and a log of a joiner
-  pub two_used : (a b : OpenView D) (log : L) (mid : List (OpenView D)) → 7 ≤ i → i < 7 + 2 * old.config.joiners → new.config ≡ old.config → IsTakenFrom old.rest a mid → IsTakenFrom mid b new.rest → number_of old.config.joiners a.name ≡ i → number_of old.config.joiners b.name ≡ i
+  pub two_used : (a b : OpenView D) (log : L) (mid : List (OpenView D)) → 4 + old.config.replicas ≤ i → i < count_of old.config → new.config ≡ old.config → IsTakenFrom old.rest a mid → IsTakenFrom mid b new.rest → number_of old.config a.name ≡ i → number_of old.config b.name ≡ i
       → old.clicks ≡ new.clicks → old.queries ≡ new.queries ++ log ∷ [] → Uses (a ∷ b ∷ []) [] (log ∷ [])
   two_used a b log mid from below config first second own too clicks queries = record {
     config = config;
@@ -174,7 +196,7 @@ at_first l ranges named clicks queries none =
     record {
       ranges = ranges;
       there = λ n among from. subst (Mem n) (sym named) among;
-      disks = omega (arith, size, ranges.replicas);
+      disks = omega (arith, size);
       clicks = omega (arith, clicks);
       queries = omega (arith, queries);
       none = none;
@@ -182,14 +204,14 @@ at_first l ranges named clicks queries none =
 
 -- ---- one node after the other
 
-module _ {N D L : Type 0} (number : N → ℕ) (waits : N → Bool) (places : N → AnyState → Type 0) (disks_of : ℕ → ℕ → N → List (Lent D)) (logs_of : N → List L) (tells : Bool) (bytes : L → List ℕ) (start : StockView D L) where
+module _ {N D L : Type 0} (number : N → ℕ) (waits : N → Bool) (places : N → AnyState → Type 0) (disks_of : Config → ℕ → N → List (Lent D)) (logs_of : N → List L) (tells : Bool) (bytes : L → List ℕ) (start : StockView D L) where
   -- these nodes are made
   pub record AreMade (nodes : List N) (now : StockView D L) : Type 0 where
     pub config : now.config ≡ start.config
     pub left : AreFrom (length nodes) now
     pub up : AllAt (IsUpAt number waits) nodes
     pub over : IsTrue tells → (g : Setting) (d : Disks) → IsStart bytes start.clicks start.queries start.rest start.config g d → IsStart bytes now.clicks now.queries now.rest now.config g d × AllAt (IsDownAt places g d) nodes
-    pub disks : IsPermutation (lent_all start.rest) (disks_in now ++ all_from (disks_of start.config.joiners) 0 nodes)
+    pub disks : IsPermutation (lent_all start.rest) (disks_in now ++ all_from (disks_of start.config) 0 nodes)
     pub logs : IsPermutation (start.clicks ++ start.queries) (logs_in now ++ all_from (λ _. logs_of) 0 nodes)
 
   -- none yet
@@ -217,18 +239,19 @@ module _ {N D L : Type 0} (number : N → ℕ) (waits : N → Bool) (places : N 
     pub rest : length now.rest ≡ 0
     pub clicks : length now.clicks ≡ 0
     pub queries : length now.queries ≡ 0
-    pub held : IsPermutation (lent_all start.rest) (all_from (disks_of start.config.joiners) 0 nodes)
+    pub held : IsPermutation (lent_all start.rest) (all_from (disks_of start.config) 0 nodes)
 
-  pub ended : (nodes : List N) (now : StockView D L) → AreMade nodes now → length nodes ≡ 7 + 2 * start.config.joiners → IsEnded nodes now
+  pub ended : (nodes : List N) (now : StockView D L) → AreMade nodes now → length nodes ≡ count_of start.config → IsEnded nodes now
   ended nodes now so all =
       let j = ap (λ c. c.joiners) so.config in
-      let rest : length now.rest ≡ 0 = omega (arith, so.left.disks, all, j) in
+      let r = ap (λ c. c.replicas) so.config in
+      let rest : length now.rest ≡ 0 = omega (arith, so.left.disks, all, j, r) in
       record {
         rest = rest;
         clicks = omega (arith, so.left.clicks, all);
-        queries = omega (arith, so.left.queries, all, j);
-        held = subst (λ l. IsPermutation (lent_all start.rest) (lent_all l ++ all_from (disks_of start.config.joiners) 0 nodes)) (no_items now.rest rest)
-            (subst (λ l. IsPermutation (lent_all start.rest) ((map as_lent l ++ lent_all now.rest) ++ all_from (disks_of start.config.joiners) 0 nodes)) so.left.none.0 so.disks);
+        queries = omega (arith, so.left.queries, all, j, r);
+        held = subst (λ l. IsPermutation (lent_all start.rest) (lent_all l ++ all_from (disks_of start.config) 0 nodes)) (no_items now.rest rest)
+            (subst (λ l. IsPermutation (lent_all start.rest) ((map as_lent l ++ lent_all now.rest) ++ all_from (disks_of start.config) 0 nodes)) so.left.none.0 so.disks);
       }
 
   module _ (nodes : List N) (old new : StockView D L) (so : AreMade nodes old) where
@@ -239,7 +262,7 @@ module _ {N D L : Type 0} (number : N → ℕ) (waits : N → Bool) (places : N 
     one_made n nodes' k at is made =
         let step = step_at (Some n) k at made in
         let next : length (nodes ++ n ∷ []) ≡ suc (length nodes) = omega (arith, length-append nodes (n ∷ [])) in
-        let own = ap (λ c. disks_of c.joiners (length nodes) n) so.config in
+        let own = ap (λ c. disks_of c (length nodes) n) so.config in
         subst (λ l. AreMade l new) (sym is)
         (record {
           config = step.config ∙ so.config;
@@ -249,29 +272,29 @@ module _ {N D L : Type 0} (number : N → ℕ) (waits : N → Bool) (places : N 
               let before = so.over t g d begins in
               let after = step.over t g d before.0 in
               (after.0, all_at_more _ _ _ _ _ refl refl after.1 before.1);
-          disks = IsPermutation-trans _ _ _ so.disks (subst (λ l. IsPermutation (disks_in old ++ all_from (disks_of start.config.joiners) 0 nodes) (disks_in new ++ l)) (ap (λ l. all_from (disks_of start.config.joiners) 0 nodes ++ l) own ∙ sym (all_last (disks_of start.config.joiners) nodes n)) (turned _ (disks_in new) (disks_in old) _ step.disks));
+          disks = IsPermutation-trans _ _ _ so.disks (subst (λ l. IsPermutation (disks_in old ++ all_from (disks_of start.config) 0 nodes) (disks_in new ++ l)) (ap (λ l. all_from (disks_of start.config) 0 nodes ++ l) own ∙ sym (all_last (disks_of start.config) nodes n)) (turned _ (disks_in new) (disks_in old) _ step.disks));
           logs = IsPermutation-trans _ _ _ so.logs (subst (λ l. IsPermutation (logs_in old ++ all_from (λ _. logs_of) 0 nodes) (logs_in new ++ l)) (sym (all_last (λ _. logs_of) nodes n)) (turned _ (logs_in new) (logs_in old) _ step.logs));
         })
 
     -- the next one isn't
     pub record IsStopped : Type 0 where
-      pub joiners : new.config.joiners ≡ start.config.joiners
-      pub disks : IsPermutation (lent_all start.rest) (disks_in new ++ all_from (disks_of new.config.joiners) 0 nodes)
+      pub config : new.config ≡ start.config
+      pub disks : IsPermutation (lent_all start.rest) (disks_in new ++ all_from (disks_of new.config) 0 nodes)
       pub logs : IsPermutation (start.clicks ++ start.queries) (logs_in new ++ all_from (λ _. logs_of) 0 nodes)
-      pub disk_count : length (disks_in new) + length (all_from (disks_of new.config.joiners) 0 nodes) ≡ length start.rest
+      pub disk_count : length (disks_in new) + length (all_from (disks_of new.config) 0 nodes) ≡ length start.rest
       pub log_count : length (logs_in new) + length (all_from (λ _. logs_of) 0 nodes) ≡ length start.clicks + length start.queries
 
     pub stopped : (k : ℕ) → length nodes ≡ k → Makes number waits places disks_of logs_of tells bytes k old None new → IsStopped
     stopped k at none =
         let step = step_at None k at none in
-        let same = ap (λ c. c.joiners) (step.config ∙ so.config) in
-        let disks : IsPermutation (lent_all start.rest) (disks_in new ++ all_from (disks_of new.config.joiners) 0 nodes) =
-        subst (λ j. IsPermutation (lent_all start.rest) (disks_in new ++ all_from (disks_of j) 0 nodes)) (sym same) (IsPermutation-trans _ _ _ so.disks (IsPermutation-append_left _ (disks_in old) (disks_in new) step.disks)) in
+        let same = step.config ∙ so.config in
+        let disks : IsPermutation (lent_all start.rest) (disks_in new ++ all_from (disks_of new.config) 0 nodes) =
+        subst (λ c. IsPermutation (lent_all start.rest) (disks_in new ++ all_from (disks_of c) 0 nodes)) (sym same) (IsPermutation-trans _ _ _ so.disks (IsPermutation-append_left _ (disks_in old) (disks_in new) step.disks)) in
         let logs : IsPermutation (start.clicks ++ start.queries) (logs_in new ++ all_from (λ _. logs_of) 0 nodes) =
         IsPermutation-trans _ _ _ so.logs (IsPermutation-append_left _ (logs_in old) (logs_in new) step.logs) in
         record {
-          joiners = same;
-          disk_count = omega (arith, length_permutation _ _ disks, length-append (disks_in new) (all_from (disks_of new.config.joiners) 0 nodes), length-map start.rest lent_by);
+          config = same;
+          disk_count = omega (arith, length_permutation _ _ disks, length-append (disks_in new) (all_from (disks_of new.config) 0 nodes), length-map start.rest lent_by);
           log_count = omega (arith, length_permutation _ _ logs, length-append (logs_in new) (all_from (λ _. logs_of) 0 nodes), length-append start.clicks start.queries);
           disks = disks;
           logs = logs;

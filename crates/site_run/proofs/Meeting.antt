@@ -1,6 +1,6 @@
 -- A fault of a node is one of its disks or of its log.
 use Rattle.std.proofs.Common.{◌⊎◌, inl, inr, ⊎_elim, ℕ, zero, suc, ◌+◌, ◌≤◌, List, [], ◌∷◌, refl, arith}
-use Rattle.site_run.proofs.Words.{Mem, Lent, Either}
+use Rattle.site_run.proofs.Words.{Config, Mem, Lent, Either}
 use Rattle.site_workers.specs.Eithers as either
 use Rattle.site_workers.specs.declared.either.Either.TheVariants as node
 use Rattle.site_run.proofs.Going.{disks_by}
@@ -26,11 +26,11 @@ module _ {D L A B C E : Type 0} (faults : D → ℕ) (log_faults : L → ℕ) (o
   of_two : (x y : Lent D) → 1 ≤ faults x.disk + faults y.disk → HasFault (x ∷ y ∷ [])
   of_two x y some = ⊎_elim (λ first. (x, inl refl, first)) (λ second. (y, inr (inl refl), second)) (one_has (faults x.disk) (faults y.disk) some)
 
-  pub of_disk : (image : D → List ℕ → Type 0) (joiners number : ℕ) (v : Either (Either A B) (Either C E)) → 1 ≤ all_faults v → HasFault (disks_by image offset retry server replica epochs outputs joiners number v)
-  of_disk image joiners number (node.First (node.First v)) some = of_two _ _ some
-  of_disk image joiners number (node.First (node.Second v)) some = (_, inl refl, some)
-  of_disk image joiners number (node.Second (node.First v)) some = (_, inl refl, some)
-  of_disk image joiners number (node.Second (node.Second v)) some = of_two _ _ some
+  pub of_disk : (image : D → List ℕ → Type 0) (config : Config) (number : ℕ) (v : Either (Either A B) (Either C E)) → 1 ≤ all_faults v → HasFault (disks_by image offset retry server replica epochs outputs config number v)
+  of_disk image config number (node.First (node.First v)) some = of_two _ _ some
+  of_disk image config number (node.First (node.Second v)) some = (_, inl refl, some)
+  of_disk image config number (node.Second (node.First v)) some = (_, inl refl, some)
+  of_disk image config number (node.Second (node.Second v)) some = of_two _ _ some
 
   pub of_log : (v : Either (Either A B) (Either C E)) → 1 ≤ all_log_faults v → (l : L) × Mem l (logs_by v) × (1 ≤ log_faults l)
   of_log (node.First (node.First v)) some = (clicks v, inl refl, some)

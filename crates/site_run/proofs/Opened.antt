@@ -1,7 +1,6 @@
 -- Nodes that are down over records, and the number of disks that are out.
-use Rattle.std.proofs.Common.{◌≡◌, ℕ, ◌+◌, ◌*◌, ◌≤◌, List, ◌∷◌, length, map, slice_index_or, None, ap, subst, arith}
-use Rattle.site_run.proofs.Words.{length-map, IsPermutation, length_permutation, DiskName, Node, Setting, node_number, Disks, StateOf, KeptOf, kept_of, down_over, Lent, MayBeLeft, OpenView, lent_all, lent_by, other_names, AnyState, any_of, AreDownOver, Images, SameRecords, AreOut}
-use Rattle.site_run.proofs.Taken.{opened_count}
+use Rattle.std.proofs.Common.{◌≡◌, ℕ, ◌+◌, List, ◌∷◌, length, slice_index_or, None, ap, subst, arith}
+use Rattle.site_run.proofs.Words.{length-map, IsPermutation, length_permutation, DiskName, Node, Setting, node_number, Disks, StateOf, KeptOf, kept_of, down_over, Lent, MayBeLeft, OpenView, lent_all, lent_by, AnyState, any_of, AreDownOver, Images, SameRecords, AreOut}
 
 down_same : (g : Setting) (d e : Disks) (n : Node) → kept_of d n ≡ kept_of e n → down_over g d n ≡ down_over g e n
 down_same g d e n is = ap (λ (k : KeptOf n). record { setting = g; kept = k; live = None; opened = None }) is
@@ -11,16 +10,12 @@ pub down_too : {N : Type 0} (places : N → AnyState → Type 0) (g : Setting) (
 down_too {N} places g d e nodes same down n is a = subst (λ (u : StateOf n). places (slice_index_or nodes (node_number n) a) (any_of n u)) (down_same g d e n (same n is)) (down n is a)
 
 -- how many disks there are
-module _ {D : Type 0} (disks : List (OpenView D)) (n replicas : ℕ) (three : replicas ≡ 3) (named : map (λ (o : OpenView D). o.name) disks ≡ other_names n replicas) where
-  pub count_opened : 1 + length disks ≡ 10 + 4 * n
-  count_opened = let many = opened_count n replicas disks named in omega (arith, many, three)
+module _ {D : Type 0} (disks : List (OpenView D)) (back : List (Lent D)) where
+  pub as_many_with : (t : Lent D) → IsPermutation (t ∷ lent_all disks) back → length back ≡ 1 + length disks
+  as_many_with t moved = omega (arith, length_permutation (t ∷ lent_all disks) back moved, length-map disks lent_by)
 
-  -- a place for each disk that was opened
-  pub room_for : (t : Lent D) (back : List (Lent D)) → IsPermutation (t ∷ lent_all disks) back → length back ≡ 10 + 4 * n
-  room_for t back moved = omega (arith, length_permutation (t ∷ lent_all disks) back moved, length-map disks lent_by, count_opened)
-
-  pub fits_behind : (back : List (Lent D)) → IsPermutation (lent_all disks) back → 1 + length back ≤ 10 + 4 * n
-  fits_behind back moved = omega (arith, length_permutation (lent_all disks) back moved, length-map disks lent_by, count_opened)
+  pub as_many : IsPermutation (lent_all disks) back → length back ≡ length disks
+  as_many moved = omega (arith, length_permutation (lent_all disks) back moved, length-map disks lent_by)
 
 -- ---- another disk of the topology in the place of the same
 

@@ -1,9 +1,10 @@
 -- Lists that are put together place by place, and whose disk a name is.
-use Rattle.std.proofs.Common.{◌≡◌, ⊎_elim, ℕ, zero, suc, ◌+◌, ◌-◌, ◌*◌, ◌<◌, ◌≤◌, nat_lt, Bool, true, false, cond, List, [], ◌∷◌, length, refl, sym, ap, ◌∙◌, subst, arith}
+use Rattle.std.proofs.Common.{◌≡◌, ⊎_elim, ℕ, zero, suc, ◌+◌, ◌*◌, ◌<◌, ◌≤◌, List, [], ◌∷◌, length, refl, sym, ap, ◌∙◌, subst, arith}
 use Rattle.std.specs.Prelude.{slice_index_or}
-use Rattle.site_run.proofs.Words.{cases_lt, lt-ltb, le-ltb, Mem, Each, mem_left, mem_right, mem_split, each_at, DiskName, Node, Dispatcher, Server, Replica, Joiner, Setting, IsNode, Lent, StateOf, place_of, site_of, all_from, HoldsAs}
+use Rattle.site_run.proofs.Words.{Mem, Each, mem_left, mem_right, mem_split, each_at, DiskName, Node, Dispatcher, Server, Replica, Joiner, Setting, IsNode, Lent, StateOf, Config, count_of, numbers_of, site_of, all_from, HoldsAs}
 use Rattle.outside.specs.declared.store.DiskName.TheVariants as name
 use Rattle.site_run.specs.Naming.{joiner_of}
+use Rattle.site_run.proofs.Naming.{seat_of}
 use Rattle.site_laws.specs.Stores as stores
 
 -- ---- lists put together
@@ -33,14 +34,14 @@ module _ {N X : Type 0} (f : ℕ → N → List X) where
 -- ---- whose disk a name is
 
 -- the name is that of one of this node's disks
-abbrev pub IsDiskOf : ℕ → Node → DiskName → Type 0
-IsDiskOf joiners (Dispatcher s) (name.Offset t) = t ≡ s
-IsDiskOf joiners (Dispatcher s) (name.Retry t) = t ≡ s
-IsDiskOf joiners (Server s) (name.Server t) = t ≡ s
-IsDiskOf joiners (Replica r) (name.Replica t) = t ≡ r
-IsDiskOf joiners (Joiner n) (name.Epoch s j) = (s ≡ site_of joiners n) × (j ≡ joiner_of joiners n)
-IsDiskOf joiners (Joiner n) (name.Output s j) = (s ≡ site_of joiners n) × (j ≡ joiner_of joiners n)
-IsDiskOf joiners _ _ = ⊥
+abbrev pub IsDiskOf : Config → Node → DiskName → Type 0
+IsDiskOf config (Dispatcher s) (name.Offset t) = t ≡ s
+IsDiskOf config (Dispatcher s) (name.Retry t) = t ≡ s
+IsDiskOf config (Server s) (name.Server t) = t ≡ s
+IsDiskOf config (Replica r) (name.Replica t) = t ≡ r
+IsDiskOf config (Joiner n) (name.Epoch s j) = (s ≡ site_of config n) × (j ≡ joiner_of config n)
+IsDiskOf config (Joiner n) (name.Output s j) = (s ≡ site_of config n) × (j ≡ joiner_of config n)
+IsDiskOf config _ _ = ⊥
 
 -- the node whose disk a name is, if it isn't the topology's
 abbrev pub node_with : Setting → DiskName → Node
@@ -52,72 +53,50 @@ node_with g (name.Replica r) = Replica r
 node_with g (name.Epoch s j) = Joiner (stores.joiner_of g s j)
 node_with g (name.Output s j) = Joiner (stores.joiner_of g s j)
 
-number_back : (joiners replicas n s j : ℕ) → replicas ≡ 3 → 4 + replicas ≤ n → s ≡ site_of joiners n → j ≡ joiner_of joiners n → 4 + replicas + s * joiners + j ≡ n
-number_back joiners replicas n s j three low site joiner =
-    ⊎_elim
-    (λ l.
-    let lt : nat_lt (place_of n) joiners ≡ true = lt-ltb (place_of n) joiners l in
-    let at : j ≡ place_of n = joiner ∙ ap (λ t. cond t (place_of n) (place_of n - joiners)) lt in
-    subst (λ x. 4 + replicas + x * joiners + j ≡ n) (sym (site ∙ ap (λ t. cond t 0 1) lt)) (omega (arith, at, three, low)))
-    (λ l.
-    let ge : nat_lt (place_of n) joiners ≡ false = le-ltb (place_of n) joiners l in
-    let at : j ≡ place_of n - joiners = joiner ∙ ap (λ t. cond t (place_of n) (place_of n - joiners)) ge in
-    subst (λ x. 4 + replicas + x * joiners + j ≡ n) (sym (site ∙ ap (λ t. cond t 0 1) ge)) (omega (arith, at, three, low, l)))
-    (cases_lt (place_of n) joiners)
+number_back : (c : Config) (n s j : ℕ) → 4 + c.replicas ≤ n → n < count_of c → s ≡ site_of c n → j ≡ joiner_of c n → 4 + c.replicas + s * c.joiners + j ≡ n
+number_back c n s j low high site joiner =
+    ap (λ x. 4 + c.replicas + x * c.joiners + j) site ∙ ap (λ y. 4 + c.replicas + site_of c n * c.joiners + y) joiner ∙ (seat_of c n low high).number
 
 -- a node whose disk has this name is that one
-pub owner : (g : Setting) → g.replicas ≡ 3 → (n : Node) (disk : DiskName) → IsNode g n → IsDiskOf g.joiners n disk → node_with g disk ≡ n
-owner g three (Dispatcher s) (name.Offset t) is has = ap (λ x. Dispatcher x) has
-owner g three (Dispatcher s) (name.Retry t) is has = ap (λ x. Dispatcher x) has
-owner g three (Dispatcher s) _ is has = absurd has
-owner g three (Server s) (name.Server t) is has = ap (λ x. Server x) has
-owner g three (Server s) _ is has = absurd has
-owner g three (Replica r) (name.Replica t) is has = ap (λ x. Replica x) has
-owner g three (Replica r) _ is has = absurd has
-owner g three (Joiner n) (name.Epoch s j) is has = ap (λ x. Joiner x) (number_back g.joiners g.replicas n s j three is.0 has.0 has.1)
-owner g three (Joiner n) (name.Output s j) is has = ap (λ x. Joiner x) (number_back g.joiners g.replicas n s j three is.0 has.0 has.1)
-owner g three (Joiner n) _ is has = absurd has
+pub owner : (g : Setting) (n : Node) (disk : DiskName) → IsNode g n → IsDiskOf (numbers_of g) n disk → node_with g disk ≡ n
+owner g (Dispatcher s) (name.Offset t) is has = ap (λ x. Dispatcher x) has
+owner g (Dispatcher s) (name.Retry t) is has = ap (λ x. Dispatcher x) has
+owner g (Dispatcher s) _ is has = absurd has
+owner g (Server s) (name.Server t) is has = ap (λ x. Server x) has
+owner g (Server s) _ is has = absurd has
+owner g (Replica r) (name.Replica t) is has = ap (λ x. Replica x) has
+owner g (Replica r) _ is has = absurd has
+owner g (Joiner n) (name.Epoch s j) is has = ap (λ x. Joiner x) (number_back (numbers_of g) n s j is.0 is.1 has.0 has.1)
+owner g (Joiner n) (name.Output s j) is has = ap (λ x. Joiner x) (number_back (numbers_of g) n s j is.0 is.1 has.0 has.1)
+owner g (Joiner n) _ is has = absurd has
 
 -- and that name is one of the setting's
-place_within : (joiners replicas n : ℕ) → replicas ≡ 3 → 4 + replicas ≤ n → n < 4 + replicas + 2 * joiners → (site_of joiners n < 2) × (joiner_of joiners n < joiners)
-place_within joiners replicas n three low high =
-    ⊎_elim
-    (λ l.
-    let lt : nat_lt (place_of n) joiners ≡ true = lt-ltb (place_of n) joiners l in
-    (subst (λ (t : Bool). cond t 0 1 < 2) (sym lt) (omega arith), subst (λ (t : Bool). cond t (place_of n) (place_of n - joiners) < joiners) (sym lt) l))
-    (λ l.
-    let ge : nat_lt (place_of n) joiners ≡ false = le-ltb (place_of n) joiners l in
-    (subst (λ (t : Bool). cond t 0 1 < 2) (sym ge) (omega arith), subst (λ (t : Bool). cond t (place_of n) (place_of n - joiners) < joiners) (sym ge) (omega (arith, three, low, high, l))))
-    (cases_lt (place_of n) joiners)
-
-pub of_setting : (g : Setting) → g.replicas ≡ 3 → (n : Node) (disk : DiskName) → IsNode g n → IsDiskOf g.joiners n disk → stores.IsDisk g disk
-of_setting g three (Dispatcher s) (name.Offset t) is has = subst (λ k. k < 2) (sym has) is
-of_setting g three (Dispatcher s) (name.Retry t) is has = subst (λ k. k < 2) (sym has) is
-of_setting g three (Dispatcher s) _ is has = absurd has
-of_setting g three (Server s) (name.Server t) is has = subst (λ k. k < 2) (sym has) is
-of_setting g three (Server s) _ is has = absurd has
-of_setting g three (Replica r) (name.Replica t) is has = subst (λ k. k < g.replicas) (sym has) is
-of_setting g three (Replica r) _ is has = absurd has
-of_setting g three (Joiner n) (name.Epoch s j) is has =
-    let within = place_within g.joiners g.replicas n three is.0 is.1 in (subst (λ k. k < 2) (sym has.0) within.0, subst (λ k. k < g.joiners) (sym has.1) within.1)
-of_setting g three (Joiner n) (name.Output s j) is has =
-    let within = place_within g.joiners g.replicas n three is.0 is.1 in (subst (λ k. k < 2) (sym has.0) within.0, subst (λ k. k < g.joiners) (sym has.1) within.1)
-of_setting g three (Joiner n) _ is has = absurd has
+pub of_setting : (g : Setting) (n : Node) (disk : DiskName) → IsNode g n → IsDiskOf (numbers_of g) n disk → stores.IsDisk g disk
+of_setting g (Dispatcher s) (name.Offset t) is has = subst (λ k. k < 2) (sym has) is
+of_setting g (Dispatcher s) (name.Retry t) is has = subst (λ k. k < 2) (sym has) is
+of_setting g (Dispatcher s) _ is has = absurd has
+of_setting g (Server s) (name.Server t) is has = subst (λ k. k < 2) (sym has) is
+of_setting g (Server s) _ is has = absurd has
+of_setting g (Replica r) (name.Replica t) is has = subst (λ k. k < g.replicas) (sym has) is
+of_setting g (Replica r) _ is has = absurd has
+of_setting g (Joiner n) (name.Epoch s j) is has = let seat = seat_of (numbers_of g) n is.0 is.1 in (subst (λ k. k < 2) (sym has.0) seat.site_below, subst (λ k. k < g.joiners) (sym has.1) seat.place_below)
+of_setting g (Joiner n) (name.Output s j) is has = let seat = seat_of (numbers_of g) n is.0 is.1 in (subst (λ k. k < 2) (sym has.0) seat.site_below, subst (λ k. k < g.joiners) (sym has.1) seat.place_below)
+of_setting g (Joiner n) _ is has = absurd has
 
 -- no node has the topology's
-pub no_node : (joiners : ℕ) (n : Node) → IsDiskOf joiners n name.Topology → ⊥
-no_node joiners (Dispatcher s) has = has
-no_node joiners (Server s) has = has
-no_node joiners (Replica r) has = has
-no_node joiners (Joiner n) has = has
+pub no_node : (config : Config) (n : Node) → IsDiskOf config n name.Topology → ⊥
+no_node config (Dispatcher s) has = has
+no_node config (Server s) has = has
+no_node config (Replica r) has = has
+no_node config (Joiner n) has = has
 
 -- the disks of a node have its names
-pub names_of : {D : Type 0} (image : D → List ℕ → Type 0) (joiners : ℕ) (n : Node) (t : StateOf n) (lent : List (Lent D)) → HoldsAs image joiners n t lent → (l : Lent D) → Mem l lent → IsDiskOf joiners n l.name
-names_of {D} image joiners (Dispatcher s) t lent h l m =
-    let has = λ (x : Lent D). IsDiskOf joiners (Dispatcher s) x.name in each_at has lent (subst (Each has) (sym h.named) (refl, (refl, tt))) l m
-names_of {D} image joiners (Server s) t lent h l m =
-    let has = λ (x : Lent D). IsDiskOf joiners (Server s) x.name in each_at has lent (subst (Each has) (sym h.named) (omega arith, tt)) l m
-names_of {D} image joiners (Replica r) t lent h l m =
-    let has = λ (x : Lent D). IsDiskOf joiners (Replica r) x.name in each_at has lent (subst (Each has) (sym h.named) (omega arith, tt)) l m
-names_of {D} image joiners (Joiner n) t lent h l m =
-    let has = λ (x : Lent D). IsDiskOf joiners (Joiner n) x.name in each_at has lent (subst (Each has) (sym h.named) ((refl, refl), ((refl, refl), tt))) l m
+pub names_of : {D : Type 0} (image : D → List ℕ → Type 0) (config : Config) (n : Node) (t : StateOf n) (lent : List (Lent D)) → HoldsAs image config n t lent → (l : Lent D) → Mem l lent → IsDiskOf config n l.name
+names_of {D} image config (Dispatcher s) t lent h l m =
+    let has = λ (x : Lent D). IsDiskOf config (Dispatcher s) x.name in each_at has lent (subst (Each has) (sym h.named) (refl, (refl, tt))) l m
+names_of {D} image config (Server s) t lent h l m =
+    let has = λ (x : Lent D). IsDiskOf config (Server s) x.name in each_at has lent (subst (Each has) (sym h.named) (omega arith, tt)) l m
+names_of {D} image config (Replica r) t lent h l m =
+    let has = λ (x : Lent D). IsDiskOf config (Replica r) x.name in each_at has lent (subst (Each has) (sym h.named) (omega arith, tt)) l m
+names_of {D} image config (Joiner n) t lent h l m =
+    let has = λ (x : Lent D). IsDiskOf config (Joiner n) x.name in each_at has lent (subst (Each has) (sym h.named) ((refl, refl), ((refl, refl), tt))) l m

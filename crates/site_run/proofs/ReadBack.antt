@@ -1,7 +1,7 @@
 -- What is read back of the disks of nodes at rest is the nodes' records.
-use Rattle.std.proofs.Common.{◌≡◌, ℕ, suc, ◌+◌, ◌*◌, ◌<◌, List, [], ◌∷◌, ◌++◌, length, map, slice_index_or, Bool, false, cond, IsTrue, refl, sym, ap, ◌∙◌, subst, arith, lit<, lit≤}
+use Rattle.std.proofs.Common.{◌≡◌, ℕ, zero, suc, ◌+◌, ◌-◌, ◌*◌, ◌<◌, ◌≤◌, List, [], ◌∷◌, ◌++◌, length, map, slice_index_or, Bool, false, cond, IsTrue, Option, None, Some, refl, sym, ap, ◌∙◌, subst, arith, lit<, lit≤, append_assoc}
 use Rattle.std.specs.Prelude.{filter}
-use Rattle.site_run.proofs.Words.{All-nil, filter-append, DiskName, ReplicaNote, note_view, PairRec, KeepsPairs, IsPair, Node, Dispatcher, Server, Replica, Joiner, Setting, first_joiner, IsNode, node_number, BallotNote, ReplicaKept, notes_kept, journals_of, values_from, Disks, AreOf, Lent, KeepsNotes, StateOf, KeptOf, kept_of, all_from, EachWith, is_replica, is_output, each_with_append, Journals, notes_of, KeepsVotes, HoldsRecords, HoldSameRecords, ReadNotesAreKept, KeepsAs, AllKeep, lent_replicas, lent_outputs, AreKeptIn}
+use Rattle.site_run.proofs.Words.{All-nil, append-nil, filter-append, DiskName, ReplicaNote, note_view, PairRec, KeepsPairs, IsPair, Node, Dispatcher, Server, Replica, Joiner, Setting, first_joiner, IsNode, NumbersAreNodes, node_count, node_number, node_of, numbers_of, Config, BallotNote, ReplicaKept, notes_kept, journals_of, values_from, Disks, AreOf, Lent, KeepsNotes, StateOf, KeptOf, kept_of, all_from, EachWith, is_replica, is_output, each_with_append, Journals, notes_of, KeepsVotes, HoldsRecords, HoldSameRecords, ReadNotesAreKept, KeepsAs, AllKeep, lent_replicas, lent_outputs, AreKeptIn}
 use Rattle.outside.specs.declared.store.DiskName.TheVariants as name
 use Rattle.site_laws.specs.Stores.{Bytes}
 
@@ -93,20 +93,42 @@ module _ {D V : Type 0} (image : D → List ℕ → Type 0) (keeps : V → List 
         joined (disks_of i n) (all_from disks_of (suc i) ns) (values i) (all_from (λ j (m : N). values j) (suc i) ns) (each 0 i (omega arith) (omega arith) n)
         (from_number disks_of values (suc i) ns (λ k j within at a. each (suc k) j (omega (arith, within)) (omega (arith, at)) a))
 
--- none of each node, and one of each
-none_from : {N V : Type 0} (i : ℕ) (ns : List N) → all_from {X = V} (λ j _. []) i ns ≡ []
-none_from i [] = refl
-none_from i (n ∷ ns) = none_from (suc i) ns
+-- ---- lists of values, one for each number
 
-one_from : {N V : Type 0} (value : ℕ → V) (i : ℕ) (ns : List N) → all_from (λ j _. value j ∷ []) i ns ≡ values_from value i (length ns)
-one_from value i [] = refl
-one_from value i (n ∷ ns) = ap (λ vs. value i ∷ vs) (one_from value (suc i) ns)
+abbrev spread : {V : Type 0} → (ℕ → List V) → ℕ → ℕ → List V
+spread f i zero = []
+spread f i (suc n) = f i ++ spread f (suc i) n
+
+spread_all : {N V : Type 0} (f : ℕ → List V) (i : ℕ) (ns : List N) → all_from (λ j _. f j) i ns ≡ spread f i (length ns)
+spread_all f i [] = refl
+spread_all f i (n ∷ ns) = ap (λ vs. f i ++ vs) (spread_all f (suc i) ns)
+
+spread_split : {V : Type 0} (f : ℕ → List V) (m n i total next : ℕ) → total ≡ m + n → next ≡ i + m → spread f i total ≡ spread f i m ++ spread f next n
+spread_split f zero n i total next all to =
+    let same : total ≡ n = omega (arith, all) in
+    let here : i ≡ next = omega (arith, to) in
+    ap (spread f i) same ∙ ap (λ k. spread f k n) here
+spread_split f (suc m) n i zero next all to = absurd (omega (arith, all))
+spread_split f (suc m) n i (suc total) next all to =
+    ap (λ vs. f i ++ vs) (spread_split f m n (suc i) total next (omega (arith, all)) (omega (arith, to))) ∙ sym (append_assoc (f i) (spread f (suc i) m) (spread f next n))
+
+-- none of each number, and one of each
+spread_none : {V : Type 0} (f : ℕ → List V) (n i : ℕ) → ((j : ℕ) → i ≤ j → j < i + n → f j ≡ []) → spread f i n ≡ []
+spread_none f zero i none = refl
+spread_none f (suc n) i none =
+    ap (λ vs. vs ++ spread f (suc i) n) (none i (omega arith) (omega arith)) ∙ spread_none f n (suc i) (λ j low high. none j (omega (arith, low)) (omega (arith, high)))
+
+spread_ones : {V : Type 0} (f : ℕ → List V) (v : ℕ → V) (n i h : ℕ) → ((j k l : ℕ) → k < n → j ≡ i + k → l ≡ h + k → f j ≡ v l ∷ []) → spread f i n ≡ values_from v h n
+spread_ones f v zero i h one = refl
+spread_ones f v (suc n) i h one =
+    ap (λ vs. vs ++ spread f (suc i) n) (one i 0 h (omega arith) (omega arith) (omega arith))
+    ∙ ap (λ vs. v h ∷ vs) (spread_ones f v n (suc i) (suc h) (λ j k l below at to. one j (suc k) l (omega (arith, below)) (omega (arith, at)) (omega (arith, to))))
 
 -- ---- the nodes of a setting
 
-module _ {N D V : Type 0} (image : D → List ℕ → Type 0) (disks_of : ℕ → N → List (Lent D)) (g : Setting) (at : (n : Node) → StateOf n) (d : Disks) (same : (n : Node) → IsNode g n → kept_of d n ≡ (at n).kept)
+module _ {N D V : Type 0} (image : D → List ℕ → Type 0) (disks_of : ℕ → N → List (Lent D)) (g : Setting) (numbers : NumbersAreNodes g) (at : (n : Node) → StateOf n) (d : Disks) (same : (n : Node) → IsNode g n → kept_of d n ≡ (at n).kept)
     (keeps : V → List ℕ → Type 0) (p : DiskName → Bool) (values : (n : Node) → KeptOf n → List V)
-    (of_node : (n : Node) (t : StateOf n) (lent : List (Lent D)) → KeepsAs image g.joiners n t lent → KeepValues image keeps (chosen image keeps p lent) (values n t.kept)) where
+    (of_node : (n : Node) (t : StateOf n) (lent : List (Lent D)) → KeepsAs image (numbers_of g) n t lent → KeepValues image keeps (chosen image keeps p lent) (values n t.kept)) where
   abbrev its_values : Node → List V
   its_values n = values n (kept_of d n)
 
@@ -117,66 +139,37 @@ module _ {N D V : Type 0} (image : D → List ℕ → Type 0) (disks_of : ℕ �
       let lent = disks_of (node_number n) (slice_index_or nodes (node_number n) a) in
       subst (λ k. KeepValues image keeps (chosen image keeps p lent) (values n k)) (sym (same n is)) (of_node n (at n) lent (all.each n is a))
 
-  -- the values of all nodes, the joiners of which are these
-  abbrev all_values : List N → List V
-  all_values js =
-      its_values (Dispatcher 0) ++ (its_values (Dispatcher 1) ++ (its_values (Server 0) ++ (its_values (Server 1) ++ (its_values (Replica 0) ++ (its_values (Replica 1) ++ (its_values (Replica 2) ++ all_from (λ j _. its_values (Joiner j)) 7 js))))))
+  -- the values of the node of a number
+  abbrev by_node : Option Node → List V
+  by_node None = []
+  by_node (Some n) = its_values n
 
-  -- the disks of one more node in front
-  in_front : (i : ℕ) (n : N) (ns : List N) (as_ bs : List V) → KeepValues image keeps (chosen image keeps p (disks_of i n)) as_ → KeepValues image keeps (chosen image keeps p (all_from disks_of (suc i) ns)) bs
-      → KeepValues image keeps (chosen image keeps p (all_from disks_of i (n ∷ ns))) (as_ ++ bs)
-  in_front i n ns as_ bs a b = joined image keeps p (disks_of i n) (all_from disks_of (suc i) ns) as_ bs a b
+  abbrev values_at : ℕ → List V
+  values_at i = by_node (node_of g i)
 
-  module _ (n0 n1 n2 n3 n4 n5 n6 : N) (js : List N) (all : AllKeep image disks_of g at (n0 ∷ n1 ∷ n2 ∷ n3 ∷ n4 ∷ n5 ∷ n6 ∷ js)) (count : length js ≡ 2 * g.joiners) where
-    abbrev whole : List N
-    whole = n0 ∷ n1 ∷ n2 ∷ n3 ∷ n4 ∷ n5 ∷ n6 ∷ js
+  values_of : (n : Node) → IsNode g n → values_at (node_number n) ≡ its_values n
+  values_of n is = ap by_node (numbers.of_number n is)
 
-    -- a joiner at its place behind the first seven
-    of_joiner_at : (k j : ℕ) → k < length js → j ≡ 7 + k → (a : N) → KeepValues image keeps (chosen image keeps p (disks_of j (slice_index_or js k a))) (its_values (Joiner j))
-    of_joiner_at k j within number a =
-        let three = all.replicas in
-        let place : j ≡ suc (suc (suc (suc (suc (suc (suc k)))))) = omega (arith, number) in
-        subst (λ m. KeepValues image keeps (chosen image keeps p (disks_of j (slice_index_or whole m a))) (its_values (Joiner j))) place
-        (of_one whole all (Joiner j) (omega (arith, number, three), omega (arith, number, three, within, count)) a)
+  -- the values of all nodes: of the sites', of the replicas, and of the joiners
+  abbrev all_values : List V
+  all_values = (spread values_at 0 4 ++ spread values_at 4 g.replicas) ++ spread values_at (first_joiner g) (2 * g.joiners)
 
-    of_joiners : KeepValues image keeps (chosen image keeps p (all_from disks_of 7 js)) (all_from (λ j _. its_values (Joiner j)) 7 js)
-    of_joiners = from_number image keeps p disks_of (λ j. its_values (Joiner j)) 7 js of_joiner_at
+  in_parts : spread values_at 0 (node_count g) ≡ all_values
+  in_parts =
+      spread_split values_at (first_joiner g) (2 * g.joiners) 0 (node_count g) (first_joiner g) refl (omega arith)
+      ∙ ap (λ vs. vs ++ spread values_at (first_joiner g) (2 * g.joiners)) (spread_split values_at 4 g.replicas 0 (first_joiner g) 4 refl refl)
 
-    of_replica : (r : ℕ) → r < 3 → (a : N) → KeepValues image keeps (chosen image keeps p (disks_of (4 + r) (slice_index_or whole (4 + r) a))) (its_values (Replica r))
-    of_replica r below a = let three = all.replicas in of_one whole all (Replica r) (omega (arith, three, below)) a
-
-    of_whole : KeepValues image keeps (chosen image keeps p (all_from disks_of 0 whole)) (all_values js)
-    of_whole =
-        in_front 0 n0 (n1 ∷ n2 ∷ n3 ∷ n4 ∷ n5 ∷ n6 ∷ js) _ _ (of_one whole all (Dispatcher 0) (lit< tt) n0)
-        (in_front 1 n1 (n2 ∷ n3 ∷ n4 ∷ n5 ∷ n6 ∷ js) _ _ (of_one whole all (Dispatcher 1) (lit< tt) n0)
-        (in_front 2 n2 (n3 ∷ n4 ∷ n5 ∷ n6 ∷ js) _ _ (of_one whole all (Server 0) (lit< tt) n0)
-        (in_front 3 n3 (n4 ∷ n5 ∷ n6 ∷ js) _ _ (of_one whole all (Server 1) (lit< tt) n0)
-        (in_front 4 n4 (n5 ∷ n6 ∷ js) _ _ (of_replica 0 (lit< tt) n0)
-        (in_front 5 n5 (n6 ∷ js) _ _ (of_replica 1 (lit< tt) n0)
-        (in_front 6 n6 js _ _ (of_replica 2 (lit< tt) n0)
-        of_joiners))))))
-
-  -- the nodes behind the first seven
-  record Parted (nodes : List N) : Type 0 where
-    js : List N
-    count : length js ≡ 2 * g.joiners
-    keep : KeepValues image keeps (chosen image keeps p (all_from disks_of 0 nodes)) (all_values js)
-
-  -- a list of so many nodes is taken apart
-  parted : (nodes : List N) → AllKeep image disks_of g at nodes → length nodes ≡ 7 + 2 * g.joiners → Parted nodes
-  parted [] all count = absurd (omega (arith, count))
-  parted (n0 ∷ []) all count = absurd (omega (arith, count))
-  parted (n0 ∷ n1 ∷ []) all count = absurd (omega (arith, count))
-  parted (n0 ∷ n1 ∷ n2 ∷ []) all count = absurd (omega (arith, count))
-  parted (n0 ∷ n1 ∷ n2 ∷ n3 ∷ []) all count = absurd (omega (arith, count))
-  parted (n0 ∷ n1 ∷ n2 ∷ n3 ∷ n4 ∷ []) all count = absurd (omega (arith, count))
-  parted (n0 ∷ n1 ∷ n2 ∷ n3 ∷ n4 ∷ n5 ∷ []) all count = absurd (omega (arith, count))
-  parted (n0 ∷ n1 ∷ n2 ∷ n3 ∷ n4 ∷ n5 ∷ n6 ∷ js) all count =
-      let rest : length js ≡ 2 * g.joiners = omega (arith, count) in
-      record { js = js; count = rest; keep = of_whole n0 n1 n2 n3 n4 n5 n6 js all rest }
-
-  count_of : (nodes : List N) → AllKeep image disks_of g at nodes → length nodes ≡ 7 + 2 * g.joiners
-  count_of nodes all = let three = all.replicas in let count = all.count in omega (arith, three, count)
+  of_all : (nodes : List N) → AllKeep image disks_of g at nodes → KeepValues image keeps (chosen image keeps p (all_from disks_of 0 nodes)) all_values
+  of_all nodes all =
+      subst (KeepValues image keeps (chosen image keeps p (all_from disks_of 0 nodes))) (spread_all values_at 0 nodes ∙ ap (spread values_at 0) all.count ∙ in_parts)
+      (from_number image keeps p disks_of values_at 0 nodes
+      (λ k j within number a.
+      let n = numbers.each k (omega (arith, within, all.count)) in
+      let back = numbers.back k n.0 n.1 in
+      let same : k ≡ j = omega (arith, number) in
+      let own = subst (KeepValues image keeps (chosen image keeps p (disks_of (node_number n.0) (slice_index_or nodes (node_number n.0) a)))) (sym (values_of n.0 back.1)) (of_one nodes all n.0 back.1 a) in
+      subst (λ m. KeepValues image keeps (chosen image keeps p (disks_of m (slice_index_or nodes k a))) (values_at m)) same
+      (subst (λ m. KeepValues image keeps (chosen image keeps p (disks_of m (slice_index_or nodes m a))) (values_at m)) back.0 own)))
 
   -- a disk in front whose name isn't chosen
   with_front : (topology : Lent D) (disks : List (Lent D)) (vs : List V) → p topology.name ≡ false → KeepValues image keeps (chosen image keeps p disks) vs → KeepValues image keeps (chosen image keeps p (topology ∷ disks)) vs
@@ -185,11 +178,9 @@ module _ {N D V : Type 0} (image : D → List ℕ → Type 0) (disks_of : ℕ �
   -- so what all are read as are the values of all nodes
   all_read : {W : Type 0} (tells : Bool) → IsTrue tells → (reads : List W → List ℕ → Type 0) (view : List W → V) → ((ws : List W) (v : V) (c : List ℕ) → reads ws c → keeps v c → view ws ≡ v)
       → (nodes : List N) (topology : Lent D) (lists : List (List W)) → AllKeep image disks_of g at nodes → p topology.name ≡ false → AreKeptIn tells image reads (chosen image keeps p (topology ∷ all_from disks_of 0 nodes)) lists
-      → (js : List N) × (length js ≡ 2 * g.joiners) × (map view lists ≡ all_values js)
+      → map view lists ≡ all_values
   all_read tells on reads view one nodes topology lists all not_chosen read =
-      let parts = parted nodes all (count_of nodes all) in
-      let keep = with_front topology (all_from disks_of 0 nodes) (all_values parts.js) not_chosen parts.keep in
-      (parts.js, parts.count, read_as image keeps tells on reads view one (chosen image keeps p (topology ∷ all_from disks_of 0 nodes)) (all_values parts.js) lists keep read)
+      read_as image keeps tells on reads view one (chosen image keeps p (topology ∷ all_from disks_of 0 nodes)) all_values lists (with_front topology (all_from disks_of 0 nodes) all_values not_chosen (of_all nodes all)) read
 
 -- ---- the notes and the pairs of a node
 
@@ -208,20 +199,20 @@ its_pairs (Server s) k = []
 its_pairs (Replica r) k = []
 its_pairs (Joiner j) k = k.pairs ∷ []
 
-module _ {D : Type 0} (image : D → List ℕ → Type 0) (joiners : ℕ) where
+module _ {D : Type 0} (image : D → List ℕ → Type 0) (config : Config) where
   abbrev HaveNotes : List (List BallotNote) → List (Lent D) → Type 0
   HaveNotes values lent = KeepValues image KeepsNoteList (chosen image KeepsNoteList is_replica lent) values
 
   abbrev HavePairs : List (List PairRec) → List (Lent D) → Type 0
   HavePairs values lent = KeepValues image KeepsPairs (chosen image KeepsPairs is_output lent) values
 
-  notes_in : (n : Node) (t : StateOf n) (lent : List (Lent D)) → KeepsAs image joiners n t lent → HaveNotes (its_notes n t.kept) lent
+  notes_in : (n : Node) (t : StateOf n) (lent : List (Lent D)) → KeepsAs image config n t lent → HaveNotes (its_notes n t.kept) lent
   notes_in (Dispatcher s) t lent h = subst (HaveNotes []) (sym h.named) tt
   notes_in (Server s) t lent h = subst (HaveNotes []) (sym h.named) tt
   notes_in (Replica r) t lent h = subst (HaveNotes (t.kept.notes ∷ [])) (sym h.named) (h.votes, tt)
   notes_in (Joiner j) t lent h = subst (HaveNotes []) (sym h.named) tt
 
-  pairs_in : (n : Node) (t : StateOf n) (lent : List (Lent D)) → KeepsAs image joiners n t lent → HavePairs (its_pairs n t.kept) lent
+  pairs_in : (n : Node) (t : StateOf n) (lent : List (Lent D)) → KeepsAs image config n t lent → HavePairs (its_pairs n t.kept) lent
   pairs_in (Dispatcher s) t lent h = subst (HavePairs []) (sym h.named) tt
   pairs_in (Server s) t lent h = subst (HavePairs []) (sym h.named) tt
   pairs_in (Replica r) t lent h = subst (HavePairs []) (sym h.named) tt
@@ -233,27 +224,41 @@ map_same (x ∷ xs) = ap (λ ys. x ∷ ys) (map_same xs)
 
 -- ---- what is read back
 
-module _ {N D : Type 0} (image : D → List ℕ → Type 0) (disks_of : ℕ → N → List (Lent D)) (g : Setting) (at : (n : Node) → StateOf n) (nodes : List N) (topology : Lent D) (tells : Bool) (journals : Journals)
+module _ {N D : Type 0} (image : D → List ℕ → Type 0) (disks_of : ℕ → N → List (Lent D)) (g : Setting) (numbers : NumbersAreNodes g) (at : (n : Node) → StateOf n) (nodes : List N) (topology : Lent D) (tells : Bool) (journals : Journals)
     (once : HoldSameRecords) (read : ReadNotesAreKept) (all : AllKeep image disks_of g at nodes) (named : topology.name ≡ name.Topology) (d : Disks) (same : (n : Node) → IsNode g n → kept_of d n ≡ (at n).kept) (on : IsTrue tells) where
+  abbrev notes_at : ℕ → List (List BallotNote)
+  notes_at = values_at image disks_of g numbers at d same KeepsNoteList is_replica its_notes (notes_in image (numbers_of g))
+
+  notes_of_node : (n : Node) → IsNode g n → notes_at (node_number n) ≡ its_notes n (kept_of d n)
+  notes_of_node = values_of image disks_of g numbers at d same KeepsNoteList is_replica its_notes (notes_in image (numbers_of g))
+
   notes_are : AreKeptIn tells image KeepsNotes (lent_replicas (topology ∷ all_from disks_of 0 nodes)) journals.notes.items → notes_of journals ≡ journals_of g.replicas d.replicas
   notes_are kept =
-      let r =
-      all_read image disks_of g at d same KeepsNoteList is_replica its_notes (notes_in image g.joiners) tells on KeepsNotes (map note_view) (one_notes once g read) nodes topology journals.notes.items all (ap is_replica named) kept
-      in
-      r.2 ∙ ap (λ vs. (d.replicas 0).notes ∷ (d.replicas 1).notes ∷ (d.replicas 2).notes ∷ vs) (none_from 7 r.0) ∙ ap (λ n. journals_of n d.replicas) (sym all.replicas)
+      all_read image disks_of g numbers at d same KeepsNoteList is_replica its_notes (notes_in image (numbers_of g)) tells on KeepsNotes (map note_view) (one_notes once g read) nodes topology journals.notes.items all (ap is_replica named) kept
+      ∙ ap (λ vs. vs ++ spread notes_at (first_joiner g) (2 * g.joiners))
+      (spread_ones notes_at (λ r. (d.replicas r).notes) g.replicas 4 0 (λ j r l below at_ to. ap notes_at at_ ∙ notes_of_node (Replica r) below ∙ ap (λ m. (d.replicas m).notes ∷ []) (let here : r ≡ l = omega (arith, to) in here)))
+      ∙ ap (λ vs. journals_of g.replicas d.replicas ++ vs) (spread_none notes_at (2 * g.joiners) (first_joiner g) (λ j low high. notes_of_node (Joiner j) (low, high)))
+      ∙ append-nil (journals_of g.replicas d.replicas)
+
+  abbrev pairs_at : ℕ → List (List PairRec)
+  pairs_at = values_at image disks_of g numbers at d same KeepsPairs is_output its_pairs (pairs_in image (numbers_of g))
+
+  pairs_of_node : (n : Node) → IsNode g n → pairs_at (node_number n) ≡ its_pairs n (kept_of d n)
+  pairs_of_node = values_of image disks_of g numbers at d same KeepsPairs is_output its_pairs (pairs_in image (numbers_of g))
 
   pairs_are : AreKeptIn tells image KeepsPairs (lent_outputs (topology ∷ all_from disks_of 0 nodes)) journals.pairs.items → journals.pairs.items ≡ values_from (λ j. (d.joiners j).pairs) (first_joiner g) (2 * g.joiners)
   pairs_are kept =
-      let r =
-      all_read image disks_of g at d same KeepsPairs is_output its_pairs (pairs_in image g.joiners) tells on KeepsPairs (λ ps. ps) (one_pairs once g) nodes topology journals.pairs.items all (ap is_output named) kept
-      in
-      let three = all.replicas in
-      let first : 7 ≡ first_joiner g = omega (arith, three) in
-      let pairs_at : ℕ → List PairRec = λ j. (d.joiners j).pairs in
-      sym (map_same journals.pairs.items) ∙ r.2 ∙ one_from pairs_at 7 r.0 ∙ ap (values_from pairs_at 7) r.1 ∙ ap (λ i. values_from pairs_at i (2 * g.joiners)) first
+      sym (map_same journals.pairs.items)
+      ∙ all_read image disks_of g numbers at d same KeepsPairs is_output its_pairs (pairs_in image (numbers_of g)) tells on KeepsPairs (λ ps. ps) (one_pairs once g) nodes topology journals.pairs.items all (ap is_output named) kept
+      ∙ ap (λ vs. vs ++ spread pairs_at (first_joiner g) (2 * g.joiners))
+      (spread_none pairs_at g.replicas 4 (λ j low high. let at_ : j ≡ 4 + (j - 4) = omega (arith, low) in ap pairs_at at_ ∙ pairs_of_node (Replica (j - 4)) (omega (arith, low, high))))
+      ∙ spread_ones pairs_at (λ j. (d.joiners j).pairs) (2 * g.joiners) (first_joiner g) (first_joiner g)
+      (λ j k l below at_ to.
+      let same : j ≡ l = at_ ∙ sym to in
+      pairs_of_node (Joiner j) (omega (arith, at_), omega (arith, at_, below)) ∙ ap (λ m. (d.joiners m).pairs ∷ []) same)
 
 -- what is read back of the disks of all nodes at rest are the records that the nodes keep
-pub read_is : {N D : Type 0} (image : D → List ℕ → Type 0) (disks_of : ℕ → N → List (Lent D)) (g : Setting) (at : (n : Node) → StateOf n) (nodes : List N) (topology : Lent D) (tells : Bool) (journals : Journals)
+pub read_is : {N D : Type 0} (image : D → List ℕ → Type 0) (disks_of : ℕ → N → List (Lent D)) (g : Setting) (numbers : NumbersAreNodes g) (at : (n : Node) → StateOf n) (nodes : List N) (topology : Lent D) (tells : Bool) (journals : Journals)
     → HoldSameRecords → ReadNotesAreKept
     → AllKeep image disks_of g at nodes → topology.name ≡ name.Topology
     → (d : Disks) → ((n : Node) → IsNode g n → kept_of d n ≡ (at n).kept)
@@ -261,5 +266,5 @@ pub read_is : {N D : Type 0} (image : D → List ℕ → Type 0) (disks_of : ℕ
     → AreKeptIn tells image KeepsNotes (lent_replicas (topology ∷ all_from disks_of 0 nodes)) journals.notes.items
     → AreKeptIn tells image KeepsPairs (lent_outputs (topology ∷ all_from disks_of 0 nodes)) journals.pairs.items
     → AreOf g d journals
-read_is image disks_of g at nodes topology tells journals once read all named d same on notes pairs =
-    record { notes = notes_are image disks_of g at nodes topology tells journals once read all named d same on notes; pairs = pairs_are image disks_of g at nodes topology tells journals once read all named d same on pairs }
+read_is image disks_of g numbers at nodes topology tells journals once read all named d same on notes pairs =
+    record { notes = notes_are image disks_of g numbers at nodes topology tells journals once read all named d same on notes; pairs = pairs_are image disks_of g numbers at nodes topology tells journals once read all named d same on pairs }

@@ -1,22 +1,21 @@
 -- What nodes at rest keep, by the name of each disk, and what is read back of it.
 use Rattle.std.proofs.Common.{◌≡◌, inl, ℕ, ◌<◌, List, ◌∷◌, slice_index_or, refl, sym, subst}
-use Rattle.site_run.proofs.Words.{DiskName, Node, Dispatcher, Server, Replica, Joiner, Setting, IsNode, NumbersAreNodes, node_number, DispatcherKept, JoinerKept, ServerKept, ReplicaKept, KeepsOffset, KeepsPending, KeepsEpoch, KeepsPairs, Disks, Lent, IsOfOne, StateOf, kept_of, all_from, IsDisk, KeepsOf, KeepsVotes, joiner_of, is_joiner, HoldsAs, AllHold, KeepsAs, AllKeep}
+use Rattle.site_run.proofs.Words.{DiskName, Node, Dispatcher, Server, Replica, Joiner, Setting, IsNode, NumbersAreNodes, node_number, DispatcherKept, JoinerKept, ServerKept, ReplicaKept, KeepsOffset, KeepsPending, KeepsEpoch, KeepsPairs, Disks, Lent, IsOfOne, StateOf, kept_of, all_from, IsDisk, KeepsOf, KeepsVotes, joiner_of, is_joiner, HoldsAs, AllHold, KeepsAs, AllKeep, Config, numbers_of}
 use Rattle.outside.specs.declared.store.DiskName.TheVariants as name
 use Rattle.site_run.proofs.Keeping.{found, first_image, second_image, only_image, a_node}
 
 -- what keeps its records holds what its state says
-keeps_hold : {D : Type 0} (image : D → List ℕ → Type 0) (joiners : ℕ) (n : Node) (t : StateOf n) (lent : List (Lent D)) → KeepsAs image joiners n t lent → HoldsAs image joiners n t lent
-keeps_hold image joiners (Dispatcher s) t lent k = record { offset = k.offset; retry = k.retry; named = k.named; keeps = λ o r oh rh. (t.kept, inl refl, k.offsets o oh, k.pending r rh) }
-keeps_hold image joiners (Server s) t lent k = record { disk = k.disk; named = k.named; keeps = λ c h. (t.kept, inl refl, k.epochs c h) }
-keeps_hold image joiners (Replica r) t lent k = record { disk = k.disk; named = k.named; keeps = λ c h. (t.kept, inl refl, k.votes c h) }
-keeps_hold image joiners (Joiner j) t lent k = record { epochs = k.epochs; outputs = k.outputs; named = k.named; keeps = λ e o eh oh. (t.kept, inl refl, k.epoch e eh, k.pairs o oh) }
+keeps_hold : {D : Type 0} (image : D → List ℕ → Type 0) (config : Config) (n : Node) (t : StateOf n) (lent : List (Lent D)) → KeepsAs image config n t lent → HoldsAs image config n t lent
+keeps_hold image config (Dispatcher s) t lent k = record { offset = k.offset; retry = k.retry; named = k.named; keeps = λ o r oh rh. (t.kept, inl refl, k.offsets o oh, k.pending r rh) }
+keeps_hold image config (Server s) t lent k = record { disk = k.disk; named = k.named; keeps = λ c h. (t.kept, inl refl, k.epochs c h) }
+keeps_hold image config (Replica r) t lent k = record { disk = k.disk; named = k.named; keeps = λ c h. (t.kept, inl refl, k.votes c h) }
+keeps_hold image config (Joiner j) t lent k = record { epochs = k.epochs; outputs = k.outputs; named = k.named; keeps = λ e o eh oh. (t.kept, inl refl, k.epoch e eh, k.pairs o oh) }
 
 module _ {N D : Type 0} (image : D → List ℕ → Type 0) (disks_of : ℕ → N → List (Lent D)) (g : Setting) (at : (n : Node) → StateOf n) (nodes : List N) where
   pub all_hold : AllKeep image disks_of g at nodes → AllHold image disks_of g at nodes
   all_hold all = record {
-    replicas = all.replicas;
     count = all.count;
-    each = λ n is a. keeps_hold image g.joiners n (at n) (disks_of (node_number n) (slice_index_or nodes (node_number n) a)) (all.each n is a);
+    each = λ n is a. keeps_hold image (numbers_of g) n (at n) (disks_of (node_number n) (slice_index_or nodes (node_number n) a)) (all.each n is a);
   }
 
   module _ (topology : Lent D) (numbers : NumbersAreNodes g) (all : AllKeep image disks_of g at nodes) (named : topology.name ≡ name.Topology)

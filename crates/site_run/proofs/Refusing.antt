@@ -1,7 +1,7 @@
 -- Why a run over a store gives up, from what opening it tells and what a run of its nodes does.
 use Rattle.std.specs.Prelude.{IsTrue, IsSomeAnd, Result, Ok, Err, OnOk, IfErr, ⊤}
 use Rattle.std.proofs.Common.{◌≡◌, ◌≢◌, inl, inr, ⊎_elim, ℕ, ◌+◌, ◌-◌, ◌≤◌, ◌<◌, ◌==◌, if◌then◌else◌, List, [], ◌∷◌, map, Bool, true, false, Option, Some, None, refl, sym, ◌∙◌, ap, subst, arith}
-use Rattle.site_run.proofs.Words.{eq-eqb, le-ltb, lt-ltb, Each, Mem, each_at, BusEntry, DiskName, StoreFault, Topology, end_from, Dispatcher, Server, Replica, Joiner, Node, IsNode, node_number, Setting, IsLogOf, Disks, RunFault, Misplaced, IsCounted, IsWelcome, of_place, limit_at, limit_in, IsKeptIn, IsJournalOf, other_names, Images, IsDisk, joiner_of, place_at, site_of, IsAsked, EpochIs, KeepsEpoch, KeptDisk, KeptEpoch, KeptValues, Says, AreRecordsOf, all_named, at_name, was_journal, AreTold, ArePassed, HasCause, HasFailed, PassesFor, IsCause, IsUnread, cause_more, failed_rose, passed_more, unread_rose, asked_of, HasPassed, IsCauseOf, IsLate, IsNearLast, IsOfRun, IsSpent, KeptAreJournals, RunLog, TellsPlaces, epochs_of}
+use Rattle.site_run.proofs.Words.{eq-eqb, le-ltb, lt-ltb, Each, Mem, each_at, BusEntry, DiskName, StoreFault, Topology, end_from, Dispatcher, Server, Replica, Joiner, Node, IsNode, node_number, Setting, IsLogOf, Disks, RunFault, Misplaced, IsCounted, IsWelcome, of_place, limit_at, limit_in, IsKeptIn, IsJournalOf, other_names, Images, IsDisk, joiner_of, place_at, site_of, IsAsked, EpochIs, KeepsEpoch, KeptDisk, KeptEpoch, KeptValues, Says, AreRecordsOf, all_named, at_name, was_journal, AreTold, ArePassed, HasCause, HasFailed, PassesFor, IsCause, IsUnread, cause_more, failed_rose, passed_more, unread_rose, asked_of, HasPassed, IsCauseOf, IsLate, IsNearLast, IsOfRun, IsSpent, KeptAreJournals, RunLog, TellsPlaces, epochs_of, Config, numbers_of}
 use Rattle.outside.specs.declared.store.DiskName.TheVariants as name
 use Rattle.outside.specs.declared.faults.StoreFault.TheVariants as store
 use Rattle.run_fault.specs.declared.fault.StorePlace.TheVariants as place
@@ -81,15 +81,15 @@ not_last : (n : DiskName) (epoch : ℕ) → limit_at n (EpochIs epoch) ≡ None 
 not_last n epoch none last = absurd (cc (sym (eq-eqb epoch 4294967294 last) ∙ (rest_none (epoch == 4294967294) (fault.Limit n 4294967294) None none).0))
 
 -- the disk of a node's epochs
-epochs_of_server : (joiners s : ℕ) → s < 2 → epochs_of joiners (2 + s) ≡ name.Server s
-epochs_of_server joiners s few =
+epochs_of_server : (k : Config) (s : ℕ) → s < 2 → epochs_of k (2 + s) ≡ name.Server s
+epochs_of_server k s few =
     let at : 2 + s - 2 ≡ s = omega arith in
-    ap (λ (b : Bool). if b then name.Server (2 + s - 2) else name.Epoch (site_of joiners (2 + s)) (place_at joiners (2 + s))) (lt-ltb (2 + s) 7 (omega (arith, few))) ∙ ap name.Server at
+    ap (λ (b : Bool). if b then name.Server (2 + s - 2) else name.Epoch (site_of k (2 + s)) (place_at k (2 + s))) (lt-ltb (2 + s) (4 + k.replicas) (omega (arith, few))) ∙ ap name.Server at
 
-epochs_of_joiner : (joiners j : ℕ) → 7 ≤ j → epochs_of joiners j ≡ name.Epoch (site_of joiners j) (place_at joiners j)
-epochs_of_joiner joiners j many = ap (λ (b : Bool). if b then name.Server (j - 2) else name.Epoch (site_of joiners j) (place_at joiners j)) (le-ltb j 7 many)
+epochs_of_joiner : (k : Config) (j : ℕ) → 4 + k.replicas ≤ j → epochs_of k j ≡ name.Epoch (site_of k j) (place_at k j)
+epochs_of_joiner k j many = ap (λ (b : Bool). if b then name.Server (j - 2) else name.Epoch (site_of k j) (place_at k j)) (le-ltb j (4 + k.replicas) many)
 
-module _ (g : Setting) (before : Images) (three : g.replicas ≡ 3) (disks : List KeptDisk) (limits : limit_in disks ≡ None) (kept : Each (IsKept before) disks) (d : Disks) (records : AreRecordsOf g disks d)
+module _ (g : Setting) (before : Images) (disks : List KeptDisk) (limits : limit_in disks ≡ None) (kept : Each (IsKept before) disks) (d : Disks) (records : AreRecordsOf g disks d)
     (named : map (λ (k : KeptDisk). k.name) disks ≡ other_names g.joiners g.replicas) where
   -- a disk that kept an epoch kept none that is the last one
   abbrev KeptLess : DiskName → ℕ → Type 0
@@ -103,16 +103,16 @@ module _ (g : Setting) (before : Images) (three : g.replicas ≡ 3) (disks : Lis
         subst (λ (m : DiskName). IsKeptIn (before m) (KeepsEpoch epoch)) o.2 (subst (λ k. IsKeptIn (before o.0.name) (KeepsAs k)) is (each_at (IsKept before) disks kept o.0 o.1)),
       )
 
-  of_node : (n : Node) (epoch : ℕ) → IsNode g n → KeptEpoch d n epoch → KeptLess (epochs_of g.joiners (node_number n)) epoch
+  of_node : (n : Node) (epoch : ℕ) → IsNode g n → KeptEpoch d n epoch → KeptLess (epochs_of (numbers_of g) (node_number n)) epoch
   of_node (Dispatcher s) epoch is had = absurd had
-  of_node (Server s) epoch is had = subst (λ m. KeptLess m epoch) (sym (epochs_of_server g.joiners s is)) (of_disk (name.Server s) epoch is (λ e. cc e) (λ k says. says ∙ ap EpochIs had))
+  of_node (Server s) epoch is had = subst (λ m. KeptLess m epoch) (sym (epochs_of_server (numbers_of g) s is)) (of_disk (name.Server s) epoch is (λ e. cc e) (λ k says. says ∙ ap EpochIs had))
   of_node (Replica r) epoch is had = absurd had
   of_node (Joiner j) epoch is had =
-      let site = site_of g.joiners j in
-      let seat = place_at g.joiners j in
-      let number : joiner_of g site seat ≡ j = cc (owner g three (Joiner j) (name.Epoch site seat) is (refl, refl)) in
-      subst (λ m. KeptLess m epoch) (sym (epochs_of_joiner g.joiners j (omega (arith, is.0, three))))
-      (of_disk (name.Epoch site seat) epoch (of_setting g three (Joiner j) (name.Epoch site seat) is (refl, refl)) (λ e. cc e) (λ k says. says ∙ ap EpochIs (ap (λ m. (d.joiners m).epoch) number ∙ had)))
+      let site = site_of (numbers_of g) j in
+      let seat = place_at (numbers_of g) j in
+      let number : joiner_of g site seat ≡ j = cc (owner g (Joiner j) (name.Epoch site seat) is (refl, refl)) in
+      subst (λ m. KeptLess m epoch) (sym (epochs_of_joiner (numbers_of g) j is.0))
+      (of_disk (name.Epoch site seat) epoch (of_setting g (Joiner j) (name.Epoch site seat) is (refl, refl)) (λ e. cc e) (λ k says. says ∙ ap EpochIs (ap (λ m. (d.joiners m).epoch) number ∙ had)))
 
   -- so a node that came to it has met a fault, and its disk kept one near it
   late : (h : List BusEntry) (rose faulted : Type 0) → (rose → faulted) → (disk : DiskName) (epoch : ℕ) → IsSpent g h d rose disk epoch → (faulted × IsNearLast g before disk) × (epoch ≡ 4294967294)

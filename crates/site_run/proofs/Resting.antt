@@ -75,22 +75,22 @@ module _ {D A B C E : Type 0} (image : D → List ℕ → Type 0) (offset retry 
     pub joiners : (v : E) (s : JoinerState) → e_stands v s → s.node.opened ≡ None
         → ((c : List ℕ) → image (epochs v) c → KeepsEpoch s.node.kept.epoch c) × ((c : List ℕ) → image (outputs v) c → KeepsPairs s.node.kept.pairs c)
 
-  pub keeps_as : Rests → (joiners : ℕ) (n : Node) (t : StateOf n) (v : Either (Either A B) (Either C E)) → IsClosed n t → stands v (any_of n t)
-      → KeepsAs image joiners n t (disks_by image offset retry server_disk replica_disk epochs outputs joiners (node_number n) v)
-  keeps_as rests joiners (Dispatcher s) t (node.First (node.First v)) closed at =
+  pub keeps_as : Rests → (config : Config) (n : Node) (t : StateOf n) (v : Either (Either A B) (Either C E)) → IsClosed n t → stands v (any_of n t)
+      → KeepsAs image config n t (disks_by image offset retry server_disk replica_disk epochs outputs config (node_number n) v)
+  keeps_as rests config (Dispatcher s) t (node.First (node.First v)) closed at =
       let kept = rests.dispatchers v (record { site = s; node = t }) at closed in
       record { offset = offset v; retry = retry v; named = refl; offsets = kept.0; pending = kept.1 }
-  keeps_as rests joiners (Dispatcher s) t (node.First (node.Second v)) closed at = absurd at
-  keeps_as rests joiners (Dispatcher s) t (node.Second v) closed at = absurd at
-  keeps_as rests joiners (Server s) t (node.First (node.First v)) closed at = absurd at
-  keeps_as rests joiners (Server s) t (node.First (node.Second v)) closed at = record { disk = server_disk v; named = refl; epochs = rests.servers v _ at closed }
-  keeps_as rests joiners (Server s) t (node.Second v) closed at = absurd at
-  keeps_as rests joiners (Replica r) t (node.First v) closed at = absurd at
-  keeps_as rests joiners (Replica r) t (node.Second (node.First v)) closed at = record { disk = replica_disk v; named = refl; votes = rests.replicas v t at closed }
-  keeps_as rests joiners (Replica r) t (node.Second (node.Second v)) closed at = absurd at
-  keeps_as rests joiners (Joiner j) t (node.First v) closed at = absurd at
-  keeps_as rests joiners (Joiner j) t (node.Second (node.First v)) closed at = absurd at
-  keeps_as rests joiners (Joiner j) t (node.Second (node.Second v)) closed at =
+  keeps_as rests config (Dispatcher s) t (node.First (node.Second v)) closed at = absurd at
+  keeps_as rests config (Dispatcher s) t (node.Second v) closed at = absurd at
+  keeps_as rests config (Server s) t (node.First (node.First v)) closed at = absurd at
+  keeps_as rests config (Server s) t (node.First (node.Second v)) closed at = record { disk = server_disk v; named = refl; epochs = rests.servers v _ at closed }
+  keeps_as rests config (Server s) t (node.Second v) closed at = absurd at
+  keeps_as rests config (Replica r) t (node.First v) closed at = absurd at
+  keeps_as rests config (Replica r) t (node.Second (node.First v)) closed at = record { disk = replica_disk v; named = refl; votes = rests.replicas v t at closed }
+  keeps_as rests config (Replica r) t (node.Second (node.Second v)) closed at = absurd at
+  keeps_as rests config (Joiner j) t (node.First v) closed at = absurd at
+  keeps_as rests config (Joiner j) t (node.Second (node.First v)) closed at = absurd at
+  keeps_as rests config (Joiner j) t (node.Second (node.Second v)) closed at =
       let kept = rests.joiners v (record { number = j; node = t }) at closed in
       record { epochs = epochs v; outputs = outputs v; named = refl; epoch = kept.0; pairs = kept.1 }
 

@@ -1,13 +1,14 @@
 -- From what a run leaves of each node to what it leaves of the store.
 use Rattle.std.specs.Prelude.{IsTrue, IsSome, option_map}
 use Rattle.std.proofs.Common.{◌≡◌, ◌≢◌, inr, ⊎_elim, ℕ, zero, suc, ◌+◌, ◌<◌, ◌≤◌, List, [], ◌∷◌, ◌++◌, length, map, slice_index_or, Bool, true, false, Option, None, Some, refl, sym, ap, ◌∙◌, subst, arith, length-append}
-use Rattle.site_run.proofs.Words.{list_any, recursion_from_All, Mem, Each, mem_left, mem_right, some_same, DiskName, BusEntry, Begin, End, Stop, Bytes, Busy, Node, Dispatcher, Server, Replica, Joiner, Setting, IsNode, NumbersAreNodes, node_number, node_count, phase_by, NodeFault, World, Disks, disks, world_after, opening, NoJoinerStops, AreOf, RunFault, damaged_by, IsJournalOf, undamaged, Lent, IsOfOne, MayBeLeft, GoesOn, StateOf, kept_of, cell_of, made_by, HasMet, IsCaused, is_stop, stop_count, AreCaused, HasFault, AnyState, any_of, any_phase, IsRunFrom, HaveGrown, ComesToLast, all_from, topology_of, Images, IsDisk, AreKept, KeepsOf, KeepsTopology, Journals, IsRosterOf, votes_are_notes, IsCounted, of_node, IsOfDisks, IsPastOpening, IsOfRun, IsSpent, RunLog, epochs_of, HoldsAs, HaveGoneOn, AllHold, AreHeld, AreMet, IsLeftBy, KeepsItsRecord, NoneStops, HasRun, HasRested, AreOut, IsClosed, KeepsAs, AllKeep, KeepsPairs, KeepsNotes, HoldSameRecords, ReadNotesAreKept, told_of, or_else, first_fault, lent_replicas, lent_outputs, AreKeptIn}
+use Rattle.site_run.proofs.Words.{list_any, recursion_from_All, Mem, Each, mem_left, mem_right, some_same, DiskName, BusEntry, Begin, End, Stop, Bytes, Busy, Node, Dispatcher, Server, Replica, Joiner, Setting, IsNode, NumbersAreNodes, node_number, node_count, phase_by, NodeFault, World, Disks, disks, world_after, opening, NoJoinerStops, AreOf, RunFault, damaged_by, IsJournalOf, undamaged, Lent, IsOfOne, MayBeLeft, GoesOn, StateOf, kept_of, cell_of, made_by, HasMet, IsCaused, is_stop, stop_count, AreCaused, HasFault, AnyState, any_of, any_phase, IsRunFrom, HaveGrown, ComesToLast, all_from, topology_of, Images, IsDisk, AreKept, KeepsOf, KeepsTopology, Journals, Config, IsOf, votes_are_notes, IsCounted, of_node, IsOfDisks, IsPastOpening, IsOfRun, IsSpent, RunLog, epochs_of, HoldsAs, HaveGoneOn, AllHold, AreHeld, AreMet, IsLeftBy, KeepsItsRecord, NoneStops, HasRun, HasRested, AreOut, IsClosed, KeepsAs, AllKeep, KeepsPairs, KeepsNotes, HoldSameRecords, ReadNotesAreKept, told_of, or_else, first_fault, lent_replicas, lent_outputs, AreKeptIn}
 use Rattle.outside.specs.declared.store.DiskName.TheVariants as name
 use Rattle.site_node.specs.declared.kind.NodeFault.TheVariants as node
 use Rattle.run_fault.specs.declared.fault.StorePlace.TheVariants as at
 use Rattle.topology_journal.specs.Topologies as journal
 use Rattle.photon_model.specs.Topology.{Topology}
 use Rattle.site_run.proofs.Going.{all_nodes_gone_on}
+use Rattle.site_run.proofs.Naming.{same_numbers}
 use Rattle.site_run.proofs.Keeping.{keeps, none_lacks, disk_there, topology_image}
 use Rattle.site_run.proofs.Outing.{given_goes_on, gone_out}
 use Rattle.site_run.proofs.Places.{at_place}
@@ -47,45 +48,45 @@ some_counted (Stop node landed ∷ es) some = refl
 -- ---- the node of the first fault
 
 -- the fault that is told is that of the node at this place
-record IsToldAt {N : Type 0} (joiners first : ℕ) (ws : List (N × Option NodeFault)) (f : RunFault) : Type 0 where
+record IsToldAt {N : Type 0} (config : Config) (first : ℕ) (ws : List (N × Option NodeFault)) (f : RunFault) : Type 0 where
   place : ℕ
   number : ℕ
   within : place < length ws
   counted : number ≡ first + place
-  told : (b : N × Option NodeFault) → (fault : NodeFault) × ((slice_index_or ws place b).1 ≡ Some fault) × (f ≡ of_node joiners number fault)
+  told : (b : N × Option NodeFault) → (fault : NodeFault) × ((slice_index_or ws place b).1 ≡ Some fault) × (f ≡ of_node config number fault)
 
-told_later : {N : Type 0} (joiners first : ℕ) (w : N × Option NodeFault) (ws : List (N × Option NodeFault)) (f : RunFault) → IsToldAt joiners (suc first) ws f → IsToldAt joiners first (w ∷ ws) f
-told_later joiners first w ws f r = record { place = suc r.place; number = r.number; within = omega (arith, r.within); counted = omega (arith, r.counted); told = λ b. r.told b }
+told_later : {N : Type 0} (config : Config) (first : ℕ) (w : N × Option NodeFault) (ws : List (N × Option NodeFault)) (f : RunFault) → IsToldAt config (suc first) ws f → IsToldAt config first (w ∷ ws) f
+told_later config first w ws f r = record { place = suc r.place; number = r.number; within = omega (arith, r.within); counted = omega (arith, r.counted); told = λ b. r.told b }
 
 -- of the first node, or of a later one
-told_here : {N : Type 0} (joiners first : ℕ) (w : N × Option NodeFault) (ws : List (N × Option NodeFault)) (f : RunFault) → (first_fault joiners (suc first) ws ≡ Some f → IsToldAt joiners (suc first) ws f)
-    → (o : Option NodeFault) → w.1 ≡ o → or_else (told_of joiners first o) (first_fault joiners (suc first) ws) ≡ Some f → IsToldAt joiners first (w ∷ ws) f
-told_here joiners first w ws f later None none is = told_later joiners first w ws f (later is)
-told_here joiners first w ws f later (Some fault) some is = record {
+told_here : {N : Type 0} (config : Config) (first : ℕ) (w : N × Option NodeFault) (ws : List (N × Option NodeFault)) (f : RunFault) → (first_fault config (suc first) ws ≡ Some f → IsToldAt config (suc first) ws f)
+    → (o : Option NodeFault) → w.1 ≡ o → or_else (told_of config first o) (first_fault config (suc first) ws) ≡ Some f → IsToldAt config first (w ∷ ws) f
+told_here config first w ws f later None none is = told_later config first w ws f (later is)
+told_here config first w ws f later (Some fault) some is = record {
   place = 0;
   number = first;
   within = omega arith;
   counted = omega arith;
-  told = λ b. (fault, some, sym (some_same (of_node joiners first fault) f is));
+  told = λ b. (fault, some, sym (some_same (of_node config first fault) f is));
 }
 
-told_at : {N : Type 0} (joiners first : ℕ) (ws : List (N × Option NodeFault)) (f : RunFault) → first_fault joiners first ws ≡ Some f → IsToldAt joiners first ws f
-told_at joiners first [] f is = absurd (cc is)
-told_at joiners first (w ∷ ws) f is = told_here joiners first w ws f (told_at joiners (suc first) ws f) w.1 refl is
+told_at : {N : Type 0} (config : Config) (first : ℕ) (ws : List (N × Option NodeFault)) (f : RunFault) → first_fault config first ws ≡ Some f → IsToldAt config first ws f
+told_at config first [] f is = absurd (cc is)
+told_at config first (w ∷ ws) f is = told_here config first w ws f (told_at config (suc first) ws f) w.1 refl is
 
 -- it is that of a node of the setting
-pub record IsToldOf {N : Type 0} (joiners : ℕ) (g : Setting) (ws : List (N × Option NodeFault)) (f : RunFault) : Type 0 where
+pub record IsToldOf {N : Type 0} (config : Config) (g : Setting) (ws : List (N × Option NodeFault)) (f : RunFault) : Type 0 where
   pub node : Node
   pub is : IsNode g node
   pub default : N × Option NodeFault
   pub within : node_number node < length ws
   pub fault : NodeFault
   pub has : (slice_index_or ws (node_number node) default).1 ≡ Some fault
-  pub told : f ≡ of_node joiners (node_number node) fault
+  pub told : f ≡ of_node config (node_number node) fault
 
-pub told_of_node : {N : Type 0} (joiners : ℕ) (g : Setting) → NumbersAreNodes g → (ws : List (N × Option NodeFault)) → length ws ≡ node_count g → (f : RunFault) → first_fault joiners 0 ws ≡ Some f → IsToldOf joiners g ws f
-told_of_node {N} joiners g numbers ws count f is =
-    let t = told_at joiners 0 ws f is in
+pub told_of_node : {N : Type 0} (config : Config) (g : Setting) → NumbersAreNodes g → (ws : List (N × Option NodeFault)) → length ws ≡ node_count g → (f : RunFault) → first_fault config 0 ws ≡ Some f → IsToldOf config g ws f
+told_of_node {N} config g numbers ws count f is =
+    let t = told_at config 0 ws f is in
     let b = some_of ws (omega (arith, t.within)) in
     let n = numbers.each t.place (omega (arith, t.within, count)) in
     let back = numbers.back t.place n.0 n.1 in
@@ -98,7 +99,7 @@ told_of_node {N} joiners g numbers ws count f is =
       within = omega (arith, t.within, back.0);
       fault = at.0;
       has = subst (λ k. (slice_index_or ws k b).1 ≡ Some at.0) (sym back.0) at.1;
-      told = at.2 ∙ ap (λ k. of_node joiners k at.0) same;
+      told = at.2 ∙ ap (λ k. of_node config k at.0) same;
     }
 
 -- what the topology's disk keeps is a journal of its kind
@@ -117,19 +118,18 @@ journal_of g d (name.Output s j) other is c keeps = (_, keeps)
 
 -- ---- what a run leaves
 
-module _ {N D : Type 0} (image : D → List ℕ → Type 0) (places : N → AnyState → Type 0) (grown : N → N → Type 0) (disks_of : ℕ → ℕ → N → List (Lent D)) (laws : AreHeld image places grown disks_of)
-    (g : Setting) (joiners : ℕ) (roster : IsRosterOf g joiners) (numbers : NumbersAreNodes g) (d : Disks) (h : List BusEntry) (ws : List (N × Option NodeFault)) (rest : Bool)
+module _ {N D : Type 0} (image : D → List ℕ → Type 0) (places : N → AnyState → Type 0) (grown : N → N → Type 0) (disks_of : Config → ℕ → N → List (Lent D)) (laws : AreHeld image places grown disks_of)
+    (g : Setting) (config : Config) (asked : IsOf config g) (numbers : NumbersAreNodes g) (d : Disks) (h : List BusEntry) (ws : List (N × Option NodeFault)) (rest : Bool)
     (left : IsRunFrom places g d h ws rest) (count : length ws ≡ node_count g) (topology : Lent D) (kept : KeepsItsRecord image g topology) (inside after : Images)
-    (by : (disk : DiskName) (c : List ℕ) → after disk c → MayBeLeft image inside (topology ∷ all_from (λ i (w : N × Option NodeFault). disks_of joiners i w.0) 0 ws) disk c) where
+    (by : (disk : DiskName) (c : List ℕ) → after disk c → MayBeLeft image inside (topology ∷ all_from (λ i (w : N × Option NodeFault). disks_of config i w.0) 0 ws) disk c) where
   abbrev disks_at : ℕ → N × Option NodeFault → List (Lent D)
-  disks_at i w = disks_of joiners i w.0
+  disks_at i w = disks_of config i w.0
 
   hold : AllHold image disks_at g left.at ws
   hold = record {
-    replicas = roster.replicas;
     count = count;
-    each = λ n is a. subst (λ k. HoldsAs image k n (left.at n) (disks_at (node_number n) (slice_index_or ws (node_number n) a))) (sym roster.joiners_are)
-        (laws.held joiners n (left.at n) (slice_index_or ws (node_number n) a).0 (left.stand n is a));
+    each = λ n is a. subst (λ k. HoldsAs image k n (left.at n) (disks_at (node_number n) (slice_index_or ws (node_number n) a))) (sym (same_numbers g config asked))
+        (laws.held config n (left.at n) (slice_index_or ws (node_number n) a).0 (left.stand n is a));
   }
 
   is_left : IsLeftBy image g topology (all_from disks_at 0 ws) after
@@ -149,10 +149,9 @@ module _ {N D : Type 0} (image : D → List ℕ → Type 0) (places : N → AnyS
 
     pub keep : AllKeep image disks_at g left.at ws
     keep = record {
-      replicas = roster.replicas;
       count = count;
-      each = λ n is a. subst (λ k. KeepsAs image k n (left.at n) (disks_at (node_number n) (slice_index_or ws (node_number n) a))) (sym roster.joiners_are)
-          (laws.rested joiners n (left.at n) (slice_index_or ws (node_number n) a).0 (closed_of n (left.at n) (left.closed resting n is)) (left.stand n is a));
+      each = λ n is a. subst (λ k. KeepsAs image k n (left.at n) (disks_at (node_number n) (slice_index_or ws (node_number n) a))) (sym (same_numbers g config asked))
+          (laws.rested config n (left.at n) (slice_index_or ws (node_number n) a).0 (closed_of n (left.at n) (left.closed resting n is)) (left.stand n is a));
     }
 
     pub same : (n : Node) → IsNode g n → kept_of (disks end_world) n ≡ (left.at n).kept
@@ -177,7 +176,7 @@ module _ {N D : Type 0} (image : D → List ℕ → Type 0) (places : N → AnyS
     pub rests : HoldSameRecords → ReadNotesAreKept → (tells : Bool) → IsTrue tells → (journals : Journals) → AreKeptIn tells image KeepsNotes (lent_replicas (topology ∷ all_from disks_at 0 ws)) journals.notes.items
         → AreKeptIn tells image KeepsPairs (lent_outputs (topology ∷ all_from disks_at 0 ws)) journals.pairs.items → (faulted : Type 0) → ((faulted → ⊥) → NoJoinerStops left.entries) → HasRested g d h after faulted journals
     rests once read tells sure journals notes pairs faulted stops =
-        has_rested faulted journals (read_is image disks_at g left.at ws topology tells journals once read keep kept.named (disks end_world) same sure notes pairs) stops
+        has_rested faulted journals (read_is image disks_at g numbers left.at ws topology tells journals once read keep kept.named (disks end_world) same sure notes pairs) stops
 
   -- ---- unless a disk met a fault no joiner has stopped
 
@@ -189,7 +188,7 @@ module _ {N D : Type 0} (image : D → List ℕ → Type 0) (places : N → AnyS
         (λ j is has.
         let below : j < length ws = omega (arith, is.1, count) in
         let b = some_of ws (omega (arith, below)) in
-        let l = met.disks joiners j (slice_index_or ws j b).0 ((stopped j b below).stops has) in
+        let l = met.disks config j (slice_index_or ws j b).0 ((stopped j b below).stops has) in
         never (rises l.0 (inr (at_place disks_at 0 j j ws b l.0 below (omega arith) l.1)) l.2))
 
   -- ---- what is told where the run isn't at rest
@@ -233,25 +232,25 @@ module _ {N D : Type 0} (image : D → List ℕ → Type 0) (places : N → AnyS
     has_stopped : (n : Node) → IsNode g n → list_any is_stop (made_by (node_number n) h) ≡ true → faulted
     has_stopped n is has =
         let j = node_number n in
-        let l = met.disks joiners j (slice_index_or ws j (one_of n is)).0 ((met_at n is).stops has) in
+        let l = met.disks config j (slice_index_or ws j (one_of n is)).0 ((met_at n is).stops has) in
         rises l.0 (inr (at_place disks_at 0 j j ws (one_of n is) l.0 (inside_all n is) (omega arith) l.1)) l.2
 
     module _ (log : RunLog) (same : log.air.history ≡ h) where
       -- the last entries of its node say so of a limit
-      spent_so : (n : Node) (epoch : ℕ) → IsNode g n → ComesToLast d h n epoch → IsSpent g log.air.history d faulted (epochs_of joiners (node_number n)) epoch
+      spent_so : (n : Node) (epoch : ℕ) → IsNode g n → ComesToLast d h n epoch → IsSpent g log.air.history d faulted (epochs_of config (node_number n)) epoch
       spent_so n epoch is came =
-          subst (λ l. IsSpent g l d faulted (epochs_of joiners (node_number n)) epoch) (sym same)
+          subst (λ l. IsSpent g l d faulted (epochs_of config (node_number n)) epoch) (sym same)
           (record {
             node = n;
             is = is;
-            named = ap (λ j. epochs_of j (node_number n)) (sym roster.joiners_are);
+            named = ap (λ (k : Config). epochs_of k (node_number n)) (sym (same_numbers g config asked));
             came = came;
             few = (met_at n is).most;
             met = λ some. has_stopped n is (some_counted (made_by (node_number n) h) some);
           })
 
       -- what is told of a node
-      node_told : (n : Node) → IsNode g n → (b : N × Option NodeFault) (f : NodeFault) → (slice_index_or ws (node_number n) b).1 ≡ Some f → IsOfRun g d faulted (Some log) (of_node joiners (node_number n) f)
+      node_told : (n : Node) → IsNode g n → (b : N × Option NodeFault) (f : NodeFault) → (slice_index_or ws (node_number n) b).1 ≡ Some f → IsOfRun g d faulted (Some log) (of_node config (node_number n) f)
       node_told n is b node.Stopped told =
           (n, is, refl, subst (λ l. stop_count (made_by (node_number n) l) ≡ 8) (sym same) ((stopped (node_number n) b (inside_all n is)).ended told))
       node_told n is b (node.Disk disk) told = tt
@@ -261,9 +260,9 @@ module _ {N D : Type 0} (image : D → List ℕ → Type 0) (places : N → AnyS
       node_told n is b node.Memory told = tt
 
       -- and so what is told of the first that has a fault
-      pub first_told : (f : RunFault) → first_fault joiners 0 ws ≡ Some f → IsOfRun g d faulted (Some log) f
+      pub first_told : (f : RunFault) → first_fault config 0 ws ≡ Some f → IsOfRun g d faulted (Some log) f
       first_told f is =
-          let t = told_of_node joiners g numbers ws count f is in
+          let t = told_of_node config g numbers ws count f is in
           subst (IsOfRun g d faulted (Some log)) (sym t.told) (node_told t.node t.is t.default t.fault t.has)
 
 -- ---- how many disks there are
@@ -295,25 +294,25 @@ firsts : {N : Type 0} (ws : List (N × Option NodeFault)) → length (map (λ (w
 firsts [] = refl
 firsts (w ∷ ws) = ap suc (firsts ws)
 
-module _ {N D : Type 0} (image : D → List ℕ → Type 0) (places : N → AnyState → Type 0) (grown : N → N → Type 0) (disks_of : ℕ → ℕ → N → List (Lent D)) (laws : AreHeld image places grown disks_of)
-    (g : Setting) (joiners : ℕ) (numbers : NumbersAreNodes g) (vs : List N) (ws : List (N × Option NodeFault)) (count_before : length vs ≡ node_count g) (count : length ws ≡ length vs) (grew : HaveGrown grown g vs ws) where
+module _ {N D : Type 0} (image : D → List ℕ → Type 0) (places : N → AnyState → Type 0) (grown : N → N → Type 0) (disks_of : Config → ℕ → N → List (Lent D)) (laws : AreHeld image places grown disks_of)
+    (g : Setting) (config : Config) (numbers : NumbersAreNodes g) (vs : List N) (ws : List (N × Option NodeFault)) (count_before : length vs ≡ node_count g) (count : length ws ≡ length vs) (grew : HaveGrown grown g vs ws) where
   abbrev olds : List (Lent D)
-  olds = all_from (disks_of joiners) 0 vs
+  olds = all_from (disks_of config) 0 vs
 
   abbrev news : List (Lent D)
-  news = all_from (λ i (w : N × Option NodeFault). disks_of joiners i w.0) 0 ws
+  news = all_from (λ i (w : N × Option NodeFault). disks_of config i w.0) 0 ws
 
   have_gone_on : HaveGoneOn image olds news
   have_gone_on =
       let firsts_of = map (λ (w : N × Option NodeFault). w.0) ws in
-      subst (λ (l : List (Lent D)). HaveGoneOn image olds l) (same_from (disks_of joiners) 0 ws)
-      (all_nodes_gone_on image (disks_of joiners) g numbers vs firsts_of count_before (firsts ws ∙ count)
+      subst (λ (l : List (Lent D)). HaveGoneOn image olds l) (same_from (disks_of config) 0 ws)
+      (all_nodes_gone_on image (disks_of config) g numbers vs firsts_of count_before (firsts ws ∙ count)
       (λ n is a c.
       let below : node_number n < length ws = let under = numbers.below n is in omega (arith, under, count_before, count) in
       let b = some_of ws (omega (arith, below)) in
       let grows = grew n is a b in
-      subst (λ (w : N). HaveGoneOn image (disks_of joiners (node_number n) (slice_index_or vs (node_number n) a)) (disks_of joiners (node_number n) w)) (sym (at_first ws (node_number n) c b below))
-      (laws.gone_on joiners (node_number n) grows.0 (slice_index_or vs (node_number n) a) (slice_index_or ws (node_number n) b).0 grows.1)))
+      subst (λ (w : N). HaveGoneOn image (disks_of config (node_number n) (slice_index_or vs (node_number n) a)) (disks_of config (node_number n) w)) (sym (at_first ws (node_number n) c b below))
+      (laws.gone_on config (node_number n) grows.0 (slice_index_or vs (node_number n) a) (slice_index_or ws (node_number n) b).0 grows.1)))
 
   pub goes_on : (topology : Lent D) (before inside after : Images) → AreOut image before inside topology olds
       → ((disk : DiskName) (c : List ℕ) → after disk c → MayBeLeft image inside (topology ∷ news) disk c) → (disk : DiskName) → GoesOn (before disk) (after disk)
@@ -321,44 +320,44 @@ module _ {N D : Type 0} (image : D → List ℕ → Type 0) (places : N → AnyS
 
 -- ---- the fault that is told
 
-module _ {N D L : Type 0} (disk_faults : D → ℕ) (log_faults : L → ℕ) (faults read_faults : N → ℕ) (disks_of : ℕ → ℕ → N → List (Lent D)) (logs_of : N → List L) (met : AreMet disk_faults log_faults faults read_faults disks_of logs_of)
-    (joiners : ℕ) (logs_rose disks_rose : Type 0) where
-  node_fault : (i : ℕ) (v : N) (f : NodeFault) → IsCaused faults read_faults v (Some f) → ((l : Lent D) → Mem l (disks_of joiners i v) → 1 ≤ disk_faults l.disk → disks_rose) → ((l : L) → Mem l (logs_of v) → 1 ≤ log_faults l → logs_rose)
-      → IsCounted logs_rose disks_rose (of_node joiners i f) × IsPastOpening (of_node joiners i f)
-  node_fault i v node.Stopped caused rise reads = (let l = met.disks joiners i v (caused.stopped refl) in rise l.0 l.1 l.2, tt)
-  node_fault i v (node.Disk disk) caused rise reads = (let l = met.disks joiners i v (caused.disk disk refl) in rise l.0 l.1 l.2, tt)
+module _ {N D L : Type 0} (disk_faults : D → ℕ) (log_faults : L → ℕ) (faults read_faults : N → ℕ) (disks_of : Config → ℕ → N → List (Lent D)) (logs_of : N → List L) (met : AreMet disk_faults log_faults faults read_faults disks_of logs_of)
+    (config : Config) (logs_rose disks_rose : Type 0) where
+  node_fault : (i : ℕ) (v : N) (f : NodeFault) → IsCaused faults read_faults v (Some f) → ((l : Lent D) → Mem l (disks_of config i v) → 1 ≤ disk_faults l.disk → disks_rose) → ((l : L) → Mem l (logs_of v) → 1 ≤ log_faults l → logs_rose)
+      → IsCounted logs_rose disks_rose (of_node config i f) × IsPastOpening (of_node config i f)
+  node_fault i v node.Stopped caused rise reads = (let l = met.disks config i v (caused.stopped refl) in rise l.0 l.1 l.2, tt)
+  node_fault i v (node.Disk disk) caused rise reads = (let l = met.disks config i v (caused.disk disk refl) in rise l.0 l.1 l.2, tt)
   node_fault i v (node.Damaged disk at) caused rise reads = (tt, tt)
   node_fault i v node.Read caused rise reads = (let l = met.logs v (caused.read refl) in reads l.0 l.1 l.2, tt)
   node_fault i v (node.Spent epoch) caused rise reads = (tt, tt)
   node_fault i v node.Memory caused rise reads = (tt, tt)
 
-  fault_step : (i : ℕ) (v : N) (o : Option NodeFault) (rest : Option RunFault) (f : RunFault) → IsCaused faults read_faults v o → ((l : Lent D) → Mem l (disks_of joiners i v) → 1 ≤ disk_faults l.disk → disks_rose)
-      → ((l : L) → Mem l (logs_of v) → 1 ≤ log_faults l → logs_rose) → (rest ≡ Some f → IsCounted logs_rose disks_rose f × IsPastOpening f) → or_else (told_of joiners i o) rest ≡ Some f → IsCounted logs_rose disks_rose f × IsPastOpening f
+  fault_step : (i : ℕ) (v : N) (o : Option NodeFault) (rest : Option RunFault) (f : RunFault) → IsCaused faults read_faults v o → ((l : Lent D) → Mem l (disks_of config i v) → 1 ≤ disk_faults l.disk → disks_rose)
+      → ((l : L) → Mem l (logs_of v) → 1 ≤ log_faults l → logs_rose) → (rest ≡ Some f → IsCounted logs_rose disks_rose f × IsPastOpening f) → or_else (told_of config i o) rest ≡ Some f → IsCounted logs_rose disks_rose f × IsPastOpening f
   fault_step i v None rest f caused rise reads later is = later is
   fault_step i v (Some nf) rest f caused rise reads later is =
-      let same : of_node joiners i nf ≡ f = cc is in
+      let same : of_node config i nf ≡ f = cc is in
       subst (λ x. IsCounted logs_rose disks_rose x × IsPastOpening x) same (node_fault i v nf caused rise reads)
 
   fault_from : (i : ℕ) (ws : List (N × Option NodeFault)) → Each (λ (w : N × Option NodeFault). IsCaused faults read_faults w.0 w.1) ws
-      → ((l : Lent D) → Mem l (all_from (λ k (w : N × Option NodeFault). disks_of joiners k w.0) i ws) → 1 ≤ disk_faults l.disk → disks_rose)
+      → ((l : Lent D) → Mem l (all_from (λ k (w : N × Option NodeFault). disks_of config k w.0) i ws) → 1 ≤ disk_faults l.disk → disks_rose)
       → ((l : L) → Mem l (all_from (λ k (w : N × Option NodeFault). logs_of w.0) i ws) → 1 ≤ log_faults l → logs_rose)
-      → (f : RunFault) → first_fault joiners i ws ≡ Some f → IsCounted logs_rose disks_rose f × IsPastOpening f
+      → (f : RunFault) → first_fault config i ws ≡ Some f → IsCounted logs_rose disks_rose f × IsPastOpening f
   fault_from i [] caused rise reads f is = absurd (cc is)
   fault_from i (w ∷ ws) caused rise reads f is =
-      fault_step i w.0 w.1 (first_fault joiners (suc i) ws) f caused.0
-      (λ l among some. rise l (mem_left l (disks_of joiners i w.0) (all_from (λ k (x : N × Option NodeFault). disks_of joiners k x.0) (suc i) ws) among) some)
+      fault_step i w.0 w.1 (first_fault config (suc i) ws) f caused.0
+      (λ l among some. rise l (mem_left l (disks_of config i w.0) (all_from (λ k (x : N × Option NodeFault). disks_of config k x.0) (suc i) ws) among) some)
       (λ l among some. reads l (mem_left l (logs_of w.0) (all_from (λ k (x : N × Option NodeFault). logs_of x.0) (suc i) ws) among) some)
       (λ later. fault_from (suc i) ws caused.1
-      (λ l among some. rise l (mem_right l (disks_of joiners i w.0) (all_from (λ k (x : N × Option NodeFault). disks_of joiners k x.0) (suc i) ws) among) some)
+      (λ l among some. rise l (mem_right l (disks_of config i w.0) (all_from (λ k (x : N × Option NodeFault). disks_of config k x.0) (suc i) ws) among) some)
       (λ l among some. reads l (mem_right l (logs_of w.0) (all_from (λ k (x : N × Option NodeFault). logs_of x.0) (suc i) ws) among) some)
       f later)
       is
 
   -- it has its cause, and is none of the topology
   pub fault_told : (ws : List (N × Option NodeFault)) → AreCaused faults read_faults ws
-      → ((l : Lent D) → Mem l (all_from (λ k (w : N × Option NodeFault). disks_of joiners k w.0) 0 ws) → 1 ≤ disk_faults l.disk → disks_rose)
+      → ((l : Lent D) → Mem l (all_from (λ k (w : N × Option NodeFault). disks_of config k w.0) 0 ws) → 1 ≤ disk_faults l.disk → disks_rose)
       → ((l : L) → Mem l (all_from (λ k (w : N × Option NodeFault). logs_of w.0) 0 ws) → 1 ≤ log_faults l → logs_rose)
-      → (f : RunFault) → first_fault joiners 0 ws ≡ Some f → IsCounted logs_rose disks_rose f × IsPastOpening f
+      → (f : RunFault) → first_fault config 0 ws ≡ Some f → IsCounted logs_rose disks_rose f × IsPastOpening f
   fault_told ws caused rise reads f is = fault_from 0 ws (recursion_from_All (λ (w : N × Option NodeFault). IsCaused faults read_faults w.0 w.1) ws caused) rise reads f is
 
 -- ---- a fault of the disks
@@ -375,22 +374,22 @@ disks_alone tells image lent disks_rose P f n of is = absurd (subst (IsOfDisks t
 
 -- ---- a fault that names a node
 
-node_named : (joiners n k : ℕ) (nf : NodeFault) → run.Store (at.Node n) ≡ of_node joiners k nf → (nf ≡ node.Stopped) × (n ≡ k)
-node_named joiners n k node.Stopped is = (refl, cc)
-node_named joiners n k (node.Disk disk) is = absurd (cc is)
-node_named joiners n k (node.Damaged disk place) is = absurd (cc is)
-node_named joiners n k node.Read is = absurd (cc is)
-node_named joiners n k (node.Spent epoch) is = absurd (cc is)
-node_named joiners n k node.Memory is = absurd (cc is)
+node_named : (config : Config) (n k : ℕ) (nf : NodeFault) → run.Store (at.Node n) ≡ of_node config k nf → (nf ≡ node.Stopped) × (n ≡ k)
+node_named config n k node.Stopped is = (refl, cc)
+node_named config n k (node.Disk disk) is = absurd (cc is)
+node_named config n k (node.Damaged disk place) is = absurd (cc is)
+node_named config n k node.Read is = absurd (cc is)
+node_named config n k (node.Spent epoch) is = absurd (cc is)
+node_named config n k node.Memory is = absurd (cc is)
 
 -- it is of one whose work has ended so
-pub first_ended : {N : Type 0} (faults : N → ℕ) (waits : N → Bool) (joiners : ℕ) (h : List BusEntry) (ws : List (N × Option NodeFault)) → ((i : ℕ) (b : N × Option NodeFault) → i < length ws → HasMet faults waits (slice_index_or ws i b).0 (slice_index_or ws i b).1 (made_by i h))
-    → (f : RunFault) (n : ℕ) → first_fault joiners 0 ws ≡ Some f → f ≡ run.Store (at.Node n) → stop_count (made_by n h) ≡ 8
-first_ended {N} faults waits joiners h ws met f n is named =
-    let t = told_at joiners 0 ws f is in
+pub first_ended : {N : Type 0} (faults : N → ℕ) (waits : N → Bool) (config : Config) (h : List BusEntry) (ws : List (N × Option NodeFault)) → ((i : ℕ) (b : N × Option NodeFault) → i < length ws → HasMet faults waits (slice_index_or ws i b).0 (slice_index_or ws i b).1 (made_by i h))
+    → (f : RunFault) (n : ℕ) → first_fault config 0 ws ≡ Some f → f ≡ run.Store (at.Node n) → stop_count (made_by n h) ≡ 8
+first_ended {N} faults waits config h ws met f n is named =
+    let t = told_at config 0 ws f is in
     let b = some_of ws (omega (arith, t.within)) in
     let x = t.told b in
-    let w = node_named joiners n t.number x.0 (sym named ∙ x.2) in
+    let w = node_named config n t.number x.0 (sym named ∙ x.2) in
     let same : n ≡ t.place = omega (arith, w.1, t.counted) in
     subst (λ k. stop_count (made_by k h) ≡ 8) (sym same) ((met t.place b t.within).ended (x.1 ∙ ap (λ (y : NodeFault). Some y) w.0))
 
@@ -400,21 +399,21 @@ or_none_both : (a b : Option RunFault) → or_else a b ≡ None → (a ≡ None)
 or_none_both None b is = (refl, is)
 or_none_both (Some f) b is = absurd (cc is)
 
-not_told : (joiners i : ℕ) (o : Option NodeFault) → told_of joiners i o ≡ None → o ≡ None
-not_told joiners i None is = refl
-not_told joiners i (Some f) is = absurd (cc is)
+not_told : (config : Config) (i : ℕ) (o : Option NodeFault) → told_of config i o ≡ None → o ≡ None
+not_told config i None is = refl
+not_told config i (Some f) is = absurd (cc is)
 
-none_at : {N : Type 0} (joiners i : ℕ) (ws : List (N × Option NodeFault)) (k : ℕ) (b : N × Option NodeFault) → first_fault joiners i ws ≡ None → k < length ws → (slice_index_or ws k b).1 ≡ None
-none_at joiners i [] k b none below = absurd (omega (arith, below))
-none_at joiners i (w ∷ ws) zero b none below = not_told joiners i w.1 (or_none_both (told_of joiners i w.1) (first_fault joiners (suc i) ws) none).0
-none_at joiners i (w ∷ ws) (suc k) b none below = none_at joiners (suc i) ws k b (or_none_both (told_of joiners i w.1) (first_fault joiners (suc i) ws) none).1 (omega (arith, below))
+none_at : {N : Type 0} (config : Config) (i : ℕ) (ws : List (N × Option NodeFault)) (k : ℕ) (b : N × Option NodeFault) → first_fault config i ws ≡ None → k < length ws → (slice_index_or ws k b).1 ≡ None
+none_at config i [] k b none below = absurd (omega (arith, below))
+none_at config i (w ∷ ws) zero b none below = not_told config i w.1 (or_none_both (told_of config i w.1) (first_fault config (suc i) ws) none).0
+none_at config i (w ∷ ws) (suc k) b none below = none_at config (suc i) ws k b (or_none_both (told_of config i w.1) (first_fault config (suc i) ws) none).1 (omega (arith, below))
 
-pub no_fault : {N : Type 0} (joiners : ℕ) (ws : List (N × Option NodeFault)) → first_fault joiners 0 ws ≡ None → HasFault ws → ⊥
-no_fault {N} joiners ws none has =
+pub no_fault : {N : Type 0} (config : Config) (ws : List (N × Option NodeFault)) → first_fault config 0 ws ≡ None → HasFault ws → ⊥
+no_fault {N} config ws none has =
     let b = some_of ws (omega (arith, has.1)) in
-    let never : IsSome {T = NodeFault} None = subst (λ (o : Option NodeFault). IsSome o) (none_at joiners 0 ws has.0 b none has.1) (has.2 b) in
+    let never : IsSome {T = NodeFault} None = subst (λ (o : Option NodeFault). IsSome o) (none_at config 0 ws has.0 b none has.1) (has.2 b) in
     absurd (cc never)
 
-pub at_rest : {N : Type 0} (joiners : ℕ) (ws : List (N × Option NodeFault)) (rest : Bool) → (rest ≡ false → HasFault ws) → first_fault joiners 0 ws ≡ None → IsTrue rest
-at_rest joiners ws true fault none = refl
-at_rest joiners ws false fault none = absurd (no_fault joiners ws none (fault refl))
+pub at_rest : {N : Type 0} (config : Config) (ws : List (N × Option NodeFault)) (rest : Bool) → (rest ≡ false → HasFault ws) → first_fault config 0 ws ≡ None → IsTrue rest
+at_rest config ws true fault none = refl
+at_rest config ws false fault none = absurd (no_fault config ws none (fault refl))

@@ -77,7 +77,7 @@ pub use Rattle.site_node.specs.States.{Ends, IsDone, Leads, MayHold, Rows, State
 pub use Rattle.site_node.specs.declared.kind.NodeFault.{NodeFault}
 pub use Rattle.site_node.specs.declared.kind.NodeFault.TheVariants.{Damaged, Spent}
 pub use Rattle.site_run.specs.AnyNodes.{AnyLeads, AnyState, IsAtLast, IsMeant, any_of, any_phase, any_rests, down_with, with_site}
-pub use Rattle.site_run.specs.Asked.{AreLogsOf, IsRosterOf, IsSettingOf, IsSettingOver}
+pub use Rattle.site_run.specs.Asked.{AreLogsOf, IsSettingOf, IsSettingOver}
 pub use Rattle.site_run.specs.Causes.{IsOfDisks, IsPastOpening, epochs_of, of_node}
 pub use Rattle.site_run.specs.Heard.{kinds_of}
 pub use Rattle.site_run.specs.Held.{HasGoneOn, HasSpelledNotes, HaveGoneOn, HoldsAs}
@@ -86,7 +86,7 @@ pub use Rattle.site_run.specs.Laws.{AllHold, AreHeld, AreMet, IsLeftBy, JoinerSt
 pub use Rattle.site_run.specs.Left.{HasRested, HasRun, RestLeft, RunLeft}
 pub use Rattle.site_run.specs.Making.{AreEnough, AreFrom, IsRoomFor, IsStart, Makes, StockView, clicks_from, disks_from, disks_in, logs_in, number_of, queries_from, view_of}
 pub use Rattle.site_run.specs.Meaning.{AreLinesBy, lines_by}
-pub use Rattle.site_run.specs.Naming.{IsTakenFrom, all_from, as_lent, joiner_of as place_at, of_dispatcher, of_joiner, of_replica, of_server, place_of, site_of}
+pub use Rattle.site_run.specs.Naming.{IsTakenFrom, all_from, as_lent, count_of, joiner_of as place_at, numbers_of, of_dispatcher, of_joiner, of_replica, of_server, place_of, site_of}
 pub use Rattle.site_run.specs.Out.{AreOut}
 pub use Rattle.site_run.specs.Over.{RunsOver}
 pub use Rattle.site_run.specs.Placed.{AllAt, IsDownAt, IsUpAt}

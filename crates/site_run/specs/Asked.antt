@@ -29,8 +29,3 @@ pub record IsSettingOver {L : Type 0} (bytes : L → List ℕ) (clicks queries :
 -- P holds of each setting of such logs under names
 abbrev pub OfSetting : (told : List ℕ → Option (List ℕ)) (queries clicks : List ℕ) → Config → ℕ → (Setting → Type 0) → Type 0
 OfSetting told queries clicks config end_ P = (g : Setting) → IsSettingOf told queries clicks config end_ g → P g
-
--- the setting has so many joiners a site, and three replicas
-pub record IsRosterOf (g : Setting) (joiners : ℕ) : Type 0 where
-  pub joiners_are : g.joiners ≡ joiners
-  pub replicas : g.replicas ≡ 3

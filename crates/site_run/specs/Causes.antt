@@ -1,5 +1,5 @@
 -- Why a run gives up.
-use Rattle.std.specs.Prelude.{ℕ, ◌-◌, nat_lt, if◌then◌else◌, List, Bool, IsTrue, ⊤}
+use Rattle.std.specs.Prelude.{ℕ, ◌+◌, ◌-◌, nat_lt, if◌then◌else◌, List, Bool, IsTrue, ⊤}
 use Rattle.outside.specs.declared.store.DiskName.{DiskName}
 use Rattle.outside.specs.declared.store.DiskName.TheVariants as name
 use Rattle.run_fault.specs.declared.fault.LogName.{LogName}
@@ -12,6 +12,7 @@ use Rattle.site_store.specs.Kinds.{damaged_by}
 use Rattle.site_store.specs.Lent.{Lent, IsOfOne}
 use Rattle.site_node.specs.declared.kind.NodeFault.{NodeFault}
 use Rattle.site_node.specs.declared.kind.NodeFault.TheVariants as node
+use Rattle.turn_defs.specs.declared.config.Config.{Config}
 use Rattle.site_run.specs.Naming.{site_of, joiner_of}
 
 -- ---- what is told of a fault below
@@ -20,17 +21,17 @@ use Rattle.site_run.specs.Naming.{site_of, joiner_of}
 abbrev pub log_of : ℕ → LogName
 log_of number = if nat_lt number 2 then Clicks else Queries
 
-abbrev pub epochs_of : (joiners number : ℕ) → DiskName
-epochs_of joiners number = if nat_lt number 7 then name.Server (number - 2) else name.Epoch (site_of joiners number) (joiner_of joiners number)
+abbrev pub epochs_of : Config → ℕ → DiskName
+epochs_of config number = if nat_lt number (4 + config.replicas) then name.Server (number - 2) else name.Epoch (site_of config number) (joiner_of config number)
 
--- of the node of a number, where each site has so many joiners
-abbrev pub of_node : (joiners number : ℕ) → NodeFault → RunFault
-of_node joiners number node.Stopped = fault.Store (place.Node number)
-of_node joiners number (node.Disk disk) = fault.Store (place.Disk disk)
-of_node joiners number (node.Damaged disk at) = fault.Damaged disk at
-of_node joiners number node.Read = fault.Read (log_of number)
-of_node joiners number (node.Spent epoch) = fault.Limit (epochs_of joiners number) epoch
-of_node joiners number node.Memory = fault.Memory
+-- of the node of a number
+abbrev pub of_node : Config → ℕ → NodeFault → RunFault
+of_node config number node.Stopped = fault.Store (place.Node number)
+of_node config number (node.Disk disk) = fault.Store (place.Disk disk)
+of_node config number (node.Damaged disk at) = fault.Damaged disk at
+of_node config number node.Read = fault.Read (log_of number)
+of_node config number (node.Spent epoch) = fault.Limit (epochs_of config number) epoch
+of_node config number node.Memory = fault.Memory
 
 -- ---- what is said of a fault
 

@@ -5,6 +5,7 @@ use Rattle.offset_journal.specs.Offsets.{Keeps as KeepsOffset}
 use Rattle.retry_log.specs.Pending.{Keeps as KeepsPending}
 use Rattle.epoch_journal.specs.Epochs.{Keeps as KeepsEpoch}
 use Rattle.output_log.specs.Pairs.{Keeps as KeepsPairs}
+use Rattle.turn_defs.specs.declared.config.Config.{Config}
 use Rattle.turn_defs.specs.declared.node.Node.{Node}
 use Rattle.turn_defs.specs.declared.node.Node.TheVariants.{Dispatcher, Server, Replica, Joiner}
 use Rattle.site_node.specs.States.{MayHold}
@@ -46,18 +47,18 @@ module _ {D : Type 0} (image : D → List ℕ → Type 0) where
     pub named : lent ≡ of_replica (4 + r) disk
     pub keeps : (c : List ℕ) → image disk c → (k : ReplicaKept) × MayHold (rows_of (Replica r)) t k × KeepsVotes k c
 
-  pub record JoinerHolds (joiners j : ℕ) (t : StateOf (Joiner j)) (lent : List (Lent D)) : Type 0 where
+  pub record JoinerHolds (config : Config) (j : ℕ) (t : StateOf (Joiner j)) (lent : List (Lent D)) : Type 0 where
     pub epochs : D
     pub outputs : D
-    pub named : lent ≡ of_joiner joiners j epochs outputs
+    pub named : lent ≡ of_joiner config j epochs outputs
     pub keeps : (e o : List ℕ) → image epochs e → image outputs o → (k : JoinerKept) × MayHold (rows_of (Joiner j)) t k × KeepsEpoch k.epoch e × KeepsPairs k.pairs o
 
   -- these are the disks of the node of that state, under the names of its number
-  abbrev pub HoldsAs : (joiners : ℕ) (n : Node) → StateOf n → List (Lent D) → Type 0
-  HoldsAs joiners (Dispatcher s) t lent = DispatcherHolds s t lent
-  HoldsAs joiners (Server s) t lent = ServerHolds s t lent
-  HoldsAs joiners (Replica r) t lent = ReplicaHolds r t lent
-  HoldsAs joiners (Joiner j) t lent = JoinerHolds joiners j t lent
+  abbrev pub HoldsAs : Config → (n : Node) → StateOf n → List (Lent D) → Type 0
+  HoldsAs config (Dispatcher s) t lent = DispatcherHolds s t lent
+  HoldsAs config (Server s) t lent = ServerHolds s t lent
+  HoldsAs config (Replica r) t lent = ReplicaHolds r t lent
+  HoldsAs config (Joiner j) t lent = JoinerHolds config j t lent
 
   -- the disk of a name has gone on from the one before it of the same name
   pub record HasGoneOn (old new : Lent D) : Type 0 where

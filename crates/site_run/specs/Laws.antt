@@ -5,6 +5,7 @@ use Rattle.list_words.specs.Lists.{Mem}
 use Rattle.outside.specs.declared.store.DiskName.{DiskName}
 use Rattle.outside.specs.declared.store.DiskName.TheVariants as name
 use Rattle.air_bus.specs.declared.entry.Entry.{Entry as BusEntry}
+use Rattle.turn_defs.specs.declared.config.Config.{Config}
 use Rattle.turn_defs.specs.declared.node.Node.{Node}
 use Rattle.turn_defs.specs.Setting.{Setting, IsJoiner}
 use Rattle.turn_defs.specs.Nodes.{IsNode, node_number, node_count}
@@ -19,13 +20,13 @@ use Rattle.site_laws.specs.Stores.{Images, IsDisk, KeepsTopology}
 use Rattle.site_workers.specs.Works.{Reached}
 use Rattle.site_run.specs.AnyNodes.{AnyState, any_of}
 use Rattle.site_run.specs.Held.{HoldsAs, HaveGoneOn}
+use Rattle.site_run.specs.Naming.{numbers_of}
 use Rattle.site_run.specs.Resting.{IsClosed, KeepsAs}
 
 -- The nodes of a setting in the order of their numbers, and the disks that each has by its number: they hold what its state says.
 pub record AllHold {N D : Type 0} (image : D → List ℕ → Type 0) (disks_of : ℕ → N → List (Lent D)) (g : Setting) (at : (n : Node) → StateOf n) (nodes : List N) : Type 0 where
-  pub replicas : g.replicas ≡ 3
   pub count : length nodes ≡ node_count g
-  pub each : (n : Node) → IsNode g n → (a : N) → HoldsAs image g.joiners n (at n) (disks_of (node_number n) (slice_index_or nodes (node_number n) a))
+  pub each : (n : Node) → IsNode g n → (a : N) → HoldsAs image (numbers_of g) n (at n) (disks_of (node_number n) (slice_index_or nodes (node_number n) a))
 
 -- of a setting's disk a stop leaves what it may leave of the topology's or of a node's
 abbrev pub IsLeftBy : {D : Type 0} → (D → List ℕ → Type 0) → Setting → Lent D → List (Lent D) → Images → Type 0
@@ -53,12 +54,12 @@ NoneStops =
 
 -- A node at a state has disks that hold what the state says, and without an open turn each alone what the state keeps; and as it
 -- grows its disks go on.
-pub record AreHeld {N D : Type 0} (image : D → List ℕ → Type 0) (places : N → AnyState → Type 0) (grown : N → N → Type 0) (disks_of : ℕ → ℕ → N → List (Lent D)) : Type 0 where
-  pub held : (joiners : ℕ) (n : Node) (t : StateOf n) (v : N) → places v (any_of n t) → HoldsAs image joiners n t (disks_of joiners (node_number n) v)
-  pub rested : (joiners : ℕ) (n : Node) (t : StateOf n) (v : N) → IsClosed n t → places v (any_of n t) → KeepsAs image joiners n t (disks_of joiners (node_number n) v)
-  pub gone_on : (joiners number k : ℕ) (v w : N) → Reached grown k v w → HaveGoneOn image (disks_of joiners number v) (disks_of joiners number w)
+pub record AreHeld {N D : Type 0} (image : D → List ℕ → Type 0) (places : N → AnyState → Type 0) (grown : N → N → Type 0) (disks_of : Config → ℕ → N → List (Lent D)) : Type 0 where
+  pub held : (config : Config) (n : Node) (t : StateOf n) (v : N) → places v (any_of n t) → HoldsAs image config n t (disks_of config (node_number n) v)
+  pub rested : (config : Config) (n : Node) (t : StateOf n) (v : N) → IsClosed n t → places v (any_of n t) → KeepsAs image config n t (disks_of config (node_number n) v)
+  pub gone_on : (config : Config) (number k : ℕ) (v w : N) → Reached grown k v w → HaveGoneOn image (disks_of config number v) (disks_of config number w)
 
 -- A node's faults are those of its disks and of its log.
-pub record AreMet {N D L : Type 0} (disk_faults : D → ℕ) (log_faults : L → ℕ) (faults read_faults : N → ℕ) (disks_of : ℕ → ℕ → N → List (Lent D)) (logs_of : N → List L) : Type 0 where
-  pub disks : (joiners number : ℕ) (v : N) → 1 ≤ faults v → (l : Lent D) × Mem l (disks_of joiners number v) × (1 ≤ disk_faults l.disk)
+pub record AreMet {N D L : Type 0} (disk_faults : D → ℕ) (log_faults : L → ℕ) (faults read_faults : N → ℕ) (disks_of : Config → ℕ → N → List (Lent D)) (logs_of : N → List L) : Type 0 where
+  pub disks : (config : Config) (number : ℕ) (v : N) → 1 ≤ faults v → (l : Lent D) × Mem l (disks_of config number v) × (1 ≤ disk_faults l.disk)
   pub logs : (v : N) → 1 ≤ read_faults v → (l : L) × Mem l (logs_of v) × (1 ≤ log_faults l)

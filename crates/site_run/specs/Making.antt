@@ -17,17 +17,19 @@ use Rattle.site_store.specs.Records.{AreRecordsOf, OpenView, kept_all, lent_all}
 use Rattle.site_store.specs.Refusals.{other_names}
 use Rattle.site_store.specs.declared.lent.disk.LentDisk.{LentDisk}
 use Rattle.site_run.specs.AnyNodes.{AnyState}
-use Rattle.site_run.specs.Naming.{as_lent}
+use Rattle.site_run.specs.Heard.{kinds_of}
+use Rattle.site_run.specs.Naming.{as_lent, count_of, place_of}
 use Rattle.site_run.specs.Placed.{IsDownAt, IsUpAt}
 use Rattle.site_run.specs.declared.built.logs.Logs.{Logs}
 use Rattle.site_run.specs.declared.built.stock.Stock.{Stock}
 use Rattle.site_run.specs.declared.built.parts.Room.{Room}
 
--- room for all nodes, and for what they are made of: two disks and a log a node, and the topology's disk
-pub record IsRoomFor {D L N : Type 0} (joiners : ℕ) (room : Room D L N) : Type 0 where
-  pub nodes : (room.nodes.items ≡ []) × (7 + 2 * joiners ≤ vec_capacity room.nodes)
-  pub disks : (room.parts.disks.items ≡ []) × (15 + 4 * joiners ≤ vec_capacity room.parts.disks)
-  pub logs : (room.parts.logs.items ≡ []) × (7 + 2 * joiners ≤ vec_capacity room.parts.logs)
+-- the kinds of all nodes, room for the nodes, and for what they are made of: two disks and a log a node, and the topology's disk
+pub record IsRoomFor {D L N : Type 0} (config : Config) (room : Room D L N) : Type 0 where
+  pub kinds : room.kinds.items ≡ kinds_of config.joiners config.replicas
+  pub nodes : (room.nodes.items ≡ []) × (count_of config ≤ vec_capacity room.nodes)
+  pub disks : (room.parts.disks.items ≡ []) × (2 * count_of config < vec_capacity room.parts.disks)
+  pub logs : (room.parts.logs.items ≡ []) × (count_of config ≤ vec_capacity room.parts.logs)
 
 -- a log for each node that reads one
 pub record AreEnough {L : Type 0} (joiners : ℕ) (logs : Logs L) : Type 0 where
@@ -40,25 +42,25 @@ pub record IsStart {D L : Type 0} (bytes : L → List ℕ) (clicks queries : Lis
   pub records : AreRecordsOf g (kept_all rest) d
   pub places : (s : ℕ) → s < 2 → AreKeptPlaces g (d.dispatchers s)
 
--- the number of the node that has the disk of this name, with so many joiners a site
-abbrev pub number_of : (joiners : ℕ) → DiskName → ℕ
-number_of joiners name.Topology = 0
-number_of joiners (name.Offset s) = s
-number_of joiners (name.Retry s) = s
-number_of joiners (name.Server s) = 2 + s
-number_of joiners (name.Replica r) = 4 + r
-number_of joiners (name.Epoch s j) = 7 + s * joiners + j
-number_of joiners (name.Output s j) = 7 + s * joiners + j
+-- the number of the node that has the disk of this name
+abbrev pub number_of : Config → DiskName → ℕ
+number_of config name.Topology = 0
+number_of config (name.Offset s) = s
+number_of config (name.Retry s) = s
+number_of config (name.Server s) = 2 + s
+number_of config (name.Replica r) = 4 + r
+number_of config (name.Epoch s j) = 4 + config.replicas + s * config.joiners + j
+number_of config (name.Output s j) = 4 + config.replicas + s * config.joiners + j
 
 -- how many disks and logs the nodes from this number on have
-abbrev pub disks_from : (joiners number : ℕ) → ℕ
-disks_from joiners number = 2 * (2 - number) + (2 - (number - 2)) + (3 - (number - 4)) + 2 * (2 * joiners - (number - 7))
+abbrev pub disks_from : Config → ℕ → ℕ
+disks_from config number = 2 * (2 - number) + (2 - (number - 2)) + (config.replicas - (number - 4)) + 2 * (2 * config.joiners - place_of config number)
 
 abbrev pub clicks_from : ℕ → ℕ
 clicks_from number = 2 - number
 
-abbrev pub queries_from : (joiners number : ℕ) → ℕ
-queries_from joiners number = 2 * joiners - (number - 7)
+abbrev pub queries_from : Config → ℕ → ℕ
+queries_from config number = 2 * config.joiners - place_of config number
 
 -- the open disks and the logs of nodes to come, and disks and logs apart
 pub record StockView (D L : Type 0) : Type 0 where
@@ -76,10 +78,10 @@ module _ {D L : Type 0} where
   -- what the nodes from this number on are made of is there, and nothing else
   pub record AreFrom (number : ℕ) (l : StockView D L) : Type 0 where
     pub ranges : IsRunnable l.config
-    pub there : (n : DiskName) → Mem n (other_names l.config.joiners l.config.replicas) → number ≤ number_of l.config.joiners n → Mem n (map (λ (o : OpenView D). o.name) l.rest)
-    pub disks : length l.rest ≡ disks_from l.config.joiners number
+    pub there : (n : DiskName) → Mem n (other_names l.config.joiners l.config.replicas) → number ≤ number_of l.config n → Mem n (map (λ (o : OpenView D). o.name) l.rest)
+    pub disks : length l.rest ≡ disks_from l.config number
     pub clicks : length l.clicks ≡ clicks_from number
-    pub queries : length l.queries ≡ queries_from l.config.joiners number
+    pub queries : length l.queries ≡ queries_from l.config number
     pub none : (l.disks ≡ []) × (l.logs ≡ [])
 
   -- all disks, each under its name, and all logs
@@ -89,7 +91,7 @@ module _ {D L : Type 0} where
   abbrev pub logs_in : StockView D L → List L
   logs_in l = l.logs ++ (l.clicks ++ l.queries)
 
-module _ {N D L : Type 0} (number : N → ℕ) (waits : N → Bool) (places : N → AnyState → Type 0) (disks_of : ℕ → ℕ → N → List (Lent D)) (logs_of : N → List L) (tells : Bool) (bytes : L → List ℕ) where
+module _ {N D L : Type 0} (number : N → ℕ) (waits : N → Bool) (places : N → AnyState → Type 0) (disks_of : Config → ℕ → N → List (Lent D)) (logs_of : N → List L) (tells : Bool) (bytes : L → List ℕ) where
   -- The node of this number is made of its own disks and logs, down over what they keep; or it isn't, and they are put apart.
   pub record Makes (i : ℕ) (old : StockView D L) (made : Option N) (new : StockView D L) : Type 0 where
     pub config : new.config ≡ old.config
@@ -98,5 +100,5 @@ module _ {N D L : Type 0} (number : N → ℕ) (waits : N → Bool) (places : N 
     pub up : IfSome made (IsUpAt number waits i)
     pub over : IsTrue tells → (g : Setting) (d : Disks) → IsStart bytes old.clicks old.queries old.rest old.config g d
         → IsStart bytes new.clicks new.queries new.rest new.config g d × IfSome made (IsDownAt places g d i)
-    pub disks : IsPermutation (disks_in old) (option_or_else [] (disks_of old.config.joiners i) made ++ disks_in new)
+    pub disks : IsPermutation (disks_in old) (option_or_else [] (disks_of old.config i) made ++ disks_in new)
     pub logs : IsPermutation (logs_in old) (option_or_else [] logs_of made ++ logs_in new)

@@ -1,31 +1,40 @@
 -- The disks of nodes, under their names.
-use Rattle.std.specs.Prelude.{◌≡◌, ℕ, suc, ◌-◌, nat_lt, if◌then◌else◌, List, [], ◌∷◌, ◌++◌}
+use Rattle.std.specs.Prelude.{◌≡◌, ℕ, suc, ◌+◌, ◌-◌, ◌*◌, nat_lt, if◌then◌else◌, List, [], ◌∷◌, ◌++◌}
 use Rattle.outside.specs.declared.store.DiskName.{DiskName}
 use Rattle.outside.specs.declared.store.DiskName.TheVariants as name
 use Rattle.turn_defs.specs.declared.node.Node.{Node}
 use Rattle.turn_defs.specs.declared.node.Node.TheVariants.{Dispatcher, Server, Replica, Joiner}
+use Rattle.turn_defs.specs.declared.config.Config.{Config}
+use Rattle.turn_defs.specs.Setting.{Setting}
 use Rattle.site_store.specs.Lent.{Lent}
 use Rattle.site_store.specs.declared.lent.disk.LentDisk.{LentDisk}
 
 abbrev pub as_lent : {D : Type 0} → LentDisk D → Lent D
 as_lent d = record { name = d.name; disk = d.disk }
 
--- The place of a joiner's number among all joiners, its site, and its place there. Each site has so many.
-abbrev pub place_of : ℕ → ℕ
-place_of number = number - 7
+-- the numbers of a setting, as its nodes have them, and how many nodes there are
+abbrev pub numbers_of : Setting → Config
+numbers_of g = record { horizon = g.horizon; joiners = g.joiners; table = g.table; batch = g.batch; replicas = g.replicas }
 
-abbrev pub site_of : (joiners number : ℕ) → ℕ
-site_of joiners number = if nat_lt (place_of number) joiners then 0 else 1
+abbrev pub count_of : Config → ℕ
+count_of config = 4 + config.replicas + 2 * config.joiners
 
-abbrev pub joiner_of : (joiners number : ℕ) → ℕ
-joiner_of joiners number = if nat_lt (place_of number) joiners then place_of number else place_of number - joiners
+-- the place of a joiner's number among all joiners, its site, and its place there
+abbrev pub place_of : Config → ℕ → ℕ
+place_of config number = number - 4 - config.replicas
+
+abbrev pub site_of : Config → ℕ → ℕ
+site_of config number = if nat_lt (place_of config number) config.joiners then 0 else 1
+
+abbrev pub joiner_of : Config → ℕ → ℕ
+joiner_of config number = if nat_lt (place_of config number) config.joiners then place_of config number else place_of config number - config.joiners
 
 -- the names of a node's disks
-abbrev pub names_of : (joiners : ℕ) → Node → List DiskName
-names_of joiners (Dispatcher s) = name.Offset s ∷ name.Retry s ∷ []
-names_of joiners (Server s) = name.Server s ∷ []
-names_of joiners (Replica r) = name.Replica r ∷ []
-names_of joiners (Joiner j) = name.Epoch (site_of joiners j) (joiner_of joiners j) ∷ name.Output (site_of joiners j) (joiner_of joiners j) ∷ []
+abbrev pub names_of : Config → Node → List DiskName
+names_of config (Dispatcher s) = name.Offset s ∷ name.Retry s ∷ []
+names_of config (Server s) = name.Server s ∷ []
+names_of config (Replica r) = name.Replica r ∷ []
+names_of config (Joiner j) = name.Epoch (site_of config j) (joiner_of config j) ∷ name.Output (site_of config j) (joiner_of config j) ∷ []
 
 -- the disks of a node of each kind under the names of its number
 abbrev pub of_dispatcher : {D : Type 0} → ℕ → (offset retry : D) → List (Lent D)
@@ -37,8 +46,8 @@ of_server number disk = record { name = name.Server (number - 2); disk = disk } 
 abbrev pub of_replica : {D : Type 0} → ℕ → D → List (Lent D)
 of_replica number disk = record { name = name.Replica (number - 4); disk = disk } ∷ []
 
-abbrev pub of_joiner : {D : Type 0} → (joiners number : ℕ) → (epochs outputs : D) → List (Lent D)
-of_joiner joiners number epochs outputs = record { name = name.Epoch (site_of joiners number) (joiner_of joiners number); disk = epochs } ∷ record { name = name.Output (site_of joiners number) (joiner_of joiners number); disk = outputs } ∷ []
+abbrev pub of_joiner : {D : Type 0} → Config → ℕ → (epochs outputs : D) → List (Lent D)
+of_joiner config number epochs outputs = record { name = name.Epoch (site_of config number) (joiner_of config number); disk = epochs } ∷ record { name = name.Output (site_of config number) (joiner_of config number); disk = outputs } ∷ []
 
 -- what each of these has by its place, the first of which is this
 abbrev pub all_from : {N X : Type 0} → (ℕ → N → List X) → ℕ → List N → List X

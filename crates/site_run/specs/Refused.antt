@@ -26,6 +26,7 @@ use Rattle.site_laws.specs.Stores.{Images}
 use Rattle.site_store.specs.Records.{KeptDisk, KeptValues, AreKept}
 use Rattle.site_store.specs.Causes.{HasCause, HasPassed as PassesFor}
 use Rattle.site_run.specs.Causes.{epochs_of}
+use Rattle.site_run.specs.Naming.{numbers_of}
 use Rattle.site_run.specs.Running.{ComesToLast}
 use Rattle.site_run.specs.declared.ran.RunLog.{RunLog}
 
@@ -94,7 +95,7 @@ module _ (g : Setting) (h : List BusEntry) where
   pub record IsSpent (d : Disks) (faulted : Type 0) (disk : DiskName) (epoch : ℕ) : Type 0 where
     pub node : Node
     pub is : IsNode g node
-    pub named : disk ≡ epochs_of g.joiners (node_number node)
+    pub named : disk ≡ epochs_of (numbers_of g) (node_number node)
     pub came : ComesToLast d h node epoch
     pub few : stops_of node ≤ 8
     pub met : 1 ≤ stops_of node → faulted

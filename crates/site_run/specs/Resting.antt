@@ -4,13 +4,14 @@ use Rattle.offset_journal.specs.Offsets.{Keeps as KeepsOffset}
 use Rattle.retry_log.specs.Pending.{Keeps as KeepsPending}
 use Rattle.epoch_journal.specs.Epochs.{Keeps as KeepsEpoch}
 use Rattle.output_log.specs.Pairs.{Keeps as KeepsPairs}
+use Rattle.turn_defs.specs.declared.config.Config.{Config}
 use Rattle.turn_defs.specs.declared.node.Node.{Node}
 use Rattle.turn_defs.specs.declared.node.Node.TheVariants.{Dispatcher, Server, Replica, Joiner}
 use Rattle.turn_defs.specs.Setting.{Setting}
 use Rattle.turn_defs.specs.Nodes.{IsNode, node_number, node_count}
 use Rattle.site_store.specs.Lent.{Lent}
 use Rattle.site_laws.specs.Kinds.{StateOf}
-use Rattle.site_run.specs.Naming.{of_dispatcher, of_server, of_replica, of_joiner}
+use Rattle.site_run.specs.Naming.{numbers_of, of_dispatcher, of_server, of_replica, of_joiner}
 use Rattle.site_laws.specs.Stores.{KeepsVotes}
 
 -- the node has no open turn
@@ -38,22 +39,21 @@ module _ {D : Type 0} (image : D → List ℕ → Type 0) where
     pub named : lent ≡ of_replica (4 + r) disk
     pub votes : (c : List ℕ) → image disk c → KeepsVotes t.kept c
 
-  pub record JoinerKeeps (joiners j : ℕ) (t : StateOf (Joiner j)) (lent : List (Lent D)) : Type 0 where
+  pub record JoinerKeeps (config : Config) (j : ℕ) (t : StateOf (Joiner j)) (lent : List (Lent D)) : Type 0 where
     pub epochs : D
     pub outputs : D
-    pub named : lent ≡ of_joiner joiners j epochs outputs
+    pub named : lent ≡ of_joiner config j epochs outputs
     pub epoch : (c : List ℕ) → image epochs c → KeepsEpoch t.kept.epoch c
     pub pairs : (c : List ℕ) → image outputs c → KeepsPairs t.kept.pairs c
 
   -- these are the disks of the node, under the names of its number; whatever a stop leaves of each keeps what the node keeps
-  abbrev pub KeepsAs : (joiners : ℕ) (n : Node) → StateOf n → List (Lent D) → Type 0
-  KeepsAs joiners (Dispatcher s) t lent = DispatcherKeeps s t lent
-  KeepsAs joiners (Server s) t lent = ServerKeeps s t lent
-  KeepsAs joiners (Replica r) t lent = ReplicaKeeps r t lent
-  KeepsAs joiners (Joiner j) t lent = JoinerKeeps joiners j t lent
+  abbrev pub KeepsAs : Config → (n : Node) → StateOf n → List (Lent D) → Type 0
+  KeepsAs config (Dispatcher s) t lent = DispatcherKeeps s t lent
+  KeepsAs config (Server s) t lent = ServerKeeps s t lent
+  KeepsAs config (Replica r) t lent = ReplicaKeeps r t lent
+  KeepsAs config (Joiner j) t lent = JoinerKeeps config j t lent
 
 -- The nodes of a setting in the order of their numbers, each with such disks.
 pub record AllKeep {N D : Type 0} (image : D → List ℕ → Type 0) (disks_of : ℕ → N → List (Lent D)) (g : Setting) (at : (n : Node) → StateOf n) (nodes : List N) : Type 0 where
-  pub replicas : g.replicas ≡ 3
   pub count : length nodes ≡ node_count g
-  pub each : (n : Node) → IsNode g n → (a : N) → KeepsAs image g.joiners n (at n) (disks_of (node_number n) (slice_index_or nodes (node_number n) a))
+  pub each : (n : Node) → IsNode g n → (a : N) → KeepsAs image (numbers_of g) n (at n) (disks_of (node_number n) (slice_index_or nodes (node_number n) a))

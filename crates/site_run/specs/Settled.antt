@@ -1,5 +1,6 @@
 -- What the end of a run makes of its nodes and disks.
 use Rattle.std.specs.Prelude.{ℕ, suc, List, [], ◌∷◌, Bool, IsTrue, Option, None, Some, filter}
+use Rattle.turn_defs.specs.declared.config.Config.{Config}
 use Rattle.run_fault.specs.declared.fault.RunFault.{RunFault}
 use Rattle.site_node.specs.declared.kind.NodeFault.{NodeFault}
 use Rattle.site_store.specs.Lent.{Lent}
@@ -8,18 +9,18 @@ use Rattle.site_run.specs.Causes.{of_node}
 
 -- ---- the fault that is told: that of the first node which has one
 
-abbrev pub told_of : (joiners number : ℕ) → Option NodeFault → Option RunFault
-told_of joiners number None = None
-told_of joiners number (Some f) = Some (of_node joiners number f)
+abbrev pub told_of : Config → ℕ → Option NodeFault → Option RunFault
+told_of config number None = None
+told_of config number (Some f) = Some (of_node config number f)
 
 abbrev pub or_else : Option RunFault → Option RunFault → Option RunFault
 or_else None later = later
 or_else (Some f) later = Some f
 
 -- of these nodes, the first of which has this number
-abbrev pub first_fault : {N : Type 0} → (joiners number : ℕ) → List (N × Option NodeFault) → Option RunFault
-first_fault joiners number [] = None
-first_fault joiners number (n ∷ ns) = or_else (told_of joiners number n.1) (first_fault joiners (suc number) ns)
+abbrev pub first_fault : {N : Type 0} → Config → ℕ → List (N × Option NodeFault) → Option RunFault
+first_fault config number [] = None
+first_fault config number (n ∷ ns) = or_else (told_of config number n.1) (first_fault config (suc number) ns)
 
 -- ---- what is read back
 

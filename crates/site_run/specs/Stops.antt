@@ -4,13 +4,14 @@ use Rattle.list_words.specs.Lists.{Each}
 use Rattle.outside.specs.declared.store.DiskName.{DiskName}
 use Rattle.outside.specs.Plans.{AtMost}
 use Rattle.air_bus.specs.declared.entry.Entry.{Entry as BusEntry}
+use Rattle.turn_defs.specs.declared.config.Config.{Config}
 use Rattle.turn_defs.specs.declared.node.Node.{Node}
 use Rattle.turn_defs.specs.Setting.{Setting}
 use Rattle.turn_defs.specs.Nodes.{IsNode, node_number}
 use Rattle.site_store.specs.Lent.{Lent}
 use Rattle.site_laws.specs.Laws.{made_by}
 use Rattle.site_workers.specs.Works.{stop_count}
-use Rattle.site_run.specs.Naming.{names_of}
+use Rattle.site_run.specs.Naming.{names_of, numbers_of}
 use Rattle.site_run.specs.declared.ran.RunLog.{RunLog}
 
 -- so many all in all, of each of these as many as it has
@@ -20,7 +21,7 @@ AllInAll has (x ∷ xs) k = (i : ℕ) × (j : ℕ) × has x i × AllInAll has xs
 
 -- No node has stopped more often than was planned for its disks. Left says that at most so many stops were of a disk.
 abbrev pub StopsAsPlanned : (left : DiskName → ℕ → Type 0) → Setting → List BusEntry → Type 0
-StopsAsPlanned left g h = (n : Node) → IsNode g n → (k : ℕ) → AllInAll left (names_of g.joiners n) k → stop_count (made_by (node_number n) h) ≤ k
+StopsAsPlanned left g h = (n : Node) → IsNode g n → (k : ℕ) → AllInAll left (names_of (numbers_of g) n) k → stop_count (made_by (node_number n) h) ≤ k
 
 -- A run over a store of whose disks this is said, and whose count of faults stood so before it and stands so after it. Where it began it
 -- stops its nodes as planned, and where no stop is planned no disk meets a fault.
@@ -30,7 +31,7 @@ pub record RunsAsPlanned (left : DiskName → ℕ → Type 0) (g : Setting) (ran
 
 -- The stops that are left to a node are those of its disks, and where these met no fault it met none. Where it met none and isn't
 -- waiting they met none and are up.
-pub record ArePlanned {N D : Type 0} (stops : D → ℕ → Bool) (made disk_faults : D → ℕ) (is_down : D → Bool) (stops_left : N → ℕ → Type 0) (faults : N → ℕ) (waits : N → Bool) (disks_of : ℕ → ℕ → N → List (Lent D)) : Type 0 where
-  pub left : (joiners number k : ℕ) (v : N) → AllInAll (λ l. AtMost (stops l.disk) (made l.disk)) (disks_of joiners number v) k → stops_left v k
-  pub none : (joiners number : ℕ) (v : N) → Each (λ l. disk_faults l.disk ≡ 0) (disks_of joiners number v) → faults v ≡ 0
-  pub calm : (joiners number : ℕ) (v : N) → faults v ≡ 0 → waits v ≡ false → Each (λ l. (disk_faults l.disk ≡ 0) × (is_down l.disk ≡ false)) (disks_of joiners number v)
+pub record ArePlanned {N D : Type 0} (stops : D → ℕ → Bool) (made disk_faults : D → ℕ) (is_down : D → Bool) (stops_left : N → ℕ → Type 0) (faults : N → ℕ) (waits : N → Bool) (disks_of : Config → ℕ → N → List (Lent D)) : Type 0 where
+  pub left : (config : Config) (number k : ℕ) (v : N) → AllInAll (λ l. AtMost (stops l.disk) (made l.disk)) (disks_of config number v) k → stops_left v k
+  pub none : (config : Config) (number : ℕ) (v : N) → Each (λ l. disk_faults l.disk ≡ 0) (disks_of config number v) → faults v ≡ 0
+  pub calm : (config : Config) (number : ℕ) (v : N) → faults v ≡ 0 → waits v ≡ false → Each (λ l. (disk_faults l.disk ≡ 0) × (is_down l.disk ≡ false)) (disks_of config number v)

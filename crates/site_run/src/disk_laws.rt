@@ -3,6 +3,7 @@
 
 ghost use Rattle.std.specs.Prelude.{◌≡◌, ◌≤◌, ℕ, IsTrue};
 ghost use Rattle.list_words.specs.Lists.{Mem};
+ghost use Rattle.turn_defs.specs.declared.config.Config.{Config};
 ghost use Rattle.turn_defs.specs.declared.node.Node.{Node};
 ghost use Rattle.turn_defs.specs.Nodes.{node_number};
 ghost use Rattle.site_store.specs.Lent.{Lent};
@@ -26,9 +27,9 @@ fn images<N: SiteNode>()
 
 /// The disks of a node that stands at a state hold what the state says, whatever a stop now leaves of them.
 pub fn held<D: Disk, L: LogFile>()
-    ensures { IsTrue D.tells → IsTrue L.tells → (joiners : ℕ) (n : Node) (t : StateOf n) (node : _) → HasSpelledNotes n t
+    ensures { IsTrue D.tells → IsTrue L.tells → (config : Config) (n : Node) (t : StateOf n) (node : _) → HasSpelledNotes n t
         → ⟦<AnyNode<D, L> as SystemNode>⟧.places node (any_of n t)
-        → HoldsAs D.image joiners n t (⟦<AnyNode<D, L> as Parting<D, L>>⟧.disks_of joiners (node_number n) node) }
+        → HoldsAs D.image config n t (⟦<AnyNode<D, L> as Parting<D, L>>⟧.disks_of config (node_number n) node) }
 {
     images::<AnyNode<D, L>>();
     site_laws::stores::read();
@@ -36,14 +37,14 @@ pub fn held<D: Disk, L: LogFile>()
 
 /// The disks of a node that has grown, in however many steps, have gone on from those that it had.
 pub fn gone_on<D: Disk, L: LogFile>()
-    ensures { (joiners number k : ℕ) (v : _) (w : _) → Reached ⟦<AnyNode<D, L> as SiteNode>⟧.grown k v w
-        → HaveGoneOn D.image (⟦<AnyNode<D, L> as Parting<D, L>>⟧.disks_of joiners number v) (⟦<AnyNode<D, L> as Parting<D, L>>⟧.disks_of joiners number w) }
+    ensures { (config : Config) (number k : ℕ) (v : _) (w : _) → Reached ⟦<AnyNode<D, L> as SiteNode>⟧.grown k v w
+        → HaveGoneOn D.image (⟦<AnyNode<D, L> as Parting<D, L>>⟧.disks_of config number v) (⟦<AnyNode<D, L> as Parting<D, L>>⟧.disks_of config number w) }
 {}
 
 /// A fault that a node's disks have met is one of those disks, and one of its log is its log's.
 pub fn met<D: Disk, L: LogFile>()
-    ensures disks { (joiners number : ℕ) (node : _) → 1 ≤ ⟦<AnyNode<D, L> as SiteNode>⟧.faults node
-        → (l : Lent _) × Mem l (⟦<AnyNode<D, L> as Parting<D, L>>⟧.disks_of joiners number node) × (1 ≤ D.faults l.disk) }
+    ensures disks { (config : Config) (number : ℕ) (node : _) → 1 ≤ ⟦<AnyNode<D, L> as SiteNode>⟧.faults node
+        → (l : Lent _) × Mem l (⟦<AnyNode<D, L> as Parting<D, L>>⟧.disks_of config number node) × (1 ≤ D.faults l.disk) }
     ensures logs { (node : _) → 1 ≤ ⟦<AnyNode<D, L> as SiteNode>⟧.log_faults node
         → (l : _) × Mem l (⟦<AnyNode<D, L> as Parting<D, L>>⟧.logs_of node) × (1 ≤ L.faults l) }
 {}
@@ -58,9 +59,9 @@ pub fn none_stops()
 /// A node that stands at a state without an open turn keeps on each of its disks, whatever a stop now leaves of it, what the state
 /// keeps.
 pub fn rested<D: Disk, L: LogFile>()
-    ensures { IsTrue D.tells → IsTrue L.tells → (joiners : ℕ) (n : Node) (t : StateOf n) (node : _) → IsClosed n t
+    ensures { IsTrue D.tells → IsTrue L.tells → (config : Config) (n : Node) (t : StateOf n) (node : _) → IsClosed n t
         → ⟦<AnyNode<D, L> as SystemNode>⟧.places node (any_of n t)
-        → KeepsAs D.image joiners n t (⟦<AnyNode<D, L> as Parting<D, L>>⟧.disks_of joiners (node_number n) node) }
+        → KeepsAs D.image config n t (⟦<AnyNode<D, L> as Parting<D, L>>⟧.disks_of config (node_number n) node) }
 {}
 
 /// The notes of a replica that stands at a state have spellings.

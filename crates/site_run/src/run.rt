@@ -32,8 +32,7 @@ use topology_journal::Topology;
 /// back what its disks keep then. `end` is the end of the click log's last whole line. All logs and disks are given back at every
 /// return, and `ran` gets what the run leaves, nothing where none began.
 ///
-/// It opens the click log twice and the query log once for each joiner, and takes a thread for each of the 7 nodes and of the
-/// joiners. The history takes memory linear in the packets that are sent.
+/// It opens the click log twice and the query log once for each joiner, and takes a thread for each node. The history takes memory linear in the packets that are sent.
 ///
 /// What is said of the disks is said where the disks and the logs tell what they hold.
 pub fn run_sites<R, F, S, G>(
@@ -63,7 +62,7 @@ where
 
     // What is heard of it, whatever logs and disks tell; and why it gives up. A fault that names a node is of one that stopped eight
     // times, or couldn't be reopened.
-    ensures heard { IfSome ran.new.log (IsHeardOf plan config.now.joiners) }
+    ensures heard { IfSome ran.new.log (IsHeardOf plan config.now.joiners config.now.replicas) }
     ensures cause { IfErr result (IsCounted (Rose (F.faults files.old) (F.faults files.new)) (Rose (S.faults store.old) (S.faults store.new))) }
     ensures stopped { IfErr result (NamesEnded ran.new.log) }
     // No node stops more often than was planned for its disks, and where no stop is planned no disk meets a fault.
@@ -74,7 +73,7 @@ where
 {
     photon_model::stores();
     ran.log = None;
-    let Ok(room) = Room::new(alloc, config.joiners) else {
+    let Ok(room) = Room::new(alloc, config) else {
         return Err(RunFault::Memory);
     };
     let logs = match open_logs(alloc, files, names, config.joiners) {
@@ -112,12 +111,12 @@ where
     F::Log: Drop,
     S::Disk: Drop,
     requires ranges { IsRunnable config.now }
-    requires room { IsRoomFor config.now.joiners room }
+    requires room { IsRoomFor config.now room }
     requires logs { AreEnough config.now.joiners logs }
     requires none { ran.old.log ≡ None }
     ensures over { IsTrue S.Disk.tells → IsTrue F.Log.tells → (g : Setting) → Checked g → IsSettingOver F.Log.bytes logs.clicks.items logs.queries.items config.now end g → RunsOver g (S.image store.old) (S.image store.new)
         (Rose (F.faults files.old) (F.faults files.new)) (Rose (S.faults store.old) (S.faults store.new)) ran.new.log result }
-    ensures heard { IfSome ran.new.log (IsHeardOf plan config.now.joiners) }
+    ensures heard { IfSome ran.new.log (IsHeardOf plan config.now.joiners config.now.replicas) }
     ensures cause { IfErr result (IsCounted (Rose (F.faults files.old) (F.faults files.new)) (Rose (S.faults store.old) (S.faults store.new))) }
     ensures stopped { IfErr result (NamesEnded ran.new.log) }
     ensures stops { IsTrue S.Disk.planned → IsTrue F.Log.tells → (g : Setting) → Checked g → IsSettingOver F.Log.bytes logs.clicks.items logs.queries.items config.now end g
@@ -155,6 +154,7 @@ where
     };
     let Built {
         topology,
+        kinds,
         nodes,
         parts,
     } = built;
@@ -162,8 +162,7 @@ where
         name: DiskName::Topology,
         disk: topology.into_disk(),
     };
-    let joiners = config.joiners;
     run_system(
-        rt, alloc, joiners, files, store, plan, gate, ran, topology, nodes, parts,
+        rt, alloc, config, files, store, plan, gate, ran, topology, &kinds, nodes, parts,
     )
 }

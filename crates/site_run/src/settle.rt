@@ -15,7 +15,7 @@ ghost use Rattle.site_run.specs.Settled.{told_of, or_else, first_fault, lent_rep
 use crate::built::{Parting, Parts};
 use crate::causes::fault_of_node;
 use crate::sources::shut_all;
-use crate::{Outcome, RunFault};
+use crate::{Config, Outcome, RunFault};
 use outside::{Disk, Source, Store};
 use site_node::NodeFault;
 use site_store::{LentDisk, give_all, read_back};
@@ -45,15 +45,15 @@ pub(crate) fn give_parts<F: Source, S: Store>(
 /// Takes nodes apart, and tells the fault of the first that has one.
 pub(crate) fn part_all<D, L, N: Parting<D, L>>(
     nodes: Vec<(N, Option<NodeFault>)>,
-    joiners: u8,
+    config: &Config,
     parts: Parts<D, L>,
 ) -> (Parts<D, L>, Option<RunFault>)
     requires few { length nodes.items ≤ 255 }
     requires disk_room { length parts.disks.items + 2 * length nodes.items ≤ vec_capacity parts.disks }
     requires log_room { length parts.logs.items + length nodes.items ≤ vec_capacity parts.logs }
-    ensures disks { map as_lent result.0.disks.items ≡ map as_lent parts.disks.items ++ all_from (λ i w. N.disks_of joiners i w.0) 0 nodes.items }
+    ensures disks { map as_lent result.0.disks.items ≡ map as_lent parts.disks.items ++ all_from (λ i w. N.disks_of config.now i w.0) 0 nodes.items }
     ensures logs { result.0.logs.items ≡ parts.logs.items ++ all_from (λ i w. N.logs_of w.0) 0 nodes.items }
-    ensures fault { result.1 ≡ first_fault joiners 0 nodes.items }
+    ensures fault { result.1 ≡ first_fault config.now 0 nodes.items }
 {
     let mut parts = parts;
     let mut first = None;
@@ -61,8 +61,8 @@ pub(crate) fn part_all<D, L, N: Parting<D, L>>(
     let mut nodes = nodes.into_iter();
     while let Some(left) = nodes.next() {
         let (node, fault) = left;
-        node.part(joiners, number, &mut parts);
-        first = first_of(first, joiners, number, fault);
+        node.part(config, number, &mut parts);
+        first = first_of(first, config, number, fault);
         number = number.saturating_add(1);
     }
     nodes.destroy_empty();
@@ -72,16 +72,16 @@ pub(crate) fn part_all<D, L, N: Parting<D, L>>(
 // The fault that was there first, else what is told of this node's.
 fn first_of(
     first: Option<RunFault>,
-    joiners: u8,
+    config: &Config,
     number: u8,
     fault: Option<NodeFault>,
 ) -> Option<RunFault>
-    ensures { result ≡ or_else first (told_of joiners number fault) }
+    ensures { result ≡ or_else first (told_of config.now number fault) }
 {
     match first {
         Some(first) => Some(first),
         None => match fault {
-            Some(fault) => Some(fault_of_node(joiners, number, fault)),
+            Some(fault) => Some(fault_of_node(config, number, fault)),
             None => None,
         },
     }

@@ -12,8 +12,8 @@ ghost use Rattle.gate_journal.specs.Images.{GoesOn};
 ghost use Rattle.site_laws.specs.Stores.{SameRecords};
 ghost use Rattle.site_run.specs.Heard.{IsHeardOf, kinds_of};
 ghost use Rattle.site_run.specs.Running.{AreDownOver};
-ghost use Rattle.site_run.specs.Naming.{as_lent, all_from};
-ghost use Rattle.site_run.specs.Asked.{IsRosterOf};
+ghost use Rattle.site_run.specs.Naming.{as_lent, all_from, count_of};
+ghost use Rattle.turn_defs.specs.Configs.{IsOf, IsRunnable};
 ghost use Rattle.run_fault.specs.Causes.{IsCounted};
 ghost use Rattle.site_run.specs.Causes.{IsPastOpening};
 ghost use Rattle.site_run.specs.Refused.{IsOfRun, NamesEnded};
@@ -26,7 +26,7 @@ use crate::built::{Parting, Parts, apart};
 use crate::disk_laws::none_stops;
 use crate::nodes::SystemNode;
 use crate::settle::{give_parts, part_all, settle};
-use crate::{Outcome, Ran, RunFault, RunLog};
+use crate::{Config, Outcome, Ran, RunFault, RunLog};
 use lossy_link::{Kind, Plan};
 use outside::{Gate, Source, Store};
 use site_laws::stores::{once, read};
@@ -36,46 +36,19 @@ use std::alloc::Global;
 use std::sync::Wait;
 use std::thread::Threads;
 
-// The kinds of all nodes, with four joiners a site.
-const KINDS: [Kind; 15] = [
-    Kind::Dispatcher,
-    Kind::Dispatcher,
-    Kind::Server,
-    Kind::Server,
-    Kind::Replica,
-    Kind::Replica,
-    Kind::Replica,
-    Kind::Joiner,
-    Kind::Joiner,
-    Kind::Joiner,
-    Kind::Joiner,
-    Kind::Joiner,
-    Kind::Joiner,
-    Kind::Joiner,
-    Kind::Joiner,
-];
-
-// The kinds of all nodes, with so many joiners a site.
-fn kinds(joiners: u8) -> &'static [Kind]
-    requires { joiners ≤ 4 }
-    ensures are { result.now ≡ kinds_of joiners }
-    ensures count { length result.now ≡ 7 + 2 * joiners }
-{
-    &KINDS[..7 + 2 * usize::from(joiners)]
-}
-
 /// Runs nodes until all are at rest or one has a fault, takes them apart, reads the journals back, and gives all back with the
 /// topology's disk. `ran` gets the history, nothing where there was no memory to begin.
 pub(crate) fn run_system<R, F, S, G, N>(
     rt: &R,
     alloc: Global,
-    joiners: u8,
+    config: &Config,
     files: &mut F,
     store: &mut S,
     plan: Plan,
     gate: &G,
     ran: &mut Ran,
     topology: LentDisk<S::Disk>,
+    kinds: &[Kind],
     nodes: Vec<N>,
     parts: Parts<S::Disk, F::Log>,
 ) -> Result<Outcome, RunFault>
@@ -86,35 +59,36 @@ where
     G: Gate,
     N: SystemNode + Parting<S::Disk, F::Log> + Send + Drop,
     S::Disk: Drop,
-    requires joiners { (0 < joiners) × (joiners ≤ 4) }
-    requires count { length nodes.items ≡ 7 + 2 * joiners }
+    requires ranges { IsRunnable config.now }
+    requires kinds { kinds.now ≡ kinds_of config.now.joiners config.now.replicas }
+    requires count { length nodes.items ≡ count_of config.now }
     requires numbers { (i : ℕ) (d : N) → i < length nodes.items → N.number (slice_index_or nodes.items i d) ≡ i }
     requires up { All (λ n. N.waits n ≡ false) nodes.items }
     requires empty { (parts.disks.items ≡ []) × (parts.logs.items ≡ []) }
-    requires room { (15 + 4 * joiners ≤ vec_capacity parts.disks) × (7 + 2 * joiners ≤ vec_capacity parts.logs) }
-    requires places { 1 + length (all_from (N.disks_of joiners) 0 nodes.items) ≤ S.places_left store.old }
+    requires room { (2 * count_of config.now < vec_capacity parts.disks) × (count_of config.now ≤ vec_capacity parts.logs) }
+    requires places { 1 + length (all_from (N.disks_of config.now) 0 nodes.items) ≤ S.places_left store.old }
     requires none { ran.old.log ≡ None }
     // Where no run began each disk is given back as it was.
-    ensures idle { IsTrue S.Disk.tells → ran.new.log ≡ None → (disk : DiskName) (c : List ℕ) → S.image store.new disk c → MayBeLeft S.Disk.image (S.image store.old) (as_lent topology ∷ all_from (N.disks_of joiners) 0 nodes.items) disk c }
-    ensures grown { IsTrue S.Disk.tells → IsTrue N.tells → (g : Setting) (d : Disks) (s : S) → IsRosterOf g joiners → AreHeld S.Disk.image N.places N.grown N.disks_of → AreDownOver N.places g d nodes.items
-        → AreOut S.Disk.image (S.image s) (S.image store.old) (as_lent topology) (all_from (N.disks_of joiners) 0 nodes.items) → (disk : DiskName) → GoesOn (S.image s disk) (S.image store.new disk) }
-    ensures left { IsTrue S.Disk.tells → IsTrue N.tells → (g : Setting) (d e : Disks) → IsRosterOf g joiners → AreHeld S.Disk.image N.places N.grown N.disks_of → AreDownOver N.places g d nodes.items
+    ensures idle { IsTrue S.Disk.tells → ran.new.log ≡ None → (disk : DiskName) (c : List ℕ) → S.image store.new disk c → MayBeLeft S.Disk.image (S.image store.old) (as_lent topology ∷ all_from (N.disks_of config.now) 0 nodes.items) disk c }
+    ensures grown { IsTrue S.Disk.tells → IsTrue N.tells → (g : Setting) (d : Disks) (s : S) → IsOf config.now g → AreHeld S.Disk.image N.places N.grown N.disks_of → AreDownOver N.places g d nodes.items
+        → AreOut S.Disk.image (S.image s) (S.image store.old) (as_lent topology) (all_from (N.disks_of config.now) 0 nodes.items) → (disk : DiskName) → GoesOn (S.image s disk) (S.image store.new disk) }
+    ensures left { IsTrue S.Disk.tells → IsTrue N.tells → (g : Setting) (d e : Disks) → IsOf config.now g → AreHeld S.Disk.image N.places N.grown N.disks_of → AreDownOver N.places g d nodes.items
         → SameRecords g d e → KeepsItsRecord S.Disk.image g (as_lent topology) → IfSome ran.new.log (λ l. HasRun g e l.air.history (S.image store.new)) }
-    ensures rest { IsTrue S.Disk.tells → IsTrue N.tells → (g : Setting) (d e : Disks) → IsRosterOf g joiners → AreHeld S.Disk.image N.places N.grown N.disks_of
+    ensures rest { IsTrue S.Disk.tells → IsTrue N.tells → (g : Setting) (d e : Disks) → IsOf config.now g → AreHeld S.Disk.image N.places N.grown N.disks_of
         → AreMet S.Disk.faults F.Log.faults N.faults N.log_faults N.disks_of N.logs_of → AreDownOver N.places g d nodes.items → SameRecords g d e → KeepsItsRecord S.Disk.image g (as_lent topology)
         → IfOk result (λ outcome. IsSomeAnd ran.new.log (λ l. HasRested g e l.air.history (S.image store.new) (Rose (S.faults store.old) (S.faults store.new)) outcome.journals)) }
-    ensures heard { IfSome ran.new.log (IsHeardOf plan joiners) }
+    ensures heard { IfSome ran.new.log (IsHeardOf plan config.now.joiners config.now.replicas) }
     ensures cause { AreMet S.Disk.faults F.Log.faults N.faults N.log_faults N.disks_of N.logs_of
         → IfErr result (λ f. IsCounted (Rose (F.faults files.old) (F.faults files.new)) (Rose (S.faults store.old) (S.faults store.new)) f × IsPastOpening f) }
     // No disk is told as damaged. A node is told as stopped by its entries, and a limit of one that came to its last epoch by them.
-    ensures whole { IsTrue S.Disk.tells → IsTrue N.tells → (g : Setting) (d : Disks) → IsRosterOf g joiners → AreHeld S.Disk.image N.places N.grown N.disks_of
+    ensures whole { IsTrue S.Disk.tells → IsTrue N.tells → (g : Setting) (d : Disks) → IsOf config.now g → AreHeld S.Disk.image N.places N.grown N.disks_of
         → AreMet S.Disk.faults F.Log.faults N.faults N.log_faults N.disks_of N.logs_of → AreDownOver N.places g d nodes.items → KeepsItsRecord S.Disk.image g (as_lent topology)
         → IfErr result (IsOfRun g d (Rose (S.faults store.old) (S.faults store.new)) ran.new.log) }
     ensures stopped { IfErr result (NamesEnded ran.new.log) }
     // No node stops more often than was planned for its disks, and where no stop is planned no disk meets a fault.
-    ensures stops { IsTrue S.Disk.planned → IsTrue N.planned → (g : Setting) (d : Disks) (s : S) → IsRosterOf g joiners → AreHeld S.Disk.image N.places N.grown N.disks_of → AreDownOver N.places g d nodes.items
+    ensures stops { IsTrue S.Disk.planned → IsTrue N.planned → (g : Setting) (d : Disks) (s : S) → IsOf config.now g → AreHeld S.Disk.image N.places N.grown N.disks_of → AreDownOver N.places g d nodes.items
         → ArePlanned S.Disk.stops S.Disk.made S.Disk.faults S.Disk.is_down N.stops_left N.faults N.waits N.disks_of → topology.name ≡ name.Topology
-        → AllAsPlanned S.Disk.stops S.Disk.made S.Disk.faults (Left S.stops S.made s) (as_lent topology ∷ all_from (N.disks_of joiners) 0 nodes.items)
+        → AllAsPlanned S.Disk.stops S.Disk.made S.Disk.faults (Left S.stops S.made s) (as_lent topology ∷ all_from (N.disks_of config.now) 0 nodes.items)
         → RunsAsPlanned (Left S.stops S.made s) g ran.new.log (S.faults store.old) (S.faults store.new) }
     ensures same { IsTrue F.Log.tells → (n : List ℕ) → F.bytes files.new n ≡ F.bytes files.old n }
     ensures file_count { F.faults files.old ≤ F.faults files.new }
@@ -131,7 +105,7 @@ where
     let mut parts = parts;
     parts.disks.push_reserved(topology);
     let is_recorded = ran.is_recorded;
-    match run(rt, alloc, kinds(joiners), plan, nodes, gate, is_recorded) {
+    match run(rt, alloc, kinds, plan, nodes, gate, is_recorded) {
         Ok(left) => {
             let site_workers::Ran {
                 air,
@@ -140,12 +114,12 @@ where
                 ..
             } = left;
             ran.log = Some(RunLog { air, seen });
-            let (parts, fault) = part_all(nodes, joiners, parts);
+            let (parts, fault) = part_all(nodes, config, parts);
             settle(alloc, files, store, parts, fault)
         }
         Err(back) => {
             let (_, nodes) = back;
-            let parts = apart(nodes, joiners, parts);
+            let parts = apart(nodes, config, parts);
             give_parts(files, store, parts);
             Err(RunFault::Memory)
         }

@@ -6,10 +6,9 @@ ghost use Rattle.lossy_link.specs.Fates.{PlanView};
 ghost use Rattle.lossy_link.specs.declared.bad_plan.Field.{Field as Place};
 ghost use Rattle.log_records.specs.declared.why.Why.{Why as Reason};
 ghost use Rattle.run_fault.specs.declared.fault.LogName.{LogName as LogKind};
-ghost use Rattle.site_run.specs.Heard.{IsHeardOf};
 ghost use Rattle.run_fault.specs.declared.fault.RunFault.TheVariants as fault;
 ghost use Rattle.photon_cli.specs.Drill.{BeginsDrill, Drills, HasDrilled, IsBadIn, IsPlanIn, PrintsDrill, PrintsDrillPrefix};
-ghost use Rattle.photon_cli.specs.Join.{AreValid, Refuses};
+ghost use Rattle.photon_cli.specs.Join.{AreValid, IsHeardOf, Refuses};
 ghost use Rattle.photon_cli.specs.LogFaults.{IsBeforeLogs, IsEarly, IsFailedRead, IsOfDrill, IsOfLogs, IsOfPlanOrLogs, IsOfRun, IsPast, failed_read};
 ghost use Rattle.photon_cli.specs.Words.{IsTextOf};
 

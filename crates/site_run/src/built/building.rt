@@ -9,10 +9,12 @@ ghost use Rattle.site_store.specs.Records.{lent_all, topology_lent};
 ghost use Rattle.turn_defs.specs.Configs.{IsRunnable};
 ghost use Rattle.site_run.specs.Making.{AreEnough, IsRoomFor, IsStart, disks_in, logs_in, view_of};
 ghost use Rattle.site_run.specs.Running.{AreDownOver};
-ghost use Rattle.site_run.specs.Naming.{as_lent, all_from};
+ghost use Rattle.site_run.specs.Heard.{kinds_of};
+ghost use Rattle.site_run.specs.Naming.{as_lent, all_from, count_of};
 
 use crate::built::stock::{Making, Stock};
 use crate::built::{Logs, Parting, Parts, Room, apart};
+use lossy_link::Kind;
 use outside::{Disk, DiskName, LogFile};
 use site_store::{OpenDisk, OpenStore};
 use std::alloc::Global;
@@ -20,11 +22,12 @@ use topology_journal::TopologyJournal;
 use turn_defs::Config;
 use turn_defs::laws::node_numbers;
 
-/// All nodes of both sites, in the order of their numbers, with the topology's journal. The parts are empty, with room for what
-/// the nodes are made of.
+/// All nodes of both sites, in the order of their numbers, with their kinds, and the topology's journal. The parts are empty, with
+/// room for what the nodes are made of.
 #[derive(Drop)]
 pub struct Built<D: Disk, L, N> {
     pub topology: TopologyJournal<D>,
+    pub kinds: Vec<Kind>,
     pub nodes: Vec<N>,
     pub parts: Parts<D, L>,
 }
@@ -39,27 +42,32 @@ pub fn build<D: Disk, L: LogFile, N: Making<D, L>>(
     room: Room<D, L, N>,
 ) -> Result<Built<D, L, N>, Parts<D, L>>
     requires ranges { IsRunnable config.now }
-    requires room { IsRoomFor config.now.joiners room }
+    requires room { IsRoomFor config.now room }
     requires named { map (λ o. o.name) opened.disks.items ≡ other_names config.now.joiners config.now.replicas }
     requires logs { AreEnough config.now.joiners logs }
-    ensures count { IfOk result (λ b. length b.nodes.items ≡ 7 + 2 * config.now.joiners) }
+    ensures kinds { IfOk result (λ b. b.kinds.items ≡ kinds_of config.now.joiners config.now.replicas) }
+    ensures count { IfOk result (λ b. length b.nodes.items ≡ count_of config.now) }
     ensures numbers { IfOk result (λ b. (i : ℕ) (d : _) → i < length b.nodes.items → N.number (slice_index_or b.nodes.items i d) ≡ i) }
     ensures up { IfOk result (λ b. All (λ n. N.waits n ≡ false) b.nodes.items) }
     // Each node is down over what its own disks keep.
     ensures places { IsTrue D.tells → (g : Setting) (d : Disks) → IsStart L.bytes logs.clicks.items logs.queries.items opened.disks.items config.now g d
         → IfOk result (λ b. AreDownOver N.places g d b.nodes.items) }
     // Under the names of their places they have the disks that were opened.
-    ensures held { IfOk result (λ b. IsPermutation (lent_all opened.disks.items) (all_from (N.disks_of config.now.joiners) 0 b.nodes.items)) }
+    ensures held { IfOk result (λ b. IsPermutation (lent_all opened.disks.items) (all_from (N.disks_of config.now) 0 b.nodes.items)) }
     ensures topology { IfOk result (λ b. b.topology ≡ opened.topology) }
     ensures none { IfOk result (λ b. (b.parts.disks.items ≡ []) × (b.parts.logs.items ≡ [])) }
-    ensures room { IfOk result (λ b. (15 + 4 * config.now.joiners ≤ vec_capacity b.parts.disks) × (7 + 2 * config.now.joiners ≤ vec_capacity b.parts.logs)) }
+    ensures room { IfOk result (λ b. (2 * count_of config.now < vec_capacity b.parts.disks) × (count_of config.now ≤ vec_capacity b.parts.logs)) }
     // Where one isn't made all disks come back under their names, and all logs.
     ensures disks { IfErr result (λ p. IsPermutation (topology_lent opened.topology.journal.disk ∷ lent_all opened.disks.items) (map as_lent p.disks.items)) }
     ensures logs { IfErr result (λ p. IsPermutation (logs.clicks.items ++ logs.queries.items) p.logs.items) }
 {
     node_numbers();
     let OpenStore { topology, disks } = opened;
-    let Room { nodes, parts } = room;
+    let Room {
+        kinds,
+        nodes,
+        parts,
+    } = room;
     let mut nodes = nodes;
     let mut stock = Stock {
         alloc,
@@ -68,7 +76,7 @@ pub fn build<D: Disk, L: LogFile, N: Making<D, L>>(
         logs,
         parts,
     };
-    for number in 0..7 + 2 * config.joiners {
+    for number in 0..4 + config.replicas + 2 * config.joiners {
         match N::make(&mut stock, number) {
             Some(node) => nodes.push_reserved(node),
             None => return Err(give_up(stock, nodes, topology)),
@@ -86,6 +94,7 @@ pub fn build<D: Disk, L: LogFile, N: Making<D, L>>(
     logs.queries.destroy_empty();
     Ok(Built {
         topology,
+        kinds,
         nodes,
         parts,
     })
@@ -97,12 +106,12 @@ fn give_up<D: Disk, L: LogFile, N: Parting<D, L>>(
     nodes: Vec<N>,
     topology: TopologyJournal<D>,
 ) -> Parts<D, L>
-    requires few { length nodes.items ≤ 15 }
-    requires disks { length stock.parts.disks.items + 2 * length nodes.items ≤ 14 + 4 * stock.config.joiners }
-    requires logs { length stock.parts.logs.items + length nodes.items ≤ 7 + 2 * stock.config.joiners }
-    requires all_disks { length (disks_in (view_of stock)) + length (all_from (N.disks_of stock.config.joiners) 0 nodes.items) ≤ 14 + 4 * stock.config.joiners }
-    requires all_logs { length (logs_in (view_of stock)) + length (all_from (λ _. N.logs_of) 0 nodes.items) ≤ 7 + 2 * stock.config.joiners }
-    ensures disks { IsPermutation (topology_lent topology.journal.disk ∷ (disks_in (view_of stock) ++ all_from (N.disks_of stock.config.joiners) 0 nodes.items)) (map as_lent result.disks.items) }
+    requires few { length nodes.items ≤ 255 }
+    requires disks { length stock.parts.disks.items + 2 * length nodes.items ≤ 2 * count_of stock.config }
+    requires logs { length stock.parts.logs.items + length nodes.items ≤ count_of stock.config }
+    requires all_disks { length (disks_in (view_of stock)) + length (all_from (N.disks_of stock.config) 0 nodes.items) ≤ 2 * count_of stock.config }
+    requires all_logs { length (logs_in (view_of stock)) + length (all_from (λ _. N.logs_of) 0 nodes.items) ≤ count_of stock.config }
+    ensures disks { IsPermutation (topology_lent topology.journal.disk ∷ (disks_in (view_of stock) ++ all_from (N.disks_of stock.config) 0 nodes.items)) (map as_lent result.disks.items) }
     ensures logs { IsPermutation (logs_in (view_of stock) ++ all_from (λ _. N.logs_of) 0 nodes.items) result.logs.items }
 {
     let Stock {
@@ -112,7 +121,7 @@ fn give_up<D: Disk, L: LogFile, N: Parting<D, L>>(
         logs,
         parts,
     } = stock;
-    let mut parts = apart(nodes, config.joiners, parts);
+    let mut parts = apart(nodes, &config, parts);
     put_open(rest, &mut parts);
     parts.put(DiskName::Topology, topology.into_disk());
     put_all(logs.clicks, &mut parts.logs);

@@ -2,6 +2,7 @@
 ghost use Rattle.std.specs.Prelude.{◌≡◌, ◌≤◌, ◌<◌, ◌+◌, ◌-◌, ◌*◌, ◌++◌, [], ◌∷◌, ℕ, List, map, length, vec_len, vec_capacity, refl};
 ghost use Rattle.outside.specs.declared.store.DiskName.TheVariants as name;
 ghost use Rattle.site_store.specs.Lent.{Lent};
+ghost use Rattle.turn_defs.specs.declared.config.Config.{Config};
 ghost use Rattle.site_run.specs.Naming.{as_lent, all_from, of_dispatcher, of_server, of_replica, of_joiner, place_of, site_of, joiner_of};
 ghost use Rattle.site_workers.specs.Eithers as either;
 
@@ -10,20 +11,21 @@ use crate::nodes::AnyNode;
 use outside::{Disk, DiskName, LogFile};
 use site_node::SiteNode;
 use site_workers::Either;
+use turn_defs::Config;
 
 /// A kind of node that is taken apart into disks under their names, and logs.
 pub trait Parting<D, L>: SiteNode {
-    /// Its disks under the names that it has with so many joiners a site and this number.
-    ghost disks_of: { ℕ → ℕ → Self → List (Lent D) };
+    /// Its disks under the names that a node of this number has.
+    ghost disks_of: { Config → ℕ → Self → List (Lent D) };
 
     /// Its logs.
     ghost logs_of: { Self → List L };
 
     /// Puts its disks and its logs to the others. It takes no memory.
-    fn part(self, joiners: u8, number: u8, parts: &mut Parts<D, L>)
+    fn part(self, config: &Config, number: u8, parts: &mut Parts<D, L>)
         requires disk_room { length parts.old.disks.items + 2 ≤ vec_capacity parts.old.disks }
         requires log_room { length parts.old.logs.items < vec_capacity parts.old.logs }
-        ensures disks { map as_lent parts.new.disks.items ≡ map as_lent parts.old.disks.items ++ disks_of joiners number self }
+        ensures disks { map as_lent parts.new.disks.items ≡ map as_lent parts.old.disks.items ++ disks_of config.now number self }
         ensures logs { parts.new.logs.items ≡ parts.old.logs.items ++ logs_of self }
         ensures disk_count { length parts.new.disks.items ≤ length parts.old.disks.items + 2 }
         ensures log_count { length parts.new.logs.items ≤ length parts.old.logs.items + 1 }
@@ -31,7 +33,7 @@ pub trait Parting<D, L>: SiteNode {
         ensures log_room { vec_capacity parts.new.logs ≡ vec_capacity parts.old.logs };
 
     /// There are as many of its disks under their names as it has.
-    ghost counted: { (joiners number : ℕ) (node : Self) → length (disks_of joiners number node) ≡ Self.disk_count node };
+    ghost counted: { (config : Config) (number : ℕ) (node : Self) → length (disks_of config number node) ≡ Self.disk_count node };
 }
 
 /// The name of a server's disk, by the server's number.
@@ -42,29 +44,29 @@ pub(crate) fn server_disk(number: u8) -> DiskName
 }
 
 /// The site of a joiner and its place there, by which its disks have their names, by the joiner's number.
-pub(crate) fn joiner_place(joiners: u8, number: u8) -> (u8, u8)
-    ensures { result ≡ (site_of joiners number, joiner_of joiners number) }
+pub(crate) fn joiner_place(config: &Config, number: u8) -> (u8, u8)
+    ensures { result ≡ (site_of config.now number, joiner_of config.now number) }
 {
-    let place = number.saturating_sub(7);
-    if place < joiners {
+    let place = number.saturating_sub(4).saturating_sub(config.replicas);
+    if place < config.joiners {
         (0, place)
     } else {
-        (1, place - joiners)
+        (1, place - config.joiners)
     }
 }
 
 impl<D: Disk, L: LogFile> Parting<D, L> for AnyNode<D, L> {
-    ghost disks_of = { λ joiners number any. either.by
+    ghost disks_of = { λ config number any. either.by
         (either.by (λ d. of_dispatcher number d.journals.offset.journal.disk d.journals.retry.journal.disk) (λ s. of_server number s.journal.journal.disk))
-        (either.by (λ r. of_replica number r.journal.disk) (λ j. of_joiner joiners number j.disks.epochs.journal.disk j.disks.log.disk)) any.node };
+        (either.by (λ r. of_replica number r.journal.disk) (λ j. of_joiner config number j.disks.epochs.journal.disk j.disks.log.disk)) any.node };
 
     ghost logs_of = { λ any. either.by (either.by (λ d. d.clicks.tail.log ∷ []) (λ s. [])) (either.by (λ r. []) (λ j. j.joining.queries.store.tail.log ∷ [])) any.node };
 
-    ghost counted = { λ joiners number any. either.counted _ _ _ _
+    ghost counted = { λ config number any. either.counted _ _ _ _
         (either.counted _ _ _ _ (λ d. refl) (λ s. refl))
         (either.counted _ _ _ _ (λ r. refl) (λ j. refl)) any.node };
 
-    fn part(self, joiners: u8, number: u8, parts: &mut Parts<D, L>) {
+    fn part(self, config: &Config, number: u8, parts: &mut Parts<D, L>) {
         match self.node {
             Either::First(Either::First(node)) => {
                 let (offset, retry, log) = node.into_disks();
@@ -81,7 +83,7 @@ impl<D: Disk, L: LogFile> Parting<D, L> for AnyNode<D, L> {
             ),
             Either::Second(Either::Second(node)) => {
                 let (epochs, outputs, log) = node.into_disks();
-                let (site, joiner) = joiner_place(joiners, number);
+                let (site, joiner) = joiner_place(config, number);
                 parts.put(DiskName::Epoch(site, joiner), epochs);
                 parts.put(DiskName::Output(site, joiner), outputs);
                 parts.logs.push_reserved(log);
@@ -92,11 +94,15 @@ impl<D: Disk, L: LogFile> Parting<D, L> for AnyNode<D, L> {
 
 /// Takes nodes apart, each under the names that its kind has at its place in the list, and puts all to the parts. It takes no
 /// memory: the parts have room for two disks and a log a node.
-pub fn apart<D, L, N: Parting<D, L>>(nodes: Vec<N>, joiners: u8, parts: Parts<D, L>) -> Parts<D, L>
+pub fn apart<D, L, N: Parting<D, L>>(
+    nodes: Vec<N>,
+    config: &Config,
+    parts: Parts<D, L>,
+) -> Parts<D, L>
     requires few { length nodes.items ≤ 255 }
     requires disk_room { length parts.disks.items + 2 * length nodes.items ≤ vec_capacity parts.disks }
     requires log_room { length parts.logs.items + length nodes.items ≤ vec_capacity parts.logs }
-    ensures disks { map as_lent result.disks.items ≡ map as_lent parts.disks.items ++ all_from (N.disks_of joiners) 0 nodes.items }
+    ensures disks { map as_lent result.disks.items ≡ map as_lent parts.disks.items ++ all_from (N.disks_of config.now) 0 nodes.items }
     ensures logs { result.logs.items ≡ parts.logs.items ++ all_from (λ _. N.logs_of) 0 nodes.items }
     ensures disk_count { length result.disks.items ≤ length parts.disks.items + 2 * length nodes.items }
     ensures disk_room { vec_capacity result.disks ≡ vec_capacity parts.disks }
@@ -106,7 +112,7 @@ pub fn apart<D, L, N: Parting<D, L>>(nodes: Vec<N>, joiners: u8, parts: Parts<D,
     let mut number = 0u8;
     let mut nodes = nodes.into_iter();
     while let Some(node) = nodes.next() {
-        node.part(joiners, number, &mut parts);
+        node.part(config, number, &mut parts);
         number = number.saturating_add(1);
     }
     nodes.destroy_empty();

@@ -1,10 +1,13 @@
 // What nodes are made of, and the room for it.
-ghost use Rattle.std.specs.Prelude.{◌≡◌, ◌<◌, ◌+◌, ◌++◌, [], ◌∷◌, map, length, vec_capacity};
+ghost use Rattle.std.specs.Prelude.{◌≡◌, ◌<◌, ◌+◌, ◌++◌, [], ◌∷◌, map, length, vec_capacity, IfOk};
+ghost use Rattle.site_run.specs.Heard.{kinds_of};
 ghost use Rattle.site_run.specs.Naming.{as_lent};
 
+use lossy_link::Kind;
 use outside::DiskName;
 use site_store::LentDisk;
 use std::alloc::{AllocError, Global};
+use turn_defs::Config;
 
 /// Disks under their names, and logs.
 #[derive(Drop)]
@@ -27,23 +30,25 @@ impl<D, L> Parts<D, L> {
     }
 }
 
-/// The memory for the nodes of both sites, and for what they are made of.
+/// The kinds of the nodes of both sites in the order of their numbers, and the memory for the nodes and for what they are made of.
 #[derive(Drop)]
 pub struct Room<D, L, N> {
+    pub(crate) kinds: Vec<Kind>,
     pub(crate) nodes: Vec<N>,
     pub(crate) parts: Parts<D, L>,
 }
 
 impl<D: Drop, L: Drop, N: Drop> Room<D, L, N> {
-    ghost use Rattle.std.specs.Prelude.{IfOk};
     ghost use Rattle.site_run.specs.Making.{IsRoomFor};
 
-    /// Room for seven nodes and the joiners: two disks and a log a node, and the topology's disk.
-    pub fn new(alloc: Global, joiners: u8) -> Result<Room<D, L, N>, AllocError>
-        ensures { IfOk result (IsRoomFor joiners) }
+    /// Room for all nodes: two disks and a log a node, and the topology's disk.
+    pub fn new(alloc: Global, config: &Config) -> Result<Room<D, L, N>, AllocError>
+        ensures { IfOk result (IsRoomFor config.now) }
     {
-        let count = 7 + 2 * usize::from(joiners);
+        let kinds = kinds(alloc, config)?;
+        let count = kinds.len();
         Ok(Room {
+            kinds,
             nodes: Vec::with_capacity(alloc, count)?,
             parts: Parts {
                 disks: Vec::with_capacity(alloc, 2 * count + 1)?,
@@ -51,4 +56,21 @@ impl<D: Drop, L: Drop, N: Drop> Room<D, L, N> {
             },
         })
     }
+}
+
+// The kinds of all nodes in the order of their numbers.
+fn kinds(alloc: Global, config: &Config) -> Result<Vec<Kind>, AllocError>
+    ensures { IfOk result (λ kinds. kinds.items ≡ kinds_of config.now.joiners config.now.replicas) }
+{
+    let sites = [
+        Kind::Dispatcher,
+        Kind::Dispatcher,
+        Kind::Server,
+        Kind::Server,
+    ];
+    let first_joiner = 4 + usize::from(config.replicas);
+    let mut kinds = Vec::from_array(alloc, sites)?;
+    kinds.resize(first_joiner, Kind::Replica)?;
+    kinds.resize(first_joiner + 2 * usize::from(config.joiners), Kind::Joiner)?;
+    Ok(kinds)
 }

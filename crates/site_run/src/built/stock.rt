@@ -1,5 +1,6 @@
 // Nodes in the making.
-ghost use Rattle.std.specs.Prelude.{◌≡◌, ◌≤◌, ◌+◌, ◌*◌, vec_capacity};
+ghost use Rattle.std.specs.Prelude.{◌≡◌, ◌≤◌, ◌<◌, ◌*◌, vec_capacity};
+ghost use Rattle.site_run.specs.Naming.{count_of};
 
 use crate::built::taking::{take_disk, take_last};
 use crate::built::{Logs, Parting, Parts, joiner_place};
@@ -23,12 +24,12 @@ pub struct Stock<D: Disk, L: LogFile> {
     pub(crate) rest: Vec<OpenDisk<D>>,
     pub(crate) logs: Logs<L>,
     pub(crate) parts: Parts<D, L>,
-    ghost disk_room: { 15 + 4 * config.joiners ≤ vec_capacity parts.disks },
-    ghost log_room: { 7 + 2 * config.joiners ≤ vec_capacity parts.logs },
+    ghost disk_room: { 2 * count_of config < vec_capacity parts.disks },
+    ghost log_room: { count_of config ≤ vec_capacity parts.logs },
 }
 
 impl<D: Disk, L: LogFile> Stock<D, L> {
-    ghost use Rattle.std.specs.Prelude.{◌≡◌, ◌≤◌, ◌<◌, ◌+◌, ◌*◌, Some};
+    ghost use Rattle.std.specs.Prelude.{◌≤◌, ◌<◌, ◌+◌, Some};
     ghost use Rattle.site_run.specs.Making.{AreFrom, Makes, view_of};
 
     // The dispatcher of a site, down, over its journals and the click log.
@@ -69,7 +70,7 @@ impl<D: Disk, L: LogFile> Stock<D, L> {
 
     // A replica, down, over its journal.
     fn replica(&mut self, number: u8) -> AnyNode<D, L>
-        requires number { (4 ≤ number) × (number < 7) }
+        requires number { (4 ≤ number) × (number < 4 + self.old.config.replicas) }
         requires left { AreFrom number (view_of self.old) }
         ensures { Makes ⟦<AnyNode<D, L> as SiteNode>⟧.number ⟦<AnyNode<D, L> as SiteNode>⟧.waits ⟦<AnyNode<D, L> as SystemNode>⟧.places ⟦<AnyNode<D, L> as Parting<D, L>>⟧.disks_of ⟦<AnyNode<D, L> as Parting<D, L>>⟧.logs_of
             D.tells L.bytes number (view_of self.old) (Some result) (view_of self.new) }
@@ -83,12 +84,12 @@ impl<D: Disk, L: LogFile> Stock<D, L> {
 
     // A joiner, down, over its journals and the query log.
     fn joiner(&mut self, number: u8) -> Option<AnyNode<D, L>>
-        requires number { (7 ≤ number) × (number < 7 + 2 * self.old.config.joiners) }
+        requires number { (4 + self.old.config.replicas ≤ number) × (number < count_of self.old.config) }
         requires left { AreFrom number (view_of self.old) }
         ensures { Makes ⟦<AnyNode<D, L> as SiteNode>⟧.number ⟦<AnyNode<D, L> as SiteNode>⟧.waits ⟦<AnyNode<D, L> as SystemNode>⟧.places ⟦<AnyNode<D, L> as Parting<D, L>>⟧.disks_of ⟦<AnyNode<D, L> as Parting<D, L>>⟧.logs_of
             D.tells L.bytes number (view_of self.old) result (view_of self.new) }
     {
-        let (site, place) = joiner_place(self.config.joiners, number);
+        let (site, place) = joiner_place(&self.config, number);
         let epochs = take_disk(&mut self.rest, DiskName::Epoch(site, place)).into_epochs();
         let outputs = take_disk(&mut self.rest, DiskName::Output(site, place)).into_output();
         let log = take_last(&mut self.logs.queries);
@@ -110,12 +111,12 @@ impl<D: Disk, L: LogFile> Stock<D, L> {
 
 /// A kind of node that is made, down, of what there is for its number.
 pub trait Making<D: Disk, L: LogFile>: SystemNode + Parting<D, L> {
-    ghost use Rattle.std.specs.Prelude.{◌<◌, ◌+◌, ◌*◌};
+    ghost use Rattle.std.specs.Prelude.{◌<◌};
     ghost use Rattle.site_run.specs.Making.{AreFrom, Makes, view_of};
 
     /// The node of this number, where memory isn't wanting for it.
     fn make(stock: &mut Stock<D, L>, number: u8) -> Option<Self>
-        requires number { number < 7 + 2 * stock.old.config.joiners }
+        requires number { number < count_of stock.old.config }
         requires left { AreFrom number (view_of stock.old) }
         ensures { Makes Self.number Self.waits Self.places Self.disks_of Self.logs_of D.tells L.bytes number (view_of stock.old) result (view_of stock.new) };
 }
@@ -126,7 +127,7 @@ impl<D: Disk, L: LogFile> Making<D, L> for AnyNode<D, L> {
             Some(stock.dispatcher(number))
         } else if number < 4 {
             stock.server(number)
-        } else if number < 7 {
+        } else if u16::from(number) < 4 + u16::from(stock.config.replicas) {
             Some(stock.replica(number))
         } else {
             stock.joiner(number)

@@ -23,4 +23,4 @@ returns-clause-disks g c planned =
     (λ n up. n.journal.journal.up tells (n.ready (none_in n.in_doubt up)))
     (λ n up. n.journal.up tells (n.ready (none_in n.in_doubt up)))
     (λ n up. let ready = n.disks.ready (none_in n.disks.in_doubt up) in (n.disks.epochs.journal.up tells ready.0, n.disks.log.up tells ready.1)) in
-    record { left = λ joiners number k any. laws.left joiners number k any.node; none = λ joiners number any. laws.none joiners number any.node; calm = λ joiners number any. laws.calm joiners number any.node }
+    record { left = λ config number k any. laws.left config number k any.node; none = λ config number any. laws.none config number any.node; calm = λ config number any. laws.calm config number any.node }

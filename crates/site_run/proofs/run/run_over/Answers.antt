@@ -4,10 +4,10 @@ use Rattle.outside.specs.declared.store.DiskName.TheVariants as name
 use Rattle.site_store.specs.Plans.{IsAsPlanned, Left}
 use Rattle.site_store.proofs.Planned.{each_calm}
 use Rattle.site_run.specs.Making.{IsStart}
-use Rattle.site_run.proofs.Words.{IfErr-weaker, length-map, Mem, mem_right, DiskName, Topology, Store, Setting, IsLogOf, Rose, topology_of, IsAsked, IsRosterOf, IsSettingOver, MayBeLeft, kept_all, lent_all, topology_lent, as_lent, values_of, other_names, records_of, names_kept, KeepsItsRecord, IsCounted, IsCauseOf, IsOfRun, IsPastOpening, RunLeft}
+use Rattle.site_run.proofs.Words.{IfErr-weaker, length-map, Mem, mem_right, DiskName, Topology, Store, Setting, IsLogOf, Rose, topology_of, IsAsked, IsSettingOver, MayBeLeft, kept_all, lent_all, topology_lent, as_lent, values_of, other_names, records_of, names_kept, KeepsItsRecord, IsCounted, IsCauseOf, IsOfRun, IsPastOpening, RunLeft}
 use Rattle.site_run.proofs.Counting.{rose_before, some_rose}
 use Rattle.site_run.proofs.Holding.{all_tell}
-use Rattle.site_run.proofs.Opened.{count_opened, room_for, fits_behind, may_same, out_same}
+use Rattle.site_run.proofs.Opened.{as_many, as_many_with, may_same, out_same}
 use Rattle.site_run.proofs.Outing.{each_moved, moved_out, may_moved, may_behind, given_goes_on}
 use Rattle.site_run.proofs.Entering.{records_so, places_so, all_apart, out_so, keeps_so, other_stays, still_sound}
 use Rattle.site_run.proofs.Entered.{run_left, rest_left, rest_earlier, run_sound, none_left, counted_more, last_of, over_back}
@@ -39,14 +39,14 @@ start g c log_tells gg is =
 pub run_system-requires-clause-places : goal.run_system-requires-clause-places
 run_system-requires-clause-places g c κs within =
     let disks = c.in-Ok.opened.disks.items in
-    omega (arith, fits_behind {D = g.row.S-Disk.Denot} disks c.args.config.now.joiners c.args.config.now.replicas c.requires.ranges.replicas c.in-Ok.ensures.named _ c.in-Ok-build.ensures.held, count_opened {D = g.row.S-Disk.Denot} disks _ _ c.requires.ranges.replicas c.in-Ok.ensures.named, c.in-Ok.ensures.places)
+    omega (arith, as_many {D = g.row.S-Disk.Denot} disks _ c.in-Ok-build.ensures.held, c.in-Ok.ensures.places)
 
 pub give_parts-requires-after_bounds : goal.give_parts-requires-after_bounds
 give_parts-requires-after_bounds g c =
     let disks = c.in-Ok.opened.disks.items in
     let back = c.in-Err-build.parts.disks.items in
-    let many : length (map as_lent back) ≡ 10 + 4 * c.args.config.now.joiners = room_for {D = g.row.S-Disk.Denot} disks c.args.config.now.joiners c.args.config.now.replicas c.requires.ranges.replicas c.in-Ok.ensures.named _ (map as_lent back) c.in-Err-build.ensures.disks in
-    omega (arith, many, length-map back as_lent, count_opened {D = g.row.S-Disk.Denot} disks _ _ c.requires.ranges.replicas c.in-Ok.ensures.named, c.in-Ok.ensures.places)
+    let many = as_many_with {D = g.row.S-Disk.Denot} disks (map as_lent back) _ c.in-Err-build.ensures.disks in
+    omega (arith, many, length-map back as_lent, c.in-Ok.ensures.places)
 
 pub returns-clause-cause : goal.returns-clause-cause
 returns-clause-cause g c =
@@ -82,14 +82,13 @@ returns-clause-over g c tells log_tells gg checked is =
     let disks_rose = Rose (g.S.Store.faults c.args.store.now) (g.S.Store.faults c.run_system.new.store) in
     let later : from_there → disks_rose = λ rose. rose_before (g.S.Store.faults c.args.store.now) (g.S.Store.faults c.open_store.new.store) (g.S.Store.faults c.run_system.new.store) o.count rose in
     let node_tells = all_tell g.S.Disk.Disk.tells g.F.Log.LogFile.tells tells log_tells in
-    let roster : IsRosterOf gg c.args.config.now.joiners = record { joiners_are = is.logs.numbers.joiners; replicas = is.logs.numbers.replicas ∙ c.requires.ranges.replicas } in
     let held = c.all_held.ensures tells log_tells in
     let down = c.in-Ok-build.ensures.places tells gg built begun in
     let same = ap (λ x. topology_lent {D = g.row.S-Disk.Denot} x) (c.into_disk.ensures ∙ ap (λ t. t.journal.disk) c.in-Ok-build.ensures.topology) in
     let keeps = subst (λ t. KeepsItsRecord image gg t) (sym same) (keeps_so asked_of image before inside topology others (o.lent tells) gg asked refl) in
     let idle : c.run_system.new.ran.log ≡ None → (disk : DiskName) (b : List ℕ) → after disk b → MayBeLeft image inside (topology ∷ others) disk b
     = λ none disk b now. may_behind image inside topology others _ c.in-Ok-build.ensures.held disk b (may_same image inside _ _ _ disk b same (run.idle tells none disk b now)) in
-    let whole : IfErr c.run_system.result (IsOfRun gg built from_there c.run_system.new.ran.log) = run.whole tells node_tells gg built roster held c.all_met.ensures down keeps in
+    let whole : IfErr c.run_system.result (IsOfRun gg built from_there c.run_system.new.ran.log) = run.whole tells node_tells gg built is.logs.numbers held c.all_met.ensures down keeps in
     let named = names_kept d.disks.items ∙ o.named ∙ ap (λ n. other_names n c.args.config.now.replicas) (sym is.logs.numbers.joiners) ∙ ap (other_names gg.joiners) (sym is.logs.numbers.replicas) in
     record {
       ends = record {
@@ -98,18 +97,18 @@ returns-clause-over g c tells log_tells gg checked is =
               let sure = o.whole tells gg built asked is.logs.numbers.replicas sound begun.records in
               run_sound c.run_system.new.ran.log gg after (record { topology = Some (topology_of gg); disks = built; is_used = sure.0 }) checked sure.1 refl (c.run.ensures gg c.run_system.new.store)
               (λ none. still_sound asked_of image before inside topology others (o.lent tells) refl apart after (idle none) gg asked (c.topology_first.ensures gg c.args.store.now c.run_system.new.store) sound)
-              (run.left tells node_tells gg built built roster held down (λ n among. refl) keeps);
-          grown = λ disk. run.grown tells node_tells gg built c.args.store.now roster held down (out_same image before inside _ _ _ (sym same) (moved_out image before inside topology others _ c.in-Ok-build.ensures.held out)) disk;
+              (run.left tells node_tells gg built built is.logs.numbers held down (λ n among. refl) keeps);
+          grown = λ disk. run.grown tells node_tells gg built c.args.store.now is.logs.numbers held down (out_same image before inside _ _ _ (sym same) (moved_out image before inside topology others _ c.in-Ok-build.ensures.held out)) disk;
         };
         idle = λ none disk other. other_stays asked_of image before inside topology others (o.lent tells) refl apart after (idle none) disk other;
         passed = on_ok_of c.run_system.result (passed_so gg before asked_of asked _ is.logs.numbers.replicas g.S.Disk.Disk.tells g.F.Log.LogFile.tells tells log_tells (g.F.Log.LogFile.bytes c.take_last-read.result) c.args.end first is.ends (values_of {D = g.row.S-Disk.Denot} o.kept.0 d.disks.items) o.kept.1 o.kept.2);
         caused = err_both (λ f. IsCounted logs_rose from_there f × IsPastOpening f) (IsOfRun gg built from_there c.run_system.new.ran.log) (IsCauseOf gg before logs_rose disks_rose) c.run_system.result (run.cause c.all_met.ensures) whole
-            (λ f both of. cause_so gg before roster.replicas all_kept o.kept.2.limits (o.kept.1.kept tells) built begun.records named c.run_system.new.ran.log logs_rose disks_rose from_there later f (counted_more f logs_rose from_there logs_rose disks_rose (λ rose. rose) later both.0) of);
+            (λ f both of. cause_so gg before all_kept o.kept.2.limits (o.kept.1.kept tells) built begun.records named c.run_system.new.ran.log logs_rose disks_rose from_there later f (counted_more f logs_rose from_there logs_rose disks_rose (λ rose. rose) later both.0) of);
         welcome = λ sound. IfErr-weaker c.run_system.result _ _ (λ f of. welcome_so gg built from_there _ c.run_system.new.ran.log f of) whole;
       };
-      left = run_left c.run_system.new.ran.log gg before after were_kept were.1 (λ d' same. run.left tells node_tells gg built d' roster held down same keeps);
+      left = run_left c.run_system.new.ran.log gg before after were_kept were.1 (λ d' same. run.left tells node_tells gg built d' is.logs.numbers held down same keeps);
       rest = rest_earlier gg before before after (λ disk b now. now) c.run_system.result c.run_system.new.ran.log _ _ later
-          (rest_left c.run_system.result c.run_system.new.ran.log gg before after were_kept from_there were.1 (λ d' same. run.rest tells node_tells gg built d' roster held c.all_met.ensures down same keeps));
+          (rest_left c.run_system.result c.run_system.new.ran.log gg before after were_kept from_there were.1 (λ d' same. run.rest tells node_tells gg built d' is.logs.numbers held c.all_met.ensures down same keeps));
     }
 
 pub returns-in-Err-build-clause-over : goal.returns-in-Err-build-clause-over
@@ -184,9 +183,8 @@ returns-clause-stops g c planned log_tells gg checked is =
     let left = Left g.S.Store.stops g.S.Store.made c.args.store.now in
     let all = (c.in-Ok.ensures.plan planned).out in
     let same = c.into_disk.ensures ∙ ap (λ t. t.journal.disk) c.in-Ok-build.ensures.topology in
-    let roster : IsRosterOf gg c.args.config.now.joiners = record { joiners_are = is.logs.numbers.joiners; replicas = is.logs.numbers.replicas ∙ c.requires.ranges.replicas } in
     planned_earlier _ _ _ gg _ _ _ (λ disk k few. few) (c.open_store.ensures.calm planned)
-    (c.run_system.ensures.stops planned (c.all_planned.ensures.planned planned) gg _ c.args.store.now roster (c.all_held.ensures tells log_tells) (c.in-Ok-build.ensures.places tells gg _ (start g (goal.at.returns-clause-stops g c).After-build log_tells gg is))
+    (c.run_system.ensures.stops planned (c.all_planned.ensures.planned planned) gg _ c.args.store.now is.logs.numbers (c.all_held.ensures tells log_tells) (c.in-Ok-build.ensures.places tells gg _ (start g (goal.at.returns-clause-stops g c).After-build log_tells gg is))
     (c.all_planned.ensures.disks planned) refl
     (subst (IsAsPlanned disk.stops disk.made disk.faults (left name.Topology)) (sym same) all.0, each_moved (λ l. IsAsPlanned disk.stops disk.made disk.faults (left l.name) l.disk) _ _ c.in-Ok-build.ensures.held all.1))
 

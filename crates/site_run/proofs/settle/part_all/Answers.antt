@@ -17,5 +17,5 @@ loop-left-preserved g c =
       log_count = omega (arith, i.log_count, left, c.part.ensures.log_count);
       disk_room = c.part.ensures.disk_room ∙ i.disk_room;
       log_room = c.part.ensures.log_room ∙ i.log_room;
-      fault = faulted c.args.joiners c.loop-left.number c.saturating_add-number.result c.loop-left.first c.first_of-first.result (first_fault c.args.joiners 0 c.args.nodes.items) c.in-Some.left.1 c.in-Some.left.0 c.in-Some.left _ _ refl c.in-Some.ensures.items next c.first_of-first.ensures i.fault;
+      fault = faulted c.args.config.now c.loop-left.number c.saturating_add-number.result c.loop-left.first c.first_of-first.result (first_fault c.args.config.now 0 c.args.nodes.items) c.in-Some.left.1 c.in-Some.left.0 c.in-Some.left _ _ refl c.in-Some.ensures.items next c.first_of-first.ensures i.fault;
     }

@@ -10,13 +10,13 @@ invariant-loop-left g l =
     let nodes = l.fn.nodes.items in
     record {
       count : l.number + length left ≡ length nodes;
-      disks : map as_lent l.parts.disks.items ++ all_from (λ i w. g.N.Parting.disks_of l.fn.joiners i w.0) l.number left ≡ map as_lent parts.disks.items ++ all_from (λ i w. g.N.Parting.disks_of l.fn.joiners i w.0) 0 nodes;
+      disks : map as_lent l.parts.disks.items ++ all_from (λ i w. g.N.Parting.disks_of l.fn.config i w.0) l.number left ≡ map as_lent parts.disks.items ++ all_from (λ i w. g.N.Parting.disks_of l.fn.config i w.0) 0 nodes;
       logs : l.parts.logs.items ++ all_from (λ i w. g.N.Parting.logs_of w.0) l.number left ≡ parts.logs.items ++ all_from (λ i w. g.N.Parting.logs_of w.0) 0 nodes;
       disk_count : length l.parts.disks.items + 2 * length left ≤ length parts.disks.items + 2 * length nodes;
       log_count : length l.parts.logs.items + length left ≤ length parts.logs.items + length nodes;
       disk_room : vec_capacity l.parts.disks ≡ vec_capacity parts.disks;
       log_room : vec_capacity l.parts.logs ≡ vec_capacity parts.logs;
-      fault : or_else l.first (first_fault l.fn.joiners l.number left) ≡ first_fault l.fn.joiners 0 nodes;
+      fault : or_else l.first (first_fault l.fn.config l.number left) ≡ first_fault l.fn.config 0 nodes;
     }
 
 abbrev pub decreases-loop-left : goal.decreases-loop-left

@@ -1,9 +1,10 @@
 use Rattle.std.specs.Prelude.{IsTrue}
-use Rattle.std.proofs.Common.{◌≡◌, ◌≢◌, ⊎_elim, ℕ, ◌+◌, ◌*◌, ◌<◌, ◌++◌, ◌∷◌, [], None, Some, false, length, map, slice_index_or, sym, ap, ◌∙◌, subst, arith}
-use Rattle.site_run.proofs.Words.{length-map, recursion_from_All, IfErr-weaker, Each, Mem, mem_right, Rose, KeepsPairs, Setting, Disks, node_count, MayBeLeft, KeepsNotes, made_by, stop_count, as_lent, all_from, IsRosterOf, AreDownOver, IsRunFrom, IsOfDisks, AreKeptIn, lent_replicas, lent_outputs}
+use Rattle.std.proofs.Common.{◌≡◌, ◌≢◌, ⊎_elim, ℕ, ◌+◌, ◌<◌, List, ◌++◌, ◌∷◌, [], None, Some, false, length, map, slice_index_or, sym, ap, ◌∙◌, subst, arith}
+use Rattle.site_run.proofs.Words.{length-map, recursion_from_All, IfErr-weaker, Each, Mem, mem_right, Rose, KeepsPairs, Config, IsOf, Kind, Setting, Disks, count_of, kinds_of, node_count, MayBeLeft, KeepsNotes, made_by, stop_count, as_lent, all_from, AreDownOver, IsRunFrom, IsOfDisks, AreKeptIn, lent_replicas, lent_outputs}
 use Rattle.site_run.proofs.Opened.{down_too}
 use Rattle.site_run.proofs.Standing.{have_grown, runs_from}
-use Rattle.site_run.proofs.Dead.{dead_replicas}
+use Rattle.site_run.proofs.Dead.{dead_replicas, kinds_count}
+use Rattle.site_run.proofs.Naming.{same_numbers}
 use Rattle.site_run.proofs.Outing.{given_goes_on}
 use Rattle.site_run.proofs.Running.{same_count, goes_on, has_run, rests, no_stops, fault_told, first_told, first_ended, disks_alone, read_back_of, at_rest, disks_counted}
 use Rattle.site_run.proofs.Settling.{in_front, ok_three}
@@ -17,63 +18,73 @@ use Rattle.site_run.proofs.system.run_system.Given.{Over}
 use Rattle.site_run.proofs.system.run_system.Goals as goal
 use Rattle.site_run.proofs.system.run_system.Goals.{After-settle}
 
--- the number of nodes
-counted : (joiners replicas nodes j : ℕ) → nodes ≡ 7 + 2 * j → joiners ≡ j → replicas ≡ 3 → nodes ≡ 4 + replicas + 2 * joiners
-counted joiners replicas nodes j is same three = omega (arith, is, same, three)
+-- there are as many nodes as the setting has, and these are their kinds
+module _ (g : Setting) (c : Config) (of : IsOf c g) where
+  counted : (n : ℕ) → n ≡ count_of c → n ≡ node_count g
+  counted n is = is ∙ sym (ap count_of (same_numbers g c of))
+
+  its_kinds : (kinds : List Kind) → kinds ≡ kinds_of c.joiners c.replicas → kinds ≡ kinds_of g.joiners g.replicas
+  its_kinds kinds are = are ∙ sym (ap (λ k. kinds_of k.joiners k.replicas) (same_numbers g c of))
+
+pub run-requires-clause-count : goal.run-requires-clause-count
+run-requires-clause-count g c κs within = c.requires.count ∙ sym (kinds_count c.args.config.now.joiners c.args.config.now.replicas c.args.kinds.now c.requires.kinds)
+
+pub run-requires-clause-few : goal.run-requires-clause-few
+run-requires-clause-few g c κs within = omega (arith, kinds_count c.args.config.now.joiners c.args.config.now.replicas c.args.kinds.now c.requires.kinds, c.requires.ranges.few, c.requires.ranges.replicas)
 
 -- the history is a run of the whole system, from whatever records its nodes were opened over
-run_left : (g : Over) (c : After-settle g) → IsTrue g.N.SiteNode.tells → (gg : Setting) (d : Disks) → IsRosterOf gg c.args.joiners → AreDownOver g.N.SystemNode.places gg d c.args.nodes.items
+run_left : (g : Over) (c : After-settle g) → IsTrue g.N.SiteNode.tells → (gg : Setting) (d : Disks) → IsOf c.args.config.now gg → AreDownOver g.N.SystemNode.places gg d c.args.nodes.items
     → IsRunFrom g.N.SystemNode.places gg d c.in-Ok.left.air.history c.in-Ok.left.nodes.items c.in-Ok.left.rest
-run_left g c tells gg d roster down =
+run_left g c tells gg d asked down =
     let n = g.N.SiteNode in
     let o = c.in-Ok.ensures in
     let laws = g.met.N.SystemNode g.world.𝓛 g.world.𝓜 g.world.𝓡 ((λ s x. x), (λ x. x), (λ x. x), λ x. x) in
-    runs_from n.leads n.phase_of n.stands n.number n.at_rest_as n.spends g.N.SystemNode.places laws.walks c.aired_is_run.ensures c.rest_of_states.ensures.rest c.node_numbers.ensures c.numbers_end.ensures c.dead_have_no_entry.ensures gg d c.args.plan c.kinds.result.now
-    c.in-Ok.left.air.history c.args.nodes.items c.in-Ok.left.nodes.items c.in-Ok.left.rest (counted gg.joiners gg.replicas (length c.args.nodes.items) c.args.joiners c.requires.count roster.joiners_are roster.replicas) o.count o.heard.aired
-    (λ k le. o.heard.others k (omega (arith, le, c.requires.count, c.kinds.ensures.count))) (dead_replicas gg c.args.plan _ c.args.joiners roster.replicas c.kinds.ensures.are) down (o.walked tells) o.rest
+    runs_from n.leads n.phase_of n.stands n.number n.at_rest_as n.spends g.N.SystemNode.places laws.walks c.aired_is_run.ensures c.rest_of_states.ensures.rest c.node_numbers.ensures c.numbers_end.ensures c.dead_have_no_entry.ensures gg d c.args.plan c.args.kinds.now
+    c.in-Ok.left.air.history c.args.nodes.items c.in-Ok.left.nodes.items c.in-Ok.left.rest (counted gg c.args.config.now asked _ c.requires.count) o.count o.heard.aired
+    (λ k le. o.heard.others k (omega (arith, le, c.requires.count, kinds_count c.args.config.now.joiners c.args.config.now.replicas c.args.kinds.now c.requires.kinds))) (dead_replicas gg c.args.plan _ (its_kinds gg c.args.config.now asked _ c.requires.kinds)) down (o.walked tells) o.rest
 
 pub settle-requires-after_bounds : goal.settle-requires-after_bounds
 settle-requires-after_bounds g c =
     let disks_of = g.N.Parting.disks_of in
     let ws = c.in-Ok.left.nodes.items in
     let items = c.part_all-parts.result.0.disks.items in
-    let front = in_front c.args.parts.disks.items c.push_reserved.new.self.items c.args.topology (all_from (λ i w. disks_of c.args.joiners i w.0) 0 ws) c.requires.empty.0 c.push_reserved.ensures.items in
+    let front = in_front c.args.parts.disks.items c.push_reserved.new.self.items c.args.topology (all_from (λ i w. disks_of c.args.config.now i w.0) 0 ws) c.requires.empty.0 c.push_reserved.ensures.items in
     let many = ap length (c.part_all-parts.ensures.disks ∙ front) in
     let laws = g.met.N.Parting g.world.𝓛 g.world.𝓜 g.world.𝓡 ((λ s x. x), (λ x. x), (λ x. x), λ x. x) in
-    let same = same_count (disks_of c.args.joiners) g.N.SiteNode.disk_count (laws.counted c.args.joiners) 0 c.args.nodes.items ws c.in-Ok.ensures.count c.in-Ok.ensures.disks in
+    let same = same_count (disks_of c.args.config.now) g.N.SiteNode.disk_count (laws.counted c.args.config.now) 0 c.args.nodes.items ws c.in-Ok.ensures.count c.in-Ok.ensures.disks in
     omega (arith, many, length-map items as_lent, same, c.requires.places)
 
 pub returns-in-Ok-clause-grown : goal.returns-in-Ok-clause-grown
-returns-in-Ok-clause-grown g c tells node_tells gg d s roster held down out disk bytes now =
+returns-in-Ok-clause-grown g c tells node_tells gg d s asked held down out disk bytes now =
     let n = g.N.SiteNode in
     let laws = g.met.N.SystemNode g.world.𝓛 g.world.𝓜 g.world.𝓡 ((λ s x. x), (λ x. x), (λ x. x), λ x. x) in
     let image = g.S.Disk.Disk.image in
     let inside = g.S.Store.image c.args.store.now in
     let disks_of = g.N.Parting.disks_of in
     let ws = c.in-Ok.left.nodes.items in
-    let count : length c.args.nodes.items ≡ node_count gg = counted gg.joiners gg.replicas (length c.args.nodes.items) c.args.joiners c.requires.count roster.joiners_are roster.replicas in
-    let front = in_front c.args.parts.disks.items c.push_reserved.new.self.items c.args.topology (all_from (λ i w. disks_of c.args.joiners i w.0) 0 ws) c.requires.empty.0 c.push_reserved.ensures.items in
+    let count : length c.args.nodes.items ≡ node_count gg = counted gg c.args.config.now asked _ c.requires.count in
+    let front = in_front c.args.parts.disks.items c.push_reserved.new.self.items c.args.topology (all_from (λ i w. disks_of c.args.config.now i w.0) 0 ws) c.requires.empty.0 c.push_reserved.ensures.items in
     let whole = c.part_all-parts.ensures.disks ∙ front in
-    goes_on image g.N.SystemNode.places g.N.SiteNode.grown disks_of held gg c.args.joiners (c.node_numbers.ensures gg) c.args.nodes.items ws count c.in-Ok.ensures.count
+    goes_on image g.N.SystemNode.places g.N.SiteNode.grown disks_of held gg c.args.config.now (c.node_numbers.ensures gg) c.args.nodes.items ws count c.in-Ok.ensures.count
     (have_grown n.leads n.phase_of n.stands n.number n.at_rest_as n.spends g.N.SystemNode.places laws.walks n.grown gg d c.args.nodes.items ws (λ m is. omega (arith, (c.node_numbers.ensures gg).below m is, count)) down (c.in-Ok.ensures.grown node_tells))
     (as_lent c.args.topology) (g.S.Store.image s) inside (g.S.Store.image c.settle.new.store) out
     (λ name b here. subst (λ l. MayBeLeft image inside l name b) whole (c.settle.ensures.left tells name b here)) disk bytes now
 
 pub returns-in-Ok-clause-left : goal.returns-in-Ok-clause-left
-returns-in-Ok-clause-left g c tells node_tells gg d e roster held down same kept =
+returns-in-Ok-clause-left g c tells node_tells gg d e asked held down same kept =
     let image = g.S.Disk.Disk.image in
     let inside = g.S.Store.image c.args.store.now in
     let disks_of = g.N.Parting.disks_of in
     let ws = c.in-Ok.left.nodes.items in
-    let count : length c.args.nodes.items ≡ node_count gg = counted gg.joiners gg.replicas (length c.args.nodes.items) c.args.joiners c.requires.count roster.joiners_are roster.replicas in
-    let front = in_front c.args.parts.disks.items c.push_reserved.new.self.items c.args.topology (all_from (λ i w. disks_of c.args.joiners i w.0) 0 ws) c.requires.empty.0 c.push_reserved.ensures.items in
+    let count : length c.args.nodes.items ≡ node_count gg = counted gg c.args.config.now asked _ c.requires.count in
+    let front = in_front c.args.parts.disks.items c.push_reserved.new.self.items c.args.topology (all_from (λ i w. disks_of c.args.config.now i w.0) 0 ws) c.requires.empty.0 c.push_reserved.ensures.items in
     let whole = c.part_all-parts.ensures.disks ∙ front in
-    has_run image g.N.SystemNode.places g.N.SiteNode.grown disks_of held gg c.args.joiners roster (c.node_numbers.ensures gg) e c.in-Ok.left.air.history ws c.in-Ok.left.rest
-    (run_left g (goal.at.returns-in-Ok-clause-left g c).After-settle node_tells gg e roster (down_too g.N.SystemNode.places gg d e c.args.nodes.items same down)) (c.in-Ok.ensures.count ∙ count) (as_lent c.args.topology) kept inside (g.S.Store.image c.settle.new.store)
+    has_run image g.N.SystemNode.places g.N.SiteNode.grown disks_of held gg c.args.config.now asked (c.node_numbers.ensures gg) e c.in-Ok.left.air.history ws c.in-Ok.left.rest
+    (run_left g (goal.at.returns-in-Ok-clause-left g c).After-settle node_tells gg e asked (down_too g.N.SystemNode.places gg d e c.args.nodes.items same down)) (c.in-Ok.ensures.count ∙ count) (as_lent c.args.topology) kept inside (g.S.Store.image c.settle.new.store)
     (λ name b here. subst (λ l. MayBeLeft image inside l name b) whole (c.settle.ensures.left tells name b here))
 
 pub returns-in-Ok-clause-rest : goal.returns-in-Ok-clause-rest
-returns-in-Ok-clause-rest g c tells node_tells gg d e roster held met down same kept =
+returns-in-Ok-clause-rest g c tells node_tells gg d e asked held met down same kept =
     let image = g.S.Disk.Disk.image in
     let inside = g.S.Store.image c.args.store.now in
     let after = g.S.Store.image c.settle.new.store in
@@ -84,17 +95,17 @@ returns-in-Ok-clause-rest g c tells node_tells gg d e roster held met down same 
     let rose = Rose (g.S.Store.faults c.args.store.now) (g.S.Store.faults c.settle.new.store) in
     let numbers = c.node_numbers.ensures gg in
     let topology = as_lent c.args.topology in
-    let count : length c.args.nodes.items ≡ node_count gg = counted gg.joiners gg.replicas (length c.args.nodes.items) c.args.joiners c.requires.count roster.joiners_are roster.replicas in
-    let left = run_left g (goal.at.returns-in-Ok-clause-rest g c).After-settle node_tells gg e roster (down_too g.N.SystemNode.places gg d e c.args.nodes.items same down) in
-    let front = in_front c.args.parts.disks.items c.push_reserved.new.self.items c.args.topology (all_from (λ i w. disks_of c.args.joiners i w.0) 0 ws) c.requires.empty.0 c.push_reserved.ensures.items in
+    let count : length c.args.nodes.items ≡ node_count gg = counted gg c.args.config.now asked _ c.requires.count in
+    let left = run_left g (goal.at.returns-in-Ok-clause-rest g c).After-settle node_tells gg e asked (down_too g.N.SystemNode.places gg d e c.args.nodes.items same down) in
+    let front = in_front c.args.parts.disks.items c.push_reserved.new.self.items c.args.topology (all_from (λ i w. disks_of c.args.config.now i w.0) 0 ws) c.requires.empty.0 c.push_reserved.ensures.items in
     let whole = c.part_all-parts.ensures.disks ∙ front in
     ok_three _ _ _ _ c.settle.result c.settle.ensures.notes c.settle.ensures.pairs c.settle.ensures.whole
     (λ outcome notes pairs none.
-    rests image g.N.SystemNode.places n.grown disks_of held gg c.args.joiners roster numbers e h ws c.in-Ok.left.rest left (c.in-Ok.ensures.count ∙ count) topology kept inside after
+    rests image g.N.SystemNode.places n.grown disks_of held gg c.args.config.now asked numbers e h ws c.in-Ok.left.rest left (c.in-Ok.ensures.count ∙ count) topology kept inside after
     (λ name b here. subst (λ l. MayBeLeft image inside l name b) whole (c.settle.ensures.left tells name b here))
-    (at_rest c.args.joiners ws c.in-Ok.left.rest c.in-Ok.ensures.fault (sym c.part_all-parts.ensures.fault ∙ none)) c.once.ensures.records c.read.ensures.notes g.S.Disk.Disk.tells tells outcome.journals
+    (at_rest c.args.config.now ws c.in-Ok.left.rest c.in-Ok.ensures.fault (sym c.part_all-parts.ensures.fault ∙ none)) c.once.ensures.records c.read.ensures.notes g.S.Disk.Disk.tells tells outcome.journals
     (subst (λ l. AreKeptIn g.S.Disk.Disk.tells image KeepsNotes (lent_replicas l) outcome.journals.notes.items) whole notes) (subst (λ l. AreKeptIn g.S.Disk.Disk.tells image KeepsPairs (lent_outputs l) outcome.journals.pairs.items) whole pairs) rose
-    (no_stops image g.N.SystemNode.places n.grown disks_of held gg c.args.joiners roster numbers e h ws c.in-Ok.left.rest left (c.in-Ok.ensures.count ∙ count) topology kept inside after
+    (no_stops image g.N.SystemNode.places n.grown disks_of held gg c.args.config.now asked numbers e h ws c.in-Ok.left.rest left (c.in-Ok.ensures.count ∙ count) topology kept inside after
     (λ name b here. subst (λ l. MayBeLeft image inside l name b) whole (c.settle.ensures.left tells name b here))
     g.S.Disk.Disk.faults g.F.Log.LogFile.faults n.faults n.log_faults n.waits g.N.Parting.logs_of met c.none_stops.ensures
     (λ i b below. c.in-Ok.ensures.met i b (subst (λ k. i < k) c.in-Ok.ensures.count below)) rose
@@ -111,15 +122,15 @@ returns-in-Ok-clause-cause g c met =
     (λ f told.
     ⊎_elim
     (λ is.
-    fault_told g.S.Disk.Disk.faults g.F.Log.LogFile.faults n.faults n.log_faults disks_of g.N.Parting.logs_of met c.args.joiners logs_rose disks_rose ws c.in-Ok.ensures.caused
-    (λ l among some. c.settle.ensures.disks l (subst (Mem l) (sym c.part_all-parts.ensures.disks) (mem_right l (map as_lent c.push_reserved.new.self.items) (all_from (λ i w. disks_of c.args.joiners i w.0) 0 ws) among)) some)
+    fault_told g.S.Disk.Disk.faults g.F.Log.LogFile.faults n.faults n.log_faults disks_of g.N.Parting.logs_of met c.args.config.now logs_rose disks_rose ws c.in-Ok.ensures.caused
+    (λ l among some. c.settle.ensures.disks l (subst (Mem l) (sym c.part_all-parts.ensures.disks) (mem_right l (map as_lent c.push_reserved.new.self.items) (all_from (λ i w. disks_of c.args.config.now i w.0) 0 ws) among)) some)
     (λ l among some. c.settle.ensures.logs l (subst (Mem l) (sym c.part_all-parts.ensures.logs) (mem_right l c.args.parts.logs.items (all_from (λ i w. g.N.Parting.logs_of w.0) 0 ws) among)) some) f (sym c.part_all-parts.ensures.fault ∙ is))
     (λ of. disks_counted g.S.Disk.Disk.tells g.S.Disk.Disk.image (map as_lent c.part_all-parts.result.0.disks.items) logs_rose disks_rose f of.1)
     told)
     c.settle.ensures.told
 
 pub returns-in-Ok-clause-whole : goal.returns-in-Ok-clause-whole
-returns-in-Ok-clause-whole g c tells node_tells gg d roster held met down kept =
+returns-in-Ok-clause-whole g c tells node_tells gg d asked held met down kept =
     let image = g.S.Disk.Disk.image in
     let inside = g.S.Store.image c.args.store.now in
     let after = g.S.Store.image c.settle.new.store in
@@ -130,23 +141,23 @@ returns-in-Ok-clause-whole g c tells node_tells gg d roster held met down kept =
     let rose = Rose (g.S.Store.faults c.args.store.now) (g.S.Store.faults c.settle.new.store) in
     let numbers = c.node_numbers.ensures gg in
     let topology = as_lent c.args.topology in
-    let count : length c.args.nodes.items ≡ node_count gg = counted gg.joiners gg.replicas (length c.args.nodes.items) c.args.joiners c.requires.count roster.joiners_are roster.replicas in
-    let left = run_left g (goal.at.returns-in-Ok-clause-whole g c).After-settle node_tells gg d roster down in
-    let front = in_front c.args.parts.disks.items c.push_reserved.new.self.items c.args.topology (all_from (λ i w. disks_of c.args.joiners i w.0) 0 ws) c.requires.empty.0 c.push_reserved.ensures.items in
+    let count : length c.args.nodes.items ≡ node_count gg = counted gg c.args.config.now asked _ c.requires.count in
+    let left = run_left g (goal.at.returns-in-Ok-clause-whole g c).After-settle node_tells gg d asked down in
+    let front = in_front c.args.parts.disks.items c.push_reserved.new.self.items c.args.topology (all_from (λ i w. disks_of c.args.config.now i w.0) 0 ws) c.requires.empty.0 c.push_reserved.ensures.items in
     let whole = c.part_all-parts.ensures.disks ∙ front in
     IfErr-weaker c.settle.result _ _
     (λ f told.
     ⊎_elim
     (λ is.
-    first_told image g.N.SystemNode.places n.grown disks_of held gg c.args.joiners roster numbers d h ws c.in-Ok.left.rest left (c.in-Ok.ensures.count ∙ count) topology kept inside after
+    first_told image g.N.SystemNode.places n.grown disks_of held gg c.args.config.now asked numbers d h ws c.in-Ok.left.rest left (c.in-Ok.ensures.count ∙ count) topology kept inside after
     (λ name b here. subst (λ l. MayBeLeft image inside l name b) whole (c.settle.ensures.left tells name b here))
     g.S.Disk.Disk.faults g.F.Log.LogFile.faults n.faults n.log_faults n.waits g.N.Parting.logs_of met
     (λ i b below. c.in-Ok.ensures.met i b (subst (λ k. i < k) c.in-Ok.ensures.count below)) rose
     (λ l among some. c.settle.ensures.disks l (subst (Mem l) (sym whole) among) some) (record { air = c.in-Ok.left.air; seen = c.in-Ok.left.seen }) (λ i. c.in-Ok.left.air.history) f (sym c.part_all-parts.ensures.fault ∙ is))
     (λ of.
-    read_back_of image g.N.SystemNode.places n.grown disks_of held gg c.args.joiners roster numbers d h ws c.in-Ok.left.rest left (c.in-Ok.ensures.count ∙ count) topology kept inside after
+    read_back_of image g.N.SystemNode.places n.grown disks_of held gg c.args.config.now asked numbers d h ws c.in-Ok.left.rest left (c.in-Ok.ensures.count ∙ count) topology kept inside after
     (λ name b here. subst (λ l. MayBeLeft image inside l name b) whole (c.settle.ensures.left tells name b here))
-    (at_rest c.args.joiners ws c.in-Ok.left.rest c.in-Ok.ensures.fault (sym c.part_all-parts.ensures.fault ∙ of.0)) (Some (record { air = c.in-Ok.left.air; seen = c.in-Ok.left.seen })) rose f g.S.Disk.Disk.tells tells
+    (at_rest c.args.config.now ws c.in-Ok.left.rest c.in-Ok.ensures.fault (sym c.part_all-parts.ensures.fault ∙ of.0)) (Some (record { air = c.in-Ok.left.air; seen = c.in-Ok.left.seen })) rose f g.S.Disk.Disk.tells tells
     (subst (λ l. IsOfDisks g.S.Disk.Disk.tells image l rose f) whole of.1))
     told)
     c.settle.ensures.told
@@ -157,7 +168,7 @@ returns-in-Ok-clause-stopped g c =
     let h = c.in-Ok.left.air.history in
     IfErr-weaker c.settle.result _ _
     (λ f told n named.
-    ⊎_elim (λ is. first_ended g.N.SiteNode.faults g.N.SiteNode.waits c.args.joiners h ws (λ i b below. c.in-Ok.ensures.met i b (subst (λ k. i < k) c.in-Ok.ensures.count below)) f n (sym c.part_all-parts.ensures.fault ∙ is) named)
+    ⊎_elim (λ is. first_ended g.N.SiteNode.faults g.N.SiteNode.waits c.args.config.now h ws (λ i b below. c.in-Ok.ensures.met i b (subst (λ k. i < k) c.in-Ok.ensures.count below)) f n (sym c.part_all-parts.ensures.fault ∙ is) named)
     (λ of. disks_alone _ _ _ _ (stop_count (made_by n h) ≡ 8) f n of.1 named)
     told)
     c.settle.ensures.told
@@ -166,21 +177,21 @@ pub returns-in-Err-clause-idle : goal.returns-in-Err-clause-idle
 returns-in-Err-clause-idle g c tells none disk bytes now =
     let disks_of = g.N.Parting.disks_of in
     let items = c.push_reserved.new.self.items in
-    let front = in_front c.args.parts.disks.items items c.args.topology (all_from (disks_of c.args.joiners) 0 c.args.nodes.items) c.requires.empty.0 c.push_reserved.ensures.items in
-    let whole = c.apart-parts.ensures.disks ∙ ap (λ v. map as_lent items ++ all_from (disks_of c.args.joiners) 0 v.items) c.in-Err.ensures.back ∙ front in
+    let front = in_front c.args.parts.disks.items items c.args.topology (all_from (disks_of c.args.config.now) 0 c.args.nodes.items) c.requires.empty.0 c.push_reserved.ensures.items in
+    let whole = c.apart-parts.ensures.disks ∙ ap (λ v. map as_lent items ++ all_from (disks_of c.args.config.now) 0 v.items) c.in-Err.ensures.back ∙ front in
     subst (λ l. MayBeLeft g.S.Disk.Disk.image (g.S.Store.image c.args.store.now) l disk bytes) whole (c.give_parts.ensures.left tells disk bytes now)
 
 pub returns-in-Err-clause-grown : goal.returns-in-Err-clause-grown
-returns-in-Err-clause-grown g c tells node_tells gg d s roster held down out disk bytes now =
+returns-in-Err-clause-grown g c tells node_tells gg d s asked held down out disk bytes now =
     let disks_of = g.N.Parting.disks_of in
     let items = c.push_reserved.new.self.items in
-    let front = in_front c.args.parts.disks.items items c.args.topology (all_from (disks_of c.args.joiners) 0 c.args.nodes.items) c.requires.empty.0 c.push_reserved.ensures.items in
-    let whole = c.apart-parts.ensures.disks ∙ ap (λ v. map as_lent items ++ all_from (disks_of c.args.joiners) 0 v.items) c.in-Err.ensures.back ∙ front in
-    given_goes_on g.S.Disk.Disk.image (g.S.Store.image s) (g.S.Store.image c.args.store.now) (as_lent c.args.topology) (all_from (disks_of c.args.joiners) 0 c.args.nodes.items) out disk bytes
+    let front = in_front c.args.parts.disks.items items c.args.topology (all_from (disks_of c.args.config.now) 0 c.args.nodes.items) c.requires.empty.0 c.push_reserved.ensures.items in
+    let whole = c.apart-parts.ensures.disks ∙ ap (λ v. map as_lent items ++ all_from (disks_of c.args.config.now) 0 v.items) c.in-Err.ensures.back ∙ front in
+    given_goes_on g.S.Disk.Disk.image (g.S.Store.image s) (g.S.Store.image c.args.store.now) (as_lent c.args.topology) (all_from (disks_of c.args.config.now) 0 c.args.nodes.items) out disk bytes
     (subst (λ l. MayBeLeft g.S.Disk.Disk.image (g.S.Store.image c.args.store.now) l disk bytes) whole (c.give_parts.ensures.left tells disk bytes now))
 
 pub returns-in-Ok-clause-stops : goal.returns-in-Ok-clause-stops
-returns-in-Ok-clause-stops g c planned node_planned gg d s roster held down laws named all =
+returns-in-Ok-clause-stops g c planned node_planned gg d s asked held down laws named all =
     let disk = g.S.Disk.Disk in
     let n = g.N.SiteNode in
     let disks_of = g.N.Parting.disks_of in
@@ -188,15 +199,15 @@ returns-in-Ok-clause-stops g c planned node_planned gg d s roster held down laws
     let nodes = c.args.nodes.items in
     let ws = c.in-Ok.left.nodes.items in
     let h = c.in-Ok.left.air.history in
-    let count : length nodes ≡ node_count gg = counted gg.joiners gg.replicas (length nodes) c.args.joiners c.requires.count roster.joiners_are roster.replicas in
-    let others = all_from (λ i w. disks_of c.args.joiners i w.0) 0 ws in
+    let count : length nodes ≡ node_count gg = counted gg c.args.config.now asked _ c.requires.count in
+    let others = all_from (λ i w. disks_of c.args.config.now i w.0) 0 ws in
     let whole = c.part_all-parts.ensures.disks ∙ in_front c.args.parts.disks.items c.push_reserved.new.self.items c.args.topology others c.requires.empty.0 c.push_reserved.ensures.items in
     let plan = c.in-Ok.ensures.plan node_planned in
     record {
-      stops = none_too_often disk.stops disk.made disk.faults disk.is_down n.stops_left n.faults n.waits disks_of laws c.args.joiners left
-          disk.image g.N.SystemNode.places n.grown held gg (sym roster.joiners_are) (c.node_numbers.ensures gg) d nodes ws h count down plan all.1;
+      stops = none_too_often disk.stops disk.made disk.faults disk.is_down n.stops_left n.faults n.waits disks_of laws c.args.config.now left
+          disk.image g.N.SystemNode.places n.grown held gg (same_numbers gg c.args.config.now asked) (c.node_numbers.ensures gg) d nodes ws h count down plan all.1;
       calm = λ none.
-          let calm = all_calm disk.stops disk.made disk.faults disk.is_down n.stops_left n.faults n.waits disks_of laws c.args.joiners left none (λ k. made_by k h) 0 nodes ws c.in-Ok.ensures.count
+          let calm = all_calm disk.stops disk.made disk.faults disk.is_down n.stops_left n.faults n.waits disks_of laws c.args.config.now left none (λ k. made_by k h) 0 nodes ws c.in-Ok.ensures.count
           (λ i a b below. let same : i ≡ 0 + i = omega arith in subst (λ k. KeepsPlan n.stops_left n.faults n.waits (slice_index_or nodes i a) None [] (slice_index_or ws i b).0 (slice_index_or ws i b).1 (made_by k h)) same (plan i a b below))
           (recursion_from_All (λ v. n.waits v ≡ false) nodes c.requires.up) all.1 in
           c.settle.ensures.calm planned
@@ -205,12 +216,12 @@ returns-in-Ok-clause-stops g c planned node_planned gg d s roster held down laws
     }
 
 pub returns-in-Err-clause-stops : goal.returns-in-Err-clause-stops
-returns-in-Err-clause-stops g c planned node_planned gg d s roster held down laws named all =
+returns-in-Err-clause-stops g c planned node_planned gg d s asked held down laws named all =
     let disk = g.S.Disk.Disk in
     let disks_of = g.N.Parting.disks_of in
     let items = c.push_reserved.new.self.items in
-    let others = all_from (disks_of c.args.joiners) 0 c.args.nodes.items in
+    let others = all_from (disks_of c.args.config.now) 0 c.args.nodes.items in
     let front = in_front c.args.parts.disks.items items c.args.topology others c.requires.empty.0 c.push_reserved.ensures.items in
-    let whole = c.apart-parts.ensures.disks ∙ ap (λ v. map as_lent items ++ all_from (disks_of c.args.joiners) 0 v.items) c.in-Err.ensures.back ∙ front in
+    let whole = c.apart-parts.ensures.disks ∙ ap (λ v. map as_lent items ++ all_from (disks_of c.args.config.now) 0 v.items) c.in-Err.ensures.back ∙ front in
     none_planned _ _ gg _ _ c.requires.none
     (λ none. c.give_parts.ensures.calm (subst (Each (λ l. disk.faults l.disk ≡ 0)) (sym whole) (each_calm disk.stops disk.made disk.faults (Left g.S.Store.stops g.S.Store.made s) (as_lent c.args.topology ∷ others) all)))

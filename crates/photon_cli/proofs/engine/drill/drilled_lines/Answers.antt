@@ -4,6 +4,7 @@ use Rattle.photon_cli.proofs.Words.{AreValid, Clicks, Config, IfSome, IsAsked, I
 use Rattle.photon_cli.proofs.Drilling.{drilled, none_planned, of_drill}
 use Rattle.photon_cli.proofs.Statuses.{of_log}
 use Rattle.photon_cli.proofs.Runs.{is_asked, placed_ids, ran_afresh, run_setting, setting_of}
+use Rattle.site_run.specs.Heard as site
 use Rattle.photon_cli.proofs.engine.drill.drilled_lines.Given.{Over}
 use Rattle.photon_cli.proofs.engine.drill.drilled_lines.Goals as goal
 use Rattle.photon_cli.proofs.engine.drill.drilled_lines.Goals.{After-run_sites}
@@ -15,7 +16,7 @@ of_run g c logs s asked =
     run_setting (g.F.Source.bytes c.args.files.now) (g.F.Source.bytes c.checked_logs.new.files) (values_in c.args.wanted.now) c.args.table _ c.config_in-config.ensures.config c.in-Ok.clicks.lines_end s asked c.requires.table (c.in-Ok.ensures.same logs) (c.in-Ok.ensures.end logs)
 
 heard : (g : Over) (c : After-run_sites g) → IfSome c.run_sites.new.ran.log (IsHeardOf c.args.plan c.args.wanted.now.nodes.joiners)
-heard g c = subst (λ (k : Config). IfSome c.run_sites.new.ran.log (IsHeardOf c.args.plan k.joiners)) c.config_in-config.ensures.config c.run_sites.ensures.heard
+heard g c = subst (λ (k : Config). IfSome c.run_sites.new.ran.log (site.IsHeardOf c.args.plan k.joiners k.replicas)) c.config_in-config.ensures.config c.run_sites.ensures.heard
 
 valid : (g : Over) (c : After-run_sites g) → IsTrue g.F.Log.LogFile.tells → AreValid (g.F.Source.bytes c.args.files.now) (values_in c.args.wanted.now).queries (values_in c.args.wanted.now).clicks
 valid g c logs = let x = c.in-Ok.ensures.valid logs in (x.0, x.1, x.2)

@@ -5,6 +5,7 @@ use Rattle.photon_cli.proofs.Causing.{log_caused}
 use Rattle.photon_cli.proofs.Overs.{before_all, before_table, on_err, on_fault, on_ok, read_later}
 use Rattle.photon_cli.proofs.Runs.{began, history, if_history, is_asked, joined, joined_afresh, placed_ids, run_setting, setting_of}
 use Rattle.photon_cli.proofs.Statuses.{log_fair, run_past}
+use Rattle.site_run.specs.Heard as site
 use Rattle.photon_cli.proofs.engine.join.join_logs.Given.{Over}
 use Rattle.photon_cli.proofs.engine.join.join_logs.Goals as goal
 use Rattle.photon_cli.proofs.engine.join.join_logs.Goals.{After-run_sites}
@@ -24,7 +25,7 @@ read_setting g c logs =
 
 begun : (g : Over) (c : After-run_sites g) → BeginsJoin g.F.Log.LogFile.tells (g.F.Source.bytes c.args.files.now) (values_in c.args.wanted.now) c.run_sites.new.ran.log
 begun g c =
-    let ours = subst (λ (p : PlanView). IfSome c.run_sites.new.ran.log (IsHeardOf p c.args.wanted.now.nodes.joiners)) c.empty-plan.ensures (subst (λ (k : Config). IfSome c.run_sites.new.ran.log (IsHeardOf c.empty-plan.result k.joiners)) c.config_in-config.ensures.config c.run_sites.ensures.heard) in
+    let ours = subst (λ (p : PlanView). IfSome c.run_sites.new.ran.log (IsHeardOf p c.args.wanted.now.nodes.joiners)) c.empty-plan.ensures (subst (λ (k : Config). IfSome c.run_sites.new.ran.log (site.IsHeardOf c.empty-plan.result k.joiners k.replicas)) c.config_in-config.ensures.config c.run_sites.ensures.heard) in
     ((c.in-Ok.table, c.in-Ok.ensures.found), (λ logs. let x = c.in-Ok-checked_logs.ensures.valid logs in (x.0, x.1, x.2)), ours)
 
 left_of : (g : Over) (c : After-run_sites g) → IsTrue g.S.Disk.Disk.tells → IsTrue g.F.Log.LogFile.tells → (s : Setting) → IsAsked (g.F.Source.bytes c.args.files.now) (values_in c.args.wanted.now) s

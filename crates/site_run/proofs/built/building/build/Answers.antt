@@ -17,7 +17,7 @@ loop-number-init g c =
 pub make-requires : goal.make-requires
 make-requires g c =
     let i = c.loop-number.invariant in
-    record { number = omega (arith, c.loop-number-test.true, ap (λ k. k.joiners) i.made.config); left = from_at _ _ _ _ _ _ _ _ _ _ _ i.made i.count }
+    record { number = omega (arith, c.loop-number-test.true, ap (λ k. k.joiners) i.made.config, ap (λ k. k.replicas) i.made.config); left = from_at _ _ _ _ _ _ _ _ _ _ _ i.made i.count }
 
 pub loop-number-preserved : goal.loop-number-preserved
 loop-number-preserved g c =
@@ -34,12 +34,14 @@ give_up-requires g c =
     let so = stopped _ _ _ _ _ _ _ _ _ _ _ i.made _ i.count c.in-None.ensures in
     let few = c.in-None.ensures.few in
     let opened = opened_count _ _ _ c.requires.named in
+    let j = ap (λ k. k.joiners) so.config in
+    let r = ap (λ k. k.replicas) so.config in
     record {
-      few = omega (arith, i.count, c.loop-number-test.true, c.requires.ranges.few);
-      disks = omega (arith, few.0, i.count, c.loop-number-test.true, so.joiners);
-      logs = omega (arith, few.1, i.count, c.loop-number-test.true, so.joiners);
-      all_disks = omega (arith, so.disk_count, opened, so.joiners, c.requires.ranges.replicas);
-      all_logs = omega (arith, so.log_count, c.requires.logs.clicks, c.requires.logs.queries, so.joiners);
+      few = omega (arith, i.count, c.loop-number-test.true, c.requires.ranges.few, c.requires.ranges.replicas);
+      disks = omega (arith, few.0, i.count, c.loop-number-test.true, j, r);
+      logs = omega (arith, few.1, i.count, c.loop-number-test.true, j, r);
+      all_disks = omega (arith, so.disk_count, opened, j, r);
+      all_logs = omega (arith, so.log_count, c.requires.logs.clicks, c.requires.logs.queries, j, r);
     }
 
 pub returns-in-None-clause-disks : goal.returns-in-None-clause-disks
@@ -61,7 +63,7 @@ returns-clause-up g c i d below = (c.loop-number.invariant.made.up.at i d below)
 pub returns-clause-places : goal.returns-clause-places
 returns-clause-places g c tells s d start =
     let i = c.loop-number.invariant in
-    are_down_over _ s d (c.node_numbers.ensures s) _ (omega (arith, i.count, c.loop-number-test.false, c.loop-number.auto.number-end, start.logs.numbers.joiners, start.logs.numbers.replicas, c.requires.ranges.replicas)) (i.made.over tells s d start).1
+    are_down_over _ s d (c.node_numbers.ensures s) _ (omega (arith, i.count, c.loop-number-test.false, c.loop-number.auto.number-end, start.logs.numbers.joiners, start.logs.numbers.replicas)) (i.made.over tells s d start).1
 
 pub returns-clause-held : goal.returns-clause-held
 returns-clause-held g c =
@@ -73,8 +75,10 @@ returns-clause-none g c = c.loop-number.invariant.made.left.none
 
 pub returns-clause-room : goal.returns-clause-room
 returns-clause-room g c =
-    let j = ap (λ k. k.joiners) c.loop-number.invariant.made.config in
-    (omega (arith, c.loop-number.stock.disk_room, j), omega (arith, c.loop-number.stock.log_room, j))
+    let config = c.loop-number.invariant.made.config in
+    let j = ap (λ k. k.joiners) config in
+    let r = ap (λ k. k.replicas) config in
+    (omega (arith, c.loop-number.stock.disk_room, j, r), omega (arith, c.loop-number.stock.log_room, j, r))
 
 pub destroy_empty-requires : goal.destroy_empty-requires
 destroy_empty-requires g c =

@@ -1,8 +1,8 @@
 use Rattle.std.proofs.Common.{[], ◌∷◌, refl, sym, subst, ap, ◌∙◌, is_some, arith}
-use Rattle.site_run.proofs.Words.{AreKeptPlaces, is_named, number_of}
+use Rattle.site_run.proofs.Words.{Dispatcher, AreKeptPlaces, is_named, number_of}
 use Rattle.outside.specs.declared.store.DiskName.TheVariants as name
 use Rattle.site_run.proofs.Making.{made}
-use Rattle.site_run.proofs.Placing.{dispatcher_at}
+use Rattle.site_run.proofs.Placing.{down_at}
 use Rattle.site_run.proofs.Taken.{dispatcher_said, last_is, offset_said, pair_lent, pending_said, still_there}
 use Rattle.site_run.proofs.built.stock.Stock.dispatcher.Goals as goal
 
@@ -26,7 +26,7 @@ returns g c =
       rest = (_, one.taken, (_, two.taken, refl));
       clicks = (_, last_is _ _ _ c.take_last-log.ensures.items, refl);
       queries = refl;
-      own = (ap (number_of _) one.name, (ap (number_of _) two.name, tt));
+      own = (ap (number_of c.args.self.now.config) one.name, (ap (number_of c.args.self.now.config) two.name, tt));
       disk_count = omega (arith, c.requires.number);
       click_count = omega (arith, c.requires.number);
       query_count = omega (arith, c.requires.number);
@@ -35,4 +35,4 @@ returns g c =
     (ap (λ l. l ∷ []) node.log)
     (λ tells s d of places own.
     let kept = dispatcher_said s d i _ _ (offset_said s d i _ _ _ one.name c.into_offset-offset.ensures.kept own.0.0) (pending_said s d i _ _ _ two.name c.into_retry-retry.ensures.kept own.0.1.0) in
-    dispatcher_at _ s d _ i c.requires.number _ kept (node.stands s of own.1.0 (subst (AreKeptPlaces s) kept (places i c.requires.number))))
+    down_at _ s d _ i (Dispatcher i) refl c.requires.number _ kept (node.stands s of own.1.0 (subst (AreKeptPlaces s) kept (places i c.requires.number))))

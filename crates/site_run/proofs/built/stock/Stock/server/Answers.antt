@@ -1,8 +1,8 @@
 use Rattle.std.proofs.Common.{[], ◌∷◌, refl, sym, ap, ◌∙◌, is_some, arith}
-use Rattle.site_run.proofs.Words.{append-nil, is_named, number_of}
+use Rattle.site_run.proofs.Words.{Server, append-nil, is_named, number_of}
 use Rattle.outside.specs.declared.store.DiskName.TheVariants as name
 use Rattle.site_run.proofs.Making.{made, one_used, put_as, unmade}
-use Rattle.site_run.proofs.Placing.{server_at}
+use Rattle.site_run.proofs.Placing.{down_at}
 use Rattle.site_run.proofs.Taken.{lent_is, server_said}
 use Rattle.site_run.proofs.built.stock.Stock.server.Goals as goal
 
@@ -15,10 +15,10 @@ returns-in-Ok g c =
     let one = c.take_disk.ensures in
     let node = c.in-Ok.ensures in
     made _ _ _ _ (a ∷ []) [] []
-    (one_used _ _ _ _ a c.requires.number.0 (omega (arith, c.requires.number.1)) refl one.taken (ap (number_of _) one.name ∙ omega (arith, c.requires.number.0)) refl refl)
+    (one_used _ _ _ _ a c.requires.number.0 (omega (arith, c.requires.number.1)) refl one.taken (ap (number_of c.args.self.now.config) one.name ∙ omega (arith, c.requires.number.0)) refl refl)
     _ _ _ _ _ _ c.requires.left _ refl refl (record { numbered = omega (arith, node.site, c.requires.number.0); up = ap is_some node.up })
     (ap (λ l. l ∷ []) (lent_is a _ _ one.name (c.into_server-journal.ensures.disk ∙ ap (λ j. j.journal.disk) (sym node.journal)))) refl
-    (λ tells s d of places own. server_at _ s d _ _ c.requires.number.0 c.requires.number.1 _ (server_said s d _ _ _ _ one.name c.into_server-journal.ensures.kept own.0.0) (node.stands tells s of))
+    (λ tells s d of places own. down_at _ s d _ _ (Server _) (omega (arith, c.requires.number.0)) (omega (arith, c.requires.number.0, c.requires.number.1)) _ (server_said s d _ _ _ _ one.name c.into_server-journal.ensures.kept own.0.0) (node.stands tells s of))
 
 pub returns-in-Err : goal.returns-in-Err
 returns-in-Err g c =
@@ -26,5 +26,5 @@ returns-in-Err g c =
     let one = c.take_disk.ensures in
     let disk = c.into_server-journal.ensures.disk ∙ ap (λ j. j.journal.disk) (sym c.in-Err.ensures.refused) ∙ sym c.into_disk.ensures in
     unmade _ _ _ _ (a ∷ []) [] []
-    (one_used _ _ _ _ a c.requires.number.0 (omega (arith, c.requires.number.1)) refl one.taken (ap (number_of _) one.name ∙ omega (arith, c.requires.number.0)) refl refl)
+    (one_used _ _ _ _ a c.requires.number.0 (omega (arith, c.requires.number.1)) refl one.taken (ap (number_of c.args.self.now.config) one.name ∙ omega (arith, c.requires.number.0)) refl refl)
     _ _ _ _ _ _ c.requires.left (put_as _ _ _ _ c.put.ensures.disks (ap (λ l. l ∷ []) (lent_is a _ _ one.name disk))) (c.put.ensures.logs ∙ sym (append-nil _)) (omega arith, omega arith)
