@@ -1,9 +1,9 @@
 -- Disks that have gone on, step by step and place by place.
 use Rattle.std.proofs.Common.{◌≡◌, ℕ, zero, suc, ◌+◌, ◌<◌, List, [], ◌∷◌, ◌++◌, length, refl, ◌∙◌, subst, arith}
 use Rattle.std.specs.Prelude.{slice_index_or}
-use Rattle.site_run.proofs.Words.{Continues, continues_same, continues_through, Node, Setting, IsNode, NumbersAreNodes, node_number, node_count, Lent, EachWith, all_from, of_dispatcher, of_server, of_replica, of_joiner, Reached, Either, HasGoneOn, HaveGoneOn, Config}
-use Rattle.site_workers.specs.Eithers as either
-use Rattle.site_workers.specs.declared.either.Either.TheVariants as node
+use Rattle.site_run.proofs.Words.{Continues, continues_same, continues_through, Node, Setting, IsNode, NumbersAreNodes, node_number, node_count, Lent, EachWith, all_from, of_dispatcher, of_server, of_replica, of_joiner, Reached, OneOf, HasGoneOn, HaveGoneOn, Config}
+use Rattle.site_workers.specs.FourKinds as one
+use Rattle.site_workers.specs.declared.one_of.OneOf.TheVariants as node
 
 -- ---- lists side by side
 
@@ -51,27 +51,20 @@ module _ {D A B C E : Type 0} (image : D → List ℕ → Type 0) (offset retry 
   abbrev Goes : D → D → Type 0
   Goes old new = (c : List ℕ) → image new c → Continues (image old) c
 
-  abbrev pub Grown : Either (Either A B) (Either C E) → Either (Either A B) (Either C E) → Type 0
+  abbrev pub Grown : OneOf A B C E → OneOf A B C E → Type 0
   Grown =
-      either.grown (either.grown (λ v w. Goes (offset v) (offset w) × Goes (retry v) (retry w)) (λ v w. Goes (server v) (server w)))
-      (either.grown (λ v w. Goes (replica v) (replica w)) (λ v w. Goes (epochs v) (epochs w) × Goes (outputs v) (outputs w)))
+      one.grown (λ v w. Goes (offset v) (offset w) × Goes (retry v) (retry w)) (λ v w. Goes (server v) (server w)) (λ v w. Goes (replica v) (replica w)) (λ v w. Goes (epochs v) (epochs w) × Goes (outputs v) (outputs w))
 
-  abbrev pub disks_by : (config : Config) (number : ℕ) → Either (Either A B) (Either C E) → List (Lent D)
+  abbrev pub disks_by : (config : Config) (number : ℕ) → OneOf A B C E → List (Lent D)
   disks_by config number =
-      either.by (either.by (λ d. of_dispatcher number (offset d) (retry d)) (λ s. of_server number (server s)))
-      (either.by (λ r. of_replica number (replica r)) (λ j. of_joiner config number (epochs j) (outputs j)))
+      one.by (λ d. of_dispatcher number (offset d) (retry d)) (λ s. of_server number (server s)) (λ r. of_replica number (replica r)) (λ j. of_joiner config number (epochs j) (outputs j))
 
-  pub one_on : (config : Config) (number : ℕ) (v w : Either (Either A B) (Either C E)) → Grown v w → HaveGoneOn image (disks_by config number v) (disks_by config number w)
-  one_on config number (node.First (node.First v)) (node.First (node.First w)) on = (record { named = refl; grown = on.0 }, (record { named = refl; grown = on.1 }, tt))
-  one_on config number (node.First (node.First v)) (node.First (node.Second w)) on = absurd on
-  one_on config number (node.First (node.Second v)) (node.First (node.First w)) on = absurd on
-  one_on config number (node.First (node.Second v)) (node.First (node.Second w)) on = (record { named = refl; grown = on }, tt)
-  one_on config number (node.First v) (node.Second w) on = absurd on
-  one_on config number (node.Second v) (node.First w) on = absurd on
-  one_on config number (node.Second (node.First v)) (node.Second (node.First w)) on = (record { named = refl; grown = on }, tt)
-  one_on config number (node.Second (node.First v)) (node.Second (node.Second w)) on = absurd on
-  one_on config number (node.Second (node.Second v)) (node.Second (node.First w)) on = absurd on
-  one_on config number (node.Second (node.Second v)) (node.Second (node.Second w)) on = (record { named = refl; grown = on.0 }, (record { named = refl; grown = on.1 }, tt))
+  pub one_on : (config : Config) (number : ℕ) (v w : OneOf A B C E) → Grown v w → HaveGoneOn image (disks_by config number v) (disks_by config number w)
+  one_on config number (node.First v) (node.First w) on = (record { named = refl; grown = on.0 }, (record { named = refl; grown = on.1 }, tt))
+  one_on config number (node.Second v) (node.Second w) on = (record { named = refl; grown = on }, tt)
+  one_on config number (node.Third v) (node.Third w) on = (record { named = refl; grown = on }, tt)
+  one_on config number (node.Fourth v) (node.Fourth w) on = (record { named = refl; grown = on.0 }, (record { named = refl; grown = on.1 }, tt))
+  one_on config number _ _ on = absurd on
 
 -- ---- the disks of all nodes
 

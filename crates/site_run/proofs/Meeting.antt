@@ -1,8 +1,8 @@
 -- A fault of a node is one of its disks or of its log.
 use Rattle.std.proofs.Common.{◌⊎◌, inl, inr, ⊎_elim, ℕ, zero, suc, ◌+◌, ◌≤◌, List, [], ◌∷◌, refl, arith}
-use Rattle.site_run.proofs.Words.{Config, Mem, Lent, Either}
-use Rattle.site_workers.specs.Eithers as either
-use Rattle.site_workers.specs.declared.either.Either.TheVariants as node
+use Rattle.site_run.proofs.Words.{Config, Mem, Lent, OneOf}
+use Rattle.site_workers.specs.FourKinds as one
+use Rattle.site_workers.specs.declared.one_of.OneOf.TheVariants as node
 use Rattle.site_run.proofs.Going.{disks_by}
 
 one_has : (a b : ℕ) → 1 ≤ a + b → (1 ≤ a) ⊎ (1 ≤ b)
@@ -10,14 +10,14 @@ one_has zero b some = inr (omega (arith, some))
 one_has (suc a) b some = inl (omega arith)
 
 module _ {D L A B C E : Type 0} (faults : D → ℕ) (log_faults : L → ℕ) (offset retry : A → D) (server : B → D) (replica : C → D) (epochs outputs : E → D) (clicks : A → L) (queries : E → L) where
-  abbrev all_faults : Either (Either A B) (Either C E) → ℕ
-  all_faults = either.by (either.by (λ n. faults (offset n) + faults (retry n)) (λ n. faults (server n))) (either.by (λ n. faults (replica n)) (λ n. faults (epochs n) + faults (outputs n)))
+  abbrev all_faults : OneOf A B C E → ℕ
+  all_faults = one.by (λ n. faults (offset n) + faults (retry n)) (λ n. faults (server n)) (λ n. faults (replica n)) (λ n. faults (epochs n) + faults (outputs n))
 
-  abbrev all_log_faults : Either (Either A B) (Either C E) → ℕ
-  all_log_faults = either.by (either.by (λ n. log_faults (clicks n)) (λ n. 0)) (either.by (λ n. 0) (λ n. log_faults (queries n)))
+  abbrev all_log_faults : OneOf A B C E → ℕ
+  all_log_faults = one.by (λ n. log_faults (clicks n)) (λ n. 0) (λ n. 0) (λ n. log_faults (queries n))
 
-  abbrev logs_by : Either (Either A B) (Either C E) → List L
-  logs_by = either.by (either.by (λ d. clicks d ∷ []) (λ s. [])) (either.by (λ r. []) (λ j. queries j ∷ []))
+  abbrev logs_by : OneOf A B C E → List L
+  logs_by = one.by (λ d. clicks d ∷ []) (λ s. []) (λ r. []) (λ j. queries j ∷ [])
 
   abbrev HasFault : List (Lent D) → Type 0
   HasFault lent = (l : Lent D) × Mem l lent × (1 ≤ faults l.disk)
@@ -26,14 +26,14 @@ module _ {D L A B C E : Type 0} (faults : D → ℕ) (log_faults : L → ℕ) (o
   of_two : (x y : Lent D) → 1 ≤ faults x.disk + faults y.disk → HasFault (x ∷ y ∷ [])
   of_two x y some = ⊎_elim (λ first. (x, inl refl, first)) (λ second. (y, inr (inl refl), second)) (one_has (faults x.disk) (faults y.disk) some)
 
-  pub of_disk : (image : D → List ℕ → Type 0) (config : Config) (number : ℕ) (v : Either (Either A B) (Either C E)) → 1 ≤ all_faults v → HasFault (disks_by image offset retry server replica epochs outputs config number v)
-  of_disk image config number (node.First (node.First v)) some = of_two _ _ some
-  of_disk image config number (node.First (node.Second v)) some = (_, inl refl, some)
-  of_disk image config number (node.Second (node.First v)) some = (_, inl refl, some)
-  of_disk image config number (node.Second (node.Second v)) some = of_two _ _ some
+  pub of_disk : (image : D → List ℕ → Type 0) (config : Config) (number : ℕ) (v : OneOf A B C E) → 1 ≤ all_faults v → HasFault (disks_by image offset retry server replica epochs outputs config number v)
+  of_disk image config number (node.First v) some = of_two _ _ some
+  of_disk image config number (node.Second v) some = (_, inl refl, some)
+  of_disk image config number (node.Third v) some = (_, inl refl, some)
+  of_disk image config number (node.Fourth v) some = of_two _ _ some
 
-  pub of_log : (v : Either (Either A B) (Either C E)) → 1 ≤ all_log_faults v → (l : L) × Mem l (logs_by v) × (1 ≤ log_faults l)
-  of_log (node.First (node.First v)) some = (clicks v, inl refl, some)
-  of_log (node.First (node.Second v)) some = absurd (omega (arith, some))
-  of_log (node.Second (node.First v)) some = absurd (omega (arith, some))
-  of_log (node.Second (node.Second v)) some = (queries v, inl refl, some)
+  pub of_log : (v : OneOf A B C E) → 1 ≤ all_log_faults v → (l : L) × Mem l (logs_by v) × (1 ≤ log_faults l)
+  of_log (node.First v) some = (clicks v, inl refl, some)
+  of_log (node.Second v) some = absurd (omega (arith, some))
+  of_log (node.Third v) some = absurd (omega (arith, some))
+  of_log (node.Fourth v) some = (queries v, inl refl, some)

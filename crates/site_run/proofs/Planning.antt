@@ -8,11 +8,11 @@ use Rattle.site_store.specs.Plans.{AllAsPlanned, IsAsPlanned}
 use Rattle.site_store.proofs.Lending.{each_front, each_back, each_both, each_weaker}
 use Rattle.site_node.specs.Faults.{OfBoth}
 use Rattle.site_workers.specs.Works.{HasAtMost, KeepsPlan}
-use Rattle.site_workers.specs.Eithers as either
-use Rattle.site_workers.specs.declared.either.Either.TheVariants as node
+use Rattle.site_workers.specs.FourKinds as one
+use Rattle.site_workers.specs.declared.one_of.OneOf.TheVariants as node
 use Rattle.site_run.specs.Naming.{names_of, joiner_of}
 use Rattle.site_run.specs.Stops.{AllInAll, ArePlanned, RunsAsPlanned, StopsAsPlanned}
-use Rattle.site_run.proofs.Words.{list_any, Each, Lent, Either, BusEntry, Begin, End, Stop, NodeFault, Setting, Disks, Node, Dispatcher, Server, Replica, Joiner, NumbersAreNodes, StateOf, AnyState, node_number, node_count, down_over, made_by, all_from, site_of, is_stop, stop_count, HoldsAs, AreHeld, AreDownOver, NoJoinerStopped, RunLog, Config, numbers_of}
+use Rattle.site_run.proofs.Words.{list_any, Each, Lent, OneOf, BusEntry, Begin, End, Stop, NodeFault, Setting, Disks, Node, Dispatcher, Server, Replica, Joiner, NumbersAreNodes, StateOf, AnyState, node_number, node_count, down_over, made_by, all_from, site_of, is_stop, stop_count, HoldsAs, AreHeld, AreDownOver, NoJoinerStopped, RunLog, Config, numbers_of}
 use Rattle.site_run.proofs.Going.{disks_by}
 
 -- ---- the stops of config
@@ -149,14 +149,14 @@ module _ {D A B C E : Type 0} (image : D → List ℕ → Type 0) (stops : D →
   abbrev Left : D → ℕ → Type 0
   Left disk = AtMost (stops disk) (made disk)
 
-  abbrev left_by : Either (Either A B) (Either C E) → ℕ → Type 0
-  left_by = either.has (either.has (λ n. OfBoth (Left (offset n)) (Left (retry n))) (λ n. Left (server n))) (either.has (λ n. Left (replica n)) (λ n. OfBoth (Left (epochs n)) (Left (outputs n))))
+  abbrev left_by : OneOf A B C E → ℕ → Type 0
+  left_by = one.has (λ n. OfBoth (Left (offset n)) (Left (retry n))) (λ n. Left (server n)) (λ n. Left (replica n)) (λ n. OfBoth (Left (epochs n)) (Left (outputs n)))
 
-  abbrev faults_by : Either (Either A B) (Either C E) → ℕ
-  faults_by = either.by (either.by (λ n. faults (offset n) + faults (retry n)) (λ n. faults (server n))) (either.by (λ n. faults (replica n)) (λ n. faults (epochs n) + faults (outputs n)))
+  abbrev faults_by : OneOf A B C E → ℕ
+  faults_by = one.by (λ n. faults (offset n) + faults (retry n)) (λ n. faults (server n)) (λ n. faults (replica n)) (λ n. faults (epochs n) + faults (outputs n))
 
-  abbrev waits_by : Either (Either A B) (Either C E) → Bool
-  waits_by = either.by (either.by a b) (either.by c e)
+  abbrev waits_by : OneOf A B C E → Bool
+  waits_by = one.by a b c e
 
   abbrev Up : D → Type 0
   Up disk = is_down disk ≡ false
@@ -165,24 +165,24 @@ module _ {D A B C E : Type 0} (image : D → List ℕ → Type 0) (stops : D →
   one_left disk i j k has none is = let same : i ≡ k = omega (arith, none, is) in subst (Left disk) same has
 
   module _ (ups : (n : A) → a n ≡ false → Up (offset n) × Up (retry n)) (up : (n : B) → b n ≡ false → Up (server n)) (up_too : (n : C) → c n ≡ false → Up (replica n)) (ups_too : (n : E) → e n ≡ false → Up (epochs n) × Up (outputs n)) where
-    left_of : (config : Config) (number k : ℕ) (v : Either (Either A B) (Either C E)) → AllInAll (λ (l : Lent D). Left l.disk) (disks_by image offset retry server replica epochs outputs config number v) k → left_by v k
-    left_of config number k (node.First (node.First v)) h = (h.0, h.3.0, h.2, h.3.2, omega (arith, h.4, h.3.4, h.3.3))
-    left_of config number k (node.First (node.Second v)) h = one_left (server v) h.0 h.1 k h.2 h.3 h.4
-    left_of config number k (node.Second (node.First v)) h = one_left (replica v) h.0 h.1 k h.2 h.3 h.4
-    left_of config number k (node.Second (node.Second v)) h = (h.0, h.3.0, h.2, h.3.2, omega (arith, h.4, h.3.4, h.3.3))
+    left_of : (config : Config) (number k : ℕ) (v : OneOf A B C E) → AllInAll (λ (l : Lent D). Left l.disk) (disks_by image offset retry server replica epochs outputs config number v) k → left_by v k
+    left_of config number k (node.First v) h = (h.0, h.3.0, h.2, h.3.2, omega (arith, h.4, h.3.4, h.3.3))
+    left_of config number k (node.Second v) h = one_left (server v) h.0 h.1 k h.2 h.3 h.4
+    left_of config number k (node.Third v) h = one_left (replica v) h.0 h.1 k h.2 h.3 h.4
+    left_of config number k (node.Fourth v) h = (h.0, h.3.0, h.2, h.3.2, omega (arith, h.4, h.3.4, h.3.3))
 
-    none_of_it : (config : Config) (number : ℕ) (v : Either (Either A B) (Either C E)) → Each (λ (l : Lent D). faults l.disk ≡ 0) (disks_by image offset retry server replica epochs outputs config number v) → faults_by v ≡ 0
-    none_of_it config number (node.First (node.First v)) h = let x = h.0 in let y = h.1.0 in omega (arith, x, y)
-    none_of_it config number (node.First (node.Second v)) h = h.0
-    none_of_it config number (node.Second (node.First v)) h = h.0
-    none_of_it config number (node.Second (node.Second v)) h = let x = h.0 in let y = h.1.0 in omega (arith, x, y)
+    none_of_it : (config : Config) (number : ℕ) (v : OneOf A B C E) → Each (λ (l : Lent D). faults l.disk ≡ 0) (disks_by image offset retry server replica epochs outputs config number v) → faults_by v ≡ 0
+    none_of_it config number (node.First v) h = let x = h.0 in let y = h.1.0 in omega (arith, x, y)
+    none_of_it config number (node.Second v) h = h.0
+    none_of_it config number (node.Third v) h = h.0
+    none_of_it config number (node.Fourth v) h = let x = h.0 in let y = h.1.0 in omega (arith, x, y)
 
-    calm_of : (config : Config) (number : ℕ) (v : Either (Either A B) (Either C E)) → faults_by v ≡ 0 → waits_by v ≡ false
+    calm_of : (config : Config) (number : ℕ) (v : OneOf A B C E) → faults_by v ≡ 0 → waits_by v ≡ false
         → Each (λ (l : Lent D). (faults l.disk ≡ 0) × (is_down l.disk ≡ false)) (disks_by image offset retry server replica epochs outputs config number v)
-    calm_of config number (node.First (node.First v)) none w = ((omega (arith, none), (ups v w).0), ((omega (arith, none), (ups v w).1), tt))
-    calm_of config number (node.First (node.Second v)) none w = ((none, up v w), tt)
-    calm_of config number (node.Second (node.First v)) none w = ((none, up_too v w), tt)
-    calm_of config number (node.Second (node.Second v)) none w = ((omega (arith, none), (ups_too v w).0), ((omega (arith, none), (ups_too v w).1), tt))
+    calm_of config number (node.First v) none w = ((omega (arith, none), (ups v w).0), ((omega (arith, none), (ups v w).1), tt))
+    calm_of config number (node.Second v) none w = ((none, up v w), tt)
+    calm_of config number (node.Third v) none w = ((none, up_too v w), tt)
+    calm_of config number (node.Fourth v) none w = ((omega (arith, none), (ups_too v w).0), ((omega (arith, none), (ups_too v w).1), tt))
 
     pub are_planned : ArePlanned stops made faults is_down left_by faults_by waits_by (disks_by image offset retry server replica epochs outputs)
     are_planned = record { left = left_of; none = none_of_it; calm = calm_of }

@@ -1,12 +1,12 @@
 -- A node without an open turn keeps on each of its disks alone what its state says.
 use Rattle.std.proofs.Common.{◌≡◌, ⊎_elim, ℕ, List, Option, Some, None, refl, ap, subst}
-use Rattle.site_run.proofs.Words.{Each, JournalState, Ready, KeepsOffset, KeepsPending, KeepsEpoch, KeepsPairs, Node, Dispatcher, Server, Replica, Joiner, node_number, Config, DispatchNote, DispatcherState, RegistrarView, ServerState, VoterView, ReplicaState, IsVoted, JoinerState, Doubt, StateOf, Either, AnyState, any_of, KeepsVotes, HasSpelledNotes, IsClosed, KeepsAs}
+use Rattle.site_run.proofs.Words.{Each, JournalState, Ready, KeepsOffset, KeepsPending, KeepsEpoch, KeepsPairs, Node, Dispatcher, Server, Replica, Joiner, node_number, Config, DispatchNote, DispatcherState, RegistrarView, ServerState, VoterView, ReplicaState, IsVoted, JoinerState, Doubt, StateOf, OneOf, AnyState, any_of, KeepsVotes, HasSpelledNotes, IsClosed, KeepsAs}
 use Rattle.dispatch_node.specs.Node as dispatcher
 use Rattle.registry_server.specs.Node as server
 use Rattle.replica_node.specs.Node as replica
 use Rattle.joiner_node.specs.Node as joiner
-use Rattle.site_workers.specs.Eithers as either
-use Rattle.site_workers.specs.declared.either.Either.TheVariants as node
+use Rattle.site_workers.specs.FourKinds as one
+use Rattle.site_workers.specs.declared.one_of.OneOf.TheVariants as node
 use Rattle.site_run.proofs.Going.{disks_by}
 
 -- ---- by the kind of node
@@ -64,8 +64,8 @@ module _ (p : joiner.Parts) (ei pi : List ℕ → Type 0) (s : JoinerState) (clo
 
 module _ {D A B C E : Type 0} (image : D → List ℕ → Type 0) (offset retry : A → D) (server_disk : B → D) (replica_disk : C → D) (epochs outputs : E → D)
     (a_stands : A → DispatcherState → Type 0) (b_stands : B → ServerState → Type 0) (c_stands : C → ReplicaState → Type 0) (e_stands : E → JoinerState → Type 0) where
-  abbrev stands : Either (Either A B) (Either C E) → AnyState → Type 0
-  stands = either.at (either.at a_stands b_stands) (either.at c_stands e_stands)
+  abbrev stands : OneOf A B C E → AnyState → Type 0
+  stands = one.at a_stands b_stands c_stands e_stands
 
   pub record Rests : Type 0 where
     pub dispatchers : (v : A) (s : DispatcherState) → a_stands v s → s.node.opened ≡ None
@@ -75,33 +75,25 @@ module _ {D A B C E : Type 0} (image : D → List ℕ → Type 0) (offset retry 
     pub joiners : (v : E) (s : JoinerState) → e_stands v s → s.node.opened ≡ None
         → ((c : List ℕ) → image (epochs v) c → KeepsEpoch s.node.kept.epoch c) × ((c : List ℕ) → image (outputs v) c → KeepsPairs s.node.kept.pairs c)
 
-  pub keeps_as : Rests → (config : Config) (n : Node) (t : StateOf n) (v : Either (Either A B) (Either C E)) → IsClosed n t → stands v (any_of n t)
+  pub keeps_as : Rests → (config : Config) (n : Node) (t : StateOf n) (v : OneOf A B C E) → IsClosed n t → stands v (any_of n t)
       → KeepsAs image config n t (disks_by image offset retry server_disk replica_disk epochs outputs config (node_number n) v)
-  keeps_as rests config (Dispatcher s) t (node.First (node.First v)) closed at =
+  keeps_as rests config (Dispatcher s) t (node.First v) closed at =
       let kept = rests.dispatchers v (record { site = s; node = t }) at closed in
       record { offset = offset v; retry = retry v; named = refl; offsets = kept.0; pending = kept.1 }
-  keeps_as rests config (Dispatcher s) t (node.First (node.Second v)) closed at = absurd at
-  keeps_as rests config (Dispatcher s) t (node.Second v) closed at = absurd at
-  keeps_as rests config (Server s) t (node.First (node.First v)) closed at = absurd at
-  keeps_as rests config (Server s) t (node.First (node.Second v)) closed at = record { disk = server_disk v; named = refl; epochs = rests.servers v _ at closed }
-  keeps_as rests config (Server s) t (node.Second v) closed at = absurd at
-  keeps_as rests config (Replica r) t (node.First v) closed at = absurd at
-  keeps_as rests config (Replica r) t (node.Second (node.First v)) closed at = record { disk = replica_disk v; named = refl; votes = rests.replicas v t at closed }
-  keeps_as rests config (Replica r) t (node.Second (node.Second v)) closed at = absurd at
-  keeps_as rests config (Joiner j) t (node.First v) closed at = absurd at
-  keeps_as rests config (Joiner j) t (node.Second (node.First v)) closed at = absurd at
-  keeps_as rests config (Joiner j) t (node.Second (node.Second v)) closed at =
+  keeps_as rests config (Server s) t (node.Second v) closed at = record { disk = server_disk v; named = refl; epochs = rests.servers v _ at closed }
+  keeps_as rests config (Replica r) t (node.Third v) closed at = record { disk = replica_disk v; named = refl; votes = rests.replicas v t at closed }
+  keeps_as rests config (Joiner j) t (node.Fourth v) closed at =
       let kept = rests.joiners v (record { number = j; node = t }) at closed in
       record { epochs = epochs v; outputs = outputs v; named = refl; epoch = kept.0; pairs = kept.1 }
+  keeps_as rests config _ t _ closed at = absurd at
 
 -- ---- the notes of a replica
 
 module _ {A B C E : Type 0} (a_stands : A → DispatcherState → Type 0) (b_stands : B → ServerState → Type 0) (c_stands : C → ReplicaState → Type 0) (e_stands : E → JoinerState → Type 0) where
-  pub notes_spelled : ((v : C) (s : ReplicaState) → c_stands v s → Each IsVoted s.kept.notes) → (n : Node) (t : StateOf n) (v : Either (Either A B) (Either C E))
-      → either.at (either.at a_stands b_stands) (either.at c_stands e_stands) v (any_of n t) → HasSpelledNotes n t
+  pub notes_spelled : ((v : C) (s : ReplicaState) → c_stands v s → Each IsVoted s.kept.notes) → (n : Node) (t : StateOf n) (v : OneOf A B C E)
+      → one.at a_stands b_stands c_stands e_stands v (any_of n t) → HasSpelledNotes n t
   notes_spelled voted (Dispatcher s) t v at = tt
   notes_spelled voted (Server s) t v at = tt
-  notes_spelled voted (Replica r) t (node.First v) at = absurd at
-  notes_spelled voted (Replica r) t (node.Second (node.First v)) at = voted v t at
-  notes_spelled voted (Replica r) t (node.Second (node.Second v)) at = absurd at
+  notes_spelled voted (Replica r) t (node.Third v) at = voted v t at
+  notes_spelled voted (Replica r) t _ at = absurd at
   notes_spelled voted (Joiner j) t v at = tt

@@ -118,7 +118,7 @@ pub use Rattle.site_store.specs.Refusals.{IsJournalOf, other_names}
 pub use Rattle.site_store.specs.declared.lent.disk.LentDisk.{LentDisk}
 pub use Rattle.site_workers.specs.Rounds.{AreCaused, HasFault, Rests}
 pub use Rattle.site_workers.specs.Works.{GrowsOn, HasMet, IsCaused, LeadsOn, Path, Reached, StandsAt, is_stop, stop_count}
-pub use Rattle.site_workers.specs.declared.either.Either.{Either}
+pub use Rattle.site_workers.specs.declared.one_of.OneOf.{OneOf}
 pub use Rattle.std.proofs.Math.Seq.{get_or-append_seam}
 pub use Rattle.std.proofs.lemmas.Bool.{cases_lt, eq-eqb, le-ltb, leb-true, lt-ltb, ltb-false, ltb-true, or_parts}
 pub use Rattle.std.proofs.lemmas.List.{append-nil, drop_more, get_or_append_left, get_or_default, length-map, take-append-drop}

@@ -22,7 +22,7 @@ use Rattle.replica_node.specs.Node as replica
 use Rattle.site_node.specs.Replicas.{ReplicaState, replica_rows}
 use Rattle.joiner_node.specs.Node.{JoinerState, LeadsTo, joiner_phase, spends_of}
 use Rattle.site_laws.specs.Kinds.{StateOf}
-use Rattle.site_workers.specs.Eithers as either
+use Rattle.site_workers.specs.FourKinds as one
 use Rattle.site_workers.specs.Works.{Path}
 
 abbrev pub AnyState : Type 0
@@ -30,15 +30,15 @@ AnyState = (DispatcherState ⊎ ServerState) ⊎ (ReplicaState ⊎ JoinerState)
 
 -- an entry leads a node of its kind on
 abbrev pub AnyLeads : AnyState → Entry → AnyState → Type 0
-AnyLeads = either.leads (either.leads SiteLeads (Leads server_rows)) (either.leads (Leads replica_rows) LeadsTo)
+AnyLeads = one.leads (one.leads SiteLeads (Leads server_rows)) (one.leads (Leads replica_rows) LeadsTo)
 
 -- where a state stands on the bus
 abbrev pub any_phase : AnyState → Phase
-any_phase = either.of (either.of (λ s. state_phase s.node) state_phase) (either.of state_phase joiner_phase)
+any_phase = one.of (one.of (λ s. state_phase s.node) state_phase) (one.of state_phase joiner_phase)
 
 -- what a node says of its rest
 abbrev pub any_rests : AnyState → Bool → Type 0
-any_rests = either.says (either.says (says dispatcher_at_rest) (Says (λ g k l. server_at_rest g l))) (either.says (Says (λ g k l. replica_at_rest k)) (λ s. Says (λ g k l. joiner_at_rest l) s.node))
+any_rests = one.says (one.says (says dispatcher_at_rest) (Says (λ g k l. server_at_rest g l))) (one.says (Says (λ g k l. replica_at_rest k)) (λ s. Says (λ g k l. joiner_at_rest l) s.node))
 
 -- a server's state, with its site
 abbrev pub with_site : ℕ → State ServerKept ServerLive → ServerState
@@ -57,7 +57,7 @@ down_with g k = record { setting = g; kept = k; live = None; opened = None }
 
 -- the epoch that a start would raise, where it is the last one
 abbrev pub any_spends : AnyState → Input → Option ℕ
-any_spends = either.of (either.of dispatcher.never_spent spent_at) (either.of replica.never_spent spends_of)
+any_spends = one.of (one.of dispatcher.never_spent spent_at) (one.of replica.never_spent spends_of)
 
 -- a node with this open turn starts, and what its disk keeps is this epoch, the last
 pub record StartsAt {L : Type 0} (opened : Option Input) (live : Option L) (kept epoch : ℕ) : Type 0 where

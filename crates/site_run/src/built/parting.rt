@@ -4,13 +4,13 @@ ghost use Rattle.outside.specs.declared.store.DiskName.TheVariants as name;
 ghost use Rattle.site_store.specs.Lent.{Lent};
 ghost use Rattle.turn_defs.specs.declared.config.Config.{Config};
 ghost use Rattle.site_run.specs.Naming.{as_lent, all_from, of_dispatcher, of_server, of_replica, of_joiner, place_of, site_of, joiner_of};
-ghost use Rattle.site_workers.specs.Eithers as either;
+ghost use Rattle.site_workers.specs.FourKinds as one;
 
 use crate::built::Parts;
 use crate::nodes::AnyNode;
 use outside::{Disk, DiskName, LogFile};
 use site_node::SiteNode;
-use site_workers::Either;
+use site_workers::OneOf;
 use turn_defs::Config;
 
 /// A kind of node that is taken apart into disks under their names, and logs.
@@ -56,32 +56,30 @@ pub(crate) fn joiner_place(config: &Config, number: u8) -> (u8, u8)
 }
 
 impl<D: Disk, L: LogFile> Parting<D, L> for AnyNode<D, L> {
-    ghost disks_of = { λ config number any. either.by
-        (either.by (λ d. of_dispatcher number d.journals.offset.journal.disk d.journals.retry.journal.disk) (λ s. of_server number s.journal.journal.disk))
-        (either.by (λ r. of_replica number r.journal.disk) (λ j. of_joiner config number j.disks.epochs.journal.disk j.disks.log.disk)) any.node };
+    ghost disks_of = { λ config number. one.by
+        (λ d. of_dispatcher number d.journals.offset.journal.disk d.journals.retry.journal.disk) (λ s. of_server number s.journal.journal.disk)
+        (λ r. of_replica number r.journal.disk) (λ j. of_joiner config number j.disks.epochs.journal.disk j.disks.log.disk) };
 
-    ghost logs_of = { λ any. either.by (either.by (λ d. d.clicks.tail.log ∷ []) (λ s. [])) (either.by (λ r. []) (λ j. j.joining.queries.store.tail.log ∷ [])) any.node };
+    ghost logs_of = { one.by (λ d. d.clicks.tail.log ∷ []) (λ s. []) (λ r. []) (λ j. j.joining.queries.store.tail.log ∷ []) };
 
-    ghost counted = { λ config number any. either.counted _ _ _ _
-        (either.counted _ _ _ _ (λ d. refl) (λ s. refl))
-        (either.counted _ _ _ _ (λ r. refl) (λ j. refl)) any.node };
+    ghost counted = { λ config number. one.counted _ _ _ _ _ _ _ _ (λ d. refl) (λ s. refl) (λ r. refl) (λ j. refl) };
 
     fn part(self, config: &Config, number: u8, parts: &mut Parts<D, L>) {
-        match self.node {
-            Either::First(Either::First(node)) => {
+        match self {
+            OneOf::First(node) => {
                 let (offset, retry, log) = node.into_disks();
                 parts.put(DiskName::Offset(number), offset);
                 parts.put(DiskName::Retry(number), retry);
                 parts.logs.push_reserved(log);
             }
-            Either::First(Either::Second(node)) => {
+            OneOf::Second(node) => {
                 parts.put(server_disk(number), node.into_disk());
             }
-            Either::Second(Either::First(node)) => parts.put(
+            OneOf::Third(node) => parts.put(
                 DiskName::Replica(number.saturating_sub(4)),
                 node.into_disk(),
             ),
-            Either::Second(Either::Second(node)) => {
+            OneOf::Fourth(node) => {
                 let (epochs, outputs, log) = node.into_disks();
                 let (site, joiner) = joiner_place(config, number);
                 parts.put(DiskName::Epoch(site, joiner), epochs);

@@ -12,7 +12,7 @@ use registry_server::ServerNode;
 use replica_node::ReplicaNode;
 use site_node::SiteNode;
 use site_store::OpenDisk;
-use site_workers::Either;
+use site_workers::OneOf;
 use std::alloc::Global;
 use turn_defs::Config;
 
@@ -43,9 +43,7 @@ impl<D: Disk, L: LogFile> Stock<D, L> {
         let retry = take_disk(&mut self.rest, DiskName::Retry(number)).into_retry();
         let log = take_last(&mut self.logs.clicks);
         let node = DispatchNode::new(self.alloc, number, self.config, offset, retry, log);
-        AnyNode {
-            node: Either::First(Either::First(node)),
-        }
+        OneOf::First(node)
     }
 
     // The server of a site, down, over its journal.
@@ -58,9 +56,7 @@ impl<D: Disk, L: LogFile> Stock<D, L> {
         let site = number - 2;
         let journal = take_disk(&mut self.rest, DiskName::Server(site)).into_server();
         match ServerNode::new(self.alloc, site, self.config, journal) {
-            Ok(node) => Some(AnyNode {
-                node: Either::First(Either::Second(node)),
-            }),
+            Ok(node) => Some(OneOf::Second(node)),
             Err(journal) => {
                 self.parts.put(DiskName::Server(site), journal.into_disk());
                 None
@@ -77,9 +73,7 @@ impl<D: Disk, L: LogFile> Stock<D, L> {
     {
         let votes = take_disk(&mut self.rest, DiskName::Replica(number - 4)).into_votes();
         let node = ReplicaNode::new(self.alloc, number - 4, self.config, votes);
-        AnyNode {
-            node: Either::Second(Either::First(node)),
-        }
+        OneOf::Third(node)
     }
 
     // A joiner, down, over its journals and the query log.
@@ -94,9 +88,7 @@ impl<D: Disk, L: LogFile> Stock<D, L> {
         let outputs = take_disk(&mut self.rest, DiskName::Output(site, place)).into_output();
         let log = take_last(&mut self.logs.queries);
         match JoinerNode::new(self.alloc, site, place, self.config, epochs, outputs, log) {
-            Ok(node) => Some(AnyNode {
-                node: Either::Second(Either::Second(node)),
-            }),
+            Ok(node) => Some(OneOf::Fourth(node)),
             Err((_, epochs, outputs, log)) => {
                 self.parts
                     .put(DiskName::Epoch(site, place), epochs.into_disk());

@@ -1,97 +1,17 @@
 // A node of the system, whatever its kind.
 ghost use Rattle.site_run.specs.AnyNodes.{AnyState, GoesOn};
 
-use air_bus::{Input, Payload};
 use dispatch_node::DispatchNode;
 use joiner_node::JoinerNode;
 use lossy_link::Kind;
-use outside::{Disk, Gate, LogFile};
+use outside::{Disk, LogFile};
 use registry_server::ServerNode;
 use replica_node::ReplicaNode;
-use site_node::{Done, NodeFault, SiteNode};
-use site_workers::Either;
-
-// A node of one of the four kinds, two and two.
-type Nested<D, L> = Either<
-    Either<DispatchNode<D, L>, ServerNode<D>>,
-    Either<ReplicaNode<D>, JoinerNode<L, D>>,
->;
+use site_node::SiteNode;
+use site_workers::OneOf;
 
 /// A node of any of the four kinds.
-#[derive(Drop)]
-pub struct AnyNode<D: Disk, L: LogFile> {
-    pub node: Nested<D, L>,
-}
-
-impl<D: Disk, L: LogFile> SiteNode for AnyNode<D, L> {
-    ghost tells = { ⟦<Nested<D, L> as SiteNode>⟧.tells };
-
-    ghost planned = { ⟦<Nested<D, L> as SiteNode>⟧.planned };
-
-    ghost State = { ⟦<Nested<D, L> as SiteNode>⟧.State };
-
-    ghost leads = { ⟦<Nested<D, L> as SiteNode>⟧.leads };
-
-    ghost phase_of = { ⟦<Nested<D, L> as SiteNode>⟧.phase_of };
-
-    ghost wants_as = { ⟦<Nested<D, L> as SiteNode>⟧.wants_as };
-
-    ghost unfinished_as = { ⟦<Nested<D, L> as SiteNode>⟧.unfinished_as };
-
-    ghost at_rest_as = { ⟦<Nested<D, L> as SiteNode>⟧.at_rest_as };
-
-    ghost spends = { ⟦<Nested<D, L> as SiteNode>⟧.spends };
-
-    ghost Contents = { ⟦<Nested<D, L> as SiteNode>⟧.Contents };
-
-    ghost keeps = { ⟦<Nested<D, L> as SiteNode>⟧.keeps };
-
-    ghost number = { λ any. ⟦<Nested<D, L> as SiteNode>⟧.number any.node };
-
-    ghost disk_count = { λ any. ⟦<Nested<D, L> as SiteNode>⟧.disk_count any.node };
-
-    ghost waits = { λ any. ⟦<Nested<D, L> as SiteNode>⟧.waits any.node };
-
-    ghost stands = { λ any. ⟦<Nested<D, L> as SiteNode>⟧.stands any.node };
-
-    ghost image = { λ any. ⟦<Nested<D, L> as SiteNode>⟧.image any.node };
-
-    ghost since = { λ old new. ⟦<Nested<D, L> as SiteNode>⟧.since old.node new.node };
-
-    ghost grown = { λ old new. ⟦<Nested<D, L> as SiteNode>⟧.grown old.node new.node };
-
-    ghost faults = { λ any. ⟦<Nested<D, L> as SiteNode>⟧.faults any.node };
-
-    ghost stops_left = { λ any. ⟦<Nested<D, L> as SiteNode>⟧.stops_left any.node };
-
-    ghost log_faults = { λ any. ⟦<Nested<D, L> as SiteNode>⟧.log_faults any.node };
-
-    ghost begins = { ⟦<Nested<D, L> as SiteNode>⟧.begins };
-
-    ghost phases = { ⟦<Nested<D, L> as SiteNode>⟧.phases };
-
-    ghost images = { λ any. ⟦<Nested<D, L> as SiteNode>⟧.images any.node };
-
-    fn wants(&self) -> bool {
-        self.node.wants()
-    }
-
-    fn unfinished(&self) -> bool {
-        self.node.unfinished()
-    }
-
-    fn at_rest(&self) -> bool {
-        self.node.at_rest()
-    }
-
-    fn turn<G: Gate>(&mut self, input: &Input, gate: &G) -> Result<Done, NodeFault> {
-        self.node.turn(input, gate)
-    }
-
-    fn restart(&mut self) -> Result<Option<Payload>, NodeFault> {
-        self.node.restart()
-    }
-}
+pub type AnyNode<D, L> = OneOf<DispatchNode<D, L>, ServerNode<D>, ReplicaNode<D>, JoinerNode<L, D>>;
 
 /// A kind of node that stands at states of nodes of the system.
 pub trait SystemNode: SiteNode {
@@ -112,11 +32,11 @@ impl<D: Disk, L: LogFile> SystemNode for AnyNode<D, L> {
     ghost places = { ⟦<AnyNode<D, L> as SiteNode>⟧.stands };
 
     fn kind(&self) -> Kind {
-        match &self.node {
-            Either::First(Either::First(_)) => Kind::Dispatcher,
-            Either::First(Either::Second(_)) => Kind::Server,
-            Either::Second(Either::First(_)) => Kind::Replica,
-            Either::Second(Either::Second(_)) => Kind::Joiner,
+        match self {
+            OneOf::First(_) => Kind::Dispatcher,
+            OneOf::Second(_) => Kind::Server,
+            OneOf::Third(_) => Kind::Replica,
+            OneOf::Fourth(_) => Kind::Joiner,
         }
     }
 

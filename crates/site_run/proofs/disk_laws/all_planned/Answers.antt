@@ -17,10 +17,9 @@ pub returns-clause-disks : goal.returns-clause-disks
 returns-clause-disks g c planned =
     let d = g.D.Disk in
     let tells = g.met.D.Disk.plan_told planned in
-    let laws = are_planned d.image d.stops d.made d.faults d.is_down (λ n. n.journals.offset.journal.disk) (λ n. n.journals.retry.journal.disk) (λ n. n.journal.journal.disk) (λ n. n.journal.disk) (λ n. n.disks.epochs.journal.disk) (λ n. n.disks.log.disk)
+    are_planned d.image d.stops d.made d.faults d.is_down (λ n. n.journals.offset.journal.disk) (λ n. n.journals.retry.journal.disk) (λ n. n.journal.journal.disk) (λ n. n.journal.disk) (λ n. n.disks.epochs.journal.disk) (λ n. n.disks.log.disk)
     (λ n. is_some n.in_doubt) (λ n. is_some n.in_doubt) (λ n. is_some n.in_doubt) (λ n. is_some n.disks.in_doubt)
     (λ n up. let ready = n.ready (none_in n.in_doubt up) in (n.journals.offset.journal.up tells ready.0, n.journals.retry.journal.up tells ready.1))
     (λ n up. n.journal.journal.up tells (n.ready (none_in n.in_doubt up)))
     (λ n up. n.journal.up tells (n.ready (none_in n.in_doubt up)))
-    (λ n up. let ready = n.disks.ready (none_in n.disks.in_doubt up) in (n.disks.epochs.journal.up tells ready.0, n.disks.log.up tells ready.1)) in
-    record { left = λ config number k any. laws.left config number k any.node; none = λ config number any. laws.none config number any.node; calm = λ config number any. laws.calm config number any.node }
+    (λ n up. let ready = n.disks.ready (none_in n.disks.in_doubt up) in (n.disks.epochs.journal.up tells ready.0, n.disks.log.up tells ready.1))

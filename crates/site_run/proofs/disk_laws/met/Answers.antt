@@ -2,7 +2,7 @@ use Rattle.site_run.proofs.Meeting.{of_disk, of_log}
 use Rattle.site_run.proofs.disk_laws.met.Goals as goal
 
 pub returns-clause-disks : goal.returns-clause-disks
-returns-clause-disks g c = λ config number v. of_disk g.D.Disk.faults g.L.LogFile.faults (λ d. d.journals.offset.journal.disk) (λ d. d.journals.retry.journal.disk) (λ s. s.journal.journal.disk) (λ r. r.journal.disk) (λ j. j.disks.epochs.journal.disk) (λ j. j.disks.log.disk) (λ d. d.clicks.tail.log) (λ j. j.joining.queries.store.tail.log) g.D.Disk.image config number v.node
+returns-clause-disks g c = λ config number v. of_disk g.D.Disk.faults g.L.LogFile.faults (λ d. d.journals.offset.journal.disk) (λ d. d.journals.retry.journal.disk) (λ s. s.journal.journal.disk) (λ r. r.journal.disk) (λ j. j.disks.epochs.journal.disk) (λ j. j.disks.log.disk) (λ d. d.clicks.tail.log) (λ j. j.joining.queries.store.tail.log) g.D.Disk.image config number v
 
 pub returns-clause-logs : goal.returns-clause-logs
-returns-clause-logs g c = λ v. of_log g.D.Disk.faults g.L.LogFile.faults (λ d. d.journals.offset.journal.disk) (λ d. d.journals.retry.journal.disk) (λ s. s.journal.journal.disk) (λ r. r.journal.disk) (λ j. j.disks.epochs.journal.disk) (λ j. j.disks.log.disk) (λ d. d.clicks.tail.log) (λ j. j.joining.queries.store.tail.log) v.node
+returns-clause-logs g c = λ v. of_log g.D.Disk.faults g.L.LogFile.faults (λ d. d.journals.offset.journal.disk) (λ d. d.journals.retry.journal.disk) (λ s. s.journal.journal.disk) (λ r. r.journal.disk) (λ j. j.disks.epochs.journal.disk) (λ j. j.disks.log.disk) (λ d. d.clicks.tail.log) (λ j. j.joining.queries.store.tail.log) v

@@ -10,4 +10,4 @@ returns g c = λ disk_tells log_tells config n t v closed at.
       servers = λ d s here none. server_rests (image d.journal.journal.disk) _ _ _ _ _ s none here;
       replicas = λ d s here none. replica_rests (image d.journal.disk) _ _ _ _ _ _ s none here;
       joiners = λ d s here none. joiner_rests _ (image d.disks.epochs.journal.disk) (image d.disks.log.disk) s none here;
-    }) config n t v.node closed at
+    }) config n t v closed at
