@@ -1,37 +1,38 @@
 -- The first line with an id, by its place and by what an index says.
-use Rattle.std.proofs.Common.{◌≡◌, ℕ, ◌<◌, ◌≤◌, Bool, true, false, List, [], ◌∷◌, Option, Some, None, IfOk, Result, Ok, Err, option_map, is_some, unwrap_or, refl, sym, ap, ◌∙◌, subst, arith}
-use Rattle.event_store.proofs.Words.{option_or, none-some, MatchOption-at_some, MatchOption-at_none, same_Some, both_ways, EventId, is_same, QueryRec, Index, ReadsNext, ReadsLines, found, Mark, First, first_of, place_of, stray_of, Begins, IsStray, IsSegment, Starts, Knows}
+use Rattle.std.proofs.Common.{◌≡◌, ℕ, ◌<◌, ◌≤◌, Bool, true, false, nat_lt, List, [], ◌∷◌, Option, Some, None, MatchOption, option_map, unwrap_or, refl, sym, ap, ◌∙◌, subst, arith, ltb-true}
+use Rattle.event_store.proofs.Words.{option_or, none-some, nat_tests, MatchOption-at_some, MatchOption-at_none, same_Some, EventId, is_same, QueryRec, Index, AreRead, found, Mark, First, first_of, place_of, stray_of, Begins, IsStray, IsSegment, Starts, Knows, IsCache}
 use Rattle.event_store.proofs.Orders.{same_itself}
-use Rattle.event_store.proofs.Changes.{no_value}
 use Rattle.event_store.proofs.Marking.{first_below, stray_first, no_stray, or_none}
-use Rattle.event_store.proofs.Walks.{walk_on, next_same, found_append, found_cons}
+use Rattle.event_store.proofs.Walks.{walk_on, line_at, next_same, found_append, found_cons}
 
--- no line with the id ends at or before its first
-before_first : (log : List ℕ) (id : EventId) (s x : ℕ) (xs : List (Option QueryRec)) → Starts log id s → ReadsLines log 0 x xs → x ≤ s → found xs id ≡ None
-before_first log id s x xs (before, walk, none, first) xw le =
-    let on = walk_on log 0 x s xs before xw walk le in
+-- where a longer front has no line with the id, none has
+pub none_in_front : (log : List ℕ) (x y : ℕ) (xs ys : List (Option QueryRec)) (id : EventId) → AreRead log x xs → AreRead log y ys → x ≤ y → found ys id ≡ None → found xs id ≡ None
+none_in_front log x y xs ys id xw yw le none =
+    let on = walk_on log 0 x y xs ys xw yw le in
     (or_none (found xs id) (found on.0 id) (sym (found_append xs on.0 id) ∙ ap (λ (l : List (Option QueryRec)). found l id) (sym on.1) ∙ none)).0
 
-pub own : (q : QueryRec) (id : EventId) → q.id ≡ id → found (Some q ∷ []) id ≡ Some q
+own : (q : QueryRec) (id : EventId) → q.id ≡ id → found (Some q ∷ []) id ≡ Some q
 own q id same = rw (subst (λ (i : EventId). is_same id i ≡ true) (sym same) (same_itself id)) refl
 
--- from its place on it is found at once
-at_first : (log : List ℕ) (id : EventId) (s x next : ℕ) (q : QueryRec) (mid : List (Option QueryRec)) → ReadsNext log s next (Some q) → q.id ≡ id → ReadsLines log s x mid → s < x → found mid id ≡ Some q
-at_first log id s x next q [] step same walk lt = absurd (omega (arith, walk, lt))
-at_first log id s x next q (r ∷ rest) step same (n, other, walk) lt =
-    let one = next_same log s next n (Some q) r step other in
-    found_cons r rest id ∙ ap (λ (z : Option QueryRec). option_or (found (z ∷ []) id) (found rest id)) (sym one.1) ∙ ap (λ (o : Option QueryRec). option_or o (found rest id)) (own q id same)
-
 -- among lines that reach beyond it, it is found
-beyond_first : (log : List ℕ) (id : EventId) (s x : ℕ) (xs : List (Option QueryRec)) → Starts log id s → ReadsLines log 0 x xs → s < x → found xs id ≡ None → ⊥
-beyond_first log id s x xs (before, walk, none, (next, q, step, same)) xw lt absent =
-    let on = walk_on log 0 s x before xs walk xw (omega (arith, lt)) in
-    let is : found xs id ≡ Some q = ap (λ (l : List (Option QueryRec)). found l id) on.1 ∙ found_append before on.0 id ∙ ap (λ (o : Option QueryRec). option_or o (found on.0 id)) none ∙ at_first log id s x next q on.0 step same on.2 lt in
-    none-some q (sym absent ∙ is)
+pub found_beyond : (log : List ℕ) (id : EventId) (s x : ℕ) (xs : List (Option QueryRec)) (first : Starts log id s) → AreRead log x xs → s < x → found xs id ≡ Some first.3.1
+found_beyond log id s x xs (before, walk, none, (next, q, step, same)) xw lt =
+    let at = line_at log s x before xs walk xw lt in
+    let one = next_same log s next at.0 (Some q) at.1 step at.2 in
+    ap (λ (l : List (Option QueryRec)). found l id) at.3.1 ∙ found_append before (at.1 ∷ at.3.0) id ∙ ap (λ (o : Option QueryRec). option_or o (found (at.1 ∷ at.3.0) id)) none
+    ∙ found_cons at.1 at.3.0 id ∙ ap (λ (z : Option QueryRec). option_or (found (z ∷ []) id) (found at.3.0 id)) (sym one.1) ∙ ap (λ (o : Option QueryRec). option_or o (found at.3.0 id)) (own q id same)
 
-kept_some : (r more : Option QueryRec) → is_some r ≡ true → option_or r more ≡ r
-kept_some None more e = absurd (both_ways false refl e)
-kept_some (Some q) more e = refl
+beyond_first : (log : List ℕ) (id : EventId) (s x : ℕ) (xs : List (Option QueryRec)) → Starts log id s → AreRead log x xs → s < x → found xs id ≡ None → ⊥
+beyond_first log id s x xs first xw lt absent = none-some first.3.1 (sym absent ∙ found_beyond log id s x xs first xw lt)
+
+-- there is one first line
+starts_same : (log : List ℕ) (id : EventId) (a b : ℕ) → Starts log id a → Starts log id b → a ≡ b
+starts_same log id a b fa fb = here (nat_lt a b) (nat_lt b a) refl refl
+  where
+    here : (t u : Bool) → nat_lt a b ≡ t → nat_lt b a ≡ u → a ≡ b
+    here true u e f = absurd (beyond_first log id a b fb.0 fa fb.1 (ltb-true a b e) fb.2)
+    here false true e f = absurd (beyond_first log id b a fa.0 fb fa.1 (ltb-true b a f) fa.2)
+    here false false e f = grind (arith, nat_tests)
 
 module _ (log : List ℕ) (place : ℕ) (index : Index) (lines : List (Option QueryRec)) (marks : List Mark) (knows : Knows log place index lines marks) (id : EventId) where
   starts : (f : First) → first_of marks id ≡ Some f → Starts log id f.place
@@ -40,80 +41,84 @@ module _ (log : List ℕ) (place : ℕ) (index : Index) (lines : List (Option Qu
   pub absent : first_of marks id ≡ None → found lines id ≡ None
   absent none = MatchOption-at_none (found lines id ≡ None) (λ (g : First). Starts log id g.place) none (knows.tied id)
 
+  -- what place_of says of the log
+  pub first_at : (s : ℕ) → place_of marks id ≡ Some s → Starts log id s × (s < place)
+  first_at s is = here (first_of marks id) refl is
+    where
+      here : (o : Option First) → first_of marks id ≡ o → option_map (λ (f : First). f.place) o ≡ Some s → Starts log id s × (s < place)
+      here None e at = absurd (none-some s at)
+      here (Some f) e at = subst (λ (n : ℕ). Starts log id n × (n < place)) (same_Some f.place s at) (starts f e, first_below place marks id f knows.falls e)
+
+  -- what is kept at hand by lines from there on
+  pub kept_ahead : (log' : List ℕ) (s : ℕ) (old new : EventId → Option ℕ) → place_of marks id ≡ Some s → log' ≡ log → ((front lines : List (Option QueryRec)) (marks : List Mark) → AreRead log' s front → Knows log' place index lines marks → IsCache old marks → IsCache new marks) → IsCache old marks → IsCache new marks
+  kept_ahead log' s old new is same more cache =
+      let first = first_at s is in
+      more first.0.0 lines marks (subst (λ (l : List ℕ). AreRead l s first.0.0) (sym same) first.0.1) (subst (λ (l : List ℕ). Knows l place index lines marks) (sym same) knows) cache
+
+  pub nowhere : place_of marks id ≡ None → found lines id ≡ None
+  nowhere is = here (first_of marks id) refl is
+    where
+      here : (o : Option First) → first_of marks id ≡ o → option_map (λ (f : First). f.place) o ≡ None → found lines id ≡ None
+      here None e at = absent e
+      here (Some f) e at = absurd (none-some f.place (sym at))
+
+  -- and the log of place_of
+  pub place_is : (s : ℕ) → Starts log id s → s < place → place_of marks id ≡ Some s
+  place_is s first lt = here (first_of marks id) refl
+    where
+      here : (o : Option First) → first_of marks id ≡ o → place_of marks id ≡ Some s
+      here None e = absurd (beyond_first log id s place lines first knows.walk lt (absent e))
+      here (Some f) e = ap (option_map (λ (f : First). f.place)) e ∙ ap (λ (n : ℕ). Some n) (starts_same log id f.place s (starts f e) first)
+
   -- up to a place that isn't behind the first line with the id, none is found
-  none_up_to : (x : ℕ) (xs : List (Option QueryRec)) → ReadsLines log 0 x xs → x ≤ place → ((f : First) → first_of marks id ≡ Some f → x ≤ f.place) → found xs id ≡ None
+  none_up_to : (x : ℕ) (xs : List (Option QueryRec)) → AreRead log x xs → x ≤ place → ((f : First) → first_of marks id ≡ Some f → x ≤ f.place) → found xs id ≡ None
   none_up_to x xs walk le before = here (first_of marks id) refl
     where
       here : (o : Option First) → first_of marks id ≡ o → found xs id ≡ None
-      here None e =
-          let on = walk_on log 0 x place xs lines walk knows.walk le in
-          (or_none (found xs id) (found on.0 id) (sym (found_append xs on.0 id) ∙ ap (λ (l : List (Option QueryRec)). found l id) (sym on.1) ∙ absent e)).0
-      here (Some f) e = before_first log id f.place x xs (starts f e) walk (before f e)
+      here None e = none_in_front log x place xs lines id walk knows.walk le (absent e)
+      here (Some f) e = let st = starts f e in none_in_front log x f.place xs st.0 id walk st.1 (before f e) st.2
 
-  abbrev Tells : Option QueryRec → Type 0
-  Tells r = (is_some r ≡ true → r ≡ found lines id) × (is_some r ≡ false → IsStray marks id)
+  -- what a scan tells of the lines up to its end
+  abbrev pub Scanned : ℕ → List (Option QueryRec) → Option ℕ → Type 0
+  Scanned x upto r = MatchOption r (found upto id ≡ None) (λ s. (s < x) × Starts log id s)
 
-  -- what is found between two places
-  between : (s x : ℕ) (before upto : List (Option QueryRec)) (r : Option QueryRec) → ReadsLines log 0 s before → ReadsLines log 0 x upto → s ≤ x → x ≤ place → ((f : First) → first_of marks id ≡ Some f → s ≤ f.place) → ((f : First) → first_of marks id ≡ Some f → f.ordered ≡ true → f.place < x) → ((mid : List (Option QueryRec)) → ReadsLines log s x mid → r ≡ found mid id) → Tells r
-  between s x before upto r bw uw le up low high scanned =
-      let on = walk_on log 0 s x before upto bw uw le in
-      let rest = walk_on log 0 x place upto lines uw knows.walk up in
-      let none : found before id ≡ None = none_up_to s before bw (omega (arith, le, up)) low in
-      let upto_is : found upto id ≡ r = ap (λ (l : List (Option QueryRec)). found l id) on.1 ∙ found_append before on.0 id ∙ ap (λ (o : Option QueryRec). option_or o (found on.0 id)) none ∙ sym (scanned on.0 on.2) in
-      let all : found lines id ≡ option_or r (found rest.0 id) = ap (λ (l : List (Option QueryRec)). found l id) rest.1 ∙ found_append upto rest.0 id ∙ ap (λ (o : Option QueryRec). option_or o (found rest.0 id)) upto_is in (
-        λ has. sym (all ∙ kept_some r (found rest.0 id) has),
-        λ has. λ f first. strays f first (upto_is ∙ no_value r has) f.ordered refl,
-      )
+  abbrev pub Tells : Option ℕ → Type 0
+  Tells r = MatchOption r (IsStray marks id) (λ s. place_of marks id ≡ Some s)
+
+  -- the lines that a scan wants, and what it tells of the id
+  abbrev pub Scans : ℕ → ℕ → Type 0
+  Scans s x = (front upto : List (Option QueryRec)) × AreRead log s front × (found front id ≡ None) × AreRead log x upto × ((r : Option ℕ) → Scanned x upto r → Tells r)
+
+  between : (s x : ℕ) (front upto : List (Option QueryRec)) → AreRead log s front → AreRead log x upto → s ≤ x → x ≤ place → ((f : First) → first_of marks id ≡ Some f → s ≤ f.place) → ((f : First) → first_of marks id ≡ Some f → f.ordered ≡ true → f.place < x) → Scans s x
+  between s x front upto fw uw le up low high = (front, upto, fw, none_up_to s front fw (omega (arith, le, up)) low, uw, tells)
     where
       strays : (f : First) → first_of marks id ≡ Some f → found upto id ≡ None → (t : Bool) → f.ordered ≡ t → f.ordered ≡ false
       strays f first none false t = t
       strays f first none true t = absurd (beyond_first log id f.place x upto (starts f first) uw (high f first t) none)
 
+      tells : (r : Option ℕ) → Scanned x upto r → Tells r
+      tells None none = λ f first. strays f first none f.ordered refl
+      tells (Some s) at = place_is s at.1 (omega (arith, at.0, up))
+
 module _ (log : List ℕ) (place : ℕ) (index : Index) (lines : List (Option QueryRec)) (marks : List Mark) (knows : Knows log place index lines marks) where
-  walk_to : (s : ℕ) → Begins marks s → (before : List (Option QueryRec)) × ReadsLines log 0 s before × (s < place)
+  walk_to : (s : ℕ) → Begins marks s → (before : List (Option QueryRec)) × AreRead log s before × (s < place)
   walk_to s (k, f, first, at) =
       let st = starts log place index lines marks knows k f first in
-      (st.0, subst (λ (n : ℕ). ReadsLines log 0 n st.0) at st.1, omega (arith, first_below place marks k f knows.falls first, at))
+      (st.0, subst (λ (n : ℕ). AreRead log n st.0) at st.1, omega (arith, first_below place marks k f knows.falls first, at))
 
-  pub in_segment : (id : EventId) (s : ℕ) (end_ : Option ℕ) (r : Option QueryRec) → IsSegment marks id s end_ → ((mid : List (Option QueryRec)) → ReadsLines log s (unwrap_or end_ place) mid → r ≡ found mid id) → (is_some r ≡ true → r ≡ found lines id) × (is_some r ≡ false → IsStray marks id)
-  in_segment id s None r segment scanned =
+  pub in_segment : (id : EventId) (s : ℕ) (end_ : Option ℕ) → IsSegment marks id s end_ → Scans log place index lines marks knows id s (unwrap_or end_ place)
+  in_segment id s None segment =
       let start = walk_to s segment.0 in
-      between log place index lines marks knows id s place start.0 lines r start.1 knows.walk (omega (arith, start.2)) (omega arith) segment.1 (λ f first order. first_below place marks id f knows.falls first) scanned
-  in_segment id s (Some e) r segment scanned =
+      between log place index lines marks knows id s place start.0 lines start.1 knows.walk (omega (arith, start.2)) (omega arith) segment.1 (λ f first order. first_below place marks id f knows.falls first)
+  in_segment id s (Some e) segment =
       let start = walk_to s segment.0 in
       let stop = walk_to e segment.2.0 in
-      between log place index lines marks knows id s e start.0 stop.0 r start.1 stop.1 (omega (arith, segment.2.1)) (omega (arith, stop.2)) segment.1 segment.2.2 scanned
+      between log place index lines marks knows id s e start.0 stop.0 start.1 stop.1 (omega (arith, segment.2.1)) (omega (arith, stop.2)) segment.1 segment.2.2
 
-  -- where the first line with the id is no in-order one, the first stray has it
-  pub no_stray_found : (id : EventId) → IsStray marks id → None ≡ stray_of marks id → None ≡ found lines id
-  no_stray_found id stray none = here (first_of marks id) refl
-    where
-      here : (o : Option First) → first_of marks id ≡ o → None ≡ found lines id
-      here None e = sym (absent log place index lines marks knows id e)
-      here (Some f) e = absurd (none-some f.place (none ∙ stray_first marks id f e (stray f e)))
-
-  -- from the place where it begins the first line with the id is found
-  first_found : (id : EventId) (f : First) (s : ℕ) (r : Option QueryRec) → first_of marks id ≡ Some f → f.place ≡ s → ((mid : List (Option QueryRec)) → ReadsLines log s place mid → r ≡ found mid id) → r ≡ found lines id
-  first_found id f s r e at scanned =
-      let st = starts log place index lines marks knows id f e in
-      let on = walk_on log 0 f.place place st.0 lines st.1 knows.walk (omega (arith, first_below place marks id f knows.falls e)) in
-      scanned on.0 (subst (λ (n : ℕ). ReadsLines log n place on.0) at on.2) ∙ sym (ap (λ (l : List (Option QueryRec)). found l id) on.1 ∙ found_append st.0 on.0 id ∙ ap (λ (o : Option QueryRec). option_or o (found on.0 id)) st.2)
-
-  pub stray_found : (id : EventId) (s : ℕ) (r : Option QueryRec) → IsStray marks id → Some s ≡ stray_of marks id → ((mid : List (Option QueryRec)) → ReadsLines log s place mid → r ≡ found mid id) → r ≡ found lines id
-  stray_found id s r stray some scanned = here (first_of marks id) refl
-    where
-      here : (o : Option First) → first_of marks id ≡ o → r ≡ found lines id
-      here None e = absurd (none-some s (sym (some ∙ no_stray marks id e)))
-      here (Some f) e = first_found id f s r e (same_Some f.place s (sym (some ∙ stray_first marks id f e (stray f e)))) scanned
-
-  pub known_found : (id : EventId) (s : ℕ) (r : Option QueryRec) → place_of marks id ≡ Some s → ((mid : List (Option QueryRec)) → ReadsLines log s place mid → r ≡ found mid id) → r ≡ found lines id
-  known_found id s r some scanned = here (first_of marks id) refl some
-    where
-      here : (o : Option First) → first_of marks id ≡ o → option_map (λ (f : First). f.place) o ≡ Some s → r ≡ found lines id
-      here None e is = absurd (none-some s is)
-      here (Some f) e is = first_found id f s r e (same_Some f.place s is) scanned
-
--- what a scan finds, through its result
-pub ok_all : {M T E : Type 0} (W : M → Type 0) (Q : M → T → Type 0) (P : T → Type 0) (r : Result T E) → ((m : M) → W m → IfOk r (Q m)) → ((q : T) → ((m : M) → W m → Q m q) → P q) → IfOk r P
-ok_all W Q P (Ok q) each f = f q each
-ok_all W Q P (Err e) each f = tt
+-- where the first line with the id is no in-order one, the first stray is it
+pub stray_is : (marks : List Mark) (id : EventId) → IsStray marks id → stray_of marks id ≡ place_of marks id
+stray_is marks id stray = here (first_of marks id) refl
+  where
+    here : (o : Option First) → first_of marks id ≡ o → stray_of marks id ≡ place_of marks id
+    here None e = no_stray marks id e ∙ sym (ap (option_map (λ (f : First). f.place)) e)
+    here (Some f) e = stray_first marks id f e (stray f e) ∙ sym (ap (option_map (λ (f : First). f.place)) e)

@@ -1,6 +1,6 @@
 -- What a store holds, after a call.
 use Rattle.std.proofs.Common.{◌≡◌, ℕ, ◌+◌, ◌-◌, ◌^◌, ◌≤◌, min, true, false, List, [], ◌∷◌, length, take, length-drop, length-take, length-append, Result, Ok, Err, OnOk, OnErr, is_err, Option, Some, None, IfSome, refl, sym, ap, subst, arith}
-use Rattle.event_store.proofs.Words.{MAX_LOG, props, both_ways, line_feed, ∥∥₁_elim, ∥∥₁_map, EventId, QueryRec, Index, ReadsNext, AreRead, found, entries_among, entries_of, Mark, Keeps, place_of, ids_of, Knows, IsCache, Holds}
+use Rattle.event_store.proofs.Words.{MAX_LOG, props, both_ways, line_feed, ∥∥₁_elim, ∥∥₁_map, EventId, QueryRec, Index, ReadsNext, AreRead, found, Mark, Keeps, place_of, Knows, IsCache, Holds}
 use Rattle.event_store.proofs.Walks.{walk_same, walk_beyond}
 
 -- nothing is read yet, and nothing is at hand
@@ -8,15 +8,19 @@ pub held_none : {T : Type 0} (log : T → List ℕ) (index : Index) (kept : Even
 held_none log index kept keeps none = ∣ (λ t. record {
   lines = [];
   marks = [];
-  knows = record { walk = refl; falls = tt; tied = λ id. refl; keeps = keeps };
+  knows = record { walk = refl; falls = tt; tied = λ id. refl; ids = refl; keeps = keeps };
   counts = refl;
-  ids = refl;
   cached = λ id. subst (λ (o : Option ℕ). IfSome o (λ s. place_of [] id ≡ Some s)) (sym (none id)) tt;
 }) ∣₁
 
 -- the same log, and the same place
 pub held_on : {T : Type 0} (log now : List ℕ) (place at count : ℕ) (index : Index) (kept : EventId → Option ℕ) → ∥ (T → Holds log place count index kept) ∥₁ → (T → now ≡ log) → at ≡ place → ∥ (T → Holds now at count index kept) ∥₁
 held_on {T} log now place at count index kept held same stays = ∥∥₁_map held (λ (f : T → Holds log place count index kept) (t : T). subst (λ (l : List ℕ). Holds l at count index kept) (sym (same t)) (subst (λ (p : ℕ). Holds log p count index kept) (sym stays) (f t)))
+
+-- the same lines, and other places at hand
+pub held_at_hand : {T : Type 0} (log now : List ℕ) (place at count : ℕ) (index : Index) (kept kept' : EventId → Option ℕ) → ∥ (T → Holds log place count index kept) ∥₁ → (T → now ≡ log) → at ≡ place → (T → (lines : List (Option QueryRec)) (marks : List Mark) → Knows log place index lines marks → IsCache kept marks → IsCache kept' marks) → ∥ (T → Holds now at count index kept') ∥₁
+held_at_hand {T} log now place at count index kept kept' held same stays more =
+    held_on log now place at count index kept' (∥∥₁_map held (λ (f : T → Holds log place count index kept) (t : T). let h = f t in record { lines = h.lines; marks = h.marks; knows = h.knows; counts = h.counts; cached = more t h.lines h.marks h.knows h.cached })) same stays
 
 -- one line more, or none: what is known of one state is known of the next one
 pub held_next : {T : Type 0} (log log' : List ℕ) (place at count n : ℕ) (index index' : Index) (kept kept' : EventId → Option ℕ) → ∥ (T → Holds log place count index kept) ∥₁ → (T → Holds log place count index kept → Holds log' at n index' kept') → ∥ (T → Holds log' at n index' kept') ∥₁
@@ -27,14 +31,14 @@ pub count_fits : (log : List ℕ) (place count : ℕ) (index : Index) (kept : Ev
 count_fits log place count index kept h = let l = walk_beyond log 0 place h.lines h.knows.walk in let n = h.counts in omega (arith, l, n)
 
 -- a fact of the lines read that has no two proofs
-pub held_tells : {T P : Type 0} (log : List ℕ) (place count : ℕ) (index : Index) (kept : EventId → Option ℕ) → IsProp P → ∥ (T → Holds log place count index kept) ∥₁ → T → (lines : List (Option QueryRec)) → AreRead log place lines → ((marks : List Mark) → Knows log place index lines marks → count ≡ length lines → entries_among (ids_of marks) ≡ entries_of lines → IsCache kept marks → P) → P
+pub held_tells : {T P : Type 0} (log : List ℕ) (place count : ℕ) (index : Index) (kept : EventId → Option ℕ) → IsProp P → ∥ (T → Holds log place count index kept) ∥₁ → T → (lines : List (Option QueryRec)) → AreRead log place lines → ((marks : List Mark) → Knows log place index lines marks → count ≡ length lines → IsCache kept marks → P) → P
 held_tells {T} {P} log place count index kept prop held t lines walk use_it = ∥∥₁_elim held prop (λ (f : T → Holds log place count index kept). at_once (f t))
   where
-    there : (ls : List (Option QueryRec)) → lines ≡ ls → ((marks : List Mark) → Knows log place index ls marks → count ≡ length ls → entries_among (ids_of marks) ≡ entries_of ls → IsCache kept marks → P)
-    there ls same = subst (λ (xs : List (Option QueryRec)). ((marks : List Mark) → Knows log place index xs marks → count ≡ length xs → entries_among (ids_of marks) ≡ entries_of xs → IsCache kept marks → P)) same use_it
+    there : (ls : List (Option QueryRec)) → lines ≡ ls → ((marks : List Mark) → Knows log place index ls marks → count ≡ length ls → IsCache kept marks → P)
+    there ls same = subst (λ (xs : List (Option QueryRec)). ((marks : List Mark) → Knows log place index xs marks → count ≡ length xs → IsCache kept marks → P)) same use_it
 
     at_once : Holds log place count index kept → P
-    at_once h = there h.lines (walk_same log 0 place lines h.lines walk h.knows.walk) h.marks h.knows h.counts (ap entries_among h.ids) h.cached
+    at_once h = there h.lines (walk_same log 0 place lines h.lines walk h.knows.walk) h.marks h.knows h.counts h.cached
 
 pub found_prop : (lines : List (Option QueryRec)) (id : EventId) (o : Option QueryRec) → IsProp (found lines id ≡ o)
 found_prop lines id o = hlevel props

@@ -10,6 +10,7 @@ pub mod Looking
 pub mod Firsts
 pub mod Recents
 pub mod Taking
+pub mod Again
 pub mod Holding
 pub mod Keeping
 pub mod Counting

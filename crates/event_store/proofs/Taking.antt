@@ -2,7 +2,7 @@
 use Rattle.std.proofs.Common.{◌≡◌, ℕ, ◌+◌, ◌<◌, Bool, true, false, cond, List, [], ◌∷◌, ◌++◌, Option, Some, None, MatchOption, option_map, refl, sym, ap, ◌∙◌, arith, length-append}
 use Rattle.event_store.proofs.Words.{option_or, none-some, IfSome_then, EventId, is_same, QueryRec, Index, ReadsNext, AreRead, found, ids_onto, Mark, First, Keeps, as_first, first_of, place_of, ids_of, Falls, Starts, IsCache, Holds}
 use Rattle.event_store.proofs.Orders.{same_id, same_itself}
-use Rattle.event_store.proofs.Walks.{next_beyond, walk_push, found_append}
+use Rattle.event_store.proofs.Walks.{next_beyond, walk_push, found_new}
 
 -- the line among those with a record
 abbrev pub with_line : ℕ → Option QueryRec → List Mark → List Mark
@@ -17,17 +17,14 @@ falls_with : (place e : ℕ) (r : Option QueryRec) (marks : List Mark) → place
 falls_with place e None marks lt falls = falls_more place e marks lt falls
 falls_with place e (Some q) marks lt falls = (lt, falls)
 
-ids_push : (earlier : List EventId) (lines : List (Option QueryRec)) (r : Option QueryRec) → ids_onto earlier (lines ++ r ∷ []) ≡ ids_onto (ids_onto earlier lines) (r ∷ [])
-ids_push earlier [] r = refl
-ids_push earlier (None ∷ lines) r = ids_push earlier lines r
-ids_push earlier (Some q ∷ lines) r = ids_push (q.id ∷ earlier) lines r
+pub ids_append : (earlier : List EventId) (lines more : List (Option QueryRec)) → ids_onto earlier (lines ++ more) ≡ ids_onto (ids_onto earlier lines) more
+ids_append earlier [] more = refl
+ids_append earlier (None ∷ lines) more = ids_append earlier lines more
+ids_append earlier (Some q ∷ lines) more = ids_append (q.id ∷ earlier) lines more
 
 ids_with : (place : ℕ) (r : Option QueryRec) (marks : List Mark) → ids_of (with_line place r marks) ≡ ids_onto (ids_of marks) (r ∷ [])
 ids_with place None marks = refl
 ids_with place (Some q) marks = refl
-
-found_new : (lines : List (Option QueryRec)) (r : Option QueryRec) (id : EventId) → found lines id ≡ None → found (lines ++ r ∷ []) id ≡ found (r ∷ []) id
-found_new lines r id none = found_append lines (r ∷ []) id ∙ ap (λ (o : Option QueryRec). option_or o (found (r ∷ []) id)) none
 
 place_stays : (first more : Option First) (s : ℕ) → option_map (λ (f : First). f.place) first ≡ Some s → option_map (λ (f : First). f.place) (option_or first more) ≡ Some s
 place_stays None more s is = absurd (none-some s is)
@@ -62,10 +59,10 @@ grown log place e count r index after kept now h step keeps cache = record {
     walk = walk_push log 0 place e h.lines r h.knows.walk step;
     falls = falls_with place e r h.marks (next_beyond log place e r step) h.knows.falls;
     tied = λ id. tied_with log place e r h.lines h.marks h.knows.walk step id (h.knows.tied id);
+    ids = ids_with place r h.marks ∙ ap (λ (is : List EventId). ids_onto is (r ∷ [])) h.knows.ids ∙ sym (ids_append [] h.lines (r ∷ []));
     keeps = keeps;
   };
   counts = let l = length-append h.lines (r ∷ []) in let had = h.counts in omega (arith, l, had);
-  ids = ids_with place r h.marks ∙ ap (λ (is : List EventId). ids_onto is (r ∷ [])) h.ids ∙ sym (ids_push [] h.lines r);
   cached = cache;
 }
 

@@ -1,6 +1,6 @@
 -- Lines read one after another, of which there is one way.
 use Rattle.std.proofs.Common.{◌≡◌, ℕ, ◌+◌, ◌<◌, ◌≤◌, List, [], ◌∷◌, ◌++◌, length, Option, Some, None, refl, sym, ap, ◌∙◌, subst, arith, append-nil}
-use Rattle.event_store.proofs.Words.{option_or, find-append, filter_map-append, Lacks, split_same, lacks_none, EventId, is_same, QueryRec, query_same, first, line_feed, ReadsAs, ReadsNext, ReadsLines, IsAtEnd, records, found}
+use Rattle.event_store.proofs.Words.{option_or, find-append, filter_map-append, Lacks, split_same, lacks_none, EventId, is_same, QueryRec, query_same, first, line_feed, ReadsAs, ReadsNext, ReadsLines, AreRead, IsAtEnd, records, found}
 
 pub read_same : (line : List ℕ) (r s : Option QueryRec) → ReadsAs line r → ReadsAs line s → r ≡ s
 read_same line None None a b = refl
@@ -47,9 +47,20 @@ walk_same log a m xs ys xw yw =
     let on = walk_on log a m m xs ys xw yw (omega arith) in
     sym (on.1 ∙ ap (λ (zs : List (Option QueryRec)). xs ++ zs) (walk_done log m m on.0 on.2 (omega arith)) ∙ append-nil xs)
 
+-- the line at a place before the end
+pub line_at : (log : List ℕ) (place end_ : ℕ) (front lines : List (Option QueryRec)) → AreRead log place front → AreRead log end_ lines → place < end_ → (next : ℕ) × (r : Option QueryRec) × ReadsNext log place next r × ((rest : List (Option QueryRec)) × (lines ≡ front ++ r ∷ rest))
+line_at log place end_ front lines fw lw lt = let on = walk_on log 0 place end_ front lines fw lw (omega (arith, lt)) in here on.0 on.1 on.2
+  where
+    here : (mid : List (Option QueryRec)) → lines ≡ front ++ mid → ReadsLines log place end_ mid → (next : ℕ) × (r : Option QueryRec) × ReadsNext log place next r × ((rest : List (Option QueryRec)) × (lines ≡ front ++ r ∷ rest))
+    here [] is walk = absurd (omega (arith, walk, lt))
+    here (r ∷ rest) is (next, step, walk) = (next, r, step, (rest, is))
+
 pub found_append : (xs ys : List (Option QueryRec)) (id : EventId) → found (xs ++ ys) id ≡ option_or (found xs id) (found ys id)
 found_append xs ys id = ap (λ (qs : List QueryRec). first qs id) (filter_map-append (λ (line : Option QueryRec). line) xs ys) ∙ find-append (λ (q : QueryRec). is_same id q.id) (records xs) (records ys)
 
 -- the first line, and those behind it
 pub found_cons : (x : Option QueryRec) (xs : List (Option QueryRec)) (id : EventId) → found (x ∷ xs) id ≡ option_or (found (x ∷ []) id) (found xs id)
 found_cons x xs id = found_append (x ∷ []) xs id
+
+pub found_new : (lines : List (Option QueryRec)) (r : Option QueryRec) (id : EventId) → found lines id ≡ None → found (lines ++ r ∷ []) id ≡ found (r ∷ []) id
+found_new lines r id none = found_append lines (r ∷ []) id ∙ ap (λ (o : Option QueryRec). option_or o (found (r ∷ []) id)) none

@@ -6,22 +6,23 @@ pub use Rattle.event_store.specs.Found.{found, records}
 pub use Rattle.event_store.specs.Held.{Holds, IsCache, Knows, Starts, at_hand}
 pub use Rattle.event_store.specs.Marks.{Begins, Falls, First, IsSegment, IsStray, Keeps, Mark, as_first, begins, entry_of, first_of, ids_of, key_cmp, key_of, place_of, progress, progress_at, same_key, stray_of}
 pub use Rattle.event_store.specs.Order.{distinct, entries_among, entries_of, ids_onto, in_order, is_in_order, run_length, same_process, strays}
-pub use Rattle.event_store.specs.Read.{AreRead, IsAtEnd, ReadsAs, ReadsLines, ReadsNext}
+pub use Rattle.event_store.specs.Read.{AreRead, IsAtEnd, ReadsAs, ReadsLines, ReadsNext, TellsId}
 pub use Rattle.event_store.specs.StoreRows.{small_log}
 pub use Rattle.event_store.specs.declared.index.Index.{Index}
 pub use Rattle.event_store.specs.declared.index.Process.{Process, Process as Key}
 pub use Rattle.event_store.specs.declared.index.Progress.{Progress}
 pub use Rattle.list_words.proofs.Splits.{lacks_none, split_same}
 pub use Rattle.list_words.specs.Bytes.{Lacks}
-pub use Rattle.log_records.proofs.Grammar.{query_same}
+pub use Rattle.log_records.proofs.Grammar.{query_right, query_same}
 pub use Rattle.log_records.proofs.Reading.{query_lacks}
-pub use Rattle.log_records.specs.Line.{IsQuery, query_line, space}
+pub use Rattle.log_records.specs.Line.{IsQuery, QueryWhy, query_line, space}
 pub use Rattle.log_records.specs.Log.{first, line_feed}
 pub use Rattle.log_records.specs.Rows.{one_query}
 pub use Rattle.log_records.specs.Text.{IsPrintable}
 pub use Rattle.log_records.specs.declared.check.TheConstants.{MAX_LOG}
 pub use Rattle.log_records.specs.declared.lines.TheConstants.{MAX_LINE}
 pub use Rattle.log_records.specs.declared.records.QueryRec.{QueryRec, QueryRec as Query}
+pub use Rattle.log_records.specs.declared.why.Why.{Why}
 pub use Rattle.std.proofs.Math.Dec.{lit≤}
 pub use Rattle.std.proofs.Props.{props}
 pub use Rattle.std.proofs.lemmas.Bool.{and_from, and_parts, both_ways, cases_eq, cond-true, or_left, or_parts, or_right}

@@ -22,6 +22,7 @@ pub record Knows (log : List ℕ) (place : ℕ) (index : Index) (lines : List (O
   pub walk : AreRead log place lines
   pub falls : Falls place marks
   pub tied : (id : EventId) → MatchOption (first_of marks id) (found lines id ≡ None) (λ f. Starts log id f.place)
+  pub ids : ids_of marks ≡ ids_onto [] lines
   pub keeps : Keeps index marks
 
 -- the place that is at hand for an id
@@ -37,5 +38,4 @@ pub record Holds (log : List ℕ) (place count : ℕ) (index : Index) (kept : Ev
   pub marks : List Mark
   pub knows : Knows log place index lines marks
   pub counts : count ≡ length lines
-  pub ids : ids_of marks ≡ ids_onto [] lines
   pub cached : IsCache kept marks

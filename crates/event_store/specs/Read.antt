@@ -1,6 +1,7 @@
 -- The lines of a query log.
-use Rattle.std.specs.Prelude.{ℕ, ◌≡◌, ◌≢◌, ◌+◌, List, [], ◌∷◌, ◌++◌, length, Option, Some, None}
+use Rattle.std.specs.Prelude.{ℕ, ◌≡◌, ◌≢◌, ◌+◌, List, [], ◌∷◌, ◌++◌, length, Option, Some, None, IfSome}
 use Rattle.list_words.specs.Bytes.{Lacks}
+use Rattle.event_id.specs.declared.id.EventId.{EventId}
 use Rattle.log_records.specs.declared.records.QueryRec.{QueryRec}
 use Rattle.log_records.specs.Line.{query_line, IsQuery}
 use Rattle.log_records.specs.Log.{line_feed}
@@ -10,6 +11,11 @@ use Rattle.tail_reader.specs.Buffered.{behind}
 abbrev pub ReadsAs : List ℕ → Option QueryRec → Type 0
 ReadsAs line (Some q) = IsQuery q × (line ≡ query_line q)
 ReadsAs line None = (q : QueryRec) → IsQuery q → line ≢ query_line q
+
+-- what is told of the id of a line that reads as this, where only a line that begins with the front is read
+abbrev pub TellsId : List ℕ → Option QueryRec → Option EventId → Type 0
+TellsId front None told = told ≡ None
+TellsId front (Some q) told = IfSome told (λ id. id ≡ q.id) × ((rest : List ℕ) → query_line q ≡ front ++ rest → told ≡ Some q.id)
 
 -- the next line of the log from a place on was read as this, and the next one begins at the end
 abbrev pub ReadsNext : List ℕ → ℕ → ℕ → Option QueryRec → Type 0

@@ -1,12 +1,14 @@
 // The next line of the log.
-ghost use Rattle.std.specs.Prelude.{◌≡◌, ◌≢◌, IfOk, IfErr, IfSome, IfNone, OnErr, IsErrOf, IsTrue};
+ghost use Rattle.std.specs.Prelude.{◌≡◌, ◌≢◌, ℕ, Option, IfOk, IfErr, IfSome, IfNone, OnErr, IsErrOf, IsTrue};
+ghost use Rattle.log_records.specs.declared.records.QueryRec.{QueryRec as Query};
 ghost use Rattle.log_records.specs.Line.{IsQuery};
 ghost use Rattle.outside.specs.Faults.{Counts};
 ghost use Rattle.event_store.specs.declared.store.LookFault.TheVariants as fault;
-ghost use Rattle.event_store.specs.Read.{ReadsAs, ReadsNext, IsAtEnd};
+ghost use Rattle.event_store.specs.Read.{ReadsAs, ReadsNext, TellsId, IsAtEnd};
 
 use crate::LookFault;
-use log_records::{QueryRec, Why, read_query};
+use event_id::EventId;
+use log_records::{QueryRec, Record, Why, read_query};
 use outside::LogFile;
 use std::alloc::Global;
 use tail_reader::{Next, Tail};
@@ -59,5 +61,35 @@ pub fn read_line(alloc: Global, line: &[u8]) -> Result<Option<QueryRec>, LookFau
             }
             Ok(None)
         }
+    }
+}
+
+/// The id of the next line's record, if there is one. Only a line that begins with the front is read; nothing is copied.
+pub fn next_id<L: LogFile>(tail: &mut Tail<L>, front: &[u8]) -> Result<Option<EventId>, LookFault>
+    ensures line { IsTrue L.tells → (next : ℕ) (read : Option Query) → ReadsNext (L.bytes tail.old.log) tail.old.place next read → IfOk result (λ told. (tail.new.place ≡ next) × TellsId front.now read told) }
+    ensures same { IsTrue L.tells → L.bytes tail.new.log ≡ L.bytes tail.old.log }
+    ensures count { Counts (L.faults tail.old.log) (L.faults tail.new.log) (IsErrOf result fault.Read) }
+{
+    let next = match tail.next() {
+        Ok(next) => next,
+        Err(_) => return Err(LookFault::Read),
+    };
+    match next {
+        Next::Line { .. } => Ok(id_in(tail.line(), front)),
+        Next::Long { .. } => Ok(None),
+        Next::End { .. } => Ok(None),
+    }
+}
+
+// The id of the line's record, if the line begins with the front and is one.
+fn id_in(line: &[u8], front: &[u8]) -> Option<EventId>
+    ensures { (read : Option Query) → ReadsAs line.now read → TellsId front.now read result }
+{
+    if !line.starts_with(front) {
+        return None;
+    }
+    match QueryRec::id_in(line) {
+        Ok(id) => Some(id),
+        Err(_) => None,
     }
 }

@@ -1,30 +1,35 @@
-use Rattle.std.proofs.Common.{◌∙◌, ℕ, List, sym, subst, arith}
-use Rattle.event_store.proofs.Words.{ReadsNext, found}
-use Rattle.event_store.proofs.Looking.{left_none, left_next}
+use Rattle.std.proofs.Common.{◌≡◌, ◌<◌, ◌∙◌, ℕ, List, Option, refl, sym, subst, arith}
+use Rattle.event_store.proofs.Words.{EventId, ReadsNext, TellsId, Starts}
+use Rattle.event_store.proofs.Looking.{looked_at, is_told, not_told}
+use Rattle.event_store.proofs.Firsts.{none_in_front}
 use Rattle.event_store.proofs.scan.scan.Goals as goal
 
 pub returns-then-place-end-clause-found : goal.returns-then-place-end-clause-found
-returns-then-place-end-clause-found g c = λ t lines walk.
-    left_none (g.L.LogFile.bytes c.args.tail.now.log) c.lines.tail.place c.args.end c.args.id (found lines c.args.id) (c.lines.invariant.left t lines walk).1 (omega (arith, c.place.ensures, c.if-place-end.true))
+returns-then-place-end-clause-found g c = λ t front lines walk none all.
+    let had = (c.lines.invariant.lacking t front lines walk none all).1 in
+    none_in_front (g.L.LogFile.bytes c.args.tail.now.log) c.args.end c.lines.tail.place lines had.0 c.args.id all had.1 (omega (arith, c.place-place.ensures, c.if-place-end.true)) had.2
 
-pub returns-then-is_some-clause-found : goal.returns-then-is_some-clause-found
-returns-then-is_some-clause-found g c = λ t lines walk.
+pub returns-then-eq-clause-found : goal.returns-then-eq-clause-found
+returns-then-eq-clause-found g c = λ t front lines walk none all.
     let log : List ℕ = g.L.LogFile.bytes c.args.tail.now.log in
-    let n = left_next log c.lines.tail.place c.look_at.new.tail.place c.args.end c.args.id (found lines c.args.id) c.in_ok-found.found (c.lines.invariant.left t lines walk).1 (omega (arith, c.place.ensures, c.if-place-end.false)) (λ next read step. c.in_ok-found.ensures.line t next read (subst (λ (b : List ℕ). ReadsNext b c.lines.tail.place next read) (sym (c.lines.invariant.same t)) step)) in
-    n.2 (sym c.is_some.ensures ∙ c.if-is_some.true)
+    let told : Option EventId = c.in_ok-next_id.field-0 in
+    let lt : c.lines.tail.place < c.args.end = omega (arith, c.place-place.ensures, c.if-place-end.false) in
+    let n = looked_at log c.lines.tail.place c.next_id.new.tail.place c.args.end lines c.args.id told (c.lines.invariant.lacking t front lines walk none all).1 all lt (λ next read step. subst (λ (text : List ℕ). (c.next_id.new.tail.place ≡ next) × TellsId text read told) c.text_into-len.ensures.text (c.in_ok-next_id.ensures.line t next read (subst (λ (l : List ℕ). ReadsNext l c.lines.tail.place next read) (sym (c.lines.invariant.same t)) step))) in
+    subst (λ (p : ℕ). (p < c.args.end) × Starts log c.args.id p) (sym c.place-place.ensures) (lt, n.1 (is_told _ (λ a b. refl) told c.args.id c.if-eq.ensures))
 
 pub lines-preserved : goal.lines-preserved
 lines-preserved g c = record {
-  same = λ t. c.in_ok-found.ensures.same t ∙ c.lines.invariant.same t;
-  count = omega (arith, c.lines.invariant.count, c.in_ok-found.ensures.count.later);
-  left = λ t lines walk.
+  same = λ t. c.in_ok-next_id.ensures.same t ∙ c.lines.invariant.same t;
+  count = omega (arith, c.lines.invariant.count, c.in_ok-next_id.ensures.count.later);
+  lacking = λ t front lines walk none all.
       let log : List ℕ = g.L.LogFile.bytes c.args.tail.now.log in
-      let had = c.lines.invariant.left t lines walk in
-      let n = left_next log c.lines.tail.place c.look_at.new.tail.place c.args.end c.args.id (found lines c.args.id) c.in_ok-found.found had.1 (omega (arith, c.place.ensures, c.if-place-end.false)) (λ next read step. c.in_ok-found.ensures.line t next read (subst (λ (b : List ℕ). ReadsNext b c.lines.tail.place next read) (sym (c.lines.invariant.same t)) step)) in
-      (omega (arith, had.0, n.0), n.1 (sym c.is_some.ensures ∙ c.if-is_some.false));
+      let told : Option EventId = c.in_ok-next_id.field-0 in
+      let had = c.lines.invariant.lacking t front lines walk none all in
+      let n = looked_at log c.lines.tail.place c.next_id.new.tail.place c.args.end lines c.args.id told had.1 all (omega (arith, c.place-place.ensures, c.if-place-end.false)) (λ next read step. subst (λ (text : List ℕ). (c.next_id.new.tail.place ≡ next) × TellsId text read told) c.text_into-len.ensures.text (c.in_ok-next_id.ensures.line t next read (subst (λ (l : List ℕ). ReadsNext l c.lines.tail.place next read) (sym (c.lines.invariant.same t)) step))) in
+      (omega (arith, had.0, n.0), n.2 (not_told _ (λ a b. refl) told c.args.id c.if-eq.ensures));
 }
 
 pub returns-clause-found : goal.returns-clause-found
-returns-clause-found g c = λ t lines walk.
-    let had = c.lines.invariant.left t lines walk in
-    left_none (g.L.LogFile.bytes c.args.tail.now.log) c.lines.tail.place c.args.end c.args.id (found lines c.args.id) had.1 (omega (arith, had.0, c.lines-test.false))
+returns-clause-found g c = λ t front lines walk none all.
+    let had = c.lines.invariant.lacking t front lines walk none all in
+    none_in_front (g.L.LogFile.bytes c.args.tail.now.log) c.args.end c.lines.tail.place lines had.1.0 c.args.id all had.1.1 (omega (arith, had.0, c.lines-test.false)) had.1.2
