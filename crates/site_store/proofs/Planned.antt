@@ -1,12 +1,17 @@
 -- Disks that are taken, used and given back by their plans of stops.
-use Rattle.std.proofs.Common.{◌≡◌, ◌≢◌, ℕ, Bool, true, false, List, [], ◌∷◌, ◌++◌, ◌∙◌, refl, sym, subst, arith}
+use Rattle.std.proofs.Common.{◌≡◌, ◌≢◌, ℕ, ◌+◌, Bool, true, false, List, [], ◌∷◌, ◌++◌, Option, ◌∙◌, refl, sym, subst, arith}
+use Rattle.outside.specs.Disk.{StopsAmong}
 use Rattle.outside.specs.Faults.{added}
 use Rattle.outside.specs.Plans.{AtMost, MeetsPlan}
 use Rattle.outside.proofs.Plans.{fewer, same_plan}
-use Rattle.site_store.specs.Plans.{Left, IsAsPlanned, AllAsPlanned, AreAsPlanned}
+use Rattle.gate_journal.specs.Fault.{is_of_disk}
+use Rattle.site_store.specs.Plans.{Left, HasSoon, IsByPlan, IsAsPlanned, AllAsPlanned, AreAsPlanned}
+use Rattle.outside.specs.declared.disk.Disk as disk
+use Rattle.outside.specs.declared.store.Store as store
 use Rattle.outside.specs.declared.store.DiskName.TheVariants as name
-use Rattle.site_store.proofs.Words.{Each, DiskName, Lent, Lacks, other_names}
-use Rattle.site_store.proofs.Names.{not_topology}
+use Rattle.run_fault.specs.declared.fault.StorePlace.TheVariants as place
+use Rattle.run_fault.specs.declared.fault.RunFault.TheVariants as fault
+use Rattle.site_store.proofs.Words.{Each, DiskName, Lent, Lacks, JournalFault, Damaged, Disk, Memory, StorePlace, RunFault, KeptValues, Topology, KeptDisk, Misplaced, IsUnfit, IsUnopened, IsUnwritten, told_by}
 use Rattle.site_store.proofs.Lending.{each_both, each_front, each_back, each_weaker}
 
 -- a disk that met no fault adds none
@@ -17,10 +22,58 @@ none_added old new more is none = omega (arith, is, none)
 pub same_left : (k : ℕ) (old new : ℕ → Bool) (from at : ℕ) → ((n : ℕ) → new n ≡ old n) → at ≡ from → AtMost old from k → AtMost new at k
 same_left k old new from at same is here = same_plan k at old new same (fewer old k from at (omega (arith, is)) here)
 
-module _ {D : Type 0} (stops : D → ℕ → Bool) (made faults : D → ℕ) where
-  abbrev Taken : (before after : DiskName → ℕ → Type 0) → List (Lent D) → Type 0
-  Taken = AreAsPlanned stops made faults
+-- ---- why a planned store isn't opened
 
+module _ {S : Type 0} (stops : S → DiskName → ℕ → Bool) (made : S → DiskName → ℕ) (faults : S → ℕ) where
+  soon_of : (store : S) (disk : DiskName) → StopsAmong (stops store disk) (made store disk) (made store disk + 3) → HasSoon stops made store disk
+  soon_of store name.Topology s = λ none. none s.0 s.1 s.3
+  soon_of store _ s = s
+
+  none_soon : (store : S) (disk : DiskName) → Left stops made store disk 0 → HasSoon stops made store disk → ⊥
+  none_soon store name.Topology none soon = soon none
+  none_soon store _ none s = none s.0 s.1 s.3
+
+  same_soon : (old new : S) (disk : DiskName) → ((n : ℕ) → stops new disk n ≡ stops old disk n) → made new disk ≡ made old disk → HasSoon stops made new disk → HasSoon stops made old disk
+  same_soon old new name.Topology same at soon = λ none. soon (same_left 0 _ _ _ _ same at none)
+  same_soon old new _ same at s = (s.0, omega (arith, at, s.1), omega (arith, at, s.2), rw (same s.0) at s.3)
+
+  -- where none is planned no fault was met
+  pub calm_by_plan : (old new : S) → ((disk : DiskName) → Left stops made old disk 0) → (f : RunFault) → IsByPlan stops made faults old new f → faults new ≡ faults old
+  calm_by_plan old new none (fault.Store (place.Disk disk)) by = absurd (none_soon old disk (none disk) by)
+  calm_by_plan old new none (fault.Store _) by = absurd by
+  calm_by_plan old new none _ by = by
+
+  disk_told : (old new : S) (at : StorePlace) → IsByPlan stops made faults old new (fault.Store at) → (disk : DiskName) × HasSoon stops made old disk
+  disk_told old new (place.Disk disk) by = (disk, by)
+  disk_told old new _ by = absurd by
+
+  -- where none is planned so soon no disk is told
+  pub spared : (old new : S) → ((disk : DiskName) → HasSoon stops made old disk → ⊥) → (f : RunFault) → IsByPlan stops made faults old new f → (at : StorePlace) → f ≢ fault.Store at
+  spared old new none f by at is = let told = disk_told old new at (subst (IsByPlan stops made faults old new) is by) in none told.0 told.1
+
+  -- one of some disks wasn't opened, whose plans were the same in an earlier store
+  pub early_on : (old mid inside new : S) (tells : Bool) (before : DiskName → List ℕ → Type 0) (first last : ℕ) (P : DiskName → Type 0) (f : RunFault) → IsUnopened tells before first last P f
+      → ((disk : DiskName) → P disk → (n : ℕ) → stops mid disk n ≡ stops old disk n) → ((disk : DiskName) → P disk → made mid disk ≡ made old disk) → faults mid ≡ faults old → faults new ≡ faults inside
+      → IsByPlan stops made faults mid inside f → IsByPlan stops made faults old new f
+  early_on old mid inside new tells before first last P (fault.Store (place.Disk disk)) is same at still calm by = same_soon old mid disk (same disk is.0) (at disk is.0) by
+  early_on old mid inside new tells before first last P (fault.Store _) is same at still calm by = absurd by
+  early_on old mid inside new tells before first last P _ is same at still calm by = calm ∙ by ∙ still
+
+  -- what was opened can't be run or read, and is given back
+  pub unfit_early : (old new : S) (asked : Option Topology) (told : List KeptDisk → Option Misplaced → Type 0) (rose : Type 0) (k : KeptValues) (f : RunFault) → IsUnfit asked told rose k f → faults new ≡ faults old
+      → IsByPlan stops made faults old new f
+  unfit_early old new asked told rose k (fault.Store at) why still = absurd why
+  unfit_early old new asked told rose k _ why still = still
+
+  -- the topology's record isn't written, whose disk had met no fault
+  pub unwritten_early : (old new : S) (fresh met : ℕ) (f : RunFault) → IsUnwritten fresh met f → fresh ≡ 0 → (Left stops made old name.Topology 0 → met ≡ fresh) → (f ≡ fault.Memory → faults new ≡ faults old)
+      → IsByPlan stops made faults old new f
+  unwritten_early old new fresh met (fault.Store (place.Disk disk)) (is, rose) zero none still =
+      subst (HasSoon stops made old) (sym is) (λ left. let same = none left in omega (arith, rose, zero, same))
+  unwritten_early old new fresh met fault.Memory is zero none still = still refl
+  unwritten_early old new fresh met _ is zero none still = absurd is
+
+module _ {D : Type 0} (stops : D → ℕ → Bool) (made faults : D → ℕ) where
   -- where no stop is planned a call meets no fault
   pub calm_call : (most : ℕ) (failed : Bool) (old new : D) → MeetsPlan stops made faults most failed old new → AtMost (stops old) (made old) 0 → faults new ≡ faults old
   calm_call most true old new call none = let s = call.cause refl in absurd (none s.0 s.1 s.3)
@@ -30,54 +83,80 @@ module _ {D : Type 0} (stops : D → ℕ → Bool) (made faults : D → ℕ) whe
   pub each_calm : (left : DiskName → ℕ → Type 0) (lent : List (Lent D)) → AllAsPlanned stops made faults left lent → Each (λ l. faults l.disk ≡ 0) lent
   each_calm left lent all = each_weaker (λ (l : Lent D). IsAsPlanned stops made faults (left l.name) l.disk) (λ l. faults l.disk ≡ 0) (λ l so. so.calm) lent all
 
-  pub none_taken : (left : DiskName → ℕ → Type 0) → Taken left left []
-  none_taken left = record { out = tt; others = λ name lacks k here. here }
+-- ---- disks of a store
+
+lacks_apart : {D : Type 0} (xs ys : List (Lent D)) (name : DiskName) → Lacks (xs ++ ys) name → Lacks xs name × Lacks ys name
+lacks_apart {D} xs ys name lacks = (each_front (λ (l : Lent D). l.name ≢ name) xs ys lacks, each_back (λ (l : Lent D). l.name ≢ name) xs ys lacks)
+
+module _ {D S : Type 0} (d : disk.Ghosts D) (s : store.Ghosts S D) where
+  abbrev Taken : (before after : S) → List (Lent D) → Type 0
+  Taken = AreAsPlanned d s
+
+  abbrev Planned : S → Lent D → Type 0
+  Planned before l = IsAsPlanned d.stops d.made d.faults (Left s.stops s.made before l.name) l.disk
+
+  pub none_taken : (store : S) → Taken store store []
+  none_taken store = record { out = tt; others = λ name lacks n. refl; stand = λ name lacks. refl; still = refl }
 
   -- one disk
-  pub one_taken : {S : Type 0} (planned : S → DiskName → ℕ → Bool) (called : S → DiskName → ℕ) (before after : S) (name : DiskName) (disk : D)
-      → ((n : ℕ) → stops disk n ≡ planned before name n) → made disk ≡ called before name → faults disk ≡ 0
-      → ((other : DiskName) → other ≢ name → (n : ℕ) → planned after other n ≡ planned before other n) → ((other : DiskName) → other ≢ name → called after other ≡ called before other)
-      → Taken (Left planned called before) (Left planned called after) (record { name = name; disk = disk } ∷ [])
-  one_taken planned called before after name disk same at none stay stand = record {
-    out = (record { most = λ k here. same_left k (planned before name) (stops disk) (called before name) (made disk) same at here; calm = none }, tt);
-    others = λ other lacks k here. let apart : other ≢ name = λ e. lacks.0 (sym e) in
-        same_left k (planned before other) (planned after other) (called before other) (called after other) (stay other apart) (stand other apart) here;
-  }
+  module _ (before : S) (name : DiskName) (disk : D) (same : (n : ℕ) → d.stops disk n ≡ s.stops before name n) (at : d.made disk ≡ s.made before name) (none : d.faults disk ≡ 0) where
+    pub one_taken : (after : S) → ((other : DiskName) → other ≢ name → (n : ℕ) → s.stops after other n ≡ s.stops before other n) → ((other : DiskName) → other ≢ name → s.made after other ≡ s.made before other)
+        → s.faults after ≡ s.faults before → Taken before after (record { name = name; disk = disk } ∷ [])
+    one_taken after stay stand still = record {
+      out = (record { most = λ k here. same_left k (s.stops before name) (d.stops disk) (s.made before name) (d.made disk) same at here; calm = none }, tt);
+      others = λ other lacks. stay other (λ e. lacks.0 (sym e));
+      stand = λ other lacks. stand other (λ e. lacks.0 (sym e));
+      still = still;
+    }
+
+    -- it isn't opened
+    pub refused_early : (after : S) (f : JournalFault) (back : D) → MeetsPlan d.stops d.made d.faults 3 (is_of_disk f) disk back → (d.faults back ≡ 0 → s.faults after ≡ s.faults before) → IsByPlan s.stops s.made s.faults before after (told_by name f)
+    refused_early after (Damaged place) back call still = still (call.tally ∙ none)
+    refused_early after Disk back call still =
+        let stop = call.cause refl in
+        let few = call.few in
+        soon_of s.stops s.made s.faults before name (stop.0, omega (arith, at, stop.1), omega (arith, at, few, stop.2), rw (same stop.0) at stop.3)
+    refused_early after Memory back call still = still (call.tally ∙ none)
 
   -- the first of them was used, and met no stop
-  pub first_used : (before after : DiskName → ℕ → Type 0) (most : ℕ) (x y : Lent D) (lent : List (Lent D)) → y.name ≡ x.name → MeetsPlan stops made faults most false x.disk y.disk → Taken before after (x ∷ lent) → Taken before after (y ∷ lent)
+  pub first_used : (before after : S) (most : ℕ) (x y : Lent D) (lent : List (Lent D)) → y.name ≡ x.name → MeetsPlan d.stops d.made d.faults most false x.disk y.disk → Taken before after (x ∷ lent) → Taken before after (y ∷ lent)
   first_used before after most x y lent named call so = record {
     out = (
-      subst (λ (n : DiskName). IsAsPlanned stops made faults (before n) y.disk) (sym named) (record {
-        most = λ k here. same_plan k (made y.disk) (stops x.disk) (stops y.disk) call.same (fewer (stops x.disk) k (made x.disk) (made y.disk) call.later (so.out.0.most k here));
+      subst (λ (n : DiskName). IsAsPlanned d.stops d.made d.faults (Left s.stops s.made before n) y.disk) (sym named) (record {
+        most = λ k here. same_plan k (d.made y.disk) (d.stops x.disk) (d.stops y.disk) call.same (fewer (d.stops x.disk) k (d.made x.disk) (d.made y.disk) call.later (so.out.0.most k here));
         calm = call.tally ∙ so.out.0.calm;
       }),
       so.out.1,
     );
-    others = λ other lacks k here. so.others other ((λ e. lacks.0 (named ∙ e)), lacks.1) k here;
+    others = λ other lacks. so.others other ((λ e. lacks.0 (named ∙ e)), lacks.1);
+    stand = λ other lacks. so.stand other ((λ e. lacks.0 (named ∙ e)), lacks.1);
+    still = so.still;
   }
 
   -- the same disk under the same name
-  pub taken_as : (before after : DiskName → ℕ → Type 0) (x y : Lent D) → x.name ≡ y.name → x.disk ≡ y.disk → Taken before after (x ∷ []) → Taken before after (y ∷ [])
+  pub taken_as : (before after : S) (x y : Lent D) → x.name ≡ y.name → x.disk ≡ y.disk → Taken before after (x ∷ []) → Taken before after (y ∷ [])
   taken_as before after x y named same so = record {
-    out = (subst (IsAsPlanned stops made faults (before y.name)) same (subst (λ (n : DiskName). IsAsPlanned stops made faults (before n) x.disk) named so.out.0), tt);
-    others = λ other lacks k here. so.others other ((λ e. lacks.0 (sym named ∙ e)), tt) k here;
+    out = (subst (IsAsPlanned d.stops d.made d.faults (Left s.stops s.made before y.name)) same (subst (λ (n : DiskName). IsAsPlanned d.stops d.made d.faults (Left s.stops s.made before n) x.disk) named so.out.0), tt);
+    others = λ other lacks. so.others other ((λ e. lacks.0 (sym named ∙ e)), tt);
+    stand = λ other lacks. so.stand other ((λ e. lacks.0 (sym named ∙ e)), tt);
+    still = so.still;
   }
 
-  moved : (before mid : DiskName → ℕ → Type 0) (xs : List (Lent D)) → Taken before mid xs → (ys : List (Lent D)) → Each (λ y. Lacks xs y.name) ys → AllAsPlanned stops made faults mid ys → AllAsPlanned stops made faults before ys
+  moved : (before mid : S) (xs : List (Lent D)) → Taken before mid xs → (ys : List (Lent D)) → Each (λ y. Lacks xs y.name) ys → Each (Planned mid) ys → Each (Planned before) ys
   moved before mid xs so [] apart out = tt
-  moved before mid xs so (y ∷ ys) apart out = (record { most = λ k here. out.0.most k (so.others y.name apart.0 k here); calm = out.0.calm }, moved before mid xs so ys apart.1 out.1)
+  moved before mid xs so (y ∷ ys) apart out = (
+    record {
+      most = λ k here. out.0.most k (same_left k (s.stops before y.name) (s.stops mid y.name) (s.made before y.name) (s.made mid y.name) (so.others y.name apart.0) (so.stand y.name apart.0) here);
+      calm = out.0.calm;
+    },
+    moved before mid xs so ys apart.1 out.1,
+  )
 
   -- some disks, and then some others
-  pub taken_on : (before mid after : DiskName → ℕ → Type 0) (xs ys : List (Lent D)) → Taken before mid xs → Each (λ y. Lacks xs y.name) ys → Taken mid after ys → Taken before after (xs ++ ys)
+  pub taken_on : (before mid after : S) (xs ys : List (Lent D)) → Taken before mid xs → Each (λ y. Lacks xs y.name) ys → Taken mid after ys → Taken before after (xs ++ ys)
   taken_on before mid after xs ys first apart next = record {
-    out = each_both (λ (l : Lent D). IsAsPlanned stops made faults (before l.name) l.disk) xs ys first.out (moved before mid xs first ys apart next.out);
-    others = λ name lacks k here. (
-        next.others name (each_back (λ (l : Lent D). l.name ≢ name) xs ys lacks) k (first.others name (each_front (λ (l : Lent D). l.name ≢ name) xs ys lacks) k here)
-        );
+    out = each_both (Planned before) xs ys first.out (moved before mid xs first ys apart next.out);
+    others = λ name lacks n. (let away = lacks_apart xs ys name lacks in next.others name away.1 n ∙ first.others name away.0 n);
+    stand = λ name lacks. (let away = lacks_apart xs ys name lacks in next.stand name away.1 ∙ first.stand name away.0);
+    still = next.still ∙ first.still;
   }
-
-  -- where the topology's disk is out, and none is planned for any, none is planned for the others
-  pub none_behind : (before mid : DiskName → ℕ → Type 0) (one : Lent D) (joiners replicas : ℕ) → one.name ≡ name.Topology → Taken before mid (one ∷ []) → ((disk : DiskName) → before disk 0) → Each (λ disk. mid disk 0) (other_names joiners replicas)
-  none_behind before mid one joiners replicas named so none =
-      each_weaker (λ disk. disk ≢ name.Topology) (λ disk. mid disk 0) (λ disk other. so.others disk ((λ e. other (sym e ∙ named)), tt) 0 (none disk)) (other_names joiners replicas) (not_topology joiners replicas)

@@ -1,13 +1,32 @@
 -- The stops that are planned for disks, in a store and out of it.
-use Rattle.std.specs.Prelude.{◌≡◌, ℕ, List, Bool}
+use Rattle.std.specs.Prelude.{◌≡◌, ◌+◌, ℕ, List, Bool}
 use Rattle.list_words.specs.Lists.{Each}
-use Rattle.outside.specs.declared.store.DiskName.{DiskName}
+use Rattle.outside.specs.Disk.{StopsAmong}
 use Rattle.outside.specs.Plans.{AtMost}
+use Rattle.outside.specs.declared.disk.Disk as disk
+use Rattle.outside.specs.declared.store.Store as store
+use Rattle.outside.specs.declared.store.DiskName.{DiskName}
+use Rattle.outside.specs.declared.store.DiskName.TheVariants as name
+use Rattle.run_fault.specs.declared.fault.StorePlace.TheVariants as place
+use Rattle.run_fault.specs.declared.fault.RunFault.{RunFault}
+use Rattle.run_fault.specs.declared.fault.RunFault.TheVariants as fault
 use Rattle.site_store.specs.Lent.{Lent, Lacks}
 
 -- at most so many of the calls to come of the store's disk of a name are planned to fail
 abbrev pub Left : {S : Type 0} → (S → DiskName → ℕ → Bool) → (S → DiskName → ℕ) → S → DiskName → ℕ → Type 0
 Left stops made store name most = AtMost (stops store name) (made store name) most
+
+-- One of the next three calls of the store's disk of a name is planned to fail, which are as many as opening it makes. Of the topology's, which
+-- is written then, some call is.
+abbrev pub HasSoon : {S : Type 0} → (S → DiskName → ℕ → Bool) → (S → DiskName → ℕ) → S → DiskName → Type 0
+HasSoon stops made now name.Topology = Left stops made now name.Topology 0 → ⊥
+HasSoon stops made now name = StopsAmong (stops now name) (made now name) (made now name + 3)
+
+-- How opening a planned store gives up: it tells the disk that failed, which had such a stop, or it met no fault.
+abbrev pub IsByPlan : {S : Type 0} → (S → DiskName → ℕ → Bool) → (S → DiskName → ℕ) → (S → ℕ) → (old new : S) → RunFault → Type 0
+IsByPlan stops made faults old new (fault.Store (place.Disk disk)) = HasSoon stops made old disk
+IsByPlan stops made faults old new (fault.Store _) = ⊥
+IsByPlan stops made faults old new _ = faults new ≡ faults old
 
 module _ {D : Type 0} (stops : D → ℕ → Bool) (made faults : D → ℕ) where
   -- a disk for which no more stops are planned than these, and which met no fault
@@ -19,7 +38,10 @@ module _ {D : Type 0} (stops : D → ℕ → Bool) (made faults : D → ℕ) whe
   abbrev pub AllAsPlanned : (left : DiskName → ℕ → Type 0) → List (Lent D) → Type 0
   AllAsPlanned left lent = Each (λ l. IsAsPlanned (left l.name) l.disk) lent
 
-  -- Each of these disks, which were taken from a store, is so by what was planned for it there. For the others no more is planned.
-  pub record AreAsPlanned (before after : DiskName → ℕ → Type 0) (lent : List (Lent D)) : Type 0 where
-    pub out : AllAsPlanned before lent
-    pub others : (name : DiskName) → Lacks lent name → (k : ℕ) → before name k → after name k
+-- Each of these disks, which were taken from a store, is so by what was planned for it there. The others have the plans that they had, and no
+-- fault was met.
+pub record AreAsPlanned {D S : Type 0} (d : disk.Ghosts D) (s : store.Ghosts S D) (before after : S) (lent : List (Lent D)) : Type 0 where
+  pub out : AllAsPlanned d.stops d.made d.faults (Left s.stops s.made before) lent
+  pub others : (name : DiskName) → Lacks lent name → (n : ℕ) → s.stops after name n ≡ s.stops before name n
+  pub stand : (name : DiskName) → Lacks lent name → s.made after name ≡ s.made before name
+  pub still : s.faults after ≡ s.faults before

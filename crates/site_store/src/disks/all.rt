@@ -7,7 +7,7 @@ ghost use Rattle.gate_journal.specs.declared.journal.JournalState.TheVariants.{R
 ghost use Rattle.gate_journal.specs.Images.{StaysAs};
 ghost use Rattle.site_store.specs.Kinds.{joiners_kept};
 ghost use Rattle.site_store.specs.Lent.{IsLent, MayBeLeft};
-ghost use Rattle.site_store.specs.Plans.{Left, AreAsPlanned};
+ghost use Rattle.site_store.specs.Plans.{AreAsPlanned, IsByPlan};
 ghost use Rattle.site_store.specs.Records.{AllKept, AreKept, values_of, lent_all, topology_lent};
 ghost use Rattle.site_store.specs.Refusals.{IsFirstDisk};
 ghost use Rattle.site_store.specs.Opening.{IsUnopened};
@@ -54,9 +54,9 @@ pub fn open_disks<S: Store>(
     ensures places { IfOk result (λ d. S.places_left store.old + (1 + length d.disks.items) ≤ S.places_left store.new) }
     ensures first { IfErr result (IsUnopened S.Disk.tells (S.image store.old) (S.faults store.old) (S.faults store.new) (IsFirstDisk S.Disk.tells (S.image store.old) replicas asked)) }
     ensures count { S.faults store.old ≤ S.faults store.new }
-    // Each disk has the stops that were planned for it, and met none. Where none is planned no fault is met.
-    ensures plan { IsTrue S.Disk.planned → IfOk result (λ d. AreAsPlanned S.Disk.stops S.Disk.made S.Disk.faults (Left S.stops S.made store.old) (Left S.stops S.made store.new) (topology_lent d.topology.journal.disk ∷ lent_all d.disks.items)) }
-    ensures calm { IsTrue S.Disk.planned → ((name : DiskName) → Left S.stops S.made store.old name 0) → S.faults store.new ≡ S.faults store.old }
+    // Each disk has the stops that were planned for it, and met none. One that failed had a stop among its next calls.
+    ensures plan { IsTrue S.Disk.planned → IfOk result (λ d. AreAsPlanned S.Disk.Disk S.Store store.old store.new (topology_lent d.topology.journal.disk ∷ lent_all d.disks.items)) }
+    ensures early { IsTrue S.Disk.planned → IfErr result (IsByPlan S.stops S.made S.faults store.old store.new) }
 {
     let topology = open_one(alloc, store, DiskName::Topology)?.into_topology();
     match open_others(alloc, store, joiners_of(&topology, asked), replicas) {

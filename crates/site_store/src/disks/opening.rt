@@ -1,13 +1,11 @@
 // Taking disks from a store and giving them back.
-ghost use Rattle.std.specs.Prelude.{◌≡◌, ◌≢◌, ◌≤◌, ◌+◌, ◌∷◌, [], ℕ, List, false, length, map, IsTrue, IfOk, IfErr, OnOk, OnErr, IsErrOf};
+ghost use Rattle.std.specs.Prelude.{◌≡◌, ◌≢◌, ◌≤◌, ◌+◌, ◌∷◌, [], ℕ, List, length, map, IsTrue, IfOk, IfErr, OnOk, OnErr};
 ghost use Rattle.list_words.specs.Lists.{Each};
 ghost use Rattle.outside.specs.declared.store.DiskName.{DiskName};
 ghost use Rattle.outside.specs.Disk.{Within};
-ghost use Rattle.outside.specs.Faults.{Counts};
-ghost use Rattle.outside.specs.declared.faults.StoreFault.TheVariants.{Disk};
 ghost use Rattle.gate_journal.specs.Images.{StaysAs, IsKeptIn};
 ghost use Rattle.site_store.specs.Lent.{IsLent, MayBeLeft};
-ghost use Rattle.site_store.specs.Plans.{Left, AreAsPlanned};
+ghost use Rattle.site_store.specs.Plans.{AreAsPlanned, IsByPlan};
 ghost use Rattle.site_store.specs.Records.{IsOfKind, KeepsAs, AllKept, IsKept, kept_by, lent_all, lent_by};
 ghost use Rattle.site_store.specs.Refusals.{IsFirst, other_names};
 ghost use Rattle.site_store.specs.Opening.{told_by, IsUnopened};
@@ -30,29 +28,7 @@ pub(crate) fn told(name: DiskName, fault: JournalFault) -> RunFault
     }
 }
 
-// Takes the disk of this name from the store and asks it. Where it fails it is given back.
-fn take_one<S: Store>(alloc: Global, store: &mut S, name: DiskName) -> Result<S::Disk, StoreFault>
-    ensures images { IsTrue S.Disk.tells → IfOk result (λ disk. Within (S.image store.old name) (S.Disk.image disk)) }
-    ensures left { IsTrue S.Disk.tells → IfOk result (λ disk. S.image store.old name (S.Disk.seen disk)) }
-    ensures others { IsTrue S.Disk.tells → OnOk result ((other : DiskName) → other ≢ name → Within (S.image store.old other) (S.image store.new other)) }
-    ensures back { IsTrue S.Disk.tells → OnErr result ((other : DiskName) → Within (S.image store.old other) (S.image store.new other)) }
-    ensures place { OnOk result (S.places_left store.old + 1 ≤ S.places_left store.new) }
-    ensures no_place { OnErr result (S.places_left store.old ≤ S.places_left store.new) }
-    ensures count { Counts (S.faults store.old) (S.faults store.new) (IsErrOf result Disk) }
-    ensures plan { IsTrue S.Disk.planned → IfOk result (λ disk. AreAsPlanned S.Disk.stops S.Disk.made S.Disk.faults (Left S.stops S.made store.old) (Left S.stops S.made store.new) (record { name = name; disk = disk } ∷ []) × (S.Disk.is_down disk ≡ false)) }
-    ensures no_fault { IsTrue S.Disk.planned → S.faults store.new ≡ S.faults store.old }
-{
-    let mut disk = store.take(alloc, name)?;
-    match ask(&mut disk) {
-        Ok(()) => Ok(disk),
-        Err(_) => {
-            store.give(name, disk);
-            Err(StoreFault::Disk)
-        }
-    }
-}
-
-/// Takes the disk of this name from the store and opens it. Where it is refused it is given back.
+/// Takes the disk of this name from the store, asks it and opens it. Where it fails or is refused it is given back.
 pub(crate) fn open_one<S: Store>(
     alloc: Global,
     store: &mut S,
@@ -68,19 +44,24 @@ pub(crate) fn open_one<S: Store>(
     ensures no_place { OnErr result (S.places_left store.old ≤ S.places_left store.new) }
     ensures count { S.faults store.old ≤ S.faults store.new }
     ensures err { IfErr result (IsUnopened S.Disk.tells (S.image store.old) (S.faults store.old) (S.faults store.new) (λ disk. disk ≡ name)) }
-    ensures plan { IsTrue S.Disk.planned → IfOk result (λ o. AreAsPlanned S.Disk.stops S.Disk.made S.Disk.faults (Left S.stops S.made store.old) (Left S.stops S.made store.new) (lent_by o ∷ [])) }
-    ensures calm { IsTrue S.Disk.planned → Left S.stops S.made store.old name 0 → S.faults store.new ≡ S.faults store.old }
+    ensures plan { IsTrue S.Disk.planned → IfOk result (λ o. AreAsPlanned S.Disk.Disk S.Store store.old store.new (lent_by o ∷ [])) }
+    ensures early { IsTrue S.Disk.planned → IfErr result (IsByPlan S.stops S.made S.faults store.old store.new) }
 {
-    match take_one(alloc, store, name) {
-        Ok(disk) => match OpenDisk::open(alloc, name, disk) {
-            Ok(open) => Ok(open),
-            Err((fault, disk)) => {
-                store.give(name, disk);
-                Err(told(name, fault))
-            }
-        },
-        Err(StoreFault::Disk) => Err(RunFault::Store(StorePlace::Disk(name))),
-        Err(StoreFault::Memory) => Err(RunFault::Memory),
+    let mut disk = match store.take(alloc, name) {
+        Ok(disk) => disk,
+        Err(StoreFault::Disk) => return Err(RunFault::Store(StorePlace::Disk(name))),
+        Err(StoreFault::Memory) => return Err(RunFault::Memory),
+    };
+    let Ok(()) = ask(&mut disk) else {
+        store.give(name, disk);
+        return Err(RunFault::Store(StorePlace::Disk(name)));
+    };
+    match OpenDisk::open(alloc, name, disk) {
+        Ok(open) => Ok(open),
+        Err((fault, disk)) => {
+            store.give(name, disk);
+            Err(told(name, fault))
+        }
     }
 }
 
@@ -118,8 +99,8 @@ pub(crate) fn open_others<S: Store>(
     ensures place { OnErr result (S.places_left store.old ≤ S.places_left store.new) }
     ensures first { IfErr result (IsUnopened S.Disk.tells (S.image store.old) (S.faults store.old) (S.faults store.new) (IsFirst S.Disk.tells (S.image store.old) (other_names joiners replicas))) }
     ensures count { S.faults store.old ≤ S.faults store.new }
-    ensures plan { IsTrue S.Disk.planned → IfOk result (λ d. AreAsPlanned S.Disk.stops S.Disk.made S.Disk.faults (Left S.stops S.made store.old) (Left S.stops S.made store.new) (lent_all d.items)) }
-    ensures calm { IsTrue S.Disk.planned → Each (λ name. Left S.stops S.made store.old name 0) (other_names joiners replicas) → S.faults store.new ≡ S.faults store.old }
+    ensures plan { IsTrue S.Disk.planned → IfOk result (λ d. AreAsPlanned S.Disk.Disk S.Store store.old store.new (lent_all d.items)) }
+    ensures early { IsTrue S.Disk.planned → IfErr result (IsByPlan S.stops S.made S.faults store.old store.new) }
 {
     let Ok(names) = names_of(alloc, joiners, replicas) else {
         return Err(RunFault::Memory);

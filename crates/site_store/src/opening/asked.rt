@@ -5,7 +5,7 @@ ghost use Rattle.outside.specs.Faults.{Rose};
 ghost use Rattle.gate_journal.specs.declared.journal.JournalState.TheVariants.{Ready};
 ghost use Rattle.gate_journal.specs.Images.{StaysAs};
 ghost use Rattle.site_store.specs.Lent.{IsLent};
-ghost use Rattle.site_store.specs.Plans.{Left, AreAsPlanned};
+ghost use Rattle.site_store.specs.Plans.{AreAsPlanned, IsByPlan};
 ghost use Rattle.site_store.specs.Records.{AreKept, values_of, lent_all, topology_lent};
 ghost use Rattle.site_store.specs.Causes.{ArePassed, IsCause, joiners_asked};
 
@@ -47,9 +47,9 @@ pub(crate) fn open_for<S: Store, L: LogFile>(
     ensures cause { IfErr result (IsCause S.Disk.tells (S.image store.old) replicas (Rose (S.faults store.old) (S.faults store.new)) L.tells (L.bytes clicks.old) end (Rose (L.faults clicks.old) (L.faults clicks.new)) asked.now) }
 
     ensures same { IsTrue L.tells → L.bytes clicks.new ≡ L.bytes clicks.old }
-    // Each disk has the stops that were planned for it, and met none. Where none is planned no fault is met.
-    ensures plan { IsTrue S.Disk.planned → IfOk result (λ d. AreAsPlanned S.Disk.stops S.Disk.made S.Disk.faults (Left S.stops S.made store.old) (Left S.stops S.made store.new) (topology_lent d.topology.journal.disk ∷ lent_all d.disks.items)) }
-    ensures calm { IsTrue S.Disk.planned → ((name : DiskName) → Left S.stops S.made store.old name 0) → S.faults store.new ≡ S.faults store.old }
+    // Each disk has the stops that were planned for it, and met none. One that failed had a stop among its next calls.
+    ensures plan { IsTrue S.Disk.planned → IfOk result (λ d. AreAsPlanned S.Disk.Disk S.Store store.old store.new (topology_lent d.topology.journal.disk ∷ lent_all d.disks.items)) }
+    ensures early { IsTrue S.Disk.planned → IfErr result (IsByPlan S.stops S.made S.faults store.old store.new) }
     ensures count { S.faults store.old ≤ S.faults store.new }
     ensures log_count { L.faults clicks.old ≤ L.faults clicks.new }
 {

@@ -16,7 +16,7 @@ ghost use Rattle.run_fault.specs.declared.fault.StorePlace.TheVariants.{Disk as 
 ghost use Rattle.run_fault.specs.declared.fault.RunFault.TheVariants.{Store as StoreFailed};
 ghost use Rattle.run_fault.specs.Causes.{IsWelcome};
 ghost use Rattle.site_store.specs.Refusals.{other_names};
-ghost use Rattle.site_store.specs.Plans.{Left, AreAsPlanned};
+ghost use Rattle.site_store.specs.Plans.{AreAsPlanned, IsByPlan};
 ghost use Rattle.site_store.specs.Records.{AreKept, AreRecordsOf, values_of, kept_all, lent_all, topology_lent};
 ghost use Rattle.site_store.specs.Leaving.{IsOut, StayOrAsked, IsAsked};
 ghost use Rattle.site_store.specs.Causes.{ArePassed, IsCause, LeavesSomething};
@@ -71,9 +71,9 @@ pub fn open_store<S: Store, L: LogFile>(
         → IsSoundStore g (S.image store.old) → IsWelcome (LeavesSomething g (S.image store.old)) f) }
 
     ensures same { IsTrue L.tells → L.bytes clicks.new ≡ L.bytes clicks.old }
-    // Each disk has the stops that were planned for it, and met none. Where none is planned no fault is met.
-    ensures plan { IsTrue S.Disk.planned → IfOk result (λ d. AreAsPlanned S.Disk.stops S.Disk.made S.Disk.faults (Left S.stops S.made store.old) (Left S.stops S.made store.new) (topology_lent d.topology.journal.disk ∷ lent_all d.disks.items)) }
-    ensures calm { IsTrue S.Disk.planned → ((name : DiskName) → Left S.stops S.made store.old name 0) → S.faults store.new ≡ S.faults store.old }
+    // Each disk has the stops that were planned for it, and met none. One that failed had a stop among its next calls.
+    ensures plan { IsTrue S.Disk.planned → IfOk result (λ d. AreAsPlanned S.Disk.Disk S.Store store.old store.new (topology_lent d.topology.journal.disk ∷ lent_all d.disks.items)) }
+    ensures early { IsTrue S.Disk.planned → IfErr result (IsByPlan S.stops S.made S.faults store.old store.new) }
     ensures count { S.faults store.old ≤ S.faults store.new }
     ensures log_count { L.faults clicks.old ≤ L.faults clicks.new }
 {

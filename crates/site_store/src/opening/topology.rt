@@ -30,6 +30,7 @@ pub(crate) fn keep_topology<D: Disk>(
     ensures grows { IsTrue D.tells → GoesOn (D.image topology.old.journal.disk) (D.image topology.new.journal.disk) }
     ensures count { D.faults topology.old.journal.disk ≤ D.faults topology.new.journal.disk }
     ensures plan { IsTrue D.planned → OnOk result (MeetsPlan D.stops D.made D.faults 4 false topology.old.journal.disk topology.new.journal.disk) }
+    ensures no_fault { IsErrOf result Memory → D.faults topology.new.journal.disk ≡ D.faults topology.old.journal.disk }
     ensures calm { IsTrue D.planned → AtMost (D.stops topology.old.journal.disk) (D.made topology.old.journal.disk) 0 → D.faults topology.new.journal.disk ≡ D.faults topology.old.journal.disk }
     ensures unwritten { IfErr result (IsUnwritten (D.faults topology.old.journal.disk) (D.faults topology.new.journal.disk)) }
 {

@@ -2,7 +2,7 @@ use Rattle.std.proofs.Common.{◌≡◌, ◌+◌, ◌*◌, ◌∷◌, [], ℕ, L
 use Rattle.std.specs.Prelude.{IfErr, IsTrue}
 use Rattle.outside.specs.declared.store.DiskName.TheVariants as name
 use Rattle.site_store.specs.Plans.{IsAsPlanned, Left}
-use Rattle.site_store.proofs.Planned.{each_calm}
+use Rattle.site_store.proofs.Planned.{calm_by_plan, each_calm}
 use Rattle.site_run.specs.Making.{IsStart}
 use Rattle.site_run.proofs.Words.{IfErr-weaker, length-map, Mem, mem_right, DiskName, Topology, Store, Setting, IsLogOf, Rose, topology_of, IsAsked, IsSettingOver, MayBeLeft, kept_all, lent_all, topology_lent, as_lent, values_of, other_names, records_of, names_kept, KeepsItsRecord, IsCounted, IsCauseOf, IsOfRun, IsPastOpening, RunLeft}
 use Rattle.site_run.proofs.Counting.{rose_before, some_rose}
@@ -183,7 +183,7 @@ returns-clause-stops g c planned log_tells gg checked is =
     let left = Left g.S.Store.stops g.S.Store.made c.args.store.now in
     let all = (c.in-Ok.ensures.plan planned).out in
     let same = c.into_disk.ensures ∙ ap (λ t. t.journal.disk) c.in-Ok-build.ensures.topology in
-    planned_earlier _ _ _ gg _ _ _ (λ disk k few. few) (c.open_store.ensures.calm planned)
+    planned_earlier _ _ _ gg _ _ _ (λ disk k few. few) (λ none. (c.in-Ok.ensures.plan planned).still)
     (c.run_system.ensures.stops planned (c.all_planned.ensures.planned planned) gg _ c.args.store.now is.logs.numbers (c.all_held.ensures tells log_tells) (c.in-Ok-build.ensures.places tells gg _ (start g (goal.at.returns-clause-stops g c).After-build log_tells gg is))
     (c.all_planned.ensures.disks planned) refl
     (subst (IsAsPlanned disk.stops disk.made disk.faults (left name.Topology)) (sym same) all.0, each_moved (λ l. IsAsPlanned disk.stops disk.made disk.faults (left l.name) l.disk) _ _ c.in-Ok-build.ensures.held all.1))
@@ -193,7 +193,9 @@ returns-in-Err-build-clause-stops g c planned log_tells gg checked is =
     let disk = g.S.Disk.Disk in
     let opened = topology_lent {D = g.row.S-Disk.Denot} c.in-Ok.opened.topology.journal.disk ∷ lent_all {D = g.row.S-Disk.Denot} c.in-Ok.opened.disks.items in
     none_planned _ _ gg _ _ c.requires.none
-    (λ none. c.give_parts.ensures.calm (each_moved (λ l. disk.faults l.disk ≡ 0) opened _ c.in-Err-build.ensures.disks (each_calm disk.stops disk.made disk.faults (Left g.S.Store.stops g.S.Store.made c.args.store.now) opened (c.in-Ok.ensures.plan planned).out)) ∙ c.open_store.ensures.calm planned none)
+    (λ none. c.give_parts.ensures.calm (each_moved (λ l. disk.faults l.disk ≡ 0) opened _ c.in-Err-build.ensures.disks (each_calm disk.stops disk.made disk.faults (Left g.S.Store.stops g.S.Store.made c.args.store.now) opened (c.in-Ok.ensures.plan planned).out)) ∙ (c.in-Ok.ensures.plan planned).still)
 
 pub returns-in-Err-clause-stops : goal.returns-in-Err-clause-stops
-returns-in-Err-clause-stops g c planned log_tells gg checked is = none_planned _ _ gg _ _ c.requires.none (c.open_store.ensures.calm planned)
+returns-in-Err-clause-stops g c planned log_tells gg checked is =
+    let s = g.S.Store in
+    none_planned _ _ gg _ _ c.requires.none (λ none. calm_by_plan s.stops s.made s.faults c.args.store.now c.open_store.new.store none c.in-Err.fault (c.in-Err.ensures.early planned))

@@ -7,8 +7,8 @@ use Rattle.site_store.proofs.Names.{not_topology}
 use Rattle.site_store.proofs.Taking.{kept_before, back_again, first_before, first_other}
 use Rattle.site_store.proofs.Readings.{handed_on}
 use Rattle.site_store.proofs.Values.{names_kept, each_kept}
-use Rattle.site_store.specs.Plans.{Left}
-use Rattle.site_store.proofs.Planned.{none_added, none_behind, taken_as, taken_on}
+use Rattle.site_store.specs.Plans.{IsByPlan}
+use Rattle.site_store.proofs.Planned.{early_on, none_added, taken_as, taken_on}
 use Rattle.site_store.proofs.disks.all.open_disks.Goals as goal
 
 pub returns-in-Ok-clause-kept : goal.returns-in-Ok-clause-kept
@@ -68,29 +68,28 @@ returns-in_err-open_one-clause-first g c =
 pub returns-in-Ok-clause-plan : goal.returns-in-Ok-clause-plan
 returns-in-Ok-clause-plan g c planned =
     let d = g.S.Disk.Disk in
-    let at = Left g.S.Store.stops g.S.Store.made in
+    let s = g.S.Store in
     let topology = topology_lent c.into_topology-topology.result.journal.disk in
     let all = lent_all c.in-Ok.disks.items in
     let away = lacks_by_names name.Topology c.in-Ok.disks.items _ c.in-Ok.ensures.named (not_topology c.joiners_of.result c.args.replicas) in
-    let first = taken_as d.stops d.made d.faults (at c.args.store.now) (at c.open_one.new.store) _ topology c.in_ok-open_one.ensures.name c.into_topology-topology.ensures.disk (c.in_ok-open_one.ensures.plan planned) in
-    taken_on d.stops d.made d.faults (at c.args.store.now) (at c.open_one.new.store) (at c.open_others.new.store) (topology ∷ []) all first
+    let first = taken_as d s c.args.store.now c.open_one.new.store _ topology c.in_ok-open_one.ensures.name c.into_topology-topology.ensures.disk (c.in_ok-open_one.ensures.plan planned) in
+    taken_on d s c.args.store.now c.open_one.new.store c.open_others.new.store (topology ∷ []) all first
     (each_weaker (λ l. l.name ≢ name.Topology) (λ l. Lacks (topology ∷ []) l.name) (λ l other. ((λ e. other (sym e)), tt)) all away) (c.in-Ok.ensures.plan planned)
 
-pub returns-in-Ok-clause-calm : goal.returns-in-Ok-clause-calm
-returns-in-Ok-clause-calm g c planned none =
+pub returns-in-Err-clause-early : goal.returns-in-Err-clause-early
+returns-in-Err-clause-early g c planned =
     let d = g.S.Disk.Disk in
+    let s = g.S.Store in
     let one = c.in_ok-open_one.ensures in
-    c.open_others.ensures.calm planned (none_behind d.stops d.made d.faults _ _ _ c.joiners_of.result c.args.replicas one.name (one.plan planned) none)
-    ∙ c.open_one.ensures.calm planned (none name.Topology)
+    let plan = one.plan planned in
+    let mid = c.open_one.new.store in
+    let names = other_names c.joiners_of.result c.args.replicas in
+    let apart = λ (disk : DiskName) (first : IsFirst d.tells (s.image mid) names disk). first_other d.tells (s.image mid) name.Topology names disk (not_topology c.joiners_of.result c.args.replicas) first in
+    let met = ap d.faults (c.into_disk.ensures ∙ sym c.into_topology-topology.ensures.disk) ∙ plan.out.0.calm in
+    early_on s.stops s.made s.faults c.args.store.now mid c.open_others.new.store c.give.new.self d.tells (s.image mid) _ _ (IsFirst d.tells (s.image mid) names) c.in-Err.fault c.in-Err.ensures.first
+    (λ disk first. plan.others disk ((λ e. apart disk first (sym e ∙ one.name)), tt)) (λ disk first. plan.stand disk ((λ e. apart disk first (sym e ∙ one.name)), tt)) plan.still (none_added _ _ _ c.give.ensures.count met) (c.in-Err.ensures.early planned)
 
-pub returns-in-Err-clause-calm : goal.returns-in-Err-clause-calm
-returns-in-Err-clause-calm g c planned none =
-    let d = g.S.Disk.Disk in
-    let one = c.in_ok-open_one.ensures in
-    let met = ap d.faults (c.into_disk.ensures ∙ sym c.into_topology-topology.ensures.disk) ∙ (one.plan planned).out.0.calm in
-    none_added _ _ _ c.give.ensures.count met
-    ∙ c.open_others.ensures.calm planned (none_behind d.stops d.made d.faults _ _ _ c.joiners_of.result c.args.replicas one.name (one.plan planned) none)
-    ∙ c.open_one.ensures.calm planned (none name.Topology)
-
-pub returns-in_err-open_one-clause-calm : goal.returns-in_err-open_one-clause-calm
-returns-in_err-open_one-clause-calm g c planned none = c.open_one.ensures.calm planned (none name.Topology)
+pub returns-in_err-open_one-clause-early : goal.returns-in_err-open_one-clause-early
+returns-in_err-open_one-clause-early g c planned =
+    let s = g.S.Store in
+    handed_on c.from_residual.result c.in_err-open_one.field-0.0 (IsByPlan s.stops s.made s.faults c.args.store.now c.open_one.new.store) c.from_residual.ensures.1 (c.in_err-open_one.ensures.early planned)

@@ -1,12 +1,12 @@
-use Rattle.std.proofs.Common.{rules, ◌≡◌, ◌≢◌, ◌<◌, List, [], ◌∷◌, ◌++◌, length, get_or, refl, ap, subst, sym, ◌∙◌, arith}
+use Rattle.std.proofs.Common.{rules, ◌≡◌, ◌≢◌, ◌<◌, List, [], ◌∷◌, ◌++◌, length, get_or, ap, subst, sym, ◌∙◌, arith}
 use Rattle.site_store.proofs.Words.{map-append, Each, EachPair, lent_by, DiskName, Within, Lacks, IsLent, IsOfKind, IsKept, kept_by, lent_all, IsFirst, other_names}
 use Rattle.site_store.proofs.Faults.{unopened_more}
-use Rattle.site_store.proofs.Lending.{each_at, names_more, each_more, opened_more, keeps_first, lacks_next, length_more, cut_back}
+use Rattle.site_store.proofs.Lending.{names_more, each_more, opened_more, keeps_first, lacks_next, length_more, cut_back}
 use Rattle.site_store.proofs.Names.{others_apart}
 use Rattle.site_store.proofs.Values.{were_journals}
 use Rattle.site_store.proofs.Refusals.{first_at}
 use Rattle.site_store.specs.Plans.{Left, AreAsPlanned}
-use Rattle.site_store.proofs.Planned.{each_calm, none_taken, taken_on}
+use Rattle.site_store.proofs.Planned.{each_calm, early_on, none_taken, taken_on}
 use Rattle.site_store.proofs.disks.opening.open_others.Goals as goal
 
 pub loop-i-init : goal.loop-i-init
@@ -21,8 +21,7 @@ loop-i-init g c =
       lent = λ tells. subst (λ l. IsLent g.S.Disk.Disk.image image image (lent_all l)) (sym none) (record { out = tt; others = λ name lacks c now. now });
       kept = λ tells. subst (Each (λ o. IsKept image (kept_by o))) (sym none) tt;
       places = search rules;
-      plan = λ planned. (let d = g.S.Disk.Disk in let at = Left g.S.Store.stops g.S.Store.made c.args.store.now in subst (λ l. AreAsPlanned d.stops d.made d.faults at at (lent_all l)) (sym none) (none_taken d.stops d.made d.faults at));
-      calm = λ planned each. refl;
+      plan = λ planned. (let d = g.S.Disk.Disk in let s = g.S.Store in let at = c.args.store.now in subst (λ l. AreAsPlanned d s at at (lent_all l)) (sym none) (none_taken d s at));
       count = omega arith;
     }
 
@@ -55,15 +54,11 @@ loop-i-preserved g c =
       places = omega (arith, inv.places, e.place, length_more items now one more);
       plan = λ planned. (
           let d = g.S.Disk.Disk in
+          let s = g.S.Store in
           let whole : lent_all now ≡ lent_all items ++ lent_by one ∷ [] = ap lent_all more ∙ map-append lent_by items (one ∷ []) in
-          let at = Left g.S.Store.stops g.S.Store.made in
-          subst (AreAsPlanned d.stops d.made d.faults (at c.args.store.now) (at c.open_one.new.store)) (sym whole)
-          (taken_on d.stops d.made d.faults (at c.args.store.now) (at c.loop-i.store) (at c.open_one.new.store) (lent_all items) (lent_by one ∷ []) (inv.plan planned)
+          subst (AreAsPlanned d s c.args.store.now c.open_one.new.store) (sym whole)
+          (taken_on d s c.args.store.now c.loop-i.store c.open_one.new.store (lent_all items) (lent_by one ∷ []) (inv.plan planned)
           (subst (Lacks (lent_all items)) (sym e.name) lacks, tt) (e.plan planned))
-          );
-      calm = λ planned each. (
-          let own = subst (λ (n : DiskName). Left g.S.Store.stops g.S.Store.made c.args.store.now n 0) (sym is) (each_at (λ n. Left g.S.Store.stops g.S.Store.made c.args.store.now n 0) names i name each lt) in
-          c.open_one.ensures.calm planned ((inv.plan planned).others name lacks 0 own) ∙ inv.calm planned each
           );
       count = omega (arith, inv.count, c.open_one.ensures.count);
     }
@@ -93,23 +88,20 @@ returns-in-Err-clause-first g c =
     (λ disk named. subst (λ (ns : List DiskName). IsFirst tells before ns disk) c.in-Ok.ensures (subst (IsFirst tells before names) (sym (named ∙ is)) first))
     (λ sure disk named. subst (λ (n : DiskName). Within (before n) (mid n)) (sym named) ((inv.lent sure).others name lacks)) c.in-Err.ensures.err
 
-pub returns-in-Err-clause-calm : goal.returns-in-Err-clause-calm
-returns-in-Err-clause-calm g c planned each =
+pub returns-in-Err-clause-early : goal.returns-in-Err-clause-early
+returns-in-Err-clause-early g c planned =
     let d = g.S.Disk.Disk in
-    let at = Left g.S.Store.stops g.S.Store.made in
+    let s = g.S.Store in
     let names = c.in-Ok.names.items in
     let i = c.loop-i.i in
     let name = c.index.result.now in
     let is : name ≡ get_or names i name = c.index.ensures in
     let items = c.loop-i.disks.items in
     let inv = c.loop-i.invariant in
+    let plan = inv.plan planned in
     let lt : i < length names = omega (arith, c.loop-i-test.true) in
     let apart = subst (EachPair (λ one other. one ≢ other)) (sym c.in-Ok.ensures) (others_apart c.args.joiners c.args.replicas) in
     let lacks : Lacks (lent_all items) name = subst (Lacks (lent_all items)) (sym is) (lacks_next names i name items apart inv.names lt) in
-    let all = subst (Each (λ n. at c.args.store.now n 0)) (sym c.in-Ok.ensures) each in
-    let own = subst (λ (n : DiskName). at c.args.store.now n 0) (sym is) (each_at (λ n. at c.args.store.now n 0) names i name all lt) in
-    c.give_each.ensures.calm (each_calm d.stops d.made d.faults (at c.args.store.now) (lent_all items) (inv.plan planned).out)
-    ∙ c.open_one.ensures.calm planned ((inv.plan planned).others name lacks 0 own) ∙ inv.calm planned all
-
-pub returns-clause-calm : goal.returns-clause-calm
-returns-clause-calm g c planned each = c.loop-i.invariant.calm planned (subst (Each (λ n. Left g.S.Store.stops g.S.Store.made c.args.store.now n 0)) (sym c.in-Ok.ensures) each)
+    early_on s.stops s.made s.faults c.args.store.now c.loop-i.store c.open_one.new.store c.give_each.new.store d.tells (s.image c.loop-i.store) _ _ (λ (disk : DiskName). disk ≡ name) c.in-Err.fault c.in-Err.ensures.err
+    (λ disk named. plan.others disk (subst (Lacks (lent_all items)) (sym named) lacks)) (λ disk named. plan.stand disk (subst (Lacks (lent_all items)) (sym named) lacks)) plan.still
+    (c.give_each.ensures.calm (each_calm d.stops d.made d.faults (Left s.stops s.made c.args.store.now) (lent_all items) plan.out)) (c.in-Err.ensures.early planned)

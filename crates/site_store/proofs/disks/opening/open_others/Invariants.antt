@@ -1,7 +1,7 @@
 use Rattle.std.proofs.Common.{◌≡◌, ◌+◌, ◌≤◌, length, take, IsTrue}
 use Rattle.std.specs.Prelude.{map, vec_len, vec_capacity}
 use Rattle.site_store.proofs.Words.{Each, IsLent, IsOfKind, IsKept, kept_by, lent_all}
-use Rattle.site_store.specs.Plans.{Left, AreAsPlanned}
+use Rattle.site_store.specs.Plans.{AreAsPlanned}
 use Rattle.site_store.proofs.disks.opening.open_others.Given as goal
 
 abbrev pub invariant-loop-i : goal.invariant-loop-i
@@ -16,7 +16,6 @@ invariant-loop-i g l =
       lent : IsTrue tells → IsLent g.S.Disk.Disk.image (image l.fn.store) (image l.store) (lent_all l.disks.items);
       kept : IsTrue tells → Each (λ o. IsKept (image l.fn.store) (kept_by o)) l.disks.items;
       places : g.S.Store.places_left l.fn.store + length l.disks.items ≤ g.S.Store.places_left l.store;
-      plan : IsTrue g.S.Disk.Disk.planned → AreAsPlanned g.S.Disk.Disk.stops g.S.Disk.Disk.made g.S.Disk.Disk.faults (Left g.S.Store.stops g.S.Store.made l.fn.store) (Left g.S.Store.stops g.S.Store.made l.store) (lent_all l.disks.items);
-      calm : IsTrue g.S.Disk.Disk.planned → Each (λ n. Left g.S.Store.stops g.S.Store.made l.fn.store n 0) l.names.items → g.S.Store.faults l.store ≡ g.S.Store.faults l.fn.store;
+      plan : IsTrue g.S.Disk.Disk.planned → AreAsPlanned g.S.Disk.Disk g.S.Store l.fn.store l.store (lent_all l.disks.items);
       count : g.S.Store.faults l.fn.store ≤ g.S.Store.faults l.store;
     }

@@ -3,7 +3,7 @@ use Rattle.site_store.proofs.Words.{AreTold, IsUnopened, IsFirstDisk, AreKept, v
 use Rattle.site_store.proofs.Causes.{judged, unopened_cause}
 use Rattle.site_store.proofs.Lending.{stays_as}
 use Rattle.site_store.specs.Plans.{Left}
-use Rattle.site_store.proofs.Planned.{each_calm}
+use Rattle.site_store.proofs.Planned.{each_calm, unfit_early}
 use Rattle.site_store.proofs.opening.asked.open_for.Goals as goal
 
 pub returns-in-Some-clause-back : goal.returns-in-Some-clause-back
@@ -31,9 +31,13 @@ returns-in-Err-clause-cause g c =
     unopened_cause tells before c.args.replicas c.args.asked.now told _ ⊥ old new c.in-Err.fault
     (subst (λ n. IsUnopened tells before old new (IsFirstDisk tells before c.args.replicas n) c.in-Err.fault) c.joiners_of.ensures c.in-Err.ensures.first)
 
-pub returns-in-Some-clause-calm : goal.returns-in-Some-clause-calm
-returns-in-Some-clause-calm g c planned none =
+pub returns-in-Some-clause-early : goal.returns-in-Some-clause-early
+returns-in-Some-clause-early g c planned =
     let d = g.S.Disk.Disk in
-    let at = Left g.S.Store.stops g.S.Store.made in
+    let s = g.S.Store in
+    let log = g.L.LogFile in
     let opened = c.in-Ok.open in
-    c.give_back.ensures.calm (each_calm d.stops d.made d.faults (at c.args.store.now) (topology_lent opened.topology.journal.disk ∷ lent_all opened.disks.items) (c.in-Ok.ensures.plan planned).out) ∙ c.open_disks.ensures.calm planned none
+    let plan = c.in-Ok.ensures.plan planned in
+    let calm = each_calm d.stops d.made d.faults (Left s.stops s.made c.args.store.now) (topology_lent opened.topology.journal.disk ∷ lent_all opened.disks.items) plan.out in
+    unfit_early s.stops s.made s.faults c.args.store.now c.give_back.new.store c.args.asked.now (AreTold log.tells (log.bytes c.args.clicks.now) c.args.end) _ (values_of opened.topology.value.kept opened.disks.items) c.in-Some.fault c.in-Some.ensures.cause
+    (c.give_back.ensures.calm calm ∙ plan.still)

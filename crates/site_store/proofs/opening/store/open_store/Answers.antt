@@ -6,9 +6,8 @@ use Rattle.site_store.proofs.Leaving.{back_stays, back_grown, back_written, out_
 use Rattle.site_store.proofs.Recorded.{left_with, whole_with}
 use Rattle.site_store.proofs.Sound.{welcome}
 use Rattle.site_store.proofs.Values.{names_kept}
-use Rattle.outside.specs.declared.store.DiskName.TheVariants as name
 use Rattle.site_store.specs.Plans.{Left}
-use Rattle.site_store.proofs.Planned.{each_calm, first_used}
+use Rattle.site_store.proofs.Planned.{each_calm, first_used, unwritten_early}
 use Rattle.site_store.proofs.opening.store.open_store.Goals as goal
 
 pub returns-in-Err-clause-left : goal.returns-in-Err-clause-left
@@ -102,15 +101,16 @@ returns-in-Err-keep_topology-clause-welcome g c sure log_sure = λ s asked same 
 pub returns-in-Ok-keep_topology-clause-plan : goal.returns-in-Ok-keep_topology-clause-plan
 returns-in-Ok-keep_topology-clause-plan g c planned =
     let d = g.S.Disk.Disk in
-    let at = Left g.S.Store.stops g.S.Store.made in
-    first_used d.stops d.made d.faults (at c.args.store.now) (at c.open_for.new.store) 4 (topology_lent c.in-Ok.open.topology.journal.disk) (topology_lent c.keep_topology.new.topology.journal.disk) _ refl (c.in-Ok-keep_topology.ensures.plan planned) (c.in-Ok.ensures.plan planned)
+    let s = g.S.Store in
+    first_used d s c.args.store.now c.open_for.new.store 4 (topology_lent c.in-Ok.open.topology.journal.disk) (topology_lent c.keep_topology.new.topology.journal.disk) _ refl (c.in-Ok-keep_topology.ensures.plan planned) (c.in-Ok.ensures.plan planned)
 
-pub returns-in-Err-keep_topology-clause-calm : goal.returns-in-Err-keep_topology-clause-calm
-returns-in-Err-keep_topology-clause-calm g c planned none =
+pub returns-in-Err-keep_topology-clause-early : goal.returns-in-Err-keep_topology-clause-early
+returns-in-Err-keep_topology-clause-early g c planned =
     let d = g.S.Disk.Disk in
-    let at = Left g.S.Store.stops g.S.Store.made in
-    let taken = c.in-Ok.ensures.plan planned in
+    let s = g.S.Store in
+    let plan = c.in-Ok.ensures.plan planned in
+    let e = c.in-Err-keep_topology.ensures in
     let opened = c.in-Ok.open in
-    let each = each_calm d.stops d.made d.faults (at c.args.store.now) (topology_lent opened.topology.journal.disk ∷ lent_all opened.disks.items) taken.out in
-    let met = c.keep_topology.ensures.calm planned (taken.out.0.most 0 (none name.Topology)) ∙ each.0 in
-    c.give_back.ensures.calm (met, each.1) ∙ c.open_for.ensures.calm planned none
+    let each = each_calm d.stops d.made d.faults (Left s.stops s.made c.args.store.now) (topology_lent opened.topology.journal.disk ∷ lent_all opened.disks.items) plan.out in
+    unwritten_early s.stops s.made s.faults c.args.store.now c.give_back.new.store _ _ c.in-Err-keep_topology.fault e.unwritten each.0
+    (λ none. c.keep_topology.ensures.calm planned (plan.out.0.most 0 none)) (λ is. c.give_back.ensures.calm (e.no_fault (ap Err is) ∙ each.0, each.1) ∙ plan.still)
