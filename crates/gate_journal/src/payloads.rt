@@ -7,7 +7,8 @@ use crate::frame::MAX_PAYLOAD;
 use crate::reading::OPEN;
 use std::marker::Model;
 
-/// The payloads of a file's records, in their order. They stay in the bytes that were read, and none is copied. Contracts see the list of them.
+/// The payloads of a file's records, in their order. They stay in the bytes that were read, and none is copied. Contracts see
+/// the list of them.
 #[derive(Drop)]
 pub struct Payloads {
     bytes: Vec<u8>,
@@ -38,12 +39,13 @@ impl Payloads {
     }
 }
 
-/// The payloads that are left of a file's.
+/// A walk over payloads, seen as those that are left.
 #[derive(Drop)]
 pub struct Walk<'a> {
     pub(crate) rest: &'a [u8],
 }
 
+#[tactic(auto, using(crate::proofs::Loop::stepped))]
 impl<'a> Iterator for Walk<'a> {
     ghost use Rattle.std.specs.Iterator.{YieldsFirstRef, item_count};
     ghost use Rattle.gate_journal.specs.Payloads.{left};

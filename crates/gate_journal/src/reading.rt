@@ -4,7 +4,7 @@ ghost use Rattle.gate_journal.specs.Gate.{reading, spans};
 ghost use Rattle.gate_journal.specs.Fault.{FailsAs};
 
 use crate::payloads::{Payloads, Walk};
-use std::alloc::{AllocError, AllocFailed};
+use std::alloc::AllocError;
 
 /// The one value of an open gate. Every other counts as closed.
 pub const OPEN: u8 = 0xA5;
@@ -31,17 +31,7 @@ impl From<AllocError> for JournalFault {
     }
 }
 
-impl<T: Drop> From<AllocFailed<T>> for JournalFault {
-    ghost use Rattle.std.specs.Prelude.{◌≡◌};
-    ghost use Rattle.gate_journal.specs.declared.reading.JournalFault.TheVariants.{Memory};
-
-    ghost from_gives = { λ _ e. e ≡ Memory };
-
-    fn from(_: AllocFailed<T>) -> Self {
-        JournalFault::Memory
-    }
-}
-
+#[tactic(auto, using(crate::proofs::Loop::within, crate::proofs::Loop::shut_there, crate::proofs::Loop::torn_there))]
 /// The payloads of a file that isn't fresh, and the place of its closed gate.
 pub fn read_records(bytes: Vec<u8>) -> Result<(Payloads, u64), JournalFault>
     requires { 0 < length bytes.items }

@@ -186,6 +186,7 @@ impl<D: Disk, R: Appends> RecordJournal<D, R> {
 }
 
 // The value that payloads keep, or the place of the first that is no next record.
+#[tactic(auto, using(crate::proofs::Taking::taken))]
 fn read_kept<R: Record>(alloc: Global, payloads: &Payloads) -> Result<R, JournalFault>
     requires { spans payloads.now ≤ 2 ^ 63 }
     ensures kept { IfOk result (λ value. R.keeps (R.kept value) (Ok payloads.now)) }
