@@ -33,8 +33,8 @@ use turn_defs::{Config, Outcome, Packet, WINDOW};
 
 /// The dispatcher of a site: what it knows while it is up, and which positions its disks keep pending.
 ///
-/// A turn costs constant expected time and O(log n) of the window, beside what it copies: the click of a line that it takes, or
-/// at a Tick those of the window, at a Start the pending positions. The window has at most 64 entries.
+/// A turn costs constant expected time and O(log n) of the window, a Tick linear time in the window, whose clicks it shares, and a
+/// Start in the pending positions, which it copies. The window has at most 64 entries.
 #[derive(Debug, Drop)]
 pub struct DispatchCore {
     alloc: Global,
@@ -290,9 +290,9 @@ impl DispatchCore {
             let done = FreshLine::new(position, end, click, true);
             return Ok(self.quiet(Change::Take(done)));
         }
-        let copy = click.copy(self.alloc)?;
+        let shared = click.share()?;
         let fresh = FreshLine::new(position, end, click, false);
-        self.joining(position, copy, Change::Take(fresh))
+        self.joining(position, shared, Change::Take(fresh))
     }
 
     // Tick: a Join of each line that isn't done, and of each position in trial. Linear in the window.

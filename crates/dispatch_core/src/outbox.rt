@@ -15,7 +15,6 @@ use turn_defs::{Node, Packet};
 // Joins, each to the joiner behind that of the one before, and the dealer that says whose turn is next.
 #[derive(Debug, Drop)]
 pub(crate) struct Outbox {
-    pub(crate) alloc: Global,
     pub(crate) dealer: Dealer,
     pub(crate) packets: Vec<(Node, Packet)>,
 }
@@ -27,7 +26,6 @@ impl Outbox {
         ensures packets { result.packets.items ≡ [] }
     {
         Outbox {
-            alloc,
             dealer,
             packets: Vec::new(alloc),
         }
@@ -42,7 +40,7 @@ impl Outbox {
         Ok(())
     }
 
-    // One of each line that isn't done, with a copy of its click. Linear in the window.
+    // One of each line that isn't done, which shares its click. Linear in the window.
     pub(crate) fn put_waiting(&mut self, fresh: &VecDeque<FreshLine>) -> Result<(), AllocError>
         ensures { OnOk result (Puts self.old self.new (waiting_joins fresh.now.items)) }
     {
@@ -59,11 +57,10 @@ impl Outbox {
         if line.done {
             return Ok(());
         }
-        let copy = line.click.copy(self.alloc)?;
-        self.put(line.position, copy)
+        self.put(line.position, line.click.share()?)
     }
 
-    // One of each position with a copy of its click.
+    // One of each position, which shares its click.
     pub(crate) fn put_trying(
         &mut self,
         positions: &[u64],
@@ -73,8 +70,7 @@ impl Outbox {
         ensures numbers { All (λ p. p < 2 ^ 64) positions.now }
     {
         for (position, click) in positions.iter().zip(clicks) {
-            let copy = click.copy(self.alloc)?;
-            self.put(*position, copy)?;
+            self.put(*position, click.share()?)?;
         }
         Ok(())
     }
@@ -85,11 +81,7 @@ impl Outbox {
         ensures packets { result.packets.items ≡ self.packets.items }
         ensures next { result.next ≡ self.dealer.next }
     {
-        let Outbox {
-            alloc: _,
-            dealer,
-            packets,
-        } = self;
+        let Outbox { dealer, packets } = self;
         Turn {
             packets,
             next: dealer.next,

@@ -29,6 +29,15 @@ reading zero at (gate ∷ bytes) =
     else Ok ([], at)
 reading skip at [] = Err at
 
+-- The payloads of the whole records that the bytes behind the first `skip` begin with, each with an open gate before it.
+abbrev pub payloads_behind : (skip : ℕ) → List ℕ → List (List ℕ)
+payloads_behind (suc skip) (byte ∷ bytes) = payloads_behind skip bytes
+payloads_behind zero (gate ∷ bytes) = if gate == 165 && is_whole bytes then take (record_size bytes) (drop 4 bytes) ∷ payloads_behind (4 + record_size bytes) bytes else []
+payloads_behind skip [] = []
+
+abbrev pub payloads_in : List ℕ → List (List ℕ)
+payloads_in bytes = payloads_behind 0 bytes
+
 abbrev pub only_records : Result (List (List ℕ) × ℕ) ℕ → Result (List (List ℕ)) ℕ
 only_records (Ok r) = Ok r.0
 only_records (Err at) = Err at

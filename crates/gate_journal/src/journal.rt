@@ -3,13 +3,12 @@ ghost use Rattle.std.specs.Prelude.{◌≡◌, ◌≤◌, ◌^◌, true, false, 
 ghost use Rattle.gate_journal.specs.declared.journal.JournalState.TheVariants.{Ready};
 ghost use Rattle.gate_journal.specs.Disk.{IsSettled};
 
-use crate::JournalFault;
 use crate::frame::Frame;
 use crate::opening::{open_disk, records_of, reopen_disk};
 use crate::writing::append_record;
+use crate::{JournalFault, Payloads};
 use outside::Disk;
 use std::alloc::{AllocError, Global};
-use wire_core::Bytes;
 
 /// Whether records can be appended.
 #[derive(Clone, Copy, Debug, PartialEq, Eq)]
@@ -58,11 +57,11 @@ impl<D: Disk> Journal<D> {
     ghost use Rattle.gate_journal.specs.Growth.{Continues};
 
     /// Opens what is on a disk, which is fresh or a journal. Hands the disk back where it is refused.
-    pub fn open(alloc: Global, disk: D) -> Result<(Journal<D>, Vec<Bytes>), (JournalFault, D)>
-        ensures ok { IfOk result (λ r. (r.0.state ≡ Ready) × (IsTrue D.tells → (StandsFor r.1.items (D.seen disk)) × StandsFor r.1.items (D.seen r.0.disk))) }
+    pub fn open(alloc: Global, disk: D) -> Result<(Journal<D>, Payloads), (JournalFault, D)>
+        ensures ok { IfOk result (λ r. (r.0.state ≡ Ready) × (IsTrue D.tells → (StandsFor r.1 (D.seen disk)) × StandsFor r.1 (D.seen r.0.disk))) }
         ensures reads { IsTrue D.tells → IfOk result (λ r. D.image r.0.disk (D.seen r.0.disk)) }
-        ensures place { IfOk result (λ r. r.0.gate ≡ spans r.1.items) }
-        ensures limit { IfOk result (λ r. spans r.1.items ≤ 2 ^ 63) }
+        ensures place { IfOk result (λ r. r.0.gate ≡ spans r.1) }
+        ensures limit { IfOk result (λ r. spans r.1 ≤ 2 ^ 63) }
         ensures ok_any_moment { IsTrue D.tells → IfOk result (λ r. Throughout D.image D.since disk r.0.disk (IsOpened (D.image disk))) }
         ensures err { IfErr result (λ e. IsRefused D.tells (D.seen disk) (D.faults disk) (D.faults e.1) e.0) }
         ensures err_any_moment { IsTrue D.tells → IfErr result (λ e. Throughout D.image D.since disk e.1 (IsOpened (D.image disk))) }
@@ -93,10 +92,10 @@ impl<D: Disk> Journal<D> {
     }
 
     /// Reopens the disk, which takes one image of it, and reads that. Where it is refused the journal stays broken.
-    pub fn reopen(&mut self, alloc: Global) -> Result<Vec<Bytes>, JournalFault>
+    pub fn reopen(&mut self, alloc: Global) -> Result<Payloads, JournalFault>
         ensures ready { OnOk result (self.new.state ≡ Ready) }
-        ensures place { IfOk result (λ records. spans records.items ≤ 2 ^ 63) }
-        ensures records { IsTrue D.tells → IfOk result (λ records. StandsFor records.items (D.seen self.new.disk)) }
+        ensures place { IfOk result (λ records. spans records ≤ 2 ^ 63) }
+        ensures records { IsTrue D.tells → IfOk result (λ records. StandsFor records (D.seen self.new.disk)) }
         ensures broken { OnErr result (self.new.state ≡ Broken) }
         ensures err { IfErr result (λ e. IsRefusedAgain D.tells (D.image self.old.disk) (D.faults self.old.disk) (D.faults self.new.disk) e) }
         ensures any_moment { IsTrue D.tells → Throughout D.image D.since self.old.disk self.new.disk (IsOpened (D.image self.old.disk)) }
@@ -121,9 +120,9 @@ impl<D: Disk> Journal<D> {
     }
 
     /// The records of a disk's bytes as they read, with no changing call.
-    pub fn read_again(alloc: Global, disk: &mut D) -> Result<Vec<Bytes>, JournalFault>
-        ensures place { IfOk result (λ records. spans records.items ≤ 2 ^ 63) }
-        ensures records { IsTrue D.tells → IfOk result (λ records. StandsFor records.items (D.seen disk.old)) }
+    pub fn read_again(alloc: Global, disk: &mut D) -> Result<Payloads, JournalFault>
+        ensures place { IfOk result (λ records. spans records ≤ 2 ^ 63) }
+        ensures records { IsTrue D.tells → IfOk result (λ records. StandsFor records (D.seen disk.old)) }
         ensures err { IfErr result (λ e. IsRefused D.tells (D.seen disk.old) (D.faults disk.old) (D.faults disk.new) e) }
         ensures seen { IsTrue D.tells → D.seen disk.new ≡ D.seen disk.old }
         ensures any_moment { IsTrue D.tells → Throughout D.image D.since disk.old disk.new (D.image disk.old) }

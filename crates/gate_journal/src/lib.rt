@@ -10,6 +10,7 @@ ghost use Rattle.std.specs.Prelude.{◌<◌, ◌^◌, length};
 mod frame;
 mod journal;
 mod opening;
+mod payloads;
 mod reading;
 mod record;
 mod records;
@@ -18,6 +19,7 @@ mod writing;
 
 pub use frame::MAX_PAYLOAD;
 pub use journal::{AppendFault, Journal, JournalState};
+pub use payloads::{Payloads, Walk};
 pub use reading::JournalFault;
 pub use record::{Appends, Record};
 pub use records::RecordJournal;

@@ -8,12 +8,11 @@ ghost use Rattle.gate_journal.specs.Fault.{disk_failed};
 ghost use Rattle.gate_journal.specs.Gate.{StandsFor, spans};
 ghost use Rattle.gate_journal.specs.Opening.{IsOpened, IsRefused, IsRefusedAgain};
 
-use crate::JournalFault;
 use crate::reading::read_records;
 use crate::writing::write_and_sync;
+use crate::{JournalFault, Payloads};
 use outside::{Disk, DiskFault};
 use std::alloc::Global;
-use wire_core::Bytes;
 
 impl From<DiskFault> for JournalFault {
     ghost use Rattle.std.specs.Prelude.{◌≡◌};
@@ -48,11 +47,11 @@ pub fn read_disk<D: Disk>(alloc: Global, disk: &mut D) -> Result<Vec<u8>, Journa
 
 /// The records on a disk and the place of their closed gate, once they are all on it. The first call is a sync, so that no
 /// later stop can take back what is read. A fresh disk gets a closed gate.
-pub fn open_disk<D: Disk>(alloc: Global, disk: &mut D) -> Result<(Vec<Bytes>, u64), JournalFault>
-    ensures records { IsTrue D.tells → IfOk result (λ r. StandsFor r.0.items (D.seen disk.old) × StandsFor r.0.items (D.seen disk.new)) }
+pub fn open_disk<D: Disk>(alloc: Global, disk: &mut D) -> Result<(Payloads, u64), JournalFault>
+    ensures records { IsTrue D.tells → IfOk result (λ r. StandsFor r.0 (D.seen disk.old) × StandsFor r.0 (D.seen disk.new)) }
     ensures settled { IsTrue D.tells → IfOk result (λ r. IsSettled (D.seen disk.new) (D.image disk.new) r.1) }
     ensures limit { IfOk result (λ r. r.1 ≤ 2 ^ 63) }
-    ensures place { IfOk result (λ r. r.1 ≡ spans r.0.items) }
+    ensures place { IfOk result (λ r. r.1 ≡ spans r.0) }
     ensures up { IsTrue D.tells → OnOk result (D.is_down disk.new ≡ false) }
     ensures err { IfErr result (λ e. IsRefused D.tells (D.seen disk.old) (D.faults disk.old) (D.faults disk.new) e) }
     ensures any_moment { IsTrue D.tells → Throughout D.image D.since disk.old disk.new (IsOpened (D.image disk.old)) }
@@ -65,17 +64,17 @@ pub fn open_disk<D: Disk>(alloc: Global, disk: &mut D) -> Result<(Vec<Bytes>, u6
     let bytes = read_disk(alloc, disk)?;
     if bytes.len() <= 1 {
         write_and_sync(disk, 0, &[0])?;
-        return Ok((Vec::new(alloc), 0));
+        return Ok((Payloads::new(Vec::new(alloc)), 0));
     }
-    read_records(alloc, &bytes)
+    read_records(bytes)
 }
 
 /// The same of a disk that a stop left.
-pub fn reopen_disk<D: Disk>(alloc: Global, disk: &mut D) -> Result<(Vec<Bytes>, u64), JournalFault>
-    ensures records { IsTrue D.tells → IfOk result (λ r. StandsFor r.0.items (D.seen disk.new)) }
+pub fn reopen_disk<D: Disk>(alloc: Global, disk: &mut D) -> Result<(Payloads, u64), JournalFault>
+    ensures records { IsTrue D.tells → IfOk result (λ r. StandsFor r.0 (D.seen disk.new)) }
     ensures settled { IsTrue D.tells → IfOk result (λ r. IsSettled (D.seen disk.new) (D.image disk.new) r.1) }
     ensures limit { IfOk result (λ r. r.1 ≤ 2 ^ 63) }
-    ensures place { IfOk result (λ r. r.1 ≡ spans r.0.items) }
+    ensures place { IfOk result (λ r. r.1 ≡ spans r.0) }
     ensures up { IsTrue D.tells → OnOk result (D.is_down disk.new ≡ false) }
     ensures reads { IsTrue D.tells → OnOk result (D.image disk.new (D.seen disk.new)) }
     ensures err { IfErr result (λ e. IsRefusedAgain D.tells (D.image disk.old) (D.faults disk.old) (D.faults disk.new) e) }
@@ -89,9 +88,9 @@ pub fn reopen_disk<D: Disk>(alloc: Global, disk: &mut D) -> Result<(Vec<Bytes>, 
 }
 
 /// The records of the bytes as they read, with no changing call.
-pub fn records_of<D: Disk>(alloc: Global, disk: &mut D) -> Result<Vec<Bytes>, JournalFault>
-    ensures place { IfOk result (λ records. spans records.items ≤ 2 ^ 63) }
-    ensures records { IsTrue D.tells → IfOk result (λ records. StandsFor records.items (D.seen disk.old)) }
+pub fn records_of<D: Disk>(alloc: Global, disk: &mut D) -> Result<Payloads, JournalFault>
+    ensures place { IfOk result (λ records. spans records ≤ 2 ^ 63) }
+    ensures records { IsTrue D.tells → IfOk result (λ records. StandsFor records (D.seen disk.old)) }
     ensures err { IfErr result (λ e. IsRefused D.tells (D.seen disk.old) (D.faults disk.old) (D.faults disk.new) e) }
     ensures seen { IsTrue D.tells → D.seen disk.new ≡ D.seen disk.old }
     ensures any_moment { IsTrue D.tells → Throughout D.image D.since disk.old disk.new (D.image disk.old) }
@@ -100,8 +99,8 @@ pub fn records_of<D: Disk>(alloc: Global, disk: &mut D) -> Result<Vec<Bytes>, Jo
 {
     let bytes = read_disk(alloc, disk)?;
     if bytes.len() <= 1 {
-        return Ok(Vec::new(alloc));
+        return Ok(Payloads::new(Vec::new(alloc)));
     }
-    let (records, _) = read_records(alloc, &bytes)?;
+    let (records, _) = read_records(bytes)?;
     Ok(records)
 }

@@ -1,11 +1,10 @@
 // Reading a file of records by its gates.
-ghost use Rattle.std.specs.Prelude.{◌≡◌, ◌<◌, ◌≤◌, ◌^◌, true, false, length, take, drop, IfOk, IfErr, IfSome, IfNone, Ok};
-ghost use Rattle.gate_journal.specs.Gate.{record_size, is_whole, reading, spans};
+ghost use Rattle.std.specs.Prelude.{◌≡◌, ◌<◌, length, IfOk, IfErr, Ok};
+ghost use Rattle.gate_journal.specs.Gate.{reading, spans};
 ghost use Rattle.gate_journal.specs.Fault.{FailsAs};
 
-use crate::frame::MAX_PAYLOAD;
-use std::alloc::{AllocError, AllocFailed, Global};
-use wire_core::Bytes;
+use crate::payloads::{Payloads, Walk};
+use std::alloc::AllocError;
 
 /// The one value of an open gate. Every other counts as closed.
 pub const OPEN: u8 = 0xA5;
@@ -32,49 +31,21 @@ impl From<AllocError> for JournalFault {
     }
 }
 
-impl<T: Drop> From<AllocFailed<T>> for JournalFault {
-    ghost use Rattle.std.specs.Prelude.{◌≡◌};
-    ghost use Rattle.gate_journal.specs.declared.reading.JournalFault.TheVariants.{Memory};
-
-    ghost from_gives = { λ _ e. e ≡ Memory };
-
-    fn from(_: AllocFailed<T>) -> Self {
-        JournalFault::Memory
-    }
-}
-
-/// The payload of the whole record that the bytes begin with, if a gate stands behind it.
-fn whole_record(bytes: &[u8]) -> Option<&[u8]>
-    ensures some { IfSome result (λ payload. (is_whole bytes.now ≡ true) × (payload.now ≡ take (record_size bytes.now) (drop 4 bytes.now))) }
-    ensures none { IfNone result (is_whole bytes.now ≡ false) }
+#[tactic(auto, using(crate::proofs::Loop::within, crate::proofs::Loop::shut_there, crate::proofs::Loop::torn_there))]
+/// The payloads of a file that isn't fresh, and the place of its closed gate.
+pub fn read_records(bytes: Vec<u8>) -> Result<(Payloads, u64), JournalFault>
+    requires { 0 < length bytes.items }
+    ensures ok { IfOk result (λ r. (reading 0 0 bytes.items ≡ Ok (r.0, r.1)) × (r.1 < length bytes.items) × (r.1 ≡ spans r.0)) }
+    ensures err { IfErr result (λ e. FailsAs (reading 0 0 bytes.items) e) }
 {
-    if bytes.len() < 4 {
-        return None;
+    let mut gate = 0;
+    for payload in (Walk { rest: &bytes }) {
+        gate += 5 + payload.len();
     }
-    let (front, rest) = bytes.split_at(4);
-    let size = u32::from_be_bytes([front[0], front[1], front[2], front[3]]) as usize;
-    if size > MAX_PAYLOAD || rest.len() <= size {
-        return None;
+    if bytes[gate] == OPEN {
+        return Err(JournalFault::Damaged {
+            at: gate as u64 + 1,
+        });
     }
-    Some(&rest[..size])
-}
-
-/// The records of a file that isn't fresh, and the place of its closed gate.
-pub fn read_records(alloc: Global, bytes: &[u8]) -> Result<(Vec<Bytes>, u64), JournalFault>
-    requires { 0 < length bytes.now }
-    ensures ok { IfOk result (λ r. (reading 0 0 bytes.now ≡ Ok (r.0.items, r.1)) × (r.1 < length bytes.now) × (r.1 ≡ spans r.0.items)) }
-    ensures err { IfErr result (λ e. FailsAs (reading 0 0 bytes.now) e) }
-{
-    let mut records = Vec::new(alloc);
-    let mut at = 0;
-    while bytes[at] == OPEN {
-        match whole_record(&bytes[at + 1..]) {
-            None => return Err(JournalFault::Damaged { at: at as u64 + 1 }),
-            Some(payload) => {
-                records.push(Bytes::from_slice(alloc, payload)?)?;
-                at += 5 + payload.len();
-            }
-        }
-    }
-    Ok((records, at as u64))
+    Ok((Payloads::new(bytes), gate as u64))
 }

@@ -12,10 +12,9 @@ ghost use Rattle.gate_journal.specs.Opening.{IsOpened};
 ghost use Rattle.gate_journal.specs.Growth.{Continues};
 ghost use Rattle.gate_journal.specs.Records.{FailsAt, Keeps, KeepsOr, IsLeft, IsRefused, IsRefusedAgain};
 
-use crate::{AppendFault, Appends, Journal, JournalFault, Record};
+use crate::{AppendFault, Appends, Journal, JournalFault, Payloads, Record};
 use outside::Disk;
 use std::alloc::{AllocError, Global};
-use wire_core::Bytes;
 
 /// The records of one kind on a disk, and the value that they keep.
 ///
@@ -187,19 +186,19 @@ impl<D: Disk, R: Appends> RecordJournal<D, R> {
 }
 
 // The value that payloads keep, or the place of the first that is no next record.
-fn read_kept<R: Record>(alloc: Global, payloads: &[Bytes]) -> Result<R, JournalFault>
+#[tactic(auto, using(crate::proofs::Taking::taken))]
+fn read_kept<R: Record>(alloc: Global, payloads: &Payloads) -> Result<R, JournalFault>
     requires { spans payloads.now ≤ 2 ^ 63 }
     ensures kept { IfOk result (λ value. R.keeps (R.kept value) (Ok payloads.now)) }
     ensures err { IfErr result (FailsAt R.damaged payloads.now) }
 {
     let mut value = R::new(alloc)?;
     let mut place = 1;
-    for payload in payloads {
-        let bytes = payload.as_slice();
-        if !value.take(alloc, bytes)? {
+    for payload in payloads.iter() {
+        if !value.take(alloc, payload)? {
             return Err(JournalFault::Damaged { at: place });
         }
-        place += 5 + bytes.len() as u64;
+        place += 5 + payload.len() as u64;
     }
     Ok(value)
 }

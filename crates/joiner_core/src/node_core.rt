@@ -311,7 +311,7 @@ impl JoinerCore {
         }
     }
 
-    // The pair of a join in flight: a copy, since the join stays in flight until the turn is kept.
+    // The pair of a join in flight, which shares its texts, since the join stays in flight until the turn is kept.
     fn pair(&self, id: EventId, waiting: &Waiting) -> Result<PairRec, AllocError>
         requires { IsHeld (id, waiting.now) }
         ensures pair { IfOk result (λ pair. pair ≡ pair_of (flight_of id waiting.now)) }
@@ -321,9 +321,9 @@ impl JoinerCore {
             click: ClickRec {
                 id,
                 query: waiting.asked,
-                text: waiting.text.copy(self.alloc)?,
+                text: waiting.text.share()?,
             },
-            query: waiting.query.copy(self.alloc)?,
+            query: waiting.query.share()?,
             token: waiting.token,
         })
     }

@@ -1,6 +1,6 @@
 // Journals of any records.
 use crate::kinds::Kind;
-use gate_journal::{Journal, JournalFault, Payload};
+use gate_journal::{Journal, JournalFault, Payloads};
 use mem_outside::MemDisk;
 use script_lines::{Stop, Words};
 use std::alloc::Global;
@@ -9,7 +9,7 @@ use std::alloc::Global;
 #[derive(Drop)]
 pub struct Gates {
     journal: Journal<MemDisk>,
-    records: Vec<Payload>,
+    records: Payloads,
 }
 
 impl Kind for Gates {
@@ -22,9 +22,9 @@ impl Kind for Gates {
 
     fn told(&self, alloc: Global) -> Result<String, Stop> {
         let mut text = format!(in alloc; "records")?;
-        for record in &self.records {
+        for record in self.records.iter() {
             text.push_str(" ")?;
-            text.push_str(hex::encode(alloc, record.as_slice())?.as_str())?;
+            text.push_str(hex::encode(alloc, record)?.as_str())?;
         }
         Ok(text)
     }

@@ -101,7 +101,11 @@ fn copied_notes(alloc: Global, notes: &[ReplicaNote]) -> Result<Vec<ReplicaNote>
 fn copied_pairs(alloc: Global, pairs: &[PairRec]) -> Result<Vec<PairRec>, Stop> {
     let mut copies = Vec::new(alloc);
     for pair in pairs {
-        copies.push(pair.copy(alloc)?)?;
+        copies.push(PairRec {
+            click: pair.click.share()?,
+            query: pair.query.share()?,
+            token: pair.token,
+        })?;
     }
     Ok(copies)
 }

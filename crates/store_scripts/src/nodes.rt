@@ -158,8 +158,8 @@ fn fronts(alloc: Global, node: &mut Node, from: u16, bytes: &[u8]) -> Result<Str
 fn records_of(alloc: Global, disk: &mut MemDisk) -> Result<String, Stop> {
     let records = Journal::read_again(alloc, disk).map_err(|_| Stop::Words)?;
     let mut told = String::new(alloc);
-    for record in &records {
-        put_piece(&mut told, hex::encode(alloc, record.as_slice())?.as_str())?;
+    for record in records.iter() {
+        put_piece(&mut told, hex::encode(alloc, record)?.as_str())?;
     }
     Ok(format!(in alloc; "[{told}]")?)
 }

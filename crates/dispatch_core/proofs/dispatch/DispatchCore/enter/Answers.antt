@@ -13,7 +13,7 @@ returns-clause-turn c = λ g k l s here later.
     IfOk-weaker c.joining.result _ _
     (λ turn sends.
     as_out g core k l turn _ (takes g core.dealer.site k l (Some (record { place = line.position; end_ = line.end; click = line.click }))) (cond-false (has k.pending line.position) _ _ new)
-    (row_of g core k l turn (Take f) ((line.position, line.click) ∷ []) _ s.of_setting (subst (λ (x : Click). Sends core turn (Take f) ((line.position, x) ∷ [])) c.in_ok-copy.ensures sends) refl refl (entered_live l f line.position line.end line.click false e.position e.end e.click e.done)
+    (row_of g core k l turn (Take f) ((line.position, line.click) ∷ []) _ s.of_setting (subst (λ (x : Click). Sends core turn (Take f) ((line.position, x) ∷ [])) c.in_ok-shared.ensures sends) refl refl (entered_live l f line.position line.end line.click false e.position e.end e.click e.done)
     (s, e.position ∙ sym here, omega (arith, later, e.position, e.end))))
     c.joining.ensures
 

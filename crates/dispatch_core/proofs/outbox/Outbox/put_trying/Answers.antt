@@ -14,7 +14,7 @@ loop-position-preserved c = λ last rest.
     let step = c.in-Some.ensures.steps in
     let p = c.in-Some.position.now in
     let click = c.in-Some.click.now in
-    let put = subst (λ (x : Click). Puts c.loop-position.self c.put.new.self ((p, x) ∷ [])) c.in_ok-copy.ensures c.in_ok-put.ensures in
+    let put = subst (λ (x : Click). Puts c.loop-position.self c.put.new.self ((p, x) ∷ [])) c.in_ok-share.ensures c.in_ok-put.ensures in
     let more = puts_more c.loop-position.self c.put.new.self last ((p, click) ∷ []) (zip (iter_rest after.a) (iter_rest after.b)) put rest in
     c.loop-position.invariant last (subst (λ (js : List (ℕ × Click)). Puts c.loop-position.self last js) (λ i. zip (sym step.0 i) (sym step.1 i)) more)
 
