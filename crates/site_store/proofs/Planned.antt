@@ -33,9 +33,9 @@ module _ {S : Type 0} (stops : S → DiskName → ℕ → Bool) (made : S → Di
   none_soon store name.Topology none soon = soon none
   none_soon store _ none s = none s.0 s.1 s.3
 
-  same_soon : (old new : S) (disk : DiskName) → ((n : ℕ) → stops new disk n ≡ stops old disk n) → made new disk ≡ made old disk → HasSoon stops made new disk → HasSoon stops made old disk
-  same_soon old new name.Topology same at soon = λ none. soon (same_left 0 _ _ _ _ same at none)
-  same_soon old new _ same at s = (s.0, omega (arith, at, s.1), omega (arith, at, s.2), rw (same s.0) at s.3)
+  same_soon : (old new : S) (disk : DiskName) → ((n : ℕ) → stops new disk n ≡ stops old disk n) × (made new disk ≡ made old disk) → HasSoon stops made new disk → HasSoon stops made old disk
+  same_soon old new name.Topology (same, at) soon = λ none. soon (same_left 0 _ _ _ _ same at none)
+  same_soon old new _ (same, at) s = (s.0, omega (arith, at, s.1), omega (arith, at, s.2), rw (same s.0) at s.3)
 
   -- where none is planned no fault was met
   pub calm_by_plan : (old new : S) → ((disk : DiskName) → Left stops made old disk 0) → (f : RunFault) → IsByPlan stops made faults old new f → faults new ≡ faults old
@@ -53,11 +53,11 @@ module _ {S : Type 0} (stops : S → DiskName → ℕ → Bool) (made : S → Di
 
   -- one of some disks wasn't opened, whose plans were the same in an earlier store
   pub early_on : (old mid inside new : S) (tells : Bool) (before : DiskName → List ℕ → Type 0) (first last : ℕ) (P : DiskName → Type 0) (f : RunFault) → IsUnopened tells before first last P f
-      → ((disk : DiskName) → P disk → (n : ℕ) → stops mid disk n ≡ stops old disk n) → ((disk : DiskName) → P disk → made mid disk ≡ made old disk) → faults mid ≡ faults old → faults new ≡ faults inside
+      → ((disk : DiskName) → P disk → ((n : ℕ) → stops mid disk n ≡ stops old disk n) × (made mid disk ≡ made old disk)) → faults mid ≡ faults old → faults new ≡ faults inside
       → IsByPlan stops made faults mid inside f → IsByPlan stops made faults old new f
-  early_on old mid inside new tells before first last P (fault.Store (place.Disk disk)) is same at still calm by = same_soon old mid disk (same disk is.0) (at disk is.0) by
-  early_on old mid inside new tells before first last P (fault.Store _) is same at still calm by = absurd by
-  early_on old mid inside new tells before first last P _ is same at still calm by = calm ∙ by ∙ still
+  early_on old mid inside new tells before first last P (fault.Store (place.Disk disk)) is same still calm by = same_soon old mid disk (same disk is.0) by
+  early_on old mid inside new tells before first last P (fault.Store _) is same still calm by = absurd by
+  early_on old mid inside new tells before first last P _ is same still calm by = calm ∙ by ∙ still
 
   -- what was opened can't be run or read, and is given back
   pub unfit_early : (old new : S) (asked : Option Topology) (told : List KeptDisk → Option Misplaced → Type 0) (rose : Type 0) (k : KeptValues) (f : RunFault) → IsUnfit asked told rose k f → faults new ≡ faults old
@@ -85,9 +85,6 @@ module _ {D : Type 0} (stops : D → ℕ → Bool) (made faults : D → ℕ) whe
 
 -- ---- disks of a store
 
-lacks_apart : {D : Type 0} (xs ys : List (Lent D)) (name : DiskName) → Lacks (xs ++ ys) name → Lacks xs name × Lacks ys name
-lacks_apart {D} xs ys name lacks = (each_front (λ (l : Lent D). l.name ≢ name) xs ys lacks, each_back (λ (l : Lent D). l.name ≢ name) xs ys lacks)
-
 module _ {D S : Type 0} (d : disk.Ghosts D) (s : store.Ghosts S D) where
   abbrev Taken : (before after : S) → List (Lent D) → Type 0
   Taken = AreAsPlanned d s
@@ -96,7 +93,7 @@ module _ {D S : Type 0} (d : disk.Ghosts D) (s : store.Ghosts S D) where
   Planned before l = IsAsPlanned d.stops d.made d.faults (Left s.stops s.made before l.name) l.disk
 
   pub none_taken : (store : S) → Taken store store []
-  none_taken store = record { out = tt; others = λ name lacks n. refl; stand = λ name lacks. refl; still = refl }
+  none_taken store = record { out = tt; others = λ name lacks. ((λ n. refl), refl); still = refl }
 
   -- one disk
   module _ (before : S) (name : DiskName) (disk : D) (same : (n : ℕ) → d.stops disk n ≡ s.stops before name n) (at : d.made disk ≡ s.made before name) (none : d.faults disk ≡ 0) where
@@ -104,8 +101,7 @@ module _ {D S : Type 0} (d : disk.Ghosts D) (s : store.Ghosts S D) where
         → s.faults after ≡ s.faults before → Taken before after (record { name = name; disk = disk } ∷ [])
     one_taken after stay stand still = record {
       out = (record { most = λ k here. same_left k (s.stops before name) (d.stops disk) (s.made before name) (d.made disk) same at here; calm = none }, tt);
-      others = λ other lacks. stay other (λ e. lacks.0 (sym e));
-      stand = λ other lacks. stand other (λ e. lacks.0 (sym e));
+      others = λ other lacks. (stay other (λ e. lacks.0 (sym e)), stand other (λ e. lacks.0 (sym e)));
       still = still;
     }
 
@@ -129,24 +125,18 @@ module _ {D S : Type 0} (d : disk.Ghosts D) (s : store.Ghosts S D) where
       so.out.1,
     );
     others = λ other lacks. so.others other ((λ e. lacks.0 (named ∙ e)), lacks.1);
-    stand = λ other lacks. so.stand other ((λ e. lacks.0 (named ∙ e)), lacks.1);
     still = so.still;
   }
 
   -- the same disk under the same name
   pub taken_as : (before after : S) (x y : Lent D) → x.name ≡ y.name → x.disk ≡ y.disk → Taken before after (x ∷ []) → Taken before after (y ∷ [])
-  taken_as before after x y named same so = record {
-    out = (subst (IsAsPlanned d.stops d.made d.faults (Left s.stops s.made before y.name)) same (subst (λ (n : DiskName). IsAsPlanned d.stops d.made d.faults (Left s.stops s.made before n) x.disk) named so.out.0), tt);
-    others = λ other lacks. so.others other ((λ e. lacks.0 (sym named ∙ e)), tt);
-    stand = λ other lacks. so.stand other ((λ e. lacks.0 (sym named ∙ e)), tt);
-    still = so.still;
-  }
+  taken_as before after x y named same so = subst (λ (l : Lent D). Taken before after (l ∷ [])) (λ i. record { name = named i; disk = same i }) so
 
   moved : (before mid : S) (xs : List (Lent D)) → Taken before mid xs → (ys : List (Lent D)) → Each (λ y. Lacks xs y.name) ys → Each (Planned mid) ys → Each (Planned before) ys
   moved before mid xs so [] apart out = tt
   moved before mid xs so (y ∷ ys) apart out = (
     record {
-      most = λ k here. out.0.most k (same_left k (s.stops before y.name) (s.stops mid y.name) (s.made before y.name) (s.made mid y.name) (so.others y.name apart.0) (so.stand y.name apart.0) here);
+      most = λ k here. out.0.most k (same_left k (s.stops before y.name) (s.stops mid y.name) (s.made before y.name) (s.made mid y.name) (so.others y.name apart.0).0 (so.others y.name apart.0).1 here);
       calm = out.0.calm;
     },
     moved before mid xs so ys apart.1 out.1,
@@ -156,7 +146,10 @@ module _ {D S : Type 0} (d : disk.Ghosts D) (s : store.Ghosts S D) where
   pub taken_on : (before mid after : S) (xs ys : List (Lent D)) → Taken before mid xs → Each (λ y. Lacks xs y.name) ys → Taken mid after ys → Taken before after (xs ++ ys)
   taken_on before mid after xs ys first apart next = record {
     out = each_both (Planned before) xs ys first.out (moved before mid xs first ys apart next.out);
-    others = λ name lacks n. (let away = lacks_apart xs ys name lacks in next.others name away.1 n ∙ first.others name away.0 n);
-    stand = λ name lacks. (let away = lacks_apart xs ys name lacks in next.stand name away.1 ∙ first.stand name away.0);
+    others = λ name lacks. (
+        let a = first.others name (each_front (λ (l : Lent D). l.name ≢ name) xs ys lacks) in
+        let b = next.others name (each_back (λ (l : Lent D). l.name ≢ name) xs ys lacks) in
+        ((λ n. b.0 n ∙ a.0 n), b.1 ∙ a.1)
+        );
     still = next.still ∙ first.still;
   }

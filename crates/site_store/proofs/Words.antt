@@ -2,12 +2,11 @@
 pub use Rattle.dispatch_node.specs.Places.{AreKeptPlaces, IsLogOf}
 pub use Rattle.epoch_journal.specs.Epochs.{epoch_of}
 pub use Rattle.gate_journal.proofs.Growth.{continues_opened, continues_same, continues_through}
-pub use Rattle.gate_journal.specs.Fold.{folds_to, kept_after, read_as}
+pub use Rattle.gate_journal.specs.Fold.{read_as}
 pub use Rattle.gate_journal.specs.Gate.{StandsFor, gate_rule}
-pub use Rattle.gate_journal.specs.Growth.{Continues, Extends}
+pub use Rattle.gate_journal.specs.Growth.{Continues}
 pub use Rattle.gate_journal.specs.Images.{GoesOn, IsKeptIn, StaysAs}
 pub use Rattle.gate_journal.specs.Opening.{IsOpened}
-pub use Rattle.gate_journal.specs.Records.{Read}
 pub use Rattle.gate_journal.specs.declared.reading.JournalFault.{JournalFault}
 pub use Rattle.gate_journal.specs.declared.reading.JournalFault.TheVariants.{Damaged, Disk, Memory}
 pub use Rattle.list_words.proofs.Lists.{clash, each_append, each_more, mem_left, mem_right, mem_split, none_some, some_same}
@@ -73,13 +72,10 @@ pub use Rattle.std.proofs.Math.ListN.{get_or-append, set}
 pub use Rattle.std.proofs.lemmas.Bool.{cases_lt, eq-eqb, eqb-true, le-ltb, lt-ltb, or_cases, or_left, or_right}
 pub use Rattle.std.proofs.lemmas.Bool.Decides.{eqb_tells}
 pub use Rattle.std.proofs.lemmas.List.{drop_more, get_or-append-add, get_or-drop, get_or-take, get_or_past, length-append, length-take, map-append, take-append-drop, take-append-le, take_more}
-pub use Rattle.std.proofs.lemmas.List.Elements.{All-cons, All-head, All-nil, All-tail, filter-append}
-pub use Rattle.std.specs.Bool.{⊤}
+pub use Rattle.std.proofs.lemmas.List.Elements.{All-cons, All-nil, filter-append}
 pub use Rattle.std.specs.List.{AllByRecursion, filter, list_any}
 pub use Rattle.std.specs.Vec.Iter.{into_iter_items, into_iter_len}
-pub use Rattle.time_shards.specs.declared.TheConstants.{MOST_JOINERS}
-pub use Rattle.topology_journal.proofs.Standing.{kept_is}
-pub use Rattle.topology_journal.specs.Topologies.{IsTopology, Keeps, next_topology, topologies}
+pub use Rattle.topology_journal.specs.Topologies.{IsTopology, Keeps, topologies}
 pub use Rattle.topology_journal.specs.declared.topology.Topology.{Topology}
 pub use Rattle.turn_defs.specs.Joiner.{JoinerKept}
 pub use Rattle.turn_defs.specs.Replica.{ReplicaKept}

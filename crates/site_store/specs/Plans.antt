@@ -42,6 +42,5 @@ module _ {D : Type 0} (stops : D → ℕ → Bool) (made faults : D → ℕ) whe
 -- fault was met.
 pub record AreAsPlanned {D S : Type 0} (d : disk.Ghosts D) (s : store.Ghosts S D) (before after : S) (lent : List (Lent D)) : Type 0 where
   pub out : AllAsPlanned d.stops d.made d.faults (Left s.stops s.made before) lent
-  pub others : (name : DiskName) → Lacks lent name → (n : ℕ) → s.stops after name n ≡ s.stops before name n
-  pub stand : (name : DiskName) → Lacks lent name → s.made after name ≡ s.made before name
+  pub others : (name : DiskName) → Lacks lent name → ((n : ℕ) → s.stops after name n ≡ s.stops before name n) × (s.made after name ≡ s.made before name)
   pub still : s.faults after ≡ s.faults before

@@ -87,7 +87,7 @@ returns-in-Err-clause-early g c planned =
     let apart = λ (disk : DiskName) (first : IsFirst d.tells (s.image mid) names disk). first_other d.tells (s.image mid) name.Topology names disk (not_topology c.joiners_of.result c.args.replicas) first in
     let met = ap d.faults (c.into_disk.ensures ∙ sym c.into_topology-topology.ensures.disk) ∙ plan.out.0.calm in
     early_on s.stops s.made s.faults c.args.store.now mid c.open_others.new.store c.give.new.self d.tells (s.image mid) _ _ (IsFirst d.tells (s.image mid) names) c.in-Err.fault c.in-Err.ensures.first
-    (λ disk first. plan.others disk ((λ e. apart disk first (sym e ∙ one.name)), tt)) (λ disk first. plan.stand disk ((λ e. apart disk first (sym e ∙ one.name)), tt)) plan.still (none_added _ _ _ c.give.ensures.count met) (c.in-Err.ensures.early planned)
+    (λ disk first. plan.others disk ((λ e. apart disk first (sym e ∙ one.name)), tt)) plan.still (none_added _ _ _ c.give.ensures.count met) (c.in-Err.ensures.early planned)
 
 pub returns-in_err-open_one-clause-early : goal.returns-in_err-open_one-clause-early
 returns-in_err-open_one-clause-early g c planned =

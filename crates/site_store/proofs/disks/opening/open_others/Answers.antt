@@ -103,5 +103,5 @@ returns-in-Err-clause-early g c planned =
     let apart = subst (EachPair (λ one other. one ≢ other)) (sym c.in-Ok.ensures) (others_apart c.args.joiners c.args.replicas) in
     let lacks : Lacks (lent_all items) name = subst (Lacks (lent_all items)) (sym is) (lacks_next names i name items apart inv.names lt) in
     early_on s.stops s.made s.faults c.args.store.now c.loop-i.store c.open_one.new.store c.give_each.new.store d.tells (s.image c.loop-i.store) _ _ (λ (disk : DiskName). disk ≡ name) c.in-Err.fault c.in-Err.ensures.err
-    (λ disk named. plan.others disk (subst (Lacks (lent_all items)) (sym named) lacks)) (λ disk named. plan.stand disk (subst (Lacks (lent_all items)) (sym named) lacks)) plan.still
+    (λ disk named. plan.others disk (subst (Lacks (lent_all items)) (sym named) lacks)) plan.still
     (c.give_each.ensures.calm (each_calm d.stops d.made d.faults (Left s.stops s.made c.args.store.now) (lent_all items) plan.out)) (c.in-Err.ensures.early planned)
