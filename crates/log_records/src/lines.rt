@@ -13,7 +13,7 @@ use std::alloc::Global;
 /// The longest line, without its line feed.
 pub const MAX_LINE: usize = 296;
 
-/// Reads a line of the query log, without its line feed. Copies its text, in one allocation.
+/// Reads a line of the query log, without its line feed. Copies its text.
 pub fn read_query(alloc: Global, line: &[u8]) -> Result<QueryRec, Why>
     // What is read is spelled so.
     ensures found { IfOk result (λ q. IsQuery q × (line.now ≡ query_line q)) }
@@ -25,7 +25,7 @@ pub fn read_query(alloc: Global, line: &[u8]) -> Result<QueryRec, Why>
     query_of(alloc, line)
 }
 
-/// Reads a line of the click log, without its line feed. Copies its text, in one allocation.
+/// Reads a line of the click log, without its line feed. Copies its text.
 pub fn read_click(alloc: Global, line: &[u8]) -> Result<ClickRec, Why>
     ensures found { IfOk result (λ c. IsClick c × (line.now ≡ click_line c)) }
     ensures only { (c : Click) → IsClick c → line.now ≡ click_line c → MatchResult result (λ r. r ≡ c) (λ why. why ≡ Why.Memory) }

@@ -17,7 +17,7 @@ use wire_core::Bytes;
 // The longest spelling, a click's.
 const LONGEST: usize = 33 + MAX_TEXT;
 
-/// The length in a byte, up to `MAX_TEXT`, and so many printable bytes. Reading copies the text, in one allocation.
+/// The length in a byte, up to `MAX_TEXT`, and so many printable bytes. Reading copies the text.
 #[tactic(auto, using(crate::proofs::Counts::text_apart, crate::proofs::Counts::some_text))]
 impl Field for Text {
     ghost spelled = { text };
@@ -44,7 +44,7 @@ impl Field for Text {
     fn some_value() {}
 }
 
-/// The id and the text. Reading copies the text, in one allocation.
+/// The id and the text. Reading copies the text.
 #[tactic(auto, using(crate::proofs::Made::query_bad, crate::proofs::Made::query_apart, crate::proofs::Made::some_query))]
 impl Field for QueryRec {
     ghost spelled = { query };
@@ -68,7 +68,7 @@ impl Field for QueryRec {
     fn some_value() {}
 }
 
-/// The click's id, its query's, and the text. Reading copies the text, in one allocation.
+/// The click's id, its query's, and the text. Reading copies the text.
 #[tactic(auto, using(crate::proofs::Made::click_bad, crate::proofs::Made::click_apart, crate::proofs::Made::some_click))]
 impl Field for ClickRec {
     ghost spelled = { click };
