@@ -1,6 +1,7 @@
 // A proposal of Paxos.
 use ballot_core::Ballot;
-use paxos_proposer::{MOST_REPLICAS, Proposer};
+use paxos_defs::MOST_REPLICAS;
+use paxos_proposer::Proposer;
 use registry_state::Batch;
 use script_lines::texts::{ballot, batch, told_batch};
 use script_lines::{Part, Stop, Words, number_of};

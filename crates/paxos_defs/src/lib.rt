@@ -4,6 +4,9 @@
 
 pub mod laws;
 
+/// How many replicas there may be.
+pub const MOST_REPLICAS: u8 = 5;
+
 /// A slot of a shard's sequence of values. One instance of Paxos decides each place.
 #[derive(Clone, Copy, Debug, PartialEq, Eq, Hash)]
 pub struct Place {

@@ -4,7 +4,7 @@ use Rattle.std.specs.Prelude.{count_by, nat_lt}
 use Rattle.std.proofs.lemmas.List.{take-replicate, length-set}
 use Rattle.std.proofs.Math.Seq.{take-set-lt}
 use Rattle.paxos_defs.specs.Attempts.{nobody, is_most, is_new}
-use Rattle.paxos_proposer.specs.declared.TheConstants.{MOST_REPLICAS}
+use Rattle.paxos_defs.specs.declared.TheConstants.{MOST_REPLICAS}
 use Rattle.paxos_proposer.proofs.Counts.{most_by}
 
 -- a member that hasn't answered is a member

@@ -5,6 +5,3 @@ mod proposer;
 mod tally;
 
 pub use proposer::Proposer;
-
-/// How many replicas there may be.
-pub const MOST_REPLICAS: u8 = 5;

@@ -5,7 +5,7 @@ ghost use Rattle.registry_state.specs.declared.Batch.{Batch as Value};
 ghost use Rattle.paxos_defs.specs.Attempts.{nobody};
 ghost use Rattle.paxos_defs.specs.Attempts.Phase.{Promising, Accepting, Ended};
 ghost use Rattle.paxos_defs.specs.Turns.{value_for};
-ghost use Rattle.paxos_proposer.specs.declared.TheConstants.{MOST_REPLICAS};
+ghost use Rattle.paxos_defs.specs.declared.TheConstants.{MOST_REPLICAS};
 ghost use Rattle.paxos_proposer.specs.Proposals.{slot_of, ballot_of, own_of, value_of, phase_of, prior_of, promise_turn, acceptance_turn, IsSameProposal, IsAccepting, IsLastPromise, IsLastAcceptance};
 
 use crate::tally::Tally;

@@ -3,10 +3,10 @@
 ghost use Rattle.std.specs.Prelude.{◌≡◌, ◌≤◌, true, IsTrue, length, set, count_by};
 ghost use Rattle.paxos_defs.specs.Attempts.{nobody, is_most};
 ghost use Rattle.paxos_defs.specs.Attempts as attempts;
-ghost use Rattle.paxos_proposer.specs.declared.TheConstants.{MOST_REPLICAS};
+ghost use Rattle.paxos_defs.specs.declared.TheConstants.{MOST_REPLICAS};
 
-use crate::MOST_REPLICAS;
 use ballot_core::is_majority;
+use paxos_defs::MOST_REPLICAS;
 use std::marker::Model;
 
 // A mark for each of the replicas.
@@ -18,7 +18,7 @@ pub struct Tally {
 
 impl Model for Tally {
     ghost use Rattle.std.specs.Prelude.{◌≤◌, List, Bool, take};
-    ghost use Rattle.paxos_proposer.specs.declared.TheConstants.{MOST_REPLICAS};
+    ghost use Rattle.paxos_defs.specs.declared.TheConstants.{MOST_REPLICAS};
 
     ghost Value = { List Bool };
 

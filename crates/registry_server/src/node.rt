@@ -2,7 +2,7 @@
 ghost use Rattle.std.specs.Prelude.{◌≡◌, ◌≤◌, true, false, None, ◌<◌, Some, Option, option_map, List, ℕ, is_some, is_err, IsTrue, IfOk, IfErr, OnOk, OnErr, OnSome, IsErrOf, ◌+◌};
 ghost use Rattle.registry_state.specs.declared.TheConstants.{MOST_INSERTS};
 ghost use Rattle.ballot_core.specs.declared.TheConstants.{LAST_EPOCH};
-ghost use Rattle.paxos_proposer.specs.declared.TheConstants.{MOST_REPLICAS};
+ghost use Rattle.paxos_defs.specs.declared.TheConstants.{MOST_REPLICAS};
 ghost use Rattle.gate_journal.specs.declared.journal.JournalState.TheVariants.{Ready};
 ghost use Rattle.gate_journal.specs.Disk.{HasRoom};
 ghost use Rattle.registry_server.specs.Registrars.{MayRaise, SiteKept, Knows, IsNextNote, IsRow, Makes, server_rows};

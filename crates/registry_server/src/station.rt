@@ -1,7 +1,7 @@
 // What is fixed for a server.
 ghost use Rattle.std.specs.Prelude.{◌≡◌, ◌≤◌};
 ghost use Rattle.registry_state.specs.declared.TheConstants.{MOST_INSERTS};
-ghost use Rattle.paxos_proposer.specs.declared.TheConstants.{MOST_REPLICAS};
+ghost use Rattle.paxos_defs.specs.declared.TheConstants.{MOST_REPLICAS};
 ghost use Rattle.turn_defs.specs.Setting.{Setting};
 ghost use Rattle.turn_defs.specs.Configs.{IsOf};
 ghost use Rattle.turn_defs.specs.Server.{is_own_joiner};

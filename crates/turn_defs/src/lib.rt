@@ -11,7 +11,7 @@ mod packet;
 mod pair;
 
 pub use config::Config;
-pub use limits::{FIRST_JOINER, LAST_SLOT, MOST_FLIGHTS, WINDOW};
+pub use limits::{LAST_SLOT, MOST_FLIGHTS, WINDOW};
 pub use node::{Input, Node, To};
 pub use packet::{Outcome, Packet};
 pub use pair::PairRec;
