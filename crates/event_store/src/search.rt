@@ -21,7 +21,7 @@ use std::alloc::Global;
 use tail_reader::Tail;
 
 // Of how many lines from the one that was found by the index the places are kept at hand.
-const AHEAD: u32 = 64;
+const AHEAD: u32 = 32;
 
 /// The first record with the id among the lines that end at or before the place. The tail stands anywhere afterwards.
 pub(crate) fn look<L: LogFile>(
