@@ -1,7 +1,7 @@
 -- What a run that has come to rest gives the report, and the setting that it is of.
 use Rattle.std.specs.Prelude.{Ok}
 use Rattle.std.proofs.Common.{◌≡◌, ℕ, suc, ◌+◌, List, [], ◌∷◌, map, Option, Some, None, refl, sym, ap, ◌∙◌, length, subst}
-use Rattle.photon_cli.proofs.Words.{REPLICAS, Config, IfSome, IsSomeAnd, PlanView, AreLinesBy, Images, IsSoundStore, IsTable, Joins, JoinsAfresh, LeavesNothing, RanAfresh, ReportLine, RestJoins, RestJoinsAfresh, RestLeft, RestRanAfresh, RunLeft, RunLog, RunOutcome, RunsOver, ShardRow, distinct, line_of, only_table, EventId, QueryRec, ClickRec, IsQueryLog, IsClickLog, click_line, ClickLine, placed, end_from, lines_follow, Setting, Checked, IsLogOf, IsSettingOf, Values, EndsAt, AreLogs, HasIds, HaveIds, IsAsked, IsHeardOf, IsHistory, config_of, IsTextOf}
+use Rattle.photon_cli.proofs.Words.{REPLICAS, Config, IfSome, IsSomeAnd, PlanView, AreLinesBy, Images, IsSoundStore, IsTable, Joins, JoinsAfresh, LeavesNothing, RanAfresh, ReportLine, RestJoins, RestJoinsAfresh, RestLeft, RestRanAfresh, RunLeft, RunLog, RunOutcome, RunsOver, ShardRow, distinct, line_of, only_table, EventId, QueryRec, ClickRec, IsQueryLog, IsClickLog, click_line, ClickLine, placed, end_from, lines_follow, Setting, Checked, IsLogOf, IsSettingOf, Values, EndsAt, AreLogs, AreValid, HasIds, HaveIds, IsAsked, IsHeardOf, IsHistory, config_of, IsTextOf}
 use Rattle.photon_cli.proofs.Refusals.{within}
 
 pub taken : {A : Type 0} (o : Option A) (P : A → Type 0) → IsSomeAnd o P → (x : A) × P x
@@ -67,6 +67,10 @@ is_asked told v table qs cs text logs = record {
     ends = refl;
   };
 }
+
+-- two valid logs and a table give it
+pub setting_there : (told : List ℕ → Option (List ℕ)) (v : Values) (table : List ShardRow) → IsTextOf v.nodes.shards table → AreValid told v.queries v.clicks → (g : Setting) × IsAsked told v g
+setting_there told v table text (qs, cs, logs) = (setting_of v table qs cs, is_asked told v table qs cs text logs)
 
 pub ends_there : (o : Option (List ℕ)) (g : Setting) (end_ : ℕ) → IsSomeAnd o (λ log. IsLogOf log g) → IsSomeAnd o (λ log. EndsAt log end_) → end_ ≡ end_from 0 g.clicks
 ends_there None g end_ h k = absurd h

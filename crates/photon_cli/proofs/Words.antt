@@ -58,7 +58,7 @@ pub use Rattle.photon_cli.specs.Bulk.{IsBulkRun, IsBulkSetting, bulk_plan}
 pub use Rattle.photon_cli.specs.Causes.{CanBeRead, HasCauseInVerify, IsOverLog, unasked}
 pub use Rattle.photon_cli.specs.CheckedLogs.{AreLines, EndsAt, IsChecked, kept}
 pub use Rattle.photon_cli.specs.Drill.{Drills, IsBadIn, IsDrilled}
-pub use Rattle.photon_cli.specs.Ends.{BulkEnds, DrillEnds, Ends, JoinEnds, VerifyEnds}
+pub use Rattle.photon_cli.specs.Ends.{AreObeyed, BulkEnds, DrillEnds, Ends, JoinEnds, VerifyEnds}
 pub use Rattle.photon_cli.specs.Faults.{words_status}
 pub use Rattle.photon_cli.specs.Join.{AreLogs, AreValid, BeginsJoin, HasIds, HaveIds, IsAsked, IsHeardOf, IsHistory, IsInvalid, Refuses, config_of, no_plan}
 pub use Rattle.photon_cli.specs.LogFaults.{IsBeforeLogs, IsEarly, IsFailedRead, IsLogFault, IsOfBulk, IsOfDrill, IsOfJoin, IsOfLogs, IsOfPlanOrLogs, IsOfRun, IsOfVerify, IsPast, IsPlanFault, IsRowFault, failed_read, refusal, refusal_of}

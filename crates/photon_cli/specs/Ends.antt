@@ -21,11 +21,11 @@ use Rattle.photon_cli.specs.Causes.{AreMisplaced, CanBeRead, IsAtLimit, IsBelowL
 use Rattle.run_fault.specs.Faults.{status_of}
 use Rattle.photon_cli.specs.Bulk.{BeginsBulk, IsBulkRun, PrintsTotals, PrintsTotalsPrefix}
 use Rattle.photon_cli.specs.Drill.{BeginsDrill, HasDrilled, IsBadIn, IsPlanIn, PrintsDrill, PrintsDrillPrefix}
-use Rattle.photon_cli.specs.Join.{BeginsJoin, HasRun, IsAsked, IsHistory, IsInvalid, Prints, PrintsAfresh, PrintsPrefix, Refuses, no_plan}
+use Rattle.photon_cli.specs.Join.{AreValid, BeginsJoin, HasRun, IsAsked, IsHistory, IsInvalid, Prints, PrintsAfresh, PrintsPrefix, Refuses, no_plan}
 use Rattle.photon_cli.specs.Reshard.{ReshardEnds}
 use Rattle.photon_cli.specs.Told.{IsNamedInBulk, IsNamedInDrill, IsToldOf, IsToldOfVerify, TellsBy}
 use Rattle.photon_cli.specs.Verify.{IsReadable, IsUnreadable, PrintsKept, PrintsKeptPrefix}
-use Rattle.photon_cli.specs.Words.{HasTable, IsTextOf}
+use Rattle.photon_cli.specs.Words.{ArePlain, AreReadAs, AreRefused, HasTable, IsTextOf}
 use Rattle.photon_cli.specs.declared.engine.run.TheConstants.{REPLICAS}
 
 -- Either it ended before all that comes before a run was found fit, and this is untouched; or it was, and the status is neither 2 nor 3.
@@ -170,3 +170,16 @@ module _ (logs sinks disks : Bool) (told : List ℕ → Option (List ℕ)) (file
   Ends (a_verification clicks state) = VerifyEnds logs sinks told files output errors old new err_old err_new status clicks same disks before after faulted × unrun
   Ends (a_bulk_run v) = BulkEnds sinks output errors old new err_old err_new status v ran unrun × same
   Ends (a_resharding state row) = ReshardEnds sinks output errors old new err_old err_new status row same disks before after faulted × unrun
+
+  -- How a call with these words ends. Kept says that the logs and the output are as they were.
+  pub record AreObeyed (words : List Text) (kept : Type 0) : Type 0 where
+    -- The words are refused, which is 2, or they are read as one of the commands, or memory runs out, 8. Where they are refused nothing
+    -- is touched but the standard error. Plain words are read as they stand.
+    pub read : (AreRefused words × (status ≡ 2)) ⊎ (((w : Wish) × AreReadAs words w) ⊎ (status ≡ 8))
+    pub refused : AreRefused words → (status ≡ 2) ⊎ (status ≡ 8)
+    pub untouched : AreRefused words → kept × same × unrun
+    pub plain : (w : Wish) → ArePlain words w → AreReadAs words w
+    -- whatever the words are read as, it ends so
+    pub ends : (w : Wish) → AreReadAs words w → Ends w
+    -- where the shards' text is a table's and both logs are valid, there is a setting that the values ask for
+    pub setting : (v : Values) (table : List ShardRow) → IsTextOf v.nodes.shards table → AreValid told v.queries v.clicks → (g : Setting) × IsAsked told v g
