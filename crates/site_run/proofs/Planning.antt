@@ -1,19 +1,26 @@
 -- A run by the stops that are planned for the disks of its nodes.
-use Rattle.std.specs.Prelude.{IfSome}
-use Rattle.std.proofs.Common.{◌≡◌, ℕ, zero, suc, ◌+◌, ◌-◌, ◌<◌, ◌≤◌, Bool, false, List, [], ◌∷◌, length, map, Option, None, Some, slice_index_or, refl, sym, ◌∙◌, ap, subst, arith}
+use Rattle.std.specs.Prelude.{IfErr, IfSome, IsTrue, Result}
+use Rattle.std.specs.List.{All}
+use Rattle.std.proofs.Common.{◌≡◌, ◌≢◌, ℕ, ◌+◌, ◌-◌, ◌<◌, ◌≤◌, Bool, false, List, [], ◌∷◌, length, map, Option, None, Some, slice_index_or, refl, sym, ◌∙◌, ap, subst, arith}
 use Rattle.outside.specs.Plans.{AtMost}
 use Rattle.outside.specs.declared.store.DiskName.{DiskName}
 use Rattle.outside.specs.declared.store.DiskName.TheVariants as name
-use Rattle.site_store.specs.Plans.{AllAsPlanned, IsAsPlanned}
-use Rattle.site_store.proofs.Lending.{each_front, each_back, each_both, each_weaker}
+use Rattle.site_store.specs.Plans.{AllAsPlanned, HasSoon, IsAsPlanned}
+use Rattle.site_store.proofs.Lending.{each_weaker}
+use Rattle.site_store.proofs.Planned.{each_calm, same_left}
+use Rattle.run_fault.specs.declared.fault.StorePlace.{StorePlace}
+use Rattle.run_fault.specs.declared.fault.RunFault.TheVariants as fault
 use Rattle.site_node.specs.Faults.{OfBoth}
-use Rattle.site_workers.specs.Works.{HasAtMost, KeepsPlan}
+use Rattle.site_node.specs.declared.kind.NodeFault.TheVariants as node_fault
+use Rattle.site_workers.specs.Works.{HasAtMost, KeepsPlan, open_stops}
 use Rattle.site_workers.specs.FourKinds as one
 use Rattle.site_workers.specs.declared.one_of.OneOf.TheVariants as node
 use Rattle.site_run.specs.Naming.{names_of, joiner_of}
-use Rattle.site_run.specs.Stops.{AllInAll, ArePlanned, RunsAsPlanned, StopsAsPlanned}
-use Rattle.site_run.proofs.Words.{list_any, Each, Lent, OneOf, BusEntry, Begin, End, Stop, NodeFault, Setting, Disks, Node, Dispatcher, Server, Replica, Joiner, NumbersAreNodes, StateOf, AnyState, node_number, node_count, down_over, made_by, all_from, site_of, is_stop, stop_count, HoldsAs, AreHeld, AreDownOver, NoJoinerStopped, RunLog, Config, numbers_of}
+use Rattle.site_run.specs.Stops.{AllInAll, ArePlanned, AreSpared, RunsAsPlanned, StopsAsPlanned}
+use Rattle.site_run.proofs.Words.{list_any, Each, Mem, each_at, each_from, AreUp, HasMet, RunFault, first_fault, of_node, Lent, OneOf, BusEntry, Begin, End, Stop, NodeFault, Setting, Disks, Node, Dispatcher, Server, Replica, Joiner, IsNode, NumbersAreNodes, StateOf, AnyState, node_number, node_count, down_over, made_by, all_from, site_of, is_stop, stop_count, HoldsAs, AreHeld, AreDownOver, NoJoinerStopped, RunLog, Config, numbers_of}
 use Rattle.site_run.proofs.Going.{disks_by}
+use Rattle.site_run.proofs.Places.{at_place, from_place}
+use Rattle.site_run.proofs.Running.{some_of, told_of_node}
 
 -- ---- the stops of config
 
@@ -33,23 +40,38 @@ none_of_joiners left g h none few = λ j is stopped.
 
 -- ---- where as many stops were planned before
 
-all_earlier : {A : Type 0} (old new : A → ℕ → Type 0) → ((x : A) (k : ℕ) → old x k → new x k) → (xs : List A) (k : ℕ) → AllInAll old xs k → AllInAll new xs k
+pub all_earlier : {A : Type 0} (old new : A → ℕ → Type 0) → ((x : A) (k : ℕ) → old x k → new x k) → (xs : List A) (k : ℕ) → AllInAll old xs k → AllInAll new xs k
 all_earlier old new on [] k has = has
 all_earlier old new on (x ∷ xs) k has = (has.0, has.1, on x has.0 has.2, all_earlier old new on xs has.1 has.3, has.4)
 
-stops_earlier : (o : Option RunLog) (old new : DiskName → ℕ → Type 0) (g : Setting) → ((disk : DiskName) (k : ℕ) → old disk k → new disk k)
+pub stops_earlier : (o : Option RunLog) (old new : DiskName → ℕ → Type 0) (g : Setting) → ((disk : DiskName) (k : ℕ) → old disk k → new disk k)
     → IfSome o (λ l. StopsAsPlanned new g l.air.history) → IfSome o (λ l. StopsAsPlanned old g l.air.history)
 stops_earlier None old new g on few = tt
 stops_earlier (Some l) old new g on few = λ n is k has. few n is k (all_earlier old new on (names_of (numbers_of g) n) k has)
 
+-- a store with the same plan, of which as many calls were made
+pub soon_earlier : {S : Type 0} (stops : S → DiskName → ℕ → Bool) (made : S → DiskName → ℕ) (old new : S) → ((disk : DiskName) (n : ℕ) → stops new disk n ≡ stops old disk n) → ((disk : DiskName) → made new disk ≡ made old disk)
+    → (disk : DiskName) → HasSoon stops made new disk → HasSoon stops made old disk
+soon_earlier stops made old new same at name.Topology soon = λ none. soon (same_left 0 (stops old name.Topology) (stops new name.Topology) (made old name.Topology) (made new name.Topology) (same name.Topology) (at name.Topology) none)
+soon_earlier stops made old new same at disk soon =
+    let here = at disk in
+    let from = soon.1 in
+    let to = soon.2 in
+    (soon.0, omega (arith, here, from), omega (arith, here, to), subst IsTrue (same disk soon.0) soon.3)
+
 -- behind calls that meet no fault where none is planned
-pub planned_earlier : (o : Option RunLog) (old new : DiskName → ℕ → Type 0) (g : Setting) (first mid last : ℕ) → ((disk : DiskName) (k : ℕ) → old disk k → new disk k) → (((disk : DiskName) → old disk 0) → mid ≡ first)
-    → RunsAsPlanned new g o mid last → RunsAsPlanned old g o first last
-planned_earlier o old new g first mid last on calm so = record { stops = stops_earlier o old new g on so.stops; calm = λ none. so.calm (λ disk. on disk 0 (none disk)) ∙ calm none }
+pub planned_earlier : {A : Type 0} (o : Option RunLog) (old new : DiskName → ℕ → Type 0) (soon_old soon_new : DiskName → Type 0) (g : Setting) (first mid last : ℕ) (r : Result A RunFault) → ((disk : DiskName) (k : ℕ) → old disk k → new disk k)
+    → ((disk : DiskName) → soon_new disk → soon_old disk) → (((disk : DiskName) → old disk 0) → mid ≡ first) → RunsAsPlanned new soon_new g o mid last r → RunsAsPlanned old soon_old g o first last r
+planned_earlier o old new soon_old soon_new g first mid last r on back calm so = record {
+  stops = stops_earlier o old new g on so.stops;
+  calm = λ none. so.calm (λ disk. on disk 0 (none disk)) ∙ calm none;
+  spared = λ are. so.spared (record { late = λ disk is. are.late disk (back disk is); few = λ n is. all_earlier old new on (names_of (numbers_of g) n) 1 (are.few n is) });
+}
 
 -- where no run began
-pub none_planned : (o : Option RunLog) (left : DiskName → ℕ → Type 0) (g : Setting) (before after : ℕ) → o ≡ None → (((disk : DiskName) → left disk 0) → after ≡ before) → RunsAsPlanned left g o before after
-none_planned o left g before after none calm = record { stops = subst (λ (x : Option RunLog). IfSome x (λ l. StopsAsPlanned left g l.air.history)) (sym none) tt; calm = calm }
+pub none_planned : {A : Type 0} (o : Option RunLog) (left : DiskName → ℕ → Type 0) (soon : DiskName → Type 0) (g : Setting) (before after : ℕ) (r : Result A RunFault) → o ≡ None → (((disk : DiskName) → left disk 0) → after ≡ before)
+    → (AreSpared left soon g → IfErr r (λ f. (at : StorePlace) → f ≢ fault.Store at)) → RunsAsPlanned left soon g o before after r
+none_planned o left soon g before after r none calm spared = record { stops = subst (λ (x : Option RunLog). IfSome x (λ l. StopsAsPlanned left g l.air.history)) (sym none) tt; calm = calm; spared = spared }
 
 -- ---- a node's disks, by what is planned under their names
 
@@ -59,6 +81,12 @@ named_so {D} image config (Server s) t lent holds = let same : 2 + s - 2 ≡ s =
 named_so {D} image config (Replica r) t lent holds = let same : 4 + r - 4 ≡ r = omega arith in ap (map (λ (l : Lent D). l.name)) holds.named ∙ ap (λ k. name.Replica k ∷ []) same
 named_so {D} image config (Joiner j) t lent holds = ap (map (λ (l : Lent D). l.name)) holds.named
 
+-- a node that stopped once at most names no place of the store
+not_ended : (config : Config) (number : ℕ) (nf : NodeFault) (left stops : ℕ) → left + stops + open_stops (Some nf) ≤ 1 → (nf ≡ node_fault.Stopped → stops ≡ 8) → (at : StorePlace) → of_node config number nf ≢ fault.Store at
+not_ended config number node_fault.Stopped left stops few ended at is = let eight = ended refl in absurd (omega (arith, few, eight))
+not_ended config number (node_fault.Disk disk) left stops few ended at is = absurd (omega (arith, few))
+not_ended config number _ left stops few ended at is = absurd (cc is)
+
 module _ {N D : Type 0} (stops : D → ℕ → Bool) (made disk_faults : D → ℕ) (is_down : D → Bool) (stops_left : N → ℕ → Type 0) (faults : N → ℕ) (waits : N → Bool) (disks_of : Config → ℕ → N → List (Lent D))
     (laws : ArePlanned stops made disk_faults is_down stops_left faults waits disks_of) (config : Config) (left : DiskName → ℕ → Type 0) where
   abbrev Planned : List (Lent D) → Type 0
@@ -66,9 +94,6 @@ module _ {N D : Type 0} (stops : D → ℕ → Bool) (made disk_faults : D → �
 
   abbrev Named : List (Lent D) → ℕ → Type 0
   Named lent = AllInAll left (map (λ (l : Lent D). l.name) lent)
-
-  abbrev Calm : List (Lent D) → Type 0
-  Calm = Each (λ l. (disk_faults l.disk ≡ 0) × (is_down l.disk ≡ false))
 
   as_named : (lent : List (Lent D)) (k : ℕ) → Planned lent → Named lent k → AllInAll (λ (l : Lent D). AtMost (stops l.disk) (made l.disk)) lent k
   as_named [] k planned has = has
@@ -78,69 +103,79 @@ module _ {N D : Type 0} (stops : D → ℕ → Bool) (made disk_faults : D → �
   none_named none [] = refl
   none_named none (l ∷ ls) = (0, 0, none l.name, none_named none ls, refl)
 
-  -- one node
-  module _ (number : ℕ) (v : N) (w : N × Option NodeFault) (mine : List BusEntry) (kept : KeepsPlan stops_left faults waits v None [] w.0 w.1 mine) (planned : Planned (disks_of config number v)) where
-    at_first : (k : ℕ) → Named (disks_of config number v) k → HasAtMost stops_left k v None []
-    at_first k has = (k, laws.left config number k v (as_named (disks_of config number v) k planned has), omega arith)
+  -- ---- the nodes of a run
 
-    few_stops : (k : ℕ) → Named (disks_of config number v) k → stop_count mine ≤ k
-    few_stops k has = let h = kept.most k (at_first k has) in omega (arith, h.2)
+  module _ (vs : List N) (ws : List (N × Option NodeFault)) (h : List BusEntry) (planned : Planned (all_from (disks_of config) 0 vs))
+      (kept : (i : ℕ) (a : N) (b : N × Option NodeFault) → i < length vs → KeepsPlan stops_left faults waits (slice_index_or vs i a) None [] (slice_index_or ws i b).0 (slice_index_or ws i b).1 (made_by i h)) where
+    own : (i : ℕ) (a : N) → i < length vs → Planned (disks_of config i (slice_index_or vs i a))
+    own i a below =
+        each_from (λ (l : Lent D). IsAsPlanned stops made disk_faults (left l.name) l.disk) (disks_of config i (slice_index_or vs i a))
+        (λ l among. each_at (λ (l : Lent D). IsAsPlanned stops made disk_faults (left l.name) l.disk) (all_from (disks_of config) 0 vs) planned l (at_place (disks_of config) 0 i i vs a l below (omega arith) among))
 
-    stays_calm : ((disk : DiskName) → left disk 0) → waits v ≡ false → Calm (disks_of config number w.0)
-    stays_calm none up =
-        let calm = kept.calm (at_first 0 (none_named none (disks_of config number v))) in
-        let met = laws.none config number v (each_weaker (λ (l : Lent D). IsAsPlanned stops made disk_faults (left l.name) l.disk) (λ l. disk_faults l.disk ≡ 0) (λ l so. so.calm) (disks_of config number v) planned) in
-        laws.calm config number w.0 (calm.0 ∙ met) (calm.1 ∙ up)
+    at_first : (i : ℕ) (a : N) (k : ℕ) → i < length vs → Named (disks_of config i (slice_index_or vs i a)) k → HasAtMost stops_left k (slice_index_or vs i a) None []
+    at_first i a k below has = (k, laws.left config i k (slice_index_or vs i a) (as_named (disks_of config i (slice_index_or vs i a)) k (own i a below) has), omega arith)
 
-  -- ---- all nodes
+    -- where no stop is planned it met no fault, and waits as it did
+    stays_calm : ((disk : DiskName) → left disk 0) → (i : ℕ) (a : N) (b : N × Option NodeFault) → i < length vs → (faults (slice_index_or ws i b).0 ≡ 0) × (waits (slice_index_or ws i b).0 ≡ waits (slice_index_or vs i a))
+    stays_calm none i a b below =
+        let lent = disks_of config i (slice_index_or vs i a) in
+        let calm = (kept i a b below).calm (at_first i a 0 below (none_named none lent)) in
+        (calm.0 ∙ laws.none config i (slice_index_or vs i a) (each_calm stops made disk_faults left lent (own i a below)), calm.1)
 
-  -- where no stop is planned all disks are calm
-  pub all_calm : ((disk : DiskName) → left disk 0) → (mine : ℕ → List BusEntry) (number : ℕ) (vs : List N) (ws : List (N × Option NodeFault)) → length ws ≡ length vs
-      → ((i : ℕ) (a : N) (b : N × Option NodeFault) → i < length vs → KeepsPlan stops_left faults waits (slice_index_or vs i a) None [] (slice_index_or ws i b).0 (slice_index_or ws i b).1 (mine (number + i)))
-      → Each (λ v. waits v ≡ false) vs → Planned (all_from (disks_of config) number vs) → Calm (all_from (λ i (w : N × Option NodeFault). disks_of config i w.0) number ws)
-  all_calm none mine number [] [] same kept up planned = tt
-  all_calm none mine number [] (w ∷ ws) same kept up planned = absurd (omega (arith, same))
-  all_calm none mine number (v ∷ vs) [] same kept up planned = absurd (omega (arith, same))
-  all_calm none mine number (v ∷ vs) (w ∷ ws) same kept up planned =
-      let here : number + 0 ≡ number = omega arith in
-      let P = λ (l : Lent D). IsAsPlanned stops made disk_faults (left l.name) l.disk in
-      let own = disks_of config number v in
-      let rest = all_from (disks_of config) (suc number) vs in
-      let first : KeepsPlan stops_left faults waits v None [] w.0 w.1 (mine number) = subst (λ k. KeepsPlan stops_left faults waits v None [] w.0 w.1 (mine k)) here (kept 0 v w (omega arith)) in
-      each_both (λ (l : Lent D). (disk_faults l.disk ≡ 0) × (is_down l.disk ≡ false)) (disks_of config number w.0) (all_from (λ i (x : N × Option NodeFault). disks_of config i x.0) (suc number) ws)
-      (stays_calm number v w (mine number) first (each_front P own rest planned) none up.0)
-      (all_calm none mine (suc number) vs ws (omega (arith, same))
-      (λ i a b below.
-      let on : number + suc i ≡ suc number + i = omega arith in
-      subst (λ k. KeepsPlan stops_left faults waits (slice_index_or vs i a) None [] (slice_index_or ws i b).0 (slice_index_or ws i b).1 (mine k)) on (kept (suc i) a b (omega (arith, below))))
-      up.1 (each_back P own rest planned))
+    at_end : (P : Lent D → Type 0) → ((i : ℕ) (b : N × Option NodeFault) → i < length ws → Each P (disks_of config i (slice_index_or ws i b).0)) → Each P (all_from (λ i (w : N × Option NodeFault). disks_of config i w.0) 0 ws)
+    at_end P each =
+        each_from P (all_from (λ i (w : N × Option NodeFault). disks_of config i w.0) 0 ws)
+        (λ l among.
+        let r = from_place (λ i (w : N × Option NodeFault). disks_of config i w.0) 0 ws l among in
+        let b = some_of ws (omega (arith, r.within)) in
+        let here : r.number ≡ r.place = omega (arith, r.counted) in
+        each_at P (disks_of config r.place (slice_index_or ws r.place b).0) (each r.place b r.within) l (subst (λ k. Mem l (disks_of config k (slice_index_or ws r.place b).0)) here (r.among b)))
 
-  -- the disks of the node at a place are among all
-  at_its_place : (number i j : ℕ) (vs : List N) (a : N) → j ≡ number + i → i < length vs → Planned (all_from (disks_of config) number vs) → Planned (disks_of config j (slice_index_or vs i a))
-  at_its_place number i j [] a at below all = absurd (omega (arith, below))
-  at_its_place number zero j (v ∷ vs) a at below all =
-      let here : number ≡ j = omega (arith, at) in
-      subst (λ k. Planned (disks_of config k v)) here (each_front (λ (l : Lent D). IsAsPlanned stops made disk_faults (left l.name) l.disk) (disks_of config number v) (all_from (disks_of config) (suc number) vs) all)
-  at_its_place number (suc i) j (v ∷ vs) a at below all =
-      at_its_place (suc number) i j vs a (omega (arith, at)) (omega (arith, below)) (each_back (λ (l : Lent D). IsAsPlanned stops made disk_faults (left l.name) l.disk) (disks_of config number v) (all_from (disks_of config) (suc number) vs) all)
+    -- the disks of nodes that wait for no restart are up
+    pub all_up : ((i : ℕ) (b : N × Option NodeFault) → i < length ws → waits (slice_index_or ws i b).0 ≡ false) → AreUp is_down (all_from (λ i (w : N × Option NodeFault). disks_of config i w.0) 0 ws)
+    all_up up =
+        at_end (λ (l : Lent D). l.name ≢ name.Topology → is_down l.disk ≡ false)
+        (λ i b below. each_weaker (λ (l : Lent D). is_down l.disk ≡ false) (λ (l : Lent D). l.name ≢ name.Topology → is_down l.disk ≡ false) (λ l is other. is) (disks_of config i (slice_index_or ws i b).0) (laws.up config i (slice_index_or ws i b).0 (up i b below)))
 
-  first_of : (vs : List N) (j : ℕ) → j < length vs → N
-  first_of [] j below = absurd (omega (arith, below))
-  first_of (v ∷ vs) j below = v
+    module _ (count : length ws ≡ length vs) (up : All (λ v. waits v ≡ false) vs) where
+      -- where no stop is planned all disks are up, and met no fault
+      pub all_calm : ((disk : DiskName) → left disk 0) → AreUp is_down (all_from (λ i (w : N × Option NodeFault). disks_of config i w.0) 0 ws) × Each (λ l. disk_faults l.disk ≡ 0) (all_from (λ i (w : N × Option NodeFault). disks_of config i w.0) 0 ws)
+      all_calm none = (
+        all_up (λ i b below. let within : i < length vs = omega (arith, below, count) in let a = some_of vs (omega (arith, within)) in (stays_calm none i a b within).1 ∙ up i a within),
+        at_end (λ (l : Lent D). disk_faults l.disk ≡ 0)
+            (λ i b below. let within : i < length vs = omega (arith, below, count) in let a = some_of vs (omega (arith, within)) in laws.calm config i (slice_index_or ws i b).0 (stays_calm none i a b within).0),
+      )
 
-  -- no node stops more often than was planned for its disks
-  pub none_too_often : (image : D → List ℕ → Type 0) (places : N → AnyState → Type 0) (grown : N → N → Type 0) → AreHeld image places grown disks_of → (g : Setting) → numbers_of g ≡ config → NumbersAreNodes g
-      → (d : Disks) (vs : List N) (ws : List (N × Option NodeFault)) (h : List BusEntry) → length vs ≡ node_count g → AreDownOver places g d vs
-      → ((i : ℕ) (a : N) (b : N × Option NodeFault) → i < length vs → KeepsPlan stops_left faults waits (slice_index_or vs i a) None [] (slice_index_or ws i b).0 (slice_index_or ws i b).1 (made_by i h))
-      → Planned (all_from (disks_of config) 0 vs) → StopsAsPlanned left g h
-  none_too_often image places grown held g same numbers d vs ws h count down kept planned n is k has =
-      let j = node_number n in
-      let below : j < length vs = let under = numbers.below n is in omega (arith, under, count) in
-      let a = first_of vs j below in
-      let v = slice_index_or vs j a in
-      let named = named_so image config n (down_over g d n) (disks_of config j v) (held.held config n (down_over g d n) v (down n is a)) ∙ ap (λ c. names_of c n) (sym same) in
-      let b : N × Option NodeFault = (v, None) in
-      few_stops j v (slice_index_or ws j b) (made_by j h) (kept j a b below) (at_its_place 0 j j vs a (omega arith) below planned) k (subst (λ names. AllInAll left names k) (sym named) has)
+    module _ (image : D → List ℕ → Type 0) (places : N → AnyState → Type 0) (grown : N → N → Type 0) (held : AreHeld image places grown disks_of) (g : Setting) (same : numbers_of g ≡ config) (numbers : NumbersAreNodes g) (d : Disks)
+        (count : length vs ≡ node_count g) (down : AreDownOver places g d vs) where
+      -- it has what was planned for its disks at most, at its end too
+      few_met : (n : Node) → IsNode g n → (b : N × Option NodeFault) (k : ℕ) → AllInAll left (names_of (numbers_of g) n) k → HasAtMost stops_left k (slice_index_or ws (node_number n) b).0 (slice_index_or ws (node_number n) b).1 (made_by (node_number n) h)
+      few_met n is b k has =
+          let j = node_number n in
+          let below : j < length vs = let under = numbers.below n is in omega (arith, under, count) in
+          let a = some_of vs (omega (arith, below)) in
+          let v = slice_index_or vs j a in
+          let named = named_so image config n (down_over g d n) (disks_of config j v) (held.held config n (down_over g d n) v (down n is a)) ∙ ap (λ c. names_of c n) (sym same) in
+          (kept j a b below).most k (at_first j a k below (subst (λ names. AllInAll left names k) (sym named) has))
+
+      -- no node stops more often than was planned for its disks
+      pub none_too_often : length ws ≡ length vs → StopsAsPlanned left g h
+      none_too_often long n is k has =
+          let b = some_of ws (let under = numbers.below n is in omega (arith, under, count, long)) in
+          let few = few_met n is b k has in
+          omega (arith, few.2)
+
+      -- of those that are spared none tells a fault of the store
+      pub none_told : length ws ≡ length vs → ((n : Node) → IsNode g n → AllInAll left (names_of (numbers_of g) n) 1)
+          → ((i : ℕ) (b : N × Option NodeFault) → i < length vs → HasMet faults waits (slice_index_or ws i b).0 (slice_index_or ws i b).1 (made_by i h))
+          → (f : RunFault) → first_fault config 0 ws ≡ Some f → (at : StorePlace) → f ≢ fault.Store at
+      none_told long spared met f is at of =
+          let t = told_of_node config g numbers ws (long ∙ count) f is in
+          let j = node_number t.node in
+          let few = few_met t.node t.is t.default 1 (spared t.node t.is) in
+          let within = t.within in
+          let still = subst (λ o. few.0 + stop_count (made_by j h) + open_stops o ≤ 1) t.has few.2 in
+          not_ended config j t.fault few.0 (stop_count (made_by j h)) still (λ ended. (met j t.default (omega (arith, within, long))).ended (t.has ∙ ap (λ (x : NodeFault). Some x) ended)) at (sym t.told ∙ of)
 
 -- ---- the stops of a node of any kind
 
@@ -177,12 +212,17 @@ module _ {D A B C E : Type 0} (image : D → List ℕ → Type 0) (stops : D →
     none_of_it config number (node.Third v) h = h.0
     none_of_it config number (node.Fourth v) h = let x = h.0 in let y = h.1.0 in omega (arith, x, y)
 
-    calm_of : (config : Config) (number : ℕ) (v : OneOf A B C E) → faults_by v ≡ 0 → waits_by v ≡ false
-        → Each (λ (l : Lent D). (faults l.disk ≡ 0) × (is_down l.disk ≡ false)) (disks_by image offset retry server replica epochs outputs config number v)
-    calm_of config number (node.First v) none w = ((omega (arith, none), (ups v w).0), ((omega (arith, none), (ups v w).1), tt))
-    calm_of config number (node.Second v) none w = ((none, up v w), tt)
-    calm_of config number (node.Third v) none w = ((none, up_too v w), tt)
-    calm_of config number (node.Fourth v) none w = ((omega (arith, none), (ups_too v w).0), ((omega (arith, none), (ups_too v w).1), tt))
+    calm_of : (config : Config) (number : ℕ) (v : OneOf A B C E) → faults_by v ≡ 0 → Each (λ (l : Lent D). faults l.disk ≡ 0) (disks_by image offset retry server replica epochs outputs config number v)
+    calm_of config number (node.First v) none = (omega (arith, none), (omega (arith, none), tt))
+    calm_of config number (node.Second v) none = (none, tt)
+    calm_of config number (node.Third v) none = (none, tt)
+    calm_of config number (node.Fourth v) none = (omega (arith, none), (omega (arith, none), tt))
+
+    up_of : (config : Config) (number : ℕ) (v : OneOf A B C E) → waits_by v ≡ false → Each (λ (l : Lent D). is_down l.disk ≡ false) (disks_by image offset retry server replica epochs outputs config number v)
+    up_of config number (node.First v) w = ((ups v w).0, ((ups v w).1, tt))
+    up_of config number (node.Second v) w = (up v w, tt)
+    up_of config number (node.Third v) w = (up_too v w, tt)
+    up_of config number (node.Fourth v) w = ((ups_too v w).0, ((ups_too v w).1, tt))
 
     pub are_planned : ArePlanned stops made faults is_down left_by faults_by waits_by (disks_by image offset retry server replica epochs outputs)
-    are_planned = record { left = left_of; none = none_of_it; calm = calm_of }
+    are_planned = record { left = left_of; none = none_of_it; calm = calm_of; up = up_of }

@@ -4,6 +4,7 @@ use Rattle.std.proofs.Common.{◌≡◌, ◌≢◌, inl, inr, ⊎_elim, ℕ, ◌
 use Rattle.site_run.proofs.Words.{eq-eqb, le-ltb, lt-ltb, Each, Mem, each_at, BusEntry, DiskName, StoreFault, Topology, end_from, Dispatcher, Server, Replica, Joiner, Node, IsNode, node_number, Setting, IsLogOf, Disks, RunFault, Misplaced, IsCounted, IsWelcome, of_place, limit_at, limit_in, IsKeptIn, IsJournalOf, other_names, Images, IsDisk, joiner_of, place_at, site_of, IsAsked, EpochIs, KeepsEpoch, KeptDisk, KeptEpoch, KeptValues, Says, AreRecordsOf, all_named, at_name, was_journal, AreTold, ArePassed, HasCause, HasFailed, PassesFor, IsCause, IsUnread, cause_more, failed_rose, passed_more, unread_rose, asked_of, HasPassed, IsCauseOf, IsLate, IsNearLast, IsOfRun, IsSpent, KeptAreJournals, RunLog, TellsPlaces, epochs_of, Config, numbers_of}
 use Rattle.outside.specs.declared.store.DiskName.TheVariants as name
 use Rattle.outside.specs.declared.faults.StoreFault.TheVariants as store
+use Rattle.run_fault.specs.declared.fault.StorePlace.{StorePlace}
 use Rattle.run_fault.specs.declared.fault.StorePlace.TheVariants as place
 use Rattle.run_fault.specs.declared.fault.RunFault.TheVariants as fault
 use Rattle.site_store.specs.Misfits.{or_else}
@@ -166,6 +167,11 @@ refusal_unnamed tells before replicas rose log_tells log end_ read asked f n cau
 pub place_unnamed : (f : StoreFault) (n : ℕ) → of_place f ≡ fault.Store (place.Node n) → ⊥
 place_unnamed store.Disk n is = absurd (cc is)
 place_unnamed store.Memory n is = absurd (cc is)
+
+-- nor a place of the store where nothing failed
+pub place_spared : (f : StoreFault) → (f ≡ store.Disk → ⊥) → (at : StorePlace) → of_place f ≢ fault.Store at
+place_spared store.Disk never at is = absurd (never refl)
+place_spared store.Memory never at is = absurd (cc is)
 
 -- ---- from a store that was placed to the one before
 

@@ -1,7 +1,7 @@
 -- From what a run leaves of each node to what it leaves of the store.
 use Rattle.std.specs.Prelude.{IsTrue, IsSome, option_map}
 use Rattle.std.proofs.Common.{◌≡◌, ◌≢◌, inr, ⊎_elim, ℕ, zero, suc, ◌+◌, ◌<◌, ◌≤◌, List, [], ◌∷◌, ◌++◌, length, map, slice_index_or, Bool, true, false, Option, None, Some, refl, sym, ap, ◌∙◌, subst, arith, length-append}
-use Rattle.site_run.proofs.Words.{list_any, recursion_from_All, Mem, Each, mem_left, mem_right, some_same, DiskName, BusEntry, Begin, End, Stop, Bytes, Busy, Node, Dispatcher, Server, Replica, Joiner, Setting, IsNode, NumbersAreNodes, node_number, node_count, phase_by, NodeFault, World, Disks, disks, world_after, opening, NoJoinerStops, AreOf, RunFault, damaged_by, IsJournalOf, undamaged, Lent, IsOfOne, MayBeLeft, GoesOn, StateOf, kept_of, cell_of, made_by, HasMet, IsCaused, is_stop, stop_count, AreCaused, HasFault, AnyState, any_of, any_phase, IsRunFrom, HaveGrown, ComesToLast, all_from, topology_of, Images, IsDisk, AreKept, KeepsOf, KeepsTopology, Journals, Config, IsOf, votes_are_notes, IsCounted, of_node, IsOfDisks, IsPastOpening, IsOfRun, IsSpent, RunLog, epochs_of, HoldsAs, HaveGoneOn, AllHold, AreHeld, AreMet, IsLeftBy, KeepsItsRecord, NoneStops, HasRun, HasRested, AreOut, IsClosed, KeepsAs, AllKeep, KeepsPairs, KeepsNotes, HoldSameRecords, ReadNotesAreKept, told_of, or_else, first_fault, lent_replicas, lent_outputs, AreKeptIn}
+use Rattle.site_run.proofs.Words.{list_any, Mem, some_same, DiskName, BusEntry, Begin, End, Stop, Bytes, Busy, Node, Dispatcher, Server, Replica, Joiner, Setting, IsNode, NumbersAreNodes, node_number, node_count, phase_by, NodeFault, World, Disks, disks, world_after, opening, NoJoinerStops, AreOf, RunFault, damaged_by, IsJournalOf, undamaged, Lent, IsOfOne, MayBeLeft, GoesOn, StateOf, kept_of, cell_of, made_by, HasMet, IsCaused, is_stop, stop_count, AreCaused, HasFault, AnyState, any_of, any_phase, IsRunFrom, HaveGrown, ComesToLast, all_from, topology_of, Images, IsDisk, AreKept, KeepsOf, KeepsTopology, Journals, Config, IsOf, votes_are_notes, IsCounted, of_node, IsOfDisks, IsOfRun, IsSpent, RunLog, epochs_of, HoldsAs, HaveGoneOn, AllHold, AreHeld, AreMet, IsLeftBy, KeepsItsRecord, NoneStops, HasRun, HasRested, AreOut, IsClosed, KeepsAs, AllKeep, KeepsPairs, KeepsNotes, HoldSameRecords, ReadNotesAreKept, told_of, or_else, first_fault, lent_replicas, lent_outputs, AreKeptIn}
 use Rattle.outside.specs.declared.store.DiskName.TheVariants as name
 use Rattle.site_node.specs.declared.kind.NodeFault.TheVariants as node
 use Rattle.run_fault.specs.declared.fault.StorePlace.TheVariants as at
@@ -323,49 +323,34 @@ module _ {N D : Type 0} (image : D → List ℕ → Type 0) (places : N → AnyS
 module _ {N D L : Type 0} (disk_faults : D → ℕ) (log_faults : L → ℕ) (faults read_faults : N → ℕ) (disks_of : Config → ℕ → N → List (Lent D)) (logs_of : N → List L) (met : AreMet disk_faults log_faults faults read_faults disks_of logs_of)
     (config : Config) (logs_rose disks_rose : Type 0) where
   node_fault : (i : ℕ) (v : N) (f : NodeFault) → IsCaused faults read_faults v (Some f) → ((l : Lent D) → Mem l (disks_of config i v) → 1 ≤ disk_faults l.disk → disks_rose) → ((l : L) → Mem l (logs_of v) → 1 ≤ log_faults l → logs_rose)
-      → IsCounted logs_rose disks_rose (of_node config i f) × IsPastOpening (of_node config i f)
-  node_fault i v node.Stopped caused rise reads = (let l = met.disks config i v (caused.stopped refl) in rise l.0 l.1 l.2, tt)
-  node_fault i v (node.Disk disk) caused rise reads = (let l = met.disks config i v (caused.disk disk refl) in rise l.0 l.1 l.2, tt)
-  node_fault i v (node.Damaged disk at) caused rise reads = (tt, tt)
-  node_fault i v node.Read caused rise reads = (let l = met.logs v (caused.read refl) in reads l.0 l.1 l.2, tt)
-  node_fault i v (node.Spent epoch) caused rise reads = (tt, tt)
-  node_fault i v node.Memory caused rise reads = (tt, tt)
+      → IsCounted logs_rose disks_rose (of_node config i f)
+  node_fault i v node.Stopped caused rise reads = let l = met.disks config i v (caused.stopped refl) in rise l.0 l.1 l.2
+  node_fault i v (node.Disk disk) caused rise reads = let l = met.disks config i v (caused.disk disk refl) in rise l.0 l.1 l.2
+  node_fault i v (node.Damaged disk at) caused rise reads = tt
+  node_fault i v node.Read caused rise reads = let l = met.logs v (caused.read refl) in reads l.0 l.1 l.2
+  node_fault i v (node.Spent epoch) caused rise reads = tt
+  node_fault i v node.Memory caused rise reads = tt
 
-  fault_step : (i : ℕ) (v : N) (o : Option NodeFault) (rest : Option RunFault) (f : RunFault) → IsCaused faults read_faults v o → ((l : Lent D) → Mem l (disks_of config i v) → 1 ≤ disk_faults l.disk → disks_rose)
-      → ((l : L) → Mem l (logs_of v) → 1 ≤ log_faults l → logs_rose) → (rest ≡ Some f → IsCounted logs_rose disks_rose f × IsPastOpening f) → or_else (told_of config i o) rest ≡ Some f → IsCounted logs_rose disks_rose f × IsPastOpening f
-  fault_step i v None rest f caused rise reads later is = later is
-  fault_step i v (Some nf) rest f caused rise reads later is =
-      let same : of_node config i nf ≡ f = cc is in
-      subst (λ x. IsCounted logs_rose disks_rose x × IsPastOpening x) same (node_fault i v nf caused rise reads)
-
-  fault_from : (i : ℕ) (ws : List (N × Option NodeFault)) → Each (λ (w : N × Option NodeFault). IsCaused faults read_faults w.0 w.1) ws
-      → ((l : Lent D) → Mem l (all_from (λ k (w : N × Option NodeFault). disks_of config k w.0) i ws) → 1 ≤ disk_faults l.disk → disks_rose)
-      → ((l : L) → Mem l (all_from (λ k (w : N × Option NodeFault). logs_of w.0) i ws) → 1 ≤ log_faults l → logs_rose)
-      → (f : RunFault) → first_fault config i ws ≡ Some f → IsCounted logs_rose disks_rose f × IsPastOpening f
-  fault_from i [] caused rise reads f is = absurd (cc is)
-  fault_from i (w ∷ ws) caused rise reads f is =
-      fault_step i w.0 w.1 (first_fault config (suc i) ws) f caused.0
-      (λ l among some. rise l (mem_left l (disks_of config i w.0) (all_from (λ k (x : N × Option NodeFault). disks_of config k x.0) (suc i) ws) among) some)
-      (λ l among some. reads l (mem_left l (logs_of w.0) (all_from (λ k (x : N × Option NodeFault). logs_of x.0) (suc i) ws) among) some)
-      (λ later. fault_from (suc i) ws caused.1
-      (λ l among some. rise l (mem_right l (disks_of config i w.0) (all_from (λ k (x : N × Option NodeFault). disks_of config k x.0) (suc i) ws) among) some)
-      (λ l among some. reads l (mem_right l (logs_of w.0) (all_from (λ k (x : N × Option NodeFault). logs_of x.0) (suc i) ws) among) some)
-      f later)
-      is
-
-  -- it has its cause, and is none of the topology
+  -- it has its cause
   pub fault_told : (ws : List (N × Option NodeFault)) → AreCaused faults read_faults ws
       → ((l : Lent D) → Mem l (all_from (λ k (w : N × Option NodeFault). disks_of config k w.0) 0 ws) → 1 ≤ disk_faults l.disk → disks_rose)
       → ((l : L) → Mem l (all_from (λ k (w : N × Option NodeFault). logs_of w.0) 0 ws) → 1 ≤ log_faults l → logs_rose)
-      → (f : RunFault) → first_fault config 0 ws ≡ Some f → IsCounted logs_rose disks_rose f × IsPastOpening f
-  fault_told ws caused rise reads f is = fault_from 0 ws (recursion_from_All (λ (w : N × Option NodeFault). IsCaused faults read_faults w.0 w.1) ws caused) rise reads f is
+      → (f : RunFault) → first_fault config 0 ws ≡ Some f → IsCounted logs_rose disks_rose f
+  fault_told ws caused rise reads f is =
+      let t = told_at config 0 ws f is in
+      let b = some_of ws (omega (arith, t.within)) in
+      let x = t.told b in
+      let w = slice_index_or ws t.place b in
+      subst (IsCounted logs_rose disks_rose) (sym x.2)
+      (node_fault t.number w.0 x.0 (subst (λ o. IsCaused faults read_faults w.0 o) x.1 (caused t.place b t.within)) (λ l m. rise l (at_place (λ k (v : N × Option NodeFault). disks_of config k v.0) 0 t.place t.number ws b l t.within t.counted m))
+      (λ l m. reads l (at_place (λ k (v : N × Option NodeFault). logs_of v.0) 0 t.place t.number ws b l t.within t.counted m)))
 
 -- ---- a fault of the disks
 
-pub disks_counted : {D : Type 0} (tells : Bool) (image : D → List ℕ → Type 0) (lent : List (Lent D)) (logs_rose disks_rose : Type 0) (f : RunFault) → IsOfDisks tells image lent disks_rose f → IsCounted logs_rose disks_rose f × IsPastOpening f
-disks_counted tells image lent logs_rose disks_rose (run.Store (at.Disk disk)) of = (of, tt)
-disks_counted tells image lent logs_rose disks_rose (run.Damaged disk at) of = (tt, tt)
-disks_counted tells image lent logs_rose disks_rose run.Memory of = (tt, tt)
+pub disks_counted : {D : Type 0} (tells : Bool) (image : D → List ℕ → Type 0) (lent : List (Lent D)) (logs_rose disks_rose : Type 0) (f : RunFault) → IsOfDisks tells image lent disks_rose f → IsCounted logs_rose disks_rose f
+disks_counted tells image lent logs_rose disks_rose (run.Store (at.Disk disk)) of = of
+disks_counted tells image lent logs_rose disks_rose (run.Damaged disk at) of = tt
+disks_counted tells image lent logs_rose disks_rose run.Memory of = tt
 disks_counted tells image lent logs_rose disks_rose _ of = absurd of
 
 -- and of no node
@@ -403,7 +388,7 @@ not_told : (config : Config) (i : ℕ) (o : Option NodeFault) → told_of config
 not_told config i None is = refl
 not_told config i (Some f) is = absurd (cc is)
 
-none_at : {N : Type 0} (config : Config) (i : ℕ) (ws : List (N × Option NodeFault)) (k : ℕ) (b : N × Option NodeFault) → first_fault config i ws ≡ None → k < length ws → (slice_index_or ws k b).1 ≡ None
+pub none_at : {N : Type 0} (config : Config) (i : ℕ) (ws : List (N × Option NodeFault)) (k : ℕ) (b : N × Option NodeFault) → first_fault config i ws ≡ None → k < length ws → (slice_index_or ws k b).1 ≡ None
 none_at config i [] k b none below = absurd (omega (arith, below))
 none_at config i (w ∷ ws) zero b none below = not_told config i w.1 (or_none_both (told_of config i w.1) (first_fault config (suc i) ws) none).0
 none_at config i (w ∷ ws) (suc k) b none below = none_at config (suc i) ws k b (or_none_both (told_of config i w.1) (first_fault config (suc i) ws) none).1 (omega (arith, below))

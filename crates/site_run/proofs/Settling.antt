@@ -1,8 +1,8 @@
 -- Disks that were read back, and are given back then.
 use Rattle.std.specs.Prelude.{IsTrue, filter, if◌then◌else◌, Result, Ok, Err, IfOk, IfErr, OnOk}
 use Rattle.std.proofs.Common.{◌≡◌, ◌≢◌, inl, inr, ⊎_elim, ℕ, zero, suc, ◌≤◌, length, take, drop, List, [], ◌∷◌, ◌++◌, map, Bool, true, false, refl, sym, ap, ◌∙◌, subst, arith}
-use Rattle.site_run.proofs.Words.{append-nil, Mem, Each, DiskName, RunFault, damaged_by, Lent, Lacks, IsOfOne, MayBeLeft, LentDisk, EachWith, OneWith, AreReadFrom, IsOnlyRead, IsToldBy, AreAmongImages, as_lent, IsOfDisks, AreKeptIn}
-use Rattle.outside.specs.declared.store.DiskName.TheVariants as name
+use Rattle.site_run.proofs.Words.{append-nil, Mem, Each, DiskName, RunFault, damaged_by, Lent, Lacks, IsOfOne, MayBeLeft, LentDisk, EachWith, OneWith, AreReadFrom, IsOnlyRead, IsToldBy, AreAmongImages, as_lent, IsOfDisks, AreKeptIn, AreUp}
+use Rattle.run_fault.specs.declared.fault.StorePlace.{StorePlace}
 use Rattle.run_fault.specs.declared.fault.StorePlace.TheVariants as place
 use Rattle.run_fault.specs.declared.fault.RunFault.TheVariants as fault
 
@@ -78,24 +78,40 @@ module _ {D : Type 0} (tells : Bool) (seen : D → List ℕ) (image : D → List
       (λ later. let r = met_read olds news only.1 l later some in (r.0, inr r.1, r.2))
       among
 
-  -- disks that are up met no fault, where they met none before
-  pub calm_read : IsTrue planned → (olds news : List (LentDisk D)) → OnlyRead olds news → Each (λ (l : Lent D). (faults l.disk ≡ 0) × (l.name ≢ name.Topology → is_down l.disk ≡ false)) (map as_lent olds)
-      → Each (λ (l : Lent D). faults l.disk ≡ 0) (map as_lent news)
-  calm_read sure [] [] only calm = tt
-  calm_read sure [] (n ∷ ns) only calm = absurd only
-  calm_read sure (o ∷ os) [] only calm = absurd only
-  calm_read sure (o ∷ os) (n ∷ ns) only calm = (only.0.calm sure calm.0.1 ∙ calm.0.0, calm_read sure os ns only.1 calm.1)
+  -- disks that are up meet no fault, and none is told of them
+  pub calm_read : IsTrue planned → (olds news : List (LentDisk D)) → OnlyRead olds news → AreUp is_down (map as_lent olds) → Each (λ (l : Lent D). faults l.disk ≡ 0) (map as_lent olds) → Each (λ (l : Lent D). faults l.disk ≡ 0) (map as_lent news)
+  calm_read sure [] [] only up calm = tt
+  calm_read sure [] (n ∷ ns) only up calm = absurd only
+  calm_read sure (o ∷ os) [] only up calm = absurd only
+  calm_read sure (o ∷ os) (n ∷ ns) only up calm = (only.0.calm sure up.0 ∙ calm.0, calm_read sure os ns only.1 up.1 calm.1)
+
+  none_of_disk : IsTrue planned → (disk : DiskName) (olds news : List (LentDisk D)) → OnlyRead olds news → AreUp is_down (map as_lent olds) → OneWith (λ old new. IsToldBy tells image faults planned is_down old new (fault.Store (place.Disk disk))) olds news → ⊥
+  none_of_disk sure disk [] news only up one = one
+  none_of_disk sure disk (o ∷ os) [] only up one = one
+  none_of_disk sure disk (o ∷ os) (n ∷ ns) only up one = ⊎_elim (λ here. here.2 sure up.0) (none_of_disk sure disk os ns only.1 up.1) one
+
+  none_told : (olds news : List (LentDisk D)) → OneWith (λ old new. ⊥) olds news → ⊥
+  none_told [] news one = one
+  none_told (o ∷ olds) [] one = one
+  none_told (o ∷ olds) (n ∷ news) one = ⊎_elim (λ here. here) (λ later. none_told olds news later) one
+
+  none_of_places : IsTrue planned → (olds news : List (LentDisk D)) → OnlyRead olds news → AreUp is_down (map as_lent olds) → (at : StorePlace) → OneWith (λ old new. IsToldBy tells image faults planned is_down old new (fault.Store at)) olds news → ⊥
+  none_of_places sure olds news only up (place.Disk disk) one = none_of_disk sure disk olds news only up one
+  none_of_places sure olds news only up _ one = none_told olds news one
+
+  pub up_read : IsTrue planned → (olds news : List (LentDisk D)) → OnlyRead olds news → AreUp is_down (map as_lent olds) → (f : RunFault) → OneWith (λ old new. IsToldBy tells image faults planned is_down old new f) olds news → (at : StorePlace) → f ≢ fault.Store at
+  up_read sure olds news only up f one at is = none_of_places sure olds news only up at (subst (λ x. OneWith (λ old new. IsToldBy tells image faults planned is_down old new x) olds news) is one)
 
   -- a fault of reading is one of a disk
   told_store : (disk : DiskName) (olds news : List (LentDisk D)) (rose : Type 0) → ((l : Lent D) → Mem l (map as_lent news) → 1 ≤ faults l.disk → rose)
-      → OneWith (λ old new. IsToldBy tells image faults old new (fault.Store (place.Disk disk))) olds news → rose
+      → OneWith (λ old new. IsToldBy tells image faults planned is_down old new (fault.Store (place.Disk disk))) olds news → rose
   told_store disk [] news rose rises one = absurd one
   told_store disk (o ∷ olds) [] rose rises one = absurd one
   told_store disk (o ∷ olds) (n ∷ news) rose rises one =
       ⊎_elim (λ here. rises (as_lent n) (inl refl) (omega (arith, here.1))) (λ later. told_store disk olds news rose (λ l among some. rises l (inr among) some) later) one
 
   -- or of bytes that may be left of one
-  told_damaged : (disk : DiskName) (at : ℕ) (olds news : List (LentDisk D)) → OneWith (λ old new. IsToldBy tells image faults old new (fault.Damaged disk at)) olds news → IsTrue tells
+  told_damaged : (disk : DiskName) (at : ℕ) (olds news : List (LentDisk D)) → OneWith (λ old new. IsToldBy tells image faults planned is_down old new (fault.Damaged disk at)) olds news → IsTrue tells
       → (c : List ℕ) × IsOfOne image (map as_lent olds) disk c × damaged_by disk c at
   told_damaged disk at [] news one sure = absurd one
   told_damaged disk at (o ∷ olds) [] one sure = absurd one
@@ -105,13 +121,8 @@ module _ {D : Type 0} (tells : Bool) (seen : D → List ℕ) (image : D → List
       (λ later. let r = told_damaged disk at olds news later sure in (r.0, record { one = r.1.one; among = inr r.1.among; named = r.1.named; may = r.1.may }, r.2))
       one
 
-  none_told : (olds news : List (LentDisk D)) → OneWith (λ old new. ⊥) olds news → ⊥
-  none_told [] news one = one
-  none_told (o ∷ olds) [] one = one
-  none_told (o ∷ olds) (n ∷ news) one = ⊎_elim (λ here. here) (λ later. none_told olds news later) one
-
   pub told_counted : (f : RunFault) (olds news : List (LentDisk D)) (rose : Type 0) → ((l : Lent D) → Mem l (map as_lent news) → 1 ≤ faults l.disk → rose)
-      → OneWith (λ old new. IsToldBy tells image faults old new f) olds news → IsOfDisks tells image (map as_lent olds) rose f
+      → OneWith (λ old new. IsToldBy tells image faults planned is_down old new f) olds news → IsOfDisks tells image (map as_lent olds) rose f
   told_counted (fault.Store (place.Disk disk)) olds news rose rises one = told_store disk olds news rose rises one
   told_counted (fault.Damaged disk at) olds news rose rises one = told_damaged disk at olds news one
   told_counted fault.Memory olds news rose rises one = tt

@@ -78,7 +78,7 @@ pub use Rattle.site_node.specs.declared.kind.NodeFault.{NodeFault}
 pub use Rattle.site_node.specs.declared.kind.NodeFault.TheVariants.{Damaged, Spent}
 pub use Rattle.site_run.specs.AnyNodes.{AnyLeads, AnyState, IsAtLast, IsMeant, any_of, any_phase, any_rests, down_with, with_site}
 pub use Rattle.site_run.specs.Asked.{AreLogsOf, IsSettingOf, IsSettingOver}
-pub use Rattle.site_run.specs.Causes.{IsOfDisks, IsPastOpening, epochs_of, of_node}
+pub use Rattle.site_run.specs.Causes.{IsOfDisks, epochs_of, of_node}
 pub use Rattle.site_run.specs.Heard.{kinds_of}
 pub use Rattle.site_run.specs.Held.{HasGoneOn, HasSpelledNotes, HaveGoneOn, HoldsAs}
 pub use Rattle.site_run.specs.Joined.{IsAcceptedBound, Joins, JoinsAfresh, RanAfresh, WasHeld, decided_by}
@@ -93,7 +93,7 @@ pub use Rattle.site_run.specs.Placed.{AllAt, IsDownAt, IsUpAt}
 pub use Rattle.site_run.specs.Refused.{HasEnded, HasPassed, IsCauseOf, IsLate, IsNearLast, IsOfRun, IsSpent, KeptAreJournals, TellsPlaces, asked_of}
 pub use Rattle.site_run.specs.Resting.{AllKeep, IsClosed, KeepsAs}
 pub use Rattle.site_run.specs.Running.{AreDownOver, ComesToLast, DeadAreReplicas, HasCome, HaveGrown, IsRunFrom, KeptEpoch}
-pub use Rattle.site_run.specs.Settled.{AreKeptIn, first_fault, lent_outputs, lent_replicas, or_else, told_of}
+pub use Rattle.site_run.specs.Settled.{AreKeptIn, AreUp, first_fault, lent_outputs, lent_replicas, or_else, told_of}
 pub use Rattle.site_run.specs.declared.ran.Outcome.{Outcome}
 pub use Rattle.site_run.specs.declared.ran.RunLog.{RunLog}
 pub use Rattle.site_store.proofs.Causes.{cause_more, failed_rose, passed_more, unread_rose}

@@ -1,5 +1,5 @@
 -- Why a run gives up.
-use Rattle.std.specs.Prelude.{ℕ, ◌+◌, ◌-◌, nat_lt, if◌then◌else◌, List, Bool, IsTrue, ⊤}
+use Rattle.std.specs.Prelude.{ℕ, ◌+◌, ◌-◌, nat_lt, if◌then◌else◌, List, Bool, IsTrue}
 use Rattle.outside.specs.declared.store.DiskName.{DiskName}
 use Rattle.outside.specs.declared.store.DiskName.TheVariants as name
 use Rattle.run_fault.specs.declared.fault.LogName.{LogName}
@@ -39,8 +39,3 @@ of_node config number node.Memory = fault.Memory
 -- journal of its kind.
 abbrev pub IsOfDisks : {D : Type 0} → Bool → (D → List ℕ → Type 0) → List (Lent D) → Type 0 → RunFault → Type 0
 IsOfDisks tells image lent rose f = IsOfDisk (λ disk. rose) (λ disk at. IsTrue tells → (c : List ℕ) × IsOfOne image lent disk c × damaged_by disk c at) f
-
--- a run over a store that was opened isn't given up for its topology or its places
-abbrev pub IsPastOpening : RunFault → Type 0
-IsPastOpening (fault.Topology what) = ⊥
-IsPastOpening _ = ⊤

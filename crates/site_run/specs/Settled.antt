@@ -1,5 +1,7 @@
 -- What the end of a run makes of its nodes and disks.
-use Rattle.std.specs.Prelude.{ℕ, suc, List, [], ◌∷◌, Bool, IsTrue, Option, None, Some, filter}
+use Rattle.std.specs.Prelude.{◌≡◌, ◌≢◌, ℕ, suc, List, [], ◌∷◌, Bool, false, IsTrue, Option, None, Some, filter}
+use Rattle.list_words.specs.Lists.{Each}
+use Rattle.outside.specs.declared.store.DiskName.TheVariants as name
 use Rattle.turn_defs.specs.declared.config.Config.{Config}
 use Rattle.run_fault.specs.declared.fault.RunFault.{RunFault}
 use Rattle.site_node.specs.declared.kind.NodeFault.{NodeFault}
@@ -30,6 +32,10 @@ lent_replicas disks = filter (λ d. is_replica d.name) disks
 
 abbrev pub lent_outputs : {D : Type 0} → List (Lent D) → List (Lent D)
 lent_outputs disks = filter (λ d. is_output d.name) disks
+
+-- these disks are up, but for the topology's, which isn't read
+abbrev pub AreUp : {D : Type 0} → (D → Bool) → List (Lent D) → Type 0
+AreUp is_down disks = Each (λ l. l.name ≢ name.Topology → is_down l.disk ≡ false) disks
 
 -- a list for each disk, in order: an image of the disk keeps it
 abbrev pub AreKeptIn : {D V : Type 0} → Bool → (D → List ℕ → Type 0) → (List V → List ℕ → Type 0) → List (Lent D) → List (List V) → Type 0

@@ -2,7 +2,7 @@
 ghost use Rattle.std.specs.Prelude.{◌≡◌, ◌≤◌, ℕ, List, None, IsTrue, IfErr, IfSome};
 ghost use Rattle.outside.specs.Faults.{Rose};
 ghost use Rattle.turn_defs.specs.Setting.{Setting, Checked};
-ghost use Rattle.site_store.specs.Plans.{Left};
+ghost use Rattle.site_store.specs.Plans.{Left, HasSoon};
 ghost use Rattle.turn_defs.specs.Configs.{IsRunnable};
 ghost use Rattle.site_run.specs.Asked.{IsSettingOver, OfSetting};
 ghost use Rattle.site_run.specs.Making.{AreEnough, IsRoomFor};
@@ -65,8 +65,9 @@ where
     ensures heard { IfSome ran.new.log (IsHeardOf plan config.now.joiners config.now.replicas) }
     ensures cause { IfErr result (IsCounted (Rose (F.faults files.old) (F.faults files.new)) (Rose (S.faults store.old) (S.faults store.new))) }
     ensures stopped { IfErr result (NamesEnded ran.new.log) }
-    // No node stops more often than was planned for its disks, and where no stop is planned no disk meets a fault.
-    ensures stops { IsTrue S.Disk.planned → IsTrue F.Log.tells → OfSetting (F.bytes files.old) names.now.queries.now names.now.clicks.now config.now end (λ g. RunsAsPlanned (Left S.stops S.made store.old) g ran.new.log (S.faults store.old) (S.faults store.new)) }
+    // No node stops more often than was planned for its disks, and where no stop is planned no disk meets a fault. Where nodes are spared it
+    // gives up for no disk.
+    ensures stops { IsTrue S.Disk.planned → IsTrue F.Log.tells → OfSetting (F.bytes files.old) names.now.queries.now names.now.clicks.now config.now end (λ g. RunsAsPlanned (Left S.stops S.made store.old) (HasSoon S.stops S.made store.old) g ran.new.log (S.faults store.old) (S.faults store.new) result) }
     ensures same { IsTrue F.Log.tells → (n : List ℕ) → F.bytes files.new n ≡ F.bytes files.old n }
     ensures file_count { F.faults files.old ≤ F.faults files.new }
     ensures store_count { S.faults store.old ≤ S.faults store.new }
@@ -120,7 +121,7 @@ where
     ensures cause { IfErr result (IsCounted (Rose (F.faults files.old) (F.faults files.new)) (Rose (S.faults store.old) (S.faults store.new))) }
     ensures stopped { IfErr result (NamesEnded ran.new.log) }
     ensures stops { IsTrue S.Disk.planned → IsTrue F.Log.tells → (g : Setting) → Checked g → IsSettingOver F.Log.bytes logs.clicks.items logs.queries.items config.now end g
-        → RunsAsPlanned (Left S.stops S.made store.old) g ran.new.log (S.faults store.old) (S.faults store.new) }
+        → RunsAsPlanned (Left S.stops S.made store.old) (HasSoon S.stops S.made store.old) g ran.new.log (S.faults store.old) (S.faults store.new) result }
     ensures same { IsTrue F.Log.tells → (n : List ℕ) → F.bytes files.new n ≡ F.bytes files.old n }
     ensures file_count { F.faults files.old ≤ F.faults files.new }
     ensures store_count { S.faults store.old ≤ S.faults store.new }

@@ -1,16 +1,17 @@
 // The end of a run: nodes are taken apart, disks read back, and all is given back.
-ghost use Rattle.std.specs.Prelude.{◌≡◌, ◌≢◌, ◌⊎◌, false, ◌≤◌, ◌+◌, ◌*◌, ◌++◌, ℕ, List, Some, None, Err, length, map, vec_len, vec_capacity, IsTrue, IfOk, IfErr, IfSome, OnOk};
+ghost use Rattle.std.specs.Prelude.{◌≡◌, ◌≢◌, ◌⊎◌, ◌≤◌, ◌+◌, ◌*◌, ◌++◌, ℕ, List, Some, None, Err, length, map, vec_len, vec_capacity, IsTrue, IfOk, IfErr, IfSome, OnOk};
 ghost use Rattle.list_words.specs.Lists.{Each, Mem};
 ghost use Rattle.outside.specs.declared.store.DiskName.{DiskName};
-ghost use Rattle.outside.specs.declared.store.DiskName.TheVariants as name;
 ghost use Rattle.outside.specs.Faults.{Rose};
+ghost use Rattle.run_fault.specs.declared.fault.StorePlace.{StorePlace as Place};
+ghost use Rattle.run_fault.specs.declared.fault.RunFault.TheVariants as run_fault;
 ghost use Rattle.output_log.specs.Pairs.{Keeps as KeepsPairs};
 ghost use Rattle.site_store.specs.Lent.{Lent, MayBeLeft};
 ghost use Rattle.site_node.specs.Replicas.{KeepsNotes};
 ghost use Rattle.site_store.specs.ReadBack.{EachWith, OneWith, replicas, outputs, AreReadFrom, IsOnlyRead, IsToldBy, AreAmongImages};
 ghost use Rattle.site_run.specs.Naming.{as_lent, all_from};
 ghost use Rattle.site_run.specs.Causes.{IsOfDisks};
-ghost use Rattle.site_run.specs.Settled.{told_of, or_else, first_fault, lent_replicas, lent_outputs, AreKeptIn};
+ghost use Rattle.site_run.specs.Settled.{told_of, or_else, first_fault, lent_replicas, lent_outputs, AreKeptIn, AreUp};
 
 use crate::built::{Parting, Parts};
 use crate::causes::fault_of_node;
@@ -98,7 +99,7 @@ fn read_disks<D: Disk>(
     ensures pairs { IfOk result.1 (λ journals. AreReadFrom D.tells D.seen KeepsPairs (outputs disks.items) journals.pairs.items) }
     ensures notes_left { OnOk result.1 (AreAmongImages D.tells D.seen D.image (replicas disks.items)) }
     ensures pairs_left { OnOk result.1 (AreAmongImages D.tells D.seen D.image (outputs disks.items)) }
-    ensures err { IfErr result.1 (λ fault. OneWith (λ old new. IsToldBy D.tells D.image D.faults old new fault) disks.items result.0.items) }
+    ensures err { IfErr result.1 (λ fault. OneWith (λ old new. IsToldBy D.tells D.image D.faults D.planned D.is_down old new fault) disks.items result.0.items) }
 {
     let mut disks = disks;
     let read = read_back(alloc, &mut disks);
@@ -118,11 +119,13 @@ pub(crate) fn settle<F: Source, S: Store>(
     ensures notes { IfOk result (λ outcome. AreKeptIn S.Disk.tells S.Disk.image KeepsNotes (lent_replicas (map as_lent parts.disks.items)) outcome.journals.notes.items) }
     ensures pairs { IfOk result (λ outcome. AreKeptIn S.Disk.tells S.Disk.image KeepsPairs (lent_outputs (map as_lent parts.disks.items)) outcome.journals.pairs.items) }
     ensures whole { IfOk result (λ outcome. fault ≡ None) }
-    ensures told { IfErr result (λ f. (fault ≡ Some f) ⊎ ((fault ≡ None) × IsOfDisks S.Disk.tells S.Disk.image (map as_lent parts.disks.items) (Rose (S.faults store.old) (S.faults store.new)) f)) }
+    // A fault of reading is none of the store where the disks are up.
+    ensures told { IfErr result (λ f. (fault ≡ Some f) ⊎ ((fault ≡ None) × IsOfDisks S.Disk.tells S.Disk.image (map as_lent parts.disks.items) (Rose (S.faults store.old) (S.faults store.new)) f
+        × (IsTrue S.Disk.planned → AreUp S.Disk.is_down (map as_lent parts.disks.items) → (at : Place) → f ≢ run_fault.Store at))) }
     ensures disks { (l : Lent S.Disk) → Mem l (map as_lent parts.disks.items) → 1 ≤ S.Disk.faults l.disk → Rose (S.faults store.old) (S.faults store.new) }
     ensures logs { (l : F.Log) → Mem l parts.logs.items → 1 ≤ F.Log.faults l → Rose (F.faults files.old) (F.faults files.new) }
-    // Disks that met no fault, and are up where they are read, meet none here.
-    ensures calm { IsTrue S.Disk.planned → Each (λ l. (S.Disk.faults l.disk ≡ 0) × (l.name ≢ name.Topology → S.Disk.is_down l.disk ≡ false)) (map as_lent parts.disks.items) → S.faults store.new ≡ S.faults store.old }
+    // Disks that are up meet no fault here.
+    ensures calm { IsTrue S.Disk.planned → AreUp S.Disk.is_down (map as_lent parts.disks.items) → Each (λ l. S.Disk.faults l.disk ≡ 0) (map as_lent parts.disks.items) → S.faults store.new ≡ S.faults store.old }
     ensures same { IsTrue F.Log.tells → (n : List ℕ) → F.bytes files.new n ≡ F.bytes files.old n }
     ensures file_count { F.faults files.old ≤ F.faults files.new }
     ensures store_count { S.faults store.old ≤ S.faults store.new }

@@ -7,7 +7,7 @@ ghost use Rattle.outside.specs.Faults.{Rose};
 ghost use Rattle.turn_defs.specs.Setting.{Setting};
 ghost use Rattle.photon_model.specs.Runs.{Disks};
 ghost use Rattle.site_store.specs.Lent.{MayBeLeft};
-ghost use Rattle.site_store.specs.Plans.{Left, AllAsPlanned};
+ghost use Rattle.site_store.specs.Plans.{Left, HasSoon, AllAsPlanned};
 ghost use Rattle.gate_journal.specs.Images.{GoesOn};
 ghost use Rattle.site_laws.specs.Stores.{SameRecords};
 ghost use Rattle.site_run.specs.Heard.{IsHeardOf, kinds_of};
@@ -15,7 +15,6 @@ ghost use Rattle.site_run.specs.Running.{AreDownOver};
 ghost use Rattle.site_run.specs.Naming.{as_lent, all_from, count_of};
 ghost use Rattle.turn_defs.specs.Configs.{IsOf, IsRunnable};
 ghost use Rattle.run_fault.specs.Causes.{IsCounted};
-ghost use Rattle.site_run.specs.Causes.{IsPastOpening};
 ghost use Rattle.site_run.specs.Refused.{IsOfRun, NamesEnded};
 ghost use Rattle.site_run.specs.Laws.{AreHeld, AreMet, KeepsItsRecord};
 ghost use Rattle.site_run.specs.Stops.{ArePlanned, RunsAsPlanned};
@@ -79,17 +78,18 @@ where
         → IfOk result (λ outcome. IsSomeAnd ran.new.log (λ l. HasRested g e l.air.history (S.image store.new) (Rose (S.faults store.old) (S.faults store.new)) outcome.journals)) }
     ensures heard { IfSome ran.new.log (IsHeardOf plan config.now.joiners config.now.replicas) }
     ensures cause { AreMet S.Disk.faults F.Log.faults N.faults N.log_faults N.disks_of N.logs_of
-        → IfErr result (λ f. IsCounted (Rose (F.faults files.old) (F.faults files.new)) (Rose (S.faults store.old) (S.faults store.new)) f × IsPastOpening f) }
+        → IfErr result (IsCounted (Rose (F.faults files.old) (F.faults files.new)) (Rose (S.faults store.old) (S.faults store.new))) }
     // No disk is told as damaged. A node is told as stopped by its entries, and a limit of one that came to its last epoch by them.
     ensures whole { IsTrue S.Disk.tells → IsTrue N.tells → (g : Setting) (d : Disks) → IsOf config.now g → AreHeld S.Disk.image N.places N.grown N.disks_of
         → AreMet S.Disk.faults F.Log.faults N.faults N.log_faults N.disks_of N.logs_of → AreDownOver N.places g d nodes.items → KeepsItsRecord S.Disk.image g (as_lent topology)
         → IfErr result (IsOfRun g d (Rose (S.faults store.old) (S.faults store.new)) ran.new.log) }
     ensures stopped { IfErr result (NamesEnded ran.new.log) }
-    // No node stops more often than was planned for its disks, and where no stop is planned no disk meets a fault.
+    // No node stops more often than was planned for its disks, and where no stop is planned no disk meets a fault. Where nodes are spared it
+    // gives up for none of their disks.
     ensures stops { IsTrue S.Disk.planned → IsTrue N.planned → (g : Setting) (d : Disks) (s : S) → IsOf config.now g → AreHeld S.Disk.image N.places N.grown N.disks_of → AreDownOver N.places g d nodes.items
         → ArePlanned S.Disk.stops S.Disk.made S.Disk.faults S.Disk.is_down N.stops_left N.faults N.waits N.disks_of → topology.name ≡ name.Topology
         → AllAsPlanned S.Disk.stops S.Disk.made S.Disk.faults (Left S.stops S.made s) (as_lent topology ∷ all_from (N.disks_of config.now) 0 nodes.items)
-        → RunsAsPlanned (Left S.stops S.made s) g ran.new.log (S.faults store.old) (S.faults store.new) }
+        → RunsAsPlanned (Left S.stops S.made s) (HasSoon S.stops S.made s) g ran.new.log (S.faults store.old) (S.faults store.new) result }
     ensures same { IsTrue F.Log.tells → (n : List ℕ) → F.bytes files.new n ≡ F.bytes files.old n }
     ensures file_count { F.faults files.old ≤ F.faults files.new }
     ensures store_count { S.faults store.old ≤ S.faults store.new }

@@ -62,11 +62,12 @@ pub record IsOnlyRead {D : Type 0} (tells : Bool) (seen : D → List ℕ) (image
   pub count : faults old.disk ≤ faults new.disk
   pub calm : IsTrue planned → (old.name ≢ name.Topology → is_down old.disk ≡ false) → faults new.disk ≡ faults old.disk
 
--- A fault is of this disk: its count rose, or a stop might have left bytes of it that are damaged as its kind reads them. Want of
--- memory is free.
-abbrev pub IsToldBy : {D : Type 0} → Bool → (D → List ℕ → Type 0) → (D → ℕ) → (old new : LentDisk D) → RunFault → Type 0
-IsToldBy tells image faults old new f =
-    IsOfDisk (λ name. (old.name ≡ name) × Rose (faults old.disk) (faults new.disk)) (λ name at. (old.name ≡ name) × (IsTrue tells → (c : List ℕ) × image old.disk c × damaged_by name c at)) f
+-- A fault is of this disk: its count rose, and not where it keeps to its plan and is up, or a stop might have left bytes of it that are damaged as
+-- its kind reads them. Want of memory is free.
+abbrev pub IsToldBy : {D : Type 0} → Bool → (D → List ℕ → Type 0) → (D → ℕ) → Bool → (D → Bool) → (old new : LentDisk D) → RunFault → Type 0
+IsToldBy tells image faults planned is_down old new f =
+    IsOfDisk (λ disk. (old.name ≡ disk) × Rose (faults old.disk) (faults new.disk) × (IsTrue planned → (old.name ≢ name.Topology → is_down old.disk ≡ false) → ⊥))
+    (λ disk at. (old.name ≡ disk) × (IsTrue tells → (c : List ℕ) × image old.disk c × damaged_by disk c at)) f
 
 -- what one disk is read as, by its name
 abbrev pub IsReadAs : {D : Type 0} → Bool → (D → List ℕ) → LentDisk D → ReadAs → Type 0

@@ -28,7 +28,7 @@ fn read_one<D: Disk>(alloc: Global, lent: &mut LentDisk<D>) -> Result<ReadAs, Ru
     ensures read { IfOk result (IsReadAs D.tells D.seen lent.old) }
     ensures left { IfOk result (IsAnImage D.tells D.seen D.image lent.old) }
     ensures same { IsOnlyRead D.tells D.seen D.image D.since D.faults D.planned D.is_down lent.old lent.new }
-    ensures err { IfErr result (IsToldBy D.tells D.image D.faults lent.old lent.new) }
+    ensures err { IfErr result (IsToldBy D.tells D.image D.faults D.planned D.is_down lent.old lent.new) }
 {
     match lent.name {
         DiskName::Replica(_) => match read_again::<D, Votes>(alloc, &mut lent.disk) {
@@ -65,7 +65,7 @@ pub fn read_back<D: Disk>(alloc: Global, disks: &mut [LentDisk<D>]) -> Result<Jo
     ensures notes_left { OnOk result (AreAmongImages D.tells D.seen D.image (replicas disks.old)) }
     ensures pairs_left { OnOk result (AreAmongImages D.tells D.seen D.image (outputs disks.old)) }
     ensures same { EachWith (IsOnlyRead D.tells D.seen D.image D.since D.faults D.planned D.is_down) disks.old disks.new }
-    ensures err { IfErr result (λ fault. OneWith (λ old new. IsToldBy D.tells D.image D.faults old new fault) disks.old disks.new) }
+    ensures err { IfErr result (λ fault. OneWith (λ old new. IsToldBy D.tells D.image D.faults D.planned D.is_down old new fault) disks.old disks.new) }
 {
     let mut journals = Journals {
         notes: Vec::new(alloc),

@@ -2,9 +2,9 @@ use Rattle.std.proofs.Common.{◌≡◌, ◌+◌, ◌*◌, ◌∷◌, [], ℕ, L
 use Rattle.std.specs.Prelude.{IfErr, IsTrue}
 use Rattle.outside.specs.declared.store.DiskName.TheVariants as name
 use Rattle.site_store.specs.Plans.{IsAsPlanned, Left}
-use Rattle.site_store.proofs.Planned.{calm_by_plan, each_calm}
+use Rattle.site_store.proofs.Planned.{calm_by_plan, each_calm, spared}
 use Rattle.site_run.specs.Making.{IsStart}
-use Rattle.site_run.proofs.Words.{IfErr-weaker, length-map, Mem, mem_right, DiskName, Topology, Store, Setting, IsLogOf, Rose, topology_of, IsAsked, IsSettingOver, MayBeLeft, kept_all, lent_all, topology_lent, as_lent, values_of, other_names, records_of, names_kept, KeepsItsRecord, IsCounted, IsCauseOf, IsOfRun, IsPastOpening, RunLeft}
+use Rattle.site_run.proofs.Words.{IfErr-weaker, length-map, Mem, mem_right, DiskName, Topology, Store, Setting, IsLogOf, Rose, topology_of, IsAsked, IsSettingOver, MayBeLeft, kept_all, lent_all, topology_lent, as_lent, values_of, other_names, records_of, names_kept, KeepsItsRecord, IsCounted, IsCauseOf, IsOfRun, RunLeft}
 use Rattle.site_run.proofs.Counting.{rose_before, some_rose}
 use Rattle.site_run.proofs.Holding.{all_tell}
 use Rattle.site_run.proofs.Opened.{as_many, as_many_with, may_same, out_same}
@@ -53,8 +53,8 @@ returns-clause-cause g c =
     let logs_rose = Rose (g.F.Source.faults c.args.files.now) (g.F.Source.faults c.run_system.new.files) in
     let disks_rose = Rose (g.S.Store.faults c.args.store.now) (g.S.Store.faults c.run_system.new.store) in
     let from_there = Rose (g.S.Store.faults c.open_store.new.store) (g.S.Store.faults c.run_system.new.store) in
-    IfErr-weaker c.run_system.result _ _ (λ f both. counted_more f logs_rose from_there logs_rose disks_rose (λ rose. rose)
-    (λ rose. rose_before (g.S.Store.faults c.args.store.now) (g.S.Store.faults c.open_store.new.store) (g.S.Store.faults c.run_system.new.store) c.in-Ok.ensures.count rose) both.0) (c.run_system.ensures.cause c.all_met.ensures)
+    IfErr-weaker c.run_system.result _ _ (λ f from. counted_more f logs_rose from_there logs_rose disks_rose (λ rose. rose)
+    (λ rose. rose_before (g.S.Store.faults c.args.store.now) (g.S.Store.faults c.open_store.new.store) (g.S.Store.faults c.run_system.new.store) c.in-Ok.ensures.count rose) from) (c.run_system.ensures.cause c.all_met.ensures)
 
 pub returns-clause-over : goal.returns-clause-over
 returns-clause-over g c tells log_tells gg checked is =
@@ -102,8 +102,8 @@ returns-clause-over g c tells log_tells gg checked is =
         };
         idle = λ none disk other. other_stays asked_of image before inside topology others (o.lent tells) refl apart after (idle none) disk other;
         passed = on_ok_of c.run_system.result (passed_so gg before asked_of asked _ is.logs.numbers.replicas g.S.Disk.Disk.tells g.F.Log.LogFile.tells tells log_tells (g.F.Log.LogFile.bytes c.take_last-read.result) c.args.end first is.ends (values_of {D = g.row.S-Disk.Denot} o.kept.0 d.disks.items) o.kept.1 o.kept.2);
-        caused = err_both (λ f. IsCounted logs_rose from_there f × IsPastOpening f) (IsOfRun gg built from_there c.run_system.new.ran.log) (IsCauseOf gg before logs_rose disks_rose) c.run_system.result (run.cause c.all_met.ensures) whole
-            (λ f both of. cause_so gg before all_kept o.kept.2.limits (o.kept.1.kept tells) built begun.records named c.run_system.new.ran.log logs_rose disks_rose from_there later f (counted_more f logs_rose from_there logs_rose disks_rose (λ rose. rose) later both.0) of);
+        caused = err_both (IsCounted logs_rose from_there) (IsOfRun gg built from_there c.run_system.new.ran.log) (IsCauseOf gg before logs_rose disks_rose) c.run_system.result (run.cause c.all_met.ensures) whole
+            (λ f from of. cause_so gg before all_kept o.kept.2.limits (o.kept.1.kept tells) built begun.records named c.run_system.new.ran.log logs_rose disks_rose from_there later f (counted_more f logs_rose from_there logs_rose disks_rose (λ rose. rose) later from) of);
         welcome = λ sound. IfErr-weaker c.run_system.result _ _ (λ f of. welcome_so gg built from_there _ c.run_system.new.ran.log f of) whole;
       };
       left = run_left c.run_system.new.ran.log gg before after were_kept were.1 (λ d' same. run.left tells node_tells gg built d' is.logs.numbers held down same keeps);
@@ -183,7 +183,7 @@ returns-clause-stops g c planned log_tells gg checked is =
     let left = Left g.S.Store.stops g.S.Store.made c.args.store.now in
     let all = (c.in-Ok.ensures.plan planned).out in
     let same = c.into_disk.ensures ∙ ap (λ t. t.journal.disk) c.in-Ok-build.ensures.topology in
-    planned_earlier _ _ _ gg _ _ _ (λ disk k few. few) (λ none. (c.in-Ok.ensures.plan planned).still)
+    planned_earlier _ _ _ _ _ gg _ _ _ _ (λ disk k few. few) (λ disk soon. soon) (λ none. (c.in-Ok.ensures.plan planned).still)
     (c.run_system.ensures.stops planned (c.all_planned.ensures.planned planned) gg _ c.args.store.now is.logs.numbers (c.all_held.ensures tells log_tells) (c.in-Ok-build.ensures.places tells gg _ (start g (goal.at.returns-clause-stops g c).After-build log_tells gg is))
     (c.all_planned.ensures.disks planned) refl
     (subst (IsAsPlanned disk.stops disk.made disk.faults (left name.Topology)) (sym same) all.0, each_moved (λ l. IsAsPlanned disk.stops disk.made disk.faults (left l.name) l.disk) _ _ c.in-Ok-build.ensures.held all.1))
@@ -192,10 +192,13 @@ pub returns-in-Err-build-clause-stops : goal.returns-in-Err-build-clause-stops
 returns-in-Err-build-clause-stops g c planned log_tells gg checked is =
     let disk = g.S.Disk.Disk in
     let opened = topology_lent {D = g.row.S-Disk.Denot} c.in-Ok.opened.topology.journal.disk ∷ lent_all {D = g.row.S-Disk.Denot} c.in-Ok.opened.disks.items in
-    none_planned _ _ gg _ _ c.requires.none
+    none_planned _ _ _ gg _ _ _ c.requires.none
     (λ none. c.give_parts.ensures.calm (each_moved (λ l. disk.faults l.disk ≡ 0) opened _ c.in-Err-build.ensures.disks (each_calm disk.stops disk.made disk.faults (Left g.S.Store.stops g.S.Store.made c.args.store.now) opened (c.in-Ok.ensures.plan planned).out)) ∙ (c.in-Ok.ensures.plan planned).still)
+    (λ are at is. absurd (cc is))
 
 pub returns-in-Err-clause-stops : goal.returns-in-Err-clause-stops
 returns-in-Err-clause-stops g c planned log_tells gg checked is =
     let s = g.S.Store in
-    none_planned _ _ gg _ _ c.requires.none (λ none. calm_by_plan s.stops s.made s.faults c.args.store.now c.open_store.new.store none c.in-Err.fault (c.in-Err.ensures.early planned))
+    let by = c.in-Err.ensures.early planned in
+    none_planned _ _ _ gg _ _ _ c.requires.none (λ none. calm_by_plan s.stops s.made s.faults c.args.store.now c.open_store.new.store none c.in-Err.fault by)
+    (λ are. spared s.stops s.made s.faults c.args.store.now c.open_store.new.store are.late c.in-Err.fault by)

@@ -1,12 +1,12 @@
 use Rattle.std.proofs.Common.{◌∙◌, ap, Err, sym, subst}
 use Rattle.site_run.proofs.Words.{IsCounted, IsWelcome, IsCauseOf, Rose}
-use Rattle.site_run.proofs.Refusing.{place_cause, place_unnamed}
+use Rattle.site_run.proofs.Refusing.{place_cause, place_spared, place_unnamed}
 use Rattle.site_run.proofs.Counting.{rose_before}
 use Rattle.site_run.proofs.Entered.{over_so, checked_so, place_counted, place_welcome}
 use Rattle.site_run.proofs.Earlier.{not_begun, ran_earlier}
-use Rattle.site_store.specs.Plans.{Left}
+use Rattle.site_store.specs.Plans.{HasSoon, Left}
 use Rattle.site_store.proofs.Planned.{same_left}
-use Rattle.site_run.proofs.Planning.{planned_earlier}
+use Rattle.site_run.proofs.Planning.{planned_earlier, soon_earlier}
 use Rattle.site_run.proofs.run.run_sites.Goals as goal
 
 pub returns-in-Err-place-clause-cause : goal.returns-in-Err-place-clause-cause
@@ -64,12 +64,17 @@ returns-clause-stops g c planned log_tells gg is =
     let logs = c.in-Ok-open_logs.logs in
     let over = over_so g.F.Log.LogFile.bytes told queries clicks c.args.config.now c.args.end gg logs.clicks.items logs.queries.items
     (c.in-Ok-open_logs.ensures.click_logs log_tells) (c.in-Ok-open_logs.ensures.query_logs log_tells) is in
-    planned_earlier c.run_over.new.ran.log (Left s.stops s.made old) (Left s.stops s.made placed) gg _ _ _
+    planned_earlier c.run_over.new.ran.log (Left s.stops s.made old) (Left s.stops s.made placed) (HasSoon s.stops s.made old) (HasSoon s.stops s.made placed) gg _ _ _ c.run_over.result
     (λ disk k. same_left k (s.stops old disk) (s.stops placed disk) (s.made old disk) (s.made placed disk) (c.place.ensures.stops tells disk) (c.place.ensures.made tells disk))
+    (soon_earlier s.stops s.made old placed (c.place.ensures.stops tells) (c.place.ensures.made tells))
     (λ none. c.place.ensures.tally tells)
     (c.run_over.ensures.stops planned log_tells gg (checked_so c.stores.ensures.checked gg (told queries) (told clicks) is.queries_are is.clicks_are) over)
 
 pub returns-in-Err-place-clause-stops : goal.returns-in-Err-place-clause-stops
 returns-in-Err-place-clause-stops g c planned log_tells gg is =
     let tells = (g.met.S.Disk.Disk g.world.𝓛 g.world.𝓜 g.world.𝓡 ((λ s x. x), (λ x. x), (λ x. x), λ x. x)).plan_told planned in
-    record { stops = tt; calm = λ none. c.place.ensures.tally tells }
+    record {
+      stops = tt;
+      calm = λ none. c.place.ensures.tally tells;
+      spared = λ are at is. place_spared c.in-Err-place.fault (λ failed. c.in-Err-place.ensures.plan planned (ap Err failed)) at (sym c.from.ensures ∙ is);
+    }

@@ -1,6 +1,6 @@
-use Rattle.std.proofs.Common.{rules, inr, map}
-use Rattle.site_run.proofs.Words.{KeepsPairs, KeepsNotes, is_replica, is_output, Rose, as_lent}
-use Rattle.site_run.proofs.Settling.{left_read, met_read, calm_read, told_counted, kept_in, ok_of, on_ok, err_of}
+use Rattle.std.proofs.Common.{rules, inr}
+use Rattle.site_run.proofs.Words.{KeepsPairs, KeepsNotes, is_replica, is_output, Rose}
+use Rattle.site_run.proofs.Settling.{left_read, met_read, calm_read, up_read, told_counted, kept_in, ok_of, on_ok, err_of}
 use Rattle.site_run.proofs.settle.settle.Goals as goal
 
 pub returns-in-Some-clause-left : goal.returns-in-Some-clause-left
@@ -50,23 +50,24 @@ pub returns-in-Err-clause-told : goal.returns-in-Err-clause-told
 returns-in-Err-clause-told g c =
     let d = g.S.Disk.Disk in
     let rose = Rose (g.S.Store.faults c.args.store.now) (g.S.Store.faults c.give_parts.new.store) in
-    let lent = map as_lent c.args.parts.disks.items in
+    let told = err_of _ c.read_disks-disks.result.1 c.in-Err.fault c.in-Err.is c.read_disks-disks.ensures.err in
     inr (
       search rules,
-      told_counted d.tells d.seen d.image d.since d.faults d.planned d.is_down c.in-Err.fault c.args.parts.disks.items _ rose c.give_parts.ensures.disks (err_of _ c.read_disks-disks.result.1 c.in-Err.fault c.in-Err.is c.read_disks-disks.ensures.err),
+      told_counted d.tells d.seen d.image d.since d.faults d.planned d.is_down c.in-Err.fault c.args.parts.disks.items _ rose c.give_parts.ensures.disks told,
+      λ planned up. up_read d.tells d.seen d.image d.since d.faults d.planned d.is_down planned c.args.parts.disks.items _ c.read_disks-disks.ensures.same up c.in-Err.fault told,
     )
 
 pub returns-in-Some-clause-calm : goal.returns-in-Some-clause-calm
-returns-in-Some-clause-calm g c planned calm =
+returns-in-Some-clause-calm g c planned up calm =
     let d = g.S.Disk.Disk in
-    c.give_parts.ensures.calm (calm_read d.tells d.seen d.image d.since d.faults d.planned d.is_down planned _ _ c.read_disks-disks.ensures.same calm)
+    c.give_parts.ensures.calm (calm_read d.tells d.seen d.image d.since d.faults d.planned d.is_down planned _ _ c.read_disks-disks.ensures.same up calm)
 
 pub returns-in-Ok-clause-calm : goal.returns-in-Ok-clause-calm
-returns-in-Ok-clause-calm g c planned calm =
+returns-in-Ok-clause-calm g c planned up calm =
     let d = g.S.Disk.Disk in
-    c.give_parts.ensures.calm (calm_read d.tells d.seen d.image d.since d.faults d.planned d.is_down planned _ _ c.read_disks-disks.ensures.same calm)
+    c.give_parts.ensures.calm (calm_read d.tells d.seen d.image d.since d.faults d.planned d.is_down planned _ _ c.read_disks-disks.ensures.same up calm)
 
 pub returns-in-Err-clause-calm : goal.returns-in-Err-clause-calm
-returns-in-Err-clause-calm g c planned calm =
+returns-in-Err-clause-calm g c planned up calm =
     let d = g.S.Disk.Disk in
-    c.give_parts.ensures.calm (calm_read d.tells d.seen d.image d.since d.faults d.planned d.is_down planned _ _ c.read_disks-disks.ensures.same calm)
+    c.give_parts.ensures.calm (calm_read d.tells d.seen d.image d.since d.faults d.planned d.is_down planned _ _ c.read_disks-disks.ensures.same up calm)

@@ -1,18 +1,15 @@
 use Rattle.std.specs.Prelude.{IsTrue}
-use Rattle.std.proofs.Common.{◌≡◌, ◌≢◌, ⊎_elim, ℕ, ◌+◌, ◌<◌, List, ◌++◌, ◌∷◌, [], None, Some, false, length, map, slice_index_or, sym, ap, ◌∙◌, subst, arith}
-use Rattle.site_run.proofs.Words.{length-map, recursion_from_All, IfErr-weaker, Each, Mem, mem_right, Rose, KeepsPairs, Config, IsOf, Kind, Setting, Disks, count_of, kinds_of, node_count, MayBeLeft, KeepsNotes, made_by, stop_count, as_lent, all_from, AreDownOver, IsRunFrom, IsOfDisks, AreKeptIn, lent_replicas, lent_outputs}
+use Rattle.std.proofs.Common.{◌≡◌, ⊎_elim, ℕ, ◌+◌, ◌<◌, List, ◌++◌, ◌∷◌, Some, length, map, sym, ap, ◌∙◌, subst, arith}
+use Rattle.site_run.proofs.Words.{length-map, IfErr-weaker, Each, Mem, mem_right, Rose, KeepsPairs, Config, IsOf, Kind, Setting, Disks, count_of, kinds_of, node_count, MayBeLeft, KeepsNotes, made_by, stop_count, as_lent, all_from, AreDownOver, IsRunFrom, IsOfDisks, AreKeptIn, AreUp, lent_replicas, lent_outputs}
 use Rattle.site_run.proofs.Opened.{down_too}
 use Rattle.site_run.proofs.Standing.{have_grown, runs_from}
 use Rattle.site_run.proofs.Dead.{dead_replicas, kinds_count}
 use Rattle.site_run.proofs.Naming.{same_numbers}
 use Rattle.site_run.proofs.Outing.{given_goes_on}
-use Rattle.site_run.proofs.Running.{same_count, goes_on, has_run, rests, no_stops, fault_told, first_told, first_ended, disks_alone, read_back_of, at_rest, disks_counted}
+use Rattle.site_run.proofs.Running.{same_count, goes_on, has_run, rests, no_stops, fault_told, first_told, first_ended, disks_alone, read_back_of, at_rest, disks_counted, none_at}
 use Rattle.site_run.proofs.Settling.{in_front, ok_three}
-use Rattle.site_run.proofs.Planning.{all_calm, none_planned, none_too_often}
-use Rattle.site_workers.specs.Works.{KeepsPlan}
-use Rattle.outside.specs.declared.store.DiskName.TheVariants as name
+use Rattle.site_run.proofs.Planning.{all_calm, all_up, none_planned, none_told, none_too_often}
 use Rattle.site_store.specs.Plans.{Left}
-use Rattle.site_store.proofs.Lending.{each_weaker}
 use Rattle.site_store.proofs.Planned.{each_calm}
 use Rattle.site_run.proofs.system.run_system.Given.{Over}
 use Rattle.site_run.proofs.system.run_system.Goals as goal
@@ -203,16 +200,29 @@ returns-in-Ok-clause-stops g c planned node_planned gg d s asked held down laws 
     let others = all_from (λ i w. disks_of c.args.config.now i w.0) 0 ws in
     let whole = c.part_all-parts.ensures.disks ∙ in_front c.args.parts.disks.items c.push_reserved.new.self.items c.args.topology others c.requires.empty.0 c.push_reserved.ensures.items in
     let plan = c.in-Ok.ensures.plan node_planned in
+    let same = same_numbers gg c.args.config.now asked in
+    let numbers = c.node_numbers.ensures gg in
+    let with_topology = λ (up : AreUp disk.is_down others). subst (AreUp disk.is_down) (sym whole) ((λ other. absurd (other named)), up) in
     record {
-      stops = none_too_often disk.stops disk.made disk.faults disk.is_down n.stops_left n.faults n.waits disks_of laws c.args.config.now left
-          disk.image g.N.SystemNode.places n.grown held gg (same_numbers gg c.args.config.now asked) (c.node_numbers.ensures gg) d nodes ws h count down plan all.1;
+      stops = none_too_often disk.stops disk.made disk.faults disk.is_down n.stops_left n.faults n.waits disks_of laws c.args.config.now left nodes ws h all.1 plan
+          disk.image g.N.SystemNode.places n.grown held gg same numbers d count down c.in-Ok.ensures.count;
       calm = λ none.
-          let calm = all_calm disk.stops disk.made disk.faults disk.is_down n.stops_left n.faults n.waits disks_of laws c.args.config.now left none (λ k. made_by k h) 0 nodes ws c.in-Ok.ensures.count
-          (λ i a b below. let same : i ≡ 0 + i = omega arith in subst (λ k. KeepsPlan n.stops_left n.faults n.waits (slice_index_or nodes i a) None [] (slice_index_or ws i b).0 (slice_index_or ws i b).1 (made_by k h)) same (plan i a b below))
-          (recursion_from_All (λ v. n.waits v ≡ false) nodes c.requires.up) all.1 in
-          c.settle.ensures.calm planned
-          (subst (Each (λ l. (disk.faults l.disk ≡ 0) × (l.name ≢ name.Topology → disk.is_down l.disk ≡ false))) (sym whole)
-          ((all.0.calm, λ other. absurd (other named)), each_weaker (λ l. (disk.faults l.disk ≡ 0) × (disk.is_down l.disk ≡ false)) (λ l. (disk.faults l.disk ≡ 0) × (l.name ≢ name.Topology → disk.is_down l.disk ≡ false)) (λ l x. (x.0, λ other. x.1)) others calm));
+          let calm = all_calm disk.stops disk.made disk.faults disk.is_down n.stops_left n.faults n.waits disks_of laws c.args.config.now left nodes ws h all.1 plan c.in-Ok.ensures.count c.requires.up none in
+          c.settle.ensures.calm planned (with_topology calm.0) (subst (Each (λ l. disk.faults l.disk ≡ 0)) (sym whole) (all.0.calm, calm.1));
+      spared = λ are.
+          let told = sym c.part_all-parts.ensures.fault in
+          let rise = none_told disk.stops disk.made disk.faults disk.is_down n.stops_left n.faults n.waits disks_of laws c.args.config.now left nodes ws h all.1 plan
+          disk.image g.N.SystemNode.places n.grown held gg same numbers d count down c.in-Ok.ensures.count are.few c.in-Ok.ensures.met in
+          IfErr-weaker c.settle.result _ _
+          (λ f told_too.
+          ⊎_elim (λ is. rise f (told ∙ is))
+          (λ of.
+          of.2 planned
+          (with_topology
+          (all_up disk.stops disk.made disk.faults disk.is_down n.stops_left n.faults n.waits disks_of laws c.args.config.now left nodes ws h all.1 plan
+          (λ i b below. (c.in-Ok.ensures.met i b (omega (arith, below, c.in-Ok.ensures.count))).up (none_at c.args.config.now 0 ws i b (told ∙ of.0) below)))))
+          told_too)
+          c.settle.ensures.told;
     }
 
 pub returns-in-Err-clause-stops : goal.returns-in-Err-clause-stops
@@ -223,5 +233,6 @@ returns-in-Err-clause-stops g c planned node_planned gg d s asked held down laws
     let others = all_from (disks_of c.args.config.now) 0 c.args.nodes.items in
     let front = in_front c.args.parts.disks.items items c.args.topology others c.requires.empty.0 c.push_reserved.ensures.items in
     let whole = c.apart-parts.ensures.disks ∙ ap (λ v. map as_lent items ++ all_from (disks_of c.args.config.now) 0 v.items) c.in-Err.ensures.back ∙ front in
-    none_planned _ _ gg _ _ c.requires.none
+    none_planned _ _ _ gg _ _ _ c.requires.none
     (λ none. c.give_parts.ensures.calm (subst (Each (λ l. disk.faults l.disk ≡ 0)) (sym whole) (each_calm disk.stops disk.made disk.faults (Left g.S.Store.stops g.S.Store.made s) (as_lent c.args.topology ∷ others) all)))
+    (λ are at is. absurd (cc is))

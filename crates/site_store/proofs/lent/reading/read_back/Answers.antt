@@ -12,7 +12,7 @@ returns-in-Err-clause-same g c =
 pub returns-in-Err-clause-err : goal.returns-in-Err-clause-err
 returns-in-Err-clause-err g c =
     let d = g.D.Disk in
-    next_one (IsOnlyRead d.tells d.seen d.image d.since d.faults d.planned d.is_down) (λ (old new : LentDisk g.row.D.Denot). IsToldBy d.tells d.image d.faults old new c.in-Err.fault)
+    next_one (IsOnlyRead d.tells d.seen d.image d.since d.faults d.planned d.is_down) (λ (old new : LentDisk g.row.D.Denot). IsToldBy d.tells d.image d.faults d.planned d.is_down old new c.in-Err.fault)
     c.loop-i.i c.args.disks.now c.loop-i.disks c.index-disks-i.result c.read_one.new.lent c.loop-i.invariant.walked c.loop-i-test.true c.in-Err.ensures.err
 
 pub returns-in_default-clause-same : goal.returns-in_default-clause-same
