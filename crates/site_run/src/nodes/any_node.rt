@@ -3,7 +3,6 @@ ghost use Rattle.site_run.specs.AnyNodes.{AnyState, GoesOn};
 
 use dispatch_node::DispatchNode;
 use joiner_node::JoinerNode;
-use lossy_link::Kind;
 use outside::{Disk, LogFile};
 use registry_server::ServerNode;
 use replica_node::ReplicaNode;
@@ -18,9 +17,6 @@ pub trait SystemNode: SiteNode {
     /// Whether it stands at the state.
     ghost places: { Self → AnyState → Type 0 };
 
-    /// Its kind.
-    fn kind(&self) -> Kind;
-
     /// What leads it on leads a node of the system on, and it says of its rest, and of its last epoch, what that node says.
     ghost walks: { (v : Self) (u : AnyState) → places v u → GoesOn Self.leads Self.phase_of Self.stands Self.at_rest_as Self.spends places v u };
 }
@@ -30,15 +26,6 @@ impl<D: Disk, L: LogFile> SystemNode for AnyNode<D, L> {
     ghost use Rattle.site_run.specs.Spending.{at_last};
 
     ghost places = { ⟦<AnyNode<D, L> as SiteNode>⟧.stands };
-
-    fn kind(&self) -> Kind {
-        match self {
-            OneOf::First(_) => Kind::Dispatcher,
-            OneOf::Second(_) => Kind::Server,
-            OneOf::Third(_) => Kind::Replica,
-            OneOf::Fourth(_) => Kind::Joiner,
-        }
-    }
 
     ghost walks = { λ v u at. record {
       from = u;
