@@ -235,13 +235,13 @@ plan_left f place (inr (inr (inr e))) read = inr (ap status_of e)
 
 -- what is left of a drill where no count rose and nothing is refused
 pub drill_left : (stops : Type 0) (f : RunFault) → ((u : Unfit) → f ≡ fault.Reshard u → ⊥) → ((n : ℕ) → f ≡ fault.Table n → ⊥) → ((place : Field) → f ≡ fault.Plan place → ⊥) → ((log : LogName) (line : ℕ) (w : Why) → f ≡ fault.Refused log line w → ⊥) → (IsFailedRead f → ⊥) → (f ≡ fault.Write → ⊥) → IsOfDrill stops f
-    → (status_of f ≡ 6) ⊎ (status_of f ≡ 8)
+    → ((status_of f ≡ 6) × stops) ⊎ (status_of f ≡ 8)
 drill_left stops (fault.Table n) adds row bad line read write fair = absurd (row n refl)
 drill_left stops (fault.Plan at) adds row bad line read write fair = absurd (bad at refl)
 drill_left stops (fault.Refused log n w) adds row bad line read write fair = absurd (line log n w refl)
 drill_left stops fault.PlanRead adds row bad line read write fair = absurd (read (inl refl))
 drill_left stops (fault.Read log) adds row bad line read write fair = absurd (read (inr (log, refl)))
-drill_left stops (fault.Store at) adds row bad line read write fair = inl refl
+drill_left stops (fault.Store at) adds row bad line read write fair = inl (refl, fair)
 drill_left stops (fault.Damaged disk at) adds row bad line read write fair = absurd fair
 drill_left stops (fault.Topology what) adds row bad line read write fair = absurd fair
 drill_left stops (fault.Limit disk value) adds row bad line read write fair = absurd fair

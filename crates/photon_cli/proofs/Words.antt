@@ -57,7 +57,7 @@ pub use Rattle.photon_cli.specs.Again.{AreCalls, AreOutputOnce, Call, IsLater, K
 pub use Rattle.photon_cli.specs.Bulk.{IsBulkRun, IsBulkSetting, bulk_plan}
 pub use Rattle.photon_cli.specs.Causes.{CanBeRead, HasCauseInVerify, IsOverLog, unasked}
 pub use Rattle.photon_cli.specs.CheckedLogs.{AreLines, EndsAt, IsChecked, kept}
-pub use Rattle.photon_cli.specs.Drill.{Drills, IsBadIn, IsDrilled}
+pub use Rattle.photon_cli.specs.Drill.{Drills, IsBadIn, IsDrilled, SparesNodes}
 pub use Rattle.photon_cli.specs.Ends.{BulkEnds, DrillEnds, Ends, JoinEnds, VerifyEnds}
 pub use Rattle.photon_cli.specs.Faults.{words_status}
 pub use Rattle.photon_cli.specs.Join.{AreLogs, AreValid, BeginsJoin, HasIds, HaveIds, IsAsked, IsHeardOf, IsHistory, IsInvalid, Refuses, config_of, no_plan}
@@ -94,9 +94,10 @@ pub use Rattle.site_run.proofs.Earlier.{leaves_placed}
 pub use Rattle.site_run.proofs.Entered.{counted_more, left_before, place_welcome, sound_placed, welcome_where}
 pub use Rattle.site_run.proofs.Outing.{goes_on_through, goes_on_within, stays_goes_on}
 pub use Rattle.site_run.proofs.Refusing.{err_both, kept_are_journals}
-pub use Rattle.site_run.proofs.Planning.{none_of_joiners, planned_earlier}
+pub use Rattle.site_run.proofs.Planning.{all_earlier, none_of_joiners, stops_earlier}
 pub use Rattle.site_run.specs.Heard.{kinds_of}
-pub use Rattle.site_run.specs.Stops.{StopsAsPlanned}
+pub use Rattle.site_run.specs.Naming.{names_of}
+pub use Rattle.site_run.specs.Stops.{AllInAll, StopsAsPlanned}
 pub use Rattle.site_run.specs.Over.{EndsOver, Keeps as KeepsOver, RunsOver}
 pub use Rattle.site_run.specs.Asked.{IsSettingOf}
 pub use Rattle.site_run.specs.Joined.{Joins, JoinsAfresh, RanAfresh}
@@ -132,6 +133,7 @@ pub use Rattle.time_shards.specs.declared.ShardRow.{ShardRow}
 pub use Rattle.topology_journal.specs.Topologies.{Keeps as KeepsTopology}
 pub use Rattle.topology_journal.specs.declared.topology.Topology.{Topology, Topology as KeptTopology}
 pub use Rattle.turn_defs.specs.Setting.{Checked, Setting}
+pub use Rattle.turn_defs.specs.declared.node.Node.{Node}
 pub use Rattle.turn_defs.specs.declared.pair.PairRec.{PairRec}
 pub use Rattle.turn_defs.specs.declared.config.Config.{Config}
 pub use Rattle.verify_pass.specs.Classes.{first_pair, line_by, line_of}

@@ -1,6 +1,9 @@
 -- What a drill does: both sites run over disks in memory that hold nothing at first, and a plan says what goes wrong.
-use Rattle.std.specs.Prelude.{ℕ, ◌≡◌, Bool, false, List, ◌++◌, map, Option, IfSome, IsSomeAnd, IsTrue}
+use Rattle.std.specs.Prelude.{ℕ, ◌≡◌, ◌≤◌, Bool, false, List, ◌++◌, map, Option, IfSome, IsSomeAnd, IsTrue}
 use Rattle.std.specs.List.{list_any}
+use Rattle.list_words.specs.Lists.{Each}
+use Rattle.time_shards.specs.declared.ShardRow.{ShardRow}
+use Rattle.lossy_link.specs.declared.plan.PlanStop.{PlanStop}
 use Rattle.lossy_link.specs.Fates.{PlanView}
 use Rattle.lossy_link.specs.Plans.{IsPlanOf, IsFirstBad}
 use Rattle.lossy_link.specs.declared.bad_plan.Field.{Field}
@@ -9,11 +12,13 @@ use Rattle.log_records.specs.declared.report.ReportLine.{ReportLine}
 use Rattle.log_records.specs.Report as logs
 use Rattle.report_text.specs.Stream.{TookPrefix}
 use Rattle.turn_defs.specs.Setting.{Setting}
+use Rattle.turn_defs.specs.declared.node.Node.{Node}
 use Rattle.photon_cli.specs.Planned.{StopsAtMost, is_joiners}
 use Rattle.site_run.specs.Joined.{RanAfresh}
-use Rattle.site_run.specs.Stops.{StopsAsPlanned}
+use Rattle.site_run.specs.Naming.{names_of}
+use Rattle.site_run.specs.Stops.{AllInAll, StopsAsPlanned}
 use Rattle.site_run.specs.declared.ran.RunLog.{RunLog}
-use Rattle.photon_cli.specs.Join.{AreValid, IsAsked, IsHeardOf}
+use Rattle.photon_cli.specs.Join.{AreValid, IsAsked, IsHeardOf, config_of}
 use Rattle.command_words.specs.Words.{Text, Values}
 use Rattle.photon_cli.specs.Words.{HasTable}
 
@@ -24,6 +29,11 @@ pub record IsDrilled (g : Setting) (plan : PlanView) (lines : List ReportLine) (
   pub heard : IsHeardOf plan g.joiners log
   pub stops : StopsAsPlanned (StopsAtMost g.joiners plan.stops) g log.air.history
   pub whole : list_any is_joiners plan.stops ≡ false → lines ≡ map (logs.line_of g.queries g.horizon) (logs.distinct (map (λ (l : ClickLine). l.click) g.clicks))
+
+-- No stop is of one of a disk's first three calls, which open it, and of each node's disks at most one call is planned to fail.
+pub record SparesNodes (v : Values) (stops : List PlanStop) : Type 0 where
+  pub late : Each (λ stop. 3 ≤ stop.call) stops
+  pub few : (table : List ShardRow) (n : Node) → AllInAll (StopsAtMost v.nodes.joiners stops) (names_of (config_of v table) n) 1
 
 -- Here told says what bytes are under a name.
 module _ (told : List ℕ → Option (List ℕ)) where

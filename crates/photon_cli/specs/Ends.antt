@@ -1,5 +1,5 @@
 -- How each command ends, by its exit status.
-use Rattle.std.specs.Prelude.{ℕ, ◌≡◌, ◌≢◌, ◌⊎◌, List, [], Bool, true, false, Option, IfSome, IsSomeAnd, IsTrue}
+use Rattle.std.specs.Prelude.{ℕ, ◌≡◌, ◌≢◌, ◌⊎◌, List, Bool, true, false, Option, IfSome, IsSomeAnd, IsTrue}
 use Rattle.outside.specs.declared.store.DiskName.{DiskName}
 use Rattle.time_shards.specs.declared.ShardRow.{ShardRow}
 use Rattle.time_shards.specs.Text.{IsFirstBad}
@@ -20,7 +20,7 @@ use Rattle.run_fault.specs.declared.fault.RunFault.{RunFault}
 use Rattle.photon_cli.specs.Causes.{AreMisplaced, CanBeRead, IsAtLimit, IsBelowLimits, IsMismatched, IsOverLog, unasked}
 use Rattle.run_fault.specs.Faults.{status_of}
 use Rattle.photon_cli.specs.Bulk.{BeginsBulk, IsBulkRun, PrintsTotals, PrintsTotalsPrefix}
-use Rattle.photon_cli.specs.Drill.{BeginsDrill, HasDrilled, IsBadIn, IsPlanIn, PrintsDrill, PrintsDrillPrefix}
+use Rattle.photon_cli.specs.Drill.{BeginsDrill, HasDrilled, IsBadIn, IsPlanIn, PrintsDrill, PrintsDrillPrefix, SparesNodes}
 use Rattle.photon_cli.specs.Join.{BeginsJoin, HasRun, IsAsked, IsHistory, IsInvalid, Prints, PrintsAfresh, PrintsPrefix, Refuses, no_plan}
 use Rattle.photon_cli.specs.Reshard.{ReshardEnds}
 use Rattle.photon_cli.specs.Told.{IsNamedInBulk, IsNamedInDrill, IsToldOf, IsToldOfVerify, TellsBy}
@@ -102,13 +102,14 @@ module _ (logs sinks : Bool) (told : List ℕ → Option (List ℕ)) (files outp
     pub invalid : IsTrue logs → (log : LogName) (table : List ShardRow) → IsTextOf v.nodes.shards table → IsInvalid told v.queries v.clicks log → (files → ⊥) → (status ≡ 2) ⊎ ((status ≡ 3) ⊎ (status ≡ 8))
     pub prefix : IsTrue logs → IsTrue sinks → status ≡ 5 → PrintsDrillPrefix told v file ran old new
     pub tells : IsTrue logs → IsTrue sinks → (errors → ⊥) → TellsBy (IsNamedInDrill told v file) status err_old err_new
-    -- 7, 9 and 10 never: its store is empty at first; 6 only where the plan has a stop
+    -- 7, 9 and 10 never: its store is empty at first; 6 only where the plan has a stop of one of a disk's first three calls, or two of one
+    -- node's disks
     pub welcome : IsTrue logs → (status ≢ 7) × (status ≢ 9) × (status ≢ 10)
-    pub stops : IsTrue logs → status ≡ 6 → (plan : PlanView) × IsPlanIn told file plan × (plan.stops ≢ [])
+    pub stops : IsTrue logs → status ≡ 6 → (plan : PlanView) × IsPlanIn told file plan × (SparesNodes v plan.stops → ⊥)
     -- with a table, a plan, two valid logs and no fault of the files or the output it ends with 0, or for a fault of the run's own
-    -- disks, or for want of memory
+    -- disks, which such a plan alone brings about, or for want of memory
     pub complete : IsTrue logs → (g : Setting) → IsAsked told v g → (plan : PlanView) → IsPlanIn told file plan → (files → ⊥) → (output → ⊥)
-        → (status ≡ 0) ⊎ ((status ≡ 6) ⊎ (status ≡ 8))
+        → (status ≡ 0) ⊎ (((status ≡ 6) × (SparesNodes v plan.stops → ⊥)) ⊎ (status ≡ 8))
 
   -- Of a verification over a click log and the store in a directory.
   pub record VerifyEnds (clicks : Text) (same : Type 0) (disks : Bool) (before after : Images) (faulted : Type 0) : Type 0 where

@@ -6,7 +6,9 @@ use Rattle.lossy_link.specs.declared.plan.DiskKind.TheVariants.{Retry, Replica, 
 use Rattle.outside.specs.declared.image.Image.{Image}
 use Rattle.outside.specs.declared.image.Image.TheVariants.{Old, New, Noise}
 use Rattle.lossy_link.specs.declared.plan.PlanStop.{PlanStop}
+use Rattle.command_words.specs.Words.{Values}
 use Rattle.photon_cli.specs.Planned.{place_of, planned_for}
+use Rattle.photon_cli.specs.Drill.{SparesNodes}
 
 pub record DisksArePlaced : Type 0 where
   pub one_joiner : place_of 1 (name.Output 1 0) ≡ Some (Output, 1)
@@ -34,3 +36,17 @@ pub record StopsArePlanned : Type 0 where
   pub in_their_order : planned_for 2 some_stops (name.Replica 2) ≡ record { call = 5; image = New } ∷ record { call = 5; image = Old } ∷ []
   pub all_others : planned_for 2 some_stops (name.Replica 0) ≡ record { call = 5; image = Old } ∷ []
   pub none_of_the_topology : planned_for 2 some_stops name.Topology ≡ []
+
+-- for one joiner a site
+abbrev pub one_joiner : Values
+one_joiner = record { queries = []; clicks = []; horizon = 0; nodes = record { joiners = 1; shards = []; batch = 1 } }
+
+-- one for each of the second joiner's disks
+abbrev pub two_stops : List PlanStop
+two_stops = stop_at Epoch (Some 1) 3 Old ∷ stop_at Output None 9 New ∷ []
+
+-- none, one of a call that opens a disk, and two of a node
+pub record NodesAreSpared : Type 0 where
+  pub no_stops : SparesNodes one_joiner []
+  pub in_the_opening : SparesNodes one_joiner (stop_at Retry (Some 1) 2 Old ∷ []) → ⊥
+  pub two_of_a_node : SparesNodes one_joiner two_stops → ⊥

@@ -1,5 +1,5 @@
 //! Worked rows of the definitions.
-ghost use Rattle.photon_cli.specs.Rows.{DisksArePlaced, StopsArePlanned};
+ghost use Rattle.photon_cli.specs.Rows.{DisksArePlaced, NodesAreSpared, StopsArePlanned};
 
 /// Which numbers disks have among those of their kind.
 pub fn places()
@@ -9,4 +9,9 @@ pub fn places()
 /// Which calls of a disk some stops name.
 pub fn stops()
     ensures { StopsArePlanned }
+{}
+
+/// Which stops spare a node.
+pub fn spared()
+    ensures { NodesAreSpared }
 {}

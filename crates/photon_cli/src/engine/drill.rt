@@ -1,5 +1,5 @@
 // A drill: both sites run over a store in memory that is empty at first, and a plan says what goes wrong.
-ghost use Rattle.std.specs.Prelude.{◌≡◌, ◌≢◌, ◌⊎◌, [], ℕ, IfErr, IfOk, IfSome, IsErrAnd, IsTrue, OnOk, Err};
+ghost use Rattle.std.specs.Prelude.{◌≡◌, ◌⊎◌, ℕ, IfErr, IfOk, IfSome, IsErrAnd, IsTrue, OnOk, Err};
 ghost use Rattle.outside.specs.Faults.{Counts};
 ghost use Rattle.command_words.specs.Words.{AreInRanges, values_in};
 ghost use Rattle.lossy_link.specs.Fates.{PlanView};
@@ -7,7 +7,7 @@ ghost use Rattle.lossy_link.specs.declared.bad_plan.Field.{Field as Place};
 ghost use Rattle.log_records.specs.declared.why.Why.{Why as Reason};
 ghost use Rattle.run_fault.specs.declared.fault.LogName.{LogName as LogKind};
 ghost use Rattle.run_fault.specs.declared.fault.RunFault.TheVariants as fault;
-ghost use Rattle.photon_cli.specs.Drill.{BeginsDrill, Drills, HasDrilled, IsBadIn, IsPlanIn, PrintsDrill, PrintsDrillPrefix};
+ghost use Rattle.photon_cli.specs.Drill.{BeginsDrill, Drills, HasDrilled, IsBadIn, IsPlanIn, PrintsDrill, PrintsDrillPrefix, SparesNodes};
 ghost use Rattle.photon_cli.specs.Join.{AreValid, IsHeardOf, Refuses};
 ghost use Rattle.photon_cli.specs.LogFaults.{IsBeforeLogs, IsEarly, IsFailedRead, IsOfDrill, IsOfLogs, IsOfPlanOrLogs, IsOfRun, IsPast, failed_read};
 ghost use Rattle.photon_cli.specs.Words.{IsTextOf};
@@ -57,7 +57,7 @@ where
         → Refuses (F.bytes files.old) (values_in wanted.now).queries (values_in wanted.now).clicks log (record { line = line; why = w }) }
     ensures begins { ((ran.new ≡ ran.old) × IsErrAnd result IsOfLogs)
         ⊎ ((IsTrue F.Log.tells → AreValid (F.bytes files.old) (values_in wanted.now).queries (values_in wanted.now).clicks) × IfSome ran.new.log (IsHeardOf plan (values_in wanted.now).nodes.joiners) × IfErr result IsOfRun) }
-    ensures fair { IsTrue F.Log.tells → IfErr result (IsOfDrill (plan.stops ≢ [])) }
+    ensures fair { IsTrue F.Log.tells → IfErr result (IsOfDrill (SparesNodes (values_in wanted.now) plan.stops → ⊥)) }
     ensures count { Counts (F.faults files.old) (F.faults files.new) ((log : LogKind) × (result ≡ Err (failed_read log))) }
 {
     empty_store::<MemStore>();
@@ -124,8 +124,8 @@ where
         → Refuses (F.bytes files.old) (values_in wanted.now).queries (values_in wanted.now).clicks log (record { line = line; why = w }) }
 
     // The other faults come only where a count rose, but for want of memory and what goes wrong by the plan: of a disk it tells only
-    // where the plan has a stop.
-    ensures fair { IsTrue F.Log.tells → IfErr result (IsOfDrill ((p : PlanView) × IsPlanIn (F.bytes files.old) plan.now p × (p.stops ≢ []))) }
+    // where the plan has a stop of one of a disk's first three calls, or two of one node's disks.
+    ensures fair { IsTrue F.Log.tells → IfErr result (IsOfDrill ((p : PlanView) × IsPlanIn (F.bytes files.old) plan.now p × (SparesNodes (values_in wanted.now) p.stops → ⊥))) }
     ensures read { Counts (F.faults files.old) (F.faults files.new) (IsErrAnd result IsFailedRead) }
     ensures write { Counts (K.faults out.old) (K.faults out.new) (result ≡ Err fault.Write) }
 {

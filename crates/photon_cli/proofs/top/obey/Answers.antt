@@ -1,6 +1,6 @@
 use Rattle.std.specs.Prelude.{⊤}
 use Rattle.std.proofs.Common.{◌≡◌, ℕ, Some, None, inl, inr, ⊎_elim, Bool, true, false, Err, IsTrue, refl, ap, subst, arith}
-use Rattle.photon_cli.proofs.Words.{REPLICAS, bad, good, none_bad, Why, LogName, Clicks, Setting, TellsPlaces, asked_of, kept_are_journals, values_in, bulk_values, IsAsked, IsOfBulk, IsOfLogs, IsOfPlanOrLogs, IsOfVerify, IsOverLog, PrintsKept, unasked}
+use Rattle.photon_cli.proofs.Words.{REPLICAS, bad, good, none_bad, Why, LogName, Clicks, Setting, TellsPlaces, asked_of, kept_are_journals, values_in, bulk_values, IsAsked, IsOfBulk, IsOfLogs, IsOfPlanOrLogs, IsOfVerify, IsOverLog, PlanView, PrintsKept, SparesNodes, unasked}
 use Rattle.run_fault.specs.declared.fault.RunFault.TheVariants as fault
 use Rattle.photon_cli.proofs.Answered.{ended, given_up}
 use Rattle.photon_cli.proofs.Causing.{damage_told, ends_well, limit_told, mismatch_told}
@@ -147,12 +147,13 @@ returns-in-Err-drill_logs-clause-ends g c =
         stops = λ logs. needs_stops _ f (e.fair logs);
         complete = λ logs s asked p is calm quiet.
             inr
+            (⊎_elim (λ six. inl (six.0, λ spares. let one : good p ≡ good six.1.0 = one_in (told c.in-Drill.plan.now) (good p) (good six.1.0) is six.1.1 in let same : p ≡ six.1.0 = cc in six.1.2 (subst (λ (q : PlanView). SparesNodes v q.stops) same spares))) inr
             (drill_left _ f adds (λ n e. none_bad v.nodes.shards n s.table (row n e) asked.table.0 asked.table.1)
             (λ place is_bad. let one : good p ≡ bad place = one_in (told c.in-Drill.plan.now) (good p) (bad place) is (e.place logs place (ap Err is_bad)) in absurd (cc one))
             (λ log line w refused. none_refused told v.queries v.clicks log (record { line = line; why = w }) (asked_valid told v s asked) (e.refused logs log line w (ap Err refused)))
             (λ failed. calm (e.read.rose failed))
             (λ write. quiet (e.write.rose (ap Err write)))
-            (e.fair logs));
+            (e.fair logs)));
       },
       refl,
     )
@@ -324,7 +325,7 @@ returns-in-Err-bulk_totals-clause-ends g c =
         welcome = (none, fair.0, fair.1, fair.2);
         complete = λ (table, text) quiet.
             inr
-            (⊎_elim (λ six. absurd (none six)) (λ eight. eight)
+            (⊎_elim (λ six. absurd six.1) (λ eight. eight)
             (drill_left ⊥ f (λ u is. subst IsOfBulk is own) (λ n is. none_bad v.nodes.shards n table (named_row n is) text.0 text.1) (λ place is. subst IsOfBulk is own) (λ log line w is. subst IsOfBulk is own) e.reads (λ is. quiet (e.write.rose (ap Err is))) e.fair));
         prefix = λ sinks five. e.prefix sinks (ap Err (write_of f five));
         tells = λ sinks calm. inr (f, refl, named_in_bulk v f own named_row, c.give_up-in-Err-bulk_totals.ensures.told sinks calm);

@@ -2,7 +2,7 @@ use Rattle.std.proofs.Common.{◌++◌, ℕ, List, Option, Err, inl, inr, ⊎_el
 use Rattle.std.specs.Prelude.{IfSome}
 use Rattle.photon_cli.proofs.Words.{PlanView, bytes_under, ReportLine, totals, TookPrefix, bulk_values, IsHeardOf, IsOfDrill, IsPast}
 use Rattle.photon_cli.proofs.Bulking.{bulk_early, bulk_run, bulk_totals, made_valid, no_read, without}
-use Rattle.photon_cli.proofs.Drilling.{more_stops}
+use Rattle.photon_cli.proofs.Drilling.{more_stops, no_stops}
 use Rattle.photon_cli.proofs.Statuses.{run_past}
 use Rattle.photon_cli.proofs.engine.bulk.bulk_totals.Goals as goal
 
@@ -33,7 +33,7 @@ returns-in-Err-drilled_lines-clause-reads g c = no_read c.in-Err-drilled_lines.f
 pub returns-in-Err-drilled_lines-clause-fair : goal.returns-in-Err-drilled_lines-clause-fair
 returns-in-Err-drilled_lines-clause-fair g c =
     let f = c.in-Err-drilled_lines.fault in
-    without (IsOfDrill ⊥) f c.without_reads.result c.without_reads.ensures tt (more_stops _ ⊥ (λ some. some (ap (λ (p : PlanView). p.stops) c.in-Ok-bulk_plan.ensures)) f (c.in-Err-drilled_lines.ensures.fair refl))
+    without (IsOfDrill ⊥) f c.without_reads.result c.without_reads.ensures tt (more_stops _ ⊥ (no_stops _ _ c.in-Ok-bulk_plan.ensures) f (c.in-Err-drilled_lines.ensures.fair refl))
 
 pub returns-clause-begins : goal.returns-clause-begins
 returns-clause-begins g c = ⊎_elim (λ early. absurd early.1) (λ late. inr (((c.in-Ok.table, c.in-Ok.ensures.found), subst (λ (p : PlanView). IfSome c.drilled_lines.new.ran.log (IsHeardOf p c.args.wanted.now.nodes.joiners)) c.in-Ok-bulk_plan.ensures late.1), tt)) c.in-Ok-drilled_lines.ensures.begins

@@ -1,10 +1,11 @@
 use Rattle.std.specs.Prelude.{IsTrue, ⊤}
-use Rattle.std.proofs.Common.{◌≡◌, ◌≢◌, List, [], ℕ, Option, inl, inr, refl, sym, ap, subst, arith}
-use Rattle.photon_cli.proofs.Words.{AreValid, Clicks, Config, IfSome, IsAsked, IsHeardOf, IsOfDrill, IsSettingOf, PlanStop, Setting, StopsAtMost, counted_more, planned_earlier, planned_for, same_left, values_in}
-use Rattle.photon_cli.proofs.Drilling.{drilled, none_planned, of_drill}
+use Rattle.std.proofs.Common.{List, [], ℕ, Option, inl, inr, refl, sym, subst}
+use Rattle.photon_cli.proofs.Words.{AreValid, Clicks, Config, IfSome, IsAsked, IsHeardOf, IsOfDrill, IsSettingOf, Setting, SparesNodes, StopsAtMost, all_earlier, config_of, counted_more, names_of, same_left, stops_earlier, values_in}
+use Rattle.photon_cli.proofs.Drilling.{drilled, never_soon, of_drill}
 use Rattle.photon_cli.proofs.Statuses.{of_log}
 use Rattle.photon_cli.proofs.Runs.{is_asked, placed_ids, ran_afresh, run_setting, setting_of}
 use Rattle.site_run.specs.Heard as site
+use Rattle.mem_outside.specs.contracts.mem_store.MemStoreStore.TheImpl.{ghosts}
 use Rattle.photon_cli.proofs.engine.drill.drilled_lines.Given.{Over}
 use Rattle.photon_cli.proofs.engine.drill.drilled_lines.Goals as goal
 use Rattle.photon_cli.proofs.engine.drill.drilled_lines.Goals.{After-run_sites}
@@ -49,9 +50,12 @@ returns-in-Ok-classify-clause-done g c logs =
     let s = setting_of v c.args.table x.0 x.1 in
     let asked = is_asked told v c.args.table x.0 x.1 c.requires.table x.2 in
     let is = of_run g r logs s asked in
-    let as_planned = planned_earlier c.run_sites.new.ran.log (StopsAtMost v.nodes.joiners plan.stops) _ s _ _ _ (λ disk k. same_left k _ _ 0 _ (store.calls disk) (store.made disk)) (λ none. refl) (c.run_sites.ensures.stops refl logs s is) in
-    let ran = ran_afresh s _ _ _ _ _ _ (c.in-Ok-run_sites.ensures.over refl logs s is) _ is.clicks_are _ (sym is.numbers.table) _ (placed_ids c.in-Ok.clicks.ids.items x.1 x.3) _ c.in-Ok-classify.ensures (c.means.ensures.ran s c.in-Ok-store_for.store c.run_sites.new.store) asked.table.0 (λ disk is. (store.images disk).0) in
-    (s, asked, drilled c.run_sites.new.ran.log s plan v.nodes.joiners c.in-Ok-classify.lines.items asked.setting.numbers.joiners ran (heard g r) as_planned.stops)
+    let ran = ran_afresh s _ _ _ _ _ _ (c.in-Ok-run_sites.ensures.over refl logs s is) _ is.clicks_are _ (sym is.numbers.table) _ (placed_ids c.in-Ok.clicks.ids.items x.1 x.3) _ c.in-Ok-classify.ensures (c.means.ensures.ran s c.in-Ok-store_for.store c.run_sites.new.store) asked.table.0 (λ disk is. (store.images disk).0) in (
+      s,
+      asked,
+      drilled c.run_sites.new.ran.log s plan v.nodes.joiners c.in-Ok-classify.lines.items asked.setting.numbers.joiners ran (heard g r)
+          (stops_earlier c.run_sites.new.ran.log (StopsAtMost v.nodes.joiners plan.stops) _ s (λ disk k. same_left k _ _ 0 _ (store.calls disk) (store.made disk)) (c.run_sites.ensures.stops refl logs s is).stops),
+    )
 
 pub returns-in-Err-clause-fair : goal.returns-in-Err-clause-fair
 returns-in-Err-clause-fair g c logs = let x = c.in-Err.ensures.fault in of_log (IsOfDrill _) x.0 (λ line w. tt) tt tt c.in-Err.fault x.1
@@ -66,8 +70,14 @@ returns-in-Err-run_sites-clause-fair g c logs =
     let x = c.in-Ok.ensures.valid logs in
     let s = setting_of v c.args.table x.0 x.1 in
     let is = of_run g r logs s (is_asked told v c.args.table x.0 x.1 c.requires.table x.2) in
-    let ends = (c.in-Err-run_sites.ensures.over refl logs s is).ends in
-    let calm = λ (none : stops ≡ []). (c.run_sites.ensures.stops refl logs s is).calm
-    (λ disk. same_left 0 _ _ 0 _ (store.calls disk) (store.made disk) (none_planned (planned_for v.nodes.joiners stops disk) (ap (λ (xs : List PlanStop). planned_for v.nodes.joiners xs disk) none))) in
-    of_drill s _ (λ disk. (store.images disk).0) _ _ _ (stops ≢ []) (λ disk is. ([], (store.images disk).1)) (λ rose none. let same = calm none in let zero = store.faults in omega (arith, rose, same, zero))
-    c.in-Err-run_sites.fault ends.caused (ends.welcome (c.empty_store.ensures s c.in-Ok-store_for.store (λ disk is. (store.images disk).0)))
+    let run = c.in-Err-run_sites.ensures in
+    let ends = (run.over refl logs s is).ends in
+    of_drill s _ (λ disk. (store.images disk).0) _ _ _ (SparesNodes v stops → ⊥) (λ disk is. ([], (store.images disk).1)) c.in-Err-run_sites.fault
+    (λ at told spares.
+    (run.stops refl logs s is).spared
+    (record {
+      late = never_soon ghosts.stops ghosts.made c.in-Ok-store_for.store v.nodes.joiners stops store.calls store.made spares.late;
+      few = λ n of. all_earlier (StopsAtMost v.nodes.joiners stops) _ (λ disk k. same_left k _ _ 0 _ (store.calls disk) (store.made disk)) (names_of (config_of v c.args.table) n) 1 (spares.few c.args.table n);
+    })
+    at told)
+    ends.caused (ends.welcome (c.empty_store.ensures s c.in-Ok-store_for.store (λ disk is. (store.images disk).0)))
