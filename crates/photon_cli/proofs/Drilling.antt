@@ -75,8 +75,8 @@ few_of v table (Joiner j) =
 pub none_spares : (v : Values) → SparesNodes v []
 none_spares v = record { late = tt; few = few_of v }
 
-pub no_stops : (v : Values) (plan : PlanView) → plan ≡ record { rules = []; stops = []; dead = None } → (SparesNodes v plan.stops → ⊥) → ⊥
-no_stops v plan none some = some (subst (λ (p : PlanView). SparesNodes v p.stops) (sym none) (none_spares v))
+pub no_stops : (v : Values) (stops : List PlanStop) → stops ≡ [] → (SparesNodes v stops → ⊥) → ⊥
+no_stops v stops none some = some (subst (SparesNodes v) (sym none) (none_spares v))
 
 -- ---- why it gives up
 
