@@ -3,6 +3,7 @@ use Rattle.std.specs.Prelude.{filter}
 use Rattle.std.proofs.Common.{◌≡◌, ◌∙◌, ⊎_elim, ℕ, ◌+◌, ◌<◌, ◌≤◌, ◌==◌, Bool, true, false, ◌||◌, List, [], ◌∷◌, map, Option, Some, None, Ok, IsTrue, if◌then◌else◌, refl, sym, ap, subst, arith}
 use Rattle.std.proofs.lemmas.Bool.{ne_eqb}
 use Rattle.photon_cli.proofs.Words.{list_any, IfSome, IsSomeAnd, Each, DiskName, DiskKind, Epoch, Output, Fuse, PlanStop, PlanView, ReportLine, RunFault, RunLog, Images, IsCauseOf, IsWelcome, Kept, KeptDisk, KeepsAs, EpochIs, IsKept, NotesAre, Setting, limit_at, limit_in, HasOutcome, Outcome, one_outcome, is_at, is_for, is_joiners, is_planned, of_joiners, planned_for, AtMost, StopsAtMost, StopsAsPlanned, none_of_joiners, RanAfresh, IsDrilled, IsHeardOf, IsOfDrill, AllInAll, Node, SparesNodes, ShardRow, StorePlace, Values, config_of, fuse_of, names_of}
+use Rattle.site_run.specs.Naming.{joiner_of, site_of}
 use Rattle.site_store.specs.Plans.{HasSoon}
 use Rattle.turn_defs.specs.declared.node.Node.TheVariants.{Dispatcher, Joiner, Replica, Server}
 use Rattle.outside.specs.declared.store.DiskName.TheVariants as name
@@ -62,17 +63,20 @@ one_at_most joiners disk n from is = let here : IsTrue false = is in absurd (cc 
 none_at_most : (joiners : ℕ) (disk : DiskName) → StopsAtMost joiners [] disk 0
 none_at_most joiners disk n from is = let here : IsTrue false = is in absurd (cc here)
 
-pub none_spares : (v : Values) → SparesNodes v []
-none_spares v = record { late = tt; few = few }
-  where
-    few : (table : List ShardRow) (n : Node) → AllInAll (StopsAtMost v.nodes.joiners []) (names_of (config_of v table) n) 1
-    few table (Dispatcher s) = (1, 0, one_at_most _ _, (0, 0, none_at_most _ _, refl, refl), refl)
-    few table (Server s) = (1, 0, one_at_most _ _, refl, refl)
-    few table (Replica r) = (1, 0, one_at_most _ _, refl, refl)
-    few table (Joiner j) = (1, 0, one_at_most _ _, (0, 0, none_at_most _ _, refl, refl), refl)
+few_of : (v : Values) (table : List ShardRow) (n : Node) → AllInAll (StopsAtMost v.nodes.joiners []) (names_of (config_of v table) n) 1
+few_of v table (Dispatcher s) = (1, 0, one_at_most v.nodes.joiners (name.Offset s), (0, 0, none_at_most v.nodes.joiners (name.Retry s), refl, refl), refl)
+few_of v table (Server s) = (1, 0, one_at_most v.nodes.joiners (name.Server s), refl, refl)
+few_of v table (Replica r) = (1, 0, one_at_most v.nodes.joiners (name.Replica r), refl, refl)
+few_of v table (Joiner j) =
+    let site = site_of (config_of v table) j in
+    let joiner = joiner_of (config_of v table) j in
+    (1, 0, one_at_most v.nodes.joiners (name.Epoch site joiner), (0, 0, none_at_most v.nodes.joiners (name.Output site joiner), refl, refl), refl)
 
-pub no_stops : (v : Values) (plan : PlanView) → plan ≡ record { rules = []; stops = []; dead = None } → (SparesNodes v plan.stops → ⊥) → ⊥
-no_stops v plan none some = some (subst (λ (p : PlanView). SparesNodes v p.stops) (sym none) (none_spares v))
+pub none_spares : (v : Values) → SparesNodes v []
+none_spares v = record { late = tt; few = few_of v }
+
+pub no_stops : (v : Values) (stops : List PlanStop) → stops ≡ [] → (SparesNodes v stops → ⊥) → ⊥
+no_stops v stops none some = some (subst (SparesNodes v) (sym none) (none_spares v))
 
 -- ---- why it gives up
 

@@ -33,7 +33,7 @@ returns-in-Err-drilled_lines-clause-reads g c = no_read c.in-Err-drilled_lines.f
 pub returns-in-Err-drilled_lines-clause-fair : goal.returns-in-Err-drilled_lines-clause-fair
 returns-in-Err-drilled_lines-clause-fair g c =
     let f = c.in-Err-drilled_lines.fault in
-    without (IsOfDrill ⊥) f c.without_reads.result c.without_reads.ensures tt (more_stops _ ⊥ (no_stops _ _ c.in-Ok-bulk_plan.ensures) f (c.in-Err-drilled_lines.ensures.fair refl))
+    without (IsOfDrill ⊥) f c.without_reads.result c.without_reads.ensures tt (more_stops _ ⊥ (no_stops _ _ (ap (λ (p : PlanView). p.stops) c.in-Ok-bulk_plan.ensures)) f (c.in-Err-drilled_lines.ensures.fair refl))
 
 pub returns-clause-begins : goal.returns-clause-begins
 returns-clause-begins g c = ⊎_elim (λ early. absurd early.1) (λ late. inr (((c.in-Ok.table, c.in-Ok.ensures.found), subst (λ (p : PlanView). IfSome c.drilled_lines.new.ran.log (IsHeardOf p c.args.wanted.now.nodes.joiners)) c.in-Ok-bulk_plan.ensures late.1), tt)) c.in-Ok-drilled_lines.ensures.begins

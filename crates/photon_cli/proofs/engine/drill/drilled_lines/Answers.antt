@@ -5,6 +5,7 @@ use Rattle.photon_cli.proofs.Drilling.{drilled, never_soon, of_drill}
 use Rattle.photon_cli.proofs.Statuses.{of_log}
 use Rattle.photon_cli.proofs.Runs.{is_asked, placed_ids, ran_afresh, run_setting, setting_of}
 use Rattle.site_run.specs.Heard as site
+use Rattle.mem_outside.specs.contracts.mem_store.MemStoreStore.TheImpl.{ghosts}
 use Rattle.photon_cli.proofs.engine.drill.drilled_lines.Given.{Over}
 use Rattle.photon_cli.proofs.engine.drill.drilled_lines.Goals as goal
 use Rattle.photon_cli.proofs.engine.drill.drilled_lines.Goals.{After-run_sites}
@@ -75,7 +76,7 @@ returns-in-Err-run_sites-clause-fair g c logs =
     (λ at told spares.
     (run.stops refl logs s is).spared
     (record {
-      late = never_soon _ _ c.in-Ok-store_for.store v.nodes.joiners stops store.calls store.made spares.late;
+      late = never_soon ghosts.stops ghosts.made c.in-Ok-store_for.store v.nodes.joiners stops store.calls store.made spares.late;
       few = λ n of. all_earlier (StopsAtMost v.nodes.joiners stops) _ (λ disk k. same_left k _ _ 0 _ (store.calls disk) (store.made disk)) (names_of (config_of v c.args.table) n) 1 (spares.few c.args.table n);
     })
     at told)
